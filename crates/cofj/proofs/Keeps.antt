@@ -1,0 +1,361 @@
+-- The operations on values keep the invariant of type soundness.
+use Prim.Native.Nat.{ℕ, zero, suc, _+_, _≤_, _<_, zero-le, suc-le-suc, max}
+use native.Mathlib.Nat.{not-suc-le-zero, le-of-suc-le-suc}
+use native.Mathlib.Omega.{arith}
+use mathlib.Core.Path.{_≡_, refl, sym, ap, _∙_, subst, fun-ext}
+use mathlib.Core.Bool.{Bool, true, false, _&&_, _||_, cond, true≢false, false≢true}
+use mathlib.Core.List.{List, [], _∷_, _++_, map}
+use mathlib.Core.Option.{Option, none, some, Option·none-ne-some, Option·some-ne-none}
+use lib.Dec.{eqb, leb}
+use lib.ListN.{length, getElem?, length-map}
+use borrow.Author.Tests.{eqb-true, eqb-false, eq-eqb, ne-eqb, leb-true, le-leb}
+use Rattle.cofj.specs.Syntax.{Ty, ty, Class, Method, Table}
+use Rattle.cofj.specs.Partial.{_>>=_}
+use Rattle.cofj.specs.Classes.{classFits, fits, fieldsTo, fieldsOf}
+use Rattle.cofj.specs.Typing.{closedTag, allFit, narrow, closeTag}
+use Rattle.cofj.specs.Values.{Ref, obj, mark, undet, Node, node, Graph, graph, nodeAt, refsAt, canon, select, selected, close, bind, make, undetermined, markOf}
+use Rattle.cofj.specs.Unfolding.{Label, object, opened, unknown, labelAt, child, follow, Whole, InRange}
+use Rattle.cofj.specs.WellFormed.{WellFormed, Tags}
+use Rattle.cofj.proofs.Chain.{fits-self}
+use Rattle.cofj.proofs.Climb.{and-true, fits-trans, fits-fields, field-tag}
+use Rattle.cofj.proofs.Canon.{canon-same, canon-whole}
+use Rattle.cofj.proofs.Operations.{AllWhole, make-top, make-field, make-whole, select-tree, followBound, close-tree, at-ref, bound-whole, boundNode}
+use Rattle.cofj.proofs.Typed.{Tree, tree, bound, under, Ok, OkAt, Typed, AllTyped, Has, Hold, bound-old, bound-new, typed-fits, typed-more, typed-closed}
+
+-- ---- leaves
+leaf-whole : (r : Ref) → InRange 0 r → Whole (graph r [])
+leaf-whole r h = record { top = h; inner = λ i f s e. absurd (Option·none-ne-some s e) }
+
+module _ (t : Table) (wf : WellFormed t) where
+  mark-typed : (n : ℕ) (σ : List ℕ) (u : Ty) (ns : List Node) (k : ℕ) → Ok t σ u (opened k) → Typed t σ n u (follow ns (mark k))
+  mark-typed zero σ u ns k h = tt
+  mark-typed (suc n) σ u ns k h = (h, λ c j f w e z. let y : some (opened k) ≡ some (object c j) = e in absurd (let q : _≡_ {A = ℕ} 0 1 = cc in omega arith))
+
+  undet-typed : (n : ℕ) (σ : List ℕ) (u : Ty) (ns : List Node) → 3 ≤ u .tag → Typed t σ n u (follow ns undet)
+  undet-typed zero σ u ns h = tt
+  undet-typed (suc n) σ u ns h = (h, λ c j f w e z. let y : some unknown ≡ some (object c j) = e in absurd (let q : _≡_ {A = ℕ} 0 1 = cc in omega arith))
+
+  pub has-mark : (σ : List ℕ) (u : Ty) (k : ℕ) → u .tag ≤ 3 → Ok t σ u (opened k) → Has t σ u (markOf k)
+  has-mark σ u k g h = record { whole = leaf-whole (mark k) tt; typed = λ n. mark-typed n σ u [] k h; tag = g }
+
+  pub has-undet : (σ : List ℕ) (u : Ty) → u .tag ≡ 3 → Has t σ u undetermined
+  has-undet σ u h = record { whole = leaf-whole undet tt; typed = λ n. undet-typed n σ u [] (omega arith); tag = omega arith }
+
+  -- ---- weakening of values
+  pub has-fits : (σ : List ℕ) (u u′ : Ty) (v : Graph) → fits (t .classes) u u′ ≡ true → u′ .tag ≤ 3 → Has t σ u v → Has t σ u′ v
+  has-fits σ u u′ v p g h =
+      let q = and-true (classFits (t .classes) (u .cls) (u′ .cls)) (leb (u .tag) (u′ .tag)) p in
+      record { whole = h .whole; typed = λ n. typed-fits t wf n σ u u′ (tree v) (q .0) (leb-true (u .tag) (u′ .tag) (q .1)) (h .typed n); tag = g }
+
+  pub has-more : (x : ℕ) (σ : List ℕ) (u : Ty) (v : Graph) → Has t σ u v → Has t (x ∷ σ) u v
+  has-more x σ u v h = record { whole = h .whole; typed = λ n. typed-more t wf n x σ u (tree v) (h .typed n); tag = h .tag }
+
+  pub hold-more : (x : ℕ) (σ : List ℕ) (us : List Ty) (vs : List Graph) → Hold t σ us vs → Hold t (x ∷ σ) us vs
+  hold-more x σ [] [] h = tt
+  hold-more x σ [] (v ∷ vs) h = h
+  hold-more x σ (u ∷ us) [] h = h
+  hold-more x σ (u ∷ us) (v ∷ vs) h = (has-more x σ u v (h .0), hold-more x σ us vs (h .1))
+
+  pub has-closed : (u : Ty) (g : ℕ) (v : Graph) → (3 ≤ u .tag → 3 ≤ g) → g ≤ 3 → Has t [] u v → Has t [] (ty (u .cls) g) v
+  has-closed u g v q l h = record { whole = h .whole; typed = λ n. typed-closed t wf n u (ty (u .cls) g) (tree v) refl q (h .typed n); tag = l }
+
+  pub hold-fits : (σ : List ℕ) (us ws : List Ty) (vs : List Graph) → allFit t us ws ≡ true → Tags ws → Hold t σ us vs → Hold t σ ws vs
+  hold-fits σ [] [] [] p g h = tt
+  hold-fits σ [] [] (v ∷ vs) p g h = h
+  hold-fits σ [] (w ∷ ws) vs p g h = absurd (false≢true p)
+  hold-fits σ (u ∷ us) [] vs p g h = absurd (false≢true p)
+  hold-fits σ (u ∷ us) (w ∷ ws) [] p g h = h
+  hold-fits σ (u ∷ us) (w ∷ ws) (v ∷ vs) p g h =
+      let q = and-true (fits (t .classes) u w) (allFit t us ws) p in
+      (has-fits σ u w v (q .0) (g .0) (h .0), hold-fits σ us ws vs (q .1) (g .1) (h .1))
+
+  pub hold-length : (σ : List ℕ) (us : List Ty) (vs : List Graph) → Hold t σ us vs → length us ≡ length vs
+  hold-length σ [] [] h = refl
+  hold-length σ [] (v ∷ vs) h = absurd h
+  hold-length σ (u ∷ us) [] h = absurd h
+  hold-length σ (u ∷ us) (v ∷ vs) h = ap suc (hold-length σ us vs (h .1))
+
+  pub hold-whole : (σ : List ℕ) (us : List Ty) (vs : List Graph) → Hold t σ us vs → AllWhole vs
+  hold-whole σ [] [] h = tt
+  hold-whole σ [] (v ∷ vs) h = absurd h
+  hold-whole σ (u ∷ us) [] h = absurd h
+  hold-whole σ (u ∷ us) (v ∷ vs) h = (h .0 .whole, hold-whole σ us vs (h .1))
+
+  pub fit-length : (us ws : List Ty) → allFit t us ws ≡ true → length us ≡ length ws
+  fit-length [] [] p = refl
+  fit-length [] (w ∷ ws) p = absurd (false≢true p)
+  fit-length (u ∷ us) [] p = absurd (false≢true p)
+  fit-length (u ∷ us) (w ∷ ws) p = ap suc (fit-length us ws (and-true (fits (t .classes) u w) (allFit t us ws) p .1))
+
+  pub hold-get : (σ : List ℕ) (us : List Ty) (vs : List Graph) → Hold t σ us vs → (f : ℕ) (w : Ty) → getElem? us f ≡ some w
+      → (v : Graph) × (getElem? vs f ≡ some v) × Has t σ w v
+  hold-get σ [] vs h f w e = absurd (Option·none-ne-some w e)
+  hold-get σ (u ∷ us) [] h f w e = absurd h
+  hold-get σ (u ∷ us) (v ∷ vs) h zero w e = (v, refl, subst (λ (x : Ty). Has t σ x v) (let y : u ≡ w = cc in y) (h .0))
+  hold-get σ (u ∷ us) (v ∷ vs) h (suc f) w e = hold-get σ us vs (h .1) f w e
+
+  -- ---- the root of a value of tag 0 or 1
+  object-at : (σ : List ℕ) (u : Ty) → u .tag ≤ 1 → (o : Option Label) → OkAt t σ u o → (c : ℕ) × (k : ℕ) × (o ≡ some (object c k)) × (classFits (t .classes) c (u .cls) ≡ true)
+  object-at σ u g none h = absurd h
+  object-at σ u g (some (object c k)) h = (c, k, refl, h .0)
+  object-at σ u g (some (opened k)) h = absurd (omega (arith, h .3))
+  object-at σ u g (some unknown) h = absurd (omega arith)
+
+  pub has-object : (σ : List ℕ) (u : Ty) (v : Graph) → u .tag ≤ 1 → Has t σ u v → (c : ℕ) × (k : ℕ) × (tree v [] ≡ some (object c k)) × (classFits (t .classes) c (u .cls) ≡ true)
+  has-object σ u v g h = object-at σ u g (tree v []) (h .typed 1 .0)
+
+  -- an object has its own class for a type
+  pub has-own : (σ : List ℕ) (u : Ty) (v : Graph) (c k : ℕ) → tree v [] ≡ some (object c k) → Has t σ u v → Has t σ (ty c (u .tag)) v
+  has-own σ u v c k e h = record { whole = h .whole; typed = go; tag = h .tag }
+    where
+      count : OkAt t σ u (some (object c k)) → OkAt t σ (ty c (u .tag)) (some (object c k))
+      count x = (fits-self (t .classes) c c refl, x .1)
+
+      go : (n : ℕ) → Typed t σ n (ty c (u .tag)) (tree v)
+      go zero = tt
+      go (suc n) =
+          (subst (OkAt t σ (ty c (u .tag))) (sym e) (count (subst (OkAt t σ u) e (h .typed 1 .0))), h .typed (suc n) .1)
+
+  -- ---- new
+  make-typed : (σ : List ℕ) (c g : ℕ) (vs : List Graph) → AllWhole vs → length vs ≡ length (fieldsOf (t .classes) c)
+      → ((f : ℕ) (w : Ty) → getElem? (fieldsOf (t .classes) c) f ≡ some w → (v : Graph) × (getElem? vs f ≡ some v) × AllTyped t σ (ty (w .cls) (under g (w .tag))) (tree v))
+      → AllTyped t σ (ty c g) (tree (make c vs))
+  make-typed σ c g vs a l h zero = tt
+  make-typed σ c g vs a l h (suc n) = (subst (OkAt t σ (ty c g)) (sym (make-top c vs a)) (fits-self (t .classes) c c refl, l), below)
+    where
+      below : (c′ k f : ℕ) (w : Ty) → tree (make c vs) [] ≡ some (object c′ k) → getElem? (fieldsOf (t .classes) c′) f ≡ some w
+          → Typed t σ n (ty (w .cls) (under g (w .tag))) (λ p. tree (make c vs) (f ∷ p))
+      below c′ k f w e z =
+          let y : some (object c (length vs)) ≡ some (object c′ k) = sym (make-top c vs a) ∙ e in
+          let x : c′ ≡ c = cc in
+          let r = h f w (sym (ap (λ (d : ℕ). getElem? (fieldsOf (t .classes) d) f) x) ∙ z) in
+          subst (Typed t σ n (ty (w .cls) (under g (w .tag))))
+          (sym (fun-ext (λ p. make-field c vs a f p ∙ ap (λ (o : Option Graph). o >>= (λ v. tree v p)) (r .1)))) (r .2 n)
+
+  pub has-new : (σ : List ℕ) (c : ℕ) (us : List Ty) (vs : List Graph) → Hold t σ us vs → allFit t us (fieldsOf (t .classes) c) ≡ true
+      → Tags (fieldsOf (t .classes) c) → Has t σ (ty c 0) (make c vs)
+  has-new σ c us vs h p g =
+      let k = hold-fits σ us (fieldsOf (t .classes) c) vs p g h in
+      record {
+        whole = make-whole c vs (hold-whole σ us vs h);
+        typed = make-typed σ c 0 vs (hold-whole σ us vs h) (sym (hold-length σ (fieldsOf (t .classes) c) vs k))
+            (λ f w e. let r = hold-get σ (fieldsOf (t .classes) c) vs k f w e in (r .0, r .1, r .2 .typed));
+        tag = zero-le;
+      }
+
+  or-false : (a b : Bool) → a || b ≡ false → b ≡ false
+  or-false true b h = absurd (true≢false h)
+  or-false false b h = h
+
+  -- an open tag is at most 2
+  narrow-le : (g h : ℕ) → g ≤ 3 → leb (cond (closedTag g) g 0) h ≡ true → g ≤ max 2 h
+  narrow-le g h l = go (closedTag g) refl
+    where
+      go : (b : Bool) → closedTag g ≡ b → leb (cond b g 0) h ≡ true → g ≤ max 2 h
+      go true q e = omega (arith, leb-true g h e)
+      go false q e = let ne = eqb-false g 3 (or-false (eqb g 0) (eqb g 3) q) in omega arith
+
+  hold-open : (σ : List ℕ) (us ws : List Ty) (vs : List Graph) → Hold t σ us vs → allFit t (map narrow us) ws ≡ true → (f : ℕ) (w : Ty) → getElem? ws f ≡ some w
+      → (v : Graph) × (getElem? vs f ≡ some v) × AllTyped t σ (ty (w .cls) (max 2 (w .tag))) (tree v)
+  hold-open σ [] [] vs h p f w e = absurd (Option·none-ne-some w e)
+  hold-open σ [] (x ∷ ws) vs h p f w e = absurd (false≢true p)
+  hold-open σ (u ∷ us) [] vs h p f w e = absurd (false≢true p)
+  hold-open σ (u ∷ us) (x ∷ ws) [] h p f w e = absurd h
+  hold-open σ (u ∷ us) (x ∷ ws) (v ∷ vs) h p zero w e =
+      let y : x ≡ w = cc in
+      let q = and-true (fits (t .classes) (narrow u) x) (allFit t (map narrow us) ws) p .0 in
+      let r = and-true (classFits (t .classes) (u .cls) (x .cls)) (leb (narrow u .tag) (x .tag)) q in (
+        v,
+        refl,
+        subst (λ (k : Ty). AllTyped t σ (ty (k .cls) (max 2 (k .tag))) (tree v)) y
+            (λ n. typed-fits t wf n σ u (ty (x .cls) (max 2 (x .tag))) (tree v) (r .0) (narrow-le (u .tag) (x .tag) (h .0 .tag) (r .1)) (h .0 .typed n)),
+      )
+  hold-open σ (u ∷ us) (x ∷ ws) (v ∷ vs) h p (suc f) w e =
+      hold-open σ us ws vs (h .1) (and-true (fits (t .classes) (narrow u) x) (allFit t (map narrow us) ws) p .1) f w e
+
+  pub has-new-open : (σ : List ℕ) (c : ℕ) (us : List Ty) (vs : List Graph) → Hold t σ us vs → allFit t (map narrow us) (fieldsOf (t .classes) c) ≡ true
+      → Has t σ (ty c 1) (make c vs)
+  has-new-open σ c us vs h p =
+      record {
+        whole = make-whole c vs (hold-whole σ us vs h);
+        typed = make-typed σ c 1 vs (hold-whole σ us vs h)
+            (sym (hold-length σ us vs h) ∙ sym (length-map us narrow) ∙ fit-length (map narrow us) (fieldsOf (t .classes) c) p)
+            (hold-open σ us (fieldsOf (t .classes) c) vs h p);
+        tag = omega arith;
+      }
+
+  -- ---- field f
+  select-none : (f : ℕ) (v : Graph) → select f v ≡ none → tree v (f ∷ []) ≡ none
+  unfolding select
+  select-none f v e = go (v .root) e
+    where
+      found : (o : Option Ref) → selected (v .nodes) o ≡ none → o >>= (λ s. follow (v .nodes) s []) ≡ none
+      found none z = refl
+      found (some s) z = absurd (Option·some-ne-none _ z)
+
+      go : (r : Ref) → _≡_ {A = Option Graph} (elim r [ obj i ↦ selected (v .nodes) (getElem? (refsAt (v .nodes) i) f) | mark k ↦ none | undet ↦ none ]) none
+          → follow (v .nodes) r (f ∷ []) ≡ none
+      go (obj i) z = found (getElem? (refsAt (v .nodes) i) f) z
+      go (mark k) z = refl
+      go undet z = refl
+
+  select-whole : (f : ℕ) (v v′ : Graph) → Whole v → select f v ≡ some v′ → Whole v′
+  unfolding select
+  select-whole f v v′ h e = go (v .root) e
+    where
+      found : (i : ℕ) (o : Option Ref) → getElem? (refsAt (v .nodes) i) f ≡ o → selected (v .nodes) o ≡ some v′ → Whole v′
+      found i none q z = absurd (Option·none-ne-some v′ z)
+      found i (some r) q z = subst Whole (let y : canon (graph r (v .nodes)) ≡ v′ = cc in y) (canon-whole (graph r (v .nodes)) (at-ref v h r (h .inner i f r q)))
+
+      go : (r : Ref) → (elim r as (λ _. Option Graph) [ obj i ↦ selected (v .nodes) (getElem? (refsAt (v .nodes) i) f) | mark k ↦ none | undet ↦ none ]) ≡ some v′ → Whole v′
+      go (obj i) z = found i (getElem? (refsAt (v .nodes) i) f) refl z
+      go (mark k) z = absurd (Option·none-ne-some v′ z)
+      go undet z = absurd (Option·none-ne-some v′ z)
+
+  pub has-select : (σ : List ℕ) (c f : ℕ) (w : Ty) (v : Graph) → Has t σ (ty c 0) v → getElem? (fieldsOf (t .classes) c) f ≡ some w
+      → (v′ : Graph) × (select f v ≡ some v′) × Has t σ w v′
+  has-select σ c f w v h e = go (select f v) refl
+    where
+      below : (n : ℕ) → Typed t σ n w (λ p. tree v (f ∷ p))
+      below n =
+          let o = has-object σ (ty c 0) v zero-le h in
+          h .typed (suc n) .1 (o .0) (o .1) f w (o .2) (fits-fields (t .classes) (wf .parents) (o .0) c f w (o .3) e)
+
+      go : (o : Option Graph) → select f v ≡ o → (v′ : Graph) × (o ≡ some v′) × Has t σ w v′
+      go none q = absurd (subst (OkAt t σ w) (select-none f v q) (below 1 .0))
+      go (some v′) q = (
+        v′,
+        refl,
+        record {
+          whole = select-whole f v v′ (h .whole) q;
+          typed = λ n. subst (Typed t σ n w) (sym (fun-ext (λ p. select-tree v (h .whole) f v′ q p))) (below n);
+          tag = field-tag t wf c f w e;
+        },
+      )
+
+  -- ---- X = u
+  -- below an object the tags 1, 2 and 3 say the same
+  retag : (σ : List ℕ) (c g : ℕ) (ns : List Node) (i : ℕ) → AllTyped t σ (ty c (suc g)) (follow ns (obj i)) → AllTyped t σ (ty c 1) (follow ns (obj i))
+  retag σ c g ns i h zero = tt
+  retag σ c g ns i h (suc n) = (h 1 .0, h (suc n) .1)
+
+-- what a reference is bound to decides what it unfolds to
+bound-as : (x : ℕ) (u : Ref) (ns : List Node) (r s : Ref) → bind x u r ≡ bind x u s → (p : List ℕ) → followBound x u ns r p ≡ followBound x u ns s p
+bound-as x u ns r s e [] = ap (λ (z : Ref). some (labelAt ns z)) e
+bound-as x u ns r s e (f ∷ p) = ap (λ (z : Ref). child ns z f >>= λ y. followBound x u ns y p) e
+
+bound-mark : (x : ℕ) (u : Ref) (ns : List Node) (k : ℕ) → bind x u (mark k) ≡ mark k → (p : List ℕ) → followBound x u ns (mark k) p ≡ follow ns (mark k) p
+bound-mark x u ns k e [] = ap (λ (z : Ref). some (labelAt ns z)) e
+bound-mark x u ns k e (f ∷ p) = ap (λ (z : Ref). child ns z f >>= λ y. followBound x u ns y p) e
+
+bound-undet : (x : ℕ) (u : Ref) (ns : List Node) (p : List ℕ) → followBound x u ns undet p ≡ follow ns undet p
+bound-undet x u ns [] = refl
+bound-undet x u ns (f ∷ p) = refl
+
+bind-is : (x k : ℕ) (u : Ref) → eqb k x ≡ true → bind x u (mark k) ≡ u
+bind-is x k u e = rw (e, bind)
+
+bind-not : (x k : ℕ) (u : Ref) → eqb k x ≡ false → bind x u (mark k) ≡ mark k
+bind-not x k u e = rw (e, bind)
+
+-- the newest mark bound to the root, an object of a type of its bound
+module _ (t : Table) (wf : WellFormed t) (σ : List ℕ) (c g : ℕ) (small : g ≤ 1) (ns : List Node) (i : ℕ) (A : AllTyped t (c ∷ σ) (ty c g) (follow ns (obj i))) where
+  at-object : (n : ℕ) → ((r : Ref) (w : Ty) → AllTyped t (c ∷ σ) w (follow ns r) → Typed t σ n w (followBound (length σ) (obj i) ns r))
+      → (j : ℕ) (w : Ty) → AllTyped t (c ∷ σ) w (follow ns (obj j)) → Typed t σ (suc n) w (followBound (length σ) (obj i) ns (obj j))
+  at-object n ih j w h = (h 1 .0, λ c′ k f w′ e z. go c′ k f w′ e z (child ns (obj j) f) refl)
+    where
+      go : (c′ k f : ℕ) (w′ : Ty) → some (labelAt ns (obj j)) ≡ some (object c′ k) → getElem? (fieldsOf (t .classes) c′) f ≡ some w′
+          → (o : Option Ref) → child ns (obj j) f ≡ o → Typed t σ n (ty (w′ .cls) (under (w .tag) (w′ .tag))) (λ p. child ns (obj j) f >>= λ s. followBound (length σ) (obj i) ns s p)
+      go c′ k f w′ e z none q =
+          absurd (subst (λ (o : Option Ref). OkAt t (c ∷ σ) (ty (w′ .cls) (under (w .tag) (w′ .tag))) (o >>= λ s. follow ns s [])) q (h 2 .1 c′ k f w′ e z .0))
+      go c′ k f w′ e z (some s) q =
+          subst (λ (o : Option Ref). Typed t σ n (ty (w′ .cls) (under (w .tag) (w′ .tag))) (λ p. o >>= λ y. followBound (length σ) (obj i) ns y p)) (sym q)
+          (ih s (ty (w′ .cls) (under (w .tag) (w′ .tag)))
+          (λ m. subst (λ (o : Option Ref). Typed t (c ∷ σ) m (ty (w′ .cls) (under (w .tag) (w′ .tag))) (λ p. o >>= λ y. follow ns y p)) q (h (suc m) .1 c′ k f w′ e z)))
+
+  pub bound-typed : (n : ℕ) (r : Ref) (w : Ty) → AllTyped t (c ∷ σ) w (follow ns r) → Typed t σ n w (followBound (length σ) (obj i) ns r)
+  bound-typed zero r w h = tt
+  bound-typed (suc n) (obj j) w h = at-object n (bound-typed n) j w h
+  bound-typed (suc n) (mark k) w h = go (eqb k (length σ)) refl (h 1 .0) (at-object n (bound-typed n) i w)
+    where
+      go : (b : Bool) → eqb k (length σ) ≡ b → Ok t (c ∷ σ) w (opened k)
+          → (AllTyped t (c ∷ σ) w (follow ns (obj i)) → Typed t σ (suc n) w (followBound (length σ) (obj i) ns (obj i)))
+          → Typed t σ (suc n) w (followBound (length σ) (obj i) ns (mark k))
+      go true q ok ih =
+          let e : some c ≡ some (ok .0) = sym (bound-new c σ) ∙ ap (bound (c ∷ σ)) (sym (eqb-true k (length σ) q)) ∙ ok .1 in
+          let d : ok .0 ≡ c = cc in
+          subst (Typed t σ (suc n) w) (fun-ext (λ p. bound-as (length σ) (obj i) ns (obj i) (mark k) (sym (bind-is (length σ) k (obj i) q)) p))
+          (ih (λ m. typed-fits t wf m (c ∷ σ) (ty c g) w (follow ns (obj i)) (subst (λ (x : ℕ). classFits (t .classes) x (w .cls) ≡ true) d (ok .2)) (omega (arith, ok .3)) (A m)))
+      go false q ok ih =
+          subst (Typed t σ (suc n) w) (sym (fun-ext (λ p. bound-mark (length σ) (obj i) ns k (bind-not (length σ) k (obj i) q) p)))
+          (mark-typed t wf (suc n) σ w ns k (ok .0, sym (bound-old c σ k (ok .0) (eqb-false k (length σ) q)) ∙ ok .1, ok .2, ok .3))
+  bound-typed (suc n) undet w h =
+      subst (Typed t σ (suc n) w) (sym (fun-ext (λ p. bound-undet (length σ) (obj i) ns p))) (undet-typed t wf (suc n) σ w ns (h 1 .0))
+
+-- a tag after X = u: 2 and 3 may be undetermined
+abbrev pub raise : ℕ → ℕ
+raise zero = 0
+raise (suc zero) = 1
+raise (suc (suc g)) = 3
+
+module _ (t : Table) (wf : WellFormed t) where
+  close-whole : (x : ℕ) (r : Ref) (ns : List Node) → Whole (graph r ns) → Whole (close x (graph r ns))
+  unfolding close
+  close-whole x (obj i) ns h = canon-whole _ (bound-whole (graph (obj i) ns) h x i (h .top))
+  close-whole x (mark k) ns h = go (eqb k x)
+    where
+      go : (b : Bool) → Whole (elim b as (λ _. Graph) [ true ↦ undetermined | false ↦ markOf k ])
+      go true = leaf-whole undet tt
+      go false = leaf-whole (mark k) tt
+  close-whole x undet ns h = leaf-whole undet tt
+
+  -- the root is an object
+  close-object : (σ : List ℕ) (c g : ℕ) (ns : List Node) (i : ℕ) → g ≤ 3 → Has t (c ∷ σ) (ty c g) (graph (obj i) ns)
+      → AllTyped t σ (ty c (raise g)) (tree (close (length σ) (graph (obj i) ns)))
+  close-object σ c zero ns i l h n =
+      subst (Typed t σ n (ty c 0)) (sym (fun-ext (λ p. close-tree (length σ) i ns (h .whole) p)))
+      (bound-typed t wf σ c 0 (omega arith) ns i (h .typed) n (obj i) (ty c 0) (h .typed))
+  close-object σ c (suc g) ns i l h n =
+      let A = retag t wf (c ∷ σ) c g ns i (h .typed) in
+      typed-fits t wf n σ (ty c 1) (ty c (raise (suc g))) _ (fits-self (t .classes) c c refl) (small g)
+      (subst (Typed t σ n (ty c 1)) (sym (fun-ext (λ p. close-tree (length σ) i ns (h .whole) p)))
+      (bound-typed t wf σ c 1 (omega arith) ns i A n (obj i) (ty c 1) A))
+    where
+      small : (k : ℕ) → 1 ≤ raise (suc k)
+      small zero = omega arith
+      small (suc k) = omega arith
+
+  raise-le : (g : ℕ) → raise g ≤ 3
+  raise-le zero = omega arith
+  raise-le (suc zero) = omega arith
+  raise-le (suc (suc g)) = omega arith
+
+  raise-2 : (g : ℕ) → 2 ≤ g → raise g ≡ 3
+  raise-2 zero h = absurd (omega arith)
+  raise-2 (suc zero) h = absurd (omega arith)
+  raise-2 (suc (suc g)) h = refl
+
+  close-typed : (σ : List ℕ) (c g : ℕ) (r : Ref) (ns : List Node) → g ≤ 3 → Has t (c ∷ σ) (ty c g) (graph r ns)
+      → AllTyped t σ (ty c (raise g)) (tree (close (length σ) (graph r ns)))
+  unfolding close
+  close-typed σ c g (obj i) ns l h n = close-object σ c g ns i l h n
+  close-typed σ c g (mark k) ns l h n = go (eqb k (length σ)) refl (h .typed 1 .0)
+    where
+      go : (b : Bool) → eqb k (length σ) ≡ b → Ok t (c ∷ σ) (ty c g) (opened k)
+          → Typed t σ n (ty c (raise g)) (tree (elim b as (λ _. Graph) [ true ↦ undetermined | false ↦ markOf k ]))
+      go true q ok = undet-typed t wf n σ (ty c (raise g)) [] (let e = raise-2 g (ok .3) in omega arith)
+      go false q ok =
+          mark-typed t wf n σ (ty c (raise g)) [] k
+          (ok .0, sym (bound-old c σ k (ok .0) (eqb-false k (length σ) q)) ∙ ok .1, ok .2, let e = raise-2 g (ok .3) in omega arith)
+  close-typed σ c g undet ns l h n =
+      let ok : 3 ≤ g = h .typed 1 .0 in
+      let e = raise-2 g (omega arith) in
+      undet-typed t wf n σ (ty c (raise g)) [] (omega arith)
+
+  pub has-close : (σ : List ℕ) (u : Ty) (v : Graph) → Has t (u .cls ∷ σ) u v → Has t σ (ty (u .cls) (raise (u .tag))) (close (length σ) v)
+  has-close σ u v h =
+      record {
+        whole = close-whole (length σ) (v .root) (v .nodes) (h .whole);
+        typed = close-typed σ (u .cls) (u .tag) (v .root) (v .nodes) (h .tag) h;
+        tag = raise-le (u .tag);
+      }

@@ -1,0 +1,16 @@
+pub mod Basics
+pub mod Trees
+pub mod Colours
+pub mod Walk
+pub mod Canon
+pub mod Unique
+pub mod Operations
+pub mod Runs
+pub mod Chain
+pub mod Climb
+pub mod Typed
+pub mod Keeps
+pub mod Sound
+pub mod Reached
+pub mod Readable
+pub mod Cases

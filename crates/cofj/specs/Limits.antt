@@ -1,0 +1,46 @@
+-- Document 01's figures, each named once. Limits on depth and objects are parameters of the definitions; `standard` has document 01's.
+-- Not here: the figures of tags and of bytes in a frame, which stand where the frame is read.
+use Prim.Native.Nat.{ℕ}
+
+-- a text: characters in all, bytes in a line
+abbrev pub textSize : ℕ
+textSize = 49567
+
+abbrev pub lineSize : ℕ
+lineSize = 255
+
+-- a table
+abbrev pub classCount : ℕ
+classCount = 32
+
+abbrev pub methodCount : ℕ
+methodCount = 64
+
+abbrev pub fieldCount : ℕ
+fieldCount = 4
+
+abbrev pub paramCount : ℕ
+paramCount = 3
+
+-- how deep an expression may be nested
+abbrev pub nestingLimit : ℕ
+nestingLimit = 6
+
+-- lent buffers: refusals 12 and 13
+abbrev pub reportSize : ℕ
+reportSize = 544
+
+abbrev pub workSize : ℕ
+workSize = 65536
+
+-- the fuel that `linerun` opens with
+abbrev pub linerunFuel : ℕ
+linerunFuel = 1000
+
+-- what a run may use besides its fuel: calls open at once, and distinct objects in a value
+pub record Limits : Type 0 where
+  pub depth : ℕ
+  pub objects : ℕ
+
+abbrev pub standard : Limits
+standard = record { depth = 16; objects = 32 }

@@ -1,0 +1,46 @@
+-- Reports: the text that a run writes. Not here: which texts are a value's report (ReportForm).
+use Prim.Native.Nat.{ℕ, suc}
+use mathlib.Core.List.{List, [], _∷_, map}
+use lib.ListN.{length}
+use Rattle.cofj.specs.Values.{Graph, Node, Ref, obj, mark, undet}
+use Rattle.cofj.specs.Running.{Outcome, value, stopped, Stop, stuck, noFuel, tooDeep, tooLarge}
+use Rattle.cofj.specs.Text.{hexText}
+
+-- a field: its object's number, or FF for undetermined. A value of a run has no mark.
+abbrev pub refByte : Ref → ℕ
+refByte (obj i) = i
+refByte (mark k) = 0xFF
+refByte undet = 0xFF
+
+abbrev pub objectLine : ℕ → Node → List ℕ
+objectLine k n = 5 ∷ k ∷ n .cls ∷ length (n .refs) ∷ map refByte (n .refs)
+
+-- a line for each object, in the order of their numbers; a canonical graph lists them in the order first met
+abbrev pub objectLines : ℕ → List Node → List (List ℕ)
+objectLines k [] = []
+objectLines k (n ∷ ns) = objectLine k n ∷ objectLines (suc k) ns
+
+abbrev pub valueLines : Graph → List (List ℕ)
+valueLines g = elim (g .root) [ obj i ↦ objectLines 0 (g .nodes) | mark k ↦ (6 ∷ []) ∷ [] | undet ↦ (6 ∷ []) ∷ [] ]
+
+abbrev pub stopByte : Stop → ℕ
+stopByte stuck = 1
+stopByte noFuel = 2
+stopByte tooDeep = 3
+stopByte tooLarge = 4
+
+abbrev pub outcomeLines : Outcome Graph → List (List ℕ)
+outcomeLines (value g n) = valueLines g
+outcomeLines (stopped l n) = (7 ∷ stopByte l ∷ []) ∷ []
+
+-- the report of an outcome, and of a value
+abbrev pub reportOf : Outcome Graph → List ℕ
+reportOf o = hexText (outcomeLines o)
+
+abbrev pub valueReport : Graph → List ℕ
+valueReport g = hexText (valueLines g)
+
+-- the fuel that is left
+abbrev pub fuelOf : Outcome Graph → ℕ
+fuelOf (value g n) = n
+fuelOf (stopped l n) = n

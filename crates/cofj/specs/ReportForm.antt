@@ -1,0 +1,81 @@
+-- Document 01's "a text is a value's report": its form and numbering, no two equal objects, at most so many of them, classes up to 20,
+-- and for each class one field count, 0 for class 00. A line has at most four fields. Read into the value that it reports.
+use Prim.Native.Nat.{ℕ, zero, suc}
+use mathlib.Core.Bool.{Bool, true, false, _&&_, _||_, not}
+use mathlib.Core.List.{List, [], _∷_, _++_, map}
+use mathlib.Core.Option.{Option, none, some}
+use lib.Dec.{eqb, leb, ltb}
+use lib.ListN.{length}
+use Rattle.cofj.specs.Limits.{classCount, fieldCount}
+use Rattle.cofj.specs.Partial.{_>>=_, guard}
+use Rattle.cofj.specs.Text.{linesFrom}
+use Rattle.cofj.specs.Values.{Ref, obj, undet, Node, node, Graph, graph, undetermined, eqNats, colours, visit}
+
+-- a field's byte, among n objects
+abbrev pub refOf : ℕ → ℕ → Option Ref
+refOf n b = elim (ltb b n) [ true ↦ some (obj b) | false ↦ elim (eqb b 0xFF) [ true ↦ some undet | false ↦ none ] ]
+
+unfoldable pub refsOf : ℕ → List ℕ → Option (List Ref)
+refsOf n [] = some []
+refsOf n (b ∷ bs) = refOf n b >>= λ r. refsOf n bs >>= λ rs. some (r ∷ rs)
+
+-- line k of n
+abbrev pub objectOf : ℕ → ℕ → List ℕ → Option Node
+objectOf n k [] = none
+objectOf n k (a ∷ []) = none
+objectOf n k (a ∷ b ∷ []) = none
+objectOf n k (a ∷ b ∷ c ∷ []) = none
+objectOf n k (a ∷ b ∷ c ∷ m ∷ bs) =
+    guard (eqb a 5 && eqb b k && leb c classCount && leb m fieldCount && eqb m (length bs)) >>= λ _. refsOf n bs >>= λ rs. some (node c rs)
+
+unfoldable pub objectsFrom : ℕ → ℕ → List (List ℕ) → Option (List Node)
+unfolding refsOf
+objectsFrom n k [] = some []
+objectsFrom n k (l ∷ ls) = objectOf n k l >>= λ o. objectsFrom n (suc k) ls >>= λ os. some (o ∷ os)
+
+-- 0, 1, .. n - 1, from k
+unfoldable pub upFrom : ℕ → ℕ → List ℕ
+upFrom k zero = []
+upFrom k (suc n) = k ∷ upFrom (suc k) n
+
+-- one field count for each class, none for class 0
+abbrev pub agrees : Node → Node → Bool
+agrees a b = not (eqb (a .cls) (b .cls)) || eqb (length (a .refs)) (length (b .refs))
+
+unfoldable pub allAgree : Node → List Node → Bool
+allAgree a [] = true
+allAgree a (b ∷ bs) = agrees a b && allAgree a bs
+
+unfoldable pub oneCount : List Node → Bool
+unfolding allAgree
+oneCount [] = true
+oneCount (a ∷ as′) = agrees a (node 0 []) && allAgree a as′ && oneCount as′
+
+-- no two objects unfold to the same tree: each has its own colour
+abbrev pub noTwoEqual : List Node → Bool
+noTwoEqual ns = eqNats (colours ns) (upFrom 0 (length ns))
+
+-- the numbers are those of the order first met: from object 0, then its fields in order, depth first, each object by its number
+abbrev pub inOrder : List Node → Bool
+inOrder ns = eqNats (visit ns (upFrom 0 (length ns)) (suc (length ns)) (obj 0) []) (upFrom 0 (length ns))
+
+unfoldable pub objectsGood : ℕ → List Node → Bool
+unfolding oneCount eqNats colours visit upFrom
+objectsGood objects ns = leb 1 (length ns) && leb (length ns) objects && oneCount ns && noTwoEqual ns && inOrder ns
+
+abbrev pub objectsValue : ℕ → List (List ℕ) → Option Graph
+objectsValue objects ls = objectsFrom (length ls) 0 ls >>= λ ns. guard (objectsGood objects ns) >>= λ _. some (graph (obj 0) ns)
+
+-- the line 06 is the report of the undetermined value; any other value's report lists its objects
+abbrev pub linesValue : ℕ → List (List ℕ) → Option Graph
+linesValue objects ls = elim (isUndetermined ls) [ true ↦ some undetermined | false ↦ objectsValue objects ls ]
+  where
+    isUndetermined : List (List ℕ) → Bool
+    isUndetermined [] = false
+    isUndetermined ([] ∷ ls′) = false
+    isUndetermined ((a ∷ as′) ∷ ls′) = eqNats (a ∷ as′) (6 ∷ []) && eqb (length ls′) 0
+
+-- the value that a text reports, with at most so many objects; none where the text is no value's report
+unfoldable pub reported : ℕ → List ℕ → Option Graph
+unfolding linesFrom objectsFrom objectsGood
+reported objects s = linesFrom s none [] >>= λ ls. linesValue objects ls

@@ -1,0 +1,138 @@
+-- Running: what the big-step rules of 002 (figures 2 and 3), as document 01 changes them, give for a table and fuel.
+-- Left to right; the first outcome that is no value is the outcome of the whole. The rules themselves stand in RunningRules.
+-- Differs from 002: fuel, depth and size; the count of a `new` is judged before its values, a call's receiver before its arguments.
+use Prim.Native.Nat.{ℕ, zero, suc}
+use mathlib.Core.Bool.{true, false}
+use mathlib.Core.List.{List, [], _∷_}
+use mathlib.Core.Option.{Option, none, some}
+use lib.Dec.{eqb, ltb}
+use lib.ListN.{length, getElem?}
+use Rattle.cofj.specs.Limits.{Limits, standard}
+use Rattle.cofj.specs.Syntax.{Expr, this, res, param, field, call, new, Exprs, done, also, count, Method, Table}
+use Rattle.cofj.specs.Classes.{fieldsOf, lookup, lookupTo, methodOf, fieldsTo}
+use Rattle.cofj.specs.Values.{Graph, Ref, obj, mark, undet, Node, make, select, close, eqGraph, eqGraphs, markOf, nodeAt}
+
+-- why a run ends without a value
+pub data Stop : Type 0 where
+  stuck noFuel tooDeep tooLarge : Stop
+
+-- what evaluation gives: a value or what it stopped at, and the fuel that is left
+pub data Outcome (A : Type 0) : Type 0 where
+  value : A → ℕ → Outcome A
+  stopped : Stop → ℕ → Outcome A
+
+infixl 20 _then_
+abbrev pub _then_ : {A B : Type 0} → Outcome A → (A → ℕ → Outcome B) → Outcome B
+value a n then f = f a n
+stopped l n then f = stopped l n
+
+-- 002's frame: this, res and the parameters, each where it has a value
+pub record Frame : Type 0 where
+  pub self : Option Graph
+  pub result : Option Graph
+  pub params : List Graph
+
+-- an open left-side call and its mark; 002's call trace is a list of these, the newest first
+pub record OpenCall : Type 0 where
+  pub receiver : Graph
+  pub name : ℕ
+  pub args : List Graph
+  pub label : ℕ
+
+abbrev pub orStuck : {A : Type 0} → Option A → ℕ → Outcome A
+orStuck none n = stopped stuck n
+orStuck (some a) n = value a n
+
+-- the mark of the open call with this receiver, name and arguments
+unfoldable pub openMark : List OpenCall → Graph → ℕ → List Graph → Option ℕ
+unfolding eqGraph eqGraphs
+openMark [] v m vs = none
+openMark (o ∷ os) v m vs =
+    elim (eqb (o .name) m) [
+      | true ↦ elim (eqGraph (o .receiver) v) [
+        | true ↦ elim (eqGraphs (o .args) vs) [ true ↦ some (o .label) | false ↦ openMark os v m vs ]
+        | false ↦ openMark os v m vs
+      ]
+      | false ↦ openMark os v m vs
+    ]
+
+-- the class of an object
+abbrev pub classOf : Graph → Option ℕ
+classOf g = elim (g .root) [ obj i ↦ some (nodeAt (g .nodes) i .cls) | mark k ↦ none | undet ↦ none ]
+
+-- Evaluation of the bodies of calls: the frame, the open left-side calls, the expression, the fuel.
+abbrev pub Deeper : Type 0
+Deeper = Frame → List OpenCall → Expr → ℕ → Outcome Graph
+
+-- the method that a call names, if the receiver is an object, has it, and the counts agree
+unfoldable pub target : Table → Graph → ℕ → ℕ → Option Method
+unfolding lookupTo methodOf
+target t v m n =
+    elim (classOf v) [
+      | none ↦ none
+      | some c ↦ elim (lookup t c m) [ none ↦ none | some d ↦ elim (eqb (length (d .params)) n) [ true ↦ some d | false ↦ none ] ]
+    ]
+
+abbrev pub frameOf : Graph → Option Graph → List Graph → Frame
+frameOf v r vs = record { self = some v; result = r; params = vs }
+
+abbrev pub opened : List OpenCall → Graph → ℕ → List Graph → List OpenCall
+opened os v m vs = record { receiver = v; name = m; args = vs; label = length os } ∷ os
+
+-- A call, its receiver, method and arguments known. One unit is spent before the depth is tested (by `deeper`), met again or not;
+-- a fresh mark is the number of open left-side calls, which no value has that is alive.
+unfoldable pub invoke : Deeper → List OpenCall → Graph → ℕ → List Graph → Method → ℕ → Outcome Graph
+unfolding openMark close
+invoke deeper os v m vs d zero = stopped noFuel zero
+invoke deeper os v m vs d (suc n) =
+    elim (openMark os v m vs) [
+      | some x ↦ deeper (frameOf v (some (markOf x)) vs) os (d .right) n
+      | none ↦ deeper (frameOf v none vs) (opened os v m vs) (d .left) n then λ u n′. value (close (length os) u) n′
+    ]
+
+-- too large: more than so many distinct objects, the new one included
+unfoldable pub sized : ℕ → Graph → ℕ → Outcome Graph
+sized objects g n = elim (ltb objects (length (g .nodes))) [ true ↦ stopped tooLarge n | false ↦ value g n ]
+
+module _ (objects : ℕ) (t : Table) (deeper : Deeper) where
+  unfoldable mutual
+    unfolding invoke target make select sized fieldsTo
+
+    pub eval : Frame → List OpenCall → Expr → ℕ → Outcome Graph
+    eval fr os this n = orStuck (fr .self) n
+    eval fr os res n = orStuck (fr .result) n
+    eval fr os (param k) n = orStuck (getElem? (fr .params) k) n
+    eval fr os (field f e) n = eval fr os e n then λ v n′. orStuck (select f v) n′
+    eval fr os (call m e es) n =
+        eval fr os e n then λ v n′.
+        orStuck (target t v m (count es)) n′ then λ d n″.
+        evals fr os es n″ then λ vs n‴.
+        invoke deeper os v m vs d n‴
+    eval fr os (new c es) n =
+        elim (eqb (length (fieldsOf (t .classes) c)) (count es)) [
+          | true ↦ evals fr os es n then λ vs n′. sized objects (make c vs) n′
+          | false ↦ stopped stuck n
+        ]
+
+    pub evals : Frame → List OpenCall → Exprs → ℕ → Outcome (List Graph)
+    evals fr os done n = value [] n
+    evals fr os (also e es) n = eval fr os e n then λ v n′. evals fr os es n′ then λ vs n″. value (v ∷ vs) n″
+
+-- evaluation with room for so many more open calls; both sides of a method count as open while they run
+unfoldable pub evalTo : ℕ → ℕ → Table → Deeper
+unfolding eval
+evalTo objects zero t fr os e n = eval objects t (λ _ _ _ n′. stopped tooDeep n′) fr os e n
+evalTo objects (suc d) t fr os e n = eval objects t (λ fr′ os′ e′ n′. evalTo objects d t fr′ os′ e′ n′) fr os e n
+
+-- in main there are no variables
+abbrev pub mainFrame : Frame
+mainFrame = record { self = none; result = none; params = [] }
+
+unfoldable pub runWithin : Limits → Table → ℕ → Outcome Graph
+unfolding evalTo
+runWithin l t n = evalTo (l .objects) (l .depth) t mainFrame [] (t .main) n
+
+-- a run with document 01's limits
+unfoldable pub run : Table → ℕ → Outcome Graph
+unfolding runWithin
+run t n = runWithin standard t n

@@ -1,0 +1,110 @@
+-- From frames to a class table: their order (refusal 3), the rules of a class table (4), overriding (5).
+use Prim.Native.Nat.{ℕ, zero, suc}
+use mathlib.Core.Bool.{Bool, true, false, _&&_, _||_, not}
+use mathlib.Core.List.{List, [], _∷_}
+use mathlib.Core.Option.{Option, none, some}
+use lib.Dec.{eqb, leb, ltb}
+use lib.ListN.{length}
+use Rattle.cofj.specs.Limits.{classCount, methodCount, fieldCount}
+use Rattle.cofj.specs.Partial.{_>>=_, guard}
+use Rattle.cofj.specs.Syntax.{Expr, this, res, param, field, call, new, Exprs, done, also, Ty, Class, Method, Table, eqTy, eqTys}
+use Rattle.cofj.specs.Classes.{fieldsOf, fieldsTo, lookup, lookupTo, methodOf, parentOf}
+use Rattle.cofj.specs.Typing.{closedTag, allClosed}
+use Rattle.cofj.specs.Frames.{ClassFrame, TextFrame, classFrame, methodFrame, mainFrame}
+
+-- ---- the order of the frames: refusal 3
+pub record Raw : Type 0 where
+  pub classes : List ClassFrame
+  pub methods : List Method
+  pub main : Expr
+
+abbrev pub raw : List ClassFrame → List Method → Expr → Raw
+raw cs ms e = record { classes = cs; methods = ms; main = e }
+
+-- a frame in front of what follows it
+abbrev pub inFront : TextFrame → Raw → Option Raw
+inFront (classFrame c) r = some (raw (c ∷ r .classes) (r .methods) (r .main))
+inFront (methodFrame m) r = elim (r .classes) [ [] ↦ some (raw [] (m ∷ r .methods) (r .main)) | c ∷ cs ↦ none ]
+inFront (mainFrame e) r = none
+
+unfoldable pub ordered : List TextFrame → Option Raw
+ordered [] = none
+ordered (classFrame c ∷ fs) = ordered fs >>= λ r. inFront (classFrame c) r
+ordered (methodFrame m ∷ fs) = ordered fs >>= λ r. inFront (methodFrame m) r
+ordered (mainFrame e ∷ []) = some (raw [] [] e)
+ordered (mainFrame e ∷ (f ∷ fs)) = none
+
+abbrev pub few : Raw → Option Raw
+few r = guard (leb (length (r .classes)) classCount && leb (length (r .methods)) methodCount) >>= λ _. some r
+
+-- ---- class numbers, known classes, tags, names: refusal 4
+-- the classes are numbered from k, each parent below its class
+unfoldable pub numbered : ℕ → List ClassFrame → Bool
+numbered k [] = true
+numbered k (c ∷ cs) = eqb (c .number) k && ltb (c .body .parent) k && numbered (suc k) cs
+
+-- a type with a known class, of n, and one with a closed tag besides
+abbrev pub known : ℕ → Ty → Bool
+known n u = leb (u .cls) n
+
+unfoldable pub allKnown : ℕ → List Ty → Bool
+allKnown n [] = true
+allKnown n (u ∷ us) = known n u && allKnown n us
+
+unfoldable mutual
+  pub exprKnown : ℕ → Expr → Bool
+  exprKnown n this = true
+  exprKnown n res = true
+  exprKnown n (param k) = true
+  exprKnown n (field f e) = exprKnown n e
+  exprKnown n (call m e es) = exprKnown n e && exprsKnown n es
+  exprKnown n (new c es) = leb c n && exprsKnown n es
+
+  pub exprsKnown : ℕ → Exprs → Bool
+  exprsKnown n done = true
+  exprsKnown n (also e es) = exprKnown n e && exprsKnown n es
+
+unfoldable pub classesGood : ℕ → List Class → List Class → ℕ → Bool
+unfolding allKnown fieldsTo
+classesGood n cs [] k = true
+classesGood n cs (d ∷ ds) k =
+    allKnown n (d .own) && allClosed (d .own) && leb (length (fieldsOf cs k)) fieldCount && classesGood n cs ds (suc k)
+
+unfoldable pub hasName : Method → List Method → Bool
+hasName m [] = false
+hasName m (d ∷ ds) = eqb (m .owner) (d .owner) && eqb (m .name) (d .name) || hasName m ds
+
+unfoldable pub methodsGood : ℕ → List Method → Bool
+unfolding allKnown exprKnown hasName
+methodsGood n [] = true
+methodsGood n (m ∷ ms) =
+    within1 n (m .owner) && known n (m .first) && known n (m .second) && closedTag (m .first .tag) && allKnown n (m .params) && allClosed (m .params)
+    && exprKnown n (m .left) && exprKnown n (m .right) && not (hasName m ms) && methodsGood n ms
+  where
+    within1 : ℕ → ℕ → Bool
+    within1 k o = leb 1 o && leb o k
+
+abbrev pub bodies : List ClassFrame → List Class
+bodies [] = []
+bodies (c ∷ cs) = c .body ∷ bodies cs
+
+unfoldable pub table : Raw → Option Table
+unfolding numbered classesGood methodsGood exprKnown
+table r =
+    let cs = bodies (r .classes) in
+    let n = length cs in
+    guard (numbered 1 (r .classes) && classesGood n cs cs 1 && methodsGood n (r .methods) && exprKnown n (r .main)) >>= λ _.
+    some (record { classes = cs; methods = r .methods; main = r .main })
+
+-- ---- a method has the types of the one of its name above it: refusal 5
+abbrev pub sameTypes : Method → Option Method → Bool
+sameTypes m none = true
+sameTypes m (some d) = eqTy (m .first) (d .first) && eqTy (m .second) (d .second) && eqTys (m .params) (d .params)
+
+unfoldable pub overridesGood : Table → List Method → Bool
+unfolding lookupTo methodOf
+overridesGood t [] = true
+overridesGood t (m ∷ ms) = sameTypes m (lookup t (parentOf (t .classes) (m .owner)) (m .name)) && overridesGood t ms
+
+abbrev pub overridden : Table → Option Table
+overridden t = guard (overridesGood t (t .methods)) >>= λ _. some t

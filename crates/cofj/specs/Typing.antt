@@ -1,0 +1,100 @@
+-- The typing rules of figure 7 of 002, as document 01 changes them.
+use Prim.Native.Nat.{ℕ, zero, suc}
+use mathlib.Core.Bool.{Bool, true, false, _&&_, _||_, cond}
+use mathlib.Core.List.{List, [], _∷_, map}
+use mathlib.Core.Option.{Option, none, some}
+use lib.Dec.{eqb, leb}
+use lib.ListN.{getElem?}
+use Rattle.cofj.specs.Syntax.{Expr, this, res, param, field, call, new, Exprs, done, also, Ty, ty, Method, Table, eqTy, eqTys}
+use Rattle.cofj.specs.Partial.{_>>=_, guard}
+use Rattle.cofj.specs.Classes.{fits, fieldsOf, lookup}
+
+-- the variables of a body: this, res (right side only), the parameters
+pub record Env : Type 0 where
+  pub self : Option Ty
+  pub result : Option Ty
+  pub params : List Ty
+
+-- tags 0 and 3 are closed
+abbrev pub closedTag : ℕ → Bool
+closedTag g = eqb g 0 || eqb g 3
+
+abbrev pub allClosed : List Ty → Bool
+allClosed [] = true
+allClosed (u ∷ us) = closedTag (u .tag) && allClosed us
+
+-- pointwise fit of two lists of one length
+module _ (t : Table) where
+  abbrev pub allFit : List Ty → List Ty → Bool
+  allFit [] [] = true
+  allFit [] (v ∷ vs) = false
+  allFit (u ∷ us) [] = false
+  allFit (u ∷ us) (v ∷ vs) = fits (t .classes) u v && allFit us vs
+
+-- an open tag read as 0, for a value of `new`
+abbrev pub narrow : Ty → Ty
+narrow u = ty (u .cls) (cond (closedTag (u .tag)) (u .tag) 0)
+
+-- 1 read as 0 and 2 as 3: the type of the closed result
+abbrev pub closeTag : ℕ → ℕ
+closeTag g = cond (eqb g 1) 0 (cond (eqb g 2) 3 g)
+
+module _ (t : Table) where
+  unfoldable pub fieldType : Ty → ℕ → Option Ty
+  fieldType u f = guard (eqb (u .tag) 0) >>= λ _. getElem? (fieldsOf (t .classes) (u .cls)) f
+
+  unfoldable pub callType : Bool → Ty → ℕ → List Ty → Option Ty
+  callType top u m us =
+      guard (eqb (u .tag) 0) >>= λ _.
+      lookup t (u .cls) m >>= λ d.
+      guard (allClosed us && allFit t us (d .params)) >>= λ _.
+      some (cond top (d .first) (d .second))
+
+  unfoldable pub newType : ℕ → List Ty → Option Ty
+  newType c us =
+      elim (allClosed us) [
+        | true ↦ guard (allFit t us (fieldsOf (t .classes) c)) >>= λ _. some (ty c 0)
+        | false ↦ guard (allFit t (map narrow us) (fieldsOf (t .classes) c)) >>= λ _. some (ty c 1)
+      ]
+
+  -- `top` says that the expression is main: a call has its method's first result type there, and the second in a body
+  unfoldable mutual
+    pub typeOf : Bool → Env → Expr → Option Ty
+    typeOf top g this = g .self
+    typeOf top g res = g .result
+    typeOf top g (param k) = getElem? (g .params) k
+    typeOf top g (field f e) = typeOf top g e >>= λ u. fieldType u f
+    typeOf top g (call m e es) = typeOf top g e >>= λ u. typesOf top g es >>= λ us. callType top u m us
+    typeOf top g (new c es) = typesOf top g es >>= λ us. newType c us
+
+    pub typesOf : Bool → Env → Exprs → Option (List Ty)
+    typesOf top g done = some []
+    typesOf top g (also e es) = typeOf top g e >>= λ u. typesOf top g es >>= λ us. some (u ∷ us)
+
+  unfoldable pub methodTyped : Method → Option (Unit {0})
+  methodTyped d =
+      typeOf false (record { self = some (ty (d .owner) 0); result = none; params = d .params }) (d .left) >>= λ u.
+      typeOf false (record { self = some (ty (d .owner) 0); result = some (ty (u .cls) 2); params = d .params }) (d .right) >>= λ v.
+      guard (fits (t .classes) (ty (u .cls) (closeTag (u .tag))) (d .first)
+      && fits (t .classes) v (d .second)
+      && fits (t .classes) (d .first) (d .second)
+      && fits (t .classes) u (d .second))
+
+  abbrev pub methodsTyped : List Method → Option (Unit {0})
+  methodsTyped [] = some tt
+  methodsTyped (d ∷ ds) = methodTyped d >>= λ _. methodsTyped ds
+
+  abbrev pub mainType : Option Ty
+  mainType = typeOf true (record { self = none; result = none; params = [] }) (t .main)
+
+-- refused with 6 or 7, or accepted with main's type
+pub data Checked : Type 0 where
+  refused : ℕ → Checked
+  accepted : Ty → Checked
+
+abbrev pub mainOr7 : Option Ty → Checked
+mainOr7 none = refused 7
+mainOr7 (some u) = accepted u
+
+unfoldable pub check : Table → Checked
+check t = elim (methodsTyped t (t .methods)) [ none ↦ refused 6 | some u ↦ mainOr7 (mainType t) ]

@@ -1,0 +1,47 @@
+-- What a value unfolds to: document 01's "two values unfold to the same tree".
+use Prim.Native.Nat.{ℕ, zero, suc, _<_}
+use mathlib.Core.Path.{_≡_}
+use mathlib.Core.List.{List, [], _∷_}
+use mathlib.Core.Option.{Option, none, some}
+use lib.ListN.{length, getElem?}
+use Rattle.cofj.specs.Partial.{_>>=_}
+use Rattle.cofj.specs.Values.{Ref, obj, mark, undet, Node, Graph, nodeAt, refsAt}
+
+-- what stands at the end of a path
+pub data Label : Type 0 where
+  object : ℕ → ℕ → Label
+  opened : ℕ → Label
+  unknown : Label
+
+abbrev pub labelAt : List Node → Ref → Label
+labelAt ns (obj i) = object (nodeAt ns i .cls) (length (refsAt ns i))
+labelAt ns (mark k) = opened k
+labelAt ns undet = unknown
+
+abbrev pub child : List Node → Ref → ℕ → Option Ref
+child ns (obj i) f = getElem? (refsAt ns i) f
+child ns (mark k) f = none
+child ns undet f = none
+
+-- the end of a list of field numbers, none where it cannot be followed
+abbrev pub follow : List Node → Ref → List ℕ → Option Label
+follow ns r [] = some (labelAt ns r)
+follow ns r (f ∷ p) = child ns r f >>= λ s. follow ns s p
+
+abbrev pub Same : List Node → Ref → List Node → Ref → Type 0
+Same ns r ms s = (p : List ℕ) → follow ns r p ≡ follow ms s p
+
+-- the two graphs unfold to the same tree
+abbrev pub SameTree : Graph → Graph → Type 0
+SameTree g h = Same (g .nodes) (g .root) (h .nodes) (h .root)
+
+-- an object's number is below n
+abbrev pub InRange : ℕ → Ref → Type 0
+InRange n (obj i) = i < n
+InRange n (mark k) = Unit {0}
+InRange n undet = Unit {0}
+
+-- every reference is in range
+pub record Whole (g : Graph) : Type 0 where
+  pub top : InRange (length (g .nodes)) (g .root)
+  pub inner : (i f : ℕ) (r : Ref) → getElem? (refsAt (g .nodes) i) f ≡ some r → InRange (length (g .nodes)) r

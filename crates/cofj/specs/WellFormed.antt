@@ -1,0 +1,36 @@
+-- What reading makes sure of in a table (refusals 2 to 5), as far as runs, types and reports need it.
+-- Proved of every table that is read in proofs/Readable.
+use Prim.Native.Nat.{ℕ, suc, _≤_}
+use mathlib.Core.Path.{_≡_}
+use mathlib.Core.Bool.{true}
+use mathlib.Core.List.{List, [], _∷_}
+use lib.ListN.{length}
+use Rattle.cofj.specs.Limits.{classCount, fieldCount}
+use Rattle.cofj.specs.Syntax.{Ty, Method, Table}
+use Rattle.cofj.specs.Classes.{fieldsOf, classAt, ownOrNone, parentOf, lookup}
+use Rattle.cofj.specs.Tables.{sameTypes, exprKnown}
+
+abbrev pub Tags : List Ty → Type 0
+Tags [] = Unit {0}
+Tags (u ∷ us) = (u .tag ≤ 3) × Tags us
+
+abbrev pub AllMethods : (Method → Type 0) → List Method → Type 0
+AllMethods P [] = Unit {0}
+AllMethods P (d ∷ ds) = P d × AllMethods P ds
+
+pub record MethodFormed (t : Table) (d : Method) : Type 0 where
+  pub owned : 1 ≤ d .owner
+  pub first : d .first .tag ≤ 3
+  pub second : d .second .tag ≤ 3
+  pub params : Tags (d .params)
+  pub same : sameTypes d (lookup t (parentOf (t .classes) (d .owner)) (d .name)) ≡ true
+  pub leftKnown : exprKnown (length (t .classes)) (d .left) ≡ true
+  pub rightKnown : exprKnown (length (t .classes)) (d .right) ≡ true
+
+pub record WellFormed (t : Table) : Type 0 where
+  pub parents : (k : ℕ) → parentOf (t .classes) (suc k) ≤ k
+  pub own : (c : ℕ) → Tags (ownOrNone (classAt (t .classes) c))
+  pub methods : AllMethods (MethodFormed t) (t .methods)
+  pub mainKnown : exprKnown (length (t .classes)) (t .main) ≡ true
+  pub classes : length (t .classes) ≤ classCount
+  pub fields : (c : ℕ) → c ≤ length (t .classes) → length (fieldsOf (t .classes) c) ≤ fieldCount
