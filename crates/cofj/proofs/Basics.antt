@@ -3,7 +3,7 @@ use Prim.Native.Nat.{ℕ, zero, suc, _+_, _*_, _≤_, _<_, zero-le, suc-le-suc}
 use native.Mathlib.Nat.{not-suc-le-zero, le-of-suc-le-suc}
 use native.Mathlib.Omega.{arith}
 use mathlib.Core.Path.{_≡_, refl, sym, ap, ap₂, _∙_, subst}
-use mathlib.Core.Bool.{Bool, true, false, true≢false, false≢true}
+use mathlib.Core.Bool.{Bool, true, false, _&&_, true≢false, false≢true}
 use mathlib.Core.List.{List, [], _∷_, _++_, map}
 use mathlib.Core.Option.{Option, none, some}
 use lib.Dec.{eqb}
@@ -48,6 +48,10 @@ both-true false x h = absurd (false≢true h)
 pub true-both : (b x : Bool) → b ≡ true → x ≡ true → (elim b as (λ _. Bool) [ true ↦ x | false ↦ false ]) ≡ true
 true-both true x p q = q
 true-both false x p q = p
+
+pub true-and : (a b : Bool) → a ≡ true → b ≡ true → a && b ≡ true
+true-and true b p q = q
+true-and false b p q = p
 
 pub eqRefs-true : (rs ss : List Ref) → eqRefs rs ss ≡ true → rs ≡ ss
 unfolding eqRefs

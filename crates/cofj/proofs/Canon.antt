@@ -94,7 +94,7 @@ module _ (g : Graph) (w : Whole g) where
   covered-colour undet (mark l) e p = tt
   covered-colour undet undet e p = tt
 
-  abbrev Met : Ref → Type 0
+  abbrev pub Met : Ref → Type 0
   Met r = Covered g w (order g w) r × InRange (length (g .nodes)) r
 
   -- the fields of an object that is met are met
@@ -128,16 +128,17 @@ module _ (g : Graph) (w : Whole g) where
       ∙ ap (λ (c : ℕ). renameNode number (nodeAt (g .nodes) c)) (s .1)
       ∙ number-look (colour g w i) i (order-kept g w (colour g w i) (p .0) .0) (p .1) (colour-first g w i (p .1))
 
-  pub listed-same : (path : List ℕ) → follow (g .nodes) (g .root) path ≡ follow listed (rename number (g .root)) path
-  listed-same path =
+  -- an object that is met unfolds as the one listed for it
+  pub met-same : (path : List ℕ) (r : Ref) → Met r → follow (g .nodes) r path ≡ follow listed (rename number r) path
+  met-same path r m =
       renamed-same (g .nodes) listed number (λ i. i) Met (λ _. Unit {0}) met-child (λ _ _ _ _ _. tt)
       (λ i j p q e. sym (node-id (renameNode number (nodeAt (g .nodes) i))) ∙ ap (renameNode (λ k. k)) (sym (at-number i p) ∙ ap (nodeAt listed) e))
-      path (g .root) (rename number (g .root)) (order-root g w, w .top) tt (sym (rename-id (rename number (g .root))))
+      path r (rename number r) m tt (sym (rename-id (rename number r)))
 
   -- the value unfolds to the graph's tree
   pub canon-same : SameTree (canon g) g
   unfolding canon
-  canon-same path = sym (listed-same path)
+  canon-same path = sym (met-same path (g .root) (order-root g w, w .top))
 
   in-listed : (r : Ref) → Covered g w (order g w) r → InRange (length listed) (rename number r)
   in-listed (obj i) p = subst (λ (n : ℕ). number i < n) (sym (length-map (order g w) _)) (placeIn-spec (colour g w i) (order g w) p .0)

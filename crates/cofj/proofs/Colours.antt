@@ -180,6 +180,9 @@ module _ (g : Graph) (w : Whole g) where
   abbrev pub colour : ℕ → ℕ
   colour i = colourOf (colours (g .nodes)) i
 
+  pub colour-size : length (colours (g .nodes)) ≡ length (g .nodes)
+  colour-size = stable .0 .size
+
   fixed : (i : ℕ) → colour i ≡ next (g .nodes) (colours (g .nodes)) i
   fixed i = ap (λ (cs : List ℕ). colourOf cs i) (eqNats-true _ _ (stable .1))
 

@@ -4,6 +4,7 @@ pub mod Colours
 pub mod Walk
 pub mod Canon
 pub mod Unique
+pub mod Numbering
 pub mod Operations
 pub mod Runs
 pub mod Chain
@@ -12,5 +13,9 @@ pub mod Typed
 pub mod Keeps
 pub mod Sound
 pub mod Reached
+pub mod TextRound
+pub mod ReportLines
+pub mod Reports
 pub mod Readable
+pub mod Promises
 pub mod Cases

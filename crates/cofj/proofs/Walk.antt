@@ -91,6 +91,17 @@ unfolding unseen bit
 unseen-top zero s = zero-le
 unseen-top (suc n) s = omega (arith, bit-le false (isIn n s) (λ e. absurd (false≢true e)), unseen-top n s)
 
+-- where none is lacking, every number is there
+pub unseen-none : (n : ℕ) (s : List ℕ) → unseen n s ≡ 0 → (c : ℕ) → c < n → isIn c s ≡ true
+unfolding unseen bit
+unseen-none zero s e c l = absurd (not-suc-le-zero l)
+unseen-none (suc n) s e c l = go (isIn n s) refl e (eqb c n) refl (unseen-none n s)
+  where
+    go : (b : Bool) → isIn n s ≡ b → bit b + unseen n s ≡ 0 → (a : Bool) → eqb c n ≡ a → (unseen n s ≡ 0 → (d : ℕ) → d < n → isIn d s ≡ true) → isIn c s ≡ true
+    go true q z true y ih = subst (λ (k : ℕ). isIn k s ≡ true) (sym (eqb-true c n y)) q
+    go true q z false y ih = let d : c ≡ n → ⊥ = eqb-false c n y in ih (omega arith) c (omega arith)
+    go false q z a y ih = absurd (omega arith)
+
 -- ---- the walk
 module _ (g : Graph) (w : Whole g) where
   -- the reference's colour is met, if it is an object
@@ -233,6 +244,10 @@ module _ (g : Graph) (w : Whole g) where
   pub order-closed : (c : ℕ) → isIn c order ≡ true → (f : ℕ) (r : Ref) → getElem? (refsAt (g .nodes) c) f ≡ some r → Covered order r
   unfolding isIn
   order-closed c p = walked .0 .over c p refl
+
+  -- where the walk lists as many numbers as there are objects, it lists them all
+  pub order-full : length order ≡ length (g .nodes) → (c : ℕ) → c < length (g .nodes) → isIn c order ≡ true
+  order-full e = unseen-none (length (g .nodes)) order (omega (arith, walked .0 .grown, unseen-top (length (g .nodes)) []))
 
   -- no more numbers than objects
   pub order-length : length order ≤ length (g .nodes)

@@ -13,9 +13,10 @@ pub mod Values
 pub mod Unfolding
 pub mod Running
 pub mod Report
+pub mod Formed
 pub mod ReportForm
 pub mod Calls
-pub mod Formed
 pub mod Soundness
+pub mod Promises
 pub mod Bytes
 pub mod Rows

@@ -1,8 +1,10 @@
 -- Reports: the text that a run writes. Not here: which texts are a value's report (ReportForm).
 use Prim.Native.Nat.{ℕ, suc}
+use mathlib.Core.Path.{_≡_}
 use mathlib.Core.List.{List, [], _∷_, map}
 use lib.ListN.{length}
 use Rattle.cofj.specs.Values.{Graph, Node, Ref, obj, mark, undet}
+use Rattle.cofj.specs.Unfolding.{SameTree}
 use Rattle.cofj.specs.Running.{Outcome, value, stopped, Stop, stuck, noFuel, tooDeep, tooLarge}
 use Rattle.cofj.specs.Text.{hexText}
 
@@ -44,3 +46,10 @@ valueReport g = hexText (valueLines g)
 abbrev pub fuelOf : Outcome Graph → ℕ
 fuelOf (value g n) = n
 fuelOf (stopped l n) = n
+
+-- both ended in values that unfold to the same tree, or both stopped at the same
+abbrev pub SameEnd : Outcome Graph → Outcome Graph → Type 0
+SameEnd (value v n) (value w m) = SameTree v w
+SameEnd (value v n) (stopped l m) = ⊥
+SameEnd (stopped k n) (value w m) = ⊥
+SameEnd (stopped k n) (stopped l m) = k ≡ l

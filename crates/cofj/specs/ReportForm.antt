@@ -1,6 +1,7 @@
 -- Document 01's "a text is a value's report": its form and numbering, no two equal objects, at most so many of them, classes up to 20,
 -- and for each class one field count, 0 for class 00. A line has at most four fields. Read into the value that it reports.
-use Prim.Native.Nat.{ℕ, zero, suc}
+use Prim.Native.Nat.{ℕ, zero, suc, _≤_}
+use mathlib.Core.Path.{_≡_}
 use mathlib.Core.Bool.{Bool, true, false, _&&_, _||_, not}
 use mathlib.Core.List.{List, [], _∷_, _++_, map}
 use mathlib.Core.Option.{Option, none, some}
@@ -9,7 +10,9 @@ use lib.ListN.{length}
 use Rattle.cofj.specs.Limits.{classCount, fieldCount}
 use Rattle.cofj.specs.Partial.{_>>=_, guard}
 use Rattle.cofj.specs.Text.{linesFrom}
-use Rattle.cofj.specs.Values.{Ref, obj, undet, Node, node, Graph, graph, undetermined, eqNats, colours, visit}
+use Rattle.cofj.specs.Values.{Ref, obj, undet, Node, node, Graph, graph, undetermined, eqNats, colours, visit, canon}
+use Rattle.cofj.specs.Unfolding.{Whole}
+use Rattle.cofj.specs.Formed.{AllIn, MarkBelow}
 
 -- a field's byte, among n objects
 abbrev pub refOf : ℕ → ℕ → Option Ref
@@ -68,14 +71,27 @@ objectsValue objects ls = objectsFrom (length ls) 0 ls >>= λ ns. guard (objects
 
 -- the line 06 is the report of the undetermined value; any other value's report lists its objects
 abbrev pub linesValue : ℕ → List (List ℕ) → Option Graph
-linesValue objects ls = elim (isUndetermined ls) [ true ↦ some undetermined | false ↦ objectsValue objects ls ]
-  where
-    isUndetermined : List (List ℕ) → Bool
-    isUndetermined [] = false
-    isUndetermined ([] ∷ ls′) = false
-    isUndetermined ((a ∷ as′) ∷ ls′) = eqNats (a ∷ as′) (6 ∷ []) && eqb (length ls′) 0
+linesValue objects [] = none
+linesValue objects (l ∷ []) = elim (eqNats l (6 ∷ [])) [ true ↦ some undetermined | false ↦ objectsValue objects (l ∷ []) ]
+linesValue objects (l ∷ m ∷ ls) = objectsValue objects (l ∷ m ∷ ls)
 
 -- the value that a text reports, with at most so many objects; none where the text is no value's report
 unfoldable pub reported : ℕ → List ℕ → Option Graph
 unfolding linesFrom objectsFrom objectsGood
 reported objects s = linesFrom s none [] >>= λ ls. linesValue objects ls
+
+-- ---- the values that have a report
+-- an object as a report can list it
+pub record Plain (n : Node) : Type 0 where
+  pub known : n .cls ≤ classCount
+  pub few : length (n .refs) ≤ fieldCount
+  pub closed : AllIn (MarkBelow 0) (n .refs)
+
+-- every value of a run that reading admits is one (proofs/Reports)
+pub record Reportable (objects : ℕ) (v : Graph) : Type 0 where
+  pub whole : Whole v
+  pub own : canon v ≡ v
+  pub small : length (v .nodes) ≤ objects
+  pub root : MarkBelow 0 (v .root)
+  pub nodes : AllIn Plain (v .nodes)
+  pub counts : oneCount (v .nodes) ≡ true

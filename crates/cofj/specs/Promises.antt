@@ -1,0 +1,87 @@
+-- What is promised of the public calls, as statements. Proved in proofs/Promises; read these two files first.
+-- Demand 1: refusals number by number. Demand 3: equal reports exactly for the same end, and what an accepted program's report shows.
+-- Demand 2 is in TypingRules, RunningRules (the rules) and proofs/RoundTrip (texts and tables).
+use Prim.Native.Nat.{ℕ, _≤_, _<_}
+use mathlib.Core.Path.{_≡_}
+use mathlib.Core.Bool.{Bool, true, false}
+use mathlib.Core.List.{List}
+use mathlib.Core.Logic.{_↔_}
+use lib.ListN.{length, take}
+use Rattle.cofj.specs.declared.Session.{Session}
+use Rattle.cofj.specs.declared.Answer.{Answer}
+use Rattle.cofj.specs.Limits.{reportSize, workSize}
+use Rattle.cofj.specs.Syntax.{Ty, Table}
+use Rattle.cofj.specs.Reading.{Answer as ReadAnswer, refusal, read, readText}
+use Rattle.cofj.specs.Typing.{refused, accepted, check}
+use Rattle.cofj.specs.Values.{Graph}
+use Rattle.cofj.specs.Running.{Outcome, run}
+use Rattle.cofj.specs.Report.{reportOf, fuelOf, SameEnd}
+use Rattle.cofj.specs.Soundness.{Ends, EndsListed}
+use Rattle.cofj.specs.Calls.{Mode, checked, trial, Ran, openSession, turnedAway, ended, runCall}
+
+-- a call of a run: its input and its state
+pub record Call : Type 0 where
+  pub mode : Mode
+  pub text : List ℕ
+  pub session : Session
+  pub report : List ℕ
+  pub work : List ℕ
+
+abbrev pub called : Call → Ran
+called a = runCall (a .mode) (a .text) (a .session) (a .report) (a .work)
+
+-- the report that the call wrote: as many bytes of the buffer as it answers
+abbrev pub reportText : Ran → List ℕ
+reportText r = take (r .answer .length) (r .report)
+
+-- ---- demand 1
+-- the state refuses nothing
+pub record Lent (a : Call) : Type 0 where
+  pub active : a .session .active ≡ true
+  pub report : reportSize ≤ length (a .report)
+  pub work : workSize ≤ length (a .work)
+
+-- `turnedAway k` has the number, the session and both buffers as they were, and length 0
+abbrev pub Refuses : ℕ → Call → Type 0
+Refuses k a = called a ≡ turnedAway k (a .session) (a .report) (a .work)
+
+pub record Refusals (a : Call) : Type 0 where
+  pub closed : a .session .active ≡ false → Refuses 11 a
+  pub shortReport : a .session .active ≡ true → length (a .report) < reportSize → Refuses 12 a
+  pub shortWork : a .session .active ≡ true → reportSize ≤ length (a .report) → length (a .work) < workSize → Refuses 13 a
+  -- 1 to 5, by the text
+  pub unread : (k : ℕ) → Lent a → readText (a .text) ≡ refusal k → Refuses k a
+  -- 6 and 7, of a checked run only
+  pub untyped : (t : Table) (k : ℕ) → Lent a → a .mode ≡ checked → readText (a .text) ≡ read t → check t ≡ refused k → Refuses k a
+  -- every other call is accepted, and ends with a report
+  pub accepts : (t : Table) (u : Ty) → Lent a → readText (a .text) ≡ read t → check t ≡ accepted u → called a ≡ ended (run t (a .session .fuel)) (a .report) (a .work)
+  pub tries : (t : Table) → Lent a → a .mode ≡ trial → readText (a .text) ≡ read t → called a ≡ ended (run t (a .session .fuel)) (a .report) (a .work)
+
+-- ---- demand 3
+-- an accepted program
+pub record Program (s : List ℕ) : Type 0 where
+  pub table : Table
+  pub type : Ty
+  pub reads : readText s ≡ read table
+  pub accepts : check table ≡ accepted type
+
+-- what the rules give for its input and session
+abbrev pub ending : (a : Call) → Program (a .text) → Outcome Graph
+ending a p = run (p .table) (a .session .fuel)
+
+pub record Kept (a : Call) (p : Program (a .text)) : Type 0 where
+  pub written : reportText (called a) ≡ reportOf (ending a p)
+  pub session : called a .answer .session ≡ openSession (fuelOf (ending a p))
+  -- the report fits, so that the buffers keep their lengths
+  pub fits : length (reportOf (ending a p)) ≤ reportSize
+  pub reportLength : length (called a .report) ≡ length (a .report)
+  pub workLength : length (called a .work) ≡ length (a .work)
+  -- never stuck; classes fit; undetermined only at tag 03; no mark: on the tree, and on the objects listed
+  pub ends : Ends (p .table) (p .type) (ending a p)
+  pub listed : EndsListed (p .table) (p .type) (ending a p)
+
+-- for any two accepted programs, run any way, neither refused
+pub record Demand3 (a b : Call) (p : Program (a .text)) (q : Program (b .text)) : Type 0 where
+  pub reports : (reportText (called a) ≡ reportText (called b)) ↔ SameEnd (ending a p) (ending b q)
+  pub first : Kept a p
+  pub second : Kept b q
