@@ -3,7 +3,7 @@ use mathlib.Core.Path.{_≡_, refl, subst⁻¹}
 use mathlib.Core.Logic.{_⊎_, inl, inr}
 use mathlib.Core.List.{List, [], _∷_, List·Memᴰ, List·Memᴰ·cases-cons, List·Memᴰ·not-nil}
 use Rattle.cofj.specs.Bytes.{bytes}
-use Rattle.cofj.specs.Rows.{Row, Holds, shown, rows, row-a, row-b, row-c, row-d, row-e, row-e-z, row-f, row-f-trial, row-g, row-i, row-j-16, row-j-17, row-hm-32, row-hm-33}
+use Rattle.cofj.specs.Rows.{Row, Holds, shown, rows, row-a, row-b, row-c, row-d, row-e, row-e-z, row-f, row-f-trial, row-g, row-i, row-j-16, row-j-17, row-h-32, row-h-33}
 
 abbrev pub AllHold : List Row → Type 0
 AllHold [] = Unit {0}
@@ -65,14 +65,14 @@ holds-j-17 : Holds row-j-17
 unfolding shown bytes
 holds-j-17 = refl
 
-holds-hm-32 : Holds row-hm-32
+holds-h-32 : Holds row-h-32
 unfolding shown bytes
-holds-hm-32 = refl
+holds-h-32 = refl
 
-holds-hm-33 : Holds row-hm-33
+holds-h-33 : Holds row-h-33
 unfolding shown bytes
-holds-hm-33 = refl
+holds-h-33 = refl
 
 -- the theorem of the table
 pub all-rows : (r : Row) → List·Memᴰ r rows → Holds r
-all-rows = each rows (holds-a, (holds-b, (holds-c, (holds-d, (holds-e, (holds-e-z, (holds-f, (holds-f-trial, (holds-g, (holds-i, (holds-j-16, (holds-j-17, (holds-hm-32, (holds-hm-33, tt))))))))))))))
+all-rows = each rows (holds-a, (holds-b, (holds-c, (holds-d, (holds-e, (holds-e-z, (holds-f, (holds-f-trial, (holds-g, (holds-i, (holds-j-16, (holds-j-17, (holds-h-32, (holds-h-33, tt))))))))))))))

@@ -17,5 +17,7 @@ pub mod TextRound
 pub mod ReportLines
 pub mod Reports
 pub mod Readable
+pub mod FrameRound
+pub mod RoundTrip
 pub mod Promises
 pub mod Cases

@@ -114,7 +114,7 @@ type-tag bs g e =
     subst (λ (k : Got Ty). k .item .tag ≤ 3) (let w : record { item = ty (a .0 .item) (b .0 .item); rest = b .0 .rest } ≡ g = cc in w) (subst (λ (k : ℕ). k ≤ 3) x l)
 
 -- what comes after a step that succeeded
-taken : {A B : Type 0} {C : Type 0} (o : Option A) {f : A → Option B} (b : B) → o >>= f ≡ some b → ((a : A) → o ≡ some a → f a ≡ some b → C) → C
+pub taken : {A B : Type 0} {C : Type 0} (o : Option A) {f : A → Option B} (b : B) → o >>= f ≡ some b → ((a : A) → o ≡ some a → f a ≡ some b → C) → C
 taken none b e k = absurd (Option·none-ne-some b e)
 taken (some a) b e k = k a refl e
 
@@ -228,7 +228,7 @@ formed n t q (m ∷ ms) e o h =
     )
 
 -- ---- the reader
-else-inv : {A : Type 0} (o : Option A) (n : ℕ) (f : A → Answer) (t : Table) → o else n next f ≡ read t → (a : A) × (o ≡ some a) × (f a ≡ read t)
+pub else-inv : {A : Type 0} (o : Option A) (n : ℕ) (f : A → Answer) (t : Table) → o else n next f ≡ read t → (a : A) × (o ≡ some a) × (f a ≡ read t)
 else-inv none n f t e = let y : refusal n ≡ read t = e in absurd (let k : _≡_ {A = ℕ} 0 1 = cc in omega arith)
 else-inv (some a) n f t e = (a, refl, e)
 

@@ -1,9 +1,9 @@
 -- The line form both ways: a text read into lines is what is written of them, and lines that are written are read back.
 -- Not here: what the lines mean (FrameRound), tables (RoundTrip).
-use Prim.Native.Nat.{ℕ, zero, suc, _+_, _*_, _-_, _/_, _%_, _≤_, _<_}
+use Prim.Native.Nat.{ℕ, _+_, _*_, _-_, _/_, _%_, _≤_, _<_}
 use native.Mathlib.Omega.{arith}
-use mathlib.Core.Path.{_≡_, refl, sym, ap, ap₂, _∙_, subst}
-use mathlib.Core.Bool.{Bool, true, false, _&&_, cond, true≢false, false≢true}
+use mathlib.Core.Path.{_≡_, refl, sym, ap, ap₂, _∙_}
+use mathlib.Core.Bool.{Bool, true, false, _&&_, cond}
 use mathlib.Core.List.{List, [], _∷_, _++_, reverse, reverseAux, reverse-reverse}
 use mathlib.Core.Option.{Option, none, some, Option·none-ne-some}
 use lib.Dec.{eqb, leb}
@@ -11,7 +11,7 @@ use lib.ListN.{length, length-reverse}
 use borrow.Author.Tests.{eqb-true, ne-eqb, leb-true, leb-false, le-leb, lt-leb}
 use Rattle.cofj.specs.Limits.{lineSize}
 use Rattle.cofj.specs.Partial.{_>>=_, guard}
-use Rattle.cofj.specs.Text.{within, digit, char, endLine, atEnd, linesFrom, hexLine, hexText}
+use Rattle.cofj.specs.Text.{within, digit, char, endLine, linesFrom, hexLine, hexText}
 use Rattle.cofj.proofs.Climb.{and-true}
 use Rattle.cofj.proofs.Sound.{opt-bind, guard-bind}
 
@@ -101,14 +101,16 @@ lines-back [] none (b ∷ bs) ls e = absurd (Option·none-ne-some ls e)
 lines-back [] (some h) bs ls e = absurd (Option·none-ne-some ls e)
 lines-back (c ∷ cs) none bs ls e = go (eqb c 10) refl e (λ ms. lines-back cs none [] ms) (λ d. lines-back cs (some d) bs ls)
   where
-    go : (x : Bool) → eqb c 10 ≡ x → _≡_ {A = Option (List (List ℕ))} (elim x [ true ↦ endLine none bs (linesFrom cs none []) | false ↦ digit c >>= λ d. linesFrom cs (some d) bs ]) (some ls)
+    go : (x : Bool) → eqb c 10 ≡ x
+        → _≡_ {A = Option (List (List ℕ))} (elim x [ true ↦ endLine none bs (linesFrom cs none []) | false ↦ digit c >>= λ d. linesFrom cs (some d) bs ]) (some ls)
         → ((ms : List (List ℕ)) → linesFrom cs none [] ≡ some ms → hexText ms ≡ cs)
         → ((d : ℕ) → linesFrom cs (some d) bs ≡ some ls → hexText ls ≡ back bs (char d ∷ cs)) → hexText ls ≡ back bs (c ∷ cs)
     go true q z ended onward =
         let a = guard-bind (within 1 lineSize (length bs)) (λ _. linesFrom cs none [] >>= λ ms. some (reverse bs ∷ ms)) ls z in
         let b = opt-bind (linesFrom cs none []) (λ ms. some (reverse bs ∷ ms)) ls (a .1) in
         let w : ls ≡ reverse bs ∷ b .0 = cc (b .2) in
-        ap hexText w ∙ ap (λ (x : List ℕ). hexLine (reverse bs) ++ x) (ended (b .0) (b .1)) ∙ line-back bs [] cs ∙ ap (λ (x : ℕ). back bs (x ∷ cs)) (sym (eqb-true c 10 q))
+        ap hexText w ∙ ap (λ (x : List ℕ). hexLine (reverse bs) ++ x) (ended (b .0) (b .1)) ∙ line-back bs [] cs
+        ∙ ap (λ (x : ℕ). back bs (x ∷ cs)) (sym (eqb-true c 10 q))
     go false q z ended onward =
         let a = opt-bind (digit c) (λ d. linesFrom cs (some d) bs) ls z in
         onward (a .0) (a .2) ∙ ap (λ (x : ℕ). back bs (x ∷ cs)) (digit-char c (a .0) (a .1) .0)
@@ -129,7 +131,7 @@ lines-back (c ∷ cs) (some h) bs ls e = go (eqb c 10) e (λ d. lines-back cs no
 pub hex-lines : (s : List ℕ) (ls : List (List ℕ)) → linesFrom s none [] ≡ some ls → hexText ls ≡ s
 hex-lines s ls e = lines-back s none [] ls e
 
--- ---- from lines to their text, and back to the lines: two texts of lines are equal only for the same lines
+-- ---- from lines to their text, and back to the lines: different lines have different texts, whatever their numbers
 line-inj : (l m x y : List ℕ) → hexLine l ++ x ≡ hexLine m ++ y → (l ≡ m) × (x ≡ y)
 line-inj [] [] x y e = (refl, let w : x ≡ y = cc in w)
 line-inj [] (b ∷ m) x y e = let w : 10 ≡ char (b / 16) = cc in absurd (omega (arith, char-low (b / 16), w))
@@ -146,7 +148,7 @@ not-empty : (l x : List ℕ) → [] ≡ hexLine l ++ x → ⊥
 not-empty [] x e = let z : _≡_ {A = ℕ} 0 1 = cc in omega arith
 not-empty (b ∷ l) x e = let z : _≡_ {A = ℕ} 0 1 = cc in omega arith
 
-text-inj : (ls ms : List (List ℕ)) → hexText ls ≡ hexText ms → ls ≡ ms
+pub text-inj : (ls ms : List (List ℕ)) → hexText ls ≡ hexText ms → ls ≡ ms
 text-inj [] [] e = refl
 text-inj [] (m ∷ ms) e = absurd (not-empty m (hexText ms) e)
 text-inj (l ∷ ls) [] e = absurd (not-empty l (hexText ls) (sym e))
@@ -154,6 +156,7 @@ text-inj (l ∷ ls) (m ∷ ms) e =
     let p = line-inj l m (hexText ls) (hexText ms) e in
     ap₂ {C = List (List ℕ)} _∷_ (p .0) (text-inj ls ms (p .1))
 
+-- a number of 256 or more is written by characters that are no digits, so such lines are not read
 pub lines-hex : (ls ms : List (List ℕ)) → linesFrom (hexText ls) none [] ≡ some ms → ms ≡ ls
 lines-hex ls ms e = text-inj ms ls (hex-lines (hexText ls) ms e)
 
