@@ -2,6 +2,7 @@
 use mathlib.Core.Path.{_≡_, refl, subst⁻¹}
 use mathlib.Core.Logic.{_⊎_, inl, inr}
 use mathlib.Core.List.{List, [], _∷_, List·Memᴰ, List·Memᴰ·cases-cons, List·Memᴰ·not-nil}
+use Rattle.cofj.specs.Values.{Graph, graph, node, obj, make, close, markOf}
 use Rattle.cofj.specs.Bytes.{bytes}
 use Rattle.cofj.specs.Rows.{Row, Holds, shown, rows, row-a, row-b, row-c, row-d, row-e, row-e-z, row-f, row-f-trial, row-g, row-i, row-j-16, row-j-17, row-h-32, row-h-33}
 
@@ -76,3 +77,21 @@ holds-h-33 = refl
 -- the theorem of the table
 pub all-rows : (r : Row) → List·Memᴰ r rows → Holds r
 all-rows = each rows (holds-a, (holds-b, (holds-c, (holds-d, (holds-e, (holds-e-z, (holds-f, (holds-f-trial, (holds-g, (holds-i, (holds-j-16, (holds-j-17, (holds-h-32, (holds-h-33, tt))))))))))))))
+
+-- ---- case E as an equation of two values: X = new C(Y = new C(X)) and Z = new C(Z)
+pub ring-of-two : Graph
+unfolding make close
+ring-of-two = close 0 (make 1 (close 1 (make 1 (markOf 0 ∷ [])) ∷ []))
+
+pub ring-of-one : Graph
+unfolding make close
+ring-of-one = close 0 (make 1 (markOf 0 ∷ []))
+
+pub rings-equal : ring-of-two ≡ ring-of-one
+unfolding ring-of-two ring-of-one
+rings-equal = refl
+
+-- and they are one object
+pub ring-object : ring-of-one ≡ graph (obj 0) (node 1 (obj 0 ∷ []) ∷ [])
+unfolding ring-of-one
+ring-object = refl
