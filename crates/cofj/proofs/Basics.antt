@@ -49,10 +49,6 @@ pub true-both : (b x : Bool) → b ≡ true → x ≡ true → (elim b as (λ _.
 true-both true x p q = q
 true-both false x p q = p
 
-pub true-and : (a b : Bool) → a ≡ true → b ≡ true → a && b ≡ true
-true-and true b p q = q
-true-and false b p q = p
-
 pub eqRefs-true : (rs ss : List Ref) → eqRefs rs ss ≡ true → rs ≡ ss
 unfolding eqRefs
 eqRefs-true [] [] h = refl

@@ -15,12 +15,9 @@ use Rattle.cofj.specs.Classes.{classFits, chainHas, parentOf, classAt, o
 use Rattle.cofj.specs.Tables.{sameTypes}
 use Rattle.cofj.specs.WellFormed.{Tags, AllMethods, MethodFormed, WellFormed}
 use Rattle.cofj.proofs.Chain.{ParentsSmaller, parent-le, chain-fuel, fits-self, fits-parent}
+use Rattle.cofj.proofs.Partial.{and-true}
 
 -- ---- tests in a row
-pub and-true : (a b : Bool) → a && b ≡ true → (a ≡ true) × (b ≡ true)
-and-true true b h = (refl, h)
-and-true false b h = absurd (false≢true h)
-
 pub eqTy-true : (a b : Ty) → eqTy a b ≡ true → a ≡ b
 eqTy-true a b h =
     let p = and-true (eqb (a .cls) (b .cls)) (eqb (a .tag) (b .tag)) h in

@@ -13,8 +13,7 @@ use Rattle.cofj.specs.Partial.{_>>=_}
 use Rattle.cofj.specs.Syntax.{Expr, this, res, param, field, call, new, Exprs, done, also, count, Ty}
 use Rattle.cofj.specs.Frames.{Got, Reader, got, byte, upTo, type, types, exprsBy, fieldAfter, callAfter, newAfter, exprAfter, expr, TextFrame, classFrame, methodFrame, mainFrame, whole, classAfter, methodAfter, mainAfter, frame}
 use Rattle.cofj.specs.Writing.{codeOf, codesOf, typesBytes, classLine, methodLine}
-use Rattle.cofj.proofs.Sound.{guard-bind}
-use Rattle.cofj.proofs.Readable.{taken}
+use Rattle.cofj.proofs.Partial.{guard-bind, taken}
 
 -- an item and the bytes after it
 abbrev pub pair : {A : Type 0} → A → List ℕ → Got A

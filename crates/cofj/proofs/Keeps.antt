@@ -17,10 +17,11 @@ use Rattle.cofj.specs.Values.{Ref, obj, mark, undet, Node, node, Graph, 
 use Rattle.cofj.specs.Unfolding.{Label, object, opened, unknown, labelAt, child, follow, Whole, InRange}
 use Rattle.cofj.specs.WellFormed.{WellFormed, Tags}
 use Rattle.cofj.proofs.Chain.{fits-self}
-use Rattle.cofj.proofs.Climb.{and-true, fits-trans, fits-fields, field-tag}
+use Rattle.cofj.proofs.Climb.{fits-trans, fits-fields, field-tag}
 use Rattle.cofj.proofs.Canon.{canon-same, canon-whole}
 use Rattle.cofj.proofs.Operations.{AllWhole, make-top, make-field, make-whole, select-tree, followBound, close-tree, at-ref, bound-whole, boundNode}
 use Rattle.cofj.proofs.Typed.{Tree, tree, bound, under, Ok, OkAt, Typed, AllTyped, Has, Hold, bound-old, bound-new, typed-fits, typed-more, typed-closed}
+use Rattle.cofj.proofs.Partial.{and-true}
 
 -- ---- leaves
 leaf-whole : (r : Ref) → InRange 0 r → Whole (graph r [])

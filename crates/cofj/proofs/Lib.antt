@@ -1,3 +1,4 @@
+pub mod Partial
 pub mod Basics
 pub mod Trees
 pub mod Colours
@@ -19,5 +20,9 @@ pub mod Reports
 pub mod Readable
 pub mod FrameRound
 pub mod RoundTrip
+pub mod TypingRules
+pub mod CheckRules
+pub mod SideConditions
+pub mod RunningRules
 pub mod Promises
 pub mod Cases

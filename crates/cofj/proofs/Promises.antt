@@ -21,13 +21,20 @@ use Rattle.cofj.specs.Report.{reportOf, fuelOf}
 use Rattle.cofj.specs.WellFormed.{WellFormed}
 use Rattle.cofj.specs.Soundness.{Ends, EndsListed, Sound, SoundListed}
 use Rattle.cofj.specs.Formed.{Out}
-use Rattle.cofj.specs.ReportForm.{Reportable}
+use Rattle.cofj.specs.ReportForm.{reported, Reportable}
+use Rattle.cofj.specs.RunningRules.{RunsTo}
 use Rattle.cofj.specs.Calls.{Mode, checked, trial, Admitted, declined, admitted, afterCheck, admitTable, admit, stateRefusal, over, zeros, cleared, Ran, turnedAway, ended, runAdmitted, runUnless, runCall}
-use Rattle.cofj.specs.Promises.{Call, called, reportText, Lent, Refuses, Refusals, Program, ending, Kept, Demand3}
+use Rattle.cofj.specs.Promises.{Call, called, reportText, Lent, Refuses, Refusals, Program, ending, Kept, Demand2, Demand3, Canonical, Reports}
 use Rattle.cofj.proofs.Readable.{read-formed}
 use Rattle.cofj.proofs.Sound.{sound}
 use Rattle.cofj.proofs.Reached.{sound-listed}
-use Rattle.cofj.proofs.Reports.{run-reportable, report-length, reports-same, same-reports}
+use Rattle.cofj.proofs.Reports.{run-reportable, report-length, reports-same, same-reports, report-round, report-back, report-injective}
+use Rattle.cofj.proofs.CheckRules.{check-sound, check-complete}
+use Rattle.cofj.proofs.RunningRules.{run-sound, run-complete, run-total}
+use Rattle.cofj.proofs.RoundTrip.{read-writes, written-reads, refused-exactly}
+use Rattle.cofj.proofs.Canon.{canon-same}
+use Rattle.cofj.proofs.Unique.{same-canon, canon-tree}
+use Rattle.cofj.proofs.Runs.{good-run}
 
 -- ---- demand 1
 module _ (a : Call) where
@@ -77,6 +84,18 @@ refusals a =
       untyped = λ t k l m e c. by-text a (declined k) l (admit-read (a .mode) (a .text) t e ∙ ap (λ (x : Mode). admitTable x t) m ∙ ap (afterCheck t) c);
       accepts = λ t u l e c. by-text a (admitted t) l (admit-read (a .mode) (a .text) t e ∙ admit-accepted (a .mode) t u c);
       tries = λ t l m e. by-text a (admitted t) l (admit-read (a .mode) (a .text) t e ∙ ap (λ (x : Mode). admitTable x t) m);
+    }
+
+-- ---- demand 2
+pub demand2 : Demand2
+demand2 =
+    record {
+      checks = λ s t u r. let h = read-formed s t r .parents in (check-sound t h u, check-complete t h u);
+      runs = λ l t n o. (λ e. subst (RunsTo l t n) e (run-sound l t n), λ h. run-complete l t n h);
+      total = run-total;
+      textRound = read-writes;
+      tableRound = written-reads;
+      refusedExactly = refused-exactly;
     }
 
 -- ---- demand 3
@@ -145,4 +164,22 @@ demand3 a b p q e f =
       );
       first = x .0;
       second = y .0;
+    }
+
+-- ---- values and reports
+pub canonical : Canonical
+canonical =
+    record {
+      same = canon-same;
+      unique = λ g h wg wh. (same-canon g h wg wh, canon-tree g h wg wh);
+      values = λ l s t n r. good-run l t n (read-formed s t r);
+    }
+
+-- for every limit whose numbers stay below FF
+pub reports : (objects : ℕ) → objects ≤ 255 → Reports objects
+reports objects small =
+    record {
+      exact = λ s v. (report-back objects s v, λ h. subst (λ (x : List ℕ). reported objects x ≡ some v) (h .1) (report-round objects small v (h .0)));
+      injective = report-injective objects small;
+      values = λ l s t n e r. subst (λ (k : ℕ). Out (Reportable k) (runWithin l t n)) e (run-reportable l t n (read-formed s t r));
     }

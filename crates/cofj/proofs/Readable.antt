@@ -19,8 +19,7 @@ use Rattle.cofj.specs.Frames.{Got, byte, upTo, type, types, expr, ClassF
 use Rattle.cofj.specs.Tables.{Raw, raw, inFront, ordered, few, numbered, known, allKnown, exprKnown, classesGood, hasName, methodsGood, bodies, table, sameTypes, overridesGood, overridden}
 use Rattle.cofj.specs.Reading.{Answer, refusal, read, _else_next_, readText}
 use Rattle.cofj.specs.WellFormed.{Tags, AllMethods, MethodFormed, WellFormed}
-use Rattle.cofj.proofs.Climb.{and-true}
-use Rattle.cofj.proofs.Sound.{opt-bind, guard-bind}
+use Rattle.cofj.proofs.Partial.{and-true, opt-bind, guard-bind, taken}
 
 -- ---- tags
 closed-le : (g : ℕ) → closedTag g ≡ true → g ≤ 3
@@ -112,11 +111,6 @@ type-tag bs g e =
     let z : some (record { item = ty (a .0 .item) (b .0 .item); rest = b .0 .rest }) ≡ some g = b .2 in
     let l = leb-true (c .0 .item) 3 (d .0) in
     subst (λ (k : Got Ty). k .item .tag ≤ 3) (let w : record { item = ty (a .0 .item) (b .0 .item); rest = b .0 .rest } ≡ g = cc in w) (subst (λ (k : ℕ). k ≤ 3) x l)
-
--- what comes after a step that succeeded
-pub taken : {A B : Type 0} {C : Type 0} (o : Option A) {f : A → Option B} (b : B) → o >>= f ≡ some b → ((a : A) → o ≡ some a → f a ≡ some b → C) → C
-taken none b e k = absurd (Option·none-ne-some b e)
-taken (some a) b e k = k a refl e
 
 tag-of : (f g : TextFrame) → some f ≡ some g → FrameTag f → FrameTag g
 tag-of f g e h = subst FrameTag (let w : f ≡ g = cc in w) h

@@ -16,10 +16,9 @@ use Rattle.cofj.specs.Unfolding.{InRange, Whole}
 use Rattle.cofj.specs.Formed.{AllIn, MarkBelow}
 use Rattle.cofj.specs.Report.{refByte, objectLine, objectLines, valueLines}
 use Rattle.cofj.specs.ReportForm.{refOf, refsOf, objectOf, objectsFrom, objectsGood, objectsValue, linesValue, noTwoEqual, inOrder, oneCount, Plain, Reportable}
-use Rattle.cofj.proofs.Basics.{true-and, eqNats-true}
-use Rattle.cofj.proofs.Climb.{and-true}
-use Rattle.cofj.proofs.Sound.{opt-bind, guard-bind}
+use Rattle.cofj.proofs.Basics.{eqNats-true}
 use Rattle.cofj.proofs.Numbering.{canonical-distinct, canonical-order, canonical-root, canonical-empty, numbered-canonical}
+use Rattle.cofj.proofs.Partial.{and-true, true-and, opt-bind, guard-bind}
 
 -- every reference of a node is in range
 abbrev pub RefsIn : ℕ → List Ref → Type 0

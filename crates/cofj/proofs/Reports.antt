@@ -22,12 +22,11 @@ use Rattle.cofj.specs.Formed.{AllIn, MarkBelow, Formed, Good, Out}
 use Rattle.cofj.specs.Running.{Outcome, value, stopped, Stop, stuck, noFuel, tooDeep, tooLarge, runWithin}
 use Rattle.cofj.specs.Report.{refByte, objectLine, objectLines, valueLines, stopByte, outcomeLines, reportOf, valueReport, SameEnd}
 use Rattle.cofj.specs.ReportForm.{agrees, allAgree, oneCount, linesValue, reported, Plain, Reportable}
-use Rattle.cofj.proofs.Basics.{true-and}
-use Rattle.cofj.proofs.Sound.{opt-bind}
 use Rattle.cofj.proofs.Unique.{same-canon}
 use Rattle.cofj.proofs.Runs.{all-weaken, good-run}
 use Rattle.cofj.proofs.TextRound.{Bytes, Lines, hex-lines, lines-hex, lines-written}
 use Rattle.cofj.proofs.ReportLines.{RefsIn, nodes-in, lines-round, lines-back, length-lines}
+use Rattle.cofj.proofs.Partial.{true-and, opt-bind}
 
 -- ---- the values of runs can be reported
 module _ (t : Table) (wf : WellFormed t) where

@@ -17,11 +17,10 @@ use Rattle.cofj.specs.Frames.{ClassFrame, TextFrame, classFrame, methodF
 use Rattle.cofj.specs.Tables.{Raw, raw, inFront, ordered, few, numbered, bodies, table, overridesGood, overridden}
 use Rattle.cofj.specs.Reading.{Answer, refusal, read, readText}
 use Rattle.cofj.specs.Writing.{codeOf, classLine, classLines, methodLines, methodLine, tableLines, textOf, Text, noText, text, writeTable}
-use Rattle.cofj.proofs.Climb.{and-true}
-use Rattle.cofj.proofs.Sound.{opt-bind, guard-bind}
-use Rattle.cofj.proofs.Readable.{taken, else-inv}
+use Rattle.cofj.proofs.Readable.{else-inv}
 use Rattle.cofj.proofs.TextRound.{within-true, hex-lines, lines-hex}
 use Rattle.cofj.proofs.FrameRound.{given, same, taken-as, lineOf, frame-back, frame-forth}
+use Rattle.cofj.proofs.Partial.{and-true, opt-bind, guard-bind, taken}
 
 -- ---- lines and frames
 frames-back : (ls : List (List ℕ)) (fs : List TextFrame) → frames ls ≡ some fs → map lineOf fs ≡ ls

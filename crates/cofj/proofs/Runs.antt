@@ -21,7 +21,7 @@ use Rattle.cofj.specs.WellFormed.{AllMethods, MethodFormed, WellFormed}
 use Rattle.cofj.proofs.Canon.{canon-whole, canon-length}
 use Rattle.cofj.proofs.Unique.{canon-canon}
 use Rattle.cofj.proofs.Operations.{AllWhole, make-whole, laid, laid-whole, length-roots, at-ref, bound-whole, boundNode}
-use Rattle.cofj.proofs.Climb.{and-true}
+use Rattle.cofj.proofs.Partial.{and-true}
 
 -- ---- every item of a list
 module _ {A B : Type 0} where

@@ -20,23 +20,12 @@ use Rattle.cofj.specs.WellFormed.{Tags, AllMethods, MethodFormed, WellFo
 use Rattle.cofj.specs.Soundness.{Stands, StandsAt, NotOpen, Sits, NotStuck, Ends, Sound}
 use Rattle.cofj.proofs.Basics.{both-true, eqRef-true, eqNode-true}
 use Rattle.cofj.proofs.Chain.{fits-self}
-use Rattle.cofj.proofs.Climb.{and-true, fits-trans, fits-fields, field-tag, fields-tags, SameSig, lookup-fits, lookup-found}
+use Rattle.cofj.proofs.Climb.{fits-trans, fits-fields, field-tag, fields-tags, SameSig, lookup-fits, lookup-found}
 use Rattle.cofj.proofs.Typed.{Tree, tree, bound, under, Ok, OkAt, Typed, AllTyped, Has, Hold, bound-new, bound-more}
 use Rattle.cofj.proofs.Keeps.{has-mark, has-fits, has-more, hold-more, has-closed, hold-fits, hold-length, fit-length, hold-get, has-object, has-own, has-new, has-new-open, has-select, raise, has-close}
+use Rattle.cofj.proofs.Partial.{and-true, true-and, opt-bind, guard-bind, guard-true}
 
 -- ---- what the checker's `some` says
-pub opt-bind : {A B : Type 0} (o : Option A) (f : A → Option B) (b : B) → o >>= f ≡ some b → (a : A) × (o ≡ some a) × (f a ≡ some b)
-opt-bind none f b e = absurd (Option·none-ne-some b e)
-opt-bind (some a) f b e = (a, refl, e)
-
-pub guard-bind : {B : Type 0} (g : Bool) (f : Unit {0} → Option B) (b : B) → guard g >>= f ≡ some b → (g ≡ true) × (f tt ≡ some b)
-guard-bind true f b e = (refl, e)
-guard-bind false f b e = absurd (Option·none-ne-some b e)
-
-guard-true : (g : Bool) (x : Unit {0}) → guard g ≡ some x → g ≡ true
-guard-true true x e = refl
-guard-true false x e = absurd (Option·none-ne-some x e)
-
 -- the variables of a method's left side, and of its right side when the left has class c
 abbrev pub leftEnv : Method → Env
 leftEnv d = record { self = some (ty (d .owner) 0); result = none; params = d .params }
@@ -58,7 +47,7 @@ pub record MethodOk (t : Table) (d : Method) : Type 0 where
   pub early : fits (t .classes) u (d .second) ≡ true
 
 module _ (t : Table) where
-  method-ok : (d : Method) (x : Unit {0}) → methodTyped t d ≡ some x → MethodOk t d
+  pub method-ok : (d : Method) (x : Unit {0}) → methodTyped t d ≡ some x → MethodOk t d
   unfolding methodTyped
   method-ok d x e =
       let a = opt-bind (typeOf t false (leftEnv d) (d .left)) _ x e in
@@ -201,10 +190,6 @@ raise-closed (suc (suc zero)) l = (λ p. omega arith, omega arith)
 raise-closed (suc (suc (suc zero))) l = (λ p. omega arith, omega arith)
 raise-closed (suc (suc (suc (suc g)))) l = absurd (omega arith)
 
-both : (a b : Bool) → a ≡ true → b ≡ true → a && b ≡ true
-both true b p q = q
-both false b p q = p
-
 module _ (t : Table) (wf : WellFormed t) (ok : AllMethods (MethodOk t) (t .methods)) where
   -- X = u has the second type, and in main the first
   close-second : (σ : List ℕ) (d : Method) → MethodFormed t d → (m : MethodOk t d) (v : Graph) → Has t (m .u .cls ∷ σ) (m .u) v → Has t σ (d .second) (close (length σ) v)
@@ -215,7 +200,7 @@ module _ (t : Table) (wf : WellFormed t) (ok : AllMethods (MethodOk t) (t .metho
       let l = raise-le-second (m .u .tag) (d .first .tag) (d .second .tag) (h .tag)
       (leb-true (closeTag (m .u .tag)) (d .first .tag) (a .1)) (leb-true (d .first .tag) (d .second .tag) (b .1)) (leb-true (m .u .tag) (d .second .tag) (c .1)) in
       has-fits t wf σ (ty (m .u .cls) (raise (m .u .tag))) (d .second) (close (length σ) v)
-      (both (classFits (t .classes) (m .u .cls) (d .second .cls)) _ (c .0) (le-leb (raise (m .u .tag)) (d .second .tag) l)) (mf .second) (has-close t wf σ (m .u) v h)
+      (true-and (classFits (t .classes) (m .u .cls) (d .second .cls)) _ (c .0) (le-leb (raise (m .u .tag)) (d .second .tag) l)) (mf .second) (has-close t wf σ (m .u) v h)
 
   close-first : (d : Method) → MethodFormed t d → (m : MethodOk t d) (v : Graph) → Has t (m .u .cls ∷ []) (m .u) v → Has t [] (d .first) (close 0 v)
   close-first d mf m v h =
@@ -297,7 +282,7 @@ class-of v c k e = go (v .root) e
     go (mark x) z = let y : some (marked x) ≡ some (object c k) = z in cc
     go undet z = let y : some unknown ≡ some (object c k) = z in cc
 
-target-is : (t : Table) (v : Graph) (m n c : ℕ) (d : Method) → classOf v ≡ some c → lookup t c m ≡ some d → length (d .params) ≡ n → target t v m n ≡ some d
+pub target-is : (t : Table) (v : Graph) (m n c : ℕ) (d : Method) → classOf v ≡ some c → lookup t c m ≡ some d → length (d .params) ≡ n → target t v m n ≡ some d
 unfolding target
 target-is t v m n c d p q r = ap by-class p ∙ ap by-method q ∙ ap by-count (eq-eqb (length (d .params)) n r)
   where
@@ -409,7 +394,7 @@ module _ (t : Table) (wf : WellFormed t) (ok : AllMethods (MethodOk t) (t .metho
         has = l .1;
         formed = f .0;
         okay = g .0;
-        self = has-fits t wf σ (ty (o .0) 0) (ty (l .0 .owner) 0) v (both (classFits (t .classes) (o .0) (l .0 .owner)) _ (f .1) refl) zero-le (has-own t wf σ (ty (u .cls) 0) v (o .0) (o .1) (o .2) h0);
+        self = has-fits t wf σ (ty (o .0) 0) (ty (l .0 .owner) 0) v (true-and (classFits (t .classes) (o .0) (l .0 .owner)) _ (f .1) refl) zero-le (has-own t wf σ (ty (u .cls) 0) v (o .0) (o .1) (o .2) h0);
         fit = subst (λ (ps : List Ty). allFit t us ps ≡ true) (sym (l .2 .params)) (k .fit);
         gives = same-result top (l .0) (k .d) (l .2) ∙ k .gives;
       }

@@ -12,8 +12,7 @@ use borrow.Author.Tests.{eqb-true, ne-eqb, leb-true, leb-false, le-leb, lt-leb}
 use Rattle.cofj.specs.Limits.{lineSize}
 use Rattle.cofj.specs.Partial.{_>>=_, guard}
 use Rattle.cofj.specs.Text.{within, digit, char, endLine, linesFrom, hexLine, hexText}
-use Rattle.cofj.proofs.Climb.{and-true}
-use Rattle.cofj.proofs.Sound.{opt-bind, guard-bind}
+use Rattle.cofj.proofs.Partial.{and-true, opt-bind, guard-bind}
 
 -- ---- a digit and its character
 pub within-true : (a b n : ℕ) → within a b n ≡ true → (a ≤ n) × (n ≤ b)

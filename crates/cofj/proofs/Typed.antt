@@ -16,7 +16,7 @@ use Rattle.cofj.specs.Values.{Ref, obj, mark, undet, Node, node, Graph, 
 use Rattle.cofj.specs.Unfolding.{Label, object, opened, unknown, labelAt, child, follow, Whole, InRange}
 use Rattle.cofj.specs.WellFormed.{WellFormed}
 use Rattle.cofj.proofs.Chain.{fits-self}
-use Rattle.cofj.proofs.Climb.{and-true, fits-trans, fits-fields, field-tag}
+use Rattle.cofj.proofs.Climb.{fits-trans, fits-fields, field-tag}
 use Rattle.cofj.proofs.Canon.{canon-same}
 use Rattle.cofj.proofs.Operations.{AllWhole, make-top, make-field, make-whole, select-tree, followBound, close-tree}
 

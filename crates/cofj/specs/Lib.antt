@@ -9,9 +9,11 @@ pub mod Reading
 pub mod Writing
 pub mod WellFormed
 pub mod Typing
+pub mod TypingRules
 pub mod Values
 pub mod Unfolding
 pub mod Running
+pub mod RunningRules
 pub mod Report
 pub mod Formed
 pub mod ReportForm

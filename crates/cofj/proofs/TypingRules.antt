@@ -1,0 +1,204 @@
+-- The checker computes the typing rules (specs/TypingRules): what it gives a type has that type by the rules (-sound), and what has a type
+-- by the rules it gives that type (-complete). In this order: tags, fit, expressions, methods. Not here: its answer for a program (CheckRules).
+-- Asked of the table is only that a parent's number is smaller, which holds of every table that is read (WellFormed, proofs/Readable).
+use Prim.Native.Nat.{ℕ, zero, suc}
+use mathlib.Core.Path.{_≡_, refl, sym, ap, _∙_, subst}
+use mathlib.Core.Bool.{Bool, true, false, _&&_, _||_, cond, false≢true}
+use mathlib.Core.Logic.{_⊎_, inl, inr}
+use mathlib.Core.List.{List, [], _∷_, map}
+use mathlib.Core.Option.{Option, some}
+use lib.Dec.{eqb, leb}
+use lib.ListN.{getElem?}
+use borrow.Author.Tests.{eqb-true, leb-true, le-leb}
+use Rattle.cofj.specs.Syntax.{Expr, this, res, param, field, call, new, Exprs, done, also, Ty, ty, Class, Method, Table}
+use Rattle.cofj.specs.Partial.{_>>=_, guard}
+use Rattle.cofj.specs.Classes.{classFits, fits, parentOf, fieldsOf, lookup}
+use Rattle.cofj.specs.Typing.{Env, closedTag, allClosed, allFit, narrow, fieldType, callType, newType, typeOf, typesOf, methodTyped}
+use Rattle.cofj.specs.TypingRules.{_⁺, _⁺?, _⁻?, _⁻, AllClosed, closing, SubClass, same, above, Fits, AllFit, fit-none, fit-each, HasType, T-VAR-this, T-VAR-res, T-VAR-param, T-FIELD, T-INVK, T-NEW1, T-NEW2, HaveTypes, T-NONE, T-EACH, leftVariables, rightVariables, MethodTyped, T-MDEC}
+use Rattle.cofj.proofs.Chain.{ParentsSmaller, fits-self}
+use Rattle.cofj.proofs.Climb.{climb, fits-up}
+use Rattle.cofj.proofs.Sound.{method-ok}
+use Rattle.cofj.proofs.Partial.{and-true, true-and, opt-bind, guard-bind}
+
+-- ---- tags
+-- the operators at the foot of figure 7
+pub closing-table : (c : ℕ) → (closing (c ⁺) ≡ c ⁺) × (closing (c ⁺?) ≡ c ⁺) × (closing (c ⁻?) ≡ c ⁻) × (closing (c ⁻) ≡ c ⁻)
+closing-table c = (refl, refl, refl, refl)
+
+pub narrow-table : (c : ℕ) → (narrow (c ⁺) ≡ c ⁺) × (narrow (c ⁺?) ≡ c ⁺) × (narrow (c ⁻?) ≡ c ⁺) × (narrow (c ⁻) ≡ c ⁻)
+narrow-table c = (refl, refl, refl, refl)
+
+closed-sound : (g : ℕ) → closedTag g ≡ true → (g ≡ 0) ⊎ (g ≡ 3)
+closed-sound g e = go (eqb g 0) refl e
+  where
+    go : (b : Bool) → eqb g 0 ≡ b → b || eqb g 3 ≡ true → (g ≡ 0) ⊎ (g ≡ 3)
+    go true p q = inl (eqb-true g 0 p)
+    go false p q = inr (eqb-true g 3 q)
+
+closed-complete : (g : ℕ) → (g ≡ 0) ⊎ (g ≡ 3) → closedTag g ≡ true
+closed-complete g (inl e) = ap closedTag e
+closed-complete g (inr e) = ap closedTag e
+
+pub allClosed-sound : (us : List Ty) → allClosed us ≡ true → AllClosed us
+allClosed-sound [] e = tt
+allClosed-sound (u ∷ us) e = let p = and-true (closedTag (u .tag)) (allClosed us) e in (closed-sound (u .tag) (p .0), allClosed-sound us (p .1))
+
+pub allClosed-complete : (us : List Ty) → AllClosed us → allClosed us ≡ true
+allClosed-complete [] h = refl
+allClosed-complete (u ∷ us) h = true-and (closedTag (u .tag)) (allClosed us) (closed-complete (u .tag) (h .0)) (allClosed-complete us (h .1))
+
+-- ---- fit
+module _ (t : Table) (h : ParentsSmaller (t .classes)) where
+  abbrev cs : List Class
+  cs = t .classes
+
+  pub class-sound : (c d : ℕ) → classFits cs c d ≡ true → SubClass cs c d
+  class-sound c d e = climb cs h d (λ x. SubClass cs x d) same (λ k s. above s) c e
+
+  class-above : (c d : ℕ) → classFits cs (parentOf cs c) d ≡ true → classFits cs c d ≡ true
+  class-above zero d e = e
+  class-above (suc k) d e = fits-up cs h k d e
+
+  pub class-complete : {c d : ℕ} → SubClass cs c d → classFits cs c d ≡ true
+  class-complete (same {c = c}) = fits-self cs c c refl
+  class-complete (above {c = c} {d = d} s) = class-above c d (class-complete s)
+
+  pub fits-sound : (u w : Ty) → fits cs u w ≡ true → Fits cs u w
+  fits-sound u w e =
+      let p = and-true (classFits cs (u .cls) (w .cls)) (leb (u .tag) (w .tag)) e in
+      record { class = class-sound (u .cls) (w .cls) (p .0); tag = leb-true (u .tag) (w .tag) (p .1) }
+
+  pub fits-complete : (u w : Ty) → Fits cs u w → fits cs u w ≡ true
+  fits-complete u w f = true-and (classFits cs (u .cls) (w .cls)) (leb (u .tag) (w .tag)) (class-complete (f .class)) (le-leb (u .tag) (w .tag) (f .tag))
+
+  pub allFit-sound : (us ws : List Ty) → allFit t us ws ≡ true → AllFit cs us ws
+  allFit-sound [] [] e = fit-none
+  allFit-sound [] (w ∷ ws) e = absurd (false≢true e)
+  allFit-sound (u ∷ us) [] e = absurd (false≢true e)
+  allFit-sound (u ∷ us) (w ∷ ws) e = let p = and-true (fits cs u w) (allFit t us ws) e in fit-each (fits-sound u w (p .0)) (allFit-sound us ws (p .1))
+
+  pub allFit-complete : {us ws : List Ty} → AllFit cs us ws → allFit t us ws ≡ true
+  allFit-complete fit-none = refl
+  allFit-complete (fit-each {u = u} {w = w} {us = us} {ws = ws} f fs) = true-and (fits cs u w) (allFit t us ws) (fits-complete u w f) (allFit-complete fs)
+
+  -- ---- expressions
+  plus : (w : Ty) → w .tag ≡ 0 → w ≡ w .cls ⁺
+  plus w e i = ty (w .cls) (e i)
+
+  module _ (top : Bool) (Γ : Env) where
+    field-sound : (f : ℕ) (e : Expr) (w u : Ty) → HasType t top Γ e w → fieldType t w f ≡ some u → HasType t top Γ (field f e) u
+    unfolding fieldType
+    field-sound f e w u d q =
+        let a = guard-bind (eqb (w .tag) 0) (λ _. getElem? (fieldsOf cs (w .cls)) f) u q in
+        T-FIELD (subst (HasType t top Γ e) (plus w (eqb-true (w .tag) 0 (a .0))) d) (a .1)
+
+    call-sound : (m : ℕ) (e : Expr) (es : Exprs) (w u : Ty) (us : List Ty) → HasType t top Γ e w → HaveTypes t top Γ es us → callType t top w m us ≡ some u
+        → HasType t top Γ (call m e es) u
+    unfolding callType
+    call-sound m e es w u us d ds q =
+        let a = guard-bind (eqb (w .tag) 0) _ u q in
+        let b = opt-bind (lookup t (w .cls) m) _ u (a .1) in
+        let c = guard-bind (allClosed us && allFit t us (b .0 .params)) _ u (b .2) in
+        let p = and-true (allClosed us) (allFit t us (b .0 .params)) (c .0) in
+        let y : some (cond top (b .0 .first) (b .0 .second)) ≡ some u = c .1 in
+        T-INVK (subst (HasType t top Γ e) (plus w (eqb-true (w .tag) 0 (a .0))) d) ds (b .1) (allClosed-sound us (p .0)) (allFit-sound us (b .0 .params) (p .1)) (let z : u ≡ cond top (b .0 .first) (b .0 .second) = cc in z)
+
+    -- what `newType` answers, when the test of its values gave b
+    abbrev newBy : ℕ → List Ty → Bool → Option Ty
+    newBy c us b = elim b [
+      | true ↦ guard (allFit t us (fieldsOf cs c)) >>= λ _. some (c ⁺)
+      | false ↦ guard (allFit t (map narrow us) (fieldsOf cs c)) >>= λ _. some (c ⁺?)
+    ]
+
+    new-sound : (c : ℕ) (es : Exprs) (u : Ty) (us : List Ty) → HaveTypes t top Γ es us → newType t c us ≡ some u → HasType t top Γ (new c es) u
+    unfolding newType
+    new-sound c es u us ds q = go (allClosed us) refl q
+      where
+        go : (b : Bool) → allClosed us ≡ b → newBy c us b ≡ some u → HasType t top Γ (new c es) u
+        go true p z =
+            let a = guard-bind (allFit t us (fieldsOf cs c)) (λ _. some (c ⁺)) u z in
+            let y : some (c ⁺) ≡ some u = a .1 in
+            subst (HasType t top Γ (new c es)) (let x : c ⁺ ≡ u = cc in x) (T-NEW1 ds (allClosed-sound us p) (allFit-sound us (fieldsOf cs c) (a .0)))
+        go false p z =
+            let a = guard-bind (allFit t (map narrow us) (fieldsOf cs c)) (λ _. some (c ⁺?)) u z in
+            let y : some (c ⁺?) ≡ some u = a .1 in
+            subst (HasType t top Γ (new c es)) (let x : c ⁺? ≡ u = cc in x)
+            (T-NEW2 ds (λ k. false≢true (sym p ∙ allClosed-complete us k)) (allFit-sound (map narrow us) (fieldsOf cs c) (a .0)))
+
+    mutual
+      unfolding typeOf
+
+      pub typeOf-sound : (e : Expr) (u : Ty) → typeOf t top Γ e ≡ some u → HasType t top Γ e u
+      typeOf-sound this u q = T-VAR-this q
+      typeOf-sound res u q = T-VAR-res q
+      typeOf-sound (param k) u q = T-VAR-param q
+      typeOf-sound (field f e) u q =
+          let a = opt-bind (typeOf t top Γ e) _ u q in
+          field-sound f e (a .0) u (typeOf-sound e (a .0) (a .1)) (a .2)
+      typeOf-sound (call m e es) u q =
+          let a = opt-bind (typeOf t top Γ e) _ u q in
+          let b = opt-bind (typesOf t top Γ es) _ u (a .2) in
+          call-sound m e es (a .0) u (b .0) (typeOf-sound e (a .0) (a .1)) (typesOf-sound es (b .0) (b .1)) (b .2)
+      typeOf-sound (new c es) u q =
+          let a = opt-bind (typesOf t top Γ es) _ u q in
+          new-sound c es u (a .0) (typesOf-sound es (a .0) (a .1)) (a .2)
+
+      pub typesOf-sound : (es : Exprs) (us : List Ty) → typesOf t top Γ es ≡ some us → HaveTypes t top Γ es us
+      typesOf-sound done us q = let y : some [] ≡ some us = q in subst (HaveTypes t top Γ done) (let x : [] ≡ us = cc in x) T-NONE
+      typesOf-sound (also e es) us q =
+          let a = opt-bind (typeOf t top Γ e) _ us q in
+          let b = opt-bind (typesOf t top Γ es) _ us (a .2) in
+          let y : some (a .0 ∷ b .0) ≡ some us = b .2 in
+          subst (HaveTypes t top Γ (also e es)) (let x : a .0 ∷ b .0 ≡ us = cc in x) (T-EACH (typeOf-sound e (a .0) (a .1)) (typesOf-sound es (b .0) (b .1)))
+
+    call-complete : (c m : ℕ) (us : List Ty) (d : Method) (u : Ty) → lookup t c m ≡ some d → AllClosed us → AllFit cs us (d .params) → u ≡ cond top (d .first) (d .second)
+        → callType t top (c ⁺) m us ≡ some u
+    unfolding callType
+    call-complete c m us d u q k f z = rw (q, allClosed-complete us k, allFit-complete f, z)
+
+    new1-complete : (c : ℕ) (us : List Ty) → AllClosed us → AllFit cs us (fieldsOf cs c) → newType t c us ≡ some (c ⁺)
+    unfolding newType
+    new1-complete c us k f = rw (allClosed-complete us k, newType, allFit-complete f)
+
+    new2-complete : (c : ℕ) (us : List Ty) → (AllClosed us → ⊥) → AllFit cs (map narrow us) (fieldsOf cs c) → newType t c us ≡ some (c ⁺?)
+    unfolding newType
+    new2-complete c us k f = go (allClosed us) refl
+      where
+        go : (b : Bool) → allClosed us ≡ b → newBy c us b ≡ some (c ⁺?)
+        go true p = absurd (k (allClosed-sound us p))
+        go false p = rw (allFit-complete f)
+
+    pub typeOf-complete : {e : Expr} {u : Ty} → HasType t top Γ e u → typeOf t top Γ e ≡ some u
+    unfolding typeOf fieldType
+    typeOf-complete p = elim p as (λ e u _. typeOf t top Γ e ≡ some u) (λ es us _. typesOf t top Γ es ≡ some us) [
+      | T-VAR-this q ↦ q
+      | T-VAR-res q ↦ q
+      | T-VAR-param q ↦ q
+      | T-FIELD (d → i) q ↦ rw i q
+      | T-INVK {m = m} {c = c} {us = us} {d = d} {u = u} (p → i) (ps → is) q k f z ↦ rw (i, is) (call-complete c m us d u q k f z)
+      | T-NEW1 {c = c} {us = us} (ps → is) k f ↦ rw is (new1-complete c us k f)
+      | T-NEW2 {c = c} {us = us} (ps → is) k f ↦ rw is (new2-complete c us k f)
+      | T-NONE ↦ refl
+      | T-EACH (p → i) (ps → is) ↦ rw (i, is)
+    ]
+
+    pub typesOf-complete : {es : Exprs} {us : List Ty} → HaveTypes t top Γ es us → typesOf t top Γ es ≡ some us
+    unfolding typeOf
+    typesOf-complete T-NONE = refl
+    typesOf-complete (T-EACH p ps) = rw (typeOf-complete p, typesOf-complete ps)
+
+    -- an expression has one type at most
+    pub type-unique : {e : Expr} {u w : Ty} → HasType t top Γ e u → HasType t top Γ e w → u ≡ w
+    type-unique {e} {u} {w} p q = let y : some u ≡ some w = sym (typeOf-complete p) ∙ typeOf-complete q in cc
+
+  -- ---- methods
+  pub method-sound : (d : Method) (x : Unit {0}) → methodTyped t d ≡ some x → MethodTyped t d
+  method-sound d x e =
+      let m = method-ok t d x e in
+      T-MDEC (typeOf-sound false (leftVariables d) (d .left) (m .u) (m .left)) (typeOf-sound false (rightVariables d (m .u)) (d .right) (m .v) (m .right))
+      (fits-sound (closing (m .u)) (d .first) (m .first)) (fits-sound (m .v) (d .second) (m .second)) (fits-sound (d .first) (d .second) (m .both)) (fits-sound (m .u) (d .second) (m .early))
+
+  pub method-complete : (d : Method) → MethodTyped t d → methodTyped t d ≡ some tt
+  unfolding methodTyped
+  method-complete d (T-MDEC {u = u} {v = v} l r a b c e) =
+      rw (typeOf-complete false (leftVariables d) l, typeOf-complete false (rightVariables d u) r, fits-complete (closing u) (d .first) a, fits-complete v (d .second) b, fits-complete (d .first) (d .second) c, fits-complete u (d .second) e)
