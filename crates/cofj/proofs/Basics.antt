@@ -1,16 +1,15 @@
 -- Laws of lists, of the tests, and of the places that they find.
-use Prim.Native.Nat.{ℕ, zero, suc, _+_, _*_, _≤_, _<_, zero-le, suc-le-suc}
+use Prim.Native.Nat.{ℕ, zero, suc, _≤_, _<_, zero-le, suc-le-suc}
 use native.Mathlib.Nat.{not-suc-le-zero, le-of-suc-le-suc}
-use native.Mathlib.Omega.{arith}
-use mathlib.Core.Path.{_≡_, refl, sym, ap, ap₂, _∙_, subst}
-use mathlib.Core.Bool.{Bool, true, false, _&&_, true≢false, false≢true}
-use mathlib.Core.List.{List, [], _∷_, _++_, map}
-use mathlib.Core.Option.{Option, none, some}
+use mathlib.Core.Path.{_≡_, refl, sym, ap, ap₂, _∙_}
+use mathlib.Core.Bool.{Bool, true, false, false≢true}
+use mathlib.Core.List.{List, [], _∷_, map}
+use mathlib.Core.Option.{some}
 use lib.Dec.{eqb}
-use lib.ListN.{length, getD, getElem?, length-map}
-use borrow.Author.Tests.{eqb-true, eqb-false, eq-eqb, ne-eqb}
+use lib.ListN.{length, getD, getElem?}
+use borrow.Author.Tests.{eqb-true, eq-eqb}
 use Rattle.cofj.specs.Partial.{_>>=_}
-use Rattle.cofj.specs.Values.{Ref, obj, mark, undet, Node, node, eqRef, eqRefs, eqNode, eqNats, placeOf, placeIn, isIn}
+use Rattle.cofj.specs.Values.{Ref, obj, mark, undet, Node, node, eqRef, eqRefs, eqNode, eqNats, placeOf}
 
 module _ {A B : Type 0} where
   pub getD-map-lt : (f : A → B) (l : List A) (i : ℕ) (e : B) (d : A) → i < length l → getD (map f l) i e ≡ f (getD l i d)

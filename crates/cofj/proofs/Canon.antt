@@ -1,20 +1,20 @@
 -- (a) A graph's value unfolds to the graph's tree, and is whole.
-use Prim.Native.Nat.{ℕ, zero, suc, _+_, _≤_, _<_, zero-le, suc-le-suc}
+use Prim.Native.Nat.{ℕ, zero, suc, _≤_, _<_, zero-le, suc-le-suc}
 use native.Mathlib.Nat.{not-suc-le-zero, le-of-suc-le-suc}
 use native.Mathlib.Omega.{arith}
 use mathlib.Core.Path.{_≡_, refl, sym, ap, ap₂, _∙_, subst}
-use mathlib.Core.Bool.{Bool, true, false, false≢true, true≢false}
-use mathlib.Core.List.{List, [], _∷_, _++_, map}
+use mathlib.Core.Bool.{Bool, true, false, false≢true}
+use mathlib.Core.List.{List, [], _∷_, map}
 use mathlib.Core.Option.{Option, none, some, Option·none-ne-some}
 use lib.Dec.{eqb, ltb}
 use lib.ListN.{length, getD, getElem?, length-map, List·getD-eq-default}
 use borrow.Author.Tests.{eqb-true, eq-eqb, ltb-true, ltb-false}
 use Rattle.cofj.specs.Partial.{_>>=_}
-use Rattle.cofj.specs.Values.{Ref, obj, mark, undet, Node, node, Graph, graph, rename, renameNode, nodeAt, refsAt, colourOf, colours, isIn, placeIn, visit, canonBy, canon}
-use Rattle.cofj.specs.Unfolding.{child, follow, Same, SameTree, InRange, Whole}
+use Rattle.cofj.specs.Values.{Ref, obj, mark, undet, Node, node, Graph, graph, rename, renameNode, nodeAt, refsAt, colours, isIn, placeIn, canon}
+use Rattle.cofj.specs.Unfolding.{child, follow, SameTree, InRange, Whole}
 use Rattle.cofj.proofs.Basics.{at-map, getD-map-lt}
 use Rattle.cofj.proofs.Trees.{renamed-same}
-use Rattle.cofj.proofs.Colours.{colour, colour-low, colour-first, colour-look}
+use Rattle.cofj.proofs.Colours.{colour, colour-first, colour-look}
 use Rattle.cofj.proofs.Walk.{Covered, order, order-root, order-kept, order-closed, order-length}
 
 pub placeIn-spec : (c : ℕ) (s : List ℕ) → isIn c s ≡ true → (placeIn c s < length s) × (getD s (placeIn c s) 0 ≡ c)

@@ -1,20 +1,19 @@
 -- Class fit is transitive; a class below has the fields and the methods, with the same types, of the class that it fits.
-use Prim.Native.Nat.{ℕ, zero, suc, _+_, _≤_, _<_, zero-le, suc-le-suc}
-use native.Mathlib.Nat.{not-suc-le-zero, le-of-suc-le-suc}
+use Prim.Native.Nat.{ℕ, zero, suc, _≤_}
+use native.Mathlib.Nat.{not-suc-le-zero}
 use native.Mathlib.Omega.{arith}
 use mathlib.Core.Path.{_≡_, refl, sym, ap, _∙_, subst}
-use mathlib.Core.Bool.{Bool, true, false, _&&_, true≢false, false≢true}
-use mathlib.Core.List.{List, [], _∷_, _++_, append-nil}
+use mathlib.Core.Bool.{Bool, true, false, _&&_, false≢true}
+use mathlib.Core.List.{List, [], _∷_, _++_}
 use mathlib.Core.Option.{Option, none, some, Option·none-ne-some}
-use lib.Dec.{eqb, leb}
-use lib.ListN.{length, getElem?}
-use borrow.Author.Tests.{eqb-true, eqb-false, eq-eqb, ne-eqb, leb-true}
+use lib.Dec.{eqb}
+use lib.ListN.{getElem?}
+use borrow.Author.Tests.{eqb-true, eqb-false}
 use Rattle.cofj.specs.Syntax.{Ty, ty, Class, Method, Table, eqTy, eqTys}
-use Rattle.cofj.specs.Partial.{_>>=_, guard}
 use Rattle.cofj.specs.Classes.{classFits, chainHas, parentOf, classAt, ownOrNone, fieldsTo, fieldsOf, methodOf, lookupTo, lookup}
 use Rattle.cofj.specs.Tables.{sameTypes}
 use Rattle.cofj.specs.WellFormed.{Tags, AllMethods, MethodFormed, WellFormed}
-use Rattle.cofj.proofs.Chain.{ParentsSmaller, parent-le, chain-fuel, fits-self, fits-parent}
+use Rattle.cofj.proofs.Chain.{ParentsSmaller, parent-le, fits-self, fits-parent}
 use Rattle.cofj.proofs.Partial.{and-true}
 
 -- ---- tests in a row

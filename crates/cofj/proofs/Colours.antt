@@ -1,16 +1,16 @@
 -- The colours of a graph's objects: two objects have one colour exactly when they unfold to the same tree.
 use Prim.Native.Nat.{ℕ, zero, suc, _+_, _*_, _≤_, _<_, zero-le, suc-le-suc}
-use native.Mathlib.Nat.{not-suc-le-zero, le-of-suc-le-suc, suc-mul}
+use native.Mathlib.Nat.{suc-mul}
 use native.Mathlib.Omega.{arith}
 use mathlib.Core.Path.{_≡_, refl, sym, ap, ap₂, _∙_, subst}
-use mathlib.Core.Bool.{Bool, true, false, false≢true, true≢false}
+use mathlib.Core.Bool.{Bool, true, false, true≢false}
 use mathlib.Core.List.{List, [], _∷_, map, head-eq-of-cons-eq, tail-eq-of-cons-eq}
-use mathlib.Core.Option.{Option, none, some}
+use mathlib.Core.Option.{some}
 use lib.Dec.{eqb}
 use lib.ListN.{length, getD, getElem?, length-map, List·getD-map}
 use borrow.Author.Tests.{eqb-true, eqb-false}
 use Rattle.cofj.specs.Values.{Ref, obj, mark, undet, Node, node, Graph, rename, renameNode, nodeAt, refsAt, colourOf, refine, refineTo, colours, placeOf, eqNats}
-use Rattle.cofj.specs.Unfolding.{child, follow, Same, InRange, Whole}
+use Rattle.cofj.specs.Unfolding.{child, Same, InRange, Whole}
 use Rattle.cofj.proofs.Basics.{getD-map-lt, placeOf-spec, eqNats-true}
 use Rattle.cofj.proofs.Trees.{renamed-same, same-look}
 

@@ -7,11 +7,17 @@ pub mod Canon
 pub mod Unique
 pub mod Numbering
 pub mod Operations
+pub mod GoodValues
 pub mod Runs
 pub mod Chain
 pub mod Climb
 pub mod Typed
 pub mod Keeps
+pub mod KeepsClose
+pub mod CheckSays
+pub mod Traces
+pub mod SoundCalls
+pub mod Places
 pub mod Sound
 pub mod Reached
 pub mod TextRound

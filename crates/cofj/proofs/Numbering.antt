@@ -4,19 +4,19 @@ use Prim.Native.Nat.{ℕ, zero, suc, _+_, _≤_, _<_, zero-le, suc-le-suc}
 use native.Mathlib.Nat.{not-suc-le-zero, le-of-suc-le-suc}
 use native.Mathlib.Omega.{arith}
 use mathlib.Core.Path.{_≡_, refl, sym, ap, ap₂, _∙_, subst}
-use mathlib.Core.Bool.{Bool, true, false, false≢true, true≢false}
+use mathlib.Core.Bool.{Bool, true, false}
 use mathlib.Core.List.{List, [], _∷_, _++_, map}
-use mathlib.Core.Option.{Option, none, some}
+use mathlib.Core.Option.{none, some}
 use lib.Dec.{eqb}
-use lib.ListN.{length, getD, getElem?, length-map, length-append, List·getD-append}
+use lib.ListN.{length, getD, getElem?, length-map}
 use borrow.Author.Tests.{eq-eqb, ne-eqb}
 use Rattle.cofj.specs.Values.{Ref, obj, mark, undet, Node, node, Graph, graph, rename, renameNode, nodeAt, refsAt, colourOf, colours, isIn, placeIn, visit, visitAll, canonBy, canon, eqNats}
 use Rattle.cofj.specs.Unfolding.{follow, Same, InRange, Whole}
 use Rattle.cofj.specs.ReportForm.{upFrom, noTwoEqual, inOrder}
-use Rattle.cofj.proofs.Basics.{eqNats-true, true-both, getD-map-lt}
+use Rattle.cofj.proofs.Basics.{eqNats-true, true-both}
 use Rattle.cofj.proofs.Colours.{colour, colour-full, colour-size}
-use Rattle.cofj.proofs.Walk.{Covered, order, order-kept, order-full}
-use Rattle.cofj.proofs.Canon.{placeIn-spec, number, listed, canon-is, Met, met-same}
+use Rattle.cofj.proofs.Walk.{order, order-kept, order-full}
+use Rattle.cofj.proofs.Canon.{placeIn-spec, number, listed, canon-is, met-same}
 
 -- ---- 0, 1, .. n - 1
 length-upFrom : (k n : ℕ) → length (upFrom k n) ≡ n

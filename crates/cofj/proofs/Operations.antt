@@ -1,18 +1,17 @@
 -- What the operations on values unfold to.
 use Prim.Native.Nat.{ℕ, zero, suc, _+_, _≤_, _<_, zero-le, suc-le-suc}
-use native.Mathlib.Nat.{not-suc-le-zero, le-of-suc-le-suc, add-zero, add-suc, suc-add, add-assoc, zero-add}
 use native.Mathlib.Omega.{arith}
 use mathlib.Core.Path.{_≡_, refl, sym, ap, ap₂, _∙_, subst}
-use mathlib.Core.Bool.{Bool, true, false, false≢true, true≢false}
+use mathlib.Core.Bool.{Bool, true, false}
 use mathlib.Core.List.{List, [], _∷_, _++_, map, append-assoc}
 use mathlib.Core.Option.{Option, none, some, Option·none-ne-some}
 use lib.Dec.{eqb}
-use lib.ListN.{length, getD, getElem?, length-map, length-append, List·getD-append, List·getD-map}
+use lib.ListN.{length, getElem?, length-map, length-append, List·getD-append, List·getD-map}
 use lib.Seq.{getD-append-add}
 use Rattle.cofj.specs.Partial.{_>>=_}
-use Rattle.cofj.specs.Values.{Ref, obj, mark, undet, Node, node, Graph, graph, rename, renameNode, nodeAt, refsAt, canon, select, selected, close, bind, make, lay, Laid, undetermined, markOf}
-use Rattle.cofj.specs.Unfolding.{Label, object, opened, unknown, labelAt, child, follow, Same, SameTree, InRange, Whole}
-use Rattle.cofj.proofs.Basics.{at-map, getD-map-lt}
+use Rattle.cofj.specs.Values.{Ref, obj, mark, undet, Node, node, Graph, graph, rename, renameNode, nodeAt, refsAt, canon, select, selected, close, bind, make, lay, undetermined}
+use Rattle.cofj.specs.Unfolding.{Label, object, labelAt, child, follow, InRange, Whole}
+use Rattle.cofj.proofs.Basics.{at-map}
 use Rattle.cofj.proofs.Trees.{renamed-same}
 use Rattle.cofj.proofs.Canon.{canon-same, canon-whole, rename-id, node-id}
 

@@ -1,29 +1,26 @@
 -- The promises of specs/Promises, proved of the definitions of the public calls.
-use Prim.Native.Nat.{ℕ, zero, suc, _+_, _-_, _*_, _≤_, _<_}
+use Prim.Native.Nat.{ℕ, _≤_, _<_}
 use native.Mathlib.Omega.{arith}
-use mathlib.Core.Path.{_≡_, refl, sym, ap, ap₂, _∙_, subst}
-use mathlib.Core.Bool.{Bool, true, false, true≢false}
-use mathlib.Core.List.{List, [], _∷_, _++_}
+use mathlib.Core.Path.{_≡_, refl, sym, ap, _∙_, subst}
+use mathlib.Core.Bool.{Bool, true, false}
+use mathlib.Core.List.{List}
 use mathlib.Core.Option.{Option, none, some}
 use lib.Dec.{ltb}
-use lib.ListN.{length, take, drop, replicate, length-append, length-drop, length-replicate}
+use lib.ListN.{length, drop, replicate, length-append, length-drop, length-replicate}
 use lib.Seq.{take-append-seam}
 use borrow.Author.Tests.{ltb-true, ltb-false, lt-ltb, le-ltb}
-use Rattle.cofj.specs.declared.Session.{Session}
-use Rattle.cofj.specs.declared.Answer.{Answer}
 use Rattle.cofj.specs.Limits.{standard, reportSize, workSize}
 use Rattle.cofj.specs.Syntax.{Ty, Table}
 use Rattle.cofj.specs.Reading.{refusal, read, readText}
-use Rattle.cofj.specs.Typing.{refused, accepted, check}
+use Rattle.cofj.specs.Typing.{accepted, check}
 use Rattle.cofj.specs.Values.{Graph}
 use Rattle.cofj.specs.Running.{Outcome, run, runWithin}
-use Rattle.cofj.specs.Report.{reportOf, fuelOf}
-use Rattle.cofj.specs.WellFormed.{WellFormed}
+use Rattle.cofj.specs.Report.{reportOf}
 use Rattle.cofj.specs.Soundness.{Ends, EndsListed, Sound, SoundListed}
 use Rattle.cofj.specs.Formed.{Out}
 use Rattle.cofj.specs.ReportForm.{reported, Reportable}
 use Rattle.cofj.specs.RunningRules.{RunsTo}
-use Rattle.cofj.specs.Calls.{Mode, checked, trial, Admitted, declined, admitted, afterCheck, admitTable, admit, stateRefusal, over, zeros, cleared, Ran, turnedAway, ended, runAdmitted, runUnless, runCall}
+use Rattle.cofj.specs.Calls.{Mode, checked, trial, Admitted, declined, admitted, afterCheck, admitTable, admit, stateRefusal, over, zeros, cleared, Ran, ended, runAdmitted, runUnless, runCall}
 use Rattle.cofj.specs.Promises.{Call, called, reportText, Lent, Refuses, Refusals, Program, ending, Kept, Demand2, Demand3, Canonical, Reports}
 use Rattle.cofj.proofs.Readable.{read-formed}
 use Rattle.cofj.proofs.Sound.{sound}

@@ -1,31 +1,32 @@
 -- Every object of a value is reached from its root; so type soundness holds of the objects that a report lists.
-use Prim.Native.Nat.{ℕ, zero, suc, _+_, _≤_, _<_, zero-le, suc-le-suc}
+use Prim.Native.Nat.{ℕ, zero, suc, _<_}
 use native.Mathlib.Omega.{arith}
 use mathlib.Core.Path.{_≡_, refl, sym, ap, _∙_, subst}
-use mathlib.Core.Bool.{Bool, true, false, true≢false, false≢true}
-use mathlib.Core.List.{List, [], _∷_, _++_, map}
-use mathlib.Core.Option.{Option, none, some, Option·none-ne-some}
+use mathlib.Core.Bool.{Bool, true, false, false≢true}
+use mathlib.Core.List.{List, [], _∷_, _++_}
+use mathlib.Core.Option.{Option, some}
 use mathlib.Core.Logic.{_⊎_, inl, inr}
 use lib.ListN.{length, getD, getElem?, length-map}
 use Rattle.cofj.specs.Syntax.{Ty, ty, Table}
 use Rattle.cofj.specs.Partial.{_>>=_}
 use Rattle.cofj.specs.Classes.{fieldsOf}
-use Rattle.cofj.specs.Typing.{accepted, check}
-use Rattle.cofj.specs.Values.{Ref, obj, mark, undet, Node, node, Graph, graph, rename, renameNode, nodeAt, refsAt, colours, isIn, placeIn, visit, visitAll, canon}
-use Rattle.cofj.specs.Unfolding.{Label, object, labelAt, child, follow, Whole, InRange}
+use Rattle.cofj.specs.Values.{Ref, obj, mark, undet, Node, node, Graph, rename, renameNode, nodeAt, refsAt, colours, isIn, placeIn, visit, visitAll, canon}
+use Rattle.cofj.specs.Unfolding.{object, labelAt, child, follow, Whole}
 use Rattle.cofj.specs.Running.{Outcome, value, stopped, runWithin}
 use Rattle.cofj.specs.WellFormed.{WellFormed}
-use Rattle.cofj.specs.Soundness.{Stands, NotStuck, Lists, EndsListed, SoundListed}
+use Rattle.cofj.specs.Soundness.{Stands, Lists, EndsListed, SoundListed}
 use Rattle.cofj.proofs.Basics.{at-map, getD-map-lt}
 use Rattle.cofj.proofs.Colours.{colour}
 use Rattle.cofj.proofs.Walk.{isIn-cases, Covered, walk, order, order-root, order-closed}
 use Rattle.cofj.proofs.Canon.{placeIn-spec, getD-isIn, number, listed}
-use Rattle.cofj.specs.Limits.{Limits}
 use Rattle.cofj.specs.Formed.{Good, Out as Has-value}
 use Rattle.cofj.proofs.Runs.{good-run}
 use Rattle.cofj.proofs.Climb.{field-tag}
-use Rattle.cofj.proofs.Typed.{tree, under, OkAt, AllTyped, Has}
-use Rattle.cofj.proofs.Sound.{Out, check-says, has-run, onward, stands, under-3}
+use Rattle.cofj.proofs.Typed.{under, OkAt, AllTyped, Has}
+use Rattle.cofj.proofs.SoundCalls.{Out}
+use Rattle.cofj.proofs.CheckSays.{check-says}
+use Rattle.cofj.proofs.Sound.{has-run}
+use Rattle.cofj.proofs.Places.{onward, stands, under-3}
 
 -- what child after child leads to
 pub data Reached (ns : List Node) (root : Ref) : Ref → Type 0 where

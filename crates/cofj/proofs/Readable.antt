@@ -1,19 +1,19 @@
 -- A table that is read is well formed: what refusals 2 to 5 make sure of.
-use Prim.Native.Nat.{ℕ, zero, suc, _+_, _≤_, _<_, zero-le, suc-le-suc}
+use Prim.Native.Nat.{ℕ, zero, suc, _+_, _≤_, _<_, zero-le}
 use native.Mathlib.Nat.{not-suc-le-zero}
 use native.Mathlib.Omega.{arith}
-use mathlib.Core.Path.{_≡_, refl, sym, ap, _∙_, subst}
-use mathlib.Core.Bool.{Bool, true, false, _&&_, _||_, not, true≢false, false≢true}
+use mathlib.Core.Path.{_≡_, refl, sym, ap, subst}
+use mathlib.Core.Bool.{Bool, true, false, _&&_, _||_, not}
 use mathlib.Core.List.{List, [], _∷_}
 use mathlib.Core.Option.{Option, none, some, Option·none-ne-some}
 use lib.Dec.{eqb, leb, ltb}
 use lib.ListN.{length, getElem?}
 use borrow.Author.Tests.{eqb-true, leb-true, ltb-true}
 use Rattle.cofj.specs.Limits.{classCount, methodCount, fieldCount}
-use Rattle.cofj.specs.Syntax.{Expr, Ty, ty, Class, Method, Table}
-use Rattle.cofj.specs.Partial.{_>>=_, guard}
+use Rattle.cofj.specs.Syntax.{Ty, ty, Class, Method, Table}
+use Rattle.cofj.specs.Partial.{_>>=_}
 use Rattle.cofj.specs.Classes.{parentOf, parentOr0, classAt, ownOrNone, fieldsOf, fieldsTo, lookup}
-use Rattle.cofj.specs.Typing.{closedTag, allClosed, Checked, refused, accepted, check}
+use Rattle.cofj.specs.Typing.{closedTag, allClosed}
 use Rattle.cofj.specs.Text.{lines}
 use Rattle.cofj.specs.Frames.{Got, byte, upTo, type, types, expr, ClassFrame, TextFrame, classFrame, methodFrame, mainFrame, whole, classAfter, methodAfter, mainAfter, frame, frames}
 use Rattle.cofj.specs.Tables.{Raw, raw, inFront, ordered, few, numbered, known, allKnown, exprKnown, classesGood, hasName, methodsGood, bodies, table, sameTypes, overridesGood, overridden}

@@ -1,31 +1,32 @@
 -- Reports and values: a value's report reads back into it, every text that is a value's report is the report of that one value, and
 -- the values of runs have reports that fit the lent buffer. Outcomes with equal reports are equal.
-use Prim.Native.Nat.{ℕ, zero, suc, _+_, _*_, _≤_, _<_, zero-le, suc-le-suc}
+use Prim.Native.Nat.{ℕ, suc, _+_, _*_, _≤_, _<_, zero-le}
 use native.Mathlib.Nat.{not-suc-le-zero}
 use native.Mathlib.Omega.{arith}
 use mathlib.Core.Path.{_≡_, refl, sym, ap, _∙_, subst}
 use mathlib.Core.Bool.{Bool, true, false, _&&_, _||_, not}
-use mathlib.Core.List.{List, [], _∷_, _++_, map}
+use mathlib.Core.List.{List, [], _∷_, map}
 use mathlib.Core.Option.{Option, none, some}
 use lib.Dec.{eqb}
 use lib.ListN.{length, length-map, length-append}
 use borrow.Author.Tests.{eqb-true, eq-eqb}
-use Rattle.cofj.specs.Limits.{Limits, classCount, fieldCount, lineSize}
+use Rattle.cofj.specs.Limits.{Limits, fieldCount}
 use Rattle.cofj.specs.Partial.{_>>=_}
 use Rattle.cofj.specs.Syntax.{Table}
 use Rattle.cofj.specs.Classes.{fieldsOf, fieldsTo}
 use Rattle.cofj.specs.WellFormed.{WellFormed}
 use Rattle.cofj.specs.Text.{hexLine, hexText, linesFrom}
 use Rattle.cofj.specs.Values.{Ref, obj, mark, undet, Node, node, Graph}
-use Rattle.cofj.specs.Unfolding.{InRange, Whole, follow, SameTree}
-use Rattle.cofj.specs.Formed.{AllIn, MarkBelow, Formed, Good, Out}
+use Rattle.cofj.specs.Unfolding.{InRange, Whole, follow}
+use Rattle.cofj.specs.Formed.{AllIn, Formed, Good, Out}
 use Rattle.cofj.specs.Running.{Outcome, value, stopped, Stop, stuck, noFuel, tooDeep, tooLarge, runWithin}
 use Rattle.cofj.specs.Report.{refByte, objectLine, objectLines, valueLines, stopByte, outcomeLines, reportOf, valueReport, SameEnd}
 use Rattle.cofj.specs.ReportForm.{agrees, allAgree, oneCount, linesValue, reported, Plain, Reportable}
 use Rattle.cofj.proofs.Unique.{same-canon}
-use Rattle.cofj.proofs.Runs.{all-weaken, good-run}
+use Rattle.cofj.proofs.GoodValues.{all-weaken}
+use Rattle.cofj.proofs.Runs.{good-run}
 use Rattle.cofj.proofs.TextRound.{Bytes, Lines, hex-lines, lines-hex, lines-written}
-use Rattle.cofj.proofs.ReportLines.{RefsIn, nodes-in, lines-round, lines-back, length-lines}
+use Rattle.cofj.proofs.ReportLines.{RefsIn, nodes-in, lines-round, lines-back}
 use Rattle.cofj.proofs.Partial.{true-and, opt-bind}
 
 -- ---- the values of runs can be reported

@@ -16,7 +16,7 @@ use Rattle.cofj.specs.Values.{Graph, make, select, close, markOf}
 use Rattle.cofj.specs.Running.{tooDeep, tooLarge, Outcome, value, stopped, _then_, Frame, OpenCall, openMark, classOf, Deeper, frameOf, opened, invoke, sized, eval, evals, evalTo, mainFrame, runWithin}
 use Rattle.cofj.specs.RunningRules.{Evaluates, VAR-this, VAR-res, VAR-param, FIELD, INVK, COREC, NEW, W-FIELD-object, W-FIELD-lacks, W-INVK-object, W-INVK-lacks, W-INVK-count, W-INVK2, W-NEW, PROP-field, PROP-receiver, PROP-arguments, PROP-new, W-VAR-this, W-VAR-res, W-VAR-param, OUT-OF-FUEL, TOO-DEEP, TOO-LARGE, EvaluateAll, NONE, EACH, PROP-head, PROP-tail, RunsTo, PROG}
 use Rattle.cofj.proofs.SideConditions.{target-object, target-lacks, target-count, select-none}
-use Rattle.cofj.proofs.Sound.{target-is}
+use Rattle.cofj.proofs.SoundCalls.{target-is}
 
 if-true : (b : Bool) (x y : Outcome Graph) → b ≡ true → (elim b as (λ _. Outcome Graph) [ true ↦ x | false ↦ y ]) ≡ x
 if-true b x y e = rw e

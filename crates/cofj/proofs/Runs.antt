@@ -1,134 +1,27 @@
 -- Every value of a run is canonical, whole, within the limit, made of its classes' objects, and without a mark at main:
 -- one induction over the interpreter. Not here: types (Sound).
-use Prim.Native.Nat.{ℕ, zero, suc, _+_, _≤_, _<_, zero-le, suc-le-suc}
+use Prim.Native.Nat.{ℕ, zero, suc, _+_, _≤_, _<_}
 use native.Mathlib.Omega.{arith}
-use mathlib.Core.Path.{_≡_, refl, sym, ap, _∙_, subst}
-use mathlib.Core.Bool.{Bool, true, false, _&&_, false≢true}
-use mathlib.Core.List.{List, [], _∷_, _++_, map}
+use mathlib.Core.Path.{_≡_, refl, sym, ap, _∙_}
+use mathlib.Core.Bool.{Bool, true, false, _&&_}
+use mathlib.Core.List.{List, [], _∷_, map}
 use mathlib.Core.Option.{Option, none, some, Option·none-ne-some}
 use lib.Dec.{eqb, leb, ltb}
-use lib.ListN.{length, getD, getElem?, length-map}
+use lib.ListN.{length, getElem?, length-map}
 use borrow.Author.Tests.{ltb-false, leb-true, eqb-true, eqb-false}
 use Rattle.cofj.specs.Limits.{Limits}
 use Rattle.cofj.specs.Syntax.{Expr, this, res, param, field, call, new, Exprs, done, also, count, Method, Table}
-use Rattle.cofj.specs.Classes.{fieldsOf, fieldsTo, lookup, lookupTo, methodOf, parentOf}
+use Rattle.cofj.specs.Classes.{fieldsOf, lookup, lookupTo, methodOf, parentOf}
 use Rattle.cofj.specs.Tables.{exprKnown, exprsKnown}
-use Rattle.cofj.specs.Values.{Ref, obj, mark, undet, Node, node, Graph, graph, rename, renameNode, nodeAt, refsAt, placeIn, colourOf, canon, canonBy, colours, visit, lay, select, selected, close, bind, make, undetermined, markOf, eqGraph, eqGraphs}
+use Rattle.cofj.specs.Values.{Ref, obj, mark, undet, node, Graph, graph, renameNode, refsAt, canon, lay, select, selected, close, bind, make, undetermined, markOf, eqGraph, eqGraphs}
 use Rattle.cofj.specs.Running.{Outcome, value, stopped, Stop, _then_, Frame, OpenCall, orStuck, Deeper, classOf, target, frameOf, opened, openMark, invoke, sized, eval, evals, evalTo, mainFrame, runWithin}
-use Rattle.cofj.specs.Unfolding.{InRange, Whole}
+use Rattle.cofj.specs.Unfolding.{InRange}
 use Rattle.cofj.specs.Formed.{AllIn, MarkBelow, Formed, Good, Out}
 use Rattle.cofj.specs.WellFormed.{AllMethods, MethodFormed, WellFormed}
-use Rattle.cofj.proofs.Canon.{canon-whole, canon-length}
 use Rattle.cofj.proofs.Unique.{canon-canon}
-use Rattle.cofj.proofs.Operations.{AllWhole, make-whole, laid, laid-whole, length-roots, at-ref, bound-whole, boundNode}
+use Rattle.cofj.proofs.Operations.{make-whole, laid, laid-whole, length-roots, at-ref, bound-whole, boundNode}
 use Rattle.cofj.proofs.Partial.{and-true}
-
--- ---- every item of a list
-module _ {A B : Type 0} where
-  all-map : (P : A → Type 0) (Q : B → Type 0) (f : A → B) → ((a : A) → P a → Q (f a)) → (l : List A) → AllIn P l → AllIn Q (map f l)
-  all-map P Q f h [] p = tt
-  all-map P Q f h (x ∷ xs) p = (h x (p .0), all-map P Q f h xs (p .1))
-
-  all-any : (Q : B → Type 0) (f : A → B) → ((a : A) → Q (f a)) → (l : List A) → AllIn Q (map f l)
-  all-any Q f h [] = tt
-  all-any Q f h (x ∷ xs) = (h x, all-any Q f h xs)
-
-module _ {A : Type 0} (P : A → Type 0) where
-  pub all-append : (l m : List A) → AllIn P l → AllIn P m → AllIn P (l ++ m)
-  all-append [] m p q = q
-  all-append (x ∷ xs) m p q = (p .0, all-append xs m (p .1) q)
-
-  -- an item, or the default
-  pub all-at : (d : A) → P d → (l : List A) → AllIn P l → (i : ℕ) → P (getD l i d)
-  all-at d q [] p i = q
-  all-at d q (x ∷ xs) p zero = p .0
-  all-at d q (x ∷ xs) p (suc i) = all-at d q xs (p .1) i
-
-  pub all-get : (l : List A) → AllIn P l → (i : ℕ) (a : A) → getElem? l i ≡ some a → P a
-  all-get [] p i a e = absurd (Option·none-ne-some a e)
-  all-get (x ∷ xs) p zero a e = subst P (let y : x ≡ a = cc in y) (p .0)
-  all-get (x ∷ xs) p (suc i) a e = all-get xs (p .1) i a e
-
-pub all-weaken : {A : Type 0} (P Q : A → Type 0) → ((a : A) → P a → Q a) → (l : List A) → AllIn P l → AllIn Q l
-all-weaken P Q h [] p = tt
-all-weaken P Q h (x ∷ xs) p = (h x (p .0), all-weaken P Q h xs (p .1))
-
--- ---- marks
-mark-rename : (k : ℕ) (f : ℕ → ℕ) (r : Ref) → MarkBelow k r → MarkBelow k (rename f r)
-mark-rename k f (obj i) h = tt
-mark-rename k f (mark x) h = h
-mark-rename k f undet h = tt
-
-mark-more : (k : ℕ) (r : Ref) → MarkBelow k r → MarkBelow (suc k) r
-mark-more k (obj i) h = tt
-mark-more k (mark x) h = omega arith
-mark-more k undet h = tt
-
--- the newest mark is bound to an object
-mark-bind : (k i : ℕ) (r : Ref) → MarkBelow (suc k) r → MarkBelow k (bind k (obj i) r)
-mark-bind k i (obj j) h = tt
-mark-bind k i (mark x) h = go (eqb x k) refl
-  where
-    go : (b : Bool) → eqb x k ≡ b → MarkBelow k (elim b as (λ _. Ref) [ true ↦ obj i | false ↦ mark x ])
-    go true e = tt
-    go false e = let z = eqb-false x k e in omega arith
-mark-bind k i undet h = tt
-
--- ---- objects
-module _ (t : Table) where
-  formed-rename : (k : ℕ) (f : ℕ → ℕ) (n : Node) → Formed t k n → Formed t k (renameNode f n)
-  formed-rename k f n h =
-      record { known = h .known; count = length-map (n .refs) (rename f) ∙ h .count; marks = all-map (MarkBelow k) (MarkBelow k) (rename f) (mark-rename k f) (n .refs) (h .marks) }
-
-  formed-default : (k : ℕ) → Formed t k (node 0 [])
-  unfolding fieldsTo
-  formed-default k = record { known = zero-le; count = refl; marks = tt }
-
-  formed-more : (k : ℕ) (n : Node) → Formed t k n → Formed t (suc k) n
-  formed-more k n h = record { known = h .known; count = h .count; marks = all-weaken (MarkBelow k) (MarkBelow (suc k)) (mark-more k) (n .refs) (h .marks) }
-
-  formed-bind : (k i : ℕ) (n : Node) → Formed t (suc k) n → Formed t k (boundNode k i n)
-  formed-bind k i n h =
-      record {
-        known = h .known;
-        count = length-map (n .refs) (bind k (obj i)) ∙ h .count;
-        marks = all-map (MarkBelow (suc k)) (MarkBelow k) (bind k (obj i)) (mark-bind k i) (n .refs) (h .marks);
-      }
-
-  -- the canonical form lists objects of the graph, renamed
-  canon-formed : (k : ℕ) (g : Graph) → AllIn (Formed t k) (g .nodes) → AllIn (Formed t k) (canon g .nodes)
-  unfolding canon
-  canon-formed k g h =
-      all-any (Formed t k) _ (λ c. formed-rename k _ (nodeAt (g .nodes) c) (all-at (Formed t k) (node 0 []) (formed-default k) (g .nodes) h c))
-      (visit (g .nodes) (colours (g .nodes)) (suc (length (g .nodes))) (g .root) [])
-
-  canon-mark : (k : ℕ) (g : Graph) → MarkBelow k (g .root) → MarkBelow k (canon g .root)
-  unfolding canon
-  canon-mark k g h = mark-rename k _ (g .root) h
-
-  module _ (objects : ℕ) where
-    abbrev pub AllGood : ℕ → List Graph → Type 0
-    AllGood k vs = AllIn (Good t objects k) vs
-
-    all-whole : (k : ℕ) (vs : List Graph) → AllGood k vs → AllWhole vs
-    all-whole k [] h = tt
-    all-whole k (v ∷ vs) h = (h .0 .whole, all-whole k vs (h .1))
-
-    good-canon : (k : ℕ) (g : Graph) → Whole g → length (g .nodes) ≤ objects → MarkBelow k (g .root) → AllIn (Formed t k) (g .nodes) → Good t objects k (canon g)
-    good-canon k g w h m f =
-        record { whole = canon-whole g w; own = canon-canon g w; small = omega (arith, canon-length g w); root = canon-mark k g m; nodes = canon-formed k g f }
-
-    good-mark : (k x : ℕ) → x < k → Good t objects k (markOf x)
-    unfolding canon
-    good-mark k x h = record { whole = record { top = tt; inner = λ i f r e. absurd (Option·none-ne-some r e) }; own = refl; small = zero-le; root = h; nodes = tt }
-
-    good-undetermined : (k : ℕ) → Good t objects k undetermined
-    unfolding canon
-    good-undetermined k = record { whole = record { top = tt; inner = λ i f r e. absurd (Option·none-ne-some r e) }; own = refl; small = zero-le; root = tt; nodes = tt }
-
-    good-more : (k : ℕ) (v : Graph) → Good t objects k v → Good t objects (suc k) v
-    good-more k v h =
-        record { whole = h .whole; own = h .own; small = h .small; root = mark-more k (v .root) (h .root); nodes = all-weaken (Formed t k) (Formed t (suc k)) (formed-more k) (v .nodes) (h .nodes) }
+use Rattle.cofj.proofs.GoodValues.{all-map, all-append, all-at, all-get, all-weaken, mark-rename, formed-rename, formed-default, formed-bind, canon-formed, canon-mark, all-whole, good-canon, good-mark, good-undetermined, good-more}
 
 -- ---- outcomes
 out-then : {A B : Type 0} (P : A → Type 0) (Q : B → Type 0) (f : A → ℕ → Outcome B) → ((a : A) (n : ℕ) → P a → Out Q (f a n))

@@ -14,7 +14,7 @@ use Rattle.cofj.specs.Classes.{lookup}
 use Rattle.cofj.specs.Values.{Graph, Node, Ref, obj, mark, undet, nodeAt, refsAt, selected, select, eqRef, eqNode, eqNodes, eqGraph, eqGraphs}
 use Rattle.cofj.specs.Running.{OpenCall, openMark, classOf, target}
 use Rattle.cofj.proofs.Basics.{both-true, true-both, eqRef-refl, eqNode-refl}
-use Rattle.cofj.proofs.Sound.{eqGraph-true}
+use Rattle.cofj.proofs.Traces.{eqGraph-true}
 
 -- ---- mbody: W-INVK's three reasons why a call finds no method (that it finds one otherwise is Sound's `target-is`)
 module _ (t : Table) (v : Graph) (m n : ℕ) where

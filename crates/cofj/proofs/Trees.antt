@@ -1,14 +1,13 @@
 -- Unfoldings: what the same tree says of two objects, and a renaming under which two graphs look the same.
-use Prim.Native.Nat.{ℕ, zero, suc, _+_, _≤_, _<_, zero-le, suc-le-suc}
-use native.Mathlib.Nat.{not-suc-le-zero, le-of-suc-le-suc}
+use Prim.Native.Nat.{ℕ, suc, _<_}
 use native.Mathlib.Omega.{arith}
-use mathlib.Core.Path.{_≡_, refl, sym, ap, ap₂, _∙_, subst}
-use mathlib.Core.List.{List, [], _∷_, _++_, map}
+use mathlib.Core.Path.{_≡_, refl, sym, ap, ap₂, _∙_}
+use mathlib.Core.List.{List, [], _∷_, map}
 use mathlib.Core.Option.{Option, none, some}
-use lib.ListN.{length, getD, getElem?, length-map}
+use lib.ListN.{length, getElem?, length-map}
 use Rattle.cofj.specs.Partial.{_>>=_}
 use Rattle.cofj.specs.Values.{Ref, obj, mark, undet, Node, node, Graph, rename, renameNode, nodeAt, refsAt}
-use Rattle.cofj.specs.Unfolding.{Label, object, opened, unknown, labelAt, child, follow, Same, SameTree, InRange, Whole}
+use Rattle.cofj.specs.Unfolding.{object, opened, unknown, labelAt, child, follow, Same, InRange, Whole}
 use Rattle.cofj.proofs.Basics.{at-map}
 
 -- ---- lists of references, item by item

@@ -1,24 +1,20 @@
 -- The invariant of type soundness: what may stand at each place of a value, and that the operations keep it.
-use Prim.Native.Nat.{ℕ, zero, suc, _+_, _≤_, _<_, zero-le, suc-le-suc, max}
-use native.Mathlib.Nat.{not-suc-le-zero, le-of-suc-le-suc}
+use Prim.Native.Nat.{ℕ, zero, suc, _≤_, _<_, max}
 use native.Mathlib.Omega.{arith}
-use mathlib.Core.Path.{_≡_, refl, sym, ap, _∙_, subst, fun-ext}
-use mathlib.Core.Bool.{Bool, true, false, _&&_, true≢false, false≢true}
-use mathlib.Core.List.{List, [], _∷_, _++_}
+use mathlib.Core.Path.{_≡_, refl, _∙_, subst}
+use mathlib.Core.Bool.{Bool, true, false}
+use mathlib.Core.List.{List, [], _∷_}
 use mathlib.Core.Option.{Option, none, some, Option·none-ne-some}
-use lib.Dec.{eqb, leb}
+use lib.Dec.{eqb}
 use lib.ListN.{length, getElem?}
-use borrow.Author.Tests.{eqb-true, eqb-false, eq-eqb, ne-eqb, leb-true, le-leb}
-use Rattle.cofj.specs.Syntax.{Ty, ty, Class, Method, Table}
-use Rattle.cofj.specs.Partial.{_>>=_}
-use Rattle.cofj.specs.Classes.{classFits, fits, fieldsTo, fieldsOf}
-use Rattle.cofj.specs.Values.{Ref, obj, mark, undet, Node, node, Graph, graph, nodeAt, refsAt, canon, select, selected, close, bind, make, undetermined, markOf}
-use Rattle.cofj.specs.Unfolding.{Label, object, opened, unknown, labelAt, child, follow, Whole, InRange}
+use borrow.Author.Tests.{eqb-true, eq-eqb, ne-eqb}
+use Rattle.cofj.specs.Syntax.{Ty, ty, Table}
+use Rattle.cofj.specs.Classes.{classFits, fits, fieldsOf}
+use Rattle.cofj.specs.Values.{mark, Graph, undetermined}
+use Rattle.cofj.specs.Unfolding.{Label, object, opened, unknown, follow, Whole}
 use Rattle.cofj.specs.WellFormed.{WellFormed}
 use Rattle.cofj.proofs.Chain.{fits-self}
-use Rattle.cofj.proofs.Climb.{fits-trans, fits-fields, field-tag}
-use Rattle.cofj.proofs.Canon.{canon-same}
-use Rattle.cofj.proofs.Operations.{AllWhole, make-top, make-field, make-whole, select-tree, followBound, close-tree}
+use Rattle.cofj.proofs.Climb.{fits-trans}
 
 -- a tree, given by what stands at the end of each path
 abbrev pub Tree : Type 0

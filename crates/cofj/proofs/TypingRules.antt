@@ -17,7 +17,7 @@ use Rattle.cofj.specs.Typing.{Env, closedTag, allClosed, allFit, narrow,
 use Rattle.cofj.specs.TypingRules.{_⁺, _⁺?, _⁻?, _⁻, AllClosed, closing, SubClass, same, above, Fits, AllFit, fit-none, fit-each, HasType, T-VAR-this, T-VAR-res, T-VAR-param, T-FIELD, T-INVK, T-NEW1, T-NEW2, HaveTypes, T-NONE, T-EACH, leftVariables, rightVariables, MethodTyped, T-MDEC}
 use Rattle.cofj.proofs.Chain.{ParentsSmaller, fits-self}
 use Rattle.cofj.proofs.Climb.{climb, fits-up}
-use Rattle.cofj.proofs.Sound.{method-ok}
+use Rattle.cofj.proofs.CheckSays.{method-ok}
 use Rattle.cofj.proofs.Partial.{and-true, true-and, opt-bind, guard-bind}
 
 -- ---- tags

@@ -1,21 +1,20 @@
 -- (b) Graphs that unfold to the same tree have the same value.
-use Prim.Native.Nat.{ℕ, zero, suc, _+_, _≤_, _<_, zero-le, suc-le-suc}
-use native.Mathlib.Nat.{not-suc-le-zero, le-of-suc-le-suc}
+use Prim.Native.Nat.{ℕ, zero, suc, _<_, suc-le-suc}
+use native.Mathlib.Nat.{not-suc-le-zero}
 use native.Mathlib.Omega.{arith}
-use mathlib.Core.Path.{_≡_, refl, sym, ap, ap₂, _∙_, subst}
+use mathlib.Core.Path.{_≡_, refl, sym, ap, ap₂, _∙_}
 use mathlib.Core.Bool.{Bool, true, false, false≢true, true≢false}
-use mathlib.Core.Logic.{_⊎_, inl, inr}
 use mathlib.Core.List.{List, [], _∷_, _++_, map}
-use mathlib.Core.Option.{Option, none, some}
+use mathlib.Core.Option.{some}
 use lib.Dec.{eqb}
-use lib.ListN.{length, getD, getElem?}
+use lib.ListN.{length}
 use borrow.Author.Tests.{eqb-true, eqb-false, eq-eqb, ne-eqb}
-use Rattle.cofj.specs.Values.{Ref, obj, mark, undet, Node, node, Graph, graph, rename, renameNode, nodeAt, refsAt, colourOf, colours, isIn, placeIn, visit, visitAll, canon}
-use Rattle.cofj.specs.Unfolding.{Label, object, opened, unknown, labelAt, child, follow, Same, SameTree, InRange, Whole}
+use Rattle.cofj.specs.Values.{Ref, obj, mark, undet, Node, Graph, graph, refsAt, colours, isIn, placeIn, visit, visitAll, canon}
+use Rattle.cofj.specs.Unfolding.{object, opened, unknown, follow, Same, SameTree, InRange, Whole}
 use Rattle.cofj.proofs.Trees.{Pointwise, same-refs, same-look, same-rename}
 use Rattle.cofj.proofs.Colours.{colour, colour-low, colour-first, colour-full, colour-same}
-use Rattle.cofj.proofs.Walk.{Kept, Visited, Step, walk, visited, unseen, unseen-top, unseen-le, enter-kept, enter-less, order, start}
-use Rattle.cofj.proofs.Canon.{number, listed, canon-is, canon-same, canon-whole}
+use Rattle.cofj.proofs.Walk.{Kept, walk, visited, unseen, unseen-top, unseen-le, enter-kept, enter-less, order, start}
+use Rattle.cofj.proofs.Canon.{number, canon-is, canon-same, canon-whole}
 
 module _ (g h : Graph) (wg : Whole g) (wh : Whole h) where
   abbrev N : ℕ

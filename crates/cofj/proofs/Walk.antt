@@ -1,17 +1,17 @@
 -- The walk from the root, depth first: it meets every colour that can be reached, and the order that it gives is closed under fields.
 use Prim.Native.Nat.{ℕ, zero, suc, _+_, _≤_, _<_, zero-le, suc-le-suc}
-use native.Mathlib.Nat.{not-suc-le-zero, le-of-suc-le-suc}
+use native.Mathlib.Nat.{not-suc-le-zero}
 use native.Mathlib.Omega.{arith}
-use mathlib.Core.Path.{_≡_, refl, sym, ap, ap₂, _∙_, subst}
+use mathlib.Core.Path.{_≡_, refl, sym, _∙_, subst}
 use mathlib.Core.Bool.{Bool, true, false, false≢true, true≢false}
 use mathlib.Core.Logic.{_⊎_, inl, inr}
-use mathlib.Core.List.{List, [], _∷_, _++_, map}
-use mathlib.Core.Option.{Option, none, some, Option·none-ne-some}
+use mathlib.Core.List.{List, [], _∷_, _++_}
+use mathlib.Core.Option.{none, some, Option·none-ne-some}
 use lib.Dec.{eqb}
-use lib.ListN.{length, getD, getElem?, length-append}
-use borrow.Author.Tests.{eqb-true, eqb-false, eq-eqb, ne-eqb}
-use Rattle.cofj.specs.Values.{Ref, obj, mark, undet, Node, node, Graph, rename, renameNode, nodeAt, refsAt, colourOf, colours, isIn, visit, visitAll}
-use Rattle.cofj.specs.Unfolding.{child, follow, Same, InRange, Whole}
+use lib.ListN.{length, getElem?, length-append}
+use borrow.Author.Tests.{eqb-true, eqb-false, eq-eqb}
+use Rattle.cofj.specs.Values.{Ref, obj, mark, undet, Graph, refsAt, colours, isIn, visit, visitAll}
+use Rattle.cofj.specs.Unfolding.{InRange, Whole}
 use Rattle.cofj.proofs.Colours.{colour, colour-low, colour-first}
 
 -- ---- membership

@@ -1,7 +1,7 @@
 -- Sessions and the public calls: what each answers, and every byte of the lent buffers after it.
 -- A refused call answers its number, the same session and length 0, and leaves the buffers as they were.
 use Prim.Native.Nat.{ℕ}
-use mathlib.Core.Bool.{Bool, true, false}
+use mathlib.Core.Bool.{true, false}
 use mathlib.Core.List.{List, [], _∷_, _++_}
 use mathlib.Core.Option.{Option, none, some}
 use lib.Dec.{ltb}
@@ -12,7 +12,7 @@ use Rattle.cofj.specs.declared.Closing.{Closing}
 use Rattle.cofj.specs.declared.Verdict.{Verdict}
 use Rattle.cofj.specs.declared.Written.{Written}
 use Rattle.cofj.specs.Limits.{textSize, reportSize, workSize, linerunFuel}
-use Rattle.cofj.specs.Syntax.{Ty, Table}
+use Rattle.cofj.specs.Syntax.{Table}
 use Rattle.cofj.specs.Values.{Graph}
 use Rattle.cofj.specs.Text.{hexText}
 use Rattle.cofj.specs.Reading.{refusal, read, readText}

@@ -1,7 +1,7 @@
 -- From a line's bytes to its frame: refusal 2 is a line that has none (unknown first byte, a tag, count or nesting over its limit,
 -- too short or too long). Not here: the order of frames and the rules of a class table (Tables).
 use Prim.Native.Nat.{ℕ, zero, suc}
-use mathlib.Core.Bool.{Bool, true, false}
+use mathlib.Core.Bool.{true, false}
 use mathlib.Core.List.{List, [], _∷_}
 use mathlib.Core.Option.{Option, none, some}
 use lib.Dec.{eqb, leb}

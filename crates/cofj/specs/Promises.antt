@@ -3,16 +3,15 @@
 -- Demand 3: equal reports exactly for the same end, and what an accepted program's report shows. Then canonical forms and reports.
 use Prim.Native.Nat.{ℕ, _≤_, _<_}
 use mathlib.Core.Path.{_≡_}
-use mathlib.Core.Bool.{Bool, true, false}
+use mathlib.Core.Bool.{true, false}
 use mathlib.Core.List.{List}
 use mathlib.Core.Logic.{_↔_}
 use mathlib.Core.Option.{some}
 use lib.ListN.{length, take}
 use Rattle.cofj.specs.declared.Session.{Session}
-use Rattle.cofj.specs.declared.Answer.{Answer}
 use Rattle.cofj.specs.Limits.{Limits, reportSize, workSize}
 use Rattle.cofj.specs.Syntax.{Ty, Table}
-use Rattle.cofj.specs.Reading.{Answer as ReadAnswer, refusal, read, readText}
+use Rattle.cofj.specs.Reading.{refusal, read, readText}
 use Rattle.cofj.specs.Typing.{refused, accepted, check}
 use Rattle.cofj.specs.TypingRules.{ProgramTyped}
 use Rattle.cofj.specs.Values.{Graph, canon}

@@ -4,7 +4,6 @@ use Prim.Native.Nat.{ℕ}
 use Prim.Native.String.{String}
 use mathlib.Core.Path.{_≡_}
 use mathlib.Core.List.{List, [], _∷_, _++_}
-use Rattle.cofj.specs.Syntax.{Table}
 use Rattle.cofj.specs.Text.{hexText}
 use Rattle.cofj.specs.Running.{run}
 use Rattle.cofj.specs.Report.{reportOf, fuelOf}

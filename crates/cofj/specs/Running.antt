@@ -10,7 +10,7 @@ use lib.ListN.{length, getElem?}
 use Rattle.cofj.specs.Limits.{Limits, standard}
 use Rattle.cofj.specs.Syntax.{Expr, this, res, param, field, call, new, Exprs, done, also, count, Method, Table}
 use Rattle.cofj.specs.Classes.{fieldsOf, lookup, lookupTo, methodOf, fieldsTo}
-use Rattle.cofj.specs.Values.{Graph, Ref, obj, mark, undet, Node, make, select, close, eqGraph, eqGraphs, markOf, nodeAt}
+use Rattle.cofj.specs.Values.{Graph, obj, mark, undet, make, select, close, eqGraph, eqGraphs, markOf, nodeAt}
 
 -- why a run ends without a value
 pub data Stop : Type 0 where

@@ -1,8 +1,7 @@
 -- The abstract syntax: expressions, types, classes, methods, and a program's table. Not here: its bytes (Frames, Writing).
-use Prim.Native.Nat.{ℕ, zero, suc, _+_, max}
+use Prim.Native.Nat.{ℕ, suc}
 use mathlib.Core.Bool.{Bool, true, false, _&&_}
 use mathlib.Core.List.{List, [], _∷_}
-use mathlib.Core.Option.{Option, none, some}
 use lib.Dec.{eqb}
 
 -- An expression, and a list of expressions (antt has no nested data: the list is a copy of `List`).

@@ -1,9 +1,9 @@
 -- The line form: lines of upper-case hexadecimal, each ended by LF. From characters to bytes, and back. Not here: what the bytes mean (Frames).
-use Prim.Native.Nat.{ℕ, zero, suc, _+_, _*_, _-_, _/_, _%_}
-use mathlib.Core.Bool.{Bool, true, false, _&&_, _||_, cond}
+use Prim.Native.Nat.{ℕ, _+_, _*_, _-_, _/_, _%_}
+use mathlib.Core.Bool.{Bool, true, false, _&&_, cond}
 use mathlib.Core.List.{List, [], _∷_, _++_, reverse}
 use mathlib.Core.Option.{Option, none, some}
-use lib.Dec.{eqb, leb, ltb}
+use lib.Dec.{eqb, leb}
 use lib.ListN.{length}
 use Rattle.cofj.specs.Limits.{lineSize, textSize}
 use Rattle.cofj.specs.Partial.{_>>=_, guard}

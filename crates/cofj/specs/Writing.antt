@@ -4,7 +4,7 @@ use mathlib.Core.List.{List, [], _∷_, _++_}
 use lib.ListN.{length}
 use Rattle.cofj.specs.Syntax.{Expr, this, res, param, field, call, new, Exprs, done, also, count, Ty, Class, Method, Table}
 use Rattle.cofj.specs.Text.{hexText}
-use Rattle.cofj.specs.Reading.{Answer, refusal, read, readText}
+use Rattle.cofj.specs.Reading.{refusal, read, readText}
 
 -- an expression in prefix form
 unfoldable mutual
