@@ -1,0 +1,125 @@
+//! Programs that pass 1 to 5 and have no type: a well typed one with a part
+//! changed, in a method for refusal 6 or in main for refusal 7.
+
+use super::random::Random;
+use super::typed;
+use crate::reading;
+use crate::refusals::Refusal;
+use crate::syntax::{Expr, MAX_FIELDS, MAX_PARAMETERS, Method, Table};
+use crate::typing;
+use crate::writing;
+
+/// A text that earns 6 or 7, either as often as the other.
+pub fn text(random: &mut Random) -> Vec<u8> {
+    let wanted = if random.chance(50) {
+        Refusal::Method
+    } else {
+        Refusal::Main
+    };
+    loop {
+        let mut table = typed::table(random);
+        for _ in 0..20 {
+            change(random, &mut table, wanted);
+            let Some(text) = writing::encode(&table) else {
+                break;
+            };
+            match reading::read(&text) {
+                Ok(table) if typing::check(&table) == Err(wanted) => return text,
+                Ok(_) => {}
+                Err(_) => break,
+            }
+        }
+    }
+}
+
+fn change(random: &mut Random, table: &mut Table, wanted: Refusal) {
+    let count = table.classes.len();
+    if wanted == Refusal::Main {
+        change_expr(random, count, &mut table.main);
+        return;
+    }
+    let place = random.below(table.methods.len());
+    let method = &mut table.methods[place];
+    match random.below(4) {
+        0 => change_types(random, count, method),
+        1 => change_expr(random, count, &mut method.right),
+        _ => change_expr(random, count, &mut method.left),
+    }
+}
+
+fn change_types(random: &mut Random, count: usize, method: &mut Method) {
+    match random.below(4) {
+        0 => method.first.tag = 3 - method.first.tag.min(3),
+        1 => method.second.tag = random.below(4) as u8,
+        2 => method.first.class = random.below(count + 1) as u8,
+        _ => {
+            if let Some(param) = method.params.first_mut() {
+                param.class = random.below(count + 1) as u8;
+            }
+        }
+    }
+}
+
+/// Changes the expression or, as often as not, one of its parts.
+pub fn change_expr(random: &mut Random, count: usize, expr: &mut Expr) {
+    let part = match expr {
+        Expr::Field(_, receiver) => Some(&mut **receiver),
+        Expr::Call(_, receiver, arguments) => {
+            let place = random.below(arguments.len() + 1);
+            Some(if place == 0 {
+                &mut **receiver
+            } else {
+                &mut arguments[place - 1]
+            })
+        }
+        Expr::New(_, values) if !values.is_empty() => {
+            let place = random.below(values.len());
+            Some(&mut values[place])
+        }
+        _ => None,
+    };
+    if let Some(part) = part
+        && random.chance(60)
+    {
+        return change_expr(random, count, part);
+    }
+    change_here(random, count, expr);
+}
+
+fn change_here(random: &mut Random, count: usize, expr: &mut Expr) {
+    let class = random.below(count + 1) as u8;
+    match random.below(8) {
+        0 => *expr = Expr::This,
+        1 => *expr = Expr::Res,
+        2 => *expr = Expr::Param(*random.pick(&[0, 0, 1, 2, 3, 255]).unwrap_or(&0)),
+        3 => *expr = Expr::New(class, Vec::new()),
+        4 => {
+            let field = random.below(5) as u8;
+            *expr = Expr::Field(field, Box::new(expr.clone()));
+        }
+        _ => change_parts(random, class, expr),
+    }
+}
+
+/// Keeps the form and changes a number or the count of parts.
+fn change_parts(random: &mut Random, number: u8, expr: &mut Expr) {
+    let shorter = random.chance(50);
+    match expr {
+        Expr::Field(field, _) => *field = number.wrapping_add(1),
+        Expr::Call(name, _, _) if random.chance(30) => *name = name.wrapping_add(1),
+        Expr::Call(_, _, arguments) => {
+            resize(arguments, shorter, MAX_PARAMETERS);
+        }
+        Expr::New(class, _) if random.chance(30) => *class = number,
+        Expr::New(_, values) => resize(values, shorter, MAX_FIELDS),
+        _ => *expr = Expr::Res,
+    }
+}
+
+fn resize(parts: &mut Vec<Expr>, shorter: bool, limit: usize) {
+    if shorter {
+        parts.pop();
+    } else if parts.len() < limit {
+        parts.push(Expr::New(0, Vec::new()));
+    }
+}

@@ -1,0 +1,124 @@
+//! Seeded programs and texts for comparing engines: the kinds, and cases of a
+//! mode, a fuel and a text. What the cases give is counted in `stats.rs` and
+//! written down in `rows.rs`.
+
+mod damaged;
+mod exprs;
+mod full;
+mod illtyped;
+mod limits;
+pub mod random;
+pub mod rows;
+mod signatures;
+pub mod stats;
+mod typed;
+
+use crate::calls::Mode;
+use crate::reading;
+use crate::running;
+use crate::syntax::Table;
+use crate::writing;
+use random::Random;
+
+#[derive(Clone, Copy, Debug, PartialEq, Eq)]
+pub enum Kind {
+    /// Accepted by the checker.
+    Typed,
+    /// Refused 6 or 7.
+    IllTyped,
+    /// Refused 1 to 5.
+    Damaged,
+    /// Accepted, and as long as a text can be.
+    Full,
+}
+
+impl Kind {
+    pub fn named(name: &str) -> Option<Kind> {
+        match name {
+            "typed" => Some(Kind::Typed),
+            "illtyped" => Some(Kind::IllTyped),
+            "damaged" => Some(Kind::Damaged),
+            "full" => Some(Kind::Full),
+            _ => None,
+        }
+    }
+}
+
+/// A text of a kind.
+pub fn text(kind: Kind, random: &mut Random) -> Vec<u8> {
+    match kind {
+        Kind::Typed => written(&wished(random)),
+        Kind::IllTyped => illtyped::text(random),
+        Kind::Damaged => damaged::text(random),
+        Kind::Full => written(&full::table(random)),
+    }
+}
+
+/// An accepted table. Left alone, too many programs end in one object without
+/// fields; so a wish is drawn first, and tables until one meets it.
+fn wished(random: &mut Random) -> Table {
+    let wish = random.below(100);
+    if wish < 8 {
+        return limits::table(random);
+    }
+    for _ in 0..40 {
+        let table = typed::table(random);
+        let (outcome, left, tally) = running::run_with_tally(&table, 1_000);
+        let met = match &outcome {
+            _ if wish < 12 => true,
+            _ if wish < 20 => tally.open > 0,
+            Ok(value) if wish < 53 => stats::is_cyclic(value),
+            Ok(value) if wish < 57 => stats::is_partly_undetermined(value),
+            Ok(value) if wish < 60 => value.class().is_none(),
+            Ok(value) => value.size() != 1 && left < 998,
+            Err(_) => wish >= 60,
+        };
+        if met {
+            return table;
+        }
+    }
+    typed::table(random)
+}
+
+fn written(table: &Table) -> Vec<u8> {
+    writing::text(table).expect("generated tables have a text")
+}
+
+/// A run to compare.
+#[derive(Clone, Debug)]
+pub struct Case {
+    pub mode: Mode,
+    pub fuel: u16,
+    pub text: Vec<u8>,
+}
+
+/// A case of the usual mixture.
+pub fn case(random: &mut Random) -> Case {
+    let (kind, mode) = match random.below(100) {
+        0..60 => (Kind::Typed, Mode::Checked),
+        60..64 => (Kind::Typed, Mode::Trial),
+        64..74 => (Kind::IllTyped, Mode::Checked),
+        74..84 => (Kind::IllTyped, Mode::Trial),
+        84..96 => (Kind::Damaged, Mode::Checked),
+        _ => (Kind::Damaged, Mode::Trial),
+    };
+    let text = text(kind, random);
+    let fuel = fuel_for(&text, random);
+    Case { mode, fuel, text }
+}
+
+/// Mostly `linerun`'s fuel; often just what the run needs, one less or more.
+fn fuel_for(text: &[u8], random: &mut Random) -> u16 {
+    let Ok(table) = reading::read(text) else {
+        return 1_000;
+    };
+    match random.below(100) {
+        0..65 => 1_000,
+        65..90 => {
+            let (_, left) = running::run(&table, 1_000);
+            let spent = usize::from(1_000 - left);
+            random.between(spent.saturating_sub(1), spent + 1) as u16
+        }
+        _ => random.below(30) as u16,
+    }
+}

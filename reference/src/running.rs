@@ -1,0 +1,160 @@
+//! Evaluation: from a table and fuel to an outcome and the fuel left.
+//! Types are not looked at; a checked run has looked before.
+
+use crate::classes;
+use crate::syntax::{Expr, Method, Table};
+use crate::values::Value;
+
+/// Most calls open at one time, both sides counted.
+pub const MAX_DEPTH: usize = 16;
+
+/// Why a run ended without a value; the discriminant is the report's byte.
+#[derive(Clone, Copy, Debug, PartialEq, Eq)]
+pub enum Stop {
+    Stuck = 1,
+    OutOfFuel = 2,
+    TooDeep = 3,
+    TooLarge = 4,
+}
+
+pub type Outcome = Result<Value, Stop>;
+
+/// What happened on the way, for those who judge the generator by it.
+#[derive(Clone, Copy, Debug, Default, PartialEq, Eq)]
+pub struct Tally {
+    /// Calls met again.
+    pub met: u32,
+    /// Calls with an open mark somewhere in receiver or arguments.
+    pub open: u32,
+}
+
+/// Runs main and gives its outcome and the fuel left.
+pub fn run(table: &Table, fuel: u16) -> (Outcome, u16) {
+    let (outcome, fuel, _) = run_with_tally(table, fuel);
+    (outcome, fuel)
+}
+
+pub fn run_with_tally(table: &Table, fuel: u16) -> (Outcome, u16, Tally) {
+    let mut run = Run {
+        table,
+        fuel,
+        depth: 0,
+        marks: 0,
+        trace: Vec::new(),
+        tally: Tally::default(),
+    };
+    let outcome = run.eval(&Frame::default(), &table.main);
+    (outcome, run.fuel, run.tally)
+}
+
+/// The variables of a body; main has none, and only a right side has `res`.
+#[derive(Default)]
+struct Frame {
+    this: Option<Value>,
+    res: Option<Value>,
+    params: Vec<Value>,
+}
+
+/// What is called: compared by value, field by field.
+#[derive(PartialEq)]
+struct Redex {
+    receiver: Value,
+    name: u8,
+    arguments: Vec<Value>,
+}
+
+impl Redex {
+    fn is_open(&self) -> bool {
+        self.receiver.is_open() || self.arguments.iter().any(Value::is_open)
+    }
+}
+
+struct Run<'a> {
+    table: &'a Table,
+    fuel: u16,
+    /// Open calls, on either side.
+    depth: usize,
+    /// Marks given out so far.
+    marks: u32,
+    /// Open left-side calls with their marks.
+    trace: Vec<(Redex, u32)>,
+    tally: Tally,
+}
+
+impl<'a> Run<'a> {
+    fn eval(&mut self, frame: &Frame, expr: &Expr) -> Outcome {
+        match expr {
+            Expr::This => frame.this.clone().ok_or(Stop::Stuck),
+            Expr::Res => frame.res.clone().ok_or(Stop::Stuck),
+            Expr::Param(place) => {
+                let value = frame.params.get(usize::from(*place));
+                value.cloned().ok_or(Stop::Stuck)
+            }
+            Expr::Field(field, receiver) => {
+                let receiver = self.eval(frame, receiver)?;
+                receiver.field(*field).ok_or(Stop::Stuck)
+            }
+            Expr::Call(name, receiver, arguments) => {
+                let receiver = self.eval(frame, receiver)?;
+                let method = self.method(&receiver, *name, arguments.len())?;
+                let arguments = self.eval_all(frame, arguments)?;
+                let redex = Redex {
+                    receiver,
+                    name: *name,
+                    arguments,
+                };
+                self.call(method, redex)
+            }
+            Expr::New(class, values) => {
+                // The count is tested first: a bad value is never reached.
+                if classes::fields(self.table, *class).len() != values.len() {
+                    return Err(Stop::Stuck);
+                }
+                let values = self.eval_all(frame, values)?;
+                Value::new(*class, values).ok_or(Stop::TooLarge)
+            }
+        }
+    }
+
+    /// Left to right; the first that gives no value ends the list.
+    fn eval_all(&mut self, frame: &Frame, exprs: &[Expr]) -> Result<Vec<Value>, Stop> {
+        exprs.iter().map(|expr| self.eval(frame, expr)).collect()
+    }
+
+    fn method(&self, receiver: &Value, name: u8, count: usize) -> Result<&'a Method, Stop> {
+        let class = receiver.class().ok_or(Stop::Stuck)?;
+        classes::method(self.table, class, name)
+            .filter(|method| method.params.len() == count)
+            .ok_or(Stop::Stuck)
+    }
+
+    fn call(&mut self, method: &Method, redex: Redex) -> Outcome {
+        // The unit is spent before the depth is tested.
+        self.fuel = self.fuel.checked_sub(1).ok_or(Stop::OutOfFuel)?;
+        if self.depth == MAX_DEPTH {
+            return Err(Stop::TooDeep);
+        }
+        self.depth += 1;
+        let mut frame = Frame {
+            this: Some(redex.receiver.clone()),
+            res: None,
+            params: redex.arguments.clone(),
+        };
+        self.tally.open += u32::from(redex.is_open());
+        let met = self.trace.iter().find(|(open, _)| *open == redex);
+        let answer = if let Some(&(_, mark)) = met {
+            self.tally.met += 1;
+            frame.res = Some(Value::mark(mark));
+            self.eval(&frame, &method.right)?
+        } else {
+            let mark = self.marks;
+            self.marks += 1;
+            self.trace.push((redex, mark));
+            let answer = self.eval(&frame, &method.left)?;
+            self.trace.pop();
+            answer.closed(mark)
+        };
+        self.depth -= 1;
+        Ok(answer)
+    }
+}
