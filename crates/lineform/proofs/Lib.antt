@@ -1,0 +1,9 @@
+pub mod Ends
+pub mod HexLaws
+pub mod ExprLaws
+pub mod FrameLaws
+pub mod PackedLaws
+pub mod DecodeLaws
+pub mod LineLaws
+pub mod OrderLaws
+pub mod Established

@@ -1,0 +1,81 @@
+-- What the functions answer, of what the language's definitions give. Not here: lines as bytes (Packed).
+use Prim.Native.Nat.{ℕ, _+_, _*_, _-_, _≤_}
+use mathlib.Core.Path.{_≡_}
+use mathlib.Core.Bool.{Bool, true, false}
+use mathlib.Core.List.{List, [], _∷_, _++_}
+use mathlib.Core.Option.{Option, none, some}
+use lib.ListN.{length, drop}
+use Rattle.cofj.specs.Limits.{textSize}
+use Rattle.cofj.specs.Partial.{_>>=_}
+use Rattle.cofj.specs.Text.{digit, lines}
+use Rattle.cofj.specs.Frames.{Got, TextFrame, classFrame, methodFrame, mainFrame}
+use Rattle.cofj.specs.Tables.{Raw, ordered, few}
+use Rattle.cofj.specs.Writing.{codeOf}
+use Rattle.lineform.specs.declared.hex.Digit.{Digit}
+use Rattle.lineform.specs.declared.hex.Digit.the-variants.{Is, Not}
+use Rattle.lineform.specs.declared.exprs.ReadExpr.{ReadExpr}
+use Rattle.lineform.specs.declared.exprs.ReadExpr.the-variants.{Next, Refused}
+use Rattle.lineform.specs.declared.frames.Kind.{Kind}
+use Rattle.lineform.specs.declared.frames.Kind.the-variants.{Class, Method, Main}
+use Rattle.lineform.specs.declared.frames.Framed.{Framed}
+use Rattle.lineform.specs.declared.frames.Framed.the-variants.{Good, Bad}
+use Rattle.lineform.specs.declared.lines.Decoded.{Decoded}
+use Rattle.lineform.specs.declared.lines.Decoded.the-variants.{Packed as Filled, Refused as NoLines}
+use Rattle.lineform.specs.declared.lines.Ordered.{Ordered}
+use Rattle.lineform.specs.declared.lines.Ordered.the-variants.{Counts, Refused as NoOrder}
+use Rattle.lineform.specs.Packed.{packed, packedRoom}
+
+abbrev pub digitOf : Option ℕ → Digit
+digitOf none = Not
+digitOf (some d) = Is d
+
+-- the byte of two digits
+abbrev pub pairOf : List ℕ → Option ℕ
+pairOf [] = none
+pairOf (a ∷ []) = none
+pairOf (a ∷ (b ∷ r)) = digit a >>= λ h. digit b >>= λ d. some (16 * h + d)
+
+-- the place in s after what was read from it
+abbrev pub endOf : {A : Type 0} → List ℕ → Option (Got A) → ReadExpr
+endOf s none = Refused
+endOf s (some g) = Next (length s - length (g .rest))
+
+-- a method's kind has the place of its right expression in the line
+abbrev pub kindOf : TextFrame → Kind
+kindOf (classFrame c) = Class
+kindOf (methodFrame d) = Method (8 + 2 * length (d .params) + length (codeOf (d .left)))
+kindOf (mainFrame e) = Main
+
+abbrev pub framedOf : Option TextFrame → Framed
+framedOf none = Bad
+framedOf (some f) = Good (kindOf f)
+
+-- ---- lines
+abbrev pub decodedOf : Option (List (List ℕ)) → Decoded
+decodedOf none = NoLines
+decodedOf (some ls) = Filled (length (packed ls))
+
+-- a text of a fit length, and room for its lines
+pub record Decodable (text out : List ℕ) : Type 0 where
+  pub some-text : 1 ≤ length text
+  pub short : length text ≤ textSize
+  pub room : packedRoom ≤ length out
+
+-- the answer is the text's, and its lines stand in front of what was there; after a refusal the bytes are open
+pub record Decodes (text out₀ out : List ℕ) (r : Decoded) : Type 0 where
+  pub answer : r ≡ decodedOf (lines text)
+  pub written : (ls : List (List ℕ)) → lines text ≡ some ls → out ≡ packed ls ++ drop (length (packed ls)) out₀
+
+abbrev pub isSome : {A : Type 0} → Option A → Bool
+isSome none = false
+isSome (some a) = true
+
+-- the counts of classes and methods
+abbrev pub countsOf : Option Raw → Ordered
+countsOf none = NoOrder
+countsOf (some r) = Counts (length (r .classes)) (length (r .methods))
+
+unfoldable pub orderOf : Option (List TextFrame) → Ordered
+unfolding ordered
+orderOf none = NoOrder
+orderOf (some fs) = countsOf (ordered fs >>= few)

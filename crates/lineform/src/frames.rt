@@ -1,0 +1,113 @@
+// One line's frame: its kind, or that it has none (refusal 2). Of a method, the place of its right expression.
+// Not here: the frames of a whole text (lines).
+ghost use mathlib.Core.Path.{_≡_};
+ghost use lib.ListN.{drop};
+ghost use Rattle.cofj.specs.Frames.{frame, classAfter, methodAfter, mainAfter};
+ghost use Rattle.lineform.specs.Answers.{framedOf};
+use crate::exprs::FIELD_COUNT;
+use crate::exprs::LARGEST_TAG;
+use crate::exprs::NESTING_LIMIT;
+use crate::exprs::PARAM_COUNT;
+use crate::exprs::ReadExpr;
+use crate::exprs::read_expr;
+use crate::exprs::types_end;
+use crate::exprs::wide;
+
+pub enum Kind {
+    Class,
+    Method(usize),
+    Main,
+}
+
+pub enum Framed {
+    Good(Kind),
+    Bad,
+}
+
+pub fn frame_kind(s: &[u8]) -> Framed
+    ensures { λ r. ⌜ r ≡ framedOf (frame (now (s .entry))) ⌝ }
+{
+    if s.len() == 0 {
+        return Framed::Bad;
+    }
+    let k = s[0];
+    if k == 1 {
+        return class_frame(s);
+    }
+    if k == 2 {
+        return method_frame(s);
+    }
+    if k == 3 {
+        return main_frame(s);
+    }
+    Framed::Bad
+}
+
+// Number, parent, count of own fields, their types.
+pub fn class_frame(s: &[u8]) -> Framed
+    ensures { λ r. ⌜ r ≡ framedOf (classAfter (drop 1 (now (s .entry)))) ⌝ }
+{
+    if s.len() <= 3 {
+        return Framed::Bad;
+    }
+    let n = s[3];
+    if FIELD_COUNT < n {
+        return Framed::Bad;
+    }
+    let o = types_end(s, 4, wide(n));
+    let ReadExpr::Next(e) = o else {
+        return Framed::Bad;
+    };
+    if e < s.len() {
+        return Framed::Bad;
+    }
+    Framed::Good(Kind::Class)
+}
+
+// Owner, name, both result types, count of parameters, their types, both expressions.
+pub fn method_frame(s: &[u8]) -> Framed
+    ensures { λ r. ⌜ r ≡ framedOf (methodAfter (drop 1 (now (s .entry)))) ⌝ }
+{
+    if s.len() <= 7 {
+        return Framed::Bad;
+    }
+    if LARGEST_TAG < s[4] {
+        return Framed::Bad;
+    }
+    if LARGEST_TAG < s[6] {
+        return Framed::Bad;
+    }
+    let n = s[7];
+    if PARAM_COUNT < n {
+        return Framed::Bad;
+    }
+    let o = types_end(s, 8, wide(n));
+    let ReadExpr::Next(a) = o else {
+        return Framed::Bad;
+    };
+    let left = read_expr(s, a, NESTING_LIMIT);
+    let ReadExpr::Next(b) = left else {
+        return Framed::Bad;
+    };
+    let right = read_expr(s, b, NESTING_LIMIT);
+    let ReadExpr::Next(e) = right else {
+        return Framed::Bad;
+    };
+    if e < s.len() {
+        return Framed::Bad;
+    }
+    Framed::Good(Kind::Method(b))
+}
+
+pub fn main_frame(s: &[u8]) -> Framed
+    ensures { λ r. ⌜ r ≡ framedOf (mainAfter (drop 1 (now (s .entry)))) ⌝ }
+{
+    let o = read_expr(s, 1, NESTING_LIMIT);
+    let ReadExpr::Next(e) = o else {
+        return Framed::Bad;
+    };
+    if e < s.len() {
+        return Framed::Bad;
+    }
+    Framed::Good(Kind::Main)
+}

@@ -1,0 +1,6 @@
+// The line form: a text's characters, its lines as bytes, and their frames (refusals 1, 2 and 3).
+// Not here: the rules of a class table, which compare frames with each other (refusals 4 and 5).
+pub mod hex; // a digit, and a byte of two digits
+pub mod exprs; // types and expressions in a line, passed over
+pub mod frames; // one line's frame
+pub mod lines; // a text's lines: decoded, all framed, in order
