@@ -18,38 +18,44 @@ use Rattle.lineform.specs.declared.exprs.ReadExpr.the-variants.{Next, Re
 use Rattle.lineform.specs.declared.frames.Kind.the-variants.{Class, Method as MethodKind, Main}
 use Rattle.lineform.specs.declared.frames.Framed.{Framed}
 use Rattle.lineform.specs.declared.frames.Framed.the-variants.{Good, Bad}
+use Rattle.lineform.specs.declared.reader.AtPlace.{AtPlace}
+use Rattle.lineform.specs.declared.reader.AtPlace.the-variants.{Byte, End}
 use Rattle.lineform.specs.Answers.{endOf, framedOf}
+use Rattle.lineform.specs.Places.{byteOf}
 use Rattle.lineform.proofs.Ends.{more, no-more, read-to, read-none, between}
 use Rattle.lineform.proofs.ExprLaws.{expr-leaves, types-leaves}
 
 -- ---- the first byte
-pub frame-empty : (s : List ℕ) → length s ≡ 0 → Bad ≡ framedOf (frame s)
-unfolding frame
-frame-empty [] h = refl
-frame-empty (k ∷ r) h = absurd (omega arith)
-
-module _ (o : Framed) where
-  pub frame-class : (s : List ℕ) → (length s ≡ 0 → ⊥) → getD s 0 0 ≡ 1 → o ≡ framedOf (classAfter (drop 1 s)) → o ≡ framedOf (frame s)
+module _ (f : AtPlace) where
+  pub frame-empty : (s : List ℕ) → f ≡ byteOf s → f ≡ End → Bad ≡ framedOf (frame s)
   unfolding frame
-  frame-class [] h b e = absurd (h refl)
-  frame-class (k ∷ r) h b e = rw b e
+  frame-empty [] ef n = refl
+  frame-empty (b ∷ r) ef n = let z : _≡_ {A = ℕ} 0 1 = cc in absurd (omega arith)
 
-  pub frame-method : (s : List ℕ) → (length s ≡ 0 → ⊥) → getD s 0 0 ≡ 2 → o ≡ framedOf (methodAfter (drop 1 s)) → o ≡ framedOf (frame s)
-  unfolding frame
-  frame-method [] h b e = absurd (h refl)
-  frame-method (k ∷ r) h b e = rw b e
+  module _ (k : ℕ) (n : f ≡ Byte k) where
+    line-is : (s : List ℕ) → f ≡ byteOf s → s ≡ k ∷ drop 1 s
+    line-is [] ef = let z : _≡_ {A = ℕ} 0 1 = cc in absurd (omega arith)
+    line-is (b ∷ r) ef = let e : b ≡ k = cc in ap (λ (x : ℕ). x ∷ r) e
 
-  pub frame-main : (s : List ℕ) → (length s ≡ 0 → ⊥) → getD s 0 0 ≡ 3 → o ≡ framedOf (mainAfter (drop 1 s)) → o ≡ framedOf (frame s)
-  unfolding frame
-  frame-main [] h b e = absurd (h refl)
-  frame-main (k ∷ r) h b e = rw b e
+    module _ (s : List ℕ) (ef : f ≡ byteOf s) where
+      module _ (o : Framed) where
+        pub frame-class : k ≡ 1 → o ≡ framedOf (classAfter (drop 1 s)) → o ≡ framedOf (frame s)
+        unfolding frame
+        frame-class b e = e ∙ sym (ap (λ (x : List ℕ). framedOf (frame x)) (line-is s ef) ∙ rw b)
 
-pub frame-unknown : (s : List ℕ) → (length s ≡ 0 → ⊥) → ((getD s 0 0 ≡ 1) → ⊥) → ((getD s 0 0 ≡ 2) → ⊥) → ((getD s 0 0 ≡ 3) → ⊥) → Bad ≡ framedOf (frame s)
-unfolding frame
-frame-unknown [] h n1 n2 n3 = absurd (h refl)
-frame-unknown (k ∷ r) h n1 n2 n3 =
-    let e : frame (k ∷ r) ≡ none = rw (ne-eqb k 1 n1, ne-eqb k 2 n2, ne-eqb k 3 n3, frame, _>>=_) in
-    rw e
+        pub frame-method : k ≡ 2 → o ≡ framedOf (methodAfter (drop 1 s)) → o ≡ framedOf (frame s)
+        unfolding frame
+        frame-method b e = e ∙ sym (ap (λ (x : List ℕ). framedOf (frame x)) (line-is s ef) ∙ rw b)
+
+        pub frame-main : k ≡ 3 → o ≡ framedOf (mainAfter (drop 1 s)) → o ≡ framedOf (frame s)
+        unfolding frame
+        frame-main b e = e ∙ sym (ap (λ (x : List ℕ). framedOf (frame x)) (line-is s ef) ∙ rw b)
+
+      pub frame-unknown : ((k ≡ 1) → ⊥) → ((k ≡ 2) → ⊥) → ((k ≡ 3) → ⊥) → Bad ≡ framedOf (frame s)
+      unfolding frame
+      frame-unknown n1 n2 n3 =
+          let e : frame (k ∷ drop 1 s) ≡ none = rw (ne-eqb k 1 n1, ne-eqb k 2 n2, ne-eqb k 3 n3, frame, _>>=_) in
+          sym (ap (λ (x : List ℕ). framedOf (frame x)) (line-is s ef) ∙ rw e)
 
 -- ---- a class
 pub class-short : (s : List ℕ) → length s ≤ 3 → Bad ≡ framedOf (classAfter (drop 1 s))

@@ -7,3 +7,4 @@ pub mod DecodeLaws
 pub mod LineLaws
 pub mod OrderLaws
 pub mod Established
+pub mod WriteLaws

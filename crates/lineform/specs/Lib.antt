@@ -1,2 +1,4 @@
 pub mod Packed
 pub mod Answers
+pub mod Writes
+pub mod Places

@@ -6,12 +6,13 @@ ghost use Rattle.cofj.specs.Frames.{frame, classAfter, methodAfter, mainAfter};
 ghost use Rattle.lineform.specs.Answers.{framedOf};
 use crate::exprs::FIELD_COUNT;
 use crate::exprs::LARGEST_TAG;
-use crate::exprs::NESTING_LIMIT;
 use crate::exprs::PARAM_COUNT;
 use crate::exprs::ReadExpr;
-use crate::exprs::read_expr;
 use crate::exprs::types_end;
 use crate::exprs::wide;
+use crate::reader::AtPlace;
+use crate::reader::expr_at;
+use crate::reader::first_byte;
 
 pub enum Kind {
     Class,
@@ -27,10 +28,10 @@ pub enum Framed {
 pub fn frame_kind(s: &[u8]) -> Framed
     ensures { λ r. ⌜ r ≡ framedOf (frame (now (s .entry))) ⌝ }
 {
-    if s.len() == 0 {
+    let b = first_byte(s);
+    let AtPlace::Byte(k) = b else {
         return Framed::Bad;
-    }
-    let k = s[0];
+    };
     if k == 1 {
         return class_frame(s);
     }
@@ -85,11 +86,11 @@ pub fn method_frame(s: &[u8]) -> Framed
     let ReadExpr::Next(a) = o else {
         return Framed::Bad;
     };
-    let left = read_expr(s, a, NESTING_LIMIT);
+    let left = expr_at(s, a);
     let ReadExpr::Next(b) = left else {
         return Framed::Bad;
     };
-    let right = read_expr(s, b, NESTING_LIMIT);
+    let right = expr_at(s, b);
     let ReadExpr::Next(e) = right else {
         return Framed::Bad;
     };
@@ -102,7 +103,7 @@ pub fn method_frame(s: &[u8]) -> Framed
 pub fn main_frame(s: &[u8]) -> Framed
     ensures { λ r. ⌜ r ≡ framedOf (mainAfter (drop 1 (now (s .entry)))) ⌝ }
 {
-    let o = read_expr(s, 1, NESTING_LIMIT);
+    let o = expr_at(s, 1);
     let ReadExpr::Next(e) = o else {
         return Framed::Bad;
     };

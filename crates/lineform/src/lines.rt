@@ -21,7 +21,7 @@ const CLASS_COUNT: usize = 32;
 
 const METHOD_COUNT: usize = 64;
 
-const LF: u8 = 10;
+pub const LF: u8 = 10;
 
 pub enum Decoded {
     Packed(usize),

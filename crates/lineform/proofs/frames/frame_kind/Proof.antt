@@ -23,8 +23,10 @@ pub frame-kind-spec : {M : Type 1} → statement M
 frame-kind-spec =
     tie.close
     (tie.spec
-    returns
+    (λ c κs. search needs)
     (λ c. search needs)
+    (λ c. search needs)
+    returns
     (λ c κs. search needs)
     returns-2
     (λ c κs. search needs)

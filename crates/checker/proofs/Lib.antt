@@ -1,0 +1,13 @@
+pub mod ShapeLaws
+pub mod TypeLaws
+pub mod WalkLaws
+pub mod ProgramLaws
+pub mod Known
+pub mod OnBytes
+pub mod Lists
+pub mod Expressions
+pub mod Programs
+pub mod ReadFrames
+pub mod ReadTables
+pub mod Check
+pub mod Errors

@@ -1,0 +1,202 @@
+-- The check of a table's bytes is the language's check. Not here: that a table that was read is ready (ReadTables).
+use Prim.Native.Nat.{ℕ, suc, _+_, _<_, _≤_}
+use native.Mathlib.Omega.{arith}
+use mathlib.Core.Path.{_≡_, refl, ap, _∙_, subst}
+use mathlib.Core.Bool.{Bool, true, false, _&&_}
+use mathlib.Core.List.{List, [], _∷_}
+use mathlib.Core.Option.{Option, none, some, Option·none-ne-some}
+use lib.ListN.{length, getD, getElem?}
+use Rattle.cofj.specs.Limits.{methodCount, nestingLimit}
+use Rattle.cofj.specs.Partial.{_>>=_, guard}
+use Rattle.cofj.specs.Syntax.{Ty, ty, Method, Table}
+use Rattle.cofj.specs.Classes.{fits}
+use Rattle.cofj.specs.Typing.{Env, closeTag, typeOf, methodTyped, methodsTyped, mainType, mainOr7, refused, check}
+use Rattle.cofj.specs.Tables.{allKnown}
+use Rattle.cofj.specs.WellFormed.{MethodFormed}
+use Rattle.cofj.specs.Writing.{codeOf}
+use Rattle.classes.specs.declared.chain.FieldType.{FieldType}
+use Rattle.classes.specs.declared.chain.FieldFound.{FieldFound}
+use Rattle.classes.specs.Machine.{pick, paramOf, rowOf, leftOf, rightOf}
+use Rattle.classes.specs.Figures.{mainAt}
+use Rattle.classes.specs.Layout.{layout}
+use Rattle.classes.proofs.Zones.{method-count-at, owner-at, first-at, second-at, left-stands, right-stands, main-stands}
+use Rattle.checker.specs.declared.scope.Typed.{Typed}
+use Rattle.checker.specs.declared.scope.Typed.the-variants.{Has}
+use Rattle.checker.specs.declared.scope.Res.the-variants.{Absent, Class}
+use Rattle.checker.specs.declared.program.Checked.the-variants.{Refused}
+use Rattle.checker.specs.Types.{fitsType, foundAt}
+use Rattle.checker.specs.Machine.{typeIn}
+use Rattle.checker.specs.Program.{body, inMain, fitsFirst, fitsSecond, resultsFit, holds, rightTyped, methodIn, methodsFrom, methodsIn, mainOf, checkOf}
+use Rattle.checker.specs.Answers.{typedAt, answerOf}
+use Rattle.checker.specs.Ready.{Ready, MethodReady}
+use Rattle.checker.proofs.Known.{just, typed-known, method-at}
+use Rattle.checker.proofs.OnBytes.{fits-on, index-below, param-on}
+use Rattle.checker.proofs.Expressions.{Agree, found-typed, types-on}
+
+-- whether an answer is there
+abbrev there : Option (Unit {0}) → Bool
+there none = false
+there (some u) = true
+
+guarded : (b : Bool) → b ≡ there (guard b)
+guarded true = refl
+guarded false = refl
+
+-- the variables of main and of a body
+abbrev mainEnv : Env
+mainEnv = record { self = none; result = none; params = [] }
+
+abbrev bodyEnv : Method → Option Ty → Env
+bodyEnv d r = record { self = some (ty (d .owner) 0); result = r; params = d .params }
+
+nowhere : {A : Type 0} (x : A) {B : Type 0} → _≡_ {A = Option A} none (some x) → B
+nowhere x e = absurd (Option·none-ne-some x e)
+
+main-agree : (t : Table) → Agree t inMain true mainEnv
+unfolding allKnown
+main-agree t = record {
+  main = refl;
+  self = λ next. refl;
+  result = λ next. refl;
+  param = λ k next. refl;
+  known = record { self = λ u e. nowhere u e; result = λ u e. nowhere u e; params = refl };
+}
+
+four : (a b c d : Bool) → pick a (pick b (pick c d false) false) false ≡ a && b && c && d
+four true true true d = refl
+four true true false d = refl
+four true false c d = refl
+four false b c d = refl
+
+-- ---- method i, which is d
+module _ (t : Table) (rd : Ready t) (i : ℕ) (d : Method) (e : getElem? (t .methods) i ≡ some d) where
+  abbrev n : ℕ
+  n = length (t .classes)
+
+  ready : MethodReady n d
+  ready = method-at (MethodReady n) (t .methods) i d (rd .methods) e
+
+  formed : MethodFormed t d
+  formed = method-at (MethodFormed t) (t .methods) i d (rd .formed .methods) e
+
+  row : i < methodCount
+  row = let a = index-below (t .methods) i d e in let b = rd .count in omega arith
+
+  self-known : (u : Ty) → some (ty (d .owner) 0) ≡ some u → u .cls ≤ n
+  self-known u z = subst (λ (v : Ty). v .cls ≤ n) (just (ty (d .owner) 0) u z) (ready .owner)
+
+  param-typed : (k next : ℕ) → foundAt (paramOf (layout t) i k) next ≡ typedAt (getElem? (d .params) k) next
+  param-typed k next = ap (λ (w : FieldFound). foundAt w next) (param-on t i d row e (ready .few) k) ∙ found-typed (getElem? (d .params) k) next
+
+  left-agree : Agree t (body i Absent) false (bodyEnv d none)
+  left-agree = record {
+    main = refl;
+    self = λ next. ap (λ (c : ℕ). Has c 0 next) (owner-at t i d row e);
+    result = λ next. refl;
+    param = param-typed;
+    known = record { self = self-known; result = λ u z. nowhere u z; params = ready .params };
+  }
+
+  right-agree : (c : ℕ) → c ≤ n → Agree t (body i (Class c)) false (bodyEnv d (some (ty c 2)))
+  right-agree c h = record {
+    main = refl;
+    self = λ next. ap (λ (x : ℕ). Has x 0 next) (owner-at t i d row e);
+    result = λ next. refl;
+    param = param-typed;
+    known = record {
+      self = self-known;
+      result = λ u z. subst (λ (v : Ty). v .cls ≤ n) (just (ty c 2) u z) h;
+      params = ready .params;
+    };
+  }
+
+  -- the four conditions
+  first-fits : (u : Ty) → u .cls ≤ n → fitsFirst (layout t) i (u .cls) (u .tag) ≡ fits (t .classes) u (d .first)
+  unfolding fitsFirst
+  first-fits u h = ap (λ (x : FieldType). fitsType (layout t) (u .cls) (u .tag) x) (first-at t i d row e) ∙ fits-on t rd u (d .first) h
+
+  second-fits : (u : Ty) → u .cls ≤ n → fitsSecond (layout t) i (u .cls) (u .tag) ≡ fits (t .classes) u (d .second)
+  unfolding fitsSecond
+  second-fits u h = ap (λ (x : FieldType). fitsType (layout t) (u .cls) (u .tag) x) (second-at t i d row e) ∙ fits-on t rd u (d .second) h
+
+  both-fit : fitsSecond (layout t) i (getD (layout t) (rowOf i + 3) 0) (getD (layout t) (rowOf i + 3 + 1) 0) ≡ fits (t .classes) (d .first) (d .second)
+  both-fit = ap (λ (x : FieldType). fitsSecond (layout t) i (x .class) (x .tag)) (first-at t i d row e) ∙ second-fits (d .first) (ready .first)
+
+  abbrev conditions : Ty → Ty → Bool
+  conditions u v =
+      fits (t .classes) (ty (u .cls) (closeTag (u .tag))) (d .first)
+      && fits (t .classes) v (d .second)
+      && fits (t .classes) (d .first) (d .second)
+      && fits (t .classes) u (d .second)
+
+  results-on : (u v : Ty) → u .cls ≤ n → v .cls ≤ n → resultsFit (layout t) i (u .cls) (u .tag) (v .cls) (v .tag) ≡ conditions u v
+  unfolding resultsFit
+  results-on u v h k =
+      (λ j. pick (first-fits (ty (u .cls) (closeTag (u .tag))) h j) (pick (second-fits v k j) (pick (both-fit j) (second-fits u h j) false) false) false)
+      ∙ four (fits (t .classes) (ty (u .cls) (closeTag (u .tag))) (d .first)) (fits (t .classes) v (d .second)) (fits (t .classes) (d .first) (d .second)) (fits (t .classes) u (d .second))
+
+  -- the right side, given the left type
+  right-on : (u : Ty) → u .cls ≤ n → rightTyped (layout t) i (u .cls) (u .tag)
+      ≡ there (typeOf t false (bodyEnv d (some (ty (u .cls) 2))) (d .right) >>= λ v. guard (conditions u v))
+  unfolding rightTyped
+  right-on u h =
+      let g = bodyEnv d (some (ty (u .cls) 2)) in
+      let ag = right-agree (u .cls) h in
+      ap (λ (o : Typed). holds o (λ c k. resultsFit (layout t) i (u .cls) (u .tag) c k))
+      (types-on t rd (body i (Class (u .cls))) false g ag nestingLimit .types (d .right) (rightOf (layout t) i) (ready .right) (formed .rightKnown) (right-stands t i d row e (ready .short)))
+      ∙ go (typeOf t false g (d .right)) (rightOf (layout t) i + length (codeOf (d .right))) (λ v z. typed-known t rd false g (ag .known) (d .right) v (formed .rightKnown) z)
+    where
+      go : (o : Option Ty) (next : ℕ) → ((v : Ty) → o ≡ some v → v .cls ≤ n)
+          → holds (typedAt o next) (λ c k. resultsFit (layout t) i (u .cls) (u .tag) c k) ≡ there (o >>= λ v. guard (conditions u v))
+      go none next kn = refl
+      go (some v) next kn = results-on u v h (kn v refl) ∙ guarded (conditions u v)
+
+  pub method-on : methodIn (layout t) i ≡ there (methodTyped t d)
+  unfolding methodIn methodTyped
+  method-on =
+      let g = bodyEnv d none in
+      ap (λ (o : Typed). holds o (λ c k. rightTyped (layout t) i c k))
+      (types-on t rd (body i Absent) false g left-agree nestingLimit .types (d .left) (leftOf (layout t) i) (ready .left) (formed .leftKnown) (left-stands t i d row e (ready .short)))
+      ∙ go (typeOf t false g (d .left)) (leftOf (layout t) i + length (codeOf (d .left))) (λ u z. typed-known t rd false g (left-agree .known) (d .left) u (formed .leftKnown) z)
+    where
+      go : (o : Option Ty) (next : ℕ) → ((u : Ty) → o ≡ some u → u .cls ≤ n)
+          → holds (typedAt o next) (λ c k. rightTyped (layout t) i c k)
+          ≡ there (o >>= λ u. typeOf t false (bodyEnv d (some (ty (u .cls) 2))) (d .right) >>= λ v. guard (conditions u v))
+      go none next kn = refl
+      go (some u) next kn = right-on u (kn u refl)
+
+-- ---- the methods from number k on
+methods-on : (t : Table) → Ready t → (ds : List Method) (k : ℕ) → ((j : ℕ) → getElem? (t .methods) (k + j) ≡ getElem? ds j)
+    → methodsFrom (layout t) (length ds) k ≡ there (methodsTyped t ds)
+unfolding methodsFrom
+methods-on t rd [] k h = refl
+methods-on t rd (d ∷ ds) k h =
+    ap (λ (b : Bool). pick b (methodsFrom (layout t) (length ds) (suc k)) false)
+    (method-on t rd k d (ap (λ (x : ℕ). getElem? (t .methods) x) (let z : k ≡ k + 0 = omega arith in z) ∙ h 0))
+    ∙ go (methodTyped t d)
+    (methods-on t rd ds (suc k) (λ j. ap (λ (x : ℕ). getElem? (t .methods) x) (let z : suc k + j ≡ k + suc j = omega arith in z) ∙ h (suc j)))
+  where
+    go : (o : Option (Unit {0})) → methodsFrom (layout t) (length ds) (suc k) ≡ there (methodsTyped t ds)
+        → pick (there o) (methodsFrom (layout t) (length ds) (suc k)) false ≡ there (o >>= λ _. methodsTyped t ds)
+    go none ih = refl
+    go (some u) ih = ih
+
+-- ---- the program
+pub ready-check : (t : Table) → Ready t → checkOf (layout t) ≡ answerOf (check t)
+unfolding checkOf check
+ready-check t rd =
+    (λ i. pick (methods i) (mainOf (main i)) (Refused 6)) ∙ go (methodsTyped t (t .methods)) (mainType t) (mainAt + 1 + length (codeOf (t .main)))
+  where
+    methods : methodsIn (layout t) ≡ there (methodsTyped t (t .methods))
+    methods =
+        ap (λ (n : ℕ). methodsFrom (layout t) n 0) (method-count-at t)
+        ∙ methods-on t rd (t .methods) 0 (λ j. ap (λ (x : ℕ). getElem? (t .methods) x) (let z : 0 + j ≡ j = omega arith in z))
+
+    main : typeIn (layout t) nestingLimit inMain (mainAt + 1) ≡ typedAt (mainType t) (mainAt + 1 + length (codeOf (t .main)))
+    main = types-on t rd inMain true mainEnv (main-agree t) nestingLimit .types (t .main) (mainAt + 1) (rd .main) (rd .formed .mainKnown) (main-stands t (rd .short))
+
+    go : (o : Option (Unit {0})) (m : Option Ty) (next : ℕ)
+        → pick (there o) (mainOf (typedAt m next)) (Refused 6) ≡ answerOf (elim o [ none ↦ refused 6 | some u ↦ mainOr7 m ])
+    go none m next = refl
+    go (some u) none next = refl
+    go (some u) (some v) next = refl

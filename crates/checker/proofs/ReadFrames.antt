@@ -1,0 +1,243 @@
+-- What reading makes sure of in a line: its numbers are bytes, and its expressions are nested within the limit. Not here: tables (ReadTables).
+use Prim.Native.Nat.{ℕ, zero, suc, _+_, _*_, _-_, _≤_, _<_}
+use native.Mathlib.Omega.{arith}
+use mathlib.Core.Path.{_≡_, refl, sym, subst}
+use mathlib.Core.Bool.{Bool, true, false}
+use mathlib.Core.List.{List, [], _∷_, _++_, reverse, reverseAux}
+use mathlib.Core.Option.{Option, none, some, Option·none-ne-some}
+use lib.Dec.{eqb, leb}
+use lib.ListN.{length, length-reverse}
+use borrow.Author.Tests.{leb-true}
+use Rattle.cofj.specs.Limits.{lineSize, fieldCount, paramCount, nestingLimit}
+use Rattle.cofj.specs.Partial.{_>>=_}
+use Rattle.cofj.specs.Syntax.{Expr, param, Exprs, Ty, Method}
+use Rattle.cofj.specs.Text.{within, digit, endLine, linesFrom}
+use Rattle.cofj.specs.Frames.{Got, Reader, got, byte, upTo, type, types, exprsBy, fieldAfter, callAfter, newAfter, exprAfter, expr, TextFrame, classFrame, methodFrame, mainFrame, whole, classAfter, methodAfter, mainAfter, frame, frames}
+use Rattle.cofj.specs.Writing.{typesBytes}
+use Rattle.cofj.proofs.Partial.{opt-bind, guard-bind}
+use Rattle.cofj.proofs.Partial.{taken}
+use Rattle.cofj.proofs.TextRound.{within-true, Bytes, Lines}
+use Rattle.cofj.proofs.FrameRound.{pair, given, same, taken-as, type-back, types-back, lineOf, frame-back}
+use Rattle.checker.specs.Ready.{Each, Parts, Nested}
+
+-- ---- lines
+digit-small : (c d : ℕ) → digit c ≡ some d → d ≤ 15
+digit-small c d e = go (within 48 57 c) refl (within 65 70 c) refl e
+  where
+    go : (x : Bool) → within 48 57 c ≡ x → (y : Bool) → within 65 70 c ≡ y
+        → _≡_ {A = Option ℕ} (elim x [ true ↦ some (c - 48) | false ↦ elim y [ true ↦ some (c - 55) | false ↦ none ] ]) (some d) → d ≤ 15
+    go true p y q z =
+        let w : c - 48 ≡ d = cc in
+        let r = within-true 48 57 c p .1 in
+        omega arith
+    go false p true q z =
+        let w : c - 55 ≡ d = cc in
+        let r = within-true 65 70 c q .1 in
+        omega arith
+    go false p false q z = absurd (Option·none-ne-some d z)
+
+bytes-reverse : (bs r : List ℕ) → Bytes bs → Bytes r → Bytes (reverseAux bs r)
+bytes-reverse [] r h k = k
+bytes-reverse (b ∷ bs) r h k = bytes-reverse bs (b ∷ r) (h .1) (h .0, k)
+
+abbrev Waiting : Option ℕ → Type 0
+Waiting none = Unit {0}
+Waiting (some h) = h ≤ 15
+
+pub lines-read : (s : List ℕ) (p : Option ℕ) (bs : List ℕ) (ls : List (List ℕ)) → linesFrom s p bs ≡ some ls → Waiting p → Bytes bs → Lines ls
+unfolding linesFrom
+lines-read [] none [] ls e w h = let y : some [] ≡ some ls = e in subst Lines (let q : [] ≡ ls = cc in q) tt
+lines-read [] none (b ∷ bs) ls e w h = absurd (Option·none-ne-some ls e)
+lines-read [] (some d) bs ls e w h = absurd (Option·none-ne-some ls e)
+lines-read (c ∷ cs) none bs ls e w h = go (eqb c 10) e (λ ms z. lines-read cs none [] ms z tt tt) (λ d z l. lines-read cs (some d) bs ls z l h)
+  where
+    go : (x : Bool)
+        → _≡_ {A = Option (List (List ℕ))} (elim x [ true ↦ endLine none bs (linesFrom cs none []) | false ↦ digit c >>= λ d. linesFrom cs (some d) bs ]) (some ls)
+        → ((ms : List (List ℕ)) → linesFrom cs none [] ≡ some ms → Lines ms)
+        → ((d : ℕ) → linesFrom cs (some d) bs ≡ some ls → d ≤ 15 → Lines ls) → Lines ls
+    go true z ended onward =
+        let a = guard-bind (within 1 lineSize (length bs)) (λ _. linesFrom cs none [] >>= λ ms. some (reverse bs ∷ ms)) ls z in
+        let b = opt-bind (linesFrom cs none []) (λ ms. some (reverse bs ∷ ms)) ls (a .1) in
+        let l = within-true 1 lineSize (length bs) (a .0) in
+        let q : length (reverse bs) ≡ length bs = length-reverse bs in
+        subst Lines (let y : reverse bs ∷ b .0 ≡ ls = cc (b .2) in y)
+        (subst (λ (k : ℕ). 1 ≤ k) (sym q) (l .0), subst (λ (k : ℕ). k ≤ lineSize) (sym q) (l .1), bytes-reverse bs [] h tt, ended (b .0) (b .1))
+    go false z ended onward =
+        let a = opt-bind (digit c) (λ d. linesFrom cs (some d) bs) ls z in
+        onward (a .0) (a .2) (digit-small c (a .0) (a .1))
+lines-read (c ∷ cs) (some k) bs ls e w h = go (eqb c 10) e (λ d z l. lines-read cs none ((16 * k + d) ∷ bs) ls z tt (let q : 16 * k + d < 256 = omega arith in q, h))
+  where
+    go : (x : Bool) → _≡_ {A = Option (List (List ℕ))} (elim x [ true ↦ none | false ↦ digit c >>= λ d. linesFrom cs none ((16 * k + d) ∷ bs) ]) (some ls)
+        → ((d : ℕ) → linesFrom cs none ((16 * k + d) ∷ bs) ≡ some ls → d ≤ 15 → Lines ls) → Lines ls
+    go true z onward = absurd (Option·none-ne-some ls z)
+    go false z onward =
+        let a = opt-bind (digit c) (λ d. linesFrom cs none ((16 * k + d) ∷ bs)) ls z in
+        onward (a .0) (a .2) (digit-small c (a .0) (a .1))
+
+-- ---- steps of a reader
+bytes-after : (xs ys : List ℕ) → Bytes (xs ++ ys) → Bytes ys
+bytes-after [] ys h = h
+bytes-after (x ∷ xs) ys h = bytes-after xs ys (h .1)
+
+branch : {B C : Type 0} (t : Bool) (o p : Option B) (b : B) → _≡_ {A = Option B} (elim t [ true ↦ o | false ↦ p ]) (some b) → (o ≡ some b → C) → (p ≡ some b → C) → C
+branch true o p b e yea nay = yea e
+branch false o p b e yea nay = nay e
+
+up-to : (n k : ℕ) (bs : List ℕ) (g : Got ℕ) → upTo n (k ∷ bs) ≡ some g → (g ≡ pair k bs) × (k ≤ n)
+up-to n k bs g e =
+    let a = guard-bind (leb k n) (λ _. got k bs) g e in
+    (same (pair k bs) g (a .1), leb-true k n (a .0))
+
+-- ---- expressions
+abbrev Good : {A : Type 0} → (A → Type 0) → Got A → Type 0
+Good P g = P (g .item) × Bytes (g .rest)
+
+module _ (one : Reader Expr) (P : Expr → Type 0) (ih : (bs : List ℕ) (g : Got Expr) → one bs ≡ some g → Bytes bs → Good P g) where
+  exprs-good : (n : ℕ) (bs : List ℕ) (g : Got Exprs) → exprsBy one n bs ≡ some g → Bytes bs → Good (Each P) g
+  unfolding exprsBy
+  exprs-good zero bs g e h = given (Good (Each P)) _ g e (tt, h)
+  exprs-good (suc n) bs g e h =
+      taken (one bs) g e λ x q e1.
+      taken (exprsBy one n (x .rest)) g e1 λ xs r e2.
+      let a = ih bs x q h in
+      let b = exprs-good n (x .rest) xs r (a .1) in
+      given (Good (Each P)) _ g e2 ((a .0, b .0), b .1)
+
+  field-good : (bs : List ℕ) (g : Got Expr) → fieldAfter one bs ≡ some g → Bytes bs → Good (Parts P) g
+  unfolding fieldAfter
+  field-good [] g e h = absurd (Option·none-ne-some g e)
+  field-good (f ∷ bs) g e h = taken (one bs) g e λ x q e1. given (Good (Parts P)) _ g e1 (ih bs x q (h .1))
+
+  call-good : (bs : List ℕ) (g : Got Expr) → callAfter one bs ≡ some g → Bytes bs → Good (Parts P) g
+  unfolding callAfter
+  call-good [] g e h = absurd (Option·none-ne-some g e)
+  call-good (m ∷ []) g e h = absurd (Option·none-ne-some g e)
+  call-good (m ∷ k ∷ bs) g e h =
+      let e1 = taken-as (upTo paramCount (k ∷ bs)) _ g (pair k bs) e (λ n q. up-to paramCount k bs n q .0) in
+      taken (one bs) g e1 λ x q e2.
+      taken (exprsBy one k (x .rest)) g e2 λ xs r e3.
+      let a = ih bs x q (h .1 .1) in
+      let b = exprs-good k (x .rest) xs r (a .1) in
+      given (Good (Parts P)) _ g e3 ((h .0, a .0, b .0), b .1)
+
+  new-good : (bs : List ℕ) (g : Got Expr) → newAfter one bs ≡ some g → Bytes bs → Good (Parts P) g
+  unfolding newAfter
+  new-good [] g e h = absurd (Option·none-ne-some g e)
+  new-good (c ∷ []) g e h = absurd (Option·none-ne-some g e)
+  new-good (c ∷ k ∷ bs) g e h =
+      let e1 = taken-as (upTo fieldCount (k ∷ bs)) _ g (pair k bs) e (λ n q. up-to fieldCount k bs n q .0) in
+      taken (exprsBy one k bs) g e1 λ xs r e2.
+      given (Good (Parts P)) _ g e2 (exprs-good k bs xs r (h .1 .1))
+
+  param-good : (bs : List ℕ) (g : Got Expr) → byte bs >>= (λ k. got (param (k .item)) (k .rest)) ≡ some g → Bytes bs → Good (Parts P) g
+  param-good [] g e h = absurd (Option·none-ne-some g e)
+  param-good (k ∷ bs) g e h = given (Good (Parts P)) _ g e (tt, h .1)
+
+  after-good : (b : ℕ) (bs : List ℕ) (g : Got Expr) → exprAfter one b bs ≡ some g → Bytes bs → Good (Parts P) g
+  unfolding exprAfter
+  after-good b bs g e h =
+      branch (eqb b 0x40) _ _ g e (λ z. given (Good (Parts P)) _ g z (tt, h)) λ e1.
+      branch (eqb b 0x41) _ _ g e1 (λ z. given (Good (Parts P)) _ g z (tt, h)) λ e2.
+      branch (eqb b 0x42) _ _ g e2 (λ z. param-good bs g z h) λ e3.
+      branch (eqb b 0x43) _ _ g e3 (λ z. field-good bs g z h) λ e4.
+      branch (eqb b 0x44) _ _ g e4 (λ z. call-good bs g z h) λ e5.
+      branch (eqb b 0x45) _ _ g e5 (λ z. new-good bs g z h) λ e6. absurd (Option·none-ne-some g e6)
+
+expr-good : (n : ℕ) (bs : List ℕ) (g : Got Expr) → expr n bs ≡ some g → Bytes bs → Good (Nested n) g
+unfolding expr Nested
+expr-good zero bs g e h = absurd (Option·none-ne-some g e)
+expr-good (suc n) [] g e h = absurd (Option·none-ne-some g e)
+expr-good (suc n) (b ∷ bs) g e h = after-good (λ xs. expr n xs) (Nested n) (expr-good n) b bs g e (h .1)
+
+-- ---- frames within the limits
+pub record Body (d : Method) : Type 0 where
+  pub few : length (d .params) ≤ paramCount
+  pub left : Nested nestingLimit (d .left)
+  pub right : Nested nestingLimit (d .right)
+
+abbrev pub Within : TextFrame → Type 0
+Within (classFrame c) = Unit {0}
+Within (methodFrame d) = Body d
+Within (mainFrame e) = Nested nestingLimit e
+
+whole-item : {A : Type 0} (g : Got A) (a : A) → whole g ≡ some a → g .item ≡ a
+whole-item {A} g a e = go (g .rest) e
+  where
+    go : (r : List ℕ) → _≡_ {A = Option A} (elim r [ [] ↦ some (g .item) | b ∷ bs ↦ none ]) (some a) → g .item ≡ a
+    go [] z = sym (same (g .item) a z)
+    go (b ∷ bs) z = absurd (Option·none-ne-some a z)
+
+class-within : (bs : List ℕ) (f : TextFrame) → classAfter bs ≡ some f → Within f
+unfolding classAfter
+class-within bs f e =
+    taken (byte bs) f e λ c _ e1.
+    taken (byte (c .rest)) f e1 λ p _ e2.
+    taken (upTo fieldCount (p .rest)) f e2 λ n _ e3.
+    taken (types (n .item) (n .rest)) f e3 λ ts _ e4.
+    taken (whole ts) f e4 λ own _ e5. given Within _ f e5 tt
+
+main-within : (bs : List ℕ) (f : TextFrame) → mainAfter bs ≡ some f → Bytes bs → Within f
+unfolding mainAfter
+main-within bs f e h =
+    taken (expr nestingLimit bs) f e λ x q e1.
+    taken (whole x) f e1 λ main w e2.
+    given Within _ f e2 (subst (Nested nestingLimit) (whole-item x main w) (expr-good nestingLimit bs x q h .0))
+
+type-bytes : (bs : List ℕ) (a : Got Ty) → type bs ≡ some a → Bytes bs → Bytes (a .rest)
+type-bytes bs a q h = subst Bytes (sym (type-back bs a q)) h .1 .1
+
+up-to-bytes : (n : ℕ) (bs : List ℕ) (g : Got ℕ) → upTo n bs ≡ some g → Bytes bs → (g .item ≤ n) × Bytes (g .rest)
+up-to-bytes n [] g e h = absurd (Option·none-ne-some g e)
+up-to-bytes n (k ∷ bs) g e h =
+    let a = up-to n k bs g e in
+    subst (λ (x : Got ℕ). (x .item ≤ n) × Bytes (x .rest)) (sym (a .0)) (a .1, h .1)
+
+method-within : (bs : List ℕ) (f : TextFrame) → methodAfter bs ≡ some f → Bytes bs → Within f
+unfolding methodAfter
+method-within [] f e h = absurd (Option·none-ne-some f e)
+method-within (o ∷ []) f e h = absurd (Option·none-ne-some f e)
+method-within (o ∷ m ∷ bs) f e h =
+    taken (type bs) f e λ a q1 e1.
+    taken (type (a .rest)) f e1 λ b q2 e2.
+    taken (upTo paramCount (b .rest)) f e2 λ n q3 e3.
+    taken (types (n .item) (n .rest)) f e3 λ ts q4 e4.
+    taken (expr nestingLimit (ts .rest)) f e4 λ l q5 e5.
+    taken (expr nestingLimit (l .rest)) f e5 λ r q6 e6.
+    taken (whole r) f e6 λ right w e7.
+    let h2 = type-bytes (a .rest) b q2 (type-bytes bs a q1 (h .1 .1)) in
+    let h3 = up-to-bytes paramCount (b .rest) n q3 h2 in
+    let t4 = types-back (n .item) (n .rest) ts q4 in
+    let h4 = bytes-after (typesBytes (ts .item)) (ts .rest) (subst Bytes (sym (t4 .0)) (h3 .1)) in
+    let h5 = expr-good nestingLimit (ts .rest) l q5 h4 in
+    let h6 = expr-good nestingLimit (l .rest) r q6 (h5 .1) in
+    given Within _ f e7
+    (record {
+      few = subst (λ (k : ℕ). k ≤ paramCount) (sym (t4 .1)) (h3 .0);
+      left = h5 .0;
+      right = subst (Nested nestingLimit) (whole-item r right w) (h6 .0);
+    })
+
+pub frame-within : (l : List ℕ) (f : TextFrame) → frame l ≡ some f → Bytes l → Within f
+unfolding frame
+frame-within [] f e h = absurd (Option·none-ne-some f e)
+frame-within (k ∷ bs) f e h =
+    branch (eqb k 1) _ _ f e (λ z. class-within bs f z) λ e1.
+    branch (eqb k 2) _ _ f e1 (λ z. method-within bs f z (h .1)) λ e2.
+    branch (eqb k 3) _ _ f e2 (λ z. main-within bs f z (h .1)) λ e3. absurd (Option·none-ne-some f e3)
+
+-- a frame's line is short
+abbrev pub Short : TextFrame → Type 0
+Short f = Within f × (length (lineOf f) ≤ lineSize)
+
+abbrev pub AllShort : List TextFrame → Type 0
+AllShort [] = Unit {0}
+AllShort (f ∷ fs) = Short f × AllShort fs
+
+pub frames-within : (ls : List (List ℕ)) (fs : List TextFrame) → frames ls ≡ some fs → Lines ls → AllShort fs
+unfolding frames
+frames-within [] fs e h = given AllShort _ fs e tt
+frames-within (l ∷ ls) fs e h =
+    taken (frame l) fs e λ f q e1.
+    taken (frames ls) fs e1 λ gs r e2.
+    given AllShort _ fs e2
+    ((frame-within l f q (h .2), subst (λ (k : List ℕ). length k ≤ lineSize) (sym (frame-back l f q)) (h .1)), frames-within ls gs r (h .3))

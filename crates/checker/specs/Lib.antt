@@ -1,0 +1,6 @@
+pub mod Shapes
+pub mod Types
+pub mod Machine
+pub mod Program
+pub mod Answers
+pub mod Ready

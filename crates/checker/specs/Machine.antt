@@ -1,0 +1,86 @@
+-- The type of an expression in a table's bytes B, at the code's grain: a step over what types the expressions nested less deep.
+-- Not here: that on the bytes of an expression this is the language's typeOf (proofs/Expressions).
+use mathlib.Core.Bool.{Bool, true, false}
+use mathlib.Core.List.{List}
+use Prim.Native.Nat.{ℕ, zero, suc, _+_, _*_}
+use lib.ListN.{getD}
+use lib.Dec.{eqb}
+use Rattle.cofj.specs.Typing.{closedTag}
+use Rattle.classes.specs.declared.chain.FieldType.{FieldType}
+use Rattle.classes.specs.declared.methods.Found.{Found}
+use Rattle.classes.specs.declared.methods.Found.the-variants as method
+use Rattle.classes.specs.Machine.{pick, fieldOf}
+use Rattle.checker.specs.declared.fits.Items.{Items}
+use Rattle.checker.specs.declared.fits.Items.the-variants.{Parameters, Fields}
+use Rattle.checker.specs.declared.scope.Typed.{Typed}
+use Rattle.checker.specs.declared.scope.Typed.the-variants.{Has, No}
+use Rattle.checker.specs.declared.scope.Scope.{Scope}
+use Rattle.checker.specs.declared.expr.Listed.{Listed}
+use Rattle.checker.specs.declared.expr.Listed.the-variants as list
+use Rattle.checker.specs.declared.shape.Shape.{Shape}
+use Rattle.checker.specs.declared.shape.Shape.the-variants as shape
+use Rattle.checker.specs.Shapes.{shapeAt}
+use Rattle.checker.specs.Types.{itemFits, receiverOf, resultOf, foundAt, thisOf, resOf, paramVar}
+
+-- what types the expression at a place
+abbrev pub Walk : Type 0
+Walk = ℕ → Typed
+
+-- goes on with a type; no type is the answer of the whole
+abbrev pub typed : Typed → (ℕ → ℕ → ℕ → Typed) → Typed
+typed (Has c g next) go = go c g next
+typed No go = No
+
+abbrev pub listed : Typed → (ℕ → ℕ → ℕ → Listed) → Listed
+listed (Has c g next) go = go c g next
+listed No go = list.No
+
+-- n expressions, each fitting its item from item k on
+unfoldable pub listBy : List ℕ → Walk → Items → ℕ → ℕ → Bool → ℕ → Listed
+listBy B one items k zero closed at = list.Past closed at
+listBy B one items k (suc n) closed at =
+    listed (one at)
+    (λ c g next. pick (itemFits B items k c g) (listBy B one items (k + 1) n (pick (closedTag g) closed false) next) list.No)
+
+unfoldable pub fieldBy : List ℕ → Walk → ℕ → ℕ → Typed
+fieldBy B one f at = typed (one at) (λ c g next. pick (eqb g 0) (foundAt (fieldOf B c f) next) No)
+
+abbrev pub resultAt : FieldType → ℕ → Typed
+resultAt u next = Has (u .class) (u .tag) next
+
+-- arguments have closed tags
+abbrev pub argsThen : List ℕ → Bool → ℕ → Listed → Typed
+argsThen B top i (list.Past closed next) = pick closed (resultAt (resultOf B top i) next) No
+argsThen B top i list.No = No
+
+unfoldable pub argsBy : List ℕ → Walk → Bool → ℕ → ℕ → ℕ → Typed
+argsBy B one top i n at = argsThen B top i (listBy B one (Parameters i) 0 n true at)
+
+abbrev pub calledBy : List ℕ → Walk → Bool → ℕ → ℕ → Found → Typed
+calledBy B one top n at (method.At i) = argsBy B one top i n at
+calledBy B one top n at method.Nothing = No
+
+unfoldable pub callBy : List ℕ → Walk → Bool → ℕ → ℕ → ℕ → Typed
+callBy B one top m n at = typed (one at) (λ c g next. calledBy B one top n next (receiverOf B c g m n))
+
+-- an object is open if a value is
+abbrev pub newThen : ℕ → Listed → Typed
+newThen c (list.Past closed next) = pick closed (Has c 0 next) (Has c 1 next)
+newThen c list.No = No
+
+unfoldable pub newBy : List ℕ → Walk → ℕ → ℕ → ℕ → Typed
+newBy B one c n at = pick (eqb (getD B (16 * c + 1) 0) n) (newThen c (listBy B one (Fields c) 0 n true at)) No
+
+abbrev pub stepBy : List ℕ → Walk → Scope → Shape → Typed
+stepBy B one s (shape.This next) = thisOf B s next
+stepBy B one s (shape.Result next) = resOf s next
+stepBy B one s (shape.Parameter k next) = paramVar B s k next
+stepBy B one s (shape.Field f next) = fieldBy B one f next
+stepBy B one s (shape.Call m n next) = callBy B one (s .main) m n next
+stepBy B one s (shape.New c n next) = newBy B one c n next
+stepBy B one s shape.Nothing = No
+
+-- an expression nested at most `left` deep
+unfoldable pub typeIn : List ℕ → ℕ → Scope → Walk
+typeIn B zero s at = No
+typeIn B (suc left) s at = stepBy B (typeIn B left s) s (shapeAt B at)

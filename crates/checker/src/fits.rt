@@ -1,0 +1,122 @@
+// Type fit, tags, and what a call or a list asks of a type. Not here: class fit and lookup (classes).
+use classes::chain::FieldFound;
+use classes::chain::FieldType;
+use classes::chain::field_type;
+use classes::chain::fit;
+use classes::methods::Found;
+use classes::methods::first;
+use classes::methods::lookup;
+use classes::methods::param_count;
+use classes::methods::param_type;
+use classes::methods::second;
+use classes::places::SIZE;
+ghost use mathlib.Core.Path.{_≡_};
+ghost use lib.Dec.{leb};
+ghost use Rattle.cofj.specs.Typing.{closedTag, closeTag};
+ghost use Rattle.checker.specs.Types.{fitsType, narrowTag, wantedOf, itemFits, receiverOf, resultOf};
+
+// The types that a list of expressions is to fit: a method's parameters or a class's fields.
+pub enum Items {
+    Parameters(u8),
+    Fields(u8),
+}
+
+// Whether tag g is not larger than tag h.
+pub fn tag_fits(g: u8, h: u8) -> bool
+    ensures { λ r. ⌜ r ≡ leb g h ⌝ }
+{
+    g <= h
+}
+
+// Whether a type fits d: its class fits, and its tag is not larger.
+pub fn fits(t: &[u8; SIZE], class: u8, tag: u8, d: FieldType) -> bool
+    ensures { λ r. ⌜ r ≡ fitsType (now (t .entry)) class tag d ⌝ }
+{
+    if !tag_fits(tag, d.tag) {
+        return false;
+    }
+    let c = d.class;
+    fit(t, class, c)
+}
+
+// Tags 0 and 3 are closed.
+pub fn closed_tag(g: u8) -> bool
+    ensures { λ r. ⌜ r ≡ closedTag g ⌝ }
+{
+    if g == 0 {
+        return true;
+    }
+    g == 3
+}
+
+// An open tag read as 0, for an item of a list.
+pub fn narrow(g: u8) -> u8
+    ensures { λ r. ⌜ r ≡ narrowTag g ⌝ }
+{
+    if closed_tag(g) {
+        return g;
+    }
+    0
+}
+
+// 1 read as 0 and 2 as 3.
+pub fn close_tag(g: u8) -> u8
+    ensures { λ r. ⌜ r ≡ closeTag g ⌝ }
+{
+    if g == 1 {
+        return 0;
+    }
+    if g == 2 {
+        return 3;
+    }
+    g
+}
+
+// The type that item k of a list is to fit.
+pub fn wanted(t: &[u8; SIZE], items: Items, k: u8) -> FieldFound
+    ensures { λ r. ⌜ r ≡ wantedOf (now (t .entry)) items k ⌝ }
+{
+    match items {
+        Items::Parameters(i) => param_type(t, i, k),
+        Items::Fields(c) => field_type(t, c, k),
+    }
+}
+
+// Whether a type, an open tag read as 0, fits item k of a list.
+pub fn item_fits(t: &[u8; SIZE], items: Items, k: u8, class: u8, tag: u8) -> bool
+    ensures { λ r. ⌜ r ≡ itemFits (now (t .entry)) items k class tag ⌝ }
+{
+    let w = wanted(t, items, k);
+    let FieldFound::Type(d) = w else {
+        return false;
+    };
+    let g = narrow(tag);
+    fits(t, class, g, d)
+}
+
+// The method m with n parameters that a receiver of this type has.
+pub fn receiver(t: &[u8; SIZE], class: u8, tag: u8, m: u8, n: u8) -> Found
+    ensures { λ r. ⌜ r ≡ receiverOf (now (t .entry)) class tag m n ⌝ }
+{
+    if tag != 0 {
+        return Found::Nothing;
+    }
+    let f = lookup(t, class, m);
+    let Found::At(i) = f else {
+        return Found::Nothing;
+    };
+    if param_count(t, i) != n {
+        return Found::Nothing;
+    }
+    Found::At(i)
+}
+
+// The type of a call of method i: the first result type in main, the second in a body.
+pub fn result_type(t: &[u8; SIZE], main: bool, i: u8) -> FieldType
+    ensures { λ r. ⌜ r ≡ resultOf (now (t .entry)) main i ⌝ }
+{
+    if main {
+        return first(t, i);
+    }
+    second(t, i)
+}

@@ -1,0 +1,81 @@
+// The variables of an expression: none in main; this, the parameters and, on the right side, res in a body.
+use classes::chain::FieldFound;
+use classes::methods::owner;
+use classes::methods::param_type;
+use classes::places::SIZE;
+ghost use mathlib.Core.Path.{_≡_};
+ghost use Rattle.checker.specs.Types.{foundAt, thisOf, resOf, paramVar};
+
+// The type of an expression and the place after it.
+pub enum Typed {
+    Has { class: u8, tag: u8, next: usize },
+    No,
+}
+
+// The class of the left type, which res has on the right side.
+pub enum Res {
+    Absent,
+    Class(u8),
+}
+
+// Where an expression stands: in main, or in a body of a method.
+pub struct Scope {
+    pub main: bool,
+    pub method: u8,
+    pub res: Res,
+}
+
+// A type that was found or not, with the place after.
+pub fn found(w: FieldFound, next: usize) -> Typed
+    ensures { λ r. ⌜ r ≡ foundAt w next ⌝ }
+{
+    let FieldFound::Type(d) = w else {
+        return Typed::No;
+    };
+    Typed::Has {
+        class: d.class,
+        tag: d.tag,
+        next,
+    }
+}
+
+// The type of this: owner+.
+pub fn this_type(t: &[u8; SIZE], scope: Scope, next: usize) -> Typed
+    ensures { λ r. ⌜ r ≡ thisOf (now (t .entry)) scope next ⌝ }
+{
+    if scope.main {
+        return Typed::No;
+    }
+    let i = scope.method;
+    Typed::Has {
+        class: owner(t, i),
+        tag: 0,
+        next,
+    }
+}
+
+// The type of res: the class of the left type with tag 2.
+pub fn res_type(scope: Scope, next: usize) -> Typed
+    ensures { λ r. ⌜ r ≡ resOf scope next ⌝ }
+{
+    let res = scope.res;
+    let Res::Class(c) = res else {
+        return Typed::No;
+    };
+    Typed::Has {
+        class: c,
+        tag: 2,
+        next,
+    }
+}
+
+// The type of parameter k.
+pub fn param_var(t: &[u8; SIZE], scope: Scope, k: u8, next: usize) -> Typed
+    ensures { λ r. ⌜ r ≡ paramVar (now (t .entry)) scope k next ⌝ }
+{
+    if scope.main {
+        return Typed::No;
+    }
+    let i = scope.method;
+    found(param_type(t, i, k), next)
+}

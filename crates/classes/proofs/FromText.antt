@@ -1,0 +1,230 @@
+-- From packed lines that are frames in order (refusals 1 to 3 passed) to what the table's builder needs of them.
+use Prim.Native.Nat.{ℕ, zero, suc, _+_, _-_, _<_, _≤_, zero-le}
+use native.Mathlib.Nat.{not-suc-le-zero}
+use native.Mathlib.Omega.{arith}
+use mathlib.Core.Path.{_≡_, refl, sym, ap, ap₂, _∙_, subst}
+use mathlib.Core.Bool.{Bool, true, false, _&&_, not}
+use mathlib.Core.List.{List, [], _∷_, _++_, map}
+use mathlib.Core.Option.{Option, none, some, Option·none-ne-some}
+use lib.Dec.{eqb, leb, ltb}
+use lib.ListN.{length, getD, getElem?, List·getD-append, List·getD-eq-default}
+use lib.Seq.{getD-append-add}
+use borrow.Author.Tests.{leb-true, ltb-true, ltb-false}
+use Rattle.cofj.specs.Limits.{classCount, methodCount, paramCount, lineSize, nestingLimit}
+use Rattle.cofj.specs.Partial.{_>>=_, guard}
+use Rattle.cofj.specs.Syntax.{Expr, Ty, Class, Method, Table}
+use Rattle.cofj.specs.Classes.{parentOf, parentOr0}
+use Rattle.cofj.specs.Frames.{Got, got, upTo, type, types, expr, ClassFrame, TextFrame, classFrame, methodFrame, mainFrame, frame, frames}
+use Rattle.cofj.specs.Tables.{Raw, raw, inFront, ordered, few, numbered, bodies, exprKnown, classesGood, hasName, methodsGood, table, overridesGood}
+use Rattle.cofj.specs.Writing.{codeOf, typesBytes, methodLine, methodLines}
+use Rattle.cofj.specs.WellFormed.{AllMethods}
+use Rattle.cofj.proofs.Partial.{and-true}
+use Rattle.cofj.proofs.Chain.{ParentsSmaller}
+use Rattle.cofj.proofs.Partial.{opt-bind, guard-bind}
+use Rattle.cofj.proofs.Partial.{taken}
+use Rattle.cofj.proofs.FrameRound.{pair, taken-as, given, same, type-forth, types-forth, expr-forth, lineOf, frame-back}
+use Rattle.lineform.specs.Packed.{packed, unpack, Sized, none as no-lines, also as and-line, Packed}
+use Rattle.lineform.proofs.PackedLaws.{unpack-packed}
+use Rattle.classes.specs.Layout.{layout}
+use Rattle.classes.specs.Building.{tablePlaced}
+use Rattle.classes.specs.Overriding.{overridesOf}
+use Rattle.classes.specs.Placing.{Placed}
+use Rattle.classes.specs.Made.{Lined, Zeros, Makes, Built, Overrides}
+use Rattle.classes.proofs.ClassLines.{classLinesOf}
+use Rattle.classes.proofs.MethodLines.{Framed, owner-in}
+use Rattle.classes.proofs.TableLines.{rawLines, Short, length-bodies, table-lines}
+use Rattle.classes.proofs.OnOverrides.{Shaped, overrides-on}
+
+-- ---- a method's line that is read: its parameters are few, and its left expression ends where the right one begins
+upto-forth : (n k : ℕ) (bs : List ℕ) (g : Got ℕ) → upTo n (k ∷ bs) ≡ some g → g ≡ pair k bs
+upto-forth n k bs g e = same (pair k bs) g (guard-bind (leb k n) (λ _. got k bs) g e .1)
+
+upto-few : (n k : ℕ) (bs : List ℕ) (g : Got ℕ) → upTo n (k ∷ bs) ≡ some g → k ≤ n
+upto-few n k bs g e = leb-true k n (guard-bind (leb k n) (λ _. got k bs) g e .0)
+
+pub record Reads (d : Method) : Type 0 where
+  pub params : length (d .params) ≤ paramCount
+  pub left : expr nestingLimit (codeOf (d .left) ++ codeOf (d .right)) ≡ got (d .left) (codeOf (d .right))
+
+method-reads : (d : Method) (g : TextFrame) → frame (methodLine d) ≡ some g → Reads d
+unfolding frame methodLine
+method-reads d g e =
+    let body = codeOf (d .left) ++ codeOf (d .right) in
+    let bs = typesBytes (d .params) ++ body in
+    let after = d .second .cls ∷ d .second .tag ∷ length (d .params) ∷ bs in
+    let e1 = taken-as (type (d .first .cls ∷ d .first .tag ∷ after)) _ g (pair (d .first) after) e (type-forth (d .first) after) in
+    let e2 = taken-as (type after) _ g (pair (d .second) (length (d .params) ∷ bs)) e1 (type-forth (d .second) (length (d .params) ∷ bs)) in
+    let e3 = taken-as (upTo paramCount (length (d .params) ∷ bs)) _ g (pair (length (d .params)) bs) e2 (upto-forth paramCount (length (d .params)) bs) in
+    let e4 = taken-as (types (length (d .params)) bs) _ g (pair (d .params) body) e3 (types-forth (d .params) body) in
+    record {
+      params = taken (upTo paramCount (length (d .params) ∷ bs)) g e2 λ k q _. upto-few paramCount (length (d .params)) bs k q;
+      left = taken (expr nestingLimit body) g e4 λ l q _. q ∙ ap {B = Option (Got Expr)} some (expr-forth (d .left) nestingLimit (codeOf (d .right)) l q);
+    }
+
+-- ---- lines and frames
+abbrev pub AllFrames : (TextFrame → Type 0) → List TextFrame → Type 0
+AllFrames P [] = Unit {0}
+AllFrames P (f ∷ fs) = P f × AllFrames P fs
+
+-- a frame that is read from its own line, of at most 255 bytes
+pub record IsRead (f : TextFrame) : Type 0 where
+  pub back : frame (lineOf f) ≡ some f
+  pub short : length (lineOf f) ≤ lineSize
+  pub small : (k : ℕ) → getD (lineOf f) k 0 < 256
+
+frames-read : (ls : List (List ℕ)) (fs : List TextFrame) → frames ls ≡ some fs → Sized ls → ((i : ℕ) → getD (packed ls) i 0 < 256) → (map lineOf fs ≡ ls) × AllFrames IsRead fs
+unfolding frames packed
+frames-read [] fs e z b = given (λ (x : List TextFrame). (map lineOf x ≡ []) × AllFrames IsRead x) _ fs e (refl, tt)
+frames-read (l ∷ ls) fs e (and-line one short z) b =
+    taken (frame l) fs e λ f q e1.
+    taken (frames ls) fs e1 λ gs r e2.
+    let p = frame-back l f q in
+    let ih = frames-read ls gs r z (λ i. subst (λ (x : ℕ). x < 256) (getD-append-add l (packed ls) i 0) (b (suc (length l + i)))) in
+    given (λ (x : List TextFrame). (map lineOf x ≡ l ∷ ls) × AllFrames IsRead x) _ fs e2 (
+      ap₂ {C = List (List ℕ)} _∷_ p (ih .0),
+      (
+        record {
+          back = ap frame p ∙ q;
+          short = subst (λ (x : List ℕ). length x ≤ lineSize) (sym p) short;
+          small = subst (λ (x : List ℕ). (k : ℕ) → getD x k 0 < 256) (sym p) (in-line b);
+        },
+        ih .1,
+      ),
+    )
+  where
+    in-line : ((i : ℕ) → getD (length l ∷ (l ++ packed ls)) i 0 < 256) → (k : ℕ) → getD l k 0 < 256
+    in-line h k = go (ltb k (length l)) refl
+      where
+        go : (x : Bool) → ltb k (length l) ≡ x → getD l k 0 < 256
+        go true q = subst (λ (x : ℕ). x < 256) (List·getD-append l (packed ls) 0 k (ltb-true k (length l) q)) (h (suc k))
+        go false q = subst (λ (x : ℕ). x < 256) (sym (List·getD-eq-default l 0 {n = k} (ltb-false k (length l) q))) (omega arith)
+
+-- ---- frames in order
+abbrev pub ReadMethod : Method → Type 0
+ReadMethod d = IsRead (methodFrame d)
+
+pub record InOrder (ls : List (List ℕ)) (r : Raw) : Type 0 where
+  pub lines : rawLines r ≡ ls
+  pub methods : AllMethods ReadMethod (r .methods)
+  pub main : IsRead (mainFrame (r .main))
+
+front-order : (f : TextFrame) (ls : List (List ℕ)) (r q : Raw) → inFront f r ≡ some q → IsRead f → InOrder ls r → InOrder (lineOf f ∷ ls) q
+unfolding methodLines
+front-order (classFrame c) ls r q e h o =
+    given (InOrder (lineOf (classFrame c) ∷ ls)) _ q e (record { lines = ap (λ (x : List (List ℕ)). lineOf (classFrame c) ∷ x) (o .lines); methods = o .methods; main = o .main })
+front-order (methodFrame m) ls r q e h o = go (r .classes) refl e
+  where
+    go : (cs : List ClassFrame) → r .classes ≡ cs → _≡_ {A = Option Raw} (elim cs [ [] ↦ some (raw [] (m ∷ r .methods) (r .main)) | c ∷ ds ↦ none ]) (some q) → InOrder (methodLine m ∷ ls) q
+    go [] p z =
+        given (InOrder (methodLine m ∷ ls)) _ q z (record {
+          lines = ap (λ (x : List (List ℕ)). methodLine m ∷ x) (ap (λ (cs : List ClassFrame). rawLines (raw cs (r .methods) (r .main))) (sym p) ∙ o .lines);
+          methods = (h, o .methods);
+          main = o .main;
+        })
+    go (c ∷ ds) p z = absurd (Option·none-ne-some q z)
+front-order (mainFrame x) ls r q e h o = absurd (Option·none-ne-some q e)
+
+in-order : (fs : List TextFrame) (r : Raw) → ordered fs ≡ some r → AllFrames IsRead fs → InOrder (map lineOf fs) r
+unfolding ordered methodLines
+in-order [] r e a = absurd (Option·none-ne-some r e)
+in-order (classFrame c ∷ fs) r e a = taken (ordered fs) r e λ q p e1. front-order (classFrame c) (map lineOf fs) q r e1 (a .0) (in-order fs q p (a .1))
+in-order (methodFrame m ∷ fs) r e a = taken (ordered fs) r e λ q p e1. front-order (methodFrame m) (map lineOf fs) q r e1 (a .0) (in-order fs q p (a .1))
+in-order (mainFrame x ∷ []) r e a = given (InOrder (lineOf (mainFrame x) ∷ [])) _ r e (record { lines = refl; methods = tt; main = a .0 })
+in-order (mainFrame x ∷ (f ∷ fs)) r e a = absurd (Option·none-ne-some r e)
+
+framed : (ds : List Method) → AllMethods ReadMethod ds → AllMethods Framed ds
+unfolding methodLine
+framed [] a = tt
+framed (d ∷ ds) a = (
+  record {
+    short = a .0 .short;
+    read = method-reads d (methodFrame d) (a .0 .back) .left;
+    name = a .0 .small 2;
+  },
+  framed ds (a .1),
+)
+
+-- what stands behind a text's packed lines, once refusals 1 to 3 are passed
+pub record Behind (S : List ℕ) (r : Raw) : Type 0 where
+  pub lines : S ≡ packed (rawLines r)
+  pub short : Short r
+  pub methods : AllMethods ReadMethod (r .methods)
+
+pub behind : (S : List ℕ) (r : Raw) → Lined S r → Behind S r
+behind S r h =
+    let p = h .whole in
+    let fs = h .found in
+    let u : unpack S ≡ p .lines = ap unpack (p .is) ∙ unpack-packed (p .lines) in
+    let a = frames-read (p .lines) fs (sym (ap frames u) ∙ h .read) (p .sized) (subst (λ (x : List ℕ). (i : ℕ) → getD x i 0 < 256) (p .is) (h .bytes)) in
+    let x = opt-bind (ordered fs) few r (h .order) in
+    let y = guard-bind (leb (length (x .0 .classes)) classCount && leb (length (x .0 .methods)) methodCount) (λ _. some (x .0)) r (x .2) in
+    let q : x .0 ≡ r = cc (y .1) in
+    let l = and-true (leb (length (x .0 .classes)) classCount) (leb (length (x .0 .methods)) methodCount) (y .0) in
+    let i = in-order fs (x .0) (x .1) (a .1) in
+    subst (Behind S) q (record {
+      lines = p .is ∙ ap packed (sym (i .lines ∙ a .0));
+      short = record {
+        classes = leb-true (length (x .0 .classes)) classCount (l .0);
+        methods = leb-true (length (x .0 .methods)) methodCount (l .1);
+        framed = framed (x .0 .methods) (i .methods);
+        main = i .main .short;
+      };
+      methods = i .methods;
+    })
+
+-- ---- the table of such lines: its bytes, and overriding
+pub built : (S : List ℕ) (n m : ℕ) (B : List ℕ) (p : Placed) → p ≡ tablePlaced S n m B → Built S n m B p
+built S n m B p e = record {
+  is = e;
+  makes = λ r h en em z. let b = behind S r h in subst (Makes (table r)) (sym (e ∙ rw (en, em))) (table-lines r (b .short) S (b .lines) B z);
+}
+
+parents-in : (k : ℕ) (cs : List ClassFrame) → numbered (suc k) cs ≡ true → (i : ℕ) → parentOr0 (getElem? (bodies cs) i) ≤ k + i
+unfolding numbered
+parents-in k [] e i = zero-le
+parents-in k (c ∷ cs) e i = go i (parents-in (suc k) cs (p .1))
+  where
+    p : (eqb (c .number) (suc k) && ltb (c .body .parent) (suc k) ≡ true) × (numbered (suc (suc k)) cs ≡ true)
+    p = and-true (eqb (c .number) (suc k) && ltb (c .body .parent) (suc k)) (numbered (suc (suc k)) cs) e
+
+    go : (j : ℕ) → ((m : ℕ) → parentOr0 (getElem? (bodies cs) m) ≤ suc k + m) → parentOr0 (getElem? (c .body ∷ bodies cs) j) ≤ k + j
+    go zero ih = let q = ltb-true (c .body .parent) (suc k) (and-true (eqb (c .number) (suc k)) (ltb (c .body .parent) (suc k)) (p .0) .1) in omega arith
+    go (suc m) ih = omega (arith, ih m)
+
+shaped : (n : ℕ) → n ≤ classCount → (ds : List Method) → methodsGood n ds ≡ true → AllMethods ReadMethod ds → AllMethods Shaped ds
+unfolding methodsGood methodLine
+shaped n h [] e a = tt
+shaped n h (m ∷ ms) e a =
+    let a9 = and-true _ (methodsGood n ms) e in
+    let a8 = and-true _ (not (hasName m ms)) (a9 .0) in
+    let o = owner-in n m (a8 .0) in (
+      record {
+        owned = o .0;
+        owner = let l = o .1 in omega arith;
+        name = a .0 .small 2;
+        params = method-reads m (methodFrame m) (a .0 .back) .params;
+        short = a .0 .short;
+      },
+      shaped n h ms (a9 .1) (a .1),
+    )
+
+overrides-read : (S : List ℕ) (r : Raw) (t : Table) → Behind S r → table r ≡ some t → overridesOf (layout t) ≡ overridesGood t (t .methods)
+unfolding table
+overrides-read S r t h e =
+    let n = length (bodies (r .classes)) in
+    let a = guard-bind _ (λ _. some (record { classes = bodies (r .classes); methods = r .methods; main = r .main })) t e in
+    let a2 = and-true _ (exprKnown n (r .main)) (a .0) in
+    let a1 = and-true _ (methodsGood n (r .methods)) (a2 .0) in
+    let a0 = and-true (numbered 1 (r .classes)) (classesGood n (bodies (r .classes)) (bodies (r .classes)) 1) (a1 .0) in
+    let w : record { classes = bodies (r .classes); methods = r .methods; main = r .main } ≡ t = cc (a .1) in
+    let z = length-bodies (r .classes) in
+    let c = h .short .classes in
+    subst (λ (x : Table). overridesOf (layout x) ≡ overridesGood x (x .methods)) w
+    (overrides-on (record { classes = bodies (r .classes); methods = r .methods; main = r .main }) (λ k. let l = parents-in 0 (r .classes) (a0 .0) k in omega arith)
+    (shaped n (omega arith) (r .methods) (a1 .1) (h .methods)) (h .short .methods))
+
+pub overrides-tested : (B : List ℕ) (b : Bool) → b ≡ overridesOf B → Overrides B b
+overrides-tested B b e = record {
+  is = e;
+  says = λ S r t h q w. e ∙ ap overridesOf w ∙ overrides-read S r t (behind S r h) q;
+}

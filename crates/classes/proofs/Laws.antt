@@ -1,0 +1,178 @@
+-- The definitions of specs/Machine at each return of the code, and along the chain of parents.
+use mathlib.Core.Path.{_≡_, refl, sym, _∙_}
+use mathlib.Core.Bool.{Bool, true, false}
+use mathlib.Core.List.{List}
+use Prim.Native.Nat.{ℕ, zero, suc, _+_, _-_, _*_, _%_, _<_, _≤_}
+use native.Mathlib.Omega.{arith}
+use lib.ListN.{getD}
+use lib.Dec.{eqb, leb, ltb}
+use borrow.Author.Tests.{eq-eqb, ne-eqb, lt-ltb, le-ltb, le-leb, lt-leb, leb-false}
+use Rattle.classes.specs.declared.chain.FieldFound.{FieldFound}
+use Rattle.classes.specs.declared.chain.FieldFound.the-variants as field
+use Rattle.classes.specs.declared.methods.Found.{Found}
+use Rattle.classes.specs.declared.methods.Found.the-variants as found
+use Rattle.classes.specs.Machine.{pick, up, fitsIn, fitsOf, typeAt, ownField, fieldIn, fieldOf, ownOf, orElse, lookupIn, lookupOf, rowOf, paramOf}
+
+-- ---- class fit
+pub fits-zero : (B : List ℕ) (n d : ℕ) → fitsIn B n 0 d ≡ eqb 0 d
+unfolding fitsIn
+fits-zero B zero d = refl
+fits-zero B (suc n) d = rw (le-leb 0 (up B 0) (omega arith)) (go (eqb 0 d))
+  where
+    go : (b : Bool) → pick b true false ≡ b
+    go true = refl
+    go false = refl
+
+-- as many steps as the number of the class are enough
+fits-enough : (B : List ℕ) (n m c d : ℕ) → c ≤ n → c ≤ m → fitsIn B n c d ≡ fitsIn B m c d
+unfolding fitsIn
+fits-enough B zero m c d h k = let e : c ≡ 0 = omega arith in rw (e, fits-zero B m d)
+fits-enough B (suc n) zero c d h k = let e : c ≡ 0 = omega arith in rw e (fits-zero B (suc n) d)
+fits-enough B (suc n) (suc m) c d h k = go (leb c (up B c)) refl (fits-enough B n m (up B c) d)
+  where
+    go : (b : Bool) → leb c (up B c) ≡ b → (up B c ≤ n → up B c ≤ m → fitsIn B n (up B c) d ≡ fitsIn B m (up B c) d)
+        → pick (eqb c d) true (pick b false (fitsIn B n (up B c) d)) ≡ pick (eqb c d) true (pick b false (fitsIn B m (up B c) d))
+    go true q ih = refl
+    go false q ih = let l = leb-false c (up B c) q in rw (ih (omega arith) (omega arith))
+
+module _ (B : List ℕ) (c d : ℕ) where
+  pub fit-same : c ≡ d → true ≡ fitsOf B c d
+  unfolding fitsIn
+  fit-same e = go c
+    where
+      go : (n : ℕ) → true ≡ fitsIn B n c d
+      go zero = sym (eq-eqb c d e)
+      go (suc n) = rw (eq-eqb c d e)
+
+  fits-step : (n : ℕ) → n ≡ c → (c ≡ d → ⊥) → up B c < c → fitsIn B n c d ≡ fitsOf B (up B c) d
+  unfolding fitsIn
+  fits-step zero e ne l = absurd (omega arith)
+  fits-step (suc n) e ne l = rw (ne-eqb c d ne, lt-leb c (up B c) l) (fits-enough B n (up B c) (up B c) d (omega arith) (omega arith))
+
+  fits-stop : (n : ℕ) → (c ≡ d → ⊥) → c ≤ up B c → fitsIn B n c d ≡ false
+  unfolding fitsIn
+  fits-stop zero ne l = ne-eqb c d ne
+  fits-stop (suc n) ne l = rw (ne-eqb c d ne, le-leb c (up B c) l)
+
+  pub fit-top : (c ≡ d → ⊥) → c ≤ up B c → false ≡ fitsOf B c d
+  fit-top ne l = sym (fits-stop c ne l)
+
+  pub fit-up : (r : Bool) → (c ≡ d → ⊥) → up B c < c → r ≡ fitsOf B (up B c) d → r ≡ fitsOf B c d
+  fit-up r ne l e = e ∙ sym (fits-step c refl ne l)
+
+-- ---- fields
+fields-enough : (B : List ℕ) (n m c f : ℕ) → c ≤ n → c ≤ m → fieldIn B n c f ≡ fieldIn B m c f
+unfolding fieldIn
+fields-enough B zero zero c f h k = refl
+fields-enough B zero (suc m) c f h k = rw (le-leb c (up B c) (omega arith))
+fields-enough B (suc n) zero c f h k = rw (le-leb c (up B c) (omega arith))
+fields-enough B (suc n) (suc m) c f h k = go (leb c (up B c)) refl (fields-enough B n m (up B c) f)
+  where
+    rest : FieldFound → FieldFound
+    rest x = pick (ltb f (getD B (16 * up B c + 1) 0)) x (ownField B c (f - getD B (16 * up B c + 1) 0))
+
+    go : (b : Bool) → leb c (up B c) ≡ b → (up B c ≤ n → up B c ≤ m → fieldIn B n (up B c) f ≡ fieldIn B m (up B c) f)
+        → pick b field.Nothing (rest (fieldIn B n (up B c) f)) ≡ pick b field.Nothing (rest (fieldIn B m (up B c) f))
+    go true q ih = refl
+    go false q ih = let l = leb-false c (up B c) q in rw (ih (omega arith) (omega arith))
+
+module _ (B : List ℕ) (c f : ℕ) where
+  field-stop : (n : ℕ) → c ≤ up B c → fieldIn B n c f ≡ field.Nothing
+  unfolding fieldIn
+  field-stop zero l = refl
+  field-stop (suc n) l = rw (le-leb c (up B c) l)
+
+  field-below : (n : ℕ) → n ≡ c → up B c < c → f < getD B (16 * up B c + 1) 0 → fieldIn B n c f ≡ fieldOf B (up B c) f
+  unfolding fieldIn
+  field-below zero e l h = absurd (omega arith)
+  field-below (suc n) e l h =
+      rw (lt-leb c (up B c) l, lt-ltb f (getD B (16 * up B c + 1) 0) h) (fields-enough B n (up B c) (up B c) f (omega arith) (omega arith))
+
+  field-here : (n : ℕ) → n ≡ c → up B c < c → getD B (16 * up B c + 1) 0 ≤ f → fieldIn B n c f ≡ ownField B c (f - getD B (16 * up B c + 1) 0)
+  unfolding fieldIn
+  field-here zero e l h = absurd (omega arith)
+  field-here (suc n) e l h = rw (lt-leb c (up B c) l, le-ltb f (getD B (16 * up B c + 1) 0) h)
+
+  pub field-none : c ≤ up B c → field.Nothing ≡ fieldOf B c f
+  field-none l = sym (field-stop c l)
+
+  module _ (k : ℕ) (ek : k ≡ getD B (16 * up B c + 1) 0) (l : up B c < c) (r : FieldFound) where
+    pub field-up : f < k → r ≡ fieldOf B (up B c) f → r ≡ fieldOf B c f
+    field-up h e = e ∙ sym (field-below c refl l (omega arith))
+
+    pub field-own : k ≤ f → r ≡ ownField B c (f - k) → r ≡ fieldOf B c f
+    field-own h e = rw (field-here c refl l (omega arith), ← ek) e
+
+module _ (B : List ℕ) (c j : ℕ) where
+  pub own-past : getD B (16 * c + 2) 0 ≤ j → field.Nothing ≡ ownField B c j
+  own-past h = rw (le-leb (getD B (16 * c + 2) 0) j h)
+
+  pub own-at : j < getD B (16 * c + 2) 0 → field.Type (typeAt B (16 * c + 3 + 2 * j)) ≡ ownField B c j
+  own-at h = rw (lt-leb (getD B (16 * c + 2) 0) j h)
+
+-- ---- methods
+module _ (B : List ℕ) (c m : ℕ) where
+  pub index-past : 32 < c → found.Nothing ≡ ownOf B c m
+  index-past h = rw (lt-ltb 32 c h)
+
+  pub index-none : c ≤ 32 → getD B (528 + 256 * c + m) 0 ≡ 0 → found.Nothing ≡ ownOf B c m
+  index-none h e = rw (le-ltb 32 c h, eq-eqb (getD B (528 + 256 * c + m) 0) 0 e)
+
+  pub index-at : c ≤ 32 → (getD B (528 + 256 * c + m) 0 ≡ 0 → ⊥) → found.At (getD B (528 + 256 * c + m) 0 - 1) ≡ ownOf B c m
+  index-at h e = rw (le-ltb 32 c h, ne-eqb (getD B (528 + 256 * c + m) 0) 0 e)
+
+lookup-enough : (B : List ℕ) (n k c m : ℕ) → c ≤ n → c ≤ k → lookupIn B n c m ≡ lookupIn B k c m
+unfolding lookupIn
+lookup-enough B zero zero c m h l = refl
+lookup-enough B zero (suc k) c m h l = rw (le-leb c (up B c) (omega arith)) (go (ownOf B c m))
+  where
+    go : (o : Found) → o ≡ orElse o found.Nothing
+    go (found.At i) = refl
+    go found.Nothing = refl
+lookup-enough B (suc n) zero c m h l = rw (le-leb c (up B c) (omega arith)) (go (ownOf B c m))
+  where
+    go : (o : Found) → orElse o found.Nothing ≡ o
+    go (found.At i) = refl
+    go found.Nothing = refl
+lookup-enough B (suc n) (suc k) c m h l = go (leb c (up B c)) refl (lookup-enough B n k (up B c) m)
+  where
+    go : (b : Bool) → leb c (up B c) ≡ b → (up B c ≤ n → up B c ≤ k → lookupIn B n (up B c) m ≡ lookupIn B k (up B c) m)
+        → orElse (ownOf B c m) (pick b found.Nothing (lookupIn B n (up B c) m)) ≡ orElse (ownOf B c m) (pick b found.Nothing (lookupIn B k (up B c) m))
+    go true q ih = refl
+    go false q ih = let z = leb-false c (up B c) q in rw (ih (omega arith) (omega arith))
+
+module _ (B : List ℕ) (c m : ℕ) (o : Found) (eo : o ≡ ownOf B c m) where
+  lookup-is : (n i : ℕ) → o ≡ found.At i → lookupIn B n c m ≡ o
+  unfolding lookupIn
+  lookup-is zero i e = sym eo
+  lookup-is (suc n) i e = rw (← eo, e)
+
+  lookup-stop : (n : ℕ) → o ≡ found.Nothing → c ≤ up B c → lookupIn B n c m ≡ found.Nothing
+  unfolding lookupIn
+  lookup-stop zero e l = sym eo ∙ e
+  lookup-stop (suc n) e l = rw (← eo, e, le-leb c (up B c) l)
+
+  lookup-on : (n : ℕ) → n ≡ c → o ≡ found.Nothing → up B c < c → lookupIn B n c m ≡ lookupOf B (up B c) m
+  unfolding lookupIn
+  lookup-on zero e q l = absurd (omega arith)
+  lookup-on (suc n) e q l = rw (← eo, q, lt-leb c (up B c) l) (lookup-enough B n (up B c) (up B c) m (omega arith) (omega arith))
+
+  pub lookup-here : (i : ℕ) → o ≡ found.At i → o ≡ lookupOf B c m
+  lookup-here i e = sym (lookup-is c i e)
+
+  pub lookup-top : o ≡ found.Nothing → c ≤ up B c → found.Nothing ≡ lookupOf B c m
+  lookup-top e l = sym (lookup-stop c e l)
+
+  pub lookup-above : (r : Found) → o ≡ found.Nothing → up B c < c → r ≡ lookupOf B (up B c) m → r ≡ lookupOf B c m
+  lookup-above r e l er = er ∙ sym (lookup-on c refl e l)
+
+-- ---- parameters
+module _ (B : List ℕ) (i k : ℕ) where
+  pub param-far : 2 < k → field.Nothing ≡ paramOf B i k
+  param-far h = rw (lt-ltb 2 k h)
+
+  pub param-past : k ≤ 2 → getD B (rowOf i + 7) 0 ≤ k → field.Nothing ≡ paramOf B i k
+  param-past h l = rw (le-ltb 2 k h, le-leb (getD B (rowOf i + 7) 0) k l)
+
+  pub param-at : k ≤ 2 → k < getD B (rowOf i + 7) 0 → field.Type (typeAt B (rowOf i + 8 + 2 * k)) ≡ paramOf B i k
+  param-at h l = rw (le-ltb 2 k h, lt-leb (getD B (rowOf i + 7) 0) k l)

@@ -1,0 +1,15 @@
+pub mod Lists
+pub mod Laws
+pub mod LineLaws
+pub mod PlaceLaws
+pub mod Zones
+pub mod OnTables
+pub mod OnOverrides
+pub mod Filling
+pub mod FillingMethods
+pub mod ClassLines
+pub mod MethodLines
+pub mod TableLines
+pub mod FromText
+pub mod BuildLaws
+pub mod OverrideLaws

@@ -1,0 +1,170 @@
+-- Laws of the tests of a line's bytes, in the form in which the needs of known cite them: one for each return.
+use Prim.Native.Nat.{ℕ, zero, suc, _+_, _-_, _*_, _<_, _≤_}
+use native.Mathlib.Omega.{arith}
+use native.Mathlib.Numerals.{sub-one, add-one}
+use mathlib.Core.Path.{_≡_, refl, sym, ap, _∙_}
+use mathlib.Core.Bool.{Bool, true, false, _&&_, _||_, not, true≢false, false≢true}
+use mathlib.Core.List.{List, [], _∷_}
+use lib.Dec.{eqb, leb, ltb}
+use lib.ListN.{length, getD, drop, drop-of-length-le}
+use lib.Seq.{drop-cons, drop-drop}
+use borrow.Author.Tests.{eq-eqb, ne-eqb, lt-ltb, le-ltb, le-leb, lt-leb}
+use Rattle.cofj.specs.Typing.{closedTag}
+use Rattle.classes.specs.Machine.{pick}
+use Rattle.classes.specs.Placing.{goodTypes, newKnown, scan, methodGood}
+
+-- ---- a byte at a place
+pub more : (s : List ℕ) (at : ℕ) → at < length s → drop at s ≡ getD s at 0 ∷ drop (at + 1) s
+more s at h = rw add-one (drop-cons s at 0 h)
+
+pub no-more : (s : List ℕ) (at : ℕ) → length s ≤ at → drop at s ≡ []
+no-more s at h = drop-of-length-le s h
+
+-- ---- a test that is turned round
+pub not-true : (b : Bool) → not b ≡ true → b ≡ false
+not-true true e = absurd (false≢true e)
+not-true false e = refl
+
+pub not-false : (b : Bool) → not b ≡ false → b ≡ true
+not-false true e = refl
+not-false false e = absurd (true≢false e)
+
+-- ---- tags
+module _ (g : ℕ) where
+  pub closed-zero : g ≡ 0 → true ≡ closedTag g
+  closed-zero e = rw (eq-eqb g 0 e)
+
+  pub closed-three : (g ≡ 0 → ⊥) → eqb g 3 ≡ closedTag g
+  closed-three e = rw (ne-eqb g 0 e)
+
+-- ---- types
+types-step : (n k : ℕ) (bs : List ℕ) → ((k ≡ 0) → ⊥) → goodTypes n k bs ≡ goodTypes n (suc (k - 1)) bs
+types-step n zero bs nz = absurd (nz refl)
+types-step n (suc k) bs nz = simp sub-one
+
+module _ (s : List ℕ) (at k n : ℕ) where
+  pub types-done : k ≡ 0 → true ≡ goodTypes n k (drop at s)
+  unfolding goodTypes
+  types-done e = rw e
+
+  module _ (nz : (k ≡ 0) → ⊥) where
+    pub types-end : length s ≤ at → false ≡ goodTypes n k (drop at s)
+    unfolding goodTypes
+    types-end h = rw (types-step n k (drop at s) nz, no-more s at h)
+
+    module _ (h : at < length s) where
+      pub types-short : length s ≤ at + 1 → false ≡ goodTypes n k (drop at s)
+      unfolding goodTypes
+      types-short l = rw (types-step n k (drop at s) nz, more s at h, no-more s (at + 1) l)
+
+      module _ (h1 : at + 1 < length s) where
+        pub types-unknown : n < getD s at 0 → false ≡ goodTypes n k (drop at s)
+        unfolding goodTypes
+        types-unknown l = rw (types-step n k (drop at s) nz, more s at h, more s (at + 1) h1, lt-leb (getD s at 0) n l)
+
+        module _ (l : getD s at 0 ≤ n) (c : Bool) (ec : c ≡ closedTag (getD s (at + 1) 0)) where
+          pub types-open : not c ≡ true → false ≡ goodTypes n k (drop at s)
+          unfolding goodTypes
+          types-open e = rw (types-step n k (drop at s) nz, more s at h, more s (at + 1) h1, le-leb (getD s at 0) n l, ← ec, not-true c e)
+
+          pub types-next : (r : Bool) → not c ≡ false → r ≡ goodTypes n (k - 1) (drop (at + 1 + 1) s) → r ≡ goodTypes n k (drop at s)
+          unfolding goodTypes
+          types-next r e er = rw (types-step n k (drop at s) nz, more s at h, more s (at + 1) h1, le-leb (getD s at 0) n l, ← ec, not-false c e) er
+
+-- ---- expressions one after another
+pub scan-skip : (n k : ℕ) (bs : List ℕ) → scan n k bs ≡ scan n 0 (drop k bs)
+unfolding scan
+scan-skip n zero bs = refl
+scan-skip n (suc k) [] = refl
+scan-skip n (suc k) (b ∷ bs) = scan-skip n k bs
+
+module _ (s : List ℕ) (at n : ℕ) where
+  skip : (k j : ℕ) → at + 1 + k ≡ j → scan n k (drop (at + 1) s) ≡ scan n 0 (drop j s)
+  skip k j e = scan-skip n k (drop (at + 1) s) ∙ ap (λ (x : List ℕ). scan n 0 x) (drop-drop k (at + 1) s) ∙ ap (λ (x : ℕ). scan n 0 (drop x s)) e
+
+  pub scan-end : length s ≤ at → true ≡ scan n 0 (drop at s)
+  unfolding scan
+  scan-end h = rw (no-more s at h)
+
+  module _ (h : at < length s) where
+    pub scan-one : (r : Bool) → getD s at 0 < 0x42 → r ≡ scan n 0 (drop (at + 1) s) → r ≡ scan n 0 (drop at s)
+    unfolding scan
+    scan-one r l e = rw (more s at h, lt-ltb (getD s at 0) 0x42 l) e
+
+    module _ (l2 : 0x42 ≤ getD s at 0) where
+      pub scan-two : (r : Bool) → getD s at 0 < 0x44 → r ≡ scan n 0 (drop (at + 2) s) → r ≡ scan n 0 (drop at s)
+      unfolding scan
+      scan-two r l e = rw (more s at h, le-ltb (getD s at 0) 0x42 l2, lt-ltb (getD s at 0) 0x44 l) (e ∙ sym (skip 1 (at + 2) (omega arith)))
+
+      module _ (l4 : 0x44 ≤ getD s at 0) where
+        pub scan-call : (r : Bool) → getD s at 0 ≡ 0x44 → r ≡ scan n 0 (drop (at + 3) s) → r ≡ scan n 0 (drop at s)
+        unfolding scan
+        scan-call r l e =
+            rw (more s at h, le-ltb (getD s at 0) 0x42 l2, le-ltb (getD s at 0) 0x44 l4, eq-eqb (getD s at 0) 0x44 l) (e ∙ sym (skip 2 (at + 3) (omega arith)))
+
+        module _ (l5 : getD s at 0 ≡ 0x44 → ⊥) where
+          pub scan-short : length s ≤ at + 1 → true ≡ scan n 0 (drop at s)
+          unfolding scan
+          scan-short k =
+              rw (more s at h, le-ltb (getD s at 0) 0x42 l2, le-ltb (getD s at 0) 0x44 l4, ne-eqb (getD s at 0) 0x44 l5, no-more s (at + 1) k)
+
+          module _ (h1 : at + 1 < length s) where
+            new-first : newKnown n (drop (at + 1) s) ≡ leb (getD s (at + 1) 0) n
+            new-first = rw (more s (at + 1) h1)
+
+            pub scan-unknown : n < getD s (at + 1) 0 → false ≡ scan n 0 (drop at s)
+            unfolding scan
+            scan-unknown k =
+                rw (more s at h, le-ltb (getD s at 0) 0x42 l2, le-ltb (getD s at 0) 0x44 l4, ne-eqb (getD s at 0) 0x44 l5, new-first, lt-leb (getD s (at + 1) 0) n k)
+
+            pub scan-new : (r : Bool) → getD s (at + 1) 0 ≤ n → r ≡ scan n 0 (drop (at + 3) s) → r ≡ scan n 0 (drop at s)
+            unfolding scan
+            scan-new r k e =
+                rw (more s at h, le-ltb (getD s at 0) 0x42 l2, le-ltb (getD s at 0) 0x44 l4, ne-eqb (getD s at 0) 0x44 l5, new-first, le-leb (getD s (at + 1) 0) n k)
+                (e ∙ sym (skip 2 (at + 3) (omega arith)))
+
+-- ---- a method's line
+module _ (s : List ℕ) (n : ℕ) where
+  pub method-short : length s < 8 → false ≡ methodGood n s
+  unfolding methodGood
+  method-short l = rw (lt-leb 8 (length s) l)
+
+  module _ (h : 8 ≤ length s) where
+    pub method-object : getD s 1 0 ≡ 0 → false ≡ methodGood n s
+    unfolding methodGood
+    method-object e = rw (le-leb 8 (length s) h, lt-leb 1 (getD s 1 0) (omega arith))
+
+    module _ (h1 : getD s 1 0 ≡ 0 → ⊥) where
+      one : leb 1 (getD s 1 0) ≡ true
+      one = le-leb 1 (getD s 1 0) (omega arith)
+
+      pub method-owner : n < getD s 1 0 → false ≡ methodGood n s
+      unfolding methodGood
+      method-owner l = rw (le-leb 8 (length s) h, one, lt-leb (getD s 1 0) n l)
+
+      module _ (h2 : getD s 1 0 ≤ n) where
+        pub method-first : n < getD s 3 0 → false ≡ methodGood n s
+        unfolding methodGood
+        method-first l = rw (le-leb 8 (length s) h, one, le-leb (getD s 1 0) n h2, lt-leb (getD s 3 0) n l)
+
+        module _ (h3 : getD s 3 0 ≤ n) where
+          pub method-second : n < getD s 5 0 → false ≡ methodGood n s
+          unfolding methodGood
+          method-second l = rw (le-leb 8 (length s) h, one, le-leb (getD s 1 0) n h2, le-leb (getD s 3 0) n h3, lt-leb (getD s 5 0) n l)
+
+          module _ (h5 : getD s 5 0 ≤ n) (c : Bool) (ec : c ≡ closedTag (getD s 4 0)) where
+            pub method-open : not c ≡ true → false ≡ methodGood n s
+            unfolding methodGood
+            method-open e =
+                rw (le-leb 8 (length s) h, one, le-leb (getD s 1 0) n h2, le-leb (getD s 3 0) n h3, le-leb (getD s 5 0) n h5, ← ec, not-true c e)
+
+            module _ (e : not c ≡ false) (g : Bool) (eg : g ≡ goodTypes n (getD s 7 0) (drop 8 s)) where
+              pub method-params : not g ≡ true → false ≡ methodGood n s
+              unfolding methodGood
+              method-params z =
+                  rw (le-leb 8 (length s) h, one, le-leb (getD s 1 0) n h2, le-leb (getD s 3 0) n h3, le-leb (getD s 5 0) n h5, ← ec, not-false c e, ← eg, not-true g z)
+
+              pub method-exprs : (r : Bool) (w : ℕ) → not g ≡ false → w ≡ getD s 7 0 → r ≡ scan n 0 (drop (8 + 2 * w) s) → r ≡ methodGood n s
+              unfolding methodGood
+              method-exprs r w z ew er =
+                  rw (le-leb 8 (length s) h, one, le-leb (getD s 1 0) n h2, le-leb (getD s 3 0) n h3, le-leb (getD s 5 0) n h5, ← ec, not-false c e, ← eg, not-false g z, ← ew) er

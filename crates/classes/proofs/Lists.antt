@@ -1,0 +1,55 @@
+-- Places in lists, and runs of stores.
+use Prim.Native.Nat.{ℕ, zero, suc, _+_, _-_, _<_, _≤_}
+use native.Mathlib.Nat.{not-suc-le-zero}
+use native.Mathlib.Omega.{arith}
+use mathlib.Core.Path.{_≡_, refl, sym, ap, _∙_}
+use mathlib.Core.List.{List, [], _∷_, _++_}
+use mathlib.Core.Option.{Option, none, some}
+use lib.ListN.{length, getD, getElem?, set, length-set}
+use lib.Seq.{sets, getD-set-same, getD-set-other}
+
+-- ---- what stands at a place
+module _ {A : Type 0} where
+  pub at-front : (xs ys : List A) (f : ℕ) → f < length xs → getElem? (xs ++ ys) f ≡ getElem? xs f
+  at-front [] ys f h = absurd (not-suc-le-zero h)
+  at-front (x ∷ xs) ys zero h = refl
+  at-front (x ∷ xs) ys (suc f) h = at-front xs ys f (omega arith)
+
+  pub at-after : (xs ys : List A) (f : ℕ) → length xs ≤ f → getElem? (xs ++ ys) f ≡ getElem? ys (f - length xs)
+  at-after [] ys f h = ap (λ (k : ℕ). getElem? ys k) (let q : f ≡ f - 0 = omega arith in q)
+  at-after (x ∷ xs) ys zero h = absurd (not-suc-le-zero h)
+  at-after (x ∷ xs) ys (suc f) h =
+      at-after xs ys f (omega arith) ∙ ap (λ (k : ℕ). getElem? ys k) (let q : f - length xs ≡ suc f - suc (length xs) = omega arith in q)
+
+  pub at-seam : (xs : List A) (y : A) (ys : List A) → getElem? (xs ++ y ∷ ys) (length xs) ≡ some y
+  at-seam [] y ys = refl
+  at-seam (x ∷ xs) y ys = at-seam xs y ys
+
+  pub past : (xs : List A) (f : ℕ) → length xs ≤ f → getElem? xs f ≡ none
+  past [] f h = refl
+  past (x ∷ xs) zero h = absurd (not-suc-le-zero h)
+  past (x ∷ xs) (suc f) h = past xs f (omega arith)
+
+  pub within : (xs : List A) (f : ℕ) → f < length xs → (u : A) × (getElem? xs f ≡ some u)
+  within [] f h = absurd (not-suc-le-zero h)
+  within (x ∷ xs) zero h = (x, refl)
+  within (x ∷ xs) (suc f) h = within xs f (omega arith)
+
+-- ---- a run of stores
+pub sets-before : (xs B : List ℕ) (at i : ℕ) → i < at → getD (sets B at xs) i 0 ≡ getD B i 0
+sets-before [] B at i h = refl
+sets-before (x ∷ xs) B at i h = sets-before xs (set B at x) (suc at) i (omega arith) ∙ getD-set-other B at i x 0 (λ e. omega arith)
+
+pub sets-after : (xs B : List ℕ) (at i : ℕ) → at + length xs ≤ i → getD (sets B at xs) i 0 ≡ getD B i 0
+sets-after [] B at i h = refl
+sets-after (x ∷ xs) B at i h = sets-after xs (set B at x) (suc at) i (omega arith) ∙ getD-set-other B at i x 0 (λ e. omega arith)
+
+pub sets-in : (xs B : List ℕ) (at k : ℕ) → k < length xs → at + length xs ≤ length B → getD (sets B at xs) (at + k) 0 ≡ getD xs k 0
+sets-in [] B at k h l = absurd (not-suc-le-zero h)
+sets-in (x ∷ xs) B at zero h l =
+    ap (λ (i : ℕ). getD (sets (set B at x) (suc at) xs) i 0) (let q : at + 0 ≡ at = omega arith in q)
+    ∙ sets-before xs (set B at x) (suc at) at (omega arith)
+    ∙ getD-set-same B at x 0 (omega arith)
+sets-in (x ∷ xs) B at (suc k) h l =
+    ap (λ (i : ℕ). getD (sets (set B at x) (suc at) xs) i 0) (let q : at + suc k ≡ suc at + k = omega arith in q)
+    ∙ sets-in xs (set B at x) (suc at) k (omega arith) (let e = length-set B at x in omega arith)

@@ -1,0 +1,149 @@
+-- Laws of placing one line, in the form in which the needs of place cite them.
+use Prim.Native.Nat.{ℕ, zero, suc, _+_, _-_, _*_, _<_, _≤_}
+use native.Mathlib.Omega.{arith}
+use native.Mathlib.Numerals.{add-one}
+use mathlib.Core.Path.{_≡_, refl, sym, ap, _∙_}
+use mathlib.Core.Bool.{Bool, true, false, _&&_, not}
+use mathlib.Core.List.{List, [], _∷_}
+use lib.Dec.{eqb, leb, ltb}
+use lib.ListN.{length, getD, drop, set}
+use lib.Seq.{sets}
+use borrow.Author.Tests.{eq-eqb, ne-eqb, lt-ltb, le-ltb, le-leb, lt-leb}
+use Rattle.cofj.specs.Limits.{nestingLimit}
+use Rattle.cofj.specs.Frames.{expr}
+use Rattle.lineform.specs.declared.exprs.ReadExpr.{ReadExpr}
+use Rattle.lineform.specs.declared.exprs.ReadExpr.the-variants.{Next, Refused}
+use Rattle.lineform.specs.Answers.{endOf}
+use Rattle.classes.specs.declared.methods.Found.{Found}
+use Rattle.classes.specs.declared.methods.Found.the-variants as found
+use Rattle.classes.specs.declared.place.Place.{Place}
+use Rattle.classes.specs.declared.place.Place.the-variants as place
+use Rattle.classes.specs.Machine.{pick, ownOf}
+use Rattle.classes.specs.Placing.{goodTypes, scan, methodGood, Placed, placed, above, classGood, classPut, classPlaced, placeOf, rightIn, indexPut, methodPut, methodFree, methodPlaced, mainPlaced}
+use Rattle.classes.proofs.LineLaws.{more, no-more, not-true, not-false}
+
+-- ---- a copy
+module _ (l T X : List ℕ) (i o : ℕ) (inv : sets T o (drop i l) ≡ X) where
+  pub copy-next : i < length l → sets (set T o (getD l i 0)) (o + 1) (drop (i + 1) l) ≡ X
+  copy-next h = rw (add-one o) (sym (ap (λ (x : List ℕ). sets T o x) (more l i h)) ∙ inv)
+
+  pub copy-done : length l ≤ i → T ≡ X
+  copy-done h = sym (ap (λ (x : List ℕ). sets T o x) (no-more l i h)) ∙ inv
+
+-- ---- a class
+module _ (l B : List ℕ) (k n : ℕ) where
+  refused : classGood l k n B ≡ false → placed false B ≡ classPlaced l k n B
+  unfolding classPlaced
+  refused e = rw e
+
+  pub class-short : length l < 4 → placed false B ≡ classPlaced l k n B
+  unfolding classGood
+  class-short h = refused (rw (lt-leb 4 (length l) h))
+
+  module _ (h : 4 ≤ length l) where
+    pub class-number : (getD l 1 0 ≡ k → ⊥) → placed false B ≡ classPlaced l k n B
+    unfolding classGood
+    class-number e = refused (rw (le-leb 4 (length l) h, ne-eqb (getD l 1 0) k e))
+
+    module _ (h1 : getD l 1 0 ≡ k) where
+      pub class-parent : k ≤ getD l 2 0 → placed false B ≡ classPlaced l k n B
+      unfolding classGood
+      class-parent e = refused (rw (le-leb 4 (length l) h, eq-eqb (getD l 1 0) k h1, le-ltb (getD l 2 0) k e))
+
+      module _ (h2 : getD l 2 0 < k) (g : Bool) (eg : g ≡ goodTypes n (getD l 3 0) (drop 4 l)) where
+        pub class-types : not g ≡ true → placed false B ≡ classPlaced l k n B
+        unfolding classGood
+        class-types e = refused (rw (le-leb 4 (length l) h, eq-eqb (getD l 1 0) k h1, lt-ltb (getD l 2 0) k h2, ← eg, not-true g e))
+
+        module _ (h3 : not g ≡ false) (a : ℕ) (ea : a ≡ above l B) where
+          pub class-above : 4 < a → placed false B ≡ classPlaced l k n B
+          unfolding classGood
+          class-above e =
+              refused (rw (le-leb 4 (length l) h, eq-eqb (getD l 1 0) k h1, lt-ltb (getD l 2 0) k h2, ← eg, not-false g h3, ← ea, lt-leb a 4 e))
+
+          module _ (h4 : a ≤ 4) where
+            pub class-own : 4 < getD l 3 0 → placed false B ≡ classPlaced l k n B
+            unfolding classGood
+            class-own e =
+                refused (rw (le-leb 4 (length l) h, eq-eqb (getD l 1 0) k h1, lt-ltb (getD l 2 0) k h2, ← eg, not-false g h3, ← ea, le-leb a 4 h4, lt-leb (getD l 3 0) 4 e))
+
+            module _ (h5 : getD l 3 0 ≤ 4) where
+              pub class-total : 4 < a + getD l 3 0 → placed false B ≡ classPlaced l k n B
+              unfolding classGood
+              class-total e =
+                  refused (rw (le-leb 4 (length l) h, eq-eqb (getD l 1 0) k h1, lt-ltb (getD l 2 0) k h2, ← eg, not-false g h3, ← ea, le-leb a 4 h4, le-leb (getD l 3 0) 4 h5, lt-leb (a + getD l 3 0) 4 e))
+
+              pub class-placed : (T : List ℕ) → a + getD l 3 0 ≤ 4 → T ≡ sets (set (set B (16 * k) (getD l 2 0)) (16 * k + 1) (a + getD l 3 0)) (16 * k + 2) (drop 3 l)
+                  → placed true T ≡ classPlaced l k n B
+              unfolding classPlaced classGood classPut
+              class-placed T e eT =
+                  let z : classGood l k n B ≡ true = good e in
+                  rw (z, ← ea) (ap (λ (x : List ℕ). placed true x) eT)
+                where
+                  good : a + getD l 3 0 ≤ 4 → classGood l k n B ≡ true
+                  good e = rw (classGood, le-leb 4 (length l) h, eq-eqb (getD l 1 0) k h1, lt-ltb (getD l 2 0) k h2, ← eg, not-false g h3, ← ea, le-leb a 4 h4, le-leb (getD l 3 0) 4 h5, le-leb (a + getD l 3 0) 4 e)
+
+-- ---- a method
+module _ (l : List ℕ) (w : ℕ) (ew : w ≡ getD l 7 0) (e : ReadExpr) (ee : e ≡ endOf l (expr 6 (drop (8 + 2 * w) l))) where
+  found-end : endOf l (expr nestingLimit (drop (8 + 2 * getD l 7 0) l)) ≡ e
+  found-end = rw (ee, ew)
+
+  pub right-none : e ≡ Refused → place.Nothing ≡ rightIn l
+  unfolding rightIn
+  right-none z = rw (found-end, z)
+
+  module _ (b : ℕ) (eb : e ≡ Next b) where
+    pub right-far : 255 < b → place.Nothing ≡ rightIn l
+    unfolding rightIn
+    right-far h = rw (found-end, eb, lt-ltb 255 b h)
+
+    pub right-at : b ≤ 255 → place.At b ≡ rightIn l
+    unfolding rightIn
+    right-at h = rw (found-end, eb, le-ltb 255 b h)
+
+module _ (c m x : ℕ) (B : List ℕ) where
+  pub index-off : 32 < c → B ≡ indexPut c m x B
+  index-off h = rw (lt-ltb 32 c h)
+
+  pub index-set : c ≤ 32 → set B (528 + 256 * c + m) x ≡ indexPut c m x B
+  index-set h = rw (le-ltb 32 c h)
+
+pub method-put : (l B T : List ℕ) (i right : ℕ) → T ≡ sets (set B (8976 + 256 * i) right) (8976 + 256 * i + 1) (drop 1 l)
+    → set T (8976 + 256 * i + 255) (length l) ≡ methodPut l i right B
+unfolding methodPut
+method-put l B T i right e = rw e
+
+module _ (l B : List ℕ) (i n : ℕ) where
+  pub method-short : length l < 8 → placed false B ≡ methodPlaced l i n B
+  unfolding methodPlaced methodGood
+  method-short h = let z : methodGood n l ≡ false = rw (methodGood, lt-leb 8 (length l) h) in rw z
+
+  module _ (g : Bool) (eg : g ≡ methodGood n l) where
+    pub method-refused : not g ≡ true → placed false B ≡ methodPlaced l i n B
+    unfolding methodPlaced
+    method-refused e = rw (← eg, not-true g e)
+
+    module _ (h : not g ≡ false) (f : Found) (ef : f ≡ ownOf B (getD l 1 0) (getD l 2 0)) where
+      pub method-twice : (j : ℕ) → f ≡ found.At j → placed false B ≡ methodPlaced l i n B
+      unfolding methodPlaced
+      method-twice j e = rw (← eg, not-false g h, ← ef, e)
+
+      module _ (e : f ≡ found.Nothing) (p : Place) (ep : p ≡ rightIn l) where
+        pub method-nowhere : p ≡ place.Nothing → placed false B ≡ methodPlaced l i n B
+        unfolding methodPlaced
+        method-nowhere z = rw (← eg, not-false g h, ← ef, e, ← ep, z)
+
+        pub method-placed : (b : ℕ) (T U : List ℕ) → p ≡ place.At b → T ≡ indexPut (getD l 1 0) (getD l 2 0) (i + 1) B → U ≡ methodPut l i b T
+            → placed true U ≡ methodPlaced l i n B
+        unfolding methodPlaced
+        method-placed b T U z eT eU = rw (← eg, not-false g h, ← ef, e, ← ep, z) (ap (λ (x : List ℕ). placed true x) (eU ∙ ap (λ (x : List ℕ). methodPut l i b x) eT))
+
+-- ---- main
+module _ (l B : List ℕ) (n : ℕ) (g : Bool) (eg : g ≡ scan n 0 (drop 1 l)) where
+  pub main-unknown : not g ≡ true → placed false B ≡ mainPlaced l n B
+  unfolding mainPlaced
+  main-unknown e = rw (← eg, not-true g e)
+
+  pub main-placed : (T : List ℕ) → not g ≡ false → T ≡ sets B 25361 (drop 1 l) → placed true (set T 25615 (length l)) ≡ mainPlaced l n B
+  unfolding mainPlaced
+  main-placed T e eT = rw (← eg, not-false g e, eT)

@@ -1,0 +1,34 @@
+use borrow.Author.Needs.{needs}
+use Rattle.classes.proofs.build.place_last.Statement.{statement}
+use Rattle.classes.proofs.build.place_last.Tie as tie
+use Rattle.classes.proofs.build.place_last.Reads as reads
+use Rattle.classes.proofs.build.place_last.Lts as lts
+use Rattle.classes.proofs.place.place_main.Reads as place-main-reads
+use Rattle.classes.proofs.places.wide.Reads as wide-reads
+use Rattle.classes.proofs.BuildLaws as laws
+
+returns : tie.Need-returns
+returns c = search laws.last-end
+
+returns-2 : tie.Need-returns-2
+returns-2 c = search laws.last-short
+
+returns-3 : tie.Need-returns-3
+returns-3 c = search laws.last-main
+
+pub place-last-spec : {M : Type 1} → statement M
+place-last-spec =
+    tie.close
+    (tie.spec
+    returns
+    (λ c. search needs)
+    (λ c. search needs)
+    (λ c κs. search needs)
+    (λ c. search needs)
+    returns-2
+    (λ c. search needs)
+    (λ c. search needs)
+    (λ c. search needs)
+    (λ c. search needs)
+    (λ c κs. search needs)
+    returns-3)

@@ -1,0 +1,19 @@
+use Rattle.classes.proofs.known.closed.Statement.{statement}
+use Rattle.classes.proofs.known.closed.Tie as tie
+use Rattle.classes.proofs.known.closed.Reads as reads
+use Rattle.classes.proofs.known.closed.Lts as lts
+use borrow.Author.Needs.{needs}
+use Rattle.classes.proofs.LineLaws as laws
+
+returns : tie.Need-returns
+returns c = search laws.closed-zero
+
+returns-2 : tie.Need-returns-2
+returns-2 c = search laws.closed-three
+
+pub closed-spec : {M : Type 1} → statement M
+closed-spec =
+    tie.close
+    (tie.spec
+    returns
+    returns-2)

@@ -1,0 +1,31 @@
+use borrow.Author.Needs.{needs}
+use Rattle.classes.proofs.overrides.same_types.Statement.{statement}
+use Rattle.classes.proofs.overrides.same_types.Tie as tie
+use Rattle.classes.proofs.overrides.same_types.Reads as reads
+use Rattle.classes.proofs.overrides.same_types.Lts as lts
+use Rattle.classes.proofs.overrides.same_bytes.Reads as same-bytes-reads
+use Rattle.classes.proofs.places.wide.Reads as wide-reads
+use Rattle.classes.proofs.OverrideLaws as laws
+
+returns : tie.Need-returns
+returns c = search laws.same-as
+
+pub same-types-spec : {M : Type 1} → statement M
+same-types-spec =
+    tie.close
+    (tie.spec
+    (λ c. search needs)
+    (λ c. search needs)
+    (λ c. search needs)
+    (λ c. search needs)
+    (λ c. search needs)
+    (λ c. search needs)
+    (λ c. search needs)
+    (λ c. search needs)
+    (λ c. search needs)
+    (λ c. search needs)
+    (λ c κs. search needs)
+    (λ c. search needs)
+    (λ c. search needs)
+    (λ c κs. search needs)
+    returns)

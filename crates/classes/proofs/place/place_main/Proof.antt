@@ -1,0 +1,27 @@
+use borrow.Author.Needs.{needs}
+use Rattle.classes.proofs.place.place_main.Statement.{statement}
+use Rattle.classes.proofs.place.place_main.Tie as tie
+use Rattle.classes.proofs.place.place_main.Reads as reads
+use Rattle.classes.proofs.place.place_main.Lts as lts
+use Rattle.classes.proofs.known.all_known.Reads as all-known-reads
+use Rattle.classes.proofs.place.copy.Reads as copy-reads
+use Rattle.classes.proofs.PlaceLaws as laws
+
+returns : tie.Need-returns
+returns c = search laws.main-unknown
+
+returns-2 : tie.Need-returns-2
+returns-2 c = search laws.main-placed
+
+pub place-main-spec : {M : Type 1} → statement M
+place-main-spec =
+    tie.close
+    (tie.spec
+    (λ c κs. search needs)
+    returns
+    (λ c. search needs)
+    (λ c κs. search needs)
+    (λ c. search needs)
+    (λ c. search needs)
+    (λ c. search needs)
+    returns-2)

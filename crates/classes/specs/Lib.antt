@@ -1,0 +1,7 @@
+pub mod Figures
+pub mod Machine
+pub mod Layout
+pub mod Placing
+pub mod Building
+pub mod Overriding
+pub mod Made

@@ -1,0 +1,88 @@
+-- What the functions that build a table make of a line's bytes and of the table's bytes, at the functions' own grain.
+-- Not here: that this is the language's `table` on the lines of a text (proofs/Building).
+use Prim.Native.Nat.{ℕ, zero, suc, _+_, _*_}
+use mathlib.Core.Bool.{Bool, true, false, _&&_}
+use mathlib.Core.List.{List, [], _∷_}
+use lib.Dec.{eqb, leb, ltb}
+use lib.ListN.{length, getD, drop, set}
+use lib.Seq.{sets}
+use Rattle.cofj.specs.Typing.{closedTag}
+use Rattle.cofj.specs.Limits.{classCount, fieldCount, nestingLimit, lineSize}
+use Rattle.cofj.specs.Frames.{expr}
+use Rattle.lineform.specs.declared.exprs.ReadExpr.{ReadExpr}
+use Rattle.lineform.specs.declared.exprs.ReadExpr.the-variants.{Next, Refused}
+use Rattle.lineform.specs.Answers.{endOf}
+use Rattle.classes.specs.Figures.{rowSize, longSize, indexAt, methodsAt, mainAt, lastByte}
+use Rattle.classes.specs.declared.methods.Found.{Found}
+use Rattle.classes.specs.declared.methods.Found.the-variants as found
+use Rattle.classes.specs.declared.place.Place.{Place}
+use Rattle.classes.specs.declared.place.Place.the-variants as place
+use Rattle.classes.specs.Machine.{pick, ownOf}
+
+-- the first k types of the bytes have classes up to n and closed tags
+unfoldable pub goodTypes : ℕ → ℕ → List ℕ → Bool
+goodTypes n zero bs = true
+goodTypes n (suc k) [] = false
+goodTypes n (suc k) (c ∷ []) = false
+goodTypes n (suc k) (c ∷ (g ∷ bs)) = leb c n && closedTag g && goodTypes n k bs
+
+-- the class that a new object names
+abbrev pub newKnown : ℕ → List ℕ → Bool
+newKnown n [] = true
+newKnown n (c ∷ bs) = leb c n
+
+-- expressions one after another: the first number is how many bytes still belong to the last sign
+unfoldable pub scan : ℕ → ℕ → List ℕ → Bool
+scan n k [] = true
+scan n (suc k) (b ∷ bs) = scan n k bs
+scan n zero (b ∷ bs) =
+    pick (ltb b 0x42) (scan n 0 bs) (pick (ltb b 0x44) (scan n 1 bs) (pick (eqb b 0x44) (scan n 2 bs) (newKnown n bs && scan n 2 bs)))
+
+unfoldable pub methodGood : ℕ → List ℕ → Bool
+methodGood n l =
+    leb 8 (length l) && leb 1 (getD l 1 0) && leb (getD l 1 0) n && leb (getD l 3 0) n && leb (getD l 5 0) n && closedTag (getD l 4 0)
+    && goodTypes n (getD l 7 0) (drop 8 l) && scan n 0 (drop (8 + 2 * getD l 7 0) l)
+
+-- ---- one line into the table: the answer, and the table's bytes after it
+pub data Placed : Type 0 where
+  placed : Bool → List ℕ → Placed
+
+-- all fields of a class whose parent is p
+abbrev pub above : List ℕ → List ℕ → ℕ
+above l B = getD B (rowSize * getD l 2 0 + 1) 0
+
+unfoldable pub classGood : List ℕ → ℕ → ℕ → List ℕ → Bool
+classGood l k n B =
+    leb 4 (length l) && eqb (getD l 1 0) k && ltb (getD l 2 0) k && goodTypes n (getD l 3 0) (drop 4 l)
+    && leb (above l B) fieldCount && leb (getD l 3 0) fieldCount && leb (above l B + getD l 3 0) fieldCount
+
+unfoldable pub classPut : List ℕ → ℕ → List ℕ → List ℕ
+classPut l k B = sets (set (set B (rowSize * k) (getD l 2 0)) (rowSize * k + 1) (above l B + getD l 3 0)) (rowSize * k + 2) (drop 3 l)
+
+unfoldable pub classPlaced : List ℕ → ℕ → ℕ → List ℕ → Placed
+classPlaced l k n B = pick (classGood l k n B) (placed true (classPut l k B)) (placed false B)
+
+abbrev pub placeOf : ReadExpr → Place
+placeOf Refused = place.Nothing
+placeOf (Next b) = pick (ltb lineSize b) place.Nothing (place.At b)
+
+unfoldable pub rightIn : List ℕ → Place
+rightIn l = placeOf (endOf l (expr nestingLimit (drop (8 + 2 * getD l 7 0) l)))
+
+abbrev pub indexPut : ℕ → ℕ → ℕ → List ℕ → List ℕ
+indexPut c m x B = pick (ltb classCount c) B (set B (indexAt + longSize * c + m) x)
+
+unfoldable pub methodPut : List ℕ → ℕ → ℕ → List ℕ → List ℕ
+methodPut l i right B = set (sets (set B (methodsAt + longSize * i) right) (methodsAt + longSize * i + 1) (drop 1 l)) (methodsAt + longSize * i + lastByte) (length l)
+
+-- where the class has no such method, and the right expression stands at a place
+abbrev pub methodFree : List ℕ → ℕ → List ℕ → Found → Place → Placed
+methodFree l i B (found.At j) p = placed false B
+methodFree l i B found.Nothing place.Nothing = placed false B
+methodFree l i B found.Nothing (place.At b) = placed true (methodPut l i b (indexPut (getD l 1 0) (getD l 2 0) (i + 1) B))
+
+unfoldable pub methodPlaced : List ℕ → ℕ → ℕ → List ℕ → Placed
+methodPlaced l i n B = pick (methodGood n l) (methodFree l i B (ownOf B (getD l 1 0) (getD l 2 0)) (rightIn l)) (placed false B)
+
+unfoldable pub mainPlaced : List ℕ → ℕ → List ℕ → Placed
+mainPlaced l n B = pick (scan n 0 (drop 1 l)) (placed true (set (sets B (mainAt + 1) (drop 1 l)) (mainAt + lastByte) (length l))) (placed false B)

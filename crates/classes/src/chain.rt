@@ -1,0 +1,78 @@
+// Class fit and the fields of a class: each goes to the parent, whose number is smaller.
+// A parent that is not smaller ends the chain: no table that is read has one (proofs/OnTables).
+use crate::places::ROW;
+use crate::places::SIZE;
+ghost use mathlib.Core.Path.{_≡_};
+ghost use Prim.Native.Nat.{ℕ, _+_, _*_};
+ghost use lib.ListN.{getD};
+ghost use Rattle.classes.specs.Figures.{rowSize};
+ghost use Rattle.classes.specs.Machine.{fitsOf, fieldOf, ownField};
+
+// A type: a class number and a tag.
+pub struct FieldType {
+    pub class: u8,
+    pub tag: u8,
+}
+
+pub enum FieldFound {
+    Type(FieldType),
+    Nothing,
+}
+
+// The parent of class c.
+pub fn parent(t: &[u8; SIZE], c: u8) -> u8
+    ensures { λ r. ⌜ r ≡ getD (now (t .entry)) (rowSize * c) 0 ⌝ }
+{
+    t[ROW * (c as usize)]
+}
+
+// Whether class c is d or stands below it.
+pub fn fit(t: &[u8; SIZE], c: u8, d: u8) -> bool
+    ensures { λ r. ⌜ r ≡ fitsOf (now (t .entry)) c d ⌝ }
+{
+    if c == d {
+        return true;
+    }
+    let p = t[ROW * (c as usize)];
+    if c <= p {
+        return false;
+    }
+    fit(t, p, d)
+}
+
+// The number of all fields of class c, inherited ones included.
+pub fn field_total(t: &[u8; SIZE], c: u8) -> u8
+    ensures { λ r. ⌜ r ≡ getD (now (t .entry)) (rowSize * c + 1) 0 ⌝ }
+{
+    t[ROW * (c as usize) + 1]
+}
+
+// The type of own field j of class c.
+pub fn own_field(t: &[u8; SIZE], c: u8, j: u8) -> FieldFound
+    ensures { λ r. ⌜ r ≡ ownField (now (t .entry)) c j ⌝ }
+{
+    let row = ROW * (c as usize);
+    if t[row + 2] <= j {
+        return FieldFound::Nothing;
+    }
+    let at = row + 3 + 2 * (j as usize);
+    FieldFound::Type(FieldType {
+        class: t[at],
+        tag: t[at + 1],
+    })
+}
+
+// The type of field f of class c, inherited ones first.
+pub fn field_type(t: &[u8; SIZE], c: u8, f: u8) -> FieldFound
+    ensures { λ r. ⌜ r ≡ fieldOf (now (t .entry)) c f ⌝ }
+{
+    let p = t[ROW * (c as usize)];
+    if c <= p {
+        return FieldFound::Nothing;
+    }
+    let k = field_total(t, p);
+    if f < k {
+        return field_type(t, p, f);
+    }
+    own_field(t, c, f - k)
+}

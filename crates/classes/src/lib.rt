@@ -1,0 +1,16 @@
+// A program's class table in bytes (docs/TABLE.md) and what is asked of it: class fit, fields, methods and their parts.
+// Not here: reading a text into it, types of expressions, runs.
+pub mod places; // the figures of the layout
+pub mod chain; // class fit and the fields of a class
+pub mod methods; // lookup, and the parts of a method
+pub mod known; // tests of a line against the number of classes
+pub mod place; // one line into the table
+pub mod build; // all lines into the table
+pub mod overrides; // methods that override have the same types
+
+use crate::places::SIZE;
+
+// The bytes of a class table. Lend them: nothing is copied.
+pub struct ClassTable {
+    pub bytes: [u8; SIZE],
+}

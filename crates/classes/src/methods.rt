@@ -1,0 +1,128 @@
+// Method lookup, and the parts of a method at their places in its row.
+use crate::chain::FieldFound;
+use crate::chain::FieldType;
+use crate::places::CLASSES;
+use crate::places::INDEX;
+use crate::places::LONG;
+use crate::places::METHODS;
+use crate::places::ROW;
+use crate::places::SIZE;
+use crate::places::wide;
+ghost use mathlib.Core.Path.{_≡_};
+ghost use Prim.Native.Nat.{ℕ, _+_, _*_};
+ghost use lib.ListN.{getD};
+ghost use Rattle.classes.specs.Machine.{ownOf, lookupOf, rowOf, typeAt, paramOf, leftOf, rightOf};
+
+// The number of a method, in file order.
+pub enum Found {
+    At(u8),
+    Nothing,
+}
+
+// The method with the name m that class c itself declares.
+pub fn own_method(t: &[u8; SIZE], c: u8, m: u8) -> Found
+    ensures { λ r. ⌜ r ≡ ownOf (now (t .entry)) c m ⌝ }
+{
+    if CLASSES < c {
+        return Found::Nothing;
+    }
+    let x = t[INDEX + LONG * (c as usize) + (m as usize)];
+    if x == 0 {
+        return Found::Nothing;
+    }
+    Found::At(x - 1)
+}
+
+// The method with the name m of class c or of the nearest class above it.
+pub fn lookup(t: &[u8; SIZE], c: u8, m: u8) -> Found
+    ensures { λ r. ⌜ r ≡ lookupOf (now (t .entry)) c m ⌝ }
+{
+    let o = own_method(t, c, m);
+    let Found::Nothing = o else {
+        return o;
+    };
+    let p = t[ROW * (c as usize)];
+    if c <= p {
+        return Found::Nothing;
+    }
+    lookup(t, p, m)
+}
+
+// ---- the parts of method i: its row begins at METHODS + LONG * i, a number past the rows taken around
+
+// The class that declares method i.
+pub fn owner(t: &[u8; SIZE], i: u8) -> u8
+    ensures { λ r. ⌜ r ≡ getD (now (t .entry)) (rowOf i + 1) 0 ⌝ }
+{
+    t[METHODS + LONG * ((i % 64) as usize) + 1]
+}
+
+pub fn name(t: &[u8; SIZE], i: u8) -> u8
+    ensures { λ r. ⌜ r ≡ getD (now (t .entry)) (rowOf i + 2) 0 ⌝ }
+{
+    t[METHODS + LONG * ((i % 64) as usize) + 2]
+}
+
+// The first result type of method i.
+pub fn first(t: &[u8; SIZE], i: u8) -> FieldType
+    ensures { λ r. ⌜ r ≡ typeAt (now (t .entry)) (rowOf i + 3) ⌝ }
+{
+    let at = METHODS + LONG * ((i % 64) as usize) + 3;
+    FieldType {
+        class: t[at],
+        tag: t[at + 1],
+    }
+}
+
+pub fn second(t: &[u8; SIZE], i: u8) -> FieldType
+    ensures { λ r. ⌜ r ≡ typeAt (now (t .entry)) (rowOf i + 5) ⌝ }
+{
+    let at = METHODS + LONG * ((i % 64) as usize) + 5;
+    FieldType {
+        class: t[at],
+        tag: t[at + 1],
+    }
+}
+
+// How many parameters method i has.
+pub fn param_count(t: &[u8; SIZE], i: u8) -> u8
+    ensures { λ r. ⌜ r ≡ getD (now (t .entry)) (rowOf i + 7) 0 ⌝ }
+{
+    t[METHODS + LONG * ((i % 64) as usize) + 7]
+}
+
+// The type of parameter k of method i. There are at most three.
+pub fn param_type(t: &[u8; SIZE], i: u8, k: u8) -> FieldFound
+    ensures { λ r. ⌜ r ≡ paramOf (now (t .entry)) i k ⌝ }
+{
+    if 2 < k {
+        return FieldFound::Nothing;
+    }
+    let b = METHODS + LONG * ((i % 64) as usize);
+    if t[b + 7] <= k {
+        return FieldFound::Nothing;
+    }
+    let at = b + 8 + 2 * (k as usize);
+    FieldFound::Type(FieldType {
+        class: t[at],
+        tag: t[at + 1],
+    })
+}
+
+// Where the left expression of method i stands.
+pub fn left_place(t: &[u8; SIZE], i: u8) -> usize
+    ensures { λ r. ⌜ r ≡ leftOf (now (t .entry)) i ⌝ }
+{
+    let b = METHODS + LONG * ((i % 64) as usize);
+    let n = t[b + 7];
+    b + 8 + 2 * wide(n)
+}
+
+// Where the right expression of method i stands.
+pub fn right_place(t: &[u8; SIZE], i: u8) -> usize
+    ensures { λ r. ⌜ r ≡ rightOf (now (t .entry)) i ⌝ }
+{
+    let b = METHODS + LONG * ((i % 64) as usize);
+    let n = t[b];
+    b + wide(n)
+}

@@ -1,0 +1,159 @@
+// One line's frame into the table: the rules of a class table (refusal 4), and the bytes that are written.
+// Not here: the order of the lines (build), overriding (overrides).
+use crate::chain::field_total;
+use crate::known::all_known;
+use crate::known::method_good;
+use crate::known::types_good;
+use crate::methods::Found;
+use crate::methods::own_method;
+use crate::places::CLASSES;
+use crate::places::FIELDS;
+use crate::places::INDEX;
+use crate::places::LAST;
+use crate::places::LONG;
+use crate::places::MAIN;
+use crate::places::METHODS;
+use crate::places::ROW;
+use crate::places::SIZE;
+use crate::places::wide;
+use lineform::exprs::ReadExpr;
+use lineform::exprs::read_expr;
+ghost use mathlib.Core.Path.{_≡_};
+ghost use Prim.Native.Nat.{ℕ, _≤_, _<_, _+_, _*_};
+ghost use lib.ListN.{length, drop};
+ghost use lib.Seq.{sets};
+ghost use Rattle.cofj.specs.Limits.{classCount, methodCount, lineSize};
+ghost use Rattle.classes.specs.Figures.{tableSize};
+ghost use Rattle.classes.specs.Placing.{placed, classPlaced, rightIn, indexPut, methodPut, methodPlaced, mainPlaced};
+
+// A byte's place in a line.
+pub enum Place {
+    At(u8),
+    Nothing,
+}
+
+// Writes the bytes of the line from `from` on into the table at `to`.
+pub fn copy(l: &[u8], from: usize, t: &mut [u8; SIZE], to: usize)
+    requires { ⌜ (length (now l) ≤ lineSize) × (to + length (now l) ≤ tableSize) ⌝ }
+    ensures { λ _. ⌜ now (t .exit) ≡ sets (now (t .entry)) to (drop from (now (l .entry))) ⌝ }
+{
+    let mut i: usize = from;
+    let mut o: usize = to;
+    while i < l.len() {
+        t[o] = l[i];
+        i += 1;
+        o += 1;
+    }
+}
+
+// Class k of n: its number, its parent, its own fields' types, and how many fields it has in all.
+pub fn place_class(l: &[u8], k: u8, n: u8, t: &mut [u8; SIZE]) -> bool
+    requires { ⌜ (length (now l) ≤ lineSize) × (k ≤ classCount) ⌝ }
+    ensures { λ r. ⌜ placed r (now (t .exit)) ≡ classPlaced (now (l .entry)) k n (now (t .entry)) ⌝ }
+{
+    if l.len() < 4 {
+        return false;
+    }
+    if l[1] != k {
+        return false;
+    }
+    let p = l[2];
+    if k <= p {
+        return false;
+    }
+    let own = l[3];
+    if !types_good(l, 4, own, n) {
+        return false;
+    }
+    let above = field_total(t, p);
+    if FIELDS < above {
+        return false;
+    }
+    if FIELDS < own {
+        return false;
+    }
+    let total = above + own;
+    if FIELDS < total {
+        return false;
+    }
+    let row = ROW * (k as usize);
+    t[row] = p;
+    t[row + 1] = total;
+    copy(l, 3, t, row + 2);
+    true
+}
+
+// Where the right expression of a method's line stands.
+pub fn right_in(l: &[u8]) -> Place
+    requires { ⌜ 8 ≤ length (now l) ⌝ }
+    ensures { λ r. ⌜ r ≡ rightIn (now (l .entry)) ⌝ }
+{
+    let e = read_expr(l, 8 + 2 * wide(l[7]), 6);
+    let ReadExpr::Next(b) = e else {
+        return Place::Nothing;
+    };
+    if 255 < b {
+        return Place::Nothing;
+    }
+    Place::At(b as u8)
+}
+
+// Sets the index of class c under the name m.
+pub fn put_index(c: u8, m: u8, x: u8, t: &mut [u8; SIZE])
+    ensures { λ _. ⌜ now (t .exit) ≡ indexPut c m x (now (t .entry)) ⌝ }
+{
+    if CLASSES < c {
+        return;
+    }
+    t[INDEX + LONG * (c as usize) + (m as usize)] = x;
+}
+
+// Writes the row of method i.
+pub fn put_method(l: &[u8], i: u8, right: u8, t: &mut [u8; SIZE])
+    requires { ⌜ (length (now l) ≤ lineSize) × (i < methodCount) ⌝ }
+    ensures { λ _. ⌜ now (t .exit) ≡ methodPut (now (l .entry)) i right (now (t .entry)) ⌝ }
+{
+    let b = METHODS + LONG * (i as usize);
+    t[b] = right;
+    copy(l, 1, t, b + 1);
+    t[b + LAST] = l.len() as u8;
+}
+
+// Method i: its line is good, and its class has no method of its name yet.
+pub fn place_method(l: &[u8], i: u8, n: u8, t: &mut [u8; SIZE]) -> bool
+    requires { ⌜ (length (now l) ≤ lineSize) × (i < methodCount) ⌝ }
+    ensures { λ r. ⌜ placed r (now (t .exit)) ≡ methodPlaced (now (l .entry)) i n (now (t .entry)) ⌝ }
+{
+    if l.len() < 8 {
+        return false;
+    }
+    if !method_good(l, n) {
+        return false;
+    }
+    let c = l[1];
+    let m = l[2];
+    let f = own_method(t, c, m);
+    let Found::Nothing = f else {
+        return false;
+    };
+    let e = right_in(l);
+    let Place::At(b) = e else {
+        return false;
+    };
+    put_index(c, m, i + 1, t);
+    put_method(l, i, b, t);
+    true
+}
+
+// The line of main.
+pub fn place_main(l: &[u8], n: u8, t: &mut [u8; SIZE]) -> bool
+    requires { ⌜ length (now l) ≤ lineSize ⌝ }
+    ensures { λ r. ⌜ placed r (now (t .exit)) ≡ mainPlaced (now (l .entry)) n (now (t .entry)) ⌝ }
+{
+    if !all_known(l, 1, n) {
+        return false;
+    }
+    copy(l, 1, t, MAIN + 1);
+    t[MAIN + LAST] = l.len() as u8;
+    true
+}

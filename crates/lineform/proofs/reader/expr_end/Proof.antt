@@ -1,0 +1,10 @@
+-- `reader::expr_end` meets its contract: what `read_expr` ensures at document 01's limit. Written out, so that another limit is refused here.
+use borrow.Author.Needs.{needs}
+use Rattle.lineform.proofs.reader.expr_end.Statement.{statement}
+use Rattle.lineform.proofs.reader.expr_end.Tie as tie
+
+returns : tie.Need-returns
+returns c = search needs
+
+pub expr-end-spec : {M : Type 1} → statement M
+expr-end-spec = tie.close (tie.spec (λ c κs. search needs) returns)

@@ -1,0 +1,14 @@
+pub mod Runs
+pub mod Nodes
+pub mod Lifts
+pub mod Places
+pub mod Turned
+pub mod Rounds
+pub mod Walks
+pub mod Numbers
+pub mod Blocks
+pub mod Selecting
+pub mod Closing
+pub mod Lays
+pub mod Reports
+pub mod Kept

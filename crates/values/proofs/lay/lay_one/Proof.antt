@@ -1,0 +1,49 @@
+use borrow.Author.Needs.{needs}
+use Rattle.values.proofs.lay.lay_one.Statement.{statement}
+use Rattle.values.proofs.lay.lay_one.Tie as tie
+use Rattle.values.proofs.lay.lay_one.Reads as reads
+use Rattle.values.proofs.lay.lay_one.Lts as lts
+use Rattle.values.proofs.lay.lay_block.Reads as lay-block-reads
+use native.Mathlib.Omega.{arith}
+use Rattle.values.proofs.Lays as laws
+use Rattle.values.proofs.Blocks as blocks
+
+lay-block-requires : tie.Need-lay-block-requires
+lay-block-requires c κs = (search blocks.held-block, search needs, search needs)
+
+add-raw-2 : tie.Need-add-raw-2
+add-raw-2 c =
+    let st = c .before .before .before .before .before in
+    omega (arith, laws.mark-small _ _ _ (st .pre .0) (c .before .r2 .given .1))
+
+returns : tie.Need-returns
+returns c = search laws.lay-object
+
+returns-2 : tie.Need-returns-2
+returns-2 c = search laws.lay-mark
+
+returns-3 : tie.Need-returns-3
+returns-3 c = search laws.lay-undet
+
+pub lay-one-spec : {M : Type 1} → statement M
+lay-one-spec =
+    tie.close
+    (tie.spec
+    (λ c. search needs)
+    lay-block-requires
+    (λ c. search needs)
+    (λ c. search needs)
+    (λ c. search needs)
+    (λ c. search needs)
+    add-raw-2
+    (λ c. search needs)
+    (λ c. search needs)
+    (λ c. search needs)
+    (λ c. search needs)
+    (λ c. search needs)
+    (λ c. search needs)
+    returns
+    (λ c. search needs)
+    returns-2
+    (λ c. search needs)
+    returns-3)

@@ -1,0 +1,24 @@
+use borrow.Author.Needs.{needs}
+use Rattle.values.proofs.lift.turn.Statement.{statement}
+use Rattle.values.proofs.lift.turn.Tie as tie
+use Rattle.values.proofs.lift.turn.Reads as reads
+use Rattle.values.proofs.lift.turn.Lts as lts
+use Rattle.values.proofs.Lifts as laws
+
+returns : tie.Need-returns
+returns c = search laws.turn-object
+
+returns-2 : tie.Need-returns-2
+returns-2 c = search laws.turn-hot
+
+returns-3 : tie.Need-returns-3
+returns-3 c = search laws.turn-other
+
+pub turn-spec : {M : Type 1} → statement M
+turn-spec =
+    tie.close
+    (tie.spec
+    (λ c. search needs)
+    returns
+    returns-2
+    returns-3)

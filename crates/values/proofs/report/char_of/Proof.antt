@@ -1,0 +1,21 @@
+use borrow.Author.Needs.{needs}
+use Rattle.values.proofs.report.char_of.Statement.{statement}
+use Rattle.values.proofs.report.char_of.Tie as tie
+use Rattle.values.proofs.report.char_of.Reads as reads
+use Rattle.values.proofs.report.char_of.Lts as lts
+use Rattle.values.proofs.Reports as laws
+
+returns : tie.Need-returns
+returns c = search laws.char-low
+
+returns-2 : tie.Need-returns-2
+returns-2 c = search laws.char-high
+
+pub char-of-spec : {M : Type 1} → statement M
+char-of-spec =
+    tie.close
+    (tie.spec
+    (λ c. search needs)
+    returns
+    (λ c. search needs)
+    returns-2)

@@ -1,0 +1,31 @@
+use borrow.Author.Needs.{needs}
+use Rattle.values.proofs.value.move_out.Statement.{statement}
+use Rattle.values.proofs.value.move_out.Tie as tie
+use Rattle.values.proofs.value.move_out.Reads as reads
+use Rattle.values.proofs.value.move_out.Lts as lts
+use Rattle.values.proofs.number.put.Reads as put-reads
+use Rattle.values.proofs.value.take_up.Reads as take-up-reads
+use native.Mathlib.Omega.{arith}
+use Rattle.values.proofs.Blocks as laws
+
+put-requires : tie.Need-put-requires
+put-requires c κs =
+    let t = c .before .before .before .before .before in
+    let st = t .before .before .before .before .before in
+    laws.move-ready _ _ (st .pre .0) _ _ _ _ (t .take-up .ensures) _ _ (search needs) (search needs) (st .pre .1) (st .pre .2)
+
+returns : tie.Need-returns
+returns c = search laws.moved
+
+pub move-out-spec : {M : Type 1} → statement M
+move-out-spec =
+    tie.close
+    (tie.spec
+    (λ c. search needs)
+    (λ c. search needs)
+    (λ c κs. search needs)
+    (λ c. search needs)
+    (λ c. search needs)
+    put-requires
+    (λ c. search needs)
+    returns)

@@ -1,0 +1,45 @@
+use borrow.Author.Needs.{needs}
+use Rattle.values.proofs.value.take_up.Statement.{statement}
+use Rattle.values.proofs.value.take_up.Tie as tie
+use Rattle.values.proofs.value.take_up.Reads as reads
+use Rattle.values.proofs.value.take_up.Lts as lts
+use Rattle.values.proofs.bytes.count_up.Reads as count-up-reads
+use Rattle.values.proofs.lift.lift.Reads as lift-reads
+use native.Mathlib.Omega.{arith}
+use Rattle.values.specs.Layout.{countIn}
+use Rattle.values.proofs.Blocks as laws
+
+cast-p : tie.Need-cast-p
+unfolding countIn
+cast-p c = omega arith
+
+mul-p : tie.Need-mul-p
+unfolding countIn
+mul-p c = omega arith
+
+count-up-requires : tie.Need-count-up-requires
+unfolding countIn
+count-up-requires c κs = omega arith
+
+lift-requires : tie.Need-lift-requires
+unfolding countIn
+lift-requires c κs = omega arith
+
+returns : tie.Need-returns
+returns c = search laws.taken
+
+pub take-up-spec : {M : Type 1} → statement M
+take-up-spec =
+    tie.close
+    (tie.spec
+    (λ c. search needs)
+    (λ c. search needs)
+    (λ c. search needs)
+    cast-p
+    mul-p
+    count-up-requires
+    (λ c. search needs)
+    lift-requires
+    (λ c. search needs)
+    (λ c. search needs)
+    returns)

@@ -1,0 +1,124 @@
+use Prim.Native.Nat.{ℕ, _<_, _+_, _*_, _-_}
+use borrow.Fn.Kinds.{In}
+use borrow.Fn.PlainCycle.{Measures, is, falls, and}
+use Rattle.values.proofs.walk.fields.Reads as fields
+use Rattle.values.proofs.walk.fields.Kinds as fields-kinds
+use Rattle.values.proofs.walk.+fields+visit.Lts-fields as fields-lts
+use Rattle.values.proofs.walk.visit.Reads as visit
+use Rattle.values.proofs.walk.visit.Kinds as visit-kinds
+use Rattle.values.proofs.walk.+fields+visit.Lts-visit as visit-lts
+use Rattle.values.proofs.walk.place_in.Reads as place-in-reads
+use Rattle.values.proofs.walk.+fields+visit.{statement}
+use Rattle.values.proofs.walk.+fields+visit.Tie.{close}
+use borrow.Author.Needs.{needs}
+use native.Mathlib.Omega.{arith}
+use lib.ListN.{length-set}
+use Rattle.values.proofs.Walks as laws
+
+abbrev μ-fields : Measures 3 fields-kinds.ps ℕ
+μ-fields κs a = (a .1 .1 .0) * 20 + 11 + (4 - (a .1 .1 .1 .1 .0))
+
+abbrev μ-visit : Measures 3 visit-kinds.ps ℕ
+μ-visit κs a = (a .1 .1 .0) * 20 + 10
+
+abbrev fields-at : ℕ → In 3 fields-kinds.ps
+fields-at t = and 3 fields-kinds.ps (is 3 fields-kinds.ps μ-fields t) fields.Pre
+
+abbrev fields-below : ℕ → In 3 fields-kinds.ps
+fields-below t = and 3 fields-kinds.ps (falls 3 fields-kinds.ps _<_ μ-fields t) fields.Pre
+
+abbrev visit-at : ℕ → In 3 visit-kinds.ps
+visit-at t = and 3 visit-kinds.ps (is 3 visit-kinds.ps μ-visit t) visit.Pre
+
+abbrev visit-below : ℕ → In 3 visit-kinds.ps
+visit-below t = and 3 visit-kinds.ps (falls 3 visit-kinds.ps _<_ μ-visit t) visit.Pre
+
+abbrev fields-claims : ℕ → fields-lts.Claims
+fields-claims t = (visit-below t, visit.Post, fields-below t, fields.Post)
+
+abbrev visit-claims : ℕ → visit-lts.Claims
+visit-claims t = (place-in-reads.Asked, place-in-reads.Learnt, fields-below t, fields.Post)
+
+fields-returns : (t : ℕ) → fields-lts.Need-returns (fields-claims t) (fields-at t) fields.Post
+fields-returns t c = search laws.fields-end
+
+fields-returns-2 : (t : ℕ) → fields-lts.Need-returns-2 (fields-claims t) (fields-at t) fields.Post
+fields-returns-2 t c = search laws.fields-out
+
+fields-visit-requires : (t : ℕ) → fields-lts.Need-visit-requires (fields-claims t) (fields-at t) fields.Post
+fields-visit-requires t c κs = search (needs, laws.first-small)
+
+fields-fields-requires : (t : ℕ) → fields-lts.Need-fields-requires (fields-claims t) (fields-at t) fields.Post
+fields-fields-requires t c κs =
+    let v = c .before .before .before in
+    let e2 = v .before .before .before in
+    let e1 = e2 .before .before in
+    let st = e1 .before .before .before .before in
+    (omega arith, (record { nodes = omega arith; colours = omega arith; order = omega arith }, laws.rest-small _ _ _ _ _ _ (omega (arith, st .fits .c)) (e1 .if1 .left) (e2 .if2 .left) _ (v .visit .ensures) (st .pre .1 .1)))
+
+fields-returns-3 : (t : ℕ) → fields-lts.Need-returns-3 (fields-claims t) (fields-at t) fields.Post
+fields-returns-3 t c = search laws.fields-more
+
+visit-returns : (t : ℕ) → visit-lts.Need-returns (visit-claims t) (visit-at t) visit.Post
+visit-returns t c = search laws.visit-zero
+
+visit-returns-2 : (t : ℕ) → visit-lts.Need-returns-2 (visit-claims t) (visit-at t) visit.Post
+visit-returns-2 t c = search laws.visit-none
+
+visit-returns-3 : (t : ℕ) → visit-lts.Need-returns-3 (visit-claims t) (visit-at t) visit.Post
+visit-returns-3 t c = search laws.visit-seen
+
+visit-add-fields : (t : ℕ) → visit-lts.Need-add-fields (visit-claims t) (visit-at t) visit.Post
+visit-add-fields t c =
+    let e3 = c .before in
+    let pl = e3 .before in
+    let e2 = pl .before .before .before in
+    let e1 = e2 .before in
+    let st = e1 .before .before .before .before in
+    omega (arith, laws.new-fits _ _ _ _ _ (st .args .m) (e1 .if1 .left) (e2 .if2 .left) _ (pl .place-in .ensures) (st .pre .1 .0 .order) (omega (arith, st .fits .m)) (e3 .if3 .left) (st .pre .1 .1))
+
+visit-fields-requires : (t : ℕ) → visit-lts.Need-fields-requires (visit-claims t) (visit-at t) visit.Post
+visit-fields-requires t c κs =
+    let e3 = c .before in
+    let pl = e3 .before in
+    let e2 = pl .before .before .before in
+    let e1 = e2 .before in
+    let st = e1 .before .before .before .before in
+    (omega arith, (record { nodes = omega arith; colours = omega arith; order = simp length-set (omega arith) }, laws.new-small _ _ _ _ _ (st .args .m) (e1 .if1 .left) (e2 .if2 .left) _ (pl .place-in .ensures) (st .pre .1 .0 .order) (omega (arith, st .fits .m)) (e3 .if3 .left) (st .pre .1 .1)))
+
+visit-same-length-2 : (t : ℕ) → visit-lts.Need-same-length-2 (visit-claims t) (visit-at t) visit.Post
+visit-same-length-2 t c = omega (arith, simp length-set at (c .before .before .fields .kept .1 .1 .1 .1 .1 .0))
+
+visit-returns-4 : (t : ℕ) → visit-lts.Need-returns-4 (visit-claims t) (visit-at t) visit.Post
+visit-returns-4 t c = search laws.visit-new
+
+pub +fields+visit-spec : {M : Type 1} → statement M
++fields+visit-spec =
+    close μ-fields μ-visit
+    (λ t. fields-lts.spec (fields-claims t) (fields-at t) fields.Post
+    (fields-returns t)
+    (λ c. search needs)
+    (λ c. search needs)
+    (λ c. search needs)
+    (fields-returns-2 t)
+    (λ c. search needs)
+    (λ c. search needs)
+    (λ c. search needs)
+    (fields-visit-requires t)
+    (λ c. search needs)
+    (fields-fields-requires t)
+    (λ c. search needs)
+    (fields-returns-3 t))
+    (λ t. visit-lts.spec (visit-claims t) (visit-at t) visit.Post
+    (visit-returns t)
+    (visit-returns-2 t)
+    (λ c. search needs)
+    (λ c κs. search needs)
+    (λ c. search needs)
+    (visit-returns-3 t)
+    (λ c. search needs)
+    (λ c. search needs)
+    (visit-add-fields t)
+    (visit-fields-requires t)
+    (visit-same-length-2 t)
+    (visit-returns-4 t))

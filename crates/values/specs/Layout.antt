@@ -1,0 +1,80 @@
+-- How references, objects and values lie in bytes (docs/VALUES.md), and when bytes hold a value.
+-- Not here: what is done with them.
+use Prim.Native.Nat.{ℕ, zero, suc, _+_, _-_, _*_, _≤_, _<_}
+use mathlib.Core.Path.{_≡_}
+use mathlib.Core.Bool.{cond}
+use mathlib.Core.List.{List, [], _∷_}
+use lib.Dec.{ltb, eqb}
+use lib.ListN.{length, getD, take, drop}
+use Rattle.cofj.specs.Values.{Ref, obj, mark, undet, Node, node, Graph, graph, canon, undetermined, markOf}
+use Rattle.cofj.specs.Unfolding.{Whole}
+use Rattle.values.specs.declared.ValueRef.{ValueRef}
+use Rattle.values.specs.declared.ValueRef.the-variants.{Object, Mark, Undetermined}
+
+-- the reference that a code stands for: every number is one
+unfoldable pub refOf : ℕ → Ref
+refOf b = cond (ltb b 192) (obj b) (cond (eqb b 192) undet (mark (b - 193)))
+
+abbrev pub codeOf : Ref → ℕ
+codeOf (obj i) = i
+codeOf undet = 192
+codeOf (mark k) = 193 + k
+
+-- the object at a place: class, number of fields, four codes
+unfoldable pub nodeIn : List ℕ → ℕ → Node
+nodeIn S at =
+    node (getD S at 0)
+    (take (getD S (at + 1) 0)
+    (refOf (getD S (at + 2) 0) ∷ refOf (getD S (at + 3) 0) ∷ refOf (getD S (at + 4) 0) ∷ refOf (getD S (at + 5) 0) ∷ []))
+
+-- n objects from a place on
+unfoldable pub nodesIn : List ℕ → ℕ → ℕ → List Node
+nodesIn S at zero = []
+nodesIn S at (suc n) = nodeIn S at ∷ nodesIn S (at + 6) n
+
+-- at most four fields, and the codes of the others undetermined
+pub record Packed (S : List ℕ) (at : ℕ) : Type 0 where
+  pub count : getD S (at + 1) 0 ≤ 4
+  pub spare : (k : ℕ) → 2 + getD S (at + 1) 0 ≤ k → k < 6 → getD S (at + k) 0 ≡ 192
+
+-- n bytes from a place on
+abbrev pub part : List ℕ → ℕ → ℕ → List ℕ
+part S at n = take n (drop at S)
+
+-- the objects that block b lists
+unfoldable pub countIn : List ℕ → ℕ → ℕ
+countIn W b = getD W (240 * b + 192) 0
+
+-- the value in block b
+unfoldable pub blockIn : List ℕ → ℕ → Graph
+blockIn W b = graph (obj 0) (nodesIn W (240 * b) (countIn W b))
+
+-- block b holds a value
+pub record Block (W : List ℕ) (b : ℕ) : Type 0 where
+  pub room : 240 * b + 240 ≤ length W
+  pub filled : 1 ≤ countIn W b
+  pub small : countIn W b ≤ 32
+  pub packed : (i : ℕ) → i < countIn W b → Packed W (240 * b + 6 * i)
+  pub whole : Whole (blockIn W b)
+  pub own : canon (blockIn W b) ≡ blockIn W b
+
+-- the value that a reference stands for
+abbrev pub valueOf : List ℕ → ValueRef → Graph
+valueOf W (Object b) = blockIn W b
+valueOf W (Mark k) = markOf k
+valueOf W Undetermined = undetermined
+
+abbrev pub HeldBy : List ℕ → ValueRef → Type 0
+HeldBy W (Object b) = Block W b
+HeldBy W (Mark k) = k < 63
+HeldBy W Undetermined = Unit {0}
+
+-- the reference stands for a value in these bytes
+pub record Holds (W : List ℕ) (r : ValueRef) : Type 0 where
+  pub held : HeldBy W r
+
+-- every byte outside block b is as before
+pub record Outside (b : ℕ) (W W′ : List ℕ) : Type 0 where
+  pub same : length W′ ≡ length W
+  pub below : (p : ℕ) → p < 240 * b → getD W′ p 0 ≡ getD W p 0
+  pub above : (p : ℕ) → 240 * b + 240 ≤ p → getD W′ p 0 ≡ getD W p 0

@@ -1,0 +1,38 @@
+-- The objects of a graph, merged and numbered, in a block.
+use Prim.Native.Nat.{ℕ, _+_, _*_, _≤_, _<_}
+use mathlib.Core.Path.{_≡_}
+use mathlib.Core.List.{List}
+use lib.ListN.{length, getD, take}
+use Rattle.cofj.specs.Values.{Graph, graph, obj, colours, canon}
+use Rattle.values.specs.Layout.{nodesIn, Block, blockIn, Outside}
+use Rattle.values.specs.Tables.{copied}
+use Rattle.values.specs.Rounds.{Raw}
+
+-- objects of N, as O lists them, renamed by T, from a place of D on; the other bytes are D₀'s
+pub record Gathered (N O : List ℕ) (m : ℕ) (T D₀ : List ℕ) (to : ℕ) (D : List ℕ) : Type 0 where
+  pub same : length D ≡ length D₀
+  pub here : (j k : ℕ) → j < m → k < 6 → getD D (to + 6 * j + k) 0 ≡ copied T 0 k (getD N (6 * getD O j 0 + k) 0)
+  pub below : (q : ℕ) → q < to → getD D q 0 ≡ getD D₀ q 0
+  pub above : (q : ℕ) → to + 6 * m ≤ q → getD D q 0 ≡ getD D₀ q 0
+
+-- n objects with their colours, a root, and room for the block
+pub record Ready (N : List ℕ) (n : ℕ) (C : List ℕ) (root : ℕ) (W : List ℕ) (dst : ℕ) : Type 0 where
+  pub raw : Raw N n
+  pub long : 256 ≤ length C
+  pub coloured : take n C ≡ colours (nodesIn N 0 n)
+  pub inside : root < n
+  pub room : 240 * dst + 240 ≤ length W
+
+abbrev pub graphIn : List ℕ → ℕ → ℕ → Graph
+graphIn N n root = graph (obj root) (nodesIn N 0 n)
+
+-- a block holds the value v
+pub record Has (W : List ℕ) (b : ℕ) (v : Graph) : Type 0 where
+  pub block : Block W b
+  pub is : blockIn W b ≡ v
+
+-- the value's objects are counted; up to 32 of them are in the block, and nothing else has changed
+pub record Placed (N : List ℕ) (n root : ℕ) (W : List ℕ) (dst : ℕ) (W′ : List ℕ) (r : ℕ) : Type 0 where
+  pub count : r ≡ length (canon (graphIn N n root) .nodes)
+  pub outside : Outside dst W W′
+  pub has : r ≤ 32 → Has W′ dst (canon (graphIn N n root))

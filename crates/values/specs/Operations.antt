@@ -1,0 +1,70 @@
+-- What is done with values in blocks.
+use Prim.Native.Nat.{ℕ, _+_, _-_, _*_, _≤_, _<_}
+use mathlib.Core.Bool.{cond}
+use mathlib.Core.Path.{_≡_}
+use mathlib.Core.List.{List, map}
+use mathlib.Core.Option.{Option, none, some}
+use lib.Dec.{eqb}
+use lib.ListN.{length}
+use Rattle.cofj.specs.Values.{Graph, graph, obj, node, bind, canon, select, close}
+use Rattle.values.specs.declared.ValueRef.{ValueRef}
+use Rattle.values.specs.declared.ValueRef.the-variants.{Object, Mark, Undetermined}
+use Rattle.values.specs.declared.Selected.{Selected}
+use Rattle.values.specs.declared.Selected.the-variants.{Value, Stuck}
+use Rattle.values.specs.Layout.{countIn, blockIn, Block, valueOf, Holds, Outside}
+use Rattle.values.specs.Tables.{Filled, Lifted}
+use Rattle.values.specs.Rounds.{Raw}
+
+-- the objects of block b, copied with one code turned
+pub record Taken (W : List ℕ) (b hot : ℕ) (I R₀ R : List ℕ) (n : ℕ) : Type 0 where
+  pub count : n ≡ countIn W b
+  pub ids : Filled (λ i. 0 + i) n I
+  pub copy : Lifted W (240 * b) (6 * n) I hot R₀ 0 R
+
+-- a reference stands for the value v in the bytes after, and only block dst has changed
+pub record Gives (W : List ℕ) (dst : ℕ) (W′ : List ℕ) (r : ValueRef) (v : Graph) : Type 0 where
+  pub held : Holds W′ r
+  pub is : valueOf W′ r ≡ v
+  pub outside : Outside dst W W′
+
+-- the value of the graph g
+abbrev pub Moved : List ℕ → Graph → ℕ → List ℕ → ValueRef → Type 0
+Moved W g dst W′ r = Gives W dst W′ r (canon g)
+
+-- the objects of block b with some mark bound, in `R`, and 0, 1, .. for their colours so far
+pub record Bound (W : List ℕ) (b : ℕ) (R : List ℕ) (n : ℕ) (C : List ℕ) : Type 0 where
+  pub block : Block W b
+  pub count : n ≡ countIn W b
+  pub raw : Raw R n
+  pub long : 256 ≤ length C
+  pub ids : Filled (λ i. 0 + i) n C
+
+-- a code that is no object's
+abbrev pub refIn : ℕ → ValueRef
+refIn c = cond (eqb c 192) Undetermined (Mark (c - 193))
+
+-- what a selection answers, as a value
+abbrev pub answerIn : List ℕ → Selected → Option Graph
+answerIn W (Value r) = some (valueOf W r)
+answerIn W Stuck = none
+
+abbrev pub AnswerHeld : List ℕ → Selected → Type 0
+AnswerHeld W (Value r) = Holds W r
+AnswerHeld W Stuck = Unit {0}
+
+pub record Leaf (c : ℕ) (r : ValueRef) : Type 0 where
+  pub is : r ≡ refIn c
+  pub small : c < 256
+
+-- field f of the value v
+pub record Chosen (W : List ℕ) (v : Graph) (f dst : ℕ) (W′ : List ℕ) (o : Selected) : Type 0 where
+  pub held : AnswerHeld W′ o
+  pub is : answerIn W′ o ≡ select f v
+  pub outside : Outside dst W W′
+
+-- the objects of block b with mark x bound to the root
+unfoldable pub boundIn : List ℕ → ℕ → ℕ → Graph
+boundIn W b x = graph (obj 0) (map (λ n. node (n .cls) (map (bind x (obj 0)) (n .refs))) (blockIn W b .nodes))
+
+abbrev pub closeOf : ℕ → Graph → Graph
+closeOf x v = close x v

@@ -1,0 +1,30 @@
+-- The report of a value, written to the front of a lent buffer.
+use Prim.Native.Nat.{ℕ, _+_, _≤_}
+use mathlib.Core.Path.{_≡_}
+use mathlib.Core.List.{List, _++_}
+use lib.ListN.{length, take, drop}
+use Rattle.cofj.specs.Values.{Graph}
+use Rattle.cofj.specs.Text.{hexLine}
+use Rattle.cofj.specs.Report.{objectLine, valueReport}
+use Rattle.values.specs.Layout.{nodeIn}
+
+-- the first j of d are p, and the others are as in d₀
+pub record Front (d₀ d : List ℕ) (j : ℕ) (p : List ℕ) : Type 0 where
+  pub same : length d ≡ length d₀
+  pub front : take j d ≡ p
+  pub rest : drop j d ≡ drop j d₀
+
+-- the line of object j, which lies at a place of W
+unfoldable pub lineIn : List ℕ → ℕ → ℕ → List ℕ
+lineIn W at j = objectLine j (nodeIn W at)
+
+-- a line's characters from one place to another
+pub record Line (l d₀ : List ℕ) (to : ℕ) (d : List ℕ) (t : ℕ) : Type 0 where
+  pub up : to ≤ t
+  pub top : t ≤ to + 17
+  pub text : Front d₀ d t (take to d₀ ++ hexLine l)
+
+-- the report of v in front of what was there, and its length
+pub record Reported (v : Graph) (d₀ d : List ℕ) (t : ℕ) : Type 0 where
+  pub count : t ≡ length (valueReport v)
+  pub text : d ≡ valueReport v ++ drop (length (valueReport v)) d₀

@@ -1,0 +1,58 @@
+// Runs of bytes compared, and tables filled. Not here: what the bytes stand for.
+ghost use mathlib.Core.Path.{_≡_};
+ghost use Prim.Native.Nat.{ℕ, _+_, _*_, _<_, _≤_};
+ghost use lib.ListN.{length, getD};
+ghost use Rattle.cofj.specs.Values.{eqNats};
+ghost use Rattle.values.specs.Layout.{part};
+ghost use Rattle.values.specs.Tables.{Filled};
+
+// Whether the n bytes of a from i on are those of b from j on.
+pub fn same(a: &[u8], i: usize, b: &[u8], j: usize, n: usize) -> bool
+    requires { ⌜ (i + n ≤ length (now a)) × (j + n ≤ length (now b)) ⌝ }
+    ensures { λ r. ⌜ r ≡ eqNats (part (now (a .entry)) i n) (part (now (b .entry)) j n) ⌝ }
+{
+    let mut k: usize = 0;
+    while k < n {
+        if a[i + k] != b[j + k] {
+            return false;
+        }
+        k += 1;
+    }
+    true
+}
+
+// The first n bytes of `from`, to `to`.
+pub fn copy(from: &[u8], n: u8, to: &mut [u8])
+    requires { ⌜ (256 ≤ length (now from)) × (256 ≤ length (now to)) ⌝ }
+    ensures { λ _. ⌜ Filled (λ i. getD (now (from .entry)) i 0) n (now (to .exit)) ⌝ }
+{
+    let mut i: u8 = 0;
+    while i < n {
+        to[i as usize] = from[i as usize];
+        i += 1;
+    }
+}
+
+// base, base + 1, .., n of them.
+pub fn count_up(base: u8, n: u8, to: &mut [u8])
+    requires { ⌜ (base + n ≤ 192) × (256 ≤ length (now to)) ⌝ }
+    ensures { λ _. ⌜ Filled (λ i. base + i) n (now (to .exit)) ⌝ }
+{
+    let mut i: u8 = 0;
+    while i < n {
+        to[i as usize] = base + i;
+        i += 1;
+    }
+}
+
+// n zeros.
+pub fn clear(n: u8, to: &mut [u8])
+    requires { ⌜ 256 ≤ length (now to) ⌝ }
+    ensures { λ _. ⌜ Filled (λ i. 0) n (now (to .exit)) ⌝ }
+{
+    let mut i: u8 = 0;
+    while i < n {
+        to[i as usize] = 0;
+        i += 1;
+    }
+}

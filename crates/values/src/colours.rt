@@ -1,0 +1,65 @@
+// The objects' colours, by rounds until nothing changes. Not here: objects that are known to be distinct, which need no rounds.
+use crate::bytes::clear;
+use crate::bytes::copy;
+use crate::bytes::same;
+use crate::lift::lift;
+ghost use mathlib.Core.Path.{_≡_};
+ghost use Prim.Native.Nat.{ℕ, _+_, _*_, _<_, _≤_};
+ghost use lib.ListN.{length, take};
+ghost use Rattle.cofj.specs.Values.{refine, colours};
+ghost use Rattle.values.specs.Layout.{nodesIn};
+ghost use Rattle.values.specs.Tables.{Filled};
+ghost use Rattle.values.specs.Rounds.{Looks, placeIs, Raw, Below, Scratch};
+
+// The first object that looks as object i does.
+pub fn place(looks: &[u8], i: u8, n: u8) -> u8
+    requires { ⌜ Looks (now looks) n × (i < n) ⌝ }
+    ensures { λ r. ⌜ r ≡ placeIs (now (looks .entry)) n i ⌝ }
+{
+    let mut j: u8 = 0;
+    while j < i {
+        if same(looks, 6 * (i as usize), looks, 6 * (j as usize), 6) {
+            return j;
+        }
+        j += 1;
+    }
+    i
+}
+
+// The places of the first n objects.
+pub fn places(looks: &[u8], n: u8, next: &mut [u8])
+    requires { ⌜ Looks (now looks) n × (256 ≤ length (now next)) ⌝ }
+    ensures { λ _. ⌜ Filled (λ i. placeIs (now (looks .entry)) n i) n (now (next .exit)) ⌝ }
+{
+    let mut i: u8 = 0;
+    while i < n {
+        next[i as usize] = place(looks, i, n);
+        i += 1;
+    }
+}
+
+// The colours of one round more, to `next`.
+pub fn round(nodes: &[u8], n: u8, cs: &[u8], looks: &mut [u8], next: &mut [u8])
+    requires { ⌜ Raw (now nodes) n × Below n (now cs) × Scratch (now looks) (now next) ⌝ }
+    ensures { λ _. ⌜ take n (now (next .exit)) ≡ refine (nodesIn (now (nodes .entry)) 0 n) (take n (now (cs .entry))) ⌝ }
+{
+    lift(nodes, 0, 6 * (n as usize), cs, 0, looks, 0);
+    places(looks, n, next);
+}
+
+// Two objects have one colour exactly when they unfold to the same tree.
+pub fn settle(nodes: &[u8], n: u8, cs: &mut [u8], looks: &mut [u8], next: &mut [u8])
+    requires { ⌜ Raw (now nodes) n × (256 ≤ length (now cs)) × Scratch (now looks) (now next) ⌝ }
+    ensures { λ _. ⌜ take n (now (cs .exit)) ≡ colours (nodesIn (now (nodes .entry)) 0 n) ⌝ }
+{
+    clear(n, cs);
+    let mut k: usize = (n as usize) * (n as usize) + 1;
+    while 0 < k {
+        round(nodes, n, cs, looks, next);
+        if same(cs, 0, next, 0, n as usize) {
+            return;
+        }
+        copy(next, n, cs);
+        k -= 1;
+    }
+}

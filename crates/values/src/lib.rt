@@ -1,0 +1,35 @@
+// Canonical values in blocks of the work buffer, and what is done with them: made, selected from, closed, compared, reported.
+// Not here: which blocks are free. The caller names the block that a result goes to.
+pub mod bytes; // runs of bytes compared; tables filled
+pub mod lift; // objects copied, with their codes turned
+pub mod colours; // the objects' colours, by rounds
+pub mod walk; // the order in which they are met
+pub mod number; // the objects, numbered in that order, in a block
+pub mod value; // values compared, selected from, closed
+pub mod lay; // values laid side by side below a new object
+pub mod make; // a new object
+pub mod report; // the report of a value
+
+// A value: the block where it lies, the mark of an open call, or undetermined.
+pub enum ValueRef {
+    Object(usize),
+    Mark(u8),
+    Undetermined,
+}
+
+// What selecting a field answers.
+pub enum Selected {
+    Value(ValueRef),
+    Stuck,
+}
+
+// A part of a new object.
+pub struct Slot {
+    pub r: ValueRef,
+}
+
+// What making an object answers.
+pub enum Made {
+    Value(ValueRef),
+    TooLarge,
+}

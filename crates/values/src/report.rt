@@ -1,0 +1,95 @@
+// The report of a value: a line of hexadecimal for each object. Not here: the report of a run that stops.
+use crate::ValueRef;
+ghost use mathlib.Core.Path.{_≡_};
+ghost use mathlib.Core.List.{_∷_, [], _++_};
+ghost use Prim.Native.Nat.{ℕ, _+_, _*_, _/_, _%_, _<_, _≤_};
+ghost use lib.ListN.{length, getD, take};
+ghost use Rattle.cofj.specs.Text.{char};
+ghost use Rattle.values.specs.Layout.{Block, blockIn, Packed, Holds, valueOf};
+ghost use Rattle.values.specs.Reporting.{Front, lineIn, Line, Reported};
+
+// The character of a digit.
+pub fn char_of(d: u8) -> u8
+    requires { ⌜ d < 16 ⌝ }
+    ensures { λ r. ⌜ r ≡ char d ⌝ }
+{
+    if d <= 9 {
+        return d + 48;
+    }
+    d + 55
+}
+
+// A byte as two digits, at a place of `out`.
+pub fn put_byte(out: &mut [u8], at: usize, b: u8)
+    requires { ⌜ at + 2 ≤ length (now out) ⌝ }
+    ensures { λ _. ⌜ Front (now (out .entry)) (now (out .exit)) (at + 2) (take at (now (out .entry)) ++ (char (b / 16) ∷ char (b % 16) ∷ [])) ⌝ }
+{
+    out[at] = char_of(b / 16);
+    out[at + 1] = char_of(b % 16);
+}
+
+// Byte k of the line of object j, which lies at a place of `work`.
+pub fn line_byte(work: &[u8], at: usize, j: u8, k: usize) -> u8
+    requires { ⌜ Packed (now work) at × (at + 6 ≤ length (now work)) × (k < 4 + getD (now work) (at + 1) 0) ⌝ }
+    ensures { λ r. ⌜ r ≡ getD (lineIn (now (work .entry)) at j) k 0 ⌝ }
+{
+    if k == 0 {
+        return 5;
+    }
+    if k == 1 {
+        return j;
+    }
+    if k < 4 {
+        return work[at + k - 2];
+    }
+    let c = work[at + k - 2];
+    if c < 192 {
+        return c;
+    }
+    255
+}
+
+// The line of object j, at a place of `out`. Answers with the place after it.
+pub fn put_line(work: &[u8], at: usize, j: u8, out: &mut [u8], to: usize) -> usize
+    requires { ⌜ Packed (now work) at × (at + 6 ≤ length (now work)) × (to + 17 ≤ length (now out)) ⌝ }
+    ensures { λ t. ⌜ Line (lineIn (now (work .entry)) at j) (now (out .entry)) to (now (out .exit)) t ⌝ }
+{
+    let n = 4 + work[at + 1] as usize;
+    let mut k: usize = 0;
+    while k < n {
+        let b = line_byte(work, at, j, k);
+        put_byte(out, to + 2 * k, b);
+        k += 1;
+    }
+    out[to + 2 * n] = 10;
+    to + 2 * n + 1
+}
+
+// The lines of the value in block b. Answers how many characters they are.
+pub fn put_lines(work: &[u8], b: usize, out: &mut [u8]) -> usize
+    requires { ⌜ Block (now work) b × (544 ≤ length (now out)) ⌝ }
+    ensures { λ t. ⌜ Reported (blockIn (now (work .entry)) b) (now (out .entry)) (now (out .exit)) t ⌝ }
+{
+    let n = work[240 * b + 192];
+    let mut to: usize = 0;
+    let mut j: u8 = 0;
+    while j < n {
+        to = put_line(work, 240 * b + 6 * (j as usize), j, out, to);
+        j += 1;
+    }
+    to
+}
+
+// The report of a value, at the front of `out`. Answers how many characters it is.
+pub fn report(work: &[u8], r: ValueRef, out: &mut [u8]) -> usize
+    requires { ⌜ Holds (now work) r × (544 ≤ length (now out)) ⌝ }
+    ensures { λ t. ⌜ Reported (valueOf (now (work .entry)) r) (now (out .entry)) (now (out .exit)) t ⌝ }
+{
+    let ValueRef::Object(b) = r else {
+        out[0] = 48;
+        out[1] = 54;
+        out[2] = 10;
+        return 3;
+    };
+    put_lines(work, b, out)
+}
