@@ -1,78 +1,23 @@
 -- What reading makes sure of in a line: its numbers are bytes, and its expressions are nested within the limit. Not here: tables (ReadTables).
-use Prim.Native.Nat.{ℕ, zero, suc, _+_, _*_, _-_, _≤_, _<_}
-use native.Mathlib.Omega.{arith}
-use mathlib.Core.Path.{_≡_, refl, sym, subst}
+use Prim.Native.Nat.{ℕ, zero, suc, _≤_}
+use mathlib.Core.Path.{_≡_, sym, subst}
 use mathlib.Core.Bool.{Bool, true, false}
-use mathlib.Core.List.{List, [], _∷_, _++_, reverse, reverseAux}
+use mathlib.Core.List.{List, [], _∷_, _++_}
 use mathlib.Core.Option.{Option, none, some, Option·none-ne-some}
 use lib.Dec.{eqb, leb}
-use lib.ListN.{length, length-reverse}
+use lib.ListN.{length}
 use borrow.Author.Tests.{leb-true}
 use Rattle.cofj.specs.Limits.{lineSize, fieldCount, paramCount, nestingLimit}
 use Rattle.cofj.specs.Partial.{_>>=_}
 use Rattle.cofj.specs.Syntax.{Expr, param, Exprs, Ty, Method}
-use Rattle.cofj.specs.Text.{within, digit, endLine, linesFrom}
+use Rattle.cofj.specs.Text.{within}
 use Rattle.cofj.specs.Frames.{Got, Reader, got, byte, upTo, type, types, exprsBy, fieldAfter, callAfter, newAfter, exprAfter, expr, TextFrame, classFrame, methodFrame, mainFrame, whole, classAfter, methodAfter, mainAfter, frame, frames}
 use Rattle.cofj.specs.Writing.{typesBytes}
-use Rattle.cofj.proofs.Partial.{opt-bind, guard-bind}
+use Rattle.cofj.proofs.Partial.{guard-bind}
 use Rattle.cofj.proofs.Partial.{taken}
-use Rattle.cofj.proofs.TextRound.{within-true, Bytes, Lines}
+use Rattle.cofj.proofs.TextRound.{Bytes, Lines}
 use Rattle.cofj.proofs.FrameRound.{pair, given, same, taken-as, type-back, types-back, lineOf, frame-back}
 use Rattle.checker.specs.Ready.{Each, Parts, Nested}
-
--- ---- lines
-digit-small : (c d : ℕ) → digit c ≡ some d → d ≤ 15
-digit-small c d e = go (within 48 57 c) refl (within 65 70 c) refl e
-  where
-    go : (x : Bool) → within 48 57 c ≡ x → (y : Bool) → within 65 70 c ≡ y
-        → _≡_ {A = Option ℕ} (elim x [ true ↦ some (c - 48) | false ↦ elim y [ true ↦ some (c - 55) | false ↦ none ] ]) (some d) → d ≤ 15
-    go true p y q z =
-        let w : c - 48 ≡ d = cc in
-        let r = within-true 48 57 c p .1 in
-        omega arith
-    go false p true q z =
-        let w : c - 55 ≡ d = cc in
-        let r = within-true 65 70 c q .1 in
-        omega arith
-    go false p false q z = absurd (Option·none-ne-some d z)
-
-bytes-reverse : (bs r : List ℕ) → Bytes bs → Bytes r → Bytes (reverseAux bs r)
-bytes-reverse [] r h k = k
-bytes-reverse (b ∷ bs) r h k = bytes-reverse bs (b ∷ r) (h .1) (h .0, k)
-
-abbrev Waiting : Option ℕ → Type 0
-Waiting none = Unit {0}
-Waiting (some h) = h ≤ 15
-
-pub lines-read : (s : List ℕ) (p : Option ℕ) (bs : List ℕ) (ls : List (List ℕ)) → linesFrom s p bs ≡ some ls → Waiting p → Bytes bs → Lines ls
-unfolding linesFrom
-lines-read [] none [] ls e w h = let y : some [] ≡ some ls = e in subst Lines (let q : [] ≡ ls = cc in q) tt
-lines-read [] none (b ∷ bs) ls e w h = absurd (Option·none-ne-some ls e)
-lines-read [] (some d) bs ls e w h = absurd (Option·none-ne-some ls e)
-lines-read (c ∷ cs) none bs ls e w h = go (eqb c 10) e (λ ms z. lines-read cs none [] ms z tt tt) (λ d z l. lines-read cs (some d) bs ls z l h)
-  where
-    go : (x : Bool)
-        → _≡_ {A = Option (List (List ℕ))} (elim x [ true ↦ endLine none bs (linesFrom cs none []) | false ↦ digit c >>= λ d. linesFrom cs (some d) bs ]) (some ls)
-        → ((ms : List (List ℕ)) → linesFrom cs none [] ≡ some ms → Lines ms)
-        → ((d : ℕ) → linesFrom cs (some d) bs ≡ some ls → d ≤ 15 → Lines ls) → Lines ls
-    go true z ended onward =
-        let a = guard-bind (within 1 lineSize (length bs)) (λ _. linesFrom cs none [] >>= λ ms. some (reverse bs ∷ ms)) ls z in
-        let b = opt-bind (linesFrom cs none []) (λ ms. some (reverse bs ∷ ms)) ls (a .1) in
-        let l = within-true 1 lineSize (length bs) (a .0) in
-        let q : length (reverse bs) ≡ length bs = length-reverse bs in
-        subst Lines (let y : reverse bs ∷ b .0 ≡ ls = cc (b .2) in y)
-        (subst (λ (k : ℕ). 1 ≤ k) (sym q) (l .0), subst (λ (k : ℕ). k ≤ lineSize) (sym q) (l .1), bytes-reverse bs [] h tt, ended (b .0) (b .1))
-    go false z ended onward =
-        let a = opt-bind (digit c) (λ d. linesFrom cs (some d) bs) ls z in
-        onward (a .0) (a .2) (digit-small c (a .0) (a .1))
-lines-read (c ∷ cs) (some k) bs ls e w h = go (eqb c 10) e (λ d z l. lines-read cs none ((16 * k + d) ∷ bs) ls z tt (let q : 16 * k + d < 256 = omega arith in q, h))
-  where
-    go : (x : Bool) → _≡_ {A = Option (List (List ℕ))} (elim x [ true ↦ none | false ↦ digit c >>= λ d. linesFrom cs none ((16 * k + d) ∷ bs) ]) (some ls)
-        → ((d : ℕ) → linesFrom cs none ((16 * k + d) ∷ bs) ≡ some ls → d ≤ 15 → Lines ls) → Lines ls
-    go true z onward = absurd (Option·none-ne-some ls z)
-    go false z onward =
-        let a = opt-bind (digit c) (λ d. linesFrom cs none ((16 * k + d) ∷ bs)) ls z in
-        onward (a .0) (a .2) (digit-small c (a .0) (a .1))
 
 -- ---- steps of a reader
 bytes-after : (xs ys : List ℕ) → Bytes (xs ++ ys) → Bytes ys

@@ -7,12 +7,12 @@ use mathlib.Core.Option.{Option, none, some, Option·none-ne-some}
 use lib.Dec.{leb}
 use lib.ListN.{length, getElem?}
 use borrow.Author.Tests.{leb-true}
-use Rattle.cofj.specs.Limits.{classCount, methodCount, fieldCount, textSize, lineSize, nestingLimit}
+use Rattle.cofj.specs.Limits.{classCount, methodCount, fieldCount, lineSize, nestingLimit}
 use Rattle.cofj.specs.Partial.{_>>=_}
 use Rattle.cofj.specs.Syntax.{Class, Method, Table}
 use Rattle.cofj.specs.Classes.{classAt, ownOrNone, fieldsOf}
 use Rattle.cofj.specs.Typing.{closedTag, allClosed}
-use Rattle.cofj.specs.Text.{within, lines, linesFrom}
+use Rattle.cofj.specs.Text.{lines}
 use Rattle.cofj.specs.Frames.{ClassFrame, TextFrame, classFrame, methodFrame, mainFrame, frames}
 use Rattle.cofj.specs.Tables.{Raw, raw, inFront, ordered, few, numbered, known, allKnown, exprKnown, classesGood, hasName, methodsGood, bodies, table, overridden, overridesGood}
 use Rattle.cofj.specs.Reading.{read, readText}
@@ -24,7 +24,8 @@ use Rattle.cofj.proofs.Partial.{taken}
 use Rattle.cofj.proofs.Readable.{else-inv, read-formed}
 use Rattle.cofj.proofs.FrameRound.{given}
 use Rattle.checker.specs.Ready.{Nested, MethodReady, Ready}
-use Rattle.checker.proofs.ReadFrames.{lines-read, Body, Short, AllShort, frames-within}
+use Rattle.cofj.proofs.TextRound.{lines-bytes}
+use Rattle.checker.proofs.ReadFrames.{Body, Short, AllShort, frames-within}
 
 -- ---- frames in order
 abbrev Bodies : Raw → Type 0
@@ -132,11 +133,10 @@ read-ready s t e =
     let g = guard-bind (overridesGood (d .0) (d .0 .methods)) (λ _. some (d .0)) (f .0) (f .1) in
     let x = opt-bind (ordered (b .0)) few (c .0) (c .1) in
     let y = guard-bind (leb (length (x .0 .classes)) classCount && leb (length (x .0 .methods)) methodCount) (λ _. some (x .0)) (c .0) (x .2) in
-    let z = guard-bind (within 1 textSize (length s)) (λ _. linesFrom s none []) (a .0) (a .1) in
     let p : x .0 ≡ c .0 = cc (y .1) in
     let q : d .0 ≡ t = cc (g .1, f .2) in
     let l = leb-true (length (x .0 .methods)) methodCount (and-true (leb (length (x .0 .classes)) classCount) (leb (length (x .0 .methods)) methodCount) (y .0) .1) in
-    let bs = ordered-bodies (b .0) (x .0) (x .1) (frames-within (a .0) (b .0) (b .1) (lines-read s none [] (a .0) (z .1) tt tt)) in
+    let bs = ordered-bodies (b .0) (x .0) (x .1) (frames-within (a .0) (b .0) (b .1) (lines-bytes s (a .0) (a .1))) in
     let k = subst Facts q (table-facts (c .0) (d .0) (d .1) (subst (λ (w : Raw). length (w .methods) ≤ methodCount) p l) (subst Bodies p bs)) in
     record {
       formed = read-formed s t e;

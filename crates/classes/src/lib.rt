@@ -11,6 +11,7 @@ pub mod overrides; // methods that override have the same types
 use crate::places::SIZE;
 
 // The bytes of a class table. Lend them: nothing is copied.
+#[repr(C)]
 pub struct ClassTable {
     pub bytes: [u8; SIZE],
 }

@@ -2,16 +2,16 @@
 -- Not here: what the lines mean (FrameRound), tables (RoundTrip).
 use Prim.Native.Nat.{ℕ, _+_, _*_, _-_, _/_, _%_, _≤_, _<_}
 use native.Mathlib.Omega.{arith}
-use mathlib.Core.Path.{_≡_, refl, sym, ap, ap₂, _∙_}
+use mathlib.Core.Path.{_≡_, refl, sym, ap, ap₂, _∙_, subst}
 use mathlib.Core.Bool.{Bool, true, false, _&&_, cond}
 use mathlib.Core.List.{List, [], _∷_, _++_, reverse, reverseAux, reverse-reverse}
 use mathlib.Core.Option.{Option, none, some, Option·none-ne-some}
 use lib.Dec.{eqb, leb}
 use lib.ListN.{length, length-reverse}
 use borrow.Author.Tests.{eqb-true, ne-eqb, leb-true, leb-false, le-leb, lt-leb}
-use Rattle.cofj.specs.Limits.{lineSize}
+use Rattle.cofj.specs.Limits.{lineSize, textSize}
 use Rattle.cofj.specs.Partial.{_>>=_, guard}
-use Rattle.cofj.specs.Text.{within, digit, char, endLine, linesFrom, hexLine, hexText}
+use Rattle.cofj.specs.Text.{within, digit, char, endLine, linesFrom, lines, hexLine, hexText}
 use Rattle.cofj.proofs.Partial.{and-true, opt-bind, guard-bind}
 
 -- ---- a digit and its character
@@ -198,3 +198,61 @@ lines-written (l ∷ ls) h =
     ∙ ap (λ (n : ℕ). guard (within 1 lineSize n) >>= λ _. some (reverse (reverse l) ∷ ls)) (length-reverse l)
     ∙ ap (λ (b : Bool). guard b >>= λ _. some (reverse (reverse l) ∷ ls)) (true-within 1 lineSize (length l) (h .0) (h .1))
     ∙ ap (λ (m : List ℕ). some (m ∷ ls)) (reverse-reverse l)
+
+-- ---- what is read of a text is lines of bytes
+digit-small : (c d : ℕ) → digit c ≡ some d → d ≤ 15
+digit-small c d e = go (within 48 57 c) refl (within 65 70 c) refl e
+  where
+    go : (x : Bool) → within 48 57 c ≡ x → (y : Bool) → within 65 70 c ≡ y
+        → _≡_ {A = Option ℕ} (elim x [ true ↦ some (c - 48) | false ↦ elim y [ true ↦ some (c - 55) | false ↦ none ] ]) (some d) → d ≤ 15
+    go true p y q z =
+        let w : c - 48 ≡ d = cc in
+        let r = within-true 48 57 c p .1 in
+        omega arith
+    go false p true q z =
+        let w : c - 55 ≡ d = cc in
+        let r = within-true 65 70 c q .1 in
+        omega arith
+    go false p false q z = absurd (Option·none-ne-some d z)
+
+bytes-reverse : (bs r : List ℕ) → Bytes bs → Bytes r → Bytes (reverseAux bs r)
+bytes-reverse [] r h k = k
+bytes-reverse (b ∷ bs) r h k = bytes-reverse bs (b ∷ r) (h .1) (h .0, k)
+
+abbrev Waiting : Option ℕ → Type 0
+Waiting none = Unit {0}
+Waiting (some h) = h ≤ 15
+
+lines-from : (s : List ℕ) (p : Option ℕ) (bs : List ℕ) (ls : List (List ℕ)) → linesFrom s p bs ≡ some ls → Waiting p → Bytes bs → Lines ls
+unfolding linesFrom
+lines-from [] none [] ls e w h = let y : some [] ≡ some ls = e in subst Lines (let q : [] ≡ ls = cc in q) tt
+lines-from [] none (b ∷ bs) ls e w h = absurd (Option·none-ne-some ls e)
+lines-from [] (some d) bs ls e w h = absurd (Option·none-ne-some ls e)
+lines-from (c ∷ cs) none bs ls e w h = go (eqb c 10) e (λ ms z. lines-from cs none [] ms z tt tt) (λ d z l. lines-from cs (some d) bs ls z l h)
+  where
+    go : (x : Bool)
+        → _≡_ {A = Option (List (List ℕ))} (elim x [ true ↦ endLine none bs (linesFrom cs none []) | false ↦ digit c >>= λ d. linesFrom cs (some d) bs ]) (some ls)
+        → ((ms : List (List ℕ)) → linesFrom cs none [] ≡ some ms → Lines ms)
+        → ((d : ℕ) → linesFrom cs (some d) bs ≡ some ls → d ≤ 15 → Lines ls) → Lines ls
+    go true z ended onward =
+        let a = guard-bind (within 1 lineSize (length bs)) (λ _. linesFrom cs none [] >>= λ ms. some (reverse bs ∷ ms)) ls z in
+        let b = opt-bind (linesFrom cs none []) (λ ms. some (reverse bs ∷ ms)) ls (a .1) in
+        let l = within-true 1 lineSize (length bs) (a .0) in
+        let q : length (reverse bs) ≡ length bs = length-reverse bs in
+        subst Lines (let y : reverse bs ∷ b .0 ≡ ls = cc (b .2) in y)
+        (subst (λ (k : ℕ). 1 ≤ k) (sym q) (l .0), subst (λ (k : ℕ). k ≤ lineSize) (sym q) (l .1), bytes-reverse bs [] h tt, ended (b .0) (b .1))
+    go false z ended onward =
+        let a = opt-bind (digit c) (λ d. linesFrom cs (some d) bs) ls z in
+        onward (a .0) (a .2) (digit-small c (a .0) (a .1))
+lines-from (c ∷ cs) (some k) bs ls e w h = go (eqb c 10) e (λ d z l. lines-from cs none ((16 * k + d) ∷ bs) ls z tt (let q : 16 * k + d < 256 = omega arith in q, h))
+  where
+    go : (x : Bool) → _≡_ {A = Option (List (List ℕ))} (elim x [ true ↦ none | false ↦ digit c >>= λ d. linesFrom cs none ((16 * k + d) ∷ bs) ]) (some ls)
+        → ((d : ℕ) → linesFrom cs none ((16 * k + d) ∷ bs) ≡ some ls → d ≤ 15 → Lines ls) → Lines ls
+    go true z onward = absurd (Option·none-ne-some ls z)
+    go false z onward =
+        let a = opt-bind (digit c) (λ d. linesFrom cs none ((16 * k + d) ∷ bs)) ls z in
+        onward (a .0) (a .2) (digit-small c (a .0) (a .1))
+
+pub lines-bytes : (s : List ℕ) (ls : List (List ℕ)) → lines s ≡ some ls → Lines ls
+unfolding lines
+lines-bytes s ls e = lines-from s none [] ls (guard-bind (within 1 textSize (length s)) (λ _. linesFrom s none []) ls e .1) tt tt
