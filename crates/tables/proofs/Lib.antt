@@ -1,1 +1,4 @@
 pub mod ReadLaws
+pub mod WriteLaws
+pub mod LinesIn
+pub mod Written

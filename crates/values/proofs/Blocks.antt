@@ -193,4 +193,4 @@ module _ (W : List ℕ) (b : ℕ) (bk : Block W b) where
         let e : canon (graphIn R n c) ≡ canon (graph (obj c) (blockIn W b .nodes)) = ap canon (graph-copied c) in
         let few : m ≤ 32 = omega (arith, p .count, ap (λ (g : Graph). length (g .nodes)) e, canon-length (graph (obj c) (blockIn W b .nodes)) w, length-nodes W (240 * b) (countIn W b), bk .small) in
         let h : Has W′ dst (canon (graphIn R n c)) = p .has few in
-        record { held = record { held = h .block }; is = h .is ∙ e; outside = p .outside }
+        record { held = record { held = h .block }; is = h .is ∙ e; place = refl; outside = p .outside }

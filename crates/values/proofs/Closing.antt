@@ -88,7 +88,7 @@ module _ (W : List ℕ) (b x : ℕ) (bk : Block W b) (I R₀ R : List ℕ) (n : 
         bk .small,
       ) in
       let h : Has W′ dst (canon (graphIn R n 0)) = p .has few in
-      record { held = record { held = h .block }; is = h .is ∙ e; outside = p .outside }
+      record { held = record { held = h .block }; is = h .is ∙ e; place = refl; outside = p .outside }
 
 -- ---- by what a value is
 module _ (W : List ℕ) (x : ℕ) (r : ValueRef) (dst : ℕ) where
@@ -98,15 +98,15 @@ module _ (W : List ℕ) (x : ℕ) (r : ValueRef) (dst : ℕ) where
 
   pub close-this : (k : ℕ) → r ≡ Mark k → k ≡ x → Gives W dst W Undetermined (close x (valueOf W r))
   unfolding close
-  close-this k e q = record { held = record { held = tt }; is = rw (e, eq-eqb k x q, close); outside = unchanged dst W }
+  close-this k e q = record { held = record { held = tt }; is = rw (e, eq-eqb k x q, close); place = tt; outside = unchanged dst W }
 
   pub close-other : (k : ℕ) → Holds W r → r ≡ Mark k → ((k ≡ x) → ⊥) → Gives W dst W (Mark k) (close x (valueOf W r))
   unfolding close
-  close-other k h e q = record { held = record { held = subst (HeldBy W) e (h .held) }; is = rw (e, ne-eqb k x q, close); outside = unchanged dst W }
+  close-other k h e q = record { held = record { held = subst (HeldBy W) e (h .held) }; is = rw (e, ne-eqb k x q, close); place = tt; outside = unchanged dst W }
 
   pub close-undet : r ≡ Undetermined → Gives W dst W Undetermined (close x (valueOf W r))
   unfolding close
-  close-undet e = record { held = record { held = tt }; is = rw e; outside = unchanged dst W }
+  close-undet e = record { held = record { held = tt }; is = rw e; place = tt; outside = unchanged dst W }
 
   pub close-held : (b : ℕ) → Holds W r → r ≡ Object b → Block W b
   close-held b h e = subst (HeldBy W) e (h .held)

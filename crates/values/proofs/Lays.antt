@@ -302,11 +302,12 @@ module _ (W : List ℕ) (c : ℕ) (ps : List Slot) (n : ℕ) (R : List ℕ) (t :
     size = p .count ∙ ap (λ (g : Graph). length (g .nodes)) value-is
 
     pub made-large : 32 < m → MadeIs W (make c (valuesFrom W ps 0 n)) dst W′ TooLarge
-    made-large h = record { held = tt; is = rw (← size, lt-leb m 32 h); outside = p .outside }
+    made-large h = record { held = tt; is = rw (← size, lt-leb m 32 h); place = tt; outside = p .outside }
 
     pub made-value : m ≤ 32 → MadeIs W (make c (valuesFrom W ps 0 n)) dst W′ (Value (Object dst))
     made-value h = record {
       held = record { held = p .has h .block };
       is = rw (← size, le-leb m 32 h) (ap some (p .has h .is ∙ value-is));
+      place = refl;
       outside = p .outside;
     }

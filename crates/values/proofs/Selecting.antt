@@ -69,6 +69,7 @@ module _ (W : List ℕ) (b : ℕ) (bk : Block W b) where
     choose-none h = record {
       held = tt;
       is = sym (ap (selected (blockIn W b .nodes)) (get-none (refsAt (blockIn W b .nodes) 0) f (omega (arith, length-root))));
+      place = tt;
       outside = unchanged dst W;
     }
 
@@ -98,6 +99,7 @@ module _ (W : List ℕ) (b : ℕ) (bk : Block W b) where
               subst (λ (x : ValueRef). Chosen W (blockIn W b) f dst W (Value x)) (sym eo) (record {
                 held = record { held = tt };
                 is = ap some (sym (ap (λ (x : ℕ). canon (graph (refOf x) (blockIn W b .nodes))) e ∙ ap (λ (r : Ref). canon (graph r (blockIn W b .nodes))) ref-undet ∙ canon-undet (blockIn W b .nodes))) ∙ sym chosen-is;
+                place = tt;
                 outside = unchanged dst W;
               })
           go (no n) =
@@ -107,6 +109,7 @@ module _ (W : List ℕ) (b : ℕ) (bk : Block W b) where
               subst (λ (x : ValueRef). Chosen W (blockIn W b) f dst W (Value x)) (sym eo) (record {
                 held = record { held = omega (arith, l .small) };
                 is = ap some (sym (ap (λ (r : Ref). canon (graph r (blockIn W b .nodes))) er ∙ canon-mark _ (blockIn W b .nodes))) ∙ sym chosen-is;
+                place = tt;
                 outside = unchanged dst W;
               })
 
@@ -118,14 +121,15 @@ module _ (W : List ℕ) (b : ℕ) (bk : Block W b) where
         choose-object v W′ m = record {
           held = m .held;
           is = ap some (m .is ∙ ap (λ (r : Ref). canon (graph r (blockIn W b .nodes))) (sym (ref-object _ ho))) ∙ sym chosen-is;
+          place = m .place;
           outside = m .outside;
         }
 
 pub select-none : (W : List ℕ) (r : ValueRef) (f dst : ℕ) → OneOf (1 ∷ 2 ∷ []) (tagOf RefT.the-type r) → Chosen W (valueOf W r) f dst W Stuck
 unfolding select
 select-none W (Object n) f dst h = ⊎-elim (λ e. absurd (eqb-false 0 1 refl e)) (λ e. absurd (eqb-false 0 2 refl e)) h
-select-none W (Mark n) f dst h = record { held = tt; is = refl; outside = unchanged dst W }
-select-none W Undetermined f dst h = record { held = tt; is = refl; outside = unchanged dst W }
+select-none W (Mark n) f dst h = record { held = tt; is = refl; place = tt; outside = unchanged dst W }
+select-none W Undetermined f dst h = record { held = tt; is = refl; place = tt; outside = unchanged dst W }
 
 pub select-one : (W : List ℕ) (r : ValueRef) (b f dst : ℕ) (W′ : List ℕ) (o : Selected) → r ≡ Object b → Chosen W (blockIn W b) f dst W′ o → Chosen W (valueOf W r) f dst W′ o
 select-one W r b f dst W′ o e h = rw e h

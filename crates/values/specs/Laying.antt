@@ -13,6 +13,7 @@ use Rattle.values.specs.declared.Slot.{Slot}
 use Rattle.values.specs.declared.Made.{Made}
 use Rattle.values.specs.declared.Made.the-variants.{Value, TooLarge}
 use Rattle.values.specs.Layout.{refOf, nodesIn, Packed, valueOf, Holds, Outside}
+use Rattle.values.specs.Operations.{InBlock}
 
 -- the values of parts i to n
 unfoldable pub valuesFrom : List ℕ → List Slot → ℕ → ℕ → List Graph
@@ -68,8 +69,13 @@ abbrev pub MadeHeld : List ℕ → Made → Type 0
 MadeHeld W (Value r) = Holds W r
 MadeHeld W TooLarge = Unit {0}
 
+abbrev pub MadePlace : ℕ → Made → Type 0
+MadePlace b (Value r) = InBlock b r
+MadePlace b TooLarge = Unit {0}
+
 -- the value v, unless it has more than 32 objects; only block dst has changed
 pub record MadeIs (W : List ℕ) (v : Graph) (dst : ℕ) (W′ : List ℕ) (o : Made) : Type 0 where
   pub held : MadeHeld W′ o
   pub is : madeIn W′ o ≡ cond (leb (length (v .nodes)) 32) (some v) none
+  pub place : MadePlace dst o
   pub outside : Outside dst W W′

@@ -21,10 +21,17 @@ pub record Taken (W : List ℕ) (b hot : ℕ) (I R₀ R : List ℕ) (n : ℕ) : 
   pub ids : Filled (λ i. 0 + i) n I
   pub copy : Lifted W (240 * b) (6 * n) I hot R₀ 0 R
 
+-- a result lies in block b, if it is an object
+abbrev pub InBlock : ℕ → ValueRef → Type 0
+InBlock b (Object c) = c ≡ b
+InBlock b (Mark k) = Unit {0}
+InBlock b Undetermined = Unit {0}
+
 -- a reference stands for the value v in the bytes after, and only block dst has changed
 pub record Gives (W : List ℕ) (dst : ℕ) (W′ : List ℕ) (r : ValueRef) (v : Graph) : Type 0 where
   pub held : Holds W′ r
   pub is : valueOf W′ r ≡ v
+  pub place : InBlock dst r
   pub outside : Outside dst W W′
 
 -- the value of the graph g
@@ -52,6 +59,10 @@ abbrev pub AnswerHeld : List ℕ → Selected → Type 0
 AnswerHeld W (Value r) = Holds W r
 AnswerHeld W Stuck = Unit {0}
 
+abbrev pub AnswerPlace : ℕ → Selected → Type 0
+AnswerPlace b (Value r) = InBlock b r
+AnswerPlace b Stuck = Unit {0}
+
 pub record Leaf (c : ℕ) (r : ValueRef) : Type 0 where
   pub is : r ≡ refIn c
   pub small : c < 256
@@ -60,6 +71,7 @@ pub record Leaf (c : ℕ) (r : ValueRef) : Type 0 where
 pub record Chosen (W : List ℕ) (v : Graph) (f dst : ℕ) (W′ : List ℕ) (o : Selected) : Type 0 where
   pub held : AnswerHeld W′ o
   pub is : answerIn W′ o ≡ select f v
+  pub place : AnswerPlace dst o
   pub outside : Outside dst W W′
 
 -- the objects of block b with mark x bound to the root

@@ -1,0 +1,150 @@
+-- The method that a call names, found in a table's bytes.
+use Prim.Native.Nat.{ℕ, zero, suc, _+_, _*_, _≤_, _<_}
+use native.Mathlib.Omega.{arith}
+use mathlib.Core.Path.{_≡_, refl, sym, ap, _∙_, subst}
+use mathlib.Core.Bool.{Bool, true, false}
+use mathlib.Core.List.{List, [], _∷_}
+use mathlib.Core.Logic.{⊎-elim}
+use mathlib.Core.Option.{Option, none, some, Option·none-ne-some}
+use lib.Dec.{eqb}
+use lib.ListN.{length, getD, getElem?}
+use borrow.Author.Tests.{eqb-false, ne-eqb}
+use types.Run.{OneOf}
+use denote.Enum.Declared.{tagOf}
+use Rattle.cofj.specs.Limits.{classCount, methodCount}
+use Rattle.cofj.specs.Syntax.{Class, Method, Table}
+use Rattle.cofj.specs.Classes.{parentOf, parentOr0, methodOf, lookupTo, lookup}
+use Rattle.cofj.specs.Values.{Node}
+use Rattle.cofj.specs.Running.{classOf, target}
+use Rattle.cofj.specs.WellFormed.{AllMethods, MethodFormed}
+use Rattle.cofj.proofs.SideConditions.{target-object, target-lacks, target-count}
+use Rattle.classes.specs.declared.methods.Found.{Found}
+use Rattle.classes.specs.declared.methods.Found.the-variants as found
+use Rattle.classes.specs.Machine.{pick, lookupOf}
+use Rattle.classes.specs.Layout.{layout, Finds}
+use Rattle.classes.proofs.Zones.{param-count-at}
+use Rattle.classes.proofs.OnTables.{lookup-on}
+use Rattle.checker.specs.Types.{counted, receiverOf}
+use Rattle.checker.specs.Ready.{Ready, MethodReady}
+use Rattle.checker.proofs.OnBytes.{index-below}
+use Rattle.checker.proofs.Known.{method-at}
+use Rattle.values.specs.declared.ValueRef.{ValueRef}
+use Rattle.values.specs.declared.ValueRef.the-variants.{Object, Mark, Undetermined}
+use Rattle.values.proofs.ValueRef as RefT
+use Rattle.values.specs.Layout.{nodeIn, countIn, blockIn, Block, HeldBy, valueOf, Holds}
+use Rattle.values.proofs.Nodes.{at-nodes}
+use Rattle.evaluator.specs.Evaluation.{Tabled}
+use Rattle.evaluator.specs.Calling.{FewIf, FindsTarget}
+
+-- ---- classes past the table have no methods
+own-past : (n c m : ℕ) (ds : List Method) → AllMethods (MethodReady n) ds → n < c → methodOf ds c m ≡ none
+unfolding methodOf
+own-past n c m [] h l = refl
+own-past n c m (d ∷ ds) h l =
+    rw (ne-eqb (d .owner) c (λ e. let o = h .0 .owner in omega arith), methodOf) (own-past n c m ds (h .1) l)
+
+own-object : (t : Table) (m : ℕ) (ds : List Method) → AllMethods (MethodFormed t) ds → methodOf ds 0 m ≡ none
+unfolding methodOf
+own-object t m [] h = refl
+own-object t m (d ∷ ds) h = rw (ne-eqb (d .owner) 0 (λ e. let o = h .0 .owned in omega arith), methodOf) (own-object t m ds (h .1))
+
+past-end : (cs : List Class) (k : ℕ) → length cs ≤ k → getElem? cs k ≡ none
+past-end [] k h = refl
+past-end (c ∷ cs) zero h = absurd (omega arith)
+past-end (c ∷ cs) (suc k) h = past-end cs k (omega arith)
+
+parent-past : (cs : List Class) (c : ℕ) → length cs < c → parentOf cs c ≡ 0
+parent-past cs zero h = absurd (omega arith)
+parent-past cs (suc k) h = ap parentOr0 (past-end cs k (omega arith))
+
+module _ (t : Table) (rd : Ready t) (m : ℕ) where
+  lookup-object : (n : ℕ) → lookupTo n t 0 m ≡ none
+  unfolding lookupTo
+  lookup-object zero = refl
+  lookup-object (suc n) = rw (own-object t m (t .methods) (rd .formed .methods), lookupTo) (lookup-object n)
+
+  lookup-past : (c : ℕ) → classCount < c → lookup t c m ≡ none
+  unfolding lookupTo
+  lookup-past zero h = absurd (omega arith)
+  lookup-past (suc k) h =
+      let l : length (t .classes) < suc k = (let q = rd .formed .classes in omega arith) in
+      rw (own-past (length (t .classes)) (suc k) m (t .methods) (rd .methods) l, lookupTo, parent-past (t .classes) (suc k) l) (lookup-object k)
+
+-- ---- the class of the value in a block
+class-in : (W : List ℕ) (b : ℕ) → Block W b → classOf (blockIn W b) ≡ some (getD W (240 * b) 0)
+unfolding blockIn nodeIn
+class-in W b bk =
+    let f = bk .filled in
+    ap some (ap (λ (n : Node). n .cls) (at-nodes W (240 * b) (countIn W b) 0 (omega arith)) ∙ ap (λ (p : ℕ). getD W p 0) (let z : 240 * b + 6 * 0 ≡ 240 * b = omega arith in z))
+
+object-in : (W : List ℕ) (v : ValueRef) (b : ℕ) → Holds W v → v ≡ Object b → Block W b
+object-in W v b h e = subst (HeldBy W) e (h .held)
+
+pub object-room : (W : List ℕ) (v : ValueRef) (b : ℕ) → Holds W v → v ≡ Object b → 240 * b + 240 ≤ length W
+object-room W v b h e = object-in W v b h e .room
+
+none-found : (t : Table) (x : Option Method) → x ≡ none → Finds (t .methods) found.Nothing x
+none-found t none e = Finds.nothing
+none-found t (some d) e = absurd (Option·none-ne-some d (sym e))
+
+module _ (T W : List ℕ) (v : ValueRef) (m n : ℕ) where
+  pub find-none : OneOf (1 ∷ 2 ∷ []) (tagOf RefT.the-type v) → FindsTarget T W v m n found.Nothing
+  find-none h = record { few = tt; is = λ t tb s. none-found t (target t (valueOf W v) m n) (target-object t (valueOf W v) m n (no-class v h)) }
+    where
+      no-class : (r : ValueRef) → OneOf (1 ∷ 2 ∷ []) (tagOf RefT.the-type r) → classOf (valueOf W r) ≡ none
+      no-class (Object b) z = ⊎-elim (λ e. absurd (eqb-false 0 1 refl e)) (λ e. absurd (eqb-false 0 2 refl e)) z
+      no-class (Mark k) z = refl
+      no-class Undetermined z = refl
+
+  module _ (hv : Holds W v) (b : ℕ) (ev : v ≡ Object b) where
+    class-is : classOf (valueOf W v) ≡ some (getD W (240 * b) 0)
+    class-is = ap (λ (r : ValueRef). classOf (valueOf W r)) ev ∙ class-in W b (object-in W v b hv ev)
+
+    pub find-past : 32 < getD W (240 * b) 0 → FindsTarget T W v m n found.Nothing
+    find-past h = record {
+      few = tt;
+      is = λ t tb s. none-found t (target t (valueOf W v) m n) (target-lacks t (valueOf W v) m n (getD W (240 * b) 0) class-is (lookup-past t (tb .ready) m (getD W (240 * b) 0) h));
+    }
+
+    module _ (known : getD W (240 * b) 0 ≤ 32) where
+      counted-is : (t : Table) → Tabled T t → (f : Found) (x : Option Method) → Finds (t .methods) f x → lookup t (getD W (240 * b) 0) m ≡ x
+          → Finds (t .methods) (counted T n f) (target t (valueOf W v) m n)
+      unfolding target
+      counted-is t tb f x (Finds.at {i} {d} e) q =
+          let l : i < methodCount = (let a = index-below (t .methods) i d e in let c = tb .ready .count in omega arith) in
+          rw (tb .bytes, param-count-at t i d l e, class-is, target, q) (go (eqb (length (d .params)) n))
+        where
+          go : (y : Bool) → Finds (t .methods) (pick y (found.At i) found.Nothing) (elim y as (λ _. Option Method) [ true ↦ some d | false ↦ none ])
+          go true = Finds.at e
+          go false = Finds.nothing
+      counted-is t tb f x Finds.nothing q = none-found t (target t (valueOf W v) m n) (target-lacks t (valueOf W v) m n (getD W (240 * b) 0) class-is q)
+
+      found-is : (t : Table) → Tabled T t → m < 256 → Finds (t .methods) (receiverOf T (getD W (240 * b) 0) 0 m n) (target t (valueOf W v) m n)
+      unfolding receiverOf
+      found-is t tb s =
+          counted-is t tb (lookupOf T (getD W (240 * b) 0) m) (lookup t (getD W (240 * b) 0) m)
+          (subst (λ (B : List ℕ). Finds (t .methods) (lookupOf B (getD W (240 * b) 0) m) (lookup t (getD W (240 * b) 0) m)) (sym (tb .bytes))
+          (lookup-on t (tb .ready .formed) m s (getD W (240 * b) 0) known)) refl
+
+      many-is : (t : Table) → Tabled T t → 3 < n → (f : Found) (x : Option Method) → Finds (t .methods) f x → lookup t (getD W (240 * b) 0) m ≡ x → target t (valueOf W v) m n ≡ none
+      many-is t tb h f x (Finds.at {i} {d} e) q =
+          let few = method-at (MethodReady (length (t .classes))) (t .methods) i d (tb .ready .methods) e .few in
+          target-count t (valueOf W v) m n (getD W (240 * b) 0) d class-is q (λ z. omega arith)
+      many-is t tb h f x Finds.nothing q = target-lacks t (valueOf W v) m n (getD W (240 * b) 0) class-is q
+
+      pub find-many : 3 < n → FindsTarget T W v m n found.Nothing
+      find-many h = record {
+        few = tt;
+        is = λ t tb s. none-found t (target t (valueOf W v) m n)
+            (many-is t tb h (lookupOf (layout t) (getD W (240 * b) 0) m) (lookup t (getD W (240 * b) 0) m) (lookup-on t (tb .ready .formed) m s (getD W (240 * b) 0) known) refl);
+      }
+
+      pub find-is : (f : Found) → n ≤ 3 → f ≡ receiverOf T (getD W (240 * b) 0) 0 m n → FindsTarget T W v m n f
+      find-is f h e = record {
+        few = few-if f;
+        is = λ t tb s. subst (λ (x : Found). Finds (t .methods) x (target t (valueOf W v) m n)) (sym e) (found-is t tb s);
+      }
+        where
+          few-if : (x : Found) → FewIf n x
+          few-if (found.At i) = h
+          few-if found.Nothing = tt

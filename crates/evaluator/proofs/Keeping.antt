@@ -1,0 +1,146 @@
+-- What a change of block sp and of those above does to values, frames and traces below it: nothing.
+use Prim.Native.Nat.{ℕ, zero, suc, _+_, _*_, _≤_, _<_}
+use native.Mathlib.Omega.{arith}
+use mathlib.Core.Path.{_≡_, refl, sym, ap, ap₂, _∙_, subst}
+use mathlib.Core.List.{List, [], _∷_, map}
+use mathlib.Core.Option.{some}
+use lib.ListN.{length, take}
+use Rattle.cofj.specs.Values.{Graph, graph, obj, canon}
+use Rattle.cofj.specs.Unfolding.{Whole}
+use Rattle.cofj.specs.Running as language
+use Rattle.values.specs.declared.ValueRef.{ValueRef}
+use Rattle.values.specs.declared.ValueRef.the-variants.{Object, Mark, Undetermined}
+use Rattle.values.specs.declared.Slot.{Slot}
+use Rattle.values.specs.Layout.{nodesIn, countIn, blockIn, Block, valueOf, Outside}
+use Rattle.values.specs.Laying.{valuesFrom}
+use Rattle.values.proofs.Nodes.{nodes-same, packed-same}
+use Rattle.evaluator.specs.declared.state.Held.{Held}
+use Rattle.evaluator.specs.declared.state.Held.the-variants.{Is, Absent}
+use Rattle.evaluator.specs.declared.state.Frame.{Frame}
+use Rattle.evaluator.specs.declared.state.OpenCall.{OpenCall}
+use Rattle.evaluator.specs.declared.state.Trace.{Trace}
+use Rattle.evaluator.specs.State.{Kept, Older, Low, slotAt, PartsOlder, HeldOlder, heldIn, FrameHolds, frameIn, callAt, CallOlder, TraceHolds, callIn, traceTo, traceIn}
+
+-- ---- changes, one after the other
+pub kept-none : (sp : ℕ) (W : List ℕ) → Kept sp W W
+kept-none sp W = record { same = refl; below = λ p h. refl }
+
+pub kept-then : (sp sp′ : ℕ) (W W1 W2 : List ℕ) → sp ≤ sp′ → Kept sp W W1 → Kept sp′ W1 W2 → Kept sp W W2
+kept-then sp sp′ W W1 W2 l a b = record { same = b .same ∙ a .same; below = λ p h. b .below p (omega arith) ∙ a .below p h }
+
+pub kept-outside : (sp : ℕ) (W W′ : List ℕ) → Outside sp W W′ → Kept sp W W′
+kept-outside sp W W′ o = record { same = o .same; below = o .below }
+
+-- ---- values of a list of references
+values-map : (W W′ : List ℕ) (ps : List Slot) (n : ℕ) → ((i : ℕ) → i < n → valueOf W′ (slotAt ps i) ≡ valueOf W (slotAt ps i)) → n ≤ length ps
+    → map (λ (s : Slot). valueOf W′ (s .r)) (take n ps) ≡ map (λ (s : Slot). valueOf W (s .r)) (take n ps)
+values-map W W′ ps zero h l = refl
+values-map W W′ [] (suc n) h l = refl
+values-map W W′ (p ∷ ps) (suc n) h l = ap₂ {A = Graph} {B = List Graph} {C = List Graph} _∷_ (h 0 (omega arith)) (values-map W W′ ps n (λ i q. h (suc i) (omega arith)) (omega arith))
+
+module _ (W W′ : List ℕ) (sp : ℕ) (k : Kept sp W W′) where
+  -- ---- one value
+  module _ (b : ℕ) (l : b < sp) (bk : Block W b) where
+    count-kept : countIn W′ b ≡ countIn W b
+    unfolding countIn
+    count-kept = k .below (240 * b + 192) (omega arith)
+
+    block-kept : blockIn W′ b ≡ blockIn W b
+    unfolding blockIn
+    block-kept =
+        let s = bk .small in
+        ap (λ (n : ℕ). graph (obj 0) (nodesIn W′ (240 * b) n)) count-kept
+        ∙ ap (graph (obj 0)) (nodes-same W′ W (countIn W b) (240 * b) (240 * b) (λ p h. k .below (240 * b + p) (omega arith)))
+
+    block-stays : Block W′ b
+    block-stays =
+        let s = bk .small in
+        record {
+          room = subst (λ (n : ℕ). 240 * b + 240 ≤ n) (sym (k .same)) (bk .room);
+          filled = subst (λ (n : ℕ). 1 ≤ n) (sym count-kept) (bk .filled);
+          small = subst (λ (n : ℕ). n ≤ 32) (sym count-kept) (bk .small);
+          packed = λ i h. let h′ = subst (λ (n : ℕ). i < n) count-kept h in
+              packed-same W′ W (240 * b + 6 * i) (240 * b + 6 * i) (λ j q. k .below (240 * b + 6 * i + j) (omega arith)) (bk .packed i h′);
+          whole = subst Whole (sym block-kept) (bk .whole);
+          own = subst (λ (g : Graph). canon g ≡ g) (sym block-kept) (bk .own);
+        }
+
+  pub value-kept : (r : ValueRef) → Older W sp r → valueOf W′ r ≡ valueOf W r
+  value-kept (Object b) o = block-kept b (o .low) (o .held .held)
+  value-kept (Mark x) o = refl
+  value-kept Undetermined o = refl
+
+  pub older-kept : (r : ValueRef) → Older W sp r → Older W′ sp r
+  older-kept (Object b) o = record { held = record { held = block-stays b (o .low) (o .held .held) }; low = o .low }
+  older-kept (Mark x) o = record { held = record { held = o .held .held }; low = tt }
+  older-kept Undetermined o = record { held = record { held = tt }; low = tt }
+
+  -- ---- lists
+  parts-kept : (ps : List Slot) (n : ℕ) → PartsOlder W sp ps n → PartsOlder W′ sp ps n
+  parts-kept ps n o = record { full = o .full; part = λ i h. older-kept (slotAt ps i) (o .part i h) }
+
+  values-kept : (ps : List Slot) (n : ℕ) → PartsOlder W sp ps n → valuesFrom W′ ps 0 n ≡ valuesFrom W ps 0 n
+  unfolding valuesFrom
+  values-kept ps n o = values-map W W′ ps n (λ i h. value-kept (slotAt ps i) (o .part i h)) (o .full)
+
+  -- ---- frames
+  held-kept : (h : Held) → HeldOlder W sp h → HeldOlder W′ sp h
+  held-kept (Is r) o = older-kept r o
+  held-kept Absent o = tt
+
+  held-same : (h : Held) → HeldOlder W sp h → heldIn W′ h ≡ heldIn W h
+  held-same (Is r) o = ap some (value-kept r o)
+  held-same Absent o = refl
+
+  pub frame-kept : (f : Frame) → FrameHolds W sp f → FrameHolds W′ sp f
+  frame-kept f h = record { this = held-kept (f .this) (h .this); res = held-kept (f .res) (h .res); args = parts-kept (f .args) (f .n) (h .args); few = h .few }
+
+  pub frame-same : (f : Frame) → FrameHolds W sp f → frameIn W′ f ≡ frameIn W f
+  unfolding frameIn
+  frame-same f h = λ i. record { self = held-same (f .this) (h .this) i; result = held-same (f .res) (h .res) i; params = values-kept (f .args) (f .n) (h .args) i }
+
+  -- ---- traces
+  call-kept : (c : OpenCall) → CallOlder W sp c → CallOlder W′ sp c
+  call-kept c o = record { receiver = older-kept (c .receiver) (o .receiver); args = parts-kept (c .args) (c .n) (o .args); few = o .few }
+
+  call-same : (x : ℕ) (c : OpenCall) → CallOlder W sp c → callIn W′ x c ≡ callIn W x c
+  call-same x c o = λ i. record { receiver = value-kept (c .receiver) (o .receiver) i; name = c .name; args = values-kept (c .args) (c .n) (o .args) i; label = x }
+
+  pub trace-kept : (t : Trace) → TraceHolds W sp t → TraceHolds W′ sp t
+  trace-kept t h = record { full = h .full; call = λ i l. call-kept (callAt (t .calls) i) (h .call i l) }
+
+  calls-same : (cs : List OpenCall) (n : ℕ) → ((i : ℕ) → i < n → CallOlder W sp (callAt cs i)) → traceTo W′ cs n ≡ traceTo W cs n
+  unfolding traceTo
+  calls-same cs zero h = refl
+  calls-same cs (suc n) h =
+      ap₂ {A = language.OpenCall} {B = List language.OpenCall} {C = List language.OpenCall} _∷_ (call-same n (callAt cs n) (h n (omega arith))) (calls-same cs n (λ i l. h i (omega arith)))
+
+  pub trace-same : (t : Trace) → TraceHolds W sp t → traceIn W′ t ≡ traceIn W t
+  unfolding traceIn
+  trace-same t h = calls-same (t .calls) (t .n) (h .call)
+
+-- ---- what lies below a block lies below the blocks above it
+module _ (W : List ℕ) (sp sp′ : ℕ) (l : sp ≤ sp′) where
+  low-up : (r : ValueRef) → Low sp r → Low sp′ r
+  low-up (Object b) h = omega arith
+  low-up (Mark x) h = tt
+  low-up Undetermined h = tt
+
+  pub older-up : (r : ValueRef) → Older W sp r → Older W sp′ r
+  older-up r o = record { held = o .held; low = low-up r (o .low) }
+
+  pub parts-up : (ps : List Slot) (n : ℕ) → PartsOlder W sp ps n → PartsOlder W sp′ ps n
+  parts-up ps n o = record { full = o .full; part = λ i h. older-up (slotAt ps i) (o .part i h) }
+
+  held-up : (h : Held) → HeldOlder W sp h → HeldOlder W sp′ h
+  held-up (Is r) o = older-up r o
+  held-up Absent o = tt
+
+  pub frame-up : (f : Frame) → FrameHolds W sp f → FrameHolds W sp′ f
+  frame-up f h = record { this = held-up (f .this) (h .this); res = held-up (f .res) (h .res); args = parts-up (f .args) (f .n) (h .args); few = h .few }
+
+  pub trace-up : (t : Trace) → TraceHolds W sp t → TraceHolds W sp′ t
+  trace-up t h = record {
+    full = h .full;
+    call = λ i q. let c = h .call i q in record { receiver = older-up (callAt (t .calls) i .receiver) (c .receiver); args = parts-up (callAt (t .calls) i .args) (callAt (t .calls) i .n) (c .args); few = c .few };
+  }

@@ -1,0 +1,13 @@
+pub mod Keeping
+pub mod StateLaws
+pub mod LeafLaws
+pub mod FindLaws
+pub mod Standing
+pub mod EvalLaws
+pub mod Given
+pub mod ListLaws
+pub mod CallLaws
+pub mod BodyLaws
+pub mod FitLaws
+pub mod RunLaws
+pub mod Promise

@@ -1,0 +1,235 @@
+-- Fields, lists and new objects: one law for each return of the code.
+use Prim.Native.Nat.{ℕ, zero, suc, _+_, _-_, _*_, _≤_, _<_}
+use native.Mathlib.Omega.{arith}
+use mathlib.Core.Path.{_≡_, refl, sym, ap, _∙_, subst}
+use mathlib.Core.Bool.{Bool, true, false}
+use mathlib.Core.List.{List, _∷_}
+use mathlib.Core.Option.{Option, none, some}
+use lib.Dec.{eqb}
+use lib.ListN.{length, getD}
+use borrow.Author.Tests.{eq-eqb, ne-eqb}
+use Rattle.cofj.specs.Syntax.{Expr, field, new, Exprs, done, also, count, Table}
+use Rattle.cofj.specs.Classes.{fieldsOf}
+use Rattle.cofj.specs.Writing.{codesOf}
+use Rattle.cofj.specs.Values.{Graph, select, make}
+use Rattle.cofj.specs.Running as language
+use Rattle.cofj.specs.Running.{Outcome, value, stopped, _then_, orStuck, eval, evals, sized}
+use Rattle.classes.proofs.Zones.{total-at}
+use Rattle.values.specs.declared.ValueRef.{ValueRef}
+use Rattle.values.specs.declared.ValueRef.the-variants.{Undetermined}
+use Rattle.values.specs.declared.Selected.{Selected}
+use Rattle.values.specs.declared.Selected.the-variants as selected
+use Rattle.values.specs.Layout.{valueOf}
+use Rattle.values.specs.Operations.{answerIn, AnswerHeld, AnswerPlace, Chosen}
+use Rattle.values.specs.Laying.{valuesFrom}
+use Rattle.evaluator.specs.declared.Stop.{Stop}
+use Rattle.evaluator.specs.declared.Stop.the-variants.{Stuck}
+use Rattle.evaluator.specs.declared.Out.{Out}
+use Rattle.evaluator.specs.declared.Out.the-variants.{Value, Halt}
+use Rattle.evaluator.specs.declared.parts.Listed.{Listed}
+use Rattle.evaluator.specs.declared.parts.Listed.the-variants as listed
+use Rattle.evaluator.specs.declared.state.Frame.{Frame}
+use Rattle.evaluator.specs.declared.state.Trace.{Trace}
+use Rattle.evaluator.specs.State.{Older, slotAt, PartsOlder, Kept, frameIn, traceIn}
+use Rattle.evaluator.specs.Answers.{stopOf, slotsOf, stoppedOf, frontOf, listIn, ListOlder, ListNext, ShowsAll, Finishes}
+use Rattle.evaluator.specs.Evaluation.{Tabled, ReadsAll, Reads, evalIn, evalsIn, ListFits, Evaluates, Fields, Lists, News}
+use Rattle.evaluator.proofs.Keeping.{kept-none, kept-then, kept-outside, value-kept, older-kept, older-up, frame-same, trace-same}
+use Rattle.evaluator.proofs.LeafLaws.{placed-low}
+use Rattle.evaluator.proofs.Standing.{first-reads, others-read, also-end}
+use Rattle.evaluator.proofs.Given.{going-on, halted, given, given-next, given-older}
+
+-- ---- a field: the expression at `at` was evaluated to o
+module _ (T W : List ℕ) (f : Frame) (tr : Trace) (at left d sp fuel k : ℕ) (W1 : List ℕ) (o : Out) (ev : Evaluates T W f tr at left d sp fuel W1 o) where
+  pub field-halt : (s : Stop) (fuel1 : ℕ) → o ≡ Halt s fuel1 → Fields T W f tr at left d sp fuel k W1 o
+  unfolding eval
+  field-halt s fuel1 eo = subst (Fields T W f tr at left d sp fuel k W1) (sym eo) (record {
+    kept = ev .kept;
+    older = tt;
+    is = λ t e r. record {
+      is = going-on (stopped (stopOf s) fuel1) (evalIn d t (frameIn W f) (traceIn W tr) e fuel) (λ v n′. orStuck (select k v) n′) (halted T W f tr at left d sp fuel W1 o ev s fuel1 eo t e r);
+      next = tt;
+    };
+  })
+
+  module _ (v : ValueRef) (at1 fuel1 : ℕ) (eo : o ≡ Value v at1 fuel1) (x : Selected) (W2 : List ℕ) (ch : Chosen W1 (valueOf W1 v) k sp W2 x) where
+    kept-both : Kept sp W W2
+    kept-both = kept-then sp sp W W1 W2 (omega arith) (ev .kept) (kept-outside sp W1 W2 (ch .outside))
+
+    chosen : (t : Table) (e : Expr) → Reads T left at t e → (y : Option Graph) → y ≡ select k (valueOf W1 v)
+        → orStuck y fuel1 ≡ evalIn d t (frameIn W f) (traceIn W tr) (field k e) fuel
+    unfolding eval
+    chosen t e r y q =
+        ap (λ (z : Option Graph). orStuck z fuel1) q
+        ∙ going-on (value (valueOf W1 v) fuel1) (evalIn d t (frameIn W f) (traceIn W tr) e fuel) (λ u n′. orStuck (select k u) n′) (given T W f tr at left d sp fuel W1 o ev v at1 fuel1 eo t e r)
+
+    pub field-none : x ≡ selected.Stuck → Fields T W f tr at left d sp fuel k W2 (Halt Stuck fuel1)
+    field-none ex = record {
+      kept = kept-both;
+      older = tt;
+      is = λ t e r. record { is = chosen t e r none (sym (ap (answerIn W2) ex) ∙ ch .is); next = tt };
+    }
+
+    pub field-some : (r : ValueRef) → x ≡ selected.Value r → Fields T W f tr at left d sp fuel k W2 (Value r at1 fuel1)
+    field-some u ex = record {
+      kept = kept-both;
+      older = record { held = subst (AnswerHeld W2) ex (ch .held); low = placed-low sp u (subst (AnswerPlace sp) ex (ch .place)) };
+      is = λ t e r. record {
+        is = chosen t e r (some (valueOf W2 u)) (sym (ap (answerIn W2) ex) ∙ ch .is);
+        next = given-next T W f tr at left d sp fuel W1 o ev v at1 fuel1 eo t e r;
+      };
+    }
+
+-- ---- a list
+-- a value in front of m others, m at most 3
+front-values : (W : List ℕ) (v a b c e : ValueRef) (m : ℕ) → m ≤ 3 → valuesFrom W (slotsOf v a b c) 0 (suc m) ≡ valueOf W v ∷ valuesFrom W (slotsOf a b c e) 0 m
+unfolding valuesFrom
+front-values W v a b c e zero h = refl
+front-values W v a b c e (suc zero) h = refl
+front-values W v a b c e (suc (suc zero)) h = refl
+front-values W v a b c e (suc (suc (suc zero))) h = refl
+front-values W v a b c e (suc (suc (suc (suc m)))) h = absurd (omega arith)
+
+front-older : (W : List ℕ) (sp : ℕ) (v a b c e : ValueRef) (m : ℕ) → m ≤ 3 → Older W sp v → PartsOlder W sp (slotsOf a b c e) m → PartsOlder W sp (slotsOf v a b c) (suc m)
+front-older W sp v a b c e m h ov ps = record { full = omega arith; part = λ i l. go i l }
+  where
+    go : (i : ℕ) → i < suc m → Older W sp (slotAt (slotsOf v a b c) i)
+    go zero l = ov
+    go (suc zero) l = ps .part 0 (omega arith)
+    go (suc (suc zero)) l = ps .part 1 (omega arith)
+    go (suc (suc (suc zero))) l = ps .part 2 (omega arith)
+    go (suc (suc (suc (suc i)))) l = absurd (omega arith)
+
+-- the first of a list, and the others, by what they give
+module _ (d : ℕ) (t : Table) (p : language.Frame) (os : List language.OpenCall) (e : Expr) (es : Exprs) (fuel : ℕ) where
+  first-stops : (s : language.Stop) (fuel1 : ℕ) → stopped s fuel1 ≡ evalIn d t p os e fuel → stopped s fuel1 ≡ evalsIn d t p os (also e es) fuel
+  unfolding evals
+  first-stops s fuel1 q = going-on (stopped s fuel1) (evalIn d t p os e fuel) (λ v n′. evalsIn d t p os es n′ then λ vs n″. value (v ∷ vs) n″) q
+
+  others-follow : (g : Graph) (fuel1 : ℕ) (y : Outcome (List Graph)) → value g fuel1 ≡ evalIn d t p os e fuel → y ≡ evalsIn d t p os es fuel1
+      → (y then λ vs n″. value (g ∷ vs) n″) ≡ evalsIn d t p os (also e es) fuel
+  unfolding evals
+  others-follow g fuel1 y q z =
+      going-on y (evalsIn d t p os es fuel1) (λ vs n″. value (g ∷ vs) n″) z
+      ∙ going-on (value g fuel1) (evalIn d t p os e fuel) (λ v n′. evalsIn d t p os es n′ then λ vs n″. value (v ∷ vs) n″) q
+
+abbrev noValues : ℕ → ℕ → Listed
+noValues at fuel = listed.Values Undetermined Undetermined Undetermined Undetermined at fuel
+
+none-given : (W : List ℕ) (d : ℕ) (t : Table) (p : language.Frame) (os : List language.OpenCall) (at fuel : ℕ) (es : Exprs) → count es ≡ 0
+    → ShowsAll W 0 (noValues at fuel) (at + length (codesOf es)) (evalsIn d t p os es fuel)
+unfolding evals codesOf valuesFrom
+none-given W d t p os at fuel done c = record { is = refl; next = omega arith }
+none-given W d t p os at fuel (also e es) c = absurd (omega arith)
+
+module _ (T W : List ℕ) (f : Frame) (tr : Trace) (at left d sp fuel n : ℕ) where
+  pub list-zero : n ≡ 0 → Lists T W f tr at left d sp fuel n W (noValues at fuel)
+  list-zero z = subst (λ (m : ℕ). Lists T W f tr at left d sp fuel m W (noValues at fuel)) (sym z) (record {
+    kept = kept-none sp W;
+    older = record { full = omega arith; part = λ i h. absurd (omega arith) };
+    is = λ t es r c. none-given W d t (frameIn W f) (traceIn W tr) at fuel es c;
+  })
+
+  module _ (fit : ListFits W f tr left d sp n) (nz : n ≡ 0 → ⊥) (W1 : List ℕ) (o : Out) (ev : Evaluates T W f tr at left d sp fuel W1 o) where
+    pub list-halt : (s : Stop) (fuel1 : ℕ) (l : Listed) → o ≡ Halt s fuel1 → l ≡ stoppedOf o → Lists T W f tr at left d sp fuel n W1 l
+    list-halt s fuel1 l eo el = subst (Lists T W f tr at left d sp fuel n W1) (sym (el ∙ ap stoppedOf eo)) (record { kept = ev .kept; older = tt; is = go })
+      where
+        go : (t : Table) (es : Exprs) → ReadsAll T left at t es → count es ≡ n
+            → ShowsAll W1 n (listed.Halt s fuel1) (at + length (codesOf es)) (evalsIn d t (frameIn W f) (traceIn W tr) es fuel)
+        go t done r c = absurd (nz (sym c))
+        go t (also e es) r c = record {
+          is = first-stops d t (frameIn W f) (traceIn W tr) e es fuel (stopOf s) fuel1 (halted T W f tr at left d sp fuel W1 o ev s fuel1 eo t e (first-reads T left at t e es r));
+          next = tt;
+        }
+
+    module _ (v : ValueRef) (at1 fuel1 : ℕ) (eo : o ≡ Value v at1 fuel1) (W2 : List ℕ) (l : Listed) (li : Lists T W1 f tr at1 left d (sp + 1) fuel1 (n - 1) W2 l) where
+      pub list-more : (x : Listed) → x ≡ frontOf v l → Lists T W f tr at left d sp fuel n W2 x
+      list-more x ex = subst (Lists T W f tr at left d sp fuel n W2) (sym ex) (record { kept = kept-both; older = older-all l (li .older); is = shows })
+        where
+          kept-both : Kept sp W W2
+          kept-both = kept-then sp (sp + 1) W W1 W2 (omega arith) (ev .kept) (li .kept)
+
+          first-older : Older W1 (sp + 1) v
+          first-older = given-older T W f tr at left d sp fuel W1 o ev v at1 fuel1 eo
+
+          suc-n : suc (n - 1) ≡ n
+          suc-n = omega (arith, nz)
+
+          few : n - 1 ≤ 3
+          few = let h = fit .few in omega arith
+
+          older-all : (y : Listed) → ListOlder W2 (sp + 1 + (n - 1)) (n - 1) y → ListOlder W2 (sp + n) n (frontOf v y)
+          older-all (listed.Values a b c e q k) ps =
+              let up : sp + 1 + (n - 1) ≡ sp + n = omega (arith, nz) in
+              subst (PartsOlder W2 (sp + n) (slotsOf v a b c)) suc-n
+              (front-older W2 (sp + n) v a b c e (n - 1) few (older-up W2 (sp + 1) (sp + n) (omega (arith, nz)) v (older-kept W1 W2 (sp + 1) (li .kept) v first-older))
+              (subst (λ (z : ℕ). PartsOlder W2 z (slotsOf a b c e) (n - 1)) up ps))
+          older-all (listed.Halt s k) ps = tt
+
+          -- what the front gives, of what the others give
+          front-in : (y : Listed) → listIn W2 n (frontOf v y) ≡ (listIn W2 (n - 1) y then λ vs n″. value (valueOf W1 v ∷ vs) n″)
+          front-in (listed.Values a b c e q k) =
+              ap (λ (z : List Graph). value z k)
+              (ap (valuesFrom W2 (slotsOf v a b c) 0) (sym suc-n) ∙ front-values W2 v a b c e (n - 1) few
+              ∙ ap (λ (g : Graph). g ∷ valuesFrom W2 (slotsOf a b c e) 0 (n - 1)) (value-kept W1 W2 (sp + 1) (li .kept) v first-older))
+          front-in (listed.Halt s k) = refl
+
+          front-next : (y : Listed) (p q : ℕ) → p ≡ q → ListNext y p → ListNext (frontOf v y) q
+          front-next (listed.Values a b c e z k) p q h g = g ∙ h
+          front-next (listed.Halt s k) p q h g = tt
+
+          shows : (t : Table) (es : Exprs) → ReadsAll T left at t es → count es ≡ n
+              → ShowsAll W2 n (frontOf v l) (at + length (codesOf es)) (evalsIn d t (frameIn W f) (traceIn W tr) es fuel)
+          shows t done r c = absurd (nz (sym c))
+          shows t (also e es) r c =
+              let r1 = first-reads T left at t e es r in
+              let a1 = given-next T W f tr at left d sp fuel W1 o ev v at1 fuel1 eo t e r1 in
+              let r2 = subst (λ (p : ℕ). ReadsAll T left p t es) (sym a1) (others-read T left at t e es r) in
+              let z = li .is t es r2 (omega arith) in
+              let ef = frame-same W W1 sp (ev .kept) f (fit .frame) in
+              let et = trace-same W W1 sp (ev .kept) tr (fit .trace) in
+              let same : evalsIn d t (frameIn W1 f) (traceIn W1 tr) es fuel1 ≡ evalsIn d t (frameIn W f) (traceIn W tr) es fuel1 = (λ i. evalsIn d t (ef i) (et i) es fuel1) in
+              record {
+                is = front-in l ∙ others-follow d t (frameIn W f) (traceIn W tr) e es fuel (valueOf W1 v) fuel1 (listIn W2 (n - 1) l) (given T W f tr at left d sp fuel W1 o ev v at1 fuel1 eo t e r1) (z .is ∙ same);
+                next = front-next l (at1 + length (codesOf es)) (at + length (codesOf (also e es))) (ap (λ (p : ℕ). p + length (codesOf es)) a1 ∙ also-end T left at t e es r) (z .next);
+              }
+
+-- ---- a new object: x is the number of the class's fields
+new-by : (d : ℕ) (t : Table) (p : language.Frame) (os : List language.OpenCall) (c : ℕ) (es : Exprs) (fuel : ℕ) (b : Bool) → eqb (length (fieldsOf (t .classes) c)) (count es) ≡ b
+    → evalIn d t p os (new c es) fuel ≡ (elim b as (λ _. Outcome Graph) [ true ↦ evalsIn d t p os es fuel then λ vs m. sized 32 (make c vs) m | false ↦ stopped language.stuck fuel ])
+unfolding eval
+new-by d t p os c es fuel b q =
+    ap (λ (x : Bool). elim x as (λ _. Outcome Graph) [ true ↦ evalsIn d t p os es fuel then λ vs m. sized 32 (make c vs) m | false ↦ stopped language.stuck fuel ]) q
+
+module _ (T W : List ℕ) (f : Frame) (tr : Trace) (at left d sp fuel c n x : ℕ) (ex : x ≡ getD T (16 * c + 1) 0) where
+  total : (t : Table) → Tabled T t → c ≤ length (t .classes) → x ≡ length (fieldsOf (t .classes) c)
+  total t tb h =
+      ex ∙ ap (λ (B : List ℕ). getD B (16 * c + 1) 0) (tb .bytes) ∙ total-at t c (let l = tb .ready .formed .classes in omega arith)
+
+  pub new-other : (x ≡ n → ⊥) → News T W f tr at left d sp fuel c n W (Halt Stuck fuel)
+  new-other h = record {
+    kept = kept-none sp W;
+    older = tt;
+    is = λ t es r k l. record {
+      is = sym (new-by d t (frameIn W f) (traceIn W tr) c es fuel false (ne-eqb (length (fieldsOf (t .classes) c)) (count es) (λ z. h (total t (r .table) l ∙ z ∙ k))));
+      next = tt;
+    };
+  }
+
+  pub new-many : x ≡ n → 4 < n → News T W f tr at left d sp fuel c n W (Halt Stuck fuel)
+  new-many h m = record {
+    kept = kept-none sp W;
+    older = tt;
+    is = λ t es r k l. absurd (let b = r .table .ready .formed .fields c l in let z = total t (r .table) l in omega arith);
+  }
+
+  pub new-is : x ≡ n → (W1 : List ℕ) (y : Listed) (W2 : List ℕ) (o : Out) → Lists T W f tr at left d sp fuel n W1 y → Finishes W1 c y n sp W2 o
+      → News T W f tr at left d sp fuel c n W2 o
+  new-is h W1 y W2 o li fi = record {
+    kept = kept-then sp sp W W1 W2 (omega arith) (li .kept) (fi .kept);
+    older = fi .older;
+    is = λ t es r k l. let z = li .is t es r k in record {
+      is = fi .is ∙ going-on (listIn W1 n y) (evalsIn d t (frameIn W f) (traceIn W tr) es fuel) (λ vs m. sized 32 (make c vs) m) (z .is)
+          ∙ sym (new-by d t (frameIn W f) (traceIn W tr) c es fuel true (eq-eqb (length (fieldsOf (t .classes) c)) (count es) (sym (total t (r .table) l) ∙ h ∙ sym k)));
+      next = fi .next (at + length (codesOf es)) (z .next);
+    };
+  }

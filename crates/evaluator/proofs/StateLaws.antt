@@ -1,0 +1,187 @@
+-- Frames and traces: a parameter, one call more, calls compared.
+use Prim.Native.Nat.{ℕ, zero, suc, _+_, _-_, _≤_, _<_}
+use native.Mathlib.Omega.{arith}
+use native.Mathlib.Numerals.{sub-one, add-one}
+use mathlib.Core.Path.{_≡_, refl, sym, ap, ap₂, _∙_, subst}
+use mathlib.Core.Bool.{Bool, true, false, not}
+use mathlib.Core.List.{List, [], _∷_, map}
+use mathlib.Core.Option.{Option, none, some}
+use lib.Dec.{eqb, ltb}
+use lib.ListN.{length, take, drop, set, getElem?, length-take, length-map, drop-of-length-le}
+use lib.Seq.{drop-cons, getD-take, length-take-le}
+use borrow.Author.Tests.{lt-ltb, le-ltb, eq-eqb, ne-eqb, ltb-true, ltb-false, not-true, not-false}
+use Rattle.cofj.specs.Values.{Graph, eqGraph, eqGraphs}
+use Rattle.cofj.specs.Running as language
+use Rattle.cofj.specs.Running.{openMark}
+use Rattle.classes.specs.Machine.{pick}
+use Rattle.values.specs.declared.ValueRef.{ValueRef}
+use Rattle.values.specs.declared.Slot.{Slot}
+use Rattle.values.specs.Layout.{valueOf, Holds}
+use Rattle.values.specs.Laying.{valuesFrom, PartsHeld}
+use Rattle.evaluator.specs.declared.state.Held.the-variants.{Is, Absent}
+use Rattle.evaluator.specs.declared.state.Frame.{Frame}
+use Rattle.evaluator.specs.declared.state.OpenCall.{OpenCall}
+use Rattle.evaluator.specs.declared.state.Trace.{Trace}
+use Rattle.evaluator.specs.declared.met.Met.{Met}
+use Rattle.evaluator.specs.declared.met.Met.the-variants as met
+use Rattle.evaluator.specs.State.{slotAt, HeldOlder, heldIn, FrameHolds, frameIn, variableOf, callAt, callIn, CallHolds, CallsHold, traceTo, pushed, sameOf, metOf}
+
+-- ---- parameters
+pub variable-none : (f : Frame) (k : ℕ) → f .n ≤ k → Absent ≡ variableOf f k
+unfolding variableOf
+variable-none f k h = rw (le-ltb k (f .n) h)
+
+pub variable-is : (f : Frame) (k : ℕ) → k < f .n → Is (slotAt (f .args) k) ≡ variableOf f k
+unfolding variableOf
+variable-is f k h = rw (lt-ltb k (f .n) h)
+
+-- ---- traces
+pub push-is : (t : Trace) (v : ValueRef) (m : ℕ) (ps : List Slot) (n : ℕ)
+    → _≡_ {A = Trace} (record { calls = set (t .calls) (t .n) (record { receiver = v; name = m; args = ps; n = n }); n = t .n + 1 }) (pushed t v m ps n)
+unfolding pushed
+push-is t v m ps n = refl
+
+-- ---- values from a place on
+module _ (W : List ℕ) (ps : List Slot) (i n : ℕ) where
+  values-end : n ≤ i → valuesFrom W ps i n ≡ []
+  unfolding valuesFrom
+  values-end h = ap (map (λ (s : Slot). valueOf W (s .r))) (drop-of-length-le (take n ps) {i = i} (omega (arith, length-take n ps)))
+
+  values-cons : n ≤ length ps → i < n → valuesFrom W ps i n ≡ valueOf W (slotAt ps i) ∷ valuesFrom W ps (i + 1) n
+  unfolding valuesFrom
+  values-cons full h =
+      let l : i < length (take n ps) = omega (arith, length-take-le n ps full) in
+      ap (map (λ (s : Slot). valueOf W (s .r))) (drop-cons (take n ps) i (record { r = ValueRef.Object 0 }) l)
+      ∙ ap₂ {A = Graph} {B = List Graph} {C = List Graph} _∷_ (ap (λ (s : Slot). valueOf W (s .r)) (getD-take n ps i (record { r = ValueRef.Object 0 }) h))
+      (ap (λ (k : ℕ). map (λ (s : Slot). valueOf W (s .r)) (drop k (take n ps))) (sym (add-one i)))
+
+-- ---- what a parameter holds is the frame's
+get-values : (W : List ℕ) (ps : List Slot) (n k : ℕ) → n ≤ length ps → k < n → getElem? (map (λ (s : Slot). valueOf W (s .r)) (take n ps)) k ≡ some (valueOf W (slotAt ps k))
+get-values W ps zero k l h = absurd (omega arith)
+get-values W [] (suc n) k l h = absurd (omega arith)
+get-values W (p ∷ ps) (suc n) zero l h = refl
+get-values W (p ∷ ps) (suc n) (suc k) l h = get-values W ps n k (omega arith) (omega arith)
+
+get-past : (gs : List Graph) (k : ℕ) → length gs ≤ k → getElem? gs k ≡ none
+get-past [] k h = refl
+get-past (g ∷ gs) zero h = absurd (omega arith)
+get-past (g ∷ gs) (suc k) h = get-past gs k (omega arith)
+
+length-values : (W : List ℕ) (ps : List Slot) (n : ℕ) → n ≤ length ps → length (valuesFrom W ps 0 n) ≡ n
+unfolding valuesFrom
+length-values W ps n h = length-map (take n ps) (λ (s : Slot). valueOf W (s .r)) ∙ length-take-le n ps h
+
+module _ (W : List ℕ) (sp : ℕ) (f : Frame) (k : ℕ) (h : FrameHolds W sp f) where
+  pub variable-held : HeldOlder W sp (variableOf f k)
+  unfolding variableOf
+  variable-held = go (ltb k (f .n)) refl
+    where
+      go : (b : Bool) → ltb k (f .n) ≡ b → HeldOlder W sp (pick b (Is (slotAt (f .args) k)) Absent)
+      go true q = h .args .part k (ltb-true k (f .n) q)
+      go false q = tt
+
+  pub variable-in : heldIn W (variableOf f k) ≡ getElem? (frameIn W f .params) k
+  unfolding variableOf frameIn valuesFrom
+  variable-in = go (ltb k (f .n)) refl
+    where
+      go : (b : Bool) → ltb k (f .n) ≡ b → heldIn W (pick b (Is (slotAt (f .args) k)) Absent) ≡ getElem? (valuesFrom W (f .args) 0 (f .n)) k
+      go true q = sym (get-values W (f .args) (f .n) k (h .args .full) (ltb-true k (f .n) q))
+      go false q = sym (get-past (valuesFrom W (f .args) 0 (f .n)) k (let l = ltb-false k (f .n) q in omega (arith, length-values W (f .args) (f .n) (h .args .full))))
+
+-- ---- arguments compared
+pub part-held : (W : List ℕ) (ps : List Slot) (n i : ℕ) → PartsHeld W ps n → i < n → Holds W (slotAt ps i)
+part-held W ps n i h l = h .part i l
+
+module _ (W : List ℕ) (ps qs : List Slot) (i n : ℕ) where
+  pub args-end : n ≤ i → true ≡ eqGraphs (valuesFrom W ps i n) (valuesFrom W qs i n)
+  unfolding eqGraphs
+  args-end h = rw (values-end W ps i n h, values-end W qs i n h)
+
+  module _ (a : PartsHeld W ps n) (b : PartsHeld W qs n) (h : i < n) (r : Bool) (e : r ≡ eqGraph (valueOf W (slotAt ps i)) (valueOf W (slotAt qs i))) where
+    pub args-differ : not r ≡ true → false ≡ eqGraphs (valuesFrom W ps i n) (valuesFrom W qs i n)
+    unfolding eqGraphs
+    args-differ z = rw (values-cons W ps i n (a .full) h, values-cons W qs i n (b .full) h, ← e, not-true r z, eqGraphs)
+
+    pub args-more : (s : Bool) → not r ≡ false → s ≡ eqGraphs (valuesFrom W ps (i + 1) n) (valuesFrom W qs (i + 1) n) → s ≡ eqGraphs (valuesFrom W ps i n) (valuesFrom W qs i n)
+    unfolding eqGraphs
+    args-more s z q = rw (values-cons W ps i n (a .full) h, values-cons W qs i n (b .full) h, ← e, not-false r z, eqGraphs, q)
+
+lengths-differ : (vs ws : List Graph) → (length vs ≡ length ws → ⊥) → eqGraphs vs ws ≡ false
+unfolding eqGraphs
+lengths-differ [] [] h = absurd (h refl)
+lengths-differ [] (w ∷ ws) h = refl
+lengths-differ (v ∷ vs) [] h = refl
+lengths-differ (v ∷ vs) (w ∷ ws) h = go (eqGraph v w) (lengths-differ vs ws (λ e. h (ap suc e)))
+  where
+    go : (b : Bool) → eqGraphs vs ws ≡ false → _≡_ {A = Bool} (elim b [ true ↦ eqGraphs vs ws | false ↦ false ]) false
+    go true e = e
+    go false e = refl
+
+-- ---- calls compared
+module _ (W : List ℕ) (c : OpenCall) (v : ValueRef) (m : ℕ) (ps : List Slot) (n : ℕ) where
+  pub call-name : (c .name ≡ m → ⊥) → false ≡ sameOf (callIn W 0 c) (valueOf W v) m (valuesFrom W ps 0 n)
+  unfolding sameOf
+  call-name h = rw (ne-eqb (c .name) m h)
+
+  module _ (en : c .name ≡ m) (r : Bool) (er : r ≡ eqGraph (valueOf W (c .receiver)) (valueOf W v)) where
+    pub call-receiver : not r ≡ true → false ≡ sameOf (callIn W 0 c) (valueOf W v) m (valuesFrom W ps 0 n)
+    unfolding sameOf
+    call-receiver z = rw (eq-eqb (c .name) m en, ← er, not-true r z)
+
+    module _ (z : not r ≡ false) where
+      pub call-count : CallHolds W c → PartsHeld W ps n → (c .n ≡ n → ⊥) → false ≡ sameOf (callIn W 0 c) (valueOf W v) m (valuesFrom W ps 0 n)
+      unfolding sameOf
+      call-count a b h =
+          let q : length (valuesFrom W (c .args) 0 (c .n)) ≡ length (valuesFrom W ps 0 n) → ⊥ = λ e. h (sym (length-values W (c .args) (c .n) (a .args .full)) ∙ e ∙ length-values W ps n (b .full)) in
+          rw (eq-eqb (c .name) m en, ← er, not-false r z, lengths-differ (valuesFrom W (c .args) 0 (c .n)) (valuesFrom W ps 0 n) q)
+
+      pub call-args : (s : Bool) → c .n ≡ n → s ≡ eqGraphs (valuesFrom W (c .args) 0 n) (valuesFrom W ps 0 n)
+          → s ≡ sameOf (callIn W 0 c) (valueOf W v) m (valuesFrom W ps 0 n)
+      unfolding sameOf
+      call-args s e q = rw (eq-eqb (c .name) m en, ← er, not-false r z, e) q
+
+pub call-args-held : (W : List ℕ) (c : OpenCall) (n : ℕ) → CallHolds W c → c .n ≡ n → PartsHeld W (c .args) n
+call-args-held W c n h e = subst (PartsHeld W (c .args)) e (h .args)
+
+-- ---- the trace searched, the newest call first
+pub by-tests : (o : language.OpenCall) (os : List language.OpenCall) (v : Graph) (m : ℕ) (vs : List Graph)
+    → openMark (o ∷ os) v m vs ≡ pick (sameOf o v m vs) (some (o .label)) (openMark os v m vs)
+unfolding openMark sameOf
+by-tests o os v m vs = go (eqb (o .name) m) (eqGraph (o .receiver) v) (eqGraphs (o .args) vs)
+  where
+    go : (a b c : Bool) → _≡_ {A = Option ℕ} (elim a [
+      | true ↦ elim b [ true ↦ elim c [ true ↦ some (o .label) | false ↦ openMark os v m vs ] | false ↦ openMark os v m vs ]
+      | false ↦ openMark os v m vs
+    ]) (pick (pick a (pick b c false) false) (some (o .label)) (openMark os v m vs))
+    go true true true = refl
+    go true true false = refl
+    go true false c = refl
+    go false b c = refl
+
+module _ (W : List ℕ) (cs : List OpenCall) (k : ℕ) (v : ValueRef) (m : ℕ) (ps : List Slot) (n : ℕ) where
+  pub open-end : k ≡ 0 → met.No ≡ metOf (openMark (traceTo W cs k) (valueOf W v) m (valuesFrom W ps 0 n))
+  unfolding traceTo openMark
+  open-end e = rw e
+
+  module _ (nz : k ≡ 0 → ⊥) (r : Bool) (er : r ≡ sameOf (callIn W 0 (callAt cs (k - 1))) (valueOf W v) m (valuesFrom W ps 0 n)) where
+    open-step : openMark (traceTo W cs k) (valueOf W v) m (valuesFrom W ps 0 n) ≡ pick r (some (k - 1)) (openMark (traceTo W cs (k - 1)) (valueOf W v) m (valuesFrom W ps 0 n))
+    unfolding traceTo sameOf
+    open-step = go k nz r er
+      where
+        go : (j : ℕ) → (j ≡ 0 → ⊥) → (s : Bool) → s ≡ sameOf (callIn W 0 (callAt cs (j - 1))) (valueOf W v) m (valuesFrom W ps 0 n)
+            → openMark (traceTo W cs j) (valueOf W v) m (valuesFrom W ps 0 n) ≡ pick s (some (j - 1)) (openMark (traceTo W cs (j - 1)) (valueOf W v) m (valuesFrom W ps 0 n))
+        go zero z s e = absurd (z refl)
+        go (suc j) z s e0 = let e = rw sub-one at e0 in rw sub-one (by-tests (callIn W j (callAt cs j)) (traceTo W cs j) (valueOf W v) m (valuesFrom W ps 0 n) ∙ ap (λ (b : Bool). pick b (some j) (openMark (traceTo W cs j) (valueOf W v) m (valuesFrom W ps 0 n))) (sym e))
+
+    pub open-found : r ≡ true → met.Mark (k - 1) ≡ metOf (openMark (traceTo W cs k) (valueOf W v) m (valuesFrom W ps 0 n))
+    open-found z = rw (open-step, z)
+
+    pub open-more : (x : Met) → r ≡ false → x ≡ metOf (openMark (traceTo W cs (k - 1)) (valueOf W v) m (valuesFrom W ps 0 n))
+        → x ≡ metOf (openMark (traceTo W cs k) (valueOf W v) m (valuesFrom W ps 0 n))
+    open-more x z e = rw (open-step, z) e
+
+pub calls-last : (W : List ℕ) (cs : List OpenCall) (k : ℕ) → CallsHold W cs k → (k ≡ 0 → ⊥) → CallHolds W (callAt cs (k - 1))
+calls-last W cs k h nz = h .call (k - 1) (omega (arith, nz))
+
+pub calls-before : (W : List ℕ) (cs : List OpenCall) (k : ℕ) → CallsHold W cs k → (k ≡ 0 → ⊥) → CallsHold W cs (k - 1)
+calls-before W cs k h nz = let f = h .few in record { few = omega arith; call = λ i l. h .call i (omega (arith, nz)) }

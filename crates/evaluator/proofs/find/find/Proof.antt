@@ -1,0 +1,39 @@
+use borrow.Author.Needs.{needs}
+use Rattle.evaluator.proofs.find.find.Statement.{statement}
+use Rattle.evaluator.proofs.find.find.Tie as tie
+use Rattle.evaluator.proofs.find.find.Reads as reads
+use Rattle.evaluator.proofs.find.find.Lts as lts
+use Rattle.checker.proofs.fits.receiver.Reads as receiver-reads
+use native.Mathlib.Omega.{arith}
+use Rattle.evaluator.proofs.FindLaws as laws
+
+returns : tie.Need-returns
+returns c = search laws.find-none
+
+mul-c : tie.Need-mul-c
+mul-c c = omega (arith, laws.object-room _ _ _ (c .before .before .before .before .pre) (c .before .v .given .1))
+
+shared-slice-read-c : tie.Need-shared-slice-read-c
+shared-slice-read-c c = omega (arith, laws.object-room _ _ _ (c .before .before .before .before .before .pre) (c .before .before .v .given .1))
+
+returns-2 : tie.Need-returns-2
+returns-2 c = search laws.find-past
+
+returns-3 : tie.Need-returns-3
+returns-3 c = search laws.find-many
+
+returns-4 : tie.Need-returns-4
+returns-4 c = search laws.find-is
+
+pub find-spec : {M : Type 1} → statement M
+find-spec =
+    tie.close
+    (tie.spec
+    (λ c. search needs)
+    returns
+    mul-c
+    shared-slice-read-c
+    returns-2
+    returns-3
+    (λ c κs. search needs)
+    returns-4)

@@ -1,0 +1,96 @@
+-- What the code answers, as the language's outcomes, and values put in a block.
+-- Not here: what evaluation answers of an expression (Evaluation), of a call (Calling) and of main (Main).
+use Prim.Native.Nat.{ℕ, _+_}
+use mathlib.Core.Path.{_≡_}
+use mathlib.Core.List.{List, [], _∷_}
+use Rattle.cofj.specs.Syntax.{new}
+use Rattle.cofj.specs.Values.{Graph, make}
+use Rattle.cofj.specs.Running as language
+use Rattle.cofj.specs.Running.{Outcome, value, stopped, _then_}
+use Rattle.values.specs.declared.ValueRef.{ValueRef}
+use Rattle.values.specs.declared.Slot.{Slot}
+use Rattle.values.specs.Layout.{valueOf}
+use Rattle.values.specs.Laying.{valuesFrom}
+use Rattle.evaluator.specs.declared.Stop.{Stop}
+use Rattle.evaluator.specs.declared.Stop.the-variants.{Stuck, NoFuel, TooDeep, TooLarge}
+use Rattle.evaluator.specs.declared.Out.{Out}
+use Rattle.evaluator.specs.declared.Out.the-variants.{Value, Halt}
+use Rattle.evaluator.specs.declared.parts.Listed.{Listed}
+use Rattle.evaluator.specs.declared.parts.Listed.the-variants as listed
+use Rattle.evaluator.specs.declared.state.Held.{Held}
+use Rattle.evaluator.specs.declared.state.Held.the-variants.{Is, Absent}
+use Rattle.evaluator.specs.State.{Kept, Older, PartsOlder}
+
+-- ---- answers as the language's outcomes
+abbrev pub stopOf : Stop → language.Stop
+stopOf Stuck = language.stuck
+stopOf NoFuel = language.noFuel
+stopOf TooDeep = language.tooDeep
+stopOf TooLarge = language.tooLarge
+
+abbrev pub outIn : List ℕ → Out → Outcome Graph
+outIn W (Value v at fuel) = value (valueOf W v) fuel
+outIn W (Halt s fuel) = stopped (stopOf s) fuel
+
+abbrev pub slotsOf : ValueRef → ValueRef → ValueRef → ValueRef → List Slot
+slotsOf a b c d = record { r = a } ∷ record { r = b } ∷ record { r = c } ∷ record { r = d } ∷ []
+
+abbrev pub listIn : List ℕ → ℕ → Listed → Outcome (List Graph)
+listIn W n (listed.Values a b c d at fuel) = value (valuesFrom W (slotsOf a b c d) 0 n) fuel
+listIn W n (listed.Halt s fuel) = stopped (stopOf s) fuel
+
+abbrev pub haltOf : Listed → Out
+haltOf (listed.Values a b c d at fuel) = Halt Stuck fuel
+haltOf (listed.Halt s fuel) = Halt s fuel
+
+abbrev pub stoppedOf : Out → Listed
+stoppedOf (Value v at fuel) = listed.Halt Stuck fuel
+stoppedOf (Halt s fuel) = listed.Halt s fuel
+
+abbrev pub frontOf : ValueRef → Listed → Listed
+frontOf v (listed.Values a b c d at fuel) = listed.Values v a b c at fuel
+frontOf v (listed.Halt s fuel) = listed.Halt s fuel
+
+-- a value lies below block sp; the place after its expression is p
+abbrev pub OutOlder : List ℕ → ℕ → Out → Type 0
+OutOlder W sp (Value v at fuel) = Older W sp v
+OutOlder W sp (Halt s fuel) = Unit {0}
+
+abbrev pub ListOlder : List ℕ → ℕ → ℕ → Listed → Type 0
+ListOlder W sp n (listed.Values a b c d at fuel) = PartsOlder W sp (slotsOf a b c d) n
+ListOlder W sp n (listed.Halt s fuel) = Unit {0}
+
+abbrev pub NextIs : Out → ℕ → Type 0
+NextIs (Value v at fuel) p = at ≡ p
+NextIs (Halt s fuel) p = Unit {0}
+
+abbrev pub ListNext : Listed → ℕ → Type 0
+ListNext (listed.Values a b c d at fuel) p = at ≡ p
+ListNext (listed.Halt s fuel) p = Unit {0}
+
+-- the answer o, with the work bytes W, is the outcome x, and p is the place after the expression
+pub record Shows (W : List ℕ) (o : Out) (p : ℕ) (x : Outcome Graph) : Type 0 where
+  pub is : outIn W o ≡ x
+  pub next : NextIs o p
+
+pub record ShowsAll (W : List ℕ) (n : ℕ) (o : Listed) (p : ℕ) (x : Outcome (List Graph)) : Type 0 where
+  pub is : listIn W n o ≡ x
+  pub next : ListNext o p
+
+abbrev pub outOf : Held → ℕ → ℕ → Out
+outOf (Is r) next fuel = Value r next fuel
+outOf Absent next fuel = Halt Stuck fuel
+
+-- ---- values put in block sp
+-- the value of r, in block sp or below
+pub record Brought (W : List ℕ) (r : ValueRef) (sp : ℕ) (W′ : List ℕ) (o : ValueRef) : Type 0 where
+  pub kept : Kept sp W W′
+  pub older : Older W′ (sp + 1) o
+  pub is : valueOf W′ o ≡ valueOf W r
+
+-- a new object of class k with the values of a list
+pub record Finishes (W : List ℕ) (k : ℕ) (l : Listed) (n sp : ℕ) (W′ : List ℕ) (o : Out) : Type 0 where
+  pub kept : Kept sp W W′
+  pub older : OutOlder W′ (sp + 1) o
+  pub is : outIn W′ o ≡ (listIn W n l then λ vs m. language.sized 32 (make k vs) m)
+  pub next : (p : ℕ) → ListNext l p → NextIs o p

@@ -1,0 +1,91 @@
+-- What evaluation asks and answers, for every table and expression whose bytes stand where it looks.
+-- Not here: calls (Calling), main (Main), what frames and traces stand for (State).
+use Prim.Native.Nat.{ℕ, zero, suc, _+_, _*_, _≤_}
+use mathlib.Core.Path.{_≡_}
+use mathlib.Core.Bool.{true}
+use mathlib.Core.List.{List}
+use lib.ListN.{length}
+use Rattle.cofj.specs.Syntax.{Expr, field, new, Exprs, count, Table}
+use Rattle.cofj.specs.Tables.{exprKnown, exprsKnown}
+use Rattle.cofj.specs.Writing.{codeOf, codesOf}
+use Rattle.cofj.specs.Values.{Graph}
+use Rattle.cofj.specs.Running as language
+use Rattle.cofj.specs.Running.{Outcome, stopped, Deeper}
+use Rattle.classes.specs.Layout.{layout, Stands}
+use Rattle.checker.specs.Ready.{Ready, Each, Nested}
+use Rattle.evaluator.specs.declared.Out.{Out}
+use Rattle.evaluator.specs.declared.parts.Listed.{Listed}
+use Rattle.evaluator.specs.declared.state.Frame.{Frame}
+use Rattle.evaluator.specs.declared.state.Trace.{Trace}
+use Rattle.evaluator.specs.State.{Kept, FrameHolds, TraceHolds, frameIn, traceIn}
+use Rattle.evaluator.specs.Answers.{OutOlder, ListOlder, Shows, ShowsAll}
+
+-- ---- the table's bytes are T, and an expression nested at most `left` deep stands in them
+pub record Tabled (T : List ℕ) (t : Table) : Type 0 where
+  pub ready : Ready t
+  pub bytes : T ≡ layout t
+
+pub record Reads (T : List ℕ) (left at : ℕ) (t : Table) (e : Expr) : Type 0 where
+  pub table : Tabled T t
+  pub nested : Nested left e
+  pub known : exprKnown (length (t .classes)) e ≡ true
+  pub stands : Stands (layout t) at (codeOf e)
+
+pub record ReadsAll (T : List ℕ) (left at : ℕ) (t : Table) (es : Exprs) : Type 0 where
+  pub table : Tabled T t
+  pub nested : Each (Nested left) es
+  pub known : exprsKnown (length (t .classes)) es ≡ true
+  pub stands : Stands (layout t) at (codesOf es)
+
+-- ---- evaluation with room for d more open calls, at document 01's size
+unfoldable pub deeper : ℕ → Table → Deeper
+deeper zero t = λ f os e n. stopped language.tooDeep n
+deeper (suc d) t = λ f os e n. language.evalTo 32 d t f os e n
+
+abbrev pub evalIn : ℕ → Table → Deeper
+evalIn d t f os e n = language.eval 32 t (deeper d t) f os e n
+
+abbrev pub evalsIn : ℕ → Table → language.Frame → List language.OpenCall → Exprs → ℕ → Outcome (List Graph)
+evalsIn d t f os es n = language.evals 32 t (deeper d t) f os es n
+
+-- what evaluation asks: the frame and the trace stand for values below block sp, and there is room above
+pub record Fits (W : List ℕ) (f : Frame) (tr : Trace) (left d sp : ℕ) : Type 0 where
+  pub frame : FrameHolds W sp f
+  pub trace : TraceHolds W sp tr
+  pub calls : tr .n + d ≤ 16
+  pub room : sp + 16 * d + 3 * left ≤ 274
+  pub long : 65520 ≤ length W
+
+pub record ListFits (W : List ℕ) (f : Frame) (tr : Trace) (left d sp n : ℕ) : Type 0 where
+  pub frame : FrameHolds W sp f
+  pub trace : TraceHolds W sp tr
+  pub calls : tr .n + d ≤ 16
+  pub few : n ≤ 4
+  pub room : sp + n + 16 * d + 3 * left ≤ 275
+  pub long : 65520 ≤ length W
+
+-- the expression at `at`, evaluated at block sp
+pub record Evaluates (T W : List ℕ) (f : Frame) (tr : Trace) (at left d sp fuel : ℕ) (W′ : List ℕ) (o : Out) : Type 0 where
+  pub kept : Kept sp W W′
+  pub older : OutOlder W′ (sp + 1) o
+  pub is : (t : Table) (e : Expr) → Reads T left at t e → Shows W′ o (at + length (codeOf e)) (evalIn d t (frameIn W f) (traceIn W tr) e fuel)
+
+-- field k of the expression at `at`
+pub record Fields (T W : List ℕ) (f : Frame) (tr : Trace) (at left d sp fuel k : ℕ) (W′ : List ℕ) (o : Out) : Type 0 where
+  pub kept : Kept sp W W′
+  pub older : OutOlder W′ (sp + 1) o
+  pub is : (t : Table) (e : Expr) → Reads T left at t e → Shows W′ o (at + length (codeOf e)) (evalIn d t (frameIn W f) (traceIn W tr) (field k e) fuel)
+
+-- the n expressions at `at`, evaluated at the blocks from sp on
+pub record Lists (T W : List ℕ) (f : Frame) (tr : Trace) (at left d sp fuel n : ℕ) (W′ : List ℕ) (o : Listed) : Type 0 where
+  pub kept : Kept sp W W′
+  pub older : ListOlder W′ (sp + n) n o
+  pub is : (t : Table) (es : Exprs) → ReadsAll T left at t es → count es ≡ n
+      → ShowsAll W′ n o (at + length (codesOf es)) (evalsIn d t (frameIn W f) (traceIn W tr) es fuel)
+
+-- a new object of class c with the values of the n expressions at `at`
+pub record News (T W : List ℕ) (f : Frame) (tr : Trace) (at left d sp fuel c n : ℕ) (W′ : List ℕ) (o : Out) : Type 0 where
+  pub kept : Kept sp W W′
+  pub older : OutOlder W′ (sp + 1) o
+  pub is : (t : Table) (es : Exprs) → ReadsAll T left at t es → count es ≡ n → c ≤ length (t .classes)
+      → Shows W′ o (at + length (codesOf es)) (evalIn d t (frameIn W f) (traceIn W tr) (new c es) fuel)

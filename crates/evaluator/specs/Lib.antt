@@ -1,0 +1,5 @@
+pub mod State
+pub mod Answers
+pub mod Evaluation
+pub mod Calling
+pub mod Main

@@ -1,0 +1,31 @@
+-- What a run of main answers.
+use Prim.Native.Nat.{ℕ}
+use mathlib.Core.Path.{_≡_}
+use mathlib.Core.List.{List}
+use lib.ListN.{length}
+use Rattle.cofj.specs.Limits.{standard}
+use Rattle.cofj.specs.Syntax.{count, Table}
+use Rattle.cofj.specs.Running as language
+use Rattle.cofj.specs.Running.{value}
+use Rattle.evaluator.specs.declared.Out.{Out}
+use Rattle.evaluator.specs.declared.state.Held.the-variants.{Absent}
+use Rattle.evaluator.specs.declared.state.Frame.{Frame}
+use Rattle.evaluator.specs.declared.state.Trace.{Trace}
+use Rattle.evaluator.specs.Answers.{outIn, OutOlder}
+use Rattle.evaluator.specs.Evaluation.{Tabled}
+
+-- ---- main
+pub record NoVariables (f : Frame) : Type 0 where
+  pub this : f .this ≡ Absent
+  pub res : f .res ≡ Absent
+  pub count : f .n ≡ 0
+
+pub record NoCalls (tr : Trace) : Type 0 where
+  pub full : length (tr .calls) ≡ 16
+  pub count : tr .n ≡ 0
+
+-- the outcome of main, with the work bytes W′ after; its value, if it has one, lies in block 0
+pub record Runs (T W : List ℕ) (fuel : ℕ) (W′ : List ℕ) (o : Out) : Type 0 where
+  pub same : length W′ ≡ length W
+  pub older : OutOlder W′ 1 o
+  pub is : (t : Table) → Tabled T t → outIn W′ o ≡ language.runWithin standard t fuel

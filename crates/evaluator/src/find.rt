@@ -1,0 +1,26 @@
+// The method that a call names.
+use checker::fits::receiver;
+use classes::methods::Found;
+use classes::places::CLASSES;
+use classes::places::SIZE;
+use values::ValueRef;
+ghost use Rattle.values.specs.Layout.{Holds};
+ghost use Rattle.evaluator.specs.Calling.{FindsTarget};
+
+// The method m with n parameters of the class of v, if v is an object that has it. No class has a number above 32.
+pub fn find(t: &[u8; SIZE], work: &[u8], v: ValueRef, m: u8, n: u8) -> Found
+    requires { ⌜ Holds (now work) v ⌝ }
+    ensures { λ r. ⌜ FindsTarget (now (t .entry)) (now (work .entry)) v m n r ⌝ }
+{
+    let ValueRef::Object(b) = v else {
+        return Found::Nothing;
+    };
+    let c = work[240 * b];
+    if CLASSES < c {
+        return Found::Nothing;
+    }
+    if 3 < n {
+        return Found::Nothing;
+    }
+    receiver(t, c, 0, m, n)
+}

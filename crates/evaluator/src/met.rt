@@ -1,0 +1,72 @@
+// A call met again: an open call with the same receiver, name and arguments, the newest first.
+use crate::state::OpenCall;
+use crate::state::Trace;
+use values::Slot;
+use values::ValueRef;
+use values::value::equal;
+ghost use mathlib.Core.Path.{_≡_};
+ghost use Prim.Native.Nat.{ℕ, _+_, _<_, _≤_};
+ghost use Rattle.cofj.specs.Values.{eqGraphs};
+ghost use Rattle.cofj.specs.Running.{openMark};
+ghost use Rattle.values.specs.Layout.{Holds, valueOf};
+ghost use Rattle.values.specs.Laying.{PartsHeld, valuesFrom};
+ghost use Rattle.evaluator.specs.State.{CallHolds, CallsHold, callIn, sameOf, traceTo, metOf};
+
+// The mark of the open call that was met, if one was.
+pub enum Met {
+    Mark(u8),
+    No,
+}
+
+// Whether the values from i on are the same, of n.
+pub fn same_args(work: &[u8], a: [Slot; 4], b: [Slot; 4], i: u8, n: u8) -> bool
+    requires { ⌜ PartsHeld (now work) a n × PartsHeld (now work) b n × (n ≤ 4) ⌝ }
+    ensures { λ r. ⌜ r ≡ eqGraphs (valuesFrom (now (work .entry)) a i n) (valuesFrom (now (work .entry)) b i n) ⌝ }
+{
+    if n <= i {
+        return true;
+    }
+    let x = a[i as usize];
+    let y = b[i as usize];
+    let p = x.r;
+    let q = y.r;
+    if !equal(work, p, q) {
+        return false;
+    }
+    same_args(work, a, b, i + 1, n)
+}
+
+// Whether an open call has this receiver, name and arguments.
+pub fn same_call(work: &[u8], c: OpenCall, v: ValueRef, m: u8, args: [Slot; 4], n: u8) -> bool
+    requires { ⌜ CallHolds (now work) c × Holds (now work) v × PartsHeld (now work) args n × (n ≤ 4) ⌝ }
+    ensures { λ r. ⌜ r ≡ sameOf (callIn (now (work .entry)) 0 c) (valueOf (now (work .entry)) v) m (valuesFrom (now (work .entry)) args 0 n) ⌝ }
+{
+    if c.name != m {
+        return false;
+    }
+    let r = c.receiver;
+    if !equal(work, r, v) {
+        return false;
+    }
+    if c.n != n {
+        return false;
+    }
+    let ps = c.args;
+    same_args(work, ps, args, 0, n)
+}
+
+// The mark of the newest of the first k open calls with this receiver, name and arguments.
+pub fn open_call(work: &[u8], t: Trace, k: u8, v: ValueRef, m: u8, args: [Slot; 4], n: u8) -> Met
+    requires { ⌜ CallsHold (now work) (t .calls) k × Holds (now work) v × PartsHeld (now work) args n × (n ≤ 4) ⌝ }
+    ensures { λ r. ⌜ r ≡ metOf (openMark (traceTo (now (work .entry)) (t .calls) k) (valueOf (now (work .entry)) v) m (valuesFrom (now (work .entry)) args 0 n)) ⌝ }
+{
+    if k == 0 {
+        return Met::No;
+    }
+    let cs = t.calls;
+    let c = cs[(k - 1) as usize];
+    if same_call(work, c, v, m, args, n) {
+        return Met::Mark(k - 1);
+    }
+    open_call(work, t, k - 1, v, m, args, n)
+}

@@ -1,0 +1,73 @@
+//! The proved writer: texts come back as they were read, and tables with a byte changed are judged as the reference engine judges them.
+
+use differential::table::layout;
+use differential::{TABLE_SIZE, Written, read, write};
+use reference::generator::random::Random;
+use reference::generator::{Kind, text};
+use reference::reading;
+
+const BUFFER: usize = 49_567;
+
+/// A refused call writes nothing.
+fn assert_refused(table: &[u8; TABLE_SIZE], size: usize, refusal: u8) {
+    let mut buffer = vec![0xA5; size];
+    let written = write(table, &mut buffer);
+    assert_eq!(written, Written { refusal, length: 0 });
+    assert!(buffer.iter().all(|&byte| byte == 0xA5));
+}
+
+/// The table's text comes back, and the bytes after it stay.
+fn assert_written(table: &[u8; TABLE_SIZE], text: &[u8]) {
+    let mut buffer = vec![0xA5; BUFFER + 7];
+    let written = write(table, &mut buffer);
+    assert_eq!(written.refusal, 0);
+    assert_eq!(&buffer[..usize::from(written.length)], text);
+    assert!(buffer[text.len()..].iter().all(|&byte| byte == 0xA5));
+}
+
+fn written_back(kind: Kind, seed: u64, count: u64) {
+    for number in 0..count {
+        let text = text(kind, &mut Random::for_case(seed, number));
+        let ours = read(&text);
+        if ours.refusal == 0 {
+            assert_written(&ours.table, &text);
+            assert_refused(&ours.table, BUFFER - 1, 9);
+        }
+    }
+}
+
+#[test]
+fn typed_programs_come_back() {
+    written_back(Kind::Typed, 11, 1_500);
+}
+
+#[test]
+fn other_texts_come_back() {
+    written_back(Kind::IllTyped, 12, 1_500);
+    written_back(Kind::Damaged, 13, 1_500);
+    written_back(Kind::Full, 14, 10);
+}
+
+/// A table is writable exactly when some text reads into it: the one that the writer gives, by the reference engine's reader.
+#[test]
+fn changed_tables() {
+    let mut refused = 0;
+    for number in 0..3_000 {
+        let mut random = Random::for_case(15, number);
+        let mut table = read(&text(Kind::Typed, &mut random)).table;
+        let place = random.below(TABLE_SIZE);
+        table[place] = random.byte();
+        let mut buffer = vec![0xA5; BUFFER];
+        let written = write(&table, &mut buffer);
+        if written.refusal == 0 {
+            let text = &buffer[..usize::from(written.length)];
+            let read = reading::read(text).expect("a text that is written reads");
+            assert!(layout(&read)[..] == table[..]);
+        } else {
+            assert_refused(&table, BUFFER, 8);
+            assert_refused(&table, 0, 8);
+            refused += 1;
+        }
+    }
+    assert!(refused > 1_000, "{refused}");
+}
