@@ -1,4 +1,5 @@
--- What calls ask and answer: the method, the arguments, the two sides.
+-- What calls ask and answer: the method, the arguments, the two sides of the method.
+-- Not here: other expressions (Evaluation).
 use Prim.Native.Nat.{ℕ, _+_, _*_, _≤_, _<_}
 use mathlib.Core.Path.{_≡_}
 use mathlib.Core.List.{List}
@@ -23,7 +24,7 @@ use Rattle.evaluator.specs.State.{Kept, Older, PartsOlder, TraceHolds, f
 use Rattle.evaluator.specs.Answers.{OutOlder, Shows}
 use Rattle.evaluator.specs.Evaluation.{Tabled, Reads, ReadsAll, deeper, evalIn, evalsIn, Fits}
 
--- ---- calls
+-- ---- the method
 abbrev pub FewIf : ℕ → Found → Type 0
 FewIf n (found.At i) = n ≤ 3
 FewIf n found.Nothing = Unit {0}
@@ -33,6 +34,7 @@ pub record FindsTarget (T W : List ℕ) (v : ValueRef) (m n : ℕ) (o : Found) :
   pub few : FewIf n o
   pub is : (t : Table) → Tabled T t → m < 256 → Finds (t .methods) o (target t (valueOf W v) m n)
 
+-- ---- the receiver and the arguments
 -- the call of m with n arguments: the receiver at `at`, then the arguments
 pub record Calls (T W : List ℕ) (f : Frame) (tr : Trace) (at left d sp fuel m n : ℕ) (W′ : List ℕ) (o : Out) : Type 0 where
   pub kept : Kept sp W W′

@@ -48,7 +48,9 @@ evalIn d t f os e n = language.eval 32 t (deeper d t) f os e n
 abbrev pub evalsIn : ℕ → Table → language.Frame → List language.OpenCall → Exprs → ℕ → Outcome (List Graph)
 evalsIn d t f os es n = language.evals 32 t (deeper d t) f os es n
 
--- what evaluation asks: the frame and the trace stand for values below block sp, and there is room above
+-- What evaluation asks: the frame and the trace stand for values below block sp, and there is room above. Up to 3 parts are pending a level
+-- while the next is evaluated, and 4 when a body is run, from the last level but one: 16 blocks a call. 274 is what main needs, and so no
+-- block from 273 on is touched.
 pub record Fits (W : List ℕ) (f : Frame) (tr : Trace) (left d sp : ℕ) : Type 0 where
   pub frame : FrameHolds W sp f
   pub trace : TraceHolds W sp tr
@@ -56,6 +58,7 @@ pub record Fits (W : List ℕ) (f : Frame) (tr : Trace) (left d sp : ℕ) : Type
   pub room : sp + 16 * d + 3 * left ≤ 274
   pub long : 65520 ≤ length W
 
+-- n expressions from block sp on
 pub record ListFits (W : List ℕ) (f : Frame) (tr : Trace) (left d sp n : ℕ) : Type 0 where
   pub frame : FrameHolds W sp f
   pub trace : TraceHolds W sp tr

@@ -1,12 +1,11 @@
--- What a run of main answers.
+-- What a run of main asks and answers. Not here: its report.
 use Prim.Native.Nat.{ℕ}
 use mathlib.Core.Path.{_≡_}
 use mathlib.Core.List.{List}
 use lib.ListN.{length}
 use Rattle.cofj.specs.Limits.{standard}
-use Rattle.cofj.specs.Syntax.{count, Table}
+use Rattle.cofj.specs.Syntax.{Table}
 use Rattle.cofj.specs.Running as language
-use Rattle.cofj.specs.Running.{value}
 use Rattle.evaluator.specs.declared.Out.{Out}
 use Rattle.evaluator.specs.declared.state.Held.the-variants.{Absent}
 use Rattle.evaluator.specs.declared.state.Frame.{Frame}
@@ -14,7 +13,6 @@ use Rattle.evaluator.specs.declared.state.Trace.{Trace}
 use Rattle.evaluator.specs.Answers.{outIn, OutOlder}
 use Rattle.evaluator.specs.Evaluation.{Tabled}
 
--- ---- main
 pub record NoVariables (f : Frame) : Type 0 where
   pub this : f .this ≡ Absent
   pub res : f .res ≡ Absent
