@@ -61,9 +61,9 @@ gives-is r B e = go (eqb (r .refusal) 0) refl e
 
 -- ---- a text that reads into bytes reads into a table with these bytes
 pub record TableOf (s B : List ℕ) : Type 0 where
-  whole : Table
-  reads : readText s ≡ read whole
-  bytes : B ≡ layout whole
+  pub whole : Table
+  pub reads : readText s ≡ read whole
+  pub bytes : B ≡ layout whole
 
 -- the number of a refusal is not 0
 not-zero : {A : Type 0} (o : Option A) (n : ℕ) (f : A → Answer) → (n ≡ 0 → ⊥) → ((a : A) → f a ≡ refusal 0 → ⊥) → o else n next f ≡ refusal 0 → ⊥
@@ -73,7 +73,7 @@ not-zero (some a) n f h g e = g a e
 read-or-refused : (t : Table) → read t ≡ refusal 0 → ⊥
 read-or-refused t e = zero-one (let z : _≡_ {A = ℕ} 0 1 = cc in z)
 
-no-zero : (s : List ℕ) → readText s ≡ refusal 0 → ⊥
+pub no-zero : (s : List ℕ) → readText s ≡ refusal 0 → ⊥
 unfolding readText
 no-zero s e =
     not-zero (lines s) 1 _ (λ z. omega arith)
@@ -95,6 +95,18 @@ by-answer s B (read t) q e =
 
 pub reads-table : (s B : List ℕ) → readingOf s ≡ holding B → TableOf s B
 reads-table s B e = by-answer s B (readText s) refl e
+
+-- what an answer says of the text, by its number
+pub answer-table : (s : List ℕ) (r : Reading) → r ≡ readingOf s → r .refusal ≡ 0 → TableOf s (r .table .bytes)
+answer-table s r e z = reads-table s (r .table .bytes) (sym e ∙ (λ i. record { refusal = z i; table = r .table }))
+
+pub answer-refusal : (s : List ℕ) (r : Reading) → r ≡ readingOf s → (r .refusal ≡ 0 → ⊥) → readText s ≡ refusal (r .refusal)
+unfolding readingOf
+answer-refusal s r e n = go (readText s) refl
+  where
+    go : (a : Answer) → readText s ≡ a → a ≡ refusal (r .refusal)
+    go (refusal k) q = ap refusal (sym (ap (λ (x : Reading). x .refusal) (e ∙ ap answered q)))
+    go (read t) q = absurd (n (ap (λ (x : Reading). x .refusal) (e ∙ ap answered q)))
 
 -- ---- the text of bytes
 by-test : (B : List ℕ) (b : Bool) → readable B ≡ b → textIn B ≡ pick b (text (hexText (linesIn B))) noText

@@ -78,11 +78,3 @@ pub fn read(text: &[u8]) -> Reading
     };
     read_lines(&room[..w])
 }
-
-// The same for C and Rust.
-#[no_mangle]
-pub extern "C" fn line_read(text: &[u8]) -> Reading
-    ensures { λ r. ⌜ r ≡ readingOf (now (text .entry)) ⌝ }
-{
-    read(text)
-}

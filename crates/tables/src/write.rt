@@ -183,11 +183,3 @@ pub fn write(table: ClassTable, buffer: &mut [u8]) -> Written
         length: w as u16,
     }
 }
-
-// The same for C and Rust.
-#[no_mangle]
-pub extern "C" fn line_write(table: ClassTable, buffer: &mut [u8]) -> Written
-    ensures { λ r. ⌜ wroteTable r (now (buffer .exit)) ≡ writingOf (table .bytes) (now (buffer .entry)) ⌝ }
-{
-    write(table, buffer)
-}

@@ -242,6 +242,7 @@ module _ (W : List ℕ) (b : ℕ) (bk : Block W b) where
       let z : take j (nodesIn W (240 * b) (countIn W b)) ≡ nodesIn W (240 * b) (countIn W b) = ap (λ (q : ℕ). take q (nodesIn W (240 * b) (countIn W b))) ej ∙ take-length (nodesIn W (240 * b) (countIn W b)) in
       let c : t ≡ length (hexText (objectLines 0 (nodesIn W (240 * b) (countIn W b)))) = f .count ∙ ap (λ (q : List Node). length (hexText (objectLines 0 q))) z in
       record {
+        fits = omega (arith, f .top, bk .small);
         count = c;
         text = front-whole d₀ d t (hexText (objectLines 0 (take j (nodesIn W (240 * b) (countIn W b))))) (f .text)
             ∙ ap₂ {A = List ℕ} {B = ℕ} (λ p q. p ++ drop q d₀) (ap (λ (q : List Node). hexText (objectLines 0 q)) z) c;
@@ -256,8 +257,8 @@ six-text (a ∷ (b ∷ (c ∷ d))) h = refl
 
 pub report-none : (W : List ℕ) (r : ValueRef) (d : List ℕ) → OneOf (1 ∷ 2 ∷ []) (tagOf RefT.the-type r) → 544 ≤ length d → Reported (valueOf W r) d (set (set (set d 0 48) 1 54) 2 10) 3
 report-none W (Object n) d h l = ⊎-elim (λ e. absurd (eqb-false 0 1 refl e)) (λ e. absurd (eqb-false 0 2 refl e)) h
-report-none W (Mark n) d h l = record { count = refl; text = six-text d l }
-report-none W Undetermined d h l = record { count = refl; text = six-text d l }
+report-none W (Mark n) d h l = record { fits = omega arith; count = refl; text = six-text d l }
+report-none W Undetermined d h l = record { fits = omega arith; count = refl; text = six-text d l }
 
 pub report-one : (W : List ℕ) (r : ValueRef) (b : ℕ) (d₀ d : List ℕ) (t : ℕ) → r ≡ Object b → Reported (blockIn W b) d₀ d t → Reported (valueOf W r) d₀ d t
 report-one W r b d₀ d t e h = rw e h

@@ -26,5 +26,6 @@ pub record Line (l d₀ : List ℕ) (to : ℕ) (d : List ℕ) (t : ℕ) : Type 0
 
 -- the report of v in front of what was there, and its length
 pub record Reported (v : Graph) (d₀ d : List ℕ) (t : ℕ) : Type 0 where
+  pub fits : t ≤ 544
   pub count : t ≡ length (valueReport v)
   pub text : d ≡ valueReport v ++ drop (length (valueReport v)) d₀

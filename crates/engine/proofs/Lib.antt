@@ -1,0 +1,5 @@
+pub mod StateLaws
+pub mod ReportLaws
+pub mod RunLaws
+pub mod ShowLaws
+pub mod Promise

@@ -1,0 +1,127 @@
+-- Laws of the check of a text, and of runs of a table's bytes and of a text.
+use Prim.Native.Nat.{ℕ, _≤_}
+use native.Mathlib.Omega.{arith}
+use mathlib.Core.Path.{_≡_, refl, sym, ap, _∙_, subst}
+use mathlib.Core.List.{List, _++_}
+use lib.ListN.{length, take, drop}
+use Rattle.cofj.specs.declared.Session.{Session}
+use Rattle.cofj.specs.declared.Answer as public
+use Rattle.cofj.specs.declared.Verdict.{Verdict}
+use Rattle.cofj.specs.Limits.{standard}
+use Rattle.cofj.specs.Syntax.{Table, Ty}
+use Rattle.cofj.specs.Reading.{Answer, refusal, read, readText}
+use Rattle.cofj.specs.Typing as language
+use Rattle.cofj.specs.Running.{run, runWithin}
+use Rattle.cofj.specs.Report.{reportOf, fuelOf}
+use Rattle.cofj.specs.Calls as calls
+use Rattle.cofj.specs.Calls.{Mode, checked, trial, over, cleared, Ran, Admitted, declined, admitted, afterCheck, admitTable, admit, ended, runAdmitted, runCall, checkText, checkCall}
+use Rattle.classes.specs.declared.chain.FieldType.{FieldType}
+use Rattle.classes.specs.Layout.{layout}
+use Rattle.tables.specs.declared.read.Reading.{Reading}
+use Rattle.tables.specs.Readings.{readingOf}
+use Rattle.tables.proofs.Written.{TableOf, answer-table, answer-refusal}
+use Rattle.checker.specs.declared.program.Checked.{Checked}
+use Rattle.checker.specs.declared.program.Checked.the-variants.{Main, Refused}
+use Rattle.checker.specs.Program.{checkOf}
+use Rattle.checker.specs.Answers.{answerOf, verdictOf}
+use Rattle.checker.proofs.Check.{verdict-on}
+use Rattle.checker.proofs.Programs.{ready-check}
+use Rattle.checker.proofs.ReadTables.{read-ready}
+use Rattle.evaluator.specs.declared.Out.{Out}
+use Rattle.evaluator.specs.Answers.{outIn}
+use Rattle.evaluator.specs.Evaluation.{Tabled}
+use Rattle.evaluator.specs.Main as main
+use Rattle.engine.specs.Steps.{ran, noReport, stateNumber, Reports, Executes, Runs}
+use Rattle.engine.proofs.StateLaws.{state-admits}
+use Rattle.engine.proofs.ReportLaws.{cleared-part}
+
+-- ---- the check
+pub verdict-main : (c : Checked) (B : List ℕ) (u : FieldType) → c ≡ checkOf B → c ≡ Main u → record { refusal = 0; class = u .class; tag = u .tag } ≡ verdictOf (checkOf B)
+verdict-main c B u e q = ap verdictOf (sym q ∙ e)
+
+pub verdict-refused : (c : Checked) (B : List ℕ) (k : ℕ) → c ≡ checkOf B → c ≡ Refused k → record { refusal = k; class = 0; tag = 0 } ≡ verdictOf (checkOf B)
+verdict-refused c B k e q = ap verdictOf (sym q ∙ e)
+
+pub check-unread : (s : List ℕ) (k : ℕ) → readText s ≡ refusal k → checkText s ≡ language.refused k
+unfolding checkText
+check-unread s k e = rw (e, checkText)
+
+pub check-read : (s : List ℕ) (t : Table) → readText s ≡ read t → checkText s ≡ language.check t
+unfolding checkText
+check-read s t e = rw (e, checkText)
+
+module _ (s : List ℕ) (r : Reading) (e : r ≡ readingOf s) where
+  pub text-refused : (r .refusal ≡ 0 → ⊥) → record { refusal = r .refusal; class = 0; tag = 0 } ≡ checkCall s
+  text-refused n = sym (ap calls.verdictOf (check-unread s (r .refusal) (answer-refusal s r e n)))
+
+  pub text-checked : (v : Verdict) → r .refusal ≡ 0 → v ≡ verdictOf (checkOf (r .table .bytes)) → v ≡ checkCall s
+  text-checked v z q =
+      let k = answer-table s r e z in
+      q ∙ ap (λ (B : List ℕ). verdictOf (checkOf B)) (k .bytes) ∙ verdict-on s (k .whole) (k .reads)
+
+-- ---- a table's bytes
+pub run-standard : (t : Table) (n : ℕ) → runWithin standard t n ≡ run t n
+unfolding run
+run-standard t n = refl
+
+pub executes : (T W W′ : List ℕ) (fuel : ℕ) (R R′ : List ℕ) (o : Out) (a : public.Answer) → main.Runs T W fuel W′ o → Reports (outIn W′ o) R R′ a
+    → Executes T fuel R (length W) R′ (length W′) a
+executes T W W′ fuel R R′ o a r w = record {
+  same = r .same;
+  is = λ t h. subst (λ x. Reports x R R′ a) (r .is t h ∙ run-standard t fuel) w;
+}
+
+reports-ended : (t : Table) (n : ℕ) (R R′ W : List ℕ) (a : public.Answer) → Reports (run t n) R R′ a → ran a R′ (cleared W) ≡ ended (run t n) R W
+reports-ended t n R R′ W a h = let p = h .answer in let q = h .text in λ i. ran (p i) (q i) (cleared W)
+
+pub table-ran : (T : List ℕ) (σ : Session) (R R′ W X W′ : List ℕ) (a : public.Answer) → 65536 ≤ length W
+    → Executes T (σ .fuel) R (length (take 65536 W)) R′ (length X) a → W′ ≡ cleared (X ++ drop 65536 W)
+    → Runs trial T σ R W (ran a R′ W′)
+table-ran T σ R R′ W X W′ a h x e = record {
+  is = λ t k. ap (λ (Y : List ℕ). ran a R′ Y) (e ∙ cleared-part W X (x .same) h) ∙ reports-ended t (σ .fuel) R R′ W a (x .is t k);
+}
+
+-- ---- and its check
+checks-on : (T : List ℕ) (t : Table) (c : Checked) → Tabled T t → c ≡ checkOf T → c ≡ answerOf (language.check t)
+checks-on T t c h e = e ∙ ap checkOf (h .bytes) ∙ ready-check t (h .ready)
+
+main-accepted : (c : language.Checked) (t : Table) (u : FieldType) → Main u ≡ answerOf c → afterCheck t c ≡ admitted t
+main-accepted (language.accepted v) t u e = refl
+main-accepted (language.refused n) t u e = let z : _≡_ {A = ℕ} 0 1 = cc in absurd (omega arith)
+
+refused-declined : (c : language.Checked) (t : Table) (k : ℕ) → Refused k ≡ answerOf c → afterCheck t c ≡ declined k
+refused-declined (language.accepted v) t k e = let z : _≡_ {A = ℕ} 0 1 = cc in absurd (omega arith)
+refused-declined (language.refused n) t k e = ap declined (let z : n ≡ k = cc in z)
+
+module _ (T : List ℕ) (σ : Session) (R W : List ℕ) (c : Checked) (e : c ≡ checkOf T) where
+  pub checked-ran : (u : FieldType) (x : Ran) → c ≡ Main u → Runs trial T σ R W x → Runs checked T σ R W x
+  checked-ran u x q r = record {
+    is = λ t h. r .is t h ∙ sym (ap (λ (y : Admitted). runAdmitted y σ R W) (main-accepted (language.check t) t u (sym q ∙ checks-on T t c h e)));
+  }
+
+  pub checked-refused : (k : ℕ) (a : public.Answer) → c ≡ Refused k → a ≡ noReport k σ → Runs checked T σ R W (ran a R W)
+  checked-refused k a q p = record {
+    is = λ t h. ap (λ (y : public.Answer). ran y R W) p ∙ sym (ap (λ (y : Admitted). runAdmitted y σ R W) (refused-declined (language.check t) t k (sym q ∙ checks-on T t c h e)));
+  }
+
+-- ---- a text
+pub admit-unread : (m : Mode) (s : List ℕ) (k : ℕ) → readText s ≡ refusal k → admit m s ≡ declined k
+unfolding admit
+admit-unread m s k e = rw (e, admit)
+
+pub admit-read : (m : Mode) (s : List ℕ) (t : Table) → readText s ≡ read t → admit m s ≡ admitTable m t
+unfolding admit
+admit-read m s t e = rw (e, admit)
+
+module _ (m : Mode) (s : List ℕ) (σ : Session) (R W : List ℕ) (k : ℕ) (g : k ≡ stateNumber (σ .active) (length R) (length W)) (none : k ≡ 0) (r : Reading) (e : r ≡ readingOf s) where
+  pub run-unread : (a : public.Answer) → (r .refusal ≡ 0 → ⊥) → a ≡ noReport (r .refusal) σ → ran a R W ≡ runCall m s σ R W
+  run-unread a n q =
+      state-admits m s σ R W k g (ran a R W) none
+      (ap (λ (y : public.Answer). ran y R W) q ∙ sym (ap (λ (y : Admitted). runAdmitted y σ R W) (admit-unread m s (r .refusal) (answer-refusal s r e n))))
+
+  pub run-read : (x : Ran) → r .refusal ≡ 0 → Runs m (r .table .bytes) σ R W x → x ≡ runCall m s σ R W
+  run-read x z h =
+      let t = answer-table s r e z in
+      state-admits m s σ R W k g x none
+      (h .is (t .whole) (record { ready = read-ready s (t .whole) (t .reads); bytes = t .bytes })
+      ∙ sym (ap (λ (y : Admitted). runAdmitted y σ R W) (admit-read m s (t .whole) (t .reads))))

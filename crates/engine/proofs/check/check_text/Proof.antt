@@ -1,0 +1,23 @@
+use borrow.Author.Needs.{needs}
+use Rattle.engine.proofs.check.check_text.Statement.{statement}
+use Rattle.engine.proofs.check.check_text.Tie as tie
+use Rattle.engine.proofs.check.check_text.Reads as reads
+use Rattle.engine.proofs.check.check_text.Lts as lts
+use Rattle.engine.proofs.check.check_table.Reads as check-table-reads
+use Rattle.tables.proofs.read.read.Reads as read-reads
+use Rattle.engine.proofs.RunLaws as laws
+
+returns : tie.Need-returns
+returns c = search laws.text-refused
+
+returns-2 : tie.Need-returns-2
+returns-2 c = search laws.text-checked
+
+pub check-text-spec : {M : Type 1} → statement M
+check-text-spec =
+    tie.close
+    (tie.spec
+    (λ c κs. search needs)
+    returns
+    (λ c κs. search needs)
+    returns-2)

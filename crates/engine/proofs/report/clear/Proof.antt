@@ -1,0 +1,40 @@
+use Rattle.engine.proofs.report.clear.Statement.{statement}
+use Rattle.engine.proofs.report.clear.Tie as tie
+use Rattle.engine.proofs.report.clear.Reads as reads
+use Rattle.engine.proofs.report.clear.Lts as lts
+use borrow.Author.Needs.{needs}
+use mathlib.Core.Path.{_≡_, refl}
+use mathlib.Core.List.{_++_}
+use Prim.Native.Nat.{_≤_, _-_}
+use native.Mathlib.Omega.{arith}
+use lib.ListN.{length, drop, replicate, length-set}
+use Rattle.engine.proofs.ReportLaws as laws
+
+abbrev Inv-loop : tie.InvT-loop
+Inv-loop work₀ i₀ work i = (i ≤ 65536) × (length work ≡ length work₀) × (work ≡ replicate i 0 ++ drop i work₀)
+
+abbrev μ-loop : tie.MeasureT-loop
+μ-loop work₀ i₀ work i = 65536 - i
+
+loop-holds : tie.Need-loop-holds Inv-loop μ-loop
+loop-holds c = (search needs, search needs, refl)
+
+loop-again : tie.Need-loop-again Inv-loop μ-loop
+loop-again c = (search needs, simp length-set (omega arith), search laws.clear-more)
+
+returns : tie.Need-returns Inv-loop μ-loop
+returns c = search laws.clear-done
+
+pub clear-spec : {M : Type 1} → statement M
+clear-spec =
+    tie.close
+    (tie.spec
+    Inv-loop
+    μ-loop
+    loop-holds
+    (λ c. search needs)
+    (λ c. search needs)
+    (λ c. search needs)
+    loop-again
+    (λ c. search needs)
+    returns)

@@ -1,0 +1,29 @@
+use borrow.Author.Needs.{needs}
+use Rattle.engine.proofs.run.check_and_run.Statement.{statement}
+use Rattle.engine.proofs.run.check_and_run.Tie as tie
+use Rattle.engine.proofs.run.check_and_run.Reads as reads
+use Rattle.engine.proofs.run.check_and_run.Lts as lts
+use Rattle.checker.proofs.program.check.Reads as check-reads
+use Rattle.engine.proofs.run.refuse.Reads as refuse-reads
+use Rattle.engine.proofs.run.run_table.Reads as run-table-reads
+use Rattle.engine.proofs.RunLaws as laws
+
+returns : tie.Need-returns
+returns c = search laws.checked-ran
+
+returns-2 : tie.Need-returns-2
+returns-2 c = search laws.checked-refused
+
+pub check-and-run-spec : {M : Type 1} → statement M
+check-and-run-spec =
+    tie.close
+    (tie.spec
+    (λ c κs. search needs)
+    (λ c. search needs)
+    (λ c κs. search needs)
+    (λ c. search needs)
+    (λ c κs. search needs)
+    (λ c. search needs)
+    (λ c. search needs)
+    returns
+    returns-2)

@@ -1,0 +1,38 @@
+use borrow.Author.Needs.{needs}
+use Rattle.engine.proofs.run.checked_run.Statement.{statement}
+use Rattle.engine.proofs.run.checked_run.Tie as tie
+use Rattle.engine.proofs.run.checked_run.Reads as reads
+use Rattle.engine.proofs.run.checked_run.Lts as lts
+use Rattle.engine.proofs.run.check_and_run.Reads as check-and-run-reads
+use Rattle.engine.proofs.run.refuse.Reads as refuse-reads
+use Rattle.engine.proofs.session.state_refusal.Reads as state-refusal-reads
+use Rattle.tables.proofs.read.read.Reads as read-reads
+use Rattle.engine.proofs.StateLaws as states
+use Rattle.engine.proofs.RunLaws as laws
+
+returns : tie.Need-returns
+returns c = search states.state-refuses
+
+returns-2 : tie.Need-returns-2
+returns-2 c = search laws.run-unread
+
+check-and-run-requires : tie.Need-check-and-run-requires
+check-and-run-requires c κs = (search states.lent-report, search states.lent-work)
+
+returns-3 : tie.Need-returns-3
+returns-3 c = search laws.run-read
+
+pub checked-run-spec : {M : Type 1} → statement M
+checked-run-spec =
+    tie.close
+    (tie.spec
+    (λ c κs. search needs)
+    (λ c κs. search needs)
+    returns
+    (λ c κs. search needs)
+    (λ c κs. search needs)
+    returns-2
+    check-and-run-requires
+    (λ c. search needs)
+    (λ c. search needs)
+    returns-3)

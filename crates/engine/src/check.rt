@@ -1,0 +1,46 @@
+// The check of a text: refusals 1 to 7, or main's class and tag.
+use checker::program::Checked;
+use checker::program::check;
+use classes::places::SIZE;
+use cofj::Verdict;
+use tables::read::read;
+ghost use mathlib.Core.Path.{_≡_};
+ghost use Rattle.cofj.specs.Calls.{checkCall};
+ghost use Rattle.checker.specs.Program.{checkOf};
+ghost use Rattle.checker.specs.Answers.{verdictOf};
+
+// The verdict on a table's bytes.
+pub fn check_table(t: &[u8; SIZE]) -> Verdict
+    ensures { λ r. ⌜ r ≡ verdictOf (checkOf (now (t .entry))) ⌝ }
+{
+    let c = check(t);
+    match c {
+        Checked::Main(u) => Verdict {
+            refusal: 0,
+            class: u.class,
+            tag: u.tag,
+        },
+        Checked::Refused(k) => Verdict {
+            refusal: k,
+            class: 0,
+            tag: 0,
+        },
+    }
+}
+
+// The verdict on a text.
+pub fn check_text(text: &[u8]) -> Verdict
+    ensures { λ r. ⌜ r ≡ checkCall (now (text .entry)) ⌝ }
+{
+    let r = read(text);
+    if r.refusal != 0 {
+        return Verdict {
+            refusal: r.refusal,
+            class: 0,
+            tag: 0,
+        };
+    }
+    let table = r.table;
+    let bytes = table.bytes;
+    check_table(&bytes)
+}

@@ -1,0 +1,79 @@
+// The public calls for C and Rust: slices are pointer and length, structs go by value.
+use crate::check::check_text;
+use crate::run::checked_run;
+use crate::run::trial_run;
+use crate::session::close_session;
+use crate::session::open_session;
+use classes::ClassTable;
+use cofj::Answer;
+use cofj::Closing;
+use cofj::Session;
+use cofj::Verdict;
+use cofj::Written;
+use tables::read::Reading;
+use tables::read::read;
+use tables::write::write;
+ghost use mathlib.Core.Path.{_≡_};
+ghost use Rattle.cofj.specs.Calls.{openSession, closeSession, checkCall, checked, trial, runCall};
+ghost use Rattle.tables.specs.Readings.{readingOf};
+ghost use Rattle.tables.specs.Writings.{wroteTable, writingOf};
+ghost use Rattle.engine.specs.Steps.{ran};
+
+#[no_mangle]
+pub extern "C" fn line_open(fuel: u16) -> Session
+    ensures { λ r. ⌜ r ≡ openSession fuel ⌝ }
+{
+    open_session(fuel)
+}
+
+#[no_mangle]
+pub extern "C" fn line_close(session: Session) -> Closing
+    ensures { λ r. ⌜ r ≡ closeSession session ⌝ }
+{
+    close_session(session)
+}
+
+#[no_mangle]
+pub extern "C" fn line_read(text: &[u8]) -> Reading
+    ensures { λ r. ⌜ r ≡ readingOf (now (text .entry)) ⌝ }
+{
+    read(text)
+}
+
+#[no_mangle]
+pub extern "C" fn line_write(table: ClassTable, buffer: &mut [u8]) -> Written
+    ensures { λ r. ⌜ wroteTable r (now (buffer .exit)) ≡ writingOf (table .bytes) (now (buffer .entry)) ⌝ }
+{
+    write(table, buffer)
+}
+
+#[no_mangle]
+pub extern "C" fn line_check(text: &[u8]) -> Verdict
+    ensures { λ r. ⌜ r ≡ checkCall (now (text .entry)) ⌝ }
+{
+    check_text(text)
+}
+
+#[no_mangle]
+pub extern "C" fn line_run(
+    text: &[u8],
+    session: Session,
+    report: &mut [u8],
+    work: &mut [u8],
+) -> Answer
+    ensures { λ r. ⌜ ran r (now (report .exit)) (now (work .exit)) ≡ runCall checked (now (text .entry)) session (now (report .entry)) (now (work .entry)) ⌝ }
+{
+    checked_run(text, session, report, work)
+}
+
+#[no_mangle]
+pub extern "C" fn line_trial(
+    text: &[u8],
+    session: Session,
+    report: &mut [u8],
+    work: &mut [u8],
+) -> Answer
+    ensures { λ r. ⌜ ran r (now (report .exit)) (now (work .exit)) ≡ runCall trial (now (text .entry)) session (now (report .entry)) (now (work .entry)) ⌝ }
+{
+    trial_run(text, session, report, work)
+}

@@ -1,0 +1,96 @@
+// The checked run and the trial run.
+use crate::report::clear;
+use crate::report::report_outcome;
+use crate::session::state_refusal;
+use checker::program::Checked;
+use checker::program::check;
+use classes::places::SIZE;
+use cofj::Answer;
+use cofj::Session;
+use evaluator::run::run;
+use tables::read::read;
+ghost use Prim.Native.Nat.{ℕ, _≤_};
+ghost use mathlib.Core.Path.{_≡_};
+ghost use lib.ListN.{length};
+ghost use Rattle.cofj.specs.Limits.{reportSize, workSize};
+ghost use Rattle.cofj.specs.Calls.{checked, trial, Ran, runCall};
+ghost use Rattle.engine.specs.Steps.{ran, noReport, Executes, Runs};
+
+// A refused call: the same session, and no report.
+pub fn refuse(refusal: u8, session: Session) -> Answer
+    ensures { λ r. ⌜ r ≡ noReport refusal session ⌝ }
+{
+    Answer {
+        refusal,
+        session,
+        length: 0,
+    }
+}
+
+// Runs main of a table's bytes and writes the report. What it leaves in `work` is open.
+pub fn execute(t: &[u8; SIZE], fuel: u16, out: &mut [u8], work: &mut [u8]) -> Answer
+    requires { ⌜ (reportSize ≤ length (now out)) × (65520 ≤ length (now work)) ⌝ }
+    ensures { λ r. ⌜ Executes (now (t .entry)) fuel (now (out .entry)) (length (now (work .entry))) (now (out .exit)) (length (now (work .exit))) r ⌝ }
+{
+    let o = run(t, work, fuel);
+    report_outcome(work, o, out)
+}
+
+// The same in the first 65,536 work bytes, which are zero after.
+pub fn run_table(t: &[u8; SIZE], session: Session, out: &mut [u8], work: &mut [u8]) -> Answer
+    requires { ⌜ (reportSize ≤ length (now out)) × (workSize ≤ length (now work)) ⌝ }
+    ensures { λ r. ⌜ Runs trial (now (t .entry)) session (now (out .entry)) (now (work .entry)) (ran r (now (out .exit)) (now (work .exit))) ⌝ }
+{
+    let fuel = session.fuel;
+    let r = execute(t, fuel, out, &mut work[..65536]);
+    clear(work);
+    r
+}
+
+// The same after the check of types.
+pub fn check_and_run(t: &[u8; SIZE], session: Session, out: &mut [u8], work: &mut [u8]) -> Answer
+    requires { ⌜ (reportSize ≤ length (now out)) × (workSize ≤ length (now work)) ⌝ }
+    ensures { λ r. ⌜ Runs checked (now (t .entry)) session (now (out .entry)) (now (work .entry)) (ran r (now (out .exit)) (now (work .exit))) ⌝ }
+{
+    let c = check(t);
+    match c {
+        Checked::Main(_) => run_table(t, session, out, work),
+        Checked::Refused(k) => refuse(k, session),
+    }
+}
+
+// The checked run of a text.
+pub fn checked_run(text: &[u8], session: Session, out: &mut [u8], work: &mut [u8]) -> Answer
+    ensures { λ r. ⌜ ran r (now (out .exit)) (now (work .exit)) ≡ runCall checked (now (text .entry)) session (now (out .entry)) (now (work .entry)) ⌝ }
+{
+    let active = session.active;
+    let k = state_refusal(active, out.len(), work.len());
+    if k != 0 {
+        return refuse(k, session);
+    }
+    let r = read(text);
+    if r.refusal != 0 {
+        return refuse(r.refusal, session);
+    }
+    let table = r.table;
+    let bytes = table.bytes;
+    check_and_run(&bytes, session, out, work)
+}
+
+// The trial run of a text: no types are asked for.
+pub fn trial_run(text: &[u8], session: Session, out: &mut [u8], work: &mut [u8]) -> Answer
+    ensures { λ r. ⌜ ran r (now (out .exit)) (now (work .exit)) ≡ runCall trial (now (text .entry)) session (now (out .entry)) (now (work .entry)) ⌝ }
+{
+    let active = session.active;
+    let k = state_refusal(active, out.len(), work.len());
+    if k != 0 {
+        return refuse(k, session);
+    }
+    let r = read(text);
+    if r.refusal != 0 {
+        return refuse(r.refusal, session);
+    }
+    let table = r.table;
+    let bytes = table.bytes;
+    run_table(&bytes, session, out, work)
+}

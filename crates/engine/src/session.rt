@@ -1,0 +1,54 @@
+// Sessions: opened, closed, and what their state refuses.
+use cofj::Closing;
+use cofj::Session;
+ghost use mathlib.Core.Path.{_≡_};
+ghost use Rattle.cofj.specs.Calls.{openSession, closeSession};
+ghost use Rattle.engine.specs.Steps.{stateNumber};
+
+// How many bytes a report buffer has at least, and a work buffer.
+pub const REPORT: usize = 544;
+
+pub const WORK: usize = 65536;
+
+// A session with this fuel.
+pub fn open_session(fuel: u16) -> Session
+    ensures { λ r. ⌜ r ≡ openSession fuel ⌝ }
+{
+    Session { active: true, fuel }
+}
+
+// A closed session has no fuel; closing it again is 11.
+pub fn close_session(session: Session) -> Closing
+    ensures { λ r. ⌜ r ≡ closeSession session ⌝ }
+{
+    let active = session.active;
+    if !active {
+        return Closing {
+            refusal: 11,
+            session,
+        };
+    }
+    Closing {
+        refusal: 0,
+        session: Session {
+            active: false,
+            fuel: 0,
+        },
+    }
+}
+
+// What the state refuses before the text is looked at: 11, 12, 13, or 0 for nothing.
+pub fn state_refusal(active: bool, report: usize, work: usize) -> u8
+    ensures { λ r. ⌜ r ≡ stateNumber active report work ⌝ }
+{
+    if !active {
+        return 11;
+    }
+    if report < REPORT {
+        return 12;
+    }
+    if work < WORK {
+        return 13;
+    }
+    0
+}
