@@ -18,6 +18,7 @@ use Rattle.cofj.specs.Frames.{Got, got, upTo, type, types, expr, ClassFrame, Te
 use Rattle.cofj.specs.Tables.{Raw, raw, inFront, ordered, few, numbered, bodies, exprKnown, classesGood, hasName, methodsGood, table, overridesGood}
 use Rattle.cofj.specs.Writing.{codeOf, typesBytes, methodLine, methodLines}
 use Rattle.cofj.specs.WellFormed.{AllMethods}
+use Rattle.cofj.proofs.Readable.{parents-in}
 use Rattle.cofj.proofs.Partial.{and-true}
 use Rattle.cofj.proofs.Chain.{ParentsSmaller}
 use Rattle.cofj.proofs.Partial.{opt-bind, guard-bind}
@@ -178,18 +179,6 @@ built S n m B p e = record {
   is = e;
   makes = λ r h en em z. let b = behind S r h in subst (Makes (table r)) (sym (e ∙ rw (en, em))) (table-lines r (b .short) S (b .lines) B z);
 }
-
-parents-in : (k : ℕ) (cs : List ClassFrame) → numbered (suc k) cs ≡ true → (i : ℕ) → parentOr0 (getElem? (bodies cs) i) ≤ k + i
-unfolding numbered
-parents-in k [] e i = zero-le
-parents-in k (c ∷ cs) e i = go i (parents-in (suc k) cs (p .1))
-  where
-    p : (eqb (c .number) (suc k) && ltb (c .body .parent) (suc k) ≡ true) × (numbered (suc (suc k)) cs ≡ true)
-    p = and-true (eqb (c .number) (suc k) && ltb (c .body .parent) (suc k)) (numbered (suc (suc k)) cs) e
-
-    go : (j : ℕ) → ((m : ℕ) → parentOr0 (getElem? (bodies cs) m) ≤ suc k + m) → parentOr0 (getElem? (c .body ∷ bodies cs) j) ≤ k + j
-    go zero ih = let q = ltb-true (c .body .parent) (suc k) (and-true (eqb (c .number) (suc k)) (ltb (c .body .parent) (suc k)) (p .0) .1) in omega arith
-    go (suc m) ih = omega (arith, ih m)
 
 shaped : (n : ℕ) → n ≤ classCount → (ds : List Method) → methodsGood n ds ≡ true → AllMethods ReadMethod ds → AllMethods Shaped ds
 unfolding methodsGood methodLine

@@ -59,11 +59,11 @@ module _ (a : Call) where
   by-text : (x : Admitted) → Lent a → admit (a .mode) (a .text) ≡ x → called a ≡ runAdmitted x (a .session) (a .report) (a .work)
   by-text x l e = by-state none (state-none l) ∙ ap (λ (y : Admitted). runAdmitted y (a .session) (a .report) (a .work)) e
 
-admit-unread : (m : Mode) (s : List ℕ) (k : ℕ) → readText s ≡ refusal k → admit m s ≡ declined k
+pub admit-unread : (m : Mode) (s : List ℕ) (k : ℕ) → readText s ≡ refusal k → admit m s ≡ declined k
 unfolding admit
 admit-unread m s k e = rw (e, admit)
 
-admit-read : (m : Mode) (s : List ℕ) (t : Table) → readText s ≡ read t → admit m s ≡ admitTable m t
+pub admit-read : (m : Mode) (s : List ℕ) (t : Table) → readText s ≡ read t → admit m s ≡ admitTable m t
 unfolding admit
 admit-read m s t e = rw (e, admit)
 
@@ -124,7 +124,7 @@ unfolding cleared zeros
 cleared-length work l =
     length-append (replicate workSize 0) (drop workSize work) ∙ (let d = length-drop workSize work in let z = length-replicate {A = ℕ} workSize 0 in omega arith)
 
-run-standard : (t : Table) (n : ℕ) → runWithin standard t n ≡ run t n
+pub run-standard : (t : Table) (n : ℕ) → runWithin standard t n ≡ run t n
 unfolding run
 run-standard t n = refl
 

@@ -36,7 +36,7 @@ closed-tags (u ∷ us) e =
     (closed-le (u .tag) (p .0), closed-tags us (p .1))
 
 -- ---- classes
-parents-in : (k : ℕ) (cs : List ClassFrame) → numbered (suc k) cs ≡ true → (i : ℕ) → parentOr0 (getElem? (bodies cs) i) ≤ k + i
+pub parents-in : (k : ℕ) (cs : List ClassFrame) → numbered (suc k) cs ≡ true → (i : ℕ) → parentOr0 (getElem? (bodies cs) i) ≤ k + i
 unfolding numbered
 parents-in k [] e i = zero-le
 parents-in k (c ∷ cs) e i = go i (parents-in (suc k) cs (p .1))

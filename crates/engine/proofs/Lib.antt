@@ -3,3 +3,4 @@ pub mod ReportLaws
 pub mod RunLaws
 pub mod ShowLaws
 pub mod Promise
+pub mod Shams

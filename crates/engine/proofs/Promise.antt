@@ -18,12 +18,12 @@ use Rattle.cofj.specs.Report.{SameEnd}
 use Rattle.cofj.specs.Calls.{checked, Ran, Admitted, verdictOf, verdictLine, reportAdmitted, linerun}
 use Rattle.cofj.specs.Typing.{Checked}
 use Rattle.cofj.specs.Promises.{Call, called, reportText, Program, ending, Kept, Demand3}
-use Rattle.cofj.proofs.Promises.{demand3}
+use Rattle.cofj.proofs.Promises.{demand3, admit-unread}
 use Rattle.tables.specs.declared.read.Reading.{Reading}
 use Rattle.tables.specs.Readings.{afterLines, readingOf}
 use Rattle.tables.proofs.ReadLaws.{reading-steps}
 use Rattle.tables.proofs.Written.{answer-refusal}
-use Rattle.engine.proofs.RunLaws.{admit-unread, check-unread}
+use Rattle.engine.proofs.RunLaws.{check-unread}
 
 -- what a run of the engine returned for a call: its answer and both buffers, as the contract has them
 pub record Returned (a : Call) (x : Ran) : Type 0 where
@@ -63,7 +63,7 @@ no-lines s h = go (leb 1 (length s)) ∙ refl
 long-read : (s : List ℕ) → 49567 < length s → readText s ≡ refusal 1
 long-read s h =
     let k : readingOf s .refusal ≡ 1 = ap (λ (r : Reading). r .refusal) (reading-steps s ∙ ap afterLines (no-lines s h)) in
-    answer-refusal s (readingOf s) refl (λ z. let y : _≡_ {A = ℕ} 1 0 = sym k ∙ z in omega arith) ∙ ap refusal k
+    answer-refusal s 1 (readingOf s .table .bytes) (record { number = sym k; table = λ z. refl }) (λ z. omega arith)
 
 unread-writes : (s : List ℕ) → readText s ≡ refusal 1 → linerun s ≡ hexText ((8 ∷ 1 ∷ []) ∷ []) ++ []
 unfolding linerun

@@ -15,10 +15,10 @@ use Rattle.cofj.specs.Running.{run, runWithin}
 use Rattle.cofj.specs.Report.{reportOf, fuelOf}
 use Rattle.cofj.specs.Calls as calls
 use Rattle.cofj.specs.Calls.{Mode, checked, trial, over, cleared, Ran, Admitted, declined, admitted, afterCheck, admitTable, admit, ended, runAdmitted, runCall, checkText, checkCall}
+use Rattle.cofj.proofs.Promises.{admit-unread, admit-read, run-standard}
 use Rattle.classes.specs.declared.chain.FieldType.{FieldType}
 use Rattle.classes.specs.Layout.{layout}
-use Rattle.tables.specs.declared.read.Reading.{Reading}
-use Rattle.tables.specs.Readings.{readingOf}
+use Rattle.tables.specs.Readings.{readingOf, Into}
 use Rattle.tables.proofs.Written.{TableOf, answer-table, answer-refusal}
 use Rattle.checker.specs.declared.program.Checked.{Checked}
 use Rattle.checker.specs.declared.program.Checked.the-variants.{Main, Refused}
@@ -50,20 +50,16 @@ pub check-read : (s : List ℕ) (t : Table) → readText s ≡ read t → checkT
 unfolding checkText
 check-read s t e = rw (e, checkText)
 
-module _ (s : List ℕ) (r : Reading) (e : r ≡ readingOf s) where
-  pub text-refused : (r .refusal ≡ 0 → ⊥) → record { refusal = r .refusal; class = 0; tag = 0 } ≡ checkCall s
-  text-refused n = sym (ap calls.verdictOf (check-unread s (r .refusal) (answer-refusal s r e n)))
+module _ (s : List ℕ) (k : ℕ) (B : List ℕ) (e : Into (readingOf s) k B) where
+  pub text-refused : (k ≡ 0 → ⊥) → record { refusal = k; class = 0; tag = 0 } ≡ checkCall s
+  text-refused n = sym (ap calls.verdictOf (check-unread s k (answer-refusal s k B e n)))
 
-  pub text-checked : (v : Verdict) → r .refusal ≡ 0 → v ≡ verdictOf (checkOf (r .table .bytes)) → v ≡ checkCall s
+  pub text-checked : (v : Verdict) → k ≡ 0 → v ≡ verdictOf (checkOf B) → v ≡ checkCall s
   text-checked v z q =
-      let k = answer-table s r e z in
-      q ∙ ap (λ (B : List ℕ). verdictOf (checkOf B)) (k .bytes) ∙ verdict-on s (k .whole) (k .reads)
+      let t = answer-table s k B e z in
+      q ∙ ap (λ (C : List ℕ). verdictOf (checkOf C)) (t .bytes) ∙ verdict-on s (t .whole) (t .reads)
 
 -- ---- a table's bytes
-pub run-standard : (t : Table) (n : ℕ) → runWithin standard t n ≡ run t n
-unfolding run
-run-standard t n = refl
-
 pub executes : (T W W′ : List ℕ) (fuel : ℕ) (R R′ : List ℕ) (o : Out) (a : public.Answer) → main.Runs T W fuel W′ o → Reports (outIn W′ o) R R′ a
     → Executes T fuel R (length W) R′ (length W′) a
 executes T W W′ fuel R R′ o a r w = record {
@@ -105,23 +101,15 @@ module _ (T : List ℕ) (σ : Session) (R W : List ℕ) (c : Checked) (e : c ≡
   }
 
 -- ---- a text
-pub admit-unread : (m : Mode) (s : List ℕ) (k : ℕ) → readText s ≡ refusal k → admit m s ≡ declined k
-unfolding admit
-admit-unread m s k e = rw (e, admit)
-
-pub admit-read : (m : Mode) (s : List ℕ) (t : Table) → readText s ≡ read t → admit m s ≡ admitTable m t
-unfolding admit
-admit-read m s t e = rw (e, admit)
-
-module _ (m : Mode) (s : List ℕ) (σ : Session) (R W : List ℕ) (k : ℕ) (g : k ≡ stateNumber (σ .active) (length R) (length W)) (none : k ≡ 0) (r : Reading) (e : r ≡ readingOf s) where
-  pub run-unread : (a : public.Answer) → (r .refusal ≡ 0 → ⊥) → a ≡ noReport (r .refusal) σ → ran a R W ≡ runCall m s σ R W
+module _ (m : Mode) (s : List ℕ) (σ : Session) (R W : List ℕ) (k : ℕ) (g : k ≡ stateNumber (σ .active) (length R) (length W)) (none : k ≡ 0) (j : ℕ) (B : List ℕ) (e : Into (readingOf s) j B) where
+  pub run-unread : (a : public.Answer) → (j ≡ 0 → ⊥) → a ≡ noReport j σ → ran a R W ≡ runCall m s σ R W
   run-unread a n q =
       state-admits m s σ R W k g (ran a R W) none
-      (ap (λ (y : public.Answer). ran y R W) q ∙ sym (ap (λ (y : Admitted). runAdmitted y σ R W) (admit-unread m s (r .refusal) (answer-refusal s r e n))))
+      (ap (λ (y : public.Answer). ran y R W) q ∙ sym (ap (λ (y : Admitted). runAdmitted y σ R W) (admit-unread m s j (answer-refusal s j B e n))))
 
-  pub run-read : (x : Ran) → r .refusal ≡ 0 → Runs m (r .table .bytes) σ R W x → x ≡ runCall m s σ R W
+  pub run-read : (x : Ran) → j ≡ 0 → Runs m B σ R W x → x ≡ runCall m s σ R W
   run-read x z h =
-      let t = answer-table s r e z in
+      let t = answer-table s j B e z in
       state-admits m s σ R W k g x none
       (h .is (t .whole) (record { ready = read-ready s (t .whole) (t .reads); bytes = t .bytes })
       ∙ sym (ap (λ (y : Admitted). runAdmitted y σ R W) (admit-read m s (t .whole) (t .reads))))

@@ -26,6 +26,7 @@ use Rattle.cofj.specs.Report.{reportOf}
 use Rattle.cofj.specs.Formed.{Out}
 use Rattle.cofj.specs.ReportForm.{Reportable}
 use Rattle.cofj.specs.Calls.{Mode, checked, openSession, over, zeros, checkText, checkCall, verdictOf, verdictLine, Ran, Admitted, declined, admitted, afterCheck, admitTable, admit, runAdmitted, runCall, reportAdmitted, linerun}
+use Rattle.cofj.proofs.Promises.{admit-unread, admit-read, run-standard}
 use Rattle.cofj.proofs.Readable.{read-formed}
 use Rattle.cofj.proofs.Reports.{run-reportable, report-length}
 use Rattle.tables.proofs.Written.{no-zero}
@@ -34,7 +35,7 @@ use Rattle.lineform.proofs.WriteLaws.{line-end, line-stores}
 use Rattle.engine.specs.declared.show.Shown.{Shown}
 use Rattle.engine.specs.Steps.{ran}
 use Rattle.engine.proofs.StateLaws.{lent-run}
-use Rattle.engine.proofs.RunLaws.{admit-unread, admit-read, check-unread, check-read, run-standard}
+use Rattle.engine.proofs.RunLaws.{check-unread, check-read}
 use Rattle.engine.specs.Showing.{verdictBytes, PutVerdict, reportFor, PutReport, shownOf, Shows}
 
 -- ---- the verdict line

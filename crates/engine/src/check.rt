@@ -3,7 +3,7 @@ use checker::program::Checked;
 use checker::program::check;
 use classes::places::SIZE;
 use cofj::Verdict;
-use tables::read::read;
+use tables::read::read_into;
 ghost use mathlib.Core.Path.{_≡_};
 ghost use Rattle.cofj.specs.Calls.{checkCall};
 ghost use Rattle.checker.specs.Program.{checkOf};
@@ -32,15 +32,14 @@ pub fn check_table(t: &[u8; SIZE]) -> Verdict
 pub fn check_text(text: &[u8]) -> Verdict
     ensures { λ r. ⌜ r ≡ checkCall (now (text .entry)) ⌝ }
 {
-    let r = read(text);
-    if r.refusal != 0 {
+    let mut bytes = [0u8; SIZE];
+    let k = read_into(text, &mut bytes);
+    if k != 0 {
         return Verdict {
-            refusal: r.refusal,
+            refusal: k,
             class: 0,
             tag: 0,
         };
     }
-    let table = r.table;
-    let bytes = table.bytes;
     check_table(&bytes)
 }

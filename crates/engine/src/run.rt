@@ -8,7 +8,7 @@ use classes::places::SIZE;
 use cofj::Answer;
 use cofj::Session;
 use evaluator::run::run;
-use tables::read::read;
+use tables::read::read_into;
 ghost use Prim.Native.Nat.{ℕ, _≤_};
 ghost use mathlib.Core.Path.{_≡_};
 ghost use lib.ListN.{length};
@@ -68,12 +68,11 @@ pub fn checked_run(text: &[u8], session: Session, out: &mut [u8], work: &mut [u8
     if k != 0 {
         return refuse(k, session);
     }
-    let r = read(text);
-    if r.refusal != 0 {
-        return refuse(r.refusal, session);
+    let mut bytes = [0u8; SIZE];
+    let refusal = read_into(text, &mut bytes);
+    if refusal != 0 {
+        return refuse(refusal, session);
     }
-    let table = r.table;
-    let bytes = table.bytes;
     check_and_run(&bytes, session, out, work)
 }
 
@@ -86,11 +85,10 @@ pub fn trial_run(text: &[u8], session: Session, out: &mut [u8], work: &mut [u8])
     if k != 0 {
         return refuse(k, session);
     }
-    let r = read(text);
-    if r.refusal != 0 {
-        return refuse(r.refusal, session);
+    let mut bytes = [0u8; SIZE];
+    let refusal = read_into(text, &mut bytes);
+    if refusal != 0 {
+        return refuse(refusal, session);
     }
-    let table = r.table;
-    let bytes = table.bytes;
     run_table(&bytes, session, out, work)
 }

@@ -16,8 +16,8 @@ use Rattle.cofj.specs.Text.{within, digit, endLine, linesFrom, lines}
 use Rattle.lineform.specs.declared.hex.Digit.{Digit}
 use Rattle.lineform.specs.declared.hex.Digit.the-variants.{Is, Not}
 use Rattle.lineform.specs.declared.lines.Decoded.the-variants.{Packed as Filled, Refused}
-use Rattle.lineform.specs.Packed.{packed, packedRoom}
-use Rattle.lineform.specs.Answers.{digitOf, pairOf, Decodes}
+use Rattle.lineform.specs.Packed.{packed}
+use Rattle.lineform.specs.Answers.{Roomy, Decodable, digitOf, pairOf, Decodes}
 use Rattle.lineform.proofs.Ends.{more, no-more}
 use Rattle.lineform.proofs.HexLaws.{below, above, inside, is-some, is-none}
 use Rattle.lineform.proofs.PackedLaws.{packed-append}
@@ -70,7 +70,7 @@ pub record Reading (text out₀ out : List ℕ) (i w b : ℕ) : Type 0 where
   pub size : length line ≡ b
   pub bytes : out ≡ packed done ++ (getD out₀ w 0 ∷ (reverse line ++ drop (w + 1 + b) out₀))
 
-pub reading-none : (text out : List ℕ) → packedRoom ≤ length out → Reading text out out 0 0 0
+pub reading-none : (text out : List ℕ) → 2 * length text + 10 ≤ 3 * length out → Reading text out out 0 0 0
 unfolding packed
 reading-none text out room = record {
   done = [];
@@ -142,9 +142,9 @@ module _ (text out₀ out : List ℕ) (i w b : ℕ) (r : Reading text out₀ out
           let e : endLine none (r .line) (linesFrom (drop (i + 1) text) none []) ≡ none = rw (above 1 255 (length (r .line)) (omega (arith, r .size)) (omega (arith, r .size))) in
           refuses text out₀ out (ends-with none (at-end ∙ e))
 
-      pub line-ends : (b ≡ 0 → ⊥) → b ≤ 255 → 3 * w + 4 * b ≤ 2 * i → length text ≤ 49567 → packedRoom ≤ length out₀ → Reading text out₀ (set out w b) (i + 1) (w + 1 + b) 0
+      pub line-ends : (b ≡ 0 → ⊥) → b ≤ 255 → 3 * w + 4 * b ≤ 2 * i → 2 * length text + 10 ≤ 3 * length out₀ → Reading text out₀ (set out w b) (i + 1) (w + 1 + b) 0
       unfolding packed
-      line-ends nz k pace short room =
+      line-ends nz k pace room =
           let l = reverse (r .line) in
           let el : length l ≡ b = length-reverse (r .line) ∙ r .size in
           let D = drop (w + 1 + b) out₀ in
@@ -177,8 +177,8 @@ module _ (text out₀ out : List ℕ) (i w b : ℕ) (r : Reading text out₀ out
       pub byte-bad : x ≡ Not → Decodes text out₀ out Refused
       byte-bad xn = refuses text out₀ out (ends-with none (at-byte ∙ rw (is-none (pairOf (drop i text)) x ex xn)))
 
-      pub byte-more : (v : ℕ) → x ≡ Is v → 3 * w + 4 * b ≤ 2 * i → length text ≤ 49567 → packedRoom ≤ length out₀ → Reading text out₀ (set out (w + 1 + b) v) (i + 2) w (b + 1)
-      byte-more v xv pace short room = record {
+      pub byte-more : (v : ℕ) → x ≡ Is v → 3 * w + 4 * b ≤ 2 * i → 2 * length text + 10 ≤ 3 * length out₀ → Reading text out₀ (set out (w + 1 + b) v) (i + 2) w (b + 1)
+      byte-more v xv pace room = record {
         done = r .done;
         line = v ∷ r .line;
         gives = ends-with (linesFrom (drop (i + 2) text) none (v ∷ r .line)) (at-byte ∙ rw (is-some (pairOf (drop i text)) x v ex xv));
@@ -196,7 +196,7 @@ module _ (text out₀ out : List ℕ) (i w b : ℕ) (r : Reading text out₀ out
     pub text-open : 0 < b → Decodes text out₀ out Refused
     text-open h = refuses text out₀ out (ends-with none (rw (no-more text i hi) (open-line (r .line) (omega (arith, r .size)))))
 
-    pub text-ends : b ≤ 0 → i ≤ length text + 1 → 3 * w + 4 * b ≤ 2 * i → 1 ≤ length text → length text ≤ 49567 → packedRoom ≤ length out₀ → Decodes text out₀ out (Filled w)
+    pub text-ends : b ≤ 0 → i ≤ length text + 1 → 3 * w + 4 * b ≤ 2 * i → 1 ≤ length text → length text ≤ 49567 → 2 * length text + 10 ≤ 3 * length out₀ → Decodes text out₀ out (Filled w)
     unfolding lines
     text-ends z near pace one short room =
         let el : r .line ≡ [] = nil (r .line) (omega (arith, r .size)) in
@@ -209,3 +209,7 @@ module _ (text out₀ out : List ℕ) (i w b : ℕ) (r : Reading text out₀ out
           answer = rw (el2, r .place);
           written = λ ls q. let e : r .done ≡ ls = cc in rw (← e, r .place) wd;
         }
+
+-- ---- what `decode` hands on
+pub decodable : (text out : List ℕ) → Roomy text out → (length text ≡ 0 → ⊥) → length text ≤ 49567 → Decodable text out
+decodable text out r n k = record { some-text = omega arith; short = k; room = r .room k }

@@ -10,6 +10,7 @@ use lib.ListN.{length, getD, set, take, drop, length-append}
 use lib.Seq.{sets, length-sets, sets-eq, take-suc, take-length, length-take-le, take-at, drop-at}
 use borrow.Author.Tests.{le-leb, lt-leb}
 use Rattle.cofj.specs.Text.{char, hexLine, hexText}
+use Rattle.cofj.proofs.Reports.{length-line}
 use Rattle.lineform.specs.Writes.{Wrote, wrote, put, hexBytes, putLine, putText}
 
 -- ---- a digit
@@ -98,8 +99,7 @@ line-bytes [] = refl
 line-bytes (b ∷ l) = rw (line-bytes l)
 
 pub line-length : (l : List ℕ) → length (hexLine l) ≡ 2 * length l + 1
-line-length [] = refl
-line-length (b ∷ l) = let h = line-length l in omega arith
+line-length l = let h = length-line l in omega arith
 
 module _ (out o1 rest : List ℕ) (at a first : ℕ) (e1 : wrote a o1 ≡ put out at (hexBytes (first ∷ []))) where
   first-end : a ≡ at + 2

@@ -23,7 +23,7 @@ use Rattle.lineform.specs.declared.lines.Decoded.{Decoded}
 use Rattle.lineform.specs.declared.lines.Decoded.the-variants.{Packed as Filled, Refused as NoLines}
 use Rattle.lineform.specs.declared.lines.Ordered.{Ordered}
 use Rattle.lineform.specs.declared.lines.Ordered.the-variants.{Counts, Refused as NoOrder}
-use Rattle.lineform.specs.Packed.{packed, packedRoom}
+use Rattle.lineform.specs.Packed.{packed}
 
 abbrev pub digitOf : Option ℕ → Digit
 digitOf none = Not
@@ -56,10 +56,14 @@ decodedOf none = NoLines
 decodedOf (some ls) = Filled (length (packed ls))
 
 -- a text of a fit length, and room for its lines
+-- there is room for a text's lines: a line of n bytes takes n + 1, and is 2n + 1 characters
+pub record Roomy (text out : List ℕ) : Type 0 where
+  pub room : length text ≤ textSize → 2 * length text + 10 ≤ 3 * length out
+
 pub record Decodable (text out : List ℕ) : Type 0 where
   pub some-text : 1 ≤ length text
   pub short : length text ≤ textSize
-  pub room : packedRoom ≤ length out
+  pub room : 2 * length text + 10 ≤ 3 * length out
 
 -- the answer is the text's, and its lines stand in front of what was there; after a refusal the bytes are open
 pub record Decodes (text out₀ out : List ℕ) (r : Decoded) : Type 0 where

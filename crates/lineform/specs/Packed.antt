@@ -7,10 +7,6 @@ use lib.ListN.{length, take, drop}
 use Rattle.cofj.specs.Limits.{lineSize}
 use Rattle.cofj.specs.Frames.{TextFrame, frames}
 
--- enough for the longest text: a line of b bytes, at least 1, takes 2b + 1 of its 49,567 characters and b + 1 places here
-abbrev pub packedRoom : ℕ
-packedRoom = 33048
-
 unfoldable pub packed : List (List ℕ) → List ℕ
 packed [] = []
 packed (l ∷ ls) = length l ∷ (l ++ packed ls)

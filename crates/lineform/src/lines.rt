@@ -4,8 +4,8 @@ ghost use mathlib.Core.Path.{_≡_};
 ghost use Prim.Native.Nat.{_≤_};
 ghost use lib.ListN.{length};
 ghost use Rattle.cofj.specs.Frames.{frames};
-ghost use Rattle.lineform.specs.Packed.{packedRoom, unpack, Packed, FramedLines};
-ghost use Rattle.lineform.specs.Answers.{Decodable, Decodes, isSome, orderOf};
+ghost use Rattle.lineform.specs.Packed.{unpack, Packed, FramedLines};
+ghost use Rattle.lineform.specs.Answers.{Roomy, Decodable, Decodes, isSome, orderOf};
 use crate::exprs::wide;
 use crate::frames::Framed;
 use crate::frames::frame_kind;
@@ -35,7 +35,7 @@ pub enum Ordered {
 
 // Writes the lines of `text` to the front of `out`; the bytes after them stay.
 pub fn decode(text: &[u8], out: &mut [u8]) -> Decoded
-    requires { ⌜ packedRoom ≤ length (now out) ⌝ }
+    requires { ⌜ Roomy (now text) (now out) ⌝ }
     ensures { λ r. ⌜ Decodes (now (text .entry)) (now (out .entry)) (now (out .exit)) r ⌝ }
 {
     if text.len() == 0 {

@@ -22,14 +22,14 @@ use Rattle.lineform.specs.declared.lines.Decoded.the-variants.{Packed as Filled
 use Rattle.lineform.specs.declared.lines.Ordered.{Ordered}
 use Rattle.lineform.specs.declared.lines.Ordered.the-variants.{Counts, Refused as NoOrder}
 use Rattle.lineform.specs.Packed.{packed, unpack, Packed, FramedLines}
-use Rattle.lineform.specs.Answers.{Decodes, isSome, countsOf, orderOf}
+use Rattle.lineform.specs.Answers.{Roomy, Decodes, isSome, countsOf, orderOf}
 use Rattle.lineform.proofs.PackedLaws.{unpack-packed}
 use Rattle.lineform.proofs.Established.{decoded-lines, decoded-none, decoded-packed, good-framed}
 use Rattle.classes.specs.Layout.{layout}
 use Rattle.classes.specs.Placing.{Placed, placed}
 use Rattle.classes.specs.Made.{Lined, Zeros, Built, Overrides, answer}
 use Rattle.tables.specs.declared.read.Reading.{Reading}
-use Rattle.tables.specs.Readings.{zeroTable, noTable, theTable, afterOverriding, afterTable, afterOrder, afterFrames, afterLines, answered, readingOf, ByteLines, Counted}
+use Rattle.tables.specs.Readings.{zeroTable, noTable, theTable, afterOverriding, afterTable, afterOrder, afterFrames, afterLines, answered, readingOf, Into, ByteLines, Counted}
 
 -- ---- the answer for a text is the answer of the steps
 by-overriding : (t : Table) (b : Bool) → answered ((guard b >>= λ _. some t) else 5 next λ u. read u) ≡ afterOverriding t b
@@ -71,8 +71,12 @@ unfolding zeroTable
 refused-is k = refl
 
 -- ---- read: refusal 1, or lines of bytes
-pub no-lines : (text out₀ out : List ℕ) (d : Decoded) (r : Reading) → Decodes text out₀ out d → d ≡ Refused → r ≡ noTable 1 → r ≡ readingOf text
-no-lines text out₀ out d r h e q = q ∙ sym (reading-steps text ∙ ap afterLines (decoded-none text out₀ out d h e))
+-- a refusal's number
+into-refused : (r : Reading) (k : ℕ) (B : List ℕ) → 1 ≤ k → r ≡ noTable k → Into r k B
+into-refused r k B h e = record { number = sym (ap (λ (x : Reading). x .refusal) e); table = λ z. absurd (omega arith) }
+
+pub no-lines : (text out₀ out : List ℕ) (d : Decoded) (B : List ℕ) → Decodes text out₀ out d → d ≡ Refused → Into (readingOf text) 1 B
+no-lines text out₀ out d B h e = into-refused (readingOf text) 1 B (omega arith) (reading-steps text ∙ ap afterLines (decoded-none text out₀ out d h e))
 
 bytes-append : (xs ys : List ℕ) → Bytes xs → Bytes ys → Bytes (xs ++ ys)
 bytes-append [] ys a b = b
@@ -96,13 +100,13 @@ module _ (text out₀ out : List ℕ) (d : Decoded) (w : ℕ) (h : Decodes text 
       let l = lines-bytes text (p .lines) (decoded-lines text out₀ out d w h e ∙ ap {B = Option (List (List ℕ))} some u) in
       record { whole = p; bytes = at-byte (take w out) (subst Bytes (sym (p .is)) (packed-bytes (p .lines) l)) }
 
-  pub of-lines : (r : Reading) → r ≡ afterFrames (frames (unpack (take w out))) → r ≡ readingOf text
-  of-lines r q = q ∙ sym (reading-steps text ∙ ap afterLines (decoded-lines text out₀ out d w h e))
+  pub of-lines : (k : ℕ) (B : List ℕ) → Into (afterFrames (frames (unpack (take w out)))) k B → Into (readingOf text) k B
+  of-lines k B q = subst (λ (r : Reading). Into r k B) (sym (reading-steps text ∙ ap afterLines (decoded-lines text out₀ out d w h e))) q
 
 -- ---- read_lines: refusals 2 and 3, or the counts
 module _ (S : List ℕ) (c : ByteLines S) (b : Bool) (eb : b ≡ isSome (frames (unpack S))) where
-  pub no-frames : (r : Reading) → not b ≡ true → r ≡ noTable 2 → r ≡ afterFrames (frames (unpack S))
-  no-frames r f q = q ∙ go (frames (unpack S)) (sym eb ∙ not-true b f)
+  pub no-frames : (B : List ℕ) → not b ≡ true → Into (afterFrames (frames (unpack S))) 2 B
+  no-frames B f = into-refused (afterFrames (frames (unpack S))) 2 B (omega arith) (sym (go (frames (unpack S)) (sym eb ∙ not-true b f)))
     where
       go : (o : Option (List TextFrame)) → isSome o ≡ false → noTable 2 ≡ afterFrames o
       go none z = refl
@@ -117,8 +121,8 @@ module _ (S : List ℕ) (c : ByteLines S) (b : Bool) (eb : b ≡ isSome (frames 
       unfolding orderOf
       counts p q = eo ∙ ap orderOf (framed .read) ∙ ap countsOf q
 
-      pub no-order : (r : Reading) → o ≡ NoOrder → r ≡ noTable 3 → r ≡ afterFrames (frames (unpack S))
-      no-order r z q = q ∙ go (ordered (framed .found) >>= few) refl ∙ sym (ap afterFrames (framed .read))
+      pub no-order : (B : List ℕ) → o ≡ NoOrder → Into (afterFrames (frames (unpack S))) 3 B
+      no-order B z = into-refused (afterFrames (frames (unpack S))) 3 B (omega arith) (sym (go (ordered (framed .found) >>= few) refl ∙ sym (ap afterFrames (framed .read))))
         where
           go : (p : Option Raw) → ordered (framed .found) >>= few ≡ p → noTable 3 ≡ afterOrder (ordered (framed .found) >>= few)
           go none y = ap afterOrder (sym y)
@@ -160,8 +164,8 @@ module _ (S : List ℕ) (n m : ℕ) (c : Counted S n m) where
   of-raw = sym (ap afterFrames (c .lined .read) ∙ ap afterOrder (c .lined .order))
 
   module _ (Z B : List ℕ) (b : Bool) (built : Built S n m Z (placed b B)) (z : Zeros Z) where
-    pub no-table : (r : Reading) → not b ≡ true → r ≡ noTable 4 → r ≡ afterFrames (frames (unpack S))
-    no-table r f q = q ∙ go (table (c .raw)) refl ∙ of-raw
+    pub no-table : not b ≡ true → Into (afterFrames (frames (unpack S))) 4 B
+    no-table f = into-refused (afterFrames (frames (unpack S))) 4 B (omega arith) (sym (go (table (c .raw)) refl ∙ of-raw))
       where
         go : (o : Option Table) → table (c .raw) ≡ o → noTable 4 ≡ afterTable (table (c .raw))
         go none y = ap afterTable (sym y)
@@ -191,13 +195,22 @@ module _ (S : List ℕ) (n m : ℕ) (c : Counted S n m) where
         says : (t : Table) → table (c .raw) ≡ some t → B ≡ layout t → g ≡ overridesGood t (t .methods)
         says t y l = over .says S (c .raw) t (c .lined) y l
 
-        pub no-override : (r : Reading) → not g ≡ true → r ≡ noTable 5 → r ≡ afterFrames (frames (unpack S))
-        no-override r h q =
+        pub no-override : not g ≡ true → Into (afterFrames (frames (unpack S))) 5 B
+        no-override h =
             let k = made in
-            q ∙ sym (ap afterTable (k .1) ∙ ap (afterOverriding (k .0)) (sym (says (k .0) (k .1) (k .2)) ∙ not-true g h)) ∙ of-raw
+            into-refused (afterFrames (frames (unpack S))) 5 B (omega arith)
+            (sym (sym (ap afterTable (k .1) ∙ ap (afterOverriding (k .0)) (sym (says (k .0) (k .1) (k .2)) ∙ not-true g h)) ∙ of-raw))
 
-        pub the-table : not g ≡ false → _≡_ {A = Reading} (record { refusal = 0; table = record { bytes = B } }) (afterFrames (frames (unpack S)))
+        pub the-table : not g ≡ false → Into (afterFrames (frames (unpack S))) 0 B
         the-table h =
             let k = made in
-            ap (λ (x : List ℕ). record { refusal = 0; table = record { bytes = x } }) (k .2)
-            ∙ sym (ap afterTable (k .1) ∙ ap (afterOverriding (k .0)) (sym (says (k .0) (k .1) (k .2)) ∙ not-false g h)) ∙ of-raw
+            let q : theTable (k .0) ≡ afterFrames (frames (unpack S)) =
+            sym (ap afterTable (k .1) ∙ ap (afterOverriding (k .0)) (sym (says (k .0) (k .1) (k .2)) ∙ not-false g h)) ∙ of-raw in
+            record { number = ap (λ (r : Reading). r .refusal) q; table = λ z. k .2 ∙ ap (λ (r : Reading). r .table .bytes) q }
+
+-- ---- read_into: room enough
+pub short-room : (text room : List ℕ) → length text ≤ 1500 → length room ≡ 1024 → Roomy text room
+short-room text room h e = record { room = λ k. omega arith }
+
+pub long-room : (text room : List ℕ) → length room ≡ 33048 → Roomy text room
+long-room text room e = record { room = λ k. omega arith }

@@ -20,7 +20,7 @@ use Rattle.cofj.proofs.RoundTrip.{write-read, read-writes}
 use Rattle.classes.specs.Layout.{layout}
 use Rattle.classes.specs.Machine.{pick}
 use Rattle.tables.specs.declared.read.Reading.{Reading}
-use Rattle.tables.specs.Readings.{theTable, noTable, answered, readingOf}
+use Rattle.tables.specs.Readings.{theTable, noTable, answered, readingOf, Into}
 use Rattle.tables.specs.Writings.{linesIn, sameBytes, gives, readable, textIn, writingOf, holding}
 use Rattle.tables.proofs.LinesIn.{lines-in}
 
@@ -96,17 +96,29 @@ by-answer s B (read t) q e =
 pub reads-table : (s B : List ℕ) → readingOf s ≡ holding B → TableOf s B
 reads-table s B e = by-answer s B (readText s) refl e
 
--- what an answer says of the text, by its number
-pub answer-table : (s : List ℕ) (r : Reading) → r ≡ readingOf s → r .refusal ≡ 0 → TableOf s (r .table .bytes)
-answer-table s r e z = reads-table s (r .table .bytes) (sym e ∙ (λ i. record { refusal = z i; table = r .table }))
+-- ---- what an answer says of the text, by its number
+module _ (s : List ℕ) (k : ℕ) (B : List ℕ) (h : Into (readingOf s) k B) where
+  by-number : (a : Answer) → readText s ≡ a → k ≡ answered a .refusal
+  unfolding readingOf
+  by-number a q = h .number ∙ ap (λ (x : Answer). answered x .refusal) q
 
-pub answer-refusal : (s : List ℕ) (r : Reading) → r ≡ readingOf s → (r .refusal ≡ 0 → ⊥) → readText s ≡ refusal (r .refusal)
-unfolding readingOf
-answer-refusal s r e n = go (readText s) refl
-  where
-    go : (a : Answer) → readText s ≡ a → a ≡ refusal (r .refusal)
-    go (refusal k) q = ap refusal (sym (ap (λ (x : Reading). x .refusal) (e ∙ ap answered q)))
-    go (read t) q = absurd (n (ap (λ (x : Reading). x .refusal) (e ∙ ap answered q)))
+  pub answer-refusal : (k ≡ 0 → ⊥) → readText s ≡ refusal k
+  answer-refusal n = go (readText s) refl
+    where
+      go : (a : Answer) → readText s ≡ a → a ≡ refusal k
+      go (refusal m) q = ap refusal (sym (by-number (refusal m) q))
+      go (read t) q = absurd (n (by-number (read t) q))
+
+  pub answer-table : k ≡ 0 → TableOf s B
+  answer-table z = reads-table s B (λ i. record { refusal = (sym (h .number) ∙ z) i; table = record { bytes = sym (h .table z) i } })
+
+  -- and the answer by value
+  pub reading-refused : (r : Reading) → (k ≡ 0 → ⊥) → r ≡ noTable k → r ≡ readingOf s
+  unfolding readingOf
+  reading-refused r n q = q ∙ sym (ap answered (answer-refusal n))
+
+  pub reading-table : k ≡ 0 → holding B ≡ readingOf s
+  reading-table z = λ i. record { refusal = (sym z ∙ h .number) i; table = record { bytes = h .table z i } }
 
 -- ---- the text of bytes
 by-test : (B : List ℕ) (b : Bool) → readable B ≡ b → textIn B ≡ pick b (text (hexText (linesIn B))) noText

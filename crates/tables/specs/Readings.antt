@@ -55,6 +55,11 @@ unfoldable pub readingOf : List ℕ → Reading
 unfolding readText
 readingOf s = answered (readText s)
 
+-- k and the bytes B are the answer; after a refusal the bytes are open
+pub record Into (r : Reading) (k : ℕ) (B : List ℕ) : Type 0 where
+  pub number : k ≡ r .refusal
+  pub table : k ≡ 0 → B ≡ r .table .bytes
+
 -- ---- what the steps have made sure of
 -- packed lines of bytes
 pub record ByteLines (S : List ℕ) : Type 0 where

@@ -11,7 +11,9 @@ use lineform::lines::order;
 ghost use mathlib.Core.Path.{_≡_};
 ghost use Rattle.cofj.specs.Frames.{frames};
 ghost use Rattle.lineform.specs.Packed.{unpack};
-ghost use Rattle.tables.specs.Readings.{noTable, afterFrames, readingOf, ByteLines, Counted};
+ghost use Rattle.lineform.specs.Answers.{Roomy};
+ghost use Rattle.classes.specs.Made.{Zeros};
+ghost use Rattle.tables.specs.Readings.{noTable, afterFrames, readingOf, Into, ByteLines, Counted};
 
 // What reading answers: 0 and the table, or the refusal's number and a table of zeros.
 #[repr(C)]
@@ -19,6 +21,9 @@ pub struct Reading {
     pub refusal: u8,
     pub table: ClassTable,
 }
+
+// The longest text that the smaller room is enough for.
+const SHORT: usize = 1500;
 
 // A refusal.
 fn refused(k: u8) -> Reading
@@ -31,50 +36,74 @@ fn refused(k: u8) -> Reading
     }
 }
 
-// The table of packed lines in order, with n classes and m methods: refusals 4 and 5.
-fn read_table(d: &[u8], n: u8, m: u8) -> Reading
-    requires { ⌜ Counted (now d) n m ⌝ }
-    ensures { λ r. ⌜ r ≡ afterFrames (frames (unpack (now (d .entry)))) ⌝ }
+// The table of packed lines in order, with n classes and m methods, in `bytes`: 0, or refusal 4 or 5.
+fn table_into(d: &[u8], n: u8, m: u8, bytes: &mut [u8; SIZE]) -> u8
+    requires { ⌜ Counted (now d) n m × Zeros (now bytes) ⌝ }
+    ensures { λ k. ⌜ Into (afterFrames (frames (unpack (now (d .entry))))) k (now (bytes .exit)) ⌝ }
 {
-    let mut bytes = [0u8; SIZE];
-    let good = place_table(d, n, m, &mut bytes);
+    let good = place_table(d, n, m, bytes);
     if !good {
-        return refused(4);
+        return 4;
     }
-    let same = overrides(&bytes);
+    let same = overrides(bytes);
     if !same {
-        return refused(5);
+        return 5;
     }
-    Reading {
-        refusal: 0,
-        table: ClassTable { bytes },
-    }
+    0
 }
 
-// The table of packed lines: refusals 2 to 5.
-fn read_lines(d: &[u8]) -> Reading
-    requires { ⌜ ByteLines (now d) ⌝ }
-    ensures { λ r. ⌜ r ≡ afterFrames (frames (unpack (now (d .entry)))) ⌝ }
+// The table of packed lines, in `bytes`: 0, or a refusal of 2 to 5.
+fn lines_into(d: &[u8], bytes: &mut [u8; SIZE]) -> u8
+    requires { ⌜ ByteLines (now d) × Zeros (now bytes) ⌝ }
+    ensures { λ k. ⌜ Into (afterFrames (frames (unpack (now (d .entry))))) k (now (bytes .exit)) ⌝ }
 {
     let good = frames_good(d);
     if !good {
-        return refused(2);
+        return 2;
     }
     let o = order(d);
     let Ordered::Counts(n, m) = o else {
-        return refused(3);
+        return 3;
     };
-    read_table(d, n, m)
+    table_into(d, n, m, bytes)
+}
+
+// The table of a text, in `bytes`, with room for its packed lines: 0, or its lowest refusal of 1 to 5.
+fn text_into(text: &[u8], room: &mut [u8], bytes: &mut [u8; SIZE]) -> u8
+    requires { ⌜ Roomy (now text) (now room) × Zeros (now bytes) ⌝ }
+    ensures { λ k. ⌜ Into (readingOf (now (text .entry))) k (now (bytes .exit)) ⌝ }
+{
+    let r = decode(text, room);
+    let Decoded::Packed(w) = r else {
+        return 1;
+    };
+    lines_into(&room[..w], bytes)
+}
+
+// The same with room of its own: less for a short text. The bytes are zero before; after a refusal they are open.
+pub fn read_into(text: &[u8], bytes: &mut [u8; SIZE]) -> u8
+    requires { ⌜ Zeros (now bytes) ⌝ }
+    ensures { λ k. ⌜ Into (readingOf (now (text .entry))) k (now (bytes .exit)) ⌝ }
+{
+    if text.len() <= SHORT {
+        let mut room = [0u8; 1024];
+        return text_into(text, &mut room, bytes);
+    }
+    let mut room = [0u8; 33048];
+    text_into(text, &mut room, bytes)
 }
 
 // The table of a text, or its lowest refusal of 1 to 5.
 pub fn read(text: &[u8]) -> Reading
     ensures { λ r. ⌜ r ≡ readingOf (now (text .entry)) ⌝ }
 {
-    let mut room = [0u8; 33048];
-    let r = decode(text, &mut room);
-    let Decoded::Packed(w) = r else {
-        return refused(1);
-    };
-    read_lines(&room[..w])
+    let mut bytes = [0u8; SIZE];
+    let k = read_into(text, &mut bytes);
+    if k != 0 {
+        return refused(k);
+    }
+    Reading {
+        refusal: 0,
+        table: ClassTable { bytes },
+    }
 }

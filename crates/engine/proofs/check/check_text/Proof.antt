@@ -4,8 +4,12 @@ use Rattle.engine.proofs.check.check_text.Tie as tie
 use Rattle.engine.proofs.check.check_text.Reads as reads
 use Rattle.engine.proofs.check.check_text.Lts as lts
 use Rattle.engine.proofs.check.check_table.Reads as check-table-reads
-use Rattle.tables.proofs.read.read.Reads as read-reads
+use Rattle.tables.proofs.read.read_into.Reads as read-into-reads
+use Rattle.tables.proofs.ReadLaws as reads-laws
 use Rattle.engine.proofs.RunLaws as laws
+
+read-into-requires : tie.Need-read-into-requires
+read-into-requires c κs = search reads-laws.zeros
 
 returns : tie.Need-returns
 returns c = search laws.text-refused
@@ -17,7 +21,7 @@ pub check-text-spec : {M : Type 1} → statement M
 check-text-spec =
     tie.close
     (tie.spec
-    (λ c κs. search needs)
+    read-into-requires
     returns
     (λ c κs. search needs)
     returns-2)

@@ -6,12 +6,16 @@ use Rattle.engine.proofs.run.checked_run.Lts as lts
 use Rattle.engine.proofs.run.check_and_run.Reads as check-and-run-reads
 use Rattle.engine.proofs.run.refuse.Reads as refuse-reads
 use Rattle.engine.proofs.session.state_refusal.Reads as state-refusal-reads
-use Rattle.tables.proofs.read.read.Reads as read-reads
+use Rattle.tables.proofs.read.read_into.Reads as read-into-reads
+use Rattle.tables.proofs.ReadLaws as reads-laws
 use Rattle.engine.proofs.StateLaws as states
 use Rattle.engine.proofs.RunLaws as laws
 
 returns : tie.Need-returns
 returns c = search states.state-refuses
+
+read-into-requires : tie.Need-read-into-requires
+read-into-requires c κs = search reads-laws.zeros
 
 returns-2 : tie.Need-returns-2
 returns-2 c = search laws.run-unread
@@ -29,7 +33,7 @@ checked-run-spec =
     (λ c κs. search needs)
     (λ c κs. search needs)
     returns
-    (λ c κs. search needs)
+    read-into-requires
     (λ c κs. search needs)
     returns-2
     check-and-run-requires

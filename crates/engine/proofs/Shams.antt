@@ -1,0 +1,138 @@
+-- Document 01's shams, refuted: a function that meets the contract of a public call does not answer as the sham does.
+-- Each by a call that the sham would answer otherwise. The table of them, with the edits of the code, is docs/SHAMS.md.
+use Prim.Native.Nat.{ℕ, _≤_}
+use Prim.Native.String.{String}
+use native.Mathlib.Omega.{arith}
+use mathlib.Core.Path.{_≡_, refl, sym, ap, _∙_}
+use mathlib.Core.List.{List, [], _∷_}
+use lib.ListN.{length, getD, drop, length-replicate}
+use lib.Seq.{take-append-seam}
+use Rattle.cofj.specs.declared.Verdict.{Verdict}
+use Rattle.cofj.specs.Bytes.{bytes}
+use Rattle.cofj.specs.Running.{run}
+use Rattle.cofj.specs.Report.{reportOf}
+use Rattle.cofj.specs.Calls.{Mode, checked, openSession, zeros, over, Ran, Admitted, declined, admitted, admit, runAdmitted, reportAdmitted, checkText, checkCall}
+use Rattle.cofj.specs.Promises.{Call, called, reportText}
+use Rattle.engine.proofs.StateLaws.{lent-run}
+
+-- a call with buffers just long enough
+abbrev pub calling : Mode → String → ℕ → Call
+calling m s n = record { mode = m; text = bytes s; session = openSession n; report = zeros 544; work = zeros 65536 }
+
+zeros-length : (n : ℕ) → length (zeros n) ≡ n
+unfolding zeros
+zeros-length n = length-replicate n 0
+
+admitted-text : (x : Admitted) (n : ℕ) (R W : List ℕ) → reportText (runAdmitted x (openSession n) R W) ≡ reportAdmitted x n
+unfolding over
+admitted-text (declined k) n R W = refl
+admitted-text (admitted t) n R W = take-append-seam (reportOf (run t n)) (drop (length (reportOf (run t n))) R)
+
+lent : (m : Mode) (s : String) (n : ℕ) → called (calling m s n) ≡ runAdmitted (admit m (bytes s)) (openSession n) (zeros 544) (zeros 65536)
+lent m s n =
+    lent-run m (bytes s) (openSession n) (zeros 544) (zeros 65536) refl
+    (let l = zeros-length 544 in omega arith) (let l = zeros-length 65536 in omega arith)
+
+-- what such a call reports
+reports : (m : Mode) (s : String) (n : ℕ) → reportText (called (calling m s n)) ≡ reportAdmitted (admit m (bytes s)) n
+reports m s n = ap reportText (lent m s n) ∙ admitted-text (admit m (bytes s)) n (zeros 544) (zeros 65536)
+
+-- ---- the calls
+-- case A
+abbrev text-a : String
+text-a = "010100010003\n01020000\n02020101030103004402004041\n02020201000102004501014401004041\n03440100450200\n"
+
+-- the ring of case I
+abbrev text-i : String
+text-i = "01010000\n01020000\n010300010003\n01040000\n010500010003\n02010103000302004503014402004041\n02010205000502004505014401004041\n03440100450100\n"
+
+-- a pair whose first value is one call, and whose second is an Object or an object of class 2
+abbrev text-p : String
+text-p = "0101000200030003\n01020000\n0202010000000000450000450000\n03450102440100450200450000\n"
+
+abbrev text-q : String
+text-q = "0101000200030003\n01020000\n0202010000000000450000450000\n03450102440100450200450200\n"
+
+-- a new Object: no call at all
+abbrev text-o : String
+text-o = "03450000\n"
+
+-- m of class 1 calls n of class 2, which calls m again, whose right side is `this`: the object of class 1, and not the caller's
+abbrev text-f : String
+text-f = "01010000\n01020000\n02010101000100004402014502004040\n0202020100010001010044010042004200\n03440100450100\n"
+
+checks-a : checkCall (bytes text-a) ≡ record { refusal = 0; class = 1; tag = 3 }
+unfolding checkText bytes
+checks-a = refl
+
+report-a : reportAdmitted (admit checked (bytes text-a)) 3 ≡ bytes "0500010100\n"
+unfolding admit run bytes
+report-a = refl
+
+report-a-2 : reportAdmitted (admit checked (bytes text-a)) 2 ≡ bytes "0702\n"
+unfolding admit run bytes
+report-a-2 = refl
+
+report-i : reportAdmitted (admit checked (bytes text-i)) 3 ≡ bytes "0500030101\n0501050100\n"
+unfolding admit run bytes
+report-i = refl
+
+report-p : reportAdmitted (admit checked (bytes text-p)) 1 ≡ bytes "050001020101\n05010000\n"
+unfolding admit run bytes
+report-p = refl
+
+report-q : reportAdmitted (admit checked (bytes text-q)) 1 ≡ bytes "050001020102\n05010000\n05020200\n"
+unfolding admit run bytes
+report-q = refl
+
+report-o : reportAdmitted (admit checked (bytes text-o)) 0 ≡ bytes "05000000\n"
+unfolding admit run bytes
+report-o = refl
+
+report-f : reportAdmitted (admit checked (bytes text-f)) 3 ≡ bytes "05000100\n"
+unfolding admit run bytes
+report-f = refl
+
+-- ---- a checker that refuses every program
+pub refuses-all : (f : List ℕ → Verdict) → ((s : List ℕ) → f s ≡ checkCall s) → ((s : List ℕ) → f s .refusal ≡ 0 → ⊥) → ⊥
+refuses-all f meets sham = sham (bytes text-a) (ap (λ (v : Verdict). v .refusal) (meets (bytes text-a) ∙ checks-a))
+
+-- ---- runs
+-- texts that differ in the character at a place are not equal
+apart : (k : ℕ) (s t : List ℕ) → (getD s k 0 ≡ getD t k 0 → ⊥) → s ≡ t → ⊥
+apart k s t n e = n (ap (λ (x : List ℕ). getD x k 0) e)
+
+module _ (f : Call → Ran) (meets : (a : Call) → f a ≡ called a) where
+  says : (m : Mode) (s : String) (n : ℕ) (r : List ℕ) → reportAdmitted (admit m (bytes s)) n ≡ r → reportText (f (calling m s n)) ≡ r
+  says m s n r e = ap reportText (meets (calling m s n)) ∙ reports m s n ∙ e
+
+  -- every report is `0702`, or one fixed ring, or empty
+  pub one-report : (r : List ℕ) → ((m : Mode) (s : String) (n : ℕ) → reportText (f (calling m s n)) ≡ r) → ⊥
+  unfolding bytes
+  one-report r sham =
+      apart 5 (bytes "0500010100\n") (bytes "0500030101\n0501050100\n") (λ z. omega arith)
+      (sym (says checked text-a 3 _ report-a) ∙ sham checked text-a 3 ∙ sym (sham checked text-i 3) ∙ says checked text-i 3 _ report-i)
+
+  -- main's first call is evaluated and the rest invented: the report is the same whatever follows that call
+  pub first-call-only : reportText (f (calling checked text-p 1)) ≡ reportText (f (calling checked text-q 1)) → ⊥
+  unfolding bytes
+  first-call-only sham =
+      apart 11 (bytes "050001020101\n05010000\n") (bytes "050001020102\n05010000\n05020200\n") (λ z. omega arith)
+      (sym (says checked text-p 1 _ report-p) ∙ sham ∙ says checked text-q 1 _ report-q)
+
+  -- fuel is drawn at a figure of its own: the session's makes no difference
+  pub own-fuel : reportText (f (calling checked text-a 3)) ≡ reportText (f (calling checked text-a 2)) → ⊥
+  unfolding bytes
+  own-fuel sham =
+      apart 1 (bytes "0500010100\n") (bytes "0702\n") (λ z. omega arith)
+      (sym (says checked text-a 3 _ report-a) ∙ sham ∙ says checked text-a 2 _ report-a-2)
+
+  -- `0703` before a call is open
+  pub deep-at-once : reportText (f (calling checked text-o 0)) ≡ bytes "0703\n" → ⊥
+  unfolding bytes
+  deep-at-once sham = apart 1 (bytes "05000000\n") (bytes "0703\n") (λ z. omega arith) (sym (says checked text-o 0 _ report-o) ∙ sham)
+
+  -- the right side is evaluated in the caller's frame
+  pub callers-frame : reportText (f (calling checked text-f 3)) ≡ bytes "05000200\n" → ⊥
+  unfolding bytes
+  callers-frame sham = apart 5 (bytes "05000100\n") (bytes "05000200\n") (λ z. omega arith) (sym (says checked text-f 3 _ report-f) ∙ sham)

@@ -1,0 +1,34 @@
+use borrow.Author.Needs.{needs}
+use Rattle.tables.proofs.read.lines_into.Statement.{statement}
+use Rattle.tables.proofs.read.lines_into.Tie as tie
+use Rattle.tables.proofs.read.lines_into.Reads as reads
+use Rattle.tables.proofs.read.lines_into.Lts as lts
+use Rattle.lineform.proofs.lines.frames_good.Reads as frames-good-reads
+use Rattle.lineform.proofs.lines.order.Reads as order-reads
+use Rattle.tables.proofs.read.table_into.Reads as table-into-reads
+use Rattle.tables.proofs.ReadLaws as laws
+
+returns : tie.Need-returns
+returns c = search laws.no-frames
+
+order-requires : tie.Need-order-requires
+order-requires c κs = search laws.framed
+
+returns-2 : tie.Need-returns-2
+returns-2 c = search laws.no-order
+
+table-into-requires : tie.Need-table-into-requires
+table-into-requires c κs = (search laws.counted, search needs)
+
+pub lines-into-spec : {M : Type 1} → statement M
+lines-into-spec =
+    tie.close
+    (tie.spec
+    (λ c κs. search needs)
+    returns
+    order-requires
+    (λ c. search needs)
+    (λ c. search needs)
+    returns-2
+    table-into-requires
+    (λ c. search needs))

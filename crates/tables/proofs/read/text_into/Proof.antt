@@ -1,0 +1,39 @@
+use borrow.Author.Needs.{needs}
+use Rattle.tables.proofs.read.text_into.Statement.{statement}
+use Rattle.tables.proofs.read.text_into.Tie as tie
+use Rattle.tables.proofs.read.text_into.Reads as reads
+use Rattle.tables.proofs.read.text_into.Lts as lts
+use Rattle.lineform.proofs.lines.decode.Reads as decode-reads
+use Rattle.tables.proofs.read.lines_into.Reads as lines-into-reads
+use Rattle.tables.proofs.ReadLaws as laws
+use Rattle.lineform.proofs.Established.{decoded-room, decoded-count}
+
+returns : tie.Need-returns
+returns c = search laws.no-lines
+
+slice-reshare-prefix-lines-into : tie.Need-slice-reshare-prefix-lines-into
+slice-reshare-prefix-lines-into c = search decoded-room
+
+slice-aggregate-lines-into : tie.Need-slice-aggregate-lines-into
+slice-aggregate-lines-into c = search (decoded-room, decoded-count)
+
+lines-into-requires : tie.Need-lines-into-requires
+lines-into-requires c κs = (search laws.byte-lines, search needs)
+
+returns-2 : tie.Need-returns-2
+returns-2 c = search laws.of-lines
+
+pub text-into-spec : {M : Type 1} → statement M
+text-into-spec =
+    tie.close
+    (tie.spec
+    (λ c κs. search needs)
+    (λ c. search needs)
+    (λ c. search needs)
+    (λ c. search needs)
+    returns
+    slice-reshare-prefix-lines-into
+    slice-aggregate-lines-into
+    lines-into-requires
+    (λ c. search needs)
+    returns-2)
