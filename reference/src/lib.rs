@@ -8,6 +8,7 @@
 pub mod builder;
 pub mod calls;
 pub mod classes;
+pub mod fast;
 pub mod generator;
 pub mod linerun;
 pub mod reading;

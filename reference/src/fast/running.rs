@@ -1,0 +1,194 @@
+//! Evaluation of postfix code over ids. Receiver and arguments are left on
+//! the stack where they were evaluated: they are the locals of the body.
+
+use super::arena::{Arena, Id, mark};
+use super::code::{Code, Op, Side};
+use super::program::{NONE, Program};
+use crate::running::{MAX_DEPTH, Stop};
+
+/// Runs main: its value or why there is none, the values, the fuel left.
+pub fn run(program: &Program, fuel: u16) -> (Result<Id, Stop>, Arena, u16) {
+    let mut run = Run {
+        program,
+        code: Code::new(program),
+        arena: Arena::new(),
+        stack: Vec::with_capacity(256),
+        callers: Vec::with_capacity(MAX_DEPTH),
+        trace: Vec::with_capacity(MAX_DEPTH),
+        next: 0,
+        base: 0,
+        side: Side::Left,
+        fuel,
+    };
+    let outcome = run.whole();
+    (outcome, run.arena, run.fuel)
+}
+
+/// Where to go on after a call.
+struct Caller {
+    next: usize,
+    base: usize,
+    side: Side,
+}
+
+/// An open left-side call; its arguments are on the stack after the receiver.
+struct Open {
+    column: u8,
+    receiver: Id,
+    base: usize,
+}
+
+struct Run<'a> {
+    program: &'a Program,
+    code: Code,
+    arena: Arena,
+    stack: Vec<Id>,
+    /// One for each open call.
+    callers: Vec<Caller>,
+    trace: Vec<Open>,
+    next: usize,
+    /// Where the locals of the body stand, and which side it is.
+    base: usize,
+    side: Side,
+    fuel: u16,
+}
+
+impl Run<'_> {
+    fn whole(&mut self) -> Result<Id, Stop> {
+        loop {
+            let op = self.code.ops[self.next];
+            self.next += 1;
+            match op {
+                Op::Local(place) => {
+                    let value = self.stack[self.base + usize::from(place)];
+                    self.stack.push(value);
+                }
+                Op::LocalField(place, field) => {
+                    let value = self.stack[self.base + usize::from(place)];
+                    let value = self.field(value, field)?;
+                    self.stack.push(value);
+                }
+                Op::Field(field) => {
+                    let value = self.pop();
+                    let value = self.field(value, field)?;
+                    self.stack.push(value);
+                }
+                Op::Find(column, count) => {
+                    let receiver = self.stack[self.stack.len() - 1];
+                    self.method(receiver, column, count)?;
+                }
+                Op::Call(column, count) => self.call(column, count)?,
+                Op::New(class, count) => self.new_object(class, count)?,
+                Op::Stuck => return Err(Stop::Stuck),
+                Op::Return => {
+                    if let Some(value) = self.answer() {
+                        return Ok(value);
+                    }
+                }
+            }
+        }
+    }
+
+    #[inline]
+    fn pop(&mut self) -> Id {
+        self.stack.pop().expect("code leaves what it takes")
+    }
+
+    #[inline]
+    fn field(&self, value: Id, field: u8) -> Result<Id, Stop> {
+        let node = self.arena.node(value);
+        if field >= node.count {
+            return Err(Stop::Stuck);
+        }
+        Ok(node.fields[usize::from(field)])
+    }
+
+    #[inline]
+    fn method(&self, receiver: Id, column: u8, count: u8) -> Result<u8, Stop> {
+        let class = self.arena.node(receiver).class;
+        let method = self.program.method(class, column);
+        if method == NONE || self.program.methods[usize::from(method)].params != count {
+            return Err(Stop::Stuck);
+        }
+        Ok(method)
+    }
+
+    #[inline]
+    fn new_object(&mut self, class: u8, count: u8) -> Result<(), Stop> {
+        if count == 0 {
+            let value = self.arena.bare(class);
+            self.stack.push(value);
+            return Ok(());
+        }
+        let first = self.stack.len() - usize::from(count);
+        let made = self.arena.make(class, &self.stack[first..]);
+        self.stack[first] = made.ok_or(Stop::TooLarge)?;
+        self.stack.truncate(first + 1);
+        Ok(())
+    }
+
+    #[inline]
+    fn call(&mut self, column: u8, count: u8) -> Result<(), Stop> {
+        let base = self.stack.len() - 1 - usize::from(count);
+        let receiver = self.stack[base];
+        let method = self.method(receiver, column, count)?;
+        // The unit is spent before the depth is tested.
+        self.fuel = self.fuel.checked_sub(1).ok_or(Stop::OutOfFuel)?;
+        if self.callers.len() == MAX_DEPTH {
+            return Err(Stop::TooDeep);
+        }
+        self.callers.push(Caller {
+            next: self.next,
+            base: self.base,
+            side: self.side,
+        });
+        self.base = base;
+        self.side = match self.met(column, receiver, base) {
+            Some(place) => {
+                self.stack.push(mark(place));
+                Side::Right
+            }
+            None => {
+                self.trace.push(Open {
+                    column,
+                    receiver,
+                    base,
+                });
+                Side::Left
+            }
+        };
+        self.next = self.code.start(self.program, method, self.side);
+        Ok(())
+    }
+
+    /// The place of the open left-side call that is the same. One receiver
+    /// and one name make one method, so the counts agree.
+    #[inline]
+    fn met(&self, column: u8, receiver: Id, base: usize) -> Option<usize> {
+        let arguments = &self.stack[base + 1..];
+        self.trace.iter().position(|open| {
+            open.receiver == receiver
+                && open.column == column
+                && self.stack[open.base + 1..][..arguments.len()] == *arguments
+        })
+    }
+
+    /// Ends a body; gives the value when it was main's.
+    #[inline]
+    fn answer(&mut self) -> Option<Id> {
+        let mut value = self.pop();
+        let Some(caller) = self.callers.pop() else {
+            return Some(value);
+        };
+        if self.side == Side::Left {
+            self.trace.pop();
+            value = self.arena.close(value, self.trace.len());
+        }
+        self.stack.truncate(self.base);
+        self.stack.push(value);
+        self.next = caller.next;
+        self.base = caller.base;
+        self.side = caller.side;
+        None
+    }
+}
