@@ -19,4 +19,5 @@ pub mod syntax;
 pub mod text;
 pub mod typing;
 pub mod values;
+pub mod workloads;
 pub mod writing;

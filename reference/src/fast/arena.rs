@@ -31,8 +31,7 @@ pub struct Node {
     /// among them. A node that does not lead back to itself has 0 and 0.
     pub ring: u8,
     pub place: u8,
-    /// The last mark this value was closed by, counted from 1, and the answer.
-    pub closed_by: u8,
+    /// The answer when this was closed by its highest mark, 0 before that.
     pub closed: Id,
     /// Bit p for each mark p in it.
     pub open: u16,
@@ -60,7 +59,6 @@ impl Arena {
             bound: 0,
             ring: 0,
             place: 0,
-            closed_by: 0,
             closed: 0,
             open: 0,
             stamp: 0,

@@ -15,7 +15,8 @@ struct Ring {
 }
 
 impl Arena {
-    /// The answer `value` of the left-side call at this place.
+    /// The answer `value` of the left-side call at this place. Marks of later
+    /// places are gone, so a value is only ever closed by its highest one.
     pub fn close(&mut self, value: Id, place: usize) -> Id {
         if value == mark(place) {
             return UNDETERMINED;
@@ -24,7 +25,7 @@ impl Arena {
         if node.open >> place & 1 == 0 {
             return value;
         }
-        if usize::from(node.closed_by) == place + 1 {
+        if node.closed != UNDETERMINED {
             return node.closed;
         }
         let ring = minimised(&self.opened(value, place));
@@ -32,9 +33,7 @@ impl Arena {
             Some(id) => id,
             None => self.added(&ring),
         };
-        let node = self.node_mut(value);
-        node.closed_by = place as u8 + 1;
-        node.closed = closed;
+        self.node_mut(value).closed = closed;
         closed
     }
 
@@ -129,7 +128,7 @@ impl Arena {
                     todo[waiting] = inside;
                     waiting += 1;
                 }
-                if partners[inside] != partner || partner == UNDETERMINED {
+                if partners[inside] != partner {
                     return false;
                 }
             }
