@@ -53,8 +53,8 @@ struct Frames {
 /// or over its number is read and only noted.
 fn frames(lines: &Lines) -> Option<Frames> {
     let mut frames = Frames {
-        classes: Vec::with_capacity(MAX_CLASSES),
-        methods: Vec::with_capacity(MAX_METHODS),
+        classes: Vec::new(),
+        methods: Vec::new(),
         main: None,
         ordered: true,
         highest_new: 0,
@@ -80,7 +80,7 @@ fn frames(lines: &Lines) -> Option<Frames> {
             }
             0x03 => {
                 frames.main = Some(start + 1);
-                cursor.expr(MAX_NESTING)?;
+                cursor.expr()?;
             }
             _ => return None,
         }
@@ -135,9 +135,9 @@ impl Cursor<'_> {
         self.type_()?;
         let params = self.types(MAX_PARAMETERS)? as u8;
         let left = self.next;
-        self.expr(MAX_NESTING)?;
+        self.expr()?;
         let right = self.next;
-        self.expr(MAX_NESTING)?;
+        self.expr()?;
         Some(Method {
             owner,
             name,
@@ -148,33 +148,44 @@ impl Cursor<'_> {
         })
     }
 
-    /// `room` is how many levels of nesting are left, this one included.
-    fn expr(&mut self, room: usize) -> Option<()> {
-        let room = room.checked_sub(1)?;
-        let parts = match self.byte()? {
-            0x40 | 0x41 => 0,
-            0x42 => {
-                self.byte()?;
-                0
+    /// One expression. `left` has, for each level of nesting, how many parts
+    /// are still to come there.
+    fn expr(&mut self) -> Option<()> {
+        let mut left = [0; MAX_NESTING + 1];
+        let mut level = 1;
+        left[1] = 1;
+        loop {
+            let parts = self.parts()?;
+            left[level] -= 1;
+            if parts > 0 {
+                level += 1;
+                *left.get_mut(level)? = parts;
             }
-            0x43 => {
-                self.byte()?;
-                1
+            while left[level] == 0 {
+                level -= 1;
+                if level == 0 {
+                    return Some(());
+                }
             }
+        }
+    }
+
+    /// The front of an expression; gives the number of its parts.
+    fn parts(&mut self) -> Option<usize> {
+        match self.byte()? {
+            0x40 | 0x41 => Some(0),
+            0x42 => self.byte().map(|_| 0),
+            0x43 => self.byte().map(|_| 1),
             0x44 => {
                 self.byte()?;
-                1 + self.count(MAX_PARAMETERS)?
+                Some(1 + self.count(MAX_PARAMETERS)?)
             }
             0x45 => {
                 self.highest_new = self.highest_new.max(self.byte()?);
-                self.count(MAX_FIELDS)?
+                self.count(MAX_FIELDS)
             }
-            _ => return None,
-        };
-        for _ in 0..parts {
-            self.expr(room)?;
+            _ => None,
         }
-        Some(())
     }
 }
 

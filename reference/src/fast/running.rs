@@ -14,7 +14,8 @@ pub fn run(program: &Program, fuel: u16) -> (Result<Id, Stop>, Arena, u16) {
         arena: Arena::new(),
         stack: Vec::with_capacity(256),
         callers: Vec::with_capacity(MAX_DEPTH),
-        trace: Vec::with_capacity(MAX_DEPTH),
+        keys: Vec::with_capacity(MAX_DEPTH),
+        bases: Vec::with_capacity(MAX_DEPTH),
         next: 0,
         base: 0,
         side: Side::Left,
@@ -31,13 +32,6 @@ struct Caller {
     side: Side,
 }
 
-/// An open left-side call; its arguments are on the stack after the receiver.
-struct Open {
-    column: u8,
-    receiver: Id,
-    base: usize,
-}
-
 struct Run<'a> {
     program: &'a Program,
     code: Code,
@@ -45,7 +39,10 @@ struct Run<'a> {
     stack: Vec<Id>,
     /// One for each open call.
     callers: Vec<Caller>,
-    trace: Vec<Open>,
+    /// Open left-side calls: receiver and column, and where on the stack the
+    /// receiver stands, with the arguments after it.
+    keys: Vec<u64>,
+    bases: Vec<usize>,
     next: usize,
     /// Where the locals of the body stand, and which side it is.
     base: usize,
@@ -143,17 +140,15 @@ impl Run<'_> {
             side: self.side,
         });
         self.base = base;
-        self.side = match self.met(column, receiver, base) {
+        let key = u64::from(receiver) << 8 | u64::from(column);
+        self.side = match self.met(key, base) {
             Some(place) => {
                 self.stack.push(mark(place));
                 Side::Right
             }
             None => {
-                self.trace.push(Open {
-                    column,
-                    receiver,
-                    base,
-                });
+                self.keys.push(key);
+                self.bases.push(base);
                 Side::Left
             }
         };
@@ -164,12 +159,11 @@ impl Run<'_> {
     /// The place of the open left-side call that is the same. One receiver
     /// and one name make one method, so the counts agree.
     #[inline]
-    fn met(&self, column: u8, receiver: Id, base: usize) -> Option<usize> {
+    fn met(&self, key: u64, base: usize) -> Option<usize> {
         let arguments = &self.stack[base + 1..];
-        self.trace.iter().position(|open| {
-            open.receiver == receiver
-                && open.column == column
-                && self.stack[open.base + 1..][..arguments.len()] == *arguments
+        let mut open = self.keys.iter().zip(&self.bases);
+        open.position(|(&other, &other_base)| {
+            other == key && self.stack[other_base + 1..][..arguments.len()] == *arguments
         })
     }
 
@@ -181,8 +175,9 @@ impl Run<'_> {
             return Some(value);
         };
         if self.side == Side::Left {
-            self.trace.pop();
-            value = self.arena.close(value, self.trace.len());
+            self.keys.pop();
+            self.bases.pop();
+            value = self.arena.close(value, self.keys.len());
         }
         self.stack.truncate(self.base);
         self.stack.push(value);
