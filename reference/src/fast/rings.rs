@@ -17,17 +17,19 @@ struct Ring {
 impl Arena {
     /// The answer `value` of the left-side call at this place. Marks of later
     /// places are gone, so a value is only ever closed by its highest one.
+    #[inline]
     pub fn close(&mut self, value: Id, place: usize) -> Id {
-        if value == mark(place) {
-            return UNDETERMINED;
-        }
         let node = self.node(value);
         if node.open >> place & 1 == 0 {
             return value;
         }
-        if node.closed != UNDETERMINED {
+        if node.closed != UNDETERMINED || value == mark(place) {
             return node.closed;
         }
+        self.close_anew(value, place)
+    }
+
+    fn close_anew(&mut self, value: Id, place: usize) -> Id {
         let ring = minimised(&self.opened(value, place));
         let closed = match self.found(&ring) {
             Some(id) => id,

@@ -13,9 +13,11 @@ pub fn run(program: &Program, fuel: u16) -> (Result<Id, Stop>, Arena, u16) {
         code: Code::new(program),
         arena: Arena::new(),
         stack: Vec::with_capacity(256),
-        callers: Vec::with_capacity(MAX_DEPTH),
-        keys: Vec::with_capacity(MAX_DEPTH),
-        bases: Vec::with_capacity(MAX_DEPTH),
+        callers: [START; MAX_DEPTH],
+        depth: 0,
+        keys: [0; MAX_DEPTH],
+        bases: [0; MAX_DEPTH],
+        open: 0,
         next: 0,
         base: 0,
         side: Side::Left,
@@ -26,23 +28,32 @@ pub fn run(program: &Program, fuel: u16) -> (Result<Id, Stop>, Arena, u16) {
 }
 
 /// Where to go on after a call.
+#[derive(Clone, Copy)]
 struct Caller {
-    next: usize,
-    base: usize,
+    next: u32,
+    base: u32,
     side: Side,
 }
+
+const START: Caller = Caller {
+    next: 0,
+    base: 0,
+    side: Side::Left,
+};
 
 struct Run<'a> {
     program: &'a Program,
     code: Code,
     arena: Arena,
     stack: Vec<Id>,
-    /// One for each open call.
-    callers: Vec<Caller>,
-    /// Open left-side calls: receiver and column, and where on the stack the
-    /// receiver stands, with the arguments after it.
-    keys: Vec<u64>,
-    bases: Vec<usize>,
+    /// One for each of the `depth` open calls.
+    callers: [Caller; MAX_DEPTH],
+    depth: usize,
+    /// The `open` left-side calls: receiver and column, and where on the stack
+    /// the receiver stands, with the arguments after it.
+    keys: [u64; MAX_DEPTH],
+    bases: [u32; MAX_DEPTH],
+    open: usize,
     next: usize,
     /// Where the locals of the body stand, and which side it is.
     base: usize,
@@ -131,14 +142,15 @@ impl Run<'_> {
         let method = self.method(receiver, column, count)?;
         // The unit is spent before the depth is tested.
         self.fuel = self.fuel.checked_sub(1).ok_or(Stop::OutOfFuel)?;
-        if self.callers.len() == MAX_DEPTH {
+        if self.depth >= MAX_DEPTH {
             return Err(Stop::TooDeep);
         }
-        self.callers.push(Caller {
-            next: self.next,
-            base: self.base,
+        self.callers[self.depth] = Caller {
+            next: self.next as u32,
+            base: self.base as u32,
             side: self.side,
-        });
+        };
+        self.depth += 1;
         self.base = base;
         let key = u64::from(receiver) << 8 | u64::from(column);
         self.side = match self.met(key, base) {
@@ -147,8 +159,9 @@ impl Run<'_> {
                 Side::Right
             }
             None => {
-                self.keys.push(key);
-                self.bases.push(base);
+                self.keys[self.open] = key;
+                self.bases[self.open] = base as u32;
+                self.open += 1;
                 Side::Left
             }
         };
@@ -161,9 +174,9 @@ impl Run<'_> {
     #[inline]
     fn met(&self, key: u64, base: usize) -> Option<usize> {
         let arguments = &self.stack[base + 1..];
-        let mut open = self.keys.iter().zip(&self.bases);
-        open.position(|(&other, &other_base)| {
-            other == key && self.stack[other_base + 1..][..arguments.len()] == *arguments
+        (0..self.open.min(MAX_DEPTH)).find(|&place| {
+            let other = || &self.stack[self.bases[place] as usize + 1..][..arguments.len()];
+            self.keys[place] == key && other() == arguments
         })
     }
 
@@ -171,18 +184,19 @@ impl Run<'_> {
     #[inline]
     fn answer(&mut self) -> Option<Id> {
         let mut value = self.pop();
-        let Some(caller) = self.callers.pop() else {
+        if self.depth == 0 {
             return Some(value);
-        };
+        }
         if self.side == Side::Left {
-            self.keys.pop();
-            self.bases.pop();
-            value = self.arena.close(value, self.keys.len());
+            self.open -= 1;
+            value = self.arena.close(value, self.open);
         }
         self.stack.truncate(self.base);
         self.stack.push(value);
-        self.next = caller.next;
-        self.base = caller.base;
+        self.depth -= 1;
+        let caller = self.callers[self.depth];
+        self.next = caller.next as usize;
+        self.base = caller.base as usize;
         self.side = caller.side;
         None
     }
