@@ -8,6 +8,7 @@
 //! The last does one row N times, for counting instructions (`callgrind.sh`).
 //! All engines must agree on a row, byte for byte, before it is timed.
 
+mod clock;
 mod engines;
 mod proved;
 mod tables;

@@ -1,5 +1,5 @@
 //! The proved engine's calls, declared here and nowhere checked against the
-//! Rattle source. Nothing else in the benchmark is unsafe.
+//! Rattle source. Besides `clock.rs`, nothing else in the benchmark is unsafe.
 
 use reference::calls::Mode;
 // Links the static library.

@@ -5,7 +5,7 @@ use crate::timing::{SAMPLES, medians};
 use reference::workloads::{self, Workload};
 
 pub fn print() {
-    println!("Medians of up to {SAMPLES} samples, the engines in turn; times of one call.");
+    println!("CPU time of one call: medians of up to {SAMPLES} samples, the engines in turn.");
     println!("Each run zeroes the first 65,536 bytes of its work buffer itself, in all engines,");
     println!("and that is in the times; no buffer is cleared in between. Fuel is what is spent.\n");
     print_rows();
@@ -13,9 +13,9 @@ pub fn print() {
     print_objects();
 }
 
-fn measured(workload: &Workload) -> [f64; 3] {
-    assert_agreed(workload);
-    medians(workload)
+fn measured(workloads: &[Workload]) -> Vec<[f64; 3]> {
+    workloads.iter().for_each(assert_agreed);
+    medians(workloads)
 }
 
 /// A time with its unit, in four digits at most.
@@ -33,7 +33,7 @@ fn print_rows() {
         "row", "fuel", "proved", "fast", "simple", "proved/fast", "proved/simple"
     );
     for row in workloads::all() {
-        let [proved, fast, simple] = measured(&row);
+        let [proved, fast, simple] = measured(std::slice::from_ref(&row))[0];
         println!(
             "{:<30}{:>7}{:>12}{:>12}{:>12}{:>13.2}{:>15.3}",
             row.name,
@@ -49,42 +49,50 @@ fn print_rows() {
 
 /// Linear growth shows as the same time for each unit.
 fn print_fuel() {
+    const FUELS: [u16; 4] = [1_000, 4_000, 16_000, 64_000];
     println!("\nTime for each unit of fuel, all of it spent");
     println!(
         "{:<30}{:>7}{:>12}{:>12}{:>12}",
         "row", "fuel", "proved", "fast", "simple"
     );
     for place in 0..workloads::by_fuel(1).len() {
-        for fuel in [1_000, 4_000, 16_000, 64_000] {
-            let row = &workloads::by_fuel(fuel)[place];
-            let each = measured(row).map(|taken| time(taken / f64::from(fuel)));
+        let rows = FUELS.map(|fuel| workloads::by_fuel(fuel).swap_remove(place));
+        for (fuel, taken) in FUELS.into_iter().zip(measured(&rows)) {
+            let each = taken.map(|taken| time(taken / f64::from(fuel)));
             let [proved, fast, simple] = each;
-            println!(
-                "{:<30}{fuel:>7}{proved:>12}{fast:>12}{simple:>12}",
-                row.name
-            );
+            let name = &rows[0].name;
+            println!("{name:<30}{fuel:>7}{proved:>12}{fast:>12}{simple:>12}");
         }
     }
 }
 
+/// Beside each time, the power of the objects that it grew with since the line
+/// before: 1 is linear growth.
 fn print_objects() {
-    println!("\nTime against objects, proved and (fast)");
-    let rows = |objects| workloads::by_objects(objects);
-    print!("{:<9}", "objects");
-    for row in rows(1) {
-        let (kind, work) = row
-            .name
-            .split_once(" of 1, ")
-            .expect("what, and what is done");
-        print!("{:>24}", format!("{kind} {work}"));
-    }
-    println!();
-    for objects in [1, 2, 4, 8, 12, 16, 20, 24, 28, 32] {
-        print!("{objects:<9}");
-        for row in rows(objects) {
-            let [proved, fast, _] = measured(&row);
-            print!("{:>24}", format!("{} ({})", time(proved), time(fast)));
+    const OBJECTS: [usize; 7] = [1, 2, 4, 8, 16, 24, 32];
+    println!(
+        "\nTime against objects, and the power of them that it grew with since the line before"
+    );
+    println!(
+        "{:<20}{:>9}{:>12}{:>7}{:>12}{:>7}{:>12}{:>7}",
+        "row", "objects", "proved", "", "fast", "", "simple", ""
+    );
+    for place in 0..workloads::by_objects(1).len() {
+        let rows = OBJECTS.map(|objects| workloads::by_objects(objects).swap_remove(place));
+        let name = rows[0].name.replace(" of 1,", ",");
+        let mut before: Option<(f64, [f64; 3])> = None;
+        for (objects, taken) in OBJECTS.into_iter().zip(measured(&rows)) {
+            let objects = objects as f64;
+            print!("{name:<20}{objects:>9}");
+            for engine in 0..taken.len() {
+                let power = before.map(|(fewer, less)| {
+                    (taken[engine] / less[engine]).ln() / (objects / fewer).ln()
+                });
+                let power = power.map_or(String::new(), |power| format!("{power:.1}"));
+                print!("{:>12}{power:>7}", time(taken[engine]));
+            }
+            println!();
+            before = Some((objects, taken));
         }
-        println!();
     }
 }
