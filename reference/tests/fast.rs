@@ -100,7 +100,7 @@ impl Comparison {
 #[test]
 fn the_usual_mixture() {
     let mut comparison = Comparison::new();
-    for number in 0..2_500 {
+    for number in 0..2_000 {
         let mut random = Random::for_case(101, number);
         let case = case(&mut random);
         comparison.agree(case.mode, open(case.fuel), &case.text);
@@ -164,7 +164,7 @@ fn rings_and_graphs() {
 
 #[test]
 fn values_of_about_32_objects() {
-    let comparison = agree_on_tables(105, 400, programs::sized);
+    let comparison = agree_on_tables(105, 300, programs::sized);
     for outcome in ["05", "0702", "0704"] {
         assert!(comparison.count(outcome) > 100, "{:?}", comparison.outcomes);
     }

@@ -10,6 +10,7 @@
 
 mod arena;
 mod code;
+mod frames;
 mod lines;
 mod program;
 mod reading;

@@ -163,6 +163,12 @@ pub fn graph(random: &mut Random) -> Table {
         _ => call(SAME, this(), [object(2, vec![res()]), param(0)]),
     };
     p.method((HOLDER, GRAFT), results, &[any], (inner, right));
+    p.table(over_two(random, vertices))
+}
+
+/// An expression over two values of a graph: put together, walked, grafted or
+/// followed in step.
+fn over_two(random: &mut Random, vertices: u8) -> Expr {
     let mut made = || {
         let name = random.between(1, usize::from(vertices)) as u8;
         let once = call(name, new(HOLDER, []), []);
@@ -174,14 +180,13 @@ pub fn graph(random: &mut Random) -> Table {
     };
     let (one, two) = (made(), made());
     let holder = || new(HOLDER, []);
-    let main = match random.below(6) {
+    match random.below(6) {
         0 => new(3, [one, two]),
         1 => call(WALK, holder(), [one]),
         2 => call(GRAFT, holder(), [one]),
         3 => new(3, [call(GRAFT, holder(), [one]), two]),
         _ => call(SAME, holder(), [one, two]),
-    };
-    p.table(main)
+    }
 }
 
 /// Some 30 objects laid around a base, near the limit of 32; where the base
