@@ -208,4 +208,9 @@ fn states_and_lengths() {
         comparison.agree(Mode::Trial, open(9), text);
     }
     assert_eq!(comparison.count("refusal 1"), 4);
+    for bytes in [1, 2, 254, 255, 256, 257] {
+        let line = [&b"40".repeat(bytes)[..], b"\n"].concat();
+        comparison.agree(Mode::Trial, open(9), &line);
+    }
+    assert_eq!(comparison.count("refusal 1"), 4 + 2);
 }
