@@ -1,0 +1,170 @@
+//! Bodies as postfix code, made when a body is first run. What is stuck
+//! whatever the values are is stuck in the code already.
+
+use super::program::{Method, NONE, Program};
+
+#[derive(Clone, Copy, Debug)]
+pub enum Op {
+    /// `this` is 0, then come the parameters, then `res` if there is one.
+    Local(u8),
+    Field(u8),
+    /// Field of a local.
+    LocalField(u8, u8),
+    /// Whether the receiver on top has the method; its arguments come next.
+    Find(u8, u8),
+    /// Column and count.
+    Call(u8, u8),
+    /// Class and count, which are the class's.
+    New(u8, u8),
+    Stuck,
+    Return,
+}
+
+/// Which body of a method.
+#[derive(Clone, Copy, PartialEq, Eq)]
+pub enum Side {
+    Left,
+    Right,
+}
+
+const NOT_YET: u32 = u32::MAX;
+
+pub struct Code {
+    pub ops: Vec<Op>,
+    starts: Vec<[u32; 2]>,
+}
+
+impl Code {
+    /// The code of main alone, which starts at 0.
+    pub fn new(program: &Program) -> Code {
+        let mut body = Body {
+            program,
+            ops: Vec::with_capacity(64),
+            next: program.main,
+            method: None,
+            side: Side::Left,
+        };
+        body.whole();
+        Code {
+            ops: body.ops,
+            starts: vec![[NOT_YET; 2]; program.methods.len()],
+        }
+    }
+
+    /// Where a body starts.
+    #[inline]
+    pub fn start(&mut self, program: &Program, method: u8, side: Side) -> usize {
+        let start = self.starts[usize::from(method)][side as usize];
+        if start == NOT_YET {
+            return self.add(program, method, side);
+        }
+        start as usize
+    }
+
+    #[cold]
+    fn add(&mut self, program: &Program, number: u8, side: Side) -> usize {
+        let method = &program.methods[usize::from(number)];
+        let start = self.ops.len();
+        let mut body = Body {
+            program,
+            ops: std::mem::take(&mut self.ops),
+            next: match side {
+                Side::Left => method.left,
+                Side::Right => method.right,
+            },
+            method: Some(method),
+            side,
+        };
+        body.whole();
+        self.ops = body.ops;
+        self.starts[usize::from(number)][side as usize] = start as u32;
+        start
+    }
+}
+
+/// A body being turned into code; main has no method.
+struct Body<'a> {
+    program: &'a Program,
+    ops: Vec<Op>,
+    next: usize,
+    method: Option<&'a Method>,
+    side: Side,
+}
+
+impl Body<'_> {
+    fn whole(&mut self) {
+        self.expr();
+        self.ops.push(Op::Return);
+    }
+
+    fn byte(&mut self) -> u8 {
+        self.next += 1;
+        self.program.bytes[self.next - 1]
+    }
+
+    fn expr(&mut self) {
+        match self.byte() {
+            0x40 => self.local(self.method.map(|_| 0)),
+            0x41 => self.local(match self.method {
+                Some(method) if self.side == Side::Right => Some(method.params + 1),
+                _ => None,
+            }),
+            0x42 => {
+                let place = self.byte();
+                let known = self.method.filter(|method| place < method.params);
+                self.local(known.map(|_| place + 1));
+            }
+            0x43 => self.field(),
+            0x44 => self.call(),
+            _ => self.new_object(),
+        }
+    }
+
+    fn local(&mut self, place: Option<u8>) {
+        self.ops.push(place.map_or(Op::Stuck, Op::Local));
+    }
+
+    fn field(&mut self) {
+        let field = self.byte();
+        self.expr();
+        if let Some(Op::Local(place)) = self.ops.last().copied() {
+            self.ops.pop();
+            self.ops.push(Op::LocalField(place, field));
+        } else {
+            self.ops.push(Op::Field(field));
+        }
+    }
+
+    /// The receiver is asked for the method before the arguments are
+    /// evaluated; where they are variables nobody can tell, and it is left out.
+    fn call(&mut self) {
+        let column = self.program.columns[usize::from(self.byte())];
+        let count = self.byte();
+        self.expr();
+        if column == NONE {
+            self.ops.push(Op::Stuck);
+        }
+        let asked = self.ops.len();
+        for _ in 0..count {
+            self.expr();
+        }
+        let plain = |op: &Op| matches!(op, Op::Local(_));
+        if !self.ops[asked..].iter().all(plain) {
+            self.ops.insert(asked, Op::Find(column, count));
+        }
+        self.ops.push(Op::Call(column, count));
+    }
+
+    /// A wrong count is stuck before the values; what follows is never run.
+    fn new_object(&mut self) {
+        let class = self.byte();
+        let count = self.byte();
+        if self.program.counts[usize::from(class)] != count {
+            self.ops.push(Op::Stuck);
+        }
+        for _ in 0..count {
+            self.expr();
+        }
+        self.ops.push(Op::New(class, count));
+    }
+}

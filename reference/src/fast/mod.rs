@@ -1,0 +1,88 @@
+//! The fast mode: the same answers as `calls`, written for speed, so that a
+//! ratio to the proved engine means something. It shares no code with the
+//! simple mode but the plain data of `calls`, `refusals`, `running::Stop` and
+//! `syntax::Type`; `tests/fast.rs` compares the two.
+//!
+//! Values are hash-consed: equal values have one id, so calls are compared by
+//! ids, a field is one load, and a ring is minimised once, when it is closed.
+//! The arena lives for one run and is never swept: a run makes at most one
+//! node for each `new` it evaluates.
+
+mod arena;
+mod code;
+mod frames;
+mod lines;
+mod program;
+mod reading;
+mod report;
+mod rings;
+mod running;
+mod slots;
+mod typing;
+
+use crate::calls::{Answer, Mode, Session};
+use crate::refusals::{REPORT_LENGTH, Refusal, WORK_LENGTH};
+use crate::syntax::Type;
+use program::Program;
+
+/// Whether a text passes refusals 1 to 5.
+pub fn read(text: &[u8]) -> Result<(), Refusal> {
+    reading::read(text).map(drop)
+}
+
+/// The type of main, or the lowest of refusals 1 to 7.
+pub fn check(text: &[u8]) -> Result<Type, Refusal> {
+    typing::check(&reading::read(text)?)
+}
+
+/// Runs a text, as `calls::run` does, work buffer and all.
+pub fn run(
+    mode: Mode,
+    text: &[u8],
+    session: Session,
+    report_buffer: &mut [u8],
+    work: &mut [u8],
+) -> Answer {
+    let admitted = match state_refusal(session, report_buffer, work) {
+        Some(refusal) => Err(refusal),
+        None => admitted(mode, text),
+    };
+    let program = match admitted {
+        Ok(program) => program,
+        Err(refusal) => {
+            return Answer {
+                refusal: Some(refusal),
+                session,
+                length: 0,
+            };
+        }
+    };
+    let (outcome, arena, fuel) = running::run(&program, session.fuel);
+    let length = report::write(outcome, &arena, report_buffer);
+    work[..WORK_LENGTH].fill(0);
+    Answer {
+        refusal: None,
+        session: Session { fuel, ..session },
+        length,
+    }
+}
+
+fn state_refusal(session: Session, report: &[u8], work: &[u8]) -> Option<Refusal> {
+    if !session.open {
+        Some(Refusal::Closed)
+    } else if report.len() < REPORT_LENGTH {
+        Some(Refusal::ReportBuffer)
+    } else if work.len() < WORK_LENGTH {
+        Some(Refusal::WorkBuffer)
+    } else {
+        None
+    }
+}
+
+fn admitted(mode: Mode, text: &[u8]) -> Result<Program, Refusal> {
+    let program = reading::read(text)?;
+    if mode == Mode::Checked {
+        typing::check(&program)?;
+    }
+    Ok(program)
+}

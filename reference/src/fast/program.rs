@@ -1,0 +1,61 @@
+//! A text that passed refusals 1 to 5, as tables: fits, fields and methods
+//! are looked up, never searched. Expressions stay in the bytes of the text.
+
+use super::arena::NO_CLASS;
+use crate::syntax::{MAX_CLASSES, Type};
+
+/// In place of a method or a name that is not there.
+pub const NONE: u8 = 0xFF;
+/// The classes with Object, and one without anything after them.
+pub const ROWS: usize = MAX_CLASSES + 2;
+const _: () = assert!(NO_CLASS as usize == ROWS - 1);
+
+/// Places are those of bytes.
+#[derive(Clone, Copy)]
+pub struct Method {
+    pub owner: u8,
+    pub name: u8,
+    pub params: u8,
+    /// First result type, second result type, count and parameters.
+    pub types: usize,
+    pub left: usize,
+    pub right: usize,
+}
+
+pub struct Program {
+    pub bytes: Vec<u8>,
+    /// Every class with all its fields, inherited ones first.
+    pub fields: [[Type; 4]; ROWS],
+    pub counts: [u8; ROWS],
+    /// Bit d of row c: c fits d.
+    pub fits: [u64; ROWS],
+    pub methods: Vec<Method>,
+    /// The column of each name that some method has.
+    pub columns: [u8; 256],
+    pub width: usize,
+    /// The method of a class, its own or the nearest above it, by column.
+    pub found: Vec<u8>,
+    pub main: usize,
+}
+
+impl Program {
+    /// The type written at a place.
+    #[inline]
+    pub fn type_at(&self, place: usize) -> Type {
+        Type {
+            class: self.bytes[place],
+            tag: self.bytes[place + 1],
+        }
+    }
+
+    /// The method of a class in a column, or `NONE`.
+    #[inline]
+    pub fn method(&self, class: u8, column: u8) -> u8 {
+        self.found[usize::from(class) * self.width + usize::from(column)]
+    }
+
+    #[inline]
+    pub fn fits(&self, type_: Type, wanted: Type) -> bool {
+        self.fits[usize::from(type_.class)] >> wanted.class & 1 == 1 && type_.tag <= wanted.tag
+    }
+}

@@ -1,0 +1,142 @@
+//! Programs for measuring speed: what to call, on which text, with how much
+//! fuel, and what must come of it. They time nothing; the benchmark does, and
+//! `tests/workloads.rs` sees that each ends as it says.
+//!
+//! Most rows come twice: light, where the work is done once, and heavy, where
+//! it is done again and again, so that evaluation outweighs reading.
+
+mod examples;
+mod lists;
+mod nested;
+mod repeat;
+mod rings;
+
+use crate::calls::Mode;
+use crate::generator::random::Random;
+use crate::generator::{self, Kind};
+pub use lists::{list_built, list_walked};
+pub use rings::{ring_built, ring_walked};
+
+#[derive(Clone, Copy, Debug, PartialEq, Eq)]
+pub enum Call {
+    Check,
+    Run(Mode),
+}
+
+/// What a workload must come to.
+#[derive(Clone, Copy, Debug, PartialEq, Eq)]
+pub enum Ending {
+    /// A value of so many distinct objects.
+    Objects(usize),
+    OutOfFuel,
+    /// No run: the text is accepted.
+    Accepted,
+}
+
+#[derive(Clone, Debug)]
+pub struct Workload {
+    pub name: String,
+    pub call: Call,
+    pub text: Vec<u8>,
+    pub fuel: u16,
+    /// Units the run spends.
+    pub spends: usize,
+    pub ending: Ending,
+}
+
+/// How often a piece of work is done: so often by each of so many calls.
+#[derive(Clone, Copy, Debug, PartialEq, Eq)]
+pub struct Times(pub usize, pub usize);
+
+pub const ONCE: Times = Times(1, 1);
+
+impl Workload {
+    /// A checked run that ends in a value, with more fuel than it needs.
+    fn checked(name: String, text: Vec<u8>, spends: usize, objects: usize) -> Workload {
+        Workload {
+            name,
+            call: Call::Run(Mode::Checked),
+            text,
+            fuel: u16::MAX,
+            spends,
+            ending: Ending::Objects(objects),
+        }
+    }
+
+    /// The same program with so little fuel that it runs out.
+    pub fn short_of_fuel(self, fuel: u16) -> Workload {
+        Workload {
+            fuel,
+            spends: usize::from(fuel),
+            ending: Ending::OutOfFuel,
+            ..self
+        }
+    }
+}
+
+/// Every row of the table.
+pub fn all() -> Vec<Workload> {
+    let mut all = small_and_full();
+    for objects in [4, 16, 32] {
+        all.push(list_built(objects, ONCE));
+        all.push(list_built(objects, Times(9, 23)));
+        all.push(list_walked(objects, Times(23, 23)));
+        all.push(ring_built(objects, ONCE));
+        all.push(ring_built(objects, Times(9, 23)));
+        all.push(ring_walked(objects, Times(23, 23)));
+    }
+    all.extend(examples::all());
+    all.extend(nested::all());
+    all
+}
+
+/// The rows for time against fuel: each runs out of it.
+pub fn by_fuel(fuel: u16) -> Vec<Workload> {
+    let rows = [
+        list_walked(16, Times(145, 23)),
+        ring_built(12, Times(529, 23)),
+        nested::recursion_of_13(Times(225, 23)),
+    ];
+    let shorten = |row: Workload| row.short_of_fuel(fuel);
+    rows.into_iter().map(shorten).collect()
+}
+
+/// The rows for time against objects. Lists are not walked here: longer ones
+/// take more steps.
+pub fn by_objects(objects: usize) -> Vec<Workload> {
+    vec![
+        list_built(objects, Times(1, 23)),
+        ring_built(objects, Times(1, 23)),
+        ring_walked(objects, Times(5, 23)),
+    ]
+}
+
+/// The overhead of one call, and reading and checking a full-size text. A run
+/// without fuel reads, checks if it is a checked one, and stops at once.
+fn small_and_full() -> Vec<Workload> {
+    let smallest = b"03450000\n".to_vec();
+    let full = generator::text(Kind::Full, &mut Random::for_case(1, 0));
+    let row = |name: &str, call, text: &[u8], ending| Workload {
+        name: name.to_string(),
+        call,
+        text: text.to_vec(),
+        fuel: 0,
+        spends: 0,
+        ending,
+    };
+    let (checked, trial) = (Call::Run(Mode::Checked), Call::Run(Mode::Trial));
+    let one = Ending::Objects(1);
+    vec![
+        row("smallest, check", Call::Check, &smallest, Ending::Accepted),
+        row("smallest, checked run", checked, &smallest, one),
+        row("smallest, trial run", trial, &smallest, one),
+        row("full text, check", Call::Check, &full, Ending::Accepted),
+        row("full text, trial, no fuel", trial, &full, Ending::OutOfFuel),
+        row(
+            "full text, checked, no fuel",
+            checked,
+            &full,
+            Ending::OutOfFuel,
+        ),
+    ]
+}
