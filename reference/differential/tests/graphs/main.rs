@@ -225,12 +225,12 @@ struct Sorts {
     pair: bool,
 }
 
-/// A graph of up to 9 objects over a few classes, so that many are equal.
+/// A graph of 3 to 8 objects over a few classes, so that many are equal.
 fn random_graph(random: &mut Random, sorts: Sorts) -> Graph {
     let mut counts = vec![2];
-    counts.extend((0..random.between(1, 3)).map(|_| random.below(4)));
+    counts.extend((0..random.between(1, 3)).map(|_| random.between(1, 3)));
     counts.push(0);
-    let size = random.between(2, 9);
+    let size = random.between(3, 8);
     let classes: Vec<u8> = (0..size)
         .map(|_| random.between(1, counts.len()) as u8)
         .collect();
@@ -259,7 +259,7 @@ fn random_edge(random: &mut Random, classes: &[u8], place: usize, sorts: Sorts) 
         0..4 => Edge::Undetermined,
         4..30 if sorts.pair && classes[later] == PAIR && later < size - 1 => Edge::Pair(later),
         4..30 => Edge::Inline(later),
-        30..55 if sorts.select => {
+        30..40 if sorts.select => {
             let path = (0..random.between(1, 2)).map(|_| random.below(2));
             Edge::Select(any, path.collect())
         }
@@ -267,13 +267,13 @@ fn random_edge(random: &mut Random, classes: &[u8], place: usize, sorts: Sorts) 
     }
 }
 
-/// Runs `count` random graphs from a random object each; the fuel is short now and then.
+/// Runs `count` random graphs from one of the first three objects each; the fuel is short now and then.
 fn random_graphs(seed: u64, count: u64, sorts: Sorts) -> Graphs {
     let mut graphs = Graphs::new(seed);
     for number in 0..count {
         let mut random = Random::for_case(seed, number);
         let graph = random_graph(&mut random, sorts);
-        let start = random.below(graph.nodes.len());
+        let start = random.below(3);
         let fuel = match random.below(6) {
             0 => random.below(16),
             _ => 3_000,
@@ -324,7 +324,33 @@ fn random_graphs_with_open_marks_inside() {
     let graphs = random_graphs(307, 12_000, sorts);
     graphs.assert_ended(&["05"], 3_000);
     graphs.assert_ended(&["0701"], 1_000);
-    assert!(graphs.large > 1_000, "{}", graphs.large);
+    assert!(graphs.large > 1_000, "{}\n{}", graphs.large, graphs.tally);
+}
+
+/// Whether the pair in this line of a report has two equal fields; nothing when the run had another end.
+fn fields_equal(report: &str, line: usize) -> Option<bool> {
+    let line = report.lines().nth(line)?;
+    let fields = line.strip_prefix("05")?.get(6..10)?;
+    Some(fields[..2] == fields[2..])
+}
+
+/// How often different objects were found equal, and how often not.
+#[derive(Default)]
+struct Compared {
+    equal: u64,
+    different: u64,
+}
+
+impl Compared {
+    fn count(&mut self, equal: Option<bool>) {
+        self.equal += u64::from(equal == Some(true));
+        self.different += u64::from(equal == Some(false));
+    }
+
+    fn assert_enough(&self) {
+        let Compared { equal, different } = self;
+        assert!(*equal > 300 && *different > 1_000, "{equal} {different}");
+    }
 }
 
 /// Two objects of a graph, compared by a call in main, where all is closed, and then inside an object whose own call is
@@ -337,16 +363,20 @@ fn pairs_closed_and_open() {
         pair: false,
     };
     let mut graphs = Graphs::new(308);
+    let (mut closed, mut open) = (Compared::default(), Compared::default());
     for number in 0..6_000 {
         let mut random = Random::for_case(308, number);
         let mut graph = random_graph(&mut random, sorts);
         let size = graph.nodes.len();
-        let fields = (0..2).map(|_| Edge::Call(random.below(size))).collect();
+        let one = random.below(size);
+        let two = (one + random.between(1, size - 1)) % size;
+        let fields = vec![Edge::Call(one), Edge::Call(two)];
         graph.nodes.push(Node {
             class: PAIR,
             fields,
         });
-        graphs.run(&graph, &Edge::Pair(size), 3_000);
+        let report = graphs.run(&graph, &Edge::Pair(size), 3_000);
+        closed.count(report.and_then(|report| fields_equal(&report, 0)));
         // Another object holds the pair, and others lead back to it.
         graph.nodes.push(Node {
             class: PAIR,
@@ -357,47 +387,49 @@ fn pairs_closed_and_open() {
                 *field = Edge::Call(size + 1);
             }
         }
-        graphs.run(&graph, &Edge::Call(size + 1), 3_000);
+        let report = graphs.run(&graph, &Edge::Call(size + 1), 3_000);
+        open.count(report.and_then(|report| fields_equal(&report, 1)));
     }
-    let accepted = graphs.tally.refused(Mode::Checked, 0);
-    assert!(accepted > 4_000, "{}", graphs.tally);
-    graphs.assert_ended(&["05"], 8_000);
+    closed.assert_enough();
+    open.assert_enough();
+    assert!(graphs.tally.refused(Mode::Checked, 0) > 4_000);
 }
 
-/// A value is equal to what it unfolds to: x is compared with fields of itself that lead back to it, inside an open call.
+/// Object 0 holds the pair 1 of a ring that also leads back to 0, and of what `steps` fields of that ring lead to.
+fn ring_beside_itself(period: usize, steps: usize) -> Graph {
+    let node = |class, fields| Node { class, fields };
+    let mut nodes = vec![
+        node(PAIR, vec![Edge::Pair(1), Edge::Undetermined]),
+        node(PAIR, vec![Edge::Call(2), Edge::Select(2, vec![0; steps])]),
+    ];
+    for place in 0..period {
+        let next = 2 + (place + 1) % period;
+        let class = if place == 0 { 2 } else { 3 };
+        nodes.push(node(class, vec![Edge::Call(next), Edge::Call(0)]));
+    }
+    Graph {
+        counts: vec![2, 2, 2],
+        nodes,
+    }
+}
+
+/// A value is equal to what it unfolds to: a ring is compared with fields of itself, inside an open call whose mark it
+/// holds. Only a whole turn leads back.
 #[test]
 fn a_ring_and_its_unfolding() {
     let mut graphs = Graphs::new(309);
     for period in 1..=3 {
         for steps in 1..=2 {
-            // 0 holds the pair 1 of a ring that also holds 0, and of what `steps` fields of that ring lead to.
-            let mut nodes = vec![Node {
-                class: PAIR,
-                fields: vec![Edge::Pair(1), Edge::Undetermined],
-            }];
-            let steps_path = vec![0; steps];
-            nodes.push(Node {
-                class: PAIR,
-                fields: vec![Edge::Call(2), Edge::Select(2, steps_path)],
-            });
-            nodes.extend((0..period).map(|place| Node {
-                class: if place == 0 { 2 } else { 3 },
-                fields: vec![Edge::Call(2 + (place + 1) % period), Edge::Call(0)],
-            }));
-            let graph = Graph {
-                counts: vec![2, 2, 2],
-                nodes,
-            };
+            let graph = ring_beside_itself(period, steps);
             let back = steps % period == 0;
-            let (_, left) = graph.expected(&Edge::Call(0), 1_000);
-            let report = graphs.run(&graph, &Edge::Call(0), 1_000);
-            // 0, twice the ring with its last call met again and 0 met again for each object, the comparison, and the
+            // 0 itself; twice the ring, its first call met again and 0 met again by each object; the comparison; the
             // undetermined value's two.
             let spent = 1 + 2 * (2 * period + 1) + if back { 2 } else { 3 } + 2;
-            assert_eq!(usize::from(1_000 - left), spent, "{period} {steps}");
-            let same = format!("05010102{0}{0}\n", "02");
-            let text = report.expect("a short program");
-            assert_eq!(text.contains(&same), back, "{period} {steps}\n{text}");
+            let (_, left) = graph.expected(&Edge::Call(0), 1_000);
+            assert_eq!(usize::from(left), 1_000 - spent, "{period} {steps}");
+            let report = graphs.run(&graph, &Edge::Call(0), 1_000);
+            let report = report.expect("a short program");
+            assert_eq!(fields_equal(&report, 1), Some(back), "{period} {steps}");
         }
     }
     assert_eq!(graphs.tally.programs, 6);
