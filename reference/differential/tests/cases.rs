@@ -50,11 +50,12 @@ fn d_unguarded_recursion() {
 }
 
 /// Case E: C is 01 with a field C+, H is 02, a pair of Cs is 03. Methods 01 and 02 make X = new C(Y = new C(X)), method
-/// 03 makes Z = new C(Z).
+/// 03 makes Z = new C(Z); method 04 calls itself with a field of its argument, or makes an H when that is met again.
 fn e(main: &str) -> String {
     let classes = "010100010100\n01020000\n01030002 01000100\n";
     let ring = |name: &str, next: &str| format!("0202{name} 0100 0102 00 450101 44{next}0040 41\n");
-    let methods = ring("01", "02") + &ring("02", "01") + &ring("03", "03");
+    let again = "020204 0200 0200 01 0100 44040140 43004200 450200\n";
+    let methods = ring("01", "02") + &ring("02", "01") + &ring("03", "03") + again;
     format!("{classes}{methods}03{main}\n").replace(' ', "")
 }
 
@@ -69,6 +70,12 @@ fn e_two_ways_to_write_one_value() {
     assert_eq!(
         checked(1_000, &pair).0,
         "08000300\n050003020101\n0501010101\n"
+    );
+    // X's field is Y, which is X: three calls make X, the fourth is 04 with X, the fifth is the same call again.
+    let again = e("440401450200 440100450200");
+    assert_eq!(
+        checked(1_000, &again),
+        ("08000200\n05000200\n".to_string(), 995)
     );
 }
 
