@@ -32,7 +32,7 @@ const LIMITS: [&str; 3] = ["0702", "0703", "0704"];
 
 #[test]
 fn typed_programs() {
-    let tally = compared(Kind::Typed, 101, 10_000);
+    let tally = compared(Kind::Typed, 101, 7_000);
     assert_accepted(&tally);
     for mode in [Checked, Trial] {
         assert_ended(&tally, mode, &["05", "06"], 2_000);
@@ -42,7 +42,7 @@ fn typed_programs() {
 
 #[test]
 fn plain_programs() {
-    let tally = compared(Kind::Plain, 102, 16_000);
+    let tally = compared(Kind::Plain, 102, 12_000);
     assert_accepted(&tally);
     for mode in [Checked, Trial] {
         assert_ended(&tally, mode, &["05", "06"], 2_000);
@@ -52,7 +52,7 @@ fn plain_programs() {
 
 #[test]
 fn programs_at_a_limit() {
-    let tally = compared(Kind::Limits, 103, 4_000);
+    let tally = compared(Kind::Limits, 103, 2_000);
     assert_accepted(&tally);
     for mode in [Checked, Trial] {
         assert_ended(&tally, mode, &["05"], 2_000);
@@ -63,10 +63,10 @@ fn programs_at_a_limit() {
 /// Refused 6 or 7 when checked; on trial they run, and some are stuck.
 #[test]
 fn ill_typed_programs() {
-    let tally = compared(Kind::IllTyped, 104, 20_000);
-    assert!(tally.refused(Checked, 6) > 7 * 9_000 && tally.refused(Checked, 7) > 7 * 9_000);
+    let tally = compared(Kind::IllTyped, 104, 30_000);
+    assert!(tally.refused(Checked, 6) > 7 * 14_000 && tally.refused(Checked, 7) > 7 * 14_000);
     assert_eq!(tally.refused(Checked, 0), 0);
-    assert_eq!(tally.refused(Trial, 0), 7 * 20_000);
+    assert_eq!(tally.refused(Trial, 0), 7 * 30_000);
     assert_ended(&tally, Trial, &["05", "06", "0701"], 2_000);
     assert_ended(&tally, Trial, &LIMITS, 500);
 }

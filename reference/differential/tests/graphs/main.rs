@@ -291,7 +291,7 @@ fn random_graphs_with_a_type() {
         select: false,
         pair: false,
     };
-    let graphs = random_graphs(305, 8_000, sorts);
+    let graphs = random_graphs(305, 20_000, sorts);
     assert_eq!(
         graphs.tally.refused(Mode::Checked, 0),
         graphs.tally.programs
@@ -308,7 +308,7 @@ fn random_graphs_without_a_way_back() {
         select: false,
         pair: false,
     };
-    let graphs = random_graphs(306, 4_000, sorts);
+    let graphs = random_graphs(306, 8_000, sorts);
     graphs.assert_ended(&["05"], 2_000);
     assert!(graphs.large > 500, "{}", graphs.large);
 }
@@ -321,7 +321,7 @@ fn random_graphs_with_open_marks_inside() {
         select: true,
         pair: true,
     };
-    let graphs = random_graphs(307, 12_000, sorts);
+    let graphs = random_graphs(307, 30_000, sorts);
     graphs.assert_ended(&["05"], 3_000);
     graphs.assert_ended(&["0701"], 1_000);
     assert!(graphs.large > 1_000, "{}\n{}", graphs.large, graphs.tally);
