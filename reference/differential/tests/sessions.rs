@@ -87,6 +87,26 @@ fn bytes_that_stay() {
     }
 }
 
+/// Lengths that would pass for others if they were kept in 16 bits.
+#[test]
+fn very_long_buffers_and_texts() {
+    let mut report = vec![0x5A; 65_536 + 5];
+    let mut work = vec![0xA5; 2 * 65_536 + 5];
+    let answer = baqolluy::run(A, open(9), &mut report, &mut work);
+    assert_eq!((answer.refusal, answer.length), (0, 11));
+    assert!(report[11..].iter().all(|&byte| byte == 0x5A));
+    assert!(work[..65_536].iter().all(|&byte| byte == 0));
+    assert!(work[65_536..].iter().all(|&byte| byte == 0xA5));
+    let mut text = A.to_vec();
+    text.resize(65_536 + A.len(), b'\n');
+    assert_eq!(baqolluy::check(&text).refusal, 1);
+    assert_eq!(baqolluy::read(&text).refusal, 1);
+    for run in [baqolluy::run, baqolluy::trial] {
+        let answer = run(&text, open(9), &mut report, &mut work);
+        assert_eq!((answer.refusal, answer.session), (1, open(9)));
+    }
+}
+
 #[test]
 fn opening_and_closing_with_every_fuel() {
     for fuel in 0..=65_535 {

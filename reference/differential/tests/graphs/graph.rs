@@ -1,5 +1,5 @@
-//! A graph of objects, and what a run that builds it must report: worked out from the graph and document 01 alone. Equal
-//! objects are found by rounds of colours, and a walk counts calls. Nothing of either engine is used here.
+//! A graph of objects, which of them are equal, and its report: worked out from document 01 by rounds of colours. Nothing
+//! of either engine is used here. What a run spends on the way is counted in `walk.rs`.
 
 use std::collections::HashMap;
 use std::fmt::Write;
@@ -37,35 +37,13 @@ pub struct Graph {
 
 /// What a field holds while the calls of some objects are open.
 #[derive(Clone, Copy, Debug, PartialEq, Eq, Hash)]
-enum Ref {
+pub enum Ref {
     Object(usize),
     Mark(usize),
     Undetermined,
 }
 
-/// The second byte of a report `07`.
-type Stop = u8;
-const STUCK: Stop = 1;
-const OUT_OF_FUEL: Stop = 2;
-const TOO_DEEP: Stop = 3;
-const TOO_LARGE: Stop = 4;
-
 impl Graph {
-    /// The report of a program with this main, and the fuel left.
-    pub fn expected(&self, main: &Edge, fuel: u16) -> (String, u16) {
-        let mut walk = Walk {
-            graph: self,
-            fuel,
-            depth: 0,
-            open: Vec::new(),
-        };
-        let report = match walk.edge(main) {
-            Ok(root) => self.report(root),
-            Err(stop) => format!("07{stop:02X}\n"),
-        };
-        (report, walk.fuel)
-    }
-
     /// The value of a field of an object that was made, while these calls are open.
     fn resolve(&self, edge: &Edge, open: &[usize]) -> Ref {
         match edge {
@@ -81,7 +59,7 @@ impl Graph {
     }
 
     /// Where a path of fields leads, if it can be followed.
-    fn follow(&self, from: Ref, path: &[usize], open: &[usize]) -> Option<Ref> {
+    pub fn follow(&self, from: Ref, path: &[usize], open: &[usize]) -> Option<Ref> {
         path.iter().try_fold(from, |at, &field| {
             let Ref::Object(node) = at else { return None };
             let edge = self.nodes[node].fields.get(field)?;
@@ -136,7 +114,7 @@ impl Graph {
         }
     }
 
-    fn same(&self, one: Ref, two: Ref, open: &[usize]) -> bool {
+    pub fn same(&self, one: Ref, two: Ref, open: &[usize]) -> bool {
         match (one, two) {
             (Ref::Object(left), Ref::Object(right)) => {
                 let colours = self.colours(&[one, two], open);
@@ -147,7 +125,7 @@ impl Graph {
     }
 
     /// How many distinct objects are in a value.
-    fn distinct(&self, value: Ref, open: &[usize]) -> usize {
+    pub fn distinct(&self, value: Ref, open: &[usize]) -> usize {
         let colours = self.colours(&[value], open);
         let mut all: Vec<usize> = colours.into_values().collect();
         all.sort_unstable();
@@ -174,7 +152,7 @@ impl Graph {
     }
 
     /// The report of a finished value.
-    fn report(&self, root: Ref) -> String {
+    pub fn report(&self, root: Ref) -> String {
         let colours = self.colours(&[root], &[]);
         let numbered = self.numbered(root, &colours);
         if numbered.is_empty() {
@@ -199,82 +177,5 @@ impl Graph {
             report.push('\n');
         }
         report
-    }
-}
-
-/// A run over the graph: what it spends and where it stops.
-struct Walk<'a> {
-    graph: &'a Graph,
-    fuel: u16,
-    depth: usize,
-    open: Vec<usize>,
-}
-
-impl Walk<'_> {
-    fn edge(&mut self, edge: &Edge) -> Result<Ref, Stop> {
-        match edge {
-            Edge::Inline(node) => self.make(*node),
-            Edge::Call(node) => self.call(*node),
-            Edge::Select(node, path) => {
-                let receiver = self.call(*node)?;
-                let found = self.graph.follow(receiver, path, &self.open);
-                found.ok_or(STUCK)
-            }
-            Edge::Pair(node) => self.pair(*node),
-            // The call, and the same call met again.
-            Edge::Undetermined => self.nested_calls(2).map(|()| Ref::Undetermined),
-        }
-    }
-
-    /// Calls that open one inside the other and close again: fuel first, then depth.
-    fn nested_calls(&mut self, count: usize) -> Result<(), Stop> {
-        for call in 0..count {
-            self.fuel = self.fuel.checked_sub(1).ok_or(OUT_OF_FUEL)?;
-            if self.depth + call == 16 {
-                return Err(TOO_DEEP);
-            }
-        }
-        Ok(())
-    }
-
-    fn call(&mut self, node: usize) -> Result<Ref, Stop> {
-        self.nested_calls(1)?;
-        if self.open.contains(&node) {
-            return Ok(Ref::Mark(node));
-        }
-        self.depth += 1;
-        self.open.push(node);
-        let made = self.make(node);
-        self.open.pop();
-        self.depth -= 1;
-        made
-    }
-
-    fn make(&mut self, node: usize) -> Result<Ref, Stop> {
-        for edge in &self.graph.nodes[node].fields {
-            self.edge(edge)?;
-        }
-        self.sized(node)
-    }
-
-    /// pair(x, y) calls pair(y, x). If x and y are equal that is the same call again; otherwise it calls pair(x, y), and
-    /// that is. The call met again makes the pair.
-    fn pair(&mut self, node: usize) -> Result<Ref, Stop> {
-        let [one, two] = &self.graph.nodes[node].fields[..] else {
-            panic!("a pair has two fields");
-        };
-        let (one, two) = (self.edge(one)?, self.edge(two)?);
-        let equal = self.graph.same(one, two, &self.open);
-        self.nested_calls(if equal { 2 } else { 3 })?;
-        self.sized(node)
-    }
-
-    /// Too large is judged with open marks as leaves. A value has no more objects than the graph has.
-    fn sized(&self, node: usize) -> Result<Ref, Stop> {
-        let made = Ref::Object(node);
-        if self.graph.nodes.len() > 32 && self.graph.distinct(made, &self.open) > 32 {
-            return Err(TOO_LARGE);
-        }
-        Ok(made)
     }
 }
