@@ -37,7 +37,7 @@ fn ring_report(classes: &[u8], start: usize) -> String {
     let count = classes.len();
     let at = |place: usize| classes[(start + place) % count];
     let period = (1..=count)
-        .find(|&period| count % period == 0 && (0..count).all(|n| at(n) == at(n + period)))
+        .find(|&period| count.is_multiple_of(period) && (0..count).all(|n| at(n) == at(n + period)))
         .expect("the whole ring is a period");
     let line = |n: usize| format!("05{n:02X}{:02X}01{:02X}\n", at(n), (n + 1) % period);
     (0..period).map(line).collect()
