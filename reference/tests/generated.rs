@@ -25,8 +25,10 @@ fn tables(seed: u64, count: u64) -> impl Iterator<Item = Table> {
 
 #[test]
 fn the_kinds_are_what_they_say() {
-    for text in texts(Kind::Typed, 11, 100) {
-        assert!(check(&text).is_ok());
+    for kind in [Kind::Typed, Kind::Plain, Kind::Limits] {
+        for text in texts(kind, 11, 100) {
+            assert!(check(&text).is_ok());
+        }
     }
     for text in texts(Kind::IllTyped, 12, 150) {
         let number = check(&text).unwrap_err().number();

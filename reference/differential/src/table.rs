@@ -1,6 +1,6 @@
 //! The bytes of a class table, laid out from the reference engine's table by docs/TABLE.md.
 
-use crate::TABLE_SIZE;
+use baqolluy::TABLE_LENGTH;
 use reference::classes;
 use reference::syntax::{Table, Type};
 use reference::writing::{main_bytes, method_bytes};
@@ -13,7 +13,7 @@ const LONG: usize = 256;
 
 /// The bytes of a table that was read.
 pub fn layout(table: &Table) -> Vec<u8> {
-    let mut bytes = vec![0; TABLE_SIZE];
+    let mut bytes = vec![0; TABLE_LENGTH];
     bytes[11] = small(table.classes.len());
     bytes[12] = small(table.methods.len());
     for (place, class) in table.classes.iter().enumerate() {

@@ -1,7 +1,7 @@
 //! The proved reader against the reference engine's, on generated and damaged texts: the refusal, or every byte of the table.
 
+use baqolluy::{TABLE_LENGTH, read};
 use differential::table::layout;
-use differential::{TABLE_SIZE, read};
 use reference::generator::random::Random;
 use reference::generator::{Kind, text};
 use reference::reading;
@@ -13,11 +13,15 @@ fn agree(text: &[u8]) {
     match reading::read(text) {
         Ok(table) => {
             assert_eq!(ours.refusal, 0, "{}", shown());
-            assert!(ours.table[..] == layout(&table)[..], "table of {}", shown());
+            assert!(
+                ours.table.bytes[..] == layout(&table)[..],
+                "table of {}",
+                shown()
+            );
         }
         Err(refusal) => {
             assert_eq!(ours.refusal, refusal.number(), "{}", shown());
-            assert!(ours.table == [0; TABLE_SIZE], "{}", shown());
+            assert!(ours.table.bytes == [0; TABLE_LENGTH], "{}", shown());
         }
     }
 }

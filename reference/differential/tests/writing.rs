@@ -1,8 +1,8 @@
 //! The proved writer: texts come back as they were read. Of tables with a byte changed, those that are written read back, by the
 //! reference engine's reader, into the same bytes. That a refused one has no text is proved, not tested here.
 
+use baqolluy::{ClassTable, TABLE_LENGTH, Written, read, write};
 use differential::table::layout;
-use differential::{TABLE_SIZE, Written, read, write};
 use reference::generator::random::Random;
 use reference::generator::{Kind, text};
 use reference::reading;
@@ -10,7 +10,7 @@ use reference::reading;
 const BUFFER: usize = 49_567;
 
 /// A refused call writes nothing.
-fn assert_refused(table: &[u8; TABLE_SIZE], size: usize, refusal: u8) {
+fn assert_refused(table: &ClassTable, size: usize, refusal: u8) {
     let mut buffer = vec![0xA5; size];
     let written = write(table, &mut buffer);
     assert_eq!(written, Written { refusal, length: 0 });
@@ -18,7 +18,7 @@ fn assert_refused(table: &[u8; TABLE_SIZE], size: usize, refusal: u8) {
 }
 
 /// The table's text comes back, and the bytes after it stay.
-fn assert_written(table: &[u8; TABLE_SIZE], text: &[u8]) {
+fn assert_written(table: &ClassTable, text: &[u8]) {
     let mut buffer = vec![0xA5; BUFFER + 7];
     let written = write(table, &mut buffer);
     assert_eq!(written.refusal, 0);
@@ -54,14 +54,14 @@ fn changed_tables() {
     for number in 0..3_000 {
         let mut random = Random::for_case(15, number);
         let mut table = read(&text(Kind::Typed, &mut random)).table;
-        let place = random.below(TABLE_SIZE);
-        table[place] = random.byte();
+        let place = random.below(TABLE_LENGTH);
+        table.bytes[place] = random.byte();
         let mut buffer = vec![0xA5; BUFFER];
         let written = write(&table, &mut buffer);
         if written.refusal == 0 {
             let text = &buffer[..usize::from(written.length)];
             let read = reading::read(text).expect("a text that is written reads");
-            assert!(layout(&read)[..] == table[..]);
+            assert!(layout(&read)[..] == table.bytes[..]);
         } else {
             assert_refused(&table, BUFFER, 8);
             assert_refused(&table, 0, 8);

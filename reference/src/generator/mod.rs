@@ -22,8 +22,12 @@ use random::Random;
 
 #[derive(Clone, Copy, Debug, PartialEq, Eq)]
 pub enum Kind {
-    /// Accepted by the checker.
+    /// Accepted by the checker, chosen so that outcomes of every sort are common.
     Typed,
+    /// Accepted, as it was drawn: quicker, and plainer in what it ends in.
+    Plain,
+    /// Accepted, and ending just inside or just outside a limit.
+    Limits,
     /// Refused 6 or 7.
     IllTyped,
     /// Refused 1 to 5.
@@ -36,6 +40,8 @@ impl Kind {
     pub fn named(name: &str) -> Option<Kind> {
         match name {
             "typed" => Some(Kind::Typed),
+            "plain" => Some(Kind::Plain),
+            "limits" => Some(Kind::Limits),
             "illtyped" => Some(Kind::IllTyped),
             "damaged" => Some(Kind::Damaged),
             "full" => Some(Kind::Full),
@@ -48,6 +54,8 @@ impl Kind {
 pub fn text(kind: Kind, random: &mut Random) -> Vec<u8> {
     match kind {
         Kind::Typed => written(&wished(random)),
+        Kind::Plain => written(&typed::table(random)),
+        Kind::Limits => written(&limits::table(random)),
         Kind::IllTyped => illtyped::text(random),
         Kind::Damaged => damaged::text(random),
         Kind::Full => written(&full::table(random)),

@@ -1,0 +1,100 @@
+/* The proved engine of the line language, for C99 and C++. Link target/staticlib/libengine.a.
+ * It declares the calls and their answers; what a text, a report and a refusal are is said in the README and in docs/.
+ * host/src/lib.rs has the same declarations for Rust. */
+#ifndef BAQOLLUY_H
+#define BAQOLLUY_H
+
+#include <stdbool.h>
+#include <stddef.h>
+#include <stdint.h>
+
+#ifdef __cplusplus
+extern "C" {
+#endif
+
+#define LINE_TEXT_LENGTH 49567   /* longest text, and least length of a buffer to write one in */
+#define LINE_REPORT_LENGTH 544   /* least length of a report buffer */
+#define LINE_WORK_LENGTH 65536   /* least length of a work buffer, and what a run leaves zeroed of it */
+#define LINE_TABLE_LENGTH 25616  /* the bytes of a class table: docs/TABLE.md */
+
+/* The number in an answer's `refusal`. A refused call writes nothing in what it was lent. */
+enum line_refusal {
+    LINE_ACCEPTED = 0,
+    LINE_BAD_FORM = 1,       /* not the line form, empty, or too long */
+    LINE_BAD_FRAME = 2,      /* unknown first byte; tag, count or nesting over its limit; too short or too long */
+    LINE_BAD_ORDER = 3,      /* frames out of order, no main, too many classes or methods */
+    LINE_BAD_CLASSES = 4,    /* a class or a name against the rules */
+    LINE_BAD_OVERRIDE = 5,   /* a method whose types differ from those of the same name above it */
+    LINE_BAD_METHOD = 6,     /* a method without a type */
+    LINE_BAD_MAIN = 7,       /* a main without a type */
+    LINE_BAD_TABLE = 8,      /* a table that no text reads into */
+    LINE_SHORT_TEXT = 9,     /* a text buffer under LINE_TEXT_LENGTH */
+    LINE_CLOSED = 11,        /* the session is closed */
+    LINE_SHORT_REPORT = 12,  /* a report buffer under LINE_REPORT_LENGTH */
+    LINE_SHORT_WORK = 13     /* a work buffer under LINE_WORK_LENGTH */
+};
+
+typedef struct line_session {
+    bool active;
+    uint16_t fuel;
+} line_session;
+
+typedef struct line_answer {
+    uint8_t refusal;
+    line_session session; /* the same one if refused */
+    uint16_t length;      /* of the report; 0 if refused */
+} line_answer;
+
+typedef struct line_closing {
+    uint8_t refusal;
+    line_session session;
+} line_closing;
+
+typedef struct line_verdict {
+    uint8_t refusal;
+    uint8_t class_number; /* of main; 0 if refused */
+    uint8_t tag;
+} line_verdict;
+
+typedef struct line_written {
+    uint8_t refusal;
+    uint16_t length; /* of the text; 0 if refused */
+} line_written;
+
+typedef struct line_table {
+    uint8_t bytes[LINE_TABLE_LENGTH];
+} line_table;
+
+typedef struct line_reading {
+    uint8_t refusal;
+    line_table table; /* zeros if refused */
+} line_reading;
+
+/* Opens a session. Never refused. */
+line_session line_open(uint16_t fuel);
+
+/* Closes a session: its fuel becomes 0. Refused: 11. */
+line_closing line_close(line_session session);
+
+/* The class table of a text. Refused: 1 to 5. */
+line_reading line_read(const uint8_t *text, size_t length);
+
+/* Writes a table's text at the front of the buffer. Refused: 8, then 9. */
+line_written line_write(line_table table, uint8_t *buffer, size_t length);
+
+/* The type of a text's main. Refused: 1 to 7. */
+line_verdict line_check(const uint8_t *text, size_t length);
+
+/* Runs a text, types checked first. Refused: 11, 12, 13, then 1 to 7. */
+line_answer line_run(const uint8_t *text, size_t text_length, line_session session, uint8_t *report,
+                     size_t report_length, uint8_t *work, size_t work_length);
+
+/* The same without the check of types. Refused: 11, 12, 13, then 1 to 5. */
+line_answer line_trial(const uint8_t *text, size_t text_length, line_session session, uint8_t *report,
+                       size_t report_length, uint8_t *work, size_t work_length);
+
+#ifdef __cplusplus
+}
+#endif
+
+#endif

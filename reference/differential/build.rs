@@ -1,7 +1,0 @@
-// Links the static library that `rt staticlib engine` writes.
-fn main() {
-    let root = concat!(env!("CARGO_MANIFEST_DIR"), "/../..");
-    println!("cargo:rustc-link-search=native={root}/target/staticlib");
-    println!("cargo:rustc-link-lib=static=engine");
-    println!("cargo:rerun-if-changed={root}/target/staticlib/libengine.a");
-}

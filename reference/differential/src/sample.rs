@@ -1,0 +1,41 @@
+//! Which programs are compared, and with which fuels. The programs are made by the reference engine's generator.
+
+use crate::compare::{Bench, Difference};
+use crate::tally::Tally;
+use reference::generator::random::Random;
+use reference::generator::{Kind, text};
+
+/// Nothing at all, the first calls, a few, `linerun`'s fuel, all that a session can have.
+pub fn fuels(random: &mut Random) -> [u16; 7] {
+    let few = random.between(4, 40) as u16;
+    [0, 1, 2, 3, few, 1_000, 65_535]
+}
+
+/// Compares `count` programs of a kind, each in both modes with every fuel.
+pub fn kind(kind: Kind, seed: u64, count: u64) -> Result<Tally, Difference> {
+    let mut bench = Bench::new(seed);
+    let mut tally = Tally::default();
+    for number in 0..count {
+        let mut random = Random::for_case(seed, number);
+        let text = text(kind, &mut random);
+        bench.program(&text, &fuels(&mut random), &mut tally)?;
+    }
+    Ok(tally)
+}
+
+/// Program `number` of a seed's mixture, and two fuels for it. Most are of the kinds that are quickly made.
+pub fn mixed(seed: u64, number: u64) -> (Vec<u8>, [u16; 2]) {
+    let mut random = Random::for_case(seed, number);
+    let kind = match random.below(1_000) {
+        0..400 => Kind::Plain,
+        400..450 => Kind::Typed,
+        450..480 => Kind::Limits,
+        480..748 => Kind::IllTyped,
+        748..750 => Kind::Full,
+        _ => Kind::Damaged,
+    };
+    let text = text(kind, &mut random);
+    let all = fuels(&mut random);
+    let fuel = |random: &mut Random| all[random.below(all.len())];
+    (text, [fuel(&mut random), fuel(&mut random)])
+}
