@@ -176,12 +176,33 @@ module _ (W : List ℕ) (cs : List OpenCall) (k : ℕ) (v : ValueRef) (m : ℕ) 
     pub open-found : r ≡ true → met.Mark (k - 1) ≡ metOf (openMark (traceTo W cs k) (valueOf W v) m (valuesFrom W ps 0 n))
     open-found z = rw (open-step, z)
 
-    pub open-more : (x : Met) → r ≡ false → x ≡ metOf (openMark (traceTo W cs (k - 1)) (valueOf W v) m (valuesFrom W ps 0 n))
-        → x ≡ metOf (openMark (traceTo W cs k) (valueOf W v) m (valuesFrom W ps 0 n))
-    open-more x z e = rw (open-step, z) e
+-- ---- the loop through the open calls: the first j of k are left, and the others are not the call
+pub record Left (W : List ℕ) (cs : List OpenCall) (k : ℕ) (v : ValueRef) (m : ℕ) (ps : List Slot) (n j : ℕ) : Type 0 where
+  pub calls : CallsHold W cs j
+  pub same : openMark (traceTo W cs j) (valueOf W v) m (valuesFrom W ps 0 n) ≡ openMark (traceTo W cs k) (valueOf W v) m (valuesFrom W ps 0 n)
 
-pub calls-last : (W : List ℕ) (cs : List OpenCall) (k : ℕ) → CallsHold W cs k → (k ≡ 0 → ⊥) → CallHolds W (callAt cs (k - 1))
-calls-last W cs k h nz = h .call (k - 1) (omega (arith, nz))
+module _ (W : List ℕ) (cs : List OpenCall) (k : ℕ) (v : ValueRef) (m : ℕ) (ps : List Slot) (n : ℕ) where
+  pub few-calls : CallsHold W cs k → k ≤ 16
+  few-calls h = let f = h .few in omega arith
 
-pub calls-before : (W : List ℕ) (cs : List OpenCall) (k : ℕ) → CallsHold W cs k → (k ≡ 0 → ⊥) → CallsHold W cs (k - 1)
-calls-before W cs k h nz = let f = h .few in record { few = omega arith; call = λ i l. h .call i (omega (arith, nz)) }
+  pub left-all : CallsHold W cs k → Left W cs k v m ps n k
+  left-all h = record { calls = h; same = refl }
+
+  module _ (j : ℕ) (l : Left W cs k v m ps n j) where
+    pub left-none : j ≤ 0 → met.No ≡ metOf (openMark (traceTo W cs k) (valueOf W v) m (valuesFrom W ps 0 n))
+    left-none z = open-end W cs j v m ps n (omega arith) ∙ ap metOf (l .same)
+
+    pub left-last : 0 < j → CallHolds W (callAt cs (j - 1))
+    left-last p = l .calls .call (j - 1) (omega arith)
+
+    module _ (p : 0 < j) (r : Bool) (er : r ≡ sameOf (callIn W 0 (callAt cs (j - 1))) (valueOf W v) m (valuesFrom W ps 0 n)) where
+      pub left-found : r ≡ true → met.Mark (j - 1) ≡ metOf (openMark (traceTo W cs k) (valueOf W v) m (valuesFrom W ps 0 n))
+      left-found z = open-found W cs j v m ps n (λ e. omega arith) r er z ∙ ap metOf (l .same)
+
+      pub left-more : r ≡ false → Left W cs k v m ps n (j - 1)
+      left-more z =
+          let f = l .calls .few in
+          record {
+            calls = record { few = omega arith; call = λ i q. l .calls .call i (omega arith) };
+            same = sym (open-step W cs j v m ps n (λ e. omega arith) r er ∙ ap (λ (b : Bool). pick b (some (j - 1)) (openMark (traceTo W cs (j - 1)) (valueOf W v) m (valuesFrom W ps 0 n))) z) ∙ l .same;
+          }

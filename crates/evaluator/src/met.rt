@@ -60,13 +60,14 @@ pub fn open_call(work: &[u8], t: Trace, k: u8, v: ValueRef, m: u8, args: [Slot; 
     requires { ⌜ CallsHold (now work) (t .calls) k × Holds (now work) v × PartsHeld (now work) args n × (n ≤ 4) ⌝ }
     ensures { λ r. ⌜ r ≡ metOf (openMark (traceTo (now (work .entry)) (t .calls) k) (valueOf (now (work .entry)) v) m (valuesFrom (now (work .entry)) args 0 n)) ⌝ }
 {
-    if k == 0 {
-        return Met::No;
-    }
     let cs = t.calls;
-    let c = cs[(k - 1) as usize];
-    if same_call(work, c, v, m, args, n) {
-        return Met::Mark(k - 1);
+    let mut j: u8 = k;
+    while 0 < j {
+        let c = cs[(j - 1) as usize];
+        if same_call(work, c, v, m, args, n) {
+            return Met::Mark(j - 1);
+        }
+        j -= 1;
     }
-    open_call(work, t, k - 1, v, m, args, n)
+    Met::No
 }

@@ -1,0 +1,49 @@
+use Rattle.evaluator.proofs.met.open_call.Statement.{statement}
+use Rattle.evaluator.proofs.met.open_call.Tie as tie
+use Rattle.evaluator.proofs.met.open_call.Reads as reads
+use Rattle.evaluator.proofs.met.open_call.Lts as lts
+use Rattle.evaluator.proofs.met.same_call.Reads as same-call-reads
+use borrow.Author.Needs.{needs}
+use Prim.Native.Nat.{_≤_}
+use Rattle.evaluator.proofs.StateLaws as laws
+use Rattle.evaluator.proofs.StateLaws.{Left}
+
+abbrev Inv-loop : tie.InvT-loop
+Inv-loop work k v m args n cs j₀ j = (j ≤ 16) × Left work cs k v m args n j
+
+abbrev μ-loop : tie.MeasureT-loop
+μ-loop work k v m args n cs j₀ j = j
+
+loop-holds : tie.Need-loop-holds Inv-loop μ-loop
+loop-holds c = (search laws.few-calls, search laws.left-all)
+
+same-call-requires : tie.Need-same-call-requires Inv-loop μ-loop
+same-call-requires c κs = (search laws.left-last, search needs, search needs, search needs)
+
+returns : tie.Need-returns Inv-loop μ-loop
+returns c = search laws.left-found
+
+loop-again : tie.Need-loop-again Inv-loop μ-loop
+loop-again c = (search needs, search laws.left-more)
+
+returns-2 : tie.Need-returns-2 Inv-loop μ-loop
+returns-2 c = search laws.left-none
+
+pub open-call-spec : {M : Type 1} → statement M
+open-call-spec =
+    tie.close
+    (tie.spec
+    Inv-loop
+    μ-loop
+    loop-holds
+    (λ c. search needs)
+    (λ c. search needs)
+    (λ c. search needs)
+    (λ c. search needs)
+    same-call-requires
+    (λ c. search needs)
+    returns
+    (λ c. search needs)
+    (λ c. search needs)
+    loop-again
+    returns-2)
