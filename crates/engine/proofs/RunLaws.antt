@@ -31,7 +31,9 @@ use Rattle.evaluator.specs.declared.Out.{Out}
 use Rattle.evaluator.specs.Answers.{outIn}
 use Rattle.evaluator.specs.Evaluation.{Tabled}
 use Rattle.evaluator.specs.Main as main
-use Rattle.engine.specs.Steps.{ran, noReport, stateNumber, Reports, Executes, Runs}
+use Rattle.engine.specs.declared.run.Mode as code
+use Rattle.engine.specs.declared.run.Mode.the-variants as modes
+use Rattle.engine.specs.Steps.{ran, noReport, modeOf, stateNumber, Reports, Executes, Runs}
 use Rattle.engine.proofs.StateLaws.{state-admits}
 use Rattle.engine.proofs.ReportLaws.{cleared-part}
 
@@ -107,9 +109,17 @@ module _ (m : Mode) (s : List ℕ) (σ : Session) (R W : List ℕ) (k : ℕ) (g 
       state-admits m s σ R W k g (ran a R W) none
       (ap (λ (y : public.Answer). ran y R W) q ∙ sym (ap (λ (y : Admitted). runAdmitted y σ R W) (admit-unread m s j (answer-refusal s j B e n))))
 
-  pub run-read : (x : Ran) → j ≡ 0 → Runs m B σ R W x → x ≡ runCall m s σ R W
+  run-read : (x : Ran) → j ≡ 0 → Runs m B σ R W x → x ≡ runCall m s σ R W
   run-read x z h =
       let t = answer-table s j B e z in
       state-admits m s σ R W k g x none
       (h .is (t .whole) (record { ready = read-ready s (t .whole) (t .reads); bytes = t .bytes })
       ∙ sym (ap (λ (y : Admitted). runAdmitted y σ R W) (admit-read m s (t .whole) (t .reads))))
+
+-- by the code's mode
+module _ (c : code.Mode) (s : List ℕ) (σ : Session) (R W : List ℕ) (k : ℕ) (g : k ≡ stateNumber (σ .active) (length R) (length W)) (none : k ≡ 0) (j : ℕ) (B : List ℕ) (e : Into (readingOf s) j B) where
+  pub run-checked : (x : Ran) → j ≡ 0 → c ≡ modes.Checked → Runs checked B σ R W x → x ≡ runCall (modeOf c) s σ R W
+  run-checked x z q h = run-read checked s σ R W k g none j B e x z h ∙ sym (ap (λ (y : code.Mode). runCall (modeOf y) s σ R W) q)
+
+  pub run-trial : (x : Ran) → j ≡ 0 → c ≡ modes.Trial → Runs trial B σ R W x → x ≡ runCall (modeOf c) s σ R W
+  run-trial x z q h = run-read trial s σ R W k g none j B e x z h ∙ sym (ap (λ (y : code.Mode). runCall (modeOf y) s σ R W) q)

@@ -13,10 +13,13 @@ use Rattle.cofj.specs.Values.{Graph}
 use Rattle.cofj.specs.Running as language
 use Rattle.cofj.specs.Running.{Outcome}
 use Rattle.cofj.specs.Report.{reportOf, fuelOf, stopByte}
-use Rattle.cofj.specs.Calls.{Mode, openSession, over, Ran, admitTable, runAdmitted}
+use Rattle.cofj.specs.Calls as calls
+use Rattle.cofj.specs.Calls.{checked, trial, openSession, over, Ran, admitTable, runAdmitted}
 use Rattle.evaluator.specs.declared.Stop.{Stop}
 use Rattle.evaluator.specs.Answers.{stopOf}
 use Rattle.evaluator.specs.Evaluation.{Tabled}
+use Rattle.engine.specs.declared.run.Mode.{Mode}
+use Rattle.engine.specs.declared.run.Mode.the-variants.{Checked, Trial}
 
 -- an answer and both buffers after a call
 abbrev pub ran : Answer → List ℕ → List ℕ → Ran
@@ -24,6 +27,10 @@ ran a report work = record { answer = a; report = report; work = work }
 
 abbrev pub noReport : ℕ → Session → Answer
 noReport k σ = record { refusal = k; session = σ; length = 0 }
+
+abbrev pub modeOf : Mode → calls.Mode
+modeOf Checked = checked
+modeOf Trial = trial
 
 -- what the state refuses: whether the session is active, the report buffer short, the work buffer short; 0 for nothing
 abbrev pub numberBy : Bool → Bool → Bool → ℕ
@@ -54,5 +61,5 @@ pub record Executes (T : List ℕ) (fuel : ℕ) (R : List ℕ) (n : ℕ) (R′ :
   pub is : (t : Table) → Tabled T t → Reports (language.run t fuel) R R′ a
 
 -- what a run of the table whose bytes T are gives in a mode
-pub record Runs (m : Mode) (T : List ℕ) (σ : Session) (R W : List ℕ) (x : Ran) : Type 0 where
+pub record Runs (m : calls.Mode) (T : List ℕ) (σ : Session) (R W : List ℕ) (x : Ran) : Type 0 where
   pub is : (t : Table) → Tabled T t → x ≡ runAdmitted (admitTable m t) σ R W

@@ -14,7 +14,13 @@ ghost use mathlib.Core.Path.{_≡_};
 ghost use lib.ListN.{length};
 ghost use Rattle.cofj.specs.Limits.{reportSize, workSize};
 ghost use Rattle.cofj.specs.Calls.{checked, trial, Ran, runCall};
-ghost use Rattle.engine.specs.Steps.{ran, noReport, Executes, Runs};
+ghost use Rattle.engine.specs.Steps.{ran, noReport, modeOf, Executes, Runs};
+
+// Whether types are checked first.
+pub enum Mode {
+    Checked,
+    Trial,
+}
 
 // A refused call: the same session, and no report.
 pub fn refuse(refusal: u8, session: Session) -> Answer
@@ -59,9 +65,15 @@ pub fn check_and_run(t: &[u8; SIZE], session: Session, out: &mut [u8], work: &mu
     }
 }
 
-// The checked run of a text.
-pub fn checked_run(text: &[u8], session: Session, out: &mut [u8], work: &mut [u8]) -> Answer
-    ensures { λ r. ⌜ ran r (now (out .exit)) (now (work .exit)) ≡ runCall checked (now (text .entry)) session (now (out .entry)) (now (work .entry)) ⌝ }
+// A run of a text.
+pub fn run_text(
+    mode: Mode,
+    text: &[u8],
+    session: Session,
+    out: &mut [u8],
+    work: &mut [u8],
+) -> Answer
+    ensures { λ r. ⌜ ran r (now (out .exit)) (now (work .exit)) ≡ runCall (modeOf mode) (now (text .entry)) session (now (out .entry)) (now (work .entry)) ⌝ }
 {
     let active = session.active;
     let k = state_refusal(active, out.len(), work.len());
@@ -73,22 +85,22 @@ pub fn checked_run(text: &[u8], session: Session, out: &mut [u8], work: &mut [u8
     if refusal != 0 {
         return refuse(refusal, session);
     }
-    check_and_run(&bytes, session, out, work)
+    match mode {
+        Mode::Checked => check_and_run(&bytes, session, out, work),
+        Mode::Trial => run_table(&bytes, session, out, work),
+    }
+}
+
+// The checked run of a text.
+pub fn checked_run(text: &[u8], session: Session, out: &mut [u8], work: &mut [u8]) -> Answer
+    ensures { λ r. ⌜ ran r (now (out .exit)) (now (work .exit)) ≡ runCall checked (now (text .entry)) session (now (out .entry)) (now (work .entry)) ⌝ }
+{
+    run_text(Mode::Checked, text, session, out, work)
 }
 
 // The trial run of a text: no types are asked for.
 pub fn trial_run(text: &[u8], session: Session, out: &mut [u8], work: &mut [u8]) -> Answer
     ensures { λ r. ⌜ ran r (now (out .exit)) (now (work .exit)) ≡ runCall trial (now (text .entry)) session (now (out .entry)) (now (work .entry)) ⌝ }
 {
-    let active = session.active;
-    let k = state_refusal(active, out.len(), work.len());
-    if k != 0 {
-        return refuse(k, session);
-    }
-    let mut bytes = [0u8; SIZE];
-    let refusal = read_into(text, &mut bytes);
-    if refusal != 0 {
-        return refuse(refusal, session);
-    }
-    run_table(&bytes, session, out, work)
+    run_text(Mode::Trial, text, session, out, work)
 }

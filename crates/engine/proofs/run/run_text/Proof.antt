@@ -1,8 +1,9 @@
 use borrow.Author.Needs.{needs}
-use Rattle.engine.proofs.run.trial_run.Statement.{statement}
-use Rattle.engine.proofs.run.trial_run.Tie as tie
-use Rattle.engine.proofs.run.trial_run.Reads as reads
-use Rattle.engine.proofs.run.trial_run.Lts as lts
+use Rattle.engine.proofs.run.run_text.Statement.{statement}
+use Rattle.engine.proofs.run.run_text.Tie as tie
+use Rattle.engine.proofs.run.run_text.Reads as reads
+use Rattle.engine.proofs.run.run_text.Lts as lts
+use Rattle.engine.proofs.run.check_and_run.Reads as check-and-run-reads
 use Rattle.engine.proofs.run.refuse.Reads as refuse-reads
 use Rattle.engine.proofs.run.run_table.Reads as run-table-reads
 use Rattle.engine.proofs.session.state_refusal.Reads as state-refusal-reads
@@ -20,14 +21,20 @@ read-into-requires c κs = search reads-laws.zeros
 returns-2 : tie.Need-returns-2
 returns-2 c = search laws.run-unread
 
+check-and-run-requires : tie.Need-check-and-run-requires
+check-and-run-requires c κs = (search states.lent-report, search states.lent-work)
+
 run-table-requires : tie.Need-run-table-requires
 run-table-requires c κs = (search states.lent-report, search states.lent-work)
 
 returns-3 : tie.Need-returns-3
-returns-3 c = search laws.run-read
+returns-3 c = search laws.run-checked
 
-pub trial-run-spec : {M : Type 1} → statement M
-trial-run-spec =
+returns-4 : tie.Need-returns-4
+returns-4 c = search laws.run-trial
+
+pub run-text-spec : {M : Type 1} → statement M
+run-text-spec =
     tie.close
     (tie.spec
     (λ c κs. search needs)
@@ -36,7 +43,13 @@ trial-run-spec =
     read-into-requires
     (λ c κs. search needs)
     returns-2
+    (λ c. search needs)
+    check-and-run-requires
+    (λ c. search needs)
     run-table-requires
     (λ c. search needs)
     (λ c. search needs)
-    returns-3)
+    returns-3
+    (λ c. search needs)
+    (λ c. search needs)
+    returns-4)
