@@ -10,7 +10,7 @@ ghost use Rattle.checker.specs.Program.{checkOf};
 ghost use Rattle.checker.specs.Answers.{verdictOf};
 
 // The verdict on a table's bytes.
-pub fn check_table(t: &[u8; SIZE]) -> Verdict
+fn check_table(t: &[u8; SIZE]) -> Verdict
     ensures { λ r. ⌜ r ≡ verdictOf (checkOf (now (t .entry))) ⌝ }
 {
     let c = check(t);

@@ -2,7 +2,7 @@
 // Not here: what they are made of (tables, checker, evaluator, values), the program `linerun`.
 pub mod session; // opening and closing
 pub mod check; // the check of a text
-pub mod report; // the report of an outcome
+mod report; // the report of an outcome
 pub mod run; // the checked run and the trial run
 pub mod show; // what `linerun` writes for a text
 pub mod exports; // the same calls for C and Rust

@@ -14,7 +14,7 @@ ghost use Rattle.evaluator.specs.Answers.{outIn, OutOlder};
 ghost use Rattle.engine.specs.Steps.{stopNumber, Reports, StopReports};
 
 // What a run stopped at, by its number.
-pub fn stop_number(s: Stop) -> u8
+fn stop_number(s: Stop) -> u8
     ensures { λ r. ⌜ r ≡ stopNumber s ⌝ }
 {
     match s {
@@ -26,7 +26,7 @@ pub fn stop_number(s: Stop) -> u8
 }
 
 // The report of a run that stopped, at the front of `out`.
-pub fn report_stop(s: Stop, out: &mut [u8])
+fn report_stop(s: Stop, out: &mut [u8])
     requires { ⌜ reportSize ≤ length (now out) ⌝ }
     ensures { λ _. ⌜ StopReports s (now (out .entry)) (now (out .exit)) ⌝ }
 {

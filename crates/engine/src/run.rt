@@ -17,13 +17,13 @@ ghost use Rattle.cofj.specs.Calls.{checked, trial, Ran, runCall};
 ghost use Rattle.engine.specs.Steps.{ran, noReport, modeOf, Executes, Runs};
 
 // Whether types are checked first.
-pub enum Mode {
+enum Mode {
     Checked,
     Trial,
 }
 
 // A refused call: the same session, and no report.
-pub fn refuse(refusal: u8, session: Session) -> Answer
+fn refuse(refusal: u8, session: Session) -> Answer
     ensures { λ r. ⌜ r ≡ noReport refusal session ⌝ }
 {
     Answer {
@@ -34,7 +34,7 @@ pub fn refuse(refusal: u8, session: Session) -> Answer
 }
 
 // Runs main of a table's bytes and writes the report. What it leaves in `work` is open.
-pub fn execute(t: &[u8; SIZE], fuel: u16, out: &mut [u8], work: &mut [u8]) -> Answer
+fn execute(t: &[u8; SIZE], fuel: u16, out: &mut [u8], work: &mut [u8]) -> Answer
     requires { ⌜ (reportSize ≤ length (now out)) × (65520 ≤ length (now work)) ⌝ }
     ensures { λ r. ⌜ Executes (now (t .entry)) fuel (now (out .entry)) (length (now (work .entry))) (now (out .exit)) (length (now (work .exit))) r ⌝ }
 {
@@ -43,7 +43,7 @@ pub fn execute(t: &[u8; SIZE], fuel: u16, out: &mut [u8], work: &mut [u8]) -> An
 }
 
 // The same in the first 65,536 work bytes, which are zero after.
-pub fn run_table(t: &[u8; SIZE], session: Session, out: &mut [u8], work: &mut [u8]) -> Answer
+fn run_table(t: &[u8; SIZE], session: Session, out: &mut [u8], work: &mut [u8]) -> Answer
     requires { ⌜ (reportSize ≤ length (now out)) × (workSize ≤ length (now work)) ⌝ }
     ensures { λ r. ⌜ Runs trial (now (t .entry)) session (now (out .entry)) (now (work .entry)) (ran r (now (out .exit)) (now (work .exit))) ⌝ }
 {
@@ -54,7 +54,7 @@ pub fn run_table(t: &[u8; SIZE], session: Session, out: &mut [u8], work: &mut [u
 }
 
 // The same after the check of types.
-pub fn check_and_run(t: &[u8; SIZE], session: Session, out: &mut [u8], work: &mut [u8]) -> Answer
+fn check_and_run(t: &[u8; SIZE], session: Session, out: &mut [u8], work: &mut [u8]) -> Answer
     requires { ⌜ (reportSize ≤ length (now out)) × (workSize ≤ length (now work)) ⌝ }
     ensures { λ r. ⌜ Runs checked (now (t .entry)) session (now (out .entry)) (now (work .entry)) (ran r (now (out .exit)) (now (work .exit))) ⌝ }
 {
@@ -66,13 +66,7 @@ pub fn check_and_run(t: &[u8; SIZE], session: Session, out: &mut [u8], work: &mu
 }
 
 // A run of a text.
-pub fn run_text(
-    mode: Mode,
-    text: &[u8],
-    session: Session,
-    out: &mut [u8],
-    work: &mut [u8],
-) -> Answer
+fn run_text(mode: Mode, text: &[u8], session: Session, out: &mut [u8], work: &mut [u8]) -> Answer
     ensures { λ r. ⌜ ran r (now (out .exit)) (now (work .exit)) ≡ runCall (modeOf mode) (now (text .entry)) session (now (out .entry)) (now (work .entry)) ⌝ }
 {
     let active = session.active;

@@ -21,7 +21,7 @@ pub struct Shown {
 }
 
 // The verdict line at the front of `out`. Answers with the place after it.
-pub fn put_verdict(v: Verdict, out: &mut [u8]) -> usize
+fn put_verdict(v: Verdict, out: &mut [u8]) -> usize
     requires { ⌜ 560 ≤ length (now out) ⌝ }
     ensures { λ r. ⌜ PutVerdict v (now (out .entry)) (now (out .exit)) r ⌝ }
 {
@@ -35,7 +35,7 @@ pub fn put_verdict(v: Verdict, out: &mut [u8]) -> usize
 }
 
 // The report of a checked run with fuel 1,000 at the front of `out`, or nothing for a text that is refused. Answers how many characters it is.
-pub fn put_report(text: &[u8], out: &mut [u8], work: &mut [u8]) -> usize
+fn put_report(text: &[u8], out: &mut [u8], work: &mut [u8]) -> usize
     requires { ⌜ (reportSize ≤ length (now out)) × (workSize ≤ length (now work)) ⌝ }
     ensures { λ r. ⌜ PutReport (now (text .entry)) (now (out .entry)) (now (out .exit)) r ⌝ }
 {
