@@ -12,3 +12,4 @@ pub mod Closing
 pub mod Lays
 pub mod Reports
 pub mod Kept
+pub mod Copying

@@ -6,3 +6,4 @@ pub mod Numbers
 pub mod Operations
 pub mod Laying
 pub mod Reporting
+pub mod Copied
