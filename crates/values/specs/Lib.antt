@@ -5,4 +5,5 @@ pub mod Walking
 pub mod Numbers
 pub mod Operations
 pub mod Laying
+pub mod Stacking
 pub mod Reporting

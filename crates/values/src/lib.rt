@@ -7,6 +7,8 @@ pub mod walk; // the order in which they are met
 pub mod number; // the objects, numbered in that order, in a block
 pub mod value; // values compared, selected from, closed
 pub mod lay; // values laid side by side below a new object
+pub mod raise; // objects moved by one place
+pub mod over; // a new object over one value
 pub mod make; // a new object
 pub mod report; // the report of a value
 
