@@ -120,12 +120,12 @@ nodes-id : (ns : List Node) → map (renameNode (λ i. i)) ns ≡ ns
 nodes-id [] = refl
 nodes-id (x ∷ xs) = ap₂ {C = List Node} _∷_ (node-id x) (nodes-id xs)
 
-length-up : (k n : ℕ) → length (upFrom k n) ≡ n
+pub length-up : (k n : ℕ) → length (upFrom k n) ≡ n
 unfolding upFrom
 length-up k zero = refl
 length-up k (suc n) = ap suc (length-up (suc k) n)
 
-at-up : (k n i : ℕ) → i < n → getD (upFrom k n) i 0 ≡ k + i
+pub at-up : (k n i : ℕ) → i < n → getD (upFrom k n) i 0 ≡ k + i
 unfolding upFrom
 at-up k zero i l = absurd (omega arith)
 at-up k (suc n) zero l = omega arith

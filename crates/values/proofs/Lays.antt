@@ -150,7 +150,7 @@ lay-nil at i R = record {
 }
 
 -- ---- the parts
-abbrev none-slot : Slot
+abbrev pub none-slot : Slot
 none-slot = record { r = Object 0 }
 
 module _ (W : List ℕ) (ps : List Slot) (i n : ℕ) where
@@ -181,14 +181,14 @@ module _ (W : List ℕ) (ps : List Slot) (i n : ℕ) where
         (subst (λ (x : ValueRef). LaidOne (valueOf W x) at i R₀ R1 t1) e a) b)
 
 -- ---- the new object
-abbrev fresh : List ℕ → ℕ → ℕ → List ℕ
+abbrev pub fresh : List ℕ → ℕ → ℕ → List ℕ
 fresh R c n = set (set (set (set (set (set R 0 c) 1 n) 2 192) 3 192) 4 192) 5 192
 
-fresh-class : (R : List ℕ) (c n : ℕ) → 1536 ≤ length R → getD (fresh R c n) 0 0 ≡ c
+pub fresh-class : (R : List ℕ) (c n : ℕ) → 6 ≤ length R → getD (fresh R c n) 0 0 ≡ c
 fresh-class [] c n h = absurd (omega arith)
 fresh-class (x ∷ R) c n h = refl
 
-fresh-count : (R : List ℕ) (c n : ℕ) → 1536 ≤ length R → getD (fresh R c n) 1 0 ≡ n
+pub fresh-count : (R : List ℕ) (c n : ℕ) → 6 ≤ length R → getD (fresh R c n) 1 0 ≡ n
 fresh-count [] c n h = absurd (omega arith)
 fresh-count (x ∷ []) c n h = absurd (omega arith)
 fresh-count (x ∷ (y ∷ R)) c n h = refl
@@ -202,7 +202,7 @@ six P p2 p3 p4 p5 (suc (suc (suc (suc zero)))) h l = p4
 six P p2 p3 p4 p5 (suc (suc (suc (suc (suc zero))))) h l = p5
 six P p2 p3 p4 p5 (suc (suc (suc (suc (suc (suc k)))))) h l = absurd (omega arith)
 
-fresh-spare : (R : List ℕ) (c n : ℕ) → 1536 ≤ length R → (k : ℕ) → 2 ≤ k → k < 6 → getD (fresh R c n) k 0 ≡ 192
+pub fresh-spare : (R : List ℕ) (c n : ℕ) → 6 ≤ length R → (k : ℕ) → 2 ≤ k → k < 6 → getD (fresh R c n) k 0 ≡ 192
 fresh-spare [] c n h = absurd (omega arith)
 fresh-spare (x ∷ []) c n h = absurd (omega arith)
 fresh-spare (x ∷ (y ∷ [])) c n h = absurd (omega arith)
@@ -212,16 +212,16 @@ fresh-spare (x ∷ (y ∷ (z ∷ (u ∷ (v ∷ []))))) c n h = absurd (omega ari
 fresh-spare (x ∷ (y ∷ (z ∷ (u ∷ (v ∷ (w ∷ R)))))) c n h =
     six (λ k. getD (fresh (x ∷ (y ∷ (z ∷ (u ∷ (v ∷ (w ∷ R)))))) c n) k 0 ≡ 192) refl refl refl refl
 
-parts-length : (W : List ℕ) (ps : List Slot) (n : ℕ) → PartsHeld W ps n → length (valuesFrom W ps 0 n) ≡ n
+pub parts-length : (W : List ℕ) (ps : List Slot) (n : ℕ) → PartsHeld W ps n → length (valuesFrom W ps 0 n) ≡ n
 unfolding valuesFrom
 parts-length W ps n h = length-map (take n ps) (λ s. valueOf W (s .r)) ∙ length-take-le n ps (h .full)
 
 module _ (c : ℕ) (gs : List Graph) (n : ℕ) (R S : List ℕ) (t : ℕ) (el : length gs ≡ n) (few : n ≤ 4) (room : 1536 ≤ length R) (l : LaidAll gs 1 0 (fresh R c n) S t) where
   class-is : getD S 0 0 ≡ c
-  class-is = l .low 0 (omega arith) (omega arith) ∙ fresh-class R c n room
+  class-is = l .low 0 (omega arith) (omega arith) ∙ fresh-class R c n (omega arith)
 
   count-is : getD S 1 0 ≡ n
-  count-is = l .low 1 (omega arith) (omega arith) ∙ fresh-count R c n room
+  count-is = l .low 1 (omega arith) (omega arith) ∙ fresh-count R c n (omega arith)
 
   refs-is : take n (four S 0) ≡ lay 1 gs .roots
   refs-is =
@@ -238,7 +238,7 @@ module _ (c : ℕ) (gs : List Graph) (n : ℕ) (R S : List ℕ) (t : ℕ) (el : 
     count = rw count-is few;
     spare = λ k a b.
         let e : 0 + k ≡ k = omega arith in
-        rw e (l .high k (omega (arith, count-is)) (omega arith) ∙ fresh-spare R c n room k (omega arith) b);
+        rw e (l .high k (omega (arith, count-is)) (omega arith) ∙ fresh-spare R c n (omega arith) k (omega arith) b);
   }
 
   pub built : Built c gs S t
@@ -263,7 +263,7 @@ value-whole W (Object b) h = h .held .whole
 value-whole W (Mark k) h = record { top = tt; inner = λ i f r e. absurd (Option·none-ne-some r e) }
 value-whole W Undetermined h = record { top = tt; inner = λ i f r e. absurd (Option·none-ne-some r e) }
 
-all-whole : (W : List ℕ) (n : ℕ) (ps : List Slot) → ((i : ℕ) → i < n → Holds W (getD ps i none-slot .r)) → AllWhole (map (λ s. valueOf W (s .r)) (take n ps))
+pub all-whole : (W : List ℕ) (n : ℕ) (ps : List Slot) → ((i : ℕ) → i < n → Holds W (getD ps i none-slot .r)) → AllWhole (map (λ s. valueOf W (s .r)) (take n ps))
 all-whole W zero ps h = tt
 all-whole W (suc n) [] h = tt
 all-whole W (suc n) (s ∷ ps) h = (value-whole W (s .r) (h 0 (omega arith)), all-whole W n ps (λ i l. h (suc i) (omega arith)))

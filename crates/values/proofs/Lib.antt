@@ -7,9 +7,13 @@ pub mod Rounds
 pub mod Walks
 pub mod Numbers
 pub mod Blocks
+pub mod Colouring
+pub mod Single
 pub mod Selecting
 pub mod Closing
 pub mod Lays
+pub mod Raises
+pub mod Stacks
 pub mod Reports
 pub mod Kept
 pub mod Copying

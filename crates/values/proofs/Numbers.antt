@@ -3,12 +3,13 @@ use Prim.Native.Nat.{ℕ, zero, suc, _+_, _-_, _*_, _%_, _<_, _≤_}
 use native.Mathlib.Omega.{arith}
 use native.Mathlib.Decide.{decLt, ℕ-discrete}
 use mathlib.Core.Path.{_≡_, refl, sym, ap, ap₂, _∙_, subst}
-use mathlib.Core.Bool.{Bool, true, false}
+use mathlib.Core.Bool.{Bool, true, false, cond, true≢false}
 use mathlib.Core.List.{List, [], _∷_, _++_, map}
 use mathlib.Core.Option.{some}
 use lib.Dec.{eqb}
 use lib.ListN.{length, getD, set, take, getElem?, length-map, length-set}
 use lib.Seq.{getD-set-same, getD-set-other, length-take-le, getD-take, take-suc}
+use borrow.Author.Tests.{eq-eqb, ne-eqb}
 use Rattle.cofj.specs.Values.{Ref, obj, mark, undet, Node, node, Graph, graph, rename, renameNode, nodeAt, refsAt, colourOf, colours, isIn, placeIn, visit, visitAll, canon}
 use Rattle.cofj.specs.Unfolding.{InRange, Whole}
 use Rattle.cofj.proofs.Basics.{getD-map-lt}
@@ -20,8 +21,8 @@ use Rattle.cofj.proofs.Numbering.{canonical-root}
 use Rattle.values.specs.Layout.{refOf, nodeIn, nodesIn, Packed, Block, blockIn, countIn, Outside}
 use Rattle.values.specs.Tables.{Filled, copied, Lifted}
 use Rattle.values.specs.Rounds.{Raw}
-use Rattle.values.specs.Walking.{walkRef}
-use Rattle.values.specs.Numbers.{Gathered, Ready, Placed, Has, graphIn}
+use Rattle.values.specs.Walking.{walkRef, markIn, Listed}
+use Rattle.values.specs.Numbers.{numberIn, Gathered, Ready, Placed, Has, graphIn}
 use Rattle.values.proofs.Nodes.{at-nodes, length-nodes, nodes-same, ref-object}
 use Rattle.values.proofs.Turned.{turnRef, changed, lifted-nodes, lifted-packed, turn-rename, node-agree}
 
@@ -105,6 +106,33 @@ place-le c (d ∷ s) = go (eqb c d) (place-le c s)
     go true h = omega arith
     go false h = omega arith
 
+place-out : (c : ℕ) (s : List ℕ) → isIn c s ≡ false → placeIn c s ≡ length s
+unfolding isIn placeIn
+place-out c [] h = refl
+place-out c (d ∷ s) h = go (eqb c d) h (place-out c s)
+  where
+    go : (b : Bool) → (elim b as (λ _. Bool) [ true ↦ true | false ↦ isIn c s ]) ≡ false → (isIn c s ≡ false → placeIn c s ≡ length s)
+        → (elim b as (λ _. ℕ) [ true ↦ 0 | false ↦ suc (placeIn c s) ]) ≡ suc (length s)
+    go true e ih = absurd (true≢false e)
+    go false e ih = ap suc (ih e)
+
+-- the table tells the place
+number-in : (M s : List ℕ) (m c : ℕ) → Listed M s → length s ≡ m → c < 256 → numberIn M m c ≡ placeIn c s
+unfolding numberIn markIn
+number-in M s m c l e h = ap (λ (p : ℕ). cond (eqb p 0) m (p - 1)) (l .entry c h) ∙ go (isIn c s) refl
+  where
+    go : (b : Bool) → isIn c s ≡ b → cond (eqb (cond b (placeIn c s + 1) 0) 0) m (cond b (placeIn c s + 1) 0 - 1) ≡ placeIn c s
+    go true q = rw (ne-eqb (placeIn c s + 1) 0 (λ z. omega arith)) (omega arith)
+    go false q = sym e ∙ sym (place-out c s q)
+
+pub number-met : (T : List ℕ) (m c : ℕ) → ((getD T c 0 ≡ 0) → ⊥) → getD T c 0 - 1 ≡ numberIn T m c
+unfolding numberIn
+number-met T m c h = rw (ne-eqb (getD T c 0) 0 h)
+
+pub number-not : (T : List ℕ) (m c : ℕ) → getD T c 0 ≡ 0 → m ≡ numberIn T m c
+unfolding numberIn
+number-not T m c h = rw (eq-eqb (getD T c 0) 0 h)
+
 -- a graph with an object for its root has one to list
 order-some : (g : Graph) (w : Whole g) (i : ℕ) → g .root ≡ obj i → 1 ≤ length (order g w)
 order-some g w i e = omega (arith, placeIn-spec (colour g w i) (order g w) (subst (Covered g w (order g w)) e (order-root g w)) .0)
@@ -167,7 +195,10 @@ module _ (N : List ℕ) (n : ℕ) (C : List ℕ) (root : ℕ) (W : List ℕ) (ds
       has = λ l. absurd (omega arith);
     }
 
-    module _ (T : List ℕ) (ft : Filled (λ i. placeIn (getD C i 0) (take m O)) n T) (D : List ℕ) (g : Gathered N O m T W (240 * dst) D) (few : m ≤ 32) where
+    module _ (M : List ℕ) (lm : Listed M (take m O)) (T : List ℕ) (fm : Filled (λ i. numberIn M m (getD C i 0)) n T) (D : List ℕ) (g : Gathered N O m T W (240 * dst) D) (few : m ≤ 32) where
+      ft : Filled (λ i. placeIn (getD C i 0) (take m O)) n T
+      ft = record { at = λ i h. fm .at i h ∙ number-in M (take m O) m (getD C i 0) lm size (omega (arith, low i h, rd .raw .few)) }
+
       number-is : (i : ℕ) → i < n → getD T i 0 ≡ number (graphIn N n root) wg i
       number-is i h = ft .at i h ∙ ap₂ placeIn (colour-is i h) order-is
 

@@ -1,18 +1,19 @@
 -- Laws of the walk.
 use Prim.Native.Nat.{ℕ, zero, suc, _+_, _-_, _*_, _<_, _≤_}
 use native.Mathlib.Omega.{arith}
-use native.Mathlib.Decide.{decLt, ℕ-discrete}
+use native.Mathlib.Decide.{ℕ-discrete}
 use native.Mathlib.Numerals.{add-one}
 use mathlib.Core.Path.{_≡_, refl, sym, ap, _∙_}
-use mathlib.Core.Bool.{Bool, true, false}
+use mathlib.Core.Bool.{Bool, true, false, cond, true≢false}
 use mathlib.Core.List.{List, [], _∷_, _++_}
-use lib.Dec.{eqb, ltb}
+use lib.Dec.{eqb}
 use lib.ListN.{length, getD, set, take, drop, length-append, length-take, length-set, drop-of-length-le}
-use lib.Seq.{drop-cons, getD-take, length-take-le, take-suc-set}
-use borrow.Author.Tests.{lt-ltb, le-ltb}
+use lib.Seq.{drop-cons, getD-take, getD-set-same, getD-set-other, length-take-le, take-suc-set}
+use borrow.Author.Tests.{eq-eqb, ne-eqb}
 use Rattle.cofj.specs.Values.{Ref, obj, mark, undet, Node, node, nodeAt, refsAt, colourOf, isIn, placeIn, visit, visitAll}
 use Rattle.values.specs.Layout.{refOf, nodeIn, nodesIn}
-use Rattle.values.specs.Walking.{walkRef, walkFields, Room}
+use Rattle.values.specs.Walking.{walkRef, walkFields, markIn, Listed, Room}
+use Rattle.values.specs.Tables.{Filled}
 use Rattle.values.proofs.Nodes.{ref-object, ref-undet, ref-mark, at-nodes}
 
 -- ---- what is met stays
@@ -42,23 +43,71 @@ pub fields-grow : (N C : List ℕ) (k c f : ℕ) (s : List ℕ) → length s ≤
 unfolding walkFields
 fields-grow N C k c f s = all-grows (λ r t. visit (nodesIn N 0 256) C k r t) (λ r t. grows (nodesIn N 0 256) C k r t) _ s
 
--- ---- a number is there exactly when its place is below the length
-pub in-place : (c : ℕ) (s : List ℕ) → isIn c s ≡ ltb (placeIn c s) (length s)
-unfolding isIn placeIn
-in-place c [] = refl
-in-place c (d ∷ s) = go (eqb c d) (in-place c s)
-  where
-    shift : (a b : ℕ) → ltb (suc a) (suc b) ≡ ltb a b
-    shift a b = pick (decLt a b)
-      where
-        pick : Dec (a < b) → ltb (suc a) (suc b) ≡ ltb a b
-        pick (yes h) = lt-ltb (suc a) (suc b) (omega arith) ∙ sym (lt-ltb a b h)
-        pick (no h) = le-ltb (suc a) (suc b) (omega (arith, h)) ∙ sym (le-ltb a b (omega (arith, h)))
+-- ---- the table of what is met
+pub listed-none : (T : List ℕ) → Filled (λ i. 0) 256 T → Listed T []
+unfolding markIn isIn
+listed-none T f = record { entry = λ c h. f .at c h }
 
-    go : (b : Bool) → isIn c s ≡ ltb (placeIn c s) (length s)
-        → (elim b as (λ _. Bool) [ true ↦ true | false ↦ isIn c s ]) ≡ ltb (elim b as (λ _. ℕ) [ true ↦ 0 | false ↦ suc (placeIn c s) ]) (suc (length s))
-    go true ih = sym (lt-ltb 0 (suc (length s)) (omega arith))
-    go false ih = ih ∙ sym (shift (placeIn c s) (length s))
+in-more : (c d : ℕ) (s : List ℕ) → ((d ≡ c) → ⊥) → markIn d (s ++ (c ∷ [])) ≡ markIn d s
+unfolding markIn isIn placeIn
+in-more c d s h = go s
+  where
+    go : (s : List ℕ) → markIn d (s ++ (c ∷ [])) ≡ markIn d s
+    go [] = rw (ne-eqb d c h, isIn)
+    go (x ∷ s) = pick (eqb d x) (isIn d (s ++ (c ∷ []))) (isIn d s) (go s)
+      where
+        pick : (b p q : Bool) → cond p (placeIn d (s ++ (c ∷ [])) + 1) 0 ≡ cond q (placeIn d s + 1) 0
+            → cond (elim b as (λ _. Bool) [ true ↦ true | false ↦ p ]) ((elim b as (λ _. ℕ) [ true ↦ 0 | false ↦ suc (placeIn d (s ++ (c ∷ []))) ]) + 1) 0
+            ≡ cond (elim b as (λ _. Bool) [ true ↦ true | false ↦ q ]) ((elim b as (λ _. ℕ) [ true ↦ 0 | false ↦ suc (placeIn d s) ]) + 1) 0
+        pick true p q e = refl
+        pick false true true e = omega arith
+        pick false true false e = absurd (omega arith)
+        pick false false true e = absurd (omega arith)
+        pick false false false e = refl
+
+in-last : (c : ℕ) (s : List ℕ) → isIn c s ≡ false → markIn c (s ++ (c ∷ [])) ≡ length s + 1
+unfolding markIn isIn placeIn
+in-last c [] h = rw (eq-eqb c c refl, isIn, placeIn)
+in-last c (x ∷ s) h = pick (eqb c x) h (in-last c s)
+  where
+    pick : (b : Bool) → (elim b as (λ _. Bool) [ true ↦ true | false ↦ isIn c s ]) ≡ false → (isIn c s ≡ false → cond (isIn c (s ++ (c ∷ []))) (placeIn c (s ++ (c ∷ [])) + 1) 0 ≡ length s + 1)
+        → cond (elim b as (λ _. Bool) [ true ↦ true | false ↦ isIn c (s ++ (c ∷ [])) ]) ((elim b as (λ _. ℕ) [ true ↦ 0 | false ↦ suc (placeIn c (s ++ (c ∷ []))) ]) + 1) 0 ≡ suc (length s) + 1
+    pick true e ih = absurd (true≢false e)
+    pick false e ih = go (isIn c (s ++ (c ∷ []))) (ih e)
+      where
+        go : (p : Bool) → cond p (placeIn c (s ++ (c ∷ [])) + 1) 0 ≡ length s + 1 → cond p (suc (placeIn c (s ++ (c ∷ []))) + 1) 0 ≡ suc (length s) + 1
+        go true z = omega arith
+        go false z = absurd (omega arith)
+
+-- a colour is met exactly when its entry is not 0
+mark-in : (c : ℕ) (s : List ℕ) → ((markIn c s ≡ 0) → ⊥) → isIn c s ≡ true
+unfolding markIn
+mark-in c s h = go (isIn c s) refl
+  where
+    go : (b : Bool) → isIn c s ≡ b → isIn c s ≡ true
+    go true e = e
+    go false e = absurd (h (rw e))
+
+mark-out : (c : ℕ) (s : List ℕ) → markIn c s ≡ 0 → isIn c s ≡ false
+unfolding markIn
+mark-out c s h = go (isIn c s) refl
+  where
+    go : (b : Bool) → isIn c s ≡ b → isIn c s ≡ false
+    go true e = absurd (let z : cond true (placeIn c s + 1) 0 ≡ 0 = sym (ap (λ (x : Bool). cond x (placeIn c s + 1) 0) e) ∙ h in omega arith)
+    go false e = e
+
+pub listed-more : (T s : List ℕ) (c m : ℕ) → Listed T s → length s ≡ m → getD T c 0 ≡ 0 → c < 256 → 256 ≤ length T → Listed (set T c (m + 1)) (s ++ (c ∷ []))
+listed-more T s c m l e z h room = record { entry = λ d k. go d k (ℕ-discrete d c) }
+  where
+    go : (d : ℕ) → d < 256 → Dec (d ≡ c) → getD (set T c (m + 1)) d 0 ≡ markIn d (s ++ (c ∷ []))
+    go d k (yes q) = rw q (getD-set-same T c (m + 1) 0 (omega arith) ∙ ap (λ (x : ℕ). x + 1) (sym e) ∙ sym (in-last c s (mark-out c s (sym (l .entry c h) ∙ z))))
+    go d k (no q) = getD-set-other T c d (m + 1) 0 q ∙ l .entry d k ∙ sym (in-more c d s q)
+
+pub new-listed : (T O : List ℕ) (c m : ℕ) → c < 256 → Listed T (take m O) → 256 ≤ length O → suc m ≤ 256 → getD T c 0 ≡ 0 → 256 ≤ length T
+    → Listed (set T c (m + 1)) (take (m + 1) (set O m c))
+new-listed T O c m low lt room small h long =
+    let e : take (m + 1) (set O m c) ≡ take m O ++ (c ∷ []) = rw (add-one m) (take-suc-set O m c (omega arith)) in
+    rw e (listed-more T (take m O) c m lt (length-take-le m O (omega arith)) h low long)
 
 -- ---- one code
 no-visit : (ns : List Node) (cs : List ℕ) (k : ℕ) (r : Ref) (s : List ℕ) → ((i : ℕ) → r ≡ obj i → ⊥) → visit ns cs k r s ≡ s
@@ -87,32 +136,28 @@ module _ (N C O : List ℕ) (k r m : ℕ) where
   unfolding walkRef
   visit-none h = sym (no-visit (nodesIn N 0 256) C k (refOf r) (take m O) (no-object r h))
 
-  module _ (nz : (k ≡ 0) → ⊥) (obj-r : r < 192) (p : ℕ) (ep : p ≡ placeIn (getD C r 0) (take m O)) (room : 256 ≤ length O) (small : suc m ≤ 256) where
-    size : length (take m O) ≡ m
-    size = length-take-le m O (omega arith)
-
-    step : (b : Bool) → ltb p m ≡ b → walkRef N C k r (take m O)
+  module _ (nz : (k ≡ 0) → ⊥) (obj-r : r < 192) (T : List ℕ) (low : getD C r 0 < 256) (lt : Listed T (take m O)) where
+    step : (b : Bool) → isIn (getD C r 0) (take m O) ≡ b → walkRef N C k r (take m O)
         ≡ (elim b as (λ _. List ℕ) [ true ↦ take m O | false ↦ walkFields N C (k - 1) (getD C r 0) 0 (take m O ++ (getD C r 0 ∷ [])) ])
     unfolding walkRef visit walkFields
-    step b e =
+    step b eb =
         let ek : k ≡ suc (k - 1) = omega (arith, nz) in
-        let eb : isIn (getD C r 0) (take m O) ≡ b = in-place (getD C r 0) (take m O) ∙ rw (size, ← ep) e in
         ap (λ (x : Ref). visit (nodesIn N 0 256) C k x (take m O)) (ref-object r obj-r)
         ∙ ap (λ (x : ℕ). visit (nodesIn N 0 256) C x (obj r) (take m O)) ek
         ∙ ap (λ (x : Bool). elim x as (λ _. List ℕ) [ true ↦ take m O | false ↦ visitAll (λ y t. visit (nodesIn N 0 256) C (k - 1) y t) (refsAt (nodesIn N 0 256) (getD C r 0)) (take m O ++ (getD C r 0 ∷ [])) ]) eb
 
-    pub visit-seen : p < m → take m O ≡ walkRef N C k r (take m O)
-    visit-seen h = sym (step true (lt-ltb p m h))
+    pub visit-seen : ((getD T (getD C r 0) 0 ≡ 0) → ⊥) → take m O ≡ walkRef N C k r (take m O)
+    visit-seen h = sym (step true (mark-in (getD C r 0) (take m O) (λ z. h (lt .entry (getD C r 0) low ∙ z))))
 
-    module _ (h : m ≤ p) where
+    module _ (room : 256 ≤ length O) (small : suc m ≤ 256) (h : getD T (getD C r 0) 0 ≡ 0) where
       put : take (m + 1) (set O m (getD C r 0)) ≡ take m O ++ (getD C r 0 ∷ [])
       put = rw (add-one m) (take-suc-set O m (getD C r 0) (omega arith))
 
       pub visit-same : walkRef N C k r (take m O) ≡ walkFields N C (k - 1) (getD C r 0) 0 (take (m + 1) (set O m (getD C r 0)))
-      visit-same = step false (le-ltb p m h) ∙ ap (walkFields N C (k - 1) (getD C r 0) 0) (sym put)
+      visit-same = step false (mark-out (getD C r 0) (take m O) (sym (lt .entry (getD C r 0) low) ∙ h)) ∙ ap (walkFields N C (k - 1) (getD C r 0) 0) (sym put)
 
-      pub visit-new : (t : ℕ) (O2 : List ℕ) → take t O2 ≡ walkFields N C (k - 1) (getD C r 0) 0 (take (m + 1) (set O m (getD C r 0))) → take t O2 ≡ walkRef N C k r (take m O)
-      visit-new t O2 e = e ∙ sym visit-same
+      pub visit-new : (s : List ℕ) → s ≡ walkFields N C (k - 1) (getD C r 0) 0 (take (m + 1) (set O m (getD C r 0))) → s ≡ walkRef N C k r (take m O)
+      visit-new s e = e ∙ sym visit-same
 
       pub new-small : length (walkRef N C k r (take m O)) ≤ 255 → length (walkFields N C (k - 1) (getD C r 0) 0 (take (m + 1) (set O m (getD C r 0)))) ≤ 255
       new-small l = rw (← visit-same) l

@@ -5,5 +5,6 @@ pub mod Walking
 pub mod Numbers
 pub mod Operations
 pub mod Laying
+pub mod Stacking
 pub mod Reporting
 pub mod Copied

@@ -1,12 +1,18 @@
 -- The objects of a graph, merged and numbered, in a block.
-use Prim.Native.Nat.{ℕ, _+_, _*_, _≤_, _<_}
+use Prim.Native.Nat.{ℕ, _+_, _-_, _*_, _≤_, _<_}
 use mathlib.Core.Path.{_≡_}
+use mathlib.Core.Bool.{cond}
 use mathlib.Core.List.{List}
+use lib.Dec.{eqb}
 use lib.ListN.{length, getD, take}
 use Rattle.cofj.specs.Values.{Graph, graph, obj, colours, canon}
 use Rattle.values.specs.Layout.{nodesIn, Block, blockIn, Outside}
 use Rattle.values.specs.Tables.{copied}
 use Rattle.values.specs.Rounds.{Raw}
+
+-- an object's number by the table of its colour's place, and m for a colour that is not in it
+unfoldable pub numberIn : List ℕ → ℕ → ℕ → ℕ
+numberIn T m c = cond (eqb (getD T c 0) 0) m (getD T c 0 - 1)
 
 -- objects of N, as O lists them, renamed by T, from a place of D on; the other bytes are D₀'s
 pub record Gathered (N O : List ℕ) (m : ℕ) (T D₀ : List ℕ) (to : ℕ) (D : List ℕ) : Type 0 where

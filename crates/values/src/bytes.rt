@@ -56,3 +56,15 @@ pub fn clear(n: u8, to: &mut [u8])
         i += 1;
     }
 }
+
+// 256 zeros.
+pub fn clear_all(to: &mut [u8])
+    requires { ⌜ 256 ≤ length (now to) ⌝ }
+    ensures { λ _. ⌜ Filled (λ i. 0) 256 (now (to .exit)) ⌝ }
+{
+    let mut i: usize = 0;
+    while i < 256 {
+        to[i] = 0;
+        i += 1;
+    }
+}

@@ -8,6 +8,8 @@ pub mod number; // the objects, numbered in that order, in a block
 pub mod copies; // a value copied as it stands
 pub mod value; // values compared, selected from, closed
 pub mod lay; // values laid side by side below a new object
+pub mod raise; // objects moved by one place
+pub mod over; // a new object over one value
 pub mod make; // a new object
 pub mod report; // the report of a value
 

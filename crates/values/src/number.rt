@@ -1,22 +1,33 @@
 // The objects of a graph, merged by colour and numbered in the order met, in a block: its value.
+use crate::bytes::clear_all;
 use crate::lift::lift;
-use crate::walk::place_in;
 use crate::walk::visit;
 ghost use mathlib.Core.Path.{_≡_};
 ghost use Prim.Native.Nat.{ℕ, _+_, _*_, _<_, _≤_};
-ghost use lib.ListN.{length, getD, take};
-ghost use Rattle.cofj.specs.Values.{placeIn};
+ghost use lib.ListN.{length, getD};
 ghost use Rattle.values.specs.Tables.{Filled};
-ghost use Rattle.values.specs.Numbers.{Gathered, Ready, Placed};
+ghost use Rattle.values.specs.Numbers.{numberIn, Gathered, Ready, Placed};
 
-// The number of each of n objects: the place of its colour in the order.
-pub fn numbers(cs: &[u8], n: u8, order: &[u8], m: u8, to: &mut [u8])
-    requires { ⌜ (256 ≤ length (now cs)) × (256 ≤ length (now order)) × (256 ≤ length (now to)) ⌝ }
-    ensures { λ _. ⌜ Filled (λ i. placeIn (getD (now (cs .entry)) i 0) (take m (now (order .entry)))) n (now (to .exit)) ⌝ }
+// The number of an object of colour c: the colour's place in the order, which the table tells; m if it is not met.
+pub fn number_of(met: &[u8], c: u8, m: u8) -> u8
+    requires { ⌜ 256 ≤ length (now met) ⌝ }
+    ensures { λ r. ⌜ r ≡ numberIn (now (met .entry)) m c ⌝ }
+{
+    let p = met[c as usize];
+    if p == 0 {
+        return m;
+    }
+    p - 1
+}
+
+// The number of each of n objects.
+pub fn numbers(cs: &[u8], n: u8, met: &[u8], m: u8, to: &mut [u8])
+    requires { ⌜ (256 ≤ length (now cs)) × (256 ≤ length (now met)) × (256 ≤ length (now to)) ⌝ }
+    ensures { λ _. ⌜ Filled (λ i. numberIn (now (met .entry)) m (getD (now (cs .entry)) i 0)) n (now (to .exit)) ⌝ }
 {
     let mut i: u8 = 0;
     while i < n {
-        to[i as usize] = place_in(order, m, cs[i as usize]);
+        to[i as usize] = number_of(met, cs[i as usize], m);
         i += 1;
     }
 }
@@ -48,14 +59,17 @@ pub fn put(nodes: &[u8], n: u8, cs: &[u8], root: u8, work: &mut [u8], dst: usize
     requires { ⌜ Ready (now nodes) n (now cs) root (now work) dst ⌝ }
     ensures { λ r. ⌜ Placed (now (nodes .entry)) n root (now (work .entry)) dst (now (work .exit)) r ⌝ }
 {
+    let end = 240 * dst + 192;
     let mut order = [0u8; 256];
-    let m = visit(nodes, cs, n + 1, root, &mut order, 0);
+    let mut met = [0u8; 256];
+    clear_all(&mut met);
+    let m = visit(nodes, cs, n + 1, root, &mut order, &mut met, 0);
     if 32 < m {
         return m;
     }
     let mut table = [0u8; 256];
-    numbers(cs, n, &order, m, &mut table);
+    numbers(cs, n, &met, m, &mut table);
     gather(nodes, &order, m, &table, work, 240 * dst);
-    work[240 * dst + 192] = m;
+    work[end] = m;
     m
 }

@@ -3,51 +3,47 @@ use Rattle.values.proofs.make.make.Statement.{statement}
 use Rattle.values.proofs.make.make.Tie as tie
 use Rattle.values.proofs.make.make.Reads as reads
 use Rattle.values.proofs.make.make.Lts as lts
-use Rattle.values.proofs.lay.build.Reads as build-reads
-use Rattle.values.proofs.make.colour.Reads as colour-reads
-use Rattle.values.proofs.number.put.Reads as put-reads
-use Rattle.values.proofs.Lays as laws
+use Rattle.values.proofs.make.alike.Reads as alike-reads
+use Rattle.values.proofs.make.first_object.Reads as first-object-reads
+use Rattle.values.proofs.make.make_laid.Reads as make-laid-reads
+use Rattle.values.proofs.over.make_alone.Reads as make-alone-reads
+use Rattle.values.proofs.over.make_over.Reads as make-over-reads
+use mathlib.Core.Path.{refl}
+use Rattle.values.proofs.Stacks as laws
 
-colour-requires : tie.Need-colour-requires
-colour-requires c κs =
-    let b = c .before .before .before in
-    let st = b .before .before .before .before in
-    (laws.make-raw _ _ _ _ _ _ (st .pre .0) (b .build .ensures) (search needs), search needs)
+make-alone-requires : tie.Need-make-alone-requires
+make-alone-requires c κs = (search needs, search needs, search laws.leaves-all, search needs)
 
-put-requires : tie.Need-put-requires
-put-requires c κs =
-    let co = c .before .before .before .before in
-    let b = co .before .before .before .before in
-    let st = b .before .before .before .before in
-    laws.make-ready _ _ _ _ _ _ (st .pre .0) (b .build .ensures) (co .colour .last .1 .1 .0) _ (search needs) (co .colour .ensures) (search needs) (st .pre .2)
+alike-requires : tie.Need-alike-requires
+alike-requires c κs = (search needs, search needs, search laws.alike-block)
 
-returns : tie.Need-returns
-returns c =
-    let p = c .before .before .before in
-    let b = p .before .before .before .before .before .before .before .before .before in
-    let st = b .before .before .before .before in
-    laws.made-large _ _ _ _ _ _ (st .pre .0) (b .build .ensures) _ _ _ (p .put .ensures) (c .if1 .taken)
-
-returns-2 : tie.Need-returns-2
-returns-2 c =
-    let p = c .before .before .before in
-    let b = p .before .before .before .before .before .before .before .before .before in
-    let st = b .before .before .before .before in
-    laws.made-value _ _ _ _ _ _ (st .pre .0) (b .build .ensures) _ _ _ (p .put .ensures) (c .if1 .left)
+make-over-requires : tie.Need-make-over-requires
+make-over-requires c κs =
+    let al = c .before .before in
+    let v = al .before .before .before in
+    let e = v .before .before .before in
+    let st = e .before .before .before in
+    (search needs, search needs, laws.alike-ready _ _ _ _ _ _ _ (st .pre .0) (e .if1 .left) refl (v .v .given .1) (al .alike .ensures) (c .before .if2 .taken), search needs)
 
 pub make-spec : {M : Type 1} → statement M
 make-spec =
     tie.close
     (tie.spec
+    (λ c κs. search needs)
+    make-alone-requires
+    (λ c. search needs)
+    (λ c. search needs)
+    (λ c. search needs)
+    (λ c. search needs)
+    (λ c. search needs)
     (λ c. search needs)
     (λ c κs. search needs)
     (λ c. search needs)
     (λ c. search needs)
-    colour-requires
+    alike-requires
+    make-over-requires
     (λ c. search needs)
     (λ c. search needs)
-    put-requires
+    (λ c κs. search needs)
     (λ c. search needs)
-    returns
-    (λ c. search needs)
-    returns-2)
+    (λ c. search needs))

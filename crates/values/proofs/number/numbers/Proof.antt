@@ -2,21 +2,21 @@ use Rattle.values.proofs.number.numbers.Statement.{statement}
 use Rattle.values.proofs.number.numbers.Tie as tie
 use Rattle.values.proofs.number.numbers.Reads as reads
 use Rattle.values.proofs.number.numbers.Lts as lts
-use Rattle.values.proofs.walk.place_in.Reads as place-in-reads
+use Rattle.values.proofs.number.number_of.Reads as number-of-reads
 use borrow.Author.Needs.{needs}
 use mathlib.Core.Path.{_≡_}
 use Prim.Native.Nat.{_≤_, _-_}
 use native.Mathlib.Omega.{arith}
-use lib.ListN.{length, length-set, getD, take}
-use Rattle.cofj.specs.Values.{placeIn}
+use lib.ListN.{length, length-set, getD}
 use Rattle.values.specs.Tables.{Filled}
+use Rattle.values.specs.Numbers.{numberIn}
 use Rattle.values.proofs.Runs as laws
 
 abbrev Inv-loop : tie.InvT-loop
-Inv-loop cs n order m to₀ i₀ to i = (i ≤ n) × (length to ≡ length to₀) × Filled (λ q. placeIn (getD cs q 0) (take m order)) i to
+Inv-loop cs n met m to₀ i₀ to i = (i ≤ n) × (length to ≡ length to₀) × Filled (λ q. numberIn met m (getD cs q 0)) i to
 
 abbrev μ-loop : tie.MeasureT-loop
-μ-loop cs n order m to₀ i₀ to i = n - i
+μ-loop cs n met m to₀ i₀ to i = n - i
 
 loop-holds : tie.Need-loop-holds Inv-loop μ-loop
 loop-holds c = (search needs, search needs, laws.filled-none _ _)

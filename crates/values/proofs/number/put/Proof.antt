@@ -3,34 +3,32 @@ use Rattle.values.proofs.number.put.Statement.{statement}
 use Rattle.values.proofs.number.put.Tie as tie
 use Rattle.values.proofs.number.put.Reads as reads
 use Rattle.values.proofs.number.put.Lts as lts
+use Rattle.values.proofs.bytes.clear_all.Reads as clear-all-reads
 use Rattle.values.proofs.number.gather.Reads as gather-reads
 use Rattle.values.proofs.number.numbers.Reads as numbers-reads
 use Rattle.values.proofs.walk.visit.Reads as visit-reads
 use native.Mathlib.Omega.{arith}
+use Rattle.values.proofs.Walks as walks
 use Rattle.values.proofs.Numbers as laws
 
 visit-requires : tie.Need-visit-requires
-visit-requires c κs = (search needs, search laws.walk-small)
+visit-requires c κs = (search needs, search walks.listed-none, search laws.walk-small)
 
 returns : tie.Need-returns
-returns c =
-    let v = c .before .before in
-    let st = v .before .before .before .before .before in
-    laws.put-large _ _ _ _ _ _ (st .pre) (v .visit .last .1 .1 .1 .1 .0) (v .visit .result) (v .visit .ensures) (search needs) (omega (arith, v .visit .ok)) (c .if1 .taken)
+returns c = let v = c .before .before .before in let st = v .before .before .before .before .before .before .before .before .before in laws.put-large _ _ _ _ _ _ (st .pre) (v .visit .last .1 .1 .1 .1 .0) (v .visit .result) (v .visit .ensures .0) (search needs) (omega (arith, v .visit .ok)) (c .if1 .taken)
 
 returns-2 : tie.Need-returns-2
-returns-2 c =
-    let g = c .before .before in
-    let nu = g .before .before .before .before .before in
-    let e = nu .before .before .before in
-    let v = e .before .before in
-    let st = v .before .before .before .before .before in
-    laws.put-done _ _ _ _ _ _ (st .pre) (v .visit .last .1 .1 .1 .1 .0) (v .visit .result) (v .visit .ensures) (search needs) (omega (arith, v .visit .ok)) _ (nu .numbers .ensures) _ (g .gather .ensures) (e .if1 .left)
+returns-2 c = let g = c .before .before in let nu = g .before .before .before .before .before in let e = nu .before .before .before in let v = e .before .before .before in let st = v .before .before .before .before .before .before .before .before .before in laws.put-done _ _ _ _ _ _ (st .pre) (v .visit .last .1 .1 .1 .1 .0) (v .visit .result) (v .visit .ensures .0) (search needs) (omega (arith, v .visit .ok)) _ (v .visit .ensures .1) _ (nu .numbers .ensures) _ (g .gather .ensures) (e .if1 .left)
 
 pub put-spec : {M : Type 1} → statement M
 put-spec =
     tie.close
     (tie.spec
+    (λ c. search needs)
+    (λ c. search needs)
+    (λ c. search needs)
+    (λ c κs. search needs)
+    (λ c. search needs)
     (λ c. search needs)
     (λ c. search needs)
     visit-requires
@@ -42,8 +40,6 @@ put-spec =
     (λ c. search needs)
     (λ c. search needs)
     (λ c κs. search needs)
-    (λ c. search needs)
-    (λ c. search needs)
     (λ c. search needs)
     (λ c. search needs)
     returns-2)
