@@ -83,6 +83,9 @@ module _ (W : List ℕ) (r : ValueRef) (sp : ℕ) where
     pub bring-block : Block W b
     bring-block = object-in W r b w e
 
+    pub bring-first : 0 < countIn W b
+    bring-first = let f = object-in W r b w e .filled in omega arith
+
     pub bring-move : (W′ : List ℕ) (o : ValueRef) → Moved W (graph (obj 0) (blockIn W b .nodes)) sp W′ o → Brought W r sp W′ o
     unfolding blockIn
     bring-move W′ o m = record {

@@ -16,4 +16,3 @@ pub mod Raises
 pub mod Stacks
 pub mod Reports
 pub mod Kept
-pub mod Copying

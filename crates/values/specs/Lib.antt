@@ -7,4 +7,3 @@ pub mod Operations
 pub mod Laying
 pub mod Stacking
 pub mod Reporting
-pub mod Copied

@@ -5,7 +5,6 @@ pub mod lift; // objects copied, with their codes turned
 pub mod colours; // the objects' colours, by rounds
 pub mod walk; // the order in which they are met
 pub mod number; // the objects, numbered in that order, in a block
-pub mod copies; // a value copied as it stands
 pub mod value; // values compared, selected from, closed
 pub mod lay; // values laid side by side below a new object
 pub mod raise; // objects moved by one place

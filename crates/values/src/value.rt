@@ -4,8 +4,6 @@ use crate::ValueRef;
 use crate::bytes::count_up;
 use crate::bytes::same;
 use crate::colours::settle;
-use crate::copies::copy_out;
-use crate::copies::occurs;
 use crate::lift::lift;
 use crate::number::put;
 ghost use mathlib.Core.Path.{_≡_};
@@ -127,8 +125,8 @@ pub fn tint(work: &[u8], b: usize, raw: &[u8], n: u8, cs: &mut [u8])
     settle(raw, n, cs, &mut looks, &mut next);
 }
 
-// X = u for the value in block b, to block `dst`, where X may occur.
-pub fn bind_block(work: &mut [u8], x: u8, b: usize, dst: usize) -> ValueRef
+// X = u for the value in block b, to block `dst`.
+pub fn close_block(work: &mut [u8], x: u8, b: usize, dst: usize) -> ValueRef
     requires { ⌜ Block (now work) b × (x < 63) × (240 * dst + 240 ≤ length (now work)) ⌝ }
     ensures { λ r. ⌜ Moved (now (work .entry)) (boundIn (now (work .entry)) b x) dst (now (work .exit)) r ⌝ }
 {
@@ -138,17 +136,6 @@ pub fn bind_block(work: &mut [u8], x: u8, b: usize, dst: usize) -> ValueRef
     tint(work, b, &raw, n, &mut ids);
     put(&raw, n, &ids, 0, work, dst);
     ValueRef::Object(dst)
-}
-
-// X = u for the value in block b, to block `dst`: u itself where X does not occur.
-pub fn close_block(work: &mut [u8], x: u8, b: usize, dst: usize) -> ValueRef
-    requires { ⌜ Block (now work) b × (x < 63) × (240 * dst + 240 ≤ length (now work)) ⌝ }
-    ensures { λ r. ⌜ Moved (now (work .entry)) (boundIn (now (work .entry)) b x) dst (now (work .exit)) r ⌝ }
-{
-    if occurs(work, b, 193 + x) {
-        return bind_block(work, x, b, dst);
-    }
-    copy_out(work, b, dst)
 }
 
 // X = u, to block `dst` if it is an object.

@@ -3,6 +3,7 @@ use Rattle.evaluator.proofs.bring.bring.Statement.{statement}
 use Rattle.evaluator.proofs.bring.bring.Tie as tie
 use Rattle.evaluator.proofs.bring.bring.Reads as reads
 use Rattle.evaluator.proofs.bring.bring.Lts as lts
+use Rattle.values.proofs.value.move_out.Reads as move-out-reads
 use Rattle.evaluator.proofs.LeafLaws as laws
 
 returns : tie.Need-returns
@@ -11,8 +12,8 @@ returns c = search laws.bring-none
 returns-2 : tie.Need-returns-2
 returns-2 c = search laws.bring-stay
 
-copy-out-requires : tie.Need-copy-out-requires
-copy-out-requires c κs = (search laws.bring-block, search needs)
+move-out-requires : tie.Need-move-out-requires
+move-out-requires c κs = (search laws.bring-block, search laws.bring-first, search needs)
 
 returns-3 : tie.Need-returns-3
 returns-3 c = search laws.bring-move
@@ -24,6 +25,6 @@ bring-spec =
     (λ c. search needs)
     returns
     returns-2
-    copy-out-requires
+    move-out-requires
     (λ c. search needs)
     returns-3)

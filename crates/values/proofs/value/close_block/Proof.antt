@@ -3,23 +3,40 @@ use Rattle.values.proofs.value.close_block.Statement.{statement}
 use Rattle.values.proofs.value.close_block.Tie as tie
 use Rattle.values.proofs.value.close_block.Reads as reads
 use Rattle.values.proofs.value.close_block.Lts as lts
-use Rattle.values.proofs.copies.copy_out.Reads as copy-out-reads
-use Rattle.values.proofs.copies.occurs.Reads as occurs-reads
-use Rattle.values.proofs.value.bind_block.Reads as bind-block-reads
-use Rattle.values.proofs.Copying as laws
+use Rattle.values.proofs.number.put.Reads as put-reads
+use Rattle.values.proofs.value.take_up.Reads as take-up-reads
+use Rattle.values.proofs.value.tint.Reads as tint-reads
+use Rattle.values.proofs.Closing as laws
 
-returns-2 : tie.Need-returns-2
-returns-2 c = search laws.close-same
+tint-requires : tie.Need-tint-requires
+tint-requires c κs =
+    let t = c .before .before .before .before .before in
+    let st = t .before .before .before .before .before in
+    laws.bound-ready _ _ (st .args .x) (st .pre .0) _ _ _ _ (t .take-up .ensures) (search needs) (search needs)
+
+put-requires : tie.Need-put-requires
+put-requires c κs =
+    let ti = c .before .before .before .before in
+    let t = ti .before .before .before .before .before .before in
+    let st = t .before .before .before .before .before in
+    laws.close-ready _ _ (st .args .x) (st .pre .0) _ _ _ _ (t .take-up .ensures) (search needs) (ti .tint .last .1 .1 .1 .1 .0) _ (ti .tint .ensures) (search needs) (st .pre .2)
+
+returns : tie.Need-returns
+returns c = search laws.close-moved
 
 pub close-block-spec : {M : Type 1} → statement M
 close-block-spec =
     tie.close
     (tie.spec
     (λ c. search needs)
-    (λ c κs. search needs)
-    (λ c κs. search needs)
     (λ c. search needs)
     (λ c. search needs)
     (λ c κs. search needs)
     (λ c. search needs)
-    returns-2)
+    (λ c. search needs)
+    tint-requires
+    (λ c. search needs)
+    (λ c. search needs)
+    put-requires
+    (λ c. search needs)
+    returns)
