@@ -116,7 +116,7 @@ pub taken : (W : List ℕ) (b hot : ℕ) (I R₀ R : List ℕ) → Filled (λ i.
 unfolding countIn
 taken W b hot I R₀ R f l = record { count = refl; ids = f; copy = l }
 
-nodes-id : (ns : List Node) → map (renameNode (λ i. i)) ns ≡ ns
+pub nodes-id : (ns : List Node) → map (renameNode (λ i. i)) ns ≡ ns
 nodes-id [] = refl
 nodes-id (x ∷ xs) = ap₂ {C = List Node} _∷_ (node-id x) (nodes-id xs)
 

@@ -8,30 +8,21 @@ use mathlib.Core.Option.{some}
 use lib.Dec.{eqb}
 use lib.ListN.{length, getD, take, getElem?, length-map}
 use borrow.Author.Tests.{eq-eqb, ne-eqb, eqb-true, eqb-false}
-use Rattle.cofj.specs.Values.{Ref, obj, mark, undet, Node, node, Graph, graph, refsAt, colours, canon, bind, close, eqNats, markOf, undetermined}
+use Rattle.cofj.specs.Values.{Ref, obj, mark, undet, Node, node, Graph, graph, refsAt, colours, canon, bind, close, markOf, undetermined}
 use Rattle.cofj.specs.Unfolding.{InRange, Whole}
-use Rattle.cofj.proofs.Basics.{eqNats-true}
 use Rattle.cofj.proofs.Canon.{canon-length}
 use Rattle.cofj.proofs.Operations.{boundNodes, boundNode, bound-whole}
 use Rattle.values.specs.declared.ValueRef.{ValueRef}
 use Rattle.values.specs.declared.ValueRef.the-variants.{Object, Mark, Undetermined}
-use Rattle.values.specs.Layout.{refOf, nodesIn, part, Block, blockIn, countIn, valueOf, Holds, HeldBy}
+use Rattle.values.specs.Layout.{refOf, nodesIn, Block, blockIn, countIn, valueOf, Holds, HeldBy}
 use Rattle.values.specs.Rounds.{Raw}
 use Rattle.values.specs.Numbers.{Ready, Placed, Has, graphIn}
-use Rattle.values.specs.Operations.{Taken, Gives, Moved, Bound, boundIn}
-use Rattle.values.proofs.Nodes.{length-nodes, nodes-of-parts, ref-object, ref-undet, ref-mark}
+use Rattle.values.specs.Operations.{Taken, Gives, Moved, boundIn}
+use Rattle.values.proofs.Nodes.{length-nodes, ref-object, ref-undet, ref-mark}
 use Rattle.values.proofs.Lifts.{turn-object, turn-hot, turn-other}
 use Rattle.values.proofs.Turned.{turnRef, changed, nodes-agree}
-use Rattle.values.proofs.Blocks.{inner-in, own-colours, taken-nodes, taken-raw}
+use Rattle.values.proofs.Blocks.{inner-in, taken-nodes, taken-raw}
 use Rattle.values.proofs.Selecting.{unchanged}
-
--- ---- objects that no mark was bound in keep their colours
-pub tint-same : (W : List ℕ) (b : ℕ) (R : List ℕ) (n : ℕ) (C : List ℕ) (r : Bool) → Bound W b R n C → r ≡ eqNats (part W (240 * b) (6 * n)) (part R 0 (6 * n)) → r ≡ true
-    → take n C ≡ colours (nodesIn R 0 n)
-unfolding blockIn
-tint-same W b R n C r bd e t =
-    let en : nodesIn W (240 * b) n ≡ nodesIn R 0 n = nodes-of-parts W R n (240 * b) 0 (omega (arith, bd .block .room, bd .block .small, bd .count)) (omega (arith, bd .raw .room, bd .raw .few)) (eqNats-true _ _ (sym e ∙ t)) in
-    own-colours W b (bd .block) (nodesIn R 0 n) n C (sym en ∙ ap (nodesIn W (240 * b)) (bd .count)) (bd .count) (bd .ids) (bd .long)
 
 -- ---- the table and the turned code bind a mark
 turn-bind : (I : List ℕ) (n x : ℕ) → n ≤ 192 → ((i : ℕ) → i < n → getD I i 0 ≡ i) → (r : Ref) → InRange n r → turnRef I (193 + x) r ≡ bind x (obj 0) r
@@ -62,12 +53,12 @@ module _ (W : List ℕ) (b x : ℕ) (bk : Block W b) (I R₀ R : List ℕ) (n : 
   whole-raw = record { top = tt; inner = λ i k r e. subst (λ (ns : List Node). InRange (length ns) r) (sym bound-nodes) (whole-bound .inner i k r (subst (λ (ns : List Node). getElem? (refsAt ns i) k ≡ some r) bound-nodes e)) }
 
   module _ (lr : 1536 ≤ length R₀) where
-    pub bound-ready : 256 ≤ length I → Bound W b R n I
-    bound-ready li = record { block = bk; count = tk .count; raw = taken-raw W b bk (193 + x) I R₀ R n tk (λ z. omega arith) lr whole-raw; long = li; ids = tk .ids }
+    pub bound-raw : Raw R n
+    bound-raw = taken-raw W b bk (193 + x) I R₀ R n tk (λ z. omega arith) lr whole-raw
 
     pub close-ready : (C : List ℕ) (dst : ℕ) → take n C ≡ colours (nodesIn R 0 n) → 256 ≤ length C → 240 * dst + 240 ≤ length W → Ready R n C 0 W dst
     close-ready C dst e lc room = record {
-      raw = taken-raw W b bk (193 + x) I R₀ R n tk (λ z. omega arith) lr whole-raw;
+      raw = bound-raw;
       long = lc;
       coloured = e;
       inside = omega (arith, tk .count, bk .filled);

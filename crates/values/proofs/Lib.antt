@@ -11,6 +11,7 @@ pub mod Colouring
 pub mod Single
 pub mod Selecting
 pub mod Closing
+pub mod Copies
 pub mod Lays
 pub mod Raises
 pub mod Stacks

@@ -5,7 +5,7 @@ use mathlib.Core.Path.{_≡_}
 use mathlib.Core.List.{List, map}
 use mathlib.Core.Option.{Option, none, some}
 use lib.Dec.{eqb}
-use lib.ListN.{length}
+use lib.ListN.{length, getD}
 use Rattle.cofj.specs.Values.{Graph, graph, obj, node, bind, canon, select, close}
 use Rattle.values.specs.declared.ValueRef.{ValueRef}
 use Rattle.values.specs.declared.ValueRef.the-variants.{Object, Mark, Undetermined}
@@ -13,7 +13,6 @@ use Rattle.values.specs.declared.Selected.{Selected}
 use Rattle.values.specs.declared.Selected.the-variants.{Value, Stuck}
 use Rattle.values.specs.Layout.{countIn, blockIn, Block, valueOf, Holds, Outside}
 use Rattle.values.specs.Tables.{Filled, Lifted}
-use Rattle.values.specs.Rounds.{Raw}
 
 -- the objects of block b, copied with one code turned
 pub record Taken (W : List ℕ) (b hot : ℕ) (I R₀ R : List ℕ) (n : ℕ) : Type 0 where
@@ -38,13 +37,12 @@ pub record Gives (W : List ℕ) (dst : ℕ) (W′ : List ℕ) (r : ValueRef) (v 
 abbrev pub Moved : List ℕ → Graph → ℕ → List ℕ → ValueRef → Type 0
 Moved W g dst W′ r = Gives W dst W′ r (canon g)
 
--- the objects of block b with some mark bound, in `R`, and 0, 1, .. for their colours so far
-pub record Bound (W : List ℕ) (b : ℕ) (R : List ℕ) (n : ℕ) (C : List ℕ) : Type 0 where
-  pub block : Block W b
-  pub count : n ≡ countIn W b
-  pub raw : Raw R n
-  pub long : 256 ≤ length C
-  pub ids : Filled (λ i. 0 + i) n C
+-- the first q bytes of block b are in block dst; the other bytes are W's
+pub record Copying (W : List ℕ) (b dst q : ℕ) (D : List ℕ) : Type 0 where
+  pub same : length D ≡ length W
+  pub here : (k : ℕ) → k < q → getD D (240 * dst + k) 0 ≡ getD W (240 * b + k) 0
+  pub below : (p : ℕ) → p < 240 * dst → getD D p 0 ≡ getD W p 0
+  pub above : (p : ℕ) → 240 * dst + q ≤ p → getD D p 0 ≡ getD W p 0
 
 -- a code that is no object's
 abbrev pub refIn : ℕ → ValueRef

@@ -63,3 +63,13 @@ pub fn settle(nodes: &[u8], n: u8, cs: &mut [u8], looks: &mut [u8], next: &mut [
         k -= 1;
     }
 }
+
+// The colours of n objects, with scratch of its own.
+pub fn colour(raw: &[u8], n: u8, cs: &mut [u8])
+    requires { ⌜ Raw (now raw) n × (256 ≤ length (now cs)) ⌝ }
+    ensures { λ _. ⌜ take n (now (cs .exit)) ≡ colours (nodesIn (now (raw .entry)) 0 n) ⌝ }
+{
+    let mut looks = [0u8; 1536];
+    let mut next = [0u8; 256];
+    settle(raw, n, cs, &mut looks, &mut next);
+}

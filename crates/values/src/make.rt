@@ -2,7 +2,7 @@
 use crate::Made;
 use crate::Slot;
 use crate::ValueRef;
-use crate::colours::settle;
+use crate::colours::colour;
 use crate::lay::build;
 use crate::number::put;
 use crate::over::make_alone;
@@ -16,16 +16,6 @@ ghost use Rattle.values.specs.Layout.{nodesIn, Block, Holds};
 ghost use Rattle.values.specs.Rounds.{Raw};
 ghost use Rattle.values.specs.Laying.{PartsHeld, valuesFrom, MadeIs};
 ghost use Rattle.values.specs.Stacking.{isObject, Stands, Shared, First};
-
-// The colours of n objects, with scratch of its own.
-pub fn colour(raw: &[u8], n: u8, cs: &mut [u8])
-    requires { ⌜ Raw (now raw) n × (256 ≤ length (now cs)) ⌝ }
-    ensures { λ _. ⌜ take n (now (cs .exit)) ≡ colours (nodesIn (now (raw .entry)) 0 n) ⌝ }
-{
-    let mut looks = [0u8; 1536];
-    let mut next = [0u8; 256];
-    settle(raw, n, cs, &mut looks, &mut next);
-}
 
 // The parts' objects laid side by side, and equal ones found by rounds.
 pub fn make_laid(work: &mut [u8], c: u8, parts: [Slot; 4], n: u8, dst: usize) -> Made

@@ -2,16 +2,18 @@
 use crate::Selected;
 use crate::ValueRef;
 use crate::bytes::count_up;
+use crate::bytes::has;
 use crate::bytes::same;
-use crate::colours::settle;
+use crate::colours::colour;
 use crate::lift::lift;
 use crate::number::put;
 ghost use mathlib.Core.Path.{_≡_};
 ghost use Prim.Native.Nat.{ℕ, _+_, _*_, _<_, _≤_};
-ghost use lib.ListN.{length, take};
-ghost use Rattle.cofj.specs.Values.{eqGraph, graph, obj, colours};
-ghost use Rattle.values.specs.Layout.{Block, blockIn, countIn, nodesIn, Holds, valueOf};
-ghost use Rattle.values.specs.Operations.{Taken, Moved, Gives, Bound, Chosen, Leaf, boundIn, closeOf};
+ghost use lib.ListN.{length};
+ghost use Rattle.cofj.specs.Values.{eqGraph, graph, obj};
+ghost use Rattle.values.specs.Layout.{Block, blockIn, countIn, Holds, valueOf};
+ghost use Rattle.values.specs.Operations.{Taken, Moved, Gives, Chosen, Leaf, boundIn, closeOf};
+ghost use Rattle.values.specs.declared.ValueRef.the-variants.{Object};
 
 // Whether blocks i and j hold one value.
 pub fn same_blocks(work: &[u8], i: usize, j: usize) -> bool
@@ -112,29 +114,44 @@ pub fn select(work: &mut [u8], r: ValueRef, f: u8, dst: usize) -> Selected
     select_block(work, b, f, dst)
 }
 
-// The colours of the n objects in `raw`, in place of 0, 1, ..: those of block b need no rounds.
-pub fn tint(work: &[u8], b: usize, raw: &[u8], n: u8, cs: &mut [u8])
-    requires { ⌜ Bound (now work) b (now raw) n (now cs) ⌝ }
-    ensures { λ _. ⌜ take n (now (cs .exit)) ≡ colours (nodesIn (now (raw .entry)) 0 n) ⌝ }
-{
-    if same(work, 240 * b, raw, 0, 6 * (n as usize)) {
-        return;
-    }
-    let mut looks = [0u8; 1536];
-    let mut next = [0u8; 256];
-    settle(raw, n, cs, &mut looks, &mut next);
-}
-
-// X = u for the value in block b, to block `dst`.
-pub fn close_block(work: &mut [u8], x: u8, b: usize, dst: usize) -> ValueRef
+// X = u for the value in block b, its objects bound and equal ones found by rounds, to block `dst`.
+pub fn close_marked(work: &mut [u8], x: u8, b: usize, dst: usize) -> ValueRef
     requires { ⌜ Block (now work) b × (x < 63) × (240 * dst + 240 ≤ length (now work)) ⌝ }
     ensures { λ r. ⌜ Moved (now (work .entry)) (boundIn (now (work .entry)) b x) dst (now (work .exit)) r ⌝ }
 {
     let mut ids = [0u8; 256];
     let mut raw = [0u8; 1536];
     let n = take_up(work, b, 193 + x, &mut ids, &mut raw);
-    tint(work, b, &raw, n, &mut ids);
+    colour(&raw, n, &mut ids);
     put(&raw, n, &ids, 0, work, dst);
+    ValueRef::Object(dst)
+}
+
+// The value in block b, to block `dst`, which may be b.
+pub fn copy_block(work: &mut [u8], b: usize, dst: usize)
+    requires { ⌜ Block (now work) b × (240 * dst + 240 ≤ length (now work)) ⌝ }
+    ensures { λ _. ⌜ Gives (now (work .entry)) dst (now (work .exit)) (Object dst) (blockIn (now (work .entry)) b) ⌝ }
+{
+    let n = work[240 * b + 192];
+    let p = 6 * (n as usize);
+    let mut q: usize = 0;
+    while q < p {
+        work[240 * dst + q] = work[240 * b + q];
+        q += 1;
+    }
+    work[240 * dst + 192] = n;
+}
+
+// X = u for the value in block b, to block `dst`: the value itself, if the mark is not in it.
+pub fn close_block(work: &mut [u8], x: u8, b: usize, dst: usize) -> ValueRef
+    requires { ⌜ Block (now work) b × (x < 63) × (240 * dst + 240 ≤ length (now work)) ⌝ }
+    ensures { λ r. ⌜ Moved (now (work .entry)) (boundIn (now (work .entry)) b x) dst (now (work .exit)) r ⌝ }
+{
+    let n = work[240 * b + 192];
+    if has(work, 240 * b, 6 * (n as usize), 193 + x) {
+        return close_marked(work, x, b, dst);
+    }
+    copy_block(work, b, dst);
     ValueRef::Object(dst)
 }
 

@@ -4,7 +4,7 @@ use Rattle.values.proofs.make.make_laid.Tie as tie
 use Rattle.values.proofs.make.make_laid.Reads as reads
 use Rattle.values.proofs.make.make_laid.Lts as lts
 use Rattle.values.proofs.lay.build.Reads as build-reads
-use Rattle.values.proofs.make.colour.Reads as colour-reads
+use Rattle.values.proofs.colours.colour.Reads as colour-reads
 use Rattle.values.proofs.number.put.Reads as put-reads
 use Rattle.values.proofs.Lays as laws
 

@@ -3,26 +3,27 @@ use Rattle.values.proofs.value.close_block.Statement.{statement}
 use Rattle.values.proofs.value.close_block.Tie as tie
 use Rattle.values.proofs.value.close_block.Reads as reads
 use Rattle.values.proofs.value.close_block.Lts as lts
-use Rattle.values.proofs.number.put.Reads as put-reads
-use Rattle.values.proofs.value.take_up.Reads as take-up-reads
-use Rattle.values.proofs.value.tint.Reads as tint-reads
-use Rattle.values.proofs.Closing as laws
+use Rattle.values.proofs.bytes.has.Reads as has-reads
+use Rattle.values.proofs.value.close_marked.Reads as close-marked-reads
+use Rattle.values.proofs.value.copy_block.Reads as copy-block-reads
+use native.Mathlib.Omega.{arith}
+use Rattle.values.specs.Layout.{countIn}
+use Rattle.values.proofs.Copies as laws
 
-tint-requires : tie.Need-tint-requires
-tint-requires c κs =
-    let t = c .before .before .before .before .before in
-    let st = t .before .before .before .before .before in
-    laws.bound-ready _ _ (st .args .x) (st .pre .0) _ _ _ _ (t .take-up .ensures) (search needs) (search needs)
+cast-has : tie.Need-cast-has
+unfolding countIn
+cast-has c = omega arith
 
-put-requires : tie.Need-put-requires
-put-requires c κs =
-    let ti = c .before .before .before .before in
-    let t = ti .before .before .before .before .before .before in
-    let st = t .before .before .before .before .before in
-    laws.close-ready _ _ (st .args .x) (st .pre .0) _ _ _ _ (t .take-up .ensures) (search needs) (ti .tint .last .1 .1 .1 .1 .0) _ (ti .tint .ensures) (search needs) (st .pre .2)
+mul-has-2 : tie.Need-mul-has-2
+unfolding countIn
+mul-has-2 c = omega arith
 
-returns : tie.Need-returns
-returns c = search laws.close-moved
+has-requires : tie.Need-has-requires
+unfolding countIn
+has-requires c κs = omega arith
+
+returns-2 : tie.Need-returns-2
+returns-2 c = search laws.close-kept
 
 pub close-block-spec : {M : Type 1} → statement M
 close-block-spec =
@@ -31,12 +32,14 @@ close-block-spec =
     (λ c. search needs)
     (λ c. search needs)
     (λ c. search needs)
+    (λ c. search needs)
+    cast-has
+    mul-has-2
+    (λ c. search needs)
+    has-requires
     (λ c κs. search needs)
     (λ c. search needs)
     (λ c. search needs)
-    tint-requires
+    (λ c κs. search needs)
     (λ c. search needs)
-    (λ c. search needs)
-    put-requires
-    (λ c. search needs)
-    returns)
+    returns-2)
