@@ -21,7 +21,7 @@ use Rattle.values.specs.declared.Made.{Made}
 use Rattle.values.specs.declared.Made.the-variants as made
 use Rattle.values.proofs.ValueRef as RefT
 use Rattle.values.specs.Layout.{countIn, blockIn, Block, HeldBy, valueOf, Holds}
-use Rattle.values.specs.Operations.{InBlock, Moved}
+use Rattle.values.specs.Operations.{InBlock, Gives}
 use Rattle.values.specs.Laying.{valuesFrom, PartsHeld, madeIn, MadeHeld, MadePlace, MadeIs}
 use Rattle.evaluator.specs.declared.Stop.{Stop}
 use Rattle.evaluator.specs.declared.Stop.the-variants.{Stuck, TooLarge}
@@ -83,15 +83,11 @@ module _ (W : List ℕ) (r : ValueRef) (sp : ℕ) where
     pub bring-block : Block W b
     bring-block = object-in W r b w e
 
-    pub bring-first : 0 < countIn W b
-    bring-first = let f = object-in W r b w e .filled in omega arith
-
-    pub bring-move : (W′ : List ℕ) (o : ValueRef) → Moved W (graph (obj 0) (blockIn W b .nodes)) sp W′ o → Brought W r sp W′ o
-    unfolding blockIn
-    bring-move W′ o m = record {
+    pub bring-copy : (W′ : List ℕ) → Gives W sp W′ (Object sp) (blockIn W b) → Brought W r sp W′ (Object sp)
+    bring-copy W′ m = record {
       kept = kept-outside sp W W′ (m .outside);
-      older = record { held = m .held; low = placed-low sp o (m .place) };
-      is = m .is ∙ object-in W r b w e .own ∙ ap (valueOf W) (sym e);
+      older = record { held = m .held; low = placed-low sp (Object sp) (m .place) };
+      is = m .is ∙ ap (valueOf W) (sym e);
     }
 
 -- ---- a new object

@@ -1,6 +1,6 @@
 // A value brought down to a block, unless it lies there or below.
 use values::ValueRef;
-use values::value::move_out;
+use values::value::copy_block;
 ghost use Prim.Native.Nat.{ℕ, _+_, _*_, _≤_};
 ghost use lib.ListN.{length};
 ghost use Rattle.values.specs.Layout.{Holds};
@@ -17,5 +17,6 @@ pub fn bring(work: &mut [u8], r: ValueRef, sp: usize) -> ValueRef
     if b <= sp {
         return r;
     }
-    move_out(work, b, 0, sp)
+    copy_block(work, b, sp);
+    ValueRef::Object(sp)
 }

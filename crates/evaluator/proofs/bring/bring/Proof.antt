@@ -3,7 +3,6 @@ use Rattle.evaluator.proofs.bring.bring.Statement.{statement}
 use Rattle.evaluator.proofs.bring.bring.Tie as tie
 use Rattle.evaluator.proofs.bring.bring.Reads as reads
 use Rattle.evaluator.proofs.bring.bring.Lts as lts
-use Rattle.values.proofs.value.move_out.Reads as move-out-reads
 use Rattle.evaluator.proofs.LeafLaws as laws
 
 returns : tie.Need-returns
@@ -12,11 +11,11 @@ returns c = search laws.bring-none
 returns-2 : tie.Need-returns-2
 returns-2 c = search laws.bring-stay
 
-move-out-requires : tie.Need-move-out-requires
-move-out-requires c κs = (search laws.bring-block, search laws.bring-first, search needs)
+copy-block-requires : tie.Need-copy-block-requires
+copy-block-requires c κs = (search laws.bring-block, search needs)
 
 returns-3 : tie.Need-returns-3
-returns-3 c = search laws.bring-move
+returns-3 c = search laws.bring-copy
 
 pub bring-spec : {M : Type 1} → statement M
 bring-spec =
@@ -25,6 +24,6 @@ bring-spec =
     (λ c. search needs)
     returns
     returns-2
-    move-out-requires
+    copy-block-requires
     (λ c. search needs)
     returns-3)
