@@ -8,6 +8,7 @@ pub mod Walks
 pub mod Numbers
 pub mod Blocks
 pub mod Colouring
+pub mod Pairings
 pub mod Single
 pub mod Selecting
 pub mod Closing

@@ -78,8 +78,8 @@ filled-step F A₀ A n p x f h s l k e = filled-more F A p x f (omega arith) e
 pub filled-done : (F : ℕ → ℕ) (A : List ℕ) (p n : ℕ) → Filled F p A → n ≤ p → Filled F n A
 filled-done F A p n f h = record { at = λ i l. f .at i (omega arith) }
 
-pub filled-zero : (A₀ A : List ℕ) (p : ℕ) → Filled (λ _. 0) p A → p < 256 → length A ≡ length A₀ → 256 ≤ length A₀ → Filled (λ _. 0) (p + 1) (set A p 0)
-filled-zero A₀ A p f h l k = filled-more (λ _. 0) A p 0 f (omega arith) refl
+pub filled-zero : (A₀ A : List ℕ) (p m : ℕ) → Filled (λ _. 0) p A → p < m → length A ≡ length A₀ → m ≤ length A₀ → Filled (λ _. 0) (p + 1) (set A p 0)
+filled-zero A₀ A p m f h l k = filled-more (λ _. 0) A p 0 f (omega arith) refl
 
 -- ---- a byte looked for
 pub free-none : (A : List ℕ) (i x : ℕ) → Free A i 0 x

@@ -1,6 +1,7 @@
 pub mod Layout
 pub mod Tables
 pub mod Rounds
+pub mod Pairing
 pub mod Walking
 pub mod Numbers
 pub mod Operations

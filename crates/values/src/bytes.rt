@@ -72,13 +72,13 @@ pub fn clear(n: u8, to: &mut [u8])
     }
 }
 
-// 256 zeros.
-pub fn clear_all(to: &mut [u8])
-    requires { ⌜ 256 ≤ length (now to) ⌝ }
-    ensures { λ _. ⌜ Filled (λ i. 0) 256 (now (to .exit)) ⌝ }
+// m zeros, for a longer table.
+pub fn wipe(to: &mut [u8], m: usize)
+    requires { ⌜ m ≤ length (now to) ⌝ }
+    ensures { λ _. ⌜ Filled (λ i. 0) m (now (to .exit)) ⌝ }
 {
     let mut i: usize = 0;
-    while i < 256 {
+    while i < m {
         to[i] = 0;
         i += 1;
     }

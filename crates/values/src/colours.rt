@@ -3,6 +3,7 @@ use crate::bytes::clear;
 use crate::bytes::copy;
 use crate::bytes::same;
 use crate::lift::lift;
+use crate::pairs::colour_pairs;
 ghost use mathlib.Core.Path.{_≡_};
 ghost use Prim.Native.Nat.{ℕ, _+_, _*_, _<_, _≤_};
 ghost use lib.ListN.{length, take};
@@ -64,12 +65,27 @@ pub fn settle(nodes: &[u8], n: u8, cs: &mut [u8], looks: &mut [u8], next: &mut [
     }
 }
 
-// The colours of n objects, with scratch of its own.
-pub fn colour(raw: &[u8], n: u8, cs: &mut [u8])
+// The same, with scratch of its own.
+pub fn colour_rounds(raw: &[u8], n: u8, cs: &mut [u8])
     requires { ⌜ Raw (now raw) n × (256 ≤ length (now cs)) ⌝ }
     ensures { λ _. ⌜ take n (now (cs .exit)) ≡ colours (nodesIn (now (raw .entry)) 0 n) ⌝ }
 {
     let mut looks = [0u8; 1536];
     let mut next = [0u8; 256];
     settle(raw, n, cs, &mut looks, &mut next);
+}
+
+// The colours of n objects: by pairs, or by rounds where there are too many.
+pub fn colour(raw: &[u8], n: u8, cs: &mut [u8])
+    requires { ⌜ Raw (now raw) n × (256 ≤ length (now cs)) ⌝ }
+    ensures { λ _. ⌜ take n (now (cs .exit)) ≡ colours (nodesIn (now (raw .entry)) 0 n) ⌝ }
+{
+    if 64 < n {
+        colour_rounds(raw, n, cs);
+        return;
+    }
+    if colour_pairs(raw, n, cs) {
+        return;
+    }
+    colour_rounds(raw, n, cs);
 }

@@ -2,7 +2,8 @@
 // Not here: which blocks are free. The caller names the block that a result goes to.
 pub mod bytes; // runs of bytes compared; tables filled
 pub mod lift; // objects copied, with their codes turned
-pub mod colours; // the objects' colours, by rounds
+pub mod pairs; // the objects' colours, by pairs that may be equal
+pub mod colours; // the objects' colours, by rounds where there are many
 pub mod walk; // the order in which they are met
 pub mod number; // the objects, numbered in that order, in a block
 pub mod value; // values compared, selected from, closed

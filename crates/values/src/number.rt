@@ -1,5 +1,5 @@
 // The objects of a graph, merged by colour and numbered in the order met, in a block: its value.
-use crate::bytes::clear_all;
+use crate::bytes::wipe;
 use crate::lift::lift;
 use crate::walk::visit;
 ghost use mathlib.Core.Path.{_≡_};
@@ -62,7 +62,7 @@ pub fn put(nodes: &[u8], n: u8, cs: &[u8], root: u8, work: &mut [u8], dst: usize
     let end = 240 * dst + 192;
     let mut order = [0u8; 256];
     let mut met = [0u8; 256];
-    clear_all(&mut met);
+    wipe(&mut met, 256);
     let m = visit(nodes, cs, n + 1, root, &mut order, &mut met, 0);
     if 32 < m {
         return m;

@@ -3,7 +3,7 @@ use Rattle.values.proofs.number.put.Statement.{statement}
 use Rattle.values.proofs.number.put.Tie as tie
 use Rattle.values.proofs.number.put.Reads as reads
 use Rattle.values.proofs.number.put.Lts as lts
-use Rattle.values.proofs.bytes.clear_all.Reads as clear-all-reads
+use Rattle.values.proofs.bytes.wipe.Reads as wipe-reads
 use Rattle.values.proofs.number.gather.Reads as gather-reads
 use Rattle.values.proofs.number.numbers.Reads as numbers-reads
 use Rattle.values.proofs.walk.visit.Reads as visit-reads

@@ -1,7 +1,7 @@
-use Rattle.values.proofs.bytes.clear_all.Statement.{statement}
-use Rattle.values.proofs.bytes.clear_all.Tie as tie
-use Rattle.values.proofs.bytes.clear_all.Reads as reads
-use Rattle.values.proofs.bytes.clear_all.Lts as lts
+use Rattle.values.proofs.bytes.wipe.Statement.{statement}
+use Rattle.values.proofs.bytes.wipe.Tie as tie
+use Rattle.values.proofs.bytes.wipe.Reads as reads
+use Rattle.values.proofs.bytes.wipe.Lts as lts
 use borrow.Author.Needs.{needs}
 use mathlib.Core.Path.{_≡_}
 use Prim.Native.Nat.{_≤_, _-_}
@@ -11,10 +11,10 @@ use Rattle.values.specs.Tables.{Filled}
 use Rattle.values.proofs.Runs as laws
 
 abbrev Inv-loop : tie.InvT-loop
-Inv-loop to₀ i₀ to i = (i ≤ 256) × (length to ≡ length to₀) × Filled (λ q. 0) i to
+Inv-loop to₀ m i₀ to i = (i ≤ m) × (length to ≡ length to₀) × Filled (λ q. 0) i to
 
 abbrev μ-loop : tie.MeasureT-loop
-μ-loop to₀ i₀ to i = 256 - i
+μ-loop to₀ m i₀ to i = m - i
 
 loop-holds : tie.Need-loop-holds Inv-loop μ-loop
 loop-holds c = (search needs, search needs, laws.filled-none _ _)
@@ -25,8 +25,8 @@ loop-again c = (search needs, simp length-set (omega arith), search laws.filled-
 returns : tie.Need-returns Inv-loop μ-loop
 returns c = search laws.filled-done
 
-pub clear-all-spec : {M : Type 1} → statement M
-clear-all-spec =
+pub wipe-spec : {M : Type 1} → statement M
+wipe-spec =
     tie.close
     (tie.spec
     Inv-loop
