@@ -82,7 +82,7 @@ pub fn run(
     }
 }
 
-fn refused(refusal: Refusal, session: Session) -> Answer {
+pub(crate) fn refused(refusal: Refusal, session: Session) -> Answer {
     Answer {
         refusal: Some(refusal),
         session,
@@ -91,7 +91,7 @@ fn refused(refusal: Refusal, session: Session) -> Answer {
 }
 
 /// What the state refuses before the text is looked at.
-fn state_refusal(session: Session, report: &[u8], work: &[u8]) -> Option<Refusal> {
+pub(crate) fn state_refusal(session: Session, report: &[u8], work: &[u8]) -> Option<Refusal> {
     if !session.open {
         Some(Refusal::Closed)
     } else if report.len() < REPORT_LENGTH {

@@ -61,13 +61,16 @@ pub fn res_type(left: Type) -> Type {
     }
 }
 
-pub fn method_typed(table: &Table, method: &Method) -> bool {
+/// The types of a method's left and right sides, if both have one.
+pub fn sides(table: &Table, method: &Method) -> Option<(Type, Type)> {
     let mut scope = Scope::body(table, method.owner, &method.params);
-    let Some(left) = type_of(&scope, &method.left) else {
-        return false;
-    };
+    let left = type_of(&scope, &method.left)?;
     scope.res = Some(res_type(left));
-    let Some(right) = type_of(&scope, &method.right) else {
+    Some((left, type_of(&scope, &method.right)?))
+}
+
+pub fn method_typed(table: &Table, method: &Method) -> bool {
+    let Some((left, right)) = sides(table, method) else {
         return false;
     };
     // The last condition is document 01's own: the question mark of the left

@@ -35,7 +35,7 @@ use Rattle.cofj.proofs.Runs.{good-run}
 
 -- ---- demand 1
 module _ (a : Call) where
-  by-state : (o : Option ℕ) → stateRefusal (a .session) (a .report) (a .work) ≡ o → called a ≡ runUnless o (a .mode) (a .text) (a .session) (a .report) (a .work)
+  pub by-state : (o : Option ℕ) → stateRefusal (a .session) (a .report) (a .work) ≡ o → called a ≡ runUnless o (a .mode) (a .text) (a .session) (a .report) (a .work)
   unfolding runCall
   by-state o e = ap (λ (x : Option ℕ). runUnless x (a .mode) (a .text) (a .session) (a .report) (a .work)) e
 
@@ -56,7 +56,7 @@ module _ (a : Call) where
   state-none l = rw (l .active, le-ltb (length (a .report)) reportSize (l .report), le-ltb (length (a .work)) workSize (l .work), stateRefusal)
 
   -- the state refuses nothing: the text decides
-  by-text : (x : Admitted) → Lent a → admit (a .mode) (a .text) ≡ x → called a ≡ runAdmitted x (a .session) (a .report) (a .work)
+  pub by-text : (x : Admitted) → Lent a → admit (a .mode) (a .text) ≡ x → called a ≡ runAdmitted x (a .session) (a .report) (a .work)
   by-text x l e = by-state none (state-none l) ∙ ap (λ (y : Admitted). runAdmitted y (a .session) (a .report) (a .work)) e
 
 pub admit-unread : (m : Mode) (s : List ℕ) (k : ℕ) → readText s ≡ refusal k → admit m s ≡ declined k

@@ -12,7 +12,9 @@ use Rattle.cofj.specs.declared.Session.{Session}
 use Rattle.cofj.specs.declared.Answer.{Answer}
 use Rattle.cofj.specs.declared.Closing.{Closing}
 use Rattle.cofj.specs.Limits.{reportSize, workSize}
-use Rattle.cofj.specs.Calls.{Mode, closeSession, stateRefusal, Ran, admit, runAdmitted, runUnless, runCall}
+use Rattle.cofj.specs.Calls.{Mode, closeSession, stateRefusal, Ran, admit, runAdmitted, runCall}
+use Rattle.cofj.specs.Promises.{Call}
+use Rattle.cofj.proofs.Promises as promises
 use Rattle.engine.specs.Steps.{ran, noReport, numberBy, stateNumber}
 
 -- ---- closing
@@ -86,9 +88,8 @@ module _ (k : ℕ) (active : Bool) (r w : ℕ) (e : k ≡ stateNumber active r w
   lent-work = lent-by active r w (sym e ∙ z) .1
 
 -- ---- a run, by its state
-by-state : (m : Mode) (s : List ℕ) (σ : Session) (R W : List ℕ) (o : Option ℕ) → stateRefusal σ R W ≡ o → runCall m s σ R W ≡ runUnless o m s σ R W
-unfolding runCall
-by-state m s σ R W o e = ap (λ (x : Option ℕ). runUnless x m s σ R W) e
+abbrev calling : Mode → List ℕ → Session → List ℕ → List ℕ → Call
+calling m s σ R W = record { mode = m; text = s; session = σ; report = R; work = W }
 
 some-number : (k : ℕ) → (k ≡ 0 → ⊥) → numbered k ≡ some k
 some-number zero n = absurd (n refl)
@@ -98,15 +99,11 @@ module _ (m : Mode) (s : List ℕ) (σ : Session) (R W : List ℕ) (k : ℕ) (e 
   pub state-refuses : (a : Answer) → (k ≡ 0 → ⊥) → a ≡ noReport k σ → ran a R W ≡ runCall m s σ R W
   state-refuses a n q =
       ap (λ (x : Answer). ran x R W) q
-      ∙ sym (by-state m s σ R W (some k) (state-numbered σ R W ∙ ap numbered (sym e) ∙ some-number k n))
+      ∙ sym (promises.by-state (calling m s σ R W) (some k) (state-numbered σ R W ∙ ap numbered (sym e) ∙ some-number k n))
 
   pub state-admits : (x : Ran) → k ≡ 0 → x ≡ runAdmitted (admit m s) σ R W → x ≡ runCall m s σ R W
-  state-admits x z q = q ∙ sym (by-state m s σ R W none (state-numbered σ R W ∙ ap numbered (sym e ∙ z)))
+  state-admits x z q = q ∙ sym (promises.by-state (calling m s σ R W) none (state-numbered σ R W ∙ ap numbered (sym e ∙ z)))
 
 -- a session that is open and lent what a run needs
 pub lent-run : (m : Mode) (s : List ℕ) (σ : Session) (R W : List ℕ) → σ .active ≡ true → 544 ≤ length R → 65536 ≤ length W → runCall m s σ R W ≡ runAdmitted (admit m s) σ R W
-unfolding stateNumber
-lent-run m s σ R W p h k =
-    let q = le-ltb (length R) 544 h in
-    let z = le-ltb (length W) 65536 k in
-    by-state m s σ R W none (state-numbered σ R W ∙ (λ i. numbered (numberBy (p i) (q i) (z i))))
+lent-run m s σ R W p h k = promises.by-text (calling m s σ R W) (admit m s) (record { active = p; report = h; work = k }) refl

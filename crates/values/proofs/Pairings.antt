@@ -17,7 +17,7 @@ use Rattle.cofj.proofs.Trees.{Pointwise, same-cls, same-count, same-refs}
 use Rattle.values.specs.Layout.{refOf, codeOf, nodeIn, nodesIn, Packed}
 use Rattle.values.specs.Tables.{Filled}
 use Rattle.values.specs.Rounds.{Raw}
-use Rattle.values.specs.Pairing.{maybe, mayMeet, meetsAt, Twins, Twinned, Pairs, Fine, RowFine, AllFine, SiftedPair, SiftedRow, Sifted, Settled, FirstPair, NoPair, PairColours, Coloured}
+use Rattle.values.specs.Pairing.{maybe, mayMeet, meetsAt, AlikeSoFar, LookAlike, Pairs, Fine, RowFine, AllFine, SiftedPair, SiftedRow, Sifted, Settled, FirstPair, NoPair, PairColours, Coloured}
 use Rattle.values.proofs.Nodes.{byteOf, packed-byte, length-nodes, at-nodes, ref-object, ref-undet, ref-mark}
 use Rattle.values.proofs.Colouring.{colours-are}
 
@@ -57,22 +57,22 @@ module _ (T : List ℕ) (a b : ℕ) where
   meets-code k r h e = rw (le-ltb k 2 h) e
 
 module _ (N T : List ℕ) (i j : ℕ) where
-  pub twins-none : Twins N T i j 0
-  twins-none = record { all = λ f h. absurd (omega arith) }
+  pub look-alike-none : AlikeSoFar N T i j 0
+  look-alike-none = record { all = λ f h. absurd (omega arith) }
 
-  module _ (k : ℕ) (t : Twins N T i j k) where
-    pub twins-more : (r : Bool) → r ≡ meetsAt T k (getD N (6 * i + k) 0) (getD N (6 * j + k) 0) → r ≡ true → Twins N T i j (k + 1)
-    twins-more r e q = record { all = λ f h. go f h (ℕ-discrete f k) }
+  module _ (k : ℕ) (t : AlikeSoFar N T i j k) where
+    pub look-alike-more : (r : Bool) → r ≡ meetsAt T k (getD N (6 * i + k) 0) (getD N (6 * j + k) 0) → r ≡ true → AlikeSoFar N T i j (k + 1)
+    look-alike-more r e q = record { all = λ f h. go f h (ℕ-discrete f k) }
       where
         go : (f : ℕ) → f < k + 1 → Dec (f ≡ k) → meetsAt T f (getD N (6 * i + f) 0) (getD N (6 * j + f) 0) ≡ true
         go f h (yes z) = rw z (sym e ∙ q)
         go f h (no z) = t .all f (omega (arith, z))
 
-    pub twins-not : (r : Bool) → k < 6 → r ≡ meetsAt T k (getD N (6 * i + k) 0) (getD N (6 * j + k) 0) → r ≡ false → Twinned N T i j false
-    twins-not r h e q = record { yes = λ z. absurd (false≢true z); not = λ _ w. false≢true (sym q ∙ e ∙ w .all k h) }
+    pub look-alike-not : (r : Bool) → k < 6 → r ≡ meetsAt T k (getD N (6 * i + k) 0) (getD N (6 * j + k) 0) → r ≡ false → LookAlike N T i j false
+    look-alike-not r h e q = record { yes = λ z. absurd (false≢true z); not = λ _ w. false≢true (sym q ∙ e ∙ w .all k h) }
 
-    pub twins-all : 6 ≤ k → Twinned N T i j true
-    twins-all h = record { yes = λ _. record { all = λ f l. t .all f (omega arith) }; not = λ z. absurd (true≢false z) }
+    pub look-alike-all : 6 ≤ k → LookAlike N T i j true
+    look-alike-all h = record { yes = λ _. record { all = λ f l. t .all f (omega arith) }; not = λ z. absurd (true≢false z) }
 
 -- ---- a table entry taken away
 pw-at : (R : Ref → Ref → Type 0) → R undet undet → (rs ss : List Ref) → Pointwise R rs ss → (f : ℕ) → R (getD rs f undet) (getD ss f undet)
@@ -122,9 +122,9 @@ module _ (N : List ℕ) (n : ℕ) (raw : Raw N n) (few : n ≤ 64) where
     refs-meet undet (mark l) t = let z : some unknown ≡ some (opened l) = t .0 [] in absurd (let q : _≡_ {A = ℕ} 0 1 = cc in omega arith)
     refs-meet undet undet t = meet-equal T 192 192 refl
 
-    same-twins : (j k : ℕ) → j < n → k < n → Same ns (obj j) ns (obj k) → Twins N T j k 6
+    same-look-alike : (j k : ℕ) → j < n → k < n → Same ns (obj j) ns (obj k) → AlikeSoFar N T j k 6
     unfolding byteOf
-    same-twins j k hj hk e = record { all = λ f h. rw (byte j hj f h, byte k hk f h) (go f) }
+    same-look-alike j k hj hk e = record { all = λ f h. rw (byte j hj f h, byte k hk f h) (go f) }
       where
         codes : (f : ℕ) → true ≡ mayMeet T (codeOf (getD (refsAt ns j) f undet)) (codeOf (getD (refsAt ns k) f undet))
         codes f =
@@ -141,10 +141,10 @@ module _ (N : List ℕ) (n : ℕ) (raw : Raw N n) (few : n ≤ 64) where
       pub pair-gone : ((getD T (64 * j + k) 0 ≡ 0) → ⊥) → SiftedPair N n T j k T false
       pair-gone d = record { kept = kept; still = λ _. refl; fine = λ _. record { fine = λ z. absurd (d z) } }
 
-      pub pair-stays : (r : Bool) → Twinned N T j k r → r ≡ true → SiftedPair N n T j k T false
+      pub pair-stays : (r : Bool) → LookAlike N T j k r → r ≡ true → SiftedPair N n T j k T false
       pair-stays r t e = record { kept = kept; still = λ _. refl; fine = λ _. record { fine = λ _. t .yes e } }
 
-      pub pair-goes : (r : Bool) → Twinned N T j k r → r ≡ false → SiftedPair N n T j k (set T (64 * j + k) 1) true
+      pub pair-goes : (r : Bool) → LookAlike N T j k r → r ≡ false → SiftedPair N n T j k (set T (64 * j + k) 1) true
       pair-goes r t e = record {
         kept = record { long = rw (length-set T (64 * j + k) 1) (kept .long); keep = λ i l a b s. go i l a b s (ℕ-discrete i j) (ℕ-discrete l k) };
         still = λ z. absurd (true≢false z);
@@ -152,7 +152,7 @@ module _ (N : List ℕ) (n : ℕ) (raw : Raw N n) (few : n ≤ 64) where
       }
         where
           go : (i l : ℕ) → l < i → i < n → Same ns (obj i) ns (obj l) → Dec (i ≡ j) → Dec (l ≡ k) → getD (set T (64 * j + k) 1) (64 * i + l) 0 ≡ 0
-          go i l a b s (yes p) (yes q) = absurd (t .not e (same-twins j k hj (omega arith) (subst (λ (x : ℕ). Same ns (obj x) ns (obj k)) p (subst (λ (x : ℕ). Same ns (obj i) ns (obj x)) q s))))
+          go i l a b s (yes p) (yes q) = absurd (t .not e (same-look-alike j k hj (omega arith) (subst (λ (x : ℕ). Same ns (obj x) ns (obj k)) p (subst (λ (x : ℕ). Same ns (obj i) ns (obj x)) q s))))
           go i l a b s (yes p) (no q) = getD-set-other T (64 * j + k) (64 * i + l) 1 0 (λ z. q (omega arith)) ∙ kept .keep i l a b s
           go i l a b s (no p) q = getD-set-other T (64 * j + k) (64 * i + l) 1 0 (λ z. p (omega arith)) ∙ kept .keep i l a b s
 
@@ -258,7 +258,7 @@ module _ (N : List ℕ) (n : ℕ) (raw : Raw N n) (few : n ≤ 64) where
     below p ih (r ∷ rs) (s ∷ ss) l a b h zero = met-refs p ih r s (a 0 r refl) (b 0 s refl) (h 0 (omega arith))
     below p ih (r ∷ rs) (s ∷ ss) l a b h (suc f) = below p ih rs ss (omega arith) (λ g. a (suc g)) (λ g. b (suc g)) (λ g k. h (suc g) (omega arith)) f
 
-    module _ (j k : ℕ) (hj : j < n) (hk : k < n) (t : Twins N T j k 6) where
+    module _ (j k : ℕ) (hj : j < n) (hk : k < n) (t : AlikeSoFar N T j k 6) where
       tw : (f : ℕ) → f < 6 → meetsAt T f (byteOf (nodeAt ns j) f) (byteOf (nodeAt ns k) f) ≡ true
       tw f h = rw (← byte j hj f h, ← byte k hk f h) (t .all f h)
 

@@ -33,9 +33,9 @@ raise-more W from to k x D l h room a e =
     go (no p) (yes q) = absurd (a .clear k (from + k - to) h (omega (arith, p, q)) (omega (arith, p)))
     go (no p) (no q) = l .above (from + k) (omega (arith, q))
 
-pub seat-more : (T W : List ℕ) (to k x : ℕ) (D : List ℕ) → Lifted T 0 k ups 0 W to D → k < 6 → to + 6 ≤ length W
+pub put-root-more : (T W : List ℕ) (to k x : ℕ) (D : List ℕ) → Lifted T 0 k ups 0 W to D → k < 6 → to + 6 ≤ length W
     → x ≡ copied ups 0 k (getD T k 0) → Lifted T 0 (k + 1) ups 0 W to (set D (to + k) x)
-seat-more T W to k x D l h room e =
+put-root-more T W to k x D l h room e =
     let z : k % 6 ≡ k = omega arith in
     let y : 0 + k ≡ k = omega arith in
     lift-more T 0 k ups 0 W to D x 6 l h room (rw (z, y) e)

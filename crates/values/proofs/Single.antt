@@ -94,8 +94,8 @@ module _ (top : Node) (ns : List Node)
         ap₂ {C = List Ref} _∷_ (ref-equal r s (a 0 r refl) (b 0 s refl) (h 0 r s refl refl))
         (refs-equal rs ss (λ f. a (suc f)) (λ f. b (suc f)) (omega arith) (λ f. h (suc f)))
 
-    top-twin : (j : ℕ) → j < length ns → Same (over top ns) (obj 0) ns (obj j) → nodeAt ns j ≡ top
-    top-twin j h e =
+    top-alike : (j : ℕ) → j < length ns → Same (over top ns) (obj 0) ns (obj j) → nodeAt ns j ≡ top
+    top-alike j h e =
         ap₂ node (sym (same-cls (over top ns) ns 0 j e))
         (sym (refs-equal (top .refs) (refsAt ns j) above (inner j)
         (sym (length-map (top .refs) (rename up)) ∙ same-count (over top ns) ns 0 j e)
@@ -106,8 +106,8 @@ module _ (top : Node) (ns : List Node)
     module _ (miss : (j : ℕ) → j < length ns → nodeAt ns j ≡ top → ⊥) where
       apart : (i j : ℕ) → i < suc (length ns) → j < suc (length ns) → Same (over top ns) (obj i) (over top ns) (obj j) → i ≡ j
       apart zero zero h h′ e = refl
-      apart zero (suc j) h h′ e = absurd (miss j (omega arith) (top-twin j (omega arith) (λ p. e p ∙ raised (obj j) (omega arith) p)))
-      apart (suc i) zero h h′ e = absurd (miss i (omega arith) (top-twin i (omega arith) (λ p. sym (e p) ∙ raised (obj i) (omega arith) p)))
+      apart zero (suc j) h h′ e = absurd (miss j (omega arith) (top-alike j (omega arith) (λ p. e p ∙ raised (obj j) (omega arith) p)))
+      apart (suc i) zero h h′ e = absurd (miss i (omega arith) (top-alike i (omega arith) (λ p. sym (e p) ∙ raised (obj i) (omega arith) p)))
       apart (suc i) (suc j) h h′ e = ap suc (distinct i j (omega arith) (omega arith) (λ p. sym (raised (obj i) (omega arith) p) ∙ e p ∙ raised (obj j) (omega arith) p))
 
       colours-over : colours (over top ns) ≡ upFrom 0 (length (over top ns))

@@ -26,7 +26,7 @@ use Rattle.values.specs.Layout.{refOf, nodeIn, nodesIn, Packed, part, Bl
 use Rattle.values.specs.Tables.{copied, Lifted}
 use Rattle.values.specs.Operations.{Moved}
 use Rattle.values.specs.Laying.{valuesFrom, PartsHeld, MadeIs}
-use Rattle.values.specs.Stacking.{ups, Stacked, roots, Crown, Missed, Found, isObject, Over, Stands, partOf, Each, Shared, Alike, Leaves, First}
+use Rattle.values.specs.Stacking.{ups, Stacked, roots, RootObject, Missed, Found, isObject, Over, Stands, partOf, Each, Shared, Alike, Leaves, First}
 use Rattle.values.proofs.Nodes.{length-nodes, at-nodes, eq-node, ref-object, ref-undet, ref-mark, AllPacked}
 use Rattle.values.proofs.Turned.{turnRef, changed, lifted-nodes, lifted-packed, turn-rename, node-agree, nodes-agree}
 use Rattle.values.proofs.Walks.{four, four-at}
@@ -52,15 +52,15 @@ pub set-length : (T : List ℕ) (i x m : ℕ) → length T ≡ m → length (set
 set-length T i x m e = length-set T i x ∙ e
 
 -- its first i fields are written
-pub record Crowning (W : List ℕ) (c : ℕ) (ps : List Slot) (n i : ℕ) (T : List ℕ) : Type 0 where
+pub record RootBegun (W : List ℕ) (c : ℕ) (ps : List Slot) (n i : ℕ) (T : List ℕ) : Type 0 where
   pub long : 6 ≤ length T
   pub cls : getD T 0 0 ≡ c
   pub count : getD T 1 0 ≡ n
   pub done : (j : ℕ) → j < i → refOf (getD T (2 + j) 0) ≡ valueOf W (partOf ps j) .root
   pub spare : (k : ℕ) → 2 + i ≤ k → k < 6 → getD T k 0 ≡ 192
 
-pub crown-start : (W : List ℕ) (c : ℕ) (ps : List Slot) (n : ℕ) (R : List ℕ) → 6 ≤ length R → Crowning W c ps n 0 (fresh R c n)
-crown-start W c ps n R h = record {
+pub root-object-start : (W : List ℕ) (c : ℕ) (ps : List Slot) (n : ℕ) (R : List ℕ) → 6 ≤ length R → RootBegun W c ps n 0 (fresh R c n)
+root-object-start W c ps n R h = record {
   long = simp length-set (omega arith);
   cls = fresh-class R c n h;
   count = fresh-count R c n h;
@@ -68,9 +68,9 @@ crown-start W c ps n R h = record {
   spare = λ k a b. fresh-spare R c n h k (omega arith) b;
 }
 
-pub crown-more : (W : List ℕ) (c : ℕ) (ps : List Slot) (n i : ℕ) (T : List ℕ) (v : ValueRef) (x : ℕ) → Crowning W c ps n i T → i < n → n ≤ 4
-    → v ≡ partOf ps i → refOf x ≡ valueOf W v .root → Crowning W c ps n (i + 1) (set T (2 + i) x)
-crown-more W c ps n i T v x w h few ev ex = record {
+pub root-object-more : (W : List ℕ) (c : ℕ) (ps : List Slot) (n i : ℕ) (T : List ℕ) (v : ValueRef) (x : ℕ) → RootBegun W c ps n i T → i < n → n ≤ 4
+    → v ≡ partOf ps i → refOf x ≡ valueOf W v .root → RootBegun W c ps n (i + 1) (set T (2 + i) x)
+root-object-more W c ps n i T v x w h few ev ex = record {
   long = rw (length-set T (2 + i) x) (w .long);
   cls = getD-set-other T (2 + i) 0 x 0 (λ z. omega arith) ∙ w .cls;
   count = getD-set-other T (2 + i) 1 x 0 (λ z. omega arith) ∙ w .count;
@@ -82,10 +82,10 @@ crown-more W c ps n i T v x w h few ev ex = record {
     go j l (yes e) = rw e (ap refOf (getD-set-same T (2 + i) x 0 (omega (arith, w .long))) ∙ ex ∙ ap (λ (u : ValueRef). valueOf W u .root) ev)
     go j l (no e) = ap refOf (getD-set-other T (2 + i) (2 + j) x 0 (λ z. e (omega arith))) ∙ w .done j (omega (arith, e))
 
-module _ (W : List ℕ) (c : ℕ) (ps : List Slot) (n i : ℕ) (T : List ℕ) (w : Crowning W c ps n i T) (le : i ≤ n) (ge : n ≤ i) (few : n ≤ 4) (held : PartsHeld W ps n) where
-  crown-refs : take n (four T 0) ≡ roots (valuesFrom W ps 0 n)
+module _ (W : List ℕ) (c : ℕ) (ps : List Slot) (n i : ℕ) (T : List ℕ) (w : RootBegun W c ps n i T) (le : i ≤ n) (ge : n ≤ i) (few : n ≤ 4) (held : PartsHeld W ps n) where
+  root-object-refs : take n (four T 0) ≡ roots (valuesFrom W ps 0 n)
   unfolding valuesFrom
-  crown-refs =
+  root-object-refs =
       let lp : length (take n ps) ≡ n = length-take-le n ps (held .full) in
       let lg : length (map (λ s. valueOf W (s .r)) (take n ps)) ≡ n = length-map (take n ps) (λ s. valueOf W (s .r)) ∙ lp in
       let lt : length (take n (four T 0)) ≡ n = omega (arith, length-take n (four T 0)) in
@@ -97,10 +97,10 @@ module _ (W : List ℕ) (c : ℕ) (ps : List Slot) (n i : ℕ) (T : List ℕ) (w
       ∙ ap (λ (g : Graph). g .root) (sym (getD-map-lt (λ s. valueOf W (s .r)) (take n ps) j (graph undet []) none-slot (omega arith)))
       ∙ sym (getD-map-lt (λ g. g .root) (map (λ s. valueOf W (s .r)) (take n ps)) j undet (graph undet []) (omega arith)))
 
-  pub crown-done : Crown c (valuesFrom W ps 0 n) T
+  pub root-object-done : RootObject c (valuesFrom W ps 0 n) T
   unfolding nodeIn
-  crown-done = record {
-    is = ap₂ node (w .cls) (ap (λ (k : ℕ). take k (four T 0)) (w .count) ∙ crown-refs);
+  root-object-done = record {
+    is = ap₂ node (w .cls) (ap (λ (k : ℕ). take k (four T 0)) (w .count) ∙ root-object-refs);
     packed = record {
       count = rw (w .count) few;
       spare = λ k a b. let e : 0 + k ≡ k = omega arith in rw e (w .spare k (omega (arith, w .count)) b);
@@ -226,7 +226,7 @@ root-at W (suc n) (s ∷ ps) zero l h = refl
 root-at W (suc n) (s ∷ ps) (suc f) l h = root-at W n ps f (omega arith) (omega arith)
 
 -- ---- the block with the new object
-module _ (W : List ℕ) (c : ℕ) (gs : List Graph) (b t : ℕ) (T : List ℕ) (dst : ℕ) (D : List ℕ) (cr : Crown c gs T) (pk : AllPacked W (240 * b) t) (few : t ≤ 31)
+module _ (W : List ℕ) (c : ℕ) (gs : List Graph) (b t : ℕ) (T : List ℕ) (dst : ℕ) (D : List ℕ) (cr : RootObject c gs T) (pk : AllPacked W (240 * b) t) (few : t ≤ 31)
     (inner : (i f : ℕ) (r : Ref) → getElem? (refsAt (nodesIn W (240 * b) t) i) f ≡ some r → InRange t r)
     (above : (f : ℕ) (r : Ref) → getElem? (roots gs) f ≡ some r → InRange t r)
     (room : 240 * dst + 240 ≤ length W) (st : Stacked W b t T dst D) (ws : AllWhole gs)
@@ -292,7 +292,7 @@ module _ (W : List ℕ) (c : ℕ) (gs : List Graph) (b t : ℕ) (T : List ℕ) (
       }
 
 -- ---- over one value
-module _ (W : List ℕ) (c : ℕ) (ps : List Slot) (n b : ℕ) (T : List ℕ) (held : PartsHeld W ps n) (al : Alike W ps n b) (cr : Crown c (valuesFrom W ps 0 n) T) where
+module _ (W : List ℕ) (c : ℕ) (ps : List Slot) (n b : ℕ) (T : List ℕ) (held : PartsHeld W ps n) (al : Alike W ps n b) (cr : RootObject c (valuesFrom W ps 0 n) T) where
   abbrev ns : List Node
   ns = nodesIn W (240 * b) (getD W (240 * b + 192) 0)
 
@@ -354,7 +354,7 @@ module _ (W : List ℕ) (c : ℕ) (ps : List Slot) (n b : ℕ) (T : List ℕ) (h
           room st wholes new-is
 
 -- ---- over none
-module _ (W : List ℕ) (c : ℕ) (ps : List Slot) (n : ℕ) (T : List ℕ) (held : PartsHeld W ps n) (lv : Leaves ps n) (cr : Crown c (valuesFrom W ps 0 n) T) where
+module _ (W : List ℕ) (c : ℕ) (ps : List Slot) (n : ℕ) (T : List ℕ) (held : PartsHeld W ps n) (lv : Leaves ps n) (cr : RootObject c (valuesFrom W ps 0 n) T) where
   alone-fit : (r : ValueRef) → isObject r ≡ false → Fit [] (valueOf W r)
   alone-fit (Object b) e = absurd (false≢true (sym e))
   alone-fit (Mark k) e = leaf-fit [] (mark k) (λ i z. let q : _≡_ {A = ℕ} 0 1 = cc in omega arith)

@@ -24,12 +24,12 @@ unfolding mayMeet
 meetsAt T k a b = cond (ltb k 2) (eqb a b) (mayMeet T a b)
 
 -- the first k bytes of objects i and j may
-pub record Twins (N T : List ℕ) (i j k : ℕ) : Type 0 where
+pub record AlikeSoFar (N T : List ℕ) (i j k : ℕ) : Type 0 where
   pub all : (f : ℕ) → f < k → meetsAt T f (getD N (6 * i + f) 0) (getD N (6 * j + f) 0) ≡ true
 
-pub record Twinned (N T : List ℕ) (i j : ℕ) (r : Bool) : Type 0 where
-  pub yes : r ≡ true → Twins N T i j 6
-  pub not : r ≡ false → Twins N T i j 6 → ⊥
+pub record LookAlike (N T : List ℕ) (i j : ℕ) (r : Bool) : Type 0 where
+  pub yes : r ≡ true → AlikeSoFar N T i j 6
+  pub not : r ≡ false → AlikeSoFar N T i j 6 → ⊥
 
 -- equal objects are not excluded
 pub record Pairs (N : List ℕ) (n : ℕ) (T : List ℕ) : Type 0 where
@@ -38,7 +38,7 @@ pub record Pairs (N : List ℕ) (n : ℕ) (T : List ℕ) : Type 0 where
 
 -- the pairs of row j with k are as the table has them
 pub record Fine (N T : List ℕ) (j k : ℕ) : Type 0 where
-  pub fine : getD T (64 * j + k) 0 ≡ 0 → Twins N T j k 6
+  pub fine : getD T (64 * j + k) 0 ≡ 0 → AlikeSoFar N T j k 6
 
 pub record RowFine (N T : List ℕ) (j k : ℕ) : Type 0 where
   pub row : (i : ℕ) → i < k → Fine N T j i

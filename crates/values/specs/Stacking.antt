@@ -41,7 +41,7 @@ abbrev pub roots : List Graph → List Ref
 roots gs = map (λ g. g .root) gs
 
 -- the new object, its fields the roots of its parts
-pub record Crown (c : ℕ) (gs : List Graph) (T : List ℕ) : Type 0 where
+pub record RootObject (c : ℕ) (gs : List Graph) (T : List ℕ) : Type 0 where
   pub is : nodeIn T 0 ≡ node c (roots gs)
   pub packed : Packed T 0
 

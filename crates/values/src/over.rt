@@ -3,8 +3,8 @@ use crate::Made;
 use crate::Slot;
 use crate::ValueRef;
 use crate::bytes::same;
+use crate::raise::put_root;
 use crate::raise::raise_objects;
-use crate::raise::seat;
 use crate::value::move_out;
 ghost use mathlib.Core.Path.{_≡_};
 ghost use Prim.Native.Nat.{ℕ, _+_, _*_, _<_, _≤_};
@@ -12,7 +12,7 @@ ghost use lib.ListN.{length};
 ghost use Rattle.cofj.specs.Values.{make};
 ghost use Rattle.values.specs.Layout.{refOf, Packed, Block, countIn, Holds, valueOf};
 ghost use Rattle.values.specs.Laying.{PartsHeld, valuesFrom, MadeIs};
-ghost use Rattle.values.specs.Stacking.{Stacked, Crown, Found, Alike, Leaves};
+ghost use Rattle.values.specs.Stacking.{Stacked, RootObject, Found, Alike, Leaves};
 
 // The code of a part: its root's.
 pub fn code_of(work: &[u8], r: ValueRef) -> u8
@@ -27,9 +27,9 @@ pub fn code_of(work: &[u8], r: ValueRef) -> u8
 }
 
 // The new object of class c, to the front of `top`.
-pub fn crown(work: &[u8], c: u8, parts: [Slot; 4], n: u8, top: &mut [u8])
+pub fn root_object(work: &[u8], c: u8, parts: [Slot; 4], n: u8, top: &mut [u8])
     requires { ⌜ PartsHeld (now work) parts n × (n ≤ 4) × (6 ≤ length (now top)) ⌝ }
-    ensures { λ _. ⌜ Crown c (valuesFrom (now (work .entry)) parts 0 n) (now (top .exit)) ⌝ }
+    ensures { λ _. ⌜ RootObject c (valuesFrom (now (work .entry)) parts 0 n) (now (top .exit)) ⌝ }
 {
     top[0] = c;
     top[1] = n;
@@ -67,7 +67,7 @@ pub fn stack(work: &mut [u8], b: usize, t: u8, top: &[u8], dst: usize)
     ensures { λ _. ⌜ Stacked (now (work .entry)) b t (now (top .entry)) dst (now (work .exit)) ⌝ }
 {
     raise_objects(work, b, t, dst);
-    seat(top, work, 240 * dst);
+    put_root(top, work, 240 * dst);
     work[240 * dst + 192] = t + 1;
 }
 
@@ -77,7 +77,7 @@ pub fn make_over(work: &mut [u8], c: u8, parts: [Slot; 4], n: u8, b: usize, dst:
     ensures { λ o. ⌜ MadeIs (now (work .entry)) (make c (valuesFrom (now (work .entry)) parts 0 n)) dst (now (work .exit)) o ⌝ }
 {
     let mut top = [0u8; 6];
-    crown(work, c, parts, n, &mut top);
+    root_object(work, c, parts, n, &mut top);
     let t = work[240 * b + 192];
     let k = find(work, b, t, &top);
     if k < t {
@@ -96,7 +96,7 @@ pub fn make_alone(work: &mut [u8], c: u8, parts: [Slot; 4], n: u8, dst: usize) -
     ensures { λ o. ⌜ MadeIs (now (work .entry)) (make c (valuesFrom (now (work .entry)) parts 0 n)) dst (now (work .exit)) o ⌝ }
 {
     let mut top = [0u8; 6];
-    crown(work, c, parts, n, &mut top);
+    root_object(work, c, parts, n, &mut top);
     stack(work, dst, 0, &top, dst);
     Made::Value(ValueRef::Object(dst))
 }

@@ -3,7 +3,7 @@ ghost use mathlib.Core.Path.{_≡_};
 ghost use Prim.Native.Nat.{ℕ, _+_, _*_, _<_, _≤_};
 ghost use lib.ListN.{length};
 ghost use Rattle.values.specs.Rounds.{Raw};
-ghost use Rattle.values.specs.Pairing.{maybe, mayMeet, meetsAt, Twinned, Pairs, SiftedPair, SiftedRow, Sifted, Settled, FirstPair, PairColours, Coloured};
+ghost use Rattle.values.specs.Pairing.{maybe, mayMeet, meetsAt, LookAlike, Pairs, SiftedPair, SiftedRow, Sifted, Settled, FirstPair, PairColours, Coloured};
 use crate::bytes::wipe;
 
 // Whether two objects may be equal.
@@ -46,9 +46,9 @@ pub fn meets(table: &[u8], k: usize, a: u8, b: u8) -> bool
 }
 
 // Whether objects i and j may be equal, by their bytes.
-pub fn twins(nodes: &[u8], table: &[u8], i: u8, j: u8) -> bool
+pub fn look_alike(nodes: &[u8], table: &[u8], i: u8, j: u8) -> bool
     requires { ⌜ (1536 ≤ length (now nodes)) × (4096 ≤ length (now table)) ⌝ }
-    ensures { λ r. ⌜ Twinned (now (nodes .entry)) (now (table .entry)) i j r ⌝ }
+    ensures { λ r. ⌜ LookAlike (now (nodes .entry)) (now (table .entry)) i j r ⌝ }
 {
     let mut k: usize = 0;
     while k < 6 {
@@ -75,7 +75,7 @@ pub fn sift_pair(nodes: &[u8], n: u8, table: &mut [u8], j: u8, k: u8) -> bool
     if table[at] != 0 {
         return false;
     }
-    if twins(nodes, table, j, k) {
+    if look_alike(nodes, table, j, k) {
         return false;
     }
     table[at] = 1;

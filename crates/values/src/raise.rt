@@ -54,7 +54,7 @@ pub fn raise_objects(work: &mut [u8], b: usize, t: u8, dst: usize)
 }
 
 // The object at the front of `top`, moved, to a place.
-pub fn seat(top: &[u8], work: &mut [u8], to: usize)
+pub fn put_root(top: &[u8], work: &mut [u8], to: usize)
     requires { ⌜ (6 ≤ length (now top)) × (to + 6 ≤ length (now work)) ⌝ }
     ensures { λ _. ⌜ Lifted (now (top .entry)) 0 6 ups 0 (now (work .entry)) to (now (work .exit)) ⌝ }
 {

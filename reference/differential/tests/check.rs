@@ -7,7 +7,7 @@ use reference::generator::random::Random;
 use reference::generator::{Kind, text};
 use reference::reading::read;
 use reference::syntax::{MINUS, MINUS_OPEN, Method, PLUS, PLUS_OPEN, Table, Type};
-use reference::typing::{Scope, res_type, type_of};
+use reference::typing::sides;
 use reference::writing::encode;
 
 /// Changes the tag or the class of one type of a method, or of a field.
@@ -36,12 +36,7 @@ fn change(random: &mut Random, table: &mut Table) {
 
 /// Whether a method fails by document 01's own condition alone: its left type does not fit the second result.
 fn fails_by_the_last_condition(table: &Table, method: &Method) -> bool {
-    let mut scope = Scope::body(table, method.owner, &method.params);
-    let Some(left) = type_of(&scope, &method.left) else {
-        return false;
-    };
-    scope.res = Some(res_type(left));
-    let Some(right) = type_of(&scope, &method.right) else {
+    let Some((left, right)) = sides(table, method) else {
         return false;
     };
     let tag = match left.tag {

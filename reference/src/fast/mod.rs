@@ -1,7 +1,8 @@
 //! The fast mode: the same answers as `calls`, written for speed, so that a
 //! ratio to the proved engine means something. It shares no code with the
-//! simple mode but the plain data of `calls`, `refusals`, `running::Stop` and
-//! `syntax::Type`; `tests/fast.rs` compares the two.
+//! simple mode but the plain data and the state refusals of `calls`, and the
+//! data of `refusals`, `running::Stop` and `syntax::Type`; `tests/fast.rs`
+//! compares the two.
 //!
 //! Values are hash-consed: equal values have one id, so calls are compared by
 //! ids, a field is one load, and a ring is minimised once, when it is closed.
@@ -20,8 +21,8 @@ mod running;
 mod slots;
 mod typing;
 
-use crate::calls::{Answer, Mode, Session};
-use crate::refusals::{REPORT_LENGTH, Refusal, WORK_LENGTH};
+use crate::calls::{Answer, Mode, Session, refused, state_refusal};
+use crate::refusals::{Refusal, WORK_LENGTH};
 use crate::syntax::Type;
 use program::Program;
 
@@ -49,13 +50,7 @@ pub fn run(
     };
     let program = match admitted {
         Ok(program) => program,
-        Err(refusal) => {
-            return Answer {
-                refusal: Some(refusal),
-                session,
-                length: 0,
-            };
-        }
+        Err(refusal) => return refused(refusal, session),
     };
     let (outcome, arena, fuel) = running::run(&program, session.fuel);
     let length = report::write(outcome, &arena, report_buffer);
@@ -64,18 +59,6 @@ pub fn run(
         refusal: None,
         session: Session { fuel, ..session },
         length,
-    }
-}
-
-fn state_refusal(session: Session, report: &[u8], work: &[u8]) -> Option<Refusal> {
-    if !session.open {
-        Some(Refusal::Closed)
-    } else if report.len() < REPORT_LENGTH {
-        Some(Refusal::ReportBuffer)
-    } else if work.len() < WORK_LENGTH {
-        Some(Refusal::WorkBuffer)
-    } else {
-        None
     }
 }
 

@@ -3,7 +3,7 @@ use Rattle.values.proofs.over.make_alone.Statement.{statement}
 use Rattle.values.proofs.over.make_alone.Tie as tie
 use Rattle.values.proofs.over.make_alone.Reads as reads
 use Rattle.values.proofs.over.make_alone.Lts as lts
-use Rattle.values.proofs.over.crown.Reads as crown-reads
+use Rattle.values.proofs.over.root_object.Reads as root-object-reads
 use Rattle.values.proofs.over.stack.Reads as stack-reads
 use Rattle.values.proofs.Stacks as laws
 

@@ -3,7 +3,7 @@ use Rattle.values.proofs.over.make_over.Statement.{statement}
 use Rattle.values.proofs.over.make_over.Tie as tie
 use Rattle.values.proofs.over.make_over.Reads as reads
 use Rattle.values.proofs.over.make_over.Lts as lts
-use Rattle.values.proofs.over.crown.Reads as crown-reads
+use Rattle.values.proofs.over.root_object.Reads as root-object-reads
 use Rattle.values.proofs.over.find.Reads as find-reads
 use Rattle.values.proofs.over.stack.Reads as stack-reads
 use Rattle.values.proofs.value.move_out.Reads as move-out-reads

@@ -4,7 +4,7 @@ use Rattle.values.proofs.over.stack.Tie as tie
 use Rattle.values.proofs.over.stack.Reads as reads
 use Rattle.values.proofs.over.stack.Lts as lts
 use Rattle.values.proofs.raise.raise_objects.Reads as raise-objects-reads
-use Rattle.values.proofs.raise.seat.Reads as seat-reads
+use Rattle.values.proofs.raise.put_root.Reads as put-root-reads
 use native.Mathlib.Omega.{arith}
 use lib.ListN.{length-set}
 use Rattle.values.proofs.Raises as laws

@@ -1,7 +1,7 @@
-use Rattle.values.proofs.raise.seat.Statement.{statement}
-use Rattle.values.proofs.raise.seat.Tie as tie
-use Rattle.values.proofs.raise.seat.Reads as reads
-use Rattle.values.proofs.raise.seat.Lts as lts
+use Rattle.values.proofs.raise.put_root.Statement.{statement}
+use Rattle.values.proofs.raise.put_root.Tie as tie
+use Rattle.values.proofs.raise.put_root.Reads as reads
+use Rattle.values.proofs.raise.put_root.Lts as lts
 use Rattle.values.proofs.raise.raise_part.Reads as raise-part-reads
 use borrow.Author.Needs.{needs}
 use mathlib.Core.Path.{_≡_}
@@ -23,13 +23,13 @@ loop-holds : tie.Need-loop-holds Inv-loop μ-loop
 loop-holds c = (search needs, search needs, lifts.lift-none _ _ _ _ _ _)
 
 loop-again : tie.Need-loop-again Inv-loop μ-loop
-loop-again c = (search needs, simp length-set (omega arith), search laws.seat-more)
+loop-again c = (search needs, simp length-set (omega arith), search laws.put-root-more)
 
 returns : tie.Need-returns Inv-loop μ-loop
 returns c = search laws.six-done
 
-pub seat-spec : {M : Type 1} → statement M
-seat-spec =
+pub put-root-spec : {M : Type 1} → statement M
+put-root-spec =
     tie.close
     (tie.spec
     Inv-loop

@@ -1,7 +1,7 @@
-use Rattle.values.proofs.over.crown.Statement.{statement}
-use Rattle.values.proofs.over.crown.Tie as tie
-use Rattle.values.proofs.over.crown.Reads as reads
-use Rattle.values.proofs.over.crown.Lts as lts
+use Rattle.values.proofs.over.root_object.Statement.{statement}
+use Rattle.values.proofs.over.root_object.Tie as tie
+use Rattle.values.proofs.over.root_object.Reads as reads
+use Rattle.values.proofs.over.root_object.Lts as lts
 use Rattle.values.proofs.over.code_of.Reads as code-of-reads
 use borrow.Author.Needs.{needs}
 use mathlib.Core.Path.{_≡_}
@@ -11,7 +11,7 @@ use lib.ListN.{length, length-set}
 use Rattle.values.proofs.Stacks as laws
 
 abbrev Inv-loop : tie.InvT-loop
-Inv-loop work c n top₀ parts i₀ top i = (i ≤ n) × (length top ≡ length top₀) × laws.Crowning work c parts n i top
+Inv-loop work c n top₀ parts i₀ top i = (i ≤ n) × (length top ≡ length top₀) × laws.RootBegun work c parts n i top
 
 abbrev μ-loop : tie.MeasureT-loop
 μ-loop work c n top₀ parts i₀ top i = n - i
@@ -32,7 +32,7 @@ slice-write-top-6 : tie.Need-slice-write-top-6 Inv-loop μ-loop
 slice-write-top-6 c = simp length-set (omega arith)
 
 loop-holds : tie.Need-loop-holds Inv-loop μ-loop
-loop-holds c = (search needs, search needs, search laws.crown-start)
+loop-holds c = (search needs, search needs, search laws.root-object-start)
 
 code-of-requires : tie.Need-code-of-requires Inv-loop μ-loop
 code-of-requires c κs = c .before .before .before .before .before .pre .0 .part _ (c .before .loop-test .taken)
@@ -41,16 +41,16 @@ slice-write-top-7 : tie.Need-slice-write-top-7 Inv-loop μ-loop
 slice-write-top-7 c = omega (arith, c .before .before .before .loop .inv .2 .long)
 
 loop-again : tie.Need-loop-again Inv-loop μ-loop
-loop-again c = (search needs, search laws.set-length, search laws.crown-more)
+loop-again c = (search needs, search laws.set-length, search laws.root-object-more)
 
 same-length : tie.Need-same-length Inv-loop μ-loop
 same-length c = omega (arith, simp length-set at (c .before .loop .inv .1))
 
 returns : tie.Need-returns Inv-loop μ-loop
-returns c = search laws.crown-done
+returns c = search laws.root-object-done
 
-pub crown-spec : {M : Type 1} → statement M
-crown-spec =
+pub root-object-spec : {M : Type 1} → statement M
+root-object-spec =
     tie.close
     (tie.spec
     Inv-loop

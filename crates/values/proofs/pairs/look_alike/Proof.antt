@@ -1,35 +1,35 @@
-use Rattle.values.proofs.pairs.twins.Statement.{statement}
-use Rattle.values.proofs.pairs.twins.Tie as tie
-use Rattle.values.proofs.pairs.twins.Reads as reads
-use Rattle.values.proofs.pairs.twins.Lts as lts
+use Rattle.values.proofs.pairs.look_alike.Statement.{statement}
+use Rattle.values.proofs.pairs.look_alike.Tie as tie
+use Rattle.values.proofs.pairs.look_alike.Reads as reads
+use Rattle.values.proofs.pairs.look_alike.Lts as lts
 use Rattle.values.proofs.pairs.meets.Reads as meets-reads
 use borrow.Author.Needs.{needs}
 use mathlib.Core.Path.{_≡_}
 use Prim.Native.Nat.{_≤_, _-_}
 use native.Mathlib.Omega.{arith}
-use Rattle.values.specs.Pairing.{Twins}
+use Rattle.values.specs.Pairing.{AlikeSoFar}
 use Rattle.values.proofs.Pairings as laws
 
 abbrev Inv-loop : tie.InvT-loop
-Inv-loop nodes table i j k₀ k = (k ≤ 6) × Twins nodes table i j k
+Inv-loop nodes table i j k₀ k = (k ≤ 6) × AlikeSoFar nodes table i j k
 
 abbrev μ-loop : tie.MeasureT-loop
 μ-loop nodes table i j k₀ k = 6 - k
 
 loop-holds : tie.Need-loop-holds Inv-loop μ-loop
-loop-holds c = (search needs, laws.twins-none _ _ _ _)
+loop-holds c = (search needs, laws.look-alike-none _ _ _ _)
 
 loop-again : tie.Need-loop-again Inv-loop μ-loop
-loop-again c = (search needs, search laws.twins-more)
+loop-again c = (search needs, search laws.look-alike-more)
 
 returns : tie.Need-returns Inv-loop μ-loop
-returns c = search laws.twins-not
+returns c = search laws.look-alike-not
 
 returns-2 : tie.Need-returns-2 Inv-loop μ-loop
-returns-2 c = search laws.twins-all
+returns-2 c = search laws.look-alike-all
 
-pub twins-spec : {M : Type 1} → statement M
-twins-spec =
+pub look-alike-spec : {M : Type 1} → statement M
+look-alike-spec =
     tie.close
     (tie.spec
     Inv-loop
