@@ -1,4 +1,5 @@
 // The type of an expression: it calls its list walk, which calls it back, while the nesting left falls.
+// Not here: what a call or a list asks of a type (fits), methods and main (program).
 use crate::fits::Items;
 use crate::fits::closed_tag;
 use crate::fits::item_fits;

@@ -1,4 +1,5 @@
 // Methods and main: the check of a program. Refusals 6 and 7.
+// Not here: the type of an expression (expr).
 use crate::expr::type_expr;
 use crate::fits::close_tag;
 use crate::fits::fits;

@@ -1,4 +1,5 @@
 // The variables of an expression: none in main; this, the parameters and, on the right side, res in a body.
+// Not here: the types of other expressions (expr).
 use classes::chain::FieldFound;
 use classes::methods::owner;
 use classes::methods::param_type;

@@ -1,4 +1,5 @@
 // Method lookup, and the parts of a method at their places in its row.
+// Not here: class fit and fields (chain).
 use crate::chain::FieldFound;
 use crate::chain::FieldType;
 use crate::places::CLASSES;

@@ -1,4 +1,5 @@
 // A method has the types of the method of its name above its class (refusal 5).
+// Not here: the other rules of a class table (place).
 use crate::chain::parent;
 use crate::methods::Found;
 use crate::methods::lookup;

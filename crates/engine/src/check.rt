@@ -1,4 +1,5 @@
 // The check of a text: refusals 1 to 7, or main's class and tag.
+// Not here: reading (tables), the typing rules (checker).
 use checker::program::Checked;
 use checker::program::check;
 use classes::places::SIZE;

@@ -1,4 +1,5 @@
 // The public calls for C and Rust: slices are pointer and length, structs go by value.
+// Not here: what they do; each is a call of this crate or of tables.
 use crate::check::check_text;
 use crate::run::checked_run;
 use crate::run::trial_run;

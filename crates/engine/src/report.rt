@@ -1,4 +1,5 @@
 // The report of an outcome, and the work buffer cleared.
+// Not here: the report of a value (values).
 use crate::session::WORK;
 use crate::session::open_session;
 use cofj::Answer;

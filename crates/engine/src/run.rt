@@ -1,4 +1,5 @@
-// The checked run and the trial run.
+// The checked run and the trial run: state, text, types where they are asked for, then main.
+// Not here: evaluation (evaluator).
 use crate::report::clear;
 use crate::report::report_outcome;
 use crate::session::state_refusal;

@@ -1,4 +1,5 @@
 // Sessions: opened, closed, and what their state refuses.
+// Not here: runs (run).
 use cofj::Closing;
 use cofj::Session;
 ghost use mathlib.Core.Path.{_≡_};

@@ -1,4 +1,5 @@
 // A value brought down to a block, unless it lies there or below.
+// Not here: how a value is copied (values).
 use values::ValueRef;
 use values::value::copy_block;
 ghost use Prim.Native.Nat.{ℕ, _+_, _*_, _≤_};

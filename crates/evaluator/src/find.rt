@@ -1,4 +1,4 @@
-// The method that a call names.
+// The method that a call names, or that it is stuck. Not here: lookup along the parents (classes).
 use checker::fits::receiver;
 use classes::methods::Found;
 use classes::places::CLASSES;

@@ -1,4 +1,5 @@
 // A call met again: an open call with the same receiver, name and arguments, the newest first.
+// Not here: when two values are equal (values), what is done with a call that is met (call).
 use crate::state::OpenCall;
 use crate::state::Trace;
 use values::Slot;

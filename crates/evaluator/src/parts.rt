@@ -1,4 +1,4 @@
-// The values of a list of expressions.
+// The values of a list of expressions, up to four. Not here: how they are evaluated (eval).
 use crate::Out;
 use crate::Stop;
 use values::Made;

@@ -1,4 +1,4 @@
-// Frames, and the trace of open left-side calls.
+// Frames, and the trace of open left-side calls. Not here: which call is met again (met).
 use crate::Out;
 use crate::Stop;
 use values::Slot;

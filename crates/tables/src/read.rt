@@ -1,4 +1,5 @@
 // Reading: the table of a text, or its lowest refusal, each over the whole text.
+// Not here: what one line is (lineform), the rules of a class table (classes).
 use classes::ClassTable;
 use classes::build::place_table;
 use classes::overrides::overrides;

@@ -1,4 +1,5 @@
-// The objects' colours, by rounds until nothing changes. Not here: objects that are known to be distinct, which need no rounds.
+// The objects' colours: by pairs for up to 64 of them, else by rounds until nothing changes.
+// Not here: the pairs (pairs); a new object over one value, which needs no colours (over).
 use crate::bytes::clear;
 use crate::bytes::copy;
 use crate::bytes::same;

@@ -1,4 +1,5 @@
 // The colours of at most 64 objects, by pairs that may be equal: all at first, and those taken away that are not, until none is.
+// Not here: more objects, which take rounds (colours).
 ghost use mathlib.Core.Path.{_≡_};
 ghost use Prim.Native.Nat.{ℕ, _+_, _*_, _<_, _≤_};
 ghost use lib.ListN.{length};
