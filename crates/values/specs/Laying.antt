@@ -12,28 +12,31 @@ use Rattle.values.specs.declared.ValueRef.the-variants.{Object}
 use Rattle.values.specs.declared.Slot.{Slot}
 use Rattle.values.specs.declared.Made.{Made}
 use Rattle.values.specs.declared.Made.the-variants.{Value, TooLarge}
-use Rattle.values.specs.Layout.{refOf, nodesIn, Packed, valueOf, Holds, Outside}
-use Rattle.values.specs.Operations.{InBlock}
+use Rattle.values.specs.Layout.{refOf, nodesIn, Packed, valueOf, rawOf, Holds, Low, Outside}
 
 -- the values of parts i to n
 unfoldable pub valuesFrom : List ℕ → List Slot → ℕ → ℕ → List Graph
 valuesFrom W ps i n = map (λ s. valueOf W (s .r)) (drop i (take n ps))
 
+-- the same before they are numbered from their roots
+unfoldable pub rawsFrom : List ℕ → List Slot → ℕ → ℕ → List Graph
+rawsFrom W ps i n = map (λ s. rawOf W (s .r)) (drop i (take n ps))
+
 -- each of the first n parts stands for a value
 pub record PartsHeld (W : List ℕ) (ps : List Slot) (n : ℕ) : Type 0 where
   pub full : n ≤ length ps
-  pub part : (i : ℕ) → i < n → Holds W (getD ps i (record { r = Object 0 }) .r)
+  pub part : (i : ℕ) → i < n → Holds W (getD ps i (record { r = Object 0 0 }) .r)
 
--- the objects of g, moved to `at`; the bytes before are R₀'s
-pub record LaidNodes (g : Graph) (at : ℕ) (R₀ R : List ℕ) (n : ℕ) : Type 0 where
+-- the objects ns, moved to `at`; the bytes before are R₀'s
+pub record LaidNodes (ns : List Node) (at : ℕ) (R₀ R : List ℕ) (n : ℕ) : Type 0 where
   pub same : length R ≡ length R₀
-  pub count : n ≡ length (g .nodes)
+  pub count : n ≡ length ns
   pub few : n ≤ 32
-  pub nodes : nodesIn R (6 * at) (length (g .nodes)) ≡ map (renameNode (λ k. at + k)) (g .nodes)
-  pub packed : (j : ℕ) → j < length (g .nodes) → Packed R (6 * at + 6 * j)
+  pub nodes : nodesIn R (6 * at) (length ns) ≡ map (renameNode (λ k. at + k)) ns
+  pub packed : (j : ℕ) → j < length ns → Packed R (6 * at + 6 * j)
   pub kept : (p : ℕ) → p < 6 * at → getD R p 0 ≡ getD R₀ p 0
 
--- and its root for field i of object 0
+-- the objects of g, moved to `at`, and its root for field i of object 0
 pub record LaidOne (g : Graph) (at i : ℕ) (R₀ R : List ℕ) (t : ℕ) : Type 0 where
   pub same : length R ≡ length R₀
   pub next : t ≡ at + length (g .nodes)
@@ -70,10 +73,10 @@ MadeHeld W (Value r) = Holds W r
 MadeHeld W TooLarge = Unit {0}
 
 abbrev pub MadePlace : ℕ → Made → Type 0
-MadePlace b (Value r) = InBlock b r
+MadePlace b (Value r) = Low (b + 1) r
 MadePlace b TooLarge = Unit {0}
 
--- the value v, unless it has more than 32 objects; only block dst has changed
+-- the value v, in block dst or below, unless it has more than 32 objects; only block dst has changed
 pub record MadeIs (W : List ℕ) (v : Graph) (dst : ℕ) (W′ : List ℕ) (o : Made) : Type 0 where
   pub held : MadeHeld W′ o
   pub is : madeIn W′ o ≡ cond (leb (length (v .nodes)) 32) (some v) none

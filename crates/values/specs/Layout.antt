@@ -7,7 +7,7 @@ use mathlib.Core.List.{List, [], _∷_}
 use lib.Dec.{ltb, eqb}
 use lib.ListN.{length, getD, take, drop}
 use Rattle.cofj.specs.Values.{Ref, obj, mark, undet, Node, node, Graph, graph, canon, undetermined, markOf}
-use Rattle.cofj.specs.Unfolding.{Whole}
+use Rattle.cofj.specs.Unfolding.{Same, Whole}
 use Rattle.values.specs.declared.ValueRef.{ValueRef}
 use Rattle.values.specs.declared.ValueRef.the-variants.{Object, Mark, Undetermined}
 
@@ -45,33 +45,61 @@ part S at n = take n (drop at S)
 unfoldable pub countIn : List ℕ → ℕ → ℕ
 countIn W b = getD W (240 * b + 192) 0
 
--- the value in block b
-unfoldable pub blockIn : List ℕ → ℕ → Graph
-blockIn W b = graph (obj 0) (nodesIn W (240 * b) (countIn W b))
+-- no byte of these objects is 193 + the level or more: so every mark in them is below the level
+unfoldable pub levelIn : List ℕ → ℕ → ℕ
+levelIn W b = getD W (240 * b + 193) 0
 
--- block b holds a value
+-- the objects in block b, and the graph from object i of them on
+unfoldable pub objectsIn : List ℕ → ℕ → List Node
+objectsIn W b = nodesIn W (240 * b) (countIn W b)
+
+abbrev pub graphAt : List ℕ → ℕ → ℕ → Graph
+graphAt W b i = graph (obj i) (objectsIn W b)
+
+-- no two of the objects unfold to the same tree
+pub record Distinct (ns : List Node) : Type 0 where
+  pub apart : (i j : ℕ) → i < length ns → j < length ns → Same ns (obj i) ns (obj j) → i ≡ j
+
+-- block b holds objects
 pub record Block (W : List ℕ) (b : ℕ) : Type 0 where
   pub room : 240 * b + 240 ≤ length W
-  pub filled : 1 ≤ countIn W b
   pub small : countIn W b ≤ 32
   pub packed : (i : ℕ) → i < countIn W b → Packed W (240 * b + 6 * i)
-  pub whole : Whole (blockIn W b)
-  pub own : canon (blockIn W b) ≡ blockIn W b
+  pub whole : Whole (graph undet (objectsIn W b))
+  pub distinct : Distinct (objectsIn W b)
+  pub level : (q : ℕ) → q < 6 * countIn W b → getD W (240 * b + q) 0 < 193 + levelIn W b
+
+-- and object i is one of them
+pub record Inside (W : List ℕ) (b i : ℕ) : Type 0 where
+  pub block : Block W b
+  pub low : i < countIn W b
 
 -- the value that a reference stands for
 abbrev pub valueOf : List ℕ → ValueRef → Graph
-valueOf W (Object b) = blockIn W b
+valueOf W (Object b i) = canon (graphAt W b i)
 valueOf W (Mark k) = markOf k
 valueOf W Undetermined = undetermined
 
+-- the same before it is numbered from its root
+abbrev pub rawOf : List ℕ → ValueRef → Graph
+rawOf W (Object b i) = graphAt W b i
+rawOf W (Mark k) = markOf k
+rawOf W Undetermined = undetermined
+
 abbrev pub HeldBy : List ℕ → ValueRef → Type 0
-HeldBy W (Object b) = Block W b
+HeldBy W (Object b i) = Inside W b i
 HeldBy W (Mark k) = k < 63
 HeldBy W Undetermined = Unit {0}
 
 -- the reference stands for a value in these bytes
 pub record Holds (W : List ℕ) (r : ValueRef) : Type 0 where
   pub held : HeldBy W r
+
+-- the value lies below block sp, if it is an object
+abbrev pub Low : ℕ → ValueRef → Type 0
+Low sp (Object b i) = b < sp
+Low sp (Mark k) = Unit {0}
+Low sp Undetermined = Unit {0}
 
 -- every byte outside block b is as before
 pub record Outside (b : ℕ) (W W′ : List ℕ) : Type 0 where

@@ -6,5 +6,5 @@ pub mod Walking
 pub mod Numbers
 pub mod Operations
 pub mod Laying
-pub mod Stacking
+pub mod Adding
 pub mod Reporting

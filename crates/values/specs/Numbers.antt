@@ -6,7 +6,7 @@ use mathlib.Core.List.{List}
 use lib.Dec.{eqb}
 use lib.ListN.{length, getD, take}
 use Rattle.cofj.specs.Values.{Graph, graph, obj, colours, canon}
-use Rattle.values.specs.Layout.{nodesIn, Block, blockIn, Outside}
+use Rattle.values.specs.Layout.{nodesIn, Inside, graphAt, Outside}
 use Rattle.values.specs.Tables.{copied}
 use Rattle.values.specs.Rounds.{Raw}
 
@@ -21,6 +21,10 @@ pub record Gathered (N O : List ℕ) (m : ℕ) (T D₀ : List ℕ) (to : ℕ) (D
   pub below : (q : ℕ) → q < to → getD D q 0 ≡ getD D₀ q 0
   pub above : (q : ℕ) → to + 6 * m ≤ q → getD D q 0 ≡ getD D₀ q 0
 
+-- none of the p bytes from a place on is 193 + l or more
+pub record Levels (W : List ℕ) (at p l : ℕ) : Type 0 where
+  pub below : (q : ℕ) → q < p → getD W (at + q) 0 < 193 + l
+
 -- n objects with their colours, a root, and room for the block
 pub record Ready (N : List ℕ) (n : ℕ) (C : List ℕ) (root : ℕ) (W : List ℕ) (dst : ℕ) : Type 0 where
   pub raw : Raw N n
@@ -32,10 +36,10 @@ pub record Ready (N : List ℕ) (n : ℕ) (C : List ℕ) (root : ℕ) (W : List 
 abbrev pub graphIn : List ℕ → ℕ → ℕ → Graph
 graphIn N n root = graph (obj root) (nodesIn N 0 n)
 
--- a block holds the value v
+-- a block holds the value v from its first object on
 pub record Has (W : List ℕ) (b : ℕ) (v : Graph) : Type 0 where
-  pub block : Block W b
-  pub is : blockIn W b ≡ v
+  pub inside : Inside W b 0
+  pub is : graphAt W b 0 ≡ v
 
 -- the value's objects are counted; up to 32 of them are in the block, and nothing else has changed
 pub record Placed (N : List ℕ) (n root : ℕ) (W : List ℕ) (dst : ℕ) (W′ : List ℕ) (r : ℕ) : Type 0 where

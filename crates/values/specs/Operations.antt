@@ -8,11 +8,12 @@ use lib.Dec.{eqb}
 use lib.ListN.{length, getD}
 use Rattle.cofj.specs.Values.{Graph, graph, obj, node, bind, canon, select, close}
 use Rattle.values.specs.declared.ValueRef.{ValueRef}
-use Rattle.values.specs.declared.ValueRef.the-variants.{Object, Mark, Undetermined}
+use Rattle.values.specs.declared.ValueRef.the-variants.{Mark, Undetermined}
 use Rattle.values.specs.declared.Selected.{Selected}
 use Rattle.values.specs.declared.Selected.the-variants.{Value, Stuck}
-use Rattle.values.specs.Layout.{countIn, blockIn, Block, valueOf, Holds, Outside}
+use Rattle.values.specs.Layout.{countIn, levelIn, objectsIn, valueOf, Holds, Low, Outside}
 use Rattle.values.specs.Tables.{Filled, Lifted}
+use Rattle.values.specs.Numbers.{Has}
 
 -- the objects of block b, copied with one code turned
 pub record Taken (W : List ℕ) (b hot : ℕ) (I R₀ R : List ℕ) (n : ℕ) : Type 0 where
@@ -20,22 +21,17 @@ pub record Taken (W : List ℕ) (b hot : ℕ) (I R₀ R : List ℕ) (n : ℕ) : 
   pub ids : Filled (λ i. 0 + i) n I
   pub copy : Lifted W (240 * b) (6 * n) I hot R₀ 0 R
 
--- a result lies in block b, if it is an object
-abbrev pub InBlock : ℕ → ValueRef → Type 0
-InBlock b (Object c) = c ≡ b
-InBlock b (Mark k) = Unit {0}
-InBlock b Undetermined = Unit {0}
-
--- a reference stands for the value v in the bytes after, and only block dst has changed
+-- a reference stands for the value v in the bytes after, in block dst or below, and only block dst has changed
 pub record Gives (W : List ℕ) (dst : ℕ) (W′ : List ℕ) (r : ValueRef) (v : Graph) : Type 0 where
   pub held : Holds W′ r
   pub is : valueOf W′ r ≡ v
-  pub place : InBlock dst r
+  pub place : Low (dst + 1) r
   pub outside : Outside dst W W′
 
--- the value of the graph g
-abbrev pub Moved : List ℕ → Graph → ℕ → List ℕ → ValueRef → Type 0
-Moved W g dst W′ r = Gives W dst W′ r (canon g)
+-- the value of the graph g is in block dst, from its first object on
+pub record Moved (W : List ℕ) (g : Graph) (dst : ℕ) (W′ : List ℕ) : Type 0 where
+  pub has : Has W′ dst (canon g)
+  pub outside : Outside dst W W′
 
 -- the first q bytes of block b are in block dst; the other bytes are W's
 pub record Copying (W : List ℕ) (b dst q : ℕ) (D : List ℕ) : Type 0 where
@@ -44,9 +40,20 @@ pub record Copying (W : List ℕ) (b dst q : ℕ) (D : List ℕ) : Type 0 where
   pub below : (p : ℕ) → p < 240 * dst → getD D p 0 ≡ getD W p 0
   pub above : (p : ℕ) → 240 * dst + q ≤ p → getD D p 0 ≡ getD W p 0
 
+-- block dst holds the objects of block b
+pub record Copied (W : List ℕ) (b dst : ℕ) (W′ : List ℕ) : Type 0 where
+  pub count : countIn W′ dst ≡ countIn W b
+  pub level : levelIn W′ dst ≡ levelIn W b
+  pub here : (k : ℕ) → k < 6 * countIn W b → getD W′ (240 * dst + k) 0 ≡ getD W (240 * b + k) 0
+  pub outside : Outside dst W W′
+
 -- a code that is no object's
 abbrev pub refIn : ℕ → ValueRef
 refIn c = cond (eqb c 192) Undetermined (Mark (c - 193))
+
+pub record Leaf (c : ℕ) (r : ValueRef) : Type 0 where
+  pub is : r ≡ refIn c
+  pub small : c < 256
 
 -- what a selection answers, as a value
 abbrev pub answerIn : List ℕ → Selected → Option Graph
@@ -57,24 +64,19 @@ abbrev pub AnswerHeld : List ℕ → Selected → Type 0
 AnswerHeld W (Value r) = Holds W r
 AnswerHeld W Stuck = Unit {0}
 
-abbrev pub AnswerPlace : ℕ → Selected → Type 0
-AnswerPlace b (Value r) = InBlock b r
-AnswerPlace b Stuck = Unit {0}
+abbrev pub AnswerLow : ℕ → Selected → Type 0
+AnswerLow sp (Value r) = Low sp r
+AnswerLow sp Stuck = Unit {0}
 
-pub record Leaf (c : ℕ) (r : ValueRef) : Type 0 where
-  pub is : r ≡ refIn c
-  pub small : c < 256
+-- field f of a value, in the same block
+pub record Chosen (W : List ℕ) (r : ValueRef) (f : ℕ) (o : Selected) : Type 0 where
+  pub held : AnswerHeld W o
+  pub is : answerIn W o ≡ select f (valueOf W r)
+  pub place : (sp : ℕ) → Low sp r → AnswerLow sp o
 
--- field f of the value v
-pub record Chosen (W : List ℕ) (v : Graph) (f dst : ℕ) (W′ : List ℕ) (o : Selected) : Type 0 where
-  pub held : AnswerHeld W′ o
-  pub is : answerIn W′ o ≡ select f v
-  pub place : AnswerPlace dst o
-  pub outside : Outside dst W W′
-
--- the objects of block b with mark x bound to the root
+-- the objects of block b with mark x bound to the first
 unfoldable pub boundIn : List ℕ → ℕ → ℕ → Graph
-boundIn W b x = graph (obj 0) (map (λ n. node (n .cls) (map (bind x (obj 0)) (n .refs))) (blockIn W b .nodes))
+boundIn W b x = graph (obj 0) (map (λ n. node (n .cls) (map (bind x (obj 0)) (n .refs))) (objectsIn W b))
 
 abbrev pub closeOf : ℕ → Graph → Graph
 closeOf x v = close x v

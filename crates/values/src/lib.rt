@@ -6,16 +6,16 @@ pub mod pairs; // the objects' colours, by pairs that may be equal
 pub mod colours; // the objects' colours, by rounds where there are many
 pub mod walk; // the order in which they are met
 pub mod number; // the objects, numbered in that order, in a block
-pub mod value; // values compared, selected from, closed
+pub mod lockstep; // values compared
+pub mod value; // values selected from, closed, moved
 pub mod lay; // values laid side by side below a new object
-pub mod raise; // objects moved by one place
-pub mod over; // a new object over one value
+pub mod over; // a new object beside the objects of one block
 pub mod make; // a new object
 pub mod report; // the report of a value
 
-// A value: the block where it lies, the mark of an open call, or undetermined.
+// A value: the block where it lies and its object there, the mark of an open call, or undetermined.
 pub enum ValueRef {
-    Object(usize),
+    Object(u16, u8),
     Mark(u8),
     Undetermined,
 }

@@ -5,20 +5,22 @@ use crate::ValueRef;
 use crate::colours::colour;
 use crate::lay::build;
 use crate::number::put;
+use crate::over::add;
+use crate::over::find;
 use crate::over::make_alone;
-use crate::over::make_over;
-use crate::value::same_blocks;
+use crate::over::root_object;
+use crate::value::bring;
 ghost use mathlib.Core.Path.{_≡_};
 ghost use Prim.Native.Nat.{ℕ, _+_, _*_, _<_, _≤_};
 ghost use lib.ListN.{length, take};
 ghost use Rattle.cofj.specs.Values.{colours, make};
-ghost use Rattle.values.specs.Layout.{nodesIn, Block, Holds};
+ghost use Rattle.values.specs.Layout.{nodesIn, Block};
 ghost use Rattle.values.specs.Rounds.{Raw};
 ghost use Rattle.values.specs.Laying.{PartsHeld, valuesFrom, MadeIs};
-ghost use Rattle.values.specs.Stacking.{isObject, Stands, Shared, First};
+ghost use Rattle.values.specs.Adding.{isObject, Stands, Together, Beside, First};
 
-// The parts' objects laid side by side, and equal ones found by rounds.
-pub fn make_laid(work: &mut [u8], c: u8, parts: [Slot; 4], n: u8, dst: usize) -> Made
+// The parts' objects laid side by side, and equal ones found.
+pub fn make_laid(work: &mut [u8], c: u8, parts: [Slot; 4], n: u8, dst: u16) -> Made
     requires { ⌜ PartsHeld (now work) parts n × (n ≤ 4) × (240 * dst + 240 ≤ length (now work)) ⌝ }
     ensures { λ o. ⌜ MadeIs (now (work .entry)) (make c (valuesFrom (now (work .entry)) parts 0 n)) dst (now (work .exit)) o ⌝ }
 {
@@ -30,7 +32,7 @@ pub fn make_laid(work: &mut [u8], c: u8, parts: [Slot; 4], n: u8, dst: usize) ->
     if 32 < m {
         return Made::TooLarge;
     }
-    Made::Value(ValueRef::Object(dst))
+    Made::Value(ValueRef::Object(dst, 0))
 }
 
 // Whether a part is an object.
@@ -38,7 +40,7 @@ pub fn is_object(v: ValueRef) -> bool
     ensures { λ r. ⌜ r ≡ isObject v ⌝ }
 {
     match v {
-        ValueRef::Object(_) => true,
+        ValueRef::Object(_, _) => true,
         ValueRef::Mark(_) => false,
         ValueRef::Undetermined => false,
     }
@@ -61,33 +63,27 @@ pub fn first_object(parts: [Slot; 4], n: u8) -> u8
     n
 }
 
-// Whether a part is block b's value, or no object.
-pub fn stands(work: &[u8], v: ValueRef, b: usize) -> bool
-    requires { ⌜ Holds (now work) v × Block (now work) b ⌝ }
-    ensures { λ r. ⌜ Stands (now (work .entry)) b v r ⌝ }
+// Whether a part lies in block b, or is no object.
+pub fn stands(v: ValueRef, b: u16) -> bool
+    ensures { λ r. ⌜ Stands b v r ⌝ }
 {
     match v {
-        ValueRef::Object(x) => {
-            if x == b {
-                return true;
-            }
-            same_blocks(work, x, b)
-        }
+        ValueRef::Object(x, _) => x == b,
         ValueRef::Mark(_) => true,
         ValueRef::Undetermined => true,
     }
 }
 
-// Whether each part is block b's value, or no object.
-pub fn alike(work: &[u8], parts: [Slot; 4], n: u8, b: usize) -> bool
-    requires { ⌜ PartsHeld (now work) parts n × (n ≤ 4) × Block (now work) b ⌝ }
-    ensures { λ r. ⌜ Shared (now (work .entry)) parts n b r ⌝ }
+// Whether each part lies in block b, or is no object.
+pub fn together(parts: [Slot; 4], n: u8, b: u16) -> bool
+    requires { ⌜ n ≤ 4 ⌝ }
+    ensures { λ r. ⌜ Together parts n b r ⌝ }
 {
     let mut i: u8 = 0;
     while i < n {
         let s = parts[i as usize];
         let v = s.r;
-        if !stands(work, v, b) {
+        if !stands(v, b) {
             return false;
         }
         i += 1;
@@ -95,8 +91,27 @@ pub fn alike(work: &[u8], parts: [Slot; 4], n: u8, b: usize) -> bool
     true
 }
 
-// A new object of class c with the n first parts, in block `dst`, unless it has more than 32 objects.
-pub fn make(work: &mut [u8], c: u8, parts: [Slot; 4], n: u8, dst: usize) -> Made
+// A new object whose parts lie in block b, or are no objects.
+pub fn make_beside(work: &mut [u8], c: u8, parts: [Slot; 4], n: u8, b: u16, dst: u16) -> Made
+    requires { ⌜ PartsHeld (now work) parts n × (n ≤ 4) × Block (now work) b × Beside parts n b × (240 * dst + 240 ≤ length (now work)) ⌝ }
+    ensures { λ o. ⌜ MadeIs (now (work .entry)) (make c (valuesFrom (now (work .entry)) parts 0 n)) dst (now (work .exit)) o ⌝ }
+{
+    let mut top = [0u8; 6];
+    root_object(work, c, parts, n, &mut top);
+    let t = work[240 * (b as usize) + 192];
+    let k = find(work, b, t, &top);
+    if k < t {
+        return Made::Value(bring(work, ValueRef::Object(b, k), dst));
+    }
+    if 32 <= t {
+        return make_laid(work, c, parts, n, dst);
+    }
+    add(work, b, &top, dst);
+    Made::Value(ValueRef::Object(dst, t))
+}
+
+// A new object of class c with the n first parts, in block `dst` or below, unless it has more than 32 objects.
+pub fn make(work: &mut [u8], c: u8, parts: [Slot; 4], n: u8, dst: u16) -> Made
     requires { ⌜ PartsHeld (now work) parts n × (n ≤ 4) × (240 * dst + 240 ≤ length (now work)) ⌝ }
     ensures { λ o. ⌜ MadeIs (now (work .entry)) (make c (valuesFrom (now (work .entry)) parts 0 n)) dst (now (work .exit)) o ⌝ }
 {
@@ -106,11 +121,11 @@ pub fn make(work: &mut [u8], c: u8, parts: [Slot; 4], n: u8, dst: usize) -> Made
     }
     let s = parts[f as usize];
     let v = s.r;
-    let ValueRef::Object(b) = v else {
+    let ValueRef::Object(b, _) = v else {
         return make_laid(work, c, parts, n, dst);
     };
-    if alike(work, parts, n, b) {
-        return make_over(work, c, parts, n, b, dst);
+    if together(parts, n, b) {
+        return make_beside(work, c, parts, n, b, dst);
     }
     make_laid(work, c, parts, n, dst)
 }

@@ -7,7 +7,7 @@ ghost use mathlib.Core.Path.{_≡_};
 ghost use Prim.Native.Nat.{ℕ, _+_, _*_, _<_, _≤_};
 ghost use lib.ListN.{length, getD};
 ghost use Rattle.values.specs.Tables.{Filled};
-ghost use Rattle.values.specs.Numbers.{numberIn, Gathered, Ready, Placed};
+ghost use Rattle.values.specs.Numbers.{numberIn, Gathered, Levels, Ready, Placed};
 
 // The number of an object of colour c: the colour's place in the order, which the table tells; m if it is not met.
 pub fn number_of(met: &[u8], c: u8, m: u8) -> u8
@@ -54,13 +54,32 @@ pub fn gather(nodes: &[u8], order: &[u8], m: u8, table: &[u8], dst: &mut [u8], t
     }
 }
 
+// A level for the p bytes from a place on.
+pub fn level_of(work: &[u8], at: usize, p: usize) -> u8
+    requires { ⌜ at + p ≤ length (now work) ⌝ }
+    ensures { λ l. ⌜ Levels (now (work .entry)) at p l ⌝ }
+{
+    let mut l: u8 = 0;
+    let mut q: usize = 0;
+    while q < p {
+        let c = work[at + q];
+        if 192 < c {
+            if l < c - 192 {
+                l = c - 192;
+            }
+        }
+        q += 1;
+    }
+    l
+}
+
 // Writes the value of n objects with their colours, from the root on, to block `dst`, unless it has more than 32 objects.
 // Answers with the number of its objects.
-pub fn put(nodes: &[u8], n: u8, cs: &[u8], root: u8, work: &mut [u8], dst: usize) -> u8
+pub fn put(nodes: &[u8], n: u8, cs: &[u8], root: u8, work: &mut [u8], dst: u16) -> u8
     requires { ⌜ Ready (now nodes) n (now cs) root (now work) dst ⌝ }
     ensures { λ r. ⌜ Placed (now (nodes .entry)) n root (now (work .entry)) dst (now (work .exit)) r ⌝ }
 {
-    let end = 240 * dst + 192;
+    let at = 240 * (dst as usize);
     let mut order = [0u8; 256];
     let mut met = [0u8; 256];
     wipe(&mut met, 256);
@@ -70,7 +89,9 @@ pub fn put(nodes: &[u8], n: u8, cs: &[u8], root: u8, work: &mut [u8], dst: usize
     }
     let mut table = [0u8; 256];
     numbers(cs, n, &met, m, &mut table);
-    gather(nodes, &order, m, &table, work, 240 * dst);
-    work[end] = m;
+    gather(nodes, &order, m, &table, work, at);
+    let l = level_of(work, at, 6 * (m as usize));
+    work[at + 192] = m;
+    work[at + 193] = l;
     m
 }

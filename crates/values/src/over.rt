@@ -1,26 +1,25 @@
-// A new object over the objects of one value, or over none. Not here: parts that are several values.
+// A new object beside the objects of the block where its parts lie, or alone in a block. Not here: parts in several blocks.
 use crate::Made;
 use crate::Slot;
 use crate::ValueRef;
 use crate::bytes::same;
-use crate::raise::put_root;
-use crate::raise::raise_objects;
-use crate::value::move_out;
+use crate::value::copy_block;
 ghost use mathlib.Core.Path.{_≡_};
 ghost use Prim.Native.Nat.{ℕ, _+_, _*_, _<_, _≤_};
 ghost use lib.ListN.{length};
 ghost use Rattle.cofj.specs.Values.{make};
-ghost use Rattle.values.specs.Layout.{refOf, Packed, Block, countIn, Holds, valueOf};
-ghost use Rattle.values.specs.Laying.{PartsHeld, valuesFrom, MadeIs};
-ghost use Rattle.values.specs.Stacking.{Stacked, RootObject, Found, Alike, Leaves};
+ghost use Rattle.values.specs.Layout.{refOf, rawOf, Packed, Block, countIn, Holds};
+ghost use Rattle.values.specs.Numbers.{Levels};
+ghost use Rattle.values.specs.Laying.{PartsHeld, rawsFrom, valuesFrom, MadeIs};
+ghost use Rattle.values.specs.Adding.{RootObject, Found, Appended, Added, Leaves};
 
-// The code of a part: its root's.
+// The code of a part: its object's.
 pub fn code_of(work: &[u8], r: ValueRef) -> u8
     requires { ⌜ Holds (now work) r ⌝ }
-    ensures { λ c. ⌜ refOf c ≡ valueOf (now (work .entry)) r .root ⌝ }
+    ensures { λ c. ⌜ refOf c ≡ rawOf (now (work .entry)) r .root ⌝ }
 {
     match r {
-        ValueRef::Object(_) => 0,
+        ValueRef::Object(_, i) => i,
         ValueRef::Mark(k) => 193 + k,
         ValueRef::Undetermined => 192,
     }
@@ -29,7 +28,7 @@ pub fn code_of(work: &[u8], r: ValueRef) -> u8
 // The new object of class c, to the front of `top`.
 pub fn root_object(work: &[u8], c: u8, parts: [Slot; 4], n: u8, top: &mut [u8])
     requires { ⌜ PartsHeld (now work) parts n × (n ≤ 4) × (6 ≤ length (now top)) ⌝ }
-    ensures { λ _. ⌜ RootObject c (valuesFrom (now (work .entry)) parts 0 n) (now (top .exit)) ⌝ }
+    ensures { λ _. ⌜ RootObject c (rawsFrom (now (work .entry)) parts 0 n) (now (top .exit)) ⌝ }
 {
     top[0] = c;
     top[1] = n;
@@ -47,13 +46,14 @@ pub fn root_object(work: &[u8], c: u8, parts: [Slot; 4], n: u8, top: &mut [u8])
 }
 
 // The place of the object in `top` among the t objects of block b; t if it is not there.
-pub fn find(work: &[u8], b: usize, t: u8, top: &[u8]) -> u8
+pub fn find(work: &[u8], b: u16, t: u8, top: &[u8]) -> u8
     requires { ⌜ Block (now work) b × (t ≡ countIn (now work) b) × Packed (now top) 0 × (6 ≤ length (now top)) ⌝ }
     ensures { λ k. ⌜ Found (now (work .entry)) b t (now (top .entry)) k ⌝ }
 {
+    let at = 240 * (b as usize);
     let mut k: u8 = 0;
     while k < t {
-        if same(work, 240 * b + 6 * (k as usize), top, 0, 6) {
+        if same(work, at + 6 * (k as usize), top, 0, 6) {
             return k;
         }
         k += 1;
@@ -61,42 +61,62 @@ pub fn find(work: &[u8], b: usize, t: u8, top: &[u8]) -> u8
     t
 }
 
-// The object in `top` and then the t first objects of block b, to block `dst`.
-pub fn stack(work: &mut [u8], b: usize, t: u8, top: &[u8], dst: usize)
-    requires { ⌜ (t ≤ 31) × (240 * b + 240 ≤ length (now work)) × (240 * dst + 240 ≤ length (now work)) × (6 ≤ length (now top)) ⌝ }
-    ensures { λ _. ⌜ Stacked (now (work .entry)) b t (now (top .entry)) dst (now (work .exit)) ⌝ }
+// A level for objects of this level and the one in `top`.
+pub fn level_with(top: &[u8], l: u8) -> u8
+    requires { ⌜ 6 ≤ length (now top) ⌝ }
+    ensures { λ m. ⌜ Levels (now (top .entry)) 0 6 m × (l ≤ m) ⌝ }
 {
-    raise_objects(work, b, t, dst);
-    put_root(top, work, 240 * dst);
-    work[240 * dst + 192] = t + 1;
+    let mut m: u8 = l;
+    let mut k: usize = 0;
+    while k < 6 {
+        let c = top[k];
+        if 192 < c {
+            if m < c - 192 {
+                m = c - 192;
+            }
+        }
+        k += 1;
+    }
+    m
 }
 
-// A new object whose parts are block b's value, or no objects.
-pub fn make_over(work: &mut [u8], c: u8, parts: [Slot; 4], n: u8, b: usize, dst: usize) -> Made
-    requires { ⌜ PartsHeld (now work) parts n × (n ≤ 4) × Alike (now work) parts n b × (240 * dst + 240 ≤ length (now work)) ⌝ }
-    ensures { λ o. ⌜ MadeIs (now (work .entry)) (make c (valuesFrom (now (work .entry)) parts 0 n)) dst (now (work .exit)) o ⌝ }
+// The object in `top`, after t objects of block `dst`, and the block's level.
+pub fn append(work: &mut [u8], dst: u16, t: u8, top: &[u8], l: u8)
+    requires { ⌜ (t ≤ 31) × (240 * dst + 240 ≤ length (now work)) × (6 ≤ length (now top)) ⌝ }
+    ensures { λ _. ⌜ Appended (now (work .entry)) dst t (now (top .entry)) l (now (work .exit)) ⌝ }
 {
-    let mut top = [0u8; 6];
-    root_object(work, c, parts, n, &mut top);
-    let t = work[240 * b + 192];
-    let k = find(work, b, t, &top);
-    if k < t {
-        return Made::Value(move_out(work, b, k, dst));
+    let at = 240 * (dst as usize);
+    let to = at + 6 * (t as usize);
+    let mut k: usize = 0;
+    while k < 6 {
+        work[to + k] = top[k];
+        k += 1;
     }
-    if 32 <= t {
-        return Made::TooLarge;
+    work[at + 192] = t + 1;
+    work[at + 193] = l;
+}
+
+// The objects of block b and the one in `top`, in block `dst`.
+pub fn add(work: &mut [u8], b: u16, top: &[u8], dst: u16)
+    requires { ⌜ Block (now work) b × (countIn (now work) b < 32) × (240 * dst + 240 ≤ length (now work)) × (6 ≤ length (now top)) ⌝ }
+    ensures { λ _. ⌜ Added (now (work .entry)) b (countIn (now (work .entry)) b) (now (top .entry)) dst (now (work .exit)) ⌝ }
+{
+    let t = work[240 * (b as usize) + 192];
+    let l = level_with(top, work[240 * (b as usize) + 193]);
+    if b != dst {
+        copy_block(work, b, dst);
     }
-    stack(work, b, t, &top, dst);
-    Made::Value(ValueRef::Object(dst))
+    append(work, dst, t, top, l);
 }
 
 // A new object whose parts are no objects.
-pub fn make_alone(work: &mut [u8], c: u8, parts: [Slot; 4], n: u8, dst: usize) -> Made
+pub fn make_alone(work: &mut [u8], c: u8, parts: [Slot; 4], n: u8, dst: u16) -> Made
     requires { ⌜ PartsHeld (now work) parts n × (n ≤ 4) × Leaves parts n × (240 * dst + 240 ≤ length (now work)) ⌝ }
     ensures { λ o. ⌜ MadeIs (now (work .entry)) (make c (valuesFrom (now (work .entry)) parts 0 n)) dst (now (work .exit)) o ⌝ }
 {
     let mut top = [0u8; 6];
     root_object(work, c, parts, n, &mut top);
-    stack(work, dst, 0, &top, dst);
-    Made::Value(ValueRef::Object(dst))
+    let l = level_with(&top, 0);
+    append(work, dst, 0, &top, l);
+    Made::Value(ValueRef::Object(dst, 0))
 }

@@ -1,11 +1,12 @@
 // The report of a value: a line of hexadecimal for each object. Not here: the report of a run that stops.
 use crate::ValueRef;
+use crate::value::move_out;
 ghost use mathlib.Core.Path.{_≡_};
 ghost use mathlib.Core.List.{_∷_, [], _++_};
 ghost use Prim.Native.Nat.{ℕ, _+_, _*_, _/_, _%_, _<_, _≤_};
 ghost use lib.ListN.{length, getD, take};
 ghost use Rattle.cofj.specs.Text.{char};
-ghost use Rattle.values.specs.Layout.{Block, blockIn, Packed, Holds, valueOf};
+ghost use Rattle.values.specs.Layout.{Block, graphAt, Packed, Holds, valueOf};
 ghost use Rattle.values.specs.Reporting.{Front, lineIn, Line, Reported};
 
 // The character of a digit.
@@ -66,30 +67,32 @@ pub fn put_line(work: &[u8], at: usize, j: u8, out: &mut [u8], to: usize) -> usi
 }
 
 // The lines of the value in block b. Answers how many characters they are.
-pub fn put_lines(work: &[u8], b: usize, out: &mut [u8]) -> usize
+pub fn put_lines(work: &[u8], b: u16, out: &mut [u8]) -> usize
     requires { ⌜ Block (now work) b × (544 ≤ length (now out)) ⌝ }
-    ensures { λ t. ⌜ Reported (blockIn (now (work .entry)) b) (now (out .entry)) (now (out .exit)) t ⌝ }
+    ensures { λ t. ⌜ Reported (graphAt (now (work .entry)) b 0) (now (out .entry)) (now (out .exit)) t ⌝ }
 {
-    let n = work[240 * b + 192];
+    let at = 240 * (b as usize);
+    let n = work[at + 192];
     let mut to: usize = 0;
     let mut j: u8 = 0;
     while j < n {
-        to = put_line(work, 240 * b + 6 * (j as usize), j, out, to);
+        to = put_line(work, at + 6 * (j as usize), j, out, to);
         j += 1;
     }
     to
 }
 
-// The report of a value, at the front of `out`. Answers how many characters it is.
-pub fn report(work: &[u8], r: ValueRef, out: &mut [u8]) -> usize
+// The report of a value, at the front of `out`. Answers how many characters it is. An object's block is left with that value alone.
+pub fn report(work: &mut [u8], r: ValueRef, out: &mut [u8]) -> usize
     requires { ⌜ Holds (now work) r × (544 ≤ length (now out)) ⌝ }
-    ensures { λ t. ⌜ Reported (valueOf (now (work .entry)) r) (now (out .entry)) (now (out .exit)) t ⌝ }
+    ensures { λ t. ⌜ Reported (valueOf (now (work .entry)) r) (now (out .entry)) (now (out .exit)) t × (length (now (work .exit)) ≡ length (now (work .entry))) ⌝ }
 {
-    let ValueRef::Object(b) = r else {
+    let ValueRef::Object(b, i) = r else {
         out[0] = 48;
         out[1] = 54;
         out[2] = 10;
         return 3;
     };
+    move_out(work, b, i, b);
     put_lines(work, b, out)
 }
