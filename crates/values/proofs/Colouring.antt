@@ -1,15 +1,28 @@
 -- Colours known by what they must be, without rounds.
-use Prim.Native.Nat.{ℕ, _≤_, _<_}
+use Prim.Native.Nat.{ℕ, zero, suc, _+_, _≤_, _<_}
 use native.Mathlib.Omega.{arith}
 use mathlib.Core.Path.{_≡_, refl, sym, ap, _∙_, subst}
 use mathlib.Core.List.{List}
-use lib.ListN.{length}
+use lib.ListN.{length, getD}
 use lib.Seq.{ext-getD}
-use Rattle.cofj.specs.Values.{obj, Graph, colourOf, colours}
+use Rattle.cofj.specs.Values.{obj, Graph, colourOf, colours, canon}
 use Rattle.cofj.specs.Unfolding.{Same, Whole}
 use Rattle.cofj.specs.ReportForm.{upFrom}
+use Rattle.values.specs.Layout.{Distinct}
+use Rattle.cofj.proofs.Basics.{eqNats-true}
+use Rattle.cofj.proofs.Numbering.{canonical-distinct}
 use Rattle.cofj.proofs.Colours.{colour, colour-low, colour-full, colour-same, colour-first, colour-size}
-use Rattle.values.proofs.Blocks.{length-up, at-up}
+
+pub length-up : (k n : ℕ) → length (upFrom k n) ≡ n
+unfolding upFrom
+length-up k zero = refl
+length-up k (suc n) = ap suc (length-up (suc k) n)
+
+pub at-up : (k n i : ℕ) → i < n → getD (upFrom k n) i 0 ≡ k + i
+unfolding upFrom
+at-up k zero i l = absurd (omega arith)
+at-up k (suc n) zero l = omega arith
+at-up k (suc n) (suc i) l = at-up (suc k) n i (omega arith) ∙ omega arith
 
 -- a table that gives each object the first that unfolds to its tree
 module _ (g : Graph) (w : Whole g) (cs : List ℕ) (size : length cs ≡ length (g .nodes))
@@ -31,9 +44,7 @@ module _ (g : Graph) (w : Whole g) (cs : List ℕ) (size : length cs ≡ length 
   colours-are = ext-getD 0 cs (colours (g .nodes)) (size ∙ sym (colour-size g w)) (λ i h. entry i (subst (λ (k : ℕ). i < k) size h))
 
 -- objects that unfold to trees of their own have themselves for colours
-pub distinct-colours : (g : Graph) → Whole g
-    → ((i j : ℕ) → i < length (g .nodes) → j < length (g .nodes) → Same (g .nodes) (obj i) (g .nodes) (obj j) → i ≡ j)
-    → colours (g .nodes) ≡ upFrom 0 (length (g .nodes))
+pub distinct-colours : (g : Graph) → Whole g → Distinct (g .nodes) → colours (g .nodes) ≡ upFrom 0 (length (g .nodes))
 distinct-colours g w d =
     let n : ℕ = length (g .nodes) in
     let at : (i : ℕ) → i < n → colourOf (upFrom 0 n) i ≡ i = λ i h. at-up 0 n i h ∙ omega arith in
@@ -41,4 +52,11 @@ distinct-colours g w d =
     (λ i h. omega (arith, at i h))
     (λ i h. ap (colourOf (upFrom 0 n)) (at i h))
     (λ i j h h′ e. let z : i ≡ j = omega (arith, at i h, at j h′) in subst (λ (k : ℕ). Same (g .nodes) (obj i) (g .nodes) (obj k)) z (λ p. refl))
-    (λ i j h h′ e. ap (colourOf (upFrom 0 n)) (d i j h h′ e)))
+    (λ i j h h′ e. ap (colourOf (upFrom 0 n)) (d .apart i j h h′ e)))
+
+-- a value's objects do
+pub value-distinct : (v : Graph) → Whole v → canon v ≡ v → Distinct (v .nodes)
+value-distinct v w own = record { apart = λ i j h h′ e.
+    let cs = eqNats-true _ _ (canonical-distinct v w own) in
+    let at : (k : ℕ) → k < length (v .nodes) → colour v w k ≡ k = λ k l. ap (λ (s : List ℕ). colourOf s k) cs ∙ at-up 0 (length (v .nodes)) k l ∙ omega arith in
+    sym (at i h) ∙ colour-full v w i j h h′ e ∙ at j h′ }

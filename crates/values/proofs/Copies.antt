@@ -1,98 +1,138 @@
--- Laws of a value copied as it is, and of closing one in which the mark does not occur.
+-- Laws of a block copied as it is, of a value brought down, and of objects in which a mark does not occur.
 use Prim.Native.Nat.{ℕ, zero, suc, _+_, _-_, _*_, _<_, _≤_}
 use native.Mathlib.Omega.{arith}
 use native.Mathlib.Decide.{decLt, ℕ-discrete}
 use mathlib.Core.Path.{_≡_, refl, sym, ap, ap₂, _∙_, subst}
 use mathlib.Core.Bool.{Bool, true, false}
+use mathlib.Core.Logic.{⊎-elim}
+use types.Run.{OneOf}
+use denote.Enum.Declared.{tagOf}
 use mathlib.Core.List.{List, [], _∷_, map}
 use mathlib.Core.Option.{some, Option·none-ne-some}
 use lib.ListN.{length, getD, set, getElem?, length-set, List·getD-eq-default}
 use lib.Seq.{getD-set-same, getD-set-other}
-use borrow.Author.Tests.{ne-eqb}
+use borrow.Author.Tests.{ne-eqb, eqb-false}
 use Rattle.cofj.specs.Values.{Ref, obj, mark, undet, Node, node, Graph, graph, rename, refsAt, nodeAt, canon, bind}
 use Rattle.cofj.specs.Unfolding.{Whole}
 use Rattle.cofj.proofs.Canon.{rename-id}
-use Rattle.values.specs.declared.ValueRef.the-variants.{Object}
-use Rattle.values.specs.Layout.{refOf, codeOf, nodeIn, nodesIn, Packed, Block, blockIn, countIn, Outside}
-use Rattle.values.specs.Tables.{Free, Lacks}
-use Rattle.values.specs.Operations.{Gives, Moved, Copying, boundIn}
+use Rattle.cofj.proofs.Operations.{boundNodes}
+use Rattle.values.specs.declared.ValueRef.{ValueRef}
+use Rattle.values.specs.declared.ValueRef.the-variants.{Object, Mark, Undetermined}
+use Rattle.values.specs.Layout.{refOf, codeOf, nodeIn, nodesIn, Packed, Distinct, Block, Inside, objectsIn, countIn, levelIn, valueOf, Holds, HeldBy, Low, Outside}
+use Rattle.values.specs.Operations.{Gives, Copying, Copied}
+use Rattle.values.proofs.ValueRef as RefT
 use Rattle.values.proofs.Nodes.{byteOf, packed-byte, packed-same, nodes-same, length-nodes, at-nodes}
 use Rattle.values.proofs.Turned.{changed, nodes-agree}
 use Rattle.values.proofs.Blocks.{nodes-id}
+use Rattle.values.proofs.Selecting.{unchanged}
 
-pub copy-none : (W : List ℕ) (b dst : ℕ) → Copying W b dst 0 W
-copy-none W b dst = record { same = refl; here = λ k h. absurd (omega arith); below = λ p h. refl; above = λ p h. refl }
+-- the copying of n objects with the level l has come to byte q of p
+pub record CopyLoop (W : List ℕ) (b dst n l p q : ℕ) (D : List ℕ) : Type 0 where
+  pub count : n ≡ getD W (240 * b + 192) 0
+  pub level : l ≡ getD W (240 * b + 193) 0
+  pub size : p ≡ 6 * n
+  pub copying : Copying W b dst q D
 
-module _ (W : List ℕ) (b dst q : ℕ) (D : List ℕ) (bk : Block W b) (room : 240 * dst + 240 ≤ length W) (cp : Copying W b dst q D) where
+pub copy-none : (W : List ℕ) (b dst n l p : ℕ) → n ≡ getD W (240 * b + 192) 0 → l ≡ getD W (240 * b + 193) 0 → p ≡ 6 * n → CopyLoop W b dst n l p 0 W
+copy-none W b dst n l p en el ep = record { count = en; level = el; size = ep; copying = record { same = refl; here = λ k h. absurd (omega arith); below = λ y h. refl; above = λ y h. refl } }
+
+module _ (W : List ℕ) (b dst n l p q : ℕ) (D : List ℕ) (bk : Block W b) (room : 240 * dst + 240 ≤ length W) (c : CopyLoop W b dst n l p q D) where
   few : getD W (240 * b + 192) 0 ≤ 32
   unfolding countIn
   few = bk .small
 
-  copy-more : q < 6 * getD W (240 * b + 192) 0 → Copying W b dst (q + 1) (set D (240 * dst + q) (getD D (240 * b + q) 0))
-  copy-more h = record {
-    same = length-set D (240 * dst + q) _ ∙ cp .same;
-    here = λ k l. go k l (ℕ-discrete k q);
-    below = λ p l. getD-set-other D (240 * dst + q) p _ 0 (λ z. omega arith) ∙ cp .below p l;
-    above = λ p l. getD-set-other D (240 * dst + q) p _ 0 (λ z. omega arith) ∙ cp .above p (omega arith);
+  cp : Copying W b dst q D
+  cp = c .copying
+
+  pub copy-step : q < p → CopyLoop W b dst n l p (q + 1) (set D (240 * dst + q) (getD D (240 * b + q) 0))
+  copy-step h = record {
+    count = c .count;
+    level = c .level;
+    size = c .size;
+    copying = record {
+      same = length-set D (240 * dst + q) _ ∙ cp .same;
+      here = λ k l. go k l (ℕ-discrete k q);
+      below = λ y l. getD-set-other D (240 * dst + q) y _ 0 (λ z. omega arith) ∙ cp .below y l;
+      above = λ y l. getD-set-other D (240 * dst + q) y _ 0 (λ z. omega arith) ∙ cp .above y (omega arith);
+    };
   }
     where
+      low : q < 192
+      low = omega (arith, few, c .count, c .size)
+
       stays : Dec (b < dst) → getD D (240 * b + q) 0 ≡ getD W (240 * b + q) 0
-      stays (yes l) = cp .below (240 * b + q) (omega (arith, few))
+      stays (yes l) = cp .below (240 * b + q) (omega (arith, low))
       stays (no l) = cp .above (240 * b + q) (omega (arith, l))
 
       go : (k : ℕ) → k < q + 1 → Dec (k ≡ q) → getD (set D (240 * dst + q) (getD D (240 * b + q) 0)) (240 * dst + k) 0 ≡ getD W (240 * b + k) 0
-      go k l (yes z) = rw z (getD-set-same D (240 * dst + q) _ 0 (omega (arith, cp .same, few)) ∙ stays (decLt b dst))
+      go k l (yes z) = rw z (getD-set-same D (240 * dst + q) _ 0 (omega (arith, cp .same, low)) ∙ stays (decLt b dst))
       go k l (no z) = getD-set-other D (240 * dst + q) (240 * dst + k) _ 0 (λ y. z (omega arith)) ∙ cp .here k (omega (arith, z))
 
-  module _ (h : 6 * getD W (240 * b + 192) 0 ≤ q) (l : q ≤ 6 * getD W (240 * b + 192) 0) where
-    abbrev E : List ℕ
-    E = set D (240 * dst + 192) (getD W (240 * b + 192) 0)
+  abbrev E : List ℕ
+  E = set (set D (240 * dst + 192) n) (240 * dst + 193) l
 
-    byte : (k : ℕ) → k < 6 * getD W (240 * b + 192) 0 → getD E (240 * dst + k) 0 ≡ getD W (240 * b + k) 0
-    byte k m = getD-set-other D (240 * dst + 192) (240 * dst + k) _ 0 (λ z. omega (arith, few)) ∙ cp .here k (omega arith)
+  byte : (k : ℕ) → ((k ≡ 240 * dst + 192) → ⊥) → ((k ≡ 240 * dst + 193) → ⊥) → getD E k 0 ≡ getD D k 0
+  byte k a e = getD-set-other (set D (240 * dst + 192) n) (240 * dst + 193) k l 0 e ∙ getD-set-other D (240 * dst + 192) k n 0 a
 
-    count-is : countIn E dst ≡ countIn W b
-    unfolding countIn
-    count-is = getD-set-same D (240 * dst + 192) _ 0 (omega (arith, cp .same))
-
-    block-is : blockIn E dst ≡ blockIn W b
-    unfolding blockIn countIn
-    block-is = ap (λ (k : ℕ). graph (obj 0) (nodesIn E (240 * dst) k)) count-is ∙ ap (graph (obj 0)) (nodes-same E W (getD W (240 * b + 192) 0) (240 * dst) (240 * b) byte)
-
-    block-ok : Block E dst
-    unfolding countIn
-    block-ok = record {
-      room = omega (arith, length-set D (240 * dst + 192) (getD W (240 * b + 192) 0), cp .same);
-      filled = rw count-is (bk .filled);
-      small = rw count-is (bk .small);
+  pub copy-end : q ≤ p → p ≤ q → Copied W b dst E
+  unfolding countIn levelIn
+  copy-end top h = record {
+    count = getD-set-other (set D (240 * dst + 192) n) (240 * dst + 193) (240 * dst + 192) l 0 (λ z. omega arith) ∙ getD-set-same D (240 * dst + 192) n 0 (omega (arith, cp .same)) ∙ c .count;
+    level = getD-set-same (set D (240 * dst + 192) n) (240 * dst + 193) l 0 (omega (arith, cp .same, length-set D (240 * dst + 192) n)) ∙ c .level;
+    here = λ k y. byte (240 * dst + k) (λ z. omega (arith, few)) (λ z. omega (arith, few)) ∙ cp .here k (omega (arith, c .count, c .size));
+    outside = record {
+      same = length-set (set D (240 * dst + 192) n) (240 * dst + 193) l ∙ length-set D (240 * dst + 192) n ∙ cp .same;
+      below = λ k y. byte k (λ z. omega arith) (λ z. omega arith) ∙ cp .below k y;
+      above = λ k y. byte k (λ z. omega arith) (λ z. omega arith) ∙ cp .above k (omega (arith, few, top, c .count, c .size));
+    };
+  }
+-- ---- the block that holds the copy
+pub block-moves : (W W′ : List ℕ) (b d : ℕ) → countIn W′ d ≡ countIn W b → levelIn W′ d ≡ levelIn W b → ((k : ℕ) → k < 6 * countIn W b → getD W′ (240 * d + k) 0 ≡ getD W (240 * b + k) 0)
+    → 240 * d + 240 ≤ length W′ → Block W b → (objectsIn W′ d ≡ objectsIn W b) × Block W′ d
+unfolding objectsIn
+block-moves W W′ b d en el here room bk =
+    let same : nodesIn W′ (240 * d) (countIn W′ d) ≡ nodesIn W (240 * b) (countIn W b) = ap (nodesIn W′ (240 * d)) en ∙ nodes-same W′ W (countIn W b) (240 * d) (240 * b) here in
+    (same, record {
+      room = room;
+      small = rw en (bk .small);
       packed = λ i m.
-          let k : i < getD W (240 * b + 192) 0 = omega (arith, count-is) in
-          packed-same E W (240 * dst + 6 * i) (240 * b + 6 * i) (λ f g.
-          let ea : 240 * dst + 6 * i + f ≡ 240 * dst + (6 * i + f) = omega arith in
+          let k : i < countIn W b = omega (arith, en) in
+          packed-same W′ W (240 * d + 6 * i) (240 * b + 6 * i) (λ f g.
+          let ea : 240 * d + 6 * i + f ≡ 240 * d + (6 * i + f) = omega arith in
           let eb : 240 * b + 6 * i + f ≡ 240 * b + (6 * i + f) = omega arith in
-          rw (ea, eb) (byte (6 * i + f) (omega arith))) (bk .packed i k);
-      whole = subst Whole (sym block-is) (bk .whole);
-      own = subst (λ (v : Graph). canon v ≡ v) (sym block-is) (bk .own);
-    }
+          rw (ea, eb) (here (6 * i + f) (omega arith))) (bk .packed i k);
+      whole = subst (λ (ns : List Node). Whole (graph undet ns)) (sym same) (bk .whole);
+      distinct = subst Distinct (sym same) (bk .distinct);
+      level = λ q h. rw (here q (omega (arith, en)), el) (bk .level q (omega (arith, en)));
+    })
 
-    copy-done : Gives W dst E (Object dst) (blockIn W b)
-    copy-done = record {
-      held = record { held = block-ok };
-      is = block-is;
-      place = refl;
-      outside = record {
-        same = length-set D (240 * dst + 192) _ ∙ cp .same;
-        below = λ p m. getD-set-other D (240 * dst + 192) p _ 0 (λ z. omega arith) ∙ cp .below p m;
-        above = λ p m. getD-set-other D (240 * dst + 192) p _ 0 (λ z. omega arith) ∙ cp .above p (omega (arith, few));
-      };
-    }
+-- ---- brought to a block
+module _ (W : List ℕ) (r : ValueRef) (dst : ℕ) (h : Holds W r) where
+  pub bring-leaf : OneOf (1 ∷ 2 ∷ []) (tagOf RefT.the-type r) → Gives W dst W r (valueOf W r)
+  bring-leaf o = record { held = h; is = refl; place = go r o; outside = unchanged dst W }
+    where
+      go : (r : ValueRef) → OneOf (1 ∷ 2 ∷ []) (tagOf RefT.the-type r) → Low (dst + 1) r
+      go (Object n i) o = ⊎-elim (λ e. absurd (eqb-false 0 1 refl e)) (λ e. absurd (eqb-false 0 2 refl e)) o
+      go (Mark n) o = tt
+      go Undetermined o = tt
 
-  module _ (n p : ℕ) (en : n ≡ getD W (240 * b + 192) 0) (ep : p ≡ 6 * n) where
-    pub copy-step : q < p → Copying W b dst (q + 1) (set D (240 * dst + q) (getD D (240 * b + q) 0))
-    copy-step h = copy-more (omega arith)
+  module _ (b i : ℕ) (e : r ≡ Object b i) where
+    pub bring-block : Block W b
+    bring-block = let ob : Inside W b i = subst (HeldBy W) e (h .held) in ob .block
 
-    pub copy-end : q ≤ p → p ≤ q → Gives W dst (set D (240 * dst + 192) n) (Object dst) (blockIn W b)
-    copy-end l h = rw en (copy-done (omega arith) (omega arith))
+    pub bring-here : b ≤ dst → Gives W dst W r (valueOf W r)
+    bring-here l = record { held = h; is = refl; place = subst (Low (dst + 1)) (sym e) (omega arith); outside = unchanged dst W }
+
+    pub bring-copy : (W′ : List ℕ) → 240 * dst + 240 ≤ length W → Copied W b dst W′ → Gives W dst W′ (Object dst i) (valueOf W r)
+    bring-copy W′ room c =
+        let ob : Inside W b i = subst (HeldBy W) e (h .held) in
+        let m = block-moves W W′ b dst (c .count) (c .level) (c .here) (omega (arith, c .outside .same)) (ob .block) in
+        record {
+          held = record { held = record { block = m .1; low = omega (arith, c .count, ob .low) } };
+          is = ap (λ (ns : List Node). canon (graph (obj i) ns)) (m .0) ∙ ap (valueOf W) (sym e);
+          place = omega arith;
+          outside = c .outside;
+        }
 
 -- ---- a mark that does not occur
 at-some : (rs : List Ref) (k : ℕ) (r : Ref) → getElem? rs k ≡ some r → (getD rs k undet ≡ r) × (k < length rs)
@@ -100,12 +140,12 @@ at-some [] k r e = absurd (Option·none-ne-some r e)
 at-some (x ∷ rs) zero r e = (let z : x ≡ r = cc in z, omega arith)
 at-some (x ∷ rs) (suc k) r e = let p = at-some rs k r e in (p .0, omega (arith, p .1))
 
-bind-other : (x : ℕ) (r : Ref) → ((r ≡ mark x) → ⊥) → bind x (obj 0) r ≡ rename (λ i. i) r
-bind-other x (obj i) h = refl
-bind-other x (mark k) h = ap (λ (t : Bool). elim t as (λ _. Ref) [ true ↦ obj 0 | false ↦ mark k ]) (ne-eqb k x (λ z. h (ap mark z)))
-bind-other x undet h = refl
+bind-other : (x j : ℕ) (r : Ref) → ((r ≡ mark x) → ⊥) → bind x (obj j) r ≡ rename (λ i. i) r
+bind-other x j (obj i) h = refl
+bind-other x j (mark k) h = ap (λ (t : Bool). elim t as (λ _. Ref) [ true ↦ obj j | false ↦ mark k ]) (ne-eqb k x (λ z. h (ap mark z)))
+bind-other x j undet h = refl
 
-module _ (W : List ℕ) (b x : ℕ) (bk : Block W b) (fr : Free W (240 * b) (6 * getD W (240 * b + 192) 0) (193 + x)) where
+module _ (W : List ℕ) (b x j : ℕ) (bk : Block W b) (low : levelIn W b ≤ x) where
   ref-other : (i : ℕ) → i < getD W (240 * b + 192) 0 → (k : ℕ) (r : Ref) → getElem? (nodeIn W (240 * b + 6 * i) .refs) k ≡ some r → (r ≡ mark x) → ⊥
   unfolding byteOf countIn
   ref-other i h k r e z =
@@ -114,7 +154,7 @@ module _ (W : List ℕ) (b x : ℕ) (bk : Block W b) (fr : Free W (240 * b) (6 *
       let l : getD W (240 * b + 6 * i + 1) 0 ≡ length (nodeIn W (240 * b + 6 * i) .refs) = packed-byte W (240 * b + 6 * i) pk 1 (omega arith) in
       let small : k < 4 = omega (arith, p .1, pk .count) in
       let c : getD W (240 * b + 6 * i + (2 + k)) 0 ≡ 193 + x = go k small (p .0) in
-      fr .none (6 * i + (2 + k)) (omega arith) (ap (λ (y : ℕ). getD W y 0) (let q : 240 * b + (6 * i + (2 + k)) ≡ 240 * b + 6 * i + (2 + k) = omega arith in q) ∙ c)
+      omega (arith, low, bk .level (6 * i + (2 + k)) (omega arith), ap (λ (y : ℕ). getD W y 0) (let q : 240 * b + (6 * i + (2 + k)) ≡ 240 * b + 6 * i + (2 + k) = omega arith in q) ∙ c)
     where
       go : (k : ℕ) → k < 4 → getD (nodeIn W (240 * b + 6 * i) .refs) k undet ≡ r → getD W (240 * b + 6 * i + (2 + k)) 0 ≡ 193 + x
       go k s d =
@@ -130,13 +170,6 @@ module _ (W : List ℕ) (b x : ℕ) (bk : Block W b) (fr : Free W (240 * b) (6 *
           let d : nodeAt (nodesIn W (240 * b) (getD W (240 * b + 192) 0)) i ≡ node 0 [] = List·getD-eq-default (nodesIn W (240 * b) (getD W (240 * b + 192) 0)) (node 0 []) {n = i} (omega (arith, h, length-nodes W (240 * b) (getD W (240 * b + 192) 0))) in
           absurd (Option·none-ne-some r (sym (ap (λ (y : Node). getElem? (y .refs) k) d) ∙ e))
 
-  bound-same : boundIn W b x ≡ blockIn W b
-  unfolding boundIn blockIn countIn
-  bound-same = ap (graph (obj 0)) (nodes-agree (bind x (obj 0)) (rename (λ i. i)) (λ r. (r ≡ mark x) → ⊥) (bind-other x) (nodesIn W (240 * b) (getD W (240 * b + 192) 0)) inner-other ∙ nodes-id _)
-
-  value-same : canon (boundIn W b x) ≡ blockIn W b
-  value-same = ap canon bound-same ∙ bk .own
-
-pub close-kept : (W : List ℕ) (b x dst : ℕ) (W′ : List ℕ) (r : Bool) → Block W b → Lacks W (240 * b) (6 * getD W (240 * b + 192) 0) (193 + x) r → r ≡ false
-    → Gives W dst W′ (Object dst) (blockIn W b) → Moved W (boundIn W b x) dst W′ (Object dst)
-close-kept W b x dst W′ r bk l e g = record { held = g .held; is = g .is ∙ sym (value-same W b x bk (l .says e)); place = g .place; outside = g .outside }
+  pub unbound : boundNodes x j (objectsIn W b) ≡ objectsIn W b
+  unfolding objectsIn countIn
+  unbound = nodes-agree (bind x (obj j)) (rename (λ i. i)) (λ r. (r ≡ mark x) → ⊥) (bind-other x j) (nodesIn W (240 * b) (getD W (240 * b + 192) 0)) inner-other ∙ nodes-id _

@@ -12,26 +12,29 @@ use lib.ListN.{length, getD, set, take, drop, getElem?, length-map, length-set, 
 use lib.Seq.{getD-set-same, getD-set-other, drop-cons, getD-take, ext-getD, length-take-le}
 use borrow.Author.Tests.{le-leb, lt-leb}
 use Rattle.cofj.specs.Values.{Ref, obj, mark, undet, Node, node, Graph, graph, rename, renameNode, refsAt, lay, make, canon, colours, markOf, undetermined}
-use Rattle.cofj.specs.Unfolding.{InRange, Whole}
+use Rattle.cofj.specs.Unfolding.{InRange, SameTree, Whole}
+use Rattle.cofj.proofs.Canon.{canon-same, canon-whole}
+use Rattle.cofj.proofs.Unique.{canon-canon}
 use Rattle.cofj.proofs.Operations.{AllWhole, laid, laid-whole, length-roots}
 use Rattle.values.specs.declared.ValueRef.{ValueRef}
 use Rattle.values.specs.declared.ValueRef.the-variants.{Object, Mark, Undetermined}
 use Rattle.values.specs.declared.Slot.{Slot}
 use Rattle.values.specs.declared.Made.the-variants.{Value, TooLarge}
-use Rattle.values.specs.Layout.{refOf, nodeIn, nodesIn, Packed, Block, blockIn, countIn, valueOf, Holds, HeldBy}
+use Rattle.values.specs.Layout.{refOf, nodeIn, nodesIn, Packed, Block, Inside, objectsIn, graphAt, countIn, valueOf, rawOf, Holds, HeldBy}
 use Rattle.values.specs.Tables.{Filled, Lifted}
 use Rattle.values.specs.Rounds.{Raw}
 use Rattle.values.specs.Numbers.{Ready, Placed, Has, graphIn}
-use Rattle.values.specs.Laying.{valuesFrom, PartsHeld, LaidNodes, LaidOne, LaidAll, Built, MadeIs}
+use Rattle.values.specs.Laying.{valuesFrom, rawsFrom, PartsHeld, LaidNodes, LaidOne, LaidAll, Built, MadeIs}
 use Rattle.values.proofs.Nodes.{length-nodes, nodes-same, packed-same, more-nodes, ref-object, ref-undet, ref-mark}
 use Rattle.values.proofs.Turned.{turnRef, changed, lifted-nodes, lifted-packed, turn-rename, nodes-agree}
 use Rattle.values.proofs.Walks.{four, four-at}
-use Rattle.values.proofs.Blocks.{inner-in}
+use Rattle.values.proofs.Blocks.{inner-in, whole-at}
+use Rattle.values.proofs.Trees.{AllSame, same-make}
 
 -- ---- one value
 pub lay-nodes : (W : List ℕ) (b at : ℕ) (T R₀ R : List ℕ) → Block W b → at ≤ 97 → Filled (λ i. at + i) (getD W (240 * b + 192) 0) T
-    → Lifted W (240 * b) (6 * getD W (240 * b + 192) 0) T 0 R₀ (6 * at) R → LaidNodes (blockIn W b) at R₀ R (getD W (240 * b + 192) 0)
-unfolding blockIn countIn
+    → Lifted W (240 * b) (6 * getD W (240 * b + 192) 0) T 0 R₀ (6 * at) R → LaidNodes (objectsIn W b) at R₀ R (getD W (240 * b + 192) 0)
+unfolding objectsIn countIn
 lay-nodes W b at T R₀ R bk h f l =
     let n : ℕ = getD W (240 * b + 192) 0 in
     let e : length (nodesIn W (240 * b) n) ≡ n = length-nodes W (240 * b) n in
@@ -47,19 +50,22 @@ lay-nodes W b at T R₀ R bk h f l =
       kept = λ p q. l .below p q;
     }
 
+pub object-low : (W : List ℕ) (r : ValueRef) (at b j : ℕ) → at ≤ 97 → Holds W r → r ≡ Object b j → at + j < 192
+object-low W r at b j l h e = let ob : Inside W b j = subst (HeldBy W) e (h .held) in omega (arith, ob .low, ob .block .small)
+
+pub object-block : (W : List ℕ) (r : ValueRef) (b j : ℕ) → Holds W r → r ≡ Object b j → Block W b
+object-block W r b j h e = let ob : Inside W b j = subst (HeldBy W) e (h .held) in ob .block
+
 module _ (W : List ℕ) (r : ValueRef) (at i : ℕ) (R₀ : List ℕ) (hi : i < 4) (one : 1 ≤ at) (top : at ≤ 97) (room : 1536 ≤ length R₀) where
-  pub lay-object : (b n : ℕ) (R : List ℕ) → r ≡ Object b → LaidNodes (blockIn W b) at R₀ R n → LaidOne (valueOf W r) at i R₀ (set R (2 + i) at) (at + n)
-  unfolding blockIn
-  lay-object b n R e l = rw e (record {
-    same = length-set R (2 + i) at ∙ l .same;
+  pub lay-object : (b j n : ℕ) (R : List ℕ) → Holds W r → r ≡ Object b j → LaidNodes (objectsIn W b) at R₀ R n → LaidOne (rawOf W r) at i R₀ (set R (2 + i) (at + j)) (at + n)
+  lay-object b j n R hr e l = rw e (record {
+    same = length-set R (2 + i) (at + j) ∙ l .same;
     next = ap (λ (k : ℕ). at + k) (l .count);
     few = omega (arith, l .count, l .few);
-    nodes = nodes-same (set R (2 + i) at) R (length (blockIn W b .nodes)) (6 * at) (6 * at) (λ p q. getD-set-other R (2 + i) (6 * at + p) at 0 (λ z. omega arith)) ∙ l .nodes;
-    packed = λ j q. packed-same (set R (2 + i) at) R (6 * at + 6 * j) (6 * at + 6 * j) (λ k m. getD-set-other R (2 + i) (6 * at + 6 * j + k) at 0 (λ z. omega arith)) (l .packed j q);
-    code =
-        let z : at ≡ at + 0 = omega arith in
-        ap refOf (getD-set-same R (2 + i) at 0 (omega (arith, l .same))) ∙ ref-object at (omega arith) ∙ ap obj z;
-    kept = λ p q d. getD-set-other R (2 + i) p at 0 d ∙ l .kept p q;
+    nodes = nodes-same (set R (2 + i) (at + j)) R (length (objectsIn W b)) (6 * at) (6 * at) (λ p q. getD-set-other R (2 + i) (6 * at + p) (at + j) 0 (λ z. omega arith)) ∙ l .nodes;
+    packed = λ m q. packed-same (set R (2 + i) (at + j)) R (6 * at + 6 * m) (6 * at + 6 * m) (λ k y. getD-set-other R (2 + i) (6 * at + 6 * m + k) (at + j) 0 (λ z. omega arith)) (l .packed m q);
+    code = ap refOf (getD-set-same R (2 + i) (at + j) 0 (omega (arith, l .same))) ∙ ref-object (at + j) (object-low W r at b j top hr e);
+    kept = λ p q d. getD-set-other R (2 + i) p (at + j) 0 d ∙ l .kept p q;
   })
 
   leaf : (x : ℕ) (s : Ref) → refOf x ≡ s → rename (λ k. at + k) s ≡ s → LaidOne (graph s []) at i R₀ (set R₀ (2 + i) x) at
@@ -74,10 +80,10 @@ module _ (W : List ℕ) (r : ValueRef) (at i : ℕ) (R₀ : List ℕ) (hi : i < 
     kept = λ p q d. getD-set-other R₀ (2 + i) p x 0 d;
   }
 
-  pub lay-mark : (k : ℕ) → r ≡ Mark k → LaidOne (valueOf W r) at i R₀ (set R₀ (2 + i) (193 + k)) at
+  pub lay-mark : (k : ℕ) → r ≡ Mark k → LaidOne (rawOf W r) at i R₀ (set R₀ (2 + i) (193 + k)) at
   lay-mark k e = rw e (leaf (193 + k) (mark k) (ref-mark k) refl)
 
-  pub lay-undet : r ≡ Undetermined → LaidOne (valueOf W r) at i R₀ (set R₀ (2 + i) 192) at
+  pub lay-undet : r ≡ Undetermined → LaidOne (rawOf W r) at i R₀ (set R₀ (2 + i) 192) at
   lay-undet e = rw e (leaf 192 undet ref-undet refl)
 
 pub mark-small : (W : List ℕ) (r : ValueRef) (k : ℕ) → Holds W r → r ≡ Mark k → k < 63
@@ -151,34 +157,34 @@ lay-nil at i R = record {
 
 -- ---- the parts
 abbrev pub none-slot : Slot
-none-slot = record { r = Object 0 }
+none-slot = record { r = Object 0 0 }
 
 module _ (W : List ℕ) (ps : List Slot) (i n : ℕ) where
-  pub lay-end : (at : ℕ) (R : List ℕ) → n ≤ i → LaidAll (valuesFrom W ps i n) at i R R at
-  unfolding valuesFrom
+  pub lay-end : (at : ℕ) (R : List ℕ) → n ≤ i → LaidAll (rawsFrom W ps i n) at i R R at
+  unfolding rawsFrom
   lay-end at R h =
       let e : drop i (take n ps) ≡ [] = drop-of-length-le (take n ps) {i = i} (omega (arith, length-take n ps)) in
-      subst (λ (l : List Slot). LaidAll (map (λ s. valueOf W (s .r)) l) at i R R at) (sym e) (lay-nil at i R)
+      subst (λ (l : List Slot). LaidAll (map (λ s. rawOf W (s .r)) l) at i R R at) (sym e) (lay-nil at i R)
 
   module _ (held : PartsHeld W ps n) (h : i < n) where
-    values-cons : valuesFrom W ps i n ≡ valueOf W (getD ps i none-slot .r) ∷ valuesFrom W ps (i + 1) n
-    unfolding valuesFrom
-    values-cons =
+    raws-cons : rawsFrom W ps i n ≡ rawOf W (getD ps i none-slot .r) ∷ rawsFrom W ps (i + 1) n
+    unfolding rawsFrom
+    raws-cons =
         let l : i < length (take n ps) = omega (arith, length-take-le n ps (held .full)) in
-        ap (map (λ s. valueOf W (s .r))) (drop-cons (take n ps) i none-slot l)
-        ∙ ap₂ {A = Graph} {B = List Graph} {C = List Graph} _∷_ (ap (λ (s : Slot). valueOf W (s .r)) (getD-take n ps i none-slot h))
-        (ap (λ (k : ℕ). map (λ s. valueOf W (s .r)) (drop k (take n ps))) (sym (add-one i)))
+        ap (map (λ s. rawOf W (s .r))) (drop-cons (take n ps) i none-slot l)
+        ∙ ap₂ {A = Graph} {B = List Graph} {C = List Graph} _∷_ (ap (λ (s : Slot). rawOf W (s .r)) (getD-take n ps i none-slot h))
+        (ap (λ (k : ℕ). map (λ s. rawOf W (s .r)) (drop k (take n ps))) (sym (add-one i)))
 
-    values-length : length (valuesFrom W ps (i + 1) n) + (i + 1) ≡ n
-    unfolding valuesFrom
-    values-length = omega (arith, length-map (drop (i + 1) (take n ps)) (λ s. valueOf W (s .r)), length-drop (i + 1) (take n ps), length-take-le n ps (held .full))
+    raws-length : length (rawsFrom W ps (i + 1) n) + (i + 1) ≡ n
+    unfolding rawsFrom
+    raws-length = omega (arith, length-map (drop (i + 1) (take n ps)) (λ s. rawOf W (s .r)), length-drop (i + 1) (take n ps), length-take-le n ps (held .full))
 
-    pub lay-more : (v : ValueRef) (at t1 : ℕ) (R₀ R1 R2 : List ℕ) (t : ℕ) → v ≡ getD ps i none-slot .r → n ≤ 4 → 1 ≤ at → LaidOne (valueOf W v) at i R₀ R1 t1
-        → LaidAll (valuesFrom W ps (i + 1) n) t1 (i + 1) R1 R2 t → LaidAll (valuesFrom W ps i n) at i R₀ R2 t
+    pub lay-more : (v : ValueRef) (at t1 : ℕ) (R₀ R1 R2 : List ℕ) (t : ℕ) → v ≡ getD ps i none-slot .r → n ≤ 4 → 1 ≤ at → LaidOne (rawOf W v) at i R₀ R1 t1
+        → LaidAll (rawsFrom W ps (i + 1) n) t1 (i + 1) R1 R2 t → LaidAll (rawsFrom W ps i n) at i R₀ R2 t
     lay-more v at t1 R₀ R1 R2 t e few one a b =
-        rw values-cons
-        (lay-cons (valueOf W (getD ps i none-slot .r)) (valuesFrom W ps (i + 1) n) at i t1 R₀ R1 R2 t one (omega (arith, values-length))
-        (subst (λ (x : ValueRef). LaidOne (valueOf W x) at i R₀ R1 t1) e a) b)
+        rw raws-cons
+        (lay-cons (rawOf W (getD ps i none-slot .r)) (rawsFrom W ps (i + 1) n) at i t1 R₀ R1 R2 t one (omega (arith, raws-length))
+        (subst (λ (x : ValueRef). LaidOne (rawOf W x) at i R₀ R1 t1) e a) b)
 
 -- ---- the new object
 abbrev pub fresh : List ℕ → ℕ → ℕ → List ℕ
@@ -212,9 +218,9 @@ fresh-spare (x ∷ (y ∷ (z ∷ (u ∷ (v ∷ []))))) c n h = absurd (omega ari
 fresh-spare (x ∷ (y ∷ (z ∷ (u ∷ (v ∷ (w ∷ R)))))) c n h =
     six (λ k. getD (fresh (x ∷ (y ∷ (z ∷ (u ∷ (v ∷ (w ∷ R)))))) c n) k 0 ≡ 192) refl refl refl refl
 
-pub parts-length : (W : List ℕ) (ps : List Slot) (n : ℕ) → PartsHeld W ps n → length (valuesFrom W ps 0 n) ≡ n
-unfolding valuesFrom
-parts-length W ps n h = length-map (take n ps) (λ s. valueOf W (s .r)) ∙ length-take-le n ps (h .full)
+pub parts-length : (W : List ℕ) (ps : List Slot) (n : ℕ) → PartsHeld W ps n → length (rawsFrom W ps 0 n) ≡ n
+unfolding rawsFrom
+parts-length W ps n h = length-map (take n ps) (λ s. rawOf W (s .r)) ∙ length-take-le n ps (h .full)
 
 module _ (c : ℕ) (gs : List Graph) (n : ℕ) (R S : List ℕ) (t : ℕ) (el : length gs ≡ n) (few : n ≤ 4) (room : 1536 ≤ length R) (l : LaidAll gs 1 0 (fresh R c n) S t) where
   class-is : getD S 0 0 ≡ c
@@ -254,27 +260,55 @@ module _ (c : ℕ) (gs : List Graph) (n : ℕ) (R S : List ℕ) (t : ℕ) (el : 
       packed-at (suc j) h = let e : 6 * suc j ≡ 6 * 1 + 6 * j = omega arith in rw e (l .packed j (omega (arith, l .next)))
 
 pub build-done : (W : List ℕ) (c : ℕ) (ps : List Slot) (n : ℕ) (R S : List ℕ) (t : ℕ) → PartsHeld W ps n → n ≤ 4 → 1536 ≤ length R
-    → LaidAll (valuesFrom W ps 0 n) 1 0 (fresh R c n) S t → Built c (valuesFrom W ps 0 n) S t
-build-done W c ps n R S t h few room l = built c (valuesFrom W ps 0 n) n R S t (parts-length W ps n h) few room l
+    → LaidAll (rawsFrom W ps 0 n) 1 0 (fresh R c n) S t → Built c (rawsFrom W ps 0 n) S t
+build-done W c ps n R S t h few room l = built c (rawsFrom W ps 0 n) n R S t (parts-length W ps n h) few room l
 
 -- ---- made
+pub raw-whole : (W : List ℕ) (r : ValueRef) → Holds W r → Whole (rawOf W r)
+raw-whole W (Object b i) h = whole-at W b (h .held .block) i (h .held .low)
+raw-whole W (Mark k) h = record { top = tt; inner = λ i f r e. absurd (Option·none-ne-some r e) }
+raw-whole W Undetermined h = record { top = tt; inner = λ i f r e. absurd (Option·none-ne-some r e) }
+
 value-whole : (W : List ℕ) (r : ValueRef) → Holds W r → Whole (valueOf W r)
-value-whole W (Object b) h = h .held .whole
-value-whole W (Mark k) h = record { top = tt; inner = λ i f r e. absurd (Option·none-ne-some r e) }
-value-whole W Undetermined h = record { top = tt; inner = λ i f r e. absurd (Option·none-ne-some r e) }
+value-whole W (Object b i) h = canon-whole (graphAt W b i) (raw-whole W (Object b i) h)
+value-whole W (Mark k) h = raw-whole W (Mark k) h
+value-whole W Undetermined h = raw-whole W Undetermined h
 
-pub all-whole : (W : List ℕ) (n : ℕ) (ps : List Slot) → ((i : ℕ) → i < n → Holds W (getD ps i none-slot .r)) → AllWhole (map (λ s. valueOf W (s .r)) (take n ps))
-all-whole W zero ps h = tt
-all-whole W (suc n) [] h = tt
-all-whole W (suc n) (s ∷ ps) h = (value-whole W (s .r) (h 0 (omega arith)), all-whole W n ps (λ i l. h (suc i) (omega arith)))
+value-tree : (W : List ℕ) (r : ValueRef) → Holds W r → SameTree (valueOf W r) (rawOf W r)
+value-tree W (Object b i) h = canon-same (graphAt W b i) (raw-whole W (Object b i) h)
+value-tree W (Mark k) h = λ p. refl
+value-tree W Undetermined h = λ p. refl
 
-module _ (W : List ℕ) (c : ℕ) (ps : List Slot) (n : ℕ) (R : List ℕ) (t : ℕ) (held : PartsHeld W ps n) (b : Built c (valuesFrom W ps 0 n) R t) where
-  wholes : AllWhole (valuesFrom W ps 0 n)
-  unfolding valuesFrom
-  wholes = all-whole W n ps (held .part)
+-- each part by itself
+module _ (W : List ℕ) where
+  all-raw : (n : ℕ) (ps : List Slot) → ((i : ℕ) → i < n → Holds W (getD ps i none-slot .r)) → AllWhole (map (λ s. rawOf W (s .r)) (take n ps))
+  all-raw zero ps h = tt
+  all-raw (suc n) [] h = tt
+  all-raw (suc n) (s ∷ ps) h = (raw-whole W (s .r) (h 0 (omega arith)), all-raw n ps (λ i l. h (suc i) (omega arith)))
 
-  whole-laid : Whole (laid c (valuesFrom W ps 0 n))
-  whole-laid = laid-whole c (valuesFrom W ps 0 n) wholes
+  all-value : (n : ℕ) (ps : List Slot) → ((i : ℕ) → i < n → Holds W (getD ps i none-slot .r)) → AllWhole (map (λ s. valueOf W (s .r)) (take n ps))
+  all-value zero ps h = tt
+  all-value (suc n) [] h = tt
+  all-value (suc n) (s ∷ ps) h = (value-whole W (s .r) (h 0 (omega arith)), all-value n ps (λ i l. h (suc i) (omega arith)))
+
+  all-tree : (n : ℕ) (ps : List Slot) → ((i : ℕ) → i < n → Holds W (getD ps i none-slot .r)) → AllSame (map (λ s. valueOf W (s .r)) (take n ps)) (map (λ s. rawOf W (s .r)) (take n ps))
+  all-tree zero ps h = tt
+  all-tree (suc n) [] h = tt
+  all-tree (suc n) (s ∷ ps) h = (value-tree W (s .r) (h 0 (omega arith)), all-tree n ps (λ i l. h (suc i) (omega arith)))
+
+module _ (W : List ℕ) (c : ℕ) (ps : List Slot) (n : ℕ) (held : PartsHeld W ps n) where
+  pub raws-whole : AllWhole (rawsFrom W ps 0 n)
+  unfolding rawsFrom
+  raws-whole = all-raw W n ps (held .part)
+
+  -- the new object is the same over the graphs as over the values
+  pub made-raw : make c (valuesFrom W ps 0 n) ≡ make c (rawsFrom W ps 0 n)
+  unfolding rawsFrom valuesFrom
+  made-raw = same-make c _ _ (all-value W n ps (held .part)) (all-raw W n ps (held .part)) (all-tree W n ps (held .part))
+
+module _ (W : List ℕ) (c : ℕ) (ps : List Slot) (n : ℕ) (R : List ℕ) (t : ℕ) (held : PartsHeld W ps n) (b : Built c (rawsFrom W ps 0 n) R t) where
+  whole-laid : Whole (laid c (rawsFrom W ps 0 n))
+  whole-laid = laid-whole c (rawsFrom W ps 0 n) (raws-whole W c ps n held)
 
   pub make-raw : 1536 ≤ length R → Raw R t
   make-raw room = record {
@@ -293,9 +327,12 @@ module _ (W : List ℕ) (c : ℕ) (ps : List Slot) (n : ℕ) (R : List ℕ) (t :
     room = room;
   }
 
+  whole-in : Whole (graphIn R t 0)
+  whole-in = subst (λ (ns : List Node). Whole (graph (obj 0) ns)) (sym (b .nodes)) whole-laid
+
   value-is : canon (graphIn R t 0) ≡ make c (valuesFrom W ps 0 n)
   unfolding make
-  value-is = ap (λ (ns : List Node). canon (graph (obj 0) ns)) (b .nodes)
+  value-is = ap (λ (ns : List Node). canon (graph (obj 0) ns)) (b .nodes) ∙ sym (made-raw W c ps n held)
 
   module _ (dst m : ℕ) (W′ : List ℕ) (p : Placed R t 0 W dst W′ m) where
     size : m ≡ length (make c (valuesFrom W ps 0 n) .nodes)
@@ -304,10 +341,10 @@ module _ (W : List ℕ) (c : ℕ) (ps : List Slot) (n : ℕ) (R : List ℕ) (t :
     pub made-large : 32 < m → MadeIs W (make c (valuesFrom W ps 0 n)) dst W′ TooLarge
     made-large h = record { held = tt; is = rw (← size, lt-leb m 32 h); place = tt; outside = p .outside }
 
-    pub made-value : m ≤ 32 → MadeIs W (make c (valuesFrom W ps 0 n)) dst W′ (Value (Object dst))
+    pub made-value : m ≤ 32 → MadeIs W (make c (valuesFrom W ps 0 n)) dst W′ (Value (Object dst 0))
     made-value h = record {
-      held = record { held = p .has h .block };
-      is = rw (← size, le-leb m 32 h) (ap some (p .has h .is ∙ value-is));
-      place = refl;
+      held = record { held = p .has h .inside };
+      is = rw (← size, le-leb m 32 h) (ap some (ap canon (p .has h .is) ∙ canon-canon (graphIn R t 0) whole-in ∙ value-is));
+      place = omega arith;
       outside = p .outside;
     }

@@ -18,11 +18,12 @@ use Rattle.cofj.proofs.Walk.{order, order-length, order-kept, order-root, Cover
 use Rattle.cofj.proofs.Canon.{number, listed, canon-is, canon-whole, getD-isIn, placeIn-spec}
 use Rattle.cofj.proofs.Unique.{canon-canon}
 use Rattle.cofj.proofs.Numbering.{canonical-root}
-use Rattle.values.specs.Layout.{refOf, nodeIn, nodesIn, Packed, Block, blockIn, countIn, Outside}
+use Rattle.values.specs.Layout.{refOf, nodeIn, nodesIn, Packed, Distinct, Block, Inside, graphAt, objectsIn, countIn, levelIn, Outside}
 use Rattle.values.specs.Tables.{Filled, copied, Lifted}
 use Rattle.values.specs.Rounds.{Raw}
 use Rattle.values.specs.Walking.{walkRef, markIn, Listed}
-use Rattle.values.specs.Numbers.{numberIn, Gathered, Ready, Placed, Has, graphIn}
+use Rattle.values.specs.Numbers.{numberIn, Gathered, Levels, Ready, Placed, Has, graphIn}
+use Rattle.values.proofs.Colouring.{value-distinct}
 use Rattle.values.proofs.Nodes.{at-nodes, length-nodes, nodes-same, ref-object}
 use Rattle.values.proofs.Turned.{turnRef, changed, lifted-nodes, lifted-packed, turn-rename, node-agree}
 
@@ -195,7 +196,17 @@ module _ (N : List ℕ) (n : ℕ) (C : List ℕ) (root : ℕ) (W : List ℕ) (ds
       has = λ l. absurd (omega arith);
     }
 
-    module _ (M : List ℕ) (lm : Listed M (take m O)) (T : List ℕ) (fm : Filled (λ i. numberIn M m (getD C i 0)) n T) (D : List ℕ) (g : Gathered N O m T W (240 * dst) D) (few : m ≤ 32) where
+    module _ (M : List ℕ) (lm : Listed M (take m O)) (T : List ℕ) (fm : Filled (λ i. numberIn M m (getD C i 0)) n T) (D : List ℕ) (g : Gathered N O m T W (240 * dst) D) (few : m ≤ 32)
+        (l : ℕ) (lv : Levels D (240 * dst) (6 * m) l) where
+      abbrev E : List ℕ
+      E = set (set D (240 * dst + 192) m) (240 * dst + 193) l
+
+      kept-byte : (p : ℕ) → ((p ≡ 240 * dst + 192) → ⊥) → ((p ≡ 240 * dst + 193) → ⊥) → getD E p 0 ≡ getD D p 0
+      kept-byte p a b = getD-set-other (set D (240 * dst + 192) m) (240 * dst + 193) p l 0 b ∙ getD-set-other D (240 * dst + 192) p m 0 a
+
+      same-size : length E ≡ length W
+      same-size = length-set (set D (240 * dst + 192) m) (240 * dst + 193) l ∙ length-set D (240 * dst + 192) m ∙ g .same
+
       ft : Filled (λ i. placeIn (getD C i 0) (take m O)) n T
       ft = record { at = λ i h. fm .at i h ∙ number-in M (take m O) m (getD C i 0) lm size (omega (arith, low i h, rd .raw .few)) }
 
@@ -205,20 +216,20 @@ module _ (N : List ℕ) (n : ℕ) (C : List ℕ) (root : ℕ) (W : List ℕ) (ds
       number-small : (i : ℕ) → i < n → number (graphIn N n root) wg i < 192
       number-small i h = omega (arith, place-le (colourOf (colours (nodesIn N 0 n)) i) (order (graphIn N n root) wg), counted, canon-count)
 
-      g′ : Gathered N O m T (set D (240 * dst + 192) m) (240 * dst) (set D (240 * dst + 192) m)
+      g′ : Gathered N O m T E (240 * dst) E
       g′ = record {
         same = refl;
-        here = λ j k h l. getD-set-other D (240 * dst + 192) (240 * dst + 6 * j + k) m 0 (λ z. omega arith) ∙ g .here j k h l;
+        here = λ j k h l. kept-byte (240 * dst + 6 * j + k) (λ z. omega arith) (λ z. omega arith) ∙ g .here j k h l;
         below = λ q h. refl;
         above = λ q h. refl;
       }
 
-      node-is : (j : ℕ) → j < m → nodeIn (set D (240 * dst + 192) m) (240 * dst + 6 * j) ≡ nodeAt (listed (graphIn N n root) wg) j
+      node-is : (j : ℕ) → j < m → nodeIn E (240 * dst + 6 * j) ≡ nodeAt (listed (graphIn N n root) wg) j
       node-is j h =
           let c : getD O j 0 < n = listed-low j h in
           let ec : getD O j 0 ≡ getD (order (graphIn N n root) wg) j 0 = sym (getD-take m O j 0 h) ∙ ap (λ (l : List ℕ). getD l j 0) order-is in
           let z : 0 + 6 * getD O j 0 ≡ 6 * getD O j 0 = omega arith in
-          gathered-node N O m T (set D (240 * dst + 192) m) (240 * dst) (set D (240 * dst + 192) m) g′ j h
+          gathered-node N O m T E (240 * dst) E g′ j h
           ∙ ap (λ (p : ℕ). changed (turnRef T 0) (nodeIn N p)) (sym z)
           ∙ ap (changed (turnRef T 0)) (sym (at-nodes N 0 n (getD O j 0) c))
           ∙ node-agree (turnRef T 0) (rename (number (graphIn N n root) wg)) (InRange n)
@@ -226,45 +237,72 @@ module _ (N : List ℕ) (n : ℕ) (C : List ℕ) (root : ℕ) (W : List ℕ) (ds
           ∙ ap (λ (q : ℕ). renameNode (number (graphIn N n root) wg) (nodeAt (nodesIn N 0 n) q)) ec
           ∙ sym (getD-map-lt (λ q. renameNode (number (graphIn N n root) wg) (nodeAt (nodesIn N 0 n) q)) (order (graphIn N n root) wg) j (node 0 []) 0 (omega (arith, counted, canon-count)))
 
-      count-is : countIn (set D (240 * dst + 192) m) dst ≡ m
+      count-is : countIn E dst ≡ m
       unfolding countIn
-      count-is = getD-set-same D (240 * dst + 192) m 0 (omega (arith, g .same, rd .room))
+      count-is = getD-set-other (set D (240 * dst + 192) m) (240 * dst + 193) (240 * dst + 192) l 0 (λ z. omega arith) ∙ getD-set-same D (240 * dst + 192) m 0 (omega (arith, g .same, rd .room))
 
       root-is : number (graphIn N n root) wg root ≡ 0
       root-is = canonical-root (canon (graphIn N n root)) (canon-whole (graphIn N n root) wg) (canon-canon (graphIn N n root) wg) _ (ap (λ (h : Graph). h .root) (canon-is (graphIn N n root) wg))
 
-      block-is : blockIn (set D (240 * dst + 192) m) dst ≡ canon (graphIn N n root)
-      unfolding blockIn
+      block-is : graphAt E dst 0 ≡ canon (graphIn N n root)
+      unfolding objectsIn
       block-is =
           ap₂ graph (ap obj (sym root-is))
-          (ap (nodesIn (set D (240 * dst + 192) m) (240 * dst)) count-is
-          ∙ nodes-ext (nodesIn (set D (240 * dst + 192) m) (240 * dst) m) (listed (graphIn N n root) wg)
+          (ap (nodesIn E (240 * dst)) count-is
+          ∙ nodes-ext (nodesIn E (240 * dst) m) (listed (graphIn N n root) wg)
           (length-nodes _ (240 * dst) m ∙ counted ∙ canon-count ∙ sym (length-map (order (graphIn N n root) wg) _))
-          (λ j l. let h : j < m = omega (arith, length-nodes (set D (240 * dst + 192) m) (240 * dst) m) in at-nodes _ (240 * dst) m j h ∙ node-is j h))
+          (λ j l. let h : j < m = omega (arith, length-nodes E (240 * dst) m) in at-nodes _ (240 * dst) m j h ∙ node-is j h))
           ∙ sym (canon-is (graphIn N n root) wg)
 
       filled-is : 1 ≤ m
       filled-is = omega (arith, order-some (graphIn N n root) wg root refl, counted, canon-count)
 
-      block-ok : Block (set D (240 * dst + 192) m) dst
+      level-is : levelIn E dst ≡ l
+      unfolding levelIn
+      level-is = getD-set-same (set D (240 * dst + 192) m) (240 * dst + 193) l 0 (omega (arith, length-set D (240 * dst + 192) m, g .same, rd .room))
+
+      whole-is : Whole (graph undet (objectsIn E dst))
+      whole-is =
+          let w = subst Whole (sym block-is) (canon-whole (graphIn N n root) wg) in
+          record { top = tt; inner = w .inner }
+
+      block-ok : Block E dst
       block-ok = record {
-        room = omega (arith, length-set D (240 * dst + 192) m, g .same, rd .room);
-        filled = rw count-is filled-is;
+        room = omega (arith, same-size, rd .room);
         small = rw count-is few;
         packed = λ j l.
             let h : j < m = omega (arith, count-is) in
-            gathered-packed N O m T (set D (240 * dst + 192) m) (240 * dst) (set D (240 * dst + 192) m) g′ j h (rd .raw .packed (getD O j 0) (listed-low j h));
-        whole = subst Whole (sym block-is) (canon-whole (graphIn N n root) wg);
-        own = subst (λ (v : Graph). canon v ≡ v) (sym block-is) (canon-canon (graphIn N n root) wg);
+            gathered-packed N O m T E (240 * dst) E g′ j h (rd .raw .packed (getD O j 0) (listed-low j h));
+        whole = whole-is;
+        distinct = subst (λ (v : Graph). Distinct (v .nodes)) (sym block-is) (value-distinct (canon (graphIn N n root)) (canon-whole (graphIn N n root) wg) (canon-canon (graphIn N n root) wg));
+        level = λ q h. rw (kept-byte (240 * dst + q) (λ z. omega (arith, count-is)) (λ z. omega (arith, count-is)), level-is) (lv .below q (omega (arith, count-is)));
       }
 
-      pub put-done : Placed N n root W dst (set D (240 * dst + 192) m) m
+      pub put-done : Placed N n root W dst E m
       put-done = record {
         count = counted;
         outside = record {
-          same = length-set D (240 * dst + 192) m ∙ g .same;
-          below = λ p h. getD-set-other D (240 * dst + 192) p m 0 (λ z. omega arith) ∙ g .below p h;
-          above = λ p h. getD-set-other D (240 * dst + 192) p m 0 (λ z. omega arith) ∙ g .above p (omega arith);
+          same = same-size;
+          below = λ p h. kept-byte p (λ z. omega arith) (λ z. omega arith) ∙ g .below p h;
+          above = λ p h. kept-byte p (λ z. omega arith) (λ z. omega arith) ∙ g .above p (omega arith);
         };
-        has = λ l. record { block = block-ok; is = block-is };
+        has = λ l. record { inside = record { block = block-ok; low = rw count-is filled-is }; is = block-is };
       }
+
+-- ---- a level
+pub level-none : (W : List ℕ) (at : ℕ) (l : ℕ) → Levels W at 0 l
+level-none W at l = record { below = λ q h. absurd (omega arith) }
+
+module _ (W : List ℕ) (at q l : ℕ) (lv : Levels W at q l) where
+  pub level-more : (m : ℕ) → l ≤ m → getD W (at + q) 0 < 193 + m → Levels W at (q + 1) m
+  level-more m h c = record { below = λ p k. go p k (ℕ-discrete p q) }
+    where
+      go : (p : ℕ) → p < q + 1 → Dec (p ≡ q) → getD W (at + p) 0 < 193 + m
+      go p k (yes e) = rw e c
+      go p k (no e) = omega (arith, lv .below p (omega (arith, e)))
+
+  pub level-more-0 : at ≡ 0 → (m : ℕ) → l ≤ m → getD W q 0 < 193 + m → Levels W 0 (q + 1) m
+  level-more-0 e m h c = let z : at + q ≡ q = omega arith in rw e at (level-more m h (rw z c))
+
+  pub level-done : (p : ℕ) → q ≤ p → p ≤ q → Levels W at p l
+  level-done p h k = let e : q ≡ p = omega arith in rw e at lv

@@ -18,7 +18,8 @@ use Rattle.cofj.specs.Report.{refByte, objectLine, objectLines, valueLines, val
 use Rattle.cofj.proofs.Basics.{getD-map-lt}
 use Rattle.values.specs.declared.ValueRef.{ValueRef}
 use Rattle.values.specs.declared.ValueRef.the-variants.{Object, Mark, Undetermined}
-use Rattle.values.specs.Layout.{refOf, nodeIn, nodesIn, Packed, Block, blockIn, countIn, valueOf}
+use Rattle.values.specs.Layout.{refOf, nodeIn, nodesIn, Packed, Block, Inside, objectsIn, graphAt, countIn, valueOf, Holds, HeldBy}
+use Rattle.values.specs.Operations.{Moved}
 use Rattle.values.specs.Reporting.{Front, lineIn, Line, Reported}
 use Rattle.values.proofs.ValueRef as RefT
 use Rattle.values.proofs.Nodes.{at-nodes, length-nodes, packed-byte, byteOf, ref-object, ref-undet, ref-mark}
@@ -199,20 +200,20 @@ text-more (x ∷ ls) l = ap (λ (t : List ℕ). hexLine x ++ t) (text-more ls l)
 -- the lines of the first j objects of block b are written, up to t
 pub record Listed (W : List ℕ) (b : ℕ) (d₀ : List ℕ) (j : ℕ) (d : List ℕ) (t : ℕ) : Type 0 where
   pub top : t ≤ 17 * j
-  pub text : Front d₀ d t (hexText (objectLines 0 (take j (blockIn W b .nodes))))
-  pub count : t ≡ length (hexText (objectLines 0 (take j (blockIn W b .nodes))))
+  pub text : Front d₀ d t (hexText (objectLines 0 (take j (objectsIn W b))))
+  pub count : t ≡ length (hexText (objectLines 0 (take j (objectsIn W b))))
 
 pub lines-none : (W : List ℕ) (b : ℕ) (d : List ℕ) → Listed W b d 0 d 0
 lines-none W b d = record { top = omega arith; text = front-none d; count = refl }
 
 module _ (W : List ℕ) (b : ℕ) (bk : Block W b) where
-  size : length (blockIn W b .nodes) ≡ countIn W b
-  unfolding blockIn
+  size : length (objectsIn W b) ≡ countIn W b
+  unfolding objectsIn
   size = length-nodes W (240 * b) (countIn W b)
 
-  next-text : (j : ℕ) → j < countIn W b → hexText (objectLines 0 (take (j + 1) (blockIn W b .nodes)))
-      ≡ hexText (objectLines 0 (take j (blockIn W b .nodes))) ++ hexLine (lineIn W (240 * b + 6 * j) j)
-  unfolding lineIn blockIn
+  next-text : (j : ℕ) → j < countIn W b → hexText (objectLines 0 (take (j + 1) (objectsIn W b)))
+      ≡ hexText (objectLines 0 (take j (objectsIn W b))) ++ hexLine (lineIn W (240 * b + 6 * j) j)
+  unfolding lineIn objectsIn
   next-text j h =
       let e : 0 + length (take j (nodesIn W (240 * b) (countIn W b))) ≡ j = omega (arith, length-take-le j (nodesIn W (240 * b) (countIn W b)) (omega (arith, length-nodes W (240 * b) (countIn W b)))) in
       rw (
@@ -224,19 +225,23 @@ module _ (W : List ℕ) (b : ℕ) (bk : Block W b) where
       )
       (text-more (objectLines 0 (take j (nodesIn W (240 * b) (countIn W b)))) (objectLine j (nodeIn W (240 * b + 6 * j))))
 
+  pub lines-ask : (d₀ : List ℕ) (j : ℕ) (d : List ℕ) (t n : ℕ) → Listed W b d₀ j d t → 544 ≤ length d₀ → length d ≡ length d₀ → j < n → n ≡ countIn W b
+      → Packed W (240 * b + 6 * j) × (240 * b + 6 * j + 6 ≤ length W) × (t + 17 ≤ length d)
+  lines-ask d₀ j d t n f room same h en = (bk .packed j (omega arith), omega (arith, bk .small, bk .room), omega (arith, bk .small, f .top))
+
   pub lines-next : (d₀ : List ℕ) (j : ℕ) (d : List ℕ) (t : ℕ) (e : List ℕ) (t1 n : ℕ) → Listed W b d₀ j d t → 544 ≤ length d₀ → j < n → n ≡ countIn W b
       → Line (lineIn W (240 * b + 6 * j) j) d t e t1 → Listed W b d₀ (j + 1) e t1
   lines-next d₀ j d t e t1 n f room h en g =
-      let all : Front d₀ e t1 (hexText (objectLines 0 (take (j + 1) (blockIn W b .nodes)))) =
-      rw (next-text j (omega arith)) (front-then d₀ d e t t1 (hexText (objectLines 0 (take j (blockIn W b .nodes)))) (hexLine (lineIn W (240 * b + 6 * j) j)) (f .text) (g .text) (g .up)) in
+      let all : Front d₀ e t1 (hexText (objectLines 0 (take (j + 1) (objectsIn W b)))) =
+      rw (next-text j (omega arith)) (front-then d₀ d e t t1 (hexText (objectLines 0 (take j (objectsIn W b)))) (hexLine (lineIn W (240 * b + 6 * j) j)) (f .text) (g .text) (g .up)) in
       record {
         top = omega (arith, f .top, g .top);
         text = all;
         count = omega (arith, ap length (all .front), length-take t1 e, all .same, f .top, g .top, bk .small);
       }
 
-  pub lines-done : (d₀ : List ℕ) (j : ℕ) (d : List ℕ) (t n : ℕ) → Listed W b d₀ j d t → j ≤ n → n ≤ j → n ≡ countIn W b → Reported (blockIn W b) d₀ d t
-  unfolding blockIn
+  pub lines-done : (d₀ : List ℕ) (j : ℕ) (d : List ℕ) (t n : ℕ) → Listed W b d₀ j d t → j ≤ n → n ≤ j → n ≡ countIn W b → Reported (graphAt W b 0) d₀ d t
+  unfolding objectsIn
   lines-done d₀ j d t n f h k en =
       let ej : j ≡ length (nodesIn W (240 * b) (countIn W b)) = omega (arith, length-nodes W (240 * b) (countIn W b)) in
       let z : take j (nodesIn W (240 * b) (countIn W b)) ≡ nodesIn W (240 * b) (countIn W b) = ap (λ (q : ℕ). take q (nodesIn W (240 * b) (countIn W b))) ej ∙ take-length (nodesIn W (240 * b) (countIn W b)) in
@@ -256,9 +261,20 @@ six-text (a ∷ (b ∷ [])) h = absurd (omega arith)
 six-text (a ∷ (b ∷ (c ∷ d))) h = refl
 
 pub report-none : (W : List ℕ) (r : ValueRef) (d : List ℕ) → OneOf (1 ∷ 2 ∷ []) (tagOf RefT.the-type r) → 544 ≤ length d → Reported (valueOf W r) d (set (set (set d 0 48) 1 54) 2 10) 3
-report-none W (Object n) d h l = ⊎-elim (λ e. absurd (eqb-false 0 1 refl e)) (λ e. absurd (eqb-false 0 2 refl e)) h
+report-none W (Object n i) d h l = ⊎-elim (λ e. absurd (eqb-false 0 1 refl e)) (λ e. absurd (eqb-false 0 2 refl e)) h
 report-none W (Mark n) d h l = record { fits = omega arith; count = refl; text = six-text d l }
 report-none W Undetermined d h l = record { fits = omega arith; count = refl; text = six-text d l }
 
-pub report-one : (W : List ℕ) (r : ValueRef) (b : ℕ) (d₀ d : List ℕ) (t : ℕ) → r ≡ Object b → Reported (blockIn W b) d₀ d t → Reported (valueOf W r) d₀ d t
-report-one W r b d₀ d t e h = rw e h
+-- ---- an object, alone in its block
+pub report-one : (W : List ℕ) (r : ValueRef) (b i : ℕ) (W′ d₀ d : List ℕ) (t : ℕ) → r ≡ Object b i → Moved W (graphAt W b i) b W′ → Reported (graphAt W′ b 0) d₀ d t
+    → Reported (valueOf W r) d₀ d t × (length W′ ≡ length W)
+report-one W r b i W′ d₀ d t e m h = (subst (λ (v : Graph). Reported v d₀ d t) (m .has .is ∙ ap (valueOf W) (sym e)) h, m .outside .same)
+
+pub report-inside : (W : List ℕ) (r : ValueRef) (b i : ℕ) → Holds W r → r ≡ Object b i → Inside W b i
+report-inside W r b i h e = subst (HeldBy W) e (h .held)
+
+pub report-room : (W : List ℕ) (r : ValueRef) (b i : ℕ) → Holds W r → r ≡ Object b i → 240 * b + 240 ≤ length W
+report-room W r b i h e = report-inside W r b i h e .block .room
+
+pub report-block : (W : List ℕ) (g : Graph) (b : ℕ) (W′ : List ℕ) → Moved W g b W′ → Block W′ b
+report-block W g b W′ m = m .has .inside .block

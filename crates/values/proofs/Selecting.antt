@@ -13,17 +13,18 @@ use borrow.Author.Tests.{eq-eqb, ne-eqb, eqb-false}
 use types.Run.{OneOf}
 use denote.Enum.Declared.{tagOf}
 use Rattle.cofj.specs.Values.{Ref, obj, mark, undet, Node, node, Graph, graph, nodeAt, refsAt, canon, canonBy, visit, select, selected, markOf, undetermined}
-use Rattle.cofj.specs.Unfolding.{InRange}
+use Rattle.cofj.specs.Unfolding.{InRange, Whole}
 use Rattle.values.specs.declared.ValueRef.{ValueRef}
 use Rattle.values.specs.declared.ValueRef.the-variants.{Object, Mark, Undetermined}
 use Rattle.values.specs.declared.Selected.{Selected}
 use Rattle.values.specs.declared.Selected.the-variants.{Value, Stuck}
-use Rattle.values.specs.Layout.{refOf, nodeIn, nodesIn, Block, blockIn, countIn, valueOf, Holds, HeldBy, Outside}
-use Rattle.values.specs.Operations.{Gives, Moved, Chosen, Leaf, refIn, answerIn, AnswerHeld}
+use Rattle.values.specs.Layout.{refOf, nodeIn, objectsIn, graphAt, Inside, countIn, valueOf, Holds, HeldBy, Outside}
+use Rattle.values.specs.Operations.{Chosen, Leaf, refIn, answerIn, AnswerHeld}
 use Rattle.values.proofs.ValueRef as RefT
 use Rattle.values.proofs.Nodes.{at-nodes, ref-object, ref-undet, ref-mark}
 use Rattle.values.proofs.Walks.{four, four-at}
-use Rattle.values.proofs.Blocks.{inner-in}
+use Rattle.values.proofs.Blocks.{inner-in, whole-at}
+use Rattle.values.proofs.Trees.{select-canon}
 
 pub unchanged : (b : ℕ) (W : List ℕ) → Outside b W W
 unchanged b W = record { same = refl; below = λ p h. refl; above = λ p h. refl }
@@ -48,91 +49,98 @@ pub canon-undet : (ns : List Node) → canon (graph undet ns) ≡ undetermined
 unfolding canon canonBy visit
 canon-undet ns = refl
 
-module _ (W : List ℕ) (b : ℕ) (bk : Block W b) where
-  pub count-four : getD W (240 * b + 1) 0 ≤ 4
-  count-four = let e : 240 * b + 6 * 0 + 1 ≡ 240 * b + 1 = omega arith in rw e at (bk .packed 0 (bk .filled) .count)
+module _ (W : List ℕ) (b i f : ℕ) (ob : Inside W b i) where
+  abbrev at : ℕ
+  at = 240 * b + 6 * i
 
-  refs-root : refsAt (blockIn W b .nodes) 0 ≡ take (getD W (240 * b + 1) 0) (four W (40 * b))
-  unfolding blockIn nodeIn
-  refs-root =
-      let e : 240 * b + 6 * 0 ≡ 240 * b = omega arith in
-      let e6 : 240 * b ≡ 6 * (40 * b) = omega arith in
-      ap (λ (x : Node). x .refs) (at-nodes W (240 * b) (countIn W b) 0 (bk .filled) ∙ ap (nodeIn W) e)
-      ∙ ap (λ (p : ℕ). take (getD W (240 * b + 1) 0) (refOf (getD W (p + 2) 0) ∷ refOf (getD W (p + 3) 0) ∷ refOf (getD W (p + 4) 0) ∷ refOf (getD W (p + 5) 0) ∷ [])) e6
+  pub at-room : at + 6 ≤ length W
+  at-room = omega (arith, ob .block .room, ob .block .small, ob .low)
 
-  length-root : length (refsAt (blockIn W b .nodes) 0) ≡ getD W (240 * b + 1) 0
-  length-root = ap length refs-root ∙ omega (arith, count-four, length-take (getD W (240 * b + 1) 0) (four W (40 * b)))
+  pub count-four : getD W (at + 1) 0 ≤ 4
+  count-four = ob .block .packed i (ob .low) .count
 
-  module _ (f dst : ℕ) where
-    pub choose-none : getD W (240 * b + 1) 0 ≤ f → Chosen W (blockIn W b) f dst W Stuck
-    unfolding select blockIn
-    choose-none h = record {
-      held = tt;
-      is = sym (ap (selected (blockIn W b .nodes)) (get-none (refsAt (blockIn W b .nodes) 0) f (omega (arith, length-root))));
-      place = tt;
-      outside = unchanged dst W;
+  refs-at : refsAt (objectsIn W b) i ≡ take (getD W (at + 1) 0) (four W (40 * b + i))
+  unfolding objectsIn nodeIn
+  refs-at =
+      let e6 : at ≡ 6 * (40 * b + i) = omega arith in
+      ap (λ (x : Node). x .refs) (at-nodes W (240 * b) (countIn W b) i (ob .low))
+      ∙ ap (λ (p : ℕ). take (getD W (at + 1) 0) (refOf (getD W (p + 2) 0) ∷ refOf (getD W (p + 3) 0) ∷ refOf (getD W (p + 4) 0) ∷ refOf (getD W (p + 5) 0) ∷ [])) e6
+
+  length-refs : length (refsAt (objectsIn W b) i) ≡ getD W (at + 1) 0
+  length-refs = ap length refs-at ∙ omega (arith, count-four, length-take (getD W (at + 1) 0) (four W (40 * b + i)))
+
+  whole : Whole (graphAt W b i)
+  whole = whole-at W b (ob .block) i (ob .low)
+
+  module _ (hf : f < getD W (at + 1) 0) where
+    pub field-room : at + 2 + f < length W
+    field-room = omega (arith, at-room, count-four)
+
+    field-at : getElem? (refsAt (objectsIn W b) i) f ≡ some (refOf (getD W (at + 2 + f) 0))
+    field-at =
+        let e6 : 6 * (40 * b + i) + 2 + f ≡ at + 2 + f = omega arith in
+        get-some (refsAt (objectsIn W b) i) f (omega (arith, length-refs))
+        ∙ ap some (ap (λ (l : List Ref). getD l f undet) refs-at
+        ∙ getD-take (getD W (at + 1) 0) (four W (40 * b + i)) f undet hf
+        ∙ four-at W (40 * b + i) f (omega (arith, count-four))
+        ∙ ap (λ (p : ℕ). refOf (getD W p 0)) e6)
+
+    chosen-is : select f (canon (graphAt W b i)) ≡ some (canon (graph (refOf (getD W (at + 2 + f) 0)) (objectsIn W b)))
+    unfolding select
+    chosen-is = select-canon (graphAt W b i) whole f ∙ ap (selected (objectsIn W b)) field-at
+
+    pub choose-leaf : (o : ValueRef) → 192 ≤ getD W (at + 2 + f) 0 → Leaf (getD W (at + 2 + f) 0) o → Chosen W (Object b i) f (Value o)
+    choose-leaf o h l = go (ℕ-discrete (getD W (at + 2 + f) 0) 192)
+      where
+        go : Dec (getD W (at + 2 + f) 0 ≡ 192) → Chosen W (Object b i) f (Value o)
+        go (yes e) =
+            let eo : o ≡ Undetermined = l .is ∙ rw e in
+            subst (λ (x : ValueRef). Chosen W (Object b i) f (Value x)) (sym eo) (record {
+              held = record { held = tt };
+              is = ap some (sym (ap (λ (x : ℕ). canon (graph (refOf x) (objectsIn W b))) e ∙ ap (λ (r : Ref). canon (graph r (objectsIn W b))) ref-undet ∙ canon-undet (objectsIn W b))) ∙ sym chosen-is;
+              place = λ sp q. tt;
+            })
+        go (no n) =
+            let z : getD W (at + 2 + f) 0 ≡ 193 + (getD W (at + 2 + f) 0 - 193) = omega (arith, n) in
+            let eo : o ≡ Mark (getD W (at + 2 + f) 0 - 193) = l .is ∙ rw (ne-eqb _ _ n) in
+            let er : refOf (getD W (at + 2 + f) 0) ≡ mark (getD W (at + 2 + f) 0 - 193) = ap refOf z ∙ ref-mark _ in
+            subst (λ (x : ValueRef). Chosen W (Object b i) f (Value x)) (sym eo) (record {
+              held = record { held = omega (arith, l .small) };
+              is = ap some (sym (ap (λ (r : Ref). canon (graph r (objectsIn W b))) er ∙ canon-mark _ (objectsIn W b))) ∙ sym chosen-is;
+              place = λ sp q. tt;
+            })
+
+    pub choose-object : getD W (at + 2 + f) 0 < 192 → Chosen W (Object b i) f (Value (Object b (getD W (at + 2 + f) 0)))
+    choose-object h = record {
+      held = record { held = record { block = ob .block; low = subst (InRange (countIn W b)) (ref-object _ h) (inner-in W b (ob .block) i f _ field-at) } };
+      is = ap some (ap (λ (r : Ref). canon (graph r (objectsIn W b))) (sym (ref-object _ h))) ∙ sym chosen-is;
+      place = λ sp q. q;
     }
 
-    module _ (hf : f < getD W (240 * b + 1) 0) where
-      field-at : getElem? (refsAt (blockIn W b .nodes) 0) f ≡ some (refOf (getD W (240 * b + 2 + f) 0))
-      field-at =
-          let e6 : 6 * (40 * b) + 2 + f ≡ 240 * b + 2 + f = omega arith in
-          get-some (refsAt (blockIn W b .nodes) 0) f (omega (arith, length-root))
-          ∙ ap some (ap (λ (l : List Ref). getD l f undet) refs-root
-          ∙ getD-take (getD W (240 * b + 1) 0) (four W (40 * b)) f undet hf
-          ∙ four-at W (40 * b) f (omega (arith, count-four))
-          ∙ ap (λ (p : ℕ). refOf (getD W p 0)) e6)
+  pub choose-none : getD W (at + 1) 0 ≤ f → Chosen W (Object b i) f Stuck
+  unfolding select
+  choose-none h = record {
+    held = tt;
+    is = sym (select-canon (graphAt W b i) whole f ∙ ap (selected (objectsIn W b)) (get-none (refsAt (objectsIn W b) i) f (omega (arith, length-refs))));
+    place = λ sp q. tt;
+  }
 
-      chosen-is : select f (blockIn W b) ≡ some (canon (graph (refOf (getD W (240 * b + 2 + f) 0)) (blockIn W b .nodes)))
-      unfolding select blockIn
-      chosen-is = ap (selected (blockIn W b .nodes)) field-at
+-- ---- by what a value is
+module _ (W : List ℕ) (r : ValueRef) (f : ℕ) where
+  pub select-none : OneOf (1 ∷ 2 ∷ []) (tagOf RefT.the-type r) → Chosen W r f Stuck
+  unfolding select
+  select-none h = go r h
+    where
+      go : (r : ValueRef) → OneOf (1 ∷ 2 ∷ []) (tagOf RefT.the-type r) → Chosen W r f Stuck
+      go (Object n i) h = ⊎-elim (λ e. absurd (eqb-false 0 1 refl e)) (λ e. absurd (eqb-false 0 2 refl e)) h
+      go (Mark n) h = record { held = tt; is = refl; place = λ sp q. tt }
+      go Undetermined h = record { held = tt; is = refl; place = λ sp q. tt }
 
-      pub choose-leaf : (o : ValueRef) → 192 ≤ getD W (240 * b + 2 + f) 0 → Leaf (getD W (240 * b + 2 + f) 0) o → Chosen W (blockIn W b) f dst W (Value o)
-      choose-leaf o h l = go (ℕ-discrete (getD W (240 * b + 2 + f) 0) 192)
-        where
-          c : ℕ
-          c = getD W (240 * b + 2 + f) 0
+  pub select-inside : (b i : ℕ) → Holds W r → r ≡ Object b i → Inside W b i
+  select-inside b i h e = subst (HeldBy W) e (h .held)
 
-          go : Dec (getD W (240 * b + 2 + f) 0 ≡ 192) → Chosen W (blockIn W b) f dst W (Value o)
-          go (yes e) =
-              let eo : o ≡ Undetermined = l .is ∙ rw e in
-              subst (λ (x : ValueRef). Chosen W (blockIn W b) f dst W (Value x)) (sym eo) (record {
-                held = record { held = tt };
-                is = ap some (sym (ap (λ (x : ℕ). canon (graph (refOf x) (blockIn W b .nodes))) e ∙ ap (λ (r : Ref). canon (graph r (blockIn W b .nodes))) ref-undet ∙ canon-undet (blockIn W b .nodes))) ∙ sym chosen-is;
-                place = tt;
-                outside = unchanged dst W;
-              })
-          go (no n) =
-              let z : getD W (240 * b + 2 + f) 0 ≡ 193 + (getD W (240 * b + 2 + f) 0 - 193) = omega (arith, n) in
-              let eo : o ≡ Mark (getD W (240 * b + 2 + f) 0 - 193) = l .is ∙ rw (ne-eqb _ _ n) in
-              let er : refOf (getD W (240 * b + 2 + f) 0) ≡ mark (getD W (240 * b + 2 + f) 0 - 193) = ap refOf z ∙ ref-mark _ in
-              subst (λ (x : ValueRef). Chosen W (blockIn W b) f dst W (Value x)) (sym eo) (record {
-                held = record { held = omega (arith, l .small) };
-                is = ap some (sym (ap (λ (r : Ref). canon (graph r (blockIn W b .nodes))) er ∙ canon-mark _ (blockIn W b .nodes))) ∙ sym chosen-is;
-                place = tt;
-                outside = unchanged dst W;
-              })
-
-      module _ (ho : getD W (240 * b + 2 + f) 0 < 192) where
-        pub choose-inside : getD W (240 * b + 2 + f) 0 < countIn W b
-        choose-inside = subst (InRange (countIn W b)) (ref-object _ ho) (inner-in W b bk 0 f _ field-at)
-
-        pub choose-object : (v : ValueRef) (W′ : List ℕ) → Moved W (graph (obj (getD W (240 * b + 2 + f) 0)) (blockIn W b .nodes)) dst W′ v → Chosen W (blockIn W b) f dst W′ (Value v)
-        choose-object v W′ m = record {
-          held = m .held;
-          is = ap some (m .is ∙ ap (λ (r : Ref). canon (graph r (blockIn W b .nodes))) (sym (ref-object _ ho))) ∙ sym chosen-is;
-          place = m .place;
-          outside = m .outside;
-        }
-
-pub select-none : (W : List ℕ) (r : ValueRef) (f dst : ℕ) → OneOf (1 ∷ 2 ∷ []) (tagOf RefT.the-type r) → Chosen W (valueOf W r) f dst W Stuck
-unfolding select
-select-none W (Object n) f dst h = ⊎-elim (λ e. absurd (eqb-false 0 1 refl e)) (λ e. absurd (eqb-false 0 2 refl e)) h
-select-none W (Mark n) f dst h = record { held = tt; is = refl; place = tt; outside = unchanged dst W }
-select-none W Undetermined f dst h = record { held = tt; is = refl; place = tt; outside = unchanged dst W }
-
-pub select-one : (W : List ℕ) (r : ValueRef) (b f dst : ℕ) (W′ : List ℕ) (o : Selected) → r ≡ Object b → Chosen W (blockIn W b) f dst W′ o → Chosen W (valueOf W r) f dst W′ o
-select-one W r b f dst W′ o e h = rw e h
+  pub select-one : (b i : ℕ) (o : Selected) → r ≡ Object b i → Chosen W (Object b i) f o → Chosen W r f o
+  select-one b i o e c = rw e c
 
 pub leaf-undet : (c : ℕ) → c ≡ 192 → suc c ≤ 256 → Leaf c Undetermined
 leaf-undet c e h = record { is = rw (eq-eqb _ _ e); small = h }

@@ -54,6 +54,20 @@ pub fn gather(nodes: &[u8], order: &[u8], m: u8, table: &[u8], dst: &mut [u8], t
     }
 }
 
+// A level for a byte more.
+pub fn raise_level(l: u8, c: u8) -> u8
+    ensures { λ m. ⌜ (l ≤ m) × (c < 193 + m) ⌝ }
+{
+    if c <= 192 {
+        return l;
+    }
+    let k = c - 192;
+    if k <= l {
+        return l;
+    }
+    k
+}
+
 // A level for the p bytes from a place on.
 pub fn level_of(work: &[u8], at: usize, p: usize) -> u8
     requires { ⌜ at + p ≤ length (now work) ⌝ }
@@ -62,12 +76,7 @@ pub fn level_of(work: &[u8], at: usize, p: usize) -> u8
     let mut l: u8 = 0;
     let mut q: usize = 0;
     while q < p {
-        let c = work[at + q];
-        if 192 < c {
-            if l < c - 192 {
-                l = c - 192;
-            }
-        }
+        l = raise_level(l, work[at + q]);
         q += 1;
     }
     l
@@ -80,6 +89,8 @@ pub fn put(nodes: &[u8], n: u8, cs: &[u8], root: u8, work: &mut [u8], dst: u16) 
     ensures { λ r. ⌜ Placed (now (nodes .entry)) n root (now (work .entry)) dst (now (work .exit)) r ⌝ }
 {
     let at = 240 * (dst as usize);
+    let count = at + 192;
+    let level = at + 193;
     let mut order = [0u8; 256];
     let mut met = [0u8; 256];
     wipe(&mut met, 256);
@@ -91,7 +102,7 @@ pub fn put(nodes: &[u8], n: u8, cs: &[u8], root: u8, work: &mut [u8], dst: u16) 
     numbers(cs, n, &met, m, &mut table);
     gather(nodes, &order, m, &table, work, at);
     let l = level_of(work, at, 6 * (m as usize));
-    work[at + 192] = m;
-    work[at + 193] = l;
+    work[count] = m;
+    work[level] = l;
     m
 }

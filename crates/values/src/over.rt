@@ -3,6 +3,7 @@ use crate::Made;
 use crate::Slot;
 use crate::ValueRef;
 use crate::bytes::same;
+use crate::number::raise_level;
 use crate::value::copy_block;
 ghost use mathlib.Core.Path.{_≡_};
 ghost use Prim.Native.Nat.{ℕ, _+_, _*_, _<_, _≤_};
@@ -50,10 +51,9 @@ pub fn find(work: &[u8], b: u16, t: u8, top: &[u8]) -> u8
     requires { ⌜ Block (now work) b × (t ≡ countIn (now work) b) × Packed (now top) 0 × (6 ≤ length (now top)) ⌝ }
     ensures { λ k. ⌜ Found (now (work .entry)) b t (now (top .entry)) k ⌝ }
 {
-    let at = 240 * (b as usize);
     let mut k: u8 = 0;
     while k < t {
-        if same(work, at + 6 * (k as usize), top, 0, 6) {
+        if same(work, 240 * (b as usize) + 6 * (k as usize), top, 0, 6) {
             return k;
         }
         k += 1;
@@ -69,12 +69,7 @@ pub fn level_with(top: &[u8], l: u8) -> u8
     let mut m: u8 = l;
     let mut k: usize = 0;
     while k < 6 {
-        let c = top[k];
-        if 192 < c {
-            if m < c - 192 {
-                m = c - 192;
-            }
-        }
+        m = raise_level(m, top[k]);
         k += 1;
     }
     m
@@ -85,15 +80,13 @@ pub fn append(work: &mut [u8], dst: u16, t: u8, top: &[u8], l: u8)
     requires { ⌜ (t ≤ 31) × (240 * dst + 240 ≤ length (now work)) × (6 ≤ length (now top)) ⌝ }
     ensures { λ _. ⌜ Appended (now (work .entry)) dst t (now (top .entry)) l (now (work .exit)) ⌝ }
 {
-    let at = 240 * (dst as usize);
-    let to = at + 6 * (t as usize);
     let mut k: usize = 0;
     while k < 6 {
-        work[to + k] = top[k];
+        work[240 * (dst as usize) + 6 * (t as usize) + k] = top[k];
         k += 1;
     }
-    work[at + 192] = t + 1;
-    work[at + 193] = l;
+    work[240 * (dst as usize) + 192] = t + 1;
+    work[240 * (dst as usize) + 193] = l;
 }
 
 // The objects of block b and the one in `top`, in block `dst`.

@@ -11,6 +11,7 @@ ghost use lib.ListN.{length};
 ghost use Rattle.cofj.specs.Values.{close};
 ghost use Rattle.values.specs.Layout.{Block, Inside, graphAt, countIn, Holds, valueOf};
 ghost use Rattle.values.specs.Operations.{Taken, Moved, Copied, Gives, Chosen, Leaf, boundIn, closeOf};
+ghost use Rattle.values.specs.declared.ValueRef.the-variants.{Object};
 
 // Copies the objects of block b to the front of `raw`, with the code `hot` turned to object 0, and answers how many they are.
 // `ids` becomes 0, 1, .. for each of them.
@@ -48,14 +49,11 @@ pub fn ref_of(c: u8) -> ValueRef
     ValueRef::Mark(c - 193)
 }
 
-// Field f of a value: an object of the same block, if it is one.
-pub fn select(work: &[u8], r: ValueRef, f: u8) -> Selected
-    requires { ⌜ Holds (now work) r ⌝ }
-    ensures { λ o. ⌜ Chosen (now (work .entry)) r f o ⌝ }
+// Field f of object i of block b: an object of the same block, if it is one.
+pub fn select_object(work: &[u8], b: u16, i: u8, f: u8) -> Selected
+    requires { ⌜ Inside (now work) b i ⌝ }
+    ensures { λ o. ⌜ Chosen (now (work .entry)) (Object b i) f o ⌝ }
 {
-    let ValueRef::Object(b, i) = r else {
-        return Selected::Stuck;
-    };
     let at = 240 * (b as usize) + 6 * (i as usize);
     if work[at + 1] <= f {
         return Selected::Stuck;
@@ -67,23 +65,32 @@ pub fn select(work: &[u8], r: ValueRef, f: u8) -> Selected
     Selected::Value(ValueRef::Object(b, c))
 }
 
+// Field f of a value.
+pub fn select(work: &[u8], r: ValueRef, f: u8) -> Selected
+    requires { ⌜ Holds (now work) r ⌝ }
+    ensures { λ o. ⌜ Chosen (now (work .entry)) r f o ⌝ }
+{
+    let ValueRef::Object(b, i) = r else {
+        return Selected::Stuck;
+    };
+    select_object(work, b, i, f)
+}
+
 // The objects of block b, to block `dst`, which may be b.
 pub fn copy_block(work: &mut [u8], b: u16, dst: u16)
     requires { ⌜ Block (now work) b × (240 * dst + 240 ≤ length (now work)) ⌝ }
     ensures { λ _. ⌜ Copied (now (work .entry)) b dst (now (work .exit)) ⌝ }
 {
-    let from = 240 * (b as usize);
-    let to = 240 * (dst as usize);
-    let n = work[from + 192];
-    let l = work[from + 193];
+    let n = work[240 * (b as usize) + 192];
+    let l = work[240 * (b as usize) + 193];
     let p = 6 * (n as usize);
     let mut q: usize = 0;
     while q < p {
-        work[to + q] = work[from + q];
+        work[240 * (dst as usize) + q] = work[240 * (b as usize) + q];
         q += 1;
     }
-    work[to + 192] = n;
-    work[to + 193] = l;
+    work[240 * (dst as usize) + 192] = n;
+    work[240 * (dst as usize) + 193] = l;
 }
 
 // A value, in block `dst` or below.

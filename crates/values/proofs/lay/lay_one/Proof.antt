@@ -6,15 +6,15 @@ use Rattle.values.proofs.lay.lay_one.Lts as lts
 use Rattle.values.proofs.lay.lay_block.Reads as lay-block-reads
 use native.Mathlib.Omega.{arith}
 use Rattle.values.proofs.Lays as laws
-use Rattle.values.proofs.Blocks as blocks
 
 lay-block-requires : tie.Need-lay-block-requires
-lay-block-requires c κs = (search blocks.held-block, search needs, search needs)
+lay-block-requires c κs = (search laws.object-block, search needs, search needs)
 
-add-raw-2 : tie.Need-add-raw-2
-add-raw-2 c =
-    let st = c .before .before .before .before .before in
-    omega (arith, laws.mark-small _ _ _ (st .pre .0) (c .before .r2 .given .1))
+add-raw : tie.Need-add-raw
+add-raw c = let st = c .before .before .before .before .before .before in omega (arith, laws.object-low _ _ _ _ _ (st .pre .3) (st .pre .0) (c .before .before .before .before .before .r .given .1))
+
+add-raw-4 : tie.Need-add-raw-4
+add-raw-4 c = omega (arith, laws.mark-small _ _ _ (c .before .before .before .before .before .pre .0) (c .before .r2 .given .1))
 
 returns : tie.Need-returns
 returns c = search laws.lay-object
@@ -31,12 +31,13 @@ lay-one-spec =
     (tie.spec
     (λ c. search needs)
     lay-block-requires
+    add-raw
     (λ c. search needs)
     (λ c. search needs)
     (λ c. search needs)
     (λ c. search needs)
-    add-raw-2
     (λ c. search needs)
+    add-raw-4
     (λ c. search needs)
     (λ c. search needs)
     (λ c. search needs)

@@ -1,8 +1,8 @@
 use borrow.Author.Needs.{needs}
-use Rattle.values.proofs.value.equal.Statement.{statement}
-use Rattle.values.proofs.value.equal.Tie as tie
-use Rattle.values.proofs.value.equal.Reads as reads
-use Rattle.values.proofs.value.equal.Lts as lts
+use Rattle.values.proofs.lockstep.equal.Statement.{statement}
+use Rattle.values.proofs.lockstep.equal.Tie as tie
+use Rattle.values.proofs.lockstep.equal.Reads as reads
+use Rattle.values.proofs.lockstep.equal.Lts as lts
 use Rattle.values.proofs.value.same_blocks.Reads as same-blocks-reads
 use Rattle.values.proofs.Blocks as laws
 

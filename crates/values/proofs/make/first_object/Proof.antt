@@ -7,8 +7,8 @@ use borrow.Author.Needs.{needs}
 use mathlib.Core.Path.{_≡_}
 use Prim.Native.Nat.{_≤_, _-_}
 use native.Mathlib.Omega.{arith}
-use Rattle.values.specs.Stacking.{Leaves}
-use Rattle.values.proofs.Stacks as laws
+use Rattle.values.specs.Adding.{Leaves}
+use Rattle.values.proofs.Beside as laws
 
 abbrev Inv-loop : tie.InvT-loop
 Inv-loop n parts i₀ i = (i ≤ n) × Leaves parts i

@@ -5,10 +5,10 @@ use Rattle.values.proofs.over.code_of.Reads as reads
 use Rattle.values.proofs.over.code_of.Lts as lts
 use native.Mathlib.Omega.{arith}
 use Rattle.values.proofs.Lays as lays
-use Rattle.values.proofs.Stacks as laws
+use Rattle.values.proofs.Beside as laws
 
 add-result : tie.Need-add-result
-add-result c = omega (arith, lays.mark-small _ _ _ (c .before .before .before .pre) (c .before .r .given .1))
+add-result c = omega (arith, lays.mark-small _ _ _ (c .before .before .before .pre) (c .before .r2 .given .1))
 
 returns : tie.Need-returns
 returns c = search laws.code-object

@@ -8,8 +8,8 @@ use mathlib.Core.Path.{_≡_}
 use Prim.Native.Nat.{_≤_, _-_}
 use native.Mathlib.Omega.{arith}
 use Rattle.values.specs.Layout.{countIn}
-use Rattle.values.specs.Stacking.{Missed}
-use Rattle.values.proofs.Stacks as laws
+use Rattle.values.specs.Adding.{Missed}
+use Rattle.values.proofs.Beside as laws
 
 abbrev Inv-loop : tie.InvT-loop
 Inv-loop work b t top k₀ k = (k ≤ t) × Missed work b top k

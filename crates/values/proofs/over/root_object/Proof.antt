@@ -8,7 +8,7 @@ use mathlib.Core.Path.{_≡_}
 use Prim.Native.Nat.{_≤_, _-_}
 use native.Mathlib.Omega.{arith}
 use lib.ListN.{length, length-set}
-use Rattle.values.proofs.Stacks as laws
+use Rattle.values.proofs.Beside as laws
 
 abbrev Inv-loop : tie.InvT-loop
 Inv-loop work c n top₀ parts i₀ top i = (i ≤ n) × (length top ≡ length top₀) × laws.RootBegun work c parts n i top

@@ -23,10 +23,7 @@ unfolding countIn
 loop-holds c = (search needs, refl, search needs, laws.lines-none _ _ _)
 
 put-line-requires : tie.Need-put-line-requires Inv-loop μ-loop
-put-line-requires c κs =
-    let turn = c .before in
-    let st = turn .before .before .before .before .before in
-    (st .pre .0 .packed _ (omega (arith, turn .before .loop .inv .1)), omega (arith, st .pre .0 .small, st .pre .0 .room, turn .before .loop .inv .1), omega (arith, st .pre .0 .small, turn .before .loop .inv .1, turn .before .loop .inv .3 .top))
+put-line-requires c κs = let turn = c .before in let st = turn .before .before .before .before .before in (st .pre .0 .packed _ (omega (arith, turn .before .loop .inv .1)), omega (arith, st .pre .0 .small, st .pre .0 .room, turn .before .loop .inv .1), omega (arith, st .pre .0 .small, turn .before .loop .inv .1, turn .before .loop .inv .3 .top))
 
 loop-again : tie.Need-loop-again Inv-loop μ-loop
 loop-again c = (search needs, search needs, search needs, let p = c .before .before in let turn = p .before .before in let head = turn .before in let st = head .before .before .before .before in laws.lines-next _ _ (st .pre .0) _ _ _ _ _ _ _ (head .loop .inv .3) (st .pre .1) (turn .loop-test .taken) (head .loop .inv .1) (p .put-line .ensures))

@@ -4,10 +4,11 @@ use Rattle.values.proofs.report.report.Tie as tie
 use Rattle.values.proofs.report.report.Reads as reads
 use Rattle.values.proofs.report.report.Lts as lts
 use Rattle.values.proofs.report.put_lines.Reads as put-lines-reads
+use Rattle.values.proofs.value.move_out.Reads as move-out-reads
 use native.Mathlib.Omega.{arith}
+use mathlib.Core.Path.{refl}
 use lib.ListN.{length-set}
 use Rattle.values.proofs.Reports as laws
-use Rattle.values.proofs.Blocks as blocks
 
 slice-write-out-2 : tie.Need-slice-write-out-2
 slice-write-out-2 c = simp length-set (omega arith)
@@ -16,13 +17,16 @@ slice-write-out-3 : tie.Need-slice-write-out-3
 slice-write-out-3 c = simp length-set (omega arith)
 
 same-length : tie.Need-same-length
-same-length c = simp length-set
+same-length c = simp length-set (omega arith)
 
 returns : tie.Need-returns
-returns c = search laws.report-none
+returns c = (search laws.report-none, refl)
+
+move-out-requires : tie.Need-move-out-requires
+move-out-requires c κs = (search laws.report-inside, search laws.report-room)
 
 put-lines-requires : tie.Need-put-lines-requires
-put-lines-requires c κs = (search blocks.held-block, search needs)
+put-lines-requires c κs = (search laws.report-block, search needs)
 
 returns-2 : tie.Need-returns-2
 returns-2 c = search laws.report-one
@@ -37,6 +41,8 @@ report-spec =
     slice-write-out-3
     same-length
     returns
+    move-out-requires
     put-lines-requires
+    (λ c. search needs)
     (λ c. search needs)
     returns-2)

@@ -3,19 +3,19 @@ use Rattle.values.proofs.value.copy_block.Tie as tie
 use Rattle.values.proofs.value.copy_block.Reads as reads
 use Rattle.values.proofs.value.copy_block.Lts as lts
 use borrow.Author.Needs.{needs}
-use mathlib.Core.Path.{_≡_}
+use mathlib.Core.Path.{_≡_, refl}
 use native.Mathlib.Omega.{arith}
-use Prim.Native.Nat.{_≤_, _-_, _*_, _+_}
-use lib.ListN.{length, length-set, getD}
+use Prim.Native.Nat.{_≤_, _-_}
+use lib.ListN.{length, length-set}
 use Rattle.values.specs.Layout.{countIn}
-use Rattle.values.specs.Operations.{Copying}
 use Rattle.values.proofs.Copies as laws
+use Rattle.values.proofs.Copies.{CopyLoop}
 
 abbrev Inv-loop : tie.InvT-loop
-Inv-loop work₀ b dst n p q₀ work q = (q ≤ p) × (p ≤ 192) × (n ≡ getD work₀ (240 * b + 192) 0) × (p ≡ 6 * n) × (length work ≡ length work₀) × Copying work₀ b dst q work
+Inv-loop work₀ b dst n l p q₀ work q = (q ≤ p) × (p ≤ 192) × (length work ≡ length work₀) × CopyLoop work₀ b dst n l p q work
 
 abbrev μ-loop : tie.MeasureT-loop
-μ-loop work₀ b dst n p q₀ work q = p - q
+μ-loop work₀ b dst n l p q₀ work q = p - q
 
 cast-p : tie.Need-cast-p Inv-loop μ-loop
 unfolding countIn
@@ -27,16 +27,19 @@ mul-p c = omega arith
 
 loop-holds : tie.Need-loop-holds Inv-loop μ-loop
 unfolding countIn
-loop-holds c = (search needs, omega arith, search needs, search needs, search needs, laws.copy-none _ _ _)
+loop-holds c = (search needs, omega arith, search needs, laws.copy-none _ _ _ _ _ _ refl refl refl)
 
 loop-again : tie.Need-loop-again Inv-loop μ-loop
-loop-again c = (search needs, search needs, search needs, search needs, simp length-set (omega arith), search laws.copy-step)
+loop-again c = (search needs, search needs, simp length-set (omega arith), search laws.copy-step)
+
+slice-write-work-3 : tie.Need-slice-write-work-3 Inv-loop μ-loop
+slice-write-work-3 c = simp length-set (omega arith)
 
 same-length : tie.Need-same-length Inv-loop μ-loop
 same-length c = simp length-set (omega arith)
 
 returns : tie.Need-returns Inv-loop μ-loop
-returns c = search laws.copy-end
+returns c = laws.copy-end _ _ _ _ _ _ _ _ (c .before .before .before .before .pre .0) (c .before .before .before .before .pre .1) (c .before .loop .inv .3) (c .before .loop .inv .0) (c .loop-test .left)
 
 pub copy-block-spec : {M : Type 1} → statement M
 copy-block-spec =
@@ -44,6 +47,9 @@ copy-block-spec =
     (tie.spec
     Inv-loop
     μ-loop
+    (λ c. search needs)
+    (λ c. search needs)
+    (λ c. search needs)
     (λ c. search needs)
     (λ c. search needs)
     (λ c. search needs)
@@ -62,5 +68,8 @@ copy-block-spec =
     (λ c. search needs)
     (λ c. search needs)
     (λ c. search needs)
+    (λ c. search needs)
+    (λ c. search needs)
+    slice-write-work-3
     same-length
     returns)

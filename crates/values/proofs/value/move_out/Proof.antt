@@ -9,13 +9,10 @@ use native.Mathlib.Omega.{arith}
 use Rattle.values.proofs.Blocks as laws
 
 put-requires : tie.Need-put-requires
-put-requires c κs =
-    let t = c .before .before .before .before .before in
-    let st = t .before .before .before .before .before in
-    laws.move-ready _ _ (st .pre .0) _ _ _ _ (t .take-up .ensures) _ _ (search needs) (search needs) (st .pre .1) (st .pre .2)
+put-requires c κs = let t = c .before .before .before .before .before in let st = t .before .before .before .before .before in laws.move-ready _ _ (st .pre .0 .block) _ _ _ _ (t .take-up .ensures) _ _ (search needs) (search needs) (st .pre .0 .low) (st .pre .1)
 
 returns : tie.Need-returns
-returns c = search laws.moved
+returns c = search laws.moved-out
 
 pub move-out-spec : {M : Type 1} → statement M
 move-out-spec =

@@ -3,15 +3,14 @@ use Rattle.values.proofs.value.select.Statement.{statement}
 use Rattle.values.proofs.value.select.Tie as tie
 use Rattle.values.proofs.value.select.Reads as reads
 use Rattle.values.proofs.value.select.Lts as lts
-use Rattle.values.proofs.value.select_block.Reads as select-block-reads
+use Rattle.values.proofs.value.select_object.Reads as select-object-reads
 use Rattle.values.proofs.Selecting as laws
-use Rattle.values.proofs.Blocks as blocks
 
 returns : tie.Need-returns
 returns c = search laws.select-none
 
-select-block-requires : tie.Need-select-block-requires
-select-block-requires c κs = (search blocks.held-block, search needs)
+select-object-requires : tie.Need-select-object-requires
+select-object-requires c κs = search laws.select-inside
 
 returns-2 : tie.Need-returns-2
 returns-2 c = search laws.select-one
@@ -22,6 +21,5 @@ select-spec =
     (tie.spec
     (λ c. search needs)
     returns
-    select-block-requires
-    (λ c. search needs)
+    select-object-requires
     returns-2)

@@ -38,7 +38,6 @@ take-up-spec =
     cast-p
     mul-p
     count-up-requires
-    (λ c. search needs)
     lift-requires
     (λ c. search needs)
     (λ c. search needs)

@@ -1,0 +1,45 @@
+use Rattle.values.proofs.make.together.Statement.{statement}
+use Rattle.values.proofs.make.together.Tie as tie
+use Rattle.values.proofs.make.together.Reads as reads
+use Rattle.values.proofs.make.together.Lts as lts
+use Rattle.values.proofs.make.stands.Reads as stands-reads
+use borrow.Author.Needs.{needs}
+use mathlib.Core.Path.{_≡_}
+use Prim.Native.Nat.{_≤_, _-_}
+use Rattle.values.specs.Adding.{Beside}
+use Rattle.values.proofs.Beside as laws
+
+abbrev Inv-loop : tie.InvT-loop
+Inv-loop n b parts i₀ i = (i ≤ n) × Beside parts i b
+
+abbrev μ-loop : tie.MeasureT-loop
+μ-loop n b parts i₀ i = n - i
+
+loop-holds : tie.Need-loop-holds Inv-loop μ-loop
+loop-holds c = (search needs, laws.each-none _ 0 _)
+
+returns : tie.Need-returns Inv-loop μ-loop
+returns c = search laws.together-not
+
+loop-again : tie.Need-loop-again Inv-loop μ-loop
+loop-again c = (search needs, search laws.each-more)
+
+returns-2 : tie.Need-returns-2 Inv-loop μ-loop
+returns-2 c = search laws.together-all
+
+pub together-spec : {M : Type 1} → statement M
+together-spec =
+    tie.close
+    (tie.spec
+    Inv-loop
+    μ-loop
+    loop-holds
+    (λ c. search needs)
+    (λ c. search needs)
+    (λ c. search needs)
+    (λ c κs. search needs)
+    returns
+    (λ c. search needs)
+    (λ c. search needs)
+    loop-again
+    returns-2)
