@@ -1,5 +1,6 @@
 pub mod Runs
 pub mod Nodes
+pub mod Steps
 pub mod Lifts
 pub mod Places
 pub mod Turned
