@@ -1,6 +1,7 @@
 pub mod Runs
 pub mod Trees
 pub mod Nodes
+pub mod Steps
 pub mod Lifts
 pub mod Places
 pub mod Turned

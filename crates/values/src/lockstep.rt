@@ -1,10 +1,133 @@
 // Values compared: two objects of two blocks, and what they lead to, in step. Not here: equal objects of one block, which there are none of.
 use crate::ValueRef;
 ghost use mathlib.Core.Path.{_≡_};
-ghost use Prim.Native.Nat.{ℕ, _+_, _*_, _<_, _≤_};
-ghost use lib.ListN.{length};
 ghost use Rattle.cofj.specs.Values.{eqGraph, canon};
-ghost use Rattle.values.specs.Layout.{Inside, graphAt, Holds, valueOf};
+ghost use Rattle.values.specs.Layout.{Inside, Block, countIn, graphAt, Holds, valueOf};
+ghost use Rattle.values.specs.Stepping.{after, stepCode, CodeFits, Paired, Pair, Alike, AlikeTest, ObjectStep, InStep};
+
+// Meets two codes: they are equal, or objects that are partners or can become so. `partner` has y + 1 for an object with the partner y, 0 for one
+// without; `queue` lists the objects that have one, `tail` of them. Answers how many there are then, 0 if the codes differ.
+pub fn step_code(partner: &mut [u8], queue: &mut [u8], tail: u8, first: u8, second: u8) -> u8
+    requires { ⌜ CodeFits (now partner) (now queue) tail first ⌝ }
+    ensures { λ r. ⌜ after r (now (partner .exit)) (now (queue .exit)) ≡ stepCode (now (partner .entry)) (now (queue .entry)) tail first second ⌝ }
+{
+    if 192 <= first {
+        if first == second {
+            return tail;
+        }
+        return 0;
+    }
+    if 192 <= second {
+        return 0;
+    }
+    let known = partner[first as usize];
+    if known == 0 {
+        partner[first as usize] = second + 1;
+        queue[tail as usize] = first;
+        return tail + 1;
+    }
+    if known == second + 1 {
+        return tail;
+    }
+    0
+}
+
+// Whether object x of block b and object y of block c have one class and as many fields.
+pub fn alike(work: &[u8], b: u16, x: u8, c: u16, y: u8) -> bool
+    requires { ⌜ Inside (now work) b x × Inside (now work) c y ⌝ }
+    ensures { λ r. ⌜ AlikeTest (now (work .entry)) b x c y r ⌝ }
+{
+    let p = 240 * (b as usize) + 6 * (x as usize);
+    let q = 240 * (c as usize) + 6 * (y as usize);
+    if work[p] != work[q] {
+        return false;
+    }
+    work[p + 1] == work[q + 1]
+}
+
+// Meets the fields of object x of block b and of its partner y of block c. Answers as `step_code`.
+pub fn step_fields(
+    work: &[u8],
+    b: u16,
+    x: u8,
+    c: u16,
+    y: u8,
+    partner: &mut [u8],
+    queue: &mut [u8],
+    tail: u8,
+) -> u8
+    requires { ⌜ Pair (now work) b x c y (now partner) (now queue) tail × Alike (now work) b x c y ⌝ }
+    ensures { λ r. ⌜ ObjectStep (now (work .entry)) b x c y (now (partner .entry)) (now (queue .entry)) tail (now (partner .exit)) (now (queue .exit)) r ⌝ }
+{
+    let p = 240 * (b as usize) + 6 * (x as usize);
+    let q = 240 * (c as usize) + 6 * (y as usize);
+    let n = work[p + 1];
+    let mut t = tail;
+    let mut k: u8 = 0;
+    while k < n {
+        let first = work[p + 2 + k as usize];
+        let second = work[q + 2 + k as usize];
+        let r = step_code(partner, queue, t, first, second);
+        if r == 0 {
+            return 0;
+        }
+        t = r;
+        k += 1;
+    }
+    t
+}
+
+// Meets object x of block b and its partner y of block c. Answers as `step_code`.
+pub fn step_object(
+    work: &[u8],
+    b: u16,
+    x: u8,
+    c: u16,
+    y: u8,
+    partner: &mut [u8],
+    queue: &mut [u8],
+    tail: u8,
+) -> u8
+    requires { ⌜ Pair (now work) b x c y (now partner) (now queue) tail ⌝ }
+    ensures { λ r. ⌜ ObjectStep (now (work .entry)) b x c y (now (partner .entry)) (now (queue .entry)) tail (now (partner .exit)) (now (queue .exit)) r ⌝ }
+{
+    if alike(work, b, x, c, y) {
+        return step_fields(work, b, x, c, y, partner, queue, tail);
+    }
+    0
+}
+
+// Meets the objects of the queue and their partners, those too that are added. Answers whether each unfolds to its partner's tree.
+pub fn in_step(work: &[u8], b: u16, c: u16, partner: &mut [u8], queue: &mut [u8]) -> bool
+    requires { ⌜ Block (now work) b × Block (now work) c × Paired (countIn (now work) b) (countIn (now work) c) (now partner) (now queue) 1 ⌝ }
+    ensures { λ r. ⌜ InStep (now (work .entry)) b c (now (partner .entry)) r ⌝ }
+{
+    let mut head: u8 = 0;
+    let mut tail: u8 = 1;
+    while head < tail {
+        let x = queue[head as usize];
+        let y = partner[x as usize];
+        let t = step_object(work, b, x, c, y - 1, partner, queue, tail);
+        if t == 0 {
+            return false;
+        }
+        tail = t;
+        head += 1;
+    }
+    true
+}
+
+// The same as `same_trees`, for objects of two blocks: they are the first partners.
+pub fn roots_in_step(work: &[u8], b: u16, i: u8, c: u16, j: u8) -> bool
+    requires { ⌜ Inside (now work) b i × Inside (now work) c j ⌝ }
+    ensures { λ r. ⌜ r ≡ eqGraph (canon (graphAt (now (work .entry)) b i)) (canon (graphAt (now (work .entry)) c j)) ⌝ }
+{
+    let mut partner = [0u8; 32];
+    let mut queue = [0u8; 32];
+    partner[i as usize] = j + 1;
+    queue[0] = i;
+    in_step(work, b, c, &mut partner, &mut queue)
+}
 
 // Whether object i of block b and object j of block c unfold to the same tree.
 pub fn same_trees(work: &[u8], b: u16, i: u8, c: u16, j: u8) -> bool
@@ -13,6 +136,9 @@ pub fn same_trees(work: &[u8], b: u16, i: u8, c: u16, j: u8) -> bool
 {
     if b == c {
         return i == j;
+    }
+    if alike(work, b, i, c, j) {
+        return roots_in_step(work, b, i, c, j);
     }
     false
 }

@@ -3,23 +3,23 @@ use Rattle.values.proofs.lockstep.equal.Statement.{statement}
 use Rattle.values.proofs.lockstep.equal.Tie as tie
 use Rattle.values.proofs.lockstep.equal.Reads as reads
 use Rattle.values.proofs.lockstep.equal.Lts as lts
-use Rattle.values.proofs.value.same_blocks.Reads as same-blocks-reads
-use Rattle.values.proofs.Blocks as laws
+use Rattle.values.proofs.lockstep.same_trees.Reads as same-trees-reads
+use Rattle.values.proofs.Steps as laws
 
-same-blocks-requires : tie.Need-same-blocks-requires
-same-blocks-requires c κs = (search laws.held-block, search laws.held-other)
+same-trees-requires : tie.Need-same-trees-requires
+same-trees-requires c κs = (search laws.held-object, search laws.held-other)
 
 returns : tie.Need-returns
-returns c = search laws.equal-blocks
+returns c = search laws.equal-objects
 
 returns-2 : tie.Need-returns-2
-returns-2 c = search laws.block-mark
+returns-2 c = search laws.object-mark
 
 returns-3 : tie.Need-returns-3
-returns-3 c = search laws.block-undet
+returns-3 c = search laws.object-undet
 
 returns-4 : tie.Need-returns-4
-returns-4 c = search laws.mark-block
+returns-4 c = search laws.mark-object
 
 returns-5 : tie.Need-returns-5
 returns-5 c = search laws.mark-mark
@@ -28,7 +28,7 @@ returns-6 : tie.Need-returns-6
 returns-6 c = search laws.mark-undet
 
 returns-7 : tie.Need-returns-7
-returns-7 c = search laws.undet-block
+returns-7 c = search laws.undet-object
 
 returns-8 : tie.Need-returns-8
 returns-8 c = search laws.undet-mark
@@ -42,7 +42,7 @@ equal-spec =
     (tie.spec
     (λ c. search needs)
     (λ c. search needs)
-    same-blocks-requires
+    same-trees-requires
     (λ c. search needs)
     (λ c. search needs)
     (λ c. search needs)

@@ -1,15 +1,24 @@
+use borrow.Author.Needs.{needs}
 use Rattle.values.proofs.lockstep.same_trees.Statement.{statement}
 use Rattle.values.proofs.lockstep.same_trees.Tie as tie
 use Rattle.values.proofs.lockstep.same_trees.Reads as reads
 use Rattle.values.proofs.lockstep.same_trees.Lts as lts
+use Rattle.values.proofs.lockstep.alike.Reads as alike-reads
+use Rattle.values.proofs.lockstep.roots_in_step.Reads as roots-in-step-reads
+use Rattle.values.proofs.Steps as laws
 
--- src/lockstep.rt:15:9
 returns : tie.Need-returns
-returns c = ?
+returns c = search laws.one-block
 
--- src/lockstep.rt:10:1
-returns-2 : tie.Need-returns-2
-returns-2 c = ?
+returns-3 : tie.Need-returns-3
+returns-3 c = search laws.roots-differ
 
 pub same-trees-spec : {M : Type 1} → statement M
-same-trees-spec = tie.close (tie.spec returns returns-2)
+same-trees-spec =
+    tie.close
+    (tie.spec
+    returns
+    (λ c κs. search needs)
+    (λ c κs. search needs)
+    (λ c. search needs)
+    returns-3)

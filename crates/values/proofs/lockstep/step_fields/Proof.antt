@@ -1,0 +1,75 @@
+use Rattle.values.proofs.lockstep.step_fields.Statement.{statement}
+use Rattle.values.proofs.lockstep.step_fields.Tie as tie
+use Rattle.values.proofs.lockstep.step_fields.Reads as reads
+use Rattle.values.proofs.lockstep.step_fields.Lts as lts
+use Rattle.values.proofs.lockstep.step_code.Reads as step-code-reads
+use borrow.Author.Needs.{needs}
+use mathlib.Core.Path.{_≡_}
+use Prim.Native.Nat.{_≤_, _-_, _+_}
+use lib.ListN.{length}
+use Rattle.values.specs.Stepping.{FieldsSoFar}
+use Rattle.values.proofs.Steps as laws
+
+abbrev Inv-loop : tie.InvT-loop
+Inv-loop work b x c y partner₀ queue₀ tail p q n t₀ k₀ partner queue t k = (k ≤ n) × (n ≤ 4) × (length partner ≡ length partner₀) × (length queue ≡ length queue₀) × FieldsSoFar work b x c y partner₀ queue₀ tail partner queue t k
+
+abbrev μ-loop : tie.MeasureT-loop
+μ-loop work b x c y partner₀ queue₀ tail p q n t₀ k₀ partner queue t k = n - k
+
+shared-slice-read-n : tie.Need-shared-slice-read-n Inv-loop μ-loop
+shared-slice-read-n c = search laws.pair-count-read
+
+loop-holds : tie.Need-loop-holds Inv-loop μ-loop
+loop-holds c = (search needs, search laws.four, search needs, search needs, search laws.fields-start)
+
+shared-slice-read-first : tie.Need-shared-slice-read-first Inv-loop μ-loop
+shared-slice-read-first c = search laws.first-read
+
+shared-slice-read-second : tie.Need-shared-slice-read-second Inv-loop μ-loop
+shared-slice-read-second c = let l = c .before .before in laws.second-read _ _ _ _ _ _ _ _ _ _ _ _ (l .before .loop .inv .4) (l .loop-test .taken)
+
+step-code-requires : tie.Need-step-code-requires Inv-loop μ-loop
+step-code-requires c κs = search laws.code-fits
+
+returns : tie.Need-returns Inv-loop μ-loop
+returns c = search laws.fields-differ
+
+loop-again : tie.Need-loop-again Inv-loop μ-loop
+loop-again c = (search needs, search needs, search needs, search needs, search laws.fields-more)
+
+returns-2 : tie.Need-returns-2 Inv-loop μ-loop
+returns-2 c = search laws.fields-done
+
+pub step-fields-spec : {M : Type 1} → statement M
+step-fields-spec =
+    tie.close
+    (tie.spec
+    Inv-loop
+    μ-loop
+    (λ c. search needs)
+    (λ c. search needs)
+    (λ c. search needs)
+    (λ c. search needs)
+    (λ c. search needs)
+    (λ c. search needs)
+    (λ c. search needs)
+    shared-slice-read-n
+    loop-holds
+    (λ c. search needs)
+    (λ c. search needs)
+    (λ c. search needs)
+    shared-slice-read-first
+    (λ c. search needs)
+    (λ c. search needs)
+    (λ c. search needs)
+    shared-slice-read-second
+    step-code-requires
+    (λ c. search needs)
+    (λ c. search needs)
+    returns
+    (λ c. search needs)
+    (λ c. search needs)
+    loop-again
+    (λ c. search needs)
+    (λ c. search needs)
+    returns-2)

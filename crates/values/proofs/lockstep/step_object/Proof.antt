@@ -1,0 +1,25 @@
+use borrow.Author.Needs.{needs}
+use Rattle.values.proofs.lockstep.step_object.Statement.{statement}
+use Rattle.values.proofs.lockstep.step_object.Tie as tie
+use Rattle.values.proofs.lockstep.step_object.Reads as reads
+use Rattle.values.proofs.lockstep.step_object.Lts as lts
+use Rattle.values.proofs.lockstep.alike.Reads as alike-reads
+use Rattle.values.proofs.lockstep.step_fields.Reads as step-fields-reads
+use Rattle.values.proofs.Steps as laws
+
+step-fields-requires : tie.Need-step-fields-requires
+step-fields-requires c κs = (search needs, search laws.alike-yes)
+
+returns-2 : tie.Need-returns-2
+returns-2 c = search laws.object-differs
+
+pub step-object-spec : {M : Type 1} → statement M
+step-object-spec =
+    tie.close
+    (tie.spec
+    (λ c κs. search needs)
+    step-fields-requires
+    (λ c. search needs)
+    (λ c. search needs)
+    (λ c. search needs)
+    returns-2)

@@ -1,0 +1,123 @@
+-- Objects of two blocks compared in step: a table of pairs, and a queue of the first block's objects that are paired.
+-- Not here: objects of one block, of which no two are the same.
+use Prim.Native.Nat.{ℕ, zero, suc, _+_, _*_, _≤_, _<_}
+use mathlib.Core.Path.{_≡_}
+use mathlib.Core.Bool.{Bool, true, false, cond}
+use mathlib.Core.List.{List}
+use lib.Dec.{eqb, ltb}
+use lib.ListN.{length, getD, set}
+use Rattle.cofj.specs.Values.{obj}
+use Rattle.cofj.specs.Unfolding.{Same}
+use Rattle.values.specs.Layout.{countIn, objectsIn, Block, Inside}
+
+-- the length of the queue (0 where two things differ), the table and the queue
+pub record After : Type 0 where
+  pub tail : ℕ
+  pub table : List ℕ
+  pub queue : List ℕ
+
+abbrev pub after : ℕ → List ℕ → List ℕ → After
+after t T Q = record { tail = t; table = T; queue = Q }
+
+-- a code of the first block met with one of the second: objects are paired, unless the first has a partner already
+unfoldable pub stepCode : List ℕ → List ℕ → ℕ → ℕ → ℕ → After
+stepCode T Q t a b =
+    cond (ltb a 192)
+    (cond (ltb b 192)
+    (cond (eqb (getD T a 0) 0) (after (t + 1) (set T a (b + 1)) (set Q t a)) (cond (eqb (getD T a 0) (b + 1)) (after t T Q) (after 0 T Q)))
+    (after 0 T Q))
+    (cond (eqb a b) (after t T Q) (after 0 T Q))
+
+-- room for a new pair
+pub record CodeFits (T Q : List ℕ) (t a : ℕ) : Type 0 where
+  pub entry : a < 192 → a < length T
+  pub room : a < 192 → getD T a 0 ≡ 0 → t < length Q
+  pub few : t ≤ 32
+
+-- how many of the first k objects are not paired
+unfoldable pub unpaired : ℕ → List ℕ → ℕ
+unpaired zero T = 0
+unpaired (suc k) T = cond (eqb (getD T k 0) 0) 1 0 + unpaired k T
+
+-- object x is paired with y where the table has y + 1 for x; the queue lists the paired objects
+pub record Paired (n m : ℕ) (T Q : List ℕ) (t : ℕ) : Type 0 where
+  pub table : length T ≡ 32
+  pub queue : length Q ≡ 32
+  pub free : t + unpaired 32 T ≤ 32
+  pub low : (q : ℕ) → q < t → getD Q q 0 < n
+  pub there : (q : ℕ) → q < t → (getD T (getD Q q 0) 0 ≡ 0) → ⊥
+  pub listed : (x y : ℕ) → getD T x 0 ≡ y + 1 → (q : ℕ) × (q < t) × (getD Q q 0 ≡ x)
+  pub within : (x y : ℕ) → getD T x 0 ≡ y + 1 → y < m
+
+-- each pair unfolds to one tree
+pub record AllSame (W : List ℕ) (b c : ℕ) (T : List ℕ) : Type 0 where
+  pub same : (x y : ℕ) → getD T x 0 ≡ y + 1 → Same (objectsIn W b) (obj x) (objectsIn W c) (obj y)
+
+-- pairs were added, each the same if those before were
+pub record Grown (W : List ℕ) (b c : ℕ) (T₀ Q₀ : List ℕ) (t₀ : ℕ) (T Q : List ℕ) (t : ℕ) : Type 0 where
+  pub more : t₀ ≤ t
+  pub pairs : (x y : ℕ) → getD T₀ x 0 ≡ y + 1 → getD T x 0 ≡ y + 1
+  pub front : (q : ℕ) → q < t₀ → getD Q q 0 ≡ getD Q₀ q 0
+  pub keeps : AllSame W b c T₀ → AllSame W b c T
+
+-- equal codes, or objects that are paired
+pub record Linked (T : List ℕ) (a b : ℕ) : Type 0 where
+  pub leaf : 192 ≤ a → a ≡ b
+  pub pair : a < 192 → getD T a 0 ≡ b + 1
+
+-- the first k fields of object x of block b are linked with those of object y of block c
+pub record LinkedTo (W : List ℕ) (b x c y : ℕ) (T : List ℕ) (k : ℕ) : Type 0 where
+  pub codes : (f : ℕ) → f < k → Linked T (getD W (240 * b + 6 * x + 2 + f) 0) (getD W (240 * c + 6 * y + 2 + f) 0)
+
+-- object x of block b and object y of block c are a pair of the table
+pub record Pair (W : List ℕ) (b x c y : ℕ) (T Q : List ℕ) (t : ℕ) : Type 0 where
+  pub first : Inside W b x
+  pub second : Inside W c y
+  pub paired : Paired (countIn W b) (countIn W c) T Q t
+  pub here : getD T x 0 ≡ y + 1
+
+-- they have one class and count
+pub record Alike (W : List ℕ) (b x c y : ℕ) : Type 0 where
+  pub cls : getD W (240 * b + 6 * x) 0 ≡ getD W (240 * c + 6 * y) 0
+  pub count : getD W (240 * b + 6 * x + 1) 0 ≡ getD W (240 * c + 6 * y + 1) 0
+
+pub record AlikeTest (W : List ℕ) (b x c y : ℕ) (r : Bool) : Type 0 where
+  pub yes : r ≡ true → Alike W b x c y
+  pub no : r ≡ false → Alike W b x c y → ⊥
+
+-- the first k fields of a pair gone over
+pub record FieldsSoFar (W : List ℕ) (b x c y : ℕ) (T₀ Q₀ : List ℕ) (t₀ : ℕ) (T Q : List ℕ) (t k : ℕ) : Type 0 where
+  pub start : Pair W b x c y T₀ Q₀ t₀
+  pub alike : Alike W b x c y
+  pub grown : Grown W b c T₀ Q₀ t₀ T Q t
+  pub paired : Paired (countIn W b) (countIn W c) T Q t
+  pub fields : LinkedTo W b x c y T k
+
+-- alike, and all fields are linked
+pub record Closed (W : List ℕ) (b x c y : ℕ) (T : List ℕ) : Type 0 where
+  pub alike : Alike W b x c y
+  pub fields : LinkedTo W b x c y T (getD W (240 * b + 6 * x + 1) 0)
+
+-- the first h objects of the queue are so, each with its partner
+pub record ClosedTo (W : List ℕ) (b c : ℕ) (T Q : List ℕ) (h : ℕ) : Type 0 where
+  pub before : (q : ℕ) → q < h → (y : ℕ) → getD T (getD Q q 0) 0 ≡ y + 1 → Closed W b (getD Q q 0) c y T
+
+-- the same, with the pairs added
+pub record PairsSoFar (W : List ℕ) (b c : ℕ) (T₀ Q₀ T Q : List ℕ) (t h : ℕ) : Type 0 where
+  pub first : Block W b
+  pub second : Block W c
+  pub grown : Grown W b c T₀ Q₀ 1 T Q t
+  pub paired : Paired (countIn W b) (countIn W c) T Q t
+  pub closed : ClosedTo W b c T Q h
+
+-- one pair gone over
+pub record ObjectStep (W : List ℕ) (b x c y : ℕ) (T₀ Q₀ : List ℕ) (t : ℕ) (T Q : List ℕ) (r : ℕ) : Type 0 where
+  pub differ : r ≡ 0 → AllSame W b c T₀ → ⊥
+  pub grown : ((r ≡ 0) → ⊥) → Grown W b c T₀ Q₀ t T Q r
+  pub paired : ((r ≡ 0) → ⊥) → Paired (countIn W b) (countIn W c) T Q r
+  pub closed : ((r ≡ 0) → ⊥) → Closed W b x c y T
+
+-- whether each pair unfolds to one tree
+pub record InStep (W : List ℕ) (b c : ℕ) (T : List ℕ) (r : Bool) : Type 0 where
+  pub yes : r ≡ true → AllSame W b c T
+  pub no : r ≡ false → AllSame W b c T → ⊥
