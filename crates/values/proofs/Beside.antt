@@ -27,7 +27,7 @@ use Rattle.values.specs.Adding.{roots, RootObject, Missed, Found, Append
 use Rattle.values.proofs.Nodes.{length-nodes, at-nodes, more-nodes, nodes-same, node-same, packed-same, eq-node, ref-object, ref-undet, ref-mark}
 use Rattle.values.proofs.Walks.{four, four-at}
 use Rattle.values.proofs.Blocks.{size-in, inner-in}
-use Rattle.values.proofs.Selecting.{unchanged}
+use Rattle.values.proofs.Selecting.{under}
 use Rattle.values.proofs.Lays.{fresh, fresh-class, fresh-count, fresh-spare, none-slot, raws-whole, made-raw}
 use Rattle.values.proofs.Adding.{more, size-more, at-new, inner-more, distinct-more, Fit, AllFit, roots-low, top, make-found, make-new}
 
@@ -354,7 +354,7 @@ module _ (W : List ℕ) (c : ℕ) (ps : List Slot) (n : ℕ) (T : List ℕ) (hel
         let low : t < countIn D dst = omega (arith, ad .count) in
         let l : length (make c (valuesFrom W ps 0 n) .nodes) ≤ 32 =
         omega (arith, ap (λ (g : Graph). length (g .nodes)) value, canon-length (graphAt D dst t) (record { top = subst (λ (k : ℕ). t < k) (sym (size-in D dst bk)) low; inner = bk .whole .inner }), size-in D dst bk, bk .small) in
-        record { held = record { held = record { block = bk; low = low } }; is = rw (le-leb _ 32 l) (ap some (sym value)); place = omega arith; outside = ad .outside }
+        record { held = record { held = record { block = bk; low = low } }; is = rw (le-leb _ 32 l) (ap some (sym value)); place = omega arith; beneath = under dst W D (ad .outside) }
 
   -- beside the objects of a block
   module _ (b : ℕ) (bk : Block W b) (bs : Beside ps n b) where
@@ -375,7 +375,7 @@ module _ (W : List ℕ) (c : ℕ) (ps : List Slot) (n : ℕ) (T : List ℕ) (hel
           (at-nodes W (240 * b) (getD W (240 * b + 192) 0) k h ∙ fd .hit h ∙ cr .is) in
           let l : length (make c (valuesFrom W ps 0 n) .nodes) ≤ 32 =
           omega (arith, ap (λ (x : Graph). length (x .nodes)) e, canon-length (graphAt W b k) (record { top = omega (arith, size-in W b bk); inner = bk .whole .inner }), size-in W b bk, bk .small) in
-          record { held = g .held; is = rw (le-leb _ 32 l) (ap some (g .is ∙ sym e)); place = g .place; outside = g .outside }
+          record { held = g .held; is = rw (le-leb _ 32 l) (ap some (g .is ∙ sym e)); place = g .place; beneath = under dst W W′ (g .outside) }
 
       pub beside-new : getD W (240 * b + 192) 0 ≤ k → getD W (240 * b + 192) 0 < 32 → (dst : ℕ) (D : List ℕ) → 240 * dst + 240 ≤ length W → Added W b (countIn W b) T dst D
           → MadeIs W (make c (valuesFrom W ps 0 n)) dst D (Value (Object dst (getD W (240 * b + 192) 0)))

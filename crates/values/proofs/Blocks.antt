@@ -23,16 +23,6 @@ use Rattle.values.proofs.Colouring.{length-up, at-up, distinct-colours}
 use Rattle.values.proofs.Turned.{turnRef, changed, lifted-nodes, lifted-packed, turn-rename, nodes-agree}
 use Rattle.values.proofs.Rounds.{front-is}
 
--- ---- comparing
-eqNodes-refl : (ns : List Node) → eqNodes ns ns ≡ true
-unfolding eqNodes
-eqNodes-refl [] = refl
-eqNodes-refl (n ∷ ns) = true-both (eqNode n n) (eqNodes ns ns) (eqNode-refl n) (eqNodes-refl ns)
-
-pub eqGraph-refl : (g : Graph) → eqGraph g g ≡ true
-unfolding eqGraph
-eqGraph-refl g = true-both (eqRef (g .root) (g .root)) (eqNodes (g .nodes) (g .nodes)) (eqRef-refl (g .root)) (eqNodes-refl (g .nodes))
-
 -- ---- taken up
 pub taken : (W : List ℕ) (b hot : ℕ) (I R₀ R : List ℕ) → Filled (λ i. 0 + i) (getD W (240 * b + 192) 0) I → Lifted W (240 * b) (6 * getD W (240 * b + 192) 0) I hot R₀ 0 R
     → Taken W b hot I R₀ R (getD W (240 * b + 192) 0)

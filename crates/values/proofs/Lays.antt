@@ -29,6 +29,7 @@ use Rattle.values.proofs.Nodes.{length-nodes, nodes-same, packed-same, 
 use Rattle.values.proofs.Turned.{turnRef, changed, lifted-nodes, lifted-packed, turn-rename, nodes-agree}
 use Rattle.values.proofs.Walks.{four, four-at}
 use Rattle.values.proofs.Blocks.{inner-in, whole-at}
+use Rattle.values.proofs.Selecting.{under}
 use Rattle.values.proofs.Trees.{AllSame, same-make}
 
 -- ---- one value
@@ -339,12 +340,12 @@ module _ (W : List ℕ) (c : ℕ) (ps : List Slot) (n : ℕ) (R : List ℕ) (t :
     size = p .count ∙ ap (λ (g : Graph). length (g .nodes)) value-is
 
     pub made-large : 32 < m → MadeIs W (make c (valuesFrom W ps 0 n)) dst W′ TooLarge
-    made-large h = record { held = tt; is = rw (← size, lt-leb m 32 h); place = tt; outside = p .outside }
+    made-large h = record { held = tt; is = rw (← size, lt-leb m 32 h); place = tt; beneath = under dst W W′ (p .outside) }
 
     pub made-value : m ≤ 32 → MadeIs W (make c (valuesFrom W ps 0 n)) dst W′ (Value (Object dst 0))
     made-value h = record {
       held = record { held = p .has h .inside };
       is = rw (← size, le-leb m 32 h) (ap some (ap canon (p .has h .is) ∙ canon-canon (graphIn R t 0) whole-in ∙ value-is));
       place = omega arith;
-      outside = p .outside;
+      beneath = under dst W W′ (p .outside);
     }

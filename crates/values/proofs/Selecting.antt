@@ -18,7 +18,7 @@ use Rattle.values.specs.declared.ValueRef.{ValueRef}
 use Rattle.values.specs.declared.ValueRef.the-variants.{Object, Mark, Undetermined}
 use Rattle.values.specs.declared.Selected.{Selected}
 use Rattle.values.specs.declared.Selected.the-variants.{Value, Stuck}
-use Rattle.values.specs.Layout.{refOf, nodeIn, objectsIn, graphAt, Inside, countIn, valueOf, Holds, HeldBy, Outside}
+use Rattle.values.specs.Layout.{refOf, nodeIn, objectsIn, graphAt, Inside, countIn, valueOf, Holds, HeldBy, Outside, Beneath}
 use Rattle.values.specs.Operations.{Chosen, Leaf, refIn, answerIn, AnswerHeld}
 use Rattle.values.proofs.ValueRef as RefT
 use Rattle.values.proofs.Nodes.{at-nodes, ref-object, ref-undet, ref-mark}
@@ -28,6 +28,9 @@ use Rattle.values.proofs.Trees.{select-canon}
 
 pub unchanged : (b : ℕ) (W : List ℕ) → Outside b W W
 unchanged b W = record { same = refl; below = λ p h. refl; above = λ p h. refl }
+
+pub under : (b : ℕ) (W W′ : List ℕ) → Outside b W W′ → Beneath b W W′
+under b W W′ o = record { same = o .same; below = o .below }
 
 -- ---- an item of a list, if there is one
 get-some : (l : List Ref) (f : ℕ) → f < length l → getElem? l f ≡ some (getD l f undet)

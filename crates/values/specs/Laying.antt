@@ -12,7 +12,7 @@ use Rattle.values.specs.declared.ValueRef.the-variants.{Object}
 use Rattle.values.specs.declared.Slot.{Slot}
 use Rattle.values.specs.declared.Made.{Made}
 use Rattle.values.specs.declared.Made.the-variants.{Value, TooLarge}
-use Rattle.values.specs.Layout.{refOf, nodesIn, Packed, valueOf, rawOf, Holds, Low, Outside}
+use Rattle.values.specs.Layout.{refOf, nodesIn, Packed, valueOf, rawOf, Holds, Low, Beneath}
 
 -- the values of parts i to n
 unfoldable pub valuesFrom : List ℕ → List Slot → ℕ → ℕ → List Graph
@@ -76,9 +76,9 @@ abbrev pub MadePlace : ℕ → Made → Type 0
 MadePlace b (Value r) = Low (b + 1) r
 MadePlace b TooLarge = Unit {0}
 
--- the value v, in block dst or below, unless it has more than 32 objects; only block dst has changed
+-- the value v, in block dst or below, unless it has more than 32 objects; what lies below block dst is as before
 pub record MadeIs (W : List ℕ) (v : Graph) (dst : ℕ) (W′ : List ℕ) (o : Made) : Type 0 where
   pub held : MadeHeld W′ o
   pub is : madeIn W′ o ≡ cond (leb (length (v .nodes)) 32) (some v) none
   pub place : MadePlace dst o
-  pub outside : Outside dst W W′
+  pub beneath : Beneath dst W W′

@@ -106,3 +106,8 @@ pub record Outside (b : ℕ) (W W′ : List ℕ) : Type 0 where
   pub same : length W′ ≡ length W
   pub below : (p : ℕ) → p < 240 * b → getD W′ p 0 ≡ getD W p 0
   pub above : (p : ℕ) → 240 * b + 240 ≤ p → getD W′ p 0 ≡ getD W p 0
+
+-- every byte below block b is as before
+pub record Beneath (b : ℕ) (W W′ : List ℕ) : Type 0 where
+  pub same : length W′ ≡ length W
+  pub below : (p : ℕ) → p < 240 * b → getD W′ p 0 ≡ getD W p 0
