@@ -120,8 +120,8 @@ module _ (W : List ℕ) (r : ValueRef) (dst : ℕ) (h : Holds W r) where
     pub bring-block : Block W b
     bring-block = let ob : Inside W b i = subst (HeldBy W) e (h .held) in ob .block
 
-    pub bring-here : b ≤ dst → Gives W dst W r (valueOf W r)
-    bring-here l = record { held = h; is = refl; place = subst (Low (dst + 1)) (sym e) (omega arith); outside = unchanged dst W }
+    pub bring-here : b ≤ dst → Gives W dst W (Object b i) (valueOf W r)
+    bring-here l = record { held = record { held = subst (HeldBy W) e (h .held) }; is = ap (valueOf W) (sym e); place = omega arith; outside = unchanged dst W }
 
     pub bring-copy : (W′ : List ℕ) → 240 * dst + 240 ≤ length W → Copied W b dst W′ → Gives W dst W′ (Object dst i) (valueOf W r)
     bring-copy W′ room c =
@@ -133,6 +133,13 @@ module _ (W : List ℕ) (r : ValueRef) (dst : ℕ) (h : Holds W r) where
           place = omega arith;
           outside = c .outside;
         }
+
+pub inside-held : (W : List ℕ) (b i : ℕ) → Inside W b i → Holds W (Object b i)
+inside-held W b i h = record { held = h }
+
+pub block-held : (W : List ℕ) (b i : ℕ) → Block W b → i < getD W (240 * b + 192) 0 → Holds W (Object b i)
+unfolding countIn
+block-held W b i bk h = record { held = record { block = bk; low = h } }
 
 -- ---- a mark that does not occur
 at-some : (rs : List Ref) (k : ℕ) (r : Ref) → getElem? rs k ≡ some r → (getD rs k undet ≡ r) × (k < length rs)

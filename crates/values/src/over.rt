@@ -96,9 +96,11 @@ pub fn add(work: &mut [u8], b: u16, top: &[u8], dst: u16)
 {
     let t = work[240 * (b as usize) + 192];
     let l = level_with(top, work[240 * (b as usize) + 193]);
-    if b != dst {
-        copy_block(work, b, dst);
+    if b == dst {
+        append(work, dst, t, top, l);
+        return;
     }
+    copy_block(work, b, dst);
     append(work, dst, t, top, l);
 }
 

@@ -8,7 +8,7 @@ use crate::number::put;
 ghost use mathlib.Core.Path.{_≡_};
 ghost use Prim.Native.Nat.{ℕ, _+_, _*_, _<_, _≤_};
 ghost use lib.ListN.{length};
-ghost use Rattle.cofj.specs.Values.{close};
+ghost use Rattle.cofj.specs.Values.{canon};
 ghost use Rattle.values.specs.Layout.{Block, Inside, graphAt, countIn, Holds, valueOf};
 ghost use Rattle.values.specs.Operations.{Taken, Moved, Copied, Gives, Chosen, Leaf, boundIn, closeOf};
 ghost use Rattle.values.specs.declared.ValueRef.the-variants.{Object};
@@ -123,7 +123,7 @@ pub fn close_alone(work: &mut [u8], x: u8, b: u16)
 // X = u for object i of block b, to block `dst`, or where it lies if the mark is not in it.
 pub fn close_object(work: &mut [u8], x: u8, b: u16, i: u8, dst: u16) -> ValueRef
     requires { ⌜ Inside (now work) b i × (x < 63) × (240 * dst + 240 ≤ length (now work)) ⌝ }
-    ensures { λ o. ⌜ Gives (now (work .entry)) dst (now (work .exit)) o (closeOf x (graphAt (now (work .entry)) b i)) ⌝ }
+    ensures { λ o. ⌜ Gives (now (work .entry)) dst (now (work .exit)) o (closeOf x (canon (graphAt (now (work .entry)) b i))) ⌝ }
 {
     if work[240 * (b as usize) + 193] <= x {
         return bring(work, ValueRef::Object(b, i), dst);

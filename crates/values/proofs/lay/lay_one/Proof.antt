@@ -11,10 +11,10 @@ lay-block-requires : tie.Need-lay-block-requires
 lay-block-requires c κs = (search laws.object-block, search needs, search needs)
 
 add-raw : tie.Need-add-raw
-add-raw c = let st = c .before .before .before .before .before .before in omega (arith, laws.object-low _ _ _ _ _ (st .pre .3) (st .pre .0) (c .before .before .before .before .before .r .given .1))
+add-raw c = let st = c .before .before .before .before .before .before .before .before .before in omega (arith, laws.object-low _ _ _ _ _ (st .pre .3) (st .pre .0) (c .before .before .before .before .before .r .given .1))
 
-add-raw-4 : tie.Need-add-raw-4
-add-raw-4 c = omega (arith, laws.mark-small _ _ _ (c .before .before .before .before .before .pre .0) (c .before .r2 .given .1))
+add-raw-3 : tie.Need-add-raw-3
+add-raw-3 c = omega (arith, laws.mark-small _ _ _ (c .before .before .before .before .before .pre .0) (c .before .r2 .given .1))
 
 returns : tie.Need-returns
 returns c = search laws.lay-object
@@ -36,8 +36,8 @@ lay-one-spec =
     (λ c. search needs)
     (λ c. search needs)
     (λ c. search needs)
+    add-raw-3
     (λ c. search needs)
-    add-raw-4
     (λ c. search needs)
     (λ c. search needs)
     (λ c. search needs)

@@ -29,7 +29,7 @@ put-lines-requires : tie.Need-put-lines-requires
 put-lines-requires c κs = (search laws.report-block, search needs)
 
 returns-2 : tie.Need-returns-2
-returns-2 c = search laws.report-one
+returns-2 c = laws.report-one _ _ _ _ _ _ _ _ (c .before .before .before .before .before .before .before .before .before .before .r .given .1) (c .before .before .before .before .before .before .before .move-out .ensures) (c .before .before .put-lines .ensures)
 
 pub report-spec : {M : Type 1} → statement M
 report-spec =

@@ -1,0 +1,30 @@
+use borrow.Author.Needs.{needs}
+use Rattle.values.proofs.value.bring.Statement.{statement}
+use Rattle.values.proofs.value.bring.Tie as tie
+use Rattle.values.proofs.value.bring.Reads as reads
+use Rattle.values.proofs.value.bring.Lts as lts
+use Rattle.values.proofs.value.copy_block.Reads as copy-block-reads
+use Rattle.values.proofs.Copies as laws
+
+returns : tie.Need-returns
+returns c = search laws.bring-leaf
+
+returns-2 : tie.Need-returns-2
+returns-2 c = laws.bring-here _ _ _ (c .before .before .before .before .before .pre .0) _ _ (c .before .before .r .given .1) (c .if1 .taken)
+
+copy-block-requires : tie.Need-copy-block-requires
+copy-block-requires c κs = (search laws.bring-block, search needs)
+
+returns-3 : tie.Need-returns-3
+returns-3 c = search laws.bring-copy
+
+pub bring-spec : {M : Type 1} → statement M
+bring-spec =
+    tie.close
+    (tie.spec
+    (λ c. search needs)
+    returns
+    returns-2
+    copy-block-requires
+    (λ c. search needs)
+    returns-3)
