@@ -100,7 +100,7 @@ rightFrame v x ps n = record { this = Is v; res = Is (Mark x); args = ps; n = n 
 abbrev leftFrame : ValueRef → List Slot → ℕ → Frame
 leftFrame v ps n = record { this = Is v; res = Absent; args = ps; n = n }
 
-module _ (T W : List ℕ) (tr : List ℕ) (top : ℕ) (v : ValueRef) (ps : List Slot) (n i next d sp fuel x at : ℕ) (ea : at ≡ rightOf T i) (W1 : List ℕ) (o : Out)
+module _ (T W tr : List ℕ) (top : ℕ) (v : ValueRef) (ps : List Slot) (n i next d sp fuel x at : ℕ) (ea : at ≡ rightOf T i) (W1 : List ℕ) (o : Out)
     (ev : Evaluates T W (rightFrame v x ps n) tr top at 6 d (sp + 4) fuel W1 o) where
   kept-right : Kept sp W W1
   kept-right = kept-then sp (sp + 4) W W W1 (omega arith) (kept-none sp W) (ev .kept)
@@ -131,7 +131,7 @@ module _ (T W : List ℕ) (tr : List ℕ) (top : ℕ) (v : ValueRef) (ps : List 
     };
   }
 
-module _ (T W : List ℕ) (tr : List ℕ) (top : ℕ) (v : ValueRef) (ps : List Slot) (n i next d sp fuel m : ℕ) (fit : BodyFits W tr top v ps n d sp) (tr1 : List ℕ)
+module _ (T W tr : List ℕ) (top : ℕ) (v : ValueRef) (ps : List Slot) (n i next d sp fuel m : ℕ) (fit : BodyFits W tr top v ps n d sp) (tr1 : List ℕ)
     (pu : Pushed tr top v m ps n tr1) (at : ℕ) (ea : at ≡ leftOf T i) (W1 : List ℕ) (o : Out)
     (ev : Evaluates T W (leftFrame v ps n) tr1 (top + 1) at 6 d (sp + 4) fuel W1 o) where
   kept-left : Kept sp W W1

@@ -66,7 +66,7 @@ call-step : (d : ℕ) (t : Table) (p : language.Frame) (os : List language.OpenC
 unfolding eval
 call-step d t p os m e es fuel y q = going-on y (evalIn d t p os e fuel) (λ v n′. chosen d t p os m es v (target t v m (count es)) n′) q
 
-module _ (T W : List ℕ) (f : Frame) (tr : List ℕ) (top : ℕ) (at left d sp fuel m n : ℕ) where
+module _ (T W : List ℕ) (f : Frame) (tr : List ℕ) (top at left d sp fuel m n : ℕ) where
   pub call-flat : left ≡ 0 → Calls T W f tr top at left d sp fuel m n W (Halt Stuck fuel)
   call-flat z = record { kept = kept-none sp W; older = tt; is = λ t e es small r rs c. absurd (nested-none left e z (r .nested)) }
 
@@ -117,7 +117,7 @@ module _ (T W : List ℕ) (f : Frame) (tr : List ℕ) (top : ℕ) (at left d sp 
               (record { is = z .is ∙ same ∙ target-is t e es r c (some (k .method)) (k .is); next = z .next })
 
 -- ---- the arguments
-module _ (T W : List ℕ) (f : Frame) (tr : List ℕ) (top : ℕ) (at left d sp fuel : ℕ) (v : ValueRef) (m n i : ℕ) (fit : ArgsFit W f tr top left d sp v n) (W1 : List ℕ) (l : Listed)
+module _ (T W : List ℕ) (f : Frame) (tr : List ℕ) (top at left d sp fuel : ℕ) (v : ValueRef) (m n i : ℕ) (fit : ArgsFit W f tr top left d sp v n) (W1 : List ℕ) (l : Listed)
     (li : Lists T W f tr top at left d (sp + 1) fuel n W1 l) where
   kept-args : Kept sp W W1
   kept-args = kept-then sp (sp + 1) W W W1 (omega arith) (kept-none sp W) (li .kept)
@@ -197,7 +197,7 @@ module _ (t : Table) (os : List language.OpenCall) (v : Graph) (m : ℕ) (vs : L
   deeper-is zero nz p xs e n = absurd (nz refl)
   deeper-is (suc d) nz p xs e n = rw sub-one
 
-module _ (T W : List ℕ) (tr : List ℕ) (top : ℕ) (v : ValueRef) (ps : List Slot) (n i next d sp fuel m : ℕ) where
+module _ (T W tr : List ℕ) (top : ℕ) (v : ValueRef) (ps : List Slot) (n i next d sp fuel m : ℕ) where
   pub invoke-fuel : fuel ≡ 0 → Invokes T W tr top v ps n i next d sp fuel m W (Halt NoFuel fuel)
   invoke-fuel z = record {
     kept = kept-none sp W;

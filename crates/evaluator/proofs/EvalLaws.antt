@@ -82,7 +82,7 @@ held-shows : (W : List ℕ) (h : Held) (p fuel : ℕ) (x : Option Graph) → hel
 held-shows W (Is r) p fuel x e = record { is = ap (λ (y : Option Graph). orStuck y fuel) e; next = refl }
 held-shows W Absent p fuel x e = record { is = ap (λ (y : Option Graph). orStuck y fuel) e; next = tt }
 
-module _ (T W : List ℕ) (f : Frame) (tr : List ℕ) (top : ℕ) (at left d sp fuel : ℕ) where
+module _ (T W : List ℕ) (f : Frame) (tr : List ℕ) (top at left d sp fuel : ℕ) where
   pub eval-zero : left ≡ 0 → Evaluates T W f tr top at left d sp fuel W (Halt Stuck fuel)
   eval-zero z = record { kept = kept-none sp W; older = tt; is = λ t e r. absurd (nested-none left e z (r .nested)) }
 

@@ -37,7 +37,7 @@ use Rattle.evaluator.proofs.Given.{given-older, all-older}
 use Rattle.evaluator.proofs.CallLaws.{met-some}
 
 -- ---- one level in
-module _ (W : List ℕ) (f : Frame) (tr : List ℕ) (top : ℕ) (left d sp : ℕ) where
+module _ (W : List ℕ) (f : Frame) (tr : List ℕ) (top left d sp : ℕ) where
   pub fit-part : Fits W f tr top left d sp → (left ≡ 0 → ⊥) → Fits W f tr top (left - 1 + 1) d sp
   fit-part h nz = subst (λ (l : ℕ). Fits W f tr top l d sp) (let z : left ≡ left - 1 + 1 = omega (arith, nz) in z) h
 
@@ -67,7 +67,7 @@ module _ (W : List ℕ) (f : Frame) (tr : List ℕ) (top : ℕ) (left d sp : ℕ
       }
 
 -- ---- after an evaluation
-module _ (T W : List ℕ) (f : Frame) (tr : List ℕ) (top : ℕ) (at left d sp fuel : ℕ) (W1 : List ℕ) (o : Out) (ev : Evaluates T W f tr top at left d sp fuel W1 o) where
+module _ (T W : List ℕ) (f : Frame) (tr : List ℕ) (top at left d sp fuel : ℕ) (W1 : List ℕ) (o : Out) (ev : Evaluates T W f tr top at left d sp fuel W1 o) where
   pub after-room : Fits W f tr top (left + 1) d sp → 240 * sp + 240 ≤ length W1
   after-room h = let r = h .room in omega (arith, h .long, ev .kept .same)
 
@@ -105,11 +105,11 @@ module _ (T W : List ℕ) (f : Frame) (tr : List ℕ) (top : ℕ) (at left d sp 
       }
 
 -- ---- after a list
-pub after-list : (T W : List ℕ) (f : Frame) (tr : List ℕ) (top : ℕ) (at left d sp fuel n : ℕ) (W1 : List ℕ) (l : Listed) → Lists T W f tr top at left d sp fuel n W1 l
+pub after-list : (T W : List ℕ) (f : Frame) (tr : List ℕ) (top at left d sp fuel n : ℕ) (W1 : List ℕ) (l : Listed) → Lists T W f tr top at left d sp fuel n W1 l
     → Fits W f tr top (left + 1) d sp → 240 * sp + 240 ≤ length W1
 after-list T W f tr top at left d sp fuel n W1 l li h = let r = h .room in omega (arith, h .long, li .kept .same)
 
-pub call-fit : (T W : List ℕ) (f : Frame) (tr : List ℕ) (top : ℕ) (at left d sp fuel : ℕ) (v : ValueRef) (n : ℕ) (W1 : List ℕ) (l : Listed) (a b c e : ValueRef) (at1 fuel1 : ℕ) (ps : List Slot)
+pub call-fit : (T W : List ℕ) (f : Frame) (tr : List ℕ) (top at left d sp fuel : ℕ) (v : ValueRef) (n : ℕ) (W1 : List ℕ) (l : Listed) (a b c e : ValueRef) (at1 fuel1 : ℕ) (ps : List Slot)
     → ArgsFit W f tr top left d sp v n → Lists T W f tr top at left d (sp + 1) fuel n W1 l → l ≡ listed.Values a b c e at1 fuel1 → ps ≡ slotsOf a b c e → CallFits W1 tr top v ps n d sp
 call-fit T W f tr top at left d sp fuel v n W1 l a b c e at1 fuel1 ps h li el ep =
     let k = kept-then sp (sp + 1) W W W1 (omega arith) (kept-none sp W) (li .kept) in
@@ -127,7 +127,7 @@ call-fit T W f tr top at left d sp fuel v n W1 l a b c e at1 fuel1 ps h li el ep
     }
 
 -- ---- a call
-module _ (W : List ℕ) (tr : List ℕ) (top : ℕ) (v : ValueRef) (ps : List Slot) (n d sp : ℕ) (h : CallFits W tr top v ps n d sp) where
+module _ (W tr : List ℕ) (top : ℕ) (v : ValueRef) (ps : List Slot) (n d sp : ℕ) (h : CallFits W tr top v ps n d sp) where
   pub calls-held : CallsHold W tr top
   calls-held = let c = h .calls in record {
     few = omega arith;
@@ -154,7 +154,7 @@ module _ (W : List ℕ) (tr : List ℕ) (top : ℕ) (v : ValueRef) (ps : List Sl
       record { trace = h .trace; receiver = h .receiver; args = h .args; few = h .few; calls = omega (arith, nz); room = omega (arith, nz); long = h .long }
 
 -- ---- a side
-module _ (W : List ℕ) (tr : List ℕ) (top : ℕ) (v : ValueRef) (ps : List Slot) (n d sp : ℕ) (h : BodyFits W tr top v ps n d sp) where
+module _ (W tr : List ℕ) (top : ℕ) (v : ValueRef) (ps : List Slot) (n d sp : ℕ) (h : BodyFits W tr top v ps n d sp) where
   pub push-room : top < 16
   push-room = let c = h .calls in omega arith
 
@@ -207,17 +207,17 @@ module _ (W : List ℕ) (tr : List ℕ) (top : ℕ) (v : ValueRef) (ps : List Sl
   side-length T f tr1 top1 at left fuel W1 o ev = let r = h .room in omega (arith, h .long, ev .kept .same)
 
 -- ---- the mark of a call met again
-marks-below : (W : List ℕ) (cs : List ℕ) (v : Graph) (m : ℕ) (vs : List Graph) (x k : ℕ) → openMark (traceIn W cs k) v m vs ≡ some x → x < k
+marks-below : (W tr : List ℕ) (v : Graph) (m : ℕ) (vs : List Graph) (x k : ℕ) → openMark (traceIn W tr k) v m vs ≡ some x → x < k
 unfolding traceIn openMark
-marks-below W cs v m vs x zero e = absurd (Option·none-ne-some x e)
-marks-below W cs v m vs x (suc k) e =
-    go (sameOf (callIn W k (callAt cs k)) v m vs) (sym (by-tests (callIn W k (callAt cs k)) (traceIn W cs k) v m vs) ∙ e) (λ q. marks-below W cs v m vs x k q)
+marks-below W tr v m vs x zero e = absurd (Option·none-ne-some x e)
+marks-below W tr v m vs x (suc k) e =
+    go (sameOf (callIn W k (callAt tr k)) v m vs) (sym (by-tests (callIn W k (callAt tr k)) (traceIn W tr k) v m vs) ∙ e) (λ q. marks-below W tr v m vs x k q)
   where
-    go : (b : Bool) → pick b (some k) (openMark (traceIn W cs k) v m vs) ≡ some x → (openMark (traceIn W cs k) v m vs ≡ some x → x < k) → x < suc k
+    go : (b : Bool) → pick b (some k) (openMark (traceIn W tr k) v m vs) ≡ some x → (openMark (traceIn W tr k) v m vs ≡ some x → x < k) → x < suc k
     go true q ih = let y : some k ≡ some x = q in let z : k ≡ x = cc in omega arith
     go false q ih = let z = ih q in omega arith
 
-pub mark-small : (W : List ℕ) (tr : List ℕ) (top : ℕ) (v : ValueRef) (ps : List Slot) (n d sp m y : ℕ) (x : Met) → CallFits W tr top v ps n d sp
+pub mark-small : (W tr : List ℕ) (top : ℕ) (v : ValueRef) (ps : List Slot) (n d sp m y : ℕ) (x : Met) → CallFits W tr top v ps n d sp
     → x ≡ metOf (openMark (traceIn W tr top) (valueOf W v) m (valuesFrom W ps 0 n)) → x ≡ met.Mark y → y < 63
 mark-small W tr top v ps n d sp m y x h e q =
     let l = marks-below W tr (valueOf W v) m (valuesFrom W ps 0 n) y top (met-some (openMark (traceIn W tr top) (valueOf W v) m (valuesFrom W ps 0 n)) y (sym q ∙ e)) in

@@ -24,7 +24,7 @@ use Rattle.evaluator.specs.Evaluation.{Reads, ReadsAll, evalIn, evalsIn,
 pub going-on : {A B : Type 0} (x y : Outcome A) (go : A → ℕ → Outcome B) → x ≡ y → (x then go) ≡ (y then go)
 going-on x y go e = ap (λ z. z then go) e
 
-module _ (T W : List ℕ) (f : Frame) (tr : List ℕ) (top : ℕ) (at left d sp fuel : ℕ) (W1 : List ℕ) (o : Out) (ev : Evaluates T W f tr top at left d sp fuel W1 o) where
+module _ (T W : List ℕ) (f : Frame) (tr : List ℕ) (top at left d sp fuel : ℕ) (W1 : List ℕ) (o : Out) (ev : Evaluates T W f tr top at left d sp fuel W1 o) where
   pub halted : (s : Stop) (fuel1 : ℕ) → o ≡ Halt s fuel1 → (t : Table) (e : Expr) → Reads T left at t e
       → stopped (stopOf s) fuel1 ≡ evalIn d t (frameIn W f) (traceIn W tr top) e fuel
   halted s fuel1 eo t e r = ap (outIn W1) (sym eo) ∙ ev .is t e r .is
@@ -39,7 +39,7 @@ module _ (T W : List ℕ) (f : Frame) (tr : List ℕ) (top : ℕ) (at left d sp 
     pub given-older : Older W1 (sp + 1) v
     given-older = subst (OutOlder W1 (sp + 1)) eo (ev .older)
 
-module _ (T W : List ℕ) (f : Frame) (tr : List ℕ) (top : ℕ) (at left d sp fuel n : ℕ) (W1 : List ℕ) (l : Listed) (li : Lists T W f tr top at left d sp fuel n W1 l) where
+module _ (T W : List ℕ) (f : Frame) (tr : List ℕ) (top at left d sp fuel n : ℕ) (W1 : List ℕ) (l : Listed) (li : Lists T W f tr top at left d sp fuel n W1 l) where
   pub all-halted : (s : Stop) (fuel1 : ℕ) → l ≡ listed.Halt s fuel1 → (t : Table) (es : Exprs) → ReadsAll T left at t es → count es ≡ n
       → stopped (stopOf s) fuel1 ≡ evalsIn d t (frameIn W f) (traceIn W tr top) es fuel
   all-halted s fuel1 el t es r c = ap (listIn W1 n) (sym el) ∙ li .is t es r c .is

@@ -38,7 +38,7 @@ use Rattle.evaluator.proofs.Standing.{first-reads, others-read, also-en
 use Rattle.evaluator.proofs.Given.{going-on, halted, given, given-next, given-older}
 
 -- ---- a field: the expression at `at` was evaluated to o
-module _ (T W : List ℕ) (f : Frame) (tr : List ℕ) (top : ℕ) (at left d sp fuel k : ℕ) (W1 : List ℕ) (o : Out) (ev : Evaluates T W f tr top at left d sp fuel W1 o) where
+module _ (T W : List ℕ) (f : Frame) (tr : List ℕ) (top at left d sp fuel k : ℕ) (W1 : List ℕ) (o : Out) (ev : Evaluates T W f tr top at left d sp fuel W1 o) where
   pub field-halt : (s : Stop) (fuel1 : ℕ) → o ≡ Halt s fuel1 → Fields T W f tr top at left d sp fuel k W1 o
   unfolding eval
   field-halt s fuel1 eo = subst (Fields T W f tr top at left d sp fuel k W1) (sym eo) (record {
@@ -120,7 +120,7 @@ unfolding evals codesOf valuesFrom
 none-given W d t p os at fuel done c = record { is = refl; next = omega arith }
 none-given W d t p os at fuel (also e es) c = absurd (omega arith)
 
-module _ (T W : List ℕ) (f : Frame) (tr : List ℕ) (top : ℕ) (at left d sp fuel n : ℕ) where
+module _ (T W : List ℕ) (f : Frame) (tr : List ℕ) (top at left d sp fuel n : ℕ) where
   pub list-zero : n ≡ 0 → Lists T W f tr top at left d sp fuel n W (noValues at fuel)
   list-zero z = subst (λ (m : ℕ). Lists T W f tr top at left d sp fuel m W (noValues at fuel)) (sym z) (record {
     kept = kept-none sp W;
@@ -199,7 +199,7 @@ unfolding eval
 new-by d t p os c es fuel b q =
     ap (λ (x : Bool). elim x as (λ _. Outcome Graph) [ true ↦ evalsIn d t p os es fuel then λ vs m. sized 32 (make c vs) m | false ↦ stopped language.stuck fuel ]) q
 
-module _ (T W : List ℕ) (f : Frame) (tr : List ℕ) (top : ℕ) (at left d sp fuel c n x : ℕ) (ex : x ≡ getD T (16 * c + 1) 0) where
+module _ (T W : List ℕ) (f : Frame) (tr : List ℕ) (top at left d sp fuel c n x : ℕ) (ex : x ≡ getD T (16 * c + 1) 0) where
   total : (t : Table) → Tabled T t → c ≤ length (t .classes) → x ≡ length (fieldsOf (t .classes) c)
   total t tb h =
       ex ∙ ap (λ (B : List ℕ). getD B (16 * c + 1) 0) (tb .bytes) ∙ total-at t c (let l = tb .ready .formed .classes in omega arith)

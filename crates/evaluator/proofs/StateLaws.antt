@@ -163,51 +163,51 @@ by-tests o os v m vs = go (eqb (o .name) m) (eqGraph (o .receiver) v) (eqGraphs 
     go true false c = refl
     go false b c = refl
 
-module _ (W : List ℕ) (cs : List ℕ) (k : ℕ) (v : ValueRef) (m : ℕ) (ps : List Slot) (n : ℕ) where
-  pub open-end : k ≡ 0 → met.No ≡ metOf (openMark (traceIn W cs k) (valueOf W v) m (valuesFrom W ps 0 n))
+module _ (W tr : List ℕ) (k : ℕ) (v : ValueRef) (m : ℕ) (ps : List Slot) (n : ℕ) where
+  pub open-end : k ≡ 0 → met.No ≡ metOf (openMark (traceIn W tr k) (valueOf W v) m (valuesFrom W ps 0 n))
   unfolding traceIn openMark
   open-end e = rw e
 
-  module _ (nz : k ≡ 0 → ⊥) (r : Bool) (er : r ≡ sameOf (callIn W 0 (callAt cs (k - 1))) (valueOf W v) m (valuesFrom W ps 0 n)) where
-    open-step : openMark (traceIn W cs k) (valueOf W v) m (valuesFrom W ps 0 n) ≡ pick r (some (k - 1)) (openMark (traceIn W cs (k - 1)) (valueOf W v) m (valuesFrom W ps 0 n))
+  module _ (nz : k ≡ 0 → ⊥) (r : Bool) (er : r ≡ sameOf (callIn W 0 (callAt tr (k - 1))) (valueOf W v) m (valuesFrom W ps 0 n)) where
+    open-step : openMark (traceIn W tr k) (valueOf W v) m (valuesFrom W ps 0 n) ≡ pick r (some (k - 1)) (openMark (traceIn W tr (k - 1)) (valueOf W v) m (valuesFrom W ps 0 n))
     unfolding traceIn sameOf
     open-step = go k nz r er
       where
-        go : (j : ℕ) → (j ≡ 0 → ⊥) → (s : Bool) → s ≡ sameOf (callIn W 0 (callAt cs (j - 1))) (valueOf W v) m (valuesFrom W ps 0 n)
-            → openMark (traceIn W cs j) (valueOf W v) m (valuesFrom W ps 0 n) ≡ pick s (some (j - 1)) (openMark (traceIn W cs (j - 1)) (valueOf W v) m (valuesFrom W ps 0 n))
+        go : (j : ℕ) → (j ≡ 0 → ⊥) → (s : Bool) → s ≡ sameOf (callIn W 0 (callAt tr (j - 1))) (valueOf W v) m (valuesFrom W ps 0 n)
+            → openMark (traceIn W tr j) (valueOf W v) m (valuesFrom W ps 0 n) ≡ pick s (some (j - 1)) (openMark (traceIn W tr (j - 1)) (valueOf W v) m (valuesFrom W ps 0 n))
         go zero z s e = absurd (z refl)
-        go (suc j) z s e0 = let e = rw sub-one at e0 in rw sub-one (by-tests (callIn W j (callAt cs j)) (traceIn W cs j) (valueOf W v) m (valuesFrom W ps 0 n) ∙ ap (λ (b : Bool). pick b (some j) (openMark (traceIn W cs j) (valueOf W v) m (valuesFrom W ps 0 n))) (sym e))
+        go (suc j) z s e0 = let e = rw sub-one at e0 in rw sub-one (by-tests (callIn W j (callAt tr j)) (traceIn W tr j) (valueOf W v) m (valuesFrom W ps 0 n) ∙ ap (λ (b : Bool). pick b (some j) (openMark (traceIn W tr j) (valueOf W v) m (valuesFrom W ps 0 n))) (sym e))
 
-    pub open-found : r ≡ true → met.Mark (k - 1) ≡ metOf (openMark (traceIn W cs k) (valueOf W v) m (valuesFrom W ps 0 n))
+    pub open-found : r ≡ true → met.Mark (k - 1) ≡ metOf (openMark (traceIn W tr k) (valueOf W v) m (valuesFrom W ps 0 n))
     open-found z = rw (open-step, z)
 
 -- ---- the loop through the open calls: the first j of k are left, and the others are not the call
-pub record Left (W : List ℕ) (cs : List ℕ) (k : ℕ) (v : ValueRef) (m : ℕ) (ps : List Slot) (n j : ℕ) : Type 0 where
-  pub calls : CallsHold W cs j
-  pub same : openMark (traceIn W cs j) (valueOf W v) m (valuesFrom W ps 0 n) ≡ openMark (traceIn W cs k) (valueOf W v) m (valuesFrom W ps 0 n)
+pub record Left (W tr : List ℕ) (k : ℕ) (v : ValueRef) (m : ℕ) (ps : List Slot) (n j : ℕ) : Type 0 where
+  pub calls : CallsHold W tr j
+  pub same : openMark (traceIn W tr j) (valueOf W v) m (valuesFrom W ps 0 n) ≡ openMark (traceIn W tr k) (valueOf W v) m (valuesFrom W ps 0 n)
 
-module _ (W : List ℕ) (cs : List ℕ) (k : ℕ) (v : ValueRef) (m : ℕ) (ps : List Slot) (n : ℕ) where
-  pub few-calls : CallsHold W cs k → k ≤ 16
+module _ (W tr : List ℕ) (k : ℕ) (v : ValueRef) (m : ℕ) (ps : List Slot) (n : ℕ) where
+  pub few-calls : CallsHold W tr k → k ≤ 16
   few-calls h = h .few
 
-  pub left-all : CallsHold W cs k → Left W cs k v m ps n k
+  pub left-all : CallsHold W tr k → Left W tr k v m ps n k
   left-all h = record { calls = h; same = refl }
 
-  module _ (j : ℕ) (l : Left W cs k v m ps n j) where
-    pub left-none : j ≤ 0 → met.No ≡ metOf (openMark (traceIn W cs k) (valueOf W v) m (valuesFrom W ps 0 n))
-    left-none z = open-end W cs j v m ps n (omega arith) ∙ ap metOf (l .same)
+  module _ (j : ℕ) (l : Left W tr k v m ps n j) where
+    pub left-none : j ≤ 0 → met.No ≡ metOf (openMark (traceIn W tr k) (valueOf W v) m (valuesFrom W ps 0 n))
+    left-none z = open-end W tr j v m ps n (omega arith) ∙ ap metOf (l .same)
 
-    pub left-last : 0 < j → CallHolds W (callAt cs (j - 1))
+    pub left-last : 0 < j → CallHolds W (callAt tr (j - 1))
     left-last p = l .calls .call (j - 1) (omega arith)
 
-    module _ (p : 0 < j) (r : Bool) (er : r ≡ sameOf (callIn W 0 (callAt cs (j - 1))) (valueOf W v) m (valuesFrom W ps 0 n)) where
-      pub left-found : r ≡ true → met.Mark (j - 1) ≡ metOf (openMark (traceIn W cs k) (valueOf W v) m (valuesFrom W ps 0 n))
-      left-found z = open-found W cs j v m ps n (λ e. omega arith) r er z ∙ ap metOf (l .same)
+    module _ (p : 0 < j) (r : Bool) (er : r ≡ sameOf (callIn W 0 (callAt tr (j - 1))) (valueOf W v) m (valuesFrom W ps 0 n)) where
+      pub left-found : r ≡ true → met.Mark (j - 1) ≡ metOf (openMark (traceIn W tr k) (valueOf W v) m (valuesFrom W ps 0 n))
+      left-found z = open-found W tr j v m ps n (λ e. omega arith) r er z ∙ ap metOf (l .same)
 
-      pub left-more : r ≡ false → Left W cs k v m ps n (j - 1)
+      pub left-more : r ≡ false → Left W tr k v m ps n (j - 1)
       left-more z =
           let f = l .calls .few in
           record {
             calls = record { few = omega arith; call = λ i q. l .calls .call i (omega arith) };
-            same = sym (open-step W cs j v m ps n (λ e. omega arith) r er ∙ ap (λ (b : Bool). pick b (some (j - 1)) (openMark (traceIn W cs (j - 1)) (valueOf W v) m (valuesFrom W ps 0 n))) z) ∙ l .same;
+            same = sym (open-step W tr j v m ps n (λ e. omega arith) r er ∙ ap (λ (b : Bool). pick b (some (j - 1)) (openMark (traceIn W tr (j - 1)) (valueOf W v) m (valuesFrom W ps 0 n))) z) ∙ l .same;
           }

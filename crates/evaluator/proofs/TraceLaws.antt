@@ -1,15 +1,14 @@
--- The bytes of a trace: references and calls read, and put.
+-- The bytes of a trace: references and calls read, and put. What is put is read again, and the calls below it are as before.
+-- Not here: calls compared (StateLaws), the trace that a body is run under (BodyLaws).
 use Prim.Native.Nat.{ℕ, zero, suc, _+_, _*_, _/_, _%_, _≤_, _<_}
 use native.Mathlib.Omega.{arith}
 use native.Mathlib.Numerals.{unary-clauses}
-use native.Mathlib.Decide.{decLt, ℕ-discrete}
+use native.Mathlib.Decide.{ℕ-discrete}
 use mathlib.Core.Path.{_≡_, refl, sym, ap, ap₂, _∙_, subst}
 use mathlib.Core.List.{List, [], _∷_, map}
-use lib.Dec.{eqb}
 use lib.ListN.{length, getD, set, take, length-set}
 use lib.Seq.{getD-set-same, getD-set-other}
 use borrow.Author.Tests.{eq-eqb, ne-eqb}
-use Rattle.cofj.specs.Values.{Graph}
 use Rattle.cofj.specs.Running as language
 use Rattle.classes.specs.Machine.{Wide}
 use Rattle.values.specs.declared.ValueRef.{ValueRef}
@@ -18,22 +17,22 @@ use Rattle.values.specs.declared.Slot.{Slot}
 use Rattle.values.specs.Layout.{valueOf}
 use Rattle.values.specs.Laying.{valuesFrom}
 use Rattle.evaluator.specs.declared.trace.OpenCall.{OpenCall}
-use Rattle.evaluator.specs.State.{Low, Older, slotAt, PartsLow, PartsOlder, CallOlder, refOf, refAt, slotsAt, callAt, callIn, Within, PutFour, PutRef, PutArgs, Copied, IsCall, Pushed}
+use Rattle.evaluator.specs.State.{Low, Older, slotAt, PartsLow, PartsOlder, CallOlder, refFrom, refAt, slotsAt, callAt, callIn, Within, PutFour, PutRef, PutArgs, Copied, IsCall, Pushed}
 use Rattle.evaluator.specs.Answers.{slotsOf}
 
 -- ---- reading
 module _ (C : List ℕ) (at : ℕ) where
   pub ref-object : (low high : ℕ) → getD C at 0 ≡ 0 → Wide (getD C (at + 1) 0) low → Wide (getD C (at + 2) 0) high → Object (low + 256 * high) ≡ refAt C at
-  unfolding refAt refOf
+  unfolding refAt refFrom
   ref-object low high e a b = rw (eq-eqb (getD C at 0) 0 e) (λ i. Object (a .same i + 256 * b .same i))
 
   module _ (no : getD C at 0 ≡ 0 → ⊥) where
     pub ref-mark : getD C at 0 ≡ 1 → Mark (getD C (at + 1) 0) ≡ refAt C at
-    unfolding refAt refOf
+    unfolding refAt refFrom
     ref-mark e = rw (ne-eqb (getD C at 0) 0 no, eq-eqb (getD C at 0) 1 e)
 
     pub ref-none : (getD C at 0 ≡ 1 → ⊥) → Undetermined ≡ refAt C at
-    unfolding refAt refOf
+    unfolding refAt refFrom
     ref-none e = rw (ne-eqb (getD C at 0) 0 no, ne-eqb (getD C at 0) 1 e)
 
   pub refs-are : (a b c d : ValueRef) (r : List Slot) → a ≡ refAt C at → b ≡ refAt C (at + 4) → c ≡ refAt C (at + 8) → d ≡ refAt C (at + 12) → r ≡ slotsOf a b c d → r ≡ slotsAt C at
@@ -48,7 +47,7 @@ call-is C i v ps ev ep = λ j. record { receiver = ev j; name = getD C (32 * i) 
 -- ---- the same bytes, the same references
 ref-same : (C C′ : List ℕ) (at at′ : ℕ) → ((p : ℕ) → p < 4 → getD C′ (at′ + p) 0 ≡ getD C (at + p) 0) → refAt C′ at′ ≡ refAt C at
 unfolding refAt
-ref-same C C′ at at′ h = λ i. refOf (first i) (h 1 (omega arith) i) (h 2 (omega arith) i)
+ref-same C C′ at at′ h = λ i. refFrom (first i) (h 1 (omega arith) i) (h 2 (omega arith) i)
   where
     first : getD C′ at′ 0 ≡ getD C at 0
     first = simp unary-clauses at (h 0 (omega arith))

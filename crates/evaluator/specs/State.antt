@@ -1,4 +1,4 @@
--- The frame and the trace of open calls that the code's stand for in the work bytes W, and when they do.
+-- The frame that the code's stands for in the work bytes W, and the trace of open calls that a trace's bytes C do, and when they do.
 -- Not here: what evaluation answers (Answers).
 use Prim.Native.Nat.{ℕ, zero, suc, _+_, _*_, _≤_, _<_}
 use mathlib.Core.Path.{_≡_}
@@ -74,26 +74,27 @@ variableOf f k = pick (ltb k (f .n)) (Is (slotAt (f .args) k)) Absent
 
 -- ---- references and open calls in the bytes of a trace
 -- the reference that three bytes stand for: an object's block, low byte first; a mark; undetermined
-unfoldable pub refOf : ℕ → ℕ → ℕ → ValueRef
-refOf kind low high = pick (eqb kind 0) (Object (low + 256 * high)) (pick (eqb kind 1) (Mark low) Undetermined)
+unfoldable pub refFrom : ℕ → ℕ → ℕ → ValueRef
+refFrom kind low high = pick (eqb kind 0) (Object (low + 256 * high)) (pick (eqb kind 1) (Mark low) Undetermined)
 
 unfoldable pub refAt : List ℕ → ℕ → ValueRef
-refAt C at = refOf (getD C at 0) (getD C (at + 1) 0) (getD C (at + 2) 0)
+refAt C at = refFrom (getD C at 0) (getD C (at + 1) 0) (getD C (at + 2) 0)
 
 -- four of them, four bytes each
 unfoldable pub slotsAt : List ℕ → ℕ → List Slot
 slotsAt C at = record { r = refAt C at } ∷ record { r = refAt C (at + 4) } ∷ record { r = refAt C (at + 8) } ∷ record { r = refAt C (at + 12) } ∷ []
 
--- call i
+-- call i: 32 bytes
 unfoldable pub callAt : List ℕ → ℕ → OpenCall
 callAt C i = record { receiver = refAt C (32 * i + 4); name = getD C (32 * i) 0; args = slotsAt C (32 * i + 8); n = getD C (32 * i + 1) 0 }
 
--- bytes from a place on, up to another, may have changed
+-- only bytes from a place on, up to another, may have changed
 pub record Within (from to : ℕ) (C C′ : List ℕ) : Type 0 where
   pub same : length C′ ≡ length C
   pub below : (p : ℕ) → p < from → getD C′ p 0 ≡ getD C p 0
   pub above : (p : ℕ) → to ≤ p → getD C′ p 0 ≡ getD C p 0
 
+-- four bytes put at a place
 pub record PutFour (C : List ℕ) (at a b c d : ℕ) (C′ : List ℕ) : Type 0 where
   pub within : Within at (at + 4) C C′
   pub first : getD C′ at 0 ≡ a
@@ -101,10 +102,12 @@ pub record PutFour (C : List ℕ) (at a b c d : ℕ) (C′ : List ℕ) : Type 0 
   pub third : getD C′ (at + 2) 0 ≡ c
   pub fourth : getD C′ (at + 3) 0 ≡ d
 
+-- a reference put at a place, where it is read again
 pub record PutRef (C : List ℕ) (at : ℕ) (r : ValueRef) (C′ : List ℕ) : Type 0 where
   pub within : Within at (at + 4) C C′
   pub is : refAt C′ at ≡ r
 
+-- the first n of an array put from a place on
 pub record PutArgs (C : List ℕ) (at : ℕ) (ps : List Slot) (n : ℕ) (C′ : List ℕ) : Type 0 where
   pub within : Within at (at + 16) C C′
   pub is : (i : ℕ) → i < n → refAt C′ (at + 4 * i) ≡ slotAt ps i

@@ -41,6 +41,7 @@ pub fn eval(
     if left == 0 {
         return Out::Halt(Stop::Stuck, fuel);
     }
+    let less = left - 1;
     let s = shape_at(t, at);
     match s {
         Shape::This { next } => {
@@ -52,47 +53,9 @@ pub fn eval(
             answer(h, next, fuel)
         }
         Shape::Parameter { k, next } => answer(variable(f, k), next, fuel),
-        Shape::Field { f: k, next } => eval_field(
-            t,
-            work,
-            f,
-            tr,
-            top,
-            next,
-            left - 1,
-            d,
-            sp,
-            fuel,
-            k,
-        ),
-        Shape::Call { m, n, next } => eval_call(
-            t,
-            work,
-            f,
-            tr,
-            top,
-            next,
-            left - 1,
-            d,
-            sp,
-            fuel,
-            m,
-            n,
-        ),
-        Shape::New { c, n, next } => eval_new(
-            t,
-            work,
-            f,
-            tr,
-            top,
-            next,
-            left - 1,
-            d,
-            sp,
-            fuel,
-            c,
-            n,
-        ),
+        Shape::Field { f: k, next } => eval_field(t, work, f, tr, top, next, less, d, sp, fuel, k),
+        Shape::Call { m, n, next } => eval_call(t, work, f, tr, top, next, less, d, sp, fuel, m, n),
+        Shape::New { c, n, next } => eval_new(t, work, f, tr, top, next, less, d, sp, fuel, c, n),
         Shape::Nothing => Out::Halt(Stop::Stuck, fuel),
     }
 }

@@ -7,7 +7,7 @@ use classes::places::wide;
 use values::Slot;
 use values::ValueRef;
 ghost use mathlib.Core.Path.{_≡_};
-ghost use Prim.Native.Nat.{ℕ, _+_, _*_, _<_, _≤_};
+ghost use Prim.Native.Nat.{ℕ, _+_, _<_, _≤_};
 ghost use lib.ListN.{length};
 ghost use Rattle.evaluator.specs.State.{Low, PartsLow, refAt, slotsAt, callAt, PutFour, PutRef, PutArgs, Copied, Pushed};
 
