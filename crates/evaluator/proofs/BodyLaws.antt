@@ -5,8 +5,7 @@ use native.Mathlib.Numerals.{add-one}
 use mathlib.Core.Path.{_≡_, refl, sym, ap, ap₂, _∙_, subst}
 use mathlib.Core.List.{List, _∷_}
 use mathlib.Core.Option.{none, some}
-use lib.ListN.{length, set, getElem?}
-use lib.Seq.{getD-set-same, getD-set-other}
+use lib.ListN.{length, getElem?}
 use Rattle.cofj.specs.Limits.{methodCount}
 use Rattle.cofj.specs.Syntax.{Expr, Method, Table}
 use Rattle.cofj.specs.Writing.{codeOf}
@@ -31,13 +30,12 @@ use Rattle.evaluator.specs.declared.Out.{Out}
 use Rattle.evaluator.specs.declared.Out.the-variants.{Value, Halt}
 use Rattle.evaluator.specs.declared.state.Held.the-variants.{Is, Absent}
 use Rattle.evaluator.specs.declared.state.Frame.{Frame}
-use Rattle.evaluator.specs.declared.state.OpenCall.{OpenCall}
-use Rattle.evaluator.specs.declared.state.Trace.{Trace}
-use Rattle.evaluator.specs.State.{Kept, noCall, callIn, frameIn, traceTo, traceIn, pushed}
+use Rattle.evaluator.specs.State.{Kept, callAt, callIn, frameIn, traceIn, Pushed}
 use Rattle.evaluator.specs.Answers.{stopOf, Brought}
 use Rattle.evaluator.specs.Evaluation.{Tabled, Reads, evalIn, deeper, Evaluates}
 use Rattle.evaluator.specs.Calling.{BodyFits, RunsRight, RunsLeft}
 use Rattle.evaluator.proofs.Keeping.{kept-none, kept-then, kept-outside}
+use Rattle.evaluator.proofs.TraceLaws.{same-call}
 use Rattle.evaluator.proofs.LeafLaws.{placed-low}
 use Rattle.evaluator.proofs.Given.{going-on, halted, given}
 
@@ -48,27 +46,26 @@ evalTo-is zero t p os e n = refl
 evalTo-is (suc d) t p os e n = refl
 
 -- ---- the trace with one call more
-trace-length : (W : List ℕ) (cs : List OpenCall) (n : ℕ) → length (traceTo W cs n) ≡ n
-unfolding traceTo
-trace-length W cs zero = refl
-trace-length W cs (suc n) = ap suc (trace-length W cs n)
+trace-length : (W tr : List ℕ) (n : ℕ) → length (traceIn W tr n) ≡ n
+unfolding traceIn
+trace-length W tr zero = refl
+trace-length W tr (suc n) = ap suc (trace-length W tr n)
 
-trace-below : (W : List ℕ) (cs : List OpenCall) (n : ℕ) (c : OpenCall) (k : ℕ) → k ≤ n → traceTo W (set cs n c) k ≡ traceTo W cs k
-unfolding traceTo
-trace-below W cs n c zero h = refl
-trace-below W cs n c (suc k) h =
-    ap₂ {A = language.OpenCall} {B = List language.OpenCall} {C = List language.OpenCall} _∷_ (ap (callIn W k) (getD-set-other cs n k c noCall (λ z. omega arith))) (trace-below W cs n c k (omega arith))
+trace-below : (W tr C : List ℕ) (k : ℕ) → ((i : ℕ) → i < k → callAt C i ≡ callAt tr i) → traceIn W C k ≡ traceIn W tr k
+unfolding traceIn
+trace-below W tr C zero h = refl
+trace-below W tr C (suc k) h =
+    ap₂ {A = language.OpenCall} {B = List language.OpenCall} {C = List language.OpenCall} _∷_ (ap (callIn W k) (h k (omega arith))) (trace-below W tr C k (λ i l. h i (omega arith)))
 
-push-in : (W : List ℕ) (tr : Trace) (v : ValueRef) (m : ℕ) (ps : List Slot) (n : ℕ) → tr .n < length (tr .calls)
-    → traceIn W (pushed tr v m ps n) ≡ opened (traceIn W tr) (valueOf W v) m (valuesFrom W ps 0 n)
-unfolding traceIn traceTo pushed
-push-in W tr v m ps n h =
-    let c : OpenCall = record { receiver = v; name = m; args = ps; n = n } in
-    ap (traceTo W (set (tr .calls) (tr .n) c)) (add-one (tr .n))
+push-in : (W tr : List ℕ) (top : ℕ) (v : ValueRef) (m : ℕ) (ps : List Slot) (n : ℕ) (C : List ℕ) → n ≤ length ps → n ≤ 4 → Pushed tr top v m ps n C
+    → traceIn W C (top + 1) ≡ opened (traceIn W tr top) (valueOf W v) m (valuesFrom W ps 0 n)
+unfolding traceIn
+push-in W tr top v m ps n C full few p =
+    ap (traceIn W C) (add-one top)
     ∙ ap₂ {A = language.OpenCall} {B = List language.OpenCall} {C = List language.OpenCall} _∷_
-    (ap (callIn W (tr .n)) (getD-set-same (tr .calls) (tr .n) c noCall h)
-    ∙ ap {B = language.OpenCall} (λ (x : ℕ). record { receiver = valueOf W v; name = m; args = valuesFrom W ps 0 n; label = x }) (sym (trace-length W (tr .calls) (tr .n))))
-    (trace-below W (tr .calls) (tr .n) c (tr .n) (omega arith))
+    (same-call W (callAt C top) v m ps n few (p .newest) top full
+    ∙ ap {B = language.OpenCall} (λ (x : ℕ). record { receiver = valueOf W v; name = m; args = valuesFrom W ps 0 n; label = x }) (sym (trace-length W tr top)))
+    (trace-below W tr C top (p .older))
 
 -- ---- where the sides stand
 module _ (T : List ℕ) (t : Table) (tb : Tabled T t) (i : ℕ) (k : Method) (ek : getElem? (t .methods) i ≡ some k) where
@@ -103,76 +100,75 @@ rightFrame v x ps n = record { this = Is v; res = Is (Mark x); args = ps; n = n 
 abbrev leftFrame : ValueRef → List Slot → ℕ → Frame
 leftFrame v ps n = record { this = Is v; res = Absent; args = ps; n = n }
 
-module _ (T W : List ℕ) (tr : Trace) (v : ValueRef) (ps : List Slot) (n i next d sp fuel x at : ℕ) (ea : at ≡ rightOf T i) (W1 : List ℕ) (o : Out)
-    (ev : Evaluates T W (rightFrame v x ps n) tr at 6 d (sp + 4) fuel W1 o) where
+module _ (T W tr : List ℕ) (top : ℕ) (v : ValueRef) (ps : List Slot) (n i next d sp fuel x at : ℕ) (ea : at ≡ rightOf T i) (W1 : List ℕ) (o : Out)
+    (ev : Evaluates T W (rightFrame v x ps n) tr top at 6 d (sp + 4) fuel W1 o) where
   kept-right : Kept sp W W1
   kept-right = kept-then sp (sp + 4) W W W1 (omega arith) (kept-none sp W) (ev .kept)
 
-  right-runs : (t : Table) (e : Expr) → evalIn d t (frameIn W (rightFrame v x ps n)) (traceIn W tr) e fuel ≡ evalTo 32 d t (frameOf (valueOf W v) (some (markOf x)) (valuesFrom W ps 0 n)) (traceIn W tr) e fuel
+  right-runs : (t : Table) (e : Expr) → evalIn d t (frameIn W (rightFrame v x ps n)) (traceIn W tr top) e fuel ≡ evalTo 32 d t (frameOf (valueOf W v) (some (markOf x)) (valuesFrom W ps 0 n)) (traceIn W tr top) e fuel
   unfolding frameIn
-  right-runs t e = evalTo-is d t (frameIn W (rightFrame v x ps n)) (traceIn W tr) e fuel
+  right-runs t e = evalTo-is d t (frameIn W (rightFrame v x ps n)) (traceIn W tr top) e fuel
 
-  pub right-halt : (s : Stop) (fuel1 : ℕ) → o ≡ Halt s fuel1 → RunsRight T W tr v ps n i next d sp fuel x W1 o
-  right-halt s fuel1 eo = subst (RunsRight T W tr v ps n i next d sp fuel x W1) (sym eo) (record {
+  pub right-halt : (s : Stop) (fuel1 : ℕ) → o ≡ Halt s fuel1 → RunsRight T W tr top v ps n i next d sp fuel x W1 o
+  right-halt s fuel1 eo = subst (RunsRight T W tr top v ps n i next d sp fuel x W1) (sym eo) (record {
     kept = kept-right;
     older = tt;
     is = λ t k tb ek. record {
-      is = halted T W (rightFrame v x ps n) tr at 6 d (sp + 4) fuel W1 o ev s fuel1 eo t (k .right) (right-reads T t tb i k ek at ea) ∙ right-runs t (k .right);
+      is = halted T W (rightFrame v x ps n) tr top at 6 d (sp + 4) fuel W1 o ev s fuel1 eo t (k .right) (right-reads T t tb i k ek at ea) ∙ right-runs t (k .right);
       next = tt;
     };
   })
 
   pub right-value : (u : ValueRef) (at1 fuel1 : ℕ) (W2 : List ℕ) (r : ValueRef) → o ≡ Value u at1 fuel1 → Brought W1 u sp W2 r
-      → RunsRight T W tr v ps n i next d sp fuel x W2 (Value r next fuel1)
+      → RunsRight T W tr top v ps n i next d sp fuel x W2 (Value r next fuel1)
   right-value u at1 fuel1 W2 r eo b = record {
     kept = kept-then sp sp W W1 W2 (omega arith) kept-right (b .kept);
     older = b .older;
     is = λ t k tb ek. record {
       is = ap (λ (g : Graph). value g fuel1) (b .is)
-          ∙ given T W (rightFrame v x ps n) tr at 6 d (sp + 4) fuel W1 o ev u at1 fuel1 eo t (k .right) (right-reads T t tb i k ek at ea) ∙ right-runs t (k .right);
+          ∙ given T W (rightFrame v x ps n) tr top at 6 d (sp + 4) fuel W1 o ev u at1 fuel1 eo t (k .right) (right-reads T t tb i k ek at ea) ∙ right-runs t (k .right);
       next = refl;
     };
   }
 
-module _ (T W : List ℕ) (tr : Trace) (v : ValueRef) (ps : List Slot) (n i next d sp fuel m : ℕ) (fit : BodyFits W tr v ps n d sp) (tr1 : Trace)
-    (et : tr1 ≡ pushed tr v m ps n) (at : ℕ) (ea : at ≡ leftOf T i) (W1 : List ℕ) (o : Out)
-    (ev : Evaluates T W (leftFrame v ps n) tr1 at 6 d (sp + 4) fuel W1 o) where
+module _ (T W tr : List ℕ) (top : ℕ) (v : ValueRef) (ps : List Slot) (n i next d sp fuel m : ℕ) (fit : BodyFits W tr top v ps n d sp) (tr1 : List ℕ)
+    (pu : Pushed tr top v m ps n tr1) (at : ℕ) (ea : at ≡ leftOf T i) (W1 : List ℕ) (o : Out)
+    (ev : Evaluates T W (leftFrame v ps n) tr1 (top + 1) at 6 d (sp + 4) fuel W1 o) where
   kept-left : Kept sp W W1
   kept-left = kept-then sp (sp + 4) W W W1 (omega arith) (kept-none sp W) (ev .kept)
 
-  trace-is : traceIn W tr1 ≡ opened (traceIn W tr) (valueOf W v) m (valuesFrom W ps 0 n)
-  trace-is = ap (traceIn W) et ∙ push-in W tr v m ps n (let a = fit .calls in let b = fit .trace .full in omega arith)
+  trace-is : traceIn W tr1 (top + 1) ≡ opened (traceIn W tr top) (valueOf W v) m (valuesFrom W ps 0 n)
+  trace-is = push-in W tr top v m ps n tr1 (fit .args .full) (let l = fit .few in omega arith) pu
 
-  left-runs : (t : Table) (e : Expr) → evalIn d t (frameIn W (leftFrame v ps n)) (traceIn W tr1) e fuel
-      ≡ evalTo 32 d t (frameOf (valueOf W v) none (valuesFrom W ps 0 n)) (opened (traceIn W tr) (valueOf W v) m (valuesFrom W ps 0 n)) e fuel
+  left-runs : (t : Table) (e : Expr) → evalIn d t (frameIn W (leftFrame v ps n)) (traceIn W tr1 (top + 1)) e fuel
+      ≡ evalTo 32 d t (frameOf (valueOf W v) none (valuesFrom W ps 0 n)) (opened (traceIn W tr top) (valueOf W v) m (valuesFrom W ps 0 n)) e fuel
   unfolding frameIn
   left-runs t e =
       ap (λ (os : List language.OpenCall). evalIn d t (frameIn W (leftFrame v ps n)) os e fuel) trace-is
-      ∙ evalTo-is d t (frameIn W (leftFrame v ps n)) (opened (traceIn W tr) (valueOf W v) m (valuesFrom W ps 0 n)) e fuel
+      ∙ evalTo-is d t (frameIn W (leftFrame v ps n)) (opened (traceIn W tr top) (valueOf W v) m (valuesFrom W ps 0 n)) e fuel
 
-  pub left-halt : (s : Stop) (fuel1 : ℕ) → o ≡ Halt s fuel1 → RunsLeft T W tr v ps n i next d sp fuel m W1 o
-  left-halt s fuel1 eo = subst (RunsLeft T W tr v ps n i next d sp fuel m W1) (sym eo) (record {
+  pub left-halt : (s : Stop) (fuel1 : ℕ) → o ≡ Halt s fuel1 → RunsLeft T W tr top v ps n i next d sp fuel m W1 o
+  left-halt s fuel1 eo = subst (RunsLeft T W tr top v ps n i next d sp fuel m W1) (sym eo) (record {
     kept = kept-left;
     older = tt;
     is = λ t k tb ek. record {
-      is = going-on (stopped (stopOf s) fuel1) (evalTo 32 d t (frameOf (valueOf W v) none (valuesFrom W ps 0 n)) (opened (traceIn W tr) (valueOf W v) m (valuesFrom W ps 0 n)) (k .left) fuel)
-          (λ u n′. value (close (length (traceIn W tr)) u) n′)
-          (halted T W (leftFrame v ps n) tr1 at 6 d (sp + 4) fuel W1 o ev s fuel1 eo t (k .left) (left-reads T t tb i k ek at ea) ∙ left-runs t (k .left));
+      is = going-on (stopped (stopOf s) fuel1) (evalTo 32 d t (frameOf (valueOf W v) none (valuesFrom W ps 0 n)) (opened (traceIn W tr top) (valueOf W v) m (valuesFrom W ps 0 n)) (k .left) fuel)
+          (λ u n′. value (close (length (traceIn W tr top)) u) n′)
+          (halted T W (leftFrame v ps n) tr1 (top + 1) at 6 d (sp + 4) fuel W1 o ev s fuel1 eo t (k .left) (left-reads T t tb i k ek at ea) ∙ left-runs t (k .left));
       next = tt;
     };
   })
 
-  pub left-value : (u : ValueRef) (at1 fuel1 : ℕ) (W2 : List ℕ) (r : ValueRef) → o ≡ Value u at1 fuel1 → Gives W1 sp W2 r (close (tr .n) (valueOf W1 u))
-      → RunsLeft T W tr v ps n i next d sp fuel m W2 (Value r next fuel1)
-  unfolding traceIn
+  pub left-value : (u : ValueRef) (at1 fuel1 : ℕ) (W2 : List ℕ) (r : ValueRef) → o ≡ Value u at1 fuel1 → Gives W1 sp W2 r (close top (valueOf W1 u))
+      → RunsLeft T W tr top v ps n i next d sp fuel m W2 (Value r next fuel1)
   left-value u at1 fuel1 W2 r eo g = record {
     kept = kept-then sp sp W W1 W2 (omega arith) kept-left (kept-outside sp W1 W2 (g .outside));
     older = record { held = g .held; low = placed-low sp r (g .place) };
     is = λ t k tb ek. record {
-      is = ap (λ (w : Graph). value w fuel1) (g .is ∙ ap (λ (x : ℕ). close x (valueOf W1 u)) (sym (trace-length W (tr .calls) (tr .n))))
-          ∙ going-on (value (valueOf W1 u) fuel1) (evalTo 32 d t (frameOf (valueOf W v) none (valuesFrom W ps 0 n)) (opened (traceIn W tr) (valueOf W v) m (valuesFrom W ps 0 n)) (k .left) fuel)
-          (λ w n′. value (close (length (traceIn W tr)) w) n′)
-          (given T W (leftFrame v ps n) tr1 at 6 d (sp + 4) fuel W1 o ev u at1 fuel1 eo t (k .left) (left-reads T t tb i k ek at ea) ∙ left-runs t (k .left));
+      is = ap (λ (w : Graph). value w fuel1) (g .is ∙ ap (λ (x : ℕ). close x (valueOf W1 u)) (sym (trace-length W tr top)))
+          ∙ going-on (value (valueOf W1 u) fuel1) (evalTo 32 d t (frameOf (valueOf W v) none (valuesFrom W ps 0 n)) (opened (traceIn W tr top) (valueOf W v) m (valuesFrom W ps 0 n)) (k .left) fuel)
+          (λ w n′. value (close (length (traceIn W tr top)) w) n′)
+          (given T W (leftFrame v ps n) tr1 (top + 1) at 6 d (sp + 4) fuel W1 o ev u at1 fuel1 eo t (k .left) (left-reads T t tb i k ek at ea) ∙ left-runs t (k .left));
       next = refl;
     };
   }

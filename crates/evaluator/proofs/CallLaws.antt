@@ -27,8 +27,7 @@ use Rattle.evaluator.specs.declared.parts.Listed.the-variants as listed
 use Rattle.evaluator.specs.declared.met.Met.{Met}
 use Rattle.evaluator.specs.declared.met.Met.the-variants as met
 use Rattle.evaluator.specs.declared.state.Frame.{Frame}
-use Rattle.evaluator.specs.declared.state.Trace.{Trace}
-use Rattle.evaluator.specs.State.{Kept, frameIn, traceTo, traceIn, metOf}
+use Rattle.evaluator.specs.State.{Kept, frameIn, traceIn, metOf}
 use Rattle.evaluator.specs.Answers.{stopOf, slotsOf, haltOf, Shows}
 use Rattle.evaluator.specs.Evaluation.{Reads, ReadsAll, evalIn, evalsIn, deeper, Fits, Evaluates, Lists}
 use Rattle.evaluator.specs.Calling.{ArgsFit, FindsTarget, Calls, CallsWith, Invokes, RunsRight, RunsLeft}
@@ -67,29 +66,29 @@ call-step : (d : ℕ) (t : Table) (p : language.Frame) (os : List language.OpenC
 unfolding eval
 call-step d t p os m e es fuel y q = going-on y (evalIn d t p os e fuel) (λ v n′. chosen d t p os m es v (target t v m (count es)) n′) q
 
-module _ (T W : List ℕ) (f : Frame) (tr : Trace) (at left d sp fuel m n : ℕ) where
-  pub call-flat : left ≡ 0 → Calls T W f tr at left d sp fuel m n W (Halt Stuck fuel)
+module _ (T W : List ℕ) (f : Frame) (tr : List ℕ) (top at left d sp fuel m n : ℕ) where
+  pub call-flat : left ≡ 0 → Calls T W f tr top at left d sp fuel m n W (Halt Stuck fuel)
   call-flat z = record { kept = kept-none sp W; older = tt; is = λ t e es small r rs c. absurd (nested-none left e z (r .nested)) }
 
-  module _ (W1 : List ℕ) (o : Out) (ev : Evaluates T W f tr at left d sp fuel W1 o) where
-    pub call-halt : (s : Stop) (fuel1 : ℕ) → o ≡ Halt s fuel1 → Calls T W f tr at left d sp fuel m n W1 o
-    call-halt s fuel1 eo = subst (Calls T W f tr at left d sp fuel m n W1) (sym eo) (record {
+  module _ (W1 : List ℕ) (o : Out) (ev : Evaluates T W f tr top at left d sp fuel W1 o) where
+    pub call-halt : (s : Stop) (fuel1 : ℕ) → o ≡ Halt s fuel1 → Calls T W f tr top at left d sp fuel m n W1 o
+    call-halt s fuel1 eo = subst (Calls T W f tr top at left d sp fuel m n W1) (sym eo) (record {
       kept = ev .kept;
       older = tt;
       is = λ t e es small r rs c. record {
-        is = call-step d t (frameIn W f) (traceIn W tr) m e es fuel (stopped (stopOf s) fuel1) (halted T W f tr at left d sp fuel W1 o ev s fuel1 eo t e r);
+        is = call-step d t (frameIn W f) (traceIn W tr top) m e es fuel (stopped (stopOf s) fuel1) (halted T W f tr top at left d sp fuel W1 o ev s fuel1 eo t e r);
         next = tt;
       };
     })
 
     module _ (v : ValueRef) (at1 fuel1 : ℕ) (eo : o ≡ Value v at1 fuel1) (w : Found) (fi : FindsTarget T W1 v m n w) where
       target-is : (t : Table) (e : Expr) (es : Exprs) → Reads T left at t e → count es ≡ n → (x : Option Method) → target t (valueOf W1 v) m n ≡ x
-          → chosen d t (frameIn W f) (traceIn W tr) m es (valueOf W1 v) x fuel1 ≡ evalIn d t (frameIn W f) (traceIn W tr) (call m e es) fuel
+          → chosen d t (frameIn W f) (traceIn W tr top) m es (valueOf W1 v) x fuel1 ≡ evalIn d t (frameIn W f) (traceIn W tr top) (call m e es) fuel
       target-is t e es r c x q =
-          ap (λ (y : Option Method). chosen d t (frameIn W f) (traceIn W tr) m es (valueOf W1 v) y fuel1) (sym q ∙ ap (target t (valueOf W1 v) m) (sym c))
-          ∙ call-step d t (frameIn W f) (traceIn W tr) m e es fuel (value (valueOf W1 v) fuel1) (given T W f tr at left d sp fuel W1 o ev v at1 fuel1 eo t e r)
+          ap (λ (y : Option Method). chosen d t (frameIn W f) (traceIn W tr top) m es (valueOf W1 v) y fuel1) (sym q ∙ ap (target t (valueOf W1 v) m) (sym c))
+          ∙ call-step d t (frameIn W f) (traceIn W tr top) m e es fuel (value (valueOf W1 v) fuel1) (given T W f tr top at left d sp fuel W1 o ev v at1 fuel1 eo t e r)
 
-      pub call-none : w ≡ found.Nothing → Calls T W f tr at left d sp fuel m n W1 (Halt Stuck fuel1)
+      pub call-none : w ≡ found.Nothing → Calls T W f tr top at left d sp fuel m n W1 (Halt Stuck fuel1)
       call-none ew = record {
         kept = ev .kept;
         older = tt;
@@ -99,58 +98,58 @@ module _ (T W : List ℕ) (f : Frame) (tr : Trace) (at left d sp fuel m n : ℕ)
         };
       }
 
-      pub call-is : (i : ℕ) (W2 : List ℕ) (x : Out) → Fits W f tr (left + 1) d sp → w ≡ found.At i → CallsWith T W1 f tr at1 left d sp fuel1 v m n i W2 x
-          → Calls T W f tr at left d sp fuel m n W2 x
+      pub call-is : (i : ℕ) (W2 : List ℕ) (x : Out) → Fits W f tr top (left + 1) d sp → w ≡ found.At i → CallsWith T W1 f tr top at1 left d sp fuel1 v m n i W2 x
+          → Calls T W f tr top at left d sp fuel m n W2 x
       call-is i W2 x fit ew cw = record { kept = kept-then sp sp W W1 W2 (omega arith) (ev .kept) (cw .kept); older = cw .older; is = shows }
         where
           shows : (t : Table) (e : Expr) (es : Exprs) → m < 256 → Reads T left at t e → ReadsAll T left (at + length (codeOf e)) t es → count es ≡ n
-              → Shows W2 x (at + length (codeOf e) + length (codesOf es)) (evalIn d t (frameIn W f) (traceIn W tr) (call m e es) fuel)
+              → Shows W2 x (at + length (codeOf e) + length (codesOf es)) (evalIn d t (frameIn W f) (traceIn W tr top) (call m e es) fuel)
           shows t e es small r rs c =
-              let a1 = given-next T W f tr at left d sp fuel W1 o ev v at1 fuel1 eo t e r in
+              let a1 = given-next T W f tr top at left d sp fuel W1 o ev v at1 fuel1 eo t e r in
               let k = finds-at (t .methods) w (target t (valueOf W1 v) m n) (fi .is t (r .table) small) i ew in
               let z = cw .is t es (k .method) (subst (λ (p : ℕ). ReadsAll T left p t es) (sym a1) rs) c (k .here) in
               let ef = frame-same W W1 sp (ev .kept) f (fit .frame) in
-              let et = trace-same W W1 sp (ev .kept) tr (fit .trace) in
-              let same : (evalsIn d t (frameIn W1 f) (traceIn W1 tr) es fuel1 then λ vs n′. invoke (deeper d t) (traceIn W1 tr) (valueOf W1 v) m vs (k .method) n′)
-              ≡ (evalsIn d t (frameIn W f) (traceIn W tr) es fuel1 then λ vs n′. invoke (deeper d t) (traceIn W tr) (valueOf W1 v) m vs (k .method) n′)
+              let et = trace-same W W1 sp (ev .kept) tr top (fit .trace) in
+              let same : (evalsIn d t (frameIn W1 f) (traceIn W1 tr top) es fuel1 then λ vs n′. invoke (deeper d t) (traceIn W1 tr top) (valueOf W1 v) m vs (k .method) n′)
+              ≡ (evalsIn d t (frameIn W f) (traceIn W tr top) es fuel1 then λ vs n′. invoke (deeper d t) (traceIn W tr top) (valueOf W1 v) m vs (k .method) n′)
               = (λ j. evalsIn d t (ef j) (et j) es fuel1 then λ vs n′. invoke (deeper d t) (et j) (valueOf W1 v) m vs (k .method) n′) in
-              subst (λ (p : ℕ). Shows W2 x (p + length (codesOf es)) (evalIn d t (frameIn W f) (traceIn W tr) (call m e es) fuel)) a1
+              subst (λ (p : ℕ). Shows W2 x (p + length (codesOf es)) (evalIn d t (frameIn W f) (traceIn W tr top) (call m e es) fuel)) a1
               (record { is = z .is ∙ same ∙ target-is t e es r c (some (k .method)) (k .is); next = z .next })
 
 -- ---- the arguments
-module _ (T W : List ℕ) (f : Frame) (tr : Trace) (at left d sp fuel : ℕ) (v : ValueRef) (m n i : ℕ) (fit : ArgsFit W f tr left d sp v n) (W1 : List ℕ) (l : Listed)
-    (li : Lists T W f tr at left d (sp + 1) fuel n W1 l) where
+module _ (T W : List ℕ) (f : Frame) (tr : List ℕ) (top at left d sp fuel : ℕ) (v : ValueRef) (m n i : ℕ) (fit : ArgsFit W f tr top left d sp v n) (W1 : List ℕ) (l : Listed)
+    (li : Lists T W f tr top at left d (sp + 1) fuel n W1 l) where
   kept-args : Kept sp W W1
   kept-args = kept-then sp (sp + 1) W W W1 (omega arith) (kept-none sp W) (li .kept)
 
-  pub args-halt : (s : Stop) (fuel1 : ℕ) (o : Out) → l ≡ listed.Halt s fuel1 → o ≡ haltOf l → CallsWith T W f tr at left d sp fuel v m n i W1 o
-  args-halt s fuel1 o el eo = subst (CallsWith T W f tr at left d sp fuel v m n i W1) (sym (eo ∙ ap haltOf el)) (record {
+  pub args-halt : (s : Stop) (fuel1 : ℕ) (o : Out) → l ≡ listed.Halt s fuel1 → o ≡ haltOf l → CallsWith T W f tr top at left d sp fuel v m n i W1 o
+  args-halt s fuel1 o el eo = subst (CallsWith T W f tr top at left d sp fuel v m n i W1) (sym (eo ∙ ap haltOf el)) (record {
     kept = kept-args;
     older = tt;
     is = λ t es k rs c ek. record {
-      is = going-on (stopped (stopOf s) fuel1) (evalsIn d t (frameIn W f) (traceIn W tr) es fuel) (λ vs n′. invoke (deeper d t) (traceIn W tr) (valueOf W v) m vs k n′)
-          (all-halted T W f tr at left d (sp + 1) fuel n W1 l li s fuel1 el t es rs c);
+      is = going-on (stopped (stopOf s) fuel1) (evalsIn d t (frameIn W f) (traceIn W tr top) es fuel) (λ vs n′. invoke (deeper d t) (traceIn W tr top) (valueOf W v) m vs k n′)
+          (all-halted T W f tr top at left d (sp + 1) fuel n W1 l li s fuel1 el t es rs c);
       next = tt;
     };
   })
 
   pub args-is : (a b c e : ValueRef) (at1 fuel1 : ℕ) (ps : List Slot) (W2 : List ℕ) (o : Out) → l ≡ listed.Values a b c e at1 fuel1 → ps ≡ slotsOf a b c e
-      → Invokes T W1 tr v ps n i at1 d sp fuel1 m W2 o → CallsWith T W f tr at left d sp fuel v m n i W2 o
+      → Invokes T W1 tr top v ps n i at1 d sp fuel1 m W2 o → CallsWith T W f tr top at left d sp fuel v m n i W2 o
   args-is a b c e at1 fuel1 ps W2 o el ep inv = record { kept = kept-then sp sp W W1 W2 (omega arith) kept-args (inv .kept); older = inv .older; is = shows }
     where
       shows : (t : Table) (es : Exprs) (k : Method) → ReadsAll T left at t es → count es ≡ n → getElem? (t .methods) i ≡ some k
-          → Shows W2 o (at + length (codesOf es)) (evalsIn d t (frameIn W f) (traceIn W tr) es fuel then λ vs n′. invoke (deeper d t) (traceIn W tr) (valueOf W v) m vs k n′)
+          → Shows W2 o (at + length (codesOf es)) (evalsIn d t (frameIn W f) (traceIn W tr top) es fuel then λ vs n′. invoke (deeper d t) (traceIn W tr top) (valueOf W v) m vs k n′)
       shows t es k rs q ek =
           let z = inv .is t k (rs .table) ek in
-          let et = trace-same W W1 sp kept-args tr (fit .fits .trace) in
+          let et = trace-same W W1 sp kept-args tr top (fit .fits .trace) in
           let eg = value-kept W W1 (sp + 1) (li .kept) v (fit .receiver) in
-          let same : invoke (deeper d t) (traceIn W1 tr) (valueOf W1 v) m (valuesFrom W1 ps 0 n) k fuel1 ≡ invoke (deeper d t) (traceIn W tr) (valueOf W v) m (valuesFrom W1 (slotsOf a b c e) 0 n) k fuel1
+          let same : invoke (deeper d t) (traceIn W1 tr top) (valueOf W1 v) m (valuesFrom W1 ps 0 n) k fuel1 ≡ invoke (deeper d t) (traceIn W tr top) (valueOf W v) m (valuesFrom W1 (slotsOf a b c e) 0 n) k fuel1
           = (λ j. invoke (deeper d t) (et j) (eg j) m (valuesFrom W1 (ep j) 0 n) k fuel1) in
-          subst (λ (p : ℕ). Shows W2 o p (evalsIn d t (frameIn W f) (traceIn W tr) es fuel then λ vs n′. invoke (deeper d t) (traceIn W tr) (valueOf W v) m vs k n′))
-          (all-next T W f tr at left d (sp + 1) fuel n W1 l li a b c e at1 fuel1 el t es rs q)
+          subst (λ (p : ℕ). Shows W2 o p (evalsIn d t (frameIn W f) (traceIn W tr top) es fuel then λ vs n′. invoke (deeper d t) (traceIn W tr top) (valueOf W v) m vs k n′))
+          (all-next T W f tr top at left d (sp + 1) fuel n W1 l li a b c e at1 fuel1 el t es rs q)
           (record {
-            is = z .is ∙ same ∙ going-on (value (valuesFrom W1 (slotsOf a b c e) 0 n) fuel1) (evalsIn d t (frameIn W f) (traceIn W tr) es fuel) (λ vs n′. invoke (deeper d t) (traceIn W tr) (valueOf W v) m vs k n′)
-                (all-given T W f tr at left d (sp + 1) fuel n W1 l li a b c e at1 fuel1 el t es rs q);
+            is = z .is ∙ same ∙ going-on (value (valuesFrom W1 (slotsOf a b c e) 0 n) fuel1) (evalsIn d t (frameIn W f) (traceIn W tr top) es fuel) (λ vs n′. invoke (deeper d t) (traceIn W tr top) (valueOf W v) m vs k n′)
+                (all-given T W f tr top at left d (sp + 1) fuel n W1 l li a b c e at1 fuel1 el t es rs q);
             next = z .next;
           })
 
@@ -198,48 +197,48 @@ module _ (t : Table) (os : List language.OpenCall) (v : Graph) (m : ℕ) (vs : L
   deeper-is zero nz p xs e n = absurd (nz refl)
   deeper-is (suc d) nz p xs e n = rw sub-one
 
-module _ (T W : List ℕ) (tr : Trace) (v : ValueRef) (ps : List Slot) (n i next d sp fuel m : ℕ) where
-  pub invoke-fuel : fuel ≡ 0 → Invokes T W tr v ps n i next d sp fuel m W (Halt NoFuel fuel)
+module _ (T W tr : List ℕ) (top : ℕ) (v : ValueRef) (ps : List Slot) (n i next d sp fuel m : ℕ) where
+  pub invoke-fuel : fuel ≡ 0 → Invokes T W tr top v ps n i next d sp fuel m W (Halt NoFuel fuel)
   invoke-fuel z = record {
     kept = kept-none sp W;
     older = tt;
-    is = λ t k tb ek. record { is = spent t (traceIn W tr) (valueOf W v) m (valuesFrom W ps 0 n) k (deeper d t) fuel z; next = tt };
+    is = λ t k tb ek. record { is = spent t (traceIn W tr top) (valueOf W v) m (valuesFrom W ps 0 n) k (deeper d t) fuel z; next = tt };
   }
 
   module _ (nf : fuel ≡ 0 → ⊥) where
-    pub invoke-deep : d ≡ 0 → Invokes T W tr v ps n i next d sp fuel m W (Halt TooDeep (fuel - 1))
+    pub invoke-deep : d ≡ 0 → Invokes T W tr top v ps n i next d sp fuel m W (Halt TooDeep (fuel - 1))
     invoke-deep z = record {
       kept = kept-none sp W;
       older = tt;
-      is = λ t k tb ek. record { is = too-deep t (traceIn W tr) (valueOf W v) m (valuesFrom W ps 0 n) k d fuel nf z; next = tt };
+      is = λ t k tb ek. record { is = too-deep t (traceIn W tr top) (valueOf W v) m (valuesFrom W ps 0 n) k d fuel nf z; next = tt };
     }
 
-    module _ (nd : d ≡ 0 → ⊥) (x : Met) (ex : x ≡ metOf (openMark (traceTo W (tr .calls) (tr .n)) (valueOf W v) m (valuesFrom W ps 0 n))) (W′ : List ℕ) (o : Out) where
-      pub invoke-right : (y : ℕ) → x ≡ met.Mark y → RunsRight T W tr v ps n i next (d - 1) sp (fuel - 1) y W′ o → Invokes T W tr v ps n i next d sp fuel m W′ o
+    module _ (nd : d ≡ 0 → ⊥) (x : Met) (ex : x ≡ metOf (openMark (traceIn W tr top) (valueOf W v) m (valuesFrom W ps 0 n))) (W′ : List ℕ) (o : Out) where
+      pub invoke-right : (y : ℕ) → x ≡ met.Mark y → RunsRight T W tr top v ps n i next (d - 1) sp (fuel - 1) y W′ o → Invokes T W tr top v ps n i next d sp fuel m W′ o
       unfolding traceIn
       invoke-right y ey r = record {
         kept = r .kept;
         older = r .older;
         is = λ t k tb ek. let z = r .is t k tb ek in record {
           is = z .is
-              ∙ sym (deeper-is t (traceIn W tr) (valueOf W v) m (valuesFrom W ps 0 n) k d nd (frameOf (valueOf W v) (some (markOf y)) (valuesFrom W ps 0 n)) (traceIn W tr) (k .right) (fuel - 1))
-              ∙ side-is t (traceIn W tr) (valueOf W v) m (valuesFrom W ps 0 n) k (deeper d t) fuel nf (some y) (met-some (openMark (traceIn W tr) (valueOf W v) m (valuesFrom W ps 0 n)) y (sym ey ∙ ex));
+              ∙ sym (deeper-is t (traceIn W tr top) (valueOf W v) m (valuesFrom W ps 0 n) k d nd (frameOf (valueOf W v) (some (markOf y)) (valuesFrom W ps 0 n)) (traceIn W tr top) (k .right) (fuel - 1))
+              ∙ side-is t (traceIn W tr top) (valueOf W v) m (valuesFrom W ps 0 n) k (deeper d t) fuel nf (some y) (met-some (openMark (traceIn W tr top) (valueOf W v) m (valuesFrom W ps 0 n)) y (sym ey ∙ ex));
           next = z .next;
         };
       }
 
-      pub invoke-left : x ≡ met.No → RunsLeft T W tr v ps n i next (d - 1) sp (fuel - 1) m W′ o → Invokes T W tr v ps n i next d sp fuel m W′ o
+      pub invoke-left : x ≡ met.No → RunsLeft T W tr top v ps n i next (d - 1) sp (fuel - 1) m W′ o → Invokes T W tr top v ps n i next d sp fuel m W′ o
       unfolding traceIn
       invoke-left ey r = record {
         kept = r .kept;
         older = r .older;
-        is = λ t k tb ek. let z = r .is t k tb ek in let os = traceIn W tr in record {
+        is = λ t k tb ek. let z = r .is t k tb ek in let os = traceIn W tr top in record {
           is = z .is
-              ∙ going-on (language.evalTo 32 (d - 1) t (frameOf (valueOf W v) none (valuesFrom W ps 0 n)) (opened (traceIn W tr) (valueOf W v) m (valuesFrom W ps 0 n)) (k .left) (fuel - 1))
-              (deeper d t (frameOf (valueOf W v) none (valuesFrom W ps 0 n)) (opened (traceIn W tr) (valueOf W v) m (valuesFrom W ps 0 n)) (k .left) (fuel - 1))
-              (λ u n′. value (close (length (traceIn W tr)) u) n′)
-              (sym (deeper-is t (traceIn W tr) (valueOf W v) m (valuesFrom W ps 0 n) k d nd (frameOf (valueOf W v) none (valuesFrom W ps 0 n)) (opened (traceIn W tr) (valueOf W v) m (valuesFrom W ps 0 n)) (k .left) (fuel - 1)))
-              ∙ side-is t (traceIn W tr) (valueOf W v) m (valuesFrom W ps 0 n) k (deeper d t) fuel nf none (met-none (openMark (traceIn W tr) (valueOf W v) m (valuesFrom W ps 0 n)) (sym ey ∙ ex));
+              ∙ going-on (language.evalTo 32 (d - 1) t (frameOf (valueOf W v) none (valuesFrom W ps 0 n)) (opened (traceIn W tr top) (valueOf W v) m (valuesFrom W ps 0 n)) (k .left) (fuel - 1))
+              (deeper d t (frameOf (valueOf W v) none (valuesFrom W ps 0 n)) (opened (traceIn W tr top) (valueOf W v) m (valuesFrom W ps 0 n)) (k .left) (fuel - 1))
+              (λ u n′. value (close (length (traceIn W tr top)) u) n′)
+              (sym (deeper-is t (traceIn W tr top) (valueOf W v) m (valuesFrom W ps 0 n) k d nd (frameOf (valueOf W v) none (valuesFrom W ps 0 n)) (opened (traceIn W tr top) (valueOf W v) m (valuesFrom W ps 0 n)) (k .left) (fuel - 1)))
+              ∙ side-is t (traceIn W tr top) (valueOf W v) m (valuesFrom W ps 0 n) k (deeper d t) fuel nf none (met-none (openMark (traceIn W tr top) (valueOf W v) m (valuesFrom W ps 0 n)) (sym ey ∙ ex));
           next = z .next;
         };
       }

@@ -22,7 +22,6 @@ use Rattle.evaluator.specs.declared.Out.the-variants.{Halt}
 use Rattle.evaluator.specs.declared.state.Held.{Held}
 use Rattle.evaluator.specs.declared.state.Held.the-variants.{Is, Absent}
 use Rattle.evaluator.specs.declared.state.Frame.{Frame}
-use Rattle.evaluator.specs.declared.state.Trace.{Trace}
 use Rattle.evaluator.specs.State.{HeldOlder, heldIn, frameIn, traceIn, variableOf}
 use Rattle.evaluator.specs.Answers.{outOf, OutOlder, Shows}
 use Rattle.evaluator.specs.Evaluation.{Reads, ReadsAll, evalIn, Fits, Evaluates, Fields, News}
@@ -83,15 +82,15 @@ held-shows : (W : List ℕ) (h : Held) (p fuel : ℕ) (x : Option Graph) → hel
 held-shows W (Is r) p fuel x e = record { is = ap (λ (y : Option Graph). orStuck y fuel) e; next = refl }
 held-shows W Absent p fuel x e = record { is = ap (λ (y : Option Graph). orStuck y fuel) e; next = tt }
 
-module _ (T W : List ℕ) (f : Frame) (tr : Trace) (at left d sp fuel : ℕ) where
-  pub eval-zero : left ≡ 0 → Evaluates T W f tr at left d sp fuel W (Halt Stuck fuel)
+module _ (T W : List ℕ) (f : Frame) (tr : List ℕ) (top at left d sp fuel : ℕ) where
+  pub eval-zero : left ≡ 0 → Evaluates T W f tr top at left d sp fuel W (Halt Stuck fuel)
   eval-zero z = record { kept = kept-none sp W; older = tt; is = λ t e r. absurd (nested-none left e z (r .nested)) }
 
   module _ (s : Shape) (es : s ≡ shapeAt T at) where
     stands-as : (t : Table) (e : Expr) (q : Shape) → Reads T left at t e → s ≡ q → shapeFor e at ≡ q
     stands-as t e q r z = sym (shape-read T left at t e s r es) ∙ z
 
-    pub eval-nothing : s ≡ shape.Nothing → Evaluates T W f tr at left d sp fuel W (Halt Stuck fuel)
+    pub eval-nothing : s ≡ shape.Nothing → Evaluates T W f tr top at left d sp fuel W (Halt Stuck fuel)
     eval-nothing z = record { kept = kept-none sp W; older = tt; is = λ t e r. absurd (no e (stands-as t e shape.Nothing r z)) }
       where
         no : (e : Expr) → shapeFor e at ≡ shape.Nothing → ⊥
@@ -103,16 +102,16 @@ module _ (T W : List ℕ) (f : Frame) (tr : Trace) (at left d sp fuel : ℕ) whe
         no (new c xs) q = clash q refl
 
     -- ---- variables
-    module _ (fit : Fits W f tr left d sp) (next : ℕ) (o : Out) where
-      pub eval-this : s ≡ shape.This next → o ≡ outOf (f .this) next fuel → Evaluates T W f tr at left d sp fuel W o
+    module _ (fit : Fits W f tr top left d sp) (next : ℕ) (o : Out) where
+      pub eval-this : s ≡ shape.This next → o ≡ outOf (f .this) next fuel → Evaluates T W f tr top at left d sp fuel W o
       unfolding codeOf eval frameIn
-      eval-this z eo = subst (Evaluates T W f tr at left d sp fuel W) (sym eo) (record {
+      eval-this z eo = subst (Evaluates T W f tr top at left d sp fuel W) (sym eo) (record {
         kept = kept-none sp W;
         older = held-older W sp (f .this) next fuel (fit .frame .this);
         is = λ t e r. go t e (stands-as t e (shape.This next) r z);
       })
         where
-          go : (t : Table) (e : Expr) → shapeFor e at ≡ shape.This next → Shows W (outOf (f .this) next fuel) (at + length (codeOf e)) (evalIn d t (frameIn W f) (traceIn W tr) e fuel)
+          go : (t : Table) (e : Expr) → shapeFor e at ≡ shape.This next → Shows W (outOf (f .this) next fuel) (at + length (codeOf e)) (evalIn d t (frameIn W f) (traceIn W tr top) e fuel)
           go t this q = shows-at W _ next (at + 1) _ (sym (ap after q)) (held-shows W (f .this) next fuel (heldIn W (f .this)) refl)
           go t res q = absurd (clash q refl)
           go t (param k) q = absurd (clash q refl)
@@ -120,15 +119,15 @@ module _ (T W : List ℕ) (f : Frame) (tr : Trace) (at left d sp fuel : ℕ) whe
           go t (call m e xs) q = absurd (clash q refl)
           go t (new c xs) q = absurd (clash q refl)
 
-      pub eval-res : s ≡ shape.Result next → o ≡ outOf (f .res) next fuel → Evaluates T W f tr at left d sp fuel W o
+      pub eval-res : s ≡ shape.Result next → o ≡ outOf (f .res) next fuel → Evaluates T W f tr top at left d sp fuel W o
       unfolding codeOf eval frameIn
-      eval-res z eo = subst (Evaluates T W f tr at left d sp fuel W) (sym eo) (record {
+      eval-res z eo = subst (Evaluates T W f tr top at left d sp fuel W) (sym eo) (record {
         kept = kept-none sp W;
         older = held-older W sp (f .res) next fuel (fit .frame .res);
         is = λ t e r. go t e (stands-as t e (shape.Result next) r z);
       })
         where
-          go : (t : Table) (e : Expr) → shapeFor e at ≡ shape.Result next → Shows W (outOf (f .res) next fuel) (at + length (codeOf e)) (evalIn d t (frameIn W f) (traceIn W tr) e fuel)
+          go : (t : Table) (e : Expr) → shapeFor e at ≡ shape.Result next → Shows W (outOf (f .res) next fuel) (at + length (codeOf e)) (evalIn d t (frameIn W f) (traceIn W tr top) e fuel)
           go t this q = absurd (clash q refl)
           go t res q = shows-at W _ next (at + 1) _ (sym (ap after q)) (held-shows W (f .res) next fuel (heldIn W (f .res)) refl)
           go t (param k) q = absurd (clash q refl)
@@ -136,16 +135,16 @@ module _ (T W : List ℕ) (f : Frame) (tr : Trace) (at left d sp fuel : ℕ) whe
           go t (call m e xs) q = absurd (clash q refl)
           go t (new c xs) q = absurd (clash q refl)
 
-      pub eval-param : (k : ℕ) (h : Held) → s ≡ shape.Parameter k next → h ≡ variableOf f k → o ≡ outOf h next fuel → Evaluates T W f tr at left d sp fuel W o
+      pub eval-param : (k : ℕ) (h : Held) → s ≡ shape.Parameter k next → h ≡ variableOf f k → o ≡ outOf h next fuel → Evaluates T W f tr top at left d sp fuel W o
       unfolding codeOf eval
-      eval-param k h z eh eo = subst (Evaluates T W f tr at left d sp fuel W) (sym (eo ∙ ap (λ (x : Held). outOf x next fuel) eh)) (record {
+      eval-param k h z eh eo = subst (Evaluates T W f tr top at left d sp fuel W) (sym (eo ∙ ap (λ (x : Held). outOf x next fuel) eh)) (record {
         kept = kept-none sp W;
         older = held-older W sp (variableOf f k) next fuel (variable-held W sp f k (fit .frame));
         is = λ t e r. go t e (stands-as t e (shape.Parameter k next) r z);
       })
         where
           go : (t : Table) (e : Expr) → shapeFor e at ≡ shape.Parameter k next
-              → Shows W (outOf (variableOf f k) next fuel) (at + length (codeOf e)) (evalIn d t (frameIn W f) (traceIn W tr) e fuel)
+              → Shows W (outOf (variableOf f k) next fuel) (at + length (codeOf e)) (evalIn d t (frameIn W f) (traceIn W tr top) e fuel)
           go t this q = absurd (clash q refl)
           go t res q = absurd (clash q refl)
           go t (param i) q =
@@ -157,29 +156,29 @@ module _ (T W : List ℕ) (f : Frame) (tr : Trace) (at left d sp fuel : ℕ) whe
 
     -- ---- fields, calls, objects
     module _ (nz : left ≡ 0 → ⊥) (next : ℕ) (W′ : List ℕ) (o : Out) where
-      pub eval-at-field : (k : ℕ) → s ≡ shape.Field k next → Fields T W f tr next (left - 1) d sp fuel k W′ o → Evaluates T W f tr at left d sp fuel W′ o
+      pub eval-at-field : (k : ℕ) → s ≡ shape.Field k next → Fields T W f tr top next (left - 1) d sp fuel k W′ o → Evaluates T W f tr top at left d sp fuel W′ o
       unfolding codeOf
       eval-at-field k z x = record { kept = x .kept; older = x .older; is = λ t e r. go t e r (stands-as t e (shape.Field k next) r z) }
         where
           go : (t : Table) (e : Expr) → Reads T left at t e → shapeFor e at ≡ shape.Field k next
-              → Shows W′ o (at + length (codeOf e)) (evalIn d t (frameIn W f) (traceIn W tr) e fuel)
+              → Shows W′ o (at + length (codeOf e)) (evalIn d t (frameIn W f) (traceIn W tr top) e fuel)
           go t this r q = absurd (clash q refl)
           go t res r q = absurd (clash q refl)
           go t (param i) r q = absurd (clash q refl)
           go t (field i e) r q =
               let en : at + 2 ≡ next = ap after q in
               let ek : i ≡ k = ap first q in
-              subst (λ (j : ℕ). Shows W′ o (at + suc (suc (length (codeOf e)))) (evalIn d t (frameIn W f) (traceIn W tr) (field j e) fuel)) (sym ek)
+              subst (λ (j : ℕ). Shows W′ o (at + suc (suc (length (codeOf e)))) (evalIn d t (frameIn W f) (traceIn W tr top) (field j e) fuel)) (sym ek)
               (shows-at W′ o (next + length (codeOf e)) (at + suc (suc (length (codeOf e)))) _ (omega arith)
               (x .is t e (subst (λ (p : ℕ). Reads T (left - 1) p t e) en (field-reads T left at t nz i e r))))
           go t (call m e xs) r q = absurd (clash q refl)
           go t (new c xs) r q = absurd (clash q refl)
 
-      pub eval-at-call : (m n : ℕ) → s ≡ shape.Call m n next → Calls T W f tr next (left - 1) d sp fuel m n W′ o → Evaluates T W f tr at left d sp fuel W′ o
+      pub eval-at-call : (m n : ℕ) → s ≡ shape.Call m n next → Calls T W f tr top next (left - 1) d sp fuel m n W′ o → Evaluates T W f tr top at left d sp fuel W′ o
       eval-at-call m n z x = record { kept = x .kept; older = x .older; is = λ t e r. go t e r (stands-as t e (shape.Call m n next) r z) }
         where
           go : (t : Table) (e : Expr) → Reads T left at t e → shapeFor e at ≡ shape.Call m n next
-              → Shows W′ o (at + length (codeOf e)) (evalIn d t (frameIn W f) (traceIn W tr) e fuel)
+              → Shows W′ o (at + length (codeOf e)) (evalIn d t (frameIn W f) (traceIn W tr top) e fuel)
           go t this r q = absurd (clash q refl)
           go t res r q = absurd (clash q refl)
           go t (param i) r q = absurd (clash q refl)
@@ -189,18 +188,18 @@ module _ (T W : List ℕ) (f : Frame) (tr : Trace) (at left d sp fuel : ℕ) whe
               let ei : i ≡ m = ap first q in
               let ec : count xs ≡ n = ap second q in
               shows-at W′ o (next + length (codeOf e) + length (codesOf xs)) (at + length (codeOf (call i e xs))) _ (omega (arith, call-end T left at t nz i e xs r))
-              (subst (λ (j : ℕ). Shows W′ o (next + length (codeOf e) + length (codesOf xs)) (evalIn d t (frameIn W f) (traceIn W tr) (call j e xs) fuel)) (sym ei)
+              (subst (λ (j : ℕ). Shows W′ o (next + length (codeOf e) + length (codesOf xs)) (evalIn d t (frameIn W f) (traceIn W tr top) (call j e xs) fuel)) (sym ei)
               (x .is t e xs (subst (λ (j : ℕ). j < 256) ei (name-small T left at t nz i e xs r))
               (subst (λ (p : ℕ). Reads T (left - 1) p t e) en (receiver-reads T left at t nz i e xs r))
               (subst (λ (p : ℕ). ReadsAll T (left - 1) (p + length (codeOf e)) t xs) en (args-read T left at t nz i e xs r)) ec))
           go t (new c xs) r q = absurd (clash q refl)
 
-      pub eval-at-new : (c n : ℕ) → s ≡ shape.New c n next → News T W f tr next (left - 1) d sp fuel c n W′ o → Evaluates T W f tr at left d sp fuel W′ o
+      pub eval-at-new : (c n : ℕ) → s ≡ shape.New c n next → News T W f tr top next (left - 1) d sp fuel c n W′ o → Evaluates T W f tr top at left d sp fuel W′ o
       unfolding codeOf
       eval-at-new c n z x = record { kept = x .kept; older = x .older; is = λ t e r. go t e r (stands-as t e (shape.New c n next) r z) }
         where
           go : (t : Table) (e : Expr) → Reads T left at t e → shapeFor e at ≡ shape.New c n next
-              → Shows W′ o (at + length (codeOf e)) (evalIn d t (frameIn W f) (traceIn W tr) e fuel)
+              → Shows W′ o (at + length (codeOf e)) (evalIn d t (frameIn W f) (traceIn W tr top) e fuel)
           go t this r q = absurd (clash q refl)
           go t res r q = absurd (clash q refl)
           go t (param i) r q = absurd (clash q refl)
@@ -210,7 +209,7 @@ module _ (T W : List ℕ) (f : Frame) (tr : Trace) (at left d sp fuel : ℕ) whe
               let en : at + 3 ≡ next = ap after q in
               let ei : i ≡ c = ap first q in
               let ec : count xs ≡ n = ap second q in
-              subst (λ (j : ℕ). Shows W′ o (at + suc (suc (suc (length (codesOf xs))))) (evalIn d t (frameIn W f) (traceIn W tr) (new j xs) fuel)) (sym ei)
+              subst (λ (j : ℕ). Shows W′ o (at + suc (suc (suc (length (codesOf xs))))) (evalIn d t (frameIn W f) (traceIn W tr top) (new j xs) fuel)) (sym ei)
               (shows-at W′ o (next + length (codesOf xs)) (at + suc (suc (suc (length (codesOf xs))))) _ (omega arith)
               (x .is t xs (subst (λ (p : ℕ). ReadsAll T (left - 1) p t xs) en (values-read T left at t nz i xs r)) ec
               (subst (λ (j : ℕ). j ≤ length (t .classes)) ei (class-known T left at t nz i xs r))))

@@ -6,8 +6,7 @@ use mathlib.Core.List.{List}
 use mathlib.Core.Option.{some, Option·none-ne-some}
 use mathlib.Core.Bool.{Bool, true, false}
 use Rattle.classes.specs.Machine.{pick}
-use lib.ListN.{length, set, length-set}
-use lib.Seq.{getD-set-same, getD-set-other}
+use lib.ListN.{length}
 use native.Mathlib.Decide.{decLt}
 use Rattle.cofj.specs.Values.{Graph}
 use Rattle.cofj.specs.Running as language
@@ -27,41 +26,40 @@ use Rattle.evaluator.specs.declared.met.Met.{Met}
 use Rattle.evaluator.specs.declared.met.Met.the-variants as met
 use Rattle.evaluator.specs.declared.state.Held.the-variants.{Is, Absent}
 use Rattle.evaluator.specs.declared.state.Frame.{Frame}
-use Rattle.evaluator.specs.declared.state.OpenCall.{OpenCall}
-use Rattle.evaluator.specs.declared.state.Trace.{Trace}
-use Rattle.evaluator.specs.State.{PartsOlder, noCall, callAt, CallOlder, CallsHold, TraceHolds, callIn, sameOf, traceTo, pushed, metOf}
+use Rattle.evaluator.specs.State.{Low, slotAt, PartsLow, PartsOlder, callAt, CallOlder, CallsHold, callIn, sameOf, traceIn, Pushed, metOf}
 use Rattle.evaluator.specs.Answers.{slotsOf}
 use Rattle.evaluator.specs.Calling.{FewIf, ArgsFit, CallFits, BodyFits, FindsTarget}
 use Rattle.evaluator.specs.Evaluation.{Fits, ListFits, Evaluates, Lists}
-use Rattle.evaluator.proofs.Keeping.{kept-none, kept-then, older-kept, older-up, parts-up, frame-kept, frame-up, trace-kept, trace-up}
+use Rattle.evaluator.proofs.Keeping.{kept-none, kept-then, older-kept, low-up, older-up, parts-up, frame-kept, frame-up, trace-kept, trace-up}
+use Rattle.evaluator.proofs.TraceLaws.{call-older}
 use Rattle.evaluator.proofs.StateLaws.{by-tests}
 use Rattle.evaluator.proofs.Given.{given-older, all-older}
 use Rattle.evaluator.proofs.CallLaws.{met-some}
 
 -- ---- one level in
-module _ (W : List ℕ) (f : Frame) (tr : Trace) (left d sp : ℕ) where
-  pub fit-part : Fits W f tr left d sp → (left ≡ 0 → ⊥) → Fits W f tr (left - 1 + 1) d sp
-  fit-part h nz = subst (λ (l : ℕ). Fits W f tr l d sp) (let z : left ≡ left - 1 + 1 = omega (arith, nz) in z) h
+module _ (W : List ℕ) (f : Frame) (tr : List ℕ) (top left d sp : ℕ) where
+  pub fit-part : Fits W f tr top left d sp → (left ≡ 0 → ⊥) → Fits W f tr top (left - 1 + 1) d sp
+  fit-part h nz = subst (λ (l : ℕ). Fits W f tr top l d sp) (let z : left ≡ left - 1 + 1 = omega (arith, nz) in z) h
 
-  pub fit-inner : Fits W f tr (left + 1) d sp → Fits W f tr left d sp
+  pub fit-inner : Fits W f tr top (left + 1) d sp → Fits W f tr top left d sp
   fit-inner h = let r = h .room in record { frame = h .frame; trace = h .trace; calls = h .calls; room = omega arith; long = h .long }
 
-  pub fit-few : Fits W f tr left d sp → f .n ≤ 4
+  pub fit-few : Fits W f tr top left d sp → f .n ≤ 4
   fit-few h = h .frame .few
 
-  pub fit-list : (n : ℕ) → Fits W f tr (left + 1) d sp → n ≤ 4 → ListFits W f tr left d sp n
+  pub fit-list : (n : ℕ) → Fits W f tr top (left + 1) d sp → n ≤ 4 → ListFits W f tr top left d sp n
   fit-list n h l = let r = h .room in record { frame = h .frame; trace = h .trace; calls = h .calls; few = l; room = omega arith; long = h .long }
 
-  pub list-fit : (n : ℕ) → ListFits W f tr left d sp n → (n ≡ 0 → ⊥) → Fits W f tr left d sp
+  pub list-fit : (n : ℕ) → ListFits W f tr top left d sp n → (n ≡ 0 → ⊥) → Fits W f tr top left d sp
   list-fit n h nz = let r = h .room in record { frame = h .frame; trace = h .trace; calls = h .calls; room = omega (arith, nz); long = h .long }
 
-  pub args-list : (v : ValueRef) (n : ℕ) → ArgsFit W f tr left d sp v n → ListFits W f tr left d (sp + 1) n
+  pub args-list : (v : ValueRef) (n : ℕ) → ArgsFit W f tr top left d sp v n → ListFits W f tr top left d (sp + 1) n
   args-list v n h =
       let r = h .fits .room in
       let l = h .few in
       record {
         frame = frame-up W sp (sp + 1) (omega arith) f (h .fits .frame);
-        trace = trace-up W sp (sp + 1) (omega arith) tr (h .fits .trace);
+        trace = trace-up W sp (sp + 1) (omega arith) tr top (h .fits .trace);
         calls = h .fits .calls;
         few = omega arith;
         room = omega arith;
@@ -69,59 +67,59 @@ module _ (W : List ℕ) (f : Frame) (tr : Trace) (left d sp : ℕ) where
       }
 
 -- ---- after an evaluation
-module _ (T W : List ℕ) (f : Frame) (tr : Trace) (at left d sp fuel : ℕ) (W1 : List ℕ) (o : Out) (ev : Evaluates T W f tr at left d sp fuel W1 o) where
-  pub after-room : Fits W f tr (left + 1) d sp → 240 * sp + 240 ≤ length W1
+module _ (T W : List ℕ) (f : Frame) (tr : List ℕ) (top at left d sp fuel : ℕ) (W1 : List ℕ) (o : Out) (ev : Evaluates T W f tr top at left d sp fuel W1 o) where
+  pub after-room : Fits W f tr top (left + 1) d sp → 240 * sp + 240 ≤ length W1
   after-room h = let r = h .room in omega (arith, h .long, ev .kept .same)
 
   pub after-held : (v : ValueRef) (at1 fuel1 : ℕ) → o ≡ Value v at1 fuel1 → Holds W1 v
-  after-held v at1 fuel1 eo = given-older T W f tr at left d sp fuel W1 o ev v at1 fuel1 eo .held
+  after-held v at1 fuel1 eo = given-older T W f tr top at left d sp fuel W1 o ev v at1 fuel1 eo .held
 
-  pub list-later : (n : ℕ) → ListFits W f tr left d sp n → (n ≡ 0 → ⊥) → ListFits W1 f tr left d (sp + 1) (n - 1)
+  pub list-later : (n : ℕ) → ListFits W f tr top left d sp n → (n ≡ 0 → ⊥) → ListFits W1 f tr top left d (sp + 1) (n - 1)
   list-later n h nz =
       let r = h .room in
       let l = h .few in
       record {
         frame = frame-up W1 sp (sp + 1) (omega arith) f (frame-kept W W1 sp (ev .kept) f (h .frame));
-        trace = trace-up W1 sp (sp + 1) (omega arith) tr (trace-kept W W1 sp (ev .kept) tr (h .trace));
+        trace = trace-up W1 sp (sp + 1) (omega arith) tr top (trace-kept W W1 sp (ev .kept) tr top (h .trace));
         calls = h .calls;
         few = omega arith;
         room = omega (arith, nz);
         long = omega (arith, h .long, ev .kept .same);
       }
 
-  pub args-fit : (v : ValueRef) (at1 fuel1 m n : ℕ) (w : Found) (i : ℕ) → Fits W f tr (left + 1) d sp → (left ≡ 0 → ⊥) → o ≡ Value v at1 fuel1
-      → FindsTarget T W1 v m n w → w ≡ found.At i → ArgsFit W1 f tr left d sp v n
+  pub args-fit : (v : ValueRef) (at1 fuel1 m n : ℕ) (w : Found) (i : ℕ) → Fits W f tr top (left + 1) d sp → (left ≡ 0 → ⊥) → o ≡ Value v at1 fuel1
+      → FindsTarget T W1 v m n w → w ≡ found.At i → ArgsFit W1 f tr top left d sp v n
   args-fit v at1 fuel1 m n w i h nz eo fi ew =
       let r = h .room in
       record {
         fits = record {
           frame = frame-kept W W1 sp (ev .kept) f (h .frame);
-          trace = trace-kept W W1 sp (ev .kept) tr (h .trace);
+          trace = trace-kept W W1 sp (ev .kept) tr top (h .trace);
           calls = h .calls;
           room = h .room;
           long = omega (arith, h .long, ev .kept .same);
         };
         deep = nz;
-        receiver = given-older T W f tr at left d sp fuel W1 o ev v at1 fuel1 eo;
+        receiver = given-older T W f tr top at left d sp fuel W1 o ev v at1 fuel1 eo;
         few = subst (FewIf n) ew (fi .few);
       }
 
 -- ---- after a list
-pub after-list : (T W : List ℕ) (f : Frame) (tr : Trace) (at left d sp fuel n : ℕ) (W1 : List ℕ) (l : Listed) → Lists T W f tr at left d sp fuel n W1 l
-    → Fits W f tr (left + 1) d sp → 240 * sp + 240 ≤ length W1
-after-list T W f tr at left d sp fuel n W1 l li h = let r = h .room in omega (arith, h .long, li .kept .same)
+pub after-list : (T W : List ℕ) (f : Frame) (tr : List ℕ) (top at left d sp fuel n : ℕ) (W1 : List ℕ) (l : Listed) → Lists T W f tr top at left d sp fuel n W1 l
+    → Fits W f tr top (left + 1) d sp → 240 * sp + 240 ≤ length W1
+after-list T W f tr top at left d sp fuel n W1 l li h = let r = h .room in omega (arith, h .long, li .kept .same)
 
-pub call-fit : (T W : List ℕ) (f : Frame) (tr : Trace) (at left d sp fuel : ℕ) (v : ValueRef) (n : ℕ) (W1 : List ℕ) (l : Listed) (a b c e : ValueRef) (at1 fuel1 : ℕ) (ps : List Slot)
-    → ArgsFit W f tr left d sp v n → Lists T W f tr at left d (sp + 1) fuel n W1 l → l ≡ listed.Values a b c e at1 fuel1 → ps ≡ slotsOf a b c e → CallFits W1 tr v ps n d sp
-call-fit T W f tr at left d sp fuel v n W1 l a b c e at1 fuel1 ps h li el ep =
+pub call-fit : (T W : List ℕ) (f : Frame) (tr : List ℕ) (top at left d sp fuel : ℕ) (v : ValueRef) (n : ℕ) (W1 : List ℕ) (l : Listed) (a b c e : ValueRef) (at1 fuel1 : ℕ) (ps : List Slot)
+    → ArgsFit W f tr top left d sp v n → Lists T W f tr top at left d (sp + 1) fuel n W1 l → l ≡ listed.Values a b c e at1 fuel1 → ps ≡ slotsOf a b c e → CallFits W1 tr top v ps n d sp
+call-fit T W f tr top at left d sp fuel v n W1 l a b c e at1 fuel1 ps h li el ep =
     let k = kept-then sp (sp + 1) W W W1 (omega arith) (kept-none sp W) (li .kept) in
     let r = h .fits .room in
     let few = h .few in
     record {
-      trace = trace-kept W W1 sp k tr (h .fits .trace);
+      trace = trace-kept W W1 sp k tr top (h .fits .trace);
       receiver = older-up W1 (sp + 1) (sp + 4) (omega arith) v (older-kept W W1 (sp + 1) (li .kept) v (h .receiver));
       args = subst (λ (q : List Slot). PartsOlder W1 (sp + 4) q n) (sym ep)
-          (parts-up W1 (sp + 1 + n) (sp + 4) (omega arith) (slotsOf a b c e) n (all-older T W f tr at left d (sp + 1) fuel n W1 l li a b c e at1 fuel1 el));
+          (parts-up W1 (sp + 1 + n) (sp + 4) (omega arith) (slotsOf a b c e) n (all-older T W f tr top at left d (sp + 1) fuel n W1 l li a b c e at1 fuel1 el));
       few = h .few;
       calls = h .fits .calls;
       room = omega (arith, h .deep);
@@ -129,8 +127,8 @@ call-fit T W f tr at left d sp fuel v n W1 l a b c e at1 fuel1 ps h li el ep =
     }
 
 -- ---- a call
-module _ (W : List ℕ) (tr : Trace) (v : ValueRef) (ps : List Slot) (n d sp : ℕ) (h : CallFits W tr v ps n d sp) where
-  pub calls-held : CallsHold W (tr .calls) (tr .n)
+module _ (W tr : List ℕ) (top : ℕ) (v : ValueRef) (ps : List Slot) (n d sp : ℕ) (h : CallFits W tr top v ps n d sp) where
+  pub calls-held : CallsHold W tr top
   calls-held = let c = h .calls in record {
     few = omega arith;
     call = λ i l. let q = h .trace .call i l in record {
@@ -149,88 +147,79 @@ module _ (W : List ℕ) (tr : Trace) (v : ValueRef) (ps : List Slot) (n d sp : �
   pub args-few : n ≤ 4
   args-few = let l = h .few in omega arith
 
-  pub body-fit : (d ≡ 0 → ⊥) → BodyFits W tr v ps n (d - 1) sp
+  pub body-fit : (d ≡ 0 → ⊥) → BodyFits W tr top v ps n (d - 1) sp
   body-fit nz =
       let c = h .calls in
       let r = h .room in
       record { trace = h .trace; receiver = h .receiver; args = h .args; few = h .few; calls = omega (arith, nz); room = omega (arith, nz); long = h .long }
 
 -- ---- a side
-module _ (W : List ℕ) (tr : Trace) (v : ValueRef) (ps : List Slot) (n d sp : ℕ) (h : BodyFits W tr v ps n d sp) where
-  pub push-room : tr .n < 16
+module _ (W tr : List ℕ) (top : ℕ) (v : ValueRef) (ps : List Slot) (n d sp : ℕ) (h : BodyFits W tr top v ps n d sp) where
+  pub push-room : top < 16
   push-room = let c = h .calls in omega arith
 
-  pub mark-room : tr .n < 63
+  pub push-few : n ≤ 4
+  push-few = let l = h .few in omega arith
+
+  pub push-receiver : Low 65536 v
+  push-receiver = let r = h .room in low-up W (sp + 4) 65536 (omega arith) v (h .receiver .low)
+
+  pub push-args : PartsLow 65536 ps n
+  push-args = let r = h .room in record { full = h .args .full; part = λ i l. low-up W (sp + 4) 65536 (omega arith) (slotAt ps i) (h .args .part i l .low) }
+
+  pub mark-room : top < 63
   mark-room = let c = h .calls in omega arith
 
-  pub right-fit : (x : ℕ) → x < 63 → Fits W (record { this = Is v; res = Is (Mark x); args = ps; n = n }) tr 6 d (sp + 4)
+  pub right-fit : (x : ℕ) → x < 63 → Fits W (record { this = Is v; res = Is (Mark x); args = ps; n = n }) tr top 6 d (sp + 4)
   right-fit x l =
       let c = h .calls in
       let r = h .room in
       let few = h .few in
       record {
         frame = record { this = h .receiver; res = record { held = record { held = l }; low = tt }; args = h .args; few = omega arith };
-        trace = trace-up W sp (sp + 4) (omega arith) tr (h .trace);
+        trace = trace-up W sp (sp + 4) (omega arith) tr top (h .trace);
         calls = omega arith;
         room = omega arith;
         long = h .long;
       }
 
-  pushed-holds : (m : ℕ) → TraceHolds W (sp + 4) (pushed tr v m ps n)
-  unfolding pushed
-  pushed-holds m =
-      let few = h .few in
-      let cs = h .calls in
-      let full = h .trace .full in
-      let c : OpenCall = record { receiver = v; name = m; args = ps; n = n } in
-      let top : CallOlder W (sp + 4) c = record { receiver = h .receiver; args = h .args; few = omega arith } in
-      let old = trace-up W sp (sp + 4) (omega arith) tr (h .trace) in
-      record {
-        full = length-set (tr .calls) (tr .n) c ∙ full;
-        call = λ i l. at-call c top old i l (decLt i (tr .n));
-      }
-    where
-      at-call : (c : OpenCall) → CallOlder W (sp + 4) c → TraceHolds W (sp + 4) tr → (i : ℕ) → i < tr .n + 1 → Dec (i < tr .n) → CallOlder W (sp + 4) (callAt (set (tr .calls) (tr .n) c) i)
-      at-call c top old i l (yes q) = subst (CallOlder W (sp + 4)) (sym (getD-set-other (tr .calls) (tr .n) i c noCall (λ z. omega arith))) (old .call i q)
-      at-call c top old i l (no q) =
-          let cs = h .calls in
-          let full = h .trace .full in
-          let e : tr .n ≡ i = omega (arith, q) in
-          subst (λ (j : ℕ). CallOlder W (sp + 4) (callAt (set (tr .calls) (tr .n) c) j)) e
-          (subst (CallOlder W (sp + 4)) (sym (getD-set-same (tr .calls) (tr .n) c noCall (omega arith))) top)
-
-  pub left-fit : (m : ℕ) (tr1 : Trace) → tr1 ≡ pushed tr v m ps n → Fits W (record { this = Is v; res = Absent; args = ps; n = n }) tr1 6 d (sp + 4)
-  unfolding pushed
-  left-fit m tr1 e =
-      subst (λ (x : Trace). Fits W (record { this = Is v; res = Absent; args = ps; n = n }) x 6 d (sp + 4)) (sym e)
-      (let c = h .calls in
+  pub left-fit : (m : ℕ) (tr1 : List ℕ) → Pushed tr top v m ps n tr1 → Fits W (record { this = Is v; res = Absent; args = ps; n = n }) tr1 (top + 1) 6 d (sp + 4)
+  left-fit m tr1 p =
+      let c = h .calls in
       let r = h .room in
       let few = h .few in
       record {
         frame = record { this = h .receiver; res = tt; args = h .args; few = omega arith };
-        trace = pushed-holds m;
+        trace = record { call = λ i l. at-call i l (decLt i top) };
         calls = omega arith;
         room = omega arith;
         long = h .long;
-      })
+      }
+    where
+      at-call : (i : ℕ) → i < top + 1 → Dec (i < top) → CallOlder W (sp + 4) (callAt tr1 i)
+      at-call i l (yes q) = subst (CallOlder W (sp + 4)) (sym (p .older i q)) (trace-up W sp (sp + 4) (omega arith) tr top (h .trace) .call i q)
+      at-call i l (no q) =
+          let few = h .few in
+          let e : top ≡ i = omega (arith, q) in
+          subst (λ (j : ℕ). CallOlder W (sp + 4) (callAt tr1 j)) e (call-older W (callAt tr1 top) v m ps n (omega arith) (p .newest) (sp + 4) (h .receiver) (h .args))
 
-  pub side-length : (T : List ℕ) (f : Frame) (tr1 : Trace) (at left fuel : ℕ) (W1 : List ℕ) (o : Out) → Evaluates T W f tr1 at left d (sp + 4) fuel W1 o → 240 * sp + 240 ≤ length W1
-  side-length T f tr1 at left fuel W1 o ev = let r = h .room in omega (arith, h .long, ev .kept .same)
+  pub side-length : (T : List ℕ) (f : Frame) (tr1 : List ℕ) (top1 at left fuel : ℕ) (W1 : List ℕ) (o : Out) → Evaluates T W f tr1 top1 at left d (sp + 4) fuel W1 o → 240 * sp + 240 ≤ length W1
+  side-length T f tr1 top1 at left fuel W1 o ev = let r = h .room in omega (arith, h .long, ev .kept .same)
 
 -- ---- the mark of a call met again
-marks-below : (W : List ℕ) (cs : List OpenCall) (v : Graph) (m : ℕ) (vs : List Graph) (x k : ℕ) → openMark (traceTo W cs k) v m vs ≡ some x → x < k
-unfolding traceTo openMark
-marks-below W cs v m vs x zero e = absurd (Option·none-ne-some x e)
-marks-below W cs v m vs x (suc k) e =
-    go (sameOf (callIn W k (callAt cs k)) v m vs) (sym (by-tests (callIn W k (callAt cs k)) (traceTo W cs k) v m vs) ∙ e) (λ q. marks-below W cs v m vs x k q)
+marks-below : (W tr : List ℕ) (v : Graph) (m : ℕ) (vs : List Graph) (x k : ℕ) → openMark (traceIn W tr k) v m vs ≡ some x → x < k
+unfolding traceIn openMark
+marks-below W tr v m vs x zero e = absurd (Option·none-ne-some x e)
+marks-below W tr v m vs x (suc k) e =
+    go (sameOf (callIn W k (callAt tr k)) v m vs) (sym (by-tests (callIn W k (callAt tr k)) (traceIn W tr k) v m vs) ∙ e) (λ q. marks-below W tr v m vs x k q)
   where
-    go : (b : Bool) → pick b (some k) (openMark (traceTo W cs k) v m vs) ≡ some x → (openMark (traceTo W cs k) v m vs ≡ some x → x < k) → x < suc k
+    go : (b : Bool) → pick b (some k) (openMark (traceIn W tr k) v m vs) ≡ some x → (openMark (traceIn W tr k) v m vs ≡ some x → x < k) → x < suc k
     go true q ih = let y : some k ≡ some x = q in let z : k ≡ x = cc in omega arith
     go false q ih = let z = ih q in omega arith
 
-pub mark-small : (W : List ℕ) (tr : Trace) (v : ValueRef) (ps : List Slot) (n d sp m y : ℕ) (x : Met) → CallFits W tr v ps n d sp
-    → x ≡ metOf (openMark (traceTo W (tr .calls) (tr .n)) (valueOf W v) m (valuesFrom W ps 0 n)) → x ≡ met.Mark y → y < 63
-mark-small W tr v ps n d sp m y x h e q =
-    let l = marks-below W (tr .calls) (valueOf W v) m (valuesFrom W ps 0 n) y (tr .n) (met-some (openMark (traceTo W (tr .calls) (tr .n)) (valueOf W v) m (valuesFrom W ps 0 n)) y (sym q ∙ e)) in
+pub mark-small : (W tr : List ℕ) (top : ℕ) (v : ValueRef) (ps : List Slot) (n d sp m y : ℕ) (x : Met) → CallFits W tr top v ps n d sp
+    → x ≡ metOf (openMark (traceIn W tr top) (valueOf W v) m (valuesFrom W ps 0 n)) → x ≡ met.Mark y → y < 63
+mark-small W tr top v ps n d sp m y x h e q =
+    let l = marks-below W tr (valueOf W v) m (valuesFrom W ps 0 n) y top (met-some (openMark (traceIn W tr top) (valueOf W v) m (valuesFrom W ps 0 n)) y (sym q ∙ e)) in
     let c = h .calls in
     omega arith

@@ -17,9 +17,8 @@ use Rattle.values.proofs.Nodes.{nodes-same, packed-same}
 use Rattle.evaluator.specs.declared.state.Held.{Held}
 use Rattle.evaluator.specs.declared.state.Held.the-variants.{Is, Absent}
 use Rattle.evaluator.specs.declared.state.Frame.{Frame}
-use Rattle.evaluator.specs.declared.state.OpenCall.{OpenCall}
-use Rattle.evaluator.specs.declared.state.Trace.{Trace}
-use Rattle.evaluator.specs.State.{Kept, Older, Low, slotAt, PartsOlder, HeldOlder, heldIn, FrameHolds, frameIn, callAt, CallOlder, TraceHolds, callIn, traceTo, traceIn}
+use Rattle.evaluator.specs.declared.trace.OpenCall.{OpenCall}
+use Rattle.evaluator.specs.State.{Kept, Older, Low, slotAt, PartsOlder, HeldOlder, heldIn, FrameHolds, frameIn, callAt, CallOlder, TraceHolds, callIn, traceIn}
 
 -- ---- changes, one after the other
 pub kept-none : (sp : ℕ) (W : List ℕ) → Kept sp W W
@@ -106,22 +105,19 @@ module _ (W W′ : List ℕ) (sp : ℕ) (k : Kept sp W W′) where
   call-same : (x : ℕ) (c : OpenCall) → CallOlder W sp c → callIn W′ x c ≡ callIn W x c
   call-same x c o = λ i. record { receiver = value-kept (c .receiver) (o .receiver) i; name = c .name; args = values-kept (c .args) (c .n) (o .args) i; label = x }
 
-  pub trace-kept : (t : Trace) → TraceHolds W sp t → TraceHolds W′ sp t
-  trace-kept t h = record { full = h .full; call = λ i l. call-kept (callAt (t .calls) i) (h .call i l) }
+  pub trace-kept : (tr : List ℕ) (top : ℕ) → TraceHolds W sp tr top → TraceHolds W′ sp tr top
+  trace-kept tr top h = record { call = λ i l. call-kept (callAt tr i) (h .call i l) }
 
-  calls-same : (cs : List OpenCall) (n : ℕ) → ((i : ℕ) → i < n → CallOlder W sp (callAt cs i)) → traceTo W′ cs n ≡ traceTo W cs n
-  unfolding traceTo
-  calls-same cs zero h = refl
-  calls-same cs (suc n) h =
-      ap₂ {A = language.OpenCall} {B = List language.OpenCall} {C = List language.OpenCall} _∷_ (call-same n (callAt cs n) (h n (omega arith))) (calls-same cs n (λ i l. h i (omega arith)))
-
-  pub trace-same : (t : Trace) → TraceHolds W sp t → traceIn W′ t ≡ traceIn W t
+  pub trace-same : (tr : List ℕ) (top : ℕ) → TraceHolds W sp tr top → traceIn W′ tr top ≡ traceIn W tr top
   unfolding traceIn
-  trace-same t h = calls-same (t .calls) (t .n) (h .call)
+  trace-same tr zero h = refl
+  trace-same tr (suc n) h =
+      ap₂ {A = language.OpenCall} {B = List language.OpenCall} {C = List language.OpenCall} _∷_ (call-same n (callAt tr n) (h .call n (omega arith)))
+      (trace-same tr n (record { call = λ i l. h .call i (omega arith) }))
 
 -- ---- what lies below a block lies below the blocks above it
 module _ (W : List ℕ) (sp sp′ : ℕ) (l : sp ≤ sp′) where
-  low-up : (r : ValueRef) → Low sp r → Low sp′ r
+  pub low-up : (r : ValueRef) → Low sp r → Low sp′ r
   low-up (Object b) h = omega arith
   low-up (Mark x) h = tt
   low-up Undetermined h = tt
@@ -139,8 +135,7 @@ module _ (W : List ℕ) (sp sp′ : ℕ) (l : sp ≤ sp′) where
   pub frame-up : (f : Frame) → FrameHolds W sp f → FrameHolds W sp′ f
   frame-up f h = record { this = held-up (f .this) (h .this); res = held-up (f .res) (h .res); args = parts-up (f .args) (f .n) (h .args); few = h .few }
 
-  pub trace-up : (t : Trace) → TraceHolds W sp t → TraceHolds W sp′ t
-  trace-up t h = record {
-    full = h .full;
-    call = λ i q. let c = h .call i q in record { receiver = older-up (callAt (t .calls) i .receiver) (c .receiver); args = parts-up (callAt (t .calls) i .args) (callAt (t .calls) i .n) (c .args); few = c .few };
+  pub trace-up : (tr : List ℕ) (top : ℕ) → TraceHolds W sp tr top → TraceHolds W sp′ tr top
+  trace-up tr top h = record {
+    call = λ i q. let c = h .call i q in record { receiver = older-up (callAt tr i .receiver) (c .receiver); args = parts-up (callAt tr i .args) (callAt tr i .n) (c .args); few = c .few };
   }

@@ -1,4 +1,5 @@
 pub mod Keeping
+pub mod TraceLaws
 pub mod StateLaws
 pub mod LeafLaws
 pub mod FindLaws

@@ -29,7 +29,6 @@ use Rattle.evaluator.specs.declared.Out.the-variants.{Value, Halt}
 use Rattle.evaluator.specs.declared.parts.Listed.{Listed}
 use Rattle.evaluator.specs.declared.parts.Listed.the-variants as listed
 use Rattle.evaluator.specs.declared.state.Frame.{Frame}
-use Rattle.evaluator.specs.declared.state.Trace.{Trace}
 use Rattle.evaluator.specs.State.{Older, slotAt, PartsOlder, Kept, frameIn, traceIn}
 use Rattle.evaluator.specs.Answers.{stopOf, slotsOf, stoppedOf, frontOf, listIn, ListOlder, ListNext, ShowsAll, Finishes}
 use Rattle.evaluator.specs.Evaluation.{Tabled, ReadsAll, Reads, evalIn, evalsIn, ListFits, Evaluates, Fields, Lists, News}
@@ -39,14 +38,14 @@ use Rattle.evaluator.proofs.Standing.{first-reads, others-read, also-en
 use Rattle.evaluator.proofs.Given.{going-on, halted, given, given-next, given-older}
 
 -- ---- a field: the expression at `at` was evaluated to o
-module _ (T W : List ℕ) (f : Frame) (tr : Trace) (at left d sp fuel k : ℕ) (W1 : List ℕ) (o : Out) (ev : Evaluates T W f tr at left d sp fuel W1 o) where
-  pub field-halt : (s : Stop) (fuel1 : ℕ) → o ≡ Halt s fuel1 → Fields T W f tr at left d sp fuel k W1 o
+module _ (T W : List ℕ) (f : Frame) (tr : List ℕ) (top at left d sp fuel k : ℕ) (W1 : List ℕ) (o : Out) (ev : Evaluates T W f tr top at left d sp fuel W1 o) where
+  pub field-halt : (s : Stop) (fuel1 : ℕ) → o ≡ Halt s fuel1 → Fields T W f tr top at left d sp fuel k W1 o
   unfolding eval
-  field-halt s fuel1 eo = subst (Fields T W f tr at left d sp fuel k W1) (sym eo) (record {
+  field-halt s fuel1 eo = subst (Fields T W f tr top at left d sp fuel k W1) (sym eo) (record {
     kept = ev .kept;
     older = tt;
     is = λ t e r. record {
-      is = going-on (stopped (stopOf s) fuel1) (evalIn d t (frameIn W f) (traceIn W tr) e fuel) (λ v n′. orStuck (select k v) n′) (halted T W f tr at left d sp fuel W1 o ev s fuel1 eo t e r);
+      is = going-on (stopped (stopOf s) fuel1) (evalIn d t (frameIn W f) (traceIn W tr top) e fuel) (λ v n′. orStuck (select k v) n′) (halted T W f tr top at left d sp fuel W1 o ev s fuel1 eo t e r);
       next = tt;
     };
   })
@@ -56,26 +55,26 @@ module _ (T W : List ℕ) (f : Frame) (tr : Trace) (at left d sp fuel k : ℕ) (
     kept-both = kept-then sp sp W W1 W2 (omega arith) (ev .kept) (kept-outside sp W1 W2 (ch .outside))
 
     chosen : (t : Table) (e : Expr) → Reads T left at t e → (y : Option Graph) → y ≡ select k (valueOf W1 v)
-        → orStuck y fuel1 ≡ evalIn d t (frameIn W f) (traceIn W tr) (field k e) fuel
+        → orStuck y fuel1 ≡ evalIn d t (frameIn W f) (traceIn W tr top) (field k e) fuel
     unfolding eval
     chosen t e r y q =
         ap (λ (z : Option Graph). orStuck z fuel1) q
-        ∙ going-on (value (valueOf W1 v) fuel1) (evalIn d t (frameIn W f) (traceIn W tr) e fuel) (λ u n′. orStuck (select k u) n′) (given T W f tr at left d sp fuel W1 o ev v at1 fuel1 eo t e r)
+        ∙ going-on (value (valueOf W1 v) fuel1) (evalIn d t (frameIn W f) (traceIn W tr top) e fuel) (λ u n′. orStuck (select k u) n′) (given T W f tr top at left d sp fuel W1 o ev v at1 fuel1 eo t e r)
 
-    pub field-none : x ≡ selected.Stuck → Fields T W f tr at left d sp fuel k W2 (Halt Stuck fuel1)
+    pub field-none : x ≡ selected.Stuck → Fields T W f tr top at left d sp fuel k W2 (Halt Stuck fuel1)
     field-none ex = record {
       kept = kept-both;
       older = tt;
       is = λ t e r. record { is = chosen t e r none (sym (ap (answerIn W2) ex) ∙ ch .is); next = tt };
     }
 
-    pub field-some : (r : ValueRef) → x ≡ selected.Value r → Fields T W f tr at left d sp fuel k W2 (Value r at1 fuel1)
+    pub field-some : (r : ValueRef) → x ≡ selected.Value r → Fields T W f tr top at left d sp fuel k W2 (Value r at1 fuel1)
     field-some u ex = record {
       kept = kept-both;
       older = record { held = subst (AnswerHeld W2) ex (ch .held); low = placed-low sp u (subst (AnswerPlace sp) ex (ch .place)) };
       is = λ t e r. record {
         is = chosen t e r (some (valueOf W2 u)) (sym (ap (answerIn W2) ex) ∙ ch .is);
-        next = given-next T W f tr at left d sp fuel W1 o ev v at1 fuel1 eo t e r;
+        next = given-next T W f tr top at left d sp fuel W1 o ev v at1 fuel1 eo t e r;
       };
     }
 
@@ -121,35 +120,35 @@ unfolding evals codesOf valuesFrom
 none-given W d t p os at fuel done c = record { is = refl; next = omega arith }
 none-given W d t p os at fuel (also e es) c = absurd (omega arith)
 
-module _ (T W : List ℕ) (f : Frame) (tr : Trace) (at left d sp fuel n : ℕ) where
-  pub list-zero : n ≡ 0 → Lists T W f tr at left d sp fuel n W (noValues at fuel)
-  list-zero z = subst (λ (m : ℕ). Lists T W f tr at left d sp fuel m W (noValues at fuel)) (sym z) (record {
+module _ (T W : List ℕ) (f : Frame) (tr : List ℕ) (top at left d sp fuel n : ℕ) where
+  pub list-zero : n ≡ 0 → Lists T W f tr top at left d sp fuel n W (noValues at fuel)
+  list-zero z = subst (λ (m : ℕ). Lists T W f tr top at left d sp fuel m W (noValues at fuel)) (sym z) (record {
     kept = kept-none sp W;
     older = record { full = omega arith; part = λ i h. absurd (omega arith) };
-    is = λ t es r c. none-given W d t (frameIn W f) (traceIn W tr) at fuel es c;
+    is = λ t es r c. none-given W d t (frameIn W f) (traceIn W tr top) at fuel es c;
   })
 
-  module _ (fit : ListFits W f tr left d sp n) (nz : n ≡ 0 → ⊥) (W1 : List ℕ) (o : Out) (ev : Evaluates T W f tr at left d sp fuel W1 o) where
-    pub list-halt : (s : Stop) (fuel1 : ℕ) (l : Listed) → o ≡ Halt s fuel1 → l ≡ stoppedOf o → Lists T W f tr at left d sp fuel n W1 l
-    list-halt s fuel1 l eo el = subst (Lists T W f tr at left d sp fuel n W1) (sym (el ∙ ap stoppedOf eo)) (record { kept = ev .kept; older = tt; is = go })
+  module _ (fit : ListFits W f tr top left d sp n) (nz : n ≡ 0 → ⊥) (W1 : List ℕ) (o : Out) (ev : Evaluates T W f tr top at left d sp fuel W1 o) where
+    pub list-halt : (s : Stop) (fuel1 : ℕ) (l : Listed) → o ≡ Halt s fuel1 → l ≡ stoppedOf o → Lists T W f tr top at left d sp fuel n W1 l
+    list-halt s fuel1 l eo el = subst (Lists T W f tr top at left d sp fuel n W1) (sym (el ∙ ap stoppedOf eo)) (record { kept = ev .kept; older = tt; is = go })
       where
         go : (t : Table) (es : Exprs) → ReadsAll T left at t es → count es ≡ n
-            → ShowsAll W1 n (listed.Halt s fuel1) (at + length (codesOf es)) (evalsIn d t (frameIn W f) (traceIn W tr) es fuel)
+            → ShowsAll W1 n (listed.Halt s fuel1) (at + length (codesOf es)) (evalsIn d t (frameIn W f) (traceIn W tr top) es fuel)
         go t done r c = absurd (nz (sym c))
         go t (also e es) r c = record {
-          is = first-stops d t (frameIn W f) (traceIn W tr) e es fuel (stopOf s) fuel1 (halted T W f tr at left d sp fuel W1 o ev s fuel1 eo t e (first-reads T left at t e es r));
+          is = first-stops d t (frameIn W f) (traceIn W tr top) e es fuel (stopOf s) fuel1 (halted T W f tr top at left d sp fuel W1 o ev s fuel1 eo t e (first-reads T left at t e es r));
           next = tt;
         }
 
-    module _ (v : ValueRef) (at1 fuel1 : ℕ) (eo : o ≡ Value v at1 fuel1) (W2 : List ℕ) (l : Listed) (li : Lists T W1 f tr at1 left d (sp + 1) fuel1 (n - 1) W2 l) where
-      pub list-more : (x : Listed) → x ≡ frontOf v l → Lists T W f tr at left d sp fuel n W2 x
-      list-more x ex = subst (Lists T W f tr at left d sp fuel n W2) (sym ex) (record { kept = kept-both; older = older-all l (li .older); is = shows })
+    module _ (v : ValueRef) (at1 fuel1 : ℕ) (eo : o ≡ Value v at1 fuel1) (W2 : List ℕ) (l : Listed) (li : Lists T W1 f tr top at1 left d (sp + 1) fuel1 (n - 1) W2 l) where
+      pub list-more : (x : Listed) → x ≡ frontOf v l → Lists T W f tr top at left d sp fuel n W2 x
+      list-more x ex = subst (Lists T W f tr top at left d sp fuel n W2) (sym ex) (record { kept = kept-both; older = older-all l (li .older); is = shows })
         where
           kept-both : Kept sp W W2
           kept-both = kept-then sp (sp + 1) W W1 W2 (omega arith) (ev .kept) (li .kept)
 
           first-older : Older W1 (sp + 1) v
-          first-older = given-older T W f tr at left d sp fuel W1 o ev v at1 fuel1 eo
+          first-older = given-older T W f tr top at left d sp fuel W1 o ev v at1 fuel1 eo
 
           suc-n : suc (n - 1) ≡ n
           suc-n = omega (arith, nz)
@@ -178,18 +177,18 @@ module _ (T W : List ℕ) (f : Frame) (tr : Trace) (at left d sp fuel n : ℕ) w
           front-next (listed.Halt s k) p q h g = tt
 
           shows : (t : Table) (es : Exprs) → ReadsAll T left at t es → count es ≡ n
-              → ShowsAll W2 n (frontOf v l) (at + length (codesOf es)) (evalsIn d t (frameIn W f) (traceIn W tr) es fuel)
+              → ShowsAll W2 n (frontOf v l) (at + length (codesOf es)) (evalsIn d t (frameIn W f) (traceIn W tr top) es fuel)
           shows t done r c = absurd (nz (sym c))
           shows t (also e es) r c =
               let r1 = first-reads T left at t e es r in
-              let a1 = given-next T W f tr at left d sp fuel W1 o ev v at1 fuel1 eo t e r1 in
+              let a1 = given-next T W f tr top at left d sp fuel W1 o ev v at1 fuel1 eo t e r1 in
               let r2 = subst (λ (p : ℕ). ReadsAll T left p t es) (sym a1) (others-read T left at t e es r) in
               let z = li .is t es r2 (omega arith) in
               let ef = frame-same W W1 sp (ev .kept) f (fit .frame) in
-              let et = trace-same W W1 sp (ev .kept) tr (fit .trace) in
-              let same : evalsIn d t (frameIn W1 f) (traceIn W1 tr) es fuel1 ≡ evalsIn d t (frameIn W f) (traceIn W tr) es fuel1 = (λ i. evalsIn d t (ef i) (et i) es fuel1) in
+              let et = trace-same W W1 sp (ev .kept) tr top (fit .trace) in
+              let same : evalsIn d t (frameIn W1 f) (traceIn W1 tr top) es fuel1 ≡ evalsIn d t (frameIn W f) (traceIn W tr top) es fuel1 = (λ i. evalsIn d t (ef i) (et i) es fuel1) in
               record {
-                is = front-in l ∙ others-follow d t (frameIn W f) (traceIn W tr) e es fuel (valueOf W1 v) fuel1 (listIn W2 (n - 1) l) (given T W f tr at left d sp fuel W1 o ev v at1 fuel1 eo t e r1) (z .is ∙ same);
+                is = front-in l ∙ others-follow d t (frameIn W f) (traceIn W tr top) e es fuel (valueOf W1 v) fuel1 (listIn W2 (n - 1) l) (given T W f tr top at left d sp fuel W1 o ev v at1 fuel1 eo t e r1) (z .is ∙ same);
                 next = front-next l (at1 + length (codesOf es)) (at + length (codesOf (also e es))) (ap (λ (p : ℕ). p + length (codesOf es)) a1 ∙ also-end T left at t e es r) (z .next);
               }
 
@@ -200,36 +199,36 @@ unfolding eval
 new-by d t p os c es fuel b q =
     ap (λ (x : Bool). elim x as (λ _. Outcome Graph) [ true ↦ evalsIn d t p os es fuel then λ vs m. sized 32 (make c vs) m | false ↦ stopped language.stuck fuel ]) q
 
-module _ (T W : List ℕ) (f : Frame) (tr : Trace) (at left d sp fuel c n x : ℕ) (ex : x ≡ getD T (16 * c + 1) 0) where
+module _ (T W : List ℕ) (f : Frame) (tr : List ℕ) (top at left d sp fuel c n x : ℕ) (ex : x ≡ getD T (16 * c + 1) 0) where
   total : (t : Table) → Tabled T t → c ≤ length (t .classes) → x ≡ length (fieldsOf (t .classes) c)
   total t tb h =
       ex ∙ ap (λ (B : List ℕ). getD B (16 * c + 1) 0) (tb .bytes) ∙ total-at t c (let l = tb .ready .formed .classes in omega arith)
 
-  pub new-other : (x ≡ n → ⊥) → News T W f tr at left d sp fuel c n W (Halt Stuck fuel)
+  pub new-other : (x ≡ n → ⊥) → News T W f tr top at left d sp fuel c n W (Halt Stuck fuel)
   new-other h = record {
     kept = kept-none sp W;
     older = tt;
     is = λ t es r k l. record {
-      is = sym (new-by d t (frameIn W f) (traceIn W tr) c es fuel false (ne-eqb (length (fieldsOf (t .classes) c)) (count es) (λ z. h (total t (r .table) l ∙ z ∙ k))));
+      is = sym (new-by d t (frameIn W f) (traceIn W tr top) c es fuel false (ne-eqb (length (fieldsOf (t .classes) c)) (count es) (λ z. h (total t (r .table) l ∙ z ∙ k))));
       next = tt;
     };
   }
 
-  pub new-many : x ≡ n → 4 < n → News T W f tr at left d sp fuel c n W (Halt Stuck fuel)
+  pub new-many : x ≡ n → 4 < n → News T W f tr top at left d sp fuel c n W (Halt Stuck fuel)
   new-many h m = record {
     kept = kept-none sp W;
     older = tt;
     is = λ t es r k l. absurd (let b = r .table .ready .formed .fields c l in let z = total t (r .table) l in omega arith);
   }
 
-  pub new-is : x ≡ n → (W1 : List ℕ) (y : Listed) (W2 : List ℕ) (o : Out) → Lists T W f tr at left d sp fuel n W1 y → Finishes W1 c y n sp W2 o
-      → News T W f tr at left d sp fuel c n W2 o
+  pub new-is : x ≡ n → (W1 : List ℕ) (y : Listed) (W2 : List ℕ) (o : Out) → Lists T W f tr top at left d sp fuel n W1 y → Finishes W1 c y n sp W2 o
+      → News T W f tr top at left d sp fuel c n W2 o
   new-is h W1 y W2 o li fi = record {
     kept = kept-then sp sp W W1 W2 (omega arith) (li .kept) (fi .kept);
     older = fi .older;
     is = λ t es r k l. let z = li .is t es r k in record {
-      is = fi .is ∙ going-on (listIn W1 n y) (evalsIn d t (frameIn W f) (traceIn W tr) es fuel) (λ vs m. sized 32 (make c vs) m) (z .is)
-          ∙ sym (new-by d t (frameIn W f) (traceIn W tr) c es fuel true (eq-eqb (length (fieldsOf (t .classes) c)) (count es) (sym (total t (r .table) l) ∙ h ∙ sym k)));
+      is = fi .is ∙ going-on (listIn W1 n y) (evalsIn d t (frameIn W f) (traceIn W tr top) es fuel) (λ vs m. sized 32 (make c vs) m) (z .is)
+          ∙ sym (new-by d t (frameIn W f) (traceIn W tr top) c es fuel true (eq-eqb (length (fieldsOf (t .classes) c)) (count es) (sym (total t (r .table) l) ∙ h ∙ sym k)));
       next = fi .next (at + length (codesOf es)) (z .next);
     };
   }

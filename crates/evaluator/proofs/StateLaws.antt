@@ -1,5 +1,5 @@
--- Frames and traces: a parameter, one call more, calls compared.
-use Prim.Native.Nat.{ℕ, zero, suc, _+_, _-_, _≤_, _<_}
+-- Frames and traces: a parameter, calls compared.
+use Prim.Native.Nat.{ℕ, zero, suc, _+_, _-_, _*_, _≤_, _<_}
 use native.Mathlib.Omega.{arith}
 use native.Mathlib.Numerals.{sub-one, add-one}
 use mathlib.Core.Path.{_≡_, refl, sym, ap, ap₂, _∙_, subst}
@@ -7,7 +7,7 @@ use mathlib.Core.Bool.{Bool, true, false, not}
 use mathlib.Core.List.{List, [], _∷_, map}
 use mathlib.Core.Option.{Option, none, some}
 use lib.Dec.{eqb, ltb}
-use lib.ListN.{length, take, drop, set, getElem?, length-take, length-map, drop-of-length-le}
+use lib.ListN.{length, getD, take, drop, getElem?, length-take, length-map, drop-of-length-le}
 use lib.Seq.{drop-cons, getD-take, length-take-le}
 use borrow.Author.Tests.{lt-ltb, le-ltb, eq-eqb, ne-eqb, ltb-true, ltb-false, not-true, not-false}
 use Rattle.cofj.specs.Values.{Graph, eqGraph, eqGraphs}
@@ -20,11 +20,10 @@ use Rattle.values.specs.Layout.{valueOf, Holds}
 use Rattle.values.specs.Laying.{valuesFrom, PartsHeld}
 use Rattle.evaluator.specs.declared.state.Held.the-variants.{Is, Absent}
 use Rattle.evaluator.specs.declared.state.Frame.{Frame}
-use Rattle.evaluator.specs.declared.state.OpenCall.{OpenCall}
-use Rattle.evaluator.specs.declared.state.Trace.{Trace}
+use Rattle.evaluator.specs.declared.trace.OpenCall.{OpenCall}
 use Rattle.evaluator.specs.declared.met.Met.{Met}
 use Rattle.evaluator.specs.declared.met.Met.the-variants as met
-use Rattle.evaluator.specs.State.{slotAt, HeldOlder, heldIn, FrameHolds, frameIn, variableOf, callAt, callIn, CallHolds, CallsHold, traceTo, pushed, sameOf, metOf}
+use Rattle.evaluator.specs.State.{slotAt, HeldOlder, heldIn, FrameHolds, frameIn, variableOf, callAt, callIn, CallHolds, CallsHold, traceIn, sameOf, metOf}
 
 -- ---- parameters
 pub variable-none : (f : Frame) (k : ℕ) → f .n ≤ k → Absent ≡ variableOf f k
@@ -34,12 +33,6 @@ variable-none f k h = rw (le-ltb k (f .n) h)
 pub variable-is : (f : Frame) (k : ℕ) → k < f .n → Is (slotAt (f .args) k) ≡ variableOf f k
 unfolding variableOf
 variable-is f k h = rw (lt-ltb k (f .n) h)
-
--- ---- traces
-pub push-is : (t : Trace) (v : ValueRef) (m : ℕ) (ps : List Slot) (n : ℕ)
-    → _≡_ {A = Trace} (record { calls = set (t .calls) (t .n) (record { receiver = v; name = m; args = ps; n = n }); n = t .n + 1 }) (pushed t v m ps n)
-unfolding pushed
-push-is t v m ps n = refl
 
 -- ---- values from a place on
 module _ (W : List ℕ) (ps : List Slot) (i n : ℕ) where
@@ -118,30 +111,42 @@ lengths-differ (v ∷ vs) (w ∷ ws) h = go (eqGraph v w) (lengths-differ vs ws 
     go false e = refl
 
 -- ---- calls compared
-module _ (W : List ℕ) (c : OpenCall) (v : ValueRef) (m : ℕ) (ps : List Slot) (n : ℕ) where
-  pub call-name : (c .name ≡ m → ⊥) → false ≡ sameOf (callIn W 0 c) (valueOf W v) m (valuesFrom W ps 0 n)
-  unfolding sameOf
-  call-name h = rw (ne-eqb (c .name) m h)
+module _ (W C : List ℕ) (i : ℕ) (v : ValueRef) (m : ℕ) (ps : List Slot) (n : ℕ) where
+  pub call-name : (getD C (32 * i) 0 ≡ m → ⊥) → false ≡ sameOf (callIn W 0 (callAt C i)) (valueOf W v) m (valuesFrom W ps 0 n)
+  unfolding sameOf callAt
+  call-name h = rw (ne-eqb (getD C (32 * i) 0) m h)
 
-  module _ (en : c .name ≡ m) (r : Bool) (er : r ≡ eqGraph (valueOf W (c .receiver)) (valueOf W v)) where
-    pub call-receiver : not r ≡ true → false ≡ sameOf (callIn W 0 c) (valueOf W v) m (valuesFrom W ps 0 n)
+  name-is : getD C (32 * i) 0 ≡ m → callAt C i .name ≡ m
+  unfolding callAt
+  name-is e = e
+
+  module _ (en : getD C (32 * i) 0 ≡ m) (c : OpenCall) (ec : c ≡ callAt C i) (r : Bool) (er : r ≡ eqGraph (valueOf W (c .receiver)) (valueOf W v)) where
+    named : c .name ≡ m
+    named = ap (λ (x : OpenCall). x .name) ec ∙ name-is en
+
+    pub call-receiver : not r ≡ true → false ≡ sameOf (callIn W 0 (callAt C i)) (valueOf W v) m (valuesFrom W ps 0 n)
     unfolding sameOf
-    call-receiver z = rw (eq-eqb (c .name) m en, ← er, not-true r z)
+    call-receiver z = rw (← ec, eq-eqb (c .name) m named, ← er, not-true r z)
 
     module _ (z : not r ≡ false) where
-      pub call-count : CallHolds W c → PartsHeld W ps n → (c .n ≡ n → ⊥) → false ≡ sameOf (callIn W 0 c) (valueOf W v) m (valuesFrom W ps 0 n)
+      pub call-count : CallHolds W (callAt C i) → PartsHeld W ps n → (c .n ≡ n → ⊥) → false ≡ sameOf (callIn W 0 (callAt C i)) (valueOf W v) m (valuesFrom W ps 0 n)
       unfolding sameOf
-      call-count a b h =
+      call-count a0 b h =
+          let a : CallHolds W c = subst (CallHolds W) (sym ec) a0 in
           let q : length (valuesFrom W (c .args) 0 (c .n)) ≡ length (valuesFrom W ps 0 n) → ⊥ = λ e. h (sym (length-values W (c .args) (c .n) (a .args .full)) ∙ e ∙ length-values W ps n (b .full)) in
-          rw (eq-eqb (c .name) m en, ← er, not-false r z, lengths-differ (valuesFrom W (c .args) 0 (c .n)) (valuesFrom W ps 0 n) q)
+          rw (← ec, eq-eqb (c .name) m named, ← er, not-false r z, lengths-differ (valuesFrom W (c .args) 0 (c .n)) (valuesFrom W ps 0 n) q)
 
       pub call-args : (s : Bool) → c .n ≡ n → s ≡ eqGraphs (valuesFrom W (c .args) 0 n) (valuesFrom W ps 0 n)
-          → s ≡ sameOf (callIn W 0 c) (valueOf W v) m (valuesFrom W ps 0 n)
+          → s ≡ sameOf (callIn W 0 (callAt C i)) (valueOf W v) m (valuesFrom W ps 0 n)
       unfolding sameOf
-      call-args s e q = rw (eq-eqb (c .name) m en, ← er, not-false r z, e) q
+      call-args s e q = rw (← ec, eq-eqb (c .name) m named, ← er, not-false r z, e) q
 
-pub call-args-held : (W : List ℕ) (c : OpenCall) (n : ℕ) → CallHolds W c → c .n ≡ n → PartsHeld W (c .args) n
-call-args-held W c n h e = subst (PartsHeld W (c .args)) e (h .args)
+module _ (W C : List ℕ) (i : ℕ) (c : OpenCall) (ec : c ≡ callAt C i) (h : CallHolds W (callAt C i)) where
+  pub call-receiver-held : Holds W (c .receiver)
+  call-receiver-held = subst (λ (x : OpenCall). Holds W (x .receiver)) (sym ec) (h .receiver)
+
+  pub call-args-held : (n : ℕ) → c .n ≡ n → PartsHeld W (c .args) n
+  call-args-held n e = subst (PartsHeld W (c .args)) e (subst (λ (x : OpenCall). PartsHeld W (x .args) (x .n)) (sym ec) (h .args))
 
 -- ---- the trace searched, the newest call first
 pub by-tests : (o : language.OpenCall) (os : List language.OpenCall) (v : Graph) (m : ℕ) (vs : List Graph)
@@ -158,51 +163,51 @@ by-tests o os v m vs = go (eqb (o .name) m) (eqGraph (o .receiver) v) (eqGraphs 
     go true false c = refl
     go false b c = refl
 
-module _ (W : List ℕ) (cs : List OpenCall) (k : ℕ) (v : ValueRef) (m : ℕ) (ps : List Slot) (n : ℕ) where
-  pub open-end : k ≡ 0 → met.No ≡ metOf (openMark (traceTo W cs k) (valueOf W v) m (valuesFrom W ps 0 n))
-  unfolding traceTo openMark
+module _ (W tr : List ℕ) (k : ℕ) (v : ValueRef) (m : ℕ) (ps : List Slot) (n : ℕ) where
+  pub open-end : k ≡ 0 → met.No ≡ metOf (openMark (traceIn W tr k) (valueOf W v) m (valuesFrom W ps 0 n))
+  unfolding traceIn openMark
   open-end e = rw e
 
-  module _ (nz : k ≡ 0 → ⊥) (r : Bool) (er : r ≡ sameOf (callIn W 0 (callAt cs (k - 1))) (valueOf W v) m (valuesFrom W ps 0 n)) where
-    open-step : openMark (traceTo W cs k) (valueOf W v) m (valuesFrom W ps 0 n) ≡ pick r (some (k - 1)) (openMark (traceTo W cs (k - 1)) (valueOf W v) m (valuesFrom W ps 0 n))
-    unfolding traceTo sameOf
+  module _ (nz : k ≡ 0 → ⊥) (r : Bool) (er : r ≡ sameOf (callIn W 0 (callAt tr (k - 1))) (valueOf W v) m (valuesFrom W ps 0 n)) where
+    open-step : openMark (traceIn W tr k) (valueOf W v) m (valuesFrom W ps 0 n) ≡ pick r (some (k - 1)) (openMark (traceIn W tr (k - 1)) (valueOf W v) m (valuesFrom W ps 0 n))
+    unfolding traceIn sameOf
     open-step = go k nz r er
       where
-        go : (j : ℕ) → (j ≡ 0 → ⊥) → (s : Bool) → s ≡ sameOf (callIn W 0 (callAt cs (j - 1))) (valueOf W v) m (valuesFrom W ps 0 n)
-            → openMark (traceTo W cs j) (valueOf W v) m (valuesFrom W ps 0 n) ≡ pick s (some (j - 1)) (openMark (traceTo W cs (j - 1)) (valueOf W v) m (valuesFrom W ps 0 n))
+        go : (j : ℕ) → (j ≡ 0 → ⊥) → (s : Bool) → s ≡ sameOf (callIn W 0 (callAt tr (j - 1))) (valueOf W v) m (valuesFrom W ps 0 n)
+            → openMark (traceIn W tr j) (valueOf W v) m (valuesFrom W ps 0 n) ≡ pick s (some (j - 1)) (openMark (traceIn W tr (j - 1)) (valueOf W v) m (valuesFrom W ps 0 n))
         go zero z s e = absurd (z refl)
-        go (suc j) z s e0 = let e = rw sub-one at e0 in rw sub-one (by-tests (callIn W j (callAt cs j)) (traceTo W cs j) (valueOf W v) m (valuesFrom W ps 0 n) ∙ ap (λ (b : Bool). pick b (some j) (openMark (traceTo W cs j) (valueOf W v) m (valuesFrom W ps 0 n))) (sym e))
+        go (suc j) z s e0 = let e = rw sub-one at e0 in rw sub-one (by-tests (callIn W j (callAt tr j)) (traceIn W tr j) (valueOf W v) m (valuesFrom W ps 0 n) ∙ ap (λ (b : Bool). pick b (some j) (openMark (traceIn W tr j) (valueOf W v) m (valuesFrom W ps 0 n))) (sym e))
 
-    pub open-found : r ≡ true → met.Mark (k - 1) ≡ metOf (openMark (traceTo W cs k) (valueOf W v) m (valuesFrom W ps 0 n))
+    pub open-found : r ≡ true → met.Mark (k - 1) ≡ metOf (openMark (traceIn W tr k) (valueOf W v) m (valuesFrom W ps 0 n))
     open-found z = rw (open-step, z)
 
 -- ---- the loop through the open calls: the first j of k are left, and the others are not the call
-pub record Left (W : List ℕ) (cs : List OpenCall) (k : ℕ) (v : ValueRef) (m : ℕ) (ps : List Slot) (n j : ℕ) : Type 0 where
-  pub calls : CallsHold W cs j
-  pub same : openMark (traceTo W cs j) (valueOf W v) m (valuesFrom W ps 0 n) ≡ openMark (traceTo W cs k) (valueOf W v) m (valuesFrom W ps 0 n)
+pub record Left (W tr : List ℕ) (k : ℕ) (v : ValueRef) (m : ℕ) (ps : List Slot) (n j : ℕ) : Type 0 where
+  pub calls : CallsHold W tr j
+  pub same : openMark (traceIn W tr j) (valueOf W v) m (valuesFrom W ps 0 n) ≡ openMark (traceIn W tr k) (valueOf W v) m (valuesFrom W ps 0 n)
 
-module _ (W : List ℕ) (cs : List OpenCall) (k : ℕ) (v : ValueRef) (m : ℕ) (ps : List Slot) (n : ℕ) where
-  pub few-calls : CallsHold W cs k → k ≤ 16
-  few-calls h = let f = h .few in omega arith
+module _ (W tr : List ℕ) (k : ℕ) (v : ValueRef) (m : ℕ) (ps : List Slot) (n : ℕ) where
+  pub few-calls : CallsHold W tr k → k ≤ 16
+  few-calls h = h .few
 
-  pub left-all : CallsHold W cs k → Left W cs k v m ps n k
+  pub left-all : CallsHold W tr k → Left W tr k v m ps n k
   left-all h = record { calls = h; same = refl }
 
-  module _ (j : ℕ) (l : Left W cs k v m ps n j) where
-    pub left-none : j ≤ 0 → met.No ≡ metOf (openMark (traceTo W cs k) (valueOf W v) m (valuesFrom W ps 0 n))
-    left-none z = open-end W cs j v m ps n (omega arith) ∙ ap metOf (l .same)
+  module _ (j : ℕ) (l : Left W tr k v m ps n j) where
+    pub left-none : j ≤ 0 → met.No ≡ metOf (openMark (traceIn W tr k) (valueOf W v) m (valuesFrom W ps 0 n))
+    left-none z = open-end W tr j v m ps n (omega arith) ∙ ap metOf (l .same)
 
-    pub left-last : 0 < j → CallHolds W (callAt cs (j - 1))
+    pub left-last : 0 < j → CallHolds W (callAt tr (j - 1))
     left-last p = l .calls .call (j - 1) (omega arith)
 
-    module _ (p : 0 < j) (r : Bool) (er : r ≡ sameOf (callIn W 0 (callAt cs (j - 1))) (valueOf W v) m (valuesFrom W ps 0 n)) where
-      pub left-found : r ≡ true → met.Mark (j - 1) ≡ metOf (openMark (traceTo W cs k) (valueOf W v) m (valuesFrom W ps 0 n))
-      left-found z = open-found W cs j v m ps n (λ e. omega arith) r er z ∙ ap metOf (l .same)
+    module _ (p : 0 < j) (r : Bool) (er : r ≡ sameOf (callIn W 0 (callAt tr (j - 1))) (valueOf W v) m (valuesFrom W ps 0 n)) where
+      pub left-found : r ≡ true → met.Mark (j - 1) ≡ metOf (openMark (traceIn W tr k) (valueOf W v) m (valuesFrom W ps 0 n))
+      left-found z = open-found W tr j v m ps n (λ e. omega arith) r er z ∙ ap metOf (l .same)
 
-      pub left-more : r ≡ false → Left W cs k v m ps n (j - 1)
+      pub left-more : r ≡ false → Left W tr k v m ps n (j - 1)
       left-more z =
           let f = l .calls .few in
           record {
             calls = record { few = omega arith; call = λ i q. l .calls .call i (omega arith) };
-            same = sym (open-step W cs j v m ps n (λ e. omega arith) r er ∙ ap (λ (b : Bool). pick b (some (j - 1)) (openMark (traceTo W cs (j - 1)) (valueOf W v) m (valuesFrom W ps 0 n))) z) ∙ l .same;
+            same = sym (open-step W tr j v m ps n (λ e. omega arith) r er ∙ ap (λ (b : Bool). pick b (some (j - 1)) (openMark (traceIn W tr (j - 1)) (valueOf W v) m (valuesFrom W ps 0 n))) z) ∙ l .same;
           }

@@ -16,7 +16,6 @@ use Rattle.checker.specs.Ready.{Ready, Each, Nested}
 use Rattle.evaluator.specs.declared.Out.{Out}
 use Rattle.evaluator.specs.declared.parts.Listed.{Listed}
 use Rattle.evaluator.specs.declared.state.Frame.{Frame}
-use Rattle.evaluator.specs.declared.state.Trace.{Trace}
 use Rattle.evaluator.specs.State.{Kept, FrameHolds, TraceHolds, frameIn, traceIn}
 use Rattle.evaluator.specs.Answers.{OutOlder, ListOlder, Shows, ShowsAll}
 
@@ -51,44 +50,44 @@ evalsIn d t f os es n = language.evals 32 t (deeper d t) f os es n
 -- What evaluation asks: the frame and the trace stand for values below block sp, and there is room above. Up to 3 parts are pending a level
 -- while the next is evaluated, and 4 when a body is run, from the last level but one: 16 blocks a call. 274 is what main needs, and so no
 -- block from 273 on is touched.
-pub record Fits (W : List ℕ) (f : Frame) (tr : Trace) (left d sp : ℕ) : Type 0 where
+pub record Fits (W : List ℕ) (f : Frame) (tr : List ℕ) (top left d sp : ℕ) : Type 0 where
   pub frame : FrameHolds W sp f
-  pub trace : TraceHolds W sp tr
-  pub calls : tr .n + d ≤ 16
+  pub trace : TraceHolds W sp tr top
+  pub calls : top + d ≤ 16
   pub room : sp + 16 * d + 3 * left ≤ 274
   pub long : 65520 ≤ length W
 
 -- n expressions from block sp on
-pub record ListFits (W : List ℕ) (f : Frame) (tr : Trace) (left d sp n : ℕ) : Type 0 where
+pub record ListFits (W : List ℕ) (f : Frame) (tr : List ℕ) (top left d sp n : ℕ) : Type 0 where
   pub frame : FrameHolds W sp f
-  pub trace : TraceHolds W sp tr
-  pub calls : tr .n + d ≤ 16
+  pub trace : TraceHolds W sp tr top
+  pub calls : top + d ≤ 16
   pub few : n ≤ 4
   pub room : sp + n + 16 * d + 3 * left ≤ 275
   pub long : 65520 ≤ length W
 
 -- the expression at `at`, evaluated at block sp
-pub record Evaluates (T W : List ℕ) (f : Frame) (tr : Trace) (at left d sp fuel : ℕ) (W′ : List ℕ) (o : Out) : Type 0 where
+pub record Evaluates (T W : List ℕ) (f : Frame) (tr : List ℕ) (top at left d sp fuel : ℕ) (W′ : List ℕ) (o : Out) : Type 0 where
   pub kept : Kept sp W W′
   pub older : OutOlder W′ (sp + 1) o
-  pub is : (t : Table) (e : Expr) → Reads T left at t e → Shows W′ o (at + length (codeOf e)) (evalIn d t (frameIn W f) (traceIn W tr) e fuel)
+  pub is : (t : Table) (e : Expr) → Reads T left at t e → Shows W′ o (at + length (codeOf e)) (evalIn d t (frameIn W f) (traceIn W tr top) e fuel)
 
 -- field k of the expression at `at`
-pub record Fields (T W : List ℕ) (f : Frame) (tr : Trace) (at left d sp fuel k : ℕ) (W′ : List ℕ) (o : Out) : Type 0 where
+pub record Fields (T W : List ℕ) (f : Frame) (tr : List ℕ) (top at left d sp fuel k : ℕ) (W′ : List ℕ) (o : Out) : Type 0 where
   pub kept : Kept sp W W′
   pub older : OutOlder W′ (sp + 1) o
-  pub is : (t : Table) (e : Expr) → Reads T left at t e → Shows W′ o (at + length (codeOf e)) (evalIn d t (frameIn W f) (traceIn W tr) (field k e) fuel)
+  pub is : (t : Table) (e : Expr) → Reads T left at t e → Shows W′ o (at + length (codeOf e)) (evalIn d t (frameIn W f) (traceIn W tr top) (field k e) fuel)
 
 -- the n expressions at `at`, evaluated at the blocks from sp on
-pub record Lists (T W : List ℕ) (f : Frame) (tr : Trace) (at left d sp fuel n : ℕ) (W′ : List ℕ) (o : Listed) : Type 0 where
+pub record Lists (T W : List ℕ) (f : Frame) (tr : List ℕ) (top at left d sp fuel n : ℕ) (W′ : List ℕ) (o : Listed) : Type 0 where
   pub kept : Kept sp W W′
   pub older : ListOlder W′ (sp + n) n o
   pub is : (t : Table) (es : Exprs) → ReadsAll T left at t es → count es ≡ n
-      → ShowsAll W′ n o (at + length (codesOf es)) (evalsIn d t (frameIn W f) (traceIn W tr) es fuel)
+      → ShowsAll W′ n o (at + length (codesOf es)) (evalsIn d t (frameIn W f) (traceIn W tr top) es fuel)
 
 -- a new object of class c with the values of the n expressions at `at`
-pub record News (T W : List ℕ) (f : Frame) (tr : Trace) (at left d sp fuel c n : ℕ) (W′ : List ℕ) (o : Out) : Type 0 where
+pub record News (T W : List ℕ) (f : Frame) (tr : List ℕ) (top at left d sp fuel c n : ℕ) (W′ : List ℕ) (o : Out) : Type 0 where
   pub kept : Kept sp W W′
   pub older : OutOlder W′ (sp + 1) o
   pub is : (t : Table) (es : Exprs) → ReadsAll T left at t es → count es ≡ n → c ≤ length (t .classes)
-      → Shows W′ o (at + length (codesOf es)) (evalIn d t (frameIn W f) (traceIn W tr) (new c es) fuel)
+      → Shows W′ o (at + length (codesOf es)) (evalIn d t (frameIn W f) (traceIn W tr top) (new c es) fuel)

@@ -9,7 +9,6 @@ use Rattle.cofj.specs.Running as language
 use Rattle.evaluator.specs.declared.Out.{Out}
 use Rattle.evaluator.specs.declared.state.Held.the-variants.{Absent}
 use Rattle.evaluator.specs.declared.state.Frame.{Frame}
-use Rattle.evaluator.specs.declared.state.Trace.{Trace}
 use Rattle.evaluator.specs.Answers.{outIn, OutOlder}
 use Rattle.evaluator.specs.Evaluation.{Tabled}
 
@@ -17,10 +16,6 @@ pub record NoVariables (f : Frame) : Type 0 where
   pub this : f .this ≡ Absent
   pub res : f .res ≡ Absent
   pub count : f .n ≡ 0
-
-pub record NoCalls (tr : Trace) : Type 0 where
-  pub full : length (tr .calls) ≡ 16
-  pub count : tr .n ≡ 0
 
 -- the outcome of main, with the work bytes W′ after; its value, if it has one, lies in block 0
 pub record Runs (T W : List ℕ) (fuel : ℕ) (W′ : List ℕ) (o : Out) : Type 0 where

@@ -1,5 +1,6 @@
 // Running a call: its receiver, its arguments, then a side of its method, while the calls that may be opened fall.
 // The receiver lies in block sp or below and the arguments follow it; a side is run at block sp + 4, and its value is brought down to sp.
+// Only a left side is run under another trace, which has its call on top; that one is lent in turn.
 use crate::Out;
 use crate::Stop;
 use crate::bring::bring;
@@ -13,8 +14,8 @@ use crate::parts::halt;
 use crate::parts::slots;
 use crate::state::Frame;
 use crate::state::Held;
-use crate::state::Trace;
-use crate::state::push;
+use crate::trace::TRACE;
+use crate::trace::push;
 use classes::methods::Found;
 use classes::methods::left_place;
 use classes::methods::right_place;
@@ -31,7 +32,8 @@ pub fn eval_call(
     t: &[u8; SIZE],
     work: &mut [u8],
     f: Frame,
-    tr: Trace,
+    tr: &[u8; TRACE],
+    top: u8,
     at: usize,
     left: usize,
     d: usize,
@@ -40,13 +42,13 @@ pub fn eval_call(
     m: u8,
     n: u8,
 ) -> Out
-    requires { ⌜ Fits (now work) f tr (left + 1) d sp ⌝ }
-    ensures { λ o. ⌜ Calls (now (t .entry)) (now (work .entry)) f tr at left d sp fuel m n (now (work .exit)) o ⌝ }
+    requires { ⌜ Fits (now work) f (now tr) top (left + 1) d sp ⌝ }
+    ensures { λ o. ⌜ Calls (now (t .entry)) (now (work .entry)) f (now (tr .entry)) top at left d sp fuel m n (now (work .exit)) o ⌝ }
 {
     if left == 0 {
         return Out::Halt(Stop::Stuck, fuel);
     }
-    let o = eval(t, work, f, tr, at, left, d, sp, fuel);
+    let o = eval(t, work, f, tr, top, at, left, d, sp, fuel);
     let Out::Value {
         v,
         at: at1,
@@ -59,7 +61,7 @@ pub fn eval_call(
     let Found::At(i) = w else {
         return Out::Halt(Stop::Stuck, fuel1);
     };
-    eval_args(t, work, f, tr, at1, left, d, sp, fuel1, v, m, n, i)
+    eval_args(t, work, f, tr, top, at1, left, d, sp, fuel1, v, m, n, i)
 }
 
 // The n arguments at `at` of a call of method i, which has the name m, on v.
@@ -67,7 +69,8 @@ pub fn eval_args(
     t: &[u8; SIZE],
     work: &mut [u8],
     f: Frame,
-    tr: Trace,
+    tr: &[u8; TRACE],
+    top: u8,
     at: usize,
     left: usize,
     d: usize,
@@ -78,10 +81,10 @@ pub fn eval_args(
     n: u8,
     i: u8,
 ) -> Out
-    requires { ⌜ ArgsFit (now work) f tr left d sp v n ⌝ }
-    ensures { λ o. ⌜ CallsWith (now (t .entry)) (now (work .entry)) f tr at left d sp fuel v m n i (now (work .exit)) o ⌝ }
+    requires { ⌜ ArgsFit (now work) f (now tr) top left d sp v n ⌝ }
+    ensures { λ o. ⌜ CallsWith (now (t .entry)) (now (work .entry)) f (now (tr .entry)) top at left d sp fuel v m n i (now (work .exit)) o ⌝ }
 {
-    let l = eval_list(t, work, f, tr, at, left, d, sp + 1, fuel, n);
+    let l = eval_list(t, work, f, tr, top, at, left, d, sp + 1, fuel, n);
     let Listed::Values {
         a,
         b,
@@ -94,14 +97,15 @@ pub fn eval_args(
         return halt(l);
     };
     let ps = slots(a, b, c, e);
-    invoke(t, work, tr, v, ps, n, i, at1, d, sp, fuel1, m)
+    invoke(t, work, tr, top, v, ps, n, i, at1, d, sp, fuel1, m)
 }
 
 // Method i, which has the name m, called on v with the n arguments; `next` is the place after the call.
 pub fn invoke(
     t: &[u8; SIZE],
     work: &mut [u8],
-    tr: Trace,
+    tr: &[u8; TRACE],
+    top: u8,
     v: ValueRef,
     ps: [Slot; 4],
     n: u8,
@@ -112,8 +116,8 @@ pub fn invoke(
     fuel: u16,
     m: u8,
 ) -> Out
-    requires { ⌜ CallFits (now work) tr v ps n d sp ⌝ }
-    ensures { λ o. ⌜ Invokes (now (t .entry)) (now (work .entry)) tr v ps n i next d sp fuel m (now (work .exit)) o ⌝ }
+    requires { ⌜ CallFits (now work) (now tr) top v ps n d sp ⌝ }
+    ensures { λ o. ⌜ Invokes (now (t .entry)) (now (work .entry)) (now (tr .entry)) top v ps n i next d sp fuel m (now (work .exit)) o ⌝ }
 {
     if fuel == 0 {
         return Out::Halt(Stop::NoFuel, fuel);
@@ -121,11 +125,10 @@ pub fn invoke(
     if d == 0 {
         return Out::Halt(Stop::TooDeep, fuel - 1);
     }
-    let k = tr.n;
-    let x = open_call(work, tr, k, v, m, ps, n);
+    let x = open_call(work, tr, top, v, m, ps, n);
     match x {
-        Met::Mark(y) => run_right(t, work, tr, v, ps, n, i, next, d - 1, sp, fuel - 1, y),
-        Met::No => run_left(t, work, tr, v, ps, n, i, next, d - 1, sp, fuel - 1, m),
+        Met::Mark(y) => run_right(t, work, tr, top, v, ps, n, i, next, d - 1, sp, fuel - 1, y),
+        Met::No => run_left(t, work, tr, top, v, ps, n, i, next, d - 1, sp, fuel - 1, m),
     }
 }
 
@@ -133,7 +136,8 @@ pub fn invoke(
 pub fn run_right(
     t: &[u8; SIZE],
     work: &mut [u8],
-    tr: Trace,
+    tr: &[u8; TRACE],
+    top: u8,
     v: ValueRef,
     ps: [Slot; 4],
     n: u8,
@@ -144,8 +148,8 @@ pub fn run_right(
     fuel: u16,
     x: u8,
 ) -> Out
-    requires { ⌜ BodyFits (now work) tr v ps n d sp × (x < 63) ⌝ }
-    ensures { λ o. ⌜ RunsRight (now (t .entry)) (now (work .entry)) tr v ps n i next d sp fuel x (now (work .exit)) o ⌝ }
+    requires { ⌜ BodyFits (now work) (now tr) top v ps n d sp × (x < 63) ⌝ }
+    ensures { λ o. ⌜ RunsRight (now (t .entry)) (now (work .entry)) (now (tr .entry)) top v ps n i next d sp fuel x (now (work .exit)) o ⌝ }
 {
     let this = Held::Is(v);
     let mark = ValueRef::Mark(x);
@@ -157,7 +161,7 @@ pub fn run_right(
         n,
     };
     let at = right_place(t, i);
-    let o = eval(t, work, f, tr, at, 6, d, sp + 4, fuel);
+    let o = eval(t, work, f, tr, top, at, 6, d, sp + 4, fuel);
     let Out::Value {
         v: u,
         at: _,
@@ -178,7 +182,8 @@ pub fn run_right(
 pub fn run_left(
     t: &[u8; SIZE],
     work: &mut [u8],
-    tr: Trace,
+    tr: &[u8; TRACE],
+    top: u8,
     v: ValueRef,
     ps: [Slot; 4],
     n: u8,
@@ -189,8 +194,8 @@ pub fn run_left(
     fuel: u16,
     m: u8,
 ) -> Out
-    requires { ⌜ BodyFits (now work) tr v ps n d sp ⌝ }
-    ensures { λ o. ⌜ RunsLeft (now (t .entry)) (now (work .entry)) tr v ps n i next d sp fuel m (now (work .exit)) o ⌝ }
+    requires { ⌜ BodyFits (now work) (now tr) top v ps n d sp ⌝ }
+    ensures { λ o. ⌜ RunsLeft (now (t .entry)) (now (work .entry)) (now (tr .entry)) top v ps n i next d sp fuel m (now (work .exit)) o ⌝ }
 {
     let this = Held::Is(v);
     let f = Frame {
@@ -199,10 +204,10 @@ pub fn run_left(
         args: ps,
         n,
     };
-    let x = tr.n;
-    let tr1 = push(tr, v, m, ps, n);
+    let mut calls = [0u8; TRACE];
+    push(tr, top, v, m, ps, n, &mut calls);
     let at = left_place(t, i);
-    let o = eval(t, work, f, tr1, at, 6, d, sp + 4, fuel);
+    let o = eval(t, work, f, &calls, top + 1, at, 6, d, sp + 4, fuel);
     let Out::Value {
         v: u,
         at: _,
@@ -211,7 +216,7 @@ pub fn run_left(
     else {
         return o;
     };
-    let r = close(work, x, u, sp);
+    let r = close(work, top, u, sp);
     Out::Value {
         v: r,
         at: next,

@@ -1,5 +1,6 @@
 // Running an expression: it calls its list walk, which calls it back, while the nesting left falls.
 // An expression is evaluated at a block sp: blocks below sp stay, and its value is an older one or lies in block sp.
+// The trace is lent and stays as it is; its first `top` calls are open.
 use crate::Out;
 use crate::Stop;
 use crate::call::eval_call;
@@ -8,9 +9,9 @@ use crate::parts::finish;
 use crate::parts::front;
 use crate::parts::stopped;
 use crate::state::Frame;
-use crate::state::Trace;
 use crate::state::answer;
 use crate::state::variable;
+use crate::trace::TRACE;
 use checker::shape::Shape;
 use checker::shape::shape_at;
 use classes::chain::field_total;
@@ -26,19 +27,21 @@ pub fn eval(
     t: &[u8; SIZE],
     work: &mut [u8],
     f: Frame,
-    tr: Trace,
+    tr: &[u8; TRACE],
+    top: u8,
     at: usize,
     left: usize,
     d: usize,
     sp: usize,
     fuel: u16,
 ) -> Out
-    requires { ⌜ Fits (now work) f tr left d sp ⌝ }
-    ensures { λ o. ⌜ Evaluates (now (t .entry)) (now (work .entry)) f tr at left d sp fuel (now (work .exit)) o ⌝ }
+    requires { ⌜ Fits (now work) f (now tr) top left d sp ⌝ }
+    ensures { λ o. ⌜ Evaluates (now (t .entry)) (now (work .entry)) f (now (tr .entry)) top at left d sp fuel (now (work .exit)) o ⌝ }
 {
     if left == 0 {
         return Out::Halt(Stop::Stuck, fuel);
     }
+    let less = left - 1;
     let s = shape_at(t, at);
     match s {
         Shape::This { next } => {
@@ -50,9 +53,9 @@ pub fn eval(
             answer(h, next, fuel)
         }
         Shape::Parameter { k, next } => answer(variable(f, k), next, fuel),
-        Shape::Field { f: k, next } => eval_field(t, work, f, tr, next, left - 1, d, sp, fuel, k),
-        Shape::Call { m, n, next } => eval_call(t, work, f, tr, next, left - 1, d, sp, fuel, m, n),
-        Shape::New { c, n, next } => eval_new(t, work, f, tr, next, left - 1, d, sp, fuel, c, n),
+        Shape::Field { f: k, next } => eval_field(t, work, f, tr, top, next, less, d, sp, fuel, k),
+        Shape::Call { m, n, next } => eval_call(t, work, f, tr, top, next, less, d, sp, fuel, m, n),
+        Shape::New { c, n, next } => eval_new(t, work, f, tr, top, next, less, d, sp, fuel, c, n),
         Shape::Nothing => Out::Halt(Stop::Stuck, fuel),
     }
 }
@@ -62,7 +65,8 @@ pub fn eval_field(
     t: &[u8; SIZE],
     work: &mut [u8],
     f: Frame,
-    tr: Trace,
+    tr: &[u8; TRACE],
+    top: u8,
     at: usize,
     left: usize,
     d: usize,
@@ -70,10 +74,10 @@ pub fn eval_field(
     fuel: u16,
     k: u8,
 ) -> Out
-    requires { ⌜ Fits (now work) f tr (left + 1) d sp ⌝ }
-    ensures { λ o. ⌜ Fields (now (t .entry)) (now (work .entry)) f tr at left d sp fuel k (now (work .exit)) o ⌝ }
+    requires { ⌜ Fits (now work) f (now tr) top (left + 1) d sp ⌝ }
+    ensures { λ o. ⌜ Fields (now (t .entry)) (now (work .entry)) f (now (tr .entry)) top at left d sp fuel k (now (work .exit)) o ⌝ }
 {
-    let o = eval(t, work, f, tr, at, left, d, sp, fuel);
+    let o = eval(t, work, f, tr, top, at, left, d, sp, fuel);
     let Out::Value {
         v,
         at: at1,
@@ -98,7 +102,8 @@ pub fn eval_list(
     t: &[u8; SIZE],
     work: &mut [u8],
     f: Frame,
-    tr: Trace,
+    tr: &[u8; TRACE],
+    top: u8,
     at: usize,
     left: usize,
     d: usize,
@@ -106,8 +111,8 @@ pub fn eval_list(
     fuel: u16,
     n: u8,
 ) -> Listed
-    requires { ⌜ ListFits (now work) f tr left d sp n ⌝ }
-    ensures { λ o. ⌜ Lists (now (t .entry)) (now (work .entry)) f tr at left d sp fuel n (now (work .exit)) o ⌝ }
+    requires { ⌜ ListFits (now work) f (now tr) top left d sp n ⌝ }
+    ensures { λ o. ⌜ Lists (now (t .entry)) (now (work .entry)) f (now (tr .entry)) top at left d sp fuel n (now (work .exit)) o ⌝ }
 {
     if n == 0 {
         let none = ValueRef::Undetermined;
@@ -120,7 +125,7 @@ pub fn eval_list(
             fuel,
         };
     }
-    let o = eval(t, work, f, tr, at, left, d, sp, fuel);
+    let o = eval(t, work, f, tr, top, at, left, d, sp, fuel);
     let Out::Value {
         v,
         at: at1,
@@ -129,7 +134,7 @@ pub fn eval_list(
     else {
         return stopped(o);
     };
-    let l = eval_list(t, work, f, tr, at1, left, d, sp + 1, fuel1, n - 1);
+    let l = eval_list(t, work, f, tr, top, at1, left, d, sp + 1, fuel1, n - 1);
     front(v, l)
 }
 
@@ -138,7 +143,8 @@ pub fn eval_new(
     t: &[u8; SIZE],
     work: &mut [u8],
     f: Frame,
-    tr: Trace,
+    tr: &[u8; TRACE],
+    top: u8,
     at: usize,
     left: usize,
     d: usize,
@@ -147,8 +153,8 @@ pub fn eval_new(
     c: u8,
     n: u8,
 ) -> Out
-    requires { ⌜ Fits (now work) f tr (left + 1) d sp ⌝ }
-    ensures { λ o. ⌜ News (now (t .entry)) (now (work .entry)) f tr at left d sp fuel c n (now (work .exit)) o ⌝ }
+    requires { ⌜ Fits (now work) f (now tr) top (left + 1) d sp ⌝ }
+    ensures { λ o. ⌜ News (now (t .entry)) (now (work .entry)) f (now (tr .entry)) top at left d sp fuel c n (now (work .exit)) o ⌝ }
 {
     if field_total(t, c) != n {
         return Out::Halt(Stop::Stuck, fuel);
@@ -156,6 +162,6 @@ pub fn eval_new(
     if 4 < n {
         return Out::Halt(Stop::Stuck, fuel);
     }
-    let l = eval_list(t, work, f, tr, at, left, d, sp, fuel, n);
+    let l = eval_list(t, work, f, tr, top, at, left, d, sp, fuel, n);
     finish(work, c, l, n, sp)
 }

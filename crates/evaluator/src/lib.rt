@@ -1,7 +1,8 @@
 // Running a program from its class table's bytes, with values in blocks of the work buffer.
 // Not here: the table (classes), what is done with values (values), the report of a run.
-pub mod state; // frames and the trace of open calls
+pub mod state; // frames
 pub mod parts; // the values of a list of expressions
+pub mod trace; // the trace of open calls
 pub mod met; // a call met again
 pub mod find; // the method that a call names
 pub mod bring; // a value brought down to a block

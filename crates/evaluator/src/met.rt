@@ -1,7 +1,8 @@
 // A call met again: an open call with the same receiver, name and arguments, the newest first.
 // Not here: when two values are equal (values), what is done with a call that is met (call).
-use crate::state::OpenCall;
-use crate::state::Trace;
+use crate::trace::CALL;
+use crate::trace::TRACE;
+use crate::trace::call_at;
 use values::Slot;
 use values::ValueRef;
 use values::value::equal;
@@ -11,7 +12,7 @@ ghost use Rattle.cofj.specs.Values.{eqGraphs};
 ghost use Rattle.cofj.specs.Running.{openMark};
 ghost use Rattle.values.specs.Layout.{Holds, valueOf};
 ghost use Rattle.values.specs.Laying.{PartsHeld, valuesFrom};
-ghost use Rattle.evaluator.specs.State.{CallHolds, CallsHold, callIn, sameOf, traceTo, metOf};
+ghost use Rattle.evaluator.specs.State.{CallHolds, CallsHold, callAt, callIn, sameOf, traceIn, metOf};
 
 // The mark of the open call that was met, if one was.
 pub enum Met {
@@ -37,14 +38,23 @@ pub fn same_args(work: &[u8], a: [Slot; 4], b: [Slot; 4], i: u8, n: u8) -> bool
     same_args(work, a, b, i + 1, n)
 }
 
-// Whether an open call has this receiver, name and arguments.
-pub fn same_call(work: &[u8], c: OpenCall, v: ValueRef, m: u8, args: [Slot; 4], n: u8) -> bool
-    requires { ⌜ CallHolds (now work) c × Holds (now work) v × PartsHeld (now work) args n × (n ≤ 4) ⌝ }
-    ensures { λ r. ⌜ r ≡ sameOf (callIn (now (work .entry)) 0 c) (valueOf (now (work .entry)) v) m (valuesFrom (now (work .entry)) args 0 n) ⌝ }
+// Whether call i has this receiver, name and arguments. Most calls have another name, which is looked at before the call is read.
+pub fn same_call(
+    work: &[u8],
+    tr: &[u8; TRACE],
+    i: u8,
+    v: ValueRef,
+    m: u8,
+    args: [Slot; 4],
+    n: u8,
+) -> bool
+    requires { ⌜ (i < 16) × CallHolds (now work) (callAt (now tr) i) × Holds (now work) v × PartsHeld (now work) args n × (n ≤ 4) ⌝ }
+    ensures { λ r. ⌜ r ≡ sameOf (callIn (now (work .entry)) 0 (callAt (now (tr .entry)) i)) (valueOf (now (work .entry)) v) m (valuesFrom (now (work .entry)) args 0 n) ⌝ }
 {
-    if c.name != m {
+    if tr[CALL * (i as usize)] != m {
         return false;
     }
+    let c = call_at(tr, i);
     let r = c.receiver;
     if !equal(work, r, v) {
         return false;
@@ -57,15 +67,21 @@ pub fn same_call(work: &[u8], c: OpenCall, v: ValueRef, m: u8, args: [Slot; 4], 
 }
 
 // The mark of the newest of the first k open calls with this receiver, name and arguments.
-pub fn open_call(work: &[u8], t: Trace, k: u8, v: ValueRef, m: u8, args: [Slot; 4], n: u8) -> Met
-    requires { ⌜ CallsHold (now work) (t .calls) k × Holds (now work) v × PartsHeld (now work) args n × (n ≤ 4) ⌝ }
-    ensures { λ r. ⌜ r ≡ metOf (openMark (traceTo (now (work .entry)) (t .calls) k) (valueOf (now (work .entry)) v) m (valuesFrom (now (work .entry)) args 0 n)) ⌝ }
+pub fn open_call(
+    work: &[u8],
+    tr: &[u8; TRACE],
+    k: u8,
+    v: ValueRef,
+    m: u8,
+    args: [Slot; 4],
+    n: u8,
+) -> Met
+    requires { ⌜ CallsHold (now work) (now tr) k × Holds (now work) v × PartsHeld (now work) args n × (n ≤ 4) ⌝ }
+    ensures { λ r. ⌜ r ≡ metOf (openMark (traceIn (now (work .entry)) (now (tr .entry)) k) (valueOf (now (work .entry)) v) m (valuesFrom (now (work .entry)) args 0 n)) ⌝ }
 {
-    let cs = t.calls;
     let mut j: u8 = k;
     while 0 < j {
-        let c = cs[(j - 1) as usize];
-        if same_call(work, c, v, m, args, n) {
+        if same_call(work, tr, j - 1, v, m, args, n) {
             return Met::Mark(j - 1);
         }
         j -= 1;

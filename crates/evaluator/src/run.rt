@@ -4,15 +4,14 @@ use crate::Out;
 use crate::eval::eval;
 use crate::state::Frame;
 use crate::state::Held;
-use crate::state::OpenCall;
-use crate::state::Trace;
+use crate::trace::TRACE;
 use classes::places::MAIN;
 use classes::places::SIZE;
 use values::Slot;
 use values::ValueRef;
 ghost use Prim.Native.Nat.{ℕ, _≤_};
 ghost use lib.ListN.{length};
-ghost use Rattle.evaluator.specs.Main.{NoVariables, NoCalls, Runs};
+ghost use Rattle.evaluator.specs.Main.{NoVariables, Runs};
 
 // A frame without variables.
 pub fn no_variables() -> Frame
@@ -29,39 +28,11 @@ pub fn no_variables() -> Frame
     }
 }
 
-// A trace without calls.
-pub fn no_calls() -> Trace
-    ensures { λ t. ⌜ NoCalls t ⌝ }
-{
-    let s = Slot {
-        r: ValueRef::Undetermined,
-    };
-    let c = OpenCall {
-        receiver: ValueRef::Undetermined,
-        name: 0,
-        args: [s; 4],
-        n: 0,
-    };
-    Trace {
-        calls: [c; 16],
-        n: 0,
-    }
-}
-
 // The outcome of main with this fuel. The work buffer has room for 273 blocks.
 pub fn run(t: &[u8; SIZE], work: &mut [u8], fuel: u16) -> Out
     requires { ⌜ 65520 ≤ length (now work) ⌝ }
     ensures { λ o. ⌜ Runs (now (t .entry)) (now (work .entry)) fuel (now (work .exit)) o ⌝ }
 {
-    eval(
-        t,
-        work,
-        no_variables(),
-        no_calls(),
-        MAIN + 1,
-        6,
-        16,
-        0,
-        fuel,
-    )
+    let none = [0u8; TRACE];
+    eval(t, work, no_variables(), &none, 0, MAIN + 1, 6, 16, 0, fuel)
 }

@@ -1,11 +1,11 @@
-// Frames, and the trace of open left-side calls. Not here: which call is met again (met).
+// Frames: what the variables of a body hold. Not here: the trace of open calls (trace).
 use crate::Out;
 use crate::Stop;
 use values::Slot;
 use values::ValueRef;
 ghost use mathlib.Core.Path.{_≡_};
-ghost use Prim.Native.Nat.{ℕ, _+_, _<_, _≤_};
-ghost use Rattle.evaluator.specs.State.{variableOf, pushed};
+ghost use Prim.Native.Nat.{ℕ, _≤_};
+ghost use Rattle.evaluator.specs.State.{variableOf};
 ghost use Rattle.evaluator.specs.Answers.{outOf};
 
 // What a variable holds, if anything.
@@ -19,20 +19,6 @@ pub struct Frame {
     pub this: Held,
     pub res: Held,
     pub args: [Slot; 4],
-    pub n: u8,
-}
-
-// An open call: its receiver, its name and its first n arguments.
-pub struct OpenCall {
-    pub receiver: ValueRef,
-    pub name: u8,
-    pub args: [Slot; 4],
-    pub n: u8,
-}
-
-// The first n calls are open, the oldest first; the mark of a call is its number.
-pub struct Trace {
-    pub calls: [OpenCall; 16],
     pub n: u8,
 }
 
@@ -61,25 +47,5 @@ pub fn answer(h: Held, next: usize, fuel: u16) -> Out
         v: r,
         at: next,
         fuel,
-    }
-}
-
-// One call more is open.
-pub fn push(t: Trace, v: ValueRef, m: u8, args: [Slot; 4], n: u8) -> Trace
-    requires { ⌜ t .n < 16 ⌝ }
-    ensures { λ r. ⌜ r ≡ pushed t v m args n ⌝ }
-{
-    let c = OpenCall {
-        receiver: v,
-        name: m,
-        args,
-        n,
-    };
-    let k = t.n;
-    let mut cs = t.calls;
-    cs[k as usize] = c;
-    Trace {
-        calls: cs,
-        n: k + 1,
     }
 }

@@ -41,7 +41,7 @@ use Rattle.evaluator.proofs.parts.halt.Reads as halt-reads
 use Rattle.evaluator.proofs.parts.slots.Reads as slots-reads
 use Rattle.evaluator.proofs.parts.stopped.Reads as stopped-reads
 use Rattle.evaluator.proofs.state.answer.Reads as answer-reads
-use Rattle.evaluator.proofs.state.push.Reads as push-reads
+use Rattle.evaluator.proofs.trace.push.Reads as push-reads
 use Rattle.evaluator.proofs.state.variable.Reads as variable-reads
 use Rattle.values.proofs.value.close.Reads as close-reads
 use Rattle.values.proofs.value.select.Reads as select-reads
@@ -60,150 +60,150 @@ use Rattle.evaluator.proofs.CallLaws as calls
 use Rattle.evaluator.proofs.BodyLaws as bodies
 use Rattle.evaluator.proofs.FitLaws as fits
 
-abbrev μ-call·eval-args : Measures 2 call·eval-args-kinds.ps ℕ
-μ-call·eval-args κs a = (a .1 .1 .1 .1 .1 .1 .0) * 6000 + (a .1 .1 .1 .1 .1 .0) * 600 + 400
+abbrev μ-call·eval-args : Measures 3 call·eval-args-kinds.ps ℕ
+μ-call·eval-args κs a = (a .1 .1 .1 .1 .1 .1 .1 .0) * 6000 + (a .1 .1 .1 .1 .1 .1 .0) * 600 + 400
 
-abbrev μ-call·eval-call : Measures 2 call·eval-call-kinds.ps ℕ
-μ-call·eval-call κs a = (a .1 .1 .1 .1 .1 .1 .0) * 6000 + (a .1 .1 .1 .1 .1 .0) * 600 + 500
+abbrev μ-call·eval-call : Measures 3 call·eval-call-kinds.ps ℕ
+μ-call·eval-call κs a = (a .1 .1 .1 .1 .1 .1 .1 .0) * 6000 + (a .1 .1 .1 .1 .1 .1 .0) * 600 + 500
 
-abbrev μ-call·invoke : Measures 2 call·invoke-kinds.ps ℕ
-μ-call·invoke κs a = (a .1 .1 .1 .1 .1 .1 .1 .1 .0) * 6000 + 1
+abbrev μ-call·invoke : Measures 3 call·invoke-kinds.ps ℕ
+μ-call·invoke κs a = (a .1 .1 .1 .1 .1 .1 .1 .1 .1 .0) * 6000 + 1
 
-abbrev μ-call·run-left : Measures 2 call·run-left-kinds.ps ℕ
-μ-call·run-left κs a = (a .1 .1 .1 .1 .1 .1 .1 .1 .0) * 6000 + 5000
+abbrev μ-call·run-left : Measures 3 call·run-left-kinds.ps ℕ
+μ-call·run-left κs a = (a .1 .1 .1 .1 .1 .1 .1 .1 .1 .0) * 6000 + 5000
 
-abbrev μ-call·run-right : Measures 2 call·run-right-kinds.ps ℕ
-μ-call·run-right κs a = (a .1 .1 .1 .1 .1 .1 .1 .1 .0) * 6000 + 5000
+abbrev μ-call·run-right : Measures 3 call·run-right-kinds.ps ℕ
+μ-call·run-right κs a = (a .1 .1 .1 .1 .1 .1 .1 .1 .1 .0) * 6000 + 5000
 
-abbrev μ-eval·eval : Measures 2 eval·eval-kinds.ps ℕ
-μ-eval·eval κs a = (a .1 .1 .1 .1 .1 .1 .0) * 6000 + (a .1 .1 .1 .1 .1 .0) * 600
+abbrev μ-eval·eval : Measures 3 eval·eval-kinds.ps ℕ
+μ-eval·eval κs a = (a .1 .1 .1 .1 .1 .1 .1 .0) * 6000 + (a .1 .1 .1 .1 .1 .1 .0) * 600
 
-abbrev μ-eval·eval-field : Measures 2 eval·eval-field-kinds.ps ℕ
-μ-eval·eval-field κs a = (a .1 .1 .1 .1 .1 .1 .0) * 6000 + (a .1 .1 .1 .1 .1 .0) * 600 + 500
+abbrev μ-eval·eval-field : Measures 3 eval·eval-field-kinds.ps ℕ
+μ-eval·eval-field κs a = (a .1 .1 .1 .1 .1 .1 .1 .0) * 6000 + (a .1 .1 .1 .1 .1 .1 .0) * 600 + 500
 
-abbrev μ-eval·eval-list : Measures 2 eval·eval-list-kinds.ps ℕ
-μ-eval·eval-list κs a = (a .1 .1 .1 .1 .1 .1 .0) * 6000 + (a .1 .1 .1 .1 .1 .0) * 600 + 1 + (a .1 .1 .1 .1 .1 .1 .1 .1 .1 .0)
+abbrev μ-eval·eval-list : Measures 3 eval·eval-list-kinds.ps ℕ
+μ-eval·eval-list κs a = (a .1 .1 .1 .1 .1 .1 .1 .0) * 6000 + (a .1 .1 .1 .1 .1 .1 .0) * 600 + 1 + (a .1 .1 .1 .1 .1 .1 .1 .1 .1 .1 .0)
 
-abbrev μ-eval·eval-new : Measures 2 eval·eval-new-kinds.ps ℕ
-μ-eval·eval-new κs a = (a .1 .1 .1 .1 .1 .1 .0) * 6000 + (a .1 .1 .1 .1 .1 .0) * 600 + 500
+abbrev μ-eval·eval-new : Measures 3 eval·eval-new-kinds.ps ℕ
+μ-eval·eval-new κs a = (a .1 .1 .1 .1 .1 .1 .1 .0) * 6000 + (a .1 .1 .1 .1 .1 .1 .0) * 600 + 500
 
-abbrev call·eval-args-at : ℕ → In 2 call·eval-args-kinds.ps
+abbrev call·eval-args-at : ℕ → In 3 call·eval-args-kinds.ps
 call·eval-args-at t =
     and
-    2
+    3
     call·eval-args-kinds.ps
-    (is 2 call·eval-args-kinds.ps μ-call·eval-args t)
+    (is 3 call·eval-args-kinds.ps μ-call·eval-args t)
     call·eval-args.Pre
 
-abbrev call·eval-args-below : ℕ → In 2 call·eval-args-kinds.ps
+abbrev call·eval-args-below : ℕ → In 3 call·eval-args-kinds.ps
 call·eval-args-below t =
     and
-    2
+    3
     call·eval-args-kinds.ps
-    (falls 2 call·eval-args-kinds.ps _<_ μ-call·eval-args t)
+    (falls 3 call·eval-args-kinds.ps _<_ μ-call·eval-args t)
     call·eval-args.Pre
 
-abbrev call·eval-call-at : ℕ → In 2 call·eval-call-kinds.ps
+abbrev call·eval-call-at : ℕ → In 3 call·eval-call-kinds.ps
 call·eval-call-at t =
     and
-    2
+    3
     call·eval-call-kinds.ps
-    (is 2 call·eval-call-kinds.ps μ-call·eval-call t)
+    (is 3 call·eval-call-kinds.ps μ-call·eval-call t)
     call·eval-call.Pre
 
-abbrev call·eval-call-below : ℕ → In 2 call·eval-call-kinds.ps
+abbrev call·eval-call-below : ℕ → In 3 call·eval-call-kinds.ps
 call·eval-call-below t =
     and
-    2
+    3
     call·eval-call-kinds.ps
-    (falls 2 call·eval-call-kinds.ps _<_ μ-call·eval-call t)
+    (falls 3 call·eval-call-kinds.ps _<_ μ-call·eval-call t)
     call·eval-call.Pre
 
-abbrev call·invoke-at : ℕ → In 2 call·invoke-kinds.ps
+abbrev call·invoke-at : ℕ → In 3 call·invoke-kinds.ps
 call·invoke-at t =
-    and 2 call·invoke-kinds.ps (is 2 call·invoke-kinds.ps μ-call·invoke t) call·invoke.Pre
+    and 3 call·invoke-kinds.ps (is 3 call·invoke-kinds.ps μ-call·invoke t) call·invoke.Pre
 
-abbrev call·invoke-below : ℕ → In 2 call·invoke-kinds.ps
+abbrev call·invoke-below : ℕ → In 3 call·invoke-kinds.ps
 call·invoke-below t =
-    and 2 call·invoke-kinds.ps (falls 2 call·invoke-kinds.ps _<_ μ-call·invoke t) call·invoke.Pre
+    and 3 call·invoke-kinds.ps (falls 3 call·invoke-kinds.ps _<_ μ-call·invoke t) call·invoke.Pre
 
-abbrev call·run-left-at : ℕ → In 2 call·run-left-kinds.ps
+abbrev call·run-left-at : ℕ → In 3 call·run-left-kinds.ps
 call·run-left-at t =
-    and 2 call·run-left-kinds.ps (is 2 call·run-left-kinds.ps μ-call·run-left t) call·run-left.Pre
+    and 3 call·run-left-kinds.ps (is 3 call·run-left-kinds.ps μ-call·run-left t) call·run-left.Pre
 
-abbrev call·run-left-below : ℕ → In 2 call·run-left-kinds.ps
+abbrev call·run-left-below : ℕ → In 3 call·run-left-kinds.ps
 call·run-left-below t =
     and
-    2
+    3
     call·run-left-kinds.ps
-    (falls 2 call·run-left-kinds.ps _<_ μ-call·run-left t)
+    (falls 3 call·run-left-kinds.ps _<_ μ-call·run-left t)
     call·run-left.Pre
 
-abbrev call·run-right-at : ℕ → In 2 call·run-right-kinds.ps
+abbrev call·run-right-at : ℕ → In 3 call·run-right-kinds.ps
 call·run-right-at t =
     and
-    2
+    3
     call·run-right-kinds.ps
-    (is 2 call·run-right-kinds.ps μ-call·run-right t)
+    (is 3 call·run-right-kinds.ps μ-call·run-right t)
     call·run-right.Pre
 
-abbrev call·run-right-below : ℕ → In 2 call·run-right-kinds.ps
+abbrev call·run-right-below : ℕ → In 3 call·run-right-kinds.ps
 call·run-right-below t =
     and
-    2
+    3
     call·run-right-kinds.ps
-    (falls 2 call·run-right-kinds.ps _<_ μ-call·run-right t)
+    (falls 3 call·run-right-kinds.ps _<_ μ-call·run-right t)
     call·run-right.Pre
 
-abbrev eval·eval-at : ℕ → In 2 eval·eval-kinds.ps
-eval·eval-at t = and 2 eval·eval-kinds.ps (is 2 eval·eval-kinds.ps μ-eval·eval t) eval·eval.Pre
+abbrev eval·eval-at : ℕ → In 3 eval·eval-kinds.ps
+eval·eval-at t = and 3 eval·eval-kinds.ps (is 3 eval·eval-kinds.ps μ-eval·eval t) eval·eval.Pre
 
-abbrev eval·eval-below : ℕ → In 2 eval·eval-kinds.ps
+abbrev eval·eval-below : ℕ → In 3 eval·eval-kinds.ps
 eval·eval-below t =
-    and 2 eval·eval-kinds.ps (falls 2 eval·eval-kinds.ps _<_ μ-eval·eval t) eval·eval.Pre
+    and 3 eval·eval-kinds.ps (falls 3 eval·eval-kinds.ps _<_ μ-eval·eval t) eval·eval.Pre
 
-abbrev eval·eval-field-at : ℕ → In 2 eval·eval-field-kinds.ps
+abbrev eval·eval-field-at : ℕ → In 3 eval·eval-field-kinds.ps
 eval·eval-field-at t =
     and
-    2
+    3
     eval·eval-field-kinds.ps
-    (is 2 eval·eval-field-kinds.ps μ-eval·eval-field t)
+    (is 3 eval·eval-field-kinds.ps μ-eval·eval-field t)
     eval·eval-field.Pre
 
-abbrev eval·eval-field-below : ℕ → In 2 eval·eval-field-kinds.ps
+abbrev eval·eval-field-below : ℕ → In 3 eval·eval-field-kinds.ps
 eval·eval-field-below t =
     and
-    2
+    3
     eval·eval-field-kinds.ps
-    (falls 2 eval·eval-field-kinds.ps _<_ μ-eval·eval-field t)
+    (falls 3 eval·eval-field-kinds.ps _<_ μ-eval·eval-field t)
     eval·eval-field.Pre
 
-abbrev eval·eval-list-at : ℕ → In 2 eval·eval-list-kinds.ps
+abbrev eval·eval-list-at : ℕ → In 3 eval·eval-list-kinds.ps
 eval·eval-list-at t =
     and
-    2
+    3
     eval·eval-list-kinds.ps
-    (is 2 eval·eval-list-kinds.ps μ-eval·eval-list t)
+    (is 3 eval·eval-list-kinds.ps μ-eval·eval-list t)
     eval·eval-list.Pre
 
-abbrev eval·eval-list-below : ℕ → In 2 eval·eval-list-kinds.ps
+abbrev eval·eval-list-below : ℕ → In 3 eval·eval-list-kinds.ps
 eval·eval-list-below t =
     and
-    2
+    3
     eval·eval-list-kinds.ps
-    (falls 2 eval·eval-list-kinds.ps _<_ μ-eval·eval-list t)
+    (falls 3 eval·eval-list-kinds.ps _<_ μ-eval·eval-list t)
     eval·eval-list.Pre
 
-abbrev eval·eval-new-at : ℕ → In 2 eval·eval-new-kinds.ps
+abbrev eval·eval-new-at : ℕ → In 3 eval·eval-new-kinds.ps
 eval·eval-new-at t =
-    and 2 eval·eval-new-kinds.ps (is 2 eval·eval-new-kinds.ps μ-eval·eval-new t) eval·eval-new.Pre
+    and 3 eval·eval-new-kinds.ps (is 3 eval·eval-new-kinds.ps μ-eval·eval-new t) eval·eval-new.Pre
 
-abbrev eval·eval-new-below : ℕ → In 2 eval·eval-new-kinds.ps
+abbrev eval·eval-new-below : ℕ → In 3 eval·eval-new-kinds.ps
 eval·eval-new-below t =
     and
-    2
+    3
     eval·eval-new-kinds.ps
-    (falls 2 eval·eval-new-kinds.ps _<_ μ-eval·eval-new t)
+    (falls 3 eval·eval-new-kinds.ps _<_ μ-eval·eval-new t)
     eval·eval-new.Pre
 
 abbrev call·eval-args-claims : ℕ → call·eval-args-lts.Claims
@@ -240,7 +240,7 @@ call·eval-args-returns : (t : ℕ) → call·eval-args-lts.Need-returns (call·
 call·eval-args-returns t c = search calls.args-halt
 
 call·eval-args-invoke-requires : (t : ℕ) → call·eval-args-lts.Need-invoke-requires (call·eval-args-claims t) (call·eval-args-at t) call·eval-args.Post
-call·eval-args-invoke-requires t c κs = (search needs, search fits.call-fit)
+call·eval-args-invoke-requires t c κs = (search needs, fits.call-fit _ _ _ _ _ _ _ _ _ _ _ _ _ _ _ _ _ _ _ _ _ (c .before .before .before .before .before .before .before .before .before .before .pre .1) (c .before .before .before .before .before .before .before .eval-list .ensures) (c .before .before .before .l .given .1) (c .before .slots .ensures))
 
 call·eval-args-returns-2 : (t : ℕ) → call·eval-args-lts.Need-returns-2 (call·eval-args-claims t) (call·eval-args-at t) call·eval-args.Post
 call·eval-args-returns-2 t c = search calls.args-is
@@ -261,7 +261,7 @@ call·eval-call-returns-3 : (t : ℕ) → call·eval-call-lts.Need-returns-3 (ca
 call·eval-call-returns-3 t c = search calls.call-none
 
 call·eval-call-eval-args-requires : (t : ℕ) → call·eval-call-lts.Need-eval-args-requires (call·eval-call-claims t) (call·eval-call-at t) call·eval-call.Post
-call·eval-call-eval-args-requires t c κs = (search needs, fits.args-fit _ _ _ _ _ _ _ _ _ _ _ (c .before .before .before .before .before .before .before .before .before .before .before .eval .ensures) _ _ _ _ _ _ _ (c .before .before .before .before .before .before .before .before .before .before .before .before .before .before .before .pre .1) (c .before .before .before .before .before .before .before .before .before .before .before .before .before .if1 .left) (c .before .before .before .before .before .before .before .o .given .1) (c .before .before .before .before .find .ensures) (c .before .before .w .given .1))
+call·eval-call-eval-args-requires t c κs = (search needs, fits.args-fit _ _ _ _ _ _ _ _ _ _ _ _ (c .before .before .before .before .before .before .before .before .before .before .before .eval .ensures) _ _ _ _ _ _ _ (c .before .before .before .before .before .before .before .before .before .before .before .before .before .before .before .pre .1) (c .before .before .before .before .before .before .before .before .before .before .before .before .before .if1 .left) (c .before .before .before .before .before .before .before .o .given .1) (c .before .before .before .before .find .ensures) (c .before .before .w .given .1))
 
 call·eval-call-returns-4 : (t : ℕ) → call·eval-call-lts.Need-returns-4 (call·eval-call-claims t) (call·eval-call-at t) call·eval-call.Post
 call·eval-call-returns-4 t c = search calls.call-is
@@ -288,7 +288,7 @@ call·invoke-returns-4 : (t : ℕ) → call·invoke-lts.Need-returns-4 (call·in
 call·invoke-returns-4 t c = search calls.invoke-left
 
 call·run-left-push-requires : (t : ℕ) → call·run-left-lts.Need-push-requires (call·run-left-claims t) (call·run-left-at t) call·run-left.Post
-call·run-left-push-requires t c κs = search fits.push-room
+call·run-left-push-requires t c κs = (search needs, search fits.push-room, search fits.push-few, search fits.push-receiver, search fits.push-args)
 
 call·run-left-eval-requires : (t : ℕ) → call·run-left-lts.Need-eval-requires (call·run-left-claims t) (call·run-left-at t) call·run-left.Post
 call·run-left-eval-requires t c κs = (search needs, search fits.left-fit)
@@ -297,7 +297,7 @@ call·run-left-returns : (t : ℕ) → call·run-left-lts.Need-returns (call·ru
 call·run-left-returns t c = search bodies.left-halt
 
 call·run-left-close-requires : (t : ℕ) → call·run-left-lts.Need-close-requires (call·run-left-claims t) (call·run-left-at t) call·run-left.Post
-call·run-left-close-requires t c κs = (search fits.after-held, search fits.mark-room, search fits.side-length)
+call·run-left-close-requires t c κs = (search fits.after-held, search fits.mark-room, fits.side-length _ _ _ _ _ _ _ _ (c .before .before .before .before .before .before .before .before .before .before .before .before .before .pre .1) _ _ _ _ _ _ _ _ _ (c .before .before .before .before .before .before .eval .ensures))
 
 call·run-left-returns-2 : (t : ℕ) → call·run-left-lts.Need-returns-2 (call·run-left-claims t) (call·run-left-at t) call·run-left.Post
 call·run-left-returns-2 t c = search bodies.left-value
@@ -375,7 +375,7 @@ eval·eval-list-returns-2 : (t : ℕ) → eval·eval-list-lts.Need-returns-2 (ev
 eval·eval-list-returns-2 t c = search parts.list-halt
 
 eval·eval-list-eval-list-requires : (t : ℕ) → eval·eval-list-lts.Need-eval-list-requires (eval·eval-list-claims t) (eval·eval-list-at t) eval·eval-list.Post
-eval·eval-list-eval-list-requires t c κs = (search needs, fits.list-later _ _ _ _ _ _ _ _ _ _ _ (c .before .before .before .before .before .before .eval .ensures) _ (c .before .before .before .before .before .before .before .before .before .before .pre .1) (c .before .before .before .before .before .before .before .before .if1 .left))
+eval·eval-list-eval-list-requires t c κs = (search needs, fits.list-later _ _ _ _ _ _ _ _ _ _ _ _ (c .before .before .before .before .before .before .eval .ensures) _ (c .before .before .before .before .before .before .before .before .before .before .pre .1) (c .before .before .before .before .before .before .before .before .if1 .left))
 
 eval·eval-list-returns-3 : (t : ℕ) → eval·eval-list-lts.Need-returns-3 (eval·eval-list-claims t) (eval·eval-list-at t) eval·eval-list.Post
 eval·eval-list-returns-3 t c = search parts.list-more
@@ -446,6 +446,7 @@ pub +call·eval-args+call·eval-call+call·invoke+call·run-left+call·run-right
     (call·run-left-push-requires t)
     (λ c κs. search needs)
     (λ c. search needs)
+    (λ c. search needs)
     (call·run-left-eval-requires t)
     (λ c. search needs)
     (λ c. search needs)
@@ -467,6 +468,7 @@ pub +call·eval-args+call·eval-call+call·invoke+call·run-left+call·run-right
     (call·run-right-returns-2 t))
     (λ t. eval·eval-lts.spec (eval·eval-claims t) (eval·eval-at t) eval·eval.Post
     (eval·eval-returns t)
+    (λ c. search needs)
     (λ c κs. search needs)
     (λ c. search needs)
     (λ c κs. search needs)
@@ -476,12 +478,9 @@ pub +call·eval-args+call·eval-call+call·invoke+call·run-left+call·run-right
     (eval·eval-variable-requires t)
     (λ c κs. search needs)
     (λ c. search needs)
-    (λ c. search needs)
     (eval·eval-eval-field-requires t)
     (λ c. search needs)
-    (λ c. search needs)
     (eval·eval-eval-call-requires t)
-    (λ c. search needs)
     (λ c. search needs)
     (eval·eval-eval-new-requires t)
     (λ c. search needs)

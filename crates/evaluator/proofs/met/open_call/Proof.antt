@@ -9,16 +9,16 @@ use Rattle.evaluator.proofs.StateLaws as laws
 use Rattle.evaluator.proofs.StateLaws.{Left}
 
 abbrev Inv-loop : tie.InvT-loop
-Inv-loop work k v m args n cs j₀ j = (j ≤ 16) × Left work cs k v m args n j
+Inv-loop work tr k v m args n j₀ j = (j ≤ 16) × Left work tr k v m args n j
 
 abbrev μ-loop : tie.MeasureT-loop
-μ-loop work k v m args n cs j₀ j = j
+μ-loop work tr k v m args n j₀ j = j
 
 loop-holds : tie.Need-loop-holds Inv-loop μ-loop
 loop-holds c = (search laws.few-calls, search laws.left-all)
 
 same-call-requires : tie.Need-same-call-requires Inv-loop μ-loop
-same-call-requires c κs = (search laws.left-last, search needs, search needs, search needs)
+same-call-requires c κs = (search needs, search laws.left-last, search needs, search needs, search needs)
 
 returns : tie.Need-returns Inv-loop μ-loop
 returns c = search laws.left-found
@@ -36,9 +36,6 @@ open-call-spec =
     Inv-loop
     μ-loop
     loop-holds
-    (λ c. search needs)
-    (λ c. search needs)
-    (λ c. search needs)
     (λ c. search needs)
     same-call-requires
     (λ c. search needs)

@@ -4,6 +4,7 @@ use Rattle.evaluator.proofs.met.same_call.Tie as tie
 use Rattle.evaluator.proofs.met.same_call.Reads as reads
 use Rattle.evaluator.proofs.met.same_call.Lts as lts
 use Rattle.evaluator.proofs.met.same_args.Reads as same-args-reads
+use Rattle.evaluator.proofs.trace.call_at.Reads as call-at-reads
 use Rattle.values.proofs.value.equal.Reads as equal-reads
 use Rattle.evaluator.proofs.StateLaws as laws
 
@@ -19,13 +20,22 @@ returns-3 c = search laws.call-count
 returns-4 : tie.Need-returns-4
 returns-4 c = search laws.call-args
 
+equal-requires : tie.Need-equal-requires
+equal-requires c κs = (search laws.call-receiver-held, search needs)
+
+same-args-requires : tie.Need-same-args-requires
+same-args-requires c κs = (search laws.call-args-held, search needs, search needs)
+
 pub same-call-spec : {M : Type 1} → statement M
 same-call-spec =
     tie.close
     (tie.spec
+    (λ c. search needs)
+    (λ c. search needs)
     returns
     (λ c κs. search needs)
+    equal-requires
     returns-2
     returns-3
-    (λ c κs. (search laws.call-args-held, search needs, search needs))
+    same-args-requires
     returns-4)

@@ -4,7 +4,6 @@ use Rattle.evaluator.proofs.run.run.Tie as tie
 use Rattle.evaluator.proofs.run.run.Reads as reads
 use Rattle.evaluator.proofs.run.run.Lts as lts
 use Rattle.evaluator.proofs.eval.eval.Reads as eval-reads
-use Rattle.evaluator.proofs.run.no_calls.Reads as no-calls-reads
 use Rattle.evaluator.proofs.run.no_variables.Reads as no-variables-reads
 use Rattle.evaluator.proofs.RunLaws as laws
 
@@ -18,7 +17,6 @@ pub run-spec : {M : Type 1} → statement M
 run-spec =
     tie.close
     (tie.spec
-    (λ c κs. search needs)
     (λ c κs. search needs)
     (λ c. search needs)
     eval-requires
