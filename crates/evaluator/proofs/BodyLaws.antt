@@ -31,12 +31,11 @@ use Rattle.evaluator.specs.declared.Out.the-variants.{Value, Halt}
 use Rattle.evaluator.specs.declared.state.Held.the-variants.{Is, Absent}
 use Rattle.evaluator.specs.declared.state.Frame.{Frame}
 use Rattle.evaluator.specs.State.{Kept, callAt, callIn, frameIn, traceIn, Pushed}
-use Rattle.evaluator.specs.Answers.{stopOf, Brought}
+use Rattle.evaluator.specs.Answers.{stopOf}
 use Rattle.evaluator.specs.Evaluation.{Tabled, Reads, evalIn, deeper, Evaluates}
 use Rattle.evaluator.specs.Calling.{BodyFits, RunsRight, RunsLeft}
 use Rattle.evaluator.proofs.Keeping.{kept-none, kept-then, kept-outside}
 use Rattle.evaluator.proofs.TraceLaws.{same-call}
-use Rattle.evaluator.proofs.LeafLaws.{placed-low}
 use Rattle.evaluator.proofs.Given.{going-on, halted, given}
 
 -- evaluation with room for d more calls is the language's
@@ -119,11 +118,11 @@ module _ (T W tr : List ℕ) (top : ℕ) (v : ValueRef) (ps : List Slot) (n i ne
     };
   })
 
-  pub right-value : (u : ValueRef) (at1 fuel1 : ℕ) (W2 : List ℕ) (r : ValueRef) → o ≡ Value u at1 fuel1 → Brought W1 u sp W2 r
+  pub right-value : (u : ValueRef) (at1 fuel1 : ℕ) (W2 : List ℕ) (r : ValueRef) → o ≡ Value u at1 fuel1 → Gives W1 sp W2 r (valueOf W1 u)
       → RunsRight T W tr top v ps n i next d sp fuel x W2 (Value r next fuel1)
   right-value u at1 fuel1 W2 r eo b = record {
-    kept = kept-then sp sp W W1 W2 (omega arith) kept-right (b .kept);
-    older = b .older;
+    kept = kept-then sp sp W W1 W2 (omega arith) kept-right (kept-outside sp W1 W2 (b .outside));
+    older = record { held = b .held; low = b .place };
     is = λ t k tb ek. record {
       is = ap (λ (g : Graph). value g fuel1) (b .is)
           ∙ given T W (rightFrame v x ps n) tr top at 6 d (sp + 4) fuel W1 o ev u at1 fuel1 eo t (k .right) (right-reads T t tb i k ek at ea) ∙ right-runs t (k .right);
@@ -163,7 +162,7 @@ module _ (T W tr : List ℕ) (top : ℕ) (v : ValueRef) (ps : List Slot) (n i ne
       → RunsLeft T W tr top v ps n i next d sp fuel m W2 (Value r next fuel1)
   left-value u at1 fuel1 W2 r eo g = record {
     kept = kept-then sp sp W W1 W2 (omega arith) kept-left (kept-outside sp W1 W2 (g .outside));
-    older = record { held = g .held; low = placed-low sp r (g .place) };
+    older = record { held = g .held; low = g .place };
     is = λ t k tb ek. record {
       is = ap (λ (w : Graph). value w fuel1) (g .is ∙ ap (λ (x : ℕ). close x (valueOf W1 u)) (sym (trace-length W tr top)))
           ∙ going-on (value (valueOf W1 u) fuel1) (evalTo 32 d t (frameOf (valueOf W v) none (valuesFrom W ps 0 n)) (opened (traceIn W tr top) (valueOf W v) m (valuesFrom W ps 0 n)) (k .left) fuel)

@@ -16,7 +16,7 @@ use Rattle.classes.specs.declared.methods.Found.the-variants as found
 use Rattle.values.specs.declared.ValueRef.{ValueRef}
 use Rattle.values.specs.declared.ValueRef.the-variants.{Mark}
 use Rattle.values.specs.declared.Slot.{Slot}
-use Rattle.values.specs.Layout.{valueOf, Holds}
+use Rattle.values.specs.Layout.{valueOf, Holds, Low}
 use Rattle.values.specs.Laying.{valuesFrom, PartsHeld}
 use Rattle.evaluator.specs.declared.Out.{Out}
 use Rattle.evaluator.specs.declared.Out.the-variants.{Value}
@@ -26,7 +26,7 @@ use Rattle.evaluator.specs.declared.met.Met.{Met}
 use Rattle.evaluator.specs.declared.met.Met.the-variants as met
 use Rattle.evaluator.specs.declared.state.Held.the-variants.{Is, Absent}
 use Rattle.evaluator.specs.declared.state.Frame.{Frame}
-use Rattle.evaluator.specs.State.{Low, slotAt, PartsLow, PartsOlder, callAt, CallOlder, CallsHold, callIn, sameOf, traceIn, Pushed, metOf}
+use Rattle.evaluator.specs.State.{slotAt, PartsLow, PartsOlder, callAt, CallOlder, CallsHold, callIn, sameOf, traceIn, Pushed, metOf}
 use Rattle.evaluator.specs.Answers.{slotsOf}
 use Rattle.evaluator.specs.Calling.{FewIf, ArgsFit, CallFits, BodyFits, FindsTarget}
 use Rattle.evaluator.specs.Evaluation.{Fits, ListFits, Evaluates, Lists}

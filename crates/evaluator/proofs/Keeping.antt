@@ -5,20 +5,20 @@ use mathlib.Core.Path.{_≡_, refl, sym, ap, ap₂, _∙_, subst}
 use mathlib.Core.List.{List, [], _∷_, map}
 use mathlib.Core.Option.{some}
 use lib.ListN.{length, take}
-use Rattle.cofj.specs.Values.{Graph, graph, obj, canon}
-use Rattle.cofj.specs.Unfolding.{Whole}
+use Rattle.cofj.specs.Values.{Graph}
 use Rattle.cofj.specs.Running as language
 use Rattle.values.specs.declared.ValueRef.{ValueRef}
 use Rattle.values.specs.declared.ValueRef.the-variants.{Object, Mark, Undetermined}
 use Rattle.values.specs.declared.Slot.{Slot}
-use Rattle.values.specs.Layout.{nodesIn, countIn, blockIn, Block, valueOf, Outside}
+use Rattle.values.specs.Layout.{valueOf, Outside, Beneath, Low}
 use Rattle.values.specs.Laying.{valuesFrom}
-use Rattle.values.proofs.Nodes.{nodes-same, packed-same}
+use Rattle.values.proofs.Kept as values
+use Rattle.values.proofs.Kept.{object-kept}
 use Rattle.evaluator.specs.declared.state.Held.{Held}
 use Rattle.evaluator.specs.declared.state.Held.the-variants.{Is, Absent}
 use Rattle.evaluator.specs.declared.state.Frame.{Frame}
 use Rattle.evaluator.specs.declared.trace.OpenCall.{OpenCall}
-use Rattle.evaluator.specs.State.{Kept, Older, Low, slotAt, PartsOlder, HeldOlder, heldIn, FrameHolds, frameIn, callAt, CallOlder, TraceHolds, callIn, traceIn}
+use Rattle.evaluator.specs.State.{Kept, Older, slotAt, PartsOlder, HeldOlder, heldIn, FrameHolds, frameIn, callAt, CallOlder, TraceHolds, callIn, traceIn}
 
 -- ---- changes, one after the other
 pub kept-none : (sp : ℕ) (W : List ℕ) → Kept sp W W
@@ -30,6 +30,9 @@ kept-then sp sp′ W W1 W2 l a b = record { same = b .same ∙ a .same; below = 
 pub kept-outside : (sp : ℕ) (W W′ : List ℕ) → Outside sp W W′ → Kept sp W W′
 kept-outside sp W W′ o = record { same = o .same; below = o .below }
 
+pub kept-beneath : (sp : ℕ) (W W′ : List ℕ) → Beneath sp W W′ → Kept sp W W′
+kept-beneath sp W W′ o = record { same = o .same; below = o .below }
+
 -- ---- values of a list of references
 values-map : (W W′ : List ℕ) (ps : List Slot) (n : ℕ) → ((i : ℕ) → i < n → valueOf W′ (slotAt ps i) ≡ valueOf W (slotAt ps i)) → n ≤ length ps
     → map (λ (s : Slot). valueOf W′ (s .r)) (take n ps) ≡ map (λ (s : Slot). valueOf W (s .r)) (take n ps)
@@ -39,38 +42,16 @@ values-map W W′ (p ∷ ps) (suc n) h l = ap₂ {A = Graph} {B = List Graph} {C
 
 module _ (W W′ : List ℕ) (sp : ℕ) (k : Kept sp W W′) where
   -- ---- one value
-  module _ (b : ℕ) (l : b < sp) (bk : Block W b) where
-    count-kept : countIn W′ b ≡ countIn W b
-    unfolding countIn
-    count-kept = k .below (240 * b + 192) (omega arith)
-
-    block-kept : blockIn W′ b ≡ blockIn W b
-    unfolding blockIn
-    block-kept =
-        let s = bk .small in
-        ap (λ (n : ℕ). graph (obj 0) (nodesIn W′ (240 * b) n)) count-kept
-        ∙ ap (graph (obj 0)) (nodes-same W′ W (countIn W b) (240 * b) (240 * b) (λ p h. k .below (240 * b + p) (omega arith)))
-
-    block-stays : Block W′ b
-    block-stays =
-        let s = bk .small in
-        record {
-          room = subst (λ (n : ℕ). 240 * b + 240 ≤ n) (sym (k .same)) (bk .room);
-          filled = subst (λ (n : ℕ). 1 ≤ n) (sym count-kept) (bk .filled);
-          small = subst (λ (n : ℕ). n ≤ 32) (sym count-kept) (bk .small);
-          packed = λ i h. let h′ = subst (λ (n : ℕ). i < n) count-kept h in
-              packed-same W′ W (240 * b + 6 * i) (240 * b + 6 * i) (λ j q. k .below (240 * b + 6 * i + j) (omega arith)) (bk .packed i h′);
-          whole = subst Whole (sym block-kept) (bk .whole);
-          own = subst (λ (g : Graph). canon g ≡ g) (sym block-kept) (bk .own);
-        }
+  object-stays : (b i : ℕ) → Older W sp (Object b i) → values.Kept W W′ (Object b i)
+  object-stays b i o = object-kept W W′ b (k .same) (λ p l m. k .below p (let q = o .low in omega arith)) i (o .held)
 
   pub value-kept : (r : ValueRef) → Older W sp r → valueOf W′ r ≡ valueOf W r
-  value-kept (Object b) o = block-kept b (o .low) (o .held .held)
+  value-kept (Object b i) o = object-stays b i o .is
   value-kept (Mark x) o = refl
   value-kept Undetermined o = refl
 
   pub older-kept : (r : ValueRef) → Older W sp r → Older W′ sp r
-  older-kept (Object b) o = record { held = record { held = block-stays b (o .low) (o .held .held) }; low = o .low }
+  older-kept (Object b i) o = record { held = object-stays b i o .held; low = o .low }
   older-kept (Mark x) o = record { held = record { held = o .held .held }; low = tt }
   older-kept Undetermined o = record { held = record { held = tt }; low = tt }
 
@@ -118,7 +99,7 @@ module _ (W W′ : List ℕ) (sp : ℕ) (k : Kept sp W W′) where
 -- ---- what lies below a block lies below the blocks above it
 module _ (W : List ℕ) (sp sp′ : ℕ) (l : sp ≤ sp′) where
   pub low-up : (r : ValueRef) → Low sp r → Low sp′ r
-  low-up (Object b) h = omega arith
+  low-up (Object b i) h = omega arith
   low-up (Mark x) h = tt
   low-up Undetermined h = tt
 

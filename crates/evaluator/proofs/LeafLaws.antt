@@ -20,8 +20,7 @@ use Rattle.values.specs.declared.Slot.{Slot}
 use Rattle.values.specs.declared.Made.{Made}
 use Rattle.values.specs.declared.Made.the-variants as made
 use Rattle.values.proofs.ValueRef as RefT
-use Rattle.values.specs.Layout.{countIn, blockIn, Block, HeldBy, valueOf, Holds}
-use Rattle.values.specs.Operations.{InBlock, Gives}
+use Rattle.values.specs.Layout.{valueOf}
 use Rattle.values.specs.Laying.{valuesFrom, PartsHeld, madeIn, MadeHeld, MadePlace, MadeIs}
 use Rattle.evaluator.specs.declared.Stop.{Stop}
 use Rattle.evaluator.specs.declared.Stop.the-variants.{Stuck, TooLarge}
@@ -31,15 +30,9 @@ use Rattle.evaluator.specs.declared.parts.Listed.{Listed}
 use Rattle.evaluator.specs.declared.parts.Listed.the-variants as listed
 use Rattle.evaluator.specs.declared.state.Held.{Held}
 use Rattle.evaluator.specs.declared.state.Held.the-variants.{Is, Absent}
-use Rattle.evaluator.specs.State.{Low, PartsOlder}
-use Rattle.evaluator.specs.Answers.{slotsOf, listIn, haltOf, stoppedOf, frontOf, outOf, ListOlder, ListNext, Brought, Finishes}
-use Rattle.evaluator.proofs.Keeping.{kept-none, kept-outside}
-
--- a value in block sp lies below the next
-pub placed-low : (sp : ℕ) (r : ValueRef) → InBlock sp r → Low (sp + 1) r
-placed-low sp (Object b) e = omega arith
-placed-low sp (Mark k) e = tt
-placed-low sp Undetermined e = tt
+use Rattle.evaluator.specs.State.{PartsOlder}
+use Rattle.evaluator.specs.Answers.{slotsOf, listIn, haltOf, stoppedOf, frontOf, outOf, ListOlder, ListNext, Finishes}
+use Rattle.evaluator.proofs.Keeping.{kept-none, kept-beneath}
 
 pub halt-values : (l : Listed) (a b c d : ValueRef) (at fuel : ℕ) → l ≡ listed.Values a b c d at fuel → Halt Stuck fuel ≡ haltOf l
 halt-values l a b c d at fuel e = rw e
@@ -62,33 +55,6 @@ answer-none h next fuel e = rw e
 
 pub answer-is : (h : Held) (r : ValueRef) (next fuel : ℕ) → h ≡ Is r → Value r next fuel ≡ outOf h next fuel
 answer-is h r next fuel e = rw e
-
--- ---- a value brought down
-object-in : (W : List ℕ) (r : ValueRef) (b : ℕ) → Holds W r → r ≡ Object b → Block W b
-object-in W r b h e = subst (HeldBy W) e (h .held)
-
-module _ (W : List ℕ) (r : ValueRef) (sp : ℕ) where
-  pub bring-none : OneOf (1 ∷ 2 ∷ []) (tagOf RefT.the-type r) → Holds W r → Brought W r sp W r
-  bring-none h w = record { kept = kept-none sp W; older = record { held = w; low = low r h }; is = refl }
-    where
-      low : (o : ValueRef) → OneOf (1 ∷ 2 ∷ []) (tagOf RefT.the-type o) → Low (sp + 1) o
-      low (Object b) z = ⊎-elim (λ e. absurd (eqb-false 0 1 refl e)) (λ e. absurd (eqb-false 0 2 refl e)) z
-      low (Mark k) z = tt
-      low Undetermined z = tt
-
-  module _ (b : ℕ) (w : Holds W r) (e : r ≡ Object b) where
-    pub bring-stay : b ≤ sp → Brought W r sp W (Object b)
-    bring-stay h = record { kept = kept-none sp W; older = record { held = record { held = object-in W r b w e }; low = omega arith }; is = ap (valueOf W) (sym e) }
-
-    pub bring-block : Block W b
-    bring-block = object-in W r b w e
-
-    pub bring-copy : (W′ : List ℕ) → Gives W sp W′ (Object sp) (blockIn W b) → Brought W r sp W′ (Object sp)
-    bring-copy W′ m = record {
-      kept = kept-outside sp W W′ (m .outside);
-      older = record { held = m .held; low = placed-low sp (Object sp) (m .place) };
-      is = m .is ∙ ap (valueOf W) (sym e);
-    }
 
 -- ---- a new object
 sized-none : (g : Graph) (fuel : ℕ) → cond (leb (length (g .nodes)) 32) (some g) none ≡ none → sized 32 g fuel ≡ stopped language.tooLarge fuel
@@ -129,7 +95,7 @@ module _ (W : List ℕ) (k : ℕ) (l : Listed) (n sp : ℕ) where
     module _ (ps : List Slot) (ep : ps ≡ slotsOf a b c d) (W′ : List ℕ) (o : Made) (m : MadeIs W (make k (valuesFrom W ps 0 n)) sp W′ o) where
       pub finish-large : o ≡ made.TooLarge → Finishes W k l n sp W′ (Halt TooLarge fuel)
       finish-large eo = record {
-        kept = kept-outside sp W W′ (m .outside);
+        kept = kept-beneath sp W W′ (m .beneath);
         older = tt;
         is = sym (then-is ∙ sized-none (make k (valuesFrom W ps 0 n)) fuel (sym (m .is) ∙ ap (madeIn W′) eo));
         next = λ p h. tt;
@@ -143,8 +109,8 @@ module _ (W : List ℕ) (k : ℕ) (l : Listed) (n sp : ℕ) where
           let g = make k (valuesFrom W ps 0 n) in
           let then-is : (listIn W n l then λ vs x. sized 32 (make k vs) x) ≡ sized 32 (make k (valuesFrom W ps 0 n)) fuel = rw (e, ep) in
           record {
-            kept = kept-outside sp W W′ (m .outside);
-            older = record { held = subst (MadeHeld W′) eo (m .held); low = placed-low sp v (subst (MadePlace sp) eo (m .place)) };
+            kept = kept-beneath sp W W′ (m .beneath);
+            older = record { held = subst (MadeHeld W′) eo (m .held); low = subst (MadePlace sp) eo (m .place) };
             is = sym (then-is ∙ sized-some (make k (valuesFrom W ps 0 n)) (valueOf W′ v) fuel (sym (m .is) ∙ ap (madeIn W′) eo));
             next = λ p h. subst (λ (x : Listed). ListNext x p) e h;
           }

@@ -20,7 +20,7 @@ use Rattle.values.specs.declared.ValueRef.the-variants.{Undetermined}
 use Rattle.values.specs.declared.Selected.{Selected}
 use Rattle.values.specs.declared.Selected.the-variants as selected
 use Rattle.values.specs.Layout.{valueOf}
-use Rattle.values.specs.Operations.{answerIn, AnswerHeld, AnswerPlace, Chosen}
+use Rattle.values.specs.Operations.{answerIn, AnswerHeld, AnswerLow, Chosen}
 use Rattle.values.specs.Laying.{valuesFrom}
 use Rattle.evaluator.specs.declared.Stop.{Stop}
 use Rattle.evaluator.specs.declared.Stop.the-variants.{Stuck}
@@ -33,7 +33,6 @@ use Rattle.evaluator.specs.State.{Older, slotAt, PartsOlder, Kept, frame
 use Rattle.evaluator.specs.Answers.{stopOf, slotsOf, stoppedOf, frontOf, listIn, ListOlder, ListNext, ShowsAll, Finishes}
 use Rattle.evaluator.specs.Evaluation.{Tabled, ReadsAll, Reads, evalIn, evalsIn, ListFits, Evaluates, Fields, Lists, News}
 use Rattle.evaluator.proofs.Keeping.{kept-none, kept-then, kept-outside, value-kept, older-kept, older-up, frame-same, trace-same}
-use Rattle.evaluator.proofs.LeafLaws.{placed-low}
 use Rattle.evaluator.proofs.Standing.{first-reads, others-read, also-end}
 use Rattle.evaluator.proofs.Given.{going-on, halted, given, given-next, given-older}
 
@@ -50,10 +49,7 @@ module _ (T W : List ℕ) (f : Frame) (tr : List ℕ) (top at left d sp fuel k :
     };
   })
 
-  module _ (v : ValueRef) (at1 fuel1 : ℕ) (eo : o ≡ Value v at1 fuel1) (x : Selected) (W2 : List ℕ) (ch : Chosen W1 (valueOf W1 v) k sp W2 x) where
-    kept-both : Kept sp W W2
-    kept-both = kept-then sp sp W W1 W2 (omega arith) (ev .kept) (kept-outside sp W1 W2 (ch .outside))
-
+  module _ (v : ValueRef) (at1 fuel1 : ℕ) (eo : o ≡ Value v at1 fuel1) (x : Selected) (ch : Chosen W1 v k x) where
     chosen : (t : Table) (e : Expr) → Reads T left at t e → (y : Option Graph) → y ≡ select k (valueOf W1 v)
         → orStuck y fuel1 ≡ evalIn d t (frameIn W f) (traceIn W tr top) (field k e) fuel
     unfolding eval
@@ -61,19 +57,19 @@ module _ (T W : List ℕ) (f : Frame) (tr : List ℕ) (top at left d sp fuel k :
         ap (λ (z : Option Graph). orStuck z fuel1) q
         ∙ going-on (value (valueOf W1 v) fuel1) (evalIn d t (frameIn W f) (traceIn W tr top) e fuel) (λ u n′. orStuck (select k u) n′) (given T W f tr top at left d sp fuel W1 o ev v at1 fuel1 eo t e r)
 
-    pub field-none : x ≡ selected.Stuck → Fields T W f tr top at left d sp fuel k W2 (Halt Stuck fuel1)
+    pub field-none : x ≡ selected.Stuck → Fields T W f tr top at left d sp fuel k W1 (Halt Stuck fuel1)
     field-none ex = record {
-      kept = kept-both;
+      kept = ev .kept;
       older = tt;
-      is = λ t e r. record { is = chosen t e r none (sym (ap (answerIn W2) ex) ∙ ch .is); next = tt };
+      is = λ t e r. record { is = chosen t e r none (sym (ap (answerIn W1) ex) ∙ ch .is); next = tt };
     }
 
-    pub field-some : (r : ValueRef) → x ≡ selected.Value r → Fields T W f tr top at left d sp fuel k W2 (Value r at1 fuel1)
+    pub field-some : (r : ValueRef) → x ≡ selected.Value r → Fields T W f tr top at left d sp fuel k W1 (Value r at1 fuel1)
     field-some u ex = record {
-      kept = kept-both;
-      older = record { held = subst (AnswerHeld W2) ex (ch .held); low = placed-low sp u (subst (AnswerPlace sp) ex (ch .place)) };
+      kept = ev .kept;
+      older = record { held = subst (AnswerHeld W1) ex (ch .held); low = subst (AnswerLow (sp + 1)) ex (ch .place (sp + 1) (given-older T W f tr top at left d sp fuel W1 o ev v at1 fuel1 eo .low)) };
       is = λ t e r. record {
-        is = chosen t e r (some (valueOf W2 u)) (sym (ap (answerIn W2) ex) ∙ ch .is);
+        is = chosen t e r (some (valueOf W1 u)) (sym (ap (answerIn W1) ex) ∙ ch .is);
         next = given-next T W f tr top at left d sp fuel W1 o ev v at1 fuel1 eo t e r;
       };
     }

@@ -44,8 +44,8 @@ module _ (W : List ℕ) (ps : List Slot) (i n : ℕ) where
   unfolding valuesFrom
   values-cons full h =
       let l : i < length (take n ps) = omega (arith, length-take-le n ps full) in
-      ap (map (λ (s : Slot). valueOf W (s .r))) (drop-cons (take n ps) i (record { r = ValueRef.Object 0 }) l)
-      ∙ ap₂ {A = Graph} {B = List Graph} {C = List Graph} _∷_ (ap (λ (s : Slot). valueOf W (s .r)) (getD-take n ps i (record { r = ValueRef.Object 0 }) h))
+      ap (map (λ (s : Slot). valueOf W (s .r))) (drop-cons (take n ps) i (record { r = ValueRef.Object 0 0 }) l)
+      ∙ ap₂ {A = Graph} {B = List Graph} {C = List Graph} _∷_ (ap (λ (s : Slot). valueOf W (s .r)) (getD-take n ps i (record { r = ValueRef.Object 0 0 }) h))
       (ap (λ (k : ℕ). map (λ (s : Slot). valueOf W (s .r)) (drop k (take n ps))) (sym (add-one i)))
 
 -- ---- what a parameter holds is the frame's

@@ -14,17 +14,20 @@ use Rattle.classes.specs.Machine.{Wide}
 use Rattle.values.specs.declared.ValueRef.{ValueRef}
 use Rattle.values.specs.declared.ValueRef.the-variants.{Object, Mark, Undetermined}
 use Rattle.values.specs.declared.Slot.{Slot}
-use Rattle.values.specs.Layout.{valueOf}
+use Rattle.values.specs.Layout.{valueOf, Low}
 use Rattle.values.specs.Laying.{valuesFrom}
 use Rattle.evaluator.specs.declared.trace.OpenCall.{OpenCall}
-use Rattle.evaluator.specs.State.{Low, Older, slotAt, PartsLow, PartsOlder, CallOlder, refFrom, refAt, slotsAt, callAt, callIn, Within, PutFour, PutRef, PutArgs, Copied, IsCall, Pushed}
+use Rattle.evaluator.specs.State.{Older, slotAt, PartsLow, PartsOlder, CallOlder, refFrom, refAt, slotsAt, callAt, callIn, Within, PutFour, PutRef, PutArgs, Copied, IsCall, Pushed}
 use Rattle.evaluator.specs.Answers.{slotsOf}
 
 -- ---- reading
 module _ (C : List ℕ) (at : ℕ) where
-  pub ref-object : (low high : ℕ) → getD C at 0 ≡ 0 → Wide (getD C (at + 1) 0) low → Wide (getD C (at + 2) 0) high → Object (low + 256 * high) ≡ refAt C at
+  pub ref-object : (low high : ℕ) → getD C at 0 ≡ 0 → Wide (getD C (at + 1) 0) low → Wide (getD C (at + 2) 0) high → Object (low + 256 * high) (getD C (at + 3) 0) ≡ refAt C at
   unfolding refAt refFrom
-  ref-object low high e a b = rw (eq-eqb (getD C at 0) 0 e) (λ i. Object (a .same i + 256 * b .same i))
+  ref-object low high e a b = rw (eq-eqb (getD C at 0) 0 e) (λ i. Object (a .same i + 256 * b .same i) (getD C (at + 3) 0))
+
+  pub block-fits : (low high : ℕ) → Wide (getD C (at + 1) 0) low → Wide (getD C (at + 2) 0) high → low + 256 * high < 65536
+  block-fits low high a b = omega (arith, a .small, b .small)
 
   module _ (no : getD C at 0 ≡ 0 → ⊥) where
     pub ref-mark : getD C at 0 ≡ 1 → Mark (getD C (at + 1) 0) ≡ refAt C at
@@ -47,7 +50,7 @@ call-is C i v ps ev ep = λ j. record { receiver = ev j; name = getD C (32 * i) 
 -- ---- the same bytes, the same references
 ref-same : (C C′ : List ℕ) (at at′ : ℕ) → ((p : ℕ) → p < 4 → getD C′ (at′ + p) 0 ≡ getD C (at + p) 0) → refAt C′ at′ ≡ refAt C at
 unfolding refAt
-ref-same C C′ at at′ h = λ i. refFrom (first i) (h 1 (omega arith) i) (h 2 (omega arith) i)
+ref-same C C′ at at′ h = λ i. refFrom (first i) (h 1 (omega arith) i) (h 2 (omega arith) i) (h 3 (omega arith) i)
   where
     first : getD C′ at′ 0 ≡ getD C at 0
     first = simp unary-clauses at (h 0 (omega arith))
@@ -126,13 +129,13 @@ module _ (C : List ℕ) (at a b c d : ℕ) (full : length C ≡ 512) (room : at 
       }
 
 module _ (C : List ℕ) (at : ℕ) (r : ValueRef) (C′ : List ℕ) where
-  pub put-object : (b : ℕ) → Low 65536 r → r ≡ Object b → PutFour C at 0 (b % 256) (b / 256 % 256) 0 C′ → PutRef C at r C′
-  put-object b low e p =
+  pub put-object : (b j : ℕ) → Low 65536 r → r ≡ Object b j → PutFour C at 0 (b % 256) (b / 256 % 256) j C′ → PutRef C at r C′
+  put-object b j low e p =
       let l : b < 65536 = subst (Low 65536) e low in
       let n : b % 256 + 256 * (b / 256 % 256) ≡ b = omega arith in
       record {
         within = p .within;
-        is = sym (ref-object C′ at (b % 256) (b / 256 % 256) (p .first) (record { same = sym (p .second); small = omega arith }) (record { same = sym (p .third); small = omega arith })) ∙ ap Object n ∙ sym e;
+        is = sym (ref-object C′ at (b % 256) (b / 256 % 256) (p .first) (record { same = sym (p .second); small = omega arith }) (record { same = sym (p .third); small = omega arith })) ∙ ap₂ Object n (p .fourth) ∙ sym e;
       }
 
   pub put-mark : (x : ℕ) → r ≡ Mark x → PutFour C at 1 x 0 0 C′ → PutRef C at r C′

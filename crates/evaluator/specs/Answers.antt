@@ -81,12 +81,6 @@ outOf (Is r) next fuel = Value r next fuel
 outOf Absent next fuel = Halt Stuck fuel
 
 -- ---- values put in block sp
--- the value of r, in block sp or below
-pub record Brought (W : List ℕ) (r : ValueRef) (sp : ℕ) (W′ : List ℕ) (o : ValueRef) : Type 0 where
-  pub kept : Kept sp W W′
-  pub older : Older W′ (sp + 1) o
-  pub is : valueOf W′ o ≡ valueOf W r
-
 -- a new object of class k with the values of a list
 pub record Finishes (W : List ℕ) (k : ℕ) (l : Listed) (n sp : ℕ) (W′ : List ℕ) (o : Out) : Type 0 where
   pub kept : Kept sp W W′

@@ -13,7 +13,7 @@ use Rattle.classes.specs.Machine.{pick}
 use Rattle.values.specs.declared.ValueRef.{ValueRef}
 use Rattle.values.specs.declared.ValueRef.the-variants.{Object, Mark, Undetermined}
 use Rattle.values.specs.declared.Slot.{Slot}
-use Rattle.values.specs.Layout.{valueOf, Holds}
+use Rattle.values.specs.Layout.{valueOf, Holds, Low}
 use Rattle.values.specs.Laying.{valuesFrom, PartsHeld}
 use Rattle.evaluator.specs.declared.state.Held.{Held}
 use Rattle.evaluator.specs.declared.state.Held.the-variants.{Is, Absent}
@@ -28,11 +28,6 @@ pub record Kept (sp : ℕ) (W W′ : List ℕ) : Type 0 where
   pub same : length W′ ≡ length W
   pub below : (p : ℕ) → p < 240 * sp → getD W′ p 0 ≡ getD W p 0
 
-abbrev pub Low : ℕ → ValueRef → Type 0
-Low sp (Object b) = b < sp
-Low sp (Mark k) = Unit {0}
-Low sp Undetermined = Unit {0}
-
 -- a reference stands for a value, which lies below block sp if it is an object
 pub record Older (W : List ℕ) (sp : ℕ) (r : ValueRef) : Type 0 where
   pub held : Holds W r
@@ -40,7 +35,7 @@ pub record Older (W : List ℕ) (sp : ℕ) (r : ValueRef) : Type 0 where
 
 -- the value at a place of an array
 abbrev pub slotAt : List Slot → ℕ → ValueRef
-slotAt ps i = getD ps i (record { r = Object 0 }) .r
+slotAt ps i = getD ps i (record { r = Object 0 0 }) .r
 
 -- the first n of an array lie below block sp, where they are objects
 pub record PartsLow (sp : ℕ) (ps : List Slot) (n : ℕ) : Type 0 where
@@ -73,12 +68,12 @@ unfoldable pub variableOf : Frame → ℕ → Held
 variableOf f k = pick (ltb k (f .n)) (Is (slotAt (f .args) k)) Absent
 
 -- ---- references and open calls in the bytes of a trace
--- the reference that three bytes stand for: an object's block, low byte first; a mark; undetermined
-unfoldable pub refFrom : ℕ → ℕ → ℕ → ValueRef
-refFrom kind low high = pick (eqb kind 0) (Object (low + 256 * high)) (pick (eqb kind 1) (Mark low) Undetermined)
+-- the reference that four bytes stand for: an object's block, low byte first, and its number there; a mark; undetermined
+unfoldable pub refFrom : ℕ → ℕ → ℕ → ℕ → ValueRef
+refFrom kind low high number = pick (eqb kind 0) (Object (low + 256 * high) number) (pick (eqb kind 1) (Mark low) Undetermined)
 
 unfoldable pub refAt : List ℕ → ℕ → ValueRef
-refAt C at = refFrom (getD C at 0) (getD C (at + 1) 0) (getD C (at + 2) 0)
+refAt C at = refFrom (getD C at 0) (getD C (at + 1) 0) (getD C (at + 2) 0) (getD C (at + 3) 0)
 
 -- four of them, four bytes each
 unfoldable pub slotsAt : List ℕ → ℕ → List Slot

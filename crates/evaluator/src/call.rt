@@ -3,7 +3,6 @@
 // Only a left side is run under another trace, which has its call on top; that one is lent in turn.
 use crate::Out;
 use crate::Stop;
-use crate::bring::bring;
 use crate::eval::eval;
 use crate::eval::eval_list;
 use crate::find::find;
@@ -22,6 +21,7 @@ use classes::methods::right_place;
 use classes::places::SIZE;
 use values::Slot;
 use values::ValueRef;
+use values::value::bring;
 use values::value::close;
 ghost use Prim.Native.Nat.{ℕ, _+_, _<_};
 ghost use Rattle.evaluator.specs.Evaluation.{Fits};
@@ -37,7 +37,7 @@ pub fn eval_call(
     at: usize,
     left: usize,
     d: usize,
-    sp: usize,
+    sp: u16,
     fuel: u16,
     m: u8,
     n: u8,
@@ -74,7 +74,7 @@ pub fn eval_args(
     at: usize,
     left: usize,
     d: usize,
-    sp: usize,
+    sp: u16,
     fuel: u16,
     v: ValueRef,
     m: u8,
@@ -112,7 +112,7 @@ pub fn invoke(
     i: u8,
     next: usize,
     d: usize,
-    sp: usize,
+    sp: u16,
     fuel: u16,
     m: u8,
 ) -> Out
@@ -144,7 +144,7 @@ pub fn run_right(
     i: u8,
     next: usize,
     d: usize,
-    sp: usize,
+    sp: u16,
     fuel: u16,
     x: u8,
 ) -> Out
@@ -190,7 +190,7 @@ pub fn run_left(
     i: u8,
     next: usize,
     d: usize,
-    sp: usize,
+    sp: u16,
     fuel: u16,
     m: u8,
 ) -> Out

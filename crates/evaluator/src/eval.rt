@@ -32,7 +32,7 @@ pub fn eval(
     at: usize,
     left: usize,
     d: usize,
-    sp: usize,
+    sp: u16,
     fuel: u16,
 ) -> Out
     requires { ⌜ Fits (now work) f (now tr) top left d sp ⌝ }
@@ -70,7 +70,7 @@ pub fn eval_field(
     at: usize,
     left: usize,
     d: usize,
-    sp: usize,
+    sp: u16,
     fuel: u16,
     k: u8,
 ) -> Out
@@ -86,7 +86,7 @@ pub fn eval_field(
     else {
         return o;
     };
-    let s = select(work, v, k, sp);
+    let s = select(work, v, k);
     let Selected::Value(r) = s else {
         return Out::Halt(Stop::Stuck, fuel1);
     };
@@ -107,7 +107,7 @@ pub fn eval_list(
     at: usize,
     left: usize,
     d: usize,
-    sp: usize,
+    sp: u16,
     fuel: u16,
     n: u8,
 ) -> Listed
@@ -148,7 +148,7 @@ pub fn eval_new(
     at: usize,
     left: usize,
     d: usize,
-    sp: usize,
+    sp: u16,
     fuel: u16,
     c: u8,
     n: u8,

@@ -12,10 +12,10 @@ pub fn find(t: &[u8; SIZE], work: &[u8], v: ValueRef, m: u8, n: u8) -> Found
     requires { ⌜ Holds (now work) v ⌝ }
     ensures { λ r. ⌜ FindsTarget (now (t .entry)) (now (work .entry)) v m n r ⌝ }
 {
-    let ValueRef::Object(b) = v else {
+    let ValueRef::Object(b, i) = v else {
         return Found::Nothing;
     };
-    let c = work[240 * b];
+    let c = work[240 * (b as usize) + 6 * (i as usize)];
     if CLASSES < c {
         return Found::Nothing;
     }

@@ -5,7 +5,6 @@ pub mod parts; // the values of a list of expressions
 pub mod trace; // the trace of open calls
 pub mod met; // a call met again
 pub mod find; // the method that a call names
-pub mod bring; // a value brought down to a block
 pub mod eval; // running an expression
 pub mod call; // running a call
 pub mod run; // running main

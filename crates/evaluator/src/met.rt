@@ -5,7 +5,7 @@ use crate::trace::TRACE;
 use crate::trace::call_at;
 use values::Slot;
 use values::ValueRef;
-use values::value::equal;
+use values::lockstep::equal;
 ghost use mathlib.Core.Path.{_≡_};
 ghost use Prim.Native.Nat.{ℕ, _+_, _<_, _≤_};
 ghost use Rattle.cofj.specs.Values.{eqGraphs};

@@ -87,7 +87,7 @@ pub fn front(v: ValueRef, l: Listed) -> Listed
 }
 
 // A new object of class k with the values of a list, in block sp.
-pub fn finish(work: &mut [u8], k: u8, l: Listed, n: u8, sp: usize) -> Out
+pub fn finish(work: &mut [u8], k: u8, l: Listed, n: u8, sp: u16) -> Out
     requires { ⌜ ListOlder (now work) (sp + n) n l × (n ≤ 4) × (240 * sp + 240 ≤ length (now work)) ⌝ }
     ensures { λ o. ⌜ Finishes (now (work .entry)) k l n sp (now (work .exit)) o ⌝ }
 {

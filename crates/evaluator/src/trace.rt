@@ -1,6 +1,6 @@
 // The trace of open left-side calls, in bytes that are lent: 32 bytes a call, the oldest first; the mark of a call is its number.
 // A call's bytes: 0 its name, 1 how many arguments it has, from 4 on its receiver, from 8 on four arguments. Byte 24 and those after are free.
-// A reference's bytes: 0 its kind, 1 and 2 its block, low byte first, or 1 its mark. Byte 3 is free.
+// A reference's bytes: 0 its kind, 1 and 2 its block, low byte first, 3 its object there; or 1 its mark.
 // Not here: which call is met again (met).
 use crate::parts::slots;
 use classes::places::wide;
@@ -9,7 +9,8 @@ use values::ValueRef;
 ghost use mathlib.Core.Path.{_≡_};
 ghost use Prim.Native.Nat.{ℕ, _+_, _<_, _≤_};
 ghost use lib.ListN.{length};
-ghost use Rattle.evaluator.specs.State.{Low, PartsLow, refAt, slotsAt, callAt, PutFour, PutRef, PutArgs, Copied, Pushed};
+ghost use Rattle.values.specs.Layout.{Low};
+ghost use Rattle.evaluator.specs.State.{PartsLow, refAt, slotsAt, callAt, PutFour, PutRef, PutArgs, Copied, Pushed};
 
 // all bytes of a trace: 16 calls
 pub const TRACE: usize = 512;
@@ -32,7 +33,8 @@ pub fn ref_at(tr: &[u8; TRACE], at: usize) -> ValueRef
 {
     let kind = tr[at];
     if kind == 0 {
-        return ValueRef::Object(wide(tr[at + 1]) + 256 * wide(tr[at + 2]));
+        let b = wide(tr[at + 1]) + 256 * wide(tr[at + 2]);
+        return ValueRef::Object(b as u16, tr[at + 3]);
     }
     if kind == 1 {
         return ValueRef::Mark(tr[at + 1]);
@@ -87,7 +89,7 @@ pub fn put_ref(tr: &mut [u8; TRACE], at: usize, r: ValueRef)
     ensures { λ _. ⌜ PutRef (now (tr .entry)) at r (now (tr .exit)) ⌝ }
 {
     match r {
-        ValueRef::Object(b) => put_four(tr, at, 0, (b % 256) as u8, (b / 256 % 256) as u8, 0),
+        ValueRef::Object(b, i) => put_four(tr, at, 0, (b % 256) as u8, (b / 256 % 256) as u8, i),
         ValueRef::Mark(x) => put_four(tr, at, 1, x, 0, 0),
         ValueRef::Undetermined => put_four(tr, at, 2, 0, 0, 0),
     }

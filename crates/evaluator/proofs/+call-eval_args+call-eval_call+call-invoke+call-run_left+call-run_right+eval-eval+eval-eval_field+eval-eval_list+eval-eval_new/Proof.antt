@@ -32,7 +32,6 @@ use Rattle.checker.proofs.shape.shape_at.Reads as shape-at-reads
 use Rattle.classes.proofs.chain.field_total.Reads as field-total-reads
 use Rattle.classes.proofs.methods.left_place.Reads as left-place-reads
 use Rattle.classes.proofs.methods.right_place.Reads as right-place-reads
-use Rattle.evaluator.proofs.bring.bring.Reads as bring-reads
 use Rattle.evaluator.proofs.find.find.Reads as find-reads
 use Rattle.evaluator.proofs.met.open_call.Reads as open-call-reads
 use Rattle.evaluator.proofs.parts.finish.Reads as finish-reads
@@ -44,6 +43,7 @@ use Rattle.evaluator.proofs.state.answer.Reads as answer-reads
 use Rattle.evaluator.proofs.trace.push.Reads as push-reads
 use Rattle.evaluator.proofs.state.variable.Reads as variable-reads
 use Rattle.values.proofs.value.close.Reads as close-reads
+use Rattle.values.proofs.value.bring.Reads as bring-reads
 use Rattle.values.proofs.value.select.Reads as select-reads
 use Rattle.evaluator.proofs.+call-eval_args+call-eval_call+call-invoke+call-run_left+call-run_right+eval-eval+eval-eval_field+eval-eval_list+eval-eval_new.{
   statement,
@@ -357,7 +357,7 @@ eval·eval-field-returns : (t : ℕ) → eval·eval-field-lts.Need-returns (eval
 eval·eval-field-returns t c = search parts.field-halt
 
 eval·eval-field-select-requires : (t : ℕ) → eval·eval-field-lts.Need-select-requires (eval·eval-field-claims t) (eval·eval-field-at t) eval·eval-field.Post
-eval·eval-field-select-requires t c κs = (search fits.after-held, search fits.after-room)
+eval·eval-field-select-requires t c κs = search fits.after-held
 
 eval·eval-field-returns-2 : (t : ℕ) → eval·eval-field-lts.Need-returns-2 (eval·eval-field-claims t) (eval·eval-field-at t) eval·eval-field.Post
 eval·eval-field-returns-2 t c = search parts.field-none

@@ -10,11 +10,8 @@ use Rattle.evaluator.proofs.FindLaws as laws
 returns : tie.Need-returns
 returns c = search laws.find-none
 
-mul-c : tie.Need-mul-c
-mul-c c = omega (arith, laws.object-room _ _ _ (c .before .before .before .before .pre) (c .before .v .given .1))
-
 shared-slice-read-c : tie.Need-shared-slice-read-c
-shared-slice-read-c c = omega (arith, laws.object-room _ _ _ (c .before .before .before .before .before .pre) (c .before .before .v .given .1))
+shared-slice-read-c c = omega (arith, laws.object-room _ _ _ _ (c .before .before .before .before .before .pre) (c .before .before .v .given .1))
 
 returns-2 : tie.Need-returns-2
 returns-2 c = search laws.find-past
@@ -31,7 +28,11 @@ find-spec =
     (tie.spec
     (λ c. search needs)
     returns
-    mul-c
+    (λ c. search needs)
+    (λ c. search needs)
+    (λ c. search needs)
+    (λ c. search needs)
+    (λ c. search needs)
     shared-slice-read-c
     returns-2
     returns-3

@@ -4,7 +4,7 @@ use borrow.Fn.PlainCycle.{Measures, is, falls, and}
 use Rattle.evaluator.proofs.met.same_args.Reads as same-args
 use Rattle.evaluator.proofs.met.same_args.Kinds as same-args-kinds
 use Rattle.evaluator.proofs.met.+same_args.Lts-same_args as same-args-lts
-use Rattle.values.proofs.value.equal.Reads as equal-reads
+use Rattle.values.proofs.lockstep.equal.Reads as equal-reads
 use Rattle.evaluator.proofs.met.+same_args.{statement}
 use Rattle.evaluator.proofs.met.+same_args.Tie.{close}
 use borrow.Author.Needs.{needs}

@@ -5,7 +5,7 @@ use Rattle.evaluator.proofs.met.same_call.Reads as reads
 use Rattle.evaluator.proofs.met.same_call.Lts as lts
 use Rattle.evaluator.proofs.met.same_args.Reads as same-args-reads
 use Rattle.evaluator.proofs.trace.call_at.Reads as call-at-reads
-use Rattle.values.proofs.value.equal.Reads as equal-reads
+use Rattle.values.proofs.lockstep.equal.Reads as equal-reads
 use Rattle.evaluator.proofs.StateLaws as laws
 
 returns : tie.Need-returns
