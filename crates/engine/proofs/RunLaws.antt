@@ -62,11 +62,11 @@ module _ (s : List ℕ) (k : ℕ) (B : List ℕ) (e : Into (readingOf s) k B) wh
       q ∙ ap (λ (C : List ℕ). verdictOf (checkOf C)) (t .bytes) ∙ verdict-on s (t .whole) (t .reads)
 
 -- ---- a table's bytes
-pub executes : (T W W′ : List ℕ) (fuel : ℕ) (R R′ : List ℕ) (o : Out) (a : public.Answer) → main.Runs T W fuel W′ o → Reports (outIn W′ o) R R′ a
-    → Executes T fuel R (length W) R′ (length W′) a
-executes T W W′ fuel R R′ o a r w = record {
-  same = r .same;
-  is = λ t h. subst (λ x. Reports x R R′ a) (r .is t h ∙ run-standard t fuel) w;
+pub executes : (T W W′ X : List ℕ) (fuel : ℕ) (R R′ : List ℕ) (o : Out) (a : public.Answer) → main.Runs T W fuel W′ o → Reports (outIn W′ o) R R′ a × (length X ≡ length W′)
+    → Executes T fuel R (length W) R′ (length X) a
+executes T W W′ X fuel R R′ o a r w = record {
+  same = w .1 ∙ r .same;
+  is = λ t h. subst (λ x. Reports x R R′ a) (r .is t h ∙ run-standard t fuel) (w .0);
 }
 
 reports-ended : (t : Table) (n : ℕ) (R R′ W : List ℕ) (a : public.Answer) → Reports (run t n) R R′ a → ran a R′ (cleared W) ≡ ended (run t n) R W

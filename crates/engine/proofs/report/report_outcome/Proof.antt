@@ -6,19 +6,20 @@ use Rattle.engine.proofs.report.report_outcome.Lts as lts
 use Rattle.engine.proofs.report.report_stop.Reads as report-stop-reads
 use Rattle.engine.proofs.session.open_session.Reads as open-session-reads
 use Rattle.values.proofs.report.report.Reads as report-reads
+use mathlib.Core.Path.{refl}
 use Rattle.engine.proofs.ReportLaws as laws
 
 report-requires : tie.Need-report-requires
 report-requires c κs = (search laws.value-held, search needs)
 
-cast-t13 : tie.Need-cast-t13
-cast-t13 c = search laws.value-length
+cast-t15 : tie.Need-cast-t15
+cast-t15 c = search laws.value-length
 
 returns : tie.Need-returns
-returns c = search laws.outcome-value
+returns c = (search laws.outcome-value, search needs)
 
 returns-2 : tie.Need-returns-2
-returns-2 c = search laws.outcome-halt
+returns-2 c = (search laws.outcome-halt, refl)
 
 pub report-outcome-spec : {M : Type 1} → statement M
 report-outcome-spec =
@@ -27,10 +28,11 @@ report-outcome-spec =
     (λ c. search needs)
     report-requires
     (λ c κs. search needs)
-    cast-t13
+    cast-t15
     (λ c. search needs)
     (λ c κs. search needs)
     (λ c κs. search needs)
+    (λ c. search needs)
     (λ c. search needs)
     returns
     (λ c. search needs)
