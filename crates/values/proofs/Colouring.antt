@@ -56,7 +56,9 @@ distinct-colours g w d =
 
 -- a value's objects do
 pub value-distinct : (v : Graph) → Whole v → canon v ≡ v → Distinct (v .nodes)
-value-distinct v w own = record { apart = λ i j h h′ e.
-    let cs = eqNats-true _ _ (canonical-distinct v w own) in
-    let at : (k : ℕ) → k < length (v .nodes) → colour v w k ≡ k = λ k l. ap (λ (s : List ℕ). colourOf s k) cs ∙ at-up 0 (length (v .nodes)) k l ∙ omega arith in
-    sym (at i h) ∙ colour-full v w i j h h′ e ∙ at j h′ }
+value-distinct v w own = record {
+  apart = λ i j h h′ e.
+      let cs = eqNats-true _ _ (canonical-distinct v w own) in
+      let at : (k : ℕ) → k < length (v .nodes) → colour v w k ≡ k = λ k l. ap (λ (s : List ℕ). colourOf s k) cs ∙ at-up 0 (length (v .nodes)) k l ∙ omega arith in
+      sym (at i h) ∙ colour-full v w i j h h′ e ∙ at j h′;
+}

@@ -86,25 +86,28 @@ module _ (W : List ℕ) (b dst n l p q : ℕ) (D : List ℕ) (bk : Block W b) (r
       above = λ k y. byte k (λ z. omega arith) (λ z. omega arith) ∙ cp .above k (omega (arith, few, top, c .count, c .size));
     };
   }
+
 -- ---- the block that holds the copy
 pub block-moves : (W W′ : List ℕ) (b d : ℕ) → countIn W′ d ≡ countIn W b → levelIn W′ d ≡ levelIn W b → ((k : ℕ) → k < 6 * countIn W b → getD W′ (240 * d + k) 0 ≡ getD W (240 * b + k) 0)
     → 240 * d + 240 ≤ length W′ → Block W b → (objectsIn W′ d ≡ objectsIn W b) × Block W′ d
 unfolding objectsIn
 block-moves W W′ b d en el here room bk =
-    let same : nodesIn W′ (240 * d) (countIn W′ d) ≡ nodesIn W (240 * b) (countIn W b) = ap (nodesIn W′ (240 * d)) en ∙ nodes-same W′ W (countIn W b) (240 * d) (240 * b) here in
-    (same, record {
-      room = room;
-      small = rw en (bk .small);
-      packed = λ i m.
-          let k : i < countIn W b = omega (arith, en) in
-          packed-same W′ W (240 * d + 6 * i) (240 * b + 6 * i) (λ f g.
-          let ea : 240 * d + 6 * i + f ≡ 240 * d + (6 * i + f) = omega arith in
-          let eb : 240 * b + 6 * i + f ≡ 240 * b + (6 * i + f) = omega arith in
-          rw (ea, eb) (here (6 * i + f) (omega arith))) (bk .packed i k);
-      whole = subst (λ (ns : List Node). Whole (graph undet ns)) (sym same) (bk .whole);
-      distinct = subst Distinct (sym same) (bk .distinct);
-      level = λ q h. rw (here q (omega (arith, en)), el) (bk .level q (omega (arith, en)));
-    })
+    let same : nodesIn W′ (240 * d) (countIn W′ d) ≡ nodesIn W (240 * b) (countIn W b) = ap (nodesIn W′ (240 * d)) en ∙ nodes-same W′ W (countIn W b) (240 * d) (240 * b) here in (
+      same,
+      record {
+        room = room;
+        small = rw en (bk .small);
+        packed = λ i m.
+            let k : i < countIn W b = omega (arith, en) in
+            packed-same W′ W (240 * d + 6 * i) (240 * b + 6 * i) (λ f g.
+            let ea : 240 * d + 6 * i + f ≡ 240 * d + (6 * i + f) = omega arith in
+            let eb : 240 * b + 6 * i + f ≡ 240 * b + (6 * i + f) = omega arith in
+            rw (ea, eb) (here (6 * i + f) (omega arith))) (bk .packed i k);
+        whole = subst (λ (ns : List Node). Whole (graph undet ns)) (sym same) (bk .whole);
+        distinct = subst Distinct (sym same) (bk .distinct);
+        level = λ q h. rw (here q (omega (arith, en)), el) (bk .level q (omega (arith, en)));
+      },
+    )
 
 -- ---- brought to a block
 module _ (W : List ℕ) (r : ValueRef) (dst : ℕ) (h : Holds W r) where

@@ -12,7 +12,7 @@ use borrow.Author.Tests.{eq-eqb, ne-eqb}
 use Rattle.cofj.specs.Values.{eqNats}
 use Rattle.cofj.proofs.Basics.{eqNats-true, true-both}
 use Rattle.values.specs.Layout.{part}
-use Rattle.values.specs.Tables.{Filled, Free, Lacks}
+use Rattle.values.specs.Tables.{Filled}
 
 pub eqNats-refl : (l : List ℕ) → eqNats l l ≡ true
 unfolding eqNats
@@ -80,20 +80,3 @@ filled-done F A p n f h = record { at = λ i l. f .at i (omega arith) }
 
 pub filled-zero : (A₀ A : List ℕ) (p m : ℕ) → Filled (λ _. 0) p A → p < m → length A ≡ length A₀ → m ≤ length A₀ → Filled (λ _. 0) (p + 1) (set A p 0)
 filled-zero A₀ A p m f h l k = filled-more (λ _. 0) A p 0 f (omega arith) refl
-
--- ---- a byte looked for
-pub free-none : (A : List ℕ) (i x : ℕ) → Free A i 0 x
-free-none A i x = record { none = λ q h. absurd (omega arith) }
-
-pub free-more : (A : List ℕ) (i k x : ℕ) → Free A i k x → ((getD A (i + k) 0 ≡ x) → ⊥) → Free A i (k + 1) x
-free-more A i k x f e = record { none = λ q h. go q h (ℕ-discrete q k) }
-  where
-    go : (q : ℕ) → q < k + 1 → Dec (q ≡ k) → getD A (i + q) 0 ≡ x → ⊥
-    go q h (yes z) y = e (ap (λ (p : ℕ). getD A (i + p) 0) (sym z) ∙ y)
-    go q h (no z) y = f .none q (omega (arith, z)) y
-
-pub lacks-not : (A : List ℕ) (i n x : ℕ) → Lacks A i n x true
-lacks-not A i n x = record { says = λ e. absurd (false≢true (sym e)) }
-
-pub lacks-all : (A : List ℕ) (i n k x : ℕ) → Free A i k x → n ≤ k → Lacks A i n x false
-lacks-all A i n k x f h = record { says = λ _. record { none = λ q l. f .none q (omega arith) } }

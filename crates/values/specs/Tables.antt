@@ -1,7 +1,7 @@
 -- Bytes that a function of their place gives, and objects copied with their codes turned.
 use Prim.Native.Nat.{ℕ, _+_, _*_, _%_, _≤_, _<_}
 use mathlib.Core.Path.{_≡_}
-use mathlib.Core.Bool.{Bool, false, cond}
+use mathlib.Core.Bool.{cond}
 use mathlib.Core.List.{List}
 use lib.Dec.{ltb, eqb}
 use lib.ListN.{length, getD}
@@ -9,13 +9,6 @@ use lib.ListN.{length, getD}
 -- the first n bytes are F 0, F 1, ..
 pub record Filled (F : ℕ → ℕ) (n : ℕ) (A : List ℕ) : Type 0 where
   pub at : (i : ℕ) → i < n → getD A i 0 ≡ F i
-
--- none of the n bytes from i on is x
-pub record Free (A : List ℕ) (i n x : ℕ) : Type 0 where
-  pub none : (q : ℕ) → q < n → getD A (i + q) 0 ≡ x → ⊥
-
-pub record Lacks (A : List ℕ) (i n x : ℕ) (r : Bool) : Type 0 where
-  pub says : r ≡ false → Free A i n x
 
 -- a code turned: an object by the table T, the code `hot` to object 0
 unfoldable pub turned : List ℕ → ℕ → ℕ → ℕ

@@ -4,7 +4,7 @@ ghost use Prim.Native.Nat.{ℕ, _+_, _*_, _<_, _≤_};
 ghost use lib.ListN.{length, getD};
 ghost use Rattle.cofj.specs.Values.{eqNats};
 ghost use Rattle.values.specs.Layout.{part};
-ghost use Rattle.values.specs.Tables.{Filled, Lacks};
+ghost use Rattle.values.specs.Tables.{Filled};
 
 // Whether the n bytes of a from i on are those of b from j on.
 pub fn same(a: &[u8], i: usize, b: &[u8], j: usize, n: usize) -> bool
@@ -19,21 +19,6 @@ pub fn same(a: &[u8], i: usize, b: &[u8], j: usize, n: usize) -> bool
         k += 1;
     }
     true
-}
-
-// Whether one of the n bytes from i on is x.
-pub fn has(a: &[u8], i: usize, n: usize, x: u8) -> bool
-    requires { ⌜ i + n ≤ length (now a) ⌝ }
-    ensures { λ r. ⌜ Lacks (now (a .entry)) i n x r ⌝ }
-{
-    let mut k: usize = 0;
-    while k < n {
-        if a[i + k] == x {
-            return true;
-        }
-        k += 1;
-    }
-    false
 }
 
 // The first n bytes of `from`, to `to`.
