@@ -23,7 +23,7 @@ use Rattle.evaluator.specs.declared.state.Frame.{Frame}
 use Rattle.evaluator.specs.declared.trace.OpenCall.{OpenCall}
 use Rattle.evaluator.specs.declared.met.Met.{Met}
 use Rattle.evaluator.specs.declared.met.Met.the-variants as met
-use Rattle.evaluator.specs.State.{slotAt, HeldOlder, heldIn, FrameHolds, frameIn, variableOf, callAt, callIn, CallHolds, CallsHold, traceIn, sameOf, metOf}
+use Rattle.evaluator.specs.State.{slotAt, HeldOlder, heldIn, FrameHolds, frameIn, variableOf, refAt, callAt, callIn, CallHolds, CallsHold, traceIn, sameOf, metOf}
 
 -- ---- parameters
 pub variable-none : (f : Frame) (k : ℕ) → f .n ≤ k → Absent ≡ variableOf f k
@@ -120,31 +120,39 @@ module _ (W C : List ℕ) (i : ℕ) (v : ValueRef) (m : ℕ) (ps : List Slot) (n
   unfolding callAt
   name-is e = e
 
-  module _ (en : getD C (32 * i) 0 ≡ m) (c : OpenCall) (ec : c ≡ callAt C i) (r : Bool) (er : r ≡ eqGraph (valueOf W (c .receiver)) (valueOf W v)) where
-    named : c .name ≡ m
-    named = ap (λ (x : OpenCall). x .name) ec ∙ name-is en
+  module _ (en : getD C (32 * i) 0 ≡ m) (u : ValueRef) (eu : u ≡ refAt C (32 * i + 4)) (r : Bool) (er : r ≡ eqGraph (valueOf W u) (valueOf W v)) where
+    compared : r ≡ eqGraph (valueOf W (callAt C i .receiver)) (valueOf W v)
+    unfolding callAt
+    compared = er ∙ ap (λ (x : ValueRef). eqGraph (valueOf W x) (valueOf W v)) eu
 
     pub call-receiver : not r ≡ true → false ≡ sameOf (callIn W 0 (callAt C i)) (valueOf W v) m (valuesFrom W ps 0 n)
     unfolding sameOf
-    call-receiver z = rw (← ec, eq-eqb (c .name) m named, ← er, not-true r z)
+    call-receiver z = rw (eq-eqb (callAt C i .name) m (name-is en), ← compared, not-true r z)
 
-    module _ (z : not r ≡ false) where
+    module _ (z : not r ≡ false) (c : OpenCall) (ec : c ≡ callAt C i) where
+      named : c .name ≡ m
+      named = ap (λ (x : OpenCall). x .name) ec ∙ name-is en
+
+      again : r ≡ eqGraph (valueOf W (c .receiver)) (valueOf W v)
+      again = compared ∙ ap (λ (x : OpenCall). eqGraph (valueOf W (x .receiver)) (valueOf W v)) (sym ec)
+
       pub call-count : CallHolds W (callAt C i) → PartsHeld W ps n → (c .n ≡ n → ⊥) → false ≡ sameOf (callIn W 0 (callAt C i)) (valueOf W v) m (valuesFrom W ps 0 n)
       unfolding sameOf
       call-count a0 b h =
           let a : CallHolds W c = subst (CallHolds W) (sym ec) a0 in
           let q : length (valuesFrom W (c .args) 0 (c .n)) ≡ length (valuesFrom W ps 0 n) → ⊥ = λ e. h (sym (length-values W (c .args) (c .n) (a .args .full)) ∙ e ∙ length-values W ps n (b .full)) in
-          rw (← ec, eq-eqb (c .name) m named, ← er, not-false r z, lengths-differ (valuesFrom W (c .args) 0 (c .n)) (valuesFrom W ps 0 n) q)
+          rw (← ec, eq-eqb (c .name) m named, ← again, not-false r z, lengths-differ (valuesFrom W (c .args) 0 (c .n)) (valuesFrom W ps 0 n) q)
 
       pub call-args : (s : Bool) → c .n ≡ n → s ≡ eqGraphs (valuesFrom W (c .args) 0 n) (valuesFrom W ps 0 n)
           → s ≡ sameOf (callIn W 0 (callAt C i)) (valueOf W v) m (valuesFrom W ps 0 n)
       unfolding sameOf
-      call-args s e q = rw (← ec, eq-eqb (c .name) m named, ← er, not-false r z, e) q
+      call-args s e q = rw (← ec, eq-eqb (c .name) m named, ← again, not-false r z, e) q
+
+pub receiver-held : (W C : List ℕ) (i : ℕ) (u : ValueRef) → u ≡ refAt C (32 * i + 4) → CallHolds W (callAt C i) → Holds W u
+unfolding callAt
+receiver-held W C i u e h = subst (Holds W) (sym e) (h .receiver)
 
 module _ (W C : List ℕ) (i : ℕ) (c : OpenCall) (ec : c ≡ callAt C i) (h : CallHolds W (callAt C i)) where
-  pub call-receiver-held : Holds W (c .receiver)
-  call-receiver-held = subst (λ (x : OpenCall). Holds W (x .receiver)) (sym ec) (h .receiver)
-
   pub call-args-held : (n : ℕ) → c .n ≡ n → PartsHeld W (c .args) n
   call-args-held n e = subst (PartsHeld W (c .args)) e (subst (λ (x : OpenCall). PartsHeld W (x .args) (x .n)) (sym ec) (h .args))
 

@@ -3,6 +3,7 @@
 use crate::trace::CALL;
 use crate::trace::TRACE;
 use crate::trace::call_at;
+use crate::trace::ref_at;
 use values::Slot;
 use values::ValueRef;
 use values::lockstep::equal;
@@ -38,7 +39,7 @@ pub fn same_args(work: &[u8], a: [Slot; 4], b: [Slot; 4], i: u8, n: u8) -> bool
     same_args(work, a, b, i + 1, n)
 }
 
-// Whether call i has this receiver, name and arguments. Most calls have another name, which is looked at before the call is read.
+// Whether call i has this receiver, name and arguments. Most calls have another name or receiver: these are looked at before the call is read.
 pub fn same_call(
     work: &[u8],
     tr: &[u8; TRACE],
@@ -54,11 +55,11 @@ pub fn same_call(
     if tr[CALL * (i as usize)] != m {
         return false;
     }
-    let c = call_at(tr, i);
-    let r = c.receiver;
+    let r = ref_at(tr, CALL * (i as usize) + 4);
     if !equal(work, r, v) {
         return false;
     }
+    let c = call_at(tr, i);
     if c.n != n {
         return false;
     }
