@@ -1,0 +1,103 @@
+// Objects of several blocks brought into one, the host, and a new object over them there.
+// Not here: parts that lie in one block already (make), and objects that lead back to themselves, which are laid side by side (make).
+use crate::Made;
+use crate::Slot;
+use crate::ValueRef;
+use crate::make::make_laid;
+use crate::over::append;
+use crate::over::find;
+use crate::over::level_with;
+use crate::value::bring;
+use crate::value::copy_block;
+ghost use mathlib.Core.Path.{_≡_};
+ghost use Prim.Native.Nat.{ℕ, _+_, _*_, _<_, _≤_};
+ghost use lib.ListN.{length};
+ghost use Rattle.cofj.specs.Values.{make};
+ghost use Rattle.values.specs.Layout.{Block, Inside, Holds};
+ghost use Rattle.values.specs.Laying.{PartsHeld, valuesFrom, MadeIs};
+ghost use Rattle.values.specs.Merging.{Fits, Entered, Object6, Importing, Imported, Turning, TurnedAll, Begun, PartImported, PartsBrought, Away};
+
+// The object in `top`, among the objects of block host: its number there, or 32 if it is new and there is no room.
+pub fn enter(work: &mut [u8], host: u16, top: &[u8]) -> u8
+    requires { ⌜ Block (now work) host × Fits (now work) host (now top) ⌝ }
+    ensures { λ r. ⌜ Entered (now (work .entry)) host (now (top .entry)) (now (work .exit)) r ⌝ }
+{
+    let t = work[240 * (host as usize) + 192];
+    let k = find(work, host, t, top);
+    if k < t {
+        return k;
+    }
+    if 32 <= t {
+        return 32;
+    }
+    let l = level_with(top, work[240 * (host as usize) + 193]);
+    append(work, host, t, top, l);
+    t
+}
+
+// The six bytes of object i of block src, to the front of `top`.
+pub fn take_object(work: &[u8], src: u16, i: u8, top: &mut [u8])
+    requires { ⌜ Inside (now work) src i × (length (now top) ≡ 6) ⌝ }
+    ensures { λ _. ⌜ Object6 (now (work .entry)) src i 6 (now (top .exit)) ⌝ }
+{
+    let mut k: usize = 0;
+    while k < 6 {
+        top[k] = work[240 * (src as usize) + 6 * (i as usize) + k];
+        k += 1;
+    }
+}
+
+// A code of block src, with what it leads to, in block host: its code there, or 32 if there is no room or it leads back to itself.
+// `memo` has k + 1 for an object that is object k of the host, 0 for one not yet met.
+pub fn import(work: &mut [u8], src: u16, c: u8, host: u16, memo: &mut [u8], depth: u8) -> u8
+    requires { ⌜ Importing (now work) src c host (now memo) ⌝ }
+    ensures { λ r. ⌜ Imported (now (work .entry)) src c host (now (work .exit)) (now (memo .exit)) r ⌝ }
+{
+    if 192 <= c {
+        return c;
+    }
+    let m = memo[c as usize];
+    if m != 0 {
+        return m - 1;
+    }
+    if depth == 0 {
+        return 32;
+    }
+    let mut top = [0u8; 6];
+    take_object(work, src, c, &mut top);
+    if !import_codes(work, src, c, host, memo, depth - 1, &mut top, 0) {
+        return 32;
+    }
+    let r = enter(work, host, &top);
+    if r == 32 {
+        return 32;
+    }
+    memo[c as usize] = r + 1;
+    r
+}
+
+// The codes of object i of block src, from code k on, in block host; `top` has the object. Answers whether there was room.
+pub fn import_codes(
+    work: &mut [u8],
+    src: u16,
+    i: u8,
+    host: u16,
+    memo: &mut [u8],
+    depth: u8,
+    top: &mut [u8],
+    k: u8,
+) -> bool
+    requires { ⌜ Turning (now work) src i host (now memo) (now top) k ⌝ }
+    ensures { λ r. ⌜ TurnedAll (now (work .entry)) src i host (now (work .exit)) (now (memo .exit)) (now (top .exit)) r ⌝ }
+{
+    if 4 <= k {
+        return true;
+    }
+    let c = top[2 + k as usize];
+    let r = import(work, src, c, host, memo, depth);
+    if r == 32 {
+        return false;
+    }
+    top[2 + k as usize] = r;
+    import_codes(work, src, i, host, memo, depth, top, k + 1)
+}
