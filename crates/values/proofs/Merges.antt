@@ -3,23 +3,37 @@ use Prim.Native.Nat.{ℕ, zero, suc, _+_, _-_, _*_, _<_, _≤_}
 use native.Mathlib.Omega.{arith}
 use native.Mathlib.Decide.{decLt, ℕ-discrete}
 use mathlib.Core.Path.{_≡_, refl, sym, ap, ap₂, _∙_, subst}
-use mathlib.Core.Bool.{Bool, true, false, not, false≢true}
-use mathlib.Core.List.{List, [], _∷_}
+use mathlib.Core.Bool.{Bool, true, false, not, cond, false≢true}
+use lib.Dec.{leb}
+use mathlib.Core.List.{List, [], _∷_, map}
 use mathlib.Core.Option.{Option, none, some, Option·none-ne-some}
-use lib.ListN.{length, getD, set, take, getElem?, length-set}
+use lib.ListN.{length, getD, set, take, getElem?, replicate, length-set, length-take, length-replicate, getD-replicate, List·getD-eq-default}
 use lib.Seq.{getD-set-same, getD-set-other}
 use Rattle.cofj.specs.Partial.{_>>=_}
-use Rattle.cofj.specs.Values.{Ref, obj, mark, undet, Node, node, nodeAt, refsAt}
-use Rattle.cofj.specs.Unfolding.{object, follow, Same, InRange}
+use borrow.Author.Tests.{le-leb}
+use Rattle.cofj.specs.Values.{Ref, obj, mark, undet, Node, node, Graph, graph, nodeAt, refsAt, canon, make}
+use Rattle.cofj.specs.Unfolding.{object, follow, Same, InRange, Whole}
 use Rattle.cofj.proofs.Trees.{Pointwise}
-use Rattle.values.specs.Layout.{refOf, codeOf, nodeIn, nodesIn, Packed, countIn, levelIn, objectsIn, Block, Inside, Outside}
+use Rattle.cofj.proofs.Canon.{canon-length}
+use Rattle.cofj.proofs.Unique.{same-canon}
+use Rattle.values.specs.declared.ValueRef.{ValueRef}
+use Rattle.values.specs.declared.ValueRef.the-variants.{Object, Mark, Undetermined}
+use Rattle.values.specs.declared.Slot.{Slot}
+use Rattle.values.specs.declared.Made.{Made}
+use Rattle.values.specs.declared.Made.the-variants.{Value}
+use Rattle.values.specs.Layout.{refOf, codeOf, nodeIn, nodesIn, Packed, countIn, levelIn, objectsIn, graphAt, valueOf, rawOf, Holds, HeldBy, Block, Inside, Outside, Beneath}
 use Rattle.values.specs.Numbers.{Levels}
-use Rattle.values.specs.Adding.{Found, Appended, Added}
-use Rattle.values.specs.Merging.{Grown, Fits, Standing, Entered, Twin, Mapped, Importing, Imported, Object6, Turned, Turning, TurnedAll}
+use Rattle.values.specs.Operations.{Gives}
+use Rattle.values.specs.Laying.{valuesFrom, rawsFrom, PartsHeld, MadeIs}
+use Rattle.values.specs.Adding.{Found, Appended, Added, partOf}
+use Rattle.values.specs.Merging.{Grown, Fits, Standing, Entered, Twin, Mapped, Importing, Imported, Object6, Turned, Turning, TurnedAll, As, PartImported, Begun, RootBrought, PartsBrought}
 use Rattle.values.proofs.Nodes.{ref-object, ref-undet, ref-mark, byteOf, packed-byte, length-nodes, at-nodes}
-use Rattle.values.proofs.Blocks.{size-in, inner-in}
+use Rattle.values.proofs.Blocks.{size-in, inner-in, whole-at}
+use Rattle.values.proofs.Trees.{made-as}
+use Rattle.values.proofs.Walks.{four, four-at}
+use Rattle.values.proofs.Lays.{fresh, fresh-class, fresh-count, fresh-spare, none-slot, raws-whole, made-raw, parts-length}
 use Rattle.values.proofs.Copies.{block-moves}
-use Rattle.values.proofs.Selecting.{unchanged}
+use Rattle.values.proofs.Selecting.{unchanged, under}
 use Rattle.values.proofs.Adding.{more, old-tree, at-new}
 use Rattle.values.proofs.Beside.{add-here, objects-are, block-added}
 
@@ -455,3 +469,315 @@ module _ (W : List ℕ) (src c host : ℕ) (M : List ℕ) (im : Importing W src 
                     let w : r ≡ y = omega arith in
                     rw (z, ← w) twin-new
                 go x y e (no z) = mapped-all .each x y (sym (getD-set-other M2 c x (r + 1) 0 z) ∙ e)
+
+-- ---- a part
+module _ (W : List ℕ) (b i base host : ℕ) (ib : Inside W b i) (bg : Begun W base host) where
+  small-object : refOf i ≡ obj i
+  small-object = ref-object i (omega (arith, ib .low, ib .block .small))
+
+  pub object-base : b ≡ base → PartImported W (Object b i) host W i
+  object-base e =
+      let l : i < countIn W base = omega (arith, ib .low, ap (countIn W) e) in
+      record {
+        grown = grown-none host W (bg .target);
+        like = λ _. record {
+          low = subst (InRange (countIn W host)) (sym small-object) (omega (arith, bg .most));
+          same = λ p. ap (λ (x : ℕ). follow (objectsIn W x) (obj i) p) e ∙ bg .trees (obj i) l p ∙ ap (λ (x : Ref). follow (objectsIn W host) x p) (sym small-object);
+        };
+      }
+
+  pub object-host : b ≡ host → PartImported W (Object b i) host W i
+  object-host e = record {
+    grown = grown-none host W (bg .target);
+    like = λ _. record {
+      low = subst (InRange (countIn W host)) (sym small-object) (omega (arith, ib .low, ap (countIn W) e));
+      same = λ p. ap (λ (x : ℕ). follow (objectsIn W x) (obj i) p) e ∙ ap (λ (x : Ref). follow (objectsIn W host) x p) (sym small-object);
+    };
+  }
+
+  module _ (apart : (b ≡ host) → ⊥) where
+    pub object-importing : (k : ℕ) → k ≡ 32 → Importing W b i host (replicate k 0)
+    object-importing k ek = record {
+      source = ib .block;
+      low = λ _. ib .low;
+      target = bg .target;
+      apart = apart;
+      mapped = record { table = length-replicate k 0 ∙ ek; each = λ x y e. absurd (omega (arith, zero-at x, e)) };
+    }
+      where
+        zero-at : (x : ℕ) → _≡_ {A = ℕ} (getD (replicate k 0) x 0) 0
+        zero-at x = go (decLt x k)
+          where
+            go : Dec (x < k) → _≡_ {A = ℕ} (getD (replicate k 0) x 0) 0
+            go (yes l) = getD-replicate k x 0 0 l
+            go (no l) = List·getD-eq-default (replicate k 0) 0 {n = x} (omega (arith, l, length-replicate {A = ℕ} k 0))
+
+    pub object-other : (W′ M′ : List ℕ) (r : ℕ) → Imported W b i host W′ M′ r → PartImported W (Object b i) host W′ r
+    object-other W′ M′ r im = record {
+      grown = im .grown;
+      like = λ d. record {
+        low = im .twin d .low;
+        same = λ p.
+            ap (λ (x : Ref). follow (objectsIn W b) x p) (sym small-object)
+            ∙ ap (λ (x : List Node). follow x (refOf i) p) (sym (other-block host W W′ (im .grown .outside) b apart (ib .block) .0)) ∙ im .twin d .same p;
+      };
+    }
+
+module _ (W : List ℕ) (v : ValueRef) (base host : ℕ) (h : Holds W v) (bg : Begun W base host) where
+  pub part-inside : (b i : ℕ) → v ≡ Object b i → Inside W b i
+  part-inside b i e = subst (HeldBy W) e (h .held)
+
+  pub part-object : (b i : ℕ) (W′ : List ℕ) (r : ℕ) → v ≡ Object b i → PartImported W (Object b i) host W′ r → PartImported W v host W′ r
+  part-object b i W′ r e p = subst (λ (x : ValueRef). PartImported W x host W′ r) (sym e) p
+
+  pub part-small : (k : ℕ) → v ≡ Mark k → k < 63
+  part-small k e = let z : k < 63 = subst (HeldBy W) e (h .held) in z
+
+  pub part-mark : (k : ℕ) → v ≡ Mark k → PartImported W v host W (193 + k)
+  part-mark k e = rw e (record {
+    grown = grown-none host W (bg .target);
+    like = λ _. record { low = leaf-low (countIn W host) (193 + k) (omega arith); same = λ p. mark-same [] (objectsIn W host) k p ∙ ap (λ (x : Ref). follow (objectsIn W host) x p) (sym (ref-mark k)) };
+  })
+
+  pub part-undet : v ≡ Undetermined → PartImported W v host W 192
+  part-undet e = rw e (record {
+    grown = grown-none host W (bg .target);
+    like = λ _. record { low = leaf-low (countIn W host) 192 (omega arith); same = λ p. undet-same [] (objectsIn W host) p ∙ ap (λ (x : Ref). follow (objectsIn W host) x p) (sym ref-undet) };
+  })
+
+same-values : (W W′ : List ℕ) (n : ℕ) (ps : List Slot) → ((i : ℕ) → i < n → valueOf W′ (partOf ps i) ≡ valueOf W (partOf ps i)) → map (λ s. valueOf W′ (s .r)) (take n ps) ≡ map (λ s. valueOf W (s .r)) (take n ps)
+same-values W W′ zero ps h = refl
+same-values W W′ (suc n) [] h = refl
+same-values W W′ (suc n) (s ∷ ps) h = ap₂ {A = Graph} {B = List Graph} {C = List Graph} _∷_ (h 0 (omega arith)) (same-values W W′ n ps (λ i l. h (suc i) (omega arith)))
+
+-- ---- values in a block that has grown, and in the others
+module _ (host : ℕ) (W W′ : List ℕ) (g : Grown host W W′) where
+  pub part-held : (v : ValueRef) → Holds W v → Holds W′ v
+  part-held (Object b i) h = record { held = go (ℕ-discrete b host) }
+    where
+      go : Dec (b ≡ host) → Inside W′ b i
+      go (yes e) = subst (λ (x : ℕ). Inside W′ x i) (sym e) (record { block = g .block; low = omega (arith, h .held .low, ap (countIn W) e, g .most) })
+      go (no n) = other-inside host W W′ (g .outside) b n i (h .held)
+  part-held (Mark k) h = record { held = h .held }
+  part-held Undetermined h = record { held = tt }
+
+  part-tree : (v : ValueRef) → Holds W v → Same (rawOf W v .nodes) (rawOf W v .root) (rawOf W′ v .nodes) (rawOf W′ v .root)
+  part-tree (Object b i) h p = go (ℕ-discrete b host)
+    where
+      go : Dec (b ≡ host) → follow (objectsIn W b) (obj i) p ≡ follow (objectsIn W′ b) (obj i) p
+      go (yes e) =
+          ap (λ (x : ℕ). follow (objectsIn W x) (obj i) p) e ∙ g .trees (obj i) (omega (arith, h .held .low, ap (countIn W) e)) p
+          ∙ ap (λ (x : ℕ). follow (objectsIn W′ x) (obj i) p) (sym e)
+      go (no n) = ap (λ (x : List Node). follow x (obj i) p) (sym (other-block host W W′ (g .outside) b n (h .held .block) .0))
+  part-tree (Mark k) h p = refl
+  part-tree Undetermined h p = refl
+
+  part-value : (v : ValueRef) → Holds W v → valueOf W′ v ≡ valueOf W v
+  part-value (Object b i) h =
+      let h′ : Holds W′ (Object b i) = part-held (Object b i) h in
+      same-canon (graphAt W′ b i) (graphAt W b i) (whole-at W′ b (h′ .held .block) i (h′ .held .low)) (whole-at W b (h .held .block) i (h .held .low))
+      (λ p. sym (part-tree (Object b i) h p))
+  part-value (Mark k) h = refl
+  part-value Undetermined h = refl
+
+  pub parts-held : (ps : List Slot) (n : ℕ) → PartsHeld W ps n → PartsHeld W′ ps n
+  parts-held ps n h = record { full = h .full; part = λ i l. part-held (partOf ps i) (h .part i l) }
+
+  pub parts-values : (ps : List Slot) (n : ℕ) → PartsHeld W ps n → valuesFrom W′ ps 0 n ≡ valuesFrom W ps 0 n
+  unfolding valuesFrom
+  parts-values ps n h = same-values W W′ n ps (λ i l. part-value (partOf ps i) (h .part i l))
+
+  pub begun-grown : (base : ℕ) → Begun W base host → Begun W′ base host
+  begun-grown base bg = go (ℕ-discrete base host)
+    where
+      go : Dec (base ≡ host) → Begun W′ base host
+      go (yes e) = subst (λ (x : ℕ). Begun W′ x host) (sym e) (record { source = g .block; target = g .block; most = omega arith; trees = λ r l p. refl })
+      go (no n) =
+          let o = other-block host W W′ (g .outside) base n (bg .source) in
+          let same : countIn W′ base ≡ countIn W base = sym (size-in W′ base (o .1)) ∙ ap length (o .0) ∙ size-in W base (bg .source) in
+          record {
+            source = o .1;
+            target = g .block;
+            most = omega (arith, same, bg .most, g .most);
+            trees = λ r l p.
+                let l′ : InRange (countIn W base) r = subst (λ (m : ℕ). InRange m r) same l in
+                ap (λ (x : List Node). follow x r p) (o .0) ∙ bg .trees r l′ p ∙ g .trees r (in-larger (countIn W base) (countIn W host) r (bg .most) l′) p;
+          }
+
+  pub like-grown : (W₀ : List ℕ) (v : ValueRef) (r : ℕ) → As W₀ v W host r → As W₀ v W′ host r
+  like-grown W₀ v r a = record {
+    low = in-larger (countIn W host) (countIn W′ host) (refOf r) (g .most) (a .low);
+    same = λ p. a .same p ∙ g .trees (refOf r) (a .low) p;
+  }
+
+-- ---- the parts brought
+pub brought-none : (W : List ℕ) (c : ℕ) (ps : List Slot) (n : ℕ) (host : ℕ) (R : List ℕ) → length R ≡ 6 → RootBrought W c ps n 0 W host (fresh R c n)
+brought-none W c ps n host R e = record {
+  long = simp length-set (omega arith);
+  cls = fresh-class R c n (omega arith);
+  count = fresh-count R c n (omega arith);
+  done = λ j l. absurd (omega arith);
+  spare = λ k a b. fresh-spare R c n (omega arith) k (omega arith) b;
+}
+
+module _ (W : List ℕ) (c : ℕ) (ps : List Slot) (n i : ℕ) (W1 : List ℕ) (host : ℕ) (T : List ℕ) (held : PartsHeld W ps n) (g : Grown host W W1) (w : RootBrought W c ps n i W1 host T) where
+  pub brought-held : i < n → (v : ValueRef) → v ≡ partOf ps i → Holds W1 v
+  brought-held h v e = part-held host W W1 g v (subst (Holds W) (sym e) (held .part i h))
+
+  pub brought-all : n ≤ i → i ≤ n → PartsBrought W c ps n host W1 T true
+  brought-all h l = let e : i ≡ n = omega arith in record { grown = g; done = λ _. subst (λ (k : ℕ). RootBrought W c ps n k W1 host T) e w }
+
+  module _ (h : i < n) (v : ValueRef) (e : v ≡ partOf ps i) (W2 : List ℕ) (r : ℕ) (pi : PartImported W1 v host W2 r) where
+    pub brought-grown : Grown host W W2
+    brought-grown = grown-more host W W1 W2 g (pi .grown)
+
+    pub brought-fails : PartsBrought W c ps n host W2 T false
+    brought-fails = record { grown = brought-grown; done = λ z. absurd (false≢true z) }
+
+    pub brought-more : n ≤ 4 → ((r ≡ 32) → ⊥) → RootBrought W c ps n (i + 1) W2 host (set T (2 + i) r)
+    brought-more few d = record {
+      long = length-set T (2 + i) r ∙ w .long;
+      cls = getD-set-other T (2 + i) 0 r 0 (λ z. omega arith) ∙ w .cls;
+      count = getD-set-other T (2 + i) 1 r 0 (λ z. omega arith) ∙ w .count;
+      done = λ j l. go j l (ℕ-discrete j i);
+      spare = λ k a b. getD-set-other T (2 + i) k r 0 (λ z. omega arith) ∙ w .spare k (omega arith) b;
+    }
+      where
+        now-like : As W v W2 host r
+        now-like = record {
+          low = pi .like d .low;
+          same = λ p. part-tree host W W1 g v (subst (Holds W) (sym e) (held .part i h)) p ∙ pi .like d .same p;
+        }
+
+        go : (j : ℕ) → j < i + 1 → Dec (j ≡ i) → As W (partOf ps j) W2 host (getD (set T (2 + i) r) (2 + j) 0)
+        go j l (yes z) = rw (z, getD-set-same T (2 + i) r 0 (omega (arith, w .long))) (subst (λ (x : ValueRef). As W x W2 host r) e now-like)
+        go j l (no z) = rw (getD-set-other T (2 + i) (2 + j) r 0 (λ y. z (omega arith))) (like-grown host W1 W2 (pi .grown) W (partOf ps j) _ (w .done j (omega (arith, z))))
+
+pub brought-start : (W : List ℕ) (base host : ℕ) → Begun W base host → Grown host W W
+brought-start W base host bg = grown-none host W (bg .target)
+
+pub brought-length : (T : List ℕ) (i x m : ℕ) → length T ≡ m → length (set T i x) ≡ m
+brought-length T i x m e = length-set T i x ∙ e
+
+-- ---- the new object over them
+beneath-grown : (host dst : ℕ) (W W′ : List ℕ) → dst ≤ host → Grown host W W′ → Beneath dst W W′
+beneath-grown host dst W W′ h g = record { same = g .outside .same; below = λ p l. g .outside .below p (omega arith) }
+
+pub beneath-more : (dst : ℕ) (W W1 W2 : List ℕ) → Beneath dst W W1 → Beneath dst W1 W2 → Beneath dst W W2
+beneath-more dst W W1 W2 a b = record { same = b .same ∙ a .same; below = λ p h. b .below p h ∙ a .below p h }
+
+pub made-from : (W W1 : List ℕ) (c : ℕ) (ps : List Slot) (n dst : ℕ) (W2 : List ℕ) (o : Made) → Beneath dst W W1 → valuesFrom W1 ps 0 n ≡ valuesFrom W ps 0 n
+    → MadeIs W1 (make c (valuesFrom W1 ps 0 n)) dst W2 o → MadeIs W (make c (valuesFrom W ps 0 n)) dst W2 o
+made-from W W1 c ps n dst W2 o b e m = record {
+  held = m .held;
+  is = m .is ∙ ap (λ (v : Graph). cond (leb (length (v .nodes)) 32) (some v) none) (ap (make c) e);
+  place = m .place;
+  beneath = beneath-more dst W W1 W2 b (m .beneath);
+}
+
+abbrev AllLike : List Node → List Ref → List Graph → Type 0
+AllLike ms [] [] = Unit {0}
+AllLike ms [] (g ∷ gs) = ⊥
+AllLike ms (r ∷ rs) [] = ⊥
+AllLike ms (r ∷ rs) (g ∷ gs) = Same ms r (g .nodes) (g .root) × AllLike ms rs gs
+
+like-follow : (ms : List Node) (rs : List Ref) (gs : List Graph) → AllLike ms rs gs → (f : ℕ) (p : List ℕ) → getElem? rs f >>= (λ s. follow ms s p) ≡ getElem? gs f >>= (λ v. follow (v .nodes) (v .root) p)
+like-follow ms [] [] a f p = refl
+like-follow ms [] (g ∷ gs) a f p = absurd a
+like-follow ms (r ∷ rs) [] a f p = absurd a
+like-follow ms (r ∷ rs) (g ∷ gs) a zero p = a .0 p
+like-follow ms (r ∷ rs) (g ∷ gs) a (suc f) p = like-follow ms rs gs (a .1) f p
+
+like-all : (W : List ℕ) (ms : List Node) (n : ℕ) (rs : List Ref) (ps : List Slot) → n ≤ length rs → n ≤ length ps
+    → ((i : ℕ) → i < n → Same ms (getD rs i undet) (rawOf W (partOf ps i) .nodes) (rawOf W (partOf ps i) .root)) → AllLike ms (take n rs) (map (λ s. rawOf W (s .r)) (take n ps))
+like-all W ms zero rs ps a b h = tt
+like-all W ms (suc n) [] ps a b h = absurd (omega arith)
+like-all W ms (suc n) (r ∷ rs) [] a b h = absurd (omega arith)
+like-all W ms (suc n) (r ∷ rs) (s ∷ ps) a b h = (h 0 (omega arith), like-all W ms n rs ps (omega arith) (omega arith) (λ i l. h (suc i) (omega arith)))
+
+module _ (W : List ℕ) (c : ℕ) (ps : List Slot) (n host dst : ℕ) (held : PartsHeld W ps n) (few : n ≤ 4) (le : dst ≤ host) (W1 T : List ℕ) (b : Bool) (br : PartsBrought W c ps n host W1 T b) where
+  pub in-held : PartsHeld W1 ps n
+  in-held = parts-held host W W1 (br .grown) ps n held
+
+  pub in-room : 240 * dst + 240 ≤ length W → 240 * dst + 240 ≤ length W1
+  in-room h = omega (arith, br .grown .outside .same)
+
+  pub in-laid : (W2 : List ℕ) (o : Made) → MadeIs W1 (make c (valuesFrom W1 ps 0 n)) dst W2 o → MadeIs W (make c (valuesFrom W ps 0 n)) dst W2 o
+  in-laid W2 o m = made-from W W1 c ps n dst W2 o (beneath-grown host dst W W1 le (br .grown)) (parts-values host W W1 (br .grown) ps n held) m
+
+  module _ (eb : not b ≡ false) where
+    rb : RootBrought W c ps n n W1 host T
+    rb = br .done (back b eb)
+      where
+        back : (x : Bool) → not x ≡ false → x ≡ true
+        back true q = refl
+        back false q = absurd (false≢true (sym q))
+
+    pub in-block : Block W1 host
+    in-block = br .grown .block
+
+    pub in-fits : Fits W1 host T
+    in-fits = record {
+      long = omega (arith, rb .long);
+      packed = record {
+        count = omega (arith, rb .count);
+        spare = λ k l m. let e : 0 + k ≡ k = omega arith in rw e (rb .spare k (omega (arith, rb .count)) m);
+      };
+      low = low-refs T (countIn W1 host) (λ j l. go j l (decLt j n));
+    }
+      where
+        go : (j : ℕ) → j < 4 → Dec (j < n) → InRange (countIn W1 host) (refOf (getD T (2 + j) 0))
+        go j l (yes h) = rb .done j h .low
+        go j l (no h) = rw (rb .spare (2 + j) (omega (arith, h)) (omega arith)) (leaf-low (countIn W1 host) 192 (omega arith))
+
+    module _ (W2 : List ℕ) (r : ℕ) (en : Entered W1 host T W2 r) where
+      both : Grown host W W2
+      both = grown-more host W W1 W2 (br .grown) (en .grown)
+
+      pub in-held-2 : PartsHeld W2 ps n
+      in-held-2 = parts-held host W W2 both ps n held
+
+      pub in-room-2 : 240 * dst + 240 ≤ length W → 240 * dst + 240 ≤ length W2
+      in-room-2 h = omega (arith, both .outside .same)
+
+      pub in-laid-2 : (W3 : List ℕ) (o : Made) → MadeIs W2 (make c (valuesFrom W2 ps 0 n)) dst W3 o → MadeIs W (make c (valuesFrom W ps 0 n)) dst W3 o
+      in-laid-2 W3 o m = made-from W W2 c ps n dst W3 o (beneath-grown host dst W W2 le both) (parts-values host W W2 both ps n held) m
+
+      module _ (d : (r ≡ 32) → ⊥) where
+        st : Standing W2 host T r
+        st = en .standing d
+
+        pub in-holds : Holds W2 (Object host r)
+        in-holds = record { held = record { block = en .grown .block; low = st .low } }
+
+        whole : Whole (graphAt W2 host r)
+        whole = whole-at W2 host (en .grown .block) r (st .low)
+
+        node-is : nodeAt (objectsIn W2 host) r ≡ node c (take n (four T 0))
+        unfolding nodeIn
+        node-is = st .is ∙ ap₂ {A = ℕ} {B = ℕ} (λ x y. node x (take y (four T 0))) (rb .cls) (rb .count)
+
+        like : AllLike (objectsIn W2 host) (take n (four T 0)) (rawsFrom W ps 0 n)
+        unfolding rawsFrom
+        like = like-all W (objectsIn W2 host) n (four T 0) ps few (held .full) (λ i l p.
+            ap (λ (x : Ref). follow (objectsIn W2 host) x p) (four-at T 0 i (omega arith))
+            ∙ sym (like-grown host W1 W2 (en .grown) W (partOf ps i) (getD T (2 + i) 0) (rb .done i l) .same p))
+
+        value : make c (valuesFrom W ps 0 n) ≡ canon (graphAt W2 host r)
+        value =
+            made-raw W c ps n held
+            ∙ made-as c (rawsFrom W ps 0 n) (raws-whole W c ps n held) (graphAt W2 host r) whole
+            (ap (λ (x : Node). some (object (x .cls) (length (x .refs)))) node-is
+            ∙ ap (λ (l : ℕ). some (object c l)) (omega (arith, length-take n (four T 0), few, parts-length W ps n held)))
+            (λ f p. ap (λ (x : Node). getElem? (x .refs) f >>= (λ s. follow (objectsIn W2 host) s p)) node-is ∙ like-follow (objectsIn W2 host) (take n (four T 0)) (rawsFrom W ps 0 n) like f p)
+
+        pub in-made : (W3 : List ℕ) (o : ValueRef) → Gives W2 dst W3 o (valueOf W2 (Object host r)) → MadeIs W (make c (valuesFrom W ps 0 n)) dst W3 (Value o)
+        in-made W3 o g =
+            let l : length (make c (valuesFrom W ps 0 n) .nodes) ≤ 32 =
+            omega (arith, ap (λ (x : Graph). length (x .nodes)) value, canon-length (graphAt W2 host r) whole, size-in W2 host (en .grown .block), en .grown .block .small) in
+            record {
+              held = g .held;
+              is = rw (le-leb _ 32 l) (ap some (g .is ∙ sym value));
+              place = g .place;
+              beneath = beneath-more dst W W2 W3 (beneath-grown host dst W W2 le both) (under dst W2 W3 (g .outside));
+            }

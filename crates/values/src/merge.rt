@@ -8,14 +8,14 @@ use crate::over::append;
 use crate::over::find;
 use crate::over::level_with;
 use crate::value::bring;
-use crate::value::copy_block;
 ghost use mathlib.Core.Path.{_≡_};
 ghost use Prim.Native.Nat.{ℕ, _+_, _*_, _<_, _≤_};
 ghost use lib.ListN.{length};
 ghost use Rattle.cofj.specs.Values.{make};
 ghost use Rattle.values.specs.Layout.{Block, Inside, Holds};
 ghost use Rattle.values.specs.Laying.{PartsHeld, valuesFrom, MadeIs};
-ghost use Rattle.values.specs.Merging.{Fits, Entered, Object6, Importing, Imported, Turning, TurnedAll, Begun, PartImported, PartsBrought, Away};
+ghost use Rattle.values.specs.declared.ValueRef.the-variants.{Object};
+ghost use Rattle.values.specs.Merging.{Fits, Entered, Object6, Importing, Imported, Turning, TurnedAll, Begun, PartImported, PartsBrought};
 
 // The object in `top`, among the objects of block host: its number there, or 32 if it is new and there is no room.
 pub fn enter(work: &mut [u8], host: u16, top: &[u8]) -> u8
@@ -100,4 +100,88 @@ pub fn import_codes(
     }
     top[2 + k as usize] = r;
     import_codes(work, src, i, host, memo, depth, top, k + 1)
+}
+
+// Object i of block b, in block host, whose first objects are those of block base: its number there, or 32 as `import` answers it.
+pub fn import_object(work: &mut [u8], b: u16, i: u8, base: u16, host: u16) -> u8
+    requires { ⌜ Inside (now work) b i × Begun (now work) base host ⌝ }
+    ensures { λ r. ⌜ PartImported (now (work .entry)) (Object b i) host (now (work .exit)) r ⌝ }
+{
+    if b == base {
+        return i;
+    }
+    if b == host {
+        return i;
+    }
+    let mut memo = [0u8; 32];
+    import(work, b, i, host, &mut memo, 32)
+}
+
+// A value in block host: its code there, or 32.
+pub fn import_part(work: &mut [u8], v: ValueRef, base: u16, host: u16) -> u8
+    requires { ⌜ Holds (now work) v × Begun (now work) base host ⌝ }
+    ensures { λ r. ⌜ PartImported (now (work .entry)) v host (now (work .exit)) r ⌝ }
+{
+    match v {
+        ValueRef::Object(b, i) => import_object(work, b, i, base, host),
+        ValueRef::Mark(k) => 193 + k,
+        ValueRef::Undetermined => 192,
+    }
+}
+
+// The new object of class c with the codes of its n parts in block host, to `top`. Answers whether there was room for the parts.
+pub fn bring_parts(
+    work: &mut [u8],
+    c: u8,
+    parts: [Slot; 4],
+    n: u8,
+    base: u16,
+    host: u16,
+    top: &mut [u8],
+) -> bool
+    requires { ⌜ PartsHeld (now work) parts n × (n ≤ 4) × Begun (now work) base host × (length (now top) ≡ 6) ⌝ }
+    ensures { λ r. ⌜ PartsBrought (now (work .entry)) c parts n host (now (work .exit)) (now (top .exit)) r ⌝ }
+{
+    top[0] = c;
+    top[1] = n;
+    top[2] = 192;
+    top[3] = 192;
+    top[4] = 192;
+    top[5] = 192;
+    let mut i: u8 = 0;
+    while i < n {
+        let s = parts[i as usize];
+        let v = s.r;
+        let r = import_part(work, v, base, host);
+        if r == 32 {
+            return false;
+        }
+        top[2 + i as usize] = r;
+        i += 1;
+    }
+    true
+}
+
+// A new object whose parts are brought into block host, which lies at dst or above and begins with the objects of block base.
+pub fn make_in(
+    work: &mut [u8],
+    c: u8,
+    parts: [Slot; 4],
+    n: u8,
+    base: u16,
+    host: u16,
+    dst: u16,
+) -> Made
+    requires { ⌜ PartsHeld (now work) parts n × (n ≤ 4) × Begun (now work) base host × (dst ≤ host) × (240 * dst + 240 ≤ length (now work)) ⌝ }
+    ensures { λ o. ⌜ MadeIs (now (work .entry)) (make c (valuesFrom (now (work .entry)) parts 0 n)) dst (now (work .exit)) o ⌝ }
+{
+    let mut top = [0u8; 6];
+    if !bring_parts(work, c, parts, n, base, host, &mut top) {
+        return make_laid(work, c, parts, n, dst);
+    }
+    let r = enter(work, host, &top);
+    if r == 32 {
+        return make_laid(work, c, parts, n, dst);
+    }
+    Made::Value(bring(work, ValueRef::Object(host, r), dst))
 }
