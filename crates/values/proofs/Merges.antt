@@ -3,14 +3,14 @@ use Prim.Native.Nat.{ℕ, zero, suc, _+_, _-_, _*_, _<_, _≤_}
 use native.Mathlib.Omega.{arith}
 use native.Mathlib.Decide.{decLt, ℕ-discrete}
 use mathlib.Core.Path.{_≡_, refl, sym, ap, ap₂, _∙_, subst}
-use mathlib.Core.Bool.{Bool, true, false, not, cond, false≢true}
-use lib.Dec.{leb}
+use mathlib.Core.Bool.{Bool, true, false, not, cond, false≢true, true≢false}
+use lib.Dec.{leb, eqb}
 use mathlib.Core.List.{List, [], _∷_, map}
 use mathlib.Core.Option.{Option, none, some, Option·none-ne-some}
 use lib.ListN.{length, getD, set, take, getElem?, replicate, length-set, length-take, length-replicate, getD-replicate, List·getD-eq-default}
 use lib.Seq.{getD-set-same, getD-set-other}
 use Rattle.cofj.specs.Partial.{_>>=_}
-use borrow.Author.Tests.{le-leb}
+use borrow.Author.Tests.{le-leb, eqb-false}
 use Rattle.cofj.specs.Values.{Ref, obj, mark, undet, Node, node, Graph, graph, nodeAt, refsAt, canon, make}
 use Rattle.cofj.specs.Unfolding.{object, follow, Same, InRange, Whole}
 use Rattle.cofj.proofs.Trees.{Pointwise}
@@ -23,10 +23,10 @@ use Rattle.values.specs.declared.Made.{Made}
 use Rattle.values.specs.declared.Made.the-variants.{Value}
 use Rattle.values.specs.Layout.{refOf, codeOf, nodeIn, nodesIn, Packed, countIn, levelIn, objectsIn, graphAt, valueOf, rawOf, Holds, HeldBy, Block, Inside, Outside, Beneath}
 use Rattle.values.specs.Numbers.{Levels}
-use Rattle.values.specs.Operations.{Gives}
+use Rattle.values.specs.Operations.{Gives, Copied}
 use Rattle.values.specs.Laying.{valuesFrom, rawsFrom, PartsHeld, MadeIs}
 use Rattle.values.specs.Adding.{Found, Appended, Added, partOf}
-use Rattle.values.specs.Merging.{Grown, Fits, Standing, Entered, Twin, Mapped, Importing, Imported, Object6, Turned, Turning, TurnedAll, As, PartImported, Begun, RootBrought, PartsBrought}
+use Rattle.values.specs.Merging.{Grown, Fits, Standing, Entered, Twin, Mapped, Importing, Imported, Object6, Turned, Turning, TurnedAll, As, PartImported, Begun, RootBrought, PartsBrought, NotIn, Away, LiesTest, SomeTest}
 use Rattle.values.proofs.Nodes.{ref-object, ref-undet, ref-mark, byteOf, packed-byte, length-nodes, at-nodes}
 use Rattle.values.proofs.Blocks.{size-in, inner-in, whole-at}
 use Rattle.values.proofs.Trees.{made-as}
@@ -34,6 +34,7 @@ use Rattle.values.proofs.Walks.{four, four-at}
 use Rattle.values.proofs.Lays.{fresh, fresh-class, fresh-count, fresh-spare, none-slot, raws-whole, made-raw, parts-length}
 use Rattle.values.proofs.Copies.{block-moves}
 use Rattle.values.proofs.Selecting.{unchanged, under}
+use Rattle.values.proofs.Kept.{Kept, Elsewhere, kept}
 use Rattle.values.proofs.Adding.{more, old-tree, at-new}
 use Rattle.values.proofs.Beside.{add-here, objects-are, block-added}
 
@@ -781,3 +782,80 @@ module _ (W : List ℕ) (c : ℕ) (ps : List Slot) (n host dst : ℕ) (held : Pa
               place = g .place;
               beneath = beneath-more dst W W2 W3 (beneath-grown host dst W W2 le both) (under dst W2 W3 (g .outside));
             }
+
+-- ---- the host
+pub larger-block : (W : List ℕ) (v : ValueRef) (x i : ℕ) → Holds W v → v ≡ Object x i → Block W x
+larger-block W v x i h e = let ob : Inside W x i = subst (HeldBy W) e (h .held) in ob .block
+
+pub largest-held : (W : List ℕ) (ps : List Slot) (n i : ℕ) (v : ValueRef) → PartsHeld W ps n → i < n → v ≡ partOf ps i → Holds W v
+largest-held W ps n i v h l e = subst (Holds W) (sym e) (h .part i l)
+
+pub lies-object : (d : ℕ) (v : ValueRef) (x i : ℕ) → v ≡ Object x i → LiesTest d v (eqb x d)
+lies-object d v x i e = record { says = λ q. rw e (eqb-false x d q) }
+
+pub lies-mark : (d : ℕ) (v : ValueRef) (k : ℕ) → v ≡ Mark k → LiesTest d v false
+lies-mark d v k e = record { says = λ _. rw e tt }
+
+pub lies-undet : (d : ℕ) (v : ValueRef) → v ≡ Undetermined → LiesTest d v false
+lies-undet d v e = record { says = λ _. rw e tt }
+
+module _ (ps : List Slot) (n d : ℕ) where
+  pub away-none : Away ps 0 d
+  away-none = record { each = λ i h. absurd (omega arith) }
+
+  pub away-more : (i : ℕ) (v : ValueRef) (r : Bool) → Away ps i d → v ≡ partOf ps i → LiesTest d v r → r ≡ false → Away ps (i + 1) d
+  away-more i v r a ev t e = record { each = λ j h. go j h (ℕ-discrete j i) }
+    where
+      go : (j : ℕ) → j < i + 1 → Dec (j ≡ i) → NotIn d (partOf ps j)
+      go j h (yes z) = rw z (subst (NotIn d) ev (t .says e))
+      go j h (no z) = a .each j (omega (arith, z))
+
+  pub some-there : SomeTest ps n d true
+  some-there = record { says = λ e. absurd (true≢false e) }
+
+  pub some-none : (i : ℕ) → Away ps i d → n ≤ i → SomeTest ps n d false
+  some-none i a h = record { says = λ _. record { each = λ j k. a .each j (omega arith) } }
+
+  pub away-all : (r : Bool) → SomeTest ps n d r → r ≡ false → Away ps n d
+  away-all r t e = t .says e
+
+pub begun-here : (W : List ℕ) (b : ℕ) → Block W b → Begun W b b
+begun-here W b bk = record { source = bk; target = bk; most = omega arith; trees = λ r h p. refl }
+
+elsewhere : (d : ℕ) (v : ValueRef) → NotIn d v → Elsewhere d v
+elsewhere d (Object b i) h = h
+elsewhere d (Mark k) h = tt
+elsewhere d Undetermined h = tt
+
+module _ (W : List ℕ) (b host dst : ℕ) (W1 : List ℕ) (bk : Block W b) (lb : b < dst) (le : dst ≤ host) (room : 240 * host + 240 ≤ length W) (cp : Copied W b host W1) where
+  pub copied-begun : Begun W1 b host
+  copied-begun =
+      let m = block-moves W W1 b host (cp .count) (cp .level) (cp .here) (omega (arith, cp .outside .same)) bk in
+      let o = other-block host W W1 (cp .outside) b (λ z. omega arith) bk in
+      let same : countIn W1 b ≡ countIn W b = sym (size-in W1 b (o .1)) ∙ ap length (o .0) ∙ size-in W b bk in
+      record {
+        source = o .1;
+        target = m .1;
+        most = omega (arith, same, cp .count);
+        trees = λ r h p. ap (λ (x : List Node). follow x r p) (o .0 ∙ sym (m .0));
+      }
+
+  pub copied-room : 240 * dst + 240 ≤ length W1
+  copied-room = omega (arith, cp .outside .same)
+
+  module _ (ps : List Slot) (n : ℕ) (held : PartsHeld W ps n) (away : Away ps n host) where
+    keeps : (i : ℕ) → i < n → Kept W W1 (partOf ps i)
+    keeps i h = kept host W W1 (cp .outside) (partOf ps i) (elsewhere host (partOf ps i) (away .each i h)) (held .part i h)
+
+    pub copied-held : PartsHeld W1 ps n
+    copied-held = record { full = held .full; part = λ i h. keeps i h .held }
+
+    copied-values : valuesFrom W1 ps 0 n ≡ valuesFrom W ps 0 n
+    unfolding valuesFrom
+    copied-values = same-values W W1 n ps (λ i h. keeps i h .is)
+
+    pub copied-made : (c : ℕ) (W2 : List ℕ) (o : Made) → MadeIs W1 (make c (valuesFrom W1 ps 0 n)) dst W2 o → MadeIs W (make c (valuesFrom W ps 0 n)) dst W2 o
+    copied-made c W2 o m = made-from W W1 c ps n dst W2 o (record { same = cp .outside .same; below = λ p h. cp .outside .below p (omega arith) }) copied-values m
+
+pub larger-read : (W : List ℕ) (v : ValueRef) (x i : ℕ) → Holds W v → v ≡ Object x i → 240 * x + 192 < length W
+larger-read W v x i h e = omega (arith, larger-block W v x i h e .room)

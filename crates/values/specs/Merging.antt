@@ -124,3 +124,9 @@ NotIn d Undetermined = Unit {0}
 -- none of the first n parts lies in block d
 pub record Away (ps : List Slot) (n d : ℕ) : Type 0 where
   pub each : (i : ℕ) → i < n → NotIn d (partOf ps i)
+
+pub record LiesTest (d : ℕ) (v : ValueRef) (r : Bool) : Type 0 where
+  pub says : r ≡ false → NotIn d v
+
+pub record SomeTest (ps : List Slot) (n d : ℕ) (r : Bool) : Type 0 where
+  pub says : r ≡ false → Away ps n d

@@ -8,6 +8,7 @@ use crate::over::append;
 use crate::over::find;
 use crate::over::level_with;
 use crate::value::bring;
+use crate::value::copy_block;
 ghost use mathlib.Core.Path.{_≡_};
 ghost use Prim.Native.Nat.{ℕ, _+_, _*_, _<_, _≤_};
 ghost use lib.ListN.{length};
@@ -15,7 +16,7 @@ ghost use Rattle.cofj.specs.Values.{make};
 ghost use Rattle.values.specs.Layout.{Block, Inside, Holds};
 ghost use Rattle.values.specs.Laying.{PartsHeld, valuesFrom, MadeIs};
 ghost use Rattle.values.specs.declared.ValueRef.the-variants.{Object};
-ghost use Rattle.values.specs.Merging.{Fits, Entered, Object6, Importing, Imported, Turning, TurnedAll, Begun, PartImported, PartsBrought};
+ghost use Rattle.values.specs.Merging.{Fits, Entered, Object6, Importing, Imported, Turning, TurnedAll, Begun, PartImported, PartsBrought, LiesTest, SomeTest, Away};
 
 // The object in `top`, among the objects of block host: its number there, or 32 if it is new and there is no room.
 pub fn enter(work: &mut [u8], host: u16, top: &[u8]) -> u8
@@ -113,8 +114,9 @@ pub fn import_object(work: &mut [u8], b: u16, i: u8, base: u16, host: u16) -> u8
     if b == host {
         return i;
     }
+    let t = work[240 * (b as usize) + 192];
     let mut memo = [0u8; 32];
-    import(work, b, i, host, &mut memo, 32)
+    import(work, b, i, host, &mut memo, t)
 }
 
 // A value in block host: its code there, or 32.
@@ -184,4 +186,112 @@ pub fn make_in(
         return make_laid(work, c, parts, n, dst);
     }
     Made::Value(bring(work, ValueRef::Object(host, r), dst))
+}
+
+// The block of v, if v is an object and that block has more objects than block b; else b.
+pub fn larger(work: &[u8], v: ValueRef, b: u16) -> u16
+    requires { ⌜ Holds (now work) v × Block (now work) b ⌝ }
+    ensures { λ r. ⌜ Block (now (work .entry)) r ⌝ }
+{
+    let ValueRef::Object(x, _) = v else {
+        return b;
+    };
+    if work[240 * (b as usize) + 192] < work[240 * (x as usize) + 192] {
+        return x;
+    }
+    b
+}
+
+// The block with the most objects, of block b and those of the parts.
+pub fn largest(work: &[u8], parts: [Slot; 4], n: u8, b: u16) -> u16
+    requires { ⌜ PartsHeld (now work) parts n × (n ≤ 4) × Block (now work) b ⌝ }
+    ensures { λ r. ⌜ Block (now (work .entry)) r ⌝ }
+{
+    let mut d = b;
+    let mut i: u8 = 0;
+    while i < n {
+        let s = parts[i as usize];
+        let v = s.r;
+        d = larger(work, v, d);
+        i += 1;
+    }
+    d
+}
+
+// Whether v is an object of block d.
+pub fn lies_in(v: ValueRef, d: u16) -> bool
+    ensures { λ r. ⌜ LiesTest d v r ⌝ }
+{
+    match v {
+        ValueRef::Object(x, _) => x == d,
+        ValueRef::Mark(_) => false,
+        ValueRef::Undetermined => false,
+    }
+}
+
+// Whether one of the parts is an object of block d.
+pub fn some_in(parts: [Slot; 4], n: u8, d: u16) -> bool
+    requires { ⌜ n ≤ 4 ⌝ }
+    ensures { λ r. ⌜ SomeTest parts n d r ⌝ }
+{
+    let mut i: u8 = 0;
+    while i < n {
+        let s = parts[i as usize];
+        let v = s.r;
+        if lies_in(v, d) {
+            return true;
+        }
+        i += 1;
+    }
+    false
+}
+
+// A new object whose parts are brought into a copy of block b, in block host, where no part lies.
+pub fn make_copied(
+    work: &mut [u8],
+    c: u8,
+    parts: [Slot; 4],
+    n: u8,
+    b: u16,
+    host: u16,
+    dst: u16,
+) -> Made
+    requires { ⌜ PartsHeld (now work) parts n × (n ≤ 4) × Block (now work) b × (b < dst) × (dst ≤ host) × Away parts n host × (240 * host + 240 ≤ length (now work)) ⌝ }
+    ensures { λ o. ⌜ MadeIs (now (work .entry)) (make c (valuesFrom (now (work .entry)) parts 0 n)) dst (now (work .exit)) o ⌝ }
+{
+    copy_block(work, b, host);
+    make_in(work, c, parts, n, b, host, dst)
+}
+
+// The same with the block after dst for host, if it is there and no part lies in it.
+pub fn make_above(work: &mut [u8], c: u8, parts: [Slot; 4], n: u8, b: u16, dst: u16) -> Made
+    requires { ⌜ PartsHeld (now work) parts n × (n ≤ 4) × Block (now work) b × (b < dst) × (240 * dst + 240 ≤ length (now work)) ⌝ }
+    ensures { λ o. ⌜ MadeIs (now (work .entry)) (make c (valuesFrom (now (work .entry)) parts 0 n)) dst (now (work .exit)) o ⌝ }
+{
+    if 65535 <= dst {
+        return make_laid(work, c, parts, n, dst);
+    }
+    let host = dst + 1;
+    if work.len() < 240 * (host as usize) + 240 {
+        return make_laid(work, c, parts, n, dst);
+    }
+    if some_in(parts, n, host) {
+        return make_laid(work, c, parts, n, dst);
+    }
+    make_copied(work, c, parts, n, b, host, dst)
+}
+
+// A new object whose parts lie in several blocks, `first` one of them: over the block with the most objects, where it may be written, or over a copy.
+pub fn make_apart(work: &mut [u8], c: u8, parts: [Slot; 4], n: u8, first: u16, dst: u16) -> Made
+    requires { ⌜ PartsHeld (now work) parts n × (n ≤ 4) × Block (now work) first × (240 * dst + 240 ≤ length (now work)) ⌝ }
+    ensures { λ o. ⌜ MadeIs (now (work .entry)) (make c (valuesFrom (now (work .entry)) parts 0 n)) dst (now (work .exit)) o ⌝ }
+{
+    let b = largest(work, parts, n, first);
+    if dst <= b {
+        return make_in(work, c, parts, n, b, b, dst);
+    }
+    if some_in(parts, n, dst) {
+        return make_above(work, c, parts, n, b, dst);
+    }
+    make_copied(work, c, parts, n, b, dst, dst)
 }

@@ -25,6 +25,9 @@ import-object-spec =
     returns
     returns-2
     (λ c. search needs)
+    (λ c. search needs)
+    (λ c. search needs)
+    (λ c. search needs)
     import-requires
     (λ c. search needs)
     returns-3)
