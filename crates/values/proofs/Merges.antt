@@ -26,7 +26,7 @@ use Rattle.values.specs.Numbers.{Levels}
 use Rattle.values.specs.Operations.{Gives, Copied}
 use Rattle.values.specs.Laying.{valuesFrom, rawsFrom, PartsHeld, MadeIs}
 use Rattle.values.specs.Adding.{Found, Appended, Added, partOf}
-use Rattle.values.specs.Merging.{Grown, Fits, Standing, Entered, Twin, Mapped, Importing, Imported, Object6, Turned, Turning, TurnedAll, As, PartImported, Begun, RootBrought, PartsBrought, NotIn, Away, LiesTest, SomeTest}
+use Rattle.values.specs.Merging.{Grown, Fits, Standing, Entered, CodeAs, Mapped, Importing, Imported, ObjectBytes, Turned, Turning, TurnedAll, As, PartImported, Begun, RootBrought, PartsBrought, NotIn, Away, LiesTest, SomeTest}
 use Rattle.values.proofs.Nodes.{ref-object, ref-undet, ref-mark, byteOf, packed-byte, length-nodes, at-nodes}
 use Rattle.values.proofs.Blocks.{size-in, inner-in, whole-at}
 use Rattle.values.proofs.Trees.{made-as}
@@ -168,20 +168,20 @@ module _ (W : List ℕ) (host : ℕ) (T : List ℕ) (bk : Block W host) (ft : Fi
       }
 
 -- ---- an object's bytes
-pub object-none : (W : List ℕ) (src i : ℕ) (T : List ℕ) → length T ≡ 6 → Object6 W src i 0 T
+pub object-none : (W : List ℕ) (src i : ℕ) (T : List ℕ) → length T ≡ 6 → ObjectBytes W src i 0 T
 object-none W src i T e = record { long = e; bytes = λ j h. absurd (omega arith) }
 
 pub object-room : (W : List ℕ) (src i : ℕ) → Inside W src i → 240 * src + 6 * i + 6 ≤ length W
 object-room W src i ib = omega (arith, ib .block .room, ib .block .small, ib .low)
 
-pub object-more : (W : List ℕ) (src i k : ℕ) (T : List ℕ) → Object6 W src i k T → k < 6 → Object6 W src i (k + 1) (set T k (getD W (240 * src + 6 * i + k) 0))
+pub object-more : (W : List ℕ) (src i k : ℕ) (T : List ℕ) → ObjectBytes W src i k T → k < 6 → ObjectBytes W src i (k + 1) (set T k (getD W (240 * src + 6 * i + k) 0))
 object-more W src i k T o h = record { long = length-set T k _ ∙ o .long; bytes = λ j l. go j l (ℕ-discrete j k) }
   where
     go : (j : ℕ) → j < k + 1 → Dec (j ≡ k) → getD (set T k (getD W (240 * src + 6 * i + k) 0)) j 0 ≡ getD W (240 * src + 6 * i + j) 0
     go j l (yes z) = rw z (getD-set-same T k _ 0 (omega (arith, o .long)))
     go j l (no z) = getD-set-other T k j _ 0 z ∙ o .bytes j (omega (arith, z))
 
-pub object-done : (W : List ℕ) (src i k : ℕ) (T : List ℕ) → Object6 W src i k T → 6 ≤ k → Object6 W src i 6 T
+pub object-done : (W : List ℕ) (src i k : ℕ) (T : List ℕ) → ObjectBytes W src i k T → 6 ≤ k → ObjectBytes W src i 6 T
 object-done W src i k T o h = record { long = o .long; bytes = λ j l. o .bytes j (omega arith) }
 
 -- ---- the codes of an object
@@ -220,15 +220,15 @@ code-low W src i ib k h l = go (decLt k (getD W (240 * src + 6 * i + 1) 0))
 
 -- ---- the same codes in a block that has grown
 module _ (host : ℕ) (W W′ : List ℕ) (g : Grown host W W′) (src : ℕ) (apart : (src ≡ host) → ⊥) (sb : Block W src) where
-  pub twin-grown : (c r : ℕ) → Twin W src c host r → Twin W′ src c host r
-  twin-grown c r t = record {
+  pub code-grown : (c r : ℕ) → CodeAs W src c host r → CodeAs W′ src c host r
+  code-grown c r t = record {
     low = in-larger (countIn W host) (countIn W′ host) (refOf r) (g .most) (t .low);
     leaf = t .leaf;
     same = λ p. ap (λ (x : List Node). follow x (refOf c) p) (other-block host W W′ (g .outside) src apart sb .0) ∙ t .same p ∙ g .trees (refOf r) (t .low) p;
   }
 
   pub mapped-grown : (M : List ℕ) → Mapped W src host M → Mapped W′ src host M
-  mapped-grown M m = record { table = m .table; each = λ x y e. twin-grown x y (m .each x y e) }
+  mapped-grown M m = record { table = m .table; each = λ x y e. code-grown x y (m .each x y e) }
 
   object-byte : (i j : ℕ) → i < countIn W src → j < 6 → getD W′ (240 * src + 6 * i + j) 0 ≡ getD W (240 * src + 6 * i + j) 0
   object-byte i j h l = other-byte host W W′ (g .outside) src apart (240 * src + 6 * i + j) (omega arith) (omega (arith, sb .small))
@@ -238,7 +238,7 @@ module _ (host : ℕ) (W W′ : List ℕ) (g : Grown host W W′) (src : ℕ) (a
     long = t .long;
     cls = t .cls ∙ sym (object-byte i 0 h (omega arith));
     count = t .count ∙ sym (object-byte i 1 h (omega arith));
-    done = λ j l m. subst (λ (c : ℕ). Twin W′ src c host (getD T (2 + j) 0)) (sym (object-byte i (2 + j) h (omega arith))) (twin-grown _ _ (t .done j l m));
+    done = λ j l m. subst (λ (c : ℕ). CodeAs W′ src c host (getD T (2 + j) 0)) (sym (object-byte i (2 + j) h (omega arith))) (code-grown _ _ (t .done j l m));
     left = λ j l m. t .left j l m ∙ sym (object-byte i (2 + j) h (omega arith));
   }
 
@@ -287,8 +287,8 @@ module _ (W : List ℕ) (src i host : ℕ) (M T : List ℕ) (k : ℕ) (tg : Turn
             }
           where
             go : Turned W1 src i host T k → c ≡ getD W1 (240 * src + 6 * i + (2 + k)) 0 → (j : ℕ) → j < k + 1 → j < 4 → Dec (j ≡ k)
-                → Twin W1 src (getD W1 (240 * src + 6 * i + (2 + j)) 0) host (getD (set T (2 + k) r) (2 + j) 0)
-            go t z j l m (yes y) = rw (y, getD-set-same T (2 + k) r 0 (omega (arith, t .long)), ← z) (im .twin d)
+                → CodeAs W1 src (getD W1 (240 * src + 6 * i + (2 + j)) 0) host (getD (set T (2 + k) r) (2 + j) 0)
+            go t z j l m (yes y) = rw (y, getD-set-same T (2 + k) r 0 (omega (arith, t .long)), ← z) (im .like d)
             go t z j l m (no y) = rw (getD-set-other T (2 + k) (2 + j) r 0 (λ x. y (omega arith))) (t .done j (omega (arith, y)) m)
 
         pub codes-more : (W2 M2 T2 : List ℕ) (b : Bool) → TurnedAll W1 src i host W2 M2 T2 b → TurnedAll W src i host W2 M2 T2 b
@@ -346,11 +346,11 @@ module _ (W : List ℕ) (src c host : ℕ) (M : List ℕ) (im : Importing W src 
   import-leaf h = record {
     grown = grown-none host W (im .target);
     mapped = im .mapped;
-    twin = λ _. record { low = leaf-low (countIn W host) c h; leaf = λ _. refl; same = leaf-same (objectsIn W src) (objectsIn W host) c h };
+    like = λ _. record { low = leaf-low (countIn W host) c h; leaf = λ _. refl; same = leaf-same (objectsIn W src) (objectsIn W host) c h };
   }
 
   pub import-none : Imported W src c host W M 32
-  import-none = record { grown = grown-none host W (im .target); mapped = im .mapped; twin = λ z. absurd (z refl) }
+  import-none = record { grown = grown-none host W (im .target); mapped = im .mapped; like = λ z. absurd (z refl) }
 
   module _ (h : c < 192) where
     pub import-inside : Inside W src c
@@ -363,10 +363,10 @@ module _ (W : List ℕ) (src c host : ℕ) (M : List ℕ) (im : Importing W src 
     import-known m e d = record {
       grown = grown-none host W (im .target);
       mapped = im .mapped;
-      twin = λ _. im .mapped .each c (m - 1) (omega (arith, e, d));
+      like = λ _. im .mapped .each c (m - 1) (omega (arith, e, d));
     }
 
-    pub import-codes : (T : List ℕ) → Object6 W src c 6 T → Turning W src c host M T 0
+    pub import-codes : (T : List ℕ) → ObjectBytes W src c 6 T → Turning W src c host M T 0
     import-codes T o = record {
       inside = import-inside;
       target = im .target;
@@ -386,7 +386,7 @@ module _ (W : List ℕ) (src c host : ℕ) (M : List ℕ) (im : Importing W src 
       import-write = omega (arith, im .low h, im .source .small, ta .mapped .table)
 
       pub import-fails : not b ≡ true → Imported W src c host W2 M2 32
-      import-fails _ = record { grown = ta .grown; mapped = ta .mapped; twin = λ z. absurd (z refl) }
+      import-fails _ = record { grown = ta .grown; mapped = ta .mapped; like = λ z. absurd (z refl) }
 
       module _ (eb : not b ≡ false) where
         yes-b : b ≡ true
@@ -420,7 +420,7 @@ module _ (W : List ℕ) (src c host : ℕ) (M : List ℕ) (im : Importing W src 
                 let z : 2 + (k - 2) ≡ k = omega arith in
                 let y : 0 + k ≡ k = omega arith in
                 let s : getD W2 (240 * src + 6 * c + k) 0 ≡ 192 = ib .block .packed c (ib .low) .spare k (omega (arith, td .count)) m in
-                let t : Twin W2 src (getD W2 (240 * src + 6 * c + k) 0) host (getD T k 0) = rw z at (td .done (k - 2) (omega arith) (omega arith)) in
+                let t : CodeAs W2 src (getD W2 (240 * src + 6 * c + k) 0) host (getD T k 0) = rw z at (td .done (k - 2) (omega arith) (omega arith)) in
                 rw y (t .leaf (omega arith) ∙ s)
 
         module _ (W3 : List ℕ) (r : ℕ) (en : Entered W2 host T W3 r) where
@@ -431,12 +431,12 @@ module _ (W : List ℕ) (src c host : ℕ) (M : List ℕ) (im : Importing W src 
           mapped-all = mapped-grown host W2 W3 (en .grown) src (im .apart) (ib .block) M2 (ta .mapped)
 
           pub import-full : r ≡ 32 → Imported W src c host W3 M2 32
-          import-full _ = record { grown = grown-all; mapped = mapped-all; twin = λ z. absurd (z refl) }
+          import-full _ = record { grown = grown-all; mapped = mapped-all; like = λ z. absurd (z refl) }
 
           module _ (d : (r ≡ 32) → ⊥) where
-            twin-new : Twin W3 src c host r
+            code-new : CodeAs W3 src c host r
             unfolding nodeIn objectsIn
-            twin-new =
+            code-new =
                 let t3 : Turned W3 src c host T 4 = turned-grown host W2 W3 (en .grown) src (im .apart) (ib .block) c 4 T (ib .low) td in
                 let ic : Inside W3 src c = other-inside host W2 W3 (en .grown .outside) src (im .apart) c ib in
                 let st : Standing W3 host T r = en .standing d in
@@ -458,17 +458,17 @@ module _ (W : List ℕ) (src c host : ℕ) (M : List ℕ) (im : Importing W src 
             import-done = record {
               grown = grown-all;
               mapped = record { table = length-set M2 c (r + 1) ∙ ta .mapped .table; each = λ x y e. go x y e (ℕ-discrete x c) };
-              twin = λ _. twin-new;
+              like = λ _. code-new;
             }
               where
                 put : getD (set M2 c (r + 1)) c 0 ≡ r + 1
                 put = getD-set-same M2 c (r + 1) 0 (omega (arith, ta .mapped .table, im .low h, im .source .small))
 
-                go : (x y : ℕ) → getD (set M2 c (r + 1)) x 0 ≡ y + 1 → Dec (x ≡ c) → Twin W3 src x host y
+                go : (x y : ℕ) → getD (set M2 c (r + 1)) x 0 ≡ y + 1 → Dec (x ≡ c) → CodeAs W3 src x host y
                 go x y e (yes z) =
                     let v : r + 1 ≡ y + 1 = sym put ∙ ap (λ (q : ℕ). getD (set M2 c (r + 1)) q 0) (sym z) ∙ e in
                     let w : r ≡ y = omega arith in
-                    rw (z, ← w) twin-new
+                    rw (z, ← w) code-new
                 go x y e (no z) = mapped-all .each x y (sym (getD-set-other M2 c x (r + 1) 0 z) ∙ e)
 
 -- ---- a part
@@ -517,10 +517,10 @@ module _ (W : List ℕ) (b i base host : ℕ) (ib : Inside W b i) (bg : Begun W 
     object-other W′ M′ r im = record {
       grown = im .grown;
       like = λ d. record {
-        low = im .twin d .low;
+        low = im .like d .low;
         same = λ p.
             ap (λ (x : Ref). follow (objectsIn W b) x p) (sym small-object)
-            ∙ ap (λ (x : List Node). follow x (refOf i) p) (sym (other-block host W W′ (im .grown .outside) b apart (ib .block) .0)) ∙ im .twin d .same p;
+            ∙ ap (λ (x : List Node). follow x (refOf i) p) (sym (other-block host W W′ (im .grown .outside) b apart (ib .block) .0)) ∙ im .like d .same p;
       };
     }
 

@@ -39,7 +39,7 @@ pub record Entered (W : List ℕ) (host : ℕ) (T W′ : List ℕ) (r : ℕ) : T
 
 -- ---- a code of another block
 -- the code r of block host unfolds as the code c of block src
-pub record Twin (W : List ℕ) (src c host r : ℕ) : Type 0 where
+pub record CodeAs (W : List ℕ) (src c host r : ℕ) : Type 0 where
   pub low : InRange (countIn W host) (refOf r)
   pub leaf : 192 ≤ c → r ≡ c
   pub same : Same (objectsIn W src) (refOf c) (objectsIn W host) (refOf r)
@@ -47,7 +47,7 @@ pub record Twin (W : List ℕ) (src c host r : ℕ) : Type 0 where
 -- the table has k + 1 for an object that unfolds as object k of the host
 pub record Mapped (W : List ℕ) (src host : ℕ) (M : List ℕ) : Type 0 where
   pub table : length M ≡ 32
-  pub each : (x y : ℕ) → getD M x 0 ≡ y + 1 → Twin W src x host y
+  pub each : (x y : ℕ) → getD M x 0 ≡ y + 1 → CodeAs W src x host y
 
 pub record Importing (W : List ℕ) (src c host : ℕ) (M : List ℕ) : Type 0 where
   pub source : Block W src
@@ -59,10 +59,10 @@ pub record Importing (W : List ℕ) (src c host : ℕ) (M : List ℕ) : Type 0 w
 pub record Imported (W : List ℕ) (src c host : ℕ) (W′ M′ : List ℕ) (r : ℕ) : Type 0 where
   pub grown : Grown host W W′
   pub mapped : Mapped W′ src host M′
-  pub twin : ((r ≡ 32) → ⊥) → Twin W′ src c host r
+  pub like : ((r ≡ 32) → ⊥) → CodeAs W′ src c host r
 
 -- T has the first k bytes of object i of block src
-pub record Object6 (W : List ℕ) (src i k : ℕ) (T : List ℕ) : Type 0 where
+pub record ObjectBytes (W : List ℕ) (src i k : ℕ) (T : List ℕ) : Type 0 where
   pub long : length T ≡ 6
   pub bytes : (j : ℕ) → j < k → getD T j 0 ≡ getD W (240 * src + 6 * i + j) 0
 
@@ -71,7 +71,7 @@ pub record Turned (W : List ℕ) (src i host : ℕ) (T : List ℕ) (k : ℕ) : T
   pub long : length T ≡ 6
   pub cls : getD T 0 0 ≡ getD W (240 * src + 6 * i + 0) 0
   pub count : getD T 1 0 ≡ getD W (240 * src + 6 * i + 1) 0
-  pub done : (j : ℕ) → j < k → j < 4 → Twin W src (getD W (240 * src + 6 * i + (2 + j)) 0) host (getD T (2 + j) 0)
+  pub done : (j : ℕ) → j < k → j < 4 → CodeAs W src (getD W (240 * src + 6 * i + (2 + j)) 0) host (getD T (2 + j) 0)
   pub left : (j : ℕ) → k ≤ j → j < 4 → getD T (2 + j) 0 ≡ getD W (240 * src + 6 * i + (2 + j)) 0
 
 pub record Turning (W : List ℕ) (src i host : ℕ) (M T : List ℕ) (k : ℕ) : Type 0 where

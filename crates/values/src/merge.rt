@@ -16,7 +16,7 @@ ghost use Rattle.cofj.specs.Values.{make};
 ghost use Rattle.values.specs.Layout.{Block, Inside, Holds};
 ghost use Rattle.values.specs.Laying.{PartsHeld, valuesFrom, MadeIs};
 ghost use Rattle.values.specs.declared.ValueRef.the-variants.{Object};
-ghost use Rattle.values.specs.Merging.{Fits, Entered, Object6, Importing, Imported, Turning, TurnedAll, Begun, PartImported, PartsBrought, LiesTest, SomeTest, Away};
+ghost use Rattle.values.specs.Merging.{Fits, Entered, ObjectBytes, Importing, Imported, Turning, TurnedAll, Begun, PartImported, PartsBrought, LiesTest, SomeTest, Away};
 
 // The object in `top`, among the objects of block host: its number there, or 32 if it is new and there is no room.
 pub fn enter(work: &mut [u8], host: u16, top: &[u8]) -> u8
@@ -39,7 +39,7 @@ pub fn enter(work: &mut [u8], host: u16, top: &[u8]) -> u8
 // The six bytes of object i of block src, to the front of `top`.
 pub fn take_object(work: &[u8], src: u16, i: u8, top: &mut [u8])
     requires { ⌜ Inside (now work) src i × (length (now top) ≡ 6) ⌝ }
-    ensures { λ _. ⌜ Object6 (now (work .entry)) src i 6 (now (top .exit)) ⌝ }
+    ensures { λ _. ⌜ ObjectBytes (now (work .entry)) src i 6 (now (top .exit)) ⌝ }
 {
     let mut k: usize = 0;
     while k < 6 {

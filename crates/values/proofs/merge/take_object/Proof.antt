@@ -7,11 +7,11 @@ use native.Mathlib.Omega.{arith}
 use Prim.Native.Nat.{_≤_, _-_}
 use lib.ListN.{length, length-set}
 use mathlib.Core.Path.{_≡_}
-use Rattle.values.specs.Merging.{Object6}
+use Rattle.values.specs.Merging.{ObjectBytes}
 use Rattle.values.proofs.Merges as laws
 
 abbrev Inv-loop : tie.InvT-loop
-Inv-loop work src i top₀ k₀ top k = (k ≤ 6) × Object6 work src i k top
+Inv-loop work src i top₀ k₀ top k = (k ≤ 6) × ObjectBytes work src i k top
 
 abbrev μ-loop : tie.MeasureT-loop
 μ-loop work src i top₀ k₀ top k = 6 - k
