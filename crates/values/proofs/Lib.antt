@@ -19,3 +19,4 @@ pub mod Lays
 pub mod Beside
 pub mod Reports
 pub mod Kept
+pub mod Merges

@@ -8,4 +8,5 @@ pub mod Operations
 pub mod Stepping
 pub mod Laying
 pub mod Adding
+pub mod Merging
 pub mod Reporting

@@ -10,6 +10,7 @@ pub mod lockstep; // values compared
 pub mod value; // values selected from, closed, moved
 pub mod lay; // values laid side by side below a new object
 pub mod over; // a new object beside the objects of one block
+pub mod merge; // a new object over the objects of several blocks
 pub mod make; // a new object
 pub mod report; // the report of a value
 

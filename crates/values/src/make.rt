@@ -4,6 +4,7 @@ use crate::Slot;
 use crate::ValueRef;
 use crate::colours::colour;
 use crate::lay::build;
+use crate::merge::make_apart;
 use crate::number::put;
 use crate::over::add;
 use crate::over::find;
@@ -127,5 +128,5 @@ pub fn make(work: &mut [u8], c: u8, parts: [Slot; 4], n: u8, dst: u16) -> Made
     if together(parts, n, b) {
         return make_beside(work, c, parts, n, b, dst);
     }
-    make_laid(work, c, parts, n, dst)
+    make_apart(work, c, parts, n, b, dst)
 }

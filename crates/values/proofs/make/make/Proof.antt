@@ -7,8 +7,8 @@ use Rattle.values.proofs.make.first_object.Reads as first-object-reads
 use Rattle.values.proofs.make.make_beside.Reads as make-beside-reads
 use Rattle.values.proofs.make.make_laid.Reads as make-laid-reads
 use Rattle.values.proofs.make.together.Reads as together-reads
+use Rattle.values.proofs.merge.make_apart.Reads as make-apart-reads
 use Rattle.values.proofs.over.make_alone.Reads as make-alone-reads
-use mathlib.Core.Path.{refl}
 use Rattle.values.proofs.Beside as laws
 
 make-alone-requires : tie.Need-make-alone-requires
@@ -16,6 +16,9 @@ make-alone-requires c κs = (search needs, search needs, search laws.leaves-all,
 
 make-beside-requires : tie.Need-make-beside-requires
 make-beside-requires c κs = (search needs, search needs, search laws.first-block, search laws.together-beside, search needs)
+
+make-apart-requires : tie.Need-make-apart-requires
+make-apart-requires c κs = (search needs, search needs, search laws.first-block, search needs)
 
 pub make-spec : {M : Type 1} → statement M
 make-spec =
@@ -36,6 +39,6 @@ make-spec =
     make-beside-requires
     (λ c. search needs)
     (λ c. search needs)
-    (λ c κs. search needs)
+    make-apart-requires
     (λ c. search needs)
     (λ c. search needs))

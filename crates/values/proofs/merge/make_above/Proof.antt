@@ -1,0 +1,34 @@
+use borrow.Author.Needs.{needs}
+use Rattle.values.proofs.merge.make_above.Statement.{statement}
+use Rattle.values.proofs.merge.make_above.Tie as tie
+use Rattle.values.proofs.merge.make_above.Reads as reads
+use Rattle.values.proofs.merge.make_above.Lts as lts
+use Rattle.values.proofs.make.make_laid.Reads as make-laid-reads
+use Rattle.values.proofs.merge.make_copied.Reads as make-copied-reads
+use Rattle.values.proofs.merge.some_in.Reads as some-in-reads
+use Rattle.values.proofs.Merges as laws
+
+make-copied-requires : tie.Need-make-copied-requires
+make-copied-requires c κs = (search needs, search needs, search needs, search needs, search needs, search laws.away-all, search needs)
+
+pub make-above-spec : {M : Type 1} → statement M
+make-above-spec =
+    tie.close
+    (tie.spec
+    (λ c κs. search needs)
+    (λ c. search needs)
+    (λ c. search needs)
+    (λ c. search needs)
+    (λ c. search needs)
+    (λ c. search needs)
+    (λ c. search needs)
+    (λ c κs. search needs)
+    (λ c. search needs)
+    (λ c. search needs)
+    (λ c κs. search needs)
+    (λ c κs. search needs)
+    (λ c. search needs)
+    (λ c. search needs)
+    make-copied-requires
+    (λ c. search needs)
+    (λ c. search needs))

@@ -1,0 +1,33 @@
+use borrow.Author.Needs.{needs}
+use Rattle.values.proofs.merge.make_apart.Statement.{statement}
+use Rattle.values.proofs.merge.make_apart.Tie as tie
+use Rattle.values.proofs.merge.make_apart.Reads as reads
+use Rattle.values.proofs.merge.make_apart.Lts as lts
+use Rattle.values.proofs.merge.largest.Reads as largest-reads
+use Rattle.values.proofs.merge.make_above.Reads as make-above-reads
+use Rattle.values.proofs.merge.make_copied.Reads as make-copied-reads
+use Rattle.values.proofs.merge.make_in.Reads as make-in-reads
+use Rattle.values.proofs.merge.some_in.Reads as some-in-reads
+use Rattle.values.proofs.Merges as laws
+
+make-in-requires : tie.Need-make-in-requires
+make-in-requires c κs = (search needs, search needs, search laws.begun-here, search needs, search needs)
+
+make-copied-requires : tie.Need-make-copied-requires
+make-copied-requires c κs = (search needs, search needs, search needs, search needs, search needs, search laws.away-all, search needs)
+
+pub make-apart-spec : {M : Type 1} → statement M
+make-apart-spec =
+    tie.close
+    (tie.spec
+    (λ c κs. search needs)
+    make-in-requires
+    (λ c. search needs)
+    (λ c. search needs)
+    (λ c κs. search needs)
+    (λ c κs. search needs)
+    (λ c. search needs)
+    (λ c. search needs)
+    make-copied-requires
+    (λ c. search needs)
+    (λ c. search needs))
