@@ -19,7 +19,7 @@ use Rattle.cofj.specs.Writing.{codeOf, codesOf, typesBytes, methodLine, methodL
 use Rattle.cofj.specs.WellFormed.{AllMethods}
 use Rattle.cofj.proofs.Partial.{and-true}
 use Rattle.lineform.specs.Packed.{packed}
-use Rattle.lineform.specs.Answers.{endOf}
+use Rattle.lineform.specs.Answers.{endIn}
 use Rattle.classes.specs.declared.methods.Found.the-variants as found
 use Rattle.classes.specs.declared.place.Place.the-variants as place
 use Rattle.classes.specs.declared.build.Lines.the-variants.{At, Refused}

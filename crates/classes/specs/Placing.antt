@@ -9,9 +9,7 @@ use lib.Seq.{sets}
 use Rattle.cofj.specs.Typing.{closedTag}
 use Rattle.cofj.specs.Limits.{classCount, fieldCount, nestingLimit, lineSize}
 use Rattle.cofj.specs.Frames.{expr}
-use Rattle.lineform.specs.declared.exprs.ReadExpr.{ReadExpr}
-use Rattle.lineform.specs.declared.exprs.ReadExpr.the-variants.{Next, Refused}
-use Rattle.lineform.specs.Answers.{endOf}
+use Rattle.lineform.specs.Answers.{endIn}
 use Rattle.classes.specs.Figures.{rowSize, longSize, indexAt, methodsAt, mainAt, lastByte}
 use Rattle.classes.specs.declared.methods.Found.{Found}
 use Rattle.classes.specs.declared.methods.Found.the-variants as found
@@ -62,12 +60,11 @@ classPut l k B = sets (set (set B (rowSize * k) (getD l 2 0)) (rowSize * k + 1) 
 unfoldable pub classPlaced : List ℕ → ℕ → ℕ → List ℕ → Placed
 classPlaced l k n B = pick (classGood l k n B) (placed true (classPut l k B)) (placed false B)
 
-abbrev pub placeOf : ReadExpr → Place
-placeOf Refused = place.Nothing
-placeOf (Next b) = pick (ltb lineSize b) place.Nothing (place.At b)
+abbrev pub placeOf : ℕ → Place
+placeOf b = pick (ltb lineSize b) place.Nothing (place.At b)
 
 unfoldable pub rightIn : List ℕ → Place
-rightIn l = placeOf (endOf l (expr nestingLimit (drop (8 + 2 * getD l 7 0) l)))
+rightIn l = placeOf (endIn l (expr nestingLimit (drop (8 + 2 * getD l 7 0) l)))
 
 abbrev pub indexPut : ℕ → ℕ → ℕ → List ℕ → List ℕ
 indexPut c m x B = pick (ltb classCount c) B (set B (indexAt + longSize * c + m) x)

@@ -16,7 +16,6 @@ use crate::places::METHODS;
 use crate::places::ROW;
 use crate::places::SIZE;
 use crate::places::wide;
-use lineform::exprs::ReadExpr;
 use lineform::exprs::read_expr;
 ghost use mathlib.Core.Path.{_≡_};
 ghost use Prim.Native.Nat.{ℕ, _≤_, _<_, _+_, _*_};
@@ -88,10 +87,7 @@ pub fn right_in(l: &[u8]) -> Place
     requires { ⌜ 8 ≤ length (now l) ⌝ }
     ensures { λ r. ⌜ r ≡ rightIn (now (l .entry)) ⌝ }
 {
-    let e = read_expr(l, 8 + 2 * wide(l[7]), 6);
-    let ReadExpr::Next(b) = e else {
-        return Place::Nothing;
-    };
+    let b = read_expr(l, 8 + 2 * wide(l[7]), 6);
     if 255 < b {
         return Place::Nothing;
     }

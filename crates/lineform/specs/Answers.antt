@@ -1,18 +1,17 @@
 -- What the functions answer, of what the language's definitions give. Not here: lines as bytes (Packed).
 use Prim.Native.Nat.{ℕ, _+_, _*_, _-_, _≤_}
 use mathlib.Core.Path.{_≡_}
-use mathlib.Core.Bool.{Bool, true, false}
+use mathlib.Core.Bool.{Bool, true, false, _&&_}
 use mathlib.Core.List.{List, [], _∷_, _++_}
 use mathlib.Core.Option.{Option, none, some}
+use lib.Dec.{eqb}
 use lib.ListN.{length, drop}
-use Rattle.cofj.specs.Limits.{textSize}
+use Rattle.cofj.specs.Limits.{lineSize, textSize}
 use Rattle.cofj.specs.Partial.{_>>=_}
-use Rattle.cofj.specs.Text.{digit, lines}
+use Rattle.cofj.specs.Text.{within, digit, lines}
 use Rattle.cofj.specs.Frames.{Got, TextFrame, classFrame, methodFrame, mainFrame}
 use Rattle.cofj.specs.Tables.{Raw, ordered, few}
 use Rattle.cofj.specs.Writing.{codeOf}
-use Rattle.lineform.specs.declared.hex.Digit.{Digit}
-use Rattle.lineform.specs.declared.hex.Digit.the-variants.{Is, Not}
 use Rattle.lineform.specs.declared.exprs.ReadExpr.{ReadExpr}
 use Rattle.lineform.specs.declared.exprs.ReadExpr.the-variants.{Next, Refused}
 use Rattle.lineform.specs.declared.frames.Kind.{Kind}
@@ -25,20 +24,28 @@ use Rattle.lineform.specs.declared.lines.Ordered.{Ordered}
 use Rattle.lineform.specs.declared.lines.Ordered.the-variants.{Counts, Refused as NoOrder}
 use Rattle.lineform.specs.Packed.{packed}
 
-abbrev pub digitOf : Option ℕ → Digit
-digitOf none = Not
-digitOf (some d) = Is d
+-- a digit's value, and a number that is no digit's
+abbrev pub valueOf : Option ℕ → ℕ
+valueOf none = 256
+valueOf (some d) = d
 
--- the byte of two digits
-abbrev pub pairOf : List ℕ → Option ℕ
-pairOf [] = none
-pairOf (a ∷ []) = none
-pairOf (a ∷ (b ∷ r)) = digit a >>= λ h. digit b >>= λ d. some (16 * h + d)
+-- the byte of two digits; 256 or more if one is none
+abbrev pub pairValue : ℕ → ℕ → ℕ
+pairValue a b = 16 * valueOf (digit a) + valueOf (digit b)
+
+-- the character c ends a line of n bytes
+abbrev pub endsLine : ℕ → ℕ → Bool
+endsLine c n = eqb c 10 && within 1 lineSize n
 
 -- the place in s after what was read from it
 abbrev pub endOf : {A : Type 0} → List ℕ → Option (Got A) → ReadExpr
 endOf s none = Refused
 endOf s (some g) = Next (length s - length (g .rest))
+
+-- the same as a number: one past the end of s where nothing was read
+abbrev pub endIn : {A : Type 0} → List ℕ → Option (Got A) → ℕ
+endIn s none = length s + 1
+endIn s (some g) = length s - length (g .rest)
 
 -- a method's kind has the place of its right expression in the line
 abbrev pub kindOf : TextFrame → Kind

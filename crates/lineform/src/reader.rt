@@ -34,7 +34,11 @@ pub fn byte_of(s: &[u8], at: usize) -> AtPlace
 pub fn expr_end(s: &[u8], at: usize) -> ReadExpr
     ensures { λ r. ⌜ r ≡ endOf (now (s .entry)) (expr nestingLimit (drop at (now (s .entry)))) ⌝ }
 {
-    read_expr(s, at, NESTING_LIMIT)
+    let a = read_expr(s, at, NESTING_LIMIT);
+    if s.len() < a {
+        return ReadExpr::Refused;
+    }
+    ReadExpr::Next(a)
 }
 
 // ---- the reader
