@@ -6,9 +6,9 @@ use mathlib.Core.Path.{_≡_, refl, sym, ap, _∙_}
 use mathlib.Core.Bool.{Bool, true, false}
 use mathlib.Core.List.{List, [], _∷_}
 use mathlib.Core.Option.{Option, none, some}
-use lib.Dec.{eqb}
+use lib.Dec.{eqb, leb, ltb}
 use lib.ListN.{length, drop, getD}
-use borrow.Author.Tests.{le-leb, lt-leb, ne-eqb, eqb-true, eqb-false}
+use borrow.Author.Tests.{le-leb, lt-leb, le-ltb, lt-ltb, ne-eqb, eqb-true, eqb-false, leb-true, leb-false, ltb-true, ltb-false}
 use Rattle.cofj.specs.Partial.{_>>=_}
 use Rattle.cofj.specs.Syntax.{Expr, field, call, new, done, also, ty}
 use Rattle.cofj.specs.Frames.{Got, Reader, got, type, types, exprsBy, fieldAfter, callAfter, newAfter, exprAfter, expr}
@@ -16,7 +16,7 @@ use Rattle.cofj.specs.Writing.{codeOf, typesBytes}
 use Rattle.cofj.proofs.FrameRound.{expr-back, types-back}
 use Rattle.lineform.specs.declared.exprs.ReadExpr.{ReadExpr}
 use Rattle.lineform.specs.declared.exprs.ReadExpr.the-variants.{Next, Refused}
-use Rattle.lineform.specs.Answers.{endOf, endIn}
+use Rattle.lineform.specs.Answers.{endOf, endIn, newSize, leafSize}
 use Rattle.lineform.proofs.Ends.{more, no-more, tail-at, Leaves, same-end, end-here}
 
 pub expr-leaves : (s : List ℕ) (left at : ℕ) → Leaves s (expr left (drop at s))
@@ -77,6 +77,10 @@ call-parts s one m n bs h = rw (le-leb n 3 h) (parts-end s (one bs) (λ x. exprs
 new-parts : (s : List ℕ) (one : Reader Expr) (c n : ℕ) (bs : List ℕ) → n ≤ 4 → endIn s (newAfter one (c ∷ n ∷ bs)) ≡ endIn s (exprsBy one n bs)
 unfolding newAfter
 new-parts s one c n bs h = rw (le-leb n 4 h) (item-end s (exprsBy one n bs) (new c))
+
+list-none : (s : List ℕ) (left at : ℕ) → at ≤ length s → at ≡ endIn s (exprsBy (expr left) 0 (drop at s))
+unfolding exprsBy
+list-none s left at h = end-here s at h
 
 module _ (s : List ℕ) (left at : ℕ) where
   pub at-end : length s ≤ at → length s + 1 ≡ endIn s (expr left (drop at s))
@@ -158,6 +162,110 @@ module _ (s : List ℕ) (left at : ℕ) where
                   rw (step s left at nz h, b, more s (at + 1) h1, more s (at + 1 + 1) h2, e, n)
                   (sym (new-parts s (expr (left - 1)) (getD s (at + 1) 0) (getD s (at + 1 + 1) 0) (drop (at + 1 + 1 + 1) s) (omega arith))))
 
+-- ---- an expression that holds no other
+module _ (s : List ℕ) (at : ℕ) where
+  pub leaf-end : length s ≤ at → 0 ≡ leafSize (drop at s)
+  unfolding leafSize
+  leaf-end h = rw (no-more s at h)
+
+  module _ (h : at < length s) where
+    leaf-first : leafSize (drop at s) ≡ leafSize (getD s at 0 ∷ drop (at + 1) s)
+    leaf-first = ap leafSize (more s at h)
+
+    pub leaf-low : getD s at 0 < 0x42 → getD s at 0 < 0x40 → 0 ≡ leafSize (drop at s)
+    unfolding leafSize
+    leaf-low l k = sym (leaf-first ∙ rw (lt-ltb (getD s at 0) 0x42 l, lt-ltb (getD s at 0) 0x40 k, leafSize))
+
+    pub leaf-one : getD s at 0 < 0x42 → 0x40 ≤ getD s at 0 → 1 ≡ leafSize (drop at s)
+    unfolding leafSize
+    leaf-one l k = sym (leaf-first ∙ rw (lt-ltb (getD s at 0) 0x42 l, le-ltb (getD s at 0) 0x40 k, leafSize))
+
+    module _ (l : 0x42 ≤ getD s at 0) where
+      pub leaf-short : length s ≤ at + 1 → 0 ≡ leafSize (drop at s)
+      unfolding leafSize
+      leaf-short k = sym (leaf-first ∙ ap (λ (x : List ℕ). leafSize (getD s at 0 ∷ x)) (no-more s (at + 1) k) ∙ rw (le-ltb (getD s at 0) 0x42 l, leafSize) (go (eqb (getD s at 0) 0x42) (eqb (getD s at 0) 0x45)))
+        where
+          go : (x y : Bool) → _≡_ {A = ℕ} (elim x [ true ↦ 0 | false ↦ elim y [ true ↦ 0 | false ↦ 0 ] ]) 0
+          go true y = refl
+          go false true = refl
+          go false false = refl
+
+      module _ (h1 : at + 1 < length s) where
+        pub leaf-param : getD s at 0 ≡ 0x42 → 2 ≡ leafSize (drop at s)
+        unfolding leafSize
+        leaf-param e = rw (leaf-first, e, more s (at + 1) h1)
+
+        module _ (n2 : (getD s at 0 ≡ 0x42) → ⊥) where
+          pub leaf-other : ((getD s at 0 ≡ 0x45) → ⊥) → 0 ≡ leafSize (drop at s)
+          unfolding leafSize
+          leaf-other n5 = sym (leaf-first ∙ rw (le-ltb (getD s at 0) 0x42 l, ne-eqb (getD s at 0) 0x42 n2, ne-eqb (getD s at 0) 0x45 n5, leafSize))
+
+          module _ (e : getD s at 0 ≡ 0x45) where
+            pub leaf-short2 : length s ≤ at + 1 + 1 → 0 ≡ leafSize (drop at s)
+            unfolding leafSize
+            leaf-short2 k = rw (leaf-first, e, more s (at + 1) h1, no-more s (at + 1 + 1) k)
+
+            module _ (h2 : at + 1 + 1 < length s) where
+              new-first : leafSize (drop at s) ≡ newSize (getD s (at + 1) 0 ∷ getD s (at + 1 + 1) 0 ∷ drop (at + 1 + 1 + 1) s)
+              unfolding leafSize
+              new-first = rw (leaf-first, e, more s (at + 1) h1, more s (at + 1 + 1) h2)
+
+              pub leaf-new : getD s (at + 1 + 1) 0 ≡ 0 → 3 ≡ leafSize (drop at s)
+              leaf-new z = rw (new-first, z)
+
+              pub leaf-values : ((getD s (at + 1 + 1) 0 ≡ 0) → ⊥) → 0 ≡ leafSize (drop at s)
+              leaf-values z = sym (new-first ∙ rw (ne-eqb (getD s (at + 1 + 1) 0) 0 z, newSize))
+
+-- it ends after its size
+leaf-is : (s : List ℕ) (left at : ℕ) → 1 ≤ left → 0 < leafSize (drop at s) → at + leafSize (drop at s) ≡ endIn s (expr left (drop at s))
+leaf-is s left at nz p = start (leb (length s) at) refl
+  where
+    no : (m : ℕ) → m ≡ 0 → m ≡ leafSize (drop at s) → at + leafSize (drop at s) ≡ endIn s (expr left (drop at s))
+    no m z e = absurd (omega arith)
+    yes : (m : ℕ) → m ≡ leafSize (drop at s) → at + m ≡ endIn s (expr left (drop at s)) → at + leafSize (drop at s) ≡ endIn s (expr left (drop at s))
+    yes m e q = rw (← e) q
+    values : (h : at < length s) (l : 0x42 ≤ getD s at 0) (h1 : at + 1 < length s) (e : getD s at 0 ≡ 0x45) (h2 : at + 1 + 1 < length s) → (z : Bool) → eqb (getD s (at + 1 + 1) 0) 0 ≡ z → at + leafSize (drop at s) ≡ endIn s (expr left (drop at s))
+    values h l h1 e h2 true q =
+        let z = eqb-true (getD s (at + 1 + 1) 0) 0 q in
+        let n2 : (getD s at 0 ≡ 0x42) → ⊥ = λ y. omega arith in
+        let n3 : (getD s at 0 ≡ 0x43) → ⊥ = λ y. omega arith in
+        let x0 : 0 ≡ getD s (at + 1 + 1) 0 + (0x45 - getD s at 0) = omega arith in
+        let n : at + 3 ≡ at + 1 + 1 + 1 = omega arith in
+        yes 3 (leaf-new s at h l h1 n2 e h2 z)
+        (n ∙ at-parts s left at nz h l h1 n2 n3 (omega arith) h2 0 x0 (at + 1 + 1 + 1) (omega arith) (list-none s (left - 1) (at + 1 + 1 + 1) (omega arith)))
+    values h l h1 e h2 false q = no 0 refl (leaf-values s at h l h1 (λ y. omega arith) e h2 (eqb-false (getD s (at + 1 + 1) 0) 0 q))
+    new-one : (h : at < length s) (l : 0x42 ≤ getD s at 0) (h1 : at + 1 < length s) (e : getD s at 0 ≡ 0x45) → (z : Bool) → leb (length s) (at + 1 + 1) ≡ z → at + leafSize (drop at s) ≡ endIn s (expr left (drop at s))
+    new-one h l h1 e true q = no 0 refl (leaf-short2 s at h l h1 (λ y. omega arith) e (leb-true (length s) (at + 1 + 1) q))
+    new-one h l h1 e false q = values h l h1 e (leb-false (length s) (at + 1 + 1) q) (eqb (getD s (at + 1 + 1) 0) 0) refl
+    other : (h : at < length s) (l : 0x42 ≤ getD s at 0) (h1 : at + 1 < length s) (n2 : (getD s at 0 ≡ 0x42) → ⊥) → (z : Bool) → eqb (getD s at 0) 0x45 ≡ z → at + leafSize (drop at s) ≡ endIn s (expr left (drop at s))
+    other h l h1 n2 true q = new-one h l h1 (eqb-true (getD s at 0) 0x45 q) (leb (length s) (at + 1 + 1)) refl
+    other h l h1 n2 false q = no 0 refl (leaf-other s at h l h1 n2 (eqb-false (getD s at 0) 0x45 q))
+    param-one : (h : at < length s) (l : 0x42 ≤ getD s at 0) (h1 : at + 1 < length s) → (z : Bool) → eqb (getD s at 0) 0x42 ≡ z → at + leafSize (drop at s) ≡ endIn s (expr left (drop at s))
+    param-one h l h1 true q =
+        let e = eqb-true (getD s at 0) 0x42 q in
+        let n : at + 2 ≡ at + 1 + 1 = omega arith in
+        yes 2 (leaf-param s at h l h1 e) (n ∙ at-param s left at nz h l h1 e)
+    param-one h l h1 false q = other h l h1 (eqb-false (getD s at 0) 0x42 q) (eqb (getD s at 0) 0x45) refl
+    high : (h : at < length s) (l : 0x42 ≤ getD s at 0) → (z : Bool) → leb (length s) (at + 1) ≡ z → at + leafSize (drop at s) ≡ endIn s (expr left (drop at s))
+    high h l true q = no 0 refl (leaf-short s at h l (leb-true (length s) (at + 1) q))
+    high h l false q = param-one h l (leb-false (length s) (at + 1) q) (eqb (getD s at 0) 0x42) refl
+    low : (h : at < length s) (l : getD s at 0 < 0x42) → (z : Bool) → ltb (getD s at 0) 0x40 ≡ z → at + leafSize (drop at s) ≡ endIn s (expr left (drop at s))
+    low h l true q = no 0 refl (leaf-low s at h l (ltb-true (getD s at 0) 0x40 q))
+    low h l false q = let k = ltb-false (getD s at 0) 0x40 q in yes 1 (leaf-one s at h l k) (at-leaf s left at nz h l k)
+    sign : (h : at < length s) (z : Bool) → ltb (getD s at 0) 0x42 ≡ z → at + leafSize (drop at s) ≡ endIn s (expr left (drop at s))
+    sign h true q = low h (ltb-true (getD s at 0) 0x42 q) (ltb (getD s at 0) 0x40) refl
+    sign h false q = high h (ltb-false (getD s at 0) 0x42 q) (leb (length s) (at + 1)) refl
+    start : (z : Bool) → leb (length s) at ≡ z → at + leafSize (drop at s) ≡ endIn s (expr left (drop at s))
+    start true q = no 0 refl (leaf-end s at (leb-true (length s) at q))
+    start false q = sign (leb-false (length s) at q) (ltb (getD s at 0) 0x42) refl
+
+pub leaf-within : (s : List ℕ) (at m : ℕ) → m ≡ leafSize (drop at s) → 0 < m → at + m ≤ length s + 1
+leaf-within s at m e p = go (expr 1 (drop at s)) (leaf-is s 1 at (omega arith) (rw e at p))
+  where
+    go : (o : Option (Got Expr)) → at + leafSize (drop at s) ≡ endIn s o → at + m ≤ length s + 1
+    go none q = omega arith
+    go (some g) q = omega arith
+
 -- ---- lists of expressions
 -- the place after n expressions from a on, as the walk goes: the place after each is handed on, also past the end
 unfoldable pub walk : List ℕ → ℕ → ℕ → ℕ → ℕ
@@ -206,6 +314,9 @@ module _ (s : List ℕ) (left k a e : ℕ) (w : walk s left k a ≡ e) where
       go : (k : ℕ) → 0 < k → walk s left k a ≡ e → walk s left (k - 1) r ≡ e
       go zero p w = absurd (omega arith)
       go (suc k) p w = rw (sub-one, q) w
+
+  pub list-leaf : (m : ℕ) → 1 ≤ left → 0 < k → m ≡ leafSize (drop a s) → 0 < m → walk s left (k - 1) (a + m) ≡ e
+  list-leaf m nz p em pm = list-next (a + m) p (rw em (leaf-is s left a nz (rw em at pm)))
 
   pub list-ends : k ≤ 0 → a ≡ e
   unfolding walk

@@ -13,7 +13,7 @@ use borrow.Author.Tests.{le-leb, lt-leb, eqb-true}
 use Rattle.cofj.specs.Partial.{_>>=_}
 use Rattle.cofj.specs.Text.{within, digit}
 use Rattle.cofj.proofs.TextRound.{within-true}
-use Rattle.lineform.specs.Answers.{valueOf, pairValue}
+use Rattle.lineform.specs.Answers.{Values, valueOf, pairValue}
 
 pub below : (a b n : ℕ) → n < a → within a b n ≡ false
 below a b n h = rw (lt-leb a n h)
@@ -44,8 +44,14 @@ from (x ∷ xs) i (suc k) e h =
     let n : suc i + k ≡ i + suc k = omega arith in
     rw (← n) (from xs (suc i) k (b .1) (omega arith))
 
-pub value-at : (xs : List ℕ) (c : ℕ) → allRight 0 xs ≡ true → c < length xs → getD xs c 0 ≡ valueOf (digit c)
+value-at : (xs : List ℕ) (c : ℕ) → allRight 0 xs ≡ true → c < length xs → getD xs c 0 ≡ valueOf (digit c)
 value-at xs c e h = from xs 0 c e h ∙ ap (λ (k : ℕ). valueOf (digit k)) (let n : 0 + c ≡ c = omega arith in n)
+
+pub all-values : (xs : List ℕ) → allRight 0 xs ≡ true → length xs ≡ 256 → Values xs
+all-values xs e l = record { at = λ c h. value-at xs c e (omega arith) }
+
+pub value-is : (t : List ℕ) (c : ℕ) → Values t → c < 256 → getD t c 0 ≡ valueOf (digit c)
+value-is t c v h = v .at c h
 
 -- ---- two digits
 pub small : (c d : ℕ) → digit c ≡ some d → d ≤ 15

@@ -1,11 +1,11 @@
 -- What the functions answer, of what the language's definitions give. Not here: lines as bytes (Packed).
-use Prim.Native.Nat.{ℕ, _+_, _*_, _-_, _≤_}
+use Prim.Native.Nat.{ℕ, _+_, _*_, _-_, _<_, _≤_}
 use mathlib.Core.Path.{_≡_}
 use mathlib.Core.Bool.{Bool, true, false, _&&_}
 use mathlib.Core.List.{List, [], _∷_, _++_}
 use mathlib.Core.Option.{Option, none, some}
-use lib.Dec.{eqb}
-use lib.ListN.{length, drop}
+use lib.Dec.{eqb, ltb}
+use lib.ListN.{length, getD, drop}
 use Rattle.cofj.specs.Limits.{lineSize, textSize}
 use Rattle.cofj.specs.Partial.{_>>=_}
 use Rattle.cofj.specs.Text.{within, digit, lines}
@@ -29,6 +29,10 @@ abbrev pub valueOf : Option ℕ → ℕ
 valueOf none = 256
 valueOf (some d) = d
 
+-- the values of all characters
+pub record Values (t : List ℕ) : Type 0 where
+  pub at : (c : ℕ) → c < 256 → getD t c 0 ≡ valueOf (digit c)
+
 -- the byte of two digits; 256 or more if one is none
 abbrev pub pairValue : ℕ → ℕ → ℕ
 pairValue a b = 16 * valueOf (digit a) + valueOf (digit b)
@@ -46,6 +50,29 @@ endOf s (some g) = Next (length s - length (g .rest))
 abbrev pub endIn : {A : Type 0} → List ℕ → Option (Got A) → ℕ
 endIn s none = length s + 1
 endIn s (some g) = length s - length (g .rest)
+
+-- ---- expressions that hold no other: this, the result, a parameter, a new object without values
+abbrev pub paramSize : List ℕ → ℕ
+paramSize [] = 0
+paramSize (k ∷ bs) = 2
+
+abbrev pub newSize : List ℕ → ℕ
+newSize [] = 0
+newSize (c ∷ []) = 0
+newSize (c ∷ n ∷ bs) = elim (eqb n 0) [ true ↦ 3 | false ↦ 0 ]
+
+-- the size of one that stands at the front; 0 if none does
+unfoldable pub leafSize : List ℕ → ℕ
+leafSize [] = 0
+leafSize (b ∷ bs) =
+    elim (ltb b 0x42) [
+      | true ↦ elim (ltb b 0x40) [ true ↦ 0 | false ↦ 1 ]
+      | false ↦
+          elim (eqb b 0x42) [
+            | true ↦ paramSize bs
+            | false ↦ elim (eqb b 0x45) [ true ↦ newSize bs | false ↦ 0 ]
+          ]
+    ]
 
 -- a method's kind has the place of its right expression in the line
 abbrev pub kindOf : TextFrame → Kind

@@ -5,7 +5,7 @@ ghost use Prim.Native.Nat.{_≤_, _+_, _-_};
 ghost use lib.ListN.{length, drop};
 ghost use Rattle.cofj.specs.Limits.{fieldCount};
 ghost use Rattle.cofj.specs.Frames.{expr, exprsBy, types};
-ghost use Rattle.lineform.specs.Answers.{endOf, endIn};
+ghost use Rattle.lineform.specs.Answers.{endOf, endIn, leafSize};
 
 // Document 01's figures (cofj's Limits).
 pub const FIELD_COUNT: u8 = 4;
@@ -78,6 +78,40 @@ pub fn read_expr(s: &[u8], at: usize, left: usize) -> usize
     read_list(s, a2 + 1, n, left - 1)
 }
 
+// The size of the expression at `at` if it holds no other; else 0.
+fn leaf_size(s: &[u8], at: usize) -> usize
+    ensures { λ r. ⌜ r ≡ leafSize (drop at (now (s .entry))) ⌝ }
+{
+    if s.len() <= at {
+        return 0;
+    }
+    let b = s[at];
+    if b < 0x42 {
+        if b < 0x40 {
+            return 0;
+        }
+        return 1;
+    }
+    let a1 = at + 1;
+    if s.len() <= a1 {
+        return 0;
+    }
+    if b == 0x42 {
+        return 2;
+    }
+    if b != 0x45 {
+        return 0;
+    }
+    let a2 = a1 + 1;
+    if s.len() <= a2 {
+        return 0;
+    }
+    if s[a2] == 0 {
+        return 3;
+    }
+    0
+}
+
 // The place after n expressions, one after the other. After a refusal the place is past the end, where the next one is refused too.
 pub fn read_list(s: &[u8], at: usize, n: usize, left: usize) -> usize
     requires { ⌜ n ≤ fieldCount ⌝ }
@@ -93,8 +127,13 @@ pub fn read_list(s: &[u8], at: usize, n: usize, left: usize) -> usize
     let mut a: usize = at;
     let mut k: usize = n;
     while 0 < k {
-        a = read_expr(s, a, left);
         k -= 1;
+        let m = leaf_size(s, a);
+        if 0 < m {
+            a += m;
+            continue;
+        }
+        a = read_expr(s, a, left);
     }
     a
 }

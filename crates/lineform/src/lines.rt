@@ -5,11 +5,12 @@ ghost use Prim.Native.Nat.{_≤_};
 ghost use lib.ListN.{length};
 ghost use Rattle.cofj.specs.Frames.{frames};
 ghost use Rattle.lineform.specs.Packed.{unpack, Packed, FramedLines};
-ghost use Rattle.lineform.specs.Answers.{Roomy, Decodable, Decodes, endsLine, isSome, orderOf};
+ghost use Rattle.lineform.specs.Answers.{Values, Roomy, Decodable, Decodes, endsLine, isSome, orderOf};
 use crate::exprs::wide;
 use crate::frames::Framed;
 use crate::frames::frame_kind;
 use crate::hex::pair;
+use crate::hex::values;
 
 // Document 01's figures (cofj's Limits).
 const TEXT_SIZE: usize = 49567;
@@ -43,7 +44,8 @@ pub fn decode(text: &[u8], out: &mut [u8]) -> Decoded
     if TEXT_SIZE < text.len() {
         return Decoded::Refused;
     }
-    decode_lines(text, out)
+    let t = values();
+    decode_lines(text, &t, out)
 }
 
 // Whether the character c ends a line of n bytes.
@@ -60,8 +62,8 @@ fn ends_line(c: u8, n: usize) -> bool
 }
 
 // The same of a text of a fit length. At `w` the line begins whose next byte goes to `o`.
-fn decode_lines(text: &[u8], out: &mut [u8]) -> Decoded
-    requires { ⌜ Decodable (now text) (now out) ⌝ }
+fn decode_lines(text: &[u8], t: &[u16; 256], out: &mut [u8]) -> Decoded
+    requires { ⌜ Decodable (now text) (now out) × Values (now t) ⌝ }
     ensures { λ r. ⌜ Decodes (now (text .entry)) (now (out .entry)) (now (out .exit)) r ⌝ }
 {
     let last = text.len() - 1;
@@ -70,7 +72,7 @@ fn decode_lines(text: &[u8], out: &mut [u8]) -> Decoded
     let mut o: usize = 1;
     while i < last {
         let c = text[i];
-        let x = pair(c, text[i + 1]);
+        let x = pair(t, c, text[i + 1]);
         if x < 256 {
             out[o] = x as u8;
             o += 1;

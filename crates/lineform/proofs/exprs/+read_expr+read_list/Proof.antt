@@ -9,12 +9,15 @@ use Rattle.lineform.proofs.exprs.+read_expr+read_list.Lts-read_expr as 
 use Rattle.lineform.proofs.exprs.read_list.Reads as read-list
 use Rattle.lineform.proofs.exprs.read_list.Kinds as read-list-kinds
 use Rattle.lineform.proofs.exprs.+read_expr+read_list.Lts-read_list as read-list-lts
+use Rattle.lineform.proofs.exprs.leaf_size.Reads as leaf-size-reads
 use Rattle.lineform.proofs.exprs.parts.Reads as parts-reads
 use Rattle.lineform.proofs.exprs.+read_expr+read_list.{statement}
 use Rattle.lineform.proofs.exprs.+read_expr+read_list.Tie.{close}
 use borrow.Author.Needs.{needs}
+use native.Mathlib.Omega.{arith}
 use mathlib.Core.Path.{_≡_}
 use lib.ListN.{drop}
+use denote.Ref.{now}
 use Rattle.cofj.specs.Frames.{expr, exprsBy}
 use Rattle.lineform.specs.Answers.{endIn}
 use Rattle.lineform.proofs.ExprLaws as laws
@@ -44,7 +47,7 @@ abbrev read-expr-claims : ℕ → read-expr-lts.Claims
 read-expr-claims t = (read-list-below t, read-list.Post, parts-reads.Asked, parts-reads.Learnt)
 
 abbrev read-list-claims : ℕ → read-list-lts.Claims
-read-list-claims t = (read-expr-below t, read-expr.Post)
+read-list-claims t = (leaf-size-reads.Asked, leaf-size-reads.Learnt, read-expr-below t, read-expr.Post)
 
 abbrev Inv-loop : read-list-lts.InvT-loop
 Inv-loop s at n left a₀ k₀ a k = (1 ≤ left) × (walk s left k a ≡ endIn s (exprsBy (expr left) n (drop at s)))
@@ -93,8 +96,15 @@ read-list-returns-2 t c = search laws.list-deep
 read-list-loop-holds : (t : ℕ) → read-list-lts.Need-loop-holds (read-list-claims t) (read-list-at t) read-list.Post Inv-loop μ-loop
 read-list-loop-holds t c = (search needs, search laws.list-starts)
 
+read-list-add-a : (t : ℕ) → read-list-lts.Need-add-a (read-list-claims t) (read-list-at t) read-list.Post Inv-loop μ-loop
+read-list-add-a t c =
+    omega (arith, laws.leaf-within (now (c .before .before .before .before .before .before .before .args .s)) (c .before .before .before .loop .a) _ (c .before .leaf-size .ensures) (c .if3 .taken))
+
 read-list-loop-again : (t : ℕ) → read-list-lts.Need-loop-again (read-list-claims t) (read-list-at t) read-list.Post Inv-loop μ-loop
-read-list-loop-again t c = (search needs, search laws.list-next)
+read-list-loop-again t c = (search needs, search laws.list-leaf)
+
+read-list-loop-again-2 : (t : ℕ) → read-list-lts.Need-loop-again-2 (read-list-claims t) (read-list-at t) read-list.Post Inv-loop μ-loop
+read-list-loop-again-2 t c = (search needs, search laws.list-next)
 
 read-list-returns-3 : (t : ℕ) → read-list-lts.Need-returns-3 (read-list-claims t) (read-list-at t) read-list.Post Inv-loop μ-loop
 read-list-returns-3 t c = search laws.list-ends
@@ -134,8 +144,12 @@ pub +read-expr+read-list-spec : {M : Type 1} → statement M
     (λ c. search needs)
     (read-list-returns-2 t)
     (read-list-loop-holds t)
-    (λ c κs. search needs)
     (λ c. search needs)
+    (λ c κs. search needs)
+    (read-list-add-a t)
     (λ c. search needs)
     (read-list-loop-again t)
+    (λ c κs. search needs)
+    (λ c. search needs)
+    (read-list-loop-again-2 t)
     (read-list-returns-3 t))

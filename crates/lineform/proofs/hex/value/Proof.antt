@@ -1,12 +1,21 @@
--- `hex::value` meets its contract: every entry of the table is right, by one test of all of them.
 use borrow.Author.Needs.{needs}
-use mathlib.Core.Path.{refl}
 use Rattle.lineform.proofs.hex.value.Statement.{statement}
 use Rattle.lineform.proofs.hex.value.Tie as tie
 use Rattle.lineform.proofs.HexLaws as laws
+use Rattle.lineform.proofs.hex.value.Reads as reads
+use Rattle.lineform.proofs.hex.value.Lts as lts
 
+-- src/hex.rt:19:5
+mul-result : tie.Need-mul-result
+mul-result c = search needs
+
+-- src/hex.rt:19:5
+element-copy-out-result : tie.Need-element-copy-out-result
+element-copy-out-result c = search needs
+
+-- src/hex.rt:15:1
 returns : tie.Need-returns
-returns c = search (laws.value-at, refl)
+returns c = search laws.value-is
 
 pub value-spec : {M : Type 1} → statement M
-value-spec = tie.close (tie.spec (λ c. search needs) (λ c. search needs) returns)
+value-spec = tie.close (tie.spec mul-result element-copy-out-result returns)

@@ -13,10 +13,10 @@ use Rattle.lineform.proofs.DecodeLaws as laws
 use Rattle.lineform.proofs.DecodeLaws.{Reading}
 
 abbrev Inv-loop : tie.InvT-loop
-Inv-loop text out₀ last i₀ w₀ o₀ out i w o = (w + 1 ≤ o) × (i + w + 1 ≤ last + o) × (4 * o ≤ 2 * i + w + 4) × (i ≤ length text) × (length out ≡ length out₀) × Reading text out₀ out i w o
+Inv-loop text t out₀ last i₀ w₀ o₀ out i w o = (w + 1 ≤ o) × (i + w + 1 ≤ last + o) × (4 * o ≤ 2 * i + w + 4) × (i ≤ length text) × (length out ≡ length out₀) × Reading text out₀ out i w o
 
 abbrev μ-loop : tie.MeasureT-loop
-μ-loop text out₀ last i₀ w₀ o₀ out i w o = length text - i
+μ-loop text t out₀ last i₀ w₀ o₀ out i w o = length text - i
 
 loop-holds : tie.Need-loop-holds Inv-loop μ-loop
 loop-holds c = (search needs, search needs, search needs, search needs, search needs, search laws.reading-none)
