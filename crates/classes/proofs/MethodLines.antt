@@ -10,10 +10,9 @@ use lib.Dec.{eqb, leb, ltb}
 use lib.ListN.{length, getD, drop, length-append}
 use lib.Seq.{drop-append-seam, getD-append-add}
 use borrow.Author.Tests.{eqb-true, eqb-false, eq-eqb, ne-eqb, leb-true, le-leb, le-ltb}
-use Rattle.cofj.specs.Limits.{classCount, methodCount, lineSize, nestingLimit}
-use Rattle.cofj.specs.Syntax.{Expr, this, res, param, field, call, new, Exprs, done, also, Ty, Class, Method}
+use Rattle.cofj.specs.Limits.{classCount, methodCount, lineSize}
+use Rattle.cofj.specs.Syntax.{Expr, this, res, param, field, call, new, Exprs, done, also, count, Ty, Class, Method}
 use Rattle.cofj.specs.Typing.{closedTag, allClosed}
-use Rattle.cofj.specs.Frames.{Got, got, expr}
 use Rattle.cofj.specs.Tables.{known, allKnown, exprKnown, exprsKnown, hasName, methodsGood}
 use Rattle.cofj.specs.Writing.{codeOf, codesOf, typesBytes, methodLine, methodLines}
 use Rattle.cofj.specs.WellFormed.{AllMethods}
@@ -106,7 +105,6 @@ module _ (d : Method) where
 -- what a method that was read from a line has
 pub record Framed (d : Method) : Type 0 where
   pub short : length (methodLine d) ≤ lineSize
-  pub read : expr nestingLimit (codeOf (d .left) ++ codeOf (d .right)) ≡ got (d .left) (codeOf (d .right))
   pub name : d .name < 256
 
 -- ---- where an expression ends: m more follow it
@@ -114,9 +112,9 @@ mutual
   unfolding past codeOf
 
   past-code : (e : Expr) (m : ℕ) (r : List ℕ) → past (suc m) 0 (codeOf e ++ r) ≡ length (codeOf e) + past m 0 r
-  past-code this m r = refl
-  past-code res m r = refl
-  past-code (param k) m r = refl
+  past-code this m r = omega arith
+  past-code res m r = omega arith
+  past-code (param k) m r = omega arith
   past-code (field f e) m r = let h = past-code e m r in omega arith
   past-code (call n e es) m r =
       let h = past-code e (m + count es) (codesOf es ++ r) in
@@ -127,7 +125,7 @@ mutual
   past-code (new c es) m r = let h = past-codes es m r in omega arith
 
   past-codes : (es : Exprs) (m : ℕ) (r : List ℕ) → past (m + count es) 0 (codesOf es ++ r) ≡ length (codesOf es) + past m 0 r
-  past-codes done m r = ap (λ (x : ℕ). past x 0 r) (let e : m + 0 ≡ m = omega arith in e)
+  past-codes done m r = let e = ap (λ (x : ℕ). past x 0 r) (let w : m + 0 ≡ m = omega arith in w) in omega arith
   past-codes (also e es) m r =
       let h = past-code e (m + count es) (codesOf es ++ r) in
       let k = past-codes es m r in
