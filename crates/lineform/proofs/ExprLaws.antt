@@ -8,16 +8,17 @@ use mathlib.Core.List.{List, [], _∷_}
 use mathlib.Core.Option.{Option, none, some}
 use lib.Dec.{eqb, leb, ltb}
 use lib.ListN.{length, drop, getD}
-use borrow.Author.Tests.{le-leb, lt-leb, le-ltb, lt-ltb, ne-eqb, eqb-true, eqb-false, leb-true, leb-false, ltb-true, ltb-false}
+use borrow.Author.Tests.{le-leb, lt-leb, le-ltb, lt-ltb, eq-eqb, ne-eqb, eqb-true, eqb-false, leb-true, leb-false, ltb-true, ltb-false}
 use Rattle.cofj.specs.Partial.{_>>=_}
 use Rattle.cofj.specs.Syntax.{Expr, field, call, new, done, also, ty}
 use Rattle.cofj.specs.Frames.{Got, Reader, got, type, types, exprsBy, fieldAfter, callAfter, newAfter, exprAfter, expr}
 use Rattle.cofj.specs.Writing.{codeOf, typesBytes}
 use Rattle.cofj.proofs.FrameRound.{expr-back, types-back}
+use Rattle.lineform.specs.declared.exprs.Sign.{Sign}
 use Rattle.lineform.specs.declared.exprs.ReadExpr.{ReadExpr}
 use Rattle.lineform.specs.declared.exprs.ReadExpr.the-variants.{Next, Refused}
-use Rattle.lineform.specs.Answers.{endOf, endIn, newSize, leafSize}
-use Rattle.lineform.proofs.Ends.{more, no-more, tail-at, Leaves, same-end, end-here}
+use Rattle.lineform.specs.Answers.{endOf, endIn, pick, after, noSign, partsAt, countedSign, longSign, signAt, endBy}
+use Rattle.lineform.proofs.Ends.{more, no-more, tail-at, Leaves, same-end, end-here, number-refused, number-next}
 
 pub expr-leaves : (s : List ℕ) (left at : ℕ) → Leaves s (expr left (drop at s))
 expr-leaves s left at = record { tail = λ g e. tail-at s at (codeOf (g .item)) (g .rest) (expr-back left (drop at s) g e) }
@@ -162,109 +163,145 @@ module _ (s : List ℕ) (left at : ℕ) where
                   rw (step s left at nz h, b, more s (at + 1) h1, more s (at + 1 + 1) h2, e, n)
                   (sym (new-parts s (expr (left - 1)) (getD s (at + 1) 0) (getD s (at + 1 + 1) 0) (drop (at + 1 + 1 + 1) s) (omega arith))))
 
--- ---- an expression that holds no other
+-- ---- signs: one law for each return
+pub counted-high : (s : List ℕ) (at b : ℕ) (g : Sign) → 0x45 < b → g ≡ noSign s → g ≡ countedSign s at b
+unfolding countedSign
+counted-high s at b g l e = rw (lt-ltb 0x45 b l) e
+
+module _ (s : List ℕ) (at b : ℕ) (top : b ≤ 0x45) where
+  pub counted-short : (g : Sign) → length s ≤ at + 1 + 1 → g ≡ noSign s → g ≡ countedSign s at b
+  unfolding countedSign
+  counted-short g k e = rw (le-ltb 0x45 b top, le-leb (length s) (at + 1 + 1) k) e
+
+  module _ (h : at + 1 + 1 < length s) (n : ℕ) (en : n ≡ getD s (at + 1 + 1) 0 + (0x45 - b)) where
+    pub counted-over : (g : Sign) → 4 < n → g ≡ noSign s → g ≡ countedSign s at b
+    unfolding countedSign
+    counted-over g k e = rw (le-ltb 0x45 b top, lt-leb (length s) (at + 1 + 1) h, ← en, lt-ltb 4 n k) e
+
+    pub counted-parts : n ≤ 4 → after (at + 1 + 1 + 1) n ≡ countedSign s at b
+    unfolding countedSign
+    counted-parts k = rw (le-ltb 0x45 b top, lt-leb (length s) (at + 1 + 1) h, ← en, le-ltb 4 n k)
+
 module _ (s : List ℕ) (at : ℕ) where
-  pub leaf-end : length s ≤ at → 0 ≡ leafSize (drop at s)
-  unfolding leafSize
-  leaf-end h = rw (no-more s at h)
+  pub sign-end : (g : Sign) → length s ≤ at → g ≡ noSign s → g ≡ signAt s at
+  unfolding signAt
+  sign-end g h e = rw (le-leb (length s) at h) e
 
   module _ (h : at < length s) where
-    leaf-first : leafSize (drop at s) ≡ leafSize (getD s at 0 ∷ drop (at + 1) s)
-    leaf-first = ap leafSize (more s at h)
+    pub sign-low : (g : Sign) → getD s at 0 < 0x42 → getD s at 0 < 0x40 → g ≡ noSign s → g ≡ signAt s at
+    unfolding signAt
+    sign-low g l k e = rw (lt-leb (length s) at h, lt-ltb (getD s at 0) 0x42 l, lt-ltb (getD s at 0) 0x40 k) e
 
-    pub leaf-low : getD s at 0 < 0x42 → getD s at 0 < 0x40 → 0 ≡ leafSize (drop at s)
-    unfolding leafSize
-    leaf-low l k = sym (leaf-first ∙ rw (lt-ltb (getD s at 0) 0x42 l, lt-ltb (getD s at 0) 0x40 k, leafSize))
-
-    pub leaf-one : getD s at 0 < 0x42 → 0x40 ≤ getD s at 0 → 1 ≡ leafSize (drop at s)
-    unfolding leafSize
-    leaf-one l k = sym (leaf-first ∙ rw (lt-ltb (getD s at 0) 0x42 l, le-ltb (getD s at 0) 0x40 k, leafSize))
+    pub sign-leaf : getD s at 0 < 0x42 → 0x40 ≤ getD s at 0 → after (at + 1) 0 ≡ signAt s at
+    unfolding signAt
+    sign-leaf l k = rw (lt-leb (length s) at h, lt-ltb (getD s at 0) 0x42 l, le-ltb (getD s at 0) 0x40 k)
 
     module _ (l : 0x42 ≤ getD s at 0) where
-      pub leaf-short : length s ≤ at + 1 → 0 ≡ leafSize (drop at s)
-      unfolding leafSize
-      leaf-short k = sym (leaf-first ∙ ap (λ (x : List ℕ). leafSize (getD s at 0 ∷ x)) (no-more s (at + 1) k) ∙ rw (le-ltb (getD s at 0) 0x42 l, leafSize) (go (eqb (getD s at 0) 0x42) (eqb (getD s at 0) 0x45)))
-        where
-          go : (x y : Bool) → _≡_ {A = ℕ} (elim x [ true ↦ 0 | false ↦ elim y [ true ↦ 0 | false ↦ 0 ] ]) 0
-          go true y = refl
-          go false true = refl
-          go false false = refl
+      long : signAt s at ≡ longSign s at (getD s at 0)
+      unfolding signAt
+      long = rw (lt-leb (length s) at h, le-ltb (getD s at 0) 0x42 l)
+
+      pub sign-short : (g : Sign) → length s ≤ at + 1 → g ≡ noSign s → g ≡ signAt s at
+      unfolding longSign
+      sign-short g k e = rw (long, le-leb (length s) (at + 1) k) e
 
       module _ (h1 : at + 1 < length s) where
-        pub leaf-param : getD s at 0 ≡ 0x42 → 2 ≡ leafSize (drop at s)
-        unfolding leafSize
-        leaf-param e = rw (leaf-first, e, more s (at + 1) h1)
+        pub sign-param : getD s at 0 ≡ 0x42 → after (at + 1 + 1) 0 ≡ signAt s at
+        unfolding longSign
+        sign-param e = rw (long, lt-leb (length s) (at + 1) h1, eq-eqb (getD s at 0) 0x42 e)
 
         module _ (n2 : (getD s at 0 ≡ 0x42) → ⊥) where
-          pub leaf-other : ((getD s at 0 ≡ 0x45) → ⊥) → 0 ≡ leafSize (drop at s)
-          unfolding leafSize
-          leaf-other n5 = sym (leaf-first ∙ rw (le-ltb (getD s at 0) 0x42 l, ne-eqb (getD s at 0) 0x42 n2, ne-eqb (getD s at 0) 0x45 n5, leafSize))
+          pub sign-field : getD s at 0 ≡ 0x43 → after (at + 1 + 1) 1 ≡ signAt s at
+          unfolding longSign
+          sign-field e = rw (long, lt-leb (length s) (at + 1) h1, ne-eqb (getD s at 0) 0x42 n2, eq-eqb (getD s at 0) 0x43 e)
 
-          module _ (e : getD s at 0 ≡ 0x45) where
-            pub leaf-short2 : length s ≤ at + 1 + 1 → 0 ≡ leafSize (drop at s)
-            unfolding leafSize
-            leaf-short2 k = rw (leaf-first, e, more s (at + 1) h1, no-more s (at + 1 + 1) k)
+          pub sign-counted : (g : Sign) → ((getD s at 0 ≡ 0x43) → ⊥) → g ≡ countedSign s at (getD s at 0) → g ≡ signAt s at
+          unfolding longSign
+          sign-counted g n3 e = rw (long, lt-leb (length s) (at + 1) h1, ne-eqb (getD s at 0) 0x42 n2, ne-eqb (getD s at 0) 0x43 n3) e
 
-            module _ (h2 : at + 1 + 1 < length s) where
-              new-first : leafSize (drop at s) ≡ newSize (getD s (at + 1) 0 ∷ getD s (at + 1 + 1) 0 ∷ drop (at + 1 + 1 + 1) s)
-              unfolding leafSize
-              new-first = rw (leaf-first, e, more s (at + 1) h1, more s (at + 1 + 1) h2)
+-- an expression ends where its sign says
+module _ (s : List ℕ) (left at : ℕ) (nz : 1 ≤ left) where
+  by-no-sign : length s + 1 ≡ endIn s (expr left (drop at s)) → endBy s left (noSign s) ≡ endIn s (expr left (drop at s))
+  unfolding endBy
+  by-no-sign e = e
 
-              pub leaf-new : getD s (at + 1 + 1) 0 ≡ 0 → 3 ≡ leafSize (drop at s)
-              leaf-new z = rw (new-first, z)
+  module _ (h : at < length s) (l : 0x42 ≤ getD s at 0) (h1 : at + 1 < length s) where
+    by-counted : ((getD s at 0 ≡ 0x42) → ⊥) → ((getD s at 0 ≡ 0x43) → ⊥) → endBy s left (countedSign s at (getD s at 0)) ≡ endIn s (expr left (drop at s))
+    unfolding countedSign endBy
+    by-counted n2 n3 = high (ltb 0x45 (getD s at 0)) refl
+      where
+        parts : getD s at 0 ≤ 0x45 → at + 1 + 1 < length s → partsAt s at (getD s at 0) ≤ 4 → (z : Bool) → eqb (partsAt s at (getD s at 0)) 0 ≡ z
+            → pick z (at + 1 + 1 + 1) (endIn s (exprsBy (expr (left - 1)) (partsAt s at (getD s at 0)) (drop (at + 1 + 1 + 1) s))) ≡ endIn s (expr left (drop at s))
+        parts t h2 k true q =
+            at-parts s left at nz h l h1 n2 n3 t h2 (partsAt s at (getD s at 0)) refl (at + 1 + 1 + 1) k
+            (rw (eqb-true (partsAt s at (getD s at 0)) 0 q) (list-none s (left - 1) (at + 1 + 1 + 1) (omega arith)))
+        parts t h2 k false q =
+            at-parts s left at nz h l h1 n2 n3 t h2 (partsAt s at (getD s at 0)) refl (endIn s (exprsBy (expr (left - 1)) (partsAt s at (getD s at 0)) (drop (at + 1 + 1 + 1) s))) k refl
+        over : getD s at 0 ≤ 0x45 → at + 1 + 1 < length s → (z : Bool) → ltb 4 (partsAt s at (getD s at 0)) ≡ z
+            → endBy s left (pick z (noSign s) (after (at + 1 + 1 + 1) (partsAt s at (getD s at 0)))) ≡ endIn s (expr left (drop at s))
+        over t h2 true q = at-over s left at nz h l h1 n2 n3 t h2 (partsAt s at (getD s at 0)) refl (ltb-true 4 (partsAt s at (getD s at 0)) q)
+        over t h2 false q = parts t h2 (ltb-false 4 (partsAt s at (getD s at 0)) q) (eqb (partsAt s at (getD s at 0)) 0) refl
+        short : getD s at 0 ≤ 0x45 → (z : Bool) → leb (length s) (at + 1 + 1) ≡ z
+            → endBy s left (pick z (noSign s) (pick (ltb 4 (partsAt s at (getD s at 0))) (noSign s) (after (at + 1 + 1 + 1) (partsAt s at (getD s at 0))))) ≡ endIn s (expr left (drop at s))
+        short t true q = at-short2 s left at nz h l h1 n2 n3 t (leb-true (length s) (at + 1 + 1) q)
+        short t false q = over t (leb-false (length s) (at + 1 + 1) q) (ltb 4 (partsAt s at (getD s at 0))) refl
+        high : (z : Bool) → ltb 0x45 (getD s at 0) ≡ z
+            → endBy s left (pick z (noSign s) (pick (leb (length s) (at + 1 + 1)) (noSign s) (pick (ltb 4 (partsAt s at (getD s at 0))) (noSign s) (after (at + 1 + 1 + 1) (partsAt s at (getD s at 0)))))) ≡ endIn s (expr left (drop at s))
+        high true q = at-high s left at nz h l h1 (ltb-true 0x45 (getD s at 0) q)
+        high false q = short (ltb-false 0x45 (getD s at 0) q) (leb (length s) (at + 1 + 1)) refl
 
-              pub leaf-values : ((getD s (at + 1 + 1) 0 ≡ 0) → ⊥) → 0 ≡ leafSize (drop at s)
-              leaf-values z = sym (new-first ∙ rw (ne-eqb (getD s (at + 1 + 1) 0) 0 z, newSize))
+  by-long : (h : at < length s) (l : 0x42 ≤ getD s at 0) → endBy s left (longSign s at (getD s at 0)) ≡ endIn s (expr left (drop at s))
+  unfolding longSign endBy
+  by-long h l = short (leb (length s) (at + 1)) refl
+    where
+      field-one : at + 1 < length s → ((getD s at 0 ≡ 0x42) → ⊥) → (z : Bool) → eqb (getD s at 0) 0x43 ≡ z
+          → endBy s left (pick z (after (at + 1 + 1) 1) (countedSign s at (getD s at 0))) ≡ endIn s (expr left (drop at s))
+      field-one h1 n2 true q = at-field s left at nz h l h1 (endIn s (exprsBy (expr (left - 1)) 1 (drop (at + 1 + 1) s))) (eqb-true (getD s at 0) 0x43 q) refl
+      field-one h1 n2 false q = by-counted h l h1 n2 (eqb-false (getD s at 0) 0x43 q)
+      param-one : at + 1 < length s → (z : Bool) → eqb (getD s at 0) 0x42 ≡ z
+          → endBy s left (pick z (after (at + 1 + 1) 0) (pick (eqb (getD s at 0) 0x43) (after (at + 1 + 1) 1) (countedSign s at (getD s at 0)))) ≡ endIn s (expr left (drop at s))
+      param-one h1 true q = at-param s left at nz h l h1 (eqb-true (getD s at 0) 0x42 q)
+      param-one h1 false q = field-one h1 (eqb-false (getD s at 0) 0x42 q) (eqb (getD s at 0) 0x43) refl
+      short : (z : Bool) → leb (length s) (at + 1) ≡ z
+          → endBy s left (pick z (noSign s) (pick (eqb (getD s at 0) 0x42) (after (at + 1 + 1) 0) (pick (eqb (getD s at 0) 0x43) (after (at + 1 + 1) 1) (countedSign s at (getD s at 0))))) ≡ endIn s (expr left (drop at s))
+      short true q = at-short s left at nz h l (leb-true (length s) (at + 1) q)
+      short false q = param-one (leb-false (length s) (at + 1) q) (eqb (getD s at 0) 0x42) refl
 
--- it ends after its size
-leaf-is : (s : List ℕ) (left at : ℕ) → 1 ≤ left → 0 < leafSize (drop at s) → at + leafSize (drop at s) ≡ endIn s (expr left (drop at s))
-leaf-is s left at nz p = start (leb (length s) at) refl
-  where
-    no : (m : ℕ) → m ≡ 0 → m ≡ leafSize (drop at s) → at + leafSize (drop at s) ≡ endIn s (expr left (drop at s))
-    no m z e = absurd (omega arith)
-    yes : (m : ℕ) → m ≡ leafSize (drop at s) → at + m ≡ endIn s (expr left (drop at s)) → at + leafSize (drop at s) ≡ endIn s (expr left (drop at s))
-    yes m e q = rw (← e) q
-    values : (h : at < length s) (l : 0x42 ≤ getD s at 0) (h1 : at + 1 < length s) (e : getD s at 0 ≡ 0x45) (h2 : at + 1 + 1 < length s) → (z : Bool) → eqb (getD s (at + 1 + 1) 0) 0 ≡ z → at + leafSize (drop at s) ≡ endIn s (expr left (drop at s))
-    values h l h1 e h2 true q =
-        let z = eqb-true (getD s (at + 1 + 1) 0) 0 q in
-        let n2 : (getD s at 0 ≡ 0x42) → ⊥ = λ y. omega arith in
-        let n3 : (getD s at 0 ≡ 0x43) → ⊥ = λ y. omega arith in
-        let x0 : 0 ≡ getD s (at + 1 + 1) 0 + (0x45 - getD s at 0) = omega arith in
-        let n : at + 3 ≡ at + 1 + 1 + 1 = omega arith in
-        yes 3 (leaf-new s at h l h1 n2 e h2 z)
-        (n ∙ at-parts s left at nz h l h1 n2 n3 (omega arith) h2 0 x0 (at + 1 + 1 + 1) (omega arith) (list-none s (left - 1) (at + 1 + 1 + 1) (omega arith)))
-    values h l h1 e h2 false q = no 0 refl (leaf-values s at h l h1 (λ y. omega arith) e h2 (eqb-false (getD s (at + 1 + 1) 0) 0 q))
-    new-one : (h : at < length s) (l : 0x42 ≤ getD s at 0) (h1 : at + 1 < length s) (e : getD s at 0 ≡ 0x45) → (z : Bool) → leb (length s) (at + 1 + 1) ≡ z → at + leafSize (drop at s) ≡ endIn s (expr left (drop at s))
-    new-one h l h1 e true q = no 0 refl (leaf-short2 s at h l h1 (λ y. omega arith) e (leb-true (length s) (at + 1 + 1) q))
-    new-one h l h1 e false q = values h l h1 e (leb-false (length s) (at + 1 + 1) q) (eqb (getD s (at + 1 + 1) 0) 0) refl
-    other : (h : at < length s) (l : 0x42 ≤ getD s at 0) (h1 : at + 1 < length s) (n2 : (getD s at 0 ≡ 0x42) → ⊥) → (z : Bool) → eqb (getD s at 0) 0x45 ≡ z → at + leafSize (drop at s) ≡ endIn s (expr left (drop at s))
-    other h l h1 n2 true q = new-one h l h1 (eqb-true (getD s at 0) 0x45 q) (leb (length s) (at + 1 + 1)) refl
-    other h l h1 n2 false q = no 0 refl (leaf-other s at h l h1 n2 (eqb-false (getD s at 0) 0x45 q))
-    param-one : (h : at < length s) (l : 0x42 ≤ getD s at 0) (h1 : at + 1 < length s) → (z : Bool) → eqb (getD s at 0) 0x42 ≡ z → at + leafSize (drop at s) ≡ endIn s (expr left (drop at s))
-    param-one h l h1 true q =
-        let e = eqb-true (getD s at 0) 0x42 q in
-        let n : at + 2 ≡ at + 1 + 1 = omega arith in
-        yes 2 (leaf-param s at h l h1 e) (n ∙ at-param s left at nz h l h1 e)
-    param-one h l h1 false q = other h l h1 (eqb-false (getD s at 0) 0x42 q) (eqb (getD s at 0) 0x45) refl
-    high : (h : at < length s) (l : 0x42 ≤ getD s at 0) → (z : Bool) → leb (length s) (at + 1) ≡ z → at + leafSize (drop at s) ≡ endIn s (expr left (drop at s))
-    high h l true q = no 0 refl (leaf-short s at h l (leb-true (length s) (at + 1) q))
-    high h l false q = param-one h l (leb-false (length s) (at + 1) q) (eqb (getD s at 0) 0x42) refl
-    low : (h : at < length s) (l : getD s at 0 < 0x42) → (z : Bool) → ltb (getD s at 0) 0x40 ≡ z → at + leafSize (drop at s) ≡ endIn s (expr left (drop at s))
-    low h l true q = no 0 refl (leaf-low s at h l (ltb-true (getD s at 0) 0x40 q))
-    low h l false q = let k = ltb-false (getD s at 0) 0x40 q in yes 1 (leaf-one s at h l k) (at-leaf s left at nz h l k)
-    sign : (h : at < length s) (z : Bool) → ltb (getD s at 0) 0x42 ≡ z → at + leafSize (drop at s) ≡ endIn s (expr left (drop at s))
-    sign h true q = low h (ltb-true (getD s at 0) 0x42 q) (ltb (getD s at 0) 0x40) refl
-    sign h false q = high h (ltb-false (getD s at 0) 0x42 q) (leb (length s) (at + 1)) refl
-    start : (z : Bool) → leb (length s) at ≡ z → at + leafSize (drop at s) ≡ endIn s (expr left (drop at s))
-    start true q = no 0 refl (leaf-end s at (leb-true (length s) at q))
-    start false q = sign (leb-false (length s) at q) (ltb (getD s at 0) 0x42) refl
+  pub sign-is : endBy s left (signAt s at) ≡ endIn s (expr left (drop at s))
+  unfolding signAt endBy
+  sign-is = start (leb (length s) at) refl
+    where
+      low : at < length s → getD s at 0 < 0x42 → (z : Bool) → ltb (getD s at 0) 0x40 ≡ z → endBy s left (pick z (noSign s) (after (at + 1) 0)) ≡ endIn s (expr left (drop at s))
+      low h l true q = at-low s left at nz h l (ltb-true (getD s at 0) 0x40 q)
+      low h l false q = at-leaf s left at nz h l (ltb-false (getD s at 0) 0x40 q)
+      first : at < length s → (z : Bool) → ltb (getD s at 0) 0x42 ≡ z
+          → endBy s left (pick z (pick (ltb (getD s at 0) 0x40) (noSign s) (after (at + 1) 0)) (longSign s at (getD s at 0))) ≡ endIn s (expr left (drop at s))
+      first h true q = low h (ltb-true (getD s at 0) 0x42 q) (ltb (getD s at 0) 0x40) refl
+      first h false q = by-long h (ltb-false (getD s at 0) 0x42 q)
+      start : (z : Bool) → leb (length s) at ≡ z
+          → endBy s left (pick z (noSign s) (pick (ltb (getD s at 0) 0x42) (pick (ltb (getD s at 0) 0x40) (noSign s) (after (at + 1) 0)) (longSign s at (getD s at 0)))) ≡ endIn s (expr left (drop at s))
+      start true q = at-end s left at (leb-true (length s) at q)
+      start false q = first (leb-false (length s) at q) (ltb (getD s at 0) 0x42) refl
 
-pub leaf-within : (s : List ℕ) (at m : ℕ) → m ≡ leafSize (drop at s) → 0 < m → at + m ≤ length s + 1
-leaf-within s at m e p = go (expr 1 (drop at s)) (leaf-is s 1 at (omega arith) (rw e at p))
-  where
-    go : (o : Option (Got Expr)) → at + leafSize (drop at s) ≡ endIn s o → at + m ≤ length s + 1
-    go none q = omega arith
-    go (some g) q = omega arith
+-- ---- an expression with its sign: one law for each return
+module _ (s : List ℕ) (left : ℕ) (g : Sign) where
+  pub by-none : g .parts ≡ 0 → g .next ≡ endBy s left g
+  unfolding endBy
+  by-none z = rw (eq-eqb (g .parts) 0 z)
+
+  pub by-parts : (r : ℕ) → ((g .parts ≡ 0) → ⊥) → r ≡ endIn s (exprsBy (expr (left - 1)) (g .parts) (drop (g .next) s)) → r ≡ endBy s left g
+  unfolding endBy
+  by-parts r n e = rw (ne-eqb (g .parts) 0 n) e
+
+  module _ (at : ℕ) (eg : g ≡ signAt s at) (nz : 1 ≤ left) (a : ℕ) (ea : a ≡ endBy s left g) where
+    pub by-sign : a ≡ endIn s (expr left (drop at s))
+    by-sign = rw (ea, eg) (sign-is s left at nz)
+
+    pub by-refused : length s < a → Refused ≡ endOf s (expr left (drop at s))
+    by-refused h = number-refused s (expr left (drop at s)) a by-sign h
+
+    pub by-next : a ≤ length s → Next a ≡ endOf s (expr left (drop at s))
+    by-next h = number-next s (expr left (drop at s)) a by-sign h
 
 -- ---- lists of expressions
 -- the place after n expressions from a on, as the walk goes: the place after each is handed on, also past the end
@@ -277,10 +314,10 @@ unfolding walk
 walk-past s left zero = refl
 walk-past s left (suc n) = rw (no-more s (length s + 1) (omega arith), empty left) (walk-past s left n)
 
-walk-is : (s : List ℕ) (left n at : ℕ) → at ≤ length s → walk s left n at ≡ endIn s (exprsBy (expr left) n (drop at s))
+-- the first of them may stand past the end, the others begin within
+walk-step : (s : List ℕ) (left n at : ℕ) → ((a : ℕ) → a ≤ length s → walk s left n a ≡ endIn s (exprsBy (expr left) n (drop a s))) → walk s left (suc n) at ≡ endIn s (exprsBy (expr left) (suc n) (drop at s))
 unfolding walk exprsBy
-walk-is s left zero at h = end-here s at h
-walk-is s left (suc n) at h = go (expr left (drop at s)) (expr-leaves s left at) (walk-is s left n)
+walk-step s left n at = go (expr left (drop at s)) (expr-leaves s left at)
   where
     go : (p : Option (Got Expr)) → Leaves s p → ((a : ℕ) → a ≤ length s → walk s left n a ≡ endIn s (exprsBy (expr left) n (drop a s)))
         → walk s left n (endIn s p) ≡ endIn s (p >>= λ e. exprsBy (expr left) n (e .rest) >>= λ es. got (also (e .item) (es .item)) (es .rest))
@@ -290,33 +327,38 @@ walk-is s left (suc n) at h = go (expr left (drop at s)) (expr-leaves s left at)
         ∙ ap (λ (x : List ℕ). endIn s (exprsBy (expr left) n x)) (sym (l .tail g refl))
         ∙ sym (item-end s (exprsBy (expr left) n (g .rest)) (also (g .item)))
 
-module _ (s : List ℕ) (left n at : ℕ) (h : at ≤ length s) where
-  pub list-zero : n ≡ 0 → at ≡ endIn s (exprsBy (expr left) n (drop at s))
-  unfolding exprsBy
-  list-zero z = rw z (end-here s at h)
+walk-is : (s : List ℕ) (left n at : ℕ) → at ≤ length s → walk s left n at ≡ endIn s (exprsBy (expr left) n (drop at s))
+unfolding walk exprsBy
+walk-is s left zero at h = end-here s at h
+walk-is s left (suc n) at h = walk-step s left n at (walk-is s left n)
 
-  pub list-deep : ((n ≡ 0) → ⊥) → left ≡ 0 → length s + 1 ≡ endIn s (exprsBy (expr left) n (drop at s))
+walk-some : (s : List ℕ) (left n at : ℕ) → walk s left (suc n) at ≡ endIn s (exprsBy (expr left) (suc n) (drop at s))
+walk-some s left n at = walk-step s left n at (walk-is s left n)
+
+module _ (s : List ℕ) (left n at : ℕ) (some-parts : 1 ≤ n) where
+  pub list-deep : left ≡ 0 → length s + 1 ≡ endIn s (exprsBy (expr left) n (drop at s))
   unfolding exprsBy expr
-  list-deep nz z = go n nz
+  list-deep z = go n some-parts
     where
-      go : (n : ℕ) → ((n ≡ 0) → ⊥) → length s + 1 ≡ endIn s (exprsBy (expr left) n (drop at s))
-      go zero nz = absurd (nz refl)
-      go (suc n) nz = rw z
+      go : (n : ℕ) → 1 ≤ n → length s + 1 ≡ endIn s (exprsBy (expr left) n (drop at s))
+      go zero p = absurd (omega arith)
+      go (suc n) p = rw z
 
   pub list-starts : walk s left n at ≡ endIn s (exprsBy (expr left) n (drop at s))
-  list-starts = walk-is s left n at h
+  list-starts = go n some-parts
+    where
+      go : (n : ℕ) → 1 ≤ n → walk s left n at ≡ endIn s (exprsBy (expr left) n (drop at s))
+      go zero p = absurd (omega arith)
+      go (suc n) p = walk-some s left n at
 
 module _ (s : List ℕ) (left k a e : ℕ) (w : walk s left k a ≡ e) where
-  pub list-next : (r : ℕ) → 0 < k → r ≡ endIn s (expr left (drop a s)) → walk s left (k - 1) r ≡ e
+  pub list-next : (g : Sign) (r : ℕ) → 0 < k → 1 ≤ left → g ≡ signAt s a → r ≡ endBy s left g → walk s left (k - 1) r ≡ e
   unfolding walk
-  list-next r p q = go k p w
+  list-next g r p nz eg er = go k p w
     where
       go : (k : ℕ) → 0 < k → walk s left k a ≡ e → walk s left (k - 1) r ≡ e
       go zero p w = absurd (omega arith)
-      go (suc k) p w = rw (sub-one, q) w
-
-  pub list-leaf : (m : ℕ) → 1 ≤ left → 0 < k → m ≡ leafSize (drop a s) → 0 < m → walk s left (k - 1) (a + m) ≡ e
-  list-leaf m nz p em pm = list-next (a + m) p (rw em (leaf-is s left a nz (rw em at pm)))
+      go (suc k) p w = rw (sub-one, by-sign s left g a eg nz r er) w
 
   pub list-ends : k ≤ 0 → a ≡ e
   unfolding walk

@@ -4,16 +4,17 @@ use mathlib.Core.Path.{_≡_}
 use mathlib.Core.Bool.{Bool, true, false, _&&_}
 use mathlib.Core.List.{List, [], _∷_, _++_}
 use mathlib.Core.Option.{Option, none, some}
-use lib.Dec.{eqb, ltb}
+use lib.Dec.{eqb, leb, ltb}
 use lib.ListN.{length, getD, drop}
 use Rattle.cofj.specs.Limits.{lineSize, textSize}
 use Rattle.cofj.specs.Partial.{_>>=_}
 use Rattle.cofj.specs.Text.{within, digit, lines}
-use Rattle.cofj.specs.Frames.{Got, TextFrame, classFrame, methodFrame, mainFrame}
+use Rattle.cofj.specs.Frames.{Got, exprsBy, expr, TextFrame, classFrame, methodFrame, mainFrame}
 use Rattle.cofj.specs.Tables.{Raw, ordered, few}
 use Rattle.cofj.specs.Writing.{codeOf}
 use Rattle.lineform.specs.declared.exprs.ReadExpr.{ReadExpr}
 use Rattle.lineform.specs.declared.exprs.ReadExpr.the-variants.{Next, Refused}
+use Rattle.lineform.specs.declared.exprs.Sign.{Sign}
 use Rattle.lineform.specs.declared.frames.Kind.{Kind}
 use Rattle.lineform.specs.declared.frames.Kind.the-variants.{Class, Method, Main}
 use Rattle.lineform.specs.declared.frames.Framed.{Framed}
@@ -51,28 +52,39 @@ abbrev pub endIn : {A : Type 0} → List ℕ → Option (Got A) → ℕ
 endIn s none = length s + 1
 endIn s (some g) = length s - length (g .rest)
 
--- ---- expressions that hold no other: this, the result, a parameter, a new object without values
-abbrev pub paramSize : List ℕ → ℕ
-paramSize [] = 0
-paramSize (k ∷ bs) = 2
+-- ---- the sign of the expression at a place
+abbrev pub pick : {A : Type 0} → Bool → A → A → A
+pick true a b = a
+pick false a b = b
 
-abbrev pub newSize : List ℕ → ℕ
-newSize [] = 0
-newSize (c ∷ []) = 0
-newSize (c ∷ n ∷ bs) = elim (eqb n 0) [ true ↦ 3 | false ↦ 0 ]
+abbrev pub after : ℕ → ℕ → Sign
+after next parts = record { next = next; parts = parts }
 
--- the size of one that stands at the front; 0 if none does
-unfoldable pub leafSize : List ℕ → ℕ
-leafSize [] = 0
-leafSize (b ∷ bs) =
-    elim (ltb b 0x42) [
-      | true ↦ elim (ltb b 0x40) [ true ↦ 0 | false ↦ 1 ]
-      | false ↦
-          elim (eqb b 0x42) [
-            | true ↦ paramSize bs
-            | false ↦ elim (eqb b 0x45) [ true ↦ newSize bs | false ↦ 0 ]
-          ]
-    ]
+abbrev pub noSign : List ℕ → Sign
+noSign s = after (length s + 1) 0
+
+-- how many expressions a call or a new object with the sign b has; a call has its receiver besides
+abbrev pub partsAt : List ℕ → ℕ → ℕ → ℕ
+partsAt s at b = getD s (at + 1 + 1) 0 + (0x45 - b)
+
+unfoldable pub countedSign : List ℕ → ℕ → ℕ → Sign
+countedSign s at b =
+    pick (ltb 0x45 b) (noSign s) (pick (leb (length s) (at + 1 + 1)) (noSign s) (pick (ltb 4 (partsAt s at b)) (noSign s) (after (at + 1 + 1 + 1) (partsAt s at b))))
+
+unfoldable pub longSign : List ℕ → ℕ → ℕ → Sign
+unfolding countedSign
+longSign s at b =
+    pick (leb (length s) (at + 1)) (noSign s) (pick (eqb b 0x42) (after (at + 1 + 1) 0) (pick (eqb b 0x43) (after (at + 1 + 1) 1) (countedSign s at b)))
+
+unfoldable pub signAt : List ℕ → ℕ → Sign
+unfolding longSign
+signAt s at =
+    pick (leb (length s) at) (noSign s)
+    (pick (ltb (getD s at 0) 0x42) (pick (ltb (getD s at 0) 0x40) (noSign s) (after (at + 1) 0)) (longSign s at (getD s at 0)))
+
+-- where an expression with the sign g ends
+unfoldable pub endBy : List ℕ → ℕ → Sign → ℕ
+endBy s left g = pick (eqb (g .parts) 0) (g .next) (endIn s (exprsBy (expr (left - 1)) (g .parts) (drop (g .next) s)))
 
 -- a method's kind has the place of its right expression in the line
 abbrev pub kindOf : TextFrame → Kind

@@ -1,11 +1,10 @@
 // Types and expressions in a line's bytes, passed over: where each ends, or that it is none.
 // Not here: what they say, which the crates above read again from the same bytes.
 ghost use mathlib.Core.Path.{_≡_};
-ghost use Prim.Native.Nat.{_≤_, _+_, _-_};
+ghost use Prim.Native.Nat.{_≤_, _<_, _+_, _-_};
 ghost use lib.ListN.{length, drop};
-ghost use Rattle.cofj.specs.Limits.{fieldCount};
 ghost use Rattle.cofj.specs.Frames.{expr, exprsBy, types};
-ghost use Rattle.lineform.specs.Answers.{endOf, endIn, leafSize};
+ghost use Rattle.lineform.specs.Answers.{endOf, endIn, noSign, countedSign, signAt, endBy};
 
 // Document 01's figures (cofj's Limits).
 pub const FIELD_COUNT: u8 = 4;
@@ -31,109 +30,111 @@ pub fn wide(x: u8) -> usize
     x as usize
 }
 
-// How many expressions stand in a call (44) or a new object (45) with the count n: a call has its receiver besides.
-fn parts(b: u8, n: u8) -> usize
+// An expression's sign and what belongs to it: the place after them, and how many expressions the expression has from there on.
+pub struct Sign {
+    pub next: usize,
+    pub parts: usize,
+}
+
+// No sign: the place is past the end, where the next one is none either.
+fn no_sign(s: &[u8]) -> Sign
+    ensures { λ r. ⌜ r ≡ noSign (now (s .entry)) ⌝ }
+{
+    Sign {
+        next: s.len() + 1,
+        parts: 0,
+    }
+}
+
+// The count that follows the sign of a call (44) or of a new object (45). A call has its receiver besides.
+fn counted(b: u8, n: u8) -> usize
     requires { ⌜ b ≤ 0x45 ⌝ }
     ensures { λ r. ⌜ r ≡ n + (0x45 - b) ⌝ }
 {
     (n as usize) + ((0x45 - b) as usize)
 }
 
-// The place after the expression at `at`, nested at most `left` deep; one past the end of the line if there is none.
-pub fn read_expr(s: &[u8], at: usize, left: usize) -> usize
-    requires { ⌜ 1 ≤ left ⌝ }
-    ensures { λ r. ⌜ r ≡ endIn (now (s .entry)) (expr left (drop at (now (s .entry)))) ⌝ }
+// The sign of a call or of a new object at `at`, which is b.
+fn counted_sign(s: &[u8], at: usize, b: u8) -> Sign
+    requires { ⌜ at + 1 < length (now s) ⌝ }
+    ensures { λ r. ⌜ r ≡ countedSign (now (s .entry)) at b ⌝ }
 {
-    if s.len() <= at {
-        return s.len() + 1;
-    }
-    let b = s[at];
-    let a1 = at + 1;
-    if b < 0x42 {
-        if b < 0x40 {
-            return s.len() + 1;
-        }
-        return a1;
-    }
-    if s.len() <= a1 {
-        return s.len() + 1;
-    }
-    let a2 = a1 + 1;
-    if b == 0x42 {
-        return a2;
-    }
-    if b == 0x43 {
-        return read_list(s, a2, 1, left - 1);
-    }
     if 0x45 < b {
-        return s.len() + 1;
+        return no_sign(s);
     }
+    let a2 = at + 1 + 1;
     if s.len() <= a2 {
-        return s.len() + 1;
+        return no_sign(s);
     }
-    let n = parts(b, s[a2]);
+    let n = counted(b, s[a2]);
     if PART_COUNT < n {
-        return s.len() + 1;
+        return no_sign(s);
     }
-    read_list(s, a2 + 1, n, left - 1)
+    Sign {
+        next: a2 + 1,
+        parts: n,
+    }
 }
 
-// The size of the expression at `at` if it holds no other; else 0.
-fn leaf_size(s: &[u8], at: usize) -> usize
-    ensures { λ r. ⌜ r ≡ leafSize (drop at (now (s .entry))) ⌝ }
+// The sign at `at`.
+pub fn sign_at(s: &[u8], at: usize) -> Sign
+    ensures { λ r. ⌜ r ≡ signAt (now (s .entry)) at ⌝ }
 {
     if s.len() <= at {
-        return 0;
+        return no_sign(s);
     }
     let b = s[at];
+    let a1 = at + 1;
     if b < 0x42 {
         if b < 0x40 {
-            return 0;
+            return no_sign(s);
         }
-        return 1;
+        return Sign { next: a1, parts: 0 };
     }
-    let a1 = at + 1;
     if s.len() <= a1 {
-        return 0;
+        return no_sign(s);
     }
     if b == 0x42 {
-        return 2;
+        return Sign {
+            next: a1 + 1,
+            parts: 0,
+        };
     }
-    if b != 0x45 {
-        return 0;
+    if b == 0x43 {
+        return Sign {
+            next: a1 + 1,
+            parts: 1,
+        };
     }
-    let a2 = a1 + 1;
-    if s.len() <= a2 {
-        return 0;
+    counted_sign(s, at, b)
+}
+
+// The place after the expression with the sign g, nested at most `left` deep; one past the end of the line if there is none.
+pub fn read_expr(s: &[u8], g: Sign, left: usize) -> usize
+    requires { ⌜ 1 ≤ left ⌝ }
+    ensures { λ r. ⌜ r ≡ endBy (now (s .entry)) left g ⌝ }
+{
+    let n = g.parts;
+    if n == 0 {
+        return g.next;
     }
-    if s[a2] == 0 {
-        return 3;
-    }
-    0
+    read_list(s, g.next, n, left - 1)
 }
 
 // The place after n expressions, one after the other. After a refusal the place is past the end, where the next one is refused too.
 pub fn read_list(s: &[u8], at: usize, n: usize, left: usize) -> usize
-    requires { ⌜ n ≤ fieldCount ⌝ }
-    requires { ⌜ at ≤ length (now s) ⌝ }
+    requires { ⌜ 1 ≤ n ⌝ }
     ensures { λ r. ⌜ r ≡ endIn (now (s .entry)) (exprsBy (expr left) n (drop at (now (s .entry)))) ⌝ }
 {
-    if n == 0 {
-        return at;
-    }
     if left == 0 {
         return s.len() + 1;
     }
     let mut a: usize = at;
     let mut k: usize = n;
     while 0 < k {
+        let g = sign_at(s, a);
+        a = read_expr(s, g, left);
         k -= 1;
-        let m = leaf_size(s, a);
-        if 0 < m {
-            a += m;
-            continue;
-        }
-        a = read_expr(s, a, left);
     }
     a
 }
