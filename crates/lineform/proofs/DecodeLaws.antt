@@ -11,7 +11,7 @@ use lib.ListN.{length, getD, set, drop, length-append, length-reverse}
 use lib.Seq.{set-at, drop-drop}
 use mir.Val.{Fits}
 use mir.Syntax.{w8}
-use borrow.Author.Tests.{ne-eqb, eqb-true, eqb-false, le-leb}
+use borrow.Author.Tests.{ne-eqb, eqb-true, eqb-false, le-leb, not-true, not-false}
 use Rattle.cofj.specs.Limits.{lineSize, textSize}
 use Rattle.cofj.specs.Partial.{_>>=_, guard}
 use Rattle.cofj.specs.Text.{within, digit, endLine, linesFrom, lines}
@@ -69,14 +69,6 @@ module _ (c n : ℕ) where
 
     pub ends-sized : (n ≡ 0 → ⊥) → leb n 255 ≡ endsLine c n
     ends-sized z = rw (e, le-leb 1 n (omega arith))
-
-not-false : (b : Bool) → not b ≡ false → b ≡ true
-not-false true e = refl
-not-false false e = let z : _≡_ {A = ℕ} 0 1 = cc in absurd (omega arith)
-
-not-true : (b : Bool) → not b ≡ true → b ≡ false
-not-true false e = refl
-not-true true e = let z : _≡_ {A = ℕ} 0 1 = cc in absurd (omega arith)
 
 pub count-fits : (c n : ℕ) (b : Bool) → b ≡ endsLine c n → not b ≡ false → Fits w8 n
 count-fits c n b e z = go (eqb c 10) (sym e ∙ not-false b z)
