@@ -220,13 +220,16 @@ module _ (s : List ℕ) (at : ℕ) where
           sign-counted g n3 e = rw (long, lt-leb (length s) (at + 1) h1, ne-eqb (getD s at 0) 0x42 n2, ne-eqb (getD s at 0) 0x43 n3) e
 
 -- an expression ends where its sign says
+abbrev ends : List ℕ → ℕ → Sign → ℕ
+ends s left g = endBy s left (g .next) (g .parts)
+
 module _ (s : List ℕ) (left at : ℕ) (nz : 1 ≤ left) where
-  by-no-sign : length s + 1 ≡ endIn s (expr left (drop at s)) → endBy s left (noSign s) ≡ endIn s (expr left (drop at s))
+  by-no-sign : length s + 1 ≡ endIn s (expr left (drop at s)) → ends s left (noSign s) ≡ endIn s (expr left (drop at s))
   unfolding endBy
   by-no-sign e = e
 
   module _ (h : at < length s) (l : 0x42 ≤ getD s at 0) (h1 : at + 1 < length s) where
-    by-counted : ((getD s at 0 ≡ 0x42) → ⊥) → ((getD s at 0 ≡ 0x43) → ⊥) → endBy s left (countedSign s at (getD s at 0)) ≡ endIn s (expr left (drop at s))
+    by-counted : ((getD s at 0 ≡ 0x42) → ⊥) → ((getD s at 0 ≡ 0x43) → ⊥) → ends s left (countedSign s at (getD s at 0)) ≡ endIn s (expr left (drop at s))
     unfolding countedSign endBy
     by-counted n2 n3 = high (ltb 0x45 (getD s at 0)) refl
       where
@@ -238,70 +241,70 @@ module _ (s : List ℕ) (left at : ℕ) (nz : 1 ≤ left) where
         parts t h2 k false q =
             at-parts s left at nz h l h1 n2 n3 t h2 (partsAt s at (getD s at 0)) refl (endIn s (exprsBy (expr (left - 1)) (partsAt s at (getD s at 0)) (drop (at + 1 + 1 + 1) s))) k refl
         over : getD s at 0 ≤ 0x45 → at + 1 + 1 < length s → (z : Bool) → ltb 4 (partsAt s at (getD s at 0)) ≡ z
-            → endBy s left (pick z (noSign s) (after (at + 1 + 1 + 1) (partsAt s at (getD s at 0)))) ≡ endIn s (expr left (drop at s))
+            → ends s left (pick z (noSign s) (after (at + 1 + 1 + 1) (partsAt s at (getD s at 0)))) ≡ endIn s (expr left (drop at s))
         over t h2 true q = at-over s left at nz h l h1 n2 n3 t h2 (partsAt s at (getD s at 0)) refl (ltb-true 4 (partsAt s at (getD s at 0)) q)
         over t h2 false q = parts t h2 (ltb-false 4 (partsAt s at (getD s at 0)) q) (eqb (partsAt s at (getD s at 0)) 0) refl
         short : getD s at 0 ≤ 0x45 → (z : Bool) → leb (length s) (at + 1 + 1) ≡ z
-            → endBy s left (pick z (noSign s) (pick (ltb 4 (partsAt s at (getD s at 0))) (noSign s) (after (at + 1 + 1 + 1) (partsAt s at (getD s at 0))))) ≡ endIn s (expr left (drop at s))
+            → ends s left (pick z (noSign s) (pick (ltb 4 (partsAt s at (getD s at 0))) (noSign s) (after (at + 1 + 1 + 1) (partsAt s at (getD s at 0))))) ≡ endIn s (expr left (drop at s))
         short t true q = at-short2 s left at nz h l h1 n2 n3 t (leb-true (length s) (at + 1 + 1) q)
         short t false q = over t (leb-false (length s) (at + 1 + 1) q) (ltb 4 (partsAt s at (getD s at 0))) refl
         high : (z : Bool) → ltb 0x45 (getD s at 0) ≡ z
-            → endBy s left (pick z (noSign s) (pick (leb (length s) (at + 1 + 1)) (noSign s) (pick (ltb 4 (partsAt s at (getD s at 0))) (noSign s) (after (at + 1 + 1 + 1) (partsAt s at (getD s at 0)))))) ≡ endIn s (expr left (drop at s))
+            → ends s left (pick z (noSign s) (pick (leb (length s) (at + 1 + 1)) (noSign s) (pick (ltb 4 (partsAt s at (getD s at 0))) (noSign s) (after (at + 1 + 1 + 1) (partsAt s at (getD s at 0)))))) ≡ endIn s (expr left (drop at s))
         high true q = at-high s left at nz h l h1 (ltb-true 0x45 (getD s at 0) q)
         high false q = short (ltb-false 0x45 (getD s at 0) q) (leb (length s) (at + 1 + 1)) refl
 
-  by-long : (h : at < length s) (l : 0x42 ≤ getD s at 0) → endBy s left (longSign s at (getD s at 0)) ≡ endIn s (expr left (drop at s))
+  by-long : (h : at < length s) (l : 0x42 ≤ getD s at 0) → ends s left (longSign s at (getD s at 0)) ≡ endIn s (expr left (drop at s))
   unfolding longSign endBy
   by-long h l = short (leb (length s) (at + 1)) refl
     where
       field-one : at + 1 < length s → ((getD s at 0 ≡ 0x42) → ⊥) → (z : Bool) → eqb (getD s at 0) 0x43 ≡ z
-          → endBy s left (pick z (after (at + 1 + 1) 1) (countedSign s at (getD s at 0))) ≡ endIn s (expr left (drop at s))
+          → ends s left (pick z (after (at + 1 + 1) 1) (countedSign s at (getD s at 0))) ≡ endIn s (expr left (drop at s))
       field-one h1 n2 true q = at-field s left at nz h l h1 (endIn s (exprsBy (expr (left - 1)) 1 (drop (at + 1 + 1) s))) (eqb-true (getD s at 0) 0x43 q) refl
       field-one h1 n2 false q = by-counted h l h1 n2 (eqb-false (getD s at 0) 0x43 q)
       param-one : at + 1 < length s → (z : Bool) → eqb (getD s at 0) 0x42 ≡ z
-          → endBy s left (pick z (after (at + 1 + 1) 0) (pick (eqb (getD s at 0) 0x43) (after (at + 1 + 1) 1) (countedSign s at (getD s at 0)))) ≡ endIn s (expr left (drop at s))
+          → ends s left (pick z (after (at + 1 + 1) 0) (pick (eqb (getD s at 0) 0x43) (after (at + 1 + 1) 1) (countedSign s at (getD s at 0)))) ≡ endIn s (expr left (drop at s))
       param-one h1 true q = at-param s left at nz h l h1 (eqb-true (getD s at 0) 0x42 q)
       param-one h1 false q = field-one h1 (eqb-false (getD s at 0) 0x42 q) (eqb (getD s at 0) 0x43) refl
       short : (z : Bool) → leb (length s) (at + 1) ≡ z
-          → endBy s left (pick z (noSign s) (pick (eqb (getD s at 0) 0x42) (after (at + 1 + 1) 0) (pick (eqb (getD s at 0) 0x43) (after (at + 1 + 1) 1) (countedSign s at (getD s at 0))))) ≡ endIn s (expr left (drop at s))
+          → ends s left (pick z (noSign s) (pick (eqb (getD s at 0) 0x42) (after (at + 1 + 1) 0) (pick (eqb (getD s at 0) 0x43) (after (at + 1 + 1) 1) (countedSign s at (getD s at 0))))) ≡ endIn s (expr left (drop at s))
       short true q = at-short s left at nz h l (leb-true (length s) (at + 1) q)
       short false q = param-one (leb-false (length s) (at + 1) q) (eqb (getD s at 0) 0x42) refl
 
-  pub sign-is : endBy s left (signAt s at) ≡ endIn s (expr left (drop at s))
+  pub sign-is : ends s left (signAt s at) ≡ endIn s (expr left (drop at s))
   unfolding signAt endBy
   sign-is = start (leb (length s) at) refl
     where
-      low : at < length s → getD s at 0 < 0x42 → (z : Bool) → ltb (getD s at 0) 0x40 ≡ z → endBy s left (pick z (noSign s) (after (at + 1) 0)) ≡ endIn s (expr left (drop at s))
+      low : at < length s → getD s at 0 < 0x42 → (z : Bool) → ltb (getD s at 0) 0x40 ≡ z → ends s left (pick z (noSign s) (after (at + 1) 0)) ≡ endIn s (expr left (drop at s))
       low h l true q = at-low s left at nz h l (ltb-true (getD s at 0) 0x40 q)
       low h l false q = at-leaf s left at nz h l (ltb-false (getD s at 0) 0x40 q)
       first : at < length s → (z : Bool) → ltb (getD s at 0) 0x42 ≡ z
-          → endBy s left (pick z (pick (ltb (getD s at 0) 0x40) (noSign s) (after (at + 1) 0)) (longSign s at (getD s at 0))) ≡ endIn s (expr left (drop at s))
+          → ends s left (pick z (pick (ltb (getD s at 0) 0x40) (noSign s) (after (at + 1) 0)) (longSign s at (getD s at 0))) ≡ endIn s (expr left (drop at s))
       first h true q = low h (ltb-true (getD s at 0) 0x42 q) (ltb (getD s at 0) 0x40) refl
       first h false q = by-long h (ltb-false (getD s at 0) 0x42 q)
       start : (z : Bool) → leb (length s) at ≡ z
-          → endBy s left (pick z (noSign s) (pick (ltb (getD s at 0) 0x42) (pick (ltb (getD s at 0) 0x40) (noSign s) (after (at + 1) 0)) (longSign s at (getD s at 0)))) ≡ endIn s (expr left (drop at s))
+          → ends s left (pick z (noSign s) (pick (ltb (getD s at 0) 0x42) (pick (ltb (getD s at 0) 0x40) (noSign s) (after (at + 1) 0)) (longSign s at (getD s at 0)))) ≡ endIn s (expr left (drop at s))
       start true q = at-end s left at (leb-true (length s) at q)
       start false q = first (leb-false (length s) at q) (ltb (getD s at 0) 0x42) refl
 
 -- ---- an expression with its sign: one law for each return
-module _ (s : List ℕ) (left : ℕ) (g : Sign) where
-  pub by-none : g .parts ≡ 0 → g .next ≡ endBy s left g
+module _ (s : List ℕ) (left next parts : ℕ) where
+  pub by-none : parts ≡ 0 → next ≡ endBy s left next parts
   unfolding endBy
-  by-none z = rw (eq-eqb (g .parts) 0 z)
+  by-none z = rw (eq-eqb parts 0 z)
 
-  pub by-parts : (r : ℕ) → ((g .parts ≡ 0) → ⊥) → r ≡ endIn s (exprsBy (expr (left - 1)) (g .parts) (drop (g .next) s)) → r ≡ endBy s left g
+  pub by-parts : (r : ℕ) → ((parts ≡ 0) → ⊥) → r ≡ endIn s (exprsBy (expr (left - 1)) parts (drop next s)) → r ≡ endBy s left next parts
   unfolding endBy
-  by-parts r n e = rw (ne-eqb (g .parts) 0 n) e
+  by-parts r n e = rw (ne-eqb parts 0 n) e
 
-  module _ (at : ℕ) (eg : g ≡ signAt s at) (nz : 1 ≤ left) (a : ℕ) (ea : a ≡ endBy s left g) where
-    pub by-sign : a ≡ endIn s (expr left (drop at s))
-    by-sign = rw (ea, eg) (sign-is s left at nz)
+module _ (s : List ℕ) (left : ℕ) (g : Sign) (at : ℕ) (eg : g ≡ signAt s at) (nz : 1 ≤ left) (a : ℕ) (ea : a ≡ endBy s left (g .next) (g .parts)) where
+  pub by-sign : a ≡ endIn s (expr left (drop at s))
+  by-sign = ea ∙ ap (ends s left) eg ∙ sign-is s left at nz
 
-    pub by-refused : length s < a → Refused ≡ endOf s (expr left (drop at s))
-    by-refused h = number-refused s (expr left (drop at s)) a by-sign h
+  pub by-refused : length s < a → Refused ≡ endOf s (expr left (drop at s))
+  by-refused h = number-refused s (expr left (drop at s)) a by-sign h
 
-    pub by-next : a ≤ length s → Next a ≡ endOf s (expr left (drop at s))
-    by-next h = number-next s (expr left (drop at s)) a by-sign h
+  pub by-next : a ≤ length s → Next a ≡ endOf s (expr left (drop at s))
+  by-next h = number-next s (expr left (drop at s)) a by-sign h
 
 -- ---- lists of expressions
 -- the place after n expressions from a on, as the walk goes: the place after each is handed on, also past the end
@@ -352,13 +355,16 @@ module _ (s : List ℕ) (left n at : ℕ) (some-parts : 1 ≤ n) where
       go (suc n) p = walk-some s left n at
 
 module _ (s : List ℕ) (left k a e : ℕ) (w : walk s left k a ≡ e) where
-  pub list-next : (g : Sign) (r : ℕ) → 0 < k → 1 ≤ left → g ≡ signAt s a → r ≡ endBy s left g → walk s left (k - 1) r ≡ e
+  pub list-next : (g : Sign) (r : ℕ) → 0 < k → 1 ≤ left → g ≡ signAt s a → r ≡ endBy s left (g .next) (g .parts) → walk s left (k - 1) r ≡ e
   unfolding walk
   list-next g r p nz eg er = go k p w
     where
       go : (k : ℕ) → 0 < k → walk s left k a ≡ e → walk s left (k - 1) r ≡ e
       go zero p w = absurd (omega arith)
       go (suc k) p w = rw (sub-one, by-sign s left g a eg nz r er) w
+
+  pub list-leaf : (g : Sign) → 0 < k → 1 ≤ left → g ≡ signAt s a → g .parts ≡ 0 → walk s left (k - 1) (g .next) ≡ e
+  list-leaf g p nz eg z = list-next g (g .next) p nz eg (by-none s left (g .next) (g .parts) z)
 
   pub list-ends : k ≤ 0 → a ≡ e
   unfolding walk

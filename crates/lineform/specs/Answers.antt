@@ -82,9 +82,9 @@ signAt s at =
     pick (leb (length s) at) (noSign s)
     (pick (ltb (getD s at 0) 0x42) (pick (ltb (getD s at 0) 0x40) (noSign s) (after (at + 1) 0)) (longSign s at (getD s at 0)))
 
--- where an expression with the sign g ends
-unfoldable pub endBy : List ℕ → ℕ → Sign → ℕ
-endBy s left g = pick (eqb (g .parts) 0) (g .next) (endIn s (exprsBy (expr (left - 1)) (g .parts) (drop (g .next) s)))
+-- where an expression ends whose sign tells these
+unfoldable pub endBy : List ℕ → ℕ → ℕ → ℕ → ℕ
+endBy s left next parts = pick (eqb parts 0) next (endIn s (exprsBy (expr (left - 1)) parts (drop next s)))
 
 -- a method's kind has the place of its right expression in the line
 abbrev pub kindOf : TextFrame → Kind

@@ -109,16 +109,15 @@ pub fn sign_at(s: &[u8], at: usize) -> Sign
     counted_sign(s, at, b)
 }
 
-// The place after the expression with the sign g, nested at most `left` deep; one past the end of the line if there is none.
-pub fn read_expr(s: &[u8], g: Sign, left: usize) -> usize
+// The place after the expression whose sign tells `next` and `parts`, nested at most `left` deep; one past the end of the line if there is none.
+pub fn read_expr(s: &[u8], next: usize, parts: usize, left: usize) -> usize
     requires { ⌜ 1 ≤ left ⌝ }
-    ensures { λ r. ⌜ r ≡ endBy (now (s .entry)) left g ⌝ }
+    ensures { λ r. ⌜ r ≡ endBy (now (s .entry)) left next parts ⌝ }
 {
-    let n = g.parts;
-    if n == 0 {
-        return g.next;
+    if parts == 0 {
+        return next;
     }
-    read_list(s, g.next, n, left - 1)
+    read_list(s, next, parts, left - 1)
 }
 
 // The place after n expressions, one after the other. After a refusal the place is past the end, where the next one is refused too.
@@ -132,9 +131,13 @@ pub fn read_list(s: &[u8], at: usize, n: usize, left: usize) -> usize
     let mut a: usize = at;
     let mut k: usize = n;
     while 0 < k {
-        let g = sign_at(s, a);
-        a = read_expr(s, g, left);
         k -= 1;
+        let g = sign_at(s, a);
+        if g.parts == 0 {
+            a = g.next;
+            continue;
+        }
+        a = read_expr(s, g.next, g.parts, left);
     }
     a
 }

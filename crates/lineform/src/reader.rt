@@ -36,7 +36,7 @@ pub fn expr_end(s: &[u8], at: usize) -> ReadExpr
     ensures { λ r. ⌜ r ≡ endOf (now (s .entry)) (expr nestingLimit (drop at (now (s .entry)))) ⌝ }
 {
     let g = sign_at(s, at);
-    let a = read_expr(s, g, NESTING_LIMIT);
+    let a = read_expr(s, g.next, g.parts, NESTING_LIMIT);
     if s.len() < a {
         return ReadExpr::Refused;
     }

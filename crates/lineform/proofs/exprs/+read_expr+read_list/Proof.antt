@@ -21,7 +21,7 @@ use Rattle.lineform.proofs.ExprLaws as laws
 use Rattle.lineform.proofs.ExprLaws.{walk}
 
 abbrev μ-read-expr : Measures 1 read-expr-kinds.ps ℕ
-μ-read-expr κs a = (a .1 .1 .0) * 2
+μ-read-expr κs a = (a .1 .1 .1 .0) * 2
 
 abbrev μ-read-list : Measures 1 read-list-kinds.ps ℕ
 μ-read-list κs a = (a .1 .1 .1 .0) * 2 + 1
@@ -65,7 +65,10 @@ read-list-loop-holds : (t : ℕ) → read-list-lts.Need-loop-holds (read-list-cl
 read-list-loop-holds t c = (search needs, search laws.list-starts)
 
 read-list-loop-again : (t : ℕ) → read-list-lts.Need-loop-again (read-list-claims t) (read-list-at t) read-list.Post Inv-loop μ-loop
-read-list-loop-again t c = (search needs, search laws.list-next)
+read-list-loop-again t c = (search needs, search laws.list-leaf)
+
+read-list-loop-again-2 : (t : ℕ) → read-list-lts.Need-loop-again-2 (read-list-claims t) (read-list-at t) read-list.Post Inv-loop μ-loop
+read-list-loop-again-2 t c = (search needs, search laws.list-next)
 
 read-list-returns-2 : (t : ℕ) → read-list-lts.Need-returns-2 (read-list-claims t) (read-list-at t) read-list.Post Inv-loop μ-loop
 read-list-returns-2 t c = search laws.list-ends
@@ -82,9 +85,11 @@ pub +read-expr+read-list-spec : {M : Type 1} → statement M
     (λ c. search needs)
     (read-list-returns t)
     (read-list-loop-holds t)
-    (λ c κs. search needs)
-    (λ c κs. search needs)
     (λ c. search needs)
+    (λ c κs. search needs)
     (λ c. search needs)
     (read-list-loop-again t)
+    (λ c κs. search needs)
+    (λ c. search needs)
+    (read-list-loop-again-2 t)
     (read-list-returns-2 t))
