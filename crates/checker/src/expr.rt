@@ -133,7 +133,14 @@ fn stays_closed(closed: bool, tag: u8) -> bool
 }
 
 // The n expressions at `at`: each fits its item, an open tag read as 0.
-pub fn type_list(t: &[u8; SIZE], scope: Scope, items: Items, n: u8, at: usize, left: usize) -> Listed
+pub fn type_list(
+    t: &[u8; SIZE],
+    scope: Scope,
+    items: Items,
+    n: u8,
+    at: usize,
+    left: usize,
+) -> Listed
     ensures { λ r. ⌜ r ≡ listBy (now (t .entry)) (typeIn (now (t .entry)) left scope) items 0 n true at ⌝ }
 {
     let mut k: u8 = 0;

@@ -187,6 +187,7 @@ module _ (s : List ℕ) (at m X : ℕ) (e : X ≡ at + past m 0 (drop at s)) whe
           where
             two : (i : ℕ) → past i 2 (drop (at + 1) s) ≡ 2
             two i = past-skip i 2 (drop (at + 1) s) ∙ rw (drop-drop 2 (at + 1) s, no-more s (at + 1 + 2) (omega arith))
+
             go : (b : Bool) → pick b (past (suc (m - 1 + getD (drop (at + 1) s) 1 0)) 2 (drop (at + 1) s)) (past (m - 1 + getD (drop (at + 1) s) 1 0) 2 (drop (at + 1) s)) ≡ 2
             go true = two (suc (m - 1 + getD (drop (at + 1) s) 1 0))
             go false = two (m - 1 + getD (drop (at + 1) s) 1 0)

@@ -155,13 +155,13 @@ module _ (s : List ℕ) (left at : ℕ) where
             unfolding exprAfter
             at-parts r k e =
                 which _ (λ b.
-                  let n : x ≡ suc (getD s (at + 1 + 1) 0) = omega arith in
-                  rw (step s left at nz h, b, more s (at + 1) h1, more s (at + 1 + 1) h2, e, n)
-                  (sym (call-parts s (expr (left - 1)) (getD s (at + 1) 0) (getD s (at + 1 + 1) 0) (drop (at + 1 + 1 + 1) s) (omega arith))))
+                let n : x ≡ suc (getD s (at + 1 + 1) 0) = omega arith in
+                rw (step s left at nz h, b, more s (at + 1) h1, more s (at + 1 + 1) h2, e, n)
+                (sym (call-parts s (expr (left - 1)) (getD s (at + 1) 0) (getD s (at + 1 + 1) 0) (drop (at + 1 + 1 + 1) s) (omega arith))))
                 (λ b.
-                  let n : x ≡ getD s (at + 1 + 1) 0 = omega arith in
-                  rw (step s left at nz h, b, more s (at + 1) h1, more s (at + 1 + 1) h2, e, n)
-                  (sym (new-parts s (expr (left - 1)) (getD s (at + 1) 0) (getD s (at + 1 + 1) 0) (drop (at + 1 + 1 + 1) s) (omega arith))))
+                let n : x ≡ getD s (at + 1 + 1) 0 = omega arith in
+                rw (step s left at nz h, b, more s (at + 1) h1, more s (at + 1 + 1) h2, e, n)
+                (sym (new-parts s (expr (left - 1)) (getD s (at + 1) 0) (getD s (at + 1 + 1) 0) (drop (at + 1 + 1 + 1) s) (omega arith))))
 
 -- ---- signs: one law for each return
 pub counted-high : (s : List ℕ) (at b : ℕ) (g : Sign) → 0x45 < b → g ≡ noSign s → g ≡ countedSign s at b
@@ -240,14 +240,17 @@ module _ (s : List ℕ) (left at : ℕ) (nz : 1 ≤ left) where
             (rw (eqb-true (partsAt s at (getD s at 0)) 0 q) (list-none s (left - 1) (at + 1 + 1 + 1) (omega arith)))
         parts t h2 k false q =
             at-parts s left at nz h l h1 n2 n3 t h2 (partsAt s at (getD s at 0)) refl (endIn s (exprsBy (expr (left - 1)) (partsAt s at (getD s at 0)) (drop (at + 1 + 1 + 1) s))) k refl
+
         over : getD s at 0 ≤ 0x45 → at + 1 + 1 < length s → (z : Bool) → ltb 4 (partsAt s at (getD s at 0)) ≡ z
             → ends s left (pick z (noSign s) (after (at + 1 + 1 + 1) (partsAt s at (getD s at 0)))) ≡ endIn s (expr left (drop at s))
         over t h2 true q = at-over s left at nz h l h1 n2 n3 t h2 (partsAt s at (getD s at 0)) refl (ltb-true 4 (partsAt s at (getD s at 0)) q)
         over t h2 false q = parts t h2 (ltb-false 4 (partsAt s at (getD s at 0)) q) (eqb (partsAt s at (getD s at 0)) 0) refl
+
         short : getD s at 0 ≤ 0x45 → (z : Bool) → leb (length s) (at + 1 + 1) ≡ z
             → ends s left (pick z (noSign s) (pick (ltb 4 (partsAt s at (getD s at 0))) (noSign s) (after (at + 1 + 1 + 1) (partsAt s at (getD s at 0))))) ≡ endIn s (expr left (drop at s))
         short t true q = at-short2 s left at nz h l h1 n2 n3 t (leb-true (length s) (at + 1 + 1) q)
         short t false q = over t (leb-false (length s) (at + 1 + 1) q) (ltb 4 (partsAt s at (getD s at 0))) refl
+
         high : (z : Bool) → ltb 0x45 (getD s at 0) ≡ z
             → ends s left (pick z (noSign s) (pick (leb (length s) (at + 1 + 1)) (noSign s) (pick (ltb 4 (partsAt s at (getD s at 0))) (noSign s) (after (at + 1 + 1 + 1) (partsAt s at (getD s at 0)))))) ≡ endIn s (expr left (drop at s))
         high true q = at-high s left at nz h l h1 (ltb-true 0x45 (getD s at 0) q)
@@ -261,10 +264,12 @@ module _ (s : List ℕ) (left at : ℕ) (nz : 1 ≤ left) where
           → ends s left (pick z (after (at + 1 + 1) 1) (countedSign s at (getD s at 0))) ≡ endIn s (expr left (drop at s))
       field-one h1 n2 true q = at-field s left at nz h l h1 (endIn s (exprsBy (expr (left - 1)) 1 (drop (at + 1 + 1) s))) (eqb-true (getD s at 0) 0x43 q) refl
       field-one h1 n2 false q = by-counted h l h1 n2 (eqb-false (getD s at 0) 0x43 q)
+
       param-one : at + 1 < length s → (z : Bool) → eqb (getD s at 0) 0x42 ≡ z
           → ends s left (pick z (after (at + 1 + 1) 0) (pick (eqb (getD s at 0) 0x43) (after (at + 1 + 1) 1) (countedSign s at (getD s at 0)))) ≡ endIn s (expr left (drop at s))
       param-one h1 true q = at-param s left at nz h l h1 (eqb-true (getD s at 0) 0x42 q)
       param-one h1 false q = field-one h1 (eqb-false (getD s at 0) 0x42 q) (eqb (getD s at 0) 0x43) refl
+
       short : (z : Bool) → leb (length s) (at + 1) ≡ z
           → ends s left (pick z (noSign s) (pick (eqb (getD s at 0) 0x42) (after (at + 1 + 1) 0) (pick (eqb (getD s at 0) 0x43) (after (at + 1 + 1) 1) (countedSign s at (getD s at 0))))) ≡ endIn s (expr left (drop at s))
       short true q = at-short s left at nz h l (leb-true (length s) (at + 1) q)
@@ -277,10 +282,12 @@ module _ (s : List ℕ) (left at : ℕ) (nz : 1 ≤ left) where
       low : at < length s → getD s at 0 < 0x42 → (z : Bool) → ltb (getD s at 0) 0x40 ≡ z → ends s left (pick z (noSign s) (after (at + 1) 0)) ≡ endIn s (expr left (drop at s))
       low h l true q = at-low s left at nz h l (ltb-true (getD s at 0) 0x40 q)
       low h l false q = at-leaf s left at nz h l (ltb-false (getD s at 0) 0x40 q)
+
       first : at < length s → (z : Bool) → ltb (getD s at 0) 0x42 ≡ z
           → ends s left (pick z (pick (ltb (getD s at 0) 0x40) (noSign s) (after (at + 1) 0)) (longSign s at (getD s at 0))) ≡ endIn s (expr left (drop at s))
       first h true q = low h (ltb-true (getD s at 0) 0x42 q) (ltb (getD s at 0) 0x40) refl
       first h false q = by-long h (ltb-false (getD s at 0) 0x42 q)
+
       start : (z : Bool) → leb (length s) at ≡ z
           → ends s left (pick z (noSign s) (pick (ltb (getD s at 0) 0x42) (pick (ltb (getD s at 0) 0x40) (noSign s) (after (at + 1) 0)) (longSign s at (getD s at 0)))) ≡ endIn s (expr left (drop at s))
       start true q = at-end s left at (leb-true (length s) at q)

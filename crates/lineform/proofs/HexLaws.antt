@@ -8,7 +8,7 @@ use mathlib.Core.List.{List, [], _∷_}
 use lib.Dec.{eqb}
 use lib.ListN.{length, getD}
 use mir.Val.{Fits}
-use mir.Syntax.{w32}
+use mir.Syntax.{w16}
 use borrow.Author.Tests.{le-leb, lt-leb, eqb-true}
 use Rattle.cofj.specs.Partial.{_>>=_}
 use Rattle.cofj.specs.Text.{within, digit}
@@ -76,10 +76,10 @@ value-most c = go (digit c) (small c)
     go none s = omega arith
     go (some d) s = let k = s d refl in omega arith
 
-pub first-fits : (c v : ℕ) → v ≡ valueOf (digit c) → Fits w32 (16 * v)
+pub first-fits : (c v : ℕ) → v ≡ valueOf (digit c) → Fits w16 (16 * v)
 first-fits c v e = let s = value-most c in omega arith
 
-pub both-fit : (a b v w : ℕ) → v ≡ valueOf (digit a) → w ≡ valueOf (digit b) → Fits w32 (16 * v + w)
+pub both-fit : (a b v w : ℕ) → v ≡ valueOf (digit a) → w ≡ valueOf (digit b) → Fits w16 (16 * v + w)
 both-fit a b v w ev ew =
     let s = value-most a in
     let t = value-most b in

@@ -1,6 +1,6 @@
 // What each character is worth as a digit: 0 to 15, and 256 for a character that is none. Not here: what is made of it (hex).
 #[rattlefmt::skip]
-pub const VALUES: [u32; 256] = [
+pub const VALUES: [u16; 256] = [
     256, 256, 256, 256, 256, 256, 256, 256, 256, 256, 256, 256, 256, 256, 256, 256, // 00
     256, 256, 256, 256, 256, 256, 256, 256, 256, 256, 256, 256, 256, 256, 256, 256, // 10
     256, 256, 256, 256, 256, 256, 256, 256, 256, 256, 256, 256, 256, 256, 256, 256, // 20

@@ -5,14 +5,14 @@ ghost use Rattle.lineform.specs.Answers.{Values, valueOf, pairValue};
 use crate::digits::VALUES;
 
 // The values of all characters. Made once for a text: taking an entry of the constant would make all of it anew.
-pub fn values() -> [u32; 256]
+pub fn values() -> [u16; 256]
     ensures { λ r. ⌜ Values r ⌝ }
 {
     VALUES
 }
 
 // The value of a digit's character, or 256 of any other.
-fn value(t: &[u32; 256], c: u8) -> u32
+fn value(t: &[u16; 256], c: u8) -> u16
     requires { ⌜ Values (now t) ⌝ }
     ensures { λ r. ⌜ r ≡ valueOf (digit c) ⌝ }
 {
@@ -20,7 +20,7 @@ fn value(t: &[u32; 256], c: u8) -> u32
 }
 
 // The byte of two digits, or a number from 256 on.
-pub fn pair(t: &[u32; 256], a: u8, b: u8) -> u32
+pub fn pair(t: &[u16; 256], a: u8, b: u8) -> u16
     requires { ⌜ Values (now t) ⌝ }
     ensures { λ r. ⌜ r ≡ pairValue a b ⌝ }
 {

@@ -62,7 +62,7 @@ fn ends_line(c: u8, n: usize) -> bool
 }
 
 // The same of a text of a fit length. At `w` the line begins whose next byte goes to `o`.
-fn decode_lines(text: &[u8], t: &[u32; 256], out: &mut [u8]) -> Decoded
+fn decode_lines(text: &[u8], t: &[u16; 256], out: &mut [u8]) -> Decoded
     requires { ⌜ Decodable (now text) (now out) × Values (now t) ⌝ }
     ensures { λ r. ⌜ Decodes (now (text .entry)) (now (out .entry)) (now (out .exit)) r ⌝ }
 {
