@@ -1,4 +1,5 @@
-// Tests of a line's bytes against the number of classes n: types that are known and closed, expressions whose classes are known.
+// Tests of a line's bytes against the number of classes n: types that are known and closed, expressions whose classes are known; and where
+// an expression ends.
 // Not here: that the line is a frame (lineform), which every line is that gets here.
 use crate::places::wide;
 ghost use mathlib.Core.Path.{_≡_};
@@ -74,7 +75,7 @@ pub fn all_known(s: &[u8], at: usize, n: u8) -> bool
     true
 }
 
-// Where the expression at `at` of a frame ends: k expressions are still to come from `a` on.
+// Where the expression at `at` of a frame ends, by counting: k expressions are still to come from `a` on. Not tested: that it is one.
 pub fn expr_end(s: &[u8], at: usize) -> usize
     requires { ⌜ length (now s) ≤ lineSize ⌝ }
     ensures { λ r. ⌜ r ≡ at + past 1 0 (drop at (now (s .entry))) ⌝ }

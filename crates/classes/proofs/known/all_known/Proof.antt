@@ -1,3 +1,4 @@
+-- `known::all_known` meets its contract: a law of LineLaws for each way on. The loop keeps what the signs that are left say.
 use Rattle.classes.proofs.known.all_known.Statement.{statement}
 use Rattle.classes.proofs.known.all_known.Tie as tie
 use Rattle.classes.proofs.known.all_known.Reads as reads

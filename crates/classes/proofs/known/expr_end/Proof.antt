@@ -1,3 +1,4 @@
+-- `known::expr_end` meets its contract: a law of LineLaws for each way on. The loop keeps where the k expressions from a on end.
 use Rattle.classes.proofs.known.expr_end.Statement.{statement}
 use Rattle.classes.proofs.known.expr_end.Tie as tie
 use Rattle.classes.proofs.known.expr_end.Reads as reads

@@ -1,3 +1,4 @@
+-- `exprs::counted_sign` meets its contract: a law of ExprLaws for each return.
 use borrow.Author.Needs.{needs}
 use Rattle.lineform.proofs.exprs.counted_sign.Statement.{statement}
 use Rattle.lineform.proofs.exprs.counted_sign.Tie as tie

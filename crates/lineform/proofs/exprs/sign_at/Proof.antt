@@ -1,3 +1,4 @@
+-- `exprs::sign_at` meets its contract: a law of ExprLaws for each return.
 use borrow.Author.Needs.{needs}
 use Rattle.lineform.proofs.exprs.sign_at.Statement.{statement}
 use Rattle.lineform.proofs.exprs.sign_at.Tie as tie

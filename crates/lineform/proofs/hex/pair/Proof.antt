@@ -1,3 +1,4 @@
+-- `hex::pair` meets its contract: both values are small, so that the sum fits.
 use borrow.Author.Needs.{needs}
 use Rattle.lineform.proofs.hex.pair.Statement.{statement}
 use Rattle.lineform.proofs.hex.pair.Tie as tie

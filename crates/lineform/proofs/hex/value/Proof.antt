@@ -1,3 +1,4 @@
+-- `hex::value` meets its contract: what the table is required to hold.
 use borrow.Author.Needs.{needs}
 use Rattle.lineform.proofs.hex.value.Statement.{statement}
 use Rattle.lineform.proofs.hex.value.Tie as tie

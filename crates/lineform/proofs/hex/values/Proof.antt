@@ -1,3 +1,4 @@
+-- `hex::values` meets its contract: every entry of the table is right, by one test of all of them.
 use Rattle.lineform.proofs.hex.values.Statement.{statement}
 use Rattle.lineform.proofs.hex.values.Tie as tie
 use mathlib.Core.Path.{refl}

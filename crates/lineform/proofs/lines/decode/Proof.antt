@@ -1,3 +1,4 @@
+-- `lines::decode` meets its contract: a law of DecodeLaws for each refusal, and what `decode_lines` ensures.
 use borrow.Author.Needs.{needs}
 use Rattle.lineform.proofs.lines.decode.Statement.{statement}
 use Rattle.lineform.proofs.lines.decode.Tie as tie

@@ -1,3 +1,5 @@
+-- `lines::decode_lines` meets its contract. The loop keeps `Reading` (DecodeLaws), its pace (w places and a line of o - w - 1 bytes took at least
+-- (4o - w - 4) / 2 characters), and that a line is open where the last character is passed.
 use Rattle.lineform.proofs.lines.decode_lines.Statement.{statement}
 use Rattle.lineform.proofs.lines.decode_lines.Tie as tie
 use Rattle.lineform.proofs.lines.decode_lines.Reads as reads
