@@ -1,8 +1,9 @@
 -- specs/Machine at each return of the code.
-use mathlib.Core.Path.{_≡_, refl, sym, _∙_}
+use mathlib.Core.Path.{_≡_, refl, sym, ap, _∙_}
 use mathlib.Core.Bool.{Bool, true, false, not}
 use mathlib.Core.List.{List}
-use Prim.Native.Nat.{ℕ, zero, suc, _+_, _-_, _*_}
+use Prim.Native.Nat.{ℕ, zero, suc, _+_, _-_, _*_, _<_, _≤_}
+use native.Mathlib.Omega.{arith}
 use native.Mathlib.Numerals.{sub-one}
 use lib.ListN.{getD}
 use borrow.Author.Tests.{eq-eqb, ne-eqb, not-true, not-false}
@@ -124,38 +125,37 @@ module _ (B : List ℕ) (one : Walk) (c n at x : ℕ) (ex : x ≡ getD B (16 * c
       new-open z = rw (← ex, eq-eqb x n q, ← el, e, z)
 
 -- ---- a list
-next-list : (B : List ℕ) (one : Walk) (items : Items) (k n : ℕ) (closed : Bool) (at c g next : ℕ) → (n ≡ 0 → ⊥) → one at ≡ Has c g next → itemFits B items k c g ≡ true
-    → listBy B one items k n closed at ≡ listBy B one items (k + 1) (n - 1) (pick (closedTag g) closed false) next
-unfolding listBy
-next-list B one items k zero closed at c g next nz e i = absurd (nz refl)
-next-list B one items k (suc n) closed at c g next nz e i = rw (e, i, sub-one)
+pub stays-same : (closed : Bool) (g : ℕ) (b : Bool) → b ≡ closedTag g → b ≡ true → closed ≡ pick (closedTag g) closed false
+stays-same closed g b e z = rw (← e, z)
 
-module _ (B : List ℕ) (one : Walk) (items : Items) (k n : ℕ) (closed : Bool) (at : ℕ) where
-  pub list-zero : n ≡ 0 → list.Past closed at ≡ listBy B one items k n closed at
+pub stays-open : (closed : Bool) (g : ℕ) (b : Bool) → b ≡ closedTag g → b ≡ false → false ≡ pick (closedTag g) closed false
+stays-open closed g b e z = rw (← e, z)
+
+pub list-starts : (B : List ℕ) (one : Walk) (items : Items) (n at : ℕ) → listBy B one items 0 (n - 0) true at ≡ listBy B one items 0 n true at
+list-starts B one items n at = ap (λ (m : ℕ). listBy B one items 0 m true at) (let e : n - 0 ≡ n = omega arith in e)
+
+-- X is the answer, which the items from k on still give
+module _ (B : List ℕ) (one : Walk) (items : Items) (k n : ℕ) (closed : Bool) (a : ℕ) (X : Listed) (w : listBy B one items k (n - k) closed a ≡ X) where
+  pub list-ends : n ≤ k → list.Past closed a ≡ X
   unfolding listBy
-  list-zero e = rw e
+  list-ends h =
+      let z : n - k ≡ 0 = omega arith in
+      let e : listBy B one items k 0 closed a ≡ X = ap (λ (m : ℕ). listBy B one items k m closed a) (sym z) ∙ w in
+      e
 
-  module _ (nz : n ≡ 0 → ⊥) (o : Typed) (eo : o ≡ one at) where
-    pub list-no : o ≡ No → list.No ≡ listBy B one items k n closed at
+  module _ (h : k < n) (o : Typed) (eo : o ≡ one a) where
+    at-item : listBy B one items k (suc (n - (k + 1))) closed a ≡ X
+    at-item = ap (λ (m : ℕ). listBy B one items k m closed a) (let e : suc (n - (k + 1)) ≡ n - k = omega arith in e) ∙ w
+
+    pub list-no : o ≡ No → list.No ≡ X
     unfolding listBy
-    list-no e = go n nz
-      where
-        go : (j : ℕ) → (j ≡ 0 → ⊥) → list.No ≡ listBy B one items k j closed at
-        go zero z = absurd (z refl)
-        go (suc j) z = rw (← eo, e)
+    list-no e = rw (← eo, e) at at-item
 
     module _ (c g next : ℕ) (e : o ≡ Has c g next) (f : Bool) (ef : f ≡ itemFits B items k c g) where
-      pub list-unfit : not f ≡ true → list.No ≡ listBy B one items k n closed at
+      pub list-unfit : not f ≡ true → list.No ≡ X
       unfolding listBy
-      list-unfit q = go n nz
-        where
-          go : (j : ℕ) → (j ≡ 0 → ⊥) → list.No ≡ listBy B one items k j closed at
-          go zero z = absurd (z refl)
-          go (suc j) z = rw (← eo, e, ← ef, not-true f q)
+      list-unfit q = rw (← eo, e, ← ef, not-true f q) at at-item
 
-      module _ (q : not f ≡ false) (b : Bool) (eb : b ≡ closedTag g) (r : Listed) where
-        pub list-open : not b ≡ true → r ≡ listBy B one items (k + 1) (n - 1) false next → r ≡ listBy B one items k n closed at
-        list-open z p = rw (next-list B one items k n closed at c g next nz (sym eo ∙ e) (sym ef ∙ not-false f q), ← eb, not-true b z) p
-
-        pub list-closed : not b ≡ false → r ≡ listBy B one items (k + 1) (n - 1) closed next → r ≡ listBy B one items k n closed at
-        list-closed z p = rw (next-list B one items k n closed at c g next nz (sym eo ∙ e) (sym ef ∙ not-false f q), ← eb, not-false b z) p
+      pub list-next : (b : Bool) → not f ≡ false → b ≡ pick (closedTag g) closed false → listBy B one items (k + 1) (n - (k + 1)) b next ≡ X
+      unfolding listBy
+      list-next b q eb = rw eb (rw (← eo, e, ← ef, not-false f q) at at-item)

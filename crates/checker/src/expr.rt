@@ -18,7 +18,9 @@ use classes::chain::field_type;
 use classes::methods::Found;
 use classes::places::SIZE;
 ghost use mathlib.Core.Path.{_≡_};
-ghost use Prim.Native.Nat.{ℕ, _+_, _≤_};
+ghost use mathlib.Core.Bool.{true, false};
+ghost use Rattle.cofj.specs.Typing.{closedTag};
+ghost use Rattle.classes.specs.Machine.{pick};
 ghost use Rattle.checker.specs.Machine.{typeIn, fieldBy, callBy, argsBy, newBy, listBy};
 
 // What a list walk gives: whether every tag was closed, and the place after the list.
@@ -79,7 +81,7 @@ pub fn type_call(t: &[u8; SIZE], scope: Scope, m: u8, n: u8, at: usize, left: us
 pub fn type_args(t: &[u8; SIZE], scope: Scope, i: u8, n: u8, at: usize, left: usize) -> Typed
     ensures { λ r. ⌜ r ≡ argsBy (now (t .entry)) (typeIn (now (t .entry)) left scope) (scope .main) i n at ⌝ }
 {
-    let l = type_list(t, scope, Items::Parameters(i), 0, n, true, at, left);
+    let l = type_list(t, scope, Items::Parameters(i), n, at, left);
     let Listed::Past { closed, next } = l else {
         return Typed::No;
     };
@@ -102,7 +104,7 @@ pub fn type_new(t: &[u8; SIZE], scope: Scope, c: u8, n: u8, at: usize, left: usi
     if field_total(t, c) != n {
         return Typed::No;
     }
-    let l = type_list(t, scope, Items::Fields(c), 0, n, true, at, left);
+    let l = type_list(t, scope, Items::Fields(c), n, at, left);
     let Listed::Past { closed, next } = l else {
         return Typed::No;
     };
@@ -120,32 +122,41 @@ pub fn type_new(t: &[u8; SIZE], scope: Scope, c: u8, n: u8, at: usize, left: usi
     }
 }
 
-// The n expressions at `at`: each fits its item, from item k on, an open tag read as 0.
+// Whether a list stays closed after an item with this tag.
+fn stays_closed(closed: bool, tag: u8) -> bool
+    ensures { λ r. ⌜ r ≡ pick (closedTag tag) closed false ⌝ }
+{
+    if closed_tag(tag) {
+        return closed;
+    }
+    false
+}
+
+// The n expressions at `at`: each fits its item, an open tag read as 0.
 pub fn type_list(
     t: &[u8; SIZE],
     scope: Scope,
     items: Items,
-    k: u8,
     n: u8,
-    closed: bool,
     at: usize,
     left: usize,
 ) -> Listed
-    requires { ⌜ k + n ≤ 255 ⌝ }
-    ensures { λ r. ⌜ r ≡ listBy (now (t .entry)) (typeIn (now (t .entry)) left scope) items k n closed at ⌝ }
+    ensures { λ r. ⌜ r ≡ listBy (now (t .entry)) (typeIn (now (t .entry)) left scope) items 0 n true at ⌝ }
 {
-    if n == 0 {
-        return Listed::Past { closed, next: at };
+    let mut k: u8 = 0;
+    let mut closed = true;
+    let mut a: usize = at;
+    while k < n {
+        let o = type_expr(t, scope, a, left);
+        let Typed::Has { class, tag, next } = o else {
+            return Listed::No;
+        };
+        if !item_fits(t, items, k, class, tag) {
+            return Listed::No;
+        }
+        closed = stays_closed(closed, tag);
+        a = next;
+        k += 1;
     }
-    let o = type_expr(t, scope, at, left);
-    let Typed::Has { class, tag, next } = o else {
-        return Listed::No;
-    };
-    if !item_fits(t, items, k, class, tag) {
-        return Listed::No;
-    }
-    if !closed_tag(tag) {
-        return type_list(t, scope, items, k + 1, n - 1, false, next, left);
-    }
-    type_list(t, scope, items, k + 1, n - 1, closed, next, left)
+    Listed::Past { closed, next: a }
 }

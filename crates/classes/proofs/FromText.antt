@@ -36,31 +36,18 @@ use Rattle.classes.proofs.MethodLines.{Framed, owner-in}
 use Rattle.classes.proofs.TableLines.{rawLines, Short, length-bodies, table-lines}
 use Rattle.classes.proofs.OnOverrides.{Shaped, overrides-on}
 
--- ---- a method's line that is read: its parameters are few, and its left expression ends where the right one begins
-upto-forth : (n k : ℕ) (bs : List ℕ) (g : Got ℕ) → upTo n (k ∷ bs) ≡ some g → g ≡ pair k bs
-upto-forth n k bs g e = same (pair k bs) g (guard-bind (leb k n) (λ _. got k bs) g e .1)
-
+-- ---- a method's line that is read: its parameters are few
 upto-few : (n k : ℕ) (bs : List ℕ) (g : Got ℕ) → upTo n (k ∷ bs) ≡ some g → k ≤ n
 upto-few n k bs g e = leb-true k n (guard-bind (leb k n) (λ _. got k bs) g e .0)
 
-pub record Reads (d : Method) : Type 0 where
-  pub params : length (d .params) ≤ paramCount
-  pub left : expr nestingLimit (codeOf (d .left) ++ codeOf (d .right)) ≡ got (d .left) (codeOf (d .right))
-
-method-reads : (d : Method) (g : TextFrame) → frame (methodLine d) ≡ some g → Reads d
+few-params : (d : Method) (g : TextFrame) → frame (methodLine d) ≡ some g → length (d .params) ≤ paramCount
 unfolding frame methodLine
-method-reads d g e =
-    let body = codeOf (d .left) ++ codeOf (d .right) in
-    let bs = typesBytes (d .params) ++ body in
+few-params d g e =
+    let bs = typesBytes (d .params) ++ (codeOf (d .left) ++ codeOf (d .right)) in
     let after = d .second .cls ∷ d .second .tag ∷ length (d .params) ∷ bs in
     let e1 = taken-as (type (d .first .cls ∷ d .first .tag ∷ after)) _ g (pair (d .first) after) e (type-forth (d .first) after) in
     let e2 = taken-as (type after) _ g (pair (d .second) (length (d .params) ∷ bs)) e1 (type-forth (d .second) (length (d .params) ∷ bs)) in
-    let e3 = taken-as (upTo paramCount (length (d .params) ∷ bs)) _ g (pair (length (d .params)) bs) e2 (upto-forth paramCount (length (d .params)) bs) in
-    let e4 = taken-as (types (length (d .params)) bs) _ g (pair (d .params) body) e3 (types-forth (d .params) body) in
-    record {
-      params = taken (upTo paramCount (length (d .params) ∷ bs)) g e2 λ k q _. upto-few paramCount (length (d .params)) bs k q;
-      left = taken (expr nestingLimit body) g e4 λ l q _. q ∙ ap {B = Option (Got Expr)} some (expr-forth (d .left) nestingLimit (codeOf (d .right)) l q);
-    }
+    taken (upTo paramCount (length (d .params) ∷ bs)) g e2 λ k q _. upto-few paramCount (length (d .params)) bs k q
 
 -- ---- lines and frames
 abbrev pub AllFrames : (TextFrame → Type 0) → List TextFrame → Type 0
@@ -139,7 +126,6 @@ framed [] a = tt
 framed (d ∷ ds) a = (
   record {
     short = a .0 .short;
-    read = method-reads d (methodFrame d) (a .0 .back) .left;
     name = a .0 .small 2;
   },
   framed ds (a .1),
@@ -191,7 +177,7 @@ shaped n h (m ∷ ms) e a =
         owned = o .0;
         owner = let l = o .1 in omega arith;
         name = a .0 .small 2;
-        params = method-reads m (methodFrame m) (a .0 .back) .params;
+        params = few-params m (methodFrame m) (a .0 .back);
         short = a .0 .short;
       },
       shaped n h ms (a9 .1) (a .1),

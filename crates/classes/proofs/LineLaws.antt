@@ -7,11 +7,11 @@ use mathlib.Core.Bool.{Bool, true, false, _&&_, _||_, not, true≢false, false�
 use mathlib.Core.List.{List, [], _∷_}
 use lib.Dec.{eqb, leb, ltb}
 use lib.ListN.{length, getD, drop, drop-of-length-le}
-use lib.Seq.{drop-cons, drop-drop}
+use lib.Seq.{drop-cons, drop-drop, getD-drop}
 use borrow.Author.Tests.{eq-eqb, ne-eqb, lt-ltb, le-ltb, le-leb, lt-leb}
 use Rattle.cofj.specs.Typing.{closedTag}
-use Rattle.classes.specs.Machine.{pick}
-use Rattle.classes.specs.Placing.{goodTypes, newKnown, scan, methodGood}
+use Rattle.classes.specs.Machine.{Wide, pick}
+use Rattle.classes.specs.Placing.{goodTypes, newKnown, scan, past, methodGood}
 
 -- ---- a byte at a place
 pub more : (s : List ℕ) (at : ℕ) → at < length s → drop at s ≡ getD s at 0 ∷ drop (at + 1) s
@@ -82,46 +82,126 @@ module _ (s : List ℕ) (at n : ℕ) where
   skip : (k j : ℕ) → at + 1 + k ≡ j → scan n k (drop (at + 1) s) ≡ scan n 0 (drop j s)
   skip k j e = scan-skip n k (drop (at + 1) s) ∙ ap (λ (x : List ℕ). scan n 0 x) (drop-drop k (at + 1) s) ∙ ap (λ (x : ℕ). scan n 0 (drop x s)) e
 
-  pub scan-end : length s ≤ at → true ≡ scan n 0 (drop at s)
-  unfolding scan
-  scan-end h = rw (no-more s at h)
-
-  module _ (h : at < length s) where
-    pub scan-one : (r : Bool) → getD s at 0 < 0x42 → r ≡ scan n 0 (drop (at + 1) s) → r ≡ scan n 0 (drop at s)
+  -- X is the answer, which the signs from `at` on still give
+  module _ (X : Bool) (e : X ≡ scan n 0 (drop at s)) where
+    pub scan-end : length s ≤ at → true ≡ X
     unfolding scan
-    scan-one r l e = rw (more s at h, lt-ltb (getD s at 0) 0x42 l) e
+    scan-end h = sym (e ∙ rw (no-more s at h))
 
-    module _ (l2 : 0x42 ≤ getD s at 0) where
-      pub scan-two : (r : Bool) → getD s at 0 < 0x44 → r ≡ scan n 0 (drop (at + 2) s) → r ≡ scan n 0 (drop at s)
+    module _ (h : at < length s) where
+      pub scan-one : getD s at 0 < 0x42 → X ≡ scan n 0 (drop (at + 1) s)
       unfolding scan
-      scan-two r l e = rw (more s at h, le-ltb (getD s at 0) 0x42 l2, lt-ltb (getD s at 0) 0x44 l) (e ∙ sym (skip 1 (at + 2) (omega arith)))
+      scan-one l = e ∙ rw (more s at h, lt-ltb (getD s at 0) 0x42 l)
 
-      module _ (l4 : 0x44 ≤ getD s at 0) where
-        pub scan-call : (r : Bool) → getD s at 0 ≡ 0x44 → r ≡ scan n 0 (drop (at + 3) s) → r ≡ scan n 0 (drop at s)
+      module _ (l2 : 0x42 ≤ getD s at 0) where
+        pub scan-two : getD s at 0 < 0x44 → X ≡ scan n 0 (drop (at + 2) s)
         unfolding scan
-        scan-call r l e =
-            rw (more s at h, le-ltb (getD s at 0) 0x42 l2, le-ltb (getD s at 0) 0x44 l4, eq-eqb (getD s at 0) 0x44 l) (e ∙ sym (skip 2 (at + 3) (omega arith)))
+        scan-two l = e ∙ rw (more s at h, le-ltb (getD s at 0) 0x42 l2, lt-ltb (getD s at 0) 0x44 l) (skip 1 (at + 2) (omega arith))
 
-        module _ (l5 : getD s at 0 ≡ 0x44 → ⊥) where
-          pub scan-short : length s ≤ at + 1 → true ≡ scan n 0 (drop at s)
+        module _ (l4 : 0x44 ≤ getD s at 0) where
+          pub scan-call : getD s at 0 ≡ 0x44 → X ≡ scan n 0 (drop (at + 3) s)
           unfolding scan
-          scan-short k =
-              rw (more s at h, le-ltb (getD s at 0) 0x42 l2, le-ltb (getD s at 0) 0x44 l4, ne-eqb (getD s at 0) 0x44 l5, no-more s (at + 1) k)
+          scan-call l =
+              e ∙ rw (more s at h, le-ltb (getD s at 0) 0x42 l2, le-ltb (getD s at 0) 0x44 l4, eq-eqb (getD s at 0) 0x44 l) (skip 2 (at + 3) (omega arith))
 
-          module _ (h1 : at + 1 < length s) where
-            new-first : newKnown n (drop (at + 1) s) ≡ leb (getD s (at + 1) 0) n
-            new-first = rw (more s (at + 1) h1)
-
-            pub scan-unknown : n < getD s (at + 1) 0 → false ≡ scan n 0 (drop at s)
+          module _ (l5 : getD s at 0 ≡ 0x44 → ⊥) where
+            pub scan-short : length s ≤ at + 1 → true ≡ X
             unfolding scan
-            scan-unknown k =
-                rw (more s at h, le-ltb (getD s at 0) 0x42 l2, le-ltb (getD s at 0) 0x44 l4, ne-eqb (getD s at 0) 0x44 l5, new-first, lt-leb (getD s (at + 1) 0) n k)
+            scan-short k =
+                sym (e ∙ rw (more s at h, le-ltb (getD s at 0) 0x42 l2, le-ltb (getD s at 0) 0x44 l4, ne-eqb (getD s at 0) 0x44 l5, no-more s (at + 1) k))
 
-            pub scan-new : (r : Bool) → getD s (at + 1) 0 ≤ n → r ≡ scan n 0 (drop (at + 3) s) → r ≡ scan n 0 (drop at s)
-            unfolding scan
-            scan-new r k e =
-                rw (more s at h, le-ltb (getD s at 0) 0x42 l2, le-ltb (getD s at 0) 0x44 l4, ne-eqb (getD s at 0) 0x44 l5, new-first, le-leb (getD s (at + 1) 0) n k)
-                (e ∙ sym (skip 2 (at + 3) (omega arith)))
+            module _ (h1 : at + 1 < length s) where
+              new-first : newKnown n (drop (at + 1) s) ≡ leb (getD s (at + 1) 0) n
+              new-first = rw (more s (at + 1) h1)
+
+              pub scan-unknown : n < getD s (at + 1) 0 → false ≡ X
+              unfolding scan
+              scan-unknown k =
+                  sym (e ∙ rw (more s at h, le-ltb (getD s at 0) 0x42 l2, le-ltb (getD s at 0) 0x44 l4, ne-eqb (getD s at 0) 0x44 l5, new-first, lt-leb (getD s (at + 1) 0) n k))
+
+              pub scan-new : getD s (at + 1) 0 ≤ n → X ≡ scan n 0 (drop (at + 3) s)
+              unfolding scan
+              scan-new k =
+                  e ∙ rw (more s at h, le-ltb (getD s at 0) 0x42 l2, le-ltb (getD s at 0) 0x44 l4, ne-eqb (getD s at 0) 0x44 l5, new-first, le-leb (getD s (at + 1) 0) n k)
+                  (skip 2 (at + 3) (omega arith))
+
+-- ---- where an expression ends
+past-skip : (m k : ℕ) (bs : List ℕ) → past m k bs ≡ k + past m 0 (drop k bs)
+unfolding past
+past-skip m zero bs = let e : past m 0 bs ≡ 0 + past m 0 bs = omega arith in e
+past-skip m (suc k) [] = let e : suc k ≡ suc k + 0 = omega arith in e
+past-skip m (suc k) (b ∷ bs) = let h = past-skip m k bs in omega arith
+
+-- X is the place, which m expressions from `at` on still give
+module _ (s : List ℕ) (at m X : ℕ) (e : X ≡ at + past m 0 (drop at s)) where
+  pub past-none : m ≤ 0 → at ≡ X
+  unfolding past
+  past-none z = go m (drop at s) z e
+    where
+      go : (m : ℕ) (bs : List ℕ) → m ≤ 0 → X ≡ at + past m 0 bs → at ≡ X
+      go zero [] z e = omega arith
+      go zero (b ∷ bs) z e = omega arith
+      go (suc m) bs z e = absurd (omega arith)
+
+  pub past-end : length s ≤ at → at ≡ X
+  unfolding past
+  past-end h = let q : past m 0 (drop at s) ≡ 0 = rw (no-more s at h) in omega arith
+
+  module _ (p : 0 < m) (h : at < length s) where
+    -- the sign there: j more bytes, and then i expressions
+    sign : (i j t : ℕ) → ((n : ℕ) → m ≡ suc n → past (suc n) 0 (getD s at 0 ∷ drop (at + 1) s) ≡ suc (past i j (drop (at + 1) s))) → at + 1 + j ≡ t → X ≡ t + past i 0 (drop t s)
+    sign i j t f et =
+        let n : m ≡ suc (m - 1) = omega arith in
+        let q : past m 0 (drop at s) ≡ suc (past i j (drop (at + 1) s)) = rw (more s at h) (ap (λ (x : ℕ). past x 0 (getD s at 0 ∷ drop (at + 1) s)) n ∙ f (m - 1) n) in
+        let k : past i j (drop (at + 1) s) ≡ j + past i 0 (drop t s) = past-skip i j (drop (at + 1) s) ∙ ap (λ (x : List ℕ). j + past i 0 x) (drop-drop j (at + 1) s ∙ ap (λ (x : ℕ). drop x s) et) in
+        omega arith
+
+    pub past-one : getD s at 0 < 0x42 → X ≡ at + 1 + past (m - 1) 0 (drop (at + 1) s)
+    unfolding past
+    past-one l = sign (m - 1) 0 (at + 1) (λ n q. let w : n ≡ m - 1 = omega arith in rw (lt-ltb (getD s at 0) 0x42 l, w)) (omega arith)
+
+    module _ (l : 0x42 ≤ getD s at 0) where
+      pub past-param : getD s at 0 ≡ 0x42 → X ≡ at + 2 + past (m - 1) 0 (drop (at + 2) s)
+      unfolding past
+      past-param b = sign (m - 1) 1 (at + 2) (λ n q. let w : n ≡ m - 1 = omega arith in rw (b, w)) (omega arith)
+
+      pub past-field : getD s at 0 ≡ 0x43 → X ≡ at + 2 + past m 0 (drop (at + 2) s)
+      unfolding past
+      past-field b = sign m 1 (at + 2) (λ n q. rw (b, q)) (omega arith)
+
+      module _ (n2 : getD s at 0 ≡ 0x42 → ⊥) (n3 : getD s at 0 ≡ 0x43 → ⊥) where
+        many : (n : ℕ) → past (suc n) 0 (getD s at 0 ∷ drop (at + 1) s)
+            ≡ suc (pick (eqb (getD s at 0) 0x44) (past (suc (n + getD (drop (at + 1) s) 1 0)) 2 (drop (at + 1) s)) (past (n + getD (drop (at + 1) s) 1 0) 2 (drop (at + 1) s)))
+        unfolding past
+        many n = rw (le-ltb (getD s at 0) 0x42 l, ne-eqb (getD s at 0) 0x42 n2, ne-eqb (getD s at 0) 0x43 n3)
+
+        second : getD (drop (at + 1) s) 1 0 ≡ getD s (at + 2) 0
+        second = getD-drop (at + 1) s 1 0 ∙ ap (λ (k : ℕ). getD s k 0) (let w : at + 1 + 1 ≡ at + 2 = omega arith in w)
+
+        pub past-short : length s ≤ at + 2 → at + 3 ≡ X
+        unfolding past
+        past-short k =
+            let n : m ≡ suc (m - 1) = omega arith in
+            let q : past m 0 (drop at s) ≡ 3 = rw (more s at h) (ap (λ (x : ℕ). past x 0 (getD s at 0 ∷ drop (at + 1) s)) n ∙ many (m - 1) ∙ ap suc (go (eqb (getD s at 0) 0x44))) in
+            omega arith
+          where
+            two : (i : ℕ) → past i 2 (drop (at + 1) s) ≡ 2
+            two i = past-skip i 2 (drop (at + 1) s) ∙ rw (drop-drop 2 (at + 1) s, no-more s (at + 1 + 2) (omega arith))
+
+            go : (b : Bool) → pick b (past (suc (m - 1 + getD (drop (at + 1) s) 1 0)) 2 (drop (at + 1) s)) (past (m - 1 + getD (drop (at + 1) s) 1 0) 2 (drop (at + 1) s)) ≡ 2
+            go true = two (suc (m - 1 + getD (drop (at + 1) s) 1 0))
+            go false = two (m - 1 + getD (drop (at + 1) s) 1 0)
+
+        module _ (v : ℕ) (ev : Wide (getD s (at + 2) 0) v) where
+          pub past-call : getD s at 0 ≡ 0x44 → X ≡ at + 3 + past (m + v) 0 (drop (at + 3) s)
+          past-call b =
+              sign (m + v) 2 (at + 3)
+              (λ n q. let w : suc (n + getD s (at + 2) 0) ≡ m + v = omega (arith, ev .same) in many n ∙ rw (second, eq-eqb (getD s at 0) 0x44 b, w)) (omega arith)
+
+          pub past-new : (getD s at 0 ≡ 0x44 → ⊥) → X ≡ at + 3 + past (m - 1 + v) 0 (drop (at + 3) s)
+          past-new b =
+              sign (m - 1 + v) 2 (at + 3)
+              (λ n q. let w : n + getD s (at + 2) 0 ≡ m - 1 + v = omega (arith, ev .same) in many n ∙ rw (second, ne-eqb (getD s at 0) 0x44 b, w)) (omega arith)
 
 -- ---- a method's line
 module _ (s : List ℕ) (n : ℕ) where

@@ -10,22 +10,20 @@ use lib.Dec.{eqb, leb, ltb}
 use lib.ListN.{length, getD, drop, length-append}
 use lib.Seq.{drop-append-seam, getD-append-add}
 use borrow.Author.Tests.{eqb-true, eqb-false, eq-eqb, ne-eqb, leb-true, le-leb, le-ltb}
-use Rattle.cofj.specs.Limits.{classCount, methodCount, lineSize, nestingLimit}
-use Rattle.cofj.specs.Syntax.{Expr, this, res, param, field, call, new, Exprs, done, also, Ty, Class, Method}
+use Rattle.cofj.specs.Limits.{classCount, methodCount, lineSize}
+use Rattle.cofj.specs.Syntax.{Expr, this, res, param, field, call, new, Exprs, done, also, count, Ty, Class, Method}
 use Rattle.cofj.specs.Typing.{closedTag, allClosed}
-use Rattle.cofj.specs.Frames.{Got, got, expr}
 use Rattle.cofj.specs.Tables.{known, allKnown, exprKnown, exprsKnown, hasName, methodsGood}
 use Rattle.cofj.specs.Writing.{codeOf, codesOf, typesBytes, methodLine, methodLines}
 use Rattle.cofj.specs.WellFormed.{AllMethods}
 use Rattle.cofj.proofs.Partial.{and-true}
 use Rattle.lineform.specs.Packed.{packed}
-use Rattle.lineform.specs.Answers.{endOf}
 use Rattle.classes.specs.declared.methods.Found.the-variants as found
 use Rattle.classes.specs.declared.place.Place.the-variants as place
 use Rattle.classes.specs.declared.build.Lines.the-variants.{At, Refused}
 use Rattle.classes.specs.Machine.{pick, numbered, ownOf}
 use Rattle.classes.specs.Layout.{indexFrom, rightPlace, filled}
-use Rattle.classes.specs.Placing.{goodTypes, scan, methodGood, Placed, placed, placeOf, rightIn, indexPut, methodPut, methodFree, methodPlaced}
+use Rattle.classes.specs.Placing.{goodTypes, scan, past, methodGood, Placed, placed, placeOf, rightIn, indexPut, methodPut, methodFree, methodPlaced}
 use Rattle.classes.specs.Building.{Walked, walked, onward, linesPlaced}
 use Rattle.classes.proofs.Zones.{length-types, filled-index}
 use Rattle.classes.proofs.FillingMethods.{isAt, method-filled}
@@ -107,8 +105,39 @@ module _ (d : Method) where
 -- what a method that was read from a line has
 pub record Framed (d : Method) : Type 0 where
   pub short : length (methodLine d) ≤ lineSize
-  pub read : expr nestingLimit (codeOf (d .left) ++ codeOf (d .right)) ≡ got (d .left) (codeOf (d .right))
   pub name : d .name < 256
+
+-- ---- where an expression ends: m more follow it
+mutual
+  unfolding past codeOf
+
+  past-code : (e : Expr) (m : ℕ) (r : List ℕ) → past (suc m) 0 (codeOf e ++ r) ≡ length (codeOf e) + past m 0 r
+  past-code this m r = omega arith
+  past-code res m r = omega arith
+  past-code (param k) m r = omega arith
+  past-code (field f e) m r = let h = past-code e m r in omega arith
+  past-code (call n e es) m r =
+      let h = past-code e (m + count es) (codesOf es ++ r) in
+      let k = past-codes es m r in
+      let l = length-append (codeOf e) (codesOf es) in
+      let a = ap (λ (x : List ℕ). past (suc (m + count es)) 0 x) (append-assoc (codeOf e) (codesOf es) r) in
+      omega arith
+  past-code (new c es) m r = let h = past-codes es m r in omega arith
+
+  past-codes : (es : Exprs) (m : ℕ) (r : List ℕ) → past (m + count es) 0 (codesOf es ++ r) ≡ length (codesOf es) + past m 0 r
+  past-codes done m r = let e = ap (λ (x : ℕ). past x 0 r) (let w : m + 0 ≡ m = omega arith in w) in omega arith
+  past-codes (also e es) m r =
+      let h = past-code e (m + count es) (codesOf es ++ r) in
+      let k = past-codes es m r in
+      let l = length-append (codeOf e) (codesOf es) in
+      let a = ap (λ (x : List ℕ). past (suc (m + count es)) 0 x) (append-assoc (codeOf e) (codesOf es) r) in
+      let c = ap (λ (x : ℕ). past x 0 ((codeOf e ++ codesOf es) ++ r)) (let e : m + suc (count es) ≡ suc (m + count es) = omega arith in e) in
+      omega arith
+
+past-zero : (r : List ℕ) → past 0 0 r ≡ 0
+unfolding past
+past-zero [] = refl
+past-zero (b ∷ r) = refl
 
 pub right-is : (d : Method) → Framed d → rightIn (methodLine d) ≡ place.At (rightPlace d)
 unfolding rightIn rightPlace methodLine
@@ -117,8 +146,8 @@ right-is d f =
     let a = length-append (typesBytes (d .params)) (codeOf (d .left) ++ codeOf (d .right)) in
     let b = length-append (codeOf (d .left)) (codeOf (d .right)) in
     let s = f .short in
-    let e : length (methodLine d) - length (codeOf (d .right)) ≡ 8 + 2 * length (d .params) + length (codeOf (d .left)) = omega arith in
-    rw (drop-types d, f .read, e, le-ltb 255 (8 + 2 * length (d .params) + length (codeOf (d .left))) (omega arith))
+    let p : past 1 0 (codeOf (d .left) ++ codeOf (d .right)) ≡ length (codeOf (d .left)) = past-code (d .left) 0 (codeOf (d .right)) ∙ (let z = past-zero (codeOf (d .right)) in let w : length (codeOf (d .left)) + past 0 0 (codeOf (d .right)) ≡ length (codeOf (d .left)) = omega arith in w) in
+    rw (drop-types d, p, le-ltb 255 (8 + 2 * length (d .params) + length (codeOf (d .left))) (omega arith))
 
 pub owner-in : (n : ℕ) (d : Method) → methodRules n d ≡ true → (1 ≤ d .owner) × (d .owner ≤ n)
 owner-in n d e =

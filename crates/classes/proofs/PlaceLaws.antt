@@ -11,15 +11,12 @@ use lib.Seq.{sets}
 use borrow.Author.Tests.{eq-eqb, ne-eqb, lt-ltb, le-ltb, le-leb, lt-leb}
 use Rattle.cofj.specs.Limits.{nestingLimit}
 use Rattle.cofj.specs.Frames.{expr}
-use Rattle.lineform.specs.declared.exprs.ReadExpr.{ReadExpr}
-use Rattle.lineform.specs.declared.exprs.ReadExpr.the-variants.{Next, Refused}
-use Rattle.lineform.specs.Answers.{endOf}
 use Rattle.classes.specs.declared.methods.Found.{Found}
 use Rattle.classes.specs.declared.methods.Found.the-variants as found
 use Rattle.classes.specs.declared.place.Place.{Place}
 use Rattle.classes.specs.declared.place.Place.the-variants as place
 use Rattle.classes.specs.Machine.{pick, ownOf}
-use Rattle.classes.specs.Placing.{goodTypes, scan, methodGood, Placed, placed, above, classGood, classPut, classPlaced, placeOf, rightIn, indexPut, methodPut, methodFree, methodPlaced, mainPlaced}
+use Rattle.classes.specs.Placing.{goodTypes, scan, past, methodGood, Placed, placed, above, classGood, classPut, classPlaced, placeOf, rightIn, indexPut, methodPut, methodFree, methodPlaced, mainPlaced}
 use Rattle.classes.proofs.LineLaws.{more, no-more, not-true, not-false}
 
 -- ---- a copy
@@ -84,22 +81,17 @@ module _ (l B : List ℕ) (k n : ℕ) where
                   good e = rw (classGood, le-leb 4 (length l) h, eq-eqb (getD l 1 0) k h1, lt-ltb (getD l 2 0) k h2, ← eg, not-false g h3, ← ea, le-leb a 4 h4, le-leb (getD l 3 0) 4 h5, le-leb (a + getD l 3 0) 4 e)
 
 -- ---- a method
-module _ (l : List ℕ) (w : ℕ) (ew : w ≡ getD l 7 0) (e : ReadExpr) (ee : e ≡ endOf l (expr 6 (drop (8 + 2 * w) l))) where
-  found-end : endOf l (expr nestingLimit (drop (8 + 2 * getD l 7 0) l)) ≡ e
-  found-end = rw (ee, ew)
+module _ (l : List ℕ) (w : ℕ) (ew : w ≡ getD l 7 0) (b : ℕ) (eb : b ≡ 8 + 2 * w + past 1 0 (drop (8 + 2 * w) l)) where
+  found-end : 8 + 2 * getD l 7 0 + past 1 0 (drop (8 + 2 * getD l 7 0) l) ≡ b
+  found-end = rw (eb, ew)
 
-  pub right-none : e ≡ Refused → place.Nothing ≡ rightIn l
+  pub right-far : 255 < b → place.Nothing ≡ rightIn l
   unfolding rightIn
-  right-none z = rw (found-end, z)
+  right-far h = rw (found-end, lt-ltb 255 b h)
 
-  module _ (b : ℕ) (eb : e ≡ Next b) where
-    pub right-far : 255 < b → place.Nothing ≡ rightIn l
-    unfolding rightIn
-    right-far h = rw (found-end, eb, lt-ltb 255 b h)
-
-    pub right-at : b ≤ 255 → place.At b ≡ rightIn l
-    unfolding rightIn
-    right-at h = rw (found-end, eb, le-ltb 255 b h)
+  pub right-at : b ≤ 255 → place.At b ≡ rightIn l
+  unfolding rightIn
+  right-at h = rw (found-end, le-ltb 255 b h)
 
 module _ (c m x : ℕ) (B : List ℕ) where
   pub index-off : 32 < c → B ≡ indexPut c m x B

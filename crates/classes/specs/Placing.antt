@@ -7,11 +7,7 @@ use lib.Dec.{eqb, leb, ltb}
 use lib.ListN.{length, getD, drop, set}
 use lib.Seq.{sets}
 use Rattle.cofj.specs.Typing.{closedTag}
-use Rattle.cofj.specs.Limits.{classCount, fieldCount, nestingLimit, lineSize}
-use Rattle.cofj.specs.Frames.{expr}
-use Rattle.lineform.specs.declared.exprs.ReadExpr.{ReadExpr}
-use Rattle.lineform.specs.declared.exprs.ReadExpr.the-variants.{Next, Refused}
-use Rattle.lineform.specs.Answers.{endOf}
+use Rattle.cofj.specs.Limits.{classCount, fieldCount, lineSize}
 use Rattle.classes.specs.Figures.{rowSize, longSize, indexAt, methodsAt, mainAt, lastByte}
 use Rattle.classes.specs.declared.methods.Found.{Found}
 use Rattle.classes.specs.declared.methods.Found.the-variants as found
@@ -62,12 +58,21 @@ classPut l k B = sets (set (set B (rowSize * k) (getD l 2 0)) (rowSize * k + 1) 
 unfoldable pub classPlaced : List ℕ → ℕ → ℕ → List ℕ → Placed
 classPlaced l k n B = pick (classGood l k n B) (placed true (classPut l k B)) (placed false B)
 
-abbrev pub placeOf : ReadExpr → Place
-placeOf Refused = place.Nothing
-placeOf (Next b) = pick (ltb lineSize b) place.Nothing (place.At b)
+abbrev pub placeOf : ℕ → Place
+placeOf b = pick (ltb lineSize b) place.Nothing (place.At b)
 
+-- how many bytes m expressions take, one after another: their signs, and what these hold, are counted. The second number is as in `scan`.
+unfoldable pub past : ℕ → ℕ → List ℕ → ℕ
+past m k [] = k
+past m (suc k) (b ∷ bs) = suc (past m k bs)
+past zero zero (b ∷ bs) = 0
+past (suc m) zero (b ∷ bs) =
+    suc (pick (ltb b 0x42) (past m 0 bs) (pick (eqb b 0x42) (past m 1 bs) (pick (eqb b 0x43) (past (suc m) 1 bs)
+    (pick (eqb b 0x44) (past (suc (m + getD bs 1 0)) 2 bs) (past (m + getD bs 1 0) 2 bs)))))
+
+-- the left expression begins after the parameters' types, and the right one after it
 unfoldable pub rightIn : List ℕ → Place
-rightIn l = placeOf (endOf l (expr nestingLimit (drop (8 + 2 * getD l 7 0) l)))
+rightIn l = placeOf (8 + 2 * getD l 7 0 + past 1 0 (drop (8 + 2 * getD l 7 0) l))
 
 abbrev pub indexPut : ℕ → ℕ → ℕ → List ℕ → List ℕ
 indexPut c m x B = pick (ltb classCount c) B (set B (indexAt + longSize * c + m) x)

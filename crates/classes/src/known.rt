@@ -1,4 +1,5 @@
-// Tests of a line's bytes against the number of classes n: types that are known and closed, expressions whose classes are known.
+// Tests of a line's bytes against the number of classes n: types that are known and closed, expressions whose classes are known; and where
+// an expression ends.
 // Not here: that the line is a frame (lineform), which every line is that gets here.
 use crate::places::wide;
 ghost use mathlib.Core.Path.{_≡_};
@@ -6,7 +7,7 @@ ghost use Prim.Native.Nat.{ℕ, _≤_, _+_, _*_};
 ghost use lib.ListN.{length, drop};
 ghost use Rattle.cofj.specs.Limits.{lineSize};
 ghost use Rattle.cofj.specs.Typing.{closedTag};
-ghost use Rattle.classes.specs.Placing.{goodTypes, scan, methodGood};
+ghost use Rattle.classes.specs.Placing.{goodTypes, scan, past, methodGood};
 
 // Tags 0 and 3 are closed.
 pub fn closed(g: u8) -> bool
@@ -47,27 +48,71 @@ pub fn all_known(s: &[u8], at: usize, n: u8) -> bool
     requires { ⌜ length (now s) ≤ lineSize ⌝ }
     ensures { λ r. ⌜ r ≡ scan n 0 (drop at (now (s .entry))) ⌝ }
 {
-    if s.len() <= at {
-        return true;
+    let mut a: usize = at;
+    while a < s.len() {
+        let b = s[a];
+        if b < 0x42 {
+            a += 1;
+            continue;
+        }
+        if b < 0x44 {
+            a += 2;
+            continue;
+        }
+        if b == 0x44 {
+            a += 3;
+            continue;
+        }
+        let c = a + 1;
+        if s.len() <= c {
+            return true;
+        }
+        if n < s[c] {
+            return false;
+        }
+        a += 3;
     }
-    let b = s[at];
-    if b < 0x42 {
-        return all_known(s, at + 1, n);
+    true
+}
+
+// Where the expression at `at` of a frame ends, by counting: k expressions are still to come from `a` on. Not tested: that it is one.
+pub fn expr_end(s: &[u8], at: usize) -> usize
+    requires { ⌜ length (now s) ≤ lineSize ⌝ }
+    ensures { λ r. ⌜ r ≡ at + past 1 0 (drop at (now (s .entry))) ⌝ }
+{
+    let mut a: usize = at;
+    let mut k: usize = 1;
+    while 0 < k {
+        if s.len() <= a {
+            return a;
+        }
+        let b = s[a];
+        if b < 0x42 {
+            a += 1;
+            k -= 1;
+            continue;
+        }
+        if b == 0x42 {
+            a += 2;
+            k -= 1;
+            continue;
+        }
+        if b == 0x43 {
+            a += 2;
+            continue;
+        }
+        let c = a + 2;
+        a += 3;
+        if s.len() <= c {
+            return a;
+        }
+        if b == 0x44 {
+            k = k + wide(s[c]);
+            continue;
+        }
+        k = k - 1 + wide(s[c]);
     }
-    if b < 0x44 {
-        return all_known(s, at + 2, n);
-    }
-    if b == 0x44 {
-        return all_known(s, at + 3, n);
-    }
-    let a = at + 1;
-    if s.len() <= a {
-        return true;
-    }
-    if n < s[a] {
-        return false;
-    }
-    all_known(s, at + 3, n)
+    a
 }
 
 // A method's line without its name: owner known and not Object, types known, first result and parameters closed, expressions known.

@@ -2,6 +2,7 @@
 // Not here: the order of the lines (build), overriding (overrides).
 use crate::chain::field_total;
 use crate::known::all_known;
+use crate::known::expr_end;
 use crate::known::method_good;
 use crate::known::types_good;
 use crate::methods::Found;
@@ -16,8 +17,6 @@ use crate::places::METHODS;
 use crate::places::ROW;
 use crate::places::SIZE;
 use crate::places::wide;
-use lineform::exprs::ReadExpr;
-use lineform::exprs::read_expr;
 ghost use mathlib.Core.Path.{_≡_};
 ghost use Prim.Native.Nat.{ℕ, _≤_, _<_, _+_, _*_};
 ghost use lib.ListN.{length, drop};
@@ -85,13 +84,10 @@ pub fn place_class(l: &[u8], k: u8, n: u8, t: &mut [u8; SIZE]) -> bool
 
 // Where the right expression of a method's line stands.
 pub fn right_in(l: &[u8]) -> Place
-    requires { ⌜ 8 ≤ length (now l) ⌝ }
+    requires { ⌜ (8 ≤ length (now l)) × (length (now l) ≤ lineSize) ⌝ }
     ensures { λ r. ⌜ r ≡ rightIn (now (l .entry)) ⌝ }
 {
-    let e = read_expr(l, 8 + 2 * wide(l[7]), 6);
-    let ReadExpr::Next(b) = e else {
-        return Place::Nothing;
-    };
+    let b = expr_end(l, 8 + 2 * wide(l[7]));
     if 255 < b {
         return Place::Nothing;
     }

@@ -1,25 +1,26 @@
 -- Laws of decoding, in the form in which the needs of `decode` and `decode_lines` cite them: what the loop keeps, and one for each return.
 -- Not here: what a caller learns from the contract (Established).
-use Prim.Native.Nat.{ℕ, _+_, _*_, _<_, _≤_}
+use Prim.Native.Nat.{ℕ, _+_, _-_, _*_, _<_, _≤_}
 use native.Mathlib.Omega.{arith}
 use mathlib.Core.Path.{_≡_, refl, sym, ap, _∙_}
-use mathlib.Core.Bool.{Bool, true, false}
+use mathlib.Core.Bool.{Bool, true, false, not, _&&_}
 use mathlib.Core.List.{List, [], _∷_, _++_, append-assoc, append-nil, reverse, reverse-cons}
 use mathlib.Core.Option.{Option, none, some}
-use lib.Dec.{eqb}
+use lib.Dec.{eqb, leb}
 use lib.ListN.{length, getD, set, drop, length-append, length-reverse}
 use lib.Seq.{set-at, drop-drop}
-use borrow.Author.Tests.{ne-eqb, eqb-true}
-use Rattle.cofj.specs.Limits.{textSize}
+use mir.Val.{Fits}
+use mir.Syntax.{w8}
+use borrow.Author.Tests.{ne-eqb, eqb-true, eqb-false, le-leb, not-true, not-false}
+use Rattle.cofj.specs.Limits.{lineSize, textSize}
 use Rattle.cofj.specs.Partial.{_>>=_, guard}
 use Rattle.cofj.specs.Text.{within, digit, endLine, linesFrom, lines}
-use Rattle.lineform.specs.declared.hex.Digit.{Digit}
-use Rattle.lineform.specs.declared.hex.Digit.the-variants.{Is, Not}
+use Rattle.cofj.proofs.TextRound.{within-true}
 use Rattle.lineform.specs.declared.lines.Decoded.the-variants.{Packed as Filled, Refused}
 use Rattle.lineform.specs.Packed.{packed}
-use Rattle.lineform.specs.Answers.{Roomy, Decodable, digitOf, pairOf, Decodes}
+use Rattle.lineform.specs.Answers.{Roomy, Decodable, Decodes, endsLine, pairValue}
 use Rattle.lineform.proofs.Ends.{more, no-more}
-use Rattle.lineform.proofs.HexLaws.{below, above, inside, is-some, is-none}
+use Rattle.lineform.proofs.HexLaws.{below, above, inside, pairOf, pair-is, pair-none, pair-goes-on}
 use Rattle.lineform.proofs.PackedLaws.{packed-append}
 
 -- ---- the definition, two characters at a time
@@ -57,20 +58,72 @@ end-lines : (r bs : List ℕ) → linesFrom (10 ∷ r) none bs ≡ endLine none 
 unfolding linesFrom
 end-lines r bs = refl
 
-ended : (bs : List ℕ) (o : Option (List (List ℕ))) → 1 ≤ length bs → length bs ≤ 255 → endLine none bs o ≡ ahead (reverse bs ∷ []) o
-ended bs none h k = rw (inside 1 255 (length bs) h k)
-ended bs (some ls) h k = rw (inside 1 255 (length bs) h k)
+-- ---- a line's end
+module _ (c n : ℕ) where
+  pub ends-other : (c ≡ 10 → ⊥) → false ≡ endsLine c n
+  ends-other d = rw (ne-eqb c 10 d)
+
+  module _ (e : c ≡ 10) where
+    pub ends-empty : n ≡ 0 → false ≡ endsLine c n
+    ends-empty z = rw (e, z)
+
+    pub ends-sized : (n ≡ 0 → ⊥) → leb n 255 ≡ endsLine c n
+    ends-sized z = rw (e, le-leb 1 n (omega arith))
+
+pub count-fits : (c n : ℕ) (b : Bool) → b ≡ endsLine c n → not b ≡ false → Fits w8 n
+count-fits c n b e z = go (eqb c 10) (sym e ∙ not-false b z)
+  where
+    go : (x : Bool) → x && within 1 lineSize n ≡ true → Fits w8 n
+    go true q = let k = within-true 1 lineSize n q in omega arith
+    go false q = let k : _≡_ {A = ℕ} 0 1 = cc in absurd (omega arith)
+
+-- a line that ends has a byte: the pace is kept
+pub line-pace : (i w o c n : ℕ) (b : Bool) → b ≡ endsLine c n → not b ≡ false → n ≡ o - w - 1 → 4 * o ≤ 2 * i + w + 4 → 4 * (o + 1) ≤ 2 * (i + 1) + o + 4
+line-pace i w o c n b e z en pace = go (eqb c 10) (sym e ∙ not-false b z)
+  where
+    go : (x : Bool) → x && within 1 lineSize n ≡ true → 4 * (o + 1) ≤ 2 * (i + 1) + o + 4
+    go true q = let k = within-true 1 lineSize n q in omega arith
+    go false q = let k : _≡_ {A = ℕ} 0 1 = cc in absurd (omega arith)
+
+-- c ends the line bs, the last byte first
+record Ends (c : ℕ) (bs : List ℕ) : Type 0 where
+  is : c ≡ 10
+  sized : within 1 lineSize (length bs) ≡ true
+
+ends-line : (c : ℕ) (bs : List ℕ) → endsLine c (length bs) ≡ true → Ends c bs
+ends-line c bs = go (eqb c 10) refl
+  where
+    go : (b : Bool) → eqb c 10 ≡ b → b && within 1 lineSize (length bs) ≡ true → Ends c bs
+    go true q e = record { is = eqb-true c 10 q; sized = e }
+    go false q e = let z : _≡_ {A = ℕ} 0 1 = cc in absurd (omega arith)
+
+ended : (c : ℕ) (r bs : List ℕ) → endsLine c (length bs) ≡ true → linesFrom (c ∷ r) none bs ≡ ahead (reverse bs ∷ []) (linesFrom r none [])
+ended c r bs e =
+    let h = ends-line c bs e in
+    rw (h .is, end-lines r bs, h .sized) (go (linesFrom r none []))
+  where
+    go : (o : Option (List (List ℕ))) → o >>= (λ ls. some (reverse bs ∷ ls)) ≡ ahead (reverse bs ∷ []) o
+    go none = refl
+    go (some ls) = refl
+
+-- what ends no line and begins no byte is refused
+not-ended : (c : ℕ) (r bs : List ℕ) → endsLine c (length bs) ≡ false → pairOf (c ∷ r) ≡ none → linesFrom (c ∷ r) none bs ≡ none
+not-ended c r bs e p = go (eqb c 10) refl e
+  where
+    go : (b : Bool) → eqb c 10 ≡ b → b && within 1 lineSize (length bs) ≡ false → linesFrom (c ∷ r) none bs ≡ none
+    go true q z = rw (eqb-true c 10 q, end-lines r bs, z)
+    go false q z = byte-lines c r bs (eqb-false c 10 q) ∙ rw p
 
 -- ---- what the loop keeps
-pub record Reading (text out₀ out : List ℕ) (i w b : ℕ) : Type 0 where
+pub record Reading (text out₀ out : List ℕ) (i w o : ℕ) : Type 0 where
   pub done : List (List ℕ)
   pub line : List ℕ
   pub gives : linesFrom text none [] ≡ ahead done (linesFrom (drop i text) none line)
   pub place : length (packed done) ≡ w
-  pub size : length line ≡ b
-  pub bytes : out ≡ packed done ++ (getD out₀ w 0 ∷ (reverse line ++ drop (w + 1 + b) out₀))
+  pub size : w + 1 + length line ≡ o
+  pub bytes : out ≡ packed done ++ (getD out₀ w 0 ∷ (reverse line ++ drop o out₀))
 
-pub reading-none : (text out : List ℕ) → 2 * length text + 10 ≤ 3 * length out → Reading text out out 0 0 0
+pub reading-none : (text out : List ℕ) → 2 * length text + 10 ≤ 3 * length out → Reading text out out 0 0 1
 unfolding packed
 reading-none text out room = record {
   done = [];
@@ -80,9 +133,6 @@ reading-none text out room = record {
   size = refl;
   bytes = more out 0 (omega arith);
 }
-
-more-by : (s : List ℕ) (at k : ℕ) → at + 1 ≡ k → at < length s → drop at s ≡ getD s at 0 ∷ drop k s
-more-by s at k e h = rw (← e) (more s at h)
 
 put : (p r D : List ℕ) (g y v n : ℕ) → length p + 1 + length r ≡ n → set (p ++ (g ∷ (r ++ (y ∷ D)))) n v ≡ p ++ (g ∷ ((r ++ (v ∷ [])) ++ D))
 put p r D g y v n e =
@@ -122,93 +172,106 @@ pub long-text : (text out : List ℕ) → 49567 < length text → Decodes text o
 unfolding lines
 long-text text out h = no-lines text out out (rw (above 1 textSize (length text) (omega arith) h))
 
-module _ (text out₀ out : List ℕ) (i w b : ℕ) (r : Reading text out₀ out i w b) where
-  ends-with : (o : Option (List (List ℕ))) → linesFrom (drop i text) none (r .line) ≡ o → linesFrom text none [] ≡ ahead (r .done) o
-  ends-with o e = r .gives ∙ ap (ahead (r .done)) e
+-- the whole text is read, and no line is open
+all-read : (text out₀ out : List ℕ) (i w : ℕ) → Reading text out₀ out i w (w + 1) → 1 ≤ length text → length text ≤ 49567 → w < length out₀ → length text ≤ i → Decodes text out₀ out (Filled w)
+unfolding lines
+all-read text out₀ out i w r one short room hi =
+    let el : r .line ≡ [] = nil (r .line) (omega (arith, r .size)) in
+    let e0 : linesFrom (drop i text) none (r .line) ≡ some [] = rw (no-more text i hi, el) closed-line in
+    let g : linesFrom text none [] ≡ some (r .done) = r .gives ∙ ap (ahead (r .done)) e0 ∙ ap {B = Option (List (List ℕ))} some (append-nil (r .done)) in
+    let e2 : lines text ≡ some (r .done) = rw (inside 1 textSize (length text) one short) g in
+    let wd : out ≡ packed (r .done) ++ drop w out₀ = r .bytes ∙ rw (el, more out₀ w room) in
+    record {
+      answer = rw (e2, r .place);
+      written = λ ls q. let e : r .done ≡ ls = cc in rw (← e, r .place) wd;
+    }
 
-  module _ (hi : i < length text) where
-    -- ---- the end of a line
-    module _ (lf : getD text i 0 ≡ 10) where
-      at-end : linesFrom (drop i text) none (r .line) ≡ endLine none (r .line) (linesFrom (drop (i + 1) text) none [])
-      at-end = rw (more text i hi, lf) (end-lines (drop (i + 1) text) (r .line))
+module _ (text out₀ out : List ℕ) (i w o : ℕ) (r : Reading text out₀ out i w o) where
+  ends-with : (p : Option (List (List ℕ))) → linesFrom (drop i text) none (r .line) ≡ p → linesFrom text none [] ≡ ahead (r .done) p
+  ends-with p e = r .gives ∙ ap (ahead (r .done)) e
 
-      pub line-empty : b ≡ 0 → Decodes text out₀ out Refused
-      line-empty z =
-          let e : endLine none (r .line) (linesFrom (drop (i + 1) text) none []) ≡ none = rw (below 1 255 (length (r .line)) (omega (arith, r .size))) in
-          refuses text out₀ out (ends-with none (at-end ∙ e))
+  count : (n : ℕ) → n ≡ o - w - 1 → n ≡ length (r .line)
+  count n e = omega (arith, r .size)
 
-      pub line-long : 255 < b → Decodes text out₀ out Refused
-      line-long h =
-          let e : endLine none (r .line) (linesFrom (drop (i + 1) text) none []) ≡ none = rw (above 1 255 (length (r .line)) (omega (arith, r .size)) (omega (arith, r .size))) in
-          refuses text out₀ out (ends-with none (at-end ∙ e))
+  -- where nothing can follow
+  refused-at : (hi : i < length text) → endsLine (getD text i 0) (length (r .line)) ≡ false → pairOf (getD text i 0 ∷ drop (i + 1) text) ≡ none → Decodes text out₀ out Refused
+  refused-at hi e p = refuses text out₀ out (ends-with none (rw (more text i hi) (not-ended (getD text i 0) (drop (i + 1) text) (r .line) e p)))
 
-      pub line-ends : (b ≡ 0 → ⊥) → b ≤ 255 → 3 * w + 4 * b ≤ 2 * i → 2 * length text + 10 ≤ 3 * length out₀ → Reading text out₀ (set out w b) (i + 1) (w + 1 + b) 0
-      unfolding packed
-      line-ends nz k pace room =
-          let l = reverse (r .line) in
-          let el : length l ≡ b = length-reverse (r .line) ∙ r .size in
-          let D = drop (w + 1 + b) out₀ in
-          let p = packed (r .done) in
-          let ed : D ≡ getD out₀ (w + 1 + b) 0 ∷ drop (w + 1 + b + 1 + 0) out₀ = more-by out₀ (w + 1 + b) (w + 1 + b + 1 + 0) (omega arith) (omega arith) in
-          let e0 : set out w b ≡ p ++ (b ∷ (l ++ D)) = rw (r .bytes) (set-at p (getD out₀ w 0) (l ++ D) b w (r .place)) in
-          let e1 : packed (r .done ++ (l ∷ [])) ≡ p ++ (b ∷ (l ++ [])) = packed-append (r .done) (l ∷ []) ∙ ap (λ (x : ℕ). p ++ (x ∷ (l ++ []))) el in
-          let e2 : (p ++ (b ∷ (l ++ []))) ++ D ≡ p ++ (b ∷ (l ++ D)) = append-assoc p (b ∷ (l ++ [])) D ∙ ap (λ (x : List ℕ). p ++ (b ∷ x)) (append-assoc l [] D) in
-          record {
-            done = r .done ++ (l ∷ []);
-            line = [];
-            gives =
-                ends-with _ (at-end ∙ ended (r .line) (linesFrom (drop (i + 1) text) none []) (omega (arith, r .size)) (omega (arith, r .size)))
-                ∙ ahead-ahead (r .done) (l ∷ []) (linesFrom (drop (i + 1) text) none []);
-            place = ap length e1 ∙ length-append p (b ∷ (l ++ [])) ∙ sized p l (r .place) el;
-            size = refl;
-            bytes = e0 ∙ sym e2 ∙ ap (λ (x : List ℕ). x ++ D) (sym e1) ∙ ap (λ (x : List ℕ). packed (r .done ++ (l ∷ [])) ++ x) ed;
-          }
-        where
-          sized : (p l : List ℕ) → length p ≡ w → length l ≡ b → length p + length (b ∷ (l ++ [])) ≡ w + 1 + b
-          sized p l ep el = let e = length-append l [] in omega arith
+  -- the line is written
+  module _ (hi : i < length text) (e : endsLine (getD text i 0) (length (r .line)) ≡ true) (w1 : w + 1 ≤ o) (room : o < length out₀) where
+    wrote : Reading text out₀ (set out w (o - w - 1)) (i + 1) o (o + 1)
+    unfolding packed
+    wrote =
+        let b = o - w - 1 in
+        let l = reverse (r .line) in
+        let el : length l ≡ b = length-reverse (r .line) ∙ (let q : length (r .line) ≡ b = omega (arith, r .size) in q) in
+        let D = drop o out₀ in
+        let p = packed (r .done) in
+        let ed : D ≡ getD out₀ o 0 ∷ drop (o + 1) out₀ = more out₀ o room in
+        let e0 : set out w b ≡ p ++ (b ∷ (l ++ D)) = rw (r .bytes) (set-at p (getD out₀ w 0) (l ++ D) b w (r .place)) in
+        let e1 : packed (r .done ++ (l ∷ [])) ≡ p ++ (b ∷ (l ++ [])) = packed-append (r .done) (l ∷ []) ∙ ap (λ (x : ℕ). p ++ (x ∷ (l ++ []))) el in
+        let e2 : (p ++ (b ∷ (l ++ []))) ++ D ≡ p ++ (b ∷ (l ++ D)) = append-assoc p (b ∷ (l ++ [])) D ∙ ap (λ (x : List ℕ). p ++ (b ∷ x)) (append-assoc l [] D) in
+        record {
+          done = r .done ++ (l ∷ []);
+          line = [];
+          gives =
+              ends-with (ahead (l ∷ []) (linesFrom (drop (i + 1) text) none [])) (rw (more text i hi) (ended (getD text i 0) (drop (i + 1) text) (r .line) e))
+              ∙ ahead-ahead (r .done) (l ∷ []) (linesFrom (drop (i + 1) text) none []);
+          place = ap length e1 ∙ length-append p (b ∷ (l ++ [])) ∙ sized p l (r .place) el;
+          size = omega arith;
+          bytes = e0 ∙ sym e2 ∙ ap (λ (x : List ℕ). x ++ D) (sym e1) ∙ ap (λ (x : List ℕ). packed (r .done ++ (l ∷ [])) ++ x) ed;
+        }
+      where
+        sized : (p l : List ℕ) → length p ≡ w → length l ≡ o - w - 1 → length p + length ((o - w - 1) ∷ (l ++ [])) ≡ o
+        sized p l ep el = let e = length-append l [] in omega arith
 
-    -- ---- a byte
-    module _ (n : getD text i 0 ≡ 10 → ⊥) (x : Digit) (ex : x ≡ digitOf (pairOf (drop i text))) where
-      at-byte : linesFrom (drop i text) none (r .line) ≡ pairOf (drop i text) >>= λ v. linesFrom (drop (i + 2) text) none (v ∷ r .line)
-      at-byte =
-          let e : drop 1 (drop (i + 1) text) ≡ drop (i + 2) text = drop-drop 1 (i + 1) text ∙ ap (λ (k : ℕ). drop k text) (let k : i + 1 + 1 ≡ i + 2 = omega arith in k) in
-          rw (← e, more text i hi) (byte-lines (getD text i 0) (drop (i + 1) text) (r .line) n)
+  module _ (last : ℕ) (el : last ≡ length text - 1) (hl : i < last) (x : ℕ) (ex : x ≡ pairValue (getD text i 0) (getD text (i + 1) 0)) where
+    two-left : drop i text ≡ getD text i 0 ∷ getD text (i + 1) 0 ∷ drop (i + 1 + 1) text
+    two-left = more text i (omega arith) ∙ ap (λ (y : List ℕ). getD text i 0 ∷ y) (more text (i + 1) (omega arith))
 
-      pub byte-bad : x ≡ Not → Decodes text out₀ out Refused
-      byte-bad xn = refuses text out₀ out (ends-with none (at-byte ∙ rw (is-none (pairOf (drop i text)) x ex xn)))
+    pub byte-more : x < 256 → w + 1 ≤ o → 4 * o ≤ 2 * i + w + 4 → 2 * length text + 10 ≤ 3 * length out₀ → Reading text out₀ (set out o x) (i + 2) w (o + 1)
+    byte-more lx w1 pace room =
+        let v : pairValue (getD text i 0) (getD text (i + 1) 0) < 256 = rw ex at lx in
+        record {
+          done = r .done;
+          line = x ∷ r .line;
+          gives = ends-with (linesFrom (drop (i + 2) text) none (x ∷ r .line)) (at-byte v);
+          place = r .place;
+          size = let e = r .size in omega arith;
+          bytes =
+              rw (r .bytes, more out₀ o (omega arith), reverse-cons x (r .line))
+              (put (packed (r .done)) (reverse (r .line)) (drop (o + 1) out₀) (getD out₀ w 0) (getD out₀ o 0) x o
+              (let e = length-reverse (r .line) in let s = r .size in let q = r .place in omega arith));
+        }
+      where
+        at-byte : pairValue (getD text i 0) (getD text (i + 1) 0) < 256 → linesFrom (drop i text) none (r .line) ≡ linesFrom (drop (i + 2) text) none (x ∷ r .line)
+        at-byte v =
+            let n : i + 1 + 1 ≡ i + 2 = omega arith in
+            rw (two-left, byte-lines (getD text i 0) (getD text (i + 1) 0 ∷ drop (i + 1 + 1) text) (r .line) (pair-goes-on (getD text i 0) (getD text (i + 1) 0) v), pair-is (getD text i 0) (getD text (i + 1) 0) (drop (i + 1 + 1) text) v, n, ex)
 
-      pub byte-more : (v : ℕ) → x ≡ Is v → 3 * w + 4 * b ≤ 2 * i → 2 * length text + 10 ≤ 3 * length out₀ → Reading text out₀ (set out (w + 1 + b) v) (i + 2) w (b + 1)
-      byte-more v xv pace room = record {
-        done = r .done;
-        line = v ∷ r .line;
-        gives = ends-with (linesFrom (drop (i + 2) text) none (v ∷ r .line)) (at-byte ∙ rw (is-some (pairOf (drop i text)) x v ex xv));
-        place = r .place;
-        size = let e = r .size in omega arith;
-        bytes =
-            let ed : drop (w + 1 + b) out₀ ≡ getD out₀ (w + 1 + b) 0 ∷ drop (w + 1 + (b + 1)) out₀ = more-by out₀ (w + 1 + b) (w + 1 + (b + 1)) (omega arith) (omega arith) in
-            rw (r .bytes, ed, reverse-cons v (r .line))
-            (put (packed (r .done)) (reverse (r .line)) (drop (w + 1 + (b + 1)) out₀) (getD out₀ w 0) (getD out₀ (w + 1 + b) 0) v (w + 1 + b)
-            (let e = length-reverse (r .line) in let s = r .size in let q = r .place in omega arith));
-      }
+    module _ (hx : 256 ≤ x) (n : ℕ) (en : n ≡ o - w - 1) (b : Bool) (eb : b ≡ endsLine (getD text i 0) n) where
+      pub line-bad : not b ≡ true → Decodes text out₀ out Refused
+      line-bad z =
+          refused-at (omega arith) (sym (rw (count n en) at eb) ∙ not-true b z)
+          (rw (more text (i + 1) (omega arith)) (pair-none (getD text i 0) (getD text (i + 1) 0) (drop (i + 1 + 1) text) (rw ex at hx)))
+
+  module _ (last : ℕ) (el : last ≡ length text - 1) (hl : i < last) (n : ℕ) (en : n ≡ o - w - 1) (b : Bool) (eb : b ≡ endsLine (getD text i 0) n) where
+    pub line-ends : not b ≡ false → w + 1 ≤ o → 4 * o ≤ 2 * i + w + 4 → 2 * length text + 10 ≤ 3 * length out₀ → Reading text out₀ (set out w n) (i + 1) o (o + 1)
+    line-ends z w1 pace room = rw en (wrote (omega arith) (sym (rw (count n en) at eb) ∙ not-false b z) w1 (omega arith))
 
   -- ---- the end of the text
-  module _ (hi : length text ≤ i) where
-    pub text-open : 0 < b → Decodes text out₀ out Refused
-    text-open h = refuses text out₀ out (ends-with none (rw (no-more text i hi) (open-line (r .line) (omega (arith, r .size)))))
+  module _ (last : ℕ) (el : last ≡ length text - 1) where
+    pub text-open : last < i → i + w + 1 ≤ last + o → 1 ≤ length text → Decodes text out₀ out Refused
+    text-open h k one = refuses text out₀ out (ends-with none (rw (no-more text i (omega arith)) (open-line (r .line) (omega (arith, r .size)))))
 
-    pub text-ends : b ≤ 0 → i ≤ length text + 1 → 3 * w + 4 * b ≤ 2 * i → 1 ≤ length text → length text ≤ 49567 → 2 * length text + 10 ≤ 3 * length out₀ → Decodes text out₀ out (Filled w)
-    unfolding lines
-    text-ends z near pace one short room =
-        let el : r .line ≡ [] = nil (r .line) (omega (arith, r .size)) in
-        let g : linesFrom text none [] ≡ some (r .done) = ends-with (some []) (rw (no-more text i hi, el) closed-line) ∙ ap {B = Option (List (List ℕ))} some (append-nil (r .done)) in
-        let el2 : lines text ≡ some (r .done) = rw (inside 1 textSize (length text) (omega arith) short) g in
-        let ez : b ≡ 0 = omega arith in
-        let ed : drop w out₀ ≡ getD out₀ w 0 ∷ drop (w + 1 + 0) out₀ = more-by out₀ w (w + 1 + 0) (omega arith) (omega arith) in
-        let wd : out ≡ packed (r .done) ++ drop w out₀ = r .bytes ∙ rw (el, ez, ed) in
-        record {
-          answer = rw (el2, r .place);
-          written = λ ls q. let e : r .done ≡ ls = cc in rw (← e, r .place) wd;
-        }
+    module _ (lo : last ≤ i) (hi : i ≤ last) (one : 1 ≤ length text) (n : ℕ) (en : n ≡ o - w - 1) (b : Bool) (eb : b ≡ endsLine (getD text i 0) n) where
+      pub last-bad : not b ≡ true → Decodes text out₀ out Refused
+      last-bad z = refused-at (omega arith) (sym (rw (count n en) at eb) ∙ not-true b z) (rw (no-more text (i + 1) (omega arith)))
+
+      pub last-ends : not b ≡ false → w + 1 ≤ o → 4 * o ≤ 2 * i + w + 4 → 2 * length text + 10 ≤ 3 * length out₀ → length text ≤ 49567 → Decodes text out₀ (set out w n) (Filled o)
+      last-ends z w1 pace room short =
+          let h : o < length out₀ = omega arith in
+          all-read text out₀ (set out w n) (i + 1) o (rw en (wrote (omega arith) (sym (rw (count n en) at eb) ∙ not-false b z) w1 h)) one short h (omega arith)
 
 -- ---- what `decode` hands on
 pub decodable : (text out : List ℕ) → Roomy text out → (length text ≡ 0 → ⊥) → length text ≤ 49567 → Decodable text out

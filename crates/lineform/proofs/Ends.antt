@@ -1,4 +1,4 @@
--- Ends of what is read: a reader's answer as a place in the line, alone and one after another.
+-- Ends of what is read: a reader's answer as a place in the line.
 -- Not here: the readers themselves (ExprLaws, FrameLaws).
 use Prim.Native.Nat.{ℕ, _+_, _-_, _<_, _≤_}
 use native.Mathlib.Omega.{arith}
@@ -12,7 +12,7 @@ use Rattle.cofj.specs.Partial.{_>>=_}
 use Rattle.cofj.specs.Frames.{Got, got}
 use Rattle.lineform.specs.declared.exprs.ReadExpr.{ReadExpr}
 use Rattle.lineform.specs.declared.exprs.ReadExpr.the-variants.{Next, Refused}
-use Rattle.lineform.specs.Answers.{endOf}
+use Rattle.lineform.specs.Answers.{endOf, endIn}
 
 -- a byte at a place
 pub more : (s : List ℕ) (at : ℕ) → at < length s → drop at s ≡ getD s at 0 ∷ drop (at + 1) s
@@ -33,27 +33,19 @@ tail-at s at p (x ∷ r) e =
 pub record Leaves {A : Type 0} (s : List ℕ) (p : Option (Got A)) : Type 0 where
   pub tail : (g : Got A) → p ≡ some g → g .rest ≡ drop (length s - length (g .rest)) s
 
--- the end of two readers, one after the other
-pub then-next : {A B C : Type 0} (s : List ℕ) (p : Option (Got A)) (go : Got A → Option (Got B)) (q : List ℕ → Option (Got C)) (o o2 : ReadExpr) (a : ℕ)
-    → Leaves s p → ((g : Got A) → endOf s (go g) ≡ endOf s (q (g .rest))) → o ≡ endOf s p → o ≡ Next a → o2 ≡ endOf s (q (drop a s)) → o2 ≡ endOf s (p >>= go)
-then-next s none go q o o2 a leaves same e n e2 = let z : _≡_ {A = ℕ} 0 1 = cc in absurd (omega arith)
-then-next s (some g) go q o o2 a leaves same e n e2 =
-    let ea : length s - length (g .rest) ≡ a = cc in
-    let t : g .rest ≡ drop a s = leaves .tail g refl ∙ ap (λ (k : ℕ). drop k s) ea in
-    e2 ∙ ap (λ (l : List ℕ). endOf s (q l)) (sym t) ∙ sym (same g)
-
-pub then-refused : {A B : Type 0} (s : List ℕ) (p : Option (Got A)) (go : Got A → Option (Got B)) (o : ReadExpr) → o ≡ endOf s p → o ≡ Refused → o ≡ endOf s (p >>= go)
-then-refused s none go o e n = n
-then-refused s (some g) go o e n = let z : _≡_ {A = ℕ} 0 1 = cc in absurd (omega arith)
-
 -- what is made of an item ends where the item does
 pub same-end : {A B : Type 0} (s : List ℕ) (p : Option (Got A)) (f : A → B) → endOf s (p >>= λ g. got (f (g .item)) (g .rest)) ≡ endOf s p
 same-end s none f = refl
 same-end s (some g) f = refl
 
-pub end-within : {A : Type 0} (s : List ℕ) (p : Option (Got A)) (o : ReadExpr) (a : ℕ) → o ≡ endOf s p → o ≡ Next a → a ≤ length s
-end-within s none o a e n = let z : _≡_ {A = ℕ} 0 1 = cc in absurd (omega arith)
-end-within s (some g) o a e n = let ea : length s - length (g .rest) ≡ a = cc in omega arith
+-- the end as a number, and as an answer
+pub number-refused : {A : Type 0} (s : List ℕ) (p : Option (Got A)) (a : ℕ) → a ≡ endIn s p → length s < a → Refused ≡ endOf s p
+number-refused s none a e h = refl
+number-refused s (some g) a e h = absurd (omega arith)
+
+pub number-next : {A : Type 0} (s : List ℕ) (p : Option (Got A)) (a : ℕ) → a ≡ endIn s p → a ≤ length s → Next a ≡ endOf s p
+number-next s none a e h = absurd (omega arith)
+number-next s (some g) a e h = ap Next e
 
 -- nothing read
 pub end-here : (s : List ℕ) (at : ℕ) → at ≤ length s → at ≡ length s - length (drop at s)

@@ -1,20 +1,19 @@
--- Laws of the digits, in the form in which the needs of hex cite them.
-use Prim.Native.Nat.{ℕ, _+_, _*_, _-_, _<_, _≤_}
+-- Laws of the digits, in the form in which the needs of hex and the laws of decoding cite them.
+use Prim.Native.Nat.{ℕ, zero, suc, _+_, _*_, _-_, _<_, _≤_}
 use native.Mathlib.Omega.{arith}
-use mathlib.Core.Path.{_≡_, refl, ap}
-use mathlib.Core.Bool.{Bool, true, false}
+use mathlib.Core.Path.{_≡_, refl, ap, _∙_}
+use mathlib.Core.Bool.{Bool, true, false, _&&_}
 use mathlib.Core.Option.{Option, none, some}
 use mathlib.Core.List.{List, [], _∷_}
-use lib.ListN.{length, drop, getD}
+use lib.Dec.{eqb}
+use lib.ListN.{length, getD}
 use mir.Val.{Fits}
-use mir.Syntax.{w8}
-use borrow.Author.Tests.{le-leb, lt-leb}
+use mir.Syntax.{w16}
+use borrow.Author.Tests.{le-leb, lt-leb, eqb-true}
+use Rattle.cofj.specs.Partial.{_>>=_}
 use Rattle.cofj.specs.Text.{within, digit}
 use Rattle.cofj.proofs.TextRound.{within-true}
-use Rattle.lineform.specs.declared.hex.Digit.{Digit}
-use Rattle.lineform.specs.declared.hex.Digit.the-variants.{Is, Not}
-use Rattle.lineform.specs.Answers.{digitOf, pairOf}
-use Rattle.lineform.proofs.Ends.{more, no-more}
+use Rattle.lineform.specs.Answers.{Values, valueOf, pairValue}
 
 pub below : (a b n : ℕ) → n < a → within a b n ≡ false
 below a b n h = rw (lt-leb a n h)
@@ -25,45 +24,37 @@ above a b n l h = rw (le-leb a n l, lt-leb n b h)
 pub inside : (a b n : ℕ) → a ≤ n → n ≤ b → within a b n ≡ true
 inside a b n l h = rw (le-leb a n l, le-leb n b h)
 
-module _ (c : ℕ) where
-  pub not-low : c < 48 → Not ≡ digitOf (digit c)
-  not-low h =
-      let e : digit c ≡ none = rw (below 48 57 c h, below 65 70 c (omega arith), digit) in
-      rw e
+-- ---- the table of values: a test of all its entries, the first being that of the character k
+abbrev pub allRight : ℕ → List ℕ → Bool
+allRight k [] = true
+allRight k (x ∷ xs) = eqb x (valueOf (digit k)) && allRight (suc k) xs
 
-  module _ (h : 48 ≤ c) where
-    pub is-low : c < 58 → Is (c - 48) ≡ digitOf (digit c)
-    is-low l =
-        let e : digit c ≡ some (c - 48) = rw (inside 48 57 c h (omega arith), digit) in
-        rw e
+both : (a b : Bool) → a && b ≡ true → (a ≡ true) × (b ≡ true)
+both true b e = (refl, e)
+both false b e = let z : _≡_ {A = ℕ} 0 1 = cc in absurd (omega arith)
 
-    module _ (h2 : 58 ≤ c) where
-      pub not-mid : c < 65 → Not ≡ digitOf (digit c)
-      not-mid l =
-          let e : digit c ≡ none = rw (above 48 57 c h (omega arith), below 65 70 c l, digit) in
-          rw e
+from : (xs : List ℕ) (i k : ℕ) → allRight i xs ≡ true → k < length xs → getD xs k 0 ≡ valueOf (digit (i + k))
+from [] i k e h = absurd (omega arith)
+from (x ∷ xs) i zero e h =
+    let b = both (eqb x (valueOf (digit i))) (allRight (suc i) xs) e in
+    let n : i ≡ i + 0 = omega arith in
+    rw (← n) (eqb-true x (valueOf (digit i)) (b .0))
+from (x ∷ xs) i (suc k) e h =
+    let b = both (eqb x (valueOf (digit i))) (allRight (suc i) xs) e in
+    let n : suc i + k ≡ i + suc k = omega arith in
+    rw (← n) (from xs (suc i) k (b .1) (omega arith))
 
-      module _ (h3 : 65 ≤ c) where
-        pub is-high : c < 71 → Is (c - 55) ≡ digitOf (digit c)
-        is-high l =
-            let e : digit c ≡ some (c - 55) = rw (above 48 57 c h (omega arith), inside 65 70 c h3 (omega arith), digit) in
-            rw e
+value-at : (xs : List ℕ) (c : ℕ) → allRight 0 xs ≡ true → c < length xs → getD xs c 0 ≡ valueOf (digit c)
+value-at xs c e h = from xs 0 c e h ∙ ap (λ (k : ℕ). valueOf (digit k)) (let n : 0 + c ≡ c = omega arith in n)
 
-        pub not-high : 71 ≤ c → Not ≡ digitOf (digit c)
-        not-high l =
-            let e : digit c ≡ none = rw (above 48 57 c h (omega arith), above 65 70 c h3 (omega arith), digit) in
-            rw e
+pub all-values : (xs : List ℕ) → allRight 0 xs ≡ true → length xs ≡ 256 → Values xs
+all-values xs e l = record { at = λ c h. value-at xs c e (omega arith) }
+
+pub value-is : (t : List ℕ) (c : ℕ) → Values t → c < 256 → getD t c 0 ≡ valueOf (digit c)
+value-is t c v h = v .at c h
 
 -- ---- two digits
-pub is-some : (p : Option ℕ) (x : Digit) (a : ℕ) → x ≡ digitOf p → x ≡ Is a → p ≡ some a
-is-some none x a e n = let z : _≡_ {A = ℕ} 0 1 = cc in absurd (omega arith)
-is-some (some d) x a e n = let w : d ≡ a = cc in ap {B = Option ℕ} some w
-
-pub is-none : (p : Option ℕ) (x : Digit) → x ≡ digitOf p → x ≡ Not → p ≡ none
-is-none none x e n = refl
-is-none (some d) x e n = let z : _≡_ {A = ℕ} 0 1 = cc in absurd (omega arith)
-
-small : (c d : ℕ) → digit c ≡ some d → d ≤ 15
+pub small : (c d : ℕ) → digit c ≡ some d → d ≤ 15
 small c d e = go (within 48 57 c) refl (within 65 70 c) refl e
   where
     go : (x : Bool) → within 48 57 c ≡ x → (y : Bool) → within 65 70 c ≡ y
@@ -78,33 +69,50 @@ small c d e = go (within 48 57 c) refl (within 65 70 c) refl e
         omega arith
     go false p false q z = let k : _≡_ {A = ℕ} 0 1 = cc in absurd (omega arith)
 
-first-none : (a : ℕ) (r : List ℕ) → digit a ≡ none → pairOf (a ∷ r) ≡ none
-first-none a [] e = refl
-first-none a (b ∷ r) e = rw e
+value-most : (c : ℕ) → valueOf (digit c) ≤ 256
+value-most c = go (digit c) (small c)
+  where
+    go : (p : Option ℕ) → ((d : ℕ) → p ≡ some d → d ≤ 15) → valueOf p ≤ 256
+    go none s = omega arith
+    go (some d) s = let k = s d refl in omega arith
 
-module _ (text : List ℕ) (i : ℕ) where
-  pub pair-end : length text ≤ i → Not ≡ digitOf (pairOf (drop i text))
-  pair-end h = rw (no-more text i h)
+pub first-fits : (c v : ℕ) → v ≡ valueOf (digit c) → Fits w16 (16 * v)
+first-fits c v e = let s = value-most c in omega arith
 
-  module _ (hi : i < length text) (x : Digit) (ex : x ≡ digitOf (digit (getD text i 0))) where
-    pub pair-first : x ≡ Not → Not ≡ digitOf (pairOf (drop i text))
-    pair-first n = rw (more text i hi, first-none (getD text i 0) (drop (i + 1) text) (is-none (digit (getD text i 0)) x ex n))
+pub both-fit : (a b v w : ℕ) → v ≡ valueOf (digit a) → w ≡ valueOf (digit b) → Fits w16 (16 * v + w)
+both-fit a b v w ev ew =
+    let s = value-most a in
+    let t = value-most b in
+    omega arith
 
-    pub pair-end2 : length text ≤ i + 1 → Not ≡ digitOf (pairOf (drop i text))
-    pair-end2 h = rw (more text i hi, no-more text (i + 1) h)
+-- the byte of the first two characters
+abbrev pub pairOf : List ℕ → Option ℕ
+pairOf [] = none
+pairOf (a ∷ []) = none
+pairOf (a ∷ (b ∷ r)) = digit a >>= λ h. digit b >>= λ d. some (16 * h + d)
 
-    module _ (a : ℕ) (xa : x ≡ Is a) (hj : i + 1 < length text) (y : Digit) (ey : y ≡ digitOf (digit (getD text (i + 1) 0))) where
-      pub pair-second : y ≡ Not → Not ≡ digitOf (pairOf (drop i text))
-      pair-second n = rw (more text i hi, more text (i + 1) hj, is-some (digit (getD text i 0)) x a ex xa, is-none (digit (getD text (i + 1) 0)) y ey n)
+pub pair-is : (a b : ℕ) (r : List ℕ) → pairValue a b < 256 → pairOf (a ∷ b ∷ r) ≡ some (pairValue a b)
+pair-is a b r = go (digit a) (digit b)
+  where
+    go : (p q : Option ℕ) → 16 * valueOf p + valueOf q < 256 → p >>= (λ h. q >>= λ d. some (16 * h + d)) ≡ some (16 * valueOf p + valueOf q)
+    go none q l = absurd (omega arith)
+    go (some h) none l = absurd (omega arith)
+    go (some h) (some d) l = refl
 
-      pub pair-is : (b : ℕ) → y ≡ Is b → Is (16 * a + b) ≡ digitOf (pairOf (drop i text))
-      pair-is b yb = rw (more text i hi, more text (i + 1) hj, is-some (digit (getD text i 0)) x a ex xa, is-some (digit (getD text (i + 1) 0)) y b ey yb)
+pub pair-none : (a b : ℕ) (r : List ℕ) → 256 ≤ pairValue a b → pairOf (a ∷ b ∷ r) ≡ none
+pair-none a b r = go (digit a) (digit b) (small a) (small b)
+  where
+    go : (p q : Option ℕ) → ((d : ℕ) → p ≡ some d → d ≤ 15) → ((d : ℕ) → q ≡ some d → d ≤ 15)
+        → 256 ≤ 16 * valueOf p + valueOf q → p >>= (λ h. q >>= λ d. some (16 * h + d)) ≡ none
+    go none q s t l = refl
+    go (some h) none s t l = refl
+    go (some h) (some d) s t l =
+        let m = s h refl in
+        let n = t d refl in
+        absurd (omega arith)
 
-pub first-fits : (c a : ℕ) (x : Digit) → x ≡ digitOf (digit c) → x ≡ Is a → Fits w8 (16 * a)
-first-fits c a x e n = let s = small c a (is-some _ x a e n) in omega arith
-
-pub both-fit : (c d a b : ℕ) (x y : Digit) → x ≡ digitOf (digit c) → x ≡ Is a → y ≡ digitOf (digit d) → y ≡ Is b → Fits w8 (16 * a + b)
-both-fit c d a b x y ex xa ey yb =
-    let s = small c a (is-some _ x a ex xa) in
-    let t = small d b (is-some _ y b ey yb) in
+-- a first digit is no line end
+pub pair-goes-on : (a b : ℕ) → pairValue a b < 256 → a ≡ 10 → ⊥
+pair-goes-on a b l e =
+    let p : pairValue a b ≡ 16 * 256 + valueOf (digit b) = ap (λ (x : ℕ). pairValue x b) e in
     omega arith

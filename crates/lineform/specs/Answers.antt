@@ -1,20 +1,20 @@
 -- What the functions answer, of what the language's definitions give. Not here: lines as bytes (Packed).
-use Prim.Native.Nat.{ℕ, _+_, _*_, _-_, _≤_}
+use Prim.Native.Nat.{ℕ, _+_, _*_, _-_, _<_, _≤_}
 use mathlib.Core.Path.{_≡_}
-use mathlib.Core.Bool.{Bool, true, false}
+use mathlib.Core.Bool.{Bool, true, false, _&&_}
 use mathlib.Core.List.{List, [], _∷_, _++_}
 use mathlib.Core.Option.{Option, none, some}
-use lib.ListN.{length, drop}
-use Rattle.cofj.specs.Limits.{textSize}
+use lib.Dec.{eqb, leb, ltb}
+use lib.ListN.{length, getD, drop}
+use Rattle.cofj.specs.Limits.{lineSize, textSize}
 use Rattle.cofj.specs.Partial.{_>>=_}
-use Rattle.cofj.specs.Text.{digit, lines}
-use Rattle.cofj.specs.Frames.{Got, TextFrame, classFrame, methodFrame, mainFrame}
+use Rattle.cofj.specs.Text.{within, digit, lines}
+use Rattle.cofj.specs.Frames.{Got, exprsBy, expr, TextFrame, classFrame, methodFrame, mainFrame}
 use Rattle.cofj.specs.Tables.{Raw, ordered, few}
 use Rattle.cofj.specs.Writing.{codeOf}
-use Rattle.lineform.specs.declared.hex.Digit.{Digit}
-use Rattle.lineform.specs.declared.hex.Digit.the-variants.{Is, Not}
 use Rattle.lineform.specs.declared.exprs.ReadExpr.{ReadExpr}
 use Rattle.lineform.specs.declared.exprs.ReadExpr.the-variants.{Next, Refused}
+use Rattle.lineform.specs.declared.exprs.Sign.{Sign}
 use Rattle.lineform.specs.declared.frames.Kind.{Kind}
 use Rattle.lineform.specs.declared.frames.Kind.the-variants.{Class, Method, Main}
 use Rattle.lineform.specs.declared.frames.Framed.{Framed}
@@ -25,20 +25,66 @@ use Rattle.lineform.specs.declared.lines.Ordered.{Ordered}
 use Rattle.lineform.specs.declared.lines.Ordered.the-variants.{Counts, Refused as NoOrder}
 use Rattle.lineform.specs.Packed.{packed}
 
-abbrev pub digitOf : Option ℕ → Digit
-digitOf none = Not
-digitOf (some d) = Is d
+-- a digit's value, and a number that is no digit's
+abbrev pub valueOf : Option ℕ → ℕ
+valueOf none = 256
+valueOf (some d) = d
 
--- the byte of two digits
-abbrev pub pairOf : List ℕ → Option ℕ
-pairOf [] = none
-pairOf (a ∷ []) = none
-pairOf (a ∷ (b ∷ r)) = digit a >>= λ h. digit b >>= λ d. some (16 * h + d)
+-- the values of all characters
+pub record Values (t : List ℕ) : Type 0 where
+  pub at : (c : ℕ) → c < 256 → getD t c 0 ≡ valueOf (digit c)
+
+-- the byte of two digits; 256 or more if one is none
+abbrev pub pairValue : ℕ → ℕ → ℕ
+pairValue a b = 16 * valueOf (digit a) + valueOf (digit b)
+
+-- the character c ends a line of n bytes
+abbrev pub endsLine : ℕ → ℕ → Bool
+endsLine c n = eqb c 10 && within 1 lineSize n
 
 -- the place in s after what was read from it
 abbrev pub endOf : {A : Type 0} → List ℕ → Option (Got A) → ReadExpr
 endOf s none = Refused
 endOf s (some g) = Next (length s - length (g .rest))
+
+-- the same as a number: one past the end of s where nothing was read
+abbrev pub endIn : {A : Type 0} → List ℕ → Option (Got A) → ℕ
+endIn s none = length s + 1
+endIn s (some g) = length s - length (g .rest)
+
+-- ---- the sign of the expression at a place
+abbrev pub pick : {A : Type 0} → Bool → A → A → A
+pick true a b = a
+pick false a b = b
+
+abbrev pub after : ℕ → ℕ → Sign
+after next parts = record { next = next; parts = parts }
+
+abbrev pub noSign : List ℕ → Sign
+noSign s = after (length s + 1) 0
+
+-- how many expressions a call or a new object with the sign b has; a call has its receiver besides
+abbrev pub partsAt : List ℕ → ℕ → ℕ → ℕ
+partsAt s at b = getD s (at + 1 + 1) 0 + (0x45 - b)
+
+unfoldable pub countedSign : List ℕ → ℕ → ℕ → Sign
+countedSign s at b =
+    pick (ltb 0x45 b) (noSign s) (pick (leb (length s) (at + 1 + 1)) (noSign s) (pick (ltb 4 (partsAt s at b)) (noSign s) (after (at + 1 + 1 + 1) (partsAt s at b))))
+
+unfoldable pub longSign : List ℕ → ℕ → ℕ → Sign
+unfolding countedSign
+longSign s at b =
+    pick (leb (length s) (at + 1)) (noSign s) (pick (eqb b 0x42) (after (at + 1 + 1) 0) (pick (eqb b 0x43) (after (at + 1 + 1) 1) (countedSign s at b)))
+
+unfoldable pub signAt : List ℕ → ℕ → Sign
+unfolding longSign
+signAt s at =
+    pick (leb (length s) at) (noSign s)
+    (pick (ltb (getD s at 0) 0x42) (pick (ltb (getD s at 0) 0x40) (noSign s) (after (at + 1) 0)) (longSign s at (getD s at 0)))
+
+-- where an expression ends whose sign tells these
+unfoldable pub endBy : List ℕ → ℕ → ℕ → ℕ → ℕ
+endBy s left next parts = pick (eqb parts 0) next (endIn s (exprsBy (expr (left - 1)) parts (drop next s)))
 
 -- a method's kind has the place of its right expression in the line
 abbrev pub kindOf : TextFrame → Kind

@@ -1,16 +1,18 @@
 // Types and expressions in a line's bytes, passed over: where each ends, or that it is none.
 // Not here: what they say, which the crates above read again from the same bytes.
 ghost use mathlib.Core.Path.{_≡_};
-ghost use Prim.Native.Nat.{_≤_};
+ghost use Prim.Native.Nat.{_≤_, _<_, _+_, _-_};
 ghost use lib.ListN.{length, drop};
-ghost use Rattle.cofj.specs.Limits.{fieldCount};
-ghost use Rattle.cofj.specs.Frames.{expr, exprsBy, fieldAfter, callAfter, newAfter, types};
-ghost use Rattle.lineform.specs.Answers.{endOf};
+ghost use Rattle.cofj.specs.Frames.{expr, exprsBy, types};
+ghost use Rattle.lineform.specs.Answers.{endOf, endIn, noSign, countedSign, signAt, endBy};
 
 // Document 01's figures (cofj's Limits).
 pub const FIELD_COUNT: u8 = 4;
 
 pub const PARAM_COUNT: u8 = 3;
+
+// The expressions in one: a new object's values, or a call's receiver and its arguments.
+const PART_COUNT: usize = 4;
 
 pub const NESTING_LIMIT: usize = 6;
 
@@ -28,106 +30,116 @@ pub fn wide(x: u8) -> usize
     x as usize
 }
 
-// The expression at `at`, nested at most `left` deep.
-pub fn read_expr(s: &[u8], at: usize, left: usize) -> ReadExpr
-    ensures { λ r. ⌜ r ≡ endOf (now (s .entry)) (expr left (drop at (now (s .entry)))) ⌝ }
+// An expression's sign and what belongs to it: the place after them, and how many expressions the expression has from there on.
+pub struct Sign {
+    pub next: usize,
+    pub parts: usize,
+}
+
+// No sign: the place is past the end, where the next one is none either.
+fn no_sign(s: &[u8]) -> Sign
+    ensures { λ r. ⌜ r ≡ noSign (now (s .entry)) ⌝ }
 {
-    if left == 0 {
-        return ReadExpr::Refused;
+    Sign {
+        next: s.len() + 1,
+        parts: 0,
     }
+}
+
+// The count that follows the sign of a call (44) or of a new object (45). A call has its receiver besides.
+fn counted(b: u8, n: u8) -> usize
+    requires { ⌜ b ≤ 0x45 ⌝ }
+    ensures { λ r. ⌜ r ≡ n + (0x45 - b) ⌝ }
+{
+    (n as usize) + ((0x45 - b) as usize)
+}
+
+// The sign of a call or of a new object at `at`, which is b.
+fn counted_sign(s: &[u8], at: usize, b: u8) -> Sign
+    requires { ⌜ at + 1 < length (now s) ⌝ }
+    ensures { λ r. ⌜ r ≡ countedSign (now (s .entry)) at b ⌝ }
+{
+    if 0x45 < b {
+        return no_sign(s);
+    }
+    let a2 = at + 1 + 1;
+    if s.len() <= a2 {
+        return no_sign(s);
+    }
+    let n = counted(b, s[a2]);
+    if PART_COUNT < n {
+        return no_sign(s);
+    }
+    Sign {
+        next: a2 + 1,
+        parts: n,
+    }
+}
+
+// The sign at `at`.
+pub fn sign_at(s: &[u8], at: usize) -> Sign
+    ensures { λ r. ⌜ r ≡ signAt (now (s .entry)) at ⌝ }
+{
     if s.len() <= at {
-        return ReadExpr::Refused;
+        return no_sign(s);
     }
     let b = s[at];
     let a1 = at + 1;
-    if b == 0x40 {
-        return ReadExpr::Next(a1);
+    if b < 0x42 {
+        if b < 0x40 {
+            return no_sign(s);
+        }
+        return Sign { next: a1, parts: 0 };
     }
-    if b == 0x41 {
-        return ReadExpr::Next(a1);
+    if s.len() <= a1 {
+        return no_sign(s);
     }
     if b == 0x42 {
-        if s.len() <= a1 {
-            return ReadExpr::Refused;
-        }
-        return ReadExpr::Next(a1 + 1);
+        return Sign {
+            next: a1 + 1,
+            parts: 0,
+        };
     }
     if b == 0x43 {
-        return read_field(s, a1, left - 1);
+        return Sign {
+            next: a1 + 1,
+            parts: 1,
+        };
     }
-    if b == 0x44 {
-        return read_call(s, a1, left - 1);
-    }
-    if b == 0x45 {
-        return read_new(s, a1, left - 1);
-    }
-    ReadExpr::Refused
+    counted_sign(s, at, b)
 }
 
-// The rest of a field's expression: its number and the receiver.
-pub fn read_field(s: &[u8], at: usize, left: usize) -> ReadExpr
-    ensures { λ r. ⌜ r ≡ endOf (now (s .entry)) (fieldAfter (expr left) (drop at (now (s .entry)))) ⌝ }
+// The place after the expression whose sign tells `next` and `parts`, nested at most `left` deep; one past the end of the line if there is none.
+pub fn read_expr(s: &[u8], next: usize, parts: usize, left: usize) -> usize
+    requires { ⌜ 1 ≤ left ⌝ }
+    ensures { λ r. ⌜ r ≡ endBy (now (s .entry)) left next parts ⌝ }
 {
-    if s.len() <= at {
-        return ReadExpr::Refused;
+    if parts == 0 {
+        return next;
     }
-    read_expr(s, at + 1, left)
+    read_list(s, next, parts, left - 1)
 }
 
-// The rest of a call: its name, the count of arguments, the receiver and the arguments.
-pub fn read_call(s: &[u8], at: usize, left: usize) -> ReadExpr
-    ensures { λ r. ⌜ r ≡ endOf (now (s .entry)) (callAfter (expr left) (drop at (now (s .entry)))) ⌝ }
+// The place after n expressions, one after the other. After a refusal the place is past the end, where the next one is refused too.
+pub fn read_list(s: &[u8], at: usize, n: usize, left: usize) -> usize
+    requires { ⌜ 1 ≤ n ⌝ }
+    ensures { λ r. ⌜ r ≡ endIn (now (s .entry)) (exprsBy (expr left) n (drop at (now (s .entry)))) ⌝ }
 {
-    if s.len() <= at {
-        return ReadExpr::Refused;
+    if left == 0 {
+        return s.len() + 1;
     }
-    let a1 = at + 1;
-    if s.len() <= a1 {
-        return ReadExpr::Refused;
+    let mut a: usize = at;
+    let mut k: usize = n;
+    while 0 < k {
+        k -= 1;
+        let g = sign_at(s, a);
+        if g.parts == 0 {
+            a = g.next;
+            continue;
+        }
+        a = read_expr(s, g.next, g.parts, left);
     }
-    let n = s[a1];
-    if PARAM_COUNT < n {
-        return ReadExpr::Refused;
-    }
-    let o = read_expr(s, a1 + 1, left);
-    let ReadExpr::Next(a2) = o else {
-        return o;
-    };
-    read_list(s, a2, wide(n), left)
-}
-
-// The rest of a new object: its class, the count of values and the values.
-pub fn read_new(s: &[u8], at: usize, left: usize) -> ReadExpr
-    ensures { λ r. ⌜ r ≡ endOf (now (s .entry)) (newAfter (expr left) (drop at (now (s .entry)))) ⌝ }
-{
-    if s.len() <= at {
-        return ReadExpr::Refused;
-    }
-    let a1 = at + 1;
-    if s.len() <= a1 {
-        return ReadExpr::Refused;
-    }
-    let n = s[a1];
-    if FIELD_COUNT < n {
-        return ReadExpr::Refused;
-    }
-    read_list(s, a1 + 1, wide(n), left)
-}
-
-// n expressions, one after the other.
-pub fn read_list(s: &[u8], at: usize, n: usize, left: usize) -> ReadExpr
-    requires { ⌜ n ≤ fieldCount ⌝ }
-    requires { ⌜ at ≤ length (now s) ⌝ }
-    ensures { λ r. ⌜ r ≡ endOf (now (s .entry)) (exprsBy (expr left) n (drop at (now (s .entry)))) ⌝ }
-{
-    if n == 0 {
-        return ReadExpr::Next(at);
-    }
-    let o = read_expr(s, at, left);
-    let ReadExpr::Next(a1) = o else {
-        return o;
-    };
-    read_list(s, a1, n - 1, left)
+    a
 }
 
 // n types, one after the other.

@@ -1,51 +1,28 @@
-// A digit's character, and two of them as a byte. Not here: lines (lines).
+// Two digits as a byte. Not here: lines (lines).
 ghost use mathlib.Core.Path.{_≡_};
-ghost use lib.ListN.{drop};
 ghost use Rattle.cofj.specs.Text.{digit};
-ghost use Rattle.lineform.specs.Answers.{digitOf, pairOf};
+ghost use Rattle.lineform.specs.Answers.{Values, valueOf, pairValue};
+use crate::digits::VALUES;
 
-pub enum Digit {
-    Is(u8),
-    Not,
+// The values of all characters. Made once for a text: taking an entry of the constant would make all of it anew.
+pub fn values() -> [u16; 256]
+    ensures { λ r. ⌜ Values r ⌝ }
+{
+    VALUES
 }
 
-// The value of a digit's character: 0 to 9, A to F.
-pub fn digit_of(c: u8) -> Digit
-    ensures { λ r. ⌜ r ≡ digitOf (digit c) ⌝ }
+// The value of a digit's character, or 256 of any other.
+fn value(t: &[u16; 256], c: u8) -> u16
+    requires { ⌜ Values (now t) ⌝ }
+    ensures { λ r. ⌜ r ≡ valueOf (digit c) ⌝ }
 {
-    if c < 48 {
-        return Digit::Not;
-    }
-    if c < 58 {
-        return Digit::Is(c - 48);
-    }
-    if c < 65 {
-        return Digit::Not;
-    }
-    if c < 71 {
-        return Digit::Is(c - 55);
-    }
-    Digit::Not
+    t[c as usize]
 }
 
-// The byte of the two digits at `i`.
-pub fn byte_at(text: &[u8], i: usize) -> Digit
-    ensures { λ r. ⌜ r ≡ digitOf (pairOf (drop i (now (text .entry)))) ⌝ }
+// The byte of two digits, or a number from 256 on.
+pub fn pair(t: &[u16; 256], a: u8, b: u8) -> u16
+    requires { ⌜ Values (now t) ⌝ }
+    ensures { λ r. ⌜ r ≡ pairValue a b ⌝ }
 {
-    if text.len() <= i {
-        return Digit::Not;
-    }
-    let h = digit_of(text[i]);
-    let Digit::Is(a) = h else {
-        return Digit::Not;
-    };
-    let i1 = i + 1;
-    if text.len() <= i1 {
-        return Digit::Not;
-    }
-    let l = digit_of(text[i1]);
-    let Digit::Is(b) = l else {
-        return Digit::Not;
-    };
-    Digit::Is(16 * a + b)
+    16 * value(t, a) + value(t, b)
 }

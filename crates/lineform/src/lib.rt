@@ -1,6 +1,7 @@
 // The line form: a text's characters, its lines as bytes, and their frames (refusals 1, 2 and 3); and a line written again.
 // Not here: the rules of a class table, which compare frames with each other (refusals 4 and 5).
-pub mod hex; // a digit, and a byte of two digits
+pub mod digits; // the value of each character as a digit
+pub mod hex; // a byte of two digits
 pub mod exprs; // types and expressions in a line, passed over
 pub mod reader; // a line with a place in it
 pub mod frames; // one line's frame

@@ -5,12 +5,12 @@ ghost use Prim.Native.Nat.{_≤_};
 ghost use lib.ListN.{length};
 ghost use Rattle.cofj.specs.Frames.{frames};
 ghost use Rattle.lineform.specs.Packed.{unpack, Packed, FramedLines};
-ghost use Rattle.lineform.specs.Answers.{Roomy, Decodable, Decodes, isSome, orderOf};
+ghost use Rattle.lineform.specs.Answers.{Values, Roomy, Decodable, Decodes, endsLine, isSome, orderOf};
 use crate::exprs::wide;
 use crate::frames::Framed;
 use crate::frames::frame_kind;
-use crate::hex::Digit;
-use crate::hex::byte_at;
+use crate::hex::pair;
+use crate::hex::values;
 
 // Document 01's figures (cofj's Limits).
 const TEXT_SIZE: usize = 49567;
@@ -44,43 +44,59 @@ pub fn decode(text: &[u8], out: &mut [u8]) -> Decoded
     if TEXT_SIZE < text.len() {
         return Decoded::Refused;
     }
-    decode_lines(text, out)
+    let t = values();
+    decode_lines(text, &t, out)
 }
 
-// The same of a text of a fit length. At `w` the line begins that has `b` bytes so far.
-fn decode_lines(text: &[u8], out: &mut [u8]) -> Decoded
-    requires { ⌜ Decodable (now text) (now out) ⌝ }
+// Whether the character c ends a line of n bytes.
+fn ends_line(c: u8, n: usize) -> bool
+    ensures { λ r. ⌜ r ≡ endsLine c n ⌝ }
+{
+    if c != LF {
+        return false;
+    }
+    if n == 0 {
+        return false;
+    }
+    n <= LINE_SIZE
+}
+
+// The same of a text of a fit length. At `w` the line begins whose next byte goes to `o`.
+fn decode_lines(text: &[u8], t: &[u16; 256], out: &mut [u8]) -> Decoded
+    requires { ⌜ Decodable (now text) (now out) × Values (now t) ⌝ }
     ensures { λ r. ⌜ Decodes (now (text .entry)) (now (out .entry)) (now (out .exit)) r ⌝ }
 {
+    let last = text.len() - 1;
     let mut i: usize = 0;
     let mut w: usize = 0;
-    let mut b: usize = 0;
-    while i < text.len() {
-        if text[i] == LF {
-            if b == 0 {
-                return Decoded::Refused;
-            }
-            if LINE_SIZE < b {
-                return Decoded::Refused;
-            }
-            out[w] = b as u8;
-            w = w + 1 + b;
-            b = 0;
-            i += 1;
+    let mut o: usize = 1;
+    while i < last {
+        let c = text[i];
+        let x = pair(t, c, text[i + 1]);
+        if x < 256 {
+            out[o] = x as u8;
+            o += 1;
+            i += 2;
             continue;
         }
-        let x = byte_at(text, i);
-        let Digit::Is(v) = x else {
+        let n = o - w - 1;
+        if !ends_line(c, n) {
             return Decoded::Refused;
-        };
-        out[w + 1 + b] = v;
-        b += 1;
-        i += 2;
+        }
+        out[w] = n as u8;
+        w = o;
+        o += 1;
+        i += 1;
     }
-    if 0 < b {
+    if last < i {
         return Decoded::Refused;
     }
-    Decoded::Packed(w)
+    let n = o - w - 1;
+    if !ends_line(text[i], n) {
+        return Decoded::Refused;
+    }
+    out[w] = n as u8;
+    Decoded::Packed(o)
 }
 
 // Whether every line has a frame.

@@ -9,6 +9,7 @@ ghost use Rattle.lineform.specs.Places.{byteOf, readerAt};
 use crate::exprs::NESTING_LIMIT;
 use crate::exprs::ReadExpr;
 use crate::exprs::read_expr;
+use crate::exprs::sign_at;
 
 pub struct LineReader<'a> {
     pub line: &'a [u8],
@@ -34,7 +35,12 @@ pub fn byte_of(s: &[u8], at: usize) -> AtPlace
 pub fn expr_end(s: &[u8], at: usize) -> ReadExpr
     ensures { λ r. ⌜ r ≡ endOf (now (s .entry)) (expr nestingLimit (drop at (now (s .entry)))) ⌝ }
 {
-    read_expr(s, at, NESTING_LIMIT)
+    let g = sign_at(s, at);
+    let a = read_expr(s, g.next, g.parts, NESTING_LIMIT);
+    if s.len() < a {
+        return ReadExpr::Refused;
+    }
+    ReadExpr::Next(a)
 }
 
 // ---- the reader

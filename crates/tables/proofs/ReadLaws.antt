@@ -212,5 +212,8 @@ module _ (S : List ℕ) (n m : ℕ) (c : Counted S n m) where
 pub short-room : (text room : List ℕ) → length text ≤ 1500 → length room ≡ 1024 → Roomy text room
 short-room text room h e = record { room = λ k. omega arith }
 
+pub usual-room : (text room : List ℕ) → length text ≤ 34015 → length room ≡ 22688 → Roomy text room
+usual-room text room h e = record { room = λ k. omega arith }
+
 pub long-room : (text room : List ℕ) → length room ≡ 33048 → Roomy text room
 long-room text room e = record { room = λ k. omega arith }

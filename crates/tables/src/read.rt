@@ -23,8 +23,10 @@ pub struct Reading {
     pub table: ClassTable,
 }
 
-// The longest text that the smaller room is enough for.
+// The longest texts that the smaller rooms are enough for. No text of a table is longer than the second.
 const SHORT: usize = 1500;
+
+const USUAL: usize = 34015;
 
 // A refusal.
 fn refused(k: u8) -> Reading
@@ -88,6 +90,10 @@ pub fn read_into(text: &[u8], bytes: &mut [u8; SIZE]) -> u8
 {
     if text.len() <= SHORT {
         let mut room = [0u8; 1024];
+        return text_into(text, &mut room, bytes);
+    }
+    if text.len() <= USUAL {
+        let mut room = [0u8; 22688];
         return text_into(text, &mut room, bytes);
     }
     let mut room = [0u8; 33048];

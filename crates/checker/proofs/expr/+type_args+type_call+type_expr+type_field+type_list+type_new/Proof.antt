@@ -1,5 +1,6 @@
--- The cycle of typing meets its contracts: a law of WalkLaws at each return. The nesting left falls, and within it the list.
-use Prim.Native.Nat.{ℕ, _<_, _+_, _*_}
+-- The cycle of typing meets its contracts: a law of WalkLaws at each return. The nesting left falls. The loop of `type_list` keeps what the
+-- items that are left give.
+use Prim.Native.Nat.{ℕ, _<_, _≤_, _+_, _-_, _*_}
 use borrow.Fn.Kinds.{In}
 use borrow.Fn.PlainCycle.{Measures, is, falls, and}
 use Rattle.checker.proofs.expr.type_args.Reads as type-args
@@ -20,7 +21,7 @@ use Rattle.checker.proofs.expr.+type_args+type_call+type_expr+type_fiel
 use Rattle.checker.proofs.expr.type_new.Reads as type-new
 use Rattle.checker.proofs.expr.type_new.Kinds as type-new-kinds
 use Rattle.checker.proofs.expr.+type_args+type_call+type_expr+type_field+type_list+type_new.Lts-type_new as type-new-lts
-use Rattle.checker.proofs.fits.closed_tag.Reads as closed-tag-reads
+use Rattle.checker.proofs.expr.stays_closed.Reads as stays-closed-reads
 use Rattle.checker.proofs.fits.item_fits.Reads as item-fits-reads
 use Rattle.checker.proofs.fits.receiver.Reads as receiver-reads
 use Rattle.checker.proofs.fits.result_type.Reads as result-type-reads
@@ -38,6 +39,9 @@ use Rattle.checker.proofs.expr.+type_args+type_call+type_expr+type_fiel
   close,
 }
 use borrow.Author.Needs.{needs}
+use mathlib.Core.Path.{_≡_}
+use mathlib.Core.Bool.{true}
+use Rattle.checker.specs.Machine.{listBy, typeIn}
 use Rattle.checker.proofs.WalkLaws as laws
 
 abbrev μ-type-args : Measures 1 type-args-kinds.ps ℕ
@@ -53,7 +57,7 @@ abbrev μ-type-field : Measures 1 type-field-kinds.ps ℕ
 μ-type-field κs a = (a .1 .1 .1 .1 .0) * 600 + 400
 
 abbrev μ-type-list : Measures 1 type-list-kinds.ps ℕ
-μ-type-list κs a = (a .1 .1 .1 .1 .1 .1 .1 .0) * 600 + 1 + (a .1 .1 .1 .1 .0)
+μ-type-list κs a = (a .1 .1 .1 .1 .1 .0) * 600 + 1
 
 abbrev μ-type-new : Measures 1 type-new-kinds.ps ℕ
 μ-type-new κs a = (a .1 .1 .1 .1 .1 .0) * 600 + 400
@@ -114,10 +118,16 @@ abbrev type-field-claims : ℕ → type-field-lts.Claims
 type-field-claims t = (type-expr-below t, type-expr.Post, field-type-reads.Asked, field-type-reads.Learnt, found-reads.Asked, found-reads.Learnt)
 
 abbrev type-list-claims : ℕ → type-list-lts.Claims
-type-list-claims t = (type-expr-below t, type-expr.Post, item-fits-reads.Asked, item-fits-reads.Learnt, closed-tag-reads.Asked, closed-tag-reads.Learnt, type-list-below t, type-list.Post)
+type-list-claims t = (type-expr-below t, type-expr.Post, item-fits-reads.Asked, item-fits-reads.Learnt, stays-closed-reads.Asked, stays-closed-reads.Learnt)
 
 abbrev type-new-claims : ℕ → type-new-lts.Claims
 type-new-claims t = (field-total-reads.Asked, field-total-reads.Learnt, type-list-below t, type-list.Post)
+
+abbrev Inv-loop : type-list-lts.InvT-loop
+Inv-loop t scope items n at left k₀ closed₀ a₀ k closed a = (k ≤ n) × (listBy t (typeIn t left scope) items k (n - k) closed a ≡ listBy t (typeIn t left scope) items 0 n true at)
+
+abbrev μ-loop : type-list-lts.MeasureT-loop
+μ-loop t scope items n at left k₀ closed₀ a₀ k closed a = n - k
 
 type-args-returns : (t : ℕ) → type-args-lts.Need-returns (type-args-claims t) (type-args-at t) type-args.Post
 type-args-returns t c = search laws.args-no
@@ -170,20 +180,20 @@ type-field-returns-2 t c = search laws.field-open
 type-field-returns-3 : (t : ℕ) → type-field-lts.Need-returns-3 (type-field-claims t) (type-field-at t) type-field.Post
 type-field-returns-3 t c = search laws.field-is
 
-type-list-returns : (t : ℕ) → type-list-lts.Need-returns (type-list-claims t) (type-list-at t) type-list.Post
-type-list-returns t c = search laws.list-zero
+type-list-loop-holds : (t : ℕ) → type-list-lts.Need-loop-holds (type-list-claims t) (type-list-at t) type-list.Post Inv-loop μ-loop
+type-list-loop-holds t c = (search needs, search laws.list-starts)
 
-type-list-returns-2 : (t : ℕ) → type-list-lts.Need-returns-2 (type-list-claims t) (type-list-at t) type-list.Post
-type-list-returns-2 t c = search laws.list-no
+type-list-returns : (t : ℕ) → type-list-lts.Need-returns (type-list-claims t) (type-list-at t) type-list.Post Inv-loop μ-loop
+type-list-returns t c = search laws.list-no
 
-type-list-returns-3 : (t : ℕ) → type-list-lts.Need-returns-3 (type-list-claims t) (type-list-at t) type-list.Post
-type-list-returns-3 t c = search laws.list-unfit
+type-list-returns-2 : (t : ℕ) → type-list-lts.Need-returns-2 (type-list-claims t) (type-list-at t) type-list.Post Inv-loop μ-loop
+type-list-returns-2 t c = search laws.list-unfit
 
-type-list-returns-4 : (t : ℕ) → type-list-lts.Need-returns-4 (type-list-claims t) (type-list-at t) type-list.Post
-type-list-returns-4 t c = search laws.list-open
+type-list-loop-again : (t : ℕ) → type-list-lts.Need-loop-again (type-list-claims t) (type-list-at t) type-list.Post Inv-loop μ-loop
+type-list-loop-again t c = (search needs, search laws.list-next)
 
-type-list-returns-5 : (t : ℕ) → type-list-lts.Need-returns-5 (type-list-claims t) (type-list-at t) type-list.Post
-type-list-returns-5 t c = search laws.list-closed
+type-list-returns-3 : (t : ℕ) → type-list-lts.Need-returns-3 (type-list-claims t) (type-list-at t) type-list.Post Inv-loop μ-loop
+type-list-returns-3 t c = search laws.list-ends
 
 type-new-returns : (t : ℕ) → type-new-lts.Need-returns (type-new-claims t) (type-new-at t) type-new.Post
 type-new-returns t c = search laws.new-other
@@ -254,23 +264,19 @@ pub +type-args+type-call+type-expr+type-field+type-list+type-new-spec : {M : Typ
     (λ c κs. search needs)
     (λ c κs. search needs)
     (type-field-returns-3 t))
-    (λ t. type-list-lts.spec (type-list-claims t) (type-list-at t) type-list.Post
+    (λ t. type-list-lts.spec (type-list-claims t) (type-list-at t) type-list.Post Inv-loop μ-loop
+    (type-list-loop-holds t)
+    (λ c κs. search needs)
+    (λ c. search needs)
+    (λ c. search needs)
     (type-list-returns t)
     (λ c κs. search needs)
-    (λ c. search needs)
-    (λ c. search needs)
     (type-list-returns-2 t)
     (λ c κs. search needs)
-    (type-list-returns-3 t)
-    (λ c κs. search needs)
     (λ c. search needs)
     (λ c. search needs)
-    (λ c κs. search needs)
-    (type-list-returns-4 t)
-    (λ c. search needs)
-    (λ c. search needs)
-    (λ c κs. search needs)
-    (type-list-returns-5 t))
+    (type-list-loop-again t)
+    (type-list-returns-3 t))
     (λ t. type-new-lts.spec (type-new-claims t) (type-new-at t) type-new.Post
     (λ c κs. search needs)
     (type-new-returns t)

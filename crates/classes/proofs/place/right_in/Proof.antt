@@ -1,20 +1,14 @@
+-- `place::right_in` meets its contract: what `read_expr` ensures, as a byte's place.
 use borrow.Author.Needs.{needs}
 use Rattle.classes.proofs.place.right_in.Statement.{statement}
 use Rattle.classes.proofs.place.right_in.Tie as tie
-use Rattle.classes.proofs.place.right_in.Reads as reads
-use Rattle.classes.proofs.place.right_in.Lts as lts
-use Rattle.classes.proofs.places.wide.Reads as wide-reads
-use Rattle.lineform.proofs.exprs.read_expr.Reads as read-expr-reads
 use Rattle.classes.proofs.PlaceLaws as laws
 
 returns : tie.Need-returns
-returns c = search laws.right-none
+returns c = search laws.right-far
 
 returns-2 : tie.Need-returns-2
-returns-2 c = search laws.right-far
-
-returns-3 : tie.Need-returns-3
-returns-3 c = search laws.right-at
+returns-2 c = search laws.right-at
 
 pub right-in-spec : {M : Type 1} → statement M
 right-in-spec =
@@ -25,9 +19,6 @@ right-in-spec =
     (λ c. search needs)
     (λ c. search needs)
     (λ c κs. search needs)
-    (λ c. search needs)
-    (λ c. search needs)
     returns
-    returns-2
     (λ c. search needs)
-    returns-3)
+    returns-2)

@@ -2,6 +2,10 @@
 use borrow.Author.Needs.{needs}
 use Rattle.lineform.proofs.lines.decode.Statement.{statement}
 use Rattle.lineform.proofs.lines.decode.Tie as tie
+use Rattle.lineform.proofs.lines.decode.Reads as reads
+use Rattle.lineform.proofs.lines.decode.Lts as lts
+use Rattle.lineform.proofs.hex.values.Reads as values-reads
+use Rattle.lineform.proofs.lines.decode_lines.Reads as decode-lines-reads
 use Rattle.lineform.proofs.DecodeLaws as laws
 
 returns : tie.Need-returns
@@ -11,7 +15,7 @@ returns-2 : tie.Need-returns-2
 returns-2 c = search laws.long-text
 
 decode-lines-requires : tie.Need-decode-lines-requires
-decode-lines-requires c κs = search laws.decodable
+decode-lines-requires c κs = (search laws.decodable, search needs)
 
 pub decode-spec : {M : Type 1} → statement M
 decode-spec =
@@ -19,6 +23,7 @@ decode-spec =
     (tie.spec
     returns
     returns-2
+    (λ c κs. search needs)
     decode-lines-requires
     (λ c. search needs)
     (λ c. search needs))

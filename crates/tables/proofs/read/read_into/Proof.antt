@@ -12,7 +12,10 @@ text-into-requires : tie.Need-text-into-requires
 text-into-requires c κs = (search laws.short-room, search needs)
 
 text-into-requires-2 : tie.Need-text-into-requires-2
-text-into-requires-2 c κs = (search laws.long-room, search needs)
+text-into-requires-2 c κs = (search laws.usual-room, search needs)
+
+text-into-requires-3 : tie.Need-text-into-requires-3
+text-into-requires-3 c κs = (search laws.long-room, search needs)
 
 pub read-into-spec : {M : Type 1} → statement M
 read-into-spec =
@@ -23,4 +26,7 @@ read-into-spec =
     (λ c. search needs)
     (λ c. search needs)
     text-into-requires-2
+    (λ c. search needs)
+    (λ c. search needs)
+    text-into-requires-3
     (λ c. search needs))
