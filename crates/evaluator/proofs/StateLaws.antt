@@ -85,19 +85,32 @@ module _ (W : List ℕ) (sp : ℕ) (f : Frame) (k : ℕ) (h : FrameHolds W sp f)
 pub part-held : (W : List ℕ) (ps : List Slot) (n i : ℕ) → PartsHeld W ps n → i < n → Holds W (slotAt ps i)
 part-held W ps n i h l = h .part i l
 
-module _ (W : List ℕ) (ps qs : List Slot) (i n : ℕ) where
-  pub args-end : n ≤ i → true ≡ eqGraphs (valuesFrom W ps i n) (valuesFrom W qs i n)
+-- the comparison has come to place i
+pub record Comparing (W : List ℕ) (ps qs : List Slot) (i n : ℕ) : Type 0 where
+  pub rest : eqGraphs (valuesFrom W ps i n) (valuesFrom W qs i n) ≡ eqGraphs (valuesFrom W ps 0 n) (valuesFrom W qs 0 n)
+
+pub args-start : (W : List ℕ) (ps qs : List Slot) (n : ℕ) → Comparing W ps qs 0 n
+args-start W ps qs n = record { rest = refl }
+
+module _ (W : List ℕ) (ps qs : List Slot) (i n : ℕ) (c : Comparing W ps qs i n) where
+  pub args-end : n ≤ i → true ≡ eqGraphs (valuesFrom W ps 0 n) (valuesFrom W qs 0 n)
   unfolding eqGraphs
-  args-end h = rw (values-end W ps i n h, values-end W qs i n h)
+  args-end h = rw (values-end W ps i n h, values-end W qs i n h) at (c .rest)
 
   module _ (a : PartsHeld W ps n) (b : PartsHeld W qs n) (h : i < n) (r : Bool) (e : r ≡ eqGraph (valueOf W (slotAt ps i)) (valueOf W (slotAt qs i))) where
-    pub args-differ : not r ≡ true → false ≡ eqGraphs (valuesFrom W ps i n) (valuesFrom W qs i n)
+    differ : not r ≡ true → false ≡ eqGraphs (valuesFrom W ps i n) (valuesFrom W qs i n)
     unfolding eqGraphs
-    args-differ z = rw (values-cons W ps i n (a .full) h, values-cons W qs i n (b .full) h, ← e, not-true r z, eqGraphs)
+    differ z = rw (values-cons W ps i n (a .full) h, values-cons W qs i n (b .full) h, ← e, not-true r z, eqGraphs)
 
-    pub args-more : (s : Bool) → not r ≡ false → s ≡ eqGraphs (valuesFrom W ps (i + 1) n) (valuesFrom W qs (i + 1) n) → s ≡ eqGraphs (valuesFrom W ps i n) (valuesFrom W qs i n)
+    more : not r ≡ false → eqGraphs (valuesFrom W ps (i + 1) n) (valuesFrom W qs (i + 1) n) ≡ eqGraphs (valuesFrom W ps i n) (valuesFrom W qs i n)
     unfolding eqGraphs
-    args-more s z q = rw (values-cons W ps i n (a .full) h, values-cons W qs i n (b .full) h, ← e, not-false r z, eqGraphs, q)
+    more z = rw (values-cons W ps i n (a .full) h, values-cons W qs i n (b .full) h, ← e, not-false r z, eqGraphs)
+
+    pub args-differ : not r ≡ true → false ≡ eqGraphs (valuesFrom W ps 0 n) (valuesFrom W qs 0 n)
+    args-differ z = differ z ∙ c .rest
+
+    pub args-more : not r ≡ false → Comparing W ps qs (i + 1) n
+    args-more z = record { rest = more z ∙ c .rest }
 
 lengths-differ : (vs ws : List Graph) → (length vs ≡ length ws → ⊥) → eqGraphs vs ws ≡ false
 unfolding eqGraphs

@@ -21,22 +21,23 @@ pub enum Met {
     No,
 }
 
-// Whether the values from i on are the same, of n.
-pub fn same_args(work: &[u8], a: [Slot; 4], b: [Slot; 4], i: u8, n: u8) -> bool
+// Whether the first n values are the same.
+pub fn same_args(work: &[u8], a: [Slot; 4], b: [Slot; 4], n: u8) -> bool
     requires { ⌜ PartsHeld (now work) a n × PartsHeld (now work) b n × (n ≤ 4) ⌝ }
-    ensures { λ r. ⌜ r ≡ eqGraphs (valuesFrom (now (work .entry)) a i n) (valuesFrom (now (work .entry)) b i n) ⌝ }
+    ensures { λ r. ⌜ r ≡ eqGraphs (valuesFrom (now (work .entry)) a 0 n) (valuesFrom (now (work .entry)) b 0 n) ⌝ }
 {
-    if n <= i {
-        return true;
+    let mut i: u8 = 0;
+    while i < n {
+        let x = a[i as usize];
+        let y = b[i as usize];
+        let p = x.r;
+        let q = y.r;
+        if !equal(work, p, q) {
+            return false;
+        }
+        i += 1;
     }
-    let x = a[i as usize];
-    let y = b[i as usize];
-    let p = x.r;
-    let q = y.r;
-    if !equal(work, p, q) {
-        return false;
-    }
-    same_args(work, a, b, i + 1, n)
+    true
 }
 
 // Whether call i has this receiver, name and arguments. Most calls have another name or receiver: these are looked at before the call is read.
@@ -64,7 +65,7 @@ pub fn same_call(
         return false;
     }
     let ps = c.args;
-    same_args(work, ps, args, 0, n)
+    same_args(work, ps, args, n)
 }
 
 // The mark of the newest of the first k open calls with this receiver, name and arguments.
