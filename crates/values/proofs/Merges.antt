@@ -244,14 +244,33 @@ module _ (host : ℕ) (W W′ : List ℕ) (g : Grown host W W′) (src : ℕ) (a
 
 -- ---- the codes imported
 module _ (W : List ℕ) (src i host : ℕ) (M T : List ℕ) (k : ℕ) (tg : Turning W src i host M T k) where
-  pub codes-end : 4 ≤ k → TurnedAll W src i host W M T true
+  packed : Packed W (240 * src + 6 * i)
+  packed = tg .inside .block .packed i (tg .inside .low)
+
+  -- the codes after the last field are undetermined on both sides
+  pub codes-end : getD T 1 0 ≤ k → TurnedAll W src i host W M T true
   codes-end h = record {
     grown = grown-none host W (tg .target);
     mapped = tg .mapped;
-    turned = λ _. record { long = tg .turned .long; cls = tg .turned .cls; count = tg .turned .count; done = λ j l m. tg .turned .done j (omega arith) m; left = λ j l m. absurd (omega arith) };
+    turned = λ _. record { long = tg .turned .long; cls = tg .turned .cls; count = tg .turned .count; done = λ j l m. go j m (decLt j k); left = λ j l m. absurd (omega arith) };
   }
+    where
+      spare : CodeAs W src 192 host 192
+      spare = record { low = rw ref-undet tt; leaf = λ _. refl; same = rw ref-undet (undet-same (objectsIn W src) (objectsIn W host)) }
 
-  module _ (h : k < 4) where
+      go : (j : ℕ) → j < 4 → Dec (j < k) → CodeAs W src (getD W (240 * src + 6 * i + (2 + j)) 0) host (getD T (2 + j) 0)
+      go j m (yes l) = tg .turned .done j l m
+      go j m (no l) =
+          let e : getD W (240 * src + 6 * i + (2 + j)) 0 ≡ 192 = packed .spare (2 + j) (omega (arith, l, tg .turned .count)) (omega arith) in
+          rw (tg .turned .left j (omega (arith, l)) m, e) spare
+
+  module _ (g : k < getD T 1 0) where
+    pub codes-low : k < 4
+    codes-low = omega (arith, tg .turned .count, packed .count)
+
+    h : k < 4
+    h = codes-low
+
     pub codes-import : (c : ℕ) → c ≡ getD T (2 + k) 0 → Importing W src c host M
     codes-import c e =
         let z : c ≡ getD W (240 * src + 6 * i + (2 + k)) 0 = e ∙ tg .turned .left k (omega arith) h in

@@ -91,7 +91,7 @@ pub fn import_codes(
     requires { ⌜ Turning (now work) src i host (now memo) (now top) k ⌝ }
     ensures { λ r. ⌜ TurnedAll (now (work .entry)) src i host (now (work .exit)) (now (memo .exit)) (now (top .exit)) r ⌝ }
 {
-    if 4 <= k {
+    if top[1] <= k {
         return true;
     }
     let c = top[2 + k as usize];

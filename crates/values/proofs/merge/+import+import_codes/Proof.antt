@@ -83,6 +83,12 @@ import-returns-5 t c = search laws.import-full
 import-returns-6 : (t : ℕ) → import-lts.Need-returns-6 (import-claims t) (import-at t) import.Post
 import-returns-6 t c = search laws.import-done
 
+import-codes-slice-read-if1 : (t : ℕ) → import-codes-lts.Need-slice-read-if1 (import-codes-claims t) (import-codes-at t) import-codes.Post
+import-codes-slice-read-if1 t c = omega (arith, c .before .before .before .before .pre .1 .turned .long)
+
+import-codes-slice-read-c : (t : ℕ) → import-codes-lts.Need-slice-read-c (import-codes-claims t) (import-codes-at t) import-codes.Post
+import-codes-slice-read-c t c = let st = c .before .before .before .before .before .before in omega (arith, st .pre .1 .turned .long, laws.codes-low _ _ _ _ _ _ _ (st .pre .1) (c .before .if1 .left))
+
 import-codes-returns : (t : ℕ) → import-codes-lts.Need-returns (import-codes-claims t) (import-codes-at t) import-codes.Post
 import-codes-returns t c = search laws.codes-end
 
@@ -93,16 +99,22 @@ import-codes-returns-2 : (t : ℕ) → import-codes-lts.Need-returns-2 (import-c
 import-codes-returns-2 t c =
     let im = c .before .before .before .before .before in
     let e1 = im .before .before .before .before in
-    let st = e1 .before .before .before .before in
+    let st = e1 .before .before .before .before .before in
     laws.codes-fail _ _ _ _ _ _ _ (st .pre .1) (e1 .if1 .left) _ refl _ _ _ (im .import .ensures)
+
+import-codes-slice-write-top : (t : ℕ) → import-codes-lts.Need-slice-write-top (import-codes-claims t) (import-codes-at t) import-codes.Post
+import-codes-slice-write-top t c = let st = c .before .before .before .before .before .before .before .before .before .before .before .before .before .before in omega (arith, st .pre .1 .turned .long, laws.codes-low _ _ _ _ _ _ _ (st .pre .1) (c .before .before .before .before .before .before .before .before .before .if1 .left))
+
+import-codes-add-import-codes : (t : ℕ) → import-codes-lts.Need-add-import-codes (import-codes-claims t) (import-codes-at t) import-codes.Post
+import-codes-add-import-codes t c = let st = c .before .before .before .before .before .before .before .before .before .before .before .before .before .before .before .before .before in omega (arith, laws.codes-low _ _ _ _ _ _ _ (st .pre .1) (c .before .before .before .before .before .before .before .before .before .before .before .before .if1 .left))
 
 import-codes-import-codes-requires : (t : ℕ) → import-codes-lts.Need-import-codes-requires (import-codes-claims t) (import-codes-at t) import-codes.Post
 import-codes-import-codes-requires t c κs =
     let e2 = c .before .before .before in
     let im = e2 .before .before .before .before .before in
     let e1 = im .before .before .before .before in
-    let st = e1 .before .before .before .before in
-    (search needs, laws.codes-next _ _ _ _ _ _ _ (st .pre .1) (e1 .if1 .left) _ refl _ _ _ (im .import .ensures) (e2 .if2 .left))
+    let st = e1 .before .before .before .before .before in
+    (omega (arith, st .pre .0, laws.codes-low _ _ _ _ _ _ _ (st .pre .1) (e1 .if1 .left)), laws.codes-next _ _ _ _ _ _ _ (st .pre .1) (e1 .if1 .left) _ refl _ _ _ (im .import .ensures) (e2 .if2 .left))
 
 import-codes-returns-3 : (t : ℕ) → import-codes-lts.Need-returns-3 (import-codes-claims t) (import-codes-at t) import-codes.Post
 import-codes-returns-3 t c = search laws.codes-more
@@ -146,16 +158,17 @@ pub +import+import-codes-spec : {M : Type 1} → statement M
     (λ c. search needs)
     (import-returns-6 t))
     (λ t. import-codes-lts.spec (import-codes-claims t) (import-codes-at t) import-codes.Post
+    (import-codes-slice-read-if1 t)
     (import-codes-returns t)
     (λ c. search needs)
-    (λ c. search needs)
+    (import-codes-slice-read-c t)
     (import-codes-import-requires t)
     (λ c. search needs)
     (λ c. search needs)
     (import-codes-returns-2 t)
     (λ c. search needs)
-    (λ c. search needs)
-    (λ c. search needs)
+    (import-codes-slice-write-top t)
+    (import-codes-add-import-codes t)
     (import-codes-import-codes-requires t)
     (λ c. search needs)
     (λ c. search needs)
