@@ -24,10 +24,10 @@ use Rattle.values.proofs.Turned.{turnRef, changed, lifted-nodes, lifted
 use Rattle.values.proofs.Rounds.{front-is}
 
 -- ---- taken up
-pub taken : (W : List ℕ) (b hot : ℕ) (I R₀ R : List ℕ) → Filled (λ i. 0 + i) (getD W (240 * b + 192) 0) I → Lifted W (240 * b) (6 * getD W (240 * b + 192) 0) I hot R₀ 0 R
-    → Taken W b hot I R₀ R (getD W (240 * b + 192) 0)
+pub taken : (W : List ℕ) (b : ℕ) (I R₀ R : List ℕ) → Filled (λ i. 0 + i) (getD W (240 * b + 192) 0) I → Lifted W (240 * b) (6 * getD W (240 * b + 192) 0) I 0 R₀ 0 R
+    → Taken W b I R₀ R (getD W (240 * b + 192) 0)
 unfolding countIn
-taken W b hot I R₀ R f l = record { count = refl; ids = f; copy = l }
+taken W b I R₀ R f l = record { count = refl; ids = f; copy = l }
 
 pub nodes-id : (ns : List Node) → map (renameNode (λ i. i)) ns ≡ ns
 nodes-id [] = refl
@@ -53,26 +53,13 @@ module _ (W : List ℕ) (b : ℕ) (bk : Block W b) where
       ∙ sym (distinct-colours (graph undet (objectsIn W b)) (bk .whole) (bk .distinct))
       ∙ ap colours (sym en)
 
-  module _ (hot : ℕ) (I R₀ R : List ℕ) (n : ℕ) (tk : Taken W b hot I R₀ R n) where
-    pub taken-nodes : nodesIn R 0 n ≡ map (changed (turnRef I hot)) (objectsIn W b)
-    unfolding objectsIn
-    taken-nodes = lifted-nodes W (240 * b) I hot R₀ 0 R n (tk .copy) ∙ ap (λ (k : ℕ). map (changed (turnRef I hot)) (nodesIn W (240 * b) k)) (tk .count)
-
-    pub taken-raw : ((hot ≡ 192) → ⊥) → 1536 ≤ length R₀ → Whole (graph undet (nodesIn R 0 n)) → Raw R n
-    taken-raw nh room w = record {
-      few = omega (arith, tk .count, bk .small);
-      room = omega (arith, tk .copy .same);
-      packed = λ i h.
-          let z : 0 + 6 * i ≡ 6 * i = omega arith in
-          rw z at (lifted-packed W (240 * b) I hot R₀ 0 R n (tk .copy) nh (λ j l. bk .packed j (omega (arith, tk .count))) i h);
-      whole = w;
-    }
-
   -- copied as they are
-  module _ (I R₀ R : List ℕ) (n : ℕ) (tk : Taken W b 0 I R₀ R n) where
+  module _ (I R₀ R : List ℕ) (n : ℕ) (tk : Taken W b I R₀ R n) where
     copied-nodes : nodesIn R 0 n ≡ objectsIn W b
+    unfolding objectsIn
     copied-nodes =
-        taken-nodes 0 I R₀ R n tk
+        lifted-nodes W (240 * b) I 0 R₀ 0 R n (tk .copy)
+        ∙ ap (λ (k : ℕ). map (changed (turnRef I 0)) (nodesIn W (240 * b) k)) (tk .count)
         ∙ nodes-agree (turnRef I 0) (rename (λ i. i)) (InRange (countIn W b))
         (turn-rename I (countIn W b) (λ i. i) (omega (arith, bk .small)) (λ i h. tk .ids .at i (omega (arith, tk .count)) ∙ omega arith) (λ i h. omega (arith, bk .small)))
         (objectsIn W b) inner-in
@@ -81,9 +68,19 @@ module _ (W : List ℕ) (b : ℕ) (bk : Block W b) where
     whole-copied : Whole (graph undet (nodesIn R 0 n))
     whole-copied = record { top = tt; inner = λ i k r e. subst (λ (ns : List Node). InRange (length ns) r) (sym copied-nodes) (bk .whole .inner i k r (subst (λ (ns : List Node). getElem? (refsAt ns i) k ≡ some r) copied-nodes e)) }
 
+    raw-copied : 1536 ≤ length R₀ → Raw R n
+    raw-copied room = record {
+      few = omega (arith, tk .count, bk .small);
+      room = omega (arith, tk .copy .same);
+      packed = λ i h.
+          let z : 0 + 6 * i ≡ 6 * i = omega arith in
+          rw z at (lifted-packed W (240 * b) I 0 R₀ 0 R n (tk .copy) (λ q. omega arith) (λ j l. bk .packed j (omega (arith, tk .count))) i h);
+      whole = whole-copied;
+    }
+
     pub move-ready : (c dst : ℕ) → 1536 ≤ length R₀ → 256 ≤ length I → c < countIn W b → 240 * dst + 240 ≤ length W → Ready R n I c W dst
     move-ready c dst lr li hc room = record {
-      raw = taken-raw 0 I R₀ R n tk (λ z. omega arith) lr whole-copied;
+      raw = raw-copied lr;
       long = li;
       coloured = own-colours (nodesIn R 0 n) n I copied-nodes (tk .count) (tk .ids) li;
       inside = omega (arith, tk .count);
@@ -100,5 +97,5 @@ module _ (W : List ℕ) (b : ℕ) (bk : Block W b) where
         let h : Has W′ dst (canon (graphIn R n c)) = p .has few in
         record { has = record { inside = h .inside; is = h .is ∙ e }; outside = p .outside }
 
-pub moved-out : (W : List ℕ) (b i : ℕ) (I R₀ R : List ℕ) (n dst m : ℕ) (W′ : List ℕ) → Inside W b i → Taken W b 0 I R₀ R n → Placed R n i W dst W′ m → Moved W (graphAt W b i) dst W′
+pub moved-out : (W : List ℕ) (b i : ℕ) (I R₀ R : List ℕ) (n dst m : ℕ) (W′ : List ℕ) → Inside W b i → Taken W b I R₀ R n → Placed R n i W dst W′ m → Moved W (graphAt W b i) dst W′
 moved-out W b i I R₀ R n dst m W′ ob tk p = moved W b (ob .block) I R₀ R n tk i dst m W′ (ob .low) p

@@ -14,6 +14,7 @@ pub mod Pairings
 pub mod Adding
 pub mod Selecting
 pub mod Copies
+pub mod Bindings
 pub mod Closing
 pub mod Lays
 pub mod Beside

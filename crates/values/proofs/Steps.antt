@@ -144,7 +144,7 @@ module _ (n m : ℕ) (T Q : List ℕ) (t a b : ℕ) (pd : Paired n m T Q t) (few
       go (no z) = getD-set-other T a x (b + 1) 0 z ∙ w
 
 -- ---- an object of a block, by its bytes
-some-at : (rs : List Ref) (f : ℕ) → f < length rs → getElem? rs f ≡ some (getD rs f undet)
+pub some-at : (rs : List Ref) (f : ℕ) → f < length rs → getElem? rs f ≡ some (getD rs f undet)
 some-at [] f h = absurd (omega arith)
 some-at (r ∷ rs) zero h = refl
 some-at (r ∷ rs) (suc f) h = some-at rs f (omega arith)
@@ -237,7 +237,7 @@ leaf-follow ns ms (mark i) h k (f ∷ p) = refl
 leaf-follow ns ms undet h k [] = refl
 leaf-follow ns ms undet h k (f ∷ p) = refl
 
-is-object : (r : Ref) → codeOf r < 192 → r ≡ obj (codeOf r)
+pub is-object : (r : Ref) → codeOf r < 192 → r ≡ obj (codeOf r)
 is-object (obj i) h = refl
 is-object (mark k) h = absurd (omega arith)
 is-object undet h = absurd (omega arith)
@@ -247,7 +247,7 @@ range-up n (obj i) h l = omega arith
 range-up n (mark k) h l = tt
 range-up n undet h l = tt
 
-object-low : (n : ℕ) (r : Ref) → InRange n r → codeOf r < 192 → codeOf r < n
+pub object-low : (n : ℕ) (r : Ref) → InRange n r → codeOf r < 192 → codeOf r < n
 object-low n (obj i) l h = l
 object-low n (mark k) l h = absurd (omega arith)
 object-low n undet l h = absurd (omega arith)

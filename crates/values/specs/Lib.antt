@@ -5,6 +5,7 @@ pub mod Pairing
 pub mod Walking
 pub mod Numbers
 pub mod Operations
+pub mod Binding
 pub mod Stepping
 pub mod Laying
 pub mod Adding

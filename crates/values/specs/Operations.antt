@@ -2,24 +2,24 @@
 use Prim.Native.Nat.{ℕ, _+_, _-_, _*_, _≤_, _<_}
 use mathlib.Core.Bool.{cond}
 use mathlib.Core.Path.{_≡_}
-use mathlib.Core.List.{List, map}
+use mathlib.Core.List.{List}
 use mathlib.Core.Option.{Option, none, some}
 use lib.Dec.{eqb}
 use lib.ListN.{length, getD}
-use Rattle.cofj.specs.Values.{Graph, graph, obj, node, bind, canon, select, close}
+use Rattle.cofj.specs.Values.{Graph, canon, select, close}
 use Rattle.values.specs.declared.ValueRef.{ValueRef}
 use Rattle.values.specs.declared.ValueRef.the-variants.{Mark, Undetermined}
 use Rattle.values.specs.declared.Selected.{Selected}
 use Rattle.values.specs.declared.Selected.the-variants.{Value, Stuck}
-use Rattle.values.specs.Layout.{countIn, levelIn, objectsIn, valueOf, Holds, Low, Outside}
+use Rattle.values.specs.Layout.{countIn, levelIn, valueOf, Holds, Low, Outside}
 use Rattle.values.specs.Tables.{Filled, Lifted}
 use Rattle.values.specs.Numbers.{Has}
 
--- the objects of block b, copied with one code turned
-pub record Taken (W : List ℕ) (b hot : ℕ) (I R₀ R : List ℕ) (n : ℕ) : Type 0 where
+-- the objects of block b, copied
+pub record Taken (W : List ℕ) (b : ℕ) (I R₀ R : List ℕ) (n : ℕ) : Type 0 where
   pub count : n ≡ countIn W b
   pub ids : Filled (λ i. 0 + i) n I
-  pub copy : Lifted W (240 * b) (6 * n) I hot R₀ 0 R
+  pub copy : Lifted W (240 * b) (6 * n) I 0 R₀ 0 R
 
 -- a reference stands for the value v in the bytes after, in block dst or below, and only block dst has changed
 pub record Gives (W : List ℕ) (dst : ℕ) (W′ : List ℕ) (r : ValueRef) (v : Graph) : Type 0 where
@@ -73,10 +73,6 @@ pub record Chosen (W : List ℕ) (r : ValueRef) (f : ℕ) (o : Selected) : Type 
   pub held : AnswerHeld W o
   pub is : answerIn W o ≡ select f (valueOf W r)
   pub place : (sp : ℕ) → Low sp r → AnswerLow sp o
-
--- the objects of block b with mark x bound to the first
-unfoldable pub boundIn : List ℕ → ℕ → ℕ → Graph
-boundIn W b x = graph (obj 0) (map (λ n. node (n .cls) (map (bind x (obj 0)) (n .refs))) (objectsIn W b))
 
 abbrev pub closeOf : ℕ → Graph → Graph
 closeOf x v = close x v

@@ -7,6 +7,7 @@ pub mod colours; // the objects' colours, by rounds where there are many
 pub mod walk; // the order in which they are met
 pub mod number; // the objects, numbered in that order, in a block
 pub mod lockstep; // values compared
+pub mod bind; // a mark bound to an object
 pub mod value; // values selected from, closed, moved
 pub mod lay; // values laid side by side below a new object
 pub mod over; // a new object beside the objects of one block

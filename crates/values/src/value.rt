@@ -1,8 +1,8 @@
-// Values selected from, closed, moved. Not here: values compared (lockstep), a new object (make).
+// Values selected from, closed, moved. Not here: values compared (lockstep), a new object (make), how a mark is bound (bind).
 use crate::Selected;
 use crate::ValueRef;
+use crate::bind::close_bound;
 use crate::bytes::count_up;
-use crate::colours::colour;
 use crate::lift::lift;
 use crate::number::put;
 ghost use mathlib.Core.Path.{_≡_};
@@ -10,20 +10,20 @@ ghost use Prim.Native.Nat.{ℕ, _+_, _*_, _<_, _≤_};
 ghost use lib.ListN.{length};
 ghost use Rattle.cofj.specs.Values.{canon};
 ghost use Rattle.values.specs.Layout.{Block, Inside, graphAt, countIn, Holds, valueOf};
-ghost use Rattle.values.specs.Operations.{Taken, Moved, Copied, Gives, Chosen, Leaf, boundIn, closeOf};
+ghost use Rattle.values.specs.Operations.{Taken, Moved, Copied, Gives, Chosen, Leaf, closeOf};
 ghost use Rattle.values.specs.declared.ValueRef.the-variants.{Object};
 
-// Copies the objects of block b to the front of `raw`, with the code `hot` turned to object 0, and answers how many they are.
+// Copies the objects of block b to the front of `raw`, and answers how many they are.
 // `ids` becomes 0, 1, .. for each of them.
-pub fn take_up(work: &[u8], b: u16, hot: u8, ids: &mut [u8], raw: &mut [u8]) -> u8
+pub fn take_up(work: &[u8], b: u16, ids: &mut [u8], raw: &mut [u8]) -> u8
     requires { ⌜ Block (now work) b × (256 ≤ length (now ids)) × (1536 ≤ length (now raw)) ⌝ }
-    ensures { λ n. ⌜ Taken (now (work .entry)) b hot (now (ids .exit)) (now (raw .entry)) (now (raw .exit)) n ⌝ }
+    ensures { λ n. ⌜ Taken (now (work .entry)) b (now (ids .exit)) (now (raw .entry)) (now (raw .exit)) n ⌝ }
 {
     let at = 240 * (b as usize);
     let n = work[at + 192];
     let p = 6 * (n as usize);
     count_up(0, n, ids);
-    lift(work, at, p, ids, hot, raw, 0);
+    lift(work, at, p, ids, 0, raw, 0);
     n
 }
 
@@ -34,7 +34,7 @@ pub fn move_out(work: &mut [u8], b: u16, i: u8, dst: u16)
 {
     let mut ids = [0u8; 256];
     let mut raw = [0u8; 1536];
-    let n = take_up(work, b, 0, &mut ids, &mut raw);
+    let n = take_up(work, b, &mut ids, &mut raw);
     put(&raw, n, &ids, i, work, dst);
 }
 
@@ -108,18 +108,6 @@ pub fn bring(work: &mut [u8], r: ValueRef, dst: u16) -> ValueRef
     ValueRef::Object(dst, i)
 }
 
-// X = u for the value in block b, which is alone there and numbered from its root; to the same block.
-pub fn close_alone(work: &mut [u8], x: u8, b: u16)
-    requires { ⌜ Inside (now work) b 0 × (x < 63) ⌝ }
-    ensures { λ _. ⌜ Moved (now (work .entry)) (boundIn (now (work .entry)) b x) b (now (work .exit)) ⌝ }
-{
-    let mut ids = [0u8; 256];
-    let mut raw = [0u8; 1536];
-    let n = take_up(work, b, 193 + x, &mut ids, &mut raw);
-    colour(&raw, n, &mut ids);
-    put(&raw, n, &ids, 0, work, b);
-}
-
 // X = u for object i of block b, to block `dst`, or where it lies if the mark is not in it.
 pub fn close_object(work: &mut [u8], x: u8, b: u16, i: u8, dst: u16) -> ValueRef
     requires { ⌜ Inside (now work) b i × (x < 63) × (240 * dst + 240 ≤ length (now work)) ⌝ }
@@ -128,9 +116,7 @@ pub fn close_object(work: &mut [u8], x: u8, b: u16, i: u8, dst: u16) -> ValueRef
     if work[240 * (b as usize) + 193] <= x {
         return bring(work, ValueRef::Object(b, i), dst);
     }
-    move_out(work, b, i, dst);
-    close_alone(work, x, dst);
-    ValueRef::Object(dst, 0)
+    close_bound(work, x, b, i, dst)
 }
 
 // X = u, in block `dst` or below if it is an object.

@@ -3,9 +3,8 @@ use Rattle.values.proofs.value.close_object.Statement.{statement}
 use Rattle.values.proofs.value.close_object.Tie as tie
 use Rattle.values.proofs.value.close_object.Reads as reads
 use Rattle.values.proofs.value.close_object.Lts as lts
+use Rattle.values.proofs.bind.close_bound.Reads as close-bound-reads
 use Rattle.values.proofs.value.bring.Reads as bring-reads
-use Rattle.values.proofs.value.close_alone.Reads as close-alone-reads
-use Rattle.values.proofs.value.move_out.Reads as move-out-reads
 use Rattle.values.proofs.Copies as copies
 use Rattle.values.proofs.Closing as laws
 
@@ -14,12 +13,6 @@ bring-requires c κs = (search copies.inside-held, search needs)
 
 returns : tie.Need-returns
 returns c = search laws.close-free
-
-close-alone-requires : tie.Need-close-alone-requires
-close-alone-requires c κs = (search laws.moved-room, search needs)
-
-returns-2 : tie.Need-returns-2
-returns-2 c = search laws.close-bound
 
 pub close-object-spec : {M : Type 1} → statement M
 close-object-spec =
@@ -32,6 +25,5 @@ close-object-spec =
     (λ c. search needs)
     returns
     (λ c κs. search needs)
-    close-alone-requires
     (λ c. search needs)
-    returns-2)
+    (λ c. search needs))

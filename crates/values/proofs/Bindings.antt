@@ -1,0 +1,649 @@
+-- Laws of a mark bound where the objects lie: the objects bound, when no two of them are equal, and what they stand for then.
+-- Not here: values in which the mark does not occur (Closing, Copies).
+use Prim.Native.Nat.{ℕ, zero, suc, _+_, _-_, _*_, _<_, _≤_}
+use native.Mathlib.Omega.{arith}
+use native.Mathlib.Decide.{decLt, ℕ-discrete}
+use mathlib.Core.Path.{_≡_, refl, sym, ap, ap₂, _∙_, subst}
+use mathlib.Core.Bool.{Bool, true, false, not, false≢true, true≢false}
+use mathlib.Core.List.{List, [], _∷_, map}
+use mathlib.Core.Option.{Option, none, some, Option·none-ne-some}
+use lib.Dec.{eqb}
+use lib.ListN.{length, getD, set, take, getElem?, length-map, length-set, List·getD-eq-default}
+use lib.Seq.{getD-set-same, getD-set-other}
+use borrow.Author.Tests.{le-ltb, eq-eqb, ne-eqb, eqb-true, eqb-false}
+use Rattle.cofj.specs.Partial.{_>>=_}
+use Rattle.cofj.specs.Values.{Ref, obj, mark, undet, Node, node, graph, nodeAt, refsAt, colours, canon, bind, close}
+use Rattle.cofj.specs.Unfolding.{object, opened, unknown, labelAt, child, follow, Same, InRange, Whole}
+use Rattle.cofj.proofs.Trees.{same-child, same-cls, same-count}
+use Rattle.cofj.proofs.Canon.{canon-length}
+use Rattle.cofj.proofs.Unique.{canon-canon}
+use Rattle.cofj.proofs.Operations.{boundNode, boundNodes, followBound, bound-follow, bound-whole}
+use Rattle.values.specs.declared.ValueRef.{ValueRef}
+use Rattle.values.specs.declared.ValueRef.the-variants.{Object}
+use Rattle.values.specs.Layout.{refOf, codeOf, nodeIn, nodesIn, Packed, Distinct, Block, Inside, objectsIn, graphAt, countIn, levelIn}
+use Rattle.values.specs.Rounds.{Raw}
+use Rattle.values.specs.Numbers.{Levels, Ready, Placed, Has, graphIn}
+use Rattle.values.specs.Operations.{Gives}
+use Rattle.values.specs.Binding.{boundCode, boundByte, ObjectBound, ObjectsBound, Bound, FreeOf, ReferTest, Unreferred, UnreferredTest, LikeTest, OtherField, Leads, DifferTest, OtherTest, OnlyOne, OnlyTest, DistinctTest, Rooted, Written}
+use Rattle.values.proofs.Nodes.{byteOf, packed-byte, packed-same, nodes-same, length-nodes, at-nodes, AllPacked, ref-object, ref-undet, ref-mark}
+use Rattle.values.proofs.Steps.{some-at, is-object, object-low}
+use Rattle.values.proofs.Blocks.{size-in, whole-at}
+use Rattle.values.proofs.Trees.{close-canon}
+
+-- ---- a test turned round
+not-true : (r : Bool) → not r ≡ true → r ≡ false
+not-true true e = absurd (false≢true e)
+not-true false e = refl
+
+not-false : (r : Bool) → not r ≡ false → r ≡ true
+not-false true e = refl
+not-false false e = absurd (true≢false e)
+
+-- ---- a mark bound
+module _ (x i k : ℕ) where
+  bind-this : eqb k x ≡ true → bind x (obj i) (mark k) ≡ obj i
+  bind-this q = ap (λ (t : Bool). elim t as (λ _. Ref) [ true ↦ obj i | false ↦ mark k ]) q
+
+  bind-other : eqb k x ≡ false → bind x (obj i) (mark k) ≡ mark k
+  bind-other q = ap (λ (t : Bool). elim t as (λ _. Ref) [ true ↦ obj i | false ↦ mark k ]) q
+
+-- ---- objects that are distinct stay so if nobody refers to the one that the mark is bound to, and no other becomes equal to it
+module _ (ns : List Node) (x i : ℕ)
+    (inner : (j f : ℕ) (r : Ref) → getElem? (refsAt ns j) f ≡ some r → InRange (length ns) r)
+    (free : (j f : ℕ) (r : Ref) → getElem? (refsAt ns j) f ≡ some r → r ≡ obj i → ⊥)
+    (only : (k : ℕ) → k < length ns → Same (boundNodes x i ns) (obj i) (boundNodes x i ns) (obj k) → k ≡ i) where
+  -- a reference that a field may have
+  record Field (r : Ref) : Type 0 where
+    low : InRange (length ns) r
+    other : r ≡ obj i → ⊥
+
+  -- they unfold to the same tree once bound
+  record Alike (r s : Ref) : Type 0 where
+    tree : (p : List ℕ) → followBound x (obj i) ns r p ≡ followBound x (obj i) ns s p
+
+  turn : (r s : Ref) → Alike r s → Alike s r
+  turn r s e = record { tree = λ p. sym (e .tree p) }
+
+  same-bound : (r s : Ref) → bind x (obj i) r ≡ bind x (obj i) s → (p : List ℕ) → followBound x (obj i) ns r p ≡ followBound x (obj i) ns s p
+  same-bound r s z [] = ap (λ (y : Ref). some (labelAt ns y)) z
+  same-bound r s z (f ∷ p) = ap (λ (y : Ref). child ns y f >>= (λ a. followBound x (obj i) ns a p)) z
+
+  label-this : (k : ℕ) → eqb k x ≡ true → some (labelAt ns (bind x (obj i) (mark k))) ≡ some (labelAt ns (obj i))
+  label-this k q = ap (λ (y : Ref). some (labelAt ns y)) (bind-this x i k q)
+
+  label-other : (k : ℕ) → eqb k x ≡ false → some (labelAt ns (bind x (obj i) (mark k))) ≡ some (opened k)
+  label-other k q = ap (λ (y : Ref). some (labelAt ns y)) (bind-other x i k q)
+
+  mark-object : (k a : ℕ) → Field (obj a) → Alike (mark k) (obj a) → ⊥
+  mark-object k a h e = go (eqb k x) refl
+    where
+      go : (t : Bool) → eqb k x ≡ t → ⊥
+      go true q =
+          h .other (ap obj (only a (h .low)
+          (λ p. bound-follow x i ns p (obj i) ∙ sym (same-bound (mark k) (obj i) (bind-this x i k q) p) ∙ e .tree p ∙ sym (bound-follow x i ns p (obj a)))))
+      go false q = let z : some (opened k) ≡ some (object _ _) = sym (label-other k q) ∙ e .tree [] in let y : _≡_ {A = ℕ} 0 1 = cc in omega arith
+
+  mark-mark : (k l : ℕ) → Alike (mark k) (mark l) → mark k ≡ mark l
+  mark-mark k l e = go (eqb k x) (eqb l x) refl refl
+    where
+      go : (t u : Bool) → eqb k x ≡ t → eqb l x ≡ u → mark k ≡ mark l
+      go true true q w = ap mark (eqb-true k x q ∙ sym (eqb-true l x w))
+      go true false q w = let z : some (object _ _) ≡ some (opened l) = sym (label-this k q) ∙ e .tree [] ∙ label-other l w in cc
+      go false true q w = let z : some (opened k) ≡ some (object _ _) = sym (label-other k q) ∙ e .tree [] ∙ label-this l w in cc
+      go false false q w = let z : some (opened k) ≡ some (opened l) = sym (label-other k q) ∙ e .tree [] ∙ label-other l w in cc
+
+  mark-undet : (k : ℕ) → Alike (mark k) undet → ⊥
+  mark-undet k e = go (eqb k x) refl
+    where
+      go : (t : Bool) → eqb k x ≡ t → ⊥
+      go true q = let z : some (object _ _) ≡ some unknown = sym (label-this k q) ∙ e .tree [] in let y : _≡_ {A = ℕ} 0 1 = cc in omega arith
+      go false q = let z : some (opened k) ≡ some unknown = sym (label-other k q) ∙ e .tree [] in let y : _≡_ {A = ℕ} 0 1 = cc in omega arith
+
+  undet-object : (a : ℕ) → Alike undet (obj a) → ⊥
+  undet-object a e = let z : some unknown ≡ some (object _ _) = e .tree [] in let y : _≡_ {A = ℕ} 0 1 = cc in omega arith
+
+  -- two objects, and a field of each
+  below : (a b : ℕ) → Alike (obj a) (obj b) → (f : ℕ) (p : List ℕ) → ((r s : Ref) → Field r → Field s → Alike r s → follow ns r p ≡ follow ns s p)
+      → follow ns (obj a) (f ∷ p) ≡ follow ns (obj b) (f ∷ p)
+  below a b e f p ih = go (child ns (obj a) f) refl (child ns (obj b) f) refl
+    where
+      ends : (o o′ : Option Ref) → child ns (obj a) f ≡ o → child ns (obj b) f ≡ o′ → (q : List ℕ)
+          → o >>= (λ r. followBound x (obj i) ns r q) ≡ o′ >>= (λ r. followBound x (obj i) ns r q)
+      ends o o′ z z′ q = sym (ap (λ (y : Option Ref). y >>= (λ r. followBound x (obj i) ns r q)) z) ∙ e .tree (f ∷ q) ∙ ap (λ (y : Option Ref). y >>= (λ r. followBound x (obj i) ns r q)) z′
+
+      go : (o : Option Ref) → child ns (obj a) f ≡ o → (o′ : Option Ref) → child ns (obj b) f ≡ o′ → o >>= (λ r. follow ns r p) ≡ o′ >>= (λ r. follow ns r p)
+      go none z none z′ = refl
+      go none z (some s) z′ = absurd (Option·none-ne-some _ (ends none (some s) z z′ []))
+      go (some r) z none z′ = absurd (Option·none-ne-some _ (sym (ends (some r) none z z′ [])))
+      go (some r) z (some s) z′ =
+          ih r s (record { low = inner a f r z; other = free a f r z }) (record { low = inner b f s z′; other = free b f s z′ }) (record { tree = ends (some r) (some s) z z′ })
+
+  fields-by : (p : List ℕ) → ((a b : ℕ) → Alike (obj a) (obj b) → follow ns (obj a) p ≡ follow ns (obj b) p) → (r s : Ref) → Field r → Field s → Alike r s → follow ns r p ≡ follow ns s p
+  fields-by p both (obj a) (obj b) hr hs e = both a b e
+  fields-by p both (obj a) (mark k) hr hs e = absurd (mark-object k a hr (turn (obj a) (mark k) e))
+  fields-by p both (obj a) undet hr hs e = absurd (undet-object a (turn (obj a) undet e))
+  fields-by p both (mark k) (obj b) hr hs e = absurd (mark-object k b hs e)
+  fields-by p both (mark k) (mark l) hr hs e = ap (λ (y : Ref). follow ns y p) (mark-mark k l e)
+  fields-by p both (mark k) undet hr hs e = absurd (mark-undet k e)
+  fields-by p both undet (obj b) hr hs e = absurd (undet-object b e)
+  fields-by p both undet (mark l) hr hs e = absurd (mark-undet l (turn undet (mark l) e))
+  fields-by p both undet undet hr hs e = refl
+
+  fields : (p : List ℕ) (r s : Ref) → Field r → Field s → Alike r s → follow ns r p ≡ follow ns s p
+  fields [] r s hr hs e = fields-by [] (λ a b q. q .tree []) r s hr hs e
+  fields (f ∷ p) r s hr hs e = fields-by (f ∷ p) (λ a b q. below a b q f p (λ r′ s′ h h′ q′. fields p r′ s′ h h′ q′)) r s hr hs e
+
+  objects : (a b : ℕ) → Alike (obj a) (obj b) → (p : List ℕ) → follow ns (obj a) p ≡ follow ns (obj b) p
+  objects a b e [] = e .tree []
+  objects a b e (f ∷ p) = below a b e f p (λ r s h h′ q. fields p r s h h′ q)
+
+  distinct-bound : Distinct ns → Distinct (boundNodes x i ns)
+  distinct-bound d = record {
+    apart = λ a b ha hb e.
+        let n : length (boundNodes x i ns) ≡ length ns = length-map ns (boundNode x i) in
+        d .apart a b (omega arith) (omega arith) (objects a b (record { tree = λ p. sym (bound-follow x i ns p (obj a)) ∙ e p ∙ bound-follow x i ns p (obj b) }));
+  }
+
+-- ---- codes and objects bound
+module _ (hot i c : ℕ) where
+  pub code-bound : c ≡ hot → i ≡ boundCode hot i c
+  unfolding boundCode
+  code-bound e = rw (eq-eqb c hot e)
+
+  pub code-kept : ((c ≡ hot) → ⊥) → c ≡ boundCode hot i c
+  unfolding boundCode
+  code-kept h = rw (ne-eqb c hot h)
+
+bound-ref : (x i c : ℕ) → i < 192 → refOf (boundCode (193 + x) i c) ≡ bind x (obj i) (refOf c)
+bound-ref x i c small = go (decLt c 192) (ℕ-discrete c 192) (ℕ-discrete c (193 + x))
+  where
+    kept : (r : Ref) → refOf c ≡ r → ((c ≡ 193 + x) → ⊥) → bind x (obj i) r ≡ r → refOf (boundCode (193 + x) i c) ≡ bind x (obj i) (refOf c)
+    kept r e h b = ap refOf (sym (code-kept (193 + x) i c h)) ∙ e ∙ sym b ∙ ap (bind x (obj i)) (sym e)
+
+    go : Dec (c < 192) → Dec (c ≡ 192) → Dec (c ≡ 193 + x) → refOf (boundCode (193 + x) i c) ≡ bind x (obj i) (refOf c)
+    go (yes h) d e = kept (obj c) (ref-object c h) (λ z. omega arith) refl
+    go (no h) (yes d) e = kept undet (ap refOf d ∙ ref-undet) (λ z. omega arith) refl
+    go (no h) (no d) (yes e) =
+        ap refOf (sym (code-bound (193 + x) i c e)) ∙ ref-object i small ∙ sym (bind-this x i x (eq-eqb x x refl)) ∙ ap (bind x (obj i)) (sym (ap refOf e ∙ ref-mark x))
+    go (no h) (no d) (no e) =
+        let z : c ≡ 193 + (c - 193) = omega (arith, h, d) in
+        kept (mark (c - 193)) (ap refOf z ∙ ref-mark (c - 193)) e (bind-other x i (c - 193) (ne-eqb (c - 193) x (λ y. e (omega (arith, h, d)))))
+
+map-take : (f : Ref → Ref) (n : ℕ) (l : List Ref) → map f (take n l) ≡ take n (map f l)
+map-take f zero l = refl
+map-take f (suc n) [] = refl
+map-take f (suc n) (y ∷ l) = ap (λ (t : List Ref). f y ∷ t) (map-take f n l)
+
+module _ (S R : List ℕ) (x i : ℕ) (small : i < 192) where
+  abbrev Here : ℕ → ℕ → Type 0
+  Here from to = (f : ℕ) → f < 6 → getD R (to + f) 0 ≡ boundByte (193 + x) i f (getD S (from + f) 0)
+
+  node-bound : (from to : ℕ) → Here from to → nodeIn R to ≡ boundNode x i (nodeIn S from)
+  unfolding nodeIn boundByte
+  node-bound from to h =
+      let za : to + 0 ≡ to = omega arith in
+      let zb : from + 0 ≡ from = omega arith in
+      let e0 : getD R to 0 ≡ getD S from 0 = rw (za, zb) at (h 0 (omega arith)) in
+      rw (
+        e0,
+        h 1 (omega arith),
+        h 2 (omega arith),
+        h 3 (omega arith),
+        h 4 (omega arith),
+        h 5 (omega arith),
+        map-take,
+        bound-ref x i (getD S (from + 2) 0) small,
+        bound-ref x i (getD S (from + 3) 0) small,
+        bound-ref x i (getD S (from + 4) 0) small,
+        bound-ref x i (getD S (from + 5) 0) small,
+      )
+
+  packed-bound : (from to : ℕ) → Here from to → Packed S from → Packed R to
+  unfolding boundByte
+  packed-bound from to h pk = record { count = rw (h 1 (omega arith)) (pk .count); spare = λ k a l. spare k a l }
+    where
+      spare : (k : ℕ) → 2 + getD R (to + 1) 0 ≤ k → k < 6 → getD R (to + k) 0 ≡ 192
+      spare k a l =
+          let e1 : getD R (to + 1) 0 ≡ getD S (from + 1) 0 = h 1 (omega arith) in
+          let es : getD S (from + k) 0 ≡ 192 = pk .spare k (omega arith) l in
+          h k l ∙ rw (le-ltb k 2 (omega arith)) (sym (code-kept (193 + x) i (getD S (from + k) 0) (λ z. omega arith)) ∙ es)
+
+  nodes-bound : (n from to : ℕ) → ((j : ℕ) → j < n → Here (from + 6 * j) (to + 6 * j)) → nodesIn R to n ≡ boundNodes x i (nodesIn S from n)
+  unfolding nodesIn
+  nodes-bound zero from to h = refl
+  nodes-bound (suc n) from to h =
+      let za : to + 6 * 0 ≡ to = omega arith in
+      let zb : from + 6 * 0 ≡ from = omega arith in
+      ap₂ {C = List Node} _∷_ (node-bound from to (rw (za, zb) at (h 0 (omega arith))))
+      (nodes-bound n (from + 6) (to + 6) (λ j l.
+      let ea : to + 6 + 6 * j ≡ to + 6 * suc j = omega arith in
+      let eb : from + 6 + 6 * j ≡ from + 6 * suc j = omega arith in
+      rw (ea, eb) (h (suc j) (omega arith))))
+
+-- ---- an object written byte by byte
+module _ (W : List ℕ) (p hot i : ℕ) (R₀ : List ℕ) (q : ℕ) where
+  byte-next : (k v : ℕ) (R : List ℕ) → ObjectBound W p hot i R₀ q k R → q + k < length R₀ → v ≡ boundByte hot i k (getD W (p + k) 0) → ObjectBound W p hot i R₀ q (k + 1) (set R (q + k) v)
+  byte-next k v R o room e = record {
+    same = length-set R (q + k) v ∙ o .same;
+    here = λ f h. go f h (ℕ-discrete f k);
+    below = λ y h. getD-set-other R (q + k) y v 0 (λ z. omega arith) ∙ o .below y h;
+  }
+    where
+      go : (f : ℕ) → f < k + 1 → Dec (f ≡ k) → getD (set R (q + k) v) (q + f) 0 ≡ boundByte hot i f (getD W (p + f) 0)
+      go f h (yes z) = rw z (getD-set-same R (q + k) v 0 (omega (arith, o .same)) ∙ e)
+      go f h (no z) = getD-set-other R (q + k) (q + f) v 0 (λ y. z (omega arith)) ∙ o .here f (omega (arith, z))
+
+  pub object-bound : q + 6 ≤ length R₀ → (v2 v3 v4 v5 : ℕ) → v2 ≡ boundCode hot i (getD W (p + 2) 0) → v3 ≡ boundCode hot i (getD W (p + 3) 0)
+      → v4 ≡ boundCode hot i (getD W (p + 4) 0) → v5 ≡ boundCode hot i (getD W (p + 5) 0)
+      → ObjectBound W p hot i R₀ q 6 (set (set (set (set (set (set R₀ q (getD W p 0)) (q + 1) (getD W (p + 1) 0)) (q + 2) v2) (q + 3) v3) (q + 4) v4) (q + 5) v5)
+  unfolding boundByte
+  object-bound room v2 v3 v4 v5 e2 e3 e4 e5 =
+      let o0 : ObjectBound W p hot i R₀ q 0 R₀ = record { same = refl; here = λ f h. absurd (omega arith); below = λ y h. refl } in
+      let zq : q + 0 ≡ q = omega arith in
+      let zp : p + 0 ≡ p = omega arith in
+      let o1 : ObjectBound W p hot i R₀ q 1 (set R₀ q (getD W p 0)) = rw zq at (byte-next 0 (getD W p 0) R₀ o0 (omega arith) (rw zp)) in
+      let o2 = byte-next 1 (getD W (p + 1) 0) _ o1 (omega arith) refl in
+      let o3 = byte-next 2 v2 _ o2 (omega arith) e2 in
+      let o4 = byte-next 3 v3 _ o3 (omega arith) e3 in
+      let o5 = byte-next 4 v4 _ o4 (omega arith) e4 in
+      byte-next 5 v5 _ o5 (omega arith) e5
+
+-- ---- the objects of a block
+pub bound-none : (W : List ℕ) (b hot i : ℕ) (R : List ℕ) → ObjectsBound W b hot i 0 R
+bound-none W b hot i R = record { here = λ j f h. absurd (omega arith) }
+
+pub bound-more : (W : List ℕ) (b hot i j : ℕ) (R R2 : List ℕ) → ObjectsBound W b hot i j R → ObjectBound W (240 * b + 6 * j) hot i R (6 * j) 6 R2 → ObjectsBound W b hot i (j + 1) R2
+bound-more W b hot i j R R2 o n = record { here = λ k f h l. go k f h l (ℕ-discrete k j) }
+  where
+    go : (k f : ℕ) → k < j + 1 → f < 6 → Dec (k ≡ j) → getD R2 (6 * k + f) 0 ≡ boundByte hot i f (getD W (240 * b + 6 * k + f) 0)
+    go k f h l (yes z) = rw z (n .here f l)
+    go k f h l (no z) = n .below (6 * k + f) (omega (arith, z)) ∙ o .here k f (omega (arith, z)) l
+
+pub bound-all : (W : List ℕ) (b x i n j : ℕ) (R : List ℕ) → n ≡ getD W (240 * b + 192) 0 → ObjectsBound W b (193 + x) i j R → j ≤ n → n ≤ j → 1536 ≤ length R → Bound W b x i R n
+unfolding countIn
+bound-all W b x i n j R e o h k l = let z : j ≡ n = omega arith in record { count = e; objects = rw z at o; room = l }
+
+module _ (W : List ℕ) (b i : ℕ) (ob : Inside W b i) where
+  bk : Block W b
+  bk = ob .block
+
+  pub block-room : 240 * b + 240 ≤ length W
+  block-room = bk .room
+
+  pub few-objects : getD W (240 * b + 192) 0 ≤ 32
+  unfolding countIn
+  few-objects = bk .small
+
+  size : length (objectsIn W b) ≡ countIn W b
+  size = size-in W b bk
+
+  module _ (x : ℕ) (R : List ℕ) (n : ℕ) (bd : Bound W b x i R n) where
+    here-at : (j : ℕ) → j < n → (f : ℕ) → f < 6 → getD R (6 * j + f) 0 ≡ boundByte (193 + x) i f (getD W (240 * b + 6 * j + f) 0)
+    here-at j h f l = bd .objects .here j f h l
+
+    objects-are : nodesIn R 0 n ≡ boundNodes x i (objectsIn W b)
+    unfolding objectsIn
+    objects-are =
+        nodes-bound W R x i (omega (arith, ob .low, bk .small)) n (240 * b) 0 (λ j h f l. let z : 0 + 6 * j ≡ 6 * j = omega arith in rw z (here-at j h f l))
+        ∙ ap (λ (k : ℕ). boundNodes x i (nodesIn W (240 * b) k)) (bd .count)
+
+    whole-bound : Whole (graph (obj i) (boundNodes x i (objectsIn W b)))
+    whole-bound = bound-whole (graphAt W b i) (whole-at W b bk i (ob .low)) x i (omega (arith, size, ob .low))
+
+    pub bound-raw : Raw R n
+    bound-raw = record {
+      few = omega (arith, bd .count, bk .small);
+      room = bd .room;
+      packed = λ j h. packed-bound W R x i (omega (arith, ob .low, bk .small)) (240 * b + 6 * j) (6 * j) (here-at j h) (bk .packed j (omega (arith, bd .count)));
+      whole = record { top = tt; inner = λ j k r e. subst (λ (ns : List Node). InRange (length ns) r) (sym objects-are) (whole-bound .inner j k r (subst (λ (ns : List Node). getElem? (refsAt ns j) k ≡ some r) objects-are e)) };
+    }
+
+    pub root-low : i < n
+    root-low = omega (arith, bd .count, ob .low)
+
+    pub bound-few : n ≤ 32
+    bound-few = omega (arith, bd .count, bk .small)
+
+    pub bound-rooted : (dst : ℕ) → 240 * dst + 240 ≤ length W → Rooted R n i W dst
+    bound-rooted dst room = record { raw = bound-raw; small = bound-few; inside = root-low; room = room }
+
+    -- what the objects bound stand for
+    pub closed : (dst : ℕ) (W′ : List ℕ) (o : ValueRef) → Gives W dst W′ o (canon (graphIn R n i)) → Gives W dst W′ o (close x (canon (graphAt W b i)))
+    unfolding close
+    closed dst W′ o g = record {
+      held = g .held;
+      is = g .is ∙ ap (λ (ns : List Node). canon (graph (obj i) ns)) objects-are ∙ sym (close-canon i (objectsIn W b) (whole-at W b bk i (ob .low)) x);
+      place = g .place;
+      outside = g .outside;
+    }
+
+-- ---- objects by their bytes
+module _ (S : List ℕ) (base n : ℕ) (pk : AllPacked S base n) (x : ℕ) (hx : x < n) where
+  byte : (k : ℕ) → k < 6 → getD S (base + 6 * x + k) 0 ≡ byteOf (nodeAt (nodesIn S base n) x) k
+  byte k h = packed-byte S (base + 6 * x) (pk x hx) k h ∙ ap (λ (o : Node). byteOf o k) (sym (at-nodes S base n x hx))
+
+  class-is : getD S (base + 6 * x) 0 ≡ nodeAt (nodesIn S base n) x .cls
+  unfolding byteOf
+  class-is = let z : base + 6 * x + 0 ≡ base + 6 * x = omega arith in rw z at (byte 0 (omega arith))
+
+  count-is : getD S (base + 6 * x + 1) 0 ≡ length (refsAt (nodesIn S base n) x)
+  unfolding byteOf
+  count-is = byte 1 (omega arith)
+
+  code-is : (f : ℕ) → f < 4 → getD S (base + 6 * x + 2 + f) 0 ≡ codeOf (getD (refsAt (nodesIn S base n) x) f undet)
+  unfolding byteOf
+  code-is f h = let z : base + 6 * x + 2 + f ≡ base + 6 * x + (suc (suc f)) = omega arith in rw z (byte (suc (suc f)) (omega arith))
+
+  four-fields : length (refsAt (nodesIn S base n) x) ≤ 4
+  four-fields = omega (arith, count-is, pk x hx .count)
+
+-- ---- whether an object refers to another
+module _ (W : List ℕ) (p i : ℕ) where
+  pub refer-yes : ReferTest W p i true
+  refer-yes = record { no = λ z. absurd (true≢false z) }
+
+  pub refer-last : ((getD W (p + 2) 0 ≡ i) → ⊥) → ((getD W (p + 3) 0 ≡ i) → ⊥) → ((getD W (p + 4) 0 ≡ i) → ⊥) → ReferTest W p i (eqb (getD W (p + 5) 0) i)
+  refer-last h2 h3 h4 = record { no = λ z. record { codes = codes z } }
+    where
+      at : (f a : ℕ) → p + 2 + f ≡ a → ((getD W a 0 ≡ i) → ⊥) → (getD W (p + 2 + f) 0 ≡ i) → ⊥
+      at f a e h q = h (ap (λ (k : ℕ). getD W k 0) (sym e) ∙ q)
+
+      codes : eqb (getD W (p + 5) 0) i ≡ false → (f : ℕ) → f < 4 → getD W (p + 2 + f) 0 ≡ i → ⊥
+      codes z zero h = at 0 (p + 2) (omega arith) h2
+      codes z (suc zero) h = at 1 (p + 3) (omega arith) h3
+      codes z (suc (suc zero)) h = at 2 (p + 4) (omega arith) h4
+      codes z (suc (suc (suc zero))) h = at 3 (p + 5) (omega arith) (eqb-false _ _ z)
+      codes z (suc (suc (suc (suc f)))) h = absurd (omega arith)
+
+module _ (W : List ℕ) (b i : ℕ) where
+  pub free-none : Unreferred W b 0 i
+  free-none = record { free = λ j h. absurd (omega arith) }
+
+  pub free-more : (j : ℕ) (r : Bool) → Unreferred W b j i → ReferTest W (240 * b + 6 * j) i r → r ≡ false → Unreferred W b (j + 1) i
+  free-more j r u t e = record { free = λ k h. go k h (ℕ-discrete k j) }
+    where
+      go : (k : ℕ) → k < j + 1 → Dec (k ≡ j) → FreeOf W (240 * b + 6 * k) i
+      go k h (yes z) = rw z (t .no e)
+      go k h (no z) = u .free k (omega (arith, z))
+
+  pub free-not : (n : ℕ) → UnreferredTest W b n i false
+  free-not n = record { yes = λ z. absurd (false≢true z) }
+
+  pub free-all : (j n : ℕ) → Unreferred W b j i → j ≤ n → n ≤ j → UnreferredTest W b n i true
+  free-all j n u h k = let e : j ≡ n = omega arith in record { yes = λ z. rw e at u }
+
+-- ---- two objects side by side
+module _ (R : List ℕ) (x y : ℕ) where
+  pub like-not : ((getD R (6 * x) 0 ≡ getD R (6 * y) 0) → ⊥) → LikeTest R x y false
+  like-not d = record { yes = λ z. absurd (false≢true z); no = λ _ a. d (a .cls) }
+
+  pub like-by-count : getD R (6 * x) 0 ≡ getD R (6 * y) 0 → LikeTest R x y (eqb (getD R (6 * x + 1) 0) (getD R (6 * y + 1) 0))
+  like-by-count e = record { yes = λ z. record { cls = e; count = eqb-true _ _ z }; no = λ z a. eqb-false _ _ z (a .count) }
+
+  pub other-here : (f : ℕ) → ((getD R (6 * x + 2 + f) 0 ≡ getD R (6 * y + 2 + f) 0) → ⊥) → OtherField R x y f
+  other-here f h = record { other = λ _. h }
+
+  pub other-none : OtherField R x y 4
+  other-none = record { other = λ h. absurd (omega arith) }
+
+leaf-codes : (ns : List Node) (r s : Ref) → InRange 192 r → Same ns r ns s → 192 ≤ codeOf r → codeOf r ≡ codeOf s
+leaf-codes ns (obj a) s hr e h = absurd (omega arith)
+leaf-codes ns (mark k) (obj b) hr e h = let z : some (opened k) ≡ some (object _ _) = e [] in cc
+leaf-codes ns (mark k) (mark l) hr e h = let z : some (opened k) ≡ some (opened l) = e [] in let q : k ≡ l = cc in omega arith
+leaf-codes ns (mark k) undet hr e h = let z : some (opened k) ≡ some unknown = e [] in cc
+leaf-codes ns undet (obj b) hr e h = let z : some unknown ≡ some (object _ _) = e [] in cc
+leaf-codes ns undet (mark l) hr e h = let z : some unknown ≡ some (opened l) = e [] in cc
+leaf-codes ns undet undet hr e h = refl
+
+range-up : (n : ℕ) (r : Ref) → n ≤ 192 → InRange n r → InRange 192 r
+range-up n (obj i) h l = omega arith
+range-up n (mark k) h l = tt
+range-up n undet h l = tt
+
+module _ (R : List ℕ) (n i k : ℕ) where
+  pub differ-start : i < n → k < n → Leads R n i k i k
+  differ-start h l = record { first = h; second = l; leads = λ e. e }
+
+  pub differ-not : DifferTest R n i k false
+  differ-not = record { yes = λ z. absurd (false≢true z) }
+
+  module _ (raw : Raw R n) where
+    packed : AllPacked R 0 n
+    packed j h = let z : 0 + 6 * j ≡ 6 * j = omega arith in rw z (raw .packed j h)
+
+    abbrev ns : List Node
+    ns = nodesIn R 0 n
+
+    cls-at : (x : ℕ) → x < n → getD R (6 * x) 0 ≡ nodeAt ns x .cls
+    cls-at x h = let z : 0 + 6 * x ≡ 6 * x = omega arith in rw z at (class-is R 0 n packed x h)
+
+    count-at : (x : ℕ) → x < n → getD R (6 * x + 1) 0 ≡ length (refsAt ns x)
+    count-at x h = let z : 0 + 6 * x ≡ 6 * x = omega arith in rw z at (count-is R 0 n packed x h)
+
+    code-at : (x : ℕ) → x < n → (f : ℕ) → f < 4 → getD R (6 * x + 2 + f) 0 ≡ codeOf (getD (refsAt ns x) f undet)
+    code-at x h f l = let z : 0 + 6 * x ≡ 6 * x = omega arith in rw z at (code-is R 0 n packed x h f l)
+
+    range-at : (x f : ℕ) → f < length (refsAt ns x) → InRange n (getD (refsAt ns x) f undet)
+    range-at x f h = subst (λ (l : ℕ). InRange l (getD (refsAt ns x) f undet)) (length-nodes R 0 n) (raw .whole .inner x f _ (some-at (refsAt ns x) f h))
+
+    spare-at : (x : ℕ) → x < n → (f : ℕ) → f < 4 → getD R (6 * x + 1) 0 ≤ f → getD R (6 * x + 2 + f) 0 ≡ 192
+    spare-at x h f l m = let z : 6 * x + 2 + f ≡ 6 * x + (2 + f) = omega arith in rw z (raw .packed x h .spare (2 + f) (omega arith) (omega arith))
+
+    module _ (x y : ℕ) (ld : Leads R n i k x y) where
+      pub differ-unlike : (r : Bool) → LikeTest R x y r → not r ≡ true → DifferTest R n i k true
+      differ-unlike r t z = record {
+        yes = λ _ e. t .no (not-true r z) (record {
+          cls = cls-at x (ld .first) ∙ same-cls ns ns x y (ld .leads e) ∙ sym (cls-at y (ld .second));
+          count = count-at x (ld .first) ∙ same-count ns ns x y (ld .leads e) ∙ sym (count-at y (ld .second));
+        });
+      }
+
+      module _ (u : Bool) (t : LikeTest R x y u) (zu : not u ≡ false) (f : ℕ) (o : OtherField R x y f) (hf : f < 4) where
+        abbrev a : ℕ
+        a = getD R (6 * x + 2 + f) 0
+
+        abbrev c : ℕ
+        c = getD R (6 * y + 2 + f) 0
+
+        en : getD R (6 * x + 1) 0 ≡ getD R (6 * y + 1) 0
+        en = t .yes (not-false u zu) .count
+
+        field-low : f < getD R (6 * x + 1) 0
+        field-low = go (decLt f (getD R (6 * x + 1) 0))
+          where
+            go : Dec (f < getD R (6 * x + 1) 0) → f < getD R (6 * x + 1) 0
+            go (yes h) = h
+            go (no h) = absurd (o .other hf (spare-at x (ld .first) f hf (omega (arith, h)) ∙ sym (spare-at y (ld .second) f hf (omega (arith, h, en)))))
+
+        abbrev r : Ref
+        r = getD (refsAt ns x) f undet
+
+        abbrev s : Ref
+        s = getD (refsAt ns y) f undet
+
+        low-x : f < length (refsAt ns x)
+        low-x = omega (arith, field-low, count-at x (ld .first))
+
+        low-y : f < length (refsAt ns y)
+        low-y = omega (arith, field-low, en, count-at y (ld .second))
+
+        ea : a ≡ codeOf r
+        ea = code-at x (ld .first) f hf
+
+        ec : c ≡ codeOf s
+        ec = code-at y (ld .second) f hf
+
+        children : Same ns (obj i) ns (obj k) → Same ns r ns s
+        children e = same-child ns ns (obj x) (obj y) (ld .leads e) f r s (some-at (refsAt ns x) f low-x) (some-at (refsAt ns y) f low-y)
+
+        pub differ-first : 192 ≤ a → DifferTest R n i k true
+        differ-first h = record { yes = λ _ e. o .other hf (ea ∙ leaf-codes ns r s (range-up n r (raw .few) (range-at x f low-x)) (children e) (omega (arith, ea)) ∙ sym ec) }
+
+        pub differ-second : 192 ≤ c → DifferTest R n i k true
+        differ-second h = record { yes = λ _ e. o .other hf (ea ∙ sym (leaf-codes ns s r (range-up n s (raw .few) (range-at y f low-y)) (λ p. sym (children e p)) (omega (arith, ec))) ∙ sym ec) }
+
+        pub differ-step : a < 192 → c < 192 → Leads R n i k a c
+        differ-step ha hc =
+            let la : codeOf r < 192 = omega (arith, ea) in
+            let lc : codeOf s < 192 = omega (arith, ec) in
+            record {
+              first = omega (arith, ea, object-low n r (range-at x f low-x) la);
+              second = omega (arith, ec, object-low n s (range-at y f low-y) lc);
+              leads = λ e p. ap (λ (q : Ref). follow ns q p) (ap obj ea ∙ sym (is-object r la)) ∙ children e p ∙ ap (λ (q : Ref). follow ns q p) (is-object s lc ∙ ap obj (sym ec));
+            }
+
+-- ---- one object and all others
+module _ (R : List ℕ) (n i : ℕ) where
+  pub other-same : (k : ℕ) → k ≡ i → OtherTest R n i k true
+  other-same k e = record { yes = λ _ _. e }
+
+  pub other-differ : (k : ℕ) (r : Bool) → DifferTest R n i k r → OtherTest R n i k r
+  other-differ k r t = record { yes = λ z e. absurd (t .yes z e) }
+
+  pub only-none : OnlyOne R n i 0
+  only-none = record { only = λ k h. absurd (omega arith) }
+
+  pub only-more : (k : ℕ) (r : Bool) → OnlyOne R n i k → OtherTest R n i k r → not r ≡ false → OnlyOne R n i (k + 1)
+  only-more k r o t e = record { only = λ j h. go j h (ℕ-discrete j k) }
+    where
+      go : (j : ℕ) → j < k + 1 → Dec (j ≡ k) → Same (nodesIn R 0 n) (obj i) (nodesIn R 0 n) (obj j) → j ≡ i
+      go j h (yes z) q = z ∙ t .yes (not-false r e) (subst (λ (l : ℕ). Same (nodesIn R 0 n) (obj i) (nodesIn R 0 n) (obj l)) z q)
+      go j h (no z) q = o .only j (omega (arith, z)) q
+
+  pub only-not : OnlyTest R n i false
+  only-not = record { yes = λ z. absurd (false≢true z) }
+
+  pub only-all : (k : ℕ) → OnlyOne R n i k → k ≤ n → n ≤ k → OnlyTest R n i true
+  only-all k o h l = let e : k ≡ n = omega arith in record { yes = λ _. rw e at o }
+
+-- ---- the objects stay distinct
+at-some : (rs : List Ref) (k : ℕ) (r : Ref) → getElem? rs k ≡ some r → (getD rs k undet ≡ r) × (k < length rs)
+at-some [] k r e = absurd (Option·none-ne-some r e)
+at-some (x ∷ rs) zero r e = (let z : x ≡ r = cc in z, omega arith)
+at-some (x ∷ rs) (suc k) r e = let p = at-some rs k r e in (p .0, omega (arith, p .1))
+
+module _ (W : List ℕ) (b i : ℕ) (bk : Block W b) (un : Unreferred W b (countIn W b) i) where
+  free-at : (j : ℕ) → j < countIn W b → (f : ℕ) (r : Ref) → getElem? (refsAt (objectsIn W b) j) f ≡ some r → r ≡ obj i → ⊥
+  unfolding objectsIn
+  free-at j h f r e z =
+      let g = at-some (refsAt (nodesIn W (240 * b) (countIn W b)) j) f r e in
+      let l : f < 4 = omega (arith, g .1, four-fields W (240 * b) (countIn W b) (bk .packed) j h) in
+      un .free j h .codes f l (code-is W (240 * b) (countIn W b) (bk .packed) j h f l ∙ ap codeOf (g .0 ∙ z))
+
+  free-in : (j f : ℕ) (r : Ref) → getElem? (refsAt (objectsIn W b) j) f ≡ some r → r ≡ obj i → ⊥
+  free-in j f r e = go (decLt j (countIn W b))
+    where
+      go : Dec (j < countIn W b) → r ≡ obj i → ⊥
+      go (yes h) = free-at j h f r e
+      go (no h) =
+          let d : nodeAt (objectsIn W b) j ≡ node 0 [] = List·getD-eq-default (objectsIn W b) (node 0 []) {n = j} (omega (arith, h, size-in W b bk)) in
+          absurd (Option·none-ne-some r (sym (ap (λ (y : Node). getElem? (y .refs) f) d) ∙ e))
+
+module _ (W : List ℕ) (b i : ℕ) (ob : Inside W b i) (x : ℕ) (R : List ℕ) (n : ℕ) (bd : Bound W b x i R n) where
+  distinct-objects : Unreferred W b n i → OnlyOne R n i n → Distinct (nodesIn R 0 n)
+  distinct-objects u o =
+      let e : nodesIn R 0 n ≡ boundNodes x i (objectsIn W b) = objects-are W b i ob x R n bd in
+      subst Distinct (sym e)
+      (distinct-bound (objectsIn W b) x i (ob .block .whole .inner) (free-in W b i (ob .block) (subst (λ (m : ℕ). Unreferred W b m i) (bd .count) u))
+      (λ k h q. o .only k (omega (arith, bd .count, size-in W b (ob .block))) (subst (λ (ns : List Node). Same ns (obj i) ns (obj k)) (sym e) q))
+      (ob .block .distinct))
+
+  pub stays-distinct : (u r : Bool) → UnreferredTest W b n i u → u ≡ true → OnlyTest R n i r → DistinctTest R n r
+  stays-distinct u r t e o = record { yes = λ z. distinct-objects (t .yes e) (o .yes z) }
+
+pub distinct-not : (R : List ℕ) (n : ℕ) → DistinctTest R n false
+distinct-not R n = record { yes = λ z. absurd (false≢true z) }
+
+pub distinct-yes : (R : List ℕ) (n : ℕ) (r : Bool) → DistinctTest R n r → r ≡ true → Distinct (nodesIn R 0 n)
+distinct-yes R n r t e = t .yes e
+
+-- ---- the objects written to a block as they are
+module _ (R W : List ℕ) (dst : ℕ) where
+  pub write-none : Written R W dst 0 W
+  write-none = record { same = refl; here = λ k h. absurd (omega arith); below = λ p h. refl; above = λ p h. refl }
+
+  pub write-more : (q p : ℕ) (D : List ℕ) → Written R W dst q D → q < p → p ≤ 192 → 240 * dst + 240 ≤ length W → Written R W dst (q + 1) (set D (240 * dst + q) (getD R q 0))
+  write-more q p D w hq hp room = record {
+    same = length-set D (240 * dst + q) _ ∙ w .same;
+    here = λ k h. go k h (ℕ-discrete k q);
+    below = λ y l. getD-set-other D (240 * dst + q) y _ 0 (λ z. omega arith) ∙ w .below y l;
+    above = λ y l. getD-set-other D (240 * dst + q) y _ 0 (λ z. omega arith) ∙ w .above y (omega arith);
+  }
+    where
+      go : (k : ℕ) → k < q + 1 → Dec (k ≡ q) → getD (set D (240 * dst + q) (getD R q 0)) (240 * dst + k) 0 ≡ getD R k 0
+      go k h (yes z) = rw z (getD-set-same D (240 * dst + q) _ 0 (omega (arith, w .same)))
+      go k h (no z) = getD-set-other D (240 * dst + q) (240 * dst + k) _ 0 (λ y. z (omega arith)) ∙ w .here k (omega (arith, z))
+
+  pub write-done : (q p : ℕ) (D : List ℕ) → Written R W dst q D → q ≤ p → p ≤ q → Written R W dst p D
+  write-done q p D w h k = let e : q ≡ p = omega arith in rw e at w
+
+module _ (R : List ℕ) (n i : ℕ) (W : List ℕ) (dst : ℕ) (rd : Rooted R n i W dst) where
+  whole-graph : Whole (graphIn R n i)
+  whole-graph = record { top = omega (arith, length-nodes R 0 n, rd .inside); inner = rd .raw .whole .inner }
+
+  pub rooted-raw : Raw R n
+  rooted-raw = rd .raw
+
+  module _ (d : Distinct (nodesIn R 0 n)) (D : List ℕ) (w : Written R W dst (6 * n) D) (l : ℕ) (lv : Levels R 0 (6 * n) l) where
+    abbrev E : List ℕ
+    E = set (set D (240 * dst + 192) n) (240 * dst + 193) l
+
+    kept : (p : ℕ) → ((p ≡ 240 * dst + 192) → ⊥) → ((p ≡ 240 * dst + 193) → ⊥) → getD E p 0 ≡ getD D p 0
+    kept p h k = getD-set-other (set D (240 * dst + 192) n) (240 * dst + 193) p l 0 k ∙ getD-set-other D (240 * dst + 192) p n 0 h
+
+    same-size : length E ≡ length W
+    same-size = length-set (set D (240 * dst + 192) n) (240 * dst + 193) l ∙ length-set D (240 * dst + 192) n ∙ w .same
+
+    written : (p : ℕ) → p < 6 * n → getD E (240 * dst + p) 0 ≡ getD R p 0
+    written p h = kept (240 * dst + p) (λ z. omega (arith, rd .small)) (λ z. omega (arith, rd .small)) ∙ w .here p h
+
+    size-is : countIn E dst ≡ n
+    unfolding countIn
+    size-is = getD-set-other (set D (240 * dst + 192) n) (240 * dst + 193) (240 * dst + 192) l 0 (λ z. omega arith) ∙ getD-set-same D (240 * dst + 192) n 0 (omega (arith, w .same, rd .room))
+
+    level-is : levelIn E dst ≡ l
+    unfolding levelIn
+    level-is = getD-set-same (set D (240 * dst + 192) n) (240 * dst + 193) l 0 (omega (arith, length-set D (240 * dst + 192) n, w .same, rd .room))
+
+    objects-same : objectsIn E dst ≡ nodesIn R 0 n
+    unfolding objectsIn
+    objects-same = ap (nodesIn E (240 * dst)) size-is ∙ nodes-same E R n (240 * dst) 0 (λ p h. let z : 0 + p ≡ p = omega arith in rw z (written p h))
+
+    block-is : Block E dst
+    block-is = record {
+      room = omega (arith, same-size, rd .room);
+      small = rw size-is (rd .small);
+      packed = λ j h.
+          packed-same E R (240 * dst + 6 * j) (6 * j)
+          (λ f g. let z : 240 * dst + 6 * j + f ≡ 240 * dst + (6 * j + f) = omega arith in rw z (written (6 * j + f) (omega (arith, size-is))))
+          (rd .raw .packed j (omega (arith, size-is)));
+      whole = subst (λ (ns : List Node). Whole (graph undet ns)) (sym objects-same) (rd .raw .whole);
+      distinct = subst Distinct (sym objects-same) d;
+      level = λ q h. let z : 0 + q ≡ q = omega arith in rw (written q (omega (arith, size-is)), level-is) (rw z at (lv .below q (omega (arith, size-is))));
+    }
+
+    pub put-distinct : Gives W dst E (Object dst i) (canon (graphIn R n i))
+    put-distinct = record {
+      held = record { held = record { block = block-is; low = rw size-is (rd .inside) } };
+      is = ap (λ (ns : List Node). canon (graph (obj i) ns)) objects-same;
+      place = omega arith;
+      outside = record {
+        same = same-size;
+        below = λ p h. kept p (λ z. omega arith) (λ z. omega arith) ∙ w .below p h;
+        above = λ p h. kept p (λ z. omega arith) (λ z. omega arith) ∙ w .above p (omega (arith, rd .small));
+      };
+    }
+
+  -- merged and numbered
+  pub merge-ready : (C : List ℕ) → 256 ≤ length C → take n C ≡ colours (nodesIn R 0 n) → Ready R n C i W dst
+  merge-ready C h e = record { raw = rd .raw; long = h; coloured = e; inside = rd .inside; room = rd .room }
+
+  pub put-merged : (W′ : List ℕ) (m : ℕ) → Placed R n i W dst W′ m → Gives W dst W′ (Object dst 0) (canon (graphIn R n i))
+  put-merged W′ m p =
+      let h : Has W′ dst (canon (graphIn R n i)) = p .has (omega (arith, p .count, canon-length (graphIn R n i) whole-graph, length-nodes R 0 n, rd .small)) in
+      record {
+        held = record { held = h .inside };
+        is = ap canon (h .is) ∙ canon-canon (graphIn R n i) whole-graph;
+        place = omega arith;
+        outside = p .outside;
+      }

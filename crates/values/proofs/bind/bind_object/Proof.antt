@@ -1,0 +1,63 @@
+use borrow.Author.Needs.{needs}
+use Rattle.values.proofs.bind.bind_object.Statement.{statement}
+use Rattle.values.proofs.bind.bind_object.Tie as tie
+use Rattle.values.proofs.bind.bind_object.Reads as reads
+use Rattle.values.proofs.bind.bind_object.Lts as lts
+use Rattle.values.proofs.bind.bind_code.Reads as bind-code-reads
+use native.Mathlib.Omega.{arith}
+use lib.ListN.{length-set}
+use Rattle.values.proofs.Bindings as laws
+
+slice-write-raw-2 : tie.Need-slice-write-raw-2
+slice-write-raw-2 c = simp length-set (omega arith)
+
+slice-write-raw-3 : tie.Need-slice-write-raw-3
+slice-write-raw-3 c = simp length-set (omega arith)
+
+slice-write-raw-4 : tie.Need-slice-write-raw-4
+slice-write-raw-4 c = simp length-set (omega arith)
+
+slice-write-raw-5 : tie.Need-slice-write-raw-5
+slice-write-raw-5 c = simp length-set (omega arith)
+
+slice-write-raw-6 : tie.Need-slice-write-raw-6
+slice-write-raw-6 c = simp length-set (omega arith)
+
+same-length : tie.Need-same-length
+same-length c = simp length-set (omega arith)
+
+returns : tie.Need-returns
+returns c = search laws.object-bound
+
+pub bind-object-spec : {M : Type 1} → statement M
+bind-object-spec =
+    tie.close
+    (tie.spec
+    (λ c. search needs)
+    (λ c. search needs)
+    (λ c. search needs)
+    (λ c. search needs)
+    (λ c. search needs)
+    slice-write-raw-2
+    (λ c. search needs)
+    (λ c. search needs)
+    (λ c κs. search needs)
+    (λ c. search needs)
+    slice-write-raw-3
+    (λ c. search needs)
+    (λ c. search needs)
+    (λ c κs. search needs)
+    (λ c. search needs)
+    slice-write-raw-4
+    (λ c. search needs)
+    (λ c. search needs)
+    (λ c κs. search needs)
+    (λ c. search needs)
+    slice-write-raw-5
+    (λ c. search needs)
+    (λ c. search needs)
+    (λ c κs. search needs)
+    (λ c. search needs)
+    slice-write-raw-6
+    same-length
+    returns)

@@ -1,0 +1,39 @@
+use borrow.Author.Needs.{needs}
+use Rattle.values.proofs.bind.close_bound.Statement.{statement}
+use Rattle.values.proofs.bind.close_bound.Tie as tie
+use Rattle.values.proofs.bind.close_bound.Reads as reads
+use Rattle.values.proofs.bind.close_bound.Lts as lts
+use Rattle.values.proofs.bind.bind_objects.Reads as bind-objects-reads
+use Rattle.values.proofs.bind.put_distinct.Reads as put-distinct-reads
+use Rattle.values.proofs.bind.put_merged.Reads as put-merged-reads
+use Rattle.values.proofs.bind.stay_distinct.Reads as stay-distinct-reads
+use Rattle.values.proofs.Bindings as laws
+
+put-distinct-requires : tie.Need-put-distinct-requires
+put-distinct-requires c κs = let t = c .before .before in let bo = t .before .before .before .before .before in let st = bo .before .before .before .before in (laws.bound-rooted _ _ _ (st .pre .0) _ _ _ (bo .bind-objects .ensures) _ (st .pre .2), laws.distinct-yes _ _ _ (t .before .stay-distinct .ensures) (t .if1 .taken))
+
+returns : tie.Need-returns
+returns c = search laws.closed
+
+put-merged-requires : tie.Need-put-merged-requires
+put-merged-requires c κs = search laws.bound-rooted
+
+returns-2 : tie.Need-returns-2
+returns-2 c = search laws.closed
+
+pub close-bound-spec : {M : Type 1} → statement M
+close-bound-spec =
+    tie.close
+    (tie.spec
+    (λ c. search needs)
+    (λ c κs. search needs)
+    (λ c. search needs)
+    (λ c κs. search needs)
+    (λ c. search needs)
+    put-distinct-requires
+    (λ c. search needs)
+    returns
+    (λ c. search needs)
+    put-merged-requires
+    (λ c. search needs)
+    returns-2)

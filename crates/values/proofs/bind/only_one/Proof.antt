@@ -1,0 +1,42 @@
+use Rattle.values.proofs.bind.only_one.Statement.{statement}
+use Rattle.values.proofs.bind.only_one.Tie as tie
+use Rattle.values.proofs.bind.only_one.Reads as reads
+use Rattle.values.proofs.bind.only_one.Lts as lts
+use Rattle.values.proofs.bind.other_than.Reads as other-than-reads
+use borrow.Author.Needs.{needs}
+use mathlib.Core.Path.{_≡_}
+use Prim.Native.Nat.{_≤_, _-_}
+use Rattle.values.specs.Binding.{OnlyOne}
+use Rattle.values.proofs.Bindings as laws
+
+abbrev Inv-loop : tie.InvT-loop
+Inv-loop raw n i k₀ k = (k ≤ n) × OnlyOne raw n i k
+
+abbrev μ-loop : tie.MeasureT-loop
+μ-loop raw n i k₀ k = n - k
+
+loop-holds : tie.Need-loop-holds Inv-loop μ-loop
+loop-holds c = (search needs, laws.only-none _ _ _)
+
+returns : tie.Need-returns Inv-loop μ-loop
+returns c = laws.only-not _ _ _
+
+loop-again : tie.Need-loop-again Inv-loop μ-loop
+loop-again c = (search needs, search laws.only-more)
+
+returns-2 : tie.Need-returns-2 Inv-loop μ-loop
+returns-2 c = search laws.only-all
+
+pub only-one-spec : {M : Type 1} → statement M
+only-one-spec =
+    tie.close
+    (tie.spec
+    Inv-loop
+    μ-loop
+    loop-holds
+    (λ c κs. search needs)
+    returns
+    (λ c. search needs)
+    (λ c. search needs)
+    loop-again
+    returns-2)

@@ -1,0 +1,36 @@
+use borrow.Author.Needs.{needs}
+use Rattle.values.proofs.bind.put_distinct.Statement.{statement}
+use Rattle.values.proofs.bind.put_distinct.Tie as tie
+use Rattle.values.proofs.bind.put_distinct.Reads as reads
+use Rattle.values.proofs.bind.put_distinct.Lts as lts
+use Rattle.values.proofs.bind.write_objects.Reads as write-objects-reads
+use Rattle.values.proofs.number.level_of.Reads as level-of-reads
+use native.Mathlib.Omega.{arith}
+use lib.ListN.{length-set}
+use Rattle.values.proofs.Bindings as laws
+
+slice-write-work-2 : tie.Need-slice-write-work-2
+slice-write-work-2 c = simp length-set (omega arith)
+
+same-length : tie.Need-same-length
+same-length c = simp length-set (omega arith)
+
+returns : tie.Need-returns
+returns c = search laws.put-distinct
+
+pub put-distinct-spec : {M : Type 1} → statement M
+put-distinct-spec =
+    tie.close
+    (tie.spec
+    (λ c. search needs)
+    (λ c κs. search needs)
+    (λ c. search needs)
+    (λ c κs. search needs)
+    (λ c. search needs)
+    (λ c. search needs)
+    (λ c. search needs)
+    (λ c. search needs)
+    (λ c. search needs)
+    slice-write-work-2
+    same-length
+    returns)

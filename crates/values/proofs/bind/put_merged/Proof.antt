@@ -1,0 +1,28 @@
+use borrow.Author.Needs.{needs}
+use Rattle.values.proofs.bind.put_merged.Statement.{statement}
+use Rattle.values.proofs.bind.put_merged.Tie as tie
+use Rattle.values.proofs.bind.put_merged.Reads as reads
+use Rattle.values.proofs.bind.put_merged.Lts as lts
+use Rattle.values.proofs.colours.colour.Reads as colour-reads
+use Rattle.values.proofs.number.put.Reads as put-reads
+use Rattle.values.proofs.Bindings as laws
+
+colour-requires : tie.Need-colour-requires
+colour-requires c κs = (search laws.rooted-raw, search needs)
+
+put-requires : tie.Need-put-requires
+put-requires c κs = let co = c .before .before .before in laws.merge-ready _ _ _ _ _ (co .before .before .before .before .pre) _ (search needs) (co .colour .ensures)
+
+returns : tie.Need-returns
+returns c = search laws.put-merged
+
+pub put-merged-spec : {M : Type 1} → statement M
+put-merged-spec =
+    tie.close
+    (tie.spec
+    (λ c. search needs)
+    colour-requires
+    (λ c. search needs)
+    put-requires
+    (λ c. search needs)
+    returns)

@@ -1,0 +1,35 @@
+use borrow.Author.Needs.{needs}
+use Rattle.values.proofs.bind.refers.Statement.{statement}
+use Rattle.values.proofs.bind.refers.Tie as tie
+use Rattle.values.proofs.bind.refers.Reads as reads
+use Rattle.values.proofs.bind.refers.Lts as lts
+use Rattle.values.proofs.Bindings as laws
+
+returns : tie.Need-returns
+returns c = laws.refer-yes _ _ _
+
+returns-2 : tie.Need-returns-2
+returns-2 c = laws.refer-yes _ _ _
+
+returns-3 : tie.Need-returns-3
+returns-3 c = laws.refer-yes _ _ _
+
+returns-4 : tie.Need-returns-4
+returns-4 c = search laws.refer-last
+
+pub refers-spec : {M : Type 1} → statement M
+refers-spec =
+    tie.close
+    (tie.spec
+    (λ c. search needs)
+    (λ c. search needs)
+    returns
+    (λ c. search needs)
+    (λ c. search needs)
+    returns-2
+    (λ c. search needs)
+    (λ c. search needs)
+    returns-3
+    (λ c. search needs)
+    (λ c. search needs)
+    returns-4)

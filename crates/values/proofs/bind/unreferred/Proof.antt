@@ -1,0 +1,46 @@
+use Rattle.values.proofs.bind.unreferred.Statement.{statement}
+use Rattle.values.proofs.bind.unreferred.Tie as tie
+use Rattle.values.proofs.bind.unreferred.Reads as reads
+use Rattle.values.proofs.bind.unreferred.Lts as lts
+use Rattle.values.proofs.bind.refers.Reads as refers-reads
+use borrow.Author.Needs.{needs}
+use mathlib.Core.Path.{_≡_}
+use Prim.Native.Nat.{_≤_, _-_}
+use Rattle.values.specs.Binding.{Unreferred}
+use Rattle.values.proofs.Bindings as laws
+
+abbrev Inv-loop : tie.InvT-loop
+Inv-loop work b n i k₀ k = (k ≤ n) × Unreferred work b k i
+
+abbrev μ-loop : tie.MeasureT-loop
+μ-loop work b n i k₀ k = n - k
+
+loop-holds : tie.Need-loop-holds Inv-loop μ-loop
+loop-holds c = (search needs, laws.free-none _ _ _)
+
+returns : tie.Need-returns Inv-loop μ-loop
+returns c = laws.free-not _ _ _ _
+
+loop-again : tie.Need-loop-again Inv-loop μ-loop
+loop-again c = (search needs, search laws.free-more)
+
+returns-2 : tie.Need-returns-2 Inv-loop μ-loop
+returns-2 c = search laws.free-all
+
+pub unreferred-spec : {M : Type 1} → statement M
+unreferred-spec =
+    tie.close
+    (tie.spec
+    Inv-loop
+    μ-loop
+    loop-holds
+    (λ c. search needs)
+    (λ c. search needs)
+    (λ c. search needs)
+    (λ c. search needs)
+    (λ c κs. search needs)
+    returns
+    (λ c. search needs)
+    (λ c. search needs)
+    loop-again
+    returns-2)

@@ -1,0 +1,233 @@
+// X = u for an object of a block: the mark is bound to the object where it lies, and if no two objects have become equal they are kept as they are.
+// Not here: values in which the mark does not occur (value); how equal objects are found (colours) and merged (number).
+use crate::ValueRef;
+use crate::colours::colour;
+use crate::number::level_of;
+use crate::number::put;
+ghost use mathlib.Core.Path.{_≡_};
+ghost use Prim.Native.Nat.{ℕ, _+_, _*_, _<_, _≤_};
+ghost use lib.ListN.{length};
+ghost use Rattle.cofj.specs.Values.{canon};
+ghost use Rattle.values.specs.Layout.{Inside, nodesIn, graphAt, Distinct};
+ghost use Rattle.values.specs.Rounds.{Raw};
+ghost use Rattle.values.specs.Numbers.{graphIn};
+ghost use Rattle.values.specs.Operations.{Gives, closeOf};
+ghost use Rattle.values.specs.Binding.{boundCode, ObjectBound, Bound, ReferTest, UnreferredTest, LikeTest, OtherField, DifferTest, OtherTest, OnlyTest, DistinctTest, Rooted, Written};
+
+// A code, the code `hot` turned to object i.
+pub fn bind_code(hot: u8, i: u8, c: u8) -> u8
+    ensures { λ r. ⌜ r ≡ boundCode hot i c ⌝ }
+{
+    if c == hot {
+        return i;
+    }
+    c
+}
+
+// The object at place p of `work`, to place q of `raw`.
+pub fn bind_object(work: &[u8], p: usize, hot: u8, i: u8, raw: &mut [u8], q: usize)
+    requires { ⌜ (p + 6 ≤ length (now work)) × (q + 6 ≤ length (now raw)) ⌝ }
+    ensures { λ _. ⌜ ObjectBound (now (work .entry)) p hot i (now (raw .entry)) q 6 (now (raw .exit)) ⌝ }
+{
+    raw[q] = work[p];
+    raw[q + 1] = work[p + 1];
+    raw[q + 2] = bind_code(hot, i, work[p + 2]);
+    raw[q + 3] = bind_code(hot, i, work[p + 3]);
+    raw[q + 4] = bind_code(hot, i, work[p + 4]);
+    raw[q + 5] = bind_code(hot, i, work[p + 5]);
+}
+
+// The objects of block b, with mark x bound to object i, to the front of `raw`. Answers how many they are.
+pub fn bind_objects(work: &[u8], b: u16, x: u8, i: u8, raw: &mut [u8]) -> u8
+    requires { ⌜ Inside (now work) b i × (x < 63) × (1536 ≤ length (now raw)) ⌝ }
+    ensures { λ n. ⌜ Bound (now (work .entry)) b x i (now (raw .exit)) n ⌝ }
+{
+    let n = work[240 * (b as usize) + 192];
+    let mut j: u8 = 0;
+    while j < n {
+        bind_object(
+            work,
+            240 * (b as usize) + 6 * (j as usize),
+            193 + x,
+            i,
+            raw,
+            6 * (j as usize),
+        );
+        j += 1;
+    }
+    n
+}
+
+// Whether the object at place p refers to object i.
+pub fn refers(work: &[u8], p: usize, i: u8) -> bool
+    requires { ⌜ p + 6 ≤ length (now work) ⌝ }
+    ensures { λ r. ⌜ ReferTest (now (work .entry)) p i r ⌝ }
+{
+    if work[p + 2] == i {
+        return true;
+    }
+    if work[p + 3] == i {
+        return true;
+    }
+    if work[p + 4] == i {
+        return true;
+    }
+    work[p + 5] == i
+}
+
+// Whether none of the n objects of block b refers to object i.
+pub fn unreferred(work: &[u8], b: u16, n: u8, i: u8) -> bool
+    requires { ⌜ (240 * b + 240 ≤ length (now work)) × (n ≤ 32) ⌝ }
+    ensures { λ r. ⌜ UnreferredTest (now (work .entry)) b n i r ⌝ }
+{
+    let mut k: u8 = 0;
+    while k < n {
+        if refers(work, 240 * (b as usize) + 6 * (k as usize), i) {
+            return false;
+        }
+        k += 1;
+    }
+    true
+}
+
+// Whether objects x and y have one class and as many fields.
+pub fn like(raw: &[u8], x: u8, y: u8) -> bool
+    requires { ⌜ 1536 ≤ length (now raw) ⌝ }
+    ensures { λ r. ⌜ LikeTest (now (raw .entry)) x y r ⌝ }
+{
+    if raw[6 * (x as usize)] != raw[6 * (y as usize)] {
+        return false;
+    }
+    raw[6 * (x as usize) + 1] == raw[6 * (y as usize) + 1]
+}
+
+// The first field whose codes differ; 4 if there is none.
+pub fn other_field(raw: &[u8], x: u8, y: u8) -> u8
+    requires { ⌜ 1536 ≤ length (now raw) ⌝ }
+    ensures { λ f. ⌜ OtherField (now (raw .entry)) x y f ⌝ }
+{
+    let mut f: u8 = 0;
+    while f < 4 {
+        if raw[6 * (x as usize) + 2 + f as usize] != raw[6 * (y as usize) + 2 + f as usize] {
+            return f;
+        }
+        f += 1;
+    }
+    4
+}
+
+// True only if objects i and k of n unfold to different trees: one path is followed, 64 steps at most.
+pub fn differ(raw: &[u8], n: u8, i: u8, k: u8) -> bool
+    requires { ⌜ Raw (now raw) n × (i < n) × (k < n) ⌝ }
+    ensures { λ r. ⌜ DifferTest (now (raw .entry)) n i k r ⌝ }
+{
+    let mut x: u8 = i;
+    let mut y: u8 = k;
+    let mut left: u8 = 64;
+    while 0 < left {
+        if !like(raw, x, y) {
+            return true;
+        }
+        let f = other_field(raw, x, y);
+        if 4 <= f {
+            return false;
+        }
+        let first = raw[6 * (x as usize) + 2 + f as usize];
+        let second = raw[6 * (y as usize) + 2 + f as usize];
+        if 192 <= first {
+            return true;
+        }
+        if 192 <= second {
+            return true;
+        }
+        x = first;
+        y = second;
+        left -= 1;
+    }
+    false
+}
+
+// The same, and true if k is i.
+pub fn other_than(raw: &[u8], n: u8, i: u8, k: u8) -> bool
+    requires { ⌜ Raw (now raw) n × (i < n) × (k < n) ⌝ }
+    ensures { λ r. ⌜ OtherTest (now (raw .entry)) n i k r ⌝ }
+{
+    if k == i {
+        return true;
+    }
+    differ(raw, n, i, k)
+}
+
+// True only if object i of n unfolds to no other object's tree.
+pub fn only_one(raw: &[u8], n: u8, i: u8) -> bool
+    requires { ⌜ Raw (now raw) n × (i < n) ⌝ }
+    ensures { λ r. ⌜ OnlyTest (now (raw .entry)) n i r ⌝ }
+{
+    let mut k: u8 = 0;
+    while k < n {
+        if !other_than(raw, n, i, k) {
+            return false;
+        }
+        k += 1;
+    }
+    true
+}
+
+// True only if no two of the objects bound are equal.
+pub fn stay_distinct(work: &[u8], b: u16, x: u8, i: u8, raw: &[u8], n: u8) -> bool
+    requires { ⌜ Inside (now work) b i × Bound (now work) b x i (now raw) n ⌝ }
+    ensures { λ r. ⌜ DistinctTest (now (raw .entry)) n r ⌝ }
+{
+    if unreferred(work, b, n, i) {
+        return only_one(raw, n, i);
+    }
+    false
+}
+
+// The first p bytes of `raw`, to the front of block `dst`.
+pub fn write_objects(raw: &[u8], p: usize, work: &mut [u8], dst: u16)
+    requires { ⌜ (1536 ≤ length (now raw)) × (p ≤ 192) × (240 * dst + 240 ≤ length (now work)) ⌝ }
+    ensures { λ _. ⌜ Written (now (raw .entry)) (now (work .entry)) dst p (now (work .exit)) ⌝ }
+{
+    let mut q: usize = 0;
+    while q < p {
+        work[240 * (dst as usize) + q] = raw[q];
+        q += 1;
+    }
+}
+
+// The value at object i of n, of which no two are equal, to block `dst` as they are.
+pub fn put_distinct(raw: &[u8], n: u8, i: u8, work: &mut [u8], dst: u16) -> ValueRef
+    requires { ⌜ Rooted (now raw) n i (now work) dst × Distinct (nodesIn (now raw) 0 n) ⌝ }
+    ensures { λ o. ⌜ Gives (now (work .entry)) dst (now (work .exit)) o (canon (graphIn (now (raw .entry)) n i)) ⌝ }
+{
+    write_objects(raw, 6 * (n as usize), work, dst);
+    let l = level_of(raw, 0, 6 * (n as usize));
+    work[240 * (dst as usize) + 192] = n;
+    work[240 * (dst as usize) + 193] = l;
+    ValueRef::Object(dst, i)
+}
+
+// The value at object i of n, to block `dst`, equal objects merged and numbered from there.
+pub fn put_merged(raw: &[u8], n: u8, i: u8, work: &mut [u8], dst: u16) -> ValueRef
+    requires { ⌜ Rooted (now raw) n i (now work) dst ⌝ }
+    ensures { λ o. ⌜ Gives (now (work .entry)) dst (now (work .exit)) o (canon (graphIn (now (raw .entry)) n i)) ⌝ }
+{
+    let mut ids = [0u8; 256];
+    colour(raw, n, &mut ids);
+    put(raw, n, &ids, i, work, dst);
+    ValueRef::Object(dst, 0)
+}
+
+// X = u for object i of block b, to block `dst`.
+pub fn close_bound(work: &mut [u8], x: u8, b: u16, i: u8, dst: u16) -> ValueRef
+    requires { ⌜ Inside (now work) b i × (x < 63) × (240 * dst + 240 ≤ length (now work)) ⌝ }
+    ensures { λ o. ⌜ Gives (now (work .entry)) dst (now (work .exit)) o (closeOf x (canon (graphAt (now (work .entry)) b i))) ⌝ }
+{
+    let mut raw = [0u8; 1536];
+    let n = bind_objects(work, b, x, i, &mut raw);
+    if stay_distinct(work, b, x, i, &raw, n) {
+        return put_distinct(&raw, n, i, work, dst);
+    }
+    put_merged(&raw, n, i, work, dst)
+}
