@@ -15,7 +15,6 @@ use Rattle.classes.specs.declared.methods.Found.{Found}
 use Rattle.classes.specs.declared.methods.Found.the-variants as found
 use Rattle.classes.specs.Layout.{Finds}
 use Rattle.values.specs.declared.ValueRef.{ValueRef}
-use Rattle.values.specs.declared.ValueRef.the-variants.{Undetermined}
 use Rattle.values.specs.declared.Slot.{Slot}
 use Rattle.values.specs.Layout.{valueOf}
 use Rattle.values.specs.Laying.{valuesFrom}
@@ -34,7 +33,6 @@ use Rattle.evaluator.specs.Evaluation.{Reads, ReadsAll, evalIn, evalsIn,
 use Rattle.evaluator.specs.Calling.{ArgsFit, FindsTarget, Calls, CallsWith, Invokes, RunsRight, RunsLeft}
 use Rattle.evaluator.proofs.Keeping.{kept-none, kept-then, value-kept, frame-same, trace-same}
 use Rattle.evaluator.proofs.Standing.{nested-none}
-use Rattle.evaluator.proofs.ListLaws.{noValues, list-zero}
 use Rattle.evaluator.proofs.Given.{going-on, halted, given, given-next, all-halted, all-given, all-next}
 
 -- ---- what a lookup finds
@@ -154,14 +152,6 @@ module _ (T W : List ℕ) (f : Frame) (tr : List ℕ) (top at left d sp fuel : �
                 (all-given T W f tr top at left d (sp + 1) fuel n W1 l li a b c e at1 fuel1 el t es rs q);
             next = z .next;
           })
-
--- no arguments
-pub args-none : (T W : List ℕ) (f : Frame) (tr : List ℕ) (top at left d sp fuel : ℕ) (v : ValueRef) (m n i : ℕ) → ArgsFit W f tr top left d sp v n → n ≡ 0
-    → (ps : List Slot) (W2 : List ℕ) (o : Out) → ps ≡ slotsOf Undetermined Undetermined Undetermined Undetermined
-    → Invokes T W tr top v ps n i at d sp fuel m W2 o → CallsWith T W f tr top at left d sp fuel v m n i W2 o
-args-none T W f tr top at left d sp fuel v m n i fit z ps W2 o ep inv =
-    args-is T W f tr top at left d sp fuel v m n i fit W (noValues at fuel) (list-zero T W f tr top at left d (sp + 1) fuel n z)
-    Undetermined Undetermined Undetermined Undetermined at fuel ps W2 o refl ep inv
 
 -- ---- fuel, depth, and the side that runs
 abbrev marked : Met → ℕ

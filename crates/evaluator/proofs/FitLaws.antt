@@ -14,7 +14,7 @@ use Rattle.cofj.specs.Running.{openMark}
 use Rattle.classes.specs.declared.methods.Found.{Found}
 use Rattle.classes.specs.declared.methods.Found.the-variants as found
 use Rattle.values.specs.declared.ValueRef.{ValueRef}
-use Rattle.values.specs.declared.ValueRef.the-variants.{Mark, Undetermined}
+use Rattle.values.specs.declared.ValueRef.the-variants.{Mark}
 use Rattle.values.specs.declared.Slot.{Slot}
 use Rattle.values.specs.Layout.{valueOf, Holds, Low}
 use Rattle.values.specs.Laying.{valuesFrom, PartsHeld}
@@ -124,20 +124,6 @@ call-fit T W f tr top at left d sp fuel v n W1 l a b c e at1 fuel1 ps h li el ep
       calls = h .fits .calls;
       room = omega (arith, h .deep);
       long = omega (arith, h .fits .long, li .kept .same);
-    }
-
-pub call-fit-none : (W : List ℕ) (f : Frame) (tr : List ℕ) (top left d sp : ℕ) (v : ValueRef) (n : ℕ) (ps : List Slot) → ArgsFit W f tr top left d sp v n → n ≡ 0
-    → ps ≡ slotsOf Undetermined Undetermined Undetermined Undetermined → CallFits W tr top v ps n d sp
-call-fit-none W f tr top left d sp v n ps h z ep =
-    let r = h .fits .room in
-    record {
-      trace = h .fits .trace;
-      receiver = older-up W (sp + 1) (sp + 4) (omega arith) v (h .receiver);
-      args = subst (λ (q : List Slot). PartsOlder W (sp + 4) q n) (sym ep) (record { full = omega arith; part = λ i l. absurd (omega arith) });
-      few = h .few;
-      calls = h .fits .calls;
-      room = omega (arith, h .deep);
-      long = h .fits .long;
     }
 
 -- ---- a call

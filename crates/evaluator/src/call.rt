@@ -84,11 +84,6 @@ pub fn eval_args(
     requires { ⌜ ArgsFit (now work) f (now tr) top left d sp v n ⌝ }
     ensures { λ o. ⌜ CallsWith (now (t .entry)) (now (work .entry)) f (now (tr .entry)) top at left d sp fuel v m n i (now (work .exit)) o ⌝ }
 {
-    if n == 0 {
-        let none = ValueRef::Undetermined;
-        let ps = slots(none, none, none, none);
-        return invoke(t, work, tr, top, v, ps, n, i, at, d, sp, fuel, m);
-    }
     let l = eval_list(t, work, f, tr, top, at, left, d, sp + 1, fuel, n);
     let Listed::Values {
         a,

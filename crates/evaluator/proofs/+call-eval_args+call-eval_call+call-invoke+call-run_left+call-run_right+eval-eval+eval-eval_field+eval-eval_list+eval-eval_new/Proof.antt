@@ -207,7 +207,7 @@ eval·eval-new-below t =
     eval·eval-new.Pre
 
 abbrev call·eval-args-claims : ℕ → call·eval-args-lts.Claims
-call·eval-args-claims t = (slots-reads.Asked, slots-reads.Learnt, call·invoke-below t, call·invoke.Post, eval·eval-list-below t, eval·eval-list.Post, halt-reads.Asked, halt-reads.Learnt)
+call·eval-args-claims t = (eval·eval-list-below t, eval·eval-list.Post, halt-reads.Asked, halt-reads.Learnt, slots-reads.Asked, slots-reads.Learnt, call·invoke-below t, call·invoke.Post)
 
 abbrev call·eval-call-claims : ℕ → call·eval-call-lts.Claims
 call·eval-call-claims t = (eval·eval-below t, eval·eval.Post, find-reads.Asked, find-reads.Learnt, call·eval-args-below t, call·eval-args.Post)
@@ -233,23 +233,17 @@ eval·eval-list-claims t = (eval·eval-below t, eval·eval.Post, stopped-reads.A
 abbrev eval·eval-new-claims : ℕ → eval·eval-new-lts.Claims
 eval·eval-new-claims t = (field-total-reads.Asked, field-total-reads.Learnt, eval·eval-list-below t, eval·eval-list.Post, finish-reads.Asked, finish-reads.Learnt)
 
-call·eval-args-invoke-requires : (t : ℕ) → call·eval-args-lts.Need-invoke-requires (call·eval-args-claims t) (call·eval-args-at t) call·eval-args.Post
-call·eval-args-invoke-requires t c κs = (search needs, search fits.call-fit-none)
-
-call·eval-args-returns : (t : ℕ) → call·eval-args-lts.Need-returns (call·eval-args-claims t) (call·eval-args-at t) call·eval-args.Post
-call·eval-args-returns t c = search calls.args-none
-
 call·eval-args-eval-list-requires : (t : ℕ) → call·eval-args-lts.Need-eval-list-requires (call·eval-args-claims t) (call·eval-args-at t) call·eval-args.Post
 call·eval-args-eval-list-requires t c κs = (search needs, search fits.args-list)
 
+call·eval-args-returns : (t : ℕ) → call·eval-args-lts.Need-returns (call·eval-args-claims t) (call·eval-args-at t) call·eval-args.Post
+call·eval-args-returns t c = search calls.args-halt
+
+call·eval-args-invoke-requires : (t : ℕ) → call·eval-args-lts.Need-invoke-requires (call·eval-args-claims t) (call·eval-args-at t) call·eval-args.Post
+call·eval-args-invoke-requires t c κs = (search needs, fits.call-fit _ _ _ _ _ _ _ _ _ _ _ _ _ _ _ _ _ _ _ _ _ (c .before .before .before .before .before .before .before .before .before .before .pre .1) (c .before .before .before .before .before .before .before .eval-list .ensures) (c .before .before .before .l .given .1) (c .before .slots .ensures))
+
 call·eval-args-returns-2 : (t : ℕ) → call·eval-args-lts.Need-returns-2 (call·eval-args-claims t) (call·eval-args-at t) call·eval-args.Post
-call·eval-args-returns-2 t c = search calls.args-halt
-
-call·eval-args-invoke-requires-2 : (t : ℕ) → call·eval-args-lts.Need-invoke-requires-2 (call·eval-args-claims t) (call·eval-args-at t) call·eval-args.Post
-call·eval-args-invoke-requires-2 t c κs = (search needs, fits.call-fit _ _ _ _ _ _ _ _ _ _ _ _ _ _ _ _ _ _ _ _ _ (c .before .before .before .before .before .before .before .before .before .before .before .pre .1) (c .before .before .before .before .before .before .before .eval-list .ensures) (c .before .before .before .l .given .1) (c .before .slots2 .ensures))
-
-call·eval-args-returns-3 : (t : ℕ) → call·eval-args-lts.Need-returns-3 (call·eval-args-claims t) (call·eval-args-at t) call·eval-args.Post
-call·eval-args-returns-3 t c = search calls.args-is
+call·eval-args-returns-2 t c = search calls.args-is
 
 call·eval-call-returns : (t : ℕ) → call·eval-call-lts.Need-returns (call·eval-call-claims t) (call·eval-call-at t) call·eval-call.Post
 call·eval-call-returns t c = search calls.call-flat
@@ -405,21 +399,17 @@ pub +call·eval-args+call·eval-call+call·invoke+call·run-left+call·run-right
 +call·eval-args+call·eval-call+call·invoke+call·run-left+call·run-right+eval·eval+eval·eval-field+eval·eval-list+eval·eval-new-spec =
     close μ-call·eval-args μ-call·eval-call μ-call·invoke μ-call·run-left μ-call·run-right μ-eval·eval μ-eval·eval-field μ-eval·eval-list μ-eval·eval-new
     (λ t. call·eval-args-lts.spec (call·eval-args-claims t) (call·eval-args-at t) call·eval-args.Post
-    (λ c κs. search needs)
-    (call·eval-args-invoke-requires t)
-    (λ c. search needs)
-    (call·eval-args-returns t)
     (λ c. search needs)
     (call·eval-args-eval-list-requires t)
     (λ c. search needs)
     (λ c. search needs)
     (λ c κs. search needs)
     (λ c. search needs)
-    (call·eval-args-returns-2 t)
+    (call·eval-args-returns t)
     (λ c κs. search needs)
-    (call·eval-args-invoke-requires-2 t)
+    (call·eval-args-invoke-requires t)
     (λ c. search needs)
-    (call·eval-args-returns-3 t))
+    (call·eval-args-returns-2 t))
     (λ t. call·eval-call-lts.spec (call·eval-call-claims t) (call·eval-call-at t) call·eval-call.Post
     (call·eval-call-returns t)
     (call·eval-call-eval-requires t)
