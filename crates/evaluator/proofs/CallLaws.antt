@@ -15,6 +15,7 @@ use Rattle.classes.specs.declared.methods.Found.{Found}
 use Rattle.classes.specs.declared.methods.Found.the-variants as found
 use Rattle.classes.specs.Layout.{Finds}
 use Rattle.values.specs.declared.ValueRef.{ValueRef}
+use Rattle.values.specs.declared.ValueRef.the-variants.{Undetermined}
 use Rattle.values.specs.declared.Slot.{Slot}
 use Rattle.values.specs.Layout.{valueOf}
 use Rattle.values.specs.Laying.{valuesFrom}
@@ -33,6 +34,7 @@ use Rattle.evaluator.specs.Evaluation.{Reads, ReadsAll, evalIn, evalsIn,
 use Rattle.evaluator.specs.Calling.{ArgsFit, FindsTarget, Calls, CallsWith, Invokes, RunsRight, RunsLeft}
 use Rattle.evaluator.proofs.Keeping.{kept-none, kept-then, value-kept, frame-same, trace-same}
 use Rattle.evaluator.proofs.Standing.{nested-none}
+use Rattle.evaluator.proofs.ListLaws.{list-zero}
 use Rattle.evaluator.proofs.Given.{going-on, halted, given, given-next, all-halted, all-given, all-next}
 
 -- ---- what a lookup finds
@@ -152,6 +154,32 @@ module _ (T W : List ℕ) (f : Frame) (tr : List ℕ) (top at left d sp fuel : �
                 (all-given T W f tr top at left d (sp + 1) fuel n W1 l li a b c e at1 fuel1 el t es rs q);
             next = z .next;
           })
+
+-- ---- no arguments
+abbrev noSlots : List Slot
+noSlots = slotsOf Undetermined Undetermined Undetermined Undetermined
+
+args-none : (T W : List ℕ) (f : Frame) (tr : List ℕ) (top at left d sp fuel : ℕ) (v : ValueRef) (m n i : ℕ) → n ≡ 0 → (ps : List Slot) (W2 : List ℕ) (o : Out) → ps ≡ noSlots
+    → Invokes T W tr top v ps n i at d sp fuel m W2 o → CallsWith T W f tr top at left d sp fuel v m n i W2 o
+args-none T W f tr top at left d sp fuel v m n i z ps W2 o ep inv = record { kept = inv .kept; older = inv .older; is = shows }
+  where
+    shows : (t : Table) (es : Exprs) (k : Method) → ReadsAll T left at t es → count es ≡ n → getElem? (t .methods) i ≡ some k
+        → Shows W2 o (at + length (codesOf es)) (evalsIn d t (frameIn W f) (traceIn W tr top) es fuel then λ vs n′. invoke (deeper d t) (traceIn W tr top) (valueOf W v) m vs k n′)
+    shows t es k rs q ek =
+        let a = inv .is t k (rs .table) ek in
+        let b = list-zero T W f tr top at left d sp fuel n z .is t es rs q in
+        subst (λ (p : ℕ). Shows W2 o p (evalsIn d t (frameIn W f) (traceIn W tr top) es fuel then λ vs n′. invoke (deeper d t) (traceIn W tr top) (valueOf W v) m vs k n′)) (b .next)
+        (record {
+          is = a .is ∙ ap (λ (xs : List Slot). invoke (deeper d t) (traceIn W tr top) (valueOf W v) m (valuesFrom W xs 0 n) k fuel) ep
+              ∙ going-on (value (valuesFrom W noSlots 0 n) fuel) (evalsIn d t (frameIn W f) (traceIn W tr top) es fuel) (λ vs n′. invoke (deeper d t) (traceIn W tr top) (valueOf W v) m vs k n′) (b .is);
+          next = a .next;
+        })
+
+pub call-none-given : (T W : List ℕ) (f : Frame) (tr : List ℕ) (top at left d sp fuel m n : ℕ) (W1 : List ℕ) (o : Out) → Evaluates T W f tr top at left d sp fuel W1 o
+    → (v : ValueRef) (at1 fuel1 : ℕ) → o ≡ Value v at1 fuel1 → (w : Found) → FindsTarget T W1 v m n w → (i : ℕ) → w ≡ found.At i → Fits W f tr top (left + 1) d sp → n ≡ 0
+    → (ps : List Slot) → ps ≡ noSlots → (W2 : List ℕ) (x : Out) → Invokes T W1 tr top v ps n i at1 d sp fuel1 m W2 x → Calls T W f tr top at left d sp fuel m n W2 x
+call-none-given T W f tr top at left d sp fuel m n W1 o ev v at1 fuel1 eo w fi i ew fit z ps ep W2 x inv =
+    call-is T W f tr top at left d sp fuel m n W1 o ev v at1 fuel1 eo w fi i W2 x fit ew (args-none T W1 f tr top at1 left d sp fuel1 v m n i z ps W2 x ep inv)
 
 -- ---- fuel, depth, and the side that runs
 abbrev marked : Met → ℕ

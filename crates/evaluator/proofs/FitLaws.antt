@@ -14,7 +14,7 @@ use Rattle.cofj.specs.Running.{openMark}
 use Rattle.classes.specs.declared.methods.Found.{Found}
 use Rattle.classes.specs.declared.methods.Found.the-variants as found
 use Rattle.values.specs.declared.ValueRef.{ValueRef}
-use Rattle.values.specs.declared.ValueRef.the-variants.{Mark}
+use Rattle.values.specs.declared.ValueRef.the-variants.{Mark, Undetermined}
 use Rattle.values.specs.declared.Slot.{Slot}
 use Rattle.values.specs.Layout.{valueOf, Holds, Low}
 use Rattle.values.specs.Laying.{valuesFrom, PartsHeld}
@@ -124,6 +124,22 @@ call-fit T W f tr top at left d sp fuel v n W1 l a b c e at1 fuel1 ps h li el ep
       calls = h .fits .calls;
       room = omega (arith, h .deep);
       long = omega (arith, h .fits .long, li .kept .same);
+    }
+
+pub call-fit-none : (T W : List ℕ) (f : Frame) (tr : List ℕ) (top at left d sp fuel : ℕ) (W1 : List ℕ) (o : Out) → Evaluates T W f tr top at left d sp fuel W1 o
+    → (v : ValueRef) (at1 fuel1 m n : ℕ) (w : Found) (i : ℕ) (ps : List Slot) → Fits W f tr top (left + 1) d sp → (left ≡ 0 → ⊥) → o ≡ Value v at1 fuel1
+    → FindsTarget T W1 v m n w → w ≡ found.At i → n ≡ 0 → ps ≡ slotsOf Undetermined Undetermined Undetermined Undetermined → CallFits W1 tr top v ps n d sp
+call-fit-none T W f tr top at left d sp fuel W1 o ev v at1 fuel1 m n w i ps h nz eo fi ew z ep =
+    let k = args-fit T W f tr top at left d sp fuel W1 o ev v at1 fuel1 m n w i h nz eo fi ew in
+    let r = k .fits .room in
+    record {
+      trace = k .fits .trace;
+      receiver = older-up W1 (sp + 1) (sp + 4) (omega arith) v (k .receiver);
+      args = subst (λ (q : List Slot). PartsOlder W1 (sp + 4) q n) (sym ep) (record { full = omega arith; part = λ i l. absurd (omega arith) });
+      few = k .few;
+      calls = k .fits .calls;
+      room = omega (arith, nz);
+      long = k .fits .long;
     }
 
 -- ---- a call

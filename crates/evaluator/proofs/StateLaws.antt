@@ -3,6 +3,7 @@ use Prim.Native.Nat.{ℕ, zero, suc, _+_, _-_, _*_, _≤_, _<_}
 use native.Mathlib.Omega.{arith}
 use native.Mathlib.Numerals.{sub-one, add-one}
 use mathlib.Core.Path.{_≡_, refl, sym, ap, ap₂, _∙_, subst}
+use mathlib.Core.Logic.{_⊎_, inl, inr}
 use mathlib.Core.Bool.{Bool, true, false, not}
 use mathlib.Core.List.{List, [], _∷_, map}
 use mathlib.Core.Option.{Option, none, some}
@@ -232,3 +233,10 @@ module _ (W tr : List ℕ) (k : ℕ) (v : ValueRef) (m : ℕ) (ps : List Slot) (
             calls = record { few = omega arith; call = λ i q. l .calls .call i (omega arith) };
             same = sym (open-step W tr j v m ps n (λ e. omega arith) r er ∙ ap (λ (b : Bool). pick b (some (j - 1)) (openMark (traceIn W tr (j - 1)) (valueOf W v) m (valuesFrom W ps 0 n))) z) ∙ l .same;
           }
+
+    pub left-name : 0 < j → (getD tr (32 * (j - 1)) 0 ≡ m → ⊥) → Left W tr k v m ps n (j - 1)
+    left-name p h = left-more p false (call-name W tr (j - 1) v m ps n h) refl
+
+pub either : {A B C : Type 0} → (A → C) → (B → C) → A ⊎ B → C
+either f g (inl a) = f a
+either f g (inr b) = g b

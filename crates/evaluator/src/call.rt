@@ -61,6 +61,11 @@ pub fn eval_call(
     let Found::At(i) = w else {
         return Out::Halt(Stop::Stuck, fuel1);
     };
+    if n == 0 {
+        let none = ValueRef::Undetermined;
+        let ps = slots(none, none, none, none);
+        return invoke(t, work, tr, top, v, ps, n, i, at1, d, sp, fuel1, m);
+    }
     eval_args(t, work, f, tr, top, at1, left, d, sp, fuel1, v, m, n, i)
 }
 

@@ -83,8 +83,10 @@ pub fn open_call(
 {
     let mut j: u8 = k;
     while 0 < j {
-        if same_call(work, tr, j - 1, v, m, args, n) {
-            return Met::Mark(j - 1);
+        if tr[CALL * ((j - 1) as usize)] == m {
+            if same_call(work, tr, j - 1, v, m, args, n) {
+                return Met::Mark(j - 1);
+            }
         }
         j -= 1;
     }

@@ -210,7 +210,7 @@ abbrev call·eval-args-claims : ℕ → call·eval-args-lts.Claims
 call·eval-args-claims t = (eval·eval-list-below t, eval·eval-list.Post, halt-reads.Asked, halt-reads.Learnt, slots-reads.Asked, slots-reads.Learnt, call·invoke-below t, call·invoke.Post)
 
 abbrev call·eval-call-claims : ℕ → call·eval-call-lts.Claims
-call·eval-call-claims t = (eval·eval-below t, eval·eval.Post, find-reads.Asked, find-reads.Learnt, call·eval-args-below t, call·eval-args.Post)
+call·eval-call-claims t = (eval·eval-below t, eval·eval.Post, find-reads.Asked, find-reads.Learnt, slots-reads.Asked, slots-reads.Learnt, call·invoke-below t, call·invoke.Post, call·eval-args-below t, call·eval-args.Post)
 
 abbrev call·invoke-claims : ℕ → call·invoke-lts.Claims
 call·invoke-claims t = (open-call-reads.Asked, open-call-reads.Learnt, call·run-right-below t, call·run-right.Post, call·run-left-below t, call·run-left.Post)
@@ -260,11 +260,17 @@ call·eval-call-find-requires t c κs = search fits.after-held
 call·eval-call-returns-3 : (t : ℕ) → call·eval-call-lts.Need-returns-3 (call·eval-call-claims t) (call·eval-call-at t) call·eval-call.Post
 call·eval-call-returns-3 t c = search calls.call-none
 
-call·eval-call-eval-args-requires : (t : ℕ) → call·eval-call-lts.Need-eval-args-requires (call·eval-call-claims t) (call·eval-call-at t) call·eval-call.Post
-call·eval-call-eval-args-requires t c κs = (search needs, fits.args-fit _ _ _ _ _ _ _ _ _ _ _ _ (c .before .before .before .before .before .before .before .before .before .before .before .eval .ensures) _ _ _ _ _ _ _ (c .before .before .before .before .before .before .before .before .before .before .before .before .before .before .before .pre .1) (c .before .before .before .before .before .before .before .before .before .before .before .before .before .if1 .left) (c .before .before .before .before .before .before .before .o .given .1) (c .before .before .before .before .find .ensures) (c .before .before .w .given .1))
+call·eval-call-invoke-requires : (t : ℕ) → call·eval-call-lts.Need-invoke-requires (call·eval-call-claims t) (call·eval-call-at t) call·eval-call.Post
+call·eval-call-invoke-requires t c κs = (search needs, fits.call-fit-none _ _ _ _ _ _ _ _ _ _ _ _ (c .before .before .before .before .before .before .before .before .before .before .before .before .before .eval .ensures) _ _ _ _ _ _ _ _ (c .before .before .before .before .before .before .before .before .before .before .before .before .before .before .before .before .before .pre .1) (c .before .before .before .before .before .before .before .before .before .before .before .before .before .before .before .if1 .left) (c .before .before .before .before .before .before .before .before .before .o .given .1) (c .before .before .before .before .before .before .find .ensures) (c .before .before .before .before .w .given .1) (c .before .before .if2 .taken) (c .before .slots .ensures))
 
 call·eval-call-returns-4 : (t : ℕ) → call·eval-call-lts.Need-returns-4 (call·eval-call-claims t) (call·eval-call-at t) call·eval-call.Post
-call·eval-call-returns-4 t c = search calls.call-is
+call·eval-call-returns-4 t c = calls.call-none-given _ _ _ _ _ _ _ _ _ _ _ _ _ _ (c .before .before .before .before .before .before .before .before .before .before .before .before .before .before .before .before .eval .ensures) _ _ _ (c .before .before .before .before .before .before .before .before .before .before .before .before .o .given .1) _ (c .before .before .before .before .before .before .before .before .before .find .ensures) _ (c .before .before .before .before .before .before .before .w .given .1) (c .before .before .before .before .before .before .before .before .before .before .before .before .before .before .before .before .before .before .before .before .pre .1) (c .before .before .before .before .before .if2 .taken) _ (c .before .before .before .before .slots .ensures) _ _ (c .before .before .invoke .ensures)
+
+call·eval-call-eval-args-requires : (t : ℕ) → call·eval-call-lts.Need-eval-args-requires (call·eval-call-claims t) (call·eval-call-at t) call·eval-call.Post
+call·eval-call-eval-args-requires t c κs = (search needs, fits.args-fit _ _ _ _ _ _ _ _ _ _ _ _ (c .before .before .before .before .before .before .before .before .before .before .before .before .eval .ensures) _ _ _ _ _ _ _ (c .before .before .before .before .before .before .before .before .before .before .before .before .before .before .before .before .pre .1) (c .before .before .before .before .before .before .before .before .before .before .before .before .before .before .if1 .left) (c .before .before .before .before .before .before .before .before .o .given .1) (c .before .before .before .before .before .find .ensures) (c .before .before .before .w .given .1))
+
+call·eval-call-returns-5 : (t : ℕ) → call·eval-call-lts.Need-returns-5 (call·eval-call-claims t) (call·eval-call-at t) call·eval-call.Post
+call·eval-call-returns-5 t c = search calls.call-is
 
 call·invoke-returns : (t : ℕ) → call·invoke-lts.Need-returns (call·invoke-claims t) (call·invoke-at t) call·invoke.Post
 call·invoke-returns t c = search calls.invoke-fuel
@@ -422,9 +428,13 @@ pub +call·eval-args+call·eval-call+call·invoke+call·run-left+call·run-right
     (λ c. search needs)
     (λ c. search needs)
     (call·eval-call-returns-3 t)
+    (λ c κs. search needs)
+    (call·eval-call-invoke-requires t)
+    (λ c. search needs)
+    (call·eval-call-returns-4 t)
     (call·eval-call-eval-args-requires t)
     (λ c. search needs)
-    (call·eval-call-returns-4 t))
+    (call·eval-call-returns-5 t))
     (λ t. call·invoke-lts.spec (call·invoke-claims t) (call·invoke-at t) call·invoke.Post
     (call·invoke-returns t)
     (λ c. search needs)

@@ -24,7 +24,7 @@ returns : tie.Need-returns Inv-loop μ-loop
 returns c = search laws.left-found
 
 loop-again : tie.Need-loop-again Inv-loop μ-loop
-loop-again c = (search needs, search laws.left-more)
+loop-again c = (search needs, laws.either (λ x. search laws.left-more) (λ y. search laws.left-name) (c .if1 .came))
 
 returns-2 : tie.Need-returns-2 Inv-loop μ-loop
 returns-2 c = search laws.left-none
@@ -36,6 +36,10 @@ open-call-spec =
     Inv-loop
     μ-loop
     loop-holds
+    (λ c. search needs)
+    (λ c. search needs)
+    (λ c. search needs)
+    (λ c. search needs)
     (λ c. search needs)
     same-call-requires
     (λ c. search needs)
