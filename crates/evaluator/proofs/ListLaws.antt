@@ -107,7 +107,7 @@ module _ (d : ℕ) (t : Table) (p : language.Frame) (os : List language.OpenCall
       going-on y (evalsIn d t p os es fuel1) (λ vs n″. value (g ∷ vs) n″) z
       ∙ going-on (value g fuel1) (evalIn d t p os e fuel) (λ v n′. evalsIn d t p os es n′ then λ vs n″. value (v ∷ vs) n″) q
 
-abbrev pub noValues : ℕ → ℕ → Listed
+abbrev noValues : ℕ → ℕ → Listed
 noValues at fuel = listed.Values Undetermined Undetermined Undetermined Undetermined at fuel
 
 none-given : (W : List ℕ) (d : ℕ) (t : Table) (p : language.Frame) (os : List language.OpenCall) (at fuel : ℕ) (es : Exprs) → count es ≡ 0
