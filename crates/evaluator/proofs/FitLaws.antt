@@ -68,9 +68,6 @@ module _ (W : List ℕ) (f : Frame) (tr : List ℕ) (top left d sp : ℕ) where
 
 -- ---- after an evaluation
 module _ (T W : List ℕ) (f : Frame) (tr : List ℕ) (top at left d sp fuel : ℕ) (W1 : List ℕ) (o : Out) (ev : Evaluates T W f tr top at left d sp fuel W1 o) where
-  pub after-room : Fits W f tr top (left + 1) d sp → 240 * sp + 240 ≤ length W1
-  after-room h = let r = h .room in omega (arith, h .long, ev .kept .same)
-
   pub after-held : (v : ValueRef) (at1 fuel1 : ℕ) → o ≡ Value v at1 fuel1 → Holds W1 v
   after-held v at1 fuel1 eo = given-older T W f tr top at left d sp fuel W1 o ev v at1 fuel1 eo .held
 

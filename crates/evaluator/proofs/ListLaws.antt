@@ -32,7 +32,7 @@ use Rattle.evaluator.specs.declared.state.Frame.{Frame}
 use Rattle.evaluator.specs.State.{Older, slotAt, PartsOlder, Kept, frameIn, traceIn}
 use Rattle.evaluator.specs.Answers.{stopOf, slotsOf, stoppedOf, frontOf, listIn, ListOlder, ListNext, ShowsAll, Finishes}
 use Rattle.evaluator.specs.Evaluation.{Tabled, ReadsAll, Reads, evalIn, evalsIn, ListFits, Evaluates, Fields, Lists, News}
-use Rattle.evaluator.proofs.Keeping.{kept-none, kept-then, kept-outside, value-kept, older-kept, older-up, frame-same, trace-same}
+use Rattle.evaluator.proofs.Keeping.{kept-none, kept-then, value-kept, older-kept, older-up, frame-same, trace-same}
 use Rattle.evaluator.proofs.Standing.{first-reads, others-read, also-end}
 use Rattle.evaluator.proofs.Given.{going-on, halted, given, given-next, given-older}
 

@@ -22,7 +22,6 @@ use Rattle.values.specs.Laying.{valuesFrom, PartsHeld}
 use Rattle.evaluator.specs.declared.state.Held.the-variants.{Is, Absent}
 use Rattle.evaluator.specs.declared.state.Frame.{Frame}
 use Rattle.evaluator.specs.declared.trace.OpenCall.{OpenCall}
-use Rattle.evaluator.specs.declared.met.Met.{Met}
 use Rattle.evaluator.specs.declared.met.Met.the-variants as met
 use Rattle.evaluator.specs.State.{slotAt, HeldOlder, heldIn, FrameHolds, frameIn, variableOf, refAt, callAt, callIn, CallHolds, CallsHold, traceIn, sameOf, metOf}
 

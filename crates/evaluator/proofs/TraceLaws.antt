@@ -26,9 +26,6 @@ module _ (C : List ℕ) (at : ℕ) where
   unfolding refAt refFrom
   ref-object low high e a b = rw (eq-eqb (getD C at 0) 0 e) (λ i. Object (a .same i + 256 * b .same i) (getD C (at + 3) 0))
 
-  pub block-fits : (low high : ℕ) → Wide (getD C (at + 1) 0) low → Wide (getD C (at + 2) 0) high → low + 256 * high < 65536
-  block-fits low high a b = omega (arith, a .small, b .small)
-
   module _ (no : getD C at 0 ≡ 0 → ⊥) where
     pub ref-mark : getD C at 0 ≡ 1 → Mark (getD C (at + 1) 0) ≡ refAt C at
     unfolding refAt refFrom

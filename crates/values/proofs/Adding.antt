@@ -1,15 +1,15 @@
 -- A new object after the objects ns, which are distinct: its parts are among them. If none of them is the new object, they are distinct with it.
-use Prim.Native.Nat.{ℕ, zero, suc, _+_, _≤_, _<_}
+use Prim.Native.Nat.{ℕ, zero, suc, _+_, _<_}
 use native.Mathlib.Omega.{arith}
 use native.Mathlib.Decide.{decLt}
 use mathlib.Core.Path.{_≡_, refl, sym, ap, ap₂, _∙_, subst}
-use mathlib.Core.List.{List, [], _∷_, _++_, map}
+use mathlib.Core.List.{List, [], _∷_, _++_}
 use mathlib.Core.Option.{Option, none, some, Option·none-ne-some}
-use lib.ListN.{length, getD, getElem?, length-map, length-append, List·getD-append, List·getD-eq-default}
+use lib.ListN.{length, getElem?, length-map, length-append, List·getD-append, List·getD-eq-default}
 use lib.Seq.{getD-append-add}
 use Rattle.cofj.specs.Partial.{_>>=_}
-use Rattle.cofj.specs.Values.{Ref, obj, mark, undet, Node, node, Graph, graph, rename, renameNode, nodeAt, refsAt, canon, make}
-use Rattle.cofj.specs.Unfolding.{object, child, follow, Same, InRange, Whole}
+use Rattle.cofj.specs.Values.{Ref, obj, mark, undet, Node, node, Graph, graph, renameNode, nodeAt, refsAt, canon, make}
+use Rattle.cofj.specs.Unfolding.{object, child, follow, Same, InRange}
 use Rattle.cofj.proofs.Trees.{renamed-same, same-cls, same-count, same-child, same-rename}
 use Rattle.cofj.proofs.Canon.{rename-id}
 use Rattle.cofj.proofs.Operations.{AllWhole}

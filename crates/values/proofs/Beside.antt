@@ -6,30 +6,29 @@ use mathlib.Core.Path.{_≡_, refl, sym, ap, ap₂, _∙_, subst}
 use mathlib.Core.Bool.{Bool, true, false, not, false≢true}
 use mathlib.Core.List.{List, [], _∷_, _++_, map}
 use mathlib.Core.Option.{some, Option·none-ne-some}
-use lib.ListN.{length, getD, set, take, drop, getElem?, length-map, length-set, length-take, length-append}
+use lib.ListN.{length, getD, set, take, getElem?, length-map, length-set, length-take}
 use lib.Seq.{getD-set-same, getD-set-other, getD-take, ext-getD, length-take-le}
 use lib.Dec.{eqb}
-use borrow.Author.Tests.{le-leb, lt-leb, eqb-true}
+use borrow.Author.Tests.{le-leb, eqb-true}
 use Rattle.cofj.specs.Values.{Ref, obj, mark, undet, Node, node, Graph, graph, nodeAt, refsAt, canon, make, eqNode, eqNats}
-use Rattle.cofj.specs.Unfolding.{InRange, Whole, follow}
+use Rattle.cofj.specs.Unfolding.{InRange, follow}
 use Rattle.cofj.proofs.Basics.{getD-map-lt, eqNode-true, eqNode-refl}
 use Rattle.cofj.proofs.Canon.{canon-length}
-use Rattle.cofj.proofs.Operations.{AllWhole}
 use Rattle.values.specs.declared.ValueRef.{ValueRef}
 use Rattle.values.specs.declared.ValueRef.the-variants.{Object, Mark, Undetermined}
 use Rattle.values.specs.declared.Slot.{Slot}
-use Rattle.values.specs.declared.Made.the-variants.{Value, TooLarge}
-use Rattle.values.specs.Layout.{refOf, nodeIn, nodesIn, Packed, part, Distinct, Block, Inside, objectsIn, graphAt, countIn, levelIn, valueOf, rawOf, Holds, HeldBy, Outside}
+use Rattle.values.specs.declared.Made.the-variants.{Value}
+use Rattle.values.specs.Layout.{refOf, nodeIn, nodesIn, Packed, part, Distinct, Block, Inside, objectsIn, graphAt, countIn, levelIn, valueOf, rawOf, Holds, HeldBy}
 use Rattle.values.specs.Numbers.{Levels}
 use Rattle.values.specs.Operations.{Gives, Copied}
 use Rattle.values.specs.Laying.{valuesFrom, rawsFrom, PartsHeld, MadeIs}
 use Rattle.values.specs.Adding.{roots, RootObject, Missed, Found, Appended, Added, isObject, In, Stands, partOf, Beside, Together, Leaves, First}
 use Rattle.values.proofs.Nodes.{length-nodes, at-nodes, more-nodes, nodes-same, node-same, packed-same, eq-node, ref-object, ref-undet, ref-mark}
 use Rattle.values.proofs.Walks.{four, four-at}
-use Rattle.values.proofs.Blocks.{size-in, inner-in}
+use Rattle.values.proofs.Blocks.{size-in}
 use Rattle.values.proofs.Selecting.{under}
 use Rattle.values.proofs.Lays.{fresh, fresh-class, fresh-count, fresh-spare, none-slot, raws-whole, made-raw}
-use Rattle.values.proofs.Adding.{more, size-more, at-new, inner-more, distinct-more, Fit, AllFit, roots-low, top, make-found, make-new}
+use Rattle.values.proofs.Adding.{more, inner-more, distinct-more, Fit, AllFit, roots-low, top, make-found, make-new}
 
 -- ---- the new object
 module _ (W : List ℕ) (r : ValueRef) where
@@ -361,10 +360,6 @@ module _ (W : List ℕ) (c : ℕ) (ps : List Slot) (n : ℕ) (T : List ℕ) (hel
     fits : AllFit (objectsIn W b) gs
     unfolding rawsFrom
     fits = all-fit W (objectsIn W b) n ps (λ i h. value-fit W b bk (partOf ps i) (held .part i h) (bs .each i h))
-
-    pub beside-count : getD W (240 * b + 192) 0 ≡ countIn W b
-    unfolding countIn
-    beside-count = refl
 
     module _ (k : ℕ) (fd : Found W b (getD W (240 * b + 192) 0) T k) where
       pub beside-found : k < getD W (240 * b + 192) 0 → (dst : ℕ) (W′ : List ℕ) (o : ValueRef) → Gives W dst W′ o (valueOf W (Object b k)) → MadeIs W (make c (valuesFrom W ps 0 n)) dst W′ (Value o)

@@ -1,17 +1,13 @@
 -- Laws of blocks: taken up, moved.
-use Prim.Native.Nat.{ℕ, zero, suc, _+_, _-_, _*_, _<_, _≤_}
+use Prim.Native.Nat.{ℕ, _+_, _*_, _<_, _≤_}
 use native.Mathlib.Omega.{arith}
 use mathlib.Core.Path.{_≡_, refl, sym, ap, ap₂, _∙_, subst}
-use mathlib.Core.Bool.{Bool, true, false, false≢true}
 use mathlib.Core.List.{List, [], _∷_, map}
 use mathlib.Core.Option.{some}
-use lib.Dec.{eqb}
 use lib.ListN.{length, getD, take, getElem?}
-use borrow.Author.Tests.{eq-eqb, ne-eqb, eqb-true, eqb-false}
-use Rattle.cofj.specs.Values.{Ref, obj, mark, undet, Node, node, Graph, graph, rename, renameNode, refsAt, colours, canon, eqRef, eqNode, eqNodes, eqGraph, eqNats, markOf, undetermined}
+use Rattle.cofj.specs.Values.{Ref, obj, undet, Node, Graph, graph, rename, renameNode, refsAt, colours, canon}
 use Rattle.cofj.specs.Unfolding.{InRange, Whole}
 use Rattle.cofj.specs.ReportForm.{upFrom}
-use Rattle.cofj.proofs.Basics.{true-both, eqRef-refl, eqNode-refl, eqNats-true}
 use Rattle.cofj.proofs.Canon.{node-id, canon-length}
 use Rattle.values.specs.Layout.{nodesIn, Block, Inside, objectsIn, graphAt, countIn}
 use Rattle.values.specs.Tables.{Filled, Lifted}

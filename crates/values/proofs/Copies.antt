@@ -1,28 +1,27 @@
 -- Laws of a block copied as it is, of a value brought down, and of objects in which a mark does not occur.
-use Prim.Native.Nat.{ℕ, zero, suc, _+_, _-_, _*_, _<_, _≤_}
+use Prim.Native.Nat.{ℕ, zero, suc, _+_, _*_, _<_, _≤_}
 use native.Mathlib.Omega.{arith}
 use native.Mathlib.Decide.{decLt, ℕ-discrete}
-use mathlib.Core.Path.{_≡_, refl, sym, ap, ap₂, _∙_, subst}
+use mathlib.Core.Path.{_≡_, refl, sym, ap, _∙_, subst}
 use mathlib.Core.Bool.{Bool, true, false}
 use mathlib.Core.Logic.{⊎-elim}
 use types.Run.{OneOf}
 use denote.Enum.Declared.{tagOf}
-use mathlib.Core.List.{List, [], _∷_, map}
+use mathlib.Core.List.{List, [], _∷_}
 use mathlib.Core.Option.{some, Option·none-ne-some}
 use lib.ListN.{length, getD, set, getElem?, length-set, List·getD-eq-default}
 use lib.Seq.{getD-set-same, getD-set-other}
 use borrow.Author.Tests.{ne-eqb, eqb-false}
-use Rattle.cofj.specs.Values.{Ref, obj, mark, undet, Node, node, Graph, graph, rename, refsAt, nodeAt, canon, bind}
+use Rattle.cofj.specs.Values.{Ref, obj, mark, undet, Node, node, graph, rename, refsAt, nodeAt, canon, bind}
 use Rattle.cofj.specs.Unfolding.{Whole}
-use Rattle.cofj.proofs.Canon.{rename-id}
 use Rattle.cofj.proofs.Operations.{boundNodes}
 use Rattle.values.specs.declared.ValueRef.{ValueRef}
 use Rattle.values.specs.declared.ValueRef.the-variants.{Object, Mark, Undetermined}
-use Rattle.values.specs.Layout.{refOf, codeOf, nodeIn, nodesIn, Packed, Distinct, Block, Inside, objectsIn, countIn, levelIn, valueOf, Holds, HeldBy, Low, Outside}
+use Rattle.values.specs.Layout.{codeOf, nodeIn, nodesIn, Packed, Distinct, Block, Inside, objectsIn, countIn, levelIn, valueOf, Holds, HeldBy, Low}
 use Rattle.values.specs.Operations.{Gives, Copying, Copied}
 use Rattle.values.proofs.ValueRef as RefT
 use Rattle.values.proofs.Nodes.{byteOf, packed-byte, packed-same, nodes-same, length-nodes, at-nodes}
-use Rattle.values.proofs.Turned.{changed, nodes-agree}
+use Rattle.values.proofs.Turned.{nodes-agree}
 use Rattle.values.proofs.Blocks.{nodes-id}
 use Rattle.values.proofs.Selecting.{unchanged}
 

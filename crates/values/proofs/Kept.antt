@@ -8,7 +8,7 @@ use lib.ListN.{length, getD}
 use Rattle.cofj.specs.Values.{Node, graph, obj, canon}
 use Rattle.values.specs.declared.ValueRef.{ValueRef}
 use Rattle.values.specs.declared.ValueRef.the-variants.{Object, Mark, Undetermined}
-use Rattle.values.specs.Layout.{Block, Inside, objectsIn, countIn, levelIn, valueOf, Holds, Outside}
+use Rattle.values.specs.Layout.{Block, objectsIn, countIn, levelIn, valueOf, Holds, Outside}
 use Rattle.values.proofs.Copies.{block-moves}
 
 -- a reference still stands for the value that it stood for

@@ -4,14 +4,12 @@ use native.Mathlib.Omega.{arith}
 use native.Mathlib.Decide.{decLt}
 use native.Mathlib.Numerals.{add-one}
 use mathlib.Core.Path.{_≡_, refl, sym, ap, ap₂, _∙_, subst}
-use mathlib.Core.Bool.{Bool, true, false, cond}
 use mathlib.Core.List.{List, [], _∷_, _++_, map}
-use mathlib.Core.Option.{Option, none, some, Option·none-ne-some}
-use lib.Dec.{leb}
+use mathlib.Core.Option.{some, Option·none-ne-some}
 use lib.ListN.{length, getD, set, take, drop, getElem?, length-map, length-set, length-take, length-drop, length-append, drop-of-length-le}
 use lib.Seq.{getD-set-same, getD-set-other, drop-cons, getD-take, ext-getD, length-take-le}
 use borrow.Author.Tests.{le-leb, lt-leb}
-use Rattle.cofj.specs.Values.{Ref, obj, mark, undet, Node, node, Graph, graph, rename, renameNode, refsAt, lay, make, canon, colours, markOf, undetermined}
+use Rattle.cofj.specs.Values.{Ref, obj, mark, undet, Node, node, Graph, graph, rename, renameNode, refsAt, lay, make, canon, colours}
 use Rattle.cofj.specs.Unfolding.{InRange, SameTree, Whole}
 use Rattle.cofj.proofs.Canon.{canon-same, canon-whole}
 use Rattle.cofj.proofs.Unique.{canon-canon}
@@ -23,10 +21,10 @@ use Rattle.values.specs.declared.Made.the-variants.{Value, TooLarge}
 use Rattle.values.specs.Layout.{refOf, nodeIn, nodesIn, Packed, Block, Inside, objectsIn, graphAt, countIn, valueOf, rawOf, Holds, HeldBy}
 use Rattle.values.specs.Tables.{Filled, Lifted}
 use Rattle.values.specs.Rounds.{Raw}
-use Rattle.values.specs.Numbers.{Ready, Placed, Has, graphIn}
+use Rattle.values.specs.Numbers.{Ready, Placed, graphIn}
 use Rattle.values.specs.Laying.{valuesFrom, rawsFrom, PartsHeld, LaidNodes, LaidOne, LaidAll, Built, MadeIs}
 use Rattle.values.proofs.Nodes.{length-nodes, nodes-same, packed-same, more-nodes, ref-object, ref-undet, ref-mark}
-use Rattle.values.proofs.Turned.{turnRef, changed, lifted-nodes, lifted-packed, turn-rename, nodes-agree}
+use Rattle.values.proofs.Turned.{turnRef, lifted-nodes, lifted-packed, turn-rename, nodes-agree}
 use Rattle.values.proofs.Walks.{four, four-at}
 use Rattle.values.proofs.Blocks.{inner-in, whole-at}
 use Rattle.values.proofs.Selecting.{under}

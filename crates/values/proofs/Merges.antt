@@ -6,12 +6,12 @@ use mathlib.Core.Path.{_≡_, refl, sym, ap, ap₂, _∙_, subst}
 use mathlib.Core.Bool.{Bool, true, false, not, cond, false≢true, true≢false}
 use lib.Dec.{leb, eqb}
 use mathlib.Core.List.{List, [], _∷_, map}
-use mathlib.Core.Option.{Option, none, some, Option·none-ne-some}
+use mathlib.Core.Option.{none, some, Option·none-ne-some}
 use lib.ListN.{length, getD, set, take, getElem?, replicate, length-set, length-take, length-replicate, getD-replicate, List·getD-eq-default}
 use lib.Seq.{getD-set-same, getD-set-other}
 use Rattle.cofj.specs.Partial.{_>>=_}
 use borrow.Author.Tests.{le-leb, eqb-false}
-use Rattle.cofj.specs.Values.{Ref, obj, mark, undet, Node, node, Graph, graph, nodeAt, refsAt, canon, make}
+use Rattle.cofj.specs.Values.{Ref, obj, mark, undet, Node, node, Graph, nodeAt, refsAt, canon, make}
 use Rattle.cofj.specs.Unfolding.{object, follow, Same, InRange, Whole}
 use Rattle.cofj.proofs.Trees.{Pointwise}
 use Rattle.cofj.proofs.Canon.{canon-length}
@@ -31,7 +31,7 @@ use Rattle.values.proofs.Nodes.{ref-object, ref-undet, ref-mark, byteOf
 use Rattle.values.proofs.Blocks.{size-in, inner-in, whole-at}
 use Rattle.values.proofs.Trees.{made-as}
 use Rattle.values.proofs.Walks.{four, four-at}
-use Rattle.values.proofs.Lays.{fresh, fresh-class, fresh-count, fresh-spare, none-slot, raws-whole, made-raw, parts-length}
+use Rattle.values.proofs.Lays.{fresh, fresh-class, fresh-count, fresh-spare, raws-whole, made-raw, parts-length}
 use Rattle.values.proofs.Copies.{block-moves}
 use Rattle.values.proofs.Selecting.{unchanged, under}
 use Rattle.values.proofs.Kept.{Kept, Elsewhere, kept}

@@ -1,14 +1,14 @@
 -- Laws of numbering the objects.
 use Prim.Native.Nat.{ℕ, zero, suc, _+_, _-_, _*_, _%_, _<_, _≤_}
 use native.Mathlib.Omega.{arith}
-use native.Mathlib.Decide.{decLt, ℕ-discrete}
+use native.Mathlib.Decide.{ℕ-discrete}
 use mathlib.Core.Path.{_≡_, refl, sym, ap, ap₂, _∙_, subst}
 use mathlib.Core.Bool.{Bool, true, false, cond, true≢false}
-use mathlib.Core.List.{List, [], _∷_, _++_, map}
+use mathlib.Core.List.{List, [], _∷_, _++_}
 use mathlib.Core.Option.{some}
 use lib.Dec.{eqb}
 use lib.ListN.{length, getD, set, take, getElem?, length-map, length-set}
-use lib.Seq.{getD-set-same, getD-set-other, length-take-le, getD-take, take-suc}
+use lib.Seq.{getD-set-same, getD-set-other, length-take-le, getD-take}
 use borrow.Author.Tests.{eq-eqb, ne-eqb}
 use Rattle.cofj.specs.Values.{Ref, obj, mark, undet, Node, node, Graph, graph, rename, renameNode, nodeAt, refsAt, colourOf, colours, isIn, placeIn, visit, visitAll, canon}
 use Rattle.cofj.specs.Unfolding.{InRange, Whole}
@@ -18,13 +18,12 @@ use Rattle.cofj.proofs.Walk.{order, order-length, order-kept, order-root, Cover
 use Rattle.cofj.proofs.Canon.{number, listed, canon-is, canon-whole, getD-isIn, placeIn-spec}
 use Rattle.cofj.proofs.Unique.{canon-canon}
 use Rattle.cofj.proofs.Numbering.{canonical-root}
-use Rattle.values.specs.Layout.{refOf, nodeIn, nodesIn, Packed, Distinct, Block, Inside, graphAt, objectsIn, countIn, levelIn, Outside}
+use Rattle.values.specs.Layout.{nodeIn, nodesIn, Packed, Distinct, Block, graphAt, objectsIn, countIn, levelIn}
 use Rattle.values.specs.Tables.{Filled, copied, Lifted}
-use Rattle.values.specs.Rounds.{Raw}
 use Rattle.values.specs.Walking.{walkRef, markIn, Listed}
-use Rattle.values.specs.Numbers.{numberIn, Gathered, Levels, Ready, Placed, Has, graphIn}
+use Rattle.values.specs.Numbers.{numberIn, Gathered, Levels, Ready, Placed, graphIn}
 use Rattle.values.proofs.Colouring.{value-distinct}
-use Rattle.values.proofs.Nodes.{at-nodes, length-nodes, nodes-same, ref-object}
+use Rattle.values.proofs.Nodes.{at-nodes, length-nodes, ref-object}
 use Rattle.values.proofs.Turned.{turnRef, changed, lifted-nodes, lifted-packed, turn-rename, node-agree}
 
 -- ---- gathering

@@ -3,18 +3,18 @@ use Prim.Native.Nat.{ℕ, zero, suc, _+_, _-_, _*_, _<_, _≤_}
 use native.Mathlib.Omega.{arith}
 use native.Mathlib.Decide.{decLt, ℕ-discrete}
 use mathlib.Core.Path.{_≡_, refl, sym, ap, ap₂, _∙_, subst}
-use mathlib.Core.Bool.{Bool, true, false, cond, false≢true, true≢false}
+use mathlib.Core.Bool.{Bool, true, false, false≢true, true≢false}
 use mathlib.Core.List.{List, [], _∷_}
-use mathlib.Core.Option.{Option, none, some}
-use lib.Dec.{eqb, ltb}
+use mathlib.Core.Option.{none, some}
+use lib.Dec.{eqb}
 use lib.ListN.{length, getD, set, take, getElem?, length-set}
 use lib.Seq.{getD-set-same, getD-set-other, getD-take, length-take-le}
 use borrow.Author.Tests.{lt-ltb, le-ltb, eq-eqb, ne-eqb, eqb-true}
 use Rattle.cofj.specs.Partial.{_>>=_}
-use Rattle.cofj.specs.Values.{Ref, obj, mark, undet, Node, node, Graph, graph, nodeAt, refsAt, colourOf, colours}
-use Rattle.cofj.specs.Unfolding.{object, opened, unknown, follow, Same, InRange, Whole}
+use Rattle.cofj.specs.Values.{Ref, obj, mark, undet, Node, graph, nodeAt, refsAt, colourOf, colours}
+use Rattle.cofj.specs.Unfolding.{object, opened, unknown, follow, Same, InRange}
 use Rattle.cofj.proofs.Trees.{Pointwise, same-cls, same-count, same-refs}
-use Rattle.values.specs.Layout.{refOf, codeOf, nodeIn, nodesIn, Packed}
+use Rattle.values.specs.Layout.{refOf, codeOf, nodeIn, nodesIn}
 use Rattle.values.specs.Tables.{Filled}
 use Rattle.values.specs.Rounds.{Raw}
 use Rattle.values.specs.Pairing.{maybe, mayMeet, meetsAt, AlikeSoFar, LookAlike, Pairs, Fine, RowFine, AllFine, SiftedPair, SiftedRow, Sifted, Settled, FirstPair, NoPair, PairColours, Coloured}

@@ -1,10 +1,9 @@
 -- Laws of the first place of an object.
-use Prim.Native.Nat.{ℕ, zero, suc, _+_, _-_, _*_, _<_, _≤_}
+use Prim.Native.Nat.{ℕ, suc, _+_, _-_, _*_, _<_, _≤_}
 use native.Mathlib.Omega.{arith}
-use mathlib.Core.Path.{_≡_, refl, sym, ap, _∙_}
+use mathlib.Core.Path.{_≡_, sym, ap, _∙_}
 use mathlib.Core.Bool.{Bool, true, false}
-use mathlib.Core.List.{List, [], _∷_}
-use lib.ListN.{length}
+use mathlib.Core.List.{List, _∷_}
 use Rattle.cofj.specs.Values.{placeOf, eqNode, eqNats}
 use Rattle.cofj.proofs.Basics.{eqNode-refl}
 use Rattle.values.specs.Layout.{nodeIn, nodesIn, part}

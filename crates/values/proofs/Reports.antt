@@ -4,17 +4,16 @@ use native.Mathlib.Omega.{arith}
 use native.Mathlib.Decide.{ℕ-discrete}
 use native.Mathlib.Numerals.{add-one}
 use mathlib.Core.Path.{_≡_, refl, sym, ap, ap₂, _∙_, subst}
-use mathlib.Core.Bool.{Bool, true, false}
 use mathlib.Core.Logic.{⊎-elim}
-use mathlib.Core.List.{List, [], _∷_, _++_, map, append-assoc, append-nil}
-use lib.ListN.{length, getD, set, take, drop, length-set, length-take, length-append, length-map, take-append-drop}
-use lib.Seq.{take-suc, take-suc-set, drop-set-lt, drop-cons, drop-drop, length-take-le, take-length, getD-take}
-use borrow.Author.Tests.{lt-ltb, le-ltb, le-leb, lt-leb, eqb-false}
+use mathlib.Core.List.{List, [], _∷_, _++_, append-assoc, append-nil}
+use lib.ListN.{length, getD, set, take, drop, length-set, length-take, length-map, take-append-drop}
+use lib.Seq.{take-suc, take-suc-set, drop-set-lt, drop-drop, length-take-le, take-length, getD-take}
+use borrow.Author.Tests.{le-leb, lt-leb, eqb-false}
 use types.Run.{OneOf}
 use denote.Enum.Declared.{tagOf}
-use Rattle.cofj.specs.Values.{Ref, obj, mark, undet, Node, node, Graph, nodeAt}
+use Rattle.cofj.specs.Values.{undet, Node, node, Graph, nodeAt}
 use Rattle.cofj.specs.Text.{char, hexLine, hexText}
-use Rattle.cofj.specs.Report.{refByte, objectLine, objectLines, valueLines, valueReport}
+use Rattle.cofj.specs.Report.{refByte, objectLine, objectLines}
 use Rattle.cofj.proofs.Basics.{getD-map-lt}
 use Rattle.values.specs.declared.ValueRef.{ValueRef}
 use Rattle.values.specs.declared.ValueRef.the-variants.{Object, Mark, Undetermined}
@@ -224,10 +223,6 @@ module _ (W : List ℕ) (b : ℕ) (bk : Block W b) where
         at-nodes W (240 * b) (countIn W b) j h,
       )
       (text-more (objectLines 0 (take j (nodesIn W (240 * b) (countIn W b)))) (objectLine j (nodeIn W (240 * b + 6 * j))))
-
-  pub lines-ask : (d₀ : List ℕ) (j : ℕ) (d : List ℕ) (t n : ℕ) → Listed W b d₀ j d t → 544 ≤ length d₀ → length d ≡ length d₀ → j < n → n ≡ countIn W b
-      → Packed W (240 * b + 6 * j) × (240 * b + 6 * j + 6 ≤ length W) × (t + 17 ≤ length d)
-  lines-ask d₀ j d t n f room same h en = (bk .packed j (omega arith), omega (arith, bk .small, bk .room), omega (arith, bk .small, f .top))
 
   pub lines-next : (d₀ : List ℕ) (j : ℕ) (d : List ℕ) (t : ℕ) (e : List ℕ) (t1 n : ℕ) → Listed W b d₀ j d t → 544 ≤ length d₀ → j < n → n ≡ countIn W b
       → Line (lineIn W (240 * b + 6 * j) j) d t e t1 → Listed W b d₀ (j + 1) e t1

@@ -1,22 +1,21 @@
 -- Laws of the rounds of colours.
-use Prim.Native.Nat.{ℕ, zero, suc, _+_, _-_, _*_, _<_, _≤_}
+use Prim.Native.Nat.{ℕ, suc, _+_, _-_, _*_, _<_, _≤_}
 use native.Mathlib.Nat.{mul-le-mul}
 use native.Mathlib.Omega.{arith}
-use mathlib.Core.Path.{_≡_, refl, sym, ap, ap₂, _∙_, subst}
+use mathlib.Core.Path.{_≡_, sym, ap, ap₂, _∙_, subst}
 use mathlib.Core.Bool.{Bool, true, false}
-use mathlib.Core.List.{List, [], _∷_, map}
+use mathlib.Core.List.{List, [], map}
 use mathlib.Core.Option.{some}
 use lib.ListN.{length, getD, take, getElem?, length-map, List·getD-map}
 use lib.Seq.{length-take-le, getD-take, ext-getD}
-use Rattle.cofj.specs.Values.{Ref, Node, node, rename, renameNode, nodeAt, refsAt, colourOf, placeOf, refine, refineTo, colours, eqNats, graph, undet}
-use Rattle.cofj.specs.Unfolding.{InRange, Whole}
-use Rattle.cofj.proofs.Basics.{eqNats-true}
+use Rattle.cofj.specs.Values.{Ref, Node, node, rename, renameNode, nodeAt, refsAt, colourOf, placeOf, refine, refineTo, colours, eqNats}
+use Rattle.cofj.specs.Unfolding.{InRange}
 use Rattle.cofj.proofs.Colours.{next-at, next-low, length-refine}
-use Rattle.values.specs.Layout.{nodeIn, nodesIn, Packed, part}
+use Rattle.values.specs.Layout.{nodeIn, nodesIn, part}
 use Rattle.values.specs.Tables.{Filled, Lifted}
 use Rattle.values.specs.Rounds.{Looks, placeIs, Raw, Below}
 use Rattle.values.proofs.Nodes.{length-nodes, at-nodes}
-use Rattle.values.proofs.Turned.{turnRef, changed, lifted-nodes, lifted-packed, turn-rename, nodes-agree}
+use Rattle.values.proofs.Turned.{turnRef, lifted-nodes, lifted-packed, turn-rename, nodes-agree}
 
 -- a table's front, by its items
 pub front-is : (A l : List ℕ) (n : ℕ) → length l ≡ n → n ≤ length A → ((i : ℕ) → i < n → getD A i 0 ≡ getD l i 0) → take n A ≡ l

@@ -1,16 +1,16 @@
 -- Laws of comparing runs of bytes, and of filling tables.
-use Prim.Native.Nat.{ℕ, zero, suc, _+_, _-_, _<_, _≤_}
+use Prim.Native.Nat.{ℕ, suc, _+_, _-_, _<_, _≤_}
 use native.Mathlib.Omega.{arith}
 use native.Mathlib.Decide.{ℕ-discrete}
-use mathlib.Core.Path.{_≡_, refl, sym, ap, _∙_}
-use mathlib.Core.Bool.{Bool, true, false, false≢true}
+use mathlib.Core.Path.{_≡_, refl, sym, _∙_}
+use mathlib.Core.Bool.{Bool, true, false}
 use mathlib.Core.List.{List, [], _∷_}
 use lib.Dec.{eqb}
-use lib.ListN.{length, getD, set, take, drop}
-use lib.Seq.{drop-cons, getD-set-same, getD-set-other, getD-take, getD-drop}
+use lib.ListN.{length, getD, set}
+use lib.Seq.{drop-cons, getD-set-same, getD-set-other}
 use borrow.Author.Tests.{eq-eqb, ne-eqb}
 use Rattle.cofj.specs.Values.{eqNats}
-use Rattle.cofj.proofs.Basics.{eqNats-true, true-both}
+use Rattle.cofj.proofs.Basics.{true-both}
 use Rattle.values.specs.Layout.{part}
 use Rattle.values.specs.Tables.{Filled}
 

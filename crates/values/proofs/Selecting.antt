@@ -2,24 +2,23 @@
 use Prim.Native.Nat.{ℕ, zero, suc, _+_, _-_, _*_, _<_, _≤_}
 use native.Mathlib.Omega.{arith}
 use native.Mathlib.Decide.{ℕ-discrete}
-use mathlib.Core.Path.{_≡_, refl, sym, ap, ap₂, _∙_, subst}
-use mathlib.Core.Bool.{Bool, true, false}
+use mathlib.Core.Path.{_≡_, refl, sym, ap, _∙_, subst}
 use mathlib.Core.Logic.{⊎-elim}
 use mathlib.Core.List.{List, [], _∷_}
-use mathlib.Core.Option.{Option, none, some}
+use mathlib.Core.Option.{none, some}
 use lib.ListN.{length, getD, take, getElem?, length-take}
 use lib.Seq.{getD-take}
 use borrow.Author.Tests.{eq-eqb, ne-eqb, eqb-false}
 use types.Run.{OneOf}
 use denote.Enum.Declared.{tagOf}
-use Rattle.cofj.specs.Values.{Ref, obj, mark, undet, Node, node, Graph, graph, nodeAt, refsAt, canon, canonBy, visit, select, selected, markOf, undetermined}
+use Rattle.cofj.specs.Values.{Ref, mark, undet, Node, graph, refsAt, canon, canonBy, visit, select, selected, markOf, undetermined}
 use Rattle.cofj.specs.Unfolding.{InRange, Whole}
 use Rattle.values.specs.declared.ValueRef.{ValueRef}
 use Rattle.values.specs.declared.ValueRef.the-variants.{Object, Mark, Undetermined}
 use Rattle.values.specs.declared.Selected.{Selected}
 use Rattle.values.specs.declared.Selected.the-variants.{Value, Stuck}
-use Rattle.values.specs.Layout.{refOf, nodeIn, objectsIn, graphAt, Inside, countIn, valueOf, Holds, HeldBy, Outside, Beneath}
-use Rattle.values.specs.Operations.{Chosen, Leaf, refIn, answerIn, AnswerHeld}
+use Rattle.values.specs.Layout.{refOf, nodeIn, objectsIn, graphAt, Inside, countIn, Holds, HeldBy, Outside, Beneath}
+use Rattle.values.specs.Operations.{Chosen, Leaf}
 use Rattle.values.proofs.ValueRef as RefT
 use Rattle.values.proofs.Nodes.{at-nodes, ref-object, ref-undet, ref-mark}
 use Rattle.values.proofs.Walks.{four, four-at}
@@ -76,9 +75,6 @@ module _ (W : List ℕ) (b i f : ℕ) (ob : Inside W b i) where
   whole = whole-at W b (ob .block) i (ob .low)
 
   module _ (hf : f < getD W (at + 1) 0) where
-    pub field-room : at + 2 + f < length W
-    field-room = omega (arith, at-room, count-four)
-
     field-at : getElem? (refsAt (objectsIn W b) i) f ≡ some (refOf (getD W (at + 2 + f) 0))
     field-at =
         let e6 : 6 * (40 * b + i) + 2 + f ≡ at + 2 + f = omega arith in

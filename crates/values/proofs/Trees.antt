@@ -1,5 +1,5 @@
 -- What graphs that unfold to the same tree give: the same field, the same X = u, the same new object.
-use Prim.Native.Nat.{ℕ, zero, suc, _<_}
+use Prim.Native.Nat.{ℕ, zero, suc}
 use native.Mathlib.Omega.{arith}
 use mathlib.Core.Path.{_≡_, refl, sym, ap, _∙_, subst}
 use mathlib.Core.Bool.{Bool, true, false}
@@ -9,7 +9,7 @@ use lib.Dec.{eqb}
 use lib.ListN.{length, getElem?}
 use Rattle.cofj.specs.Partial.{_>>=_}
 use Rattle.cofj.specs.Values.{Ref, obj, mark, undet, Node, Graph, graph, refsAt, canon, select, selected, bind, close, make}
-use Rattle.cofj.specs.Unfolding.{object, opened, unknown, labelAt, child, follow, Same, SameTree, InRange, Whole}
+use Rattle.cofj.specs.Unfolding.{object, opened, unknown, child, follow, Same, SameTree, InRange, Whole}
 use Rattle.cofj.proofs.Trees.{same-child}
 use Rattle.cofj.proofs.Canon.{number, canon-is, canon-same, canon-whole}
 use Rattle.cofj.proofs.Unique.{same-canon, canon-canon}

@@ -1,16 +1,16 @@
 -- Objects copied with their codes turned: what they then are.
-use Prim.Native.Nat.{ℕ, zero, suc, _+_, _-_, _*_, _%_, _<_, _≤_}
+use Prim.Native.Nat.{ℕ, zero, suc, _+_, _*_, _%_, _<_, _≤_}
 use native.Mathlib.Omega.{arith}
 use mathlib.Core.Path.{_≡_, refl, sym, ap, ap₂, _∙_}
 use mathlib.Core.List.{List, [], _∷_, map}
-use mathlib.Core.Option.{Option, none, some}
-use lib.ListN.{length, getD, take, getElem?}
-use Rattle.cofj.specs.Values.{Ref, obj, mark, undet, Node, node, rename, renameNode, refsAt, bind}
+use mathlib.Core.Option.{some}
+use lib.ListN.{getD, take, getElem?}
+use Rattle.cofj.specs.Values.{Ref, obj, mark, undet, Node, node, rename, refsAt}
 use Rattle.cofj.specs.Unfolding.{InRange}
 use Rattle.values.specs.Layout.{refOf, codeOf, nodeIn, nodesIn, Packed}
 use Rattle.values.specs.Tables.{turned, copied, Lifted}
 use Rattle.values.proofs.Nodes.{code-ref, ref-object, ref-undet, ref-mark, AllPacked}
-use Rattle.values.proofs.Lifts.{turn-object, turn-hot, turn-other, copy-turned}
+use Rattle.values.proofs.Lifts.{turn-object, turn-other, copy-turned}
 
 abbrev pub turnRef : List ℕ → ℕ → Ref → Ref
 turnRef T hot r = refOf (turned T hot (codeOf r))

@@ -7,12 +7,12 @@ use mathlib.Core.Path.{_≡_, refl, sym, ap, _∙_}
 use mathlib.Core.Bool.{Bool, true, false, cond, true≢false}
 use mathlib.Core.List.{List, [], _∷_, _++_}
 use lib.Dec.{eqb}
-use lib.ListN.{length, getD, set, take, drop, length-append, length-take, length-set, drop-of-length-le}
+use lib.ListN.{length, getD, set, take, length-append, length-take, length-set, drop-of-length-le}
 use lib.Seq.{drop-cons, getD-take, getD-set-same, getD-set-other, length-take-le, take-suc-set}
 use borrow.Author.Tests.{eq-eqb, ne-eqb}
-use Rattle.cofj.specs.Values.{Ref, obj, mark, undet, Node, node, nodeAt, refsAt, colourOf, isIn, placeIn, visit, visitAll}
+use Rattle.cofj.specs.Values.{Ref, obj, mark, undet, Node, refsAt, colourOf, isIn, placeIn, visit, visitAll}
 use Rattle.values.specs.Layout.{refOf, nodeIn, nodesIn}
-use Rattle.values.specs.Walking.{walkRef, walkFields, markIn, Listed, Room}
+use Rattle.values.specs.Walking.{walkRef, walkFields, markIn, Listed}
 use Rattle.values.specs.Tables.{Filled}
 use Rattle.values.proofs.Nodes.{ref-object, ref-undet, ref-mark, at-nodes}
 

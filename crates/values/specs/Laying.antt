@@ -1,13 +1,12 @@
 -- Values laid side by side below a new object.
-use Prim.Native.Nat.{ℕ, suc, _+_, _*_, _≤_, _<_}
+use Prim.Native.Nat.{ℕ, _+_, _*_, _≤_, _<_}
 use mathlib.Core.Path.{_≡_}
 use mathlib.Core.Bool.{cond}
 use mathlib.Core.List.{List, _∷_, map}
 use mathlib.Core.Option.{Option, none, some}
 use lib.Dec.{leb}
 use lib.ListN.{length, getD, take, drop}
-use Rattle.cofj.specs.Values.{Ref, undet, Node, node, Graph, rename, renameNode, lay}
-use Rattle.values.specs.declared.ValueRef.{ValueRef}
+use Rattle.cofj.specs.Values.{undet, Node, node, Graph, rename, renameNode, lay}
 use Rattle.values.specs.declared.ValueRef.the-variants.{Object}
 use Rattle.values.specs.declared.Slot.{Slot}
 use Rattle.values.specs.declared.Made.{Made}

@@ -52,7 +52,6 @@ use Rattle.evaluator.proofs.+call-eval_args+call-eval_call+call-invoke+
   close,
 }
 use borrow.Author.Needs.{needs}
-use native.Mathlib.Omega.{arith}
 use Prim.Native.Nat.{_+_, _*_}
 use Rattle.evaluator.proofs.EvalLaws as evals
 use Rattle.evaluator.proofs.ListLaws as parts

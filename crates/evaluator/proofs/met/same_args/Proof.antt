@@ -4,7 +4,6 @@ use Rattle.evaluator.proofs.met.same_args.Reads as reads
 use Rattle.evaluator.proofs.met.same_args.Lts as lts
 use Rattle.values.proofs.lockstep.equal.Reads as equal-reads
 use borrow.Author.Needs.{needs}
-use mathlib.Core.Path.{_≡_}
 use Prim.Native.Nat.{_≤_, _-_}
 use Rattle.evaluator.proofs.StateLaws as laws
 use Rattle.evaluator.proofs.StateLaws.{Comparing}

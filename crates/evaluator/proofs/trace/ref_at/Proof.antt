@@ -4,7 +4,6 @@ use Rattle.evaluator.proofs.trace.ref_at.Tie as tie
 use Rattle.evaluator.proofs.trace.ref_at.Reads as reads
 use Rattle.evaluator.proofs.trace.ref_at.Lts as lts
 use Rattle.classes.proofs.places.wide.Reads as wide-reads
-use native.Mathlib.Omega.{arith}
 use Rattle.evaluator.proofs.TraceLaws as laws
 
 returns : tie.Need-returns

@@ -2,7 +2,6 @@ use Rattle.values.proofs.bind.bind_code.Statement.{statement}
 use Rattle.values.proofs.bind.bind_code.Tie as tie
 use Rattle.values.proofs.bind.bind_code.Reads as reads
 use Rattle.values.proofs.bind.bind_code.Lts as lts
-use borrow.Author.Needs.{needs}
 use Rattle.values.proofs.Bindings as laws
 
 returns : tie.Need-returns

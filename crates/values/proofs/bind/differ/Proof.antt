@@ -5,7 +5,6 @@ use Rattle.values.proofs.bind.differ.Lts as lts
 use Rattle.values.proofs.bind.like.Reads as like-reads
 use Rattle.values.proofs.bind.other_field.Reads as other-field-reads
 use borrow.Author.Needs.{needs}
-use native.Mathlib.Omega.{arith}
 use Rattle.values.specs.Binding.{Leads}
 use Rattle.values.proofs.Bindings as laws
 

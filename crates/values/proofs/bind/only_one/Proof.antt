@@ -4,7 +4,6 @@ use Rattle.values.proofs.bind.only_one.Reads as reads
 use Rattle.values.proofs.bind.only_one.Lts as lts
 use Rattle.values.proofs.bind.other_than.Reads as other-than-reads
 use borrow.Author.Needs.{needs}
-use mathlib.Core.Path.{_≡_}
 use Prim.Native.Nat.{_≤_, _-_}
 use Rattle.values.specs.Binding.{OnlyOne}
 use Rattle.values.proofs.Bindings as laws

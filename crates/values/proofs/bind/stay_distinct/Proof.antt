@@ -1,4 +1,3 @@
-use borrow.Author.Needs.{needs}
 use Rattle.values.proofs.bind.stay_distinct.Statement.{statement}
 use Rattle.values.proofs.bind.stay_distinct.Tie as tie
 use Rattle.values.proofs.bind.stay_distinct.Reads as reads

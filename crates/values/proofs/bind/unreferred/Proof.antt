@@ -4,7 +4,6 @@ use Rattle.values.proofs.bind.unreferred.Reads as reads
 use Rattle.values.proofs.bind.unreferred.Lts as lts
 use Rattle.values.proofs.bind.refers.Reads as refers-reads
 use borrow.Author.Needs.{needs}
-use mathlib.Core.Path.{_≡_}
 use Prim.Native.Nat.{_≤_, _-_}
 use Rattle.values.specs.Binding.{Unreferred}
 use Rattle.values.proofs.Bindings as laws

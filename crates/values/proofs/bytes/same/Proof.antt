@@ -5,7 +5,6 @@ use Rattle.values.proofs.bytes.same.Lts as lts
 use borrow.Author.Needs.{needs}
 use mathlib.Core.Path.{_≡_}
 use Prim.Native.Nat.{_≤_, _-_, _+_}
-use native.Mathlib.Omega.{arith}
 use Rattle.cofj.specs.Values.{eqNats}
 use Rattle.values.specs.Layout.{part}
 use Rattle.values.proofs.Runs as laws

@@ -6,7 +6,6 @@ use Rattle.values.proofs.bytes.same.Reads as same-reads
 use borrow.Author.Needs.{needs}
 use mathlib.Core.Path.{_≡_}
 use Prim.Native.Nat.{_≤_, _-_, _+_, _*_}
-use native.Mathlib.Omega.{arith}
 use Rattle.cofj.specs.Values.{placeOf}
 use Rattle.values.specs.Layout.{nodeIn, nodesIn}
 use Rattle.values.specs.Rounds.{placeIs}

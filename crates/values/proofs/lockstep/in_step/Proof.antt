@@ -6,7 +6,7 @@ use Rattle.values.proofs.lockstep.step_object.Reads as step-object-read
 use borrow.Author.Needs.{needs}
 use native.Mathlib.Omega.{arith}
 use mathlib.Core.Path.{_≡_}
-use Prim.Native.Nat.{_≤_, _-_, _+_}
+use Prim.Native.Nat.{_≤_, _-_}
 use lib.ListN.{length}
 use Rattle.values.specs.Stepping.{PairsSoFar}
 use Rattle.values.proofs.Steps as laws

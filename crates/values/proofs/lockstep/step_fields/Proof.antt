@@ -5,7 +5,7 @@ use Rattle.values.proofs.lockstep.step_fields.Lts as lts
 use Rattle.values.proofs.lockstep.step_code.Reads as step-code-reads
 use borrow.Author.Needs.{needs}
 use mathlib.Core.Path.{_≡_}
-use Prim.Native.Nat.{_≤_, _-_, _+_}
+use Prim.Native.Nat.{_≤_, _-_}
 use lib.ListN.{length}
 use Rattle.values.specs.Stepping.{FieldsSoFar}
 use Rattle.values.proofs.Steps as laws

@@ -4,9 +4,7 @@ use Rattle.values.proofs.make.first_object.Reads as reads
 use Rattle.values.proofs.make.first_object.Lts as lts
 use Rattle.values.proofs.make.is_object.Reads as is-object-reads
 use borrow.Author.Needs.{needs}
-use mathlib.Core.Path.{_≡_}
 use Prim.Native.Nat.{_≤_, _-_}
-use native.Mathlib.Omega.{arith}
 use Rattle.values.specs.Adding.{Leaves}
 use Rattle.values.proofs.Beside as laws
 

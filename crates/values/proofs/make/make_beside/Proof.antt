@@ -8,8 +8,6 @@ use Rattle.values.proofs.over.add.Reads as add-reads
 use Rattle.values.proofs.over.find.Reads as find-reads
 use Rattle.values.proofs.over.root_object.Reads as root-object-reads
 use Rattle.values.proofs.value.bring.Reads as bring-reads
-use mathlib.Core.Path.{refl}
-use native.Mathlib.Omega.{arith}
 use Rattle.values.specs.Layout.{countIn}
 use Rattle.values.proofs.Beside as laws
 use Rattle.values.proofs.Copies as copies

@@ -4,7 +4,6 @@ use Rattle.values.proofs.make.together.Reads as reads
 use Rattle.values.proofs.make.together.Lts as lts
 use Rattle.values.proofs.make.stands.Reads as stands-reads
 use borrow.Author.Needs.{needs}
-use mathlib.Core.Path.{_≡_}
 use Prim.Native.Nat.{_≤_, _-_}
 use Rattle.values.specs.Adding.{Beside}
 use Rattle.values.proofs.Beside as laws

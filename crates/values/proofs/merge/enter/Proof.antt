@@ -6,7 +6,6 @@ use Rattle.values.proofs.merge.enter.Lts as lts
 use Rattle.values.proofs.over.append.Reads as append-reads
 use Rattle.values.proofs.over.find.Reads as find-reads
 use Rattle.values.proofs.over.level_with.Reads as level-with-reads
-use native.Mathlib.Omega.{arith}
 use Rattle.values.proofs.Merges as laws
 
 find-requires : tie.Need-find-requires

@@ -5,8 +5,6 @@ use Rattle.values.proofs.merge.take_object.Lts as lts
 use borrow.Author.Needs.{needs}
 use native.Mathlib.Omega.{arith}
 use Prim.Native.Nat.{_≤_, _-_}
-use lib.ListN.{length, length-set}
-use mathlib.Core.Path.{_≡_}
 use Rattle.values.specs.Merging.{ObjectBytes}
 use Rattle.values.proofs.Merges as laws
 

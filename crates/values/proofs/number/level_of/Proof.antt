@@ -4,7 +4,6 @@ use Rattle.values.proofs.number.level_of.Reads as reads
 use Rattle.values.proofs.number.level_of.Lts as lts
 use Rattle.values.proofs.number.raise_level.Reads as raise-level-reads
 use borrow.Author.Needs.{needs}
-use mathlib.Core.Path.{_≡_}
 use Prim.Native.Nat.{_≤_, _-_}
 use Rattle.values.specs.Numbers.{Levels}
 use Rattle.values.proofs.Numbers as laws

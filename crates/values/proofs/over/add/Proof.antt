@@ -6,7 +6,6 @@ use Rattle.values.proofs.over.add.Lts as lts
 use Rattle.values.proofs.over.append.Reads as append-reads
 use Rattle.values.proofs.over.level_with.Reads as level-with-reads
 use Rattle.values.proofs.value.copy_block.Reads as copy-block-reads
-use mathlib.Core.Path.{refl}
 use native.Mathlib.Omega.{arith}
 use Rattle.values.specs.Layout.{countIn}
 use Rattle.values.proofs.Beside as laws

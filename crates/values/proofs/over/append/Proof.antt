@@ -3,10 +3,10 @@ use Rattle.values.proofs.over.append.Tie as tie
 use Rattle.values.proofs.over.append.Reads as reads
 use Rattle.values.proofs.over.append.Lts as lts
 use borrow.Author.Needs.{needs}
-use mathlib.Core.Path.{_≡_, refl}
+use mathlib.Core.Path.{_≡_}
 use native.Mathlib.Omega.{arith}
 use Prim.Native.Nat.{_≤_, _-_, _*_, _+_}
-use lib.ListN.{length, length-set, getD}
+use lib.ListN.{length, length-set}
 use Rattle.values.proofs.Beside as laws
 use Rattle.values.proofs.Beside.{Appending}
 

@@ -4,10 +4,7 @@ use Rattle.values.proofs.over.find.Reads as reads
 use Rattle.values.proofs.over.find.Lts as lts
 use Rattle.values.proofs.bytes.same.Reads as same-reads
 use borrow.Author.Needs.{needs}
-use mathlib.Core.Path.{_≡_}
 use Prim.Native.Nat.{_≤_, _-_}
-use native.Mathlib.Omega.{arith}
-use Rattle.values.specs.Layout.{countIn}
 use Rattle.values.specs.Adding.{Missed}
 use Rattle.values.proofs.Beside as laws
 

@@ -4,9 +4,7 @@ use Rattle.values.proofs.over.level_with.Reads as reads
 use Rattle.values.proofs.over.level_with.Lts as lts
 use Rattle.values.proofs.number.raise_level.Reads as raise-level-reads
 use borrow.Author.Needs.{needs}
-use mathlib.Core.Path.{_≡_}
 use Prim.Native.Nat.{_≤_, _-_}
-use native.Mathlib.Omega.{arith}
 use Rattle.values.specs.Numbers.{Levels}
 use Rattle.values.proofs.Numbers as laws
 

@@ -3,9 +3,7 @@ use Rattle.values.proofs.pairs.first_pair.Tie as tie
 use Rattle.values.proofs.pairs.first_pair.Reads as reads
 use Rattle.values.proofs.pairs.first_pair.Lts as lts
 use borrow.Author.Needs.{needs}
-use mathlib.Core.Path.{_≡_}
 use Prim.Native.Nat.{_≤_, _-_}
-use native.Mathlib.Omega.{arith}
 use Rattle.values.specs.Pairing.{NoPair}
 use Rattle.values.proofs.Pairings as laws
 

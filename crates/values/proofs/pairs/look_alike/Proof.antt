@@ -4,9 +4,7 @@ use Rattle.values.proofs.pairs.look_alike.Reads as reads
 use Rattle.values.proofs.pairs.look_alike.Lts as lts
 use Rattle.values.proofs.pairs.meets.Reads as meets-reads
 use borrow.Author.Needs.{needs}
-use mathlib.Core.Path.{_≡_}
 use Prim.Native.Nat.{_≤_, _-_}
-use native.Mathlib.Omega.{arith}
 use Rattle.values.specs.Pairing.{AlikeSoFar}
 use Rattle.values.proofs.Pairings as laws
 

@@ -6,8 +6,6 @@ use Rattle.values.proofs.bytes.wipe.Reads as wipe-reads
 use Rattle.values.proofs.pairs.sift.Reads as sift-reads
 use borrow.Author.Needs.{needs}
 use mathlib.Core.Path.{_≡_}
-use Prim.Native.Nat.{_≤_, _-_}
-use native.Mathlib.Omega.{arith}
 use lib.ListN.{length}
 use Rattle.values.specs.Pairing.{Pairs}
 use Rattle.values.proofs.Pairings as laws

@@ -5,8 +5,7 @@ use Rattle.values.proofs.pairs.sift.Lts as lts
 use Rattle.values.proofs.pairs.sift_row.Reads as sift-row-reads
 use borrow.Author.Needs.{needs}
 use mathlib.Core.Path.{_≡_}
-use Prim.Native.Nat.{_≤_, _-_}
-use native.Mathlib.Omega.{arith}
+use Prim.Native.Nat.{_≤_}
 use lib.ListN.{length}
 use Rattle.values.specs.Pairing.{Sifted}
 use Rattle.values.proofs.Pairings as laws

@@ -4,8 +4,6 @@ use Rattle.values.proofs.pairs.sift_pair.Tie as tie
 use Rattle.values.proofs.pairs.sift_pair.Reads as reads
 use Rattle.values.proofs.pairs.sift_pair.Lts as lts
 use Rattle.values.proofs.pairs.look_alike.Reads as look-alike-reads
-use native.Mathlib.Omega.{arith}
-use lib.ListN.{length-set}
 use Rattle.values.proofs.Pairings as laws
 
 returns : tie.Need-returns

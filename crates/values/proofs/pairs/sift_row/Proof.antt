@@ -6,7 +6,6 @@ use Rattle.values.proofs.pairs.sift_pair.Reads as sift-pair-reads
 use borrow.Author.Needs.{needs}
 use mathlib.Core.Path.{_≡_}
 use Prim.Native.Nat.{_≤_, _-_}
-use native.Mathlib.Omega.{arith}
 use lib.ListN.{length}
 use Rattle.values.specs.Pairing.{SiftedRow}
 use Rattle.values.proofs.Pairings as laws

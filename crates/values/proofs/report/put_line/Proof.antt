@@ -7,8 +7,7 @@ use Rattle.values.proofs.report.put_byte.Reads as put-byte-reads
 use borrow.Author.Needs.{needs}
 use mathlib.Core.Path.{_≡_}
 use Prim.Native.Nat.{_≤_, _-_, _+_}
-use native.Mathlib.Omega.{arith}
-use lib.ListN.{length, getD, length-set}
+use lib.ListN.{length, getD}
 use Rattle.values.specs.Reporting.{lineIn}
 use Rattle.values.proofs.Reports as laws
 use Rattle.values.proofs.Reports.{Begun}

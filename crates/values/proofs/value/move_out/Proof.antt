@@ -5,7 +5,6 @@ use Rattle.values.proofs.value.move_out.Reads as reads
 use Rattle.values.proofs.value.move_out.Lts as lts
 use Rattle.values.proofs.number.put.Reads as put-reads
 use Rattle.values.proofs.value.take_up.Reads as take-up-reads
-use native.Mathlib.Omega.{arith}
 use Rattle.values.proofs.Blocks as laws
 
 put-requires : tie.Need-put-requires
