@@ -28,14 +28,11 @@ use Rattle.values.specs.Laying.{valuesFrom}
 use Rattle.evaluator.specs.declared.Stop.{Stop}
 use Rattle.evaluator.specs.declared.Out.{Out}
 use Rattle.evaluator.specs.declared.Out.the-variants.{Value, Halt}
-use Rattle.evaluator.specs.declared.state.Held.the-variants.{Is, Absent}
-use Rattle.evaluator.specs.declared.state.Frame.{Frame}
-use Rattle.evaluator.specs.State.{Kept, callAt, callIn, frameIn, traceIn, Pushed}
+use Rattle.evaluator.specs.State.{Is, Absent, Frame, Kept, callAt, callIn, frameIn, traceIn}
 use Rattle.evaluator.specs.Answers.{stopOf}
 use Rattle.evaluator.specs.Evaluation.{Tabled, Reads, evalIn, deeper, Evaluates}
 use Rattle.evaluator.specs.Calling.{BodyFits, RunsRight, RunsLeft}
 use Rattle.evaluator.proofs.Keeping.{kept-none, kept-then, kept-outside}
-use Rattle.evaluator.proofs.TraceLaws.{same-call}
 use Rattle.evaluator.proofs.Given.{going-on, halted, given}
 
 -- evaluation with room for d more calls is the language's
@@ -50,19 +47,24 @@ unfolding traceIn
 trace-length W tr zero = refl
 trace-length W tr (suc n) = ap suc (trace-length W tr n)
 
-trace-below : (W tr C : List ℕ) (k : ℕ) → ((i : ℕ) → i < k → callAt C i ≡ callAt tr i) → traceIn W C k ≡ traceIn W tr k
+pub trace-below : (W tr C : List ℕ) (k : ℕ) → ((i : ℕ) → i < k → callAt C i ≡ callAt tr i) → traceIn W C k ≡ traceIn W tr k
 unfolding traceIn
 trace-below W tr C zero h = refl
 trace-below W tr C (suc k) h =
     ap₂ {A = language.OpenCall} {B = List language.OpenCall} {C = List language.OpenCall} _∷_ (ap (callIn W k) (h k (omega arith))) (trace-below W tr C k (λ i l. h i (omega arith)))
 
-push-in : (W tr : List ℕ) (top : ℕ) (v : ValueRef) (m : ℕ) (ps : List Slot) (n : ℕ) (C : List ℕ) → n ≤ length ps → n ≤ 4 → Pushed tr top v m ps n C
+-- the first k calls are those of S, and call k is this one
+pub record Pushed (S : List ℕ) (k : ℕ) (v : ValueRef) (m : ℕ) (ps : List Slot) (n : ℕ) (S′ : List ℕ) : Type 0 where
+  pub older : (i : ℕ) → i < k → callAt S′ i ≡ callAt S i
+  pub newest : callAt S′ k ≡ record { receiver = v; name = m; args = ps; n = n }
+
+push-in : (W tr : List ℕ) (top : ℕ) (v : ValueRef) (m : ℕ) (ps : List Slot) (n : ℕ) (C : List ℕ) → Pushed tr top v m ps n C
     → traceIn W C (top + 1) ≡ opened (traceIn W tr top) (valueOf W v) m (valuesFrom W ps 0 n)
 unfolding traceIn
-push-in W tr top v m ps n C full few p =
+push-in W tr top v m ps n C p =
     ap (traceIn W C) (add-one top)
     ∙ ap₂ {A = language.OpenCall} {B = List language.OpenCall} {C = List language.OpenCall} _∷_
-    (same-call W (callAt C top) v m ps n few (p .newest) top full
+    (ap (callIn W top) (p .newest)
     ∙ ap {B = language.OpenCall} (λ (x : ℕ). record { receiver = valueOf W v; name = m; args = valuesFrom W ps 0 n; label = x }) (sym (trace-length W tr top)))
     (trace-below W tr C top (p .older))
 
@@ -137,7 +139,7 @@ module _ (T W tr : List ℕ) (top : ℕ) (v : ValueRef) (ps : List Slot) (n i ne
   kept-left = kept-then sp (sp + 4) W W W1 (omega arith) (kept-none sp W) (ev .kept)
 
   trace-is : traceIn W tr1 (top + 1) ≡ opened (traceIn W tr top) (valueOf W v) m (valuesFrom W ps 0 n)
-  trace-is = push-in W tr top v m ps n tr1 (fit .args .full) (let l = fit .few in omega arith) pu
+  trace-is = push-in W tr top v m ps n tr1 pu
 
   left-runs : (t : Table) (e : Expr) → evalIn d t (frameIn W (leftFrame v ps n)) (traceIn W tr1 (top + 1)) e fuel
       ≡ evalTo 32 d t (frameOf (valueOf W v) none (valuesFrom W ps 0 n)) (opened (traceIn W tr top) (valueOf W v) m (valuesFrom W ps 0 n)) e fuel

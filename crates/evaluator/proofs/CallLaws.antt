@@ -3,7 +3,7 @@ use Prim.Native.Nat.{ℕ, zero, suc, _+_, _-_, _<_}
 use native.Mathlib.Omega.{arith}
 use native.Mathlib.Numerals.{sub-one}
 use mathlib.Core.Path.{_≡_, refl, sym, ap, _∙_, subst}
-use mathlib.Core.List.{List}
+use mathlib.Core.List.{List, []}
 use mathlib.Core.Option.{Option, none, some}
 use lib.ListN.{length, getElem?}
 use Rattle.cofj.specs.Syntax.{Expr, call, Exprs, count, Method, Table}
@@ -23,13 +23,8 @@ use Rattle.evaluator.specs.declared.Stop.{Stop}
 use Rattle.evaluator.specs.declared.Stop.the-variants.{Stuck, NoFuel, TooDeep}
 use Rattle.evaluator.specs.declared.Out.{Out}
 use Rattle.evaluator.specs.declared.Out.the-variants.{Value, Halt}
-use Rattle.evaluator.specs.declared.parts.Listed.{Listed}
-use Rattle.evaluator.specs.declared.parts.Listed.the-variants as listed
-use Rattle.evaluator.specs.declared.met.Met.{Met}
-use Rattle.evaluator.specs.declared.met.Met.the-variants as met
-use Rattle.evaluator.specs.declared.state.Frame.{Frame}
-use Rattle.evaluator.specs.State.{Kept, frameIn, traceIn, metOf}
-use Rattle.evaluator.specs.Answers.{stopOf, slotsOf, haltOf, Shows}
+use Rattle.evaluator.specs.State.{Frame, Kept, frameIn, traceIn, metOf}
+use Rattle.evaluator.specs.Answers.{Listed, Values, Stops, stopOf, slotsOf, haltOf, Shows}
 use Rattle.evaluator.specs.Evaluation.{Reads, ReadsAll, evalIn, evalsIn, deeper, Fits, Evaluates, Lists}
 use Rattle.evaluator.specs.Calling.{ArgsFit, FindsTarget, Calls, CallsWith, Invokes, RunsRight, RunsLeft}
 use Rattle.evaluator.proofs.Keeping.{kept-none, kept-then, value-kept, frame-same, trace-same}
@@ -124,7 +119,7 @@ module _ (T W : List ℕ) (f : Frame) (tr : List ℕ) (top at left d sp fuel : �
   kept-args : Kept sp W W1
   kept-args = kept-then sp (sp + 1) W W W1 (omega arith) (kept-none sp W) (li .kept)
 
-  pub args-halt : (s : Stop) (fuel1 : ℕ) (o : Out) → l ≡ listed.Halt s fuel1 → o ≡ haltOf l → CallsWith T W f tr top at left d sp fuel v m n i W1 o
+  pub args-halt : (s : Stop) (fuel1 : ℕ) (o : Out) → l ≡ Stops s fuel1 → o ≡ haltOf l → CallsWith T W f tr top at left d sp fuel v m n i W1 o
   args-halt s fuel1 o el eo = subst (CallsWith T W f tr top at left d sp fuel v m n i W1) (sym (eo ∙ ap haltOf el)) (record {
     kept = kept-args;
     older = tt;
@@ -135,8 +130,8 @@ module _ (T W : List ℕ) (f : Frame) (tr : List ℕ) (top at left d sp fuel : �
     };
   })
 
-  pub args-is : (a b c e : ValueRef) (at1 fuel1 : ℕ) (ps : List Slot) (W2 : List ℕ) (o : Out) → l ≡ listed.Values a b c e at1 fuel1 → ps ≡ slotsOf a b c e
-      → Invokes T W1 tr top v ps n i at1 d sp fuel1 m W2 o → CallsWith T W f tr top at left d sp fuel v m n i W2 o
+  pub args-is : (a b c e : ValueRef) (at1 fuel1 : ℕ) (ps : List Slot) (W2 : List ℕ) (o : Out) → l ≡ Values a b c e at1 fuel1
+      → valuesFrom W1 ps 0 n ≡ valuesFrom W1 (slotsOf a b c e) 0 n → Invokes T W1 tr top v ps n i at1 d sp fuel1 m W2 o → CallsWith T W f tr top at left d sp fuel v m n i W2 o
   args-is a b c e at1 fuel1 ps W2 o el ep inv = record { kept = kept-then sp sp W W1 W2 (omega arith) kept-args (inv .kept); older = inv .older; is = shows }
     where
       shows : (t : Table) (es : Exprs) (k : Method) → ReadsAll T left at t es → count es ≡ n → getElem? (t .methods) i ≡ some k
@@ -146,7 +141,7 @@ module _ (T W : List ℕ) (f : Frame) (tr : List ℕ) (top at left d sp fuel : �
           let et = trace-same W W1 sp kept-args tr top (fit .fits .trace) in
           let eg = value-kept W W1 (sp + 1) (li .kept) v (fit .receiver) in
           let same : invoke (deeper d t) (traceIn W1 tr top) (valueOf W1 v) m (valuesFrom W1 ps 0 n) k fuel1 ≡ invoke (deeper d t) (traceIn W tr top) (valueOf W v) m (valuesFrom W1 (slotsOf a b c e) 0 n) k fuel1
-          = (λ j. invoke (deeper d t) (et j) (eg j) m (valuesFrom W1 (ep j) 0 n) k fuel1) in
+          = (λ j. invoke (deeper d t) (et j) (eg j) m (ep j) k fuel1) in
           subst (λ (p : ℕ). Shows W2 o p (evalsIn d t (frameIn W f) (traceIn W tr top) es fuel then λ vs n′. invoke (deeper d t) (traceIn W tr top) (valueOf W v) m vs k n′))
           (all-next T W f tr top at left d (sp + 1) fuel n W1 l li a b c e at1 fuel1 el t es rs q)
           (record {
@@ -156,43 +151,34 @@ module _ (T W : List ℕ) (f : Frame) (tr : List ℕ) (top at left d sp fuel : �
           })
 
 -- ---- no arguments
-abbrev noSlots : List Slot
-noSlots = slotsOf Undetermined Undetermined Undetermined Undetermined
+values-none : (W : List ℕ) (ps : List Slot) (n : ℕ) → n ≡ 0 → valuesFrom W ps 0 n ≡ []
+unfolding valuesFrom
+values-none W ps n z = rw z
 
-args-none : (T W : List ℕ) (f : Frame) (tr : List ℕ) (top at left d sp fuel : ℕ) (v : ValueRef) (m n i : ℕ) → n ≡ 0 → (ps : List Slot) (W2 : List ℕ) (o : Out) → ps ≡ noSlots
+pub args-none : (T W : List ℕ) (f : Frame) (tr : List ℕ) (top at left d sp fuel : ℕ) (v : ValueRef) (m n i : ℕ) → n ≡ 0 → (ps : List Slot) (W2 : List ℕ) (o : Out)
     → Invokes T W tr top v ps n i at d sp fuel m W2 o → CallsWith T W f tr top at left d sp fuel v m n i W2 o
-args-none T W f tr top at left d sp fuel v m n i z ps W2 o ep inv = record { kept = inv .kept; older = inv .older; is = shows }
+args-none T W f tr top at left d sp fuel v m n i z ps W2 o inv = record { kept = inv .kept; older = inv .older; is = shows }
   where
     shows : (t : Table) (es : Exprs) (k : Method) → ReadsAll T left at t es → count es ≡ n → getElem? (t .methods) i ≡ some k
         → Shows W2 o (at + length (codesOf es)) (evalsIn d t (frameIn W f) (traceIn W tr top) es fuel then λ vs n′. invoke (deeper d t) (traceIn W tr top) (valueOf W v) m vs k n′)
     shows t es k rs q ek =
         let a = inv .is t k (rs .table) ek in
-        let b = list-zero T W f tr top at left d sp fuel n z .is t es rs q in
+        let b = list-zero T W f tr top at left d sp fuel n v v v v z .is t es rs q in
         subst (λ (p : ℕ). Shows W2 o p (evalsIn d t (frameIn W f) (traceIn W tr top) es fuel then λ vs n′. invoke (deeper d t) (traceIn W tr top) (valueOf W v) m vs k n′)) (b .next)
         (record {
-          is = a .is ∙ ap (λ (xs : List Slot). invoke (deeper d t) (traceIn W tr top) (valueOf W v) m (valuesFrom W xs 0 n) k fuel) ep
-              ∙ going-on (value (valuesFrom W noSlots 0 n) fuel) (evalsIn d t (frameIn W f) (traceIn W tr top) es fuel) (λ vs n′. invoke (deeper d t) (traceIn W tr top) (valueOf W v) m vs k n′) (b .is);
+          is = a .is ∙ ap (λ (vs : List Graph). invoke (deeper d t) (traceIn W tr top) (valueOf W v) m vs k fuel) (values-none W ps n z ∙ sym (values-none W (slotsOf v v v v) n z))
+              ∙ going-on (value (valuesFrom W (slotsOf v v v v) 0 n) fuel) (evalsIn d t (frameIn W f) (traceIn W tr top) es fuel) (λ vs n′. invoke (deeper d t) (traceIn W tr top) (valueOf W v) m vs k n′) (b .is);
           next = a .next;
         })
 
-pub call-none-given : (T W : List ℕ) (f : Frame) (tr : List ℕ) (top at left d sp fuel m n : ℕ) (W1 : List ℕ) (o : Out) → Evaluates T W f tr top at left d sp fuel W1 o
-    → (v : ValueRef) (at1 fuel1 : ℕ) → o ≡ Value v at1 fuel1 → (w : Found) → FindsTarget T W1 v m n w → (i : ℕ) → w ≡ found.At i → Fits W f tr top (left + 1) d sp → n ≡ 0
-    → (ps : List Slot) → ps ≡ noSlots → (W2 : List ℕ) (x : Out) → Invokes T W1 tr top v ps n i at1 d sp fuel1 m W2 x → Calls T W f tr top at left d sp fuel m n W2 x
-call-none-given T W f tr top at left d sp fuel m n W1 o ev v at1 fuel1 eo w fi i ew fit z ps ep W2 x inv =
-    call-is T W f tr top at left d sp fuel m n W1 o ev v at1 fuel1 eo w fi i W2 x fit ew (args-none T W1 f tr top at1 left d sp fuel1 v m n i z ps W2 x ep inv)
-
 -- ---- fuel, depth, and the side that runs
-abbrev marked : Met → ℕ
-marked (met.Mark x) = suc x
-marked met.No = 0
+pub met-some : (o : Option ℕ) (x : ℕ) → (x ≡ 0 → ⊥) → x ≡ metOf o → o ≡ some (x - 1)
+met-some none x nz e = absurd (nz e)
+met-some (some y) x nz e = ap some (let w : y ≡ x - 1 = omega arith in w)
 
-pub met-some : (o : Option ℕ) (x : ℕ) → met.Mark x ≡ metOf o → o ≡ some x
-met-some none x e = absurd (let z : suc x ≡ 0 = ap marked e in omega arith)
-met-some (some y) x e = ap some (let z : suc x ≡ suc y = ap marked e in let w : y ≡ x = omega arith in w)
-
-met-none : (o : Option ℕ) → met.No ≡ metOf o → o ≡ none
-met-none none e = refl
-met-none (some y) e = absurd (let z : 0 ≡ suc y = ap marked e in omega arith)
+met-none : (o : Option ℕ) (x : ℕ) → x ≡ 0 → x ≡ metOf o → o ≡ none
+met-none none x z e = refl
+met-none (some y) x z e = absurd (let w : 0 ≡ suc y = sym z ∙ e in omega arith)
 
 module _ (t : Table) (os : List language.OpenCall) (v : Graph) (m : ℕ) (vs : List Graph) (k : Method) where
   spent : (d : Deeper) (fuel : ℕ) → fuel ≡ 0 → stopped language.noFuel fuel ≡ invoke d os v m vs k fuel
@@ -241,21 +227,21 @@ module _ (T W tr : List ℕ) (top : ℕ) (v : ValueRef) (ps : List Slot) (n i ne
       is = λ t k tb ek. record { is = too-deep t (traceIn W tr top) (valueOf W v) m (valuesFrom W ps 0 n) k d fuel nf z; next = tt };
     }
 
-    module _ (nd : d ≡ 0 → ⊥) (x : Met) (ex : x ≡ metOf (openMark (traceIn W tr top) (valueOf W v) m (valuesFrom W ps 0 n))) (W′ : List ℕ) (o : Out) where
-      pub invoke-right : (y : ℕ) → x ≡ met.Mark y → RunsRight T W tr top v ps n i next (d - 1) sp (fuel - 1) y W′ o → Invokes T W tr top v ps n i next d sp fuel m W′ o
+    module _ (nd : d ≡ 0 → ⊥) (x : ℕ) (ex : x ≡ metOf (openMark (traceIn W tr top) (valueOf W v) m (valuesFrom W ps 0 n))) (W′ : List ℕ) (o : Out) where
+      pub invoke-right : (x ≡ 0 → ⊥) → RunsRight T W tr top v ps n i next (d - 1) sp (fuel - 1) (x - 1) W′ o → Invokes T W tr top v ps n i next d sp fuel m W′ o
       unfolding traceIn
-      invoke-right y ey r = record {
+      invoke-right ey r = record {
         kept = r .kept;
         older = r .older;
         is = λ t k tb ek. let z = r .is t k tb ek in record {
           is = z .is
-              ∙ sym (deeper-is t (traceIn W tr top) (valueOf W v) m (valuesFrom W ps 0 n) k d nd (frameOf (valueOf W v) (some (markOf y)) (valuesFrom W ps 0 n)) (traceIn W tr top) (k .right) (fuel - 1))
-              ∙ side-is t (traceIn W tr top) (valueOf W v) m (valuesFrom W ps 0 n) k (deeper d t) fuel nf (some y) (met-some (openMark (traceIn W tr top) (valueOf W v) m (valuesFrom W ps 0 n)) y (sym ey ∙ ex));
+              ∙ sym (deeper-is t (traceIn W tr top) (valueOf W v) m (valuesFrom W ps 0 n) k d nd (frameOf (valueOf W v) (some (markOf (x - 1))) (valuesFrom W ps 0 n)) (traceIn W tr top) (k .right) (fuel - 1))
+              ∙ side-is t (traceIn W tr top) (valueOf W v) m (valuesFrom W ps 0 n) k (deeper d t) fuel nf (some (x - 1)) (met-some (openMark (traceIn W tr top) (valueOf W v) m (valuesFrom W ps 0 n)) x ey ex);
           next = z .next;
         };
       }
 
-      pub invoke-left : x ≡ met.No → RunsLeft T W tr top v ps n i next (d - 1) sp (fuel - 1) m W′ o → Invokes T W tr top v ps n i next d sp fuel m W′ o
+      pub invoke-left : x ≡ 0 → RunsLeft T W tr top v ps n i next (d - 1) sp (fuel - 1) m W′ o → Invokes T W tr top v ps n i next d sp fuel m W′ o
       unfolding traceIn
       invoke-left ey r = record {
         kept = r .kept;
@@ -266,7 +252,7 @@ module _ (T W tr : List ℕ) (top : ℕ) (v : ValueRef) (ps : List Slot) (n i ne
               (deeper d t (frameOf (valueOf W v) none (valuesFrom W ps 0 n)) (opened (traceIn W tr top) (valueOf W v) m (valuesFrom W ps 0 n)) (k .left) (fuel - 1))
               (λ u n′. value (close (length (traceIn W tr top)) u) n′)
               (sym (deeper-is t (traceIn W tr top) (valueOf W v) m (valuesFrom W ps 0 n) k d nd (frameOf (valueOf W v) none (valuesFrom W ps 0 n)) (opened (traceIn W tr top) (valueOf W v) m (valuesFrom W ps 0 n)) (k .left) (fuel - 1)))
-              ∙ side-is t (traceIn W tr top) (valueOf W v) m (valuesFrom W ps 0 n) k (deeper d t) fuel nf none (met-none (openMark (traceIn W tr top) (valueOf W v) m (valuesFrom W ps 0 n)) (sym ey ∙ ex));
+              ∙ side-is t (traceIn W tr top) (valueOf W v) m (valuesFrom W ps 0 n) k (deeper d t) fuel nf none (met-none (openMark (traceIn W tr top) (valueOf W v) m (valuesFrom W ps 0 n)) x ey ex);
           next = z .next;
         };
       }

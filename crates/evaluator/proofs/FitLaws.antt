@@ -20,18 +20,12 @@ use Rattle.values.specs.Layout.{valueOf, Holds, Low}
 use Rattle.values.specs.Laying.{valuesFrom, PartsHeld}
 use Rattle.evaluator.specs.declared.Out.{Out}
 use Rattle.evaluator.specs.declared.Out.the-variants.{Value}
-use Rattle.evaluator.specs.declared.parts.Listed.{Listed}
-use Rattle.evaluator.specs.declared.parts.Listed.the-variants as listed
-use Rattle.evaluator.specs.declared.met.Met.{Met}
-use Rattle.evaluator.specs.declared.met.Met.the-variants as met
-use Rattle.evaluator.specs.declared.state.Held.the-variants.{Is, Absent}
-use Rattle.evaluator.specs.declared.state.Frame.{Frame}
-use Rattle.evaluator.specs.State.{slotAt, PartsLow, PartsOlder, callAt, CallOlder, CallsHold, callIn, sameOf, traceIn, Pushed, metOf}
-use Rattle.evaluator.specs.Answers.{slotsOf}
+use Rattle.evaluator.specs.State.{baseAt, Older, Is, Absent, Frame, slotAt, PartsOlder, callAt, CallOlder, CallsHold, callIn, sameOf, traceIn, metOf}
+use Rattle.evaluator.specs.Answers.{Listed, Values, slotsOf}
 use Rattle.evaluator.specs.Calling.{FewIf, ArgsFit, CallFits, BodyFits, FindsTarget}
 use Rattle.evaluator.specs.Evaluation.{Fits, ListFits, Evaluates, Lists}
 use Rattle.evaluator.proofs.Keeping.{kept-none, kept-then, older-kept, low-up, older-up, parts-up, frame-kept, frame-up, trace-kept, trace-up}
-use Rattle.evaluator.proofs.TraceLaws.{call-older}
+use Rattle.evaluator.proofs.BodyLaws.{Pushed}
 use Rattle.evaluator.proofs.StateLaws.{by-tests}
 use Rattle.evaluator.proofs.Given.{given-older, all-older}
 use Rattle.evaluator.proofs.CallLaws.{met-some}
@@ -102,12 +96,20 @@ module _ (T W : List ℕ) (f : Frame) (tr : List ℕ) (top at left d sp fuel : �
       }
 
 -- ---- after a list
+-- the first n are the same
+pub record PartsSame (ps : List Slot) (n : ℕ) (qs : List Slot) : Type 0 where
+  pub full : n ≤ length qs
+  pub part : (i : ℕ) → i < n → slotAt qs i ≡ slotAt ps i
+
+parts-same : (W : List ℕ) (sp : ℕ) (ps : List Slot) (n : ℕ) (qs : List Slot) → PartsSame ps n qs → PartsOlder W sp ps n → PartsOlder W sp qs n
+parts-same W sp ps n qs e o = record { full = e .full; part = λ i l. subst (Older W sp) (sym (e .part i l)) (o .part i l) }
+
 pub after-list : (T W : List ℕ) (f : Frame) (tr : List ℕ) (top at left d sp fuel n : ℕ) (W1 : List ℕ) (l : Listed) → Lists T W f tr top at left d sp fuel n W1 l
     → Fits W f tr top (left + 1) d sp → 240 * sp + 240 ≤ length W1
 after-list T W f tr top at left d sp fuel n W1 l li h = let r = h .room in omega (arith, h .long, li .kept .same)
 
 pub call-fit : (T W : List ℕ) (f : Frame) (tr : List ℕ) (top at left d sp fuel : ℕ) (v : ValueRef) (n : ℕ) (W1 : List ℕ) (l : Listed) (a b c e : ValueRef) (at1 fuel1 : ℕ) (ps : List Slot)
-    → ArgsFit W f tr top left d sp v n → Lists T W f tr top at left d (sp + 1) fuel n W1 l → l ≡ listed.Values a b c e at1 fuel1 → ps ≡ slotsOf a b c e → CallFits W1 tr top v ps n d sp
+    → ArgsFit W f tr top left d sp v n → Lists T W f tr top at left d (sp + 1) fuel n W1 l → l ≡ Values a b c e at1 fuel1 → PartsSame (slotsOf a b c e) n ps → CallFits W1 tr top v ps n d sp
 call-fit T W f tr top at left d sp fuel v n W1 l a b c e at1 fuel1 ps h li el ep =
     let k = kept-then sp (sp + 1) W W W1 (omega arith) (kept-none sp W) (li .kept) in
     let r = h .fits .room in
@@ -115,7 +117,7 @@ call-fit T W f tr top at left d sp fuel v n W1 l a b c e at1 fuel1 ps h li el ep
     record {
       trace = trace-kept W W1 sp k tr top (h .fits .trace);
       receiver = older-up W1 (sp + 1) (sp + 4) (omega arith) v (older-kept W W1 (sp + 1) (li .kept) v (h .receiver));
-      args = subst (λ (q : List Slot). PartsOlder W1 (sp + 4) q n) (sym ep)
+      args = parts-same W1 (sp + 4) (slotsOf a b c e) n ps ep
           (parts-up W1 (sp + 1 + n) (sp + 4) (omega arith) (slotsOf a b c e) n (all-older T W f tr top at left d (sp + 1) fuel n W1 l li a b c e at1 fuel1 el));
       few = h .few;
       calls = h .fits .calls;
@@ -123,27 +125,12 @@ call-fit T W f tr top at left d sp fuel v n W1 l a b c e at1 fuel1 ps h li el ep
       long = omega (arith, h .fits .long, li .kept .same);
     }
 
-pub call-fit-none : (T W : List ℕ) (f : Frame) (tr : List ℕ) (top at left d sp fuel : ℕ) (W1 : List ℕ) (o : Out) → Evaluates T W f tr top at left d sp fuel W1 o
-    → (v : ValueRef) (at1 fuel1 m n : ℕ) (w : Found) (i : ℕ) (ps : List Slot) → Fits W f tr top (left + 1) d sp → (left ≡ 0 → ⊥) → o ≡ Value v at1 fuel1
-    → FindsTarget T W1 v m n w → w ≡ found.At i → n ≡ 0 → ps ≡ slotsOf Undetermined Undetermined Undetermined Undetermined → CallFits W1 tr top v ps n d sp
-call-fit-none T W f tr top at left d sp fuel W1 o ev v at1 fuel1 m n w i ps h nz eo fi ew z ep =
-    let k = args-fit T W f tr top at left d sp fuel W1 o ev v at1 fuel1 m n w i h nz eo fi ew in
-    let r = k .fits .room in
-    record {
-      trace = k .fits .trace;
-      receiver = older-up W1 (sp + 1) (sp + 4) (omega arith) v (k .receiver);
-      args = subst (λ (q : List Slot). PartsOlder W1 (sp + 4) q n) (sym ep) (record { full = omega arith; part = λ i l. absurd (omega arith) });
-      few = k .few;
-      calls = k .fits .calls;
-      room = omega (arith, nz);
-      long = k .fits .long;
-    }
-
 -- ---- a call
 module _ (W tr : List ℕ) (top : ℕ) (v : ValueRef) (ps : List Slot) (n d sp : ℕ) (h : CallFits W tr top v ps n d sp) where
-  pub calls-held : CallsHold W tr top
-  calls-held = let c = h .calls in record {
+  pub calls-held : ((i : ℕ) → i < top → baseAt tr i + 4 ≤ 336) → CallsHold W tr top
+  calls-held place = let c = h .calls in record {
     few = omega arith;
+    place = place;
     call = λ i l. let q = h .trace .call i l in record {
       receiver = q .receiver .held;
       args = record { full = q .args .full; part = λ j z. q .args .part j z .held };
@@ -170,15 +157,6 @@ module _ (W tr : List ℕ) (top : ℕ) (v : ValueRef) (ps : List Slot) (n d sp :
 module _ (W tr : List ℕ) (top : ℕ) (v : ValueRef) (ps : List Slot) (n d sp : ℕ) (h : BodyFits W tr top v ps n d sp) where
   pub push-room : top < 16
   push-room = let c = h .calls in omega arith
-
-  pub push-few : n ≤ 4
-  push-few = let l = h .few in omega arith
-
-  pub push-receiver : Low 65536 v
-  push-receiver = let r = h .room in low-up W (sp + 4) 65536 (omega arith) v (h .receiver .low)
-
-  pub push-args : PartsLow 65536 ps n
-  push-args = let r = h .room in record { full = h .args .full; part = λ i l. low-up W (sp + 4) 65536 (omega arith) (slotAt ps i) (h .args .part i l .low) }
 
   pub mark-room : top < 63
   mark-room = let c = h .calls in omega arith
@@ -214,7 +192,7 @@ module _ (W tr : List ℕ) (top : ℕ) (v : ValueRef) (ps : List Slot) (n d sp :
       at-call i l (no q) =
           let few = h .few in
           let e : top ≡ i = omega (arith, q) in
-          subst (λ (j : ℕ). CallOlder W (sp + 4) (callAt tr1 j)) e (call-older W (callAt tr1 top) v m ps n (omega arith) (p .newest) (sp + 4) (h .receiver) (h .args))
+          subst (λ (j : ℕ). CallOlder W (sp + 4) (callAt tr1 j)) e (subst (CallOlder W (sp + 4)) (sym (p .newest)) (record { receiver = h .receiver; args = h .args; few = omega arith }))
 
   pub side-length : (T : List ℕ) (f : Frame) (tr1 : List ℕ) (top1 at left fuel : ℕ) (W1 : List ℕ) (o : Out) → Evaluates T W f tr1 top1 at left d (sp + 4) fuel W1 o → 240 * sp + 240 ≤ length W1
   side-length T f tr1 top1 at left fuel W1 o ev = let r = h .room in omega (arith, h .long, ev .kept .same)
@@ -230,9 +208,9 @@ marks-below W tr v m vs x (suc k) e =
     go true q ih = let y : some k ≡ some x = q in let z : k ≡ x = cc in omega arith
     go false q ih = let z = ih q in omega arith
 
-pub mark-small : (W tr : List ℕ) (top : ℕ) (v : ValueRef) (ps : List Slot) (n d sp m y : ℕ) (x : Met) → CallFits W tr top v ps n d sp
-    → x ≡ metOf (openMark (traceIn W tr top) (valueOf W v) m (valuesFrom W ps 0 n)) → x ≡ met.Mark y → y < 63
-mark-small W tr top v ps n d sp m y x h e q =
-    let l = marks-below W tr (valueOf W v) m (valuesFrom W ps 0 n) y top (met-some (openMark (traceIn W tr top) (valueOf W v) m (valuesFrom W ps 0 n)) y (sym q ∙ e)) in
+pub mark-small : (W tr : List ℕ) (top : ℕ) (v : ValueRef) (ps : List Slot) (n d sp m x : ℕ) → CallFits W tr top v ps n d sp
+    → x ≡ metOf (openMark (traceIn W tr top) (valueOf W v) m (valuesFrom W ps 0 n)) → (x ≡ 0 → ⊥) → x < 64
+mark-small W tr top v ps n d sp m x h e q =
+    let l = marks-below W tr (valueOf W v) m (valuesFrom W ps 0 n) (x - 1) top (met-some (openMark (traceIn W tr top) (valueOf W v) m (valuesFrom W ps 0 n)) x q e) in
     let c = h .calls in
     omega arith

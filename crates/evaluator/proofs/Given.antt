@@ -13,11 +13,8 @@ use Rattle.values.specs.Laying.{valuesFrom}
 use Rattle.evaluator.specs.declared.Stop.{Stop}
 use Rattle.evaluator.specs.declared.Out.{Out}
 use Rattle.evaluator.specs.declared.Out.the-variants.{Value, Halt}
-use Rattle.evaluator.specs.declared.parts.Listed.{Listed}
-use Rattle.evaluator.specs.declared.parts.Listed.the-variants as listed
-use Rattle.evaluator.specs.declared.state.Frame.{Frame}
-use Rattle.evaluator.specs.State.{Older, PartsOlder, frameIn, traceIn}
-use Rattle.evaluator.specs.Answers.{stopOf, outIn, slotsOf, listIn, OutOlder, ListOlder, NextIs, ListNext}
+use Rattle.evaluator.specs.State.{Frame, Older, PartsOlder, frameIn, traceIn}
+use Rattle.evaluator.specs.Answers.{Listed, Values, Stops, stopOf, outIn, slotsOf, listIn, OutOlder, ListOlder, NextIs, ListNext}
 use Rattle.evaluator.specs.Evaluation.{Reads, ReadsAll, evalIn, evalsIn, Evaluates, Lists}
 
 -- an outcome gone on with
@@ -40,11 +37,11 @@ module _ (T W : List ℕ) (f : Frame) (tr : List ℕ) (top at left d sp fuel : �
     given-older = subst (OutOlder W1 (sp + 1)) eo (ev .older)
 
 module _ (T W : List ℕ) (f : Frame) (tr : List ℕ) (top at left d sp fuel n : ℕ) (W1 : List ℕ) (l : Listed) (li : Lists T W f tr top at left d sp fuel n W1 l) where
-  pub all-halted : (s : Stop) (fuel1 : ℕ) → l ≡ listed.Halt s fuel1 → (t : Table) (es : Exprs) → ReadsAll T left at t es → count es ≡ n
+  pub all-halted : (s : Stop) (fuel1 : ℕ) → l ≡ Stops s fuel1 → (t : Table) (es : Exprs) → ReadsAll T left at t es → count es ≡ n
       → stopped (stopOf s) fuel1 ≡ evalsIn d t (frameIn W f) (traceIn W tr top) es fuel
   all-halted s fuel1 el t es r c = ap (listIn W1 n) (sym el) ∙ li .is t es r c .is
 
-  module _ (a b c e : ValueRef) (at1 fuel1 : ℕ) (el : l ≡ listed.Values a b c e at1 fuel1) where
+  module _ (a b c e : ValueRef) (at1 fuel1 : ℕ) (el : l ≡ Values a b c e at1 fuel1) where
     pub all-given : (t : Table) (es : Exprs) → ReadsAll T left at t es → count es ≡ n
         → value (valuesFrom W1 (slotsOf a b c e) 0 n) fuel1 ≡ evalsIn d t (frameIn W f) (traceIn W tr top) es fuel
     all-given t es r k = ap (listIn W1 n) (sym el) ∙ li .is t es r k .is

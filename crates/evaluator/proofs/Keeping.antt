@@ -14,11 +14,7 @@ use Rattle.values.specs.Layout.{valueOf, Outside, Beneath, Low}
 use Rattle.values.specs.Laying.{valuesFrom}
 use Rattle.values.proofs.Kept as values
 use Rattle.values.proofs.Kept.{object-kept}
-use Rattle.evaluator.specs.declared.state.Held.{Held}
-use Rattle.evaluator.specs.declared.state.Held.the-variants.{Is, Absent}
-use Rattle.evaluator.specs.declared.state.Frame.{Frame}
-use Rattle.evaluator.specs.declared.trace.OpenCall.{OpenCall}
-use Rattle.evaluator.specs.State.{Kept, Older, slotAt, PartsOlder, HeldOlder, heldIn, FrameHolds, frameIn, callAt, CallOlder, TraceHolds, callIn, traceIn}
+use Rattle.evaluator.specs.State.{Held, Is, Absent, Frame, OpenCall, Kept, Older, slotAt, PartsOlder, HeldOlder, heldIn, FrameHolds, frameIn, callAt, CallOlder, TraceHolds, callIn, traceIn}
 
 -- ---- changes, one after the other
 pub kept-none : (sp : ℕ) (W : List ℕ) → Kept sp W W

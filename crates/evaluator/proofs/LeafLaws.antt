@@ -1,12 +1,13 @@
--- The values of lists, values brought down to a block, and variables, at each return of the code.
-use Prim.Native.Nat.{ℕ, _+_}
+-- A new object, the parts of one and the answers of a run, at each return of the code.
+use Prim.Native.Nat.{ℕ, _+_, _<_}
+use native.Mathlib.Omega.{arith}
 use mathlib.Core.Path.{_≡_, refl, sym, ap, _∙_, subst}
 use mathlib.Core.Bool.{Bool, true, false, cond}
 use mathlib.Core.List.{List}
 use mathlib.Core.Option.{none, some, Option·none-ne-some}
 use lib.Dec.{leb}
-use lib.ListN.{length}
-use borrow.Author.Tests.{lt-ltb, le-ltb, leb-true, leb-false}
+use lib.ListN.{length, getD, set}
+use borrow.Author.Tests.{lt-ltb, le-ltb, eq-eqb, ne-eqb, leb-true, leb-false}
 use Rattle.cofj.specs.Values.{Graph, make}
 use Rattle.cofj.specs.Running as language
 use Rattle.cofj.specs.Running.{value, stopped, _then_, sized}
@@ -14,42 +15,25 @@ use Rattle.values.specs.declared.ValueRef.{ValueRef}
 use Rattle.values.specs.declared.Slot.{Slot}
 use Rattle.values.specs.declared.Made.{Made}
 use Rattle.values.specs.declared.Made.the-variants as made
-use Rattle.values.proofs.ValueRef as RefT
 use Rattle.values.specs.Layout.{valueOf}
 use Rattle.values.specs.Laying.{valuesFrom, PartsHeld, madeIn, MadeHeld, MadePlace, MadeIs}
 use Rattle.evaluator.specs.declared.Stop.{Stop}
-use Rattle.evaluator.specs.declared.Stop.the-variants.{Stuck, TooLarge}
+use Rattle.evaluator.specs.declared.Stop.the-variants.{Stuck, NoFuel, TooDeep, TooLarge}
 use Rattle.evaluator.specs.declared.Out.{Out}
 use Rattle.evaluator.specs.declared.Out.the-variants.{Value, Halt}
-use Rattle.evaluator.specs.declared.parts.Listed.{Listed}
-use Rattle.evaluator.specs.declared.parts.Listed.the-variants as listed
-use Rattle.evaluator.specs.declared.state.Held.{Held}
-use Rattle.evaluator.specs.declared.state.Held.the-variants.{Is, Absent}
-use Rattle.evaluator.specs.State.{PartsOlder}
-use Rattle.evaluator.specs.Answers.{slotsOf, listIn, haltOf, stoppedOf, frontOf, outOf, ListOlder, ListNext, Finishes}
+use Rattle.evaluator.specs.Refs.{refIn, Small}
+use Rattle.evaluator.specs.State.{PartsOlder, refAt}
+use Rattle.evaluator.specs.Answers.{Listed, Values, Stops, slotsOf, listIn, haltOf, ListOlder, ListNext, Finishes}
+use Rattle.evaluator.specs.Stack.{fuelOf, stopAt, outAt, listAt}
+use Rattle.evaluator.specs.Steps.{PartsReady, FinishStep}
 use Rattle.evaluator.proofs.Keeping.{kept-none, kept-beneath}
+use Rattle.evaluator.proofs.RefLaws.{small-held}
+use Rattle.evaluator.proofs.PutLaws.{stop-stacked, put-stacked, stop-out, put-out}
 
-pub halt-values : (l : Listed) (a b c d : ValueRef) (at fuel : ℕ) → l ≡ listed.Values a b c d at fuel → Halt Stuck fuel ≡ haltOf l
-halt-values l a b c d at fuel e = rw e
-
-pub halt-halt : (l : Listed) (s : Stop) (fuel : ℕ) → l ≡ listed.Halt s fuel → Halt s fuel ≡ haltOf l
-halt-halt l s fuel e = rw e
-
-pub stopped-value : (o : Out) (v : ValueRef) (at fuel : ℕ) → o ≡ Value v at fuel → listed.Halt Stuck fuel ≡ stoppedOf o
-stopped-value o v at fuel e = rw e
-
-pub stopped-halt : (o : Out) (s : Stop) (fuel : ℕ) → o ≡ Halt s fuel → listed.Halt s fuel ≡ stoppedOf o
-stopped-halt o s fuel e = rw e
-
-pub front-values : (v : ValueRef) (l : Listed) (a b c d : ValueRef) (at fuel : ℕ) → l ≡ listed.Values a b c d at fuel → listed.Values v a b c at fuel ≡ frontOf v l
-front-values v l a b c d at fuel e = rw e
-
--- ---- variables
-pub answer-none : (h : Held) (next fuel : ℕ) → h ≡ Absent → Halt Stuck fuel ≡ outOf h next fuel
-answer-none h next fuel e = rw e
-
-pub answer-is : (h : Held) (r : ValueRef) (next fuel : ℕ) → h ≡ Is r → Value r next fuel ≡ outOf h next fuel
-answer-is h r next fuel e = rw e
+-- ---- parts
+pub parts-are : (S : List ℕ) (sp : ℕ) (a b c d : ValueRef) (r : List Slot) → a ≡ refAt S sp → b ≡ refAt S (sp + 1) → c ≡ refAt S (sp + 2) → d ≡ refAt S (sp + 3)
+    → r ≡ slotsOf a b c d → r ≡ slotsOf (refAt S sp) (refAt S (sp + 1)) (refAt S (sp + 2)) (refAt S (sp + 3))
+parts-are S sp a b c d r ea eb ec ed er = er ∙ (λ i. slotsOf (ea i) (eb i) (ec i) (ed i))
 
 -- ---- a new object
 sized-none : (g : Graph) (fuel : ℕ) → cond (leb (length (g .nodes)) 32) (some g) none ≡ none → sized 32 g fuel ≡ stopped language.tooLarge fuel
@@ -75,12 +59,12 @@ parts-held : (W : List ℕ) (sp : ℕ) (ps : List Slot) (n : ℕ) → PartsOlder
 parts-held W sp ps n o = record { full = o .full; part = λ i h. o .part i h .held }
 
 module _ (W : List ℕ) (k : ℕ) (l : Listed) (n sp : ℕ) where
-  pub finish-halt : (s : Stop) (fuel : ℕ) (o : Out) → l ≡ listed.Halt s fuel → o ≡ haltOf l → Finishes W k l n sp W o
+  pub finish-halt : (s : Stop) (fuel : ℕ) (o : Out) → l ≡ Stops s fuel → o ≡ haltOf l → Finishes W k l n sp W o
   finish-halt s fuel o e q =
       subst (Finishes W k l n sp W) (sym q)
       (subst (λ (x : Listed). Finishes W k x n sp W (haltOf x)) (sym e) (record { kept = kept-none sp W; older = tt; is = refl; next = λ p h. tt }))
 
-  module _ (a b c d : ValueRef) (at fuel : ℕ) (e : l ≡ listed.Values a b c d at fuel) where
+  module _ (a b c d : ValueRef) (at fuel : ℕ) (e : l ≡ Values a b c d at fuel) where
     older-parts : ListOlder W (sp + n) n l → PartsOlder W (sp + n) (slotsOf a b c d) n
     older-parts h = subst (ListOlder W (sp + n) n) e h
 
@@ -109,3 +93,61 @@ module _ (W : List ℕ) (k : ℕ) (l : Listed) (n sp : ℕ) where
             is = sym (then-is ∙ sized-some (make k (valuesFrom W ps 0 n)) (valueOf W′ v) fuel (sym (m .is) ∙ ap (madeIn W′) eo));
             next = λ p h. subst (λ (x : Listed). ListNext x p) e h;
           }
+
+-- ---- a new object of the values on the stack
+list-values : (S : List ℕ) (sp next : ℕ) → 0 < next → listAt S sp next ≡ Values (refAt S sp) (refAt S (sp + 1)) (refAt S (sp + 2)) (refAt S (sp + 3)) next (fuelOf S)
+unfolding listAt
+list-values S sp next l = rw (ne-eqb next 0 (λ z. omega arith))
+
+module _ (W S : List ℕ) (c n sp next : ℕ) (h : PartsReady W S n sp next) (ps : List Slot) (ep : ps ≡ slotsOf (refAt S sp) (refAt S (sp + 1)) (refAt S (sp + 2)) (refAt S (sp + 3))) where
+  pub parts-ready : PartsHeld W ps n
+  parts-ready = finish-held W c (listAt S sp next) n sp (refAt S sp) (refAt S (sp + 1)) (refAt S (sp + 2)) (refAt S (sp + 3)) next (fuelOf S) (list-values S sp next (h .after)) ps ep (h .older)
+
+  module _ (W′ : List ℕ) (o : Made) (m : MadeIs W (make c (valuesFrom W ps 0 n)) sp W′ o) where
+    pub made-large : (S′ : List ℕ) (r : ℕ) → o ≡ made.TooLarge → r ≡ 0 → S′ ≡ set S 275 3 → FinishStep W S c n sp next W′ S′ r
+    unfolding stopAt
+    made-large S′ r eo er es = rw (er, es) (record {
+      stack = stop-stacked S sp (h .room) 3;
+      runs = subst (Finishes W c (listAt S sp next) n sp W′) (sym (stop-out S sp (h .room) (h .full) 3))
+          (finish-large W c (listAt S sp next) n sp (refAt S sp) (refAt S (sp + 1)) (refAt S (sp + 2)) (refAt S (sp + 3)) next (fuelOf S) (list-values S sp next (h .after)) ps ep W′ o m eo);
+    })
+
+    module _ (v : ValueRef) (eo : o ≡ made.Value v) where
+      pub made-small : Small v
+      made-small = small-held W′ (sp + 1) v (subst (MadeHeld W′) eo (m .held)) (subst (MadePlace sp) eo (m .place)) (let l = h .room in omega arith)
+
+      pub made-value : (x : ℕ) → refIn x ≡ v → FinishStep W S c n sp next W′ (set S sp x) next
+      made-value x ex = record {
+        stack = put-stacked S sp (h .room) x;
+        runs = subst (Finishes W c (listAt S sp next) n sp W′) (sym (put-out S sp (h .room) (h .full) x next (h .after) ∙ ap (λ (u : ValueRef). Value u next (fuelOf S)) ex))
+            (finish-value W c (listAt S sp next) n sp (refAt S sp) (refAt S (sp + 1)) (refAt S (sp + 2)) (refAt S (sp + 3)) next (fuelOf S) (list-values S sp next (h .after)) ps ep W′ o m v eo);
+      }
+
+-- ---- why a run stopped, and what it gives
+module _ (s : ℕ) where
+  pub stop-stuck : s ≡ 0 → Stuck ≡ stopAt s
+  unfolding stopAt
+  stop-stuck e = rw (eq-eqb s 0 e)
+
+  module _ (n0 : s ≡ 0 → ⊥) where
+    pub stop-fuel : s ≡ 1 → NoFuel ≡ stopAt s
+    unfolding stopAt
+    stop-fuel e = rw (ne-eqb s 0 n0, eq-eqb s 1 e)
+
+    module _ (n1 : s ≡ 1 → ⊥) where
+      pub stop-deep : s ≡ 2 → TooDeep ≡ stopAt s
+      unfolding stopAt
+      stop-deep e = rw (ne-eqb s 0 n0, ne-eqb s 1 n1, eq-eqb s 2 e)
+
+      pub stop-large : (s ≡ 2 → ⊥) → TooLarge ≡ stopAt s
+      unfolding stopAt
+      stop-large e = rw (ne-eqb s 0 n0, ne-eqb s 1 n1, ne-eqb s 2 e)
+
+module _ (S : List ℕ) (r : ℕ) where
+  pub out-halt : (k : Stop) → r ≡ 0 → k ≡ stopAt (getD S 275 0) → Halt k (getD S 274 0) ≡ outAt S 0 r
+  unfolding outAt
+  out-halt k e ek = rw (eq-eqb r 0 e) (ap (λ (x : Stop). Halt x (fuelOf S)) ek)
+
+  pub out-value : (v : ValueRef) → (r ≡ 0 → ⊥) → v ≡ refIn (getD S 0 0) → Value v r (getD S 274 0) ≡ outAt S 0 r
+  unfolding outAt
+  out-value v e ev = rw (ne-eqb r 0 e) (ap (λ (x : ValueRef). Value x r (fuelOf S)) ev)

@@ -1,6 +1,7 @@
 pub mod Keeping
-pub mod TraceLaws
 pub mod StateLaws
+pub mod RefLaws
+pub mod PutLaws
 pub mod LeafLaws
 pub mod FindLaws
 pub mod Standing
@@ -10,5 +11,9 @@ pub mod ListLaws
 pub mod CallLaws
 pub mod BodyLaws
 pub mod FitLaws
+pub mod StackLaws
+pub mod StepLaws
+pub mod CallSteps
+pub mod SideSteps
 pub mod RunLaws
 pub mod Promise

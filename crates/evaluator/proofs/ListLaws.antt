@@ -26,11 +26,8 @@ use Rattle.evaluator.specs.declared.Stop.{Stop}
 use Rattle.evaluator.specs.declared.Stop.the-variants.{Stuck}
 use Rattle.evaluator.specs.declared.Out.{Out}
 use Rattle.evaluator.specs.declared.Out.the-variants.{Value, Halt}
-use Rattle.evaluator.specs.declared.parts.Listed.{Listed}
-use Rattle.evaluator.specs.declared.parts.Listed.the-variants as listed
-use Rattle.evaluator.specs.declared.state.Frame.{Frame}
-use Rattle.evaluator.specs.State.{Older, slotAt, PartsOlder, Kept, frameIn, traceIn}
-use Rattle.evaluator.specs.Answers.{stopOf, slotsOf, stoppedOf, frontOf, listIn, ListOlder, ListNext, ShowsAll, Finishes}
+use Rattle.evaluator.specs.State.{Frame, Older, slotAt, PartsOlder, Kept, frameIn, traceIn}
+use Rattle.evaluator.specs.Answers.{Listed, Values, Stops, stopOf, slotsOf, stoppedOf, frontOf, listIn, ListOlder, ListNext, ShowsAll, Finishes}
 use Rattle.evaluator.specs.Evaluation.{Tabled, ReadsAll, Reads, evalIn, evalsIn, ListFits, Evaluates, Fields, Lists, News}
 use Rattle.evaluator.proofs.Keeping.{kept-none, kept-then, value-kept, older-kept, older-up, frame-same, trace-same}
 use Rattle.evaluator.proofs.Standing.{first-reads, others-read, also-end}
@@ -107,21 +104,18 @@ module _ (d : ℕ) (t : Table) (p : language.Frame) (os : List language.OpenCall
       going-on y (evalsIn d t p os es fuel1) (λ vs n″. value (g ∷ vs) n″) z
       ∙ going-on (value g fuel1) (evalIn d t p os e fuel) (λ v n′. evalsIn d t p os es n′ then λ vs n″. value (v ∷ vs) n″) q
 
-abbrev noValues : ℕ → ℕ → Listed
-noValues at fuel = listed.Values Undetermined Undetermined Undetermined Undetermined at fuel
-
-none-given : (W : List ℕ) (d : ℕ) (t : Table) (p : language.Frame) (os : List language.OpenCall) (at fuel : ℕ) (es : Exprs) → count es ≡ 0
-    → ShowsAll W 0 (noValues at fuel) (at + length (codesOf es)) (evalsIn d t p os es fuel)
+none-given : (W : List ℕ) (a b c e : ValueRef) (d : ℕ) (t : Table) (p : language.Frame) (os : List language.OpenCall) (at fuel : ℕ) (es : Exprs) → count es ≡ 0
+    → ShowsAll W 0 (Values a b c e at fuel) (at + length (codesOf es)) (evalsIn d t p os es fuel)
 unfolding evals codesOf valuesFrom
-none-given W d t p os at fuel done c = record { is = refl; next = omega arith }
-none-given W d t p os at fuel (also e es) c = absurd (omega arith)
+none-given W a b c e d t p os at fuel done q = record { is = refl; next = omega arith }
+none-given W a b c e d t p os at fuel (also x xs) q = absurd (omega arith)
 
 module _ (T W : List ℕ) (f : Frame) (tr : List ℕ) (top at left d sp fuel n : ℕ) where
-  pub list-zero : n ≡ 0 → Lists T W f tr top at left d sp fuel n W (noValues at fuel)
-  list-zero z = subst (λ (m : ℕ). Lists T W f tr top at left d sp fuel m W (noValues at fuel)) (sym z) (record {
+  pub list-zero : (a b c e : ValueRef) → n ≡ 0 → Lists T W f tr top at left d sp fuel n W (Values a b c e at fuel)
+  list-zero a b c e z = subst (λ (m : ℕ). Lists T W f tr top at left d sp fuel m W (Values a b c e at fuel)) (sym z) (record {
     kept = kept-none sp W;
     older = record { full = omega arith; part = λ i h. absurd (omega arith) };
-    is = λ t es r c. none-given W d t (frameIn W f) (traceIn W tr top) at fuel es c;
+    is = λ t es r k. none-given W a b c e d t (frameIn W f) (traceIn W tr top) at fuel es k;
   })
 
   module _ (fit : ListFits W f tr top left d sp n) (nz : n ≡ 0 → ⊥) (W1 : List ℕ) (o : Out) (ev : Evaluates T W f tr top at left d sp fuel W1 o) where
@@ -129,7 +123,7 @@ module _ (T W : List ℕ) (f : Frame) (tr : List ℕ) (top at left d sp fuel n :
     list-halt s fuel1 l eo el = subst (Lists T W f tr top at left d sp fuel n W1) (sym (el ∙ ap stoppedOf eo)) (record { kept = ev .kept; older = tt; is = go })
       where
         go : (t : Table) (es : Exprs) → ReadsAll T left at t es → count es ≡ n
-            → ShowsAll W1 n (listed.Halt s fuel1) (at + length (codesOf es)) (evalsIn d t (frameIn W f) (traceIn W tr top) es fuel)
+            → ShowsAll W1 n (Stops s fuel1) (at + length (codesOf es)) (evalsIn d t (frameIn W f) (traceIn W tr top) es fuel)
         go t done r c = absurd (nz (sym c))
         go t (also e es) r c = record {
           is = first-stops d t (frameIn W f) (traceIn W tr top) e es fuel (stopOf s) fuel1 (halted T W f tr top at left d sp fuel W1 o ev s fuel1 eo t e (first-reads T left at t e es r));
@@ -153,24 +147,24 @@ module _ (T W : List ℕ) (f : Frame) (tr : List ℕ) (top at left d sp fuel n :
           few = let h = fit .few in omega arith
 
           older-all : (y : Listed) → ListOlder W2 (sp + 1 + (n - 1)) (n - 1) y → ListOlder W2 (sp + n) n (frontOf v y)
-          older-all (listed.Values a b c e q k) ps =
+          older-all (Values a b c e q k) ps =
               let up : sp + 1 + (n - 1) ≡ sp + n = omega (arith, nz) in
               subst (PartsOlder W2 (sp + n) (slotsOf v a b c)) suc-n
               (front-older W2 (sp + n) v a b c e (n - 1) few (older-up W2 (sp + 1) (sp + n) (omega (arith, nz)) v (older-kept W1 W2 (sp + 1) (li .kept) v first-older))
               (subst (λ (z : ℕ). PartsOlder W2 z (slotsOf a b c e) (n - 1)) up ps))
-          older-all (listed.Halt s k) ps = tt
+          older-all (Stops s k) ps = tt
 
           -- what the front gives, of what the others give
           front-in : (y : Listed) → listIn W2 n (frontOf v y) ≡ (listIn W2 (n - 1) y then λ vs n″. value (valueOf W1 v ∷ vs) n″)
-          front-in (listed.Values a b c e q k) =
+          front-in (Values a b c e q k) =
               ap (λ (z : List Graph). value z k)
               (ap (valuesFrom W2 (slotsOf v a b c) 0) (sym suc-n) ∙ front-values W2 v a b c e (n - 1) few
               ∙ ap (λ (g : Graph). g ∷ valuesFrom W2 (slotsOf a b c e) 0 (n - 1)) (value-kept W1 W2 (sp + 1) (li .kept) v first-older))
-          front-in (listed.Halt s k) = refl
+          front-in (Stops s k) = refl
 
           front-next : (y : Listed) (p q : ℕ) → p ≡ q → ListNext y p → ListNext (frontOf v y) q
-          front-next (listed.Values a b c e z k) p q h g = g ∙ h
-          front-next (listed.Halt s k) p q h g = tt
+          front-next (Values a b c e z k) p q h g = g ∙ h
+          front-next (Stops s k) p q h g = tt
 
           shows : (t : Table) (es : Exprs) → ReadsAll T left at t es → count es ≡ n
               → ShowsAll W2 n (frontOf v l) (at + length (codesOf es)) (evalsIn d t (frameIn W f) (traceIn W tr top) es fuel)

@@ -1,57 +1,116 @@
 -- Main, run from the bytes of a table: the language's outcome.
-use Prim.Native.Nat.{ℕ, _≤_}
+use Prim.Native.Nat.{ℕ, _≤_, _<_}
 use native.Mathlib.Omega.{arith}
 use mathlib.Core.Path.{_≡_, refl, sym, _∙_, subst}
 use mathlib.Core.List.{List, []}
-use lib.ListN.{length}
+use lib.ListN.{length, getD, set, replicate, length-set, length-replicate, getD-replicate}
+use lib.Seq.{getD-set-same, getD-set-other}
 use Rattle.cofj.specs.Running as language
 use Rattle.cofj.specs.Running.{runWithin, mainFrame}
 use Rattle.classes.proofs.Zones.{main-stands}
 use Rattle.values.specs.Laying.{valuesFrom}
 use Rattle.evaluator.specs.declared.Out.{Out}
-use Rattle.evaluator.specs.declared.state.Frame.{Frame}
-use Rattle.evaluator.specs.State.{HeldOlder, heldIn, frameIn, traceIn}
+use Rattle.evaluator.specs.State.{Held, Absent, HeldOlder, heldIn, frameIn, traceIn}
+use Rattle.evaluator.specs.Stack.{fuelOf, topOf, heldThis, heldMark, heldArgs, frameAt, outAt}
 use Rattle.evaluator.specs.Evaluation.{evalIn, Fits, Evaluates}
-use Rattle.evaluator.specs.Main.{NoVariables, Runs}
+use Rattle.evaluator.specs.Steps.{Runnable, EvalStep}
+use Rattle.evaluator.specs.Main.{Runs}
 use Rattle.evaluator.proofs.BodyLaws.{evalTo-is}
 
-module _ (W : List ℕ) (f : Frame) (tr : List ℕ) (nf : NoVariables f) where
-  frame-none : frameIn W f ≡ mainFrame
+-- the stack that main is run with: no receiver, no arguments, no mark, no open calls
+pub record Bare (S : List ℕ) (fuel : ℕ) : Type 0 where
+  pub full : length S ≡ 336
+  pub base : getD S 276 0 ≡ 274
+  pub count : getD S 277 0 ≡ 0
+  pub mark : getD S 278 0 ≡ 0
+  pub top : topOf S ≡ 0
+  pub fuel-is : fuelOf S ≡ fuel
+
+module _ (k fuel : ℕ) (ek : k ≡ 336) where
+  abbrev Z : List ℕ
+  Z = replicate k 0
+
+  full : length Z ≡ 336
+  full = length-replicate k 0 ∙ ek
+
+  zeros : (p : ℕ) → p < 336 → getD Z p 0 ≡ 0
+  zeros p l = getD-replicate k p 0 0 (omega arith)
+
+  first-full : length (set Z 274 fuel) ≡ 336
+  first-full = length-set Z 274 fuel ∙ full
+
+  other : (p : ℕ) → p < 336 → (p ≡ 274 → ⊥) → (p ≡ 276 → ⊥) → getD (set (set Z 274 fuel) 276 274) p 0 ≡ 0
+  other p l a b = getD-set-other (set Z 274 fuel) 276 p 274 0 b ∙ getD-set-other Z 274 p fuel 0 a ∙ zeros p l
+
+  pub bare : Bare (set (set Z 274 fuel) 276 274) fuel
+  bare = record {
+    full = length-set (set Z 274 fuel) 276 274 ∙ first-full;
+    base = getD-set-same (set Z 274 fuel) 276 274 0 (omega (arith, first-full));
+    count = other 277 (omega arith) (λ z. omega arith) (λ z. omega arith);
+    mark = other 278 (omega arith) (λ z. omega arith) (λ z. omega arith);
+    top = other 279 (omega arith) (λ z. omega arith) (λ z. omega arith);
+    fuel-is = getD-set-other (set Z 274 fuel) 276 274 274 0 (λ z. omega arith) ∙ getD-set-same Z 274 fuel 0 (omega (arith, full));
+  }
+
+module _ (W S : List ℕ) (fuel : ℕ) (b : Bare S fuel) where
+  no-this : heldThis S ≡ Absent
+  unfolding heldThis
+  no-this = rw (b .base)
+
+  no-res : heldMark S ≡ Absent
+  unfolding heldMark
+  no-res = rw (b .mark)
+
+  no-args : heldArgs S ≡ []
+  unfolding heldArgs
+  no-args = rw (b .base)
+
+  frame-none : frameIn W (frameAt S) ≡ mainFrame
   unfolding frameIn valuesFrom
-  frame-none = λ i. record { self = heldIn W (nf .this i); result = heldIn W (nf .res i); params = valuesFrom W (f .args) 0 (nf .count i) }
+  frame-none = λ i. record { self = heldIn W (no-this i); result = heldIn W (no-res i); params = valuesFrom W (no-args i) 0 (b .count i) }
 
-  trace-none : traceIn W tr 0 ≡ []
+  trace-none : traceIn W S (topOf S) ≡ []
   unfolding traceIn
-  trace-none = refl
+  trace-none = λ i. traceIn W S (b .top i)
 
-  pub main-fits : 65520 ≤ length W → Fits W f tr 0 6 16 0
-  main-fits l =
-      let a = nf .count in
+  pub main-runnable : 65520 ≤ length W → Runnable W S 6 16 0
+  main-runnable l =
+      let a = b .count in
+      let t = b .top in
+      let m = b .mark in
+      let e = b .base in
       record {
-        frame = record {
-          this = subst (HeldOlder W 0) (sym (nf .this)) tt;
-          res = subst (HeldOlder W 0) (sym (nf .res)) tt;
-          args = record { full = omega arith; part = λ i h. absurd (omega arith) };
-          few = omega arith;
+        placed = record { full = b .full; frame = λ h. absurd (omega arith); mark = omega arith; calls = λ i h. absurd (omega arith) };
+        fits = record {
+          frame = record {
+            this = subst (HeldOlder W 0) (sym no-this) tt;
+            res = subst (HeldOlder W 0) (sym no-res) tt;
+            args = record { full = omega arith; part = λ i h. absurd (omega arith) };
+            few = omega arith;
+          };
+          trace = record { call = λ i h. absurd (omega arith) };
+          calls = omega arith;
+          room = omega arith;
+          long = l;
         };
-        trace = record { call = λ i h. absurd (omega arith) };
-        calls = omega arith;
-        room = omega arith;
-        long = l;
       }
 
-  pub main-runs : (T : List ℕ) (fuel : ℕ) (W′ : List ℕ) (o : Out) → Evaluates T W f tr 0 25361 6 16 0 fuel W′ o → Runs T W fuel W′ o
-  unfolding runWithin
-  main-runs T fuel W′ o ev = record {
-    same = ev .kept .same;
-    older = ev .older;
-    is = λ t tb.
-        ev .is t (t .main) (record {
-          table = tb;
-          nested = tb .ready .main;
-          known = tb .ready .formed .mainKnown;
-          stands = main-stands t (tb .ready .short);
-        }) .is
-        ∙ (λ i. evalIn 16 t (frame-none i) (trace-none i) (t .main) fuel)
-        ∙ evalTo-is 16 t mainFrame [] (t .main) fuel;
-  }
+  module _ (T W′ S′ : List ℕ) (r : ℕ) (ev : EvalStep T W S 25361 6 16 0 W′ S′ r) where
+    pub fuel-fits : fuel < 65536 → fuelOf S′ < 65536
+    fuel-fits l = let s = ev .stack .spent in let f = b .fuel-is in omega arith
+
+    pub main-runs : (o : Out) → o ≡ outAt S′ 0 r → Runs T W fuel W′ o
+    unfolding runWithin
+    main-runs o eo = subst (Runs T W fuel W′) (sym eo) (record {
+      same = ev .runs .kept .same;
+      older = ev .runs .older;
+      is = λ t tb.
+          ev .runs .is t (t .main) (record {
+            table = tb;
+            nested = tb .ready .main;
+            known = tb .ready .formed .mainKnown;
+            stands = main-stands t (tb .ready .short);
+          }) .is
+          ∙ (λ i. evalIn 16 t (frame-none i) (trace-none i) (t .main) (b .fuel-is i))
+          ∙ evalTo-is 16 t mainFrame [] (t .main) fuel;
+    })

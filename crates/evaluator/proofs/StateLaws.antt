@@ -1,4 +1,4 @@
--- Frames and traces: a parameter, calls compared.
+-- Frames and open calls: a parameter, numbers, arguments and calls compared.
 use Prim.Native.Nat.{ℕ, zero, suc, _+_, _-_, _*_, _≤_, _<_}
 use native.Mathlib.Omega.{arith}
 use native.Mathlib.Numerals.{sub-one, add-one}
@@ -16,14 +16,13 @@ use Rattle.cofj.specs.Running as language
 use Rattle.cofj.specs.Running.{openMark}
 use Rattle.classes.specs.Machine.{pick}
 use Rattle.values.specs.declared.ValueRef.{ValueRef}
+use Rattle.values.specs.declared.ValueRef.the-variants.{Object, Mark, Undetermined}
 use Rattle.values.specs.declared.Slot.{Slot}
 use Rattle.values.specs.Layout.{valueOf, Holds}
 use Rattle.values.specs.Laying.{valuesFrom, PartsHeld}
-use Rattle.evaluator.specs.declared.state.Held.the-variants.{Is, Absent}
-use Rattle.evaluator.specs.declared.state.Frame.{Frame}
-use Rattle.evaluator.specs.declared.trace.OpenCall.{OpenCall}
-use Rattle.evaluator.specs.declared.met.Met.the-variants as met
-use Rattle.evaluator.specs.State.{slotAt, HeldOlder, heldIn, FrameHolds, frameIn, variableOf, refAt, callAt, callIn, CallHolds, CallsHold, traceIn, sameOf, metOf}
+use Rattle.values.proofs.Steps.{one-block, mark-mark, undet-undet}
+use Rattle.evaluator.specs.Refs.{refIn}
+use Rattle.evaluator.specs.State.{Is, Absent, Frame, OpenCall, slotAt, HeldOlder, heldIn, FrameHolds, frameIn, variableOf, refAt, argsAt, baseAt, callAt, callIn, CallHolds, CallsHold, traceIn, sameOf, metOf}
 
 -- ---- parameters
 pub variable-none : (f : Frame) (k : ℕ) → f .n ≤ k → Absent ≡ variableOf f k
@@ -81,9 +80,38 @@ module _ (W : List ℕ) (sp : ℕ) (f : Frame) (k : ℕ) (h : FrameHolds W sp f)
       go true q = sym (get-values W (f .args) (f .n) k (h .args .full) (ltb-true k (f .n) q))
       go false q = sym (get-past (valuesFrom W (f .args) 0 (f .n)) k (let l = ltb-false k (f .n) q in omega (arith, length-values W (f .args) (f .n) (h .args .full))))
 
+-- ---- numbers compared
+-- a value is itself
+value-same : (W : List ℕ) (r : ValueRef) → Holds W r → true ≡ eqGraph (valueOf W r) (valueOf W r)
+value-same W (Object b i) h = sym (eq-eqb i i refl) ∙ one-block W b i b i (h .held) (h .held) refl
+value-same W (Mark k) h = sym (eq-eqb k k refl) ∙ mark-mark W (Mark k) (Mark k) k k refl refl
+value-same W Undetermined h = undet-undet W Undetermined Undetermined refl refl
+
+module _ (W : List ℕ) (x y : ℕ) where
+  pub numbers-same : Holds W (refIn x) → x ≡ y → true ≡ eqGraph (valueOf W (refIn x)) (valueOf W (refIn y))
+  numbers-same h e = value-same W (refIn x) h ∙ ap (λ (z : ℕ). eqGraph (valueOf W (refIn x)) (valueOf W (refIn z))) e
+
+  pub number-held : (u : ValueRef) → u ≡ refIn x → Holds W (refIn x) → Holds W u
+  number-held u e h = subst (Holds W) (sym e) h
+
+  pub numbers-compared : (u v : ValueRef) (r : Bool) → u ≡ refIn x → v ≡ refIn y → r ≡ eqGraph (valueOf W u) (valueOf W v) → r ≡ eqGraph (valueOf W (refIn x)) (valueOf W (refIn y))
+  numbers-compared u v r eu ev er = rw (← eu, ← ev) er
+
+-- ---- arguments on the stack
+pub args-at : (S : List ℕ) (p i : ℕ) → i < 3 → slotAt (argsAt S p) i ≡ refAt S (p + i)
+unfolding argsAt
+args-at S p zero h = ap (refAt S) (let z : p ≡ p + 0 = omega arith in z)
+args-at S p (suc zero) h = refl
+args-at S p (suc (suc zero)) h = refl
+args-at S p (suc (suc (suc i))) h = absurd (omega arith)
+
+pub args-length : (S : List ℕ) (p : ℕ) → length (argsAt S p) ≡ 3
+unfolding argsAt
+args-length S p = refl
+
 -- ---- arguments compared
-pub part-held : (W : List ℕ) (ps : List Slot) (n i : ℕ) → PartsHeld W ps n → i < n → Holds W (slotAt ps i)
-part-held W ps n i h l = h .part i l
+pub arg-held : (W S : List ℕ) (p n i : ℕ) → PartsHeld W (argsAt S p) n → n ≤ 3 → i < n → Holds W (refAt S (p + i))
+arg-held W S p n i h m l = subst (Holds W) (args-at S p i (omega arith)) (h .part i l)
 
 -- the comparison has come to place i
 pub record Comparing (W : List ℕ) (ps qs : List Slot) (i n : ℕ) : Type 0 where
@@ -92,25 +120,28 @@ pub record Comparing (W : List ℕ) (ps qs : List Slot) (i n : ℕ) : Type 0 whe
 pub args-start : (W : List ℕ) (ps qs : List Slot) (n : ℕ) → Comparing W ps qs 0 n
 args-start W ps qs n = record { rest = refl }
 
-module _ (W : List ℕ) (ps qs : List Slot) (i n : ℕ) (c : Comparing W ps qs i n) where
-  pub args-end : n ≤ i → true ≡ eqGraphs (valuesFrom W ps 0 n) (valuesFrom W qs 0 n)
+pub args-end : (W : List ℕ) (ps qs : List Slot) (i n : ℕ) → Comparing W ps qs i n → n ≤ i → true ≡ eqGraphs (valuesFrom W ps 0 n) (valuesFrom W qs 0 n)
+unfolding eqGraphs
+args-end W ps qs i n c h = rw (values-end W ps i n h, values-end W qs i n h) at (c .rest)
+
+module _ (W S : List ℕ) (p q i n : ℕ) (c : Comparing W (argsAt S p) (argsAt S q) i n) (a : PartsHeld W (argsAt S p) n) (b : PartsHeld W (argsAt S q) n) (few : n ≤ 3) (h : i < n)
+    (r : Bool) (e : r ≡ eqGraph (valueOf W (refAt S (p + i))) (valueOf W (refAt S (q + i)))) where
+  one-compared : r ≡ eqGraph (valueOf W (slotAt (argsAt S p) i)) (valueOf W (slotAt (argsAt S q) i))
+  one-compared = rw (args-at S p i (omega arith), args-at S q i (omega arith)) e
+
+  differ : not r ≡ true → false ≡ eqGraphs (valuesFrom W (argsAt S p) i n) (valuesFrom W (argsAt S q) i n)
   unfolding eqGraphs
-  args-end h = rw (values-end W ps i n h, values-end W qs i n h) at (c .rest)
+  differ z = rw (values-cons W (argsAt S p) i n (a .full) h, values-cons W (argsAt S q) i n (b .full) h, ← one-compared, not-true r z, eqGraphs)
 
-  module _ (a : PartsHeld W ps n) (b : PartsHeld W qs n) (h : i < n) (r : Bool) (e : r ≡ eqGraph (valueOf W (slotAt ps i)) (valueOf W (slotAt qs i))) where
-    differ : not r ≡ true → false ≡ eqGraphs (valuesFrom W ps i n) (valuesFrom W qs i n)
-    unfolding eqGraphs
-    differ z = rw (values-cons W ps i n (a .full) h, values-cons W qs i n (b .full) h, ← e, not-true r z, eqGraphs)
+  more : not r ≡ false → eqGraphs (valuesFrom W (argsAt S p) (i + 1) n) (valuesFrom W (argsAt S q) (i + 1) n) ≡ eqGraphs (valuesFrom W (argsAt S p) i n) (valuesFrom W (argsAt S q) i n)
+  unfolding eqGraphs
+  more z = rw (values-cons W (argsAt S p) i n (a .full) h, values-cons W (argsAt S q) i n (b .full) h, ← one-compared, not-false r z, eqGraphs)
 
-    more : not r ≡ false → eqGraphs (valuesFrom W ps (i + 1) n) (valuesFrom W qs (i + 1) n) ≡ eqGraphs (valuesFrom W ps i n) (valuesFrom W qs i n)
-    unfolding eqGraphs
-    more z = rw (values-cons W ps i n (a .full) h, values-cons W qs i n (b .full) h, ← e, not-false r z, eqGraphs)
+  pub args-differ : not r ≡ true → false ≡ eqGraphs (valuesFrom W (argsAt S p) 0 n) (valuesFrom W (argsAt S q) 0 n)
+  args-differ z = differ z ∙ c .rest
 
-    pub args-differ : not r ≡ true → false ≡ eqGraphs (valuesFrom W ps 0 n) (valuesFrom W qs 0 n)
-    args-differ z = differ z ∙ c .rest
-
-    pub args-more : not r ≡ false → Comparing W ps qs (i + 1) n
-    args-more z = record { rest = more z ∙ c .rest }
+  pub args-more : not r ≡ false → Comparing W (argsAt S p) (argsAt S q) (i + 1) n
+  args-more z = record { rest = more z ∙ c .rest }
 
 lengths-differ : (vs ws : List Graph) → (length vs ≡ length ws → ⊥) → eqGraphs vs ws ≡ false
 unfolding eqGraphs
@@ -123,51 +154,69 @@ lengths-differ (v ∷ vs) (w ∷ ws) h = go (eqGraph v w) (lengths-differ vs ws 
     go true e = e
     go false e = refl
 
--- ---- calls compared
-module _ (W C : List ℕ) (i : ℕ) (v : ValueRef) (m : ℕ) (ps : List Slot) (n : ℕ) where
-  pub call-name : (getD C (32 * i) 0 ≡ m → ⊥) → false ≡ sameOf (callIn W 0 (callAt C i)) (valueOf W v) m (valuesFrom W ps 0 n)
-  unfolding sameOf callAt
-  call-name h = rw (ne-eqb (getD C (32 * i) 0) m h)
+-- ---- calls compared: call i and the one with the receiver at sp and the n arguments after it
+same-name : (o : language.OpenCall) (v : Graph) (vs : List Graph) → sameOf o v (o .name) vs ≡ pick (eqGraph (o .receiver) v) (eqGraphs (o .args) vs) false
+unfolding sameOf
+same-name o v vs = rw (eq-eqb (o .name) (o .name) refl)
 
-  name-is : getD C (32 * i) 0 ≡ m → callAt C i .name ≡ m
-  unfolding callAt
-  name-is e = e
+pick-false : (b : Bool) → pick b false false ≡ false
+pick-false true = refl
+pick-false false = refl
 
-  module _ (en : getD C (32 * i) 0 ≡ m) (u : ValueRef) (eu : u ≡ refAt C (32 * i + 4)) (r : Bool) (er : r ≡ eqGraph (valueOf W u) (valueOf W v)) where
-    compared : r ≡ eqGraph (valueOf W (callAt C i .receiver)) (valueOf W v)
-    unfolding callAt
-    compared = er ∙ ap (λ (x : ValueRef). eqGraph (valueOf W x) (valueOf W v)) eu
-
-    pub call-receiver : not r ≡ true → false ≡ sameOf (callIn W 0 (callAt C i)) (valueOf W v) m (valuesFrom W ps 0 n)
-    unfolding sameOf
-    call-receiver z = rw (eq-eqb (callAt C i .name) m (name-is en), ← compared, not-true r z)
-
-    module _ (z : not r ≡ false) (c : OpenCall) (ec : c ≡ callAt C i) where
-      named : c .name ≡ m
-      named = ap (λ (x : OpenCall). x .name) ec ∙ name-is en
-
-      again : r ≡ eqGraph (valueOf W (c .receiver)) (valueOf W v)
-      again = compared ∙ ap (λ (x : OpenCall). eqGraph (valueOf W (x .receiver)) (valueOf W v)) (sym ec)
-
-      pub call-count : CallHolds W (callAt C i) → PartsHeld W ps n → (c .n ≡ n → ⊥) → false ≡ sameOf (callIn W 0 (callAt C i)) (valueOf W v) m (valuesFrom W ps 0 n)
-      unfolding sameOf
-      call-count a0 b h =
-          let a : CallHolds W c = subst (CallHolds W) (sym ec) a0 in
-          let q : length (valuesFrom W (c .args) 0 (c .n)) ≡ length (valuesFrom W ps 0 n) → ⊥ = λ e. h (sym (length-values W (c .args) (c .n) (a .args .full)) ∙ e ∙ length-values W ps n (b .full)) in
-          rw (← ec, eq-eqb (c .name) m named, ← again, not-false r z, lengths-differ (valuesFrom W (c .args) 0 (c .n)) (valuesFrom W ps 0 n) q)
-
-      pub call-args : (s : Bool) → c .n ≡ n → s ≡ eqGraphs (valuesFrom W (c .args) 0 n) (valuesFrom W ps 0 n)
-          → s ≡ sameOf (callIn W 0 (callAt C i)) (valueOf W v) m (valuesFrom W ps 0 n)
-      unfolding sameOf
-      call-args s e q = rw (← ec, eq-eqb (c .name) m named, ← again, not-false r z, e) q
-
-pub receiver-held : (W C : List ℕ) (i : ℕ) (u : ValueRef) → u ≡ refAt C (32 * i + 4) → CallHolds W (callAt C i) → Holds W u
+-- the places of a call's numbers, as the code has them
+pub count-place : (S : List ℕ) (i : ℕ) → getD S (281 + 3 * i + 1) 0 ≡ callAt S i .n
 unfolding callAt
-receiver-held W C i u e h = subst (Holds W) (sym e) (h .receiver)
+count-place S i = ap (λ (p : ℕ). getD S p 0) (let z : 281 + 3 * i + 1 ≡ 282 + 3 * i = omega arith in z)
 
-module _ (W C : List ℕ) (i : ℕ) (c : OpenCall) (ec : c ≡ callAt C i) (h : CallHolds W (callAt C i)) where
-  pub call-args-held : (n : ℕ) → c .n ≡ n → PartsHeld W (c .args) n
-  call-args-held n e = subst (PartsHeld W (c .args)) e (subst (λ (x : OpenCall). PartsHeld W (x .args) (x .n)) (sym ec) (h .args))
+pub base-place : (S : List ℕ) (i : ℕ) → getD S (281 + 3 * i + 2) 0 ≡ baseAt S i
+base-place S i = ap (λ (p : ℕ). getD S p 0) (let z : 281 + 3 * i + 2 ≡ 283 + 3 * i = omega arith in z)
+
+pub base-room : (S : List ℕ) (i : ℕ) → baseAt S i + 4 ≤ 336 → getD S (281 + 3 * i + 2) 0 + 4 ≤ 336
+base-room S i h = omega (arith, base-place S i)
+
+receiver-place : (S : List ℕ) (i : ℕ) → refAt S (getD S (281 + 3 * i + 2) 0) ≡ callAt S i .receiver
+unfolding callAt
+receiver-place S i = ap (refAt S) (base-place S i)
+
+args-place : (S : List ℕ) (i : ℕ) → argsAt S (getD S (281 + 3 * i + 2) 0 + 1) ≡ callAt S i .args
+unfolding callAt
+args-place S i = ap (λ (b : ℕ). argsAt S (b + 1)) (base-place S i)
+
+module _ (W S : List ℕ) (i : ℕ) (h : CallHolds W (callAt S i)) where
+  pub receiver-held : Holds W (refAt S (getD S (281 + 3 * i + 2) 0))
+  receiver-held = subst (Holds W) (sym (receiver-place S i)) (h .receiver)
+
+  pub args-held : (n : ℕ) → getD S (281 + 3 * i + 1) 0 ≡ n → PartsHeld W (argsAt S (getD S (281 + 3 * i + 2) 0 + 1)) n
+  args-held n e = subst (λ (ps : List Slot). PartsHeld W ps n) (sym (args-place S i)) (subst (PartsHeld W (callAt S i .args)) (sym (count-place S i) ∙ e) (h .args))
+
+module _ (W S : List ℕ) (i n sp : ℕ) where
+  module _ (h : CallHolds W (callAt S i)) where
+    pub call-count : PartsHeld W (argsAt S (sp + 1)) n → (getD S (281 + 3 * i + 1) 0 ≡ n → ⊥)
+        → false ≡ sameOf (callIn W 0 (callAt S i)) (valueOf W (refAt S sp)) (callAt S i .name) (valuesFrom W (argsAt S (sp + 1)) 0 n)
+    call-count b z = sym (same-name (callIn W 0 (callAt S i)) (valueOf W (refAt S sp)) (valuesFrom W (argsAt S (sp + 1)) 0 n)
+        ∙ ap (λ (x : Bool). pick (eqGraph (valueOf W (callAt S i .receiver)) (valueOf W (refAt S sp))) x false)
+        (lengths-differ (valuesFrom W (callAt S i .args) 0 (callAt S i .n)) (valuesFrom W (argsAt S (sp + 1)) 0 n)
+        (λ e. z (count-place S i ∙ sym (length-values W (callAt S i .args) (callAt S i .n) (h .args .full)) ∙ e ∙ length-values W (argsAt S (sp + 1)) n (b .full))))
+        ∙ pick-false (eqGraph (valueOf W (callAt S i .receiver)) (valueOf W (refAt S sp))))
+
+  module _ (r : Bool) (er : r ≡ eqGraph (valueOf W (refAt S (getD S (281 + 3 * i + 2) 0))) (valueOf W (refAt S sp))) where
+    compared : r ≡ eqGraph (valueOf W (callAt S i .receiver)) (valueOf W (refAt S sp))
+    compared = er ∙ ap (λ (x : ValueRef). eqGraph (valueOf W x) (valueOf W (refAt S sp))) (receiver-place S i)
+
+    by-receiver : sameOf (callIn W 0 (callAt S i)) (valueOf W (refAt S sp)) (callAt S i .name) (valuesFrom W (argsAt S (sp + 1)) 0 n)
+        ≡ pick r (eqGraphs (valuesFrom W (callAt S i .args) 0 (callAt S i .n)) (valuesFrom W (argsAt S (sp + 1)) 0 n)) false
+    by-receiver = same-name (callIn W 0 (callAt S i)) (valueOf W (refAt S sp)) (valuesFrom W (argsAt S (sp + 1)) 0 n)
+        ∙ ap (λ (x : Bool). pick x (eqGraphs (valuesFrom W (callAt S i .args) 0 (callAt S i .n)) (valuesFrom W (argsAt S (sp + 1)) 0 n)) false) (sym compared)
+
+    pub call-receiver : not r ≡ true → false ≡ sameOf (callIn W 0 (callAt S i)) (valueOf W (refAt S sp)) (callAt S i .name) (valuesFrom W (argsAt S (sp + 1)) 0 n)
+    call-receiver z = sym (by-receiver ∙ ap (λ (x : Bool). pick x (eqGraphs (valuesFrom W (callAt S i .args) 0 (callAt S i .n)) (valuesFrom W (argsAt S (sp + 1)) 0 n)) false) (not-true r z))
+
+    pub call-args : not r ≡ false → getD S (281 + 3 * i + 1) 0 ≡ n → (s : Bool)
+        → s ≡ eqGraphs (valuesFrom W (argsAt S (getD S (281 + 3 * i + 2) 0 + 1)) 0 n) (valuesFrom W (argsAt S (sp + 1)) 0 n)
+        → s ≡ sameOf (callIn W 0 (callAt S i)) (valueOf W (refAt S sp)) (callAt S i .name) (valuesFrom W (argsAt S (sp + 1)) 0 n)
+    call-args z e s es = es
+        ∙ ap₂ {A = List Slot} {B = ℕ} (λ ps m. eqGraphs (valuesFrom W ps 0 m) (valuesFrom W (argsAt S (sp + 1)) 0 n)) (args-place S i) (sym e ∙ count-place S i)
+        ∙ sym (by-receiver ∙ ap (λ (x : Bool). pick x (eqGraphs (valuesFrom W (callAt S i .args) 0 (callAt S i .n)) (valuesFrom W (argsAt S (sp + 1)) 0 n)) false) (not-false r z))
 
 -- ---- the trace searched, the newest call first
 pub by-tests : (o : language.OpenCall) (os : List language.OpenCall) (v : Graph) (m : ℕ) (vs : List Graph)
@@ -184,57 +233,76 @@ by-tests o os v m vs = go (eqb (o .name) m) (eqGraph (o .receiver) v) (eqGraphs 
     go true false c = refl
     go false b c = refl
 
-module _ (W tr : List ℕ) (k : ℕ) (v : ValueRef) (m : ℕ) (ps : List Slot) (n : ℕ) where
-  pub open-end : k ≡ 0 → met.No ≡ metOf (openMark (traceIn W tr k) (valueOf W v) m (valuesFrom W ps 0 n))
+-- the name of call i, as the code has it
+name-is : (S : List ℕ) (i m : ℕ) → getD S (281 + 3 * i) 0 ≡ m → callAt S i .name ≡ m
+unfolding callAt
+name-is S i m e = e
+
+module _ (W S : List ℕ) (v : ValueRef) (m : ℕ) (ps : List Slot) (n : ℕ) where
+  call-name : (i : ℕ) → (getD S (281 + 3 * i) 0 ≡ m → ⊥) → false ≡ sameOf (callIn W 0 (callAt S i)) (valueOf W v) m (valuesFrom W ps 0 n)
+  unfolding sameOf callAt
+  call-name i h = rw (ne-eqb (getD S (281 + 3 * i) 0) m h)
+
+  open-end : (k : ℕ) → k ≡ 0 → 0 ≡ metOf (openMark (traceIn W S k) (valueOf W v) m (valuesFrom W ps 0 n))
   unfolding traceIn openMark
-  open-end e = rw e
+  open-end k e = rw e
 
-  module _ (nz : k ≡ 0 → ⊥) (r : Bool) (er : r ≡ sameOf (callIn W 0 (callAt tr (k - 1))) (valueOf W v) m (valuesFrom W ps 0 n)) where
-    open-step : openMark (traceIn W tr k) (valueOf W v) m (valuesFrom W ps 0 n) ≡ pick r (some (k - 1)) (openMark (traceIn W tr (k - 1)) (valueOf W v) m (valuesFrom W ps 0 n))
-    unfolding traceIn sameOf
-    open-step = go k nz r er
-      where
-        go : (j : ℕ) → (j ≡ 0 → ⊥) → (s : Bool) → s ≡ sameOf (callIn W 0 (callAt tr (j - 1))) (valueOf W v) m (valuesFrom W ps 0 n)
-            → openMark (traceIn W tr j) (valueOf W v) m (valuesFrom W ps 0 n) ≡ pick s (some (j - 1)) (openMark (traceIn W tr (j - 1)) (valueOf W v) m (valuesFrom W ps 0 n))
-        go zero z s e = absurd (z refl)
-        go (suc j) z s e0 = let e = rw sub-one at e0 in rw sub-one (by-tests (callIn W j (callAt tr j)) (traceIn W tr j) (valueOf W v) m (valuesFrom W ps 0 n) ∙ ap (λ (b : Bool). pick b (some j) (openMark (traceIn W tr j) (valueOf W v) m (valuesFrom W ps 0 n))) (sym e))
+  open-step : (k : ℕ) → (k ≡ 0 → ⊥) → (r : Bool) → r ≡ sameOf (callIn W 0 (callAt S (k - 1))) (valueOf W v) m (valuesFrom W ps 0 n)
+      → openMark (traceIn W S k) (valueOf W v) m (valuesFrom W ps 0 n) ≡ pick r (some (k - 1)) (openMark (traceIn W S (k - 1)) (valueOf W v) m (valuesFrom W ps 0 n))
+  unfolding traceIn sameOf
+  open-step zero z s e = absurd (z refl)
+  open-step (suc j) z s e0 =
+      let e = rw sub-one at e0 in
+      rw sub-one (by-tests (callIn W j (callAt S j)) (traceIn W S j) (valueOf W v) m (valuesFrom W ps 0 n)
+      ∙ ap (λ (b : Bool). pick b (some j) (openMark (traceIn W S j) (valueOf W v) m (valuesFrom W ps 0 n))) (sym e))
 
-    pub open-found : r ≡ true → met.Mark (k - 1) ≡ metOf (openMark (traceIn W tr k) (valueOf W v) m (valuesFrom W ps 0 n))
-    open-found z = rw (open-step, z)
+met-last : (k : ℕ) → (k ≡ 0 → ⊥) → k ≡ metOf (some (k - 1))
+met-last k z = omega (arith, z)
+
+pub few-calls : (W S : List ℕ) (k : ℕ) → CallsHold W S k → k ≤ 16
+few-calls W S k h = h .few
 
 -- ---- the loop through the open calls: the first j of k are left, and the others are not the call
-pub record Left (W tr : List ℕ) (k : ℕ) (v : ValueRef) (m : ℕ) (ps : List Slot) (n j : ℕ) : Type 0 where
-  pub calls : CallsHold W tr j
-  pub same : openMark (traceIn W tr j) (valueOf W v) m (valuesFrom W ps 0 n) ≡ openMark (traceIn W tr k) (valueOf W v) m (valuesFrom W ps 0 n)
+pub record Left (W S : List ℕ) (k : ℕ) (v : ValueRef) (m : ℕ) (ps : List Slot) (n j : ℕ) : Type 0 where
+  pub calls : CallsHold W S j
+  pub same : openMark (traceIn W S j) (valueOf W v) m (valuesFrom W ps 0 n) ≡ openMark (traceIn W S k) (valueOf W v) m (valuesFrom W ps 0 n)
 
-module _ (W tr : List ℕ) (k : ℕ) (v : ValueRef) (m : ℕ) (ps : List Slot) (n : ℕ) where
-  pub few-calls : CallsHold W tr k → k ≤ 16
-  few-calls h = h .few
-
-  pub left-all : CallsHold W tr k → Left W tr k v m ps n k
+module _ (W S : List ℕ) (k : ℕ) (v : ValueRef) (m : ℕ) (ps : List Slot) (n : ℕ) where
+  pub left-all : CallsHold W S k → Left W S k v m ps n k
   left-all h = record { calls = h; same = refl }
 
-  module _ (j : ℕ) (l : Left W tr k v m ps n j) where
-    pub left-none : j ≤ 0 → met.No ≡ metOf (openMark (traceIn W tr k) (valueOf W v) m (valuesFrom W ps 0 n))
-    left-none z = open-end W tr j v m ps n (omega arith) ∙ ap metOf (l .same)
+  module _ (j : ℕ) (l : Left W S k v m ps n j) where
+    pub left-none : j ≤ 0 → 0 ≡ metOf (openMark (traceIn W S k) (valueOf W v) m (valuesFrom W ps 0 n))
+    left-none z = open-end W S v m ps n j (omega arith) ∙ ap metOf (l .same)
 
-    pub left-last : 0 < j → CallHolds W (callAt tr (j - 1))
+    pub left-place : 0 < j → baseAt S (j - 1) + 4 ≤ 336
+    left-place p = l .calls .place (j - 1) (omega arith)
+
+    pub left-last : 0 < j → CallHolds W (callAt S (j - 1))
     left-last p = l .calls .call (j - 1) (omega arith)
 
-    module _ (p : 0 < j) (r : Bool) (er : r ≡ sameOf (callIn W 0 (callAt tr (j - 1))) (valueOf W v) m (valuesFrom W ps 0 n)) where
-      pub left-found : r ≡ true → met.Mark (j - 1) ≡ metOf (openMark (traceIn W tr k) (valueOf W v) m (valuesFrom W ps 0 n))
-      left-found z = open-found W tr j v m ps n (λ e. omega arith) r er z ∙ ap metOf (l .same)
+    left-less : 0 < j → (r : Bool) → r ≡ sameOf (callIn W 0 (callAt S (j - 1))) (valueOf W v) m (valuesFrom W ps 0 n) → r ≡ false → Left W S k v m ps n (j - 1)
+    left-less p r er z =
+        let f = l .calls .few in
+        record {
+          calls = record { few = omega arith; place = λ i q. l .calls .place i (omega arith); call = λ i q. l .calls .call i (omega arith) };
+          same = sym (open-step W S v m ps n j (λ e. omega arith) r er ∙ ap (λ (b : Bool). pick b (some (j - 1)) (openMark (traceIn W S (j - 1)) (valueOf W v) m (valuesFrom W ps 0 n))) z) ∙ l .same;
+        }
 
-      pub left-more : r ≡ false → Left W tr k v m ps n (j - 1)
-      left-more z =
-          let f = l .calls .few in
-          record {
-            calls = record { few = omega arith; call = λ i q. l .calls .call i (omega arith) };
-            same = sym (open-step W tr j v m ps n (λ e. omega arith) r er ∙ ap (λ (b : Bool). pick b (some (j - 1)) (openMark (traceIn W tr (j - 1)) (valueOf W v) m (valuesFrom W ps 0 n))) z) ∙ l .same;
-          }
+    pub left-name : 0 < j → (getD S (281 + 3 * (j - 1)) 0 ≡ m → ⊥) → Left W S k v m ps n (j - 1)
+    left-name p h = left-less p false (call-name W S v m ps n (j - 1) h) refl
 
-    pub left-name : 0 < j → (getD tr (32 * (j - 1)) 0 ≡ m → ⊥) → Left W tr k v m ps n (j - 1)
-    left-name p h = left-more p false (call-name W tr (j - 1) v m ps n h) refl
+    module _ (p : 0 < j) (e : getD S (281 + 3 * (j - 1)) 0 ≡ m) (r : Bool) (er : r ≡ sameOf (callIn W 0 (callAt S (j - 1))) (valueOf W v) (callAt S (j - 1) .name) (valuesFrom W ps 0 n)) where
+      named : r ≡ sameOf (callIn W 0 (callAt S (j - 1))) (valueOf W v) m (valuesFrom W ps 0 n)
+      named = er ∙ ap (λ (x : ℕ). sameOf (callIn W 0 (callAt S (j - 1))) (valueOf W v) x (valuesFrom W ps 0 n)) (name-is S (j - 1) m e)
+
+      pub left-found : r ≡ true → j ≡ metOf (openMark (traceIn W S k) (valueOf W v) m (valuesFrom W ps 0 n))
+      left-found z =
+          met-last j (λ q. omega arith)
+          ∙ ap metOf (sym (open-step W S v m ps n j (λ q. omega arith) r named ∙ ap (λ (b : Bool). pick b (some (j - 1)) (openMark (traceIn W S (j - 1)) (valueOf W v) m (valuesFrom W ps 0 n))) z) ∙ l .same)
+
+      pub left-more : r ≡ false → Left W S k v m ps n (j - 1)
+      left-more z = left-less p r named z
 
 pub either : {A B C : Type 0} → (A → C) → (B → C) → A ⊎ B → C
 either f g (inl a) = f a

@@ -14,11 +14,12 @@ use Rattle.evaluator.specs.declared.Stop.{Stop}
 use Rattle.evaluator.specs.declared.Stop.the-variants.{Stuck, NoFuel, TooDeep, TooLarge}
 use Rattle.evaluator.specs.declared.Out.{Out}
 use Rattle.evaluator.specs.declared.Out.the-variants.{Value, Halt}
-use Rattle.evaluator.specs.declared.parts.Listed.{Listed}
-use Rattle.evaluator.specs.declared.parts.Listed.the-variants as listed
-use Rattle.evaluator.specs.declared.state.Held.{Held}
-use Rattle.evaluator.specs.declared.state.Held.the-variants.{Is, Absent}
-use Rattle.evaluator.specs.State.{Kept, Older, PartsOlder}
+use Rattle.evaluator.specs.State.{Kept, Older, PartsOlder, Held, Is, Absent}
+
+-- what evaluating a list gives: its values in order, the place after it and the fuel left; or what it stopped at and the fuel left
+pub data Listed : Type 0 where
+  Values : ValueRef → ValueRef → ValueRef → ValueRef → ℕ → ℕ → Listed
+  Stops : Stop → ℕ → Listed
 
 -- ---- answers as the language's outcomes
 abbrev pub stopOf : Stop → language.Stop
@@ -35,20 +36,20 @@ abbrev pub slotsOf : ValueRef → ValueRef → ValueRef → ValueRef → List Sl
 slotsOf a b c d = record { r = a } ∷ record { r = b } ∷ record { r = c } ∷ record { r = d } ∷ []
 
 abbrev pub listIn : List ℕ → ℕ → Listed → Outcome (List Graph)
-listIn W n (listed.Values a b c d at fuel) = value (valuesFrom W (slotsOf a b c d) 0 n) fuel
-listIn W n (listed.Halt s fuel) = stopped (stopOf s) fuel
+listIn W n (Values a b c d at fuel) = value (valuesFrom W (slotsOf a b c d) 0 n) fuel
+listIn W n (Stops s fuel) = stopped (stopOf s) fuel
 
 abbrev pub haltOf : Listed → Out
-haltOf (listed.Values a b c d at fuel) = Halt Stuck fuel
-haltOf (listed.Halt s fuel) = Halt s fuel
+haltOf (Values a b c d at fuel) = Halt Stuck fuel
+haltOf (Stops s fuel) = Halt s fuel
 
 abbrev pub stoppedOf : Out → Listed
-stoppedOf (Value v at fuel) = listed.Halt Stuck fuel
-stoppedOf (Halt s fuel) = listed.Halt s fuel
+stoppedOf (Value v at fuel) = Stops Stuck fuel
+stoppedOf (Halt s fuel) = Stops s fuel
 
 abbrev pub frontOf : ValueRef → Listed → Listed
-frontOf v (listed.Values a b c d at fuel) = listed.Values v a b c at fuel
-frontOf v (listed.Halt s fuel) = listed.Halt s fuel
+frontOf v (Values a b c d at fuel) = Values v a b c at fuel
+frontOf v (Stops s fuel) = Stops s fuel
 
 -- a value lies below block sp; the place after its expression is p
 abbrev pub OutOlder : List ℕ → ℕ → Out → Type 0
@@ -56,16 +57,16 @@ OutOlder W sp (Value v at fuel) = Older W sp v
 OutOlder W sp (Halt s fuel) = Unit {0}
 
 abbrev pub ListOlder : List ℕ → ℕ → ℕ → Listed → Type 0
-ListOlder W sp n (listed.Values a b c d at fuel) = PartsOlder W sp (slotsOf a b c d) n
-ListOlder W sp n (listed.Halt s fuel) = Unit {0}
+ListOlder W sp n (Values a b c d at fuel) = PartsOlder W sp (slotsOf a b c d) n
+ListOlder W sp n (Stops s fuel) = Unit {0}
 
 abbrev pub NextIs : Out → ℕ → Type 0
 NextIs (Value v at fuel) p = at ≡ p
 NextIs (Halt s fuel) p = Unit {0}
 
 abbrev pub ListNext : Listed → ℕ → Type 0
-ListNext (listed.Values a b c d at fuel) p = at ≡ p
-ListNext (listed.Halt s fuel) p = Unit {0}
+ListNext (Values a b c d at fuel) p = at ≡ p
+ListNext (Stops s fuel) p = Unit {0}
 
 -- the answer o, with the work bytes W, is the outcome x, and p is the place after the expression
 pub record Shows (W : List ℕ) (o : Out) (p : ℕ) (x : Outcome Graph) : Type 0 where

@@ -14,10 +14,8 @@ use Rattle.cofj.specs.Running.{Outcome, stopped, Deeper}
 use Rattle.classes.specs.Layout.{layout, Stands}
 use Rattle.checker.specs.Ready.{Ready, Each, Nested}
 use Rattle.evaluator.specs.declared.Out.{Out}
-use Rattle.evaluator.specs.declared.parts.Listed.{Listed}
-use Rattle.evaluator.specs.declared.state.Frame.{Frame}
-use Rattle.evaluator.specs.State.{Kept, FrameHolds, TraceHolds, frameIn, traceIn}
-use Rattle.evaluator.specs.Answers.{OutOlder, ListOlder, Shows, ShowsAll}
+use Rattle.evaluator.specs.State.{Frame, Kept, FrameHolds, TraceHolds, frameIn, traceIn}
+use Rattle.evaluator.specs.Answers.{Listed, OutOlder, ListOlder, Shows, ShowsAll}
 
 -- ---- the table's bytes are T, and an expression nested at most `left` deep stands in them
 pub record Tabled (T : List ℕ) (t : Table) : Type 0 where

@@ -1,5 +1,8 @@
+pub mod Refs
 pub mod State
 pub mod Answers
+pub mod Stack
 pub mod Evaluation
 pub mod Calling
+pub mod Steps
 pub mod Main

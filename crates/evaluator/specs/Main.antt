@@ -7,15 +7,8 @@ use Rattle.cofj.specs.Limits.{standard}
 use Rattle.cofj.specs.Syntax.{Table}
 use Rattle.cofj.specs.Running as language
 use Rattle.evaluator.specs.declared.Out.{Out}
-use Rattle.evaluator.specs.declared.state.Held.the-variants.{Absent}
-use Rattle.evaluator.specs.declared.state.Frame.{Frame}
 use Rattle.evaluator.specs.Answers.{outIn, OutOlder}
 use Rattle.evaluator.specs.Evaluation.{Tabled}
-
-pub record NoVariables (f : Frame) : Type 0 where
-  pub this : f .this ≡ Absent
-  pub res : f .res ≡ Absent
-  pub count : f .n ≡ 0
 
 -- the outcome of main, with the work bytes W′ after; its value, if it has one, lies in block 0
 pub record Runs (T W : List ℕ) (fuel : ℕ) (W′ : List ℕ) (o : Out) : Type 0 where

@@ -1,62 +1,83 @@
 // Running an expression: it calls its list walk, which calls it back, while the nesting left falls.
-// An expression is evaluated at a block sp: blocks below sp stay, and its value is an older one or lies in block sp.
-// The trace is lent and stays as it is; its first `top` calls are open.
-use crate::Out;
-use crate::Stop;
+// An expression is evaluated at a block sp: blocks below sp stay, and so does the stack below place sp; its value stands at place sp, and is an older one or lies
+// in block sp. The answer is the place after the expression, or 0 if the run stopped.
 use crate::call::eval_call;
-use crate::parts::Listed;
-use crate::parts::finish;
-use crate::parts::front;
-use crate::parts::stopped;
-use crate::state::Frame;
-use crate::state::answer;
-use crate::state::variable;
-use crate::trace::TRACE;
+use crate::refs::NOTHING;
+use crate::refs::pack;
+use crate::refs::select_in;
+use crate::refs::unpack;
+use crate::stack::STACK;
+use crate::stack::STUCK;
+use crate::stack::TOO_LARGE;
+use crate::stack::parameter;
+use crate::stack::result;
+use crate::stack::stop;
+use crate::stack::this;
 use checker::shape::Shape;
 use checker::shape::shape_at;
 use classes::chain::field_total;
 use classes::places::SIZE;
-use values::Selected;
-use values::ValueRef;
-use values::value::select;
-ghost use Prim.Native.Nat.{ℕ, _+_, _<_};
-ghost use Rattle.evaluator.specs.Evaluation.{Fits, ListFits, Evaluates, Fields, Lists, News};
+use values::Made;
+use values::Slot;
+use values::make::make;
+ghost use mathlib.Core.Path.{_≡_};
+ghost use Prim.Native.Nat.{ℕ, _+_, _*_, _<_, _≤_};
+ghost use lib.ListN.{length};
+ghost use Rattle.evaluator.specs.Refs.{refIn};
+ghost use Rattle.evaluator.specs.Answers.{slotsOf};
+ghost use Rattle.evaluator.specs.State.{refAt};
+ghost use Rattle.evaluator.specs.Steps.{Runnable, ListRunnable, PartsReady, EvalStep, FieldStep, ListStep, NewStep, FinishStep};
 
 // The expression at `at`, nested at most `left` deep, with room for d more open calls.
 pub fn eval(
     t: &[u8; SIZE],
     work: &mut [u8],
-    f: Frame,
-    tr: &[u8; TRACE],
-    top: u8,
+    st: &mut [u32; STACK],
     at: usize,
     left: usize,
     d: usize,
-    sp: u16,
-    fuel: u16,
-) -> Out
-    requires { ⌜ Fits (now work) f (now tr) top left d sp ⌝ }
-    ensures { λ o. ⌜ Evaluates (now (t .entry)) (now (work .entry)) f (now (tr .entry)) top at left d sp fuel (now (work .exit)) o ⌝ }
+    sp: usize,
+) -> usize
+    requires { ⌜ Runnable (now work) (now st) left d sp ⌝ }
+    ensures { λ r. ⌜ EvalStep (now (t .entry)) (now (work .entry)) (now (st .entry)) at left d sp (now (work .exit)) (now (st .exit)) r ⌝ }
 {
     if left == 0 {
-        return Out::Halt(Stop::Stuck, fuel);
+        return stop(st, STUCK);
     }
-    let less = left - 1;
     let s = shape_at(t, at);
     match s {
-        Shape::This { next } => {
-            let h = f.this;
-            answer(h, next, fuel)
-        }
-        Shape::Result { next } => {
-            let h = f.res;
-            answer(h, next, fuel)
-        }
-        Shape::Parameter { k, next } => answer(variable(f, k), next, fuel),
-        Shape::Field { f: k, next } => eval_field(t, work, f, tr, top, next, less, d, sp, fuel, k),
-        Shape::Call { m, n, next } => eval_call(t, work, f, tr, top, next, less, d, sp, fuel, m, n),
-        Shape::New { c, n, next } => eval_new(t, work, f, tr, top, next, less, d, sp, fuel, c, n),
-        Shape::Nothing => Out::Halt(Stop::Stuck, fuel),
+        Shape::This { next } => this(st, sp, next),
+        Shape::Result { next } => result(st, sp, next),
+        Shape::Parameter { k, next } => parameter(st, k, sp, next),
+        Shape::Field { f: k, next } => eval_field(t, work, st, next, left - 1, d, sp, k),
+        Shape::Call { m, n, next } => eval_call(t, work, st, next, left - 1, d, sp, m, n),
+        Shape::New { c, n, next } => eval_new(t, work, st, next, left - 1, d, sp, c, n),
+        Shape::Nothing => stop(st, STUCK),
+    }
+}
+
+// The same for a part of an expression. Most are variables, which need no call of `eval`.
+pub fn eval_part(
+    t: &[u8; SIZE],
+    work: &mut [u8],
+    st: &mut [u32; STACK],
+    at: usize,
+    left: usize,
+    d: usize,
+    sp: usize,
+) -> usize
+    requires { ⌜ Runnable (now work) (now st) left d sp ⌝ }
+    ensures { λ r. ⌜ EvalStep (now (t .entry)) (now (work .entry)) (now (st .entry)) at left d sp (now (work .exit)) (now (st .exit)) r ⌝ }
+{
+    if left == 0 {
+        return stop(st, STUCK);
+    }
+    let s = shape_at(t, at);
+    match s {
+        Shape::This { next } => this(st, sp, next),
+        Shape::Result { next } => result(st, sp, next),
+        Shape::Parameter { k, next } => parameter(st, k, sp, next),
+        _ => eval(t, work, st, at, left, d, sp),
     }
 }
 
@@ -64,104 +85,108 @@ pub fn eval(
 pub fn eval_field(
     t: &[u8; SIZE],
     work: &mut [u8],
-    f: Frame,
-    tr: &[u8; TRACE],
-    top: u8,
+    st: &mut [u32; STACK],
     at: usize,
     left: usize,
     d: usize,
-    sp: u16,
-    fuel: u16,
+    sp: usize,
     k: u8,
-) -> Out
-    requires { ⌜ Fits (now work) f (now tr) top (left + 1) d sp ⌝ }
-    ensures { λ o. ⌜ Fields (now (t .entry)) (now (work .entry)) f (now (tr .entry)) top at left d sp fuel k (now (work .exit)) o ⌝ }
+) -> usize
+    requires { ⌜ Runnable (now work) (now st) (left + 1) d sp ⌝ }
+    ensures { λ r. ⌜ FieldStep (now (t .entry)) (now (work .entry)) (now (st .entry)) at left d sp k (now (work .exit)) (now (st .exit)) r ⌝ }
 {
-    let o = eval(t, work, f, tr, top, at, left, d, sp, fuel);
-    let Out::Value {
-        v,
-        at: at1,
-        fuel: fuel1,
-    } = o
-    else {
-        return o;
-    };
-    let s = select(work, v, k);
-    let Selected::Value(r) = s else {
-        return Out::Halt(Stop::Stuck, fuel1);
-    };
-    Out::Value {
-        v: r,
-        at: at1,
-        fuel: fuel1,
+    let at1 = eval_part(t, work, st, at, left, d, sp);
+    if at1 == 0 {
+        return 0;
     }
+    let r = select_in(work, st[sp], k);
+    if r == NOTHING {
+        return stop(st, STUCK);
+    }
+    st[sp] = r;
+    at1
 }
 
 // The n expressions at `at`, at the blocks from sp on.
 pub fn eval_list(
     t: &[u8; SIZE],
     work: &mut [u8],
-    f: Frame,
-    tr: &[u8; TRACE],
-    top: u8,
+    st: &mut [u32; STACK],
     at: usize,
     left: usize,
     d: usize,
-    sp: u16,
-    fuel: u16,
+    sp: usize,
     n: u8,
-) -> Listed
-    requires { ⌜ ListFits (now work) f (now tr) top left d sp n ⌝ }
-    ensures { λ o. ⌜ Lists (now (t .entry)) (now (work .entry)) f (now (tr .entry)) top at left d sp fuel n (now (work .exit)) o ⌝ }
+) -> usize
+    requires { ⌜ ListRunnable (now work) (now st) at left d sp n ⌝ }
+    ensures { λ r. ⌜ ListStep (now (t .entry)) (now (work .entry)) (now (st .entry)) at left d sp n (now (work .exit)) (now (st .exit)) r ⌝ }
 {
     if n == 0 {
-        let none = ValueRef::Undetermined;
-        return Listed::Values {
-            a: none,
-            b: none,
-            c: none,
-            d: none,
-            at,
-            fuel,
-        };
+        return at;
     }
-    let o = eval(t, work, f, tr, top, at, left, d, sp, fuel);
-    let Out::Value {
-        v,
-        at: at1,
-        fuel: fuel1,
-    } = o
-    else {
-        return stopped(o);
+    let at1 = eval_part(t, work, st, at, left, d, sp);
+    if at1 == 0 {
+        return 0;
+    }
+    eval_list(t, work, st, at1, left, d, sp + 1, n - 1)
+}
+
+// The parts at the n places from sp on, as an array; those after them do not count.
+pub fn parts_at(st: &[u32; STACK], sp: usize) -> [Slot; 4]
+    requires { ⌜ sp + 4 ≤ 336 ⌝ }
+    ensures { λ r. ⌜ r ≡ slotsOf (refAt (now (st .entry)) sp) (refAt (now (st .entry)) (sp + 1)) (refAt (now (st .entry)) (sp + 2)) (refAt (now (st .entry)) (sp + 3)) ⌝ }
+{
+    let a = Slot { r: unpack(st[sp]) };
+    let b = Slot {
+        r: unpack(st[sp + 1]),
     };
-    let l = eval_list(t, work, f, tr, top, at1, left, d, sp + 1, fuel1, n - 1);
-    front(v, l)
+    let c = Slot {
+        r: unpack(st[sp + 2]),
+    };
+    let d = Slot {
+        r: unpack(st[sp + 3]),
+    };
+    [a, b, c, d]
+}
+
+// A new object of class c with the n values from place sp on, as the value at sp; `next` is the place after.
+pub fn finish(work: &mut [u8], st: &mut [u32; STACK], c: u8, n: u8, sp: usize, next: usize) -> usize
+    requires { ⌜ PartsReady (now work) (now st) n sp next ⌝ }
+    ensures { λ r. ⌜ FinishStep (now (work .entry)) (now (st .entry)) c n sp next (now (work .exit)) (now (st .exit)) r ⌝ }
+{
+    let ps = parts_at(st, sp);
+    let o = make(work, c, ps, n, sp as u16);
+    let Made::Value(v) = o else {
+        return stop(st, TOO_LARGE);
+    };
+    st[sp] = pack(v);
+    next
 }
 
 // A new object of class c with the values of the n expressions at `at`.
 pub fn eval_new(
     t: &[u8; SIZE],
     work: &mut [u8],
-    f: Frame,
-    tr: &[u8; TRACE],
-    top: u8,
+    st: &mut [u32; STACK],
     at: usize,
     left: usize,
     d: usize,
-    sp: u16,
-    fuel: u16,
+    sp: usize,
     c: u8,
     n: u8,
-) -> Out
-    requires { ⌜ Fits (now work) f (now tr) top (left + 1) d sp ⌝ }
-    ensures { λ o. ⌜ News (now (t .entry)) (now (work .entry)) f (now (tr .entry)) top at left d sp fuel c n (now (work .exit)) o ⌝ }
+) -> usize
+    requires { ⌜ Runnable (now work) (now st) (left + 1) d sp × (0 < at) ⌝ }
+    ensures { λ r. ⌜ NewStep (now (t .entry)) (now (work .entry)) (now (st .entry)) at left d sp c n (now (work .exit)) (now (st .exit)) r ⌝ }
 {
     if field_total(t, c) != n {
-        return Out::Halt(Stop::Stuck, fuel);
+        return stop(st, STUCK);
     }
     if 4 < n {
-        return Out::Halt(Stop::Stuck, fuel);
+        return stop(st, STUCK);
     }
-    let l = eval_list(t, work, f, tr, top, at, left, d, sp, fuel, n);
-    finish(work, c, l, n, sp)
+    let at1 = eval_list(t, work, st, at, left, d, sp, n);
+    if at1 == 0 {
+        return 0;
+    }
+    finish(work, st, c, n, sp, at1)
 }

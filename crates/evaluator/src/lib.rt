@@ -1,8 +1,7 @@
 // Running a program from its class table's bytes, with values in blocks of the work buffer.
 // Not here: the table (classes), what is done with values (values), the report of a run.
-pub mod state; // frames
-pub mod parts; // the values of a list of expressions
-pub mod trace; // the trace of open calls
+pub mod refs; // values as numbers
+pub mod stack; // the stack of values, the frame and the open calls
 pub mod met; // a call met again
 pub mod find; // the method that a call names
 pub mod eval; // running an expression
@@ -17,7 +16,7 @@ pub enum Stop {
     TooLarge,
 }
 
-// What evaluation gives: a value, the place after its expression and the fuel left; or what it stopped at and the fuel left.
+// What a run gives: a value, the place after its expression and the fuel left; or what it stopped at and the fuel left.
 pub enum Out {
     Value {
         v: values::ValueRef,

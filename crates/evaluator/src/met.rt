@@ -1,38 +1,39 @@
 // A call met again: an open call with the same receiver, name and arguments, the newest first.
 // Not here: when two values are equal (values), what is done with a call that is met (call).
-use crate::trace::CALL;
-use crate::trace::TRACE;
-use crate::trace::call_at;
-use crate::trace::ref_at;
-use values::Slot;
-use values::ValueRef;
+use crate::refs::unpack;
+use crate::stack::CALLS;
+use crate::stack::STACK;
+use crate::stack::TOP;
 use values::lockstep::equal;
 ghost use mathlib.Core.Path.{_≡_};
 ghost use Prim.Native.Nat.{ℕ, _+_, _<_, _≤_};
-ghost use Rattle.cofj.specs.Values.{eqGraphs};
+ghost use Rattle.cofj.specs.Values.{eqGraph, eqGraphs};
 ghost use Rattle.cofj.specs.Running.{openMark};
 ghost use Rattle.values.specs.Layout.{Holds, valueOf};
 ghost use Rattle.values.specs.Laying.{PartsHeld, valuesFrom};
-ghost use Rattle.evaluator.specs.State.{CallHolds, CallsHold, callAt, callIn, sameOf, traceIn, metOf};
+ghost use Rattle.evaluator.specs.Refs.{refIn};
+ghost use Rattle.evaluator.specs.State.{refAt, argsAt, baseAt, CallHolds, CallsHold, callAt, callIn, sameOf, traceIn, metOf};
+ghost use Rattle.evaluator.specs.Stack.{topOf};
 
-// The mark of the open call that was met, if one was.
-pub enum Met {
-    Mark(u8),
-    No,
+// Whether two numbers stand for one value.
+pub fn same_value(work: &[u8], x: u32, y: u32) -> bool
+    requires { ⌜ Holds (now work) (refIn x) × Holds (now work) (refIn y) ⌝ }
+    ensures { λ r. ⌜ r ≡ eqGraph (valueOf (now (work .entry)) (refIn x)) (valueOf (now (work .entry)) (refIn y)) ⌝ }
+{
+    if x == y {
+        return true;
+    }
+    equal(work, unpack(x), unpack(y))
 }
 
-// Whether the first n values are the same.
-pub fn same_args(work: &[u8], a: [Slot; 4], b: [Slot; 4], n: u8) -> bool
-    requires { ⌜ PartsHeld (now work) a n × PartsHeld (now work) b n × (n ≤ 4) ⌝ }
-    ensures { λ r. ⌜ r ≡ eqGraphs (valuesFrom (now (work .entry)) a 0 n) (valuesFrom (now (work .entry)) b 0 n) ⌝ }
+// Whether the n values from place p on and those from place q on are the same.
+pub fn same_args(work: &[u8], st: &[u32; STACK], p: usize, q: usize, n: u32) -> bool
+    requires { ⌜ PartsHeld (now work) (argsAt (now st) p) n × PartsHeld (now work) (argsAt (now st) q) n × (p + 3 ≤ 336) × (q + 3 ≤ 336) × (n ≤ 3) ⌝ }
+    ensures { λ r. ⌜ r ≡ eqGraphs (valuesFrom (now (work .entry)) (argsAt (now (st .entry)) p) 0 n) (valuesFrom (now (work .entry)) (argsAt (now (st .entry)) q) 0 n) ⌝ }
 {
-    let mut i: u8 = 0;
+    let mut i: u32 = 0;
     while i < n {
-        let x = a[i as usize];
-        let y = b[i as usize];
-        let p = x.r;
-        let q = y.r;
-        if !equal(work, p, q) {
+        if !same_value(work, st[p + i as usize], st[q + i as usize]) {
             return false;
         }
         i += 1;
@@ -40,55 +41,36 @@ pub fn same_args(work: &[u8], a: [Slot; 4], b: [Slot; 4], n: u8) -> bool
     true
 }
 
-// Whether call i has this receiver, name and arguments. Most calls have another name or receiver: these are looked at before the call is read.
-pub fn same_call(
-    work: &[u8],
-    tr: &[u8; TRACE],
-    i: u8,
-    v: ValueRef,
-    m: u8,
-    args: [Slot; 4],
-    n: u8,
-) -> bool
-    requires { ⌜ (i < 16) × CallHolds (now work) (callAt (now tr) i) × Holds (now work) v × PartsHeld (now work) args n × (n ≤ 4) ⌝ }
-    ensures { λ r. ⌜ r ≡ sameOf (callIn (now (work .entry)) 0 (callAt (now (tr .entry)) i)) (valueOf (now (work .entry)) v) m (valuesFrom (now (work .entry)) args 0 n) ⌝ }
+// Whether call i has the receiver at sp and the n arguments after it; it has the name.
+pub fn same_call(work: &[u8], st: &[u32; STACK], i: u32, n: u32, sp: usize) -> bool
+    requires { ⌜ (i < 16) × (baseAt (now st) i + 4 ≤ 336) × CallHolds (now work) (callAt (now st) i) × (sp + 4 ≤ 336) × Holds (now work) (refAt (now st) sp) × PartsHeld (now work) (argsAt (now st) (sp + 1)) n × (n ≤ 3) ⌝ }
+    ensures { λ r. ⌜ r ≡ sameOf (callIn (now (work .entry)) 0 (callAt (now (st .entry)) i)) (valueOf (now (work .entry)) (refAt (now (st .entry)) sp)) (callAt (now (st .entry)) i .name) (valuesFrom (now (work .entry)) (argsAt (now (st .entry)) (sp + 1)) 0 n) ⌝ }
 {
-    if tr[CALL * (i as usize)] != m {
+    let at = CALLS + 3 * (i as usize);
+    if st[at + 1] != n {
         return false;
     }
-    let r = ref_at(tr, CALL * (i as usize) + 4);
-    if !equal(work, r, v) {
+    let base = st[at + 2];
+    let b = base as usize;
+    if !same_value(work, st[b], st[sp]) {
         return false;
     }
-    let c = call_at(tr, i);
-    if c.n != n {
-        return false;
-    }
-    let ps = c.args;
-    same_args(work, ps, args, n)
+    same_args(work, st, b + 1, sp + 1, n)
 }
 
-// The mark of the newest of the first k open calls with this receiver, name and arguments.
-pub fn open_call(
-    work: &[u8],
-    tr: &[u8; TRACE],
-    k: u8,
-    v: ValueRef,
-    m: u8,
-    args: [Slot; 4],
-    n: u8,
-) -> Met
-    requires { ⌜ CallsHold (now work) (now tr) k × Holds (now work) v × PartsHeld (now work) args n × (n ≤ 4) ⌝ }
-    ensures { λ r. ⌜ r ≡ metOf (openMark (traceIn (now (work .entry)) (now (tr .entry)) k) (valueOf (now (work .entry)) v) m (valuesFrom (now (work .entry)) args 0 n)) ⌝ }
+// The mark and 1 of the newest open call with this name, the receiver at sp and the n arguments after it; 0 if there is none.
+pub fn open_call(work: &[u8], st: &[u32; STACK], m: u32, n: u32, sp: usize) -> u32
+    requires { ⌜ CallsHold (now work) (now st) (topOf (now st)) × Holds (now work) (refAt (now st) sp) × PartsHeld (now work) (argsAt (now st) (sp + 1)) n × (sp + 4 ≤ 336) × (n ≤ 3) ⌝ }
+    ensures { λ r. ⌜ r ≡ metOf (openMark (traceIn (now (work .entry)) (now (st .entry)) (topOf (now (st .entry)))) (valueOf (now (work .entry)) (refAt (now (st .entry)) sp)) m (valuesFrom (now (work .entry)) (argsAt (now (st .entry)) (sp + 1)) 0 n)) ⌝ }
 {
-    let mut j: u8 = k;
+    let mut j: u32 = st[TOP];
     while 0 < j {
-        if tr[CALL * ((j - 1) as usize)] == m {
-            if same_call(work, tr, j - 1, v, m, args, n) {
-                return Met::Mark(j - 1);
+        if st[CALLS + 3 * ((j - 1) as usize)] == m {
+            if same_call(work, st, j - 1, n, sp) {
+                return j;
             }
         }
         j -= 1;
     }
-    Met::No
+    0
 }

@@ -1,30 +1,50 @@
 // Running main: no variables, no open calls, the first block.
 // Not here: the report of its outcome.
 use crate::Out;
+use crate::Stop;
 use crate::eval::eval;
-use crate::state::Frame;
-use crate::state::Held;
-use crate::trace::TRACE;
+use crate::refs::unpack;
+use crate::stack::BASE;
+use crate::stack::FUEL;
+use crate::stack::STACK;
+use crate::stack::STOP;
 use classes::places::MAIN;
 use classes::places::SIZE;
-use values::Slot;
-use values::ValueRef;
-ghost use Prim.Native.Nat.{ℕ, _≤_};
-ghost use lib.ListN.{length};
-ghost use Rattle.evaluator.specs.Main.{NoVariables, Runs};
+ghost use mathlib.Core.Path.{_≡_};
+ghost use Prim.Native.Nat.{ℕ, _<_, _≤_};
+ghost use lib.ListN.{length, getD};
+ghost use Rattle.evaluator.specs.Stack.{stopAt, outAt};
+ghost use Rattle.evaluator.specs.Main.{Runs};
 
-// A frame without variables.
-pub fn no_variables() -> Frame
-    ensures { λ f. ⌜ NoVariables f ⌝ }
+// Why a run stopped.
+pub fn stop_of(s: u32) -> Stop
+    ensures { λ r. ⌜ r ≡ stopAt s ⌝ }
 {
-    let s = Slot {
-        r: ValueRef::Undetermined,
-    };
-    Frame {
-        this: Held::Absent,
-        res: Held::Absent,
-        args: [s; 4],
-        n: 0,
+    if s == 0 {
+        return Stop::Stuck;
+    }
+    if s == 1 {
+        return Stop::NoFuel;
+    }
+    if s == 2 {
+        return Stop::TooDeep;
+    }
+    Stop::TooLarge
+}
+
+// What a run gives whose answer is r.
+pub fn out_of(st: &[u32; STACK], r: usize) -> Out
+    requires { ⌜ getD (now st) 274 0 < 65536 ⌝ }
+    ensures { λ o. ⌜ o ≡ outAt (now (st .entry)) 0 r ⌝ }
+{
+    let fuel = st[FUEL] as u16;
+    if r == 0 {
+        return Out::Halt(stop_of(st[STOP]), fuel);
+    }
+    Out::Value {
+        v: unpack(st[0]),
+        at: r,
+        fuel,
     }
 }
 
@@ -33,6 +53,9 @@ pub fn run(t: &[u8; SIZE], work: &mut [u8], fuel: u16) -> Out
     requires { ⌜ 65520 ≤ length (now work) ⌝ }
     ensures { λ o. ⌜ Runs (now (t .entry)) (now (work .entry)) fuel (now (work .exit)) o ⌝ }
 {
-    let none = [0u8; TRACE];
-    eval(t, work, no_variables(), &none, 0, MAIN + 1, 6, 16, 0, fuel)
+    let mut st = [0u32; STACK];
+    st[FUEL] = fuel as u32;
+    st[BASE] = 274;
+    let r = eval(t, work, &mut st, MAIN + 1, 6, 16, 0);
+    out_of(&st, r)
 }

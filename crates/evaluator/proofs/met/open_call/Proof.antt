@@ -4,24 +4,26 @@ use Rattle.evaluator.proofs.met.open_call.Reads as reads
 use Rattle.evaluator.proofs.met.open_call.Lts as lts
 use Rattle.evaluator.proofs.met.same_call.Reads as same-call-reads
 use borrow.Author.Needs.{needs}
-use Prim.Native.Nat.{_≤_}
+use Prim.Native.Nat.{_+_, _≤_}
+use Rattle.evaluator.specs.State.{refAt, argsAt}
+use Rattle.evaluator.specs.Stack.{topOf}
 use Rattle.evaluator.proofs.StateLaws as laws
 use Rattle.evaluator.proofs.StateLaws.{Left}
 
 abbrev Inv-loop : tie.InvT-loop
-Inv-loop work tr k v m args n j₀ j = (j ≤ 16) × Left work tr k v m args n j
+Inv-loop work st m n sp j₀ j = (j ≤ 16) × Left work st (topOf st) (refAt st sp) m (argsAt st (sp + 1)) n j
 
 abbrev μ-loop : tie.MeasureT-loop
-μ-loop work tr k v m args n j₀ j = j
+μ-loop work st m n sp j₀ j = j
 
 loop-holds : tie.Need-loop-holds Inv-loop μ-loop
 loop-holds c = (search laws.few-calls, search laws.left-all)
 
 same-call-requires : tie.Need-same-call-requires Inv-loop μ-loop
-same-call-requires c κs = (search needs, search laws.left-last, search needs, search needs, search needs)
+same-call-requires c κs = (search needs, search laws.left-place, search laws.left-last, search needs, search needs, search needs, search needs)
 
 returns : tie.Need-returns Inv-loop μ-loop
-returns c = search laws.left-found
+returns c = laws.left-found _ _ _ _ _ _ _ _ (c .before .before .before .before .before .loop .inv .1) (c .before .before .before .before .loop-test .taken) (c .before .before .if1 .taken) _ (c .before .same-call .ensures) (c .if2 .taken)
 
 loop-again : tie.Need-loop-again Inv-loop μ-loop
 loop-again c = (search needs, laws.either (λ x. search laws.left-more) (λ y. search laws.left-name) (c .if1 .came))
@@ -35,14 +37,16 @@ open-call-spec =
     (tie.spec
     Inv-loop
     μ-loop
+    (λ c. search needs)
     loop-holds
     (λ c. search needs)
     (λ c. search needs)
     (λ c. search needs)
     (λ c. search needs)
     (λ c. search needs)
-    same-call-requires
     (λ c. search needs)
+    (λ c. search needs)
+    same-call-requires
     returns
     (λ c. search needs)
     (λ c. search needs)

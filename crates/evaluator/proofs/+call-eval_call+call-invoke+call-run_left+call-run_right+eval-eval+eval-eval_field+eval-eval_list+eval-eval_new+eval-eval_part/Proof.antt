@@ -1,0 +1,656 @@
+use Prim.Native.Nat.{ℕ, _<_}
+use borrow.Fn.Kinds.{In}
+use borrow.Fn.PlainCycle.{Measures, is, falls, and}
+use Rattle.evaluator.proofs.call.eval_call.Reads as call·eval-call
+use Rattle.evaluator.proofs.call.eval_call.Kinds as call·eval-call-kinds
+use Rattle.evaluator.proofs.+call-eval_call+call-invoke+call-run_left+call-run_right+eval-eval+eval-eval_field+eval-eval_list+eval-eval_new+eval-eval_part.Lts-call-eval_call as call·eval-call-lts
+use Rattle.evaluator.proofs.call.invoke.Reads as call·invoke
+use Rattle.evaluator.proofs.call.invoke.Kinds as call·invoke-kinds
+use Rattle.evaluator.proofs.+call-eval_call+call-invoke+call-run_left+call-run_right+eval-eval+eval-eval_field+eval-eval_list+eval-eval_new+eval-eval_part.Lts-call-invoke as call·invoke-lts
+use Rattle.evaluator.proofs.call.run_left.Reads as call·run-left
+use Rattle.evaluator.proofs.call.run_left.Kinds as call·run-left-kinds
+use Rattle.evaluator.proofs.+call-eval_call+call-invoke+call-run_left+call-run_right+eval-eval+eval-eval_field+eval-eval_list+eval-eval_new+eval-eval_part.Lts-call-run_left as call·run-left-lts
+use Rattle.evaluator.proofs.call.run_right.Reads as call·run-right
+use Rattle.evaluator.proofs.call.run_right.Kinds as call·run-right-kinds
+use Rattle.evaluator.proofs.+call-eval_call+call-invoke+call-run_left+call-run_right+eval-eval+eval-eval_field+eval-eval_list+eval-eval_new+eval-eval_part.Lts-call-run_right as call·run-right-lts
+use Rattle.evaluator.proofs.eval.eval.Reads as eval·eval
+use Rattle.evaluator.proofs.eval.eval.Kinds as eval·eval-kinds
+use Rattle.evaluator.proofs.+call-eval_call+call-invoke+call-run_left+call-run_right+eval-eval+eval-eval_field+eval-eval_list+eval-eval_new+eval-eval_part.Lts-eval-eval as eval·eval-lts
+use Rattle.evaluator.proofs.eval.eval_field.Reads as eval·eval-field
+use Rattle.evaluator.proofs.eval.eval_field.Kinds as eval·eval-field-kinds
+use Rattle.evaluator.proofs.+call-eval_call+call-invoke+call-run_left+call-run_right+eval-eval+eval-eval_field+eval-eval_list+eval-eval_new+eval-eval_part.Lts-eval-eval_field as eval·eval-field-lts
+use Rattle.evaluator.proofs.eval.eval_list.Reads as eval·eval-list
+use Rattle.evaluator.proofs.eval.eval_list.Kinds as eval·eval-list-kinds
+use Rattle.evaluator.proofs.+call-eval_call+call-invoke+call-run_left+call-run_right+eval-eval+eval-eval_field+eval-eval_list+eval-eval_new+eval-eval_part.Lts-eval-eval_list as eval·eval-list-lts
+use Rattle.evaluator.proofs.eval.eval_new.Reads as eval·eval-new
+use Rattle.evaluator.proofs.eval.eval_new.Kinds as eval·eval-new-kinds
+use Rattle.evaluator.proofs.+call-eval_call+call-invoke+call-run_left+call-run_right+eval-eval+eval-eval_field+eval-eval_list+eval-eval_new+eval-eval_part.Lts-eval-eval_new as eval·eval-new-lts
+use Rattle.evaluator.proofs.eval.eval_part.Reads as eval·eval-part
+use Rattle.evaluator.proofs.eval.eval_part.Kinds as eval·eval-part-kinds
+use Rattle.evaluator.proofs.+call-eval_call+call-invoke+call-run_left+call-run_right+eval-eval+eval-eval_field+eval-eval_list+eval-eval_new+eval-eval_part.Lts-eval-eval_part as eval·eval-part-lts
+use Rattle.checker.proofs.shape.shape_at.Reads as shape-at-reads
+use Rattle.classes.proofs.chain.field_total.Reads as field-total-reads
+use Rattle.classes.proofs.methods.left_place.Reads as left-place-reads
+use Rattle.classes.proofs.methods.right_place.Reads as right-place-reads
+use Rattle.evaluator.proofs.eval.finish.Reads as finish-reads
+use Rattle.evaluator.proofs.find.find.Reads as find-reads
+use Rattle.evaluator.proofs.met.open_call.Reads as open-call-reads
+use Rattle.evaluator.proofs.refs.pack.Reads as pack-reads
+use Rattle.evaluator.proofs.refs.select_in.Reads as select-in-reads
+use Rattle.evaluator.proofs.refs.unpack.Reads as unpack-reads
+use Rattle.evaluator.proofs.stack.parameter.Reads as parameter-reads
+use Rattle.evaluator.proofs.stack.push.Reads as push-reads
+use Rattle.evaluator.proofs.stack.result.Reads as result-reads
+use Rattle.evaluator.proofs.stack.set_frame.Reads as set-frame-reads
+use Rattle.evaluator.proofs.stack.stop.Reads as stop-reads
+use Rattle.evaluator.proofs.stack.this.Reads as this-reads
+use Rattle.values.proofs.value.bring.Reads as bring-reads
+use Rattle.values.proofs.value.close.Reads as close-reads
+use Rattle.evaluator.proofs.+call-eval_call+call-invoke+call-run_left+call-run_right+eval-eval+eval-eval_field+eval-eval_list+eval-eval_new+eval-eval_part.{
+  statement,
+}
+use Rattle.evaluator.proofs.+call-eval_call+call-invoke+call-run_left+call-run_right+eval-eval+eval-eval_field+eval-eval_list+eval-eval_new+eval-eval_part.Tie.{
+  close,
+}
+use borrow.Author.Needs.{needs}
+use Prim.Native.Nat.{_+_, _*_}
+use mathlib.Core.List.{[]}
+use Rattle.evaluator.proofs.StepLaws as steps
+use Rattle.evaluator.proofs.CallSteps as calls
+use Rattle.evaluator.proofs.SideSteps as sides
+
+abbrev μ-call·eval-call : Measures 3 call·eval-call-kinds.ps ℕ
+μ-call·eval-call κs a = (a .1 .1 .1 .1 .1 .0) * 6000 + (a .1 .1 .1 .1 .0) * 600 + 500
+
+abbrev μ-call·invoke : Measures 3 call·invoke-kinds.ps ℕ
+μ-call·invoke κs a = (a .1 .1 .1 .1 .0) * 6000 + 1
+
+abbrev μ-call·run-left : Measures 3 call·run-left-kinds.ps ℕ
+μ-call·run-left κs a = (a .1 .1 .1 .1 .0) * 6000 + 5000
+
+abbrev μ-call·run-right : Measures 3 call·run-right-kinds.ps ℕ
+μ-call·run-right κs a = (a .1 .1 .1 .1 .0) * 6000 + 5000
+
+abbrev μ-eval·eval : Measures 3 eval·eval-kinds.ps ℕ
+μ-eval·eval κs a = (a .1 .1 .1 .1 .1 .0) * 6000 + (a .1 .1 .1 .1 .0) * 600
+
+abbrev μ-eval·eval-field : Measures 3 eval·eval-field-kinds.ps ℕ
+μ-eval·eval-field κs a = (a .1 .1 .1 .1 .1 .0) * 6000 + (a .1 .1 .1 .1 .0) * 600 + 500
+
+abbrev μ-eval·eval-list : Measures 3 eval·eval-list-kinds.ps ℕ
+μ-eval·eval-list κs a = (a .1 .1 .1 .1 .1 .0) * 6000 + (a .1 .1 .1 .1 .0) * 600 + 2 + (a .1 .1 .1 .1 .1 .1 .1 .0)
+
+abbrev μ-eval·eval-new : Measures 3 eval·eval-new-kinds.ps ℕ
+μ-eval·eval-new κs a = (a .1 .1 .1 .1 .1 .0) * 6000 + (a .1 .1 .1 .1 .0) * 600 + 500
+
+abbrev μ-eval·eval-part : Measures 3 eval·eval-part-kinds.ps ℕ
+μ-eval·eval-part κs a = (a .1 .1 .1 .1 .1 .0) * 6000 + (a .1 .1 .1 .1 .0) * 600 + 1
+
+abbrev call·eval-call-at : ℕ → In 3 call·eval-call-kinds.ps
+call·eval-call-at t =
+    and
+    3
+    call·eval-call-kinds.ps
+    (is 3 call·eval-call-kinds.ps μ-call·eval-call t)
+    call·eval-call.Pre
+
+abbrev call·eval-call-below : ℕ → In 3 call·eval-call-kinds.ps
+call·eval-call-below t =
+    and
+    3
+    call·eval-call-kinds.ps
+    (falls 3 call·eval-call-kinds.ps _<_ μ-call·eval-call t)
+    call·eval-call.Pre
+
+abbrev call·invoke-at : ℕ → In 3 call·invoke-kinds.ps
+call·invoke-at t =
+    and 3 call·invoke-kinds.ps (is 3 call·invoke-kinds.ps μ-call·invoke t) call·invoke.Pre
+
+abbrev call·invoke-below : ℕ → In 3 call·invoke-kinds.ps
+call·invoke-below t =
+    and 3 call·invoke-kinds.ps (falls 3 call·invoke-kinds.ps _<_ μ-call·invoke t) call·invoke.Pre
+
+abbrev call·run-left-at : ℕ → In 3 call·run-left-kinds.ps
+call·run-left-at t =
+    and 3 call·run-left-kinds.ps (is 3 call·run-left-kinds.ps μ-call·run-left t) call·run-left.Pre
+
+abbrev call·run-left-below : ℕ → In 3 call·run-left-kinds.ps
+call·run-left-below t =
+    and
+    3
+    call·run-left-kinds.ps
+    (falls 3 call·run-left-kinds.ps _<_ μ-call·run-left t)
+    call·run-left.Pre
+
+abbrev call·run-right-at : ℕ → In 3 call·run-right-kinds.ps
+call·run-right-at t =
+    and
+    3
+    call·run-right-kinds.ps
+    (is 3 call·run-right-kinds.ps μ-call·run-right t)
+    call·run-right.Pre
+
+abbrev call·run-right-below : ℕ → In 3 call·run-right-kinds.ps
+call·run-right-below t =
+    and
+    3
+    call·run-right-kinds.ps
+    (falls 3 call·run-right-kinds.ps _<_ μ-call·run-right t)
+    call·run-right.Pre
+
+abbrev eval·eval-at : ℕ → In 3 eval·eval-kinds.ps
+eval·eval-at t = and 3 eval·eval-kinds.ps (is 3 eval·eval-kinds.ps μ-eval·eval t) eval·eval.Pre
+
+abbrev eval·eval-below : ℕ → In 3 eval·eval-kinds.ps
+eval·eval-below t =
+    and 3 eval·eval-kinds.ps (falls 3 eval·eval-kinds.ps _<_ μ-eval·eval t) eval·eval.Pre
+
+abbrev eval·eval-field-at : ℕ → In 3 eval·eval-field-kinds.ps
+eval·eval-field-at t =
+    and
+    3
+    eval·eval-field-kinds.ps
+    (is 3 eval·eval-field-kinds.ps μ-eval·eval-field t)
+    eval·eval-field.Pre
+
+abbrev eval·eval-field-below : ℕ → In 3 eval·eval-field-kinds.ps
+eval·eval-field-below t =
+    and
+    3
+    eval·eval-field-kinds.ps
+    (falls 3 eval·eval-field-kinds.ps _<_ μ-eval·eval-field t)
+    eval·eval-field.Pre
+
+abbrev eval·eval-list-at : ℕ → In 3 eval·eval-list-kinds.ps
+eval·eval-list-at t =
+    and
+    3
+    eval·eval-list-kinds.ps
+    (is 3 eval·eval-list-kinds.ps μ-eval·eval-list t)
+    eval·eval-list.Pre
+
+abbrev eval·eval-list-below : ℕ → In 3 eval·eval-list-kinds.ps
+eval·eval-list-below t =
+    and
+    3
+    eval·eval-list-kinds.ps
+    (falls 3 eval·eval-list-kinds.ps _<_ μ-eval·eval-list t)
+    eval·eval-list.Pre
+
+abbrev eval·eval-new-at : ℕ → In 3 eval·eval-new-kinds.ps
+eval·eval-new-at t =
+    and 3 eval·eval-new-kinds.ps (is 3 eval·eval-new-kinds.ps μ-eval·eval-new t) eval·eval-new.Pre
+
+abbrev eval·eval-new-below : ℕ → In 3 eval·eval-new-kinds.ps
+eval·eval-new-below t =
+    and
+    3
+    eval·eval-new-kinds.ps
+    (falls 3 eval·eval-new-kinds.ps _<_ μ-eval·eval-new t)
+    eval·eval-new.Pre
+
+abbrev eval·eval-part-at : ℕ → In 3 eval·eval-part-kinds.ps
+eval·eval-part-at t =
+    and
+    3
+    eval·eval-part-kinds.ps
+    (is 3 eval·eval-part-kinds.ps μ-eval·eval-part t)
+    eval·eval-part.Pre
+
+abbrev eval·eval-part-below : ℕ → In 3 eval·eval-part-kinds.ps
+eval·eval-part-below t =
+    and
+    3
+    eval·eval-part-kinds.ps
+    (falls 3 eval·eval-part-kinds.ps _<_ μ-eval·eval-part t)
+    eval·eval-part.Pre
+
+abbrev call·eval-call-claims : ℕ → call·eval-call-lts.Claims
+call·eval-call-claims t = (stop-reads.Asked, stop-reads.Learnt, eval·eval-part-below t, eval·eval-part.Post, unpack-reads.Asked, unpack-reads.Learnt, find-reads.Asked, find-reads.Learnt, call·invoke-below t, call·invoke.Post, eval·eval-list-below t, eval·eval-list.Post)
+
+abbrev call·invoke-claims : ℕ → call·invoke-lts.Claims
+call·invoke-claims t = (stop-reads.Asked, stop-reads.Learnt, open-call-reads.Asked, open-call-reads.Learnt, call·run-left-below t, call·run-left.Post, call·run-right-below t, call·run-right.Post)
+
+abbrev call·run-left-claims : ℕ → call·run-left-lts.Claims
+call·run-left-claims t = (push-reads.Asked, push-reads.Learnt, set-frame-reads.Asked, set-frame-reads.Learnt, left-place-reads.Asked, left-place-reads.Learnt, eval·eval-below t, eval·eval.Post, unpack-reads.Asked, unpack-reads.Learnt, close-reads.Asked, close-reads.Learnt, pack-reads.Asked, pack-reads.Learnt)
+
+abbrev call·run-right-claims : ℕ → call·run-right-lts.Claims
+call·run-right-claims t = (set-frame-reads.Asked, set-frame-reads.Learnt, right-place-reads.Asked, right-place-reads.Learnt, eval·eval-below t, eval·eval.Post, unpack-reads.Asked, unpack-reads.Learnt, bring-reads.Asked, bring-reads.Learnt, pack-reads.Asked, pack-reads.Learnt)
+
+abbrev eval·eval-claims : ℕ → eval·eval-lts.Claims
+eval·eval-claims t = (stop-reads.Asked, stop-reads.Learnt, shape-at-reads.Asked, shape-at-reads.Learnt, this-reads.Asked, this-reads.Learnt, result-reads.Asked, result-reads.Learnt, parameter-reads.Asked, parameter-reads.Learnt, eval·eval-field-below t, eval·eval-field.Post, call·eval-call-below t, call·eval-call.Post, eval·eval-new-below t, eval·eval-new.Post)
+
+abbrev eval·eval-field-claims : ℕ → eval·eval-field-lts.Claims
+eval·eval-field-claims t = (eval·eval-part-below t, eval·eval-part.Post, select-in-reads.Asked, select-in-reads.Learnt, stop-reads.Asked, stop-reads.Learnt)
+
+abbrev eval·eval-list-claims : ℕ → eval·eval-list-lts.Claims
+eval·eval-list-claims t = (eval·eval-part-below t, eval·eval-part.Post, eval·eval-list-below t, eval·eval-list.Post)
+
+abbrev eval·eval-new-claims : ℕ → eval·eval-new-lts.Claims
+eval·eval-new-claims t = (field-total-reads.Asked, field-total-reads.Learnt, stop-reads.Asked, stop-reads.Learnt, eval·eval-list-below t, eval·eval-list.Post, finish-reads.Asked, finish-reads.Learnt)
+
+abbrev eval·eval-part-claims : ℕ → eval·eval-part-lts.Claims
+eval·eval-part-claims t = (stop-reads.Asked, stop-reads.Learnt, shape-at-reads.Asked, shape-at-reads.Learnt, this-reads.Asked, this-reads.Learnt, result-reads.Asked, result-reads.Learnt, parameter-reads.Asked, parameter-reads.Learnt, eval·eval-below t, eval·eval.Post)
+
+call·eval-call-stop-requires : (t : ℕ) → call·eval-call-lts.Need-stop-requires (call·eval-call-claims t) (call·eval-call-at t) call·eval-call.Post
+call·eval-call-stop-requires t c κs = search steps.run-full
+
+call·eval-call-returns : (t : ℕ) → call·eval-call-lts.Need-returns (call·eval-call-claims t) (call·eval-call-at t) call·eval-call.Post
+call·eval-call-returns t c = search calls.call-nested
+
+call·eval-call-eval-part-requires : (t : ℕ) → call·eval-call-lts.Need-eval-part-requires (call·eval-call-claims t) (call·eval-call-at t) call·eval-call.Post
+call·eval-call-eval-part-requires t c κs = (search needs, search steps.run-inner)
+
+call·eval-call-returns-2 : (t : ℕ) → call·eval-call-lts.Need-returns-2 (call·eval-call-claims t) (call·eval-call-at t) call·eval-call.Post
+call·eval-call-returns-2 t c = search calls.call-stops
+
+call·eval-call-find-requires : (t : ℕ) → call·eval-call-lts.Need-find-requires (call·eval-call-claims t) (call·eval-call-at t) call·eval-call.Post
+call·eval-call-find-requires t c κs = search calls.receiver-there
+
+call·eval-call-stop-requires-2 : (t : ℕ) → call·eval-call-lts.Need-stop-requires-2 (call·eval-call-claims t) (call·eval-call-at t) call·eval-call.Post
+call·eval-call-stop-requires-2 t c κs = search steps.full-after
+
+call·eval-call-returns-3 : (t : ℕ) → call·eval-call-lts.Need-returns-3 (call·eval-call-claims t) (call·eval-call-at t) call·eval-call.Post
+call·eval-call-returns-3 t c = calls.call-lacks _ _ _ _ _ _ _ _ _ (c .before .before .before .before .before .before .before .before .before .before .before .before .before .before .before .before .pre .1) _ _ _ (c .before .before .before .before .before .before .before .before .before .before .before .eval-part .ensures) (c .before .before .before .before .before .before .before .before .if2 .left) _ (c .before .before .before .before .before .unpack .ensures) _ (c .before .before .before .before .find .ensures) (c .before .before .enum-told .given .1) _ _ (c .stop2 .ensures)
+
+call·eval-call-invoke-requires : (t : ℕ) → call·eval-call-lts.Need-invoke-requires (call·eval-call-claims t) (call·eval-call-at t) call·eval-call.Post
+call·eval-call-invoke-requires t c κs = (search needs, calls.direct-run _ _ _ _ _ _ _ _ _ (c .before .before .before .before .before .before .before .before .before .before .before .before .before .before .before .before .before .before .pre .1) _ _ _ (c .before .before .before .before .before .before .before .before .before .before .before .before .before .eval-part .ensures) (c .before .before .before .before .before .before .before .before .before .before .if2 .left) _ (c .before .before .before .before .before .before .before .unpack .ensures) _ (c .before .before .before .before .before .before .find .ensures) (c .before .before .before .before .before .before .before .before .before .before .before .before .before .before .before .before .if1 .left) _ (c .before .before .before .before .w .given .1) (c .before .before .if3 .taken))
+
+call·eval-call-returns-4 : (t : ℕ) → call·eval-call-lts.Need-returns-4 (call·eval-call-claims t) (call·eval-call-at t) call·eval-call.Post
+call·eval-call-returns-4 t c = search calls.direct-is
+
+call·eval-call-eval-list-requires : (t : ℕ) → call·eval-call-lts.Need-eval-list-requires (call·eval-call-claims t) (call·eval-call-at t) call·eval-call.Post
+call·eval-call-eval-list-requires t c κs = (search needs, calls.args-run _ _ _ _ _ _ _ _ _ (c .before .before .before .before .before .before .before .before .before .before .before .before .before .before .before .before .before .before .pre .1) _ _ _ (c .before .before .before .before .before .before .before .before .before .before .before .before .before .eval-part .ensures) (c .before .before .before .before .before .before .before .before .before .before .if2 .left) _ (c .before .before .before .before .before .before .before .unpack .ensures) _ (c .before .before .before .before .before .before .find .ensures) (c .before .before .before .before .before .before .before .before .before .before .before .before .before .before .before .before .if1 .left) _ (c .before .before .before .before .w .given .1))
+
+call·eval-call-returns-5 : (t : ℕ) → call·eval-call-lts.Need-returns-5 (call·eval-call-claims t) (call·eval-call-at t) call·eval-call.Post
+call·eval-call-returns-5 t c = search calls.args-stop
+
+call·eval-call-invoke-requires-2 : (t : ℕ) → call·eval-call-lts.Need-invoke-requires-2 (call·eval-call-claims t) (call·eval-call-at t) call·eval-call.Post
+call·eval-call-invoke-requires-2 t c κs = (search needs, calls.call-run _ _ _ _ _ _ _ _ _ (c .before .before .before .before .before .before .before .before .before .before .before .before .before .before .before .before .before .before .before .before .before .before .before .before .pre .1) _ _ _ (c .before .before .before .before .before .before .before .before .before .before .before .before .before .before .before .before .before .before .before .eval-part .ensures) (c .before .before .before .before .before .before .before .before .before .before .before .before .before .before .before .before .if2 .left) _ (c .before .before .before .before .before .before .before .before .before .before .before .before .before .unpack .ensures) _ (c .before .before .before .before .before .before .before .before .before .before .before .before .find .ensures) (c .before .before .before .before .before .before .before .before .before .before .before .before .before .before .before .before .before .before .before .before .before .before .if1 .left) _ (c .before .before .before .before .before .before .before .before .before .before .w .given .1) _ _ _ (c .before .before .before .before .before .eval-list .ensures) (c .before .before .if4 .left))
+
+call·eval-call-returns-6 : (t : ℕ) → call·eval-call-lts.Need-returns-6 (call·eval-call-claims t) (call·eval-call-at t) call·eval-call.Post
+call·eval-call-returns-6 t c = calls.call-goes-on _ _ _ _ _ _ _ _ _ (c .before .before .before .before .before .before .before .before .before .before .before .before .before .before .before .before .before .before .before .before .before .before .before .before .before .before .before .pre .1) _ _ _ (c .before .before .before .before .before .before .before .before .before .before .before .before .before .before .before .before .before .before .before .before .before .before .eval-part .ensures) (c .before .before .before .before .before .before .before .before .before .before .before .before .before .before .before .before .before .before .before .if2 .left) _ (c .before .before .before .before .before .before .before .before .before .before .before .before .before .before .before .before .unpack .ensures) _ (c .before .before .before .before .before .before .before .before .before .before .before .before .before .before .before .find .ensures) (c .before .before .before .before .before .before .before .before .before .before .before .before .before .before .before .before .before .before .before .before .before .before .before .before .before .if1 .left) _ (c .before .before .before .before .before .before .before .before .before .before .before .before .before .w .given .1) _ _ _ (c .before .before .before .before .before .before .before .before .eval-list .ensures) (c .before .before .before .before .before .if4 .left) _ _ _ (c .before .before .invoke2 .ensures)
+
+call·invoke-stop-requires : (t : ℕ) → call·invoke-lts.Need-stop-requires (call·invoke-claims t) (call·invoke-at t) call·invoke.Post
+call·invoke-stop-requires t c κs = search calls.calls-full
+
+call·invoke-returns : (t : ℕ) → call·invoke-lts.Need-returns (call·invoke-claims t) (call·invoke-at t) call·invoke.Post
+call·invoke-returns t c = search calls.invoke-stops
+
+call·invoke-returns-2 : (t : ℕ) → call·invoke-lts.Need-returns-2 (call·invoke-claims t) (call·invoke-at t) call·invoke.Post
+call·invoke-returns-2 t c = search calls.invoke-sinks
+
+call·invoke-open-call-requires : (t : ℕ) → call·invoke-lts.Need-open-call-requires (call·invoke-claims t) (call·invoke-at t) call·invoke.Post
+call·invoke-open-call-requires t c κs = (calls.spent-calls _ _ _ _ _ _ (c .before .before .before .before .before .before .pre .1), calls.spent-held _ _ _ _ _ _ (c .before .before .before .before .before .before .pre .1), calls.spent-parts _ _ _ _ _ _ (c .before .before .before .before .before .before .pre .1), calls.call-room _ _ _ _ _ _ (c .before .before .before .before .before .before .pre .1), calls.call-few _ _ _ _ _ _ (c .before .before .before .before .before .before .pre .1))
+
+call·invoke-run-left-requires : (t : ℕ) → call·invoke-lts.Need-run-left-requires (call·invoke-claims t) (call·invoke-at t) call·invoke.Post
+call·invoke-run-left-requires t c κs = (search needs, calls.spent-body _ _ _ _ _ _ (c .before .before .before .before .before .before .before .before .before .before .pre .1) (c .before .before .before .before .before .before .if2 .left))
+
+call·invoke-returns-3 : (t : ℕ) → call·invoke-lts.Need-returns-3 (call·invoke-claims t) (call·invoke-at t) call·invoke.Post
+call·invoke-returns-3 t c = search calls.invoke-goes-left
+
+call·invoke-run-right-requires : (t : ℕ) → call·invoke-lts.Need-run-right-requires (call·invoke-claims t) (call·invoke-at t) call·invoke.Post
+call·invoke-run-right-requires t c κs = (search needs, (calls.spent-body _ _ _ _ _ _ (c .before .before .before .before .before .before .before .before .before .before .pre .1) (c .before .before .before .before .before .before .if2 .left), search needs, calls.spent-mark _ _ _ _ _ _ (c .before .before .before .before .before .before .before .before .before .before .pre .1) _ _ (c .before .before .before .open-call .ensures) (c .before .before .if3 .left)))
+
+call·invoke-returns-4 : (t : ℕ) → call·invoke-lts.Need-returns-4 (call·invoke-claims t) (call·invoke-at t) call·invoke.Post
+call·invoke-returns-4 t c = search calls.invoke-goes-right
+
+call·run-left-push-requires : (t : ℕ) → call·run-left-lts.Need-push-requires (call·run-left-claims t) (call·run-left-at t) call·run-left.Post
+call·run-left-push-requires t c κs = (search sides.body-full, sides.body-top _ _ _ _ _ _ (c .before .before .before .before .before .before .pre .1))
+
+call·run-left-eval-requires : (t : ℕ) → call·run-left-lts.Need-eval-requires (call·run-left-claims t) (call·run-left-at t) call·run-left.Post
+call·run-left-eval-requires t c κs = (search needs, sides.left-run [] _ _ _ _ _ _ _ 0 (c .before .before .before .before .before .before .before .before .before .before .before .before .pre .1) _ (c .before .before .before .before .before .push .ensures) _ (c .before .before .before .set-frame .ensures))
+
+call·run-left-returns : (t : ℕ) → call·run-left-lts.Need-returns (call·run-left-claims t) (call·run-left-at t) call·run-left.Post
+call·run-left-returns t c = search sides.left-stops
+
+call·run-left-cast-close-2 : (t : ℕ) → call·run-left-lts.Need-cast-close-2 (call·run-left-claims t) (call·run-left-at t) call·run-left.Post
+call·run-left-cast-close-2 t c = search (needs, sides.body-short)
+
+call·run-left-close-requires : (t : ℕ) → call·run-left-lts.Need-close-requires (call·run-left-claims t) (call·run-left-at t) call·run-left.Post
+call·run-left-close-requires t c κs = (sides.left-held _ _ _ _ _ _ _ _ _ (c .before .before .before .before .before .before .before .before .before .before .before .before .before .before .before .before .before .before .before .before .before .pre .1) _ (c .before .before .before .before .before .before .before .before .before .before .before .before .before .before .push .ensures) _ (c .before .before .before .before .before .before .before .before .before .before .before .before .set-frame .ensures) _ (c .before .before .before .before .before .before .before .before .before .before .before .left-place .ensures) _ _ _ (c .before .before .before .before .before .before .before .before .eval .ensures) _ (c .before .before .before .before .set-frame2 .ensures) (c .before .before .before .if1 .left) _ (c .unpack .ensures), sides.body-mark _ _ _ _ _ _ (c .before .before .before .before .before .before .before .before .before .before .before .before .before .before .before .before .before .before .before .before .before .pre .1), sides.left-length _ _ _ _ _ _ _ _ _ (c .before .before .before .before .before .before .before .before .before .before .before .before .before .before .before .before .before .before .before .before .before .pre .1) _ (c .before .before .before .before .before .before .before .before .before .before .before .before .before .before .push .ensures) _ (c .before .before .before .before .before .before .before .before .before .before .before .before .set-frame .ensures) _ (c .before .before .before .before .before .before .before .before .before .before .before .left-place .ensures) _ _ _ (c .before .before .before .before .before .before .before .before .eval .ensures) _ (c .before .before .before .before .set-frame2 .ensures) (c .before .before .before .if1 .left) _ (c .unpack .ensures))
+
+call·run-left-pack-requires : (t : ℕ) → call·run-left-lts.Need-pack-requires (call·run-left-claims t) (call·run-left-at t) call·run-left.Post
+call·run-left-pack-requires t c κs = sides.left-small _ _ _ _ _ _ _ _ _ (c .before .before .before .before .before .before .before .before .before .before .before .before .before .before .before .before .before .before .before .before .before .before .before .before .pre .1) _ (c .before .before .before .before .before .before .before .before .before .before .before .before .before .before .before .before .before .push .ensures) _ (c .before .before .before .before .before .before .before .before .before .before .before .before .before .before .before .set-frame .ensures) _ (c .before .before .before .before .before .before .before .before .before .before .before .before .before .before .left-place .ensures) _ _ _ (c .before .before .before .before .before .before .before .before .before .before .before .eval .ensures) _ (c .before .before .before .before .before .before .before .set-frame2 .ensures) (c .before .before .before .before .before .before .if1 .left) _ (c .before .before .before .unpack .ensures) _ _ (c .before .before .close .ensures)
+
+call·run-left-mul-st : (t : ℕ) → call·run-left-lts.Need-mul-st (call·run-left-claims t) (call·run-left-at t) call·run-left.Post
+call·run-left-mul-st t c = search (needs, sides.body-index _ _ _ _ _ _ (c .before .before .before .before .before .before .before .before .before .before .before .before .before .before .before .before .before .before .before .before .before .before .before .before .before .pre .1))
+
+call·run-left-element-write-st-2 : (t : ℕ) → call·run-left-lts.Need-element-write-st-2 (call·run-left-claims t) (call·run-left-at t) call·run-left.Post
+call·run-left-element-write-st-2 t c = sides.body-index _ _ _ _ _ _ (c .before .before .before .before .before .before .before .before .before .before .before .before .before .before .before .before .before .before .before .before .before .before .before .before .before .pre .1)
+
+call·run-left-returns-2 : (t : ℕ) → call·run-left-lts.Need-returns-2 (call·run-left-claims t) (call·run-left-at t) call·run-left.Post
+call·run-left-returns-2 t c = sides.left-gives _ _ _ _ _ _ _ _ _ (c .before .before .before .before .before .before .before .before .before .before .before .before .before .before .before .before .before .before .before .before .before .before .before .before .before .pre .1) _ (c .before .before .before .before .before .before .before .before .before .before .before .before .before .before .before .before .before .before .push .ensures) _ (c .before .before .before .before .before .before .before .before .before .before .before .before .before .before .before .before .set-frame .ensures) _ (c .before .before .before .before .before .before .before .before .before .before .before .before .before .before .before .left-place .ensures) _ _ _ (c .before .before .before .before .before .before .before .before .before .before .before .before .eval .ensures) _ (c .before .before .before .before .before .before .before .before .set-frame2 .ensures) (c .before .before .before .before .before .before .before .if1 .left) _ (c .before .before .before .before .unpack .ensures) _ _ _ (c .before .before .before .close .ensures) (c .pack .ensures)
+
+call·run-right-eval-requires : (t : ℕ) → call·run-right-lts.Need-eval-requires (call·run-right-claims t) (call·run-right-at t) call·run-right.Post
+call·run-right-eval-requires t c κs = (search needs, sides.right-run [] _ _ _ _ _ _ 0 _ (c .before .before .before .before .before .before .before .before .before .pre .1 .0) (c .before .before .before .before .before .before .before .before .before .pre .1 .1) (c .before .before .before .before .before .before .before .before .before .pre .1 .2) _ (c .before .before .before .set-frame .ensures))
+
+call·run-right-returns : (t : ℕ) → call·run-right-lts.Need-returns (call·run-right-claims t) (call·run-right-at t) call·run-right.Post
+call·run-right-returns t c = search sides.right-stops
+
+call·run-right-bring-requires : (t : ℕ) → call·run-right-lts.Need-bring-requires (call·run-right-claims t) (call·run-right-at t) call·run-right.Post
+call·run-right-bring-requires t c κs = (sides.right-held _ _ _ _ _ _ _ _ _ (c .before .before .before .before .before .before .before .before .before .before .before .before .before .before .before .before .before .before .pre .1 .0) (c .before .before .before .before .before .before .before .before .before .before .before .before .before .before .before .before .before .before .pre .1 .1) (c .before .before .before .before .before .before .before .before .before .before .before .before .before .before .before .before .before .before .pre .1 .2) _ (c .before .before .before .before .before .before .before .before .before .before .before .before .set-frame .ensures) _ (c .before .before .before .before .before .before .before .before .before .before .before .right-place .ensures) _ _ _ (c .before .before .before .before .before .before .before .before .eval .ensures) _ (c .before .before .before .before .set-frame2 .ensures) (c .before .before .before .if1 .left) _ (c .unpack .ensures), sides.right-length _ _ _ _ _ _ _ _ _ (c .before .before .before .before .before .before .before .before .before .before .before .before .before .before .before .before .before .before .pre .1 .0) (c .before .before .before .before .before .before .before .before .before .before .before .before .before .before .before .before .before .before .pre .1 .1) (c .before .before .before .before .before .before .before .before .before .before .before .before .before .before .before .before .before .before .pre .1 .2) _ (c .before .before .before .before .before .before .before .before .before .before .before .before .set-frame .ensures) _ (c .before .before .before .before .before .before .before .before .before .before .before .right-place .ensures) _ _ _ (c .before .before .before .before .before .before .before .before .eval .ensures) _ (c .before .before .before .before .set-frame2 .ensures) (c .before .before .before .if1 .left) _ (c .unpack .ensures))
+
+call·run-right-pack-requires : (t : ℕ) → call·run-right-lts.Need-pack-requires (call·run-right-claims t) (call·run-right-at t) call·run-right.Post
+call·run-right-pack-requires t c κs = sides.right-small _ _ _ _ _ _ _ _ _ (c .before .before .before .before .before .before .before .before .before .before .before .before .before .before .before .before .before .before .before .before .before .pre .1 .0) (c .before .before .before .before .before .before .before .before .before .before .before .before .before .before .before .before .before .before .before .before .before .pre .1 .1) (c .before .before .before .before .before .before .before .before .before .before .before .before .before .before .before .before .before .before .before .before .before .pre .1 .2) _ (c .before .before .before .before .before .before .before .before .before .before .before .before .before .before .before .set-frame .ensures) _ (c .before .before .before .before .before .before .before .before .before .before .before .before .before .before .right-place .ensures) _ _ _ (c .before .before .before .before .before .before .before .before .before .before .before .eval .ensures) _ (c .before .before .before .before .before .before .before .set-frame2 .ensures) (c .before .before .before .before .before .before .if1 .left) _ (c .before .before .before .unpack .ensures) _ _ (c .before .before .bring .ensures)
+
+call·run-right-mul-st : (t : ℕ) → call·run-right-lts.Need-mul-st (call·run-right-claims t) (call·run-right-at t) call·run-right.Post
+call·run-right-mul-st t c = search (needs, sides.body-short)
+
+call·run-right-element-write-st : (t : ℕ) → call·run-right-lts.Need-element-write-st (call·run-right-claims t) (call·run-right-at t) call·run-right.Post
+call·run-right-element-write-st t c = sides.body-index _ _ _ _ _ _ (c .before .before .before .before .before .before .before .before .before .before .before .before .before .before .before .before .before .before .before .before .before .before .pre .1 .0)
+
+call·run-right-returns-2 : (t : ℕ) → call·run-right-lts.Need-returns-2 (call·run-right-claims t) (call·run-right-at t) call·run-right.Post
+call·run-right-returns-2 t c = sides.right-gives _ _ _ _ _ _ _ _ _ (c .before .before .before .before .before .before .before .before .before .before .before .before .before .before .before .before .before .before .before .before .before .before .pre .1 .0) (c .before .before .before .before .before .before .before .before .before .before .before .before .before .before .before .before .before .before .before .before .before .before .pre .1 .1) (c .before .before .before .before .before .before .before .before .before .before .before .before .before .before .before .before .before .before .before .before .before .before .pre .1 .2) _ (c .before .before .before .before .before .before .before .before .before .before .before .before .before .before .before .before .set-frame .ensures) _ (c .before .before .before .before .before .before .before .before .before .before .before .before .before .before .before .right-place .ensures) _ _ _ (c .before .before .before .before .before .before .before .before .before .before .before .before .eval .ensures) _ (c .before .before .before .before .before .before .before .before .set-frame2 .ensures) (c .before .before .before .before .before .before .before .if1 .left) _ (c .before .before .before .before .unpack .ensures) _ _ _ (c .before .before .before .bring .ensures) (c .pack .ensures)
+
+eval·eval-stop-requires : (t : ℕ) → eval·eval-lts.Need-stop-requires (eval·eval-claims t) (eval·eval-at t) eval·eval.Post
+eval·eval-stop-requires t c κs = search steps.run-full
+
+eval·eval-returns : (t : ℕ) → eval·eval-lts.Need-returns (eval·eval-claims t) (eval·eval-at t) eval·eval.Post
+eval·eval-returns t c = search steps.step-zero
+
+eval·eval-this-requires : (t : ℕ) → eval·eval-lts.Need-this-requires (eval·eval-claims t) (eval·eval-at t) eval·eval.Post
+eval·eval-this-requires t c κs = (search steps.run-full, search steps.run-short, search steps.next-this)
+
+eval·eval-result-requires : (t : ℕ) → eval·eval-lts.Need-result-requires (eval·eval-claims t) (eval·eval-at t) eval·eval.Post
+eval·eval-result-requires t c κs = (search steps.run-full, search steps.run-short, search steps.run-framed, search steps.next-result)
+
+eval·eval-parameter-requires : (t : ℕ) → eval·eval-lts.Need-parameter-requires (eval·eval-claims t) (eval·eval-at t) eval·eval.Post
+eval·eval-parameter-requires t c κs = (search steps.run-full, search steps.run-short, search steps.run-framed, search steps.next-parameter)
+
+eval·eval-eval-field-requires : (t : ℕ) → eval·eval-lts.Need-eval-field-requires (eval·eval-claims t) (eval·eval-at t) eval·eval.Post
+eval·eval-eval-field-requires t c κs = (search needs, search steps.run-part)
+
+eval·eval-eval-call-requires : (t : ℕ) → eval·eval-lts.Need-eval-call-requires (eval·eval-claims t) (eval·eval-at t) eval·eval.Post
+eval·eval-eval-call-requires t c κs = (search needs, search steps.run-part)
+
+eval·eval-eval-new-requires : (t : ℕ) → eval·eval-lts.Need-eval-new-requires (eval·eval-claims t) (eval·eval-at t) eval·eval.Post
+eval·eval-eval-new-requires t c κs = (search needs, (search steps.run-part, search steps.next-new))
+
+eval·eval-stop-requires-2 : (t : ℕ) → eval·eval-lts.Need-stop-requires-2 (eval·eval-claims t) (eval·eval-at t) eval·eval.Post
+eval·eval-stop-requires-2 t c κs = search steps.run-full
+
+eval·eval-returns-2 : (t : ℕ) → eval·eval-lts.Need-returns-2 (eval·eval-claims t) (eval·eval-at t) eval·eval.Post
+eval·eval-returns-2 t c = search steps.step-this
+
+eval·eval-returns-3 : (t : ℕ) → eval·eval-lts.Need-returns-3 (eval·eval-claims t) (eval·eval-at t) eval·eval.Post
+eval·eval-returns-3 t c = search steps.step-result
+
+eval·eval-returns-4 : (t : ℕ) → eval·eval-lts.Need-returns-4 (eval·eval-claims t) (eval·eval-at t) eval·eval.Post
+eval·eval-returns-4 t c = search steps.step-parameter
+
+eval·eval-returns-5 : (t : ℕ) → eval·eval-lts.Need-returns-5 (eval·eval-claims t) (eval·eval-at t) eval·eval.Post
+eval·eval-returns-5 t c = search steps.step-field
+
+eval·eval-returns-6 : (t : ℕ) → eval·eval-lts.Need-returns-6 (eval·eval-claims t) (eval·eval-at t) eval·eval.Post
+eval·eval-returns-6 t c = search steps.step-call
+
+eval·eval-returns-7 : (t : ℕ) → eval·eval-lts.Need-returns-7 (eval·eval-claims t) (eval·eval-at t) eval·eval.Post
+eval·eval-returns-7 t c = search steps.step-new
+
+eval·eval-returns-8 : (t : ℕ) → eval·eval-lts.Need-returns-8 (eval·eval-claims t) (eval·eval-at t) eval·eval.Post
+eval·eval-returns-8 t c = search steps.step-nothing
+
+eval·eval-field-eval-part-requires : (t : ℕ) → eval·eval-field-lts.Need-eval-part-requires (eval·eval-field-claims t) (eval·eval-field-at t) eval·eval-field.Post
+eval·eval-field-eval-part-requires t c κs = (search needs, search steps.run-inner)
+
+eval·eval-field-returns : (t : ℕ) → eval·eval-field-lts.Need-returns (eval·eval-field-claims t) (eval·eval-field-at t) eval·eval-field.Post
+eval·eval-field-returns t c = search steps.field-stops
+
+eval·eval-field-select-in-requires : (t : ℕ) → eval·eval-field-lts.Need-select-in-requires (eval·eval-field-claims t) (eval·eval-field-at t) eval·eval-field.Post
+eval·eval-field-select-in-requires t c κs = search steps.value-held
+
+eval·eval-field-stop-requires : (t : ℕ) → eval·eval-field-lts.Need-stop-requires (eval·eval-field-claims t) (eval·eval-field-at t) eval·eval-field.Post
+eval·eval-field-stop-requires t c κs = search steps.full-after
+
+eval·eval-field-returns-2 : (t : ℕ) → eval·eval-field-lts.Need-returns-2 (eval·eval-field-claims t) (eval·eval-field-at t) eval·eval-field.Post
+eval·eval-field-returns-2 t c = search steps.field-lacks
+
+eval·eval-field-returns-3 : (t : ℕ) → eval·eval-field-lts.Need-returns-3 (eval·eval-field-claims t) (eval·eval-field-at t) eval·eval-field.Post
+eval·eval-field-returns-3 t c = search steps.field-has
+
+eval·eval-list-returns : (t : ℕ) → eval·eval-list-lts.Need-returns (eval·eval-list-claims t) (eval·eval-list-at t) eval·eval-list.Post
+eval·eval-list-returns t c = search steps.list-done
+
+eval·eval-list-eval-part-requires : (t : ℕ) → eval·eval-list-lts.Need-eval-part-requires (eval·eval-list-claims t) (eval·eval-list-at t) eval·eval-list.Post
+eval·eval-list-eval-part-requires t c κs = (search needs, search steps.list-run)
+
+eval·eval-list-returns-2 : (t : ℕ) → eval·eval-list-lts.Need-returns-2 (eval·eval-list-claims t) (eval·eval-list-at t) eval·eval-list.Post
+eval·eval-list-returns-2 t c = search steps.list-stops
+
+eval·eval-list-eval-list-requires : (t : ℕ) → eval·eval-list-lts.Need-eval-list-requires (eval·eval-list-claims t) (eval·eval-list-at t) eval·eval-list.Post
+eval·eval-list-eval-list-requires t c κs = (search needs, search steps.list-later)
+
+eval·eval-list-returns-3 : (t : ℕ) → eval·eval-list-lts.Need-returns-3 (eval·eval-list-claims t) (eval·eval-list-at t) eval·eval-list.Post
+eval·eval-list-returns-3 t c = search steps.list-goes-on
+
+eval·eval-new-stop-requires : (t : ℕ) → eval·eval-new-lts.Need-stop-requires (eval·eval-new-claims t) (eval·eval-new-at t) eval·eval-new.Post
+eval·eval-new-stop-requires t c κs = search steps.run-full
+
+eval·eval-new-returns : (t : ℕ) → eval·eval-new-lts.Need-returns (eval·eval-new-claims t) (eval·eval-new-at t) eval·eval-new.Post
+eval·eval-new-returns t c = search steps.new-unlike
+
+eval·eval-new-stop-requires-2 : (t : ℕ) → eval·eval-new-lts.Need-stop-requires-2 (eval·eval-new-claims t) (eval·eval-new-at t) eval·eval-new.Post
+eval·eval-new-stop-requires-2 t c κs = search steps.run-full
+
+eval·eval-new-returns-2 : (t : ℕ) → eval·eval-new-lts.Need-returns-2 (eval·eval-new-claims t) (eval·eval-new-at t) eval·eval-new.Post
+eval·eval-new-returns-2 t c = search steps.new-over
+
+eval·eval-new-eval-list-requires : (t : ℕ) → eval·eval-new-lts.Need-eval-list-requires (eval·eval-new-claims t) (eval·eval-new-at t) eval·eval-new.Post
+eval·eval-new-eval-list-requires t c κs = (search needs, search steps.run-list)
+
+eval·eval-new-returns-3 : (t : ℕ) → eval·eval-new-lts.Need-returns-3 (eval·eval-new-claims t) (eval·eval-new-at t) eval·eval-new.Post
+eval·eval-new-returns-3 t c = search steps.new-stops
+
+eval·eval-new-finish-requires : (t : ℕ) → eval·eval-new-lts.Need-finish-requires (eval·eval-new-claims t) (eval·eval-new-at t) eval·eval-new.Post
+eval·eval-new-finish-requires t c κs = search steps.parts-ready
+
+eval·eval-new-returns-4 : (t : ℕ) → eval·eval-new-lts.Need-returns-4 (eval·eval-new-claims t) (eval·eval-new-at t) eval·eval-new.Post
+eval·eval-new-returns-4 t c = search steps.new-made
+
+eval·eval-part-stop-requires : (t : ℕ) → eval·eval-part-lts.Need-stop-requires (eval·eval-part-claims t) (eval·eval-part-at t) eval·eval-part.Post
+eval·eval-part-stop-requires t c κs = search steps.run-full
+
+eval·eval-part-returns : (t : ℕ) → eval·eval-part-lts.Need-returns (eval·eval-part-claims t) (eval·eval-part-at t) eval·eval-part.Post
+eval·eval-part-returns t c = search steps.step-zero
+
+eval·eval-part-this-requires : (t : ℕ) → eval·eval-part-lts.Need-this-requires (eval·eval-part-claims t) (eval·eval-part-at t) eval·eval-part.Post
+eval·eval-part-this-requires t c κs = (search steps.run-full, search steps.run-short, search steps.next-this)
+
+eval·eval-part-result-requires : (t : ℕ) → eval·eval-part-lts.Need-result-requires (eval·eval-part-claims t) (eval·eval-part-at t) eval·eval-part.Post
+eval·eval-part-result-requires t c κs = (search steps.run-full, search steps.run-short, search steps.run-framed, search steps.next-result)
+
+eval·eval-part-parameter-requires : (t : ℕ) → eval·eval-part-lts.Need-parameter-requires (eval·eval-part-claims t) (eval·eval-part-at t) eval·eval-part.Post
+eval·eval-part-parameter-requires t c κs = (search steps.run-full, search steps.run-short, search steps.run-framed, search steps.next-parameter)
+
+eval·eval-part-eval-requires : (t : ℕ) → eval·eval-part-lts.Need-eval-requires (eval·eval-part-claims t) (eval·eval-part-at t) eval·eval-part.Post
+eval·eval-part-eval-requires t c κs = (search needs, search needs)
+
+eval·eval-part-returns-2 : (t : ℕ) → eval·eval-part-lts.Need-returns-2 (eval·eval-part-claims t) (eval·eval-part-at t) eval·eval-part.Post
+eval·eval-part-returns-2 t c = search steps.step-this
+
+eval·eval-part-returns-3 : (t : ℕ) → eval·eval-part-lts.Need-returns-3 (eval·eval-part-claims t) (eval·eval-part-at t) eval·eval-part.Post
+eval·eval-part-returns-3 t c = search steps.step-result
+
+eval·eval-part-returns-4 : (t : ℕ) → eval·eval-part-lts.Need-returns-4 (eval·eval-part-claims t) (eval·eval-part-at t) eval·eval-part.Post
+eval·eval-part-returns-4 t c = search steps.step-parameter
+
+pub +call·eval-call+call·invoke+call·run-left+call·run-right+eval·eval+eval·eval-field+eval·eval-list+eval·eval-new+eval·eval-part-spec : {M : Type 1} → statement M
++call·eval-call+call·invoke+call·run-left+call·run-right+eval·eval+eval·eval-field+eval·eval-list+eval·eval-new+eval·eval-part-spec =
+    close μ-call·eval-call μ-call·invoke μ-call·run-left μ-call·run-right μ-eval·eval μ-eval·eval-field μ-eval·eval-list μ-eval·eval-new μ-eval·eval-part
+    (λ t. call·eval-call-lts.spec (call·eval-call-claims t) (call·eval-call-at t) call·eval-call.Post
+    (call·eval-call-stop-requires t)
+    (call·eval-call-returns t)
+    (call·eval-call-eval-part-requires t)
+    (λ c. search needs)
+    (call·eval-call-returns-2 t)
+    (λ c. search needs)
+    (λ c. search needs)
+    (λ c κs. search needs)
+    (call·eval-call-find-requires t)
+    (λ c. search needs)
+    (λ c. search needs)
+    (call·eval-call-stop-requires-2 t)
+    (λ c. search needs)
+    (call·eval-call-returns-3 t)
+    (call·eval-call-invoke-requires t)
+    (λ c. search needs)
+    (call·eval-call-returns-4 t)
+    (λ c. search needs)
+    (call·eval-call-eval-list-requires t)
+    (λ c. search needs)
+    (call·eval-call-returns-5 t)
+    (call·eval-call-invoke-requires-2 t)
+    (λ c. search needs)
+    (call·eval-call-returns-6 t))
+    (λ t. call·invoke-lts.spec (call·invoke-claims t) (call·invoke-at t) call·invoke.Post
+    (λ c. search needs)
+    (call·invoke-stop-requires t)
+    (call·invoke-returns t)
+    (λ c. search needs)
+    (λ c. search needs)
+    (λ c κs. search needs)
+    (call·invoke-returns-2 t)
+    (call·invoke-open-call-requires t)
+    (λ c. search needs)
+    (call·invoke-run-left-requires t)
+    (λ c. search needs)
+    (call·invoke-returns-3 t)
+    (λ c. search needs)
+    (call·invoke-run-right-requires t)
+    (λ c. search needs)
+    (call·invoke-returns-4 t))
+    (λ t. call·run-left-lts.spec (call·run-left-claims t) (call·run-left-at t) call·run-left.Post
+    (λ c. search needs)
+    (λ c. search needs)
+    (λ c. search needs)
+    (λ c. search needs)
+    (λ c. search needs)
+    (call·run-left-push-requires t)
+    (λ c. search needs)
+    (λ c κs. search needs)
+    (λ c κs. search needs)
+    (λ c. search needs)
+    (call·run-left-eval-requires t)
+    (λ c κs. search needs)
+    (λ c. search needs)
+    (λ c. search needs)
+    (call·run-left-returns t)
+    (λ c. search needs)
+    (λ c. search needs)
+    (λ c. search needs)
+    (λ c. search needs)
+    (λ c κs. search needs)
+    (call·run-left-cast-close-2 t)
+    (call·run-left-close-requires t)
+    (call·run-left-pack-requires t)
+    (call·run-left-mul-st t)
+    (call·run-left-element-write-st-2 t)
+    (λ c. search needs)
+    (call·run-left-returns-2 t))
+    (λ t. call·run-right-lts.spec (call·run-right-claims t) (call·run-right-at t) call·run-right.Post
+    (λ c. search needs)
+    (λ c. search needs)
+    (λ c. search needs)
+    (λ c. search needs)
+    (λ c κs. search needs)
+    (λ c κs. search needs)
+    (λ c. search needs)
+    (call·run-right-eval-requires t)
+    (λ c κs. search needs)
+    (λ c. search needs)
+    (call·run-right-returns t)
+    (λ c. search needs)
+    (λ c. search needs)
+    (λ c. search needs)
+    (λ c κs. search needs)
+    (λ c. search needs)
+    (call·run-right-bring-requires t)
+    (call·run-right-pack-requires t)
+    (call·run-right-mul-st t)
+    (call·run-right-element-write-st t)
+    (λ c. search needs)
+    (call·run-right-returns-2 t))
+    (λ t. eval·eval-lts.spec (eval·eval-claims t) (eval·eval-at t) eval·eval.Post
+    (eval·eval-stop-requires t)
+    (eval·eval-returns t)
+    (λ c κs. search needs)
+    (λ c. search needs)
+    (eval·eval-this-requires t)
+    (λ c. search needs)
+    (eval·eval-result-requires t)
+    (λ c. search needs)
+    (eval·eval-parameter-requires t)
+    (λ c. search needs)
+    (λ c. search needs)
+    (eval·eval-eval-field-requires t)
+    (λ c. search needs)
+    (λ c. search needs)
+    (eval·eval-eval-call-requires t)
+    (λ c. search needs)
+    (λ c. search needs)
+    (eval·eval-eval-new-requires t)
+    (λ c. search needs)
+    (eval·eval-stop-requires-2 t)
+    (eval·eval-returns-2 t)
+    (eval·eval-returns-3 t)
+    (eval·eval-returns-4 t)
+    (λ c. search needs)
+    (eval·eval-returns-5 t)
+    (λ c. search needs)
+    (eval·eval-returns-6 t)
+    (λ c. search needs)
+    (eval·eval-returns-7 t)
+    (eval·eval-returns-8 t))
+    (λ t. eval·eval-field-lts.spec (eval·eval-field-claims t) (eval·eval-field-at t) eval·eval-field.Post
+    (eval·eval-field-eval-part-requires t)
+    (λ c. search needs)
+    (eval·eval-field-returns t)
+    (λ c. search needs)
+    (λ c. search needs)
+    (eval·eval-field-select-in-requires t)
+    (eval·eval-field-stop-requires t)
+    (λ c. search needs)
+    (eval·eval-field-returns-2 t)
+    (λ c. search needs)
+    (λ c. search needs)
+    (λ c. search needs)
+    (eval·eval-field-returns-3 t))
+    (λ t. eval·eval-list-lts.spec (eval·eval-list-claims t) (eval·eval-list-at t) eval·eval-list.Post
+    (eval·eval-list-returns t)
+    (eval·eval-list-eval-part-requires t)
+    (λ c. search needs)
+    (eval·eval-list-returns-2 t)
+    (λ c. search needs)
+    (λ c. search needs)
+    (eval·eval-list-eval-list-requires t)
+    (λ c. search needs)
+    (eval·eval-list-returns-3 t))
+    (λ t. eval·eval-new-lts.spec (eval·eval-new-claims t) (eval·eval-new-at t) eval·eval-new.Post
+    (λ c κs. search needs)
+    (eval·eval-new-stop-requires t)
+    (eval·eval-new-returns t)
+    (eval·eval-new-stop-requires-2 t)
+    (eval·eval-new-returns-2 t)
+    (eval·eval-new-eval-list-requires t)
+    (λ c. search needs)
+    (eval·eval-new-returns-3 t)
+    (eval·eval-new-finish-requires t)
+    (λ c. search needs)
+    (eval·eval-new-returns-4 t))
+    (λ t. eval·eval-part-lts.spec (eval·eval-part-claims t) (eval·eval-part-at t) eval·eval-part.Post
+    (eval·eval-part-stop-requires t)
+    (eval·eval-part-returns t)
+    (λ c κs. search needs)
+    (λ c. search needs)
+    (eval·eval-part-this-requires t)
+    (λ c. search needs)
+    (eval·eval-part-result-requires t)
+    (λ c. search needs)
+    (eval·eval-part-parameter-requires t)
+    (eval·eval-part-eval-requires t)
+    (eval·eval-part-returns-2 t)
+    (eval·eval-part-returns-3 t)
+    (eval·eval-part-returns-4 t)
+    (λ c. search needs)
+    (λ c. search needs))

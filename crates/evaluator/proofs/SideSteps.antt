@@ -1,0 +1,338 @@
+-- The two sides of a method on the stack: the frame set, the side run, the frame set back; one law for each return of the code.
+use Prim.Native.Nat.{ℕ, _+_, _-_, _*_, _≤_, _<_}
+use native.Mathlib.Omega.{arith}
+use native.Mathlib.Decide.{decLt, ℕ-discrete}
+use mathlib.Core.Path.{_≡_, refl, sym, ap, _∙_, subst}
+use mathlib.Core.List.{List}
+use lib.ListN.{length, getD, set, length-set}
+use lib.Seq.{getD-set-same, getD-set-other}
+use borrow.Author.Tests.{lt-ltb, eq-eqb, ne-eqb}
+use Rattle.cofj.specs.Values.{close}
+use Rattle.classes.specs.Machine.{leftOf, rightOf}
+use Rattle.values.specs.declared.ValueRef.{ValueRef}
+use Rattle.values.specs.declared.ValueRef.the-variants.{Object, Mark, Undetermined}
+use Rattle.values.specs.declared.Slot.{Slot}
+use Rattle.values.specs.Layout.{valueOf, Holds, Low}
+use Rattle.values.specs.Operations.{Gives}
+use Rattle.evaluator.specs.declared.Out.{Out}
+use Rattle.evaluator.specs.declared.Out.the-variants.{Value, Halt}
+use Rattle.evaluator.specs.Refs.{refIn, Small}
+use Rattle.evaluator.specs.State.{Held, Is, Absent, Frame, FrameHolds, CallOlder, refAt, argsAt, baseAt, callAt, traceIn}
+use Rattle.evaluator.specs.Stack.{fuelOf, topOf, heldThis, heldMark, heldArgs, frameAt, Placed, Stacked, stopAt, outAt, FrameSet, CallSet}
+use Rattle.evaluator.specs.Evaluation.{Fits, Evaluates}
+use Rattle.evaluator.specs.Calling.{BodyFits, RunsRight, RunsLeft}
+use Rattle.evaluator.specs.Steps.{Runnable, BodyRunnable, EvalStep, RightStep, LeftStep}
+use Rattle.evaluator.proofs.BodyLaws.{Pushed, trace-below, right-halt, right-value, left-halt, left-value}
+use Rattle.evaluator.proofs.Given.{given-older}
+use Rattle.evaluator.proofs.FitLaws as fits
+use Rattle.evaluator.proofs.StackLaws.{out-stop, out-value, args-alike, call-alike, stacked-set, put-out}
+use Rattle.evaluator.proofs.StepLaws.{evaluates-on}
+
+-- a value given can be put
+pub given-small : (W : List ℕ) (sp : ℕ) (v : ValueRef) → Holds W v → Low sp v → sp ≤ 65536 → Small v
+given-small W sp (Object b i) h l q = (omega (arith, l), let z = h .held .low in let y = h .held .block .small in omega arith)
+given-small W sp (Mark k) h l q = h .held
+given-small W sp Undetermined h l q = tt
+
+-- ---- what a side asks of the numbers
+module _ (W S : List ℕ) (next n d sp : ℕ) (run : BodyRunnable W S next n d sp) where
+  pub body-full : length S ≡ 336
+  body-full = run .placed .full
+
+  pub body-short : sp < 270
+  body-short = let r = run .fits .room in omega arith
+
+  pub body-index : sp < 336
+  body-index = let l = body-short in omega arith
+
+  pub body-top : topOf S < 16
+  body-top = fits.push-room W S (topOf S) (refAt S sp) (argsAt S (sp + 1)) n d sp (run .fits)
+
+  pub body-mark : topOf S < 63
+  body-mark = let l = body-top in omega arith
+
+-- ---- the frame of a body: its receiver stands at sp
+module _ (S S1 : List ℕ) (sp n x : ℕ) (l : sp < 270) (eb : getD S1 276 0 ≡ sp) (en : getD S1 277 0 ≡ n) (ex : getD S1 278 0 ≡ x) (low : (p : ℕ) → p < 274 → getD S1 p 0 ≡ getD S p 0) where
+  this-there : heldThis S1 ≡ Is (refAt S sp)
+  unfolding heldThis
+  this-there = rw (eb, lt-ltb sp 274 (omega arith)) (ap (λ (y : ℕ). Is (refIn y)) (low sp (omega arith)))
+
+  args-there : heldArgs S1 ≡ argsAt S (sp + 1)
+  unfolding heldArgs
+  args-there = rw (eb, lt-ltb sp 274 (omega arith)) (args-alike S S1 (sp + 1) (λ q a b. low q (omega arith)))
+
+  pub frame-there : (h : Held) → heldMark S1 ≡ h → frameAt S1 ≡ record { this = Is (refAt S sp); res = h; args = argsAt S (sp + 1); n = n }
+  frame-there h eh = λ i. record { this = this-there i; res = eh i; args = args-there i; n = en i }
+
+  pub no-mark : x ≡ 0 → heldMark S1 ≡ Absent
+  unfolding heldMark
+  no-mark z = rw (ex, eq-eqb x 0 z)
+
+  pub a-mark : (x ≡ 0 → ⊥) → heldMark S1 ≡ Is (Mark (x - 1))
+  unfolding heldMark
+  a-mark z = rw (ex, ne-eqb x 0 z)
+
+-- the frame set back
+frame-back : (S S2 S3 : List ℕ) → FrameSet S2 (getD S 276 0) (getD S 277 0) (getD S 278 0) S3 → (p : ℕ) → 276 ≤ p → p < 279 → getD S3 p 0 ≡ getD S p 0
+frame-back S S2 S3 fb p l h = go (ℕ-discrete p 276) (ℕ-discrete p 277)
+  where
+    at-place : (q : ℕ) → p ≡ q → getD S3 q 0 ≡ getD S q 0 → getD S3 p 0 ≡ getD S p 0
+    at-place q e x = subst (λ (y : ℕ). getD S3 y 0 ≡ getD S y 0) (sym e) x
+
+    go : Dec (p ≡ 276) → Dec (p ≡ 277) → getD S3 p 0 ≡ getD S p 0
+    go (yes e) b = at-place 276 e (fb .base)
+    go (no a) (yes e) = at-place 277 e (fb .count)
+    go (no a) (no b) = at-place 278 (omega (arith, a, b)) (fb .mark)
+
+-- ---- the right side
+module _ (T W S : List ℕ) (next d sp n i x : ℕ) (run : BodyRunnable W S next n d sp) (xp : 0 < x) (xl : x < 64) (S1 : List ℕ) (fs : FrameSet S sp n x S1) where
+  short : sp < 270
+  short = let r = run .fits .room in omega arith
+
+  right-frame : frameAt S1 ≡ record { this = Is (refAt S sp); res = Is (Mark (x - 1)); args = argsAt S (sp + 1); n = n }
+  right-frame =
+      frame-there S S1 sp n x short (fs .base) (fs .count) (fs .mark) (λ p l. fs .below p (omega arith)) (Is (Mark (x - 1)))
+      (a-mark S S1 sp n x short (fs .base) (fs .count) (fs .mark) (λ p l. fs .below p (omega arith)) (λ z. omega arith))
+
+  right-top : topOf S1 ≡ topOf S
+  right-top = fs .above 279 (omega arith)
+
+  right-calls : (j : ℕ) → j < topOf S → callAt S1 j ≡ callAt S j
+  right-calls j l =
+      let z = run .placed .calls j l in
+      let r = short in
+      call-alike S S1 j (fs .above (281 + 3 * j) (omega arith)) (fs .above (282 + 3 * j) (omega arith)) (fs .above (283 + 3 * j) (omega arith)) (λ q a b. fs .below q (omega arith))
+
+  right-trace : traceIn W S1 (topOf S1) ≡ traceIn W S (topOf S)
+  right-trace = ap (traceIn W S1) right-top ∙ trace-below W S S1 (topOf S) right-calls
+
+  pub right-run : Runnable W S1 6 d (sp + 4)
+  right-run =
+      let f = fits.right-fit W S (topOf S) (refAt S sp) (argsAt S (sp + 1)) n d sp (run .fits) (x - 1) (omega arith) in
+      let c = f .calls in
+      let t = right-top in
+      record {
+        placed = record {
+          full = fs .same ∙ run .placed .full;
+          frame = λ l. let b = fs .base in omega arith;
+          mark = let m = fs .mark in omega arith;
+          calls = λ j l. let z = run .placed .calls j (omega arith) in let b = fs .above (283 + 3 * j) (omega arith) in omega arith;
+        };
+        fits = record {
+          frame = subst (FrameHolds W (sp + 4)) (sym right-frame) (f .frame);
+          trace = record { call = λ j l. let k : j < topOf S = omega arith in subst (CallOlder W (sp + 4)) (sym (right-calls j k)) (f .trace .call j k) };
+          calls = omega arith;
+          room = f .room;
+          long = f .long;
+        };
+      }
+
+  module _ (at : ℕ) (ea : at ≡ rightOf T i) (W1 S2 : List ℕ) (r : ℕ) (ev : EvalStep T W S1 at 6 d (sp + 4) W1 S2 r) (S3 : List ℕ)
+      (fb : FrameSet S2 (getD S 276 0) (getD S 277 0) (getD S 278 0) S3) where
+    right-evaluates : Evaluates T W (record { this = Is (refAt S sp); res = Is (Mark (x - 1)); args = argsAt S (sp + 1); n = n }) S (topOf S) at 6 d (sp + 4) (fuelOf S) W1 (outAt S2 (sp + 4) r)
+    right-evaluates =
+        subst (λ (u : ℕ). Evaluates T W (record { this = Is (refAt S sp); res = Is (Mark (x - 1)); args = argsAt S (sp + 1); n = n }) S (topOf S) at 6 d (sp + 4) u W1 (outAt S2 (sp + 4) r))
+        (fs .below 274 (omega arith))
+        (evaluates-on T W (record { this = Is (refAt S sp); res = Is (Mark (x - 1)); args = argsAt S (sp + 1); n = n }) (frameAt S1) right-frame S S1 (topOf S) (topOf S1) right-trace at 6 d (sp + 4) (fuelOf S1) W1
+        (outAt S2 (sp + 4) r) (ev .runs))
+
+    pub right-stack : Stacked sp S S3
+    right-stack =
+        let s = ev .stack .spent in
+        let a = fb .below 274 (omega arith) in
+        let b = fs .below 274 (omega arith) in
+        let t = right-top in
+        record {
+          same = fb .same ∙ ev .stack .same ∙ fs .same;
+          below = λ p l. let z = short in fb .below p (omega arith) ∙ ev .stack .below p (omega arith) ∙ fs .below p (omega arith);
+          above = λ p l m. by-place p l m (decLt p 279);
+          spent = omega arith;
+        }
+      where
+        by-place : (p : ℕ) → 276 ≤ p → p < 281 + 3 * topOf S → Dec (p < 279) → getD S3 p 0 ≡ getD S p 0
+        by-place p l m (no h) = let t = right-top in fb .above p (omega (arith, h)) ∙ ev .stack .above p l (omega arith) ∙ fs .above p (omega (arith, h))
+        by-place p l m (yes h) = frame-back S S2 S3 fb p l h
+
+    pub right-stops : r ≡ 0 → RightStep T W S next d sp n i x W1 S3 0
+    right-stops z =
+        let e : outAt S2 (sp + 4) r ≡ Halt (stopAt (getD S2 275 0)) (fuelOf S2) = out-stop S2 (sp + 4) r z in
+        let q : outAt S3 sp 0 ≡ outAt S2 (sp + 4) r = out-stop S3 sp 0 refl ∙ (λ j. Halt (stopAt (fb .below 275 (omega arith) j)) (fb .below 274 (omega arith) j)) ∙ sym e in
+        record {
+          stack = right-stack;
+          runs = subst (RunsRight T W S (topOf S) (refAt S sp) (argsAt S (sp + 1)) n i next d sp (fuelOf S) (x - 1) W1) (sym q)
+              (right-halt T W S (topOf S) (refAt S sp) (argsAt S (sp + 1)) n i next d sp (fuelOf S) (x - 1) at ea W1 (outAt S2 (sp + 4) r) right-evaluates (stopAt (getD S2 275 0)) (fuelOf S2) e);
+        }
+
+    module _ (nz : r ≡ 0 → ⊥) (u : ValueRef) (eu : u ≡ refIn (getD S3 (sp + 4) 0)) where
+      side-value : outAt S2 (sp + 4) r ≡ Value u r (fuelOf S2)
+      side-value =
+          out-value S2 (sp + 4) r nz
+          ∙ ap (λ (v : ValueRef). Value v r (fuelOf S2)) (ap refIn (sym (fb .below (sp + 4) (let z = short in omega arith))) ∙ sym eu)
+
+      pub right-held : Holds W1 u
+      right-held = given-older T W S1f S (topOf S) at 6 d (sp + 4) (fuelOf S) W1 (outAt S2 (sp + 4) r) right-evaluates u r (fuelOf S2) side-value .held
+        where
+          S1f : Frame
+          S1f = record { this = Is (refAt S sp); res = Is (Mark (x - 1)); args = argsAt S (sp + 1); n = n }
+
+      pub right-length : 240 * sp + 240 ≤ length W1
+      right-length = let z = run .fits .room in omega (arith, run .fits .long, right-evaluates .kept .same)
+
+      pub right-small : (W2 : List ℕ) (v : ValueRef) → Gives W1 sp W2 v (valueOf W1 u) → Small v
+      right-small W2 v g = given-small W2 (sp + 1) v (g .held) (g .place) (let z = short in omega arith)
+
+      pub right-gives : (W2 : List ℕ) (v : ValueRef) (q : ℕ) → Gives W1 sp W2 v (valueOf W1 u) → refIn q ≡ v → RightStep T W S next d sp n i x W2 (set S3 sp q) next
+      right-gives W2 v q g eq =
+          let full : length S3 ≡ 336 = right-stack .same ∙ run .placed .full in
+          record {
+            stack = stacked-set sp S S3 sp q right-stack (omega arith) (let z = short in omega arith) (λ y. let z = short in omega arith);
+            runs = subst (RunsRight T W S (topOf S) (refAt S sp) (argsAt S (sp + 1)) n i next d sp (fuelOf S) (x - 1) W2)
+                (sym (put-out S3 full sp q next (let z = short in omega arith) (λ y. let z = run .after in omega arith) ∙ (λ j. Value (eq j) next (fb .below 274 (omega arith) j))))
+                (right-value T W S (topOf S) (refAt S sp) (argsAt S (sp + 1)) n i next d sp (fuelOf S) (x - 1) at ea W1 (outAt S2 (sp + 4) r) right-evaluates u r (fuelOf S2) W2 v side-value g);
+          }
+
+-- ---- the left side: a call more is open, and the frame has no mark
+module _ (T W S : List ℕ) (next d sp m n i : ℕ) (run : BodyRunnable W S next n d sp) where
+  module _ (S0 : List ℕ) (cs : CallSet S (topOf S) m n sp S0) (S1 : List ℕ) (fs : FrameSet S0 sp n 0 S1) where
+    low : sp < 270
+    low = let r = run .fits .room in omega arith
+
+    below-same : (p : ℕ) → p < 276 → getD S1 p 0 ≡ getD S p 0
+    below-same p l = fs .below p l ∙ cs .below p (omega arith)
+
+    left-frame : frameAt S1 ≡ record { this = Is (refAt S sp); res = Absent; args = argsAt S (sp + 1); n = n }
+    left-frame =
+        frame-there S S1 sp n 0 low (fs .base) (fs .count) (fs .mark) (λ p l. below-same p (omega arith)) Absent
+        (no-mark S S1 sp n 0 low (fs .base) (fs .count) (fs .mark) (λ p l. below-same p (omega arith)) refl)
+
+    left-top : topOf S1 ≡ topOf S + 1
+    left-top = fs .above 279 (omega arith) ∙ cs .top
+
+    older-same : (p : ℕ) → 280 ≤ p → p < 281 + 3 * topOf S → getD S1 p 0 ≡ getD S p 0
+    older-same p l k = fs .above p (omega arith) ∙ cs .above p l k
+
+    left-pushed : Pushed S (topOf S) (refAt S sp) m (argsAt S (sp + 1)) n S1
+    unfolding callAt
+    left-pushed = record { older = older; newest = newest }
+      where
+        older : (j : ℕ) → j < topOf S → callAt S1 j ≡ callAt S j
+        older j l =
+            let z = run .placed .calls j l in
+            let r = low in
+            call-alike S S1 j (older-same (281 + 3 * j) (omega arith) (omega arith)) (older-same (282 + 3 * j) (omega arith) (omega arith)) (older-same (283 + 3 * j) (omega arith) (omega arith))
+            (λ q a b. below-same q (omega arith))
+
+        base-is : baseAt S1 (topOf S) ≡ sp
+        base-is = fs .above (283 + 3 * topOf S) (omega arith) ∙ cs .base
+
+        newest : callAt S1 (topOf S) ≡ record { receiver = refAt S sp; name = m; args = argsAt S (sp + 1); n = n }
+        newest =
+            let er : getD S1 (baseAt S1 (topOf S)) 0 ≡ getD S sp 0 = ap (λ (b : ℕ). getD S1 b 0) base-is ∙ below-same sp (let r = low in omega arith) in
+            let ea : argsAt S1 (baseAt S1 (topOf S) + 1) ≡ argsAt S (sp + 1) = ap (λ (b : ℕ). argsAt S1 (b + 1)) base-is ∙ args-alike S S1 (sp + 1) (λ q a b. below-same q (let r = low in omega arith)) in
+            let em : getD S1 (281 + 3 * topOf S) 0 ≡ m = fs .above (281 + 3 * topOf S) (omega arith) ∙ cs .name in
+            let en : getD S1 (282 + 3 * topOf S) 0 ≡ n = fs .above (282 + 3 * topOf S) (omega arith) ∙ cs .count in
+            λ j. record { receiver = refIn (er j); name = em j; args = ea j; n = en j }
+
+    pub left-run : Runnable W S1 6 d (sp + 4)
+    left-run =
+        let f = fits.left-fit W S (topOf S) (refAt S sp) (argsAt S (sp + 1)) n d sp (run .fits) m S1 left-pushed in
+        let c = f .calls in
+        let t = left-top in
+        record {
+          placed = record {
+            full = fs .same ∙ cs .same ∙ run .placed .full;
+            frame = λ l. let b = fs .base in omega arith;
+            mark = let k = fs .mark in omega arith;
+            calls = λ j l. call-low j (omega arith) (decLt j (topOf S));
+          };
+          fits = record {
+            frame = subst (FrameHolds W (sp + 4)) (sym left-frame) (f .frame);
+            trace = record { call = λ j l. f .trace .call j (omega arith) };
+            calls = omega arith;
+            room = f .room;
+            long = f .long;
+          };
+        }
+      where
+        call-low : (j : ℕ) → j < topOf S + 1 → Dec (j < topOf S) → baseAt S1 j + 4 ≤ sp + 4
+        call-low j l (yes h) = let z = run .placed .calls j h in let b = older-same (283 + 3 * j) (omega arith) (omega arith) in omega arith
+        call-low j l (no h) =
+            let e : topOf S ≡ j = omega (arith, h) in
+            subst (λ (k : ℕ). baseAt S1 k + 4 ≤ sp + 4) e (let b : baseAt S1 (topOf S) ≡ sp = fs .above (283 + 3 * topOf S) (omega arith) ∙ cs .base in omega arith)
+
+    module _ (at : ℕ) (ea : at ≡ leftOf T i) (W1 S2 : List ℕ) (r : ℕ) (ev : EvalStep T W S1 at 6 d (sp + 4) W1 S2 r) (S3 : List ℕ)
+        (fb : FrameSet S2 (getD S 276 0) (getD S 277 0) (getD S 278 0) S3) where
+      abbrev S4 : List ℕ
+      S4 = set S3 279 (topOf S)
+
+      abbrev leftFrame : Frame
+      leftFrame = record { this = Is (refAt S sp); res = Absent; args = argsAt S (sp + 1); n = n }
+
+      left-evaluates : Evaluates T W leftFrame S1 (topOf S + 1) at 6 d (sp + 4) (fuelOf S) W1 (outAt S2 (sp + 4) r)
+      left-evaluates =
+          subst (λ (u : ℕ). Evaluates T W leftFrame S1 (topOf S + 1) at 6 d (sp + 4) u W1 (outAt S2 (sp + 4) r)) (below-same 274 (omega arith))
+          (evaluates-on T W leftFrame (frameAt S1) left-frame S1 S1 (topOf S + 1) (topOf S1) (ap (traceIn W S1) left-top) at 6 d (sp + 4) (fuelOf S1) W1 (outAt S2 (sp + 4) r) (ev .runs))
+
+      same-back : (p : ℕ) → p < 276 → getD S4 p 0 ≡ getD S2 p 0
+      same-back p l = getD-set-other S3 279 p (topOf S) 0 (λ z. omega arith) ∙ fb .below p l
+
+      pub left-stack : Stacked sp S S4
+      left-stack =
+          let s = ev .stack .spent in
+          let a = same-back 274 (omega arith) in
+          let b = below-same 274 (omega arith) in
+          record {
+            same = length-set S3 279 (topOf S) ∙ fb .same ∙ ev .stack .same ∙ fs .same ∙ cs .same;
+            below = λ p l. let z = low in same-back p (omega arith) ∙ ev .stack .below p (omega arith) ∙ below-same p (omega arith);
+            above = λ p l k. by-place p l k (ℕ-discrete p 279);
+            spent = omega arith;
+          }
+        where
+          full : length S3 ≡ 336
+          full = fb .same ∙ ev .stack .same ∙ fs .same ∙ cs .same ∙ run .placed .full
+
+          beside : (p : ℕ) → 276 ≤ p → p < 281 + 3 * topOf S → (p ≡ 279 → ⊥) → Dec (p < 279) → getD S3 p 0 ≡ getD S p 0
+          beside p l k ne (yes h) = frame-back S S2 S3 fb p l h
+          beside p l k ne (no h) =
+              let t = left-top in
+              let g : 280 ≤ p = omega (arith, h, ne) in
+              fb .above p (omega arith) ∙ ev .stack .above p l (omega arith) ∙ older-same p g k
+
+          by-place : (p : ℕ) → 276 ≤ p → p < 281 + 3 * topOf S → Dec (p ≡ 279) → getD S4 p 0 ≡ getD S p 0
+          by-place p l k (yes e) = subst (λ (q : ℕ). getD S4 q 0 ≡ getD S q 0) (sym e) (getD-set-same S3 279 (topOf S) 0 (omega (arith, full)))
+          by-place p l k (no e) = getD-set-other S3 279 p (topOf S) 0 e ∙ beside p l k e (decLt p 279)
+
+      pub left-stops : r ≡ 0 → LeftStep T W S next d sp m n i W1 S4 0
+      left-stops z =
+          let e : outAt S2 (sp + 4) r ≡ Halt (stopAt (getD S2 275 0)) (fuelOf S2) = out-stop S2 (sp + 4) r z in
+          let q : outAt S4 sp 0 ≡ outAt S2 (sp + 4) r = out-stop S4 sp 0 refl ∙ (λ j. Halt (stopAt (same-back 275 (omega arith) j)) (same-back 274 (omega arith) j)) ∙ sym e in
+          record {
+            stack = left-stack;
+            runs = subst (RunsLeft T W S (topOf S) (refAt S sp) (argsAt S (sp + 1)) n i next d sp (fuelOf S) m W1) (sym q)
+                (left-halt T W S (topOf S) (refAt S sp) (argsAt S (sp + 1)) n i next d sp (fuelOf S) m (run .fits) S1 left-pushed at ea W1 (outAt S2 (sp + 4) r) left-evaluates (stopAt (getD S2 275 0)) (fuelOf S2) e);
+          }
+
+      module _ (nz : r ≡ 0 → ⊥) (u : ValueRef) (eu : u ≡ refIn (getD S4 (sp + 4) 0)) where
+        left-there : outAt S2 (sp + 4) r ≡ Value u r (fuelOf S2)
+        left-there =
+            out-value S2 (sp + 4) r nz
+            ∙ ap (λ (v : ValueRef). Value v r (fuelOf S2)) (ap refIn (sym (same-back (sp + 4) (let z = low in omega arith))) ∙ sym eu)
+
+        pub left-held : Holds W1 u
+        left-held = given-older T W leftFrame S1 (topOf S + 1) at 6 d (sp + 4) (fuelOf S) W1 (outAt S2 (sp + 4) r) left-evaluates u r (fuelOf S2) left-there .held
+
+        pub left-length : 240 * sp + 240 ≤ length W1
+        left-length = let z = run .fits .room in omega (arith, run .fits .long, left-evaluates .kept .same)
+
+        pub left-small : (W2 : List ℕ) (v : ValueRef) → Gives W1 sp W2 v (close (topOf S) (valueOf W1 u)) → Small v
+        left-small W2 v g = given-small W2 (sp + 1) v (g .held) (g .place) (let z = low in omega arith)
+
+        pub left-gives : (W2 : List ℕ) (v : ValueRef) (q : ℕ) → Gives W1 sp W2 v (close (topOf S) (valueOf W1 u)) → refIn q ≡ v → LeftStep T W S next d sp m n i W2 (set S4 sp q) next
+        left-gives W2 v q g eq =
+            let full : length S4 ≡ 336 = left-stack .same ∙ run .placed .full in
+            record {
+              stack = stacked-set sp S S4 sp q left-stack (omega arith) (let z = low in omega arith) (λ y. let z = low in omega arith);
+              runs = subst (RunsLeft T W S (topOf S) (refAt S sp) (argsAt S (sp + 1)) n i next d sp (fuelOf S) m W2)
+                  (sym (put-out S4 full sp q next (let z = low in omega arith) (λ y. let z = run .after in omega arith) ∙ (λ j. Value (eq j) next (same-back 274 (omega arith) j))))
+                  (left-value T W S (topOf S) (refAt S sp) (argsAt S (sp + 1)) n i next d sp (fuelOf S) m (run .fits) S1 left-pushed at ea W1 (outAt S2 (sp + 4) r) left-evaluates u r (fuelOf S2) W2 v left-there g);
+            }

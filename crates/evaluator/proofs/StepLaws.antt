@@ -1,0 +1,326 @@
+-- Expressions on the stack, calls apart: what the functions ask of one another, and one law for each of their returns.
+use Prim.Native.Nat.{ℕ, _+_, _-_, _*_, _≤_, _<_}
+use native.Mathlib.Omega.{arith}
+use native.Mathlib.Decide.{ℕ-discrete}
+use mathlib.Core.Path.{_≡_, refl, sym, ap, _∙_, subst}
+use mathlib.Core.Bool.{Bool, true, false}
+use mathlib.Core.List.{List}
+use lib.Dec.{eqb, ltb}
+use lib.ListN.{length, getD, set}
+use borrow.Author.Tests.{eq-eqb, ne-eqb}
+use Rattle.classes.specs.Machine.{pick}
+use Rattle.classes.specs.Figures.{tableSize}
+use Rattle.checker.specs.declared.shape.Shape.{Shape}
+use Rattle.checker.specs.declared.shape.Shape.the-variants as shape
+use Rattle.checker.specs.Shapes.{byteOf, shapeAt, shapeOf}
+use Rattle.values.specs.declared.ValueRef.{ValueRef}
+use Rattle.values.specs.declared.Selected.the-variants as selected
+use Rattle.values.specs.Layout.{Holds}
+use Rattle.evaluator.specs.declared.Stop.{Stop}
+use Rattle.evaluator.specs.declared.Stop.the-variants.{Stuck, NoFuel, TooDeep}
+use Rattle.evaluator.specs.declared.Out.{Out}
+use Rattle.evaluator.specs.declared.Out.the-variants.{Value, Halt}
+use Rattle.evaluator.specs.Refs.{refIn, answerOf, ChosenIn}
+use Rattle.evaluator.specs.State.{Frame, refAt, FrameHolds, CallOlder, TraceHolds, frameIn, traceIn}
+use Rattle.evaluator.specs.Answers.{Listed, Values, Stops, frontOf, Finishes}
+use Rattle.evaluator.specs.Stack.{fuelOf, topOf, heldThis, heldMark, heldParameter, frameAt, Framed, Placed, Stacked, stopAt, outAt, listAt, Answered}
+use Rattle.evaluator.specs.Evaluation.{evalIn, evalsIn, Fits, ListFits, Evaluates, Fields, Lists, News}
+use Rattle.evaluator.specs.Steps.{Runnable, ListRunnable, PartsReady, EvalStep, FieldStep, ListStep, FinishStep, NewStep, CallStep}
+use Rattle.evaluator.proofs.Given.{given-older}
+use Rattle.evaluator.proofs.LeafLaws.{finish-halt}
+use Rattle.evaluator.proofs.EvalLaws.{eval-zero, eval-nothing, eval-this, eval-res, eval-param, eval-at-field, eval-at-call, eval-at-new}
+use Rattle.evaluator.proofs.ListLaws.{field-halt, field-none, field-some, list-zero, list-halt, list-more, new-other, new-many, new-is}
+use Rattle.evaluator.proofs.FitLaws as fits
+use Rattle.evaluator.proofs.StackLaws.{out-stop, out-value, list-stop, list-values, frame-same, top-same, call-same, trace-same, placed-after, stacked-none, stacked-then, stacked-set, put-out, stop-out}
+
+-- ---- the same frame and the same trace, the same meaning
+module _ (T W : List ℕ) (f f1 : Frame) (ef : f1 ≡ f) (tr tr1 : List ℕ) (top top1 : ℕ) (et : traceIn W tr1 top1 ≡ traceIn W tr top) (at left d sp fuel : ℕ) (W′ : List ℕ) where
+  pub evaluates-on : (o : Out) → Evaluates T W f1 tr1 top1 at left d sp fuel W′ o → Evaluates T W f tr top at left d sp fuel W′ o
+  evaluates-on o x = record {
+    kept = x .kept;
+    older = x .older;
+    is = λ t e r. let z = x .is t e r in record { is = z .is ∙ (λ i. evalIn d t (frameIn W (ef i)) (et i) e fuel); next = z .next };
+  }
+
+  pub lists-on : (n : ℕ) (l : Listed) → Lists T W f1 tr1 top1 at left d sp fuel n W′ l → Lists T W f tr top at left d sp fuel n W′ l
+  lists-on n l x = record {
+    kept = x .kept;
+    older = x .older;
+    is = λ t es r k. let z = x .is t es r k in record { is = z .is ∙ (λ i. evalsIn d t (frameIn W (ef i)) (et i) es fuel); next = z .next };
+  }
+
+-- ---- what held of the frame and the calls before a step holds after it
+module _ (sp : ℕ) (S S1 : List ℕ) (pl : Placed S sp) (st : Stacked sp S S1) (W : List ℕ) where
+  pub frame-on : (sp1 : ℕ) → FrameHolds W sp1 (frameAt S) → FrameHolds W sp1 (frameAt S1)
+  frame-on sp1 h = subst (FrameHolds W sp1) (sym (frame-same sp S S1 pl st)) h
+
+  pub trace-on : (sp1 : ℕ) → TraceHolds W sp1 S (topOf S) → TraceHolds W sp1 S1 (topOf S1)
+  trace-on sp1 h = record {
+    call = λ i l. let t = top-same sp S S1 pl st in let k : i < topOf S = omega arith in subst (CallOlder W sp1) (sym (call-same sp S S1 pl st i k)) (h .call i k);
+  }
+
+  pub list-fits-on : (left d sp1 n : ℕ) → ListFits W (frameAt S) S (topOf S) left d sp1 n → ListFits W (frameAt S1) S1 (topOf S1) left d sp1 n
+  list-fits-on left d sp1 n h =
+      let t = top-same sp S S1 pl st in
+      let c = h .calls in
+      record { frame = frame-on sp1 (h .frame); trace = trace-on sp1 (h .trace); calls = omega arith; few = h .few; room = h .room; long = h .long }
+
+-- ---- a stop
+abbrev pub Stops-with : ℕ → List ℕ → List ℕ → ℕ → Type 0
+Stops-with s S S′ r = (r ≡ 0) × (S′ ≡ set S 275 s)
+
+pub stuck-is : stopAt 0 ≡ Stuck
+unfolding stopAt
+stuck-is = refl
+
+pub no-fuel-is : stopAt 1 ≡ NoFuel
+unfolding stopAt
+no-fuel-is = refl
+
+pub too-deep-is : stopAt 2 ≡ TooDeep
+unfolding stopAt
+too-deep-is = refl
+
+module _ (sp s : ℕ) (S S1 S′ : List ℕ) (r : ℕ) (e : Stops-with s S1 S′ r) where
+  pub stop-is : length S1 ≡ 336 → (x : Stop) → stopAt s ≡ x → outAt S′ sp r ≡ Halt x (fuelOf S1)
+  stop-is full x ex = ap (λ (Z : List ℕ). outAt Z sp r) (e .1) ∙ stop-out S1 full sp s r (e .0) ∙ ap (λ (y : Stop). Halt y (fuelOf S1)) ex
+
+  pub stop-stack : Stacked sp S S1 → sp ≤ 275 → Stacked sp S S′
+  stop-stack a l = subst (Stacked sp S) (sym (e .1)) (stacked-set sp S S1 275 s a l (omega arith) (λ z. omega arith))
+
+-- ---- what the functions ask
+module _ (W S : List ℕ) (left d sp : ℕ) (run : Runnable W S left d sp) where
+  pub run-full : length S ≡ 336
+  run-full = run .placed .full
+
+  pub run-short : (left ≡ 0 → ⊥) → sp < 274
+  run-short nz = let r = run .fits .room in omega (arith, nz)
+
+  pub run-low : sp ≤ 275
+  run-low = let r = run .fits .room in omega arith
+
+  pub run-framed : Framed S
+  run-framed = record { args = run .fits .frame .args .full; mark = run .placed .mark }
+
+  pub run-part : (left ≡ 0 → ⊥) → Runnable W S (left - 1 + 1) d sp
+  run-part nz = record { placed = run .placed; fits = fits.fit-part W (frameAt S) S (topOf S) left d sp (run .fits) nz }
+
+pub run-inner : (W S : List ℕ) (left d sp : ℕ) → Runnable W S (left + 1) d sp → Runnable W S left d sp
+run-inner W S left d sp run = record { placed = run .placed; fits = fits.fit-inner W (frameAt S) S (topOf S) left d sp (run .fits) }
+
+pub run-list : (W S : List ℕ) (at left d sp n : ℕ) → Runnable W S (left + 1) d sp → n ≤ 4 → 0 < at → ListRunnable W S at left d sp n
+run-list W S at left d sp n run l p = record { placed = run .placed; fits = fits.fit-list W (frameAt S) S (topOf S) left d sp n (run .fits) l; start = p }
+
+pub list-run : (W S : List ℕ) (at left d sp n : ℕ) → ListRunnable W S at left d sp n → (n ≡ 0 → ⊥) → Runnable W S left d sp
+list-run W S at left d sp n run nz = record { placed = run .placed; fits = fits.list-fit W (frameAt S) S (topOf S) left d sp n (run .fits) nz }
+
+-- an expression's place after is past the first
+abbrev Forward : Shape → Type 0
+Forward (shape.This next) = 0 < next
+Forward (shape.Result next) = 0 < next
+Forward (shape.Parameter k next) = 0 < next
+Forward (shape.Field f next) = 0 < next
+Forward (shape.Call m n next) = 0 < next
+Forward (shape.New c n next) = 0 < next
+Forward shape.Nothing = Unit {0}
+
+either : (b : Bool) (x y : Shape) → Forward x → Forward y → Forward (pick b x y)
+either true x y a c = a
+either false x y a c = c
+
+forward-of : (b k n at : ℕ) → Forward (shapeOf b k n at)
+forward-of b k n at =
+    either (eqb b 0x40) (shape.This (at + 1)) _ (let z : 0 < at + 1 = omega arith in z)
+    (either (eqb b 0x41) (shape.Result (at + 1)) _ (let z : 0 < at + 1 = omega arith in z)
+    (either (eqb b 0x42) (shape.Parameter k (at + 2)) _ (let z : 0 < at + 2 = omega arith in z)
+    (either (eqb b 0x43) (shape.Field k (at + 2)) _ (let z : 0 < at + 2 = omega arith in z)
+    (either (eqb b 0x44) (shape.Call k n (at + 3)) _ (let z : 0 < at + 3 = omega arith in z)
+    (either (eqb b 0x45) (shape.New k n (at + 3)) shape.Nothing (let z : 0 < at + 3 = omega arith in z) tt)))))
+
+forward : (T : List ℕ) (at : ℕ) → Forward (shapeAt T at)
+unfolding shapeAt
+forward T at = either (ltb at tableSize) (shapeOf (getD T at 0) (byteOf T (at + 1)) (byteOf T (at + 2)) at) shape.Nothing (forward-of (getD T at 0) (byteOf T (at + 1)) (byteOf T (at + 2)) at) tt
+
+module _ (T : List ℕ) (at : ℕ) (s : Shape) (es : s ≡ shapeAt T at) where
+  ahead : (q : Shape) → s ≡ q → Forward q
+  ahead q e = subst Forward (sym es ∙ e) (forward T at)
+
+  pub next-this : (next : ℕ) → s ≡ shape.This next → 0 < next
+  next-this next e = ahead (shape.This next) e
+
+  pub next-result : (next : ℕ) → s ≡ shape.Result next → 0 < next
+  next-result next e = ahead (shape.Result next) e
+
+  pub next-parameter : (k next : ℕ) → s ≡ shape.Parameter k next → 0 < next
+  next-parameter k next e = ahead (shape.Parameter k next) e
+
+  pub next-new : (c n next : ℕ) → s ≡ shape.New c n next → 0 < next
+  next-new c n next e = ahead (shape.New c n next) e
+
+-- ---- an expression
+module _ (T W S : List ℕ) (at left d sp : ℕ) (run : Runnable W S left d sp) where
+  pub step-zero : left ≡ 0 → (S′ : List ℕ) (r : ℕ) → Stops-with 0 S S′ r → EvalStep T W S at left d sp W S′ r
+  step-zero z S′ r e = record {
+    stack = stop-stack sp 0 S S S′ r e (stacked-none sp S) (run-low W S left d sp run);
+    runs = subst (Evaluates T W (frameAt S) S (topOf S) at left d sp (fuelOf S) W) (sym (stop-is sp 0 S S S′ r e (run .placed .full) Stuck stuck-is))
+        (eval-zero T W (frameAt S) S (topOf S) at left d sp (fuelOf S) z);
+  }
+
+  module _ (s : Shape) (es : s ≡ shapeAt T at) where
+    pub step-nothing : s ≡ shape.Nothing → (S′ : List ℕ) (r : ℕ) → Stops-with 0 S S′ r → EvalStep T W S at left d sp W S′ r
+    step-nothing z S′ r e = record {
+      stack = stop-stack sp 0 S S S′ r e (stacked-none sp S) (run-low W S left d sp run);
+      runs = subst (Evaluates T W (frameAt S) S (topOf S) at left d sp (fuelOf S) W) (sym (stop-is sp 0 S S S′ r e (run .placed .full) Stuck stuck-is))
+          (eval-nothing T W (frameAt S) S (topOf S) at left d sp (fuelOf S) s es z);
+    }
+
+    module _ (next : ℕ) (S′ : List ℕ) (r : ℕ) where
+      pub step-this : s ≡ shape.This next → Answered S (heldThis S) sp next S′ r → EvalStep T W S at left d sp W S′ r
+      step-this z a = record { stack = a .stack; runs = eval-this T W (frameAt S) S (topOf S) at left d sp (fuelOf S) s es (run .fits) next (outAt S′ sp r) z (a .is) }
+
+      pub step-result : s ≡ shape.Result next → Answered S (heldMark S) sp next S′ r → EvalStep T W S at left d sp W S′ r
+      step-result z a = record { stack = a .stack; runs = eval-res T W (frameAt S) S (topOf S) at left d sp (fuelOf S) s es (run .fits) next (outAt S′ sp r) z (a .is) }
+
+      pub step-parameter : (k : ℕ) → s ≡ shape.Parameter k next → Answered S (heldParameter S k) sp next S′ r → EvalStep T W S at left d sp W S′ r
+      step-parameter k z a = record {
+        stack = a .stack;
+        runs = eval-param T W (frameAt S) S (topOf S) at left d sp (fuelOf S) s es (run .fits) next (outAt S′ sp r) k (heldParameter S k) z refl (a .is);
+      }
+
+    module _ (nz : left ≡ 0 → ⊥) (next : ℕ) (W′ S′ : List ℕ) (r : ℕ) where
+      pub step-field : (k : ℕ) → s ≡ shape.Field k next → FieldStep T W S next (left - 1) d sp k W′ S′ r → EvalStep T W S at left d sp W′ S′ r
+      step-field k z x = record { stack = x .stack; runs = eval-at-field T W (frameAt S) S (topOf S) at left d sp (fuelOf S) s es nz next W′ (outAt S′ sp r) k z (x .runs) }
+
+      pub step-call : (m n : ℕ) → s ≡ shape.Call m n next → CallStep T W S next (left - 1) d sp m n W′ S′ r → EvalStep T W S at left d sp W′ S′ r
+      step-call m n z x = record { stack = x .stack; runs = eval-at-call T W (frameAt S) S (topOf S) at left d sp (fuelOf S) s es nz next W′ (outAt S′ sp r) m n z (x .runs) }
+
+      pub step-new : (c n : ℕ) → s ≡ shape.New c n next → NewStep T W S next (left - 1) d sp c n W′ S′ r → EvalStep T W S at left d sp W′ S′ r
+      step-new c n z x = record { stack = x .stack; runs = eval-at-new T W (frameAt S) S (topOf S) at left d sp (fuelOf S) s es nz next W′ (outAt S′ sp r) c n z (x .runs) }
+
+-- ---- after an expression: it stopped, or its value stands at sp
+module _ (T W S : List ℕ) (at left d sp : ℕ) (W1 S1 : List ℕ) (at1 : ℕ) (ev : EvalStep T W S at left d sp W1 S1 at1) (run : Runnable W S (left + 1) d sp) where
+  pub full-after : length S1 ≡ 336
+  full-after = ev .stack .same ∙ run .placed .full
+
+  sp-short : sp < 274
+  sp-short = let r = run .fits .room in omega arith
+
+  pub value-held : (at1 ≡ 0 → ⊥) → Holds W1 (refIn (getD S1 sp 0))
+  value-held nz =
+      given-older T W (frameAt S) S (topOf S) at left d sp (fuelOf S) W1 (outAt S1 sp at1) (ev .runs) (refAt S1 sp) at1 (fuelOf S1) (out-value S1 sp at1 nz) .held
+
+  -- ---- a field
+  pub field-stops : (k : ℕ) → at1 ≡ 0 → FieldStep T W S at left d sp k W1 S1 0
+  field-stops k z = subst (FieldStep T W S at left d sp k W1 S1) z (record {
+    stack = ev .stack;
+    runs = field-halt T W (frameAt S) S (topOf S) at left d sp (fuelOf S) k W1 (outAt S1 sp at1) (ev .runs) (stopAt (getD S1 275 0)) (fuelOf S1) (out-stop S1 sp at1 z);
+  })
+
+  module _ (k q : ℕ) (nz : at1 ≡ 0 → ⊥) (ch : ChosenIn W1 (getD S1 sp 0) k q) where
+    pub field-lacks : q ≡ 4294967295 → (S′ : List ℕ) (r : ℕ) → Stops-with 0 S1 S′ r → FieldStep T W S at left d sp k W1 S′ r
+    unfolding answerOf
+    field-lacks z S′ r e = record {
+      stack = stop-stack sp 0 S S1 S′ r e (ev .stack) (let l = sp-short in omega arith);
+      runs = subst (Fields T W (frameAt S) S (topOf S) at left d sp (fuelOf S) k W1) (sym (stop-is sp 0 S S1 S′ r e full-after Stuck stuck-is))
+          (field-none T W (frameAt S) S (topOf S) at left d sp (fuelOf S) k W1 (outAt S1 sp at1) (ev .runs) (refAt S1 sp) at1 (fuelOf S1) (out-value S1 sp at1 nz) (answerOf q) (ch .is)
+          (rw (eq-eqb q 4294967295 z)));
+    }
+
+    pub field-has : (q ≡ 4294967295 → ⊥) → FieldStep T W S at left d sp k W1 (set S1 sp q) at1
+    unfolding answerOf
+    field-has z = record {
+      stack = stacked-set sp S S1 sp q (ev .stack) (omega arith) (let l = sp-short in omega arith) (λ y. let l = sp-short in omega arith);
+      runs = subst (Fields T W (frameAt S) S (topOf S) at left d sp (fuelOf S) k W1) (sym (put-out S1 full-after sp q at1 sp-short nz))
+          (field-some T W (frameAt S) S (topOf S) at left d sp (fuelOf S) k W1 (outAt S1 sp at1) (ev .runs) (refAt S1 sp) at1 (fuelOf S1) (out-value S1 sp at1 nz) (answerOf q) (ch .is)
+          (refIn q) (rw (ne-eqb q 4294967295 z)));
+    }
+
+-- ---- a list
+pub list-done : (T W S : List ℕ) (at left d sp n : ℕ) → ListRunnable W S at left d sp n → n ≡ 0 → ListStep T W S at left d sp n W S at
+list-done T W S at left d sp n run z = record {
+  stack = stacked-none sp S;
+  runs = subst (Lists T W (frameAt S) S (topOf S) at left d sp (fuelOf S) n W) (sym (list-values S sp at (λ e. let p = run .start in omega arith)))
+      (list-zero T W (frameAt S) S (topOf S) at left d sp (fuelOf S) n (refAt S sp) (refAt S (sp + 1)) (refAt S (sp + 2)) (refAt S (sp + 3)) z);
+}
+
+module _ (T W S : List ℕ) (at left d sp n : ℕ) (run : ListRunnable W S at left d sp n) (nz : n ≡ 0 → ⊥) (W1 S1 : List ℕ) (at1 : ℕ) (ev : EvalStep T W S at left d sp W1 S1 at1) where
+  pub list-stops : at1 ≡ 0 → ListStep T W S at left d sp n W1 S1 0
+  list-stops z = subst (ListStep T W S at left d sp n W1 S1) z (record {
+    stack = ev .stack;
+    runs = list-halt T W (frameAt S) S (topOf S) at left d sp (fuelOf S) n (run .fits) nz W1 (outAt S1 sp at1) (ev .runs) (stopAt (getD S1 275 0)) (fuelOf S1) (listAt S1 sp at1)
+        (out-stop S1 sp at1 z) (list-stop S1 sp at1 z ∙ rw (out-stop S1 sp at1 z));
+  })
+
+  pub list-later : (at1 ≡ 0 → ⊥) → ListRunnable W1 S1 at1 left d (sp + 1) (n - 1)
+  list-later z =
+      let x = fits.list-later T W (frameAt S) S (topOf S) at left d sp (fuelOf S) W1 (outAt S1 sp at1) (ev .runs) n (run .fits) nz in
+      record {
+        placed = placed-after sp S S1 (run .placed) (ev .stack) (sp + 1) (omega arith);
+        fits = list-fits-on sp S S1 (run .placed) (ev .stack) W1 left d (sp + 1) (n - 1) x;
+        start = omega (arith, z);
+      }
+
+  module _ (z : at1 ≡ 0 → ⊥) (W2 S2 : List ℕ) (r : ℕ) (li : ListStep T W1 S1 at1 left d (sp + 1) (n - 1) W2 S2 r) where
+    first-kept : getD S2 sp 0 ≡ getD S1 sp 0
+    first-kept = li .stack .below sp (omega arith)
+
+    front : (b : Dec (r ≡ 0)) → listAt S2 sp r ≡ frontOf (refAt S1 sp) (listAt S2 (sp + 1) r)
+    front (yes e) = list-stop S2 sp r e ∙ sym (ap (frontOf (refAt S1 sp)) (list-stop S2 (sp + 1) r e))
+    front (no e) =
+        let e2 : sp + 2 ≡ sp + 1 + 1 = omega arith in
+        let e3 : sp + 3 ≡ sp + 1 + 2 = omega arith in
+        list-values S2 sp r e
+        ∙ (λ i. Values (refIn (first-kept i)) (refAt S2 (sp + 1)) (refAt S2 (e2 i)) (refAt S2 (e3 i)) r (fuelOf S2))
+        ∙ sym (ap (frontOf (refAt S1 sp)) (list-values S2 (sp + 1) r e))
+
+    pub list-goes-on : ListStep T W S at left d sp n W2 S2 r
+    list-goes-on = record {
+      stack = stacked-then sp (sp + 1) S S1 S2 (omega arith) (ev .stack) (li .stack);
+      runs = list-more T W (frameAt S) S (topOf S) at left d sp (fuelOf S) n (run .fits) nz W1 (outAt S1 sp at1) (ev .runs) (refAt S1 sp) at1 (fuelOf S1) (out-value S1 sp at1 z) W2 (listAt S2 (sp + 1) r)
+          (lists-on T W1 (frameAt S) (frameAt S1) (frame-same sp S S1 (run .placed) (ev .stack)) S S1 (topOf S) (topOf S1) (trace-same sp S S1 (run .placed) (ev .stack) W1) at1 left d (sp + 1) (fuelOf S1) W2 (n - 1)
+          (listAt S2 (sp + 1) r) (li .runs))
+          (listAt S2 sp r) (front (ℕ-discrete r 0));
+    }
+
+-- ---- a new object
+module _ (T W S : List ℕ) (at left d sp c n x : ℕ) (run : Runnable W S (left + 1) d sp) (ex : x ≡ getD T (16 * c + 1) 0) where
+  pub new-unlike : (x ≡ n → ⊥) → (S′ : List ℕ) (r : ℕ) → Stops-with 0 S S′ r → NewStep T W S at left d sp c n W S′ r
+  new-unlike h S′ r e = record {
+    stack = stop-stack sp 0 S S S′ r e (stacked-none sp S) (run-low W S (left + 1) d sp run);
+    runs = subst (News T W (frameAt S) S (topOf S) at left d sp (fuelOf S) c n W) (sym (stop-is sp 0 S S S′ r e (run .placed .full) Stuck stuck-is))
+        (new-other T W (frameAt S) S (topOf S) at left d sp (fuelOf S) c n x ex h);
+  }
+
+  module _ (h : x ≡ n) where
+    pub new-over : 4 < n → (S′ : List ℕ) (r : ℕ) → Stops-with 0 S S′ r → NewStep T W S at left d sp c n W S′ r
+    new-over m S′ r e = record {
+      stack = stop-stack sp 0 S S S′ r e (stacked-none sp S) (run-low W S (left + 1) d sp run);
+      runs = subst (News T W (frameAt S) S (topOf S) at left d sp (fuelOf S) c n W) (sym (stop-is sp 0 S S S′ r e (run .placed .full) Stuck stuck-is))
+          (new-many T W (frameAt S) S (topOf S) at left d sp (fuelOf S) c n x ex h m);
+    }
+
+    module _ (W1 S1 : List ℕ) (at1 : ℕ) (li : ListStep T W S at left d sp n W1 S1 at1) where
+      pub new-stops : at1 ≡ 0 → NewStep T W S at left d sp c n W1 S1 0
+      new-stops z = subst (NewStep T W S at left d sp c n W1 S1) z (record {
+        stack = li .stack;
+        runs = new-is T W (frameAt S) S (topOf S) at left d sp (fuelOf S) c n x ex h W1 (listAt S1 sp at1) W1 (outAt S1 sp at1) (li .runs)
+            (finish-halt W1 c (listAt S1 sp at1) n sp (stopAt (getD S1 275 0)) (fuelOf S1) (outAt S1 sp at1) (list-stop S1 sp at1 z) (out-stop S1 sp at1 z ∙ rw (list-stop S1 sp at1 z)));
+      })
+
+      pub parts-ready : (at1 ≡ 0 → ⊥) → n ≤ 4 → PartsReady W1 S1 n sp at1
+      parts-ready z l =
+          let r = run .fits .room in
+          record {
+            full = li .stack .same ∙ run .placed .full;
+            older = li .runs .older;
+            few = l;
+            room = omega arith;
+            long = fits.after-list T W (frameAt S) S (topOf S) at left d sp (fuelOf S) n W1 (listAt S1 sp at1) (li .runs) (run .fits);
+            after = omega (arith, z);
+          }
+
+      pub new-made : (W2 S2 : List ℕ) (r : ℕ) → FinishStep W1 S1 c n sp at1 W2 S2 r → NewStep T W S at left d sp c n W2 S2 r
+      new-made W2 S2 r fi = record {
+        stack = stacked-then sp sp S S1 S2 (omega arith) (li .stack) (fi .stack);
+        runs = new-is T W (frameAt S) S (topOf S) at left d sp (fuelOf S) c n x ex h W1 (listAt S1 sp at1) W2 (outAt S2 sp r) (li .runs) (fi .runs);
+      }

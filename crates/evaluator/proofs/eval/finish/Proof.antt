@@ -1,0 +1,40 @@
+use borrow.Author.Needs.{needs}
+use Rattle.evaluator.proofs.eval.finish.Statement.{statement}
+use Rattle.evaluator.proofs.eval.finish.Tie as tie
+use Rattle.evaluator.proofs.eval.finish.Reads as reads
+use Rattle.evaluator.proofs.eval.finish.Lts as lts
+use Rattle.evaluator.proofs.eval.parts_at.Reads as parts-at-reads
+use Rattle.evaluator.proofs.refs.pack.Reads as pack-reads
+use Rattle.evaluator.proofs.stack.stop.Reads as stop-reads
+use Rattle.values.proofs.make.make.Reads as make-reads
+use Rattle.evaluator.proofs.LeafLaws as laws
+
+make-requires : tie.Need-make-requires
+make-requires c κs = (search laws.parts-ready, search needs, search needs)
+
+returns : tie.Need-returns
+returns c = search laws.made-large
+
+pack-requires : tie.Need-pack-requires
+pack-requires c κs = search laws.made-small
+
+returns-2 : tie.Need-returns-2
+returns-2 c = search laws.made-value
+
+pub finish-spec : {M : Type 1} → statement M
+finish-spec =
+    tie.close
+    (tie.spec
+    (λ c κs. search needs)
+    (λ c. search needs)
+    make-requires
+    (λ c. search needs)
+    (λ c. search needs)
+    (λ c κs. search needs)
+    (λ c. search needs)
+    returns
+    pack-requires
+    (λ c. search needs)
+    (λ c. search needs)
+    (λ c. search needs)
+    returns-2)

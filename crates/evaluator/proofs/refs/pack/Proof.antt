@@ -1,0 +1,32 @@
+use borrow.Author.Needs.{needs}
+use Rattle.evaluator.proofs.refs.pack.Statement.{statement}
+use Rattle.evaluator.proofs.refs.pack.Tie as tie
+use Rattle.evaluator.proofs.refs.pack.Reads as reads
+use Rattle.evaluator.proofs.refs.pack.Lts as lts
+use Rattle.evaluator.proofs.RefLaws as laws
+
+returns : tie.Need-returns
+returns c = search laws.pack-object
+
+returns-2 : tie.Need-returns-2
+returns-2 c = search laws.pack-mark
+
+returns-3 : tie.Need-returns-3
+returns-3 c = search laws.pack-undetermined
+
+pub pack-spec : {M : Type 1} → statement M
+pack-spec =
+    tie.close
+    (tie.spec
+    (λ c. search needs)
+    (λ c. search needs)
+    (λ c. search needs)
+    (λ c. search needs)
+    (λ c. search needs)
+    (λ c. search needs)
+    (λ c. search needs)
+    (λ c. search needs)
+    (λ c. search needs)
+    returns
+    returns-2
+    returns-3)

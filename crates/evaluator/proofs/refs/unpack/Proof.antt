@@ -1,0 +1,26 @@
+use borrow.Author.Needs.{needs}
+use Rattle.evaluator.proofs.refs.unpack.Statement.{statement}
+use Rattle.evaluator.proofs.refs.unpack.Tie as tie
+use Rattle.evaluator.proofs.refs.unpack.Reads as reads
+use Rattle.evaluator.proofs.refs.unpack.Lts as lts
+use Rattle.evaluator.proofs.RefLaws as laws
+
+returns : tie.Need-returns
+returns c = search laws.object-in
+
+returns-2 : tie.Need-returns-2
+returns-2 c = search laws.undetermined-in
+
+returns-3 : tie.Need-returns-3
+returns-3 c = search laws.mark-in
+
+pub unpack-spec : {M : Type 1} → statement M
+unpack-spec =
+    tie.close
+    (tie.spec
+    (λ c. search needs)
+    (λ c. search needs)
+    returns
+    returns-2
+    (λ c. search needs)
+    returns-3)

@@ -1,0 +1,27 @@
+use borrow.Author.Needs.{needs}
+use Rattle.evaluator.proofs.run.out_of.Statement.{statement}
+use Rattle.evaluator.proofs.run.out_of.Tie as tie
+use Rattle.evaluator.proofs.run.out_of.Reads as reads
+use Rattle.evaluator.proofs.run.out_of.Lts as lts
+use Rattle.evaluator.proofs.refs.unpack.Reads as unpack-reads
+use Rattle.evaluator.proofs.run.stop_of.Reads as stop-of-reads
+use Rattle.evaluator.proofs.LeafLaws as laws
+
+returns : tie.Need-returns
+returns c = search laws.out-halt
+
+returns-2 : tie.Need-returns-2
+returns-2 c = search laws.out-value
+
+pub out-of-spec : {M : Type 1} → statement M
+out-of-spec =
+    tie.close
+    (tie.spec
+    (λ c. search needs)
+    (λ c. search needs)
+    (λ c. search needs)
+    (λ c κs. search needs)
+    returns
+    (λ c. search needs)
+    (λ c κs. search needs)
+    returns-2)

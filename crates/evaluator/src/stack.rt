@@ -1,0 +1,105 @@
+// The stack of values and what stands beside it, in numbers that are lent. At place sp, below 274, stands the value of the expression that is evaluated at
+// block sp. Then the fuel left; why the run stopped; the frame: where the receiver stands (the arguments follow it; 274 in main), how many arguments
+// there are, the mark of res and 1, or 0; how many left-side calls are open; and from place 281 on three numbers for each of those, the oldest first:
+// its name, how many arguments it has, where its receiver stands. The mark of a call is its number.
+// Not here: which call is met again (met).
+ghost use mathlib.Core.Path.{_≡_};
+ghost use Prim.Native.Nat.{ℕ, _+_, _*_, _<_, _≤_};
+ghost use lib.ListN.{length, set};
+ghost use Rattle.evaluator.specs.Stack.{heldThis, heldMark, heldParameter, Answered, FrameSet, CallSet, Framed};
+
+// all numbers
+pub const STACK: usize = 336;
+
+pub const FUEL: usize = 274;
+
+pub const STOP: usize = 275;
+
+pub const BASE: usize = 276;
+
+pub const COUNT: usize = 277;
+
+pub const RESULT: usize = 278;
+
+pub const TOP: usize = 279;
+
+pub const CALLS: usize = 281;
+
+// why a run stopped
+pub const STUCK: u32 = 0;
+
+pub const NO_FUEL: u32 = 1;
+
+pub const TOO_DEEP: u32 = 2;
+
+pub const TOO_LARGE: u32 = 3;
+
+// The run stops for reason s: the place after is 0.
+pub fn stop(st: &mut [u32; STACK], s: u32) -> usize
+    requires { ⌜ length (now st) ≡ 336 ⌝ }
+    ensures { λ r. ⌜ (r ≡ 0) × (now (st .exit) ≡ set (now (st .entry)) 275 s) ⌝ }
+{
+    st[STOP] = s;
+    0
+}
+
+// The receiver of the body, as the value at sp; `next` is the place after.
+pub fn this(st: &mut [u32; STACK], sp: usize, next: usize) -> usize
+    requires { ⌜ (length (now st) ≡ 336) × (sp < 274) × (0 < next) ⌝ }
+    ensures { λ r. ⌜ Answered (now (st .entry)) (heldThis (now (st .entry))) sp next (now (st .exit)) r ⌝ }
+{
+    let b = st[BASE];
+    if 274 <= b {
+        return stop(st, STUCK);
+    }
+    st[sp] = st[b as usize];
+    next
+}
+
+// The mark of the body, as the value at sp.
+pub fn result(st: &mut [u32; STACK], sp: usize, next: usize) -> usize
+    requires { ⌜ (length (now st) ≡ 336) × (sp < 274) × Framed (now st) × (0 < next) ⌝ }
+    ensures { λ r. ⌜ Answered (now (st .entry)) (heldMark (now (st .entry))) sp next (now (st .exit)) r ⌝ }
+{
+    let x = st[RESULT];
+    if x == 0 {
+        return stop(st, STUCK);
+    }
+    st[sp] = 192 + x;
+    next
+}
+
+// Parameter k of the body, as the value at sp.
+pub fn parameter(st: &mut [u32; STACK], k: u8, sp: usize, next: usize) -> usize
+    requires { ⌜ (length (now st) ≡ 336) × (sp < 274) × Framed (now st) × (0 < next) ⌝ }
+    ensures { λ r. ⌜ Answered (now (st .entry)) (heldParameter (now (st .entry)) k) sp next (now (st .exit)) r ⌝ }
+{
+    if st[COUNT] <= k as u32 {
+        return stop(st, STUCK);
+    }
+    let b = st[BASE];
+    st[sp] = st[b as usize + 1 + k as usize];
+    next
+}
+
+// The frame of a body.
+pub fn set_frame(st: &mut [u32; STACK], base: u32, count: u32, mark: u32)
+    requires { ⌜ length (now st) ≡ 336 ⌝ }
+    ensures { λ _. ⌜ FrameSet (now (st .entry)) base count mark (now (st .exit)) ⌝ }
+{
+    st[BASE] = base;
+    st[COUNT] = count;
+    st[RESULT] = mark;
+}
+
+// One open call more, the one of number `top`.
+pub fn push(st: &mut [u32; STACK], top: u32, name: u32, count: u32, base: u32)
+    requires { ⌜ (length (now st) ≡ 336) × (top < 16) ⌝ }
+    ensures { λ _. ⌜ CallSet (now (st .entry)) top name count base (now (st .exit)) ⌝ }
+{
+    let at = CALLS + 3 * (top as usize);
+    st[at] = name;
+    st[at + 1] = count;
+    st[at + 2] = base;
+    st[TOP] = top + 1;
+}
