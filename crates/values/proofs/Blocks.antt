@@ -20,7 +20,7 @@ use Rattle.values.proofs.Turned.{turnRef, changed, lifted-nodes, lifted
 use Rattle.values.proofs.Rounds.{front-is}
 
 -- ---- taken up
-pub taken : (W : List ℕ) (b : ℕ) (I R₀ R : List ℕ) → Filled (λ i. 0 + i) (getD W (240 * b + 192) 0) I → Lifted W (240 * b) (6 * getD W (240 * b + 192) 0) I 0 R₀ 0 R
+pub taken : (W : List ℕ) (b : ℕ) (I R₀ R : List ℕ) → Filled (λ i. 0 + i) (getD W (240 * b + 192) 0) I → Lifted W (240 * b) (6 * getD W (240 * b + 192) 0) I R₀ 0 R
     → Taken W b I R₀ R (getD W (240 * b + 192) 0)
 unfolding countIn
 taken W b I R₀ R f l = record { count = refl; ids = f; copy = l }
@@ -54,9 +54,9 @@ module _ (W : List ℕ) (b : ℕ) (bk : Block W b) where
     copied-nodes : nodesIn R 0 n ≡ objectsIn W b
     unfolding objectsIn
     copied-nodes =
-        lifted-nodes W (240 * b) I 0 R₀ 0 R n (tk .copy)
-        ∙ ap (λ (k : ℕ). map (changed (turnRef I 0)) (nodesIn W (240 * b) k)) (tk .count)
-        ∙ nodes-agree (turnRef I 0) (rename (λ i. i)) (InRange (countIn W b))
+        lifted-nodes W (240 * b) I R₀ 0 R n (tk .copy)
+        ∙ ap (λ (k : ℕ). map (changed (turnRef I)) (nodesIn W (240 * b) k)) (tk .count)
+        ∙ nodes-agree (turnRef I) (rename (λ i. i)) (InRange (countIn W b))
         (turn-rename I (countIn W b) (λ i. i) (omega (arith, bk .small)) (λ i h. tk .ids .at i (omega (arith, tk .count)) ∙ omega arith) (λ i h. omega (arith, bk .small)))
         (objectsIn W b) inner-in
         ∙ nodes-id (objectsIn W b)
@@ -70,7 +70,7 @@ module _ (W : List ℕ) (b : ℕ) (bk : Block W b) where
       room = omega (arith, tk .copy .same);
       packed = λ i h.
           let z : 0 + 6 * i ≡ 6 * i = omega arith in
-          rw z at (lifted-packed W (240 * b) I 0 R₀ 0 R n (tk .copy) (λ q. omega arith) (λ j l. bk .packed j (omega (arith, tk .count))) i h);
+          rw z at (lifted-packed W (240 * b) I R₀ 0 R n (tk .copy) (λ j l. bk .packed j (omega (arith, tk .count))) i h);
       whole = whole-copied;
     }
 

@@ -32,7 +32,7 @@ use Rattle.values.proofs.Trees.{AllSame, same-make}
 
 -- ---- one value
 pub lay-nodes : (W : List ℕ) (b at : ℕ) (T R₀ R : List ℕ) → Block W b → at ≤ 97 → Filled (λ i. at + i) (getD W (240 * b + 192) 0) T
-    → Lifted W (240 * b) (6 * getD W (240 * b + 192) 0) T 0 R₀ (6 * at) R → LaidNodes (objectsIn W b) at R₀ R (getD W (240 * b + 192) 0)
+    → Lifted W (240 * b) (6 * getD W (240 * b + 192) 0) T R₀ (6 * at) R → LaidNodes (objectsIn W b) at R₀ R (getD W (240 * b + 192) 0)
 unfolding objectsIn countIn
 lay-nodes W b at T R₀ R bk h f l =
     let n : ℕ = getD W (240 * b + 192) 0 in
@@ -41,11 +41,11 @@ lay-nodes W b at T R₀ R bk h f l =
       same = l .same;
       count = sym e;
       few = bk .small;
-      nodes = ap (nodesIn R (6 * at)) e ∙ lifted-nodes W (240 * b) T 0 R₀ (6 * at) R n l
-          ∙ nodes-agree (turnRef T 0) (rename (λ k. at + k)) (InRange n)
+      nodes = ap (nodesIn R (6 * at)) e ∙ lifted-nodes W (240 * b) T R₀ (6 * at) R n l
+          ∙ nodes-agree (turnRef T) (rename (λ k. at + k)) (InRange n)
           (turn-rename T n (λ k. at + k) (omega (arith, bk .small)) (f .at) (λ i q. omega (arith, bk .small)))
           (nodesIn W (240 * b) n) (inner-in W b bk);
-      packed = λ j q. lifted-packed W (240 * b) T 0 R₀ (6 * at) R n l (λ z. omega arith) (bk .packed) j (omega (arith, e));
+      packed = λ j q. lifted-packed W (240 * b) T R₀ (6 * at) R n l (bk .packed) j (omega (arith, e));
       kept = λ p q. l .below p q;
     }
 

@@ -23,12 +23,12 @@ front-is A l n e h f =
     ext-getD 0 (take n A) l (length-take-le n A h ∙ sym e)
     (λ i k. let k′ : i < n = omega (arith, length-take-le n A h) in getD-take n A i 0 k′ ∙ f i k′)
 
-module _ (N C L₀ L : List ℕ) (n : ℕ) (raw : Raw N n) (f : Lifted N 0 (6 * n) C 0 L₀ 0 L) where
+module _ (N C L₀ L : List ℕ) (n : ℕ) (raw : Raw N n) (f : Lifted N 0 (6 * n) C L₀ 0 L) where
   pub looks-ok : 1536 ≤ length L₀ → Looks L n
   looks-ok h = record {
     few = raw .few;
     room = omega (arith, f .same);
-    packed = λ i l. let e : 6 * i ≡ 0 + 6 * i = omega arith in rw e (lifted-packed N 0 C 0 L₀ 0 L n f (λ z. omega arith) (λ j k. let ej : 0 + 6 * j ≡ 6 * j = omega arith in rw ej (raw .packed j k)) i l);
+    packed = λ i l. let e : 6 * i ≡ 0 + 6 * i = omega arith in rw e (lifted-packed N 0 C L₀ 0 L n f (λ j k. let ej : 0 + 6 * j ≡ 6 * j = omega arith in rw ej (raw .packed j k)) i l);
   }
 
   inner : (i k : ℕ) (r : Ref) → getElem? (refsAt (nodesIn N 0 n) i) k ≡ some r → InRange n r
@@ -36,8 +36,8 @@ module _ (N C L₀ L : List ℕ) (n : ℕ) (raw : Raw N n) (f : Lifted N 0 (6 * 
 
   looks-are : Below n C → nodesIn L 0 n ≡ map (renameNode (colourOf (take n C))) (nodesIn N 0 n)
   looks-are b =
-      lifted-nodes N 0 C 0 L₀ 0 L n f
-      ∙ nodes-agree (turnRef C 0) (rename (colourOf (take n C))) (InRange n)
+      lifted-nodes N 0 C L₀ 0 L n f
+      ∙ nodes-agree (turnRef C) (rename (colourOf (take n C))) (InRange n)
       (turn-rename C n (colourOf (take n C)) (raw .few) (λ i h. sym (getD-take n C i 0 h))
       (λ i h. rw (getD-take n C i 0 h) (omega (arith, b .low i h, raw .few))))
       (nodesIn N 0 n) inner

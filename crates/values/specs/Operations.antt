@@ -19,7 +19,7 @@ use Rattle.values.specs.Numbers.{Has}
 pub record Taken (W : List ℕ) (b : ℕ) (I R₀ R : List ℕ) (n : ℕ) : Type 0 where
   pub count : n ≡ countIn W b
   pub ids : Filled (λ i. 0 + i) n I
-  pub copy : Lifted W (240 * b) (6 * n) I 0 R₀ 0 R
+  pub copy : Lifted W (240 * b) (6 * n) I R₀ 0 R
 
 -- a reference stands for the value v in the bytes after, in block dst or below, and only block dst has changed
 pub record Gives (W : List ℕ) (dst : ℕ) (W′ : List ℕ) (r : ValueRef) (v : Graph) : Type 0 where

@@ -45,7 +45,7 @@ pub fn round(nodes: &[u8], n: u8, cs: &[u8], looks: &mut [u8], next: &mut [u8])
     requires { ⌜ Raw (now nodes) n × Below n (now cs) × Scratch (now looks) (now next) ⌝ }
     ensures { λ _. ⌜ take n (now (next .exit)) ≡ refine (nodesIn (now (nodes .entry)) 0 n) (take n (now (cs .entry))) ⌝ }
 {
-    lift(nodes, 0, 6 * (n as usize), cs, 0, looks, 0);
+    lift(nodes, 0, 6 * (n as usize), cs, looks, 0);
     places(looks, n, next);
 }
 

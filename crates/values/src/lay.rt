@@ -22,7 +22,6 @@ pub fn lay_block(work: &[u8], b: u16, raw: &mut [u8], at: u8) -> u8
         240 * (b as usize),
         6 * (n as usize),
         &table,
-        0,
         raw,
         6 * (at as usize),
     );

@@ -23,7 +23,7 @@ pub fn take_up(work: &[u8], b: u16, ids: &mut [u8], raw: &mut [u8]) -> u8
     let n = work[at + 192];
     let p = 6 * (n as usize);
     count_up(0, n, ids);
-    lift(work, at, p, ids, 0, raw, 0);
+    lift(work, at, p, ids, raw, 0);
     n
 }
 
