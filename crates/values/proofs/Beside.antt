@@ -18,14 +18,14 @@ use Rattle.values.specs.declared.ValueRef.{ValueRef}
 use Rattle.values.specs.declared.ValueRef.the-variants.{Object, Mark, Undetermined}
 use Rattle.values.specs.declared.Slot.{Slot}
 use Rattle.values.specs.declared.Made.the-variants.{Value}
-use Rattle.values.specs.Layout.{refOf, nodeIn, nodesIn, Packed, part, Distinct, Block, Inside, objectsIn, graphAt, countIn, levelIn, valueOf, rawOf, Holds, HeldBy}
+use Rattle.values.specs.Layout.{refOf, nodeIn, nodesIn, Packed, part, Distinct, Block, Inside, objectsIn, graphAt, countIn, levelIn, valueOf, rawOf, Holds}
 use Rattle.values.specs.Numbers.{Levels}
 use Rattle.values.specs.Operations.{Gives, Copied}
 use Rattle.values.specs.Laying.{valuesFrom, rawsFrom, PartsHeld, MadeIs}
 use Rattle.values.specs.Adding.{roots, RootObject, Missed, Found, Appended, Added, isObject, In, Stands, partOf, Beside, Together, Leaves, First}
 use Rattle.values.proofs.Nodes.{length-nodes, at-nodes, more-nodes, nodes-same, node-same, packed-same, eq-node, ref-object, ref-undet, ref-mark}
 use Rattle.values.proofs.Walks.{four, four-at}
-use Rattle.values.proofs.Blocks.{size-in}
+use Rattle.values.proofs.Blocks.{held-inside, held-block, size-in}
 use Rattle.values.proofs.Selecting.{under}
 use Rattle.values.proofs.Lays.{fresh, fresh-class, fresh-count, fresh-spare, none-slot, raws-whole, made-raw}
 use Rattle.values.proofs.Adding.{more, inner-more, distinct-more, Fit, AllFit, roots-low, top, make-found, make-new}
@@ -33,7 +33,7 @@ use Rattle.values.proofs.Adding.{more, inner-more, distinct-more, Fit, 
 -- ---- the new object
 module _ (W : List ℕ) (r : ValueRef) where
   pub code-object : (b i : ℕ) → Holds W r → r ≡ Object b i → refOf i ≡ rawOf W r .root
-  code-object b i h e = let ob : Inside W b i = subst (HeldBy W) e (h .held) in rw e (ref-object i (omega (arith, ob .low, ob .block .small)))
+  code-object b i h e = let ob : Inside W b i = held-inside W r b i h e in rw e (ref-object i (omega (arith, ob .low, ob .block .small)))
 
   pub code-mark : (k : ℕ) → r ≡ Mark k → refOf (193 + k) ≡ rawOf W r .root
   code-mark k e = rw e (ref-mark k)
@@ -174,7 +174,7 @@ module _ (ps : List Slot) (n b : ℕ) where
   together-all i a h = record { says = λ _. record { each = λ j k. a .each j (omega arith) } }
 
   pub first-block : (W : List ℕ) (f : ℕ) (v : ValueRef) (i : ℕ) → PartsHeld W ps n → f < n → v ≡ partOf ps f → v ≡ Object b i → Block W b
-  first-block W f v i held h ev e = let ob : Inside W b i = subst (HeldBy W) (sym ev ∙ e) (held .part f h .held) in ob .block
+  first-block W f v i held h ev e = held-block W (partOf ps f) b i (held .part f h) (sym ev ∙ e)
 
   pub together-beside : (r : Bool) → Together ps n b r → r ≡ true → Beside ps n b
   together-beside r t e = t .says e

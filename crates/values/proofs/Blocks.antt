@@ -1,4 +1,4 @@
--- Laws of blocks: taken up, moved.
+-- Laws of blocks: held by a reference, taken up, moved.
 use Prim.Native.Nat.{ℕ, _+_, _*_, _<_, _≤_}
 use native.Mathlib.Omega.{arith}
 use mathlib.Core.Path.{_≡_, refl, sym, ap, ap₂, _∙_, subst}
@@ -9,7 +9,9 @@ use Rattle.cofj.specs.Values.{Ref, obj, undet, Node, Graph, graph, rename, rena
 use Rattle.cofj.specs.Unfolding.{InRange, Whole}
 use Rattle.cofj.specs.ReportForm.{upFrom}
 use Rattle.cofj.proofs.Canon.{node-id, canon-length}
-use Rattle.values.specs.Layout.{nodesIn, Block, Inside, objectsIn, graphAt, countIn}
+use Rattle.values.specs.declared.ValueRef.{ValueRef}
+use Rattle.values.specs.declared.ValueRef.the-variants.{Object}
+use Rattle.values.specs.Layout.{nodesIn, Block, Inside, objectsIn, graphAt, countIn, Holds, HeldBy}
 use Rattle.values.specs.Tables.{Filled, Lifted}
 use Rattle.values.specs.Rounds.{Raw}
 use Rattle.values.specs.Numbers.{Ready, Placed, Has, graphIn}
@@ -18,6 +20,17 @@ use Rattle.values.proofs.Nodes.{length-nodes}
 use Rattle.values.proofs.Colouring.{length-up, at-up, distinct-colours}
 use Rattle.values.proofs.Turned.{turnRef, changed, lifted-nodes, lifted-packed, turn-rename, nodes-agree}
 use Rattle.values.proofs.Rounds.{front-is}
+
+-- ---- a reference that stands for an object
+module _ (W : List ℕ) (r : ValueRef) (b i : ℕ) (h : Holds W r) (e : r ≡ Object b i) where
+  pub held-inside : Inside W b i
+  held-inside = subst (HeldBy W) e (h .held)
+
+  pub held-block : Block W b
+  held-block = held-inside .block
+
+  pub held-room : 240 * b + 240 ≤ length W
+  held-room = held-block .room
 
 -- ---- taken up
 pub taken : (W : List ℕ) (b : ℕ) (I R₀ R : List ℕ) → Filled (λ i. 0 + i) (getD W (240 * b + 192) 0) I → Lifted W (240 * b) (6 * getD W (240 * b + 192) 0) I R₀ 0 R

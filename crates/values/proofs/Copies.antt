@@ -17,12 +17,12 @@ use Rattle.cofj.specs.Unfolding.{Whole}
 use Rattle.cofj.proofs.Operations.{boundNodes}
 use Rattle.values.specs.declared.ValueRef.{ValueRef}
 use Rattle.values.specs.declared.ValueRef.the-variants.{Object, Mark, Undetermined}
-use Rattle.values.specs.Layout.{codeOf, nodeIn, nodesIn, Packed, Distinct, Block, Inside, objectsIn, countIn, levelIn, valueOf, Holds, HeldBy, Low}
+use Rattle.values.specs.Layout.{codeOf, nodeIn, nodesIn, Packed, Distinct, Block, Inside, objectsIn, countIn, levelIn, valueOf, Holds, Low}
 use Rattle.values.specs.Operations.{Gives, Copying, Copied}
 use Rattle.values.proofs.ValueRef as RefT
 use Rattle.values.proofs.Nodes.{byteOf, packed-byte, packed-same, nodes-same, length-nodes, at-nodes}
 use Rattle.values.proofs.Turned.{nodes-agree}
-use Rattle.values.proofs.Blocks.{nodes-id}
+use Rattle.values.proofs.Blocks.{held-inside, nodes-id}
 use Rattle.values.proofs.Selecting.{unchanged}
 
 -- the copying of n objects with the level l has come to byte q of p
@@ -119,15 +119,12 @@ module _ (W : List ℕ) (r : ValueRef) (dst : ℕ) (h : Holds W r) where
       go Undetermined o = tt
 
   module _ (b i : ℕ) (e : r ≡ Object b i) where
-    pub bring-block : Block W b
-    bring-block = let ob : Inside W b i = subst (HeldBy W) e (h .held) in ob .block
-
     pub bring-here : b ≤ dst → Gives W dst W (Object b i) (valueOf W r)
-    bring-here l = record { held = record { held = subst (HeldBy W) e (h .held) }; is = ap (valueOf W) (sym e); place = omega arith; outside = unchanged dst W }
+    bring-here l = record { held = record { held = held-inside W r b i h e }; is = ap (valueOf W) (sym e); place = omega arith; outside = unchanged dst W }
 
     pub bring-copy : (W′ : List ℕ) → 240 * dst + 240 ≤ length W → Copied W b dst W′ → Gives W dst W′ (Object dst i) (valueOf W r)
     bring-copy W′ room c =
-        let ob : Inside W b i = subst (HeldBy W) e (h .held) in
+        let ob : Inside W b i = held-inside W r b i h e in
         let m = block-moves W W′ b dst (c .count) (c .level) (c .here) (omega (arith, c .outside .same)) (ob .block) in
         record {
           held = record { held = record { block = m .1; low = omega (arith, c .count, ob .low) } };

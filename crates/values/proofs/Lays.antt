@@ -26,7 +26,7 @@ use Rattle.values.specs.Laying.{valuesFrom, rawsFrom, PartsHeld, LaidNod
 use Rattle.values.proofs.Nodes.{length-nodes, nodes-same, packed-same, more-nodes, ref-object, ref-undet, ref-mark}
 use Rattle.values.proofs.Turned.{turnRef, lifted-nodes, lifted-packed, turn-rename, nodes-agree}
 use Rattle.values.proofs.Walks.{four, four-at}
-use Rattle.values.proofs.Blocks.{inner-in, whole-at}
+use Rattle.values.proofs.Blocks.{held-inside, inner-in, whole-at}
 use Rattle.values.proofs.Selecting.{under}
 use Rattle.values.proofs.Trees.{AllSame, same-make}
 
@@ -50,10 +50,7 @@ lay-nodes W b at T R₀ R bk h f l =
     }
 
 pub object-low : (W : List ℕ) (r : ValueRef) (at b j : ℕ) → at ≤ 97 → Holds W r → r ≡ Object b j → at + j < 192
-object-low W r at b j l h e = let ob : Inside W b j = subst (HeldBy W) e (h .held) in omega (arith, ob .low, ob .block .small)
-
-pub object-block : (W : List ℕ) (r : ValueRef) (b j : ℕ) → Holds W r → r ≡ Object b j → Block W b
-object-block W r b j h e = let ob : Inside W b j = subst (HeldBy W) e (h .held) in ob .block
+object-low W r at b j l h e = let ob : Inside W b j = held-inside W r b j h e in omega (arith, ob .low, ob .block .small)
 
 module _ (W : List ℕ) (r : ValueRef) (at i : ℕ) (R₀ : List ℕ) (hi : i < 4) (one : 1 ≤ at) (top : at ≤ 97) (room : 1536 ≤ length R₀) where
   pub lay-object : (b j n : ℕ) (R : List ℕ) → Holds W r → r ≡ Object b j → LaidNodes (objectsIn W b) at R₀ R n → LaidOne (rawOf W r) at i R₀ (set R (2 + i) (at + j)) (at + n)

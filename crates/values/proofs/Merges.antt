@@ -28,7 +28,7 @@ use Rattle.values.specs.Laying.{valuesFrom, rawsFrom, PartsHeld, MadeIs}
 use Rattle.values.specs.Adding.{Found, Appended, Added, partOf}
 use Rattle.values.specs.Merging.{Grown, Fits, Standing, Entered, CodeAs, Mapped, Importing, Imported, ObjectBytes, Turned, Turning, TurnedAll, As, PartImported, Begun, RootBrought, PartsBrought, NotIn, Away, LiesTest, SomeTest}
 use Rattle.values.proofs.Nodes.{ref-object, ref-undet, ref-mark, byteOf, packed-byte, length-nodes, at-nodes}
-use Rattle.values.proofs.Blocks.{size-in, inner-in, whole-at}
+use Rattle.values.proofs.Blocks.{held-room, size-in, inner-in, whole-at}
 use Rattle.values.proofs.Trees.{made-as}
 use Rattle.values.proofs.Walks.{four, four-at}
 use Rattle.values.proofs.Lays.{fresh, fresh-class, fresh-count, fresh-spare, raws-whole, made-raw, parts-length}
@@ -544,9 +544,6 @@ module _ (W : List ℕ) (b i base host : ℕ) (ib : Inside W b i) (bg : Begun W 
     }
 
 module _ (W : List ℕ) (v : ValueRef) (base host : ℕ) (h : Holds W v) (bg : Begun W base host) where
-  pub part-inside : (b i : ℕ) → v ≡ Object b i → Inside W b i
-  part-inside b i e = subst (HeldBy W) e (h .held)
-
   pub part-object : (b i : ℕ) (W′ : List ℕ) (r : ℕ) → v ≡ Object b i → PartImported W (Object b i) host W′ r → PartImported W v host W′ r
   part-object b i W′ r e p = subst (λ (x : ValueRef). PartImported W x host W′ r) (sym e) p
 
@@ -803,9 +800,6 @@ module _ (W : List ℕ) (c : ℕ) (ps : List Slot) (n host dst : ℕ) (held : Pa
             }
 
 -- ---- the host
-pub larger-block : (W : List ℕ) (v : ValueRef) (x i : ℕ) → Holds W v → v ≡ Object x i → Block W x
-larger-block W v x i h e = let ob : Inside W x i = subst (HeldBy W) e (h .held) in ob .block
-
 pub largest-held : (W : List ℕ) (ps : List Slot) (n i : ℕ) (v : ValueRef) → PartsHeld W ps n → i < n → v ≡ partOf ps i → Holds W v
 largest-held W ps n i v h l e = subst (Holds W) (sym e) (h .part i l)
 
@@ -877,4 +871,4 @@ module _ (W : List ℕ) (b host dst : ℕ) (W1 : List ℕ) (bk : Block W b) (lb 
     copied-made c W2 o m = made-from W W1 c ps n dst W2 o (record { same = cp .outside .same; below = λ p h. cp .outside .below p (omega arith) }) copied-values m
 
 pub larger-read : (W : List ℕ) (v : ValueRef) (x i : ℕ) → Holds W v → v ≡ Object x i → 240 * x + 192 < length W
-larger-read W v x i h e = omega (arith, larger-block W v x i h e .room)
+larger-read W v x i h e = omega (arith, held-room W v x i h e)

@@ -17,7 +17,7 @@ use Rattle.cofj.specs.Report.{refByte, objectLine, objectLines}
 use Rattle.cofj.proofs.Basics.{getD-map-lt}
 use Rattle.values.specs.declared.ValueRef.{ValueRef}
 use Rattle.values.specs.declared.ValueRef.the-variants.{Object, Mark, Undetermined}
-use Rattle.values.specs.Layout.{refOf, nodeIn, nodesIn, Packed, Block, Inside, objectsIn, graphAt, countIn, valueOf, Holds, HeldBy}
+use Rattle.values.specs.Layout.{refOf, nodeIn, nodesIn, Packed, Block, objectsIn, graphAt, countIn, valueOf}
 use Rattle.values.specs.Operations.{Moved}
 use Rattle.values.specs.Reporting.{Front, lineIn, Line, Reported}
 use Rattle.values.proofs.ValueRef as RefT
@@ -264,12 +264,6 @@ report-none W Undetermined d h l = record { fits = omega arith; count = refl; te
 pub report-one : (W : List ℕ) (r : ValueRef) (b i : ℕ) (W′ d₀ d : List ℕ) (t : ℕ) → r ≡ Object b i → Moved W (graphAt W b i) b W′ → Reported (graphAt W′ b 0) d₀ d t
     → Reported (valueOf W r) d₀ d t × (length W′ ≡ length W)
 report-one W r b i W′ d₀ d t e m h = (subst (λ (v : Graph). Reported v d₀ d t) (m .has .is ∙ ap (valueOf W) (sym e)) h, m .outside .same)
-
-pub report-inside : (W : List ℕ) (r : ValueRef) (b i : ℕ) → Holds W r → r ≡ Object b i → Inside W b i
-report-inside W r b i h e = subst (HeldBy W) e (h .held)
-
-pub report-room : (W : List ℕ) (r : ValueRef) (b i : ℕ) → Holds W r → r ≡ Object b i → 240 * b + 240 ≤ length W
-report-room W r b i h e = report-inside W r b i h e .block .room
 
 pub report-block : (W : List ℕ) (g : Graph) (b : ℕ) (W′ : List ℕ) → Moved W g b W′ → Block W′ b
 report-block W g b W′ m = m .has .inside .block

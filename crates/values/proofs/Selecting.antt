@@ -17,7 +17,7 @@ use Rattle.values.specs.declared.ValueRef.{ValueRef}
 use Rattle.values.specs.declared.ValueRef.the-variants.{Object, Mark, Undetermined}
 use Rattle.values.specs.declared.Selected.{Selected}
 use Rattle.values.specs.declared.Selected.the-variants.{Value, Stuck}
-use Rattle.values.specs.Layout.{refOf, nodeIn, objectsIn, graphAt, Inside, countIn, Holds, HeldBy, Outside, Beneath}
+use Rattle.values.specs.Layout.{refOf, nodeIn, objectsIn, graphAt, Inside, countIn, Outside, Beneath}
 use Rattle.values.specs.Operations.{Chosen, Leaf}
 use Rattle.values.proofs.ValueRef as RefT
 use Rattle.values.proofs.Nodes.{at-nodes, ref-object, ref-undet, ref-mark}
@@ -134,9 +134,6 @@ module _ (W : List ℕ) (r : ValueRef) (f : ℕ) where
       go (Object n i) h = ⊎-elim (λ e. absurd (eqb-false 0 1 refl e)) (λ e. absurd (eqb-false 0 2 refl e)) h
       go (Mark n) h = record { held = tt; is = refl; place = λ sp q. tt }
       go Undetermined h = record { held = tt; is = refl; place = λ sp q. tt }
-
-  pub select-inside : (b i : ℕ) → Holds W r → r ≡ Object b i → Inside W b i
-  select-inside b i h e = subst (HeldBy W) e (h .held)
 
   pub select-one : (b i : ℕ) (o : Selected) → r ≡ Object b i → Chosen W (Object b i) f o → Chosen W r f o
   select-one b i o e c = rw e c

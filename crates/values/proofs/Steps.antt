@@ -19,7 +19,7 @@ use Rattle.cofj.proofs.Traces.{eqGraph-true}
 use Rattle.cofj.proofs.Unique.{same-canon, canon-tree}
 use Rattle.values.specs.declared.ValueRef.{ValueRef}
 use Rattle.values.specs.declared.ValueRef.the-variants.{Object, Mark, Undetermined}
-use Rattle.values.specs.Layout.{codeOf, countIn, objectsIn, graphAt, Block, Inside, valueOf, Holds, HeldBy}
+use Rattle.values.specs.Layout.{codeOf, countIn, objectsIn, graphAt, Block, Inside, valueOf}
 use Rattle.values.specs.Stepping.{After, after, stepCode, CodeFits, unpaired, Paired, AllSame, Grown, Linked, Pair, Alike, AlikeTest, FieldsSoFar, Closed, PairsSoFar, ObjectStep, InStep}
 use Rattle.values.proofs.Nodes.{byteOf, packed-byte, length-nodes, at-nodes}
 
@@ -709,9 +709,3 @@ module _ (W : List ℕ) (a b : ValueRef) where
   pub undet-undet : a ≡ Undetermined → b ≡ Undetermined → true ≡ eqGraph (valueOf W a) (valueOf W b)
   unfolding eqGraph eqNodes
   undet-undet ea eb = rw (ea, eb)
-
-  pub held-object : (x i : ℕ) → Holds W a → a ≡ Object x i → Inside W x i
-  held-object x i h e = subst (HeldBy W) e (h .held)
-
-  pub held-other : (y j : ℕ) → Holds W b → b ≡ Object y j → Inside W y j
-  held-other y j h e = subst (HeldBy W) e (h .held)

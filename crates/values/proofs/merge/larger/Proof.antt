@@ -3,13 +3,14 @@ use Rattle.values.proofs.merge.larger.Statement.{statement}
 use Rattle.values.proofs.merge.larger.Tie as tie
 use Rattle.values.proofs.merge.larger.Reads as reads
 use Rattle.values.proofs.merge.larger.Lts as lts
+use Rattle.values.proofs.Blocks as blocks
 use Rattle.values.proofs.Merges as laws
 
 shared-slice-read-if1-2 : tie.Need-shared-slice-read-if1-2
 shared-slice-read-if1-2 c = search laws.larger-read
 
 returns-2 : tie.Need-returns-2
-returns-2 c = search laws.larger-block
+returns-2 c = search blocks.held-block
 
 pub larger-spec : {M : Type 1} → statement M
 larger-spec =
