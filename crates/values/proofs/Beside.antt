@@ -25,6 +25,7 @@ use Rattle.values.specs.Laying.{valuesFrom, rawsFrom, PartsHeld, MadeIs}
 use Rattle.values.specs.Adding.{roots, RootObject, Missed, Found, Appended, Added, isObject, In, Stands, partOf, Beside, Together, Leaves, First}
 use Rattle.values.proofs.Nodes.{length-nodes, at-nodes, more-nodes, nodes-same, node-same, packed-same, eq-node, ref-object, ref-undet, ref-mark}
 use Rattle.values.proofs.Walks.{four, four-at}
+use Rattle.values.proofs.Trees.{in-larger, leaf-same}
 use Rattle.values.proofs.Blocks.{held-inside, held-block, size-in}
 use Rattle.values.proofs.Selecting.{under}
 use Rattle.values.proofs.Lays.{fresh, fresh-class, fresh-count, fresh-spare, none-slot, raws-whole, made-raw}
@@ -180,26 +181,16 @@ module _ (ps : List Slot) (n b : ℕ) where
   together-beside r t e = t .says e
 
 -- ---- the values of the parts, among the objects
-leaf-fit : (ns : List Node) (s : Ref) → ((i : ℕ) → s ≡ obj i → ⊥) → Fit ns (graph s [])
-leaf-fit ns (obj i) free = absurd (free i refl)
-leaf-fit ns (mark k) free = record { low = tt; tree = λ p. go p }
-  where
-    go : (p : List ℕ) → follow ns (mark k) p ≡ follow [] (mark k) p
-    go [] = refl
-    go (f ∷ p) = refl
-leaf-fit ns undet free = record { low = tt; tree = λ p. go p }
-  where
-    go : (p : List ℕ) → follow ns undet p ≡ follow [] undet p
-    go [] = refl
-    go (f ∷ p) = refl
+leaf-fit : (ns : List Node) (s : Ref) → InRange 0 s → Fit ns (graph s [])
+leaf-fit ns s h = record { low = in-larger 0 (length ns) s (omega arith) h; tree = leaf-same ns [] s h }
 
 value-fit : (W : List ℕ) (b : ℕ) → Block W b → (r : ValueRef) → Holds W r → In b r → Fit (objectsIn W b) (rawOf W r)
 value-fit W b bk (Object x i) h e = record {
   low = omega (arith, size-in W b bk, h .held .low, ap (countIn W) e);
   tree = λ p. ap (λ (y : ℕ). follow (objectsIn W y) (obj i) p) (sym e);
 }
-value-fit W b bk (Mark k) h e = leaf-fit _ (mark k) (λ i z. let q : _≡_ {A = ℕ} 0 1 = cc in omega arith)
-value-fit W b bk Undetermined h e = leaf-fit _ undet (λ i z. let q : _≡_ {A = ℕ} 0 1 = cc in omega arith)
+value-fit W b bk (Mark k) h e = leaf-fit _ (mark k) tt
+value-fit W b bk Undetermined h e = leaf-fit _ undet tt
 
 all-fit : (W : List ℕ) (ns : List Node) (n : ℕ) (ps : List Slot) → ((i : ℕ) → i < n → Fit ns (rawOf W (partOf ps i))) → AllFit ns (map (λ s. rawOf W (s .r)) (take n ps))
 all-fit W ns zero ps h = tt
@@ -384,8 +375,8 @@ module _ (W : List ℕ) (c : ℕ) (ps : List Slot) (n : ℕ) (T : List ℕ) (hel
   module _ (lv : Leaves ps n) where
     alone-fit : (r : ValueRef) → isObject r ≡ false → Fit [] (rawOf W r)
     alone-fit (Object b i) e = absurd (false≢true (sym e))
-    alone-fit (Mark k) e = leaf-fit [] (mark k) (λ i z. let q : _≡_ {A = ℕ} 0 1 = cc in omega arith)
-    alone-fit Undetermined e = leaf-fit [] undet (λ i z. let q : _≡_ {A = ℕ} 0 1 = cc in omega arith)
+    alone-fit (Mark k) e = leaf-fit [] (mark k) tt
+    alone-fit Undetermined e = leaf-fit [] undet tt
 
     alone-fits : AllFit [] gs
     unfolding rawsFrom

@@ -28,7 +28,7 @@ use Rattle.values.specs.Binding.{boundCode, boundByte, ObjectBound, Obje
 use Rattle.values.proofs.Nodes.{byteOf, packed-byte, packed-same, nodes-same, length-nodes, at-nodes, AllPacked, ref-object, ref-undet, ref-mark}
 use Rattle.values.proofs.Steps.{some-at, is-object, object-low}
 use Rattle.values.proofs.Blocks.{size-in, whole-at}
-use Rattle.values.proofs.Trees.{close-canon}
+use Rattle.values.proofs.Trees.{in-larger, close-canon}
 
 -- ---- a test turned round
 not-true : (r : Bool) → not r ≡ true → r ≡ false
@@ -395,11 +395,6 @@ leaf-codes ns undet (obj b) hr e h = let z : some unknown ≡ some (object _ _) 
 leaf-codes ns undet (mark l) hr e h = let z : some unknown ≡ some (opened l) = e [] in cc
 leaf-codes ns undet undet hr e h = refl
 
-range-up : (n : ℕ) (r : Ref) → n ≤ 192 → InRange n r → InRange 192 r
-range-up n (obj i) h l = omega arith
-range-up n (mark k) h l = tt
-range-up n undet h l = tt
-
 module _ (R : List ℕ) (n i k : ℕ) where
   pub differ-start : i < n → k < n → Leads R n i k i k
   differ-start h l = record { first = h; second = l; leads = λ e. e }
@@ -477,10 +472,10 @@ module _ (R : List ℕ) (n i k : ℕ) where
         children e = same-child ns ns (obj x) (obj y) (ld .leads e) f r s (some-at (refsAt ns x) f low-x) (some-at (refsAt ns y) f low-y)
 
         pub differ-first : 192 ≤ a → DifferTest R n i k true
-        differ-first h = record { yes = λ _ e. o .other hf (ea ∙ leaf-codes ns r s (range-up n r (raw .few) (range-at x f low-x)) (children e) (omega (arith, ea)) ∙ sym ec) }
+        differ-first h = record { yes = λ _ e. o .other hf (ea ∙ leaf-codes ns r s (in-larger n 192 r (raw .few) (range-at x f low-x)) (children e) (omega (arith, ea)) ∙ sym ec) }
 
         pub differ-second : 192 ≤ c → DifferTest R n i k true
-        differ-second h = record { yes = λ _ e. o .other hf (ea ∙ sym (leaf-codes ns s r (range-up n s (raw .few) (range-at y f low-y)) (λ p. sym (children e p)) (omega (arith, ec))) ∙ sym ec) }
+        differ-second h = record { yes = λ _ e. o .other hf (ea ∙ sym (leaf-codes ns s r (in-larger n 192 s (raw .few) (range-at y f low-y)) (λ p. sym (children e p)) (omega (arith, ec))) ∙ sym ec) }
 
         pub differ-step : a < 192 → c < 192 → Leads R n i k a c
         differ-step ha hc =

@@ -2,20 +2,25 @@
 use Prim.Native.Nat.{ℕ, _+_, _*_, _<_, _≤_}
 use native.Mathlib.Omega.{arith}
 use mathlib.Core.Path.{_≡_, refl, sym, ap, ap₂, _∙_, subst}
+use mathlib.Core.Logic.{⊎-elim}
 use mathlib.Core.List.{List, [], _∷_, map}
 use mathlib.Core.Option.{some}
 use lib.ListN.{length, getD, take, getElem?}
+use borrow.Author.Tests.{eqb-false}
+use types.Run.{OneOf}
+use denote.Enum.Declared.{tagOf}
 use Rattle.cofj.specs.Values.{Ref, obj, undet, Node, Graph, graph, rename, renameNode, refsAt, colours, canon}
 use Rattle.cofj.specs.Unfolding.{InRange, Whole}
 use Rattle.cofj.specs.ReportForm.{upFrom}
 use Rattle.cofj.proofs.Canon.{node-id, canon-length}
 use Rattle.values.specs.declared.ValueRef.{ValueRef}
-use Rattle.values.specs.declared.ValueRef.the-variants.{Object}
+use Rattle.values.specs.declared.ValueRef.the-variants.{Object, Mark, Undetermined}
 use Rattle.values.specs.Layout.{nodesIn, Block, Inside, objectsIn, graphAt, countIn, Holds, HeldBy}
 use Rattle.values.specs.Tables.{Filled, Lifted}
 use Rattle.values.specs.Rounds.{Raw}
 use Rattle.values.specs.Numbers.{Ready, Placed, Has, graphIn}
 use Rattle.values.specs.Operations.{Taken, Moved}
+use Rattle.values.proofs.ValueRef as RefT
 use Rattle.values.proofs.Nodes.{length-nodes}
 use Rattle.values.proofs.Colouring.{length-up, at-up, distinct-colours}
 use Rattle.values.proofs.Turned.{turnRef, changed, lifted-nodes, lifted-packed, turn-rename, nodes-agree}
@@ -31,6 +36,12 @@ module _ (W : List ℕ) (r : ValueRef) (b i : ℕ) (h : Holds W r) (e : r ≡ Ob
 
   pub held-room : 240 * b + 240 ≤ length W
   held-room = held-block .room
+
+-- a reference that stands for none is a mark or undetermined
+pub no-object : (P : ValueRef → Type 0) → ((k : ℕ) → P (Mark k)) → P Undetermined → (r : ValueRef) → OneOf (1 ∷ 2 ∷ []) (tagOf RefT.the-type r) → P r
+no-object P m u (Object b i) h = ⊎-elim (λ e. absurd (eqb-false 0 1 refl e)) (λ e. absurd (eqb-false 0 2 refl e)) h
+no-object P m u (Mark k) h = m k
+no-object P m u Undetermined h = u
 
 -- ---- taken up
 pub taken : (W : List ℕ) (b : ℕ) (I R₀ R : List ℕ) → Filled (λ i. 0 + i) (getD W (240 * b + 192) 0) I → Lifted W (240 * b) (6 * getD W (240 * b + 192) 0) I R₀ 0 R

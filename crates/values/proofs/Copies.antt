@@ -4,25 +4,24 @@ use native.Mathlib.Omega.{arith}
 use native.Mathlib.Decide.{decLt, ℕ-discrete}
 use mathlib.Core.Path.{_≡_, refl, sym, ap, _∙_, subst}
 use mathlib.Core.Bool.{Bool, true, false}
-use mathlib.Core.Logic.{⊎-elim}
 use types.Run.{OneOf}
 use denote.Enum.Declared.{tagOf}
 use mathlib.Core.List.{List, [], _∷_}
 use mathlib.Core.Option.{some, Option·none-ne-some}
 use lib.ListN.{length, getD, set, getElem?, length-set, List·getD-eq-default}
 use lib.Seq.{getD-set-same, getD-set-other}
-use borrow.Author.Tests.{ne-eqb, eqb-false}
+use borrow.Author.Tests.{ne-eqb}
 use Rattle.cofj.specs.Values.{Ref, obj, mark, undet, Node, node, graph, rename, refsAt, nodeAt, canon, bind}
 use Rattle.cofj.specs.Unfolding.{Whole}
 use Rattle.cofj.proofs.Operations.{boundNodes}
 use Rattle.values.specs.declared.ValueRef.{ValueRef}
-use Rattle.values.specs.declared.ValueRef.the-variants.{Object, Mark, Undetermined}
+use Rattle.values.specs.declared.ValueRef.the-variants.{Object}
 use Rattle.values.specs.Layout.{codeOf, nodeIn, nodesIn, Packed, Distinct, Block, Inside, objectsIn, countIn, levelIn, valueOf, Holds, Low}
 use Rattle.values.specs.Operations.{Gives, Copying, Copied}
 use Rattle.values.proofs.ValueRef as RefT
 use Rattle.values.proofs.Nodes.{byteOf, packed-byte, packed-same, nodes-same, length-nodes, at-nodes}
 use Rattle.values.proofs.Turned.{nodes-agree}
-use Rattle.values.proofs.Blocks.{held-inside, nodes-id}
+use Rattle.values.proofs.Blocks.{held-inside, no-object, nodes-id}
 use Rattle.values.proofs.Selecting.{unchanged}
 
 -- the copying of n objects with the level l has come to byte q of p
@@ -111,12 +110,7 @@ block-moves W W′ b d en el here room bk =
 -- ---- brought to a block
 module _ (W : List ℕ) (r : ValueRef) (dst : ℕ) (h : Holds W r) where
   pub bring-leaf : OneOf (1 ∷ 2 ∷ []) (tagOf RefT.the-type r) → Gives W dst W r (valueOf W r)
-  bring-leaf o = record { held = h; is = refl; place = go r o; outside = unchanged dst W }
-    where
-      go : (r : ValueRef) → OneOf (1 ∷ 2 ∷ []) (tagOf RefT.the-type r) → Low (dst + 1) r
-      go (Object n i) o = ⊎-elim (λ e. absurd (eqb-false 0 1 refl e)) (λ e. absurd (eqb-false 0 2 refl e)) o
-      go (Mark n) o = tt
-      go Undetermined o = tt
+  bring-leaf o = record { held = h; is = refl; place = no-object (Low (dst + 1)) (λ k. tt) tt r o; outside = unchanged dst W }
 
   module _ (b i : ℕ) (e : r ≡ Object b i) where
     pub bring-here : b ≤ dst → Gives W dst W (Object b i) (valueOf W r)

@@ -29,7 +29,7 @@ use Rattle.values.specs.Adding.{Found, Appended, Added, partOf}
 use Rattle.values.specs.Merging.{Grown, Fits, Standing, Entered, CodeAs, Mapped, Importing, Imported, ObjectBytes, Turned, Turning, TurnedAll, As, PartImported, Begun, RootBrought, PartsBrought, NotIn, Away, LiesTest, SomeTest}
 use Rattle.values.proofs.Nodes.{ref-object, ref-undet, ref-mark, byteOf, packed-byte, length-nodes, at-nodes}
 use Rattle.values.proofs.Blocks.{held-room, size-in, inner-in, whole-at}
-use Rattle.values.proofs.Trees.{made-as}
+use Rattle.values.proofs.Trees.{in-larger, leaf-same, made-as}
 use Rattle.values.proofs.Walks.{four, four-at}
 use Rattle.values.proofs.Lays.{fresh, fresh-class, fresh-count, fresh-spare, raws-whole, made-raw, parts-length}
 use Rattle.values.proofs.Copies.{block-moves}
@@ -39,31 +39,12 @@ use Rattle.values.proofs.Adding.{more, old-tree, at-new}
 use Rattle.values.proofs.Beside.{add-here, objects-are, block-added}
 
 -- ---- codes that are no objects
-leaf-form : (P : Ref → Type 0) → P undet → ((k : ℕ) → P (mark k)) → (c : ℕ) → 192 ≤ c → P (refOf c)
-leaf-form P u m c h = go (ℕ-discrete c 192)
-  where
-    go : Dec (c ≡ 192) → P (refOf c)
-    go (yes e) = subst P (sym (ap refOf e ∙ ref-undet)) u
-    go (no n) = let z : c ≡ 193 + (c - 193) = omega (arith, n) in subst P (sym (ap refOf z ∙ ref-mark (c - 193))) (m (c - 193))
-
 pub leaf-low : (n c : ℕ) → 192 ≤ c → InRange n (refOf c)
-leaf-low n = leaf-form (InRange n) tt (λ k. tt)
-
-undet-same : (ns ms : List Node) → Same ns undet ms undet
-undet-same ns ms [] = refl
-undet-same ns ms (f ∷ p) = refl
-
-mark-same : (ns ms : List Node) (k : ℕ) → Same ns (mark k) ms (mark k)
-mark-same ns ms k [] = refl
-mark-same ns ms k (f ∷ p) = refl
-
-pub leaf-same : (ns ms : List Node) (c : ℕ) → 192 ≤ c → Same ns (refOf c) ms (refOf c)
-leaf-same ns ms = leaf-form (λ r. Same ns r ms r) (undet-same ns ms) (mark-same ns ms)
-
-in-larger : (n m : ℕ) (r : Ref) → n ≤ m → InRange n r → InRange m r
-in-larger n m (obj i) h l = omega arith
-in-larger n m (mark k) h l = tt
-in-larger n m undet h l = tt
+leaf-low n c h = go (ℕ-discrete c 192)
+  where
+    go : Dec (c ≡ 192) → InRange n (refOf c)
+    go (yes e) = subst (InRange n) (sym (ap refOf e ∙ ref-undet)) tt
+    go (no d) = let z : c ≡ 193 + (c - 193) = omega (arith, d) in subst (InRange n) (sym (ap refOf z ∙ ref-mark (c - 193))) tt
 
 -- ---- a block that has grown, and the others
 pub grown-none : (host : ℕ) (W : List ℕ) → Block W host → Grown host W W
@@ -256,7 +237,7 @@ module _ (W : List ℕ) (src i host : ℕ) (M T : List ℕ) (k : ℕ) (tg : Turn
   }
     where
       spare : CodeAs W src 192 host 192
-      spare = record { low = rw ref-undet tt; leaf = λ _. refl; same = rw ref-undet (undet-same (objectsIn W src) (objectsIn W host)) }
+      spare = record { low = rw ref-undet tt; leaf = λ _. refl; same = rw ref-undet (leaf-same (objectsIn W src) (objectsIn W host) undet tt) }
 
       go : (j : ℕ) → j < 4 → Dec (j < k) → CodeAs W src (getD W (240 * src + 6 * i + (2 + j)) 0) host (getD T (2 + j) 0)
       go j m (yes l) = tg .turned .done j l m
@@ -365,7 +346,7 @@ module _ (W : List ℕ) (src c host : ℕ) (M : List ℕ) (im : Importing W src 
   import-leaf h = record {
     grown = grown-none host W (im .target);
     mapped = im .mapped;
-    like = λ _. record { low = leaf-low (countIn W host) c h; leaf = λ _. refl; same = leaf-same (objectsIn W src) (objectsIn W host) c h };
+    like = λ _. record { low = leaf-low (countIn W host) c h; leaf = λ _. refl; same = leaf-same (objectsIn W src) (objectsIn W host) (refOf c) (leaf-low 0 c h) };
   }
 
   pub import-none : Imported W src c host W M 32
@@ -553,13 +534,13 @@ module _ (W : List ℕ) (v : ValueRef) (base host : ℕ) (h : Holds W v) (bg : B
   pub part-mark : (k : ℕ) → v ≡ Mark k → PartImported W v host W (193 + k)
   part-mark k e = rw e (record {
     grown = grown-none host W (bg .target);
-    like = λ _. record { low = leaf-low (countIn W host) (193 + k) (omega arith); same = λ p. mark-same [] (objectsIn W host) k p ∙ ap (λ (x : Ref). follow (objectsIn W host) x p) (sym (ref-mark k)) };
+    like = λ _. record { low = leaf-low (countIn W host) (193 + k) (omega arith); same = λ p. leaf-same [] (objectsIn W host) (mark k) tt p ∙ ap (λ (x : Ref). follow (objectsIn W host) x p) (sym (ref-mark k)) };
   })
 
   pub part-undet : v ≡ Undetermined → PartImported W v host W 192
   part-undet e = rw e (record {
     grown = grown-none host W (bg .target);
-    like = λ _. record { low = leaf-low (countIn W host) 192 (omega arith); same = λ p. undet-same [] (objectsIn W host) p ∙ ap (λ (x : Ref). follow (objectsIn W host) x p) (sym ref-undet) };
+    like = λ _. record { low = leaf-low (countIn W host) 192 (omega arith); same = λ p. leaf-same [] (objectsIn W host) undet tt p ∙ ap (λ (x : Ref). follow (objectsIn W host) x p) (sym ref-undet) };
   })
 
 same-values : (W W′ : List ℕ) (n : ℕ) (ps : List Slot) → ((i : ℕ) → i < n → valueOf W′ (partOf ps i) ≡ valueOf W (partOf ps i)) → map (λ s. valueOf W′ (s .r)) (take n ps) ≡ map (λ s. valueOf W (s .r)) (take n ps)

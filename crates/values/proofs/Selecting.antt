@@ -3,12 +3,11 @@ use Prim.Native.Nat.{ℕ, zero, suc, _+_, _-_, _*_, _<_, _≤_}
 use native.Mathlib.Omega.{arith}
 use native.Mathlib.Decide.{ℕ-discrete}
 use mathlib.Core.Path.{_≡_, refl, sym, ap, _∙_, subst}
-use mathlib.Core.Logic.{⊎-elim}
 use mathlib.Core.List.{List, [], _∷_}
 use mathlib.Core.Option.{none, some}
 use lib.ListN.{length, getD, take, getElem?, length-take}
 use lib.Seq.{getD-take}
-use borrow.Author.Tests.{eq-eqb, ne-eqb, eqb-false}
+use borrow.Author.Tests.{eq-eqb, ne-eqb}
 use types.Run.{OneOf}
 use denote.Enum.Declared.{tagOf}
 use Rattle.cofj.specs.Values.{Ref, mark, undet, Node, graph, refsAt, canon, canonBy, visit, select, selected, markOf, undetermined}
@@ -22,7 +21,7 @@ use Rattle.values.specs.Operations.{Chosen, Leaf}
 use Rattle.values.proofs.ValueRef as RefT
 use Rattle.values.proofs.Nodes.{at-nodes, ref-object, ref-undet, ref-mark}
 use Rattle.values.proofs.Walks.{four, four-at}
-use Rattle.values.proofs.Blocks.{inner-in, whole-at}
+use Rattle.values.proofs.Blocks.{no-object, inner-in, whole-at}
 use Rattle.values.proofs.Trees.{select-canon}
 
 pub unchanged : (b : ℕ) (W : List ℕ) → Outside b W W
@@ -128,12 +127,7 @@ module _ (W : List ℕ) (b i f : ℕ) (ob : Inside W b i) where
 module _ (W : List ℕ) (r : ValueRef) (f : ℕ) where
   pub select-none : OneOf (1 ∷ 2 ∷ []) (tagOf RefT.the-type r) → Chosen W r f Stuck
   unfolding select
-  select-none h = go r h
-    where
-      go : (r : ValueRef) → OneOf (1 ∷ 2 ∷ []) (tagOf RefT.the-type r) → Chosen W r f Stuck
-      go (Object n i) h = ⊎-elim (λ e. absurd (eqb-false 0 1 refl e)) (λ e. absurd (eqb-false 0 2 refl e)) h
-      go (Mark n) h = record { held = tt; is = refl; place = λ sp q. tt }
-      go Undetermined h = record { held = tt; is = refl; place = λ sp q. tt }
+  select-none = no-object (λ x. Chosen W x f Stuck) (λ k. record { held = tt; is = refl; place = λ sp q. tt }) (record { held = tt; is = refl; place = λ sp q. tt }) r
 
   pub select-one : (b i : ℕ) (o : Selected) → r ≡ Object b i → Chosen W (Object b i) f o → Chosen W r f o
   select-one b i o e c = rw e c

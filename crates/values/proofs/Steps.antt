@@ -21,6 +21,7 @@ use Rattle.values.specs.declared.ValueRef.{ValueRef}
 use Rattle.values.specs.declared.ValueRef.the-variants.{Object, Mark, Undetermined}
 use Rattle.values.specs.Layout.{codeOf, countIn, objectsIn, graphAt, Block, Inside, valueOf}
 use Rattle.values.specs.Stepping.{After, after, stepCode, CodeFits, unpaired, Paired, AllSame, Grown, Linked, Pair, Alike, AlikeTest, FieldsSoFar, Closed, PairsSoFar, ObjectStep, InStep}
+use Rattle.values.proofs.Trees.{in-larger}
 use Rattle.values.proofs.Nodes.{byteOf, packed-byte, length-nodes, at-nodes}
 
 -- ---- one code
@@ -242,11 +243,6 @@ is-object (obj i) h = refl
 is-object (mark k) h = absurd (omega arith)
 is-object undet h = absurd (omega arith)
 
-range-up : (n : ℕ) (r : Ref) → n ≤ 32 → InRange n r → InRange 32 r
-range-up n (obj i) h l = omega arith
-range-up n (mark k) h l = tt
-range-up n undet h l = tt
-
 pub object-low : (n : ℕ) (r : Ref) → InRange n r → codeOf r < 192 → codeOf r < n
 object-low n (obj i) l h = l
 object-low n (mark k) l h = absurd (omega arith)
@@ -271,10 +267,10 @@ module _ (W : List ℕ) (b c : ℕ) (T₀ Q₀ : List ℕ) (t₀ : ℕ) where
     fails h = record { differ = λ _. h; grown = λ z. absurd (z refl); paired = λ z. absurd (z refl); linked = λ z. absurd (z refl); further = λ z. absurd (z refl) }
 
     r32 : InRange 32 r
-    r32 = range-up (countIn W b) r (bb .small) hr
+    r32 = in-larger (countIn W b) 32 r (bb .small) hr
 
     s32 : InRange 32 s
-    s32 = range-up (countIn W c) s (bc .small) hs
+    s32 = in-larger (countIn W c) 32 s (bc .small) hs
 
     module _ (ha : codeOf r < 192) (hb : codeOf s < 192) where
       twins : AllSame W b c T₀ → Same (objectsIn W b) (obj (codeOf r)) (objectsIn W c) (obj (codeOf s))
@@ -476,9 +472,9 @@ module _ (W : List ℕ) (b c : ℕ) (bb : Block W b) (bc : Block W c) where
             ap (λ (q : Ref). follow (objectsIn W b) q p) (is-object r h) ∙ ih (codeOf r) (codeOf s) e ∙ ap (λ (q : Ref). follow (objectsIn W c) q p) (sym (is-object s k))
         go (no h) =
             let k : 192 ≤ codeOf r = omega (arith, h) in
-            let i : InRange 32 r = range-up (countIn W b) r (bb .small) hr in
+            let i : InRange 32 r = in-larger (countIn W b) 32 r (bb .small) hr in
             leaf-follow (objectsIn W b) (objectsIn W c) r i k p
-            ∙ ap (λ (q : Ref). follow (objectsIn W c) q p) (codes-leaf r s i (range-up (countIn W c) s (bc .small) hs) k (l .leaf k))
+            ∙ ap (λ (q : Ref). follow (objectsIn W c) q p) (codes-leaf r s i (in-larger (countIn W c) 32 s (bc .small) hs) k (l .leaf k))
 
     low-first : (x y : ℕ) → getD T x 0 ≡ y + 1 → x < countIn W b
     low-first x y e = let o = pd .listed x y e in let h : o .0 < t = o .1 in subst (λ (k : ℕ). k < countIn W b) (o .2) (pd .low (o .0) h)
