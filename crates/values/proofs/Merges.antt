@@ -34,7 +34,7 @@ use Rattle.values.proofs.Walks.{four, four-at}
 use Rattle.values.proofs.Lays.{fresh, fresh-class, fresh-count, fresh-spare, raws-whole, made-raw, parts-length}
 use Rattle.values.proofs.Copies.{block-moves}
 use Rattle.values.proofs.Selecting.{unchanged, under}
-use Rattle.values.proofs.Kept.{Kept, Elsewhere, kept}
+use Rattle.values.proofs.Kept.{Kept, kept}
 use Rattle.values.proofs.Adding.{more, old-tree, at-new}
 use Rattle.values.proofs.Beside.{add-here, objects-are, block-added}
 
@@ -816,11 +816,6 @@ module _ (ps : List Slot) (n d : ℕ) where
 pub begun-here : (W : List ℕ) (b : ℕ) → Block W b → Begun W b b
 begun-here W b bk = record { source = bk; target = bk; most = omega arith; trees = λ r h p. refl }
 
-elsewhere : (d : ℕ) (v : ValueRef) → NotIn d v → Elsewhere d v
-elsewhere d (Object b i) h = h
-elsewhere d (Mark k) h = tt
-elsewhere d Undetermined h = tt
-
 module _ (W : List ℕ) (b host dst : ℕ) (W1 : List ℕ) (bk : Block W b) (lb : b < dst) (le : dst ≤ host) (room : 240 * host + 240 ≤ length W) (cp : Copied W b host W1) where
   pub copied-begun : Begun W1 b host
   copied-begun =
@@ -839,7 +834,7 @@ module _ (W : List ℕ) (b host dst : ℕ) (W1 : List ℕ) (bk : Block W b) (lb 
 
   module _ (ps : List Slot) (n : ℕ) (held : PartsHeld W ps n) (away : Away ps n host) where
     keeps : (i : ℕ) → i < n → Kept W W1 (partOf ps i)
-    keeps i h = kept host W W1 (cp .outside) (partOf ps i) (elsewhere host (partOf ps i) (away .each i h)) (held .part i h)
+    keeps i h = kept host W W1 (cp .outside) (partOf ps i) (away .each i h) (held .part i h)
 
     pub copied-held : PartsHeld W1 ps n
     copied-held = record { full = held .full; part = λ i h. keeps i h .held }

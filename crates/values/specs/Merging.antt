@@ -116,6 +116,7 @@ pub record PartsBrought (W : List ℕ) (c : ℕ) (ps : List Slot) (n host : ℕ)
   pub done : r ≡ true → RootBrought W c ps n n W′ host T′
 
 -- ---- the host
+-- a value that lies in another block than d, or is no object
 abbrev pub NotIn : ℕ → ValueRef → Type 0
 NotIn d (Object b i) = (b ≡ d) → ⊥
 NotIn d (Mark k) = Unit {0}
