@@ -19,6 +19,7 @@ use Rattle.values.specs.declared.ValueRef.the-variants.{Object, Mark, Un
 use Rattle.values.specs.declared.Slot.{Slot}
 use Rattle.values.specs.declared.Made.the-variants.{Value}
 use Rattle.values.specs.Layout.{refOf, nodeIn, nodesIn, Packed, part, Distinct, Block, Inside, objectsIn, graphAt, countIn, levelIn, valueOf, rawOf, Holds}
+use Rattle.values.specs.Tables.{Carried}
 use Rattle.values.specs.Numbers.{Levels}
 use Rattle.values.specs.Operations.{Gives, Copied}
 use Rattle.values.specs.Laying.{valuesFrom, rawsFrom, PartsHeld, MadeIs}
@@ -198,41 +199,17 @@ all-fit W ns (suc n) [] h = tt
 all-fit W ns (suc n) (s ∷ ps) h = (h 0 (omega arith), all-fit W ns n ps (λ i l. h (suc i) (omega arith)))
 
 -- ---- the object written after the others
-pub record Appending (W : List ℕ) (to : ℕ) (T : List ℕ) (k : ℕ) (D : List ℕ) : Type 0 where
-  pub same : length D ≡ length W
-  pub here : (j : ℕ) → j < k → getD D (to + j) 0 ≡ getD T j 0
-  pub below : (p : ℕ) → p < to → getD D p 0 ≡ getD W p 0
-  pub above : (p : ℕ) → to + 6 ≤ p → getD D p 0 ≡ getD W p 0
-
-pub append-none : (W : List ℕ) (to : ℕ) (T : List ℕ) → Appending W to T 0 W
-append-none W to T = record { same = refl; here = λ j h. absurd (omega arith); below = λ p h. refl; above = λ p h. refl }
-
-module _ (W : List ℕ) (dst t : ℕ) (T : List ℕ) (k : ℕ) (D : List ℕ) (a : Appending W (240 * dst + 6 * t) T k D) (few : t ≤ 31) (room : 240 * dst + 240 ≤ length W) where
-  abbrev to : ℕ
-  to = 240 * dst + 6 * t
-
-  pub append-more : k < 6 → Appending W to T (k + 1) (set D (to + k) (getD T k 0))
-  append-more h = record {
-    same = length-set D (to + k) _ ∙ a .same;
-    here = λ j l. go j l (ℕ-discrete j k);
-    below = λ p l. getD-set-other D (to + k) p _ 0 (λ z. omega arith) ∙ a .below p l;
-    above = λ p l. getD-set-other D (to + k) p _ 0 (λ z. omega arith) ∙ a .above p l;
-  }
-    where
-      go : (j : ℕ) → j < k + 1 → Dec (j ≡ k) → getD (set D (to + k) (getD T k 0)) (to + j) 0 ≡ getD T j 0
-      go j l (yes z) = rw z (getD-set-same D (to + k) _ 0 (omega (arith, a .same)))
-      go j l (no z) = getD-set-other D (to + k) (to + j) _ 0 (λ y. z (omega arith)) ∙ a .here j (omega (arith, z))
-
-  pub append-done : (l : ℕ) → 6 ≤ k → Appended W dst t T l (set (set D (240 * dst + 192) (t + 1)) (240 * dst + 193) l)
+module _ (W : List ℕ) (dst t : ℕ) (T : List ℕ) (D : List ℕ) (a : Carried T 0 W (240 * dst + 6 * t) 6 D) (few : t ≤ 31) (room : 240 * dst + 240 ≤ length W) where
+  pub append-done : (l : ℕ) → Appended W dst t T l (set (set D (240 * dst + 192) (t + 1)) (240 * dst + 193) l)
   unfolding countIn levelIn
-  append-done l h =
+  append-done l =
       let byte : (p : ℕ) → ((p ≡ 240 * dst + 192) → ⊥) → ((p ≡ 240 * dst + 193) → ⊥) → getD (set (set D (240 * dst + 192) (t + 1)) (240 * dst + 193) l) p 0 ≡ getD D p 0 = λ p x y.
       getD-set-other (set D (240 * dst + 192) (t + 1)) (240 * dst + 193) p l 0 y ∙ getD-set-other D (240 * dst + 192) p (t + 1) 0 x in
       record {
         count = getD-set-other (set D (240 * dst + 192) (t + 1)) (240 * dst + 193) (240 * dst + 192) l 0 (λ z. omega arith) ∙ getD-set-same D (240 * dst + 192) (t + 1) 0 (omega (arith, a .same));
         level = getD-set-same (set D (240 * dst + 192) (t + 1)) (240 * dst + 193) l 0 (omega (arith, a .same, length-set D (240 * dst + 192) (t + 1)));
         old = λ q m. byte (240 * dst + q) (λ z. omega arith) (λ z. omega arith) ∙ a .below (240 * dst + q) (omega arith);
-        top = λ j m. byte (240 * dst + 6 * t + j) (λ z. omega arith) (λ z. omega arith) ∙ a .here j (omega arith);
+        top = λ j m. byte (240 * dst + 6 * t + j) (λ z. omega arith) (λ z. omega arith) ∙ a .here j m ∙ ap (λ (x : ℕ). getD T x 0) (let z : 0 + j ≡ j = omega arith in z);
         outside = record {
           same = length-set (set D (240 * dst + 192) (t + 1)) (240 * dst + 193) l ∙ length-set D (240 * dst + 192) (t + 1) ∙ a .same;
           below = λ p m. byte p (λ z. omega arith) (λ z. omega arith) ∙ a .below p (omega arith);

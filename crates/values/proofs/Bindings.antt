@@ -20,12 +20,13 @@ use Rattle.cofj.proofs.Unique.{canon-canon}
 use Rattle.cofj.proofs.Operations.{boundNode, boundNodes, followBound, bound-follow, bound-whole}
 use Rattle.values.specs.declared.ValueRef.{ValueRef}
 use Rattle.values.specs.declared.ValueRef.the-variants.{Object}
-use Rattle.values.specs.Layout.{refOf, codeOf, nodeIn, nodesIn, Packed, Distinct, Block, Inside, objectsIn, graphAt, countIn, levelIn}
+use Rattle.values.specs.Layout.{refOf, codeOf, nodeIn, nodesIn, Packed, alikeAt, Distinct, Block, Inside, objectsIn, graphAt, countIn, levelIn}
+use Rattle.values.specs.Tables.{Carried}
 use Rattle.values.specs.Rounds.{Raw}
 use Rattle.values.specs.Numbers.{Levels, Ready, Placed, Has, graphIn}
 use Rattle.values.specs.Operations.{Gives}
-use Rattle.values.specs.Binding.{boundCode, boundByte, ObjectBound, ObjectsBound, Bound, FreeOf, ReferTest, Unreferred, UnreferredTest, LikeTest, OtherField, Leads, DifferTest, OtherTest, OnlyOne, OnlyTest, DistinctTest, Rooted, Written}
-use Rattle.values.proofs.Nodes.{byteOf, packed-byte, packed-same, nodes-same, length-nodes, at-nodes, AllPacked, ref-object, ref-undet, ref-mark}
+use Rattle.values.specs.Binding.{boundCode, boundByte, ObjectBound, ObjectsBound, Bound, FreeOf, ReferTest, Unreferred, UnreferredTest, OtherField, Leads, DifferTest, OtherTest, OnlyOne, OnlyTest, DistinctTest, Rooted}
+use Rattle.values.proofs.Nodes.{byteOf, packed-byte, packed-same, nodes-same, length-nodes, at-nodes, AllPacked, alike-yes, alike-no, ref-object, ref-undet, ref-mark}
 use Rattle.values.proofs.Steps.{some-at, is-object, object-low}
 use Rattle.values.proofs.Blocks.{size-in, whole-at}
 use Rattle.values.proofs.Trees.{in-larger, close-canon}
@@ -374,12 +375,6 @@ module _ (W : List ℕ) (b i : ℕ) where
 
 -- ---- two objects side by side
 module _ (R : List ℕ) (x y : ℕ) where
-  pub like-not : ((getD R (6 * x) 0 ≡ getD R (6 * y) 0) → ⊥) → LikeTest R x y false
-  like-not d = record { yes = λ z. absurd (false≢true z); no = λ _ a. d (a .cls) }
-
-  pub like-by-count : getD R (6 * x) 0 ≡ getD R (6 * y) 0 → LikeTest R x y (eqb (getD R (6 * x + 1) 0) (getD R (6 * y + 1) 0))
-  like-by-count e = record { yes = λ z. record { cls = e; count = eqb-true _ _ z }; no = λ z a. eqb-false _ _ z (a .count) }
-
   pub other-here : (f : ℕ) → ((getD R (6 * x + 2 + f) 0 ≡ getD R (6 * y + 2 + f) 0) → ⊥) → OtherField R x y f
   other-here f h = record { other = λ _. h }
 
@@ -425,15 +420,15 @@ module _ (R : List ℕ) (n i k : ℕ) where
     spare-at x h f l m = let z : 6 * x + 2 + f ≡ 6 * x + (2 + f) = omega arith in rw z (raw .packed x h .spare (2 + f) (omega arith) (omega arith))
 
     module _ (x y : ℕ) (ld : Leads R n i k x y) where
-      pub differ-unlike : (r : Bool) → LikeTest R x y r → not r ≡ true → DifferTest R n i k true
+      pub differ-unlike : (r : Bool) → r ≡ alikeAt R (6 * x) (6 * y) → not r ≡ true → DifferTest R n i k true
       differ-unlike r t z = record {
-        yes = λ _ e. t .no (not-true r z) (record {
+        yes = λ _ e. alike-no R (6 * x) (6 * y) r t (not-true r z) (record {
           cls = cls-at x (ld .first) ∙ same-cls ns ns x y (ld .leads e) ∙ sym (cls-at y (ld .second));
           count = count-at x (ld .first) ∙ same-count ns ns x y (ld .leads e) ∙ sym (count-at y (ld .second));
         });
       }
 
-      module _ (u : Bool) (t : LikeTest R x y u) (zu : not u ≡ false) (f : ℕ) (o : OtherField R x y f) (hf : f < 4) where
+      module _ (u : Bool) (t : u ≡ alikeAt R (6 * x) (6 * y)) (zu : not u ≡ false) (f : ℕ) (o : OtherField R x y f) (hf : f < 4) where
         abbrev a : ℕ
         a = getD R (6 * x + 2 + f) 0
 
@@ -441,7 +436,7 @@ module _ (R : List ℕ) (n i k : ℕ) where
         c = getD R (6 * y + 2 + f) 0
 
         en : getD R (6 * x + 1) 0 ≡ getD R (6 * y + 1) 0
-        en = t .yes (not-false u zu) .count
+        en = alike-yes R (6 * x) (6 * y) u t (not-false u zu) .count
 
         field-low : f < getD R (6 * x + 1) 0
         field-low = go (decLt f (getD R (6 * x + 1) 0))
@@ -553,25 +548,6 @@ pub distinct-yes : (R : List ℕ) (n : ℕ) (r : Bool) → DistinctTest R n r �
 distinct-yes R n r t e = t .yes e
 
 -- ---- the objects written to a block as they are
-module _ (R W : List ℕ) (dst : ℕ) where
-  pub write-none : Written R W dst 0 W
-  write-none = record { same = refl; here = λ k h. absurd (omega arith); below = λ p h. refl; above = λ p h. refl }
-
-  pub write-more : (q p : ℕ) (D : List ℕ) → Written R W dst q D → q < p → p ≤ 192 → 240 * dst + 240 ≤ length W → Written R W dst (q + 1) (set D (240 * dst + q) (getD R q 0))
-  write-more q p D w hq hp room = record {
-    same = length-set D (240 * dst + q) _ ∙ w .same;
-    here = λ k h. go k h (ℕ-discrete k q);
-    below = λ y l. getD-set-other D (240 * dst + q) y _ 0 (λ z. omega arith) ∙ w .below y l;
-    above = λ y l. getD-set-other D (240 * dst + q) y _ 0 (λ z. omega arith) ∙ w .above y (omega arith);
-  }
-    where
-      go : (k : ℕ) → k < q + 1 → Dec (k ≡ q) → getD (set D (240 * dst + q) (getD R q 0)) (240 * dst + k) 0 ≡ getD R k 0
-      go k h (yes z) = rw z (getD-set-same D (240 * dst + q) _ 0 (omega (arith, w .same)))
-      go k h (no z) = getD-set-other D (240 * dst + q) (240 * dst + k) _ 0 (λ y. z (omega arith)) ∙ w .here k (omega (arith, z))
-
-  pub write-done : (q p : ℕ) (D : List ℕ) → Written R W dst q D → q ≤ p → p ≤ q → Written R W dst p D
-  write-done q p D w h k = let e : q ≡ p = omega arith in rw e at w
-
 module _ (R : List ℕ) (n i : ℕ) (W : List ℕ) (dst : ℕ) (rd : Rooted R n i W dst) where
   whole-graph : Whole (graphIn R n i)
   whole-graph = record { top = omega (arith, length-nodes R 0 n, rd .inside); inner = rd .raw .whole .inner }
@@ -579,7 +555,7 @@ module _ (R : List ℕ) (n i : ℕ) (W : List ℕ) (dst : ℕ) (rd : Rooted R n 
   pub rooted-raw : Raw R n
   rooted-raw = rd .raw
 
-  module _ (d : Distinct (nodesIn R 0 n)) (D : List ℕ) (w : Written R W dst (6 * n) D) (l : ℕ) (lv : Levels R 0 (6 * n) l) where
+  module _ (d : Distinct (nodesIn R 0 n)) (D : List ℕ) (w : Carried R 0 W (240 * dst) (6 * n) D) (l : ℕ) (lv : Levels R 0 (6 * n) l) where
     abbrev E : List ℕ
     E = set (set D (240 * dst + 192) n) (240 * dst + 193) l
 
@@ -590,7 +566,7 @@ module _ (R : List ℕ) (n i : ℕ) (W : List ℕ) (dst : ℕ) (rd : Rooted R n 
     same-size = length-set (set D (240 * dst + 192) n) (240 * dst + 193) l ∙ length-set D (240 * dst + 192) n ∙ w .same
 
     written : (p : ℕ) → p < 6 * n → getD E (240 * dst + p) 0 ≡ getD R p 0
-    written p h = kept (240 * dst + p) (λ z. omega (arith, rd .small)) (λ z. omega (arith, rd .small)) ∙ w .here p h
+    written p h = kept (240 * dst + p) (λ z. omega (arith, rd .small)) (λ z. omega (arith, rd .small)) ∙ w .here p h ∙ ap (λ (k : ℕ). getD R k 0) (let z : 0 + p ≡ p = omega arith in z)
 
     size-is : countIn E dst ≡ n
     unfolding countIn

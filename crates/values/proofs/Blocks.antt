@@ -37,6 +37,10 @@ module _ (W : List ℕ) (r : ValueRef) (b i : ℕ) (h : Holds W r) (e : r ≡ Ob
   pub held-room : 240 * b + 240 ≤ length W
   held-room = held-block .room
 
+-- the bytes of an object are there
+pub inside-room : (W : List ℕ) (b i : ℕ) → Inside W b i → 240 * b + 6 * i + 6 ≤ length W
+inside-room W b i ob = omega (arith, ob .block .room, ob .block .small, ob .low)
+
 -- a reference that stands for none is a mark or undetermined
 pub no-object : (P : ValueRef → Type 0) → ((k : ℕ) → P (Mark k)) → P Undetermined → (r : ValueRef) → OneOf (1 ∷ 2 ∷ []) (tagOf RefT.the-type r) → P r
 no-object P m u (Object b i) h = ⊎-elim (λ e. absurd (eqb-false 0 1 refl e)) (λ e. absurd (eqb-false 0 2 refl e)) h

@@ -17,7 +17,8 @@ use Rattle.cofj.proofs.Operations.{boundNodes}
 use Rattle.values.specs.declared.ValueRef.{ValueRef}
 use Rattle.values.specs.declared.ValueRef.the-variants.{Object}
 use Rattle.values.specs.Layout.{codeOf, nodeIn, nodesIn, Packed, Distinct, Block, Inside, objectsIn, countIn, levelIn, valueOf, Holds, Low}
-use Rattle.values.specs.Operations.{Gives, Copying, Copied}
+use Rattle.values.specs.Tables.{Carried}
+use Rattle.values.specs.Operations.{Gives, Copied}
 use Rattle.values.proofs.ValueRef as RefT
 use Rattle.values.proofs.Nodes.{byteOf, packed-byte, packed-same, nodes-same, length-nodes, at-nodes}
 use Rattle.values.proofs.Turned.{nodes-agree}
@@ -29,7 +30,7 @@ pub record CopyLoop (W : List ℕ) (b dst n l p q : ℕ) (D : List ℕ) : Type 0
   pub count : n ≡ getD W (240 * b + 192) 0
   pub level : l ≡ getD W (240 * b + 193) 0
   pub size : p ≡ 6 * n
-  pub copying : Copying W b dst q D
+  pub copying : Carried W (240 * b) W (240 * dst) q D
 
 pub copy-none : (W : List ℕ) (b dst n l p : ℕ) → n ≡ getD W (240 * b + 192) 0 → l ≡ getD W (240 * b + 193) 0 → p ≡ 6 * n → CopyLoop W b dst n l p 0 W
 copy-none W b dst n l p en el ep = record { count = en; level = el; size = ep; copying = record { same = refl; here = λ k h. absurd (omega arith); below = λ y h. refl; above = λ y h. refl } }
@@ -39,7 +40,7 @@ module _ (W : List ℕ) (b dst n l p q : ℕ) (D : List ℕ) (bk : Block W b) (r
   unfolding countIn
   few = bk .small
 
-  cp : Copying W b dst q D
+  cp : Carried W (240 * b) W (240 * dst) q D
   cp = c .copying
 
   pub copy-step : q < p → CopyLoop W b dst n l p (q + 1) (set D (240 * dst + q) (getD D (240 * b + q) 0))

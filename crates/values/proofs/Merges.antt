@@ -22,6 +22,7 @@ use Rattle.values.specs.declared.Slot.{Slot}
 use Rattle.values.specs.declared.Made.{Made}
 use Rattle.values.specs.declared.Made.the-variants.{Value}
 use Rattle.values.specs.Layout.{refOf, codeOf, nodeIn, nodesIn, Packed, countIn, levelIn, objectsIn, graphAt, valueOf, rawOf, Holds, HeldBy, Block, Inside, Outside, Beneath}
+use Rattle.values.specs.Tables.{Carried}
 use Rattle.values.specs.Numbers.{Levels}
 use Rattle.values.specs.Operations.{Gives, Copied}
 use Rattle.values.specs.Laying.{valuesFrom, rawsFrom, PartsHeld, MadeIs}
@@ -149,21 +150,8 @@ module _ (W : List ℕ) (host : ℕ) (T : List ℕ) (bk : Block W host) (ft : Fi
       }
 
 -- ---- an object's bytes
-pub object-none : (W : List ℕ) (src i : ℕ) (T : List ℕ) → length T ≡ 6 → ObjectBytes W src i 0 T
-object-none W src i T e = record { long = e; bytes = λ j h. absurd (omega arith) }
-
-pub object-room : (W : List ℕ) (src i : ℕ) → Inside W src i → 240 * src + 6 * i + 6 ≤ length W
-object-room W src i ib = omega (arith, ib .block .room, ib .block .small, ib .low)
-
-pub object-more : (W : List ℕ) (src i k : ℕ) (T : List ℕ) → ObjectBytes W src i k T → k < 6 → ObjectBytes W src i (k + 1) (set T k (getD W (240 * src + 6 * i + k) 0))
-object-more W src i k T o h = record { long = length-set T k _ ∙ o .long; bytes = λ j l. go j l (ℕ-discrete j k) }
-  where
-    go : (j : ℕ) → j < k + 1 → Dec (j ≡ k) → getD (set T k (getD W (240 * src + 6 * i + k) 0)) j 0 ≡ getD W (240 * src + 6 * i + j) 0
-    go j l (yes z) = rw z (getD-set-same T k _ 0 (omega (arith, o .long)))
-    go j l (no z) = getD-set-other T k j _ 0 z ∙ o .bytes j (omega (arith, z))
-
-pub object-done : (W : List ℕ) (src i k : ℕ) (T : List ℕ) → ObjectBytes W src i k T → 6 ≤ k → ObjectBytes W src i 6 T
-object-done W src i k T o h = record { long = o .long; bytes = λ j l. o .bytes j (omega arith) }
+pub object-taken : (W : List ℕ) (src i : ℕ) (T₀ T : List ℕ) → length T₀ ≡ 6 → Carried W (240 * src + 6 * i) T₀ 0 6 T → ObjectBytes W src i T
+object-taken W src i T₀ T e c = record { long = c .same ∙ e; bytes = λ j h. let z : 0 + j ≡ j = omega arith in rw z at (c .here j h) }
 
 -- ---- the codes of an object
 some-at : (rs : List Ref) (f : ℕ) → f < length rs → getElem? rs f ≡ some (getD rs f undet)
@@ -366,7 +354,7 @@ module _ (W : List ℕ) (src c host : ℕ) (M : List ℕ) (im : Importing W src 
       like = λ _. im .mapped .each c (m - 1) (omega (arith, e, d));
     }
 
-    pub import-codes : (T : List ℕ) → ObjectBytes W src c 6 T → Turning W src c host M T 0
+    pub import-codes : (T : List ℕ) → ObjectBytes W src c T → Turning W src c host M T 0
     import-codes T o = record {
       inside = import-inside;
       target = im .target;

@@ -4,13 +4,15 @@ use native.Mathlib.Nat.{not-suc-le-zero, le-of-suc-le-suc}
 use native.Mathlib.Omega.{arith}
 use native.Mathlib.Decide.{decLt, ℕ-discrete}
 use mathlib.Core.Path.{_≡_, refl, sym, ap, ap₂, _∙_}
+use mathlib.Core.Bool.{Bool, true, false, cond, false≢true}
 use mathlib.Core.List.{List, [], _∷_, _++_}
+use lib.Dec.{eqb}
 use lib.ListN.{length, getD, take, drop, length-take, length-drop, List·getD-eq-default}
 use lib.Seq.{getD-take, getD-drop, length-take-le, ext-getD}
-use borrow.Author.Tests.{lt-ltb, le-ltb, ne-eqb}
+use borrow.Author.Tests.{lt-ltb, le-ltb, eq-eqb, ne-eqb, eqb-true}
 use Rattle.cofj.specs.Values.{Ref, obj, mark, undet, Node, nodeAt, eqNats, eqNode}
 use Rattle.cofj.proofs.Basics.{eqNats-true, eqNode-true, eqNode-refl}
-use Rattle.values.specs.Layout.{refOf, codeOf, nodeIn, nodesIn, Packed, part}
+use Rattle.values.specs.Layout.{refOf, codeOf, nodeIn, nodesIn, Packed, Alike, alikeAt, part}
 use Rattle.values.proofs.Runs.{eqNats-same, tests-same}
 
 -- ---- codes
@@ -123,6 +125,29 @@ bytes-same A B n a b pa pb e p h =
     let eb : b + p ≡ b + 6 * (p / 6) + p % 6 = omega arith in
     let en : nodeIn A (a + 6 * (p / 6)) ≡ nodeIn B (b + 6 * (p / 6)) = sym (at-nodes A a n (p / 6) i) ∙ ap (λ (l : List Node). nodeAt l (p / 6)) e ∙ at-nodes B b n (p / 6) i in
     rw (ea, eb, packed-byte A (a + 6 * (p / 6)) (pa (p / 6) i) (p % 6) (omega arith), packed-byte B (b + 6 * (p / 6)) (pb (p / 6) i) (p % 6) (omega arith), en)
+
+-- ---- two objects side by side
+module _ (S : List ℕ) (p q : ℕ) where
+  pub alike-not : ((getD S p 0 ≡ getD S q 0) → ⊥) → false ≡ alikeAt S p q
+  unfolding alikeAt
+  alike-not d = rw (ne-eqb _ _ d)
+
+  pub alike-by-count : getD S p 0 ≡ getD S q 0 → eqb (getD S (p + 1) 0) (getD S (q + 1) 0) ≡ alikeAt S p q
+  unfolding alikeAt
+  alike-by-count e = rw (eq-eqb _ _ e)
+
+  module _ (r : Bool) (er : r ≡ alikeAt S p q) where
+    pub alike-yes : r ≡ true → Alike S p q
+    unfolding alikeAt
+    alike-yes e = go (eqb (getD S p 0) (getD S q 0)) refl (sym er ∙ e)
+      where
+        go : (t : Bool) → eqb (getD S p 0) (getD S q 0) ≡ t → cond t (eqb (getD S (p + 1) 0) (getD S (q + 1) 0)) false ≡ true → Alike S p q
+        go true z h = record { cls = eqb-true _ _ z; count = eqb-true _ _ h }
+        go false z h = absurd (false≢true h)
+
+    pub alike-no : r ≡ false → Alike S p q → ⊥
+    unfolding alikeAt
+    alike-no e a = false≢true (sym e ∙ er ∙ rw (eq-eqb _ _ (a .cls)) (eq-eqb _ _ (a .count)))
 
 -- ---- runs of bytes
 module _ (A : List ℕ) (a n : ℕ) (h : a + n ≤ length A) where

@@ -54,9 +54,6 @@ module _ (W : List ℕ) (b i f : ℕ) (ob : Inside W b i) where
   abbrev at : ℕ
   at = 240 * b + 6 * i
 
-  pub at-room : at + 6 ≤ length W
-  at-room = omega (arith, ob .block .room, ob .block .small, ob .low)
-
   pub count-four : getD W (at + 1) 0 ≤ 4
   count-four = ob .block .packed i (ob .low) .count
 

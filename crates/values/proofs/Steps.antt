@@ -9,7 +9,7 @@ use mathlib.Core.Option.{some}
 use lib.Dec.{eqb}
 use lib.ListN.{length, getD, set, getElem?, replicate, length-set, length-replicate, getD-replicate, List·getD-eq-default}
 use lib.Seq.{getD-set-same, getD-set-other}
-use borrow.Author.Tests.{lt-ltb, le-ltb, eq-eqb, ne-eqb, eqb-true, eqb-false}
+use borrow.Author.Tests.{lt-ltb, le-ltb, eq-eqb, ne-eqb}
 use Rattle.cofj.specs.Partial.{_>>=_}
 use Rattle.cofj.specs.Values.{Ref, obj, mark, undet, Node, Graph, nodeAt, refsAt, canon, eqRef, eqNode, eqNodes, eqGraph}
 use Rattle.cofj.specs.Unfolding.{object, opened, unknown, follow, Same, InRange, Whole}
@@ -19,10 +19,10 @@ use Rattle.cofj.proofs.Traces.{eqGraph-true}
 use Rattle.cofj.proofs.Unique.{same-canon, canon-tree}
 use Rattle.values.specs.declared.ValueRef.{ValueRef}
 use Rattle.values.specs.declared.ValueRef.the-variants.{Object, Mark, Undetermined}
-use Rattle.values.specs.Layout.{codeOf, countIn, objectsIn, graphAt, Block, Inside, valueOf}
-use Rattle.values.specs.Stepping.{After, after, stepCode, CodeFits, unpaired, Paired, AllSame, Grown, Linked, Pair, Alike, AlikeTest, FieldsSoFar, Closed, PairsSoFar, ObjectStep, InStep}
+use Rattle.values.specs.Layout.{codeOf, Alike, alikeAt, countIn, objectsIn, graphAt, Block, Inside, valueOf}
+use Rattle.values.specs.Stepping.{After, after, stepCode, CodeFits, unpaired, Paired, AllSame, Grown, Linked, Pair, FieldsSoFar, Closed, PairsSoFar, ObjectStep, InStep}
 use Rattle.values.proofs.Trees.{in-larger}
-use Rattle.values.proofs.Nodes.{byteOf, packed-byte, length-nodes, at-nodes}
+use Rattle.values.proofs.Nodes.{byteOf, packed-byte, length-nodes, at-nodes, alike-no}
 
 -- ---- one code
 module _ (T Q : List ℕ) (t a b : ℕ) where
@@ -182,9 +182,6 @@ module _ (W : List ℕ) (b : ℕ) (bk : Block W b) where
 
 -- ---- two objects look alike
 module _ (W : List ℕ) (b x : ℕ) (ib : Inside W b x) where
-  pub class-read : 240 * b + 6 * x < length W
-  class-read = omega (arith, ib .block .room, ib .block .small, ib .low)
-
   pub count-read : 240 * b + 6 * x + 1 < length W
   count-read = omega (arith, ib .block .room, ib .block .small, ib .low)
 
@@ -192,20 +189,8 @@ module _ (W : List ℕ) (b x : ℕ) (ib : Inside W b x) where
   code-read k h = omega (arith, ib .block .room, ib .block .small, ib .low, ib .block .packed x (ib .low) .count)
 
 module _ (W : List ℕ) (b x c y : ℕ) where
-  pub alike-not : ((getD W (240 * b + 6 * x) 0 ≡ getD W (240 * c + 6 * y) 0) → ⊥) → AlikeTest W b x c y false
-  alike-not d = record { yes = λ z. absurd (false≢true z); no = λ _ a. d (a .cls) }
-
-  pub alike-by-count : getD W (240 * b + 6 * x) 0 ≡ getD W (240 * c + 6 * y) 0 → AlikeTest W b x c y (eqb (getD W (240 * b + 6 * x + 1) 0) (getD W (240 * c + 6 * y + 1) 0))
-  alike-by-count e = record {
-    yes = λ z. record { cls = e; count = eqb-true _ _ z };
-    no = λ z a. eqb-false _ _ z (a .count);
-  }
-
-  pub alike-yes : (r : Bool) → AlikeTest W b x c y r → r ≡ true → Alike W b x c y
-  alike-yes r l e = l .yes e
-
   module _ (ib : Inside W b x) (ic : Inside W c y) where
-    same-alike : Same (objectsIn W b) (obj x) (objectsIn W c) (obj y) → Alike W b x c y
+    same-alike : Same (objectsIn W b) (obj x) (objectsIn W c) (obj y) → Alike W (240 * b + 6 * x) (240 * c + 6 * y)
     same-alike s = record {
       cls = cls-is W b (ib .block) x (ib .low) ∙ same-cls (objectsIn W b) (objectsIn W c) x y s ∙ sym (cls-is W c (ic .block) y (ic .low));
       count = count-is W b (ib .block) x (ib .low) ∙ same-count (objectsIn W b) (objectsIn W c) x y s ∙ sym (count-is W c (ic .block) y (ic .low));
@@ -340,13 +325,13 @@ module _ (W : List ℕ) (b x c y : ℕ) (T₀ Q₀ : List ℕ) (t₀ : ℕ) wher
   stop : (AllSame W b c T₀ → ⊥) → (T Q : List ℕ) → ObjectStep W b x c y T₀ Q₀ t₀ T Q 0
   stop h T Q = record { differ = λ _. h; grown = λ z. absurd (z refl); paired = λ z. absurd (z refl); closed = λ z. absurd (z refl) }
 
-  pub object-differs : (r : Bool) → Pair W b x c y T₀ Q₀ t₀ → AlikeTest W b x c y r → r ≡ false → ObjectStep W b x c y T₀ Q₀ t₀ T₀ Q₀ 0
-  object-differs r pr l z = stop (λ al. l .no z (same-alike W b x c y (pr .first) (pr .second) (al .same x y (pr .here)))) T₀ Q₀
+  pub object-differs : (r : Bool) → Pair W b x c y T₀ Q₀ t₀ → r ≡ alikeAt W (240 * b + 6 * x) (240 * c + 6 * y) → r ≡ false → ObjectStep W b x c y T₀ Q₀ t₀ T₀ Q₀ 0
+  object-differs r pr l z = stop (λ al. alike-no W _ _ r l z (same-alike W b x c y (pr .first) (pr .second) (al .same x y (pr .here)))) T₀ Q₀
 
   pub pair-count-read : Pair W b x c y T₀ Q₀ t₀ → 240 * b + 6 * x + 1 < length W
   pair-count-read pr = count-read W b x (pr .first)
 
-  pub fields-start : Pair W b x c y T₀ Q₀ t₀ → Alike W b x c y → FieldsSoFar W b x c y T₀ Q₀ t₀ T₀ Q₀ t₀ 0
+  pub fields-start : Pair W b x c y T₀ Q₀ t₀ → Alike W (240 * b + 6 * x) (240 * c + 6 * y) → FieldsSoFar W b x c y T₀ Q₀ t₀ T₀ Q₀ t₀ 0
   fields-start pr a = record {
     start = pr;
     alike = a;
@@ -625,8 +610,8 @@ module _ (W : List ℕ) (b i c j : ℕ) (ib : Inside W b i) (ic : Inside W c j) 
           (omega (arith, size W c (ic .block), ib .low, ap (countIn W) z)) (omega (arith, size W c (ic .block), ic .low))
           (λ p. ap (λ (k : ℕ). follow (objectsIn W k) (obj i) p) (sym z) ∙ s p)))
 
-  pub roots-differ : (r : Bool) → AlikeTest W b i c j r → r ≡ false → false ≡ eqGraph (canon (graphAt W b i)) (canon (graphAt W c j))
-  roots-differ r l z = trees-differ (λ s. l .no z (same-alike W b i c j ib ic s))
+  pub roots-differ : (r : Bool) → r ≡ alikeAt W (240 * b + 6 * i) (240 * c + 6 * j) → r ≡ false → false ≡ eqGraph (canon (graphAt W b i)) (canon (graphAt W c j))
+  roots-differ r l z = trees-differ (λ s. alike-no W _ _ r l z (same-alike W b i c j ib ic s))
 
   -- the roots are the first pair
   module _ (k : ℕ) (ek : k ≡ 32) where

@@ -49,15 +49,6 @@ pub record Unreferred (W : List ℕ) (b n i : ℕ) : Type 0 where
 pub record UnreferredTest (W : List ℕ) (b n i : ℕ) (r : Bool) : Type 0 where
   pub yes : r ≡ true → Unreferred W b n i
 
--- objects x and y have one class and count
-pub record Like (R : List ℕ) (x y : ℕ) : Type 0 where
-  pub cls : getD R (6 * x) 0 ≡ getD R (6 * y) 0
-  pub count : getD R (6 * x + 1) 0 ≡ getD R (6 * y + 1) 0
-
-pub record LikeTest (R : List ℕ) (x y : ℕ) (r : Bool) : Type 0 where
-  pub yes : r ≡ true → Like R x y
-  pub no : r ≡ false → Like R x y → ⊥
-
 -- f is a field whose codes differ, or 4
 pub record OtherField (R : List ℕ) (x y f : ℕ) : Type 0 where
   pub other : f < 4 → getD R (6 * x + 2 + f) 0 ≡ getD R (6 * y + 2 + f) 0 → ⊥
@@ -92,10 +83,3 @@ pub record Rooted (R : List ℕ) (n i : ℕ) (W : List ℕ) (dst : ℕ) : Type 0
   pub small : n ≤ 32
   pub inside : i < n
   pub room : 240 * dst + 240 ≤ length W
-
--- the first q bytes of R are at the front of block dst; the other bytes are W's
-pub record Written (R : List ℕ) (W : List ℕ) (dst q : ℕ) (D : List ℕ) : Type 0 where
-  pub same : length D ≡ length W
-  pub here : (k : ℕ) → k < q → getD D (240 * dst + k) 0 ≡ getD R k 0
-  pub below : (p : ℕ) → p < 240 * dst → getD D p 0 ≡ getD W p 0
-  pub above : (p : ℕ) → 240 * dst + q ≤ p → getD D p 0 ≡ getD W p 0

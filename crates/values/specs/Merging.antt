@@ -61,10 +61,10 @@ pub record Imported (W : List ℕ) (src c host : ℕ) (W′ M′ : List ℕ) (r 
   pub mapped : Mapped W′ src host M′
   pub like : ((r ≡ 32) → ⊥) → CodeAs W′ src c host r
 
--- T has the first k bytes of object i of block src
-pub record ObjectBytes (W : List ℕ) (src i k : ℕ) (T : List ℕ) : Type 0 where
+-- T has the bytes of object i of block src
+pub record ObjectBytes (W : List ℕ) (src i : ℕ) (T : List ℕ) : Type 0 where
   pub long : length T ≡ 6
-  pub bytes : (j : ℕ) → j < k → getD T j 0 ≡ getD W (240 * src + 6 * i + j) 0
+  pub bytes : (j : ℕ) → j < 6 → getD T j 0 ≡ getD W (240 * src + 6 * i + j) 0
 
 -- T has object i of block src, its first k codes turned to codes of block host
 pub record Turned (W : List ℕ) (src i host : ℕ) (T : List ℕ) (k : ℕ) : Type 0 where

@@ -1,4 +1,4 @@
--- Bytes that a function of their place gives, and objects copied with their codes turned.
+-- Bytes that a function of their place gives, runs of bytes copied, and objects copied with their codes turned.
 use Prim.Native.Nat.{ℕ, _+_, _%_, _≤_, _<_}
 use mathlib.Core.Path.{_≡_}
 use mathlib.Core.Bool.{cond}
@@ -9,6 +9,13 @@ use lib.ListN.{length, getD}
 -- the first n bytes are F 0, F 1, ..
 pub record Filled (F : ℕ → ℕ) (n : ℕ) (A : List ℕ) : Type 0 where
   pub at : (i : ℕ) → i < n → getD A i 0 ≡ F i
+
+-- n bytes of S from a place on, at a place of D; the others are D₀'s
+pub record Carried (S : List ℕ) (from : ℕ) (D₀ : List ℕ) (to n : ℕ) (D : List ℕ) : Type 0 where
+  pub same : length D ≡ length D₀
+  pub here : (k : ℕ) → k < n → getD D (to + k) 0 ≡ getD S (from + k) 0
+  pub below : (p : ℕ) → p < to → getD D p 0 ≡ getD D₀ p 0
+  pub above : (p : ℕ) → to + n ≤ p → getD D p 0 ≡ getD D₀ p 0
 
 -- a code turned: an object by the table T, any other code itself
 unfoldable pub turned : List ℕ → ℕ → ℕ

@@ -1,10 +1,10 @@
-// Runs of bytes compared, and tables filled. Not here: what the bytes stand for.
+// Runs of bytes compared and copied, and tables filled. Not here: what the bytes stand for.
 ghost use mathlib.Core.Path.{_≡_};
-ghost use Prim.Native.Nat.{ℕ, _+_, _*_, _<_, _≤_};
-ghost use lib.ListN.{length, getD};
+ghost use Prim.Native.Nat.{ℕ, _+_, _<_, _≤_};
+ghost use lib.ListN.{length};
 ghost use Rattle.cofj.specs.Values.{eqNats};
 ghost use Rattle.values.specs.Layout.{part};
-ghost use Rattle.values.specs.Tables.{Filled};
+ghost use Rattle.values.specs.Tables.{Filled, Carried};
 
 // Whether the n bytes of a from i on are those of b from j on.
 pub fn same(a: &[u8], i: usize, b: &[u8], j: usize, n: usize) -> bool
@@ -21,15 +21,15 @@ pub fn same(a: &[u8], i: usize, b: &[u8], j: usize, n: usize) -> bool
     true
 }
 
-// The first n bytes of `from`, to `to`.
-pub fn copy(from: &[u8], n: u8, to: &mut [u8])
-    requires { ⌜ (256 ≤ length (now from)) × (256 ≤ length (now to)) ⌝ }
-    ensures { λ _. ⌜ Filled (λ i. getD (now (from .entry)) i 0) n (now (to .exit)) ⌝ }
+// n bytes of `from`, from place i on, to place j of `to`.
+pub fn copy(from: &[u8], i: usize, to: &mut [u8], j: usize, n: usize)
+    requires { ⌜ (i + n ≤ length (now from)) × (j + n ≤ length (now to)) ⌝ }
+    ensures { λ _. ⌜ Carried (now (from .entry)) i (now (to .entry)) j n (now (to .exit)) ⌝ }
 {
-    let mut i: u8 = 0;
-    while i < n {
-        to[i as usize] = from[i as usize];
-        i += 1;
+    let mut k: usize = 0;
+    while k < n {
+        to[j + k] = from[i + k];
+        k += 1;
     }
 }
 

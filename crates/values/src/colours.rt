@@ -61,7 +61,7 @@ pub fn settle(nodes: &[u8], n: u8, cs: &mut [u8], looks: &mut [u8], next: &mut [
         if same(cs, 0, next, 0, n as usize) {
             return;
         }
-        copy(next, n, cs);
+        copy(next, 0, cs, 0, n as usize);
         k -= 1;
     }
 }

@@ -3,7 +3,6 @@ use crate::Slot;
 use crate::ValueRef;
 use crate::bytes::count_up;
 use crate::lift::lift;
-ghost use mathlib.Core.Path.{_≡_};
 ghost use Prim.Native.Nat.{ℕ, _+_, _*_, _<_, _≤_};
 ghost use lib.ListN.{length};
 ghost use Rattle.values.specs.Layout.{Block, objectsIn, Holds, rawOf};

@@ -1,7 +1,7 @@
 // Objects copied, with their codes turned. Not here: which table turns them.
 ghost use mathlib.Core.Path.{_≡_};
-ghost use Prim.Native.Nat.{ℕ, _+_, _*_, _<_, _≤_};
-ghost use lib.ListN.{length, getD};
+ghost use Prim.Native.Nat.{ℕ, _+_, _<_, _≤_};
+ghost use lib.ListN.{length};
 ghost use Rattle.values.specs.Tables.{turned, copied, Lifted};
 
 // A code turned: an object by the table, any other code itself.

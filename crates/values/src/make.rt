@@ -13,10 +13,9 @@ use crate::over::root_object;
 use crate::value::bring;
 ghost use mathlib.Core.Path.{_≡_};
 ghost use Prim.Native.Nat.{ℕ, _+_, _*_, _<_, _≤_};
-ghost use lib.ListN.{length, take};
-ghost use Rattle.cofj.specs.Values.{colours, make};
-ghost use Rattle.values.specs.Layout.{nodesIn, Block};
-ghost use Rattle.values.specs.Rounds.{Raw};
+ghost use lib.ListN.{length};
+ghost use Rattle.cofj.specs.Values.{make};
+ghost use Rattle.values.specs.Layout.{Block};
 ghost use Rattle.values.specs.Laying.{PartsHeld, valuesFrom, MadeIs};
 ghost use Rattle.values.specs.Adding.{isObject, Stands, Together, Beside, First};
 

@@ -3,6 +3,7 @@
 use crate::Made;
 use crate::Slot;
 use crate::ValueRef;
+use crate::bytes::copy;
 use crate::make::make_laid;
 use crate::over::append;
 use crate::over::find;
@@ -39,13 +40,9 @@ pub fn enter(work: &mut [u8], host: u16, top: &[u8]) -> u8
 // The six bytes of object i of block src, to the front of `top`.
 pub fn take_object(work: &[u8], src: u16, i: u8, top: &mut [u8])
     requires { ⌜ Inside (now work) src i × (length (now top) ≡ 6) ⌝ }
-    ensures { λ _. ⌜ ObjectBytes (now (work .entry)) src i 6 (now (top .exit)) ⌝ }
+    ensures { λ _. ⌜ ObjectBytes (now (work .entry)) src i (now (top .exit)) ⌝ }
 {
-    let mut k: usize = 0;
-    while k < 6 {
-        top[k] = work[240 * (src as usize) + 6 * (i as usize) + k];
-        k += 1;
-    }
+    copy(work, 240 * (src as usize) + 6 * (i as usize), top, 0, 6);
 }
 
 // A code of block src, with what it leads to, in block host: its code there, or 32 if there is no room or it leads back to itself.

@@ -5,11 +5,10 @@ use crate::bind::close_bound;
 use crate::bytes::count_up;
 use crate::lift::lift;
 use crate::number::put;
-ghost use mathlib.Core.Path.{_≡_};
 ghost use Prim.Native.Nat.{ℕ, _+_, _*_, _<_, _≤_};
 ghost use lib.ListN.{length};
 ghost use Rattle.cofj.specs.Values.{canon};
-ghost use Rattle.values.specs.Layout.{Block, Inside, graphAt, countIn, Holds, valueOf};
+ghost use Rattle.values.specs.Layout.{Block, Inside, graphAt, Holds, valueOf};
 ghost use Rattle.values.specs.Operations.{Taken, Moved, Copied, Gives, Chosen, Leaf, closeOf};
 ghost use Rattle.values.specs.declared.ValueRef.the-variants.{Object};
 
