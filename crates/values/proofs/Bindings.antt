@@ -25,7 +25,7 @@ use Rattle.values.specs.Tables.{Carried}
 use Rattle.values.specs.Rounds.{Raw}
 use Rattle.values.specs.Numbers.{Levels, Ready, Placed, Has, graphIn}
 use Rattle.values.specs.Operations.{Gives}
-use Rattle.values.specs.Binding.{boundCode, boundByte, ObjectBound, ObjectsBound, Bound, FreeOf, ReferTest, Unreferred, UnreferredTest, OtherField, Leads, DifferTest, OtherTest, OnlyOne, OnlyTest, DistinctTest, Rooted}
+use Rattle.values.specs.Binding.{boundCode, boundByte, ObjectBound, ObjectsBound, Bound, FreeOf, ReferTest, Unreferred, UnreferredTest, OtherField, Leads, DifferTest, UnlikeTest, UnlikeOthers, OthersTest, DistinctTest, Rooted}
 use Rattle.values.proofs.Nodes.{byteOf, packed-byte, packed-same, nodes-same, length-nodes, at-nodes, AllPacked, alike-yes, alike-no, ref-object, ref-undet, ref-mark}
 use Rattle.values.proofs.Steps.{some-at, is-object, object-low}
 use Rattle.values.proofs.Blocks.{size-in, whole-at}
@@ -484,27 +484,27 @@ module _ (R : List ℕ) (n i k : ℕ) where
 
 -- ---- one object and all others
 module _ (R : List ℕ) (n i : ℕ) where
-  pub other-same : (k : ℕ) → k ≡ i → OtherTest R n i k true
-  other-same k e = record { yes = λ _ _. e }
+  pub unlike-same : (k : ℕ) → k ≡ i → UnlikeTest R n i k true
+  unlike-same k e = record { yes = λ _ _. e }
 
-  pub other-differ : (k : ℕ) (r : Bool) → DifferTest R n i k r → OtherTest R n i k r
-  other-differ k r t = record { yes = λ z e. absurd (t .yes z e) }
+  pub unlike-differ : (k : ℕ) (r : Bool) → DifferTest R n i k r → UnlikeTest R n i k r
+  unlike-differ k r t = record { yes = λ z e. absurd (t .yes z e) }
 
-  pub only-none : OnlyOne R n i 0
-  only-none = record { only = λ k h. absurd (omega arith) }
+  pub others-none : UnlikeOthers R n i 0
+  others-none = record { only = λ k h. absurd (omega arith) }
 
-  pub only-more : (k : ℕ) (r : Bool) → OnlyOne R n i k → OtherTest R n i k r → not r ≡ false → OnlyOne R n i (k + 1)
-  only-more k r o t e = record { only = λ j h. go j h (ℕ-discrete j k) }
+  pub others-more : (k : ℕ) (r : Bool) → UnlikeOthers R n i k → UnlikeTest R n i k r → not r ≡ false → UnlikeOthers R n i (k + 1)
+  others-more k r o t e = record { only = λ j h. go j h (ℕ-discrete j k) }
     where
       go : (j : ℕ) → j < k + 1 → Dec (j ≡ k) → Same (nodesIn R 0 n) (obj i) (nodesIn R 0 n) (obj j) → j ≡ i
       go j h (yes z) q = z ∙ t .yes (not-false r e) (subst (λ (l : ℕ). Same (nodesIn R 0 n) (obj i) (nodesIn R 0 n) (obj l)) z q)
       go j h (no z) q = o .only j (omega (arith, z)) q
 
-  pub only-not : OnlyTest R n i false
-  only-not = record { yes = λ z. absurd (false≢true z) }
+  pub others-not : OthersTest R n i false
+  others-not = record { yes = λ z. absurd (false≢true z) }
 
-  pub only-all : (k : ℕ) → OnlyOne R n i k → k ≤ n → n ≤ k → OnlyTest R n i true
-  only-all k o h l = let e : k ≡ n = omega arith in record { yes = λ _. rw e at o }
+  pub others-all : (k : ℕ) → UnlikeOthers R n i k → k ≤ n → n ≤ k → OthersTest R n i true
+  others-all k o h l = let e : k ≡ n = omega arith in record { yes = λ _. rw e at o }
 
 -- ---- the objects stay distinct
 at-some : (rs : List Ref) (k : ℕ) (r : Ref) → getElem? rs k ≡ some r → (getD rs k undet ≡ r) × (k < length rs)
@@ -530,7 +530,7 @@ module _ (W : List ℕ) (b i : ℕ) (bk : Block W b) (un : Unreferred W b (count
           absurd (Option·none-ne-some r (sym (ap (λ (y : Node). getElem? (y .refs) f) d) ∙ e))
 
 module _ (W : List ℕ) (b i : ℕ) (ob : Inside W b i) (x : ℕ) (R : List ℕ) (n : ℕ) (bd : Bound W b x i R n) where
-  distinct-objects : Unreferred W b n i → OnlyOne R n i n → Distinct (nodesIn R 0 n)
+  distinct-objects : Unreferred W b n i → UnlikeOthers R n i n → Distinct (nodesIn R 0 n)
   distinct-objects u o =
       let e : nodesIn R 0 n ≡ boundNodes x i (objectsIn W b) = objects-are W b i ob x R n bd in
       subst Distinct (sym e)
@@ -538,7 +538,7 @@ module _ (W : List ℕ) (b i : ℕ) (ob : Inside W b i) (x : ℕ) (R : List ℕ)
       (λ k h q. o .only k (omega (arith, bd .count, size-in W b (ob .block))) (subst (λ (ns : List Node). Same ns (obj i) ns (obj k)) (sym e) q))
       (ob .block .distinct))
 
-  pub stays-distinct : (u r : Bool) → UnreferredTest W b n i u → u ≡ true → OnlyTest R n i r → DistinctTest R n r
+  pub stays-distinct : (u r : Bool) → UnreferredTest W b n i u → u ≡ true → OthersTest R n i r → DistinctTest R n r
   stays-distinct u r t e o = record { yes = λ z. distinct-objects (t .yes e) (o .yes z) }
 
 pub distinct-not : (R : List ℕ) (n : ℕ) → DistinctTest R n false

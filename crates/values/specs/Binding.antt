@@ -64,15 +64,15 @@ pub record DifferTest (R : List ℕ) (n i k : ℕ) (r : Bool) : Type 0 where
   pub yes : r ≡ true → Same (nodesIn R 0 n) (obj i) (nodesIn R 0 n) (obj k) → ⊥
 
 -- true only if k is i or they do
-pub record OtherTest (R : List ℕ) (n i k : ℕ) (r : Bool) : Type 0 where
+pub record UnlikeTest (R : List ℕ) (n i k : ℕ) (r : Bool) : Type 0 where
   pub yes : r ≡ true → Same (nodesIn R 0 n) (obj i) (nodesIn R 0 n) (obj k) → k ≡ i
 
 -- of the first m of n objects only object i unfolds to object i's tree
-pub record OnlyOne (R : List ℕ) (n i m : ℕ) : Type 0 where
+pub record UnlikeOthers (R : List ℕ) (n i m : ℕ) : Type 0 where
   pub only : (k : ℕ) → k < m → Same (nodesIn R 0 n) (obj i) (nodesIn R 0 n) (obj k) → k ≡ i
 
-pub record OnlyTest (R : List ℕ) (n i : ℕ) (r : Bool) : Type 0 where
-  pub yes : r ≡ true → OnlyOne R n i n
+pub record OthersTest (R : List ℕ) (n i : ℕ) (r : Bool) : Type 0 where
+  pub yes : r ≡ true → UnlikeOthers R n i n
 
 pub record DistinctTest (R : List ℕ) (n : ℕ) (r : Bool) : Type 0 where
   pub yes : r ≡ true → Distinct (nodesIn R 0 n)

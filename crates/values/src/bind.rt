@@ -14,7 +14,7 @@ ghost use Rattle.values.specs.Layout.{Inside, nodesIn, graphAt, Distinct
 ghost use Rattle.values.specs.Rounds.{Raw};
 ghost use Rattle.values.specs.Numbers.{graphIn};
 ghost use Rattle.values.specs.Operations.{Gives, closeOf};
-ghost use Rattle.values.specs.Binding.{boundCode, ObjectBound, Bound, ReferTest, UnreferredTest, OtherField, DifferTest, OtherTest, OnlyTest, DistinctTest, Rooted};
+ghost use Rattle.values.specs.Binding.{boundCode, ObjectBound, Bound, ReferTest, UnreferredTest, OtherField, DifferTest, UnlikeTest, OthersTest, DistinctTest, Rooted};
 
 // A code, the code `hot` turned to object i.
 pub fn bind_code(hot: u8, i: u8, c: u8) -> u8
@@ -138,10 +138,10 @@ pub fn differ(raw: &[u8], n: u8, i: u8, k: u8) -> bool
     false
 }
 
-// The same, and true if k is i.
-pub fn other_than(raw: &[u8], n: u8, i: u8, k: u8) -> bool
+// True only if object k of n is object i itself or unfolds to another tree.
+pub fn unlike(raw: &[u8], n: u8, i: u8, k: u8) -> bool
     requires { ⌜ Raw (now raw) n × (i < n) × (k < n) ⌝ }
-    ensures { λ r. ⌜ OtherTest (now (raw .entry)) n i k r ⌝ }
+    ensures { λ r. ⌜ UnlikeTest (now (raw .entry)) n i k r ⌝ }
 {
     if k == i {
         return true;
@@ -150,13 +150,13 @@ pub fn other_than(raw: &[u8], n: u8, i: u8, k: u8) -> bool
 }
 
 // True only if object i of n unfolds to no other object's tree.
-pub fn only_one(raw: &[u8], n: u8, i: u8) -> bool
+pub fn unlike_others(raw: &[u8], n: u8, i: u8) -> bool
     requires { ⌜ Raw (now raw) n × (i < n) ⌝ }
-    ensures { λ r. ⌜ OnlyTest (now (raw .entry)) n i r ⌝ }
+    ensures { λ r. ⌜ OthersTest (now (raw .entry)) n i r ⌝ }
 {
     let mut k: u8 = 0;
     while k < n {
-        if !other_than(raw, n, i, k) {
+        if !unlike(raw, n, i, k) {
             return false;
         }
         k += 1;
@@ -170,7 +170,7 @@ pub fn stay_distinct(work: &[u8], b: u16, x: u8, i: u8, raw: &[u8], n: u8) -> bo
     ensures { λ r. ⌜ DistinctTest (now (raw .entry)) n r ⌝ }
 {
     if unreferred(work, b, n, i) {
-        return only_one(raw, n, i);
+        return unlike_others(raw, n, i);
     }
     false
 }
