@@ -18,14 +18,16 @@ use Rattle.values.specs.declared.ValueRef.{ValueRef}
 use Rattle.values.specs.declared.ValueRef.the-variants.{Object, Mark, Undetermined}
 use Rattle.values.specs.declared.Slot.{Slot}
 use Rattle.values.specs.declared.Made.the-variants.{Value}
+use Rattle.values.specs.Tests.{any}
 use Rattle.values.specs.Layout.{refOf, nodeIn, nodesIn, Packed, part, Distinct, Block, Inside, objectsIn, graphAt, countIn, levelIn, valueOf, rawOf, Holds}
 use Rattle.values.specs.Tables.{Carried}
 use Rattle.values.specs.Numbers.{Levels}
 use Rattle.values.specs.Operations.{Gives, Copied}
 use Rattle.values.specs.Laying.{valuesFrom, rawsFrom, PartsHeld, MadeIs}
-use Rattle.values.specs.Adding.{roots, RootObject, Missed, Found, Appended, Added, isObject, In, Stands, partOf, Beside, Together, Leaves, First}
+use Rattle.values.specs.Adding.{roots, RootObject, Missed, Found, Appended, Added, isObject, standsIn, partOf, allStand, Leaves, First}
 use Rattle.values.proofs.Nodes.{length-nodes, at-nodes, more-nodes, nodes-same, node-same, packed-same, eq-node, ref-object, ref-undet, ref-mark}
 use Rattle.values.proofs.Walks.{four, four-at}
+use Rattle.values.proofs.Tests.{not-true, not-false, any-there, any-not, any-more}
 use Rattle.values.proofs.Trees.{in-larger, leaf-same}
 use Rattle.values.proofs.Blocks.{held-inside, held-block, size-in}
 use Rattle.values.proofs.Selecting.{under}
@@ -145,50 +147,57 @@ leaves-more ps i v r l ev er e = record { leaf = λ j h. go j h (ℕ-discrete j 
 pub leaves-all : (ps : List Slot) (n f : ℕ) → First ps n f → n ≤ f → Leaves ps n
 leaves-all ps n f a h = record { leaf = λ j k. a .before .leaf j (omega arith) }
 
-pub stands-here : (b : ℕ) (v : ValueRef) (x i : ℕ) → v ≡ Object x i → Stands b v (eqb x b)
-stands-here b v x i e = record { says = λ q. rw e (eqb-true x b q) }
+pub stands-here : (b : ℕ) (v : ValueRef) (x i : ℕ) → v ≡ Object x i → eqb x b ≡ standsIn b v
+unfolding standsIn
+stands-here b v x i e = rw e
 
-pub stands-mark : (b : ℕ) (v : ValueRef) (k : ℕ) → v ≡ Mark k → Stands b v true
-stands-mark b v k e = record { says = λ _. rw e tt }
+pub stands-mark : (b : ℕ) (v : ValueRef) (k : ℕ) → v ≡ Mark k → true ≡ standsIn b v
+unfolding standsIn
+stands-mark b v k e = rw e
 
-pub stands-undet : (b : ℕ) (v : ValueRef) → v ≡ Undetermined → Stands b v true
-stands-undet b v e = record { says = λ _. rw e tt }
+pub stands-undet : (b : ℕ) (v : ValueRef) → v ≡ Undetermined → true ≡ standsIn b v
+unfolding standsIn
+stands-undet b v e = rw e
 
 module _ (ps : List Slot) (n b : ℕ) where
-  pub each-none : Beside ps 0 b
-  each-none = record { each = λ i h. absurd (omega arith) }
+  abbrev apart : ℕ → Bool
+  apart i = not (standsIn b (partOf ps i))
 
-  pub each-more : (i : ℕ) (v : ValueRef) (r : Bool) → Beside ps i b → v ≡ partOf ps i → Stands b v r → not r ≡ false → Beside ps (i + 1) b
-  each-more i v r a ev s e = record { each = λ j h. go j h (ℕ-discrete j i) }
-    where
-      back : (x : Bool) → not x ≡ false → x ≡ true
-      back true q = refl
-      back false q = absurd (false≢true (sym q))
+  pub each-none : allStand ps 0 b ≡ true
+  unfolding allStand any
+  each-none = refl
 
-      go : (j : ℕ) → j < i + 1 → Dec (j ≡ i) → In b (partOf ps j)
-      go j h (yes z) = rw z (subst (In b) ev (s .says (back r e)))
-      go j h (no z) = a .each j (omega (arith, z))
+  module _ (i : ℕ) (v : ValueRef) (r : Bool) (ev : v ≡ partOf ps i) (er : r ≡ standsIn b v) where
+    answer : apart i ≡ not r
+    answer = ap (λ (u : ValueRef). not (standsIn b u)) (sym ev) ∙ ap not (sym er)
 
-  pub together-not : Together ps n b false
-  together-not = record { says = λ e. absurd (false≢true e) }
+    pub each-more : allStand ps i b ≡ true → not r ≡ false → allStand ps (i + 1) b ≡ true
+    unfolding allStand
+    each-more a e = ap not (any-more apart i (not-true _ a) (answer ∙ e))
 
-  pub together-all : (i : ℕ) → Beside ps i b → n ≤ i → Together ps n b true
-  together-all i a h = record { says = λ _. record { each = λ j k. a .each j (omega arith) } }
+    pub together-not : i < n → not r ≡ true → false ≡ allStand ps n b
+    unfolding allStand
+    together-not h e = sym (ap not (any-there apart n i h (answer ∙ e)))
+
+  pub together-all : (i : ℕ) → allStand ps i b ≡ true → i ≤ n → n ≤ i → true ≡ allStand ps n b
+  together-all i a h l = let e : i ≡ n = omega arith in sym (rw e at a)
+
+  stands-at : allStand ps n b ≡ true → (i : ℕ) → i < n → standsIn b (partOf ps i) ≡ true
+  unfolding allStand
+  stands-at a i h = not-false _ (any-not apart n i (not-true _ a) h)
 
   pub first-block : (W : List ℕ) (f : ℕ) (v : ValueRef) (i : ℕ) → PartsHeld W ps n → f < n → v ≡ partOf ps f → v ≡ Object b i → Block W b
   first-block W f v i held h ev e = held-block W (partOf ps f) b i (held .part f h) (sym ev ∙ e)
-
-  pub together-beside : (r : Bool) → Together ps n b r → r ≡ true → Beside ps n b
-  together-beside r t e = t .says e
 
 -- ---- the values of the parts, among the objects
 leaf-fit : (ns : List Node) (s : Ref) → InRange 0 s → Fit ns (graph s [])
 leaf-fit ns s h = record { low = in-larger 0 (length ns) s (omega arith) h; tree = leaf-same ns [] s h }
 
-value-fit : (W : List ℕ) (b : ℕ) → Block W b → (r : ValueRef) → Holds W r → In b r → Fit (objectsIn W b) (rawOf W r)
+value-fit : (W : List ℕ) (b : ℕ) → Block W b → (r : ValueRef) → Holds W r → standsIn b r ≡ true → Fit (objectsIn W b) (rawOf W r)
+unfolding standsIn
 value-fit W b bk (Object x i) h e = record {
-  low = omega (arith, size-in W b bk, h .held .low, ap (countIn W) e);
-  tree = λ p. ap (λ (y : ℕ). follow (objectsIn W y) (obj i) p) (sym e);
+  low = omega (arith, size-in W b bk, h .held .low, ap (countIn W) (eqb-true x b e));
+  tree = λ p. ap (λ (y : ℕ). follow (objectsIn W y) (obj i) p) (sym (eqb-true x b e));
 }
 value-fit W b bk (Mark k) h e = leaf-fit _ (mark k) tt
 value-fit W b bk Undetermined h e = leaf-fit _ undet tt
@@ -324,10 +333,10 @@ module _ (W : List ℕ) (c : ℕ) (ps : List Slot) (n : ℕ) (T : List ℕ) (hel
         record { held = record { held = record { block = bk; low = low } }; is = rw (le-leb _ 32 l) (ap some (sym value)); place = omega arith; beneath = under dst W D (ad .outside) }
 
   -- beside the objects of a block
-  module _ (b : ℕ) (bk : Block W b) (bs : Beside ps n b) where
+  module _ (b : ℕ) (bk : Block W b) (bs : allStand ps n b ≡ true) where
     fits : AllFit (objectsIn W b) gs
     unfolding rawsFrom
-    fits = all-fit W (objectsIn W b) n ps (λ i h. value-fit W b bk (partOf ps i) (held .part i h) (bs .each i h))
+    fits = all-fit W (objectsIn W b) n ps (λ i h. value-fit W b bk (partOf ps i) (held .part i h) (stands-at ps n b bs i h))
 
     module _ (k : ℕ) (fd : Found W b (getD W (240 * b + 192) 0) T k) where
       pub beside-found : k < getD W (240 * b + 192) 0 → (dst : ℕ) (W′ : List ℕ) (o : ValueRef) → Gives W dst W′ o (valueOf W (Object b k)) → MadeIs W (make c (valuesFrom W ps 0 n)) dst W′ (Value o)

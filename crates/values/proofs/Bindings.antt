@@ -4,7 +4,7 @@ use Prim.Native.Nat.{ℕ, zero, suc, _+_, _-_, _*_, _<_, _≤_}
 use native.Mathlib.Omega.{arith}
 use native.Mathlib.Decide.{decLt, ℕ-discrete}
 use mathlib.Core.Path.{_≡_, refl, sym, ap, ap₂, _∙_, subst}
-use mathlib.Core.Bool.{Bool, true, false, not, false≢true, true≢false}
+use mathlib.Core.Bool.{Bool, true, false, not, false≢true}
 use mathlib.Core.List.{List, [], _∷_, map}
 use mathlib.Core.Option.{Option, none, some, Option·none-ne-some}
 use lib.Dec.{eqb}
@@ -20,25 +20,18 @@ use Rattle.cofj.proofs.Unique.{canon-canon}
 use Rattle.cofj.proofs.Operations.{boundNode, boundNodes, followBound, bound-follow, bound-whole}
 use Rattle.values.specs.declared.ValueRef.{ValueRef}
 use Rattle.values.specs.declared.ValueRef.the-variants.{Object}
+use Rattle.values.specs.Tests.{any}
 use Rattle.values.specs.Layout.{refOf, codeOf, nodeIn, nodesIn, Packed, alikeAt, Distinct, Block, Inside, objectsIn, graphAt, countIn, levelIn}
 use Rattle.values.specs.Tables.{Carried}
 use Rattle.values.specs.Rounds.{Raw}
 use Rattle.values.specs.Numbers.{Levels, Ready, Placed, Has, graphIn}
 use Rattle.values.specs.Operations.{Gives}
-use Rattle.values.specs.Binding.{boundCode, boundByte, ObjectBound, ObjectsBound, Bound, FreeOf, ReferTest, Unreferred, UnreferredTest, OtherField, Leads, DifferTest, UnlikeTest, UnlikeOthers, OthersTest, DistinctTest, Rooted}
+use Rattle.values.specs.Binding.{boundCode, boundByte, ObjectBound, ObjectsBound, Bound, refersTo, noneRefer, OtherField, Leads, DifferTest, UnlikeTest, UnlikeOthers, OthersTest, DistinctTest, Rooted}
 use Rattle.values.proofs.Nodes.{byteOf, packed-byte, packed-same, nodes-same, length-nodes, at-nodes, AllPacked, alike-yes, alike-no, ref-object, ref-undet, ref-mark}
+use Rattle.values.proofs.Tests.{not-true, not-false, any-there, any-not, any-more, any-none}
 use Rattle.values.proofs.Steps.{some-at, is-object, object-low}
 use Rattle.values.proofs.Blocks.{size-in, whole-at}
 use Rattle.values.proofs.Trees.{in-larger, close-canon}
-
--- ---- a test turned round
-not-true : (r : Bool) → not r ≡ true → r ≡ false
-not-true true e = absurd (false≢true e)
-not-true false e = refl
-
-not-false : (r : Bool) → not r ≡ false → r ≡ true
-not-false true e = refl
-not-false false e = absurd (true≢false e)
 
 -- ---- a mark bound
 module _ (x i k : ℕ) where
@@ -340,38 +333,67 @@ module _ (S : List ℕ) (base n : ℕ) (pk : AllPacked S base n) (x : ℕ) (hx :
 
 -- ---- whether an object refers to another
 module _ (W : List ℕ) (p i : ℕ) where
-  pub refer-yes : ReferTest W p i true
-  refer-yes = record { no = λ z. absurd (true≢false z) }
+  abbrev is : ℕ → Bool
+  is f = eqb (getD W (p + 2 + f) 0) i
 
-  pub refer-last : ((getD W (p + 2) 0 ≡ i) → ⊥) → ((getD W (p + 3) 0 ≡ i) → ⊥) → ((getD W (p + 4) 0 ≡ i) → ⊥) → ReferTest W p i (eqb (getD W (p + 5) 0) i)
-  refer-last h2 h3 h4 = record { no = λ z. record { codes = codes z } }
+  refer-at : (f a : ℕ) → f < 4 → p + 2 + f ≡ a → getD W a 0 ≡ i → true ≡ refersTo W p i
+  unfolding refersTo
+  refer-at f a h z e = sym (any-there is 4 f h (eq-eqb _ _ (ap (λ (k : ℕ). getD W k 0) z ∙ e)))
+
+  pub refer-first : getD W (p + 2) 0 ≡ i → true ≡ refersTo W p i
+  refer-first = refer-at 0 (p + 2) (omega arith) (omega arith)
+
+  pub refer-second : getD W (p + 3) 0 ≡ i → true ≡ refersTo W p i
+  refer-second = refer-at 1 (p + 3) (omega arith) (omega arith)
+
+  pub refer-third : getD W (p + 4) 0 ≡ i → true ≡ refersTo W p i
+  refer-third = refer-at 2 (p + 4) (omega arith) (omega arith)
+
+  pub refer-last : ((getD W (p + 2) 0 ≡ i) → ⊥) → ((getD W (p + 3) 0 ≡ i) → ⊥) → ((getD W (p + 4) 0 ≡ i) → ⊥) → eqb (getD W (p + 5) 0) i ≡ refersTo W p i
+  unfolding refersTo
+  refer-last h2 h3 h4 = go (eqb (getD W (p + 5) 0) i) refl
     where
-      at : (f a : ℕ) → p + 2 + f ≡ a → ((getD W a 0 ≡ i) → ⊥) → (getD W (p + 2 + f) 0 ≡ i) → ⊥
-      at f a e h q = h (ap (λ (k : ℕ). getD W k 0) (sym e) ∙ q)
+      at : (f a : ℕ) → p + 2 + f ≡ a → ((getD W a 0 ≡ i) → ⊥) → is f ≡ false
+      at f a e h = ne-eqb _ _ (λ q. h (ap (λ (k : ℕ). getD W k 0) (sym e) ∙ q))
 
-      codes : eqb (getD W (p + 5) 0) i ≡ false → (f : ℕ) → f < 4 → getD W (p + 2 + f) 0 ≡ i → ⊥
+      codes : eqb (getD W (p + 5) 0) i ≡ false → (f : ℕ) → f < 4 → is f ≡ false
       codes z zero h = at 0 (p + 2) (omega arith) h2
       codes z (suc zero) h = at 1 (p + 3) (omega arith) h3
       codes z (suc (suc zero)) h = at 2 (p + 4) (omega arith) h4
       codes z (suc (suc (suc zero))) h = at 3 (p + 5) (omega arith) (eqb-false _ _ z)
       codes z (suc (suc (suc (suc f)))) h = absurd (omega arith)
 
+      go : (r : Bool) → eqb (getD W (p + 5) 0) i ≡ r → r ≡ refersTo W p i
+      go true z = refer-at 3 (p + 5) (omega arith) (omega arith) (eqb-true _ _ z)
+      go false z = sym (any-none is 4 (codes z))
+
+  refer-not : refersTo W p i ≡ false → (f : ℕ) → f < 4 → getD W (p + 2 + f) 0 ≡ i → ⊥
+  unfolding refersTo
+  refer-not z f h = eqb-false _ _ (any-not is 4 f z h)
+
 module _ (W : List ℕ) (b i : ℕ) where
-  pub free-none : Unreferred W b 0 i
-  free-none = record { free = λ j h. absurd (omega arith) }
+  abbrev refers : ℕ → Bool
+  refers k = refersTo W (240 * b + 6 * k) i
 
-  pub free-more : (j : ℕ) (r : Bool) → Unreferred W b j i → ReferTest W (240 * b + 6 * j) i r → r ≡ false → Unreferred W b (j + 1) i
-  free-more j r u t e = record { free = λ k h. go k h (ℕ-discrete k j) }
-    where
-      go : (k : ℕ) → k < j + 1 → Dec (k ≡ j) → FreeOf W (240 * b + 6 * k) i
-      go k h (yes z) = rw z (t .no e)
-      go k h (no z) = u .free k (omega (arith, z))
+  pub free-none : noneRefer W b 0 i ≡ true
+  unfolding noneRefer any
+  free-none = refl
 
-  pub free-not : (n : ℕ) → UnreferredTest W b n i false
-  free-not n = record { yes = λ z. absurd (false≢true z) }
+  module _ (k : ℕ) (r : Bool) (er : r ≡ refersTo W (240 * b + 6 * k) i) where
+    pub free-more : noneRefer W b k i ≡ true → r ≡ false → noneRefer W b (k + 1) i ≡ true
+    unfolding noneRefer
+    free-more u e = ap not (any-more refers k (not-true _ u) (sym er ∙ e))
 
-  pub free-all : (j n : ℕ) → Unreferred W b j i → j ≤ n → n ≤ j → UnreferredTest W b n i true
-  free-all j n u h k = let e : j ≡ n = omega arith in record { yes = λ z. rw e at u }
+    pub free-not : (n : ℕ) → k < n → r ≡ true → false ≡ noneRefer W b n i
+    unfolding noneRefer
+    free-not n h e = sym (ap not (any-there refers n k h (sym er ∙ e)))
+
+  pub free-all : (k n : ℕ) → noneRefer W b k i ≡ true → k ≤ n → n ≤ k → true ≡ noneRefer W b n i
+  free-all k n u h l = let e : k ≡ n = omega arith in sym (rw e at u)
+
+  free-code : (n : ℕ) → noneRefer W b n i ≡ true → (j : ℕ) → j < n → (f : ℕ) → f < 4 → getD W (240 * b + 6 * j + 2 + f) 0 ≡ i → ⊥
+  unfolding noneRefer
+  free-code n u j h = refer-not W (240 * b + 6 * j) i (any-not refers n j (not-true _ u) h)
 
 -- ---- two objects side by side
 module _ (R : List ℕ) (x y : ℕ) where
@@ -512,13 +534,13 @@ at-some [] k r e = absurd (Option·none-ne-some r e)
 at-some (x ∷ rs) zero r e = (let z : x ≡ r = cc in z, omega arith)
 at-some (x ∷ rs) (suc k) r e = let p = at-some rs k r e in (p .0, omega (arith, p .1))
 
-module _ (W : List ℕ) (b i : ℕ) (bk : Block W b) (un : Unreferred W b (countIn W b) i) where
+module _ (W : List ℕ) (b i : ℕ) (bk : Block W b) (un : noneRefer W b (countIn W b) i ≡ true) where
   free-at : (j : ℕ) → j < countIn W b → (f : ℕ) (r : Ref) → getElem? (refsAt (objectsIn W b) j) f ≡ some r → r ≡ obj i → ⊥
   unfolding objectsIn
   free-at j h f r e z =
       let g = at-some (refsAt (nodesIn W (240 * b) (countIn W b)) j) f r e in
       let l : f < 4 = omega (arith, g .1, four-fields W (240 * b) (countIn W b) (bk .packed) j h) in
-      un .free j h .codes f l (code-is W (240 * b) (countIn W b) (bk .packed) j h f l ∙ ap codeOf (g .0 ∙ z))
+      free-code W b i (countIn W b) un j h f l (code-is W (240 * b) (countIn W b) (bk .packed) j h f l ∙ ap codeOf (g .0 ∙ z))
 
   free-in : (j f : ℕ) (r : Ref) → getElem? (refsAt (objectsIn W b) j) f ≡ some r → r ≡ obj i → ⊥
   free-in j f r e = go (decLt j (countIn W b))
@@ -530,16 +552,16 @@ module _ (W : List ℕ) (b i : ℕ) (bk : Block W b) (un : Unreferred W b (count
           absurd (Option·none-ne-some r (sym (ap (λ (y : Node). getElem? (y .refs) f) d) ∙ e))
 
 module _ (W : List ℕ) (b i : ℕ) (ob : Inside W b i) (x : ℕ) (R : List ℕ) (n : ℕ) (bd : Bound W b x i R n) where
-  distinct-objects : Unreferred W b n i → UnlikeOthers R n i n → Distinct (nodesIn R 0 n)
+  distinct-objects : noneRefer W b n i ≡ true → UnlikeOthers R n i n → Distinct (nodesIn R 0 n)
   distinct-objects u o =
       let e : nodesIn R 0 n ≡ boundNodes x i (objectsIn W b) = objects-are W b i ob x R n bd in
       subst Distinct (sym e)
-      (distinct-bound (objectsIn W b) x i (ob .block .whole .inner) (free-in W b i (ob .block) (subst (λ (m : ℕ). Unreferred W b m i) (bd .count) u))
+      (distinct-bound (objectsIn W b) x i (ob .block .whole .inner) (free-in W b i (ob .block) (subst (λ (m : ℕ). noneRefer W b m i ≡ true) (bd .count) u))
       (λ k h q. o .only k (omega (arith, bd .count, size-in W b (ob .block))) (subst (λ (ns : List Node). Same ns (obj i) ns (obj k)) (sym e) q))
       (ob .block .distinct))
 
-  pub stays-distinct : (u r : Bool) → UnreferredTest W b n i u → u ≡ true → OthersTest R n i r → DistinctTest R n r
-  stays-distinct u r t e o = record { yes = λ z. distinct-objects (t .yes e) (o .yes z) }
+  pub stays-distinct : (u r : Bool) → u ≡ noneRefer W b n i → u ≡ true → OthersTest R n i r → DistinctTest R n r
+  stays-distinct u r t e o = record { yes = λ z. distinct-objects (sym t ∙ e) (o .yes z) }
 
 pub distinct-not : (R : List ℕ) (n : ℕ) → DistinctTest R n false
 distinct-not R n = record { yes = λ z. absurd (false≢true z) }

@@ -3,14 +3,16 @@ use Prim.Native.Nat.{ℕ, zero, suc, _+_, _-_, _*_, _<_, _≤_}
 use native.Mathlib.Omega.{arith}
 use native.Mathlib.Decide.{decLt, ℕ-discrete}
 use mathlib.Core.Path.{_≡_, refl, sym, ap, ap₂, _∙_, subst}
-use mathlib.Core.Bool.{Bool, true, false, not, cond, false≢true, true≢false}
-use lib.Dec.{leb, eqb}
+use mathlib.Core.Bool.{Bool, true, false, not, cond, false≢true}
+use lib.Dec.{leb, eqb, ltb}
 use mathlib.Core.List.{List, [], _∷_, map}
 use mathlib.Core.Option.{none, some, Option·none-ne-some}
 use lib.ListN.{length, getD, set, take, getElem?, replicate, length-set, length-take, length-replicate, getD-replicate, List·getD-eq-default}
 use lib.Seq.{getD-set-same, getD-set-other}
 use Rattle.cofj.specs.Partial.{_>>=_}
-use borrow.Author.Tests.{le-leb, eqb-false}
+use borrow.Author.Tests.{le-leb, lt-ltb, le-ltb}
+use types.Run.{OneOf}
+use denote.Enum.Declared.{tagOf}
 use Rattle.cofj.specs.Values.{Ref, obj, mark, undet, Node, node, Graph, nodeAt, refsAt, canon, make}
 use Rattle.cofj.specs.Unfolding.{object, follow, Same, InRange, Whole}
 use Rattle.cofj.proofs.Trees.{Pointwise}
@@ -22,14 +24,17 @@ use Rattle.values.specs.declared.Slot.{Slot}
 use Rattle.values.specs.declared.Made.{Made}
 use Rattle.values.specs.declared.Made.the-variants.{Value}
 use Rattle.values.specs.Layout.{refOf, codeOf, nodeIn, nodesIn, Packed, countIn, levelIn, objectsIn, graphAt, valueOf, rawOf, Holds, HeldBy, Block, Inside, Outside, Beneath}
+use Rattle.values.specs.Tests.{any}
 use Rattle.values.specs.Tables.{Carried}
 use Rattle.values.specs.Numbers.{Levels}
 use Rattle.values.specs.Operations.{Gives, Copied}
 use Rattle.values.specs.Laying.{valuesFrom, rawsFrom, PartsHeld, MadeIs}
 use Rattle.values.specs.Adding.{Found, Appended, Added, partOf}
-use Rattle.values.specs.Merging.{Grown, Fits, Standing, Entered, CodeAs, Mapped, Importing, Imported, ObjectBytes, Turned, Turning, TurnedAll, As, PartImported, Begun, RootBrought, PartsBrought, NotIn, Away, LiesTest, SomeTest}
+use Rattle.values.specs.Merging.{Grown, Fits, Standing, Entered, CodeAs, Mapped, Importing, Imported, ObjectBytes, Turned, Turning, TurnedAll, As, PartImported, Begun, RootBrought, PartsBrought, liesIn, someIn, largerOf, largestOf}
 use Rattle.values.proofs.Nodes.{ref-object, ref-undet, ref-mark, byteOf, packed-byte, length-nodes, at-nodes}
-use Rattle.values.proofs.Blocks.{held-room, size-in, inner-in, whole-at}
+use Rattle.values.proofs.ValueRef as RefT
+use Rattle.values.proofs.Tests.{not-false, any-there, any-not, any-more}
+use Rattle.values.proofs.Blocks.{held-room, no-object, size-in, inner-in, whole-at}
 use Rattle.values.proofs.Trees.{in-larger, leaf-same, made-as}
 use Rattle.values.proofs.Walks.{four, four-at}
 use Rattle.values.proofs.Lays.{fresh, fresh-class, fresh-count, fresh-spare, raws-whole, made-raw, parts-length}
@@ -378,11 +383,7 @@ module _ (W : List ℕ) (src c host : ℕ) (M : List ℕ) (im : Importing W src 
 
       module _ (eb : not b ≡ false) where
         yes-b : b ≡ true
-        yes-b = back b eb
-          where
-            back : (x : Bool) → not x ≡ false → x ≡ true
-            back true q = refl
-            back false q = absurd (false≢true (sym q))
+        yes-b = not-false b eb
 
         td : Turned W2 src c host T 4
         td = ta .turned yes-b
@@ -693,11 +694,7 @@ module _ (W : List ℕ) (c : ℕ) (ps : List Slot) (n host dst : ℕ) (held : Pa
 
   module _ (eb : not b ≡ false) where
     rb : RootBrought W c ps n n W1 host T
-    rb = br .done (back b eb)
-      where
-        back : (x : Bool) → not x ≡ false → x ≡ true
-        back true q = refl
-        back false q = absurd (false≢true (sym q))
+    rb = br .done (not-false b eb)
 
     pub in-block : Block W1 host
     in-block = br .grown .block
@@ -772,37 +769,98 @@ module _ (W : List ℕ) (c : ℕ) (ps : List Slot) (n host dst : ℕ) (held : Pa
 pub largest-held : (W : List ℕ) (ps : List Slot) (n i : ℕ) (v : ValueRef) → PartsHeld W ps n → i < n → v ≡ partOf ps i → Holds W v
 largest-held W ps n i v h l e = subst (Holds W) (sym e) (h .part i l)
 
-pub lies-object : (d : ℕ) (v : ValueRef) (x i : ℕ) → v ≡ Object x i → LiesTest d v (eqb x d)
-lies-object d v x i e = record { says = λ q. rw e (eqb-false x d q) }
+pub lies-object : (d : ℕ) (v : ValueRef) (x i : ℕ) → v ≡ Object x i → eqb x d ≡ liesIn d v
+unfolding liesIn
+lies-object d v x i e = rw e
 
-pub lies-mark : (d : ℕ) (v : ValueRef) (k : ℕ) → v ≡ Mark k → LiesTest d v false
-lies-mark d v k e = record { says = λ _. rw e tt }
+pub lies-mark : (d : ℕ) (v : ValueRef) (k : ℕ) → v ≡ Mark k → false ≡ liesIn d v
+unfolding liesIn
+lies-mark d v k e = rw e
 
-pub lies-undet : (d : ℕ) (v : ValueRef) → v ≡ Undetermined → LiesTest d v false
-lies-undet d v e = record { says = λ _. rw e tt }
+pub lies-undet : (d : ℕ) (v : ValueRef) → v ≡ Undetermined → false ≡ liesIn d v
+unfolding liesIn
+lies-undet d v e = rw e
 
 module _ (ps : List Slot) (n d : ℕ) where
-  pub away-none : Away ps 0 d
-  away-none = record { each = λ i h. absurd (omega arith) }
+  abbrev lies : ℕ → Bool
+  lies i = liesIn d (partOf ps i)
 
-  pub away-more : (i : ℕ) (v : ValueRef) (r : Bool) → Away ps i d → v ≡ partOf ps i → LiesTest d v r → r ≡ false → Away ps (i + 1) d
-  away-more i v r a ev t e = record { each = λ j h. go j h (ℕ-discrete j i) }
-    where
-      go : (j : ℕ) → j < i + 1 → Dec (j ≡ i) → NotIn d (partOf ps j)
-      go j h (yes z) = rw z (subst (NotIn d) ev (t .says e))
-      go j h (no z) = a .each j (omega (arith, z))
+  pub away-none : someIn ps 0 d ≡ false
+  unfolding someIn any
+  away-none = refl
 
-  pub some-there : SomeTest ps n d true
-  some-there = record { says = λ e. absurd (true≢false e) }
+  module _ (i : ℕ) (v : ValueRef) (r : Bool) (ev : v ≡ partOf ps i) (er : r ≡ liesIn d v) where
+    answer : lies i ≡ r
+    answer = ap (liesIn d) (sym ev) ∙ sym er
 
-  pub some-none : (i : ℕ) → Away ps i d → n ≤ i → SomeTest ps n d false
-  some-none i a h = record { says = λ _. record { each = λ j k. a .each j (omega arith) } }
+    pub away-more : someIn ps i d ≡ false → r ≡ false → someIn ps (i + 1) d ≡ false
+    unfolding someIn
+    away-more a e = any-more lies i a (answer ∙ e)
 
-  pub away-all : (r : Bool) → SomeTest ps n d r → r ≡ false → Away ps n d
-  away-all r t e = t .says e
+    pub some-there : i < n → r ≡ true → true ≡ someIn ps n d
+    unfolding someIn
+    some-there h e = sym (any-there lies n i h (answer ∙ e))
 
-pub begun-here : (W : List ℕ) (b : ℕ) → Block W b → Begun W b b
+  pub some-none : (i : ℕ) → someIn ps i d ≡ false → i ≤ n → n ≤ i → false ≡ someIn ps n d
+  some-none i a h l = let e : i ≡ n = omega arith in sym (rw e at a)
+
+  away-at : someIn ps n d ≡ false → (i : ℕ) → i < n → lies i ≡ false
+  unfolding someIn
+  away-at a i h = any-not lies n i a h
+
+begun-here : (W : List ℕ) (b : ℕ) → Block W b → Begun W b b
 begun-here W b bk = record { source = bk; target = bk; most = omega arith; trees = λ r h p. refl }
+
+-- ---- the block with the most objects
+module _ (W : List ℕ) (v : ValueRef) (b : ℕ) where
+  pub larger-leaf : OneOf (1 ∷ 2 ∷ []) (tagOf RefT.the-type v) → b ≡ largerOf W v b
+  unfolding largerOf
+  larger-leaf = no-object (λ x. b ≡ largerOf W x b) (λ k. refl) refl v
+
+  pub larger-other : (x i : ℕ) → v ≡ Object x i → getD W (240 * b + 192) 0 < getD W (240 * x + 192) 0 → x ≡ largerOf W v b
+  unfolding largerOf countIn
+  larger-other x i e h = rw (e, lt-ltb _ _ h)
+
+  pub larger-same : (x i : ℕ) → v ≡ Object x i → getD W (240 * x + 192) 0 ≤ getD W (240 * b + 192) 0 → b ≡ largerOf W v b
+  unfolding largerOf countIn
+  larger-same x i e h = rw (e, le-ltb _ _ h)
+
+larger-block : (W : List ℕ) (v : ValueRef) (b : ℕ) → Holds W v → Block W b → Block W (largerOf W v b)
+unfolding largerOf
+larger-block W (Object x i) b h bk = go (ltb (countIn W b) (countIn W x))
+  where
+    go : (t : Bool) → Block W (cond t x b)
+    go true = h .held .block
+    go false = bk
+larger-block W (Mark k) b h bk = bk
+larger-block W Undetermined b h bk = bk
+
+module _ (W : List ℕ) (ps : List Slot) (n b : ℕ) where
+  pub largest-none : b ≡ largestOf W ps 0 b
+  unfolding largestOf
+  largest-none = refl
+
+  pub largest-more : (i d : ℕ) (v : ValueRef) (r : ℕ) → d ≡ largestOf W ps i b → v ≡ partOf ps i → r ≡ largerOf W v d → r ≡ largestOf W ps (i + 1) b
+  unfolding largestOf
+  largest-more i d v r ed ev er = let z : i + 1 ≡ suc i = omega arith in rw z (er ∙ ap₂ (largerOf W) ev ed)
+
+  pub largest-done : (i d : ℕ) → d ≡ largestOf W ps i b → i ≤ n → n ≤ i → d ≡ largestOf W ps n b
+  largest-done i d ed h l = let e : i ≡ n = omega arith in rw e at ed
+
+  module _ (held : PartsHeld W ps n) (bk : Block W b) where
+    block-at : (i : ℕ) → i ≤ n → Block W (largestOf W ps i b)
+    unfolding largestOf
+    block-at zero h = bk
+    block-at (suc i) h = larger-block W (partOf ps i) (largestOf W ps i b) (held .part i (omega arith)) (block-at i (omega arith))
+
+    pub largest-so-far : (i d : ℕ) → d ≡ largestOf W ps i b → i < n → Block W d
+    largest-so-far i d e h = subst (Block W) (sym e) (block-at i (omega arith))
+
+    pub largest-block : (d : ℕ) → d ≡ largestOf W ps n b → Block W d
+    largest-block d e = subst (Block W) (sym e) (block-at n (omega arith))
+
+    pub largest-begun : (d : ℕ) → d ≡ largestOf W ps n b → Begun W d d
+    largest-begun d e = begun-here W d (largest-block d e)
 
 module _ (W : List ℕ) (b host dst : ℕ) (W1 : List ℕ) (bk : Block W b) (lb : b < dst) (le : dst ≤ host) (room : 240 * host + 240 ≤ length W) (cp : Copied W b host W1) where
   pub copied-begun : Begun W1 b host
@@ -820,9 +878,9 @@ module _ (W : List ℕ) (b host dst : ℕ) (W1 : List ℕ) (bk : Block W b) (lb 
   pub copied-room : 240 * dst + 240 ≤ length W1
   copied-room = omega (arith, cp .outside .same)
 
-  module _ (ps : List Slot) (n : ℕ) (held : PartsHeld W ps n) (away : Away ps n host) where
+  module _ (ps : List Slot) (n : ℕ) (held : PartsHeld W ps n) (away : someIn ps n host ≡ false) where
     keeps : (i : ℕ) → i < n → Kept W W1 (partOf ps i)
-    keeps i h = kept host W W1 (cp .outside) (partOf ps i) (away .each i h) (held .part i h)
+    keeps i h = kept host W W1 (cp .outside) (partOf ps i) (away-at ps n host away i h) (held .part i h)
 
     pub copied-held : PartsHeld W1 ps n
     copied-held = record { full = held .full; part = λ i h. keeps i h .held }

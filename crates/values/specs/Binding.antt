@@ -2,12 +2,13 @@
 -- Not here: which of them are merged (Pairing, Rounds), a value in which the mark does not occur.
 use Prim.Native.Nat.{ℕ, _+_, _*_, _≤_, _<_}
 use mathlib.Core.Path.{_≡_}
-use mathlib.Core.Bool.{Bool, true, false, cond}
+use mathlib.Core.Bool.{Bool, true, not, cond}
 use mathlib.Core.List.{List}
 use lib.Dec.{eqb, ltb}
 use lib.ListN.{length, getD}
 use Rattle.cofj.specs.Values.{obj}
 use Rattle.cofj.specs.Unfolding.{Same}
+use Rattle.values.specs.Tests.{any}
 use Rattle.values.specs.Layout.{nodesIn, countIn, Distinct}
 use Rattle.values.specs.Rounds.{Raw}
 
@@ -35,19 +36,13 @@ pub record Bound (W : List ℕ) (b x i : ℕ) (R : List ℕ) (n : ℕ) : Type 0 
   pub objects : ObjectsBound W b (193 + x) i n R
   pub room : 1536 ≤ length R
 
--- none of the four codes of the object at a place is i
-pub record FreeOf (W : List ℕ) (p i : ℕ) : Type 0 where
-  pub codes : (f : ℕ) → f < 4 → getD W (p + 2 + f) 0 ≡ i → ⊥
+-- whether one of the four codes of the object at a place is i
+unfoldable pub refersTo : List ℕ → ℕ → ℕ → Bool
+refersTo W p i = any (λ f. eqb (getD W (p + 2 + f) 0) i) 4
 
-pub record ReferTest (W : List ℕ) (p i : ℕ) (r : Bool) : Type 0 where
-  pub no : r ≡ false → FreeOf W p i
-
--- none of the first n objects of block b refers to object i
-pub record Unreferred (W : List ℕ) (b n i : ℕ) : Type 0 where
-  pub free : (j : ℕ) → j < n → FreeOf W (240 * b + 6 * j) i
-
-pub record UnreferredTest (W : List ℕ) (b n i : ℕ) (r : Bool) : Type 0 where
-  pub yes : r ≡ true → Unreferred W b n i
+-- whether none of the first n objects of block b refers to object i
+unfoldable pub noneRefer : List ℕ → ℕ → ℕ → ℕ → Bool
+noneRefer W b n i = not (any (λ k. refersTo W (240 * b + 6 * k) i) n)
 
 -- f is a field whose codes differ, or 4
 pub record OtherField (R : List ℕ) (x y f : ℕ) : Type 0 where

@@ -14,7 +14,7 @@ ghost use Rattle.values.specs.Layout.{Inside, nodesIn, graphAt, Distinct
 ghost use Rattle.values.specs.Rounds.{Raw};
 ghost use Rattle.values.specs.Numbers.{graphIn};
 ghost use Rattle.values.specs.Operations.{Gives, closeOf};
-ghost use Rattle.values.specs.Binding.{boundCode, ObjectBound, Bound, ReferTest, UnreferredTest, OtherField, DifferTest, UnlikeTest, OthersTest, DistinctTest, Rooted};
+ghost use Rattle.values.specs.Binding.{boundCode, ObjectBound, Bound, refersTo, noneRefer, OtherField, DifferTest, UnlikeTest, OthersTest, DistinctTest, Rooted};
 
 // A code, the code `hot` turned to object i.
 pub fn bind_code(hot: u8, i: u8, c: u8) -> u8
@@ -63,7 +63,7 @@ pub fn bind_objects(work: &[u8], b: u16, x: u8, i: u8, raw: &mut [u8]) -> u8
 // Whether the object at place p refers to object i.
 pub fn refers(work: &[u8], p: usize, i: u8) -> bool
     requires { ⌜ p + 6 ≤ length (now work) ⌝ }
-    ensures { λ r. ⌜ ReferTest (now (work .entry)) p i r ⌝ }
+    ensures { λ r. ⌜ r ≡ refersTo (now (work .entry)) p i ⌝ }
 {
     if work[p + 2] == i {
         return true;
@@ -80,7 +80,7 @@ pub fn refers(work: &[u8], p: usize, i: u8) -> bool
 // Whether none of the n objects of block b refers to object i.
 pub fn unreferred(work: &[u8], b: u16, n: u8, i: u8) -> bool
     requires { ⌜ (240 * b + 240 ≤ length (now work)) × (n ≤ 32) ⌝ }
-    ensures { λ r. ⌜ UnreferredTest (now (work .entry)) b n i r ⌝ }
+    ensures { λ r. ⌜ r ≡ noneRefer (now (work .entry)) b n i ⌝ }
 {
     let mut k: u8 = 0;
     while k < n {
