@@ -13,6 +13,7 @@ use borrow.Author.Tests.{lt-ltb, le-ltb, eq-eqb, ne-eqb, eqb-true}
 use Rattle.cofj.specs.Values.{Ref, obj, mark, undet, Node, nodeAt, eqNats, eqNode}
 use Rattle.cofj.proofs.Basics.{eqNats-true, eqNode-true, eqNode-refl}
 use Rattle.values.specs.Layout.{refOf, codeOf, nodeIn, nodesIn, Packed, Alike, alikeAt, part}
+use Rattle.values.specs.Tables.{Four, Two}
 use Rattle.values.proofs.Runs.{eqNats-same, tests-same}
 
 -- ---- codes
@@ -168,6 +169,64 @@ module _ (A B : List ℕ) (n a b : ℕ) (ha : a + 6 * n ≤ length A) (hb : b + 
 
   pub parts-of-nodes : AllPacked A a n → AllPacked B b n → nodesIn A a n ≡ nodesIn B b n → part A a (6 * n) ≡ part B b (6 * n)
   parts-of-nodes pa pb e = parts-same A B a b (6 * n) ha hb (bytes-same A B n a b pa pb e)
+
+-- ---- bytes by the numbers that they make
+start-at : (A B : List ℕ) (i j : ℕ) → getD A (i + 0) 0 ≡ getD B (j + 0) 0 → getD A i 0 ≡ getD B j 0
+start-at A B i j e = let zi : i + 0 ≡ i = omega arith in let zj : j + 0 ≡ j = omega arith in rw (zi, zj) at e
+
+module _ (A B : List ℕ) (i j x y : ℕ) where
+  abbrev Bytes : ℕ → Type 0
+  Bytes n = (p : ℕ) → p < n → getD A (i + p) 0 ≡ getD B (j + p) 0
+
+  at-start : getD A i 0 ≡ getD B j 0 → getD A (i + 0) 0 ≡ getD B (j + 0) 0
+  at-start e = let zi : i + 0 ≡ i = omega arith in let zj : j + 0 ≡ j = omega arith in rw (zi, zj) e
+
+  module _ (fa : Four A i x) (fb : Four B j y) where
+    four-number : Bytes 4 → x ≡ y
+    four-number h = omega (arith, fa .is, fb .is, start-at A B i j (h 0 (omega arith)), h 1 (omega arith), h 2 (omega arith), h 3 (omega arith))
+
+    four-bytes : x ≡ y → Bytes 4
+    four-bytes e zero h = at-start (omega (arith, fa .is, fb .is, fa .low0, fa .low1, fa .low2, fa .low3, fb .low0, fb .low1, fb .low2, fb .low3))
+    four-bytes e (suc zero) h = omega (arith, fa .is, fb .is, fa .low0, fa .low1, fa .low2, fa .low3, fb .low0, fb .low1, fb .low2, fb .low3)
+    four-bytes e (suc (suc zero)) h = omega (arith, fa .is, fb .is, fa .low0, fa .low1, fa .low2, fa .low3, fb .low0, fb .low1, fb .low2, fb .low3)
+    four-bytes e (suc (suc (suc zero))) h = omega (arith, fa .is, fb .is, fa .low0, fa .low1, fa .low2, fa .low3, fb .low0, fb .low1, fb .low2, fb .low3)
+    four-bytes e (suc (suc (suc (suc p)))) h = absurd (omega arith)
+
+  module _ (ta : Two A i x) (tb : Two B j y) where
+    two-number : Bytes 2 → x ≡ y
+    two-number h = omega (arith, ta .is, tb .is, start-at A B i j (h 0 (omega arith)), h 1 (omega arith))
+
+    two-bytes : x ≡ y → Bytes 2
+    two-bytes e zero h = at-start (omega (arith, ta .is, tb .is, ta .low0, ta .low1, tb .low0, tb .low1))
+    two-bytes e (suc zero) h = omega (arith, ta .is, tb .is, ta .low0, ta .low1, tb .low0, tb .low1)
+    two-bytes e (suc (suc p)) h = absurd (omega arith)
+
+module _ (A B : List ℕ) (i j : ℕ) (ha : i + 6 ≤ length A) (hb : j + 6 ≤ length B) (x y : ℕ) (fa : Four A i x) (fb : Four B j y) where
+  byte-of : eqNats (part A i 6) (part B j 6) ≡ true → (p : ℕ) → p < 6 → getD A (i + p) 0 ≡ getD B (j + p) 0
+  byte-of e p h = sym (at-part A i 6 ha p h) ∙ ap (λ (l : List ℕ). getD l p 0) (eqNats-true _ _ e) ∙ at-part B j 6 hb p h
+
+  pub six-not : ((x ≡ y) → ⊥) → false ≡ eqNats (part A i 6) (part B j 6)
+  six-not d = go (eqNats (part A i 6) (part B j 6)) refl
+    where
+      go : (r : Bool) → eqNats (part A i 6) (part B j 6) ≡ r → false ≡ r
+      go true e = absurd (d (four-number A B i j x y fa fb (λ p h. byte-of e p (omega arith))))
+      go false e = refl
+
+  pub six-by-last : (u v : ℕ) → x ≡ y → Two A (i + 4) u → Two B (j + 4) v → eqb u v ≡ eqNats (part A i 6) (part B j 6)
+  six-by-last u v e ta tb =
+      tests-same (eqb u v) (eqNats (part A i 6) (part B j 6))
+      (λ q. eqNats-same _ _ (parts-same A B i j 6 ha hb (λ p h. go q p h (decLt p 4))))
+      (λ q. eq-eqb u v (two-number A B (i + 4) (j + 4) u v ta tb (λ p h.
+      let zi : i + 4 + p ≡ i + (4 + p) = omega arith in
+      let zj : j + 4 + p ≡ j + (4 + p) = omega arith in
+      rw (zi, zj) (byte-of q (4 + p) (omega arith)))))
+    where
+      go : eqb u v ≡ true → (p : ℕ) → p < 6 → Dec (p < 4) → getD A (i + p) 0 ≡ getD B (j + p) 0
+      go q p h (yes l) = four-bytes A B i j x y fa fb e p l
+      go q p h (no l) =
+          let zi : i + 4 + (p - 4) ≡ i + p = omega (arith, l) in
+          let zj : j + 4 + (p - 4) ≡ j + p = omega (arith, l) in
+          rw (zi, zj) at (two-bytes A B (i + 4) (j + 4) u v ta tb (eqb-true u v q) (p - 4) (omega (arith, l)))
 
 -- one object
 one : (S : List ℕ) (a : ℕ) → Packed S a → AllPacked S a 1

@@ -1,5 +1,5 @@
 -- Bytes that a function of their place gives, runs of bytes copied, and objects copied with their codes turned.
-use Prim.Native.Nat.{ℕ, _+_, _%_, _≤_, _<_}
+use Prim.Native.Nat.{ℕ, _+_, _*_, _%_, _≤_, _<_}
 use mathlib.Core.Path.{_≡_}
 use mathlib.Core.Bool.{cond}
 use mathlib.Core.List.{List}
@@ -9,6 +9,19 @@ use lib.ListN.{length, getD}
 -- the first n bytes are F 0, F 1, ..
 pub record Filled (F : ℕ → ℕ) (n : ℕ) (A : List ℕ) : Type 0 where
   pub at : (i : ℕ) → i < n → getD A i 0 ≡ F i
+
+-- four bytes, and two, as one number
+pub record Four (S : List ℕ) (p r : ℕ) : Type 0 where
+  pub is : r ≡ getD S p 0 + 256 * getD S (p + 1) 0 + 65536 * getD S (p + 2) 0 + 16777216 * getD S (p + 3) 0
+  pub low0 : getD S p 0 < 256
+  pub low1 : getD S (p + 1) 0 < 256
+  pub low2 : getD S (p + 2) 0 < 256
+  pub low3 : getD S (p + 3) 0 < 256
+
+pub record Two (S : List ℕ) (p r : ℕ) : Type 0 where
+  pub is : r ≡ getD S p 0 + 256 * getD S (p + 1) 0
+  pub low0 : getD S p 0 < 256
+  pub low1 : getD S (p + 1) 0 < 256
 
 -- n bytes of S from a place on, at a place of D; the others are D₀'s
 pub record Carried (S : List ℕ) (from : ℕ) (D₀ : List ℕ) (to n : ℕ) (D : List ℕ) : Type 0 where

@@ -4,7 +4,7 @@ ghost use Prim.Native.Nat.{ℕ, _+_, _<_, _≤_};
 ghost use lib.ListN.{length};
 ghost use Rattle.cofj.specs.Values.{eqNats};
 ghost use Rattle.values.specs.Layout.{part};
-ghost use Rattle.values.specs.Tables.{Filled, Carried};
+ghost use Rattle.values.specs.Tables.{Filled, Four, Two, Carried};
 
 // Whether the n bytes of a from i on are those of b from j on.
 pub fn same(a: &[u8], i: usize, b: &[u8], j: usize, n: usize) -> bool
@@ -19,6 +19,35 @@ pub fn same(a: &[u8], i: usize, b: &[u8], j: usize, n: usize) -> bool
         k += 1;
     }
     true
+}
+
+// Four bytes as one number, and two: the machine reads them at once.
+pub fn four_at(a: &[u8], p: usize) -> u32
+    requires { ⌜ p + 4 ≤ length (now a) ⌝ }
+    ensures { λ r. ⌜ Four (now (a .entry)) p r ⌝ }
+{
+    (a[p] as u32)
+        + 256 * (a[p + 1] as u32)
+        + 65536 * (a[p + 2] as u32)
+        + 16777216 * (a[p + 3] as u32)
+}
+
+pub fn two_at(a: &[u8], p: usize) -> u32
+    requires { ⌜ p + 2 ≤ length (now a) ⌝ }
+    ensures { λ r. ⌜ Two (now (a .entry)) p r ⌝ }
+{
+    (a[p] as u32) + 256 * (a[p + 1] as u32)
+}
+
+// The same as `same` for six bytes.
+pub fn same_six(a: &[u8], i: usize, b: &[u8], j: usize) -> bool
+    requires { ⌜ (i + 6 ≤ length (now a)) × (j + 6 ≤ length (now b)) ⌝ }
+    ensures { λ r. ⌜ r ≡ eqNats (part (now (a .entry)) i 6) (part (now (b .entry)) j 6) ⌝ }
+{
+    if four_at(a, i) != four_at(b, j) {
+        return false;
+    }
+    two_at(a, i + 4) == two_at(b, j + 4)
 }
 
 // n bytes of `from`, from place i on, to place j of `to`.

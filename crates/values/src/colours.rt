@@ -3,6 +3,7 @@
 use crate::bytes::clear;
 use crate::bytes::copy;
 use crate::bytes::same;
+use crate::bytes::same_six;
 use crate::lift::lift;
 use crate::pairs::colour_pairs;
 ghost use mathlib.Core.Path.{_≡_};
@@ -20,7 +21,7 @@ pub fn place(looks: &[u8], i: u8, n: u8) -> u8
 {
     let mut j: u8 = 0;
     while j < i {
-        if same(looks, 6 * (i as usize), looks, 6 * (j as usize), 6) {
+        if same_six(looks, 6 * (i as usize), looks, 6 * (j as usize)) {
             return j;
         }
         j += 1;

@@ -3,7 +3,7 @@ use crate::Made;
 use crate::Slot;
 use crate::ValueRef;
 use crate::bytes::copy;
-use crate::bytes::same;
+use crate::bytes::same_six;
 use crate::number::raise_level;
 use crate::value::copy_block;
 ghost use mathlib.Core.Path.{_≡_};
@@ -54,7 +54,7 @@ pub fn find(work: &[u8], b: u16, t: u8, top: &[u8]) -> u8
 {
     let mut k: u8 = 0;
     while k < t {
-        if same(work, 240 * (b as usize) + 6 * (k as usize), top, 0, 6) {
+        if same_six(work, 240 * (b as usize) + 6 * (k as usize), top, 0) {
             return k;
         }
         k += 1;
