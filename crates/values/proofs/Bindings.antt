@@ -27,9 +27,9 @@ use Rattle.values.specs.Rounds.{Raw}
 use Rattle.values.specs.Numbers.{Levels, Ready, Placed, Has, graphIn}
 use Rattle.values.specs.Operations.{Gives}
 use Rattle.values.specs.Binding.{boundCode, boundByte, ObjectBound, ObjectsBound, Bound, refersTo, noneRefer, OtherField, Leads, DifferTest, UnlikeTest, UnlikeOthers, OthersTest, DistinctTest, Rooted}
-use Rattle.values.proofs.Nodes.{byteOf, packed-byte, packed-same, nodes-same, length-nodes, at-nodes, AllPacked, alike-yes, alike-no, ref-object, ref-undet, ref-mark}
+use Rattle.values.proofs.Nodes.{some-at, at-some, byteOf, packed-byte, packed-same, nodes-same, length-nodes, at-nodes, AllPacked, alike-yes, alike-no, ref-object, ref-undet, ref-mark}
 use Rattle.values.proofs.Tests.{not-true, not-false, any-there, any-not, any-more, any-none}
-use Rattle.values.proofs.Steps.{some-at, is-object, object-low}
+use Rattle.values.proofs.Steps.{leaf-codes, is-object, object-low}
 use Rattle.values.proofs.Blocks.{size-in, whole-at}
 use Rattle.values.proofs.Trees.{in-larger, close-canon}
 
@@ -403,15 +403,6 @@ module _ (R : List ℕ) (x y : ℕ) where
   pub other-none : OtherField R x y 4
   other-none = record { other = λ h. absurd (omega arith) }
 
-leaf-codes : (ns : List Node) (r s : Ref) → InRange 192 r → Same ns r ns s → 192 ≤ codeOf r → codeOf r ≡ codeOf s
-leaf-codes ns (obj a) s hr e h = absurd (omega arith)
-leaf-codes ns (mark k) (obj b) hr e h = let z : some (opened k) ≡ some (object _ _) = e [] in cc
-leaf-codes ns (mark k) (mark l) hr e h = let z : some (opened k) ≡ some (opened l) = e [] in let q : k ≡ l = cc in omega arith
-leaf-codes ns (mark k) undet hr e h = let z : some (opened k) ≡ some unknown = e [] in cc
-leaf-codes ns undet (obj b) hr e h = let z : some unknown ≡ some (object _ _) = e [] in cc
-leaf-codes ns undet (mark l) hr e h = let z : some unknown ≡ some (opened l) = e [] in cc
-leaf-codes ns undet undet hr e h = refl
-
 module _ (R : List ℕ) (n i k : ℕ) where
   pub differ-start : i < n → k < n → Leads R n i k i k
   differ-start h l = record { first = h; second = l; leads = λ e. e }
@@ -489,10 +480,10 @@ module _ (R : List ℕ) (n i k : ℕ) where
         children e = same-child ns ns (obj x) (obj y) (ld .leads e) f r s (some-at (refsAt ns x) f low-x) (some-at (refsAt ns y) f low-y)
 
         pub differ-first : 192 ≤ a → DifferTest R n i k true
-        differ-first h = record { yes = λ _ e. o .other hf (ea ∙ leaf-codes ns r s (in-larger n 192 r (raw .few) (range-at x f low-x)) (children e) (omega (arith, ea)) ∙ sym ec) }
+        differ-first h = record { yes = λ _ e. o .other hf (ea ∙ leaf-codes ns ns r s (in-larger n 192 r (raw .few) (range-at x f low-x)) (children e) (omega (arith, ea)) ∙ sym ec) }
 
         pub differ-second : 192 ≤ c → DifferTest R n i k true
-        differ-second h = record { yes = λ _ e. o .other hf (ea ∙ sym (leaf-codes ns s r (in-larger n 192 s (raw .few) (range-at y f low-y)) (λ p. sym (children e p)) (omega (arith, ec))) ∙ sym ec) }
+        differ-second h = record { yes = λ _ e. o .other hf (ea ∙ sym (leaf-codes ns ns s r (in-larger n 192 s (raw .few) (range-at y f low-y)) (λ p. sym (children e p)) (omega (arith, ec))) ∙ sym ec) }
 
         pub differ-step : a < 192 → c < 192 → Leads R n i k a c
         differ-step ha hc =
@@ -529,11 +520,6 @@ module _ (R : List ℕ) (n i : ℕ) where
   others-all k o h l = let e : k ≡ n = omega arith in record { yes = λ _. rw e at o }
 
 -- ---- the objects stay distinct
-at-some : (rs : List Ref) (k : ℕ) (r : Ref) → getElem? rs k ≡ some r → (getD rs k undet ≡ r) × (k < length rs)
-at-some [] k r e = absurd (Option·none-ne-some r e)
-at-some (x ∷ rs) zero r e = (let z : x ≡ r = cc in z, omega arith)
-at-some (x ∷ rs) (suc k) r e = let p = at-some rs k r e in (p .0, omega (arith, p .1))
-
 module _ (W : List ℕ) (b i : ℕ) (bk : Block W b) (un : noneRefer W b (countIn W b) i ≡ true) where
   free-at : (j : ℕ) → j < countIn W b → (f : ℕ) (r : Ref) → getElem? (refsAt (objectsIn W b) j) f ≡ some r → r ≡ obj i → ⊥
   unfolding objectsIn

@@ -1,5 +1,5 @@
 -- Laws of a block copied as it is, of a value brought down, and of objects in which a mark does not occur.
-use Prim.Native.Nat.{ℕ, zero, suc, _+_, _*_, _<_, _≤_}
+use Prim.Native.Nat.{ℕ, suc, _+_, _*_, _<_, _≤_}
 use native.Mathlib.Omega.{arith}
 use native.Mathlib.Decide.{decLt, ℕ-discrete}
 use mathlib.Core.Path.{_≡_, refl, sym, ap, _∙_, subst}
@@ -20,7 +20,7 @@ use Rattle.values.specs.Layout.{codeOf, nodeIn, nodesIn, Packed, Distinc
 use Rattle.values.specs.Tables.{Carried}
 use Rattle.values.specs.Operations.{Gives, Copied}
 use Rattle.values.proofs.ValueRef as RefT
-use Rattle.values.proofs.Nodes.{byteOf, packed-byte, packed-same, nodes-same, length-nodes, at-nodes}
+use Rattle.values.proofs.Nodes.{at-some, byteOf, packed-byte, packed-same, nodes-same, length-nodes, at-nodes}
 use Rattle.values.proofs.Turned.{nodes-agree}
 use Rattle.values.proofs.Blocks.{held-inside, no-object, nodes-id}
 use Rattle.values.proofs.Selecting.{unchanged}
@@ -136,11 +136,6 @@ unfolding countIn
 block-held W b i bk h = record { held = record { block = bk; low = h } }
 
 -- ---- a mark that does not occur
-at-some : (rs : List Ref) (k : ℕ) (r : Ref) → getElem? rs k ≡ some r → (getD rs k undet ≡ r) × (k < length rs)
-at-some [] k r e = absurd (Option·none-ne-some r e)
-at-some (x ∷ rs) zero r e = (let z : x ≡ r = cc in z, omega arith)
-at-some (x ∷ rs) (suc k) r e = let p = at-some rs k r e in (p .0, omega (arith, p .1))
-
 bind-other : (x j : ℕ) (r : Ref) → ((r ≡ mark x) → ⊥) → bind x (obj j) r ≡ rename (λ i. i) r
 bind-other x j (obj i) h = refl
 bind-other x j (mark k) h = ap (λ (t : Bool). elim t as (λ _. Ref) [ true ↦ obj j | false ↦ mark k ]) (ne-eqb k x (λ z. h (ap mark z)))

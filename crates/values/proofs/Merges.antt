@@ -31,9 +31,10 @@ use Rattle.values.specs.Operations.{Gives, Copied}
 use Rattle.values.specs.Laying.{valuesFrom, rawsFrom, PartsHeld, MadeIs}
 use Rattle.values.specs.Adding.{Found, Appended, Added, partOf}
 use Rattle.values.specs.Merging.{Grown, Fits, Standing, Entered, CodeAs, Mapped, Importing, Imported, ObjectBytes, Turned, Turning, TurnedAll, As, PartImported, Begun, RootBrought, PartsBrought, liesIn, someIn, largerOf, largestOf}
-use Rattle.values.proofs.Nodes.{ref-object, ref-undet, ref-mark, byteOf, packed-byte, length-nodes, at-nodes}
+use Rattle.values.proofs.Nodes.{some-at, ref-object, ref-undet, ref-mark, byteOf, packed-byte, length-nodes, at-nodes}
 use Rattle.values.proofs.ValueRef as RefT
 use Rattle.values.proofs.Tests.{not-false, any-there, any-not, any-more}
+use Rattle.values.proofs.Steps.{object-low}
 use Rattle.values.proofs.Blocks.{held-room, no-object, size-in, inner-in, whole-at}
 use Rattle.values.proofs.Trees.{in-larger, leaf-same, made-as}
 use Rattle.values.proofs.Walks.{four, four-at}
@@ -159,16 +160,6 @@ pub object-taken : (W : List ℕ) (src i : ℕ) (T₀ T : List ℕ) → length T
 object-taken W src i T₀ T e c = record { long = c .same ∙ e; bytes = λ j h. let z : 0 + j ≡ j = omega arith in rw z at (c .here j h) }
 
 -- ---- the codes of an object
-some-at : (rs : List Ref) (f : ℕ) → f < length rs → getElem? rs f ≡ some (getD rs f undet)
-some-at [] f h = absurd (omega arith)
-some-at (r ∷ rs) zero h = refl
-some-at (r ∷ rs) (suc f) h = some-at rs f (omega arith)
-
-ref-low : (n : ℕ) (r : Ref) → InRange n r → codeOf r < 192 → codeOf r < n
-ref-low n (obj i) l h = l
-ref-low n (mark k) l h = absurd (omega arith)
-ref-low n undet l h = absurd (omega arith)
-
 code-low : (W : List ℕ) (src i : ℕ) → Inside W src i → (k : ℕ) → k < 4 → getD W (240 * src + 6 * i + (2 + k)) 0 < 192 → getD W (240 * src + 6 * i + (2 + k)) 0 < countIn W src
 unfolding byteOf objectsIn
 code-low W src i ib k h l = go (decLt k (getD W (240 * src + 6 * i + 1) 0))
@@ -189,7 +180,7 @@ code-low W src i ib k h l = go (decLt k (getD W (240 * src + 6 * i + 1) 0))
     go (yes q) =
         let low : InRange (countIn W src) (getD (nodeIn W (240 * src + 6 * i) .refs) k undet) =
         inner-in W src (ib .block) i k (getD (nodeIn W (240 * src + 6 * i) .refs) k undet) (ap (λ (x : Node). getElem? (x .refs) k) at-i ∙ some-at (nodeIn W (240 * src + 6 * i) .refs) k (omega (arith, count))) in
-        rw code (ref-low (countIn W src) (getD (nodeIn W (240 * src + 6 * i) .refs) k undet) low (rw code at l))
+        rw code (object-low (countIn W src) (getD (nodeIn W (240 * src + 6 * i) .refs) k undet) low (rw code at l))
     go (no q) = absurd (omega (arith, pk .spare (2 + k) (omega (arith, q)) (omega arith)))
 
 -- ---- the same codes in a block that has grown

@@ -6,8 +6,9 @@ use native.Mathlib.Decide.{decLt, ℕ-discrete}
 use mathlib.Core.Path.{_≡_, refl, sym, ap, ap₂, _∙_}
 use mathlib.Core.Bool.{Bool, true, false, cond, false≢true}
 use mathlib.Core.List.{List, [], _∷_, _++_}
+use mathlib.Core.Option.{some, Option·none-ne-some}
 use lib.Dec.{eqb}
-use lib.ListN.{length, getD, take, drop, length-take, length-drop, List·getD-eq-default}
+use lib.ListN.{length, getD, take, drop, getElem?, length-take, length-drop, List·getD-eq-default}
 use lib.Seq.{getD-take, getD-drop, length-take-le, ext-getD}
 use borrow.Author.Tests.{lt-ltb, le-ltb, eq-eqb, ne-eqb, eqb-true}
 use Rattle.cofj.specs.Values.{Ref, obj, mark, undet, Node, nodeAt, eqNats, eqNode}
@@ -40,6 +41,17 @@ code-ref b = go (decLt b 192) (ℕ-discrete b 192)
     go (no h) (no e) =
         let z : 193 + (b - 193) ≡ b = omega (arith, h, e) in
         ap (λ (x : ℕ). codeOf (refOf x)) (sym z) ∙ ap codeOf (ref-mark (b - 193)) ∙ z
+
+-- ---- a reference of a list, if there is one
+pub some-at : (rs : List Ref) (f : ℕ) → f < length rs → getElem? rs f ≡ some (getD rs f undet)
+some-at [] f h = absurd (omega arith)
+some-at (r ∷ rs) zero h = refl
+some-at (r ∷ rs) (suc f) h = some-at rs f (omega arith)
+
+pub at-some : (rs : List Ref) (k : ℕ) (r : Ref) → getElem? rs k ≡ some r → (getD rs k undet ≡ r) × (k < length rs)
+at-some [] k r e = absurd (Option·none-ne-some r e)
+at-some (x ∷ rs) zero r e = (let z : x ≡ r = cc in z, omega arith)
+at-some (x ∷ rs) (suc k) r e = let p = at-some rs k r e in (p .0, omega (arith, p .1))
 
 -- ---- an object's six bytes
 unfoldable pub byteOf : Node → ℕ → ℕ
@@ -171,33 +183,41 @@ module _ (A B : List ℕ) (n a b : ℕ) (ha : a + 6 * n ≤ length A) (hb : b + 
   parts-of-nodes pa pb e = parts-same A B a b (6 * n) ha hb (bytes-same A B n a b pa pb e)
 
 -- ---- bytes by the numbers that they make
-start-at : (A B : List ℕ) (i j : ℕ) → getD A (i + 0) 0 ≡ getD B (j + 0) 0 → getD A i 0 ≡ getD B j 0
-start-at A B i j e = let zi : i + 0 ≡ i = omega arith in let zj : j + 0 ≡ j = omega arith in rw (zi, zj) at e
+four-digits : (a b c d a′ b′ c′ d′ : ℕ) → a < 256 → b < 256 → c < 256 → d < 256 → a′ < 256 → b′ < 256 → c′ < 256 → d′ < 256
+    → a + 256 * b + 65536 * c + 16777216 * d ≡ a′ + 256 * b′ + 65536 * c′ + 16777216 * d′ → (a ≡ a′) × (b ≡ b′) × (c ≡ c′) × (d ≡ d′)
+four-digits a b c d a′ b′ c′ d′ la lb lc ld la′ lb′ lc′ ld′ e = (omega arith, omega arith, omega arith, omega arith)
 
 module _ (A B : List ℕ) (i j x y : ℕ) where
   abbrev Bytes : ℕ → Type 0
   Bytes n = (p : ℕ) → p < n → getD A (i + p) 0 ≡ getD B (j + p) 0
 
-  at-start : getD A i 0 ≡ getD B j 0 → getD A (i + 0) 0 ≡ getD B (j + 0) 0
-  at-start e = let zi : i + 0 ≡ i = omega arith in let zj : j + 0 ≡ j = omega arith in rw (zi, zj) e
+  -- the first of them
+  add-zero : getD A i 0 ≡ getD B j 0 → getD A (i + 0) 0 ≡ getD B (j + 0) 0
+  add-zero e = let zi : i + 0 ≡ i = omega arith in let zj : j + 0 ≡ j = omega arith in rw (zi, zj) e
+
+  drop-zero : getD A (i + 0) 0 ≡ getD B (j + 0) 0 → getD A i 0 ≡ getD B j 0
+  drop-zero e = let zi : i + 0 ≡ i = omega arith in let zj : j + 0 ≡ j = omega arith in rw (zi, zj) at e
 
   module _ (fa : Four A i x) (fb : Four B j y) where
     four-number : Bytes 4 → x ≡ y
-    four-number h = omega (arith, fa .is, fb .is, start-at A B i j (h 0 (omega arith)), h 1 (omega arith), h 2 (omega arith), h 3 (omega arith))
+    four-number h = omega (arith, fa .is, fb .is, drop-zero (h 0 (omega arith)), h 1 (omega arith), h 2 (omega arith), h 3 (omega arith))
 
     four-bytes : x ≡ y → Bytes 4
-    four-bytes e zero h = at-start (omega (arith, fa .is, fb .is, fa .low0, fa .low1, fa .low2, fa .low3, fb .low0, fb .low1, fb .low2, fb .low3))
-    four-bytes e (suc zero) h = omega (arith, fa .is, fb .is, fa .low0, fa .low1, fa .low2, fa .low3, fb .low0, fb .low1, fb .low2, fb .low3)
-    four-bytes e (suc (suc zero)) h = omega (arith, fa .is, fb .is, fa .low0, fa .low1, fa .low2, fa .low3, fb .low0, fb .low1, fb .low2, fb .low3)
-    four-bytes e (suc (suc (suc zero))) h = omega (arith, fa .is, fb .is, fa .low0, fa .low1, fa .low2, fa .low3, fb .low0, fb .low1, fb .low2, fb .low3)
-    four-bytes e (suc (suc (suc (suc p)))) h = absurd (omega arith)
+    four-bytes e = go (four-digits _ _ _ _ _ _ _ _ (fa .low0) (fa .low1) (fa .low2) (fa .low3) (fb .low0) (fb .low1) (fb .low2) (fb .low3) (sym (fa .is) ∙ e ∙ fb .is))
+      where
+        go : (getD A i 0 ≡ getD B j 0) × (getD A (i + 1) 0 ≡ getD B (j + 1) 0) × (getD A (i + 2) 0 ≡ getD B (j + 2) 0) × (getD A (i + 3) 0 ≡ getD B (j + 3) 0) → Bytes 4
+        go d zero h = add-zero (d .0)
+        go d (suc zero) h = d .1
+        go d (suc (suc zero)) h = d .2
+        go d (suc (suc (suc zero))) h = d .3
+        go d (suc (suc (suc (suc p)))) h = absurd (omega arith)
 
   module _ (ta : Two A i x) (tb : Two B j y) where
     two-number : Bytes 2 → x ≡ y
-    two-number h = omega (arith, ta .is, tb .is, start-at A B i j (h 0 (omega arith)), h 1 (omega arith))
+    two-number h = omega (arith, ta .is, tb .is, drop-zero (h 0 (omega arith)), h 1 (omega arith))
 
     two-bytes : x ≡ y → Bytes 2
-    two-bytes e zero h = at-start (omega (arith, ta .is, tb .is, ta .low0, ta .low1, tb .low0, tb .low1))
+    two-bytes e zero h = add-zero (omega (arith, ta .is, tb .is, ta .low0, ta .low1, tb .low0, tb .low1))
     two-bytes e (suc zero) h = omega (arith, ta .is, tb .is, ta .low0, ta .low1, tb .low0, tb .low1)
     two-bytes e (suc (suc p)) h = absurd (omega arith)
 

@@ -19,7 +19,7 @@ use Rattle.values.specs.declared.Selected.the-variants.{Value, Stuck}
 use Rattle.values.specs.Layout.{refOf, nodeIn, objectsIn, graphAt, Inside, countIn, Outside, Beneath}
 use Rattle.values.specs.Operations.{Chosen, Leaf}
 use Rattle.values.proofs.ValueRef as RefT
-use Rattle.values.proofs.Nodes.{at-nodes, ref-object, ref-undet, ref-mark}
+use Rattle.values.proofs.Nodes.{some-at, at-nodes, ref-object, ref-undet, ref-mark}
 use Rattle.values.proofs.Walks.{four, four-at}
 use Rattle.values.proofs.Blocks.{no-object, inner-in, whole-at}
 use Rattle.values.proofs.Trees.{select-canon}
@@ -31,11 +31,6 @@ pub under : (b : ℕ) (W W′ : List ℕ) → Outside b W W′ → Beneath b W W
 under b W W′ o = record { same = o .same; below = o .below }
 
 -- ---- an item of a list, if there is one
-get-some : (l : List Ref) (f : ℕ) → f < length l → getElem? l f ≡ some (getD l f undet)
-get-some [] f h = absurd (omega arith)
-get-some (x ∷ l) zero h = refl
-get-some (x ∷ l) (suc f) h = get-some l f (omega arith)
-
 get-none : (l : List Ref) (f : ℕ) → length l ≤ f → getElem? l f ≡ none
 get-none [] f h = refl
 get-none (x ∷ l) zero h = absurd (omega arith)
@@ -74,7 +69,7 @@ module _ (W : List ℕ) (b i f : ℕ) (ob : Inside W b i) where
     field-at : getElem? (refsAt (objectsIn W b) i) f ≡ some (refOf (getD W (at + 2 + f) 0))
     field-at =
         let e6 : 6 * (40 * b + i) + 2 + f ≡ at + 2 + f = omega arith in
-        get-some (refsAt (objectsIn W b) i) f (omega (arith, length-refs))
+        some-at (refsAt (objectsIn W b) i) f (omega (arith, length-refs))
         ∙ ap some (ap (λ (l : List Ref). getD l f undet) refs-at
         ∙ getD-take (getD W (at + 1) 0) (four W (40 * b + i)) f undet hf
         ∙ four-at W (40 * b + i) f (omega (arith, count-four))
