@@ -15,15 +15,10 @@ use Rattle.cofj.proofs.Canon.{rename-id}
 use Rattle.cofj.proofs.Operations.{AllWhole}
 use Rattle.values.specs.Layout.{Distinct}
 use Rattle.values.specs.Adding.{roots}
-use Rattle.values.proofs.Trees.{made-as}
+use Rattle.values.proofs.Trees.{in-larger, made-as}
 
 abbrev pub more : List Node → Node → List Node
 more ns top = ns ++ (top ∷ [])
-
-in-more : (n : ℕ) (r : Ref) → InRange n r → InRange (n + 1) r
-in-more n (obj i) h = omega arith
-in-more n (mark k) h = tt
-in-more n undet h = tt
 
 module _ (top : Node) (ns : List Node)
     (inner : (i f : ℕ) (r : Ref) → getElem? (refsAt ns i) f ≡ some r → InRange (length ns) r)
@@ -44,11 +39,11 @@ module _ (top : Node) (ns : List Node)
   inner-more i f r e = subst (λ (k : ℕ). InRange k r) (sym size-more) (go (decLt i (length ns)) (decLt (length ns) i))
     where
       go : Dec (i < length ns) → Dec (length ns < i) → InRange (length ns + 1) r
-      go (yes h) d = in-more (length ns) r (inner i f r (sym (ap (λ (x : Node). getElem? (x .refs) f) (at-old i h)) ∙ e))
+      go (yes h) d = in-larger (length ns) (length ns + 1) r (omega arith) (inner i f r (sym (ap (λ (x : Node). getElem? (x .refs) f) (at-old i h)) ∙ e))
       go (no h) (yes l) = absurd (Option·none-ne-some r (sym (ap (λ (x : Node). getElem? (x .refs) f) (at-after i l)) ∙ e))
       go (no h) (no l) =
           let z : i ≡ length ns = omega (arith, h, l) in
-          in-more (length ns) r (above f r (sym (ap (λ (x : Node). getElem? (x .refs) f) (ap (nodeAt (more ns top)) z ∙ at-new)) ∙ e))
+          in-larger (length ns) (length ns + 1) r (omega arith) (above f r (sym (ap (λ (x : Node). getElem? (x .refs) f) (ap (nodeAt (more ns top)) z ∙ at-new)) ∙ e))
 
   -- ---- trees
   inside : (r : Ref) → InRange (length ns) r → (k : ℕ) (r′ : Ref) → child ns r k ≡ some r′ → InRange (length ns) r′

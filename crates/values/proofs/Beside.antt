@@ -18,14 +18,18 @@ use Rattle.values.specs.declared.ValueRef.{ValueRef}
 use Rattle.values.specs.declared.ValueRef.the-variants.{Object, Mark, Undetermined}
 use Rattle.values.specs.declared.Slot.{Slot}
 use Rattle.values.specs.declared.Made.the-variants.{Value}
-use Rattle.values.specs.Layout.{refOf, nodeIn, nodesIn, Packed, part, Distinct, Block, Inside, objectsIn, graphAt, countIn, levelIn, valueOf, rawOf, Holds, HeldBy}
+use Rattle.values.specs.Tests.{any}
+use Rattle.values.specs.Layout.{refOf, nodeIn, nodesIn, Packed, part, Distinct, Block, Inside, objectsIn, graphAt, countIn, levelIn, valueOf, rawOf, Holds}
+use Rattle.values.specs.Tables.{Carried}
 use Rattle.values.specs.Numbers.{Levels}
 use Rattle.values.specs.Operations.{Gives, Copied}
 use Rattle.values.specs.Laying.{valuesFrom, rawsFrom, PartsHeld, MadeIs}
-use Rattle.values.specs.Adding.{roots, RootObject, Missed, Found, Appended, Added, isObject, In, Stands, partOf, Beside, Together, Leaves, First}
+use Rattle.values.specs.Adding.{roots, RootObject, Missed, Found, Appended, Added, isObject, standsIn, partOf, allStand, Leaves, First}
 use Rattle.values.proofs.Nodes.{length-nodes, at-nodes, more-nodes, nodes-same, node-same, packed-same, eq-node, ref-object, ref-undet, ref-mark}
 use Rattle.values.proofs.Walks.{four, four-at}
-use Rattle.values.proofs.Blocks.{size-in}
+use Rattle.values.proofs.Tests.{not-true, not-false, any-there, any-not, any-more}
+use Rattle.values.proofs.Trees.{in-larger, leaf-same}
+use Rattle.values.proofs.Blocks.{held-inside, held-block, size-in}
 use Rattle.values.proofs.Selecting.{under}
 use Rattle.values.proofs.Lays.{fresh, fresh-class, fresh-count, fresh-spare, none-slot, raws-whole, made-raw}
 use Rattle.values.proofs.Adding.{more, inner-more, distinct-more, Fit, AllFit, roots-low, top, make-found, make-new}
@@ -33,7 +37,7 @@ use Rattle.values.proofs.Adding.{more, inner-more, distinct-more, Fit, 
 -- ---- the new object
 module _ (W : List ℕ) (r : ValueRef) where
   pub code-object : (b i : ℕ) → Holds W r → r ≡ Object b i → refOf i ≡ rawOf W r .root
-  code-object b i h e = let ob : Inside W b i = subst (HeldBy W) e (h .held) in rw e (ref-object i (omega (arith, ob .low, ob .block .small)))
+  code-object b i h e = let ob : Inside W b i = held-inside W r b i h e in rw e (ref-object i (omega (arith, ob .low, ob .block .small)))
 
   pub code-mark : (k : ℕ) → r ≡ Mark k → refOf (193 + k) ≡ rawOf W r .root
   code-mark k e = rw e (ref-mark k)
@@ -143,63 +147,60 @@ leaves-more ps i v r l ev er e = record { leaf = λ j h. go j h (ℕ-discrete j 
 pub leaves-all : (ps : List Slot) (n f : ℕ) → First ps n f → n ≤ f → Leaves ps n
 leaves-all ps n f a h = record { leaf = λ j k. a .before .leaf j (omega arith) }
 
-pub stands-here : (b : ℕ) (v : ValueRef) (x i : ℕ) → v ≡ Object x i → Stands b v (eqb x b)
-stands-here b v x i e = record { says = λ q. rw e (eqb-true x b q) }
+pub stands-here : (b : ℕ) (v : ValueRef) (x i : ℕ) → v ≡ Object x i → eqb x b ≡ standsIn b v
+unfolding standsIn
+stands-here b v x i e = rw e
 
-pub stands-mark : (b : ℕ) (v : ValueRef) (k : ℕ) → v ≡ Mark k → Stands b v true
-stands-mark b v k e = record { says = λ _. rw e tt }
+pub stands-mark : (b : ℕ) (v : ValueRef) (k : ℕ) → v ≡ Mark k → true ≡ standsIn b v
+unfolding standsIn
+stands-mark b v k e = rw e
 
-pub stands-undet : (b : ℕ) (v : ValueRef) → v ≡ Undetermined → Stands b v true
-stands-undet b v e = record { says = λ _. rw e tt }
+pub stands-undet : (b : ℕ) (v : ValueRef) → v ≡ Undetermined → true ≡ standsIn b v
+unfolding standsIn
+stands-undet b v e = rw e
 
 module _ (ps : List Slot) (n b : ℕ) where
-  pub each-none : Beside ps 0 b
-  each-none = record { each = λ i h. absurd (omega arith) }
+  abbrev apart : ℕ → Bool
+  apart i = not (standsIn b (partOf ps i))
 
-  pub each-more : (i : ℕ) (v : ValueRef) (r : Bool) → Beside ps i b → v ≡ partOf ps i → Stands b v r → not r ≡ false → Beside ps (i + 1) b
-  each-more i v r a ev s e = record { each = λ j h. go j h (ℕ-discrete j i) }
-    where
-      back : (x : Bool) → not x ≡ false → x ≡ true
-      back true q = refl
-      back false q = absurd (false≢true (sym q))
+  pub each-none : allStand ps 0 b ≡ true
+  unfolding allStand any
+  each-none = refl
 
-      go : (j : ℕ) → j < i + 1 → Dec (j ≡ i) → In b (partOf ps j)
-      go j h (yes z) = rw z (subst (In b) ev (s .says (back r e)))
-      go j h (no z) = a .each j (omega (arith, z))
+  module _ (i : ℕ) (v : ValueRef) (r : Bool) (ev : v ≡ partOf ps i) (er : r ≡ standsIn b v) where
+    answer : apart i ≡ not r
+    answer = ap (λ (u : ValueRef). not (standsIn b u)) (sym ev) ∙ ap not (sym er)
 
-  pub together-not : Together ps n b false
-  together-not = record { says = λ e. absurd (false≢true e) }
+    pub each-more : allStand ps i b ≡ true → not r ≡ false → allStand ps (i + 1) b ≡ true
+    unfolding allStand
+    each-more a e = ap not (any-more apart i (not-true _ a) (answer ∙ e))
 
-  pub together-all : (i : ℕ) → Beside ps i b → n ≤ i → Together ps n b true
-  together-all i a h = record { says = λ _. record { each = λ j k. a .each j (omega arith) } }
+    pub together-not : i < n → not r ≡ true → false ≡ allStand ps n b
+    unfolding allStand
+    together-not h e = sym (ap not (any-there apart n i h (answer ∙ e)))
+
+  pub together-all : (i : ℕ) → allStand ps i b ≡ true → i ≤ n → n ≤ i → true ≡ allStand ps n b
+  together-all i a h l = let e : i ≡ n = omega arith in sym (rw e at a)
+
+  stands-at : allStand ps n b ≡ true → (i : ℕ) → i < n → standsIn b (partOf ps i) ≡ true
+  unfolding allStand
+  stands-at a i h = not-false _ (any-not apart n i (not-true _ a) h)
 
   pub first-block : (W : List ℕ) (f : ℕ) (v : ValueRef) (i : ℕ) → PartsHeld W ps n → f < n → v ≡ partOf ps f → v ≡ Object b i → Block W b
-  first-block W f v i held h ev e = let ob : Inside W b i = subst (HeldBy W) (sym ev ∙ e) (held .part f h .held) in ob .block
-
-  pub together-beside : (r : Bool) → Together ps n b r → r ≡ true → Beside ps n b
-  together-beside r t e = t .says e
+  first-block W f v i held h ev e = held-block W (partOf ps f) b i (held .part f h) (sym ev ∙ e)
 
 -- ---- the values of the parts, among the objects
-leaf-fit : (ns : List Node) (s : Ref) → ((i : ℕ) → s ≡ obj i → ⊥) → Fit ns (graph s [])
-leaf-fit ns (obj i) free = absurd (free i refl)
-leaf-fit ns (mark k) free = record { low = tt; tree = λ p. go p }
-  where
-    go : (p : List ℕ) → follow ns (mark k) p ≡ follow [] (mark k) p
-    go [] = refl
-    go (f ∷ p) = refl
-leaf-fit ns undet free = record { low = tt; tree = λ p. go p }
-  where
-    go : (p : List ℕ) → follow ns undet p ≡ follow [] undet p
-    go [] = refl
-    go (f ∷ p) = refl
+leaf-fit : (ns : List Node) (s : Ref) → InRange 0 s → Fit ns (graph s [])
+leaf-fit ns s h = record { low = in-larger 0 (length ns) s (omega arith) h; tree = leaf-same ns [] s h }
 
-value-fit : (W : List ℕ) (b : ℕ) → Block W b → (r : ValueRef) → Holds W r → In b r → Fit (objectsIn W b) (rawOf W r)
+value-fit : (W : List ℕ) (b : ℕ) → Block W b → (r : ValueRef) → Holds W r → standsIn b r ≡ true → Fit (objectsIn W b) (rawOf W r)
+unfolding standsIn
 value-fit W b bk (Object x i) h e = record {
-  low = omega (arith, size-in W b bk, h .held .low, ap (countIn W) e);
-  tree = λ p. ap (λ (y : ℕ). follow (objectsIn W y) (obj i) p) (sym e);
+  low = omega (arith, size-in W b bk, h .held .low, ap (countIn W) (eqb-true x b e));
+  tree = λ p. ap (λ (y : ℕ). follow (objectsIn W y) (obj i) p) (sym (eqb-true x b e));
 }
-value-fit W b bk (Mark k) h e = leaf-fit _ (mark k) (λ i z. let q : _≡_ {A = ℕ} 0 1 = cc in omega arith)
-value-fit W b bk Undetermined h e = leaf-fit _ undet (λ i z. let q : _≡_ {A = ℕ} 0 1 = cc in omega arith)
+value-fit W b bk (Mark k) h e = leaf-fit _ (mark k) tt
+value-fit W b bk Undetermined h e = leaf-fit _ undet tt
 
 all-fit : (W : List ℕ) (ns : List Node) (n : ℕ) (ps : List Slot) → ((i : ℕ) → i < n → Fit ns (rawOf W (partOf ps i))) → AllFit ns (map (λ s. rawOf W (s .r)) (take n ps))
 all-fit W ns zero ps h = tt
@@ -207,41 +208,17 @@ all-fit W ns (suc n) [] h = tt
 all-fit W ns (suc n) (s ∷ ps) h = (h 0 (omega arith), all-fit W ns n ps (λ i l. h (suc i) (omega arith)))
 
 -- ---- the object written after the others
-pub record Appending (W : List ℕ) (to : ℕ) (T : List ℕ) (k : ℕ) (D : List ℕ) : Type 0 where
-  pub same : length D ≡ length W
-  pub here : (j : ℕ) → j < k → getD D (to + j) 0 ≡ getD T j 0
-  pub below : (p : ℕ) → p < to → getD D p 0 ≡ getD W p 0
-  pub above : (p : ℕ) → to + 6 ≤ p → getD D p 0 ≡ getD W p 0
-
-pub append-none : (W : List ℕ) (to : ℕ) (T : List ℕ) → Appending W to T 0 W
-append-none W to T = record { same = refl; here = λ j h. absurd (omega arith); below = λ p h. refl; above = λ p h. refl }
-
-module _ (W : List ℕ) (dst t : ℕ) (T : List ℕ) (k : ℕ) (D : List ℕ) (a : Appending W (240 * dst + 6 * t) T k D) (few : t ≤ 31) (room : 240 * dst + 240 ≤ length W) where
-  abbrev to : ℕ
-  to = 240 * dst + 6 * t
-
-  pub append-more : k < 6 → Appending W to T (k + 1) (set D (to + k) (getD T k 0))
-  append-more h = record {
-    same = length-set D (to + k) _ ∙ a .same;
-    here = λ j l. go j l (ℕ-discrete j k);
-    below = λ p l. getD-set-other D (to + k) p _ 0 (λ z. omega arith) ∙ a .below p l;
-    above = λ p l. getD-set-other D (to + k) p _ 0 (λ z. omega arith) ∙ a .above p l;
-  }
-    where
-      go : (j : ℕ) → j < k + 1 → Dec (j ≡ k) → getD (set D (to + k) (getD T k 0)) (to + j) 0 ≡ getD T j 0
-      go j l (yes z) = rw z (getD-set-same D (to + k) _ 0 (omega (arith, a .same)))
-      go j l (no z) = getD-set-other D (to + k) (to + j) _ 0 (λ y. z (omega arith)) ∙ a .here j (omega (arith, z))
-
-  pub append-done : (l : ℕ) → 6 ≤ k → Appended W dst t T l (set (set D (240 * dst + 192) (t + 1)) (240 * dst + 193) l)
+module _ (W : List ℕ) (dst t : ℕ) (T : List ℕ) (D : List ℕ) (a : Carried T 0 W (240 * dst + 6 * t) 6 D) (few : t ≤ 31) (room : 240 * dst + 240 ≤ length W) where
+  pub append-done : (l : ℕ) → Appended W dst t T l (set (set D (240 * dst + 192) (t + 1)) (240 * dst + 193) l)
   unfolding countIn levelIn
-  append-done l h =
+  append-done l =
       let byte : (p : ℕ) → ((p ≡ 240 * dst + 192) → ⊥) → ((p ≡ 240 * dst + 193) → ⊥) → getD (set (set D (240 * dst + 192) (t + 1)) (240 * dst + 193) l) p 0 ≡ getD D p 0 = λ p x y.
       getD-set-other (set D (240 * dst + 192) (t + 1)) (240 * dst + 193) p l 0 y ∙ getD-set-other D (240 * dst + 192) p (t + 1) 0 x in
       record {
         count = getD-set-other (set D (240 * dst + 192) (t + 1)) (240 * dst + 193) (240 * dst + 192) l 0 (λ z. omega arith) ∙ getD-set-same D (240 * dst + 192) (t + 1) 0 (omega (arith, a .same));
         level = getD-set-same (set D (240 * dst + 192) (t + 1)) (240 * dst + 193) l 0 (omega (arith, a .same, length-set D (240 * dst + 192) (t + 1)));
         old = λ q m. byte (240 * dst + q) (λ z. omega arith) (λ z. omega arith) ∙ a .below (240 * dst + q) (omega arith);
-        top = λ j m. byte (240 * dst + 6 * t + j) (λ z. omega arith) (λ z. omega arith) ∙ a .here j (omega arith);
+        top = λ j m. byte (240 * dst + 6 * t + j) (λ z. omega arith) (λ z. omega arith) ∙ a .here j m ∙ ap (λ (x : ℕ). getD T x 0) (let z : 0 + j ≡ j = omega arith in z);
         outside = record {
           same = length-set (set D (240 * dst + 192) (t + 1)) (240 * dst + 193) l ∙ length-set D (240 * dst + 192) (t + 1) ∙ a .same;
           below = λ p m. byte p (λ z. omega arith) (λ z. omega arith) ∙ a .below p (omega arith);
@@ -356,10 +333,10 @@ module _ (W : List ℕ) (c : ℕ) (ps : List Slot) (n : ℕ) (T : List ℕ) (hel
         record { held = record { held = record { block = bk; low = low } }; is = rw (le-leb _ 32 l) (ap some (sym value)); place = omega arith; beneath = under dst W D (ad .outside) }
 
   -- beside the objects of a block
-  module _ (b : ℕ) (bk : Block W b) (bs : Beside ps n b) where
+  module _ (b : ℕ) (bk : Block W b) (bs : allStand ps n b ≡ true) where
     fits : AllFit (objectsIn W b) gs
     unfolding rawsFrom
-    fits = all-fit W (objectsIn W b) n ps (λ i h. value-fit W b bk (partOf ps i) (held .part i h) (bs .each i h))
+    fits = all-fit W (objectsIn W b) n ps (λ i h. value-fit W b bk (partOf ps i) (held .part i h) (stands-at ps n b bs i h))
 
     module _ (k : ℕ) (fd : Found W b (getD W (240 * b + 192) 0) T k) where
       pub beside-found : k < getD W (240 * b + 192) 0 → (dst : ℕ) (W′ : List ℕ) (o : ValueRef) → Gives W dst W′ o (valueOf W (Object b k)) → MadeIs W (make c (valuesFrom W ps 0 n)) dst W′ (Value o)
@@ -384,8 +361,8 @@ module _ (W : List ℕ) (c : ℕ) (ps : List Slot) (n : ℕ) (T : List ℕ) (hel
   module _ (lv : Leaves ps n) where
     alone-fit : (r : ValueRef) → isObject r ≡ false → Fit [] (rawOf W r)
     alone-fit (Object b i) e = absurd (false≢true (sym e))
-    alone-fit (Mark k) e = leaf-fit [] (mark k) (λ i z. let q : _≡_ {A = ℕ} 0 1 = cc in omega arith)
-    alone-fit Undetermined e = leaf-fit [] undet (λ i z. let q : _≡_ {A = ℕ} 0 1 = cc in omega arith)
+    alone-fit (Mark k) e = leaf-fit [] (mark k) tt
+    alone-fit Undetermined e = leaf-fit [] undet tt
 
     alone-fits : AllFit [] gs
     unfolding rawsFrom

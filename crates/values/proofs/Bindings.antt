@@ -4,7 +4,7 @@ use Prim.Native.Nat.{ℕ, zero, suc, _+_, _-_, _*_, _<_, _≤_}
 use native.Mathlib.Omega.{arith}
 use native.Mathlib.Decide.{decLt, ℕ-discrete}
 use mathlib.Core.Path.{_≡_, refl, sym, ap, ap₂, _∙_, subst}
-use mathlib.Core.Bool.{Bool, true, false, not, false≢true, true≢false}
+use mathlib.Core.Bool.{Bool, true, false, not, false≢true}
 use mathlib.Core.List.{List, [], _∷_, map}
 use mathlib.Core.Option.{Option, none, some, Option·none-ne-some}
 use lib.Dec.{eqb}
@@ -20,24 +20,18 @@ use Rattle.cofj.proofs.Unique.{canon-canon}
 use Rattle.cofj.proofs.Operations.{boundNode, boundNodes, followBound, bound-follow, bound-whole}
 use Rattle.values.specs.declared.ValueRef.{ValueRef}
 use Rattle.values.specs.declared.ValueRef.the-variants.{Object}
-use Rattle.values.specs.Layout.{refOf, codeOf, nodeIn, nodesIn, Packed, Distinct, Block, Inside, objectsIn, graphAt, countIn, levelIn}
+use Rattle.values.specs.Tests.{any}
+use Rattle.values.specs.Layout.{refOf, codeOf, nodeIn, nodesIn, Packed, alikeAt, Distinct, Block, Inside, objectsIn, graphAt, countIn, levelIn}
+use Rattle.values.specs.Tables.{Carried}
 use Rattle.values.specs.Rounds.{Raw}
 use Rattle.values.specs.Numbers.{Levels, Ready, Placed, Has, graphIn}
 use Rattle.values.specs.Operations.{Gives}
-use Rattle.values.specs.Binding.{boundCode, boundByte, ObjectBound, ObjectsBound, Bound, FreeOf, ReferTest, Unreferred, UnreferredTest, LikeTest, OtherField, Leads, DifferTest, OtherTest, OnlyOne, OnlyTest, DistinctTest, Rooted, Written}
-use Rattle.values.proofs.Nodes.{byteOf, packed-byte, packed-same, nodes-same, length-nodes, at-nodes, AllPacked, ref-object, ref-undet, ref-mark}
-use Rattle.values.proofs.Steps.{some-at, is-object, object-low}
+use Rattle.values.specs.Binding.{boundCode, boundByte, ObjectBound, ObjectsBound, Bound, refersTo, noneRefer, OtherField, Leads, DifferTest, UnlikeTest, UnlikeOthers, OthersTest, DistinctTest, Rooted}
+use Rattle.values.proofs.Nodes.{some-at, at-some, byteOf, packed-byte, packed-same, nodes-same, length-nodes, at-nodes, AllPacked, alike-yes, alike-no, ref-object, ref-undet, ref-mark}
+use Rattle.values.proofs.Tests.{not-true, not-false, any-there, any-not, any-more, any-none}
+use Rattle.values.proofs.Steps.{leaf-codes, is-object, object-low}
 use Rattle.values.proofs.Blocks.{size-in, whole-at}
-use Rattle.values.proofs.Trees.{close-canon}
-
--- ---- a test turned round
-not-true : (r : Bool) → not r ≡ true → r ≡ false
-not-true true e = absurd (false≢true e)
-not-true false e = refl
-
-not-false : (r : Bool) → not r ≡ false → r ≡ true
-not-false true e = refl
-not-false false e = absurd (true≢false e)
+use Rattle.values.proofs.Trees.{in-larger, close-canon}
 
 -- ---- a mark bound
 module _ (x i k : ℕ) where
@@ -339,66 +333,75 @@ module _ (S : List ℕ) (base n : ℕ) (pk : AllPacked S base n) (x : ℕ) (hx :
 
 -- ---- whether an object refers to another
 module _ (W : List ℕ) (p i : ℕ) where
-  pub refer-yes : ReferTest W p i true
-  refer-yes = record { no = λ z. absurd (true≢false z) }
+  abbrev is : ℕ → Bool
+  is f = eqb (getD W (p + 2 + f) 0) i
 
-  pub refer-last : ((getD W (p + 2) 0 ≡ i) → ⊥) → ((getD W (p + 3) 0 ≡ i) → ⊥) → ((getD W (p + 4) 0 ≡ i) → ⊥) → ReferTest W p i (eqb (getD W (p + 5) 0) i)
-  refer-last h2 h3 h4 = record { no = λ z. record { codes = codes z } }
+  refer-at : (f a : ℕ) → f < 4 → p + 2 + f ≡ a → getD W a 0 ≡ i → true ≡ refersTo W p i
+  unfolding refersTo
+  refer-at f a h z e = sym (any-there is 4 f h (eq-eqb _ _ (ap (λ (k : ℕ). getD W k 0) z ∙ e)))
+
+  pub refer-first : getD W (p + 2) 0 ≡ i → true ≡ refersTo W p i
+  refer-first = refer-at 0 (p + 2) (omega arith) (omega arith)
+
+  pub refer-second : getD W (p + 3) 0 ≡ i → true ≡ refersTo W p i
+  refer-second = refer-at 1 (p + 3) (omega arith) (omega arith)
+
+  pub refer-third : getD W (p + 4) 0 ≡ i → true ≡ refersTo W p i
+  refer-third = refer-at 2 (p + 4) (omega arith) (omega arith)
+
+  pub refer-last : ((getD W (p + 2) 0 ≡ i) → ⊥) → ((getD W (p + 3) 0 ≡ i) → ⊥) → ((getD W (p + 4) 0 ≡ i) → ⊥) → eqb (getD W (p + 5) 0) i ≡ refersTo W p i
+  unfolding refersTo
+  refer-last h2 h3 h4 = go (eqb (getD W (p + 5) 0) i) refl
     where
-      at : (f a : ℕ) → p + 2 + f ≡ a → ((getD W a 0 ≡ i) → ⊥) → (getD W (p + 2 + f) 0 ≡ i) → ⊥
-      at f a e h q = h (ap (λ (k : ℕ). getD W k 0) (sym e) ∙ q)
+      at : (f a : ℕ) → p + 2 + f ≡ a → ((getD W a 0 ≡ i) → ⊥) → is f ≡ false
+      at f a e h = ne-eqb _ _ (λ q. h (ap (λ (k : ℕ). getD W k 0) (sym e) ∙ q))
 
-      codes : eqb (getD W (p + 5) 0) i ≡ false → (f : ℕ) → f < 4 → getD W (p + 2 + f) 0 ≡ i → ⊥
+      codes : eqb (getD W (p + 5) 0) i ≡ false → (f : ℕ) → f < 4 → is f ≡ false
       codes z zero h = at 0 (p + 2) (omega arith) h2
       codes z (suc zero) h = at 1 (p + 3) (omega arith) h3
       codes z (suc (suc zero)) h = at 2 (p + 4) (omega arith) h4
       codes z (suc (suc (suc zero))) h = at 3 (p + 5) (omega arith) (eqb-false _ _ z)
       codes z (suc (suc (suc (suc f)))) h = absurd (omega arith)
 
+      go : (r : Bool) → eqb (getD W (p + 5) 0) i ≡ r → r ≡ refersTo W p i
+      go true z = refer-at 3 (p + 5) (omega arith) (omega arith) (eqb-true _ _ z)
+      go false z = sym (any-none is 4 (codes z))
+
+  refer-not : refersTo W p i ≡ false → (f : ℕ) → f < 4 → getD W (p + 2 + f) 0 ≡ i → ⊥
+  unfolding refersTo
+  refer-not z f h = eqb-false _ _ (any-not is 4 f z h)
+
 module _ (W : List ℕ) (b i : ℕ) where
-  pub free-none : Unreferred W b 0 i
-  free-none = record { free = λ j h. absurd (omega arith) }
+  abbrev refers : ℕ → Bool
+  refers k = refersTo W (240 * b + 6 * k) i
 
-  pub free-more : (j : ℕ) (r : Bool) → Unreferred W b j i → ReferTest W (240 * b + 6 * j) i r → r ≡ false → Unreferred W b (j + 1) i
-  free-more j r u t e = record { free = λ k h. go k h (ℕ-discrete k j) }
-    where
-      go : (k : ℕ) → k < j + 1 → Dec (k ≡ j) → FreeOf W (240 * b + 6 * k) i
-      go k h (yes z) = rw z (t .no e)
-      go k h (no z) = u .free k (omega (arith, z))
+  pub free-none : noneRefer W b 0 i ≡ true
+  unfolding noneRefer any
+  free-none = refl
 
-  pub free-not : (n : ℕ) → UnreferredTest W b n i false
-  free-not n = record { yes = λ z. absurd (false≢true z) }
+  module _ (k : ℕ) (r : Bool) (er : r ≡ refersTo W (240 * b + 6 * k) i) where
+    pub free-more : noneRefer W b k i ≡ true → r ≡ false → noneRefer W b (k + 1) i ≡ true
+    unfolding noneRefer
+    free-more u e = ap not (any-more refers k (not-true _ u) (sym er ∙ e))
 
-  pub free-all : (j n : ℕ) → Unreferred W b j i → j ≤ n → n ≤ j → UnreferredTest W b n i true
-  free-all j n u h k = let e : j ≡ n = omega arith in record { yes = λ z. rw e at u }
+    pub free-not : (n : ℕ) → k < n → r ≡ true → false ≡ noneRefer W b n i
+    unfolding noneRefer
+    free-not n h e = sym (ap not (any-there refers n k h (sym er ∙ e)))
+
+  pub free-all : (k n : ℕ) → noneRefer W b k i ≡ true → k ≤ n → n ≤ k → true ≡ noneRefer W b n i
+  free-all k n u h l = let e : k ≡ n = omega arith in sym (rw e at u)
+
+  free-code : (n : ℕ) → noneRefer W b n i ≡ true → (j : ℕ) → j < n → (f : ℕ) → f < 4 → getD W (240 * b + 6 * j + 2 + f) 0 ≡ i → ⊥
+  unfolding noneRefer
+  free-code n u j h = refer-not W (240 * b + 6 * j) i (any-not refers n j (not-true _ u) h)
 
 -- ---- two objects side by side
 module _ (R : List ℕ) (x y : ℕ) where
-  pub like-not : ((getD R (6 * x) 0 ≡ getD R (6 * y) 0) → ⊥) → LikeTest R x y false
-  like-not d = record { yes = λ z. absurd (false≢true z); no = λ _ a. d (a .cls) }
-
-  pub like-by-count : getD R (6 * x) 0 ≡ getD R (6 * y) 0 → LikeTest R x y (eqb (getD R (6 * x + 1) 0) (getD R (6 * y + 1) 0))
-  like-by-count e = record { yes = λ z. record { cls = e; count = eqb-true _ _ z }; no = λ z a. eqb-false _ _ z (a .count) }
-
   pub other-here : (f : ℕ) → ((getD R (6 * x + 2 + f) 0 ≡ getD R (6 * y + 2 + f) 0) → ⊥) → OtherField R x y f
   other-here f h = record { other = λ _. h }
 
   pub other-none : OtherField R x y 4
   other-none = record { other = λ h. absurd (omega arith) }
-
-leaf-codes : (ns : List Node) (r s : Ref) → InRange 192 r → Same ns r ns s → 192 ≤ codeOf r → codeOf r ≡ codeOf s
-leaf-codes ns (obj a) s hr e h = absurd (omega arith)
-leaf-codes ns (mark k) (obj b) hr e h = let z : some (opened k) ≡ some (object _ _) = e [] in cc
-leaf-codes ns (mark k) (mark l) hr e h = let z : some (opened k) ≡ some (opened l) = e [] in let q : k ≡ l = cc in omega arith
-leaf-codes ns (mark k) undet hr e h = let z : some (opened k) ≡ some unknown = e [] in cc
-leaf-codes ns undet (obj b) hr e h = let z : some unknown ≡ some (object _ _) = e [] in cc
-leaf-codes ns undet (mark l) hr e h = let z : some unknown ≡ some (opened l) = e [] in cc
-leaf-codes ns undet undet hr e h = refl
-
-range-up : (n : ℕ) (r : Ref) → n ≤ 192 → InRange n r → InRange 192 r
-range-up n (obj i) h l = omega arith
-range-up n (mark k) h l = tt
-range-up n undet h l = tt
 
 module _ (R : List ℕ) (n i k : ℕ) where
   pub differ-start : i < n → k < n → Leads R n i k i k
@@ -430,15 +433,15 @@ module _ (R : List ℕ) (n i k : ℕ) where
     spare-at x h f l m = let z : 6 * x + 2 + f ≡ 6 * x + (2 + f) = omega arith in rw z (raw .packed x h .spare (2 + f) (omega arith) (omega arith))
 
     module _ (x y : ℕ) (ld : Leads R n i k x y) where
-      pub differ-unlike : (r : Bool) → LikeTest R x y r → not r ≡ true → DifferTest R n i k true
+      pub differ-unlike : (r : Bool) → r ≡ alikeAt R (6 * x) (6 * y) → not r ≡ true → DifferTest R n i k true
       differ-unlike r t z = record {
-        yes = λ _ e. t .no (not-true r z) (record {
+        yes = λ _ e. alike-no R (6 * x) (6 * y) r t (not-true r z) (record {
           cls = cls-at x (ld .first) ∙ same-cls ns ns x y (ld .leads e) ∙ sym (cls-at y (ld .second));
           count = count-at x (ld .first) ∙ same-count ns ns x y (ld .leads e) ∙ sym (count-at y (ld .second));
         });
       }
 
-      module _ (u : Bool) (t : LikeTest R x y u) (zu : not u ≡ false) (f : ℕ) (o : OtherField R x y f) (hf : f < 4) where
+      module _ (u : Bool) (t : u ≡ alikeAt R (6 * x) (6 * y)) (zu : not u ≡ false) (f : ℕ) (o : OtherField R x y f) (hf : f < 4) where
         abbrev a : ℕ
         a = getD R (6 * x + 2 + f) 0
 
@@ -446,7 +449,7 @@ module _ (R : List ℕ) (n i k : ℕ) where
         c = getD R (6 * y + 2 + f) 0
 
         en : getD R (6 * x + 1) 0 ≡ getD R (6 * y + 1) 0
-        en = t .yes (not-false u zu) .count
+        en = alike-yes R (6 * x) (6 * y) u t (not-false u zu) .count
 
         field-low : f < getD R (6 * x + 1) 0
         field-low = go (decLt f (getD R (6 * x + 1) 0))
@@ -477,10 +480,10 @@ module _ (R : List ℕ) (n i k : ℕ) where
         children e = same-child ns ns (obj x) (obj y) (ld .leads e) f r s (some-at (refsAt ns x) f low-x) (some-at (refsAt ns y) f low-y)
 
         pub differ-first : 192 ≤ a → DifferTest R n i k true
-        differ-first h = record { yes = λ _ e. o .other hf (ea ∙ leaf-codes ns r s (range-up n r (raw .few) (range-at x f low-x)) (children e) (omega (arith, ea)) ∙ sym ec) }
+        differ-first h = record { yes = λ _ e. o .other hf (ea ∙ leaf-codes ns ns r s (in-larger n 192 r (raw .few) (range-at x f low-x)) (children e) (omega (arith, ea)) ∙ sym ec) }
 
         pub differ-second : 192 ≤ c → DifferTest R n i k true
-        differ-second h = record { yes = λ _ e. o .other hf (ea ∙ sym (leaf-codes ns s r (range-up n s (raw .few) (range-at y f low-y)) (λ p. sym (children e p)) (omega (arith, ec))) ∙ sym ec) }
+        differ-second h = record { yes = λ _ e. o .other hf (ea ∙ sym (leaf-codes ns ns s r (in-larger n 192 s (raw .few) (range-at y f low-y)) (λ p. sym (children e p)) (omega (arith, ec))) ∙ sym ec) }
 
         pub differ-step : a < 192 → c < 192 → Leads R n i k a c
         differ-step ha hc =
@@ -494,41 +497,36 @@ module _ (R : List ℕ) (n i k : ℕ) where
 
 -- ---- one object and all others
 module _ (R : List ℕ) (n i : ℕ) where
-  pub other-same : (k : ℕ) → k ≡ i → OtherTest R n i k true
-  other-same k e = record { yes = λ _ _. e }
+  pub unlike-same : (k : ℕ) → k ≡ i → UnlikeTest R n i k true
+  unlike-same k e = record { yes = λ _ _. e }
 
-  pub other-differ : (k : ℕ) (r : Bool) → DifferTest R n i k r → OtherTest R n i k r
-  other-differ k r t = record { yes = λ z e. absurd (t .yes z e) }
+  pub unlike-differ : (k : ℕ) (r : Bool) → DifferTest R n i k r → UnlikeTest R n i k r
+  unlike-differ k r t = record { yes = λ z e. absurd (t .yes z e) }
 
-  pub only-none : OnlyOne R n i 0
-  only-none = record { only = λ k h. absurd (omega arith) }
+  pub others-none : UnlikeOthers R n i 0
+  others-none = record { only = λ k h. absurd (omega arith) }
 
-  pub only-more : (k : ℕ) (r : Bool) → OnlyOne R n i k → OtherTest R n i k r → not r ≡ false → OnlyOne R n i (k + 1)
-  only-more k r o t e = record { only = λ j h. go j h (ℕ-discrete j k) }
+  pub others-more : (k : ℕ) (r : Bool) → UnlikeOthers R n i k → UnlikeTest R n i k r → not r ≡ false → UnlikeOthers R n i (k + 1)
+  others-more k r o t e = record { only = λ j h. go j h (ℕ-discrete j k) }
     where
       go : (j : ℕ) → j < k + 1 → Dec (j ≡ k) → Same (nodesIn R 0 n) (obj i) (nodesIn R 0 n) (obj j) → j ≡ i
       go j h (yes z) q = z ∙ t .yes (not-false r e) (subst (λ (l : ℕ). Same (nodesIn R 0 n) (obj i) (nodesIn R 0 n) (obj l)) z q)
       go j h (no z) q = o .only j (omega (arith, z)) q
 
-  pub only-not : OnlyTest R n i false
-  only-not = record { yes = λ z. absurd (false≢true z) }
+  pub others-not : OthersTest R n i false
+  others-not = record { yes = λ z. absurd (false≢true z) }
 
-  pub only-all : (k : ℕ) → OnlyOne R n i k → k ≤ n → n ≤ k → OnlyTest R n i true
-  only-all k o h l = let e : k ≡ n = omega arith in record { yes = λ _. rw e at o }
+  pub others-all : (k : ℕ) → UnlikeOthers R n i k → k ≤ n → n ≤ k → OthersTest R n i true
+  others-all k o h l = let e : k ≡ n = omega arith in record { yes = λ _. rw e at o }
 
 -- ---- the objects stay distinct
-at-some : (rs : List Ref) (k : ℕ) (r : Ref) → getElem? rs k ≡ some r → (getD rs k undet ≡ r) × (k < length rs)
-at-some [] k r e = absurd (Option·none-ne-some r e)
-at-some (x ∷ rs) zero r e = (let z : x ≡ r = cc in z, omega arith)
-at-some (x ∷ rs) (suc k) r e = let p = at-some rs k r e in (p .0, omega (arith, p .1))
-
-module _ (W : List ℕ) (b i : ℕ) (bk : Block W b) (un : Unreferred W b (countIn W b) i) where
+module _ (W : List ℕ) (b i : ℕ) (bk : Block W b) (un : noneRefer W b (countIn W b) i ≡ true) where
   free-at : (j : ℕ) → j < countIn W b → (f : ℕ) (r : Ref) → getElem? (refsAt (objectsIn W b) j) f ≡ some r → r ≡ obj i → ⊥
   unfolding objectsIn
   free-at j h f r e z =
       let g = at-some (refsAt (nodesIn W (240 * b) (countIn W b)) j) f r e in
       let l : f < 4 = omega (arith, g .1, four-fields W (240 * b) (countIn W b) (bk .packed) j h) in
-      un .free j h .codes f l (code-is W (240 * b) (countIn W b) (bk .packed) j h f l ∙ ap codeOf (g .0 ∙ z))
+      free-code W b i (countIn W b) un j h f l (code-is W (240 * b) (countIn W b) (bk .packed) j h f l ∙ ap codeOf (g .0 ∙ z))
 
   free-in : (j f : ℕ) (r : Ref) → getElem? (refsAt (objectsIn W b) j) f ≡ some r → r ≡ obj i → ⊥
   free-in j f r e = go (decLt j (countIn W b))
@@ -540,16 +538,16 @@ module _ (W : List ℕ) (b i : ℕ) (bk : Block W b) (un : Unreferred W b (count
           absurd (Option·none-ne-some r (sym (ap (λ (y : Node). getElem? (y .refs) f) d) ∙ e))
 
 module _ (W : List ℕ) (b i : ℕ) (ob : Inside W b i) (x : ℕ) (R : List ℕ) (n : ℕ) (bd : Bound W b x i R n) where
-  distinct-objects : Unreferred W b n i → OnlyOne R n i n → Distinct (nodesIn R 0 n)
+  distinct-objects : noneRefer W b n i ≡ true → UnlikeOthers R n i n → Distinct (nodesIn R 0 n)
   distinct-objects u o =
       let e : nodesIn R 0 n ≡ boundNodes x i (objectsIn W b) = objects-are W b i ob x R n bd in
       subst Distinct (sym e)
-      (distinct-bound (objectsIn W b) x i (ob .block .whole .inner) (free-in W b i (ob .block) (subst (λ (m : ℕ). Unreferred W b m i) (bd .count) u))
+      (distinct-bound (objectsIn W b) x i (ob .block .whole .inner) (free-in W b i (ob .block) (subst (λ (m : ℕ). noneRefer W b m i ≡ true) (bd .count) u))
       (λ k h q. o .only k (omega (arith, bd .count, size-in W b (ob .block))) (subst (λ (ns : List Node). Same ns (obj i) ns (obj k)) (sym e) q))
       (ob .block .distinct))
 
-  pub stays-distinct : (u r : Bool) → UnreferredTest W b n i u → u ≡ true → OnlyTest R n i r → DistinctTest R n r
-  stays-distinct u r t e o = record { yes = λ z. distinct-objects (t .yes e) (o .yes z) }
+  pub stays-distinct : (u r : Bool) → u ≡ noneRefer W b n i → u ≡ true → OthersTest R n i r → DistinctTest R n r
+  stays-distinct u r t e o = record { yes = λ z. distinct-objects (sym t ∙ e) (o .yes z) }
 
 pub distinct-not : (R : List ℕ) (n : ℕ) → DistinctTest R n false
 distinct-not R n = record { yes = λ z. absurd (false≢true z) }
@@ -558,25 +556,6 @@ pub distinct-yes : (R : List ℕ) (n : ℕ) (r : Bool) → DistinctTest R n r �
 distinct-yes R n r t e = t .yes e
 
 -- ---- the objects written to a block as they are
-module _ (R W : List ℕ) (dst : ℕ) where
-  pub write-none : Written R W dst 0 W
-  write-none = record { same = refl; here = λ k h. absurd (omega arith); below = λ p h. refl; above = λ p h. refl }
-
-  pub write-more : (q p : ℕ) (D : List ℕ) → Written R W dst q D → q < p → p ≤ 192 → 240 * dst + 240 ≤ length W → Written R W dst (q + 1) (set D (240 * dst + q) (getD R q 0))
-  write-more q p D w hq hp room = record {
-    same = length-set D (240 * dst + q) _ ∙ w .same;
-    here = λ k h. go k h (ℕ-discrete k q);
-    below = λ y l. getD-set-other D (240 * dst + q) y _ 0 (λ z. omega arith) ∙ w .below y l;
-    above = λ y l. getD-set-other D (240 * dst + q) y _ 0 (λ z. omega arith) ∙ w .above y (omega arith);
-  }
-    where
-      go : (k : ℕ) → k < q + 1 → Dec (k ≡ q) → getD (set D (240 * dst + q) (getD R q 0)) (240 * dst + k) 0 ≡ getD R k 0
-      go k h (yes z) = rw z (getD-set-same D (240 * dst + q) _ 0 (omega (arith, w .same)))
-      go k h (no z) = getD-set-other D (240 * dst + q) (240 * dst + k) _ 0 (λ y. z (omega arith)) ∙ w .here k (omega (arith, z))
-
-  pub write-done : (q p : ℕ) (D : List ℕ) → Written R W dst q D → q ≤ p → p ≤ q → Written R W dst p D
-  write-done q p D w h k = let e : q ≡ p = omega arith in rw e at w
-
 module _ (R : List ℕ) (n i : ℕ) (W : List ℕ) (dst : ℕ) (rd : Rooted R n i W dst) where
   whole-graph : Whole (graphIn R n i)
   whole-graph = record { top = omega (arith, length-nodes R 0 n, rd .inside); inner = rd .raw .whole .inner }
@@ -584,7 +563,7 @@ module _ (R : List ℕ) (n i : ℕ) (W : List ℕ) (dst : ℕ) (rd : Rooted R n 
   pub rooted-raw : Raw R n
   rooted-raw = rd .raw
 
-  module _ (d : Distinct (nodesIn R 0 n)) (D : List ℕ) (w : Written R W dst (6 * n) D) (l : ℕ) (lv : Levels R 0 (6 * n) l) where
+  module _ (d : Distinct (nodesIn R 0 n)) (D : List ℕ) (w : Carried R 0 W (240 * dst) (6 * n) D) (l : ℕ) (lv : Levels R 0 (6 * n) l) where
     abbrev E : List ℕ
     E = set (set D (240 * dst + 192) n) (240 * dst + 193) l
 
@@ -595,7 +574,7 @@ module _ (R : List ℕ) (n i : ℕ) (W : List ℕ) (dst : ℕ) (rd : Rooted R n 
     same-size = length-set (set D (240 * dst + 192) n) (240 * dst + 193) l ∙ length-set D (240 * dst + 192) n ∙ w .same
 
     written : (p : ℕ) → p < 6 * n → getD E (240 * dst + p) 0 ≡ getD R p 0
-    written p h = kept (240 * dst + p) (λ z. omega (arith, rd .small)) (λ z. omega (arith, rd .small)) ∙ w .here p h
+    written p h = kept (240 * dst + p) (λ z. omega (arith, rd .small)) (λ z. omega (arith, rd .small)) ∙ w .here p h ∙ ap (λ (k : ℕ). getD R k 0) (let z : 0 + p ≡ p = omega arith in z)
 
     size-is : countIn E dst ≡ n
     unfolding countIn

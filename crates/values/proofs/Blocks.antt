@@ -1,26 +1,54 @@
--- Laws of blocks: taken up, moved.
+-- Laws of blocks: held by a reference, taken up, moved.
 use Prim.Native.Nat.{ℕ, _+_, _*_, _<_, _≤_}
 use native.Mathlib.Omega.{arith}
 use mathlib.Core.Path.{_≡_, refl, sym, ap, ap₂, _∙_, subst}
+use mathlib.Core.Logic.{⊎-elim}
 use mathlib.Core.List.{List, [], _∷_, map}
 use mathlib.Core.Option.{some}
 use lib.ListN.{length, getD, take, getElem?}
+use borrow.Author.Tests.{eqb-false}
+use types.Run.{OneOf}
+use denote.Enum.Declared.{tagOf}
 use Rattle.cofj.specs.Values.{Ref, obj, undet, Node, Graph, graph, rename, renameNode, refsAt, colours, canon}
 use Rattle.cofj.specs.Unfolding.{InRange, Whole}
 use Rattle.cofj.specs.ReportForm.{upFrom}
 use Rattle.cofj.proofs.Canon.{node-id, canon-length}
-use Rattle.values.specs.Layout.{nodesIn, Block, Inside, objectsIn, graphAt, countIn}
+use Rattle.values.specs.declared.ValueRef.{ValueRef}
+use Rattle.values.specs.declared.ValueRef.the-variants.{Object, Mark, Undetermined}
+use Rattle.values.specs.Layout.{nodesIn, Block, Inside, objectsIn, graphAt, countIn, Holds, HeldBy}
 use Rattle.values.specs.Tables.{Filled, Lifted}
 use Rattle.values.specs.Rounds.{Raw}
 use Rattle.values.specs.Numbers.{Ready, Placed, Has, graphIn}
 use Rattle.values.specs.Operations.{Taken, Moved}
+use Rattle.values.proofs.ValueRef as RefT
 use Rattle.values.proofs.Nodes.{length-nodes}
 use Rattle.values.proofs.Colouring.{length-up, at-up, distinct-colours}
 use Rattle.values.proofs.Turned.{turnRef, changed, lifted-nodes, lifted-packed, turn-rename, nodes-agree}
 use Rattle.values.proofs.Rounds.{front-is}
 
+-- ---- a reference that stands for an object
+module _ (W : List ℕ) (r : ValueRef) (b i : ℕ) (h : Holds W r) (e : r ≡ Object b i) where
+  pub held-inside : Inside W b i
+  held-inside = subst (HeldBy W) e (h .held)
+
+  pub held-block : Block W b
+  held-block = held-inside .block
+
+  pub held-room : 240 * b + 240 ≤ length W
+  held-room = held-block .room
+
+-- the bytes of an object are there
+pub inside-room : (W : List ℕ) (b i : ℕ) → Inside W b i → 240 * b + 6 * i + 6 ≤ length W
+inside-room W b i ob = omega (arith, ob .block .room, ob .block .small, ob .low)
+
+-- a reference that stands for none is a mark or undetermined
+pub no-object : (P : ValueRef → Type 0) → ((k : ℕ) → P (Mark k)) → P Undetermined → (r : ValueRef) → OneOf (1 ∷ 2 ∷ []) (tagOf RefT.the-type r) → P r
+no-object P m u (Object b i) h = ⊎-elim (λ e. absurd (eqb-false 0 1 refl e)) (λ e. absurd (eqb-false 0 2 refl e)) h
+no-object P m u (Mark k) h = m k
+no-object P m u Undetermined h = u
+
 -- ---- taken up
-pub taken : (W : List ℕ) (b : ℕ) (I R₀ R : List ℕ) → Filled (λ i. 0 + i) (getD W (240 * b + 192) 0) I → Lifted W (240 * b) (6 * getD W (240 * b + 192) 0) I 0 R₀ 0 R
+pub taken : (W : List ℕ) (b : ℕ) (I R₀ R : List ℕ) → Filled (λ i. 0 + i) (getD W (240 * b + 192) 0) I → Lifted W (240 * b) (6 * getD W (240 * b + 192) 0) I R₀ 0 R
     → Taken W b I R₀ R (getD W (240 * b + 192) 0)
 unfolding countIn
 taken W b I R₀ R f l = record { count = refl; ids = f; copy = l }
@@ -54,9 +82,9 @@ module _ (W : List ℕ) (b : ℕ) (bk : Block W b) where
     copied-nodes : nodesIn R 0 n ≡ objectsIn W b
     unfolding objectsIn
     copied-nodes =
-        lifted-nodes W (240 * b) I 0 R₀ 0 R n (tk .copy)
-        ∙ ap (λ (k : ℕ). map (changed (turnRef I 0)) (nodesIn W (240 * b) k)) (tk .count)
-        ∙ nodes-agree (turnRef I 0) (rename (λ i. i)) (InRange (countIn W b))
+        lifted-nodes W (240 * b) I R₀ 0 R n (tk .copy)
+        ∙ ap (λ (k : ℕ). map (changed (turnRef I)) (nodesIn W (240 * b) k)) (tk .count)
+        ∙ nodes-agree (turnRef I) (rename (λ i. i)) (InRange (countIn W b))
         (turn-rename I (countIn W b) (λ i. i) (omega (arith, bk .small)) (λ i h. tk .ids .at i (omega (arith, tk .count)) ∙ omega arith) (λ i h. omega (arith, bk .small)))
         (objectsIn W b) inner-in
         ∙ nodes-id (objectsIn W b)
@@ -70,7 +98,7 @@ module _ (W : List ℕ) (b : ℕ) (bk : Block W b) where
       room = omega (arith, tk .copy .same);
       packed = λ i h.
           let z : 0 + 6 * i ≡ 6 * i = omega arith in
-          rw z at (lifted-packed W (240 * b) I 0 R₀ 0 R n (tk .copy) (λ q. omega arith) (λ j l. bk .packed j (omega (arith, tk .count))) i h);
+          rw z at (lifted-packed W (240 * b) I R₀ 0 R n (tk .copy) (λ j l. bk .packed j (omega (arith, tk .count))) i h);
       whole = whole-copied;
     }
 

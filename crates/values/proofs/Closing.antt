@@ -46,6 +46,3 @@ module _ (W : List ℕ) (x : ℕ) (r : ValueRef) (dst : ℕ) where
   pub close-undet : r ≡ Undetermined → Gives W dst W Undetermined (close x (valueOf W r))
   unfolding close
   close-undet e = record { held = record { held = tt }; is = rw e; place = tt; outside = unchanged dst W }
-
-  pub close-held : (b i : ℕ) → Holds W r → r ≡ Object b i → Inside W b i
-  close-held b i h e = subst (HeldBy W) e (h .held)

@@ -1,28 +1,28 @@
 -- Laws of a block copied as it is, of a value brought down, and of objects in which a mark does not occur.
-use Prim.Native.Nat.{ℕ, zero, suc, _+_, _*_, _<_, _≤_}
+use Prim.Native.Nat.{ℕ, suc, _+_, _*_, _<_, _≤_}
 use native.Mathlib.Omega.{arith}
 use native.Mathlib.Decide.{decLt, ℕ-discrete}
 use mathlib.Core.Path.{_≡_, refl, sym, ap, _∙_, subst}
 use mathlib.Core.Bool.{Bool, true, false}
-use mathlib.Core.Logic.{⊎-elim}
 use types.Run.{OneOf}
 use denote.Enum.Declared.{tagOf}
 use mathlib.Core.List.{List, [], _∷_}
 use mathlib.Core.Option.{some, Option·none-ne-some}
 use lib.ListN.{length, getD, set, getElem?, length-set, List·getD-eq-default}
 use lib.Seq.{getD-set-same, getD-set-other}
-use borrow.Author.Tests.{ne-eqb, eqb-false}
+use borrow.Author.Tests.{ne-eqb}
 use Rattle.cofj.specs.Values.{Ref, obj, mark, undet, Node, node, graph, rename, refsAt, nodeAt, canon, bind}
 use Rattle.cofj.specs.Unfolding.{Whole}
 use Rattle.cofj.proofs.Operations.{boundNodes}
 use Rattle.values.specs.declared.ValueRef.{ValueRef}
-use Rattle.values.specs.declared.ValueRef.the-variants.{Object, Mark, Undetermined}
-use Rattle.values.specs.Layout.{codeOf, nodeIn, nodesIn, Packed, Distinct, Block, Inside, objectsIn, countIn, levelIn, valueOf, Holds, HeldBy, Low}
-use Rattle.values.specs.Operations.{Gives, Copying, Copied}
+use Rattle.values.specs.declared.ValueRef.the-variants.{Object}
+use Rattle.values.specs.Layout.{codeOf, nodeIn, nodesIn, Packed, Distinct, Block, Inside, objectsIn, countIn, levelIn, valueOf, Holds, Low}
+use Rattle.values.specs.Tables.{Carried}
+use Rattle.values.specs.Operations.{Gives, Copied}
 use Rattle.values.proofs.ValueRef as RefT
-use Rattle.values.proofs.Nodes.{byteOf, packed-byte, packed-same, nodes-same, length-nodes, at-nodes}
+use Rattle.values.proofs.Nodes.{at-some, byteOf, packed-byte, packed-same, nodes-same, length-nodes, at-nodes}
 use Rattle.values.proofs.Turned.{nodes-agree}
-use Rattle.values.proofs.Blocks.{nodes-id}
+use Rattle.values.proofs.Blocks.{held-inside, no-object, nodes-id}
 use Rattle.values.proofs.Selecting.{unchanged}
 
 -- the copying of n objects with the level l has come to byte q of p
@@ -30,7 +30,7 @@ pub record CopyLoop (W : List ℕ) (b dst n l p q : ℕ) (D : List ℕ) : Type 0
   pub count : n ≡ getD W (240 * b + 192) 0
   pub level : l ≡ getD W (240 * b + 193) 0
   pub size : p ≡ 6 * n
-  pub copying : Copying W b dst q D
+  pub copying : Carried W (240 * b) W (240 * dst) q D
 
 pub copy-none : (W : List ℕ) (b dst n l p : ℕ) → n ≡ getD W (240 * b + 192) 0 → l ≡ getD W (240 * b + 193) 0 → p ≡ 6 * n → CopyLoop W b dst n l p 0 W
 copy-none W b dst n l p en el ep = record { count = en; level = el; size = ep; copying = record { same = refl; here = λ k h. absurd (omega arith); below = λ y h. refl; above = λ y h. refl } }
@@ -40,7 +40,7 @@ module _ (W : List ℕ) (b dst n l p q : ℕ) (D : List ℕ) (bk : Block W b) (r
   unfolding countIn
   few = bk .small
 
-  cp : Copying W b dst q D
+  cp : Carried W (240 * b) W (240 * dst) q D
   cp = c .copying
 
   pub copy-step : q < p → CopyLoop W b dst n l p (q + 1) (set D (240 * dst + q) (getD D (240 * b + q) 0))
@@ -111,23 +111,15 @@ block-moves W W′ b d en el here room bk =
 -- ---- brought to a block
 module _ (W : List ℕ) (r : ValueRef) (dst : ℕ) (h : Holds W r) where
   pub bring-leaf : OneOf (1 ∷ 2 ∷ []) (tagOf RefT.the-type r) → Gives W dst W r (valueOf W r)
-  bring-leaf o = record { held = h; is = refl; place = go r o; outside = unchanged dst W }
-    where
-      go : (r : ValueRef) → OneOf (1 ∷ 2 ∷ []) (tagOf RefT.the-type r) → Low (dst + 1) r
-      go (Object n i) o = ⊎-elim (λ e. absurd (eqb-false 0 1 refl e)) (λ e. absurd (eqb-false 0 2 refl e)) o
-      go (Mark n) o = tt
-      go Undetermined o = tt
+  bring-leaf o = record { held = h; is = refl; place = no-object (Low (dst + 1)) (λ k. tt) tt r o; outside = unchanged dst W }
 
   module _ (b i : ℕ) (e : r ≡ Object b i) where
-    pub bring-block : Block W b
-    bring-block = let ob : Inside W b i = subst (HeldBy W) e (h .held) in ob .block
-
     pub bring-here : b ≤ dst → Gives W dst W (Object b i) (valueOf W r)
-    bring-here l = record { held = record { held = subst (HeldBy W) e (h .held) }; is = ap (valueOf W) (sym e); place = omega arith; outside = unchanged dst W }
+    bring-here l = record { held = record { held = held-inside W r b i h e }; is = ap (valueOf W) (sym e); place = omega arith; outside = unchanged dst W }
 
     pub bring-copy : (W′ : List ℕ) → 240 * dst + 240 ≤ length W → Copied W b dst W′ → Gives W dst W′ (Object dst i) (valueOf W r)
     bring-copy W′ room c =
-        let ob : Inside W b i = subst (HeldBy W) e (h .held) in
+        let ob : Inside W b i = held-inside W r b i h e in
         let m = block-moves W W′ b dst (c .count) (c .level) (c .here) (omega (arith, c .outside .same)) (ob .block) in
         record {
           held = record { held = record { block = m .1; low = omega (arith, c .count, ob .low) } };
@@ -144,11 +136,6 @@ unfolding countIn
 block-held W b i bk h = record { held = record { block = bk; low = h } }
 
 -- ---- a mark that does not occur
-at-some : (rs : List Ref) (k : ℕ) (r : Ref) → getElem? rs k ≡ some r → (getD rs k undet ≡ r) × (k < length rs)
-at-some [] k r e = absurd (Option·none-ne-some r e)
-at-some (x ∷ rs) zero r e = (let z : x ≡ r = cc in z, omega arith)
-at-some (x ∷ rs) (suc k) r e = let p = at-some rs k r e in (p .0, omega (arith, p .1))
-
 bind-other : (x j : ℕ) (r : Ref) → ((r ≡ mark x) → ⊥) → bind x (obj j) r ≡ rename (λ i. i) r
 bind-other x j (obj i) h = refl
 bind-other x j (mark k) h = ap (λ (t : Bool). elim t as (λ _. Ref) [ true ↦ obj j | false ↦ mark k ]) (ne-eqb k x (λ z. h (ap mark z)))

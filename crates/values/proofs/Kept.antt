@@ -3,12 +3,15 @@ use Prim.Native.Nat.{ℕ, _+_, _*_, _<_, _≤_}
 use native.Mathlib.Omega.{arith}
 use native.Mathlib.Decide.{decLt}
 use mathlib.Core.Path.{_≡_, refl, ap}
+use mathlib.Core.Bool.{false}
 use mathlib.Core.List.{List}
 use lib.ListN.{length, getD}
+use borrow.Author.Tests.{eqb-false}
 use Rattle.cofj.specs.Values.{Node, graph, obj, canon}
 use Rattle.values.specs.declared.ValueRef.{ValueRef}
 use Rattle.values.specs.declared.ValueRef.the-variants.{Object, Mark, Undetermined}
 use Rattle.values.specs.Layout.{Block, objectsIn, countIn, levelIn, valueOf, Holds, Outside}
+use Rattle.values.specs.Merging.{liesIn}
 use Rattle.values.proofs.Copies.{block-moves}
 
 -- a reference still stands for the value that it stood for
@@ -33,17 +36,13 @@ module _ (W W′ : List ℕ) (b : ℕ) (same : length W′ ≡ length W) (byte :
         is = ap (λ (ns : List Node). canon (graph (obj i) ns)) (s .0);
       }
 
-abbrev pub Elsewhere : ℕ → ValueRef → Type 0
-Elsewhere d (Object b i) = (b ≡ d) → ⊥
-Elsewhere d (Mark k) = Unit {0}
-Elsewhere d Undetermined = Unit {0}
-
 -- whoever holds a value in another block still holds it
-pub kept : (d : ℕ) (W W′ : List ℕ) → Outside d W W′ → (r : ValueRef) → Elsewhere d r → Holds W r → Kept W W′ r
+pub kept : (d : ℕ) (W W′ : List ℕ) → Outside d W W′ → (r : ValueRef) → liesIn d r ≡ false → Holds W r → Kept W W′ r
+unfolding liesIn
 kept d W W′ o (Object b i) n h = object-kept W W′ b (o .same) (λ p l m. go p l m (decLt b d)) i h
   where
     go : (p : ℕ) → 240 * b ≤ p → p < 240 * b + 240 → Dec (b < d) → getD W′ p 0 ≡ getD W p 0
     go p l m (yes q) = o .below p (omega arith)
-    go p l m (no q) = o .above p (omega (arith, q, n))
+    go p l m (no q) = o .above p (omega (arith, q, eqb-false b d n))
 kept d W W′ o (Mark k) n h = record { held = record { held = h .held }; is = refl }
 kept d W W′ o Undetermined n h = record { held = record { held = tt }; is = refl }

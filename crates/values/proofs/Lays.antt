@@ -26,13 +26,13 @@ use Rattle.values.specs.Laying.{valuesFrom, rawsFrom, PartsHeld, LaidNod
 use Rattle.values.proofs.Nodes.{length-nodes, nodes-same, packed-same, more-nodes, ref-object, ref-undet, ref-mark}
 use Rattle.values.proofs.Turned.{turnRef, lifted-nodes, lifted-packed, turn-rename, nodes-agree}
 use Rattle.values.proofs.Walks.{four, four-at}
-use Rattle.values.proofs.Blocks.{inner-in, whole-at}
+use Rattle.values.proofs.Blocks.{held-inside, inner-in, whole-at}
 use Rattle.values.proofs.Selecting.{under}
 use Rattle.values.proofs.Trees.{AllSame, same-make}
 
 -- ---- one value
 pub lay-nodes : (W : List ℕ) (b at : ℕ) (T R₀ R : List ℕ) → Block W b → at ≤ 97 → Filled (λ i. at + i) (getD W (240 * b + 192) 0) T
-    → Lifted W (240 * b) (6 * getD W (240 * b + 192) 0) T 0 R₀ (6 * at) R → LaidNodes (objectsIn W b) at R₀ R (getD W (240 * b + 192) 0)
+    → Lifted W (240 * b) (6 * getD W (240 * b + 192) 0) T R₀ (6 * at) R → LaidNodes (objectsIn W b) at R₀ R (getD W (240 * b + 192) 0)
 unfolding objectsIn countIn
 lay-nodes W b at T R₀ R bk h f l =
     let n : ℕ = getD W (240 * b + 192) 0 in
@@ -41,19 +41,16 @@ lay-nodes W b at T R₀ R bk h f l =
       same = l .same;
       count = sym e;
       few = bk .small;
-      nodes = ap (nodesIn R (6 * at)) e ∙ lifted-nodes W (240 * b) T 0 R₀ (6 * at) R n l
-          ∙ nodes-agree (turnRef T 0) (rename (λ k. at + k)) (InRange n)
+      nodes = ap (nodesIn R (6 * at)) e ∙ lifted-nodes W (240 * b) T R₀ (6 * at) R n l
+          ∙ nodes-agree (turnRef T) (rename (λ k. at + k)) (InRange n)
           (turn-rename T n (λ k. at + k) (omega (arith, bk .small)) (f .at) (λ i q. omega (arith, bk .small)))
           (nodesIn W (240 * b) n) (inner-in W b bk);
-      packed = λ j q. lifted-packed W (240 * b) T 0 R₀ (6 * at) R n l (λ z. omega arith) (bk .packed) j (omega (arith, e));
+      packed = λ j q. lifted-packed W (240 * b) T R₀ (6 * at) R n l (bk .packed) j (omega (arith, e));
       kept = λ p q. l .below p q;
     }
 
 pub object-low : (W : List ℕ) (r : ValueRef) (at b j : ℕ) → at ≤ 97 → Holds W r → r ≡ Object b j → at + j < 192
-object-low W r at b j l h e = let ob : Inside W b j = subst (HeldBy W) e (h .held) in omega (arith, ob .low, ob .block .small)
-
-pub object-block : (W : List ℕ) (r : ValueRef) (b j : ℕ) → Holds W r → r ≡ Object b j → Block W b
-object-block W r b j h e = let ob : Inside W b j = subst (HeldBy W) e (h .held) in ob .block
+object-low W r at b j l h e = let ob : Inside W b j = held-inside W r b j h e in omega (arith, ob .low, ob .block .small)
 
 module _ (W : List ℕ) (r : ValueRef) (at i : ℕ) (R₀ : List ℕ) (hi : i < 4) (one : 1 ≤ at) (top : at ≤ 97) (room : 1536 ≤ length R₀) where
   pub lay-object : (b j n : ℕ) (R : List ℕ) → Holds W r → r ≡ Object b j → LaidNodes (objectsIn W b) at R₀ R n → LaidOne (rawOf W r) at i R₀ (set R (2 + i) (at + j)) (at + n)

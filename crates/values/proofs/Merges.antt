@@ -3,14 +3,16 @@ use Prim.Native.Nat.{ℕ, zero, suc, _+_, _-_, _*_, _<_, _≤_}
 use native.Mathlib.Omega.{arith}
 use native.Mathlib.Decide.{decLt, ℕ-discrete}
 use mathlib.Core.Path.{_≡_, refl, sym, ap, ap₂, _∙_, subst}
-use mathlib.Core.Bool.{Bool, true, false, not, cond, false≢true, true≢false}
-use lib.Dec.{leb, eqb}
+use mathlib.Core.Bool.{Bool, true, false, not, cond, false≢true}
+use lib.Dec.{leb, eqb, ltb}
 use mathlib.Core.List.{List, [], _∷_, map}
 use mathlib.Core.Option.{none, some, Option·none-ne-some}
 use lib.ListN.{length, getD, set, take, getElem?, replicate, length-set, length-take, length-replicate, getD-replicate, List·getD-eq-default}
 use lib.Seq.{getD-set-same, getD-set-other}
 use Rattle.cofj.specs.Partial.{_>>=_}
-use borrow.Author.Tests.{le-leb, eqb-false}
+use borrow.Author.Tests.{le-leb, lt-ltb, le-ltb}
+use types.Run.{OneOf}
+use denote.Enum.Declared.{tagOf}
 use Rattle.cofj.specs.Values.{Ref, obj, mark, undet, Node, node, Graph, nodeAt, refsAt, canon, make}
 use Rattle.cofj.specs.Unfolding.{object, follow, Same, InRange, Whole}
 use Rattle.cofj.proofs.Trees.{Pointwise}
@@ -22,48 +24,34 @@ use Rattle.values.specs.declared.Slot.{Slot}
 use Rattle.values.specs.declared.Made.{Made}
 use Rattle.values.specs.declared.Made.the-variants.{Value}
 use Rattle.values.specs.Layout.{refOf, codeOf, nodeIn, nodesIn, Packed, countIn, levelIn, objectsIn, graphAt, valueOf, rawOf, Holds, HeldBy, Block, Inside, Outside, Beneath}
+use Rattle.values.specs.Tests.{any}
+use Rattle.values.specs.Tables.{Carried}
 use Rattle.values.specs.Numbers.{Levels}
 use Rattle.values.specs.Operations.{Gives, Copied}
 use Rattle.values.specs.Laying.{valuesFrom, rawsFrom, PartsHeld, MadeIs}
 use Rattle.values.specs.Adding.{Found, Appended, Added, partOf}
-use Rattle.values.specs.Merging.{Grown, Fits, Standing, Entered, CodeAs, Mapped, Importing, Imported, ObjectBytes, Turned, Turning, TurnedAll, As, PartImported, Begun, RootBrought, PartsBrought, NotIn, Away, LiesTest, SomeTest}
-use Rattle.values.proofs.Nodes.{ref-object, ref-undet, ref-mark, byteOf, packed-byte, length-nodes, at-nodes}
-use Rattle.values.proofs.Blocks.{size-in, inner-in, whole-at}
-use Rattle.values.proofs.Trees.{made-as}
+use Rattle.values.specs.Merging.{Grown, Fits, Standing, Entered, CodeAs, Mapped, Importing, Imported, ObjectBytes, Turned, Turning, TurnedAll, As, PartImported, Begun, RootBrought, PartsBrought, liesIn, someIn, largerOf, largestOf}
+use Rattle.values.proofs.Nodes.{some-at, ref-object, ref-undet, ref-mark, byteOf, packed-byte, length-nodes, at-nodes}
+use Rattle.values.proofs.ValueRef as RefT
+use Rattle.values.proofs.Tests.{not-false, any-there, any-not, any-more}
+use Rattle.values.proofs.Steps.{object-low}
+use Rattle.values.proofs.Blocks.{held-room, no-object, size-in, inner-in, whole-at}
+use Rattle.values.proofs.Trees.{in-larger, leaf-same, made-as}
 use Rattle.values.proofs.Walks.{four, four-at}
 use Rattle.values.proofs.Lays.{fresh, fresh-class, fresh-count, fresh-spare, raws-whole, made-raw, parts-length}
 use Rattle.values.proofs.Copies.{block-moves}
 use Rattle.values.proofs.Selecting.{unchanged, under}
-use Rattle.values.proofs.Kept.{Kept, Elsewhere, kept}
+use Rattle.values.proofs.Kept.{Kept, kept}
 use Rattle.values.proofs.Adding.{more, old-tree, at-new}
 use Rattle.values.proofs.Beside.{add-here, objects-are, block-added}
 
 -- ---- codes that are no objects
-leaf-form : (P : Ref → Type 0) → P undet → ((k : ℕ) → P (mark k)) → (c : ℕ) → 192 ≤ c → P (refOf c)
-leaf-form P u m c h = go (ℕ-discrete c 192)
-  where
-    go : Dec (c ≡ 192) → P (refOf c)
-    go (yes e) = subst P (sym (ap refOf e ∙ ref-undet)) u
-    go (no n) = let z : c ≡ 193 + (c - 193) = omega (arith, n) in subst P (sym (ap refOf z ∙ ref-mark (c - 193))) (m (c - 193))
-
 pub leaf-low : (n c : ℕ) → 192 ≤ c → InRange n (refOf c)
-leaf-low n = leaf-form (InRange n) tt (λ k. tt)
-
-undet-same : (ns ms : List Node) → Same ns undet ms undet
-undet-same ns ms [] = refl
-undet-same ns ms (f ∷ p) = refl
-
-mark-same : (ns ms : List Node) (k : ℕ) → Same ns (mark k) ms (mark k)
-mark-same ns ms k [] = refl
-mark-same ns ms k (f ∷ p) = refl
-
-pub leaf-same : (ns ms : List Node) (c : ℕ) → 192 ≤ c → Same ns (refOf c) ms (refOf c)
-leaf-same ns ms = leaf-form (λ r. Same ns r ms r) (undet-same ns ms) (mark-same ns ms)
-
-in-larger : (n m : ℕ) (r : Ref) → n ≤ m → InRange n r → InRange m r
-in-larger n m (obj i) h l = omega arith
-in-larger n m (mark k) h l = tt
-in-larger n m undet h l = tt
+leaf-low n c h = go (ℕ-discrete c 192)
+  where
+    go : Dec (c ≡ 192) → InRange n (refOf c)
+    go (yes e) = subst (InRange n) (sym (ap refOf e ∙ ref-undet)) tt
+    go (no d) = let z : c ≡ 193 + (c - 193) = omega (arith, d) in subst (InRange n) (sym (ap refOf z ∙ ref-mark (c - 193))) tt
 
 -- ---- a block that has grown, and the others
 pub grown-none : (host : ℕ) (W : List ℕ) → Block W host → Grown host W W
@@ -168,33 +156,10 @@ module _ (W : List ℕ) (host : ℕ) (T : List ℕ) (bk : Block W host) (ft : Fi
       }
 
 -- ---- an object's bytes
-pub object-none : (W : List ℕ) (src i : ℕ) (T : List ℕ) → length T ≡ 6 → ObjectBytes W src i 0 T
-object-none W src i T e = record { long = e; bytes = λ j h. absurd (omega arith) }
-
-pub object-room : (W : List ℕ) (src i : ℕ) → Inside W src i → 240 * src + 6 * i + 6 ≤ length W
-object-room W src i ib = omega (arith, ib .block .room, ib .block .small, ib .low)
-
-pub object-more : (W : List ℕ) (src i k : ℕ) (T : List ℕ) → ObjectBytes W src i k T → k < 6 → ObjectBytes W src i (k + 1) (set T k (getD W (240 * src + 6 * i + k) 0))
-object-more W src i k T o h = record { long = length-set T k _ ∙ o .long; bytes = λ j l. go j l (ℕ-discrete j k) }
-  where
-    go : (j : ℕ) → j < k + 1 → Dec (j ≡ k) → getD (set T k (getD W (240 * src + 6 * i + k) 0)) j 0 ≡ getD W (240 * src + 6 * i + j) 0
-    go j l (yes z) = rw z (getD-set-same T k _ 0 (omega (arith, o .long)))
-    go j l (no z) = getD-set-other T k j _ 0 z ∙ o .bytes j (omega (arith, z))
-
-pub object-done : (W : List ℕ) (src i k : ℕ) (T : List ℕ) → ObjectBytes W src i k T → 6 ≤ k → ObjectBytes W src i 6 T
-object-done W src i k T o h = record { long = o .long; bytes = λ j l. o .bytes j (omega arith) }
+pub object-taken : (W : List ℕ) (src i : ℕ) (T₀ T : List ℕ) → length T₀ ≡ 6 → Carried W (240 * src + 6 * i) T₀ 0 6 T → ObjectBytes W src i T
+object-taken W src i T₀ T e c = record { long = c .same ∙ e; bytes = λ j h. let z : 0 + j ≡ j = omega arith in rw z at (c .here j h) }
 
 -- ---- the codes of an object
-some-at : (rs : List Ref) (f : ℕ) → f < length rs → getElem? rs f ≡ some (getD rs f undet)
-some-at [] f h = absurd (omega arith)
-some-at (r ∷ rs) zero h = refl
-some-at (r ∷ rs) (suc f) h = some-at rs f (omega arith)
-
-ref-low : (n : ℕ) (r : Ref) → InRange n r → codeOf r < 192 → codeOf r < n
-ref-low n (obj i) l h = l
-ref-low n (mark k) l h = absurd (omega arith)
-ref-low n undet l h = absurd (omega arith)
-
 code-low : (W : List ℕ) (src i : ℕ) → Inside W src i → (k : ℕ) → k < 4 → getD W (240 * src + 6 * i + (2 + k)) 0 < 192 → getD W (240 * src + 6 * i + (2 + k)) 0 < countIn W src
 unfolding byteOf objectsIn
 code-low W src i ib k h l = go (decLt k (getD W (240 * src + 6 * i + 1) 0))
@@ -215,7 +180,7 @@ code-low W src i ib k h l = go (decLt k (getD W (240 * src + 6 * i + 1) 0))
     go (yes q) =
         let low : InRange (countIn W src) (getD (nodeIn W (240 * src + 6 * i) .refs) k undet) =
         inner-in W src (ib .block) i k (getD (nodeIn W (240 * src + 6 * i) .refs) k undet) (ap (λ (x : Node). getElem? (x .refs) k) at-i ∙ some-at (nodeIn W (240 * src + 6 * i) .refs) k (omega (arith, count))) in
-        rw code (ref-low (countIn W src) (getD (nodeIn W (240 * src + 6 * i) .refs) k undet) low (rw code at l))
+        rw code (object-low (countIn W src) (getD (nodeIn W (240 * src + 6 * i) .refs) k undet) low (rw code at l))
     go (no q) = absurd (omega (arith, pk .spare (2 + k) (omega (arith, q)) (omega arith)))
 
 -- ---- the same codes in a block that has grown
@@ -256,7 +221,7 @@ module _ (W : List ℕ) (src i host : ℕ) (M T : List ℕ) (k : ℕ) (tg : Turn
   }
     where
       spare : CodeAs W src 192 host 192
-      spare = record { low = rw ref-undet tt; leaf = λ _. refl; same = rw ref-undet (undet-same (objectsIn W src) (objectsIn W host)) }
+      spare = record { low = rw ref-undet tt; leaf = λ _. refl; same = rw ref-undet (leaf-same (objectsIn W src) (objectsIn W host) undet tt) }
 
       go : (j : ℕ) → j < 4 → Dec (j < k) → CodeAs W src (getD W (240 * src + 6 * i + (2 + j)) 0) host (getD T (2 + j) 0)
       go j m (yes l) = tg .turned .done j l m
@@ -365,7 +330,7 @@ module _ (W : List ℕ) (src c host : ℕ) (M : List ℕ) (im : Importing W src 
   import-leaf h = record {
     grown = grown-none host W (im .target);
     mapped = im .mapped;
-    like = λ _. record { low = leaf-low (countIn W host) c h; leaf = λ _. refl; same = leaf-same (objectsIn W src) (objectsIn W host) c h };
+    like = λ _. record { low = leaf-low (countIn W host) c h; leaf = λ _. refl; same = leaf-same (objectsIn W src) (objectsIn W host) (refOf c) (leaf-low 0 c h) };
   }
 
   pub import-none : Imported W src c host W M 32
@@ -385,7 +350,7 @@ module _ (W : List ℕ) (src c host : ℕ) (M : List ℕ) (im : Importing W src 
       like = λ _. im .mapped .each c (m - 1) (omega (arith, e, d));
     }
 
-    pub import-codes : (T : List ℕ) → ObjectBytes W src c 6 T → Turning W src c host M T 0
+    pub import-codes : (T : List ℕ) → ObjectBytes W src c T → Turning W src c host M T 0
     import-codes T o = record {
       inside = import-inside;
       target = im .target;
@@ -409,11 +374,7 @@ module _ (W : List ℕ) (src c host : ℕ) (M : List ℕ) (im : Importing W src 
 
       module _ (eb : not b ≡ false) where
         yes-b : b ≡ true
-        yes-b = back b eb
-          where
-            back : (x : Bool) → not x ≡ false → x ≡ true
-            back true q = refl
-            back false q = absurd (false≢true (sym q))
+        yes-b = not-false b eb
 
         td : Turned W2 src c host T 4
         td = ta .turned yes-b
@@ -544,9 +505,6 @@ module _ (W : List ℕ) (b i base host : ℕ) (ib : Inside W b i) (bg : Begun W 
     }
 
 module _ (W : List ℕ) (v : ValueRef) (base host : ℕ) (h : Holds W v) (bg : Begun W base host) where
-  pub part-inside : (b i : ℕ) → v ≡ Object b i → Inside W b i
-  part-inside b i e = subst (HeldBy W) e (h .held)
-
   pub part-object : (b i : ℕ) (W′ : List ℕ) (r : ℕ) → v ≡ Object b i → PartImported W (Object b i) host W′ r → PartImported W v host W′ r
   part-object b i W′ r e p = subst (λ (x : ValueRef). PartImported W x host W′ r) (sym e) p
 
@@ -556,13 +514,13 @@ module _ (W : List ℕ) (v : ValueRef) (base host : ℕ) (h : Holds W v) (bg : B
   pub part-mark : (k : ℕ) → v ≡ Mark k → PartImported W v host W (193 + k)
   part-mark k e = rw e (record {
     grown = grown-none host W (bg .target);
-    like = λ _. record { low = leaf-low (countIn W host) (193 + k) (omega arith); same = λ p. mark-same [] (objectsIn W host) k p ∙ ap (λ (x : Ref). follow (objectsIn W host) x p) (sym (ref-mark k)) };
+    like = λ _. record { low = leaf-low (countIn W host) (193 + k) (omega arith); same = λ p. leaf-same [] (objectsIn W host) (mark k) tt p ∙ ap (λ (x : Ref). follow (objectsIn W host) x p) (sym (ref-mark k)) };
   })
 
   pub part-undet : v ≡ Undetermined → PartImported W v host W 192
   part-undet e = rw e (record {
     grown = grown-none host W (bg .target);
-    like = λ _. record { low = leaf-low (countIn W host) 192 (omega arith); same = λ p. undet-same [] (objectsIn W host) p ∙ ap (λ (x : Ref). follow (objectsIn W host) x p) (sym ref-undet) };
+    like = λ _. record { low = leaf-low (countIn W host) 192 (omega arith); same = λ p. leaf-same [] (objectsIn W host) undet tt p ∙ ap (λ (x : Ref). follow (objectsIn W host) x p) (sym ref-undet) };
   })
 
 same-values : (W W′ : List ℕ) (n : ℕ) (ps : List Slot) → ((i : ℕ) → i < n → valueOf W′ (partOf ps i) ≡ valueOf W (partOf ps i)) → map (λ s. valueOf W′ (s .r)) (take n ps) ≡ map (λ s. valueOf W (s .r)) (take n ps)
@@ -727,11 +685,7 @@ module _ (W : List ℕ) (c : ℕ) (ps : List Slot) (n host dst : ℕ) (held : Pa
 
   module _ (eb : not b ≡ false) where
     rb : RootBrought W c ps n n W1 host T
-    rb = br .done (back b eb)
-      where
-        back : (x : Bool) → not x ≡ false → x ≡ true
-        back true q = refl
-        back false q = absurd (false≢true (sym q))
+    rb = br .done (not-false b eb)
 
     pub in-block : Block W1 host
     in-block = br .grown .block
@@ -803,48 +757,101 @@ module _ (W : List ℕ) (c : ℕ) (ps : List Slot) (n host dst : ℕ) (held : Pa
             }
 
 -- ---- the host
-pub larger-block : (W : List ℕ) (v : ValueRef) (x i : ℕ) → Holds W v → v ≡ Object x i → Block W x
-larger-block W v x i h e = let ob : Inside W x i = subst (HeldBy W) e (h .held) in ob .block
-
 pub largest-held : (W : List ℕ) (ps : List Slot) (n i : ℕ) (v : ValueRef) → PartsHeld W ps n → i < n → v ≡ partOf ps i → Holds W v
 largest-held W ps n i v h l e = subst (Holds W) (sym e) (h .part i l)
 
-pub lies-object : (d : ℕ) (v : ValueRef) (x i : ℕ) → v ≡ Object x i → LiesTest d v (eqb x d)
-lies-object d v x i e = record { says = λ q. rw e (eqb-false x d q) }
+pub lies-object : (d : ℕ) (v : ValueRef) (x i : ℕ) → v ≡ Object x i → eqb x d ≡ liesIn d v
+unfolding liesIn
+lies-object d v x i e = rw e
 
-pub lies-mark : (d : ℕ) (v : ValueRef) (k : ℕ) → v ≡ Mark k → LiesTest d v false
-lies-mark d v k e = record { says = λ _. rw e tt }
+pub lies-mark : (d : ℕ) (v : ValueRef) (k : ℕ) → v ≡ Mark k → false ≡ liesIn d v
+unfolding liesIn
+lies-mark d v k e = rw e
 
-pub lies-undet : (d : ℕ) (v : ValueRef) → v ≡ Undetermined → LiesTest d v false
-lies-undet d v e = record { says = λ _. rw e tt }
+pub lies-undet : (d : ℕ) (v : ValueRef) → v ≡ Undetermined → false ≡ liesIn d v
+unfolding liesIn
+lies-undet d v e = rw e
 
 module _ (ps : List Slot) (n d : ℕ) where
-  pub away-none : Away ps 0 d
-  away-none = record { each = λ i h. absurd (omega arith) }
+  abbrev lies : ℕ → Bool
+  lies i = liesIn d (partOf ps i)
 
-  pub away-more : (i : ℕ) (v : ValueRef) (r : Bool) → Away ps i d → v ≡ partOf ps i → LiesTest d v r → r ≡ false → Away ps (i + 1) d
-  away-more i v r a ev t e = record { each = λ j h. go j h (ℕ-discrete j i) }
-    where
-      go : (j : ℕ) → j < i + 1 → Dec (j ≡ i) → NotIn d (partOf ps j)
-      go j h (yes z) = rw z (subst (NotIn d) ev (t .says e))
-      go j h (no z) = a .each j (omega (arith, z))
+  pub away-none : someIn ps 0 d ≡ false
+  unfolding someIn any
+  away-none = refl
 
-  pub some-there : SomeTest ps n d true
-  some-there = record { says = λ e. absurd (true≢false e) }
+  module _ (i : ℕ) (v : ValueRef) (r : Bool) (ev : v ≡ partOf ps i) (er : r ≡ liesIn d v) where
+    answer : lies i ≡ r
+    answer = ap (liesIn d) (sym ev) ∙ sym er
 
-  pub some-none : (i : ℕ) → Away ps i d → n ≤ i → SomeTest ps n d false
-  some-none i a h = record { says = λ _. record { each = λ j k. a .each j (omega arith) } }
+    pub away-more : someIn ps i d ≡ false → r ≡ false → someIn ps (i + 1) d ≡ false
+    unfolding someIn
+    away-more a e = any-more lies i a (answer ∙ e)
 
-  pub away-all : (r : Bool) → SomeTest ps n d r → r ≡ false → Away ps n d
-  away-all r t e = t .says e
+    pub some-there : i < n → r ≡ true → true ≡ someIn ps n d
+    unfolding someIn
+    some-there h e = sym (any-there lies n i h (answer ∙ e))
 
-pub begun-here : (W : List ℕ) (b : ℕ) → Block W b → Begun W b b
+  pub some-none : (i : ℕ) → someIn ps i d ≡ false → i ≤ n → n ≤ i → false ≡ someIn ps n d
+  some-none i a h l = let e : i ≡ n = omega arith in sym (rw e at a)
+
+  away-at : someIn ps n d ≡ false → (i : ℕ) → i < n → lies i ≡ false
+  unfolding someIn
+  away-at a i h = any-not lies n i a h
+
+begun-here : (W : List ℕ) (b : ℕ) → Block W b → Begun W b b
 begun-here W b bk = record { source = bk; target = bk; most = omega arith; trees = λ r h p. refl }
 
-elsewhere : (d : ℕ) (v : ValueRef) → NotIn d v → Elsewhere d v
-elsewhere d (Object b i) h = h
-elsewhere d (Mark k) h = tt
-elsewhere d Undetermined h = tt
+-- ---- the block with the most objects
+module _ (W : List ℕ) (v : ValueRef) (b : ℕ) where
+  pub larger-leaf : OneOf (1 ∷ 2 ∷ []) (tagOf RefT.the-type v) → b ≡ largerOf W v b
+  unfolding largerOf
+  larger-leaf = no-object (λ x. b ≡ largerOf W x b) (λ k. refl) refl v
+
+  pub larger-other : (x i : ℕ) → v ≡ Object x i → getD W (240 * b + 192) 0 < getD W (240 * x + 192) 0 → x ≡ largerOf W v b
+  unfolding largerOf countIn
+  larger-other x i e h = rw (e, lt-ltb _ _ h)
+
+  pub larger-same : (x i : ℕ) → v ≡ Object x i → getD W (240 * x + 192) 0 ≤ getD W (240 * b + 192) 0 → b ≡ largerOf W v b
+  unfolding largerOf countIn
+  larger-same x i e h = rw (e, le-ltb _ _ h)
+
+larger-block : (W : List ℕ) (v : ValueRef) (b : ℕ) → Holds W v → Block W b → Block W (largerOf W v b)
+unfolding largerOf
+larger-block W (Object x i) b h bk = go (ltb (countIn W b) (countIn W x))
+  where
+    go : (t : Bool) → Block W (cond t x b)
+    go true = h .held .block
+    go false = bk
+larger-block W (Mark k) b h bk = bk
+larger-block W Undetermined b h bk = bk
+
+module _ (W : List ℕ) (ps : List Slot) (n b : ℕ) where
+  pub largest-none : b ≡ largestOf W ps 0 b
+  unfolding largestOf
+  largest-none = refl
+
+  pub largest-more : (i d : ℕ) (v : ValueRef) (r : ℕ) → d ≡ largestOf W ps i b → v ≡ partOf ps i → r ≡ largerOf W v d → r ≡ largestOf W ps (i + 1) b
+  unfolding largestOf
+  largest-more i d v r ed ev er = let z : i + 1 ≡ suc i = omega arith in rw z (er ∙ ap₂ (largerOf W) ev ed)
+
+  pub largest-done : (i d : ℕ) → d ≡ largestOf W ps i b → i ≤ n → n ≤ i → d ≡ largestOf W ps n b
+  largest-done i d ed h l = let e : i ≡ n = omega arith in rw e at ed
+
+  module _ (held : PartsHeld W ps n) (bk : Block W b) where
+    block-at : (i : ℕ) → i ≤ n → Block W (largestOf W ps i b)
+    unfolding largestOf
+    block-at zero h = bk
+    block-at (suc i) h = larger-block W (partOf ps i) (largestOf W ps i b) (held .part i (omega arith)) (block-at i (omega arith))
+
+    pub largest-so-far : (i d : ℕ) → d ≡ largestOf W ps i b → i < n → Block W d
+    largest-so-far i d e h = subst (Block W) (sym e) (block-at i (omega arith))
+
+    pub largest-block : (d : ℕ) → d ≡ largestOf W ps n b → Block W d
+    largest-block d e = subst (Block W) (sym e) (block-at n (omega arith))
+
+    pub largest-begun : (d : ℕ) → d ≡ largestOf W ps n b → Begun W d d
+    largest-begun d e = begun-here W d (largest-block d e)
 
 module _ (W : List ℕ) (b host dst : ℕ) (W1 : List ℕ) (bk : Block W b) (lb : b < dst) (le : dst ≤ host) (room : 240 * host + 240 ≤ length W) (cp : Copied W b host W1) where
   pub copied-begun : Begun W1 b host
@@ -862,9 +869,9 @@ module _ (W : List ℕ) (b host dst : ℕ) (W1 : List ℕ) (bk : Block W b) (lb 
   pub copied-room : 240 * dst + 240 ≤ length W1
   copied-room = omega (arith, cp .outside .same)
 
-  module _ (ps : List Slot) (n : ℕ) (held : PartsHeld W ps n) (away : Away ps n host) where
+  module _ (ps : List Slot) (n : ℕ) (held : PartsHeld W ps n) (away : someIn ps n host ≡ false) where
     keeps : (i : ℕ) → i < n → Kept W W1 (partOf ps i)
-    keeps i h = kept host W W1 (cp .outside) (partOf ps i) (elsewhere host (partOf ps i) (away .each i h)) (held .part i h)
+    keeps i h = kept host W W1 (cp .outside) (partOf ps i) (away-at ps n host away i h) (held .part i h)
 
     pub copied-held : PartsHeld W1 ps n
     copied-held = record { full = held .full; part = λ i h. keeps i h .held }
@@ -877,4 +884,4 @@ module _ (W : List ℕ) (b host dst : ℕ) (W1 : List ℕ) (bk : Block W b) (lb 
     copied-made c W2 o m = made-from W W1 c ps n dst W2 o (record { same = cp .outside .same; below = λ p h. cp .outside .below p (omega arith) }) copied-values m
 
 pub larger-read : (W : List ℕ) (v : ValueRef) (x i : ℕ) → Holds W v → v ≡ Object x i → 240 * x + 192 < length W
-larger-read W v x i h e = omega (arith, larger-block W v x i h e .room)
+larger-read W v x i h e = omega (arith, held-room W v x i h e)

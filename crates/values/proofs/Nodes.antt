@@ -4,13 +4,17 @@ use native.Mathlib.Nat.{not-suc-le-zero, le-of-suc-le-suc}
 use native.Mathlib.Omega.{arith}
 use native.Mathlib.Decide.{decLt, ℕ-discrete}
 use mathlib.Core.Path.{_≡_, refl, sym, ap, ap₂, _∙_}
+use mathlib.Core.Bool.{Bool, true, false, cond, false≢true}
 use mathlib.Core.List.{List, [], _∷_, _++_}
-use lib.ListN.{length, getD, take, drop, length-take, length-drop, List·getD-eq-default}
+use mathlib.Core.Option.{some, Option·none-ne-some}
+use lib.Dec.{eqb}
+use lib.ListN.{length, getD, take, drop, getElem?, length-take, length-drop, List·getD-eq-default}
 use lib.Seq.{getD-take, getD-drop, length-take-le, ext-getD}
-use borrow.Author.Tests.{lt-ltb, le-ltb, ne-eqb}
+use borrow.Author.Tests.{lt-ltb, le-ltb, eq-eqb, ne-eqb, eqb-true}
 use Rattle.cofj.specs.Values.{Ref, obj, mark, undet, Node, nodeAt, eqNats, eqNode}
 use Rattle.cofj.proofs.Basics.{eqNats-true, eqNode-true, eqNode-refl}
-use Rattle.values.specs.Layout.{refOf, codeOf, nodeIn, nodesIn, Packed, part}
+use Rattle.values.specs.Layout.{refOf, codeOf, nodeIn, nodesIn, Packed, Alike, alikeAt, part}
+use Rattle.values.specs.Tables.{Four, Two}
 use Rattle.values.proofs.Runs.{eqNats-same, tests-same}
 
 -- ---- codes
@@ -37,6 +41,17 @@ code-ref b = go (decLt b 192) (ℕ-discrete b 192)
     go (no h) (no e) =
         let z : 193 + (b - 193) ≡ b = omega (arith, h, e) in
         ap (λ (x : ℕ). codeOf (refOf x)) (sym z) ∙ ap codeOf (ref-mark (b - 193)) ∙ z
+
+-- ---- a reference of a list, if there is one
+pub some-at : (rs : List Ref) (f : ℕ) → f < length rs → getElem? rs f ≡ some (getD rs f undet)
+some-at [] f h = absurd (omega arith)
+some-at (r ∷ rs) zero h = refl
+some-at (r ∷ rs) (suc f) h = some-at rs f (omega arith)
+
+pub at-some : (rs : List Ref) (k : ℕ) (r : Ref) → getElem? rs k ≡ some r → (getD rs k undet ≡ r) × (k < length rs)
+at-some [] k r e = absurd (Option·none-ne-some r e)
+at-some (x ∷ rs) zero r e = (let z : x ≡ r = cc in z, omega arith)
+at-some (x ∷ rs) (suc k) r e = let p = at-some rs k r e in (p .0, omega (arith, p .1))
 
 -- ---- an object's six bytes
 unfoldable pub byteOf : Node → ℕ → ℕ
@@ -124,6 +139,29 @@ bytes-same A B n a b pa pb e p h =
     let en : nodeIn A (a + 6 * (p / 6)) ≡ nodeIn B (b + 6 * (p / 6)) = sym (at-nodes A a n (p / 6) i) ∙ ap (λ (l : List Node). nodeAt l (p / 6)) e ∙ at-nodes B b n (p / 6) i in
     rw (ea, eb, packed-byte A (a + 6 * (p / 6)) (pa (p / 6) i) (p % 6) (omega arith), packed-byte B (b + 6 * (p / 6)) (pb (p / 6) i) (p % 6) (omega arith), en)
 
+-- ---- two objects side by side
+module _ (S : List ℕ) (p q : ℕ) where
+  pub alike-not : ((getD S p 0 ≡ getD S q 0) → ⊥) → false ≡ alikeAt S p q
+  unfolding alikeAt
+  alike-not d = rw (ne-eqb _ _ d)
+
+  pub alike-by-count : getD S p 0 ≡ getD S q 0 → eqb (getD S (p + 1) 0) (getD S (q + 1) 0) ≡ alikeAt S p q
+  unfolding alikeAt
+  alike-by-count e = rw (eq-eqb _ _ e)
+
+  module _ (r : Bool) (er : r ≡ alikeAt S p q) where
+    pub alike-yes : r ≡ true → Alike S p q
+    unfolding alikeAt
+    alike-yes e = go (eqb (getD S p 0) (getD S q 0)) refl (sym er ∙ e)
+      where
+        go : (t : Bool) → eqb (getD S p 0) (getD S q 0) ≡ t → cond t (eqb (getD S (p + 1) 0) (getD S (q + 1) 0)) false ≡ true → Alike S p q
+        go true z h = record { cls = eqb-true _ _ z; count = eqb-true _ _ h }
+        go false z h = absurd (false≢true h)
+
+    pub alike-no : r ≡ false → Alike S p q → ⊥
+    unfolding alikeAt
+    alike-no e a = false≢true (sym e ∙ er ∙ rw (eq-eqb _ _ (a .cls)) (eq-eqb _ _ (a .count)))
+
 -- ---- runs of bytes
 module _ (A : List ℕ) (a n : ℕ) (h : a + n ≤ length A) where
   length-part : length (part A a n) ≡ n
@@ -143,6 +181,72 @@ module _ (A B : List ℕ) (n a b : ℕ) (ha : a + 6 * n ≤ length A) (hb : b + 
 
   pub parts-of-nodes : AllPacked A a n → AllPacked B b n → nodesIn A a n ≡ nodesIn B b n → part A a (6 * n) ≡ part B b (6 * n)
   parts-of-nodes pa pb e = parts-same A B a b (6 * n) ha hb (bytes-same A B n a b pa pb e)
+
+-- ---- bytes by the numbers that they make
+four-digits : (a b c d a′ b′ c′ d′ : ℕ) → a < 256 → b < 256 → c < 256 → d < 256 → a′ < 256 → b′ < 256 → c′ < 256 → d′ < 256
+    → a + 256 * b + 65536 * c + 16777216 * d ≡ a′ + 256 * b′ + 65536 * c′ + 16777216 * d′ → (a ≡ a′) × (b ≡ b′) × (c ≡ c′) × (d ≡ d′)
+four-digits a b c d a′ b′ c′ d′ la lb lc ld la′ lb′ lc′ ld′ e = (omega arith, omega arith, omega arith, omega arith)
+
+module _ (A B : List ℕ) (i j x y : ℕ) where
+  abbrev Bytes : ℕ → Type 0
+  Bytes n = (p : ℕ) → p < n → getD A (i + p) 0 ≡ getD B (j + p) 0
+
+  -- the first of them
+  add-zero : getD A i 0 ≡ getD B j 0 → getD A (i + 0) 0 ≡ getD B (j + 0) 0
+  add-zero e = let zi : i + 0 ≡ i = omega arith in let zj : j + 0 ≡ j = omega arith in rw (zi, zj) e
+
+  drop-zero : getD A (i + 0) 0 ≡ getD B (j + 0) 0 → getD A i 0 ≡ getD B j 0
+  drop-zero e = let zi : i + 0 ≡ i = omega arith in let zj : j + 0 ≡ j = omega arith in rw (zi, zj) at e
+
+  module _ (fa : Four A i x) (fb : Four B j y) where
+    four-number : Bytes 4 → x ≡ y
+    four-number h = omega (arith, fa .is, fb .is, drop-zero (h 0 (omega arith)), h 1 (omega arith), h 2 (omega arith), h 3 (omega arith))
+
+    four-bytes : x ≡ y → Bytes 4
+    four-bytes e = go (four-digits _ _ _ _ _ _ _ _ (fa .low0) (fa .low1) (fa .low2) (fa .low3) (fb .low0) (fb .low1) (fb .low2) (fb .low3) (sym (fa .is) ∙ e ∙ fb .is))
+      where
+        go : (getD A i 0 ≡ getD B j 0) × (getD A (i + 1) 0 ≡ getD B (j + 1) 0) × (getD A (i + 2) 0 ≡ getD B (j + 2) 0) × (getD A (i + 3) 0 ≡ getD B (j + 3) 0) → Bytes 4
+        go d zero h = add-zero (d .0)
+        go d (suc zero) h = d .1
+        go d (suc (suc zero)) h = d .2
+        go d (suc (suc (suc zero))) h = d .3
+        go d (suc (suc (suc (suc p)))) h = absurd (omega arith)
+
+  module _ (ta : Two A i x) (tb : Two B j y) where
+    two-number : Bytes 2 → x ≡ y
+    two-number h = omega (arith, ta .is, tb .is, drop-zero (h 0 (omega arith)), h 1 (omega arith))
+
+    two-bytes : x ≡ y → Bytes 2
+    two-bytes e zero h = add-zero (omega (arith, ta .is, tb .is, ta .low0, ta .low1, tb .low0, tb .low1))
+    two-bytes e (suc zero) h = omega (arith, ta .is, tb .is, ta .low0, ta .low1, tb .low0, tb .low1)
+    two-bytes e (suc (suc p)) h = absurd (omega arith)
+
+module _ (A B : List ℕ) (i j : ℕ) (ha : i + 6 ≤ length A) (hb : j + 6 ≤ length B) (x y : ℕ) (fa : Four A i x) (fb : Four B j y) where
+  byte-of : eqNats (part A i 6) (part B j 6) ≡ true → (p : ℕ) → p < 6 → getD A (i + p) 0 ≡ getD B (j + p) 0
+  byte-of e p h = sym (at-part A i 6 ha p h) ∙ ap (λ (l : List ℕ). getD l p 0) (eqNats-true _ _ e) ∙ at-part B j 6 hb p h
+
+  pub six-not : ((x ≡ y) → ⊥) → false ≡ eqNats (part A i 6) (part B j 6)
+  six-not d = go (eqNats (part A i 6) (part B j 6)) refl
+    where
+      go : (r : Bool) → eqNats (part A i 6) (part B j 6) ≡ r → false ≡ r
+      go true e = absurd (d (four-number A B i j x y fa fb (λ p h. byte-of e p (omega arith))))
+      go false e = refl
+
+  pub six-by-last : (u v : ℕ) → x ≡ y → Two A (i + 4) u → Two B (j + 4) v → eqb u v ≡ eqNats (part A i 6) (part B j 6)
+  six-by-last u v e ta tb =
+      tests-same (eqb u v) (eqNats (part A i 6) (part B j 6))
+      (λ q. eqNats-same _ _ (parts-same A B i j 6 ha hb (λ p h. go q p h (decLt p 4))))
+      (λ q. eq-eqb u v (two-number A B (i + 4) (j + 4) u v ta tb (λ p h.
+      let zi : i + 4 + p ≡ i + (4 + p) = omega arith in
+      let zj : j + 4 + p ≡ j + (4 + p) = omega arith in
+      rw (zi, zj) (byte-of q (4 + p) (omega arith)))))
+    where
+      go : eqb u v ≡ true → (p : ℕ) → p < 6 → Dec (p < 4) → getD A (i + p) 0 ≡ getD B (j + p) 0
+      go q p h (yes l) = four-bytes A B i j x y fa fb e p l
+      go q p h (no l) =
+          let zi : i + 4 + (p - 4) ≡ i + p = omega (arith, l) in
+          let zj : j + 4 + (p - 4) ≡ j + p = omega (arith, l) in
+          rw (zi, zj) at (two-bytes A B (i + 4) (j + 4) u v ta tb (eqb-true u v q) (p - 4) (omega (arith, l)))
 
 -- one object
 one : (S : List ℕ) (a : ℕ) → Packed S a → AllPacked S a 1

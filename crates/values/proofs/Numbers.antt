@@ -30,7 +30,7 @@ use Rattle.values.proofs.Turned.{turnRef, changed, lifted-nodes, lifted
 pub gather-none : (N O T D : List ℕ) (to : ℕ) → Gathered N O 0 T D to D
 gather-none N O T D to = record { same = refl; here = λ j k h. absurd (omega arith); below = λ q h. refl; above = λ q h. refl }
 
-pub gather-more : (N O T D₀ : List ℕ) (to : ℕ) (D D2 : List ℕ) (j : ℕ) → Gathered N O j T D₀ to D → Lifted N (6 * getD O j 0) 6 T 0 D (to + 6 * j) D2
+pub gather-more : (N O T D₀ : List ℕ) (to : ℕ) (D D2 : List ℕ) (j : ℕ) → Gathered N O j T D₀ to D → Lifted N (6 * getD O j 0) 6 T D (to + 6 * j) D2
     → Gathered N O (j + 1) T D₀ to D2
 gather-more N O T D₀ to D D2 j g f = record {
   same = f .same ∙ g .same;
@@ -39,7 +39,7 @@ gather-more N O T D₀ to D D2 j g f = record {
   above = λ q h. f .above q (omega arith) ∙ g .above q (omega arith);
 }
   where
-    go : (i k : ℕ) → i < j + 1 → k < 6 → Dec (i ≡ j) → getD D2 (to + 6 * i + k) 0 ≡ copied T 0 k (getD N (6 * getD O i 0 + k) 0)
+    go : (i k : ℕ) → i < j + 1 → k < 6 → Dec (i ≡ j) → getD D2 (to + 6 * i + k) 0 ≡ copied T k (getD N (6 * getD O i 0 + k) 0)
     go i k h l (yes e) = let z : k % 6 ≡ k = omega arith in rw e (rw z at (f .here k l))
     go i k h l (no e) = f .below (to + 6 * i + k) (omega (arith, e)) ∙ g .here i k (omega (arith, e)) l
 
@@ -77,7 +77,7 @@ module _ (N C : List ℕ) (n : ℕ) (few : n ≤ 192) (w : (i k : ℕ) (r : Ref)
 
 -- ---- what is gathered
 module _ (N O : List ℕ) (m : ℕ) (T D₀ : List ℕ) (to : ℕ) (D : List ℕ) (g : Gathered N O m T D₀ to D) where
-  one : (j : ℕ) → j < m → Lifted N (6 * getD O j 0) 6 T 0 D (to + 6 * j) D
+  one : (j : ℕ) → j < m → Lifted N (6 * getD O j 0) 6 T D (to + 6 * j) D
   one j h = record {
     same = refl;
     here = λ q l. let z : q % 6 ≡ q = omega arith in rw z (g .here j q h l);
@@ -85,16 +85,16 @@ module _ (N O : List ℕ) (m : ℕ) (T D₀ : List ℕ) (to : ℕ) (D : List ℕ
     above = λ q l. refl;
   }
 
-  gathered-node : (j : ℕ) → j < m → nodeIn D (to + 6 * j) ≡ changed (turnRef T 0) (nodeIn N (6 * getD O j 0))
+  gathered-node : (j : ℕ) → j < m → nodeIn D (to + 6 * j) ≡ changed (turnRef T) (nodeIn N (6 * getD O j 0))
   unfolding nodesIn
   gathered-node j h =
-      let e : nodeIn D (to + 6 * j) ∷ [] ≡ changed (turnRef T 0) (nodeIn N (6 * getD O j 0)) ∷ [] = lifted-nodes N (6 * getD O j 0) T 0 D (to + 6 * j) D 1 (one j h) in
+      let e : nodeIn D (to + 6 * j) ∷ [] ≡ changed (turnRef T) (nodeIn N (6 * getD O j 0)) ∷ [] = lifted-nodes N (6 * getD O j 0) T D (to + 6 * j) D 1 (one j h) in
       cc
 
   gathered-packed : (j : ℕ) → j < m → Packed N (6 * getD O j 0) → Packed D (to + 6 * j)
   gathered-packed j h pk =
       let z : to + 6 * j + 6 * 0 ≡ to + 6 * j = omega arith in
-      rw z at (lifted-packed N (6 * getD O j 0) T 0 D (to + 6 * j) D 1 (one j h) (λ q. omega arith)
+      rw z at (lifted-packed N (6 * getD O j 0) T D (to + 6 * j) D 1 (one j h)
       (λ i l. let y : 6 * getD O j 0 + 6 * i ≡ 6 * getD O j 0 = omega arith in rw y pk) 0 (omega arith))
 
 place-le : (c : ℕ) (s : List ℕ) → placeIn c s ≤ length s
@@ -229,9 +229,9 @@ module _ (N : List ℕ) (n : ℕ) (C : List ℕ) (root : ℕ) (W : List ℕ) (ds
           let ec : getD O j 0 ≡ getD (order (graphIn N n root) wg) j 0 = sym (getD-take m O j 0 h) ∙ ap (λ (l : List ℕ). getD l j 0) order-is in
           let z : 0 + 6 * getD O j 0 ≡ 6 * getD O j 0 = omega arith in
           gathered-node N O m T E (240 * dst) E g′ j h
-          ∙ ap (λ (p : ℕ). changed (turnRef T 0) (nodeIn N p)) (sym z)
-          ∙ ap (changed (turnRef T 0)) (sym (at-nodes N 0 n (getD O j 0) c))
-          ∙ node-agree (turnRef T 0) (rename (number (graphIn N n root) wg)) (InRange n)
+          ∙ ap (λ (p : ℕ). changed (turnRef T) (nodeIn N p)) (sym z)
+          ∙ ap (changed (turnRef T)) (sym (at-nodes N 0 n (getD O j 0) c))
+          ∙ node-agree (turnRef T) (rename (number (graphIn N n root) wg)) (InRange n)
           (turn-rename T n (number (graphIn N n root) wg) (rd .raw .few) number-is number-small) (nodeAt (nodesIn N 0 n) (getD O j 0)) (inner (getD O j 0))
           ∙ ap (λ (q : ℕ). renameNode (number (graphIn N n root) wg) (nodeAt (nodesIn N 0 n) q)) ec
           ∙ sym (getD-map-lt (λ q. renameNode (number (graphIn N n root) wg) (nodeAt (nodesIn N 0 n) q)) (order (graphIn N n root) wg) j (node 0 []) 0 (omega (arith, counted, canon-count)))

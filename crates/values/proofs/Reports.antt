@@ -4,11 +4,10 @@ use native.Mathlib.Omega.{arith}
 use native.Mathlib.Decide.{ℕ-discrete}
 use native.Mathlib.Numerals.{add-one}
 use mathlib.Core.Path.{_≡_, refl, sym, ap, ap₂, _∙_, subst}
-use mathlib.Core.Logic.{⊎-elim}
 use mathlib.Core.List.{List, [], _∷_, _++_, append-assoc, append-nil}
 use lib.ListN.{length, getD, set, take, drop, length-set, length-take, length-map, take-append-drop}
 use lib.Seq.{take-suc, take-suc-set, drop-set-lt, drop-drop, length-take-le, take-length, getD-take}
-use borrow.Author.Tests.{le-leb, lt-leb, eqb-false}
+use borrow.Author.Tests.{le-leb, lt-leb}
 use types.Run.{OneOf}
 use denote.Enum.Declared.{tagOf}
 use Rattle.cofj.specs.Values.{undet, Node, node, Graph, nodeAt}
@@ -16,12 +15,13 @@ use Rattle.cofj.specs.Text.{char, hexLine, hexText}
 use Rattle.cofj.specs.Report.{refByte, objectLine, objectLines}
 use Rattle.cofj.proofs.Basics.{getD-map-lt}
 use Rattle.values.specs.declared.ValueRef.{ValueRef}
-use Rattle.values.specs.declared.ValueRef.the-variants.{Object, Mark, Undetermined}
-use Rattle.values.specs.Layout.{refOf, nodeIn, nodesIn, Packed, Block, Inside, objectsIn, graphAt, countIn, valueOf, Holds, HeldBy}
+use Rattle.values.specs.declared.ValueRef.the-variants.{Object}
+use Rattle.values.specs.Layout.{refOf, nodeIn, nodesIn, Packed, Block, objectsIn, graphAt, countIn, valueOf}
 use Rattle.values.specs.Operations.{Moved}
 use Rattle.values.specs.Reporting.{Front, lineIn, Line, Reported}
 use Rattle.values.proofs.ValueRef as RefT
 use Rattle.values.proofs.Nodes.{at-nodes, length-nodes, packed-byte, byteOf, ref-object, ref-undet, ref-mark}
+use Rattle.values.proofs.Blocks.{no-object}
 
 -- ---- the front of a buffer
 pub front-none : (d : List ℕ) → Front d d 0 []
@@ -256,20 +256,15 @@ six-text (a ∷ (b ∷ [])) h = absurd (omega arith)
 six-text (a ∷ (b ∷ (c ∷ d))) h = refl
 
 pub report-none : (W : List ℕ) (r : ValueRef) (d : List ℕ) → OneOf (1 ∷ 2 ∷ []) (tagOf RefT.the-type r) → 544 ≤ length d → Reported (valueOf W r) d (set (set (set d 0 48) 1 54) 2 10) 3
-report-none W (Object n i) d h l = ⊎-elim (λ e. absurd (eqb-false 0 1 refl e)) (λ e. absurd (eqb-false 0 2 refl e)) h
-report-none W (Mark n) d h l = record { fits = omega arith; count = refl; text = six-text d l }
-report-none W Undetermined d h l = record { fits = omega arith; count = refl; text = six-text d l }
+report-none W r d h l =
+    no-object (λ x. Reported (valueOf W x) d (set (set (set d 0 48) 1 54) 2 10) 3)
+    (λ k. record { fits = omega arith; count = refl; text = six-text d l })
+    (record { fits = omega arith; count = refl; text = six-text d l }) r h
 
 -- ---- an object, alone in its block
 pub report-one : (W : List ℕ) (r : ValueRef) (b i : ℕ) (W′ d₀ d : List ℕ) (t : ℕ) → r ≡ Object b i → Moved W (graphAt W b i) b W′ → Reported (graphAt W′ b 0) d₀ d t
     → Reported (valueOf W r) d₀ d t × (length W′ ≡ length W)
 report-one W r b i W′ d₀ d t e m h = (subst (λ (v : Graph). Reported v d₀ d t) (m .has .is ∙ ap (valueOf W) (sym e)) h, m .outside .same)
-
-pub report-inside : (W : List ℕ) (r : ValueRef) (b i : ℕ) → Holds W r → r ≡ Object b i → Inside W b i
-report-inside W r b i h e = subst (HeldBy W) e (h .held)
-
-pub report-room : (W : List ℕ) (r : ValueRef) (b i : ℕ) → Holds W r → r ≡ Object b i → 240 * b + 240 ≤ length W
-report-room W r b i h e = report-inside W r b i h e .block .room
 
 pub report-block : (W : List ℕ) (g : Graph) (b : ℕ) (W′ : List ℕ) → Moved W g b W′ → Block W′ b
 report-block W g b W′ m = m .has .inside .block

@@ -12,7 +12,7 @@ use Rattle.cofj.specs.Values.{Ref, Node, node, rename, renameNode, nodeAt, refs
 use Rattle.cofj.specs.Unfolding.{InRange}
 use Rattle.cofj.proofs.Colours.{next-at, next-low, length-refine}
 use Rattle.values.specs.Layout.{nodeIn, nodesIn, part}
-use Rattle.values.specs.Tables.{Filled, Lifted}
+use Rattle.values.specs.Tables.{Filled, Carried, Lifted}
 use Rattle.values.specs.Rounds.{Looks, placeIs, Raw, Below}
 use Rattle.values.proofs.Nodes.{length-nodes, at-nodes}
 use Rattle.values.proofs.Turned.{turnRef, lifted-nodes, lifted-packed, turn-rename, nodes-agree}
@@ -23,12 +23,12 @@ front-is A l n e h f =
     ext-getD 0 (take n A) l (length-take-le n A h ∙ sym e)
     (λ i k. let k′ : i < n = omega (arith, length-take-le n A h) in getD-take n A i 0 k′ ∙ f i k′)
 
-module _ (N C L₀ L : List ℕ) (n : ℕ) (raw : Raw N n) (f : Lifted N 0 (6 * n) C 0 L₀ 0 L) where
+module _ (N C L₀ L : List ℕ) (n : ℕ) (raw : Raw N n) (f : Lifted N 0 (6 * n) C L₀ 0 L) where
   pub looks-ok : 1536 ≤ length L₀ → Looks L n
   looks-ok h = record {
     few = raw .few;
     room = omega (arith, f .same);
-    packed = λ i l. let e : 6 * i ≡ 0 + 6 * i = omega arith in rw e (lifted-packed N 0 C 0 L₀ 0 L n f (λ z. omega arith) (λ j k. let ej : 0 + 6 * j ≡ 6 * j = omega arith in rw ej (raw .packed j k)) i l);
+    packed = λ i l. let e : 6 * i ≡ 0 + 6 * i = omega arith in rw e (lifted-packed N 0 C L₀ 0 L n f (λ j k. let ej : 0 + 6 * j ≡ 6 * j = omega arith in rw ej (raw .packed j k)) i l);
   }
 
   inner : (i k : ℕ) (r : Ref) → getElem? (refsAt (nodesIn N 0 n) i) k ≡ some r → InRange n r
@@ -36,8 +36,8 @@ module _ (N C L₀ L : List ℕ) (n : ℕ) (raw : Raw N n) (f : Lifted N 0 (6 * 
 
   looks-are : Below n C → nodesIn L 0 n ≡ map (renameNode (colourOf (take n C))) (nodesIn N 0 n)
   looks-are b =
-      lifted-nodes N 0 C 0 L₀ 0 L n f
-      ∙ nodes-agree (turnRef C 0) (rename (colourOf (take n C))) (InRange n)
+      lifted-nodes N 0 C L₀ 0 L n f
+      ∙ nodes-agree (turnRef C) (rename (colourOf (take n C))) (InRange n)
       (turn-rename C n (colourOf (take n C)) (raw .few) (λ i h. sym (getD-take n C i 0 h))
       (λ i h. rw (getD-take n C i 0 h) (omega (arith, b .low i h, raw .few))))
       (nodesIn N 0 n) inner
@@ -85,11 +85,14 @@ module _ (N : List ℕ) (n : ℕ) (raw : Raw N n) where
         let ek : k ≡ suc (k - 1) = omega arith in
         sym (inv ∙ ap (λ (q : ℕ). refineTo q (nodesIn N 0 n) (take n C)) ek ∙ turn-step (nodesIn N 0 n) (take n C) (k - 1) true (sym test ∙ t))
 
-    module _ (nt : r ≡ false) (C2 : List ℕ) (g : Filled (λ i. getD X i 0) n C2) (long : 256 ≤ length C2) (longX : 256 ≤ length X) where
+    module _ (nt : r ≡ false) (C2 : List ℕ) (g : Carried X 0 C 0 n C2) (long : 256 ≤ length C2) (longX : 256 ≤ length X) where
+      byte-is : (i : ℕ) → i < n → getD C2 i 0 ≡ getD X i 0
+      byte-is i l = let z : 0 + i ≡ i = omega arith in rw z at (g .here i l)
+
       copied-is : take n C2 ≡ take n X
       copied-is =
           front-is C2 (take n X) n (length-take-le n X (omega (arith, raw .few))) (omega (arith, raw .few))
-          (λ i l. g .at i l ∙ sym (getD-take n X i 0 l))
+          (λ i l. byte-is i l ∙ sym (getD-take n X i 0 l))
 
       pub settle-more : colours (nodesIn N 0 n) ≡ refineTo (k - 1) (nodesIn N 0 n) (take n C2)
       settle-more =
@@ -102,7 +105,7 @@ module _ (N : List ℕ) (n : ℕ) (raw : Raw N n) where
         room = long;
         low = λ i l.
             let h : i < length (nodesIn N 0 n) = rw (length-nodes N 0 n) l in
-            let ei : getD C2 i 0 ≡ getD (refine (nodesIn N 0 n) (take n C)) i 0 = g .at i l ∙ sym (getD-take n X i 0 l) ∙ ap (λ (x : List ℕ). getD x i 0) e in
+            let ei : getD C2 i 0 ≡ getD (refine (nodesIn N 0 n) (take n C)) i 0 = byte-is i l ∙ sym (getD-take n X i 0 l) ∙ ap (λ (x : List ℕ). getD x i 0) e in
             omega (arith, next-low (nodesIn N 0 n) (take n C) i h);
       }
 

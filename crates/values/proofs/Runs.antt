@@ -1,4 +1,4 @@
--- Laws of comparing runs of bytes, and of filling tables.
+-- Laws of comparing and copying runs of bytes, and of filling tables.
 use Prim.Native.Nat.{ℕ, suc, _+_, _-_, _<_, _≤_}
 use native.Mathlib.Omega.{arith}
 use native.Mathlib.Decide.{ℕ-discrete}
@@ -6,13 +6,13 @@ use mathlib.Core.Path.{_≡_, refl, sym, _∙_}
 use mathlib.Core.Bool.{Bool, true, false}
 use mathlib.Core.List.{List, [], _∷_}
 use lib.Dec.{eqb}
-use lib.ListN.{length, getD, set}
+use lib.ListN.{length, getD, set, length-set}
 use lib.Seq.{drop-cons, getD-set-same, getD-set-other}
 use borrow.Author.Tests.{eq-eqb, ne-eqb}
 use Rattle.cofj.specs.Values.{eqNats}
 use Rattle.cofj.proofs.Basics.{true-both}
 use Rattle.values.specs.Layout.{part}
-use Rattle.values.specs.Tables.{Filled}
+use Rattle.values.specs.Tables.{Filled, Carried}
 
 pub eqNats-refl : (l : List ℕ) → eqNats l l ≡ true
 unfolding eqNats
@@ -59,6 +59,26 @@ same-start A B i j n =
     let ej : j + 0 ≡ j = omega arith in
     let en : n - 0 ≡ n = omega arith in
     rw (ei, ej, en)
+
+-- ---- runs of bytes copied
+pub carry-none : (S : List ℕ) (i : ℕ) (D : List ℕ) (j : ℕ) → Carried S i D j 0 D
+carry-none S i D j = record { same = refl; here = λ k h. absurd (omega arith); below = λ p h. refl; above = λ p h. refl }
+
+pub carry-more : (S : List ℕ) (i : ℕ) (D₀ : List ℕ) (j k : ℕ) (D : List ℕ) (n : ℕ) → Carried S i D₀ j k D → k < n → j + n ≤ length D₀
+    → Carried S i D₀ j (k + 1) (set D (j + k) (getD S (i + k) 0))
+carry-more S i D₀ j k D n c h room = record {
+  same = length-set D (j + k) _ ∙ c .same;
+  here = λ y l. go y l (ℕ-discrete y k);
+  below = λ p l. getD-set-other D (j + k) p _ 0 (λ z. omega arith) ∙ c .below p l;
+  above = λ p l. getD-set-other D (j + k) p _ 0 (λ z. omega arith) ∙ c .above p (omega arith);
+}
+  where
+    go : (y : ℕ) → y < k + 1 → Dec (y ≡ k) → getD (set D (j + k) (getD S (i + k) 0)) (j + y) 0 ≡ getD S (i + y) 0
+    go y l (yes z) = rw z (getD-set-same D (j + k) _ 0 (omega (arith, c .same)))
+    go y l (no z) = getD-set-other D (j + k) (j + y) _ 0 (λ q. z (omega arith)) ∙ c .here y (omega (arith, z))
+
+pub carry-done : (S : List ℕ) (i : ℕ) (D₀ : List ℕ) (j k : ℕ) (D : List ℕ) (n : ℕ) → Carried S i D₀ j k D → k ≤ n → n ≤ k → Carried S i D₀ j n D
+carry-done S i D₀ j k D n c h l = let e : k ≡ n = omega arith in rw e at c
 
 -- ---- tables
 pub filled-none : (F : ℕ → ℕ) (A : List ℕ) → Filled F 0 A

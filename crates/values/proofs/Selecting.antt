@@ -3,12 +3,11 @@ use Prim.Native.Nat.{ℕ, zero, suc, _+_, _-_, _*_, _<_, _≤_}
 use native.Mathlib.Omega.{arith}
 use native.Mathlib.Decide.{ℕ-discrete}
 use mathlib.Core.Path.{_≡_, refl, sym, ap, _∙_, subst}
-use mathlib.Core.Logic.{⊎-elim}
 use mathlib.Core.List.{List, [], _∷_}
 use mathlib.Core.Option.{none, some}
 use lib.ListN.{length, getD, take, getElem?, length-take}
 use lib.Seq.{getD-take}
-use borrow.Author.Tests.{eq-eqb, ne-eqb, eqb-false}
+use borrow.Author.Tests.{eq-eqb, ne-eqb}
 use types.Run.{OneOf}
 use denote.Enum.Declared.{tagOf}
 use Rattle.cofj.specs.Values.{Ref, mark, undet, Node, graph, refsAt, canon, canonBy, visit, select, selected, markOf, undetermined}
@@ -17,12 +16,12 @@ use Rattle.values.specs.declared.ValueRef.{ValueRef}
 use Rattle.values.specs.declared.ValueRef.the-variants.{Object, Mark, Undetermined}
 use Rattle.values.specs.declared.Selected.{Selected}
 use Rattle.values.specs.declared.Selected.the-variants.{Value, Stuck}
-use Rattle.values.specs.Layout.{refOf, nodeIn, objectsIn, graphAt, Inside, countIn, Holds, HeldBy, Outside, Beneath}
+use Rattle.values.specs.Layout.{refOf, nodeIn, objectsIn, graphAt, Inside, countIn, Outside, Beneath}
 use Rattle.values.specs.Operations.{Chosen, Leaf}
 use Rattle.values.proofs.ValueRef as RefT
-use Rattle.values.proofs.Nodes.{at-nodes, ref-object, ref-undet, ref-mark}
+use Rattle.values.proofs.Nodes.{some-at, at-nodes, ref-object, ref-undet, ref-mark}
 use Rattle.values.proofs.Walks.{four, four-at}
-use Rattle.values.proofs.Blocks.{inner-in, whole-at}
+use Rattle.values.proofs.Blocks.{no-object, inner-in, whole-at}
 use Rattle.values.proofs.Trees.{select-canon}
 
 pub unchanged : (b : ℕ) (W : List ℕ) → Outside b W W
@@ -32,11 +31,6 @@ pub under : (b : ℕ) (W W′ : List ℕ) → Outside b W W′ → Beneath b W W
 under b W W′ o = record { same = o .same; below = o .below }
 
 -- ---- an item of a list, if there is one
-get-some : (l : List Ref) (f : ℕ) → f < length l → getElem? l f ≡ some (getD l f undet)
-get-some [] f h = absurd (omega arith)
-get-some (x ∷ l) zero h = refl
-get-some (x ∷ l) (suc f) h = get-some l f (omega arith)
-
 get-none : (l : List Ref) (f : ℕ) → length l ≤ f → getElem? l f ≡ none
 get-none [] f h = refl
 get-none (x ∷ l) zero h = absurd (omega arith)
@@ -54,9 +48,6 @@ canon-undet ns = refl
 module _ (W : List ℕ) (b i f : ℕ) (ob : Inside W b i) where
   abbrev at : ℕ
   at = 240 * b + 6 * i
-
-  pub at-room : at + 6 ≤ length W
-  at-room = omega (arith, ob .block .room, ob .block .small, ob .low)
 
   pub count-four : getD W (at + 1) 0 ≤ 4
   count-four = ob .block .packed i (ob .low) .count
@@ -78,7 +69,7 @@ module _ (W : List ℕ) (b i f : ℕ) (ob : Inside W b i) where
     field-at : getElem? (refsAt (objectsIn W b) i) f ≡ some (refOf (getD W (at + 2 + f) 0))
     field-at =
         let e6 : 6 * (40 * b + i) + 2 + f ≡ at + 2 + f = omega arith in
-        get-some (refsAt (objectsIn W b) i) f (omega (arith, length-refs))
+        some-at (refsAt (objectsIn W b) i) f (omega (arith, length-refs))
         ∙ ap some (ap (λ (l : List Ref). getD l f undet) refs-at
         ∙ getD-take (getD W (at + 1) 0) (four W (40 * b + i)) f undet hf
         ∙ four-at W (40 * b + i) f (omega (arith, count-four))
@@ -128,15 +119,7 @@ module _ (W : List ℕ) (b i f : ℕ) (ob : Inside W b i) where
 module _ (W : List ℕ) (r : ValueRef) (f : ℕ) where
   pub select-none : OneOf (1 ∷ 2 ∷ []) (tagOf RefT.the-type r) → Chosen W r f Stuck
   unfolding select
-  select-none h = go r h
-    where
-      go : (r : ValueRef) → OneOf (1 ∷ 2 ∷ []) (tagOf RefT.the-type r) → Chosen W r f Stuck
-      go (Object n i) h = ⊎-elim (λ e. absurd (eqb-false 0 1 refl e)) (λ e. absurd (eqb-false 0 2 refl e)) h
-      go (Mark n) h = record { held = tt; is = refl; place = λ sp q. tt }
-      go Undetermined h = record { held = tt; is = refl; place = λ sp q. tt }
-
-  pub select-inside : (b i : ℕ) → Holds W r → r ≡ Object b i → Inside W b i
-  select-inside b i h e = subst (HeldBy W) e (h .held)
+  select-none = no-object (λ x. Chosen W x f Stuck) (λ k. record { held = tt; is = refl; place = λ sp q. tt }) (record { held = tt; is = refl; place = λ sp q. tt }) r
 
   pub select-one : (b i : ℕ) (o : Selected) → r ≡ Object b i → Chosen W (Object b i) f o → Chosen W r f o
   select-one b i o e c = rw e c

@@ -9,7 +9,7 @@ use mathlib.Core.Option.{some}
 use lib.Dec.{eqb}
 use lib.ListN.{length, getD, set, getElem?, replicate, length-set, length-replicate, getD-replicate, List·getD-eq-default}
 use lib.Seq.{getD-set-same, getD-set-other}
-use borrow.Author.Tests.{lt-ltb, le-ltb, eq-eqb, ne-eqb, eqb-true, eqb-false}
+use borrow.Author.Tests.{lt-ltb, le-ltb, eq-eqb, ne-eqb}
 use Rattle.cofj.specs.Partial.{_>>=_}
 use Rattle.cofj.specs.Values.{Ref, obj, mark, undet, Node, Graph, nodeAt, refsAt, canon, eqRef, eqNode, eqNodes, eqGraph}
 use Rattle.cofj.specs.Unfolding.{object, opened, unknown, follow, Same, InRange, Whole}
@@ -19,9 +19,10 @@ use Rattle.cofj.proofs.Traces.{eqGraph-true}
 use Rattle.cofj.proofs.Unique.{same-canon, canon-tree}
 use Rattle.values.specs.declared.ValueRef.{ValueRef}
 use Rattle.values.specs.declared.ValueRef.the-variants.{Object, Mark, Undetermined}
-use Rattle.values.specs.Layout.{codeOf, countIn, objectsIn, graphAt, Block, Inside, valueOf, Holds, HeldBy}
-use Rattle.values.specs.Stepping.{After, after, stepCode, CodeFits, unpaired, Paired, AllSame, Grown, Linked, Pair, Alike, AlikeTest, FieldsSoFar, Closed, PairsSoFar, ObjectStep, InStep}
-use Rattle.values.proofs.Nodes.{byteOf, packed-byte, length-nodes, at-nodes}
+use Rattle.values.specs.Layout.{codeOf, Alike, alikeAt, countIn, objectsIn, graphAt, Block, Inside, valueOf}
+use Rattle.values.specs.Stepping.{After, after, stepCode, CodeFits, unpaired, Paired, AllSame, Grown, Linked, Pair, FieldsSoFar, Closed, PairsSoFar, ObjectStep, InStep}
+use Rattle.values.proofs.Trees.{in-larger, leaf-same}
+use Rattle.values.proofs.Nodes.{some-at, byteOf, packed-byte, length-nodes, at-nodes, alike-no}
 
 -- ---- one code
 module _ (T Q : List ℕ) (t a b : ℕ) where
@@ -144,11 +145,6 @@ module _ (n m : ℕ) (T Q : List ℕ) (t a b : ℕ) (pd : Paired n m T Q t) (few
       go (no z) = getD-set-other T a x (b + 1) 0 z ∙ w
 
 -- ---- an object of a block, by its bytes
-pub some-at : (rs : List Ref) (f : ℕ) → f < length rs → getElem? rs f ≡ some (getD rs f undet)
-some-at [] f h = absurd (omega arith)
-some-at (r ∷ rs) zero h = refl
-some-at (r ∷ rs) (suc f) h = some-at rs f (omega arith)
-
 module _ (W : List ℕ) (b : ℕ) (bk : Block W b) where
   size : length (objectsIn W b) ≡ countIn W b
   unfolding objectsIn
@@ -181,9 +177,6 @@ module _ (W : List ℕ) (b : ℕ) (bk : Block W b) where
 
 -- ---- two objects look alike
 module _ (W : List ℕ) (b x : ℕ) (ib : Inside W b x) where
-  pub class-read : 240 * b + 6 * x < length W
-  class-read = omega (arith, ib .block .room, ib .block .small, ib .low)
-
   pub count-read : 240 * b + 6 * x + 1 < length W
   count-read = omega (arith, ib .block .room, ib .block .small, ib .low)
 
@@ -191,37 +184,24 @@ module _ (W : List ℕ) (b x : ℕ) (ib : Inside W b x) where
   code-read k h = omega (arith, ib .block .room, ib .block .small, ib .low, ib .block .packed x (ib .low) .count)
 
 module _ (W : List ℕ) (b x c y : ℕ) where
-  pub alike-not : ((getD W (240 * b + 6 * x) 0 ≡ getD W (240 * c + 6 * y) 0) → ⊥) → AlikeTest W b x c y false
-  alike-not d = record { yes = λ z. absurd (false≢true z); no = λ _ a. d (a .cls) }
-
-  pub alike-by-count : getD W (240 * b + 6 * x) 0 ≡ getD W (240 * c + 6 * y) 0 → AlikeTest W b x c y (eqb (getD W (240 * b + 6 * x + 1) 0) (getD W (240 * c + 6 * y + 1) 0))
-  alike-by-count e = record {
-    yes = λ z. record { cls = e; count = eqb-true _ _ z };
-    no = λ z a. eqb-false _ _ z (a .count);
-  }
-
-  pub alike-yes : (r : Bool) → AlikeTest W b x c y r → r ≡ true → Alike W b x c y
-  alike-yes r l e = l .yes e
-
   module _ (ib : Inside W b x) (ic : Inside W c y) where
-    same-alike : Same (objectsIn W b) (obj x) (objectsIn W c) (obj y) → Alike W b x c y
+    same-alike : Same (objectsIn W b) (obj x) (objectsIn W c) (obj y) → Alike W (240 * b + 6 * x) (240 * c + 6 * y)
     same-alike s = record {
       cls = cls-is W b (ib .block) x (ib .low) ∙ same-cls (objectsIn W b) (objectsIn W c) x y s ∙ sym (cls-is W c (ic .block) y (ic .low));
       count = count-is W b (ib .block) x (ib .low) ∙ same-count (objectsIn W b) (objectsIn W c) x y s ∙ sym (count-is W c (ic .block) y (ic .low));
     }
 
 -- ---- what two references with one tree say of their codes, and the other way round
-module _ (ns ms : List Node) where
-  leaf-codes : (r s : Ref) → InRange 32 r → InRange 32 s → Same ns r ms s → 192 ≤ codeOf r → codeOf r ≡ codeOf s
-  leaf-codes (obj i) s hr hs e h = absurd (omega arith)
-  leaf-codes (mark k) (obj j) hr hs e h = let z : some (opened k) ≡ some (object _ _) = e [] in cc
-  leaf-codes (mark k) (mark l) hr hs e h = let z : some (opened k) ≡ some (opened l) = e [] in let q : k ≡ l = cc in omega arith
-  leaf-codes (mark k) undet hr hs e h = let z : some (opened k) ≡ some unknown = e [] in cc
-  leaf-codes undet (obj j) hr hs e h = let z : some unknown ≡ some (object _ _) = e [] in cc
-  leaf-codes undet (mark l) hr hs e h = let z : some unknown ≡ some (opened l) = e [] in cc
-  leaf-codes undet undet hr hs e h = refl
+pub leaf-codes : (ns ms : List Node) (r s : Ref) → InRange 192 r → Same ns r ms s → 192 ≤ codeOf r → codeOf r ≡ codeOf s
+leaf-codes ns ms (obj i) s hr e h = absurd (omega arith)
+leaf-codes ns ms (mark k) (obj j) hr e h = let z : some (opened k) ≡ some (object _ _) = e [] in cc
+leaf-codes ns ms (mark k) (mark l) hr e h = let z : some (opened k) ≡ some (opened l) = e [] in let q : k ≡ l = cc in omega arith
+leaf-codes ns ms (mark k) undet hr e h = let z : some (opened k) ≡ some unknown = e [] in cc
+leaf-codes ns ms undet (obj j) hr e h = let z : some unknown ≡ some (object _ _) = e [] in cc
+leaf-codes ns ms undet (mark l) hr e h = let z : some unknown ≡ some (opened l) = e [] in cc
+leaf-codes ns ms undet undet hr e h = refl
 
-codes-leaf : (r s : Ref) → InRange 32 r → InRange 32 s → 192 ≤ codeOf r → codeOf r ≡ codeOf s → r ≡ s
+codes-leaf : (r s : Ref) → InRange 192 r → InRange 192 s → 192 ≤ codeOf r → codeOf r ≡ codeOf s → r ≡ s
 codes-leaf (obj i) s hr hs h e = absurd (omega arith)
 codes-leaf (mark k) (obj j) hr hs h e = absurd (omega arith)
 codes-leaf (mark k) (mark l) hr hs h e = ap mark (omega arith)
@@ -230,22 +210,15 @@ codes-leaf undet (obj j) hr hs h e = absurd (omega arith)
 codes-leaf undet (mark l) hr hs h e = absurd (omega arith)
 codes-leaf undet undet hr hs h e = refl
 
-leaf-follow : (ns ms : List Node) (r : Ref) → InRange 32 r → 192 ≤ codeOf r → (p : List ℕ) → follow ns r p ≡ follow ms r p
-leaf-follow ns ms (obj i) h k p = absurd (omega arith)
-leaf-follow ns ms (mark i) h k [] = refl
-leaf-follow ns ms (mark i) h k (f ∷ p) = refl
-leaf-follow ns ms undet h k [] = refl
-leaf-follow ns ms undet h k (f ∷ p) = refl
+leaf-range : (r : Ref) → InRange 192 r → 192 ≤ codeOf r → InRange 0 r
+leaf-range (obj i) h k = absurd (omega arith)
+leaf-range (mark i) h k = tt
+leaf-range undet h k = tt
 
 pub is-object : (r : Ref) → codeOf r < 192 → r ≡ obj (codeOf r)
 is-object (obj i) h = refl
 is-object (mark k) h = absurd (omega arith)
 is-object undet h = absurd (omega arith)
-
-range-up : (n : ℕ) (r : Ref) → n ≤ 32 → InRange n r → InRange 32 r
-range-up n (obj i) h l = omega arith
-range-up n (mark k) h l = tt
-range-up n undet h l = tt
 
 pub object-low : (n : ℕ) (r : Ref) → InRange n r → codeOf r < 192 → codeOf r < n
 object-low n (obj i) l h = l
@@ -270,11 +243,11 @@ module _ (W : List ℕ) (b c : ℕ) (T₀ Q₀ : List ℕ) (t₀ : ℕ) where
     fails : (AllSame W b c T₀ → ⊥) → Stepped T r s (after 0 T Q)
     fails h = record { differ = λ _. h; grown = λ z. absurd (z refl); paired = λ z. absurd (z refl); linked = λ z. absurd (z refl); further = λ z. absurd (z refl) }
 
-    r32 : InRange 32 r
-    r32 = range-up (countIn W b) r (bb .small) hr
+    r192 : InRange 192 r
+    r192 = in-larger (countIn W b) 192 r (omega (arith, bb .small)) hr
 
-    s32 : InRange 32 s
-    s32 = range-up (countIn W c) s (bc .small) hs
+    s192 : InRange 192 s
+    s192 = in-larger (countIn W c) 192 s (omega (arith, bc .small)) hs
 
     module _ (ha : codeOf r < 192) (hb : codeOf s < 192) where
       twins : AllSame W b c T₀ → Same (objectsIn W b) (obj (codeOf r)) (objectsIn W c) (obj (codeOf s))
@@ -333,24 +306,24 @@ module _ (W : List ℕ) (b c : ℕ) (T₀ Q₀ : List ℕ) (t₀ : ℕ) where
         go (yes ha) (yes hb) d = objects-step ha hb
         go (yes ha) (no hb) d =
             subst (Stepped T r s) (code-second T Q t (codeOf r) (codeOf s) ha (omega (arith, hb)))
-            (fails (λ al. omega (arith, hb, leaf-codes (objectsIn W c) (objectsIn W b) s r s32 r32 (λ p. sym (ch al p)) (omega (arith, hb)))))
+            (fails (λ al. omega (arith, hb, leaf-codes (objectsIn W c) (objectsIn W b) s r s192 (λ p. sym (ch al p)) (omega (arith, hb)))))
         go (no ha) hb (yes e) = subst (Stepped T r s) (code-equal T Q t (codeOf r) (codeOf s) (omega (arith, ha)) e) (same-again (record { leaf = λ _. e; pair = λ h. absurd (ha h) }))
         go (no ha) hb (no d) =
             subst (Stepped T r s) (code-other T Q t (codeOf r) (codeOf s) (omega (arith, ha)) d)
-            (fails (λ al. d (leaf-codes (objectsIn W b) (objectsIn W c) r s r32 s32 (ch al) (omega (arith, ha)))))
+            (fails (λ al. d (leaf-codes (objectsIn W b) (objectsIn W c) r s r192 (ch al) (omega (arith, ha)))))
 
 -- ---- one object and its partner
 module _ (W : List ℕ) (b x c y : ℕ) (T₀ Q₀ : List ℕ) (t₀ : ℕ) where
   stop : (AllSame W b c T₀ → ⊥) → (T Q : List ℕ) → ObjectStep W b x c y T₀ Q₀ t₀ T Q 0
   stop h T Q = record { differ = λ _. h; grown = λ z. absurd (z refl); paired = λ z. absurd (z refl); closed = λ z. absurd (z refl) }
 
-  pub object-differs : (r : Bool) → Pair W b x c y T₀ Q₀ t₀ → AlikeTest W b x c y r → r ≡ false → ObjectStep W b x c y T₀ Q₀ t₀ T₀ Q₀ 0
-  object-differs r pr l z = stop (λ al. l .no z (same-alike W b x c y (pr .first) (pr .second) (al .same x y (pr .here)))) T₀ Q₀
+  pub object-differs : (r : Bool) → Pair W b x c y T₀ Q₀ t₀ → r ≡ alikeAt W (240 * b + 6 * x) (240 * c + 6 * y) → r ≡ false → ObjectStep W b x c y T₀ Q₀ t₀ T₀ Q₀ 0
+  object-differs r pr l z = stop (λ al. alike-no W _ _ r l z (same-alike W b x c y (pr .first) (pr .second) (al .same x y (pr .here)))) T₀ Q₀
 
   pub pair-count-read : Pair W b x c y T₀ Q₀ t₀ → 240 * b + 6 * x + 1 < length W
   pair-count-read pr = count-read W b x (pr .first)
 
-  pub fields-start : Pair W b x c y T₀ Q₀ t₀ → Alike W b x c y → FieldsSoFar W b x c y T₀ Q₀ t₀ T₀ Q₀ t₀ 0
+  pub fields-start : Pair W b x c y T₀ Q₀ t₀ → Alike W (240 * b + 6 * x) (240 * c + 6 * y) → FieldsSoFar W b x c y T₀ Q₀ t₀ T₀ Q₀ t₀ 0
   fields-start pr a = record {
     start = pr;
     alike = a;
@@ -476,9 +449,9 @@ module _ (W : List ℕ) (b c : ℕ) (bb : Block W b) (bc : Block W c) where
             ap (λ (q : Ref). follow (objectsIn W b) q p) (is-object r h) ∙ ih (codeOf r) (codeOf s) e ∙ ap (λ (q : Ref). follow (objectsIn W c) q p) (sym (is-object s k))
         go (no h) =
             let k : 192 ≤ codeOf r = omega (arith, h) in
-            let i : InRange 32 r = range-up (countIn W b) r (bb .small) hr in
-            leaf-follow (objectsIn W b) (objectsIn W c) r i k p
-            ∙ ap (λ (q : Ref). follow (objectsIn W c) q p) (codes-leaf r s i (range-up (countIn W c) s (bc .small) hs) k (l .leaf k))
+            let i : InRange 192 r = in-larger (countIn W b) 192 r (omega (arith, bb .small)) hr in
+            leaf-same (objectsIn W b) (objectsIn W c) r (leaf-range r i k) p
+            ∙ ap (λ (q : Ref). follow (objectsIn W c) q p) (codes-leaf r s i (in-larger (countIn W c) 192 s (omega (arith, bc .small)) hs) k (l .leaf k))
 
     low-first : (x y : ℕ) → getD T x 0 ≡ y + 1 → x < countIn W b
     low-first x y e = let o = pd .listed x y e in let h : o .0 < t = o .1 in subst (λ (k : ℕ). k < countIn W b) (o .2) (pd .low (o .0) h)
@@ -629,8 +602,8 @@ module _ (W : List ℕ) (b i c j : ℕ) (ib : Inside W b i) (ic : Inside W c j) 
           (omega (arith, size W c (ic .block), ib .low, ap (countIn W) z)) (omega (arith, size W c (ic .block), ic .low))
           (λ p. ap (λ (k : ℕ). follow (objectsIn W k) (obj i) p) (sym z) ∙ s p)))
 
-  pub roots-differ : (r : Bool) → AlikeTest W b i c j r → r ≡ false → false ≡ eqGraph (canon (graphAt W b i)) (canon (graphAt W c j))
-  roots-differ r l z = trees-differ (λ s. l .no z (same-alike W b i c j ib ic s))
+  pub roots-differ : (r : Bool) → r ≡ alikeAt W (240 * b + 6 * i) (240 * c + 6 * j) → r ≡ false → false ≡ eqGraph (canon (graphAt W b i)) (canon (graphAt W c j))
+  roots-differ r l z = trees-differ (λ s. alike-no W _ _ r l z (same-alike W b i c j ib ic s))
 
   -- the roots are the first pair
   module _ (k : ℕ) (ek : k ≡ 32) where
@@ -709,9 +682,3 @@ module _ (W : List ℕ) (a b : ValueRef) where
   pub undet-undet : a ≡ Undetermined → b ≡ Undetermined → true ≡ eqGraph (valueOf W a) (valueOf W b)
   unfolding eqGraph eqNodes
   undet-undet ea eb = rw (ea, eb)
-
-  pub held-object : (x i : ℕ) → Holds W a → a ≡ Object x i → Inside W x i
-  held-object x i h e = subst (HeldBy W) e (h .held)
-
-  pub held-other : (y j : ℕ) → Holds W b → b ≡ Object y j → Inside W y j
-  held-other y j h e = subst (HeldBy W) e (h .held)

@@ -1,5 +1,5 @@
 -- What graphs that unfold to the same tree give: the same field, the same X = u, the same new object.
-use Prim.Native.Nat.{ℕ, zero, suc}
+use Prim.Native.Nat.{ℕ, zero, suc, _≤_}
 use native.Mathlib.Omega.{arith}
 use mathlib.Core.Path.{_≡_, refl, sym, ap, _∙_, subst}
 use mathlib.Core.Bool.{Bool, true, false}
@@ -20,6 +20,20 @@ child-in : (g : Graph) → Whole g → (r : Ref) (f : ℕ) (s : Ref) → child (
 child-in g w (obj i) f s e = w .inner i f s e
 child-in g w (mark k) f s e = absurd (Option·none-ne-some s e)
 child-in g w undet f s e = absurd (Option·none-ne-some s e)
+
+-- ---- references that lead to no object
+pub in-larger : (n m : ℕ) (r : Ref) → n ≤ m → InRange n r → InRange m r
+in-larger n m (obj i) h l = omega arith
+in-larger n m (mark k) h l = tt
+in-larger n m undet h l = tt
+
+-- one that is in range of no objects unfolds to itself, whatever the objects are
+pub leaf-same : (ns ms : List Node) (r : Ref) → InRange 0 r → Same ns r ms r
+leaf-same ns ms (obj i) h p = absurd (omega arith)
+leaf-same ns ms (mark k) h [] = refl
+leaf-same ns ms (mark k) h (f ∷ p) = refl
+leaf-same ns ms undet h [] = refl
+leaf-same ns ms undet h (f ∷ p) = refl
 
 -- ---- a field
 abbrev pick : List Node → ℕ → Ref → Option Graph
@@ -58,13 +72,9 @@ module _ (x i j : ℕ) (ns ms : List Node) (root : Same ns (obj i) ms (obj j)) w
   bind-same (mark k) (obj b) e = let z : some (opened k) ≡ some (object _ _) = e [] in absurd (let q : _≡_ {A = ℕ} 0 1 = cc in omega arith)
   bind-same (mark k) (mark l) e = let z : some (opened k) ≡ some (opened l) = e [] in let q : k ≡ l = cc in subst (λ (m : ℕ). Same ns (bind x (obj i) (mark k)) ms (bind x (obj j) (mark m))) q (go (eqb k x))
     where
-      ends : (p : List ℕ) → follow ns (mark k) p ≡ follow ms (mark k) p
-      ends [] = refl
-      ends (f ∷ p) = refl
-
       go : (t : Bool) → Same ns (elim t as (λ _. Ref) [ true ↦ obj i | false ↦ mark k ]) ms (elim t as (λ _. Ref) [ true ↦ obj j | false ↦ mark k ])
       go true = root
-      go false = ends
+      go false = leaf-same ns ms (mark k) tt
   bind-same (mark k) undet e = let z : some (opened k) ≡ some unknown = e [] in absurd (let q : _≡_ {A = ℕ} 0 1 = cc in omega arith)
   bind-same undet (obj b) e = let z : some unknown ≡ some (object _ _) = e [] in absurd (let q : _≡_ {A = ℕ} 0 1 = cc in omega arith)
   bind-same undet (mark l) e = let z : some unknown ≡ some (opened l) = e [] in absurd (let q : _≡_ {A = ℕ} 0 1 = cc in omega arith)

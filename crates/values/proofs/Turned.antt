@@ -12,8 +12,8 @@ use Rattle.values.specs.Tables.{turned, copied, Lifted}
 use Rattle.values.proofs.Nodes.{code-ref, ref-object, ref-undet, ref-mark, AllPacked}
 use Rattle.values.proofs.Lifts.{turn-object, turn-other, copy-turned}
 
-abbrev pub turnRef : List ℕ → ℕ → Ref → Ref
-turnRef T hot r = refOf (turned T hot (codeOf r))
+abbrev pub turnRef : List ℕ → Ref → Ref
+turnRef T r = refOf (turned T (codeOf r))
 
 -- a node with its references changed
 abbrev pub changed : (Ref → Ref) → Node → Node
@@ -24,11 +24,11 @@ map-take f zero l = refl
 map-take f (suc n) [] = refl
 map-take f (suc n) (x ∷ l) = ap (λ (t : List Ref). f x ∷ t) (map-take f n l)
 
-module _ (S D T : List ℕ) (hot : ℕ) where
+module _ (S D T : List ℕ) where
   abbrev Here : ℕ → ℕ → ℕ → Type 0
-  Here from to n = (p : ℕ) → p < n → getD D (to + p) 0 ≡ copied T hot (p % 6) (getD S (from + p) 0)
+  Here from to n = (p : ℕ) → p < n → getD D (to + p) 0 ≡ copied T (p % 6) (getD S (from + p) 0)
 
-  node-turned : (from to : ℕ) → Here from to 6 → nodeIn D to ≡ changed (turnRef T hot) (nodeIn S from)
+  node-turned : (from to : ℕ) → Here from to 6 → nodeIn D to ≡ changed (turnRef T) (nodeIn S from)
   unfolding nodeIn copied
   node-turned from to h =
       let za : to + 0 ≡ to = omega arith in
@@ -55,16 +55,16 @@ module _ (S D T : List ℕ) (hot : ℕ) where
       let ec : p % 6 ≡ (6 + p) % 6 = omega arith in
       rw (ea, eb, ec) (h (6 + p) (omega arith))
 
-  nodes-turned : (n from to : ℕ) → Here from to (6 * n) → nodesIn D to n ≡ map (changed (turnRef T hot)) (nodesIn S from n)
+  nodes-turned : (n from to : ℕ) → Here from to (6 * n) → nodesIn D to n ≡ map (changed (turnRef T)) (nodesIn S from n)
   unfolding nodesIn
   nodes-turned zero from to h = refl
   nodes-turned (suc n) from to h =
       ap₂ {C = List Node} _∷_ (node-turned from to (λ p l. h p (omega arith)))
       (nodes-turned n (from + 6) (to + 6) (later from to n h))
 
-  packed-turned : (from to : ℕ) → ((hot ≡ 192) → ⊥) → Here from to 6 → Packed S from → Packed D to
+  packed-turned : (from to : ℕ) → Here from to 6 → Packed S from → Packed D to
   unfolding copied
-  packed-turned from to nh h pk = record {
+  packed-turned from to h pk = record {
     count = rw (h 1 (omega arith)) (pk .count);
     spare = λ k a b. spare′ k a b;
   }
@@ -74,11 +74,11 @@ module _ (S D T : List ℕ) (hot : ℕ) where
           let e1 : getD D (to + 1) 0 ≡ getD S (from + 1) 0 = h 1 (omega arith) in
           let es : getD S (from + k) 0 ≡ 192 = pk .spare k (omega arith) b in
           let ek : k % 6 ≡ k = omega arith in
-          h k b ∙ rw (es, ek) (sym (copy-turned T hot 192 k 192 (omega arith) (turn-other T hot 192 (omega arith) (λ z. nh (sym z)))))
+          h k b ∙ rw (es, ek) (sym (copy-turned T 192 k 192 (omega arith) (turn-other T 192 (omega arith))))
 
-  all-turned : (n from to : ℕ) → ((hot ≡ 192) → ⊥) → Here from to (6 * n) → AllPacked S from n → AllPacked D to n
-  all-turned n from to nh h pk i l =
-      packed-turned (from + 6 * i) (to + 6 * i) nh
+  all-turned : (n from to : ℕ) → Here from to (6 * n) → AllPacked S from n → AllPacked D to n
+  all-turned n from to h pk i l =
+      packed-turned (from + 6 * i) (to + 6 * i)
       (λ p k.
       let ea : to + 6 * i + p ≡ to + (6 * i + p) = omega arith in
       let eb : from + 6 * i + p ≡ from + (6 * i + p) = omega arith in
@@ -86,20 +86,20 @@ module _ (S D T : List ℕ) (hot : ℕ) where
       rw (ea, eb, ec) (h (6 * i + p) (omega arith)))
       (pk i l)
 
-pub lifted-nodes : (S : List ℕ) (from : ℕ) (T : List ℕ) (hot : ℕ) (D₀ : List ℕ) (to : ℕ) (D : List ℕ) (n : ℕ)
-    → Lifted S from (6 * n) T hot D₀ to D → nodesIn D to n ≡ map (changed (turnRef T hot)) (nodesIn S from n)
-lifted-nodes S from T hot D₀ to D n f = nodes-turned S D T hot n from to (f .here)
+pub lifted-nodes : (S : List ℕ) (from : ℕ) (T D₀ : List ℕ) (to : ℕ) (D : List ℕ) (n : ℕ)
+    → Lifted S from (6 * n) T D₀ to D → nodesIn D to n ≡ map (changed (turnRef T)) (nodesIn S from n)
+lifted-nodes S from T D₀ to D n f = nodes-turned S D T n from to (f .here)
 
-pub lifted-packed : (S : List ℕ) (from : ℕ) (T : List ℕ) (hot : ℕ) (D₀ : List ℕ) (to : ℕ) (D : List ℕ) (n : ℕ)
-    → Lifted S from (6 * n) T hot D₀ to D → ((hot ≡ 192) → ⊥) → AllPacked S from n → AllPacked D to n
-lifted-packed S from T hot D₀ to D n f nh pk = all-turned S D T hot n from to nh (f .here) pk
+pub lifted-packed : (S : List ℕ) (from : ℕ) (T D₀ : List ℕ) (to : ℕ) (D : List ℕ) (n : ℕ)
+    → Lifted S from (6 * n) T D₀ to D → AllPacked S from n → AllPacked D to n
+lifted-packed S from T D₀ to D n f pk = all-turned S D T n from to (f .here) pk
 
 -- ---- a table renames
 pub turn-rename : (T : List ℕ) (n : ℕ) (f : ℕ → ℕ) → n ≤ 192 → ((i : ℕ) → i < n → getD T i 0 ≡ f i) → ((i : ℕ) → i < n → f i < 192)
-    → (r : Ref) → InRange n r → turnRef T 0 r ≡ rename f r
-turn-rename T n f few e small (obj i) h = ap refOf (sym (turn-object T 0 i (omega arith)) ∙ e i h) ∙ ref-object (f i) (small i h)
-turn-rename T n f few e small (mark k) h = ap refOf (sym (turn-other T 0 (193 + k) (omega arith) (λ z. omega arith))) ∙ ref-mark k
-turn-rename T n f few e small undet h = ap refOf (sym (turn-other T 0 192 (omega arith) (λ z. omega arith))) ∙ ref-undet
+    → (r : Ref) → InRange n r → turnRef T r ≡ rename f r
+turn-rename T n f few e small (obj i) h = ap refOf (sym (turn-object T i (omega arith)) ∙ e i h) ∙ ref-object (f i) (small i h)
+turn-rename T n f few e small (mark k) h = ap refOf (sym (turn-other T (193 + k) (omega arith))) ∙ ref-mark k
+turn-rename T n f few e small undet h = ap refOf (sym (turn-other T 192 (omega arith))) ∙ ref-undet
 
 -- ---- changes that agree on what is there
 refs-agree : (f g : Ref → Ref) (P : Ref → Type 0) → ((r : Ref) → P r → f r ≡ g r) → (rs : List Ref)

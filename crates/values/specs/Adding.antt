@@ -1,13 +1,15 @@
 -- A new object beside the objects of the block where its parts lie, or alone in a block.
 use Prim.Native.Nat.{ℕ, _+_, _*_, _≤_, _<_}
 use mathlib.Core.Path.{_≡_}
-use mathlib.Core.Bool.{Bool, true, false}
+use mathlib.Core.Bool.{Bool, true, false, not}
 use mathlib.Core.List.{List, map}
+use lib.Dec.{eqb}
 use lib.ListN.{getD}
 use Rattle.cofj.specs.Values.{Ref, node, Graph}
 use Rattle.values.specs.declared.ValueRef.{ValueRef}
 use Rattle.values.specs.declared.ValueRef.the-variants.{Object, Mark, Undetermined}
 use Rattle.values.specs.declared.Slot.{Slot}
+use Rattle.values.specs.Tests.{any}
 use Rattle.values.specs.Layout.{nodeIn, Packed, countIn, levelIn, Outside}
 
 abbrev pub roots : List Graph → List Ref
@@ -48,24 +50,18 @@ isObject (Object b i) = true
 isObject (Mark k) = false
 isObject Undetermined = false
 
--- a value that lies in block b, or is no object
-abbrev pub In : ℕ → ValueRef → Type 0
-In b (Object x i) = x ≡ b
-In b (Mark k) = Unit {0}
-In b Undetermined = Unit {0}
-
-pub record Stands (b : ℕ) (v : ValueRef) (r : Bool) : Type 0 where
-  pub says : r ≡ true → In b v
+-- whether a value lies in block b, or is no object
+unfoldable pub standsIn : ℕ → ValueRef → Bool
+standsIn b (Object x i) = eqb x b
+standsIn b (Mark k) = true
+standsIn b Undetermined = true
 
 abbrev pub partOf : List Slot → ℕ → ValueRef
 partOf ps i = getD ps i (record { r = Object 0 0 }) .r
 
--- the first n parts lie in block b, or are no objects
-pub record Beside (ps : List Slot) (n b : ℕ) : Type 0 where
-  pub each : (i : ℕ) → i < n → In b (partOf ps i)
-
-pub record Together (ps : List Slot) (n b : ℕ) (r : Bool) : Type 0 where
-  pub says : r ≡ true → Beside ps n b
+-- whether each of the first n parts does
+unfoldable pub allStand : List Slot → ℕ → ℕ → Bool
+allStand ps n b = not (any (λ i. not (standsIn b (partOf ps i))) n)
 
 -- no part before f is an object
 pub record Leaves (ps : List Slot) (f : ℕ) : Type 0 where

@@ -2,12 +2,13 @@
 -- Not here: which of them are merged (Pairing, Rounds), a value in which the mark does not occur.
 use Prim.Native.Nat.{ℕ, _+_, _*_, _≤_, _<_}
 use mathlib.Core.Path.{_≡_}
-use mathlib.Core.Bool.{Bool, true, false, cond}
+use mathlib.Core.Bool.{Bool, true, not, cond}
 use mathlib.Core.List.{List}
 use lib.Dec.{eqb, ltb}
 use lib.ListN.{length, getD}
 use Rattle.cofj.specs.Values.{obj}
 use Rattle.cofj.specs.Unfolding.{Same}
+use Rattle.values.specs.Tests.{any}
 use Rattle.values.specs.Layout.{nodesIn, countIn, Distinct}
 use Rattle.values.specs.Rounds.{Raw}
 
@@ -35,28 +36,13 @@ pub record Bound (W : List ℕ) (b x i : ℕ) (R : List ℕ) (n : ℕ) : Type 0 
   pub objects : ObjectsBound W b (193 + x) i n R
   pub room : 1536 ≤ length R
 
--- none of the four codes of the object at a place is i
-pub record FreeOf (W : List ℕ) (p i : ℕ) : Type 0 where
-  pub codes : (f : ℕ) → f < 4 → getD W (p + 2 + f) 0 ≡ i → ⊥
+-- whether one of the four codes of the object at a place is i
+unfoldable pub refersTo : List ℕ → ℕ → ℕ → Bool
+refersTo W p i = any (λ f. eqb (getD W (p + 2 + f) 0) i) 4
 
-pub record ReferTest (W : List ℕ) (p i : ℕ) (r : Bool) : Type 0 where
-  pub no : r ≡ false → FreeOf W p i
-
--- none of the first n objects of block b refers to object i
-pub record Unreferred (W : List ℕ) (b n i : ℕ) : Type 0 where
-  pub free : (j : ℕ) → j < n → FreeOf W (240 * b + 6 * j) i
-
-pub record UnreferredTest (W : List ℕ) (b n i : ℕ) (r : Bool) : Type 0 where
-  pub yes : r ≡ true → Unreferred W b n i
-
--- objects x and y have one class and count
-pub record Like (R : List ℕ) (x y : ℕ) : Type 0 where
-  pub cls : getD R (6 * x) 0 ≡ getD R (6 * y) 0
-  pub count : getD R (6 * x + 1) 0 ≡ getD R (6 * y + 1) 0
-
-pub record LikeTest (R : List ℕ) (x y : ℕ) (r : Bool) : Type 0 where
-  pub yes : r ≡ true → Like R x y
-  pub no : r ≡ false → Like R x y → ⊥
+-- whether none of the first n objects of block b refers to object i
+unfoldable pub noneRefer : List ℕ → ℕ → ℕ → ℕ → Bool
+noneRefer W b n i = not (any (λ k. refersTo W (240 * b + 6 * k) i) n)
 
 -- f is a field whose codes differ, or 4
 pub record OtherField (R : List ℕ) (x y f : ℕ) : Type 0 where
@@ -73,15 +59,15 @@ pub record DifferTest (R : List ℕ) (n i k : ℕ) (r : Bool) : Type 0 where
   pub yes : r ≡ true → Same (nodesIn R 0 n) (obj i) (nodesIn R 0 n) (obj k) → ⊥
 
 -- true only if k is i or they do
-pub record OtherTest (R : List ℕ) (n i k : ℕ) (r : Bool) : Type 0 where
+pub record UnlikeTest (R : List ℕ) (n i k : ℕ) (r : Bool) : Type 0 where
   pub yes : r ≡ true → Same (nodesIn R 0 n) (obj i) (nodesIn R 0 n) (obj k) → k ≡ i
 
 -- of the first m of n objects only object i unfolds to object i's tree
-pub record OnlyOne (R : List ℕ) (n i m : ℕ) : Type 0 where
+pub record UnlikeOthers (R : List ℕ) (n i m : ℕ) : Type 0 where
   pub only : (k : ℕ) → k < m → Same (nodesIn R 0 n) (obj i) (nodesIn R 0 n) (obj k) → k ≡ i
 
-pub record OnlyTest (R : List ℕ) (n i : ℕ) (r : Bool) : Type 0 where
-  pub yes : r ≡ true → OnlyOne R n i n
+pub record OthersTest (R : List ℕ) (n i : ℕ) (r : Bool) : Type 0 where
+  pub yes : r ≡ true → UnlikeOthers R n i n
 
 pub record DistinctTest (R : List ℕ) (n : ℕ) (r : Bool) : Type 0 where
   pub yes : r ≡ true → Distinct (nodesIn R 0 n)
@@ -92,10 +78,3 @@ pub record Rooted (R : List ℕ) (n i : ℕ) (W : List ℕ) (dst : ℕ) : Type 0
   pub small : n ≤ 32
   pub inside : i < n
   pub room : 240 * dst + 240 ≤ length W
-
--- the first q bytes of R are at the front of block dst; the other bytes are W's
-pub record Written (R : List ℕ) (W : List ℕ) (dst q : ℕ) (D : List ℕ) : Type 0 where
-  pub same : length D ≡ length W
-  pub here : (k : ℕ) → k < q → getD D (240 * dst + k) 0 ≡ getD R k 0
-  pub below : (p : ℕ) → p < 240 * dst → getD D p 0 ≡ getD W p 0
-  pub above : (p : ℕ) → 240 * dst + q ≤ p → getD D p 0 ≡ getD W p 0

@@ -2,7 +2,7 @@
 -- Not here: what is done with them.
 use Prim.Native.Nat.{ℕ, zero, suc, _+_, _-_, _*_, _≤_, _<_}
 use mathlib.Core.Path.{_≡_}
-use mathlib.Core.Bool.{cond}
+use mathlib.Core.Bool.{Bool, false, cond}
 use mathlib.Core.List.{List, [], _∷_}
 use lib.Dec.{ltb, eqb}
 use lib.ListN.{length, getD, take, drop}
@@ -36,6 +36,15 @@ nodesIn S at (suc n) = nodeIn S at ∷ nodesIn S (at + 6) n
 pub record Packed (S : List ℕ) (at : ℕ) : Type 0 where
   pub count : getD S (at + 1) 0 ≤ 4
   pub spare : (k : ℕ) → 2 + getD S (at + 1) 0 ≤ k → k < 6 → getD S (at + k) 0 ≡ 192
+
+-- the objects at two places have one class and as many fields
+pub record Alike (S : List ℕ) (p q : ℕ) : Type 0 where
+  pub cls : getD S p 0 ≡ getD S q 0
+  pub count : getD S (p + 1) 0 ≡ getD S (q + 1) 0
+
+-- whether they have
+unfoldable pub alikeAt : List ℕ → ℕ → ℕ → Bool
+alikeAt S p q = cond (eqb (getD S p 0) (getD S q 0)) (eqb (getD S (p + 1) 0) (getD S (q + 1) 0)) false
 
 -- n bytes from a place on
 abbrev pub part : List ℕ → ℕ → ℕ → List ℕ

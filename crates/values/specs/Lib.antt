@@ -1,4 +1,5 @@
 pub mod Layout
+pub mod Tests
 pub mod Tables
 pub mod Rounds
 pub mod Pairing

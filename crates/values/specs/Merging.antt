@@ -1,16 +1,18 @@
 -- Objects brought into one block, the host: the codes of a value that lies in another block, and of the parts of a new object.
 -- Not here: the bytes of a block with one more object (Adding).
-use Prim.Native.Nat.{ℕ, _+_, _*_, _≤_, _<_}
+use Prim.Native.Nat.{ℕ, zero, suc, _+_, _*_, _≤_, _<_}
 use mathlib.Core.Path.{_≡_}
-use mathlib.Core.Bool.{Bool, true, false}
+use mathlib.Core.Bool.{Bool, true, false, cond}
 use mathlib.Core.List.{List}
 use mathlib.Core.Option.{some}
+use lib.Dec.{eqb, ltb}
 use lib.ListN.{length, getD, getElem?}
 use Rattle.cofj.specs.Values.{Ref, nodeAt}
 use Rattle.cofj.specs.Unfolding.{Same, InRange}
 use Rattle.values.specs.declared.ValueRef.{ValueRef}
 use Rattle.values.specs.declared.ValueRef.the-variants.{Object, Mark, Undetermined}
 use Rattle.values.specs.declared.Slot.{Slot}
+use Rattle.values.specs.Tests.{any}
 use Rattle.values.specs.Layout.{refOf, nodeIn, Packed, countIn, objectsIn, rawOf, Block, Inside, Outside}
 use Rattle.values.specs.Adding.{partOf}
 
@@ -61,10 +63,10 @@ pub record Imported (W : List ℕ) (src c host : ℕ) (W′ M′ : List ℕ) (r 
   pub mapped : Mapped W′ src host M′
   pub like : ((r ≡ 32) → ⊥) → CodeAs W′ src c host r
 
--- T has the first k bytes of object i of block src
-pub record ObjectBytes (W : List ℕ) (src i k : ℕ) (T : List ℕ) : Type 0 where
+-- T has the bytes of object i of block src
+pub record ObjectBytes (W : List ℕ) (src i : ℕ) (T : List ℕ) : Type 0 where
   pub long : length T ≡ 6
-  pub bytes : (j : ℕ) → j < k → getD T j 0 ≡ getD W (240 * src + 6 * i + j) 0
+  pub bytes : (j : ℕ) → j < 6 → getD T j 0 ≡ getD W (240 * src + 6 * i + j) 0
 
 -- T has object i of block src, its first k codes turned to codes of block host
 pub record Turned (W : List ℕ) (src i host : ℕ) (T : List ℕ) (k : ℕ) : Type 0 where
@@ -116,17 +118,23 @@ pub record PartsBrought (W : List ℕ) (c : ℕ) (ps : List Slot) (n host : ℕ)
   pub done : r ≡ true → RootBrought W c ps n n W′ host T′
 
 -- ---- the host
-abbrev pub NotIn : ℕ → ValueRef → Type 0
-NotIn d (Object b i) = (b ≡ d) → ⊥
-NotIn d (Mark k) = Unit {0}
-NotIn d Undetermined = Unit {0}
+-- whether a value is an object of block d
+unfoldable pub liesIn : ℕ → ValueRef → Bool
+liesIn d (Object b i) = eqb b d
+liesIn d (Mark k) = false
+liesIn d Undetermined = false
 
--- none of the first n parts lies in block d
-pub record Away (ps : List Slot) (n d : ℕ) : Type 0 where
-  pub each : (i : ℕ) → i < n → NotIn d (partOf ps i)
+-- whether one of the first n parts is
+unfoldable pub someIn : List Slot → ℕ → ℕ → Bool
+someIn ps n d = any (λ i. liesIn d (partOf ps i)) n
 
-pub record LiesTest (d : ℕ) (v : ValueRef) (r : Bool) : Type 0 where
-  pub says : r ≡ false → NotIn d v
+-- the block of v, if v is an object and that block has more objects than block b; else b
+unfoldable pub largerOf : List ℕ → ValueRef → ℕ → ℕ
+largerOf W (Object x i) b = cond (ltb (countIn W b) (countIn W x)) x b
+largerOf W (Mark k) b = b
+largerOf W Undetermined b = b
 
-pub record SomeTest (ps : List Slot) (n d : ℕ) (r : Bool) : Type 0 where
-  pub says : r ≡ false → Away ps n d
+-- the block with the most objects, of block b and those of the first n parts
+unfoldable pub largestOf : List ℕ → List Slot → ℕ → ℕ → ℕ
+largestOf W ps zero b = b
+largestOf W ps (suc n) b = largerOf W (partOf ps n) (largestOf W ps n b)

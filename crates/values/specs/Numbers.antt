@@ -17,7 +17,7 @@ numberIn T m c = cond (eqb (getD T c 0) 0) m (getD T c 0 - 1)
 -- objects of N, as O lists them, renamed by T, from a place of D on; the other bytes are D₀'s
 pub record Gathered (N O : List ℕ) (m : ℕ) (T D₀ : List ℕ) (to : ℕ) (D : List ℕ) : Type 0 where
   pub same : length D ≡ length D₀
-  pub here : (j k : ℕ) → j < m → k < 6 → getD D (to + 6 * j + k) 0 ≡ copied T 0 k (getD N (6 * getD O j 0 + k) 0)
+  pub here : (j k : ℕ) → j < m → k < 6 → getD D (to + 6 * j + k) 0 ≡ copied T k (getD N (6 * getD O j 0 + k) 0)
   pub below : (q : ℕ) → q < to → getD D q 0 ≡ getD D₀ q 0
   pub above : (q : ℕ) → to + 6 * m ≤ q → getD D q 0 ≡ getD D₀ q 0
 

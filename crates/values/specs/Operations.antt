@@ -1,11 +1,11 @@
 -- What is done with values in blocks.
-use Prim.Native.Nat.{ℕ, _+_, _-_, _*_, _≤_, _<_}
+use Prim.Native.Nat.{ℕ, _+_, _-_, _*_, _<_}
 use mathlib.Core.Bool.{cond}
 use mathlib.Core.Path.{_≡_}
 use mathlib.Core.List.{List}
 use mathlib.Core.Option.{Option, none, some}
 use lib.Dec.{eqb}
-use lib.ListN.{length, getD}
+use lib.ListN.{getD}
 use Rattle.cofj.specs.Values.{Graph, canon, select, close}
 use Rattle.values.specs.declared.ValueRef.{ValueRef}
 use Rattle.values.specs.declared.ValueRef.the-variants.{Mark, Undetermined}
@@ -19,7 +19,7 @@ use Rattle.values.specs.Numbers.{Has}
 pub record Taken (W : List ℕ) (b : ℕ) (I R₀ R : List ℕ) (n : ℕ) : Type 0 where
   pub count : n ≡ countIn W b
   pub ids : Filled (λ i. 0 + i) n I
-  pub copy : Lifted W (240 * b) (6 * n) I 0 R₀ 0 R
+  pub copy : Lifted W (240 * b) (6 * n) I R₀ 0 R
 
 -- a reference stands for the value v in the bytes after, in block dst or below, and only block dst has changed
 pub record Gives (W : List ℕ) (dst : ℕ) (W′ : List ℕ) (r : ValueRef) (v : Graph) : Type 0 where
@@ -32,13 +32,6 @@ pub record Gives (W : List ℕ) (dst : ℕ) (W′ : List ℕ) (r : ValueRef) (v 
 pub record Moved (W : List ℕ) (g : Graph) (dst : ℕ) (W′ : List ℕ) : Type 0 where
   pub has : Has W′ dst (canon g)
   pub outside : Outside dst W W′
-
--- the first q bytes of block b are in block dst; the other bytes are W's
-pub record Copying (W : List ℕ) (b dst q : ℕ) (D : List ℕ) : Type 0 where
-  pub same : length D ≡ length W
-  pub here : (k : ℕ) → k < q → getD D (240 * dst + k) 0 ≡ getD W (240 * b + k) 0
-  pub below : (p : ℕ) → p < 240 * dst → getD D p 0 ≡ getD W p 0
-  pub above : (p : ℕ) → 240 * dst + q ≤ p → getD D p 0 ≡ getD W p 0
 
 -- block dst holds the objects of block b
 pub record Copied (W : List ℕ) (b dst : ℕ) (W′ : List ℕ) : Type 0 where

@@ -8,7 +8,7 @@ use lib.Dec.{eqb, ltb}
 use lib.ListN.{length, getD, set}
 use Rattle.cofj.specs.Values.{obj}
 use Rattle.cofj.specs.Unfolding.{Same}
-use Rattle.values.specs.Layout.{countIn, objectsIn, Block, Inside}
+use Rattle.values.specs.Layout.{Alike, countIn, objectsIn, Block, Inside}
 
 -- the length of the queue (0 where two things differ), the table and the queue
 pub record After : Type 0 where
@@ -76,26 +76,17 @@ pub record Pair (W : List ℕ) (b x c y : ℕ) (T Q : List ℕ) (t : ℕ) : Type
   pub paired : Paired (countIn W b) (countIn W c) T Q t
   pub here : getD T x 0 ≡ y + 1
 
--- they have one class and count
-pub record Alike (W : List ℕ) (b x c y : ℕ) : Type 0 where
-  pub cls : getD W (240 * b + 6 * x) 0 ≡ getD W (240 * c + 6 * y) 0
-  pub count : getD W (240 * b + 6 * x + 1) 0 ≡ getD W (240 * c + 6 * y + 1) 0
-
-pub record AlikeTest (W : List ℕ) (b x c y : ℕ) (r : Bool) : Type 0 where
-  pub yes : r ≡ true → Alike W b x c y
-  pub no : r ≡ false → Alike W b x c y → ⊥
-
 -- the first k fields of a pair gone over
 pub record FieldsSoFar (W : List ℕ) (b x c y : ℕ) (T₀ Q₀ : List ℕ) (t₀ : ℕ) (T Q : List ℕ) (t k : ℕ) : Type 0 where
   pub start : Pair W b x c y T₀ Q₀ t₀
-  pub alike : Alike W b x c y
+  pub alike : Alike W (240 * b + 6 * x) (240 * c + 6 * y)
   pub grown : Grown W b c T₀ Q₀ t₀ T Q t
   pub paired : Paired (countIn W b) (countIn W c) T Q t
   pub fields : LinkedTo W b x c y T k
 
 -- alike, and all fields are linked
 pub record Closed (W : List ℕ) (b x c y : ℕ) (T : List ℕ) : Type 0 where
-  pub alike : Alike W b x c y
+  pub alike : Alike W (240 * b + 6 * x) (240 * c + 6 * y)
   pub fields : LinkedTo W b x c y T (getD W (240 * b + 6 * x + 1) 0)
 
 -- the first h objects of the queue are so, each with its partner

@@ -1,26 +1,46 @@
--- Bytes that a function of their place gives, and objects copied with their codes turned.
-use Prim.Native.Nat.{ℕ, _+_, _%_, _≤_, _<_}
+-- Bytes that a function of their place gives, runs of bytes copied, and objects copied with their codes turned.
+use Prim.Native.Nat.{ℕ, _+_, _*_, _%_, _≤_, _<_}
 use mathlib.Core.Path.{_≡_}
 use mathlib.Core.Bool.{cond}
 use mathlib.Core.List.{List}
-use lib.Dec.{ltb, eqb}
+use lib.Dec.{ltb}
 use lib.ListN.{length, getD}
 
 -- the first n bytes are F 0, F 1, ..
 pub record Filled (F : ℕ → ℕ) (n : ℕ) (A : List ℕ) : Type 0 where
   pub at : (i : ℕ) → i < n → getD A i 0 ≡ F i
 
--- a code turned: an object by the table T, the code `hot` to object 0
-unfoldable pub turned : List ℕ → ℕ → ℕ → ℕ
-turned T hot b = cond (ltb b 192) (getD T b 0) (cond (eqb b hot) 0 b)
+-- four bytes, and two, as one number
+pub record Four (S : List ℕ) (p r : ℕ) : Type 0 where
+  pub is : r ≡ getD S p 0 + 256 * getD S (p + 1) 0 + 65536 * getD S (p + 2) 0 + 16777216 * getD S (p + 3) 0
+  pub low0 : getD S p 0 < 256
+  pub low1 : getD S (p + 1) 0 < 256
+  pub low2 : getD S (p + 2) 0 < 256
+  pub low3 : getD S (p + 3) 0 < 256
+
+pub record Two (S : List ℕ) (p r : ℕ) : Type 0 where
+  pub is : r ≡ getD S p 0 + 256 * getD S (p + 1) 0
+  pub low0 : getD S p 0 < 256
+  pub low1 : getD S (p + 1) 0 < 256
+
+-- n bytes of S from a place on, at a place of D; the others are D₀'s
+pub record Carried (S : List ℕ) (from : ℕ) (D₀ : List ℕ) (to n : ℕ) (D : List ℕ) : Type 0 where
+  pub same : length D ≡ length D₀
+  pub here : (k : ℕ) → k < n → getD D (to + k) 0 ≡ getD S (from + k) 0
+  pub below : (p : ℕ) → p < to → getD D p 0 ≡ getD D₀ p 0
+  pub above : (p : ℕ) → to + n ≤ p → getD D p 0 ≡ getD D₀ p 0
+
+-- a code turned: an object by the table T, any other code itself
+unfoldable pub turned : List ℕ → ℕ → ℕ
+turned T b = cond (ltb b 192) (getD T b 0) b
 
 -- byte k of an object, its codes turned
-unfoldable pub copied : List ℕ → ℕ → ℕ → ℕ → ℕ
-copied T hot k b = cond (ltb k 2) b (turned T hot b)
+unfoldable pub copied : List ℕ → ℕ → ℕ → ℕ
+copied T k b = cond (ltb k 2) b (turned T b)
 
 -- p bytes of objects copied from a place of S to a place of D; the others are D₀'s
-pub record Lifted (S : List ℕ) (from p : ℕ) (T : List ℕ) (hot : ℕ) (D₀ : List ℕ) (to : ℕ) (D : List ℕ) : Type 0 where
+pub record Lifted (S : List ℕ) (from p : ℕ) (T D₀ : List ℕ) (to : ℕ) (D : List ℕ) : Type 0 where
   pub same : length D ≡ length D₀
-  pub here : (q : ℕ) → q < p → getD D (to + q) 0 ≡ copied T hot (q % 6) (getD S (from + q) 0)
+  pub here : (q : ℕ) → q < p → getD D (to + q) 0 ≡ copied T (q % 6) (getD S (from + q) 0)
   pub below : (q : ℕ) → q < to → getD D q 0 ≡ getD D₀ q 0
   pub above : (q : ℕ) → to + p ≤ q → getD D q 0 ≡ getD D₀ q 0

@@ -1,7 +1,9 @@
 // X = u for an object of a block: the mark is bound to the object where it lies, and if no two objects have become equal they are kept as they are.
 // Not here: values in which the mark does not occur (value); how equal objects are found (colours) and merged (number).
 use crate::ValueRef;
+use crate::bytes::copy;
 use crate::colours::colour;
+use crate::lockstep::alike;
 use crate::number::level_of;
 use crate::number::put;
 ghost use mathlib.Core.Path.{_≡_};
@@ -12,7 +14,7 @@ ghost use Rattle.values.specs.Layout.{Inside, nodesIn, graphAt, Distinct
 ghost use Rattle.values.specs.Rounds.{Raw};
 ghost use Rattle.values.specs.Numbers.{graphIn};
 ghost use Rattle.values.specs.Operations.{Gives, closeOf};
-ghost use Rattle.values.specs.Binding.{boundCode, ObjectBound, Bound, ReferTest, UnreferredTest, LikeTest, OtherField, DifferTest, OtherTest, OnlyTest, DistinctTest, Rooted, Written};
+ghost use Rattle.values.specs.Binding.{boundCode, ObjectBound, Bound, refersTo, noneRefer, OtherField, DifferTest, UnlikeTest, OthersTest, DistinctTest, Rooted};
 
 // A code, the code `hot` turned to object i.
 pub fn bind_code(hot: u8, i: u8, c: u8) -> u8
@@ -61,7 +63,7 @@ pub fn bind_objects(work: &[u8], b: u16, x: u8, i: u8, raw: &mut [u8]) -> u8
 // Whether the object at place p refers to object i.
 pub fn refers(work: &[u8], p: usize, i: u8) -> bool
     requires { ⌜ p + 6 ≤ length (now work) ⌝ }
-    ensures { λ r. ⌜ ReferTest (now (work .entry)) p i r ⌝ }
+    ensures { λ r. ⌜ r ≡ refersTo (now (work .entry)) p i ⌝ }
 {
     if work[p + 2] == i {
         return true;
@@ -78,7 +80,7 @@ pub fn refers(work: &[u8], p: usize, i: u8) -> bool
 // Whether none of the n objects of block b refers to object i.
 pub fn unreferred(work: &[u8], b: u16, n: u8, i: u8) -> bool
     requires { ⌜ (240 * b + 240 ≤ length (now work)) × (n ≤ 32) ⌝ }
-    ensures { λ r. ⌜ UnreferredTest (now (work .entry)) b n i r ⌝ }
+    ensures { λ r. ⌜ r ≡ noneRefer (now (work .entry)) b n i ⌝ }
 {
     let mut k: u8 = 0;
     while k < n {
@@ -88,17 +90,6 @@ pub fn unreferred(work: &[u8], b: u16, n: u8, i: u8) -> bool
         k += 1;
     }
     true
-}
-
-// Whether objects x and y have one class and as many fields.
-pub fn like(raw: &[u8], x: u8, y: u8) -> bool
-    requires { ⌜ 1536 ≤ length (now raw) ⌝ }
-    ensures { λ r. ⌜ LikeTest (now (raw .entry)) x y r ⌝ }
-{
-    if raw[6 * (x as usize)] != raw[6 * (y as usize)] {
-        return false;
-    }
-    raw[6 * (x as usize) + 1] == raw[6 * (y as usize) + 1]
 }
 
 // The first field whose codes differ; 4 if there is none.
@@ -125,7 +116,7 @@ pub fn differ(raw: &[u8], n: u8, i: u8, k: u8) -> bool
     let mut y: u8 = k;
     let mut left: u8 = 64;
     while 0 < left {
-        if !like(raw, x, y) {
+        if !alike(raw, 6 * (x as usize), 6 * (y as usize)) {
             return true;
         }
         let f = other_field(raw, x, y);
@@ -147,10 +138,10 @@ pub fn differ(raw: &[u8], n: u8, i: u8, k: u8) -> bool
     false
 }
 
-// The same, and true if k is i.
-pub fn other_than(raw: &[u8], n: u8, i: u8, k: u8) -> bool
+// True only if object k of n is object i itself or unfolds to another tree.
+pub fn unlike(raw: &[u8], n: u8, i: u8, k: u8) -> bool
     requires { ⌜ Raw (now raw) n × (i < n) × (k < n) ⌝ }
-    ensures { λ r. ⌜ OtherTest (now (raw .entry)) n i k r ⌝ }
+    ensures { λ r. ⌜ UnlikeTest (now (raw .entry)) n i k r ⌝ }
 {
     if k == i {
         return true;
@@ -159,13 +150,13 @@ pub fn other_than(raw: &[u8], n: u8, i: u8, k: u8) -> bool
 }
 
 // True only if object i of n unfolds to no other object's tree.
-pub fn only_one(raw: &[u8], n: u8, i: u8) -> bool
+pub fn unlike_others(raw: &[u8], n: u8, i: u8) -> bool
     requires { ⌜ Raw (now raw) n × (i < n) ⌝ }
-    ensures { λ r. ⌜ OnlyTest (now (raw .entry)) n i r ⌝ }
+    ensures { λ r. ⌜ OthersTest (now (raw .entry)) n i r ⌝ }
 {
     let mut k: u8 = 0;
     while k < n {
-        if !other_than(raw, n, i, k) {
+        if !unlike(raw, n, i, k) {
             return false;
         }
         k += 1;
@@ -179,21 +170,9 @@ pub fn stay_distinct(work: &[u8], b: u16, x: u8, i: u8, raw: &[u8], n: u8) -> bo
     ensures { λ r. ⌜ DistinctTest (now (raw .entry)) n r ⌝ }
 {
     if unreferred(work, b, n, i) {
-        return only_one(raw, n, i);
+        return unlike_others(raw, n, i);
     }
     false
-}
-
-// The first p bytes of `raw`, to the front of block `dst`.
-pub fn write_objects(raw: &[u8], p: usize, work: &mut [u8], dst: u16)
-    requires { ⌜ (1536 ≤ length (now raw)) × (p ≤ 192) × (240 * dst + 240 ≤ length (now work)) ⌝ }
-    ensures { λ _. ⌜ Written (now (raw .entry)) (now (work .entry)) dst p (now (work .exit)) ⌝ }
-{
-    let mut q: usize = 0;
-    while q < p {
-        work[240 * (dst as usize) + q] = raw[q];
-        q += 1;
-    }
 }
 
 // The value at object i of n, of which no two are equal, to block `dst` as they are.
@@ -201,7 +180,7 @@ pub fn put_distinct(raw: &[u8], n: u8, i: u8, work: &mut [u8], dst: u16) -> Valu
     requires { ⌜ Rooted (now raw) n i (now work) dst × Distinct (nodesIn (now raw) 0 n) ⌝ }
     ensures { λ o. ⌜ Gives (now (work .entry)) dst (now (work .exit)) o (canon (graphIn (now (raw .entry)) n i)) ⌝ }
 {
-    write_objects(raw, 6 * (n as usize), work, dst);
+    copy(raw, 0, work, 240 * (dst as usize), 6 * (n as usize));
     let l = level_of(raw, 0, 6 * (n as usize));
     work[240 * (dst as usize) + 192] = n;
     work[240 * (dst as usize) + 193] = l;

@@ -3,6 +3,7 @@
 use crate::bytes::clear;
 use crate::bytes::copy;
 use crate::bytes::same;
+use crate::bytes::same_six;
 use crate::lift::lift;
 use crate::pairs::colour_pairs;
 ghost use mathlib.Core.Path.{_≡_};
@@ -20,7 +21,7 @@ pub fn place(looks: &[u8], i: u8, n: u8) -> u8
 {
     let mut j: u8 = 0;
     while j < i {
-        if same(looks, 6 * (i as usize), looks, 6 * (j as usize), 6) {
+        if same_six(looks, 6 * (i as usize), looks, 6 * (j as usize)) {
             return j;
         }
         j += 1;
@@ -45,7 +46,7 @@ pub fn round(nodes: &[u8], n: u8, cs: &[u8], looks: &mut [u8], next: &mut [u8])
     requires { ⌜ Raw (now nodes) n × Below n (now cs) × Scratch (now looks) (now next) ⌝ }
     ensures { λ _. ⌜ take n (now (next .exit)) ≡ refine (nodesIn (now (nodes .entry)) 0 n) (take n (now (cs .entry))) ⌝ }
 {
-    lift(nodes, 0, 6 * (n as usize), cs, 0, looks, 0);
+    lift(nodes, 0, 6 * (n as usize), cs, looks, 0);
     places(looks, n, next);
 }
 
@@ -61,7 +62,7 @@ pub fn settle(nodes: &[u8], n: u8, cs: &mut [u8], looks: &mut [u8], next: &mut [
         if same(cs, 0, next, 0, n as usize) {
             return;
         }
-        copy(next, n, cs);
+        copy(next, 0, cs, 0, n as usize);
         k -= 1;
     }
 }

@@ -3,7 +3,6 @@ use crate::Slot;
 use crate::ValueRef;
 use crate::bytes::count_up;
 use crate::lift::lift;
-ghost use mathlib.Core.Path.{_≡_};
 ghost use Prim.Native.Nat.{ℕ, _+_, _*_, _<_, _≤_};
 ghost use lib.ListN.{length};
 ghost use Rattle.values.specs.Layout.{Block, objectsIn, Holds, rawOf};
@@ -22,7 +21,6 @@ pub fn lay_block(work: &[u8], b: u16, raw: &mut [u8], at: u8) -> u8
         240 * (b as usize),
         6 * (n as usize),
         &table,
-        0,
         raw,
         6 * (at as usize),
     );

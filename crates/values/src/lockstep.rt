@@ -1,9 +1,11 @@
 // Values compared: two objects of two blocks, and what they lead to, in step. Not here: equal objects of one block, which there are none of.
 use crate::ValueRef;
 ghost use mathlib.Core.Path.{_≡_};
+ghost use Prim.Native.Nat.{ℕ, _+_, _*_, _≤_};
+ghost use lib.ListN.{length};
 ghost use Rattle.cofj.specs.Values.{eqGraph, canon};
-ghost use Rattle.values.specs.Layout.{Inside, Block, countIn, graphAt, Holds, valueOf};
-ghost use Rattle.values.specs.Stepping.{after, stepCode, CodeFits, Paired, Pair, Alike, AlikeTest, ObjectStep, InStep};
+ghost use Rattle.values.specs.Layout.{Alike, alikeAt, Inside, Block, countIn, graphAt, Holds, valueOf};
+ghost use Rattle.values.specs.Stepping.{after, stepCode, CodeFits, Paired, Pair, ObjectStep, InStep};
 
 // Meets two codes: they are equal, or objects that are partners or can become so. `partner` has y + 1 for an object with the partner y, 0 for one
 // without; `queue` lists the objects that have one, `tail` of them. Answers how many there are then, 0 if the codes differ.
@@ -32,17 +34,15 @@ pub fn step_code(partner: &mut [u8], queue: &mut [u8], tail: u8, first: u8, seco
     0
 }
 
-// Whether object x of block b and object y of block c have one class and as many fields.
-pub fn alike(work: &[u8], b: u16, x: u8, c: u16, y: u8) -> bool
-    requires { ⌜ Inside (now work) b x × Inside (now work) c y ⌝ }
-    ensures { λ r. ⌜ AlikeTest (now (work .entry)) b x c y r ⌝ }
+// Whether the objects at places p and q have one class and as many fields.
+pub fn alike(a: &[u8], p: usize, q: usize) -> bool
+    requires { ⌜ (p + 6 ≤ length (now a)) × (q + 6 ≤ length (now a)) ⌝ }
+    ensures { λ r. ⌜ r ≡ alikeAt (now (a .entry)) p q ⌝ }
 {
-    let p = 240 * (b as usize) + 6 * (x as usize);
-    let q = 240 * (c as usize) + 6 * (y as usize);
-    if work[p] != work[q] {
+    if a[p] != a[q] {
         return false;
     }
-    work[p + 1] == work[q + 1]
+    a[p + 1] == a[q + 1]
 }
 
 // Meets the fields of object x of block b and of its partner y of block c. Answers as `step_code`.
@@ -56,7 +56,7 @@ pub fn step_fields(
     queue: &mut [u8],
     tail: u8,
 ) -> u8
-    requires { ⌜ Pair (now work) b x c y (now partner) (now queue) tail × Alike (now work) b x c y ⌝ }
+    requires { ⌜ Pair (now work) b x c y (now partner) (now queue) tail × Alike (now work) (240 * b + 6 * x) (240 * c + 6 * y) ⌝ }
     ensures { λ r. ⌜ ObjectStep (now (work .entry)) b x c y (now (partner .entry)) (now (queue .entry)) tail (now (partner .exit)) (now (queue .exit)) r ⌝ }
 {
     let p = 240 * (b as usize) + 6 * (x as usize);
@@ -91,7 +91,11 @@ pub fn step_object(
     requires { ⌜ Pair (now work) b x c y (now partner) (now queue) tail ⌝ }
     ensures { λ r. ⌜ ObjectStep (now (work .entry)) b x c y (now (partner .entry)) (now (queue .entry)) tail (now (partner .exit)) (now (queue .exit)) r ⌝ }
 {
-    if alike(work, b, x, c, y) {
+    if alike(
+        work,
+        240 * (b as usize) + 6 * (x as usize),
+        240 * (c as usize) + 6 * (y as usize),
+    ) {
         return step_fields(work, b, x, c, y, partner, queue, tail);
     }
     0
@@ -137,7 +141,11 @@ pub fn same_trees(work: &[u8], b: u16, i: u8, c: u16, j: u8) -> bool
     if b == c {
         return i == j;
     }
-    if alike(work, b, i, c, j) {
+    if alike(
+        work,
+        240 * (b as usize) + 6 * (i as usize),
+        240 * (c as usize) + 6 * (j as usize),
+    ) {
         return roots_in_step(work, b, i, c, j);
     }
     false

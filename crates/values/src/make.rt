@@ -12,13 +12,13 @@ use crate::over::make_alone;
 use crate::over::root_object;
 use crate::value::bring;
 ghost use mathlib.Core.Path.{_≡_};
+ghost use mathlib.Core.Bool.{true};
 ghost use Prim.Native.Nat.{ℕ, _+_, _*_, _<_, _≤_};
-ghost use lib.ListN.{length, take};
-ghost use Rattle.cofj.specs.Values.{colours, make};
-ghost use Rattle.values.specs.Layout.{nodesIn, Block};
-ghost use Rattle.values.specs.Rounds.{Raw};
+ghost use lib.ListN.{length};
+ghost use Rattle.cofj.specs.Values.{make};
+ghost use Rattle.values.specs.Layout.{Block};
 ghost use Rattle.values.specs.Laying.{PartsHeld, valuesFrom, MadeIs};
-ghost use Rattle.values.specs.Adding.{isObject, Stands, Together, Beside, First};
+ghost use Rattle.values.specs.Adding.{isObject, standsIn, allStand, First};
 
 // The parts' objects laid side by side, and equal ones found.
 pub fn make_laid(work: &mut [u8], c: u8, parts: [Slot; 4], n: u8, dst: u16) -> Made
@@ -66,7 +66,7 @@ pub fn first_object(parts: [Slot; 4], n: u8) -> u8
 
 // Whether a part lies in block b, or is no object.
 pub fn stands(v: ValueRef, b: u16) -> bool
-    ensures { λ r. ⌜ Stands b v r ⌝ }
+    ensures { λ r. ⌜ r ≡ standsIn b v ⌝ }
 {
     match v {
         ValueRef::Object(x, _) => x == b,
@@ -78,7 +78,7 @@ pub fn stands(v: ValueRef, b: u16) -> bool
 // Whether each part lies in block b, or is no object.
 pub fn together(parts: [Slot; 4], n: u8, b: u16) -> bool
     requires { ⌜ n ≤ 4 ⌝ }
-    ensures { λ r. ⌜ Together parts n b r ⌝ }
+    ensures { λ r. ⌜ r ≡ allStand parts n b ⌝ }
 {
     let mut i: u8 = 0;
     while i < n {
@@ -94,7 +94,7 @@ pub fn together(parts: [Slot; 4], n: u8, b: u16) -> bool
 
 // A new object whose parts lie in block b, or are no objects.
 pub fn make_beside(work: &mut [u8], c: u8, parts: [Slot; 4], n: u8, b: u16, dst: u16) -> Made
-    requires { ⌜ PartsHeld (now work) parts n × (n ≤ 4) × Block (now work) b × Beside parts n b × (240 * dst + 240 ≤ length (now work)) ⌝ }
+    requires { ⌜ PartsHeld (now work) parts n × (n ≤ 4) × Block (now work) b × (allStand parts n b ≡ true) × (240 * dst + 240 ≤ length (now work)) ⌝ }
     ensures { λ o. ⌜ MadeIs (now (work .entry)) (make c (valuesFrom (now (work .entry)) parts 0 n)) dst (now (work .exit)) o ⌝ }
 {
     let mut top = [0u8; 6];

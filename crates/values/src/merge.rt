@@ -3,6 +3,7 @@
 use crate::Made;
 use crate::Slot;
 use crate::ValueRef;
+use crate::bytes::copy;
 use crate::make::make_laid;
 use crate::over::append;
 use crate::over::find;
@@ -10,13 +11,14 @@ use crate::over::level_with;
 use crate::value::bring;
 use crate::value::copy_block;
 ghost use mathlib.Core.Path.{_≡_};
+ghost use mathlib.Core.Bool.{false};
 ghost use Prim.Native.Nat.{ℕ, _+_, _*_, _<_, _≤_};
 ghost use lib.ListN.{length};
 ghost use Rattle.cofj.specs.Values.{make};
 ghost use Rattle.values.specs.Layout.{Block, Inside, Holds};
 ghost use Rattle.values.specs.Laying.{PartsHeld, valuesFrom, MadeIs};
 ghost use Rattle.values.specs.declared.ValueRef.the-variants.{Object};
-ghost use Rattle.values.specs.Merging.{Fits, Entered, ObjectBytes, Importing, Imported, Turning, TurnedAll, Begun, PartImported, PartsBrought, LiesTest, SomeTest, Away};
+ghost use Rattle.values.specs.Merging.{Fits, Entered, ObjectBytes, Importing, Imported, Turning, TurnedAll, Begun, PartImported, PartsBrought, liesIn, someIn, largerOf, largestOf};
 
 // The object in `top`, among the objects of block host: its number there, or 32 if it is new and there is no room.
 pub fn enter(work: &mut [u8], host: u16, top: &[u8]) -> u8
@@ -39,13 +41,9 @@ pub fn enter(work: &mut [u8], host: u16, top: &[u8]) -> u8
 // The six bytes of object i of block src, to the front of `top`.
 pub fn take_object(work: &[u8], src: u16, i: u8, top: &mut [u8])
     requires { ⌜ Inside (now work) src i × (length (now top) ≡ 6) ⌝ }
-    ensures { λ _. ⌜ ObjectBytes (now (work .entry)) src i 6 (now (top .exit)) ⌝ }
+    ensures { λ _. ⌜ ObjectBytes (now (work .entry)) src i (now (top .exit)) ⌝ }
 {
-    let mut k: usize = 0;
-    while k < 6 {
-        top[k] = work[240 * (src as usize) + 6 * (i as usize) + k];
-        k += 1;
-    }
+    copy(work, 240 * (src as usize) + 6 * (i as usize), top, 0, 6);
 }
 
 // A code of block src, with what it leads to, in block host: its code there, or 32 if there is no room or it leads back to itself.
@@ -191,7 +189,7 @@ pub fn make_in(
 // The block of v, if v is an object and that block has more objects than block b; else b.
 pub fn larger(work: &[u8], v: ValueRef, b: u16) -> u16
     requires { ⌜ Holds (now work) v × Block (now work) b ⌝ }
-    ensures { λ r. ⌜ Block (now (work .entry)) r ⌝ }
+    ensures { λ r. ⌜ r ≡ largerOf (now (work .entry)) v b ⌝ }
 {
     let ValueRef::Object(x, _) = v else {
         return b;
@@ -205,7 +203,7 @@ pub fn larger(work: &[u8], v: ValueRef, b: u16) -> u16
 // The block with the most objects, of block b and those of the parts.
 pub fn largest(work: &[u8], parts: [Slot; 4], n: u8, b: u16) -> u16
     requires { ⌜ PartsHeld (now work) parts n × (n ≤ 4) × Block (now work) b ⌝ }
-    ensures { λ r. ⌜ Block (now (work .entry)) r ⌝ }
+    ensures { λ r. ⌜ r ≡ largestOf (now (work .entry)) parts n b ⌝ }
 {
     let mut d = b;
     let mut i: u8 = 0;
@@ -220,7 +218,7 @@ pub fn largest(work: &[u8], parts: [Slot; 4], n: u8, b: u16) -> u16
 
 // Whether v is an object of block d.
 pub fn lies_in(v: ValueRef, d: u16) -> bool
-    ensures { λ r. ⌜ LiesTest d v r ⌝ }
+    ensures { λ r. ⌜ r ≡ liesIn d v ⌝ }
 {
     match v {
         ValueRef::Object(x, _) => x == d,
@@ -232,7 +230,7 @@ pub fn lies_in(v: ValueRef, d: u16) -> bool
 // Whether one of the parts is an object of block d.
 pub fn some_in(parts: [Slot; 4], n: u8, d: u16) -> bool
     requires { ⌜ n ≤ 4 ⌝ }
-    ensures { λ r. ⌜ SomeTest parts n d r ⌝ }
+    ensures { λ r. ⌜ r ≡ someIn parts n d ⌝ }
 {
     let mut i: u8 = 0;
     while i < n {
@@ -256,7 +254,7 @@ pub fn make_copied(
     host: u16,
     dst: u16,
 ) -> Made
-    requires { ⌜ PartsHeld (now work) parts n × (n ≤ 4) × Block (now work) b × (b < dst) × (dst ≤ host) × Away parts n host × (240 * host + 240 ≤ length (now work)) ⌝ }
+    requires { ⌜ PartsHeld (now work) parts n × (n ≤ 4) × Block (now work) b × (b < dst) × (dst ≤ host) × (someIn parts n host ≡ false) × (240 * host + 240 ≤ length (now work)) ⌝ }
     ensures { λ o. ⌜ MadeIs (now (work .entry)) (make c (valuesFrom (now (work .entry)) parts 0 n)) dst (now (work .exit)) o ⌝ }
 {
     copy_block(work, b, host);

@@ -46,7 +46,6 @@ pub fn gather(nodes: &[u8], order: &[u8], m: u8, table: &[u8], dst: &mut [u8], t
             6 * (c as usize),
             6,
             table,
-            0,
             dst,
             to + 6 * (j as usize),
         );

@@ -2,7 +2,8 @@
 use crate::Made;
 use crate::Slot;
 use crate::ValueRef;
-use crate::bytes::same;
+use crate::bytes::copy;
+use crate::bytes::same_six;
 use crate::number::raise_level;
 use crate::value::copy_block;
 ghost use mathlib.Core.Path.{_≡_};
@@ -53,7 +54,7 @@ pub fn find(work: &[u8], b: u16, t: u8, top: &[u8]) -> u8
 {
     let mut k: u8 = 0;
     while k < t {
-        if same(work, 240 * (b as usize) + 6 * (k as usize), top, 0, 6) {
+        if same_six(work, 240 * (b as usize) + 6 * (k as usize), top, 0) {
             return k;
         }
         k += 1;
@@ -80,11 +81,7 @@ pub fn append(work: &mut [u8], dst: u16, t: u8, top: &[u8], l: u8)
     requires { ⌜ (t ≤ 31) × (240 * dst + 240 ≤ length (now work)) × (6 ≤ length (now top)) ⌝ }
     ensures { λ _. ⌜ Appended (now (work .entry)) dst t (now (top .entry)) l (now (work .exit)) ⌝ }
 {
-    let mut k: usize = 0;
-    while k < 6 {
-        work[240 * (dst as usize) + 6 * (t as usize) + k] = top[k];
-        k += 1;
-    }
+    copy(top, 0, work, 240 * (dst as usize) + 6 * (t as usize), 6);
     work[240 * (dst as usize) + 192] = t + 1;
     work[240 * (dst as usize) + 193] = l;
 }

@@ -5,11 +5,10 @@ use crate::bind::close_bound;
 use crate::bytes::count_up;
 use crate::lift::lift;
 use crate::number::put;
-ghost use mathlib.Core.Path.{_≡_};
 ghost use Prim.Native.Nat.{ℕ, _+_, _*_, _<_, _≤_};
 ghost use lib.ListN.{length};
 ghost use Rattle.cofj.specs.Values.{canon};
-ghost use Rattle.values.specs.Layout.{Block, Inside, graphAt, countIn, Holds, valueOf};
+ghost use Rattle.values.specs.Layout.{Block, Inside, graphAt, Holds, valueOf};
 ghost use Rattle.values.specs.Operations.{Taken, Moved, Copied, Gives, Chosen, Leaf, closeOf};
 ghost use Rattle.values.specs.declared.ValueRef.the-variants.{Object};
 
@@ -23,7 +22,7 @@ pub fn take_up(work: &[u8], b: u16, ids: &mut [u8], raw: &mut [u8]) -> u8
     let n = work[at + 192];
     let p = 6 * (n as usize);
     count_up(0, n, ids);
-    lift(work, at, p, ids, 0, raw, 0);
+    lift(work, at, p, ids, raw, 0);
     n
 }
 

@@ -1,7 +1,7 @@
 // The order in which the colours are first met, depth first, and a table of their places in it. Not here: the objects renumbered in it.
 ghost use mathlib.Core.Path.{_≡_};
 ghost use Prim.Native.Nat.{ℕ, _+_, _*_, _<_, _≤_};
-ghost use lib.ListN.{length, getD, take};
+ghost use lib.ListN.{length, take};
 ghost use Rattle.values.specs.Walking.{Room, Listed, walkRef, walkFields};
 
 // Meets the object that the code r stands for, if it is new, and then its fields.

@@ -2,8 +2,8 @@ use Rattle.values.proofs.bind.differ.Statement.{statement}
 use Rattle.values.proofs.bind.differ.Tie as tie
 use Rattle.values.proofs.bind.differ.Reads as reads
 use Rattle.values.proofs.bind.differ.Lts as lts
-use Rattle.values.proofs.bind.like.Reads as like-reads
 use Rattle.values.proofs.bind.other_field.Reads as other-field-reads
+use Rattle.values.proofs.lockstep.alike.Reads as alike-reads
 use borrow.Author.Needs.{needs}
 use Rattle.values.specs.Binding.{Leads}
 use Rattle.values.proofs.Bindings as laws
@@ -42,6 +42,10 @@ differ-spec =
     Inv-loop
     μ-loop
     loop-holds
+    (λ c. search needs)
+    (λ c. search needs)
+    (λ c. search needs)
+    (λ c. search needs)
     (λ c κs. search needs)
     returns
     (λ c κs. search needs)

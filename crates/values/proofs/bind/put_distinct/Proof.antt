@@ -3,7 +3,7 @@ use Rattle.values.proofs.bind.put_distinct.Statement.{statement}
 use Rattle.values.proofs.bind.put_distinct.Tie as tie
 use Rattle.values.proofs.bind.put_distinct.Reads as reads
 use Rattle.values.proofs.bind.put_distinct.Lts as lts
-use Rattle.values.proofs.bind.write_objects.Reads as write-objects-reads
+use Rattle.values.proofs.bytes.copy.Reads as copy-reads
 use Rattle.values.proofs.number.level_of.Reads as level-of-reads
 use native.Mathlib.Omega.{arith}
 use lib.ListN.{length-set}
@@ -22,6 +22,7 @@ pub put-distinct-spec : {M : Type 1} → statement M
 put-distinct-spec =
     tie.close
     (tie.spec
+    (λ c. search needs)
     (λ c. search needs)
     (λ c κs. search needs)
     (λ c. search needs)

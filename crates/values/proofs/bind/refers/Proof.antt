@@ -6,13 +6,13 @@ use Rattle.values.proofs.bind.refers.Lts as lts
 use Rattle.values.proofs.Bindings as laws
 
 returns : tie.Need-returns
-returns c = laws.refer-yes _ _ _
+returns c = search laws.refer-first
 
 returns-2 : tie.Need-returns-2
-returns-2 c = laws.refer-yes _ _ _
+returns-2 c = search laws.refer-second
 
 returns-3 : tie.Need-returns-3
-returns-3 c = laws.refer-yes _ _ _
+returns-3 c = search laws.refer-third
 
 returns-4 : tie.Need-returns-4
 returns-4 c = search laws.refer-last

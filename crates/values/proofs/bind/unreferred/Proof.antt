@@ -5,11 +5,13 @@ use Rattle.values.proofs.bind.unreferred.Lts as lts
 use Rattle.values.proofs.bind.refers.Reads as refers-reads
 use borrow.Author.Needs.{needs}
 use Prim.Native.Nat.{_≤_, _-_}
-use Rattle.values.specs.Binding.{Unreferred}
+use mathlib.Core.Path.{_≡_}
+use mathlib.Core.Bool.{true}
+use Rattle.values.specs.Binding.{noneRefer}
 use Rattle.values.proofs.Bindings as laws
 
 abbrev Inv-loop : tie.InvT-loop
-Inv-loop work b n i k₀ k = (k ≤ n) × Unreferred work b k i
+Inv-loop work b n i k₀ k = (k ≤ n) × (noneRefer work b k i ≡ true)
 
 abbrev μ-loop : tie.MeasureT-loop
 μ-loop work b n i k₀ k = n - k
@@ -18,7 +20,7 @@ loop-holds : tie.Need-loop-holds Inv-loop μ-loop
 loop-holds c = (search needs, laws.free-none _ _ _)
 
 returns : tie.Need-returns Inv-loop μ-loop
-returns c = laws.free-not _ _ _ _
+returns c = search laws.free-not
 
 loop-again : tie.Need-loop-again Inv-loop μ-loop
 loop-again c = (search needs, search laws.free-more)

@@ -3,27 +3,27 @@ use Rattle.values.proofs.bytes.copy.Tie as tie
 use Rattle.values.proofs.bytes.copy.Reads as reads
 use Rattle.values.proofs.bytes.copy.Lts as lts
 use borrow.Author.Needs.{needs}
-use mathlib.Core.Path.{_≡_, refl}
+use mathlib.Core.Path.{_≡_}
 use Prim.Native.Nat.{_≤_, _-_}
 use native.Mathlib.Omega.{arith}
-use lib.ListN.{getD, length, length-set}
-use Rattle.values.specs.Tables.{Filled}
+use lib.ListN.{length, length-set}
+use Rattle.values.specs.Tables.{Carried}
 use Rattle.values.proofs.Runs as laws
 
 abbrev Inv-loop : tie.InvT-loop
-Inv-loop from n to₀ i₀ to i = (i ≤ n) × (length to ≡ length to₀) × Filled (λ q. getD from q 0) i to
+Inv-loop from i to₀ j n k₀ to k = (k ≤ n) × (length to ≡ length to₀) × Carried from i to₀ j k to
 
 abbrev μ-loop : tie.MeasureT-loop
-μ-loop from n to₀ i₀ to i = n - i
+μ-loop from i to₀ j n k₀ to k = n - k
 
 loop-holds : tie.Need-loop-holds Inv-loop μ-loop
-loop-holds c = (search needs, search needs, laws.filled-none _ _)
+loop-holds c = (search needs, search needs, laws.carry-none _ _ _ _)
 
 loop-again : tie.Need-loop-again Inv-loop μ-loop
-loop-again c = (search needs, simp length-set (omega arith), laws.filled-more _ _ _ _ (c .before .before .loop .inv .2) (omega arith) refl)
+loop-again c = (search needs, simp length-set (omega arith), search laws.carry-more)
 
 returns : tie.Need-returns Inv-loop μ-loop
-returns c = search laws.filled-done
+returns c = search laws.carry-done
 
 pub copy-spec : {M : Type 1} → statement M
 copy-spec =

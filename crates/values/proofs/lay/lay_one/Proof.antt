@@ -5,10 +5,11 @@ use Rattle.values.proofs.lay.lay_one.Reads as reads
 use Rattle.values.proofs.lay.lay_one.Lts as lts
 use Rattle.values.proofs.lay.lay_block.Reads as lay-block-reads
 use native.Mathlib.Omega.{arith}
+use Rattle.values.proofs.Blocks as blocks
 use Rattle.values.proofs.Lays as laws
 
 lay-block-requires : tie.Need-lay-block-requires
-lay-block-requires c κs = (search laws.object-block, search needs, search needs)
+lay-block-requires c κs = (search blocks.held-block, search needs, search needs)
 
 add-raw : tie.Need-add-raw
 add-raw c = let st = c .before .before .before .before .before .before .before .before .before in omega (arith, laws.object-low _ _ _ _ _ (st .pre .3) (st .pre .0) (c .before .before .before .before .before .r .given .1))

@@ -12,13 +12,13 @@ use Rattle.values.specs.Tables.{Lifted}
 use Rattle.values.proofs.Lifts as laws
 
 abbrev Inv-loop : tie.InvT-loop
-Inv-loop src from p table hot dst₀ to q₀ dst q = (q ≤ p) × (length dst ≡ length dst₀) × Lifted src from q table hot dst₀ to dst
+Inv-loop src from p table dst₀ to q₀ dst q = (q ≤ p) × (length dst ≡ length dst₀) × Lifted src from q table dst₀ to dst
 
 abbrev μ-loop : tie.MeasureT-loop
-μ-loop src from p table hot dst₀ to q₀ dst q = p - q
+μ-loop src from p table dst₀ to q₀ dst q = p - q
 
 loop-holds : tie.Need-loop-holds Inv-loop μ-loop
-loop-holds c = (search needs, search needs, laws.lift-none _ _ _ _ _ _)
+loop-holds c = (search needs, search needs, laws.lift-none _ _ _ _ _)
 
 loop-again : tie.Need-loop-again Inv-loop μ-loop
 loop-again c = (search needs, simp length-set (omega arith), search laws.lift-more)

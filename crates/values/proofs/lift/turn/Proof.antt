@@ -9,10 +9,7 @@ returns : tie.Need-returns
 returns c = search laws.turn-object
 
 returns-2 : tie.Need-returns-2
-returns-2 c = search laws.turn-hot
-
-returns-3 : tie.Need-returns-3
-returns-3 c = search laws.turn-other
+returns-2 c = search laws.turn-other
 
 pub turn-spec : {M : Type 1} → statement M
 turn-spec =
@@ -20,5 +17,4 @@ turn-spec =
     (tie.spec
     (λ c. search needs)
     returns
-    returns-2
-    returns-3)
+    returns-2)

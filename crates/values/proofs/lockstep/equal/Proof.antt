@@ -4,10 +4,11 @@ use Rattle.values.proofs.lockstep.equal.Tie as tie
 use Rattle.values.proofs.lockstep.equal.Reads as reads
 use Rattle.values.proofs.lockstep.equal.Lts as lts
 use Rattle.values.proofs.lockstep.same_trees.Reads as same-trees-reads
+use Rattle.values.proofs.Blocks as blocks
 use Rattle.values.proofs.Steps as laws
 
 same-trees-requires : tie.Need-same-trees-requires
-same-trees-requires c κs = (search laws.held-object, search laws.held-other)
+same-trees-requires c κs = (search blocks.held-inside, search blocks.held-inside)
 
 returns : tie.Need-returns
 returns c = search laws.equal-objects

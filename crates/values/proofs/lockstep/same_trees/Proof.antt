@@ -5,6 +5,7 @@ use Rattle.values.proofs.lockstep.same_trees.Reads as reads
 use Rattle.values.proofs.lockstep.same_trees.Lts as lts
 use Rattle.values.proofs.lockstep.alike.Reads as alike-reads
 use Rattle.values.proofs.lockstep.roots_in_step.Reads as roots-in-step-reads
+use Rattle.values.proofs.Blocks as blocks
 use Rattle.values.proofs.Steps as laws
 
 returns : tie.Need-returns
@@ -13,12 +14,21 @@ returns c = search laws.one-block
 returns-3 : tie.Need-returns-3
 returns-3 c = search laws.roots-differ
 
+alike-requires : tie.Need-alike-requires
+alike-requires c κs = (search blocks.inside-room, search blocks.inside-room)
+
 pub same-trees-spec : {M : Type 1} → statement M
 same-trees-spec =
     tie.close
     (tie.spec
     returns
-    (λ c κs. search needs)
+    (λ c. search needs)
+    (λ c. search needs)
+    (λ c. search needs)
+    (λ c. search needs)
+    (λ c. search needs)
+    (λ c. search needs)
+    alike-requires
     (λ c κs. search needs)
     (λ c. search needs)
     returns-3)

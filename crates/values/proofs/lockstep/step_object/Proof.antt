@@ -5,19 +5,30 @@ use Rattle.values.proofs.lockstep.step_object.Reads as reads
 use Rattle.values.proofs.lockstep.step_object.Lts as lts
 use Rattle.values.proofs.lockstep.alike.Reads as alike-reads
 use Rattle.values.proofs.lockstep.step_fields.Reads as step-fields-reads
+use Rattle.values.proofs.Nodes as nodes
+use Rattle.values.proofs.Blocks as blocks
 use Rattle.values.proofs.Steps as laws
 
 step-fields-requires : tie.Need-step-fields-requires
-step-fields-requires c κs = (search needs, search laws.alike-yes)
+step-fields-requires c κs = (search needs, search nodes.alike-yes)
 
 returns-2 : tie.Need-returns-2
 returns-2 c = search laws.object-differs
+
+alike-requires : tie.Need-alike-requires
+alike-requires c κs = (search blocks.inside-room, search blocks.inside-room)
 
 pub step-object-spec : {M : Type 1} → statement M
 step-object-spec =
     tie.close
     (tie.spec
-    (λ c κs. search needs)
+    (λ c. search needs)
+    (λ c. search needs)
+    (λ c. search needs)
+    (λ c. search needs)
+    (λ c. search needs)
+    (λ c. search needs)
+    alike-requires
     step-fields-requires
     (λ c. search needs)
     (λ c. search needs)

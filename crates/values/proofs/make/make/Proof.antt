@@ -9,13 +9,14 @@ use Rattle.values.proofs.make.make_laid.Reads as make-laid-reads
 use Rattle.values.proofs.make.together.Reads as together-reads
 use Rattle.values.proofs.merge.make_apart.Reads as make-apart-reads
 use Rattle.values.proofs.over.make_alone.Reads as make-alone-reads
+use Rattle.values.proofs.Tests as tests
 use Rattle.values.proofs.Beside as laws
 
 make-alone-requires : tie.Need-make-alone-requires
 make-alone-requires c κs = (search needs, search needs, search laws.leaves-all, search needs)
 
 make-beside-requires : tie.Need-make-beside-requires
-make-beside-requires c κs = (search needs, search needs, search laws.first-block, search laws.together-beside, search needs)
+make-beside-requires c κs = (search needs, search needs, search laws.first-block, search tests.told, search needs)
 
 make-apart-requires : tie.Need-make-apart-requires
 make-apart-requires c κs = (search needs, search needs, search laws.first-block, search needs)

@@ -5,11 +5,13 @@ use Rattle.values.proofs.make.together.Lts as lts
 use Rattle.values.proofs.make.stands.Reads as stands-reads
 use borrow.Author.Needs.{needs}
 use Prim.Native.Nat.{_≤_, _-_}
-use Rattle.values.specs.Adding.{Beside}
+use mathlib.Core.Path.{_≡_}
+use mathlib.Core.Bool.{true}
+use Rattle.values.specs.Adding.{allStand}
 use Rattle.values.proofs.Beside as laws
 
 abbrev Inv-loop : tie.InvT-loop
-Inv-loop n b parts i₀ i = (i ≤ n) × Beside parts i b
+Inv-loop n b parts i₀ i = (i ≤ n) × (allStand parts i b ≡ true)
 
 abbrev μ-loop : tie.MeasureT-loop
 μ-loop n b parts i₀ i = n - i

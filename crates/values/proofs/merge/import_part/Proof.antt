@@ -5,10 +5,11 @@ use Rattle.values.proofs.merge.import_part.Reads as reads
 use Rattle.values.proofs.merge.import_part.Lts as lts
 use Rattle.values.proofs.merge.import_object.Reads as import-object-reads
 use native.Mathlib.Omega.{arith}
+use Rattle.values.proofs.Blocks as blocks
 use Rattle.values.proofs.Merges as laws
 
 import-object-requires : tie.Need-import-object-requires
-import-object-requires c κs = (search laws.part-inside, search needs)
+import-object-requires c κs = (search blocks.held-inside, search needs)
 
 add-result : tie.Need-add-result
 add-result c = omega (arith, laws.part-small _ _ _ _ (c .before .before .before .before .pre .0) (c .before .before .before .before .pre .1) _ (c .before .v2 .given .1))

@@ -6,10 +6,10 @@ use Rattle.values.proofs.merge.make_above.Lts as lts
 use Rattle.values.proofs.make.make_laid.Reads as make-laid-reads
 use Rattle.values.proofs.merge.make_copied.Reads as make-copied-reads
 use Rattle.values.proofs.merge.some_in.Reads as some-in-reads
-use Rattle.values.proofs.Merges as laws
+use Rattle.values.proofs.Tests as tests
 
 make-copied-requires : tie.Need-make-copied-requires
-make-copied-requires c κs = (search needs, search needs, search needs, search needs, search needs, search laws.away-all, search needs)
+make-copied-requires c κs = (search needs, search needs, search needs, search needs, search needs, search tests.told, search needs)
 
 pub make-above-spec : {M : Type 1} → statement M
 make-above-spec =

@@ -5,11 +5,13 @@ use Rattle.values.proofs.merge.some_in.Lts as lts
 use Rattle.values.proofs.merge.lies_in.Reads as lies-in-reads
 use borrow.Author.Needs.{needs}
 use Prim.Native.Nat.{_≤_, _-_}
-use Rattle.values.specs.Merging.{Away}
+use mathlib.Core.Path.{_≡_}
+use mathlib.Core.Bool.{false}
+use Rattle.values.specs.Merging.{someIn}
 use Rattle.values.proofs.Merges as laws
 
 abbrev Inv-loop : tie.InvT-loop
-Inv-loop n d parts i₀ i = (i ≤ n) × Away parts i d
+Inv-loop n d parts i₀ i = (i ≤ n) × (someIn parts i d ≡ false)
 
 abbrev μ-loop : tie.MeasureT-loop
 μ-loop n d parts i₀ i = n - i

@@ -8,6 +8,7 @@ use Rattle.values.proofs.value.move_out.Reads as move-out-reads
 use native.Mathlib.Omega.{arith}
 use mathlib.Core.Path.{refl}
 use lib.ListN.{length-set}
+use Rattle.values.proofs.Blocks as blocks
 use Rattle.values.proofs.Reports as laws
 
 slice-write-out-2 : tie.Need-slice-write-out-2
@@ -23,7 +24,7 @@ returns : tie.Need-returns
 returns c = (search laws.report-none, refl)
 
 move-out-requires : tie.Need-move-out-requires
-move-out-requires c κs = (search laws.report-inside, search laws.report-room)
+move-out-requires c κs = (search blocks.held-inside, search blocks.held-room)
 
 put-lines-requires : tie.Need-put-lines-requires
 put-lines-requires c κs = (search laws.report-block, search needs)

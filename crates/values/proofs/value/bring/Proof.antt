@@ -4,6 +4,7 @@ use Rattle.values.proofs.value.bring.Tie as tie
 use Rattle.values.proofs.value.bring.Reads as reads
 use Rattle.values.proofs.value.bring.Lts as lts
 use Rattle.values.proofs.value.copy_block.Reads as copy-block-reads
+use Rattle.values.proofs.Blocks as blocks
 use Rattle.values.proofs.Copies as laws
 
 returns : tie.Need-returns
@@ -13,7 +14,7 @@ returns-2 : tie.Need-returns-2
 returns-2 c = laws.bring-here _ _ _ (c .before .before .before .before .before .pre .0) _ _ (c .before .before .r .given .1) (c .if1 .taken)
 
 copy-block-requires : tie.Need-copy-block-requires
-copy-block-requires c κs = (search laws.bring-block, search needs)
+copy-block-requires c κs = (search blocks.held-block, search needs)
 
 returns-3 : tie.Need-returns-3
 returns-3 c = search laws.bring-copy

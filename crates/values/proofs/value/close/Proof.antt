@@ -4,10 +4,11 @@ use Rattle.values.proofs.value.close.Tie as tie
 use Rattle.values.proofs.value.close.Reads as reads
 use Rattle.values.proofs.value.close.Lts as lts
 use Rattle.values.proofs.value.close_object.Reads as close-object-reads
+use Rattle.values.proofs.Blocks as blocks
 use Rattle.values.proofs.Closing as laws
 
 close-object-requires : tie.Need-close-object-requires
-close-object-requires c κs = (search laws.close-held, search needs, search needs)
+close-object-requires c κs = (search blocks.held-inside, search needs, search needs)
 
 returns : tie.Need-returns
 returns c = search laws.close-this

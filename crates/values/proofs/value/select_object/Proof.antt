@@ -5,16 +5,17 @@ use Rattle.values.proofs.value.select_object.Reads as reads
 use Rattle.values.proofs.value.select_object.Lts as lts
 use Rattle.values.proofs.value.ref_of.Reads as ref-of-reads
 use native.Mathlib.Omega.{arith}
+use Rattle.values.proofs.Blocks as blocks
 use Rattle.values.proofs.Selecting as laws
 
 shared-slice-read-if1 : tie.Need-shared-slice-read-if1
-shared-slice-read-if1 c = omega (arith, laws.at-room _ _ _ 0 (c .before .before .pre))
+shared-slice-read-if1 c = omega (arith, blocks.inside-room _ _ _ (c .before .before .pre))
 
 returns : tie.Need-returns
 returns c = search laws.choose-none
 
 shared-slice-read-c : tie.Need-shared-slice-read-c
-shared-slice-read-c c = omega (arith, laws.at-room _ _ _ 0 (c .before .before .before .before .pre), laws.count-four _ _ _ 0 (c .before .before .before .before .pre))
+shared-slice-read-c c = omega (arith, blocks.inside-room _ _ _ (c .before .before .before .before .pre), laws.count-four _ _ _ 0 (c .before .before .before .before .pre))
 
 returns-2 : tie.Need-returns-2
 returns-2 c = search laws.choose-leaf
