@@ -1,6 +1,6 @@
 pub mod Keeping
-pub mod StateLaws
 pub mod RefLaws
+pub mod StateLaws
 pub mod PutLaws
 pub mod LeafLaws
 pub mod FindLaws

@@ -14,7 +14,8 @@ use Rattle.values.specs.declared.Selected.{Selected}
 use Rattle.values.specs.declared.Selected.the-variants as selected
 use Rattle.values.specs.Layout.{Inside, HeldBy, Holds, Low}
 use Rattle.values.specs.Operations.{Chosen, Leaf}
-use Rattle.values.proofs.Selecting.{at-room, count-four, choose-leaf, choose-object, choose-none, leaf-undet, leaf-mark}
+use Rattle.values.proofs.Blocks.{inside-room}
+use Rattle.values.proofs.Selecting.{count-four, choose-leaf, choose-object, choose-none, leaf-undet, leaf-mark}
 use Rattle.evaluator.specs.Refs.{refFrom, refIn, Small, answerOf, ChosenIn}
 
 -- ---- a number read
@@ -125,7 +126,7 @@ module _ (W : List ℕ) (r f : ℕ) (h : Holds W (refIn r)) (o : r % 256 < 192) 
   inside = subst (HeldBy W) (sym (object-in r o)) (h .held)
 
   pub select-room : 240 * (r / 256 % 65536) + 6 * (r % 256) + 6 ≤ length W
-  select-room = at-room W (r / 256 % 65536) (r % 256) f inside
+  select-room = inside-room W (r / 256 % 65536) (r % 256) inside
 
   pub select-count : getD W (240 * (r / 256 % 65536) + 6 * (r % 256) + 1) 0 ≤ 4
   select-count = count-four W (r / 256 % 65536) (r % 256) f inside

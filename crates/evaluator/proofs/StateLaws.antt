@@ -1,5 +1,5 @@
 -- Frames and open calls: a parameter, numbers, arguments and calls compared.
-use Prim.Native.Nat.{ℕ, zero, suc, _+_, _-_, _*_, _≤_, _<_}
+use Prim.Native.Nat.{ℕ, zero, suc, _+_, _-_, _*_, _≤_, _<_, _/_, _%_}
 use native.Mathlib.Omega.{arith}
 use native.Mathlib.Numerals.{sub-one, add-one}
 use mathlib.Core.Path.{_≡_, refl, sym, ap, ap₂, _∙_, subst}
@@ -22,6 +22,7 @@ use Rattle.values.specs.Layout.{valueOf, Holds}
 use Rattle.values.specs.Laying.{valuesFrom, PartsHeld}
 use Rattle.values.proofs.Steps.{one-block, mark-mark, undet-undet}
 use Rattle.evaluator.specs.Refs.{refIn}
+use Rattle.evaluator.proofs.RefLaws.{object-in}
 use Rattle.evaluator.specs.State.{Is, Absent, Frame, OpenCall, slotAt, HeldOlder, heldIn, FrameHolds, frameIn, variableOf, refAt, argsAt, baseAt, callAt, callIn, CallHolds, CallsHold, traceIn, sameOf, metOf}
 
 -- ---- parameters
@@ -90,6 +91,16 @@ value-same W Undetermined h = undet-undet W Undetermined Undetermined refl refl
 module _ (W : List ℕ) (x y : ℕ) where
   pub numbers-same : Holds W (refIn x) → x ≡ y → true ≡ eqGraph (valueOf W (refIn x)) (valueOf W (refIn y))
   numbers-same h e = value-same W (refIn x) h ∙ ap (λ (z : ℕ). eqGraph (valueOf W (refIn x)) (valueOf W (refIn z))) e
+
+  module _ (hx : Holds W (refIn x)) (hy : Holds W (refIn y)) (no : x ≡ y → ⊥) (e : x / 256 ≡ y / 256) (lx : x % 256 < 192) (ly : y % 256 < 192) where
+    apart : (b c : ℕ) → b ≡ c → (i j : ℕ) → (i ≡ j → ⊥) → Holds W (Object b i) → Holds W (Object c j) → false ≡ eqGraph (valueOf W (Object b i)) (valueOf W (Object c j))
+    apart b c z i j d h k = sym (ne-eqb i j d) ∙ one-block W b i c j (h .held) (k .held) z
+
+    pub numbers-differ : false ≡ eqGraph (valueOf W (refIn x)) (valueOf W (refIn y))
+    numbers-differ =
+        let q : x % 256 ≡ y % 256 → ⊥ = λ z. no (omega arith) in
+        rw (← object-in x lx, ← object-in y ly)
+        (apart (x / 256 % 65536) (y / 256 % 65536) (ap (λ (z : ℕ). z % 65536) e) (x % 256) (y % 256) q (subst (Holds W) (sym (object-in x lx)) hx) (subst (Holds W) (sym (object-in y ly)) hy))
 
   pub number-held : (u : ValueRef) → u ≡ refIn x → Holds W (refIn x) → Holds W u
   number-held u e h = subst (Holds W) (sym e) h

@@ -15,13 +15,20 @@ ghost use Rattle.evaluator.specs.Refs.{refIn};
 ghost use Rattle.evaluator.specs.State.{refAt, argsAt, baseAt, CallHolds, CallsHold, callAt, callIn, sameOf, traceIn, metOf};
 ghost use Rattle.evaluator.specs.Stack.{topOf};
 
-// Whether two numbers stand for one value.
+// Whether two numbers stand for one value. Two objects of one block never do.
 pub fn same_value(work: &[u8], x: u32, y: u32) -> bool
     requires { ⌜ Holds (now work) (refIn x) × Holds (now work) (refIn y) ⌝ }
     ensures { λ r. ⌜ r ≡ eqGraph (valueOf (now (work .entry)) (refIn x)) (valueOf (now (work .entry)) (refIn y)) ⌝ }
 {
     if x == y {
         return true;
+    }
+    if x / 256 == y / 256 {
+        if x % 256 < 192 {
+            if y % 256 < 192 {
+                return false;
+            }
+        }
     }
     equal(work, unpack(x), unpack(y))
 }
