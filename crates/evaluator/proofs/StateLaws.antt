@@ -4,13 +4,13 @@ use native.Mathlib.Omega.{arith}
 use native.Mathlib.Numerals.{sub-one, add-one}
 use mathlib.Core.Path.{_≡_, refl, sym, ap, ap₂, _∙_, subst}
 use mathlib.Core.Logic.{_⊎_, inl, inr}
-use mathlib.Core.Bool.{Bool, true, false, not}
+use mathlib.Core.Bool.{Bool, true, false, not, false≢true}
 use mathlib.Core.List.{List, [], _∷_, map}
 use mathlib.Core.Option.{Option, none, some}
 use lib.Dec.{eqb, ltb}
 use lib.ListN.{length, getD, take, drop, getElem?, length-take, length-map, drop-of-length-le}
 use lib.Seq.{drop-cons, getD-take, length-take-le}
-use borrow.Author.Tests.{lt-ltb, le-ltb, eq-eqb, ne-eqb, ltb-true, ltb-false, not-true, not-false}
+use borrow.Author.Tests.{lt-ltb, le-ltb, eq-eqb, ne-eqb, eqb-true, eqb-false, ltb-true, ltb-false, not-true, not-false}
 use Rattle.cofj.specs.Values.{Graph, eqGraph, eqGraphs}
 use Rattle.cofj.specs.Running as language
 use Rattle.cofj.specs.Running.{openMark}
@@ -21,7 +21,7 @@ use Rattle.values.specs.declared.Slot.{Slot}
 use Rattle.values.specs.Layout.{valueOf, Holds}
 use Rattle.values.specs.Laying.{valuesFrom, PartsHeld}
 use Rattle.values.proofs.Steps.{one-block, mark-mark, undet-undet}
-use Rattle.evaluator.specs.Refs.{refIn}
+use Rattle.evaluator.specs.Refs.{refIn, apartOf}
 use Rattle.evaluator.proofs.RefLaws.{object-in}
 use Rattle.evaluator.specs.State.{Is, Absent, Frame, OpenCall, slotAt, HeldOlder, heldIn, FrameHolds, frameIn, variableOf, refAt, argsAt, baseAt, callAt, callIn, CallHolds, CallsHold, traceIn, sameOf, metOf}
 
@@ -81,6 +81,26 @@ module _ (W : List ℕ) (sp : ℕ) (f : Frame) (k : ℕ) (h : FrameHolds W sp f)
       go true q = sym (get-values W (f .args) (f .n) k (h .args .full) (ltb-true k (f .n) q))
       go false q = sym (get-past (valuesFrom W (f .args) 0 (f .n)) k (let l = ltb-false k (f .n) q in omega (arith, length-values W (f .args) (f .n) (h .args .full))))
 
+-- ---- numbers told apart
+module _ (x y : ℕ) where
+  pub apart-same : x ≡ y → false ≡ apartOf x y
+  unfolding apartOf
+  apart-same e = rw (eq-eqb x y e)
+
+  module _ (no : x ≡ y → ⊥) where
+    pub apart-block : (x / 256 ≡ y / 256 → ⊥) → false ≡ apartOf x y
+    unfolding apartOf
+    apart-block h = rw (ne-eqb x y no, ne-eqb (x / 256) (y / 256) h)
+
+    module _ (e : x / 256 ≡ y / 256) where
+      pub apart-leaf : 192 ≤ x % 256 → false ≡ apartOf x y
+      unfolding apartOf
+      apart-leaf h = rw (ne-eqb x y no, eq-eqb (x / 256) (y / 256) e, le-ltb (x % 256) 192 h)
+
+      pub apart-by : x % 256 < 192 → ltb (y % 256) 192 ≡ apartOf x y
+      unfolding apartOf
+      apart-by h = rw (ne-eqb x y no, eq-eqb (x / 256) (y / 256) e, lt-ltb (x % 256) 192 h)
+
 -- ---- numbers compared
 -- a value is itself
 value-same : (W : List ℕ) (r : ValueRef) → Holds W r → true ≡ eqGraph (valueOf W r) (valueOf W r)
@@ -101,6 +121,18 @@ module _ (W : List ℕ) (x y : ℕ) where
         let q : x % 256 ≡ y % 256 → ⊥ = λ z. no (omega arith) in
         rw (← object-in x lx, ← object-in y ly)
         (apart (x / 256 % 65536) (y / 256 % 65536) (ap (λ (z : ℕ). z % 65536) e) (x % 256) (y % 256) q (subst (Holds W) (sym (object-in x lx)) hx) (subst (Holds W) (sym (object-in y ly)) hy))
+
+  pub numbers-apart : Holds W (refIn x) → Holds W (refIn y) → apartOf x y ≡ true → false ≡ eqGraph (valueOf W (refIn x)) (valueOf W (refIn y))
+  unfolding apartOf
+  numbers-apart hx hy z = go (eqb x y) (eqb (x / 256) (y / 256)) (ltb (x % 256) 192) (ltb (y % 256) 192) refl refl refl refl z
+    where
+      go : (a b c d : Bool) → eqb x y ≡ a → eqb (x / 256) (y / 256) ≡ b → ltb (x % 256) 192 ≡ c → ltb (y % 256) 192 ≡ d → pick a false (pick b (pick c d false) false) ≡ true
+          → false ≡ eqGraph (valueOf W (refIn x)) (valueOf W (refIn y))
+      go true b c d ea eb ec ed q = absurd (false≢true q)
+      go false false c d ea eb ec ed q = absurd (false≢true q)
+      go false true false d ea eb ec ed q = absurd (false≢true q)
+      go false true true false ea eb ec ed q = absurd (false≢true q)
+      go false true true true ea eb ec ed q = numbers-differ hx hy (eqb-false x y ea) (eqb-true (x / 256) (y / 256) eb) (ltb-true (x % 256) 192 ec) (ltb-true (y % 256) 192 ed)
 
   pub number-held : (u : ValueRef) → u ≡ refIn x → Holds W (refIn x) → Holds W u
   number-held u e h = subst (Holds W) (sym e) h
@@ -153,6 +185,11 @@ module _ (W S : List ℕ) (p q i n : ℕ) (c : Comparing W (argsAt S p) (argsAt 
 
   pub args-more : not r ≡ false → Comparing W (argsAt S p) (argsAt S q) (i + 1) n
   args-more z = record { rest = more z ∙ c .rest }
+
+pub args-apart : (W S : List ℕ) (p q i n : ℕ) → Comparing W (argsAt S p) (argsAt S q) i n → PartsHeld W (argsAt S p) n → PartsHeld W (argsAt S q) n → n ≤ 3 → i < n
+    → (r : Bool) → r ≡ apartOf (getD S (p + i) 0) (getD S (q + i) 0) → r ≡ true → false ≡ eqGraphs (valuesFrom W (argsAt S p) 0 n) (valuesFrom W (argsAt S q) 0 n)
+args-apart W S p q i n c a b few h r e z =
+    args-differ W S p q i n c a b few h false (numbers-apart W (getD S (p + i) 0) (getD S (q + i) 0) (arg-held W S p n i a few h) (arg-held W S q n i b few h) (sym e ∙ z)) refl
 
 lengths-differ : (vs ws : List Graph) → (length vs ≡ length ws → ⊥) → eqGraphs vs ws ≡ false
 unfolding eqGraphs
@@ -228,6 +265,11 @@ module _ (W S : List ℕ) (i n sp : ℕ) where
     call-args z e s es = es
         ∙ ap₂ {A = List Slot} {B = ℕ} (λ ps m. eqGraphs (valuesFrom W ps 0 m) (valuesFrom W (argsAt S (sp + 1)) 0 n)) (args-place S i) (sym e ∙ count-place S i)
         ∙ sym (by-receiver ∙ ap (λ (x : Bool). pick x (eqGraphs (valuesFrom W (callAt S i .args) 0 (callAt S i .n)) (valuesFrom W (argsAt S (sp + 1)) 0 n)) false) (not-false r z))
+
+  pub call-apart : CallHolds W (callAt S i) → Holds W (refAt S sp) → (r : Bool) → r ≡ apartOf (getD S (getD S (281 + 3 * i + 2) 0) 0) (getD S sp 0) → r ≡ true
+      → false ≡ sameOf (callIn W 0 (callAt S i)) (valueOf W (refAt S sp)) (callAt S i .name) (valuesFrom W (argsAt S (sp + 1)) 0 n)
+  call-apart h hs r e z =
+      call-receiver false (numbers-apart W (getD S (getD S (281 + 3 * i + 2) 0) 0) (getD S sp 0) (receiver-held W S i h) hs (sym e ∙ z)) refl
 
 -- ---- the trace searched, the newest call first
 pub by-tests : (o : language.OpenCall) (os : List language.OpenCall) (v : Graph) (m : ℕ) (vs : List Graph)

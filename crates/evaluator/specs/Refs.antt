@@ -1,5 +1,6 @@
 -- Values as numbers: 256 times the block of an object and its number there; or a leaf's code. Not here: where the numbers stand (Stack).
 use Prim.Native.Nat.{ℕ, _-_, _/_, _%_, _<_}
+use mathlib.Core.Bool.{Bool, false}
 use mathlib.Core.List.{List}
 use lib.Dec.{eqb, ltb}
 use Rattle.classes.specs.Machine.{pick}
@@ -16,6 +17,10 @@ refFrom b c = pick (ltb c 192) (Object b c) (pick (eqb c 192) Undetermined (Mark
 -- the value that a number stands for
 unfoldable pub refIn : ℕ → ValueRef
 refIn r = refFrom (r / 256 % 65536) (r % 256)
+
+-- two numbers of two objects of one block
+unfoldable pub apartOf : ℕ → ℕ → Bool
+apartOf x y = pick (eqb x y) false (pick (eqb (x / 256) (y / 256)) (pick (ltb (x % 256) 192) (ltb (y % 256) 192) false) false)
 
 -- a value that a number can stand for
 abbrev pub Small : ValueRef → Type 0

@@ -11,24 +11,33 @@ ghost use Rattle.cofj.specs.Values.{eqGraph, eqGraphs};
 ghost use Rattle.cofj.specs.Running.{openMark};
 ghost use Rattle.values.specs.Layout.{Holds, valueOf};
 ghost use Rattle.values.specs.Laying.{PartsHeld, valuesFrom};
-ghost use Rattle.evaluator.specs.Refs.{refIn};
+ghost use Rattle.evaluator.specs.Refs.{refIn, apartOf};
 ghost use Rattle.evaluator.specs.State.{refAt, argsAt, baseAt, CallHolds, CallsHold, callAt, callIn, sameOf, traceIn, metOf};
 ghost use Rattle.evaluator.specs.Stack.{topOf};
 
-// Whether two numbers stand for one value. Two objects of one block never do.
+// Whether two numbers are those of two objects of one block: these are never equal. It costs no call.
+pub fn apart(x: u32, y: u32) -> bool
+    ensures { λ r. ⌜ r ≡ apartOf x y ⌝ }
+{
+    if x == y {
+        return false;
+    }
+    if x / 256 != y / 256 {
+        return false;
+    }
+    if 192 <= x % 256 {
+        return false;
+    }
+    y % 256 < 192
+}
+
+// Whether two numbers stand for one value.
 pub fn same_value(work: &[u8], x: u32, y: u32) -> bool
     requires { ⌜ Holds (now work) (refIn x) × Holds (now work) (refIn y) ⌝ }
     ensures { λ r. ⌜ r ≡ eqGraph (valueOf (now (work .entry)) (refIn x)) (valueOf (now (work .entry)) (refIn y)) ⌝ }
 {
     if x == y {
         return true;
-    }
-    if x / 256 == y / 256 {
-        if x % 256 < 192 {
-            if y % 256 < 192 {
-                return false;
-            }
-        }
     }
     equal(work, unpack(x), unpack(y))
 }
@@ -40,7 +49,12 @@ pub fn same_args(work: &[u8], st: &[u32; STACK], p: usize, q: usize, n: u32) -> 
 {
     let mut i: u32 = 0;
     while i < n {
-        if !same_value(work, st[p + i as usize], st[q + i as usize]) {
+        let x = st[p + i as usize];
+        let y = st[q + i as usize];
+        if apart(x, y) {
+            return false;
+        }
+        if !same_value(work, x, y) {
             return false;
         }
         i += 1;
@@ -59,7 +73,12 @@ pub fn same_call(work: &[u8], st: &[u32; STACK], i: u32, n: u32, sp: usize) -> b
     }
     let base = st[at + 2];
     let b = base as usize;
-    if !same_value(work, st[b], st[sp]) {
+    let x = st[b];
+    let y = st[sp];
+    if apart(x, y) {
+        return false;
+    }
+    if !same_value(work, x, y) {
         return false;
     }
     same_args(work, st, b + 1, sp + 1, n)

@@ -2,6 +2,7 @@ use Rattle.evaluator.proofs.met.same_args.Statement.{statement}
 use Rattle.evaluator.proofs.met.same_args.Tie as tie
 use Rattle.evaluator.proofs.met.same_args.Reads as reads
 use Rattle.evaluator.proofs.met.same_args.Lts as lts
+use Rattle.evaluator.proofs.met.apart.Reads as apart-reads
 use Rattle.evaluator.proofs.met.same_value.Reads as same-value-reads
 use borrow.Author.Needs.{needs}
 use Prim.Native.Nat.{_≤_, _-_}
@@ -18,17 +19,20 @@ abbrev μ-loop : tie.MeasureT-loop
 loop-holds : tie.Need-loop-holds Inv-loop μ-loop
 loop-holds c = (search needs, laws.args-start _ _ _ _)
 
+returns : tie.Need-returns Inv-loop μ-loop
+returns c = search laws.args-apart
+
 same-value-requires : tie.Need-same-value-requires Inv-loop μ-loop
 same-value-requires c κs = (search laws.arg-held, search laws.arg-held)
 
-returns : tie.Need-returns Inv-loop μ-loop
-returns c = search laws.args-differ
+returns-2 : tie.Need-returns-2 Inv-loop μ-loop
+returns-2 c = search laws.args-differ
 
 loop-again : tie.Need-loop-again Inv-loop μ-loop
-loop-again c = (search needs, search laws.args-more)
+loop-again c = (search needs, laws.args-more _ _ _ _ _ _ (c .before .before .before .before .before .before .before .loop .inv .1) (c .before .before .before .before .before .before .before .before .before .pre .0) (c .before .before .before .before .before .before .before .before .before .pre .1) (c .before .before .before .before .before .before .before .before .before .pre .4) (c .before .before .before .before .before .before .loop-test .taken) _ (c .before .same-value .ensures) (c .if2 .left))
 
-returns-2 : tie.Need-returns-2 Inv-loop μ-loop
-returns-2 c = search laws.args-end
+returns-3 : tie.Need-returns-3 Inv-loop μ-loop
+returns-3 c = search laws.args-end
 
 pub same-args-spec : {M : Type 1} → statement M
 same-args-spec =
@@ -45,9 +49,11 @@ same-args-spec =
     (λ c. search needs)
     (λ c. search needs)
     (λ c. search needs)
-    same-value-requires
+    (λ c κs. search needs)
     returns
+    same-value-requires
+    returns-2
     (λ c. search needs)
     (λ c. search needs)
     loop-again
-    returns-2)
+    returns-3)
