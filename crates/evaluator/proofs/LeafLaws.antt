@@ -3,7 +3,7 @@ use Prim.Native.Nat.{ℕ, _+_, _<_}
 use native.Mathlib.Omega.{arith}
 use mathlib.Core.Path.{_≡_, refl, sym, ap, _∙_, subst}
 use mathlib.Core.Bool.{Bool, true, false, cond}
-use mathlib.Core.List.{List}
+use mathlib.Core.List.{List, []}
 use mathlib.Core.Option.{none, some, Option·none-ne-some}
 use lib.Dec.{leb}
 use lib.ListN.{length, getD, set}
@@ -122,6 +122,28 @@ module _ (W S : List ℕ) (c n sp next : ℕ) (h : PartsReady W S n sp next) (ps
         runs = subst (Finishes W c (listAt S sp next) n sp W′) (sym (put-out S sp (h .room) (h .full) x next (h .after) ∙ ap (λ (u : ValueRef). Value u next (fuelOf S)) ex))
             (finish-value W c (listAt S sp next) n sp (refAt S sp) (refAt S (sp + 1)) (refAt S (sp + 2)) (refAt S (sp + 3)) next (fuelOf S) (list-values S sp next (h .after)) ps ep W′ o m v eo);
       }
+
+-- ---- the same without parts
+module _ (W S : List ℕ) (c n sp next : ℕ) (h : PartsReady W S n sp next) (z : n ≡ 0) (W′ : List ℕ) (o : Made) (m : MadeIs W (make c []) sp W′ o) where
+  abbrev parts : List Slot
+  parts = slotsOf (refAt S sp) (refAt S (sp + 1)) (refAt S (sp + 2)) (refAt S (sp + 3))
+
+  no-values : valuesFrom W parts 0 n ≡ []
+  unfolding valuesFrom
+  no-values = rw z
+
+  made-of-none : MadeIs W (make c (valuesFrom W parts 0 n)) sp W′ o
+  made-of-none = subst (λ (vs : List Graph). MadeIs W (make c vs) sp W′ o) (sym no-values) m
+
+  pub bare-large : (S′ : List ℕ) (r : ℕ) → o ≡ made.TooLarge → r ≡ 0 → S′ ≡ set S 275 3 → FinishStep W S c n sp next W′ S′ r
+  bare-large S′ r eo er es = made-large W S c n sp next h parts refl W′ o made-of-none S′ r eo er es
+
+  module _ (v : ValueRef) (eo : o ≡ made.Value v) where
+    pub bare-small : Small v
+    bare-small = made-small W S c n sp next h parts refl W′ o made-of-none v eo
+
+    pub bare-value : (x : ℕ) → refIn x ≡ v → FinishStep W S c n sp next W′ (set S sp x) next
+    bare-value x ex = made-value W S c n sp next h parts refl W′ o made-of-none v eo x ex
 
 -- ---- why a run stopped, and what it gives
 module _ (s : ℕ) where

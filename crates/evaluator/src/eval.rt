@@ -20,6 +20,7 @@ use classes::places::SIZE;
 use values::Made;
 use values::Slot;
 use values::make::make;
+use values::over::make_bare;
 ghost use mathlib.Core.Path.{_≡_};
 ghost use Prim.Native.Nat.{ℕ, _+_, _*_, _<_, _≤_};
 ghost use lib.ListN.{length};
@@ -154,6 +155,14 @@ pub fn finish(work: &mut [u8], st: &mut [u32; STACK], c: u8, n: u8, sp: usize, n
     requires { ⌜ PartsReady (now work) (now st) n sp next ⌝ }
     ensures { λ r. ⌜ FinishStep (now (work .entry)) (now (st .entry)) c n sp next (now (work .exit)) (now (st .exit)) r ⌝ }
 {
+    if n == 0 {
+        let q = make_bare(work, c, sp as u16);
+        let Made::Value(u) = q else {
+            return stop(st, TOO_LARGE);
+        };
+        st[sp] = pack(u);
+        return next;
+    }
     let ps = parts_at(st, sp);
     let o = make(work, c, ps, n, sp as u16);
     let Made::Value(v) = o else {

@@ -380,3 +380,24 @@ module _ (W : List ℕ) (c : ℕ) (ps : List Slot) (n : ℕ) (T : List ℕ) (hel
               omega (arith, rw e at (a .top q (omega arith)), rw z at (ls .below q (omega arith)), a .level);
           outside = a .outside;
         })
+
+-- ---- a new object without parts
+abbrev bareObject : ℕ → List ℕ
+bareObject c = c ∷ 0 ∷ 192 ∷ 192 ∷ 192 ∷ 192 ∷ []
+
+bare-root : (W : List ℕ) (c : ℕ) → RootObject c (rawsFrom W [] 0 0) (bareObject c)
+unfolding rawsFrom nodeIn
+bare-root W c = record { is = refl; packed = record { count = omega arith; spare = spare } }
+  where
+    spare : (k : ℕ) → 2 ≤ k → k < 6 → getD (bareObject c) (0 + k) 0 ≡ 192
+    spare zero l m = absurd (omega arith)
+    spare (suc zero) l m = absurd (omega arith)
+    spare (suc (suc zero)) l m = refl
+    spare (suc (suc (suc zero))) l m = refl
+    spare (suc (suc (suc (suc zero)))) l m = refl
+    spare (suc (suc (suc (suc (suc zero))))) l m = refl
+    spare (suc (suc (suc (suc (suc (suc k)))))) l m = absurd (omega arith)
+
+pub bare-new : (W : List ℕ) (c dst l : ℕ) (D : List ℕ) → Levels (bareObject c) 0 6 l → 240 * dst + 240 ≤ length W → Appended W dst 0 (bareObject c) l D → MadeIs W (make c []) dst D (Value (Object dst 0))
+unfolding valuesFrom
+bare-new W c dst l D ls room a = alone-new W c [] 0 (bareObject c) (record { full = omega arith; part = λ i h. absurd (omega arith) }) (bare-root W c) (record { leaf = λ i h. absurd (omega arith) }) dst l D ls room a

@@ -8,6 +8,7 @@ use crate::number::raise_level;
 use crate::value::copy_block;
 ghost use mathlib.Core.Path.{_≡_};
 ghost use Prim.Native.Nat.{ℕ, _+_, _*_, _<_, _≤_};
+ghost use mathlib.Core.List.{[]};
 ghost use lib.ListN.{length};
 ghost use Rattle.cofj.specs.Values.{make};
 ghost use Rattle.values.specs.Layout.{refOf, rawOf, Packed, Block, countIn, Holds};
@@ -108,6 +109,17 @@ pub fn make_alone(work: &mut [u8], c: u8, parts: [Slot; 4], n: u8, dst: u16) -> 
 {
     let mut top = [0u8; 6];
     root_object(work, c, parts, n, &mut top);
+    let l = level_with(&top, 0);
+    append(work, dst, 0, &top, l);
+    Made::Value(ValueRef::Object(dst, 0))
+}
+
+// A new object without parts.
+pub fn make_bare(work: &mut [u8], c: u8, dst: u16) -> Made
+    requires { ⌜ 240 * dst + 240 ≤ length (now work) ⌝ }
+    ensures { λ o. ⌜ MadeIs (now (work .entry)) (make c []) dst (now (work .exit)) o ⌝ }
+{
+    let top = [c, 0, 192, 192, 192, 192];
     let l = level_with(&top, 0);
     append(work, dst, 0, &top, l);
     Made::Value(ValueRef::Object(dst, 0))
