@@ -28,8 +28,8 @@ use Rattle.evaluator.proofs.Keeping.{older-up}
 use Rattle.evaluator.proofs.CallLaws.{call-flat, call-halt, call-none, call-is, args-halt, args-is, args-none, invoke-fuel, invoke-deep, invoke-right, invoke-left}
 use Rattle.evaluator.proofs.FitLaws as fits
 use Rattle.evaluator.proofs.FitLaws.{PartsSame}
-use Rattle.evaluator.proofs.StackLaws.{out-stop, out-value, list-stop, list-values, args-alike, frame-same, top-same, trace-same, placed-after, stacked-none, stacked-then}
-use Rattle.evaluator.proofs.StepLaws.{lists-on, trace-on, list-fits-on, Stops-with, stop-is, stop-stack, stuck-is, no-fuel-is, too-deep-is, run-low, value-held}
+use Rattle.evaluator.proofs.StackLaws.{out-stop, out-value, list-stop, list-values, args-alike, frame-same, top-same, trace-same, placed-after, stacked-none, stacked-then, Stops-with, stop-is, stop-stack, stuck-is, no-fuel-is, too-deep-is}
+use Rattle.evaluator.proofs.StepLaws.{lists-on, trace-on, list-fits-on, run-low, value-held}
 
 -- ---- the arguments that stand on the stack
 pub args-values : (W S : List ℕ) (p : ℕ) (x : ValueRef) (n : ℕ) → n ≤ 3 → valuesFrom W (argsAt S p) 0 n ≡ valuesFrom W (slotsOf (refAt S p) (refAt S (p + 1)) (refAt S (p + 2)) x) 0 n

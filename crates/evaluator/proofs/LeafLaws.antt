@@ -28,7 +28,8 @@ use Rattle.evaluator.specs.Stack.{fuelOf, stopAt, outAt, listAt}
 use Rattle.evaluator.specs.Steps.{PartsReady, FinishStep}
 use Rattle.evaluator.proofs.Keeping.{kept-none, kept-beneath}
 use Rattle.evaluator.proofs.RefLaws.{small-held}
-use Rattle.evaluator.proofs.PutLaws.{stop-stacked, put-stacked, stop-out, put-out}
+use Rattle.evaluator.proofs.StackLaws as stacks
+use Rattle.evaluator.proofs.StackLaws.{list-values, stacked-none, put-stack, put-out, stop-is, stop-stack, too-large-is}
 
 -- ---- parts
 pub parts-are : (S : List ℕ) (sp : ℕ) (a b c d : ValueRef) (r : List Slot) → a ≡ refAt S sp → b ≡ refAt S (sp + 1) → c ≡ refAt S (sp + 2) → d ≡ refAt S (sp + 3)
@@ -95,22 +96,20 @@ module _ (W : List ℕ) (k : ℕ) (l : Listed) (n sp : ℕ) where
           }
 
 -- ---- a new object of the values on the stack
-list-values : (S : List ℕ) (sp next : ℕ) → 0 < next → listAt S sp next ≡ Values (refAt S sp) (refAt S (sp + 1)) (refAt S (sp + 2)) (refAt S (sp + 3)) next (fuelOf S)
-unfolding listAt
-list-values S sp next l = rw (ne-eqb next 0 (λ z. omega arith))
-
 module _ (W S : List ℕ) (c n sp next : ℕ) (h : PartsReady W S n sp next) (ps : List Slot) (ep : ps ≡ slotsOf (refAt S sp) (refAt S (sp + 1)) (refAt S (sp + 2)) (refAt S (sp + 3))) where
+  listed : listAt S sp next ≡ Values (refAt S sp) (refAt S (sp + 1)) (refAt S (sp + 2)) (refAt S (sp + 3)) next (fuelOf S)
+  listed = list-values S sp next (λ z. let a = h .after in omega arith)
+
   pub parts-ready : PartsHeld W ps n
-  parts-ready = finish-held W c (listAt S sp next) n sp (refAt S sp) (refAt S (sp + 1)) (refAt S (sp + 2)) (refAt S (sp + 3)) next (fuelOf S) (list-values S sp next (h .after)) ps ep (h .older)
+  parts-ready = finish-held W c (listAt S sp next) n sp (refAt S sp) (refAt S (sp + 1)) (refAt S (sp + 2)) (refAt S (sp + 3)) next (fuelOf S) listed ps ep (h .older)
 
   module _ (W′ : List ℕ) (o : Made) (m : MadeIs W (make c (valuesFrom W ps 0 n)) sp W′ o) where
     pub made-large : (S′ : List ℕ) (r : ℕ) → o ≡ made.TooLarge → r ≡ 0 → S′ ≡ set S 275 3 → FinishStep W S c n sp next W′ S′ r
-    unfolding stopAt
-    made-large S′ r eo er es = rw (er, es) (record {
-      stack = stop-stacked S sp (h .room) 3;
-      runs = subst (Finishes W c (listAt S sp next) n sp W′) (sym (stop-out S sp (h .room) (h .full) 3))
-          (finish-large W c (listAt S sp next) n sp (refAt S sp) (refAt S (sp + 1)) (refAt S (sp + 2)) (refAt S (sp + 3)) next (fuelOf S) (list-values S sp next (h .after)) ps ep W′ o m eo);
-    })
+    made-large S′ r eo er es = record {
+      stack = stop-stack sp 3 S S S′ r (er, es) (stacked-none sp S) (let l = h .room in omega arith);
+      runs = subst (Finishes W c (listAt S sp next) n sp W′) (sym (stop-is sp 3 S S S′ r (er, es) (h .full) TooLarge too-large-is))
+          (finish-large W c (listAt S sp next) n sp (refAt S sp) (refAt S (sp + 1)) (refAt S (sp + 2)) (refAt S (sp + 3)) next (fuelOf S) listed ps ep W′ o m eo);
+    }
 
     module _ (v : ValueRef) (eo : o ≡ made.Value v) where
       pub made-small : Small v
@@ -118,9 +117,9 @@ module _ (W S : List ℕ) (c n sp next : ℕ) (h : PartsReady W S n sp next) (ps
 
       pub made-value : (x : ℕ) → refIn x ≡ v → FinishStep W S c n sp next W′ (set S sp x) next
       made-value x ex = record {
-        stack = put-stacked S sp (h .room) x;
-        runs = subst (Finishes W c (listAt S sp next) n sp W′) (sym (put-out S sp (h .room) (h .full) x next (h .after) ∙ ap (λ (u : ValueRef). Value u next (fuelOf S)) ex))
-            (finish-value W c (listAt S sp next) n sp (refAt S sp) (refAt S (sp + 1)) (refAt S (sp + 2)) (refAt S (sp + 3)) next (fuelOf S) (list-values S sp next (h .after)) ps ep W′ o m v eo);
+        stack = put-stack sp S x (h .room) S (stacked-none sp S);
+        runs = subst (Finishes W c (listAt S sp next) n sp W′) (sym (put-out sp S x (h .room) (h .full) next (λ z. let a = h .after in omega arith) ∙ ap (λ (u : ValueRef). Value u next (fuelOf S)) ex))
+            (finish-value W c (listAt S sp next) n sp (refAt S sp) (refAt S (sp + 1)) (refAt S (sp + 2)) (refAt S (sp + 3)) next (fuelOf S) listed ps ep W′ o m v eo);
       }
 
 -- ---- the same without parts
@@ -167,9 +166,7 @@ module _ (s : ℕ) where
 
 module _ (S : List ℕ) (r : ℕ) where
   pub out-halt : (k : Stop) → r ≡ 0 → k ≡ stopAt (getD S 275 0) → Halt k (getD S 274 0) ≡ outAt S 0 r
-  unfolding outAt
-  out-halt k e ek = rw (eq-eqb r 0 e) (ap (λ (x : Stop). Halt x (fuelOf S)) ek)
+  out-halt k e ek = ap (λ (x : Stop). Halt x (fuelOf S)) ek ∙ sym (stacks.out-stop S 0 r e)
 
   pub out-value : (v : ValueRef) → (r ≡ 0 → ⊥) → v ≡ refIn (getD S 0 0) → Value v r (getD S 274 0) ≡ outAt S 0 r
-  unfolding outAt
-  out-value v e ev = rw (ne-eqb r 0 e) (ap (λ (x : ValueRef). Value x r (fuelOf S)) ev)
+  out-value v e ev = ap (λ (x : ValueRef). Value x r (fuelOf S)) ev ∙ sym (stacks.out-value S 0 r e)

@@ -8,7 +8,7 @@ use mathlib.Core.List.{List, [], _∷_}
 use lib.Dec.{ltb}
 use lib.ListN.{length, getD, set, length-set}
 use lib.Seq.{getD-set-same, getD-set-other}
-use borrow.Author.Tests.{lt-ltb, le-ltb, eq-eqb, ne-eqb, ltb-true}
+use borrow.Author.Tests.{lt-ltb, le-ltb, eq-eqb, ne-eqb, ltb-true, ltb-false}
 use Rattle.classes.specs.Machine.{pick}
 use Rattle.values.specs.declared.ValueRef.{ValueRef}
 use Rattle.values.specs.declared.ValueRef.the-variants.{Mark}
@@ -22,13 +22,10 @@ use Rattle.evaluator.specs.State.{Held, Is, Absent, slotAt, refAt, argsA
 use Rattle.evaluator.specs.Answers.{outOf}
 use Rattle.evaluator.specs.Stack.{fuelOf, heldThis, heldMark, heldArgs, frameAt, heldParameter, Framed, Stacked, stopAt, outAt, Answered, FrameSet, CallSet}
 use Rattle.evaluator.proofs.RefLaws.{mark-number}
+use Rattle.evaluator.proofs.StackLaws.{this-absent, this-held, args-absent, args-held, mark-absent, mark-held, stacked-none, put-stack, put-out, stop-is, stop-stack, stuck-is}
 use Rattle.evaluator.proofs.StateLaws.{variable-none, variable-is, args-at, args-length}
 
 -- ---- the arguments of a frame
-no-args : (S : List ℕ) → ltb (getD S 276 0) 274 ≡ false → heldArgs S ≡ []
-unfolding heldArgs
-no-args S q = rw q
-
 module _ (S : List ℕ) (k : ℕ) (f : Framed S) (h : k < getD S 277 0) where
   -- a frame with arguments is a body's
   pub args-there : getD S 276 0 < 274
@@ -36,91 +33,46 @@ module _ (S : List ℕ) (k : ℕ) (f : Framed S) (h : k < getD S 277 0) where
     where
       go : (b : Bool) → ltb (getD S 276 0) 274 ≡ b → getD S 277 0 ≤ length (heldArgs S) → getD S 276 0 < 274
       go true q l = ltb-true (getD S 276 0) 274 q
-      go false q l = absurd (omega (arith, ap length (no-args S q)))
-
-  held-args : heldArgs S ≡ argsAt S (getD S 276 0 + 1)
-  unfolding heldArgs
-  held-args = rw (lt-ltb (getD S 276 0) 274 args-there)
+      go false q l = absurd (omega (arith, ap length (args-absent S (ltb-false (getD S 276 0) 274 q))))
 
   pub args-three : k < 3
-  args-three = omega (arith, h, f .args, ap length held-args, args-length S (getD S 276 0 + 1))
+  args-three = omega (arith, h, f .args, ap length (args-held S args-there), args-length S (getD S 276 0 + 1))
 
 arg-held : (S : List ℕ) (k : ℕ) → Framed S → k < getD S 277 0 → refIn (getD S (getD S 276 0 + 1 + k) 0) ≡ slotAt (heldArgs S) k
-arg-held S k f h = sym (ap (λ (ps : List Slot). slotAt ps k) (held-args S k f h) ∙ args-at S (getD S 276 0 + 1) k (args-three S k f h))
+arg-held S k f h = sym (ap (λ (ps : List Slot). slotAt ps k) (args-held S (args-there S k f h)) ∙ args-at S (getD S 276 0 + 1) k (args-three S k f h))
 
--- ---- one number put
-module _ (S : List ℕ) (sp : ℕ) (room : sp < 274) where
-  pub stop-stacked : (s : ℕ) → Stacked sp S (set S 275 s)
-  stop-stacked s = record {
-    same = length-set S 275 s;
-    below = λ p h. getD-set-other S 275 p s 0 (λ z. omega arith);
-    above = λ p l h. getD-set-other S 275 p s 0 (λ z. omega arith);
-    spent = omega (arith, getD-set-other S 275 274 s 0 (λ z. omega arith));
-  }
+-- ---- variables
+module _ (S : List ℕ) (sp : ℕ) (room : sp < 274) (full : length S ≡ 336) where
+  module _ (h : Held) (next : ℕ) where
+    absent-answered : (S′ : List ℕ) (r : ℕ) → h ≡ Absent → r ≡ 0 → S′ ≡ set S 275 0 → Answered S h sp next S′ r
+    absent-answered S′ r e er es = rw e (record { stack = stop-stack sp 0 S S S′ r (er, es) (stacked-none sp S) (omega arith); is = stop-is sp 0 S S S′ r (er, es) full Stuck stuck-is })
 
-  pub put-stacked : (x : ℕ) → Stacked sp S (set S sp x)
-  put-stacked x = record {
-    same = length-set S sp x;
-    below = λ p h. getD-set-other S sp p x 0 (λ z. omega arith);
-    above = λ p l h. getD-set-other S sp p x 0 (λ z. omega arith);
-    spent = omega (arith, getD-set-other S sp 274 x 0 (λ z. omega arith));
-  }
+    is-answered : (v : ValueRef) (x : ℕ) → h ≡ Is v → refIn x ≡ v → 0 < next → Answered S h sp next (set S sp x) next
+    is-answered v x e q l = record {
+      stack = put-stack sp S x room S (stacked-none sp S);
+      is = put-out sp S x room full next (λ z. omega arith) ∙ ap (λ (u : ValueRef). Value u next (fuelOf S)) q ∙ ap (λ (k : Held). outOf k next (fuelOf S)) (sym e);
+    }
 
-  module _ (full : length S ≡ 336) where
-    -- the answer of a run that has stopped, and of one that has a value
-    pub stop-out : (s : ℕ) → outAt (set S 275 s) sp 0 ≡ Halt (stopAt s) (fuelOf S)
-    unfolding outAt
-    stop-out s = λ i. Halt (stopAt (getD-set-same S 275 s 0 (omega arith) i)) (getD-set-other S 275 274 s 0 (λ z. omega arith) i)
+  module _ (next : ℕ) where
+    pub this-none : (S′ : List ℕ) (r : ℕ) → 274 ≤ getD S 276 0 → r ≡ 0 → S′ ≡ set S 275 0 → Answered S (heldThis S) sp next S′ r
+    this-none S′ r h er es = absent-answered (heldThis S) next S′ r (this-absent S h) er es
 
-    pub put-out : (x next : ℕ) → 0 < next → outAt (set S sp x) sp next ≡ Value (refIn x) next (fuelOf S)
-    unfolding outAt
-    put-out x next l = rw (ne-eqb next 0 (λ z. omega arith)) (λ i. Value (refIn (getD-set-same S sp x 0 (omega arith) i)) next (getD-set-other S sp 274 x 0 (λ z. omega arith) i))
+    pub result-none : (S′ : List ℕ) (r : ℕ) → getD S 278 0 ≡ 0 → r ≡ 0 → S′ ≡ set S 275 0 → Answered S (heldMark S) sp next S′ r
+    result-none S′ r h er es = absent-answered (heldMark S) next S′ r (mark-absent S h) er es
 
-    -- ---- variables
-    module _ (h : Held) (next : ℕ) where
-      absent-answered : (S′ : List ℕ) (r : ℕ) → h ≡ Absent → r ≡ 0 → S′ ≡ set S 275 0 → Answered S h sp next S′ r
-      unfolding stopAt
-      absent-answered S′ r e er es = rw (e, er, es) (record { stack = stop-stacked 0; is = stop-out 0 })
+    pub parameter-none : (k : ℕ) (S′ : List ℕ) (r : ℕ) → getD S 277 0 ≤ k → r ≡ 0 → S′ ≡ set S 275 0 → Answered S (heldParameter S k) sp next S′ r
+    parameter-none k S′ r h er es = absent-answered (heldParameter S k) next S′ r (sym (variable-none (frameAt S) k h)) er es
 
-      is-answered : (v : ValueRef) (x : ℕ) → h ≡ Is v → refIn x ≡ v → 0 < next → Answered S h sp next (set S sp x) next
-      is-answered v x e q l = record { stack = put-stacked x; is = put-out x next l ∙ ap (λ (u : ValueRef). Value u next (fuelOf S)) q ∙ ap (λ (k : Held). outOf k next (fuelOf S)) (sym e) }
+    module _ (after : 0 < next) where
+      pub this-is : getD S 276 0 < 274 → Answered S (heldThis S) sp next (set S sp (getD S (getD S 276 0) 0)) next
+      this-is h = is-answered (heldThis S) next (refAt S (getD S 276 0)) (getD S (getD S 276 0) 0) (this-held S h) refl after
 
-    this-absent : 274 ≤ getD S 276 0 → heldThis S ≡ Absent
-    unfolding heldThis
-    this-absent h = rw (le-ltb (getD S 276 0) 274 h)
+      pub result-is : Framed S → (getD S 278 0 ≡ 0 → ⊥) → Answered S (heldMark S) sp next (set S sp (192 + getD S 278 0)) next
+      result-is f h = is-answered (heldMark S) next (Mark (getD S 278 0 - 1)) (192 + getD S 278 0) (mark-held S h) (mark-number (getD S 278 0) h (f .mark)) after
 
-    this-held : getD S 276 0 < 274 → heldThis S ≡ Is (refAt S (getD S 276 0))
-    unfolding heldThis
-    this-held h = rw (lt-ltb (getD S 276 0) 274 h)
-
-    mark-absent : getD S 278 0 ≡ 0 → heldMark S ≡ Absent
-    unfolding heldMark
-    mark-absent h = rw (eq-eqb (getD S 278 0) 0 h)
-
-    mark-held : (getD S 278 0 ≡ 0 → ⊥) → heldMark S ≡ Is (Mark (getD S 278 0 - 1))
-    unfolding heldMark
-    mark-held h = rw (ne-eqb (getD S 278 0) 0 h)
-
-    module _ (next : ℕ) where
-      pub this-none : (S′ : List ℕ) (r : ℕ) → 274 ≤ getD S 276 0 → r ≡ 0 → S′ ≡ set S 275 0 → Answered S (heldThis S) sp next S′ r
-      this-none S′ r h er es = absent-answered (heldThis S) next S′ r (this-absent h) er es
-
-      pub result-none : (S′ : List ℕ) (r : ℕ) → getD S 278 0 ≡ 0 → r ≡ 0 → S′ ≡ set S 275 0 → Answered S (heldMark S) sp next S′ r
-      result-none S′ r h er es = absent-answered (heldMark S) next S′ r (mark-absent h) er es
-
-      pub parameter-none : (k : ℕ) (S′ : List ℕ) (r : ℕ) → getD S 277 0 ≤ k → r ≡ 0 → S′ ≡ set S 275 0 → Answered S (heldParameter S k) sp next S′ r
-      parameter-none k S′ r h er es = absent-answered (heldParameter S k) next S′ r (sym (variable-none (frameAt S) k h)) er es
-
-      module _ (after : 0 < next) where
-        pub this-is : getD S 276 0 < 274 → Answered S (heldThis S) sp next (set S sp (getD S (getD S 276 0) 0)) next
-        this-is h = is-answered (heldThis S) next (refAt S (getD S 276 0)) (getD S (getD S 276 0) 0) (this-held h) refl after
-
-        pub result-is : Framed S → (getD S 278 0 ≡ 0 → ⊥) → Answered S (heldMark S) sp next (set S sp (192 + getD S 278 0)) next
-        result-is f h = is-answered (heldMark S) next (Mark (getD S 278 0 - 1)) (192 + getD S 278 0) (mark-held h) (mark-number (getD S 278 0) h (f .mark)) after
-
-        pub parameter-is : (k : ℕ) → Framed S → k < getD S 277 0 → Answered S (heldParameter S k) sp next (set S sp (getD S (getD S 276 0 + 1 + k) 0)) next
-        parameter-is k f h =
-            is-answered (heldParameter S k) next (slotAt (heldArgs S) k) (getD S (getD S 276 0 + 1 + k) 0) (sym (variable-is (frameAt S) k h)) (arg-held S k f h) after
+      pub parameter-is : (k : ℕ) → Framed S → k < getD S 277 0 → Answered S (heldParameter S k) sp next (set S sp (getD S (getD S 276 0 + 1 + k) 0)) next
+      parameter-is k f h =
+          is-answered (heldParameter S k) next (slotAt (heldArgs S) k) (getD S (getD S 276 0 + 1 + k) 0) (sym (variable-is (frameAt S) k h)) (arg-held S k f h) after
 
 -- ---- a frame put
 pub frame-set : (S : List ℕ) (b n x : ℕ) → length S ≡ 336 → FrameSet S b n x (set (set (set S 276 b) 277 n) 278 x)

@@ -16,6 +16,7 @@ use Rattle.evaluator.specs.Evaluation.{evalIn, Fits, Evaluates}
 use Rattle.evaluator.specs.Steps.{Runnable, EvalStep}
 use Rattle.evaluator.specs.Main.{Runs}
 use Rattle.evaluator.proofs.BodyLaws.{evalTo-is}
+use Rattle.evaluator.proofs.StackLaws.{this-absent, args-absent, mark-absent}
 
 -- the stack that main is run with: no receiver, no arguments, no mark, no open calls
 pub record Bare (S : List ℕ) (fuel : ℕ) : Type 0 where
@@ -54,16 +55,13 @@ module _ (k fuel : ℕ) (ek : k ≡ 336) where
 
 module _ (W S : List ℕ) (fuel : ℕ) (b : Bare S fuel) where
   no-this : heldThis S ≡ Absent
-  unfolding heldThis
-  no-this = rw (b .base)
+  no-this = this-absent S (let e = b .base in omega arith)
 
   no-res : heldMark S ≡ Absent
-  unfolding heldMark
-  no-res = rw (b .mark)
+  no-res = mark-absent S (b .mark)
 
   no-args : heldArgs S ≡ []
-  unfolding heldArgs
-  no-args = rw (b .base)
+  no-args = args-absent S (let e = b .base in omega arith)
 
   frame-none : frameIn W (frameAt S) ≡ mainFrame
   unfolding frameIn valuesFrom

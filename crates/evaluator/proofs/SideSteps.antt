@@ -22,17 +22,12 @@ use Rattle.evaluator.specs.Stack.{fuelOf, topOf, heldThis, heldMark, hel
 use Rattle.evaluator.specs.Evaluation.{Fits, Evaluates}
 use Rattle.evaluator.specs.Calling.{BodyFits, RunsRight, RunsLeft}
 use Rattle.evaluator.specs.Steps.{Runnable, BodyRunnable, EvalStep, RightStep, LeftStep}
+use Rattle.evaluator.proofs.RefLaws.{small-held}
 use Rattle.evaluator.proofs.BodyLaws.{Pushed, trace-below, right-halt, right-value, left-halt, left-value}
 use Rattle.evaluator.proofs.Given.{given-older}
 use Rattle.evaluator.proofs.FitLaws as fits
-use Rattle.evaluator.proofs.StackLaws.{out-stop, out-value, args-alike, call-alike, stacked-set, put-out}
+use Rattle.evaluator.proofs.StackLaws.{out-stop, out-value, this-held, args-held, mark-absent, mark-held, args-alike, call-alike, put-stack, put-out}
 use Rattle.evaluator.proofs.StepLaws.{evaluates-on}
-
--- a value given can be put
-pub given-small : (W : List ℕ) (sp : ℕ) (v : ValueRef) → Holds W v → Low sp v → sp ≤ 65536 → Small v
-given-small W sp (Object b i) h l q = (omega (arith, l), let z = h .held .low in let y = h .held .block .small in omega arith)
-given-small W sp (Mark k) h l q = h .held
-given-small W sp Undetermined h l q = tt
 
 -- ---- what a side asks of the numbers
 module _ (W S : List ℕ) (next n d sp : ℕ) (run : BodyRunnable W S next n d sp) where
@@ -52,25 +47,15 @@ module _ (W S : List ℕ) (next n d sp : ℕ) (run : BodyRunnable W S next n d s
   body-mark = let l = body-top in omega arith
 
 -- ---- the frame of a body: its receiver stands at sp
-module _ (S S1 : List ℕ) (sp n x : ℕ) (l : sp < 270) (eb : getD S1 276 0 ≡ sp) (en : getD S1 277 0 ≡ n) (ex : getD S1 278 0 ≡ x) (low : (p : ℕ) → p < 274 → getD S1 p 0 ≡ getD S p 0) where
+module _ (S S1 : List ℕ) (sp n : ℕ) (l : sp < 270) (eb : getD S1 276 0 ≡ sp) (en : getD S1 277 0 ≡ n) (low : (p : ℕ) → p < 274 → getD S1 p 0 ≡ getD S p 0) where
   this-there : heldThis S1 ≡ Is (refAt S sp)
-  unfolding heldThis
-  this-there = rw (eb, lt-ltb sp 274 (omega arith)) (ap (λ (y : ℕ). Is (refIn y)) (low sp (omega arith)))
+  this-there = this-held S1 (omega arith) ∙ ap (λ (y : ℕ). Is (refIn y)) (ap (λ (b : ℕ). getD S1 b 0) eb ∙ low sp (omega arith))
 
   args-there : heldArgs S1 ≡ argsAt S (sp + 1)
-  unfolding heldArgs
-  args-there = rw (eb, lt-ltb sp 274 (omega arith)) (args-alike S S1 (sp + 1) (λ q a b. low q (omega arith)))
+  args-there = args-held S1 (omega arith) ∙ ap (λ (b : ℕ). argsAt S1 (b + 1)) eb ∙ args-alike S S1 (sp + 1) (λ q a b. low q (omega arith))
 
-  pub frame-there : (h : Held) → heldMark S1 ≡ h → frameAt S1 ≡ record { this = Is (refAt S sp); res = h; args = argsAt S (sp + 1); n = n }
+  frame-there : (h : Held) → heldMark S1 ≡ h → frameAt S1 ≡ record { this = Is (refAt S sp); res = h; args = argsAt S (sp + 1); n = n }
   frame-there h eh = λ i. record { this = this-there i; res = eh i; args = args-there i; n = en i }
-
-  pub no-mark : x ≡ 0 → heldMark S1 ≡ Absent
-  unfolding heldMark
-  no-mark z = rw (ex, eq-eqb x 0 z)
-
-  pub a-mark : (x ≡ 0 → ⊥) → heldMark S1 ≡ Is (Mark (x - 1))
-  unfolding heldMark
-  a-mark z = rw (ex, ne-eqb x 0 z)
 
 -- the frame set back
 frame-back : (S S2 S3 : List ℕ) → FrameSet S2 (getD S 276 0) (getD S 277 0) (getD S 278 0) S3 → (p : ℕ) → 276 ≤ p → p < 279 → getD S3 p 0 ≡ getD S p 0
@@ -91,8 +76,8 @@ module _ (T W S : List ℕ) (next d sp n i x : ℕ) (run : BodyRunnable W S next
 
   right-frame : frameAt S1 ≡ record { this = Is (refAt S sp); res = Is (Mark (x - 1)); args = argsAt S (sp + 1); n = n }
   right-frame =
-      frame-there S S1 sp n x short (fs .base) (fs .count) (fs .mark) (λ p l. fs .below p (omega arith)) (Is (Mark (x - 1)))
-      (a-mark S S1 sp n x short (fs .base) (fs .count) (fs .mark) (λ p l. fs .below p (omega arith)) (λ z. omega arith))
+      frame-there S S1 sp n short (fs .base) (fs .count) (λ p l. fs .below p (omega arith)) (Is (Mark (x - 1)))
+      (mark-held S1 (λ z. let e = fs .mark in omega arith) ∙ ap (λ (y : ℕ). Is (Mark (y - 1))) (fs .mark))
 
   right-top : topOf S1 ≡ topOf S
   right-top = fs .above 279 (omega arith)
@@ -136,7 +121,7 @@ module _ (T W S : List ℕ) (next d sp n i x : ℕ) (run : BodyRunnable W S next
         (evaluates-on T W (record { this = Is (refAt S sp); res = Is (Mark (x - 1)); args = argsAt S (sp + 1); n = n }) (frameAt S1) right-frame S S1 (topOf S) (topOf S1) right-trace at 6 d (sp + 4) (fuelOf S1) W1
         (outAt S2 (sp + 4) r) (ev .runs))
 
-    pub right-stack : Stacked sp S S3
+    right-stack : Stacked sp S S3
     right-stack =
         let s = ev .stack .spent in
         let a = fb .below 274 (omega arith) in
@@ -179,15 +164,15 @@ module _ (T W S : List ℕ) (next d sp n i x : ℕ) (run : BodyRunnable W S next
       right-length = let z = run .fits .room in omega (arith, run .fits .long, right-evaluates .kept .same)
 
       pub right-small : (W2 : List ℕ) (v : ValueRef) → Gives W1 sp W2 v (valueOf W1 u) → Small v
-      right-small W2 v g = given-small W2 (sp + 1) v (g .held) (g .place) (let z = short in omega arith)
+      right-small W2 v g = small-held W2 (sp + 1) v (g .held) (g .place) (let z = short in omega arith)
 
       pub right-gives : (W2 : List ℕ) (v : ValueRef) (q : ℕ) → Gives W1 sp W2 v (valueOf W1 u) → refIn q ≡ v → RightStep T W S next d sp n i x W2 (set S3 sp q) next
       right-gives W2 v q g eq =
           let full : length S3 ≡ 336 = right-stack .same ∙ run .placed .full in
           record {
-            stack = stacked-set sp S S3 sp q right-stack (omega arith) (let z = short in omega arith) (λ y. let z = short in omega arith);
+            stack = put-stack sp S3 q (let z = short in omega arith) S right-stack;
             runs = subst (RunsRight T W S (topOf S) (refAt S sp) (argsAt S (sp + 1)) n i next d sp (fuelOf S) (x - 1) W2)
-                (sym (put-out S3 full sp q next (let z = short in omega arith) (λ y. let z = run .after in omega arith) ∙ (λ j. Value (eq j) next (fb .below 274 (omega arith) j))))
+                (sym (put-out sp S3 q (let z = short in omega arith) full next (λ y. let z = run .after in omega arith) ∙ (λ j. Value (eq j) next (fb .below 274 (omega arith) j))))
                 (right-value T W S (topOf S) (refAt S sp) (argsAt S (sp + 1)) n i next d sp (fuelOf S) (x - 1) at ea W1 (outAt S2 (sp + 4) r) right-evaluates u r (fuelOf S2) W2 v side-value g);
           }
 
@@ -202,8 +187,7 @@ module _ (T W S : List ℕ) (next d sp m n i : ℕ) (run : BodyRunnable W S next
 
     left-frame : frameAt S1 ≡ record { this = Is (refAt S sp); res = Absent; args = argsAt S (sp + 1); n = n }
     left-frame =
-        frame-there S S1 sp n 0 low (fs .base) (fs .count) (fs .mark) (λ p l. below-same p (omega arith)) Absent
-        (no-mark S S1 sp n 0 low (fs .base) (fs .count) (fs .mark) (λ p l. below-same p (omega arith)) refl)
+        frame-there S S1 sp n low (fs .base) (fs .count) (λ p l. below-same p (omega arith)) Absent (mark-absent S1 (fs .mark))
 
     left-top : topOf S1 ≡ topOf S + 1
     left-top = fs .above 279 (omega arith) ∙ cs .top
@@ -276,7 +260,7 @@ module _ (T W S : List ℕ) (next d sp m n i : ℕ) (run : BodyRunnable W S next
       same-back : (p : ℕ) → p < 276 → getD S4 p 0 ≡ getD S2 p 0
       same-back p l = getD-set-other S3 279 p (topOf S) 0 (λ z. omega arith) ∙ fb .below p l
 
-      pub left-stack : Stacked sp S S4
+      left-stack : Stacked sp S S4
       left-stack =
           let s = ev .stack .spent in
           let a = same-back 274 (omega arith) in
@@ -325,14 +309,14 @@ module _ (T W S : List ℕ) (next d sp m n i : ℕ) (run : BodyRunnable W S next
         left-length = let z = run .fits .room in omega (arith, run .fits .long, left-evaluates .kept .same)
 
         pub left-small : (W2 : List ℕ) (v : ValueRef) → Gives W1 sp W2 v (close (topOf S) (valueOf W1 u)) → Small v
-        left-small W2 v g = given-small W2 (sp + 1) v (g .held) (g .place) (let z = low in omega arith)
+        left-small W2 v g = small-held W2 (sp + 1) v (g .held) (g .place) (let z = low in omega arith)
 
         pub left-gives : (W2 : List ℕ) (v : ValueRef) (q : ℕ) → Gives W1 sp W2 v (close (topOf S) (valueOf W1 u)) → refIn q ≡ v → LeftStep T W S next d sp m n i W2 (set S4 sp q) next
         left-gives W2 v q g eq =
             let full : length S4 ≡ 336 = left-stack .same ∙ run .placed .full in
             record {
-              stack = stacked-set sp S S4 sp q left-stack (omega arith) (let z = low in omega arith) (λ y. let z = low in omega arith);
+              stack = put-stack sp S4 q (let z = low in omega arith) S left-stack;
               runs = subst (RunsLeft T W S (topOf S) (refAt S sp) (argsAt S (sp + 1)) n i next d sp (fuelOf S) m W2)
-                  (sym (put-out S4 full sp q next (let z = low in omega arith) (λ y. let z = run .after in omega arith) ∙ (λ j. Value (eq j) next (same-back 274 (omega arith) j))))
+                  (sym (put-out sp S4 q (let z = low in omega arith) full next (λ y. let z = run .after in omega arith) ∙ (λ j. Value (eq j) next (same-back 274 (omega arith) j))))
                   (left-value T W S (topOf S) (refAt S sp) (argsAt S (sp + 1)) n i next d sp (fuelOf S) m (run .fits) S1 left-pushed at ea W1 (outAt S2 (sp + 4) r) left-evaluates u r (fuelOf S2) W2 v left-there g);
             }

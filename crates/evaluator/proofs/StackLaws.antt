@@ -1,4 +1,4 @@
--- The stack after a step: the frame and the open calls that stand below are as before; numbers put; answers read.
+-- The stack after a step: the frame and the open calls that stand below are as before; a value or a stop put; the frame and answers read.
 -- Not here: the functions that put them (PutLaws), what evaluation makes of them (StepLaws).
 use Prim.Native.Nat.{ℕ, _+_, _-_, _*_, _≤_, _<_}
 use native.Mathlib.Omega.{arith}
@@ -9,12 +9,13 @@ use mathlib.Core.List.{List, [], _∷_}
 use lib.Dec.{eqb, ltb}
 use lib.ListN.{length, getD, set, length-set}
 use lib.Seq.{getD-set-same, getD-set-other}
-use borrow.Author.Tests.{eq-eqb, ne-eqb, ltb-true}
+use borrow.Author.Tests.{lt-ltb, le-ltb, eq-eqb, ne-eqb, ltb-true}
 use Rattle.classes.specs.Machine.{pick}
 use Rattle.values.specs.declared.ValueRef.{ValueRef}
 use Rattle.values.specs.declared.ValueRef.the-variants.{Mark}
 use Rattle.values.specs.declared.Slot.{Slot}
-use Rattle.evaluator.specs.declared.Out.{Out}
+use Rattle.evaluator.specs.declared.Stop.{Stop}
+use Rattle.evaluator.specs.declared.Stop.the-variants.{Stuck, NoFuel, TooDeep, TooLarge}
 use Rattle.evaluator.specs.declared.Out.the-variants.{Value, Halt}
 use Rattle.evaluator.specs.Refs.{refIn}
 use Rattle.evaluator.specs.State.{Held, Is, Absent, Frame, OpenCall, refAt, argsAt, baseAt, callAt, traceIn}
@@ -39,6 +40,32 @@ module _ (S : List ℕ) (sp r : ℕ) where
   pub list-values : (r ≡ 0 → ⊥) → listAt S sp r ≡ Values (refAt S sp) (refAt S (sp + 1)) (refAt S (sp + 2)) (refAt S (sp + 3)) r (fuelOf S)
   unfolding listAt
   list-values z = rw (ne-eqb r 0 z)
+
+-- ---- the frame
+module _ (S : List ℕ) where
+  pub this-absent : 274 ≤ getD S 276 0 → heldThis S ≡ Absent
+  unfolding heldThis
+  this-absent h = rw (le-ltb (getD S 276 0) 274 h)
+
+  pub this-held : getD S 276 0 < 274 → heldThis S ≡ Is (refAt S (getD S 276 0))
+  unfolding heldThis
+  this-held h = rw (lt-ltb (getD S 276 0) 274 h)
+
+  pub args-absent : 274 ≤ getD S 276 0 → heldArgs S ≡ []
+  unfolding heldArgs
+  args-absent h = rw (le-ltb (getD S 276 0) 274 h)
+
+  pub args-held : getD S 276 0 < 274 → heldArgs S ≡ argsAt S (getD S 276 0 + 1)
+  unfolding heldArgs
+  args-held h = rw (lt-ltb (getD S 276 0) 274 h)
+
+  pub mark-absent : getD S 278 0 ≡ 0 → heldMark S ≡ Absent
+  unfolding heldMark
+  mark-absent h = rw (eq-eqb (getD S 278 0) 0 h)
+
+  pub mark-held : (getD S 278 0 ≡ 0 → ⊥) → heldMark S ≡ Is (Mark (getD S 278 0 - 1))
+  unfolding heldMark
+  mark-held h = rw (ne-eqb (getD S 278 0) 0 h)
 
 -- ---- arguments, frames and calls on two stacks
 pub args-alike : (S S′ : List ℕ) (p : ℕ) → ((q : ℕ) → p ≤ q → q < p + 3 → getD S′ q 0 ≡ getD S q 0) → argsAt S′ p ≡ argsAt S p
@@ -70,7 +97,7 @@ module _ (S S′ : List ℕ) (eb : getD S′ 276 0 ≡ getD S 276 0) (h : getD S
       go true e = args-alike S S′ (getD S 276 0 + 1) (λ q l m. h (ltb-true (getD S 276 0) 274 e) q (omega arith) (omega arith))
       go false e = refl
 
-  pub frame-alike : getD S′ 277 0 ≡ getD S 277 0 → getD S′ 278 0 ≡ getD S 278 0 → frameAt S′ ≡ frameAt S
+  frame-alike : getD S′ 277 0 ≡ getD S 277 0 → getD S′ 278 0 ≡ getD S 278 0 → frameAt S′ ≡ frameAt S
   unfolding heldMark
   frame-alike en ex = λ i. record { this = this-alike i; res = mark-alike i; args = args-held-alike i; n = en i }
     where
@@ -125,7 +152,7 @@ stacked-then sp sp′ S S1 S2 l a b =
     }
 
 -- a number put at place sp or above, below the frame
-pub stacked-set : (sp : ℕ) (S S1 : List ℕ) (q x : ℕ) → Stacked sp S S1 → sp ≤ q → q < 276 → (q ≡ 274 → ⊥) → Stacked sp S (set S1 q x)
+stacked-set : (sp : ℕ) (S S1 : List ℕ) (q x : ℕ) → Stacked sp S S1 → sp ≤ q → q < 276 → (q ≡ 274 → ⊥) → Stacked sp S (set S1 q x)
 stacked-set sp S S1 q x a l m nf =
     let f : fuelOf (set S1 q x) ≡ fuelOf S1 = getD-set-other S1 q 274 x 0 (λ z. nf (sym z)) in
     let y = a .spent in
@@ -136,14 +163,43 @@ stacked-set sp S S1 q x a l m nf =
       spent = omega arith;
     }
 
--- ---- a value put, a stop put
-module _ (S : List ℕ) (full : length S ≡ 336) where
-  pub put-out : (sp q r : ℕ) → sp < 274 → (r ≡ 0 → ⊥) → outAt (set S sp q) sp r ≡ Value (refIn q) r (fuelOf S)
-  put-out sp q r l nz =
-      out-value (set S sp q) sp r nz
-      ∙ (λ i. Value (refIn (getD-set-same S sp q 0 (omega (arith, full)) i)) r (getD-set-other S sp 274 q 0 (λ z. omega arith) i))
+-- ---- a value put
+module _ (sp : ℕ) (S1 : List ℕ) (x : ℕ) (room : sp < 274) where
+  pub put-stack : (S : List ℕ) → Stacked sp S S1 → Stacked sp S (set S1 sp x)
+  put-stack S a = stacked-set sp S S1 sp x a (omega arith) (omega arith) (λ z. omega arith)
 
-  pub stop-out : (sp s r : ℕ) → r ≡ 0 → outAt (set S 275 s) sp r ≡ Halt (stopAt s) (fuelOf S)
-  stop-out sp s r z =
-      out-stop (set S 275 s) sp r z
-      ∙ (λ i. Halt (stopAt (getD-set-same S 275 s 0 (omega (arith, full)) i)) (getD-set-other S 275 274 s 0 (λ z. omega arith) i))
+  pub put-out : length S1 ≡ 336 → (r : ℕ) → (r ≡ 0 → ⊥) → outAt (set S1 sp x) sp r ≡ Value (refIn x) r (fuelOf S1)
+  put-out full r nz =
+      out-value (set S1 sp x) sp r nz
+      ∙ (λ i. Value (refIn (getD-set-same S1 sp x 0 (omega (arith, full)) i)) r (getD-set-other S1 sp 274 x 0 (λ z. omega arith) i))
+
+-- ---- a stop put
+abbrev pub Stops-with : ℕ → List ℕ → List ℕ → ℕ → Type 0
+Stops-with s S S′ r = (r ≡ 0) × (S′ ≡ set S 275 s)
+
+pub stuck-is : stopAt 0 ≡ Stuck
+unfolding stopAt
+stuck-is = refl
+
+pub no-fuel-is : stopAt 1 ≡ NoFuel
+unfolding stopAt
+no-fuel-is = refl
+
+pub too-deep-is : stopAt 2 ≡ TooDeep
+unfolding stopAt
+too-deep-is = refl
+
+pub too-large-is : stopAt 3 ≡ TooLarge
+unfolding stopAt
+too-large-is = refl
+
+module _ (sp s : ℕ) (S S1 S′ : List ℕ) (r : ℕ) (e : Stops-with s S1 S′ r) where
+  pub stop-is : length S1 ≡ 336 → (x : Stop) → stopAt s ≡ x → outAt S′ sp r ≡ Halt x (fuelOf S1)
+  stop-is full x ex =
+      ap (λ (Z : List ℕ). outAt Z sp r) (e .1)
+      ∙ out-stop (set S1 275 s) sp r (e .0)
+      ∙ (λ i. Halt (stopAt (getD-set-same S1 275 s 0 (omega (arith, full)) i)) (getD-set-other S1 275 274 s 0 (λ z. omega arith) i))
+      ∙ ap (λ (y : Stop). Halt y (fuelOf S1)) ex
+
+  pub stop-stack : Stacked sp S S1 → sp ≤ 275 → Stacked sp S S′
+  stop-stack a l = subst (Stacked sp S) (sym (e .1)) (stacked-set sp S S1 275 s a l (omega arith) (λ z. omega arith))

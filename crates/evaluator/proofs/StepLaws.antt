@@ -31,7 +31,7 @@ use Rattle.evaluator.proofs.LeafLaws.{finish-halt}
 use Rattle.evaluator.proofs.EvalLaws.{eval-zero, eval-nothing, eval-this, eval-res, eval-param, eval-at-field, eval-at-call, eval-at-new}
 use Rattle.evaluator.proofs.ListLaws.{field-halt, field-none, field-some, list-zero, list-halt, list-more, new-other, new-many, new-is}
 use Rattle.evaluator.proofs.FitLaws as fits
-use Rattle.evaluator.proofs.StackLaws.{out-stop, out-value, list-stop, list-values, frame-same, top-same, call-same, trace-same, placed-after, stacked-none, stacked-then, stacked-set, put-out, stop-out}
+use Rattle.evaluator.proofs.StackLaws.{out-stop, out-value, list-stop, list-values, frame-same, top-same, call-same, trace-same, placed-after, stacked-none, stacked-then, put-stack, put-out, Stops-with, stop-is, stop-stack, stuck-is}
 
 -- ---- the same frame and the same trace, the same meaning
 module _ (T W : List ℕ) (f f1 : Frame) (ef : f1 ≡ f) (tr tr1 : List ℕ) (top top1 : ℕ) (et : traceIn W tr1 top1 ≡ traceIn W tr top) (at left d sp fuel : ℕ) (W′ : List ℕ) where
@@ -64,29 +64,6 @@ module _ (sp : ℕ) (S S1 : List ℕ) (pl : Placed S sp) (st : Stacked sp S S1) 
       let t = top-same sp S S1 pl st in
       let c = h .calls in
       record { frame = frame-on sp1 (h .frame); trace = trace-on sp1 (h .trace); calls = omega arith; few = h .few; room = h .room; long = h .long }
-
--- ---- a stop
-abbrev pub Stops-with : ℕ → List ℕ → List ℕ → ℕ → Type 0
-Stops-with s S S′ r = (r ≡ 0) × (S′ ≡ set S 275 s)
-
-pub stuck-is : stopAt 0 ≡ Stuck
-unfolding stopAt
-stuck-is = refl
-
-pub no-fuel-is : stopAt 1 ≡ NoFuel
-unfolding stopAt
-no-fuel-is = refl
-
-pub too-deep-is : stopAt 2 ≡ TooDeep
-unfolding stopAt
-too-deep-is = refl
-
-module _ (sp s : ℕ) (S S1 S′ : List ℕ) (r : ℕ) (e : Stops-with s S1 S′ r) where
-  pub stop-is : length S1 ≡ 336 → (x : Stop) → stopAt s ≡ x → outAt S′ sp r ≡ Halt x (fuelOf S1)
-  stop-is full x ex = ap (λ (Z : List ℕ). outAt Z sp r) (e .1) ∙ stop-out S1 full sp s r (e .0) ∙ ap (λ (y : Stop). Halt y (fuelOf S1)) ex
-
-  pub stop-stack : Stacked sp S S1 → sp ≤ 275 → Stacked sp S S′
-  stop-stack a l = subst (Stacked sp S) (sym (e .1)) (stacked-set sp S S1 275 s a l (omega arith) (λ z. omega arith))
 
 -- ---- what the functions ask
 module _ (W S : List ℕ) (left d sp : ℕ) (run : Runnable W S left d sp) where
@@ -229,8 +206,8 @@ module _ (T W S : List ℕ) (at left d sp : ℕ) (W1 S1 : List ℕ) (at1 : ℕ) 
     pub field-has : (q ≡ 4294967295 → ⊥) → FieldStep T W S at left d sp k W1 (set S1 sp q) at1
     unfolding answerOf
     field-has z = record {
-      stack = stacked-set sp S S1 sp q (ev .stack) (omega arith) (let l = sp-short in omega arith) (λ y. let l = sp-short in omega arith);
-      runs = subst (Fields T W (frameAt S) S (topOf S) at left d sp (fuelOf S) k W1) (sym (put-out S1 full-after sp q at1 sp-short nz))
+      stack = put-stack sp S1 q sp-short S (ev .stack);
+      runs = subst (Fields T W (frameAt S) S (topOf S) at left d sp (fuelOf S) k W1) (sym (put-out sp S1 q sp-short full-after at1 nz))
           (field-some T W (frameAt S) S (topOf S) at left d sp (fuelOf S) k W1 (outAt S1 sp at1) (ev .runs) (refAt S1 sp) at1 (fuelOf S1) (out-value S1 sp at1 nz) (answerOf q) (ch .is)
           (refIn q) (rw (ne-eqb q 4294967295 z)));
     }
