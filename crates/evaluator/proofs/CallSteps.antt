@@ -3,8 +3,8 @@
 use Prim.Native.Nat.{ℕ, zero, suc, _+_, _-_, _*_, _≤_, _<_}
 use native.Mathlib.Omega.{arith}
 use mathlib.Core.Path.{_≡_, refl, sym, ap, _∙_, subst}
-use mathlib.Core.List.{List}
-use lib.ListN.{length, getD, set, length-set}
+use mathlib.Core.List.{List, map}
+use lib.ListN.{length, getD, take, set, length-set}
 use lib.Seq.{getD-set-same, getD-set-other}
 use Rattle.cofj.specs.Values.{Graph}
 use Rattle.cofj.specs.Running.{openMark, invoke}
@@ -24,38 +24,29 @@ use Rattle.evaluator.specs.Stack.{fuelOf, topOf, frameAt, Placed, Stacke
 use Rattle.evaluator.specs.Evaluation.{deeper, Lists}
 use Rattle.evaluator.specs.Calling.{FindsTarget, ArgsFit, Calls, CallsWith, CallFits, Invokes, RunsRight, RunsLeft}
 use Rattle.evaluator.specs.Steps.{Runnable, ListRunnable, CallRunnable, BodyRunnable, EvalStep, ListStep, CallStep, InvokeStep, RightStep, LeftStep}
-use Rattle.evaluator.proofs.Keeping.{older-up}
+use Rattle.evaluator.proofs.Keeping.{older-up, parts-held}
+use Rattle.evaluator.proofs.StateLaws.{args-length}
 use Rattle.evaluator.proofs.CallLaws.{call-flat, call-halt, call-none, call-is, args-halt, args-is, args-none, invoke-fuel, invoke-deep, invoke-right, invoke-left}
 use Rattle.evaluator.proofs.FitLaws as fits
-use Rattle.evaluator.proofs.FitLaws.{PartsSame}
 use Rattle.evaluator.proofs.StackLaws.{out-stop, out-value, list-stop, list-values, args-alike, frame-same, top-same, trace-same, placed-after, stacked-none, stacked-then, Stops-with, stop-is, stop-stack, stuck-is, no-fuel-is, too-deep-is}
 use Rattle.evaluator.proofs.StepLaws.{lists-on, trace-on, list-fits-on, run-low, value-held}
 
 -- ---- the arguments that stand on the stack
-pub args-values : (W S : List ℕ) (p : ℕ) (x : ValueRef) (n : ℕ) → n ≤ 3 → valuesFrom W (argsAt S p) 0 n ≡ valuesFrom W (slotsOf (refAt S p) (refAt S (p + 1)) (refAt S (p + 2)) x) 0 n
-unfolding valuesFrom argsAt
-args-values W S p x zero h = refl
-args-values W S p x (suc zero) h = refl
-args-values W S p x (suc (suc zero)) h = refl
-args-values W S p x (suc (suc (suc zero))) h = refl
-args-values W S p x (suc (suc (suc (suc n)))) h = absurd (omega arith)
+module _ (S : List ℕ) (p : ℕ) (x : ValueRef) where
+  args-first : (n : ℕ) → n ≤ 3 → take n (argsAt S p) ≡ take n (slotsOf (refAt S p) (refAt S (p + 1)) (refAt S (p + 2)) x)
+  unfolding argsAt
+  args-first zero h = refl
+  args-first (suc zero) h = refl
+  args-first (suc (suc zero)) h = refl
+  args-first (suc (suc (suc zero))) h = refl
+  args-first (suc (suc (suc (suc n)))) h = absurd (omega arith)
 
-args-length : (S : List ℕ) (p : ℕ) → length (argsAt S p) ≡ 3
-unfolding argsAt
-args-length S p = refl
-
-args-parts : (S : List ℕ) (p : ℕ) (x : ValueRef) (n : ℕ) → n ≤ 3 → PartsSame (slotsOf (refAt S p) (refAt S (p + 1)) (refAt S (p + 2)) x) n (argsAt S p)
-unfolding argsAt
-args-parts S p x n h = record { full = h; part = λ i l. go i (omega arith) }
-  where
-    go : (i : ℕ) → i < 3 → slotAt (argsAt S p) i ≡ slotAt (slotsOf (refAt S p) (refAt S (p + 1)) (refAt S (p + 2)) x) i
-    go zero l = refl
-    go (suc zero) l = refl
-    go (suc (suc zero)) l = refl
-    go (suc (suc (suc i))) l = absurd (omega arith)
+  args-values : (W : List ℕ) (n : ℕ) → n ≤ 3 → valuesFrom W (argsAt S p) 0 n ≡ valuesFrom W (slotsOf (refAt S p) (refAt S (p + 1)) (refAt S (p + 2)) x) 0 n
+  unfolding valuesFrom
+  args-values W n h = ap (map (λ (s : Slot). valueOf W (s .r))) (args-first n h)
 
 -- ---- the same trace, receiver and arguments, the same meaning
-pub invokes-on : (T W tr tr1 : List ℕ) (top top1 : ℕ) (v v1 : ValueRef) (ps ps1 : List Slot) (n i next d sp fuel m : ℕ) (W′ : List ℕ) (o : Out)
+invokes-on : (T W tr tr1 : List ℕ) (top top1 : ℕ) (v v1 : ValueRef) (ps ps1 : List Slot) (n i next d sp fuel m : ℕ) (W′ : List ℕ) (o : Out)
     → traceIn W tr1 top1 ≡ traceIn W tr top → v1 ≡ v → ps1 ≡ ps
     → Invokes T W tr1 top1 v1 ps1 n i next d sp fuel m W′ o → Invokes T W tr top v ps n i next d sp fuel m W′ o
 invokes-on T W tr tr1 top top1 v v1 ps ps1 n i next d sp fuel m W′ o et ev ep x = record {
@@ -161,7 +152,7 @@ module _ (T W S : List ℕ) (at left d sp m n : ℕ) (run : Runnable W S (left +
           fit-there : CallFits W2 S (topOf S) v (argsAt S2 (sp + 1)) n d sp
           fit-there =
               fits.call-fit T W1 (frameAt S) S (topOf S) at1 left d sp (fuelOf S1) v n W2 (listAt S2 (sp + 1) at2) (refAt S2 (sp + 1)) (refAt S2 (sp + 1 + 1)) (refAt S2 (sp + 1 + 2)) (refAt S2 (sp + 1 + 3)) at2 (fuelOf S2)
-              (argsAt S2 (sp + 1)) args-fit args-given (list-values S2 (sp + 1) at2 nz2) (args-parts S2 (sp + 1) (refAt S2 (sp + 1 + 3)) n (args-fit .few))
+              (argsAt S2 (sp + 1)) args-fit args-given (list-values S2 (sp + 1) at2 nz2) (omega (arith, args-fit .few, args-length S2 (sp + 1))) (args-first S2 (sp + 1) (refAt S2 (sp + 1 + 3)) n (args-fit .few))
 
           pub call-run : CallRunnable W2 S2 at2 n d sp
           call-run =
@@ -187,7 +178,7 @@ module _ (T W S : List ℕ) (at left d sp m n : ℕ) (run : Runnable W S (left +
             runs = call-by W3 (outAt S3 sp r)
                 (args-is T W1 (frameAt S) S (topOf S) at1 left d sp (fuelOf S1) v m n i args-fit W2 (listAt S2 (sp + 1) at2) args-given
                 (refAt S2 (sp + 1)) (refAt S2 (sp + 1 + 1)) (refAt S2 (sp + 1 + 2)) (refAt S2 (sp + 1 + 3)) at2 (fuelOf S2) (argsAt S2 (sp + 1)) W3 (outAt S3 sp r) (list-values S2 (sp + 1) at2 nz2)
-                (args-values W2 S2 (sp + 1) (refAt S2 (sp + 1 + 3)) n (args-fit .few))
+                (args-values S2 (sp + 1) (refAt S2 (sp + 1 + 3)) W2 n (args-fit .few))
                 (invokes-on T W2 S S2 (topOf S) (topOf S2) v (refAt S2 sp) (argsAt S2 (sp + 1)) (argsAt S2 (sp + 1)) n i at2 d sp (fuelOf S2) m W3 (outAt S3 sp r)
                 (trace-same sp S S2 (run .placed) stack-both W2) (sym receiver-stays) refl (x .runs)));
           }
@@ -197,26 +188,11 @@ module _ (W S : List ℕ) (next n d sp : ℕ) (run : CallRunnable W S next n d s
   pub calls-full : length S ≡ 336
   calls-full = run .placed .full
 
-  pub calls-held : CallsHold W S (topOf S)
-  calls-held = fits.calls-held W S (topOf S) (refAt S sp) (argsAt S (sp + 1)) n d sp (run .fits) (λ i l. let z = run .placed .calls i l in let r = run .fits .room in omega arith)
-
-  pub receiver-held : Holds W (refAt S sp)
-  receiver-held = run .fits .receiver .held
-
-  pub args-held : PartsHeld W (argsAt S (sp + 1)) n
-  args-held = fits.args-held W S (topOf S) (refAt S sp) (argsAt S (sp + 1)) n d sp (run .fits)
-
   pub call-room : sp + 4 ≤ 336
   call-room = let r = run .fits .room in omega arith
 
   pub call-few : n ≤ 3
   call-few = run .fits .few
-
-  pub body-run : (d ≡ 0 → ⊥) → BodyRunnable W S next n (d - 1) sp
-  body-run nd = record { placed = run .placed; fits = fits.body-fit W S (topOf S) (refAt S sp) (argsAt S (sp + 1)) n d sp (run .fits) nd; after = run .after }
-
-  pub mark-small : (m x : ℕ) → x ≡ metOf (openMark (traceIn W S (topOf S)) (valueOf W (refAt S sp)) m (valuesFrom W (argsAt S (sp + 1)) 0 n)) → (x ≡ 0 → ⊥) → x < 64
-  mark-small m x e nz = fits.mark-small W S (topOf S) (refAt S sp) (argsAt S (sp + 1)) n d sp m x (run .fits) e nz
 
 -- a unit spent
 module _ (W S : List ℕ) (next n d sp : ℕ) (run : CallRunnable W S next n d sp) where
@@ -245,7 +221,7 @@ module _ (W S : List ℕ) (next n d sp : ℕ) (run : CallRunnable W S next n d s
   spent-args : argsAt S1 (sp + 1) ≡ argsAt S (sp + 1)
   spent-args = let r = run .fits .room in args-alike S S1 (sp + 1) (λ q a b. spent-below q (omega arith))
 
-  pub spent-run : CallRunnable W S1 next n d sp
+  spent-run : CallRunnable W S1 next n d sp
   spent-run =
       let t = top-same sp S S1 (run .placed) spent-stack in
       let c = run .fits .calls in
@@ -263,23 +239,20 @@ module _ (W S : List ℕ) (next n d sp : ℕ) (run : CallRunnable W S next n d s
         after = run .after;
       }
 
-  pub spent-full : length S1 ≡ 336
-  spent-full = calls-full W S1 next n d sp spent-run
-
   pub spent-calls : CallsHold W S1 (topOf S1)
-  spent-calls = calls-held W S1 next n d sp spent-run
+  spent-calls = fits.calls-held W S1 (topOf S1) (refAt S1 sp) (argsAt S1 (sp + 1)) n d sp (spent-run .fits) (λ i l. let z = spent-run .placed .calls i l in let r = run .fits .room in omega arith)
 
   pub spent-held : Holds W (refAt S1 sp)
-  spent-held = receiver-held W S1 next n d sp spent-run
+  spent-held = spent-run .fits .receiver .held
 
   pub spent-parts : PartsHeld W (argsAt S1 (sp + 1)) n
-  spent-parts = args-held W S1 next n d sp spent-run
+  spent-parts = parts-held W (sp + 4) (argsAt S1 (sp + 1)) n (spent-run .fits .args)
 
   pub spent-body : (d ≡ 0 → ⊥) → BodyRunnable W S1 next n (d - 1) sp
-  spent-body nd = body-run W S1 next n d sp spent-run nd
+  spent-body nd = record { placed = spent-run .placed; fits = fits.body-fit W S1 (topOf S1) (refAt S1 sp) (argsAt S1 (sp + 1)) n d sp (spent-run .fits) nd; after = run .after }
 
   pub spent-mark : (m x : ℕ) → x ≡ metOf (openMark (traceIn W S1 (topOf S1)) (valueOf W (refAt S1 sp)) m (valuesFrom W (argsAt S1 (sp + 1)) 0 n)) → (x ≡ 0 → ⊥) → x < 64
-  spent-mark m x e nz = mark-small W S1 next n d sp spent-run m x e nz
+  spent-mark m x e nz = fits.mark-small W S1 (topOf S1) (refAt S1 sp) (argsAt S1 (sp + 1)) n d sp m x (spent-run .fits) e nz
 
   module _ (T : List ℕ) (m i : ℕ) where
     pub invoke-stops : fuelOf S ≡ 0 → (S′ : List ℕ) (r : ℕ) → Stops-with 1 S S′ r → InvokeStep T W S next d sp m n i W S′ r

@@ -1,12 +1,13 @@
 -- What the functions of the cycle ask of one another: frames and traces that hold, blocks that are there.
 use Prim.Native.Nat.{ℕ, zero, suc, _+_, _-_, _*_, _≤_, _<_}
 use native.Mathlib.Omega.{arith}
-use mathlib.Core.Path.{_≡_, sym, _∙_, subst}
+use mathlib.Core.Path.{_≡_, sym, ap, _∙_, subst}
 use mathlib.Core.List.{List}
 use mathlib.Core.Option.{some, Option·none-ne-some}
 use mathlib.Core.Bool.{Bool, true, false}
 use Rattle.classes.specs.Machine.{pick}
-use lib.ListN.{length}
+use lib.ListN.{length, getD, take}
+use lib.Seq.{getD-take}
 use native.Mathlib.Decide.{decLt}
 use Rattle.cofj.specs.Values.{Graph}
 use Rattle.cofj.specs.Running as language
@@ -14,7 +15,7 @@ use Rattle.cofj.specs.Running.{openMark}
 use Rattle.classes.specs.declared.methods.Found.{Found}
 use Rattle.classes.specs.declared.methods.Found.the-variants as found
 use Rattle.values.specs.declared.ValueRef.{ValueRef}
-use Rattle.values.specs.declared.ValueRef.the-variants.{Mark, Undetermined}
+use Rattle.values.specs.declared.ValueRef.the-variants.{Object, Mark}
 use Rattle.values.specs.declared.Slot.{Slot}
 use Rattle.values.specs.Layout.{valueOf, Holds, Low}
 use Rattle.values.specs.Laying.{valuesFrom, PartsHeld}
@@ -24,7 +25,7 @@ use Rattle.evaluator.specs.State.{baseAt, Older, Is, Absent, Frame, slot
 use Rattle.evaluator.specs.Answers.{Listed, Values, slotsOf}
 use Rattle.evaluator.specs.Calling.{FewIf, ArgsFit, CallFits, BodyFits, FindsTarget}
 use Rattle.evaluator.specs.Evaluation.{Fits, ListFits, Evaluates, Lists}
-use Rattle.evaluator.proofs.Keeping.{kept-none, kept-then, older-kept, low-up, older-up, parts-up, frame-kept, frame-up, trace-kept, trace-up}
+use Rattle.evaluator.proofs.Keeping.{kept-none, kept-then, older-kept, older-up, parts-up, frame-kept, frame-up, trace-kept, trace-up, parts-held}
 use Rattle.evaluator.proofs.BodyLaws.{Pushed}
 use Rattle.evaluator.proofs.StateLaws.{by-tests}
 use Rattle.evaluator.proofs.Given.{given-older, all-older}
@@ -37,9 +38,6 @@ module _ (W : List ℕ) (f : Frame) (tr : List ℕ) (top left d sp : ℕ) where
 
   pub fit-inner : Fits W f tr top (left + 1) d sp → Fits W f tr top left d sp
   fit-inner h = let r = h .room in record { frame = h .frame; trace = h .trace; calls = h .calls; room = omega arith; long = h .long }
-
-  pub fit-few : Fits W f tr top left d sp → f .n ≤ 4
-  fit-few h = h .frame .few
 
   pub fit-list : (n : ℕ) → Fits W f tr top (left + 1) d sp → n ≤ 4 → ListFits W f tr top left d sp n
   fit-list n h l = let r = h .room in record { frame = h .frame; trace = h .trace; calls = h .calls; few = l; room = omega arith; long = h .long }
@@ -62,9 +60,6 @@ module _ (W : List ℕ) (f : Frame) (tr : List ℕ) (top left d sp : ℕ) where
 
 -- ---- after an evaluation
 module _ (T W : List ℕ) (f : Frame) (tr : List ℕ) (top at left d sp fuel : ℕ) (W1 : List ℕ) (o : Out) (ev : Evaluates T W f tr top at left d sp fuel W1 o) where
-  pub after-held : (v : ValueRef) (at1 fuel1 : ℕ) → o ≡ Value v at1 fuel1 → Holds W1 v
-  after-held v at1 fuel1 eo = given-older T W f tr top at left d sp fuel W1 o ev v at1 fuel1 eo .held
-
   pub list-later : (n : ℕ) → ListFits W f tr top left d sp n → (n ≡ 0 → ⊥) → ListFits W1 f tr top left d (sp + 1) (n - 1)
   list-later n h nz =
       let r = h .room in
@@ -96,28 +91,30 @@ module _ (T W : List ℕ) (f : Frame) (tr : List ℕ) (top at left d sp fuel : �
       }
 
 -- ---- after a list
--- the first n are the same
-pub record PartsSame (ps : List Slot) (n : ℕ) (qs : List Slot) : Type 0 where
-  pub full : n ≤ length qs
-  pub part : (i : ℕ) → i < n → slotAt qs i ≡ slotAt ps i
+-- lists with the same first n
+parts-same : (W : List ℕ) (sp : ℕ) (ps qs : List Slot) (n : ℕ) → n ≤ length qs → take n qs ≡ take n ps → PartsOlder W sp ps n → PartsOlder W sp qs n
+parts-same W sp ps qs n full e o = record { full = full; part = λ i l. subst (Older W sp) (sym (same i l)) (o .part i l) }
+  where
+    none : Slot
+    none = record { r = Object 0 0 }
 
-parts-same : (W : List ℕ) (sp : ℕ) (ps : List Slot) (n : ℕ) (qs : List Slot) → PartsSame ps n qs → PartsOlder W sp ps n → PartsOlder W sp qs n
-parts-same W sp ps n qs e o = record { full = e .full; part = λ i l. subst (Older W sp) (sym (e .part i l)) (o .part i l) }
+    same : (i : ℕ) → i < n → slotAt qs i ≡ slotAt ps i
+    same i l = ap (λ (s : Slot). s .r) (sym (getD-take n qs i none l) ∙ ap (λ (xs : List Slot). getD xs i none) e ∙ getD-take n ps i none l)
 
 pub after-list : (T W : List ℕ) (f : Frame) (tr : List ℕ) (top at left d sp fuel n : ℕ) (W1 : List ℕ) (l : Listed) → Lists T W f tr top at left d sp fuel n W1 l
     → Fits W f tr top (left + 1) d sp → 240 * sp + 240 ≤ length W1
 after-list T W f tr top at left d sp fuel n W1 l li h = let r = h .room in omega (arith, h .long, li .kept .same)
 
 pub call-fit : (T W : List ℕ) (f : Frame) (tr : List ℕ) (top at left d sp fuel : ℕ) (v : ValueRef) (n : ℕ) (W1 : List ℕ) (l : Listed) (a b c e : ValueRef) (at1 fuel1 : ℕ) (ps : List Slot)
-    → ArgsFit W f tr top left d sp v n → Lists T W f tr top at left d (sp + 1) fuel n W1 l → l ≡ Values a b c e at1 fuel1 → PartsSame (slotsOf a b c e) n ps → CallFits W1 tr top v ps n d sp
-call-fit T W f tr top at left d sp fuel v n W1 l a b c e at1 fuel1 ps h li el ep =
+    → ArgsFit W f tr top left d sp v n → Lists T W f tr top at left d (sp + 1) fuel n W1 l → l ≡ Values a b c e at1 fuel1 → n ≤ length ps → take n ps ≡ take n (slotsOf a b c e) → CallFits W1 tr top v ps n d sp
+call-fit T W f tr top at left d sp fuel v n W1 l a b c e at1 fuel1 ps h li el full ep =
     let k = kept-then sp (sp + 1) W W W1 (omega arith) (kept-none sp W) (li .kept) in
     let r = h .fits .room in
     let few = h .few in
     record {
       trace = trace-kept W W1 sp k tr top (h .fits .trace);
       receiver = older-up W1 (sp + 1) (sp + 4) (omega arith) v (older-kept W W1 (sp + 1) (li .kept) v (h .receiver));
-      args = parts-same W1 (sp + 4) (slotsOf a b c e) n ps ep
+      args = parts-same W1 (sp + 4) (slotsOf a b c e) ps n full ep
           (parts-up W1 (sp + 1 + n) (sp + 4) (omega arith) (slotsOf a b c e) n (all-older T W f tr top at left d (sp + 1) fuel n W1 l li a b c e at1 fuel1 el));
       few = h .few;
       calls = h .fits .calls;
@@ -133,19 +130,10 @@ module _ (W tr : List ℕ) (top : ℕ) (v : ValueRef) (ps : List Slot) (n d sp :
     place = place;
     call = λ i l. let q = h .trace .call i l in record {
       receiver = q .receiver .held;
-      args = record { full = q .args .full; part = λ j z. q .args .part j z .held };
+      args = parts-held W sp (callAt tr i .args) (callAt tr i .n) (q .args);
       few = q .few;
     };
   }
-
-  pub receiver-held : Holds W v
-  receiver-held = h .receiver .held
-
-  pub args-held : PartsHeld W ps n
-  args-held = record { full = h .args .full; part = λ j z. h .args .part j z .held }
-
-  pub args-few : n ≤ 4
-  args-few = let l = h .few in omega arith
 
   pub body-fit : (d ≡ 0 → ⊥) → BodyFits W tr top v ps n (d - 1) sp
   body-fit nz =
@@ -157,9 +145,6 @@ module _ (W tr : List ℕ) (top : ℕ) (v : ValueRef) (ps : List Slot) (n d sp :
 module _ (W tr : List ℕ) (top : ℕ) (v : ValueRef) (ps : List Slot) (n d sp : ℕ) (h : BodyFits W tr top v ps n d sp) where
   pub push-room : top < 16
   push-room = let c = h .calls in omega arith
-
-  pub mark-room : top < 63
-  mark-room = let c = h .calls in omega arith
 
   pub right-fit : (x : ℕ) → x < 63 → Fits W (record { this = Is v; res = Is (Mark x); args = ps; n = n }) tr top 6 d (sp + 4)
   right-fit x l =
@@ -193,9 +178,6 @@ module _ (W tr : List ℕ) (top : ℕ) (v : ValueRef) (ps : List Slot) (n d sp :
           let few = h .few in
           let e : top ≡ i = omega (arith, q) in
           subst (λ (j : ℕ). CallOlder W (sp + 4) (callAt tr1 j)) e (subst (CallOlder W (sp + 4)) (sym (p .newest)) (record { receiver = h .receiver; args = h .args; few = omega arith }))
-
-  pub side-length : (T : List ℕ) (f : Frame) (tr1 : List ℕ) (top1 at left fuel : ℕ) (W1 : List ℕ) (o : Out) → Evaluates T W f tr1 top1 at left d (sp + 4) fuel W1 o → 240 * sp + 240 ≤ length W1
-  side-length T f tr1 top1 at left fuel W1 o ev = let r = h .room in omega (arith, h .long, ev .kept .same)
 
 -- ---- the mark of a call met again
 marks-below : (W tr : List ℕ) (v : Graph) (m : ℕ) (vs : List Graph) (x k : ℕ) → openMark (traceIn W tr k) v m vs ≡ some x → x < k

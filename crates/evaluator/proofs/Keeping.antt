@@ -11,7 +11,7 @@ use Rattle.values.specs.declared.ValueRef.{ValueRef}
 use Rattle.values.specs.declared.ValueRef.the-variants.{Object, Mark, Undetermined}
 use Rattle.values.specs.declared.Slot.{Slot}
 use Rattle.values.specs.Layout.{valueOf, Outside, Beneath, Low}
-use Rattle.values.specs.Laying.{valuesFrom}
+use Rattle.values.specs.Laying.{valuesFrom, PartsHeld}
 use Rattle.values.proofs.Kept as values
 use Rattle.values.proofs.Kept.{object-kept}
 use Rattle.evaluator.specs.State.{Held, Is, Absent, Frame, OpenCall, Kept, Older, slotAt, PartsOlder, HeldOlder, heldIn, FrameHolds, frameIn, callAt, CallOlder, TraceHolds, callIn, traceIn}
@@ -25,9 +25,6 @@ kept-then sp sp′ W W1 W2 l a b = record { same = b .same ∙ a .same; below = 
 
 pub kept-outside : (sp : ℕ) (W W′ : List ℕ) → Outside sp W W′ → Kept sp W W′
 kept-outside sp W W′ o = record { same = o .same; below = o .below }
-
-pub kept-beneath : (sp : ℕ) (W W′ : List ℕ) → Beneath sp W W′ → Kept sp W W′
-kept-beneath sp W W′ o = record { same = o .same; below = o .below }
 
 -- ---- values of a list of references
 values-map : (W W′ : List ℕ) (ps : List Slot) (n : ℕ) → ((i : ℕ) → i < n → valueOf W′ (slotAt ps i) ≡ valueOf W (slotAt ps i)) → n ≤ length ps
@@ -94,7 +91,7 @@ module _ (W W′ : List ℕ) (sp : ℕ) (k : Kept sp W W′) where
 
 -- ---- what lies below a block lies below the blocks above it
 module _ (W : List ℕ) (sp sp′ : ℕ) (l : sp ≤ sp′) where
-  pub low-up : (r : ValueRef) → Low sp r → Low sp′ r
+  low-up : (r : ValueRef) → Low sp r → Low sp′ r
   low-up (Object b i) h = omega arith
   low-up (Mark x) h = tt
   low-up Undetermined h = tt
@@ -116,3 +113,7 @@ module _ (W : List ℕ) (sp sp′ : ℕ) (l : sp ≤ sp′) where
   trace-up tr top h = record {
     call = λ i q. let c = h .call i q in record { receiver = older-up (callAt tr i .receiver) (c .receiver); args = parts-up (callAt tr i .args) (callAt tr i .n) (c .args); few = c .few };
   }
+
+-- ---- what lies below a block is held
+pub parts-held : (W : List ℕ) (sp : ℕ) (ps : List Slot) (n : ℕ) → PartsOlder W sp ps n → PartsHeld W ps n
+parts-held W sp ps n o = record { full = o .full; part = λ i h. o .part i h .held }

@@ -26,7 +26,7 @@ use Rattle.evaluator.specs.State.{PartsOlder, refAt}
 use Rattle.evaluator.specs.Answers.{Listed, Values, Stops, slotsOf, listIn, haltOf, ListOlder, ListNext, Finishes}
 use Rattle.evaluator.specs.Stack.{fuelOf, stopAt, outAt, listAt}
 use Rattle.evaluator.specs.Steps.{PartsReady, FinishStep}
-use Rattle.evaluator.proofs.Keeping.{kept-none, kept-beneath}
+use Rattle.evaluator.proofs.Keeping.{kept-none, parts-held}
 use Rattle.evaluator.proofs.RefLaws.{small-held}
 use Rattle.evaluator.proofs.StackLaws as stacks
 use Rattle.evaluator.proofs.StackLaws.{list-values, stacked-none, put-stack, put-out, stop-is, stop-stack, too-large-is}
@@ -56,9 +56,6 @@ sized-some g v fuel h = go (leb (length (g .nodes)) 32) refl h
         rw (le-ltb 32 (length (g .nodes)) (leb-true (length (g .nodes)) 32 q), sized) (ap (λ (x : Graph). value x fuel) w)
     go false q z = absurd (Option·none-ne-some v z)
 
-parts-held : (W : List ℕ) (sp : ℕ) (ps : List Slot) (n : ℕ) → PartsOlder W sp ps n → PartsHeld W ps n
-parts-held W sp ps n o = record { full = o .full; part = λ i h. o .part i h .held }
-
 module _ (W : List ℕ) (k : ℕ) (l : Listed) (n sp : ℕ) where
   pub finish-halt : (s : Stop) (fuel : ℕ) (o : Out) → l ≡ Stops s fuel → o ≡ haltOf l → Finishes W k l n sp W o
   finish-halt s fuel o e q =
@@ -69,13 +66,13 @@ module _ (W : List ℕ) (k : ℕ) (l : Listed) (n sp : ℕ) where
     older-parts : ListOlder W (sp + n) n l → PartsOlder W (sp + n) (slotsOf a b c d) n
     older-parts h = subst (ListOlder W (sp + n) n) e h
 
-    pub finish-held : (ps : List Slot) → ps ≡ slotsOf a b c d → ListOlder W (sp + n) n l → PartsHeld W ps n
+    finish-held : (ps : List Slot) → ps ≡ slotsOf a b c d → ListOlder W (sp + n) n l → PartsHeld W ps n
     finish-held ps ep h = parts-held W (sp + n) ps n (subst (λ (x : List Slot). PartsOlder W (sp + n) x n) (sym ep) (older-parts h))
 
     module _ (ps : List Slot) (ep : ps ≡ slotsOf a b c d) (W′ : List ℕ) (o : Made) (m : MadeIs W (make k (valuesFrom W ps 0 n)) sp W′ o) where
-      pub finish-large : o ≡ made.TooLarge → Finishes W k l n sp W′ (Halt TooLarge fuel)
+      finish-large : o ≡ made.TooLarge → Finishes W k l n sp W′ (Halt TooLarge fuel)
       finish-large eo = record {
-        kept = kept-beneath sp W W′ (m .beneath);
+        kept = m .beneath;
         older = tt;
         is = sym (then-is ∙ sized-none (make k (valuesFrom W ps 0 n)) fuel (sym (m .is) ∙ ap (madeIn W′) eo));
         next = λ p h. tt;
@@ -84,12 +81,12 @@ module _ (W : List ℕ) (k : ℕ) (l : Listed) (n sp : ℕ) where
           then-is : (listIn W n l then λ vs x. sized 32 (make k vs) x) ≡ sized 32 (make k (valuesFrom W ps 0 n)) fuel
           then-is = rw (e, ep)
 
-      pub finish-value : (v : ValueRef) → o ≡ made.Value v → Finishes W k l n sp W′ (Value v at fuel)
+      finish-value : (v : ValueRef) → o ≡ made.Value v → Finishes W k l n sp W′ (Value v at fuel)
       finish-value v eo =
           let g = make k (valuesFrom W ps 0 n) in
           let then-is : (listIn W n l then λ vs x. sized 32 (make k vs) x) ≡ sized 32 (make k (valuesFrom W ps 0 n)) fuel = rw (e, ep) in
           record {
-            kept = kept-beneath sp W W′ (m .beneath);
+            kept = m .beneath;
             older = record { held = subst (MadeHeld W′) eo (m .held); low = subst (MadePlace sp) eo (m .place) };
             is = sym (then-is ∙ sized-some (make k (valuesFrom W ps 0 n)) (valueOf W′ v) fuel (sym (m .is) ∙ ap (madeIn W′) eo));
             next = λ p h. subst (λ (x : Listed). ListNext x p) e h;

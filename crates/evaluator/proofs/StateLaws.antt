@@ -116,13 +116,13 @@ module _ (W : List ℕ) (x y : ℕ) where
     apart : (b c : ℕ) → b ≡ c → (i j : ℕ) → (i ≡ j → ⊥) → Holds W (Object b i) → Holds W (Object c j) → false ≡ eqGraph (valueOf W (Object b i)) (valueOf W (Object c j))
     apart b c z i j d h k = sym (ne-eqb i j d) ∙ one-block W b i c j (h .held) (k .held) z
 
-    pub numbers-differ : false ≡ eqGraph (valueOf W (refIn x)) (valueOf W (refIn y))
+    numbers-differ : false ≡ eqGraph (valueOf W (refIn x)) (valueOf W (refIn y))
     numbers-differ =
         let q : x % 256 ≡ y % 256 → ⊥ = λ z. no (omega arith) in
         rw (← object-in x lx, ← object-in y ly)
         (apart (x / 256 % 65536) (y / 256 % 65536) (ap (λ (z : ℕ). z % 65536) e) (x % 256) (y % 256) q (subst (Holds W) (sym (object-in x lx)) hx) (subst (Holds W) (sym (object-in y ly)) hy))
 
-  pub numbers-apart : Holds W (refIn x) → Holds W (refIn y) → apartOf x y ≡ true → false ≡ eqGraph (valueOf W (refIn x)) (valueOf W (refIn y))
+  numbers-apart : Holds W (refIn x) → Holds W (refIn y) → apartOf x y ≡ true → false ≡ eqGraph (valueOf W (refIn x)) (valueOf W (refIn y))
   unfolding apartOf
   numbers-apart hx hy z = go (eqb x y) (eqb (x / 256) (y / 256)) (ltb (x % 256) 192) (ltb (y % 256) 192) refl refl refl refl z
     where
@@ -134,11 +134,11 @@ module _ (W : List ℕ) (x y : ℕ) where
       go false true true false ea eb ec ed q = absurd (false≢true q)
       go false true true true ea eb ec ed q = numbers-differ hx hy (eqb-false x y ea) (eqb-true (x / 256) (y / 256) eb) (ltb-true (x % 256) 192 ec) (ltb-true (y % 256) 192 ed)
 
-  pub number-held : (u : ValueRef) → u ≡ refIn x → Holds W (refIn x) → Holds W u
-  number-held u e h = subst (Holds W) (sym e) h
-
   pub numbers-compared : (u v : ValueRef) (r : Bool) → u ≡ refIn x → v ≡ refIn y → r ≡ eqGraph (valueOf W u) (valueOf W v) → r ≡ eqGraph (valueOf W (refIn x)) (valueOf W (refIn y))
   numbers-compared u v r eu ev er = rw (← eu, ← ev) er
+
+pub number-held : (W : List ℕ) (x : ℕ) (u : ValueRef) → u ≡ refIn x → Holds W (refIn x) → Holds W u
+number-held W x u e h = subst (Holds W) (sym e) h
 
 -- ---- arguments on the stack
 pub args-at : (S : List ℕ) (p i : ℕ) → i < 3 → slotAt (argsAt S p) i ≡ refAt S (p + i)
@@ -212,11 +212,11 @@ pick-false true = refl
 pick-false false = refl
 
 -- the places of a call's numbers, as the code has them
-pub count-place : (S : List ℕ) (i : ℕ) → getD S (281 + 3 * i + 1) 0 ≡ callAt S i .n
+count-place : (S : List ℕ) (i : ℕ) → getD S (281 + 3 * i + 1) 0 ≡ callAt S i .n
 unfolding callAt
 count-place S i = ap (λ (p : ℕ). getD S p 0) (let z : 281 + 3 * i + 1 ≡ 282 + 3 * i = omega arith in z)
 
-pub base-place : (S : List ℕ) (i : ℕ) → getD S (281 + 3 * i + 2) 0 ≡ baseAt S i
+base-place : (S : List ℕ) (i : ℕ) → getD S (281 + 3 * i + 2) 0 ≡ baseAt S i
 base-place S i = ap (λ (p : ℕ). getD S p 0) (let z : 281 + 3 * i + 2 ≡ 283 + 3 * i = omega arith in z)
 
 pub base-room : (S : List ℕ) (i : ℕ) → baseAt S i + 4 ≤ 336 → getD S (281 + 3 * i + 2) 0 + 4 ≤ 336
@@ -356,7 +356,3 @@ module _ (W S : List ℕ) (k : ℕ) (v : ValueRef) (m : ℕ) (ps : List Slot) (n
 
       pub left-more : r ≡ false → Left W S k v m ps n (j - 1)
       left-more z = left-less p r named z
-
-pub either : {A B C : Type 0} → (A → C) → (B → C) → A ⊎ B → C
-either f g (inl a) = f a
-either f g (inr b) = g b

@@ -51,7 +51,7 @@ module _ (T W : List ℕ) (f f1 : Frame) (ef : f1 ≡ f) (tr tr1 : List ℕ) (to
 
 -- ---- what held of the frame and the calls before a step holds after it
 module _ (sp : ℕ) (S S1 : List ℕ) (pl : Placed S sp) (st : Stacked sp S S1) (W : List ℕ) where
-  pub frame-on : (sp1 : ℕ) → FrameHolds W sp1 (frameAt S) → FrameHolds W sp1 (frameAt S1)
+  frame-on : (sp1 : ℕ) → FrameHolds W sp1 (frameAt S) → FrameHolds W sp1 (frameAt S1)
   frame-on sp1 h = subst (FrameHolds W sp1) (sym (frame-same sp S S1 pl st)) h
 
   pub trace-on : (sp1 : ℕ) → TraceHolds W sp1 S (topOf S) → TraceHolds W sp1 S1 (topOf S1)

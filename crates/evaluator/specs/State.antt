@@ -13,7 +13,7 @@ use Rattle.classes.specs.Machine.{pick}
 use Rattle.values.specs.declared.ValueRef.{ValueRef}
 use Rattle.values.specs.declared.ValueRef.the-variants.{Object, Mark, Undetermined}
 use Rattle.values.specs.declared.Slot.{Slot}
-use Rattle.values.specs.Layout.{valueOf, Holds, Low}
+use Rattle.values.specs.Layout.{valueOf, Holds, Low, Beneath}
 use Rattle.values.specs.Laying.{valuesFrom, PartsHeld}
 use Rattle.evaluator.specs.Refs.{refIn}
 
@@ -38,9 +38,8 @@ pub record OpenCall : Type 0 where
 
 -- ---- blocks below sp
 -- the bytes below block sp are as before
-pub record Kept (sp : ℕ) (W W′ : List ℕ) : Type 0 where
-  pub same : length W′ ≡ length W
-  pub below : (p : ℕ) → p < 240 * sp → getD W′ p 0 ≡ getD W p 0
+abbrev pub Kept : ℕ → List ℕ → List ℕ → Type 0
+Kept sp W W′ = Beneath sp W W′
 
 -- a reference stands for a value, which lies below block sp if it is an object
 pub record Older (W : List ℕ) (sp : ℕ) (r : ValueRef) : Type 0 where

@@ -5,6 +5,7 @@ use Rattle.evaluator.proofs.met.open_call.Lts as lts
 use Rattle.evaluator.proofs.met.same_call.Reads as same-call-reads
 use borrow.Author.Needs.{needs}
 use Prim.Native.Nat.{_+_, _≤_}
+use mathlib.Core.Logic.{⊎-elim}
 use Rattle.evaluator.specs.State.{refAt, argsAt}
 use Rattle.evaluator.specs.Stack.{topOf}
 use Rattle.evaluator.proofs.StateLaws as laws
@@ -26,7 +27,7 @@ returns : tie.Need-returns Inv-loop μ-loop
 returns c = laws.left-found _ _ _ _ _ _ _ _ (c .before .before .before .before .before .loop .inv .1) (c .before .before .before .before .loop-test .taken) (c .before .before .if1 .taken) _ (c .before .same-call .ensures) (c .if2 .taken)
 
 loop-again : tie.Need-loop-again Inv-loop μ-loop
-loop-again c = (search needs, laws.either (λ x. search laws.left-more) (λ y. search laws.left-name) (c .if1 .came))
+loop-again c = (search needs, ⊎-elim (λ x. search laws.left-more) (λ y. search laws.left-name) (c .if1 .came))
 
 returns-2 : tie.Need-returns-2 Inv-loop μ-loop
 returns-2 c = search laws.left-none
