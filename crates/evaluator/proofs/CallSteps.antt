@@ -1,12 +1,11 @@
 -- Calls on the stack, up to the choice of a side: what the functions ask of one another, and one law for each of their returns.
 -- Not here: the two sides (SideSteps).
-use Prim.Native.Nat.{ℕ, zero, suc, _+_, _-_, _*_, _≤_, _<_}
+use Prim.Native.Nat.{ℕ, zero, suc, _+_, _-_, _≤_, _<_}
 use native.Mathlib.Omega.{arith}
 use mathlib.Core.Path.{_≡_, refl, sym, ap, _∙_, subst}
 use mathlib.Core.List.{List, map}
 use lib.ListN.{length, getD, take, set, length-set}
 use lib.Seq.{getD-set-same, getD-set-other}
-use Rattle.cofj.specs.Values.{Graph}
 use Rattle.cofj.specs.Running.{openMark, invoke}
 use Rattle.classes.specs.declared.methods.Found.{Found}
 use Rattle.classes.specs.declared.methods.Found.the-variants as found
@@ -18,9 +17,9 @@ use Rattle.evaluator.specs.declared.Stop.the-variants.{Stuck, NoFuel, To
 use Rattle.evaluator.specs.declared.Out.{Out}
 use Rattle.evaluator.specs.declared.Out.the-variants.{Value, Halt}
 use Rattle.evaluator.specs.Refs.{refIn}
-use Rattle.evaluator.specs.State.{slotAt, Older, PartsOlder, refAt, argsAt, baseAt, TraceHolds, CallsHold, traceIn, metOf}
+use Rattle.evaluator.specs.State.{Older, PartsOlder, refAt, argsAt, CallsHold, traceIn, metOf}
 use Rattle.evaluator.specs.Answers.{slotsOf, haltOf}
-use Rattle.evaluator.specs.Stack.{fuelOf, topOf, frameAt, Placed, Stacked, stopAt, outAt, listAt}
+use Rattle.evaluator.specs.Stack.{fuelOf, topOf, frameAt, Stacked, stopAt, outAt, listAt}
 use Rattle.evaluator.specs.Evaluation.{deeper, Lists}
 use Rattle.evaluator.specs.Calling.{FindsTarget, ArgsFit, Calls, CallsWith, CallFits, Invokes, RunsRight, RunsLeft}
 use Rattle.evaluator.specs.Steps.{Runnable, ListRunnable, CallRunnable, BodyRunnable, EvalStep, ListStep, CallStep, InvokeStep, RightStep, LeftStep}

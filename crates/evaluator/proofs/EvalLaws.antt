@@ -11,7 +11,6 @@ use borrow.Author.Tests.{eqb-false}
 use Rattle.cofj.specs.Syntax.{Expr, this, res, param, field, call, new, count, Table}
 use Rattle.cofj.specs.Writing.{codeOf, codesOf}
 use Rattle.cofj.specs.Values.{Graph}
-use Rattle.cofj.specs.Running as language
 use Rattle.cofj.specs.Running.{Outcome, orStuck, eval}
 use Rattle.checker.specs.declared.shape.Shape.{Shape}
 use Rattle.checker.specs.declared.shape.Shape.the-variants as shape

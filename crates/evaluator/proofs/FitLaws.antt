@@ -10,15 +10,14 @@ use lib.ListN.{length, getD, take}
 use lib.Seq.{getD-take}
 use native.Mathlib.Decide.{decLt}
 use Rattle.cofj.specs.Values.{Graph}
-use Rattle.cofj.specs.Running as language
 use Rattle.cofj.specs.Running.{openMark}
 use Rattle.classes.specs.declared.methods.Found.{Found}
 use Rattle.classes.specs.declared.methods.Found.the-variants as found
 use Rattle.values.specs.declared.ValueRef.{ValueRef}
 use Rattle.values.specs.declared.ValueRef.the-variants.{Object, Mark}
 use Rattle.values.specs.declared.Slot.{Slot}
-use Rattle.values.specs.Layout.{valueOf, Holds, Low}
-use Rattle.values.specs.Laying.{valuesFrom, PartsHeld}
+use Rattle.values.specs.Layout.{valueOf}
+use Rattle.values.specs.Laying.{valuesFrom}
 use Rattle.evaluator.specs.declared.Out.{Out}
 use Rattle.evaluator.specs.declared.Out.the-variants.{Value}
 use Rattle.evaluator.specs.State.{baseAt, Older, Is, Absent, Frame, slotAt, PartsOlder, callAt, CallOlder, CallsHold, callIn, sameOf, traceIn, metOf}

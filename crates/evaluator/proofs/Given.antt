@@ -5,7 +5,6 @@ use mathlib.Core.List.{List}
 use lib.ListN.{length}
 use Rattle.cofj.specs.Syntax.{Expr, Exprs, count, Table}
 use Rattle.cofj.specs.Writing.{codeOf, codesOf}
-use Rattle.cofj.specs.Running as language
 use Rattle.cofj.specs.Running.{Outcome, value, stopped, _then_}
 use Rattle.values.specs.declared.ValueRef.{ValueRef}
 use Rattle.values.specs.Layout.{valueOf}

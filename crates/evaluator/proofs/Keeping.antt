@@ -10,7 +10,7 @@ use Rattle.cofj.specs.Running as language
 use Rattle.values.specs.declared.ValueRef.{ValueRef}
 use Rattle.values.specs.declared.ValueRef.the-variants.{Object, Mark, Undetermined}
 use Rattle.values.specs.declared.Slot.{Slot}
-use Rattle.values.specs.Layout.{valueOf, Outside, Beneath, Low}
+use Rattle.values.specs.Layout.{valueOf, Outside, Low}
 use Rattle.values.specs.Laying.{valuesFrom, PartsHeld}
 use Rattle.values.proofs.Kept as values
 use Rattle.values.proofs.Kept.{object-kept}

@@ -16,7 +16,6 @@ use Rattle.cofj.specs.Running as language
 use Rattle.cofj.specs.Running.{Outcome, value, stopped, _then_, orStuck, eval, evals, sized}
 use Rattle.classes.proofs.Zones.{total-at}
 use Rattle.values.specs.declared.ValueRef.{ValueRef}
-use Rattle.values.specs.declared.ValueRef.the-variants.{Undetermined}
 use Rattle.values.specs.declared.Selected.{Selected}
 use Rattle.values.specs.declared.Selected.the-variants as selected
 use Rattle.values.specs.Layout.{valueOf}

@@ -1,26 +1,22 @@
 -- Numbers put on the stack, at each return of the code: an answer, a frame, an open call. Not here: what the numbers stand for (RefLaws).
-use Prim.Native.Nat.{ℕ, zero, suc, _+_, _-_, _*_, _≤_, _<_}
+use Prim.Native.Nat.{ℕ, _+_, _-_, _*_, _≤_, _<_}
 use native.Mathlib.Omega.{arith}
-use native.Mathlib.Numerals.{unary-clauses}
-use mathlib.Core.Path.{_≡_, refl, sym, ap, _∙_, subst}
+use mathlib.Core.Path.{_≡_, refl, sym, ap, _∙_}
 use mathlib.Core.Bool.{Bool, true, false}
-use mathlib.Core.List.{List, [], _∷_}
+use mathlib.Core.List.{List}
 use lib.Dec.{ltb}
 use lib.ListN.{length, getD, set, length-set}
 use lib.Seq.{getD-set-same, getD-set-other}
-use borrow.Author.Tests.{lt-ltb, le-ltb, eq-eqb, ne-eqb, ltb-true, ltb-false}
-use Rattle.classes.specs.Machine.{pick}
+use borrow.Author.Tests.{ltb-true, ltb-false}
 use Rattle.values.specs.declared.ValueRef.{ValueRef}
 use Rattle.values.specs.declared.ValueRef.the-variants.{Mark}
 use Rattle.values.specs.declared.Slot.{Slot}
-use Rattle.evaluator.specs.declared.Stop.{Stop}
 use Rattle.evaluator.specs.declared.Stop.the-variants.{Stuck}
-use Rattle.evaluator.specs.declared.Out.{Out}
-use Rattle.evaluator.specs.declared.Out.the-variants.{Value, Halt}
+use Rattle.evaluator.specs.declared.Out.the-variants.{Value}
 use Rattle.evaluator.specs.Refs.{refIn}
-use Rattle.evaluator.specs.State.{Held, Is, Absent, slotAt, refAt, argsAt, variableOf}
+use Rattle.evaluator.specs.State.{Held, Is, Absent, slotAt, refAt}
 use Rattle.evaluator.specs.Answers.{outOf}
-use Rattle.evaluator.specs.Stack.{fuelOf, heldThis, heldMark, heldArgs, frameAt, heldParameter, Framed, Stacked, stopAt, outAt, Answered, FrameSet, CallSet}
+use Rattle.evaluator.specs.Stack.{fuelOf, heldThis, heldMark, heldArgs, frameAt, heldParameter, Framed, Answered, FrameSet, CallSet}
 use Rattle.evaluator.proofs.RefLaws.{mark-number}
 use Rattle.evaluator.proofs.StackLaws.{this-absent, this-held, args-absent, args-held, mark-absent, mark-held, stacked-none, put-stack, put-out, stop-is, stop-stack, stuck-is}
 use Rattle.evaluator.proofs.StateLaws.{variable-none, variable-is, args-at, args-length}

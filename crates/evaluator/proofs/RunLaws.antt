@@ -1,18 +1,17 @@
 -- Main, run from the bytes of a table: the language's outcome.
 use Prim.Native.Nat.{ℕ, _≤_, _<_}
 use native.Mathlib.Omega.{arith}
-use mathlib.Core.Path.{_≡_, refl, sym, _∙_, subst}
+use mathlib.Core.Path.{_≡_, sym, _∙_, subst}
 use mathlib.Core.List.{List, []}
 use lib.ListN.{length, getD, set, replicate, length-set, length-replicate, getD-replicate}
 use lib.Seq.{getD-set-same, getD-set-other}
-use Rattle.cofj.specs.Running as language
 use Rattle.cofj.specs.Running.{runWithin, mainFrame}
 use Rattle.classes.proofs.Zones.{main-stands}
 use Rattle.values.specs.Laying.{valuesFrom}
 use Rattle.evaluator.specs.declared.Out.{Out}
-use Rattle.evaluator.specs.State.{Held, Absent, HeldOlder, heldIn, frameIn, traceIn}
+use Rattle.evaluator.specs.State.{Absent, HeldOlder, heldIn, frameIn, traceIn}
 use Rattle.evaluator.specs.Stack.{fuelOf, topOf, heldThis, heldMark, heldArgs, frameAt, outAt}
-use Rattle.evaluator.specs.Evaluation.{evalIn, Fits, Evaluates}
+use Rattle.evaluator.specs.Evaluation.{evalIn}
 use Rattle.evaluator.specs.Steps.{Runnable, EvalStep}
 use Rattle.evaluator.specs.Main.{Runs}
 use Rattle.evaluator.proofs.BodyLaws.{evalTo-is}

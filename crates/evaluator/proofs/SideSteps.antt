@@ -6,21 +6,18 @@ use mathlib.Core.Path.{_≡_, refl, sym, ap, _∙_, subst}
 use mathlib.Core.List.{List}
 use lib.ListN.{length, getD, set, length-set}
 use lib.Seq.{getD-set-same, getD-set-other}
-use borrow.Author.Tests.{lt-ltb, eq-eqb, ne-eqb}
 use Rattle.cofj.specs.Values.{close}
 use Rattle.classes.specs.Machine.{leftOf, rightOf}
 use Rattle.values.specs.declared.ValueRef.{ValueRef}
-use Rattle.values.specs.declared.ValueRef.the-variants.{Object, Mark, Undetermined}
-use Rattle.values.specs.declared.Slot.{Slot}
-use Rattle.values.specs.Layout.{valueOf, Holds, Low}
+use Rattle.values.specs.declared.ValueRef.the-variants.{Mark}
+use Rattle.values.specs.Layout.{valueOf, Holds}
 use Rattle.values.specs.Operations.{Gives}
-use Rattle.evaluator.specs.declared.Out.{Out}
 use Rattle.evaluator.specs.declared.Out.the-variants.{Value, Halt}
 use Rattle.evaluator.specs.Refs.{refIn, Small}
 use Rattle.evaluator.specs.State.{Held, Is, Absent, Frame, FrameHolds, CallOlder, refAt, argsAt, baseAt, callAt, traceIn}
-use Rattle.evaluator.specs.Stack.{fuelOf, topOf, heldThis, heldMark, heldArgs, frameAt, Placed, Stacked, stopAt, outAt, FrameSet, CallSet}
-use Rattle.evaluator.specs.Evaluation.{Fits, Evaluates}
-use Rattle.evaluator.specs.Calling.{BodyFits, RunsRight, RunsLeft}
+use Rattle.evaluator.specs.Stack.{fuelOf, topOf, heldThis, heldMark, heldArgs, frameAt, Stacked, stopAt, outAt, FrameSet, CallSet}
+use Rattle.evaluator.specs.Evaluation.{Evaluates}
+use Rattle.evaluator.specs.Calling.{RunsRight, RunsLeft}
 use Rattle.evaluator.specs.Steps.{Runnable, BodyRunnable, EvalStep, RightStep, LeftStep}
 use Rattle.evaluator.proofs.RefLaws.{small-held}
 use Rattle.evaluator.proofs.BodyLaws.{Pushed, trace-below, right-halt, right-value, left-halt, left-value}

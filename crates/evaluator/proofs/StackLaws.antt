@@ -2,7 +2,6 @@
 -- Not here: the functions that put them (PutLaws), what evaluation makes of them (StepLaws).
 use Prim.Native.Nat.{ℕ, _+_, _-_, _*_, _≤_, _<_}
 use native.Mathlib.Omega.{arith}
-use native.Mathlib.Decide.{decLt}
 use mathlib.Core.Path.{_≡_, refl, sym, ap, _∙_, subst}
 use mathlib.Core.Bool.{Bool, true, false}
 use mathlib.Core.List.{List, [], _∷_}
@@ -11,15 +10,13 @@ use lib.ListN.{length, getD, set, length-set}
 use lib.Seq.{getD-set-same, getD-set-other}
 use borrow.Author.Tests.{lt-ltb, le-ltb, eq-eqb, ne-eqb, ltb-true}
 use Rattle.classes.specs.Machine.{pick}
-use Rattle.values.specs.declared.ValueRef.{ValueRef}
 use Rattle.values.specs.declared.ValueRef.the-variants.{Mark}
-use Rattle.values.specs.declared.Slot.{Slot}
 use Rattle.evaluator.specs.declared.Stop.{Stop}
 use Rattle.evaluator.specs.declared.Stop.the-variants.{Stuck, NoFuel, TooDeep, TooLarge}
 use Rattle.evaluator.specs.declared.Out.the-variants.{Value, Halt}
 use Rattle.evaluator.specs.Refs.{refIn}
-use Rattle.evaluator.specs.State.{Held, Is, Absent, Frame, OpenCall, refAt, argsAt, baseAt, callAt, traceIn}
-use Rattle.evaluator.specs.Answers.{Listed, Values, Stops}
+use Rattle.evaluator.specs.State.{Is, Absent, refAt, argsAt, baseAt, callAt, traceIn}
+use Rattle.evaluator.specs.Answers.{Values, Stops}
 use Rattle.evaluator.specs.Stack.{fuelOf, topOf, heldThis, heldMark, heldArgs, frameAt, Placed, Stacked, stopAt, outAt, listAt}
 use Rattle.evaluator.proofs.BodyLaws.{trace-below}
 

@@ -13,18 +13,14 @@ use Rattle.classes.specs.Figures.{tableSize}
 use Rattle.checker.specs.declared.shape.Shape.{Shape}
 use Rattle.checker.specs.declared.shape.Shape.the-variants as shape
 use Rattle.checker.specs.Shapes.{byteOf, shapeAt, shapeOf}
-use Rattle.values.specs.declared.ValueRef.{ValueRef}
-use Rattle.values.specs.declared.Selected.the-variants as selected
 use Rattle.values.specs.Layout.{Holds}
-use Rattle.evaluator.specs.declared.Stop.{Stop}
-use Rattle.evaluator.specs.declared.Stop.the-variants.{Stuck, NoFuel, TooDeep}
+use Rattle.evaluator.specs.declared.Stop.the-variants.{Stuck}
 use Rattle.evaluator.specs.declared.Out.{Out}
-use Rattle.evaluator.specs.declared.Out.the-variants.{Value, Halt}
 use Rattle.evaluator.specs.Refs.{refIn, answerOf, ChosenIn}
 use Rattle.evaluator.specs.State.{Frame, refAt, FrameHolds, CallOlder, TraceHolds, frameIn, traceIn}
-use Rattle.evaluator.specs.Answers.{Listed, Values, Stops, frontOf, Finishes}
+use Rattle.evaluator.specs.Answers.{Listed, Values, frontOf}
 use Rattle.evaluator.specs.Stack.{fuelOf, topOf, heldThis, heldMark, heldParameter, frameAt, Framed, Placed, Stacked, stopAt, outAt, listAt, Answered}
-use Rattle.evaluator.specs.Evaluation.{evalIn, evalsIn, Fits, ListFits, Evaluates, Fields, Lists, News}
+use Rattle.evaluator.specs.Evaluation.{evalIn, evalsIn, ListFits, Evaluates, Fields, Lists, News}
 use Rattle.evaluator.specs.Steps.{Runnable, ListRunnable, PartsReady, EvalStep, FieldStep, ListStep, FinishStep, NewStep, CallStep}
 use Rattle.evaluator.proofs.Given.{given-older}
 use Rattle.evaluator.proofs.LeafLaws.{finish-halt}

@@ -1,7 +1,6 @@
 -- What the variables of a body and the open calls stand for in the work bytes W, and when they do.
 -- Not here: where they stand (Stack), what evaluation answers (Answers).
 use Prim.Native.Nat.{ℕ, zero, suc, _+_, _*_, _≤_, _<_}
-use mathlib.Core.Path.{_≡_}
 use mathlib.Core.Bool.{Bool, false}
 use mathlib.Core.List.{List, [], _∷_}
 use mathlib.Core.Option.{Option, none, some}
@@ -11,7 +10,7 @@ use Rattle.cofj.specs.Values.{Graph, eqGraph, eqGraphs}
 use Rattle.cofj.specs.Running as language
 use Rattle.classes.specs.Machine.{pick}
 use Rattle.values.specs.declared.ValueRef.{ValueRef}
-use Rattle.values.specs.declared.ValueRef.the-variants.{Object, Mark, Undetermined}
+use Rattle.values.specs.declared.ValueRef.the-variants.{Object}
 use Rattle.values.specs.declared.Slot.{Slot}
 use Rattle.values.specs.Layout.{valueOf, Holds, Low, Beneath}
 use Rattle.values.specs.Laying.{valuesFrom, PartsHeld}

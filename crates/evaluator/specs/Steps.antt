@@ -3,9 +3,7 @@
 use Prim.Native.Nat.{ℕ, _+_, _-_, _*_, _≤_, _<_}
 use mathlib.Core.Path.{_≡_}
 use mathlib.Core.List.{List}
-use lib.ListN.{length, getD}
-use Rattle.values.specs.declared.Slot.{Slot}
-use Rattle.evaluator.specs.declared.Out.{Out}
+use lib.ListN.{length}
 use Rattle.evaluator.specs.State.{refAt, argsAt}
 use Rattle.evaluator.specs.Answers.{Finishes, ListOlder}
 use Rattle.evaluator.specs.Stack.{fuelOf, topOf, frameAt, Placed, Stacked, outAt, listAt}
