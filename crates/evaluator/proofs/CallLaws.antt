@@ -23,7 +23,7 @@ use Rattle.evaluator.specs.declared.Stop.the-variants.{Stuck, NoFuel, To
 use Rattle.evaluator.specs.declared.Out.{Out}
 use Rattle.evaluator.specs.declared.Out.the-variants.{Value, Halt}
 use Rattle.evaluator.specs.State.{Frame, Kept, frameIn, traceIn, metOf}
-use Rattle.evaluator.specs.Answers.{Listed, Values, Stops, stopOf, slotsOf, haltOf, Shows}
+use Rattle.evaluator.specs.Answers.{Listed, Values, Stops, stopOf, slotsOf, Shows}
 use Rattle.evaluator.specs.Evaluation.{Reads, ReadsAll, evalIn, evalsIn, deeper, Fits, Evaluates, Lists}
 use Rattle.evaluator.specs.Calling.{ArgsFit, FindsTarget, Calls, CallsWith, Invokes, RunsRight, RunsLeft}
 use Rattle.evaluator.proofs.Keeping.{kept-none, kept-then, value-kept, frame-same, trace-same}
@@ -118,8 +118,8 @@ module _ (T W : List ℕ) (f : Frame) (tr : List ℕ) (top at left d sp fuel : �
   kept-args : Kept sp W W1
   kept-args = kept-then sp (sp + 1) W W W1 (omega arith) (kept-none sp W) (li .kept)
 
-  pub args-halt : (s : Stop) (fuel1 : ℕ) (o : Out) → l ≡ Stops s fuel1 → o ≡ haltOf l → CallsWith T W f tr top at left d sp fuel v m n i W1 o
-  args-halt s fuel1 o el eo = subst (CallsWith T W f tr top at left d sp fuel v m n i W1) (sym (eo ∙ ap haltOf el)) (record {
+  pub args-halt : (s : Stop) (fuel1 : ℕ) (o : Out) → l ≡ Stops s fuel1 → o ≡ Halt s fuel1 → CallsWith T W f tr top at left d sp fuel v m n i W1 o
+  args-halt s fuel1 o el eo = subst (CallsWith T W f tr top at left d sp fuel v m n i W1) (sym eo) (record {
     kept = kept-args;
     older = tt;
     is = λ t es k rs c ek. record {

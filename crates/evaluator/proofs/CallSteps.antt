@@ -18,7 +18,7 @@ use Rattle.evaluator.specs.declared.Out.{Out}
 use Rattle.evaluator.specs.declared.Out.the-variants.{Value, Halt}
 use Rattle.evaluator.specs.Refs.{refIn}
 use Rattle.evaluator.specs.State.{Older, PartsOlder, refAt, argsAt, CallsHold, traceIn, metOf}
-use Rattle.evaluator.specs.Answers.{slotsOf, haltOf}
+use Rattle.evaluator.specs.Answers.{slotsOf}
 use Rattle.evaluator.specs.Stack.{fuelOf, topOf, frameAt, Stacked, stopAt, outAt, listAt}
 use Rattle.evaluator.specs.Evaluation.{deeper, Lists}
 use Rattle.evaluator.specs.Calling.{FindsTarget, ArgsFit, Calls, CallsWith, CallFits, Invokes, RunsRight, RunsLeft}
@@ -144,7 +144,7 @@ module _ (T W S : List ℕ) (at left d sp m n : ℕ) (run : Runnable W S (left +
           stack = stack-both;
           runs = call-by W2 (outAt S2 sp at2)
               (args-halt T W1 (frameAt S) S (topOf S) at1 left d sp (fuelOf S1) v m n i args-fit W2 (listAt S2 (sp + 1) at2) args-given (stopAt (getD S2 275 0)) (fuelOf S2) (outAt S2 sp at2)
-              (list-stop S2 (sp + 1) at2 z) (out-stop S2 sp at2 z ∙ sym (ap haltOf (list-stop S2 (sp + 1) at2 z))));
+              (list-stop S2 (sp + 1) at2 z) (out-stop S2 sp at2 z));
         })
 
         module _ (nz2 : at2 ≡ 0 → ⊥) where

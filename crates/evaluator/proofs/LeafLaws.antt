@@ -23,7 +23,7 @@ use Rattle.evaluator.specs.declared.Out.{Out}
 use Rattle.evaluator.specs.declared.Out.the-variants.{Value, Halt}
 use Rattle.evaluator.specs.Refs.{refIn, Small}
 use Rattle.evaluator.specs.State.{PartsOlder, refAt}
-use Rattle.evaluator.specs.Answers.{Listed, Values, Stops, slotsOf, listIn, haltOf, ListOlder, ListNext, Finishes}
+use Rattle.evaluator.specs.Answers.{Listed, Values, Stops, slotsOf, listIn, ListOlder, ListNext, Finishes}
 use Rattle.evaluator.specs.Stack.{fuelOf, stopAt, outAt, listAt}
 use Rattle.evaluator.specs.Steps.{PartsReady, FinishStep}
 use Rattle.evaluator.proofs.Keeping.{kept-none, parts-held}
@@ -57,10 +57,8 @@ sized-some g v fuel h = go (leb (length (g .nodes)) 32) refl h
     go false q z = absurd (Option·none-ne-some v z)
 
 module _ (W : List ℕ) (k : ℕ) (l : Listed) (n sp : ℕ) where
-  pub finish-halt : (s : Stop) (fuel : ℕ) (o : Out) → l ≡ Stops s fuel → o ≡ haltOf l → Finishes W k l n sp W o
-  finish-halt s fuel o e q =
-      subst (Finishes W k l n sp W) (sym q)
-      (subst (λ (x : Listed). Finishes W k x n sp W (haltOf x)) (sym e) (record { kept = kept-none sp W; older = tt; is = refl; next = λ p h. tt }))
+  pub finish-halt : (s : Stop) (fuel : ℕ) (o : Out) → l ≡ Stops s fuel → o ≡ Halt s fuel → Finishes W k l n sp W o
+  finish-halt s fuel o e q = rw (e, q) (record { kept = kept-none sp W; older = tt; is = refl; next = λ p h. tt })
 
   module _ (a b c d : ValueRef) (at fuel : ℕ) (e : l ≡ Values a b c d at fuel) where
     older-parts : ListOlder W (sp + n) n l → PartsOlder W (sp + n) (slotsOf a b c d) n

@@ -26,7 +26,7 @@ use Rattle.evaluator.specs.declared.Stop.the-variants.{Stuck}
 use Rattle.evaluator.specs.declared.Out.{Out}
 use Rattle.evaluator.specs.declared.Out.the-variants.{Value, Halt}
 use Rattle.evaluator.specs.State.{Frame, Older, slotAt, PartsOlder, Kept, frameIn, traceIn}
-use Rattle.evaluator.specs.Answers.{Listed, Values, Stops, stopOf, slotsOf, stoppedOf, frontOf, listIn, ListOlder, ListNext, ShowsAll, Finishes}
+use Rattle.evaluator.specs.Answers.{Listed, Values, Stops, stopOf, slotsOf, frontOf, listIn, ListOlder, ListNext, ShowsAll, Finishes}
 use Rattle.evaluator.specs.Evaluation.{Tabled, ReadsAll, Reads, evalIn, evalsIn, ListFits, Evaluates, Fields, Lists, News}
 use Rattle.evaluator.proofs.Keeping.{kept-none, kept-then, value-kept, older-kept, older-up, frame-same, trace-same}
 use Rattle.evaluator.proofs.Standing.{first-reads, others-read, also-end}
@@ -118,8 +118,8 @@ module _ (T W : List ℕ) (f : Frame) (tr : List ℕ) (top at left d sp fuel n :
   })
 
   module _ (fit : ListFits W f tr top left d sp n) (nz : n ≡ 0 → ⊥) (W1 : List ℕ) (o : Out) (ev : Evaluates T W f tr top at left d sp fuel W1 o) where
-    pub list-halt : (s : Stop) (fuel1 : ℕ) (l : Listed) → o ≡ Halt s fuel1 → l ≡ stoppedOf o → Lists T W f tr top at left d sp fuel n W1 l
-    list-halt s fuel1 l eo el = subst (Lists T W f tr top at left d sp fuel n W1) (sym (el ∙ ap stoppedOf eo)) (record { kept = ev .kept; older = tt; is = go })
+    pub list-halt : (s : Stop) (fuel1 : ℕ) (l : Listed) → o ≡ Halt s fuel1 → l ≡ Stops s fuel1 → Lists T W f tr top at left d sp fuel n W1 l
+    list-halt s fuel1 l eo el = subst (Lists T W f tr top at left d sp fuel n W1) (sym el) (record { kept = ev .kept; older = tt; is = go })
       where
         go : (t : Table) (es : Exprs) → ReadsAll T left at t es → count es ≡ n
             → ShowsAll W1 n (Stops s fuel1) (at + length (codesOf es)) (evalsIn d t (frameIn W f) (traceIn W tr top) es fuel)

@@ -221,7 +221,7 @@ module _ (T W S : List ℕ) (at left d sp n : ℕ) (run : ListRunnable W S at le
   list-stops z = subst (ListStep T W S at left d sp n W1 S1) z (record {
     stack = ev .stack;
     runs = list-halt T W (frameAt S) S (topOf S) at left d sp (fuelOf S) n (run .fits) nz W1 (outAt S1 sp at1) (ev .runs) (stopAt (getD S1 275 0)) (fuelOf S1) (listAt S1 sp at1)
-        (out-stop S1 sp at1 z) (list-stop S1 sp at1 z ∙ rw (out-stop S1 sp at1 z));
+        (out-stop S1 sp at1 z) (list-stop S1 sp at1 z);
   })
 
   pub list-later : (at1 ≡ 0 → ⊥) → ListRunnable W1 S1 at1 left d (sp + 1) (n - 1)
@@ -277,7 +277,7 @@ module _ (T W S : List ℕ) (at left d sp c n x : ℕ) (run : Runnable W S (left
       new-stops z = subst (NewStep T W S at left d sp c n W1 S1) z (record {
         stack = li .stack;
         runs = new-is T W (frameAt S) S (topOf S) at left d sp (fuelOf S) c n x ex h W1 (listAt S1 sp at1) W1 (outAt S1 sp at1) (li .runs)
-            (finish-halt W1 c (listAt S1 sp at1) n sp (stopAt (getD S1 275 0)) (fuelOf S1) (outAt S1 sp at1) (list-stop S1 sp at1 z) (out-stop S1 sp at1 z ∙ rw (list-stop S1 sp at1 z)));
+            (finish-halt W1 c (listAt S1 sp at1) n sp (stopAt (getD S1 275 0)) (fuelOf S1) (outAt S1 sp at1) (list-stop S1 sp at1 z) (out-stop S1 sp at1 z));
       })
 
       pub parts-ready : (at1 ≡ 0 → ⊥) → n ≤ 4 → PartsReady W1 S1 n sp at1

@@ -39,14 +39,6 @@ abbrev pub listIn : List ℕ → ℕ → Listed → Outcome (List Graph)
 listIn W n (Values a b c d at fuel) = value (valuesFrom W (slotsOf a b c d) 0 n) fuel
 listIn W n (Stops s fuel) = stopped (stopOf s) fuel
 
-abbrev pub haltOf : Listed → Out
-haltOf (Values a b c d at fuel) = Halt Stuck fuel
-haltOf (Stops s fuel) = Halt s fuel
-
-abbrev pub stoppedOf : Out → Listed
-stoppedOf (Value v at fuel) = Stops Stuck fuel
-stoppedOf (Halt s fuel) = Stops s fuel
-
 abbrev pub frontOf : ValueRef → Listed → Listed
 frontOf v (Values a b c d at fuel) = Values v a b c at fuel
 frontOf v (Stops s fuel) = Stops s fuel
