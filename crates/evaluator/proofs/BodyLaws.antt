@@ -1,4 +1,5 @@
--- The two sides of a method: one law for each return of the code.
+-- The two sides of a method, as the language has them: one law for each return of the code; the open calls with one more.
+-- Not here: the frame and the calls on the stack (SideSteps).
 use Prim.Native.Nat.{ℕ, zero, suc, _+_, _<_}
 use native.Mathlib.Omega.{arith}
 use native.Mathlib.Numerals.{add-one}
@@ -14,7 +15,7 @@ use Rattle.cofj.specs.Running as language
 use Rattle.cofj.specs.Running.{value, stopped, evalTo, frameOf, opened}
 use Rattle.cofj.specs.WellFormed.{MethodFormed}
 use Rattle.classes.specs.Machine.{leftOf, rightOf}
-use Rattle.classes.specs.Layout.{layout}
+use Rattle.classes.specs.Layout.{layout, Stands}
 use Rattle.classes.proofs.Zones.{left-stands, right-stands}
 use Rattle.checker.specs.Ready.{MethodReady}
 use Rattle.checker.proofs.Known.{method-at}
@@ -31,8 +32,8 @@ use Rattle.evaluator.specs.declared.Out.the-variants.{Value, Halt}
 use Rattle.evaluator.specs.State.{Is, Absent, Frame, Kept, callAt, callIn, frameIn, traceIn}
 use Rattle.evaluator.specs.Answers.{stopOf}
 use Rattle.evaluator.specs.Evaluation.{Tabled, Reads, evalIn, deeper, Evaluates}
-use Rattle.evaluator.specs.Calling.{BodyFits, RunsRight, RunsLeft}
-use Rattle.evaluator.proofs.Keeping.{kept-none, kept-then, kept-outside}
+use Rattle.evaluator.specs.Calling.{RunsRight, RunsLeft}
+use Rattle.evaluator.proofs.Keeping.{kept-then, kept-down, kept-outside}
 use Rattle.evaluator.proofs.Given.{going-on, halted, given}
 
 -- evaluation with room for d more calls is the language's
@@ -84,7 +85,7 @@ module _ (T : List ℕ) (t : Table) (tb : Tabled T t) (i : ℕ) (k : Method) (ek
     table = tb;
     nested = ready .right;
     known = formed .rightKnown;
-    stands = subst (λ (p : ℕ). Rattle.classes.specs.Layout.Stands (layout t) p (codeOf (k .right))) (sym (e ∙ ap (λ (B : List ℕ). rightOf B i) (tb .bytes))) (right-stands t i k row ek (ready .short));
+    stands = subst (λ (p : ℕ). Stands (layout t) p (codeOf (k .right))) (sym (e ∙ ap (λ (B : List ℕ). rightOf B i) (tb .bytes))) (right-stands t i k row ek (ready .short));
   }
 
   left-reads : (at : ℕ) → at ≡ leftOf T i → Reads T 6 at t (k .left)
@@ -92,19 +93,20 @@ module _ (T : List ℕ) (t : Table) (tb : Tabled T t) (i : ℕ) (k : Method) (ek
     table = tb;
     nested = ready .left;
     known = formed .leftKnown;
-    stands = subst (λ (p : ℕ). Rattle.classes.specs.Layout.Stands (layout t) p (codeOf (k .left))) (sym (e ∙ ap (λ (B : List ℕ). leftOf B i) (tb .bytes))) (left-stands t i k row ek (ready .short));
+    stands = subst (λ (p : ℕ). Stands (layout t) p (codeOf (k .left))) (sym (e ∙ ap (λ (B : List ℕ). leftOf B i) (tb .bytes))) (left-stands t i k row ek (ready .short));
   }
 
-abbrev rightFrame : ValueRef → ℕ → List Slot → ℕ → Frame
+-- ---- the frames of the sides
+abbrev pub rightFrame : ValueRef → ℕ → List Slot → ℕ → Frame
 rightFrame v x ps n = record { this = Is v; res = Is (Mark x); args = ps; n = n }
 
-abbrev leftFrame : ValueRef → List Slot → ℕ → Frame
+abbrev pub leftFrame : ValueRef → List Slot → ℕ → Frame
 leftFrame v ps n = record { this = Is v; res = Absent; args = ps; n = n }
 
 module _ (T W tr : List ℕ) (top : ℕ) (v : ValueRef) (ps : List Slot) (n i next d sp fuel x at : ℕ) (ea : at ≡ rightOf T i) (W1 : List ℕ) (o : Out)
     (ev : Evaluates T W (rightFrame v x ps n) tr top at 6 d (sp + 4) fuel W1 o) where
   kept-right : Kept sp W W1
-  kept-right = kept-then sp (sp + 4) W W W1 (omega arith) (kept-none sp W) (ev .kept)
+  kept-right = kept-down sp (sp + 4) W W1 (omega arith) (ev .kept)
 
   right-runs : (t : Table) (e : Expr) → evalIn d t (frameIn W (rightFrame v x ps n)) (traceIn W tr top) e fuel ≡ evalTo 32 d t (frameOf (valueOf W v) (some (markOf x)) (valuesFrom W ps 0 n)) (traceIn W tr top) e fuel
   unfolding frameIn
@@ -132,11 +134,11 @@ module _ (T W tr : List ℕ) (top : ℕ) (v : ValueRef) (ps : List Slot) (n i ne
     };
   }
 
-module _ (T W tr : List ℕ) (top : ℕ) (v : ValueRef) (ps : List Slot) (n i next d sp fuel m : ℕ) (fit : BodyFits W tr top v ps n d sp) (tr1 : List ℕ)
+module _ (T W tr : List ℕ) (top : ℕ) (v : ValueRef) (ps : List Slot) (n i next d sp fuel m : ℕ) (tr1 : List ℕ)
     (pu : Pushed tr top v m ps n tr1) (at : ℕ) (ea : at ≡ leftOf T i) (W1 : List ℕ) (o : Out)
     (ev : Evaluates T W (leftFrame v ps n) tr1 (top + 1) at 6 d (sp + 4) fuel W1 o) where
   kept-left : Kept sp W W1
-  kept-left = kept-then sp (sp + 4) W W W1 (omega arith) (kept-none sp W) (ev .kept)
+  kept-left = kept-down sp (sp + 4) W W1 (omega arith) (ev .kept)
 
   trace-is : traceIn W tr1 (top + 1) ≡ opened (traceIn W tr top) (valueOf W v) m (valuesFrom W ps 0 n)
   trace-is = push-in W tr top v m ps n tr1 pu

@@ -1,4 +1,5 @@
--- Calls, up to the choice of a side: one law for each return of the code.
+-- Calls up to the choice of a side, as the language has them: one law for each return of the code.
+-- Not here: the sides (BodyLaws), the receiver and the arguments on the stack (CallSteps).
 use Prim.Native.Nat.{ℕ, zero, suc, _+_, _-_, _<_}
 use native.Mathlib.Omega.{arith}
 use native.Mathlib.Numerals.{sub-one}
@@ -26,7 +27,7 @@ use Rattle.evaluator.specs.State.{Frame, Kept, frameIn, traceIn, metOf}
 use Rattle.evaluator.specs.Answers.{Listed, Values, Stops, stopOf, slotsOf, Shows}
 use Rattle.evaluator.specs.Evaluation.{Reads, ReadsAll, evalIn, evalsIn, deeper, Fits, Evaluates, Lists}
 use Rattle.evaluator.specs.Calling.{ArgsFit, FindsTarget, Calls, CallsWith, Invokes, RunsRight, RunsLeft}
-use Rattle.evaluator.proofs.Keeping.{kept-none, kept-then, value-kept, frame-same, trace-same}
+use Rattle.evaluator.proofs.Keeping.{kept-none, kept-then, kept-down, value-kept, frame-same, trace-same}
 use Rattle.evaluator.proofs.Standing.{nested-none}
 use Rattle.evaluator.proofs.ListLaws.{list-zero}
 use Rattle.evaluator.proofs.Given.{going-on, halted, given, given-next, all-halted, all-given, all-next}
@@ -116,7 +117,7 @@ module _ (T W : List ℕ) (f : Frame) (tr : List ℕ) (top at left d sp fuel m n
 module _ (T W : List ℕ) (f : Frame) (tr : List ℕ) (top at left d sp fuel : ℕ) (v : ValueRef) (m n i : ℕ) (fit : ArgsFit W f tr top left d sp v n) (W1 : List ℕ) (l : Listed)
     (li : Lists T W f tr top at left d (sp + 1) fuel n W1 l) where
   kept-args : Kept sp W W1
-  kept-args = kept-then sp (sp + 1) W W W1 (omega arith) (kept-none sp W) (li .kept)
+  kept-args = kept-down sp (sp + 1) W W1 (omega arith) (li .kept)
 
   pub args-halt : (s : Stop) (fuel1 : ℕ) (o : Out) → l ≡ Stops s fuel1 → o ≡ Halt s fuel1 → CallsWith T W f tr top at left d sp fuel v m n i W1 o
   args-halt s fuel1 o el eo = subst (CallsWith T W f tr top at left d sp fuel v m n i W1) (sym eo) (record {

@@ -1,5 +1,5 @@
 -- Calls on the stack, up to the choice of a side: what the functions ask of one another, and one law for each of their returns.
--- Not here: the two sides (SideSteps).
+-- Not here: what calls mean (CallLaws), the two sides (SideSteps).
 use Prim.Native.Nat.{ℕ, zero, suc, _+_, _-_, _≤_, _<_}
 use native.Mathlib.Omega.{arith}
 use mathlib.Core.Path.{_≡_, refl, sym, ap, _∙_, subst}

@@ -1,4 +1,5 @@
--- An expression, by what stands at its place: one law for each return of `eval`.
+-- An expression, by what stands at its place, as the language has it: one law for each return of `eval`.
+-- Not here: fields, lists and new objects (ListLaws), calls (CallLaws), the stack (StepLaws).
 use Prim.Native.Nat.{ℕ, suc, _+_, _-_, _≤_, _<_}
 use native.Mathlib.Omega.{arith}
 use mathlib.Core.Path.{_≡_, refl, sym, ap, _∙_, subst}
@@ -131,9 +132,9 @@ module _ (T W : List ℕ) (f : Frame) (tr : List ℕ) (top at left d sp fuel : �
           go t (call m e xs) q = absurd (clash q refl)
           go t (new c xs) q = absurd (clash q refl)
 
-      pub eval-param : (k : ℕ) (h : Held) → s ≡ shape.Parameter k next → h ≡ variableOf f k → o ≡ outOf h next fuel → Evaluates T W f tr top at left d sp fuel W o
+      pub eval-param : (k : ℕ) → s ≡ shape.Parameter k next → o ≡ outOf (variableOf f k) next fuel → Evaluates T W f tr top at left d sp fuel W o
       unfolding codeOf eval
-      eval-param k h z eh eo = subst (Evaluates T W f tr top at left d sp fuel W) (sym (eo ∙ ap (λ (x : Held). outOf x next fuel) eh)) (record {
+      eval-param k z eo = subst (Evaluates T W f tr top at left d sp fuel W) (sym eo) (record {
         kept = kept-none sp W;
         older = held-older W sp (variableOf f k) next fuel (variable-held W sp f k (fit .frame));
         is = λ t e r. go t e (stands-as t e (shape.Parameter k next) r z);

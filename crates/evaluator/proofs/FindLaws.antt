@@ -1,4 +1,5 @@
 -- The method that a call names, found in a table's bytes.
+-- Not here: the call itself (CallLaws).
 use Prim.Native.Nat.{ℕ, zero, suc, _+_, _*_, _≤_, _<_}
 use native.Mathlib.Omega.{arith}
 use mathlib.Core.Path.{_≡_, refl, sym, ap, _∙_, subst}
@@ -7,7 +8,7 @@ use mathlib.Core.List.{List, [], _∷_}
 use mathlib.Core.Logic.{⊎-elim}
 use mathlib.Core.Option.{Option, none, some, Option·none-ne-some}
 use lib.Dec.{eqb}
-use lib.ListN.{length, getD, getElem?}
+use lib.ListN.{length, getD}
 use borrow.Author.Tests.{eqb-false, ne-eqb}
 use types.Run.{OneOf}
 use denote.Enum.Declared.{tagOf}
@@ -38,6 +39,7 @@ use Rattle.cofj.specs.Unfolding.{object, labelAt}
 use Rattle.values.proofs.Nodes.{at-nodes}
 use Rattle.evaluator.specs.Evaluation.{Tabled}
 use Rattle.evaluator.specs.Calling.{FewIf, FindsTarget}
+use Rattle.evaluator.proofs.StateLaws.{get-past}
 
 -- ---- classes past the table have no methods
 own-past : (n c m : ℕ) (ds : List Method) → AllMethods (MethodReady n) ds → n < c → methodOf ds c m ≡ none
@@ -51,14 +53,9 @@ unfolding methodOf
 own-object t m [] h = refl
 own-object t m (d ∷ ds) h = rw (ne-eqb (d .owner) 0 (λ e. let o = h .0 .owned in omega arith), methodOf) (own-object t m ds (h .1))
 
-past-end : (cs : List Class) (k : ℕ) → length cs ≤ k → getElem? cs k ≡ none
-past-end [] k h = refl
-past-end (c ∷ cs) zero h = absurd (omega arith)
-past-end (c ∷ cs) (suc k) h = past-end cs k (omega arith)
-
 parent-past : (cs : List Class) (c : ℕ) → length cs < c → parentOf cs c ≡ 0
 parent-past cs zero h = absurd (omega arith)
-parent-past cs (suc k) h = ap parentOr0 (past-end cs k (omega arith))
+parent-past cs (suc k) h = ap parentOr0 (get-past cs k (omega arith))
 
 module _ (t : Table) (rd : Ready t) (m : ℕ) where
   lookup-object : (n : ℕ) → lookupTo n t 0 m ≡ none

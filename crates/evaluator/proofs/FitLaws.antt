@@ -1,4 +1,5 @@
--- What the functions of the cycle ask of one another: frames and traces that hold, blocks that are there.
+-- What evaluation, lists, calls and sides ask of the frame, the open calls and the room, carried from one to the next.
+-- Not here: that the stack has it (StepLaws, CallSteps, SideSteps).
 use Prim.Native.Nat.{ℕ, zero, suc, _+_, _-_, _*_, _≤_, _<_}
 use native.Mathlib.Omega.{arith}
 use mathlib.Core.Path.{_≡_, sym, ap, _∙_, subst}
@@ -14,18 +15,18 @@ use Rattle.cofj.specs.Running.{openMark}
 use Rattle.classes.specs.declared.methods.Found.{Found}
 use Rattle.classes.specs.declared.methods.Found.the-variants as found
 use Rattle.values.specs.declared.ValueRef.{ValueRef}
-use Rattle.values.specs.declared.ValueRef.the-variants.{Object, Mark}
+use Rattle.values.specs.declared.ValueRef.the-variants.{Object}
 use Rattle.values.specs.declared.Slot.{Slot}
 use Rattle.values.specs.Layout.{valueOf}
 use Rattle.values.specs.Laying.{valuesFrom}
 use Rattle.evaluator.specs.declared.Out.{Out}
 use Rattle.evaluator.specs.declared.Out.the-variants.{Value}
-use Rattle.evaluator.specs.State.{baseAt, Older, Is, Absent, Frame, slotAt, PartsOlder, callAt, CallOlder, CallsHold, callIn, sameOf, traceIn, metOf}
+use Rattle.evaluator.specs.State.{baseAt, Older, Frame, slotAt, PartsOlder, callAt, CallOlder, CallsHold, callIn, sameOf, traceIn, metOf}
 use Rattle.evaluator.specs.Answers.{Listed, Values, slotsOf}
 use Rattle.evaluator.specs.Calling.{FewIf, ArgsFit, CallFits, BodyFits, FindsTarget}
 use Rattle.evaluator.specs.Evaluation.{Fits, ListFits, Evaluates, Lists}
-use Rattle.evaluator.proofs.Keeping.{kept-none, kept-then, older-kept, older-up, parts-up, frame-kept, frame-up, trace-kept, trace-up, parts-held}
-use Rattle.evaluator.proofs.BodyLaws.{Pushed}
+use Rattle.evaluator.proofs.Keeping.{kept-down, older-kept, older-up, parts-up, frame-kept, frame-up, trace-kept, trace-up, parts-held}
+use Rattle.evaluator.proofs.BodyLaws.{Pushed, rightFrame, leftFrame}
 use Rattle.evaluator.proofs.StateLaws.{by-tests}
 use Rattle.evaluator.proofs.Given.{given-older, all-older}
 use Rattle.evaluator.proofs.CallLaws.{met-some}
@@ -107,7 +108,7 @@ after-list T W f tr top at left d sp fuel n W1 l li h = let r = h .room in omega
 pub call-fit : (T W : List ℕ) (f : Frame) (tr : List ℕ) (top at left d sp fuel : ℕ) (v : ValueRef) (n : ℕ) (W1 : List ℕ) (l : Listed) (a b c e : ValueRef) (at1 fuel1 : ℕ) (ps : List Slot)
     → ArgsFit W f tr top left d sp v n → Lists T W f tr top at left d (sp + 1) fuel n W1 l → l ≡ Values a b c e at1 fuel1 → n ≤ length ps → take n ps ≡ take n (slotsOf a b c e) → CallFits W1 tr top v ps n d sp
 call-fit T W f tr top at left d sp fuel v n W1 l a b c e at1 fuel1 ps h li el full ep =
-    let k = kept-then sp (sp + 1) W W W1 (omega arith) (kept-none sp W) (li .kept) in
+    let k = kept-down sp (sp + 1) W W1 (omega arith) (li .kept) in
     let r = h .fits .room in
     let few = h .few in
     record {
@@ -145,7 +146,7 @@ module _ (W tr : List ℕ) (top : ℕ) (v : ValueRef) (ps : List Slot) (n d sp :
   pub push-room : top < 16
   push-room = let c = h .calls in omega arith
 
-  pub right-fit : (x : ℕ) → x < 63 → Fits W (record { this = Is v; res = Is (Mark x); args = ps; n = n }) tr top 6 d (sp + 4)
+  pub right-fit : (x : ℕ) → x < 63 → Fits W (rightFrame v x ps n) tr top 6 d (sp + 4)
   right-fit x l =
       let c = h .calls in
       let r = h .room in
@@ -158,7 +159,7 @@ module _ (W tr : List ℕ) (top : ℕ) (v : ValueRef) (ps : List Slot) (n d sp :
         long = h .long;
       }
 
-  pub left-fit : (m : ℕ) (tr1 : List ℕ) → Pushed tr top v m ps n tr1 → Fits W (record { this = Is v; res = Absent; args = ps; n = n }) tr1 (top + 1) 6 d (sp + 4)
+  pub left-fit : (m : ℕ) (tr1 : List ℕ) → Pushed tr top v m ps n tr1 → Fits W (leftFrame v ps n) tr1 (top + 1) 6 d (sp + 4)
   left-fit m tr1 p =
       let c = h .calls in
       let r = h .room in

@@ -1,4 +1,5 @@
 -- What an evaluation that gave a value, or stopped, says of the language's.
+-- Not here: the laws of expressions, lists and calls that use it (EvalLaws, ListLaws, CallLaws, BodyLaws).
 use Prim.Native.Nat.{ℕ, _+_}
 use mathlib.Core.Path.{_≡_, sym, ap, _∙_, subst}
 use mathlib.Core.List.{List}

@@ -1,4 +1,5 @@
--- What a change of block sp and of those above does to values, frames and traces below it: nothing.
+-- What a change of block sp and of those above does to values, frames and open calls below it: nothing.
+-- Not here: what a step does to the stack (StackLaws).
 use Prim.Native.Nat.{ℕ, zero, suc, _≤_, _<_}
 use native.Mathlib.Omega.{arith}
 use mathlib.Core.Path.{_≡_, refl, ap, ap₂, _∙_}
@@ -22,6 +23,9 @@ kept-none sp W = record { same = refl; below = λ p h. refl }
 
 pub kept-then : (sp sp′ : ℕ) (W W1 W2 : List ℕ) → sp ≤ sp′ → Kept sp W W1 → Kept sp′ W1 W2 → Kept sp W W2
 kept-then sp sp′ W W1 W2 l a b = record { same = b .same ∙ a .same; below = λ p h. b .below p (omega arith) ∙ a .below p h }
+
+pub kept-down : (sp sp′ : ℕ) (W W′ : List ℕ) → sp ≤ sp′ → Kept sp′ W W′ → Kept sp W W′
+kept-down sp sp′ W W′ l k = record { same = k .same; below = λ p h. k .below p (omega arith) }
 
 pub kept-outside : (sp : ℕ) (W W′ : List ℕ) → Outside sp W W′ → Kept sp W W′
 kept-outside sp W W′ o = record { same = o .same; below = o .below }

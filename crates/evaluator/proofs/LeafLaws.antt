@@ -1,4 +1,5 @@
--- A new object, the parts of one and the answers of a run, at each return of the code.
+-- A new object of the values on the stack, and what a run gives: one law for each return of `parts_at`, `finish`, `stop_of` and `out_of`.
+-- Not here: the values' evaluation (ListLaws), the run (RunLaws).
 use Prim.Native.Nat.{ℕ, _+_}
 use native.Mathlib.Omega.{arith}
 use mathlib.Core.Path.{_≡_, refl, sym, ap, _∙_, subst}
@@ -68,6 +69,9 @@ module _ (W : List ℕ) (k : ℕ) (l : Listed) (n sp : ℕ) where
     finish-held ps ep h = parts-held W (sp + n) ps n (subst (λ (x : List Slot). PartsOlder W (sp + n) x n) (sym ep) (older-parts h))
 
     module _ (ps : List Slot) (ep : ps ≡ slotsOf a b c d) (W′ : List ℕ) (o : Made) (m : MadeIs W (make k (valuesFrom W ps 0 n)) sp W′ o) where
+      then-is : (listIn W n l then λ vs x. sized 32 (make k vs) x) ≡ sized 32 (make k (valuesFrom W ps 0 n)) fuel
+      then-is = rw (e, ep)
+
       finish-large : o ≡ made.TooLarge → Finishes W k l n sp W′ (Halt TooLarge fuel)
       finish-large eo = record {
         kept = m .beneath;
@@ -75,20 +79,14 @@ module _ (W : List ℕ) (k : ℕ) (l : Listed) (n sp : ℕ) where
         is = sym (then-is ∙ sized-none (make k (valuesFrom W ps 0 n)) fuel (sym (m .is) ∙ ap (madeIn W′) eo));
         next = λ p h. tt;
       }
-        where
-          then-is : (listIn W n l then λ vs x. sized 32 (make k vs) x) ≡ sized 32 (make k (valuesFrom W ps 0 n)) fuel
-          then-is = rw (e, ep)
 
       finish-value : (v : ValueRef) → o ≡ made.Value v → Finishes W k l n sp W′ (Value v at fuel)
-      finish-value v eo =
-          let g = make k (valuesFrom W ps 0 n) in
-          let then-is : (listIn W n l then λ vs x. sized 32 (make k vs) x) ≡ sized 32 (make k (valuesFrom W ps 0 n)) fuel = rw (e, ep) in
-          record {
-            kept = m .beneath;
-            older = record { held = subst (MadeHeld W′) eo (m .held); low = subst (MadePlace sp) eo (m .place) };
-            is = sym (then-is ∙ sized-some (make k (valuesFrom W ps 0 n)) (valueOf W′ v) fuel (sym (m .is) ∙ ap (madeIn W′) eo));
-            next = λ p h. subst (λ (x : Listed). ListNext x p) e h;
-          }
+      finish-value v eo = record {
+        kept = m .beneath;
+        older = record { held = subst (MadeHeld W′) eo (m .held); low = subst (MadePlace sp) eo (m .place) };
+        is = sym (then-is ∙ sized-some (make k (valuesFrom W ps 0 n)) (valueOf W′ v) fuel (sym (m .is) ∙ ap (madeIn W′) eo));
+        next = λ p h. subst (λ (x : Listed). ListNext x p) e h;
+      }
 
 -- ---- a new object of the values on the stack
 module _ (W S : List ℕ) (c n sp next : ℕ) (h : PartsReady W S n sp next) (ps : List Slot) (ep : ps ≡ slotsOf (refAt S sp) (refAt S (sp + 1)) (refAt S (sp + 2)) (refAt S (sp + 3))) where

@@ -1,4 +1,5 @@
--- Fields, lists and new objects: one law for each return of the code.
+-- Fields, lists and new objects, as the language has them: one law for each return of the code.
+-- Not here: the values on the stack (StepLaws, LeafLaws).
 use Prim.Native.Nat.{ℕ, zero, suc, _+_, _-_, _*_, _≤_, _<_}
 use native.Mathlib.Omega.{arith}
 use mathlib.Core.Path.{_≡_, refl, sym, ap, _∙_, subst}

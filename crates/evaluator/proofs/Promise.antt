@@ -1,4 +1,5 @@
 -- The promise of this crate: what a run of the bytes of a table that was read answers is the language's outcome of the table.
+-- Not here: the run (RunLaws).
 use Prim.Native.Nat.{ℕ}
 use mathlib.Core.Path.{_≡_, refl}
 use mathlib.Core.List.{List}

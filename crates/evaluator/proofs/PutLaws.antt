@@ -1,4 +1,5 @@
--- Numbers put on the stack, at each return of the code: an answer, a frame, an open call. Not here: what the numbers stand for (RefLaws).
+-- Numbers put on the stack: one law for each return of `this`, `result`, `parameter`, `set_frame` and `push`.
+-- Not here: what the numbers stand for (RefLaws), what else a number put does to the stack (StackLaws).
 use Prim.Native.Nat.{ℕ, _+_, _-_, _*_, _≤_, _<_}
 use native.Mathlib.Omega.{arith}
 use mathlib.Core.Path.{_≡_, refl, sym, ap, _∙_}

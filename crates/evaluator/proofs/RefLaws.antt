@@ -1,5 +1,5 @@
--- Values as numbers, at each return of the code: a number read, a number made, the number of a field.
--- Not here: where the numbers stand (PutLaws).
+-- Values as numbers: one law for each return of `unpack`, `pack` and `select_in`.
+-- Not here: where the numbers stand (StackLaws, PutLaws).
 use Prim.Native.Nat.{ℕ, _+_, _-_, _*_, _/_, _%_, _≤_, _<_}
 use native.Mathlib.Omega.{arith}
 use native.Mathlib.Decide.{decLt, ℕ-discrete}

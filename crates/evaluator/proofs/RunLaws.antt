@@ -1,4 +1,5 @@
--- Main, run from the bytes of a table: the language's outcome.
+-- Main, run with a stack of its own: the language's outcome.
+-- Not here: that the table was read (Promise).
 use Prim.Native.Nat.{ℕ, _≤_, _<_}
 use native.Mathlib.Omega.{arith}
 use mathlib.Core.Path.{_≡_, sym, _∙_, subst}

@@ -1,4 +1,5 @@
 -- The two sides of a method on the stack: the frame set, the side run, the frame set back; one law for each return of the code.
+-- Not here: what the sides mean (BodyLaws), the choice of one (CallSteps).
 use Prim.Native.Nat.{ℕ, _+_, _-_, _*_, _≤_, _<_}
 use native.Mathlib.Omega.{arith}
 use native.Mathlib.Decide.{decLt, ℕ-discrete}
@@ -14,13 +15,13 @@ use Rattle.values.specs.Layout.{valueOf, Holds}
 use Rattle.values.specs.Operations.{Gives}
 use Rattle.evaluator.specs.declared.Out.the-variants.{Value, Halt}
 use Rattle.evaluator.specs.Refs.{refIn, Small}
-use Rattle.evaluator.specs.State.{Held, Is, Absent, Frame, FrameHolds, CallOlder, refAt, argsAt, baseAt, callAt, traceIn}
+use Rattle.evaluator.specs.State.{Held, Is, Absent, FrameHolds, CallOlder, refAt, argsAt, baseAt, callAt, traceIn}
 use Rattle.evaluator.specs.Stack.{fuelOf, topOf, heldThis, heldMark, heldArgs, frameAt, Stacked, stopAt, outAt, FrameSet, CallSet}
 use Rattle.evaluator.specs.Evaluation.{Evaluates}
 use Rattle.evaluator.specs.Calling.{RunsRight, RunsLeft}
 use Rattle.evaluator.specs.Steps.{Runnable, BodyRunnable, EvalStep, RightStep, LeftStep}
 use Rattle.evaluator.proofs.RefLaws.{small-held}
-use Rattle.evaluator.proofs.BodyLaws.{Pushed, trace-below, right-halt, right-value, left-halt, left-value}
+use Rattle.evaluator.proofs.BodyLaws.{Pushed, rightFrame, leftFrame, trace-below, right-halt, right-value, left-halt, left-value}
 use Rattle.evaluator.proofs.Given.{given-older}
 use Rattle.evaluator.proofs.FitLaws as fits
 use Rattle.evaluator.proofs.StackLaws.{out-stop, out-value, this-held, args-held, mark-absent, mark-held, args-alike, call-alike, put-stack, put-out}
@@ -69,9 +70,9 @@ frame-back S S2 S3 fb p l h = go (ℕ-discrete p 276) (ℕ-discrete p 277)
 -- ---- the right side
 module _ (T W S : List ℕ) (next d sp n i x : ℕ) (run : BodyRunnable W S next n d sp) (xp : 0 < x) (xl : x < 64) (S1 : List ℕ) (fs : FrameSet S sp n x S1) where
   short : sp < 270
-  short = let r = run .fits .room in omega arith
+  short = body-short W S next n d sp run
 
-  right-frame : frameAt S1 ≡ record { this = Is (refAt S sp); res = Is (Mark (x - 1)); args = argsAt S (sp + 1); n = n }
+  right-frame : frameAt S1 ≡ rightFrame (refAt S sp) (x - 1) (argsAt S (sp + 1)) n
   right-frame =
       frame-there S S1 sp n short (fs .base) (fs .count) (λ p l. fs .below p (omega arith)) (Is (Mark (x - 1)))
       (mark-held S1 (λ z. let e = fs .mark in omega arith) ∙ ap (λ (y : ℕ). Is (Mark (y - 1))) (fs .mark))
@@ -111,11 +112,11 @@ module _ (T W S : List ℕ) (next d sp n i x : ℕ) (run : BodyRunnable W S next
 
   module _ (at : ℕ) (ea : at ≡ rightOf T i) (W1 S2 : List ℕ) (r : ℕ) (ev : EvalStep T W S1 at 6 d (sp + 4) W1 S2 r) (S3 : List ℕ)
       (fb : FrameSet S2 (getD S 276 0) (getD S 277 0) (getD S 278 0) S3) where
-    right-evaluates : Evaluates T W (record { this = Is (refAt S sp); res = Is (Mark (x - 1)); args = argsAt S (sp + 1); n = n }) S (topOf S) at 6 d (sp + 4) (fuelOf S) W1 (outAt S2 (sp + 4) r)
+    right-evaluates : Evaluates T W (rightFrame (refAt S sp) (x - 1) (argsAt S (sp + 1)) n) S (topOf S) at 6 d (sp + 4) (fuelOf S) W1 (outAt S2 (sp + 4) r)
     right-evaluates =
-        subst (λ (u : ℕ). Evaluates T W (record { this = Is (refAt S sp); res = Is (Mark (x - 1)); args = argsAt S (sp + 1); n = n }) S (topOf S) at 6 d (sp + 4) u W1 (outAt S2 (sp + 4) r))
+        subst (λ (u : ℕ). Evaluates T W (rightFrame (refAt S sp) (x - 1) (argsAt S (sp + 1)) n) S (topOf S) at 6 d (sp + 4) u W1 (outAt S2 (sp + 4) r))
         (fs .below 274 (omega arith))
-        (evaluates-on T W (record { this = Is (refAt S sp); res = Is (Mark (x - 1)); args = argsAt S (sp + 1); n = n }) (frameAt S1) right-frame S S1 (topOf S) (topOf S1) right-trace at 6 d (sp + 4) (fuelOf S1) W1
+        (evaluates-on T W (rightFrame (refAt S sp) (x - 1) (argsAt S (sp + 1)) n) (frameAt S1) right-frame S S1 (topOf S) (topOf S1) right-trace at 6 d (sp + 4) (fuelOf S1) W1
         (outAt S2 (sp + 4) r) (ev .runs))
 
     right-stack : Stacked sp S S3
@@ -152,10 +153,7 @@ module _ (T W S : List ℕ) (next d sp n i x : ℕ) (run : BodyRunnable W S next
           ∙ ap (λ (v : ValueRef). Value v r (fuelOf S2)) (ap refIn (sym (fb .below (sp + 4) (let z = short in omega arith))) ∙ sym eu)
 
       pub right-held : Holds W1 u
-      right-held = given-older T W S1f S (topOf S) at 6 d (sp + 4) (fuelOf S) W1 (outAt S2 (sp + 4) r) right-evaluates u r (fuelOf S2) side-value .held
-        where
-          S1f : Frame
-          S1f = record { this = Is (refAt S sp); res = Is (Mark (x - 1)); args = argsAt S (sp + 1); n = n }
+      right-held = given-older T W (rightFrame (refAt S sp) (x - 1) (argsAt S (sp + 1)) n) S (topOf S) at 6 d (sp + 4) (fuelOf S) W1 (outAt S2 (sp + 4) r) right-evaluates u r (fuelOf S2) side-value .held
 
       pub right-length : 240 * sp + 240 ≤ length W1
       right-length = let z = run .fits .room in omega (arith, run .fits .long, right-evaluates .kept .same)
@@ -177,12 +175,12 @@ module _ (T W S : List ℕ) (next d sp n i x : ℕ) (run : BodyRunnable W S next
 module _ (T W S : List ℕ) (next d sp m n i : ℕ) (run : BodyRunnable W S next n d sp) where
   module _ (S0 : List ℕ) (cs : CallSet S (topOf S) m n sp S0) (S1 : List ℕ) (fs : FrameSet S0 sp n 0 S1) where
     low : sp < 270
-    low = let r = run .fits .room in omega arith
+    low = body-short W S next n d sp run
 
     below-same : (p : ℕ) → p < 276 → getD S1 p 0 ≡ getD S p 0
     below-same p l = fs .below p l ∙ cs .below p (omega arith)
 
-    left-frame : frameAt S1 ≡ record { this = Is (refAt S sp); res = Absent; args = argsAt S (sp + 1); n = n }
+    left-frame : frameAt S1 ≡ leftFrame (refAt S sp) (argsAt S (sp + 1)) n
     left-frame =
         frame-there S S1 sp n low (fs .base) (fs .count) (λ p l. below-same p (omega arith)) Absent (mark-absent S1 (fs .mark))
 
@@ -246,13 +244,10 @@ module _ (T W S : List ℕ) (next d sp m n i : ℕ) (run : BodyRunnable W S next
       abbrev S4 : List ℕ
       S4 = set S3 279 (topOf S)
 
-      abbrev leftFrame : Frame
-      leftFrame = record { this = Is (refAt S sp); res = Absent; args = argsAt S (sp + 1); n = n }
-
-      left-evaluates : Evaluates T W leftFrame S1 (topOf S + 1) at 6 d (sp + 4) (fuelOf S) W1 (outAt S2 (sp + 4) r)
+      left-evaluates : Evaluates T W (leftFrame (refAt S sp) (argsAt S (sp + 1)) n) S1 (topOf S + 1) at 6 d (sp + 4) (fuelOf S) W1 (outAt S2 (sp + 4) r)
       left-evaluates =
-          subst (λ (u : ℕ). Evaluates T W leftFrame S1 (topOf S + 1) at 6 d (sp + 4) u W1 (outAt S2 (sp + 4) r)) (below-same 274 (omega arith))
-          (evaluates-on T W leftFrame (frameAt S1) left-frame S1 S1 (topOf S + 1) (topOf S1) (ap (traceIn W S1) left-top) at 6 d (sp + 4) (fuelOf S1) W1 (outAt S2 (sp + 4) r) (ev .runs))
+          subst (λ (u : ℕ). Evaluates T W (leftFrame (refAt S sp) (argsAt S (sp + 1)) n) S1 (topOf S + 1) at 6 d (sp + 4) u W1 (outAt S2 (sp + 4) r)) (below-same 274 (omega arith))
+          (evaluates-on T W (leftFrame (refAt S sp) (argsAt S (sp + 1)) n) (frameAt S1) left-frame S1 S1 (topOf S + 1) (topOf S1) (ap (traceIn W S1) left-top) at 6 d (sp + 4) (fuelOf S1) W1 (outAt S2 (sp + 4) r) (ev .runs))
 
       same-back : (p : ℕ) → p < 276 → getD S4 p 0 ≡ getD S2 p 0
       same-back p l = getD-set-other S3 279 p (topOf S) 0 (λ z. omega arith) ∙ fb .below p l
@@ -290,7 +285,7 @@ module _ (T W S : List ℕ) (next d sp m n i : ℕ) (run : BodyRunnable W S next
           record {
             stack = left-stack;
             runs = subst (RunsLeft T W S (topOf S) (refAt S sp) (argsAt S (sp + 1)) n i next d sp (fuelOf S) m W1) (sym q)
-                (left-halt T W S (topOf S) (refAt S sp) (argsAt S (sp + 1)) n i next d sp (fuelOf S) m (run .fits) S1 left-pushed at ea W1 (outAt S2 (sp + 4) r) left-evaluates (stopAt (getD S2 275 0)) (fuelOf S2) e);
+                (left-halt T W S (topOf S) (refAt S sp) (argsAt S (sp + 1)) n i next d sp (fuelOf S) m S1 left-pushed at ea W1 (outAt S2 (sp + 4) r) left-evaluates (stopAt (getD S2 275 0)) (fuelOf S2) e);
           }
 
       module _ (nz : r ≡ 0 → ⊥) (u : ValueRef) (eu : u ≡ refIn (getD S4 (sp + 4) 0)) where
@@ -300,7 +295,7 @@ module _ (T W S : List ℕ) (next d sp m n i : ℕ) (run : BodyRunnable W S next
             ∙ ap (λ (v : ValueRef). Value v r (fuelOf S2)) (ap refIn (sym (same-back (sp + 4) (let z = low in omega arith))) ∙ sym eu)
 
         pub left-held : Holds W1 u
-        left-held = given-older T W leftFrame S1 (topOf S + 1) at 6 d (sp + 4) (fuelOf S) W1 (outAt S2 (sp + 4) r) left-evaluates u r (fuelOf S2) left-there .held
+        left-held = given-older T W (leftFrame (refAt S sp) (argsAt S (sp + 1)) n) S1 (topOf S + 1) at 6 d (sp + 4) (fuelOf S) W1 (outAt S2 (sp + 4) r) left-evaluates u r (fuelOf S2) left-there .held
 
         pub left-length : 240 * sp + 240 ≤ length W1
         left-length = let z = run .fits .room in omega (arith, run .fits .long, left-evaluates .kept .same)
@@ -315,5 +310,5 @@ module _ (T W S : List ℕ) (next d sp m n i : ℕ) (run : BodyRunnable W S next
               stack = put-stack sp S4 q (let z = low in omega arith) S left-stack;
               runs = subst (RunsLeft T W S (topOf S) (refAt S sp) (argsAt S (sp + 1)) n i next d sp (fuelOf S) m W2)
                   (sym (put-out sp S4 q (let z = low in omega arith) full next (λ y. let z = run .after in omega arith) ∙ (λ j. Value (eq j) next (same-back 274 (omega arith) j))))
-                  (left-value T W S (topOf S) (refAt S sp) (argsAt S (sp + 1)) n i next d sp (fuelOf S) m (run .fits) S1 left-pushed at ea W1 (outAt S2 (sp + 4) r) left-evaluates u r (fuelOf S2) W2 v left-there g);
+                  (left-value T W S (topOf S) (refAt S sp) (argsAt S (sp + 1)) n i next d sp (fuelOf S) m S1 left-pushed at ea W1 (outAt S2 (sp + 4) r) left-evaluates u r (fuelOf S2) W2 v left-there g);
             }

@@ -1,4 +1,4 @@
--- The stack after a step: the frame and the open calls that stand below are as before; a value or a stop put; the frame and answers read.
+-- The stack S: the frame and the answers read, a value or a stop put, and that the frame and the open calls are as before after a step.
 -- Not here: the functions that put them (PutLaws), what evaluation makes of them (StepLaws).
 use Prim.Native.Nat.{ℕ, _+_, _-_, _*_, _≤_, _<_}
 use native.Mathlib.Omega.{arith}

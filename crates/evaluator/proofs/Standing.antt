@@ -1,4 +1,5 @@
 -- What stands at the place of an expression in a table's bytes, and its parts.
+-- Not here: what evaluation makes of it (EvalLaws).
 use Prim.Native.Nat.{ℕ, zero, suc, _+_, _-_, _≤_, _<_}
 use native.Mathlib.Omega.{arith}
 use native.Mathlib.Numerals.{sub-one}

@@ -1,4 +1,5 @@
--- Frames and open calls: a parameter, numbers, arguments and calls compared.
+-- Parameters of a frame; numbers, arguments and open calls compared: one law for each return of `apart`, `same_value`, `same_args`, `same_call` and `open_call`.
+-- Not here: how a step changes the frame and the open calls (StackLaws).
 use Prim.Native.Nat.{ℕ, zero, suc, _+_, _-_, _*_, _≤_, _<_, _/_, _%_}
 use native.Mathlib.Omega.{arith}
 use native.Mathlib.Numerals.{sub-one, add-one}
@@ -54,10 +55,10 @@ get-values W [] (suc n) k l h = absurd (omega arith)
 get-values W (p ∷ ps) (suc n) zero l h = refl
 get-values W (p ∷ ps) (suc n) (suc k) l h = get-values W ps n k (omega arith) (omega arith)
 
-get-past : (gs : List Graph) (k : ℕ) → length gs ≤ k → getElem? gs k ≡ none
+pub get-past : {A : Type 0} (xs : List A) (k : ℕ) → length xs ≤ k → getElem? xs k ≡ none
 get-past [] k h = refl
-get-past (g ∷ gs) zero h = absurd (omega arith)
-get-past (g ∷ gs) (suc k) h = get-past gs k (omega arith)
+get-past (x ∷ xs) zero h = absurd (omega arith)
+get-past (x ∷ xs) (suc k) h = get-past xs k (omega arith)
 
 length-values : (W : List ℕ) (ps : List Slot) (n : ℕ) → n ≤ length ps → length (valuesFrom W ps 0 n) ≡ n
 unfolding valuesFrom

@@ -1,8 +1,9 @@
 -- Expressions on the stack, calls apart: what the functions ask of one another, and one law for each of their returns.
+-- Not here: what they mean (EvalLaws, ListLaws), calls (CallSteps, SideSteps).
 use Prim.Native.Nat.{ℕ, _+_, _-_, _*_, _≤_, _<_}
 use native.Mathlib.Omega.{arith}
 use native.Mathlib.Decide.{ℕ-discrete}
-use mathlib.Core.Path.{_≡_, refl, sym, ap, _∙_, subst}
+use mathlib.Core.Path.{_≡_, sym, ap, _∙_, subst}
 use mathlib.Core.Bool.{Bool, true, false}
 use mathlib.Core.List.{List}
 use lib.Dec.{eqb, ltb}
@@ -157,7 +158,7 @@ module _ (T W S : List ℕ) (at left d sp : ℕ) (run : Runnable W S left d sp) 
       pub step-parameter : (k : ℕ) → s ≡ shape.Parameter k next → Answered S (heldParameter S k) sp next S′ r → EvalStep T W S at left d sp W S′ r
       step-parameter k z a = record {
         stack = a .stack;
-        runs = eval-param T W (frameAt S) S (topOf S) at left d sp (fuelOf S) s es (run .fits) next (outAt S′ sp r) k (heldParameter S k) z refl (a .is);
+        runs = eval-param T W (frameAt S) S (topOf S) at left d sp (fuelOf S) s es (run .fits) next (outAt S′ sp r) k z (a .is);
       }
 
     module _ (nz : left ≡ 0 → ⊥) (next : ℕ) (W′ S′ : List ℕ) (r : ℕ) where

@@ -1,5 +1,5 @@
--- What the code answers, as the language's outcomes, and values put in a block.
--- Not here: what evaluation answers of an expression (Evaluation), of a call (Calling) and of main (Main).
+-- What the code answers, of an expression and of a list, as the language's outcomes; a new object put in a block.
+-- Not here: where answers stand (Stack), what evaluation answers of an expression (Evaluation), of a call (Calling) and of main (Main).
 use Prim.Native.Nat.{ℕ, _+_}
 use mathlib.Core.Path.{_≡_}
 use mathlib.Core.List.{List, [], _∷_}

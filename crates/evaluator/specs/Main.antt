@@ -1,4 +1,5 @@
--- What a run of main asks and answers. Not here: its report.
+-- What a run of main asks and answers.
+-- Not here: its report.
 use Prim.Native.Nat.{ℕ}
 use mathlib.Core.Path.{_≡_}
 use mathlib.Core.List.{List}

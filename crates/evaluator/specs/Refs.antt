@@ -1,4 +1,5 @@
--- Values as numbers: 256 times the block of an object and its number there; or a leaf's code. Not here: where the numbers stand (Stack).
+-- Values as numbers: 256 times the block of an object and its number there; or a leaf's code.
+-- Not here: where the numbers stand (Stack).
 use Prim.Native.Nat.{ℕ, _-_, _/_, _%_, _<_}
 use mathlib.Core.Bool.{Bool, false}
 use mathlib.Core.List.{List}

@@ -1,5 +1,6 @@
 -- The stack S of values and what stands beside it: the fuel left at 274, why the run stopped at 275, the frame from 276 on (where the receiver stands,
--- how many arguments there are, the mark and 1, or 0), how many calls are open at 279, then the calls (State). Not here: what the code does with it (Steps).
+-- how many arguments there are, the mark and 1, or 0), how many calls are open at 279, then the calls (State).
+-- Not here: what the code does with it (Steps).
 use Prim.Native.Nat.{ℕ, _+_, _-_, _*_, _≤_, _<_}
 use mathlib.Core.Path.{_≡_}
 use mathlib.Core.List.{List, []}

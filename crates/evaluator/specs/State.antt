@@ -1,5 +1,5 @@
--- What the variables of a body and the open calls stand for in the work bytes W, and when they do.
--- Not here: where they stand (Stack), what evaluation answers (Answers).
+-- What the variables of a body and the open calls on the stack stand for in the work bytes W, and when they do.
+-- Not here: the rest of the stack (Stack), what evaluation answers (Answers).
 use Prim.Native.Nat.{ℕ, zero, suc, _+_, _*_, _≤_, _<_}
 use mathlib.Core.Bool.{Bool, false}
 use mathlib.Core.List.{List, [], _∷_}
@@ -45,11 +45,11 @@ pub record Older (W : List ℕ) (sp : ℕ) (r : ValueRef) : Type 0 where
   pub held : Holds W r
   pub low : Low sp r
 
--- the value at a place of an array
+-- the value at a place of a list
 abbrev pub slotAt : List Slot → ℕ → ValueRef
 slotAt ps i = getD ps i (record { r = Object 0 0 }) .r
 
--- the first n of an array are such
+-- the first n of a list are such
 pub record PartsOlder (W : List ℕ) (sp : ℕ) (ps : List Slot) (n : ℕ) : Type 0 where
   pub full : n ≤ length ps
   pub part : (i : ℕ) → i < n → Older W sp (slotAt ps i)
@@ -91,7 +91,7 @@ baseAt S i = getD S (283 + 3 * i) 0
 unfoldable pub callAt : List ℕ → ℕ → OpenCall
 callAt S i = record { receiver = refAt S (baseAt S i); name = getD S (281 + 3 * i) 0; args = argsAt S (baseAt S i + 1); n = getD S (282 + 3 * i) 0 }
 
--- ---- traces
+-- ---- traces: the open calls of a stack
 pub record CallOlder (W : List ℕ) (sp : ℕ) (c : OpenCall) : Type 0 where
   pub receiver : Older W sp (c .receiver)
   pub args : PartsOlder W sp (c .args) (c .n)
