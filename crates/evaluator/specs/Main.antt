@@ -1,4 +1,4 @@
--- What a run of main asks and answers.
+-- What a run of main answers.
 -- Not here: its report.
 use Prim.Native.Nat.{ℕ}
 use mathlib.Core.Path.{_≡_}

@@ -2,7 +2,6 @@ use Rattle.evaluator.proofs.met.apart.Statement.{statement}
 use Rattle.evaluator.proofs.met.apart.Tie as tie
 use Rattle.evaluator.proofs.met.apart.Reads as reads
 use Rattle.evaluator.proofs.met.apart.Lts as lts
-use borrow.Author.Needs.{needs}
 use Rattle.evaluator.proofs.StateLaws as laws
 
 returns : tie.Need-returns

@@ -2,7 +2,6 @@ use Rattle.evaluator.proofs.run.stop_of.Statement.{statement}
 use Rattle.evaluator.proofs.run.stop_of.Tie as tie
 use Rattle.evaluator.proofs.run.stop_of.Reads as reads
 use Rattle.evaluator.proofs.run.stop_of.Lts as lts
-use borrow.Author.Needs.{needs}
 use Rattle.evaluator.proofs.LeafLaws as laws
 
 returns : tie.Need-returns
