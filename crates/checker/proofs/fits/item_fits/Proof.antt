@@ -2,6 +2,10 @@
 use borrow.Author.Needs.{needs}
 use Rattle.checker.proofs.fits.item_fits.Statement.{statement}
 use Rattle.checker.proofs.fits.item_fits.Tie as tie
+use Rattle.checker.proofs.fits.item_fits.Reads as reads
+use Rattle.checker.proofs.fits.item_fits.Lts as lts
+use Rattle.checker.proofs.fits.fits.Reads as fits-reads
+use Rattle.checker.proofs.fits.narrow.Reads as narrow-reads
 use Rattle.checker.proofs.TypeLaws as laws
 
 returns : tie.Need-returns
@@ -14,7 +18,6 @@ pub item-fits-spec : {M : Type 1} → statement M
 item-fits-spec =
     tie.close
     (tie.spec
-    (λ c κs. search needs)
     (λ c. search needs)
     (λ c. search needs)
     returns

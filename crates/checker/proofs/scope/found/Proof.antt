@@ -2,7 +2,13 @@
 use borrow.Author.Needs.{needs}
 use Rattle.checker.proofs.scope.found.Statement.{statement}
 use Rattle.checker.proofs.scope.found.Tie as tie
+use Rattle.checker.proofs.scope.found.Reads as reads
+use Rattle.checker.proofs.scope.found.Lts as lts
+use Rattle.checker.proofs.scope.answer.Reads as answer-reads
 use Rattle.checker.proofs.TypeLaws as laws
+
+returns : tie.Need-returns
+returns c = search laws.found-none
 
 returns-2 : tie.Need-returns-2
 returns-2 c = search laws.found-type
@@ -13,5 +19,6 @@ found-spec =
     (tie.spec
     (λ c. search needs)
     (λ c. search needs)
-    (λ c. search needs)
+    returns
+    (λ c κs. search needs)
     returns-2)

@@ -2,7 +2,13 @@
 use borrow.Author.Needs.{needs}
 use Rattle.checker.proofs.scope.res_type.Statement.{statement}
 use Rattle.checker.proofs.scope.res_type.Tie as tie
+use Rattle.checker.proofs.scope.res_type.Reads as reads
+use Rattle.checker.proofs.scope.res_type.Lts as lts
+use Rattle.checker.proofs.scope.answer.Reads as answer-reads
 use Rattle.checker.proofs.TypeLaws as laws
+
+returns : tie.Need-returns
+returns c = search laws.res-none
 
 returns-2 : tie.Need-returns-2
 returns-2 c = search laws.res-class
@@ -13,5 +19,6 @@ res-type-spec =
     (tie.spec
     (λ c. search needs)
     (λ c. search needs)
-    (λ c. search needs)
+    returns
+    (λ c κs. search needs)
     returns-2)

@@ -2,7 +2,14 @@
 use borrow.Author.Needs.{needs}
 use Rattle.checker.proofs.scope.this_type.Statement.{statement}
 use Rattle.checker.proofs.scope.this_type.Tie as tie
+use Rattle.checker.proofs.scope.this_type.Reads as reads
+use Rattle.checker.proofs.scope.this_type.Lts as lts
+use Rattle.checker.proofs.scope.answer.Reads as answer-reads
+use Rattle.classes.proofs.methods.owner.Reads as owner-reads
 use Rattle.checker.proofs.TypeLaws as laws
+
+returns : tie.Need-returns
+returns c = search laws.this-main
 
 returns-2 : tie.Need-returns-2
 returns-2 c = search laws.this-body
@@ -11,6 +18,7 @@ pub this-type-spec : {M : Type 1} → statement M
 this-type-spec =
     tie.close
     (tie.spec
-    (λ c. search needs)
+    returns
+    (λ c κs. search needs)
     (λ c κs. search needs)
     returns-2)
