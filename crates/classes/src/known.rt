@@ -76,7 +76,7 @@ pub fn all_known(s: &[u8], at: usize, n: u8) -> bool
 }
 
 // Where the expression at `at` of a frame ends, by counting: k expressions are still to come from `a` on. Not tested: that it is one.
-pub fn expr_end(s: &[u8], at: usize) -> usize
+pub fn skip_expr(s: &[u8], at: usize) -> usize
     requires { ⌜ length (now s) ≤ lineSize ⌝ }
     ensures { λ r. ⌜ r ≡ at + past 1 0 (drop at (now (s .entry))) ⌝ }
 {

@@ -2,8 +2,8 @@
 // Not here: the order of the lines (build), overriding (overrides).
 use crate::chain::field_total;
 use crate::known::all_known;
-use crate::known::expr_end;
 use crate::known::method_good;
+use crate::known::skip_expr;
 use crate::known::types_good;
 use crate::methods::Found;
 use crate::methods::own_method;
@@ -87,7 +87,7 @@ pub fn right_in(l: &[u8]) -> Place
     requires { ⌜ (8 ≤ length (now l)) × (length (now l) ≤ lineSize) ⌝ }
     ensures { λ r. ⌜ r ≡ rightIn (now (l .entry)) ⌝ }
 {
-    let b = expr_end(l, 8 + 2 * wide(l[7]));
+    let b = skip_expr(l, 8 + 2 * wide(l[7]));
     if 255 < b {
         return Place::Nothing;
     }

@@ -1,8 +1,8 @@
--- `known::expr_end` meets its contract: a law of LineLaws for each way on. The loop keeps where the k expressions from a on end.
-use Rattle.classes.proofs.known.expr_end.Statement.{statement}
-use Rattle.classes.proofs.known.expr_end.Tie as tie
-use Rattle.classes.proofs.known.expr_end.Reads as reads
-use Rattle.classes.proofs.known.expr_end.Lts as lts
+-- `known::skip_expr` meets its contract: a law of LineLaws for each way on. The loop keeps where the k expressions from a on end.
+use Rattle.classes.proofs.known.skip_expr.Statement.{statement}
+use Rattle.classes.proofs.known.skip_expr.Tie as tie
+use Rattle.classes.proofs.known.skip_expr.Reads as reads
+use Rattle.classes.proofs.known.skip_expr.Lts as lts
 use Rattle.classes.proofs.places.wide.Reads as wide-reads
 use borrow.Author.Needs.{needs}
 use Prim.Native.Nat.{_-_, _+_, _*_, _≤_}
@@ -45,8 +45,8 @@ loop-again-5 c = (search needs, search needs, search laws.past-new)
 returns-3 : tie.Need-returns-3 Inv-loop μ-loop
 returns-3 c = search laws.past-none
 
-pub expr-end-spec : {M : Type 1} → statement M
-expr-end-spec =
+pub skip-expr-spec : {M : Type 1} → statement M
+skip-expr-spec =
     tie.close
     (tie.spec
     Inv-loop
