@@ -13,7 +13,7 @@ use Rattle.classes.specs.declared.chain.FieldFound.the-variants as field
 use Rattle.classes.specs.declared.methods.Found.{Found}
 use Rattle.classes.specs.declared.methods.Found.the-variants as method
 use Rattle.classes.specs.Machine.{pick, fitsOf, typeAt, fieldOf, paramOf, lookupOf, rowOf}
-use Rattle.checker.specs.Items.{Parameters, Fields}
+use Rattle.checker.specs.Items.{Fields}
 use Rattle.checker.specs.Typed.{Has}
 use Rattle.checker.specs.declared.scope.Res.{Res}
 use Rattle.checker.specs.declared.scope.Res.the-variants.{Absent, Class}

@@ -16,14 +16,11 @@ use Rattle.classes.specs.declared.methods.Found.the-variants as method
 use Rattle.classes.specs.Machine.{pick, fieldOf}
 use Rattle.classes.specs.Figures.{tableSize}
 use Rattle.cofj.specs.Limits.{nestingLimit}
-use Rattle.checker.specs.Items.{Items}
 use Rattle.checker.specs.Items.{Parameters, Fields}
 use Rattle.checker.specs.Typed.{Typed}
 use Rattle.checker.specs.Typed.{Has, No}
 use Rattle.checker.specs.declared.scope.Scope.{Scope}
-use Rattle.checker.specs.Listed.{Listed}
 use Rattle.checker.specs.Listed as list
-use Rattle.checker.specs.declared.shape.Shape.{Shape}
 use Rattle.checker.specs.declared.shape.Shape.the-variants as shape
 use Rattle.checker.specs.Numbers.{Packs}
 use Rattle.checker.specs.Shapes.{byteOf, shapeOf, shapeAt}

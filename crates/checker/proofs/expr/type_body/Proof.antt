@@ -2,10 +2,6 @@
 use borrow.Author.Needs.{needs}
 use Rattle.checker.proofs.expr.type_body.Statement.{statement}
 use Rattle.checker.proofs.expr.type_body.Tie as tie
-use Rattle.checker.proofs.expr.type_body.Reads as reads
-use Rattle.checker.proofs.expr.type_body.Lts as lts
-use Rattle.checker.proofs.expr.type_parts.Reads as type-parts-reads
-use Rattle.checker.proofs.expr.type_var.Reads as type-var-reads
 use Rattle.checker.proofs.WalkLaws as laws
 
 returns : tie.Need-returns

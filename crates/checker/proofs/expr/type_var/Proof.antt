@@ -2,12 +2,6 @@
 use borrow.Author.Needs.{needs}
 use Rattle.checker.proofs.expr.type_var.Statement.{statement}
 use Rattle.checker.proofs.expr.type_var.Tie as tie
-use Rattle.checker.proofs.expr.type_var.Reads as reads
-use Rattle.checker.proofs.expr.type_var.Lts as lts
-use Rattle.checker.proofs.scope.param_var.Reads as param-var-reads
-use Rattle.checker.proofs.scope.res_type.Reads as res-type-reads
-use Rattle.checker.proofs.scope.this_type.Reads as this-type-reads
-use Rattle.checker.proofs.shape.byte_at.Reads as byte-at-reads
 use Rattle.checker.proofs.WalkLaws as laws
 
 returns : tie.Need-returns

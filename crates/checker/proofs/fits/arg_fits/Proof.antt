@@ -2,11 +2,6 @@
 use borrow.Author.Needs.{needs}
 use Rattle.checker.proofs.fits.arg_fits.Statement.{statement}
 use Rattle.checker.proofs.fits.arg_fits.Tie as tie
-use Rattle.checker.proofs.fits.arg_fits.Reads as reads
-use Rattle.checker.proofs.fits.arg_fits.Lts as lts
-use Rattle.checker.proofs.fits.closed_tag.Reads as closed-tag-reads
-use Rattle.checker.proofs.fits.item_fits.Reads as item-fits-reads
-use Rattle.classes.proofs.methods.param_type.Reads as param-type-reads
 use Rattle.checker.proofs.TypeLaws as laws
 
 returns : tie.Need-returns

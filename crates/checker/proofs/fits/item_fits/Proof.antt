@@ -2,10 +2,6 @@
 use borrow.Author.Needs.{needs}
 use Rattle.checker.proofs.fits.item_fits.Statement.{statement}
 use Rattle.checker.proofs.fits.item_fits.Tie as tie
-use Rattle.checker.proofs.fits.item_fits.Reads as reads
-use Rattle.checker.proofs.fits.item_fits.Lts as lts
-use Rattle.checker.proofs.fits.fits.Reads as fits-reads
-use Rattle.checker.proofs.fits.narrow.Reads as narrow-reads
 use Rattle.checker.proofs.TypeLaws as laws
 
 returns : tie.Need-returns

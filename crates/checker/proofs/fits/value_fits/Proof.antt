@@ -2,10 +2,6 @@
 use borrow.Author.Needs.{needs}
 use Rattle.checker.proofs.fits.value_fits.Statement.{statement}
 use Rattle.checker.proofs.fits.value_fits.Tie as tie
-use Rattle.checker.proofs.fits.value_fits.Reads as reads
-use Rattle.checker.proofs.fits.value_fits.Lts as lts
-use Rattle.checker.proofs.fits.item_fits.Reads as item-fits-reads
-use Rattle.classes.proofs.chain.field_type.Reads as field-type-reads
 use Rattle.checker.proofs.TypeLaws as laws
 
 returns : tie.Need-returns

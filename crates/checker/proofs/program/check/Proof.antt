@@ -2,12 +2,6 @@
 use borrow.Author.Needs.{needs}
 use Rattle.checker.proofs.program.check.Statement.{statement}
 use Rattle.checker.proofs.program.check.Tie as tie
-use Rattle.checker.proofs.program.check.Reads as reads
-use Rattle.checker.proofs.program.check.Lts as lts
-use Rattle.checker.proofs.expr.type_body.Reads as type-body-reads
-use Rattle.checker.proofs.program.methods_typed.Reads as methods-typed-reads
-use Rattle.checker.proofs.scope.class_of.Reads as class-of-reads
-use Rattle.checker.proofs.scope.tag_of.Reads as tag-of-reads
 use Rattle.checker.proofs.ProgramLaws as laws
 
 returns : tie.Need-returns

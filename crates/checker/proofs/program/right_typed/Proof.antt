@@ -2,13 +2,6 @@
 use borrow.Author.Needs.{needs}
 use Rattle.checker.proofs.program.right_typed.Statement.{statement}
 use Rattle.checker.proofs.program.right_typed.Tie as tie
-use Rattle.checker.proofs.program.right_typed.Reads as reads
-use Rattle.checker.proofs.program.right_typed.Lts as lts
-use Rattle.checker.proofs.expr.type_body.Reads as type-body-reads
-use Rattle.checker.proofs.program.results_fit.Reads as results-fit-reads
-use Rattle.checker.proofs.scope.class_of.Reads as class-of-reads
-use Rattle.checker.proofs.scope.tag_of.Reads as tag-of-reads
-use Rattle.classes.proofs.methods.right_place.Reads as right-place-reads
 use Rattle.checker.proofs.ProgramLaws as laws
 
 returns : tie.Need-returns

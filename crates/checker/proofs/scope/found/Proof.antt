@@ -2,9 +2,6 @@
 use borrow.Author.Needs.{needs}
 use Rattle.checker.proofs.scope.found.Statement.{statement}
 use Rattle.checker.proofs.scope.found.Tie as tie
-use Rattle.checker.proofs.scope.found.Reads as reads
-use Rattle.checker.proofs.scope.found.Lts as lts
-use Rattle.checker.proofs.scope.answer.Reads as answer-reads
 use Rattle.checker.proofs.TypeLaws as laws
 
 returns : tie.Need-returns

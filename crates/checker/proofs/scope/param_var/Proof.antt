@@ -2,10 +2,6 @@
 use borrow.Author.Needs.{needs}
 use Rattle.checker.proofs.scope.param_var.Statement.{statement}
 use Rattle.checker.proofs.scope.param_var.Tie as tie
-use Rattle.checker.proofs.scope.param_var.Reads as reads
-use Rattle.checker.proofs.scope.param_var.Lts as lts
-use Rattle.checker.proofs.scope.found.Reads as found-reads
-use Rattle.classes.proofs.methods.param_type.Reads as param-type-reads
 use Rattle.checker.proofs.TypeLaws as laws
 
 returns : tie.Need-returns

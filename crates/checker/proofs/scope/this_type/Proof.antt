@@ -2,10 +2,6 @@
 use borrow.Author.Needs.{needs}
 use Rattle.checker.proofs.scope.this_type.Statement.{statement}
 use Rattle.checker.proofs.scope.this_type.Tie as tie
-use Rattle.checker.proofs.scope.this_type.Reads as reads
-use Rattle.checker.proofs.scope.this_type.Lts as lts
-use Rattle.checker.proofs.scope.answer.Reads as answer-reads
-use Rattle.classes.proofs.methods.owner.Reads as owner-reads
 use Rattle.checker.proofs.TypeLaws as laws
 
 returns : tie.Need-returns

@@ -1,9 +1,6 @@
 use borrow.Author.Needs.{needs}
 use Rattle.classes.proofs.chain.field_type.Statement.{statement}
 use Rattle.classes.proofs.chain.field_type.Tie as tie
-use Rattle.classes.proofs.chain.field_type.Reads as reads
-use Rattle.classes.proofs.chain.field_type.Lts as lts
-use Rattle.classes.proofs.chain.field_place.Reads as field-place-reads
 use Rattle.classes.proofs.Laws as laws
 
 returns : tie.Need-returns

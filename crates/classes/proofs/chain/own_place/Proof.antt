@@ -1,8 +1,6 @@
 use borrow.Author.Needs.{needs}
 use Rattle.classes.proofs.chain.own_place.Statement.{statement}
 use Rattle.classes.proofs.chain.own_place.Tie as tie
-use Rattle.classes.proofs.chain.own_place.Reads as reads
-use Rattle.classes.proofs.chain.own_place.Lts as lts
 use Rattle.classes.proofs.Laws as laws
 
 returns : tie.Need-returns

@@ -1,9 +1,6 @@
 use borrow.Author.Needs.{needs}
 use Rattle.classes.proofs.methods.lookup.Statement.{statement}
 use Rattle.classes.proofs.methods.lookup.Tie as tie
-use Rattle.classes.proofs.methods.lookup.Reads as reads
-use Rattle.classes.proofs.methods.lookup.Lts as lts
-use Rattle.classes.proofs.methods.lookup_number.Reads as lookup-number-reads
 use Rattle.classes.proofs.Laws as laws
 
 returns : tie.Need-returns

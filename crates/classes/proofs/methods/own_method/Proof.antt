@@ -1,9 +1,6 @@
 use borrow.Author.Needs.{needs}
 use Rattle.classes.proofs.methods.own_method.Statement.{statement}
 use Rattle.classes.proofs.methods.own_method.Tie as tie
-use Rattle.classes.proofs.methods.own_method.Reads as reads
-use Rattle.classes.proofs.methods.own_method.Lts as lts
-use Rattle.classes.proofs.methods.own_number.Reads as own-number-reads
 use Rattle.classes.proofs.Laws as laws
 
 returns : tie.Need-returns

@@ -1,8 +1,6 @@
 use borrow.Author.Needs.{needs}
 use Rattle.classes.proofs.methods.own_number.Statement.{statement}
 use Rattle.classes.proofs.methods.own_number.Tie as tie
-use Rattle.classes.proofs.methods.own_number.Reads as reads
-use Rattle.classes.proofs.methods.own_number.Lts as lts
 use Rattle.classes.proofs.Laws as laws
 
 returns : tie.Need-returns

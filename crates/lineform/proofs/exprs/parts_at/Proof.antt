@@ -2,9 +2,6 @@
 use borrow.Author.Needs.{needs}
 use Rattle.lineform.proofs.exprs.parts_at.Statement.{statement}
 use Rattle.lineform.proofs.exprs.parts_at.Tie as tie
-use Rattle.lineform.proofs.exprs.parts_at.Reads as reads
-use Rattle.lineform.proofs.exprs.parts_at.Lts as lts
-use Rattle.lineform.proofs.exprs.counted.Reads as counted-reads
 use Rattle.lineform.proofs.ExprLaws as laws
 
 returns : tie.Need-returns

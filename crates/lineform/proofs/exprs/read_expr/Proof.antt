@@ -2,10 +2,6 @@
 -- on, which outweighs the parts that it may open; else the counts fall, or a level is closed.
 use Rattle.lineform.proofs.exprs.read_expr.Statement.{statement}
 use Rattle.lineform.proofs.exprs.read_expr.Tie as tie
-use Rattle.lineform.proofs.exprs.read_expr.Reads as reads
-use Rattle.lineform.proofs.exprs.read_expr.Lts as lts
-use Rattle.lineform.proofs.exprs.parts_at.Reads as parts-at-reads
-use Rattle.lineform.proofs.exprs.sign_size.Reads as sign-size-reads
 use borrow.Author.Needs.{needs}
 use Prim.Native.Nat.{_+_, _*_, _-_}
 use lib.ListN.{length, drop}

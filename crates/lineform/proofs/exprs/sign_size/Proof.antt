@@ -1,8 +1,6 @@
 -- `exprs::sign_size` meets its contract: a law of ExprLaws at each return.
 use Rattle.lineform.proofs.exprs.sign_size.Statement.{statement}
 use Rattle.lineform.proofs.exprs.sign_size.Tie as tie
-use Rattle.lineform.proofs.exprs.sign_size.Reads as reads
-use Rattle.lineform.proofs.exprs.sign_size.Lts as lts
 use borrow.Author.Needs.{needs}
 use Rattle.lineform.proofs.ExprLaws as laws
 

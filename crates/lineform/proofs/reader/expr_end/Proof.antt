@@ -1,9 +1,7 @@
+-- `reader::expr_end` meets its contract: a law of Ends at each return.
 use borrow.Author.Needs.{needs}
 use Rattle.lineform.proofs.reader.expr_end.Statement.{statement}
 use Rattle.lineform.proofs.reader.expr_end.Tie as tie
-use Rattle.lineform.proofs.reader.expr_end.Reads as reads
-use Rattle.lineform.proofs.reader.expr_end.Lts as lts
-use Rattle.lineform.proofs.exprs.read_expr.Reads as read-expr-reads
 use Rattle.lineform.proofs.Ends as laws
 
 returns : tie.Need-returns
