@@ -255,11 +255,15 @@ module _ (B : List ℕ) (one : Walk) (c n at x : ℕ) (ex : x ≡ getD B (16 * c
   new-is r q p = rw (← ex, eq-eqb x n q) p
 
 -- ---- its values
-pub stays-same : (closed : Bool) (g : ℕ) (b : Bool) → b ≡ closedTag g → b ≡ true → closed ≡ pick (closedTag g) closed false
-stays-same closed g b e z = rw (← e, z)
+module _ (closed : Bool) (g : ℕ) where
+  pub stays-zero : g ≡ 0 → closed ≡ pick (closedTag g) closed false
+  stays-zero e = rw e
 
-pub stays-open : (closed : Bool) (g : ℕ) (b : Bool) → b ≡ closedTag g → b ≡ false → false ≡ pick (closedTag g) closed false
-stays-open closed g b e z = rw (← e, z)
+  pub stays-three : g ≡ 3 → closed ≡ pick (closedTag g) closed false
+  stays-three e = rw e
+
+  pub stays-open : (g ≡ 0 → ⊥) → (g ≡ 3 → ⊥) → false ≡ pick (closedTag g) closed false
+  stays-open m n = rw (ne-eqb g 0 m, ne-eqb g 3 n)
 
 pub values-start : (B : List ℕ) (one : Walk) (c n at : ℕ) → newThen c (listBy B one (Fields c) 0 (n - 0) true at) ≡ newThen c (listBy B one (Fields c) 0 n true at)
 values-start B one c n at = ap (λ (m : ℕ). newThen c (listBy B one (Fields c) 0 m true at)) (let e : n - 0 ≡ n = omega arith in e)

@@ -1,7 +1,6 @@
 // The type of an expression: it calls the walks over its parts, which call it back, while the nesting left falls.
 // Not here: what a call or a new object asks of a type (fits), methods and main (program).
 use crate::fits::arg_fits;
-use crate::fits::closed_tag;
 use crate::fits::receiver;
 use crate::fits::result_type;
 use crate::fits::value_fits;
@@ -170,7 +169,10 @@ pub fn type_new(t: &[u8; SIZE], scope: Scope, c: u8, n: u8, at: usize, left: usi
 fn stays_closed(closed: bool, tag: u8) -> bool
     ensures { λ r. ⌜ r ≡ pick (closedTag tag) closed false ⌝ }
 {
-    if closed_tag(tag) {
+    if tag == 0 {
+        return closed;
+    }
+    if tag == 3 {
         return closed;
     }
     false
