@@ -6,10 +6,8 @@ ghost use Rattle.cofj.specs.Limits.{nestingLimit};
 ghost use Rattle.cofj.specs.Frames.{expr};
 ghost use Rattle.lineform.specs.Answers.{endOf};
 ghost use Rattle.lineform.specs.Places.{byteOf, readerAt};
-use crate::exprs::NESTING_LIMIT;
 use crate::exprs::ReadExpr;
 use crate::exprs::read_expr;
-use crate::exprs::sign_at;
 
 pub struct LineReader<'a> {
     pub line: &'a [u8],
@@ -35,8 +33,7 @@ pub fn byte_of(s: &[u8], at: usize) -> AtPlace
 pub fn expr_end(s: &[u8], at: usize) -> ReadExpr
     ensures { λ r. ⌜ r ≡ endOf (now (s .entry)) (expr nestingLimit (drop at (now (s .entry)))) ⌝ }
 {
-    let g = sign_at(s, at);
-    let a = read_expr(s, g.next, g.parts, NESTING_LIMIT);
+    let a = read_expr(s, at);
     if s.len() < a {
         return ReadExpr::Refused;
     }
