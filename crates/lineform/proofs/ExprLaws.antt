@@ -1,5 +1,5 @@
 -- Laws of types and expressions, in the form in which the needs of exprs cite them: one for each return.
-use Prim.Native.Nat.{ℕ, zero, suc, _+_, _-_, _*_, _%_, _/_, _<_, _≤_}
+use Prim.Native.Nat.{ℕ, zero, suc, _+_, _-_, _<_, _≤_}
 use native.Mathlib.Omega.{arith}
 use native.Mathlib.Numerals.{sub-one}
 use mathlib.Core.Path.{_≡_, refl, sym, ap, _∙_}
@@ -14,10 +14,11 @@ use Rattle.cofj.specs.Syntax.{Expr, field, call, new, done, also, ty}
 use Rattle.cofj.specs.Frames.{Got, Reader, got, type, types, exprsBy, fieldAfter, callAfter, newAfter, exprAfter, expr}
 use Rattle.cofj.specs.Writing.{codeOf, typesBytes}
 use Rattle.cofj.proofs.FrameRound.{expr-back, types-back}
+use Rattle.lineform.specs.declared.exprs.Sign.{Sign}
 use Rattle.lineform.specs.declared.exprs.ReadExpr.{ReadExpr}
 use Rattle.lineform.specs.declared.exprs.ReadExpr.the-variants.{Next, Refused}
-use Rattle.lineform.specs.Answers.{endOf, endIn, pick, partsAt, signSize, SignSize}
-use Rattle.lineform.proofs.Ends.{more, no-more, tail-at, Leaves, same-end, end-here}
+use Rattle.lineform.specs.Answers.{endOf, endIn, pick, after, noSign, partsAt, countedSign, longSign, signAt, endBy}
+use Rattle.lineform.proofs.Ends.{more, no-more, tail-at, Leaves, same-end, end-here, number-refused, number-next}
 
 pub expr-leaves : (s : List ℕ) (left at : ℕ) → Leaves s (expr left (drop at s))
 expr-leaves s left at = record { tail = λ g e. tail-at s at (codeOf (g .item)) (g .rest) (expr-back left (drop at s) g e) }
@@ -163,136 +164,154 @@ module _ (s : List ℕ) (left at : ℕ) where
                 (sym (new-parts s (expr (left - 1)) (getD s (at + 1) 0) (getD s (at + 1 + 1) 0) (drop (at + 1 + 1 + 1) s) (omega arith))))
 
 -- ---- signs: one law for each return
-module _ (b : ℕ) where
-  pub size-one : b < 0x42 → SignSize b 1
-  size-one h = record { same = rw (lt-ltb b 0x42 h); low = omega arith; high = omega arith }
+pub counted-high : (s : List ℕ) (at b : ℕ) (g : Sign) → 0x45 < b → g ≡ noSign s → g ≡ countedSign s at b
+unfolding countedSign
+counted-high s at b g l e = rw (lt-ltb 0x45 b l) e
 
-  pub size-two : 0x42 ≤ b → b < 0x44 → SignSize b 2
-  size-two h l = record { same = rw (le-ltb b 0x42 h, lt-ltb b 0x44 l); low = omega arith; high = omega arith }
+module _ (s : List ℕ) (at b : ℕ) (top : b ≤ 0x45) where
+  pub counted-short : (g : Sign) → length s ≤ at + 1 + 1 → g ≡ noSign s → g ≡ countedSign s at b
+  unfolding countedSign
+  counted-short g k e = rw (le-ltb 0x45 b top, le-leb (length s) (at + 1 + 1) k) e
 
-  pub size-three : 0x42 ≤ b → 0x44 ≤ b → SignSize b 3
-  size-three h l = record { same = rw (le-ltb b 0x42 h, le-ltb b 0x44 l); low = omega arith; high = omega arith }
+  module _ (h : at + 1 + 1 < length s) (n : ℕ) (en : n ≡ getD s (at + 1 + 1) 0 + (0x45 - b)) where
+    pub counted-over : (g : Sign) → 4 < n → g ≡ noSign s → g ≡ countedSign s at b
+    unfolding countedSign
+    counted-over g k e = rw (le-ltb 0x45 b top, lt-leb (length s) (at + 1 + 1) h, ← en, lt-ltb 4 n k) e
 
-module _ (s : List ℕ) (at b : ℕ) where
-  pub parts-one : b ≡ 0x43 → 1 ≡ partsAt s at b
-  unfolding partsAt
-  parts-one e = rw (eq-eqb b 0x43 e)
+    pub counted-parts : n ≤ 4 → after (at + 1 + 1 + 1) n ≡ countedSign s at b
+    unfolding countedSign
+    counted-parts k = rw (le-ltb 0x45 b top, lt-leb (length s) (at + 1 + 1) h, ← en, le-ltb 4 n k)
 
-  module _ (n : (b ≡ 0x43) → ⊥) where
-    pub parts-high : 0x45 < b → 5 ≡ partsAt s at b
-    unfolding partsAt
-    parts-high l = rw (ne-eqb b 0x43 n, lt-ltb 0x45 b l)
+module _ (s : List ℕ) (at : ℕ) where
+  pub sign-end : (g : Sign) → length s ≤ at → g ≡ noSign s → g ≡ signAt s at
+  unfolding signAt
+  sign-end g h e = rw (le-leb (length s) at h) e
 
-    module _ (l : b ≤ 0x45) where
-      pub parts-short : length s ≤ at + 2 → 5 ≡ partsAt s at b
-      unfolding partsAt
-      parts-short h = rw (ne-eqb b 0x43 n, le-ltb 0x45 b l, le-leb (length s) (at + 2) h)
+  module _ (h : at < length s) where
+    pub sign-low : (g : Sign) → getD s at 0 < 0x42 → getD s at 0 < 0x40 → g ≡ noSign s → g ≡ signAt s at
+    unfolding signAt
+    sign-low g l k e = rw (lt-leb (length s) at h, lt-ltb (getD s at 0) 0x42 l, lt-ltb (getD s at 0) 0x40 k) e
 
-      pub parts-counted : (x : ℕ) → at + 2 < length s → x ≡ getD s (at + 2) 0 + (0x45 - b) → x ≡ partsAt s at b
-      unfolding partsAt
-      parts-counted x h e = rw (ne-eqb b 0x43 n, le-ltb 0x45 b l, lt-leb (length s) (at + 2) h) e
+    pub sign-leaf : getD s at 0 < 0x42 → 0x40 ≤ getD s at 0 → after (at + 1) 0 ≡ signAt s at
+    unfolding signAt
+    sign-leaf l k = rw (lt-leb (length s) at h, lt-ltb (getD s at 0) 0x42 l, le-ltb (getD s at 0) 0x40 k)
 
--- what the sign at `at` says of the place where its expression ends
-data Says (s : List ℕ) (left at next p : ℕ) : Type 0 where
-  nothing : 4 < p → length s + 1 ≡ endIn s (expr left (drop at s)) → Says s left at next p
-  whole : p ≡ 0 → next ≡ endIn s (expr left (drop at s)) → Says s left at next p
-  parted : 1 ≤ p → p ≤ 4 → endIn s (exprsBy (expr (left - 1)) p (drop next s)) ≡ endIn s (expr left (drop at s)) → Says s left at next p
+    module _ (l : 0x42 ≤ getD s at 0) where
+      long : signAt s at ≡ longSign s at (getD s at 0)
+      unfolding signAt
+      long = rw (lt-leb (length s) at h, le-ltb (getD s at 0) 0x42 l)
 
-module _ (s : List ℕ) (left at : ℕ) (nz : 1 ≤ left) (h : at < length s) where
-  -- a variable; past the end if its byte is missing
-  var-says : 0x40 ≤ getD s at 0 → getD s at 0 < 0x43 → at + signSize (getD s at 0) ≡ endIn s (expr left (drop at s))
-  var-says lo hi = go (ltb (getD s at 0) 0x42) refl
+      pub sign-short : (g : Sign) → length s ≤ at + 1 → g ≡ noSign s → g ≡ signAt s at
+      unfolding longSign
+      sign-short g k e = rw (long, le-leb (length s) (at + 1) k) e
+
+      module _ (h1 : at + 1 < length s) where
+        pub sign-param : getD s at 0 ≡ 0x42 → after (at + 1 + 1) 0 ≡ signAt s at
+        unfolding longSign
+        sign-param e = rw (long, lt-leb (length s) (at + 1) h1, eq-eqb (getD s at 0) 0x42 e)
+
+        module _ (n2 : (getD s at 0 ≡ 0x42) → ⊥) where
+          pub sign-field : getD s at 0 ≡ 0x43 → after (at + 1 + 1) 1 ≡ signAt s at
+          unfolding longSign
+          sign-field e = rw (long, lt-leb (length s) (at + 1) h1, ne-eqb (getD s at 0) 0x42 n2, eq-eqb (getD s at 0) 0x43 e)
+
+          pub sign-counted : (g : Sign) → ((getD s at 0 ≡ 0x43) → ⊥) → g ≡ countedSign s at (getD s at 0) → g ≡ signAt s at
+          unfolding longSign
+          sign-counted g n3 e = rw (long, lt-leb (length s) (at + 1) h1, ne-eqb (getD s at 0) 0x42 n2, ne-eqb (getD s at 0) 0x43 n3) e
+
+-- an expression ends where its sign says
+abbrev ends : List ℕ → ℕ → Sign → ℕ
+ends s left g = endBy s left (g .next) (g .parts)
+
+module _ (s : List ℕ) (left at : ℕ) (nz : 1 ≤ left) where
+  by-no-sign : length s + 1 ≡ endIn s (expr left (drop at s)) → ends s left (noSign s) ≡ endIn s (expr left (drop at s))
+  unfolding endBy
+  by-no-sign e = e
+
+  module _ (h : at < length s) (l : 0x42 ≤ getD s at 0) (h1 : at + 1 < length s) where
+    by-counted : ((getD s at 0 ≡ 0x42) → ⊥) → ((getD s at 0 ≡ 0x43) → ⊥) → ends s left (countedSign s at (getD s at 0)) ≡ endIn s (expr left (drop at s))
+    unfolding countedSign endBy
+    by-counted n2 n3 = high (ltb 0x45 (getD s at 0)) refl
+      where
+        parts : getD s at 0 ≤ 0x45 → at + 1 + 1 < length s → partsAt s at (getD s at 0) ≤ 4 → (z : Bool) → eqb (partsAt s at (getD s at 0)) 0 ≡ z
+            → pick z (at + 1 + 1 + 1) (endIn s (exprsBy (expr (left - 1)) (partsAt s at (getD s at 0)) (drop (at + 1 + 1 + 1) s))) ≡ endIn s (expr left (drop at s))
+        parts t h2 k true q =
+            at-parts s left at nz h l h1 n2 n3 t h2 (partsAt s at (getD s at 0)) refl (at + 1 + 1 + 1) k
+            (rw (eqb-true (partsAt s at (getD s at 0)) 0 q) (list-none s (left - 1) (at + 1 + 1 + 1) (omega arith)))
+        parts t h2 k false q =
+            at-parts s left at nz h l h1 n2 n3 t h2 (partsAt s at (getD s at 0)) refl (endIn s (exprsBy (expr (left - 1)) (partsAt s at (getD s at 0)) (drop (at + 1 + 1 + 1) s))) k refl
+
+        over : getD s at 0 ≤ 0x45 → at + 1 + 1 < length s → (z : Bool) → ltb 4 (partsAt s at (getD s at 0)) ≡ z
+            → ends s left (pick z (noSign s) (after (at + 1 + 1 + 1) (partsAt s at (getD s at 0)))) ≡ endIn s (expr left (drop at s))
+        over t h2 true q = at-over s left at nz h l h1 n2 n3 t h2 (partsAt s at (getD s at 0)) refl (ltb-true 4 (partsAt s at (getD s at 0)) q)
+        over t h2 false q = parts t h2 (ltb-false 4 (partsAt s at (getD s at 0)) q) (eqb (partsAt s at (getD s at 0)) 0) refl
+
+        short : getD s at 0 ≤ 0x45 → (z : Bool) → leb (length s) (at + 1 + 1) ≡ z
+            → ends s left (pick z (noSign s) (pick (ltb 4 (partsAt s at (getD s at 0))) (noSign s) (after (at + 1 + 1 + 1) (partsAt s at (getD s at 0))))) ≡ endIn s (expr left (drop at s))
+        short t true q = at-short2 s left at nz h l h1 n2 n3 t (leb-true (length s) (at + 1 + 1) q)
+        short t false q = over t (leb-false (length s) (at + 1 + 1) q) (ltb 4 (partsAt s at (getD s at 0))) refl
+
+        high : (z : Bool) → ltb 0x45 (getD s at 0) ≡ z
+            → ends s left (pick z (noSign s) (pick (leb (length s) (at + 1 + 1)) (noSign s) (pick (ltb 4 (partsAt s at (getD s at 0))) (noSign s) (after (at + 1 + 1 + 1) (partsAt s at (getD s at 0)))))) ≡ endIn s (expr left (drop at s))
+        high true q = at-high s left at nz h l h1 (ltb-true 0x45 (getD s at 0) q)
+        high false q = short (ltb-false 0x45 (getD s at 0) q) (leb (length s) (at + 1 + 1)) refl
+
+  by-long : (h : at < length s) (l : 0x42 ≤ getD s at 0) → ends s left (longSign s at (getD s at 0)) ≡ endIn s (expr left (drop at s))
+  unfolding longSign endBy
+  by-long h l = short (leb (length s) (at + 1)) refl
     where
-      two : 0x42 ≤ getD s at 0 → (z : Bool) → ltb (at + 1) (length s) ≡ z → at + 2 ≡ endIn s (expr left (drop at s))
-      two l true q =
-          let e : at + 2 ≡ at + 1 + 1 = omega arith in
-          e ∙ at-param s left at nz h l (ltb-true (at + 1) (length s) q) (omega arith)
-      two l false q =
-          let k = ltb-false (at + 1) (length s) q in
-          let e : at + 2 ≡ length s + 1 = omega arith in
-          e ∙ at-short s left at nz h l k
+      field-one : at + 1 < length s → ((getD s at 0 ≡ 0x42) → ⊥) → (z : Bool) → eqb (getD s at 0) 0x43 ≡ z
+          → ends s left (pick z (after (at + 1 + 1) 1) (countedSign s at (getD s at 0))) ≡ endIn s (expr left (drop at s))
+      field-one h1 n2 true q = at-field s left at nz h l h1 (endIn s (exprsBy (expr (left - 1)) 1 (drop (at + 1 + 1) s))) (eqb-true (getD s at 0) 0x43 q) refl
+      field-one h1 n2 false q = by-counted h l h1 n2 (eqb-false (getD s at 0) 0x43 q)
 
-      go : (z : Bool) → ltb (getD s at 0) 0x42 ≡ z → at + pick z 1 (pick (ltb (getD s at 0) 0x44) 2 3) ≡ endIn s (expr left (drop at s))
-      go true q = at-leaf s left at nz h (ltb-true (getD s at 0) 0x42 q) lo
-      go false q = rw (lt-ltb (getD s at 0) 0x44 (omega arith)) (two (ltb-false (getD s at 0) 0x42 q) (ltb (at + 1) (length s)) refl)
+      param-one : at + 1 < length s → (z : Bool) → eqb (getD s at 0) 0x42 ≡ z
+          → ends s left (pick z (after (at + 1 + 1) 0) (pick (eqb (getD s at 0) 0x43) (after (at + 1 + 1) 1) (countedSign s at (getD s at 0)))) ≡ endIn s (expr left (drop at s))
+      param-one h1 true q = at-param s left at nz h l h1 (eqb-true (getD s at 0) 0x42 q)
+      param-one h1 false q = field-one h1 (eqb-false (getD s at 0) 0x42 q) (eqb (getD s at 0) 0x43) refl
 
-  module _ (hi : 0x43 ≤ getD s at 0) where
-    field-says : getD s at 0 ≡ 0x43 → Says s left at (at + 2) 1
-    unfolding exprsBy
-    field-says b = parted (omega arith) (omega arith) (go (ltb (at + 1) (length s)) refl)
-      where
-        go : (z : Bool) → ltb (at + 1) (length s) ≡ z → endIn s (exprsBy (expr (left - 1)) 1 (drop (at + 2) s)) ≡ endIn s (expr left (drop at s))
-        go true q =
-            let e : at + 2 ≡ at + 1 + 1 = omega arith in
-            rw e (at-field s left at nz h (omega arith) (ltb-true (at + 1) (length s) q) _ b refl)
-        go false q =
-            let k = ltb-false (at + 1) (length s) q in
-            rw (no-more s (at + 2) (omega arith), empty (left - 1)) (at-short s left at nz h (omega arith) k)
+      short : (z : Bool) → leb (length s) (at + 1) ≡ z
+          → ends s left (pick z (noSign s) (pick (eqb (getD s at 0) 0x42) (after (at + 1 + 1) 0) (pick (eqb (getD s at 0) 0x43) (after (at + 1 + 1) 1) (countedSign s at (getD s at 0))))) ≡ endIn s (expr left (drop at s))
+      short true q = at-short s left at nz h l (leb-true (length s) (at + 1) q)
+      short false q = param-one (leb-false (length s) (at + 1) q) (eqb (getD s at 0) 0x42) refl
 
-    module _ (n : (getD s at 0 ≡ 0x43) → ⊥) where
-      high-says : 0x45 < getD s at 0 → length s + 1 ≡ endIn s (expr left (drop at s))
-      high-says l = no-sign s left at nz h (λ e. omega arith) (λ e. omega arith) (λ e. omega arith) n (λ e. omega arith) (λ e. omega arith)
+  pub sign-is : ends s left (signAt s at) ≡ endIn s (expr left (drop at s))
+  unfolding signAt endBy
+  sign-is = start (leb (length s) at) refl
+    where
+      low : at < length s → getD s at 0 < 0x42 → (z : Bool) → ltb (getD s at 0) 0x40 ≡ z → ends s left (pick z (noSign s) (after (at + 1) 0)) ≡ endIn s (expr left (drop at s))
+      low h l true q = at-low s left at nz h l (ltb-true (getD s at 0) 0x40 q)
+      low h l false q = at-leaf s left at nz h l (ltb-false (getD s at 0) 0x40 q)
 
-      module _ (top : getD s at 0 ≤ 0x45) where
-        short-says : length s ≤ at + 2 → length s + 1 ≡ endIn s (expr left (drop at s))
-        short-says k = go (ltb (at + 1) (length s)) refl
-          where
-            go : (z : Bool) → ltb (at + 1) (length s) ≡ z → length s + 1 ≡ endIn s (expr left (drop at s))
-            go true q = at-short2 s left at nz h (omega arith) (ltb-true (at + 1) (length s) q) (λ e. omega arith) n top (omega arith)
-            go false q = at-short s left at nz h (omega arith) (ltb-false (at + 1) (length s) q)
+      first : at < length s → (z : Bool) → ltb (getD s at 0) 0x42 ≡ z
+          → ends s left (pick z (pick (ltb (getD s at 0) 0x40) (noSign s) (after (at + 1) 0)) (longSign s at (getD s at 0))) ≡ endIn s (expr left (drop at s))
+      first h true q = low h (ltb-true (getD s at 0) 0x42 q) (ltb (getD s at 0) 0x40) refl
+      first h false q = by-long h (ltb-false (getD s at 0) 0x42 q)
 
-        counted-says : at + 2 < length s → (x : ℕ) → x ≡ getD s (at + 2) 0 + (0x45 - getD s at 0) → Says s left at (at + 3) x
-        counted-says k x ex = go (ltb 4 x) refl (eqb x 0) refl
-          where
-            two : at + 2 ≡ at + 1 + 1
-            two = omega arith
+      start : (z : Bool) → leb (length s) at ≡ z
+          → ends s left (pick z (noSign s) (pick (ltb (getD s at 0) 0x42) (pick (ltb (getD s at 0) 0x40) (noSign s) (after (at + 1) 0)) (longSign s at (getD s at 0)))) ≡ endIn s (expr left (drop at s))
+      start true q = at-end s left at (leb-true (length s) at q)
+      start false q = first (leb-false (length s) at q) (ltb (getD s at 0) 0x42) refl
 
-            three : at + 3 ≡ at + 1 + 1 + 1
-            three = omega arith
+-- ---- an expression with its sign: one law for each return
+module _ (s : List ℕ) (left next parts : ℕ) where
+  pub by-none : parts ≡ 0 → next ≡ endBy s left next parts
+  unfolding endBy
+  by-none z = rw (eq-eqb parts 0 z)
 
-            ex′ : x ≡ getD s (at + 1 + 1) 0 + (0x45 - getD s at 0)
-            ex′ = ex ∙ ap (λ (i : ℕ). getD s i 0 + (0x45 - getD s at 0)) two
+  pub by-parts : (r : ℕ) → ((parts ≡ 0) → ⊥) → r ≡ endIn s (exprsBy (expr (left - 1)) parts (drop next s)) → r ≡ endBy s left next parts
+  unfolding endBy
+  by-parts r n e = rw (ne-eqb parts 0 n) e
 
-            ends : (r : ℕ) → x ≤ 4 → r ≡ endIn s (exprsBy (expr (left - 1)) x (drop (at + 3) s)) → r ≡ endIn s (expr left (drop at s))
-            ends r few e =
-                at-parts s left at nz h (omega arith) (omega arith) (λ e. omega arith) n top (omega arith) x ex′ r few
-                (e ∙ ap (λ (i : ℕ). endIn s (exprsBy (expr (left - 1)) x (drop i s))) three)
+module _ (s : List ℕ) (left : ℕ) (g : Sign) (at : ℕ) (eg : g ≡ signAt s at) (nz : 1 ≤ left) (a : ℕ) (ea : a ≡ endBy s left (g .next) (g .parts)) where
+  pub by-sign : a ≡ endIn s (expr left (drop at s))
+  by-sign = ea ∙ ap (ends s left) eg ∙ sign-is s left at nz
 
-            go : (y : Bool) → ltb 4 x ≡ y → (z : Bool) → eqb x 0 ≡ z → Says s left at (at + 3) x
-            go true q z w =
-                let l = ltb-true 4 x q in
-                nothing l (at-over s left at nz h (omega arith) (omega arith) (λ e. omega arith) n top (omega arith) x ex′ l)
-            go false q true w =
-                let e0 = eqb-true x 0 w in
-                whole e0 (ends (at + 3) (omega arith) (rw e0 (list-none s (left - 1) (at + 3) (omega arith))))
-            go false q false w =
-                let m = eqb-false x 0 w in
-                let few = ltb-false 4 x q in
-                parted (omega arith) few (ends (endIn s (exprsBy (expr (left - 1)) x (drop (at + 3) s))) few refl)
+  pub by-refused : length s < a → Refused ≡ endOf s (expr left (drop at s))
+  by-refused h = number-refused s (expr left (drop at s)) a by-sign h
 
-    -- an expression with parts
-    parts-says : Says s left at (at + signSize (getD s at 0)) (partsAt s at (getD s at 0))
-    unfolding partsAt
-    parts-says = rw (le-ltb (getD s at 0) 0x42 (omega arith)) (one (eqb (getD s at 0) 0x43) refl)
-      where
-        size : ((getD s at 0 ≡ 0x43) → ⊥) → ltb (getD s at 0) 0x44 ≡ false
-        size n = le-ltb (getD s at 0) 0x44 (omega arith)
-
-        short : (n : (getD s at 0 ≡ 0x43) → ⊥) → getD s at 0 ≤ 0x45 → (z : Bool) → leb (length s) (at + 2) ≡ z
-            → Says s left at (at + 3) (pick z 5 (getD s (at + 2) 0 + (0x45 - getD s at 0)))
-        short n top true q = nothing (omega arith) (short-says n top (leb-true (length s) (at + 2) q))
-        short n top false q = counted-says n top (leb-false (length s) (at + 2) q) (getD s (at + 2) 0 + (0x45 - getD s at 0)) refl
-
-        high : (n : (getD s at 0 ≡ 0x43) → ⊥) → (z : Bool) → ltb 0x45 (getD s at 0) ≡ z
-            → Says s left at (at + 3) (pick z 5 (pick (leb (length s) (at + 2)) 5 (getD s (at + 2) 0 + (0x45 - getD s at 0))))
-        high n true q = nothing (omega arith) (high-says n (ltb-true 0x45 (getD s at 0) q))
-        high n false q = short n (ltb-false 0x45 (getD s at 0) q) (leb (length s) (at + 2)) refl
-
-        one : (z : Bool) → eqb (getD s at 0) 0x43 ≡ z
-            → Says s left at (at + pick (ltb (getD s at 0) 0x44) 2 3)
-            (pick z 1 (pick (ltb 0x45 (getD s at 0)) 5 (pick (leb (length s) (at + 2)) 5 (getD s (at + 2) 0 + (0x45 - getD s at 0)))))
-        one true q = let b = eqb-true (getD s at 0) 0x43 q in rw (lt-ltb (getD s at 0) 0x44 (omega arith)) (field-says b)
-        one false q = let n = eqb-false (getD s at 0) 0x43 q in rw (size n) (high n (ltb 0x45 (getD s at 0)) refl)
+  pub by-next : a ≤ length s → Next a ≡ endOf s (expr left (drop at s))
+  by-next h = number-next s (expr left (drop at s)) a by-sign h
 
 -- ---- lists of expressions
 -- the place after n expressions from a on, as the walk goes: the place after each is handed on, also past the end
@@ -326,210 +345,41 @@ walk-is s left (suc n) at h = walk-step s left n at (walk-is s left n)
 walk-some : (s : List ℕ) (left n at : ℕ) → walk s left (suc n) at ≡ endIn s (exprsBy (expr left) (suc n) (drop at s))
 walk-some s left n at = walk-step s left n at (walk-is s left n)
 
-walk-all : (s : List ℕ) (left n at : ℕ) → 1 ≤ n → walk s left n at ≡ endIn s (exprsBy (expr left) n (drop at s))
-walk-all s left zero at p = absurd (omega arith)
-walk-all s left (suc n) at p = walk-some s left n at
+module _ (s : List ℕ) (left n at : ℕ) (some-parts : 1 ≤ n) where
+  pub list-deep : left ≡ 0 → length s + 1 ≡ endIn s (exprsBy (expr left) n (drop at s))
+  unfolding exprsBy expr
+  list-deep z = go n some-parts
+    where
+      go : (n : ℕ) → 1 ≤ n → length s + 1 ≡ endIn s (exprsBy (expr left) n (drop at s))
+      go zero p = absurd (omega arith)
+      go (suc n) p = rw z
 
-too-deep : (s : List ℕ) (left n at : ℕ) → 1 ≤ n → left ≡ 0 → length s + 1 ≡ endIn s (exprsBy (expr left) n (drop at s))
-unfolding exprsBy expr
-too-deep s left zero at p z = absurd (omega arith)
-too-deep s left (suc n) at p z = rw z
+  pub list-starts : walk s left n at ≡ endIn s (exprsBy (expr left) n (drop at s))
+  list-starts = go n some-parts
+    where
+      go : (n : ℕ) → 1 ≤ n → walk s left n at ≡ endIn s (exprsBy (expr left) n (drop at s))
+      go zero p = absurd (omega arith)
+      go (suc n) p = walk-some s left n at
 
--- ---- levels: d of them are open. Of each, `counts` has how many expressions are still to come, the innermost in its last digit of base 8
-unfoldable pub walkUp : List ℕ → ℕ → ℕ → ℕ → ℕ → ℕ
-walkUp s zero left counts a = a
-walkUp s (suc d) left counts a = walkUp s d (suc left) (counts / 8) (walk s left (counts % 8) a)
+module _ (s : List ℕ) (left k a e : ℕ) (w : walk s left k a ≡ e) where
+  pub list-next : (g : Sign) (r : ℕ) → 0 < k → 1 ≤ left → g ≡ signAt s a → r ≡ endBy s left (g .next) (g .parts) → walk s left (k - 1) r ≡ e
+  unfolding walk
+  list-next g r p nz eg er = go k p w
+    where
+      go : (k : ℕ) → 0 < k → walk s left k a ≡ e → walk s left (k - 1) r ≡ e
+      go zero p w = absurd (omega arith)
+      go (suc k) p w = rw (sub-one, by-sign s left g a eg nz r er) w
 
-level-up : (s : List ℕ) (d left counts a : ℕ) → walkUp s (suc d) left counts a ≡ walkUp s d (suc left) (counts / 8) (walk s left (counts % 8) a)
-unfolding walkUp
-level-up s d left counts a = refl
+  pub list-leaf : (g : Sign) → 0 < k → 1 ≤ left → g ≡ signAt s a → g .parts ≡ 0 → walk s left (k - 1) (g .next) ≡ e
+  list-leaf g p nz eg z = list-next g (g .next) p nz eg (by-none s left (g .next) (g .parts) z)
 
-walkUp-past : (s : List ℕ) (d left counts : ℕ) → walkUp s d left counts (length s + 1) ≡ length s + 1
-unfolding walkUp
-walkUp-past s zero left counts = refl
-walkUp-past s (suc d) left counts = rw (walk-past s left (counts % 8)) (walkUp-past s d (suc left) (counts / 8))
-
-unfoldable pub eights : ℕ → ℕ
-eights zero = 1
-eights (suc d) = 8 * eights d
-
--- e is where the expression ends: all levels that are open still give it
-pub record Standing (s : List ℕ) (left counts a e : ℕ) : Type 0 where
-  pub low : 1 ≤ left
-  pub high : left ≤ 6
-  pub same : walkUp s (7 - left) left counts a ≡ e
-  pub small : counts < eights (7 - left)
-  pub room : counts < 262144
-
-eights-up : (d : ℕ) → eights d ≤ eights (suc d)
-unfolding eights
-eights-up d = omega arith
-
--- m levels more make no less room
-room-of : (m d n counts : ℕ) → m + d ≡ n → counts < eights d → counts < eights n
-room-of zero d n counts e h = let q : d ≡ n = omega arith in rw (← q) h
-room-of (suc m) d n counts e h = room-of m (suc d) n counts (omega arith) (let a = eights-up d in omega arith)
-
-six : eights 6 ≡ 262144
-unfolding eights
-six = refl
-
-enough : (left counts : ℕ) → 1 ≤ left → left ≤ 6 → counts < eights (7 - left) → counts < 262144
-enough left counts l h k = rw six at (room-of (left - 1) (7 - left) 6 counts (omega arith) k)
-
-pub standing-start : (s : List ℕ) (at : ℕ) → Standing s 6 1 at (endIn s (expr 6 (drop at s)))
-unfolding walkUp walk eights
-standing-start s at = record { low = omega arith; high = omega arith; same = refl; small = omega arith; room = omega arith }
-
-module _ (s : List ℕ) (left counts a e : ℕ) (w : Standing s left counts a e) where
-  level : 7 - left ≡ suc (6 - left)
-  level = let h = w .high in omega arith
-
-  here : walkUp s (6 - left) (suc left) (counts / 8) (walk s left (counts % 8) a) ≡ e
-  unfolding walkUp
-  here = ap (λ (d : ℕ). walkUp s d left counts a) (sym level) ∙ w .same
-
-  few : counts < 8 * eights (6 - left)
-  unfolding eights
-  few = rw level at (w .small)
-
-  module _ (z : counts % 8 ≡ 0) where
-    up : walkUp s (6 - left) (suc left) (counts / 8) a ≡ e
-    unfolding walk
-    up = rw z at here
-
-    pub standing-end : left ≡ 6 → a ≡ e
-    unfolding walkUp
-    standing-end l = let q : 6 - left ≡ 0 = omega arith in rw q at up
-
-    pub standing-up : (left ≡ 6 → ⊥) → Standing s (left + 1) (counts / 8) a e
-    standing-up n =
-        let l = w .low in
-        let h = w .high in
-        let q : 6 - left ≡ 7 - (left + 1) = omega arith in
-        let p : suc left ≡ left + 1 = omega arith in
-        let r = w .room in
-        record {
-          low = omega arith;
-          high = omega arith;
-          same = rw (q, p) at up;
-          small = rw q at (let f = few in let g : counts / 8 < eights (6 - left) = omega arith in g);
-          room = omega arith;
-        }
-
-  module _ (nz : counts % 8 ≡ 0 → ⊥) where
-    -- the first of the level's expressions, which ends at r
-    after-one : (r : ℕ) → r ≡ endIn s (expr left (drop a s)) → walkUp s (6 - left) (suc left) ((counts - 1) / 8) (walk s left ((counts - 1) % 8) r) ≡ e
-    unfolding walk
-    after-one r er =
-        let x : (counts - 1) / 8 ≡ counts / 8 = omega arith in
-        let y : counts % 8 ≡ suc ((counts - 1) % 8) = omega arith in
-        rw x (go ((counts - 1) % 8) y)
-      where
-        go : (k : ℕ) → counts % 8 ≡ suc k → walkUp s (6 - left) (suc left) (counts / 8) (walk s left k r) ≡ e
-        go k y = rw er (rw y at here)
-
-    pub standing-refused : length s + 1 ≡ endIn s (expr left (drop a s)) → length s + 1 ≡ e
-    standing-refused er =
-        sym (ap (λ (x : ℕ). walkUp s (6 - left) (suc left) ((counts - 1) / 8) x) (walk-past s left ((counts - 1) % 8)) ∙ walkUp-past s (6 - left) (suc left) ((counts - 1) / 8))
-        ∙ after-one (length s + 1) er
-
-    standing-next : (next : ℕ) → next ≡ endIn s (expr left (drop a s)) → Standing s left (counts - 1) next e
-    unfolding walkUp
-    standing-next next er =
-        record {
-          low = w .low;
-          high = w .high;
-          same = ap (λ (d : ℕ). walkUp s d left (counts - 1) next) level ∙ after-one next er;
-          small = let f = w .small in omega arith;
-          room = let r = w .room in omega arith;
-        }
-
-    after-two : (r : ℕ) → r ≡ endIn s (expr left (drop a s)) → walkUp s (suc (6 - left)) left (counts - 1) r ≡ e
-    after-two r er = level-up s (6 - left) left (counts - 1) r ∙ after-one r er
-
-    -- p parts follow, nested once deeper
-    standing-down : (next p : ℕ) → 1 ≤ p → p ≤ 4 → (left ≡ 1 → ⊥) → endIn s (exprsBy (expr (left - 1)) p (drop next s)) ≡ endIn s (expr left (drop a s))
-        → Standing s (left - 1) (8 * (counts - 1) + p) next e
-    unfolding walkUp eights
-    standing-down next p one k n er =
-        let l = w .low in
-        let h = w .high in
-        let q : 7 - (left - 1) ≡ suc (suc (6 - left)) = omega arith in
-        let x : (8 * (counts - 1) + p) / 8 ≡ counts - 1 = omega arith in
-        let y : (8 * (counts - 1) + p) % 8 ≡ p = omega arith in
-        let z : suc (left - 1) ≡ left = omega arith in
-        let f = few in
-        let t : 8 * (counts - 1) + p < eights (7 - (left - 1)) = rw q (let g : 8 * (counts - 1) + p < 8 * (8 * eights (6 - left)) = omega arith in g) in
-        record {
-          low = omega arith;
-          high = omega arith;
-          room = enough (left - 1) (8 * (counts - 1) + p) (omega arith) (omega arith) t;
-          small = t;
-          same =
-              ap (λ (d : ℕ). walkUp s d (left - 1) (8 * (counts - 1) + p) next) q
-              ∙ level-up s (suc (6 - left)) (left - 1) (8 * (counts - 1) + p) next
-              ∙ rw (x, y, z, walk-all s (left - 1) p next one) (after-two (endIn s (exprsBy (expr (left - 1)) p (drop next s))) er);
-        }
-
-    standing-deep : (next p : ℕ) → 1 ≤ p → left ≡ 1 → endIn s (exprsBy (expr (left - 1)) p (drop next s)) ≡ endIn s (expr left (drop a s)) → length s + 1 ≡ e
-    standing-deep next p one l er = standing-refused (too-deep s (left - 1) p next one (omega arith) ∙ er)
-
--- what is left to walk falls at a sign, however many parts it has
-falls : (n a z x counts left : ℕ) → a < n → 1 ≤ z → x < 262144 → 300000 * (n + 3 - (a + z)) + x + (7 - (left - 1)) < 300000 * (n + 3 - a) + counts + (7 - left)
-falls n a z x counts left h o r = omega arith
-
--- ---- the walk of an expression: one law for each return, one for each way on
-module _ (s : List ℕ) (left counts a e : ℕ) (w : Standing s left counts a e) (nz : counts % 8 ≡ 0 → ⊥) where
-  pub read-past : length s ≤ a → length s + 1 ≡ e
-  read-past h = standing-refused s left counts a e w nz (at-end s left a h)
-
-  module _ (h : a < length s) where
-    pub read-low : getD s a 0 < 0x40 → length s + 1 ≡ e
-    read-low l = standing-refused s left counts a e w nz (at-low s left a (w .low) h (omega arith) l)
-
-    pub read-var : (z : ℕ) → 0x40 ≤ getD s a 0 → getD s a 0 < 0x43 → SignSize (getD s a 0) z → Standing s left (counts - 1) (a + z) e
-    read-var z lo hi q = standing-next s left counts a e w nz (a + z) (ap (λ (x : ℕ). a + x) (q .same) ∙ var-says s left a (w .low) h lo hi)
-
-    module _ (hi : 0x43 ≤ getD s a 0) (p : ℕ) (ep : p ≡ partsAt s a (getD s a 0)) where
-      says : (z : ℕ) → SignSize (getD s a 0) z → Says s left a (a + z) p
-      says z q = rw (q .same, ep) (parts-says s left a (w .low) h hi)
-
-      pub read-none : 4 < p → length s + 1 ≡ e
-      read-none l = go (rw (← ep) at (parts-says s left a (w .low) h hi))
-        where
-          go : Says s left a (a + signSize (getD s a 0)) p → length s + 1 ≡ e
-          go (nothing _ er) = standing-refused s left counts a e w nz er
-          go (whole z er) = absurd (omega arith)
-          go (parted _ k er) = absurd (omega arith)
-
-      module _ (k : p ≤ 4) (z : ℕ) (q : SignSize (getD s a 0) z) where
-        pub read-alone : p ≡ 0 → Standing s left (counts - 1) (a + z) e
-        read-alone e0 = go (says z q)
-          where
-            go : Says s left a (a + z) p → Standing s left (counts - 1) (a + z) e
-            go (nothing l er) = absurd (omega arith)
-            go (whole _ er) = standing-next s left counts a e w nz (a + z) er
-            go (parted l _ er) = absurd (omega arith)
-
-        module _ (n : p ≡ 0 → ⊥) where
-          parts-end-here : endIn s (exprsBy (expr (left - 1)) p (drop (a + z) s)) ≡ endIn s (expr left (drop a s))
-          parts-end-here = go (says z q)
-            where
-              go : Says s left a (a + z) p → endIn s (exprsBy (expr (left - 1)) p (drop (a + z) s)) ≡ endIn s (expr left (drop a s))
-              go (nothing l er) = absurd (omega arith)
-              go (whole e0 er) = absurd (n e0)
-              go (parted _ _ er) = er
-
-          pub read-deep : left ≡ 1 → length s + 1 ≡ e
-          read-deep l = standing-deep s left counts a e w nz (a + z) p (omega arith) l parts-end-here
-
-          pub read-down : (left ≡ 1 → ⊥) → Standing s (left - 1) (8 * (counts - 1) + p) (a + z) e
-          read-down l = standing-down s left counts a e w nz (a + z) p (omega arith) k l parts-end-here
-
-          pub read-less : (left ≡ 1 → ⊥)
-              → 300000 * (length s + 3 - (a + z)) + (8 * (counts - 1) + p) + (7 - (left - 1)) < 300000 * (length s + 3 - a) + counts + (7 - left)
-          read-less l = falls (length s) a z (8 * (counts - 1) + p) counts left h (q .low) (read-down l .room)
+  pub list-ends : k ≤ 0 → a ≡ e
+  unfolding walk
+  list-ends p = go k p w
+    where
+      go : (k : ℕ) → k ≤ 0 → walk s left k a ≡ e → a ≡ e
+      go zero p w = w
+      go (suc k) p w = absurd (omega arith)
 
 -- ---- lists of types
 types-step : (n : ℕ) (bs : List ℕ) → ((n ≡ 0) → ⊥) → types n bs ≡ type bs >>= λ t. types (n - 1) (t .rest) >>= λ ts. got (t .item ∷ ts .item) (ts .rest)

@@ -9,11 +9,12 @@ use lib.ListN.{length, getD, set, drop}
 use Rattle.cofj.specs.Limits.{lineSize, textSize}
 use Rattle.cofj.specs.Partial.{_>>=_}
 use Rattle.cofj.specs.Text.{within, digit, lines}
-use Rattle.cofj.specs.Frames.{Got, TextFrame, classFrame, methodFrame, mainFrame}
+use Rattle.cofj.specs.Frames.{Got, exprsBy, expr, TextFrame, classFrame, methodFrame, mainFrame}
 use Rattle.cofj.specs.Tables.{Raw, ordered, few}
 use Rattle.cofj.specs.Writing.{codeOf}
 use Rattle.lineform.specs.declared.exprs.ReadExpr.{ReadExpr}
 use Rattle.lineform.specs.declared.exprs.ReadExpr.the-variants.{Next, Refused}
+use Rattle.lineform.specs.declared.exprs.Sign.{Sign}
 use Rattle.lineform.specs.declared.frames.Kind.{Kind}
 use Rattle.lineform.specs.declared.frames.Kind.the-variants.{Class, Method, Main}
 use Rattle.lineform.specs.declared.frames.Framed.{Framed}
@@ -76,19 +77,34 @@ abbrev pub pick : {A : Type 0} → Bool → A → A → A
 pick true a b = a
 pick false a b = b
 
--- how many expressions the one at `at` has, whose sign b is that of a field, a call or a new object: more than four where there is none. A call
--- has its receiver besides
-unfoldable pub partsAt : List ℕ → ℕ → ℕ → ℕ
-partsAt s at b = pick (eqb b 0x43) 1 (pick (ltb 0x45 b) 5 (pick (leb (length s) (at + 2)) 5 (getD s (at + 2) 0 + (0x45 - b))))
+abbrev pub after : ℕ → ℕ → Sign
+after next parts = record { next = next; parts = parts }
 
--- the sign b and what belongs to it are r bytes
-abbrev pub signSize : ℕ → ℕ
-signSize b = pick (ltb b 0x42) 1 (pick (ltb b 0x44) 2 3)
+abbrev pub noSign : List ℕ → Sign
+noSign s = after (length s + 1) 0
 
-pub record SignSize (b r : ℕ) : Type 0 where
-  pub same : r ≡ signSize b
-  pub low : 1 ≤ r
-  pub high : r ≤ 3
+-- how many expressions a call or a new object with the sign b has; a call has its receiver besides
+abbrev pub partsAt : List ℕ → ℕ → ℕ → ℕ
+partsAt s at b = getD s (at + 1 + 1) 0 + (0x45 - b)
+
+unfoldable pub countedSign : List ℕ → ℕ → ℕ → Sign
+countedSign s at b =
+    pick (ltb 0x45 b) (noSign s) (pick (leb (length s) (at + 1 + 1)) (noSign s) (pick (ltb 4 (partsAt s at b)) (noSign s) (after (at + 1 + 1 + 1) (partsAt s at b))))
+
+unfoldable pub longSign : List ℕ → ℕ → ℕ → Sign
+unfolding countedSign
+longSign s at b =
+    pick (leb (length s) (at + 1)) (noSign s) (pick (eqb b 0x42) (after (at + 1 + 1) 0) (pick (eqb b 0x43) (after (at + 1 + 1) 1) (countedSign s at b)))
+
+unfoldable pub signAt : List ℕ → ℕ → Sign
+unfolding longSign
+signAt s at =
+    pick (leb (length s) at) (noSign s)
+    (pick (ltb (getD s at 0) 0x42) (pick (ltb (getD s at 0) 0x40) (noSign s) (after (at + 1) 0)) (longSign s at (getD s at 0)))
+
+-- where an expression ends whose sign tells these
+unfoldable pub endBy : List ℕ → ℕ → ℕ → ℕ → ℕ
+endBy s left next parts = pick (eqb parts 0) next (endIn s (exprsBy (expr (left - 1)) parts (drop next s)))
 
 -- a method's kind has the place of its right expression in the line
 abbrev pub kindOf : TextFrame → Kind

@@ -3,9 +3,8 @@
 ghost use mathlib.Core.Path.{_≡_};
 ghost use Prim.Native.Nat.{_≤_, _<_, _+_, _-_};
 ghost use lib.ListN.{length, drop};
-ghost use Rattle.cofj.specs.Limits.{nestingLimit};
-ghost use Rattle.cofj.specs.Frames.{expr, types};
-ghost use Rattle.lineform.specs.Answers.{endOf, endIn, partsAt, SignSize};
+ghost use Rattle.cofj.specs.Frames.{expr, exprsBy, types};
+ghost use Rattle.lineform.specs.Answers.{endOf, endIn, noSign, countedSign, signAt, endBy};
 
 // Document 01's figures (cofj's Limits).
 pub const FIELD_COUNT: u8 = 4;
@@ -14,8 +13,6 @@ pub const PARAM_COUNT: u8 = 3;
 
 // The expressions in one: a new object's values, or a call's receiver and its arguments.
 const PART_COUNT: usize = 4;
-
-const NO_PARTS: usize = 5;
 
 pub const NESTING_LIMIT: usize = 6;
 
@@ -33,6 +30,22 @@ pub fn wide(x: u8) -> usize
     x as usize
 }
 
+// An expression's sign and what belongs to it: the place after them, and how many expressions the expression has from there on.
+pub struct Sign {
+    pub next: usize,
+    pub parts: usize,
+}
+
+// No sign: the place is past the end, where the next one is none either.
+fn no_sign(s: &[u8]) -> Sign
+    ensures { λ r. ⌜ r ≡ noSign (now (s .entry)) ⌝ }
+{
+    Sign {
+        next: s.len() + 1,
+        parts: 0,
+    }
+}
+
 // The count that follows the sign of a call (44) or of a new object (45). A call has its receiver besides.
 fn counted(b: u8, n: u8) -> usize
     requires { ⌜ b ≤ 0x45 ⌝ }
@@ -41,80 +54,92 @@ fn counted(b: u8, n: u8) -> usize
     (n as usize) + ((0x45 - b) as usize)
 }
 
-// How many expressions the one at `at` has, whose sign is b; NO_PARTS or more where there is none.
-fn parts_at(s: &[u8], at: usize, b: u8) -> usize
-    requires { ⌜ at < length (now s) ⌝ }
-    ensures { λ r. ⌜ r ≡ partsAt (now (s .entry)) at b ⌝ }
+// The sign of a call or of a new object at `at`, which is b.
+fn counted_sign(s: &[u8], at: usize, b: u8) -> Sign
+    requires { ⌜ at + 1 < length (now s) ⌝ }
+    ensures { λ r. ⌜ r ≡ countedSign (now (s .entry)) at b ⌝ }
 {
-    if b == 0x43 {
-        return 1;
-    }
     if 0x45 < b {
-        return NO_PARTS;
+        return no_sign(s);
     }
-    let n = at + 2;
-    if s.len() <= n {
-        return NO_PARTS;
+    let a2 = at + 1 + 1;
+    if s.len() <= a2 {
+        return no_sign(s);
     }
-    counted(b, s[n])
+    let n = counted(b, s[a2]);
+    if PART_COUNT < n {
+        return no_sign(s);
+    }
+    Sign {
+        next: a2 + 1,
+        parts: n,
+    }
 }
 
-// How many bytes the sign b and what belongs to it are.
-fn sign_size(b: u8) -> usize
-    ensures { λ r. ⌜ SignSize b r ⌝ }
+// The sign at `at`.
+pub fn sign_at(s: &[u8], at: usize) -> Sign
+    ensures { λ r. ⌜ r ≡ signAt (now (s .entry)) at ⌝ }
 {
+    if s.len() <= at {
+        return no_sign(s);
+    }
+    let b = s[at];
+    let a1 = at + 1;
     if b < 0x42 {
-        return 1;
+        if b < 0x40 {
+            return no_sign(s);
+        }
+        return Sign { next: a1, parts: 0 };
     }
-    if b < 0x44 {
-        return 2;
+    if s.len() <= a1 {
+        return no_sign(s);
     }
-    3
+    if b == 0x42 {
+        return Sign {
+            next: a1 + 1,
+            parts: 0,
+        };
+    }
+    if b == 0x43 {
+        return Sign {
+            next: a1 + 1,
+            parts: 1,
+        };
+    }
+    counted_sign(s, at, b)
 }
 
-// The place after the expression at `at`; past the end of the line if there is none. Of each level that is open, `counts` has how many
-// expressions are still to come, the innermost in its last three bits.
-pub fn read_expr(s: &[u8], at: usize) -> usize
-    ensures { λ r. ⌜ r ≡ endIn (now (s .entry)) (expr nestingLimit (drop at (now (s .entry)))) ⌝ }
+// The place after the expression whose sign tells `next` and `parts`, nested at most `left` deep; one past the end of the line if there is none.
+pub fn read_expr(s: &[u8], next: usize, parts: usize, left: usize) -> usize
+    requires { ⌜ 1 ≤ left ⌝ }
+    ensures { λ r. ⌜ r ≡ endBy (now (s .entry)) left next parts ⌝ }
 {
-    let mut a: usize = at;
-    let mut counts: usize = 1;
-    let mut left: usize = NESTING_LIMIT;
-    loop {
-        if counts % 8 == 0 {
-            if left == NESTING_LIMIT {
-                return a;
-            }
-            counts = counts / 8;
-            left += 1;
-            continue;
-        }
-        if s.len() <= a {
-            return s.len() + 1;
-        }
-        counts -= 1;
-        let b = s[a];
-        if b < 0x43 {
-            if b < 0x40 {
-                return s.len() + 1;
-            }
-            a += sign_size(b);
-            continue;
-        }
-        let p = parts_at(s, a, b);
-        if PART_COUNT < p {
-            return s.len() + 1;
-        }
-        a += sign_size(b);
-        if p == 0 {
-            continue;
-        }
-        if left == 1 {
-            return s.len() + 1;
-        }
-        counts = 8 * counts + p;
-        left -= 1;
+    if parts == 0 {
+        return next;
     }
+    read_list(s, next, parts, left - 1)
+}
+
+// The place after n expressions, one after the other. After a refusal the place is past the end, where the next one is refused too.
+pub fn read_list(s: &[u8], at: usize, n: usize, left: usize) -> usize
+    requires { ⌜ 1 ≤ n ⌝ }
+    ensures { λ r. ⌜ r ≡ endIn (now (s .entry)) (exprsBy (expr left) n (drop at (now (s .entry)))) ⌝ }
+{
+    if left == 0 {
+        return s.len() + 1;
+    }
+    let mut a: usize = at;
+    let mut k: usize = n;
+    while 0 < k {
+        k -= 1;
+        let g = sign_at(s, a);
+        if g.parts == 0 {
+            a = g.next;
+            continue;
+        }
+        a = read_expr(s, g.next, g.parts, left);
+    }
+    a
 }
 
 // n types, one after the other.

@@ -6,8 +6,10 @@ ghost use Rattle.cofj.specs.Limits.{nestingLimit};
 ghost use Rattle.cofj.specs.Frames.{expr};
 ghost use Rattle.lineform.specs.Answers.{endOf};
 ghost use Rattle.lineform.specs.Places.{byteOf, readerAt};
+use crate::exprs::NESTING_LIMIT;
 use crate::exprs::ReadExpr;
 use crate::exprs::read_expr;
+use crate::exprs::sign_at;
 
 pub struct LineReader<'a> {
     pub line: &'a [u8],
@@ -33,7 +35,8 @@ pub fn byte_of(s: &[u8], at: usize) -> AtPlace
 pub fn expr_end(s: &[u8], at: usize) -> ReadExpr
     ensures { λ r. ⌜ r ≡ endOf (now (s .entry)) (expr nestingLimit (drop at (now (s .entry)))) ⌝ }
 {
-    let a = read_expr(s, at);
+    let g = sign_at(s, at);
+    let a = read_expr(s, g.next, g.parts, NESTING_LIMIT);
     if s.len() < a {
         return ReadExpr::Refused;
     }
