@@ -25,11 +25,11 @@ use Rattle.classes.specs.Layout.{layout, Stands, foundType}
 use Rattle.classes.specs.Layout as lay
 use Rattle.classes.proofs.Zones.{stands-front, stands-after, total-at, param-count-at, first-at, second-at}
 use Rattle.classes.proofs.OnTables.{field-on, lookup-on}
-use Rattle.checker.specs.declared.fits.Items.the-variants.{Parameters, Fields}
-use Rattle.checker.specs.declared.scope.Typed.{Typed}
-use Rattle.checker.specs.declared.scope.Typed.the-variants.{No}
+use Rattle.checker.specs.Items.{Parameters, Fields}
+use Rattle.checker.specs.Typed.{Typed}
+use Rattle.checker.specs.Typed.{No}
 use Rattle.checker.specs.declared.scope.Scope.{Scope}
-use Rattle.checker.specs.declared.expr.Listed.{Listed}
+use Rattle.checker.specs.Listed.{Listed}
 use Rattle.checker.specs.Shapes.{shapeAt}
 use Rattle.checker.specs.Types.{foundAt, thisOf, resOf, paramVar, counted, receiverOf, resultOf}
 use Rattle.checker.specs.Machine.{Walk, typed, listBy, fieldBy, resultAt, argsThen, argsBy, calledBy, callBy, newThen, newBy, stepBy, typeIn}

@@ -1,4 +1,5 @@
 pub mod ShapeLaws
+pub mod NumberLaws
 pub mod TypeLaws
 pub mod WalkLaws
 pub mod ProgramLaws

@@ -18,10 +18,10 @@ use Rattle.classes.specs.declared.chain.FieldFound.the-variants as field
 use Rattle.classes.specs.Machine.{pick}
 use Rattle.classes.specs.Layout.{layout, Stands, bytesOf, foundType}
 use Rattle.classes.proofs.Zones.{stands-front, stands-after}
-use Rattle.checker.specs.declared.fits.Items.{Items}
-use Rattle.checker.specs.declared.scope.Typed.{Typed}
-use Rattle.checker.specs.declared.expr.Listed.{Listed}
-use Rattle.checker.specs.declared.expr.Listed.the-variants as list
+use Rattle.checker.specs.Items.{Items}
+use Rattle.checker.specs.Typed.{Typed}
+use Rattle.checker.specs.Listed.{Listed}
+use Rattle.checker.specs.Listed as list
 use Rattle.checker.specs.Types.{wantedOf, fitsFound, narrowTag, itemFits}
 use Rattle.checker.specs.Machine.{Walk, listed, listBy}
 use Rattle.checker.specs.Answers.{typedAt}

@@ -1,5 +1,5 @@
 -- specs/Types at each return of the code.
-use mathlib.Core.Path.{_≡_}
+use mathlib.Core.Path.{_≡_, refl, sym, ap, _∙_}
 use mathlib.Core.Bool.{Bool, true, false, not}
 use mathlib.Core.List.{List}
 use Prim.Native.Nat.{ℕ, _+_}
@@ -12,15 +12,14 @@ use Rattle.classes.specs.declared.chain.FieldFound.{FieldFound}
 use Rattle.classes.specs.declared.chain.FieldFound.the-variants as field
 use Rattle.classes.specs.declared.methods.Found.{Found}
 use Rattle.classes.specs.declared.methods.Found.the-variants as method
-use Rattle.classes.specs.Machine.{fitsOf, typeAt, fieldOf, paramOf, lookupOf, rowOf}
-use Rattle.checker.specs.declared.fits.Items.{Items}
-use Rattle.checker.specs.declared.fits.Items.the-variants.{Parameters, Fields}
-use Rattle.checker.specs.declared.scope.Typed.{Typed}
-use Rattle.checker.specs.declared.scope.Typed.the-variants.{Has}
+use Rattle.classes.specs.Machine.{pick, fitsOf, typeAt, fieldOf, paramOf, lookupOf, rowOf}
+use Rattle.checker.specs.Items.{Fields}
+use Rattle.checker.specs.Typed.{Has}
 use Rattle.checker.specs.declared.scope.Res.{Res}
-use Rattle.checker.specs.declared.scope.Res.the-variants.{Class}
+use Rattle.checker.specs.declared.scope.Res.the-variants.{Absent, Class}
 use Rattle.checker.specs.declared.scope.Scope.{Scope}
-use Rattle.checker.specs.Types.{fitsType, narrowTag, wantedOf, itemFits, receiverOf, resultOf, foundAt, thisOf, resIn, paramVar}
+use Rattle.checker.specs.Numbers.{Packs}
+use Rattle.checker.specs.Types.{fitsType, narrowTag, fitsFound, itemFits, argFits, receiverOf, resultOf, foundAt, thisOf, resIn, paramVar}
 
 -- ---- tags
 module _ (g : ℕ) where
@@ -55,21 +54,28 @@ module _ (B : List ℕ) (c g : ℕ) (d : FieldType) where
     fits-class r q e = rw (← eb, not-false b q) e
 
 -- ---- the items of a list
-module _ (B : List ℕ) (items : Items) (k : ℕ) where
-  pub wanted-param : (i : ℕ) (r : FieldFound) → items ≡ Parameters i → r ≡ paramOf B i k → r ≡ wantedOf B items k
-  wanted-param i r e q = rw e q
+module _ (B : List ℕ) (c g : ℕ) (w : FieldFound) where
+  pub item-none : w ≡ field.Nothing → false ≡ fitsFound B c (narrowTag g) w
+  item-none e = rw e
 
-  pub wanted-field : (c : ℕ) (r : FieldFound) → items ≡ Fields c → r ≡ fieldOf B c k → r ≡ wantedOf B items k
-  wanted-field c r e q = rw e q
+  pub item-is : (d : FieldType) (h : ℕ) (r : Bool) → w ≡ field.Type d → h ≡ narrowTag g → r ≡ fitsType B c h d → r ≡ fitsFound B c (narrowTag g) w
+  item-is d h r e n q = rw (e, ← n) q
 
-  module _ (c g : ℕ) (w : FieldFound) (ew : w ≡ wantedOf B items k) where
-    pub item-none : w ≡ field.Nothing → false ≡ itemFits B items k c g
-    unfolding itemFits
-    item-none e = rw (← ew, e)
+module _ (B : List ℕ) (k c g : ℕ) (w : FieldFound) (r : Bool) (er : r ≡ fitsFound B c (narrowTag g) w) where
+  pub value-is : (d : ℕ) → w ≡ fieldOf B d k → r ≡ itemFits B (Fields d) k c g
+  unfolding itemFits
+  value-is d ew = rw ew at er
 
-    pub item-is : (d : FieldType) (h : ℕ) (r : Bool) → w ≡ field.Type d → h ≡ narrowTag g → r ≡ fitsType B c h d → r ≡ itemFits B items k c g
-    unfolding itemFits
-    item-is d h r e n q = rw (← ew, e, ← n) q
+  pub arg-is : (i : ℕ) (x : Bool) → x ≡ closedTag g → not x ≡ false → w ≡ paramOf B i k → r ≡ argFits B i k c g
+  unfolding itemFits argFits
+  arg-is i x ex q ew =
+      let e : r ≡ fitsFound B c (narrowTag g) (paramOf B i k) = rw ew at er in
+      let t : closedTag g ≡ true = sym ex ∙ not-false x q in
+      e ∙ ap (λ (b : Bool). pick b (fitsFound B c (narrowTag g) (paramOf B i k)) false) (sym t)
+
+pub arg-open : (B : List ℕ) (i k c g : ℕ) (x : Bool) → x ≡ closedTag g → not x ≡ true → false ≡ argFits B i k c g
+unfolding argFits
+arg-open B i k c g x ex q = rw (← ex, not-true x q)
 
 -- ---- calls
 module _ (B : List ℕ) (c g m n : ℕ) where
@@ -99,15 +105,29 @@ module _ (B : List ℕ) (top : Bool) (i : ℕ) (r : FieldType) where
   result-second e q = rw e q
 
 -- ---- variables
-pub found-type : (w : FieldFound) (d : FieldType) (next : ℕ) → w ≡ field.Type d → Has (d .class) (d .tag) next ≡ foundAt w next
-found-type w d next e = rw e
+module _ (w : FieldFound) (next : ℕ) where
+  pub found-none : w ≡ field.Nothing → Packs 0 (foundAt w next)
+  found-none e = rw e (record { holds = refl })
+
+  pub found-type : (d : FieldType) (r : ℕ) → w ≡ field.Type d → Packs r (Has (d .class) (d .tag) next) → Packs r (foundAt w next)
+  found-type d r e p = rw e p
 
 module _ (B : List ℕ) (s : Scope) (next : ℕ) where
-  pub this-body : (o : ℕ) → s .main ≡ false → o ≡ getD B (rowOf (s .method) + 1) 0 → Has o 0 next ≡ thisOf B s next
-  this-body o e q = rw (e, q)
+  pub this-main : s .main ≡ true → Packs 0 (thisOf B s next)
+  this-main e = rw e (record { holds = refl })
 
-  pub param-body : (k : ℕ) (w : FieldFound) (r : Typed) → s .main ≡ false → w ≡ paramOf B (s .method) k → r ≡ foundAt w next → r ≡ paramVar B s k next
+  pub this-body : (o r : ℕ) → s .main ≡ false → o ≡ getD B (rowOf (s .method) + 1) 0 → Packs r (Has o 0 next) → Packs r (thisOf B s next)
+  this-body o r e q p = rw (e, ← q) p
+
+  pub param-main : (k : ℕ) → s .main ≡ true → Packs 0 (paramVar B s k next)
+  param-main k e = rw e (record { holds = refl })
+
+  pub param-body : (k : ℕ) (w : FieldFound) (r : ℕ) → s .main ≡ false → w ≡ paramOf B (s .method) k → Packs r (foundAt w next) → Packs r (paramVar B s k next)
   param-body k w r e p q = rw (e, ← p) q
 
-pub res-class : (r : Res) (c next : ℕ) → r ≡ Class c → Has c 2 next ≡ resIn r next
-res-class r c next e = rw e
+module _ (r : Res) (next : ℕ) where
+  pub res-none : r ≡ Absent → Packs 0 (resIn r next)
+  res-none e = rw e (record { holds = refl })
+
+  pub res-class : (c n : ℕ) → r ≡ Class c → Packs n (Has c 2 next) → Packs n (resIn r next)
+  res-class c n e p = rw e p

@@ -10,16 +10,16 @@ use Rattle.classes.specs.declared.chain.FieldType.{FieldType}
 use Rattle.classes.specs.declared.methods.Found.{Found}
 use Rattle.classes.specs.declared.methods.Found.the-variants as method
 use Rattle.classes.specs.Machine.{pick, fieldOf}
-use Rattle.checker.specs.declared.fits.Items.{Items}
-use Rattle.checker.specs.declared.fits.Items.the-variants.{Parameters, Fields}
-use Rattle.checker.specs.declared.scope.Typed.{Typed}
-use Rattle.checker.specs.declared.scope.Typed.the-variants.{Has, No}
+use Rattle.checker.specs.Items.{Items}
+use Rattle.checker.specs.Items.{Parameters, Fields}
+use Rattle.checker.specs.Typed.{Typed}
+use Rattle.checker.specs.Typed.{Has, No}
 use Rattle.checker.specs.declared.scope.Scope.{Scope}
-use Rattle.checker.specs.declared.expr.Listed.{Listed}
-use Rattle.checker.specs.declared.expr.Listed.the-variants as list
+use Rattle.checker.specs.Listed.{Listed}
+use Rattle.checker.specs.Listed as list
 use Rattle.checker.specs.declared.shape.Shape.{Shape}
 use Rattle.checker.specs.declared.shape.Shape.the-variants as shape
-use Rattle.checker.specs.Shapes.{shapeAt}
+use Rattle.checker.specs.Shapes.{byteOf, shapeAt}
 use Rattle.checker.specs.Types.{itemFits, receiverOf, resultOf, foundAt, thisOf, resOf, paramVar}
 
 -- what types the expression at a place
@@ -79,6 +79,19 @@ stepBy B one s (shape.Field f next) = fieldBy B one f next
 stepBy B one s (shape.Call m n next) = callBy B one (s .main) m n next
 stepBy B one s (shape.New c n next) = newBy B one c n next
 stepBy B one s shape.Nothing = No
+
+-- ---- the same by the first byte b: an expression without parts, and one with parts
+unfoldable pub varBy : List ℕ → Scope → ℕ → ℕ → Typed
+varBy B s b at =
+    pick (eqb b 0x40) (thisOf B s (at + 1))
+    (pick (eqb b 0x41) (resOf s (at + 1))
+    (pick (eqb b 0x42) (paramVar B s (byteOf B (at + 1)) (at + 2)) No))
+
+unfoldable pub partsBy : List ℕ → Walk → Bool → ℕ → ℕ → Typed
+partsBy B one top b at =
+    pick (eqb b 0x43) (fieldBy B one (byteOf B (at + 1)) (at + 2))
+    (pick (eqb b 0x44) (callBy B one top (byteOf B (at + 1)) (byteOf B (at + 2)) (at + 3))
+    (pick (eqb b 0x45) (newBy B one (byteOf B (at + 1)) (byteOf B (at + 2)) (at + 3)) No))
 
 -- an expression nested at most `left` deep
 unfoldable pub typeIn : List ℕ → ℕ → Scope → Walk

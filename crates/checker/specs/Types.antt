@@ -12,10 +12,10 @@ use Rattle.classes.specs.declared.chain.FieldFound.the-variants as field
 use Rattle.classes.specs.declared.methods.Found.{Found}
 use Rattle.classes.specs.declared.methods.Found.the-variants as method
 use Rattle.classes.specs.Machine.{pick, fitsOf, typeAt, fieldOf, paramOf, lookupOf, rowOf}
-use Rattle.checker.specs.declared.fits.Items.{Items}
-use Rattle.checker.specs.declared.fits.Items.the-variants.{Parameters, Fields}
-use Rattle.checker.specs.declared.scope.Typed.{Typed}
-use Rattle.checker.specs.declared.scope.Typed.the-variants.{Has, No}
+use Rattle.checker.specs.Items.{Items}
+use Rattle.checker.specs.Items.{Parameters, Fields}
+use Rattle.checker.specs.Typed.{Typed}
+use Rattle.checker.specs.Typed.{Has, No}
 use Rattle.checker.specs.declared.scope.Res.{Res}
 use Rattle.checker.specs.declared.scope.Res.the-variants.{Absent, Class}
 use Rattle.checker.specs.declared.scope.Scope.{Scope}
@@ -39,6 +39,10 @@ fitsFound B c g field.Nothing = false
 
 unfoldable pub itemFits : List ℕ → Items → ℕ → ℕ → ℕ → Bool
 itemFits B items k c g = fitsFound B c (narrowTag g) (wantedOf B items k)
+
+-- an argument has a closed tag
+unfoldable pub argFits : List ℕ → ℕ → ℕ → ℕ → ℕ → Bool
+argFits B i k c g = pick (closedTag g) (itemFits B (Parameters i) k c g) false
 
 -- ---- calls
 abbrev pub counted : List ℕ → ℕ → Found → Found

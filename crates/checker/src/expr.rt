@@ -1,162 +1,206 @@
-// The type of an expression: it calls its list walk, which calls it back, while the nesting left falls.
-// Not here: what a call or a list asks of a type (fits), methods and main (program).
-use crate::fits::Items;
-use crate::fits::closed_tag;
-use crate::fits::item_fits;
+// The type of an expression: it calls the walks over its parts, which call it back, while the nesting left falls.
+// Not here: what a call or a new object asks of a type (fits), methods and main (program).
+use crate::fits::arg_fits;
 use crate::fits::receiver;
 use crate::fits::result_type;
+use crate::fits::value_fits;
+use crate::scope::NONE;
 use crate::scope::Scope;
-use crate::scope::Typed;
+use crate::scope::answer;
+use crate::scope::class_of;
 use crate::scope::found;
+use crate::scope::next_of;
 use crate::scope::param_var;
 use crate::scope::res_type;
+use crate::scope::tag_of;
 use crate::scope::this_type;
-use crate::shape::Shape;
-use crate::shape::shape_at;
+use crate::shape::byte_at;
 use classes::chain::field_total;
 use classes::chain::field_type;
 use classes::methods::Found;
 use classes::places::SIZE;
 ghost use mathlib.Core.Path.{_≡_};
 ghost use mathlib.Core.Bool.{true, false};
+ghost use Prim.Native.Nat.{_<_, _≤_};
+ghost use Rattle.cofj.specs.Limits.{nestingLimit};
 ghost use Rattle.cofj.specs.Typing.{closedTag};
 ghost use Rattle.classes.specs.Machine.{pick};
-ghost use Rattle.checker.specs.Machine.{typeIn, fieldBy, callBy, argsBy, newBy, listBy};
+ghost use Rattle.classes.specs.Figures.{tableSize};
+ghost use Rattle.checker.specs.Items.{Fields};
+ghost use Rattle.checker.specs.Numbers.{Packs, lastNext};
+ghost use Rattle.checker.specs.Machine.{typeIn, varBy, partsBy, fieldBy, callBy, argsBy, newBy, newThen, listBy};
 
-// What a list walk gives: whether every tag was closed, and the place after the list.
-pub enum Listed {
-    Past { closed: bool, next: usize },
-    No,
-}
+// How deep the parts of a body may be nested.
+const PARTS_NESTING: usize = 5;
 
 // The type of the expression at `at`, nested at most `left` deep.
-pub fn type_expr(t: &[u8; SIZE], scope: Scope, at: usize, left: usize) -> Typed
-    ensures { λ r. ⌜ r ≡ typeIn (now (t .entry)) left scope at ⌝ }
+pub fn type_expr(t: &[u8; SIZE], scope: Scope, at: usize, left: usize) -> usize
+    ensures { λ r. ⌜ Packs r (typeIn (now (t .entry)) left scope at) ⌝ }
 {
     if left == 0 {
-        return Typed::No;
+        return NONE;
     }
-    let s = shape_at(t, at);
-    match s {
-        Shape::This { next } => this_type(t, scope, next),
-        Shape::Result { next } => res_type(scope, next),
-        Shape::Parameter { k, next } => param_var(t, scope, k, next),
-        Shape::Field { f, next } => type_field(t, scope, f, next, left - 1),
-        Shape::Call { m, n, next } => type_call(t, scope, m, n, next, left - 1),
-        Shape::New { c, n, next } => type_new(t, scope, c, n, next, left - 1),
-        Shape::Nothing => Typed::No,
+    if SIZE <= at {
+        return NONE;
     }
+    let b = t[at];
+    if b < 0x43 {
+        return type_var(t, scope, b, at);
+    }
+    type_parts(t, scope, b, at, left - 1)
+}
+
+// The type of a body, or of main. It is type_expr for the whole nesting: with two callers the walk of the parts stays one function when compiled.
+pub fn type_body(t: &[u8; SIZE], scope: Scope, at: usize) -> usize
+    ensures { λ r. ⌜ Packs r (typeIn (now (t .entry)) nestingLimit scope at) ⌝ }
+{
+    if SIZE <= at {
+        return NONE;
+    }
+    let b = t[at];
+    if b < 0x43 {
+        return type_var(t, scope, b, at);
+    }
+    type_parts(t, scope, b, at, PARTS_NESTING)
+}
+
+// The variable at `at`, whose first byte is b.
+pub fn type_var(t: &[u8; SIZE], scope: Scope, b: u8, at: usize) -> usize
+    requires { ⌜ at < tableSize ⌝ }
+    ensures { λ r. ⌜ Packs r (varBy (now (t .entry)) scope b at) ⌝ }
+{
+    if b == 0x40 {
+        return this_type(t, scope, at + 1);
+    }
+    if b == 0x41 {
+        return res_type(scope, at + 1);
+    }
+    if b == 0x42 {
+        let k = byte_at(t, at + 1);
+        return param_var(t, scope, k, at + 2);
+    }
+    NONE
+}
+
+// The expression with parts at `at`, whose first byte is b. The parts are nested at most `left` deep.
+pub fn type_parts(t: &[u8; SIZE], scope: Scope, b: u8, at: usize, left: usize) -> usize
+    requires { ⌜ at < tableSize ⌝ }
+    ensures { λ r. ⌜ Packs r (partsBy (now (t .entry)) (typeIn (now (t .entry)) left scope) (scope .main) b at) ⌝ }
+{
+    let k = byte_at(t, at + 1);
+    if b == 0x43 {
+        return type_field(t, scope, k, at + 2, left);
+    }
+    let n = byte_at(t, at + 2);
+    if b == 0x44 {
+        return type_call(t, scope, k, n, at + 3, left);
+    }
+    if b == 0x45 {
+        return type_new(t, scope, k, n, at + 3, left);
+    }
+    NONE
 }
 
 // Field f of the expression at `at`.
-pub fn type_field(t: &[u8; SIZE], scope: Scope, f: u8, at: usize, left: usize) -> Typed
-    ensures { λ r. ⌜ r ≡ fieldBy (now (t .entry)) (typeIn (now (t .entry)) left scope) f at ⌝ }
+pub fn type_field(t: &[u8; SIZE], scope: Scope, f: u8, at: usize, left: usize) -> usize
+    ensures { λ r. ⌜ Packs r (fieldBy (now (t .entry)) (typeIn (now (t .entry)) left scope) f at) ⌝ }
 {
     let o = type_expr(t, scope, at, left);
-    let Typed::Has { class, tag, next } = o else {
-        return Typed::No;
-    };
-    if tag != 0 {
-        return Typed::No;
+    if o == NONE {
+        return NONE;
     }
-    found(field_type(t, class, f), next)
+    if tag_of(o) != 0 {
+        return NONE;
+    }
+    let c = class_of(o);
+    found(field_type(t, c, f), next_of(o))
 }
 
 // Call of m with n arguments: the receiver at `at`, then the arguments.
-pub fn type_call(t: &[u8; SIZE], scope: Scope, m: u8, n: u8, at: usize, left: usize) -> Typed
-    ensures { λ r. ⌜ r ≡ callBy (now (t .entry)) (typeIn (now (t .entry)) left scope) (scope .main) m n at ⌝ }
+pub fn type_call(t: &[u8; SIZE], scope: Scope, m: u8, n: u8, at: usize, left: usize) -> usize
+    ensures { λ r. ⌜ Packs r (callBy (now (t .entry)) (typeIn (now (t .entry)) left scope) (scope .main) m n at) ⌝ }
 {
     let o = type_expr(t, scope, at, left);
-    let Typed::Has { class, tag, next } = o else {
-        return Typed::No;
-    };
-    let f = receiver(t, class, tag, m, n);
+    if o == NONE {
+        return NONE;
+    }
+    let f = receiver(t, class_of(o), tag_of(o), m, n);
     let Found::At(i) = f else {
-        return Typed::No;
+        return NONE;
     };
-    type_args(t, scope, i, n, next, left)
+    type_args(t, scope, i, n, next_of(o), left)
 }
 
 // The n arguments of a call of method i: each has a closed tag and fits its parameter.
-pub fn type_args(t: &[u8; SIZE], scope: Scope, i: u8, n: u8, at: usize, left: usize) -> Typed
-    ensures { λ r. ⌜ r ≡ argsBy (now (t .entry)) (typeIn (now (t .entry)) left scope) (scope .main) i n at ⌝ }
+pub fn type_args(t: &[u8; SIZE], scope: Scope, i: u8, n: u8, at: usize, left: usize) -> usize
+    requires { ⌜ (0 < at) × (at ≤ lastNext) ⌝ }
+    ensures { λ r. ⌜ Packs r (argsBy (now (t .entry)) (typeIn (now (t .entry)) left scope) (scope .main) i n at) ⌝ }
 {
-    let l = type_list(t, scope, Items::Parameters(i), n, at, left);
-    let Listed::Past { closed, next } = l else {
-        return Typed::No;
-    };
-    if !closed {
-        return Typed::No;
+    let mut k: u8 = 0;
+    let mut a: usize = at;
+    while k < n {
+        let o = type_expr(t, scope, a, left);
+        if o == NONE {
+            return NONE;
+        }
+        if !arg_fits(t, i, k, class_of(o), tag_of(o)) {
+            return NONE;
+        }
+        a = next_of(o);
+        k += 1;
     }
     let main = scope.main;
     let u = result_type(t, main, i);
-    Typed::Has {
-        class: u.class,
-        tag: u.tag,
-        next,
-    }
+    answer(u.class, u.tag, a)
 }
 
-// A new object of class c with n values: an open one if a value is.
-pub fn type_new(t: &[u8; SIZE], scope: Scope, c: u8, n: u8, at: usize, left: usize) -> Typed
-    ensures { λ r. ⌜ r ≡ newBy (now (t .entry)) (typeIn (now (t .entry)) left scope) c n at ⌝ }
+// A new object of class c with n values.
+pub fn type_new(t: &[u8; SIZE], scope: Scope, c: u8, n: u8, at: usize, left: usize) -> usize
+    requires { ⌜ (0 < at) × (at ≤ lastNext) ⌝ }
+    ensures { λ r. ⌜ Packs r (newBy (now (t .entry)) (typeIn (now (t .entry)) left scope) c n at) ⌝ }
 {
     if field_total(t, c) != n {
-        return Typed::No;
+        return NONE;
     }
-    let l = type_list(t, scope, Items::Fields(c), n, at, left);
-    let Listed::Past { closed, next } = l else {
-        return Typed::No;
-    };
-    if closed {
-        return Typed::Has {
-            class: c,
-            tag: 0,
-            next,
-        };
-    }
-    Typed::Has {
-        class: c,
-        tag: 1,
-        next,
-    }
+    type_values(t, scope, c, n, at, left)
 }
 
-// Whether a list stays closed after an item with this tag.
+// Whether an object stays closed after a value with this tag.
 fn stays_closed(closed: bool, tag: u8) -> bool
     ensures { λ r. ⌜ r ≡ pick (closedTag tag) closed false ⌝ }
 {
-    if closed_tag(tag) {
+    if tag == 0 {
+        return closed;
+    }
+    if tag == 3 {
         return closed;
     }
     false
 }
 
-// The n expressions at `at`: each fits its item, an open tag read as 0.
-pub fn type_list(
-    t: &[u8; SIZE],
-    scope: Scope,
-    items: Items,
-    n: u8,
-    at: usize,
-    left: usize,
-) -> Listed
-    ensures { λ r. ⌜ r ≡ listBy (now (t .entry)) (typeIn (now (t .entry)) left scope) items 0 n true at ⌝ }
+// The n values of a new object of class c: each fits its field, an open tag read as 0. The object is open if a value is.
+pub fn type_values(t: &[u8; SIZE], scope: Scope, c: u8, n: u8, at: usize, left: usize) -> usize
+    requires { ⌜ (0 < at) × (at ≤ lastNext) ⌝ }
+    ensures { λ r. ⌜ Packs r (newThen c (listBy (now (t .entry)) (typeIn (now (t .entry)) left scope) (Fields c) 0 n true at)) ⌝ }
 {
     let mut k: u8 = 0;
     let mut closed = true;
     let mut a: usize = at;
     while k < n {
         let o = type_expr(t, scope, a, left);
-        let Typed::Has { class, tag, next } = o else {
-            return Listed::No;
-        };
-        if !item_fits(t, items, k, class, tag) {
-            return Listed::No;
+        if o == NONE {
+            return NONE;
+        }
+        let tag = tag_of(o);
+        if !value_fits(t, c, k, class_of(o), tag) {
+            return NONE;
         }
         closed = stays_closed(closed, tag);
-        a = next;
+        a = next_of(o);
         k += 1;
     }
-    Listed::Past { closed, next: a }
+    if closed {
+        return answer(c, 0, a);
+    }
+    answer(c, 1, a)
 }

@@ -13,13 +13,8 @@ use classes::places::SIZE;
 ghost use mathlib.Core.Path.{_≡_};
 ghost use lib.Dec.{leb};
 ghost use Rattle.cofj.specs.Typing.{closedTag, closeTag};
-ghost use Rattle.checker.specs.Types.{fitsType, narrowTag, wantedOf, itemFits, receiverOf, resultOf};
-
-// The types that a list of expressions is to fit: a method's parameters or a class's fields.
-pub enum Items {
-    Parameters(u8),
-    Fields(u8),
-}
+ghost use Rattle.checker.specs.Items.{Fields};
+ghost use Rattle.checker.specs.Types.{fitsType, narrowTag, fitsFound, itemFits, argFits, receiverOf, resultOf};
 
 // Whether tag g is not larger than tag h.
 pub fn tag_fits(g: u8, h: u8) -> bool
@@ -72,26 +67,34 @@ pub fn close_tag(g: u8) -> u8
     g
 }
 
-// The type that item k of a list is to fit.
-pub fn wanted(t: &[u8; SIZE], items: Items, k: u8) -> FieldFound
-    ensures { λ r. ⌜ r ≡ wantedOf (now (t .entry)) items k ⌝ }
+// Whether a type, an open tag read as 0, fits the type w of an item, where there is one.
+fn item_fits(t: &[u8; SIZE], w: FieldFound, class: u8, tag: u8) -> bool
+    ensures { λ r. ⌜ r ≡ fitsFound (now (t .entry)) class (narrowTag tag) w ⌝ }
 {
-    match items {
-        Items::Parameters(i) => param_type(t, i, k),
-        Items::Fields(c) => field_type(t, c, k),
-    }
-}
-
-// Whether a type, an open tag read as 0, fits item k of a list.
-pub fn item_fits(t: &[u8; SIZE], items: Items, k: u8, class: u8, tag: u8) -> bool
-    ensures { λ r. ⌜ r ≡ itemFits (now (t .entry)) items k class tag ⌝ }
-{
-    let w = wanted(t, items, k);
     let FieldFound::Type(d) = w else {
         return false;
     };
     let g = narrow(tag);
     fits(t, class, g, d)
+}
+
+// Whether a value's type fits field k of class c.
+pub fn value_fits(t: &[u8; SIZE], c: u8, k: u8, class: u8, tag: u8) -> bool
+    ensures { λ r. ⌜ r ≡ itemFits (now (t .entry)) (Fields c) k class tag ⌝ }
+{
+    let w = field_type(t, c, k);
+    item_fits(t, w, class, tag)
+}
+
+// Whether an argument's type is closed and fits parameter k of method i.
+pub fn arg_fits(t: &[u8; SIZE], i: u8, k: u8, class: u8, tag: u8) -> bool
+    ensures { λ r. ⌜ r ≡ argFits (now (t .entry)) i k class tag ⌝ }
+{
+    if !closed_tag(tag) {
+        return false;
+    }
+    let w = param_type(t, i, k);
+    item_fits(t, w, class, tag)
 }
 
 // The method m with n parameters that a receiver of this type has.

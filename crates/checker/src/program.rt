@@ -1,11 +1,13 @@
 // Methods and main: the check of a program. Refusals 6 and 7.
 // Not here: the type of an expression (expr).
-use crate::expr::type_expr;
+use crate::expr::type_body;
 use crate::fits::close_tag;
 use crate::fits::fits;
+use crate::scope::NONE;
 use crate::scope::Res;
 use crate::scope::Scope;
-use crate::scope::Typed;
+use crate::scope::class_of;
+use crate::scope::tag_of;
 use classes::chain::FieldType;
 use classes::methods::first;
 use classes::methods::left_place;
@@ -22,9 +24,6 @@ pub enum Checked {
     Main(FieldType),
     Refused(u8),
 }
-
-// How deep an expression may be nested.
-pub const NESTING: usize = 6;
 
 // Whether a type fits the first result type of method i.
 pub fn first_fits(t: &[u8; SIZE], i: u8, class: u8, tag: u8) -> bool
@@ -70,16 +69,11 @@ pub fn right_typed(t: &[u8; SIZE], i: u8, class: u8, tag: u8) -> bool
         res: Res::Class(class),
     };
     let at = right_place(t, i);
-    let o = type_expr(t, scope, at, NESTING);
-    let Typed::Has {
-        class: c,
-        tag: g,
-        next: _,
-    } = o
-    else {
+    let o = type_body(t, scope, at);
+    if o == NONE {
         return false;
-    };
-    results_fit(t, i, class, tag, c, g)
+    }
+    results_fit(t, i, class, tag, class_of(o), tag_of(o))
 }
 
 // Whether method i has a type.
@@ -92,16 +86,11 @@ pub fn method_typed(t: &[u8; SIZE], i: u8) -> bool
         res: Res::Absent,
     };
     let at = left_place(t, i);
-    let o = type_expr(t, scope, at, NESTING);
-    let Typed::Has {
-        class,
-        tag,
-        next: _,
-    } = o
-    else {
+    let o = type_body(t, scope, at);
+    if o == NONE {
         return false;
-    };
-    right_typed(t, i, class, tag)
+    }
+    right_typed(t, i, class_of(o), tag_of(o))
 }
 
 // How many methods there are.
@@ -138,14 +127,12 @@ pub fn check(t: &[u8; SIZE]) -> Checked
         method: 0,
         res: Res::Absent,
     };
-    let o = type_expr(t, scope, MAIN + 1, NESTING);
-    let Typed::Has {
-        class,
-        tag,
-        next: _,
-    } = o
-    else {
+    let o = type_body(t, scope, MAIN + 1);
+    if o == NONE {
         return Checked::Refused(7);
-    };
-    Checked::Main(FieldType { class, tag })
+    }
+    Checked::Main(FieldType {
+        class: class_of(o),
+        tag: tag_of(o),
+    })
 }

@@ -2,7 +2,7 @@
 use mathlib.Core.Path.{_≡_, refl, sym, _∙_}
 use mathlib.Core.Bool.{Bool, true, false}
 use mathlib.Core.List.{List}
-use Prim.Native.Nat.{ℕ, zero, suc, _+_, _-_, _*_, _%_, _<_, _≤_}
+use Prim.Native.Nat.{ℕ, zero, suc, _+_, _-_, _*_, _<_, _≤_}
 use native.Mathlib.Omega.{arith}
 use lib.ListN.{getD}
 use lib.Dec.{eqb, leb, ltb}
@@ -11,7 +11,7 @@ use Rattle.classes.specs.declared.chain.FieldFound.{FieldFound}
 use Rattle.classes.specs.declared.chain.FieldFound.the-variants as field
 use Rattle.classes.specs.declared.methods.Found.{Found}
 use Rattle.classes.specs.declared.methods.Found.the-variants as found
-use Rattle.classes.specs.Machine.{pick, up, fitsIn, fitsOf, typeAt, ownField, fieldIn, fieldOf, ownOf, orElse, lookupIn, lookupOf, rowOf, paramOf}
+use Rattle.classes.specs.Machine.{Stored, pick, up, fitsIn, fitsOf, typeAt, ownField, fieldIn, fieldOf, numbered, ownOf, orElse, lookupIn, lookupOf, rowOf, paramOf}
 
 -- ---- class fit
 pub fits-zero : (B : List ℕ) (n d : ℕ) → fitsIn B n 0 d ≡ eqb 0 d
@@ -93,33 +93,44 @@ module _ (B : List ℕ) (c f : ℕ) where
   field-here zero e l h = absurd (omega arith)
   field-here (suc n) e l h = rw (lt-leb c (up B c) l, le-ltb f (getD B (16 * up B c + 1) 0) h)
 
-  pub field-none : c ≤ up B c → field.Nothing ≡ fieldOf B c f
-  field-none l = sym (field-stop c l)
+  pub field-none : c ≤ up B c → Stored B 0 (fieldOf B c f)
+  field-none l = record { same = field-stop c l; low = omega arith }
 
-  module _ (k : ℕ) (ek : k ≡ getD B (16 * up B c + 1) 0) (l : up B c < c) (r : FieldFound) where
-    pub field-up : f < k → r ≡ fieldOf B (up B c) f → r ≡ fieldOf B c f
-    field-up h e = e ∙ sym (field-below c refl l (omega arith))
+  module _ (k : ℕ) (ek : k ≡ getD B (16 * up B c + 1) 0) (l : up B c < c) (r : ℕ) where
+    pub field-up : f < k → Stored B r (fieldOf B (up B c) f) → Stored B r (fieldOf B c f)
+    field-up h e = rw (field-below c refl l (omega arith)) e
 
-    pub field-own : k ≤ f → r ≡ ownField B c (f - k) → r ≡ fieldOf B c f
+    pub field-own : k ≤ f → Stored B r (ownField B c (f - k)) → Stored B r (fieldOf B c f)
     field-own h e = rw (field-here c refl l (omega arith), ← ek) e
 
 module _ (B : List ℕ) (c j : ℕ) where
-  pub own-past : getD B (16 * c + 2) 0 ≤ j → field.Nothing ≡ ownField B c j
-  own-past h = rw (le-leb (getD B (16 * c + 2) 0) j h)
+  pub own-past : getD B (16 * c + 2) 0 ≤ j → Stored B 0 (ownField B c j)
+  own-past h = record { same = rw (le-leb (getD B (16 * c + 2) 0) j h); low = omega arith }
 
-  pub own-at : j < getD B (16 * c + 2) 0 → field.Type (typeAt B (16 * c + 3 + 2 * j)) ≡ ownField B c j
-  own-at h = rw (lt-leb (getD B (16 * c + 2) 0) j h)
+  pub own-at : c < 256 → j < 256 → j < getD B (16 * c + 2) 0 → Stored B (16 * c + 3 + 2 * j) (ownField B c j)
+  own-at u v h = record { same = rw (lt-leb (getD B (16 * c + 2) 0) j h, ne-eqb (16 * c + 3 + 2 * j) 0 (λ z. omega arith)); low = omega arith }
+
+module _ (B : List ℕ) (at : ℕ) (w : FieldFound) (e : Stored B at w) where
+  pub stored-none : at ≡ 0 → field.Nothing ≡ w
+  stored-none z = rw (e .same, eq-eqb at 0 z)
+
+  pub stored-at : (at ≡ 0 → ⊥) → field.Type (typeAt B at) ≡ w
+  stored-at n = rw (e .same, ne-eqb at 0 n)
 
 -- ---- methods
 module _ (B : List ℕ) (c m : ℕ) where
-  pub index-past : 32 < c → found.Nothing ≡ ownOf B c m
+  pub index-past : 32 < c → ownOf B c m ≡ numbered 0
   index-past h = rw (lt-ltb 32 c h)
 
-  pub index-none : c ≤ 32 → getD B (528 + 256 * c + m) 0 ≡ 0 → found.Nothing ≡ ownOf B c m
-  index-none h e = rw (le-ltb 32 c h, eq-eqb (getD B (528 + 256 * c + m) 0) 0 e)
+  pub index-at : c ≤ 32 → ownOf B c m ≡ numbered (getD B (528 + 256 * c + m) 0)
+  index-at h = rw (le-ltb 32 c h)
 
-  pub index-at : c ≤ 32 → (getD B (528 + 256 * c + m) 0 ≡ 0 → ⊥) → found.At (getD B (528 + 256 * c + m) 0 - 1) ≡ ownOf B c m
-  index-at h e = rw (le-ltb 32 c h, ne-eqb (getD B (528 + 256 * c + m) 0) 0 e)
+module _ (x : ℕ) (f : Found) (e : f ≡ numbered x) where
+  pub number-none : x ≡ 0 → found.Nothing ≡ f
+  number-none z = rw (e, eq-eqb x 0 z)
+
+  pub number-at : (x ≡ 0 → ⊥) → found.At (x - 1) ≡ f
+  number-at n = rw (e, ne-eqb x 0 n)
 
 lookup-enough : (B : List ℕ) (n k c m : ℕ) → c ≤ n → c ≤ k → lookupIn B n c m ≡ lookupIn B k c m
 unfolding lookupIn
@@ -141,30 +152,30 @@ lookup-enough B (suc n) (suc k) c m h l = go (leb c (up B c)) refl (lookup-enoug
     go true q ih = refl
     go false q ih = let z = leb-false c (up B c) q in rw (ih (omega arith) (omega arith))
 
-module _ (B : List ℕ) (c m : ℕ) (o : Found) (eo : o ≡ ownOf B c m) where
-  lookup-is : (n i : ℕ) → o ≡ found.At i → lookupIn B n c m ≡ o
+module _ (B : List ℕ) (c m x : ℕ) (ex : ownOf B c m ≡ numbered x) where
+  lookup-is : (n : ℕ) → (x ≡ 0 → ⊥) → lookupIn B n c m ≡ numbered x
   unfolding lookupIn
-  lookup-is zero i e = sym eo
-  lookup-is (suc n) i e = rw (← eo, e)
+  lookup-is zero e = ex
+  lookup-is (suc n) e = rw (ex, ne-eqb x 0 e)
 
-  lookup-stop : (n : ℕ) → o ≡ found.Nothing → c ≤ up B c → lookupIn B n c m ≡ found.Nothing
+  lookup-stop : (n : ℕ) → x ≡ 0 → c ≤ up B c → lookupIn B n c m ≡ found.Nothing
   unfolding lookupIn
-  lookup-stop zero e l = sym eo ∙ e
-  lookup-stop (suc n) e l = rw (← eo, e, le-leb c (up B c) l)
+  lookup-stop zero e l = ex ∙ rw (eq-eqb x 0 e)
+  lookup-stop (suc n) e l = rw (ex, eq-eqb x 0 e, le-leb c (up B c) l)
 
-  lookup-on : (n : ℕ) → n ≡ c → o ≡ found.Nothing → up B c < c → lookupIn B n c m ≡ lookupOf B (up B c) m
+  lookup-on : (n : ℕ) → n ≡ c → x ≡ 0 → up B c < c → lookupIn B n c m ≡ lookupOf B (up B c) m
   unfolding lookupIn
   lookup-on zero e q l = absurd (omega arith)
-  lookup-on (suc n) e q l = rw (← eo, q, lt-leb c (up B c) l) (lookup-enough B n (up B c) (up B c) m (omega arith) (omega arith))
+  lookup-on (suc n) e q l = rw (ex, eq-eqb x 0 q, lt-leb c (up B c) l) (lookup-enough B n (up B c) (up B c) m (omega arith) (omega arith))
 
-  pub lookup-here : (i : ℕ) → o ≡ found.At i → o ≡ lookupOf B c m
-  lookup-here i e = sym (lookup-is c i e)
+  pub lookup-here : (x ≡ 0 → ⊥) → lookupOf B c m ≡ numbered x
+  lookup-here e = lookup-is c e
 
-  pub lookup-top : o ≡ found.Nothing → c ≤ up B c → found.Nothing ≡ lookupOf B c m
-  lookup-top e l = sym (lookup-stop c e l)
+  pub lookup-top : x ≡ 0 → c ≤ up B c → lookupOf B c m ≡ numbered 0
+  lookup-top e l = lookup-stop c e l
 
-  pub lookup-above : (r : Found) → o ≡ found.Nothing → up B c < c → r ≡ lookupOf B (up B c) m → r ≡ lookupOf B c m
-  lookup-above r e l er = er ∙ sym (lookup-on c refl e l)
+  pub lookup-above : (r : ℕ) → x ≡ 0 → up B c < c → lookupOf B (up B c) m ≡ numbered r → lookupOf B c m ≡ numbered r
+  lookup-above r e l er = lookup-on c refl e l ∙ er
 
 -- ---- parameters
 module _ (B : List ℕ) (i k : ℕ) where

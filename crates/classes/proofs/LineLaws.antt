@@ -1,9 +1,9 @@
 -- Laws of the tests of a line's bytes, in the form in which the needs of known cite them: one for each return.
-use Prim.Native.Nat.{ℕ, zero, suc, _+_, _-_, _*_, _<_, _≤_}
+use Prim.Native.Nat.{ℕ, zero, suc, _+_, _-_, _<_, _≤_}
 use native.Mathlib.Omega.{arith}
 use native.Mathlib.Numerals.{sub-one, add-one}
 use mathlib.Core.Path.{_≡_, refl, sym, ap, _∙_}
-use mathlib.Core.Bool.{Bool, true, false, _&&_, _||_, not, true≢false, false≢true}
+use mathlib.Core.Bool.{Bool, true, false, not, true≢false, false≢true}
 use mathlib.Core.List.{List, [], _∷_}
 use lib.Dec.{eqb, leb, ltb}
 use lib.ListN.{length, getD, drop, drop-of-length-le}
@@ -11,7 +11,7 @@ use lib.Seq.{drop-cons, drop-drop, getD-drop}
 use borrow.Author.Tests.{eq-eqb, ne-eqb, lt-ltb, le-ltb, le-leb, lt-leb}
 use Rattle.cofj.specs.Typing.{closedTag}
 use Rattle.classes.specs.Machine.{Wide, pick}
-use Rattle.classes.specs.Placing.{goodTypes, newKnown, scan, past, methodGood}
+use Rattle.classes.specs.Placing.{goodTypes, newKnown, scan, past, Skipped, unknown, known, headGood}
 
 -- ---- a byte at a place
 pub more : (s : List ℕ) (at : ℕ) → at < length s → drop at s ≡ getD s at 0 ∷ drop (at + 1) s
@@ -203,48 +203,82 @@ module _ (s : List ℕ) (at m X : ℕ) (e : X ≡ at + past m 0 (drop at s)) whe
               sign (m - 1 + v) 2 (at + 3)
               (λ n q. let w : n + getD s (at + 2) 0 ≡ m - 1 + v = omega (arith, ev .same) in many n ∙ rw (second, ne-eqb (getD s at 0) 0x44 b, w)) (omega arith)
 
+-- ---- an expression that is passed over, its classes tested
+-- X is what the signs from `at` on still say
+module _ (s : List ℕ) (at n : ℕ) (X : Bool) (e : X ≡ scan n 0 (drop at s)) (h : at < length s) where
+  pub known-param : getD s at 0 ≡ 0x42 → X ≡ scan n 0 (drop (at + 2) s)
+  known-param b = scan-two s at n X e h (omega arith) (omega arith)
+
+  pub known-field : getD s at 0 ≡ 0x43 → X ≡ scan n 0 (drop (at + 2) s)
+  known-field b = scan-two s at n X e h (omega arith) (omega arith)
+
+  pub known-call : getD s at 0 ≡ 0x44 → X ≡ scan n 0 (drop (at + 3) s)
+  known-call b = scan-call s at n X e h (omega arith) (omega arith) b
+
+  module _ (l : 0x42 ≤ getD s at 0) (n2 : getD s at 0 ≡ 0x42 → ⊥) (n3 : getD s at 0 ≡ 0x43 → ⊥) (n4 : getD s at 0 ≡ 0x44 → ⊥) (k : at + 2 < length s) where
+    pub known-new : getD s (at + 1) 0 ≤ n → X ≡ scan n 0 (drop (at + 3) s)
+    known-new u = scan-new s at n X e h l (omega arith) n4 (omega arith) u
+
+    pub known-not : (r : ℕ) → n < getD s (at + 1) 0 → false ≡ X
+    known-not r u = scan-unknown s at n X e h l (omega arith) n4 (omega arith) u
+
+module _ (s : List ℕ) (at n a k : ℕ) (e : at + past 1 0 (drop at s) ≡ a + past k 0 (drop a s)) (x : scan n 0 (drop at s) ≡ scan n 0 (drop a s)) where
+  pub skip-end : length s ≤ a → Skipped s at n a
+  skip-end h = known (sym (past-end s a k (at + past 1 0 (drop at s)) e h)) x
+
+  pub skip-done : k ≤ 0 → Skipped s at n a
+  skip-done z = known (sym (past-none s a k (at + past 1 0 (drop at s)) e z)) x
+
+  module _ (p : 0 < k) (h : a < length s) (l : 0x42 ≤ getD s a 0) (n2 : getD s a 0 ≡ 0x42 → ⊥) (n3 : getD s a 0 ≡ 0x43 → ⊥) where
+    module _ (q : length s ≤ a + 2) (y : Bool) (ey : y ≡ scan n 0 (drop a s)) where
+      pub skip-short : y ≡ true → Skipped s at n (a + 3)
+      unfolding scan
+      skip-short t =
+          known (sym (past-short s a k (at + past 1 0 (drop at s)) e p h l n2 n3 q))
+          (x ∙ sym ey ∙ t ∙ (let z : true ≡ scan n 0 (drop (a + 3) s) = rw (no-more s (a + 3) (omega arith)) in z))
+
+      pub skip-not : y ≡ false → Skipped s at n 0
+      skip-not t = unknown refl (x ∙ sym ey ∙ t)
+
+    pub skip-unknown : (getD s a 0 ≡ 0x44 → ⊥) → a + 2 < length s → n < getD s (a + 1) 0 → Skipped s at n 0
+    skip-unknown n4 q u = unknown refl (sym (known-not s a n (scan n 0 (drop at s)) x h l n2 n3 n4 q 0 u))
+
 -- ---- a method's line
 module _ (s : List ℕ) (n : ℕ) where
-  pub method-short : length s < 8 → false ≡ methodGood n s
-  unfolding methodGood
+  pub method-short : length s < 8 → false ≡ headGood n s
+  unfolding headGood
   method-short l = rw (lt-leb 8 (length s) l)
 
   module _ (h : 8 ≤ length s) where
-    pub method-object : getD s 1 0 ≡ 0 → false ≡ methodGood n s
-    unfolding methodGood
+    pub method-object : getD s 1 0 ≡ 0 → false ≡ headGood n s
+    unfolding headGood
     method-object e = rw (le-leb 8 (length s) h, lt-leb 1 (getD s 1 0) (omega arith))
 
     module _ (h1 : getD s 1 0 ≡ 0 → ⊥) where
       one : leb 1 (getD s 1 0) ≡ true
       one = le-leb 1 (getD s 1 0) (omega arith)
 
-      pub method-owner : n < getD s 1 0 → false ≡ methodGood n s
-      unfolding methodGood
+      pub method-owner : n < getD s 1 0 → false ≡ headGood n s
+      unfolding headGood
       method-owner l = rw (le-leb 8 (length s) h, one, lt-leb (getD s 1 0) n l)
 
       module _ (h2 : getD s 1 0 ≤ n) where
-        pub method-first : n < getD s 3 0 → false ≡ methodGood n s
-        unfolding methodGood
+        pub method-first : n < getD s 3 0 → false ≡ headGood n s
+        unfolding headGood
         method-first l = rw (le-leb 8 (length s) h, one, le-leb (getD s 1 0) n h2, lt-leb (getD s 3 0) n l)
 
         module _ (h3 : getD s 3 0 ≤ n) where
-          pub method-second : n < getD s 5 0 → false ≡ methodGood n s
-          unfolding methodGood
+          pub method-second : n < getD s 5 0 → false ≡ headGood n s
+          unfolding headGood
           method-second l = rw (le-leb 8 (length s) h, one, le-leb (getD s 1 0) n h2, le-leb (getD s 3 0) n h3, lt-leb (getD s 5 0) n l)
 
           module _ (h5 : getD s 5 0 ≤ n) (c : Bool) (ec : c ≡ closedTag (getD s 4 0)) where
-            pub method-open : not c ≡ true → false ≡ methodGood n s
-            unfolding methodGood
+            pub method-open : not c ≡ true → false ≡ headGood n s
+            unfolding headGood
             method-open e =
                 rw (le-leb 8 (length s) h, one, le-leb (getD s 1 0) n h2, le-leb (getD s 3 0) n h3, le-leb (getD s 5 0) n h5, ← ec, not-true c e)
 
-            module _ (e : not c ≡ false) (g : Bool) (eg : g ≡ goodTypes n (getD s 7 0) (drop 8 s)) where
-              pub method-params : not g ≡ true → false ≡ methodGood n s
-              unfolding methodGood
-              method-params z =
-                  rw (le-leb 8 (length s) h, one, le-leb (getD s 1 0) n h2, le-leb (getD s 3 0) n h3, le-leb (getD s 5 0) n h5, ← ec, not-false c e, ← eg, not-true g z)
-
-              pub method-exprs : (r : Bool) (w : ℕ) → not g ≡ false → w ≡ getD s 7 0 → r ≡ scan n 0 (drop (8 + 2 * w) s) → r ≡ methodGood n s
-              unfolding methodGood
-              method-exprs r w z ew er =
-                  rw (le-leb 8 (length s) h, one, le-leb (getD s 1 0) n h2, le-leb (getD s 3 0) n h3, le-leb (getD s 5 0) n h5, ← ec, not-false c e, ← eg, not-false g z, ← ew) er
+            pub method-params : (g : Bool) → not c ≡ false → g ≡ goodTypes n (getD s 7 0) (drop 8 s) → g ≡ headGood n s
+            unfolding headGood
+            method-params g e eg =
+                rw (le-leb 8 (length s) h, one, le-leb (getD s 1 0) n h2, le-leb (getD s 3 0) n h3, le-leb (getD s 5 0) n h5, ← ec, not-false c e) eg

@@ -1,22 +1,21 @@
 -- Laws of placing one line, in the form in which the needs of place cite them.
-use Prim.Native.Nat.{ℕ, zero, suc, _+_, _-_, _*_, _<_, _≤_}
+use Prim.Native.Nat.{ℕ, _+_, _-_, _*_, _<_, _≤_}
 use native.Mathlib.Omega.{arith}
 use native.Mathlib.Numerals.{add-one}
 use mathlib.Core.Path.{_≡_, refl, sym, ap, _∙_}
 use mathlib.Core.Bool.{Bool, true, false, _&&_, not}
-use mathlib.Core.List.{List, [], _∷_}
+use mathlib.Core.List.{List}
 use lib.Dec.{eqb, leb, ltb}
 use lib.ListN.{length, getD, drop, set}
 use lib.Seq.{sets}
 use borrow.Author.Tests.{eq-eqb, ne-eqb, lt-ltb, le-ltb, le-leb, lt-leb}
-use Rattle.cofj.specs.Limits.{nestingLimit}
-use Rattle.cofj.specs.Frames.{expr}
+use Rattle.cofj.specs.Typing.{closedTag}
 use Rattle.classes.specs.declared.methods.Found.{Found}
 use Rattle.classes.specs.declared.methods.Found.the-variants as found
 use Rattle.classes.specs.declared.place.Place.{Place}
 use Rattle.classes.specs.declared.place.Place.the-variants as place
 use Rattle.classes.specs.Machine.{pick, ownOf}
-use Rattle.classes.specs.Placing.{goodTypes, scan, past, methodGood, Placed, placed, above, classGood, classPut, classPlaced, placeOf, rightIn, indexPut, methodPut, methodFree, methodPlaced, mainPlaced}
+use Rattle.classes.specs.Placing.{goodTypes, scan, past, Skipped, unknown, known, headGood, methodGood, Placed, placed, above, classGood, classPut, classPlaced, placeOf, rightIn, rightKnown, indexPut, methodPut, methodFree, methodPlaced, mainPlaced}
 use Rattle.classes.proofs.LineLaws.{more, no-more, not-true, not-false}
 
 -- ---- a copy
@@ -81,17 +80,49 @@ module _ (l B : List ℕ) (k n : ℕ) where
                   good e = rw (classGood, le-leb 4 (length l) h, eq-eqb (getD l 1 0) k h1, lt-ltb (getD l 2 0) k h2, ← eg, not-false g h3, ← ea, le-leb a 4 h4, le-leb (getD l 3 0) 4 h5, le-leb (a + getD l 3 0) 4 e)
 
 -- ---- a method
-module _ (l : List ℕ) (w : ℕ) (ew : w ≡ getD l 7 0) (b : ℕ) (eb : b ≡ 8 + 2 * w + past 1 0 (drop (8 + 2 * w) l)) where
-  found-end : 8 + 2 * getD l 7 0 + past 1 0 (drop (8 + 2 * getD l 7 0) l) ≡ b
-  found-end = rw (eb, ew)
+module _ (l : List ℕ) (n w : ℕ) (ew : w ≡ getD l 7 0) (b : ℕ) (p : Skipped l (8 + 2 * w) n b) where
+  here : Skipped l (8 + 2 * getD l 7 0) n b
+  here = rw (← ew) p
 
-  pub right-far : 255 < b → place.Nothing ≡ rightIn l
-  unfolding rightIn
-  right-far h = rw (found-end, lt-ltb 255 b h)
+  pub right-none : b ≡ 0 → place.Nothing ≡ rightKnown n l
+  unfolding rightKnown
+  right-none z = go here
+    where
+      go : Skipped l (8 + 2 * getD l 7 0) n b → place.Nothing ≡ pick (scan n 0 (drop (8 + 2 * getD l 7 0) l)) (rightIn l) place.Nothing
+      go (unknown _ e) = rw e
+      go (known e _) = absurd (omega arith)
 
-  pub right-at : b ≤ 255 → place.At b ≡ rightIn l
-  unfolding rightIn
-  right-at h = rw (found-end, le-ltb 255 b h)
+  module _ (m : b ≡ 0 → ⊥) where
+    pub right-far : 255 < b → place.Nothing ≡ rightKnown n l
+    unfolding rightKnown rightIn
+    right-far h = go here
+      where
+        either : (x : Bool) → place.Nothing ≡ pick x place.Nothing place.Nothing
+        either true = refl
+        either false = refl
+
+        go : Skipped l (8 + 2 * getD l 7 0) n b
+            → place.Nothing ≡ pick (scan n 0 (drop (8 + 2 * getD l 7 0) l)) (placeOf (8 + 2 * getD l 7 0 + past 1 0 (drop (8 + 2 * getD l 7 0) l))) place.Nothing
+        go (unknown z _) = absurd (m z)
+        go (known e _) = rw (e, lt-ltb 255 b h) (either (scan n 0 (drop (8 + 2 * getD l 7 0) l)))
+
+    module _ (h : b ≤ 255) (g : Bool) (eg : g ≡ scan n 0 (drop b l)) where
+      pub right-not : not g ≡ true → place.Nothing ≡ rightKnown n l
+      unfolding rightKnown
+      right-not q = go here
+        where
+          go : Skipped l (8 + 2 * getD l 7 0) n b → place.Nothing ≡ pick (scan n 0 (drop (8 + 2 * getD l 7 0) l)) (rightIn l) place.Nothing
+          go (unknown z _) = absurd (m z)
+          go (known _ e) = rw (e, ← eg, not-true g q)
+
+      pub right-at : not g ≡ false → place.At b ≡ rightKnown n l
+      unfolding rightKnown rightIn
+      right-at q = go here
+        where
+          go : Skipped l (8 + 2 * getD l 7 0) n b
+              → place.At b ≡ pick (scan n 0 (drop (8 + 2 * getD l 7 0) l)) (placeOf (8 + 2 * getD l 7 0 + past 1 0 (drop (8 + 2 * getD l 7 0) l))) place.Nothing
+          go (unknown z _) = absurd (m z)
+          go (known d e) = rw (e, ← eg, not-false g q, d, le-ltb 255 b h)
 
 module _ (c m x : ℕ) (B : List ℕ) where
   pub index-off : 32 < c → B ≡ indexPut c m x B
@@ -105,30 +136,66 @@ pub method-put : (l B T : List ℕ) (i right : ℕ) → T ≡ sets (set B (8976 
 unfolding methodPut
 method-put l B T i right e = rw e
 
+-- a good line: a good head, and classes that are known
+both : (a b c d e f g s : Bool) → a && b && c && d && e && f && g && s ≡ (a && b && c && d && e && f && g) && s
+both false b c d e f g s = refl
+both true false c d e f g s = refl
+both true true false d e f g s = refl
+both true true true false e f g s = refl
+both true true true true false f g s = refl
+both true true true true true false g s = refl
+both true true true true true true g s = refl
+
+good-both : (n : ℕ) (l : List ℕ) → methodGood n l ≡ headGood n l && scan n 0 (drop (8 + 2 * getD l 7 0) l)
+unfolding methodGood headGood
+good-both n l =
+    both (leb 8 (length l)) (leb 1 (getD l 1 0)) (leb (getD l 1 0) n) (leb (getD l 3 0) n) (leb (getD l 5 0) n) (closedTag (getD l 4 0))
+    (goodTypes n (getD l 7 0) (drop 8 l)) (scan n 0 (drop (8 + 2 * getD l 7 0) l))
+
 module _ (l B : List ℕ) (i n : ℕ) where
   pub method-short : length l < 8 → placed false B ≡ methodPlaced l i n B
   unfolding methodPlaced methodGood
   method-short h = let z : methodGood n l ≡ false = rw (methodGood, lt-leb 8 (length l) h) in rw z
 
-  module _ (g : Bool) (eg : g ≡ methodGood n l) where
+  module _ (g : Bool) (eg : g ≡ headGood n l) where
     pub method-refused : not g ≡ true → placed false B ≡ methodPlaced l i n B
     unfolding methodPlaced
-    method-refused e = rw (← eg, not-true g e)
+    method-refused e = rw (good-both n l, ← eg, not-true g e)
 
     module _ (h : not g ≡ false) (f : Found) (ef : f ≡ ownOf B (getD l 1 0) (getD l 2 0)) where
-      pub method-twice : (j : ℕ) → f ≡ found.At j → placed false B ≡ methodPlaced l i n B
+      -- by whether the classes are known
+      by : (x : Bool) → scan n 0 (drop (8 + 2 * getD l 7 0) l) ≡ x → methodPlaced l i n B ≡ pick x (methodFree l i B f (rightIn l)) (placed false B)
       unfolding methodPlaced
-      method-twice j e = rw (← eg, not-false g h, ← ef, e)
+      by x e = rw (good-both n l, ← eg, not-false g h, e, ← ef)
 
-      module _ (e : f ≡ found.Nothing) (p : Place) (ep : p ≡ rightIn l) where
+      pub method-twice : (j : ℕ) → f ≡ found.At j → placed false B ≡ methodPlaced l i n B
+      method-twice j e = go (scan n 0 (drop (8 + 2 * getD l 7 0) l)) refl
+        where
+          go : (x : Bool) → scan n 0 (drop (8 + 2 * getD l 7 0) l) ≡ x → placed false B ≡ methodPlaced l i n B
+          go true q = rw (by true q, e)
+          go false q = rw (by false q)
+
+      module _ (e : f ≡ found.Nothing) (p : Place) (ep : p ≡ rightKnown n l) where
         pub method-nowhere : p ≡ place.Nothing → placed false B ≡ methodPlaced l i n B
-        unfolding methodPlaced
-        method-nowhere z = rw (← eg, not-false g h, ← ef, e, ← ep, z)
+        unfolding rightKnown
+        method-nowhere z = go (scan n 0 (drop (8 + 2 * getD l 7 0) l)) refl (sym z ∙ ep)
+          where
+            go : (x : Bool) → scan n 0 (drop (8 + 2 * getD l 7 0) l) ≡ x
+                → place.Nothing ≡ pick (scan n 0 (drop (8 + 2 * getD l 7 0) l)) (rightIn l) place.Nothing → placed false B ≡ methodPlaced l i n B
+            go true q r = rw (by true q, e, ← (rw q at r))
+            go false q r = rw (by false q)
 
         pub method-placed : (b : ℕ) (T U : List ℕ) → p ≡ place.At b → T ≡ indexPut (getD l 1 0) (getD l 2 0) (i + 1) B → U ≡ methodPut l i b T
             → placed true U ≡ methodPlaced l i n B
-        unfolding methodPlaced
-        method-placed b T U z eT eU = rw (← eg, not-false g h, ← ef, e, ← ep, z) (ap (λ (x : List ℕ). placed true x) (eU ∙ ap (λ (x : List ℕ). methodPut l i b x) eT))
+        unfolding rightKnown
+        method-placed b T U z eT eU =
+            go (scan n 0 (drop (8 + 2 * getD l 7 0) l)) refl (sym z ∙ ep) (ap (λ (x : List ℕ). placed true x) (eU ∙ ap (λ (x : List ℕ). methodPut l i b x) eT))
+          where
+            go : (x : Bool) → scan n 0 (drop (8 + 2 * getD l 7 0) l) ≡ x
+                → place.At b ≡ pick (scan n 0 (drop (8 + 2 * getD l 7 0) l)) (rightIn l) place.Nothing
+                → placed true U ≡ placed true (methodPut l i b (indexPut (getD l 1 0) (getD l 2 0) (i + 1) B)) → placed true U ≡ methodPlaced l i n B
+            go true q r w = rw (by true q, e, ← (rw q at r)) w
+            go false q r w = let k : place.At b ≡ place.Nothing = rw q at r in let y : _≡_ {A = ℕ} 0 1 = cc in absurd (omega arith)
 
 -- ---- main
 module _ (l B : List ℕ) (n : ℕ) (g : Bool) (eg : g ≡ scan n 0 (drop 1 l)) where

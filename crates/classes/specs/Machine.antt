@@ -43,6 +43,11 @@ typeAt B at = record { class = getD B at 0; tag = getD B (at + 1) 0 }
 abbrev pub ownField : List ℕ → ℕ → ℕ → FieldFound
 ownField B c j = pick (leb (getD B (rowSize * c + 2) 0) j) field.Nothing (field.Type (typeAt B (rowSize * c + 3 + 2 * j)))
 
+-- w is the type that stands at r, or none where r is 0
+pub record Stored (B : List ℕ) (r : ℕ) (w : FieldFound) : Type 0 where
+  pub same : w ≡ pick (eqb r 0) field.Nothing (field.Type (typeAt B r))
+  pub low : r + 1 < 25616
+
 -- field f of class c, at most n steps up
 unfoldable pub fieldIn : List ℕ → ℕ → ℕ → ℕ → FieldFound
 fieldIn B zero c f = field.Nothing

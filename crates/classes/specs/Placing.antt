@@ -2,6 +2,7 @@
 -- Not here: that this is the language's `table` on the lines of a text (proofs/Building).
 use Prim.Native.Nat.{ℕ, zero, suc, _+_, _*_}
 use mathlib.Core.Bool.{Bool, true, false, _&&_}
+use mathlib.Core.Path.{_≡_}
 use mathlib.Core.List.{List, [], _∷_}
 use lib.Dec.{eqb, leb, ltb}
 use lib.ListN.{length, getD, drop, set}
@@ -33,6 +34,12 @@ scan n k [] = true
 scan n (suc k) (b ∷ bs) = scan n k bs
 scan n zero (b ∷ bs) =
     pick (ltb b 0x42) (scan n 0 bs) (pick (ltb b 0x44) (scan n 1 bs) (pick (eqb b 0x44) (scan n 2 bs) (newKnown n bs && scan n 2 bs)))
+
+-- a method's line without its expressions
+unfoldable pub headGood : ℕ → List ℕ → Bool
+headGood n l =
+    leb 8 (length l) && leb 1 (getD l 1 0) && leb (getD l 1 0) n && leb (getD l 3 0) n && leb (getD l 5 0) n && closedTag (getD l 4 0)
+    && goodTypes n (getD l 7 0) (drop 8 l)
 
 unfoldable pub methodGood : ℕ → List ℕ → Bool
 methodGood n l =
@@ -70,9 +77,18 @@ past (suc m) zero (b ∷ bs) =
     suc (pick (ltb b 0x42) (past m 0 bs) (pick (eqb b 0x42) (past m 1 bs) (pick (eqb b 0x43) (past (suc m) 1 bs)
     (pick (eqb b 0x44) (past (suc (m + getD bs 1 0)) 2 bs) (past (m + getD bs 1 0) 2 bs)))))
 
+-- r is where the expression at `at` ends, and what follows decides whether all classes are known; or one is not, and r is 0
+pub data Skipped (s : List ℕ) (at n r : ℕ) : Type 0 where
+  unknown : r ≡ 0 → scan n 0 (drop at s) ≡ false → Skipped s at n r
+  known : at + past 1 0 (drop at s) ≡ r → scan n 0 (drop at s) ≡ scan n 0 (drop r s) → Skipped s at n r
+
 -- the left expression begins after the parameters' types, and the right one after it
 unfoldable pub rightIn : List ℕ → Place
 rightIn l = placeOf (8 + 2 * getD l 7 0 + past 1 0 (drop (8 + 2 * getD l 7 0) l))
+
+-- the same where the classes that the expressions name are known
+unfoldable pub rightKnown : ℕ → List ℕ → Place
+rightKnown n l = pick (scan n 0 (drop (8 + 2 * getD l 7 0) l)) (rightIn l) place.Nothing
 
 abbrev pub indexPut : ℕ → ℕ → ℕ → List ℕ → List ℕ
 indexPut c m x B = pick (ltb classCount c) B (set B (indexAt + longSize * c + m) x)

@@ -6,7 +6,7 @@ ghost use mathlib.Core.Path.{_≡_};
 ghost use Prim.Native.Nat.{ℕ, _+_, _*_};
 ghost use lib.ListN.{getD};
 ghost use Rattle.classes.specs.Figures.{rowSize};
-ghost use Rattle.classes.specs.Machine.{fitsOf, fieldOf, ownField};
+ghost use Rattle.classes.specs.Machine.{Stored, fitsOf, fieldOf, ownField};
 
 // A type: a class number and a tag.
 pub struct FieldType {
@@ -47,32 +47,42 @@ pub fn field_total(t: &[u8; SIZE], c: u8) -> u8
     t[ROW * (c as usize) + 1]
 }
 
-// The type of own field j of class c.
-pub fn own_field(t: &[u8; SIZE], c: u8, j: u8) -> FieldFound
-    ensures { λ r. ⌜ r ≡ ownField (now (t .entry)) c j ⌝ }
+// Where the type of own field j of class c stands, 0 if there is none.
+pub fn own_place(t: &[u8; SIZE], c: u8, j: u8) -> usize
+    ensures { λ r. ⌜ Stored (now (t .entry)) r (ownField (now (t .entry)) c j) ⌝ }
 {
     let row = ROW * (c as usize);
     if t[row + 2] <= j {
+        return 0;
+    }
+    row + 3 + 2 * (j as usize)
+}
+
+// Where the type of field f of class c stands, inherited ones first; 0 if there is none.
+pub fn field_place(t: &[u8; SIZE], c: u8, f: u8) -> usize
+    ensures { λ r. ⌜ Stored (now (t .entry)) r (fieldOf (now (t .entry)) c f) ⌝ }
+{
+    let p = t[ROW * (c as usize)];
+    if c <= p {
+        return 0;
+    }
+    let k = field_total(t, p);
+    if f < k {
+        return field_place(t, p, f);
+    }
+    own_place(t, c, f - k)
+}
+
+// The type of field f of class c.
+pub fn field_type(t: &[u8; SIZE], c: u8, f: u8) -> FieldFound
+    ensures { λ r. ⌜ r ≡ fieldOf (now (t .entry)) c f ⌝ }
+{
+    let at = field_place(t, c, f);
+    if at == 0 {
         return FieldFound::Nothing;
     }
-    let at = row + 3 + 2 * (j as usize);
     FieldFound::Type(FieldType {
         class: t[at],
         tag: t[at + 1],
     })
-}
-
-// The type of field f of class c, inherited ones first.
-pub fn field_type(t: &[u8; SIZE], c: u8, f: u8) -> FieldFound
-    ensures { λ r. ⌜ r ≡ fieldOf (now (t .entry)) c f ⌝ }
-{
-    let p = t[ROW * (c as usize)];
-    if c <= p {
-        return FieldFound::Nothing;
-    }
-    let k = field_total(t, p);
-    if f < k {
-        return field_type(t, p, f);
-    }
-    own_field(t, c, f - k)
 }

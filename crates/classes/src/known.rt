@@ -3,11 +3,11 @@
 // Not here: that the line is a frame (lineform), which every line is that gets here.
 use crate::places::wide;
 ghost use mathlib.Core.Path.{_≡_};
-ghost use Prim.Native.Nat.{ℕ, _≤_, _+_, _*_};
+ghost use Prim.Native.Nat.{ℕ, _≤_};
 ghost use lib.ListN.{length, drop};
 ghost use Rattle.cofj.specs.Limits.{lineSize};
 ghost use Rattle.cofj.specs.Typing.{closedTag};
-ghost use Rattle.classes.specs.Placing.{goodTypes, scan, past, methodGood};
+ghost use Rattle.classes.specs.Placing.{goodTypes, scan, Skipped, headGood};
 
 // Tags 0 and 3 are closed.
 pub fn closed(g: u8) -> bool
@@ -75,10 +75,11 @@ pub fn all_known(s: &[u8], at: usize, n: u8) -> bool
     true
 }
 
-// Where the expression at `at` of a frame ends, by counting: k expressions are still to come from `a` on. Not tested: that it is one.
-pub fn expr_end(s: &[u8], at: usize) -> usize
+// Where the expression at `at` of a frame ends, by counting: k expressions are still to come from `a` on. 0 where it names a class that is not
+// known. Not tested: that it is an expression.
+pub fn skip_known(s: &[u8], at: usize, n: u8) -> usize
     requires { ⌜ length (now s) ≤ lineSize ⌝ }
-    ensures { λ r. ⌜ r ≡ at + past 1 0 (drop at (now (s .entry))) ⌝ }
+    ensures { λ r. ⌜ Skipped (now (s .entry)) at n r ⌝ }
 {
     let mut a: usize = at;
     let mut k: usize = 1;
@@ -102,23 +103,29 @@ pub fn expr_end(s: &[u8], at: usize) -> usize
             continue;
         }
         let c = a + 2;
-        a += 3;
         if s.len() <= c {
-            return a;
+            if all_known(s, a, n) {
+                return a + 3;
+            }
+            return 0;
         }
         if b == 0x44 {
+            a += 3;
             k = k + wide(s[c]);
             continue;
         }
+        if n < s[a + 1] {
+            return 0;
+        }
+        a += 3;
         k = k - 1 + wide(s[c]);
     }
     a
 }
 
-// A method's line without its name: owner known and not Object, types known, first result and parameters closed, expressions known.
-pub fn method_good(s: &[u8], n: u8) -> bool
-    requires { ⌜ length (now s) ≤ lineSize ⌝ }
-    ensures { λ r. ⌜ r ≡ methodGood n (now (s .entry)) ⌝ }
+// A method's line without its name and its expressions: owner known and not Object, types known, first result and parameters closed.
+pub fn head_good(s: &[u8], n: u8) -> bool
+    ensures { λ r. ⌜ r ≡ headGood n (now (s .entry)) ⌝ }
 {
     if s.len() < 8 {
         return false;
@@ -138,9 +145,5 @@ pub fn method_good(s: &[u8], n: u8) -> bool
     if !closed(s[4]) {
         return false;
     }
-    let p = s[7];
-    if !types_good(s, 8, p, n) {
-        return false;
-    }
-    all_known(s, 8 + 2 * wide(p), n)
+    types_good(s, 8, s[7], n)
 }

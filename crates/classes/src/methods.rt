@@ -12,7 +12,7 @@ use crate::places::wide;
 ghost use mathlib.Core.Path.{_≡_};
 ghost use Prim.Native.Nat.{ℕ, _+_, _*_};
 ghost use lib.ListN.{getD};
-ghost use Rattle.classes.specs.Machine.{ownOf, lookupOf, rowOf, typeAt, paramOf, leftOf, rightOf};
+ghost use Rattle.classes.specs.Machine.{numbered, ownOf, lookupOf, rowOf, typeAt, paramOf, leftOf, rightOf};
 
 // The number of a method, in file order.
 pub enum Found {
@@ -20,33 +20,51 @@ pub enum Found {
     Nothing,
 }
 
+// What the index of class c says of the name m: a method's number and 1, or 0.
+pub fn own_number(t: &[u8; SIZE], c: u8, m: u8) -> u8
+    ensures { λ r. ⌜ ownOf (now (t .entry)) c m ≡ numbered r ⌝ }
+{
+    if CLASSES < c {
+        return 0;
+    }
+    t[INDEX + LONG * (c as usize) + (m as usize)]
+}
+
 // The method with the name m that class c itself declares.
 pub fn own_method(t: &[u8; SIZE], c: u8, m: u8) -> Found
     ensures { λ r. ⌜ r ≡ ownOf (now (t .entry)) c m ⌝ }
 {
-    if CLASSES < c {
-        return Found::Nothing;
-    }
-    let x = t[INDEX + LONG * (c as usize) + (m as usize)];
+    let x = own_number(t, c, m);
     if x == 0 {
         return Found::Nothing;
     }
     Found::At(x - 1)
 }
 
+// The same of class c or of the nearest class above it that has such a method.
+pub fn lookup_number(t: &[u8; SIZE], c: u8, m: u8) -> u8
+    ensures { λ r. ⌜ lookupOf (now (t .entry)) c m ≡ numbered r ⌝ }
+{
+    let x = own_number(t, c, m);
+    if x != 0 {
+        return x;
+    }
+    let p = t[ROW * (c as usize)];
+    if c <= p {
+        return 0;
+    }
+    lookup_number(t, p, m)
+}
+
 // The method with the name m of class c or of the nearest class above it.
 pub fn lookup(t: &[u8; SIZE], c: u8, m: u8) -> Found
     ensures { λ r. ⌜ r ≡ lookupOf (now (t .entry)) c m ⌝ }
 {
-    let o = own_method(t, c, m);
-    let Found::Nothing = o else {
-        return o;
-    };
-    let p = t[ROW * (c as usize)];
-    if c <= p {
+    let x = lookup_number(t, c, m);
+    if x == 0 {
         return Found::Nothing;
     }
-    lookup(t, p, m)
+    Found::At(x - 1)
 }
 
 // ---- the parts of method i: its row begins at METHODS + LONG * i, a number past the rows taken around

@@ -2,8 +2,8 @@
 // Not here: the order of the lines (build), overriding (overrides).
 use crate::chain::field_total;
 use crate::known::all_known;
-use crate::known::expr_end;
-use crate::known::method_good;
+use crate::known::head_good;
+use crate::known::skip_known;
 use crate::known::types_good;
 use crate::methods::Found;
 use crate::methods::own_method;
@@ -23,7 +23,7 @@ ghost use lib.ListN.{length, drop};
 ghost use lib.Seq.{sets};
 ghost use Rattle.cofj.specs.Limits.{classCount, methodCount, lineSize};
 ghost use Rattle.classes.specs.Figures.{tableSize};
-ghost use Rattle.classes.specs.Placing.{placed, classPlaced, rightIn, indexPut, methodPut, methodPlaced, mainPlaced};
+ghost use Rattle.classes.specs.Placing.{placed, classPlaced, rightKnown, indexPut, methodPut, methodPlaced, mainPlaced};
 
 // A byte's place in a line.
 pub enum Place {
@@ -82,13 +82,19 @@ pub fn place_class(l: &[u8], k: u8, n: u8, t: &mut [u8; SIZE]) -> bool
     true
 }
 
-// Where the right expression of a method's line stands.
-pub fn right_in(l: &[u8]) -> Place
+// Where the right expression of a method's line stands, if the classes that the expressions name are known.
+pub fn right_in(l: &[u8], n: u8) -> Place
     requires { ⌜ (8 ≤ length (now l)) × (length (now l) ≤ lineSize) ⌝ }
-    ensures { λ r. ⌜ r ≡ rightIn (now (l .entry)) ⌝ }
+    ensures { λ r. ⌜ r ≡ rightKnown n (now (l .entry)) ⌝ }
 {
-    let b = expr_end(l, 8 + 2 * wide(l[7]));
+    let b = skip_known(l, 8 + 2 * wide(l[7]), n);
+    if b == 0 {
+        return Place::Nothing;
+    }
     if 255 < b {
+        return Place::Nothing;
+    }
+    if !all_known(l, b, n) {
         return Place::Nothing;
     }
     Place::At(b as u8)
@@ -123,7 +129,7 @@ pub fn place_method(l: &[u8], i: u8, n: u8, t: &mut [u8; SIZE]) -> bool
     if l.len() < 8 {
         return false;
     }
-    if !method_good(l, n) {
+    if !head_good(l, n) {
         return false;
     }
     let c = l[1];
@@ -132,7 +138,7 @@ pub fn place_method(l: &[u8], i: u8, n: u8, t: &mut [u8; SIZE]) -> bool
     let Found::Nothing = f else {
         return false;
     };
-    let e = right_in(l);
+    let e = right_in(l, n);
     let Place::At(b) = e else {
         return false;
     };

@@ -1,14 +1,14 @@
 -- Laws of decoding, in the form in which the needs of `decode` and `decode_lines` cite them: what the loop keeps, and one for each return.
 -- Not here: what a caller learns from the contract (Established).
-use Prim.Native.Nat.{ℕ, _+_, _-_, _*_, _<_, _≤_}
+use Prim.Native.Nat.{ℕ, zero, suc, _+_, _-_, _*_, _/_, _<_, _≤_}
 use native.Mathlib.Omega.{arith}
 use mathlib.Core.Path.{_≡_, refl, sym, ap, _∙_}
 use mathlib.Core.Bool.{Bool, true, false, not, _&&_}
 use mathlib.Core.List.{List, [], _∷_, _++_, append-assoc, append-nil, reverse, reverse-cons}
 use mathlib.Core.Option.{Option, none, some}
 use lib.Dec.{eqb, leb}
-use lib.ListN.{length, getD, set, drop, length-append, length-reverse}
-use lib.Seq.{set-at, drop-drop}
+use lib.ListN.{length, getD, set, drop, length-append, length-reverse, length-set}
+use lib.Seq.{set-at}
 use mir.Val.{Fits}
 use mir.Syntax.{w8}
 use borrow.Author.Tests.{ne-eqb, eqb-true, eqb-false, le-leb, not-true, not-false}
@@ -18,9 +18,9 @@ use Rattle.cofj.specs.Text.{within, digit, endLine, linesFrom, lines}
 use Rattle.cofj.proofs.TextRound.{within-true}
 use Rattle.lineform.specs.declared.lines.Decoded.the-variants.{Packed as Filled, Refused}
 use Rattle.lineform.specs.Packed.{packed}
-use Rattle.lineform.specs.Answers.{Roomy, Decodable, Decodes, endsLine, pairValue}
+use Rattle.lineform.specs.Answers.{Roomy, Decodable, Decodes, endsLine, pairValue, putPairs, Puts, Ahead}
 use Rattle.lineform.proofs.Ends.{more, no-more}
-use Rattle.lineform.proofs.HexLaws.{below, above, inside, pairOf, pair-is, pair-none, pair-goes-on}
+use Rattle.lineform.proofs.HexLaws.{below, above, inside, pairOf, pair-is, pair-none, pair-goes-on, first-byte, second-byte, third-byte}
 use Rattle.lineform.proofs.PackedLaws.{packed-append}
 
 -- ---- the definition, two characters at a time
@@ -272,6 +272,142 @@ module _ (text out₀ out : List ℕ) (i w o : ℕ) (r : Reading text out₀ out
       last-ends z w1 pace room short =
           let h : o < length out₀ = omega arith in
           all-read text out₀ (set out w n) (i + 1) o (rw en (wrote (omega arith) (sym (rw (count n en) at eb) ∙ not-false b z) w1 h)) one short h (omega arith)
+
+-- ---- bytes that are written ahead
+pub puts-start : (text out : List ℕ) (from to : ℕ) → from < length text → Puts text out out from to from to
+unfolding putPairs
+puts-start text out from to h = record {
+  count = 0;
+  at = omega arith;
+  on = omega arith;
+  inside = h;
+  good = λ j l. absurd (omega arith);
+  bytes = refl;
+  size = refl;
+}
+
+module _ (text out₀ out : List ℕ) (from to i o : ℕ) (p : Puts text out₀ out from to i o) where
+  pub puts-end : Puts text out₀ out from to i (to + (i - from) / 2)
+  puts-end = record {
+    count = p .count;
+    at = p .at;
+    on = let e = p .at in omega arith;
+    inside = p .inside;
+    good = p .good;
+    bytes = p .bytes;
+    size = p .size;
+  }
+
+  puts-one : (x : ℕ) → x ≡ pairValue (getD text i 0) (getD text (i + 1) 0) → x < 256 → i + 2 < length text → Puts text out₀ (set out o x) from to (i + 2) (o + 1)
+  unfolding putPairs
+  puts-one x ex lx h =
+      let ei = p .at in
+      let eo = p .on in
+      record {
+        count = suc (p .count);
+        at = omega arith;
+        on = omega arith;
+        inside = h;
+        good = good;
+        bytes = rw (p .bytes, eo, ex, ei);
+        size = length-set out o x ∙ p .size;
+      }
+    where
+      here : pairValue (getD text (from + 2 * p .count) 0) (getD text (from + 2 * p .count + 1) 0) < 256
+      here = rw (← (p .at), ← ex) lx
+
+      good : (j : ℕ) → j < suc (p .count) → pairValue (getD text (from + 2 * j) 0) (getD text (from + 2 * j + 1) 0) < 256
+      good j l = go (eqb j (p .count)) refl
+        where
+          go : (b : Bool) → eqb j (p .count) ≡ b → pairValue (getD text (from + 2 * j) 0) (getD text (from + 2 * j + 1) 0) < 256
+          go true q = rw (eqb-true j (p .count) q) here
+          go false q = let n = eqb-false j (p .count) q in p .good j (omega arith)
+
+-- three bytes more
+pub puts-three : (text out₀ out : List ℕ) (from to i o : ℕ) → Puts text out₀ out from to i o → (x y z : ℕ)
+    → x ≡ pairValue (getD text i 0) (getD text (i + 1) 0) → y ≡ pairValue (getD text (i + 2) 0) (getD text (i + 3) 0) → z ≡ pairValue (getD text (i + 4) 0) (getD text (i + 5) 0)
+    → x + y + z < 768 → i + 6 < length text → Puts text out₀ (set (set (set out o x) (o + 1) y) (o + 2) z) from to (i + 6) (o + 3)
+puts-three text out₀ out from to i o p x y z ex ey ez h l =
+    let i3 : i + 3 ≡ i + 2 + 1 = omega arith in
+    let i4 : i + 4 ≡ i + 2 + 2 = omega arith in
+    let i5 : i + 5 ≡ i + 2 + 2 + 1 = omega arith in
+    let i6 : i + 6 ≡ i + 2 + 2 + 2 = omega arith in
+    let o2 : o + 2 ≡ o + 1 + 1 = omega arith in
+    let o3 : o + 3 ≡ o + 1 + 1 + 1 = omega arith in
+    let all : (x < 256) × (y < 256) × (z < 256) = (
+      first-byte (getD text i 0) (getD text (i + 1) 0) (getD text (i + 2) 0) (getD text (i + 3) 0) x y ex ey (getD text (i + 4) 0) (getD text (i + 5) 0) z ez h,
+      second-byte (getD text i 0) (getD text (i + 1) 0) (getD text (i + 2) 0) (getD text (i + 3) 0) x y ex ey (getD text (i + 4) 0) (getD text (i + 5) 0) z ez h,
+      third-byte (getD text i 0) (getD text (i + 1) 0) (getD text (i + 2) 0) (getD text (i + 3) 0) x y ex ey (getD text (i + 4) 0) (getD text (i + 5) 0) z ez h,
+    ) in
+    let a = puts-one text out₀ out from to i o p x ex (all .0) (omega arith) in
+    let b = puts-one text out₀ (set out o x) from to (i + 2) (o + 1) a y (rw i3 at ey) (all .1) (omega arith) in
+    rw (o2, i6, o3)
+    (puts-one text out₀ (set (set out o x) (o + 1) y) from to (i + 2 + 2) (o + 1 + 1) b z (rw (i4, i5) at ez) (all .2) (omega arith))
+
+pairs-none : (text out₀ out : List ℕ) (i w o : ℕ) → Reading text out₀ out i w o → Reading text out₀ out (i + 2 * 0) w (o + 0)
+pairs-none text out₀ out i w o r =
+    let a : i + 2 * 0 ≡ i = omega arith in
+    let b : o + 0 ≡ o = omega arith in
+    rw (a, b) r
+
+pairs-next : (text out₀ out : List ℕ) (i w o m x : ℕ) → Reading text out₀ out (i + 2 * m) w (o + m) → x ≡ pairValue (getD text (i + 2 * m) 0) (getD text (i + 2 * m + 1) 0)
+    → x < 256 → i + 2 * suc m < length text → w + 1 ≤ o → 4 * o ≤ 2 * i + w + 4 → 2 * length text + 10 ≤ 3 * length out₀
+    → Reading text out₀ (set out (o + m) x) (i + 2 * suc m) w (o + suc m)
+pairs-next text out₀ out i w o m x r ex lx h w1 pace room =
+    let a : i + 2 * suc m ≡ i + 2 * m + 2 = omega arith in
+    let b : o + suc m ≡ o + m + 1 = omega arith in
+    rw (a, b) (byte-more text out₀ out (i + 2 * m) w (o + m) r (length text - 1) refl (omega arith) x ex lx (omega arith) (omega arith) room)
+
+pairs-put : (text out : List ℕ) (i o m : ℕ)
+    → putPairs text i out o (suc m) ≡ set (putPairs text i out o m) (o + m) (pairValue (getD text (i + 2 * m) 0) (getD text (i + 2 * m + 1) 0))
+unfolding putPairs
+pairs-put text out i o m = refl
+
+pairs-put-none : (text out : List ℕ) (i o : ℕ) → putPairs text i out o 0 ≡ out
+unfolding putPairs
+pairs-put-none text out i o = refl
+
+reading-pairs : (text out₀ out : List ℕ) (i w o m : ℕ) → Reading text out₀ out i w o → ((j : ℕ) → j < m → pairValue (getD text (i + 2 * j) 0) (getD text (i + 2 * j + 1) 0) < 256)
+    → i + 2 * m < length text → w + 1 ≤ o → 4 * o ≤ 2 * i + w + 4 → 2 * length text + 10 ≤ 3 * length out₀
+    → Reading text out₀ (putPairs text i out o m) (i + 2 * m) w (o + m)
+reading-pairs text out₀ out i w o zero r good h w1 pace room = rw (pairs-put-none text out i o) (pairs-none text out₀ out i w o r)
+reading-pairs text out₀ out i w o (suc m) r good h w1 pace room =
+    rw (pairs-put text out i o m)
+    (pairs-next text out₀ (putPairs text i out o m) i w o m (pairValue (getD text (i + 2 * m) 0) (getD text (i + 2 * m + 1) 0))
+    (reading-pairs text out₀ out i w o m r (λ j l. good j (omega arith)) (omega arith) w1 pace room) refl (good m (omega arith)) h w1 pace room)
+
+module _ (text out₀ out : List ℕ) (i w o : ℕ) (r : Reading text out₀ out i w o) (w1 : w + 1 ≤ o) (pace : 4 * o ≤ 2 * i + w + 4) (room : 2 * length text + 10 ≤ 3 * length out₀) where
+  reading-on : (out′ : List ℕ) (e k : ℕ) → Puts text out out′ i o e k → Reading text out₀ out′ e w k
+  reading-on out′ e k p =
+      let h = p .inside in
+      let a = p .at in
+      rw (p .bytes, p .at, p .on) (reading-pairs text out₀ out i w o (p .count) r (p .good) (omega arith) w1 pace room)
+
+module _ (text out₀ out : List ℕ) (i w o : ℕ) (r : Reading text out₀ out i w o) (last : ℕ) (el : last ≡ length text - 1) (hl : i < last) where
+  pub ends-ahead : (n : ℕ) (b : Bool) (out′ : List ℕ) (e k : ℕ) → n ≡ o - w - 1 → b ≡ endsLine (getD text i 0) n → not b ≡ false → w + 1 ≤ o
+      → 4 * o ≤ 2 * i + w + 4 → 2 * length text + 10 ≤ 3 * length out₀ → Puts text (set out w n) out′ (i + 1) (o + 1) e k → Reading text out₀ out′ e o k
+  ends-ahead n b out′ e k en eb z w1 pace room p =
+      reading-on text out₀ (set out w n) (i + 1) o (o + 1) (line-ends text out₀ out i w o r last el hl n en b eb z w1 pace room) (omega arith)
+      (line-pace i w o (getD text i 0) n b eb z en pace) room out′ e k p
+
+module _ (text out₀ out : List ℕ) (w n : ℕ) (same : length out ≡ length out₀) where
+  pub ahead-room : (i o last : ℕ) → last ≡ length text - 1 → i < last → w + 1 ≤ o → 4 * o ≤ 2 * i + w + 4 → 2 * length text + 10 ≤ 3 * length out₀
+      → Ahead text (set out w n) (i + 1) (o + 1)
+  ahead-room i o last el hl w1 pace room =
+      let e = length-set out w n in
+      record { some-text = omega arith; room = omega arith }
+
+  pub ahead-length : (out′ : List ℕ) (a b e k : ℕ) → Puts text (set out w n) out′ a b e k → length out′ ≡ length out₀
+  ahead-length out′ a b e k p = p .size ∙ length-set out w n ∙ same
+
+-- the pace is kept
+pub ahead-pace : (text out out′ : List ℕ) (i w o c n e k : ℕ) (b : Bool) → b ≡ endsLine c n → not b ≡ false → n ≡ o - w - 1 → 4 * o ≤ 2 * i + w + 4
+    → Puts text out out′ (i + 1) (o + 1) e k → 4 * k ≤ 2 * e + o + 4
+ahead-pace text out out′ i w o c n e k b eb z en pace p =
+    let l = line-pace i w o c n b eb z en pace in
+    let x = p .at in
+    let y = p .on in
+    omega arith
 
 -- ---- what `decode` hands on
 pub decodable : (text out : List ℕ) → Roomy text out → (length text ≡ 0 → ⊥) → length text ≤ 49567 → Decodable text out

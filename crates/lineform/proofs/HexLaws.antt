@@ -69,10 +69,10 @@ small c d e = go (within 48 57 c) refl (within 65 70 c) refl e
         omega arith
     go false p false q z = let k : _≡_ {A = ℕ} 0 1 = cc in absurd (omega arith)
 
-value-most : (c : ℕ) → valueOf (digit c) ≤ 256
+value-most : (c : ℕ) → valueOf (digit c) ≤ 768
 value-most c = go (digit c) (small c)
   where
-    go : (p : Option ℕ) → ((d : ℕ) → p ≡ some d → d ≤ 15) → valueOf p ≤ 256
+    go : (p : Option ℕ) → ((d : ℕ) → p ≡ some d → d ≤ 15) → valueOf p ≤ 768
     go none s = omega arith
     go (some d) s = let k = s d refl in omega arith
 
@@ -111,8 +111,52 @@ pair-none a b r = go (digit a) (digit b) (small a) (small b)
         let n = t d refl in
         absurd (omega arith)
 
+-- a number below 768 is a byte
+pub pair-small : (a b : ℕ) → pairValue a b < 768 → pairValue a b < 256
+pair-small a b = go (digit a) (digit b) (small a) (small b)
+  where
+    go : (p q : Option ℕ) → ((d : ℕ) → p ≡ some d → d ≤ 15) → ((d : ℕ) → q ≡ some d → d ≤ 15)
+        → 16 * valueOf p + valueOf q < 768 → 16 * valueOf p + valueOf q < 256
+    go none q s t l = absurd (omega arith)
+    go (some h) none s t l = absurd (omega arith)
+    go (some h) (some d) s t l =
+        let m = s h refl in
+        let n = t d refl in
+        omega arith
+
+-- three numbers of pairs: their sum fits, and below 768 all are bytes
+module _ (a b c d x y : ℕ) (ex : x ≡ pairValue a b) (ey : y ≡ pairValue c d) where
+  pub two-fit : Fits w16 (x + y)
+  two-fit =
+      let s = value-most a in
+      let t = value-most b in
+      let u = value-most c in
+      let v = value-most d in
+      omega arith
+
+  module _ (e f z : ℕ) (ez : z ≡ pairValue e f) where
+    pub three-fit : Fits w16 (x + y + z)
+    three-fit =
+        let s = value-most a in
+        let t = value-most b in
+        let u = value-most c in
+        let v = value-most d in
+        let m = value-most e in
+        let n = value-most f in
+        omega arith
+
+    module _ (h : x + y + z < 768) where
+      pub first-byte : x < 256
+      first-byte = rw ex (pair-small a b (rw ex at (let l : x < 768 = omega arith in l)))
+
+      pub second-byte : y < 256
+      second-byte = rw ey (pair-small c d (rw ey at (let l : y < 768 = omega arith in l)))
+
+      pub third-byte : z < 256
+      third-byte = rw ez (pair-small e f (rw ez at (let l : z < 768 = omega arith in l)))
+
 -- a first digit is no line end
 pub pair-goes-on : (a b : ℕ) → pairValue a b < 256 → a ≡ 10 → ⊥
 pair-goes-on a b l e =
-    let p : pairValue a b ≡ 16 * 256 + valueOf (digit b) = ap (λ (x : ℕ). pairValue x b) e in
+    let p : pairValue a b ≡ 16 * 768 + valueOf (digit b) = ap (λ (x : ℕ). pairValue x b) e in
     omega arith

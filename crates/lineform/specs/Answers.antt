@@ -1,11 +1,11 @@
 -- What the functions answer, of what the language's definitions give. Not here: lines as bytes (Packed).
-use Prim.Native.Nat.{ℕ, _+_, _*_, _-_, _<_, _≤_}
+use Prim.Native.Nat.{ℕ, zero, suc, _+_, _*_, _-_, _<_, _≤_}
 use mathlib.Core.Path.{_≡_}
 use mathlib.Core.Bool.{Bool, true, false, _&&_}
-use mathlib.Core.List.{List, [], _∷_, _++_}
+use mathlib.Core.List.{List, _++_}
 use mathlib.Core.Option.{Option, none, some}
 use lib.Dec.{eqb, leb, ltb}
-use lib.ListN.{length, getD, drop}
+use lib.ListN.{length, getD, set, drop}
 use Rattle.cofj.specs.Limits.{lineSize, textSize}
 use Rattle.cofj.specs.Partial.{_>>=_}
 use Rattle.cofj.specs.Text.{within, digit, lines}
@@ -25,18 +25,38 @@ use Rattle.lineform.specs.declared.lines.Ordered.{Ordered}
 use Rattle.lineform.specs.declared.lines.Ordered.the-variants.{Counts, Refused as NoOrder}
 use Rattle.lineform.specs.Packed.{packed}
 
--- a digit's value, and a number that is no digit's
+-- a digit's value, and a number that no three bytes come to
 abbrev pub valueOf : Option ℕ → ℕ
-valueOf none = 256
+valueOf none = 768
 valueOf (some d) = d
 
 -- the values of all characters
 pub record Values (t : List ℕ) : Type 0 where
   pub at : (c : ℕ) → c < 256 → getD t c 0 ≡ valueOf (digit c)
 
--- the byte of two digits; 256 or more if one is none
+-- the byte of two digits; 768 or more if one is none
 abbrev pub pairValue : ℕ → ℕ → ℕ
 pairValue a b = 16 * valueOf (digit a) + valueOf (digit b)
+
+-- the bytes of m pairs of digits from the place `from` on, written from `to` on
+unfoldable pub putPairs : List ℕ → ℕ → List ℕ → ℕ → ℕ → List ℕ
+putPairs text from out to zero = out
+putPairs text from out to (suc m) = set (putPairs text from out to m) (to + m) (pairValue (getD text (from + 2 * m) 0) (getD text (from + 2 * m + 1) 0))
+
+-- what is written where the next pair stands at i and goes to o
+pub record Puts (text out₀ out : List ℕ) (from to i o : ℕ) : Type 0 where
+  pub count : ℕ
+  pub at : i ≡ from + 2 * count
+  pub on : o ≡ to + count
+  pub inside : i < length text
+  pub good : (j : ℕ) → j < count → pairValue (getD text (from + 2 * j) 0) (getD text (from + 2 * j + 1) 0) < 256
+  pub bytes : out ≡ putPairs text from out₀ to count
+  pub size : length out ≡ length out₀
+
+-- there is text from `from` on, and room from `to` on
+pub record Ahead (text out : List ℕ) (from to : ℕ) : Type 0 where
+  pub some-text : from < length text
+  pub room : 2 * to + length text ≤ 2 * length out + from + 2
 
 -- the character c ends a line of n bytes
 abbrev pub endsLine : ℕ → ℕ → Bool

@@ -11,7 +11,7 @@ pub fn values() -> [u16; 256]
     VALUES
 }
 
-// The value of a digit's character, or 256 of any other.
+// The value of a digit's character, or 768 of any other.
 fn value(t: &[u16; 256], c: u8) -> u16
     requires { ⌜ Values (now t) ⌝ }
     ensures { λ r. ⌜ r ≡ valueOf (digit c) ⌝ }
@@ -19,7 +19,7 @@ fn value(t: &[u16; 256], c: u8) -> u16
     t[c as usize]
 }
 
-// The byte of two digits, or a number from 256 on.
+// The byte of two digits, or a number from 768 on.
 pub fn pair(t: &[u16; 256], a: u8, b: u8) -> u16
     requires { ⌜ Values (now t) ⌝ }
     ensures { λ r. ⌜ r ≡ pairValue a b ⌝ }

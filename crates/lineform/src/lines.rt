@@ -1,11 +1,11 @@
 // A text's lines, packed: each as its count of bytes and its bytes. Decoded (refusal 1), all framed (2), in order (3).
 // Not here: what a line says (frames).
 ghost use mathlib.Core.Path.{_≡_};
-ghost use Prim.Native.Nat.{_≤_};
+ghost use Prim.Native.Nat.{_≤_, _+_, _-_, _/_};
 ghost use lib.ListN.{length};
 ghost use Rattle.cofj.specs.Frames.{frames};
 ghost use Rattle.lineform.specs.Packed.{unpack, Packed, FramedLines};
-ghost use Rattle.lineform.specs.Answers.{Values, Roomy, Decodable, Decodes, endsLine, isSome, orderOf};
+ghost use Rattle.lineform.specs.Answers.{Values, Roomy, Ahead, Puts, Decodable, Decodes, endsLine, isSome, orderOf};
 use crate::exprs::wide;
 use crate::frames::Framed;
 use crate::frames::frame_kind;
@@ -22,6 +22,9 @@ const CLASS_COUNT: usize = 32;
 const METHOD_COUNT: usize = 64;
 
 pub const LF: u8 = 10;
+
+// what no sum of three bytes reaches (digits)
+const NO_BYTE: u16 = 768;
 
 pub enum Decoded {
     Packed(usize),
@@ -61,6 +64,30 @@ fn ends_line(c: u8, n: usize) -> bool
     n <= LINE_SIZE
 }
 
+// Writes the bytes of the digits from `from` on to `to` and further, three at a time, until there are no three. The place after them.
+fn put_ahead(text: &[u8], t: &[u16; 256], from: usize, out: &mut [u8], to: usize) -> usize
+    requires { ⌜ Ahead (now text) (now out) from to × Values (now t) ⌝ }
+    ensures { λ r. ⌜ Puts (now (text .entry)) (now (out .entry)) (now (out .exit)) from to r (to + (r - from) / 2) ⌝ }
+{
+    let n = text.len();
+    let mut i: usize = from;
+    let mut o: usize = to;
+    while i + 6 < n {
+        let x = pair(t, text[i], text[i + 1]);
+        let y = pair(t, text[i + 2], text[i + 3]);
+        let z = pair(t, text[i + 4], text[i + 5]);
+        if NO_BYTE <= x + y + z {
+            return i;
+        }
+        out[o] = x as u8;
+        out[o + 1] = y as u8;
+        out[o + 2] = z as u8;
+        i += 6;
+        o += 3;
+    }
+    i
+}
+
 // The same of a text of a fit length. At `w` the line begins whose next byte goes to `o`.
 fn decode_lines(text: &[u8], t: &[u16; 256], out: &mut [u8]) -> Decoded
     requires { ⌜ Decodable (now text) (now out) × Values (now t) ⌝ }
@@ -85,8 +112,10 @@ fn decode_lines(text: &[u8], t: &[u16; 256], out: &mut [u8]) -> Decoded
         }
         out[w] = n as u8;
         w = o;
-        o += 1;
-        i += 1;
+        let a = i + 1;
+        let b = o + 1;
+        i = put_ahead(text, t, a, out, b);
+        o = b + (i - a) / 2;
     }
     if last < i {
         return Decoded::Refused;

@@ -14,7 +14,6 @@ pub item-fits-spec : {M : Type 1} → statement M
 item-fits-spec =
     tie.close
     (tie.spec
-    (λ c κs. search needs)
     (λ c. search needs)
     (λ c. search needs)
     returns

@@ -4,6 +4,9 @@ use Rattle.checker.proofs.scope.found.Statement.{statement}
 use Rattle.checker.proofs.scope.found.Tie as tie
 use Rattle.checker.proofs.TypeLaws as laws
 
+returns : tie.Need-returns
+returns c = search laws.found-none
+
 returns-2 : tie.Need-returns-2
 returns-2 c = search laws.found-type
 
@@ -13,5 +16,6 @@ found-spec =
     (tie.spec
     (λ c. search needs)
     (λ c. search needs)
-    (λ c. search needs)
+    returns
+    (λ c κs. search needs)
     returns-2)

@@ -4,6 +4,9 @@ use Rattle.checker.proofs.scope.res_type.Statement.{statement}
 use Rattle.checker.proofs.scope.res_type.Tie as tie
 use Rattle.checker.proofs.TypeLaws as laws
 
+returns : tie.Need-returns
+returns c = search laws.res-none
+
 returns-2 : tie.Need-returns-2
 returns-2 c = search laws.res-class
 
@@ -13,5 +16,6 @@ res-type-spec =
     (tie.spec
     (λ c. search needs)
     (λ c. search needs)
-    (λ c. search needs)
+    returns
+    (λ c κs. search needs)
     returns-2)

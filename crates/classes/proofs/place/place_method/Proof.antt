@@ -1,13 +1,7 @@
+-- `place::place_method` meets its contract: a law of PlaceLaws at each return.
 use borrow.Author.Needs.{needs}
 use Rattle.classes.proofs.place.place_method.Statement.{statement}
 use Rattle.classes.proofs.place.place_method.Tie as tie
-use Rattle.classes.proofs.place.place_method.Reads as reads
-use Rattle.classes.proofs.place.place_method.Lts as lts
-use Rattle.classes.proofs.known.method_good.Reads as method-good-reads
-use Rattle.classes.proofs.methods.own_method.Reads as own-method-reads
-use Rattle.classes.proofs.place.put_index.Reads as put-index-reads
-use Rattle.classes.proofs.place.put_method.Reads as put-method-reads
-use Rattle.classes.proofs.place.right_in.Reads as right-in-reads
 use Rattle.classes.proofs.PlaceLaws as laws
 
 returns : tie.Need-returns

@@ -2,10 +2,6 @@
 -- (4o - w - 4) / 2 characters), and that a line is open where the last character is passed.
 use Rattle.lineform.proofs.lines.decode_lines.Statement.{statement}
 use Rattle.lineform.proofs.lines.decode_lines.Tie as tie
-use Rattle.lineform.proofs.lines.decode_lines.Reads as reads
-use Rattle.lineform.proofs.lines.decode_lines.Lts as lts
-use Rattle.lineform.proofs.hex.pair.Reads as pair-reads
-use Rattle.lineform.proofs.lines.ends_line.Reads as ends-line-reads
 use borrow.Author.Needs.{needs}
 use Prim.Native.Nat.{_≤_, _+_, _*_, _-_}
 use mathlib.Core.Path.{_≡_}
@@ -32,8 +28,11 @@ returns c = search laws.line-bad
 cast-out-2 : tie.Need-cast-out-2 Inv-loop μ-loop
 cast-out-2 c = search laws.count-fits
 
+put-ahead-requires : tie.Need-put-ahead-requires Inv-loop μ-loop
+put-ahead-requires c κs = (search laws.ahead-room, search needs)
+
 loop-again-2 : tie.Need-loop-again-2 Inv-loop μ-loop
-loop-again-2 c = (search needs, search needs, search laws.line-pace, search needs, simp length-set (omega arith), search laws.line-ends)
+loop-again-2 c = (search needs, search needs, search laws.ahead-pace, search needs, search laws.ahead-length, search laws.ends-ahead)
 
 returns-2 : tie.Need-returns-2 Inv-loop μ-loop
 returns-2 c = search laws.text-open
@@ -72,6 +71,9 @@ decode-lines-spec =
     returns
     cast-out-2
     (λ c. search needs)
+    (λ c. search needs)
+    (λ c. search needs)
+    put-ahead-requires
     (λ c. search needs)
     (λ c. search needs)
     (λ c. search needs)

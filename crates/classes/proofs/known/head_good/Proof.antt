@@ -1,12 +1,7 @@
+-- `known::head_good` meets its contract: a law of LineLaws at each return.
 use borrow.Author.Needs.{needs}
-use Rattle.classes.proofs.known.method_good.Statement.{statement}
-use Rattle.classes.proofs.known.method_good.Tie as tie
-use Rattle.classes.proofs.known.method_good.Reads as reads
-use Rattle.classes.proofs.known.method_good.Lts as lts
-use Rattle.classes.proofs.known.all_known.Reads as all-known-reads
-use Rattle.classes.proofs.known.closed.Reads as closed-reads
-use Rattle.classes.proofs.known.types_good.Reads as types-good-reads
-use Rattle.classes.proofs.places.wide.Reads as wide-reads
+use Rattle.classes.proofs.known.head_good.Statement.{statement}
+use Rattle.classes.proofs.known.head_good.Tie as tie
 use Rattle.classes.proofs.LineLaws as laws
 
 returns : tie.Need-returns
@@ -30,11 +25,8 @@ returns-6 c = search laws.method-open
 returns-7 : tie.Need-returns-7
 returns-7 c = search laws.method-params
 
-returns-8 : tie.Need-returns-8
-returns-8 c = search laws.method-exprs
-
-pub method-good-spec : {M : Type 1} → statement M
-method-good-spec =
+pub head-good-spec : {M : Type 1} → statement M
+head-good-spec =
     tie.close
     (tie.spec
     returns
@@ -51,9 +43,4 @@ method-good-spec =
     returns-6
     (λ c. search needs)
     (λ c κs. search needs)
-    returns-7
-    (λ c κs. search needs)
-    (λ c. search needs)
-    (λ c. search needs)
-    (λ c κs. search needs)
-    returns-8)
+    returns-7)
