@@ -29,7 +29,9 @@ use Rattle.values.specs.Laying.{valuesFrom}
 use Rattle.evaluator.specs.declared.Stop.{Stop}
 use Rattle.evaluator.specs.declared.Out.{Out}
 use Rattle.evaluator.specs.declared.Out.the-variants.{Value, Halt}
-use Rattle.evaluator.specs.State.{Is, Absent, Frame, Kept, callAt, callIn, frameIn, traceIn}
+use Rattle.evaluator.specs.declared.frame.Held.the-variants.{Is, Absent}
+use Rattle.evaluator.specs.declared.frame.Frame.{Frame}
+use Rattle.evaluator.specs.State.{Kept, callAt, callIn, frameIn, traceIn}
 use Rattle.evaluator.specs.Answers.{stopOf}
 use Rattle.evaluator.specs.Evaluation.{Tabled, Reads, evalIn, deeper, Evaluates}
 use Rattle.evaluator.specs.Calling.{RunsRight, RunsLeft}

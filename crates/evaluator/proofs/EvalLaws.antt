@@ -19,7 +19,10 @@ use Rattle.checker.specs.Shapes.{shapeAt}
 use Rattle.evaluator.specs.declared.Stop.the-variants.{Stuck}
 use Rattle.evaluator.specs.declared.Out.{Out}
 use Rattle.evaluator.specs.declared.Out.the-variants.{Halt}
-use Rattle.evaluator.specs.State.{Held, Is, Absent, Frame, HeldOlder, heldIn, frameIn, traceIn, variableOf}
+use Rattle.evaluator.specs.declared.frame.Held.{Held}
+use Rattle.evaluator.specs.declared.frame.Held.the-variants.{Is, Absent}
+use Rattle.evaluator.specs.declared.frame.Frame.{Frame}
+use Rattle.evaluator.specs.State.{HeldOlder, heldIn, frameIn, traceIn, variableOf}
 use Rattle.evaluator.specs.Answers.{outOf, OutOlder, Shows}
 use Rattle.evaluator.specs.Evaluation.{Reads, ReadsAll, evalIn, Fits, Evaluates, Fields, News}
 use Rattle.evaluator.specs.Calling.{Calls}

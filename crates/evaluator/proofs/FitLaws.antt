@@ -21,7 +21,8 @@ use Rattle.values.specs.Layout.{valueOf}
 use Rattle.values.specs.Laying.{valuesFrom}
 use Rattle.evaluator.specs.declared.Out.{Out}
 use Rattle.evaluator.specs.declared.Out.the-variants.{Value}
-use Rattle.evaluator.specs.State.{baseAt, Older, Frame, slotAt, PartsOlder, callAt, CallOlder, CallsHold, callIn, sameOf, traceIn, metOf}
+use Rattle.evaluator.specs.declared.frame.Frame.{Frame}
+use Rattle.evaluator.specs.State.{baseAt, Older, slotAt, PartsOlder, callAt, CallOlder, CallsHold, callIn, sameOf, traceIn, metOf}
 use Rattle.evaluator.specs.Answers.{Listed, Values, slotsOf}
 use Rattle.evaluator.specs.Calling.{FewIf, ArgsFit, CallFits, BodyFits, FindsTarget}
 use Rattle.evaluator.specs.Evaluation.{Fits, ListFits, Evaluates, Lists}

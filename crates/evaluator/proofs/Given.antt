@@ -13,7 +13,8 @@ use Rattle.values.specs.Laying.{valuesFrom}
 use Rattle.evaluator.specs.declared.Stop.{Stop}
 use Rattle.evaluator.specs.declared.Out.{Out}
 use Rattle.evaluator.specs.declared.Out.the-variants.{Value, Halt}
-use Rattle.evaluator.specs.State.{Frame, Older, PartsOlder, frameIn, traceIn}
+use Rattle.evaluator.specs.declared.frame.Frame.{Frame}
+use Rattle.evaluator.specs.State.{Older, PartsOlder, frameIn, traceIn}
 use Rattle.evaluator.specs.Answers.{Listed, Values, Stops, stopOf, outIn, slotsOf, listIn, OutOlder, ListOlder, NextIs, ListNext}
 use Rattle.evaluator.specs.Evaluation.{Reads, ReadsAll, evalIn, evalsIn, Evaluates, Lists}
 

@@ -15,7 +15,10 @@ use Rattle.values.specs.Layout.{valueOf, Outside, Low}
 use Rattle.values.specs.Laying.{valuesFrom, PartsHeld}
 use Rattle.values.proofs.Kept as values
 use Rattle.values.proofs.Kept.{object-kept}
-use Rattle.evaluator.specs.State.{Held, Is, Absent, Frame, OpenCall, Kept, Older, slotAt, PartsOlder, HeldOlder, heldIn, FrameHolds, frameIn, callAt, CallOlder, TraceHolds, callIn, traceIn}
+use Rattle.evaluator.specs.declared.frame.Held.{Held}
+use Rattle.evaluator.specs.declared.frame.Held.the-variants.{Is, Absent}
+use Rattle.evaluator.specs.declared.frame.Frame.{Frame}
+use Rattle.evaluator.specs.State.{OpenCall, Kept, Older, slotAt, PartsOlder, HeldOlder, heldIn, FrameHolds, frameIn, callAt, CallOlder, TraceHolds, callIn, traceIn}
 
 -- ---- changes, one after the other
 pub kept-none : (sp : ℕ) (W : List ℕ) → Kept sp W W

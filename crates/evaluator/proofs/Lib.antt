@@ -13,6 +13,7 @@ pub mod ListLaws
 pub mod CallLaws
 pub mod FitLaws
 pub mod StepLaws
+pub mod FrameLaws
 pub mod CallSteps
 pub mod SideSteps
 pub mod RunLaws

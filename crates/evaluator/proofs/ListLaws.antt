@@ -26,7 +26,8 @@ use Rattle.evaluator.specs.declared.Stop.{Stop}
 use Rattle.evaluator.specs.declared.Stop.the-variants.{Stuck}
 use Rattle.evaluator.specs.declared.Out.{Out}
 use Rattle.evaluator.specs.declared.Out.the-variants.{Value, Halt}
-use Rattle.evaluator.specs.State.{Frame, Older, slotAt, PartsOlder, Kept, frameIn, traceIn}
+use Rattle.evaluator.specs.declared.frame.Frame.{Frame}
+use Rattle.evaluator.specs.State.{Older, slotAt, PartsOlder, Kept, frameIn, traceIn}
 use Rattle.evaluator.specs.Answers.{Listed, Values, Stops, stopOf, slotsOf, frontOf, listIn, ListOlder, ListNext, ShowsAll, Finishes}
 use Rattle.evaluator.specs.Evaluation.{Tabled, ReadsAll, Reads, evalIn, evalsIn, ListFits, Evaluates, Fields, Lists, News}
 use Rattle.evaluator.proofs.Keeping.{kept-none, kept-then, value-kept, older-kept, older-up, frame-same, trace-same}

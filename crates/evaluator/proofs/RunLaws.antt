@@ -10,8 +10,9 @@ use Rattle.cofj.specs.Running.{runWithin, mainFrame}
 use Rattle.classes.proofs.Zones.{main-stands}
 use Rattle.values.specs.Laying.{valuesFrom}
 use Rattle.evaluator.specs.declared.Out.{Out}
-use Rattle.evaluator.specs.State.{Absent, HeldOlder, heldIn, frameIn, traceIn}
-use Rattle.evaluator.specs.Stack.{fuelOf, topOf, heldThis, heldMark, heldArgs, frameAt, outAt}
+use Rattle.evaluator.specs.declared.frame.Held.the-variants.{Absent}
+use Rattle.evaluator.specs.State.{HeldOlder, heldIn, frameIn, traceIn}
+use Rattle.evaluator.specs.Stack.{fuelOf, topOf, heldThis, heldMark, noArgs, heldArgs, frameAt, outAt}
 use Rattle.evaluator.specs.Evaluation.{evalIn}
 use Rattle.evaluator.specs.Steps.{Runnable, EvalStep}
 use Rattle.evaluator.specs.Main.{Runs}
@@ -60,7 +61,7 @@ module _ (W S : List ℕ) (fuel : ℕ) (b : Bare S fuel) where
   no-res : heldMark S ≡ Absent
   no-res = mark-absent S (b .mark)
 
-  no-args : heldArgs S ≡ []
+  no-args : heldArgs S ≡ noArgs
   no-args = args-absent S (let e = b .base in omega arith)
 
   frame-none : frameIn W (frameAt S) ≡ mainFrame

@@ -15,7 +15,9 @@ use Rattle.values.specs.Layout.{valueOf, Holds}
 use Rattle.values.specs.Operations.{Gives}
 use Rattle.evaluator.specs.declared.Out.the-variants.{Value, Halt}
 use Rattle.evaluator.specs.Refs.{refIn, Small}
-use Rattle.evaluator.specs.State.{Held, Is, Absent, FrameHolds, CallOlder, refAt, argsAt, baseAt, callAt, traceIn}
+use Rattle.evaluator.specs.declared.frame.Held.{Held}
+use Rattle.evaluator.specs.declared.frame.Held.the-variants.{Is, Absent}
+use Rattle.evaluator.specs.State.{FrameHolds, CallOlder, refAt, argsAt, baseAt, callAt, traceIn}
 use Rattle.evaluator.specs.Stack.{fuelOf, topOf, heldThis, heldMark, heldArgs, frameAt, Stacked, stopAt, outAt, FrameSet, CallSet}
 use Rattle.evaluator.specs.Evaluation.{Evaluates}
 use Rattle.evaluator.specs.Calling.{RunsRight, RunsLeft}

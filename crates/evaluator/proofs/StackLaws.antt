@@ -5,7 +5,7 @@ use native.Mathlib.Omega.{arith}
 use mathlib.Core.Path.{_≡_, refl, sym, ap, _∙_, subst}
 use mathlib.Core.Bool.{Bool, true, false}
 use mathlib.Core.List.{List, [], _∷_}
-use lib.Dec.{eqb, ltb}
+use lib.Dec.{ltb}
 use lib.ListN.{length, getD, set, length-set}
 use lib.Seq.{getD-set-same, getD-set-other}
 use borrow.Author.Tests.{lt-ltb, le-ltb, eq-eqb, ne-eqb, ltb-true}
@@ -15,9 +15,10 @@ use Rattle.evaluator.specs.declared.Stop.{Stop}
 use Rattle.evaluator.specs.declared.Stop.the-variants.{Stuck, NoFuel, TooDeep, TooLarge}
 use Rattle.evaluator.specs.declared.Out.the-variants.{Value, Halt}
 use Rattle.evaluator.specs.Refs.{refIn}
-use Rattle.evaluator.specs.State.{Is, Absent, refAt, argsAt, baseAt, callAt, traceIn}
+use Rattle.evaluator.specs.declared.frame.Held.the-variants.{Is, Absent}
+use Rattle.evaluator.specs.State.{refAt, argsAt, baseAt, callAt, traceIn}
 use Rattle.evaluator.specs.Answers.{Values, Stops}
-use Rattle.evaluator.specs.Stack.{fuelOf, topOf, heldThis, heldMark, heldArgs, frameAt, Placed, Stacked, stopAt, outAt, listAt}
+use Rattle.evaluator.specs.Stack.{fuelOf, topOf, heldThis, markHeld, heldMark, noArgs, heldArgs, frameAt, Placed, Stacked, stopAt, outAt, listAt}
 use Rattle.evaluator.proofs.BodyLaws.{trace-below}
 
 -- ---- answers
@@ -48,7 +49,7 @@ module _ (S : List ℕ) where
   unfolding heldThis
   this-held h = rw (lt-ltb (getD S 276 0) 274 h)
 
-  pub args-absent : 274 ≤ getD S 276 0 → heldArgs S ≡ []
+  pub args-absent : 274 ≤ getD S 276 0 → heldArgs S ≡ noArgs
   unfolding heldArgs
   args-absent h = rw (le-ltb (getD S 276 0) 274 h)
 
@@ -57,11 +58,11 @@ module _ (S : List ℕ) where
   args-held h = rw (lt-ltb (getD S 276 0) 274 h)
 
   pub mark-absent : getD S 278 0 ≡ 0 → heldMark S ≡ Absent
-  unfolding heldMark
+  unfolding markHeld
   mark-absent h = rw (eq-eqb (getD S 278 0) 0 h)
 
   pub mark-held : (getD S 278 0 ≡ 0 → ⊥) → heldMark S ≡ Is (Mark (getD S 278 0 - 1))
-  unfolding heldMark
+  unfolding markHeld
   mark-held h = rw (ne-eqb (getD S 278 0) 0 h)
 
 -- ---- arguments, frames and calls on two stacks
@@ -88,18 +89,14 @@ module _ (S S′ : List ℕ) (eb : getD S′ 276 0 ≡ getD S 276 0) (h : getD S
 
   args-held-alike : heldArgs S′ ≡ heldArgs S
   unfolding heldArgs
-  args-held-alike = ap (λ (b : ℕ). pick (ltb b 274) (argsAt S′ (b + 1)) []) eb ∙ go (ltb (getD S 276 0) 274) refl
+  args-held-alike = ap (λ (b : ℕ). pick (ltb b 274) (argsAt S′ (b + 1)) noArgs) eb ∙ go (ltb (getD S 276 0) 274) refl
     where
-      go : (y : Bool) → ltb (getD S 276 0) 274 ≡ y → pick y (argsAt S′ (getD S 276 0 + 1)) [] ≡ pick y (argsAt S (getD S 276 0 + 1)) []
+      go : (y : Bool) → ltb (getD S 276 0) 274 ≡ y → pick y (argsAt S′ (getD S 276 0 + 1)) noArgs ≡ pick y (argsAt S (getD S 276 0 + 1)) noArgs
       go true e = args-alike S S′ (getD S 276 0 + 1) (λ q l m. h (ltb-true (getD S 276 0) 274 e) q (omega arith) (omega arith))
       go false e = refl
 
   frame-alike : getD S′ 277 0 ≡ getD S 277 0 → getD S′ 278 0 ≡ getD S 278 0 → frameAt S′ ≡ frameAt S
-  unfolding heldMark
-  frame-alike en ex = λ i. record { this = this-alike i; res = mark-alike i; args = args-held-alike i; n = en i }
-    where
-      mark-alike : heldMark S′ ≡ heldMark S
-      mark-alike = ap (λ (x : ℕ). pick (eqb x 0) Absent (Is (Mark (x - 1)))) ex
+  frame-alike en ex = λ i. record { this = this-alike i; res = markHeld (ex i); args = args-held-alike i; n = en i }
 
 -- ---- after a step
 module _ (sp : ℕ) (S S′ : List ℕ) (pl : Placed S sp) (st : Stacked sp S S′) where

@@ -3,12 +3,12 @@
 use Prim.Native.Nat.{ℕ, _+_, _-_, _*_, _≤_, _<_}
 use native.Mathlib.Omega.{arith}
 use native.Mathlib.Decide.{ℕ-discrete}
-use mathlib.Core.Path.{_≡_, sym, ap, _∙_, subst}
-use mathlib.Core.Bool.{Bool, true, false}
+use mathlib.Core.Path.{_≡_, refl, sym, ap, _∙_, subst}
+use mathlib.Core.Bool.{Bool, true, false, false≢true}
 use mathlib.Core.List.{List}
 use lib.Dec.{eqb, ltb}
 use lib.ListN.{length, getD, set}
-use borrow.Author.Tests.{eq-eqb, ne-eqb}
+use borrow.Author.Tests.{eq-eqb, ne-eqb, eqb-true}
 use Rattle.classes.specs.Machine.{pick}
 use Rattle.classes.specs.Figures.{tableSize}
 use Rattle.checker.specs.declared.shape.Shape.{Shape}
@@ -18,11 +18,18 @@ use Rattle.values.specs.Layout.{Holds}
 use Rattle.evaluator.specs.declared.Stop.the-variants.{Stuck}
 use Rattle.evaluator.specs.declared.Out.{Out}
 use Rattle.evaluator.specs.Refs.{refIn, answerOf, ChosenIn}
-use Rattle.evaluator.specs.State.{Frame, refAt, FrameHolds, CallOlder, TraceHolds, frameIn, traceIn}
+use Rattle.evaluator.specs.declared.stack.Went.{Went}
+use Rattle.evaluator.specs.declared.stack.Went.the-variants as went
+use Rattle.evaluator.specs.declared.frame.Held.{Held}
+use Rattle.evaluator.specs.declared.frame.Held.the-variants.{Is, Absent}
+use Rattle.evaluator.specs.declared.frame.Frame.{Frame}
+use Rattle.evaluator.specs.State.{refAt, argsAt, HeldOlder, FrameHolds, CallOlder, TraceHolds, frameIn, traceIn}
 use Rattle.evaluator.specs.Answers.{Listed, Values, frontOf}
-use Rattle.evaluator.specs.Stack.{fuelOf, topOf, heldThis, heldMark, heldParameter, frameAt, Framed, Placed, Stacked, stopAt, outAt, listAt, Answered}
+use Rattle.evaluator.specs.Stack.{fuelOf, topOf, heldThis, noArgs, heldArgs, heldParameter, frameAt, HeldSmall, Framed, heldOf, nextOf, wentOf, Placed, Stacked, stopAt, outAt, listAt, Answered}
 use Rattle.evaluator.specs.Evaluation.{evalIn, evalsIn, ListFits, Evaluates, Fields, Lists, News}
 use Rattle.evaluator.specs.Steps.{Runnable, ListRunnable, PartsReady, EvalStep, FieldStep, ListStep, FinishStep, NewStep, CallStep}
+use Rattle.evaluator.proofs.RefLaws.{small-held}
+use Rattle.evaluator.proofs.StateLaws.{variable-held}
 use Rattle.evaluator.proofs.Given.{given-older}
 use Rattle.evaluator.proofs.LeafLaws.{finish-halt}
 use Rattle.evaluator.proofs.EvalLaws.{eval-zero, eval-nothing, eval-this, eval-res, eval-param, eval-at-field, eval-at-call, eval-at-new}
@@ -62,6 +69,71 @@ module _ (sp : ℕ) (S S1 : List ℕ) (pl : Placed S sp) (st : Stacked sp S S1) 
       let c = h .calls in
       record { frame = frame-on sp1 (h .frame); trace = trace-on sp1 (h .trace); calls = omega arith; few = h .few; room = h .room; long = h .long }
 
+-- ---- the answer of a step taken apart
+abbrev on : Went → ℕ
+on (went.On x) = 1
+on went.Stopped = 0
+
+abbrev place : Went → ℕ
+place (went.On x) = x
+place went.Stopped = 0
+
+pub went-zero : (r : ℕ) → r ≡ 0 → went.Stopped ≡ wentOf r
+unfolding wentOf
+went-zero r e = rw (eq-eqb r 0 e)
+
+pub went-more : (r : ℕ) → (r ≡ 0 → ⊥) → went.On r ≡ wentOf r
+unfolding wentOf
+went-more r e = rw (ne-eqb r 0 e)
+
+module _ (r : ℕ) (w : Went) (ew : w ≡ wentOf r) where
+  pub went-stopped : w ≡ went.Stopped → r ≡ 0
+  unfolding wentOf
+  went-stopped e = go (eqb r 0) refl (sym ew ∙ e)
+    where
+      go : (b : Bool) → eqb r 0 ≡ b → pick b went.Stopped (went.On r) ≡ went.Stopped → r ≡ 0
+      go true q z = eqb-true r 0 q
+      go false q z = absurd (let y : 1 ≡ 0 = ap on z in omega arith)
+
+  module _ (x : ℕ) (e : w ≡ went.On x) where
+    pub went-is : r ≡ x
+    unfolding wentOf
+    went-is = go (eqb r 0) refl (sym ew ∙ e)
+      where
+        go : (b : Bool) → eqb r 0 ≡ b → pick b went.Stopped (went.On r) ≡ went.On x → r ≡ x
+        go true q z = absurd (let y : 0 ≡ 1 = ap on z in omega arith)
+        go false q z = ap place z
+
+    pub went-not : r ≡ 0 → ⊥
+    unfolding wentOf
+    went-not z = go (eqb r 0) (eq-eqb r 0 z) (sym ew ∙ e)
+      where
+        go : (b : Bool) → b ≡ true → pick b went.Stopped (went.On r) ≡ went.On x → ⊥
+        go true q y = let k : _≡_ {A = ℕ} 0 1 = ap on y in absurd (omega arith)
+        go false q y = false≢true q
+
+    pub went-on : x ≡ 0 → ⊥
+    went-on z = went-not (went-is ∙ z)
+
+    pub eval-went : (T W S : List ℕ) (at left d sp : ℕ) (W1 S1 : List ℕ) → EvalStep T W S at left d sp W1 S1 r → EvalStep T W S at left d sp W1 S1 x
+    eval-went T W S at left d sp W1 S1 ev = subst (EvalStep T W S at left d sp W1 S1) went-is ev
+
+    pub list-went : (T W S : List ℕ) (at left d sp n : ℕ) (W1 S1 : List ℕ) → ListStep T W S at left d sp n W1 S1 r → ListStep T W S at left d sp n W1 S1 x
+    list-went T W S at left d sp n W1 S1 li = subst (ListStep T W S at left d sp n W1 S1) went-is li
+
+-- ---- what the frame holds
+held-small : (W : List ℕ) (sp : ℕ) (h : Held) → HeldOlder W sp h → sp ≤ 65536 → HeldSmall h
+held-small W sp (Is v) o l = small-held W sp v (o .held) (o .low) l
+held-small W sp Absent o l = tt
+
+held-length : (S : List ℕ) → length (heldArgs S) ≡ 3
+unfolding heldArgs argsAt
+held-length S = go (ltb (getD S 276 0) 274)
+  where
+    go : (b : Bool) → length (pick b (argsAt S (getD S 276 0 + 1)) noArgs) ≡ 3
+    go true = refl
+    go false = refl
+
 -- ---- what the functions ask
 module _ (W S : List ℕ) (left d sp : ℕ) (run : Runnable W S left d sp) where
   pub run-full : length S ≡ 336
@@ -74,7 +146,14 @@ module _ (W S : List ℕ) (left d sp : ℕ) (run : Runnable W S left d sp) where
   run-low = let r = run .fits .room in omega arith
 
   pub run-framed : Framed S
-  run-framed = record { args = run .fits .frame .args .full; mark = run .placed .mark }
+  run-framed =
+      let r = run .fits .room in
+      record {
+        few = omega (arith, run .fits .frame .args .full, held-length S);
+        mark = run .placed .mark;
+        this = held-small W sp (heldThis S) (run .fits .frame .this) (omega arith);
+        args = λ k. held-small W sp (heldParameter S k) (variable-held W sp (frameAt S) k (run .fits .frame)) (omega arith);
+      }
 
   pub run-part : (left ≡ 0 → ⊥) → Runnable W S (left - 1 + 1) d sp
   run-part nz = record { placed = run .placed; fits = fits.fit-part W (frameAt S) S (topOf S) left d sp (run .fits) nz }
@@ -148,17 +227,20 @@ module _ (T W S : List ℕ) (at left d sp : ℕ) (run : Runnable W S left d sp) 
           (eval-nothing T W (frameAt S) S (topOf S) at left d sp (fuelOf S) s es z);
     }
 
-    module _ (next : ℕ) (S′ : List ℕ) (r : ℕ) where
-      pub step-this : s ≡ shape.This next → Answered S (heldThis S) sp next S′ r → EvalStep T W S at left d sp W S′ r
-      step-this z a = record { stack = a .stack; runs = eval-this T W (frameAt S) S (topOf S) at left d sp (fuelOf S) s es (run .fits) next (outAt S′ sp r) z (a .is) }
+    module _ (next : ℕ) (S′ : List ℕ) (r : ℕ) (a : Answered S (heldOf (shapeAt T at) S) sp (nextOf (shapeAt T at)) S′ r) where
+      as-shape : (q : Shape) → s ≡ q → Answered S (heldOf q S) sp (nextOf q) S′ r
+      as-shape q z = subst (λ (x : Shape). Answered S (heldOf x S) sp (nextOf x) S′ r) (sym es ∙ z) a
 
-      pub step-result : s ≡ shape.Result next → Answered S (heldMark S) sp next S′ r → EvalStep T W S at left d sp W S′ r
-      step-result z a = record { stack = a .stack; runs = eval-res T W (frameAt S) S (topOf S) at left d sp (fuelOf S) s es (run .fits) next (outAt S′ sp r) z (a .is) }
+      pub step-this : s ≡ shape.This next → EvalStep T W S at left d sp W S′ r
+      step-this z = record { stack = a .stack; runs = eval-this T W (frameAt S) S (topOf S) at left d sp (fuelOf S) s es (run .fits) next (outAt S′ sp r) z (as-shape (shape.This next) z .is) }
 
-      pub step-parameter : (k : ℕ) → s ≡ shape.Parameter k next → Answered S (heldParameter S k) sp next S′ r → EvalStep T W S at left d sp W S′ r
-      step-parameter k z a = record {
+      pub step-result : s ≡ shape.Result next → EvalStep T W S at left d sp W S′ r
+      step-result z = record { stack = a .stack; runs = eval-res T W (frameAt S) S (topOf S) at left d sp (fuelOf S) s es (run .fits) next (outAt S′ sp r) z (as-shape (shape.Result next) z .is) }
+
+      pub step-parameter : (k : ℕ) → s ≡ shape.Parameter k next → EvalStep T W S at left d sp W S′ r
+      step-parameter k z = record {
         stack = a .stack;
-        runs = eval-param T W (frameAt S) S (topOf S) at left d sp (fuelOf S) s es (run .fits) next (outAt S′ sp r) k z (a .is);
+        runs = eval-param T W (frameAt S) S (topOf S) at left d sp (fuelOf S) s es (run .fits) next (outAt S′ sp r) k z (as-shape (shape.Parameter k next) z .is);
       }
 
     module _ (nz : left ≡ 0 → ⊥) (next : ℕ) (W′ S′ : List ℕ) (r : ℕ) where

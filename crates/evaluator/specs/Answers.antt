@@ -14,7 +14,9 @@ use Rattle.evaluator.specs.declared.Stop.{Stop}
 use Rattle.evaluator.specs.declared.Stop.the-variants.{Stuck, NoFuel, TooDeep, TooLarge}
 use Rattle.evaluator.specs.declared.Out.{Out}
 use Rattle.evaluator.specs.declared.Out.the-variants.{Value, Halt}
-use Rattle.evaluator.specs.State.{Kept, Older, PartsOlder, Held, Is, Absent}
+use Rattle.evaluator.specs.declared.frame.Held.{Held}
+use Rattle.evaluator.specs.declared.frame.Held.the-variants.{Is, Absent}
+use Rattle.evaluator.specs.State.{Kept, Older, PartsOlder}
 
 -- what evaluating a list gives: its values in order, the place after it and the fuel left; or what it stopped at and the fuel left
 pub data Listed : Type 0 where

@@ -18,7 +18,8 @@ use Rattle.values.specs.declared.Slot.{Slot}
 use Rattle.values.specs.Layout.{valueOf}
 use Rattle.values.specs.Laying.{valuesFrom}
 use Rattle.evaluator.specs.declared.Out.{Out}
-use Rattle.evaluator.specs.State.{Frame, Kept, Older, PartsOlder, TraceHolds, frameIn, traceIn}
+use Rattle.evaluator.specs.declared.frame.Frame.{Frame}
+use Rattle.evaluator.specs.State.{Kept, Older, PartsOlder, TraceHolds, frameIn, traceIn}
 use Rattle.evaluator.specs.Answers.{OutOlder, Shows}
 use Rattle.evaluator.specs.Evaluation.{Tabled, Reads, ReadsAll, deeper, evalIn, evalsIn, Fits}
 

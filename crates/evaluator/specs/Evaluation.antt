@@ -14,7 +14,8 @@ use Rattle.cofj.specs.Running.{Outcome, stopped, Deeper}
 use Rattle.classes.specs.Layout.{layout, Stands}
 use Rattle.checker.specs.Ready.{Ready, Each, Nested}
 use Rattle.evaluator.specs.declared.Out.{Out}
-use Rattle.evaluator.specs.State.{Frame, Kept, FrameHolds, TraceHolds, frameIn, traceIn}
+use Rattle.evaluator.specs.declared.frame.Frame.{Frame}
+use Rattle.evaluator.specs.State.{Kept, FrameHolds, TraceHolds, frameIn, traceIn}
 use Rattle.evaluator.specs.Answers.{Listed, OutOlder, ListOlder, Shows, ShowsAll}
 
 -- ---- the table's bytes are T, and an expression nested at most `left` deep stands in them

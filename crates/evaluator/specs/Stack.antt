@@ -3,17 +3,25 @@
 -- Not here: what the code does with it (Steps).
 use Prim.Native.Nat.{ℕ, _+_, _-_, _*_, _≤_, _<_}
 use mathlib.Core.Path.{_≡_}
-use mathlib.Core.List.{List, []}
+use mathlib.Core.List.{List, [], _∷_}
 use lib.Dec.{eqb, ltb}
 use lib.ListN.{length, getD}
 use Rattle.classes.specs.Machine.{pick}
-use Rattle.values.specs.declared.ValueRef.the-variants.{Mark}
+use Rattle.values.specs.declared.ValueRef.the-variants.{Mark, Undetermined}
 use Rattle.values.specs.declared.Slot.{Slot}
+use Rattle.checker.specs.declared.shape.Shape.{Shape}
+use Rattle.checker.specs.declared.shape.Shape.the-variants as shape
+use Rattle.evaluator.specs.declared.stack.Went.{Went}
+use Rattle.evaluator.specs.declared.stack.Went.the-variants as went
 use Rattle.evaluator.specs.declared.Stop.{Stop}
 use Rattle.evaluator.specs.declared.Stop.the-variants.{Stuck, NoFuel, TooDeep, TooLarge}
 use Rattle.evaluator.specs.declared.Out.{Out}
 use Rattle.evaluator.specs.declared.Out.the-variants.{Value, Halt}
-use Rattle.evaluator.specs.State.{Held, Is, Absent, Frame, refAt, argsAt, baseAt, variableOf}
+use Rattle.evaluator.specs.declared.frame.Held.{Held}
+use Rattle.evaluator.specs.declared.frame.Held.the-variants.{Is, Absent}
+use Rattle.evaluator.specs.declared.frame.Frame.{Frame}
+use Rattle.evaluator.specs.Refs.{Small}
+use Rattle.evaluator.specs.State.{refAt, argsAt, baseAt, variableOf}
 use Rattle.evaluator.specs.Answers.{Listed, Values, Stops, outOf}
 
 abbrev pub fuelOf : List ℕ → ℕ
@@ -26,11 +34,18 @@ topOf S = getD S 279 0
 unfoldable pub heldThis : List ℕ → Held
 heldThis S = pick (ltb (getD S 276 0) 274) (Is (refAt S (getD S 276 0))) Absent
 
-unfoldable pub heldMark : List ℕ → Held
-heldMark S = pick (eqb (getD S 278 0) 0) Absent (Is (Mark (getD S 278 0 - 1)))
+-- a mark's number and 1, or 0
+unfoldable pub markHeld : ℕ → Held
+markHeld x = pick (eqb x 0) Absent (Is (Mark (x - 1)))
+
+abbrev pub heldMark : List ℕ → Held
+heldMark S = markHeld (getD S 278 0)
+
+abbrev pub noArgs : List Slot
+noArgs = record { r = Undetermined } ∷ record { r = Undetermined } ∷ record { r = Undetermined } ∷ []
 
 unfoldable pub heldArgs : List ℕ → List Slot
-heldArgs S = pick (ltb (getD S 276 0) 274) (argsAt S (getD S 276 0 + 1)) []
+heldArgs S = pick (ltb (getD S 276 0) 274) (argsAt S (getD S 276 0 + 1)) noArgs
 
 abbrev pub frameAt : List ℕ → Frame
 frameAt S = record { this = heldThis S; res = heldMark S; args = heldArgs S; n = getD S 277 0 }
@@ -38,10 +53,36 @@ frameAt S = record { this = heldThis S; res = heldMark S; args = heldArgs S; n =
 abbrev pub heldParameter : List ℕ → ℕ → Held
 heldParameter S k = variableOf (frameAt S) k
 
--- the frame's arguments are there, and its mark is one
+-- a number can stand for what is held
+abbrev pub HeldSmall : Held → Type 0
+HeldSmall (Is v) = Small v
+HeldSmall Absent = Unit {0}
+
+-- the frame's mark is one, and numbers can stand for what the variables hold
 pub record Framed (S : List ℕ) : Type 0 where
-  pub args : getD S 277 0 ≤ length (heldArgs S)
+  pub few : getD S 277 0 ≤ 3
   pub mark : getD S 278 0 < 64
+  pub this : HeldSmall (heldThis S)
+  pub args : (k : ℕ) → HeldSmall (heldParameter S k)
+
+-- what the variable that a shape is holds, and the place after it
+abbrev pub heldOf : Shape → List ℕ → Held
+heldOf (shape.This next) S = heldThis S
+heldOf (shape.Result next) S = heldMark S
+heldOf (shape.Parameter k next) S = heldParameter S k
+heldOf (shape.Field f next) S = Absent
+heldOf (shape.Call m n next) S = Absent
+heldOf (shape.New c n next) S = Absent
+heldOf shape.Nothing S = Absent
+
+abbrev pub nextOf : Shape → ℕ
+nextOf (shape.This next) = next
+nextOf (shape.Result next) = next
+nextOf (shape.Parameter k next) = next
+nextOf (shape.Field f next) = next
+nextOf (shape.Call m n next) = next
+nextOf (shape.New c n next) = next
+nextOf shape.Nothing = 0
 
 -- the frame and the open calls stand below place sp
 pub record Placed (S : List ℕ) (sp : ℕ) : Type 0 where
@@ -58,6 +99,9 @@ pub record Stacked (sp : ℕ) (S S′ : List ℕ) : Type 0 where
   pub spent : fuelOf S′ ≤ fuelOf S
 
 -- ---- answers: the place after, or 0
+unfoldable pub wentOf : ℕ → Went
+wentOf r = pick (eqb r 0) went.Stopped (went.On r)
+
 unfoldable pub stopAt : ℕ → Stop
 stopAt s = pick (eqb s 0) Stuck (pick (eqb s 1) NoFuel (pick (eqb s 2) TooDeep TooLarge))
 

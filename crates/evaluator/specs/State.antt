@@ -14,19 +14,10 @@ use Rattle.values.specs.declared.ValueRef.the-variants.{Object}
 use Rattle.values.specs.declared.Slot.{Slot}
 use Rattle.values.specs.Layout.{valueOf, Holds, Low, Beneath}
 use Rattle.values.specs.Laying.{valuesFrom, PartsHeld}
+use Rattle.evaluator.specs.declared.frame.Held.{Held}
+use Rattle.evaluator.specs.declared.frame.Held.the-variants.{Is, Absent}
+use Rattle.evaluator.specs.declared.frame.Frame.{Frame}
 use Rattle.evaluator.specs.Refs.{refIn}
-
--- what a variable holds, if anything
-pub data Held : Type 0 where
-  Is : ValueRef → Held
-  Absent : Held
-
--- the variables of a body: this, res and the first n arguments
-pub record Frame : Type 0 where
-  pub this : Held
-  pub res : Held
-  pub args : List Slot
-  pub n : ℕ
 
 -- an open call: its receiver, its name and its first n arguments
 pub record OpenCall : Type 0 where

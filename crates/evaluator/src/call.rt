@@ -17,9 +17,11 @@ use crate::stack::STACK;
 use crate::stack::STUCK;
 use crate::stack::TOO_DEEP;
 use crate::stack::TOP;
+use crate::stack::Went;
 use crate::stack::push;
 use crate::stack::set_frame;
 use crate::stack::stop;
+use crate::stack::went_of;
 use classes::methods::Found;
 use classes::methods::left_place;
 use classes::methods::right_place;
@@ -48,10 +50,11 @@ pub fn eval_call(
     if left == 0 {
         return stop(st, STUCK);
     }
-    let at1 = eval_part(t, work, st, at, left, d, sp);
-    if at1 == 0 {
+    let r1 = eval_part(t, work, st, at, left, d, sp);
+    let w1 = went_of(r1);
+    let Went::On(at1) = w1 else {
         return 0;
-    }
+    };
     let w = find(t, work, unpack(st[sp]), m, n);
     let Found::At(i) = w else {
         return stop(st, STUCK);
@@ -59,10 +62,11 @@ pub fn eval_call(
     if n == 0 {
         return invoke(t, work, st, at1, d, sp, m, n, i);
     }
-    let at2 = eval_list(t, work, st, at1, left, d, sp + 1, n);
-    if at2 == 0 {
+    let r2 = eval_list(t, work, st, at1, left, d, sp + 1, n);
+    let w2 = went_of(r2);
+    let Went::On(at2) = w2 else {
         return 0;
-    }
+    };
     invoke(t, work, st, at2, d, sp, m, n, i)
 }
 
@@ -118,9 +122,10 @@ pub fn run_right(
     let at = right_place(t, i);
     let r = eval(t, work, st, at, 6, d, sp + 4);
     set_frame(st, base, count, res);
-    if r == 0 {
+    let w = went_of(r);
+    let Went::On(_after) = w else {
         return 0;
-    }
+    };
     let v = bring(work, unpack(st[sp + 4]), sp as u16);
     st[sp] = pack(v);
     next
@@ -151,9 +156,10 @@ pub fn run_left(
     let r = eval(t, work, st, at, 6, d, sp + 4);
     set_frame(st, base, count, res);
     st[TOP] = top;
-    if r == 0 {
+    let w = went_of(r);
+    let Went::On(_after) = w else {
         return 0;
-    }
+    };
     let v = close(work, top as u8, unpack(st[sp + 4]), sp as u16);
     st[sp] = pack(v);
     next

@@ -2,6 +2,7 @@
 // An expression is evaluated at a block sp: blocks below sp stay, and so does the stack below place sp; its value stands at place sp, and is an older one or lies
 // in block sp. The answer is the place after the expression, or 0 if the run stopped.
 use crate::call::eval_call;
+use crate::frame::leaf;
 use crate::refs::NOTHING;
 use crate::refs::pack;
 use crate::refs::select_in;
@@ -9,10 +10,9 @@ use crate::refs::unpack;
 use crate::stack::STACK;
 use crate::stack::STUCK;
 use crate::stack::TOO_LARGE;
-use crate::stack::parameter;
-use crate::stack::result;
+use crate::stack::Went;
 use crate::stack::stop;
-use crate::stack::this;
+use crate::stack::went_of;
 use checker::shape::Shape;
 use checker::shape::shape_at;
 use classes::chain::field_total;
@@ -47,9 +47,9 @@ pub fn eval(
     }
     let s = shape_at(t, at);
     match s {
-        Shape::This { next } => this(st, sp, next),
-        Shape::Result { next } => result(st, sp, next),
-        Shape::Parameter { k, next } => parameter(st, k, sp, next),
+        Shape::This { next: _ } => leaf(t, st, at, sp),
+        Shape::Result { next: _ } => leaf(t, st, at, sp),
+        Shape::Parameter { k: _, next: _ } => leaf(t, st, at, sp),
         Shape::Field { f: k, next } => eval_field(t, work, st, next, left - 1, d, sp, k),
         Shape::Call { m, n, next } => eval_call(t, work, st, next, left - 1, d, sp, m, n),
         Shape::New { c, n, next } => eval_new(t, work, st, next, left - 1, d, sp, c, n),
@@ -75,9 +75,9 @@ pub fn eval_part(
     }
     let s = shape_at(t, at);
     match s {
-        Shape::This { next } => this(st, sp, next),
-        Shape::Result { next } => result(st, sp, next),
-        Shape::Parameter { k, next } => parameter(st, k, sp, next),
+        Shape::This { next: _ } => leaf(t, st, at, sp),
+        Shape::Result { next: _ } => leaf(t, st, at, sp),
+        Shape::Parameter { k: _, next: _ } => leaf(t, st, at, sp),
         _ => eval(t, work, st, at, left, d, sp),
     }
 }
@@ -96,10 +96,11 @@ pub fn eval_field(
     requires { ⌜ Runnable (now work) (now st) (left + 1) d sp ⌝ }
     ensures { λ r. ⌜ FieldStep (now (t .entry)) (now (work .entry)) (now (st .entry)) at left d sp k (now (work .exit)) (now (st .exit)) r ⌝ }
 {
-    let at1 = eval_part(t, work, st, at, left, d, sp);
-    if at1 == 0 {
+    let r1 = eval_part(t, work, st, at, left, d, sp);
+    let w1 = went_of(r1);
+    let Went::On(at1) = w1 else {
         return 0;
-    }
+    };
     let r = select_in(work, st[sp], k);
     if r == NOTHING {
         return stop(st, STUCK);
@@ -125,10 +126,11 @@ pub fn eval_list(
     if n == 0 {
         return at;
     }
-    let at1 = eval_part(t, work, st, at, left, d, sp);
-    if at1 == 0 {
+    let r1 = eval_part(t, work, st, at, left, d, sp);
+    let w1 = went_of(r1);
+    let Went::On(at1) = w1 else {
         return 0;
-    }
+    };
     eval_list(t, work, st, at1, left, d, sp + 1, n - 1)
 }
 
@@ -193,9 +195,10 @@ pub fn eval_new(
     if 4 < n {
         return stop(st, STUCK);
     }
-    let at1 = eval_list(t, work, st, at, left, d, sp, n);
-    if at1 == 0 {
+    let r1 = eval_list(t, work, st, at, left, d, sp, n);
+    let w1 = went_of(r1);
+    let Went::On(at1) = w1 else {
         return 0;
-    }
+    };
     finish(work, st, c, n, sp, at1)
 }

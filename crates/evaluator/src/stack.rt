@@ -3,10 +3,12 @@
 // there are, the mark of res and 1, or 0; how many left-side calls are open; and from place 281 on three numbers for each of those, the oldest first:
 // its name, how many arguments it has, where its receiver stands. The mark of a call is its number.
 // Not here: which call is met again (met).
+use crate::frame::Held;
+use crate::refs::pack;
 ghost use mathlib.Core.Path.{_≡_};
 ghost use Prim.Native.Nat.{ℕ, _+_, _*_, _<_, _≤_};
 ghost use lib.ListN.{length, set};
-ghost use Rattle.evaluator.specs.Stack.{heldThis, heldMark, heldParameter, Answered, FrameSet, CallSet, Framed};
+ghost use Rattle.evaluator.specs.Stack.{HeldSmall, wentOf, Answered, FrameSet, CallSet};
 
 // all numbers
 pub const STACK: usize = 336;
@@ -34,6 +36,22 @@ pub const TOO_DEEP: u32 = 2;
 
 pub const TOO_LARGE: u32 = 3;
 
+// What a step answers: the place after its expression, or that the run has stopped.
+pub enum Went {
+    On(usize),
+    Stopped,
+}
+
+// The answer r of a step, to be taken apart.
+pub fn went_of(r: usize) -> Went
+    ensures { λ w. ⌜ w ≡ wentOf r ⌝ }
+{
+    if r == 0 {
+        return Went::Stopped;
+    }
+    Went::On(r)
+}
+
 // The run stops for reason s: the place after is 0.
 pub fn stop(st: &mut [u32; STACK], s: u32) -> usize
     requires { ⌜ length (now st) ≡ 336 ⌝ }
@@ -43,42 +61,15 @@ pub fn stop(st: &mut [u32; STACK], s: u32) -> usize
     0
 }
 
-// The receiver of the body, as the value at sp; `next` is the place after.
-pub fn this(st: &mut [u32; STACK], sp: usize, next: usize) -> usize
-    requires { ⌜ (length (now st) ≡ 336) × (sp < 274) × (0 < next) ⌝ }
-    ensures { λ r. ⌜ Answered (now (st .entry)) (heldThis (now (st .entry))) sp next (now (st .exit)) r ⌝ }
+// What a variable holds, as the value at sp, and the place after; stuck if it holds nothing.
+pub fn answer(st: &mut [u32; STACK], h: Held, sp: usize, next: usize) -> usize
+    requires { ⌜ (length (now st) ≡ 336) × (sp < 274) × HeldSmall h × (0 < next) ⌝ }
+    ensures { λ r. ⌜ Answered (now (st .entry)) h sp next (now (st .exit)) r ⌝ }
 {
-    let b = st[BASE];
-    if 274 <= b {
+    let Held::Is(v) = h else {
         return stop(st, STUCK);
-    }
-    st[sp] = st[b as usize];
-    next
-}
-
-// The mark of the body, as the value at sp.
-pub fn result(st: &mut [u32; STACK], sp: usize, next: usize) -> usize
-    requires { ⌜ (length (now st) ≡ 336) × (sp < 274) × Framed (now st) × (0 < next) ⌝ }
-    ensures { λ r. ⌜ Answered (now (st .entry)) (heldMark (now (st .entry))) sp next (now (st .exit)) r ⌝ }
-{
-    let x = st[RESULT];
-    if x == 0 {
-        return stop(st, STUCK);
-    }
-    st[sp] = 192 + x;
-    next
-}
-
-// Parameter k of the body, as the value at sp.
-pub fn parameter(st: &mut [u32; STACK], k: u8, sp: usize, next: usize) -> usize
-    requires { ⌜ (length (now st) ≡ 336) × (sp < 274) × Framed (now st) × (0 < next) ⌝ }
-    ensures { λ r. ⌜ Answered (now (st .entry)) (heldParameter (now (st .entry)) k) sp next (now (st .exit)) r ⌝ }
-{
-    if st[COUNT] <= k as u32 {
-        return stop(st, STUCK);
-    }
-    let b = st[BASE];
-    st[sp] = st[b as usize + 1 + k as usize];
+    };
+    st[sp] = pack(v);
     next
 }
 

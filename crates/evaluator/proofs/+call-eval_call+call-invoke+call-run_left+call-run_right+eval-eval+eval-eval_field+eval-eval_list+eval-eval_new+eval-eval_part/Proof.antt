@@ -34,16 +34,15 @@ use Rattle.classes.proofs.methods.left_place.Reads as left-place-reads
 use Rattle.classes.proofs.methods.right_place.Reads as right-place-reads
 use Rattle.evaluator.proofs.eval.finish.Reads as finish-reads
 use Rattle.evaluator.proofs.find.find.Reads as find-reads
+use Rattle.evaluator.proofs.frame.leaf.Reads as leaf-reads
 use Rattle.evaluator.proofs.met.open_call.Reads as open-call-reads
 use Rattle.evaluator.proofs.refs.pack.Reads as pack-reads
 use Rattle.evaluator.proofs.refs.select_in.Reads as select-in-reads
 use Rattle.evaluator.proofs.refs.unpack.Reads as unpack-reads
-use Rattle.evaluator.proofs.stack.parameter.Reads as parameter-reads
 use Rattle.evaluator.proofs.stack.push.Reads as push-reads
-use Rattle.evaluator.proofs.stack.result.Reads as result-reads
 use Rattle.evaluator.proofs.stack.set_frame.Reads as set-frame-reads
 use Rattle.evaluator.proofs.stack.stop.Reads as stop-reads
-use Rattle.evaluator.proofs.stack.this.Reads as this-reads
+use Rattle.evaluator.proofs.stack.went_of.Reads as went-of-reads
 use Rattle.values.proofs.value.bring.Reads as bring-reads
 use Rattle.values.proofs.value.close.Reads as close-reads
 use Rattle.evaluator.proofs.+call-eval_call+call-invoke+call-run_left+call-run_right+eval-eval+eval-eval_field+eval-eval_list+eval-eval_new+eval-eval_part.{
@@ -52,9 +51,10 @@ use Rattle.evaluator.proofs.+call-eval_call+call-invoke+call-run_left+c
 use Rattle.evaluator.proofs.+call-eval_call+call-invoke+call-run_left+call-run_right+eval-eval+eval-eval_field+eval-eval_list+eval-eval_new+eval-eval_part.Tie.{
   close,
 }
+use native.Mathlib.Omega.{arith}
 use borrow.Author.Needs.{needs}
-use Prim.Native.Nat.{_+_, _*_}
 use mathlib.Core.List.{[]}
+use Prim.Native.Nat.{_+_, _*_}
 use Rattle.evaluator.proofs.StepLaws as steps
 use Rattle.evaluator.proofs.CallSteps as calls
 use Rattle.evaluator.proofs.SideSteps as sides
@@ -206,31 +206,31 @@ eval·eval-part-below t =
     eval·eval-part.Pre
 
 abbrev call·eval-call-claims : ℕ → call·eval-call-lts.Claims
-call·eval-call-claims t = (stop-reads.Asked, stop-reads.Learnt, eval·eval-part-below t, eval·eval-part.Post, unpack-reads.Asked, unpack-reads.Learnt, find-reads.Asked, find-reads.Learnt, call·invoke-below t, call·invoke.Post, eval·eval-list-below t, eval·eval-list.Post)
+call·eval-call-claims t = (stop-reads.Asked, stop-reads.Learnt, eval·eval-part-below t, eval·eval-part.Post, went-of-reads.Asked, went-of-reads.Learnt, unpack-reads.Asked, unpack-reads.Learnt, find-reads.Asked, find-reads.Learnt, call·invoke-below t, call·invoke.Post, eval·eval-list-below t, eval·eval-list.Post)
 
 abbrev call·invoke-claims : ℕ → call·invoke-lts.Claims
 call·invoke-claims t = (stop-reads.Asked, stop-reads.Learnt, open-call-reads.Asked, open-call-reads.Learnt, call·run-left-below t, call·run-left.Post, call·run-right-below t, call·run-right.Post)
 
 abbrev call·run-left-claims : ℕ → call·run-left-lts.Claims
-call·run-left-claims t = (push-reads.Asked, push-reads.Learnt, set-frame-reads.Asked, set-frame-reads.Learnt, left-place-reads.Asked, left-place-reads.Learnt, eval·eval-below t, eval·eval.Post, unpack-reads.Asked, unpack-reads.Learnt, close-reads.Asked, close-reads.Learnt, pack-reads.Asked, pack-reads.Learnt)
+call·run-left-claims t = (push-reads.Asked, push-reads.Learnt, set-frame-reads.Asked, set-frame-reads.Learnt, left-place-reads.Asked, left-place-reads.Learnt, eval·eval-below t, eval·eval.Post, went-of-reads.Asked, went-of-reads.Learnt, unpack-reads.Asked, unpack-reads.Learnt, close-reads.Asked, close-reads.Learnt, pack-reads.Asked, pack-reads.Learnt)
 
 abbrev call·run-right-claims : ℕ → call·run-right-lts.Claims
-call·run-right-claims t = (set-frame-reads.Asked, set-frame-reads.Learnt, right-place-reads.Asked, right-place-reads.Learnt, eval·eval-below t, eval·eval.Post, unpack-reads.Asked, unpack-reads.Learnt, bring-reads.Asked, bring-reads.Learnt, pack-reads.Asked, pack-reads.Learnt)
+call·run-right-claims t = (set-frame-reads.Asked, set-frame-reads.Learnt, right-place-reads.Asked, right-place-reads.Learnt, eval·eval-below t, eval·eval.Post, went-of-reads.Asked, went-of-reads.Learnt, unpack-reads.Asked, unpack-reads.Learnt, bring-reads.Asked, bring-reads.Learnt, pack-reads.Asked, pack-reads.Learnt)
 
 abbrev eval·eval-claims : ℕ → eval·eval-lts.Claims
-eval·eval-claims t = (stop-reads.Asked, stop-reads.Learnt, shape-at-reads.Asked, shape-at-reads.Learnt, this-reads.Asked, this-reads.Learnt, result-reads.Asked, result-reads.Learnt, parameter-reads.Asked, parameter-reads.Learnt, eval·eval-field-below t, eval·eval-field.Post, call·eval-call-below t, call·eval-call.Post, eval·eval-new-below t, eval·eval-new.Post)
+eval·eval-claims t = (stop-reads.Asked, stop-reads.Learnt, shape-at-reads.Asked, shape-at-reads.Learnt, leaf-reads.Asked, leaf-reads.Learnt, eval·eval-field-below t, eval·eval-field.Post, call·eval-call-below t, call·eval-call.Post, eval·eval-new-below t, eval·eval-new.Post)
 
 abbrev eval·eval-field-claims : ℕ → eval·eval-field-lts.Claims
-eval·eval-field-claims t = (eval·eval-part-below t, eval·eval-part.Post, select-in-reads.Asked, select-in-reads.Learnt, stop-reads.Asked, stop-reads.Learnt)
+eval·eval-field-claims t = (eval·eval-part-below t, eval·eval-part.Post, went-of-reads.Asked, went-of-reads.Learnt, select-in-reads.Asked, select-in-reads.Learnt, stop-reads.Asked, stop-reads.Learnt)
 
 abbrev eval·eval-list-claims : ℕ → eval·eval-list-lts.Claims
-eval·eval-list-claims t = (eval·eval-part-below t, eval·eval-part.Post, eval·eval-list-below t, eval·eval-list.Post)
+eval·eval-list-claims t = (eval·eval-part-below t, eval·eval-part.Post, went-of-reads.Asked, went-of-reads.Learnt, eval·eval-list-below t, eval·eval-list.Post)
 
 abbrev eval·eval-new-claims : ℕ → eval·eval-new-lts.Claims
-eval·eval-new-claims t = (field-total-reads.Asked, field-total-reads.Learnt, stop-reads.Asked, stop-reads.Learnt, eval·eval-list-below t, eval·eval-list.Post, finish-reads.Asked, finish-reads.Learnt)
+eval·eval-new-claims t = (field-total-reads.Asked, field-total-reads.Learnt, stop-reads.Asked, stop-reads.Learnt, eval·eval-list-below t, eval·eval-list.Post, went-of-reads.Asked, went-of-reads.Learnt, finish-reads.Asked, finish-reads.Learnt)
 
 abbrev eval·eval-part-claims : ℕ → eval·eval-part-lts.Claims
-eval·eval-part-claims t = (stop-reads.Asked, stop-reads.Learnt, shape-at-reads.Asked, shape-at-reads.Learnt, this-reads.Asked, this-reads.Learnt, result-reads.Asked, result-reads.Learnt, parameter-reads.Asked, parameter-reads.Learnt, eval·eval-below t, eval·eval.Post)
+eval·eval-part-claims t = (stop-reads.Asked, stop-reads.Learnt, shape-at-reads.Asked, shape-at-reads.Learnt, leaf-reads.Asked, leaf-reads.Learnt, eval·eval-below t, eval·eval.Post)
 
 call·eval-call-stop-requires : (t : ℕ) → call·eval-call-lts.Need-stop-requires (call·eval-call-claims t) (call·eval-call-at t) call·eval-call.Post
 call·eval-call-stop-requires t c κs = search steps.run-full
@@ -242,34 +242,37 @@ call·eval-call-eval-part-requires : (t : ℕ) → call·eval-call-lts.Need-eval
 call·eval-call-eval-part-requires t c κs = (search needs, search steps.run-inner)
 
 call·eval-call-returns-2 : (t : ℕ) → call·eval-call-lts.Need-returns-2 (call·eval-call-claims t) (call·eval-call-at t) call·eval-call.Post
-call·eval-call-returns-2 t c = search calls.call-stops
+call·eval-call-returns-2 t c = calls.call-stops _ _ _ _ _ _ _ _ _ (c .before .before .before .before .before .before .before .before .before .before .pre .1) _ _ _ (c .before .before .before .before .before .eval-part .ensures) (steps.went-stopped _ _ (c .before .before .went-of .ensures) (c .enum-told .given .1))
 
 call·eval-call-find-requires : (t : ℕ) → call·eval-call-lts.Need-find-requires (call·eval-call-claims t) (call·eval-call-at t) call·eval-call.Post
-call·eval-call-find-requires t c κs = search calls.receiver-there
+call·eval-call-find-requires t c κs = calls.receiver-there _ _ _ _ _ _ _ 0 0 (c .before .before .before .before .before .before .before .before .before .before .before .before .before .before .pre .1) _ _ _ (steps.eval-went _ _ (c .before .before .before .before .before .before .went-of .ensures) _ (c .before .before .before .before .w1 .given .1) _ _ _ _ _ _ _ _ _ (c .before .before .before .before .before .before .before .before .before .eval-part .ensures)) (steps.went-on _ _ (c .before .before .before .before .before .before .went-of .ensures) _ (c .before .before .before .before .w1 .given .1)) _ (c .unpack .ensures)
 
 call·eval-call-stop-requires-2 : (t : ℕ) → call·eval-call-lts.Need-stop-requires-2 (call·eval-call-claims t) (call·eval-call-at t) call·eval-call.Post
-call·eval-call-stop-requires-2 t c κs = search steps.full-after
+call·eval-call-stop-requires-2 t c κs = steps.full-after _ _ _ _ _ _ _ _ _ _ (c .before .before .before .before .before .before .before .before .before .before .before .before .before .eval-part .ensures) (c .before .before .before .before .before .before .before .before .before .before .before .before .before .before .before .before .before .before .pre .1)
 
 call·eval-call-returns-3 : (t : ℕ) → call·eval-call-lts.Need-returns-3 (call·eval-call-claims t) (call·eval-call-at t) call·eval-call.Post
-call·eval-call-returns-3 t c = calls.call-lacks _ _ _ _ _ _ _ _ _ (c .before .before .before .before .before .before .before .before .before .before .before .before .before .before .before .before .pre .1) _ _ _ (c .before .before .before .before .before .before .before .before .before .before .before .eval-part .ensures) (c .before .before .before .before .before .before .before .before .if2 .left) _ (c .before .before .before .before .before .unpack .ensures) _ (c .before .before .before .before .find .ensures) (c .before .before .enum-told .given .1) _ _ (c .stop2 .ensures)
+call·eval-call-returns-3 t c = calls.call-lacks _ _ _ _ _ _ _ _ _ (c .before .before .before .before .before .before .before .before .before .before .before .before .before .before .before .before .before .before .before .pre .1) _ _ _ (steps.eval-went _ _ (c .before .before .before .before .before .before .before .before .before .before .before .went-of .ensures) _ (c .before .before .before .before .before .before .before .before .before .w1 .given .1) _ _ _ _ _ _ _ _ _ (c .before .before .before .before .before .before .before .before .before .before .before .before .before .before .eval-part .ensures)) (steps.went-on _ _ (c .before .before .before .before .before .before .before .before .before .before .before .went-of .ensures) _ (c .before .before .before .before .before .before .before .before .before .w1 .given .1)) _ (c .before .before .before .before .before .unpack .ensures) _ (c .before .before .before .before .find .ensures) (c .before .before .enum-told2 .given .1) _ _ (c .stop2 .ensures)
 
 call·eval-call-invoke-requires : (t : ℕ) → call·eval-call-lts.Need-invoke-requires (call·eval-call-claims t) (call·eval-call-at t) call·eval-call.Post
-call·eval-call-invoke-requires t c κs = (search needs, calls.direct-run _ _ _ _ _ _ _ _ _ (c .before .before .before .before .before .before .before .before .before .before .before .before .before .before .before .before .before .before .pre .1) _ _ _ (c .before .before .before .before .before .before .before .before .before .before .before .before .before .eval-part .ensures) (c .before .before .before .before .before .before .before .before .before .before .if2 .left) _ (c .before .before .before .before .before .before .before .unpack .ensures) _ (c .before .before .before .before .before .before .find .ensures) (c .before .before .before .before .before .before .before .before .before .before .before .before .before .before .before .before .if1 .left) _ (c .before .before .before .before .w .given .1) (c .before .before .if3 .taken))
+call·eval-call-invoke-requires t c κs = (search needs, calls.direct-run _ _ _ _ _ _ _ _ _ (c .before .before .before .before .before .before .before .before .before .before .before .before .before .before .before .before .before .before .before .before .before .pre .1) _ _ _ (steps.eval-went _ _ (c .before .before .before .before .before .before .before .before .before .before .before .before .before .went-of .ensures) _ (c .before .before .before .before .before .before .before .before .before .before .before .w1 .given .1) _ _ _ _ _ _ _ _ _ (c .before .before .before .before .before .before .before .before .before .before .before .before .before .before .before .before .eval-part .ensures)) (steps.went-on _ _ (c .before .before .before .before .before .before .before .before .before .before .before .before .before .went-of .ensures) _ (c .before .before .before .before .before .before .before .before .before .before .before .w1 .given .1)) _ (c .before .before .before .before .before .before .before .unpack .ensures) _ (c .before .before .before .before .before .before .find .ensures) (c .before .before .before .before .before .before .before .before .before .before .before .before .before .before .before .before .before .before .before .if1 .left) _ (c .before .before .before .before .w .given .1) (c .before .before .if2 .taken))
 
 call·eval-call-returns-4 : (t : ℕ) → call·eval-call-lts.Need-returns-4 (call·eval-call-claims t) (call·eval-call-at t) call·eval-call.Post
-call·eval-call-returns-4 t c = search calls.direct-is
+call·eval-call-returns-4 t c = calls.direct-is _ _ _ _ _ _ _ _ _ (c .before .before .before .before .before .before .before .before .before .before .before .before .before .before .before .before .before .before .before .before .before .before .before .before .pre .1) _ _ _ (steps.eval-went _ _ (c .before .before .before .before .before .before .before .before .before .before .before .before .before .before .before .before .went-of .ensures) _ (c .before .before .before .before .before .before .before .before .before .before .before .before .before .before .w1 .given .1) _ _ _ _ _ _ _ _ _ (c .before .before .before .before .before .before .before .before .before .before .before .before .before .before .before .before .before .before .before .eval-part .ensures)) (steps.went-on _ _ (c .before .before .before .before .before .before .before .before .before .before .before .before .before .before .before .before .went-of .ensures) _ (c .before .before .before .before .before .before .before .before .before .before .before .before .before .before .w1 .given .1)) _ (c .before .before .before .before .before .before .before .before .before .before .unpack .ensures) _ (c .before .before .before .before .before .before .before .before .before .find .ensures) (c .before .before .before .before .before .before .before .before .before .before .before .before .before .before .before .before .before .before .before .before .before .before .if1 .left) _ (c .before .before .before .before .before .before .before .w .given .1) (c .before .before .before .before .before .if2 .taken) _ _ _ (c .before .before .invoke .ensures)
 
 call·eval-call-eval-list-requires : (t : ℕ) → call·eval-call-lts.Need-eval-list-requires (call·eval-call-claims t) (call·eval-call-at t) call·eval-call.Post
-call·eval-call-eval-list-requires t c κs = (search needs, calls.args-run _ _ _ _ _ _ _ _ _ (c .before .before .before .before .before .before .before .before .before .before .before .before .before .before .before .before .before .before .pre .1) _ _ _ (c .before .before .before .before .before .before .before .before .before .before .before .before .before .eval-part .ensures) (c .before .before .before .before .before .before .before .before .before .before .if2 .left) _ (c .before .before .before .before .before .before .before .unpack .ensures) _ (c .before .before .before .before .before .before .find .ensures) (c .before .before .before .before .before .before .before .before .before .before .before .before .before .before .before .before .if1 .left) _ (c .before .before .before .before .w .given .1))
+call·eval-call-eval-list-requires t c κs = (search needs, calls.args-run _ _ _ _ _ _ _ _ _ (c .before .before .before .before .before .before .before .before .before .before .before .before .before .before .before .before .before .before .before .before .before .pre .1) _ _ _ (steps.eval-went _ _ (c .before .before .before .before .before .before .before .before .before .before .before .before .before .went-of .ensures) _ (c .before .before .before .before .before .before .before .before .before .before .before .w1 .given .1) _ _ _ _ _ _ _ _ _ (c .before .before .before .before .before .before .before .before .before .before .before .before .before .before .before .before .eval-part .ensures)) (steps.went-on _ _ (c .before .before .before .before .before .before .before .before .before .before .before .before .before .went-of .ensures) _ (c .before .before .before .before .before .before .before .before .before .before .before .w1 .given .1)) _ (c .before .before .before .before .before .before .before .unpack .ensures) _ (c .before .before .before .before .before .before .find .ensures) (c .before .before .before .before .before .before .before .before .before .before .before .before .before .before .before .before .before .before .before .if1 .left) _ (c .before .before .before .before .w .given .1))
 
 call·eval-call-returns-5 : (t : ℕ) → call·eval-call-lts.Need-returns-5 (call·eval-call-claims t) (call·eval-call-at t) call·eval-call.Post
-call·eval-call-returns-5 t c = search calls.args-stop
+call·eval-call-returns-5 t c = calls.args-stop _ _ _ _ _ _ _ _ _ (c .before .before .before .before .before .before .before .before .before .before .before .before .before .before .before .before .before .before .before .before .before .before .before .before .before .before .before .pre .1) _ _ _ (steps.eval-went _ _ (c .before .before .before .before .before .before .before .before .before .before .before .before .before .before .before .before .before .before .before .went-of .ensures) _ (c .before .before .before .before .before .before .before .before .before .before .before .before .before .before .before .before .before .w1 .given .1) _ _ _ _ _ _ _ _ _ (c .before .before .before .before .before .before .before .before .before .before .before .before .before .before .before .before .before .before .before .before .before .before .eval-part .ensures)) (steps.went-on _ _ (c .before .before .before .before .before .before .before .before .before .before .before .before .before .before .before .before .before .before .before .went-of .ensures) _ (c .before .before .before .before .before .before .before .before .before .before .before .before .before .before .before .before .before .w1 .given .1)) _ (c .before .before .before .before .before .before .before .before .before .before .before .before .before .unpack .ensures) _ (c .before .before .before .before .before .before .before .before .before .before .before .before .find .ensures) (c .before .before .before .before .before .before .before .before .before .before .before .before .before .before .before .before .before .before .before .before .before .before .before .before .before .if1 .left) _ (c .before .before .before .before .before .before .before .before .before .before .w .given .1) _ _ _ (c .before .before .before .before .before .eval-list .ensures) (steps.went-stopped _ _ (c .before .before .went-of2 .ensures) (c .enum-told3 .given .1))
 
 call·eval-call-invoke-requires-2 : (t : ℕ) → call·eval-call-lts.Need-invoke-requires-2 (call·eval-call-claims t) (call·eval-call-at t) call·eval-call.Post
-call·eval-call-invoke-requires-2 t c κs = (search needs, calls.call-run _ _ _ _ _ _ _ _ _ (c .before .before .before .before .before .before .before .before .before .before .before .before .before .before .before .before .before .before .before .before .before .before .before .before .pre .1) _ _ _ (c .before .before .before .before .before .before .before .before .before .before .before .before .before .before .before .before .before .before .before .eval-part .ensures) (c .before .before .before .before .before .before .before .before .before .before .before .before .before .before .before .before .if2 .left) _ (c .before .before .before .before .before .before .before .before .before .before .before .before .before .unpack .ensures) _ (c .before .before .before .before .before .before .before .before .before .before .before .before .find .ensures) (c .before .before .before .before .before .before .before .before .before .before .before .before .before .before .before .before .before .before .before .before .before .before .if1 .left) _ (c .before .before .before .before .before .before .before .before .before .before .w .given .1) _ _ _ (c .before .before .before .before .before .eval-list .ensures) (c .before .before .if4 .left))
+call·eval-call-invoke-requires-2 t c κs = (omega (arith, (c .before .before .before .before .before .before .before .before .before .before .before .before .before .before .before .before .before .before .before .before .before .before .before .before .before .before .before .before .before .before .pre .0)), calls.call-run _ _ _ _ _ _ _ _ _ (c .before .before .before .before .before .before .before .before .before .before .before .before .before .before .before .before .before .before .before .before .before .before .before .before .before .before .before .before .before .before .pre .1) _ _ _ (steps.eval-went _ _ (c .before .before .before .before .before .before .before .before .before .before .before .before .before .before .before .before .before .before .before .before .before .before .went-of .ensures) _ (c .before .before .before .before .before .before .before .before .before .before .before .before .before .before .before .before .before .before .before .before .w1 .given .1) _ _ _ _ _ _ _ _ _ (c .before .before .before .before .before .before .before .before .before .before .before .before .before .before .before .before .before .before .before .before .before .before .before .before .before .eval-part .ensures)) (steps.went-on _ _ (c .before .before .before .before .before .before .before .before .before .before .before .before .before .before .before .before .before .before .before .before .before .before .went-of .ensures) _ (c .before .before .before .before .before .before .before .before .before .before .before .before .before .before .before .before .before .before .before .before .w1 .given .1)) _ (c .before .before .before .before .before .before .before .before .before .before .before .before .before .before .before .before .unpack .ensures) _ (c .before .before .before .before .before .before .before .before .before .before .before .before .before .before .before .find .ensures) (c .before .before .before .before .before .before .before .before .before .before .before .before .before .before .before .before .before .before .before .before .before .before .before .before .before .before .before .before .if1 .left) _ (c .before .before .before .before .before .before .before .before .before .before .before .before .before .w .given .1) _ _ _ (steps.list-went _ _ (c .before .before .before .before .before .went-of2 .ensures) _ (c .before .before .before .w2 .given .1) _ _ _ _ _ _ _ _ _ _ (c .before .before .before .before .before .before .before .before .eval-list .ensures)) (steps.went-on _ _ (c .before .before .before .before .before .went-of2 .ensures) _ (c .before .before .before .w2 .given .1)))
+
+call·eval-call-same-length-5 : (t : ℕ) → call·eval-call-lts.Need-same-length-5 (call·eval-call-claims t) (call·eval-call-at t) call·eval-call.Post
+call·eval-call-same-length-5 t c = search (needs, (calls.call-goes-on _ _ _ _ _ _ _ _ _ (c .before .before .before .before .before .before .before .before .before .before .before .before .before .before .before .before .before .before .before .before .before .before .before .before .before .before .before .before .before .before .before .before .before .pre .1) _ _ _ (steps.eval-went _ _ (c .before .before .before .before .before .before .before .before .before .before .before .before .before .before .before .before .before .before .before .before .before .before .before .before .before .went-of .ensures) _ (c .before .before .before .before .before .before .before .before .before .before .before .before .before .before .before .before .before .before .before .before .before .before .before .w1 .given .1) _ _ _ _ _ _ _ _ _ (c .before .before .before .before .before .before .before .before .before .before .before .before .before .before .before .before .before .before .before .before .before .before .before .before .before .before .before .before .eval-part .ensures)) (steps.went-on _ _ (c .before .before .before .before .before .before .before .before .before .before .before .before .before .before .before .before .before .before .before .before .before .before .before .before .before .went-of .ensures) _ (c .before .before .before .before .before .before .before .before .before .before .before .before .before .before .before .before .before .before .before .before .before .before .before .w1 .given .1)) _ (c .before .before .before .before .before .before .before .before .before .before .before .before .before .before .before .before .before .before .before .unpack .ensures) _ (c .before .before .before .before .before .before .before .before .before .before .before .before .before .before .before .before .before .before .find .ensures) (c .before .before .before .before .before .before .before .before .before .before .before .before .before .before .before .before .before .before .before .before .before .before .before .before .before .before .before .before .before .before .before .if1 .left) _ (c .before .before .before .before .before .before .before .before .before .before .before .before .before .before .before .before .w .given .1) _ _ _ (steps.list-went _ _ (c .before .before .before .before .before .before .before .before .went-of2 .ensures) _ (c .before .before .before .before .before .before .w2 .given .1) _ _ _ _ _ _ _ _ _ _ (c .before .before .before .before .before .before .before .before .before .before .before .eval-list .ensures)) (steps.went-on _ _ (c .before .before .before .before .before .before .before .before .went-of2 .ensures) _ (c .before .before .before .before .before .before .w2 .given .1)) _ _ _ (c .before .before .invoke2 .ensures)) .runs .kept .same)
 
 call·eval-call-returns-6 : (t : ℕ) → call·eval-call-lts.Need-returns-6 (call·eval-call-claims t) (call·eval-call-at t) call·eval-call.Post
-call·eval-call-returns-6 t c = calls.call-goes-on _ _ _ _ _ _ _ _ _ (c .before .before .before .before .before .before .before .before .before .before .before .before .before .before .before .before .before .before .before .before .before .before .before .before .before .before .before .pre .1) _ _ _ (c .before .before .before .before .before .before .before .before .before .before .before .before .before .before .before .before .before .before .before .before .before .before .eval-part .ensures) (c .before .before .before .before .before .before .before .before .before .before .before .before .before .before .before .before .before .before .before .if2 .left) _ (c .before .before .before .before .before .before .before .before .before .before .before .before .before .before .before .before .unpack .ensures) _ (c .before .before .before .before .before .before .before .before .before .before .before .before .before .before .before .find .ensures) (c .before .before .before .before .before .before .before .before .before .before .before .before .before .before .before .before .before .before .before .before .before .before .before .before .before .if1 .left) _ (c .before .before .before .before .before .before .before .before .before .before .before .before .before .w .given .1) _ _ _ (c .before .before .before .before .before .before .before .before .eval-list .ensures) (c .before .before .before .before .before .if4 .left) _ _ _ (c .before .before .invoke2 .ensures)
+call·eval-call-returns-6 t c = calls.call-goes-on _ _ _ _ _ _ _ _ _ (c .before .before .before .before .before .before .before .before .before .before .before .before .before .before .before .before .before .before .before .before .before .before .before .before .before .before .before .before .before .before .before .before .before .pre .1) _ _ _ (steps.eval-went _ _ (c .before .before .before .before .before .before .before .before .before .before .before .before .before .before .before .before .before .before .before .before .before .before .before .before .before .went-of .ensures) _ (c .before .before .before .before .before .before .before .before .before .before .before .before .before .before .before .before .before .before .before .before .before .before .before .w1 .given .1) _ _ _ _ _ _ _ _ _ (c .before .before .before .before .before .before .before .before .before .before .before .before .before .before .before .before .before .before .before .before .before .before .before .before .before .before .before .before .eval-part .ensures)) (steps.went-on _ _ (c .before .before .before .before .before .before .before .before .before .before .before .before .before .before .before .before .before .before .before .before .before .before .before .before .before .went-of .ensures) _ (c .before .before .before .before .before .before .before .before .before .before .before .before .before .before .before .before .before .before .before .before .before .before .before .w1 .given .1)) _ (c .before .before .before .before .before .before .before .before .before .before .before .before .before .before .before .before .before .before .before .unpack .ensures) _ (c .before .before .before .before .before .before .before .before .before .before .before .before .before .before .before .before .before .before .find .ensures) (c .before .before .before .before .before .before .before .before .before .before .before .before .before .before .before .before .before .before .before .before .before .before .before .before .before .before .before .before .before .before .before .if1 .left) _ (c .before .before .before .before .before .before .before .before .before .before .before .before .before .before .before .before .w .given .1) _ _ _ (steps.list-went _ _ (c .before .before .before .before .before .before .before .before .went-of2 .ensures) _ (c .before .before .before .before .before .before .w2 .given .1) _ _ _ _ _ _ _ _ _ _ (c .before .before .before .before .before .before .before .before .before .before .before .eval-list .ensures)) (steps.went-on _ _ (c .before .before .before .before .before .before .before .before .went-of2 .ensures) _ (c .before .before .before .before .before .before .w2 .given .1)) _ _ _ (c .before .before .invoke2 .ensures)
 
 call·invoke-stop-requires : (t : ℕ) → call·invoke-lts.Need-stop-requires (call·invoke-claims t) (call·invoke-at t) call·invoke.Post
 call·invoke-stop-requires t c κs = search calls.calls-full
@@ -302,46 +305,58 @@ call·run-left-eval-requires : (t : ℕ) → call·run-left-lts.Need-eval-requir
 call·run-left-eval-requires t c κs = (search needs, sides.left-run [] _ _ _ _ _ _ _ 0 (c .before .before .before .before .before .before .before .before .before .before .before .before .pre .1) _ (c .before .before .before .before .before .push .ensures) _ (c .before .before .before .set-frame .ensures))
 
 call·run-left-returns : (t : ℕ) → call·run-left-lts.Need-returns (call·run-left-claims t) (call·run-left-at t) call·run-left.Post
-call·run-left-returns t c = search sides.left-stops
+call·run-left-returns t c = sides.left-stops _ _ _ _ _ _ _ _ _ (c .before .before .before .before .before .before .before .before .before .before .before .before .before .before .before .before .before .before .before .before .pre .1) _ (c .before .before .before .before .before .before .before .before .before .before .before .before .before .push .ensures) _ (c .before .before .before .before .before .before .before .before .before .before .before .set-frame .ensures) _ (c .before .before .before .before .before .before .before .before .before .before .left-place .ensures) _ _ _ (c .before .before .before .before .before .before .before .eval .ensures) _ (c .before .before .before .set-frame2 .ensures) (steps.went-stopped _ _ (c .before .before .went-of .ensures) (c .enum-told .given .1))
+
+call·run-left-cast-close : (t : ℕ) → call·run-left-lts.Need-cast-close (call·run-left-claims t) (call·run-left-at t) call·run-left.Post
+call·run-left-cast-close t c = search (needs, sides.body-short _ _ _ _ _ _ (c .before .before .before .before .before .before .before .before .before .before .before .before .before .before .before .before .before .before .before .before .before .before .pre .1), sides.body-top _ _ _ _ _ _ (c .before .before .before .before .before .before .before .before .before .before .before .before .before .before .before .before .before .before .before .before .before .before .pre .1))
+
+call·run-left-add-unpack : (t : ℕ) → call·run-left-lts.Need-add-unpack (call·run-left-claims t) (call·run-left-at t) call·run-left.Post
+call·run-left-add-unpack t c = search (needs, sides.body-short _ _ _ _ _ _ (c .before .before .before .before .before .before .before .before .before .before .before .before .before .before .before .before .before .before .before .before .before .before .pre .1), sides.body-top _ _ _ _ _ _ (c .before .before .before .before .before .before .before .before .before .before .before .before .before .before .before .before .before .before .before .before .before .before .pre .1))
+
+call·run-left-mul-unpack : (t : ℕ) → call·run-left-lts.Need-mul-unpack (call·run-left-claims t) (call·run-left-at t) call·run-left.Post
+call·run-left-mul-unpack t c = search (needs, sides.body-short _ _ _ _ _ _ (c .before .before .before .before .before .before .before .before .before .before .before .before .before .before .before .before .before .before .before .before .before .before .pre .1), sides.body-top _ _ _ _ _ _ (c .before .before .before .before .before .before .before .before .before .before .before .before .before .before .before .before .before .before .before .before .before .before .pre .1))
+
+call·run-left-element-copy-out-unpack : (t : ℕ) → call·run-left-lts.Need-element-copy-out-unpack (call·run-left-claims t) (call·run-left-at t) call·run-left.Post
+call·run-left-element-copy-out-unpack t c = search (needs, sides.body-short _ _ _ _ _ _ (c .before .before .before .before .before .before .before .before .before .before .before .before .before .before .before .before .before .before .before .before .before .before .pre .1), sides.body-top _ _ _ _ _ _ (c .before .before .before .before .before .before .before .before .before .before .before .before .before .before .before .before .before .before .before .before .before .before .pre .1))
 
 call·run-left-cast-close-2 : (t : ℕ) → call·run-left-lts.Need-cast-close-2 (call·run-left-claims t) (call·run-left-at t) call·run-left.Post
 call·run-left-cast-close-2 t c = search (needs, sides.body-short)
 
 call·run-left-close-requires : (t : ℕ) → call·run-left-lts.Need-close-requires (call·run-left-claims t) (call·run-left-at t) call·run-left.Post
-call·run-left-close-requires t c κs = (sides.left-held _ _ _ _ _ _ _ _ _ (c .before .before .before .before .before .before .before .before .before .before .before .before .before .before .before .before .before .before .before .before .before .pre .1) _ (c .before .before .before .before .before .before .before .before .before .before .before .before .before .before .push .ensures) _ (c .before .before .before .before .before .before .before .before .before .before .before .before .set-frame .ensures) _ (c .before .before .before .before .before .before .before .before .before .before .before .left-place .ensures) _ _ _ (c .before .before .before .before .before .before .before .before .eval .ensures) _ (c .before .before .before .before .set-frame2 .ensures) (c .before .before .before .if1 .left) _ (c .unpack .ensures), sides.body-mark _ _ _ _ _ _ (c .before .before .before .before .before .before .before .before .before .before .before .before .before .before .before .before .before .before .before .before .before .pre .1), sides.left-length _ _ _ _ _ _ _ _ _ (c .before .before .before .before .before .before .before .before .before .before .before .before .before .before .before .before .before .before .before .before .before .pre .1) _ (c .before .before .before .before .before .before .before .before .before .before .before .before .before .before .push .ensures) _ (c .before .before .before .before .before .before .before .before .before .before .before .before .set-frame .ensures) _ (c .before .before .before .before .before .before .before .before .before .before .before .left-place .ensures) _ _ _ (c .before .before .before .before .before .before .before .before .eval .ensures) _ (c .before .before .before .before .set-frame2 .ensures) (c .before .before .before .if1 .left) _ (c .unpack .ensures))
+call·run-left-close-requires t c κs = (sides.left-held _ _ _ _ _ _ _ _ _ (c .before .before .before .before .before .before .before .before .before .before .before .before .before .before .before .before .before .before .before .before .before .before .before .before .pre .1) _ (c .before .before .before .before .before .before .before .before .before .before .before .before .before .before .before .before .before .push .ensures) _ (c .before .before .before .before .before .before .before .before .before .before .before .before .before .before .before .set-frame .ensures) _ (c .before .before .before .before .before .before .before .before .before .before .before .before .before .before .left-place .ensures) _ _ _ (c .before .before .before .before .before .before .before .before .before .before .before .eval .ensures) _ (c .before .before .before .before .before .before .before .set-frame2 .ensures) (steps.went-not _ _ (c .before .before .before .before .before .before .went-of .ensures) _ (c .before .before .before .before .w .given .1)) _ (c .unpack .ensures), sides.body-mark _ _ _ _ _ _ (c .before .before .before .before .before .before .before .before .before .before .before .before .before .before .before .before .before .before .before .before .before .before .before .before .pre .1), sides.left-length _ _ _ _ _ _ _ _ _ (c .before .before .before .before .before .before .before .before .before .before .before .before .before .before .before .before .before .before .before .before .before .before .before .before .pre .1) _ (c .before .before .before .before .before .before .before .before .before .before .before .before .before .before .before .before .before .push .ensures) _ (c .before .before .before .before .before .before .before .before .before .before .before .before .before .before .before .set-frame .ensures) _ (c .before .before .before .before .before .before .before .before .before .before .before .before .before .before .left-place .ensures) _ _ _ (c .before .before .before .before .before .before .before .before .before .before .before .eval .ensures) _ (c .before .before .before .before .before .before .before .set-frame2 .ensures) (steps.went-not _ _ (c .before .before .before .before .before .before .went-of .ensures) _ (c .before .before .before .before .w .given .1)) _ (c .unpack .ensures))
 
 call·run-left-pack-requires : (t : ℕ) → call·run-left-lts.Need-pack-requires (call·run-left-claims t) (call·run-left-at t) call·run-left.Post
-call·run-left-pack-requires t c κs = sides.left-small _ _ _ _ _ _ _ _ _ (c .before .before .before .before .before .before .before .before .before .before .before .before .before .before .before .before .before .before .before .before .before .before .before .before .pre .1) _ (c .before .before .before .before .before .before .before .before .before .before .before .before .before .before .before .before .before .push .ensures) _ (c .before .before .before .before .before .before .before .before .before .before .before .before .before .before .before .set-frame .ensures) _ (c .before .before .before .before .before .before .before .before .before .before .before .before .before .before .left-place .ensures) _ _ _ (c .before .before .before .before .before .before .before .before .before .before .before .eval .ensures) _ (c .before .before .before .before .before .before .before .set-frame2 .ensures) (c .before .before .before .before .before .before .if1 .left) _ (c .before .before .before .unpack .ensures) _ _ (c .before .before .close .ensures)
+call·run-left-pack-requires t c κs = sides.left-small _ _ _ _ _ _ _ _ _ (c .before .before .before .before .before .before .before .before .before .before .before .before .before .before .before .before .before .before .before .before .before .before .before .before .before .before .before .pre .1) _ (c .before .before .before .before .before .before .before .before .before .before .before .before .before .before .before .before .before .before .before .before .push .ensures) _ (c .before .before .before .before .before .before .before .before .before .before .before .before .before .before .before .before .before .before .set-frame .ensures) _ (c .before .before .before .before .before .before .before .before .before .before .before .before .before .before .before .before .before .left-place .ensures) _ _ _ (c .before .before .before .before .before .before .before .before .before .before .before .before .before .before .eval .ensures) _ (c .before .before .before .before .before .before .before .before .before .before .set-frame2 .ensures) (steps.went-not _ _ (c .before .before .before .before .before .before .before .before .before .went-of .ensures) _ (c .before .before .before .before .before .before .before .w .given .1)) _ (c .before .before .before .unpack .ensures) _ _ (c .before .before .close .ensures)
 
 call·run-left-mul-st : (t : ℕ) → call·run-left-lts.Need-mul-st (call·run-left-claims t) (call·run-left-at t) call·run-left.Post
-call·run-left-mul-st t c = search (needs, sides.body-index _ _ _ _ _ _ (c .before .before .before .before .before .before .before .before .before .before .before .before .before .before .before .before .before .before .before .before .before .before .before .before .before .pre .1))
+call·run-left-mul-st t c = search (needs, sides.body-index _ _ _ _ _ _ (c .before .before .before .before .before .before .before .before .before .before .before .before .before .before .before .before .before .before .before .before .before .before .before .before .before .before .before .before .pre .1))
 
 call·run-left-element-write-st-2 : (t : ℕ) → call·run-left-lts.Need-element-write-st-2 (call·run-left-claims t) (call·run-left-at t) call·run-left.Post
-call·run-left-element-write-st-2 t c = sides.body-index _ _ _ _ _ _ (c .before .before .before .before .before .before .before .before .before .before .before .before .before .before .before .before .before .before .before .before .before .before .before .before .before .pre .1)
+call·run-left-element-write-st-2 t c = sides.body-index _ _ _ _ _ _ (c .before .before .before .before .before .before .before .before .before .before .before .before .before .before .before .before .before .before .before .before .before .before .before .before .before .before .before .before .pre .1)
 
 call·run-left-returns-2 : (t : ℕ) → call·run-left-lts.Need-returns-2 (call·run-left-claims t) (call·run-left-at t) call·run-left.Post
-call·run-left-returns-2 t c = sides.left-gives _ _ _ _ _ _ _ _ _ (c .before .before .before .before .before .before .before .before .before .before .before .before .before .before .before .before .before .before .before .before .before .before .before .before .before .pre .1) _ (c .before .before .before .before .before .before .before .before .before .before .before .before .before .before .before .before .before .before .push .ensures) _ (c .before .before .before .before .before .before .before .before .before .before .before .before .before .before .before .before .set-frame .ensures) _ (c .before .before .before .before .before .before .before .before .before .before .before .before .before .before .before .left-place .ensures) _ _ _ (c .before .before .before .before .before .before .before .before .before .before .before .before .eval .ensures) _ (c .before .before .before .before .before .before .before .before .set-frame2 .ensures) (c .before .before .before .before .before .before .before .if1 .left) _ (c .before .before .before .before .unpack .ensures) _ _ _ (c .before .before .before .close .ensures) (c .pack .ensures)
+call·run-left-returns-2 t c = sides.left-gives _ _ _ _ _ _ _ _ _ (c .before .before .before .before .before .before .before .before .before .before .before .before .before .before .before .before .before .before .before .before .before .before .before .before .before .before .before .before .pre .1) _ (c .before .before .before .before .before .before .before .before .before .before .before .before .before .before .before .before .before .before .before .before .before .push .ensures) _ (c .before .before .before .before .before .before .before .before .before .before .before .before .before .before .before .before .before .before .before .set-frame .ensures) _ (c .before .before .before .before .before .before .before .before .before .before .before .before .before .before .before .before .before .before .left-place .ensures) _ _ _ (c .before .before .before .before .before .before .before .before .before .before .before .before .before .before .before .eval .ensures) _ (c .before .before .before .before .before .before .before .before .before .before .before .set-frame2 .ensures) (steps.went-not _ _ (c .before .before .before .before .before .before .before .before .before .before .went-of .ensures) _ (c .before .before .before .before .before .before .before .before .w .given .1)) _ (c .before .before .before .before .unpack .ensures) _ _ _ (c .before .before .before .close .ensures) (c .pack .ensures)
 
 call·run-right-eval-requires : (t : ℕ) → call·run-right-lts.Need-eval-requires (call·run-right-claims t) (call·run-right-at t) call·run-right.Post
 call·run-right-eval-requires t c κs = (search needs, sides.right-run [] _ _ _ _ _ _ 0 _ (c .before .before .before .before .before .before .before .before .before .pre .1 .0) (c .before .before .before .before .before .before .before .before .before .pre .1 .1) (c .before .before .before .before .before .before .before .before .before .pre .1 .2) _ (c .before .before .before .set-frame .ensures))
 
 call·run-right-returns : (t : ℕ) → call·run-right-lts.Need-returns (call·run-right-claims t) (call·run-right-at t) call·run-right.Post
-call·run-right-returns t c = search sides.right-stops
+call·run-right-returns t c = sides.right-stops _ _ _ _ _ _ _ _ _ (c .before .before .before .before .before .before .before .before .before .before .before .before .before .before .before .before .before .pre .1 .0) (c .before .before .before .before .before .before .before .before .before .before .before .before .before .before .before .before .before .pre .1 .1) (c .before .before .before .before .before .before .before .before .before .before .before .before .before .before .before .before .before .pre .1 .2) _ (c .before .before .before .before .before .before .before .before .before .before .before .set-frame .ensures) _ (c .before .before .before .before .before .before .before .before .before .before .right-place .ensures) _ _ _ (c .before .before .before .before .before .before .before .eval .ensures) _ (c .before .before .before .set-frame2 .ensures) (steps.went-stopped _ _ (c .before .before .went-of .ensures) (c .enum-told .given .1))
 
 call·run-right-bring-requires : (t : ℕ) → call·run-right-lts.Need-bring-requires (call·run-right-claims t) (call·run-right-at t) call·run-right.Post
-call·run-right-bring-requires t c κs = (sides.right-held _ _ _ _ _ _ _ _ _ (c .before .before .before .before .before .before .before .before .before .before .before .before .before .before .before .before .before .before .pre .1 .0) (c .before .before .before .before .before .before .before .before .before .before .before .before .before .before .before .before .before .before .pre .1 .1) (c .before .before .before .before .before .before .before .before .before .before .before .before .before .before .before .before .before .before .pre .1 .2) _ (c .before .before .before .before .before .before .before .before .before .before .before .before .set-frame .ensures) _ (c .before .before .before .before .before .before .before .before .before .before .before .right-place .ensures) _ _ _ (c .before .before .before .before .before .before .before .before .eval .ensures) _ (c .before .before .before .before .set-frame2 .ensures) (c .before .before .before .if1 .left) _ (c .unpack .ensures), sides.right-length _ _ _ _ _ _ _ _ _ (c .before .before .before .before .before .before .before .before .before .before .before .before .before .before .before .before .before .before .pre .1 .0) (c .before .before .before .before .before .before .before .before .before .before .before .before .before .before .before .before .before .before .pre .1 .1) (c .before .before .before .before .before .before .before .before .before .before .before .before .before .before .before .before .before .before .pre .1 .2) _ (c .before .before .before .before .before .before .before .before .before .before .before .before .set-frame .ensures) _ (c .before .before .before .before .before .before .before .before .before .before .before .right-place .ensures) _ _ _ (c .before .before .before .before .before .before .before .before .eval .ensures) _ (c .before .before .before .before .set-frame2 .ensures) (c .before .before .before .if1 .left) _ (c .unpack .ensures))
+call·run-right-bring-requires t c κs = (sides.right-held _ _ _ _ _ _ _ _ _ (c .before .before .before .before .before .before .before .before .before .before .before .before .before .before .before .before .before .before .before .before .before .pre .1 .0) (c .before .before .before .before .before .before .before .before .before .before .before .before .before .before .before .before .before .before .before .before .before .pre .1 .1) (c .before .before .before .before .before .before .before .before .before .before .before .before .before .before .before .before .before .before .before .before .before .pre .1 .2) _ (c .before .before .before .before .before .before .before .before .before .before .before .before .before .before .before .set-frame .ensures) _ (c .before .before .before .before .before .before .before .before .before .before .before .before .before .before .right-place .ensures) _ _ _ (c .before .before .before .before .before .before .before .before .before .before .before .eval .ensures) _ (c .before .before .before .before .before .before .before .set-frame2 .ensures) (steps.went-not _ _ (c .before .before .before .before .before .before .went-of .ensures) _ (c .before .before .before .before .w .given .1)) _ (c .unpack .ensures), sides.right-length _ _ _ _ _ _ _ _ _ (c .before .before .before .before .before .before .before .before .before .before .before .before .before .before .before .before .before .before .before .before .before .pre .1 .0) (c .before .before .before .before .before .before .before .before .before .before .before .before .before .before .before .before .before .before .before .before .before .pre .1 .1) (c .before .before .before .before .before .before .before .before .before .before .before .before .before .before .before .before .before .before .before .before .before .pre .1 .2) _ (c .before .before .before .before .before .before .before .before .before .before .before .before .before .before .before .set-frame .ensures) _ (c .before .before .before .before .before .before .before .before .before .before .before .before .before .before .right-place .ensures) _ _ _ (c .before .before .before .before .before .before .before .before .before .before .before .eval .ensures) _ (c .before .before .before .before .before .before .before .set-frame2 .ensures) (steps.went-not _ _ (c .before .before .before .before .before .before .went-of .ensures) _ (c .before .before .before .before .w .given .1)) _ (c .unpack .ensures))
 
 call·run-right-pack-requires : (t : ℕ) → call·run-right-lts.Need-pack-requires (call·run-right-claims t) (call·run-right-at t) call·run-right.Post
-call·run-right-pack-requires t c κs = sides.right-small _ _ _ _ _ _ _ _ _ (c .before .before .before .before .before .before .before .before .before .before .before .before .before .before .before .before .before .before .before .before .before .pre .1 .0) (c .before .before .before .before .before .before .before .before .before .before .before .before .before .before .before .before .before .before .before .before .before .pre .1 .1) (c .before .before .before .before .before .before .before .before .before .before .before .before .before .before .before .before .before .before .before .before .before .pre .1 .2) _ (c .before .before .before .before .before .before .before .before .before .before .before .before .before .before .before .set-frame .ensures) _ (c .before .before .before .before .before .before .before .before .before .before .before .before .before .before .right-place .ensures) _ _ _ (c .before .before .before .before .before .before .before .before .before .before .before .eval .ensures) _ (c .before .before .before .before .before .before .before .set-frame2 .ensures) (c .before .before .before .before .before .before .if1 .left) _ (c .before .before .before .unpack .ensures) _ _ (c .before .before .bring .ensures)
+call·run-right-pack-requires t c κs = sides.right-small _ _ _ _ _ _ _ _ _ (c .before .before .before .before .before .before .before .before .before .before .before .before .before .before .before .before .before .before .before .before .before .before .before .before .pre .1 .0) (c .before .before .before .before .before .before .before .before .before .before .before .before .before .before .before .before .before .before .before .before .before .before .before .before .pre .1 .1) (c .before .before .before .before .before .before .before .before .before .before .before .before .before .before .before .before .before .before .before .before .before .before .before .before .pre .1 .2) _ (c .before .before .before .before .before .before .before .before .before .before .before .before .before .before .before .before .before .before .set-frame .ensures) _ (c .before .before .before .before .before .before .before .before .before .before .before .before .before .before .before .before .before .right-place .ensures) _ _ _ (c .before .before .before .before .before .before .before .before .before .before .before .before .before .before .eval .ensures) _ (c .before .before .before .before .before .before .before .before .before .before .set-frame2 .ensures) (steps.went-not _ _ (c .before .before .before .before .before .before .before .before .before .went-of .ensures) _ (c .before .before .before .before .before .before .before .w .given .1)) _ (c .before .before .before .unpack .ensures) _ _ (c .before .before .bring .ensures)
 
 call·run-right-mul-st : (t : ℕ) → call·run-right-lts.Need-mul-st (call·run-right-claims t) (call·run-right-at t) call·run-right.Post
-call·run-right-mul-st t c = search (needs, sides.body-short)
+call·run-right-mul-st t c = search (needs, sides.body-index _ _ _ _ _ _ (c .before .before .before .before .before .before .before .before .before .before .before .before .before .before .before .before .before .before .before .before .before .before .before .before .before .pre .1 .0))
 
 call·run-right-element-write-st : (t : ℕ) → call·run-right-lts.Need-element-write-st (call·run-right-claims t) (call·run-right-at t) call·run-right.Post
-call·run-right-element-write-st t c = sides.body-index _ _ _ _ _ _ (c .before .before .before .before .before .before .before .before .before .before .before .before .before .before .before .before .before .before .before .before .before .before .pre .1 .0)
+call·run-right-element-write-st t c = sides.body-index _ _ _ _ _ _ (c .before .before .before .before .before .before .before .before .before .before .before .before .before .before .before .before .before .before .before .before .before .before .before .before .before .pre .1 .0)
 
 call·run-right-returns-2 : (t : ℕ) → call·run-right-lts.Need-returns-2 (call·run-right-claims t) (call·run-right-at t) call·run-right.Post
-call·run-right-returns-2 t c = sides.right-gives _ _ _ _ _ _ _ _ _ (c .before .before .before .before .before .before .before .before .before .before .before .before .before .before .before .before .before .before .before .before .before .before .pre .1 .0) (c .before .before .before .before .before .before .before .before .before .before .before .before .before .before .before .before .before .before .before .before .before .before .pre .1 .1) (c .before .before .before .before .before .before .before .before .before .before .before .before .before .before .before .before .before .before .before .before .before .before .pre .1 .2) _ (c .before .before .before .before .before .before .before .before .before .before .before .before .before .before .before .before .set-frame .ensures) _ (c .before .before .before .before .before .before .before .before .before .before .before .before .before .before .before .right-place .ensures) _ _ _ (c .before .before .before .before .before .before .before .before .before .before .before .before .eval .ensures) _ (c .before .before .before .before .before .before .before .before .set-frame2 .ensures) (c .before .before .before .before .before .before .before .if1 .left) _ (c .before .before .before .before .unpack .ensures) _ _ _ (c .before .before .before .bring .ensures) (c .pack .ensures)
+call·run-right-returns-2 t c = sides.right-gives _ _ _ _ _ _ _ _ _ (c .before .before .before .before .before .before .before .before .before .before .before .before .before .before .before .before .before .before .before .before .before .before .before .before .before .pre .1 .0) (c .before .before .before .before .before .before .before .before .before .before .before .before .before .before .before .before .before .before .before .before .before .before .before .before .before .pre .1 .1) (c .before .before .before .before .before .before .before .before .before .before .before .before .before .before .before .before .before .before .before .before .before .before .before .before .before .pre .1 .2) _ (c .before .before .before .before .before .before .before .before .before .before .before .before .before .before .before .before .before .before .before .set-frame .ensures) _ (c .before .before .before .before .before .before .before .before .before .before .before .before .before .before .before .before .before .before .right-place .ensures) _ _ _ (c .before .before .before .before .before .before .before .before .before .before .before .before .before .before .before .eval .ensures) _ (c .before .before .before .before .before .before .before .before .before .before .before .set-frame2 .ensures) (steps.went-not _ _ (c .before .before .before .before .before .before .before .before .before .before .went-of .ensures) _ (c .before .before .before .before .before .before .before .before .w .given .1)) _ (c .before .before .before .before .unpack .ensures) _ _ _ (c .before .before .before .bring .ensures) (c .pack .ensures)
 
 eval·eval-stop-requires : (t : ℕ) → eval·eval-lts.Need-stop-requires (eval·eval-claims t) (eval·eval-at t) eval·eval.Post
 eval·eval-stop-requires t c κs = search steps.run-full
@@ -349,14 +364,14 @@ eval·eval-stop-requires t c κs = search steps.run-full
 eval·eval-returns : (t : ℕ) → eval·eval-lts.Need-returns (eval·eval-claims t) (eval·eval-at t) eval·eval.Post
 eval·eval-returns t c = search steps.step-zero
 
-eval·eval-this-requires : (t : ℕ) → eval·eval-lts.Need-this-requires (eval·eval-claims t) (eval·eval-at t) eval·eval.Post
-eval·eval-this-requires t c κs = (search steps.run-full, search steps.run-short, search steps.next-this)
+eval·eval-leaf-requires : (t : ℕ) → eval·eval-lts.Need-leaf-requires (eval·eval-claims t) (eval·eval-at t) eval·eval.Post
+eval·eval-leaf-requires t c κs = (search steps.run-full, search steps.run-short, search steps.run-framed)
 
-eval·eval-result-requires : (t : ℕ) → eval·eval-lts.Need-result-requires (eval·eval-claims t) (eval·eval-at t) eval·eval.Post
-eval·eval-result-requires t c κs = (search steps.run-full, search steps.run-short, search steps.run-framed, search steps.next-result)
+eval·eval-leaf-requires-2 : (t : ℕ) → eval·eval-lts.Need-leaf-requires-2 (eval·eval-claims t) (eval·eval-at t) eval·eval.Post
+eval·eval-leaf-requires-2 t c κs = (search steps.run-full, search steps.run-short, search steps.run-framed)
 
-eval·eval-parameter-requires : (t : ℕ) → eval·eval-lts.Need-parameter-requires (eval·eval-claims t) (eval·eval-at t) eval·eval.Post
-eval·eval-parameter-requires t c κs = (search steps.run-full, search steps.run-short, search steps.run-framed, search steps.next-parameter)
+eval·eval-leaf-requires-3 : (t : ℕ) → eval·eval-lts.Need-leaf-requires-3 (eval·eval-claims t) (eval·eval-at t) eval·eval.Post
+eval·eval-leaf-requires-3 t c κs = (search steps.run-full, search steps.run-short, search steps.run-framed)
 
 eval·eval-eval-field-requires : (t : ℕ) → eval·eval-lts.Need-eval-field-requires (eval·eval-claims t) (eval·eval-at t) eval·eval.Post
 eval·eval-eval-field-requires t c κs = (search needs, search steps.run-part)
@@ -395,19 +410,19 @@ eval·eval-field-eval-part-requires : (t : ℕ) → eval·eval-field-lts.Need-ev
 eval·eval-field-eval-part-requires t c κs = (search needs, search steps.run-inner)
 
 eval·eval-field-returns : (t : ℕ) → eval·eval-field-lts.Need-returns (eval·eval-field-claims t) (eval·eval-field-at t) eval·eval-field.Post
-eval·eval-field-returns t c = search steps.field-stops
+eval·eval-field-returns t c = steps.field-stops _ _ _ _ _ _ _ _ _ _ (c .before .before .before .before .before .eval-part .ensures) (c .before .before .before .before .before .before .before .before .before .pre .1) _ (steps.went-stopped _ _ (c .before .before .went-of .ensures) (c .enum-told .given .1))
 
 eval·eval-field-select-in-requires : (t : ℕ) → eval·eval-field-lts.Need-select-in-requires (eval·eval-field-claims t) (eval·eval-field-at t) eval·eval-field.Post
-eval·eval-field-select-in-requires t c κs = search steps.value-held
+eval·eval-field-select-in-requires t c κs = steps.value-held _ _ _ _ _ _ _ _ _ _ (steps.eval-went _ _ (c .before .before .before .before .before .went-of .ensures) _ (c .before .before .before .w1 .given .1) _ _ _ _ _ _ _ _ _ (c .before .before .before .before .before .before .before .before .eval-part .ensures)) (c .before .before .before .before .before .before .before .before .before .before .before .before .pre .1) (steps.went-on _ _ (c .before .before .before .before .before .went-of .ensures) _ (c .before .before .before .w1 .given .1))
 
 eval·eval-field-stop-requires : (t : ℕ) → eval·eval-field-lts.Need-stop-requires (eval·eval-field-claims t) (eval·eval-field-at t) eval·eval-field.Post
-eval·eval-field-stop-requires t c κs = search steps.full-after
+eval·eval-field-stop-requires t c κs = steps.full-after _ _ _ _ _ _ _ _ _ _ (c .before .before .before .before .before .before .before .before .before .before .before .eval-part .ensures) (c .before .before .before .before .before .before .before .before .before .before .before .before .before .before .before .pre .1)
 
 eval·eval-field-returns-2 : (t : ℕ) → eval·eval-field-lts.Need-returns-2 (eval·eval-field-claims t) (eval·eval-field-at t) eval·eval-field.Post
-eval·eval-field-returns-2 t c = search steps.field-lacks
+eval·eval-field-returns-2 t c = steps.field-lacks _ _ _ _ _ _ _ _ _ _ (steps.eval-went _ _ (c .before .before .before .before .before .before .before .before .before .went-of .ensures) _ (c .before .before .before .before .before .before .before .w1 .given .1) _ _ _ _ _ _ _ _ _ (c .before .before .before .before .before .before .before .before .before .before .before .before .eval-part .ensures)) (c .before .before .before .before .before .before .before .before .before .before .before .before .before .before .before .before .pre .1) _ _ (steps.went-on _ _ (c .before .before .before .before .before .before .before .before .before .went-of .ensures) _ (c .before .before .before .before .before .before .before .w1 .given .1)) (c .before .before .before .select-in .ensures) (c .before .before .if1 .taken) _ _ (c .stop .ensures)
 
 eval·eval-field-returns-3 : (t : ℕ) → eval·eval-field-lts.Need-returns-3 (eval·eval-field-claims t) (eval·eval-field-at t) eval·eval-field.Post
-eval·eval-field-returns-3 t c = search steps.field-has
+eval·eval-field-returns-3 t c = steps.field-has _ _ _ _ _ _ _ _ _ _ (steps.eval-went _ _ (c .before .before .before .before .before .before .before .went-of .ensures) _ (c .before .before .before .before .before .w1 .given .1) _ _ _ _ _ _ _ _ _ (c .before .before .before .before .before .before .before .before .before .before .eval-part .ensures)) (c .before .before .before .before .before .before .before .before .before .before .before .before .before .before .pre .1) _ _ (steps.went-on _ _ (c .before .before .before .before .before .before .before .went-of .ensures) _ (c .before .before .before .before .before .w1 .given .1)) (c .before .select-in .ensures) (c .if1 .left)
 
 eval·eval-list-returns : (t : ℕ) → eval·eval-list-lts.Need-returns (eval·eval-list-claims t) (eval·eval-list-at t) eval·eval-list.Post
 eval·eval-list-returns t c = search steps.list-done
@@ -416,13 +431,13 @@ eval·eval-list-eval-part-requires : (t : ℕ) → eval·eval-list-lts.Need-eval
 eval·eval-list-eval-part-requires t c κs = (search needs, search steps.list-run)
 
 eval·eval-list-returns-2 : (t : ℕ) → eval·eval-list-lts.Need-returns-2 (eval·eval-list-claims t) (eval·eval-list-at t) eval·eval-list.Post
-eval·eval-list-returns-2 t c = search steps.list-stops
+eval·eval-list-returns-2 t c = steps.list-stops _ _ _ _ _ _ _ _ (c .before .before .before .before .before .before .before .before .before .before .pre .1) (c .before .before .before .before .before .before .before .before .if1 .left) _ _ _ (c .before .before .before .before .before .eval-part .ensures) (steps.went-stopped _ _ (c .before .before .went-of .ensures) (c .enum-told .given .1))
 
 eval·eval-list-eval-list-requires : (t : ℕ) → eval·eval-list-lts.Need-eval-list-requires (eval·eval-list-claims t) (eval·eval-list-at t) eval·eval-list.Post
-eval·eval-list-eval-list-requires t c κs = (search needs, search steps.list-later)
+eval·eval-list-eval-list-requires t c κs = (search needs, steps.list-later _ _ _ _ _ _ _ _ (c .before .before .before .before .before .before .before .before .before .before .before .before .before .pre .1) (c .before .before .before .before .before .before .before .before .before .before .before .if1 .left) _ _ _ (steps.eval-went _ _ (c .before .before .before .before .before .went-of .ensures) _ (c .before .before .before .w1 .given .1) _ _ _ _ _ _ _ _ _ (c .before .before .before .before .before .before .before .before .eval-part .ensures)) (steps.went-on _ _ (c .before .before .before .before .before .went-of .ensures) _ (c .before .before .before .w1 .given .1)))
 
 eval·eval-list-returns-3 : (t : ℕ) → eval·eval-list-lts.Need-returns-3 (eval·eval-list-claims t) (eval·eval-list-at t) eval·eval-list.Post
-eval·eval-list-returns-3 t c = search steps.list-goes-on
+eval·eval-list-returns-3 t c = steps.list-goes-on _ _ _ _ _ _ _ _ (c .before .before .before .before .before .before .before .before .before .before .before .before .before .before .before .before .pre .1) (c .before .before .before .before .before .before .before .before .before .before .before .before .before .before .if1 .left) _ _ _ (steps.eval-went _ _ (c .before .before .before .before .before .before .before .before .went-of .ensures) _ (c .before .before .before .before .before .before .w1 .given .1) _ _ _ _ _ _ _ _ _ (c .before .before .before .before .before .before .before .before .before .before .before .eval-part .ensures)) (steps.went-on _ _ (c .before .before .before .before .before .before .before .before .went-of .ensures) _ (c .before .before .before .before .before .before .w1 .given .1)) _ _ _ (c .before .before .eval-list .ensures)
 
 eval·eval-new-stop-requires : (t : ℕ) → eval·eval-new-lts.Need-stop-requires (eval·eval-new-claims t) (eval·eval-new-at t) eval·eval-new.Post
 eval·eval-new-stop-requires t c κs = search steps.run-full
@@ -440,13 +455,13 @@ eval·eval-new-eval-list-requires : (t : ℕ) → eval·eval-new-lts.Need-eval-l
 eval·eval-new-eval-list-requires t c κs = (search needs, search steps.run-list)
 
 eval·eval-new-returns-3 : (t : ℕ) → eval·eval-new-lts.Need-returns-3 (eval·eval-new-claims t) (eval·eval-new-at t) eval·eval-new.Post
-eval·eval-new-returns-3 t c = search steps.new-stops
+eval·eval-new-returns-3 t c = steps.new-stops _ _ _ _ _ _ _ _ _ _ (c .before .before .before .before .before .before .before .before .before .before .before .before .pre .1 .0) (c .before .before .before .before .before .before .before .before .before .before .field-total .ensures) (c .before .before .before .before .before .before .before .before .before .if1 .left) _ _ _ (c .before .before .before .before .before .eval-list .ensures) (steps.went-stopped _ _ (c .before .before .went-of .ensures) (c .enum-told .given .1))
 
 eval·eval-new-finish-requires : (t : ℕ) → eval·eval-new-lts.Need-finish-requires (eval·eval-new-claims t) (eval·eval-new-at t) eval·eval-new.Post
-eval·eval-new-finish-requires t c κs = search steps.parts-ready
+eval·eval-new-finish-requires t c κs = steps.parts-ready _ _ _ _ _ _ _ _ _ _ (c .before .before .before .before .before .before .before .before .before .before .before .before .before .before .before .pre .1 .0) (c .before .before .before .before .before .before .before .before .before .before .before .before .before .field-total .ensures) (c .before .before .before .before .before .before .before .before .before .before .before .before .if1 .left) _ _ _ (steps.list-went _ _ (c .before .before .before .before .before .went-of .ensures) _ (c .before .before .before .w1 .given .1) _ _ _ _ _ _ _ _ _ _ (c .before .before .before .before .before .before .before .before .eval-list .ensures)) (steps.went-on _ _ (c .before .before .before .before .before .went-of .ensures) _ (c .before .before .before .w1 .given .1)) (c .before .before .before .before .before .before .before .before .before .before .before .if2 .left)
 
 eval·eval-new-returns-4 : (t : ℕ) → eval·eval-new-lts.Need-returns-4 (eval·eval-new-claims t) (eval·eval-new-at t) eval·eval-new.Post
-eval·eval-new-returns-4 t c = search steps.new-made
+eval·eval-new-returns-4 t c = steps.new-made _ _ _ _ _ _ _ _ _ _ (c .before .before .before .before .before .before .before .before .before .before .before .before .before .before .before .before .before .before .pre .1 .0) (c .before .before .before .before .before .before .before .before .before .before .before .before .before .before .before .before .field-total .ensures) (c .before .before .before .before .before .before .before .before .before .before .before .before .before .before .before .if1 .left) _ _ _ (steps.list-went _ _ (c .before .before .before .before .before .before .before .before .went-of .ensures) _ (c .before .before .before .before .before .before .w1 .given .1) _ _ _ _ _ _ _ _ _ _ (c .before .before .before .before .before .before .before .before .before .before .before .eval-list .ensures)) _ _ _ (c .before .before .finish .ensures)
 
 eval·eval-part-stop-requires : (t : ℕ) → eval·eval-part-lts.Need-stop-requires (eval·eval-part-claims t) (eval·eval-part-at t) eval·eval-part.Post
 eval·eval-part-stop-requires t c κs = search steps.run-full
@@ -454,14 +469,14 @@ eval·eval-part-stop-requires t c κs = search steps.run-full
 eval·eval-part-returns : (t : ℕ) → eval·eval-part-lts.Need-returns (eval·eval-part-claims t) (eval·eval-part-at t) eval·eval-part.Post
 eval·eval-part-returns t c = search steps.step-zero
 
-eval·eval-part-this-requires : (t : ℕ) → eval·eval-part-lts.Need-this-requires (eval·eval-part-claims t) (eval·eval-part-at t) eval·eval-part.Post
-eval·eval-part-this-requires t c κs = (search steps.run-full, search steps.run-short, search steps.next-this)
+eval·eval-part-leaf-requires : (t : ℕ) → eval·eval-part-lts.Need-leaf-requires (eval·eval-part-claims t) (eval·eval-part-at t) eval·eval-part.Post
+eval·eval-part-leaf-requires t c κs = (search steps.run-full, search steps.run-short, search steps.run-framed)
 
-eval·eval-part-result-requires : (t : ℕ) → eval·eval-part-lts.Need-result-requires (eval·eval-part-claims t) (eval·eval-part-at t) eval·eval-part.Post
-eval·eval-part-result-requires t c κs = (search steps.run-full, search steps.run-short, search steps.run-framed, search steps.next-result)
+eval·eval-part-leaf-requires-2 : (t : ℕ) → eval·eval-part-lts.Need-leaf-requires-2 (eval·eval-part-claims t) (eval·eval-part-at t) eval·eval-part.Post
+eval·eval-part-leaf-requires-2 t c κs = (search steps.run-full, search steps.run-short, search steps.run-framed)
 
-eval·eval-part-parameter-requires : (t : ℕ) → eval·eval-part-lts.Need-parameter-requires (eval·eval-part-claims t) (eval·eval-part-at t) eval·eval-part.Post
-eval·eval-part-parameter-requires t c κs = (search steps.run-full, search steps.run-short, search steps.run-framed, search steps.next-parameter)
+eval·eval-part-leaf-requires-3 : (t : ℕ) → eval·eval-part-lts.Need-leaf-requires-3 (eval·eval-part-claims t) (eval·eval-part-at t) eval·eval-part.Post
+eval·eval-part-leaf-requires-3 t c κs = (search steps.run-full, search steps.run-short, search steps.run-framed)
 
 eval·eval-part-eval-requires : (t : ℕ) → eval·eval-part-lts.Need-eval-requires (eval·eval-part-claims t) (eval·eval-part-at t) eval·eval-part.Post
 eval·eval-part-eval-requires t c κs = (search needs, search needs)
@@ -482,6 +497,9 @@ pub +call·eval-call+call·invoke+call·run-left+call·run-right+eval·eval+eval
     (call·eval-call-stop-requires t)
     (call·eval-call-returns t)
     (call·eval-call-eval-part-requires t)
+    (λ c κs. search needs)
+    (λ c. search needs)
+    (λ c. search needs)
     (λ c. search needs)
     (call·eval-call-returns-2 t)
     (λ c. search needs)
@@ -498,10 +516,13 @@ pub +call·eval-call+call·invoke+call·run-left+call·run-right+eval·eval+eval
     (call·eval-call-returns-4 t)
     (λ c. search needs)
     (call·eval-call-eval-list-requires t)
+    (λ c κs. search needs)
+    (λ c. search needs)
+    (λ c. search needs)
     (λ c. search needs)
     (call·eval-call-returns-5 t)
     (call·eval-call-invoke-requires-2 t)
-    (λ c. search needs)
+    (call·eval-call-same-length-5 t)
     (call·eval-call-returns-6 t))
     (λ t. call·invoke-lts.spec (call·invoke-claims t) (call·invoke-at t) call·invoke.Post
     (λ c. search needs)
@@ -534,12 +555,15 @@ pub +call·eval-call+call·invoke+call·run-left+call·run-right+eval·eval+eval
     (call·run-left-eval-requires t)
     (λ c κs. search needs)
     (λ c. search needs)
+    (λ c κs. search needs)
+    (λ c. search needs)
+    (λ c. search needs)
     (λ c. search needs)
     (call·run-left-returns t)
-    (λ c. search needs)
-    (λ c. search needs)
-    (λ c. search needs)
-    (λ c. search needs)
+    (call·run-left-cast-close t)
+    (call·run-left-add-unpack t)
+    (call·run-left-mul-unpack t)
+    (call·run-left-element-copy-out-unpack t)
     (λ c κs. search needs)
     (call·run-left-cast-close-2 t)
     (call·run-left-close-requires t)
@@ -558,6 +582,9 @@ pub +call·eval-call+call·invoke+call·run-left+call·run-right+eval·eval+eval
     (λ c. search needs)
     (call·run-right-eval-requires t)
     (λ c κs. search needs)
+    (λ c κs. search needs)
+    (λ c. search needs)
+    (λ c. search needs)
     (λ c. search needs)
     (call·run-right-returns t)
     (λ c. search needs)
@@ -576,11 +603,11 @@ pub +call·eval-call+call·invoke+call·run-left+call·run-right+eval·eval+eval
     (eval·eval-returns t)
     (λ c κs. search needs)
     (λ c. search needs)
-    (eval·eval-this-requires t)
+    (eval·eval-leaf-requires t)
     (λ c. search needs)
-    (eval·eval-result-requires t)
+    (eval·eval-leaf-requires-2 t)
     (λ c. search needs)
-    (eval·eval-parameter-requires t)
+    (eval·eval-leaf-requires-3 t)
     (λ c. search needs)
     (λ c. search needs)
     (eval·eval-eval-field-requires t)
@@ -604,6 +631,9 @@ pub +call·eval-call+call·invoke+call·run-left+call·run-right+eval·eval+eval
     (eval·eval-returns-8 t))
     (λ t. eval·eval-field-lts.spec (eval·eval-field-claims t) (eval·eval-field-at t) eval·eval-field.Post
     (eval·eval-field-eval-part-requires t)
+    (λ c κs. search needs)
+    (λ c. search needs)
+    (λ c. search needs)
     (λ c. search needs)
     (eval·eval-field-returns t)
     (λ c. search needs)
@@ -619,6 +649,9 @@ pub +call·eval-call+call·invoke+call·run-left+call·run-right+eval·eval+eval
     (λ t. eval·eval-list-lts.spec (eval·eval-list-claims t) (eval·eval-list-at t) eval·eval-list.Post
     (eval·eval-list-returns t)
     (eval·eval-list-eval-part-requires t)
+    (λ c κs. search needs)
+    (λ c. search needs)
+    (λ c. search needs)
     (λ c. search needs)
     (eval·eval-list-returns-2 t)
     (λ c. search needs)
@@ -633,6 +666,9 @@ pub +call·eval-call+call·invoke+call·run-left+call·run-right+eval·eval+eval
     (eval·eval-new-stop-requires-2 t)
     (eval·eval-new-returns-2 t)
     (eval·eval-new-eval-list-requires t)
+    (λ c κs. search needs)
+    (λ c. search needs)
+    (λ c. search needs)
     (λ c. search needs)
     (eval·eval-new-returns-3 t)
     (eval·eval-new-finish-requires t)
@@ -643,11 +679,11 @@ pub +call·eval-call+call·invoke+call·run-left+call·run-right+eval·eval+eval
     (eval·eval-part-returns t)
     (λ c κs. search needs)
     (λ c. search needs)
-    (eval·eval-part-this-requires t)
+    (eval·eval-part-leaf-requires t)
     (λ c. search needs)
-    (eval·eval-part-result-requires t)
+    (eval·eval-part-leaf-requires-2 t)
     (λ c. search needs)
-    (eval·eval-part-parameter-requires t)
+    (eval·eval-part-leaf-requires-3 t)
     (eval·eval-part-eval-requires t)
     (eval·eval-part-returns-2 t)
     (eval·eval-part-returns-3 t)
