@@ -79,7 +79,7 @@ module _ (W S : List ℕ) (fuel : ℕ) (b : Bare S fuel) where
       let m = b .mark in
       let e = b .base in
       record {
-        placed = record { full = b .full; frame = λ h. absurd (omega arith); mark = omega arith; calls = λ i h. absurd (omega arith) };
+        placed = record { full = b .full; frame = λ h. absurd (omega arith); low = omega arith; bare = λ h. a; mark = omega arith; calls = λ i h. absurd (omega arith) };
         fits = record {
           frame = record {
             this = subst (HeldOlder W 0) (sym no-this) tt;

@@ -100,6 +100,8 @@ module _ (T W S : List ℕ) (next d sp n i x : ℕ) (run : BodyRunnable W S next
         placed = record {
           full = fs .same ∙ run .placed .full;
           frame = λ l. let b = fs .base in omega arith;
+          low = let b = fs .base in let z = short in omega arith;
+          bare = λ l. let b = fs .base in let z = short in absurd (omega arith);
           mark = let m = fs .mark in omega arith;
           calls = λ j l. let z = run .placed .calls j (omega arith) in let b = fs .above (283 + 3 * j) (omega arith) in omega arith;
         };
@@ -223,6 +225,8 @@ module _ (T W S : List ℕ) (next d sp m n i : ℕ) (run : BodyRunnable W S next
           placed = record {
             full = fs .same ∙ cs .same ∙ run .placed .full;
             frame = λ l. let b = fs .base in omega arith;
+            low = let b = fs .base in let z = low in omega arith;
+            bare = λ l. let b = fs .base in let z = low in absurd (omega arith);
             mark = let k = fs .mark in omega arith;
             calls = λ j l. call-low j (omega arith) (decLt j (topOf S));
           };

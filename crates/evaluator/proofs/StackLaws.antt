@@ -125,6 +125,8 @@ module _ (sp : ℕ) (S S′ : List ℕ) (pl : Placed S sp) (st : Stacked sp S S�
       record {
         full = st .same ∙ pl .full;
         frame = λ q. let z = pl .frame (omega arith) in omega arith;
+        low = let b = pl .low in omega arith;
+        bare = λ q. st .above 277 (omega arith) (omega arith) ∙ pl .bare (omega arith);
         mark = omega arith;
         calls = λ i q. let t = top-same in let z = pl .calls i (omega arith) in let b = st .above (283 + 3 * i) (omega arith) (omega arith) in omega arith;
       }

@@ -193,6 +193,11 @@ pub args-apart : (W S : List ℕ) (p q i n : ℕ) → Comparing W (argsAt S p) (
 args-apart W S p q i n c a b few h r e z =
     args-differ W S p q i n c a b few h false (numbers-apart W (getD S (p + i) 0) (getD S (q + i) 0) (arg-held W S p n i a few h) (arg-held W S q n i b few h) (sym e ∙ z)) refl
 
+pub args-equal : (W S : List ℕ) (p q i n : ℕ) → Comparing W (argsAt S p) (argsAt S q) i n → PartsHeld W (argsAt S p) n → PartsHeld W (argsAt S q) n → n ≤ 3 → i < n
+    → getD S (p + i) 0 ≡ getD S (q + i) 0 → Comparing W (argsAt S p) (argsAt S q) (i + 1) n
+args-equal W S p q i n c a b few h e =
+    args-more W S p q i n c a b few h true (numbers-same W (getD S (p + i) 0) (getD S (q + i) 0) (arg-held W S p n i a few h) e) refl
+
 lengths-differ : (vs ws : List Graph) → (length vs ≡ length ws → ⊥) → eqGraphs vs ws ≡ false
 unfolding eqGraphs
 lengths-differ [] [] h = absurd (h refl)
@@ -272,6 +277,11 @@ module _ (W S : List ℕ) (i n sp : ℕ) where
       → false ≡ sameOf (callIn W 0 (callAt S i)) (valueOf W (refAt S sp)) (callAt S i .name) (valuesFrom W (argsAt S (sp + 1)) 0 n)
   call-apart h hs r e z =
       call-receiver false (numbers-apart W (getD S (getD S (281 + 3 * i + 2) 0) 0) (getD S sp 0) (receiver-held W S i h) hs (sym e ∙ z)) refl
+
+  pub call-equal : CallHolds W (callAt S i) → getD S (getD S (281 + 3 * i + 2) 0) 0 ≡ getD S sp 0 → getD S (281 + 3 * i + 1) 0 ≡ n → (s : Bool)
+      → s ≡ eqGraphs (valuesFrom W (argsAt S (getD S (281 + 3 * i + 2) 0 + 1)) 0 n) (valuesFrom W (argsAt S (sp + 1)) 0 n)
+      → s ≡ sameOf (callIn W 0 (callAt S i)) (valueOf W (refAt S sp)) (callAt S i .name) (valuesFrom W (argsAt S (sp + 1)) 0 n)
+  call-equal h q e s es = call-args true (numbers-same W (getD S (getD S (281 + 3 * i + 2) 0) 0) (getD S sp 0) (receiver-held W S i h) q) refl e s es
 
 -- ---- the trace searched, the newest call first
 pub by-tests : (o : language.OpenCall) (os : List language.OpenCall) (v : Graph) (m : ℕ) (vs : List Graph)

@@ -21,15 +21,15 @@ use Rattle.evaluator.specs.Refs.{refIn, answerOf, ChosenIn}
 use Rattle.evaluator.specs.declared.stack.Went.{Went}
 use Rattle.evaluator.specs.declared.stack.Went.the-variants as went
 use Rattle.evaluator.specs.declared.frame.Held.{Held}
-use Rattle.evaluator.specs.declared.frame.Held.the-variants.{Is, Absent}
+
 use Rattle.evaluator.specs.declared.frame.Frame.{Frame}
-use Rattle.evaluator.specs.State.{refAt, argsAt, HeldOlder, FrameHolds, CallOlder, TraceHolds, frameIn, traceIn}
+use Rattle.evaluator.specs.State.{refAt, argsAt, FrameHolds, CallOlder, TraceHolds, frameIn, traceIn}
 use Rattle.evaluator.specs.Answers.{Listed, Values, frontOf}
-use Rattle.evaluator.specs.Stack.{fuelOf, topOf, heldThis, noArgs, heldArgs, heldParameter, frameAt, HeldSmall, Framed, heldOf, nextOf, wentOf, Placed, Stacked, stopAt, outAt, listAt, Answered}
+use Rattle.evaluator.specs.Stack.{fuelOf, topOf, noArgs, heldArgs, frameAt, Framed, heldOf, nextOf, wentOf, Placed, Stacked, stopAt, outAt, listAt, Answered}
 use Rattle.evaluator.specs.Evaluation.{evalIn, evalsIn, ListFits, Evaluates, Fields, Lists, News}
 use Rattle.evaluator.specs.Steps.{Runnable, ListRunnable, PartsReady, EvalStep, FieldStep, ListStep, FinishStep, NewStep, CallStep}
-use Rattle.evaluator.proofs.RefLaws.{small-held}
-use Rattle.evaluator.proofs.StateLaws.{variable-held}
+
+
 use Rattle.evaluator.proofs.Given.{given-older}
 use Rattle.evaluator.proofs.LeafLaws.{finish-halt}
 use Rattle.evaluator.proofs.EvalLaws.{eval-zero, eval-nothing, eval-this, eval-res, eval-param, eval-at-field, eval-at-call, eval-at-new}
@@ -122,10 +122,6 @@ module _ (r : ℕ) (w : Went) (ew : w ≡ wentOf r) where
     list-went T W S at left d sp n W1 S1 li = subst (ListStep T W S at left d sp n W1 S1) went-is li
 
 -- ---- what the frame holds
-held-small : (W : List ℕ) (sp : ℕ) (h : Held) → HeldOlder W sp h → sp ≤ 65536 → HeldSmall h
-held-small W sp (Is v) o l = small-held W sp v (o .held) (o .low) l
-held-small W sp Absent o l = tt
-
 held-length : (S : List ℕ) → length (heldArgs S) ≡ 3
 unfolding heldArgs argsAt
 held-length S = go (ltb (getD S 276 0) 274)
@@ -147,13 +143,7 @@ module _ (W S : List ℕ) (left d sp : ℕ) (run : Runnable W S left d sp) where
 
   pub run-framed : Framed S
   run-framed =
-      let r = run .fits .room in
-      record {
-        few = omega (arith, run .fits .frame .args .full, held-length S);
-        mark = run .placed .mark;
-        this = held-small W sp (heldThis S) (run .fits .frame .this) (omega arith);
-        args = λ k. held-small W sp (heldParameter S k) (variable-held W sp (frameAt S) k (run .fits .frame)) (omega arith);
-      }
+      record { few = omega (arith, run .fits .frame .args .full, held-length S); mark = run .placed .mark; low = run .placed .low; bare = run .placed .bare }
 
   pub run-part : (left ≡ 0 → ⊥) → Runnable W S (left - 1 + 1) d sp
   run-part nz = record { placed = run .placed; fits = fits.fit-part W (frameAt S) S (topOf S) left d sp (run .fits) nz }

@@ -7,7 +7,8 @@ use mathlib.Core.List.{List, [], _∷_}
 use lib.Dec.{eqb, ltb}
 use lib.ListN.{length, getD}
 use Rattle.classes.specs.Machine.{pick}
-use Rattle.values.specs.declared.ValueRef.the-variants.{Mark, Undetermined}
+use Rattle.values.specs.declared.ValueRef.{ValueRef}
+use Rattle.values.specs.declared.ValueRef.the-variants.{Object, Mark, Undetermined}
 use Rattle.values.specs.declared.Slot.{Slot}
 use Rattle.checker.specs.declared.shape.Shape.{Shape}
 use Rattle.checker.specs.declared.shape.Shape.the-variants as shape
@@ -20,7 +21,6 @@ use Rattle.evaluator.specs.declared.Out.the-variants.{Value, Halt}
 use Rattle.evaluator.specs.declared.frame.Held.{Held}
 use Rattle.evaluator.specs.declared.frame.Held.the-variants.{Is, Absent}
 use Rattle.evaluator.specs.declared.frame.Frame.{Frame}
-use Rattle.evaluator.specs.Refs.{Small}
 use Rattle.evaluator.specs.State.{refAt, argsAt, baseAt, variableOf}
 use Rattle.evaluator.specs.Answers.{Listed, Values, Stops, outOf}
 
@@ -53,17 +53,26 @@ frameAt S = record { this = heldThis S; res = heldMark S; args = heldArgs S; n =
 abbrev pub heldParameter : List ℕ → ℕ → Held
 heldParameter S k = variableOf (frameAt S) k
 
--- a number can stand for what is held
-abbrev pub HeldSmall : Held → Type 0
-HeldSmall (Is v) = Small v
-HeldSmall Absent = Unit {0}
+-- the frame of a body: the receiver at place b, n arguments after it, and the mark x - 1, or none
+abbrev pub bodyFrame : List ℕ → ℕ → ℕ → ℕ → Frame
+bodyFrame S b n x = record { this = Is (refAt S b); res = markHeld x; args = argsAt S (b + 1); n = n }
 
--- the frame's mark is one, and numbers can stand for what the variables hold
+-- the number of a mark and 1, or 0
+abbrev pub markOf : ValueRef → ℕ
+markOf (Object b i) = 0
+markOf (Mark k) = k + 1
+markOf Undetermined = 0
+
+abbrev pub markNumber : Held → ℕ
+markNumber (Is v) = markOf v
+markNumber Absent = 0
+
+-- the frame's mark is one, its values stand on the stack, and main has no arguments
 pub record Framed (S : List ℕ) : Type 0 where
   pub few : getD S 277 0 ≤ 3
   pub mark : getD S 278 0 < 64
-  pub this : HeldSmall (heldThis S)
-  pub args : (k : ℕ) → HeldSmall (heldParameter S k)
+  pub low : getD S 276 0 ≤ 274
+  pub bare : 274 ≤ getD S 276 0 → getD S 277 0 ≡ 0
 
 -- what the variable that a shape is holds, and the place after it
 abbrev pub heldOf : Shape → List ℕ → Held
@@ -88,6 +97,8 @@ nextOf shape.Nothing = 0
 pub record Placed (S : List ℕ) (sp : ℕ) : Type 0 where
   pub full : length S ≡ 336
   pub frame : getD S 276 0 < 274 → getD S 276 0 + 4 ≤ sp
+  pub low : getD S 276 0 ≤ 274
+  pub bare : 274 ≤ getD S 276 0 → getD S 277 0 ≡ 0
   pub mark : getD S 278 0 < 64
   pub calls : (i : ℕ) → i < topOf S → baseAt S i + 4 ≤ sp
 

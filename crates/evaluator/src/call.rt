@@ -5,6 +5,7 @@ use crate::eval::eval;
 use crate::eval::eval_list;
 use crate::eval::eval_part;
 use crate::find::find;
+use crate::frame::enter;
 use crate::met::open_call;
 use crate::refs::pack;
 use crate::refs::unpack;
@@ -118,7 +119,7 @@ pub fn run_right(
     let base = st[BASE];
     let count = st[COUNT];
     let res = st[RESULT];
-    set_frame(st, sp as u32, n as u32, x);
+    enter(st, sp as u32, n as u32, x);
     let at = right_place(t, i);
     let r = eval(t, work, st, at, 6, d, sp + 4);
     set_frame(st, base, count, res);
@@ -151,7 +152,7 @@ pub fn run_left(
     let res = st[RESULT];
     let top = st[TOP];
     push(st, top, m as u32, n as u32, sp as u32);
-    set_frame(st, sp as u32, n as u32, 0);
+    enter(st, sp as u32, n as u32, 0);
     let at = left_place(t, i);
     let r = eval(t, work, st, at, 6, d, sp + 4);
     set_frame(st, base, count, res);

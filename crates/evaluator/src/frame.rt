@@ -1,11 +1,12 @@
-// Frames: what the variables of a body hold, as value enums, read from the stack. Not here: where a frame stands (stack).
+// Frames: what the variables of a body hold, as value enums. A frame is made where a body is entered; its values stand on the stack, from the receiver's
+// place on, and a variable is read there. Not here: the places of the stack (stack).
 use crate::refs::unpack;
 use crate::stack::BASE;
 use crate::stack::COUNT;
 use crate::stack::RESULT;
 use crate::stack::STACK;
 use crate::stack::STUCK;
-use crate::stack::answer;
+use crate::stack::set_frame;
 use crate::stack::stop;
 use checker::shape::Shape;
 use checker::shape::shape_at;
@@ -13,11 +14,10 @@ use classes::places::SIZE;
 use values::Slot;
 use values::ValueRef;
 ghost use mathlib.Core.Path.{_≡_};
-ghost use Prim.Native.Nat.{ℕ, _<_, _≤_};
+ghost use Prim.Native.Nat.{ℕ, _<_};
 ghost use lib.ListN.{length, getD};
 ghost use Rattle.checker.specs.Shapes.{shapeAt};
-ghost use Rattle.evaluator.specs.State.{variableOf};
-ghost use Rattle.evaluator.specs.Stack.{markHeld, frameAt, Framed, heldOf, nextOf, Answered};
+ghost use Rattle.evaluator.specs.Stack.{markHeld, markNumber, bodyFrame, heldThis, heldMark, heldParameter, Framed, heldOf, nextOf, Answered, FrameSet};
 
 // What a variable holds, if anything.
 pub enum Held {
@@ -45,57 +45,102 @@ pub fn held_mark(x: u32) -> Held
     Held::Is(mark)
 }
 
-// The frame that stands on the stack; main has none.
-pub fn frame_of(st: &[u32; STACK]) -> Frame
-    requires { ⌜ getD (now st) 278 0 < 64 ⌝ }
-    ensures { λ f. ⌜ f ≡ frameAt (now (st .entry)) ⌝ }
+// The number of a mark and 1; 0 if it is absent or no mark.
+pub fn mark_number(h: Held) -> u32
+    ensures { λ x. ⌜ x ≡ markNumber h ⌝ }
 {
-    let n = st[COUNT];
-    let res = held_mark(st[RESULT]);
-    let b = st[BASE];
-    if 274 <= b {
-        let none = Slot {
-            r: ValueRef::Undetermined,
-        };
-        return Frame {
-            this: Held::Absent,
-            res,
-            args: [none; 3],
-            n,
-        };
+    let Held::Is(v) = h else {
+        return 0;
+    };
+    match v {
+        ValueRef::Object(_, _) => 0,
+        ValueRef::Mark(k) => k as u32 + 1,
+        ValueRef::Undetermined => 0,
     }
+}
+
+// The frame of a body: its receiver stands at place b, then its n arguments; res is the mark x - 1, or absent if x is 0.
+pub fn body_frame(st: &[u32; STACK], b: u32, n: u32, x: u32) -> Frame
+    requires { ⌜ (b < 270) × (x < 64) ⌝ }
+    ensures { λ f. ⌜ f ≡ bodyFrame (now (st .entry)) b n x ⌝ }
+{
     let at = b as usize;
     let v = unpack(st[at]);
     let this = Held::Is(v);
-    let x = Slot {
+    let res = held_mark(x);
+    let first = Slot {
         r: unpack(st[at + 1]),
     };
-    let y = Slot {
+    let second = Slot {
         r: unpack(st[at + 2]),
     };
-    let z = Slot {
+    let third = Slot {
         r: unpack(st[at + 3]),
     };
     Frame {
         this,
         res,
-        args: [x, y, z],
+        args: [first, second, third],
         n,
     }
 }
 
-// What parameter k holds.
-pub fn variable(f: Frame, k: u8) -> Held
-    requires { ⌜ f .n ≤ 3 ⌝ }
-    ensures { λ r. ⌜ r ≡ variableOf f k ⌝ }
+// The frame f, whose values stand from place b on.
+pub fn put_frame(st: &mut [u32; STACK], f: Frame, b: u32)
+    requires { ⌜ length (now st) ≡ 336 ⌝ }
+    ensures { λ _. ⌜ FrameSet (now (st .entry)) b (f .n) (markNumber (f .res)) (now (st .exit)) ⌝ }
 {
-    if f.n <= k as u32 {
-        return Held::Absent;
+    let h = f.res;
+    let x = mark_number(h);
+    set_frame(st, b, f.n, x);
+}
+
+// A body is entered: its frame is made, and stands where its values do.
+pub fn enter(st: &mut [u32; STACK], b: u32, n: u32, x: u32)
+    requires { ⌜ (length (now st) ≡ 336) × (b < 270) × (x < 64) ⌝ }
+    ensures { λ _. ⌜ FrameSet (now (st .entry)) b n x (now (st .exit)) ⌝ }
+{
+    let f = body_frame(st, b, n, x);
+    put_frame(st, f, b);
+}
+
+// What `this` holds, as the value at sp, and the place after; stuck in main.
+pub fn read_this(st: &mut [u32; STACK], sp: usize, next: usize) -> usize
+    requires { ⌜ (length (now st) ≡ 336) × (sp < 274) × (0 < next) ⌝ }
+    ensures { λ r. ⌜ Answered (now (st .entry)) (heldThis (now (st .entry))) sp next (now (st .exit)) r ⌝ }
+{
+    let b = st[BASE];
+    if 274 <= b {
+        return stop(st, STUCK);
     }
-    let ps = f.args;
-    let s = ps[k as usize];
-    let r = s.r;
-    Held::Is(r)
+    st[sp] = st[b as usize];
+    next
+}
+
+// The same for res; stuck on a left side and in main.
+pub fn read_result(st: &mut [u32; STACK], sp: usize, next: usize) -> usize
+    requires { ⌜ (length (now st) ≡ 336) × (sp < 274) × (0 < next) × Framed (now st) ⌝ }
+    ensures { λ r. ⌜ Answered (now (st .entry)) (heldMark (now (st .entry))) sp next (now (st .exit)) r ⌝ }
+{
+    let x = st[RESULT];
+    if x == 0 {
+        return stop(st, STUCK);
+    }
+    st[sp] = 192 + x;
+    next
+}
+
+// The same for parameter k; stuck if there are not so many.
+pub fn read_parameter(st: &mut [u32; STACK], k: u8, sp: usize, next: usize) -> usize
+    requires { ⌜ (length (now st) ≡ 336) × (sp < 274) × (0 < next) × Framed (now st) ⌝ }
+    ensures { λ r. ⌜ Answered (now (st .entry)) (heldParameter (now (st .entry)) k) sp next (now (st .exit)) r ⌝ }
+{
+    if st[COUNT] <= k as u32 {
+        return stop(st, STUCK);
+    }
+    let b = st[BASE];
+    st[sp] = st[b as usize + 1 + k as usize];
+    next
 }
 
 // The variable at `at`, as the value at sp; stuck if there is none.
@@ -103,18 +148,11 @@ pub fn leaf(t: &[u8; SIZE], st: &mut [u32; STACK], at: usize, sp: usize) -> usiz
     requires { ⌜ (length (now st) ≡ 336) × (sp < 274) × Framed (now st) ⌝ }
     ensures { λ r. ⌜ Answered (now (st .entry)) (heldOf (shapeAt (now (t .entry)) at) (now (st .entry))) sp (nextOf (shapeAt (now (t .entry)) at)) (now (st .exit)) r ⌝ }
 {
-    let f = frame_of(st);
     let s = shape_at(t, at);
     match s {
-        Shape::This { next } => {
-            let h = f.this;
-            answer(st, h, sp, next)
-        }
-        Shape::Result { next } => {
-            let h = f.res;
-            answer(st, h, sp, next)
-        }
-        Shape::Parameter { k, next } => answer(st, variable(f, k), sp, next),
+        Shape::This { next } => read_this(st, sp, next),
+        Shape::Result { next } => read_result(st, sp, next),
+        Shape::Parameter { k, next } => read_parameter(st, k, sp, next),
         Shape::Field { f: _, next: _ } => stop(st, STUCK),
         Shape::Call {
             m: _,

@@ -54,8 +54,10 @@ pub fn same_args(work: &[u8], st: &[u32; STACK], p: usize, q: usize, n: u32) -> 
         if apart(x, y) {
             return false;
         }
-        if !same_value(work, x, y) {
-            return false;
+        if x != y {
+            if !same_value(work, x, y) {
+                return false;
+            }
         }
         i += 1;
     }
@@ -78,8 +80,10 @@ pub fn same_call(work: &[u8], st: &[u32; STACK], i: u32, n: u32, sp: usize) -> b
     if apart(x, y) {
         return false;
     }
-    if !same_value(work, x, y) {
-        return false;
+    if x != y {
+        if !same_value(work, x, y) {
+            return false;
+        }
     }
     same_args(work, st, b + 1, sp + 1, n)
 }

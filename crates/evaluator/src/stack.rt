@@ -3,12 +3,10 @@
 // there are, the mark of res and 1, or 0; how many left-side calls are open; and from place 281 on three numbers for each of those, the oldest first:
 // its name, how many arguments it has, where its receiver stands. The mark of a call is its number.
 // Not here: which call is met again (met).
-use crate::frame::Held;
-use crate::refs::pack;
 ghost use mathlib.Core.Path.{_≡_};
 ghost use Prim.Native.Nat.{ℕ, _+_, _*_, _<_, _≤_};
 ghost use lib.ListN.{length, set};
-ghost use Rattle.evaluator.specs.Stack.{HeldSmall, wentOf, Answered, FrameSet, CallSet};
+ghost use Rattle.evaluator.specs.Stack.{wentOf, FrameSet, CallSet};
 
 // all numbers
 pub const STACK: usize = 336;
@@ -61,19 +59,7 @@ pub fn stop(st: &mut [u32; STACK], s: u32) -> usize
     0
 }
 
-// What a variable holds, as the value at sp, and the place after; stuck if it holds nothing.
-pub fn answer(st: &mut [u32; STACK], h: Held, sp: usize, next: usize) -> usize
-    requires { ⌜ (length (now st) ≡ 336) × (sp < 274) × HeldSmall h × (0 < next) ⌝ }
-    ensures { λ r. ⌜ Answered (now (st .entry)) h sp next (now (st .exit)) r ⌝ }
-{
-    let Held::Is(v) = h else {
-        return stop(st, STUCK);
-    };
-    st[sp] = pack(v);
-    next
-}
-
-// The frame of a body.
+// Where the frame stands: its receiver at place `base`, `count` arguments after it, and the mark of res and 1, or 0.
 pub fn set_frame(st: &mut [u32; STACK], base: u32, count: u32, mark: u32)
     requires { ⌜ length (now st) ≡ 336 ⌝ }
     ensures { λ _. ⌜ FrameSet (now (st .entry)) base count mark (now (st .exit)) ⌝ }

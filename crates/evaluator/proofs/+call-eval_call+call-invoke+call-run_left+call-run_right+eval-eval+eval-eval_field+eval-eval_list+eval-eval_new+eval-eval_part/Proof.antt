@@ -34,6 +34,7 @@ use Rattle.classes.proofs.methods.left_place.Reads as left-place-reads
 use Rattle.classes.proofs.methods.right_place.Reads as right-place-reads
 use Rattle.evaluator.proofs.eval.finish.Reads as finish-reads
 use Rattle.evaluator.proofs.find.find.Reads as find-reads
+use Rattle.evaluator.proofs.frame.enter.Reads as enter-reads
 use Rattle.evaluator.proofs.frame.leaf.Reads as leaf-reads
 use Rattle.evaluator.proofs.met.open_call.Reads as open-call-reads
 use Rattle.evaluator.proofs.refs.pack.Reads as pack-reads
@@ -212,10 +213,10 @@ abbrev call·invoke-claims : ℕ → call·invoke-lts.Claims
 call·invoke-claims t = (stop-reads.Asked, stop-reads.Learnt, open-call-reads.Asked, open-call-reads.Learnt, call·run-left-below t, call·run-left.Post, call·run-right-below t, call·run-right.Post)
 
 abbrev call·run-left-claims : ℕ → call·run-left-lts.Claims
-call·run-left-claims t = (push-reads.Asked, push-reads.Learnt, set-frame-reads.Asked, set-frame-reads.Learnt, left-place-reads.Asked, left-place-reads.Learnt, eval·eval-below t, eval·eval.Post, went-of-reads.Asked, went-of-reads.Learnt, unpack-reads.Asked, unpack-reads.Learnt, close-reads.Asked, close-reads.Learnt, pack-reads.Asked, pack-reads.Learnt)
+call·run-left-claims t = (push-reads.Asked, push-reads.Learnt, enter-reads.Asked, enter-reads.Learnt, left-place-reads.Asked, left-place-reads.Learnt, eval·eval-below t, eval·eval.Post, set-frame-reads.Asked, set-frame-reads.Learnt, went-of-reads.Asked, went-of-reads.Learnt, unpack-reads.Asked, unpack-reads.Learnt, close-reads.Asked, close-reads.Learnt, pack-reads.Asked, pack-reads.Learnt)
 
 abbrev call·run-right-claims : ℕ → call·run-right-lts.Claims
-call·run-right-claims t = (set-frame-reads.Asked, set-frame-reads.Learnt, right-place-reads.Asked, right-place-reads.Learnt, eval·eval-below t, eval·eval.Post, went-of-reads.Asked, went-of-reads.Learnt, unpack-reads.Asked, unpack-reads.Learnt, bring-reads.Asked, bring-reads.Learnt, pack-reads.Asked, pack-reads.Learnt)
+call·run-right-claims t = (enter-reads.Asked, enter-reads.Learnt, right-place-reads.Asked, right-place-reads.Learnt, eval·eval-below t, eval·eval.Post, set-frame-reads.Asked, set-frame-reads.Learnt, went-of-reads.Asked, went-of-reads.Learnt, unpack-reads.Asked, unpack-reads.Learnt, bring-reads.Asked, bring-reads.Learnt, pack-reads.Asked, pack-reads.Learnt)
 
 abbrev eval·eval-claims : ℕ → eval·eval-lts.Claims
 eval·eval-claims t = (stop-reads.Asked, stop-reads.Learnt, shape-at-reads.Asked, shape-at-reads.Learnt, leaf-reads.Asked, leaf-reads.Learnt, eval·eval-field-below t, eval·eval-field.Post, call·eval-call-below t, call·eval-call.Post, eval·eval-new-below t, eval·eval-new.Post)
@@ -302,10 +303,10 @@ call·run-left-push-requires : (t : ℕ) → call·run-left-lts.Need-push-requir
 call·run-left-push-requires t c κs = (search sides.body-full, sides.body-top _ _ _ _ _ _ (c .before .before .before .before .before .before .pre .1))
 
 call·run-left-eval-requires : (t : ℕ) → call·run-left-lts.Need-eval-requires (call·run-left-claims t) (call·run-left-at t) call·run-left.Post
-call·run-left-eval-requires t c κs = (search needs, sides.left-run [] _ _ _ _ _ _ _ 0 (c .before .before .before .before .before .before .before .before .before .before .before .before .pre .1) _ (c .before .before .before .before .before .push .ensures) _ (c .before .before .before .set-frame .ensures))
+call·run-left-eval-requires t c κs = (search needs, sides.left-run [] _ _ _ _ _ _ _ 0 (c .before .before .before .before .before .before .before .before .before .before .before .before .pre .1) _ (c .before .before .before .before .before .push .ensures) _ (c .before .before .before .enter .ensures))
 
 call·run-left-returns : (t : ℕ) → call·run-left-lts.Need-returns (call·run-left-claims t) (call·run-left-at t) call·run-left.Post
-call·run-left-returns t c = sides.left-stops _ _ _ _ _ _ _ _ _ (c .before .before .before .before .before .before .before .before .before .before .before .before .before .before .before .before .before .before .before .before .pre .1) _ (c .before .before .before .before .before .before .before .before .before .before .before .before .before .push .ensures) _ (c .before .before .before .before .before .before .before .before .before .before .before .set-frame .ensures) _ (c .before .before .before .before .before .before .before .before .before .before .left-place .ensures) _ _ _ (c .before .before .before .before .before .before .before .eval .ensures) _ (c .before .before .before .set-frame2 .ensures) (steps.went-stopped _ _ (c .before .before .went-of .ensures) (c .enum-told .given .1))
+call·run-left-returns t c = sides.left-stops _ _ _ _ _ _ _ _ _ (c .before .before .before .before .before .before .before .before .before .before .before .before .before .before .before .before .before .before .before .before .pre .1) _ (c .before .before .before .before .before .before .before .before .before .before .before .before .before .push .ensures) _ (c .before .before .before .before .before .before .before .before .before .before .before .enter .ensures) _ (c .before .before .before .before .before .before .before .before .before .before .left-place .ensures) _ _ _ (c .before .before .before .before .before .before .before .eval .ensures) _ (c .before .before .before .set-frame .ensures) (steps.went-stopped _ _ (c .before .before .went-of .ensures) (c .enum-told .given .1))
 
 call·run-left-cast-close : (t : ℕ) → call·run-left-lts.Need-cast-close (call·run-left-claims t) (call·run-left-at t) call·run-left.Post
 call·run-left-cast-close t c = search (needs, sides.body-short _ _ _ _ _ _ (c .before .before .before .before .before .before .before .before .before .before .before .before .before .before .before .before .before .before .before .before .before .before .pre .1), sides.body-top _ _ _ _ _ _ (c .before .before .before .before .before .before .before .before .before .before .before .before .before .before .before .before .before .before .before .before .before .before .pre .1))
@@ -323,10 +324,10 @@ call·run-left-cast-close-2 : (t : ℕ) → call·run-left-lts.Need-cast-close-2
 call·run-left-cast-close-2 t c = search (needs, sides.body-short)
 
 call·run-left-close-requires : (t : ℕ) → call·run-left-lts.Need-close-requires (call·run-left-claims t) (call·run-left-at t) call·run-left.Post
-call·run-left-close-requires t c κs = (sides.left-held _ _ _ _ _ _ _ _ _ (c .before .before .before .before .before .before .before .before .before .before .before .before .before .before .before .before .before .before .before .before .before .before .before .before .pre .1) _ (c .before .before .before .before .before .before .before .before .before .before .before .before .before .before .before .before .before .push .ensures) _ (c .before .before .before .before .before .before .before .before .before .before .before .before .before .before .before .set-frame .ensures) _ (c .before .before .before .before .before .before .before .before .before .before .before .before .before .before .left-place .ensures) _ _ _ (c .before .before .before .before .before .before .before .before .before .before .before .eval .ensures) _ (c .before .before .before .before .before .before .before .set-frame2 .ensures) (steps.went-not _ _ (c .before .before .before .before .before .before .went-of .ensures) _ (c .before .before .before .before .w .given .1)) _ (c .unpack .ensures), sides.body-mark _ _ _ _ _ _ (c .before .before .before .before .before .before .before .before .before .before .before .before .before .before .before .before .before .before .before .before .before .before .before .before .pre .1), sides.left-length _ _ _ _ _ _ _ _ _ (c .before .before .before .before .before .before .before .before .before .before .before .before .before .before .before .before .before .before .before .before .before .before .before .before .pre .1) _ (c .before .before .before .before .before .before .before .before .before .before .before .before .before .before .before .before .before .push .ensures) _ (c .before .before .before .before .before .before .before .before .before .before .before .before .before .before .before .set-frame .ensures) _ (c .before .before .before .before .before .before .before .before .before .before .before .before .before .before .left-place .ensures) _ _ _ (c .before .before .before .before .before .before .before .before .before .before .before .eval .ensures) _ (c .before .before .before .before .before .before .before .set-frame2 .ensures) (steps.went-not _ _ (c .before .before .before .before .before .before .went-of .ensures) _ (c .before .before .before .before .w .given .1)) _ (c .unpack .ensures))
+call·run-left-close-requires t c κs = (sides.left-held _ _ _ _ _ _ _ _ _ (c .before .before .before .before .before .before .before .before .before .before .before .before .before .before .before .before .before .before .before .before .before .before .before .before .pre .1) _ (c .before .before .before .before .before .before .before .before .before .before .before .before .before .before .before .before .before .push .ensures) _ (c .before .before .before .before .before .before .before .before .before .before .before .before .before .before .before .enter .ensures) _ (c .before .before .before .before .before .before .before .before .before .before .before .before .before .before .left-place .ensures) _ _ _ (c .before .before .before .before .before .before .before .before .before .before .before .eval .ensures) _ (c .before .before .before .before .before .before .before .set-frame .ensures) (steps.went-not _ _ (c .before .before .before .before .before .before .went-of .ensures) _ (c .before .before .before .before .w .given .1)) _ (c .unpack .ensures), sides.body-mark _ _ _ _ _ _ (c .before .before .before .before .before .before .before .before .before .before .before .before .before .before .before .before .before .before .before .before .before .before .before .before .pre .1), sides.left-length _ _ _ _ _ _ _ _ _ (c .before .before .before .before .before .before .before .before .before .before .before .before .before .before .before .before .before .before .before .before .before .before .before .before .pre .1) _ (c .before .before .before .before .before .before .before .before .before .before .before .before .before .before .before .before .before .push .ensures) _ (c .before .before .before .before .before .before .before .before .before .before .before .before .before .before .before .enter .ensures) _ (c .before .before .before .before .before .before .before .before .before .before .before .before .before .before .left-place .ensures) _ _ _ (c .before .before .before .before .before .before .before .before .before .before .before .eval .ensures) _ (c .before .before .before .before .before .before .before .set-frame .ensures) (steps.went-not _ _ (c .before .before .before .before .before .before .went-of .ensures) _ (c .before .before .before .before .w .given .1)) _ (c .unpack .ensures))
 
 call·run-left-pack-requires : (t : ℕ) → call·run-left-lts.Need-pack-requires (call·run-left-claims t) (call·run-left-at t) call·run-left.Post
-call·run-left-pack-requires t c κs = sides.left-small _ _ _ _ _ _ _ _ _ (c .before .before .before .before .before .before .before .before .before .before .before .before .before .before .before .before .before .before .before .before .before .before .before .before .before .before .before .pre .1) _ (c .before .before .before .before .before .before .before .before .before .before .before .before .before .before .before .before .before .before .before .before .push .ensures) _ (c .before .before .before .before .before .before .before .before .before .before .before .before .before .before .before .before .before .before .set-frame .ensures) _ (c .before .before .before .before .before .before .before .before .before .before .before .before .before .before .before .before .before .left-place .ensures) _ _ _ (c .before .before .before .before .before .before .before .before .before .before .before .before .before .before .eval .ensures) _ (c .before .before .before .before .before .before .before .before .before .before .set-frame2 .ensures) (steps.went-not _ _ (c .before .before .before .before .before .before .before .before .before .went-of .ensures) _ (c .before .before .before .before .before .before .before .w .given .1)) _ (c .before .before .before .unpack .ensures) _ _ (c .before .before .close .ensures)
+call·run-left-pack-requires t c κs = sides.left-small _ _ _ _ _ _ _ _ _ (c .before .before .before .before .before .before .before .before .before .before .before .before .before .before .before .before .before .before .before .before .before .before .before .before .before .before .before .pre .1) _ (c .before .before .before .before .before .before .before .before .before .before .before .before .before .before .before .before .before .before .before .before .push .ensures) _ (c .before .before .before .before .before .before .before .before .before .before .before .before .before .before .before .before .before .before .enter .ensures) _ (c .before .before .before .before .before .before .before .before .before .before .before .before .before .before .before .before .before .left-place .ensures) _ _ _ (c .before .before .before .before .before .before .before .before .before .before .before .before .before .before .eval .ensures) _ (c .before .before .before .before .before .before .before .before .before .before .set-frame .ensures) (steps.went-not _ _ (c .before .before .before .before .before .before .before .before .before .went-of .ensures) _ (c .before .before .before .before .before .before .before .w .given .1)) _ (c .before .before .before .unpack .ensures) _ _ (c .before .before .close .ensures)
 
 call·run-left-mul-st : (t : ℕ) → call·run-left-lts.Need-mul-st (call·run-left-claims t) (call·run-left-at t) call·run-left.Post
 call·run-left-mul-st t c = search (needs, sides.body-index _ _ _ _ _ _ (c .before .before .before .before .before .before .before .before .before .before .before .before .before .before .before .before .before .before .before .before .before .before .before .before .before .before .before .before .pre .1))
@@ -335,19 +336,19 @@ call·run-left-element-write-st-2 : (t : ℕ) → call·run-left-lts.Need-elemen
 call·run-left-element-write-st-2 t c = sides.body-index _ _ _ _ _ _ (c .before .before .before .before .before .before .before .before .before .before .before .before .before .before .before .before .before .before .before .before .before .before .before .before .before .before .before .before .pre .1)
 
 call·run-left-returns-2 : (t : ℕ) → call·run-left-lts.Need-returns-2 (call·run-left-claims t) (call·run-left-at t) call·run-left.Post
-call·run-left-returns-2 t c = sides.left-gives _ _ _ _ _ _ _ _ _ (c .before .before .before .before .before .before .before .before .before .before .before .before .before .before .before .before .before .before .before .before .before .before .before .before .before .before .before .before .pre .1) _ (c .before .before .before .before .before .before .before .before .before .before .before .before .before .before .before .before .before .before .before .before .before .push .ensures) _ (c .before .before .before .before .before .before .before .before .before .before .before .before .before .before .before .before .before .before .before .set-frame .ensures) _ (c .before .before .before .before .before .before .before .before .before .before .before .before .before .before .before .before .before .before .left-place .ensures) _ _ _ (c .before .before .before .before .before .before .before .before .before .before .before .before .before .before .before .eval .ensures) _ (c .before .before .before .before .before .before .before .before .before .before .before .set-frame2 .ensures) (steps.went-not _ _ (c .before .before .before .before .before .before .before .before .before .before .went-of .ensures) _ (c .before .before .before .before .before .before .before .before .w .given .1)) _ (c .before .before .before .before .unpack .ensures) _ _ _ (c .before .before .before .close .ensures) (c .pack .ensures)
+call·run-left-returns-2 t c = sides.left-gives _ _ _ _ _ _ _ _ _ (c .before .before .before .before .before .before .before .before .before .before .before .before .before .before .before .before .before .before .before .before .before .before .before .before .before .before .before .before .pre .1) _ (c .before .before .before .before .before .before .before .before .before .before .before .before .before .before .before .before .before .before .before .before .before .push .ensures) _ (c .before .before .before .before .before .before .before .before .before .before .before .before .before .before .before .before .before .before .before .enter .ensures) _ (c .before .before .before .before .before .before .before .before .before .before .before .before .before .before .before .before .before .before .left-place .ensures) _ _ _ (c .before .before .before .before .before .before .before .before .before .before .before .before .before .before .before .eval .ensures) _ (c .before .before .before .before .before .before .before .before .before .before .before .set-frame .ensures) (steps.went-not _ _ (c .before .before .before .before .before .before .before .before .before .before .went-of .ensures) _ (c .before .before .before .before .before .before .before .before .w .given .1)) _ (c .before .before .before .before .unpack .ensures) _ _ _ (c .before .before .before .close .ensures) (c .pack .ensures)
 
 call·run-right-eval-requires : (t : ℕ) → call·run-right-lts.Need-eval-requires (call·run-right-claims t) (call·run-right-at t) call·run-right.Post
-call·run-right-eval-requires t c κs = (search needs, sides.right-run [] _ _ _ _ _ _ 0 _ (c .before .before .before .before .before .before .before .before .before .pre .1 .0) (c .before .before .before .before .before .before .before .before .before .pre .1 .1) (c .before .before .before .before .before .before .before .before .before .pre .1 .2) _ (c .before .before .before .set-frame .ensures))
+call·run-right-eval-requires t c κs = (search needs, sides.right-run [] _ _ _ _ _ _ 0 _ (c .before .before .before .before .before .before .before .before .before .pre .1 .0) (c .before .before .before .before .before .before .before .before .before .pre .1 .1) (c .before .before .before .before .before .before .before .before .before .pre .1 .2) _ (c .before .before .before .enter .ensures))
 
 call·run-right-returns : (t : ℕ) → call·run-right-lts.Need-returns (call·run-right-claims t) (call·run-right-at t) call·run-right.Post
-call·run-right-returns t c = sides.right-stops _ _ _ _ _ _ _ _ _ (c .before .before .before .before .before .before .before .before .before .before .before .before .before .before .before .before .before .pre .1 .0) (c .before .before .before .before .before .before .before .before .before .before .before .before .before .before .before .before .before .pre .1 .1) (c .before .before .before .before .before .before .before .before .before .before .before .before .before .before .before .before .before .pre .1 .2) _ (c .before .before .before .before .before .before .before .before .before .before .before .set-frame .ensures) _ (c .before .before .before .before .before .before .before .before .before .before .right-place .ensures) _ _ _ (c .before .before .before .before .before .before .before .eval .ensures) _ (c .before .before .before .set-frame2 .ensures) (steps.went-stopped _ _ (c .before .before .went-of .ensures) (c .enum-told .given .1))
+call·run-right-returns t c = sides.right-stops _ _ _ _ _ _ _ _ _ (c .before .before .before .before .before .before .before .before .before .before .before .before .before .before .before .before .before .pre .1 .0) (c .before .before .before .before .before .before .before .before .before .before .before .before .before .before .before .before .before .pre .1 .1) (c .before .before .before .before .before .before .before .before .before .before .before .before .before .before .before .before .before .pre .1 .2) _ (c .before .before .before .before .before .before .before .before .before .before .before .enter .ensures) _ (c .before .before .before .before .before .before .before .before .before .before .right-place .ensures) _ _ _ (c .before .before .before .before .before .before .before .eval .ensures) _ (c .before .before .before .set-frame .ensures) (steps.went-stopped _ _ (c .before .before .went-of .ensures) (c .enum-told .given .1))
 
 call·run-right-bring-requires : (t : ℕ) → call·run-right-lts.Need-bring-requires (call·run-right-claims t) (call·run-right-at t) call·run-right.Post
-call·run-right-bring-requires t c κs = (sides.right-held _ _ _ _ _ _ _ _ _ (c .before .before .before .before .before .before .before .before .before .before .before .before .before .before .before .before .before .before .before .before .before .pre .1 .0) (c .before .before .before .before .before .before .before .before .before .before .before .before .before .before .before .before .before .before .before .before .before .pre .1 .1) (c .before .before .before .before .before .before .before .before .before .before .before .before .before .before .before .before .before .before .before .before .before .pre .1 .2) _ (c .before .before .before .before .before .before .before .before .before .before .before .before .before .before .before .set-frame .ensures) _ (c .before .before .before .before .before .before .before .before .before .before .before .before .before .before .right-place .ensures) _ _ _ (c .before .before .before .before .before .before .before .before .before .before .before .eval .ensures) _ (c .before .before .before .before .before .before .before .set-frame2 .ensures) (steps.went-not _ _ (c .before .before .before .before .before .before .went-of .ensures) _ (c .before .before .before .before .w .given .1)) _ (c .unpack .ensures), sides.right-length _ _ _ _ _ _ _ _ _ (c .before .before .before .before .before .before .before .before .before .before .before .before .before .before .before .before .before .before .before .before .before .pre .1 .0) (c .before .before .before .before .before .before .before .before .before .before .before .before .before .before .before .before .before .before .before .before .before .pre .1 .1) (c .before .before .before .before .before .before .before .before .before .before .before .before .before .before .before .before .before .before .before .before .before .pre .1 .2) _ (c .before .before .before .before .before .before .before .before .before .before .before .before .before .before .before .set-frame .ensures) _ (c .before .before .before .before .before .before .before .before .before .before .before .before .before .before .right-place .ensures) _ _ _ (c .before .before .before .before .before .before .before .before .before .before .before .eval .ensures) _ (c .before .before .before .before .before .before .before .set-frame2 .ensures) (steps.went-not _ _ (c .before .before .before .before .before .before .went-of .ensures) _ (c .before .before .before .before .w .given .1)) _ (c .unpack .ensures))
+call·run-right-bring-requires t c κs = (sides.right-held _ _ _ _ _ _ _ _ _ (c .before .before .before .before .before .before .before .before .before .before .before .before .before .before .before .before .before .before .before .before .before .pre .1 .0) (c .before .before .before .before .before .before .before .before .before .before .before .before .before .before .before .before .before .before .before .before .before .pre .1 .1) (c .before .before .before .before .before .before .before .before .before .before .before .before .before .before .before .before .before .before .before .before .before .pre .1 .2) _ (c .before .before .before .before .before .before .before .before .before .before .before .before .before .before .before .enter .ensures) _ (c .before .before .before .before .before .before .before .before .before .before .before .before .before .before .right-place .ensures) _ _ _ (c .before .before .before .before .before .before .before .before .before .before .before .eval .ensures) _ (c .before .before .before .before .before .before .before .set-frame .ensures) (steps.went-not _ _ (c .before .before .before .before .before .before .went-of .ensures) _ (c .before .before .before .before .w .given .1)) _ (c .unpack .ensures), sides.right-length _ _ _ _ _ _ _ _ _ (c .before .before .before .before .before .before .before .before .before .before .before .before .before .before .before .before .before .before .before .before .before .pre .1 .0) (c .before .before .before .before .before .before .before .before .before .before .before .before .before .before .before .before .before .before .before .before .before .pre .1 .1) (c .before .before .before .before .before .before .before .before .before .before .before .before .before .before .before .before .before .before .before .before .before .pre .1 .2) _ (c .before .before .before .before .before .before .before .before .before .before .before .before .before .before .before .enter .ensures) _ (c .before .before .before .before .before .before .before .before .before .before .before .before .before .before .right-place .ensures) _ _ _ (c .before .before .before .before .before .before .before .before .before .before .before .eval .ensures) _ (c .before .before .before .before .before .before .before .set-frame .ensures) (steps.went-not _ _ (c .before .before .before .before .before .before .went-of .ensures) _ (c .before .before .before .before .w .given .1)) _ (c .unpack .ensures))
 
 call·run-right-pack-requires : (t : ℕ) → call·run-right-lts.Need-pack-requires (call·run-right-claims t) (call·run-right-at t) call·run-right.Post
-call·run-right-pack-requires t c κs = sides.right-small _ _ _ _ _ _ _ _ _ (c .before .before .before .before .before .before .before .before .before .before .before .before .before .before .before .before .before .before .before .before .before .before .before .before .pre .1 .0) (c .before .before .before .before .before .before .before .before .before .before .before .before .before .before .before .before .before .before .before .before .before .before .before .before .pre .1 .1) (c .before .before .before .before .before .before .before .before .before .before .before .before .before .before .before .before .before .before .before .before .before .before .before .before .pre .1 .2) _ (c .before .before .before .before .before .before .before .before .before .before .before .before .before .before .before .before .before .before .set-frame .ensures) _ (c .before .before .before .before .before .before .before .before .before .before .before .before .before .before .before .before .before .right-place .ensures) _ _ _ (c .before .before .before .before .before .before .before .before .before .before .before .before .before .before .eval .ensures) _ (c .before .before .before .before .before .before .before .before .before .before .set-frame2 .ensures) (steps.went-not _ _ (c .before .before .before .before .before .before .before .before .before .went-of .ensures) _ (c .before .before .before .before .before .before .before .w .given .1)) _ (c .before .before .before .unpack .ensures) _ _ (c .before .before .bring .ensures)
+call·run-right-pack-requires t c κs = sides.right-small _ _ _ _ _ _ _ _ _ (c .before .before .before .before .before .before .before .before .before .before .before .before .before .before .before .before .before .before .before .before .before .before .before .before .pre .1 .0) (c .before .before .before .before .before .before .before .before .before .before .before .before .before .before .before .before .before .before .before .before .before .before .before .before .pre .1 .1) (c .before .before .before .before .before .before .before .before .before .before .before .before .before .before .before .before .before .before .before .before .before .before .before .before .pre .1 .2) _ (c .before .before .before .before .before .before .before .before .before .before .before .before .before .before .before .before .before .before .enter .ensures) _ (c .before .before .before .before .before .before .before .before .before .before .before .before .before .before .before .before .before .right-place .ensures) _ _ _ (c .before .before .before .before .before .before .before .before .before .before .before .before .before .before .eval .ensures) _ (c .before .before .before .before .before .before .before .before .before .before .set-frame .ensures) (steps.went-not _ _ (c .before .before .before .before .before .before .before .before .before .went-of .ensures) _ (c .before .before .before .before .before .before .before .w .given .1)) _ (c .before .before .before .unpack .ensures) _ _ (c .before .before .bring .ensures)
 
 call·run-right-mul-st : (t : ℕ) → call·run-right-lts.Need-mul-st (call·run-right-claims t) (call·run-right-at t) call·run-right.Post
 call·run-right-mul-st t c = search (needs, sides.body-index _ _ _ _ _ _ (c .before .before .before .before .before .before .before .before .before .before .before .before .before .before .before .before .before .before .before .before .before .before .before .before .before .pre .1 .0))
@@ -356,7 +357,7 @@ call·run-right-element-write-st : (t : ℕ) → call·run-right-lts.Need-elemen
 call·run-right-element-write-st t c = sides.body-index _ _ _ _ _ _ (c .before .before .before .before .before .before .before .before .before .before .before .before .before .before .before .before .before .before .before .before .before .before .before .before .before .pre .1 .0)
 
 call·run-right-returns-2 : (t : ℕ) → call·run-right-lts.Need-returns-2 (call·run-right-claims t) (call·run-right-at t) call·run-right.Post
-call·run-right-returns-2 t c = sides.right-gives _ _ _ _ _ _ _ _ _ (c .before .before .before .before .before .before .before .before .before .before .before .before .before .before .before .before .before .before .before .before .before .before .before .before .before .pre .1 .0) (c .before .before .before .before .before .before .before .before .before .before .before .before .before .before .before .before .before .before .before .before .before .before .before .before .before .pre .1 .1) (c .before .before .before .before .before .before .before .before .before .before .before .before .before .before .before .before .before .before .before .before .before .before .before .before .before .pre .1 .2) _ (c .before .before .before .before .before .before .before .before .before .before .before .before .before .before .before .before .before .before .before .set-frame .ensures) _ (c .before .before .before .before .before .before .before .before .before .before .before .before .before .before .before .before .before .before .right-place .ensures) _ _ _ (c .before .before .before .before .before .before .before .before .before .before .before .before .before .before .before .eval .ensures) _ (c .before .before .before .before .before .before .before .before .before .before .before .set-frame2 .ensures) (steps.went-not _ _ (c .before .before .before .before .before .before .before .before .before .before .went-of .ensures) _ (c .before .before .before .before .before .before .before .before .w .given .1)) _ (c .before .before .before .before .unpack .ensures) _ _ _ (c .before .before .before .bring .ensures) (c .pack .ensures)
+call·run-right-returns-2 t c = sides.right-gives _ _ _ _ _ _ _ _ _ (c .before .before .before .before .before .before .before .before .before .before .before .before .before .before .before .before .before .before .before .before .before .before .before .before .before .pre .1 .0) (c .before .before .before .before .before .before .before .before .before .before .before .before .before .before .before .before .before .before .before .before .before .before .before .before .before .pre .1 .1) (c .before .before .before .before .before .before .before .before .before .before .before .before .before .before .before .before .before .before .before .before .before .before .before .before .before .pre .1 .2) _ (c .before .before .before .before .before .before .before .before .before .before .before .before .before .before .before .before .before .before .before .enter .ensures) _ (c .before .before .before .before .before .before .before .before .before .before .before .before .before .before .before .before .before .before .right-place .ensures) _ _ _ (c .before .before .before .before .before .before .before .before .before .before .before .before .before .before .before .eval .ensures) _ (c .before .before .before .before .before .before .before .before .before .before .before .set-frame .ensures) (steps.went-not _ _ (c .before .before .before .before .before .before .before .before .before .before .went-of .ensures) _ (c .before .before .before .before .before .before .before .before .w .given .1)) _ (c .before .before .before .before .unpack .ensures) _ _ _ (c .before .before .before .bring .ensures) (c .pack .ensures)
 
 eval·eval-stop-requires : (t : ℕ) → eval·eval-lts.Need-stop-requires (eval·eval-claims t) (eval·eval-at t) eval·eval.Post
 eval·eval-stop-requires t c κs = search steps.run-full

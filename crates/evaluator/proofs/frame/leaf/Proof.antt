@@ -4,27 +4,21 @@ use Rattle.evaluator.proofs.frame.leaf.Tie as tie
 use Rattle.evaluator.proofs.frame.leaf.Reads as reads
 use Rattle.evaluator.proofs.frame.leaf.Lts as lts
 use Rattle.checker.proofs.shape.shape_at.Reads as shape-at-reads
-use Rattle.evaluator.proofs.frame.frame_of.Reads as frame-of-reads
-use Rattle.evaluator.proofs.frame.variable.Reads as variable-reads
-use Rattle.evaluator.proofs.stack.answer.Reads as answer-reads
+use Rattle.evaluator.proofs.frame.read_parameter.Reads as read-parameter-reads
+use Rattle.evaluator.proofs.frame.read_result.Reads as read-result-reads
+use Rattle.evaluator.proofs.frame.read_this.Reads as read-this-reads
 use Rattle.evaluator.proofs.stack.stop.Reads as stop-reads
 use Rattle.evaluator.proofs.FrameLaws as laws
 use Rattle.evaluator.proofs.StepLaws as steps
 
-frame-of-requires : tie.Need-frame-of-requires
-frame-of-requires c κs = search laws.framed-mark
+read-this-requires : tie.Need-read-this-requires
+read-this-requires c κs = (search needs, search needs, search steps.next-this)
 
-answer-requires : tie.Need-answer-requires
-answer-requires c κs = (search needs, search needs, search laws.leaf-this-small, search steps.next-this)
+read-result-requires : tie.Need-read-result-requires
+read-result-requires c κs = (search needs, search needs, search steps.next-result, search needs)
 
-answer-requires-2 : tie.Need-answer-requires-2
-answer-requires-2 c κs = (search needs, search needs, search laws.leaf-result-small, search steps.next-result)
-
-variable-requires : tie.Need-variable-requires
-variable-requires c κs = search laws.leaf-few
-
-answer-requires-3 : tie.Need-answer-requires-3
-answer-requires-3 c κs = (search needs, search needs, search laws.leaf-parameter-small, search steps.next-parameter)
+read-parameter-requires : tie.Need-read-parameter-requires
+read-parameter-requires c κs = (search needs, search needs, search steps.next-parameter, search needs)
 
 returns : tie.Need-returns
 returns c = search laws.leaf-this
@@ -51,15 +45,13 @@ pub leaf-spec : {M : Type 1} → statement M
 leaf-spec =
     tie.close
     (tie.spec
-    frame-of-requires
     (λ c κs. search needs)
     (λ c. search needs)
-    answer-requires
+    read-this-requires
     (λ c. search needs)
-    answer-requires-2
+    read-result-requires
     (λ c. search needs)
-    variable-requires
-    answer-requires-3
+    read-parameter-requires
     (λ c. search needs)
     (λ c κs. search needs)
     (λ c. search needs)

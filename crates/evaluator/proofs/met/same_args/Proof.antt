@@ -5,6 +5,7 @@ use Rattle.evaluator.proofs.met.same_args.Lts as lts
 use Rattle.evaluator.proofs.met.apart.Reads as apart-reads
 use Rattle.evaluator.proofs.met.same_value.Reads as same-value-reads
 use borrow.Author.Needs.{needs}
+use mathlib.Core.Logic.{⊎-elim}
 use Prim.Native.Nat.{_≤_, _-_}
 use Rattle.evaluator.specs.State.{argsAt}
 use Rattle.evaluator.proofs.StateLaws as laws
@@ -29,7 +30,7 @@ returns-2 : tie.Need-returns-2 Inv-loop μ-loop
 returns-2 c = search laws.args-differ
 
 loop-again : tie.Need-loop-again Inv-loop μ-loop
-loop-again c = (search needs, laws.args-more _ _ _ _ _ _ (c .before .before .before .before .before .before .before .loop .inv .1) (c .before .before .before .before .before .before .before .before .before .pre .0) (c .before .before .before .before .before .before .before .before .before .pre .1) (c .before .before .before .before .before .before .before .before .before .pre .4) (c .before .before .before .before .before .before .loop-test .taken) _ (c .before .same-value .ensures) (c .if2 .left))
+loop-again c = (search needs, ⊎-elim (λ x. laws.args-more _ _ _ _ _ _ (c .before .before .before .before .before .before .loop .inv .1) (c .before .before .before .before .before .before .before .before .pre .0) (c .before .before .before .before .before .before .before .before .pre .1) (c .before .before .before .before .before .before .before .before .pre .4) (c .before .before .before .before .before .loop-test .taken) _ (x .1 .ensures) (x .2 .left)) (λ y. search laws.args-equal) (c .if2 .came))
 
 returns-3 : tie.Need-returns-3 Inv-loop μ-loop
 returns-3 c = search laws.args-end

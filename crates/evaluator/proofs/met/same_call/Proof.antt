@@ -1,4 +1,5 @@
 use borrow.Author.Needs.{needs}
+use mathlib.Core.Logic.{⊎-elim}
 use Rattle.evaluator.proofs.met.same_call.Statement.{statement}
 use Rattle.evaluator.proofs.met.same_call.Tie as tie
 use Rattle.evaluator.proofs.met.same_call.Reads as reads
@@ -31,13 +32,13 @@ returns-3 : tie.Need-returns-3
 returns-3 c = search laws.call-receiver
 
 add-same-args : tie.Need-add-same-args
-add-same-args c = omega (arith, laws.base-room (c .before .before .before .before .before .before .before .before .before .before .args .st .now) (c .before .before .before .before .before .before .before .before .before .before .args .i) (c .before .before .before .before .before .before .before .before .before .before .pre .1))
+add-same-args c = omega (arith, laws.base-room (c .before .before .before .before .before .before .before .before .before .args .st .now) (c .before .before .before .before .before .before .before .before .before .args .i) (c .before .before .before .before .before .before .before .before .before .pre .1))
 
 same-args-requires : tie.Need-same-args-requires
-same-args-requires c κs = (search laws.args-held, search needs, omega (arith, laws.base-room (c .before .before .before .before .before .before .before .before .before .before .args .st .now) (c .before .before .before .before .before .before .before .before .before .before .args .i) (c .before .before .before .before .before .before .before .before .before .before .pre .1)), search needs, search needs)
+same-args-requires c κs = (search laws.args-held, search needs, omega (arith, laws.base-room (c .before .before .before .before .before .before .before .before .before .args .st .now) (c .before .before .before .before .before .before .before .before .before .args .i) (c .before .before .before .before .before .before .before .before .before .pre .1)), search needs, search needs)
 
 returns-4 : tie.Need-returns-4
-returns-4 c = search laws.call-args
+returns-4 c = ⊎-elim (λ x. search laws.call-args) (λ y. search laws.call-equal) (c .before .if3 .came)
 
 pub same-call-spec : {M : Type 1} → statement M
 same-call-spec =

@@ -1,30 +1,22 @@
 use borrow.Author.Needs.{needs}
-use Rattle.evaluator.proofs.frame.frame_of.Statement.{statement}
-use Rattle.evaluator.proofs.frame.frame_of.Tie as tie
-use Rattle.evaluator.proofs.frame.frame_of.Reads as reads
-use Rattle.evaluator.proofs.frame.frame_of.Lts as lts
+use Rattle.evaluator.proofs.frame.body_frame.Statement.{statement}
+use Rattle.evaluator.proofs.frame.body_frame.Tie as tie
+use Rattle.evaluator.proofs.frame.body_frame.Reads as reads
+use Rattle.evaluator.proofs.frame.body_frame.Lts as lts
 use Rattle.evaluator.proofs.frame.held_mark.Reads as held-mark-reads
 use Rattle.evaluator.proofs.refs.unpack.Reads as unpack-reads
 use Rattle.evaluator.proofs.FrameLaws as laws
 
 returns : tie.Need-returns
-returns c = search laws.frame-none
+returns c = search laws.body-is
 
-returns-2 : tie.Need-returns-2
-returns-2 c = search laws.frame-some
-
-pub frame-of-spec : {M : Type 1} → statement M
-frame-of-spec =
+pub body-frame-spec : {M : Type 1} → statement M
+body-frame-spec =
     tie.close
     (tie.spec
     (λ c. search needs)
     (λ c. search needs)
     (λ c κs. search needs)
-    (λ c. search needs)
-    returns
-    (λ c. search needs)
-    (λ c. search needs)
-    (λ c. search needs)
     (λ c κs. search needs)
     (λ c. search needs)
     (λ c. search needs)
@@ -38,4 +30,4 @@ frame-of-spec =
     (λ c. search needs)
     (λ c. search needs)
     (λ c κs. search needs)
-    returns-2)
+    returns)
