@@ -16,7 +16,7 @@ use Rattle.values.specs.Laying.{valuesFrom, PartsHeld}
 use Rattle.evaluator.specs.declared.Stop.the-variants.{Stuck, NoFuel, TooDeep}
 use Rattle.evaluator.specs.declared.Out.{Out}
 use Rattle.evaluator.specs.declared.Out.the-variants.{Value, Halt}
-use Rattle.evaluator.specs.Refs.{refIn}
+use Rattle.values.specs.Refs.{refIn}
 use Rattle.evaluator.specs.State.{Older, PartsOlder, refAt, argsAt, CallsHold, traceIn, metOf}
 use Rattle.evaluator.specs.Answers.{slotsOf}
 use Rattle.evaluator.specs.Stack.{fuelOf, topOf, frameAt, Stacked, stopAt, outAt, listAt}

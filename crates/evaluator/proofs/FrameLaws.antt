@@ -16,7 +16,7 @@ use Rattle.evaluator.specs.declared.Stop.the-variants.{Stuck}
 use Rattle.evaluator.specs.declared.frame.Held.{Held}
 use Rattle.evaluator.specs.declared.frame.Held.the-variants.{Is, Absent}
 use Rattle.evaluator.specs.declared.frame.Frame.{Frame}
-use Rattle.evaluator.specs.Refs.{refIn}
+use Rattle.values.specs.Refs.{refIn}
 use Rattle.evaluator.specs.State.{slotAt, refAt, argsAt}
 use Rattle.evaluator.specs.Answers.{outOf}
 use Rattle.evaluator.specs.Stack.{fuelOf, markHeld, heldThis, heldMark, frameAt, bodyFrame, markNumber, Framed, heldOf, nextOf, heldParameter, Answered, FrameSet}

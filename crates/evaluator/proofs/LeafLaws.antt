@@ -4,7 +4,7 @@ use Prim.Native.Nat.{ℕ, _+_}
 use native.Mathlib.Omega.{arith}
 use mathlib.Core.Path.{_≡_, refl, sym, ap, _∙_, subst}
 use mathlib.Core.Bool.{Bool, true, false, cond}
-use mathlib.Core.List.{List, []}
+use mathlib.Core.List.{List, [], _∷_}
 use mathlib.Core.Option.{none, some, Option·none-ne-some}
 use lib.Dec.{leb}
 use lib.ListN.{length, getD, set}
@@ -22,7 +22,8 @@ use Rattle.evaluator.specs.declared.Stop.{Stop}
 use Rattle.evaluator.specs.declared.Stop.the-variants.{Stuck, NoFuel, TooDeep, TooLarge}
 use Rattle.evaluator.specs.declared.Out.{Out}
 use Rattle.evaluator.specs.declared.Out.the-variants.{Value, Halt}
-use Rattle.evaluator.specs.Refs.{refIn, Small}
+use Rattle.values.specs.Refs.{refIn, partsOf}
+use Rattle.evaluator.specs.Refs.{Small}
 use Rattle.evaluator.specs.State.{PartsOlder, refAt}
 use Rattle.evaluator.specs.Answers.{Listed, Values, Stops, slotsOf, listIn, ListOlder, ListNext, Finishes}
 use Rattle.evaluator.specs.Stack.{fuelOf, stopAt, outAt, listAt}
@@ -33,9 +34,10 @@ use Rattle.evaluator.proofs.StackLaws as stacks
 use Rattle.evaluator.proofs.StackLaws.{list-values, stacked-none, put-stack, put-out, stop-is, stop-stack, too-large-is}
 
 -- ---- parts
-pub parts-are : (S : List ℕ) (sp : ℕ) (a b c d : ValueRef) (r : List Slot) → a ≡ refAt S sp → b ≡ refAt S (sp + 1) → c ≡ refAt S (sp + 2) → d ≡ refAt S (sp + 3)
-    → r ≡ slotsOf a b c d → r ≡ slotsOf (refAt S sp) (refAt S (sp + 1)) (refAt S (sp + 2)) (refAt S (sp + 3))
-parts-are S sp a b c d r ea eb ec ed er = er ∙ (λ i. slotsOf (ea i) (eb i) (ec i) (ed i))
+pub parts-are : (P S : List ℕ) (sp : ℕ) → P ≡ getD S sp 0 ∷ getD S (sp + 1) 0 ∷ getD S (sp + 2) 0 ∷ getD S (sp + 3) 0 ∷ []
+    → partsOf P ≡ slotsOf (refAt S sp) (refAt S (sp + 1)) (refAt S (sp + 2)) (refAt S (sp + 3))
+unfolding partsOf
+parts-are P S sp e = rw e refl
 
 -- ---- a new object
 sized-none : (g : Graph) (fuel : ℕ) → cond (leb (length (g .nodes)) 32) (some g) none ≡ none → sized 32 g fuel ≡ stopped language.tooLarge fuel

@@ -1,4 +1,4 @@
--- Values as numbers: one law for each return of `unpack`, `pack` and `select_in`.
+-- Values as numbers: one law for each return of `pack` and `select_in`.
 -- Not here: where the numbers stand (StackLaws, PutLaws).
 use Prim.Native.Nat.{ℕ, _+_, _-_, _*_, _/_, _%_, _≤_, _<_}
 use native.Mathlib.Omega.{arith}
@@ -13,24 +13,11 @@ use Rattle.values.specs.declared.ValueRef.the-variants.{Object, Mark, Undetermi
 use Rattle.values.specs.declared.Selected.the-variants as selected
 use Rattle.values.specs.Layout.{Inside, HeldBy, Holds, Low}
 use Rattle.values.specs.Operations.{Chosen, Leaf}
+use Rattle.values.proofs.RefLaws.{object-in}
 use Rattle.values.proofs.Blocks.{inside-room}
 use Rattle.values.proofs.Selecting.{count-four, choose-leaf, choose-object, choose-none, leaf-undet, leaf-mark}
-use Rattle.evaluator.specs.Refs.{refFrom, refIn, Small, answerOf, ChosenIn}
-
--- ---- a number read
-module _ (r : ℕ) where
-  pub object-in : r % 256 < 192 → Object (r / 256 % 65536) (r % 256) ≡ refIn r
-  unfolding refIn refFrom
-  object-in h = rw (lt-ltb (r % 256) 192 h)
-
-  module _ (h : 192 ≤ r % 256) where
-    pub undetermined-in : r % 256 ≡ 192 → Undetermined ≡ refIn r
-    unfolding refIn refFrom
-    undetermined-in e = rw (le-ltb (r % 256) 192 h, eq-eqb (r % 256) 192 e)
-
-    pub mark-in : (r % 256 ≡ 192 → ⊥) → Mark (r % 256 - 193) ≡ refIn r
-    unfolding refIn refFrom
-    mark-in e = rw (le-ltb (r % 256) 192 h, ne-eqb (r % 256) 192 e)
+use Rattle.values.specs.Refs.{refFrom, refIn}
+use Rattle.evaluator.specs.Refs.{Small, answerOf, ChosenIn}
 
 -- ---- a number made
 module _ (b c : ℕ) where

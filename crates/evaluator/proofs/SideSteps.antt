@@ -14,7 +14,8 @@ use Rattle.values.specs.declared.ValueRef.the-variants.{Mark}
 use Rattle.values.specs.Layout.{valueOf, Holds}
 use Rattle.values.specs.Operations.{Gives}
 use Rattle.evaluator.specs.declared.Out.the-variants.{Value, Halt}
-use Rattle.evaluator.specs.Refs.{refIn, Small}
+use Rattle.values.specs.Refs.{refIn}
+use Rattle.evaluator.specs.Refs.{Small}
 use Rattle.evaluator.specs.declared.frame.Held.{Held}
 use Rattle.evaluator.specs.declared.frame.Held.the-variants.{Is, Absent}
 use Rattle.evaluator.specs.State.{FrameHolds, CallOlder, refAt, argsAt, baseAt, callAt, traceIn}

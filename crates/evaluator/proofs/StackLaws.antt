@@ -14,7 +14,7 @@ use Rattle.values.specs.declared.ValueRef.the-variants.{Mark}
 use Rattle.evaluator.specs.declared.Stop.{Stop}
 use Rattle.evaluator.specs.declared.Stop.the-variants.{Stuck, NoFuel, TooDeep, TooLarge}
 use Rattle.evaluator.specs.declared.Out.the-variants.{Value, Halt}
-use Rattle.evaluator.specs.Refs.{refIn}
+use Rattle.values.specs.Refs.{refIn}
 use Rattle.evaluator.specs.declared.frame.Held.the-variants.{Is, Absent}
 use Rattle.evaluator.specs.State.{refAt, argsAt, baseAt, callAt, traceIn}
 use Rattle.evaluator.specs.Answers.{Values, Stops}

@@ -21,8 +21,9 @@ use Rattle.values.specs.declared.Slot.{Slot}
 use Rattle.values.specs.Layout.{valueOf, Holds}
 use Rattle.values.specs.Laying.{valuesFrom, PartsHeld}
 use Rattle.values.proofs.Steps.{one-block, mark-mark, undet-undet}
-use Rattle.evaluator.specs.Refs.{refIn, apartOf}
-use Rattle.evaluator.proofs.RefLaws.{object-in}
+use Rattle.values.specs.Refs.{refIn}
+use Rattle.evaluator.specs.Refs.{apartOf}
+use Rattle.values.proofs.RefLaws.{object-in}
 use Rattle.evaluator.specs.declared.frame.Held.the-variants.{Is, Absent}
 use Rattle.evaluator.specs.declared.frame.Frame.{Frame}
 use Rattle.evaluator.specs.State.{OpenCall, slotAt, HeldOlder, heldIn, FrameHolds, frameIn, variableOf, refAt, argsAt, baseAt, callAt, callIn, CallHolds, CallsHold, traceIn, sameOf, metOf}

@@ -17,19 +17,17 @@ use Rattle.checker.specs.Shapes.{byteOf, shapeAt, shapeOf}
 use Rattle.values.specs.Layout.{Holds}
 use Rattle.evaluator.specs.declared.Stop.the-variants.{Stuck}
 use Rattle.evaluator.specs.declared.Out.{Out}
-use Rattle.evaluator.specs.Refs.{refIn, answerOf, ChosenIn}
+use Rattle.values.specs.Refs.{refIn}
+use Rattle.evaluator.specs.Refs.{answerOf, ChosenIn}
 use Rattle.evaluator.specs.declared.stack.Went.{Went}
 use Rattle.evaluator.specs.declared.stack.Went.the-variants as went
 use Rattle.evaluator.specs.declared.frame.Held.{Held}
-
 use Rattle.evaluator.specs.declared.frame.Frame.{Frame}
 use Rattle.evaluator.specs.State.{refAt, argsAt, FrameHolds, CallOlder, TraceHolds, frameIn, traceIn}
 use Rattle.evaluator.specs.Answers.{Listed, Values, frontOf}
 use Rattle.evaluator.specs.Stack.{fuelOf, topOf, noArgs, heldArgs, frameAt, Framed, heldOf, nextOf, wentOf, Placed, Stacked, stopAt, outAt, listAt, Answered}
 use Rattle.evaluator.specs.Evaluation.{evalIn, evalsIn, ListFits, Evaluates, Fields, Lists, News}
 use Rattle.evaluator.specs.Steps.{Runnable, ListRunnable, PartsReady, EvalStep, FieldStep, ListStep, FinishStep, NewStep, CallStep}
-
-
 use Rattle.evaluator.proofs.Given.{given-older}
 use Rattle.evaluator.proofs.LeafLaws.{finish-halt}
 use Rattle.evaluator.proofs.EvalLaws.{eval-zero, eval-nothing, eval-this, eval-res, eval-param, eval-at-field, eval-at-call, eval-at-new}

@@ -1,6 +1,5 @@
--- Values as numbers: 256 times the block of an object and its number there; or a leaf's code.
--- Not here: where the numbers stand (Stack).
-use Prim.Native.Nat.{ℕ, _-_, _/_, _%_, _<_}
+-- Values as numbers: told apart, made, selected from. Not here: what a number stands for (values), where the numbers stand (Stack).
+use Prim.Native.Nat.{ℕ, _/_, _%_, _<_}
 use mathlib.Core.Bool.{Bool, false}
 use mathlib.Core.List.{List}
 use lib.Dec.{eqb, ltb}
@@ -8,16 +7,9 @@ use Rattle.classes.specs.Machine.{pick}
 use Rattle.values.specs.declared.ValueRef.{ValueRef}
 use Rattle.values.specs.declared.Selected.{Selected}
 use Rattle.values.specs.declared.Selected.the-variants as selected
+use Rattle.values.specs.Refs.{refIn}
 use Rattle.values.specs.Operations.{Chosen}
 use Rattle.values.specs.declared.ValueRef.the-variants.{Object, Mark, Undetermined}
-
--- the value of block b and code c
-unfoldable pub refFrom : ℕ → ℕ → ValueRef
-refFrom b c = pick (ltb c 192) (Object b c) (pick (eqb c 192) Undetermined (Mark (c - 193)))
-
--- the value that a number stands for
-unfoldable pub refIn : ℕ → ValueRef
-refIn r = refFrom (r / 256 % 65536) (r % 256)
 
 -- two numbers of two objects of one block
 unfoldable pub apartOf : ℕ → ℕ → Bool

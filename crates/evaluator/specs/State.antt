@@ -17,7 +17,7 @@ use Rattle.values.specs.Laying.{valuesFrom, PartsHeld}
 use Rattle.evaluator.specs.declared.frame.Held.{Held}
 use Rattle.evaluator.specs.declared.frame.Held.the-variants.{Is, Absent}
 use Rattle.evaluator.specs.declared.frame.Frame.{Frame}
-use Rattle.evaluator.specs.Refs.{refIn}
+use Rattle.values.specs.Refs.{refIn}
 
 -- an open call: its receiver, its name and its first n arguments
 pub record OpenCall : Type 0 where

@@ -6,7 +6,6 @@ use crate::frame::leaf;
 use crate::refs::NOTHING;
 use crate::refs::pack;
 use crate::refs::select_in;
-use crate::refs::unpack;
 use crate::stack::STACK;
 use crate::stack::STUCK;
 use crate::stack::TOO_LARGE;
@@ -18,13 +17,12 @@ use checker::shape::shape_at;
 use classes::chain::field_total;
 use classes::places::SIZE;
 use values::Made;
-use values::Slot;
 use values::make::make;
 use values::over::make_bare;
 ghost use mathlib.Core.Path.{_≡_};
 ghost use Prim.Native.Nat.{ℕ, _+_, _*_, _<_, _≤_};
 ghost use lib.ListN.{length};
-ghost use Rattle.evaluator.specs.Refs.{refIn};
+ghost use Rattle.values.specs.Refs.{partsOf};
 ghost use Rattle.evaluator.specs.Answers.{slotsOf};
 ghost use Rattle.evaluator.specs.State.{refAt};
 ghost use Rattle.evaluator.specs.Steps.{Runnable, ListRunnable, PartsReady, EvalStep, FieldStep, ListStep, NewStep, FinishStep};
@@ -134,22 +132,12 @@ pub fn eval_list(
     eval_list(t, work, st, at1, left, d, sp + 1, n - 1)
 }
 
-// The parts at the n places from sp on, as an array; those after them do not count.
-pub fn parts_at(st: &[u32; STACK], sp: usize) -> [Slot; 4]
+// The numbers of the four places from sp on.
+pub fn parts_at(st: &[u32; STACK], sp: usize) -> [u32; 4]
     requires { ⌜ sp + 4 ≤ 336 ⌝ }
-    ensures { λ r. ⌜ r ≡ slotsOf (refAt (now (st .entry)) sp) (refAt (now (st .entry)) (sp + 1)) (refAt (now (st .entry)) (sp + 2)) (refAt (now (st .entry)) (sp + 3)) ⌝ }
+    ensures { λ r. ⌜ partsOf r ≡ slotsOf (refAt (now (st .entry)) sp) (refAt (now (st .entry)) (sp + 1)) (refAt (now (st .entry)) (sp + 2)) (refAt (now (st .entry)) (sp + 3)) ⌝ }
 {
-    let a = Slot { r: unpack(st[sp]) };
-    let b = Slot {
-        r: unpack(st[sp + 1]),
-    };
-    let c = Slot {
-        r: unpack(st[sp + 2]),
-    };
-    let d = Slot {
-        r: unpack(st[sp + 3]),
-    };
-    [a, b, c, d]
+    [st[sp], st[sp + 1], st[sp + 2], st[sp + 3]]
 }
 
 // A new object of class c with the n values from place sp on, as the value at sp; `next` is the place after.
@@ -166,7 +154,7 @@ pub fn finish(work: &mut [u8], st: &mut [u32; STACK], c: u8, n: u8, sp: usize, n
         return next;
     }
     let ps = parts_at(st, sp);
-    let o = make(work, c, ps, n, sp as u16);
+    let o = make(work, c, &ps, n, sp as u16);
     let Made::Value(v) = o else {
         return stop(st, TOO_LARGE);
     };

@@ -1,6 +1,5 @@
 // Frames: what the variables of a body hold, as value enums. A frame is made where a body is entered; its values stand on the stack, from the receiver's
 // place on, and a variable is read there. Not here: the places of the stack (stack).
-use crate::refs::unpack;
 use crate::stack::BASE;
 use crate::stack::COUNT;
 use crate::stack::RESULT;
@@ -13,6 +12,7 @@ use checker::shape::shape_at;
 use classes::places::SIZE;
 use values::Slot;
 use values::ValueRef;
+use values::refs::unpack;
 ghost use mathlib.Core.Path.{_≡_};
 ghost use Prim.Native.Nat.{ℕ, _<_};
 ghost use lib.ListN.{length, getD};

@@ -1,17 +1,18 @@
 // A call met again: an open call with the same receiver, name and arguments, the newest first.
 // Not here: when two values are equal (values), what is done with a call that is met (call).
-use crate::refs::unpack;
 use crate::stack::CALLS;
 use crate::stack::STACK;
 use crate::stack::TOP;
 use values::lockstep::equal;
+use values::refs::unpack;
 ghost use mathlib.Core.Path.{_≡_};
 ghost use Prim.Native.Nat.{ℕ, _+_, _<_, _≤_};
 ghost use Rattle.cofj.specs.Values.{eqGraph, eqGraphs};
 ghost use Rattle.cofj.specs.Running.{openMark};
 ghost use Rattle.values.specs.Layout.{Holds, valueOf};
 ghost use Rattle.values.specs.Laying.{PartsHeld, valuesFrom};
-ghost use Rattle.evaluator.specs.Refs.{refIn, apartOf};
+ghost use Rattle.values.specs.Refs.{refIn};
+ghost use Rattle.evaluator.specs.Refs.{apartOf};
 ghost use Rattle.evaluator.specs.State.{refAt, argsAt, baseAt, CallHolds, CallsHold, callAt, callIn, sameOf, traceIn, metOf};
 ghost use Rattle.evaluator.specs.Stack.{topOf};
 

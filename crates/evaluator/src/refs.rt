@@ -1,23 +1,9 @@
-// Values as numbers: 256 times the block of an object and its number there; or a leaf's code: 192 undetermined, 193 and more a mark.
-// Not here: where the numbers stand (stack).
+// Values as numbers: made, and selected from. Not here: what a number stands for (values), where the numbers stand (stack).
 use values::ValueRef;
 ghost use mathlib.Core.Path.{_≡_};
-ghost use Rattle.evaluator.specs.Refs.{refIn, Small, ChosenIn};
+ghost use Rattle.values.specs.Refs.{refIn};
+ghost use Rattle.evaluator.specs.Refs.{Small, ChosenIn};
 ghost use Rattle.values.specs.Layout.{Holds};
-
-// The value that a number stands for.
-pub fn unpack(r: u32) -> ValueRef
-    ensures { λ v. ⌜ v ≡ refIn r ⌝ }
-{
-    let c = (r % 256) as u8;
-    if c < 192 {
-        return ValueRef::Object((r / 256 % 65536) as u16, c);
-    }
-    if c == 192 {
-        return ValueRef::Undetermined;
-    }
-    ValueRef::Mark(c - 193)
-}
 
 // A number for a value.
 pub fn pack(v: ValueRef) -> u32

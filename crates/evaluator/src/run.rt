@@ -3,13 +3,13 @@
 use crate::Out;
 use crate::Stop;
 use crate::eval::eval;
-use crate::refs::unpack;
 use crate::stack::BASE;
 use crate::stack::FUEL;
 use crate::stack::STACK;
 use crate::stack::STOP;
 use classes::places::MAIN;
 use classes::places::SIZE;
+use values::refs::unpack;
 ghost use mathlib.Core.Path.{_≡_};
 ghost use Prim.Native.Nat.{ℕ, _<_, _≤_};
 ghost use lib.ListN.{length, getD};

@@ -22,6 +22,7 @@ use Rattle.values.specs.Layout.{refOf, nodeIn, nodesIn, Packed, Block, I
 use Rattle.values.specs.Tables.{Filled, Lifted}
 use Rattle.values.specs.Rounds.{Raw}
 use Rattle.values.specs.Numbers.{Ready, Placed, graphIn}
+use Rattle.values.specs.Adding.{partOf}
 use Rattle.values.specs.Laying.{valuesFrom, rawsFrom, PartsHeld, LaidNodes, LaidOne, LaidAll, Built, MadeIs}
 use Rattle.values.proofs.Nodes.{length-nodes, nodes-same, packed-same, more-nodes, ref-object, ref-undet, ref-mark}
 use Rattle.values.proofs.Turned.{turnRef, lifted-nodes, lifted-packed, turn-rename, nodes-agree}
@@ -154,6 +155,10 @@ lay-nil at i R = record {
 -- ---- the parts
 abbrev pub none-slot : Slot
 none-slot = record { r = Object 0 0 }
+
+-- a part read is held
+pub part-held : (W : List ℕ) (ps : List Slot) (n i : ℕ) (v : ValueRef) → PartsHeld W ps n → i < n → v ≡ partOf ps i → Holds W v
+part-held W ps n i v h l e = subst (Holds W) (sym e) (h .part i l)
 
 module _ (W : List ℕ) (ps : List Slot) (i n : ℕ) where
   pub lay-end : (at : ℕ) (R : List ℕ) → n ≤ i → LaidAll (rawsFrom W ps i n) at i R R at

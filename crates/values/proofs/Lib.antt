@@ -12,6 +12,7 @@ pub mod Colouring
 pub mod Numbers
 pub mod Blocks
 pub mod Pairings
+pub mod RefLaws
 pub mod Adding
 pub mod Selecting
 pub mod Copies

@@ -504,6 +504,57 @@ module _ (W : List ℕ) (b i base host : ℕ) (ib : Inside W b i) (bg : Begun W 
       };
     }
 
+-- ---- an object without fields
+module _ (W : List ℕ) (b i host : ℕ) (ib : Inside W b i) (bk : Block W host) (apart : (b ≡ host) → ⊥) (bare : getD W (240 * b + 6 * i + 1) 0 ≡ 0) (T : List ℕ) (o : ObjectBytes W b i T) where
+  begun : Begun W host host
+  begun = record { source = bk; target = bk; most = omega arith; trees = λ r l p. refl }
+
+  abbrev none-met : List ℕ
+  none-met = replicate 32 0
+
+  bare-importing : Importing W b i host none-met
+  bare-importing = object-importing W b i host host ib begun apart 32 refl
+
+  bare-low : i < 192
+  bare-low = omega (arith, ib .low, ib .block .small)
+
+  bare-code : (j : ℕ) → j < 4 → getD W (240 * b + 6 * i + (2 + j)) 0 ≡ 192
+  bare-code j l = ib .block .packed i (ib .low) .spare (2 + j) (omega (arith, bare)) (omega arith)
+
+  bare-turned : TurnedAll W b i host W none-met T true
+  bare-turned = record {
+    grown = grown-none host W bk;
+    mapped = bare-importing .mapped;
+    turned = λ _. record {
+      long = o .long;
+      cls = o .bytes 0 (omega arith);
+      count = o .bytes 1 (omega arith);
+      done = λ j l m.
+          subst (λ (x : ℕ). CodeAs W b (getD W (240 * b + 6 * i + (2 + j)) 0) host x) (sym (o .bytes (2 + j) (omega arith)))
+          (subst (λ (x : ℕ). CodeAs W b x host x) (sym (bare-code j m)) (record {
+            low = leaf-low (countIn W host) 192 (omega arith);
+            leaf = λ _. refl;
+            same = leaf-same (objectsIn W b) (objectsIn W host) (refOf 192) (leaf-low 0 192 (omega arith));
+          }));
+      left = λ j l m. o .bytes (2 + j) (omega arith);
+    };
+  }
+
+  pub bare-fits : Fits W host T
+  bare-fits = import-fits W b i host none-met bare-importing bare-low W none-met T true bare-turned refl
+
+  pub bare-imported : (W′ : List ℕ) (r : ℕ) → Entered W host T W′ r → PartImported W (Object b i) host W′ r
+  bare-imported W′ r en = go (ℕ-discrete r 32)
+    where
+      full : r ≡ 32 → Imported W b i host W′ none-met r
+      full e = subst (Imported W b i host W′ none-met) (sym e) (import-full W b i host none-met bare-importing bare-low W none-met T true bare-turned refl W′ r en e)
+
+      go : Dec (r ≡ 32) → PartImported W (Object b i) host W′ r
+      go (yes e) = object-other W b i host host ib begun apart W′ none-met r (full e)
+      go (no d) =
+          object-other W b i host host ib begun apart W′ (set none-met i (r + 1)) r
+          (import-done W b i host none-met bare-importing bare-low W none-met T true bare-turned refl W′ r en d)
+
 module _ (W : List ℕ) (v : ValueRef) (base host : ℕ) (h : Holds W v) (bg : Begun W base host) where
   pub part-object : (b i : ℕ) (W′ : List ℕ) (r : ℕ) → v ≡ Object b i → PartImported W (Object b i) host W′ r → PartImported W v host W′ r
   part-object b i W′ r e p = subst (λ (x : ValueRef). PartImported W x host W′ r) (sym e) p
@@ -757,9 +808,6 @@ module _ (W : List ℕ) (c : ℕ) (ps : List Slot) (n host dst : ℕ) (held : Pa
             }
 
 -- ---- the host
-pub largest-held : (W : List ℕ) (ps : List Slot) (n i : ℕ) (v : ValueRef) → PartsHeld W ps n → i < n → v ≡ partOf ps i → Holds W v
-largest-held W ps n i v h l e = subst (Holds W) (sym e) (h .part i l)
-
 pub lies-object : (d : ℕ) (v : ValueRef) (x i : ℕ) → v ≡ Object x i → eqb x d ≡ liesIn d v
 unfolding liesIn
 lies-object d v x i e = rw e

@@ -8,6 +8,7 @@ pub mod Numbers
 pub mod Operations
 pub mod Binding
 pub mod Stepping
+pub mod Refs
 pub mod Laying
 pub mod Adding
 pub mod Merging

@@ -1,10 +1,11 @@
 // Values laid side by side below a new object, with their numbers moved. Not here: equal objects merged.
-use crate::Slot;
 use crate::ValueRef;
 use crate::bytes::count_up;
 use crate::lift::lift;
+use crate::refs::part_at;
 ghost use Prim.Native.Nat.{ℕ, _+_, _*_, _<_, _≤_};
 ghost use lib.ListN.{length};
+ghost use Rattle.values.specs.Refs.{partsOf};
 ghost use Rattle.values.specs.Layout.{Block, objectsIn, Holds, rawOf};
 ghost use Rattle.values.specs.Laying.{LaidNodes, LaidOne, LaidAll, Built, PartsHeld, rawsFrom};
 
@@ -50,23 +51,22 @@ pub fn lay_one(work: &[u8], r: ValueRef, i: u8, raw: &mut [u8], at: u8) -> u8
 }
 
 // The parts from i on, n in all, their objects from `at` on.
-pub fn lay(work: &[u8], parts: [Slot; 4], i: u8, n: u8, raw: &mut [u8], at: u8) -> u8
-    requires { ⌜ PartsHeld (now work) parts n × (n ≤ 4) × (1 ≤ at) × (at + 32 * n ≤ 129 + 32 * i) × (1536 ≤ length (now raw)) ⌝ }
-    ensures { λ t. ⌜ LaidAll (rawsFrom (now (work .entry)) parts i n) at i (now (raw .entry)) (now (raw .exit)) t ⌝ }
+pub fn lay(work: &[u8], parts: &[u32; 4], i: u8, n: u8, raw: &mut [u8], at: u8) -> u8
+    requires { ⌜ PartsHeld (now work) (partsOf (now parts)) n × (n ≤ 4) × (1 ≤ at) × (at + 32 * n ≤ 129 + 32 * i) × (1536 ≤ length (now raw)) ⌝ }
+    ensures { λ t. ⌜ LaidAll (rawsFrom (now (work .entry)) (partsOf (now (parts .entry))) i n) at i (now (raw .entry)) (now (raw .exit)) t ⌝ }
 {
     if n <= i {
         return at;
     }
-    let s = parts[i as usize];
-    let v = s.r;
+    let v = part_at(parts, i);
     let t = lay_one(work, v, i, raw, at);
     lay(work, parts, i + 1, n, raw, t)
 }
 
 // A new object of class c with its parts, object 0 of `raw`, and theirs. Answers how many objects they are.
-pub fn build(work: &[u8], c: u8, parts: [Slot; 4], n: u8, raw: &mut [u8]) -> u8
-    requires { ⌜ PartsHeld (now work) parts n × (n ≤ 4) × (1536 ≤ length (now raw)) ⌝ }
-    ensures { λ t. ⌜ Built c (rawsFrom (now (work .entry)) parts 0 n) (now (raw .exit)) t ⌝ }
+pub fn build(work: &[u8], c: u8, parts: &[u32; 4], n: u8, raw: &mut [u8]) -> u8
+    requires { ⌜ PartsHeld (now work) (partsOf (now parts)) n × (n ≤ 4) × (1536 ≤ length (now raw)) ⌝ }
+    ensures { λ t. ⌜ Built c (rawsFrom (now (work .entry)) (partsOf (now (parts .entry))) 0 n) (now (raw .exit)) t ⌝ }
 {
     raw[0] = c;
     raw[1] = n;

@@ -1,5 +1,6 @@
 // Canonical values in blocks of the work buffer, and what is done with them: made, selected from, closed, compared, reported.
 // Not here: which blocks are free. The caller names the block that a result goes to.
+pub mod refs; // values as numbers
 pub mod bytes; // runs of bytes compared; tables filled
 pub mod lift; // objects copied, with their codes turned
 pub mod pairs; // the objects' colours, by pairs that may be equal

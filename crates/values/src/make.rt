@@ -1,6 +1,5 @@
 // A new object: how it is made, by what its parts are. Not here: each way.
 use crate::Made;
-use crate::Slot;
 use crate::ValueRef;
 use crate::colours::colour;
 use crate::lay::build;
@@ -10,20 +9,22 @@ use crate::over::add;
 use crate::over::find;
 use crate::over::make_alone;
 use crate::over::root_object;
+use crate::refs::part_at;
 use crate::value::bring;
 ghost use mathlib.Core.Path.{_≡_};
 ghost use mathlib.Core.Bool.{true};
 ghost use Prim.Native.Nat.{ℕ, _+_, _*_, _<_, _≤_};
 ghost use lib.ListN.{length};
 ghost use Rattle.cofj.specs.Values.{make};
+ghost use Rattle.values.specs.Refs.{partsOf};
 ghost use Rattle.values.specs.Layout.{Block};
 ghost use Rattle.values.specs.Laying.{PartsHeld, valuesFrom, MadeIs};
 ghost use Rattle.values.specs.Adding.{isObject, standsIn, allStand, First};
 
 // The parts' objects laid side by side, and equal ones found.
-pub fn make_laid(work: &mut [u8], c: u8, parts: [Slot; 4], n: u8, dst: u16) -> Made
-    requires { ⌜ PartsHeld (now work) parts n × (n ≤ 4) × (240 * dst + 240 ≤ length (now work)) ⌝ }
-    ensures { λ o. ⌜ MadeIs (now (work .entry)) (make c (valuesFrom (now (work .entry)) parts 0 n)) dst (now (work .exit)) o ⌝ }
+pub fn make_laid(work: &mut [u8], c: u8, parts: &[u32; 4], n: u8, dst: u16) -> Made
+    requires { ⌜ PartsHeld (now work) (partsOf (now parts)) n × (n ≤ 4) × (240 * dst + 240 ≤ length (now work)) ⌝ }
+    ensures { λ o. ⌜ MadeIs (now (work .entry)) (make c (valuesFrom (now (work .entry)) (partsOf (now (parts .entry))) 0 n)) dst (now (work .exit)) o ⌝ }
 {
     let mut raw = [0u8; 1536];
     let t = build(work, c, parts, n, &mut raw);
@@ -48,14 +49,13 @@ pub fn is_object(v: ValueRef) -> bool
 }
 
 // The first part that is an object; n if none is.
-pub fn first_object(parts: [Slot; 4], n: u8) -> u8
+pub fn first_object(parts: &[u32; 4], n: u8) -> u8
     requires { ⌜ n ≤ 4 ⌝ }
-    ensures { λ f. ⌜ First parts n f ⌝ }
+    ensures { λ f. ⌜ First (partsOf (now (parts .entry))) n f ⌝ }
 {
     let mut i: u8 = 0;
     while i < n {
-        let s = parts[i as usize];
-        let v = s.r;
+        let v = part_at(parts, i);
         if is_object(v) {
             return i;
         }
@@ -76,14 +76,13 @@ pub fn stands(v: ValueRef, b: u16) -> bool
 }
 
 // Whether each part lies in block b, or is no object.
-pub fn together(parts: [Slot; 4], n: u8, b: u16) -> bool
+pub fn together(parts: &[u32; 4], n: u8, b: u16) -> bool
     requires { ⌜ n ≤ 4 ⌝ }
-    ensures { λ r. ⌜ r ≡ allStand parts n b ⌝ }
+    ensures { λ r. ⌜ r ≡ allStand (partsOf (now (parts .entry))) n b ⌝ }
 {
     let mut i: u8 = 0;
     while i < n {
-        let s = parts[i as usize];
-        let v = s.r;
+        let v = part_at(parts, i);
         if !stands(v, b) {
             return false;
         }
@@ -93,9 +92,9 @@ pub fn together(parts: [Slot; 4], n: u8, b: u16) -> bool
 }
 
 // A new object whose parts lie in block b, or are no objects.
-pub fn make_beside(work: &mut [u8], c: u8, parts: [Slot; 4], n: u8, b: u16, dst: u16) -> Made
-    requires { ⌜ PartsHeld (now work) parts n × (n ≤ 4) × Block (now work) b × (allStand parts n b ≡ true) × (240 * dst + 240 ≤ length (now work)) ⌝ }
-    ensures { λ o. ⌜ MadeIs (now (work .entry)) (make c (valuesFrom (now (work .entry)) parts 0 n)) dst (now (work .exit)) o ⌝ }
+pub fn make_beside(work: &mut [u8], c: u8, parts: &[u32; 4], n: u8, b: u16, dst: u16) -> Made
+    requires { ⌜ PartsHeld (now work) (partsOf (now parts)) n × (n ≤ 4) × Block (now work) b × (allStand (partsOf (now parts)) n b ≡ true) × (240 * dst + 240 ≤ length (now work)) ⌝ }
+    ensures { λ o. ⌜ MadeIs (now (work .entry)) (make c (valuesFrom (now (work .entry)) (partsOf (now (parts .entry))) 0 n)) dst (now (work .exit)) o ⌝ }
 {
     let mut top = [0u8; 6];
     root_object(work, c, parts, n, &mut top);
@@ -112,16 +111,15 @@ pub fn make_beside(work: &mut [u8], c: u8, parts: [Slot; 4], n: u8, b: u16, dst:
 }
 
 // A new object of class c with the n first parts, in block `dst` or below, unless it has more than 32 objects.
-pub fn make(work: &mut [u8], c: u8, parts: [Slot; 4], n: u8, dst: u16) -> Made
-    requires { ⌜ PartsHeld (now work) parts n × (n ≤ 4) × (240 * dst + 240 ≤ length (now work)) ⌝ }
-    ensures { λ o. ⌜ MadeIs (now (work .entry)) (make c (valuesFrom (now (work .entry)) parts 0 n)) dst (now (work .exit)) o ⌝ }
+pub fn make(work: &mut [u8], c: u8, parts: &[u32; 4], n: u8, dst: u16) -> Made
+    requires { ⌜ PartsHeld (now work) (partsOf (now parts)) n × (n ≤ 4) × (240 * dst + 240 ≤ length (now work)) ⌝ }
+    ensures { λ o. ⌜ MadeIs (now (work .entry)) (make c (valuesFrom (now (work .entry)) (partsOf (now (parts .entry))) 0 n)) dst (now (work .exit)) o ⌝ }
 {
     let f = first_object(parts, n);
     if n <= f {
         return make_alone(work, c, parts, n, dst);
     }
-    let s = parts[f as usize];
-    let v = s.r;
+    let v = part_at(parts, f);
     let ValueRef::Object(b, _) = v else {
         return make_laid(work, c, parts, n, dst);
     };

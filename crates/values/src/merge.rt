@@ -1,20 +1,21 @@
 // Objects of several blocks brought into one, the host, and a new object over them there.
 // Not here: parts that lie in one block already (make), and objects that lead back to themselves, which are laid side by side (make).
 use crate::Made;
-use crate::Slot;
 use crate::ValueRef;
 use crate::bytes::copy;
 use crate::make::make_laid;
 use crate::over::append;
 use crate::over::find;
 use crate::over::level_with;
+use crate::refs::part_at;
 use crate::value::bring;
 use crate::value::copy_block;
 ghost use mathlib.Core.Path.{_≡_};
 ghost use mathlib.Core.Bool.{false};
 ghost use Prim.Native.Nat.{ℕ, _+_, _*_, _<_, _≤_};
-ghost use lib.ListN.{length};
+ghost use lib.ListN.{length, getD};
 ghost use Rattle.cofj.specs.Values.{make};
+ghost use Rattle.values.specs.Refs.{partsOf};
 ghost use Rattle.values.specs.Layout.{Block, Inside, Holds};
 ghost use Rattle.values.specs.Laying.{PartsHeld, valuesFrom, MadeIs};
 ghost use Rattle.values.specs.declared.ValueRef.the-variants.{Object};
@@ -101,6 +102,16 @@ pub fn import_codes(
     import_codes(work, src, i, host, memo, depth, top, k + 1)
 }
 
+// Object i of block b, which has no fields, in block host: its number there, or 32 if there is no room.
+pub fn import_bare(work: &mut [u8], b: u16, i: u8, host: u16) -> u8
+    requires { ⌜ Inside (now work) b i × Block (now work) host × ((b ≡ host) → ⊥) × (getD (now work) (240 * b + 6 * i + 1) 0 ≡ 0) ⌝ }
+    ensures { λ r. ⌜ PartImported (now (work .entry)) (Object b i) host (now (work .exit)) r ⌝ }
+{
+    let mut top = [0u8; 6];
+    take_object(work, b, i, &mut top);
+    enter(work, host, &top)
+}
+
 // Object i of block b, in block host, whose first objects are those of block base: its number there, or 32 as `import` answers it.
 pub fn import_object(work: &mut [u8], b: u16, i: u8, base: u16, host: u16) -> u8
     requires { ⌜ Inside (now work) b i × Begun (now work) base host ⌝ }
@@ -111,6 +122,9 @@ pub fn import_object(work: &mut [u8], b: u16, i: u8, base: u16, host: u16) -> u8
     }
     if b == host {
         return i;
+    }
+    if work[240 * (b as usize) + 6 * (i as usize) + 1] == 0 {
+        return import_bare(work, b, i, host);
     }
     let t = work[240 * (b as usize) + 192];
     let mut memo = [0u8; 32];
@@ -133,14 +147,14 @@ pub fn import_part(work: &mut [u8], v: ValueRef, base: u16, host: u16) -> u8
 pub fn bring_parts(
     work: &mut [u8],
     c: u8,
-    parts: [Slot; 4],
+    parts: &[u32; 4],
     n: u8,
     base: u16,
     host: u16,
     top: &mut [u8],
 ) -> bool
-    requires { ⌜ PartsHeld (now work) parts n × (n ≤ 4) × Begun (now work) base host × (length (now top) ≡ 6) ⌝ }
-    ensures { λ r. ⌜ PartsBrought (now (work .entry)) c parts n host (now (work .exit)) (now (top .exit)) r ⌝ }
+    requires { ⌜ PartsHeld (now work) (partsOf (now parts)) n × (n ≤ 4) × Begun (now work) base host × (length (now top) ≡ 6) ⌝ }
+    ensures { λ r. ⌜ PartsBrought (now (work .entry)) c (partsOf (now (parts .entry))) n host (now (work .exit)) (now (top .exit)) r ⌝ }
 {
     top[0] = c;
     top[1] = n;
@@ -150,8 +164,7 @@ pub fn bring_parts(
     top[5] = 192;
     let mut i: u8 = 0;
     while i < n {
-        let s = parts[i as usize];
-        let v = s.r;
+        let v = part_at(parts, i);
         let r = import_part(work, v, base, host);
         if r == 32 {
             return false;
@@ -166,14 +179,14 @@ pub fn bring_parts(
 pub fn make_in(
     work: &mut [u8],
     c: u8,
-    parts: [Slot; 4],
+    parts: &[u32; 4],
     n: u8,
     base: u16,
     host: u16,
     dst: u16,
 ) -> Made
-    requires { ⌜ PartsHeld (now work) parts n × (n ≤ 4) × Begun (now work) base host × (dst ≤ host) × (240 * dst + 240 ≤ length (now work)) ⌝ }
-    ensures { λ o. ⌜ MadeIs (now (work .entry)) (make c (valuesFrom (now (work .entry)) parts 0 n)) dst (now (work .exit)) o ⌝ }
+    requires { ⌜ PartsHeld (now work) (partsOf (now parts)) n × (n ≤ 4) × Begun (now work) base host × (dst ≤ host) × (240 * dst + 240 ≤ length (now work)) ⌝ }
+    ensures { λ o. ⌜ MadeIs (now (work .entry)) (make c (valuesFrom (now (work .entry)) (partsOf (now (parts .entry))) 0 n)) dst (now (work .exit)) o ⌝ }
 {
     let mut top = [0u8; 6];
     if !bring_parts(work, c, parts, n, base, host, &mut top) {
@@ -201,15 +214,14 @@ pub fn larger(work: &[u8], v: ValueRef, b: u16) -> u16
 }
 
 // The block with the most objects, of block b and those of the parts.
-pub fn largest(work: &[u8], parts: [Slot; 4], n: u8, b: u16) -> u16
-    requires { ⌜ PartsHeld (now work) parts n × (n ≤ 4) × Block (now work) b ⌝ }
-    ensures { λ r. ⌜ r ≡ largestOf (now (work .entry)) parts n b ⌝ }
+pub fn largest(work: &[u8], parts: &[u32; 4], n: u8, b: u16) -> u16
+    requires { ⌜ PartsHeld (now work) (partsOf (now parts)) n × (n ≤ 4) × Block (now work) b ⌝ }
+    ensures { λ r. ⌜ r ≡ largestOf (now (work .entry)) (partsOf (now (parts .entry))) n b ⌝ }
 {
     let mut d = b;
     let mut i: u8 = 0;
     while i < n {
-        let s = parts[i as usize];
-        let v = s.r;
+        let v = part_at(parts, i);
         d = larger(work, v, d);
         i += 1;
     }
@@ -228,14 +240,13 @@ pub fn lies_in(v: ValueRef, d: u16) -> bool
 }
 
 // Whether one of the parts is an object of block d.
-pub fn some_in(parts: [Slot; 4], n: u8, d: u16) -> bool
+pub fn some_in(parts: &[u32; 4], n: u8, d: u16) -> bool
     requires { ⌜ n ≤ 4 ⌝ }
-    ensures { λ r. ⌜ r ≡ someIn parts n d ⌝ }
+    ensures { λ r. ⌜ r ≡ someIn (partsOf (now (parts .entry))) n d ⌝ }
 {
     let mut i: u8 = 0;
     while i < n {
-        let s = parts[i as usize];
-        let v = s.r;
+        let v = part_at(parts, i);
         if lies_in(v, d) {
             return true;
         }
@@ -248,23 +259,23 @@ pub fn some_in(parts: [Slot; 4], n: u8, d: u16) -> bool
 pub fn make_copied(
     work: &mut [u8],
     c: u8,
-    parts: [Slot; 4],
+    parts: &[u32; 4],
     n: u8,
     b: u16,
     host: u16,
     dst: u16,
 ) -> Made
-    requires { ⌜ PartsHeld (now work) parts n × (n ≤ 4) × Block (now work) b × (b < dst) × (dst ≤ host) × (someIn parts n host ≡ false) × (240 * host + 240 ≤ length (now work)) ⌝ }
-    ensures { λ o. ⌜ MadeIs (now (work .entry)) (make c (valuesFrom (now (work .entry)) parts 0 n)) dst (now (work .exit)) o ⌝ }
+    requires { ⌜ PartsHeld (now work) (partsOf (now parts)) n × (n ≤ 4) × Block (now work) b × (b < dst) × (dst ≤ host) × (someIn (partsOf (now parts)) n host ≡ false) × (240 * host + 240 ≤ length (now work)) ⌝ }
+    ensures { λ o. ⌜ MadeIs (now (work .entry)) (make c (valuesFrom (now (work .entry)) (partsOf (now (parts .entry))) 0 n)) dst (now (work .exit)) o ⌝ }
 {
     copy_block(work, b, host);
     make_in(work, c, parts, n, b, host, dst)
 }
 
 // The same with the block after dst for host, if it is there and no part lies in it.
-pub fn make_above(work: &mut [u8], c: u8, parts: [Slot; 4], n: u8, b: u16, dst: u16) -> Made
-    requires { ⌜ PartsHeld (now work) parts n × (n ≤ 4) × Block (now work) b × (b < dst) × (240 * dst + 240 ≤ length (now work)) ⌝ }
-    ensures { λ o. ⌜ MadeIs (now (work .entry)) (make c (valuesFrom (now (work .entry)) parts 0 n)) dst (now (work .exit)) o ⌝ }
+pub fn make_above(work: &mut [u8], c: u8, parts: &[u32; 4], n: u8, b: u16, dst: u16) -> Made
+    requires { ⌜ PartsHeld (now work) (partsOf (now parts)) n × (n ≤ 4) × Block (now work) b × (b < dst) × (240 * dst + 240 ≤ length (now work)) ⌝ }
+    ensures { λ o. ⌜ MadeIs (now (work .entry)) (make c (valuesFrom (now (work .entry)) (partsOf (now (parts .entry))) 0 n)) dst (now (work .exit)) o ⌝ }
 {
     if 65535 <= dst {
         return make_laid(work, c, parts, n, dst);
@@ -280,9 +291,9 @@ pub fn make_above(work: &mut [u8], c: u8, parts: [Slot; 4], n: u8, b: u16, dst: 
 }
 
 // A new object whose parts lie in several blocks, `first` one of them: over the block with the most objects, where it may be written, or over a copy.
-pub fn make_apart(work: &mut [u8], c: u8, parts: [Slot; 4], n: u8, first: u16, dst: u16) -> Made
-    requires { ⌜ PartsHeld (now work) parts n × (n ≤ 4) × Block (now work) first × (240 * dst + 240 ≤ length (now work)) ⌝ }
-    ensures { λ o. ⌜ MadeIs (now (work .entry)) (make c (valuesFrom (now (work .entry)) parts 0 n)) dst (now (work .exit)) o ⌝ }
+pub fn make_apart(work: &mut [u8], c: u8, parts: &[u32; 4], n: u8, first: u16, dst: u16) -> Made
+    requires { ⌜ PartsHeld (now work) (partsOf (now parts)) n × (n ≤ 4) × Block (now work) first × (240 * dst + 240 ≤ length (now work)) ⌝ }
+    ensures { λ o. ⌜ MadeIs (now (work .entry)) (make c (valuesFrom (now (work .entry)) (partsOf (now (parts .entry))) 0 n)) dst (now (work .exit)) o ⌝ }
 {
     let b = largest(work, parts, n, first);
     if dst <= b {

@@ -1,16 +1,17 @@
 // A new object beside the objects of the block where its parts lie, or alone in a block. Not here: parts in several blocks.
 use crate::Made;
-use crate::Slot;
 use crate::ValueRef;
 use crate::bytes::copy;
 use crate::bytes::same_six;
 use crate::number::raise_level;
+use crate::refs::part_at;
 use crate::value::copy_block;
 ghost use mathlib.Core.Path.{_≡_};
 ghost use Prim.Native.Nat.{ℕ, _+_, _*_, _<_, _≤_};
 ghost use mathlib.Core.List.{[]};
 ghost use lib.ListN.{length};
 ghost use Rattle.cofj.specs.Values.{make};
+ghost use Rattle.values.specs.Refs.{partsOf};
 ghost use Rattle.values.specs.Layout.{refOf, rawOf, Packed, Block, countIn, Holds};
 ghost use Rattle.values.specs.Numbers.{Levels};
 ghost use Rattle.values.specs.Laying.{PartsHeld, rawsFrom, valuesFrom, MadeIs};
@@ -29,9 +30,9 @@ pub fn code_of(work: &[u8], r: ValueRef) -> u8
 }
 
 // The new object of class c, to the front of `top`.
-pub fn root_object(work: &[u8], c: u8, parts: [Slot; 4], n: u8, top: &mut [u8])
-    requires { ⌜ PartsHeld (now work) parts n × (n ≤ 4) × (6 ≤ length (now top)) ⌝ }
-    ensures { λ _. ⌜ RootObject c (rawsFrom (now (work .entry)) parts 0 n) (now (top .exit)) ⌝ }
+pub fn root_object(work: &[u8], c: u8, parts: &[u32; 4], n: u8, top: &mut [u8])
+    requires { ⌜ PartsHeld (now work) (partsOf (now parts)) n × (n ≤ 4) × (6 ≤ length (now top)) ⌝ }
+    ensures { λ _. ⌜ RootObject c (rawsFrom (now (work .entry)) (partsOf (now (parts .entry))) 0 n) (now (top .exit)) ⌝ }
 {
     top[0] = c;
     top[1] = n;
@@ -41,8 +42,7 @@ pub fn root_object(work: &[u8], c: u8, parts: [Slot; 4], n: u8, top: &mut [u8])
     top[5] = 192;
     let mut i: u8 = 0;
     while i < n {
-        let s = parts[i as usize];
-        let v = s.r;
+        let v = part_at(parts, i);
         top[2 + i as usize] = code_of(work, v);
         i += 1;
     }
@@ -103,9 +103,9 @@ pub fn add(work: &mut [u8], b: u16, top: &[u8], dst: u16)
 }
 
 // A new object whose parts are no objects.
-pub fn make_alone(work: &mut [u8], c: u8, parts: [Slot; 4], n: u8, dst: u16) -> Made
-    requires { ⌜ PartsHeld (now work) parts n × (n ≤ 4) × Leaves parts n × (240 * dst + 240 ≤ length (now work)) ⌝ }
-    ensures { λ o. ⌜ MadeIs (now (work .entry)) (make c (valuesFrom (now (work .entry)) parts 0 n)) dst (now (work .exit)) o ⌝ }
+pub fn make_alone(work: &mut [u8], c: u8, parts: &[u32; 4], n: u8, dst: u16) -> Made
+    requires { ⌜ PartsHeld (now work) (partsOf (now parts)) n × (n ≤ 4) × Leaves (partsOf (now parts)) n × (240 * dst + 240 ≤ length (now work)) ⌝ }
+    ensures { λ o. ⌜ MadeIs (now (work .entry)) (make c (valuesFrom (now (work .entry)) (partsOf (now (parts .entry))) 0 n)) dst (now (work .exit)) o ⌝ }
 {
     let mut top = [0u8; 6];
     root_object(work, c, parts, n, &mut top);

@@ -3,7 +3,6 @@ use Rattle.evaluator.proofs.eval.parts_at.Statement.{statement}
 use Rattle.evaluator.proofs.eval.parts_at.Tie as tie
 use Rattle.evaluator.proofs.eval.parts_at.Reads as reads
 use Rattle.evaluator.proofs.eval.parts_at.Lts as lts
-use Rattle.evaluator.proofs.refs.unpack.Reads as unpack-reads
 use Rattle.evaluator.proofs.LeafLaws as laws
 
 returns : tie.Need-returns
@@ -15,17 +14,13 @@ parts-at-spec =
     (tie.spec
     (λ c. search needs)
     (λ c. search needs)
-    (λ c κs. search needs)
     (λ c. search needs)
     (λ c. search needs)
     (λ c. search needs)
-    (λ c κs. search needs)
     (λ c. search needs)
     (λ c. search needs)
     (λ c. search needs)
-    (λ c κs. search needs)
     (λ c. search needs)
     (λ c. search needs)
     (λ c. search needs)
-    (λ c κs. search needs)
     returns)

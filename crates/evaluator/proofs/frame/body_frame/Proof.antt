@@ -4,7 +4,7 @@ use Rattle.evaluator.proofs.frame.body_frame.Tie as tie
 use Rattle.evaluator.proofs.frame.body_frame.Reads as reads
 use Rattle.evaluator.proofs.frame.body_frame.Lts as lts
 use Rattle.evaluator.proofs.frame.held_mark.Reads as held-mark-reads
-use Rattle.evaluator.proofs.refs.unpack.Reads as unpack-reads
+use Rattle.values.proofs.refs.unpack.Reads as unpack-reads
 use Rattle.evaluator.proofs.FrameLaws as laws
 
 returns : tie.Need-returns

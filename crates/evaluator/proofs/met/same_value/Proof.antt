@@ -3,7 +3,7 @@ use Rattle.evaluator.proofs.met.same_value.Statement.{statement}
 use Rattle.evaluator.proofs.met.same_value.Tie as tie
 use Rattle.evaluator.proofs.met.same_value.Reads as reads
 use Rattle.evaluator.proofs.met.same_value.Lts as lts
-use Rattle.evaluator.proofs.refs.unpack.Reads as unpack-reads
+use Rattle.values.proofs.refs.unpack.Reads as unpack-reads
 use Rattle.values.proofs.lockstep.equal.Reads as equal-reads
 use Rattle.evaluator.proofs.StateLaws as laws
 

@@ -3,7 +3,7 @@ use Rattle.evaluator.proofs.run.out_of.Statement.{statement}
 use Rattle.evaluator.proofs.run.out_of.Tie as tie
 use Rattle.evaluator.proofs.run.out_of.Reads as reads
 use Rattle.evaluator.proofs.run.out_of.Lts as lts
-use Rattle.evaluator.proofs.refs.unpack.Reads as unpack-reads
+use Rattle.values.proofs.refs.unpack.Reads as unpack-reads
 use Rattle.evaluator.proofs.run.stop_of.Reads as stop-of-reads
 use Rattle.evaluator.proofs.LeafLaws as laws
 

@@ -3,16 +3,18 @@ use Rattle.values.proofs.make.first_object.Tie as tie
 use Rattle.values.proofs.make.first_object.Reads as reads
 use Rattle.values.proofs.make.first_object.Lts as lts
 use Rattle.values.proofs.make.is_object.Reads as is-object-reads
+use Rattle.values.proofs.refs.part_at.Reads as part-at-reads
 use borrow.Author.Needs.{needs}
 use Prim.Native.Nat.{_≤_, _-_}
+use Rattle.values.specs.Refs.{partsOf}
 use Rattle.values.specs.Adding.{Leaves}
 use Rattle.values.proofs.Beside as laws
 
 abbrev Inv-loop : tie.InvT-loop
-Inv-loop n parts i₀ i = (i ≤ n) × Leaves parts i
+Inv-loop parts n i₀ i = (i ≤ n) × Leaves (partsOf parts) i
 
 abbrev μ-loop : tie.MeasureT-loop
-μ-loop n parts i₀ i = n - i
+μ-loop parts n i₀ i = n - i
 
 loop-holds : tie.Need-loop-holds Inv-loop μ-loop
 loop-holds c = (search needs, laws.leaves-none _)
@@ -33,9 +35,7 @@ first-object-spec =
     Inv-loop
     μ-loop
     loop-holds
-    (λ c. search needs)
-    (λ c. search needs)
-    (λ c. search needs)
+    (λ c κs. search needs)
     (λ c κs. search needs)
     returns
     (λ c. search needs)

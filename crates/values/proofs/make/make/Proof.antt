@@ -9,6 +9,7 @@ use Rattle.values.proofs.make.make_laid.Reads as make-laid-reads
 use Rattle.values.proofs.make.together.Reads as together-reads
 use Rattle.values.proofs.merge.make_apart.Reads as make-apart-reads
 use Rattle.values.proofs.over.make_alone.Reads as make-alone-reads
+use Rattle.values.proofs.refs.part_at.Reads as part-at-reads
 use Rattle.values.proofs.Tests as tests
 use Rattle.values.proofs.Beside as laws
 
@@ -29,9 +30,7 @@ make-spec =
     make-alone-requires
     (λ c. search needs)
     (λ c. search needs)
-    (λ c. search needs)
-    (λ c. search needs)
-    (λ c. search needs)
+    (λ c κs. search needs)
     (λ c. search needs)
     (λ c κs. search needs)
     (λ c. search needs)

@@ -3,18 +3,20 @@ use Rattle.values.proofs.make.together.Tie as tie
 use Rattle.values.proofs.make.together.Reads as reads
 use Rattle.values.proofs.make.together.Lts as lts
 use Rattle.values.proofs.make.stands.Reads as stands-reads
+use Rattle.values.proofs.refs.part_at.Reads as part-at-reads
 use borrow.Author.Needs.{needs}
 use Prim.Native.Nat.{_≤_, _-_}
+use Rattle.values.specs.Refs.{partsOf}
 use mathlib.Core.Path.{_≡_}
 use mathlib.Core.Bool.{true}
 use Rattle.values.specs.Adding.{allStand}
 use Rattle.values.proofs.Beside as laws
 
 abbrev Inv-loop : tie.InvT-loop
-Inv-loop n b parts i₀ i = (i ≤ n) × (allStand parts i b ≡ true)
+Inv-loop parts n b i₀ i = (i ≤ n) × (allStand (partsOf parts) i b ≡ true)
 
 abbrev μ-loop : tie.MeasureT-loop
-μ-loop n b parts i₀ i = n - i
+μ-loop parts n b i₀ i = n - i
 
 loop-holds : tie.Need-loop-holds Inv-loop μ-loop
 loop-holds c = (search needs, laws.each-none _ 0 _)
@@ -35,9 +37,7 @@ together-spec =
     Inv-loop
     μ-loop
     loop-holds
-    (λ c. search needs)
-    (λ c. search needs)
-    (λ c. search needs)
+    (λ c κs. search needs)
     (λ c κs. search needs)
     returns
     (λ c. search needs)

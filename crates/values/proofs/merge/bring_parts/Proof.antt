@@ -3,19 +3,21 @@ use Rattle.values.proofs.merge.bring_parts.Tie as tie
 use Rattle.values.proofs.merge.bring_parts.Reads as reads
 use Rattle.values.proofs.merge.bring_parts.Lts as lts
 use Rattle.values.proofs.merge.import_part.Reads as import-part-reads
+use Rattle.values.proofs.refs.part_at.Reads as part-at-reads
 use borrow.Author.Needs.{needs}
-use native.Mathlib.Omega.{arith}
 use Prim.Native.Nat.{_≤_, _-_}
+use Rattle.values.specs.Refs.{partsOf}
 use mathlib.Core.Path.{_≡_}
+use native.Mathlib.Omega.{arith}
 use lib.ListN.{length, length-set}
 use Rattle.values.specs.Merging.{Grown, RootBrought}
 use Rattle.values.proofs.Merges as laws
 
 abbrev Inv-loop : tie.InvT-loop
-Inv-loop work₀ c n base host top₀ parts i₀ work top i = (i ≤ n) × (length work ≡ length work₀) × (length top ≡ length top₀) × Grown host work₀ work × RootBrought work₀ c parts n i work host top
+Inv-loop work₀ c parts n base host top₀ i₀ work top i = (i ≤ n) × (length work ≡ length work₀) × (length top ≡ length top₀) × Grown host work₀ work × RootBrought work₀ c (partsOf parts) n i work host top
 
 abbrev μ-loop : tie.MeasureT-loop
-μ-loop work₀ c n base host top₀ parts i₀ work top i = n - i
+μ-loop work₀ c parts n base host top₀ i₀ work top i = n - i
 
 slice-write-top-2 : tie.Need-slice-write-top-2 Inv-loop μ-loop
 slice-write-top-2 c = simp length-set (omega arith)
@@ -36,9 +38,7 @@ loop-holds : tie.Need-loop-holds Inv-loop μ-loop
 loop-holds c = (search needs, search needs, search needs, search laws.brought-start, search laws.brought-none)
 
 import-part-requires : tie.Need-import-part-requires Inv-loop μ-loop
-import-part-requires c κs =
-    let al = c .before .before .before in
-    (search laws.brought-held, laws.begun-grown _ _ _ (al .loop .inv .3) _ (al .before .before .before .pre .2))
+import-part-requires c κs = let al = c .before .before .before in (search laws.brought-held, laws.begun-grown _ _ _ (al .loop .inv .3) _ (al .before .before .before .pre .2))
 
 same-length-2 : tie.Need-same-length-2 Inv-loop μ-loop
 same-length-2 c = omega (arith, simp length-set at (c .before .before .before .before .before .before .before .loop .inv .2))
@@ -71,9 +71,7 @@ bring-parts-spec =
     slice-write-top-5
     slice-write-top-6
     loop-holds
-    (λ c. search needs)
-    (λ c. search needs)
-    (λ c. search needs)
+    (λ c κs. search needs)
     import-part-requires
     (λ c. search needs)
     same-length-2

@@ -4,6 +4,7 @@ use Rattle.values.proofs.merge.import_object.Tie as tie
 use Rattle.values.proofs.merge.import_object.Reads as reads
 use Rattle.values.proofs.merge.import_object.Lts as lts
 use Rattle.values.proofs.merge.import.Reads as import-reads
+use Rattle.values.proofs.merge.import_bare.Reads as import-bare-reads
 use Rattle.values.proofs.Merges as laws
 
 returns : tie.Need-returns
@@ -15,8 +16,8 @@ returns-2 c = search laws.object-host
 import-requires : tie.Need-import-requires
 import-requires c κs = search laws.object-importing
 
-returns-3 : tie.Need-returns-3
-returns-3 c = search laws.object-other
+returns-4 : tie.Need-returns-4
+returns-4 c = search laws.object-other
 
 pub import-object-spec : {M : Type 1} → statement M
 import-object-spec =
@@ -28,6 +29,14 @@ import-object-spec =
     (λ c. search needs)
     (λ c. search needs)
     (λ c. search needs)
+    (λ c. search needs)
+    (λ c κs. search needs)
+    (λ c. search needs)
+    (λ c. search needs)
+    (λ c. search needs)
+    (λ c. search needs)
+    (λ c. search needs)
+    (λ c. search needs)
     import-requires
     (λ c. search needs)
-    returns-3)
+    returns-4)

@@ -3,23 +3,26 @@ use Rattle.values.proofs.merge.largest.Tie as tie
 use Rattle.values.proofs.merge.largest.Reads as reads
 use Rattle.values.proofs.merge.largest.Lts as lts
 use Rattle.values.proofs.merge.larger.Reads as larger-reads
+use Rattle.values.proofs.refs.part_at.Reads as part-at-reads
 use borrow.Author.Needs.{needs}
 use Prim.Native.Nat.{_≤_, _-_}
+use Rattle.values.specs.Refs.{partsOf}
 use mathlib.Core.Path.{_≡_}
 use Rattle.values.specs.Merging.{largestOf}
+use Rattle.values.proofs.Lays as lays
 use Rattle.values.proofs.Merges as laws
 
 abbrev Inv-loop : tie.InvT-loop
-Inv-loop work n b parts d₀ i₀ d i = (i ≤ n) × (d ≡ largestOf work parts i b)
+Inv-loop work parts n b d₀ i₀ d i = (i ≤ n) × (d ≡ largestOf work (partsOf parts) i b)
 
 abbrev μ-loop : tie.MeasureT-loop
-μ-loop work n b parts d₀ i₀ d i = n - i
-
-larger-requires : tie.Need-larger-requires Inv-loop μ-loop
-larger-requires c κs = (search laws.largest-held, search laws.largest-so-far)
+μ-loop work parts n b d₀ i₀ d i = n - i
 
 loop-holds : tie.Need-loop-holds Inv-loop μ-loop
 loop-holds c = (search needs, laws.largest-none _ _ 0 _)
+
+larger-requires : tie.Need-larger-requires Inv-loop μ-loop
+larger-requires c κs = (search lays.part-held, search laws.largest-so-far)
 
 loop-again : tie.Need-loop-again Inv-loop μ-loop
 loop-again c = (search needs, search laws.largest-more)
@@ -34,9 +37,7 @@ largest-spec =
     Inv-loop
     μ-loop
     loop-holds
-    (λ c. search needs)
-    (λ c. search needs)
-    (λ c. search needs)
+    (λ c κs. search needs)
     larger-requires
     (λ c. search needs)
     (λ c. search needs)

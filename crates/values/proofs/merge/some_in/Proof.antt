@@ -3,18 +3,20 @@ use Rattle.values.proofs.merge.some_in.Tie as tie
 use Rattle.values.proofs.merge.some_in.Reads as reads
 use Rattle.values.proofs.merge.some_in.Lts as lts
 use Rattle.values.proofs.merge.lies_in.Reads as lies-in-reads
+use Rattle.values.proofs.refs.part_at.Reads as part-at-reads
 use borrow.Author.Needs.{needs}
 use Prim.Native.Nat.{_≤_, _-_}
+use Rattle.values.specs.Refs.{partsOf}
 use mathlib.Core.Path.{_≡_}
 use mathlib.Core.Bool.{false}
 use Rattle.values.specs.Merging.{someIn}
 use Rattle.values.proofs.Merges as laws
 
 abbrev Inv-loop : tie.InvT-loop
-Inv-loop n d parts i₀ i = (i ≤ n) × (someIn parts i d ≡ false)
+Inv-loop parts n d i₀ i = (i ≤ n) × (someIn (partsOf parts) i d ≡ false)
 
 abbrev μ-loop : tie.MeasureT-loop
-μ-loop n d parts i₀ i = n - i
+μ-loop parts n d i₀ i = n - i
 
 loop-holds : tie.Need-loop-holds Inv-loop μ-loop
 loop-holds c = (search needs, laws.away-none _ 0 _)
@@ -35,9 +37,7 @@ some-in-spec =
     Inv-loop
     μ-loop
     loop-holds
-    (λ c. search needs)
-    (λ c. search needs)
-    (λ c. search needs)
+    (λ c κs. search needs)
     (λ c κs. search needs)
     returns
     (λ c. search needs)

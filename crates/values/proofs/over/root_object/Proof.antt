@@ -3,18 +3,21 @@ use Rattle.values.proofs.over.root_object.Tie as tie
 use Rattle.values.proofs.over.root_object.Reads as reads
 use Rattle.values.proofs.over.root_object.Lts as lts
 use Rattle.values.proofs.over.code_of.Reads as code-of-reads
+use Rattle.values.proofs.refs.part_at.Reads as part-at-reads
 use borrow.Author.Needs.{needs}
-use mathlib.Core.Path.{_≡_}
 use Prim.Native.Nat.{_≤_, _-_}
+use Rattle.values.specs.Refs.{partsOf}
+use mathlib.Core.Path.{_≡_}
 use native.Mathlib.Omega.{arith}
 use lib.ListN.{length, length-set}
+use Rattle.values.proofs.Lays as lays
 use Rattle.values.proofs.Beside as laws
 
 abbrev Inv-loop : tie.InvT-loop
-Inv-loop work c n top₀ parts i₀ top i = (i ≤ n) × (length top ≡ length top₀) × laws.RootBegun work c parts n i top
+Inv-loop work c parts n top₀ i₀ top i = (i ≤ n) × (length top ≡ length top₀) × laws.RootBegun work c (partsOf parts) n i top
 
 abbrev μ-loop : tie.MeasureT-loop
-μ-loop work c n top₀ parts i₀ top i = n - i
+μ-loop work c parts n top₀ i₀ top i = n - i
 
 slice-write-top-2 : tie.Need-slice-write-top-2 Inv-loop μ-loop
 slice-write-top-2 c = simp length-set (omega arith)
@@ -35,13 +38,13 @@ loop-holds : tie.Need-loop-holds Inv-loop μ-loop
 loop-holds c = (search needs, search needs, search laws.root-object-start)
 
 code-of-requires : tie.Need-code-of-requires Inv-loop μ-loop
-code-of-requires c κs = c .before .before .before .before .before .pre .0 .part _ (c .before .loop-test .taken)
+code-of-requires c κs = search lays.part-held
 
 slice-write-top-7 : tie.Need-slice-write-top-7 Inv-loop μ-loop
 slice-write-top-7 c = omega (arith, c .before .before .before .loop .inv .2 .long)
 
 loop-again : tie.Need-loop-again Inv-loop μ-loop
-loop-again c = (search needs, search laws.set-length, search laws.root-object-more)
+loop-again c = (search needs, search laws.set-length, laws.root-object-more _ _ _ _ _ _ _ _ (c .before .before .before .loop .inv .2) (c .before .before .loop-test .taken) (c .before .before .before .before .before .before .pre .1) (c .before .part-at .ensures) (c .code-of .ensures))
 
 same-length : tie.Need-same-length Inv-loop μ-loop
 same-length c = omega (arith, simp length-set at (c .before .loop .inv .1))
@@ -62,9 +65,7 @@ root-object-spec =
     slice-write-top-5
     slice-write-top-6
     loop-holds
-    (λ c. search needs)
-    (λ c. search needs)
-    (λ c. search needs)
+    (λ c κs. search needs)
     code-of-requires
     (λ c. search needs)
     (λ c. search needs)

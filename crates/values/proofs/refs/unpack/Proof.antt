@@ -1,9 +1,9 @@
 use borrow.Author.Needs.{needs}
-use Rattle.evaluator.proofs.refs.unpack.Statement.{statement}
-use Rattle.evaluator.proofs.refs.unpack.Tie as tie
-use Rattle.evaluator.proofs.refs.unpack.Reads as reads
-use Rattle.evaluator.proofs.refs.unpack.Lts as lts
-use Rattle.evaluator.proofs.RefLaws as laws
+use Rattle.values.proofs.refs.unpack.Statement.{statement}
+use Rattle.values.proofs.refs.unpack.Tie as tie
+use Rattle.values.proofs.refs.unpack.Reads as reads
+use Rattle.values.proofs.refs.unpack.Lts as lts
+use Rattle.values.proofs.RefLaws as laws
 
 returns : tie.Need-returns
 returns c = search laws.object-in

@@ -1,0 +1,19 @@
+use borrow.Author.Needs.{needs}
+use Rattle.values.proofs.refs.part_at.Statement.{statement}
+use Rattle.values.proofs.refs.part_at.Tie as tie
+use Rattle.values.proofs.refs.part_at.Reads as reads
+use Rattle.values.proofs.refs.part_at.Lts as lts
+use Rattle.values.proofs.refs.unpack.Reads as unpack-reads
+use Rattle.values.proofs.RefLaws as laws
+
+returns : tie.Need-returns
+returns c = search laws.part-in
+
+pub part-at-spec : {M : Type 1} → statement M
+part-at-spec =
+    tie.close
+    (tie.spec
+    (λ c. search needs)
+    (λ c. search needs)
+    (λ c κs. search needs)
+    returns)
