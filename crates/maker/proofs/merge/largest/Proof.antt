@@ -1,0 +1,44 @@
+use Rattle.maker.proofs.merge.largest.Statement.{statement}
+use Rattle.maker.proofs.merge.largest.Tie as tie
+use Rattle.maker.proofs.merge.largest.Reads as reads
+use Rattle.maker.proofs.merge.largest.Lts as lts
+use Rattle.maker.proofs.merge.larger.Reads as larger-reads
+use borrow.Author.Needs.{needs}
+use Prim.Native.Nat.{_≤_, _-_}
+use mathlib.Core.Path.{_≡_}
+use Rattle.maker.specs.Merging.{largestOf}
+use Rattle.maker.proofs.Merges as laws
+
+abbrev Inv-loop : tie.InvT-loop
+Inv-loop work n b parts d₀ i₀ d i = (i ≤ n) × (d ≡ largestOf work parts i b)
+
+abbrev μ-loop : tie.MeasureT-loop
+μ-loop work n b parts d₀ i₀ d i = n - i
+
+larger-requires : tie.Need-larger-requires Inv-loop μ-loop
+larger-requires c κs = (search laws.largest-held, search laws.largest-so-far)
+
+loop-holds : tie.Need-loop-holds Inv-loop μ-loop
+loop-holds c = (search needs, laws.largest-none _ _ 0 _)
+
+loop-again : tie.Need-loop-again Inv-loop μ-loop
+loop-again c = (search needs, search laws.largest-more)
+
+returns : tie.Need-returns Inv-loop μ-loop
+returns c = search laws.largest-done
+
+pub largest-spec : {M : Type 1} → statement M
+largest-spec =
+    tie.close
+    (tie.spec
+    Inv-loop
+    μ-loop
+    loop-holds
+    (λ c. search needs)
+    (λ c. search needs)
+    (λ c. search needs)
+    larger-requires
+    (λ c. search needs)
+    (λ c. search needs)
+    loop-again
+    returns)
