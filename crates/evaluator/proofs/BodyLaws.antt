@@ -22,10 +22,10 @@ use Rattle.checker.proofs.Known.{method-at}
 use Rattle.checker.proofs.OnBytes.{index-below}
 use Rattle.values.specs.declared.ValueRef.{ValueRef}
 use Rattle.values.specs.declared.ValueRef.the-variants.{Mark}
-use Rattle.values.specs.declared.Slot.{Slot}
+use Rattle.maker.specs.declared.Slot.{Slot}
 use Rattle.values.specs.Layout.{valueOf}
 use Rattle.values.specs.Operations.{Gives}
-use Rattle.values.specs.Laying.{valuesFrom}
+use Rattle.maker.specs.Laying.{valuesFrom}
 use Rattle.evaluator.specs.declared.Stop.{Stop}
 use Rattle.evaluator.specs.declared.Out.{Out}
 use Rattle.evaluator.specs.declared.Out.the-variants.{Value, Halt}

@@ -10,9 +10,9 @@ use Rattle.cofj.specs.Running.{openMark, invoke}
 use Rattle.classes.specs.declared.methods.Found.{Found}
 use Rattle.classes.specs.declared.methods.Found.the-variants as found
 use Rattle.values.specs.declared.ValueRef.{ValueRef}
-use Rattle.values.specs.declared.Slot.{Slot}
+use Rattle.maker.specs.declared.Slot.{Slot}
 use Rattle.values.specs.Layout.{valueOf, Holds}
-use Rattle.values.specs.Laying.{valuesFrom, PartsHeld}
+use Rattle.maker.specs.Laying.{valuesFrom, PartsHeld}
 use Rattle.evaluator.specs.declared.Stop.the-variants.{Stuck, NoFuel, TooDeep}
 use Rattle.evaluator.specs.declared.Out.{Out}
 use Rattle.evaluator.specs.declared.Out.the-variants.{Value, Halt}

@@ -32,11 +32,12 @@ use Rattle.checker.proofs.Known.{method-at}
 use Rattle.values.specs.declared.ValueRef.{ValueRef}
 use Rattle.values.specs.declared.ValueRef.the-variants.{Object, Mark, Undetermined}
 use Rattle.values.proofs.ValueRef as RefT
-use Rattle.values.specs.Layout.{nodeIn, countIn, objectsIn, graphAt, Inside, HeldBy, valueOf, Holds}
+use Rattle.canon.specs.Layout.{nodeIn, countIn, objectsIn, graphAt, Inside}
+use Rattle.values.specs.Layout.{HeldBy, valueOf, Holds}
 use Rattle.values.proofs.Blocks.{whole-at}
 use Rattle.cofj.proofs.Canon.{canon-same}
 use Rattle.cofj.specs.Unfolding.{object, labelAt}
-use Rattle.values.proofs.Nodes.{at-nodes}
+use Rattle.canon.proofs.Nodes.{at-nodes}
 use Rattle.evaluator.specs.Evaluation.{Tabled}
 use Rattle.evaluator.specs.Calling.{FewIf, FindsTarget}
 use Rattle.evaluator.proofs.StateLaws.{get-past}

@@ -11,7 +11,7 @@ use Rattle.checker.specs.declared.shape.Shape.the-variants as shape
 use Rattle.checker.specs.Shapes.{shapeAt}
 use Rattle.values.specs.declared.ValueRef.{ValueRef}
 use Rattle.values.specs.declared.ValueRef.the-variants.{Mark}
-use Rattle.values.specs.declared.Slot.{Slot}
+use Rattle.maker.specs.declared.Slot.{Slot}
 use Rattle.evaluator.specs.declared.Stop.the-variants.{Stuck}
 use Rattle.evaluator.specs.declared.frame.Held.{Held}
 use Rattle.evaluator.specs.declared.frame.Held.the-variants.{Is, Absent}

@@ -9,7 +9,7 @@ use Rattle.cofj.specs.Writing.{codeOf, codesOf}
 use Rattle.cofj.specs.Running.{Outcome, value, stopped, _then_}
 use Rattle.values.specs.declared.ValueRef.{ValueRef}
 use Rattle.values.specs.Layout.{valueOf}
-use Rattle.values.specs.Laying.{valuesFrom}
+use Rattle.maker.specs.Laying.{valuesFrom}
 use Rattle.evaluator.specs.declared.Stop.{Stop}
 use Rattle.evaluator.specs.declared.Out.{Out}
 use Rattle.evaluator.specs.declared.Out.the-variants.{Value, Halt}

@@ -10,9 +10,10 @@ use Rattle.cofj.specs.Values.{Graph}
 use Rattle.cofj.specs.Running as language
 use Rattle.values.specs.declared.ValueRef.{ValueRef}
 use Rattle.values.specs.declared.ValueRef.the-variants.{Object, Mark, Undetermined}
-use Rattle.values.specs.declared.Slot.{Slot}
-use Rattle.values.specs.Layout.{valueOf, Outside, Low}
-use Rattle.values.specs.Laying.{valuesFrom, PartsHeld}
+use Rattle.maker.specs.declared.Slot.{Slot}
+use Rattle.canon.specs.Layout.{Outside}
+use Rattle.values.specs.Layout.{valueOf, Low}
+use Rattle.maker.specs.Laying.{valuesFrom, PartsHeld}
 use Rattle.values.proofs.Kept as values
 use Rattle.values.proofs.Kept.{object-kept}
 use Rattle.evaluator.specs.declared.frame.Held.{Held}

@@ -13,16 +13,16 @@ use Rattle.cofj.specs.Values.{Graph, make}
 use Rattle.cofj.specs.Running as language
 use Rattle.cofj.specs.Running.{value, stopped, _then_, sized}
 use Rattle.values.specs.declared.ValueRef.{ValueRef}
-use Rattle.values.specs.declared.Slot.{Slot}
-use Rattle.values.specs.declared.Made.{Made}
-use Rattle.values.specs.declared.Made.the-variants as made
+use Rattle.maker.specs.declared.Slot.{Slot}
+use Rattle.maker.specs.declared.Made.{Made}
+use Rattle.maker.specs.declared.Made.the-variants as made
 use Rattle.values.specs.Layout.{valueOf}
-use Rattle.values.specs.Laying.{valuesFrom, PartsHeld, madeIn, MadeHeld, MadePlace, MadeIs}
+use Rattle.maker.specs.Laying.{valuesFrom, PartsHeld, madeIn, MadeHeld, MadePlace, MadeIs, partsOf}
 use Rattle.evaluator.specs.declared.Stop.{Stop}
 use Rattle.evaluator.specs.declared.Stop.the-variants.{Stuck, NoFuel, TooDeep, TooLarge}
 use Rattle.evaluator.specs.declared.Out.{Out}
 use Rattle.evaluator.specs.declared.Out.the-variants.{Value, Halt}
-use Rattle.values.specs.Refs.{refIn, partsOf}
+use Rattle.values.specs.Refs.{refIn}
 use Rattle.evaluator.specs.Refs.{Small}
 use Rattle.evaluator.specs.State.{PartsOlder, refAt}
 use Rattle.evaluator.specs.Answers.{Listed, Values, Stops, slotsOf, listIn, ListOlder, ListNext, Finishes}

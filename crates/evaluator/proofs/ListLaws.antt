@@ -21,7 +21,7 @@ use Rattle.values.specs.declared.Selected.{Selected}
 use Rattle.values.specs.declared.Selected.the-variants as selected
 use Rattle.values.specs.Layout.{valueOf}
 use Rattle.values.specs.Operations.{answerIn, AnswerHeld, AnswerLow, Chosen}
-use Rattle.values.specs.Laying.{valuesFrom}
+use Rattle.maker.specs.Laying.{valuesFrom}
 use Rattle.evaluator.specs.declared.Stop.{Stop}
 use Rattle.evaluator.specs.declared.Stop.the-variants.{Stuck}
 use Rattle.evaluator.specs.declared.Out.{Out}

@@ -11,7 +11,8 @@ use Rattle.cofj.specs.Values.{select}
 use Rattle.values.specs.declared.ValueRef.{ValueRef}
 use Rattle.values.specs.declared.ValueRef.the-variants.{Object, Mark, Undetermined}
 use Rattle.values.specs.declared.Selected.the-variants as selected
-use Rattle.values.specs.Layout.{Inside, HeldBy, Holds, Low}
+use Rattle.canon.specs.Layout.{Inside}
+use Rattle.values.specs.Layout.{HeldBy, Holds, Low}
 use Rattle.values.specs.Operations.{Chosen, Leaf}
 use Rattle.values.proofs.RefLaws.{object-in}
 use Rattle.values.proofs.Blocks.{inside-room}

@@ -8,7 +8,7 @@ use lib.ListN.{length, getD, set, replicate, length-set, length-replicate, getD-
 use lib.Seq.{getD-set-same, getD-set-other}
 use Rattle.cofj.specs.Running.{runWithin, mainFrame}
 use Rattle.classes.proofs.Zones.{main-stands}
-use Rattle.values.specs.Laying.{valuesFrom}
+use Rattle.maker.specs.Laying.{valuesFrom}
 use Rattle.evaluator.specs.declared.Out.{Out}
 use Rattle.evaluator.specs.declared.frame.Held.the-variants.{Absent}
 use Rattle.evaluator.specs.State.{HeldOlder, heldIn, frameIn, traceIn}

@@ -17,9 +17,9 @@ use Rattle.cofj.specs.Running.{openMark}
 use Rattle.classes.specs.Machine.{pick}
 use Rattle.values.specs.declared.ValueRef.{ValueRef}
 use Rattle.values.specs.declared.ValueRef.the-variants.{Object, Mark, Undetermined}
-use Rattle.values.specs.declared.Slot.{Slot}
+use Rattle.maker.specs.declared.Slot.{Slot}
 use Rattle.values.specs.Layout.{valueOf, Holds}
-use Rattle.values.specs.Laying.{valuesFrom, PartsHeld}
+use Rattle.maker.specs.Laying.{valuesFrom, PartsHeld}
 use Rattle.values.proofs.Steps.{one-block, mark-mark, undet-undet}
 use Rattle.values.specs.Refs.{refIn}
 use Rattle.evaluator.specs.Refs.{apartOf}

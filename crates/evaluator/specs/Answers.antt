@@ -7,9 +7,9 @@ use Rattle.cofj.specs.Values.{Graph, make}
 use Rattle.cofj.specs.Running as language
 use Rattle.cofj.specs.Running.{Outcome, value, stopped, _then_}
 use Rattle.values.specs.declared.ValueRef.{ValueRef}
-use Rattle.values.specs.declared.Slot.{Slot}
+use Rattle.maker.specs.declared.Slot.{Slot}
 use Rattle.values.specs.Layout.{valueOf}
-use Rattle.values.specs.Laying.{valuesFrom}
+use Rattle.maker.specs.Laying.{valuesFrom}
 use Rattle.evaluator.specs.declared.Stop.{Stop}
 use Rattle.evaluator.specs.declared.Stop.the-variants.{Stuck, NoFuel, TooDeep, TooLarge}
 use Rattle.evaluator.specs.declared.Out.{Out}

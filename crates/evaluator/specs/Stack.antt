@@ -9,7 +9,7 @@ use lib.ListN.{length, getD}
 use Rattle.classes.specs.Machine.{pick}
 use Rattle.values.specs.declared.ValueRef.{ValueRef}
 use Rattle.values.specs.declared.ValueRef.the-variants.{Object, Mark, Undetermined}
-use Rattle.values.specs.declared.Slot.{Slot}
+use Rattle.maker.specs.declared.Slot.{Slot}
 use Rattle.checker.specs.declared.shape.Shape.{Shape}
 use Rattle.checker.specs.declared.shape.Shape.the-variants as shape
 use Rattle.evaluator.specs.declared.stack.Went.{Went}

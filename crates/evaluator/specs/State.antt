@@ -11,9 +11,10 @@ use Rattle.cofj.specs.Running as language
 use Rattle.classes.specs.Machine.{pick}
 use Rattle.values.specs.declared.ValueRef.{ValueRef}
 use Rattle.values.specs.declared.ValueRef.the-variants.{Object}
-use Rattle.values.specs.declared.Slot.{Slot}
-use Rattle.values.specs.Layout.{valueOf, Holds, Low, Beneath}
-use Rattle.values.specs.Laying.{valuesFrom, PartsHeld}
+use Rattle.maker.specs.declared.Slot.{Slot}
+use Rattle.canon.specs.Layout.{Beneath}
+use Rattle.values.specs.Layout.{valueOf, Holds, Low}
+use Rattle.maker.specs.Laying.{valuesFrom, PartsHeld}
 use Rattle.evaluator.specs.declared.frame.Held.{Held}
 use Rattle.evaluator.specs.declared.frame.Held.the-variants.{Is, Absent}
 use Rattle.evaluator.specs.declared.frame.Frame.{Frame}

@@ -10,7 +10,7 @@ use crate::stack::stop;
 use checker::shape::Shape;
 use checker::shape::shape_at;
 use classes::places::SIZE;
-use values::Slot;
+use maker::Slot;
 use values::ValueRef;
 use values::refs::unpack;
 ghost use mathlib.Core.Path.{_≡_};

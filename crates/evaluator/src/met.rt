@@ -10,7 +10,7 @@ ghost use Prim.Native.Nat.{ℕ, _+_, _<_, _≤_};
 ghost use Rattle.cofj.specs.Values.{eqGraph, eqGraphs};
 ghost use Rattle.cofj.specs.Running.{openMark};
 ghost use Rattle.values.specs.Layout.{Holds, valueOf};
-ghost use Rattle.values.specs.Laying.{PartsHeld, valuesFrom};
+ghost use Rattle.maker.specs.Laying.{PartsHeld, valuesFrom};
 ghost use Rattle.values.specs.Refs.{refIn};
 ghost use Rattle.evaluator.specs.Refs.{apartOf};
 ghost use Rattle.evaluator.specs.State.{refAt, argsAt, baseAt, CallHolds, CallsHold, callAt, callIn, sameOf, traceIn, metOf};

@@ -18,16 +18,16 @@ use Rattle.cofj.proofs.Trees.{same-child, same-cls, same-count}
 use Rattle.cofj.proofs.Canon.{canon-length}
 use Rattle.cofj.proofs.Unique.{canon-canon}
 use Rattle.cofj.proofs.Operations.{boundNode, boundNodes, followBound, bound-follow, bound-whole}
+use Rattle.canon.specs.Layout.{refOf, codeOf, nodeIn, nodesIn, Packed, alikeAt, Distinct, Block, Inside, objectsIn, graphAt, countIn, levelIn}
+use Rattle.canon.specs.Tables.{Carried}
+use Rattle.canon.specs.Rounds.{Raw}
+use Rattle.canon.specs.Numbers.{Levels, Ready, Placed, Has, graphIn}
+use Rattle.canon.proofs.Nodes.{some-at, at-some, byteOf, packed-byte, packed-same, nodes-same, length-nodes, at-nodes, AllPacked, alike-yes, alike-no, ref-object, ref-undet, ref-mark}
 use Rattle.values.specs.declared.ValueRef.{ValueRef}
 use Rattle.values.specs.declared.ValueRef.the-variants.{Object}
 use Rattle.values.specs.Tests.{any}
-use Rattle.values.specs.Layout.{refOf, codeOf, nodeIn, nodesIn, Packed, alikeAt, Distinct, Block, Inside, objectsIn, graphAt, countIn, levelIn}
-use Rattle.values.specs.Tables.{Carried}
-use Rattle.values.specs.Rounds.{Raw}
-use Rattle.values.specs.Numbers.{Levels, Ready, Placed, Has, graphIn}
 use Rattle.values.specs.Operations.{Gives}
 use Rattle.values.specs.Binding.{boundCode, boundByte, ObjectBound, ObjectsBound, Bound, refersTo, noneRefer, OtherField, Leads, DifferTest, UnlikeTest, UnlikeOthers, OthersTest, DistinctTest, Rooted}
-use Rattle.values.proofs.Nodes.{some-at, at-some, byteOf, packed-byte, packed-same, nodes-same, length-nodes, at-nodes, AllPacked, alike-yes, alike-no, ref-object, ref-undet, ref-mark}
 use Rattle.values.proofs.Tests.{not-true, not-false, any-there, any-not, any-more, any-none}
 use Rattle.values.proofs.Steps.{leaf-codes, is-object, object-low}
 use Rattle.values.proofs.Blocks.{size-in, whole-at}

@@ -13,18 +13,19 @@ use Rattle.cofj.specs.Values.{Ref, obj, undet, Node, Graph, graph, rename, rena
 use Rattle.cofj.specs.Unfolding.{InRange, Whole}
 use Rattle.cofj.specs.ReportForm.{upFrom}
 use Rattle.cofj.proofs.Canon.{node-id, canon-length}
+use Rattle.canon.specs.Layout.{nodesIn, Block, Inside, objectsIn, graphAt, countIn}
+use Rattle.canon.specs.Tables.{Filled, Lifted}
+use Rattle.canon.specs.Rounds.{Raw}
+use Rattle.canon.specs.Numbers.{Ready, Placed, Has, graphIn}
+use Rattle.canon.proofs.Nodes.{length-nodes}
+use Rattle.canon.proofs.Colouring.{length-up, at-up, distinct-colours}
+use Rattle.canon.proofs.Turned.{turnRef, changed, lifted-nodes, lifted-packed, turn-rename, nodes-agree}
+use Rattle.canon.proofs.Rounds.{front-is}
 use Rattle.values.specs.declared.ValueRef.{ValueRef}
 use Rattle.values.specs.declared.ValueRef.the-variants.{Object, Mark, Undetermined}
-use Rattle.values.specs.Layout.{nodesIn, Block, Inside, objectsIn, graphAt, countIn, Holds, HeldBy}
-use Rattle.values.specs.Tables.{Filled, Lifted}
-use Rattle.values.specs.Rounds.{Raw}
-use Rattle.values.specs.Numbers.{Ready, Placed, Has, graphIn}
+use Rattle.values.specs.Layout.{Holds, HeldBy}
 use Rattle.values.specs.Operations.{Taken, Moved}
 use Rattle.values.proofs.ValueRef as RefT
-use Rattle.values.proofs.Nodes.{length-nodes}
-use Rattle.values.proofs.Colouring.{length-up, at-up, distinct-colours}
-use Rattle.values.proofs.Turned.{turnRef, changed, lifted-nodes, lifted-packed, turn-rename, nodes-agree}
-use Rattle.values.proofs.Rounds.{front-is}
 
 -- ---- a reference that stands for an object
 module _ (W : List ℕ) (r : ValueRef) (b i : ℕ) (h : Holds W r) (e : r ≡ Object b i) where

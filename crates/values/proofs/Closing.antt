@@ -6,9 +6,10 @@ use lib.ListN.{getD}
 use borrow.Author.Tests.{eq-eqb, ne-eqb}
 use Rattle.cofj.specs.Values.{obj, Node, graph, canon, close}
 use Rattle.cofj.specs.Unfolding.{Whole}
+use Rattle.canon.specs.Layout.{Inside, objectsIn, graphAt, levelIn}
 use Rattle.values.specs.declared.ValueRef.{ValueRef}
 use Rattle.values.specs.declared.ValueRef.the-variants.{Object, Mark, Undetermined}
-use Rattle.values.specs.Layout.{Inside, objectsIn, graphAt, levelIn, valueOf, Holds, HeldBy}
+use Rattle.values.specs.Layout.{valueOf, Holds, HeldBy}
 use Rattle.values.specs.Operations.{Gives}
 use Rattle.values.proofs.Blocks.{whole-at}
 use Rattle.values.proofs.Trees.{close-canon}

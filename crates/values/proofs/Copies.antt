@@ -14,14 +14,15 @@ use borrow.Author.Tests.{ne-eqb}
 use Rattle.cofj.specs.Values.{Ref, obj, mark, undet, Node, node, graph, rename, refsAt, nodeAt, canon, bind}
 use Rattle.cofj.specs.Unfolding.{Whole}
 use Rattle.cofj.proofs.Operations.{boundNodes}
+use Rattle.canon.specs.Layout.{codeOf, nodeIn, nodesIn, Packed, Distinct, Block, Inside, objectsIn, countIn, levelIn}
+use Rattle.canon.specs.Tables.{Carried}
+use Rattle.canon.proofs.Nodes.{at-some, byteOf, packed-byte, packed-same, nodes-same, length-nodes, at-nodes}
+use Rattle.canon.proofs.Turned.{nodes-agree}
 use Rattle.values.specs.declared.ValueRef.{ValueRef}
 use Rattle.values.specs.declared.ValueRef.the-variants.{Object}
-use Rattle.values.specs.Layout.{codeOf, nodeIn, nodesIn, Packed, Distinct, Block, Inside, objectsIn, countIn, levelIn, valueOf, Holds, Low}
-use Rattle.values.specs.Tables.{Carried}
+use Rattle.values.specs.Layout.{valueOf, Holds, Low}
 use Rattle.values.specs.Operations.{Gives, Copied}
 use Rattle.values.proofs.ValueRef as RefT
-use Rattle.values.proofs.Nodes.{at-some, byteOf, packed-byte, packed-same, nodes-same, length-nodes, at-nodes}
-use Rattle.values.proofs.Turned.{nodes-agree}
 use Rattle.values.proofs.Blocks.{held-inside, no-object, nodes-id}
 use Rattle.values.proofs.Selecting.{unchanged}
 

@@ -8,10 +8,10 @@ use mathlib.Core.List.{List}
 use lib.ListN.{length, getD}
 use borrow.Author.Tests.{eqb-false}
 use Rattle.cofj.specs.Values.{Node, graph, obj, canon}
+use Rattle.canon.specs.Layout.{Block, objectsIn, countIn, levelIn, Outside}
 use Rattle.values.specs.declared.ValueRef.{ValueRef}
 use Rattle.values.specs.declared.ValueRef.the-variants.{Object, Mark, Undetermined}
-use Rattle.values.specs.Layout.{Block, objectsIn, countIn, levelIn, valueOf, Holds, Outside}
-use Rattle.values.specs.Merging.{liesIn}
+use Rattle.values.specs.Layout.{valueOf, Holds, liesIn}
 use Rattle.values.proofs.Copies.{block-moves}
 
 -- a reference still stands for the value that it stood for

@@ -14,13 +14,14 @@ use Rattle.cofj.specs.Values.{undet, Node, node, Graph, nodeAt}
 use Rattle.cofj.specs.Text.{char, hexLine, hexText}
 use Rattle.cofj.specs.Report.{refByte, objectLine, objectLines}
 use Rattle.cofj.proofs.Basics.{getD-map-lt}
+use Rattle.canon.specs.Layout.{refOf, nodeIn, nodesIn, Packed, Block, objectsIn, graphAt, countIn}
+use Rattle.canon.proofs.Nodes.{at-nodes, length-nodes, packed-byte, byteOf, ref-object, ref-undet, ref-mark}
 use Rattle.values.specs.declared.ValueRef.{ValueRef}
 use Rattle.values.specs.declared.ValueRef.the-variants.{Object}
-use Rattle.values.specs.Layout.{refOf, nodeIn, nodesIn, Packed, Block, objectsIn, graphAt, countIn, valueOf}
+use Rattle.values.specs.Layout.{valueOf}
 use Rattle.values.specs.Operations.{Moved}
 use Rattle.values.specs.Reporting.{Front, lineIn, Line, Reported}
 use Rattle.values.proofs.ValueRef as RefT
-use Rattle.values.proofs.Nodes.{at-nodes, length-nodes, packed-byte, byteOf, ref-object, ref-undet, ref-mark}
 use Rattle.values.proofs.Blocks.{no-object}
 
 -- ---- the front of a buffer

@@ -12,15 +12,15 @@ use types.Run.{OneOf}
 use denote.Enum.Declared.{tagOf}
 use Rattle.cofj.specs.Values.{Ref, mark, undet, Node, graph, refsAt, canon, canonBy, visit, select, selected, markOf, undetermined}
 use Rattle.cofj.specs.Unfolding.{InRange, Whole}
+use Rattle.canon.specs.Layout.{refOf, nodeIn, objectsIn, graphAt, Inside, countIn, Outside, Beneath}
+use Rattle.canon.proofs.Nodes.{some-at, at-nodes, ref-object, ref-undet, ref-mark}
+use Rattle.canon.proofs.Walks.{four, four-at}
 use Rattle.values.specs.declared.ValueRef.{ValueRef}
 use Rattle.values.specs.declared.ValueRef.the-variants.{Object, Mark, Undetermined}
 use Rattle.values.specs.declared.Selected.{Selected}
 use Rattle.values.specs.declared.Selected.the-variants.{Value, Stuck}
-use Rattle.values.specs.Layout.{refOf, nodeIn, objectsIn, graphAt, Inside, countIn, Outside, Beneath}
 use Rattle.values.specs.Operations.{Chosen, Leaf}
 use Rattle.values.proofs.ValueRef as RefT
-use Rattle.values.proofs.Nodes.{some-at, at-nodes, ref-object, ref-undet, ref-mark}
-use Rattle.values.proofs.Walks.{four, four-at}
 use Rattle.values.proofs.Blocks.{no-object, inner-in, whole-at}
 use Rattle.values.proofs.Trees.{select-canon}
 

@@ -1,4 +1,4 @@
--- Laws of values compared in step. Not here: values that are made.
+-- Laws of values compared in step. Not here: values that are made (crate maker).
 use Prim.Native.Nat.{ℕ, zero, suc, _+_, _-_, _*_, _<_, _≤_}
 use native.Mathlib.Omega.{arith}
 use native.Mathlib.Decide.{decLt, ℕ-discrete}
@@ -17,12 +17,13 @@ use Rattle.cofj.proofs.Basics.{true-both, eqRef-refl, eqNode-refl}
 use Rattle.cofj.proofs.Trees.{same-child, same-cls, same-count}
 use Rattle.cofj.proofs.Traces.{eqGraph-true}
 use Rattle.cofj.proofs.Unique.{same-canon, canon-tree}
+use Rattle.canon.specs.Layout.{codeOf, Alike, alikeAt, countIn, objectsIn, graphAt, Block, Inside}
+use Rattle.canon.proofs.Nodes.{some-at, byteOf, packed-byte, length-nodes, at-nodes, alike-no}
 use Rattle.values.specs.declared.ValueRef.{ValueRef}
 use Rattle.values.specs.declared.ValueRef.the-variants.{Object, Mark, Undetermined}
-use Rattle.values.specs.Layout.{codeOf, Alike, alikeAt, countIn, objectsIn, graphAt, Block, Inside, valueOf}
+use Rattle.values.specs.Layout.{valueOf}
 use Rattle.values.specs.Stepping.{After, after, stepCode, CodeFits, unpaired, Paired, AllSame, Grown, Linked, Pair, FieldsSoFar, Closed, PairsSoFar, ObjectStep, InStep}
 use Rattle.values.proofs.Trees.{in-larger, leaf-same}
-use Rattle.values.proofs.Nodes.{some-at, byteOf, packed-byte, length-nodes, at-nodes, alike-no}
 
 -- ---- one code
 module _ (T Q : List ℕ) (t a b : ℕ) where

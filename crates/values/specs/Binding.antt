@@ -1,5 +1,5 @@
 -- A mark bound to an object of a block, the objects left where they are; and objects of which no two are the same.
--- Not here: which of them are merged (Pairing, Rounds), a value in which the mark does not occur.
+-- Not here: which of them are merged (crate canon, Pairing and Rounds), a value in which the mark does not occur.
 use Prim.Native.Nat.{ℕ, _+_, _*_, _≤_, _<_}
 use mathlib.Core.Path.{_≡_}
 use mathlib.Core.Bool.{Bool, true, not, cond}
@@ -8,9 +8,9 @@ use lib.Dec.{eqb, ltb}
 use lib.ListN.{length, getD}
 use Rattle.cofj.specs.Values.{obj}
 use Rattle.cofj.specs.Unfolding.{Same}
+use Rattle.canon.specs.Layout.{nodesIn, countIn, Distinct}
+use Rattle.canon.specs.Rounds.{Raw}
 use Rattle.values.specs.Tests.{any}
-use Rattle.values.specs.Layout.{nodesIn, countIn, Distinct}
-use Rattle.values.specs.Rounds.{Raw}
 
 -- a code bound: the code `hot` is turned to object i
 unfoldable pub boundCode : ℕ → ℕ → ℕ → ℕ

@@ -1,15 +1,7 @@
-pub mod Layout
 pub mod Tests
-pub mod Tables
-pub mod Rounds
-pub mod Pairing
-pub mod Walking
-pub mod Numbers
+pub mod Layout
 pub mod Operations
 pub mod Binding
 pub mod Stepping
 pub mod Refs
-pub mod Laying
-pub mod Adding
-pub mod Merging
 pub mod Reporting

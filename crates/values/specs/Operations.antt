@@ -7,13 +7,14 @@ use mathlib.Core.Option.{Option, none, some}
 use lib.Dec.{eqb}
 use lib.ListN.{getD}
 use Rattle.cofj.specs.Values.{Graph, canon, select, close}
+use Rattle.canon.specs.Layout.{countIn, levelIn, Outside}
+use Rattle.canon.specs.Tables.{Filled, Lifted}
+use Rattle.canon.specs.Numbers.{Has}
 use Rattle.values.specs.declared.ValueRef.{ValueRef}
 use Rattle.values.specs.declared.ValueRef.the-variants.{Mark, Undetermined}
 use Rattle.values.specs.declared.Selected.{Selected}
 use Rattle.values.specs.declared.Selected.the-variants.{Value, Stuck}
-use Rattle.values.specs.Layout.{countIn, levelIn, valueOf, Holds, Low, Outside}
-use Rattle.values.specs.Tables.{Filled, Lifted}
-use Rattle.values.specs.Numbers.{Has}
+use Rattle.values.specs.Layout.{valueOf, Holds, Low}
 
 -- the objects of block b, copied
 pub record Taken (W : List ℕ) (b : ℕ) (I R₀ R : List ℕ) (n : ℕ) : Type 0 where

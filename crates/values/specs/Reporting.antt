@@ -6,7 +6,7 @@ use lib.ListN.{length, take, drop}
 use Rattle.cofj.specs.Values.{Graph}
 use Rattle.cofj.specs.Text.{hexLine}
 use Rattle.cofj.specs.Report.{objectLine, valueReport}
-use Rattle.values.specs.Layout.{nodeIn}
+use Rattle.canon.specs.Layout.{nodeIn}
 
 -- the first j of d are p, and the others are as in d₀
 pub record Front (d₀ d : List ℕ) (j : ℕ) (p : List ℕ) : Type 0 where

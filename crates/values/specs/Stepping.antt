@@ -8,7 +8,7 @@ use lib.Dec.{eqb, ltb}
 use lib.ListN.{length, getD, set}
 use Rattle.cofj.specs.Values.{obj}
 use Rattle.cofj.specs.Unfolding.{Same}
-use Rattle.values.specs.Layout.{Alike, countIn, objectsIn, Block, Inside}
+use Rattle.canon.specs.Layout.{Alike, countIn, objectsIn, Block, Inside}
 
 -- the length of the queue (0 where two things differ), the table and the queue
 pub record After : Type 0 where

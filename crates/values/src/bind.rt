@@ -1,18 +1,18 @@
 // X = u for an object of a block: the mark is bound to the object where it lies, and if no two objects have become equal they are kept as they are.
-// Not here: values in which the mark does not occur (value); how equal objects are found (colours) and merged (number).
+// Not here: values in which the mark does not occur (value); how equal objects are found and merged (crate canon, colours and number).
 use crate::ValueRef;
-use crate::bytes::copy;
-use crate::colours::colour;
 use crate::lockstep::alike;
-use crate::number::level_of;
-use crate::number::put;
+use canon::bytes::copy;
+use canon::colours::colour;
+use canon::number::level_of;
+use canon::number::put;
 ghost use mathlib.Core.Path.{_≡_};
 ghost use Prim.Native.Nat.{ℕ, _+_, _*_, _<_, _≤_};
 ghost use lib.ListN.{length};
 ghost use Rattle.cofj.specs.Values.{canon};
-ghost use Rattle.values.specs.Layout.{Inside, nodesIn, graphAt, Distinct};
-ghost use Rattle.values.specs.Rounds.{Raw};
-ghost use Rattle.values.specs.Numbers.{graphIn};
+ghost use Rattle.canon.specs.Layout.{Inside, nodesIn, graphAt, Distinct};
+ghost use Rattle.canon.specs.Rounds.{Raw};
+ghost use Rattle.canon.specs.Numbers.{graphIn};
 ghost use Rattle.values.specs.Operations.{Gives, closeOf};
 ghost use Rattle.values.specs.Binding.{boundCode, ObjectBound, Bound, refersTo, noneRefer, OtherField, DifferTest, UnlikeTest, OthersTest, DistinctTest, Rooted};
 

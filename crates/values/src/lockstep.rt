@@ -4,7 +4,8 @@ ghost use mathlib.Core.Path.{_≡_};
 ghost use Prim.Native.Nat.{ℕ, _+_, _*_, _≤_};
 ghost use lib.ListN.{length};
 ghost use Rattle.cofj.specs.Values.{eqGraph, canon};
-ghost use Rattle.values.specs.Layout.{Alike, alikeAt, Inside, Block, countIn, graphAt, Holds, valueOf};
+ghost use Rattle.canon.specs.Layout.{Alike, alikeAt, Inside, Block, countIn, graphAt};
+ghost use Rattle.values.specs.Layout.{Holds, valueOf};
 ghost use Rattle.values.specs.Stepping.{after, stepCode, CodeFits, Paired, Pair, ObjectStep, InStep};
 
 // Meets two codes: they are equal, or objects that are partners or can become so. `partner` has y + 1 for an object with the partner y, 0 for one

@@ -2,9 +2,7 @@
 // Not here: where the numbers stand.
 use crate::ValueRef;
 ghost use mathlib.Core.Path.{_≡_};
-ghost use Prim.Native.Nat.{ℕ, _<_};
-ghost use Rattle.values.specs.Refs.{refIn, partsOf};
-ghost use Rattle.values.specs.Adding.{partOf};
+ghost use Rattle.values.specs.Refs.{refIn};
 
 // The value that a number stands for.
 pub fn unpack(r: u32) -> ValueRef
@@ -18,12 +16,4 @@ pub fn unpack(r: u32) -> ValueRef
         return ValueRef::Undetermined;
     }
     ValueRef::Mark(c - 193)
-}
-
-// Part i of a new object, whose parts are these numbers.
-pub fn part_at(parts: &[u32; 4], i: u8) -> ValueRef
-    requires { ⌜ i < 4 ⌝ }
-    ensures { λ v. ⌜ v ≡ partOf (partsOf (now (parts .entry))) i ⌝ }
-{
-    unpack(parts[i as usize])
 }

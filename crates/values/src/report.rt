@@ -6,7 +6,8 @@ ghost use mathlib.Core.List.{_∷_, [], _++_};
 ghost use Prim.Native.Nat.{ℕ, _+_, _*_, _/_, _%_, _<_, _≤_};
 ghost use lib.ListN.{length, getD, take};
 ghost use Rattle.cofj.specs.Text.{char};
-ghost use Rattle.values.specs.Layout.{Block, graphAt, Packed, Holds, valueOf};
+ghost use Rattle.canon.specs.Layout.{Block, graphAt, Packed};
+ghost use Rattle.values.specs.Layout.{Holds, valueOf};
 ghost use Rattle.values.specs.Reporting.{Front, lineIn, Line, Reported};
 
 // The character of a digit.

@@ -1,14 +1,15 @@
-// Values selected from, closed, moved. Not here: values compared (lockstep), a new object (make), how a mark is bound (bind).
+// Values selected from, closed, moved. Not here: values compared (lockstep), a new object (crate maker), how a mark is bound (bind).
 use crate::Selected;
 use crate::ValueRef;
 use crate::bind::close_bound;
-use crate::bytes::count_up;
-use crate::lift::lift;
-use crate::number::put;
+use canon::bytes::count_up;
+use canon::lift::lift;
+use canon::number::put;
 ghost use Prim.Native.Nat.{ℕ, _+_, _*_, _<_, _≤_};
 ghost use lib.ListN.{length};
 ghost use Rattle.cofj.specs.Values.{canon};
-ghost use Rattle.values.specs.Layout.{Block, Inside, graphAt, Holds, valueOf};
+ghost use Rattle.canon.specs.Layout.{Block, Inside, graphAt};
+ghost use Rattle.values.specs.Layout.{Holds, valueOf};
 ghost use Rattle.values.specs.Operations.{Taken, Moved, Copied, Gives, Chosen, Leaf, closeOf};
 ghost use Rattle.values.specs.declared.ValueRef.the-variants.{Object};
 

@@ -1,4 +1,4 @@
-use Prim.Native.Nat.{ℕ, _<_}
+use Prim.Native.Nat.{ℕ, _<_, _+_, _*_}
 use borrow.Fn.Kinds.{In}
 use borrow.Fn.PlainCycle.{Measures, is, falls, and}
 use Rattle.evaluator.proofs.call.eval_call.Reads as call·eval-call
@@ -55,7 +55,6 @@ use Rattle.evaluator.proofs.+call-eval_call+call-invoke+call-run_left+c
 use native.Mathlib.Omega.{arith}
 use borrow.Author.Needs.{needs}
 use mathlib.Core.List.{[]}
-use Prim.Native.Nat.{_+_, _*_}
 use Rattle.evaluator.proofs.StepLaws as steps
 use Rattle.evaluator.proofs.CallSteps as calls
 use Rattle.evaluator.proofs.SideSteps as sides

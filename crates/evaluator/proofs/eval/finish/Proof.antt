@@ -6,8 +6,8 @@ use Rattle.evaluator.proofs.eval.finish.Lts as lts
 use Rattle.evaluator.proofs.eval.parts_at.Reads as parts-at-reads
 use Rattle.evaluator.proofs.refs.pack.Reads as pack-reads
 use Rattle.evaluator.proofs.stack.stop.Reads as stop-reads
-use Rattle.values.proofs.make.make.Reads as make-reads
-use Rattle.values.proofs.over.make_bare.Reads as make-bare-reads
+use Rattle.maker.proofs.make.make.Reads as make-reads
+use Rattle.maker.proofs.over.make_bare.Reads as make-bare-reads
 use Rattle.evaluator.proofs.LeafLaws as laws
 
 returns : tie.Need-returns

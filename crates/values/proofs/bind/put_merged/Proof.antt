@@ -3,8 +3,8 @@ use Rattle.values.proofs.bind.put_merged.Statement.{statement}
 use Rattle.values.proofs.bind.put_merged.Tie as tie
 use Rattle.values.proofs.bind.put_merged.Reads as reads
 use Rattle.values.proofs.bind.put_merged.Lts as lts
-use Rattle.values.proofs.colours.colour.Reads as colour-reads
-use Rattle.values.proofs.number.put.Reads as put-reads
+use Rattle.canon.proofs.colours.colour.Reads as colour-reads
+use Rattle.canon.proofs.number.put.Reads as put-reads
 use Rattle.values.proofs.Bindings as laws
 
 colour-requires : tie.Need-colour-requires

@@ -3,7 +3,7 @@ use Rattle.values.proofs.lockstep.alike.Statement.{statement}
 use Rattle.values.proofs.lockstep.alike.Tie as tie
 use Rattle.values.proofs.lockstep.alike.Reads as reads
 use Rattle.values.proofs.lockstep.alike.Lts as lts
-use Rattle.values.proofs.Nodes as laws
+use Rattle.canon.proofs.Nodes as laws
 
 returns : tie.Need-returns
 returns c = search laws.alike-not

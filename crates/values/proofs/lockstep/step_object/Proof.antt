@@ -5,7 +5,7 @@ use Rattle.values.proofs.lockstep.step_object.Reads as reads
 use Rattle.values.proofs.lockstep.step_object.Lts as lts
 use Rattle.values.proofs.lockstep.alike.Reads as alike-reads
 use Rattle.values.proofs.lockstep.step_fields.Reads as step-fields-reads
-use Rattle.values.proofs.Nodes as nodes
+use Rattle.canon.proofs.Nodes as nodes
 use Rattle.values.proofs.Blocks as blocks
 use Rattle.values.proofs.Steps as laws
 

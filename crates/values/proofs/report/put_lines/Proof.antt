@@ -8,7 +8,7 @@ use mathlib.Core.Path.{_≡_, refl}
 use Prim.Native.Nat.{_≤_, _-_}
 use native.Mathlib.Omega.{arith}
 use lib.ListN.{length}
-use Rattle.values.specs.Layout.{countIn}
+use Rattle.canon.specs.Layout.{countIn}
 use Rattle.values.proofs.Reports as laws
 use Rattle.values.proofs.Reports.{Listed}
 

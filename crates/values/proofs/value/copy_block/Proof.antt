@@ -7,7 +7,7 @@ use mathlib.Core.Path.{_≡_, refl}
 use native.Mathlib.Omega.{arith}
 use Prim.Native.Nat.{_≤_, _-_}
 use lib.ListN.{length, length-set}
-use Rattle.values.specs.Layout.{countIn}
+use Rattle.canon.specs.Layout.{countIn}
 use Rattle.values.proofs.Copies as laws
 use Rattle.values.proofs.Copies.{CopyLoop}
 

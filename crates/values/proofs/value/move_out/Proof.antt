@@ -3,7 +3,7 @@ use Rattle.values.proofs.value.move_out.Statement.{statement}
 use Rattle.values.proofs.value.move_out.Tie as tie
 use Rattle.values.proofs.value.move_out.Reads as reads
 use Rattle.values.proofs.value.move_out.Lts as lts
-use Rattle.values.proofs.number.put.Reads as put-reads
+use Rattle.canon.proofs.number.put.Reads as put-reads
 use Rattle.values.proofs.value.take_up.Reads as take-up-reads
 use Rattle.values.proofs.Blocks as laws
 

@@ -3,10 +3,10 @@ use Rattle.values.proofs.value.take_up.Statement.{statement}
 use Rattle.values.proofs.value.take_up.Tie as tie
 use Rattle.values.proofs.value.take_up.Reads as reads
 use Rattle.values.proofs.value.take_up.Lts as lts
-use Rattle.values.proofs.bytes.count_up.Reads as count-up-reads
-use Rattle.values.proofs.lift.lift.Reads as lift-reads
+use Rattle.canon.proofs.bytes.count_up.Reads as count-up-reads
+use Rattle.canon.proofs.lift.lift.Reads as lift-reads
 use native.Mathlib.Omega.{arith}
-use Rattle.values.specs.Layout.{countIn}
+use Rattle.canon.specs.Layout.{countIn}
 use Rattle.values.proofs.Blocks as laws
 
 cast-p : tie.Need-cast-p

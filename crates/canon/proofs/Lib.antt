@@ -1,0 +1,10 @@
+pub mod Runs
+pub mod Nodes
+pub mod Lifts
+pub mod Places
+pub mod Turned
+pub mod Rounds
+pub mod Walks
+pub mod Colouring
+pub mod Numbers
+pub mod Pairings

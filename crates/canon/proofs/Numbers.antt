@@ -1,0 +1,307 @@
+-- Laws of numbering the objects.
+use Prim.Native.Nat.{ℕ, zero, suc, _+_, _-_, _*_, _%_, _<_, _≤_}
+use native.Mathlib.Omega.{arith}
+use native.Mathlib.Decide.{ℕ-discrete}
+use mathlib.Core.Path.{_≡_, refl, sym, ap, ap₂, _∙_, subst}
+use mathlib.Core.Bool.{Bool, true, false, cond, true≢false}
+use mathlib.Core.List.{List, [], _∷_, _++_}
+use mathlib.Core.Option.{some}
+use lib.Dec.{eqb}
+use lib.ListN.{length, getD, set, take, getElem?, length-map, length-set}
+use lib.Seq.{getD-set-same, getD-set-other, length-take-le, getD-take}
+use borrow.Author.Tests.{eq-eqb, ne-eqb}
+use Rattle.cofj.specs.Values.{Ref, obj, mark, undet, Node, node, Graph, graph, rename, renameNode, nodeAt, refsAt, colourOf, colours, isIn, placeIn, visit, visitAll, canon}
+use Rattle.cofj.specs.Unfolding.{InRange, Whole}
+use Rattle.cofj.proofs.Basics.{getD-map-lt}
+use Rattle.cofj.proofs.Colours.{colour, colour-low}
+use Rattle.cofj.proofs.Walk.{order, order-length, order-kept, order-root, Covered}
+use Rattle.cofj.proofs.Canon.{number, listed, canon-is, canon-whole, getD-isIn, placeIn-spec}
+use Rattle.cofj.proofs.Unique.{canon-canon}
+use Rattle.cofj.proofs.Numbering.{canonical-root}
+use Rattle.canon.specs.Layout.{nodeIn, nodesIn, Packed, Distinct, Block, graphAt, objectsIn, countIn, levelIn}
+use Rattle.canon.specs.Tables.{Filled, copied, Lifted}
+use Rattle.canon.specs.Walking.{walkRef, markIn, Listed}
+use Rattle.canon.specs.Numbers.{numberIn, Gathered, Levels, Ready, Placed, graphIn}
+use Rattle.canon.proofs.Colouring.{value-distinct}
+use Rattle.canon.proofs.Nodes.{at-nodes, length-nodes, ref-object}
+use Rattle.canon.proofs.Turned.{turnRef, changed, lifted-nodes, lifted-packed, turn-rename, node-agree}
+
+-- ---- gathering
+pub gather-none : (N O T D : List ℕ) (to : ℕ) → Gathered N O 0 T D to D
+gather-none N O T D to = record { same = refl; here = λ j k h. absurd (omega arith); below = λ q h. refl; above = λ q h. refl }
+
+pub gather-more : (N O T D₀ : List ℕ) (to : ℕ) (D D2 : List ℕ) (j : ℕ) → Gathered N O j T D₀ to D → Lifted N (6 * getD O j 0) 6 T D (to + 6 * j) D2
+    → Gathered N O (j + 1) T D₀ to D2
+gather-more N O T D₀ to D D2 j g f = record {
+  same = f .same ∙ g .same;
+  here = λ i k h l. go i k h l (ℕ-discrete i j);
+  below = λ q h. f .below q (omega arith) ∙ g .below q h;
+  above = λ q h. f .above q (omega arith) ∙ g .above q (omega arith);
+}
+  where
+    go : (i k : ℕ) → i < j + 1 → k < 6 → Dec (i ≡ j) → getD D2 (to + 6 * i + k) 0 ≡ copied T k (getD N (6 * getD O i 0 + k) 0)
+    go i k h l (yes e) = let z : k % 6 ≡ k = omega arith in rw e (rw z at (f .here k l))
+    go i k h l (no e) = f .below (to + 6 * i + k) (omega (arith, e)) ∙ g .here i k (omega (arith, e)) l
+
+pub gather-done : (N O T D₀ : List ℕ) (to : ℕ) (D : List ℕ) (j m : ℕ) → Gathered N O j T D₀ to D → j ≤ m → m ≤ j → Gathered N O m T D₀ to D
+gather-done N O T D₀ to D j m g h k = let e : j ≡ m = omega arith in rw e at g
+
+-- ---- the walk over the bytes is the walk over the graph
+module _ (N C : List ℕ) (n : ℕ) (few : n ≤ 192) (w : (i k : ℕ) (r : Ref) → getElem? (refsAt (nodesIn N 0 n) i) k ≡ some r → InRange n r)
+    (low : (i : ℕ) → i < n → getD C i 0 < n) where
+  node-at : (c : ℕ) → c < n → nodeAt (nodesIn N 0 256) c ≡ nodeAt (nodesIn N 0 n) c
+  node-at c h = at-nodes N 0 256 c (omega arith) ∙ sym (at-nodes N 0 n c h)
+
+  all-same : (f g : Ref → List ℕ → List ℕ) → ((r : Ref) (s : List ℕ) → InRange n r → f r s ≡ g r s) → (rs : List Ref)
+      → ((k : ℕ) (r : Ref) → getElem? rs k ≡ some r → InRange n r) → (s : List ℕ) → visitAll f rs s ≡ visitAll g rs s
+  unfolding visitAll
+  all-same f g e [] h s = refl
+  all-same f g e (r ∷ rs) h s = ap (visitAll f rs) (e r s (h 0 r refl)) ∙ all-same f g e rs (λ k. h (suc k)) (g r s)
+
+  visit-same : (k : ℕ) (r : Ref) (s : List ℕ) → InRange n r → visit (nodesIn N 0 256) C k r s ≡ visit (nodesIn N 0 n) (take n C) k r s
+  unfolding visit
+  visit-same zero r s h = refl
+  visit-same (suc k) (mark x) s h = refl
+  visit-same (suc k) undet s h = refl
+  visit-same (suc k) (obj i) s h =
+      go (isIn (getD C i 0) s) (all-same (λ r t. visit (nodesIn N 0 256) C k r t) (λ r t. visit (nodesIn N 0 n) (take n C) k r t) (λ r t p. visit-same k r t p)
+      (refsAt (nodesIn N 0 n) (getD C i 0)) (w (getD C i 0)) (s ++ (getD C i 0 ∷ [])))
+      ∙ ap (λ (c : ℕ). elim (isIn c s) as (λ _. List ℕ) [ true ↦ s | false ↦ visitAll (λ r t. visit (nodesIn N 0 n) (take n C) k r t) (refsAt (nodesIn N 0 n) c) (s ++ (c ∷ [])) ]) (sym (getD-take n C i 0 h))
+    where
+      go : (b : Bool) → visitAll (λ r t. visit (nodesIn N 0 256) C k r t) (refsAt (nodesIn N 0 n) (getD C i 0)) (s ++ (getD C i 0 ∷ []))
+          ≡ visitAll (λ r t. visit (nodesIn N 0 n) (take n C) k r t) (refsAt (nodesIn N 0 n) (getD C i 0)) (s ++ (getD C i 0 ∷ []))
+          → _≡_ {A = List ℕ} (elim b [ true ↦ s | false ↦ visitAll (λ r t. visit (nodesIn N 0 256) C k r t) (refsAt (nodesIn N 0 256) (getD C i 0)) (s ++ (getD C i 0 ∷ [])) ])
+          (elim b [ true ↦ s | false ↦ visitAll (λ r t. visit (nodesIn N 0 n) (take n C) k r t) (refsAt (nodesIn N 0 n) (getD C i 0)) (s ++ (getD C i 0 ∷ [])) ])
+      go true e = refl
+      go false e = ap (λ (x : Node). visitAll (λ r t. visit (nodesIn N 0 256) C k r t) (x .refs) (s ++ (getD C i 0 ∷ []))) (node-at (getD C i 0) (low i h)) ∙ e
+
+-- ---- what is gathered
+module _ (N O : List ℕ) (m : ℕ) (T D₀ : List ℕ) (to : ℕ) (D : List ℕ) (g : Gathered N O m T D₀ to D) where
+  one : (j : ℕ) → j < m → Lifted N (6 * getD O j 0) 6 T D (to + 6 * j) D
+  one j h = record {
+    same = refl;
+    here = λ q l. let z : q % 6 ≡ q = omega arith in rw z (g .here j q h l);
+    below = λ q l. refl;
+    above = λ q l. refl;
+  }
+
+  gathered-node : (j : ℕ) → j < m → nodeIn D (to + 6 * j) ≡ changed (turnRef T) (nodeIn N (6 * getD O j 0))
+  unfolding nodesIn
+  gathered-node j h =
+      let e : nodeIn D (to + 6 * j) ∷ [] ≡ changed (turnRef T) (nodeIn N (6 * getD O j 0)) ∷ [] = lifted-nodes N (6 * getD O j 0) T D (to + 6 * j) D 1 (one j h) in
+      cc
+
+  gathered-packed : (j : ℕ) → j < m → Packed N (6 * getD O j 0) → Packed D (to + 6 * j)
+  gathered-packed j h pk =
+      let z : to + 6 * j + 6 * 0 ≡ to + 6 * j = omega arith in
+      rw z at (lifted-packed N (6 * getD O j 0) T D (to + 6 * j) D 1 (one j h)
+      (λ i l. let y : 6 * getD O j 0 + 6 * i ≡ 6 * getD O j 0 = omega arith in rw y pk) 0 (omega arith))
+
+place-le : (c : ℕ) (s : List ℕ) → placeIn c s ≤ length s
+unfolding placeIn
+place-le c [] = omega arith
+place-le c (d ∷ s) = go (eqb c d) (place-le c s)
+  where
+    go : (b : Bool) → placeIn c s ≤ length s → (elim b as (λ _. ℕ) [ true ↦ 0 | false ↦ suc (placeIn c s) ]) ≤ suc (length s)
+    go true h = omega arith
+    go false h = omega arith
+
+place-out : (c : ℕ) (s : List ℕ) → isIn c s ≡ false → placeIn c s ≡ length s
+unfolding isIn placeIn
+place-out c [] h = refl
+place-out c (d ∷ s) h = go (eqb c d) h (place-out c s)
+  where
+    go : (b : Bool) → (elim b as (λ _. Bool) [ true ↦ true | false ↦ isIn c s ]) ≡ false → (isIn c s ≡ false → placeIn c s ≡ length s)
+        → (elim b as (λ _. ℕ) [ true ↦ 0 | false ↦ suc (placeIn c s) ]) ≡ suc (length s)
+    go true e ih = absurd (true≢false e)
+    go false e ih = ap suc (ih e)
+
+-- the table tells the place
+number-in : (M s : List ℕ) (m c : ℕ) → Listed M s → length s ≡ m → c < 256 → numberIn M m c ≡ placeIn c s
+unfolding numberIn markIn
+number-in M s m c l e h = ap (λ (p : ℕ). cond (eqb p 0) m (p - 1)) (l .entry c h) ∙ go (isIn c s) refl
+  where
+    go : (b : Bool) → isIn c s ≡ b → cond (eqb (cond b (placeIn c s + 1) 0) 0) m (cond b (placeIn c s + 1) 0 - 1) ≡ placeIn c s
+    go true q = rw (ne-eqb (placeIn c s + 1) 0 (λ z. omega arith)) (omega arith)
+    go false q = sym e ∙ sym (place-out c s q)
+
+pub number-met : (T : List ℕ) (m c : ℕ) → ((getD T c 0 ≡ 0) → ⊥) → getD T c 0 - 1 ≡ numberIn T m c
+unfolding numberIn
+number-met T m c h = rw (ne-eqb (getD T c 0) 0 h)
+
+pub number-not : (T : List ℕ) (m c : ℕ) → getD T c 0 ≡ 0 → m ≡ numberIn T m c
+unfolding numberIn
+number-not T m c h = rw (eq-eqb (getD T c 0) 0 h)
+
+-- a graph with an object for its root has one to list
+order-some : (g : Graph) (w : Whole g) (i : ℕ) → g .root ≡ obj i → 1 ≤ length (order g w)
+order-some g w i e = omega (arith, placeIn-spec (colour g w i) (order g w) (subst (Covered g w (order g w)) e (order-root g w)) .0)
+
+-- two lists of nodes with the same at each place
+nodes-ext : (xs ys : List Node) → length xs ≡ length ys → ((i : ℕ) → i < length xs → nodeAt xs i ≡ nodeAt ys i) → xs ≡ ys
+nodes-ext [] [] e h = refl
+nodes-ext [] (y ∷ ys) e h = absurd (omega arith)
+nodes-ext (x ∷ xs) [] e h = absurd (omega arith)
+nodes-ext (x ∷ xs) (y ∷ ys) e h = ap₂ {C = List Node} _∷_ (h 0 (omega arith)) (nodes-ext xs ys (omega arith) (λ i l. h (suc i) (omega arith)))
+
+module _ (N : List ℕ) (n : ℕ) (C : List ℕ) (root : ℕ) (W : List ℕ) (dst : ℕ) (rd : Ready N n C root W dst) where
+  wg : Whole (graphIn N n root)
+  wg = record { top = subst (λ (k : ℕ). root < k) (sym (length-nodes N 0 n)) (rd .inside); inner = rd .raw .whole .inner }
+
+  inner : (i k : ℕ) (r : Ref) → getElem? (refsAt (nodesIn N 0 n) i) k ≡ some r → InRange n r
+  inner i k r e = subst (λ (l : ℕ). InRange l r) (length-nodes N 0 n) (rd .raw .whole .inner i k r e)
+
+  colour-is : (i : ℕ) → i < n → getD C i 0 ≡ colourOf (colours (nodesIn N 0 n)) i
+  colour-is i h = sym (getD-take n C i 0 h) ∙ ap (λ (l : List ℕ). getD l i 0) (rd .coloured)
+
+  low : (i : ℕ) → i < n → getD C i 0 < n
+  low i h = omega (arith, colour-is i h, colour-low (graphIn N n root) wg i (subst (λ (k : ℕ). i < k) (sym (length-nodes N 0 n)) h))
+
+  -- the order over the bytes is the graph's
+  walk-is : walkRef N C (n + 1) root [] ≡ order (graphIn N n root) wg
+  unfolding walkRef
+  walk-is =
+      let e : n + 1 ≡ suc (length (nodesIn N 0 n)) = rw (length-nodes N 0 n) (omega arith) in
+      ap (λ (r : Ref). visit (nodesIn N 0 256) C (n + 1) r []) (ref-object root (omega (arith, rd .inside, rd .raw .few)))
+      ∙ visit-same N C n (rd .raw .few) inner low (n + 1) (obj root) [] (rd .inside)
+      ∙ ap₂ {A = List ℕ} {B = ℕ} (λ cs k. visit (nodesIn N 0 n) cs k (obj root) []) (rd .coloured) e
+
+  pub walk-small : length (walkRef N C (n + 1) root []) ≤ 255
+  walk-small = rw walk-is (omega (arith, order-length (graphIn N n root) wg, length-nodes N 0 n, rd .raw .few))
+
+  canon-count : length (canon (graphIn N n root) .nodes) ≡ length (order (graphIn N n root) wg)
+  canon-count = ap (λ (h : Graph). length (h .nodes)) (canon-is (graphIn N n root) wg) ∙ length-map (order (graphIn N n root) wg) _
+
+  module _ (O : List ℕ) (m : ℕ) (eo : take m O ≡ walkRef N C (n + 1) root []) (long : 256 ≤ length O) (small : suc m ≤ 256) where
+    size : length (take m O) ≡ m
+    size = length-take-le m O (omega arith)
+
+    order-is : take m O ≡ order (graphIn N n root) wg
+    order-is = eo ∙ walk-is
+
+    pub counted : m ≡ length (canon (graphIn N n root) .nodes)
+    counted = sym size ∙ ap length order-is ∙ sym canon-count
+
+    listed-low : (j : ℕ) → j < m → getD O j 0 < n
+    listed-low j h =
+        let e : getD O j 0 ≡ getD (order (graphIn N n root) wg) j 0 = sym (getD-take m O j 0 h) ∙ ap (λ (l : List ℕ). getD l j 0) order-is in
+        let i : isIn (getD (order (graphIn N n root) wg) j 0) (order (graphIn N n root) wg) ≡ true = getD-isIn (order (graphIn N n root) wg) j (omega (arith, counted, canon-count)) in
+        omega (arith, order-kept (graphIn N n root) wg _ i .0, length-nodes N 0 n)
+
+    pub put-large : 32 < m → Placed N n root W dst W m
+    put-large h = record {
+      count = counted;
+      outside = record { same = refl; below = λ p l. refl; above = λ p l. refl };
+      has = λ l. absurd (omega arith);
+    }
+
+    module _ (M : List ℕ) (lm : Listed M (take m O)) (T : List ℕ) (fm : Filled (λ i. numberIn M m (getD C i 0)) n T) (D : List ℕ) (g : Gathered N O m T W (240 * dst) D) (few : m ≤ 32)
+        (l : ℕ) (lv : Levels D (240 * dst) (6 * m) l) where
+      abbrev E : List ℕ
+      E = set (set D (240 * dst + 192) m) (240 * dst + 193) l
+
+      kept-byte : (p : ℕ) → ((p ≡ 240 * dst + 192) → ⊥) → ((p ≡ 240 * dst + 193) → ⊥) → getD E p 0 ≡ getD D p 0
+      kept-byte p a b = getD-set-other (set D (240 * dst + 192) m) (240 * dst + 193) p l 0 b ∙ getD-set-other D (240 * dst + 192) p m 0 a
+
+      same-size : length E ≡ length W
+      same-size = length-set (set D (240 * dst + 192) m) (240 * dst + 193) l ∙ length-set D (240 * dst + 192) m ∙ g .same
+
+      ft : Filled (λ i. placeIn (getD C i 0) (take m O)) n T
+      ft = record { at = λ i h. fm .at i h ∙ number-in M (take m O) m (getD C i 0) lm size (omega (arith, low i h, rd .raw .few)) }
+
+      number-is : (i : ℕ) → i < n → getD T i 0 ≡ number (graphIn N n root) wg i
+      number-is i h = ft .at i h ∙ ap₂ placeIn (colour-is i h) order-is
+
+      number-small : (i : ℕ) → i < n → number (graphIn N n root) wg i < 192
+      number-small i h = omega (arith, place-le (colourOf (colours (nodesIn N 0 n)) i) (order (graphIn N n root) wg), counted, canon-count)
+
+      g′ : Gathered N O m T E (240 * dst) E
+      g′ = record {
+        same = refl;
+        here = λ j k h l. kept-byte (240 * dst + 6 * j + k) (λ z. omega arith) (λ z. omega arith) ∙ g .here j k h l;
+        below = λ q h. refl;
+        above = λ q h. refl;
+      }
+
+      node-is : (j : ℕ) → j < m → nodeIn E (240 * dst + 6 * j) ≡ nodeAt (listed (graphIn N n root) wg) j
+      node-is j h =
+          let c : getD O j 0 < n = listed-low j h in
+          let ec : getD O j 0 ≡ getD (order (graphIn N n root) wg) j 0 = sym (getD-take m O j 0 h) ∙ ap (λ (l : List ℕ). getD l j 0) order-is in
+          let z : 0 + 6 * getD O j 0 ≡ 6 * getD O j 0 = omega arith in
+          gathered-node N O m T E (240 * dst) E g′ j h
+          ∙ ap (λ (p : ℕ). changed (turnRef T) (nodeIn N p)) (sym z)
+          ∙ ap (changed (turnRef T)) (sym (at-nodes N 0 n (getD O j 0) c))
+          ∙ node-agree (turnRef T) (rename (number (graphIn N n root) wg)) (InRange n)
+          (turn-rename T n (number (graphIn N n root) wg) (rd .raw .few) number-is number-small) (nodeAt (nodesIn N 0 n) (getD O j 0)) (inner (getD O j 0))
+          ∙ ap (λ (q : ℕ). renameNode (number (graphIn N n root) wg) (nodeAt (nodesIn N 0 n) q)) ec
+          ∙ sym (getD-map-lt (λ q. renameNode (number (graphIn N n root) wg) (nodeAt (nodesIn N 0 n) q)) (order (graphIn N n root) wg) j (node 0 []) 0 (omega (arith, counted, canon-count)))
+
+      count-is : countIn E dst ≡ m
+      unfolding countIn
+      count-is = getD-set-other (set D (240 * dst + 192) m) (240 * dst + 193) (240 * dst + 192) l 0 (λ z. omega arith) ∙ getD-set-same D (240 * dst + 192) m 0 (omega (arith, g .same, rd .room))
+
+      root-is : number (graphIn N n root) wg root ≡ 0
+      root-is = canonical-root (canon (graphIn N n root)) (canon-whole (graphIn N n root) wg) (canon-canon (graphIn N n root) wg) _ (ap (λ (h : Graph). h .root) (canon-is (graphIn N n root) wg))
+
+      block-is : graphAt E dst 0 ≡ canon (graphIn N n root)
+      unfolding objectsIn
+      block-is =
+          ap₂ graph (ap obj (sym root-is))
+          (ap (nodesIn E (240 * dst)) count-is
+          ∙ nodes-ext (nodesIn E (240 * dst) m) (listed (graphIn N n root) wg)
+          (length-nodes _ (240 * dst) m ∙ counted ∙ canon-count ∙ sym (length-map (order (graphIn N n root) wg) _))
+          (λ j l. let h : j < m = omega (arith, length-nodes E (240 * dst) m) in at-nodes _ (240 * dst) m j h ∙ node-is j h))
+          ∙ sym (canon-is (graphIn N n root) wg)
+
+      filled-is : 1 ≤ m
+      filled-is = omega (arith, order-some (graphIn N n root) wg root refl, counted, canon-count)
+
+      level-is : levelIn E dst ≡ l
+      unfolding levelIn
+      level-is = getD-set-same (set D (240 * dst + 192) m) (240 * dst + 193) l 0 (omega (arith, length-set D (240 * dst + 192) m, g .same, rd .room))
+
+      whole-is : Whole (graph undet (objectsIn E dst))
+      whole-is =
+          let w = subst Whole (sym block-is) (canon-whole (graphIn N n root) wg) in
+          record { top = tt; inner = w .inner }
+
+      block-ok : Block E dst
+      block-ok = record {
+        room = omega (arith, same-size, rd .room);
+        small = rw count-is few;
+        packed = λ j l.
+            let h : j < m = omega (arith, count-is) in
+            gathered-packed N O m T E (240 * dst) E g′ j h (rd .raw .packed (getD O j 0) (listed-low j h));
+        whole = whole-is;
+        distinct = subst (λ (v : Graph). Distinct (v .nodes)) (sym block-is) (value-distinct (canon (graphIn N n root)) (canon-whole (graphIn N n root) wg) (canon-canon (graphIn N n root) wg));
+        level = λ q h. rw (kept-byte (240 * dst + q) (λ z. omega (arith, count-is)) (λ z. omega (arith, count-is)), level-is) (lv .below q (omega (arith, count-is)));
+      }
+
+      pub put-done : Placed N n root W dst E m
+      put-done = record {
+        count = counted;
+        outside = record {
+          same = same-size;
+          below = λ p h. kept-byte p (λ z. omega arith) (λ z. omega arith) ∙ g .below p h;
+          above = λ p h. kept-byte p (λ z. omega arith) (λ z. omega arith) ∙ g .above p (omega arith);
+        };
+        has = λ l. record { inside = record { block = block-ok; low = rw count-is filled-is }; is = block-is };
+      }
+
+-- ---- a level
+pub level-none : (W : List ℕ) (at : ℕ) (l : ℕ) → Levels W at 0 l
+level-none W at l = record { below = λ q h. absurd (omega arith) }
+
+module _ (W : List ℕ) (at q l : ℕ) (lv : Levels W at q l) where
+  pub level-more : (m : ℕ) → l ≤ m → getD W (at + q) 0 < 193 + m → Levels W at (q + 1) m
+  level-more m h c = record { below = λ p k. go p k (ℕ-discrete p q) }
+    where
+      go : (p : ℕ) → p < q + 1 → Dec (p ≡ q) → getD W (at + p) 0 < 193 + m
+      go p k (yes e) = rw e c
+      go p k (no e) = omega (arith, lv .below p (omega (arith, e)))
+
+  pub level-more-0 : at ≡ 0 → (m : ℕ) → l ≤ m → getD W q 0 < 193 + m → Levels W 0 (q + 1) m
+  level-more-0 e m h c = let z : at + q ≡ q = omega arith in rw e at (level-more m h (rw z c))
+
+  pub level-done : (p : ℕ) → q ≤ p → p ≤ q → Levels W at p l
+  level-done p h k = let e : q ≡ p = omega arith in rw e at lv

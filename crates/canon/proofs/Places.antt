@@ -1,0 +1,43 @@
+-- Laws of the first place of an object.
+use Prim.Native.Nat.{ℕ, suc, _+_, _-_, _*_, _<_, _≤_}
+use native.Mathlib.Omega.{arith}
+use mathlib.Core.Path.{_≡_, sym, ap, _∙_}
+use mathlib.Core.Bool.{Bool, true, false}
+use mathlib.Core.List.{List, _∷_}
+use Rattle.cofj.specs.Values.{placeOf, eqNode, eqNats}
+use Rattle.cofj.proofs.Basics.{eqNode-refl}
+use Rattle.canon.specs.Layout.{nodeIn, nodesIn, part}
+use Rattle.canon.specs.Rounds.{Looks, placeIs}
+use Rattle.canon.proofs.Nodes.{eq-node}
+
+module _ (L : List ℕ) (n i j : ℕ) (lk : Looks L n) (hi : i < n)
+    (inv : placeIs L n i ≡ j + placeOf (nodeIn L (6 * i)) (nodesIn L (6 * j) (n - j))) where
+  next-node : j < n → nodesIn L (6 * j) (n - j) ≡ nodeIn L (6 * j) ∷ nodesIn L (6 * (j + 1)) (n - (j + 1))
+  unfolding nodesIn
+  next-node h =
+      let e : n - j ≡ suc (n - (j + 1)) = omega arith in
+      let e6 : 6 * (j + 1) ≡ 6 * j + 6 = omega arith in
+      rw (e, e6)
+
+  test : j < n → eqNode (nodeIn L (6 * i)) (nodeIn L (6 * j)) ≡ eqNats (part L (6 * i) 6) (part L (6 * j) 6)
+  test h = eq-node L L (6 * i) (6 * j) (omega (arith, lk .few, lk .room)) (omega (arith, lk .few, lk .room)) (lk .packed i hi) (lk .packed j h)
+
+  pub place-found : (r : Bool) → j < i → r ≡ eqNats (part L (6 * i) 6) (part L (6 * j) 6) → r ≡ true → j ≡ placeIs L n i
+  unfolding placeOf
+  place-found r h e t = sym (inv ∙ rw (next-node (omega arith), test (omega arith), ← e, t, placeOf) (omega arith))
+
+  pub place-more : (r : Bool) → j < i → r ≡ eqNats (part L (6 * i) 6) (part L (6 * j) 6) → r ≡ false
+      → placeIs L n i ≡ (j + 1) + placeOf (nodeIn L (6 * i)) (nodesIn L (6 * (j + 1)) (n - (j + 1)))
+  unfolding placeOf
+  place-more r h e t = inv ∙ rw (next-node (omega arith), test (omega arith), ← e, t, placeOf) (omega arith)
+
+  pub place-last : j ≤ i → i ≤ j → i ≡ placeIs L n i
+  unfolding placeOf
+  place-last h k =
+      let z : j ≡ i = omega arith in
+      let t : eqNode (nodeIn L (6 * i)) (nodeIn L (6 * j)) ≡ true = ap (λ (q : ℕ). eqNode (nodeIn L (6 * i)) (nodeIn L (6 * q))) z ∙ eqNode-refl (nodeIn L (6 * i)) in
+      sym (inv ∙ rw (next-node (omega arith), t, placeOf) (omega arith))
+
+pub place-start : (L : List ℕ) (n i : ℕ) → placeIs L n i ≡ 0 + placeOf (nodeIn L (6 * i)) (nodesIn L (6 * 0) (n - 0))
+unfolding placeIs
+place-start L n i = let e : n - 0 ≡ n = omega arith in rw e (omega arith)

@@ -1,0 +1,216 @@
+-- Laws of the walk.
+use Prim.Native.Nat.{ℕ, zero, suc, _+_, _-_, _*_, _<_, _≤_}
+use native.Mathlib.Omega.{arith}
+use native.Mathlib.Decide.{ℕ-discrete}
+use native.Mathlib.Numerals.{add-one}
+use mathlib.Core.Path.{_≡_, refl, sym, ap, _∙_}
+use mathlib.Core.Bool.{Bool, true, false, cond, true≢false}
+use mathlib.Core.List.{List, [], _∷_, _++_}
+use lib.Dec.{eqb}
+use lib.ListN.{length, getD, set, take, length-append, length-take, length-set, drop-of-length-le}
+use lib.Seq.{drop-cons, getD-take, getD-set-same, getD-set-other, length-take-le, take-suc-set}
+use borrow.Author.Tests.{eq-eqb, ne-eqb}
+use Rattle.cofj.specs.Values.{Ref, obj, mark, undet, Node, refsAt, colourOf, isIn, placeIn, visit, visitAll}
+use Rattle.canon.specs.Layout.{refOf, nodeIn, nodesIn}
+use Rattle.canon.specs.Walking.{walkRef, walkFields, markIn, Listed}
+use Rattle.canon.specs.Tables.{Filled}
+use Rattle.canon.proofs.Nodes.{ref-object, ref-undet, ref-mark, at-nodes}
+
+-- ---- what is met stays
+all-grows : (f : Ref → List ℕ → List ℕ) → ((r : Ref) (s : List ℕ) → length s ≤ length (f r s)) → (rs : List Ref) (s : List ℕ) → length s ≤ length (visitAll f rs s)
+unfolding visitAll
+all-grows f h [] s = omega arith
+all-grows f h (r ∷ rs) s = omega (arith, h r s, all-grows f h rs (f r s))
+
+grows : (ns : List Node) (cs : List ℕ) (k : ℕ) (r : Ref) (s : List ℕ) → length s ≤ length (visit ns cs k r s)
+unfolding visit
+grows ns cs zero r s = omega arith
+grows ns cs (suc k) (mark x) s = omega arith
+grows ns cs (suc k) undet s = omega arith
+grows ns cs (suc k) (obj i) s =
+    go (isIn (colourOf cs i) s) (all-grows (λ r t. visit ns cs k r t) (λ r t. grows ns cs k r t) (refsAt ns (colourOf cs i)) (s ++ (colourOf cs i ∷ [])))
+  where
+    go : (b : Bool) → length (s ++ (colourOf cs i ∷ [])) ≤ length (visitAll (λ r t. visit ns cs k r t) (refsAt ns (colourOf cs i)) (s ++ (colourOf cs i ∷ [])))
+        → length s ≤ length {A = ℕ} (elim b as (λ _. List ℕ) [ true ↦ s | false ↦ visitAll (λ r t. visit ns cs k r t) (refsAt ns (colourOf cs i)) (s ++ (colourOf cs i ∷ [])) ])
+    go true h = omega arith
+    go false h = omega (arith, length-append s (colourOf cs i ∷ []))
+
+pub ref-grows : (N C : List ℕ) (k r : ℕ) (s : List ℕ) → length s ≤ length (walkRef N C k r s)
+unfolding walkRef
+ref-grows N C k r s = grows (nodesIn N 0 256) C k (refOf r) s
+
+pub fields-grow : (N C : List ℕ) (k c f : ℕ) (s : List ℕ) → length s ≤ length (walkFields N C k c f s)
+unfolding walkFields
+fields-grow N C k c f s = all-grows (λ r t. visit (nodesIn N 0 256) C k r t) (λ r t. grows (nodesIn N 0 256) C k r t) _ s
+
+-- ---- the table of what is met
+pub listed-none : (T : List ℕ) → Filled (λ i. 0) 256 T → Listed T []
+unfolding markIn isIn
+listed-none T f = record { entry = λ c h. f .at c h }
+
+in-more : (c d : ℕ) (s : List ℕ) → ((d ≡ c) → ⊥) → markIn d (s ++ (c ∷ [])) ≡ markIn d s
+unfolding markIn isIn placeIn
+in-more c d s h = go s
+  where
+    go : (s : List ℕ) → markIn d (s ++ (c ∷ [])) ≡ markIn d s
+    go [] = rw (ne-eqb d c h, isIn)
+    go (x ∷ s) = pick (eqb d x) (isIn d (s ++ (c ∷ []))) (isIn d s) (go s)
+      where
+        pick : (b p q : Bool) → cond p (placeIn d (s ++ (c ∷ [])) + 1) 0 ≡ cond q (placeIn d s + 1) 0
+            → cond (elim b as (λ _. Bool) [ true ↦ true | false ↦ p ]) ((elim b as (λ _. ℕ) [ true ↦ 0 | false ↦ suc (placeIn d (s ++ (c ∷ []))) ]) + 1) 0
+            ≡ cond (elim b as (λ _. Bool) [ true ↦ true | false ↦ q ]) ((elim b as (λ _. ℕ) [ true ↦ 0 | false ↦ suc (placeIn d s) ]) + 1) 0
+        pick true p q e = refl
+        pick false true true e = omega arith
+        pick false true false e = absurd (omega arith)
+        pick false false true e = absurd (omega arith)
+        pick false false false e = refl
+
+in-last : (c : ℕ) (s : List ℕ) → isIn c s ≡ false → markIn c (s ++ (c ∷ [])) ≡ length s + 1
+unfolding markIn isIn placeIn
+in-last c [] h = rw (eq-eqb c c refl, isIn, placeIn)
+in-last c (x ∷ s) h = pick (eqb c x) h (in-last c s)
+  where
+    pick : (b : Bool) → (elim b as (λ _. Bool) [ true ↦ true | false ↦ isIn c s ]) ≡ false → (isIn c s ≡ false → cond (isIn c (s ++ (c ∷ []))) (placeIn c (s ++ (c ∷ [])) + 1) 0 ≡ length s + 1)
+        → cond (elim b as (λ _. Bool) [ true ↦ true | false ↦ isIn c (s ++ (c ∷ [])) ]) ((elim b as (λ _. ℕ) [ true ↦ 0 | false ↦ suc (placeIn c (s ++ (c ∷ []))) ]) + 1) 0 ≡ suc (length s) + 1
+    pick true e ih = absurd (true≢false e)
+    pick false e ih = go (isIn c (s ++ (c ∷ []))) (ih e)
+      where
+        go : (p : Bool) → cond p (placeIn c (s ++ (c ∷ [])) + 1) 0 ≡ length s + 1 → cond p (suc (placeIn c (s ++ (c ∷ []))) + 1) 0 ≡ suc (length s) + 1
+        go true z = omega arith
+        go false z = absurd (omega arith)
+
+-- a colour is met exactly when its entry is not 0
+mark-in : (c : ℕ) (s : List ℕ) → ((markIn c s ≡ 0) → ⊥) → isIn c s ≡ true
+unfolding markIn
+mark-in c s h = go (isIn c s) refl
+  where
+    go : (b : Bool) → isIn c s ≡ b → isIn c s ≡ true
+    go true e = e
+    go false e = absurd (h (rw e))
+
+mark-out : (c : ℕ) (s : List ℕ) → markIn c s ≡ 0 → isIn c s ≡ false
+unfolding markIn
+mark-out c s h = go (isIn c s) refl
+  where
+    go : (b : Bool) → isIn c s ≡ b → isIn c s ≡ false
+    go true e = absurd (let z : cond true (placeIn c s + 1) 0 ≡ 0 = sym (ap (λ (x : Bool). cond x (placeIn c s + 1) 0) e) ∙ h in omega arith)
+    go false e = e
+
+pub listed-more : (T s : List ℕ) (c m : ℕ) → Listed T s → length s ≡ m → getD T c 0 ≡ 0 → c < 256 → 256 ≤ length T → Listed (set T c (m + 1)) (s ++ (c ∷ []))
+listed-more T s c m l e z h room = record { entry = λ d k. go d k (ℕ-discrete d c) }
+  where
+    go : (d : ℕ) → d < 256 → Dec (d ≡ c) → getD (set T c (m + 1)) d 0 ≡ markIn d (s ++ (c ∷ []))
+    go d k (yes q) = rw q (getD-set-same T c (m + 1) 0 (omega arith) ∙ ap (λ (x : ℕ). x + 1) (sym e) ∙ sym (in-last c s (mark-out c s (sym (l .entry c h) ∙ z))))
+    go d k (no q) = getD-set-other T c d (m + 1) 0 q ∙ l .entry d k ∙ sym (in-more c d s q)
+
+pub new-listed : (T O : List ℕ) (c m : ℕ) → c < 256 → Listed T (take m O) → 256 ≤ length O → suc m ≤ 256 → getD T c 0 ≡ 0 → 256 ≤ length T
+    → Listed (set T c (m + 1)) (take (m + 1) (set O m c))
+new-listed T O c m low lt room small h long =
+    let e : take (m + 1) (set O m c) ≡ take m O ++ (c ∷ []) = rw (add-one m) (take-suc-set O m c (omega arith)) in
+    rw e (listed-more T (take m O) c m lt (length-take-le m O (omega arith)) h low long)
+
+-- ---- one code
+no-visit : (ns : List Node) (cs : List ℕ) (k : ℕ) (r : Ref) (s : List ℕ) → ((i : ℕ) → r ≡ obj i → ⊥) → visit ns cs k r s ≡ s
+unfolding visit
+no-visit ns cs zero r s h = refl
+no-visit ns cs (suc k) (obj i) s h = absurd (h i refl)
+no-visit ns cs (suc k) (mark x) s h = refl
+no-visit ns cs (suc k) undet s h = refl
+
+no-object : (r : ℕ) → 192 ≤ r → (i : ℕ) → refOf r ≡ obj i → ⊥
+no-object r h i e = go (ℕ-discrete r 192)
+  where
+    go : Dec (r ≡ 192) → ⊥
+    go (yes z) = let y : undet ≡ obj i = sym ref-undet ∙ ap refOf (sym z) ∙ e in let q : _≡_ {A = ℕ} 0 1 = cc in omega arith
+    go (no z) =
+        let zz : 193 + (r - 193) ≡ r = omega (arith, z) in
+        let y : mark (r - 193) ≡ obj i = sym (ref-mark (r - 193)) ∙ ap refOf zz ∙ e in
+        let q : _≡_ {A = ℕ} 0 1 = cc in omega arith
+
+module _ (N C O : List ℕ) (k r m : ℕ) where
+  pub visit-zero : k ≡ 0 → take m O ≡ walkRef N C k r (take m O)
+  unfolding walkRef visit
+  visit-zero e = rw e
+
+  pub visit-none : 192 ≤ r → take m O ≡ walkRef N C k r (take m O)
+  unfolding walkRef
+  visit-none h = sym (no-visit (nodesIn N 0 256) C k (refOf r) (take m O) (no-object r h))
+
+  module _ (nz : (k ≡ 0) → ⊥) (obj-r : r < 192) (T : List ℕ) (low : getD C r 0 < 256) (lt : Listed T (take m O)) where
+    step : (b : Bool) → isIn (getD C r 0) (take m O) ≡ b → walkRef N C k r (take m O)
+        ≡ (elim b as (λ _. List ℕ) [ true ↦ take m O | false ↦ walkFields N C (k - 1) (getD C r 0) 0 (take m O ++ (getD C r 0 ∷ [])) ])
+    unfolding walkRef visit walkFields
+    step b eb =
+        let ek : k ≡ suc (k - 1) = omega (arith, nz) in
+        ap (λ (x : Ref). visit (nodesIn N 0 256) C k x (take m O)) (ref-object r obj-r)
+        ∙ ap (λ (x : ℕ). visit (nodesIn N 0 256) C x (obj r) (take m O)) ek
+        ∙ ap (λ (x : Bool). elim x as (λ _. List ℕ) [ true ↦ take m O | false ↦ visitAll (λ y t. visit (nodesIn N 0 256) C (k - 1) y t) (refsAt (nodesIn N 0 256) (getD C r 0)) (take m O ++ (getD C r 0 ∷ [])) ]) eb
+
+    pub visit-seen : ((getD T (getD C r 0) 0 ≡ 0) → ⊥) → take m O ≡ walkRef N C k r (take m O)
+    visit-seen h = sym (step true (mark-in (getD C r 0) (take m O) (λ z. h (lt .entry (getD C r 0) low ∙ z))))
+
+    module _ (room : 256 ≤ length O) (small : suc m ≤ 256) (h : getD T (getD C r 0) 0 ≡ 0) where
+      put : take (m + 1) (set O m (getD C r 0)) ≡ take m O ++ (getD C r 0 ∷ [])
+      put = rw (add-one m) (take-suc-set O m (getD C r 0) (omega arith))
+
+      pub visit-same : walkRef N C k r (take m O) ≡ walkFields N C (k - 1) (getD C r 0) 0 (take (m + 1) (set O m (getD C r 0)))
+      visit-same = step false (mark-out (getD C r 0) (take m O) (sym (lt .entry (getD C r 0) low) ∙ h)) ∙ ap (walkFields N C (k - 1) (getD C r 0) 0) (sym put)
+
+      pub visit-new : (s : List ℕ) → s ≡ walkFields N C (k - 1) (getD C r 0) 0 (take (m + 1) (set O m (getD C r 0))) → s ≡ walkRef N C k r (take m O)
+      visit-new s e = e ∙ sym visit-same
+
+      pub new-small : length (walkRef N C k r (take m O)) ≤ 255 → length (walkFields N C (k - 1) (getD C r 0) 0 (take (m + 1) (set O m (getD C r 0)))) ≤ 255
+      new-small l = rw (← visit-same) l
+
+      pub new-fits : length (walkRef N C k r (take m O)) ≤ 255 → m + 1 ≤ 255
+      new-fits l =
+          let a = fields-grow N C (k - 1) (getD C r 0) 0 (take (m + 1) (set O m (getD C r 0))) in
+          let b = length-take-le (m + 1) (set O m (getD C r 0)) (rw (length-set O m (getD C r 0)) (omega arith)) in
+          omega (arith, new-small l)
+
+-- ---- the fields
+refs-are : (N : List ℕ) (c : ℕ) → suc c ≤ 256 → refsAt (nodesIn N 0 256) c
+    ≡ take (getD N (6 * c + 1) 0) (refOf (getD N (6 * c + 2) 0) ∷ refOf (getD N (6 * c + 3) 0) ∷ refOf (getD N (6 * c + 4) 0) ∷ refOf (getD N (6 * c + 5) 0) ∷ [])
+unfolding nodeIn
+refs-are N c h = let e : 0 + 6 * c ≡ 6 * c = omega arith in ap (λ (x : Node). x .refs) (at-nodes N 0 256 c h ∙ ap (nodeIn N) e)
+
+abbrev pub four : List ℕ → ℕ → List Ref
+four N c = refOf (getD N (6 * c + 2) 0) ∷ refOf (getD N (6 * c + 3) 0) ∷ refOf (getD N (6 * c + 4) 0) ∷ refOf (getD N (6 * c + 5) 0) ∷ []
+
+pub four-at : (N : List ℕ) (c f : ℕ) → f < 4 → getD (four N c) f undet ≡ refOf (getD N (6 * c + 2 + f) 0)
+four-at N c zero h = let e : 6 * c + 2 + 0 ≡ 6 * c + 2 = omega arith in rw e
+four-at N c (suc zero) h = let e : 6 * c + 2 + 1 ≡ 6 * c + 3 = omega arith in rw e
+four-at N c (suc (suc zero)) h = let e : 6 * c + 2 + 2 ≡ 6 * c + 4 = omega arith in rw e
+four-at N c (suc (suc (suc zero))) h = let e : 6 * c + 2 + 3 ≡ 6 * c + 5 = omega arith in rw e
+four-at N c (suc (suc (suc (suc f)))) h = absurd (omega arith)
+
+module _ (N C : List ℕ) (k c f : ℕ) (s : List ℕ) (small : suc c ≤ 256) where
+  over : length (refsAt (nodesIn N 0 256) c) ≤ f → s ≡ walkFields N C k c f s
+  unfolding walkFields visitAll
+  over h = sym (ap (λ (l : List Ref). visitAll (λ r t. visit (nodesIn N 0 256) C k r t) l s) (drop-of-length-le (refsAt (nodesIn N 0 256) c) {i = f} h))
+
+  pub fields-end : 4 ≤ f → s ≡ walkFields N C k c f s
+  fields-end h = over (omega (arith, ap length (refs-are N c small), length-take (getD N (6 * c + 1) 0) (four N c)))
+
+  pub fields-out : getD N (6 * c + 1) 0 ≤ f → s ≡ walkFields N C k c f s
+  fields-out h = over (omega (arith, ap length (refs-are N c small), length-take (getD N (6 * c + 1) 0) (four N c)))
+
+  module _ (h4 : f < 4) (hc : f < getD N (6 * c + 1) 0) where
+    pub fields-step : walkFields N C k c f s ≡ walkFields N C k c (f + 1) (walkRef N C k (getD N (6 * c + 2 + f) 0) s)
+    unfolding walkFields visitAll walkRef
+    fields-step =
+        let l : f < length (refsAt (nodesIn N 0 256) c) = omega (arith, ap length (refs-are N c small), length-take (getD N (6 * c + 1) 0) (four N c)) in
+        let e : getD (refsAt (nodesIn N 0 256) c) f undet ≡ refOf (getD N (6 * c + 2 + f) 0) =
+        ap (λ (x : List Ref). getD x f undet) (refs-are N c small) ∙ getD-take (getD N (6 * c + 1) 0) (four N c) f undet hc ∙ four-at N c f h4 in
+        ap (λ (x : List Ref). visitAll (λ r t. visit (nodesIn N 0 256) C k r t) x s) (drop-cons (refsAt (nodesIn N 0 256) c) f undet l)
+        ∙ rw (e, add-one f)
+
+    pub first-small : length (walkFields N C k c f s) ≤ 255 → length (walkRef N C k (getD N (6 * c + 2 + f) 0) s) ≤ 255
+    first-small l = omega (arith, rw fields-step at l, fields-grow N C k c (f + 1) (walkRef N C k (getD N (6 * c + 2 + f) 0) s))
+
+    module _ (s1 : List ℕ) (e1 : s1 ≡ walkRef N C k (getD N (6 * c + 2 + f) 0) s) where
+      pub rest-small : length (walkFields N C k c f s) ≤ 255 → length (walkFields N C k c (f + 1) (s1)) ≤ 255
+      rest-small l = rw e1 (rw fields-step at l)
+
+      pub fields-more : (s2 : List ℕ) → s2 ≡ walkFields N C k c (f + 1) (s1) → s2 ≡ walkFields N C k c f s
+      fields-more s2 e2 = e2 ∙ ap (walkFields N C k c (f + 1)) e1 ∙ sym fields-step

@@ -1,0 +1,30 @@
+use borrow.Author.Needs.{needs}
+use Rattle.canon.proofs.colours.round.Statement.{statement}
+use Rattle.canon.proofs.colours.round.Tie as tie
+use Rattle.canon.proofs.colours.round.Reads as reads
+use Rattle.canon.proofs.colours.round.Lts as lts
+use Rattle.canon.proofs.colours.places.Reads as places-reads
+use Rattle.canon.proofs.lift.lift.Reads as lift-reads
+use native.Mathlib.Omega.{arith}
+use Rattle.canon.proofs.Rounds as laws
+
+places-requires : tie.Need-places-requires
+places-requires c κs = (search laws.looks-ok, search needs)
+
+returns : tie.Need-returns
+returns c =
+    let placed = c .before .before in
+    let lifted = placed .before .before .before .before .before in
+    let start = lifted .before .before .before .before .before .before in
+    laws.round-done _ _ _ _ _ (start .pre .0) (lifted .lift .ensures) _ (start .pre .1) (placed .places .ensures) (omega arith)
+
+pub round-spec : {M : Type 1} → statement M
+round-spec =
+    tie.close
+    (tie.spec
+    (λ c. search needs)
+    (λ c κs. search needs)
+    places-requires
+    (λ c. search needs)
+    (λ c. search needs)
+    returns)

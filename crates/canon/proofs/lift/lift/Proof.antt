@@ -1,0 +1,45 @@
+use Rattle.canon.proofs.lift.lift.Statement.{statement}
+use Rattle.canon.proofs.lift.lift.Tie as tie
+use Rattle.canon.proofs.lift.lift.Reads as reads
+use Rattle.canon.proofs.lift.lift.Lts as lts
+use Rattle.canon.proofs.lift.part_of.Reads as part-of-reads
+use borrow.Author.Needs.{needs}
+use mathlib.Core.Path.{_≡_}
+use Prim.Native.Nat.{_≤_, _-_}
+use native.Mathlib.Omega.{arith}
+use lib.ListN.{length, length-set}
+use Rattle.canon.specs.Tables.{Lifted}
+use Rattle.canon.proofs.Lifts as laws
+
+abbrev Inv-loop : tie.InvT-loop
+Inv-loop src from p table dst₀ to q₀ dst q = (q ≤ p) × (length dst ≡ length dst₀) × Lifted src from q table dst₀ to dst
+
+abbrev μ-loop : tie.MeasureT-loop
+μ-loop src from p table dst₀ to q₀ dst q = p - q
+
+loop-holds : tie.Need-loop-holds Inv-loop μ-loop
+loop-holds c = (search needs, search needs, laws.lift-none _ _ _ _ _)
+
+loop-again : tie.Need-loop-again Inv-loop μ-loop
+loop-again c = (search needs, simp length-set (omega arith), search laws.lift-more)
+
+returns : tie.Need-returns Inv-loop μ-loop
+returns c = search laws.lift-done
+
+pub lift-spec : {M : Type 1} → statement M
+lift-spec =
+    tie.close
+    (tie.spec
+    Inv-loop
+    μ-loop
+    loop-holds
+    (λ c. search needs)
+    (λ c. search needs)
+    (λ c κs. search needs)
+    (λ c. search needs)
+    (λ c. search needs)
+    (λ c. search needs)
+    (λ c. search needs)
+    loop-again
+    (λ c. search needs)
+    returns)

@@ -1,0 +1,21 @@
+use borrow.Author.Needs.{needs}
+use Rattle.canon.proofs.lift.part_of.Statement.{statement}
+use Rattle.canon.proofs.lift.part_of.Tie as tie
+use Rattle.canon.proofs.lift.part_of.Reads as reads
+use Rattle.canon.proofs.lift.part_of.Lts as lts
+use Rattle.canon.proofs.lift.turn.Reads as turn-reads
+use Rattle.canon.proofs.Lifts as laws
+
+returns : tie.Need-returns
+returns c = search laws.copy-plain
+
+returns-2 : tie.Need-returns-2
+returns-2 c = search laws.copy-turned
+
+pub part-of-spec : {M : Type 1} → statement M
+part-of-spec =
+    tie.close
+    (tie.spec
+    returns
+    (λ c κs. search needs)
+    returns-2)

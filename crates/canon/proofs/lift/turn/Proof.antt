@@ -1,0 +1,20 @@
+use borrow.Author.Needs.{needs}
+use Rattle.canon.proofs.lift.turn.Statement.{statement}
+use Rattle.canon.proofs.lift.turn.Tie as tie
+use Rattle.canon.proofs.lift.turn.Reads as reads
+use Rattle.canon.proofs.lift.turn.Lts as lts
+use Rattle.canon.proofs.Lifts as laws
+
+returns : tie.Need-returns
+returns c = search laws.turn-object
+
+returns-2 : tie.Need-returns-2
+returns-2 c = search laws.turn-other
+
+pub turn-spec : {M : Type 1} → statement M
+turn-spec =
+    tie.close
+    (tie.spec
+    (λ c. search needs)
+    returns
+    returns-2)

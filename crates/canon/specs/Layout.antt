@@ -1,0 +1,93 @@
+-- How references and objects lie in bytes (docs/VALUES.md), and when a block holds objects.
+-- Not here: the values that they stand for (crate values, Layout), what is done with them.
+use Prim.Native.Nat.{ℕ, zero, suc, _+_, _-_, _*_, _≤_, _<_}
+use mathlib.Core.Path.{_≡_}
+use mathlib.Core.Bool.{Bool, false, cond}
+use mathlib.Core.List.{List, [], _∷_}
+use lib.Dec.{ltb, eqb}
+use lib.ListN.{length, getD, take, drop}
+use Rattle.cofj.specs.Values.{Ref, obj, mark, undet, Node, node, Graph, graph}
+use Rattle.cofj.specs.Unfolding.{Same, Whole}
+
+-- the reference that a code stands for: every number is one
+unfoldable pub refOf : ℕ → Ref
+refOf b = cond (ltb b 192) (obj b) (cond (eqb b 192) undet (mark (b - 193)))
+
+abbrev pub codeOf : Ref → ℕ
+codeOf (obj i) = i
+codeOf undet = 192
+codeOf (mark k) = 193 + k
+
+-- the object at a place: class, number of fields, four codes
+unfoldable pub nodeIn : List ℕ → ℕ → Node
+nodeIn S at =
+    node (getD S at 0)
+    (take (getD S (at + 1) 0)
+    (refOf (getD S (at + 2) 0) ∷ refOf (getD S (at + 3) 0) ∷ refOf (getD S (at + 4) 0) ∷ refOf (getD S (at + 5) 0) ∷ []))
+
+-- n objects from a place on
+unfoldable pub nodesIn : List ℕ → ℕ → ℕ → List Node
+nodesIn S at zero = []
+nodesIn S at (suc n) = nodeIn S at ∷ nodesIn S (at + 6) n
+
+-- at most four fields, and the codes of the others undetermined
+pub record Packed (S : List ℕ) (at : ℕ) : Type 0 where
+  pub count : getD S (at + 1) 0 ≤ 4
+  pub spare : (k : ℕ) → 2 + getD S (at + 1) 0 ≤ k → k < 6 → getD S (at + k) 0 ≡ 192
+
+-- the objects at two places have one class and as many fields
+pub record Alike (S : List ℕ) (p q : ℕ) : Type 0 where
+  pub cls : getD S p 0 ≡ getD S q 0
+  pub count : getD S (p + 1) 0 ≡ getD S (q + 1) 0
+
+-- whether they have
+unfoldable pub alikeAt : List ℕ → ℕ → ℕ → Bool
+alikeAt S p q = cond (eqb (getD S p 0) (getD S q 0)) (eqb (getD S (p + 1) 0) (getD S (q + 1) 0)) false
+
+-- n bytes from a place on
+abbrev pub part : List ℕ → ℕ → ℕ → List ℕ
+part S at n = take n (drop at S)
+
+-- the objects that block b lists
+unfoldable pub countIn : List ℕ → ℕ → ℕ
+countIn W b = getD W (240 * b + 192) 0
+
+-- no byte of these objects is 193 + the level or more: so every mark in them is below the level
+unfoldable pub levelIn : List ℕ → ℕ → ℕ
+levelIn W b = getD W (240 * b + 193) 0
+
+-- the objects in block b, and the graph from object i of them on
+unfoldable pub objectsIn : List ℕ → ℕ → List Node
+objectsIn W b = nodesIn W (240 * b) (countIn W b)
+
+abbrev pub graphAt : List ℕ → ℕ → ℕ → Graph
+graphAt W b i = graph (obj i) (objectsIn W b)
+
+-- no two of the objects unfold to the same tree
+pub record Distinct (ns : List Node) : Type 0 where
+  pub apart : (i j : ℕ) → i < length ns → j < length ns → Same ns (obj i) ns (obj j) → i ≡ j
+
+-- block b holds objects
+pub record Block (W : List ℕ) (b : ℕ) : Type 0 where
+  pub room : 240 * b + 240 ≤ length W
+  pub small : countIn W b ≤ 32
+  pub packed : (i : ℕ) → i < countIn W b → Packed W (240 * b + 6 * i)
+  pub whole : Whole (graph undet (objectsIn W b))
+  pub distinct : Distinct (objectsIn W b)
+  pub level : (q : ℕ) → q < 6 * countIn W b → getD W (240 * b + q) 0 < 193 + levelIn W b
+
+-- and object i is one of them
+pub record Inside (W : List ℕ) (b i : ℕ) : Type 0 where
+  pub block : Block W b
+  pub low : i < countIn W b
+
+-- every byte outside block b is as before
+pub record Outside (b : ℕ) (W W′ : List ℕ) : Type 0 where
+  pub same : length W′ ≡ length W
+  pub below : (p : ℕ) → p < 240 * b → getD W′ p 0 ≡ getD W p 0
+  pub above : (p : ℕ) → 240 * b + 240 ≤ p → getD W′ p 0 ≡ getD W p 0
+
+-- every byte below block b is as before
+pub record Beneath (b : ℕ) (W W′ : List ℕ) : Type 0 where
+  pub same : length W′ ≡ length W
+  pub below : (p : ℕ) → p < 240 * b → getD W′ p 0 ≡ getD W p 0

@@ -1,0 +1,6 @@
+pub mod Layout
+pub mod Tables
+pub mod Rounds
+pub mod Pairing
+pub mod Walking
+pub mod Numbers

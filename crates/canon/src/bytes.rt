@@ -1,0 +1,99 @@
+// Runs of bytes compared and copied, and tables filled. Not here: what the bytes stand for.
+ghost use mathlib.Core.Path.{_≡_};
+ghost use Prim.Native.Nat.{ℕ, _+_, _<_, _≤_};
+ghost use lib.ListN.{length};
+ghost use Rattle.cofj.specs.Values.{eqNats};
+ghost use Rattle.canon.specs.Layout.{part};
+ghost use Rattle.canon.specs.Tables.{Filled, Four, Two, Carried};
+
+// Whether the n bytes of a from i on are those of b from j on.
+pub fn same(a: &[u8], i: usize, b: &[u8], j: usize, n: usize) -> bool
+    requires { ⌜ (i + n ≤ length (now a)) × (j + n ≤ length (now b)) ⌝ }
+    ensures { λ r. ⌜ r ≡ eqNats (part (now (a .entry)) i n) (part (now (b .entry)) j n) ⌝ }
+{
+    let mut k: usize = 0;
+    while k < n {
+        if a[i + k] != b[j + k] {
+            return false;
+        }
+        k += 1;
+    }
+    true
+}
+
+// Four bytes as one number, and two: the machine reads them at once.
+pub fn four_at(a: &[u8], p: usize) -> u32
+    requires { ⌜ p + 4 ≤ length (now a) ⌝ }
+    ensures { λ r. ⌜ Four (now (a .entry)) p r ⌝ }
+{
+    (a[p] as u32)
+        + 256 * (a[p + 1] as u32)
+        + 65536 * (a[p + 2] as u32)
+        + 16777216 * (a[p + 3] as u32)
+}
+
+pub fn two_at(a: &[u8], p: usize) -> u32
+    requires { ⌜ p + 2 ≤ length (now a) ⌝ }
+    ensures { λ r. ⌜ Two (now (a .entry)) p r ⌝ }
+{
+    (a[p] as u32) + 256 * (a[p + 1] as u32)
+}
+
+// The same as `same` for six bytes.
+pub fn same_six(a: &[u8], i: usize, b: &[u8], j: usize) -> bool
+    requires { ⌜ (i + 6 ≤ length (now a)) × (j + 6 ≤ length (now b)) ⌝ }
+    ensures { λ r. ⌜ r ≡ eqNats (part (now (a .entry)) i 6) (part (now (b .entry)) j 6) ⌝ }
+{
+    if four_at(a, i) != four_at(b, j) {
+        return false;
+    }
+    two_at(a, i + 4) == two_at(b, j + 4)
+}
+
+// n bytes of `from`, from place i on, to place j of `to`.
+pub fn copy(from: &[u8], i: usize, to: &mut [u8], j: usize, n: usize)
+    requires { ⌜ (i + n ≤ length (now from)) × (j + n ≤ length (now to)) ⌝ }
+    ensures { λ _. ⌜ Carried (now (from .entry)) i (now (to .entry)) j n (now (to .exit)) ⌝ }
+{
+    let mut k: usize = 0;
+    while k < n {
+        to[j + k] = from[i + k];
+        k += 1;
+    }
+}
+
+// base, base + 1, .., n of them.
+pub fn count_up(base: u8, n: u8, to: &mut [u8])
+    requires { ⌜ (base + n ≤ 192) × (256 ≤ length (now to)) ⌝ }
+    ensures { λ _. ⌜ Filled (λ i. base + i) n (now (to .exit)) ⌝ }
+{
+    let mut i: u8 = 0;
+    while i < n {
+        to[i as usize] = base + i;
+        i += 1;
+    }
+}
+
+// n zeros.
+pub fn clear(n: u8, to: &mut [u8])
+    requires { ⌜ 256 ≤ length (now to) ⌝ }
+    ensures { λ _. ⌜ Filled (λ i. 0) n (now (to .exit)) ⌝ }
+{
+    let mut i: u8 = 0;
+    while i < n {
+        to[i as usize] = 0;
+        i += 1;
+    }
+}
+
+// m zeros, for a longer table.
+pub fn wipe(to: &mut [u8], m: usize)
+    requires { ⌜ m ≤ length (now to) ⌝ }
+    ensures { λ _. ⌜ Filled (λ i. 0) m (now (to .exit)) ⌝ }
+{
+    let mut i: usize = 0;
+    while i < m {
+        to[i] = 0;
+        i += 1;
+    }
+}

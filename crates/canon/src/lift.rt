@@ -1,0 +1,39 @@
+// Objects copied, with their codes turned. Not here: which table turns them.
+ghost use mathlib.Core.Path.{_≡_};
+ghost use Prim.Native.Nat.{ℕ, _+_, _<_, _≤_};
+ghost use lib.ListN.{length};
+ghost use Rattle.canon.specs.Tables.{turned, copied, Lifted};
+
+// A code turned: an object by the table, any other code itself.
+pub fn turn(table: &[u8], b: u8) -> u8
+    requires { ⌜ 256 ≤ length (now table) ⌝ }
+    ensures { λ r. ⌜ r ≡ turned (now (table .entry)) b ⌝ }
+{
+    if b < 192 {
+        return table[b as usize];
+    }
+    b
+}
+
+// Byte k of an object, turned if it is a code.
+pub fn part_of(table: &[u8], k: usize, b: u8) -> u8
+    requires { ⌜ 256 ≤ length (now table) ⌝ }
+    ensures { λ r. ⌜ r ≡ copied (now (table .entry)) k b ⌝ }
+{
+    if k < 2 {
+        return b;
+    }
+    turn(table, b)
+}
+
+// p bytes of objects, from a place of `src` to a place of `dst`.
+pub fn lift(src: &[u8], from: usize, p: usize, table: &[u8], dst: &mut [u8], to: usize)
+    requires { ⌜ (from + p ≤ length (now src)) × (to + p ≤ length (now dst)) × (256 ≤ length (now table)) ⌝ }
+    ensures { λ _. ⌜ Lifted (now (src .entry)) from p (now (table .entry)) (now (dst .entry)) to (now (dst .exit)) ⌝ }
+{
+    let mut q: usize = 0;
+    while q < p {
+        dst[to + q] = part_of(table, q % 6, src[from + q]);
+        q += 1;
+    }
+}

@@ -1,0 +1,107 @@
+// The objects of a graph, merged by colour and numbered in the order met, in a block: its value.
+// Not here: the colours (colours, pairs), the order (walk).
+use crate::bytes::wipe;
+use crate::lift::lift;
+use crate::walk::visit;
+ghost use mathlib.Core.Path.{_≡_};
+ghost use Prim.Native.Nat.{ℕ, _+_, _*_, _<_, _≤_};
+ghost use lib.ListN.{length, getD};
+ghost use Rattle.canon.specs.Tables.{Filled};
+ghost use Rattle.canon.specs.Numbers.{numberIn, Gathered, Levels, Ready, Placed};
+
+// The number of an object of colour c: the colour's place in the order, which the table tells; m if it is not met.
+pub fn number_of(met: &[u8], c: u8, m: u8) -> u8
+    requires { ⌜ 256 ≤ length (now met) ⌝ }
+    ensures { λ r. ⌜ r ≡ numberIn (now (met .entry)) m c ⌝ }
+{
+    let p = met[c as usize];
+    if p == 0 {
+        return m;
+    }
+    p - 1
+}
+
+// The number of each of n objects.
+pub fn numbers(cs: &[u8], n: u8, met: &[u8], m: u8, to: &mut [u8])
+    requires { ⌜ (256 ≤ length (now cs)) × (256 ≤ length (now met)) × (256 ≤ length (now to)) ⌝ }
+    ensures { λ _. ⌜ Filled (λ i. numberIn (now (met .entry)) m (getD (now (cs .entry)) i 0)) n (now (to .exit)) ⌝ }
+{
+    let mut i: u8 = 0;
+    while i < n {
+        to[i as usize] = number_of(met, cs[i as usize], m);
+        i += 1;
+    }
+}
+
+// The objects that the order lists, renamed by the table, from a place of `dst` on.
+pub fn gather(nodes: &[u8], order: &[u8], m: u8, table: &[u8], dst: &mut [u8], to: usize)
+    requires { ⌜ (1536 ≤ length (now nodes)) × (256 ≤ length (now order)) × (256 ≤ length (now table)) × (to + 6 * m ≤ length (now dst)) ⌝ }
+    ensures { λ _. ⌜ Gathered (now (nodes .entry)) (now (order .entry)) m (now (table .entry)) (now (dst .entry)) to (now (dst .exit)) ⌝ }
+{
+    let mut j: u8 = 0;
+    while j < m {
+        let c = order[j as usize];
+        lift(
+            nodes,
+            6 * (c as usize),
+            6,
+            table,
+            dst,
+            to + 6 * (j as usize),
+        );
+        j += 1;
+    }
+}
+
+// A level for a byte more.
+pub fn raise_level(l: u8, c: u8) -> u8
+    ensures { λ m. ⌜ (l ≤ m) × (c < 193 + m) ⌝ }
+{
+    if c <= 192 {
+        return l;
+    }
+    let k = c - 192;
+    if k <= l {
+        return l;
+    }
+    k
+}
+
+// A level for the p bytes from a place on.
+pub fn level_of(work: &[u8], at: usize, p: usize) -> u8
+    requires { ⌜ at + p ≤ length (now work) ⌝ }
+    ensures { λ l. ⌜ Levels (now (work .entry)) at p l ⌝ }
+{
+    let mut l: u8 = 0;
+    let mut q: usize = 0;
+    while q < p {
+        l = raise_level(l, work[at + q]);
+        q += 1;
+    }
+    l
+}
+
+// Writes the value of n objects with their colours, from the root on, to block `dst`, unless it has more than 32 objects.
+// Answers with the number of its objects.
+pub fn put(nodes: &[u8], n: u8, cs: &[u8], root: u8, work: &mut [u8], dst: u16) -> u8
+    requires { ⌜ Ready (now nodes) n (now cs) root (now work) dst ⌝ }
+    ensures { λ r. ⌜ Placed (now (nodes .entry)) n root (now (work .entry)) dst (now (work .exit)) r ⌝ }
+{
+    let at = 240 * (dst as usize);
+    let count = at + 192;
+    let level = at + 193;
+    let mut order = [0u8; 256];
+    let mut met = [0u8; 256];
+    wipe(&mut met, 256);
+    let m = visit(nodes, cs, n + 1, root, &mut order, &mut met, 0);
+    if 32 < m {
+        return m;
+    }
+    let mut table = [0u8; 256];
+    numbers(cs, n, &met, m, &mut table);
+    gather(nodes, &order, m, &table, work, at);
+    let l = level_of(work, at, 6 * (m as usize));
+    work[count] = m;
+    work[level] = l;
+    m
+}

@@ -1,0 +1,404 @@
+-- Laws of a new object beside the objects of one block, or alone in a block.
+use Prim.Native.Nat.{ℕ, zero, suc, _+_, _-_, _*_, _<_, _≤_}
+use native.Mathlib.Omega.{arith}
+use native.Mathlib.Decide.{decLt, ℕ-discrete}
+use mathlib.Core.Path.{_≡_, refl, sym, ap, ap₂, _∙_, subst}
+use mathlib.Core.Bool.{Bool, true, false, not, false≢true}
+use mathlib.Core.List.{List, [], _∷_, _++_, map}
+use mathlib.Core.Option.{some, Option·none-ne-some}
+use lib.ListN.{length, getD, set, take, getElem?, length-map, length-set, length-take}
+use lib.Seq.{getD-set-same, getD-set-other, getD-take, ext-getD, length-take-le}
+use lib.Dec.{eqb}
+use borrow.Author.Tests.{le-leb, eqb-true}
+use Rattle.cofj.specs.Values.{Ref, obj, mark, undet, Node, node, Graph, graph, nodeAt, refsAt, canon, make, eqNode, eqNats}
+use Rattle.cofj.specs.Unfolding.{InRange, follow}
+use Rattle.cofj.proofs.Basics.{getD-map-lt, eqNode-true, eqNode-refl}
+use Rattle.cofj.proofs.Canon.{canon-length}
+use Rattle.canon.specs.Layout.{refOf, nodeIn, nodesIn, Packed, part, Distinct, Block, Inside, objectsIn, graphAt, countIn, levelIn}
+use Rattle.canon.specs.Tables.{Carried}
+use Rattle.canon.specs.Numbers.{Levels}
+use Rattle.canon.proofs.Nodes.{length-nodes, at-nodes, more-nodes, nodes-same, node-same, packed-same, eq-node, ref-object, ref-undet, ref-mark}
+use Rattle.canon.proofs.Walks.{four, four-at}
+use Rattle.values.specs.declared.ValueRef.{ValueRef}
+use Rattle.values.specs.declared.ValueRef.the-variants.{Object, Mark, Undetermined}
+use Rattle.values.specs.Tests.{any}
+use Rattle.values.specs.Layout.{valueOf, rawOf, Holds}
+use Rattle.values.specs.Operations.{Gives, Copied}
+use Rattle.values.proofs.Tests.{not-true, not-false, any-there, any-not, any-more}
+use Rattle.values.proofs.Trees.{in-larger, leaf-same}
+use Rattle.values.proofs.Blocks.{held-inside, held-block, size-in}
+use Rattle.values.proofs.Selecting.{under}
+use Rattle.maker.specs.declared.Slot.{Slot}
+use Rattle.maker.specs.declared.Made.the-variants.{Value}
+use Rattle.maker.specs.Laying.{valuesFrom, rawsFrom, PartsHeld, MadeIs}
+use Rattle.maker.specs.Adding.{roots, RootObject, Missed, Found, Appended, Added, isObject, standsIn, partOf, allStand, Leaves, First}
+use Rattle.maker.proofs.Lays.{fresh, fresh-class, fresh-count, fresh-spare, none-slot, raws-whole, made-raw}
+use Rattle.maker.proofs.Adding.{more, inner-more, distinct-more, Fit, AllFit, roots-low, top, make-found, make-new}
+
+-- ---- the new object
+module _ (W : List ℕ) (r : ValueRef) where
+  pub code-object : (b i : ℕ) → Holds W r → r ≡ Object b i → refOf i ≡ rawOf W r .root
+  code-object b i h e = let ob : Inside W b i = held-inside W r b i h e in rw e (ref-object i (omega (arith, ob .low, ob .block .small)))
+
+  pub code-mark : (k : ℕ) → r ≡ Mark k → refOf (193 + k) ≡ rawOf W r .root
+  code-mark k e = rw e (ref-mark k)
+
+  pub code-undet : r ≡ Undetermined → refOf 192 ≡ rawOf W r .root
+  code-undet e = rw e ref-undet
+
+pub set-length : (T : List ℕ) (i x m : ℕ) → length T ≡ m → length (set T i x) ≡ m
+set-length T i x m e = length-set T i x ∙ e
+
+-- its first i fields are written
+pub record RootBegun (W : List ℕ) (c : ℕ) (ps : List Slot) (n i : ℕ) (T : List ℕ) : Type 0 where
+  pub long : 6 ≤ length T
+  pub cls : getD T 0 0 ≡ c
+  pub count : getD T 1 0 ≡ n
+  pub done : (j : ℕ) → j < i → refOf (getD T (2 + j) 0) ≡ rawOf W (partOf ps j) .root
+  pub spare : (k : ℕ) → 2 + i ≤ k → k < 6 → getD T k 0 ≡ 192
+
+pub root-object-start : (W : List ℕ) (c : ℕ) (ps : List Slot) (n : ℕ) (R : List ℕ) → 6 ≤ length R → RootBegun W c ps n 0 (fresh R c n)
+root-object-start W c ps n R h = record {
+  long = simp length-set (omega arith);
+  cls = fresh-class R c n h;
+  count = fresh-count R c n h;
+  done = λ j l. absurd (omega arith);
+  spare = λ k a b. fresh-spare R c n h k (omega arith) b;
+}
+
+pub root-object-more : (W : List ℕ) (c : ℕ) (ps : List Slot) (n i : ℕ) (T : List ℕ) (v : ValueRef) (x : ℕ) → RootBegun W c ps n i T → i < n → n ≤ 4
+    → v ≡ partOf ps i → refOf x ≡ rawOf W v .root → RootBegun W c ps n (i + 1) (set T (2 + i) x)
+root-object-more W c ps n i T v x w h few ev ex = record {
+  long = rw (length-set T (2 + i) x) (w .long);
+  cls = getD-set-other T (2 + i) 0 x 0 (λ z. omega arith) ∙ w .cls;
+  count = getD-set-other T (2 + i) 1 x 0 (λ z. omega arith) ∙ w .count;
+  done = λ j l. go j l (ℕ-discrete j i);
+  spare = λ k a b. getD-set-other T (2 + i) k x 0 (λ z. omega arith) ∙ w .spare k (omega arith) b;
+}
+  where
+    go : (j : ℕ) → j < i + 1 → Dec (j ≡ i) → refOf (getD (set T (2 + i) x) (2 + j) 0) ≡ rawOf W (partOf ps j) .root
+    go j l (yes e) = rw e (ap refOf (getD-set-same T (2 + i) x 0 (omega (arith, w .long))) ∙ ex ∙ ap (λ (u : ValueRef). rawOf W u .root) ev)
+    go j l (no e) = ap refOf (getD-set-other T (2 + i) (2 + j) x 0 (λ z. e (omega arith))) ∙ w .done j (omega (arith, e))
+
+module _ (W : List ℕ) (c : ℕ) (ps : List Slot) (n i : ℕ) (T : List ℕ) (w : RootBegun W c ps n i T) (le : i ≤ n) (ge : n ≤ i) (few : n ≤ 4) (held : PartsHeld W ps n) where
+  root-object-refs : take n (four T 0) ≡ roots (rawsFrom W ps 0 n)
+  unfolding rawsFrom
+  root-object-refs =
+      let lp : length (take n ps) ≡ n = length-take-le n ps (held .full) in
+      let lg : length (map (λ s. rawOf W (s .r)) (take n ps)) ≡ n = length-map (take n ps) (λ s. rawOf W (s .r)) ∙ lp in
+      let lt : length (take n (four T 0)) ≡ n = omega (arith, length-take n (four T 0)) in
+      ext-getD undet (take n (four T 0)) (roots (map (λ s. rawOf W (s .r)) (take n ps)))
+      (lt ∙ sym lg ∙ sym (length-map (map (λ s. rawOf W (s .r)) (take n ps)) (λ g. g .root)))
+      (λ j h. let h′ : j < n = omega arith in
+      getD-take n (four T 0) j undet h′ ∙ four-at T 0 j (omega arith) ∙ w .done j (omega arith)
+      ∙ ap (λ (s : Slot). rawOf W (s .r) .root) (sym (getD-take n ps j none-slot h′))
+      ∙ ap (λ (g : Graph). g .root) (sym (getD-map-lt (λ s. rawOf W (s .r)) (take n ps) j (graph undet []) none-slot (omega arith)))
+      ∙ sym (getD-map-lt (λ g. g .root) (map (λ s. rawOf W (s .r)) (take n ps)) j undet (graph undet []) (omega arith)))
+
+  pub root-object-done : RootObject c (rawsFrom W ps 0 n) T
+  unfolding nodeIn
+  root-object-done = record {
+    is = ap₂ node (w .cls) (ap (λ (k : ℕ). take k (four T 0)) (w .count) ∙ root-object-refs);
+    packed = record {
+      count = rw (w .count) few;
+      spare = λ k a b. let e : 0 + k ≡ k = omega arith in rw e (w .spare k (omega (arith, w .count)) b);
+    };
+  }
+
+-- ---- looked for among the objects
+pub missed-none : (W : List ℕ) (b : ℕ) (T : List ℕ) → Missed W b T 0
+missed-none W b T = record { none = λ j h. absurd (omega arith) }
+
+module _ (W : List ℕ) (b t : ℕ) (T : List ℕ) (k : ℕ) (bk : Block W b) (et : t ≡ countIn W b) (pk : Packed T 0) (long : 6 ≤ length T) (m : Missed W b T k) where
+  module _ (h : k < t) (r : Bool) (er : r ≡ eqNats (part W (240 * b + 6 * k) 6) (part T 0 6)) where
+    test : eqNode (nodeIn W (240 * b + 6 * k)) (nodeIn T 0) ≡ r
+    test = eq-node W T (240 * b + 6 * k) 0 (omega (arith, bk .room, bk .small)) long (bk .packed k (omega arith)) pk ∙ sym er
+
+    pub missed-more : r ≡ false → Missed W b T (k + 1)
+    missed-more f = record { none = λ j l. go j l (ℕ-discrete j k) }
+      where
+        go : (j : ℕ) → j < k + 1 → Dec (j ≡ k) → nodeIn W (240 * b + 6 * j) ≡ nodeIn T 0 → ⊥
+        go j l (yes z) e =
+            false≢true (sym f ∙ sym test ∙ ap (λ (x : Node). eqNode x (nodeIn T 0)) (ap (λ (i : ℕ). nodeIn W (240 * b + 6 * i)) (sym z) ∙ e) ∙ eqNode-refl (nodeIn T 0))
+        go j l (no z) e = m .none j (omega (arith, z)) e
+
+    pub find-hit : r ≡ true → Found W b t T k
+    find-hit e = record { hit = λ _. eqNode-true _ _ (test ∙ e); miss = λ l. absurd (omega arith) }
+
+  pub find-miss : t ≤ k → k ≤ t → Found W b t T t
+  find-miss h l = record { hit = λ z. absurd (omega arith); miss = λ _. record { none = λ j q. m .none j (omega arith) } }
+
+-- ---- the parts
+pub object-first : (ps : List Slot) (n i : ℕ) → Leaves ps i → i < n → First ps n i
+object-first ps n i l h = record { low = omega arith; before = l }
+
+pub object-none : (ps : List Slot) (n i : ℕ) → Leaves ps i → n ≤ i → First ps n n
+object-none ps n i l h = record { low = omega arith; before = record { leaf = λ j k. l .leaf j (omega arith) } }
+
+pub leaves-none : (ps : List Slot) → Leaves ps 0
+leaves-none ps = record { leaf = λ j h. absurd (omega arith) }
+
+pub leaves-more : (ps : List Slot) (i : ℕ) (v : ValueRef) (r : Bool) → Leaves ps i → v ≡ partOf ps i → r ≡ isObject v → r ≡ false → Leaves ps (i + 1)
+leaves-more ps i v r l ev er e = record { leaf = λ j h. go j h (ℕ-discrete j i) }
+  where
+    go : (j : ℕ) → j < i + 1 → Dec (j ≡ i) → isObject (partOf ps j) ≡ false
+    go j h (yes z) = rw z (ap isObject (sym ev) ∙ sym er ∙ e)
+    go j h (no z) = l .leaf j (omega (arith, z))
+
+pub leaves-all : (ps : List Slot) (n f : ℕ) → First ps n f → n ≤ f → Leaves ps n
+leaves-all ps n f a h = record { leaf = λ j k. a .before .leaf j (omega arith) }
+
+pub stands-here : (b : ℕ) (v : ValueRef) (x i : ℕ) → v ≡ Object x i → eqb x b ≡ standsIn b v
+unfolding standsIn
+stands-here b v x i e = rw e
+
+pub stands-mark : (b : ℕ) (v : ValueRef) (k : ℕ) → v ≡ Mark k → true ≡ standsIn b v
+unfolding standsIn
+stands-mark b v k e = rw e
+
+pub stands-undet : (b : ℕ) (v : ValueRef) → v ≡ Undetermined → true ≡ standsIn b v
+unfolding standsIn
+stands-undet b v e = rw e
+
+module _ (ps : List Slot) (n b : ℕ) where
+  abbrev apart : ℕ → Bool
+  apart i = not (standsIn b (partOf ps i))
+
+  pub each-none : allStand ps 0 b ≡ true
+  unfolding allStand any
+  each-none = refl
+
+  module _ (i : ℕ) (v : ValueRef) (r : Bool) (ev : v ≡ partOf ps i) (er : r ≡ standsIn b v) where
+    answer : apart i ≡ not r
+    answer = ap (λ (u : ValueRef). not (standsIn b u)) (sym ev) ∙ ap not (sym er)
+
+    pub each-more : allStand ps i b ≡ true → not r ≡ false → allStand ps (i + 1) b ≡ true
+    unfolding allStand
+    each-more a e = ap not (any-more apart i (not-true _ a) (answer ∙ e))
+
+    pub together-not : i < n → not r ≡ true → false ≡ allStand ps n b
+    unfolding allStand
+    together-not h e = sym (ap not (any-there apart n i h (answer ∙ e)))
+
+  pub together-all : (i : ℕ) → allStand ps i b ≡ true → i ≤ n → n ≤ i → true ≡ allStand ps n b
+  together-all i a h l = let e : i ≡ n = omega arith in sym (rw e at a)
+
+  stands-at : allStand ps n b ≡ true → (i : ℕ) → i < n → standsIn b (partOf ps i) ≡ true
+  unfolding allStand
+  stands-at a i h = not-false _ (any-not apart n i (not-true _ a) h)
+
+  pub first-block : (W : List ℕ) (f : ℕ) (v : ValueRef) (i : ℕ) → PartsHeld W ps n → f < n → v ≡ partOf ps f → v ≡ Object b i → Block W b
+  first-block W f v i held h ev e = held-block W (partOf ps f) b i (held .part f h) (sym ev ∙ e)
+
+-- ---- the values of the parts, among the objects
+leaf-fit : (ns : List Node) (s : Ref) → InRange 0 s → Fit ns (graph s [])
+leaf-fit ns s h = record { low = in-larger 0 (length ns) s (omega arith) h; tree = leaf-same ns [] s h }
+
+value-fit : (W : List ℕ) (b : ℕ) → Block W b → (r : ValueRef) → Holds W r → standsIn b r ≡ true → Fit (objectsIn W b) (rawOf W r)
+unfolding standsIn
+value-fit W b bk (Object x i) h e = record {
+  low = omega (arith, size-in W b bk, h .held .low, ap (countIn W) (eqb-true x b e));
+  tree = λ p. ap (λ (y : ℕ). follow (objectsIn W y) (obj i) p) (sym (eqb-true x b e));
+}
+value-fit W b bk (Mark k) h e = leaf-fit _ (mark k) tt
+value-fit W b bk Undetermined h e = leaf-fit _ undet tt
+
+all-fit : (W : List ℕ) (ns : List Node) (n : ℕ) (ps : List Slot) → ((i : ℕ) → i < n → Fit ns (rawOf W (partOf ps i))) → AllFit ns (map (λ s. rawOf W (s .r)) (take n ps))
+all-fit W ns zero ps h = tt
+all-fit W ns (suc n) [] h = tt
+all-fit W ns (suc n) (s ∷ ps) h = (h 0 (omega arith), all-fit W ns n ps (λ i l. h (suc i) (omega arith)))
+
+-- ---- the object written after the others
+module _ (W : List ℕ) (dst t : ℕ) (T : List ℕ) (D : List ℕ) (a : Carried T 0 W (240 * dst + 6 * t) 6 D) (few : t ≤ 31) (room : 240 * dst + 240 ≤ length W) where
+  pub append-done : (l : ℕ) → Appended W dst t T l (set (set D (240 * dst + 192) (t + 1)) (240 * dst + 193) l)
+  unfolding countIn levelIn
+  append-done l =
+      let byte : (p : ℕ) → ((p ≡ 240 * dst + 192) → ⊥) → ((p ≡ 240 * dst + 193) → ⊥) → getD (set (set D (240 * dst + 192) (t + 1)) (240 * dst + 193) l) p 0 ≡ getD D p 0 = λ p x y.
+      getD-set-other (set D (240 * dst + 192) (t + 1)) (240 * dst + 193) p l 0 y ∙ getD-set-other D (240 * dst + 192) p (t + 1) 0 x in
+      record {
+        count = getD-set-other (set D (240 * dst + 192) (t + 1)) (240 * dst + 193) (240 * dst + 192) l 0 (λ z. omega arith) ∙ getD-set-same D (240 * dst + 192) (t + 1) 0 (omega (arith, a .same));
+        level = getD-set-same (set D (240 * dst + 192) (t + 1)) (240 * dst + 193) l 0 (omega (arith, a .same, length-set D (240 * dst + 192) (t + 1)));
+        old = λ q m. byte (240 * dst + q) (λ z. omega arith) (λ z. omega arith) ∙ a .below (240 * dst + q) (omega arith);
+        top = λ j m. byte (240 * dst + 6 * t + j) (λ z. omega arith) (λ z. omega arith) ∙ a .here j m ∙ ap (λ (x : ℕ). getD T x 0) (let z : 0 + j ≡ j = omega arith in z);
+        outside = record {
+          same = length-set (set D (240 * dst + 192) (t + 1)) (240 * dst + 193) l ∙ length-set D (240 * dst + 192) (t + 1) ∙ a .same;
+          below = λ p m. byte p (λ z. omega arith) (λ z. omega arith) ∙ a .below p (omega arith);
+          above = λ p m. byte p (λ z. omega arith) (λ z. omega arith) ∙ a .above p (omega arith);
+        };
+      }
+
+-- ---- added
+module _ (W : List ℕ) (b : ℕ) (T : List ℕ) (dst t l : ℕ) (bk : Block W b) (et : t ≡ getD W (240 * b + 192) 0) (lv : Levels T 0 6 l) (le : getD W (240 * b + 193) 0 ≤ l) where
+  add-level : (D : List ℕ) → countIn D dst ≡ t + 1 → levelIn D dst ≡ l → ((q : ℕ) → q < 6 * t → getD D (240 * dst + q) 0 ≡ getD W (240 * b + q) 0)
+      → ((k : ℕ) → k < 6 → getD D (240 * dst + 6 * t + k) 0 ≡ getD T k 0) → (q : ℕ) → q < 6 * (t + 1) → getD D (240 * dst + q) 0 < 193 + levelIn D dst
+  unfolding countIn levelIn
+  add-level D ec el old new q h = go (decLt q (6 * t))
+    where
+      go : Dec (q < 6 * t) → getD D (240 * dst + q) 0 < 193 + getD D (240 * dst + 193) 0
+      go (yes m) = omega (arith, old q m, bk .level q (omega arith), el)
+      go (no m) =
+          let e : 240 * dst + q ≡ 240 * dst + 6 * t + (q - 6 * t) = omega (arith, m) in
+          let z : 0 + (q - 6 * t) ≡ q - 6 * t = omega arith in
+          omega (arith, ap (λ (x : ℕ). getD D x 0) e, new (q - 6 * t) (omega (arith, m)), rw z at (lv .below (q - 6 * t) (omega (arith, m))), el)
+
+  -- in the block itself
+  pub add-here : (D : List ℕ) → b ≡ dst → Appended W dst t T l D → Added W b (countIn W b) T dst D
+  unfolding countIn
+  add-here D e a =
+      let old : (q : ℕ) → q < 6 * t → getD D (240 * dst + q) 0 ≡ getD W (240 * b + q) 0 = λ q h. a .old q h ∙ ap (λ (x : ℕ). getD W (240 * x + q) 0) (sym e) in
+      rw (← et) (record { count = a .count; old = old; top = a .top; level = add-level D (a .count) (a .level) old (a .top); outside = a .outside })
+
+  -- in a copy
+  pub add-there : (C D : List ℕ) → Copied W b dst C → Appended C dst t T l D → Added W b (countIn W b) T dst D
+  unfolding countIn
+  add-there C D c a =
+      let old : (q : ℕ) → q < 6 * t → getD D (240 * dst + q) 0 ≡ getD W (240 * b + q) 0 = λ q h. a .old q h ∙ c .here q (omega arith) in
+      rw (← et) (record {
+        count = a .count;
+        old = old;
+        top = a .top;
+        level = add-level D (a .count) (a .level) old (a .top);
+        outside = record {
+          same = a .outside .same ∙ c .outside .same;
+          below = λ p h. a .outside .below p h ∙ c .outside .below p h;
+          above = λ p h. a .outside .above p h ∙ c .outside .above p h;
+        };
+      })
+
+-- ---- the block with the new object
+module _ (W : List ℕ) (b t : ℕ) (T : List ℕ) (dst : ℕ) (D : List ℕ) (pk : (i : ℕ) → i < t → Packed W (240 * b + 6 * i)) (pt : Packed T 0) (few : t ≤ 31)
+    (inner : (i f : ℕ) (r : Ref) → getElem? (refsAt (nodesIn W (240 * b) t) i) f ≡ some r → InRange (length (nodesIn W (240 * b) t)) r)
+    (above : (f : ℕ) (r : Ref) → getElem? (nodeIn T 0 .refs) f ≡ some r → InRange (length (nodesIn W (240 * b) t)) r)
+    (d : Distinct (nodesIn W (240 * b) t)) (miss : (j : ℕ) → j < length (nodesIn W (240 * b) t) → nodeAt (nodesIn W (240 * b) t) j ≡ nodeIn T 0 → ⊥)
+    (room : 240 * dst + 240 ≤ length W) (ad : Added W b t T dst D) where
+  top-byte : (k : ℕ) → k < 6 → getD D (240 * dst + 6 * t + k) 0 ≡ getD T (0 + k) 0
+  top-byte k h = let e : 0 + k ≡ k = omega arith in rw e (ad .top k h)
+
+  pub objects-are : objectsIn D dst ≡ more (nodesIn W (240 * b) t) (nodeIn T 0)
+  unfolding objectsIn nodesIn
+  objects-are =
+      ap (nodesIn D (240 * dst)) (ad .count) ∙ more-nodes D t (240 * dst) 1
+      ∙ ap₂ {A = List Node} {B = List Node} _++_ (nodes-same D W t (240 * dst) (240 * b) (ad .old))
+      (ap (λ (x : Node). x ∷ []) (node-same D T (240 * dst + 6 * t) 0 top-byte))
+
+  pub block-added : Block D dst
+  block-added = record {
+    room = omega (arith, ad .outside .same);
+    small = rw (ad .count) (omega arith);
+    packed = λ i h. go i (decLt i t) (rw (ad .count) at h);
+    whole = record { top = tt; inner = λ i f r e. subst (λ (ns : List Node). InRange (length ns) r) (sym objects-are) (inner-more (nodeIn T 0) (nodesIn W (240 * b) t) inner above i f r (subst (λ (ns : List Node). getElem? (refsAt ns i) f ≡ some r) objects-are e)) };
+    distinct = subst Distinct (sym objects-are) (distinct-more (nodeIn T 0) (nodesIn W (240 * b) t) inner above d miss);
+    level = λ q h. ad .level q (rw (ad .count) at h);
+  }
+    where
+      go : (i : ℕ) → Dec (i < t) → i < t + 1 → Packed D (240 * dst + 6 * i)
+      go i (yes h) l = packed-same D W (240 * dst + 6 * i) (240 * b + 6 * i) (λ k m.
+          let ea : 240 * dst + 6 * i + k ≡ 240 * dst + (6 * i + k) = omega arith in
+          let eb : 240 * b + 6 * i + k ≡ 240 * b + (6 * i + k) = omega arith in
+          rw (ea, eb) (ad .old (6 * i + k) (omega arith))) (pk i h)
+      go i (no h) l = let e : i ≡ t = omega (arith, h) in rw e (packed-same D T (240 * dst + 6 * t) 0 top-byte pt)
+
+-- ---- made
+module _ (W : List ℕ) (c : ℕ) (ps : List Slot) (n : ℕ) (T : List ℕ) (held : PartsHeld W ps n) (cr : RootObject c (rawsFrom W ps 0 n) T) where
+  abbrev gs : List Graph
+  gs = rawsFrom W ps 0 n
+
+  -- over objects among which the parts are
+  module _ (b t : ℕ) (dst : ℕ) (D : List ℕ) (pk : (i : ℕ) → i < t → Packed W (240 * b + 6 * i)) (few : t ≤ 31)
+      (inner : (i f : ℕ) (r : Ref) → getElem? (refsAt (nodesIn W (240 * b) t) i) f ≡ some r → InRange (length (nodesIn W (240 * b) t)) r)
+      (fits : AllFit (nodesIn W (240 * b) t) gs) (d : Distinct (nodesIn W (240 * b) t))
+      (miss : (j : ℕ) → j < length (nodesIn W (240 * b) t) → nodeAt (nodesIn W (240 * b) t) j ≡ nodeIn T 0 → ⊥)
+      (room : 240 * dst + 240 ≤ length W) (ad : Added W b t T dst D) where
+    abbrev ns : List Node
+    ns = nodesIn W (240 * b) t
+
+    above : (f : ℕ) (r : Ref) → getElem? (nodeIn T 0 .refs) f ≡ some r → InRange (length ns) r
+    above f r e = roots-low ns gs fits f r (subst (λ (x : Node). getElem? (x .refs) f ≡ some r) (cr .is) e)
+
+    are : objectsIn D dst ≡ more ns (node c (roots gs))
+    are = objects-are W b t T dst D pk (cr .packed) few inner above d miss room ad ∙ ap (more ns) (cr .is)
+
+    bk : Block D dst
+    bk = block-added W b t T dst D pk (cr .packed) few inner above d miss room ad
+
+    value : make c (valuesFrom W ps 0 n) ≡ canon (graphAt D dst t)
+    value =
+        made-raw W c ps n held ∙ make-new c gs ns (raws-whole W c ps n held) fits inner
+        ∙ ap₂ {A = ℕ} {B = List Node} (λ i l. canon (graph (obj i) l)) (length-nodes W (240 * b) t) (sym are)
+
+    pub made-new : MadeIs W (make c (valuesFrom W ps 0 n)) dst D (Value (Object dst t))
+    made-new =
+        let low : t < countIn D dst = omega (arith, ad .count) in
+        let l : length (make c (valuesFrom W ps 0 n) .nodes) ≤ 32 =
+        omega (arith, ap (λ (g : Graph). length (g .nodes)) value, canon-length (graphAt D dst t) (record { top = subst (λ (k : ℕ). t < k) (sym (size-in D dst bk)) low; inner = bk .whole .inner }), size-in D dst bk, bk .small) in
+        record { held = record { held = record { block = bk; low = low } }; is = rw (le-leb _ 32 l) (ap some (sym value)); place = omega arith; beneath = under dst W D (ad .outside) }
+
+  -- beside the objects of a block
+  module _ (b : ℕ) (bk : Block W b) (bs : allStand ps n b ≡ true) where
+    fits : AllFit (objectsIn W b) gs
+    unfolding rawsFrom
+    fits = all-fit W (objectsIn W b) n ps (λ i h. value-fit W b bk (partOf ps i) (held .part i h) (stands-at ps n b bs i h))
+
+    module _ (k : ℕ) (fd : Found W b (getD W (240 * b + 192) 0) T k) where
+      pub beside-found : k < getD W (240 * b + 192) 0 → (dst : ℕ) (W′ : List ℕ) (o : ValueRef) → Gives W dst W′ o (valueOf W (Object b k)) → MadeIs W (make c (valuesFrom W ps 0 n)) dst W′ (Value o)
+      unfolding countIn objectsIn
+      beside-found h dst W′ o g =
+          let e : make c (valuesFrom W ps 0 n) ≡ canon (graphAt W b k) =
+          made-raw W c ps n held ∙ make-found c gs (objectsIn W b) (raws-whole W c ps n held) fits (bk .whole .inner) k (omega (arith, size-in W b bk))
+          (at-nodes W (240 * b) (getD W (240 * b + 192) 0) k h ∙ fd .hit h ∙ cr .is) in
+          let l : length (make c (valuesFrom W ps 0 n) .nodes) ≤ 32 =
+          omega (arith, ap (λ (x : Graph). length (x .nodes)) e, canon-length (graphAt W b k) (record { top = omega (arith, size-in W b bk); inner = bk .whole .inner }), size-in W b bk, bk .small) in
+          record { held = g .held; is = rw (le-leb _ 32 l) (ap some (g .is ∙ sym e)); place = g .place; beneath = under dst W W′ (g .outside) }
+
+      pub beside-new : getD W (240 * b + 192) 0 ≤ k → getD W (240 * b + 192) 0 < 32 → (dst : ℕ) (D : List ℕ) → 240 * dst + 240 ≤ length W → Added W b (countIn W b) T dst D
+          → MadeIs W (make c (valuesFrom W ps 0 n)) dst D (Value (Object dst (getD W (240 * b + 192) 0)))
+      unfolding countIn objectsIn
+      beside-new ge h dst D room ad =
+          made-new b (getD W (240 * b + 192) 0) dst D (bk .packed) (omega arith) (bk .whole .inner) fits (bk .distinct)
+          (λ j l e. let m : j < getD W (240 * b + 192) 0 = omega (arith, size-in W b bk) in
+          fd .miss ge .none j m (sym (at-nodes W (240 * b) (getD W (240 * b + 192) 0) j m) ∙ e)) room ad
+
+  -- alone
+  module _ (lv : Leaves ps n) where
+    alone-fit : (r : ValueRef) → isObject r ≡ false → Fit [] (rawOf W r)
+    alone-fit (Object b i) e = absurd (false≢true (sym e))
+    alone-fit (Mark k) e = leaf-fit [] (mark k) tt
+    alone-fit Undetermined e = leaf-fit [] undet tt
+
+    alone-fits : AllFit [] gs
+    unfolding rawsFrom
+    alone-fits = all-fit W [] n ps (λ i h. alone-fit (partOf ps i) (lv .leaf i h))
+
+    pub alone-new : (dst l : ℕ) (D : List ℕ) → Levels T 0 6 l → 240 * dst + 240 ≤ length W → Appended W dst 0 T l D → MadeIs W (make c (valuesFrom W ps 0 n)) dst D (Value (Object dst 0))
+    unfolding nodesIn
+    alone-new dst l D ls room a =
+        made-new dst 0 dst D (λ i h. absurd (omega arith)) (omega arith) (λ i f r e. absurd (Option·none-ne-some r e)) alone-fits (record { apart = λ i j h. absurd (omega arith) }) (λ j h. absurd (omega arith)) room
+        (record {
+          count = a .count;
+          old = λ q h. absurd (omega arith);
+          top = a .top;
+          level = λ q h. let e : 240 * dst + 6 * 0 + q ≡ 240 * dst + q = omega arith in let z : 0 + q ≡ q = omega arith in
+              omega (arith, rw e at (a .top q (omega arith)), rw z at (ls .below q (omega arith)), a .level);
+          outside = a .outside;
+        })
+
+-- ---- a new object without parts
+abbrev bareObject : ℕ → List ℕ
+bareObject c = c ∷ 0 ∷ 192 ∷ 192 ∷ 192 ∷ 192 ∷ []
+
+bare-root : (W : List ℕ) (c : ℕ) → RootObject c (rawsFrom W [] 0 0) (bareObject c)
+unfolding rawsFrom nodeIn
+bare-root W c = record { is = refl; packed = record { count = omega arith; spare = spare } }
+  where
+    spare : (k : ℕ) → 2 ≤ k → k < 6 → getD (bareObject c) (0 + k) 0 ≡ 192
+    spare zero l m = absurd (omega arith)
+    spare (suc zero) l m = absurd (omega arith)
+    spare (suc (suc zero)) l m = refl
+    spare (suc (suc (suc zero))) l m = refl
+    spare (suc (suc (suc (suc zero)))) l m = refl
+    spare (suc (suc (suc (suc (suc zero))))) l m = refl
+    spare (suc (suc (suc (suc (suc (suc k)))))) l m = absurd (omega arith)
+
+pub bare-new : (W : List ℕ) (c dst l : ℕ) (D : List ℕ) → Levels (bareObject c) 0 6 l → 240 * dst + 240 ≤ length W → Appended W dst 0 (bareObject c) l D → MadeIs W (make c []) dst D (Value (Object dst 0))
+unfolding valuesFrom
+bare-new W c dst l D ls room a = alone-new W c [] 0 (bareObject c) (record { full = omega arith; part = λ i h. absurd (omega arith) }) (bare-root W c) (record { leaf = λ i h. absurd (omega arith) }) dst l D ls room a

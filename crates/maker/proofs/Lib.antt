@@ -1,0 +1,4 @@
+pub mod Adding
+pub mod Lays
+pub mod Beside
+pub mod Merges

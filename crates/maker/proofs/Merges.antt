@@ -1,0 +1,936 @@
+-- Laws of objects brought into one block, and of a new object over them. Not here: the bytes of one more object (Beside).
+use Prim.Native.Nat.{ℕ, zero, suc, _+_, _-_, _*_, _<_, _≤_}
+use native.Mathlib.Omega.{arith}
+use native.Mathlib.Decide.{decLt, ℕ-discrete}
+use mathlib.Core.Path.{_≡_, refl, sym, ap, ap₂, _∙_, subst}
+use mathlib.Core.Bool.{Bool, true, false, not, cond, false≢true}
+use lib.Dec.{leb, eqb, ltb}
+use mathlib.Core.List.{List, [], _∷_, map}
+use mathlib.Core.Option.{none, some, Option·none-ne-some}
+use lib.ListN.{length, getD, set, take, getElem?, replicate, length-set, length-take, length-replicate, getD-replicate, List·getD-eq-default}
+use lib.Seq.{getD-set-same, getD-set-other}
+use Rattle.cofj.specs.Partial.{_>>=_}
+use borrow.Author.Tests.{le-leb, lt-ltb, le-ltb}
+use types.Run.{OneOf}
+use denote.Enum.Declared.{tagOf}
+use Rattle.cofj.specs.Values.{Ref, obj, mark, undet, Node, node, Graph, nodeAt, refsAt, canon, make}
+use Rattle.cofj.specs.Unfolding.{object, follow, Same, InRange, Whole}
+use Rattle.cofj.proofs.Trees.{Pointwise}
+use Rattle.cofj.proofs.Canon.{canon-length}
+use Rattle.cofj.proofs.Unique.{same-canon}
+use Rattle.canon.specs.Layout.{refOf, codeOf, nodeIn, nodesIn, Packed, countIn, levelIn, objectsIn, graphAt, Block, Inside, Outside, Beneath}
+use Rattle.canon.specs.Tables.{Carried}
+use Rattle.canon.specs.Numbers.{Levels}
+use Rattle.canon.proofs.Nodes.{some-at, ref-object, ref-undet, ref-mark, byteOf, packed-byte, length-nodes, at-nodes}
+use Rattle.canon.proofs.Walks.{four, four-at}
+use Rattle.values.specs.declared.ValueRef.{ValueRef}
+use Rattle.values.specs.declared.ValueRef.the-variants.{Object, Mark, Undetermined}
+use Rattle.values.specs.Layout.{valueOf, rawOf, Holds, HeldBy, liesIn}
+use Rattle.values.specs.Tests.{any}
+use Rattle.values.specs.Operations.{Gives, Copied}
+use Rattle.values.proofs.ValueRef as RefT
+use Rattle.values.proofs.Tests.{not-false, any-there, any-not, any-more}
+use Rattle.values.proofs.Steps.{object-low}
+use Rattle.values.proofs.Blocks.{held-room, no-object, size-in, inner-in, whole-at}
+use Rattle.values.proofs.Trees.{in-larger, leaf-same, made-as}
+use Rattle.values.proofs.Copies.{block-moves}
+use Rattle.values.proofs.Selecting.{unchanged, under}
+use Rattle.values.proofs.Kept.{Kept, kept}
+use Rattle.maker.specs.declared.Slot.{Slot}
+use Rattle.maker.specs.declared.Made.{Made}
+use Rattle.maker.specs.declared.Made.the-variants.{Value}
+use Rattle.maker.specs.Laying.{valuesFrom, rawsFrom, PartsHeld, MadeIs}
+use Rattle.maker.specs.Adding.{Found, Appended, Added, partOf}
+use Rattle.maker.specs.Merging.{Grown, Fits, Standing, Entered, CodeAs, Mapped, Importing, Imported, ObjectBytes, Turned, Turning, TurnedAll, As, PartImported, Begun, RootBrought, PartsBrought, someIn, largerOf, largestOf}
+use Rattle.maker.proofs.Lays.{fresh, fresh-class, fresh-count, fresh-spare, raws-whole, made-raw, parts-length}
+use Rattle.maker.proofs.Adding.{more, old-tree, at-new}
+use Rattle.maker.proofs.Beside.{add-here, objects-are, block-added}
+
+-- ---- codes that are no objects
+pub leaf-low : (n c : ℕ) → 192 ≤ c → InRange n (refOf c)
+leaf-low n c h = go (ℕ-discrete c 192)
+  where
+    go : Dec (c ≡ 192) → InRange n (refOf c)
+    go (yes e) = subst (InRange n) (sym (ap refOf e ∙ ref-undet)) tt
+    go (no d) = let z : c ≡ 193 + (c - 193) = omega (arith, d) in subst (InRange n) (sym (ap refOf z ∙ ref-mark (c - 193))) tt
+
+-- ---- a block that has grown, and the others
+pub grown-none : (host : ℕ) (W : List ℕ) → Block W host → Grown host W W
+grown-none host W bk = record { outside = unchanged host W; block = bk; most = omega arith; trees = λ r h p. refl }
+
+pub grown-more : (host : ℕ) (W W1 W2 : List ℕ) → Grown host W W1 → Grown host W1 W2 → Grown host W W2
+grown-more host W W1 W2 a b = record {
+  outside = record {
+    same = b .outside .same ∙ a .outside .same;
+    below = λ p h. b .outside .below p h ∙ a .outside .below p h;
+    above = λ p h. b .outside .above p h ∙ a .outside .above p h;
+  };
+  block = b .block;
+  most = omega (arith, a .most, b .most);
+  trees = λ r h p. a .trees r h p ∙ b .trees r (in-larger (countIn W host) (countIn W1 host) r (a .most) h) p;
+}
+
+module _ (host : ℕ) (W W′ : List ℕ) (o : Outside host W W′) (b : ℕ) (apart : (b ≡ host) → ⊥) where
+  pub other-byte : (p : ℕ) → 240 * b ≤ p → p < 240 * b + 240 → getD W′ p 0 ≡ getD W p 0
+  other-byte p l m = go (decLt b host)
+    where
+      go : Dec (b < host) → getD W′ p 0 ≡ getD W p 0
+      go (yes q) = o .below p (omega arith)
+      go (no q) = o .above p (omega (arith, q, apart))
+
+  pub other-block : Block W b → (objectsIn W′ b ≡ objectsIn W b) × Block W′ b
+  unfolding countIn levelIn
+  other-block bk =
+      block-moves W W′ b b (other-byte (240 * b + 192) (omega arith) (omega arith)) (other-byte (240 * b + 193) (omega arith) (omega arith))
+      (λ k h. other-byte (240 * b + k) (omega arith) (omega (arith, bk .small))) (omega (arith, bk .room, o .same)) bk
+
+  pub other-inside : (i : ℕ) → Inside W b i → Inside W′ b i
+  unfolding countIn
+  other-inside i ib = record { block = other-block (ib .block) .1; low = omega (arith, ib .low, other-byte (240 * b + 192) (omega arith) (omega arith)) }
+
+-- ---- entered
+module _ (W : List ℕ) (host : ℕ) (T : List ℕ) (bk : Block W host) (ft : Fits W host T) where
+  pub enter-count : getD W (240 * host + 192) 0 ≡ countIn W host
+  unfolding countIn
+  enter-count = refl
+
+  pub enter-full : Entered W host T W 32
+  enter-full = record { grown = grown-none host W bk; few = omega arith; standing = λ z. absurd (z refl) }
+
+  module _ (k : ℕ) (fd : Found W host (getD W (240 * host + 192) 0) T k) where
+    pub enter-found : k < getD W (240 * host + 192) 0 → Entered W host T W k
+    unfolding countIn objectsIn
+    enter-found h = record {
+      grown = grown-none host W bk;
+      few = omega (arith, bk .small);
+      standing = λ _. record { low = h; is = at-nodes W (240 * host) (getD W (240 * host + 192) 0) k h ∙ fd .hit h };
+    }
+
+    module _ (ge : getD W (240 * host + 192) 0 ≤ k) (h : getD W (240 * host + 192) 0 < 32) (l : ℕ) (D : List ℕ) (lv : Levels T 0 6 l) (le : getD W (240 * host + 193) 0 ≤ l)
+        (a : Appended W host (getD W (240 * host + 192) 0) T l D) where
+      abbrev t : ℕ
+      t = getD W (240 * host + 192) 0
+
+      abbrev ns : List Node
+      ns = nodesIn W (240 * host) t
+
+      inner : (i f : ℕ) (r : Ref) → getElem? (refsAt ns i) f ≡ some r → InRange (length ns) r
+      unfolding countIn objectsIn
+      inner = bk .whole .inner
+
+      above : (f : ℕ) (r : Ref) → getElem? (nodeIn T 0 .refs) f ≡ some r → InRange (length ns) r
+      unfolding countIn
+      above f r e = subst (λ (m : ℕ). InRange m r) (sym (length-nodes W (240 * host) t)) (ft .low f r e)
+
+      miss : (j : ℕ) → j < length ns → nodeAt ns j ≡ nodeIn T 0 → ⊥
+      miss j q e =
+          let m : j < t = omega (arith, length-nodes W (240 * host) t) in
+          fd .miss ge .none j m (sym (at-nodes W (240 * host) t j m) ∙ e)
+
+      added : Added W host t T host D
+      unfolding countIn
+      added = add-here W host T host t l bk refl lv le D refl a
+
+      are : objectsIn D host ≡ more ns (nodeIn T 0)
+      unfolding countIn objectsIn
+      are = objects-are W host t T host D (bk .packed) (ft .packed) (omega arith) inner above (bk .distinct) miss (bk .room) added
+
+      grown-block : Block D host
+      unfolding countIn objectsIn
+      grown-block = block-added W host t T host D (bk .packed) (ft .packed) (omega arith) inner above (bk .distinct) miss (bk .room) added
+
+      kept-trees : (r : Ref) → InRange (countIn W host) r → Same (objectsIn W host) r (objectsIn D host) r
+      unfolding countIn objectsIn
+      kept-trees r q p =
+          sym (old-tree (nodeIn T 0) ns inner above r (subst (λ (m : ℕ). InRange m r) (sym (length-nodes W (240 * host) t)) q) p)
+          ∙ ap (λ (x : List Node). follow x r p) (sym are)
+
+      pub enter-new : Entered W host T D t
+      unfolding countIn
+      enter-new = record {
+        grown = record { outside = a .outside; block = grown-block; most = omega (arith, a .count); trees = kept-trees };
+        few = omega arith;
+        standing = λ _. record {
+          low = omega (arith, a .count);
+          is = ap (λ (x : List Node). nodeAt x t) are ∙ ap (nodeAt (more ns (nodeIn T 0))) (sym (length-nodes W (240 * host) t)) ∙ at-new (nodeIn T 0) ns inner above;
+        };
+      }
+
+-- ---- an object's bytes
+pub object-taken : (W : List ℕ) (src i : ℕ) (T₀ T : List ℕ) → length T₀ ≡ 6 → Carried W (240 * src + 6 * i) T₀ 0 6 T → ObjectBytes W src i T
+object-taken W src i T₀ T e c = record { long = c .same ∙ e; bytes = λ j h. let z : 0 + j ≡ j = omega arith in rw z at (c .here j h) }
+
+-- ---- the codes of an object
+code-low : (W : List ℕ) (src i : ℕ) → Inside W src i → (k : ℕ) → k < 4 → getD W (240 * src + 6 * i + (2 + k)) 0 < 192 → getD W (240 * src + 6 * i + (2 + k)) 0 < countIn W src
+unfolding byteOf objectsIn
+code-low W src i ib k h l = go (decLt k (getD W (240 * src + 6 * i + 1) 0))
+  where
+    pk : Packed W (240 * src + 6 * i)
+    pk = ib .block .packed i (ib .low)
+
+    at-i : nodeAt (nodesIn W (240 * src) (countIn W src)) i ≡ nodeIn W (240 * src + 6 * i)
+    at-i = at-nodes W (240 * src) (countIn W src) i (ib .low)
+
+    count : getD W (240 * src + 6 * i + 1) 0 ≡ length (nodeIn W (240 * src + 6 * i) .refs)
+    count = packed-byte W (240 * src + 6 * i) pk 1 (omega arith)
+
+    code : getD W (240 * src + 6 * i + (2 + k)) 0 ≡ codeOf (getD (nodeIn W (240 * src + 6 * i) .refs) k undet)
+    code = ap (λ (y : ℕ). getD W (240 * src + 6 * i + y) 0) (let q : 2 + k ≡ suc (suc k) = omega arith in q) ∙ packed-byte W (240 * src + 6 * i) pk (suc (suc k)) (omega arith)
+
+    go : Dec (k < getD W (240 * src + 6 * i + 1) 0) → getD W (240 * src + 6 * i + (2 + k)) 0 < countIn W src
+    go (yes q) =
+        let low : InRange (countIn W src) (getD (nodeIn W (240 * src + 6 * i) .refs) k undet) =
+        inner-in W src (ib .block) i k (getD (nodeIn W (240 * src + 6 * i) .refs) k undet) (ap (λ (x : Node). getElem? (x .refs) k) at-i ∙ some-at (nodeIn W (240 * src + 6 * i) .refs) k (omega (arith, count))) in
+        rw code (object-low (countIn W src) (getD (nodeIn W (240 * src + 6 * i) .refs) k undet) low (rw code at l))
+    go (no q) = absurd (omega (arith, pk .spare (2 + k) (omega (arith, q)) (omega arith)))
+
+-- ---- the same codes in a block that has grown
+module _ (host : ℕ) (W W′ : List ℕ) (g : Grown host W W′) (src : ℕ) (apart : (src ≡ host) → ⊥) (sb : Block W src) where
+  pub code-grown : (c r : ℕ) → CodeAs W src c host r → CodeAs W′ src c host r
+  code-grown c r t = record {
+    low = in-larger (countIn W host) (countIn W′ host) (refOf r) (g .most) (t .low);
+    leaf = t .leaf;
+    same = λ p. ap (λ (x : List Node). follow x (refOf c) p) (other-block host W W′ (g .outside) src apart sb .0) ∙ t .same p ∙ g .trees (refOf r) (t .low) p;
+  }
+
+  pub mapped-grown : (M : List ℕ) → Mapped W src host M → Mapped W′ src host M
+  mapped-grown M m = record { table = m .table; each = λ x y e. code-grown x y (m .each x y e) }
+
+  object-byte : (i j : ℕ) → i < countIn W src → j < 6 → getD W′ (240 * src + 6 * i + j) 0 ≡ getD W (240 * src + 6 * i + j) 0
+  object-byte i j h l = other-byte host W W′ (g .outside) src apart (240 * src + 6 * i + j) (omega arith) (omega (arith, sb .small))
+
+  pub turned-grown : (i k : ℕ) (T : List ℕ) → i < countIn W src → Turned W src i host T k → Turned W′ src i host T k
+  turned-grown i k T h t = record {
+    long = t .long;
+    cls = t .cls ∙ sym (object-byte i 0 h (omega arith));
+    count = t .count ∙ sym (object-byte i 1 h (omega arith));
+    done = λ j l m. subst (λ (c : ℕ). CodeAs W′ src c host (getD T (2 + j) 0)) (sym (object-byte i (2 + j) h (omega arith))) (code-grown _ _ (t .done j l m));
+    left = λ j l m. t .left j l m ∙ sym (object-byte i (2 + j) h (omega arith));
+  }
+
+-- ---- the codes imported
+module _ (W : List ℕ) (src i host : ℕ) (M T : List ℕ) (k : ℕ) (tg : Turning W src i host M T k) where
+  packed : Packed W (240 * src + 6 * i)
+  packed = tg .inside .block .packed i (tg .inside .low)
+
+  -- the codes after the last field are undetermined on both sides
+  pub codes-end : getD T 1 0 ≤ k → TurnedAll W src i host W M T true
+  codes-end h = record {
+    grown = grown-none host W (tg .target);
+    mapped = tg .mapped;
+    turned = λ _. record { long = tg .turned .long; cls = tg .turned .cls; count = tg .turned .count; done = λ j l m. go j m (decLt j k); left = λ j l m. absurd (omega arith) };
+  }
+    where
+      spare : CodeAs W src 192 host 192
+      spare = record { low = rw ref-undet tt; leaf = λ _. refl; same = rw ref-undet (leaf-same (objectsIn W src) (objectsIn W host) undet tt) }
+
+      go : (j : ℕ) → j < 4 → Dec (j < k) → CodeAs W src (getD W (240 * src + 6 * i + (2 + j)) 0) host (getD T (2 + j) 0)
+      go j m (yes l) = tg .turned .done j l m
+      go j m (no l) =
+          let e : getD W (240 * src + 6 * i + (2 + j)) 0 ≡ 192 = packed .spare (2 + j) (omega (arith, l, tg .turned .count)) (omega arith) in
+          rw (tg .turned .left j (omega (arith, l)) m, e) spare
+
+  module _ (g : k < getD T 1 0) where
+    pub codes-low : k < 4
+    codes-low = omega (arith, tg .turned .count, packed .count)
+
+    h : k < 4
+    h = codes-low
+
+    pub codes-import : (c : ℕ) → c ≡ getD T (2 + k) 0 → Importing W src c host M
+    codes-import c e =
+        let z : c ≡ getD W (240 * src + 6 * i + (2 + k)) 0 = e ∙ tg .turned .left k (omega arith) h in
+        record {
+          source = tg .inside .block;
+          low = λ l. rw z (code-low W src i (tg .inside) k h (rw z at l));
+          target = tg .target;
+          apart = tg .apart;
+          mapped = tg .mapped;
+        }
+
+    module _ (c : ℕ) (e : c ≡ getD T (2 + k) 0) (W1 M1 : List ℕ) (r : ℕ) (im : Imported W src c host W1 M1 r) where
+      pub codes-fail : TurnedAll W src i host W1 M1 T false
+      codes-fail = record { grown = im .grown; mapped = im .mapped; turned = λ z. absurd (false≢true z) }
+
+      module _ (d : (r ≡ 32) → ⊥) where
+        pub codes-next : Turning W1 src i host M1 (set T (2 + k) r) (k + 1)
+        codes-next =
+            let t : Turned W1 src i host T k = turned-grown host W W1 (im .grown) src (tg .apart) (tg .inside .block) i k T (tg .inside .low) (tg .turned) in
+            let z : c ≡ getD W1 (240 * src + 6 * i + (2 + k)) 0 = e ∙ t .left k (omega arith) h in
+            record {
+              inside = other-inside host W W1 (im .grown .outside) src (tg .apart) i (tg .inside);
+              target = im .grown .block;
+              apart = tg .apart;
+              mapped = im .mapped;
+              turned = record {
+                long = length-set T (2 + k) r ∙ t .long;
+                cls = getD-set-other T (2 + k) 0 r 0 (λ y. omega arith) ∙ t .cls;
+                count = getD-set-other T (2 + k) 1 r 0 (λ y. omega arith) ∙ t .count;
+                done = λ j l m. go t z j l m (ℕ-discrete j k);
+                left = λ j l m. getD-set-other T (2 + k) (2 + j) r 0 (λ y. omega arith) ∙ t .left j (omega arith) m;
+              };
+            }
+          where
+            go : Turned W1 src i host T k → c ≡ getD W1 (240 * src + 6 * i + (2 + k)) 0 → (j : ℕ) → j < k + 1 → j < 4 → Dec (j ≡ k)
+                → CodeAs W1 src (getD W1 (240 * src + 6 * i + (2 + j)) 0) host (getD (set T (2 + k) r) (2 + j) 0)
+            go t z j l m (yes y) = rw (y, getD-set-same T (2 + k) r 0 (omega (arith, t .long)), ← z) (im .like d)
+            go t z j l m (no y) = rw (getD-set-other T (2 + k) (2 + j) r 0 (λ x. y (omega arith))) (t .done j (omega (arith, y)) m)
+
+        pub codes-more : (W2 M2 T2 : List ℕ) (b : Bool) → TurnedAll W1 src i host W2 M2 T2 b → TurnedAll W src i host W2 M2 T2 b
+        codes-more W2 M2 T2 b t = record { grown = grown-more host W W1 W2 (im .grown) (t .grown); mapped = t .mapped; turned = t .turned }
+
+-- ---- an object with the same codes unfolds to the same tree
+refs-follow : (ns ms : List Node) (rs ss : List Ref) → Pointwise (λ r s. Same ns r ms s) rs ss → (f : ℕ) (p : List ℕ) → getElem? rs f >>= (λ s. follow ns s p) ≡ getElem? ss f >>= (λ s. follow ms s p)
+refs-follow ns ms [] [] a f p = refl
+refs-follow ns ms [] (s ∷ ss) a f p = absurd a
+refs-follow ns ms (r ∷ rs) [] a f p = absurd a
+refs-follow ns ms (r ∷ rs) (s ∷ ss) a zero p = a .0 p
+refs-follow ns ms (r ∷ rs) (s ∷ ss) a (suc f) p = refs-follow ns ms rs ss (a .1) f p
+
+refs-length : (R : Ref → Ref → Type 0) (rs ss : List Ref) → Pointwise R rs ss → length rs ≡ length ss
+refs-length R [] [] a = refl
+refs-length R [] (s ∷ ss) a = absurd a
+refs-length R (r ∷ rs) [] a = absurd a
+refs-length R (r ∷ rs) (s ∷ ss) a = ap suc (refs-length R rs ss (a .1))
+
+refs-take : (R : Ref → Ref → Type 0) (n : ℕ) (rs ss : List Ref) → Pointwise R rs ss → Pointwise R (take n rs) (take n ss)
+refs-take R zero rs ss a = tt
+refs-take R (suc n) [] [] a = tt
+refs-take R (suc n) [] (s ∷ ss) a = absurd a
+refs-take R (suc n) (r ∷ rs) [] a = absurd a
+refs-take R (suc n) (r ∷ rs) (s ∷ ss) a = (a .0, refs-take R n rs ss (a .1))
+
+object-tree : (ns ms : List Node) (i k a : ℕ) (rs ss : List Ref) → nodeAt ns i ≡ node a rs → nodeAt ms k ≡ node a ss → Pointwise (λ r s. Same ns r ms s) rs ss → Same ns (obj i) ms (obj k)
+object-tree ns ms i k a rs ss ei ek w [] =
+    ap (λ (x : Node). some (object (x .cls) (length (x .refs)))) ei ∙ ap (λ (l : ℕ). some (object a l)) (refs-length (λ r s. Same ns r ms s) rs ss w)
+    ∙ sym (ap (λ (x : Node). some (object (x .cls) (length (x .refs)))) ek)
+object-tree ns ms i k a rs ss ei ek w (f ∷ p) =
+    ap (λ (x : Node). getElem? (x .refs) f >>= (λ s. follow ns s p)) ei ∙ refs-follow ns ms rs ss w f p
+    ∙ sym (ap (λ (x : Node). getElem? (x .refs) f >>= (λ s. follow ms s p)) ek)
+
+pub take-all : (P : Ref → Type 0) (n : ℕ) (rs : List Ref) → ((f : ℕ) (r : Ref) → getElem? rs f ≡ some r → P r) → (f : ℕ) (r : Ref) → getElem? (take n rs) f ≡ some r → P r
+take-all P zero rs h f r e = absurd (Option·none-ne-some r e)
+take-all P (suc n) [] h f r e = absurd (Option·none-ne-some r e)
+take-all P (suc n) (x ∷ rs) h zero r e = h 0 r e
+take-all P (suc n) (x ∷ rs) h (suc f) r e = take-all P n rs (λ g. h (suc g)) f r e
+
+four-all : (P : Ref → Type 0) (a b c d : Ref) → P a → P b → P c → P d → (f : ℕ) (r : Ref) → getElem? (a ∷ b ∷ c ∷ d ∷ []) f ≡ some r → P r
+four-all P a b c d pa pb pc pd zero r e = subst P (let z : a ≡ r = cc in z) pa
+four-all P a b c d pa pb pc pd (suc zero) r e = subst P (let z : b ≡ r = cc in z) pb
+four-all P a b c d pa pb pc pd (suc (suc zero)) r e = subst P (let z : c ≡ r = cc in z) pc
+four-all P a b c d pa pb pc pd (suc (suc (suc zero))) r e = subst P (let z : d ≡ r = cc in z) pd
+four-all P a b c d pa pb pc pd (suc (suc (suc (suc f)))) r e = absurd (Option·none-ne-some r e)
+
+pub low-refs : (T : List ℕ) (n : ℕ) → ((j : ℕ) → j < 4 → InRange n (refOf (getD T (2 + j) 0))) → (f : ℕ) (r : Ref) → getElem? (nodeIn T 0 .refs) f ≡ some r → InRange n r
+unfolding nodeIn
+low-refs T n h = take-all (InRange n) (getD T 1 0) _ (four-all (InRange n) _ _ _ _ (h 0 (omega arith)) (h 1 (omega arith)) (h 2 (omega arith)) (h 3 (omega arith)))
+
+-- ---- imported
+module _ (W : List ℕ) (src c host : ℕ) (M : List ℕ) (im : Importing W src c host M) where
+  pub import-leaf : 192 ≤ c → Imported W src c host W M c
+  import-leaf h = record {
+    grown = grown-none host W (im .target);
+    mapped = im .mapped;
+    like = λ _. record { low = leaf-low (countIn W host) c h; leaf = λ _. refl; same = leaf-same (objectsIn W src) (objectsIn W host) (refOf c) (leaf-low 0 c h) };
+  }
+
+  pub import-none : Imported W src c host W M 32
+  import-none = record { grown = grown-none host W (im .target); mapped = im .mapped; like = λ z. absurd (z refl) }
+
+  module _ (h : c < 192) where
+    pub import-inside : Inside W src c
+    import-inside = record { block = im .source; low = im .low h }
+
+    pub import-room : c < length M
+    import-room = omega (arith, im .low h, im .source .small, im .mapped .table)
+
+    pub import-known : (m : ℕ) → m ≡ getD M c 0 → ((m ≡ 0) → ⊥) → Imported W src c host W M (m - 1)
+    import-known m e d = record {
+      grown = grown-none host W (im .target);
+      mapped = im .mapped;
+      like = λ _. im .mapped .each c (m - 1) (omega (arith, e, d));
+    }
+
+    pub import-codes : (T : List ℕ) → ObjectBytes W src c T → Turning W src c host M T 0
+    import-codes T o = record {
+      inside = import-inside;
+      target = im .target;
+      apart = im .apart;
+      mapped = im .mapped;
+      turned = record {
+        long = o .long;
+        cls = o .bytes 0 (omega arith);
+        count = o .bytes 1 (omega arith);
+        done = λ j l. absurd (omega arith);
+        left = λ j l m. o .bytes (2 + j) (omega arith);
+      };
+    }
+
+    module _ (W2 M2 T : List ℕ) (b : Bool) (ta : TurnedAll W src c host W2 M2 T b) where
+      pub import-write : c < length M2
+      import-write = omega (arith, im .low h, im .source .small, ta .mapped .table)
+
+      pub import-fails : not b ≡ true → Imported W src c host W2 M2 32
+      import-fails _ = record { grown = ta .grown; mapped = ta .mapped; like = λ z. absurd (z refl) }
+
+      module _ (eb : not b ≡ false) where
+        yes-b : b ≡ true
+        yes-b = not-false b eb
+
+        td : Turned W2 src c host T 4
+        td = ta .turned yes-b
+
+        ib : Inside W2 src c
+        ib = other-inside host W W2 (ta .grown .outside) src (im .apart) c import-inside
+
+        pub import-block : Block W2 host
+        import-block = ta .grown .block
+
+        pub import-fits : Fits W2 host T
+        import-fits = record {
+          long = omega (arith, td .long);
+          packed = record {
+            count = omega (arith, td .count, ib .block .packed c (ib .low) .count);
+            spare = λ k l m. spare k l m;
+          };
+          low = low-refs T (countIn W2 host) (λ j l. td .done j l l .low);
+        }
+          where
+            spare : (k : ℕ) → 2 + getD T (0 + 1) 0 ≤ k → k < 6 → getD T (0 + k) 0 ≡ 192
+            spare k l m =
+                let z : 2 + (k - 2) ≡ k = omega arith in
+                let y : 0 + k ≡ k = omega arith in
+                let s : getD W2 (240 * src + 6 * c + k) 0 ≡ 192 = ib .block .packed c (ib .low) .spare k (omega (arith, td .count)) m in
+                let t : CodeAs W2 src (getD W2 (240 * src + 6 * c + k) 0) host (getD T k 0) = rw z at (td .done (k - 2) (omega arith) (omega arith)) in
+                rw y (t .leaf (omega arith) ∙ s)
+
+        module _ (W3 : List ℕ) (r : ℕ) (en : Entered W2 host T W3 r) where
+          grown-all : Grown host W W3
+          grown-all = grown-more host W W2 W3 (ta .grown) (en .grown)
+
+          mapped-all : Mapped W3 src host M2
+          mapped-all = mapped-grown host W2 W3 (en .grown) src (im .apart) (ib .block) M2 (ta .mapped)
+
+          pub import-full : r ≡ 32 → Imported W src c host W3 M2 32
+          import-full _ = record { grown = grown-all; mapped = mapped-all; like = λ z. absurd (z refl) }
+
+          module _ (d : (r ≡ 32) → ⊥) where
+            code-new : CodeAs W3 src c host r
+            unfolding nodeIn objectsIn
+            code-new =
+                let t3 : Turned W3 src c host T 4 = turned-grown host W2 W3 (en .grown) src (im .apart) (ib .block) c 4 T (ib .low) td in
+                let ic : Inside W3 src c = other-inside host W2 W3 (en .grown .outside) src (im .apart) c ib in
+                let st : Standing W3 host T r = en .standing d in
+                let z0 : 240 * src + 6 * c + 0 ≡ 240 * src + 6 * c = omega arith in
+                let ro : refOf r ≡ obj r = ref-object r (omega (arith, st .low, en .grown .block .small)) in
+                record {
+                  low = subst (InRange (countIn W3 host)) (sym ro) (st .low);
+                  leaf = λ l. absurd (omega arith);
+                  same = λ p. ap (λ (x : Ref). follow (objectsIn W3 src) x p) (ref-object c h)
+                      ∙ object-tree (objectsIn W3 src) (objectsIn W3 host) c r (getD T 0 0) _ _
+                      (at-nodes W3 (240 * src) (countIn W3 src) c (ic .low) ∙ ap₂ {A = ℕ} {B = ℕ} (λ x y. node x (take y (refOf (getD W3 (240 * src + 6 * c + 2) 0) ∷ refOf (getD W3 (240 * src + 6 * c + 3) 0) ∷ refOf (getD W3 (240 * src + 6 * c + 4) 0) ∷ refOf (getD W3 (240 * src + 6 * c + 5) 0) ∷ []))) (rw z0 at (sym (t3 .cls))) (sym (t3 .count)))
+                      (st .is)
+                      (refs-take (λ x y. Same (objectsIn W3 src) x (objectsIn W3 host) y) (getD T 1 0) _ _
+                      (t3 .done 0 (omega arith) (omega arith) .same, (t3 .done 1 (omega arith) (omega arith) .same, (t3 .done 2 (omega arith) (omega arith) .same, (t3 .done 3 (omega arith) (omega arith) .same, tt))))) p
+                      ∙ ap (λ (x : Ref). follow (objectsIn W3 host) x p) (sym ro);
+                }
+
+            pub import-done : Imported W src c host W3 (set M2 c (r + 1)) r
+            import-done = record {
+              grown = grown-all;
+              mapped = record { table = length-set M2 c (r + 1) ∙ ta .mapped .table; each = λ x y e. go x y e (ℕ-discrete x c) };
+              like = λ _. code-new;
+            }
+              where
+                put : getD (set M2 c (r + 1)) c 0 ≡ r + 1
+                put = getD-set-same M2 c (r + 1) 0 (omega (arith, ta .mapped .table, im .low h, im .source .small))
+
+                go : (x y : ℕ) → getD (set M2 c (r + 1)) x 0 ≡ y + 1 → Dec (x ≡ c) → CodeAs W3 src x host y
+                go x y e (yes z) =
+                    let v : r + 1 ≡ y + 1 = sym put ∙ ap (λ (q : ℕ). getD (set M2 c (r + 1)) q 0) (sym z) ∙ e in
+                    let w : r ≡ y = omega arith in
+                    rw (z, ← w) code-new
+                go x y e (no z) = mapped-all .each x y (sym (getD-set-other M2 c x (r + 1) 0 z) ∙ e)
+
+-- ---- a part
+module _ (W : List ℕ) (b i base host : ℕ) (ib : Inside W b i) (bg : Begun W base host) where
+  small-object : refOf i ≡ obj i
+  small-object = ref-object i (omega (arith, ib .low, ib .block .small))
+
+  pub object-base : b ≡ base → PartImported W (Object b i) host W i
+  object-base e =
+      let l : i < countIn W base = omega (arith, ib .low, ap (countIn W) e) in
+      record {
+        grown = grown-none host W (bg .target);
+        like = λ _. record {
+          low = subst (InRange (countIn W host)) (sym small-object) (omega (arith, bg .most));
+          same = λ p. ap (λ (x : ℕ). follow (objectsIn W x) (obj i) p) e ∙ bg .trees (obj i) l p ∙ ap (λ (x : Ref). follow (objectsIn W host) x p) (sym small-object);
+        };
+      }
+
+  pub object-host : b ≡ host → PartImported W (Object b i) host W i
+  object-host e = record {
+    grown = grown-none host W (bg .target);
+    like = λ _. record {
+      low = subst (InRange (countIn W host)) (sym small-object) (omega (arith, ib .low, ap (countIn W) e));
+      same = λ p. ap (λ (x : ℕ). follow (objectsIn W x) (obj i) p) e ∙ ap (λ (x : Ref). follow (objectsIn W host) x p) (sym small-object);
+    };
+  }
+
+  module _ (apart : (b ≡ host) → ⊥) where
+    pub object-importing : (k : ℕ) → k ≡ 32 → Importing W b i host (replicate k 0)
+    object-importing k ek = record {
+      source = ib .block;
+      low = λ _. ib .low;
+      target = bg .target;
+      apart = apart;
+      mapped = record { table = length-replicate k 0 ∙ ek; each = λ x y e. absurd (omega (arith, zero-at x, e)) };
+    }
+      where
+        zero-at : (x : ℕ) → _≡_ {A = ℕ} (getD (replicate k 0) x 0) 0
+        zero-at x = go (decLt x k)
+          where
+            go : Dec (x < k) → _≡_ {A = ℕ} (getD (replicate k 0) x 0) 0
+            go (yes l) = getD-replicate k x 0 0 l
+            go (no l) = List·getD-eq-default (replicate k 0) 0 {n = x} (omega (arith, l, length-replicate {A = ℕ} k 0))
+
+    pub object-other : (W′ M′ : List ℕ) (r : ℕ) → Imported W b i host W′ M′ r → PartImported W (Object b i) host W′ r
+    object-other W′ M′ r im = record {
+      grown = im .grown;
+      like = λ d. record {
+        low = im .like d .low;
+        same = λ p.
+            ap (λ (x : Ref). follow (objectsIn W b) x p) (sym small-object)
+            ∙ ap (λ (x : List Node). follow x (refOf i) p) (sym (other-block host W W′ (im .grown .outside) b apart (ib .block) .0)) ∙ im .like d .same p;
+      };
+    }
+
+-- ---- an object without fields
+module _ (W : List ℕ) (b i host : ℕ) (ib : Inside W b i) (bk : Block W host) (apart : (b ≡ host) → ⊥) (bare : getD W (240 * b + 6 * i + 1) 0 ≡ 0) (T : List ℕ) (o : ObjectBytes W b i T) where
+  begun : Begun W host host
+  begun = record { source = bk; target = bk; most = omega arith; trees = λ r l p. refl }
+
+  abbrev none-met : List ℕ
+  none-met = replicate 32 0
+
+  bare-importing : Importing W b i host none-met
+  bare-importing = object-importing W b i host host ib begun apart 32 refl
+
+  bare-low : i < 192
+  bare-low = omega (arith, ib .low, ib .block .small)
+
+  bare-code : (j : ℕ) → j < 4 → getD W (240 * b + 6 * i + (2 + j)) 0 ≡ 192
+  bare-code j l = ib .block .packed i (ib .low) .spare (2 + j) (omega (arith, bare)) (omega arith)
+
+  bare-turned : TurnedAll W b i host W none-met T true
+  bare-turned = record {
+    grown = grown-none host W bk;
+    mapped = bare-importing .mapped;
+    turned = λ _. record {
+      long = o .long;
+      cls = o .bytes 0 (omega arith);
+      count = o .bytes 1 (omega arith);
+      done = λ j l m.
+          subst (λ (x : ℕ). CodeAs W b (getD W (240 * b + 6 * i + (2 + j)) 0) host x) (sym (o .bytes (2 + j) (omega arith)))
+          (subst (λ (x : ℕ). CodeAs W b x host x) (sym (bare-code j m)) (record {
+            low = leaf-low (countIn W host) 192 (omega arith);
+            leaf = λ _. refl;
+            same = leaf-same (objectsIn W b) (objectsIn W host) (refOf 192) (leaf-low 0 192 (omega arith));
+          }));
+      left = λ j l m. o .bytes (2 + j) (omega arith);
+    };
+  }
+
+  pub bare-fits : Fits W host T
+  bare-fits = import-fits W b i host none-met bare-importing bare-low W none-met T true bare-turned refl
+
+  pub bare-imported : (W′ : List ℕ) (r : ℕ) → Entered W host T W′ r → PartImported W (Object b i) host W′ r
+  bare-imported W′ r en = go (ℕ-discrete r 32)
+    where
+      full : r ≡ 32 → Imported W b i host W′ none-met r
+      full e = subst (Imported W b i host W′ none-met) (sym e) (import-full W b i host none-met bare-importing bare-low W none-met T true bare-turned refl W′ r en e)
+
+      go : Dec (r ≡ 32) → PartImported W (Object b i) host W′ r
+      go (yes e) = object-other W b i host host ib begun apart W′ none-met r (full e)
+      go (no d) =
+          object-other W b i host host ib begun apart W′ (set none-met i (r + 1)) r
+          (import-done W b i host none-met bare-importing bare-low W none-met T true bare-turned refl W′ r en d)
+
+module _ (W : List ℕ) (v : ValueRef) (base host : ℕ) (h : Holds W v) (bg : Begun W base host) where
+  pub part-object : (b i : ℕ) (W′ : List ℕ) (r : ℕ) → v ≡ Object b i → PartImported W (Object b i) host W′ r → PartImported W v host W′ r
+  part-object b i W′ r e p = subst (λ (x : ValueRef). PartImported W x host W′ r) (sym e) p
+
+  pub part-small : (k : ℕ) → v ≡ Mark k → k < 63
+  part-small k e = let z : k < 63 = subst (HeldBy W) e (h .held) in z
+
+  pub part-mark : (k : ℕ) → v ≡ Mark k → PartImported W v host W (193 + k)
+  part-mark k e = rw e (record {
+    grown = grown-none host W (bg .target);
+    like = λ _. record { low = leaf-low (countIn W host) (193 + k) (omega arith); same = λ p. leaf-same [] (objectsIn W host) (mark k) tt p ∙ ap (λ (x : Ref). follow (objectsIn W host) x p) (sym (ref-mark k)) };
+  })
+
+  pub part-undet : v ≡ Undetermined → PartImported W v host W 192
+  part-undet e = rw e (record {
+    grown = grown-none host W (bg .target);
+    like = λ _. record { low = leaf-low (countIn W host) 192 (omega arith); same = λ p. leaf-same [] (objectsIn W host) undet tt p ∙ ap (λ (x : Ref). follow (objectsIn W host) x p) (sym ref-undet) };
+  })
+
+same-values : (W W′ : List ℕ) (n : ℕ) (ps : List Slot) → ((i : ℕ) → i < n → valueOf W′ (partOf ps i) ≡ valueOf W (partOf ps i)) → map (λ s. valueOf W′ (s .r)) (take n ps) ≡ map (λ s. valueOf W (s .r)) (take n ps)
+same-values W W′ zero ps h = refl
+same-values W W′ (suc n) [] h = refl
+same-values W W′ (suc n) (s ∷ ps) h = ap₂ {A = Graph} {B = List Graph} {C = List Graph} _∷_ (h 0 (omega arith)) (same-values W W′ n ps (λ i l. h (suc i) (omega arith)))
+
+-- ---- values in a block that has grown, and in the others
+module _ (host : ℕ) (W W′ : List ℕ) (g : Grown host W W′) where
+  pub part-held : (v : ValueRef) → Holds W v → Holds W′ v
+  part-held (Object b i) h = record { held = go (ℕ-discrete b host) }
+    where
+      go : Dec (b ≡ host) → Inside W′ b i
+      go (yes e) = subst (λ (x : ℕ). Inside W′ x i) (sym e) (record { block = g .block; low = omega (arith, h .held .low, ap (countIn W) e, g .most) })
+      go (no n) = other-inside host W W′ (g .outside) b n i (h .held)
+  part-held (Mark k) h = record { held = h .held }
+  part-held Undetermined h = record { held = tt }
+
+  part-tree : (v : ValueRef) → Holds W v → Same (rawOf W v .nodes) (rawOf W v .root) (rawOf W′ v .nodes) (rawOf W′ v .root)
+  part-tree (Object b i) h p = go (ℕ-discrete b host)
+    where
+      go : Dec (b ≡ host) → follow (objectsIn W b) (obj i) p ≡ follow (objectsIn W′ b) (obj i) p
+      go (yes e) =
+          ap (λ (x : ℕ). follow (objectsIn W x) (obj i) p) e ∙ g .trees (obj i) (omega (arith, h .held .low, ap (countIn W) e)) p
+          ∙ ap (λ (x : ℕ). follow (objectsIn W′ x) (obj i) p) (sym e)
+      go (no n) = ap (λ (x : List Node). follow x (obj i) p) (sym (other-block host W W′ (g .outside) b n (h .held .block) .0))
+  part-tree (Mark k) h p = refl
+  part-tree Undetermined h p = refl
+
+  part-value : (v : ValueRef) → Holds W v → valueOf W′ v ≡ valueOf W v
+  part-value (Object b i) h =
+      let h′ : Holds W′ (Object b i) = part-held (Object b i) h in
+      same-canon (graphAt W′ b i) (graphAt W b i) (whole-at W′ b (h′ .held .block) i (h′ .held .low)) (whole-at W b (h .held .block) i (h .held .low))
+      (λ p. sym (part-tree (Object b i) h p))
+  part-value (Mark k) h = refl
+  part-value Undetermined h = refl
+
+  pub parts-held : (ps : List Slot) (n : ℕ) → PartsHeld W ps n → PartsHeld W′ ps n
+  parts-held ps n h = record { full = h .full; part = λ i l. part-held (partOf ps i) (h .part i l) }
+
+  pub parts-values : (ps : List Slot) (n : ℕ) → PartsHeld W ps n → valuesFrom W′ ps 0 n ≡ valuesFrom W ps 0 n
+  unfolding valuesFrom
+  parts-values ps n h = same-values W W′ n ps (λ i l. part-value (partOf ps i) (h .part i l))
+
+  pub begun-grown : (base : ℕ) → Begun W base host → Begun W′ base host
+  begun-grown base bg = go (ℕ-discrete base host)
+    where
+      go : Dec (base ≡ host) → Begun W′ base host
+      go (yes e) = subst (λ (x : ℕ). Begun W′ x host) (sym e) (record { source = g .block; target = g .block; most = omega arith; trees = λ r l p. refl })
+      go (no n) =
+          let o = other-block host W W′ (g .outside) base n (bg .source) in
+          let same : countIn W′ base ≡ countIn W base = sym (size-in W′ base (o .1)) ∙ ap length (o .0) ∙ size-in W base (bg .source) in
+          record {
+            source = o .1;
+            target = g .block;
+            most = omega (arith, same, bg .most, g .most);
+            trees = λ r l p.
+                let l′ : InRange (countIn W base) r = subst (λ (m : ℕ). InRange m r) same l in
+                ap (λ (x : List Node). follow x r p) (o .0) ∙ bg .trees r l′ p ∙ g .trees r (in-larger (countIn W base) (countIn W host) r (bg .most) l′) p;
+          }
+
+  pub like-grown : (W₀ : List ℕ) (v : ValueRef) (r : ℕ) → As W₀ v W host r → As W₀ v W′ host r
+  like-grown W₀ v r a = record {
+    low = in-larger (countIn W host) (countIn W′ host) (refOf r) (g .most) (a .low);
+    same = λ p. a .same p ∙ g .trees (refOf r) (a .low) p;
+  }
+
+-- ---- the parts brought
+pub brought-none : (W : List ℕ) (c : ℕ) (ps : List Slot) (n : ℕ) (host : ℕ) (R : List ℕ) → length R ≡ 6 → RootBrought W c ps n 0 W host (fresh R c n)
+brought-none W c ps n host R e = record {
+  long = simp length-set (omega arith);
+  cls = fresh-class R c n (omega arith);
+  count = fresh-count R c n (omega arith);
+  done = λ j l. absurd (omega arith);
+  spare = λ k a b. fresh-spare R c n (omega arith) k (omega arith) b;
+}
+
+module _ (W : List ℕ) (c : ℕ) (ps : List Slot) (n i : ℕ) (W1 : List ℕ) (host : ℕ) (T : List ℕ) (held : PartsHeld W ps n) (g : Grown host W W1) (w : RootBrought W c ps n i W1 host T) where
+  pub brought-held : i < n → (v : ValueRef) → v ≡ partOf ps i → Holds W1 v
+  brought-held h v e = part-held host W W1 g v (subst (Holds W) (sym e) (held .part i h))
+
+  pub brought-all : n ≤ i → i ≤ n → PartsBrought W c ps n host W1 T true
+  brought-all h l = let e : i ≡ n = omega arith in record { grown = g; done = λ _. subst (λ (k : ℕ). RootBrought W c ps n k W1 host T) e w }
+
+  module _ (h : i < n) (v : ValueRef) (e : v ≡ partOf ps i) (W2 : List ℕ) (r : ℕ) (pi : PartImported W1 v host W2 r) where
+    pub brought-grown : Grown host W W2
+    brought-grown = grown-more host W W1 W2 g (pi .grown)
+
+    pub brought-fails : PartsBrought W c ps n host W2 T false
+    brought-fails = record { grown = brought-grown; done = λ z. absurd (false≢true z) }
+
+    pub brought-more : n ≤ 4 → ((r ≡ 32) → ⊥) → RootBrought W c ps n (i + 1) W2 host (set T (2 + i) r)
+    brought-more few d = record {
+      long = length-set T (2 + i) r ∙ w .long;
+      cls = getD-set-other T (2 + i) 0 r 0 (λ z. omega arith) ∙ w .cls;
+      count = getD-set-other T (2 + i) 1 r 0 (λ z. omega arith) ∙ w .count;
+      done = λ j l. go j l (ℕ-discrete j i);
+      spare = λ k a b. getD-set-other T (2 + i) k r 0 (λ z. omega arith) ∙ w .spare k (omega arith) b;
+    }
+      where
+        now-like : As W v W2 host r
+        now-like = record {
+          low = pi .like d .low;
+          same = λ p. part-tree host W W1 g v (subst (Holds W) (sym e) (held .part i h)) p ∙ pi .like d .same p;
+        }
+
+        go : (j : ℕ) → j < i + 1 → Dec (j ≡ i) → As W (partOf ps j) W2 host (getD (set T (2 + i) r) (2 + j) 0)
+        go j l (yes z) = rw (z, getD-set-same T (2 + i) r 0 (omega (arith, w .long))) (subst (λ (x : ValueRef). As W x W2 host r) e now-like)
+        go j l (no z) = rw (getD-set-other T (2 + i) (2 + j) r 0 (λ y. z (omega arith))) (like-grown host W1 W2 (pi .grown) W (partOf ps j) _ (w .done j (omega (arith, z))))
+
+pub brought-start : (W : List ℕ) (base host : ℕ) → Begun W base host → Grown host W W
+brought-start W base host bg = grown-none host W (bg .target)
+
+pub brought-length : (T : List ℕ) (i x m : ℕ) → length T ≡ m → length (set T i x) ≡ m
+brought-length T i x m e = length-set T i x ∙ e
+
+-- ---- the new object over them
+beneath-grown : (host dst : ℕ) (W W′ : List ℕ) → dst ≤ host → Grown host W W′ → Beneath dst W W′
+beneath-grown host dst W W′ h g = record { same = g .outside .same; below = λ p l. g .outside .below p (omega arith) }
+
+pub beneath-more : (dst : ℕ) (W W1 W2 : List ℕ) → Beneath dst W W1 → Beneath dst W1 W2 → Beneath dst W W2
+beneath-more dst W W1 W2 a b = record { same = b .same ∙ a .same; below = λ p h. b .below p h ∙ a .below p h }
+
+pub made-from : (W W1 : List ℕ) (c : ℕ) (ps : List Slot) (n dst : ℕ) (W2 : List ℕ) (o : Made) → Beneath dst W W1 → valuesFrom W1 ps 0 n ≡ valuesFrom W ps 0 n
+    → MadeIs W1 (make c (valuesFrom W1 ps 0 n)) dst W2 o → MadeIs W (make c (valuesFrom W ps 0 n)) dst W2 o
+made-from W W1 c ps n dst W2 o b e m = record {
+  held = m .held;
+  is = m .is ∙ ap (λ (v : Graph). cond (leb (length (v .nodes)) 32) (some v) none) (ap (make c) e);
+  place = m .place;
+  beneath = beneath-more dst W W1 W2 b (m .beneath);
+}
+
+abbrev AllLike : List Node → List Ref → List Graph → Type 0
+AllLike ms [] [] = Unit {0}
+AllLike ms [] (g ∷ gs) = ⊥
+AllLike ms (r ∷ rs) [] = ⊥
+AllLike ms (r ∷ rs) (g ∷ gs) = Same ms r (g .nodes) (g .root) × AllLike ms rs gs
+
+like-follow : (ms : List Node) (rs : List Ref) (gs : List Graph) → AllLike ms rs gs → (f : ℕ) (p : List ℕ) → getElem? rs f >>= (λ s. follow ms s p) ≡ getElem? gs f >>= (λ v. follow (v .nodes) (v .root) p)
+like-follow ms [] [] a f p = refl
+like-follow ms [] (g ∷ gs) a f p = absurd a
+like-follow ms (r ∷ rs) [] a f p = absurd a
+like-follow ms (r ∷ rs) (g ∷ gs) a zero p = a .0 p
+like-follow ms (r ∷ rs) (g ∷ gs) a (suc f) p = like-follow ms rs gs (a .1) f p
+
+like-all : (W : List ℕ) (ms : List Node) (n : ℕ) (rs : List Ref) (ps : List Slot) → n ≤ length rs → n ≤ length ps
+    → ((i : ℕ) → i < n → Same ms (getD rs i undet) (rawOf W (partOf ps i) .nodes) (rawOf W (partOf ps i) .root)) → AllLike ms (take n rs) (map (λ s. rawOf W (s .r)) (take n ps))
+like-all W ms zero rs ps a b h = tt
+like-all W ms (suc n) [] ps a b h = absurd (omega arith)
+like-all W ms (suc n) (r ∷ rs) [] a b h = absurd (omega arith)
+like-all W ms (suc n) (r ∷ rs) (s ∷ ps) a b h = (h 0 (omega arith), like-all W ms n rs ps (omega arith) (omega arith) (λ i l. h (suc i) (omega arith)))
+
+module _ (W : List ℕ) (c : ℕ) (ps : List Slot) (n host dst : ℕ) (held : PartsHeld W ps n) (few : n ≤ 4) (le : dst ≤ host) (W1 T : List ℕ) (b : Bool) (br : PartsBrought W c ps n host W1 T b) where
+  pub in-held : PartsHeld W1 ps n
+  in-held = parts-held host W W1 (br .grown) ps n held
+
+  pub in-room : 240 * dst + 240 ≤ length W → 240 * dst + 240 ≤ length W1
+  in-room h = omega (arith, br .grown .outside .same)
+
+  pub in-laid : (W2 : List ℕ) (o : Made) → MadeIs W1 (make c (valuesFrom W1 ps 0 n)) dst W2 o → MadeIs W (make c (valuesFrom W ps 0 n)) dst W2 o
+  in-laid W2 o m = made-from W W1 c ps n dst W2 o (beneath-grown host dst W W1 le (br .grown)) (parts-values host W W1 (br .grown) ps n held) m
+
+  module _ (eb : not b ≡ false) where
+    rb : RootBrought W c ps n n W1 host T
+    rb = br .done (not-false b eb)
+
+    pub in-block : Block W1 host
+    in-block = br .grown .block
+
+    pub in-fits : Fits W1 host T
+    in-fits = record {
+      long = omega (arith, rb .long);
+      packed = record {
+        count = omega (arith, rb .count);
+        spare = λ k l m. let e : 0 + k ≡ k = omega arith in rw e (rb .spare k (omega (arith, rb .count)) m);
+      };
+      low = low-refs T (countIn W1 host) (λ j l. go j l (decLt j n));
+    }
+      where
+        go : (j : ℕ) → j < 4 → Dec (j < n) → InRange (countIn W1 host) (refOf (getD T (2 + j) 0))
+        go j l (yes h) = rb .done j h .low
+        go j l (no h) = rw (rb .spare (2 + j) (omega (arith, h)) (omega arith)) (leaf-low (countIn W1 host) 192 (omega arith))
+
+    module _ (W2 : List ℕ) (r : ℕ) (en : Entered W1 host T W2 r) where
+      both : Grown host W W2
+      both = grown-more host W W1 W2 (br .grown) (en .grown)
+
+      pub in-held-2 : PartsHeld W2 ps n
+      in-held-2 = parts-held host W W2 both ps n held
+
+      pub in-room-2 : 240 * dst + 240 ≤ length W → 240 * dst + 240 ≤ length W2
+      in-room-2 h = omega (arith, both .outside .same)
+
+      pub in-laid-2 : (W3 : List ℕ) (o : Made) → MadeIs W2 (make c (valuesFrom W2 ps 0 n)) dst W3 o → MadeIs W (make c (valuesFrom W ps 0 n)) dst W3 o
+      in-laid-2 W3 o m = made-from W W2 c ps n dst W3 o (beneath-grown host dst W W2 le both) (parts-values host W W2 both ps n held) m
+
+      module _ (d : (r ≡ 32) → ⊥) where
+        st : Standing W2 host T r
+        st = en .standing d
+
+        pub in-holds : Holds W2 (Object host r)
+        in-holds = record { held = record { block = en .grown .block; low = st .low } }
+
+        whole : Whole (graphAt W2 host r)
+        whole = whole-at W2 host (en .grown .block) r (st .low)
+
+        node-is : nodeAt (objectsIn W2 host) r ≡ node c (take n (four T 0))
+        unfolding nodeIn
+        node-is = st .is ∙ ap₂ {A = ℕ} {B = ℕ} (λ x y. node x (take y (four T 0))) (rb .cls) (rb .count)
+
+        like : AllLike (objectsIn W2 host) (take n (four T 0)) (rawsFrom W ps 0 n)
+        unfolding rawsFrom
+        like = like-all W (objectsIn W2 host) n (four T 0) ps few (held .full) (λ i l p.
+            ap (λ (x : Ref). follow (objectsIn W2 host) x p) (four-at T 0 i (omega arith))
+            ∙ sym (like-grown host W1 W2 (en .grown) W (partOf ps i) (getD T (2 + i) 0) (rb .done i l) .same p))
+
+        value : make c (valuesFrom W ps 0 n) ≡ canon (graphAt W2 host r)
+        value =
+            made-raw W c ps n held
+            ∙ made-as c (rawsFrom W ps 0 n) (raws-whole W c ps n held) (graphAt W2 host r) whole
+            (ap (λ (x : Node). some (object (x .cls) (length (x .refs)))) node-is
+            ∙ ap (λ (l : ℕ). some (object c l)) (omega (arith, length-take n (four T 0), few, parts-length W ps n held)))
+            (λ f p. ap (λ (x : Node). getElem? (x .refs) f >>= (λ s. follow (objectsIn W2 host) s p)) node-is ∙ like-follow (objectsIn W2 host) (take n (four T 0)) (rawsFrom W ps 0 n) like f p)
+
+        pub in-made : (W3 : List ℕ) (o : ValueRef) → Gives W2 dst W3 o (valueOf W2 (Object host r)) → MadeIs W (make c (valuesFrom W ps 0 n)) dst W3 (Value o)
+        in-made W3 o g =
+            let l : length (make c (valuesFrom W ps 0 n) .nodes) ≤ 32 =
+            omega (arith, ap (λ (x : Graph). length (x .nodes)) value, canon-length (graphAt W2 host r) whole, size-in W2 host (en .grown .block), en .grown .block .small) in
+            record {
+              held = g .held;
+              is = rw (le-leb _ 32 l) (ap some (g .is ∙ sym value));
+              place = g .place;
+              beneath = beneath-more dst W W2 W3 (beneath-grown host dst W W2 le both) (under dst W2 W3 (g .outside));
+            }
+
+-- ---- the host
+pub lies-object : (d : ℕ) (v : ValueRef) (x i : ℕ) → v ≡ Object x i → eqb x d ≡ liesIn d v
+unfolding liesIn
+lies-object d v x i e = rw e
+
+pub lies-mark : (d : ℕ) (v : ValueRef) (k : ℕ) → v ≡ Mark k → false ≡ liesIn d v
+unfolding liesIn
+lies-mark d v k e = rw e
+
+pub lies-undet : (d : ℕ) (v : ValueRef) → v ≡ Undetermined → false ≡ liesIn d v
+unfolding liesIn
+lies-undet d v e = rw e
+
+module _ (ps : List Slot) (n d : ℕ) where
+  abbrev lies : ℕ → Bool
+  lies i = liesIn d (partOf ps i)
+
+  pub away-none : someIn ps 0 d ≡ false
+  unfolding someIn any
+  away-none = refl
+
+  module _ (i : ℕ) (v : ValueRef) (r : Bool) (ev : v ≡ partOf ps i) (er : r ≡ liesIn d v) where
+    answer : lies i ≡ r
+    answer = ap (liesIn d) (sym ev) ∙ sym er
+
+    pub away-more : someIn ps i d ≡ false → r ≡ false → someIn ps (i + 1) d ≡ false
+    unfolding someIn
+    away-more a e = any-more lies i a (answer ∙ e)
+
+    pub some-there : i < n → r ≡ true → true ≡ someIn ps n d
+    unfolding someIn
+    some-there h e = sym (any-there lies n i h (answer ∙ e))
+
+  pub some-none : (i : ℕ) → someIn ps i d ≡ false → i ≤ n → n ≤ i → false ≡ someIn ps n d
+  some-none i a h l = let e : i ≡ n = omega arith in sym (rw e at a)
+
+  away-at : someIn ps n d ≡ false → (i : ℕ) → i < n → lies i ≡ false
+  unfolding someIn
+  away-at a i h = any-not lies n i a h
+
+begun-here : (W : List ℕ) (b : ℕ) → Block W b → Begun W b b
+begun-here W b bk = record { source = bk; target = bk; most = omega arith; trees = λ r h p. refl }
+
+-- ---- the block with the most objects
+module _ (W : List ℕ) (v : ValueRef) (b : ℕ) where
+  pub larger-leaf : OneOf (1 ∷ 2 ∷ []) (tagOf RefT.the-type v) → b ≡ largerOf W v b
+  unfolding largerOf
+  larger-leaf = no-object (λ x. b ≡ largerOf W x b) (λ k. refl) refl v
+
+  pub larger-other : (x i : ℕ) → v ≡ Object x i → getD W (240 * b + 192) 0 < getD W (240 * x + 192) 0 → x ≡ largerOf W v b
+  unfolding largerOf countIn
+  larger-other x i e h = rw (e, lt-ltb _ _ h)
+
+  pub larger-same : (x i : ℕ) → v ≡ Object x i → getD W (240 * x + 192) 0 ≤ getD W (240 * b + 192) 0 → b ≡ largerOf W v b
+  unfolding largerOf countIn
+  larger-same x i e h = rw (e, le-ltb _ _ h)
+
+larger-block : (W : List ℕ) (v : ValueRef) (b : ℕ) → Holds W v → Block W b → Block W (largerOf W v b)
+unfolding largerOf
+larger-block W (Object x i) b h bk = go (ltb (countIn W b) (countIn W x))
+  where
+    go : (t : Bool) → Block W (cond t x b)
+    go true = h .held .block
+    go false = bk
+larger-block W (Mark k) b h bk = bk
+larger-block W Undetermined b h bk = bk
+
+module _ (W : List ℕ) (ps : List Slot) (n b : ℕ) where
+  pub largest-none : b ≡ largestOf W ps 0 b
+  unfolding largestOf
+  largest-none = refl
+
+  pub largest-more : (i d : ℕ) (v : ValueRef) (r : ℕ) → d ≡ largestOf W ps i b → v ≡ partOf ps i → r ≡ largerOf W v d → r ≡ largestOf W ps (i + 1) b
+  unfolding largestOf
+  largest-more i d v r ed ev er = let z : i + 1 ≡ suc i = omega arith in rw z (er ∙ ap₂ (largerOf W) ev ed)
+
+  pub largest-done : (i d : ℕ) → d ≡ largestOf W ps i b → i ≤ n → n ≤ i → d ≡ largestOf W ps n b
+  largest-done i d ed h l = let e : i ≡ n = omega arith in rw e at ed
+
+  module _ (held : PartsHeld W ps n) (bk : Block W b) where
+    block-at : (i : ℕ) → i ≤ n → Block W (largestOf W ps i b)
+    unfolding largestOf
+    block-at zero h = bk
+    block-at (suc i) h = larger-block W (partOf ps i) (largestOf W ps i b) (held .part i (omega arith)) (block-at i (omega arith))
+
+    pub largest-so-far : (i d : ℕ) → d ≡ largestOf W ps i b → i < n → Block W d
+    largest-so-far i d e h = subst (Block W) (sym e) (block-at i (omega arith))
+
+    pub largest-block : (d : ℕ) → d ≡ largestOf W ps n b → Block W d
+    largest-block d e = subst (Block W) (sym e) (block-at n (omega arith))
+
+    pub largest-begun : (d : ℕ) → d ≡ largestOf W ps n b → Begun W d d
+    largest-begun d e = begun-here W d (largest-block d e)
+
+module _ (W : List ℕ) (b host dst : ℕ) (W1 : List ℕ) (bk : Block W b) (lb : b < dst) (le : dst ≤ host) (room : 240 * host + 240 ≤ length W) (cp : Copied W b host W1) where
+  pub copied-begun : Begun W1 b host
+  copied-begun =
+      let m = block-moves W W1 b host (cp .count) (cp .level) (cp .here) (omega (arith, cp .outside .same)) bk in
+      let o = other-block host W W1 (cp .outside) b (λ z. omega arith) bk in
+      let same : countIn W1 b ≡ countIn W b = sym (size-in W1 b (o .1)) ∙ ap length (o .0) ∙ size-in W b bk in
+      record {
+        source = o .1;
+        target = m .1;
+        most = omega (arith, same, cp .count);
+        trees = λ r h p. ap (λ (x : List Node). follow x r p) (o .0 ∙ sym (m .0));
+      }
+
+  pub copied-room : 240 * dst + 240 ≤ length W1
+  copied-room = omega (arith, cp .outside .same)
+
+  module _ (ps : List Slot) (n : ℕ) (held : PartsHeld W ps n) (away : someIn ps n host ≡ false) where
+    keeps : (i : ℕ) → i < n → Kept W W1 (partOf ps i)
+    keeps i h = kept host W W1 (cp .outside) (partOf ps i) (away-at ps n host away i h) (held .part i h)
+
+    pub copied-held : PartsHeld W1 ps n
+    copied-held = record { full = held .full; part = λ i h. keeps i h .held }
+
+    copied-values : valuesFrom W1 ps 0 n ≡ valuesFrom W ps 0 n
+    unfolding valuesFrom
+    copied-values = same-values W W1 n ps (λ i h. keeps i h .is)
+
+    pub copied-made : (c : ℕ) (W2 : List ℕ) (o : Made) → MadeIs W1 (make c (valuesFrom W1 ps 0 n)) dst W2 o → MadeIs W (make c (valuesFrom W ps 0 n)) dst W2 o
+    copied-made c W2 o m = made-from W W1 c ps n dst W2 o (record { same = cp .outside .same; below = λ p h. cp .outside .below p (omega arith) }) copied-values m
+
+pub larger-read : (W : List ℕ) (v : ValueRef) (x i : ℕ) → Holds W v → v ≡ Object x i → 240 * x + 192 < length W
+larger-read W v x i h e = omega (arith, held-room W v x i h e)

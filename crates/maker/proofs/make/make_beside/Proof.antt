@@ -1,0 +1,52 @@
+use borrow.Author.Needs.{needs}
+use Rattle.maker.proofs.make.make_beside.Statement.{statement}
+use Rattle.maker.proofs.make.make_beside.Tie as tie
+use Rattle.maker.proofs.make.make_beside.Reads as reads
+use Rattle.maker.proofs.make.make_beside.Lts as lts
+use Rattle.maker.proofs.make.make_laid.Reads as make-laid-reads
+use Rattle.maker.proofs.over.add.Reads as add-reads
+use Rattle.maker.proofs.over.find.Reads as find-reads
+use Rattle.maker.proofs.over.root_object.Reads as root-object-reads
+use Rattle.values.proofs.value.bring.Reads as bring-reads
+use Rattle.canon.specs.Layout.{countIn}
+use Rattle.maker.proofs.Beside as laws
+use Rattle.values.proofs.Copies as copies
+
+find-requires : tie.Need-find-requires
+unfolding countIn
+find-requires c κs = search needs
+
+bring-requires : tie.Need-bring-requires
+bring-requires c κs = (search copies.block-held, search needs)
+
+returns : tie.Need-returns
+returns c = search laws.beside-found
+
+add-requires : tie.Need-add-requires
+unfolding countIn
+add-requires c κs = search needs
+
+returns-3 : tie.Need-returns-3
+returns-3 c = search laws.beside-new
+
+pub make-beside-spec : {M : Type 1} → statement M
+make-beside-spec =
+    tie.close
+    (tie.spec
+    (λ c. search needs)
+    (λ c κs. search needs)
+    (λ c. search needs)
+    (λ c. search needs)
+    (λ c. search needs)
+    (λ c. search needs)
+    find-requires
+    bring-requires
+    (λ c. search needs)
+    returns
+    (λ c κs. search needs)
+    (λ c. search needs)
+    (λ c. search needs)
+    (λ c. search needs)
+    add-requires
+    (λ c. search needs)
+    returns-3)

@@ -1,0 +1,26 @@
+use borrow.Author.Needs.{needs}
+use Rattle.maker.proofs.make.stands.Statement.{statement}
+use Rattle.maker.proofs.make.stands.Tie as tie
+use Rattle.maker.proofs.make.stands.Reads as reads
+use Rattle.maker.proofs.make.stands.Lts as lts
+use Rattle.maker.proofs.Beside as laws
+
+returns : tie.Need-returns
+returns c = search laws.stands-here
+
+returns-2 : tie.Need-returns-2
+returns-2 c = search laws.stands-mark
+
+returns-3 : tie.Need-returns-3
+returns-3 c = search laws.stands-undet
+
+pub stands-spec : {M : Type 1} → statement M
+stands-spec =
+    tie.close
+    (tie.spec
+    (λ c. search needs)
+    (λ c. search needs)
+    (λ c. search needs)
+    returns
+    returns-2
+    returns-3)

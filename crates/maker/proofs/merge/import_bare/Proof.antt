@@ -1,0 +1,25 @@
+use borrow.Author.Needs.{needs}
+use Rattle.maker.proofs.merge.import_bare.Statement.{statement}
+use Rattle.maker.proofs.merge.import_bare.Tie as tie
+use Rattle.maker.proofs.merge.import_bare.Reads as reads
+use Rattle.maker.proofs.merge.import_bare.Lts as lts
+use Rattle.maker.proofs.merge.enter.Reads as enter-reads
+use Rattle.maker.proofs.merge.take_object.Reads as take-object-reads
+use Rattle.maker.proofs.Merges as laws
+
+enter-requires : tie.Need-enter-requires
+enter-requires c κs = (search needs, search laws.bare-fits)
+
+returns : tie.Need-returns
+returns c = search laws.bare-imported
+
+pub import-bare-spec : {M : Type 1} → statement M
+import-bare-spec =
+    tie.close
+    (tie.spec
+    (λ c. search needs)
+    (λ c κs. search needs)
+    (λ c. search needs)
+    enter-requires
+    (λ c. search needs)
+    returns)

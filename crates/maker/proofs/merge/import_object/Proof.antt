@@ -1,0 +1,42 @@
+use borrow.Author.Needs.{needs}
+use Rattle.maker.proofs.merge.import_object.Statement.{statement}
+use Rattle.maker.proofs.merge.import_object.Tie as tie
+use Rattle.maker.proofs.merge.import_object.Reads as reads
+use Rattle.maker.proofs.merge.import_object.Lts as lts
+use Rattle.maker.proofs.merge.import.Reads as import-reads
+use Rattle.maker.proofs.merge.import_bare.Reads as import-bare-reads
+use Rattle.maker.proofs.Merges as laws
+
+returns : tie.Need-returns
+returns c = search laws.object-base
+
+returns-2 : tie.Need-returns-2
+returns-2 c = search laws.object-host
+
+import-requires : tie.Need-import-requires
+import-requires c κs = search laws.object-importing
+
+returns-4 : tie.Need-returns-4
+returns-4 c = search laws.object-other
+
+pub import-object-spec : {M : Type 1} → statement M
+import-object-spec =
+    tie.close
+    (tie.spec
+    returns
+    returns-2
+    (λ c. search needs)
+    (λ c. search needs)
+    (λ c. search needs)
+    (λ c. search needs)
+    (λ c. search needs)
+    (λ c κs. search needs)
+    (λ c. search needs)
+    (λ c. search needs)
+    (λ c. search needs)
+    (λ c. search needs)
+    (λ c. search needs)
+    (λ c. search needs)
+    import-requires
+    (λ c. search needs)
+    returns-4)

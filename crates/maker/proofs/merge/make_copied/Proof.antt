@@ -1,0 +1,23 @@
+use borrow.Author.Needs.{needs}
+use Rattle.maker.proofs.merge.make_copied.Statement.{statement}
+use Rattle.maker.proofs.merge.make_copied.Tie as tie
+use Rattle.maker.proofs.merge.make_copied.Reads as reads
+use Rattle.maker.proofs.merge.make_copied.Lts as lts
+use Rattle.maker.proofs.merge.make_in.Reads as make-in-reads
+use Rattle.values.proofs.value.copy_block.Reads as copy-block-reads
+use Rattle.maker.proofs.Merges as laws
+
+make-in-requires : tie.Need-make-in-requires
+make-in-requires c κs = (search laws.copied-held, search needs, search laws.copied-begun, search needs, search laws.copied-room)
+
+returns : tie.Need-returns
+returns c = search laws.copied-made
+
+pub make-copied-spec : {M : Type 1} → statement M
+make-copied-spec =
+    tie.close
+    (tie.spec
+    (λ c κs. search needs)
+    make-in-requires
+    (λ c. search needs)
+    returns)

@@ -1,0 +1,46 @@
+use Rattle.maker.proofs.merge.some_in.Statement.{statement}
+use Rattle.maker.proofs.merge.some_in.Tie as tie
+use Rattle.maker.proofs.merge.some_in.Reads as reads
+use Rattle.maker.proofs.merge.some_in.Lts as lts
+use Rattle.maker.proofs.merge.lies_in.Reads as lies-in-reads
+use Rattle.maker.proofs.lay.part_at.Reads as part-at-reads
+use borrow.Author.Needs.{needs}
+use Prim.Native.Nat.{_≤_, _-_}
+use Rattle.maker.specs.Laying.{partsOf}
+use mathlib.Core.Path.{_≡_}
+use mathlib.Core.Bool.{false}
+use Rattle.maker.specs.Merging.{someIn}
+use Rattle.maker.proofs.Merges as laws
+
+abbrev Inv-loop : tie.InvT-loop
+Inv-loop parts n d i₀ i = (i ≤ n) × (someIn (partsOf parts) i d ≡ false)
+
+abbrev μ-loop : tie.MeasureT-loop
+μ-loop parts n d i₀ i = n - i
+
+loop-holds : tie.Need-loop-holds Inv-loop μ-loop
+loop-holds c = (search needs, laws.away-none _ 0 _)
+
+returns : tie.Need-returns Inv-loop μ-loop
+returns c = search laws.some-there
+
+loop-again : tie.Need-loop-again Inv-loop μ-loop
+loop-again c = (search needs, search laws.away-more)
+
+returns-2 : tie.Need-returns-2 Inv-loop μ-loop
+returns-2 c = search laws.some-none
+
+pub some-in-spec : {M : Type 1} → statement M
+some-in-spec =
+    tie.close
+    (tie.spec
+    Inv-loop
+    μ-loop
+    loop-holds
+    (λ c κs. search needs)
+    (λ c κs. search needs)
+    returns
+    (λ c. search needs)
+    (λ c. search needs)
+    loop-again
+    returns-2)

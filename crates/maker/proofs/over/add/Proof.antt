@@ -1,0 +1,44 @@
+use borrow.Author.Needs.{needs}
+use Rattle.maker.proofs.over.add.Statement.{statement}
+use Rattle.maker.proofs.over.add.Tie as tie
+use Rattle.maker.proofs.over.add.Reads as reads
+use Rattle.maker.proofs.over.add.Lts as lts
+use Rattle.maker.proofs.over.append.Reads as append-reads
+use Rattle.maker.proofs.over.level_with.Reads as level-with-reads
+use Rattle.values.proofs.value.copy_block.Reads as copy-block-reads
+use native.Mathlib.Omega.{arith}
+use Rattle.canon.specs.Layout.{countIn}
+use Rattle.maker.proofs.Beside as laws
+
+append-requires : tie.Need-append-requires
+unfolding countIn
+append-requires c κs = (omega arith, search needs, search needs)
+
+returns : tie.Need-returns
+returns c = search laws.add-here
+
+append-requires-2 : tie.Need-append-requires-2
+unfolding countIn
+append-requires-2 c κs = (omega arith, search needs, search needs)
+
+returns-2 : tie.Need-returns-2
+returns-2 c = search laws.add-there
+
+pub add-spec : {M : Type 1} → statement M
+add-spec =
+    tie.close
+    (tie.spec
+    (λ c. search needs)
+    (λ c. search needs)
+    (λ c. search needs)
+    (λ c. search needs)
+    (λ c. search needs)
+    (λ c. search needs)
+    (λ c κs. search needs)
+    append-requires
+    (λ c. search needs)
+    returns
+    (λ c κs. search needs)
+    append-requires-2
+    (λ c. search needs)
+    returns-2)

@@ -1,0 +1,45 @@
+use Rattle.maker.proofs.over.find.Statement.{statement}
+use Rattle.maker.proofs.over.find.Tie as tie
+use Rattle.maker.proofs.over.find.Reads as reads
+use Rattle.maker.proofs.over.find.Lts as lts
+use Rattle.canon.proofs.bytes.same.Reads as same-reads
+use borrow.Author.Needs.{needs}
+use Prim.Native.Nat.{_≤_, _-_}
+use Rattle.maker.specs.Adding.{Missed}
+use Rattle.maker.proofs.Beside as laws
+
+abbrev Inv-loop : tie.InvT-loop
+Inv-loop work b t top k₀ k = (k ≤ t) × Missed work b top k
+
+abbrev μ-loop : tie.MeasureT-loop
+μ-loop work b t top k₀ k = t - k
+
+loop-holds : tie.Need-loop-holds Inv-loop μ-loop
+loop-holds c = (search needs, laws.missed-none _ _ _)
+
+returns : tie.Need-returns Inv-loop μ-loop
+returns c = search laws.find-hit
+
+loop-again : tie.Need-loop-again Inv-loop μ-loop
+loop-again c = (search needs, search laws.missed-more)
+
+returns-2 : tie.Need-returns-2 Inv-loop μ-loop
+returns-2 c = search laws.find-miss
+
+pub find-spec : {M : Type 1} → statement M
+find-spec =
+    tie.close
+    (tie.spec
+    Inv-loop
+    μ-loop
+    loop-holds
+    (λ c. search needs)
+    (λ c. search needs)
+    (λ c. search needs)
+    (λ c. search needs)
+    (λ c κs. search needs)
+    returns
+    (λ c. search needs)
+    (λ c. search needs)
+    loop-again
+    returns-2)

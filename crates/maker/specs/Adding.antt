@@ -1,0 +1,72 @@
+-- A new object beside the objects of the block where its parts lie, or alone in a block.
+use Prim.Native.Nat.{ℕ, _+_, _*_, _≤_, _<_}
+use mathlib.Core.Path.{_≡_}
+use mathlib.Core.Bool.{Bool, true, false, not}
+use mathlib.Core.List.{List, map}
+use lib.Dec.{eqb}
+use lib.ListN.{getD}
+use Rattle.cofj.specs.Values.{Ref, node, Graph}
+use Rattle.canon.specs.Layout.{nodeIn, Packed, countIn, levelIn, Outside}
+use Rattle.values.specs.declared.ValueRef.{ValueRef}
+use Rattle.values.specs.declared.ValueRef.the-variants.{Object, Mark, Undetermined}
+use Rattle.values.specs.Tests.{any}
+use Rattle.maker.specs.declared.Slot.{Slot}
+
+abbrev pub roots : List Graph → List Ref
+roots gs = map (λ g. g .root) gs
+
+-- the new object, its fields the roots of its parts
+pub record RootObject (c : ℕ) (gs : List Graph) (T : List ℕ) : Type 0 where
+  pub is : nodeIn T 0 ≡ node c (roots gs)
+  pub packed : Packed T 0
+
+-- none of the first k objects of block b is the object in T
+pub record Missed (W : List ℕ) (b : ℕ) (T : List ℕ) (k : ℕ) : Type 0 where
+  pub none : (j : ℕ) → j < k → nodeIn W (240 * b + 6 * j) ≡ nodeIn T 0 → ⊥
+
+-- the place of the object in T among t of block b, or t
+pub record Found (W : List ℕ) (b t : ℕ) (T : List ℕ) (k : ℕ) : Type 0 where
+  pub hit : k < t → nodeIn W (240 * b + 6 * k) ≡ nodeIn T 0
+  pub miss : t ≤ k → Missed W b T t
+
+-- the object in T after t objects of block dst, with the level l; the bytes of those, and those outside, are W's
+pub record Appended (W : List ℕ) (dst t : ℕ) (T : List ℕ) (l : ℕ) (D : List ℕ) : Type 0 where
+  pub count : countIn D dst ≡ t + 1
+  pub level : levelIn D dst ≡ l
+  pub old : (q : ℕ) → q < 6 * t → getD D (240 * dst + q) 0 ≡ getD W (240 * dst + q) 0
+  pub top : (k : ℕ) → k < 6 → getD D (240 * dst + 6 * t + k) 0 ≡ getD T k 0
+  pub outside : Outside dst W D
+
+-- t objects of block b and then the one in T, in block dst
+pub record Added (W : List ℕ) (b t : ℕ) (T : List ℕ) (dst : ℕ) (D : List ℕ) : Type 0 where
+  pub count : countIn D dst ≡ t + 1
+  pub old : (q : ℕ) → q < 6 * t → getD D (240 * dst + q) 0 ≡ getD W (240 * b + q) 0
+  pub top : (k : ℕ) → k < 6 → getD D (240 * dst + 6 * t + k) 0 ≡ getD T k 0
+  pub level : (q : ℕ) → q < 6 * (t + 1) → getD D (240 * dst + q) 0 < 193 + levelIn D dst
+  pub outside : Outside dst W D
+
+abbrev pub isObject : ValueRef → Bool
+isObject (Object b i) = true
+isObject (Mark k) = false
+isObject Undetermined = false
+
+-- whether a value lies in block b, or is no object
+unfoldable pub standsIn : ℕ → ValueRef → Bool
+standsIn b (Object x i) = eqb x b
+standsIn b (Mark k) = true
+standsIn b Undetermined = true
+
+abbrev pub partOf : List Slot → ℕ → ValueRef
+partOf ps i = getD ps i (record { r = Object 0 0 }) .r
+
+-- whether each of the first n parts does
+unfoldable pub allStand : List Slot → ℕ → ℕ → Bool
+allStand ps n b = not (any (λ i. not (standsIn b (partOf ps i))) n)
+
+-- no part before f is an object
+pub record Leaves (ps : List Slot) (f : ℕ) : Type 0 where
+  pub leaf : (i : ℕ) → i < f → isObject (partOf ps i) ≡ false
+
+pub record First (ps : List Slot) (n f : ℕ) : Type 0 where
+  pub low : f ≤ n
+  pub before : Leaves ps f

@@ -1,0 +1,89 @@
+-- Values laid side by side below a new object.
+use Prim.Native.Nat.{ℕ, _+_, _*_, _≤_, _<_}
+use mathlib.Core.Path.{_≡_}
+use mathlib.Core.Bool.{cond}
+use mathlib.Core.List.{List, [], _∷_, map}
+use mathlib.Core.Option.{Option, none, some}
+use lib.Dec.{leb}
+use lib.ListN.{length, getD, take, drop}
+use Rattle.cofj.specs.Values.{undet, Node, node, Graph, rename, renameNode, lay}
+use Rattle.canon.specs.Layout.{refOf, nodesIn, Packed, Beneath}
+use Rattle.values.specs.declared.ValueRef.the-variants.{Object}
+use Rattle.values.specs.Refs.{refIn}
+use Rattle.values.specs.Layout.{valueOf, rawOf, Holds, Low}
+use Rattle.maker.specs.declared.Slot.{Slot}
+use Rattle.maker.specs.declared.Made.{Made}
+use Rattle.maker.specs.declared.Made.the-variants.{Value, TooLarge}
+
+-- the parts of a new object, from their numbers
+unfoldable pub partsOf : List ℕ → List Slot
+partsOf P = record { r = refIn (getD P 0 0) } ∷ record { r = refIn (getD P 1 0) } ∷ record { r = refIn (getD P 2 0) } ∷ record { r = refIn (getD P 3 0) } ∷ []
+
+-- the values of parts i to n
+unfoldable pub valuesFrom : List ℕ → List Slot → ℕ → ℕ → List Graph
+valuesFrom W ps i n = map (λ s. valueOf W (s .r)) (drop i (take n ps))
+
+-- the same before they are numbered from their roots
+unfoldable pub rawsFrom : List ℕ → List Slot → ℕ → ℕ → List Graph
+rawsFrom W ps i n = map (λ s. rawOf W (s .r)) (drop i (take n ps))
+
+-- each of the first n parts stands for a value
+pub record PartsHeld (W : List ℕ) (ps : List Slot) (n : ℕ) : Type 0 where
+  pub full : n ≤ length ps
+  pub part : (i : ℕ) → i < n → Holds W (getD ps i (record { r = Object 0 0 }) .r)
+
+-- the objects ns, moved to `at`; the bytes before are R₀'s
+pub record LaidNodes (ns : List Node) (at : ℕ) (R₀ R : List ℕ) (n : ℕ) : Type 0 where
+  pub same : length R ≡ length R₀
+  pub count : n ≡ length ns
+  pub few : n ≤ 32
+  pub nodes : nodesIn R (6 * at) (length ns) ≡ map (renameNode (λ k. at + k)) ns
+  pub packed : (j : ℕ) → j < length ns → Packed R (6 * at + 6 * j)
+  pub kept : (p : ℕ) → p < 6 * at → getD R p 0 ≡ getD R₀ p 0
+
+-- the objects of g, moved to `at`, and its root for field i of object 0
+pub record LaidOne (g : Graph) (at i : ℕ) (R₀ R : List ℕ) (t : ℕ) : Type 0 where
+  pub same : length R ≡ length R₀
+  pub next : t ≡ at + length (g .nodes)
+  pub few : length (g .nodes) ≤ 32
+  pub nodes : nodesIn R (6 * at) (length (g .nodes)) ≡ map (renameNode (λ k. at + k)) (g .nodes)
+  pub packed : (j : ℕ) → j < length (g .nodes) → Packed R (6 * at + 6 * j)
+  pub code : refOf (getD R (2 + i) 0) ≡ rename (λ k. at + k) (g .root)
+  pub kept : (p : ℕ) → p < 6 * at → ((p ≡ 2 + i) → ⊥) → getD R p 0 ≡ getD R₀ p 0
+
+-- the same for a list of values, for the fields from i on
+pub record LaidAll (gs : List Graph) (at i : ℕ) (R₀ R : List ℕ) (t : ℕ) : Type 0 where
+  pub same : length R ≡ length R₀
+  pub next : t ≡ at + length (lay at gs .all)
+  pub few : length (lay at gs .all) ≤ 32 * length gs
+  pub nodes : nodesIn R (6 * at) (length (lay at gs .all)) ≡ lay at gs .all
+  pub packed : (j : ℕ) → j < length (lay at gs .all) → Packed R (6 * at + 6 * j)
+  pub codes : (j : ℕ) → j < length gs → refOf (getD R (2 + i + j) 0) ≡ getD (lay at gs .roots) j undet
+  pub low : (p : ℕ) → p < 2 + i → p < 6 * at → getD R p 0 ≡ getD R₀ p 0
+  pub high : (p : ℕ) → 2 + i + length gs ≤ p → p < 6 * at → getD R p 0 ≡ getD R₀ p 0
+
+-- a new object and what is below it
+pub record Built (c : ℕ) (gs : List Graph) (R : List ℕ) (t : ℕ) : Type 0 where
+  pub nodes : nodesIn R 0 t ≡ node c (lay 1 gs .roots) ∷ lay 1 gs .all
+  pub few : t ≤ 129
+  pub packed : (j : ℕ) → j < t → Packed R (6 * j)
+
+-- what making answers, as a value
+abbrev pub madeIn : List ℕ → Made → Option Graph
+madeIn W (Value r) = some (valueOf W r)
+madeIn W TooLarge = none
+
+abbrev pub MadeHeld : List ℕ → Made → Type 0
+MadeHeld W (Value r) = Holds W r
+MadeHeld W TooLarge = Unit {0}
+
+abbrev pub MadePlace : ℕ → Made → Type 0
+MadePlace b (Value r) = Low (b + 1) r
+MadePlace b TooLarge = Unit {0}
+
+-- the value v, in block dst or below, unless it has more than 32 objects; what lies below block dst is as before
+pub record MadeIs (W : List ℕ) (v : Graph) (dst : ℕ) (W′ : List ℕ) (o : Made) : Type 0 where
+  pub held : MadeHeld W′ o
+  pub is : madeIn W′ o ≡ cond (leb (length (v .nodes)) 32) (some v) none
+  pub place : MadePlace dst o
+  pub beneath : Beneath dst W W′

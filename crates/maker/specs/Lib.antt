@@ -1,0 +1,3 @@
+pub mod Laying
+pub mod Adding
+pub mod Merging

@@ -1,0 +1,135 @@
+-- Objects brought into one block, the host: the codes of a value that lies in another block, and of the parts of a new object.
+-- Not here: the bytes of a block with one more object (Adding).
+use Prim.Native.Nat.{ℕ, zero, suc, _+_, _*_, _≤_, _<_}
+use mathlib.Core.Path.{_≡_}
+use mathlib.Core.Bool.{Bool, true, cond}
+use mathlib.Core.List.{List}
+use mathlib.Core.Option.{some}
+use lib.Dec.{ltb}
+use lib.ListN.{length, getD, getElem?}
+use Rattle.cofj.specs.Values.{Ref, nodeAt}
+use Rattle.cofj.specs.Unfolding.{Same, InRange}
+use Rattle.canon.specs.Layout.{refOf, nodeIn, Packed, countIn, objectsIn, Block, Inside, Outside}
+use Rattle.values.specs.declared.ValueRef.{ValueRef}
+use Rattle.values.specs.declared.ValueRef.the-variants.{Object, Mark, Undetermined}
+use Rattle.values.specs.Tests.{any}
+use Rattle.values.specs.Layout.{rawOf, liesIn}
+use Rattle.maker.specs.declared.Slot.{Slot}
+use Rattle.maker.specs.Adding.{partOf}
+
+-- block host has grown: what was in it unfolds as before, and the other blocks are as before
+pub record Grown (host : ℕ) (W W′ : List ℕ) : Type 0 where
+  pub outside : Outside host W W′
+  pub block : Block W′ host
+  pub most : countIn W host ≤ countIn W′ host
+  pub trees : (r : Ref) → InRange (countIn W host) r → Same (objectsIn W host) r (objectsIn W′ host) r
+
+-- the object in T can stand among the objects of block host
+pub record Fits (W : List ℕ) (host : ℕ) (T : List ℕ) : Type 0 where
+  pub long : 6 ≤ length T
+  pub packed : Packed T 0
+  pub low : (f : ℕ) (r : Ref) → getElem? (nodeIn T 0 .refs) f ≡ some r → InRange (countIn W host) r
+
+-- object r of block host is the one in T
+pub record Standing (W : List ℕ) (host : ℕ) (T : List ℕ) (r : ℕ) : Type 0 where
+  pub low : r < countIn W host
+  pub is : nodeAt (objectsIn W host) r ≡ nodeIn T 0
+
+pub record Entered (W : List ℕ) (host : ℕ) (T W′ : List ℕ) (r : ℕ) : Type 0 where
+  pub grown : Grown host W W′
+  pub few : r ≤ 32
+  pub standing : ((r ≡ 32) → ⊥) → Standing W′ host T r
+
+-- ---- a code of another block
+-- the code r of block host unfolds as the code c of block src
+pub record CodeAs (W : List ℕ) (src c host r : ℕ) : Type 0 where
+  pub low : InRange (countIn W host) (refOf r)
+  pub leaf : 192 ≤ c → r ≡ c
+  pub same : Same (objectsIn W src) (refOf c) (objectsIn W host) (refOf r)
+
+-- the table has k + 1 for an object that unfolds as object k of the host
+pub record Mapped (W : List ℕ) (src host : ℕ) (M : List ℕ) : Type 0 where
+  pub table : length M ≡ 32
+  pub each : (x y : ℕ) → getD M x 0 ≡ y + 1 → CodeAs W src x host y
+
+pub record Importing (W : List ℕ) (src c host : ℕ) (M : List ℕ) : Type 0 where
+  pub source : Block W src
+  pub low : c < 192 → c < countIn W src
+  pub target : Block W host
+  pub apart : (src ≡ host) → ⊥
+  pub mapped : Mapped W src host M
+
+pub record Imported (W : List ℕ) (src c host : ℕ) (W′ M′ : List ℕ) (r : ℕ) : Type 0 where
+  pub grown : Grown host W W′
+  pub mapped : Mapped W′ src host M′
+  pub like : ((r ≡ 32) → ⊥) → CodeAs W′ src c host r
+
+-- T has the bytes of object i of block src
+pub record ObjectBytes (W : List ℕ) (src i : ℕ) (T : List ℕ) : Type 0 where
+  pub long : length T ≡ 6
+  pub bytes : (j : ℕ) → j < 6 → getD T j 0 ≡ getD W (240 * src + 6 * i + j) 0
+
+-- T has object i of block src, its first k codes turned to codes of block host
+pub record Turned (W : List ℕ) (src i host : ℕ) (T : List ℕ) (k : ℕ) : Type 0 where
+  pub long : length T ≡ 6
+  pub cls : getD T 0 0 ≡ getD W (240 * src + 6 * i + 0) 0
+  pub count : getD T 1 0 ≡ getD W (240 * src + 6 * i + 1) 0
+  pub done : (j : ℕ) → j < k → j < 4 → CodeAs W src (getD W (240 * src + 6 * i + (2 + j)) 0) host (getD T (2 + j) 0)
+  pub left : (j : ℕ) → k ≤ j → j < 4 → getD T (2 + j) 0 ≡ getD W (240 * src + 6 * i + (2 + j)) 0
+
+pub record Turning (W : List ℕ) (src i host : ℕ) (M T : List ℕ) (k : ℕ) : Type 0 where
+  pub inside : Inside W src i
+  pub target : Block W host
+  pub apart : (src ≡ host) → ⊥
+  pub mapped : Mapped W src host M
+  pub turned : Turned W src i host T k
+
+pub record TurnedAll (W : List ℕ) (src i host : ℕ) (W′ M′ T′ : List ℕ) (r : Bool) : Type 0 where
+  pub grown : Grown host W W′
+  pub mapped : Mapped W′ src host M′
+  pub turned : r ≡ true → Turned W′ src i host T′ 4
+
+-- ---- the parts
+-- the code r of block host unfolds as the value of v in the bytes W
+pub record As (W : List ℕ) (v : ValueRef) (W′ : List ℕ) (host r : ℕ) : Type 0 where
+  pub low : InRange (countIn W′ host) (refOf r)
+  pub same : Same (rawOf W v .nodes) (rawOf W v .root) (objectsIn W′ host) (refOf r)
+
+pub record PartImported (W : List ℕ) (v : ValueRef) (host : ℕ) (W′ : List ℕ) (r : ℕ) : Type 0 where
+  pub grown : Grown host W W′
+  pub like : ((r ≡ 32) → ⊥) → As W v W′ host r
+
+-- the objects of block base are the first of block host, which may be base
+pub record Begun (W : List ℕ) (base host : ℕ) : Type 0 where
+  pub source : Block W base
+  pub target : Block W host
+  pub most : countIn W base ≤ countIn W host
+  pub trees : (r : Ref) → InRange (countIn W base) r → Same (objectsIn W base) r (objectsIn W host) r
+
+-- T has the new object with the codes of its first i parts
+pub record RootBrought (W : List ℕ) (c : ℕ) (ps : List Slot) (n i : ℕ) (W′ : List ℕ) (host : ℕ) (T : List ℕ) : Type 0 where
+  pub long : length T ≡ 6
+  pub cls : getD T 0 0 ≡ c
+  pub count : getD T 1 0 ≡ n
+  pub done : (j : ℕ) → j < i → As W (partOf ps j) W′ host (getD T (2 + j) 0)
+  pub spare : (k : ℕ) → 2 + i ≤ k → k < 6 → getD T k 0 ≡ 192
+
+pub record PartsBrought (W : List ℕ) (c : ℕ) (ps : List Slot) (n host : ℕ) (W′ T′ : List ℕ) (r : Bool) : Type 0 where
+  pub grown : Grown host W W′
+  pub done : r ≡ true → RootBrought W c ps n n W′ host T′
+
+-- ---- the host
+-- whether one of the first n parts is an object of block d
+unfoldable pub someIn : List Slot → ℕ → ℕ → Bool
+someIn ps n d = any (λ i. liesIn d (partOf ps i)) n
+
+-- the block of v, if v is an object and that block has more objects than block b; else b
+unfoldable pub largerOf : List ℕ → ValueRef → ℕ → ℕ
+largerOf W (Object x i) b = cond (ltb (countIn W b) (countIn W x)) x b
+largerOf W (Mark k) b = b
+largerOf W Undetermined b = b
+
+-- the block with the most objects, of block b and those of the first n parts
+unfoldable pub largestOf : List ℕ → List Slot → ℕ → ℕ → ℕ
+largestOf W ps zero b = b
+largestOf W ps (suc n) b = largerOf W (partOf ps n) (largestOf W ps n b)

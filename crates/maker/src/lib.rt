@@ -1,0 +1,17 @@
+// A new object over values, in a block of the work buffer.
+// Not here: what else is done with values (values), which objects are equal (canon), which blocks are free.
+pub mod lay; // values laid side by side below a new object
+pub mod over; // a new object beside the objects of one block
+pub mod merge; // a new object over the objects of several blocks
+pub mod make; // a new object
+
+// A part of a new object.
+pub struct Slot {
+    pub r: values::ValueRef,
+}
+
+// What making an object answers.
+pub enum Made {
+    Value(values::ValueRef),
+    TooLarge,
+}

@@ -1,0 +1,129 @@
+// A new object: how it is made, by what its parts are. Not here: each way.
+use crate::Made;
+use crate::lay::build;
+use crate::lay::part_at;
+use crate::merge::make_apart;
+use crate::over::add;
+use crate::over::find;
+use crate::over::make_alone;
+use crate::over::root_object;
+use canon::colours::colour;
+use canon::number::put;
+use values::ValueRef;
+use values::value::bring;
+ghost use mathlib.Core.Path.{_≡_};
+ghost use mathlib.Core.Bool.{true};
+ghost use Prim.Native.Nat.{ℕ, _+_, _*_, _<_, _≤_};
+ghost use lib.ListN.{length};
+ghost use Rattle.cofj.specs.Values.{make};
+ghost use Rattle.maker.specs.Laying.{partsOf, PartsHeld, valuesFrom, MadeIs};
+ghost use Rattle.canon.specs.Layout.{Block};
+ghost use Rattle.maker.specs.Adding.{isObject, standsIn, allStand, First};
+
+// The parts' objects laid side by side, and equal ones found.
+pub fn make_laid(work: &mut [u8], c: u8, parts: &[u32; 4], n: u8, dst: u16) -> Made
+    requires { ⌜ PartsHeld (now work) (partsOf (now parts)) n × (n ≤ 4) × (240 * dst + 240 ≤ length (now work)) ⌝ }
+    ensures { λ o. ⌜ MadeIs (now (work .entry)) (make c (valuesFrom (now (work .entry)) (partsOf (now (parts .entry))) 0 n)) dst (now (work .exit)) o ⌝ }
+{
+    let mut raw = [0u8; 1536];
+    let t = build(work, c, parts, n, &mut raw);
+    let mut cs = [0u8; 256];
+    colour(&raw, t, &mut cs);
+    let m = put(&raw, t, &cs, 0, work, dst);
+    if 32 < m {
+        return Made::TooLarge;
+    }
+    Made::Value(ValueRef::Object(dst, 0))
+}
+
+// Whether a part is an object.
+pub fn is_object(v: ValueRef) -> bool
+    ensures { λ r. ⌜ r ≡ isObject v ⌝ }
+{
+    match v {
+        ValueRef::Object(_, _) => true,
+        ValueRef::Mark(_) => false,
+        ValueRef::Undetermined => false,
+    }
+}
+
+// The first part that is an object; n if none is.
+pub fn first_object(parts: &[u32; 4], n: u8) -> u8
+    requires { ⌜ n ≤ 4 ⌝ }
+    ensures { λ f. ⌜ First (partsOf (now (parts .entry))) n f ⌝ }
+{
+    let mut i: u8 = 0;
+    while i < n {
+        let v = part_at(parts, i);
+        if is_object(v) {
+            return i;
+        }
+        i += 1;
+    }
+    n
+}
+
+// Whether a part lies in block b, or is no object.
+pub fn stands(v: ValueRef, b: u16) -> bool
+    ensures { λ r. ⌜ r ≡ standsIn b v ⌝ }
+{
+    match v {
+        ValueRef::Object(x, _) => x == b,
+        ValueRef::Mark(_) => true,
+        ValueRef::Undetermined => true,
+    }
+}
+
+// Whether each part lies in block b, or is no object.
+pub fn together(parts: &[u32; 4], n: u8, b: u16) -> bool
+    requires { ⌜ n ≤ 4 ⌝ }
+    ensures { λ r. ⌜ r ≡ allStand (partsOf (now (parts .entry))) n b ⌝ }
+{
+    let mut i: u8 = 0;
+    while i < n {
+        let v = part_at(parts, i);
+        if !stands(v, b) {
+            return false;
+        }
+        i += 1;
+    }
+    true
+}
+
+// A new object whose parts lie in block b, or are no objects.
+pub fn make_beside(work: &mut [u8], c: u8, parts: &[u32; 4], n: u8, b: u16, dst: u16) -> Made
+    requires { ⌜ PartsHeld (now work) (partsOf (now parts)) n × (n ≤ 4) × Block (now work) b × (allStand (partsOf (now parts)) n b ≡ true) × (240 * dst + 240 ≤ length (now work)) ⌝ }
+    ensures { λ o. ⌜ MadeIs (now (work .entry)) (make c (valuesFrom (now (work .entry)) (partsOf (now (parts .entry))) 0 n)) dst (now (work .exit)) o ⌝ }
+{
+    let mut top = [0u8; 6];
+    root_object(work, c, parts, n, &mut top);
+    let t = work[240 * (b as usize) + 192];
+    let k = find(work, b, t, &top);
+    if k < t {
+        return Made::Value(bring(work, ValueRef::Object(b, k), dst));
+    }
+    if 32 <= t {
+        return make_laid(work, c, parts, n, dst);
+    }
+    add(work, b, &top, dst);
+    Made::Value(ValueRef::Object(dst, t))
+}
+
+// A new object of class c with the n first parts, in block `dst` or below, unless it has more than 32 objects.
+pub fn make(work: &mut [u8], c: u8, parts: &[u32; 4], n: u8, dst: u16) -> Made
+    requires { ⌜ PartsHeld (now work) (partsOf (now parts)) n × (n ≤ 4) × (240 * dst + 240 ≤ length (now work)) ⌝ }
+    ensures { λ o. ⌜ MadeIs (now (work .entry)) (make c (valuesFrom (now (work .entry)) (partsOf (now (parts .entry))) 0 n)) dst (now (work .exit)) o ⌝ }
+{
+    let f = first_object(parts, n);
+    if n <= f {
+        return make_alone(work, c, parts, n, dst);
+    }
+    let v = part_at(parts, f);
+    let ValueRef::Object(b, _) = v else {
+        return make_laid(work, c, parts, n, dst);
+    };
+    if together(parts, n, b) {
+        return make_beside(work, c, parts, n, b, dst);
+    }
+    make_apart(work, c, parts, n, b, dst)
+}

@@ -1,0 +1,306 @@
+// Objects of several blocks brought into one, the host, and a new object over them there.
+// Not here: parts that lie in one block already (make), and objects that lead back to themselves, which are laid side by side (make).
+use crate::Made;
+use crate::lay::part_at;
+use crate::make::make_laid;
+use crate::over::append;
+use crate::over::find;
+use crate::over::level_with;
+use canon::bytes::copy;
+use values::ValueRef;
+use values::value::bring;
+use values::value::copy_block;
+ghost use mathlib.Core.Path.{_≡_};
+ghost use mathlib.Core.Bool.{false};
+ghost use Prim.Native.Nat.{ℕ, _+_, _*_, _<_, _≤_};
+ghost use lib.ListN.{length, getD};
+ghost use Rattle.cofj.specs.Values.{make};
+ghost use Rattle.maker.specs.Laying.{partsOf, PartsHeld, valuesFrom, MadeIs};
+ghost use Rattle.canon.specs.Layout.{Block, Inside};
+ghost use Rattle.values.specs.Layout.{Holds, liesIn};
+ghost use Rattle.values.specs.declared.ValueRef.the-variants.{Object};
+ghost use Rattle.maker.specs.Merging.{Fits, Entered, ObjectBytes, Importing, Imported, Turning, TurnedAll, Begun, PartImported, PartsBrought, someIn, largerOf, largestOf};
+
+// The object in `top`, among the objects of block host: its number there, or 32 if it is new and there is no room.
+pub fn enter(work: &mut [u8], host: u16, top: &[u8]) -> u8
+    requires { ⌜ Block (now work) host × Fits (now work) host (now top) ⌝ }
+    ensures { λ r. ⌜ Entered (now (work .entry)) host (now (top .entry)) (now (work .exit)) r ⌝ }
+{
+    let t = work[240 * (host as usize) + 192];
+    let k = find(work, host, t, top);
+    if k < t {
+        return k;
+    }
+    if 32 <= t {
+        return 32;
+    }
+    let l = level_with(top, work[240 * (host as usize) + 193]);
+    append(work, host, t, top, l);
+    t
+}
+
+// The six bytes of object i of block src, to the front of `top`.
+pub fn take_object(work: &[u8], src: u16, i: u8, top: &mut [u8])
+    requires { ⌜ Inside (now work) src i × (length (now top) ≡ 6) ⌝ }
+    ensures { λ _. ⌜ ObjectBytes (now (work .entry)) src i (now (top .exit)) ⌝ }
+{
+    copy(work, 240 * (src as usize) + 6 * (i as usize), top, 0, 6);
+}
+
+// A code of block src, with what it leads to, in block host: its code there, or 32 if there is no room or it leads back to itself.
+// `memo` has k + 1 for an object that is object k of the host, 0 for one not yet met.
+pub fn import(work: &mut [u8], src: u16, c: u8, host: u16, memo: &mut [u8], depth: u8) -> u8
+    requires { ⌜ Importing (now work) src c host (now memo) ⌝ }
+    ensures { λ r. ⌜ Imported (now (work .entry)) src c host (now (work .exit)) (now (memo .exit)) r ⌝ }
+{
+    if 192 <= c {
+        return c;
+    }
+    let m = memo[c as usize];
+    if m != 0 {
+        return m - 1;
+    }
+    if depth == 0 {
+        return 32;
+    }
+    let mut top = [0u8; 6];
+    take_object(work, src, c, &mut top);
+    if !import_codes(work, src, c, host, memo, depth - 1, &mut top, 0) {
+        return 32;
+    }
+    let r = enter(work, host, &top);
+    if r == 32 {
+        return 32;
+    }
+    memo[c as usize] = r + 1;
+    r
+}
+
+// The codes of object i of block src, from code k on, in block host; `top` has the object. Answers whether there was room.
+pub fn import_codes(
+    work: &mut [u8],
+    src: u16,
+    i: u8,
+    host: u16,
+    memo: &mut [u8],
+    depth: u8,
+    top: &mut [u8],
+    k: u8,
+) -> bool
+    requires { ⌜ Turning (now work) src i host (now memo) (now top) k ⌝ }
+    ensures { λ r. ⌜ TurnedAll (now (work .entry)) src i host (now (work .exit)) (now (memo .exit)) (now (top .exit)) r ⌝ }
+{
+    if top[1] <= k {
+        return true;
+    }
+    let c = top[2 + k as usize];
+    let r = import(work, src, c, host, memo, depth);
+    if r == 32 {
+        return false;
+    }
+    top[2 + k as usize] = r;
+    import_codes(work, src, i, host, memo, depth, top, k + 1)
+}
+
+// Object i of block b, which has no fields, in block host: its number there, or 32 if there is no room.
+pub fn import_bare(work: &mut [u8], b: u16, i: u8, host: u16) -> u8
+    requires { ⌜ Inside (now work) b i × Block (now work) host × ((b ≡ host) → ⊥) × (getD (now work) (240 * b + 6 * i + 1) 0 ≡ 0) ⌝ }
+    ensures { λ r. ⌜ PartImported (now (work .entry)) (Object b i) host (now (work .exit)) r ⌝ }
+{
+    let mut top = [0u8; 6];
+    take_object(work, b, i, &mut top);
+    enter(work, host, &top)
+}
+
+// Object i of block b, in block host, whose first objects are those of block base: its number there, or 32 as `import` answers it.
+pub fn import_object(work: &mut [u8], b: u16, i: u8, base: u16, host: u16) -> u8
+    requires { ⌜ Inside (now work) b i × Begun (now work) base host ⌝ }
+    ensures { λ r. ⌜ PartImported (now (work .entry)) (Object b i) host (now (work .exit)) r ⌝ }
+{
+    if b == base {
+        return i;
+    }
+    if b == host {
+        return i;
+    }
+    if work[240 * (b as usize) + 6 * (i as usize) + 1] == 0 {
+        return import_bare(work, b, i, host);
+    }
+    let t = work[240 * (b as usize) + 192];
+    let mut memo = [0u8; 32];
+    import(work, b, i, host, &mut memo, t)
+}
+
+// A value in block host: its code there, or 32.
+pub fn import_part(work: &mut [u8], v: ValueRef, base: u16, host: u16) -> u8
+    requires { ⌜ Holds (now work) v × Begun (now work) base host ⌝ }
+    ensures { λ r. ⌜ PartImported (now (work .entry)) v host (now (work .exit)) r ⌝ }
+{
+    match v {
+        ValueRef::Object(b, i) => import_object(work, b, i, base, host),
+        ValueRef::Mark(k) => 193 + k,
+        ValueRef::Undetermined => 192,
+    }
+}
+
+// The new object of class c with the codes of its n parts in block host, to `top`. Answers whether there was room for the parts.
+pub fn bring_parts(
+    work: &mut [u8],
+    c: u8,
+    parts: &[u32; 4],
+    n: u8,
+    base: u16,
+    host: u16,
+    top: &mut [u8],
+) -> bool
+    requires { ⌜ PartsHeld (now work) (partsOf (now parts)) n × (n ≤ 4) × Begun (now work) base host × (length (now top) ≡ 6) ⌝ }
+    ensures { λ r. ⌜ PartsBrought (now (work .entry)) c (partsOf (now (parts .entry))) n host (now (work .exit)) (now (top .exit)) r ⌝ }
+{
+    top[0] = c;
+    top[1] = n;
+    top[2] = 192;
+    top[3] = 192;
+    top[4] = 192;
+    top[5] = 192;
+    let mut i: u8 = 0;
+    while i < n {
+        let v = part_at(parts, i);
+        let r = import_part(work, v, base, host);
+        if r == 32 {
+            return false;
+        }
+        top[2 + i as usize] = r;
+        i += 1;
+    }
+    true
+}
+
+// A new object whose parts are brought into block host, which lies at dst or above and begins with the objects of block base.
+pub fn make_in(
+    work: &mut [u8],
+    c: u8,
+    parts: &[u32; 4],
+    n: u8,
+    base: u16,
+    host: u16,
+    dst: u16,
+) -> Made
+    requires { ⌜ PartsHeld (now work) (partsOf (now parts)) n × (n ≤ 4) × Begun (now work) base host × (dst ≤ host) × (240 * dst + 240 ≤ length (now work)) ⌝ }
+    ensures { λ o. ⌜ MadeIs (now (work .entry)) (make c (valuesFrom (now (work .entry)) (partsOf (now (parts .entry))) 0 n)) dst (now (work .exit)) o ⌝ }
+{
+    let mut top = [0u8; 6];
+    if !bring_parts(work, c, parts, n, base, host, &mut top) {
+        return make_laid(work, c, parts, n, dst);
+    }
+    let r = enter(work, host, &top);
+    if r == 32 {
+        return make_laid(work, c, parts, n, dst);
+    }
+    Made::Value(bring(work, ValueRef::Object(host, r), dst))
+}
+
+// The block of v, if v is an object and that block has more objects than block b; else b.
+pub fn larger(work: &[u8], v: ValueRef, b: u16) -> u16
+    requires { ⌜ Holds (now work) v × Block (now work) b ⌝ }
+    ensures { λ r. ⌜ r ≡ largerOf (now (work .entry)) v b ⌝ }
+{
+    let ValueRef::Object(x, _) = v else {
+        return b;
+    };
+    if work[240 * (b as usize) + 192] < work[240 * (x as usize) + 192] {
+        return x;
+    }
+    b
+}
+
+// The block with the most objects, of block b and those of the parts.
+pub fn largest(work: &[u8], parts: &[u32; 4], n: u8, b: u16) -> u16
+    requires { ⌜ PartsHeld (now work) (partsOf (now parts)) n × (n ≤ 4) × Block (now work) b ⌝ }
+    ensures { λ r. ⌜ r ≡ largestOf (now (work .entry)) (partsOf (now (parts .entry))) n b ⌝ }
+{
+    let mut d = b;
+    let mut i: u8 = 0;
+    while i < n {
+        let v = part_at(parts, i);
+        d = larger(work, v, d);
+        i += 1;
+    }
+    d
+}
+
+// Whether v is an object of block d.
+pub fn lies_in(v: ValueRef, d: u16) -> bool
+    ensures { λ r. ⌜ r ≡ liesIn d v ⌝ }
+{
+    match v {
+        ValueRef::Object(x, _) => x == d,
+        ValueRef::Mark(_) => false,
+        ValueRef::Undetermined => false,
+    }
+}
+
+// Whether one of the parts is an object of block d.
+pub fn some_in(parts: &[u32; 4], n: u8, d: u16) -> bool
+    requires { ⌜ n ≤ 4 ⌝ }
+    ensures { λ r. ⌜ r ≡ someIn (partsOf (now (parts .entry))) n d ⌝ }
+{
+    let mut i: u8 = 0;
+    while i < n {
+        let v = part_at(parts, i);
+        if lies_in(v, d) {
+            return true;
+        }
+        i += 1;
+    }
+    false
+}
+
+// A new object whose parts are brought into a copy of block b, in block host, where no part lies.
+pub fn make_copied(
+    work: &mut [u8],
+    c: u8,
+    parts: &[u32; 4],
+    n: u8,
+    b: u16,
+    host: u16,
+    dst: u16,
+) -> Made
+    requires { ⌜ PartsHeld (now work) (partsOf (now parts)) n × (n ≤ 4) × Block (now work) b × (b < dst) × (dst ≤ host) × (someIn (partsOf (now parts)) n host ≡ false) × (240 * host + 240 ≤ length (now work)) ⌝ }
+    ensures { λ o. ⌜ MadeIs (now (work .entry)) (make c (valuesFrom (now (work .entry)) (partsOf (now (parts .entry))) 0 n)) dst (now (work .exit)) o ⌝ }
+{
+    copy_block(work, b, host);
+    make_in(work, c, parts, n, b, host, dst)
+}
+
+// The same with the block after dst for host, if it is there and no part lies in it.
+pub fn make_above(work: &mut [u8], c: u8, parts: &[u32; 4], n: u8, b: u16, dst: u16) -> Made
+    requires { ⌜ PartsHeld (now work) (partsOf (now parts)) n × (n ≤ 4) × Block (now work) b × (b < dst) × (240 * dst + 240 ≤ length (now work)) ⌝ }
+    ensures { λ o. ⌜ MadeIs (now (work .entry)) (make c (valuesFrom (now (work .entry)) (partsOf (now (parts .entry))) 0 n)) dst (now (work .exit)) o ⌝ }
+{
+    if 65535 <= dst {
+        return make_laid(work, c, parts, n, dst);
+    }
+    let host = dst + 1;
+    if work.len() < 240 * (host as usize) + 240 {
+        return make_laid(work, c, parts, n, dst);
+    }
+    if some_in(parts, n, host) {
+        return make_laid(work, c, parts, n, dst);
+    }
+    make_copied(work, c, parts, n, b, host, dst)
+}
+
+// A new object whose parts lie in several blocks, `first` one of them: over the block with the most objects, where it may be written, or over a copy.
+pub fn make_apart(work: &mut [u8], c: u8, parts: &[u32; 4], n: u8, first: u16, dst: u16) -> Made
+    requires { ⌜ PartsHeld (now work) (partsOf (now parts)) n × (n ≤ 4) × Block (now work) first × (240 * dst + 240 ≤ length (now work)) ⌝ }
+    ensures { λ o. ⌜ MadeIs (now (work .entry)) (make c (valuesFrom (now (work .entry)) (partsOf (now (parts .entry))) 0 n)) dst (now (work .exit)) o ⌝ }
+{
+    let b = largest(work, parts, n, first);
+    if dst <= b {
+        return make_in(work, c, parts, n, b, b, dst);
+    }
+    if some_in(parts, n, dst) {
+        return make_above(work, c, parts, n, b, dst);
+    }
+    make_copied(work, c, parts, n, b, dst, dst)
+}
