@@ -35,10 +35,6 @@ grows ns cs (suc k) (obj i) s =
     go true h = omega arith
     go false h = omega (arith, length-append s (colourOf cs i ∷ []))
 
-pub ref-grows : (N C : List ℕ) (k r : ℕ) (s : List ℕ) → length s ≤ length (walkRef N C k r s)
-unfolding walkRef
-ref-grows N C k r s = grows (nodesIn N 0 256) C k (refOf r) s
-
 pub fields-grow : (N C : List ℕ) (k c f : ℕ) (s : List ℕ) → length s ≤ length (walkFields N C k c f s)
 unfolding walkFields
 fields-grow N C k c f s = all-grows (λ r t. visit (nodesIn N 0 256) C k r t) (λ r t. grows (nodesIn N 0 256) C k r t) _ s

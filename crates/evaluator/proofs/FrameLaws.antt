@@ -95,15 +95,6 @@ module _ (S : List ℕ) (full : length S ≡ 336) (sp : ℕ) (room : sp < 274) (
         base-low (yes h) = h
         base-low (no h) = absurd (let e = fr .bare (omega (arith, h)) in omega arith)
 
-pub framed-base : (S : List ℕ) → Framed S → getD S 276 0 ≤ 274
-framed-base S f = f .low
-
-pub framed-few : (S : List ℕ) → Framed S → getD S 277 0 ≤ 3
-framed-few S f = f .few
-
-pub framed-mark : (S : List ℕ) → Framed S → getD S 278 0 < 64
-framed-mark S f = f .mark
-
 -- ---- the variable at a place: the shape there is s
 module _ (T S : List ℕ) (at sp : ℕ) (s : Shape) (es : s ≡ shapeAt T at) (S′ : List ℕ) (r : ℕ) where
   to-shape : (q : Shape) → s ≡ q → Answered S (heldOf q S) sp (nextOf q) S′ r → Answered S (heldOf (shapeAt T at) S) sp (nextOf (shapeAt T at)) S′ r

@@ -1,14 +1,11 @@
--- Numbers put on the stack: one law for each return of `this`, `result`, `parameter`, `set_frame` and `push`.
+-- Numbers put on the stack: one law for each return of `set_frame` and `push`.
 -- Not here: what the numbers stand for (RefLaws), what else a number put does to the stack (StackLaws).
 use Prim.Native.Nat.{ℕ, _+_, _-_, _*_, _≤_, _<_}
 use native.Mathlib.Omega.{arith}
-use mathlib.Core.Path.{_≡_, refl, sym, ap, _∙_}
-use mathlib.Core.Bool.{Bool, true, false}
+use mathlib.Core.Path.{_≡_, ap, _∙_}
 use mathlib.Core.List.{List}
-use lib.Dec.{ltb}
 use lib.ListN.{length, getD, set, length-set}
 use lib.Seq.{getD-set-same, getD-set-other}
-use borrow.Author.Tests.{ltb-true, ltb-false}
 use Rattle.evaluator.specs.Stack.{FrameSet, CallSet}
 
 -- ---- a frame put

@@ -21,7 +21,6 @@ use Rattle.values.specs.Refs.{refIn}
 use Rattle.evaluator.specs.Refs.{answerOf, ChosenIn}
 use Rattle.evaluator.specs.declared.stack.Went.{Went}
 use Rattle.evaluator.specs.declared.stack.Went.the-variants as went
-use Rattle.evaluator.specs.declared.frame.Held.{Held}
 use Rattle.evaluator.specs.declared.frame.Frame.{Frame}
 use Rattle.evaluator.specs.State.{refAt, argsAt, FrameHolds, CallOlder, TraceHolds, frameIn, traceIn}
 use Rattle.evaluator.specs.Answers.{Listed, Values, frontOf}
