@@ -42,11 +42,11 @@ pub record Copied (W : List ℕ) (b dst : ℕ) (W′ : List ℕ) : Type 0 where
   pub outside : Outside dst W W′
 
 -- a code that is no object's
-abbrev pub refIn : ℕ → ValueRef
-refIn c = cond (eqb c 192) Undetermined (Mark (c - 193))
+abbrev pub leafOf : ℕ → ValueRef
+leafOf c = cond (eqb c 192) Undetermined (Mark (c - 193))
 
 pub record Leaf (c : ℕ) (r : ValueRef) : Type 0 where
-  pub is : r ≡ refIn c
+  pub is : r ≡ leafOf c
   pub small : c < 256
 
 -- what a selection answers, as a value
