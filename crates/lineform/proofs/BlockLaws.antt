@@ -39,11 +39,10 @@ module _ (c : ℕ) (d : isDigit c ≡ true) where
   pub digit-top : c ≤ 70
   digit-top = both-kinds (λ (o : Option ℕ). c ≤ 70) (λ a b. omega arith) (λ a b. omega arith)
 
-  pub value-first : c < 65 → c - 48 ≡ valueOf (digit c)
-  value-first l = both-kinds (λ (o : Option ℕ). c - 48 ≡ valueOf o) (λ a b. refl) (λ a b. absurd (omega arith))
-
-  pub value-second : 65 ≤ c → c - 55 ≡ valueOf (digit c)
-  value-second l = both-kinds (λ (o : Option ℕ). c - 55 ≡ valueOf o) (λ a b. absurd (omega arith)) (λ a b. refl)
+  value-is : c ≡ valueOf (digit c) + 48 + 7 * (c / 64)
+  value-is =
+      both-kinds (λ (o : Option ℕ). c ≡ valueOf o + 48 + 7 * (c / 64)) (λ a b. let e : c ≡ c - 48 + 48 + 7 * (c / 64) = omega arith in e)
+      (λ a b. let e : c ≡ c - 55 + 48 + 7 * (c / 64) = omega arith in e)
 
   value-top : valueOf (digit c) ≤ 15
   value-top = both-kinds (λ (o : Option ℕ). valueOf o ≤ 15) (λ a b. let e : c - 48 ≤ 15 = omega arith in e) (λ a b. let e : c - 55 ≤ 15 = omega arith in e)
@@ -55,11 +54,28 @@ module _ (a b : ℕ) (da : isDigit a ≡ true) (db : isDigit b ≡ true) where
       let t = value-top b db in
       omega arith
 
-  pub byte-fits : (v w : ℕ) → v ≡ valueOf (digit a) → w ≡ valueOf (digit b) → Fits w8 (16 * v + w)
-  byte-fits v w ev ew =
-      let s = value-top a da in
-      let t = value-top b db in
+-- a word's byte, and that no step on the way to it is too large or below zero
+module _ (w : ℕ) (da : isDigit (w % 256) ≡ true) (db : isDigit (w / 256) ≡ true) where
+  word-is : 16 * (w % 256) + w / 256 ≡ pairValue (w % 256) (w / 256) + 816 + 7 * (16 * (w % 256 / 64) + w / 16384)
+  word-is =
+      let a = value-is (w % 256) da in
+      let b = value-is (w / 256) db in
       omega arith
+
+  pub letters-below : 7 * (16 * (w % 256 / 64) + w / 16384) ≤ 16 * (w % 256) + w / 256 - 816
+  letters-below = let e = word-is in omega arith
+
+  pub digits-above : 816 ≤ 16 * (w % 256) + w / 256
+  digits-above = let e = word-is in omega arith
+
+  pub word-fits : Fits w8 (16 * (w % 256) + w / 256 - 816 - 7 * (16 * (w % 256 / 64) + w / 16384))
+  word-fits =
+      let e = word-is in
+      let l = pair-byte (w % 256) (w / 256) da db in
+      omega arith
+
+  pub word-byte : 16 * (w % 256) + w / 256 - 816 - 7 * (16 * (w % 256 / 64) + w / 16384) ≡ pairValue (w % 256) (w / 256)
+  word-byte = let e = word-is in omega arith
 
 -- ---- a block's characters
 module _ (text : List ℕ) (at : ℕ) where

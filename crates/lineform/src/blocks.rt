@@ -4,8 +4,7 @@ ghost use mathlib.Core.Path.{_≡_};
 ghost use mathlib.Core.Bool.{true};
 ghost use Prim.Native.Nat.{_≤_, _<_, _+_, _*_, _-_, _/_, _%_};
 ghost use lib.ListN.{length};
-ghost use Rattle.cofj.specs.Text.{digit};
-ghost use Rattle.lineform.specs.Answers.{Ahead, Puts, valueOf, pairValue};
+ghost use Rattle.lineform.specs.Answers.{Ahead, Puts, pairValue};
 ghost use Rattle.lineform.specs.Blocks.{isDigit, allDigits, Blocks, wordOf, wordsPut, DigitWords, bytesPut};
 
 // The characters in a block, and the blocks that a line may have.
@@ -73,23 +72,13 @@ fn put_words(text: &[u8], from: usize, w: &mut [u16; 256], m: usize)
     }
 }
 
-// The value of a digit's character.
-fn value_of(c: u16) -> u16
-    requires { ⌜ isDigit c ≡ true ⌝ }
-    ensures { λ r. ⌜ r ≡ valueOf (digit c) ⌝ }
-{
-    if c < 65 {
-        return c - 48;
-    }
-    c - 55
-}
-
-// The byte of two digits.
+// The byte of two digits. A letter is 7 more than its value and 48, and from 64 on.
 fn word_byte(w: u16) -> u8
     requires { ⌜ (isDigit (w % 256) ≡ true) × (isDigit (w / 256) ≡ true) ⌝ }
     ensures { λ r. ⌜ r ≡ pairValue (w % 256) (w / 256) ⌝ }
 {
-    (16 * value_of(w % 256) + value_of(w / 256)) as u8
+    let letters = 16 * (w % 256 / 64) + w / 16384;
+    (16 * (w % 256) + w / 256 - 816 - 7 * letters) as u8
 }
 
 // Writes the bytes of m pairs of digits to `to` and further.

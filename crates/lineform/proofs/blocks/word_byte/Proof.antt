@@ -1,29 +1,33 @@
--- `blocks::word_byte` meets its contract: laws of HexLaws and BlockLaws.
+-- `blocks::word_byte` meets its contract: a law of BlockLaws for each step that may be too large or below zero, and for the return.
 use borrow.Author.Needs.{needs}
 use Rattle.lineform.proofs.blocks.word_byte.Statement.{statement}
 use Rattle.lineform.proofs.blocks.word_byte.Tie as tie
 use Rattle.lineform.proofs.blocks.word_byte.Reads as reads
 use Rattle.lineform.proofs.blocks.word_byte.Lts as lts
-use Rattle.lineform.proofs.blocks.value_of.Reads as value-of-reads
-use Rattle.lineform.proofs.HexLaws as hex
 use Rattle.lineform.proofs.BlockLaws as laws
 
-mul-result : tie.Need-mul-result
-mul-result c = search hex.first-fits
+sub-result : tie.Need-sub-result
+sub-result c = search laws.digits-above
 
-add-result : tie.Need-add-result
-add-result c = search hex.both-fit
+sub-result-2 : tie.Need-sub-result-2
+sub-result-2 c = search laws.letters-below
 
 cast-result : tie.Need-cast-result
-cast-result c = search laws.byte-fits
+cast-result c = search laws.word-fits
+
+returns : tie.Need-returns
+returns c = search laws.word-byte
 
 pub word-byte-spec : {M : Type 1} → statement M
 word-byte-spec =
     tie.close
     (tie.spec
-    (λ c κs. search needs)
-    mul-result
-    (λ c κs. search needs)
-    add-result
+    (λ c. search needs)
+    (λ c. search needs)
+    (λ c. search needs)
+    (λ c. search needs)
+    sub-result
+    (λ c. search needs)
+    sub-result-2
     cast-result
-    (λ c. search needs))
+    returns)
