@@ -214,26 +214,7 @@ module _ (s : List ℕ) (at m X : ℕ) (e : X ≡ at + past m 0 (drop at s)) whe
               (λ n q. let w : n + getD s (at + 2) 0 ≡ m - 1 + v = omega (arith, ev .same) in many n ∙ rw (second, ne-eqb (getD s at 0) 0x44 b, w)) (omega arith)
 
 -- ---- a quick test of all bytes
-above-next : (n : ℕ) (s : List ℕ) (at p k : ℕ) → at + 1 + k ≡ p → (g x : Bool) → g ≡ noneAbove n s at k → x ≡ namesAbove n (getD s (p - 1) 0) (getD s p 0) → g && not x ≡ noneAbove n s at (suc k)
-unfolding noneAbove
-above-next n s at p k e g x eg ex =
-    let a : p - 1 ≡ at + k = omega arith in
-    let b : p ≡ at + k + 1 = omega arith in
-    rw (eg, ex, a, b)
-
 module _ (n : ℕ) (s : List ℕ) (at : ℕ) where
-  pub above-start : true ≡ noneAbove n s at (at + 1 - (at + 1))
-  unfolding noneAbove
-  above-start = let e : at + 1 - (at + 1) ≡ 0 = omega arith in rw e
-
-  pub above-more : (p : ℕ) (g x : Bool) → at + 1 ≤ p → g ≡ noneAbove n s at (p - (at + 1)) → x ≡ namesAbove n (getD s (p - 1) 0) (getD s p 0) → g && not x ≡ noneAbove n s at (p + 1 - (at + 1))
-  above-more p g x h eg ex =
-      let e : p + 1 - (at + 1) ≡ suc (p - (at + 1)) = omega arith in
-      rw e (above-next n s at p (p - (at + 1)) (omega arith) g x eg ex)
-
-  pub above-end : (p : ℕ) (g : Bool) → g ≡ noneAbove n s at (p - (at + 1)) → p ≤ length s → length s ≤ p → g ≡ noneAbove n s at (length s - (at + 1))
-  above-end p g e h l = let q : p ≡ length s = omega arith in rw q at e
-
   both : (a b : Bool) → a && b ≡ true → (a ≡ true) × (b ≡ true)
   both true b e = (refl, e)
   both false b e = absurd (false≢true e)
@@ -249,6 +230,69 @@ module _ (n : ℕ) (s : List ℕ) (at : ℕ) where
       go : (j < k → namesAbove n (getD s (at + j) 0) (getD s (at + j + 1) 0) ≡ false) → (x : Bool) → eqb j k ≡ x → namesAbove n (getD s (at + j) 0) (getD s (at + j + 1) 0) ≡ false
       go f true q = rw (eqb-true j k q) (not-true (namesAbove n (getD s (at + k) 0) (getD s (at + k + 1) 0)) (b .1))
       go f false q = let m = eqb-false j k q in f (omega arith)
+
+-- one block
+module _ (n : ℕ) (s : List ℕ) (at : ℕ) where
+  pub block-start : true ≡ noneAbove n s at 0
+  unfolding noneAbove
+  block-start = refl
+
+  pub block-more : (k : ℕ) (g x : Bool) → g ≡ noneAbove n s at k → x ≡ namesAbove n (getD s (at + k) 0) (getD s (at + k + 1) 0) → g && not x ≡ noneAbove n s at (k + 1)
+  unfolding noneAbove
+  block-more k g x eg ex = let q : k + 1 ≡ suc k = omega arith in rw (q, eg, ex)
+
+  pub block-end : (k : ℕ) (g : Bool) → g ≡ noneAbove n s at k → k ≤ 16 → 16 ≤ k → g ≡ noneAbove n s at 16
+  block-end k g e h l = let q : k ≡ 16 = omega arith in rw q at e
+
+-- and one after another
+above-split : (n : ℕ) (s : List ℕ) (at a b : ℕ) → noneAbove n s at a ≡ true → noneAbove n s at (a + b) ≡ noneAbove n s (at + a) b
+unfolding noneAbove
+above-split n s at a zero t = let q : a + 0 ≡ a = omega arith in rw (q, t)
+above-split n s at a (suc b) t =
+    let q : a + suc b ≡ suc (a + b) = omega arith in
+    let r : at + (a + b) ≡ at + a + b = omega arith in
+    rw (q, above-split n s at a b t, r)
+
+above-not : (n : ℕ) (s : List ℕ) (at a b : ℕ) → noneAbove n s at a ≡ false → noneAbove n s at (a + b) ≡ false
+unfolding noneAbove
+above-not n s at a zero t = let q : a + 0 ≡ a = omega arith in rw (q, t)
+above-not n s at a (suc b) t = let q : a + suc b ≡ suc (a + b) = omega arith in rw (q, above-not n s at a b t)
+
+module _ (n : ℕ) (s : List ℕ) (at : ℕ) where
+  pub blocks-start : noneAbove n s at (at - at) ≡ true
+  unfolding noneAbove
+  blocks-start = let q : at - at ≡ 0 = omega arith in rw q
+
+  module _ (p : ℕ) (h : at ≤ p) (t : noneAbove n s at (p - at) ≡ true) where
+    on : (b : ℕ) → noneAbove n s at (p - at + b) ≡ noneAbove n s p b
+    on b = let q : at + (p - at) ≡ p = omega arith in rw q at (above-split n s at (p - at) b t)
+
+    pub blocks-more : (g : Bool) → g ≡ noneAbove n s p 16 → not g ≡ false → noneAbove n s at (p + 16 - at) ≡ true
+    blocks-more g e c = let q : p + 16 - at ≡ p - at + 16 = omega arith in rw q (on 16 ∙ sym e ∙ not-false g c)
+
+    pub blocks-not : (g : Bool) → g ≡ noneAbove n s p 16 → not g ≡ true → p + 16 < length s → false ≡ noneAbove n s at (length s - (at + 1))
+    blocks-not g e c l =
+        let q : length s - (at + 1) ≡ p - at + 16 + (length s - (p + 17)) = omega arith in
+        rw q (sym (above-not n s at (p - at + 16) (length s - (p + 17)) (on 16 ∙ sym e ∙ not-true g c)))
+
+    one-more : noneAbove n s p 1 ≡ not (namesAbove n (getD s p 0) (getD s (p + 1) 0))
+    unfolding noneAbove
+    one-more = let q : p + 0 ≡ p = omega arith in rw q
+
+    module _ (x : Bool) (ex : x ≡ namesAbove n (getD s p 0) (getD s (p + 1) 0)) where
+      pub rest-more : x ≡ false → noneAbove n s at (p + 1 - at) ≡ true
+      rest-more f = let q : p + 1 - at ≡ p - at + 1 = omega arith in rw q (on 1 ∙ one-more ∙ rw (← ex, f))
+
+      pub rest-not : x ≡ true → p + 1 < length s → false ≡ noneAbove n s at (length s - (at + 1))
+      rest-not f l =
+          let q : length s - (at + 1) ≡ p - at + 1 + (length s - (p + 2)) = omega arith in
+          rw q (sym (above-not n s at (p - at + 1) (length s - (p + 2)) (on 1 ∙ one-more ∙ rw (← ex, f))))
+
+    pub rest-end : p < length s → length s ≤ p + 1 → true ≡ noneAbove n s at (length s - (at + 1))
+    rest-end l m = let q : length s - (at + 1) ≡ p - at = omega arith in rw q (sym t)
+
+    pub blocks-rest : (g : Bool) → p < length s → g ≡ noneAbove n s p (length s - (p + 1)) → g ≡ noneAbove n s at (length s - (at + 1))
+    blocks-rest g l e = let q : length s - (at + 1) ≡ p - at + (length s - (p + 1)) = omega arith in rw q (e ∙ sym (on (length s - (p + 1))))
 
 -- bytes of which none names a class above n pass the scan, wherever its signs are
 quiet-scan : (n k : ℕ) (bs : List ℕ) → ((j : ℕ) → suc j < length bs → namesAbove n (getD bs j 0) (getD bs (suc j) 0) ≡ false) → scan n k bs ≡ true

@@ -9,6 +9,9 @@ ghost use Rattle.cofj.specs.Limits.{lineSize};
 ghost use Rattle.cofj.specs.Typing.{closedTag};
 ghost use Rattle.classes.specs.Placing.{goodTypes, scan, namesAbove, noneAbove, past, headGood};
 
+// How many bytes are tested at once.
+const BLOCK: usize = 16;
+
 // Tags 0 and 3 are closed.
 pub fn closed(g: u8) -> bool
     ensures { λ r. ⌜ r ≡ closedTag g ⌝ }
@@ -49,18 +52,48 @@ fn names_above(a: u8, b: u8, n: u8) -> bool
     (0x45 <= a) & (n < b)
 }
 
-// Whether no byte from `at` on, sign or not, may name a class that is not known. The compiler takes many bytes at once.
+// Whether none of the bytes in a block from `at` on, signs or not, may name a class that is not known. The compiler takes them at once.
+fn block_clear(s: &[u8], at: usize, n: u8) -> bool
+    requires { ⌜ at + 16 < length (now s) ⌝ }
+    ensures { λ r. ⌜ r ≡ noneAbove n (now (s .entry)) at 16 ⌝ }
+{
+    let mut good = true;
+    let mut k: usize = 0;
+    while k < BLOCK {
+        good = good & !names_above(s[at + k], s[at + k + 1], n);
+        k += 1;
+    }
+    good
+}
+
+// The same of all bytes from `at` on, one by one.
+fn rest_clear(s: &[u8], at: usize, n: u8) -> bool
+    requires { ⌜ at < length (now s) ⌝ }
+    ensures { λ r. ⌜ r ≡ noneAbove n (now (s .entry)) at (length (now (s .entry)) - (at + 1)) ⌝ }
+{
+    let mut p: usize = at;
+    while p + 1 < s.len() {
+        if names_above(s[p], s[p + 1], n) {
+            return false;
+        }
+        p += 1;
+    }
+    true
+}
+
+// The same, by blocks first.
 fn none_above(s: &[u8], at: usize, n: u8) -> bool
     requires { ⌜ at < length (now s) ⌝ }
     ensures { λ r. ⌜ r ≡ noneAbove n (now (s .entry)) at (length (now (s .entry)) - (at + 1)) ⌝ }
 {
-    let mut good = true;
-    let mut p: usize = at + 1;
-    while p < s.len() {
-        good = good & !names_above(s[p - 1], s[p], n);
-        p += 1;
+    let mut p: usize = at;
+    while p + BLOCK < s.len() {
+        if !block_clear(s, p, n) {
+            return false;
+        }
+        p += BLOCK;
     }
-    good
+    rest_clear(s, p, n)
 }
 
 // Whether the expressions from `at` to the end name known classes only. Written one after another they are a row of signs: 40 and 41
