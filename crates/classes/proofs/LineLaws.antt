@@ -3,15 +3,15 @@ use Prim.Native.Nat.{ℕ, zero, suc, _+_, _-_, _<_, _≤_}
 use native.Mathlib.Omega.{arith}
 use native.Mathlib.Numerals.{sub-one, add-one}
 use mathlib.Core.Path.{_≡_, refl, sym, ap, _∙_}
-use mathlib.Core.Bool.{Bool, true, false, not, true≢false, false≢true}
+use mathlib.Core.Bool.{Bool, true, false, not, _&&_, true≢false, false≢true}
 use mathlib.Core.List.{List, [], _∷_}
 use lib.Dec.{eqb, leb, ltb}
-use lib.ListN.{length, getD, drop, drop-of-length-le}
+use lib.ListN.{length, getD, drop, length-drop, drop-of-length-le}
 use lib.Seq.{drop-cons, drop-drop, getD-drop}
-use borrow.Author.Tests.{eq-eqb, ne-eqb, lt-ltb, le-ltb, le-leb, lt-leb}
+use borrow.Author.Tests.{eq-eqb, ne-eqb, lt-ltb, le-ltb, le-leb, lt-leb, eqb-true, eqb-false, ltb-false}
 use Rattle.cofj.specs.Typing.{closedTag}
 use Rattle.classes.specs.Machine.{Wide, pick}
-use Rattle.classes.specs.Placing.{goodTypes, newKnown, scan, past, Skipped, unknown, known, headGood}
+use Rattle.classes.specs.Placing.{goodTypes, newKnown, scan, namesAbove, noneAbove, past, headGood}
 
 -- ---- a byte at a place
 pub more : (s : List ℕ) (at : ℕ) → at < length s → drop at s ≡ getD s at 0 ∷ drop (at + 1) s
@@ -169,11 +169,21 @@ module _ (s : List ℕ) (at m X : ℕ) (e : X ≡ at + past m 0 (drop at s)) whe
       unfolding past
       past-field b = sign m 1 (at + 2) (λ n q. rw (b, q)) (omega arith)
 
-      module _ (n2 : getD s at 0 ≡ 0x42 → ⊥) (n3 : getD s at 0 ≡ 0x43 → ⊥) where
+      pub past-small : (v : ℕ) → getD s at 0 < 0x44 → Wide (getD s at 0 - 0x42) v → X ≡ at + 2 + past (m - 1 + v) 0 (drop (at + 2) s)
+      past-small v b ev = go (eqb (getD s at 0) 0x42) refl
+        where
+          with-parts : (i : ℕ) → i ≡ m - 1 + v → X ≡ at + 2 + past i 0 (drop (at + 2) s) → X ≡ at + 2 + past (m - 1 + v) 0 (drop (at + 2) s)
+          with-parts i w x = rw w at x
+
+          go : (z : Bool) → eqb (getD s at 0) 0x42 ≡ z → X ≡ at + 2 + past (m - 1 + v) 0 (drop (at + 2) s)
+          go true q = let c = eqb-true (getD s at 0) 0x42 q in let d = ev .same in with-parts (m - 1) (omega arith) (past-param c)
+          go false q = let c = eqb-false (getD s at 0) 0x42 q in let d = ev .same in with-parts m (omega arith) (past-field (omega arith))
+
+      module _ (n2 : 0x44 ≤ getD s at 0) where
         many : (n : ℕ) → past (suc n) 0 (getD s at 0 ∷ drop (at + 1) s)
             ≡ suc (pick (eqb (getD s at 0) 0x44) (past (suc (n + getD (drop (at + 1) s) 1 0)) 2 (drop (at + 1) s)) (past (n + getD (drop (at + 1) s) 1 0) 2 (drop (at + 1) s)))
         unfolding past
-        many n = rw (le-ltb (getD s at 0) 0x42 l, ne-eqb (getD s at 0) 0x42 n2, ne-eqb (getD s at 0) 0x43 n3)
+        many n = rw (le-ltb (getD s at 0) 0x42 l, ne-eqb (getD s at 0) 0x42 (λ e. omega arith), ne-eqb (getD s at 0) 0x43 (λ e. omega arith))
 
         second : getD (drop (at + 1) s) 1 0 ≡ getD s (at + 2) 0
         second = getD-drop (at + 1) s 1 0 ∙ ap (λ (k : ℕ). getD s k 0) (let w : at + 1 + 1 ≡ at + 2 = omega arith in w)
@@ -203,45 +213,123 @@ module _ (s : List ℕ) (at m X : ℕ) (e : X ≡ at + past m 0 (drop at s)) whe
               sign (m - 1 + v) 2 (at + 3)
               (λ n q. let w : n + getD s (at + 2) 0 ≡ m - 1 + v = omega (arith, ev .same) in many n ∙ rw (second, ne-eqb (getD s at 0) 0x44 b, w)) (omega arith)
 
--- ---- an expression that is passed over, its classes tested
--- X is what the signs from `at` on still say
-module _ (s : List ℕ) (at n : ℕ) (X : Bool) (e : X ≡ scan n 0 (drop at s)) (h : at < length s) where
-  pub known-param : getD s at 0 ≡ 0x42 → X ≡ scan n 0 (drop (at + 2) s)
-  known-param b = scan-two s at n X e h (omega arith) (omega arith)
+-- ---- a quick test of all bytes
+module _ (n : ℕ) (s : List ℕ) (at : ℕ) where
+  both : (a b : Bool) → a && b ≡ true → (a ≡ true) × (b ≡ true)
+  both true b e = (refl, e)
+  both false b e = absurd (false≢true e)
 
-  pub known-field : getD s at 0 ≡ 0x43 → X ≡ scan n 0 (drop (at + 2) s)
-  known-field b = scan-two s at n X e h (omega arith) (omega arith)
+  above-each : (k j : ℕ) → noneAbove n s at k ≡ true → j < k → namesAbove n (getD s (at + j) 0) (getD s (at + j + 1) 0) ≡ false
+  unfolding noneAbove
+  above-each zero j e l = absurd (omega arith)
+  above-each (suc k) j e l = go (λ h. above-each k j (b .0) h) (eqb j k) refl
+    where
+      b : (noneAbove n s at k ≡ true) × (not (namesAbove n (getD s (at + k) 0) (getD s (at + k + 1) 0)) ≡ true)
+      b = both (noneAbove n s at k) (not (namesAbove n (getD s (at + k) 0) (getD s (at + k + 1) 0))) e
 
-  pub known-call : getD s at 0 ≡ 0x44 → X ≡ scan n 0 (drop (at + 3) s)
-  known-call b = scan-call s at n X e h (omega arith) (omega arith) b
+      go : (j < k → namesAbove n (getD s (at + j) 0) (getD s (at + j + 1) 0) ≡ false) → (x : Bool) → eqb j k ≡ x → namesAbove n (getD s (at + j) 0) (getD s (at + j + 1) 0) ≡ false
+      go f true q = rw (eqb-true j k q) (not-true (namesAbove n (getD s (at + k) 0) (getD s (at + k + 1) 0)) (b .1))
+      go f false q = let m = eqb-false j k q in f (omega arith)
 
-  module _ (l : 0x42 ≤ getD s at 0) (n2 : getD s at 0 ≡ 0x42 → ⊥) (n3 : getD s at 0 ≡ 0x43 → ⊥) (n4 : getD s at 0 ≡ 0x44 → ⊥) (k : at + 2 < length s) where
-    pub known-new : getD s (at + 1) 0 ≤ n → X ≡ scan n 0 (drop (at + 3) s)
-    known-new u = scan-new s at n X e h l (omega arith) n4 (omega arith) u
+-- one block
+module _ (n : ℕ) (s : List ℕ) (at : ℕ) where
+  pub block-start : true ≡ noneAbove n s at 0
+  unfolding noneAbove
+  block-start = refl
 
-    pub known-not : (r : ℕ) → n < getD s (at + 1) 0 → false ≡ X
-    known-not r u = scan-unknown s at n X e h l (omega arith) n4 (omega arith) u
+  pub block-more : (k : ℕ) (g x : Bool) → g ≡ noneAbove n s at k → x ≡ namesAbove n (getD s (at + k) 0) (getD s (at + k + 1) 0) → g && not x ≡ noneAbove n s at (k + 1)
+  unfolding noneAbove
+  block-more k g x eg ex = let q : k + 1 ≡ suc k = omega arith in rw (q, eg, ex)
 
-module _ (s : List ℕ) (at n a k : ℕ) (e : at + past 1 0 (drop at s) ≡ a + past k 0 (drop a s)) (x : scan n 0 (drop at s) ≡ scan n 0 (drop a s)) where
-  pub skip-end : length s ≤ a → Skipped s at n a
-  skip-end h = known (sym (past-end s a k (at + past 1 0 (drop at s)) e h)) x
+  pub block-end : (k : ℕ) (g : Bool) → g ≡ noneAbove n s at k → k ≤ 16 → 16 ≤ k → g ≡ noneAbove n s at 16
+  block-end k g e h l = let q : k ≡ 16 = omega arith in rw q at e
 
-  pub skip-done : k ≤ 0 → Skipped s at n a
-  skip-done z = known (sym (past-none s a k (at + past 1 0 (drop at s)) e z)) x
+-- and one after another
+above-split : (n : ℕ) (s : List ℕ) (at a b : ℕ) → noneAbove n s at a ≡ true → noneAbove n s at (a + b) ≡ noneAbove n s (at + a) b
+unfolding noneAbove
+above-split n s at a zero t = let q : a + 0 ≡ a = omega arith in rw (q, t)
+above-split n s at a (suc b) t =
+    let q : a + suc b ≡ suc (a + b) = omega arith in
+    let r : at + (a + b) ≡ at + a + b = omega arith in
+    rw (q, above-split n s at a b t, r)
 
-  module _ (p : 0 < k) (h : a < length s) (l : 0x42 ≤ getD s a 0) (n2 : getD s a 0 ≡ 0x42 → ⊥) (n3 : getD s a 0 ≡ 0x43 → ⊥) where
-    module _ (q : length s ≤ a + 2) (y : Bool) (ey : y ≡ scan n 0 (drop a s)) where
-      pub skip-short : y ≡ true → Skipped s at n (a + 3)
-      unfolding scan
-      skip-short t =
-          known (sym (past-short s a k (at + past 1 0 (drop at s)) e p h l n2 n3 q))
-          (x ∙ sym ey ∙ t ∙ (let z : true ≡ scan n 0 (drop (a + 3) s) = rw (no-more s (a + 3) (omega arith)) in z))
+above-not : (n : ℕ) (s : List ℕ) (at a b : ℕ) → noneAbove n s at a ≡ false → noneAbove n s at (a + b) ≡ false
+unfolding noneAbove
+above-not n s at a zero t = let q : a + 0 ≡ a = omega arith in rw (q, t)
+above-not n s at a (suc b) t = let q : a + suc b ≡ suc (a + b) = omega arith in rw (q, above-not n s at a b t)
 
-      pub skip-not : y ≡ false → Skipped s at n 0
-      skip-not t = unknown refl (x ∙ sym ey ∙ t)
+module _ (n : ℕ) (s : List ℕ) (at : ℕ) where
+  pub blocks-start : noneAbove n s at (at - at) ≡ true
+  unfolding noneAbove
+  blocks-start = let q : at - at ≡ 0 = omega arith in rw q
 
-    pub skip-unknown : (getD s a 0 ≡ 0x44 → ⊥) → a + 2 < length s → n < getD s (a + 1) 0 → Skipped s at n 0
-    skip-unknown n4 q u = unknown refl (sym (known-not s a n (scan n 0 (drop at s)) x h l n2 n3 n4 q 0 u))
+  module _ (p : ℕ) (h : at ≤ p) (t : noneAbove n s at (p - at) ≡ true) where
+    on : (b : ℕ) → noneAbove n s at (p - at + b) ≡ noneAbove n s p b
+    on b = let q : at + (p - at) ≡ p = omega arith in rw q at (above-split n s at (p - at) b t)
+
+    pub blocks-more : (g : Bool) → g ≡ noneAbove n s p 16 → not g ≡ false → noneAbove n s at (p + 16 - at) ≡ true
+    blocks-more g e c = let q : p + 16 - at ≡ p - at + 16 = omega arith in rw q (on 16 ∙ sym e ∙ not-false g c)
+
+    pub blocks-not : (g : Bool) → g ≡ noneAbove n s p 16 → not g ≡ true → p + 16 < length s → false ≡ noneAbove n s at (length s - (at + 1))
+    blocks-not g e c l =
+        let q : length s - (at + 1) ≡ p - at + 16 + (length s - (p + 17)) = omega arith in
+        rw q (sym (above-not n s at (p - at + 16) (length s - (p + 17)) (on 16 ∙ sym e ∙ not-true g c)))
+
+    one-more : noneAbove n s p 1 ≡ not (namesAbove n (getD s p 0) (getD s (p + 1) 0))
+    unfolding noneAbove
+    one-more = let q : p + 0 ≡ p = omega arith in rw q
+
+    module _ (x : Bool) (ex : x ≡ namesAbove n (getD s p 0) (getD s (p + 1) 0)) where
+      pub rest-more : x ≡ false → noneAbove n s at (p + 1 - at) ≡ true
+      rest-more f = let q : p + 1 - at ≡ p - at + 1 = omega arith in rw q (on 1 ∙ one-more ∙ rw (← ex, f))
+
+      pub rest-not : x ≡ true → p + 1 < length s → false ≡ noneAbove n s at (length s - (at + 1))
+      rest-not f l =
+          let q : length s - (at + 1) ≡ p - at + 1 + (length s - (p + 2)) = omega arith in
+          rw q (sym (above-not n s at (p - at + 1) (length s - (p + 2)) (on 1 ∙ one-more ∙ rw (← ex, f))))
+
+    pub rest-end : p < length s → length s ≤ p + 1 → true ≡ noneAbove n s at (length s - (at + 1))
+    rest-end l m = let q : length s - (at + 1) ≡ p - at = omega arith in rw q (sym t)
+
+    pub blocks-rest : (g : Bool) → p < length s → g ≡ noneAbove n s p (length s - (p + 1)) → g ≡ noneAbove n s at (length s - (at + 1))
+    blocks-rest g l e = let q : length s - (at + 1) ≡ p - at + (length s - (p + 1)) = omega arith in rw q (e ∙ sym (on (length s - (p + 1))))
+
+-- bytes of which none names a class above n pass the scan, wherever its signs are
+quiet-scan : (n k : ℕ) (bs : List ℕ) → ((j : ℕ) → suc j < length bs → namesAbove n (getD bs j 0) (getD bs (suc j) 0) ≡ false) → scan n k bs ≡ true
+unfolding scan
+quiet-scan n k [] f = refl
+quiet-scan n (suc k) (b ∷ bs) f = quiet-scan n k bs (λ j l. f (suc j) (omega arith))
+quiet-scan n zero (b ∷ bs) f = low (ltb b 0x42) (ltb b 0x44) (eqb b 0x44) refl refl (λ k. quiet-scan n k bs (λ j l. f (suc j) (omega arith)))
+  where
+    new : (cs : List ℕ) → ((j : ℕ) → suc j < length (b ∷ cs) → namesAbove n (getD (b ∷ cs) j 0) (getD (b ∷ cs) (suc j) 0) ≡ false) → 0x45 ≤ b → newKnown n cs ≡ true
+    new [] g h = refl
+    new (c ∷ cs) g h = le-leb c n (at-most (ltb n c) refl)
+      where
+        at-most : (z : Bool) → ltb n c ≡ z → c ≤ n
+        at-most true q = absurd (false≢true (sym (g 0 (omega arith)) ∙ (let w : namesAbove n b c ≡ true = rw (le-leb 0x45 b h) q in w)))
+        at-most false q = ltb-false n c q
+
+    low : (x y z : Bool) → ltb b 0x44 ≡ y → eqb b 0x44 ≡ z → ((k : ℕ) → scan n k bs ≡ true)
+        → pick x (scan n 0 bs) (pick y (scan n 1 bs) (pick z (scan n 2 bs) (newKnown n bs && scan n 2 bs))) ≡ true
+    low true y z ey ez g = g 0
+    low false true z ey ez g = g 1
+    low false false true ey ez g = g 2
+    low false false false ey ez g =
+        let h = ltb-false b 0x44 ey in
+        let m = eqb-false b 0x44 ez in
+        rw (new bs f (omega arith)) (g 2)
+
+pub above-scan : (n : ℕ) (s : List ℕ) (at : ℕ) (g : Bool) → at < length s → g ≡ noneAbove n s at (length s - (at + 1)) → g ≡ true → true ≡ scan n 0 (drop at s)
+above-scan n s at g h e t = sym (quiet-scan n 0 (drop at s) quiet)
+  where
+    quiet : (j : ℕ) → suc j < length (drop at s) → namesAbove n (getD (drop at s) j 0) (getD (drop at s) (suc j) 0) ≡ false
+    quiet j l =
+        let d = length-drop at s in
+        let q : at + suc j ≡ at + j + 1 = omega arith in
+        rw (getD-drop at s j 0, getD-drop at s (suc j) 0, q) (above-each n s at (length s - (at + 1)) j (sym e ∙ t) (omega arith))
+
+pub scan-none : (n : ℕ) (s : List ℕ) (at : ℕ) → length s ≤ at → true ≡ scan n 0 (drop at s)
+scan-none n s at h = scan-end s at n (scan n 0 (drop at s)) refl h
 
 -- ---- a method's line
 module _ (s : List ℕ) (n : ℕ) where

@@ -15,7 +15,7 @@ use Rattle.classes.specs.declared.methods.Found.the-variants as found
 use Rattle.classes.specs.declared.place.Place.{Place}
 use Rattle.classes.specs.declared.place.Place.the-variants as place
 use Rattle.classes.specs.Machine.{pick, ownOf}
-use Rattle.classes.specs.Placing.{goodTypes, scan, past, Skipped, unknown, known, headGood, methodGood, Placed, placed, above, classGood, classPut, classPlaced, placeOf, rightIn, rightKnown, indexPut, methodPut, methodFree, methodPlaced, mainPlaced}
+use Rattle.classes.specs.Placing.{goodTypes, scan, past, headGood, methodGood, Placed, placed, above, classGood, classPut, classPlaced, placeOf, rightIn, rightKnown, indexPut, methodPut, methodFree, methodPlaced, mainPlaced}
 use Rattle.classes.proofs.LineLaws.{more, no-more, not-true, not-false}
 
 -- ---- a copy
@@ -80,49 +80,25 @@ module _ (l B : List ℕ) (k n : ℕ) where
                   good e = rw (classGood, le-leb 4 (length l) h, eq-eqb (getD l 1 0) k h1, lt-ltb (getD l 2 0) k h2, ← eg, not-false g h3, ← ea, le-leb a 4 h4, le-leb (getD l 3 0) 4 h5, le-leb (a + getD l 3 0) 4 e)
 
 -- ---- a method
-module _ (l : List ℕ) (n w : ℕ) (ew : w ≡ getD l 7 0) (b : ℕ) (p : Skipped l (8 + 2 * w) n b) where
-  here : Skipped l (8 + 2 * getD l 7 0) n b
-  here = rw (← ew) p
+module _ (l : List ℕ) (n w : ℕ) (ew : w ≡ getD l 7 0) (g : Bool) (eg : g ≡ scan n 0 (drop (8 + 2 * w) l)) where
+  same-scan : g ≡ scan n 0 (drop (8 + 2 * getD l 7 0) l)
+  same-scan = rw (← ew) eg
 
-  pub right-none : b ≡ 0 → place.Nothing ≡ rightKnown n l
+  pub right-not : not g ≡ true → place.Nothing ≡ rightKnown n l
   unfolding rightKnown
-  right-none z = go here
-    where
-      go : Skipped l (8 + 2 * getD l 7 0) n b → place.Nothing ≡ pick (scan n 0 (drop (8 + 2 * getD l 7 0) l)) (rightIn l) place.Nothing
-      go (unknown _ e) = rw e
-      go (known e _) = absurd (omega arith)
+  right-not q = rw (← same-scan, not-true g q)
 
-  module _ (m : b ≡ 0 → ⊥) where
+  module _ (q : not g ≡ false) (b : ℕ) (eb : b ≡ 8 + 2 * w + past 1 0 (drop (8 + 2 * w) l)) where
+    same-place : b ≡ 8 + 2 * getD l 7 0 + past 1 0 (drop (8 + 2 * getD l 7 0) l)
+    same-place = rw (← ew) eb
+
     pub right-far : 255 < b → place.Nothing ≡ rightKnown n l
     unfolding rightKnown rightIn
-    right-far h = go here
-      where
-        either : (x : Bool) → place.Nothing ≡ pick x place.Nothing place.Nothing
-        either true = refl
-        either false = refl
+    right-far h = rw (← same-scan, not-false g q, ← same-place, lt-ltb 255 b h)
 
-        go : Skipped l (8 + 2 * getD l 7 0) n b
-            → place.Nothing ≡ pick (scan n 0 (drop (8 + 2 * getD l 7 0) l)) (placeOf (8 + 2 * getD l 7 0 + past 1 0 (drop (8 + 2 * getD l 7 0) l))) place.Nothing
-        go (unknown z _) = absurd (m z)
-        go (known e _) = rw (e, lt-ltb 255 b h) (either (scan n 0 (drop (8 + 2 * getD l 7 0) l)))
-
-    module _ (h : b ≤ 255) (g : Bool) (eg : g ≡ scan n 0 (drop b l)) where
-      pub right-not : not g ≡ true → place.Nothing ≡ rightKnown n l
-      unfolding rightKnown
-      right-not q = go here
-        where
-          go : Skipped l (8 + 2 * getD l 7 0) n b → place.Nothing ≡ pick (scan n 0 (drop (8 + 2 * getD l 7 0) l)) (rightIn l) place.Nothing
-          go (unknown z _) = absurd (m z)
-          go (known _ e) = rw (e, ← eg, not-true g q)
-
-      pub right-at : not g ≡ false → place.At b ≡ rightKnown n l
-      unfolding rightKnown rightIn
-      right-at q = go here
-        where
-          go : Skipped l (8 + 2 * getD l 7 0) n b
-              → place.At b ≡ pick (scan n 0 (drop (8 + 2 * getD l 7 0) l)) (placeOf (8 + 2 * getD l 7 0 + past 1 0 (drop (8 + 2 * getD l 7 0) l))) place.Nothing
-          go (unknown z _) = absurd (m z)
-          go (known d e) = rw (e, ← eg, not-false g q, d, le-ltb 255 b h)
+    pub right-at : b ≤ 255 → place.At b ≡ rightKnown n l
+    unfolding rightKnown rightIn
+    right-at h = rw (← same-scan, not-false g q, ← same-place, le-ltb 255 b h)
 
 module _ (c m x : ℕ) (B : List ℕ) where
   pub index-off : 32 < c → B ≡ indexPut c m x B

@@ -1,7 +1,7 @@
 -- What the functions that build a table make of a line's bytes and of the table's bytes, at the functions' own grain.
 -- Not here: that this is the language's `table` on the lines of a text (proofs/Building).
 use Prim.Native.Nat.{ℕ, zero, suc, _+_, _*_}
-use mathlib.Core.Bool.{Bool, true, false, _&&_}
+use mathlib.Core.Bool.{Bool, true, false, not, _&&_}
 use mathlib.Core.Path.{_≡_}
 use mathlib.Core.List.{List, [], _∷_}
 use lib.Dec.{eqb, leb, ltb}
@@ -34,6 +34,15 @@ scan n k [] = true
 scan n (suc k) (b ∷ bs) = scan n k bs
 scan n zero (b ∷ bs) =
     pick (ltb b 0x42) (scan n 0 bs) (pick (ltb b 0x44) (scan n 1 bs) (pick (eqb b 0x44) (scan n 2 bs) (newKnown n bs && scan n 2 bs)))
+
+-- the byte a may be the sign of a new object, and b after it is then a class above n
+abbrev pub namesAbove : ℕ → ℕ → ℕ → Bool
+namesAbove n a b = leb 0x45 a && ltb n b
+
+-- none of the first k bytes from `at` on does
+unfoldable pub noneAbove : ℕ → List ℕ → ℕ → ℕ → Bool
+noneAbove n s at zero = true
+noneAbove n s at (suc k) = noneAbove n s at k && not (namesAbove n (getD s (at + k) 0) (getD s (at + k + 1) 0))
 
 -- a method's line without its expressions
 unfoldable pub headGood : ℕ → List ℕ → Bool
@@ -76,11 +85,6 @@ past zero zero (b ∷ bs) = 0
 past (suc m) zero (b ∷ bs) =
     suc (pick (ltb b 0x42) (past m 0 bs) (pick (eqb b 0x42) (past m 1 bs) (pick (eqb b 0x43) (past (suc m) 1 bs)
     (pick (eqb b 0x44) (past (suc (m + getD bs 1 0)) 2 bs) (past (m + getD bs 1 0) 2 bs)))))
-
--- r is where the expression at `at` ends, and what follows decides whether all classes are known; or one is not, and r is 0
-pub data Skipped (s : List ℕ) (at n r : ℕ) : Type 0 where
-  unknown : r ≡ 0 → scan n 0 (drop at s) ≡ false → Skipped s at n r
-  known : at + past 1 0 (drop at s) ≡ r → scan n 0 (drop at s) ≡ scan n 0 (drop r s) → Skipped s at n r
 
 -- the left expression begins after the parameters' types, and the right one after it
 unfoldable pub rightIn : List ℕ → Place

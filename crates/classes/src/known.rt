@@ -3,11 +3,14 @@
 // Not here: that the line is a frame (lineform), which every line is that gets here.
 use crate::places::wide;
 ghost use mathlib.Core.Path.{_≡_};
-ghost use Prim.Native.Nat.{ℕ, _≤_};
+ghost use Prim.Native.Nat.{ℕ, _≤_, _<_, _+_, _-_};
 ghost use lib.ListN.{length, drop};
 ghost use Rattle.cofj.specs.Limits.{lineSize};
 ghost use Rattle.cofj.specs.Typing.{closedTag};
-ghost use Rattle.classes.specs.Placing.{goodTypes, scan, Skipped, headGood};
+ghost use Rattle.classes.specs.Placing.{goodTypes, scan, namesAbove, noneAbove, past, headGood};
+
+// How many bytes are tested at once.
+const BLOCK: usize = 16;
 
 // Tags 0 and 3 are closed.
 pub fn closed(g: u8) -> bool
@@ -42,9 +45,60 @@ pub fn types_good(s: &[u8], at: usize, k: u8, n: u8) -> bool
     types_good(s, a + 1, k - 1, n)
 }
 
+// Whether the byte a may be the sign of a new object, and b after it is then a class that is not known.
+fn names_above(a: u8, b: u8, n: u8) -> bool
+    ensures { λ r. ⌜ r ≡ namesAbove n a b ⌝ }
+{
+    (0x45 <= a) & (n < b)
+}
+
+// Whether none of the bytes in a block from `at` on, signs or not, may name a class that is not known. The compiler takes them at once.
+fn block_clear(s: &[u8], at: usize, n: u8) -> bool
+    requires { ⌜ at + 16 < length (now s) ⌝ }
+    ensures { λ r. ⌜ r ≡ noneAbove n (now (s .entry)) at 16 ⌝ }
+{
+    let mut good = true;
+    let mut k: usize = 0;
+    while k < BLOCK {
+        good = good & !names_above(s[at + k], s[at + k + 1], n);
+        k += 1;
+    }
+    good
+}
+
+// The same of all bytes from `at` on, one by one.
+fn rest_clear(s: &[u8], at: usize, n: u8) -> bool
+    requires { ⌜ at < length (now s) ⌝ }
+    ensures { λ r. ⌜ r ≡ noneAbove n (now (s .entry)) at (length (now (s .entry)) - (at + 1)) ⌝ }
+{
+    let mut p: usize = at;
+    while p + 1 < s.len() {
+        if names_above(s[p], s[p + 1], n) {
+            return false;
+        }
+        p += 1;
+    }
+    true
+}
+
+// The same, by blocks first.
+fn none_above(s: &[u8], at: usize, n: u8) -> bool
+    requires { ⌜ at < length (now s) ⌝ }
+    ensures { λ r. ⌜ r ≡ noneAbove n (now (s .entry)) at (length (now (s .entry)) - (at + 1)) ⌝ }
+{
+    let mut p: usize = at;
+    while p + BLOCK < s.len() {
+        if !block_clear(s, p, n) {
+            return false;
+        }
+        p += BLOCK;
+    }
+    rest_clear(s, p, n)
+}
+
 // Whether the expressions from `at` to the end name known classes only. Written one after another they are a row of signs: 40 and 41
 // alone, 42 and 43 with one byte, 44 and 45 with two, and what they hold follows.
-pub fn all_known(s: &[u8], at: usize, n: u8) -> bool
+fn scan_known(s: &[u8], at: usize, n: u8) -> bool
     requires { ⌜ length (now s) ≤ lineSize ⌝ }
     ensures { λ r. ⌜ r ≡ scan n 0 (drop at (now (s .entry))) ⌝ }
 {
@@ -75,11 +129,24 @@ pub fn all_known(s: &[u8], at: usize, n: u8) -> bool
     true
 }
 
-// Where the expression at `at` of a frame ends, by counting: k expressions are still to come from `a` on. 0 where it names a class that is not
-// known. Not tested: that it is an expression.
-pub fn skip_known(s: &[u8], at: usize, n: u8) -> usize
+// The same, by a quick test first.
+pub fn all_known(s: &[u8], at: usize, n: u8) -> bool
     requires { ⌜ length (now s) ≤ lineSize ⌝ }
-    ensures { λ r. ⌜ Skipped (now (s .entry)) at n r ⌝ }
+    ensures { λ r. ⌜ r ≡ scan n 0 (drop at (now (s .entry))) ⌝ }
+{
+    if s.len() <= at {
+        return true;
+    }
+    if none_above(s, at, n) {
+        return true;
+    }
+    scan_known(s, at, n)
+}
+
+// Where the expression at `at` of a frame ends, by counting: k expressions are still to come from `a` on. Not tested: that it is an expression.
+pub fn skip_expr(s: &[u8], at: usize) -> usize
+    requires { ⌜ length (now s) ≤ lineSize ⌝ }
+    ensures { λ r. ⌜ r ≡ at + past 1 0 (drop at (now (s .entry))) ⌝ }
 {
     let mut a: usize = at;
     let mut k: usize = 1;
@@ -93,31 +160,20 @@ pub fn skip_known(s: &[u8], at: usize, n: u8) -> usize
             k -= 1;
             continue;
         }
-        if b == 0x42 {
+        if b < 0x44 {
             a += 2;
-            k -= 1;
-            continue;
-        }
-        if b == 0x43 {
-            a += 2;
+            k = k - 1 + wide(b - 0x42);
             continue;
         }
         let c = a + 2;
         if s.len() <= c {
-            if all_known(s, a, n) {
-                return a + 3;
-            }
-            return 0;
+            return a + 3;
         }
+        a += 3;
         if b == 0x44 {
-            a += 3;
             k = k + wide(s[c]);
             continue;
         }
-        if n < s[a + 1] {
-            return 0;
-        }
-        a += 3;
         k = k - 1 + wide(s[c]);
     }
     a

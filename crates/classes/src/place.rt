@@ -3,7 +3,7 @@
 use crate::chain::field_total;
 use crate::known::all_known;
 use crate::known::head_good;
-use crate::known::skip_known;
+use crate::known::skip_expr;
 use crate::known::types_good;
 use crate::methods::Found;
 use crate::methods::own_method;
@@ -87,14 +87,12 @@ pub fn right_in(l: &[u8], n: u8) -> Place
     requires { ⌜ (8 ≤ length (now l)) × (length (now l) ≤ lineSize) ⌝ }
     ensures { λ r. ⌜ r ≡ rightKnown n (now (l .entry)) ⌝ }
 {
-    let b = skip_known(l, 8 + 2 * wide(l[7]), n);
-    if b == 0 {
+    let at = 8 + 2 * wide(l[7]);
+    if !all_known(l, at, n) {
         return Place::Nothing;
     }
+    let b = skip_expr(l, at);
     if 255 < b {
-        return Place::Nothing;
-    }
-    if !all_known(l, b, n) {
         return Place::Nothing;
     }
     Place::At(b as u8)

@@ -169,7 +169,7 @@ unfolding countedSign
 counted-high s at b g l e = rw (lt-ltb 0x45 b l) e
 
 module _ (s : List ℕ) (at b : ℕ) (top : b ≤ 0x45) where
-  pub counted-short : (g : Sign) → length s ≤ at + 1 + 1 → g ≡ noSign s → g ≡ countedSign s at b
+  counted-short : (g : Sign) → length s ≤ at + 1 + 1 → g ≡ noSign s → g ≡ countedSign s at b
   unfolding countedSign
   counted-short g k e = rw (le-ltb 0x45 b top, le-leb (length s) (at + 1 + 1) k) e
 
@@ -206,18 +206,52 @@ module _ (s : List ℕ) (at : ℕ) where
       sign-short g k e = rw (long, le-leb (length s) (at + 1) k) e
 
       module _ (h1 : at + 1 < length s) where
-        pub sign-param : getD s at 0 ≡ 0x42 → after (at + 1 + 1) 0 ≡ signAt s at
+        counted-one : 0x43 < getD s at 0 → signAt s at ≡ countedSign s at (getD s at 0)
         unfolding longSign
-        sign-param e = rw (long, lt-leb (length s) (at + 1) h1, eq-eqb (getD s at 0) 0x42 e)
+        counted-one k = rw (long, lt-leb (length s) (at + 1) h1, ne-eqb (getD s at 0) 0x42 (λ e. omega arith), ne-eqb (getD s at 0) 0x43 (λ e. omega arith))
 
-        module _ (n2 : (getD s at 0 ≡ 0x42) → ⊥) where
-          pub sign-field : getD s at 0 ≡ 0x43 → after (at + 1 + 1) 1 ≡ signAt s at
-          unfolding longSign
-          sign-field e = rw (long, lt-leb (length s) (at + 1) h1, ne-eqb (getD s at 0) 0x42 n2, eq-eqb (getD s at 0) 0x43 e)
+        pub sign-small : (p : ℕ) → getD s at 0 ≤ 0x43 → p ≡ getD s at 0 - 0x42 → after (at + 1 + 1) p ≡ signAt s at
+        unfolding longSign
+        sign-small p k e = sym (long ∙ rw (lt-leb (length s) (at + 1) h1) (param (eqb (getD s at 0) 0x42) refl))
+          where
+            one : (q : ℕ) → p ≡ q → after (at + 1 + 1) q ≡ after (at + 1 + 1) p
+            one q e = rw e
 
-          pub sign-counted : (g : Sign) → ((getD s at 0 ≡ 0x43) → ⊥) → g ≡ countedSign s at (getD s at 0) → g ≡ signAt s at
-          unfolding longSign
-          sign-counted g n3 e = rw (long, lt-leb (length s) (at + 1) h1, ne-eqb (getD s at 0) 0x42 n2, ne-eqb (getD s at 0) 0x43 n3) e
+            field : ((getD s at 0 ≡ 0x42) → ⊥) → (z : Bool) → eqb (getD s at 0) 0x43 ≡ z → pick z (after (at + 1 + 1) 1) (countedSign s at (getD s at 0)) ≡ after (at + 1 + 1) p
+            field n2 true q = let b = eqb-true (getD s at 0) 0x43 q in one 1 (omega arith)
+            field n2 false q = let n3 = eqb-false (getD s at 0) 0x43 q in absurd (omega arith)
+
+            param : (z : Bool) → eqb (getD s at 0) 0x42 ≡ z
+                → pick z (after (at + 1 + 1) 0) (pick (eqb (getD s at 0) 0x43) (after (at + 1 + 1) 1) (countedSign s at (getD s at 0))) ≡ after (at + 1 + 1) p
+            param true q = let b = eqb-true (getD s at 0) 0x42 q in one 0 (omega arith)
+            param false q = field (eqb-false (getD s at 0) 0x42 q) (eqb (getD s at 0) 0x43) refl
+
+        pub sign-cut : (g : Sign) → length s - 2 ≤ at → 0x43 < getD s at 0 → g ≡ noSign s → g ≡ signAt s at
+        sign-cut g c k e = high (ltb 0x45 (getD s at 0)) refl
+          where
+            high : (z : Bool) → ltb 0x45 (getD s at 0) ≡ z → g ≡ signAt s at
+            high true q = counted-high s at (getD s at 0) g (ltb-true 0x45 (getD s at 0) q) e ∙ sym (counted-one k)
+            high false q = counted-short s at (getD s at 0) (ltb-false 0x45 (getD s at 0) q) g (omega arith) e ∙ sym (counted-one k)
+
+-- the same where three bytes are left
+module _ (s : List ℕ) (at w : ℕ) (ew : w ≡ length s - 2) (h : at < w) where
+  inside : at < length s
+  inside = omega arith
+
+  more-inside : at + 1 < length s
+  more-inside = omega arith
+
+  pub whole-low : (g : Sign) → getD s at 0 < 0x42 → getD s at 0 < 0x40 → g ≡ noSign s → g ≡ signAt s at
+  whole-low = sign-low s at inside
+
+  pub whole-leaf : getD s at 0 < 0x42 → 0x40 ≤ getD s at 0 → after (at + 1) 0 ≡ signAt s at
+  whole-leaf = sign-leaf s at inside
+
+  pub whole-small : (p : ℕ) → getD s at 0 ≤ 0x43 → 0x42 ≤ getD s at 0 → p ≡ getD s at 0 - 0x42 → after (at + 1 + 1) p ≡ signAt s at
+  whole-small p k l = sign-small s at inside l more-inside p k
+
+  pub whole-counted : (g : Sign) → 0x43 < getD s at 0 → g ≡ countedSign s at (getD s at 0) → g ≡ signAt s at
+  whole-counted g k e = e ∙ sym (counted-one s at inside (omega arith) more-inside k)
 
 -- an expression ends where its sign says
 abbrev ends : List ℕ → ℕ → Sign → ℕ

@@ -8,3 +8,4 @@ pub mod LineLaws
 pub mod OrderLaws
 pub mod Established
 pub mod WriteLaws
+pub mod BlockLaws

@@ -2,3 +2,4 @@ pub mod Packed
 pub mod Answers
 pub mod Writes
 pub mod Places
+pub mod Blocks

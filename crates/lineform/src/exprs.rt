@@ -56,16 +56,13 @@ fn counted(b: u8, n: u8) -> usize
 
 // The sign of a call or of a new object at `at`, which is b.
 fn counted_sign(s: &[u8], at: usize, b: u8) -> Sign
-    requires { ⌜ at + 1 < length (now s) ⌝ }
+    requires { ⌜ at + 1 + 1 < length (now s) ⌝ }
     ensures { λ r. ⌜ r ≡ countedSign (now (s .entry)) at b ⌝ }
 {
     if 0x45 < b {
         return no_sign(s);
     }
     let a2 = at + 1 + 1;
-    if s.len() <= a2 {
-        return no_sign(s);
-    }
     let n = counted(b, s[a2]);
     if PART_COUNT < n {
         return no_sign(s);
@@ -76,8 +73,19 @@ fn counted_sign(s: &[u8], at: usize, b: u8) -> Sign
     }
 }
 
-// The sign at `at`.
-pub fn sign_at(s: &[u8], at: usize) -> Sign
+// How many places have two bytes after them.
+fn whole_places(s: &[u8]) -> usize
+    ensures { λ r. ⌜ r ≡ length (now (s .entry)) - 2 ⌝ }
+{
+    if s.len() < 2 {
+        return 0;
+    }
+    s.len() - 2
+}
+
+// The sign at `at`, which has at most one byte after it: none of those that take two.
+fn last_sign(s: &[u8], at: usize) -> Sign
+    requires { ⌜ length (now s) - 2 ≤ at ⌝ }
     ensures { λ r. ⌜ r ≡ signAt (now (s .entry)) at ⌝ }
 {
     if s.len() <= at {
@@ -94,19 +102,39 @@ pub fn sign_at(s: &[u8], at: usize) -> Sign
     if s.len() <= a1 {
         return no_sign(s);
     }
-    if b == 0x42 {
+    if 0x43 < b {
+        return no_sign(s);
+    }
+    Sign {
+        next: a1 + 1,
+        parts: wide(b - 0x42),
+    }
+}
+
+// The sign at `at`.
+pub fn sign_at(s: &[u8], at: usize) -> Sign
+    ensures { λ r. ⌜ r ≡ signAt (now (s .entry)) at ⌝ }
+{
+    if whole_places(s) <= at {
+        return last_sign(s, at);
+    }
+    let b = s[at];
+    if 0x43 < b {
+        return counted_sign(s, at, b);
+    }
+    if b < 0x42 {
+        if b < 0x40 {
+            return no_sign(s);
+        }
         return Sign {
-            next: a1 + 1,
+            next: at + 1,
             parts: 0,
         };
     }
-    if b == 0x43 {
-        return Sign {
-            next: a1 + 1,
-            parts: 1,
-        };
+    Sign {
+        next: at + 1 + 1,
+        parts: wide(b - 0x42),
     }
-    counted_sign(s, at, b)
 }
 
 // The place after the expression whose sign tells `next` and `parts`, nested at most `left` deep; one past the end of the line if there is none.

@@ -5,5 +5,6 @@ pub mod hex; // a byte of two digits
 pub mod exprs; // types and expressions in a line, passed over
 pub mod reader; // a line with a place in it
 pub mod frames; // one line's frame
+pub mod blocks; // digits, many at a time
 pub mod lines; // a text's lines: decoded, all framed, in order
 pub mod write; // a line's characters, written

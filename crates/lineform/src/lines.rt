@@ -6,6 +6,7 @@ ghost use lib.ListN.{length};
 ghost use Rattle.cofj.specs.Frames.{frames};
 ghost use Rattle.lineform.specs.Packed.{unpack, Packed, FramedLines};
 ghost use Rattle.lineform.specs.Answers.{Values, Roomy, Ahead, Puts, Decodable, Decodes, endsLine, isSome, orderOf};
+use crate::blocks::put_blocks;
 use crate::exprs::wide;
 use crate::frames::Framed;
 use crate::frames::frame_kind;
@@ -65,7 +66,7 @@ fn ends_line(c: u8, n: usize) -> bool
 }
 
 // Writes the bytes of the digits from `from` on to `to` and further, three at a time, until there are no three. The place after them.
-fn put_ahead(text: &[u8], t: &[u16; 256], from: usize, out: &mut [u8], to: usize) -> usize
+fn put_threes(text: &[u8], t: &[u16; 256], from: usize, out: &mut [u8], to: usize) -> usize
     requires { ⌜ Ahead (now text) (now out) from to × Values (now t) ⌝ }
     ensures { λ r. ⌜ Puts (now (text .entry)) (now (out .entry)) (now (out .exit)) from to r (to + (r - from) / 2) ⌝ }
 {
@@ -86,6 +87,16 @@ fn put_ahead(text: &[u8], t: &[u16; 256], from: usize, out: &mut [u8], to: usize
         o += 3;
     }
     i
+}
+
+// Writes the bytes of the digits from `from` on to `to` and further, as long as many digits follow. The place after them.
+fn put_ahead(text: &[u8], t: &[u16; 256], from: usize, out: &mut [u8], to: usize) -> usize
+    requires { ⌜ Ahead (now text) (now out) from to × Values (now t) ⌝ }
+    ensures { λ r. ⌜ Puts (now (text .entry)) (now (out .entry)) (now (out .exit)) from to r (to + (r - from) / 2) ⌝ }
+{
+    let c = put_blocks(text, from, out, to);
+    let q = to + (c - from) / 2;
+    put_threes(text, t, c, out, q)
 }
 
 // The same of a text of a fit length. At `w` the line begins whose next byte goes to `o`.

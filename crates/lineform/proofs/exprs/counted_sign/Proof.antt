@@ -12,13 +12,10 @@ returns : tie.Need-returns
 returns c = search laws.counted-high
 
 returns-2 : tie.Need-returns-2
-returns-2 c = search laws.counted-short
+returns-2 c = search laws.counted-over
 
 returns-3 : tie.Need-returns-3
-returns-3 c = search laws.counted-over
-
-returns-4 : tie.Need-returns-4
-returns-4 c = search laws.counted-parts
+returns-3 c = search laws.counted-parts
 
 pub counted-sign-spec : {M : Type 1} → statement M
 counted-sign-spec =
@@ -28,11 +25,9 @@ counted-sign-spec =
     returns
     (λ c. search needs)
     (λ c. search needs)
+    (λ c. search needs)
+    (λ c κs. search needs)
     (λ c κs. search needs)
     returns-2
     (λ c. search needs)
-    (λ c κs. search needs)
-    (λ c κs. search needs)
-    returns-3
-    (λ c. search needs)
-    returns-4)
+    returns-3)
