@@ -9,6 +9,7 @@
 pub mod builder;
 pub mod calls;
 pub mod classes;
+pub mod examples;
 pub mod fast;
 pub mod generator;
 pub mod linerun;

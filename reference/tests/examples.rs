@@ -19,5 +19,3 @@ mod graphs;
 mod lists;
 #[path = "examples/sections.rs"]
 mod sections;
-
-use booleans::{BOOL, FALSE, NO, TRUE, YES, closed, same, with_booleans};

@@ -32,5 +32,3 @@ mod graphs;
 mod lists;
 #[path = "../../tests/examples/sections.rs"]
 mod sections;
-
-use booleans::{BOOL, FALSE, NO, TRUE, YES, closed, same, with_booleans};

@@ -1,8 +1,10 @@
 //! Section 2 of 002: cyclic lists, allPos, member, noRep, isCyc, remPos.
 
+use super::booleans::{NO, YES};
 use super::common::{checked, lines, trial};
-use super::{BOOL, FALSE, NO, TRUE, YES, closed, same, with_booleans};
 use reference::builder::*;
+use reference::examples::booleans::{BOOL, EQ, TRUE, add_eq, no, with_booleans, yes};
+use reference::examples::methods::{closed, same};
 use reference::syntax::Expr;
 
 const INT: u8 = 4;
@@ -23,8 +25,6 @@ const IS_CYC: u8 = 6;
 const REM_POS: u8 = 7;
 const WRONG_REM_POS: u8 = 8;
 // Helpers: the decisions of an element or a boolean about a list.
-const IS: u8 = 0x20; // IS + class: whether an integer is of that class
-const EQ: u8 = 0x30;
 const ALL_POS_OF: u8 = 0x31;
 const MEMBER_ELSE: u8 = 0x32;
 const CONS_NEW: u8 = 0x33;
@@ -40,14 +40,6 @@ fn el(list: Expr) -> Expr {
 
 fn nx(list: Expr) -> Expr {
     field(1, list)
-}
-
-fn yes() -> Expr {
-    new(TRUE, [])
-}
-
-fn no() -> Expr {
-    new(FALSE, [])
 }
 
 fn empty() -> Expr {
@@ -72,13 +64,7 @@ fn base() -> Program {
     let again = call(INF_ALT_OCC, this(), [param(1), param(0)]);
     let body = (new(NE_LIST, [param(0), again]), res());
     p.method((FACT, INF_ALT_OCC), ring, &[plus(INT), plus(INT)], body);
-    same(&mut p, (INT, EQ), BOOL, &[plus(INT)], no());
-    for int in [ONE, TWO, MINUS_ONE] {
-        same(&mut p, (INT, IS + int), BOOL, &[], no());
-        same(&mut p, (int, IS + int), BOOL, &[], yes());
-        let asked = call(IS + int, param(0), []);
-        same(&mut p, (int, EQ), BOOL, &[plus(INT)], asked);
-    }
+    add_eq(&mut p, INT, ONE..=MINUS_ONE);
     p
 }
 
