@@ -65,10 +65,10 @@ fn decode(eight: [u8; 8]) -> Option<[u8; 4]> {
     const ONES: u64 = 0x0101_0101_0101_0101;
     let text = u64::from_le_bytes(eight);
     // Letters have bit 6, decimal digits have not.
-    let values = (text & 0x0F * ONES) + 9 * (text >> 6 & ONES);
+    let values = (text & (0x0F * ONES)) + 9 * (text >> 6 & ONES);
     let letters = (values + 6 * ONES) >> 4 & ONES;
     let written = values + 0x30 * ONES + 7 * letters;
-    if written != text || values & 0xF0 * ONES != 0 {
+    if written != text || values & (0xF0 * ONES) != 0 {
         return None;
     }
     // High digits stand in even places, low ones after them.

@@ -62,7 +62,7 @@ fn many(work: &Expr, times: usize) -> Expr {
     if times == 1 {
         return work.clone();
     }
-    let third = times / 3 | 1;
+    let third = (times / 3) | 1;
     let parts = [third, third, times - 2 * third];
     call(THEN, this(), parts.map(|times| many(work, times)))
 }
