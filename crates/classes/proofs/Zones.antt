@@ -2,22 +2,20 @@
 use Prim.Native.Nat.{ℕ, zero, suc, _+_, _-_, _*_, _/_, _%_, _<_, _≤_}
 use native.Mathlib.Nat.{not-suc-le-zero}
 use native.Mathlib.Omega.{arith}
-use mathlib.Core.Path.{_≡_, refl, sym, ap, _∙_, subst}
-use mathlib.Core.Bool.{Bool, true, false}
+use mathlib.Core.Path.{_≡_, refl, ap, _∙_, subst}
 use mathlib.Core.List.{List, [], _∷_, _++_, append-nil}
-use mathlib.Core.Option.{Option, none, some, Option·none-ne-some}
-use lib.Dec.{eqb, ltb}
-use lib.ListN.{length, getD, getElem?, length-append, List·getD-append, List·getD-eq-default}
+use mathlib.Core.Option.{some, Option·none-ne-some}
+use lib.ListN.{length, getD, getElem?, length-append, List·getD-append}
 use lib.Seq.{getD-append-add}
-use borrow.Author.Tests.{lt-ltb, le-ltb, ne-eqb, eq-eqb}
+use borrow.Author.Tests.{lt-ltb, le-ltb, ne-eqb}
 use Rattle.cofj.specs.Limits.{classCount, methodCount, lineSize}
-use Rattle.cofj.specs.Syntax.{Ty, Expr, Class, Method, Table}
+use Rattle.cofj.specs.Syntax.{Ty, Class, Method, Table}
 use Rattle.cofj.specs.Classes.{parentOf, classAt, ownOrNone, fieldsOf, fieldsTo}
 use Rattle.cofj.specs.Writing.{codeOf, typesBytes, methodLine}
 use Rattle.classes.specs.declared.chain.FieldType.{FieldType}
-use Rattle.classes.specs.Machine.{pick, typeAt, rowOf, leftOf, rightOf}
-use Rattle.classes.specs.Figures.{tableSize, rowSize, longSize, indexAt, methodsAt, mainAt, lastByte}
-use Rattle.classes.specs.Layout.{classRow, indexFrom, rest, rightPlace, longByte, methodByte, byteOf, filled, byteAt, tabulate, layout, bytesOf, Stands}
+use Rattle.classes.specs.Machine.{typeAt, rowOf, leftOf, rightOf}
+use Rattle.classes.specs.Figures.{tableSize, rowSize, longSize, indexAt, methodsAt, mainAt}
+use Rattle.classes.specs.Layout.{classRow, indexFrom, rest, rightPlace, longByte, methodByte, byteOf, filled, tabulate, layout, bytesOf, Stands}
 
 -- ---- a list by its places
 length-tabulate : (n : ℕ) (f : ℕ → ℕ) → length (tabulate n f) ≡ n
@@ -76,10 +74,6 @@ module _ (t : Table) where
   pub length-layout : length (layout t) ≡ tableSize
   unfolding layout
   length-layout = length-filled _ _ _ _ _
-
-  pub getD-layout : (i : ℕ) → i < tableSize → getD (layout t) i 0 ≡ byteAt t i
-  unfolding layout
-  getD-layout i h = getD-filled _ _ _ _ _ i h
 
   pub class-zone : (c j : ℕ) → c ≤ classCount → j < rowSize
       → getD (layout t) (rowSize * c + j) 0 ≡ getD (classRow (length (t .classes)) (length (t .methods)) (t .classes) c) j 0

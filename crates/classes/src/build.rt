@@ -14,19 +14,12 @@ ghost use Rattle.cofj.specs.Limits.{classCount, methodCount};
 ghost use Rattle.classes.specs.Figures.{classCountAt, methodCountAt};
 ghost use Rattle.classes.specs.Placing.{placed, classPlaced, methodPlaced};
 ghost use Rattle.classes.specs.Building.{walked, linesPlaced, lastPlaced, restPlaced};
-ghost use Rattle.classes.specs.Made.{Built, Zeros};
+ghost use Rattle.classes.specs.Made.{Built};
 
 // Where the next line begins.
 pub enum Lines {
     At(usize),
     Refused,
-}
-
-// The bytes of a table before anything is written.
-pub fn blank() -> [u8; SIZE]
-    ensures { λ r. ⌜ Zeros r ⌝ }
-{
-    [0u8; SIZE]
 }
 
 // The first n lines, as classes 1 to n.

@@ -20,7 +20,7 @@ use Rattle.values.specs.Refs.{refIn}
 use Rattle.evaluator.specs.State.{slotAt, refAt, argsAt}
 use Rattle.evaluator.specs.Answers.{outOf}
 use Rattle.evaluator.specs.Stack.{fuelOf, markHeld, heldThis, heldMark, frameAt, bodyFrame, markNumber, Framed, heldOf, nextOf, heldParameter, Answered, FrameSet}
-use Rattle.evaluator.proofs.RefLaws.{mark-number}
+use Rattle.values.proofs.RefLaws.{mark-number}
 use Rattle.evaluator.proofs.StateLaws.{variable-none, variable-is, args-at}
 use Rattle.evaluator.proofs.StackLaws.{this-absent, this-held, args-held, mark-absent, mark-held, stacked-none, put-stack, put-out, stop-is, stop-stack, stuck-is, Stops-with}
 

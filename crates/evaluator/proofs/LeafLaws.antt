@@ -22,14 +22,13 @@ use Rattle.evaluator.specs.declared.Stop.{Stop}
 use Rattle.evaluator.specs.declared.Stop.the-variants.{Stuck, NoFuel, TooDeep, TooLarge}
 use Rattle.evaluator.specs.declared.Out.{Out}
 use Rattle.evaluator.specs.declared.Out.the-variants.{Value, Halt}
-use Rattle.values.specs.Refs.{refIn}
-use Rattle.evaluator.specs.Refs.{Small}
+use Rattle.values.specs.Refs.{refIn, Small}
 use Rattle.evaluator.specs.State.{PartsOlder, refAt}
 use Rattle.evaluator.specs.Answers.{Listed, Values, Stops, slotsOf, listIn, ListOlder, ListNext, Finishes}
 use Rattle.evaluator.specs.Stack.{fuelOf, stopAt, outAt, listAt}
 use Rattle.evaluator.specs.Steps.{PartsReady, FinishStep}
 use Rattle.evaluator.proofs.Keeping.{kept-none, parts-held}
-use Rattle.evaluator.proofs.RefLaws.{small-held}
+use Rattle.values.proofs.RefLaws.{small-held}
 use Rattle.evaluator.proofs.StackLaws as stacks
 use Rattle.evaluator.proofs.StackLaws.{list-values, stacked-none, put-stack, put-out, stop-is, stop-stack, too-large-is}
 

@@ -1,5 +1,4 @@
 pub mod Keeping
-pub mod RefLaws
 pub mod StateLaws
 pub mod Given
 pub mod BodyLaws

@@ -14,8 +14,7 @@ use Rattle.values.specs.declared.ValueRef.the-variants.{Mark}
 use Rattle.values.specs.Layout.{valueOf, Holds}
 use Rattle.values.specs.Operations.{Gives}
 use Rattle.evaluator.specs.declared.Out.the-variants.{Value, Halt}
-use Rattle.values.specs.Refs.{refIn}
-use Rattle.evaluator.specs.Refs.{Small}
+use Rattle.values.specs.Refs.{refIn, Small}
 use Rattle.evaluator.specs.declared.frame.Held.{Held}
 use Rattle.evaluator.specs.declared.frame.Held.the-variants.{Is, Absent}
 use Rattle.evaluator.specs.State.{FrameHolds, CallOlder, refAt, argsAt, baseAt, callAt, traceIn}
@@ -23,7 +22,7 @@ use Rattle.evaluator.specs.Stack.{fuelOf, topOf, heldThis, heldMark, hel
 use Rattle.evaluator.specs.Evaluation.{Evaluates}
 use Rattle.evaluator.specs.Calling.{RunsRight, RunsLeft}
 use Rattle.evaluator.specs.Steps.{Runnable, BodyRunnable, EvalStep, RightStep, LeftStep}
-use Rattle.evaluator.proofs.RefLaws.{small-held}
+use Rattle.values.proofs.RefLaws.{small-held}
 use Rattle.evaluator.proofs.BodyLaws.{Pushed, rightFrame, leftFrame, trace-below, right-halt, right-value, left-halt, left-value}
 use Rattle.evaluator.proofs.Given.{given-older}
 use Rattle.evaluator.proofs.FitLaws as fits

@@ -22,11 +22,10 @@ use Rattle.values.specs.Layout.{valueOf, Holds}
 use Rattle.maker.specs.Laying.{valuesFrom, PartsHeld}
 use Rattle.values.proofs.Steps.{one-block, mark-mark, undet-undet}
 use Rattle.values.specs.Refs.{refIn}
-use Rattle.evaluator.specs.Refs.{apartOf}
+use Rattle.evaluator.specs.State.{apartOf, OpenCall, slotAt, HeldOlder, heldIn, FrameHolds, frameIn, variableOf, refAt, argsAt, baseAt, callAt, callIn, CallHolds, CallsHold, traceIn, sameOf, metOf}
 use Rattle.values.proofs.RefLaws.{object-in}
 use Rattle.evaluator.specs.declared.frame.Held.the-variants.{Is, Absent}
 use Rattle.evaluator.specs.declared.frame.Frame.{Frame}
-use Rattle.evaluator.specs.State.{OpenCall, slotAt, HeldOlder, heldIn, FrameHolds, frameIn, variableOf, refAt, argsAt, baseAt, callAt, callIn, CallHolds, CallsHold, traceIn, sameOf, metOf}
 
 -- ---- parameters
 pub variable-none : (f : Frame) (k : ℕ) → f .n ≤ k → Absent ≡ variableOf f k

@@ -17,8 +17,7 @@ use Rattle.checker.specs.Shapes.{byteOf, shapeAt, shapeOf}
 use Rattle.values.specs.Layout.{Holds}
 use Rattle.evaluator.specs.declared.Stop.the-variants.{Stuck}
 use Rattle.evaluator.specs.declared.Out.{Out}
-use Rattle.values.specs.Refs.{refIn}
-use Rattle.evaluator.specs.Refs.{answerOf, ChosenIn}
+use Rattle.values.specs.Refs.{refIn, answerOf, ChosenIn}
 use Rattle.evaluator.specs.declared.stack.Went.{Went}
 use Rattle.evaluator.specs.declared.stack.Went.the-variants as went
 use Rattle.evaluator.specs.declared.frame.Frame.{Frame}

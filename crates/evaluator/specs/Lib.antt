@@ -1,4 +1,3 @@
-pub mod Refs
 pub mod State
 pub mod Answers
 pub mod Stack

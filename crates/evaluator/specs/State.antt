@@ -1,6 +1,6 @@
 -- What the variables of a body and the open calls on the stack stand for in the work bytes W, and when they do.
 -- Not here: the rest of the stack (Stack), what evaluation answers (Answers).
-use Prim.Native.Nat.{ℕ, zero, suc, _+_, _*_, _≤_, _<_}
+use Prim.Native.Nat.{ℕ, zero, suc, _+_, _*_, _/_, _%_, _≤_, _<_}
 use mathlib.Core.Bool.{Bool, false}
 use mathlib.Core.List.{List, [], _∷_}
 use mathlib.Core.Option.{Option, none, some}
@@ -113,6 +113,10 @@ traceIn W S zero = []
 traceIn W S (suc k) = callIn W k (callAt S k) ∷ traceIn W S k
 
 -- ---- a call met again
+-- two numbers of two objects of one block
+unfoldable pub apartOf : ℕ → ℕ → Bool
+apartOf x y = pick (eqb x y) false (pick (eqb (x / 256) (y / 256)) (pick (ltb (x % 256) 192) (ltb (y % 256) 192) false) false)
+
 unfoldable pub sameOf : language.OpenCall → Graph → ℕ → List Graph → Bool
 sameOf o v m vs = pick (eqb (o .name) m) (pick (eqGraph (o .receiver) v) (eqGraphs (o .args) vs) false) false
 

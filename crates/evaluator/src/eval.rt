@@ -3,9 +3,6 @@
 // in block sp. The answer is the place after the expression, or 0 if the run stopped.
 use crate::call::eval_call;
 use crate::frame::leaf;
-use crate::refs::NOTHING;
-use crate::refs::pack;
-use crate::refs::select_in;
 use crate::stack::STACK;
 use crate::stack::STUCK;
 use crate::stack::TOO_LARGE;
@@ -19,6 +16,9 @@ use classes::places::SIZE;
 use maker::Made;
 use maker::make::make;
 use maker::over::make_bare;
+use values::refs::NOTHING;
+use values::refs::pack;
+use values::refs::select_in;
 ghost use mathlib.Core.Path.{_≡_};
 ghost use Prim.Native.Nat.{ℕ, _+_, _*_, _<_, _≤_};
 ghost use lib.ListN.{length};

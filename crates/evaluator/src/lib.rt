@@ -1,6 +1,5 @@
 // Running a program from its class table's bytes, with values in blocks of the work buffer.
 // Not here: the table (classes), what is done with values (values, maker), the report of a run.
-pub mod refs; // values as numbers
 pub mod stack; // the stack of values, where the frame stands, the open calls
 pub mod frame; // frames
 pub mod met; // a call met again

@@ -12,8 +12,7 @@ ghost use Rattle.cofj.specs.Running.{openMark};
 ghost use Rattle.values.specs.Layout.{Holds, valueOf};
 ghost use Rattle.maker.specs.Laying.{PartsHeld, valuesFrom};
 ghost use Rattle.values.specs.Refs.{refIn};
-ghost use Rattle.evaluator.specs.Refs.{apartOf};
-ghost use Rattle.evaluator.specs.State.{refAt, argsAt, baseAt, CallHolds, CallsHold, callAt, callIn, sameOf, traceIn, metOf};
+ghost use Rattle.evaluator.specs.State.{apartOf, refAt, argsAt, baseAt, CallHolds, CallsHold, callAt, callIn, sameOf, traceIn, metOf};
 ghost use Rattle.evaluator.specs.Stack.{topOf};
 
 // Whether two numbers are those of two objects of one block: these are never equal. It costs no call.

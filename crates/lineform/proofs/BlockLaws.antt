@@ -33,9 +33,6 @@ module _ (c : ℕ) (d : isDigit c ≡ true) where
       go false p true q z = let r = within-true 65 70 c q in g (r .0) (r .1)
       go false p false q z = absurd (false≢true z)
 
-  pub digit-low : 48 ≤ c
-  digit-low = both-kinds (λ (o : Option ℕ). 48 ≤ c) (λ a b. omega arith) (λ a b. omega arith)
-
   pub digit-top : c ≤ 70
   digit-top = both-kinds (λ (o : Option ℕ). c ≤ 70) (λ a b. omega arith) (λ a b. omega arith)
 

@@ -258,10 +258,6 @@ abbrev ends : List ℕ → ℕ → Sign → ℕ
 ends s left g = endBy s left (g .next) (g .parts)
 
 module _ (s : List ℕ) (left at : ℕ) (nz : 1 ≤ left) where
-  by-no-sign : length s + 1 ≡ endIn s (expr left (drop at s)) → ends s left (noSign s) ≡ endIn s (expr left (drop at s))
-  unfolding endBy
-  by-no-sign e = e
-
   module _ (h : at < length s) (l : 0x42 ≤ getD s at 0) (h1 : at + 1 < length s) where
     by-counted : ((getD s at 0 ≡ 0x42) → ⊥) → ((getD s at 0 ≡ 0x43) → ⊥) → ends s left (countedSign s at (getD s at 0)) ≡ endIn s (expr left (drop at s))
     unfolding countedSign endBy

@@ -144,9 +144,6 @@ module _ (out o : List ℕ) (at r : ℕ) (l : List ℕ) (e : wrote r o ≡ putLi
   pub line-stores : o ≡ sets out at (hexLine l)
   line-stores = put-stores out o at r (hexLine l) line-is
 
-  pub line-size : length o ≡ length out
-  line-size = put-size out o at r (hexLine l) line-is
-
   -- the text in front grows by the line, and what lies after stays
   pub take-line : (ls : List (List ℕ)) → take at out ≡ hexText ls → r ≤ length out → take r o ≡ hexText (ls ++ (l ∷ []))
   take-line ls t h = put-front out o at r (hexLine l) line-is h ∙ ap (λ (x : List ℕ). x ++ hexLine l) t ∙ sym (text-more ls l)
@@ -185,22 +182,3 @@ module _ (out o : List ℕ) (at a : ℕ) (ls : List (List ℕ)) (e : wrote a o �
 
     pub text-front : take a o ≡ take at out ++ hexText ls
     text-front = put-front out o at a (hexText ls) text-is h
-
-    pub text-rest : drop a o ≡ drop a out
-    text-rest = put-rest out o at a (hexText ls) text-is h
-
--- a line in front of lines
-pub line-text : (out o o2 : List ℕ) (at a a2 : ℕ) (l : List ℕ) (ls : List (List ℕ)) → wrote a o ≡ putLine out at l → wrote a2 o2 ≡ putText o a ls → wrote a2 o2 ≡ putText out at (l ∷ ls)
-unfolding putText putLine
-line-text out o o2 at a a2 l ls e e2 = put-put out o at a (hexLine l) e o2 a2 (hexText ls) e2
-
--- the first i of given lines, as a loop over rows writes them
-module _ (out o : List ℕ) (at w : ℕ) (ls : List (List ℕ)) (i : ℕ) (e : wrote w o ≡ putText out at (take i ls)) where
-  pub text-take : (o2 : List ℕ) (w2 : ℕ) (l : List ℕ) → i < length ls → getD ls i [] ≡ l → wrote w2 o2 ≡ putLine o w l → wrote w2 o2 ≡ putText out at (take (i + 1) ls)
-  text-take o2 w2 l h el e2 = rw (add-one i, take-suc ls i [] h, el) (text-line out o at w (take i ls) e o2 w2 l e2)
-
-  pub text-all : i ≤ length ls → length ls ≤ i → wrote w o ≡ putText out at ls
-  text-all h k =
-      let ei : i ≡ length ls = omega arith in
-      let et : take i ls ≡ ls = rw ei (take-length ls) in
-      rw et at e

@@ -6,7 +6,7 @@ use mathlib.Core.Bool.{Bool, true, false, not, _&&_}
 use mathlib.Core.List.{List, [], _∷_, _++_}
 use mathlib.Core.Option.{Option, none, some, Option·none-ne-some}
 use lib.Dec.{leb}
-use lib.ListN.{length, getD, take, replicate, length-replicate}
+use lib.ListN.{length, getD, take, replicate}
 use borrow.Author.Tests.{not-true, not-false, leb-true}
 use Rattle.cofj.specs.Limits.{classCount, methodCount}
 use Rattle.cofj.specs.Partial.{_>>=_, guard}
@@ -28,6 +28,7 @@ use Rattle.lineform.proofs.Established.{decoded-lines, decoded-none, decoded-pa
 use Rattle.classes.specs.Layout.{layout}
 use Rattle.classes.specs.Placing.{Placed, placed}
 use Rattle.classes.specs.Made.{Lined, Zeros, Built, Overrides, answer}
+use Rattle.classes.proofs.TableLines.{zeros-new}
 use Rattle.tables.specs.declared.read.Reading.{Reading}
 use Rattle.tables.specs.Readings.{zeroTable, noTable, theTable, afterOverriding, afterTable, afterOrder, afterFrames, afterLines, answered, readingOf, Into, ByteLines, Counted}
 
@@ -59,12 +60,7 @@ reading-steps s = by-lines (lines s)
 
 -- ---- a table of zeros
 pub zeros : Zeros (replicate 25616 0)
-zeros = record { size = length-replicate {A = ℕ} 25616 0; zero-at = λ i. at 25616 i }
-  where
-    at : (n i : ℕ) → _≡_ {A = ℕ} (getD (replicate n 0) i 0) 0
-    at zero i = refl
-    at (suc n) zero = refl
-    at (suc n) (suc i) = at n i
+zeros = zeros-new 25616 refl
 
 pub refused-is : (k : ℕ) → _≡_ {A = Reading} (record { refusal = k; table = record { bytes = replicate 25616 0 } }) (noTable k)
 unfolding zeroTable

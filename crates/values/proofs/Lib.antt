@@ -2,8 +2,8 @@ pub mod Tests
 pub mod Trees
 pub mod Steps
 pub mod Blocks
-pub mod RefLaws
 pub mod Selecting
+pub mod RefLaws
 pub mod Copies
 pub mod Bindings
 pub mod Closing

@@ -8,8 +8,6 @@ use mathlib.Core.Option.{none, some}
 use lib.ListN.{length, getD, take, getElem?, length-take}
 use lib.Seq.{getD-take}
 use borrow.Author.Tests.{eq-eqb, ne-eqb}
-use types.Run.{OneOf}
-use denote.Enum.Declared.{tagOf}
 use Rattle.cofj.specs.Values.{Ref, mark, undet, Node, graph, refsAt, canon, canonBy, visit, select, selected, markOf, undetermined}
 use Rattle.cofj.specs.Unfolding.{InRange, Whole}
 use Rattle.canon.specs.Layout.{refOf, nodeIn, objectsIn, graphAt, Inside, countIn, Outside, Beneath}
@@ -17,11 +15,8 @@ use Rattle.canon.proofs.Nodes.{some-at, at-nodes, ref-object, ref-undet, ref-ma
 use Rattle.canon.proofs.Walks.{four, four-at}
 use Rattle.values.specs.declared.ValueRef.{ValueRef}
 use Rattle.values.specs.declared.ValueRef.the-variants.{Object, Mark, Undetermined}
-use Rattle.values.specs.declared.Selected.{Selected}
-use Rattle.values.specs.declared.Selected.the-variants.{Value, Stuck}
 use Rattle.values.specs.Operations.{Chosen, Leaf}
-use Rattle.values.proofs.ValueRef as RefT
-use Rattle.values.proofs.Blocks.{no-object, inner-in, whole-at}
+use Rattle.values.proofs.Blocks.{inner-in, whole-at}
 use Rattle.values.proofs.Trees.{select-canon}
 
 pub unchanged : (b : ℕ) (W : List ℕ) → Outside b W W
@@ -79,13 +74,13 @@ module _ (W : List ℕ) (b i f : ℕ) (ob : Inside W b i) where
     unfolding select
     chosen-is = select-canon (graphAt W b i) whole f ∙ ap (selected (objectsIn W b)) field-at
 
-    pub choose-leaf : (o : ValueRef) → 192 ≤ getD W (at + 2 + f) 0 → Leaf (getD W (at + 2 + f) 0) o → Chosen W (Object b i) f (Value o)
+    pub choose-leaf : (o : ValueRef) → 192 ≤ getD W (at + 2 + f) 0 → Leaf (getD W (at + 2 + f) 0) o → Chosen W (Object b i) f (some o)
     choose-leaf o h l = go (ℕ-discrete (getD W (at + 2 + f) 0) 192)
       where
-        go : Dec (getD W (at + 2 + f) 0 ≡ 192) → Chosen W (Object b i) f (Value o)
+        go : Dec (getD W (at + 2 + f) 0 ≡ 192) → Chosen W (Object b i) f (some o)
         go (yes e) =
             let eo : o ≡ Undetermined = l .is ∙ rw e in
-            subst (λ (x : ValueRef). Chosen W (Object b i) f (Value x)) (sym eo) (record {
+            subst (λ (x : ValueRef). Chosen W (Object b i) f (some x)) (sym eo) (record {
               held = record { held = tt };
               is = ap some (sym (ap (λ (x : ℕ). canon (graph (refOf x) (objectsIn W b))) e ∙ ap (λ (r : Ref). canon (graph r (objectsIn W b))) ref-undet ∙ canon-undet (objectsIn W b))) ∙ sym chosen-is;
               place = λ sp q. tt;
@@ -94,20 +89,20 @@ module _ (W : List ℕ) (b i f : ℕ) (ob : Inside W b i) where
             let z : getD W (at + 2 + f) 0 ≡ 193 + (getD W (at + 2 + f) 0 - 193) = omega (arith, n) in
             let eo : o ≡ Mark (getD W (at + 2 + f) 0 - 193) = l .is ∙ rw (ne-eqb _ _ n) in
             let er : refOf (getD W (at + 2 + f) 0) ≡ mark (getD W (at + 2 + f) 0 - 193) = ap refOf z ∙ ref-mark _ in
-            subst (λ (x : ValueRef). Chosen W (Object b i) f (Value x)) (sym eo) (record {
+            subst (λ (x : ValueRef). Chosen W (Object b i) f (some x)) (sym eo) (record {
               held = record { held = omega (arith, l .small) };
               is = ap some (sym (ap (λ (r : Ref). canon (graph r (objectsIn W b))) er ∙ canon-mark _ (objectsIn W b))) ∙ sym chosen-is;
               place = λ sp q. tt;
             })
 
-    pub choose-object : getD W (at + 2 + f) 0 < 192 → Chosen W (Object b i) f (Value (Object b (getD W (at + 2 + f) 0)))
+    pub choose-object : getD W (at + 2 + f) 0 < 192 → Chosen W (Object b i) f (some (Object b (getD W (at + 2 + f) 0)))
     choose-object h = record {
       held = record { held = record { block = ob .block; low = subst (InRange (countIn W b)) (ref-object _ h) (inner-in W b (ob .block) i f _ field-at) } };
       is = ap some (ap (λ (r : Ref). canon (graph r (objectsIn W b))) (sym (ref-object _ h))) ∙ sym chosen-is;
       place = λ sp q. q;
     }
 
-  pub choose-none : getD W (at + 1) 0 ≤ f → Chosen W (Object b i) f Stuck
+  pub choose-none : getD W (at + 1) 0 ≤ f → Chosen W (Object b i) f none
   unfolding select
   choose-none h = record {
     held = tt;
@@ -115,15 +110,7 @@ module _ (W : List ℕ) (b i f : ℕ) (ob : Inside W b i) where
     place = λ sp q. tt;
   }
 
--- ---- by what a value is
-module _ (W : List ℕ) (r : ValueRef) (f : ℕ) where
-  pub select-none : OneOf (1 ∷ 2 ∷ []) (tagOf RefT.the-type r) → Chosen W r f Stuck
-  unfolding select
-  select-none = no-object (λ x. Chosen W x f Stuck) (λ k. record { held = tt; is = refl; place = λ sp q. tt }) (record { held = tt; is = refl; place = λ sp q. tt }) r
-
-  pub select-one : (b i : ℕ) (o : Selected) → r ≡ Object b i → Chosen W (Object b i) f o → Chosen W r f o
-  select-one b i o e c = rw e c
-
+-- ---- a leaf
 pub leaf-undet : (c : ℕ) → c ≡ 192 → suc c ≤ 256 → Leaf c Undetermined
 leaf-undet c e h = record { is = rw (eq-eqb _ _ e); small = h }
 

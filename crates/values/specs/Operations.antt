@@ -12,8 +12,6 @@ use Rattle.canon.specs.Tables.{Filled, Lifted}
 use Rattle.canon.specs.Numbers.{Has}
 use Rattle.values.specs.declared.ValueRef.{ValueRef}
 use Rattle.values.specs.declared.ValueRef.the-variants.{Mark, Undetermined}
-use Rattle.values.specs.declared.Selected.{Selected}
-use Rattle.values.specs.declared.Selected.the-variants.{Value, Stuck}
 use Rattle.values.specs.Layout.{valueOf, Holds, Low}
 
 -- the objects of block b, copied
@@ -50,20 +48,20 @@ pub record Leaf (c : ℕ) (r : ValueRef) : Type 0 where
   pub small : c < 256
 
 -- what a selection answers, as a value
-abbrev pub answerIn : List ℕ → Selected → Option Graph
-answerIn W (Value r) = some (valueOf W r)
-answerIn W Stuck = none
+abbrev pub answerIn : List ℕ → Option ValueRef → Option Graph
+answerIn W (some r) = some (valueOf W r)
+answerIn W none = none
 
-abbrev pub AnswerHeld : List ℕ → Selected → Type 0
-AnswerHeld W (Value r) = Holds W r
-AnswerHeld W Stuck = Unit {0}
+abbrev pub AnswerHeld : List ℕ → Option ValueRef → Type 0
+AnswerHeld W (some r) = Holds W r
+AnswerHeld W none = Unit {0}
 
-abbrev pub AnswerLow : ℕ → Selected → Type 0
-AnswerLow sp (Value r) = Low sp r
-AnswerLow sp Stuck = Unit {0}
+abbrev pub AnswerLow : ℕ → Option ValueRef → Type 0
+AnswerLow sp (some r) = Low sp r
+AnswerLow sp none = Unit {0}
 
 -- field f of a value, in the same block
-pub record Chosen (W : List ℕ) (r : ValueRef) (f : ℕ) (o : Selected) : Type 0 where
+pub record Chosen (W : List ℕ) (r : ValueRef) (f : ℕ) (o : Option ValueRef) : Type 0 where
   pub held : AnswerHeld W o
   pub is : answerIn W o ≡ select f (valueOf W r)
   pub place : (sp : ℕ) → Low sp r → AnswerLow sp o

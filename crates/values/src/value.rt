@@ -1,5 +1,4 @@
-// Values selected from, closed, moved. Not here: values compared (lockstep), a new object (crate maker), how a mark is bound (bind).
-use crate::Selected;
+// Values closed and moved. Not here: values selected from (refs), values compared (lockstep), a new object (crate maker), how a mark is bound (bind).
 use crate::ValueRef;
 use crate::bind::close_bound;
 use canon::bytes::count_up;
@@ -10,7 +9,7 @@ ghost use lib.ListN.{length};
 ghost use Rattle.cofj.specs.Values.{canon};
 ghost use Rattle.canon.specs.Layout.{Block, Inside, graphAt};
 ghost use Rattle.values.specs.Layout.{Holds, valueOf};
-ghost use Rattle.values.specs.Operations.{Taken, Moved, Copied, Gives, Chosen, Leaf, closeOf};
+ghost use Rattle.values.specs.Operations.{Taken, Moved, Copied, Gives, closeOf};
 ghost use Rattle.values.specs.declared.ValueRef.the-variants.{Object};
 
 // Copies the objects of block b to the front of `raw`, and answers how many they are.
@@ -36,44 +35,6 @@ pub fn move_out(work: &mut [u8], b: u16, i: u8, dst: u16)
     let mut raw = [0u8; 1536];
     let n = take_up(work, b, &mut ids, &mut raw);
     put(&raw, n, &ids, i, work, dst);
-}
-
-// A code that is no object's, as a reference.
-pub fn ref_of(c: u8) -> ValueRef
-    requires { ⌜ 192 ≤ c ⌝ }
-    ensures { λ r. ⌜ Leaf c r ⌝ }
-{
-    if c == 192 {
-        return ValueRef::Undetermined;
-    }
-    ValueRef::Mark(c - 193)
-}
-
-// Field f of object i of block b: an object of the same block, if it is one.
-pub fn select_object(work: &[u8], b: u16, i: u8, f: u8) -> Selected
-    requires { ⌜ Inside (now work) b i ⌝ }
-    ensures { λ o. ⌜ Chosen (now (work .entry)) (Object b i) f o ⌝ }
-{
-    let at = 240 * (b as usize) + 6 * (i as usize);
-    if work[at + 1] <= f {
-        return Selected::Stuck;
-    }
-    let c = work[at + 2 + f as usize];
-    if 192 <= c {
-        return Selected::Value(ref_of(c));
-    }
-    Selected::Value(ValueRef::Object(b, c))
-}
-
-// Field f of a value.
-pub fn select(work: &[u8], r: ValueRef, f: u8) -> Selected
-    requires { ⌜ Holds (now work) r ⌝ }
-    ensures { λ o. ⌜ Chosen (now (work .entry)) r f o ⌝ }
-{
-    let ValueRef::Object(b, i) = r else {
-        return Selected::Stuck;
-    };
-    select_object(work, b, i, f)
 }
 
 // The objects of block b, to block `dst`, which may be b.

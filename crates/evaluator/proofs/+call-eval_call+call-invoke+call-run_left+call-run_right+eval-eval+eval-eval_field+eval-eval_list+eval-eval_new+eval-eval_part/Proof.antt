@@ -37,8 +37,8 @@ use Rattle.evaluator.proofs.find.find.Reads as find-reads
 use Rattle.evaluator.proofs.frame.enter.Reads as enter-reads
 use Rattle.evaluator.proofs.frame.leaf.Reads as leaf-reads
 use Rattle.evaluator.proofs.met.open_call.Reads as open-call-reads
-use Rattle.evaluator.proofs.refs.pack.Reads as pack-reads
-use Rattle.evaluator.proofs.refs.select_in.Reads as select-in-reads
+use Rattle.values.proofs.refs.pack.Reads as pack-reads
+use Rattle.values.proofs.refs.select_in.Reads as select-in-reads
 use Rattle.values.proofs.refs.unpack.Reads as unpack-reads
 use Rattle.evaluator.proofs.stack.push.Reads as push-reads
 use Rattle.evaluator.proofs.stack.set_frame.Reads as set-frame-reads

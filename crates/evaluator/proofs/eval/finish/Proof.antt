@@ -4,7 +4,7 @@ use Rattle.evaluator.proofs.eval.finish.Tie as tie
 use Rattle.evaluator.proofs.eval.finish.Reads as reads
 use Rattle.evaluator.proofs.eval.finish.Lts as lts
 use Rattle.evaluator.proofs.eval.parts_at.Reads as parts-at-reads
-use Rattle.evaluator.proofs.refs.pack.Reads as pack-reads
+use Rattle.values.proofs.refs.pack.Reads as pack-reads
 use Rattle.evaluator.proofs.stack.stop.Reads as stop-reads
 use Rattle.maker.proofs.make.make.Reads as make-reads
 use Rattle.maker.proofs.over.make_bare.Reads as make-bare-reads

@@ -1,9 +1,9 @@
 use borrow.Author.Needs.{needs}
-use Rattle.evaluator.proofs.refs.pack.Statement.{statement}
-use Rattle.evaluator.proofs.refs.pack.Tie as tie
-use Rattle.evaluator.proofs.refs.pack.Reads as reads
-use Rattle.evaluator.proofs.refs.pack.Lts as lts
-use Rattle.evaluator.proofs.RefLaws as laws
+use Rattle.values.proofs.refs.pack.Statement.{statement}
+use Rattle.values.proofs.refs.pack.Tie as tie
+use Rattle.values.proofs.refs.pack.Reads as reads
+use Rattle.values.proofs.refs.pack.Lts as lts
+use Rattle.values.proofs.RefLaws as laws
 
 returns : tie.Need-returns
 returns c = search laws.pack-object

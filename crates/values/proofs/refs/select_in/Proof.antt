@@ -1,10 +1,10 @@
 use borrow.Author.Needs.{needs}
-use Rattle.evaluator.proofs.refs.select_in.Statement.{statement}
-use Rattle.evaluator.proofs.refs.select_in.Tie as tie
-use Rattle.evaluator.proofs.refs.select_in.Reads as reads
-use Rattle.evaluator.proofs.refs.select_in.Lts as lts
+use Rattle.values.proofs.refs.select_in.Statement.{statement}
+use Rattle.values.proofs.refs.select_in.Tie as tie
+use Rattle.values.proofs.refs.select_in.Reads as reads
+use Rattle.values.proofs.refs.select_in.Lts as lts
 use native.Mathlib.Omega.{arith}
-use Rattle.evaluator.proofs.RefLaws as laws
+use Rattle.values.proofs.RefLaws as laws
 use Prim.Native.Nat.{_+_, _*_, _/_, _%_}
 
 returns : tie.Need-returns
