@@ -22,6 +22,7 @@ use Rattle.values.specs.Layout.{valueOf, Holds}
 use Rattle.maker.specs.Laying.{valuesFrom, PartsHeld}
 use Rattle.values.proofs.Steps.{one-block, object-mark, object-undet, mark-object, mark-mark, mark-undet, undet-object, undet-mark, undet-undet}
 use Rattle.values.specs.Refs.{refFrom, refIn}
+use Rattle.values.proofs.RefLaws.{codeIn, code-from}
 use Rattle.evaluator.specs.State.{apartOf, otherOf, OpenCall, slotAt, HeldOlder, heldIn, FrameHolds, frameIn, variableOf, refAt, argsAt, baseAt, callAt, callIn, CallHolds, CallsHold, traceIn, sameOf, metOf}
 use Rattle.evaluator.specs.declared.frame.Held.the-variants.{Is, Absent}
 use Rattle.evaluator.specs.declared.frame.Frame.{Frame}
@@ -99,25 +100,11 @@ value-same W (Object b i) h = sym (eq-eqb i i refl) ∙ one-block W b i b i (h .
 value-same W (Mark k) h = sym (eq-eqb k k refl) ∙ mark-mark W (Mark k) (Mark k) k k refl refl
 value-same W Undetermined h = undet-undet W Undetermined Undetermined refl refl
 
--- the code of a value in its block; a value of block b, or a leaf
-abbrev codeIn : ValueRef → ℕ
-codeIn (Object b i) = i
-codeIn (Mark k) = 193 + k
-codeIn Undetermined = 192
-
+-- a value of block b, or a leaf
 abbrev OfBlock : ℕ → ValueRef → Type 0
 OfBlock b (Object c i) = c ≡ b
 OfBlock b (Mark k) = Unit {0}
 OfBlock b Undetermined = Unit {0}
-
-code-from : (b c : ℕ) → codeIn (refFrom b c) ≡ c
-unfolding refFrom
-code-from b c = go (ltb c 192) (eqb c 192) refl refl
-  where
-    go : (p q : Bool) → ltb c 192 ≡ p → eqb c 192 ≡ q → codeIn (cond p (Object b c) (cond q Undetermined (Mark (c - 193)))) ≡ c
-    go true q ep eq = refl
-    go false true ep eq = sym (eqb-true c 192 eq)
-    go false false ep eq = omega (arith, ltb-false c 192 ep, eqb-false c 192 eq)
 
 from-block : (b d c : ℕ) → b ≡ d → OfBlock d (refFrom b c)
 unfolding refFrom
