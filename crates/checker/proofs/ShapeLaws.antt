@@ -1,10 +1,12 @@
 -- specs/Shapes at each return of the code.
 use mathlib.Core.Path.{_≡_}
 use mathlib.Core.List.{List}
-use Prim.Native.Nat.{ℕ, _+_, _<_, _≤_}
+use Prim.Native.Nat.{ℕ, _+_, _-_, _<_, _≤_}
+use native.Mathlib.Omega.{arith}
 use lib.ListN.{getD}
 use borrow.Author.Tests.{ne-eqb, lt-ltb, le-ltb}
 use Rattle.classes.specs.Figures.{tableSize}
+use Rattle.checker.specs.declared.shape.Shape.{Shape}
 use Rattle.checker.specs.declared.shape.Shape.the-variants.{This, Result, Parameter, Field, Call, New, Nothing}
 use Rattle.checker.specs.Shapes.{byteOf, shapeOf, shapeAt}
 
@@ -15,35 +17,40 @@ module _ (B : List ℕ) (at : ℕ) where
   pub byte-past : tableSize ≤ at → 0 ≡ byteOf B at
   byte-past h = rw (le-ltb at tableSize h)
 
+-- ---- by the first byte
+module _ (b k n at : ℕ) where
+  pub shape-this : b ≡ 0x40 → This (at + 1) ≡ shapeOf b k n at
+  shape-this e = rw e
+
+  pub shape-result : b ≡ 0x41 → Result (at + 1) ≡ shapeOf b k n at
+  shape-result e = rw e
+
+  pub shape-parameter : b ≡ 0x42 → Parameter k (at + 2) ≡ shapeOf b k n at
+  shape-parameter e = rw e
+
+  pub shape-field : b ≡ 0x43 → Field k (at + 2) ≡ shapeOf b k n at
+  shape-field e = rw e
+
+  pub shape-call : b ≡ 0x44 → Call k n (at + 3) ≡ shapeOf b k n at
+  shape-call e = rw e
+
+  pub shape-new : b ≡ 0x45 → New k n (at + 3) ≡ shapeOf b k n at
+  shape-new e = rw e
+
+  pub shape-none : (b ≡ 0x40 → ⊥) → (b ≡ 0x41 → ⊥) → (b ≡ 0x42 → ⊥) → (b ≡ 0x43 → ⊥) → (b ≡ 0x44 → ⊥) → (b ≡ 0x45 → ⊥) → Nothing ≡ shapeOf b k n at
+  shape-none p q r s t u = rw (ne-eqb _ _ p, ne-eqb _ _ q, ne-eqb _ _ r, ne-eqb _ _ s, ne-eqb _ _ t, ne-eqb _ _ u)
+
+-- ---- by the place
+module _ (B : List ℕ) (at : ℕ) where
   pub shape-past : tableSize ≤ at → Nothing ≡ shapeAt B at
   unfolding shapeAt
   shape-past h = rw (le-ltb at tableSize h)
 
-  module _ (h : at < tableSize) where
-    is : shapeAt B at ≡ shapeOf (getD B at 0) (byteOf B (at + 1)) (byteOf B (at + 2)) at
-    unfolding shapeAt
-    is = rw (lt-ltb at tableSize h)
+  -- the last two places
+  pub shape-end : at < tableSize → (k : ℕ) → k ≡ byteOf B (at + 1) → (n : ℕ) → n ≡ byteOf B (at + 2) → (r : Shape) → r ≡ shapeOf (getD B at 0) k n at → r ≡ shapeAt B at
+  unfolding shapeAt
+  shape-end h k ek n en r e = rw (lt-ltb at tableSize h, ← ek, ← en) e
 
-    pub shape-this : getD B at 0 ≡ 0x40 → This (at + 1) ≡ shapeAt B at
-    shape-this b = rw (is, b)
-
-    pub shape-result : getD B at 0 ≡ 0x41 → Result (at + 1) ≡ shapeAt B at
-    shape-result b = rw (is, b)
-
-    module _ (k : ℕ) (ek : k ≡ byteOf B (at + 1)) where
-      pub shape-parameter : getD B at 0 ≡ 0x42 → Parameter k (at + 2) ≡ shapeAt B at
-      shape-parameter b = rw (is, b, ← ek)
-
-      pub shape-field : getD B at 0 ≡ 0x43 → Field k (at + 2) ≡ shapeAt B at
-      shape-field b = rw (is, b, ← ek)
-
-      module _ (n : ℕ) (en : n ≡ byteOf B (at + 2)) where
-        pub shape-call : getD B at 0 ≡ 0x44 → Call k n (at + 3) ≡ shapeAt B at
-        shape-call b = rw (is, b, ← ek, ← en)
-
-        pub shape-new : getD B at 0 ≡ 0x45 → New k n (at + 3) ≡ shapeAt B at
-        shape-new b = rw (is, b, ← ek, ← en)
-
-    pub shape-none : (getD B at 0 ≡ 0x40 → ⊥) → (getD B at 0 ≡ 0x41 → ⊥) → (getD B at 0 ≡ 0x42 → ⊥) → (getD B at 0 ≡ 0x43 → ⊥)
-        → (getD B at 0 ≡ 0x44 → ⊥) → (getD B at 0 ≡ 0x45 → ⊥) → Nothing ≡ shapeAt B at
-    shape-none a b c d e f = rw (is, ne-eqb _ _ a, ne-eqb _ _ b, ne-eqb _ _ c, ne-eqb _ _ d, ne-eqb _ _ e, ne-eqb _ _ f)
+  pub shape-in : at < tableSize - 2 → (r : Shape) → r ≡ shapeOf (getD B at 0) (getD B (at + 1) 0) (getD B (at + 2) 0) at → r ≡ shapeAt B at
+  shape-in h r e =
+      shape-end (omega arith) (getD B (at + 1) 0) (byte-in B (at + 1) (omega arith)) (getD B (at + 2) 0) (byte-in B (at + 2) (omega arith)) r e
