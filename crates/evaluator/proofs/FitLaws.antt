@@ -61,13 +61,13 @@ module _ (W : List ℕ) (f : Frame) (tr : List ℕ) (top left d sp : ℕ) where
 
 -- ---- after an evaluation
 module _ (T W : List ℕ) (f : Frame) (tr : List ℕ) (top at left d sp fuel : ℕ) (W1 : List ℕ) (o : Out) (ev : Evaluates T W f tr top at left d sp fuel W1 o) where
-  pub list-later : (n : ℕ) → ListFits W f tr top left d sp n → (n ≡ 0 → ⊥) → ListFits W1 f tr top left d (sp + 1) (n - 1)
-  list-later n h nz =
+  pub list-later : (n b : ℕ) → ListFits W f tr top left d sp n → (n ≡ 0 → ⊥) → sp ≤ b → b ≤ sp + 1 → ListFits W1 f tr top left d b (n - 1)
+  list-later n b h nz from to =
       let r = h .room in
       let l = h .few in
       record {
-        frame = frame-up W1 sp (sp + 1) (omega arith) f (frame-kept W W1 sp (ev .kept) f (h .frame));
-        trace = trace-up W1 sp (sp + 1) (omega arith) tr top (trace-kept W W1 sp (ev .kept) tr top (h .trace));
+        frame = frame-up W1 sp b from f (frame-kept W W1 sp (ev .kept) f (h .frame));
+        trace = trace-up W1 sp b from tr top (trace-kept W W1 sp (ev .kept) tr top (h .trace));
         calls = h .calls;
         few = omega arith;
         room = omega (arith, nz);

@@ -90,34 +90,34 @@ module _ (W : List ℕ) (k : ℕ) (l : Listed) (n sp : ℕ) where
       }
 
 -- ---- a new object of the values on the stack
-module _ (W S : List ℕ) (c n sp next : ℕ) (h : PartsReady W S n sp next) (ps : List Slot) (ep : ps ≡ slotsOf (refAt S sp) (refAt S (sp + 1)) (refAt S (sp + 2)) (refAt S (sp + 3))) where
+module _ (W S : List ℕ) (c n sp dst next : ℕ) (h : PartsReady W S n sp dst next) (ps : List Slot) (ep : ps ≡ slotsOf (refAt S sp) (refAt S (sp + 1)) (refAt S (sp + 2)) (refAt S (sp + 3))) where
   listed : listAt S sp next ≡ Values (refAt S sp) (refAt S (sp + 1)) (refAt S (sp + 2)) (refAt S (sp + 3)) next (fuelOf S)
   listed = list-values S sp next (λ z. let a = h .after in omega arith)
 
   pub parts-ready : PartsHeld W ps n
-  parts-ready = finish-held W c (listAt S sp next) n sp (refAt S sp) (refAt S (sp + 1)) (refAt S (sp + 2)) (refAt S (sp + 3)) next (fuelOf S) listed ps ep (h .older)
+  parts-ready = finish-held W c (listAt S sp next) n dst (refAt S sp) (refAt S (sp + 1)) (refAt S (sp + 2)) (refAt S (sp + 3)) next (fuelOf S) listed ps ep (h .older)
 
-  module _ (W′ : List ℕ) (o : Made) (m : MadeIs W (make c (valuesFrom W ps 0 n)) sp W′ o) where
-    pub made-large : (S′ : List ℕ) (r : ℕ) → o ≡ made.TooLarge → r ≡ 0 → S′ ≡ set S 275 3 → FinishStep W S c n sp next W′ S′ r
+  module _ (W′ : List ℕ) (o : Made) (m : MadeIs W (make c (valuesFrom W ps 0 n)) dst W′ o) where
+    pub made-large : (S′ : List ℕ) (r : ℕ) → o ≡ made.TooLarge → r ≡ 0 → S′ ≡ set S 275 3 → FinishStep W S c n sp dst next W′ S′ r
     made-large S′ r eo er es = record {
       stack = stop-stack sp 3 S S S′ r (er, es) (stacked-none sp S) (let l = h .room in omega arith);
-      runs = subst (Finishes W c (listAt S sp next) n sp W′) (sym (stop-is sp 3 S S S′ r (er, es) (h .full) TooLarge too-large-is))
-          (finish-large W c (listAt S sp next) n sp (refAt S sp) (refAt S (sp + 1)) (refAt S (sp + 2)) (refAt S (sp + 3)) next (fuelOf S) listed ps ep W′ o m eo);
+      runs = subst (Finishes W c (listAt S sp next) n dst W′) (sym (stop-is sp 3 S S S′ r (er, es) (h .full) TooLarge too-large-is))
+          (finish-large W c (listAt S sp next) n dst (refAt S sp) (refAt S (sp + 1)) (refAt S (sp + 2)) (refAt S (sp + 3)) next (fuelOf S) listed ps ep W′ o m eo);
     }
 
     module _ (v : ValueRef) (eo : o ≡ made.Value v) where
       pub made-small : Small v
-      made-small = small-held W′ (sp + 1) v (subst (MadeHeld W′) eo (m .held)) (subst (MadePlace sp) eo (m .place)) (let l = h .room in omega arith)
+      made-small = small-held W′ (dst + 1) v (subst (MadeHeld W′) eo (m .held)) (subst (MadePlace dst) eo (m .place)) (let l = h .low in omega arith)
 
-      pub made-value : (x : ℕ) → refIn x ≡ v → FinishStep W S c n sp next W′ (set S sp x) next
+      pub made-value : (x : ℕ) → refIn x ≡ v → FinishStep W S c n sp dst next W′ (set S sp x) next
       made-value x ex = record {
         stack = put-stack sp S x (h .room) S (stacked-none sp S);
-        runs = subst (Finishes W c (listAt S sp next) n sp W′) (sym (put-out sp S x (h .room) (h .full) next (λ z. let a = h .after in omega arith) ∙ ap (λ (u : ValueRef). Value u next (fuelOf S)) ex))
-            (finish-value W c (listAt S sp next) n sp (refAt S sp) (refAt S (sp + 1)) (refAt S (sp + 2)) (refAt S (sp + 3)) next (fuelOf S) listed ps ep W′ o m v eo);
+        runs = subst (Finishes W c (listAt S sp next) n dst W′) (sym (put-out sp S x (h .room) (h .full) next (λ z. let a = h .after in omega arith) ∙ ap (λ (u : ValueRef). Value u next (fuelOf S)) ex))
+            (finish-value W c (listAt S sp next) n dst (refAt S sp) (refAt S (sp + 1)) (refAt S (sp + 2)) (refAt S (sp + 3)) next (fuelOf S) listed ps ep W′ o m v eo);
       }
 
 -- ---- the same without parts
-module _ (W S : List ℕ) (c n sp next : ℕ) (h : PartsReady W S n sp next) (z : n ≡ 0) (W′ : List ℕ) (o : Made) (m : MadeIs W (make c []) sp W′ o) where
+module _ (W S : List ℕ) (c n sp dst next : ℕ) (h : PartsReady W S n sp dst next) (z : n ≡ 0) (W′ : List ℕ) (o : Made) (m : MadeIs W (make c []) dst W′ o) where
   abbrev parts : List Slot
   parts = slotsOf (refAt S sp) (refAt S (sp + 1)) (refAt S (sp + 2)) (refAt S (sp + 3))
 
@@ -125,18 +125,18 @@ module _ (W S : List ℕ) (c n sp next : ℕ) (h : PartsReady W S n sp next) (z 
   unfolding valuesFrom
   no-values = rw z
 
-  made-of-none : MadeIs W (make c (valuesFrom W parts 0 n)) sp W′ o
-  made-of-none = subst (λ (vs : List Graph). MadeIs W (make c vs) sp W′ o) (sym no-values) m
+  made-of-none : MadeIs W (make c (valuesFrom W parts 0 n)) dst W′ o
+  made-of-none = subst (λ (vs : List Graph). MadeIs W (make c vs) dst W′ o) (sym no-values) m
 
-  pub bare-large : (S′ : List ℕ) (r : ℕ) → o ≡ made.TooLarge → r ≡ 0 → S′ ≡ set S 275 3 → FinishStep W S c n sp next W′ S′ r
-  bare-large S′ r eo er es = made-large W S c n sp next h parts refl W′ o made-of-none S′ r eo er es
+  pub bare-large : (S′ : List ℕ) (r : ℕ) → o ≡ made.TooLarge → r ≡ 0 → S′ ≡ set S 275 3 → FinishStep W S c n sp dst next W′ S′ r
+  bare-large S′ r eo er es = made-large W S c n sp dst next h parts refl W′ o made-of-none S′ r eo er es
 
   module _ (v : ValueRef) (eo : o ≡ made.Value v) where
     pub bare-small : Small v
-    bare-small = made-small W S c n sp next h parts refl W′ o made-of-none v eo
+    bare-small = made-small W S c n sp dst next h parts refl W′ o made-of-none v eo
 
-    pub bare-value : (x : ℕ) → refIn x ≡ v → FinishStep W S c n sp next W′ (set S sp x) next
-    bare-value x ex = made-value W S c n sp next h parts refl W′ o made-of-none v eo x ex
+    pub bare-value : (x : ℕ) → refIn x ≡ v → FinishStep W S c n sp dst next W′ (set S sp x) next
+    bare-value x ex = made-value W S c n sp dst next h parts refl W′ o made-of-none v eo x ex
 
 -- ---- why a run stopped, and what it gives
 module _ (s : ℕ) where

@@ -1,3 +1,4 @@
+pub mod LimitLaws
 pub mod Keeping
 pub mod StateLaws
 pub mod Given

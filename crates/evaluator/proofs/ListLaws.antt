@@ -17,7 +17,7 @@ use Rattle.cofj.specs.Running as language
 use Rattle.cofj.specs.Running.{Outcome, value, stopped, _then_, orStuck, eval, evals, sized}
 use Rattle.classes.proofs.Zones.{total-at}
 use Rattle.values.specs.declared.ValueRef.{ValueRef}
-use Rattle.values.specs.Layout.{valueOf}
+use Rattle.values.specs.Layout.{valueOf, Low}
 use Rattle.values.specs.Operations.{answerIn, AnswerHeld, AnswerLow, Chosen}
 use Rattle.maker.specs.Laying.{valuesFrom}
 use Rattle.evaluator.specs.declared.Stop.{Stop}
@@ -28,7 +28,7 @@ use Rattle.evaluator.specs.declared.frame.Frame.{Frame}
 use Rattle.evaluator.specs.State.{Older, slotAt, PartsOlder, Kept, frameIn, traceIn}
 use Rattle.evaluator.specs.Answers.{Listed, Values, Stops, stopOf, slotsOf, frontOf, listIn, ListOlder, ListNext, ShowsAll, Finishes}
 use Rattle.evaluator.specs.Evaluation.{Tabled, ReadsAll, Reads, evalIn, evalsIn, ListFits, Evaluates, Fields, Lists, News}
-use Rattle.evaluator.proofs.Keeping.{kept-none, kept-then, value-kept, older-kept, older-up, frame-same, trace-same}
+use Rattle.evaluator.proofs.Keeping.{kept-none, kept-then, value-kept, older-kept, older-up, parts-up, frame-same, trace-same}
 use Rattle.evaluator.proofs.Standing.{first-reads, others-read, also-end}
 use Rattle.evaluator.proofs.Given.{going-on, halted, given, given-next, given-older}
 
@@ -129,15 +129,17 @@ module _ (T W : List ℕ) (f : Frame) (tr : List ℕ) (top at left d sp fuel n :
           next = tt;
         }
 
-    module _ (v : ValueRef) (at1 fuel1 : ℕ) (eo : o ≡ Value v at1 fuel1) (W2 : List ℕ) (l : Listed) (li : Lists T W1 f tr top at1 left d (sp + 1) fuel1 (n - 1) W2 l) where
+    -- the others from block b on, which is sp if the first does not lie there, or the next
+    module _ (v : ValueRef) (at1 fuel1 : ℕ) (eo : o ≡ Value v at1 fuel1) (b : ℕ) (from : sp ≤ b) (to : b ≤ sp + 1) (lv : Low b v)
+        (W2 : List ℕ) (l : Listed) (li : Lists T W1 f tr top at1 left d b fuel1 (n - 1) W2 l) where
       pub list-more : (x : Listed) → x ≡ frontOf v l → Lists T W f tr top at left d sp fuel n W2 x
       list-more x ex = subst (Lists T W f tr top at left d sp fuel n W2) (sym ex) (record { kept = kept-both; older = older-all l (li .older); is = shows })
         where
           kept-both : Kept sp W W2
-          kept-both = kept-then sp (sp + 1) W W1 W2 (omega arith) (ev .kept) (li .kept)
+          kept-both = kept-then sp b W W1 W2 (omega arith) (ev .kept) (li .kept)
 
-          first-older : Older W1 (sp + 1) v
-          first-older = given-older T W f tr top at left d sp fuel W1 o ev v at1 fuel1 eo
+          first-older : Older W1 b v
+          first-older = record { held = given-older T W f tr top at left d sp fuel W1 o ev v at1 fuel1 eo .held; low = lv }
 
           suc-n : suc (n - 1) ≡ n
           suc-n = omega (arith, nz)
@@ -145,24 +147,23 @@ module _ (T W : List ℕ) (f : Frame) (tr : List ℕ) (top at left d sp fuel n :
           few : n - 1 ≤ 3
           few = let h = fit .few in omega arith
 
-          older-all : (y : Listed) → ListOlder W2 (sp + 1 + (n - 1)) (n - 1) y → ListOlder W2 (sp + n) n (frontOf v y)
-          older-all (Values a b c e q k) ps =
-              let up : sp + 1 + (n - 1) ≡ sp + n = omega (arith, nz) in
-              subst (PartsOlder W2 (sp + n) (slotsOf v a b c)) suc-n
-              (front-older W2 (sp + n) v a b c e (n - 1) few (older-up W2 (sp + 1) (sp + n) (omega (arith, nz)) v (older-kept W1 W2 (sp + 1) (li .kept) v first-older))
-              (subst (λ (z : ℕ). PartsOlder W2 z (slotsOf a b c e) (n - 1)) up ps))
+          older-all : (y : Listed) → ListOlder W2 (b + (n - 1)) (n - 1) y → ListOlder W2 (sp + n) n (frontOf v y)
+          older-all (Values x y z e q k) ps =
+              subst (PartsOlder W2 (sp + n) (slotsOf v x y z)) suc-n
+              (front-older W2 (sp + n) v x y z e (n - 1) few (older-up W2 b (sp + n) (omega (arith, nz)) v (older-kept W1 W2 b (li .kept) v first-older))
+              (parts-up W2 (b + (n - 1)) (sp + n) (omega (arith, nz)) (slotsOf x y z e) (n - 1) ps))
           older-all (Stops s k) ps = tt
 
           -- what the front gives, of what the others give
           front-in : (y : Listed) → listIn W2 n (frontOf v y) ≡ (listIn W2 (n - 1) y then λ vs n″. value (valueOf W1 v ∷ vs) n″)
-          front-in (Values a b c e q k) =
-              ap (λ (z : List Graph). value z k)
-              (ap (valuesFrom W2 (slotsOf v a b c) 0) (sym suc-n) ∙ front-values W2 v a b c e (n - 1) few
-              ∙ ap (λ (g : Graph). g ∷ valuesFrom W2 (slotsOf a b c e) 0 (n - 1)) (value-kept W1 W2 (sp + 1) (li .kept) v first-older))
+          front-in (Values x y z e q k) =
+              ap (λ (u : List Graph). value u k)
+              (ap (valuesFrom W2 (slotsOf v x y z) 0) (sym suc-n) ∙ front-values W2 v x y z e (n - 1) few
+              ∙ ap (λ (g : Graph). g ∷ valuesFrom W2 (slotsOf x y z e) 0 (n - 1)) (value-kept W1 W2 b (li .kept) v first-older))
           front-in (Stops s k) = refl
 
           front-next : (y : Listed) (p q : ℕ) → p ≡ q → ListNext y p → ListNext (frontOf v y) q
-          front-next (Values a b c e z k) p q h g = g ∙ h
+          front-next (Values x y u e z k) p q h g = g ∙ h
           front-next (Stops s k) p q h g = tt
 
           shows : (t : Table) (es : Exprs) → ReadsAll T left at t es → count es ≡ n

@@ -72,7 +72,7 @@ module _ (W S : List ℕ) (fuel : ℕ) (b : Bare S fuel) where
   unfolding traceIn
   trace-none = λ i. traceIn W S (b .top i)
 
-  pub main-runnable : 65520 ≤ length W → Runnable W S 6 16 0
+  pub main-runnable : 65520 ≤ length W → Runnable W S 134 0
   main-runnable l =
       let a = b .count in
       let t = b .top in
@@ -92,9 +92,10 @@ module _ (W S : List ℕ) (fuel : ℕ) (b : Bare S fuel) where
           room = omega arith;
           long = l;
         };
+        room = omega arith;
       }
 
-  module _ (T W′ S′ : List ℕ) (r : ℕ) (ev : EvalStep T W S 25361 6 16 0 W′ S′ r) where
+  module _ (T W′ S′ : List ℕ) (r : ℕ) (ev : EvalStep T W S 25361 134 0 W′ S′ r) where
     pub fuel-fits : fuel < 65536 → fuelOf S′ < 65536
     fuel-fits l = let s = ev .stack .spent in let f = b .fuel-is in omega arith
 

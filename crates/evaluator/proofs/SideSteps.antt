@@ -1,6 +1,6 @@
 -- The two sides of a method on the stack: the frame set, the side run, the frame set back; one law for each return of the code.
 -- Not here: what the sides mean (BodyLaws), the choice of one (CallSteps).
-use Prim.Native.Nat.{ℕ, _+_, _-_, _*_, _≤_, _<_}
+use Prim.Native.Nat.{ℕ, _+_, _-_, _*_, _/_, _≤_, _<_}
 use native.Mathlib.Omega.{arith}
 use native.Mathlib.Decide.{decLt, ℕ-discrete}
 use mathlib.Core.Path.{_≡_, refl, sym, ap, _∙_, subst}
@@ -18,9 +18,11 @@ use Rattle.evaluator.specs.declared.frame.Held.{Held}
 use Rattle.evaluator.specs.declared.frame.Held.the-variants.{Is, Absent}
 use Rattle.evaluator.specs.State.{FrameHolds, CallOlder, refAt, argsAt, baseAt, callAt, traceIn}
 use Rattle.evaluator.specs.Stack.{fuelOf, topOf, heldThis, heldMark, heldArgs, frameAt, Stacked, stopAt, outAt, FrameSet, CallSet}
-use Rattle.evaluator.specs.Evaluation.{Evaluates}
+use Rattle.evaluator.specs.Limits.{depthOf, blockOf, bodyLimits}
+use Rattle.evaluator.specs.Evaluation.{Fits, Evaluates}
 use Rattle.evaluator.specs.Calling.{RunsRight, RunsLeft}
 use Rattle.evaluator.specs.Steps.{Runnable, BodyRunnable, EvalStep, RightStep, LeftStep}
+use Rattle.evaluator.proofs.LimitLaws.{of-equal, body-nest, body-depth, body-block}
 use Rattle.evaluator.proofs.BodyLaws.{Pushed, rightFrame, leftFrame, trace-below, right-halt, right-value, left-halt, left-value}
 use Rattle.evaluator.proofs.Given.{given-older}
 use Rattle.evaluator.proofs.FitLaws as fits
@@ -28,18 +30,24 @@ use Rattle.evaluator.proofs.StackLaws.{out-stop, out-value, this-held, 
 use Rattle.evaluator.proofs.StepLaws.{evaluates-on}
 
 -- ---- what a side asks of the numbers
-module _ (W S : List ℕ) (next n d sp : ℕ) (run : BodyRunnable W S next n d sp) where
+module _ (W S : List ℕ) (next n lim sp : ℕ) (run : BodyRunnable W S next n lim sp) where
   pub body-full : length S ≡ 336
   body-full = run .placed .full
 
   pub body-short : sp < 270
-  body-short = let r = run .fits .room in omega arith
+  body-short = let r = run .room in omega (arith, run .deep)
 
   pub body-index : sp < 336
   body-index = let l = body-short in omega arith
 
   pub body-top : topOf S < 16
-  body-top = fits.push-room W S (topOf S) (refAt S sp) (argsAt S (sp + 1)) n d sp (run .fits)
+  body-top = fits.push-room W S (topOf S) (refAt S sp) (argsAt S (sp + 1)) n (depthOf lim - 1) (blockOf lim) (run .fits)
+
+  pub body-limit : lim < 16777216
+  body-limit = let r = run .fits .room in omega arith
+
+  pub body-small : lim / 256 < 65536
+  body-small = let r = run .fits .room in omega arith
 
   body-mark : topOf S < 63
   body-mark = let l = body-top in omega arith
@@ -68,9 +76,9 @@ frame-back S S2 S3 fb p l h = go (ℕ-discrete p 276) (ℕ-discrete p 277)
     go (no a) (no b) = at-place 278 (omega (arith, a, b)) (fb .mark)
 
 -- ---- the right side
-module _ (T W S : List ℕ) (next d sp n i x : ℕ) (run : BodyRunnable W S next n d sp) (xp : 0 < x) (xl : x < 64) (S1 : List ℕ) (fs : FrameSet S sp n x S1) where
+module _ (T W S : List ℕ) (next lim sp n i x : ℕ) (run : BodyRunnable W S next n lim sp) (xp : 0 < x) (xl : x < 64) (S1 : List ℕ) (fs : FrameSet S sp n x S1) where
   short : sp < 270
-  short = body-short W S next n d sp run
+  short = body-short W S next n lim sp run
 
   right-frame : frameAt S1 ≡ rightFrame (refAt S sp) (x - 1) (argsAt S (sp + 1)) n
   right-frame =
@@ -89,9 +97,9 @@ module _ (T W S : List ℕ) (next d sp n i x : ℕ) (run : BodyRunnable W S next
   right-trace : traceIn W S1 (topOf S1) ≡ traceIn W S (topOf S)
   right-trace = ap (traceIn W S1) right-top ∙ trace-below W S S1 (topOf S) right-calls
 
-  pub right-run : Runnable W S1 6 d (sp + 4)
-  right-run =
-      let f = fits.right-fit W S (topOf S) (refAt S sp) (argsAt S (sp + 1)) n d sp (run .fits) (x - 1) (omega arith) in
+  pub right-run : (l : ℕ) → l ≡ bodyLimits lim → Runnable W S1 l (sp + 4)
+  right-run k ek = subst (λ (y : ℕ). Runnable W S1 y (sp + 4)) (sym ek) (
+      let f = fits.right-fit W S (topOf S) (refAt S sp) (argsAt S (sp + 1)) n (depthOf lim - 1) (blockOf lim) (run .fits) (x - 1) (omega arith) in
       let c = f .calls in
       let t = right-top in
       record {
@@ -103,49 +111,54 @@ module _ (T W S : List ℕ) (next d sp n i x : ℕ) (run : BodyRunnable W S next
           mark = let m = fs .mark in omega arith;
           calls = λ j l. let z = run .placed .calls j (omega arith) in let b = fs .above (283 + 3 * j) (omega arith) in omega arith;
         };
-        fits = record {
-          frame = subst (FrameHolds W (sp + 4)) (sym right-frame) (f .frame);
-          trace = record { call = λ j l. let k : j < topOf S = omega arith in subst (CallOlder W (sp + 4)) (sym (right-calls j k)) (f .trace .call j k) };
+        fits = of-equal (λ a d b. Fits W (frameAt S1) S1 (topOf S1) a d b) (sym (body-nest lim (run .deep))) (sym (body-depth lim (run .deep))) (sym (body-block lim (run .deep))) (record {
+          frame = subst (FrameHolds W (blockOf lim + 4)) (sym right-frame) (f .frame);
+          trace = record { call = λ j l. let k : j < topOf S = omega arith in subst (CallOlder W (blockOf lim + 4)) (sym (right-calls j k)) (f .trace .call j k) };
           calls = omega arith;
           room = f .room;
           long = f .long;
-        };
-      }
+        });
+        room = let q = run .room in omega (arith, run .deep, body-nest lim (run .deep), body-depth lim (run .deep));
+      })
 
-  module _ (at : ℕ) (ea : at ≡ rightOf T i) (W1 S2 : List ℕ) (r : ℕ) (ev : EvalStep T W S1 at 6 d (sp + 4) W1 S2 r) (S3 : List ℕ)
+  module _ (at : ℕ) (ea : at ≡ rightOf T i) (k : ℕ) (ek : k ≡ bodyLimits lim) (W1 S2 : List ℕ) (r : ℕ) (ran : EvalStep T W S1 at k (sp + 4) W1 S2 r) (S3 : List ℕ)
       (fb : FrameSet S2 (getD S 276 0) (getD S 277 0) (getD S 278 0) S3) where
-    right-evaluates : Evaluates T W (rightFrame (refAt S sp) (x - 1) (argsAt S (sp + 1)) n) S (topOf S) at 6 d (sp + 4) (fuelOf S) W1 (outAt S2 (sp + 4) r)
+    side : EvalStep T W S1 at (bodyLimits lim) (sp + 4) W1 S2 r
+    side = subst (λ (y : ℕ). EvalStep T W S1 at y (sp + 4) W1 S2 r) ek ran
+
+    right-evaluates : Evaluates T W (rightFrame (refAt S sp) (x - 1) (argsAt S (sp + 1)) n) S (topOf S) at 6 (depthOf lim - 1) (blockOf lim + 4) (fuelOf S) W1 (outAt S2 (sp + 4) r)
     right-evaluates =
-        subst (λ (u : ℕ). Evaluates T W (rightFrame (refAt S sp) (x - 1) (argsAt S (sp + 1)) n) S (topOf S) at 6 d (sp + 4) u W1 (outAt S2 (sp + 4) r))
+        subst (λ (u : ℕ). Evaluates T W (rightFrame (refAt S sp) (x - 1) (argsAt S (sp + 1)) n) S (topOf S) at 6 (depthOf lim - 1) (blockOf lim + 4) u W1 (outAt S2 (sp + 4) r))
         (fs .below 274 (omega arith))
-        (evaluates-on T W (rightFrame (refAt S sp) (x - 1) (argsAt S (sp + 1)) n) (frameAt S1) right-frame S S1 (topOf S) (topOf S1) right-trace at 6 d (sp + 4) (fuelOf S1) W1
-        (outAt S2 (sp + 4) r) (ev .runs))
+        (evaluates-on T W (rightFrame (refAt S sp) (x - 1) (argsAt S (sp + 1)) n) (frameAt S1) right-frame S S1 (topOf S) (topOf S1) right-trace at 6 (depthOf lim - 1) (blockOf lim + 4) (fuelOf S1) W1
+        (outAt S2 (sp + 4) r)
+        (of-equal (λ a d b. Evaluates T W (frameAt S1) S1 (topOf S1) at a d b (fuelOf S1) W1 (outAt S2 (sp + 4) r)) (body-nest lim (run .deep)) (body-depth lim (run .deep)) (body-block lim (run .deep)) (side .runs)))
 
     right-stack : Stacked sp S S3
     right-stack =
-        let s = ev .stack .spent in
+        let s = side .stack .spent in
         let a = fb .below 274 (omega arith) in
         let b = fs .below 274 (omega arith) in
         let t = right-top in
         record {
-          same = fb .same ∙ ev .stack .same ∙ fs .same;
-          below = λ p l. let z = short in fb .below p (omega arith) ∙ ev .stack .below p (omega arith) ∙ fs .below p (omega arith);
+          same = fb .same ∙ side .stack .same ∙ fs .same;
+          below = λ p l. let z = short in fb .below p (omega arith) ∙ side .stack .below p (omega arith) ∙ fs .below p (omega arith);
           above = λ p l m. by-place p l m (decLt p 279);
           spent = omega arith;
         }
       where
         by-place : (p : ℕ) → 276 ≤ p → p < 281 + 3 * topOf S → Dec (p < 279) → getD S3 p 0 ≡ getD S p 0
-        by-place p l m (no h) = let t = right-top in fb .above p (omega (arith, h)) ∙ ev .stack .above p l (omega arith) ∙ fs .above p (omega (arith, h))
+        by-place p l m (no h) = let t = right-top in fb .above p (omega (arith, h)) ∙ side .stack .above p l (omega arith) ∙ fs .above p (omega (arith, h))
         by-place p l m (yes h) = frame-back S S2 S3 fb p l h
 
-    pub right-stops : r ≡ 0 → RightStep T W S next d sp n i x W1 S3 0
+    pub right-stops : r ≡ 0 → RightStep T W S next lim sp n i x W1 S3 0
     right-stops z =
         let e : outAt S2 (sp + 4) r ≡ Halt (stopAt (getD S2 275 0)) (fuelOf S2) = out-stop S2 (sp + 4) r z in
         let q : outAt S3 sp 0 ≡ outAt S2 (sp + 4) r = out-stop S3 sp 0 refl ∙ (λ j. Halt (stopAt (fb .below 275 (omega arith) j)) (fb .below 274 (omega arith) j)) ∙ sym e in
         record {
           stack = right-stack;
-          runs = subst (RunsRight T W S (topOf S) (refAt S sp) (argsAt S (sp + 1)) n i next d sp (fuelOf S) (x - 1) W1) (sym q)
-              (right-halt T W S (topOf S) (refAt S sp) (argsAt S (sp + 1)) n i next d sp (fuelOf S) (x - 1) at ea W1 (outAt S2 (sp + 4) r) right-evaluates (stopAt (getD S2 275 0)) (fuelOf S2) e);
+          runs = subst (RunsRight T W S (topOf S) (refAt S sp) (argsAt S (sp + 1)) n i next (depthOf lim - 1) (blockOf lim) (fuelOf S) (x - 1) W1) (sym q)
+              (right-halt T W S (topOf S) (refAt S sp) (argsAt S (sp + 1)) n i next (depthOf lim - 1) (blockOf lim) (fuelOf S) (x - 1) at ea W1 (outAt S2 (sp + 4) r) right-evaluates (stopAt (getD S2 275 0)) (fuelOf S2) e);
         }
 
     module _ (nz : r ≡ 0 → ⊥) where
@@ -154,28 +167,28 @@ module _ (T W S : List ℕ) (next d sp n i x : ℕ) (run : BodyRunnable W S next
           out-value S2 (sp + 4) r nz
           ∙ ap (λ (q : ℕ). Value (refIn q) r (fuelOf S2)) (sym (fb .below (sp + 4) (let z = short in omega arith)))
 
-      pub right-ready : Holds W1 (refAt S3 (sp + 4)) × (240 * sp + 240 ≤ length W1)
+      pub right-ready : Holds W1 (refAt S3 (sp + 4)) × (240 * blockOf lim + 240 ≤ length W1)
       right-ready =
           let z = run .fits .room in (
-            given-older T W (rightFrame (refAt S sp) (x - 1) (argsAt S (sp + 1)) n) S (topOf S) at 6 d (sp + 4) (fuelOf S) W1 (outAt S2 (sp + 4) r) right-evaluates (refAt S3 (sp + 4)) r (fuelOf S2) side-value .held,
+            given-older T W (rightFrame (refAt S sp) (x - 1) (argsAt S (sp + 1)) n) S (topOf S) at 6 (depthOf lim - 1) (blockOf lim + 4) (fuelOf S) W1 (outAt S2 (sp + 4) r) right-evaluates (refAt S3 (sp + 4)) r (fuelOf S2) side-value .held,
             omega (arith, run .fits .long, right-evaluates .kept .same),
           )
 
-      pub right-gives : (W2 : List ℕ) (q : ℕ) → Gives W1 sp W2 (refIn q) (valueOf W1 (refAt S3 (sp + 4))) → RightStep T W S next d sp n i x W2 (set S3 sp q) next
+      pub right-gives : (W2 : List ℕ) (q : ℕ) → Gives W1 (blockOf lim) W2 (refIn q) (valueOf W1 (refAt S3 (sp + 4))) → RightStep T W S next lim sp n i x W2 (set S3 sp q) next
       right-gives W2 q g =
           let full : length S3 ≡ 336 = right-stack .same ∙ run .placed .full in
           record {
             stack = put-stack sp S3 q (let z = short in omega arith) S right-stack;
-            runs = subst (RunsRight T W S (topOf S) (refAt S sp) (argsAt S (sp + 1)) n i next d sp (fuelOf S) (x - 1) W2)
+            runs = subst (RunsRight T W S (topOf S) (refAt S sp) (argsAt S (sp + 1)) n i next (depthOf lim - 1) (blockOf lim) (fuelOf S) (x - 1) W2)
                 (sym (put-out sp S3 q (let z = short in omega arith) full next (λ y. let z = run .after in omega arith) ∙ ap (Value (refIn q) next) (fb .below 274 (omega arith))))
-                (right-value T W S (topOf S) (refAt S sp) (argsAt S (sp + 1)) n i next d sp (fuelOf S) (x - 1) at ea W1 (outAt S2 (sp + 4) r) right-evaluates (refAt S3 (sp + 4)) r (fuelOf S2) W2 (refIn q) side-value g);
+                (right-value T W S (topOf S) (refAt S sp) (argsAt S (sp + 1)) n i next (depthOf lim - 1) (blockOf lim) (fuelOf S) (x - 1) at ea W1 (outAt S2 (sp + 4) r) right-evaluates (refAt S3 (sp + 4)) r (fuelOf S2) W2 (refIn q) side-value g);
           }
 
 -- ---- the left side: a call more is open, and the frame has no mark
-module _ (T W S : List ℕ) (next d sp m n i : ℕ) (run : BodyRunnable W S next n d sp) where
+module _ (T W S : List ℕ) (next lim sp m n i : ℕ) (run : BodyRunnable W S next n lim sp) where
   module _ (S0 : List ℕ) (cs : CallSet S (topOf S) m n sp S0) (S1 : List ℕ) (fs : FrameSet S0 sp n 0 S1) where
     low : sp < 270
-    low = body-short W S next n d sp run
+    low = body-short W S next n lim sp run
 
     below-same : (p : ℕ) → p < 276 → getD S1 p 0 ≡ getD S p 0
     below-same p l = fs .below p l ∙ cs .below p (omega arith)
@@ -212,28 +225,8 @@ module _ (T W S : List ℕ) (next d sp m n i : ℕ) (run : BodyRunnable W S next
             let en : getD S1 (282 + 3 * topOf S) 0 ≡ n = fs .above (282 + 3 * topOf S) (omega arith) ∙ cs .count in
             λ j. record { receiver = refIn (er j); name = em j; args = ea j; n = en j }
 
-    pub left-run : Runnable W S1 6 d (sp + 4)
-    left-run =
-        let f = fits.left-fit W S (topOf S) (refAt S sp) (argsAt S (sp + 1)) n d sp (run .fits) m S1 left-pushed in
-        let c = f .calls in
-        let t = left-top in
-        record {
-          placed = record {
-            full = fs .same ∙ cs .same ∙ run .placed .full;
-            frame = λ l. let b = fs .base in omega arith;
-            low = let b = fs .base in let z = low in omega arith;
-            bare = λ l. let b = fs .base in let z = low in absurd (omega arith);
-            mark = let k = fs .mark in omega arith;
-            calls = λ j l. call-low j (omega arith) (decLt j (topOf S));
-          };
-          fits = record {
-            frame = subst (FrameHolds W (sp + 4)) (sym left-frame) (f .frame);
-            trace = record { call = λ j l. f .trace .call j (omega arith) };
-            calls = omega arith;
-            room = f .room;
-            long = f .long;
-          };
-        }
+    pub left-run : (l : ℕ) → l ≡ bodyLimits lim → Runnable W S1 l (sp + 4)
+    left-run k ek = subst (λ (y : ℕ). Runnable W S1 y (sp + 4)) (sym ek) there
       where
         call-low : (j : ℕ) → j < topOf S + 1 → Dec (j < topOf S) → baseAt S1 j + 4 ≤ sp + 4
         call-low j l (yes h) = let z = run .placed .calls j h in let b = older-same (283 + 3 * j) (omega arith) (omega arith) in omega arith
@@ -241,15 +234,43 @@ module _ (T W S : List ℕ) (next d sp m n i : ℕ) (run : BodyRunnable W S next
             let e : topOf S ≡ j = omega (arith, h) in
             subst (λ (k : ℕ). baseAt S1 k + 4 ≤ sp + 4) e (let b : baseAt S1 (topOf S) ≡ sp = fs .above (283 + 3 * topOf S) (omega arith) ∙ cs .base in omega arith)
 
-    module _ (at : ℕ) (ea : at ≡ leftOf T i) (W1 S2 : List ℕ) (r : ℕ) (ev : EvalStep T W S1 at 6 d (sp + 4) W1 S2 r) (S3 : List ℕ)
+        there : Runnable W S1 (bodyLimits lim) (sp + 4)
+        there =
+            let f = fits.left-fit W S (topOf S) (refAt S sp) (argsAt S (sp + 1)) n (depthOf lim - 1) (blockOf lim) (run .fits) m S1 left-pushed in
+            let c = f .calls in
+            let t = left-top in
+            record {
+              placed = record {
+                full = fs .same ∙ cs .same ∙ run .placed .full;
+                frame = λ l. let b = fs .base in omega arith;
+                low = let b = fs .base in let z = low in omega arith;
+                bare = λ l. let b = fs .base in let z = low in absurd (omega arith);
+                mark = let k = fs .mark in omega arith;
+                calls = λ j l. call-low j (omega arith) (decLt j (topOf S));
+              };
+              fits = of-equal (λ a d b. Fits W (frameAt S1) S1 (topOf S1) a d b) (sym (body-nest lim (run .deep))) (sym (body-depth lim (run .deep))) (sym (body-block lim (run .deep))) (record {
+                frame = subst (FrameHolds W (blockOf lim + 4)) (sym left-frame) (f .frame);
+                trace = record { call = λ j l. f .trace .call j (omega arith) };
+                calls = omega arith;
+                room = f .room;
+                long = f .long;
+              });
+              room = let q = run .room in omega (arith, run .deep, body-nest lim (run .deep), body-depth lim (run .deep));
+            }
+
+    module _ (at : ℕ) (ea : at ≡ leftOf T i) (k : ℕ) (ek : k ≡ bodyLimits lim) (W1 S2 : List ℕ) (r : ℕ) (ran : EvalStep T W S1 at k (sp + 4) W1 S2 r) (S3 : List ℕ)
         (fb : FrameSet S2 (getD S 276 0) (getD S 277 0) (getD S 278 0) S3) where
       abbrev S4 : List ℕ
       S4 = set S3 279 (topOf S)
 
-      left-evaluates : Evaluates T W (leftFrame (refAt S sp) (argsAt S (sp + 1)) n) S1 (topOf S + 1) at 6 d (sp + 4) (fuelOf S) W1 (outAt S2 (sp + 4) r)
+      ev : EvalStep T W S1 at (bodyLimits lim) (sp + 4) W1 S2 r
+      ev = subst (λ (y : ℕ). EvalStep T W S1 at y (sp + 4) W1 S2 r) ek ran
+
+      left-evaluates : Evaluates T W (leftFrame (refAt S sp) (argsAt S (sp + 1)) n) S1 (topOf S + 1) at 6 (depthOf lim - 1) (blockOf lim + 4) (fuelOf S) W1 (outAt S2 (sp + 4) r)
       left-evaluates =
-          subst (λ (u : ℕ). Evaluates T W (leftFrame (refAt S sp) (argsAt S (sp + 1)) n) S1 (topOf S + 1) at 6 d (sp + 4) u W1 (outAt S2 (sp + 4) r)) (below-same 274 (omega arith))
-          (evaluates-on T W (leftFrame (refAt S sp) (argsAt S (sp + 1)) n) (frameAt S1) left-frame S1 S1 (topOf S + 1) (topOf S1) (ap (traceIn W S1) left-top) at 6 d (sp + 4) (fuelOf S1) W1 (outAt S2 (sp + 4) r) (ev .runs))
+          subst (λ (u : ℕ). Evaluates T W (leftFrame (refAt S sp) (argsAt S (sp + 1)) n) S1 (topOf S + 1) at 6 (depthOf lim - 1) (blockOf lim + 4) u W1 (outAt S2 (sp + 4) r)) (below-same 274 (omega arith))
+          (evaluates-on T W (leftFrame (refAt S sp) (argsAt S (sp + 1)) n) (frameAt S1) left-frame S1 S1 (topOf S + 1) (topOf S1) (ap (traceIn W S1) left-top) at 6 (depthOf lim - 1) (blockOf lim + 4) (fuelOf S1) W1 (outAt S2 (sp + 4) r)
+          (of-equal (λ a d b. Evaluates T W (frameAt S1) S1 (topOf S1) at a d b (fuelOf S1) W1 (outAt S2 (sp + 4) r)) (body-nest lim (run .deep)) (body-depth lim (run .deep)) (body-block lim (run .deep)) (ev .runs)))
 
       same-back : (p : ℕ) → p < 276 → getD S4 p 0 ≡ getD S2 p 0
       same-back p l = getD-set-other S3 279 p (topOf S) 0 (λ z. omega arith) ∙ fb .below p l
@@ -280,14 +301,14 @@ module _ (T W S : List ℕ) (next d sp m n i : ℕ) (run : BodyRunnable W S next
           by-place p l k (yes e) = subst (λ (q : ℕ). getD S4 q 0 ≡ getD S q 0) (sym e) (getD-set-same S3 279 (topOf S) 0 (omega (arith, full)))
           by-place p l k (no e) = getD-set-other S3 279 p (topOf S) 0 e ∙ beside p l k e (decLt p 279)
 
-      pub left-stops : r ≡ 0 → LeftStep T W S next d sp m n i W1 S4 0
+      pub left-stops : r ≡ 0 → LeftStep T W S next lim sp m n i W1 S4 0
       left-stops z =
           let e : outAt S2 (sp + 4) r ≡ Halt (stopAt (getD S2 275 0)) (fuelOf S2) = out-stop S2 (sp + 4) r z in
           let q : outAt S4 sp 0 ≡ outAt S2 (sp + 4) r = out-stop S4 sp 0 refl ∙ (λ j. Halt (stopAt (same-back 275 (omega arith) j)) (same-back 274 (omega arith) j)) ∙ sym e in
           record {
             stack = left-stack;
-            runs = subst (RunsLeft T W S (topOf S) (refAt S sp) (argsAt S (sp + 1)) n i next d sp (fuelOf S) m W1) (sym q)
-                (left-halt T W S (topOf S) (refAt S sp) (argsAt S (sp + 1)) n i next d sp (fuelOf S) m S1 left-pushed at ea W1 (outAt S2 (sp + 4) r) left-evaluates (stopAt (getD S2 275 0)) (fuelOf S2) e);
+            runs = subst (RunsLeft T W S (topOf S) (refAt S sp) (argsAt S (sp + 1)) n i next (depthOf lim - 1) (blockOf lim) (fuelOf S) m W1) (sym q)
+                (left-halt T W S (topOf S) (refAt S sp) (argsAt S (sp + 1)) n i next (depthOf lim - 1) (blockOf lim) (fuelOf S) m S1 left-pushed at ea W1 (outAt S2 (sp + 4) r) left-evaluates (stopAt (getD S2 275 0)) (fuelOf S2) e);
           }
 
       module _ (nz : r ≡ 0 → ⊥) where
@@ -296,20 +317,20 @@ module _ (T W S : List ℕ) (next d sp m n i : ℕ) (run : BodyRunnable W S next
             out-value S2 (sp + 4) r nz
             ∙ ap (λ (q : ℕ). Value (refIn q) r (fuelOf S2)) (sym (same-back (sp + 4) (let z = low in omega arith)))
 
-        pub left-ready : Holds W1 (refAt S4 (sp + 4)) × (topOf S < 63) × (240 * sp + 240 ≤ length W1)
+        pub left-ready : Holds W1 (refAt S4 (sp + 4)) × (topOf S < 63) × (240 * blockOf lim + 240 ≤ length W1)
         left-ready =
             let z = run .fits .room in (
-              given-older T W (leftFrame (refAt S sp) (argsAt S (sp + 1)) n) S1 (topOf S + 1) at 6 d (sp + 4) (fuelOf S) W1 (outAt S2 (sp + 4) r) left-evaluates (refAt S4 (sp + 4)) r (fuelOf S2) left-there .held,
-              body-mark W S next n d sp run,
+              given-older T W (leftFrame (refAt S sp) (argsAt S (sp + 1)) n) S1 (topOf S + 1) at 6 (depthOf lim - 1) (blockOf lim + 4) (fuelOf S) W1 (outAt S2 (sp + 4) r) left-evaluates (refAt S4 (sp + 4)) r (fuelOf S2) left-there .held,
+              body-mark W S next n lim sp run,
               omega (arith, run .fits .long, left-evaluates .kept .same),
             )
 
-        pub left-gives : (W2 : List ℕ) (q : ℕ) → Gives W1 sp W2 (refIn q) (close (topOf S) (valueOf W1 (refAt S4 (sp + 4)))) → LeftStep T W S next d sp m n i W2 (set S4 sp q) next
+        pub left-gives : (W2 : List ℕ) (q : ℕ) → Gives W1 (blockOf lim) W2 (refIn q) (close (topOf S) (valueOf W1 (refAt S4 (sp + 4)))) → LeftStep T W S next lim sp m n i W2 (set S4 sp q) next
         left-gives W2 q g =
             let full : length S4 ≡ 336 = left-stack .same ∙ run .placed .full in
             record {
               stack = put-stack sp S4 q (let z = low in omega arith) S left-stack;
-              runs = subst (RunsLeft T W S (topOf S) (refAt S sp) (argsAt S (sp + 1)) n i next d sp (fuelOf S) m W2)
+              runs = subst (RunsLeft T W S (topOf S) (refAt S sp) (argsAt S (sp + 1)) n i next (depthOf lim - 1) (blockOf lim) (fuelOf S) m W2)
                   (sym (put-out sp S4 q (let z = low in omega arith) full next (λ y. let z = run .after in omega arith) ∙ ap (Value (refIn q) next) (same-back 274 (omega arith))))
-                  (left-value T W S (topOf S) (refAt S sp) (argsAt S (sp + 1)) n i next d sp (fuelOf S) m S1 left-pushed at ea W1 (outAt S2 (sp + 4) r) left-evaluates (refAt S4 (sp + 4)) r (fuelOf S2) W2 (refIn q) left-there g);
+                  (left-value T W S (topOf S) (refAt S sp) (argsAt S (sp + 1)) n i next (depthOf lim - 1) (blockOf lim) (fuelOf S) m S1 left-pushed at ea W1 (outAt S2 (sp + 4) r) left-evaluates (refAt S4 (sp + 4)) r (fuelOf S2) W2 (refIn q) left-there g);
             }

@@ -1,6 +1,6 @@
 -- Expressions on the stack, calls apart: what the functions ask of one another, and one law for each of their returns.
 -- Not here: what they mean (EvalLaws, ListLaws), calls (CallSteps, SideSteps).
-use Prim.Native.Nat.{ℕ, _+_, _-_, _*_, _≤_, _<_}
+use Prim.Native.Nat.{ℕ, _+_, _-_, _*_, _/_, _%_, _≤_, _<_}
 use native.Mathlib.Omega.{arith}
 use native.Mathlib.Decide.{ℕ-discrete}
 use mathlib.Core.Path.{_≡_, refl, sym, ap, _∙_, subst}
@@ -21,11 +21,14 @@ use Rattle.values.specs.Refs.{refIn, answerOf, ChosenIn}
 use Rattle.evaluator.specs.declared.stack.Went.{Went}
 use Rattle.evaluator.specs.declared.stack.Went.the-variants as went
 use Rattle.evaluator.specs.declared.frame.Frame.{Frame}
-use Rattle.evaluator.specs.State.{refAt, argsAt, FrameHolds, CallOlder, TraceHolds, frameIn, traceIn}
+use Rattle.evaluator.specs.State.{Older, refAt, argsAt, FrameHolds, CallOlder, TraceHolds, frameIn, traceIn}
+use Rattle.evaluator.specs.Limits.{nestOf, depthOf, blockOf, pastOf}
 use Rattle.evaluator.specs.Answers.{Listed, Values, frontOf}
 use Rattle.evaluator.specs.Stack.{fuelOf, topOf, noArgs, heldArgs, frameAt, Framed, heldOf, nextOf, wentOf, Placed, Stacked, stopAt, outAt, listAt, Answered}
-use Rattle.evaluator.specs.Evaluation.{evalIn, evalsIn, ListFits, Evaluates, Fields, Lists, News}
-use Rattle.evaluator.specs.Steps.{Runnable, ListRunnable, PartsReady, EvalStep, FieldStep, ListStep, FinishStep, NewStep, CallStep}
+use Rattle.evaluator.specs.Evaluation.{evalIn, evalsIn, Fits, ListFits, Evaluates, Fields, Lists, News}
+use Rattle.evaluator.specs.Calling.{Calls}
+use Rattle.evaluator.specs.Steps.{Runnable, PartRunnable, ListRunnable, PartsReady, EvalStep, FieldStep, ListStep, FinishStep, NewStep, CallStep}
+use Rattle.evaluator.proofs.LimitLaws.{of-equal, inner-nest, inner-less, inner-depth, inner-block, After, past-after}
 use Rattle.evaluator.proofs.Given.{given-older}
 use Rattle.evaluator.proofs.LeafLaws.{finish-halt}
 use Rattle.evaluator.proofs.EvalLaws.{eval-zero, eval-nothing, eval-this, eval-res, eval-param, eval-at-field, eval-at-call, eval-at-new}
@@ -111,11 +114,11 @@ module _ (r : ℕ) (w : Went) (ew : w ≡ wentOf r) where
     pub went-on : x ≡ 0 → ⊥
     went-on z = went-not (went-is ∙ z)
 
-    pub eval-went : (T W S : List ℕ) (at left d sp : ℕ) (W1 S1 : List ℕ) → EvalStep T W S at left d sp W1 S1 r → EvalStep T W S at left d sp W1 S1 x
-    eval-went T W S at left d sp W1 S1 ev = subst (EvalStep T W S at left d sp W1 S1) went-is ev
+    pub eval-went : (T W S : List ℕ) (at lim sp : ℕ) (W1 S1 : List ℕ) → EvalStep T W S at lim sp W1 S1 r → EvalStep T W S at lim sp W1 S1 x
+    eval-went T W S at lim sp W1 S1 ev = subst (EvalStep T W S at lim sp W1 S1) went-is ev
 
-    pub list-went : (T W S : List ℕ) (at left d sp n : ℕ) (W1 S1 : List ℕ) → ListStep T W S at left d sp n W1 S1 r → ListStep T W S at left d sp n W1 S1 x
-    list-went T W S at left d sp n W1 S1 li = subst (ListStep T W S at left d sp n W1 S1) went-is li
+    pub list-went : (T W S : List ℕ) (at lim sp n : ℕ) (W1 S1 : List ℕ) → ListStep T W S at lim sp n W1 S1 r → ListStep T W S at lim sp n W1 S1 x
+    list-went T W S at lim sp n W1 S1 li = subst (ListStep T W S at lim sp n W1 S1) went-is li
 
 -- ---- what the frame holds
 held-length : (S : List ℕ) → length (heldArgs S) ≡ 3
@@ -127,31 +130,58 @@ held-length S = go (ltb (getD S 276 0) 274)
     go false = refl
 
 -- ---- what the functions ask
-module _ (W S : List ℕ) (left d sp : ℕ) (run : Runnable W S left d sp) where
+module _ (W S : List ℕ) (lim sp : ℕ) (run : Runnable W S lim sp) where
   pub run-full : length S ≡ 336
   run-full = run .placed .full
 
-  pub run-short : (left ≡ 0 → ⊥) → sp < 274
-  run-short nz = let r = run .fits .room in omega (arith, nz)
+  pub run-short : (lim % 8 ≡ 0 → ⊥) → sp < 274
+  run-short nz = let r = run .room in omega (arith, nz)
 
   pub run-low : sp ≤ 275
-  run-low = let r = run .fits .room in omega arith
+  run-low = let r = run .room in omega arith
 
   pub run-framed : Framed S
   run-framed =
       record { few = omega (arith, run .fits .frame .args .full, held-length S); mark = run .placed .mark; low = run .placed .low; bare = run .placed .bare }
 
-  pub run-part : (left ≡ 0 → ⊥) → Runnable W S (left - 1 + 1) d sp
-  run-part nz = record { placed = run .placed; fits = fits.fit-part W (frameAt S) S (topOf S) left d sp (run .fits) nz }
+  pub run-part : (lim % 8 ≡ 0 → ⊥) → PartRunnable W S (lim - 1) sp
+  run-part nz = record {
+    placed = run .placed;
+    fits = of-equal (λ n d b. Fits W (frameAt S) S (topOf S) n d b) (sym (inner-nest lim nz)) (sym (inner-depth lim nz)) (sym (inner-block lim nz)) (run .fits);
+    room = let r = run .room in omega (arith, inner-nest lim nz, inner-depth lim nz);
+  }
 
-pub run-inner : (W S : List ℕ) (left d sp : ℕ) → Runnable W S (left + 1) d sp → Runnable W S left d sp
-run-inner W S left d sp run = record { placed = run .placed; fits = fits.fit-inner W (frameAt S) S (topOf S) left d sp (run .fits) }
+module _ (W S : List ℕ) (lim sp : ℕ) (run : PartRunnable W S lim sp) where
+  pub part-full : length S ≡ 336
+  part-full = run .placed .full
 
-pub run-list : (W S : List ℕ) (at left d sp n : ℕ) → Runnable W S (left + 1) d sp → n ≤ 4 → 0 < at → ListRunnable W S at left d sp n
-run-list W S at left d sp n run l p = record { placed = run .placed; fits = fits.fit-list W (frameAt S) S (topOf S) left d sp n (run .fits) l; start = p }
+  pub part-limit : lim < 16777216
+  part-limit = let r = run .fits .room in omega arith
 
-pub list-run : (W S : List ℕ) (at left d sp n : ℕ) → ListRunnable W S at left d sp n → (n ≡ 0 → ⊥) → Runnable W S left d sp
-list-run W S at left d sp n run nz = record { placed = run .placed; fits = fits.list-fit W (frameAt S) S (topOf S) left d sp n (run .fits) nz }
+  pub part-small : lim / 256 < 65536
+  part-small = let r = run .fits .room in omega arith
+
+  pub part-low : sp ≤ 275
+  part-low = let r = run .room in omega arith
+
+  pub run-inner : Runnable W S lim sp
+  run-inner = record { placed = run .placed; fits = fits.fit-inner W (frameAt S) S (topOf S) (nestOf lim) (depthOf lim) (blockOf lim) (run .fits); room = let r = run .room in omega arith }
+
+  pub run-list : (at n : ℕ) → n ≤ 4 → 0 < at → ListRunnable W S at lim sp n
+  run-list at n l p = record {
+    placed = run .placed;
+    fits = fits.fit-list W (frameAt S) S (topOf S) (nestOf lim) (depthOf lim) (blockOf lim) n (run .fits) l;
+    room = let r = run .room in omega arith;
+    start = p;
+  }
+
+module _ (W S : List ℕ) (at lim sp n : ℕ) (run : ListRunnable W S at lim sp n) where
+  pub list-run : (n ≡ 0 → ⊥) → Runnable W S lim sp
+  list-run nz = record {
+    placed = run .placed;
+    fits = fits.list-fit W (frameAt S) S (topOf S) (nestOf lim) (depthOf lim) (blockOf lim) n (run .fits) nz;
+    room = let r = run .room in omega (arith, nz);
+  }
 
 -- an expression's place after is past the first
 abbrev Forward : Shape → Type 0
@@ -197,172 +227,240 @@ module _ (T : List ℕ) (at : ℕ) (s : Shape) (es : s ≡ shapeAt T at) where
   next-new c n next e = ahead (shape.New c n next) e
 
 -- ---- an expression
-module _ (T W S : List ℕ) (at left d sp : ℕ) (run : Runnable W S left d sp) where
-  pub step-zero : left ≡ 0 → (S′ : List ℕ) (r : ℕ) → Stops-with 0 S S′ r → EvalStep T W S at left d sp W S′ r
+module _ (T W S : List ℕ) (at lim sp : ℕ) (run : Runnable W S lim sp) where
+  pub step-zero : lim % 8 ≡ 0 → (S′ : List ℕ) (r : ℕ) → Stops-with 0 S S′ r → EvalStep T W S at lim sp W S′ r
   step-zero z S′ r e = record {
-    stack = stop-stack sp 0 S S S′ r e (stacked-none sp S) (run-low W S left d sp run);
-    runs = subst (Evaluates T W (frameAt S) S (topOf S) at left d sp (fuelOf S) W) (sym (stop-is sp 0 S S S′ r e (run .placed .full) Stuck stuck-is))
-        (eval-zero T W (frameAt S) S (topOf S) at left d sp (fuelOf S) z);
+    stack = stop-stack sp 0 S S S′ r e (stacked-none sp S) (run-low W S lim sp run);
+    runs = subst (Evaluates T W (frameAt S) S (topOf S) at (nestOf lim) (depthOf lim) (blockOf lim) (fuelOf S) W) (sym (stop-is sp 0 S S S′ r e (run .placed .full) Stuck stuck-is))
+        (eval-zero T W (frameAt S) S (topOf S) at (nestOf lim) (depthOf lim) (blockOf lim) (fuelOf S) z);
   }
 
   module _ (s : Shape) (es : s ≡ shapeAt T at) where
-    pub step-nothing : s ≡ shape.Nothing → (S′ : List ℕ) (r : ℕ) → Stops-with 0 S S′ r → EvalStep T W S at left d sp W S′ r
+    pub step-nothing : s ≡ shape.Nothing → (S′ : List ℕ) (r : ℕ) → Stops-with 0 S S′ r → EvalStep T W S at lim sp W S′ r
     step-nothing z S′ r e = record {
-      stack = stop-stack sp 0 S S S′ r e (stacked-none sp S) (run-low W S left d sp run);
-      runs = subst (Evaluates T W (frameAt S) S (topOf S) at left d sp (fuelOf S) W) (sym (stop-is sp 0 S S S′ r e (run .placed .full) Stuck stuck-is))
-          (eval-nothing T W (frameAt S) S (topOf S) at left d sp (fuelOf S) s es z);
+      stack = stop-stack sp 0 S S S′ r e (stacked-none sp S) (run-low W S lim sp run);
+      runs = subst (Evaluates T W (frameAt S) S (topOf S) at (nestOf lim) (depthOf lim) (blockOf lim) (fuelOf S) W) (sym (stop-is sp 0 S S S′ r e (run .placed .full) Stuck stuck-is))
+          (eval-nothing T W (frameAt S) S (topOf S) at (nestOf lim) (depthOf lim) (blockOf lim) (fuelOf S) s es z);
     }
 
     module _ (next : ℕ) (S′ : List ℕ) (r : ℕ) (a : Answered S (heldOf (shapeAt T at) S) sp (nextOf (shapeAt T at)) S′ r) where
       as-shape : (q : Shape) → s ≡ q → Answered S (heldOf q S) sp (nextOf q) S′ r
       as-shape q z = subst (λ (x : Shape). Answered S (heldOf x S) sp (nextOf x) S′ r) (sym es ∙ z) a
 
-      pub step-this : s ≡ shape.This next → EvalStep T W S at left d sp W S′ r
-      step-this z = record { stack = a .stack; runs = eval-this T W (frameAt S) S (topOf S) at left d sp (fuelOf S) s es (run .fits) next (outAt S′ sp r) z (as-shape (shape.This next) z .is) }
+      pub step-this : s ≡ shape.This next → EvalStep T W S at lim sp W S′ r
+      step-this z = record { stack = a .stack; runs = eval-this T W (frameAt S) S (topOf S) at (nestOf lim) (depthOf lim) (blockOf lim) (fuelOf S) s es (run .fits) next (outAt S′ sp r) z (as-shape (shape.This next) z .is) }
 
-      pub step-result : s ≡ shape.Result next → EvalStep T W S at left d sp W S′ r
-      step-result z = record { stack = a .stack; runs = eval-res T W (frameAt S) S (topOf S) at left d sp (fuelOf S) s es (run .fits) next (outAt S′ sp r) z (as-shape (shape.Result next) z .is) }
+      pub step-result : s ≡ shape.Result next → EvalStep T W S at lim sp W S′ r
+      step-result z = record { stack = a .stack; runs = eval-res T W (frameAt S) S (topOf S) at (nestOf lim) (depthOf lim) (blockOf lim) (fuelOf S) s es (run .fits) next (outAt S′ sp r) z (as-shape (shape.Result next) z .is) }
 
-      pub step-parameter : (k : ℕ) → s ≡ shape.Parameter k next → EvalStep T W S at left d sp W S′ r
+      pub step-parameter : (k : ℕ) → s ≡ shape.Parameter k next → EvalStep T W S at lim sp W S′ r
       step-parameter k z = record {
         stack = a .stack;
-        runs = eval-param T W (frameAt S) S (topOf S) at left d sp (fuelOf S) s es (run .fits) next (outAt S′ sp r) k z (as-shape (shape.Parameter k next) z .is);
+        runs = eval-param T W (frameAt S) S (topOf S) at (nestOf lim) (depthOf lim) (blockOf lim) (fuelOf S) s es (run .fits) next (outAt S′ sp r) k z (as-shape (shape.Parameter k next) z .is);
       }
 
-    module _ (nz : left ≡ 0 → ⊥) (next : ℕ) (W′ S′ : List ℕ) (r : ℕ) where
-      pub step-field : (k : ℕ) → s ≡ shape.Field k next → FieldStep T W S next (left - 1) d sp k W′ S′ r → EvalStep T W S at left d sp W′ S′ r
-      step-field k z x = record { stack = x .stack; runs = eval-at-field T W (frameAt S) S (topOf S) at left d sp (fuelOf S) s es nz next W′ (outAt S′ sp r) k z (x .runs) }
+    module _ (nz : lim % 8 ≡ 0 → ⊥) (next : ℕ) (W′ S′ : List ℕ) (r : ℕ) where
+      pub step-field : (k : ℕ) → s ≡ shape.Field k next → FieldStep T W S next (lim - 1) sp k W′ S′ r → EvalStep T W S at lim sp W′ S′ r
+      step-field k z x = record {
+        stack = x .stack;
+        runs = eval-at-field T W (frameAt S) S (topOf S) at (nestOf lim) (depthOf lim) (blockOf lim) (fuelOf S) s es nz next W′ (outAt S′ sp r) k z
+            (of-equal (λ n′ d b. Fields T W (frameAt S) S (topOf S) next n′ d b (fuelOf S) k W′ (outAt S′ sp r)) (inner-less lim nz) (inner-depth lim nz) (inner-block lim nz) (x .runs));
+      }
 
-      pub step-call : (m n : ℕ) → s ≡ shape.Call m n next → CallStep T W S next (left - 1) d sp m n W′ S′ r → EvalStep T W S at left d sp W′ S′ r
-      step-call m n z x = record { stack = x .stack; runs = eval-at-call T W (frameAt S) S (topOf S) at left d sp (fuelOf S) s es nz next W′ (outAt S′ sp r) m n z (x .runs) }
+      pub step-call : (m n : ℕ) → s ≡ shape.Call m n next → CallStep T W S next (lim - 1) sp m n W′ S′ r → EvalStep T W S at lim sp W′ S′ r
+      step-call m n z x = record {
+        stack = x .stack;
+        runs = eval-at-call T W (frameAt S) S (topOf S) at (nestOf lim) (depthOf lim) (blockOf lim) (fuelOf S) s es nz next W′ (outAt S′ sp r) m n z
+            (of-equal (λ n′ d b. Calls T W (frameAt S) S (topOf S) next n′ d b (fuelOf S) m n W′ (outAt S′ sp r)) (inner-less lim nz) (inner-depth lim nz) (inner-block lim nz) (x .runs));
+      }
 
-      pub step-new : (c n : ℕ) → s ≡ shape.New c n next → NewStep T W S next (left - 1) d sp c n W′ S′ r → EvalStep T W S at left d sp W′ S′ r
-      step-new c n z x = record { stack = x .stack; runs = eval-at-new T W (frameAt S) S (topOf S) at left d sp (fuelOf S) s es nz next W′ (outAt S′ sp r) c n z (x .runs) }
+      pub step-new : (c n : ℕ) → s ≡ shape.New c n next → NewStep T W S next (lim - 1) sp c n W′ S′ r → EvalStep T W S at lim sp W′ S′ r
+      step-new c n z x = record {
+        stack = x .stack;
+        runs = eval-at-new T W (frameAt S) S (topOf S) at (nestOf lim) (depthOf lim) (blockOf lim) (fuelOf S) s es nz next W′ (outAt S′ sp r) c n z
+            (of-equal (λ n′ d b. News T W (frameAt S) S (topOf S) next n′ d b (fuelOf S) c n W′ (outAt S′ sp r)) (inner-less lim nz) (inner-depth lim nz) (inner-block lim nz) (x .runs));
+      }
 
 -- ---- after an expression: it stopped, or its value stands at sp
-module _ (T W S : List ℕ) (at left d sp : ℕ) (W1 S1 : List ℕ) (at1 : ℕ) (ev : EvalStep T W S at left d sp W1 S1 at1) (run : Runnable W S (left + 1) d sp) where
+module _ (T W S : List ℕ) (at lim sp : ℕ) (W1 S1 : List ℕ) (at1 : ℕ) (ev : EvalStep T W S at lim sp W1 S1 at1) (run : PartRunnable W S lim sp) where
   pub full-after : length S1 ≡ 336
   full-after = ev .stack .same ∙ run .placed .full
 
   sp-short : sp < 274
-  sp-short = let r = run .fits .room in omega arith
+  sp-short = let r = run .room in omega arith
 
   pub value-held : (at1 ≡ 0 → ⊥) → Holds W1 (refIn (getD S1 sp 0))
   value-held nz =
-      given-older T W (frameAt S) S (topOf S) at left d sp (fuelOf S) W1 (outAt S1 sp at1) (ev .runs) (refAt S1 sp) at1 (fuelOf S1) (out-value S1 sp at1 nz) .held
+      given-older T W (frameAt S) S (topOf S) at (nestOf lim) (depthOf lim) (blockOf lim) (fuelOf S) W1 (outAt S1 sp at1) (ev .runs) (refAt S1 sp) at1 (fuelOf S1) (out-value S1 sp at1 nz) .held
 
   -- ---- a field
-  pub field-stops : (k : ℕ) → at1 ≡ 0 → FieldStep T W S at left d sp k W1 S1 0
-  field-stops k z = subst (FieldStep T W S at left d sp k W1 S1) z (record {
+  pub field-stops : (k : ℕ) → at1 ≡ 0 → FieldStep T W S at lim sp k W1 S1 0
+  field-stops k z = subst (FieldStep T W S at lim sp k W1 S1) z (record {
     stack = ev .stack;
-    runs = field-halt T W (frameAt S) S (topOf S) at left d sp (fuelOf S) k W1 (outAt S1 sp at1) (ev .runs) (stopAt (getD S1 275 0)) (fuelOf S1) (out-stop S1 sp at1 z);
+    runs = field-halt T W (frameAt S) S (topOf S) at (nestOf lim) (depthOf lim) (blockOf lim) (fuelOf S) k W1 (outAt S1 sp at1) (ev .runs) (stopAt (getD S1 275 0)) (fuelOf S1) (out-stop S1 sp at1 z);
   })
 
   module _ (k q : ℕ) (nz : at1 ≡ 0 → ⊥) (ch : ChosenIn W1 (getD S1 sp 0) k q) where
-    pub field-lacks : q ≡ 4294967295 → (S′ : List ℕ) (r : ℕ) → Stops-with 0 S1 S′ r → FieldStep T W S at left d sp k W1 S′ r
+    pub field-lacks : q ≡ 4294967295 → (S′ : List ℕ) (r : ℕ) → Stops-with 0 S1 S′ r → FieldStep T W S at lim sp k W1 S′ r
     unfolding answerOf
     field-lacks z S′ r e = record {
       stack = stop-stack sp 0 S S1 S′ r e (ev .stack) (let l = sp-short in omega arith);
-      runs = subst (Fields T W (frameAt S) S (topOf S) at left d sp (fuelOf S) k W1) (sym (stop-is sp 0 S S1 S′ r e full-after Stuck stuck-is))
-          (field-none T W (frameAt S) S (topOf S) at left d sp (fuelOf S) k W1 (outAt S1 sp at1) (ev .runs) (refAt S1 sp) at1 (fuelOf S1) (out-value S1 sp at1 nz) (answerOf q) (ch .is)
+      runs = subst (Fields T W (frameAt S) S (topOf S) at (nestOf lim) (depthOf lim) (blockOf lim) (fuelOf S) k W1) (sym (stop-is sp 0 S S1 S′ r e full-after Stuck stuck-is))
+          (field-none T W (frameAt S) S (topOf S) at (nestOf lim) (depthOf lim) (blockOf lim) (fuelOf S) k W1 (outAt S1 sp at1) (ev .runs) (refAt S1 sp) at1 (fuelOf S1) (out-value S1 sp at1 nz) (answerOf q) (ch .is)
           (rw (eq-eqb q 4294967295 z)));
     }
 
-    pub field-has : (q ≡ 4294967295 → ⊥) → FieldStep T W S at left d sp k W1 (set S1 sp q) at1
+    pub field-has : (q ≡ 4294967295 → ⊥) → FieldStep T W S at lim sp k W1 (set S1 sp q) at1
     unfolding answerOf
     field-has z = record {
       stack = put-stack sp S1 q sp-short S (ev .stack);
-      runs = subst (Fields T W (frameAt S) S (topOf S) at left d sp (fuelOf S) k W1) (sym (put-out sp S1 q sp-short full-after at1 nz))
-          (field-some T W (frameAt S) S (topOf S) at left d sp (fuelOf S) k W1 (outAt S1 sp at1) (ev .runs) (refAt S1 sp) at1 (fuelOf S1) (out-value S1 sp at1 nz) (answerOf q) (ch .is)
+      runs = subst (Fields T W (frameAt S) S (topOf S) at (nestOf lim) (depthOf lim) (blockOf lim) (fuelOf S) k W1) (sym (put-out sp S1 q sp-short full-after at1 nz))
+          (field-some T W (frameAt S) S (topOf S) at (nestOf lim) (depthOf lim) (blockOf lim) (fuelOf S) k W1 (outAt S1 sp at1) (ev .runs) (refAt S1 sp) at1 (fuelOf S1) (out-value S1 sp at1 nz) (answerOf q) (ch .is)
           (refIn q) (rw (ne-eqb q 4294967295 z)));
     }
 
 -- ---- a list
-pub list-done : (T W S : List ℕ) (at left d sp n : ℕ) → ListRunnable W S at left d sp n → n ≡ 0 → ListStep T W S at left d sp n W S at
-list-done T W S at left d sp n run z = record {
+pub list-done : (T W S : List ℕ) (at lim sp n : ℕ) → ListRunnable W S at lim sp n → n ≡ 0 → ListStep T W S at lim sp n W S at
+list-done T W S at lim sp n run z = record {
   stack = stacked-none sp S;
-  runs = subst (Lists T W (frameAt S) S (topOf S) at left d sp (fuelOf S) n W) (sym (list-values S sp at (λ e. let p = run .start in omega arith)))
-      (list-zero T W (frameAt S) S (topOf S) at left d sp (fuelOf S) n (refAt S sp) (refAt S (sp + 1)) (refAt S (sp + 2)) (refAt S (sp + 3)) z);
+  runs = subst (Lists T W (frameAt S) S (topOf S) at (nestOf lim) (depthOf lim) (blockOf lim) (fuelOf S) n W) (sym (list-values S sp at (λ e. let p = run .start in omega arith)))
+      (list-zero T W (frameAt S) S (topOf S) at (nestOf lim) (depthOf lim) (blockOf lim) (fuelOf S) n (refAt S sp) (refAt S (sp + 1)) (refAt S (sp + 2)) (refAt S (sp + 3)) z);
 }
 
-module _ (T W S : List ℕ) (at left d sp n : ℕ) (run : ListRunnable W S at left d sp n) (nz : n ≡ 0 → ⊥) (W1 S1 : List ℕ) (at1 : ℕ) (ev : EvalStep T W S at left d sp W1 S1 at1) where
-  pub list-stops : at1 ≡ 0 → ListStep T W S at left d sp n W1 S1 0
-  list-stops z = subst (ListStep T W S at left d sp n W1 S1) z (record {
+module _ (T W S : List ℕ) (at lim sp n : ℕ) (run : ListRunnable W S at lim sp n) (nz : n ≡ 0 → ⊥) (W1 S1 : List ℕ) (at1 : ℕ) (ev : EvalStep T W S at lim sp W1 S1 at1) where
+  pub list-stops : at1 ≡ 0 → ListStep T W S at lim sp n W1 S1 0
+  list-stops z = subst (ListStep T W S at lim sp n W1 S1) z (record {
     stack = ev .stack;
-    runs = list-halt T W (frameAt S) S (topOf S) at left d sp (fuelOf S) n (run .fits) nz W1 (outAt S1 sp at1) (ev .runs) (stopAt (getD S1 275 0)) (fuelOf S1) (listAt S1 sp at1)
+    runs = list-halt T W (frameAt S) S (topOf S) at (nestOf lim) (depthOf lim) (blockOf lim) (fuelOf S) n (run .fits) nz W1 (outAt S1 sp at1) (ev .runs) (stopAt (getD S1 275 0)) (fuelOf S1) (listAt S1 sp at1)
         (out-stop S1 sp at1 z) (list-stop S1 sp at1 z);
   })
 
-  pub list-later : (at1 ≡ 0 → ⊥) → ListRunnable W1 S1 at1 left d (sp + 1) (n - 1)
-  list-later z =
-      let x = fits.list-later T W (frameAt S) S (topOf S) at left d sp (fuelOf S) W1 (outAt S1 sp at1) (ev .runs) n (run .fits) nz in
-      record {
-        placed = placed-after sp S S1 (run .placed) (ev .stack) (sp + 1) (omega arith);
-        fits = list-fits-on sp S S1 (run .placed) (ev .stack) W1 left d (sp + 1) (n - 1) x;
-        start = omega (arith, z);
-      }
+  module _ (z : at1 ≡ 0 → ⊥) (l : ℕ) (el : l ≡ pastOf lim (getD S1 sp 0)) where
+    first-older : Older W1 (blockOf lim + 1) (refAt S1 sp)
+    first-older =
+        given-older T W (frameAt S) S (topOf S) at (nestOf lim) (depthOf lim) (blockOf lim) (fuelOf S) W1 (outAt S1 sp at1) (ev .runs) (refAt S1 sp) at1 (fuelOf S1) (out-value S1 sp at1 z)
 
-  module _ (z : at1 ≡ 0 → ⊥) (W2 S2 : List ℕ) (r : ℕ) (li : ListStep T W1 S1 at1 left d (sp + 1) (n - 1) W2 S2 r) where
-    first-kept : getD S2 sp 0 ≡ getD S1 sp 0
-    first-kept = li .stack .below sp (omega arith)
+    later : After lim (getD S1 sp 0) l
+    later = past-after lim (getD S1 sp 0) l el (first-older .low)
 
-    front : (b : Dec (r ≡ 0)) → listAt S2 sp r ≡ frontOf (refAt S1 sp) (listAt S2 (sp + 1) r)
-    front (yes e) = list-stop S2 sp r e ∙ sym (ap (frontOf (refAt S1 sp)) (list-stop S2 (sp + 1) r e))
-    front (no e) =
-        let e2 : sp + 2 ≡ sp + 1 + 1 = omega arith in
-        let e3 : sp + 3 ≡ sp + 1 + 2 = omega arith in
-        list-values S2 sp r e
-        ∙ (λ i. Values (refIn (first-kept i)) (refAt S2 (sp + 1)) (refAt S2 (e2 i)) (refAt S2 (e3 i)) r (fuelOf S2))
-        ∙ sym (ap (frontOf (refAt S1 sp)) (list-values S2 (sp + 1) r e))
-
-    pub list-goes-on : ListStep T W S at left d sp n W2 S2 r
-    list-goes-on = record {
-      stack = stacked-then sp (sp + 1) S S1 S2 (omega arith) (ev .stack) (li .stack);
-      runs = list-more T W (frameAt S) S (topOf S) at left d sp (fuelOf S) n (run .fits) nz W1 (outAt S1 sp at1) (ev .runs) (refAt S1 sp) at1 (fuelOf S1) (out-value S1 sp at1 z) W2 (listAt S2 (sp + 1) r)
-          (lists-on T W1 (frameAt S) (frameAt S1) (frame-same sp S S1 (run .placed) (ev .stack)) S S1 (topOf S) (topOf S1) (trace-same sp S S1 (run .placed) (ev .stack) W1) at1 left d (sp + 1) (fuelOf S1) W2 (n - 1)
-          (listAt S2 (sp + 1) r) (li .runs))
-          (listAt S2 sp r) (front (ℕ-discrete r 0));
+    pub list-later : ListRunnable W1 S1 at1 l (sp + 1) (n - 1)
+    list-later = record {
+      placed = placed-after sp S S1 (run .placed) (ev .stack) (sp + 1) (omega arith);
+      fits = of-equal (λ a d b. ListFits W1 (frameAt S1) S1 (topOf S1) a d b (n - 1)) (sym (later .nest)) (sym (later .depth)) refl
+          (list-fits-on sp S S1 (run .placed) (ev .stack) W1 (nestOf lim) (depthOf lim) (blockOf l) (n - 1)
+          (fits.list-later T W (frameAt S) S (topOf S) at (nestOf lim) (depthOf lim) (blockOf lim) (fuelOf S) W1 (outAt S1 sp at1) (ev .runs) n (blockOf l) (run .fits) nz (later .from) (later .to)));
+      room = let r = run .room in omega (arith, nz, later .nest, later .depth);
+      start = omega (arith, z);
     }
 
+    module _ (W2 S2 : List ℕ) (r : ℕ) (li : ListStep T W1 S1 at1 l (sp + 1) (n - 1) W2 S2 r) where
+      first-kept : getD S2 sp 0 ≡ getD S1 sp 0
+      first-kept = li .stack .below sp (omega arith)
+
+      front : (b : Dec (r ≡ 0)) → listAt S2 sp r ≡ frontOf (refAt S1 sp) (listAt S2 (sp + 1) r)
+      front (yes e) = list-stop S2 sp r e ∙ sym (ap (frontOf (refAt S1 sp)) (list-stop S2 (sp + 1) r e))
+      front (no e) =
+          let e2 : sp + 2 ≡ sp + 1 + 1 = omega arith in
+          let e3 : sp + 3 ≡ sp + 1 + 2 = omega arith in
+          list-values S2 sp r e
+          ∙ (λ i. Values (refIn (first-kept i)) (refAt S2 (sp + 1)) (refAt S2 (e2 i)) (refAt S2 (e3 i)) r (fuelOf S2))
+          ∙ sym (ap (frontOf (refAt S1 sp)) (list-values S2 (sp + 1) r e))
+
+      others : Lists T W1 (frameAt S) S (topOf S) at1 (nestOf lim) (depthOf lim) (blockOf l) (fuelOf S1) (n - 1) W2 (listAt S2 (sp + 1) r)
+      others =
+          lists-on T W1 (frameAt S) (frameAt S1) (frame-same sp S S1 (run .placed) (ev .stack)) S S1 (topOf S) (topOf S1) (trace-same sp S S1 (run .placed) (ev .stack) W1) at1 (nestOf lim) (depthOf lim) (blockOf l) (fuelOf S1) W2 (n - 1)
+          (listAt S2 (sp + 1) r)
+          (of-equal (λ a d b. Lists T W1 (frameAt S1) S1 (topOf S1) at1 a d b (fuelOf S1) (n - 1) W2 (listAt S2 (sp + 1) r)) (later .nest) (later .depth) refl (li .runs))
+
+      pub list-goes-on : ListStep T W S at lim sp n W2 S2 r
+      list-goes-on = record {
+        stack = stacked-then sp (sp + 1) S S1 S2 (omega arith) (ev .stack) (li .stack);
+        runs = list-more T W (frameAt S) S (topOf S) at (nestOf lim) (depthOf lim) (blockOf lim) (fuelOf S) n (run .fits) nz W1 (outAt S1 sp at1) (ev .runs) (refAt S1 sp) at1 (fuelOf S1) (out-value S1 sp at1 z)
+            (blockOf l) (later .from) (later .to) (later .low) W2 (listAt S2 (sp + 1) r) others (listAt S2 sp r) (front (ℕ-discrete r 0));
+      }
+
+-- ---- a list so far: whatever the rest gives from here on, the whole gives
+pub record Rest (T W S : List ℕ) (at lim sp n : ℕ) (W1 S1 : List ℕ) (at1 l q m : ℕ) : Type 0 where
+  pub ready : ListRunnable W1 S1 at1 l q m
+  pub nest : nestOf l ≡ nestOf lim
+  pub depth : depthOf l ≡ depthOf lim
+  pub whole : (W′ S′ : List ℕ) (r : ℕ) → ListStep T W1 S1 at1 l q m W′ S′ r → ListStep T W S at lim sp n W′ S′ r
+
+pub rest-all : (T W S : List ℕ) (at lim sp n : ℕ) → ListRunnable W S at lim sp n → Rest T W S at lim sp n W S at lim sp n
+rest-all T W S at lim sp n run = record { ready = run; nest = refl; depth = refl; whole = λ W′ S′ r x. x }
+
+module _ (T W S : List ℕ) (at lim sp n : ℕ) (W1 S1 : List ℕ) (at1 l q m : ℕ) (re : Rest T W S at lim sp n W1 S1 at1 l q m) where
+  pub rest-none : m ≤ 0 → ListStep T W S at lim sp n W1 S1 at1
+  rest-none z = re .whole W1 S1 at1 (list-done T W1 S1 at1 l q m (re .ready) (omega arith))
+
+  pub rest-limit : l < 16777216
+  rest-limit = let r = re .ready .fits .room in omega arith
+
+  module _ (more : 0 < m) where
+    some : m ≡ 0 → ⊥
+    some z = omega arith
+
+    pub rest-run : Runnable W1 S1 l q
+    rest-run = list-run W1 S1 at1 l q m (re .ready) some
+
+    pub rest-index : q < 336
+    rest-index = let r = re .ready .room in omega arith
+
+    module _ (W2 S2 : List ℕ) (at2 : ℕ) (ev : EvalStep T W1 S1 at1 l q W2 S2 at2) where
+      pub rest-stops : at2 ≡ 0 → ListStep T W S at lim sp n W2 S2 0
+      rest-stops z = re .whole W2 S2 0 (list-stops T W1 S1 at1 l q m (re .ready) some W2 S2 at2 ev z)
+
+      pub rest-later : (at2 ≡ 0 → ⊥) → (l2 : ℕ) → l2 ≡ pastOf l (getD S2 q 0) → Rest T W S at lim sp n W2 S2 at2 l2 (q + 1) (m - 1)
+      rest-later z l2 el =
+          let af = later T W1 S1 at1 l q m (re .ready) some W2 S2 at2 ev z l2 el in
+          record {
+            ready = list-later T W1 S1 at1 l q m (re .ready) some W2 S2 at2 ev z l2 el;
+            nest = af .nest ∙ re .nest;
+            depth = af .depth ∙ re .depth;
+            whole = λ W′ S′ r x. re .whole W′ S′ r (list-goes-on T W1 S1 at1 l q m (re .ready) some W2 S2 at2 ev z l2 el W′ S′ r x);
+          }
+
 -- ---- a new object
-module _ (T W S : List ℕ) (at left d sp c n x : ℕ) (run : Runnable W S (left + 1) d sp) (ex : x ≡ getD T (16 * c + 1) 0) where
-  pub new-unlike : (x ≡ n → ⊥) → (S′ : List ℕ) (r : ℕ) → Stops-with 0 S S′ r → NewStep T W S at left d sp c n W S′ r
+module _ (T W S : List ℕ) (at lim sp c n x : ℕ) (run : PartRunnable W S lim sp) (ex : x ≡ getD T (16 * c + 1) 0) where
+  pub new-unlike : (x ≡ n → ⊥) → (S′ : List ℕ) (r : ℕ) → Stops-with 0 S S′ r → NewStep T W S at lim sp c n W S′ r
   new-unlike h S′ r e = record {
-    stack = stop-stack sp 0 S S S′ r e (stacked-none sp S) (run-low W S (left + 1) d sp run);
-    runs = subst (News T W (frameAt S) S (topOf S) at left d sp (fuelOf S) c n W) (sym (stop-is sp 0 S S S′ r e (run .placed .full) Stuck stuck-is))
-        (new-other T W (frameAt S) S (topOf S) at left d sp (fuelOf S) c n x ex h);
+    stack = stop-stack sp 0 S S S′ r e (stacked-none sp S) (part-low W S lim sp run);
+    runs = subst (News T W (frameAt S) S (topOf S) at (nestOf lim) (depthOf lim) (blockOf lim) (fuelOf S) c n W) (sym (stop-is sp 0 S S S′ r e (run .placed .full) Stuck stuck-is))
+        (new-other T W (frameAt S) S (topOf S) at (nestOf lim) (depthOf lim) (blockOf lim) (fuelOf S) c n x ex h);
   }
 
   module _ (h : x ≡ n) where
-    pub new-over : 4 < n → (S′ : List ℕ) (r : ℕ) → Stops-with 0 S S′ r → NewStep T W S at left d sp c n W S′ r
+    pub new-over : 4 < n → (S′ : List ℕ) (r : ℕ) → Stops-with 0 S S′ r → NewStep T W S at lim sp c n W S′ r
     new-over m S′ r e = record {
-      stack = stop-stack sp 0 S S S′ r e (stacked-none sp S) (run-low W S (left + 1) d sp run);
-      runs = subst (News T W (frameAt S) S (topOf S) at left d sp (fuelOf S) c n W) (sym (stop-is sp 0 S S S′ r e (run .placed .full) Stuck stuck-is))
-          (new-many T W (frameAt S) S (topOf S) at left d sp (fuelOf S) c n x ex h m);
+      stack = stop-stack sp 0 S S S′ r e (stacked-none sp S) (part-low W S lim sp run);
+      runs = subst (News T W (frameAt S) S (topOf S) at (nestOf lim) (depthOf lim) (blockOf lim) (fuelOf S) c n W) (sym (stop-is sp 0 S S S′ r e (run .placed .full) Stuck stuck-is))
+          (new-many T W (frameAt S) S (topOf S) at (nestOf lim) (depthOf lim) (blockOf lim) (fuelOf S) c n x ex h m);
     }
 
-    module _ (W1 S1 : List ℕ) (at1 : ℕ) (li : ListStep T W S at left d sp n W1 S1 at1) where
-      pub new-stops : at1 ≡ 0 → NewStep T W S at left d sp c n W1 S1 0
-      new-stops z = subst (NewStep T W S at left d sp c n W1 S1) z (record {
+    module _ (W1 S1 : List ℕ) (at1 : ℕ) (li : ListStep T W S at lim sp n W1 S1 at1) where
+      pub new-stops : at1 ≡ 0 → NewStep T W S at lim sp c n W1 S1 0
+      new-stops z = subst (NewStep T W S at lim sp c n W1 S1) z (record {
         stack = li .stack;
-        runs = new-is T W (frameAt S) S (topOf S) at left d sp (fuelOf S) c n x ex h W1 (listAt S1 sp at1) W1 (outAt S1 sp at1) (li .runs)
-            (finish-halt W1 c (listAt S1 sp at1) n sp (stopAt (getD S1 275 0)) (fuelOf S1) (outAt S1 sp at1) (list-stop S1 sp at1 z) (out-stop S1 sp at1 z));
+        runs = new-is T W (frameAt S) S (topOf S) at (nestOf lim) (depthOf lim) (blockOf lim) (fuelOf S) c n x ex h W1 (listAt S1 sp at1) W1 (outAt S1 sp at1) (li .runs)
+            (finish-halt W1 c (listAt S1 sp at1) n (blockOf lim) (stopAt (getD S1 275 0)) (fuelOf S1) (outAt S1 sp at1) (list-stop S1 sp at1 z) (out-stop S1 sp at1 z));
       })
 
-      pub parts-ready : (at1 ≡ 0 → ⊥) → n ≤ 4 → PartsReady W1 S1 n sp at1
+      pub parts-ready : (at1 ≡ 0 → ⊥) → n ≤ 4 → PartsReady W1 S1 n sp (blockOf lim) at1
       parts-ready z l =
-          let r = run .fits .room in
+          let r = run .room in
+          let b = run .fits .room in
           record {
             full = li .stack .same ∙ run .placed .full;
             older = li .runs .older;
             few = l;
             room = omega arith;
-            long = fits.after-list T W (frameAt S) S (topOf S) at left d sp (fuelOf S) n W1 (listAt S1 sp at1) (li .runs) (run .fits);
+            low = omega arith;
+            long = fits.after-list T W (frameAt S) S (topOf S) at (nestOf lim) (depthOf lim) (blockOf lim) (fuelOf S) n W1 (listAt S1 sp at1) (li .runs) (run .fits);
             after = omega (arith, z);
           }
 
-      pub new-made : (W2 S2 : List ℕ) (r : ℕ) → FinishStep W1 S1 c n sp at1 W2 S2 r → NewStep T W S at left d sp c n W2 S2 r
+      pub new-made : (W2 S2 : List ℕ) (r : ℕ) → FinishStep W1 S1 c n sp (blockOf lim) at1 W2 S2 r → NewStep T W S at lim sp c n W2 S2 r
       new-made W2 S2 r fi = record {
         stack = stacked-then sp sp S S1 S2 (omega arith) (li .stack) (fi .stack);
-        runs = new-is T W (frameAt S) S (topOf S) at left d sp (fuelOf S) c n x ex h W1 (listAt S1 sp at1) W2 (outAt S2 sp r) (li .runs) (fi .runs);
+        runs = new-is T W (frameAt S) S (topOf S) at (nestOf lim) (depthOf lim) (blockOf lim) (fuelOf S) c n x ex h W1 (listAt S1 sp at1) W2 (outAt S2 sp r) (li .runs) (fi .runs);
       }

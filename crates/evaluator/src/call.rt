@@ -1,5 +1,5 @@
 // Running a call: its receiver, its arguments, then a side of its method, while the calls that may be opened fall.
-// The receiver stands at place sp and the arguments follow it; a side is run at block sp + 4, and its value is brought down to sp.
+// The receiver stands at place sp and the arguments follow it; a side is run four places and four blocks on, and its value is brought down to the call's.
 // A left side is run under the trace with its call on top.
 use crate::eval::eval;
 use crate::eval::eval_list;
@@ -28,8 +28,10 @@ use classes::places::SIZE;
 use values::refs::unpack;
 use values::value::bring_in;
 use values::value::close_in;
+ghost use mathlib.Core.Path.{_≡_};
 ghost use Prim.Native.Nat.{ℕ, _+_, _<_};
-ghost use Rattle.evaluator.specs.Steps.{Runnable, CallRunnable, BodyRunnable, CallStep, InvokeStep, RightStep, LeftStep};
+ghost use Rattle.evaluator.specs.Limits.{bodyLimits};
+ghost use Rattle.evaluator.specs.Steps.{PartRunnable, CallRunnable, BodyRunnable, CallStep, InvokeStep, RightStep, LeftStep};
 
 // The call of m with n arguments: the receiver at `at`, then the arguments.
 pub fn eval_call(
@@ -37,19 +39,18 @@ pub fn eval_call(
     work: &mut [u8],
     st: &mut [u32; STACK],
     at: usize,
-    left: usize,
-    d: usize,
+    lim: usize,
     sp: usize,
     m: u8,
     n: u8,
 ) -> usize
-    requires { ⌜ Runnable (now work) (now st) (left + 1) d sp ⌝ }
-    ensures { λ r. ⌜ CallStep (now (t .entry)) (now (work .entry)) (now (st .entry)) at left d sp m n (now (work .exit)) (now (st .exit)) r ⌝ }
+    requires { ⌜ PartRunnable (now work) (now st) lim sp ⌝ }
+    ensures { λ r. ⌜ CallStep (now (t .entry)) (now (work .entry)) (now (st .entry)) at lim sp m n (now (work .exit)) (now (st .exit)) r ⌝ }
 {
-    if left == 0 {
+    if lim % 8 == 0 {
         return stop(st, STUCK);
     }
-    let r1 = eval_part(t, work, st, at, left, d, sp);
+    let r1 = eval_part(t, work, st, at, lim, sp);
     let w1 = went_of(r1);
     let Went::On(at1) = w1 else {
         return 0;
@@ -59,14 +60,14 @@ pub fn eval_call(
         return stop(st, STUCK);
     };
     if n == 0 {
-        return invoke(t, work, st, at1, d, sp, m, n, i);
+        return invoke(t, work, st, at1, lim, sp, m, n, i);
     }
-    let r2 = eval_list(t, work, st, at1, left, d, sp + 1, n);
+    let r2 = eval_list(t, work, st, at1, lim + 256, sp + 1, n);
     let w2 = went_of(r2);
     let Went::On(at2) = w2 else {
         return 0;
     };
-    invoke(t, work, st, at2, d, sp, m, n, i)
+    invoke(t, work, st, at2, lim, sp, m, n, i)
 }
 
 // Method i, which has the name m, called on the value at sp with the n arguments after it; `next` is the place after the call.
@@ -75,28 +76,36 @@ pub fn invoke(
     work: &mut [u8],
     st: &mut [u32; STACK],
     next: usize,
-    d: usize,
+    lim: usize,
     sp: usize,
     m: u8,
     n: u8,
     i: u8,
 ) -> usize
-    requires { ⌜ CallRunnable (now work) (now st) next n d sp ⌝ }
-    ensures { λ r. ⌜ InvokeStep (now (t .entry)) (now (work .entry)) (now (st .entry)) next d sp m n i (now (work .exit)) (now (st .exit)) r ⌝ }
+    requires { ⌜ CallRunnable (now work) (now st) next n lim sp ⌝ }
+    ensures { λ r. ⌜ InvokeStep (now (t .entry)) (now (work .entry)) (now (st .entry)) next lim sp m n i (now (work .exit)) (now (st .exit)) r ⌝ }
 {
     let fuel = st[FUEL];
     if fuel == 0 {
         return stop(st, NO_FUEL);
     }
     st[FUEL] = fuel - 1;
-    if d == 0 {
+    if lim / 8 % 32 == 0 {
         return stop(st, TOO_DEEP);
     }
     let x = open_call(work, st, m as u32, n as u32, sp);
     if x == 0 {
-        return run_left(t, work, st, next, d - 1, sp, m, n, i);
+        return run_left(t, work, st, next, lim, sp, m, n, i);
     }
-    run_right(t, work, st, next, d - 1, sp, n, i, x)
+    run_right(t, work, st, next, lim, sp, n, i, x)
+}
+
+// The limits of a body: nested 6 deep, one call fewer, four blocks on.
+pub fn body_limits(lim: usize) -> usize
+    requires { ⌜ lim < 16777216 ⌝ }
+    ensures { λ r. ⌜ r ≡ bodyLimits lim ⌝ }
+{
+    lim / 8 * 8 + 1022
 }
 
 // The right side of method i, with res the mark x - 1.
@@ -105,27 +114,27 @@ pub fn run_right(
     work: &mut [u8],
     st: &mut [u32; STACK],
     next: usize,
-    d: usize,
+    lim: usize,
     sp: usize,
     n: u8,
     i: u8,
     x: u32,
 ) -> usize
-    requires { ⌜ BodyRunnable (now work) (now st) next n d sp × (0 < x) × (x < 64) ⌝ }
-    ensures { λ r. ⌜ RightStep (now (t .entry)) (now (work .entry)) (now (st .entry)) next d sp n i x (now (work .exit)) (now (st .exit)) r ⌝ }
+    requires { ⌜ BodyRunnable (now work) (now st) next n lim sp × (0 < x) × (x < 64) ⌝ }
+    ensures { λ r. ⌜ RightStep (now (t .entry)) (now (work .entry)) (now (st .entry)) next lim sp n i x (now (work .exit)) (now (st .exit)) r ⌝ }
 {
     let base = st[BASE];
     let count = st[COUNT];
     let res = st[RESULT];
     enter(st, sp as u32, n as u32, x);
     let at = right_place(t, i);
-    let r = eval(t, work, st, at, 6, d, sp + 4);
+    let r = eval(t, work, st, at, body_limits(lim), sp + 4);
     set_frame(st, base, count, res);
     let w = went_of(r);
     let Went::On(_after) = w else {
         return 0;
     };
-    st[sp] = bring_in(work, st[sp + 4], sp as u16);
+    st[sp] = bring_in(work, st[sp + 4], (lim / 256) as u16);
     next
 }
 
@@ -135,14 +144,14 @@ pub fn run_left(
     work: &mut [u8],
     st: &mut [u32; STACK],
     next: usize,
-    d: usize,
+    lim: usize,
     sp: usize,
     m: u8,
     n: u8,
     i: u8,
 ) -> usize
-    requires { ⌜ BodyRunnable (now work) (now st) next n d sp ⌝ }
-    ensures { λ r. ⌜ LeftStep (now (t .entry)) (now (work .entry)) (now (st .entry)) next d sp m n i (now (work .exit)) (now (st .exit)) r ⌝ }
+    requires { ⌜ BodyRunnable (now work) (now st) next n lim sp ⌝ }
+    ensures { λ r. ⌜ LeftStep (now (t .entry)) (now (work .entry)) (now (st .entry)) next lim sp m n i (now (work .exit)) (now (st .exit)) r ⌝ }
 {
     let base = st[BASE];
     let count = st[COUNT];
@@ -151,13 +160,13 @@ pub fn run_left(
     push(st, top, m as u32, n as u32, sp as u32);
     enter(st, sp as u32, n as u32, 0);
     let at = left_place(t, i);
-    let r = eval(t, work, st, at, 6, d, sp + 4);
+    let r = eval(t, work, st, at, body_limits(lim), sp + 4);
     set_frame(st, base, count, res);
     st[TOP] = top;
     let w = went_of(r);
     let Went::On(_after) = w else {
         return 0;
     };
-    st[sp] = close_in(work, top as u8, st[sp + 4], sp as u16);
+    st[sp] = close_in(work, top as u8, st[sp + 4], (lim / 256) as u16);
     next
 }

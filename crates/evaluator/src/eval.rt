@@ -1,6 +1,7 @@
 // Running an expression: it calls its list walk, which calls it back, while the nesting left falls.
-// An expression is evaluated at a block sp: blocks below sp stay, and so does the stack below place sp; its value stands at place sp, and is an older one or lies
-// in block sp. The answer is the place after the expression, or 0 if the run stopped.
+// An expression is evaluated at a place sp of the stack, which stays as it is below sp, and at a block, which is no higher: blocks below it stay. Its value stands at
+// place sp, and is an older one or lies in that block. The nesting left, the calls that may be opened and the block are one number, the limits (specs/Limits).
+// The answer is the place after the expression, or 0 if the run stopped.
 use crate::call::eval_call;
 use crate::frame::leaf;
 use crate::stack::STACK;
@@ -24,23 +25,23 @@ ghost use Prim.Native.Nat.{ℕ, _+_, _*_, _<_, _≤_};
 ghost use lib.ListN.{length};
 ghost use Rattle.maker.specs.Laying.{partsOf};
 ghost use Rattle.evaluator.specs.Answers.{slotsOf};
+ghost use Rattle.evaluator.specs.Limits.{pastOf};
 ghost use Rattle.evaluator.specs.State.{refAt};
-ghost use Rattle.evaluator.specs.Steps.{Runnable, ListRunnable, PartsReady, EvalStep, FieldStep, ListStep, NewStep, FinishStep};
+ghost use Rattle.evaluator.specs.Steps.{Runnable, PartRunnable, ListRunnable, PartsReady, EvalStep, FieldStep, ListStep, NewStep, FinishStep};
 
-// The expression at `at`, nested at most `left` deep, with room for d more open calls.
+// The expression at `at`, within the limits.
 pub fn eval(
     t: &[u8; SIZE],
     work: &mut [u8],
     st: &mut [u32; STACK],
     at: usize,
-    left: usize,
-    d: usize,
+    lim: usize,
     sp: usize,
 ) -> usize
-    requires { ⌜ Runnable (now work) (now st) left d sp ⌝ }
-    ensures { λ r. ⌜ EvalStep (now (t .entry)) (now (work .entry)) (now (st .entry)) at left d sp (now (work .exit)) (now (st .exit)) r ⌝ }
+    requires { ⌜ Runnable (now work) (now st) lim sp ⌝ }
+    ensures { λ r. ⌜ EvalStep (now (t .entry)) (now (work .entry)) (now (st .entry)) at lim sp (now (work .exit)) (now (st .exit)) r ⌝ }
 {
-    if left == 0 {
+    if lim % 8 == 0 {
         return stop(st, STUCK);
     }
     let s = shape_at(t, at);
@@ -48,9 +49,9 @@ pub fn eval(
         Shape::This { next: _ } => leaf(t, st, at, sp),
         Shape::Result { next: _ } => leaf(t, st, at, sp),
         Shape::Parameter { k: _, next: _ } => leaf(t, st, at, sp),
-        Shape::Field { f: k, next } => eval_field(t, work, st, next, left - 1, d, sp, k),
-        Shape::Call { m, n, next } => eval_call(t, work, st, next, left - 1, d, sp, m, n),
-        Shape::New { c, n, next } => eval_new(t, work, st, next, left - 1, d, sp, c, n),
+        Shape::Field { f: k, next } => eval_field(t, work, st, next, lim - 1, sp, k),
+        Shape::Call { m, n, next } => eval_call(t, work, st, next, lim - 1, sp, m, n),
+        Shape::New { c, n, next } => eval_new(t, work, st, next, lim - 1, sp, c, n),
         Shape::Nothing => stop(st, STUCK),
     }
 }
@@ -61,14 +62,13 @@ pub fn eval_part(
     work: &mut [u8],
     st: &mut [u32; STACK],
     at: usize,
-    left: usize,
-    d: usize,
+    lim: usize,
     sp: usize,
 ) -> usize
-    requires { ⌜ Runnable (now work) (now st) left d sp ⌝ }
-    ensures { λ r. ⌜ EvalStep (now (t .entry)) (now (work .entry)) (now (st .entry)) at left d sp (now (work .exit)) (now (st .exit)) r ⌝ }
+    requires { ⌜ Runnable (now work) (now st) lim sp ⌝ }
+    ensures { λ r. ⌜ EvalStep (now (t .entry)) (now (work .entry)) (now (st .entry)) at lim sp (now (work .exit)) (now (st .exit)) r ⌝ }
 {
-    if left == 0 {
+    if lim % 8 == 0 {
         return stop(st, STUCK);
     }
     let s = shape_at(t, at);
@@ -76,7 +76,7 @@ pub fn eval_part(
         Shape::This { next: _ } => leaf(t, st, at, sp),
         Shape::Result { next: _ } => leaf(t, st, at, sp),
         Shape::Parameter { k: _, next: _ } => leaf(t, st, at, sp),
-        _ => eval(t, work, st, at, left, d, sp),
+        _ => eval(t, work, st, at, lim, sp),
     }
 }
 
@@ -86,15 +86,14 @@ pub fn eval_field(
     work: &mut [u8],
     st: &mut [u32; STACK],
     at: usize,
-    left: usize,
-    d: usize,
+    lim: usize,
     sp: usize,
     k: u8,
 ) -> usize
-    requires { ⌜ Runnable (now work) (now st) (left + 1) d sp ⌝ }
-    ensures { λ r. ⌜ FieldStep (now (t .entry)) (now (work .entry)) (now (st .entry)) at left d sp k (now (work .exit)) (now (st .exit)) r ⌝ }
+    requires { ⌜ PartRunnable (now work) (now st) lim sp ⌝ }
+    ensures { λ r. ⌜ FieldStep (now (t .entry)) (now (work .entry)) (now (st .entry)) at lim sp k (now (work .exit)) (now (st .exit)) r ⌝ }
 {
-    let r1 = eval_part(t, work, st, at, left, d, sp);
+    let r1 = eval_part(t, work, st, at, lim, sp);
     let w1 = went_of(r1);
     let Went::On(at1) = w1 else {
         return 0;
@@ -107,29 +106,46 @@ pub fn eval_field(
     at1
 }
 
-// The n expressions at `at`, at the blocks from sp on.
+// The limits for what follows the value x: the next block, if x lies in this one.
+pub fn past(lim: usize, x: u32) -> usize
+    requires { ⌜ lim < 16777216 ⌝ }
+    ensures { λ r. ⌜ r ≡ pastOf lim x ⌝ }
+{
+    if (x / 256 % 65536) as usize == lim / 256 {
+        return lim + 256;
+    }
+    lim
+}
+
+// The n expressions at `at`, each at the place and the block after those of the one before.
 pub fn eval_list(
     t: &[u8; SIZE],
     work: &mut [u8],
     st: &mut [u32; STACK],
     at: usize,
-    left: usize,
-    d: usize,
+    lim: usize,
     sp: usize,
     n: u8,
 ) -> usize
-    requires { ⌜ ListRunnable (now work) (now st) at left d sp n ⌝ }
-    ensures { λ r. ⌜ ListStep (now (t .entry)) (now (work .entry)) (now (st .entry)) at left d sp n (now (work .exit)) (now (st .exit)) r ⌝ }
+    requires { ⌜ ListRunnable (now work) (now st) at lim sp n ⌝ }
+    ensures { λ r. ⌜ ListStep (now (t .entry)) (now (work .entry)) (now (st .entry)) at lim sp n (now (work .exit)) (now (st .exit)) r ⌝ }
 {
-    if n == 0 {
-        return at;
+    let mut p = at;
+    let mut l = lim;
+    let mut q = sp;
+    let mut left = n;
+    while 0 < left {
+        let r1 = eval_part(t, work, st, p, l, q);
+        let w1 = went_of(r1);
+        let Went::On(at1) = w1 else {
+            return 0;
+        };
+        l = past(l, st[q]);
+        p = at1;
+        q += 1;
+        left -= 1;
     }
-    let r1 = eval_part(t, work, st, at, left, d, sp);
-    let w1 = went_of(r1);
-    let Went::On(at1) = w1 else {
-        return 0;
-    };
-    eval_list(t, work, st, at1, left, d, sp + 1, n - 1)
+    p
 }
 
 // The numbers of the four places from sp on.
@@ -140,13 +156,21 @@ pub fn parts_at(st: &[u32; STACK], sp: usize) -> [u32; 4]
     [st[sp], st[sp + 1], st[sp + 2], st[sp + 3]]
 }
 
-// A new object of class c with the n values from place sp on, as the value at sp; `next` is the place after.
-pub fn finish(work: &mut [u8], st: &mut [u32; STACK], c: u8, n: u8, sp: usize, next: usize) -> usize
-    requires { ⌜ PartsReady (now work) (now st) n sp next ⌝ }
-    ensures { λ r. ⌜ FinishStep (now (work .entry)) (now (st .entry)) c n sp next (now (work .exit)) (now (st .exit)) r ⌝ }
+// A new object of class c with the n values from place sp on, as the value at sp, in block dst or below; `next` is the place after.
+pub fn finish(
+    work: &mut [u8],
+    st: &mut [u32; STACK],
+    c: u8,
+    n: u8,
+    sp: usize,
+    dst: u16,
+    next: usize,
+) -> usize
+    requires { ⌜ PartsReady (now work) (now st) n sp dst next ⌝ }
+    ensures { λ r. ⌜ FinishStep (now (work .entry)) (now (st .entry)) c n sp dst next (now (work .exit)) (now (st .exit)) r ⌝ }
 {
     if n == 0 {
-        let q = make_bare(work, c, sp as u16);
+        let q = make_bare(work, c, dst);
         let Made::Value(u) = q else {
             return stop(st, TOO_LARGE);
         };
@@ -154,7 +178,7 @@ pub fn finish(work: &mut [u8], st: &mut [u32; STACK], c: u8, n: u8, sp: usize, n
         return next;
     }
     let ps = parts_at(st, sp);
-    let o = make(work, c, &ps, n, sp as u16);
+    let o = make(work, c, &ps, n, dst);
     let Made::Value(v) = o else {
         return stop(st, TOO_LARGE);
     };
@@ -168,14 +192,13 @@ pub fn eval_new(
     work: &mut [u8],
     st: &mut [u32; STACK],
     at: usize,
-    left: usize,
-    d: usize,
+    lim: usize,
     sp: usize,
     c: u8,
     n: u8,
 ) -> usize
-    requires { ⌜ Runnable (now work) (now st) (left + 1) d sp × (0 < at) ⌝ }
-    ensures { λ r. ⌜ NewStep (now (t .entry)) (now (work .entry)) (now (st .entry)) at left d sp c n (now (work .exit)) (now (st .exit)) r ⌝ }
+    requires { ⌜ PartRunnable (now work) (now st) lim sp × (0 < at) ⌝ }
+    ensures { λ r. ⌜ NewStep (now (t .entry)) (now (work .entry)) (now (st .entry)) at lim sp c n (now (work .exit)) (now (st .exit)) r ⌝ }
 {
     if field_total(t, c) != n {
         return stop(st, STUCK);
@@ -183,10 +206,10 @@ pub fn eval_new(
     if 4 < n {
         return stop(st, STUCK);
     }
-    let r1 = eval_list(t, work, st, at, left, d, sp, n);
+    let r1 = eval_list(t, work, st, at, lim, sp, n);
     let w1 = went_of(r1);
     let Went::On(at1) = w1 else {
         return 0;
     };
-    finish(work, st, c, n, sp, at1)
+    finish(work, st, c, n, sp, (lim / 256) as u16, at1)
 }

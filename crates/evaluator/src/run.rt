@@ -48,6 +48,9 @@ pub fn out_of(st: &[u32; STACK], r: usize) -> Out
     }
 }
 
+// nested 6 deep, 16 calls, block 0
+pub const LIMITS: usize = 134;
+
 // The outcome of main with this fuel. The work buffer has room for 273 blocks.
 pub fn run(t: &[u8; SIZE], work: &mut [u8], fuel: u16) -> Out
     requires { ⌜ 65520 ≤ length (now work) ⌝ }
@@ -56,6 +59,6 @@ pub fn run(t: &[u8; SIZE], work: &mut [u8], fuel: u16) -> Out
     let mut st = [0u32; STACK];
     st[FUEL] = fuel as u32;
     st[BASE] = 274;
-    let r = eval(t, work, &mut st, MAIN + 1, 6, 16, 0);
+    let r = eval(t, work, &mut st, MAIN + 1, LIMITS, 0);
     out_of(&st, r)
 }

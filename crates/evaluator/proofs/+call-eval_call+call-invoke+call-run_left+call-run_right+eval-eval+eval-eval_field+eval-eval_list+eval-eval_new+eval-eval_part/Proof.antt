@@ -1,4 +1,4 @@
-use Prim.Native.Nat.{ℕ, _<_, _+_, _*_}
+use Prim.Native.Nat.{ℕ, _<_, _+_, _*_, _/_, _%_}
 use borrow.Fn.Kinds.{In}
 use borrow.Fn.PlainCycle.{Measures, is, falls, and}
 use Rattle.evaluator.proofs.call.eval_call.Reads as call·eval-call
@@ -28,6 +28,8 @@ use Rattle.evaluator.proofs.+call-eval_call+call-invoke+call-run_left+c
 use Rattle.evaluator.proofs.eval.eval_part.Reads as eval·eval-part
 use Rattle.evaluator.proofs.eval.eval_part.Kinds as eval·eval-part-kinds
 use Rattle.evaluator.proofs.+call-eval_call+call-invoke+call-run_left+call-run_right+eval-eval+eval-eval_field+eval-eval_list+eval-eval_new+eval-eval_part.Lts-eval-eval_part as eval·eval-part-lts
+use Rattle.evaluator.proofs.call.body_limits.Reads as body-limits-reads
+use Rattle.evaluator.proofs.eval.past.Reads as past-reads
 use Rattle.checker.proofs.shape.shape_at.Reads as shape-at-reads
 use Rattle.classes.proofs.chain.field_total.Reads as field-total-reads
 use Rattle.classes.proofs.methods.left_place.Reads as left-place-reads
@@ -54,36 +56,37 @@ use Rattle.evaluator.proofs.+call-eval_call+call-invoke+call-run_left+c
 use native.Mathlib.Omega.{arith}
 use borrow.Author.Needs.{needs}
 use mathlib.Core.List.{[]}
+use Rattle.evaluator.proofs.LimitLaws as limits
 use Rattle.evaluator.proofs.StepLaws as steps
 use Rattle.evaluator.proofs.CallSteps as calls
 use Rattle.evaluator.proofs.SideSteps as sides
 
 abbrev μ-call·eval-call : Measures 3 call·eval-call-kinds.ps ℕ
-μ-call·eval-call κs a = (a .1 .1 .1 .1 .1 .0) * 6000 + (a .1 .1 .1 .1 .0) * 600 + 500
+μ-call·eval-call κs a = (a .1 .1 .1 .1 .0) / 8 % 32 * 6000 + (a .1 .1 .1 .1 .0) % 8 * 600 + 500
 
 abbrev μ-call·invoke : Measures 3 call·invoke-kinds.ps ℕ
-μ-call·invoke κs a = (a .1 .1 .1 .1 .0) * 6000 + 1
+μ-call·invoke κs a = (a .1 .1 .1 .1 .0) / 8 % 32 * 6000 + 1
 
 abbrev μ-call·run-left : Measures 3 call·run-left-kinds.ps ℕ
-μ-call·run-left κs a = (a .1 .1 .1 .1 .0) * 6000 + 5000
+μ-call·run-left κs a = (a .1 .1 .1 .1 .0) / 8 % 32 * 6000
 
 abbrev μ-call·run-right : Measures 3 call·run-right-kinds.ps ℕ
-μ-call·run-right κs a = (a .1 .1 .1 .1 .0) * 6000 + 5000
+μ-call·run-right κs a = (a .1 .1 .1 .1 .0) / 8 % 32 * 6000
 
 abbrev μ-eval·eval : Measures 3 eval·eval-kinds.ps ℕ
-μ-eval·eval κs a = (a .1 .1 .1 .1 .1 .0) * 6000 + (a .1 .1 .1 .1 .0) * 600
+μ-eval·eval κs a = (a .1 .1 .1 .1 .0) / 8 % 32 * 6000 + (a .1 .1 .1 .1 .0) % 8 * 600
 
 abbrev μ-eval·eval-field : Measures 3 eval·eval-field-kinds.ps ℕ
-μ-eval·eval-field κs a = (a .1 .1 .1 .1 .1 .0) * 6000 + (a .1 .1 .1 .1 .0) * 600 + 500
+μ-eval·eval-field κs a = (a .1 .1 .1 .1 .0) / 8 % 32 * 6000 + (a .1 .1 .1 .1 .0) % 8 * 600 + 500
 
 abbrev μ-eval·eval-list : Measures 3 eval·eval-list-kinds.ps ℕ
-μ-eval·eval-list κs a = (a .1 .1 .1 .1 .1 .0) * 6000 + (a .1 .1 .1 .1 .0) * 600 + 2 + (a .1 .1 .1 .1 .1 .1 .1 .0)
+μ-eval·eval-list κs a = (a .1 .1 .1 .1 .0) / 8 % 32 * 6000 + (a .1 .1 .1 .1 .0) % 8 * 600 + 2
 
 abbrev μ-eval·eval-new : Measures 3 eval·eval-new-kinds.ps ℕ
-μ-eval·eval-new κs a = (a .1 .1 .1 .1 .1 .0) * 6000 + (a .1 .1 .1 .1 .0) * 600 + 500
+μ-eval·eval-new κs a = (a .1 .1 .1 .1 .0) / 8 % 32 * 6000 + (a .1 .1 .1 .1 .0) % 8 * 600 + 500
 
 abbrev μ-eval·eval-part : Measures 3 eval·eval-part-kinds.ps ℕ
-μ-eval·eval-part κs a = (a .1 .1 .1 .1 .1 .0) * 6000 + (a .1 .1 .1 .1 .0) * 600 + 1
+μ-eval·eval-part κs a = (a .1 .1 .1 .1 .0) / 8 % 32 * 6000 + (a .1 .1 .1 .1 .0) % 8 * 600 + 1
 
 abbrev call·eval-call-at : ℕ → In 3 call·eval-call-kinds.ps
 call·eval-call-at t =
@@ -211,10 +214,10 @@ abbrev call·invoke-claims : ℕ → call·invoke-lts.Claims
 call·invoke-claims t = (stop-reads.Asked, stop-reads.Learnt, open-call-reads.Asked, open-call-reads.Learnt, call·run-left-below t, call·run-left.Post, call·run-right-below t, call·run-right.Post)
 
 abbrev call·run-left-claims : ℕ → call·run-left-lts.Claims
-call·run-left-claims t = (push-reads.Asked, push-reads.Learnt, enter-reads.Asked, enter-reads.Learnt, left-place-reads.Asked, left-place-reads.Learnt, eval·eval-below t, eval·eval.Post, set-frame-reads.Asked, set-frame-reads.Learnt, went-of-reads.Asked, went-of-reads.Learnt, close-in-reads.Asked, close-in-reads.Learnt)
+call·run-left-claims t = (push-reads.Asked, push-reads.Learnt, enter-reads.Asked, enter-reads.Learnt, left-place-reads.Asked, left-place-reads.Learnt, body-limits-reads.Asked, body-limits-reads.Learnt, eval·eval-below t, eval·eval.Post, set-frame-reads.Asked, set-frame-reads.Learnt, went-of-reads.Asked, went-of-reads.Learnt, close-in-reads.Asked, close-in-reads.Learnt)
 
 abbrev call·run-right-claims : ℕ → call·run-right-lts.Claims
-call·run-right-claims t = (enter-reads.Asked, enter-reads.Learnt, right-place-reads.Asked, right-place-reads.Learnt, eval·eval-below t, eval·eval.Post, set-frame-reads.Asked, set-frame-reads.Learnt, went-of-reads.Asked, went-of-reads.Learnt, bring-in-reads.Asked, bring-in-reads.Learnt)
+call·run-right-claims t = (enter-reads.Asked, enter-reads.Learnt, right-place-reads.Asked, right-place-reads.Learnt, body-limits-reads.Asked, body-limits-reads.Learnt, eval·eval-below t, eval·eval.Post, set-frame-reads.Asked, set-frame-reads.Learnt, went-of-reads.Asked, went-of-reads.Learnt, bring-in-reads.Asked, bring-in-reads.Learnt)
 
 abbrev eval·eval-claims : ℕ → eval·eval-lts.Claims
 eval·eval-claims t = (stop-reads.Asked, stop-reads.Learnt, shape-at-reads.Asked, shape-at-reads.Learnt, leaf-reads.Asked, leaf-reads.Learnt, eval·eval-field-below t, eval·eval-field.Post, call·eval-call-below t, call·eval-call.Post, eval·eval-new-below t, eval·eval-new.Post)
@@ -223,7 +226,7 @@ abbrev eval·eval-field-claims : ℕ → eval·eval-field-lts.Claims
 eval·eval-field-claims t = (eval·eval-part-below t, eval·eval-part.Post, went-of-reads.Asked, went-of-reads.Learnt, select-in-reads.Asked, select-in-reads.Learnt, stop-reads.Asked, stop-reads.Learnt)
 
 abbrev eval·eval-list-claims : ℕ → eval·eval-list-lts.Claims
-eval·eval-list-claims t = (eval·eval-part-below t, eval·eval-part.Post, went-of-reads.Asked, went-of-reads.Learnt, eval·eval-list-below t, eval·eval-list.Post)
+eval·eval-list-claims t = (eval·eval-part-below t, eval·eval-part.Post, went-of-reads.Asked, went-of-reads.Learnt, past-reads.Asked, past-reads.Learnt)
 
 abbrev eval·eval-new-claims : ℕ → eval·eval-new-lts.Claims
 eval·eval-new-claims t = (field-total-reads.Asked, field-total-reads.Learnt, stop-reads.Asked, stop-reads.Learnt, eval·eval-list-below t, eval·eval-list.Post, went-of-reads.Asked, went-of-reads.Learnt, finish-reads.Asked, finish-reads.Learnt)
@@ -241,37 +244,40 @@ call·eval-call-eval-part-requires : (t : ℕ) → call·eval-call-lts.Need-eval
 call·eval-call-eval-part-requires t c κs = (search needs, search steps.run-inner)
 
 call·eval-call-returns-2 : (t : ℕ) → call·eval-call-lts.Need-returns-2 (call·eval-call-claims t) (call·eval-call-at t) call·eval-call.Post
-call·eval-call-returns-2 t c = calls.call-stops _ _ _ _ _ _ _ _ _ (c .before .before .before .before .before .before .before .before .before .before .pre .1) _ _ _ (c .before .before .before .before .before .eval-part .ensures) (steps.went-stopped _ _ (c .before .before .went-of .ensures) (c .enum-told .given .1))
+call·eval-call-returns-2 t c = calls.call-stops _ _ _ _ _ _ _ _ (c .before .before .before .before .before .before .before .before .before .before .pre .1) _ _ _ (c .before .before .before .before .before .eval-part .ensures) (steps.went-stopped _ _ (c .before .before .went-of .ensures) (c .enum-told .given .1))
 
 call·eval-call-find-requires : (t : ℕ) → call·eval-call-lts.Need-find-requires (call·eval-call-claims t) (call·eval-call-at t) call·eval-call.Post
-call·eval-call-find-requires t c κs = calls.receiver-there _ _ _ _ _ _ _ 0 0 (c .before .before .before .before .before .before .before .before .before .before .before .before .before .before .pre .1) _ _ _ (steps.eval-went _ _ (c .before .before .before .before .before .before .went-of .ensures) _ (c .before .before .before .before .w1 .given .1) _ _ _ _ _ _ _ _ _ (c .before .before .before .before .before .before .before .before .before .eval-part .ensures)) (steps.went-on _ _ (c .before .before .before .before .before .before .went-of .ensures) _ (c .before .before .before .before .w1 .given .1)) _ (c .unpack .ensures)
+call·eval-call-find-requires t c κs = calls.receiver-there _ _ _ _ _ _ 0 0 (c .before .before .before .before .before .before .before .before .before .before .before .before .before .before .pre .1) _ _ _ (steps.eval-went _ _ (c .before .before .before .before .before .before .went-of .ensures) _ (c .before .before .before .before .w1 .given .1) _ _ _ _ _ _ _ _ (c .before .before .before .before .before .before .before .before .before .eval-part .ensures)) (steps.went-on _ _ (c .before .before .before .before .before .before .went-of .ensures) _ (c .before .before .before .before .w1 .given .1)) _ (c .unpack .ensures)
 
 call·eval-call-stop-requires-2 : (t : ℕ) → call·eval-call-lts.Need-stop-requires-2 (call·eval-call-claims t) (call·eval-call-at t) call·eval-call.Post
-call·eval-call-stop-requires-2 t c κs = steps.full-after _ _ _ _ _ _ _ _ _ _ (c .before .before .before .before .before .before .before .before .before .before .before .before .before .eval-part .ensures) (c .before .before .before .before .before .before .before .before .before .before .before .before .before .before .before .before .before .before .pre .1)
+call·eval-call-stop-requires-2 t c κs = steps.full-after _ _ _ _ _ _ _ _ _ (c .before .before .before .before .before .before .before .before .before .before .before .before .before .eval-part .ensures) (c .before .before .before .before .before .before .before .before .before .before .before .before .before .before .before .before .before .before .pre .1)
 
 call·eval-call-returns-3 : (t : ℕ) → call·eval-call-lts.Need-returns-3 (call·eval-call-claims t) (call·eval-call-at t) call·eval-call.Post
-call·eval-call-returns-3 t c = calls.call-lacks _ _ _ _ _ _ _ _ _ (c .before .before .before .before .before .before .before .before .before .before .before .before .before .before .before .before .before .before .before .pre .1) _ _ _ (steps.eval-went _ _ (c .before .before .before .before .before .before .before .before .before .before .before .went-of .ensures) _ (c .before .before .before .before .before .before .before .before .before .w1 .given .1) _ _ _ _ _ _ _ _ _ (c .before .before .before .before .before .before .before .before .before .before .before .before .before .before .eval-part .ensures)) (steps.went-on _ _ (c .before .before .before .before .before .before .before .before .before .before .before .went-of .ensures) _ (c .before .before .before .before .before .before .before .before .before .w1 .given .1)) _ (c .before .before .before .before .before .unpack .ensures) _ (c .before .before .before .before .find .ensures) (c .before .before .enum-told2 .given .1) _ _ (c .stop2 .ensures)
+call·eval-call-returns-3 t c = calls.call-lacks _ _ _ _ _ _ _ _ (c .before .before .before .before .before .before .before .before .before .before .before .before .before .before .before .before .before .before .before .pre .1) _ _ _ (steps.eval-went _ _ (c .before .before .before .before .before .before .before .before .before .before .before .went-of .ensures) _ (c .before .before .before .before .before .before .before .before .before .w1 .given .1) _ _ _ _ _ _ _ _ (c .before .before .before .before .before .before .before .before .before .before .before .before .before .before .eval-part .ensures)) (steps.went-on _ _ (c .before .before .before .before .before .before .before .before .before .before .before .went-of .ensures) _ (c .before .before .before .before .before .before .before .before .before .w1 .given .1)) _ (c .before .before .before .before .before .unpack .ensures) _ (c .before .before .before .before .find .ensures) (c .before .before .enum-told2 .given .1) _ _ (c .stop2 .ensures)
 
 call·eval-call-invoke-requires : (t : ℕ) → call·eval-call-lts.Need-invoke-requires (call·eval-call-claims t) (call·eval-call-at t) call·eval-call.Post
-call·eval-call-invoke-requires t c κs = (search needs, calls.direct-run _ _ _ _ _ _ _ _ _ (c .before .before .before .before .before .before .before .before .before .before .before .before .before .before .before .before .before .before .before .before .before .pre .1) _ _ _ (steps.eval-went _ _ (c .before .before .before .before .before .before .before .before .before .before .before .before .before .went-of .ensures) _ (c .before .before .before .before .before .before .before .before .before .before .before .w1 .given .1) _ _ _ _ _ _ _ _ _ (c .before .before .before .before .before .before .before .before .before .before .before .before .before .before .before .before .eval-part .ensures)) (steps.went-on _ _ (c .before .before .before .before .before .before .before .before .before .before .before .before .before .went-of .ensures) _ (c .before .before .before .before .before .before .before .before .before .before .before .w1 .given .1)) _ (c .before .before .before .before .before .before .before .unpack .ensures) _ (c .before .before .before .before .before .before .find .ensures) (c .before .before .before .before .before .before .before .before .before .before .before .before .before .before .before .before .before .before .before .if1 .left) _ (c .before .before .before .before .w .given .1) (c .before .before .if2 .taken))
+call·eval-call-invoke-requires t c κs = (search needs, calls.direct-run _ _ _ _ _ _ _ _ (c .before .before .before .before .before .before .before .before .before .before .before .before .before .before .before .before .before .before .before .before .before .pre .1) _ _ _ (steps.eval-went _ _ (c .before .before .before .before .before .before .before .before .before .before .before .before .before .went-of .ensures) _ (c .before .before .before .before .before .before .before .before .before .before .before .w1 .given .1) _ _ _ _ _ _ _ _ (c .before .before .before .before .before .before .before .before .before .before .before .before .before .before .before .before .eval-part .ensures)) (steps.went-on _ _ (c .before .before .before .before .before .before .before .before .before .before .before .before .before .went-of .ensures) _ (c .before .before .before .before .before .before .before .before .before .before .before .w1 .given .1)) _ (c .before .before .before .before .before .before .before .unpack .ensures) _ (c .before .before .before .before .before .before .find .ensures) (c .before .before .before .before .before .before .before .before .before .before .before .before .before .before .before .before .before .before .before .if1 .left) _ (c .before .before .before .before .w .given .1) (c .before .before .if2 .taken))
 
 call·eval-call-returns-4 : (t : ℕ) → call·eval-call-lts.Need-returns-4 (call·eval-call-claims t) (call·eval-call-at t) call·eval-call.Post
-call·eval-call-returns-4 t c = calls.direct-is _ _ _ _ _ _ _ _ _ (c .before .before .before .before .before .before .before .before .before .before .before .before .before .before .before .before .before .before .before .before .before .before .before .before .pre .1) _ _ _ (steps.eval-went _ _ (c .before .before .before .before .before .before .before .before .before .before .before .before .before .before .before .before .went-of .ensures) _ (c .before .before .before .before .before .before .before .before .before .before .before .before .before .before .w1 .given .1) _ _ _ _ _ _ _ _ _ (c .before .before .before .before .before .before .before .before .before .before .before .before .before .before .before .before .before .before .before .eval-part .ensures)) (steps.went-on _ _ (c .before .before .before .before .before .before .before .before .before .before .before .before .before .before .before .before .went-of .ensures) _ (c .before .before .before .before .before .before .before .before .before .before .before .before .before .before .w1 .given .1)) _ (c .before .before .before .before .before .before .before .before .before .before .unpack .ensures) _ (c .before .before .before .before .before .before .before .before .before .find .ensures) (c .before .before .before .before .before .before .before .before .before .before .before .before .before .before .before .before .before .before .before .before .before .before .if1 .left) _ (c .before .before .before .before .before .before .before .w .given .1) (c .before .before .before .before .before .if2 .taken) _ _ _ (c .before .before .invoke .ensures)
+call·eval-call-returns-4 t c = calls.direct-is _ _ _ _ _ _ _ _ (c .before .before .before .before .before .before .before .before .before .before .before .before .before .before .before .before .before .before .before .before .before .before .before .before .pre .1) _ _ _ (steps.eval-went _ _ (c .before .before .before .before .before .before .before .before .before .before .before .before .before .before .before .before .went-of .ensures) _ (c .before .before .before .before .before .before .before .before .before .before .before .before .before .before .w1 .given .1) _ _ _ _ _ _ _ _ (c .before .before .before .before .before .before .before .before .before .before .before .before .before .before .before .before .before .before .before .eval-part .ensures)) (steps.went-on _ _ (c .before .before .before .before .before .before .before .before .before .before .before .before .before .before .before .before .went-of .ensures) _ (c .before .before .before .before .before .before .before .before .before .before .before .before .before .before .w1 .given .1)) _ (c .before .before .before .before .before .before .before .before .before .before .unpack .ensures) _ (c .before .before .before .before .before .before .before .before .before .find .ensures) (c .before .before .before .before .before .before .before .before .before .before .before .before .before .before .before .before .before .before .before .before .before .before .if1 .left) _ (c .before .before .before .before .before .before .before .w .given .1) (c .before .before .before .before .before .if2 .taken) _ _ _ (c .before .before .invoke .ensures)
+
+call·eval-call-add-eval-list : (t : ℕ) → call·eval-call-lts.Need-add-eval-list (call·eval-call-claims t) (call·eval-call-at t) call·eval-call.Post
+call·eval-call-add-eval-list t c = search (needs, steps.part-limit _ _ _ _ (c .before .before .before .before .before .before .before .before .before .before .before .before .before .before .before .before .before .before .before .before .before .pre .1))
 
 call·eval-call-eval-list-requires : (t : ℕ) → call·eval-call-lts.Need-eval-list-requires (call·eval-call-claims t) (call·eval-call-at t) call·eval-call.Post
-call·eval-call-eval-list-requires t c κs = (search needs, calls.args-run _ _ _ _ _ _ _ _ _ (c .before .before .before .before .before .before .before .before .before .before .before .before .before .before .before .before .before .before .before .before .before .pre .1) _ _ _ (steps.eval-went _ _ (c .before .before .before .before .before .before .before .before .before .before .before .before .before .went-of .ensures) _ (c .before .before .before .before .before .before .before .before .before .before .before .w1 .given .1) _ _ _ _ _ _ _ _ _ (c .before .before .before .before .before .before .before .before .before .before .before .before .before .before .before .before .eval-part .ensures)) (steps.went-on _ _ (c .before .before .before .before .before .before .before .before .before .before .before .before .before .went-of .ensures) _ (c .before .before .before .before .before .before .before .before .before .before .before .w1 .given .1)) _ (c .before .before .before .before .before .before .before .unpack .ensures) _ (c .before .before .before .before .before .before .find .ensures) (c .before .before .before .before .before .before .before .before .before .before .before .before .before .before .before .before .before .before .before .if1 .left) _ (c .before .before .before .before .w .given .1))
+call·eval-call-eval-list-requires t c κs = (search limits.next-falls, calls.args-run _ _ _ _ _ _ _ _ (c .before .before .before .before .before .before .before .before .before .before .before .before .before .before .before .before .before .before .before .before .before .pre .1) _ _ _ (steps.eval-went _ _ (c .before .before .before .before .before .before .before .before .before .before .before .before .before .went-of .ensures) _ (c .before .before .before .before .before .before .before .before .before .before .before .w1 .given .1) _ _ _ _ _ _ _ _ (c .before .before .before .before .before .before .before .before .before .before .before .before .before .before .before .before .eval-part .ensures)) (steps.went-on _ _ (c .before .before .before .before .before .before .before .before .before .before .before .before .before .went-of .ensures) _ (c .before .before .before .before .before .before .before .before .before .before .before .w1 .given .1)) _ (c .before .before .before .before .before .before .before .unpack .ensures) _ (c .before .before .before .before .before .before .find .ensures) (c .before .before .before .before .before .before .before .before .before .before .before .before .before .before .before .before .before .before .before .if1 .left) _ (c .before .before .before .before .w .given .1))
 
 call·eval-call-returns-5 : (t : ℕ) → call·eval-call-lts.Need-returns-5 (call·eval-call-claims t) (call·eval-call-at t) call·eval-call.Post
-call·eval-call-returns-5 t c = calls.args-stop _ _ _ _ _ _ _ _ _ (c .before .before .before .before .before .before .before .before .before .before .before .before .before .before .before .before .before .before .before .before .before .before .before .before .before .before .before .pre .1) _ _ _ (steps.eval-went _ _ (c .before .before .before .before .before .before .before .before .before .before .before .before .before .before .before .before .before .before .before .went-of .ensures) _ (c .before .before .before .before .before .before .before .before .before .before .before .before .before .before .before .before .before .w1 .given .1) _ _ _ _ _ _ _ _ _ (c .before .before .before .before .before .before .before .before .before .before .before .before .before .before .before .before .before .before .before .before .before .before .eval-part .ensures)) (steps.went-on _ _ (c .before .before .before .before .before .before .before .before .before .before .before .before .before .before .before .before .before .before .before .went-of .ensures) _ (c .before .before .before .before .before .before .before .before .before .before .before .before .before .before .before .before .before .w1 .given .1)) _ (c .before .before .before .before .before .before .before .before .before .before .before .before .before .unpack .ensures) _ (c .before .before .before .before .before .before .before .before .before .before .before .before .find .ensures) (c .before .before .before .before .before .before .before .before .before .before .before .before .before .before .before .before .before .before .before .before .before .before .before .before .before .if1 .left) _ (c .before .before .before .before .before .before .before .before .before .before .w .given .1) _ _ _ (c .before .before .before .before .before .eval-list .ensures) (steps.went-stopped _ _ (c .before .before .went-of2 .ensures) (c .enum-told3 .given .1))
+call·eval-call-returns-5 t c = calls.args-stop _ _ _ _ _ _ _ _ (c .before .before .before .before .before .before .before .before .before .before .before .before .before .before .before .before .before .before .before .before .before .before .before .before .before .before .before .pre .1) _ _ _ (steps.eval-went _ _ (c .before .before .before .before .before .before .before .before .before .before .before .before .before .before .before .before .before .before .before .went-of .ensures) _ (c .before .before .before .before .before .before .before .before .before .before .before .before .before .before .before .before .before .w1 .given .1) _ _ _ _ _ _ _ _ (c .before .before .before .before .before .before .before .before .before .before .before .before .before .before .before .before .before .before .before .before .before .before .eval-part .ensures)) (steps.went-on _ _ (c .before .before .before .before .before .before .before .before .before .before .before .before .before .before .before .before .before .before .before .went-of .ensures) _ (c .before .before .before .before .before .before .before .before .before .before .before .before .before .before .before .before .before .w1 .given .1)) _ (c .before .before .before .before .before .before .before .before .before .before .before .before .before .unpack .ensures) _ (c .before .before .before .before .before .before .before .before .before .before .before .before .find .ensures) (c .before .before .before .before .before .before .before .before .before .before .before .before .before .before .before .before .before .before .before .before .before .before .before .before .before .if1 .left) _ (c .before .before .before .before .before .before .before .before .before .before .w .given .1) _ _ _ (c .before .before .before .before .before .eval-list .ensures) (steps.went-stopped _ _ (c .before .before .went-of2 .ensures) (c .enum-told3 .given .1))
 
 call·eval-call-invoke-requires-2 : (t : ℕ) → call·eval-call-lts.Need-invoke-requires-2 (call·eval-call-claims t) (call·eval-call-at t) call·eval-call.Post
-call·eval-call-invoke-requires-2 t c κs = (omega (arith, (c .before .before .before .before .before .before .before .before .before .before .before .before .before .before .before .before .before .before .before .before .before .before .before .before .before .before .before .before .before .before .pre .0)), calls.call-run _ _ _ _ _ _ _ _ _ (c .before .before .before .before .before .before .before .before .before .before .before .before .before .before .before .before .before .before .before .before .before .before .before .before .before .before .before .before .before .before .pre .1) _ _ _ (steps.eval-went _ _ (c .before .before .before .before .before .before .before .before .before .before .before .before .before .before .before .before .before .before .before .before .before .before .went-of .ensures) _ (c .before .before .before .before .before .before .before .before .before .before .before .before .before .before .before .before .before .before .before .before .w1 .given .1) _ _ _ _ _ _ _ _ _ (c .before .before .before .before .before .before .before .before .before .before .before .before .before .before .before .before .before .before .before .before .before .before .before .before .before .eval-part .ensures)) (steps.went-on _ _ (c .before .before .before .before .before .before .before .before .before .before .before .before .before .before .before .before .before .before .before .before .before .before .went-of .ensures) _ (c .before .before .before .before .before .before .before .before .before .before .before .before .before .before .before .before .before .before .before .before .w1 .given .1)) _ (c .before .before .before .before .before .before .before .before .before .before .before .before .before .before .before .before .unpack .ensures) _ (c .before .before .before .before .before .before .before .before .before .before .before .before .before .before .before .find .ensures) (c .before .before .before .before .before .before .before .before .before .before .before .before .before .before .before .before .before .before .before .before .before .before .before .before .before .before .before .before .if1 .left) _ (c .before .before .before .before .before .before .before .before .before .before .before .before .before .w .given .1) _ _ _ (steps.list-went _ _ (c .before .before .before .before .before .went-of2 .ensures) _ (c .before .before .before .w2 .given .1) _ _ _ _ _ _ _ _ _ _ (c .before .before .before .before .before .before .before .before .eval-list .ensures)) (steps.went-on _ _ (c .before .before .before .before .before .went-of2 .ensures) _ (c .before .before .before .w2 .given .1)))
+call·eval-call-invoke-requires-2 t c κs = (omega (arith, (c .before .before .before .before .before .before .before .before .before .before .before .before .before .before .before .before .before .before .before .before .before .before .before .before .before .before .before .before .before .before .pre .0)), calls.call-run _ _ _ _ _ _ _ _ (c .before .before .before .before .before .before .before .before .before .before .before .before .before .before .before .before .before .before .before .before .before .before .before .before .before .before .before .before .before .before .pre .1) _ _ _ (steps.eval-went _ _ (c .before .before .before .before .before .before .before .before .before .before .before .before .before .before .before .before .before .before .before .before .before .before .went-of .ensures) _ (c .before .before .before .before .before .before .before .before .before .before .before .before .before .before .before .before .before .before .before .before .w1 .given .1) _ _ _ _ _ _ _ _ (c .before .before .before .before .before .before .before .before .before .before .before .before .before .before .before .before .before .before .before .before .before .before .before .before .before .eval-part .ensures)) (steps.went-on _ _ (c .before .before .before .before .before .before .before .before .before .before .before .before .before .before .before .before .before .before .before .before .before .before .went-of .ensures) _ (c .before .before .before .before .before .before .before .before .before .before .before .before .before .before .before .before .before .before .before .before .w1 .given .1)) _ (c .before .before .before .before .before .before .before .before .before .before .before .before .before .before .before .before .unpack .ensures) _ (c .before .before .before .before .before .before .before .before .before .before .before .before .before .before .before .find .ensures) (c .before .before .before .before .before .before .before .before .before .before .before .before .before .before .before .before .before .before .before .before .before .before .before .before .before .before .before .before .if1 .left) _ (c .before .before .before .before .before .before .before .before .before .before .before .before .before .w .given .1) _ _ _ (steps.list-went _ _ (c .before .before .before .before .before .went-of2 .ensures) _ (c .before .before .before .w2 .given .1) _ _ _ _ _ _ _ _ _ (c .before .before .before .before .before .before .before .before .eval-list .ensures)) (steps.went-on _ _ (c .before .before .before .before .before .went-of2 .ensures) _ (c .before .before .before .w2 .given .1)))
 
 call·eval-call-same-length-5 : (t : ℕ) → call·eval-call-lts.Need-same-length-5 (call·eval-call-claims t) (call·eval-call-at t) call·eval-call.Post
-call·eval-call-same-length-5 t c = search (needs, (calls.call-goes-on _ _ _ _ _ _ _ _ _ (c .before .before .before .before .before .before .before .before .before .before .before .before .before .before .before .before .before .before .before .before .before .before .before .before .before .before .before .before .before .before .before .before .before .pre .1) _ _ _ (steps.eval-went _ _ (c .before .before .before .before .before .before .before .before .before .before .before .before .before .before .before .before .before .before .before .before .before .before .before .before .before .went-of .ensures) _ (c .before .before .before .before .before .before .before .before .before .before .before .before .before .before .before .before .before .before .before .before .before .before .before .w1 .given .1) _ _ _ _ _ _ _ _ _ (c .before .before .before .before .before .before .before .before .before .before .before .before .before .before .before .before .before .before .before .before .before .before .before .before .before .before .before .before .eval-part .ensures)) (steps.went-on _ _ (c .before .before .before .before .before .before .before .before .before .before .before .before .before .before .before .before .before .before .before .before .before .before .before .before .before .went-of .ensures) _ (c .before .before .before .before .before .before .before .before .before .before .before .before .before .before .before .before .before .before .before .before .before .before .before .w1 .given .1)) _ (c .before .before .before .before .before .before .before .before .before .before .before .before .before .before .before .before .before .before .before .unpack .ensures) _ (c .before .before .before .before .before .before .before .before .before .before .before .before .before .before .before .before .before .before .find .ensures) (c .before .before .before .before .before .before .before .before .before .before .before .before .before .before .before .before .before .before .before .before .before .before .before .before .before .before .before .before .before .before .before .if1 .left) _ (c .before .before .before .before .before .before .before .before .before .before .before .before .before .before .before .before .w .given .1) _ _ _ (steps.list-went _ _ (c .before .before .before .before .before .before .before .before .went-of2 .ensures) _ (c .before .before .before .before .before .before .w2 .given .1) _ _ _ _ _ _ _ _ _ _ (c .before .before .before .before .before .before .before .before .before .before .before .eval-list .ensures)) (steps.went-on _ _ (c .before .before .before .before .before .before .before .before .went-of2 .ensures) _ (c .before .before .before .before .before .before .w2 .given .1)) _ _ _ (c .before .before .invoke2 .ensures)) .runs .kept .same)
+call·eval-call-same-length-5 t c = search (needs, (calls.call-goes-on _ _ _ _ _ _ _ _ (c .before .before .before .before .before .before .before .before .before .before .before .before .before .before .before .before .before .before .before .before .before .before .before .before .before .before .before .before .before .before .before .before .before .pre .1) _ _ _ (steps.eval-went _ _ (c .before .before .before .before .before .before .before .before .before .before .before .before .before .before .before .before .before .before .before .before .before .before .before .before .before .went-of .ensures) _ (c .before .before .before .before .before .before .before .before .before .before .before .before .before .before .before .before .before .before .before .before .before .before .before .w1 .given .1) _ _ _ _ _ _ _ _ (c .before .before .before .before .before .before .before .before .before .before .before .before .before .before .before .before .before .before .before .before .before .before .before .before .before .before .before .before .eval-part .ensures)) (steps.went-on _ _ (c .before .before .before .before .before .before .before .before .before .before .before .before .before .before .before .before .before .before .before .before .before .before .before .before .before .went-of .ensures) _ (c .before .before .before .before .before .before .before .before .before .before .before .before .before .before .before .before .before .before .before .before .before .before .before .w1 .given .1)) _ (c .before .before .before .before .before .before .before .before .before .before .before .before .before .before .before .before .before .before .before .unpack .ensures) _ (c .before .before .before .before .before .before .before .before .before .before .before .before .before .before .before .before .before .before .find .ensures) (c .before .before .before .before .before .before .before .before .before .before .before .before .before .before .before .before .before .before .before .before .before .before .before .before .before .before .before .before .before .before .before .if1 .left) _ (c .before .before .before .before .before .before .before .before .before .before .before .before .before .before .before .before .w .given .1) _ _ _ (steps.list-went _ _ (c .before .before .before .before .before .before .before .before .went-of2 .ensures) _ (c .before .before .before .before .before .before .w2 .given .1) _ _ _ _ _ _ _ _ _ (c .before .before .before .before .before .before .before .before .before .before .before .eval-list .ensures)) (steps.went-on _ _ (c .before .before .before .before .before .before .before .before .went-of2 .ensures) _ (c .before .before .before .before .before .before .w2 .given .1)) _ _ _ (c .before .before .invoke2 .ensures)) .runs .kept .same)
 
 call·eval-call-returns-6 : (t : ℕ) → call·eval-call-lts.Need-returns-6 (call·eval-call-claims t) (call·eval-call-at t) call·eval-call.Post
-call·eval-call-returns-6 t c = calls.call-goes-on _ _ _ _ _ _ _ _ _ (c .before .before .before .before .before .before .before .before .before .before .before .before .before .before .before .before .before .before .before .before .before .before .before .before .before .before .before .before .before .before .before .before .before .pre .1) _ _ _ (steps.eval-went _ _ (c .before .before .before .before .before .before .before .before .before .before .before .before .before .before .before .before .before .before .before .before .before .before .before .before .before .went-of .ensures) _ (c .before .before .before .before .before .before .before .before .before .before .before .before .before .before .before .before .before .before .before .before .before .before .before .w1 .given .1) _ _ _ _ _ _ _ _ _ (c .before .before .before .before .before .before .before .before .before .before .before .before .before .before .before .before .before .before .before .before .before .before .before .before .before .before .before .before .eval-part .ensures)) (steps.went-on _ _ (c .before .before .before .before .before .before .before .before .before .before .before .before .before .before .before .before .before .before .before .before .before .before .before .before .before .went-of .ensures) _ (c .before .before .before .before .before .before .before .before .before .before .before .before .before .before .before .before .before .before .before .before .before .before .before .w1 .given .1)) _ (c .before .before .before .before .before .before .before .before .before .before .before .before .before .before .before .before .before .before .before .unpack .ensures) _ (c .before .before .before .before .before .before .before .before .before .before .before .before .before .before .before .before .before .before .find .ensures) (c .before .before .before .before .before .before .before .before .before .before .before .before .before .before .before .before .before .before .before .before .before .before .before .before .before .before .before .before .before .before .before .if1 .left) _ (c .before .before .before .before .before .before .before .before .before .before .before .before .before .before .before .before .w .given .1) _ _ _ (steps.list-went _ _ (c .before .before .before .before .before .before .before .before .went-of2 .ensures) _ (c .before .before .before .before .before .before .w2 .given .1) _ _ _ _ _ _ _ _ _ _ (c .before .before .before .before .before .before .before .before .before .before .before .eval-list .ensures)) (steps.went-on _ _ (c .before .before .before .before .before .before .before .before .went-of2 .ensures) _ (c .before .before .before .before .before .before .w2 .given .1)) _ _ _ (c .before .before .invoke2 .ensures)
+call·eval-call-returns-6 t c = calls.call-goes-on _ _ _ _ _ _ _ _ (c .before .before .before .before .before .before .before .before .before .before .before .before .before .before .before .before .before .before .before .before .before .before .before .before .before .before .before .before .before .before .before .before .before .pre .1) _ _ _ (steps.eval-went _ _ (c .before .before .before .before .before .before .before .before .before .before .before .before .before .before .before .before .before .before .before .before .before .before .before .before .before .went-of .ensures) _ (c .before .before .before .before .before .before .before .before .before .before .before .before .before .before .before .before .before .before .before .before .before .before .before .w1 .given .1) _ _ _ _ _ _ _ _ (c .before .before .before .before .before .before .before .before .before .before .before .before .before .before .before .before .before .before .before .before .before .before .before .before .before .before .before .before .eval-part .ensures)) (steps.went-on _ _ (c .before .before .before .before .before .before .before .before .before .before .before .before .before .before .before .before .before .before .before .before .before .before .before .before .before .went-of .ensures) _ (c .before .before .before .before .before .before .before .before .before .before .before .before .before .before .before .before .before .before .before .before .before .before .before .w1 .given .1)) _ (c .before .before .before .before .before .before .before .before .before .before .before .before .before .before .before .before .before .before .before .unpack .ensures) _ (c .before .before .before .before .before .before .before .before .before .before .before .before .before .before .before .before .before .before .find .ensures) (c .before .before .before .before .before .before .before .before .before .before .before .before .before .before .before .before .before .before .before .before .before .before .before .before .before .before .before .before .before .before .before .if1 .left) _ (c .before .before .before .before .before .before .before .before .before .before .before .before .before .before .before .before .w .given .1) _ _ _ (steps.list-went _ _ (c .before .before .before .before .before .before .before .before .went-of2 .ensures) _ (c .before .before .before .before .before .before .w2 .given .1) _ _ _ _ _ _ _ _ _ (c .before .before .before .before .before .before .before .before .before .before .before .eval-list .ensures)) (steps.went-on _ _ (c .before .before .before .before .before .before .before .before .went-of2 .ensures) _ (c .before .before .before .before .before .before .w2 .given .1)) _ _ _ (c .before .before .invoke2 .ensures)
 
 call·invoke-stop-requires : (t : ℕ) → call·invoke-lts.Need-stop-requires (call·invoke-claims t) (call·invoke-at t) call·invoke.Post
 call·invoke-stop-requires t c κs = search calls.calls-full
@@ -301,55 +307,55 @@ call·run-left-push-requires : (t : ℕ) → call·run-left-lts.Need-push-requir
 call·run-left-push-requires t c κs = (search sides.body-full, sides.body-top _ _ _ _ _ _ (c .before .before .before .before .before .before .pre .1))
 
 call·run-left-eval-requires : (t : ℕ) → call·run-left-lts.Need-eval-requires (call·run-left-claims t) (call·run-left-at t) call·run-left.Post
-call·run-left-eval-requires t c κs = (search needs, sides.left-run [] _ _ _ _ _ _ _ 0 (c .before .before .before .before .before .before .before .before .before .before .before .before .pre .1) _ (c .before .before .before .before .before .push .ensures) _ (c .before .before .before .enter .ensures))
+call·run-left-eval-requires t c κs = (search limits.body-falls, sides.left-run [] _ _ _ _ _ _ _ 0 (c .before .before .before .before .before .before .before .before .before .before .before .before .before .pre .1) _ (c .before .before .before .before .before .before .push .ensures) _ (c .before .before .before .before .enter .ensures) _ (c .body-limits .ensures))
 
 call·run-left-returns : (t : ℕ) → call·run-left-lts.Need-returns (call·run-left-claims t) (call·run-left-at t) call·run-left.Post
-call·run-left-returns t c = sides.left-stops _ _ _ _ _ _ _ _ _ (c .before .before .before .before .before .before .before .before .before .before .before .before .before .before .before .before .before .before .before .before .pre .1) _ (c .before .before .before .before .before .before .before .before .before .before .before .before .before .push .ensures) _ (c .before .before .before .before .before .before .before .before .before .before .before .enter .ensures) _ (c .before .before .before .before .before .before .before .before .before .before .left-place .ensures) _ _ _ (c .before .before .before .before .before .before .before .eval .ensures) _ (c .before .before .before .set-frame .ensures) (steps.went-stopped _ _ (c .before .before .went-of .ensures) (c .enum-told .given .1))
+call·run-left-returns t c = sides.left-stops _ _ _ _ _ _ _ _ _ (c .before .before .before .before .before .before .before .before .before .before .before .before .before .before .before .before .before .before .before .before .before .pre .1) _ (c .before .before .before .before .before .before .before .before .before .before .before .before .before .before .push .ensures) _ (c .before .before .before .before .before .before .before .before .before .before .before .before .enter .ensures) _ (c .before .before .before .before .before .before .before .before .before .before .before .left-place .ensures) _ (c .before .before .before .before .before .before .before .before .body-limits .ensures) _ _ _ (c .before .before .before .before .before .before .before .eval .ensures) _ (c .before .before .before .set-frame .ensures) (steps.went-stopped _ _ (c .before .before .went-of .ensures) (c .enum-told .given .1))
 
 call·run-left-cast-close-in : (t : ℕ) → call·run-left-lts.Need-cast-close-in (call·run-left-claims t) (call·run-left-at t) call·run-left.Post
-call·run-left-cast-close-in t c = search (needs, sides.body-top _ _ _ _ _ _ (c .before .before .before .before .before .before .before .before .before .before .before .before .before .before .before .before .before .before .before .before .before .before .pre .1))
+call·run-left-cast-close-in t c = search (needs, sides.body-top _ _ _ _ _ _ (c .before .before .before .before .before .before .before .before .before .before .before .before .before .before .before .before .before .before .before .before .before .before .before .pre .1))
 
 call·run-left-add-close-in : (t : ℕ) → call·run-left-lts.Need-add-close-in (call·run-left-claims t) (call·run-left-at t) call·run-left.Post
-call·run-left-add-close-in t c = search (needs, sides.body-short _ _ _ _ _ _ (c .before .before .before .before .before .before .before .before .before .before .before .before .before .before .before .before .before .before .before .before .before .before .pre .1))
+call·run-left-add-close-in t c = search (needs, sides.body-short _ _ _ _ _ _ (c .before .before .before .before .before .before .before .before .before .before .before .before .before .before .before .before .before .before .before .before .before .before .before .pre .1))
 
 call·run-left-mul-close-in : (t : ℕ) → call·run-left-lts.Need-mul-close-in (call·run-left-claims t) (call·run-left-at t) call·run-left.Post
-call·run-left-mul-close-in t c = search (needs, sides.body-short _ _ _ _ _ _ (c .before .before .before .before .before .before .before .before .before .before .before .before .before .before .before .before .before .before .before .before .before .before .pre .1))
+call·run-left-mul-close-in t c = search (needs, sides.body-short _ _ _ _ _ _ (c .before .before .before .before .before .before .before .before .before .before .before .before .before .before .before .before .before .before .before .before .before .before .before .pre .1))
 
 call·run-left-element-copy-out-close-in : (t : ℕ) → call·run-left-lts.Need-element-copy-out-close-in (call·run-left-claims t) (call·run-left-at t) call·run-left.Post
-call·run-left-element-copy-out-close-in t c = search (needs, sides.body-short _ _ _ _ _ _ (c .before .before .before .before .before .before .before .before .before .before .before .before .before .before .before .before .before .before .before .before .before .before .pre .1))
+call·run-left-element-copy-out-close-in t c = search (needs, sides.body-short _ _ _ _ _ _ (c .before .before .before .before .before .before .before .before .before .before .before .before .before .before .before .before .before .before .before .before .before .before .before .pre .1))
 
 call·run-left-cast-close-in-2 : (t : ℕ) → call·run-left-lts.Need-cast-close-in-2 (call·run-left-claims t) (call·run-left-at t) call·run-left.Post
-call·run-left-cast-close-in-2 t c = search (needs, sides.body-short)
+call·run-left-cast-close-in-2 t c = search (needs, sides.body-small _ _ _ _ _ _ (c .before .before .before .before .before .before .before .before .before .before .before .before .before .before .before .before .before .before .before .before .before .before .before .before .pre .1))
 
 call·run-left-close-in-requires : (t : ℕ) → call·run-left-lts.Need-close-in-requires (call·run-left-claims t) (call·run-left-at t) call·run-left.Post
-call·run-left-close-in-requires t c κs = let w = c .before .before .before in let f = w .before .before .before in let p = f .before .before .before .before .before .before .before in let s = p .before .before .before .before .before .before .before .before .before .before in sides.left-ready _ _ _ _ _ _ _ _ _ (s .pre .1) _ (p .before .before .before .push .ensures) _ (p .before .enter .ensures) _ (p .left-place .ensures) _ _ _ (f .before .before .before .before .eval .ensures) _ (f .set-frame .ensures) (steps.went-not _ _ (w .before .before .went-of .ensures) _ (w .w .given .1))
+call·run-left-close-in-requires t c κs = let w = c .before .before .before in let f = w .before .before .before in let p = f .before .before .before .before .before .before .before .before in let s = p .before .before .before .before .before .before .before .before .before .before in sides.left-ready _ _ _ _ _ _ _ _ _ (s .pre .1) _ (p .before .before .before .push .ensures) _ (p .before .enter .ensures) _ (p .left-place .ensures) _ (f .before .before .before .before .before .body-limits .ensures) _ _ _ (f .before .before .before .before .eval .ensures) _ (f .set-frame .ensures) (steps.went-not _ _ (w .before .before .went-of .ensures) _ (w .w .given .1))
 
 call·run-left-mul-st : (t : ℕ) → call·run-left-lts.Need-mul-st (call·run-left-claims t) (call·run-left-at t) call·run-left.Post
-call·run-left-mul-st t c = search (needs, sides.body-index _ _ _ _ _ _ (c .before .before .before .before .before .before .before .before .before .before .before .before .before .before .before .before .before .before .before .before .before .before .before .before .before .before .pre .1))
+call·run-left-mul-st t c = search (needs, sides.body-index _ _ _ _ _ _ (c .before .before .before .before .before .before .before .before .before .before .before .before .before .before .before .before .before .before .before .before .before .before .before .before .before .before .before .pre .1))
 
 call·run-left-element-write-st-2 : (t : ℕ) → call·run-left-lts.Need-element-write-st-2 (call·run-left-claims t) (call·run-left-at t) call·run-left.Post
-call·run-left-element-write-st-2 t c = sides.body-index _ _ _ _ _ _ (c .before .before .before .before .before .before .before .before .before .before .before .before .before .before .before .before .before .before .before .before .before .before .before .before .before .before .pre .1)
+call·run-left-element-write-st-2 t c = sides.body-index _ _ _ _ _ _ (c .before .before .before .before .before .before .before .before .before .before .before .before .before .before .before .before .before .before .before .before .before .before .before .before .before .before .before .pre .1)
 
 call·run-left-returns-2 : (t : ℕ) → call·run-left-lts.Need-returns-2 (call·run-left-claims t) (call·run-left-at t) call·run-left.Post
-call·run-left-returns-2 t c = let w = c .before .before .before .before .before .before in let f = w .before .before .before in let p = f .before .before .before .before .before .before .before in let s = p .before .before .before .before .before .before .before .before .before .before in sides.left-gives _ _ _ _ _ _ _ _ _ (s .pre .1) _ (p .before .before .before .push .ensures) _ (p .before .enter .ensures) _ (p .left-place .ensures) _ _ _ (f .before .before .before .before .eval .ensures) _ (f .set-frame .ensures) (steps.went-not _ _ (w .before .before .went-of .ensures) _ (w .w .given .1)) _ _ (c .before .before .close-in .ensures)
+call·run-left-returns-2 t c = let w = c .before .before .before .before .before .before in let f = w .before .before .before in let p = f .before .before .before .before .before .before .before .before in let s = p .before .before .before .before .before .before .before .before .before .before in sides.left-gives _ _ _ _ _ _ _ _ _ (s .pre .1) _ (p .before .before .before .push .ensures) _ (p .before .enter .ensures) _ (p .left-place .ensures) _ (f .before .before .before .before .before .body-limits .ensures) _ _ _ (f .before .before .before .before .eval .ensures) _ (f .set-frame .ensures) (steps.went-not _ _ (w .before .before .went-of .ensures) _ (w .w .given .1)) _ _ (c .before .before .close-in .ensures)
 
 call·run-right-eval-requires : (t : ℕ) → call·run-right-lts.Need-eval-requires (call·run-right-claims t) (call·run-right-at t) call·run-right.Post
-call·run-right-eval-requires t c κs = (search needs, sides.right-run [] _ _ _ _ _ _ 0 _ (c .before .before .before .before .before .before .before .before .before .pre .1 .0) (c .before .before .before .before .before .before .before .before .before .pre .1 .1) (c .before .before .before .before .before .before .before .before .before .pre .1 .2) _ (c .before .before .before .enter .ensures))
+call·run-right-eval-requires t c κs = (search limits.body-falls, sides.right-run [] _ _ _ _ _ _ 0 _ (c .before .before .before .before .before .before .before .before .before .before .pre .1 .0) (c .before .before .before .before .before .before .before .before .before .before .pre .1 .1) (c .before .before .before .before .before .before .before .before .before .before .pre .1 .2) _ (c .before .before .before .before .enter .ensures) _ (c .body-limits .ensures))
 
 call·run-right-returns : (t : ℕ) → call·run-right-lts.Need-returns (call·run-right-claims t) (call·run-right-at t) call·run-right.Post
-call·run-right-returns t c = sides.right-stops _ _ _ _ _ _ _ _ _ (c .before .before .before .before .before .before .before .before .before .before .before .before .before .before .before .before .before .pre .1 .0) (c .before .before .before .before .before .before .before .before .before .before .before .before .before .before .before .before .before .pre .1 .1) (c .before .before .before .before .before .before .before .before .before .before .before .before .before .before .before .before .before .pre .1 .2) _ (c .before .before .before .before .before .before .before .before .before .before .before .enter .ensures) _ (c .before .before .before .before .before .before .before .before .before .before .right-place .ensures) _ _ _ (c .before .before .before .before .before .before .before .eval .ensures) _ (c .before .before .before .set-frame .ensures) (steps.went-stopped _ _ (c .before .before .went-of .ensures) (c .enum-told .given .1))
+call·run-right-returns t c = sides.right-stops _ _ _ _ _ _ _ _ _ (c .before .before .before .before .before .before .before .before .before .before .before .before .before .before .before .before .before .before .pre .1 .0) (c .before .before .before .before .before .before .before .before .before .before .before .before .before .before .before .before .before .before .pre .1 .1) (c .before .before .before .before .before .before .before .before .before .before .before .before .before .before .before .before .before .before .pre .1 .2) _ (c .before .before .before .before .before .before .before .before .before .before .before .before .enter .ensures) _ (c .before .before .before .before .before .before .before .before .before .before .before .right-place .ensures) _ (c .before .before .before .before .before .before .before .before .body-limits .ensures) _ _ _ (c .before .before .before .before .before .before .before .eval .ensures) _ (c .before .before .before .set-frame .ensures) (steps.went-stopped _ _ (c .before .before .went-of .ensures) (c .enum-told .given .1))
 
 call·run-right-bring-in-requires : (t : ℕ) → call·run-right-lts.Need-bring-in-requires (call·run-right-claims t) (call·run-right-at t) call·run-right.Post
-call·run-right-bring-in-requires t c κs = let w = c .before .before .before in let f = w .before .before .before in let p = f .before .before .before .before .before .before .before in let s = p .before .before .before .before .before .before .before in sides.right-ready _ _ _ _ _ _ _ _ _ (s .pre .1 .0) (s .pre .1 .1) (s .pre .1 .2) _ (p .before .enter .ensures) _ (p .right-place .ensures) _ _ _ (f .before .before .before .before .eval .ensures) _ (f .set-frame .ensures) (steps.went-not _ _ (w .before .before .went-of .ensures) _ (w .w .given .1))
+call·run-right-bring-in-requires t c κs = let w = c .before .before .before in let f = w .before .before .before in let p = f .before .before .before .before .before .before .before .before in let s = p .before .before .before .before .before .before .before in sides.right-ready _ _ _ _ _ _ _ _ _ (s .pre .1 .0) (s .pre .1 .1) (s .pre .1 .2) _ (p .before .enter .ensures) _ (p .right-place .ensures) _ (f .before .before .before .before .before .body-limits .ensures) _ _ _ (f .before .before .before .before .eval .ensures) _ (f .set-frame .ensures) (steps.went-not _ _ (w .before .before .went-of .ensures) _ (w .w .given .1))
 
 call·run-right-mul-st : (t : ℕ) → call·run-right-lts.Need-mul-st (call·run-right-claims t) (call·run-right-at t) call·run-right.Post
-call·run-right-mul-st t c = search (needs, sides.body-index _ _ _ _ _ _ (c .before .before .before .before .before .before .before .before .before .before .before .before .before .before .before .before .before .before .before .before .before .before .before .pre .1 .0))
+call·run-right-mul-st t c = search (needs, sides.body-index _ _ _ _ _ _ (c .before .before .before .before .before .before .before .before .before .before .before .before .before .before .before .before .before .before .before .before .before .before .before .before .pre .1 .0))
 
 call·run-right-element-write-st : (t : ℕ) → call·run-right-lts.Need-element-write-st (call·run-right-claims t) (call·run-right-at t) call·run-right.Post
-call·run-right-element-write-st t c = sides.body-index _ _ _ _ _ _ (c .before .before .before .before .before .before .before .before .before .before .before .before .before .before .before .before .before .before .before .before .before .before .before .pre .1 .0)
+call·run-right-element-write-st t c = sides.body-index _ _ _ _ _ _ (c .before .before .before .before .before .before .before .before .before .before .before .before .before .before .before .before .before .before .before .before .before .before .before .before .pre .1 .0)
 
 call·run-right-returns-2 : (t : ℕ) → call·run-right-lts.Need-returns-2 (call·run-right-claims t) (call·run-right-at t) call·run-right.Post
-call·run-right-returns-2 t c = let w = c .before .before .before .before .before .before in let f = w .before .before .before in let p = f .before .before .before .before .before .before .before in let s = p .before .before .before .before .before .before .before in sides.right-gives _ _ _ _ _ _ _ _ _ (s .pre .1 .0) (s .pre .1 .1) (s .pre .1 .2) _ (p .before .enter .ensures) _ (p .right-place .ensures) _ _ _ (f .before .before .before .before .eval .ensures) _ (f .set-frame .ensures) (steps.went-not _ _ (w .before .before .went-of .ensures) _ (w .w .given .1)) _ _ (c .before .before .bring-in .ensures)
+call·run-right-returns-2 t c = let w = c .before .before .before .before .before .before in let f = w .before .before .before in let p = f .before .before .before .before .before .before .before .before in let s = p .before .before .before .before .before .before .before in sides.right-gives _ _ _ _ _ _ _ _ _ (s .pre .1 .0) (s .pre .1 .1) (s .pre .1 .2) _ (p .before .enter .ensures) _ (p .right-place .ensures) _ (f .before .before .before .before .before .body-limits .ensures) _ _ _ (f .before .before .before .before .eval .ensures) _ (f .set-frame .ensures) (steps.went-not _ _ (w .before .before .went-of .ensures) _ (w .w .given .1)) _ _ (c .before .before .bring-in .ensures)
 
 eval·eval-stop-requires : (t : ℕ) → eval·eval-lts.Need-stop-requires (eval·eval-claims t) (eval·eval-at t) eval·eval.Post
 eval·eval-stop-requires t c κs = search steps.run-full
@@ -367,13 +373,13 @@ eval·eval-leaf-requires-3 : (t : ℕ) → eval·eval-lts.Need-leaf-requires-3 (
 eval·eval-leaf-requires-3 t c κs = (search steps.run-full, search steps.run-short, search steps.run-framed)
 
 eval·eval-eval-field-requires : (t : ℕ) → eval·eval-lts.Need-eval-field-requires (eval·eval-claims t) (eval·eval-at t) eval·eval.Post
-eval·eval-eval-field-requires t c κs = (search needs, search steps.run-part)
+eval·eval-eval-field-requires t c κs = (search limits.inner-falls, search steps.run-part)
 
 eval·eval-eval-call-requires : (t : ℕ) → eval·eval-lts.Need-eval-call-requires (eval·eval-claims t) (eval·eval-at t) eval·eval.Post
-eval·eval-eval-call-requires t c κs = (search needs, search steps.run-part)
+eval·eval-eval-call-requires t c κs = (search limits.inner-falls, search steps.run-part)
 
 eval·eval-eval-new-requires : (t : ℕ) → eval·eval-lts.Need-eval-new-requires (eval·eval-claims t) (eval·eval-at t) eval·eval.Post
-eval·eval-eval-new-requires t c κs = (search needs, (search steps.run-part, search steps.next-new))
+eval·eval-eval-new-requires t c κs = (search limits.inner-falls, (search steps.run-part, search steps.next-new))
 
 eval·eval-stop-requires-2 : (t : ℕ) → eval·eval-lts.Need-stop-requires-2 (eval·eval-claims t) (eval·eval-at t) eval·eval.Post
 eval·eval-stop-requires-2 t c κs = search steps.run-full
@@ -403,34 +409,55 @@ eval·eval-field-eval-part-requires : (t : ℕ) → eval·eval-field-lts.Need-ev
 eval·eval-field-eval-part-requires t c κs = (search needs, search steps.run-inner)
 
 eval·eval-field-returns : (t : ℕ) → eval·eval-field-lts.Need-returns (eval·eval-field-claims t) (eval·eval-field-at t) eval·eval-field.Post
-eval·eval-field-returns t c = steps.field-stops _ _ _ _ _ _ _ _ _ _ (c .before .before .before .before .before .eval-part .ensures) (c .before .before .before .before .before .before .before .before .before .pre .1) _ (steps.went-stopped _ _ (c .before .before .went-of .ensures) (c .enum-told .given .1))
+eval·eval-field-returns t c = steps.field-stops _ _ _ _ _ _ _ _ _ (c .before .before .before .before .before .eval-part .ensures) (c .before .before .before .before .before .before .before .before .before .pre .1) _ (steps.went-stopped _ _ (c .before .before .went-of .ensures) (c .enum-told .given .1))
 
 eval·eval-field-select-in-requires : (t : ℕ) → eval·eval-field-lts.Need-select-in-requires (eval·eval-field-claims t) (eval·eval-field-at t) eval·eval-field.Post
-eval·eval-field-select-in-requires t c κs = steps.value-held _ _ _ _ _ _ _ _ _ _ (steps.eval-went _ _ (c .before .before .before .before .before .went-of .ensures) _ (c .before .before .before .w1 .given .1) _ _ _ _ _ _ _ _ _ (c .before .before .before .before .before .before .before .before .eval-part .ensures)) (c .before .before .before .before .before .before .before .before .before .before .before .before .pre .1) (steps.went-on _ _ (c .before .before .before .before .before .went-of .ensures) _ (c .before .before .before .w1 .given .1))
+eval·eval-field-select-in-requires t c κs = steps.value-held _ _ _ _ _ _ _ _ _ (steps.eval-went _ _ (c .before .before .before .before .before .went-of .ensures) _ (c .before .before .before .w1 .given .1) _ _ _ _ _ _ _ _ (c .before .before .before .before .before .before .before .before .eval-part .ensures)) (c .before .before .before .before .before .before .before .before .before .before .before .before .pre .1) (steps.went-on _ _ (c .before .before .before .before .before .went-of .ensures) _ (c .before .before .before .w1 .given .1))
 
 eval·eval-field-stop-requires : (t : ℕ) → eval·eval-field-lts.Need-stop-requires (eval·eval-field-claims t) (eval·eval-field-at t) eval·eval-field.Post
-eval·eval-field-stop-requires t c κs = steps.full-after _ _ _ _ _ _ _ _ _ _ (c .before .before .before .before .before .before .before .before .before .before .before .eval-part .ensures) (c .before .before .before .before .before .before .before .before .before .before .before .before .before .before .before .pre .1)
+eval·eval-field-stop-requires t c κs = steps.full-after _ _ _ _ _ _ _ _ _ (c .before .before .before .before .before .before .before .before .before .before .before .eval-part .ensures) (c .before .before .before .before .before .before .before .before .before .before .before .before .before .before .before .pre .1)
 
 eval·eval-field-returns-2 : (t : ℕ) → eval·eval-field-lts.Need-returns-2 (eval·eval-field-claims t) (eval·eval-field-at t) eval·eval-field.Post
-eval·eval-field-returns-2 t c = steps.field-lacks _ _ _ _ _ _ _ _ _ _ (steps.eval-went _ _ (c .before .before .before .before .before .before .before .before .before .went-of .ensures) _ (c .before .before .before .before .before .before .before .w1 .given .1) _ _ _ _ _ _ _ _ _ (c .before .before .before .before .before .before .before .before .before .before .before .before .eval-part .ensures)) (c .before .before .before .before .before .before .before .before .before .before .before .before .before .before .before .before .pre .1) _ _ (steps.went-on _ _ (c .before .before .before .before .before .before .before .before .before .went-of .ensures) _ (c .before .before .before .before .before .before .before .w1 .given .1)) (c .before .before .before .select-in .ensures) (c .before .before .if1 .taken) _ _ (c .stop .ensures)
+eval·eval-field-returns-2 t c = steps.field-lacks _ _ _ _ _ _ _ _ _ (steps.eval-went _ _ (c .before .before .before .before .before .before .before .before .before .went-of .ensures) _ (c .before .before .before .before .before .before .before .w1 .given .1) _ _ _ _ _ _ _ _ (c .before .before .before .before .before .before .before .before .before .before .before .before .eval-part .ensures)) (c .before .before .before .before .before .before .before .before .before .before .before .before .before .before .before .before .pre .1) _ _ (steps.went-on _ _ (c .before .before .before .before .before .before .before .before .before .went-of .ensures) _ (c .before .before .before .before .before .before .before .w1 .given .1)) (c .before .before .before .select-in .ensures) (c .before .before .if1 .taken) _ _ (c .stop .ensures)
 
 eval·eval-field-returns-3 : (t : ℕ) → eval·eval-field-lts.Need-returns-3 (eval·eval-field-claims t) (eval·eval-field-at t) eval·eval-field.Post
-eval·eval-field-returns-3 t c = steps.field-has _ _ _ _ _ _ _ _ _ _ (steps.eval-went _ _ (c .before .before .before .before .before .before .before .went-of .ensures) _ (c .before .before .before .before .before .w1 .given .1) _ _ _ _ _ _ _ _ _ (c .before .before .before .before .before .before .before .before .before .before .eval-part .ensures)) (c .before .before .before .before .before .before .before .before .before .before .before .before .before .before .pre .1) _ _ (steps.went-on _ _ (c .before .before .before .before .before .before .before .went-of .ensures) _ (c .before .before .before .before .before .w1 .given .1)) (c .before .select-in .ensures) (c .if1 .left)
+eval·eval-field-returns-3 t c = steps.field-has _ _ _ _ _ _ _ _ _ (steps.eval-went _ _ (c .before .before .before .before .before .before .before .went-of .ensures) _ (c .before .before .before .before .before .w1 .given .1) _ _ _ _ _ _ _ _ (c .before .before .before .before .before .before .before .before .before .before .eval-part .ensures)) (c .before .before .before .before .before .before .before .before .before .before .before .before .before .before .pre .1) _ _ (steps.went-on _ _ (c .before .before .before .before .before .before .before .went-of .ensures) _ (c .before .before .before .before .before .w1 .given .1)) (c .before .select-in .ensures) (c .if1 .left)
 
-eval·eval-list-returns : (t : ℕ) → eval·eval-list-lts.Need-returns (eval·eval-list-claims t) (eval·eval-list-at t) eval·eval-list.Post
-eval·eval-list-returns t c = search steps.list-done
+abbrev eval·eval-list-Inv-loop : eval·eval-list-lts.InvT-loop
+eval·eval-list-Inv-loop T W S at lim sp n p₀ l₀ q₀ left₀ W1 S1 p l q left = steps.Rest T W S at lim sp n W1 S1 p l q left
 
-eval·eval-list-eval-part-requires : (t : ℕ) → eval·eval-list-lts.Need-eval-part-requires (eval·eval-list-claims t) (eval·eval-list-at t) eval·eval-list.Post
-eval·eval-list-eval-part-requires t c κs = (search needs, search steps.list-run)
+abbrev eval·eval-list-μ-loop : eval·eval-list-lts.MeasureT-loop
+eval·eval-list-μ-loop T W S at lim sp n p₀ l₀ q₀ left₀ W1 S1 p l q left = left
 
-eval·eval-list-returns-2 : (t : ℕ) → eval·eval-list-lts.Need-returns-2 (eval·eval-list-claims t) (eval·eval-list-at t) eval·eval-list.Post
-eval·eval-list-returns-2 t c = steps.list-stops _ _ _ _ _ _ _ _ (c .before .before .before .before .before .before .before .before .before .before .pre .1) (c .before .before .before .before .before .before .before .before .if1 .left) _ _ _ (c .before .before .before .before .before .eval-part .ensures) (steps.went-stopped _ _ (c .before .before .went-of .ensures) (c .enum-told .given .1))
+eval·eval-list-loop-holds : (t : ℕ) → eval·eval-list-lts.Need-loop-holds (eval·eval-list-claims t) (eval·eval-list-at t) eval·eval-list.Post eval·eval-list-Inv-loop eval·eval-list-μ-loop
+eval·eval-list-loop-holds t c = search steps.rest-all
 
-eval·eval-list-eval-list-requires : (t : ℕ) → eval·eval-list-lts.Need-eval-list-requires (eval·eval-list-claims t) (eval·eval-list-at t) eval·eval-list.Post
-eval·eval-list-eval-list-requires t c κs = (search needs, steps.list-later _ _ _ _ _ _ _ _ (c .before .before .before .before .before .before .before .before .before .before .before .before .before .pre .1) (c .before .before .before .before .before .before .before .before .before .before .before .if1 .left) _ _ _ (steps.eval-went _ _ (c .before .before .before .before .before .went-of .ensures) _ (c .before .before .before .w1 .given .1) _ _ _ _ _ _ _ _ _ (c .before .before .before .before .before .before .before .before .eval-part .ensures)) (steps.went-on _ _ (c .before .before .before .before .before .went-of .ensures) _ (c .before .before .before .w1 .given .1)))
+eval·eval-list-eval-part-requires : (t : ℕ) → eval·eval-list-lts.Need-eval-part-requires (eval·eval-list-claims t) (eval·eval-list-at t) eval·eval-list.Post eval·eval-list-Inv-loop eval·eval-list-μ-loop
+eval·eval-list-eval-part-requires t c κs = (search limits.same-falls, search steps.rest-run)
 
-eval·eval-list-returns-3 : (t : ℕ) → eval·eval-list-lts.Need-returns-3 (eval·eval-list-claims t) (eval·eval-list-at t) eval·eval-list.Post
-eval·eval-list-returns-3 t c = steps.list-goes-on _ _ _ _ _ _ _ _ (c .before .before .before .before .before .before .before .before .before .before .before .before .before .before .before .before .pre .1) (c .before .before .before .before .before .before .before .before .before .before .before .before .before .before .if1 .left) _ _ _ (steps.eval-went _ _ (c .before .before .before .before .before .before .before .before .went-of .ensures) _ (c .before .before .before .before .before .before .w1 .given .1) _ _ _ _ _ _ _ _ _ (c .before .before .before .before .before .before .before .before .before .before .before .eval-part .ensures)) (steps.went-on _ _ (c .before .before .before .before .before .before .before .before .went-of .ensures) _ (c .before .before .before .before .before .before .w1 .given .1)) _ _ _ (c .before .before .eval-list .ensures)
+eval·eval-list-same-length : (t : ℕ) → eval·eval-list-lts.Need-same-length (eval·eval-list-claims t) (eval·eval-list-at t) eval·eval-list.Post eval·eval-list-Inv-loop eval·eval-list-μ-loop
+eval·eval-list-same-length t c = search (needs, (steps.rest-stops _ _ _ _ _ _ _ _ _ _ _ _ _ (c .before .before .before .before .before .before .before .before .before .loop .inv) (c .before .before .before .before .before .before .before .before .loop-test .taken) _ _ _ (c .before .before .before .before .before .eval-part .ensures) (steps.went-stopped _ _ (c .before .before .went-of .ensures) (c .enum-told .given .1))) .runs .kept .same)
+
+eval·eval-list-returns : (t : ℕ) → eval·eval-list-lts.Need-returns (eval·eval-list-claims t) (eval·eval-list-at t) eval·eval-list.Post eval·eval-list-Inv-loop eval·eval-list-μ-loop
+eval·eval-list-returns t c = steps.rest-stops _ _ _ _ _ _ _ _ _ _ _ _ _ (c .before .before .before .before .before .before .before .before .before .loop .inv) (c .before .before .before .before .before .before .before .before .loop-test .taken) _ _ _ (c .before .before .before .before .before .eval-part .ensures) (steps.went-stopped _ _ (c .before .before .went-of .ensures) (c .enum-told .given .1))
+
+eval·eval-list-element-copy-out-past : (t : ℕ) → eval·eval-list-lts.Need-element-copy-out-past (eval·eval-list-claims t) (eval·eval-list-at t) eval·eval-list.Post eval·eval-list-Inv-loop eval·eval-list-μ-loop
+eval·eval-list-element-copy-out-past t c = steps.rest-index _ _ _ _ _ _ _ _ _ _ _ _ _ (c .before .before .before .before .before .before .before .before .before .before .loop .inv) (c .before .before .before .before .before .before .before .before .before .loop-test .taken)
+
+eval·eval-list-past-requires : (t : ℕ) → eval·eval-list-lts.Need-past-requires (eval·eval-list-claims t) (eval·eval-list-at t) eval·eval-list.Post eval·eval-list-Inv-loop eval·eval-list-μ-loop
+eval·eval-list-past-requires t c κs = steps.rest-limit _ _ _ _ _ _ _ _ _ _ _ _ _ (c .before .before .before .before .before .before .before .before .before .before .before .loop .inv)
+
+eval·eval-list-add-q : (t : ℕ) → eval·eval-list-lts.Need-add-q (eval·eval-list-claims t) (eval·eval-list-at t) eval·eval-list.Post eval·eval-list-Inv-loop eval·eval-list-μ-loop
+eval·eval-list-add-q t c = search (needs, steps.rest-index _ _ _ _ _ _ _ _ _ _ _ _ _ (c .before .before .before .before .before .before .before .before .before .before .before .before .loop .inv) (c .before .before .before .before .before .before .before .before .before .before .before .loop-test .taken))
+
+eval·eval-list-loop-again : (t : ℕ) → eval·eval-list-lts.Need-loop-again (eval·eval-list-claims t) (eval·eval-list-at t) eval·eval-list.Post eval·eval-list-Inv-loop eval·eval-list-μ-loop
+eval·eval-list-loop-again t c = steps.rest-later _ _ _ _ _ _ _ _ _ _ _ _ _ (c .before .before .before .before .before .before .before .before .before .before .before .before .loop .inv) (c .before .before .before .before .before .before .before .before .before .before .before .loop-test .taken) _ _ _ (steps.eval-went _ _ (c .before .before .before .before .before .went-of .ensures) _ (c .before .before .before .w1 .given .1) _ _ _ _ _ _ _ _ (c .before .before .before .before .before .before .before .before .eval-part .ensures)) (steps.went-on _ _ (c .before .before .before .before .before .went-of .ensures) _ (c .before .before .before .w1 .given .1)) _ (c .past .ensures)
+
+eval·eval-list-same-length-2 : (t : ℕ) → eval·eval-list-lts.Need-same-length-2 (eval·eval-list-claims t) (eval·eval-list-at t) eval·eval-list.Post eval·eval-list-Inv-loop eval·eval-list-μ-loop
+eval·eval-list-same-length-2 t c = search (needs, steps.rest-none _ _ _ _ _ _ _ _ _ _ _ _ _ (c .before .loop .inv) (c .loop-test .left) .runs .kept .same)
+
+eval·eval-list-returns-2 : (t : ℕ) → eval·eval-list-lts.Need-returns-2 (eval·eval-list-claims t) (eval·eval-list-at t) eval·eval-list.Post eval·eval-list-Inv-loop eval·eval-list-μ-loop
+eval·eval-list-returns-2 t c = search steps.rest-none
 
 eval·eval-new-stop-requires : (t : ℕ) → eval·eval-new-lts.Need-stop-requires (eval·eval-new-claims t) (eval·eval-new-at t) eval·eval-new.Post
 eval·eval-new-stop-requires t c κs = search steps.run-full
@@ -448,13 +475,16 @@ eval·eval-new-eval-list-requires : (t : ℕ) → eval·eval-new-lts.Need-eval-l
 eval·eval-new-eval-list-requires t c κs = (search needs, search steps.run-list)
 
 eval·eval-new-returns-3 : (t : ℕ) → eval·eval-new-lts.Need-returns-3 (eval·eval-new-claims t) (eval·eval-new-at t) eval·eval-new.Post
-eval·eval-new-returns-3 t c = steps.new-stops _ _ _ _ _ _ _ _ _ _ (c .before .before .before .before .before .before .before .before .before .before .before .before .pre .1 .0) (c .before .before .before .before .before .before .before .before .before .before .field-total .ensures) (c .before .before .before .before .before .before .before .before .before .if1 .left) _ _ _ (c .before .before .before .before .before .eval-list .ensures) (steps.went-stopped _ _ (c .before .before .went-of .ensures) (c .enum-told .given .1))
+eval·eval-new-returns-3 t c = steps.new-stops _ _ _ _ _ _ _ _ _ (c .before .before .before .before .before .before .before .before .before .before .before .before .pre .1 .0) (c .before .before .before .before .before .before .before .before .before .before .field-total .ensures) (c .before .before .before .before .before .before .before .before .before .if1 .left) _ _ _ (c .before .before .before .before .before .eval-list .ensures) (steps.went-stopped _ _ (c .before .before .went-of .ensures) (c .enum-told .given .1))
+
+eval·eval-new-cast-finish : (t : ℕ) → eval·eval-new-lts.Need-cast-finish (eval·eval-new-claims t) (eval·eval-new-at t) eval·eval-new.Post
+eval·eval-new-cast-finish t c = search (needs, steps.part-small _ _ _ _ (c .before .before .before .before .before .before .before .before .before .before .before .before .before .before .before .pre .1 .0))
 
 eval·eval-new-finish-requires : (t : ℕ) → eval·eval-new-lts.Need-finish-requires (eval·eval-new-claims t) (eval·eval-new-at t) eval·eval-new.Post
-eval·eval-new-finish-requires t c κs = steps.parts-ready _ _ _ _ _ _ _ _ _ _ (c .before .before .before .before .before .before .before .before .before .before .before .before .before .before .before .pre .1 .0) (c .before .before .before .before .before .before .before .before .before .before .before .before .before .field-total .ensures) (c .before .before .before .before .before .before .before .before .before .before .before .before .if1 .left) _ _ _ (steps.list-went _ _ (c .before .before .before .before .before .went-of .ensures) _ (c .before .before .before .w1 .given .1) _ _ _ _ _ _ _ _ _ _ (c .before .before .before .before .before .before .before .before .eval-list .ensures)) (steps.went-on _ _ (c .before .before .before .before .before .went-of .ensures) _ (c .before .before .before .w1 .given .1)) (c .before .before .before .before .before .before .before .before .before .before .before .if2 .left)
+eval·eval-new-finish-requires t c κs = steps.parts-ready _ _ _ _ _ _ _ _ _ (c .before .before .before .before .before .before .before .before .before .before .before .before .before .before .before .pre .1 .0) (c .before .before .before .before .before .before .before .before .before .before .before .before .before .field-total .ensures) (c .before .before .before .before .before .before .before .before .before .before .before .before .if1 .left) _ _ _ (steps.list-went _ _ (c .before .before .before .before .before .went-of .ensures) _ (c .before .before .before .w1 .given .1) _ _ _ _ _ _ _ _ _ (c .before .before .before .before .before .before .before .before .eval-list .ensures)) (steps.went-on _ _ (c .before .before .before .before .before .went-of .ensures) _ (c .before .before .before .w1 .given .1)) (c .before .before .before .before .before .before .before .before .before .before .before .if2 .left)
 
 eval·eval-new-returns-4 : (t : ℕ) → eval·eval-new-lts.Need-returns-4 (eval·eval-new-claims t) (eval·eval-new-at t) eval·eval-new.Post
-eval·eval-new-returns-4 t c = steps.new-made _ _ _ _ _ _ _ _ _ _ (c .before .before .before .before .before .before .before .before .before .before .before .before .before .before .before .before .before .before .pre .1 .0) (c .before .before .before .before .before .before .before .before .before .before .before .before .before .before .before .before .field-total .ensures) (c .before .before .before .before .before .before .before .before .before .before .before .before .before .before .before .if1 .left) _ _ _ (steps.list-went _ _ (c .before .before .before .before .before .before .before .before .went-of .ensures) _ (c .before .before .before .before .before .before .w1 .given .1) _ _ _ _ _ _ _ _ _ _ (c .before .before .before .before .before .before .before .before .before .before .before .eval-list .ensures)) _ _ _ (c .before .before .finish .ensures)
+eval·eval-new-returns-4 t c = steps.new-made _ _ _ _ _ _ _ _ _ (c .before .before .before .before .before .before .before .before .before .before .before .before .before .before .before .before .before .before .pre .1 .0) (c .before .before .before .before .before .before .before .before .before .before .before .before .before .before .before .before .field-total .ensures) (c .before .before .before .before .before .before .before .before .before .before .before .before .before .before .before .if1 .left) _ _ _ (steps.list-went _ _ (c .before .before .before .before .before .before .before .before .went-of .ensures) _ (c .before .before .before .before .before .before .w1 .given .1) _ _ _ _ _ _ _ _ _ (c .before .before .before .before .before .before .before .before .before .before .before .eval-list .ensures)) _ _ _ (c .before .before .finish .ensures)
 
 eval·eval-part-stop-requires : (t : ℕ) → eval·eval-part-lts.Need-stop-requires (eval·eval-part-claims t) (eval·eval-part-at t) eval·eval-part.Post
 eval·eval-part-stop-requires t c κs = search steps.run-full
@@ -507,6 +537,7 @@ pub +call·eval-call+call·invoke+call·run-left+call·run-right+eval·eval+eval
     (call·eval-call-invoke-requires t)
     (λ c. search needs)
     (call·eval-call-returns-4 t)
+    (call·eval-call-add-eval-list t)
     (λ c. search needs)
     (call·eval-call-eval-list-requires t)
     (λ c κs. search needs)
@@ -526,11 +557,9 @@ pub +call·eval-call+call·invoke+call·run-left+call·run-right+eval·eval+eval
     (λ c κs. search needs)
     (call·invoke-returns-2 t)
     (call·invoke-open-call-requires t)
-    (λ c. search needs)
     (call·invoke-run-left-requires t)
     (λ c. search needs)
     (call·invoke-returns-3 t)
-    (λ c. search needs)
     (call·invoke-run-right-requires t)
     (λ c. search needs)
     (call·invoke-returns-4 t))
@@ -544,6 +573,7 @@ pub +call·eval-call+call·invoke+call·run-left+call·run-right+eval·eval+eval
     (λ c. search needs)
     (λ c κs. search needs)
     (λ c κs. search needs)
+    (λ c κs. search sides.body-limit)
     (λ c. search needs)
     (call·run-left-eval-requires t)
     (λ c κs. search needs)
@@ -570,6 +600,7 @@ pub +call·eval-call+call·invoke+call·run-left+call·run-right+eval·eval+eval
     (λ c. search needs)
     (λ c κs. search needs)
     (λ c κs. search needs)
+    (λ c κs. search sides.body-limit)
     (λ c. search needs)
     (call·run-right-eval-requires t)
     (λ c κs. search needs)
@@ -635,19 +666,23 @@ pub +call·eval-call+call·invoke+call·run-left+call·run-right+eval·eval+eval
     (λ c. search needs)
     (λ c. search needs)
     (eval·eval-field-returns-3 t))
-    (λ t. eval·eval-list-lts.spec (eval·eval-list-claims t) (eval·eval-list-at t) eval·eval-list.Post
-    (eval·eval-list-returns t)
+    (λ t. eval·eval-list-lts.spec (eval·eval-list-claims t) (eval·eval-list-at t) eval·eval-list.Post eval·eval-list-Inv-loop eval·eval-list-μ-loop
+    (eval·eval-list-loop-holds t)
     (eval·eval-list-eval-part-requires t)
     (λ c κs. search needs)
     (λ c. search needs)
     (λ c. search needs)
+    (eval·eval-list-same-length t)
+    (eval·eval-list-returns t)
     (λ c. search needs)
-    (eval·eval-list-returns-2 t)
+    (eval·eval-list-element-copy-out-past t)
+    (eval·eval-list-past-requires t)
+    (eval·eval-list-add-q t)
     (λ c. search needs)
     (λ c. search needs)
-    (eval·eval-list-eval-list-requires t)
-    (λ c. search needs)
-    (eval·eval-list-returns-3 t))
+    (eval·eval-list-loop-again t)
+    (eval·eval-list-same-length-2 t)
+    (eval·eval-list-returns-2 t))
     (λ t. eval·eval-new-lts.spec (eval·eval-new-claims t) (eval·eval-new-at t) eval·eval-new.Post
     (λ c κs. search needs)
     (eval·eval-new-stop-requires t)
@@ -660,6 +695,7 @@ pub +call·eval-call+call·invoke+call·run-left+call·run-right+eval·eval+eval
     (λ c. search needs)
     (λ c. search needs)
     (eval·eval-new-returns-3 t)
+    (eval·eval-new-cast-finish t)
     (eval·eval-new-finish-requires t)
     (λ c. search needs)
     (eval·eval-new-returns-4 t))

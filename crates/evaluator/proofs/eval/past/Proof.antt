@@ -1,0 +1,15 @@
+use borrow.Author.Needs.{needs}
+use Rattle.evaluator.proofs.eval.past.Statement.{statement}
+use Rattle.evaluator.proofs.eval.past.Tie as tie
+use Rattle.evaluator.proofs.eval.past.Reads as reads
+use Rattle.evaluator.proofs.eval.past.Lts as lts
+use Rattle.evaluator.proofs.LimitLaws as laws
+
+returns : tie.Need-returns
+returns c = search laws.past-here
+
+returns-2 : tie.Need-returns-2
+returns-2 c = search laws.past-older
+
+pub past-spec : {M : Type 1} → statement M
+past-spec = tie.close (tie.spec (λ c. search needs) (λ c. search needs) returns returns-2)
