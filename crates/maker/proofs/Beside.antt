@@ -14,7 +14,7 @@ use Rattle.cofj.specs.Values.{Ref, obj, mark, undet, Node, node, Graph, graph, 
 use Rattle.cofj.specs.Unfolding.{InRange, follow}
 use Rattle.cofj.proofs.Basics.{getD-map-lt, eqNode-true, eqNode-refl}
 use Rattle.cofj.proofs.Canon.{canon-length}
-use Rattle.canon.specs.Layout.{refOf, nodeIn, nodesIn, Packed, part, Distinct, Block, Inside, objectsIn, graphAt, countIn, levelIn}
+use Rattle.canon.specs.Layout.{refOf, nodeIn, nodesIn, Packed, part, Distinct, Block, Inside, objectsIn, graphAt, countIn, levelIn, Outside}
 use Rattle.canon.specs.Tables.{Carried}
 use Rattle.canon.specs.Numbers.{Levels}
 use Rattle.canon.proofs.Nodes.{length-nodes, at-nodes, more-nodes, nodes-same, node-same, packed-same, eq-node, ref-object, ref-undet, ref-mark}
@@ -227,6 +227,9 @@ module _ (W : List ℕ) (dst t : ℕ) (T : List ℕ) (D : List ℕ) (a : Carried
         };
       }
 
+pub outside-more : (b : ℕ) (W W1 W2 : List ℕ) → Outside b W W1 → Outside b W1 W2 → Outside b W W2
+outside-more b W W1 W2 x y = record { same = y .same ∙ x .same; below = λ p h. y .below p h ∙ x .below p h; above = λ p h. y .above p h ∙ x .above p h }
+
 -- ---- added
 module _ (W : List ℕ) (b : ℕ) (T : List ℕ) (dst t l : ℕ) (bk : Block W b) (et : t ≡ getD W (240 * b + 192) 0) (lv : Levels T 0 6 l) (le : getD W (240 * b + 193) 0 ≤ l) where
   add-level : (D : List ℕ) → countIn D dst ≡ t + 1 → levelIn D dst ≡ l → ((q : ℕ) → q < 6 * t → getD D (240 * dst + q) 0 ≡ getD W (240 * b + q) 0)
@@ -258,11 +261,7 @@ module _ (W : List ℕ) (b : ℕ) (T : List ℕ) (dst t l : ℕ) (bk : Block W b
         old = old;
         top = a .top;
         level = add-level D (a .count) (a .level) old (a .top);
-        outside = record {
-          same = a .outside .same ∙ c .outside .same;
-          below = λ p h. a .outside .below p h ∙ c .outside .below p h;
-          above = λ p h. a .outside .above p h ∙ c .outside .above p h;
-        };
+        outside = outside-more dst W C D (c .outside) (a .outside);
       })
 
 -- ---- the block with the new object
@@ -383,10 +382,10 @@ module _ (W : List ℕ) (c : ℕ) (ps : List Slot) (n : ℕ) (T : List ℕ) (hel
         })
 
 -- ---- a new object without parts
-abbrev bareObject : ℕ → List ℕ
+abbrev pub bareObject : ℕ → List ℕ
 bareObject c = c ∷ 0 ∷ 192 ∷ 192 ∷ 192 ∷ 192 ∷ []
 
-bare-root : (W : List ℕ) (c : ℕ) → RootObject c (rawsFrom W [] 0 0) (bareObject c)
+pub bare-root : (W : List ℕ) (c : ℕ) → RootObject c (rawsFrom W [] 0 0) (bareObject c)
 unfolding rawsFrom nodeIn
 bare-root W c = record { is = refl; packed = record { count = omega arith; spare = spare } }
   where
@@ -399,6 +398,9 @@ bare-root W c = record { is = refl; packed = record { count = omega arith; spare
     spare (suc (suc (suc (suc (suc zero))))) l m = refl
     spare (suc (suc (suc (suc (suc (suc k)))))) l m = absurd (omega arith)
 
+pub no-parts : (W : List ℕ) → PartsHeld W [] 0
+no-parts W = record { full = omega arith; part = λ i h. absurd (omega arith) }
+
 pub bare-new : (W : List ℕ) (c dst l : ℕ) (D : List ℕ) → Levels (bareObject c) 0 6 l → 240 * dst + 240 ≤ length W → Appended W dst 0 (bareObject c) l D → MadeIs W (make c []) dst D (Value (Object dst 0))
 unfolding valuesFrom
-bare-new W c dst l D ls room a = alone-new W c [] 0 (bareObject c) (record { full = omega arith; part = λ i h. absurd (omega arith) }) (bare-root W c) (record { leaf = λ i h. absurd (omega arith) }) dst l D ls room a
+bare-new W c dst l D ls room a = alone-new W c [] 0 (bareObject c) (no-parts W) (bare-root W c) (record { leaf = λ i h. absurd (omega arith) }) dst l D ls room a

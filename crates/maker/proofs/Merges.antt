@@ -44,7 +44,7 @@ use Rattle.maker.specs.Adding.{Found, Appended, Added, partOf}
 use Rattle.maker.specs.Merging.{Grown, Fits, Standing, Entered, CodeAs, Mapped, Importing, Imported, ObjectBytes, Turned, Turning, TurnedAll, As, PartImported, Begun, RootBrought, PartsBrought, someIn, largerOf, largestOf}
 use Rattle.maker.proofs.Lays.{fresh, fresh-class, fresh-count, fresh-spare, raws-whole, made-raw, parts-length}
 use Rattle.maker.proofs.Adding.{more, old-tree, at-new}
-use Rattle.maker.proofs.Beside.{add-here, objects-are, block-added}
+use Rattle.maker.proofs.Beside.{outside-more, add-here, objects-are, block-added}
 
 -- ---- codes that are no objects
 pub leaf-low : (n c : ℕ) → 192 ≤ c → InRange n (refOf c)
@@ -60,11 +60,7 @@ grown-none host W bk = record { outside = unchanged host W; block = bk; most = o
 
 pub grown-more : (host : ℕ) (W W1 W2 : List ℕ) → Grown host W W1 → Grown host W1 W2 → Grown host W W2
 grown-more host W W1 W2 a b = record {
-  outside = record {
-    same = b .outside .same ∙ a .outside .same;
-    below = λ p h. b .outside .below p h ∙ a .outside .below p h;
-    above = λ p h. b .outside .above p h ∙ a .outside .above p h;
-  };
+  outside = outside-more host W W1 W2 (a .outside) (b .outside);
   block = b .block;
   most = omega (arith, a .most, b .most);
   trees = λ r h p. a .trees r h p ∙ b .trees r (in-larger (countIn W host) (countIn W1 host) r (a .most) h) p;
