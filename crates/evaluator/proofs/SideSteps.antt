@@ -9,12 +9,11 @@ use lib.ListN.{length, getD, set, length-set}
 use lib.Seq.{getD-set-same, getD-set-other}
 use Rattle.cofj.specs.Values.{close}
 use Rattle.classes.specs.Machine.{leftOf, rightOf}
-use Rattle.values.specs.declared.ValueRef.{ValueRef}
 use Rattle.values.specs.declared.ValueRef.the-variants.{Mark}
 use Rattle.values.specs.Layout.{valueOf, Holds}
 use Rattle.values.specs.Operations.{Gives}
 use Rattle.evaluator.specs.declared.Out.the-variants.{Value, Halt}
-use Rattle.values.specs.Refs.{refIn, Small}
+use Rattle.values.specs.Refs.{refIn}
 use Rattle.evaluator.specs.declared.frame.Held.{Held}
 use Rattle.evaluator.specs.declared.frame.Held.the-variants.{Is, Absent}
 use Rattle.evaluator.specs.State.{FrameHolds, CallOlder, refAt, argsAt, baseAt, callAt, traceIn}
@@ -22,7 +21,6 @@ use Rattle.evaluator.specs.Stack.{fuelOf, topOf, heldThis, heldMark, hel
 use Rattle.evaluator.specs.Evaluation.{Evaluates}
 use Rattle.evaluator.specs.Calling.{RunsRight, RunsLeft}
 use Rattle.evaluator.specs.Steps.{Runnable, BodyRunnable, EvalStep, RightStep, LeftStep}
-use Rattle.values.proofs.RefLaws.{small-held}
 use Rattle.evaluator.proofs.BodyLaws.{Pushed, rightFrame, leftFrame, trace-below, right-halt, right-value, left-halt, left-value}
 use Rattle.evaluator.proofs.Given.{given-older}
 use Rattle.evaluator.proofs.FitLaws as fits
@@ -43,7 +41,7 @@ module _ (W S : List ℕ) (next n d sp : ℕ) (run : BodyRunnable W S next n d s
   pub body-top : topOf S < 16
   body-top = fits.push-room W S (topOf S) (refAt S sp) (argsAt S (sp + 1)) n d sp (run .fits)
 
-  pub body-mark : topOf S < 63
+  body-mark : topOf S < 63
   body-mark = let l = body-top in omega arith
 
 -- ---- the frame of a body: its receiver stands at sp
@@ -150,29 +148,27 @@ module _ (T W S : List ℕ) (next d sp n i x : ℕ) (run : BodyRunnable W S next
               (right-halt T W S (topOf S) (refAt S sp) (argsAt S (sp + 1)) n i next d sp (fuelOf S) (x - 1) at ea W1 (outAt S2 (sp + 4) r) right-evaluates (stopAt (getD S2 275 0)) (fuelOf S2) e);
         }
 
-    module _ (nz : r ≡ 0 → ⊥) (u : ValueRef) (eu : u ≡ refIn (getD S3 (sp + 4) 0)) where
-      side-value : outAt S2 (sp + 4) r ≡ Value u r (fuelOf S2)
+    module _ (nz : r ≡ 0 → ⊥) where
+      side-value : outAt S2 (sp + 4) r ≡ Value (refAt S3 (sp + 4)) r (fuelOf S2)
       side-value =
           out-value S2 (sp + 4) r nz
-          ∙ ap (λ (v : ValueRef). Value v r (fuelOf S2)) (ap refIn (sym (fb .below (sp + 4) (let z = short in omega arith))) ∙ sym eu)
+          ∙ ap (λ (q : ℕ). Value (refIn q) r (fuelOf S2)) (sym (fb .below (sp + 4) (let z = short in omega arith)))
 
-      pub right-held : Holds W1 u
-      right-held = given-older T W (rightFrame (refAt S sp) (x - 1) (argsAt S (sp + 1)) n) S (topOf S) at 6 d (sp + 4) (fuelOf S) W1 (outAt S2 (sp + 4) r) right-evaluates u r (fuelOf S2) side-value .held
+      pub right-ready : Holds W1 (refAt S3 (sp + 4)) × (240 * sp + 240 ≤ length W1)
+      right-ready =
+          let z = run .fits .room in (
+            given-older T W (rightFrame (refAt S sp) (x - 1) (argsAt S (sp + 1)) n) S (topOf S) at 6 d (sp + 4) (fuelOf S) W1 (outAt S2 (sp + 4) r) right-evaluates (refAt S3 (sp + 4)) r (fuelOf S2) side-value .held,
+            omega (arith, run .fits .long, right-evaluates .kept .same),
+          )
 
-      pub right-length : 240 * sp + 240 ≤ length W1
-      right-length = let z = run .fits .room in omega (arith, run .fits .long, right-evaluates .kept .same)
-
-      pub right-small : (W2 : List ℕ) (v : ValueRef) → Gives W1 sp W2 v (valueOf W1 u) → Small v
-      right-small W2 v g = small-held W2 (sp + 1) v (g .held) (g .place) (let z = short in omega arith)
-
-      pub right-gives : (W2 : List ℕ) (v : ValueRef) (q : ℕ) → Gives W1 sp W2 v (valueOf W1 u) → refIn q ≡ v → RightStep T W S next d sp n i x W2 (set S3 sp q) next
-      right-gives W2 v q g eq =
+      pub right-gives : (W2 : List ℕ) (q : ℕ) → Gives W1 sp W2 (refIn q) (valueOf W1 (refAt S3 (sp + 4))) → RightStep T W S next d sp n i x W2 (set S3 sp q) next
+      right-gives W2 q g =
           let full : length S3 ≡ 336 = right-stack .same ∙ run .placed .full in
           record {
             stack = put-stack sp S3 q (let z = short in omega arith) S right-stack;
             runs = subst (RunsRight T W S (topOf S) (refAt S sp) (argsAt S (sp + 1)) n i next d sp (fuelOf S) (x - 1) W2)
-                (sym (put-out sp S3 q (let z = short in omega arith) full next (λ y. let z = run .after in omega arith) ∙ (λ j. Value (eq j) next (fb .below 274 (omega arith) j))))
-                (right-value T W S (topOf S) (refAt S sp) (argsAt S (sp + 1)) n i next d sp (fuelOf S) (x - 1) at ea W1 (outAt S2 (sp + 4) r) right-evaluates u r (fuelOf S2) W2 v side-value g);
+                (sym (put-out sp S3 q (let z = short in omega arith) full next (λ y. let z = run .after in omega arith) ∙ ap (Value (refIn q) next) (fb .below 274 (omega arith))))
+                (right-value T W S (topOf S) (refAt S sp) (argsAt S (sp + 1)) n i next d sp (fuelOf S) (x - 1) at ea W1 (outAt S2 (sp + 4) r) right-evaluates (refAt S3 (sp + 4)) r (fuelOf S2) W2 (refIn q) side-value g);
           }
 
 -- ---- the left side: a call more is open, and the frame has no mark
@@ -294,27 +290,26 @@ module _ (T W S : List ℕ) (next d sp m n i : ℕ) (run : BodyRunnable W S next
                 (left-halt T W S (topOf S) (refAt S sp) (argsAt S (sp + 1)) n i next d sp (fuelOf S) m S1 left-pushed at ea W1 (outAt S2 (sp + 4) r) left-evaluates (stopAt (getD S2 275 0)) (fuelOf S2) e);
           }
 
-      module _ (nz : r ≡ 0 → ⊥) (u : ValueRef) (eu : u ≡ refIn (getD S4 (sp + 4) 0)) where
-        left-there : outAt S2 (sp + 4) r ≡ Value u r (fuelOf S2)
+      module _ (nz : r ≡ 0 → ⊥) where
+        left-there : outAt S2 (sp + 4) r ≡ Value (refAt S4 (sp + 4)) r (fuelOf S2)
         left-there =
             out-value S2 (sp + 4) r nz
-            ∙ ap (λ (v : ValueRef). Value v r (fuelOf S2)) (ap refIn (sym (same-back (sp + 4) (let z = low in omega arith))) ∙ sym eu)
+            ∙ ap (λ (q : ℕ). Value (refIn q) r (fuelOf S2)) (sym (same-back (sp + 4) (let z = low in omega arith)))
 
-        pub left-held : Holds W1 u
-        left-held = given-older T W (leftFrame (refAt S sp) (argsAt S (sp + 1)) n) S1 (topOf S + 1) at 6 d (sp + 4) (fuelOf S) W1 (outAt S2 (sp + 4) r) left-evaluates u r (fuelOf S2) left-there .held
+        pub left-ready : Holds W1 (refAt S4 (sp + 4)) × (topOf S < 63) × (240 * sp + 240 ≤ length W1)
+        left-ready =
+            let z = run .fits .room in (
+              given-older T W (leftFrame (refAt S sp) (argsAt S (sp + 1)) n) S1 (topOf S + 1) at 6 d (sp + 4) (fuelOf S) W1 (outAt S2 (sp + 4) r) left-evaluates (refAt S4 (sp + 4)) r (fuelOf S2) left-there .held,
+              body-mark W S next n d sp run,
+              omega (arith, run .fits .long, left-evaluates .kept .same),
+            )
 
-        pub left-length : 240 * sp + 240 ≤ length W1
-        left-length = let z = run .fits .room in omega (arith, run .fits .long, left-evaluates .kept .same)
-
-        pub left-small : (W2 : List ℕ) (v : ValueRef) → Gives W1 sp W2 v (close (topOf S) (valueOf W1 u)) → Small v
-        left-small W2 v g = small-held W2 (sp + 1) v (g .held) (g .place) (let z = low in omega arith)
-
-        pub left-gives : (W2 : List ℕ) (v : ValueRef) (q : ℕ) → Gives W1 sp W2 v (close (topOf S) (valueOf W1 u)) → refIn q ≡ v → LeftStep T W S next d sp m n i W2 (set S4 sp q) next
-        left-gives W2 v q g eq =
+        pub left-gives : (W2 : List ℕ) (q : ℕ) → Gives W1 sp W2 (refIn q) (close (topOf S) (valueOf W1 (refAt S4 (sp + 4)))) → LeftStep T W S next d sp m n i W2 (set S4 sp q) next
+        left-gives W2 q g =
             let full : length S4 ≡ 336 = left-stack .same ∙ run .placed .full in
             record {
               stack = put-stack sp S4 q (let z = low in omega arith) S left-stack;
               runs = subst (RunsLeft T W S (topOf S) (refAt S sp) (argsAt S (sp + 1)) n i next d sp (fuelOf S) m W2)
-                  (sym (put-out sp S4 q (let z = low in omega arith) full next (λ y. let z = run .after in omega arith) ∙ (λ j. Value (eq j) next (same-back 274 (omega arith) j))))
-                  (left-value T W S (topOf S) (refAt S sp) (argsAt S (sp + 1)) n i next d sp (fuelOf S) m S1 left-pushed at ea W1 (outAt S2 (sp + 4) r) left-evaluates u r (fuelOf S2) W2 v left-there g);
+                  (sym (put-out sp S4 q (let z = low in omega arith) full next (λ y. let z = run .after in omega arith) ∙ ap (Value (refIn q) next) (same-back 274 (omega arith))))
+                  (left-value T W S (topOf S) (refAt S sp) (argsAt S (sp + 1)) n i next d sp (fuelOf S) m S1 left-pushed at ea W1 (outAt S2 (sp + 4) r) left-evaluates (refAt S4 (sp + 4)) r (fuelOf S2) W2 (refIn q) left-there g);
             }

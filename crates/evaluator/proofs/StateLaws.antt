@@ -1,10 +1,10 @@
--- Parameters of a frame; numbers, arguments and open calls compared: one law for each return of `apart`, `same_value`, `same_args`, `same_call` and `open_call`.
+-- Parameters of a frame; numbers, arguments and open calls compared: one law for each return of `apart`, `same_value`, `same_args`, `same_call`, `other_call` and `open_call`.
 -- Not here: how a step changes the frame and the open calls (StackLaws).
 use Prim.Native.Nat.{ℕ, zero, suc, _+_, _-_, _*_, _≤_, _<_, _/_, _%_}
 use native.Mathlib.Omega.{arith}
 use native.Mathlib.Numerals.{sub-one, add-one}
 use mathlib.Core.Path.{_≡_, refl, sym, ap, ap₂, _∙_, subst}
-use mathlib.Core.Bool.{Bool, true, false, not, false≢true}
+use mathlib.Core.Bool.{Bool, true, false, not, cond, false≢true, true≢false}
 use mathlib.Core.List.{List, [], _∷_, map}
 use mathlib.Core.Option.{Option, none, some}
 use lib.Dec.{eqb, ltb}
@@ -20,10 +20,10 @@ use Rattle.values.specs.declared.ValueRef.the-variants.{Object, Mark, Undetermi
 use Rattle.maker.specs.declared.Slot.{Slot}
 use Rattle.values.specs.Layout.{valueOf, Holds}
 use Rattle.maker.specs.Laying.{valuesFrom, PartsHeld}
-use Rattle.values.proofs.Steps.{one-block, mark-mark, undet-undet}
-use Rattle.values.specs.Refs.{refIn}
-use Rattle.evaluator.specs.State.{apartOf, OpenCall, slotAt, HeldOlder, heldIn, FrameHolds, frameIn, variableOf, refAt, argsAt, baseAt, callAt, callIn, CallHolds, CallsHold, traceIn, sameOf, metOf}
-use Rattle.values.proofs.RefLaws.{object-in}
+use Rattle.values.proofs.Steps.{one-block, object-mark, object-undet, mark-object, mark-mark, mark-undet, undet-object, undet-mark, undet-undet}
+use Rattle.values.specs.Refs.{refFrom, refIn}
+use Rattle.values.proofs.RefLaws.{codeIn, code-from}
+use Rattle.evaluator.specs.State.{apartOf, otherOf, OpenCall, slotAt, HeldOlder, heldIn, FrameHolds, frameIn, variableOf, refAt, argsAt, baseAt, callAt, callIn, CallHolds, CallsHold, traceIn, sameOf, metOf}
 use Rattle.evaluator.specs.declared.frame.Held.the-variants.{Is, Absent}
 use Rattle.evaluator.specs.declared.frame.Frame.{Frame}
 
@@ -85,23 +85,13 @@ module _ (W : List ℕ) (sp : ℕ) (f : Frame) (k : ℕ) (h : FrameHolds W sp f)
 
 -- ---- numbers told apart
 module _ (x y : ℕ) where
-  pub apart-same : x ≡ y → false ≡ apartOf x y
+  pub apart-block : (x / 256 ≡ y / 256 → ⊥) → false ≡ apartOf x y
   unfolding apartOf
-  apart-same e = rw (eq-eqb x y e)
+  apart-block h = rw (ne-eqb (x / 256) (y / 256) h)
 
-  module _ (no : x ≡ y → ⊥) where
-    pub apart-block : (x / 256 ≡ y / 256 → ⊥) → false ≡ apartOf x y
-    unfolding apartOf
-    apart-block h = rw (ne-eqb x y no, ne-eqb (x / 256) (y / 256) h)
-
-    module _ (e : x / 256 ≡ y / 256) where
-      pub apart-leaf : 192 ≤ x % 256 → false ≡ apartOf x y
-      unfolding apartOf
-      apart-leaf h = rw (ne-eqb x y no, eq-eqb (x / 256) (y / 256) e, le-ltb (x % 256) 192 h)
-
-      pub apart-by : x % 256 < 192 → ltb (y % 256) 192 ≡ apartOf x y
-      unfolding apartOf
-      apart-by h = rw (ne-eqb x y no, eq-eqb (x / 256) (y / 256) e, lt-ltb (x % 256) 192 h)
+  pub apart-by : x / 256 ≡ y / 256 → not (eqb x y) ≡ apartOf x y
+  unfolding apartOf
+  apart-by e = rw (eq-eqb (x / 256) (y / 256) e)
 
 -- ---- numbers compared
 -- a value is itself
@@ -110,31 +100,50 @@ value-same W (Object b i) h = sym (eq-eqb i i refl) ∙ one-block W b i b i (h .
 value-same W (Mark k) h = sym (eq-eqb k k refl) ∙ mark-mark W (Mark k) (Mark k) k k refl refl
 value-same W Undetermined h = undet-undet W Undetermined Undetermined refl refl
 
+-- a value of block b, or a leaf
+abbrev OfBlock : ℕ → ValueRef → Type 0
+OfBlock b (Object c i) = c ≡ b
+OfBlock b (Mark k) = Unit {0}
+OfBlock b Undetermined = Unit {0}
+
+from-block : (b d c : ℕ) → b ≡ d → OfBlock d (refFrom b c)
+unfolding refFrom
+from-block b d c e = go (ltb c 192) (eqb c 192)
+  where
+    go : (p q : Bool) → OfBlock d (cond p (Object b c) (cond q Undetermined (Mark (c - 193))))
+    go true q = e
+    go false true = tt
+    go false false = tt
+
+-- values of one block with two codes differ
+values-differ : (W : List ℕ) (b : ℕ) (r s : ValueRef) → OfBlock b r → OfBlock b s → (codeIn r ≡ codeIn s → ⊥) → Holds W r → Holds W s → false ≡ eqGraph (valueOf W r) (valueOf W s)
+values-differ W b (Object c i) (Object d j) p q ne h k = sym (ne-eqb i j ne) ∙ one-block W c i d j (h .held) (k .held) (p ∙ sym q)
+values-differ W b (Object c i) (Mark l) p q ne h k = object-mark W (Object c i) (Mark l) c i l refl refl
+values-differ W b (Object c i) Undetermined p q ne h k = object-undet W (Object c i) Undetermined c i refl refl
+values-differ W b (Mark l) (Object d j) p q ne h k = mark-object W (Mark l) (Object d j) l d j refl refl
+values-differ W b (Mark l) (Mark m) p q ne h k = sym (ne-eqb l m (λ z. ne (ap (λ (n : ℕ). 193 + n) z))) ∙ mark-mark W (Mark l) (Mark m) l m refl refl
+values-differ W b (Mark l) Undetermined p q ne h k = mark-undet W (Mark l) Undetermined l refl refl
+values-differ W b Undetermined (Object d j) p q ne h k = undet-object W Undetermined (Object d j) d j refl refl
+values-differ W b Undetermined (Mark m) p q ne h k = undet-mark W Undetermined (Mark m) m refl refl
+values-differ W b Undetermined Undetermined p q ne h k = absurd (ne refl)
+
 module _ (W : List ℕ) (x y : ℕ) where
   pub numbers-same : Holds W (refIn x) → x ≡ y → true ≡ eqGraph (valueOf W (refIn x)) (valueOf W (refIn y))
   numbers-same h e = value-same W (refIn x) h ∙ ap (λ (z : ℕ). eqGraph (valueOf W (refIn x)) (valueOf W (refIn z))) e
 
-  module _ (hx : Holds W (refIn x)) (hy : Holds W (refIn y)) (no : x ≡ y → ⊥) (e : x / 256 ≡ y / 256) (lx : x % 256 < 192) (ly : y % 256 < 192) where
-    apart : (b c : ℕ) → b ≡ c → (i j : ℕ) → (i ≡ j → ⊥) → Holds W (Object b i) → Holds W (Object c j) → false ≡ eqGraph (valueOf W (Object b i)) (valueOf W (Object c j))
-    apart b c z i j d h k = sym (ne-eqb i j d) ∙ one-block W b i c j (h .held) (k .held) z
-
-    numbers-differ : false ≡ eqGraph (valueOf W (refIn x)) (valueOf W (refIn y))
-    numbers-differ =
-        let q : x % 256 ≡ y % 256 → ⊥ = λ z. no (omega arith) in
-        rw (← object-in x lx, ← object-in y ly)
-        (apart (x / 256 % 65536) (y / 256 % 65536) (ap (λ (z : ℕ). z % 65536) e) (x % 256) (y % 256) q (subst (Holds W) (sym (object-in x lx)) hx) (subst (Holds W) (sym (object-in y ly)) hy))
-
   numbers-apart : Holds W (refIn x) → Holds W (refIn y) → apartOf x y ≡ true → false ≡ eqGraph (valueOf W (refIn x)) (valueOf W (refIn y))
-  unfolding apartOf
-  numbers-apart hx hy z = go (eqb x y) (eqb (x / 256) (y / 256)) (ltb (x % 256) 192) (ltb (y % 256) 192) refl refl refl refl z
+  unfolding apartOf refIn
+  numbers-apart hx hy z = go (eqb (x / 256) (y / 256)) (eqb x y) refl refl z
     where
-      go : (a b c d : Bool) → eqb x y ≡ a → eqb (x / 256) (y / 256) ≡ b → ltb (x % 256) 192 ≡ c → ltb (y % 256) 192 ≡ d → pick a false (pick b (pick c d false) false) ≡ true
-          → false ≡ eqGraph (valueOf W (refIn x)) (valueOf W (refIn y))
-      go true b c d ea eb ec ed q = absurd (false≢true q)
-      go false false c d ea eb ec ed q = absurd (false≢true q)
-      go false true false d ea eb ec ed q = absurd (false≢true q)
-      go false true true false ea eb ec ed q = absurd (false≢true q)
-      go false true true true ea eb ec ed q = numbers-differ hx hy (eqb-false x y ea) (eqb-true (x / 256) (y / 256) eb) (ltb-true (x % 256) 192 ec) (ltb-true (y % 256) 192 ed)
+      differ : x / 256 ≡ y / 256 → (x ≡ y → ⊥) → false ≡ eqGraph (valueOf W (refIn x)) (valueOf W (refIn y))
+      differ e ne =
+          values-differ W (y / 256 % 65536) (refIn x) (refIn y) (from-block (x / 256 % 65536) (y / 256 % 65536) (x % 256) (ap (λ (b : ℕ). b % 65536) e)) (from-block (y / 256 % 65536) (y / 256 % 65536) (y % 256) refl)
+          (λ q. ne (omega (arith, code-from (x / 256 % 65536) (x % 256), code-from (y / 256 % 65536) (y % 256)))) hx hy
+
+      go : (a b : Bool) → eqb (x / 256) (y / 256) ≡ a → eqb x y ≡ b → pick a (not b) false ≡ true → false ≡ eqGraph (valueOf W (refIn x)) (valueOf W (refIn y))
+      go false b ea eb q = absurd (false≢true q)
+      go true true ea eb q = absurd (false≢true q)
+      go true false ea eb q = differ (eqb-true (x / 256) (y / 256) ea) (eqb-false x y eb)
 
   pub numbers-compared : (u v : ValueRef) (r : Bool) → u ≡ refIn x → v ≡ refIn y → r ≡ eqGraph (valueOf W u) (valueOf W v) → r ≡ eqGraph (valueOf W (refIn x)) (valueOf W (refIn y))
   numbers-compared u v r eu ev er = rw (← eu, ← ev) er
@@ -273,11 +282,6 @@ module _ (W S : List ℕ) (i n sp : ℕ) where
         ∙ ap₂ {A = List Slot} {B = ℕ} (λ ps m. eqGraphs (valuesFrom W ps 0 m) (valuesFrom W (argsAt S (sp + 1)) 0 n)) (args-place S i) (sym e ∙ count-place S i)
         ∙ sym (by-receiver ∙ ap (λ (x : Bool). pick x (eqGraphs (valuesFrom W (callAt S i .args) 0 (callAt S i .n)) (valuesFrom W (argsAt S (sp + 1)) 0 n)) false) (not-false r z))
 
-  pub call-apart : CallHolds W (callAt S i) → Holds W (refAt S sp) → (r : Bool) → r ≡ apartOf (getD S (getD S (281 + 3 * i + 2) 0) 0) (getD S sp 0) → r ≡ true
-      → false ≡ sameOf (callIn W 0 (callAt S i)) (valueOf W (refAt S sp)) (callAt S i .name) (valuesFrom W (argsAt S (sp + 1)) 0 n)
-  call-apart h hs r e z =
-      call-receiver false (numbers-apart W (getD S (getD S (281 + 3 * i + 2) 0) 0) (getD S sp 0) (receiver-held W S i h) hs (sym e ∙ z)) refl
-
   pub call-equal : CallHolds W (callAt S i) → getD S (getD S (281 + 3 * i + 2) 0) 0 ≡ getD S sp 0 → getD S (281 + 3 * i + 1) 0 ≡ n → (s : Bool)
       → s ≡ eqGraphs (valuesFrom W (argsAt S (getD S (281 + 3 * i + 2) 0 + 1)) 0 n) (valuesFrom W (argsAt S (sp + 1)) 0 n)
       → s ≡ sameOf (callIn W 0 (callAt S i)) (valueOf W (refAt S sp)) (callAt S i .name) (valuesFrom W (argsAt S (sp + 1)) 0 n)
@@ -298,16 +302,40 @@ by-tests o os v m vs = go (eqb (o .name) m) (eqGraph (o .receiver) v) (eqGraphs 
     go true false c = refl
     go false b c = refl
 
+-- ---- calls told apart by numbers
+module _ (S : List ℕ) (i m y : ℕ) where
+  pub other-name : (getD S (281 + 3 * i) 0 ≡ m → ⊥) → true ≡ otherOf S i m y
+  unfolding otherOf
+  other-name h = rw (ne-eqb (getD S (281 + 3 * i) 0) m h)
+
+  pub other-receiver : getD S (281 + 3 * i) 0 ≡ m → (r : Bool) → r ≡ apartOf (getD S (getD S (281 + 3 * i + 2) 0) 0) y → r ≡ otherOf S i m y
+  unfolding otherOf
+  other-receiver e r er = rw (eq-eqb (getD S (281 + 3 * i) 0) m e) (er ∙ ap (λ (b : ℕ). apartOf (getD S b 0) y) (base-place S i))
+
+  other-not : otherOf S i m y ≡ false → getD S (281 + 3 * i) 0 ≡ m
+  unfolding otherOf
+  other-not z = go (eqb (getD S (281 + 3 * i) 0) m) refl z
+    where
+      go : (a : Bool) → eqb (getD S (281 + 3 * i) 0) m ≡ a → pick a (apartOf (getD S (baseAt S i) 0) y) true ≡ false → getD S (281 + 3 * i) 0 ≡ m
+      go true e q = eqb-true (getD S (281 + 3 * i) 0) m e
+      go false e q = absurd (true≢false q)
+
 -- the name of call i, as the code has it
 name-is : (S : List ℕ) (i m : ℕ) → getD S (281 + 3 * i) 0 ≡ m → callAt S i .name ≡ m
 unfolding callAt
 name-is S i m e = e
 
-module _ (W S : List ℕ) (v : ValueRef) (m : ℕ) (ps : List Slot) (n : ℕ) where
-  call-name : (i : ℕ) → (getD S (281 + 3 * i) 0 ≡ m → ⊥) → false ≡ sameOf (callIn W 0 (callAt S i)) (valueOf W v) m (valuesFrom W ps 0 n)
-  unfolding sameOf callAt
-  call-name i h = rw (ne-eqb (getD S (281 + 3 * i) 0) m h)
+call-other : (W S : List ℕ) (i m sp : ℕ) (vs : List Graph) → CallHolds W (callAt S i) → Holds W (refAt S sp) → otherOf S i m (getD S sp 0) ≡ true
+    → false ≡ sameOf (callIn W 0 (callAt S i)) (valueOf W (refAt S sp)) m vs
+unfolding sameOf callAt otherOf
+call-other W S i m sp vs h hs z = go (eqb (getD S (281 + 3 * i) 0) m) z
+  where
+    go : (a : Bool) → pick a (apartOf (getD S (baseAt S i) 0) (getD S sp 0)) true ≡ true
+        → false ≡ pick a (pick (eqGraph (valueOf W (refAt S (baseAt S i))) (valueOf W (refAt S sp))) (eqGraphs (callIn W 0 (callAt S i) .args) vs) false) false
+    go true q = ap (λ (b : Bool). pick b (eqGraphs (callIn W 0 (callAt S i) .args) vs) false) (numbers-apart W (getD S (baseAt S i) 0) (getD S sp 0) (h .receiver) hs q)
+    go false q = refl
 
+module _ (W S : List ℕ) (v : ValueRef) (m : ℕ) (ps : List Slot) (n : ℕ) where
   open-end : (k : ℕ) → k ≡ 0 → 0 ≡ metOf (openMark (traceIn W S k) (valueOf W v) m (valuesFrom W ps 0 n))
   unfolding traceIn openMark
   open-end k e = rw e
@@ -354,12 +382,9 @@ module _ (W S : List ℕ) (k : ℕ) (v : ValueRef) (m : ℕ) (ps : List Slot) (n
           same = sym (open-step W S v m ps n j (λ e. omega arith) r er ∙ ap (λ (b : Bool). pick b (some (j - 1)) (openMark (traceIn W S (j - 1)) (valueOf W v) m (valuesFrom W ps 0 n))) z) ∙ l .same;
         }
 
-    pub left-name : 0 < j → (getD S (281 + 3 * (j - 1)) 0 ≡ m → ⊥) → Left W S k v m ps n (j - 1)
-    left-name p h = left-less p false (call-name W S v m ps n (j - 1) h) refl
-
-    module _ (p : 0 < j) (e : getD S (281 + 3 * (j - 1)) 0 ≡ m) (r : Bool) (er : r ≡ sameOf (callIn W 0 (callAt S (j - 1))) (valueOf W v) (callAt S (j - 1) .name) (valuesFrom W ps 0 n)) where
+    module _ (p : 0 < j) (y : ℕ) (o : Bool) (eo : o ≡ otherOf S (j - 1) m y) (no : not o ≡ true) (r : Bool) (er : r ≡ sameOf (callIn W 0 (callAt S (j - 1))) (valueOf W v) (callAt S (j - 1) .name) (valuesFrom W ps 0 n)) where
       named : r ≡ sameOf (callIn W 0 (callAt S (j - 1))) (valueOf W v) m (valuesFrom W ps 0 n)
-      named = er ∙ ap (λ (x : ℕ). sameOf (callIn W 0 (callAt S (j - 1))) (valueOf W v) x (valuesFrom W ps 0 n)) (name-is S (j - 1) m e)
+      named = er ∙ ap (λ (x : ℕ). sameOf (callIn W 0 (callAt S (j - 1))) (valueOf W v) x (valuesFrom W ps 0 n)) (name-is S (j - 1) m (other-not S (j - 1) m y (sym eo ∙ not-true o no)))
 
       pub left-found : r ≡ true → j ≡ metOf (openMark (traceIn W S k) (valueOf W v) m (valuesFrom W ps 0 n))
       left-found z =
@@ -368,3 +393,8 @@ module _ (W S : List ℕ) (k : ℕ) (v : ValueRef) (m : ℕ) (ps : List Slot) (n
 
       pub left-more : r ≡ false → Left W S k v m ps n (j - 1)
       left-more z = left-less p r named z
+
+pub left-other : (W S : List ℕ) (k sp m : ℕ) (ps : List Slot) (n j : ℕ) → Left W S k (refAt S sp) m ps n j → Holds W (refAt S sp) → 0 < j
+    → (o : Bool) → o ≡ otherOf S (j - 1) m (getD S sp 0) → not o ≡ false → Left W S k (refAt S sp) m ps n (j - 1)
+left-other W S k sp m ps n j l hs p o eo z =
+    left-less W S k (refAt S sp) m ps n j l p false (call-other W S (j - 1) m sp (valuesFrom W ps 0 n) (left-last W S k (refAt S sp) m ps n j l p) hs (sym eo ∙ not-false o z)) refl

@@ -1,7 +1,7 @@
 -- What the variables of a body and the open calls on the stack stand for in the work bytes W, and when they do.
 -- Not here: the rest of the stack (Stack), what evaluation answers (Answers).
-use Prim.Native.Nat.{ℕ, zero, suc, _+_, _*_, _/_, _%_, _≤_, _<_}
-use mathlib.Core.Bool.{Bool, false}
+use Prim.Native.Nat.{ℕ, zero, suc, _+_, _*_, _/_, _≤_, _<_}
+use mathlib.Core.Bool.{Bool, true, false, not}
 use mathlib.Core.List.{List, [], _∷_}
 use mathlib.Core.Option.{Option, none, some}
 use lib.Dec.{eqb, ltb}
@@ -113,9 +113,13 @@ traceIn W S zero = []
 traceIn W S (suc k) = callIn W k (callAt S k) ∷ traceIn W S k
 
 -- ---- a call met again
--- two numbers of two objects of one block
+-- two numbers of one block that differ
 unfoldable pub apartOf : ℕ → ℕ → Bool
-apartOf x y = pick (eqb x y) false (pick (eqb (x / 256) (y / 256)) (pick (ltb (x % 256) 192) (ltb (y % 256) 192) false) false)
+apartOf x y = pick (eqb (x / 256) (y / 256)) (not (eqb x y)) false
+
+-- call i of a stack has another name than m, or a receiver whose number and y are apart
+unfoldable pub otherOf : List ℕ → ℕ → ℕ → ℕ → Bool
+otherOf S i m y = pick (eqb (getD S (281 + 3 * i) 0) m) (apartOf (getD S (baseAt S i) 0) y) true
 
 unfoldable pub sameOf : language.OpenCall → Graph → ℕ → List Graph → Bool
 sameOf o v m vs = pick (eqb (o .name) m) (pick (eqGraph (o .receiver) v) (eqGraphs (o .args) vs) false) false

@@ -25,11 +25,9 @@ use classes::methods::Found;
 use classes::methods::left_place;
 use classes::methods::right_place;
 use classes::places::SIZE;
-use values::ValueRef;
-use values::refs::pack;
 use values::refs::unpack;
-use values::value::bring;
-use values::value::close;
+use values::value::bring_in;
+use values::value::close_in;
 ghost use Prim.Native.Nat.{ℕ, _+_, _<_};
 ghost use Rattle.evaluator.specs.Steps.{Runnable, CallRunnable, BodyRunnable, CallStep, InvokeStep, RightStep, LeftStep};
 
@@ -127,8 +125,7 @@ pub fn run_right(
     let Went::On(_after) = w else {
         return 0;
     };
-    let v = bring(work, unpack(st[sp + 4]), sp as u16);
-    st[sp] = pack(v);
+    st[sp] = bring_in(work, st[sp + 4], sp as u16);
     next
 }
 
@@ -161,7 +158,6 @@ pub fn run_left(
     let Went::On(_after) = w else {
         return 0;
     };
-    let v = close(work, top as u8, unpack(st[sp + 4]), sp as u16);
-    st[sp] = pack(v);
+    st[sp] = close_in(work, top as u8, st[sp + 4], sp as u16);
     next
 }

@@ -12,23 +12,17 @@ ghost use Rattle.cofj.specs.Running.{openMark};
 ghost use Rattle.values.specs.Layout.{Holds, valueOf};
 ghost use Rattle.maker.specs.Laying.{PartsHeld, valuesFrom};
 ghost use Rattle.values.specs.Refs.{refIn};
-ghost use Rattle.evaluator.specs.State.{apartOf, refAt, argsAt, baseAt, CallHolds, CallsHold, callAt, callIn, sameOf, traceIn, metOf};
+ghost use Rattle.evaluator.specs.State.{apartOf, otherOf, refAt, argsAt, baseAt, CallHolds, CallsHold, callAt, callIn, sameOf, traceIn, metOf};
 ghost use Rattle.evaluator.specs.Stack.{topOf};
 
-// Whether two numbers are those of two objects of one block: these are never equal. It costs no call.
+// Whether two numbers differ and are of one block: these never stand for one value. It costs no call.
 pub fn apart(x: u32, y: u32) -> bool
     ensures { λ r. ⌜ r ≡ apartOf x y ⌝ }
 {
-    if x == y {
-        return false;
-    }
     if x / 256 != y / 256 {
         return false;
     }
-    if 192 <= x % 256 {
-        return false;
-    }
-    y % 256 < 192
+    x != y
 }
 
 // Whether two numbers stand for one value.
@@ -77,15 +71,25 @@ pub fn same_call(work: &[u8], st: &[u32; STACK], i: u32, n: u32, sp: usize) -> b
     let b = base as usize;
     let x = st[b];
     let y = st[sp];
-    if apart(x, y) {
-        return false;
-    }
     if x != y {
         if !same_value(work, x, y) {
             return false;
         }
     }
     same_args(work, st, b + 1, sp + 1, n)
+}
+
+// Whether numbers alone tell that call i has another name than m, or another receiver than the one with the number y.
+pub fn other_call(st: &[u32; STACK], i: u32, m: u32, y: u32) -> bool
+    requires { ⌜ (i < 16) × (baseAt (now st) i + 4 ≤ 336) ⌝ }
+    ensures { λ r. ⌜ r ≡ otherOf (now (st .entry)) i m y ⌝ }
+{
+    let at = CALLS + 3 * (i as usize);
+    if st[at] != m {
+        return true;
+    }
+    let base = st[at + 2];
+    apart(st[base as usize], y)
 }
 
 // The mark and 1 of the newest open call with this name, the receiver at sp and the n arguments after it; 0 if there is none.
@@ -95,7 +99,7 @@ pub fn open_call(work: &[u8], st: &[u32; STACK], m: u32, n: u32, sp: usize) -> u
 {
     let mut j: u32 = st[TOP];
     while 0 < j {
-        if st[CALLS + 3 * ((j - 1) as usize)] == m {
+        if !other_call(st, j - 1, m, st[sp]) {
             if same_call(work, st, j - 1, n, sp) {
                 return j;
             }

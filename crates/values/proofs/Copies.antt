@@ -129,9 +129,6 @@ module _ (W : List ℕ) (r : ValueRef) (dst : ℕ) (h : Holds W r) where
           outside = c .outside;
         }
 
-pub inside-held : (W : List ℕ) (b i : ℕ) → Inside W b i → Holds W (Object b i)
-inside-held W b i h = record { held = h }
-
 pub block-held : (W : List ℕ) (b i : ℕ) → Block W b → i < getD W (240 * b + 192) 0 → Holds W (Object b i)
 unfolding countIn
 block-held W b i bk h = record { held = record { block = bk; low = h } }

@@ -4,10 +4,12 @@ use Prim.Native.Nat.{ℕ, _+_, _-_, _*_, _/_, _%_, _≤_, _<_}
 use native.Mathlib.Omega.{arith}
 use native.Mathlib.Decide.{decLt, ℕ-discrete}
 use mathlib.Core.Path.{_≡_, refl, sym, ap, ap₂, _∙_, subst}
+use mathlib.Core.Bool.{Bool, true, false, cond}
 use mathlib.Core.List.{List}
 use mathlib.Core.Option.{none, some}
+use lib.Dec.{eqb, ltb}
 use lib.ListN.{length, getD}
-use borrow.Author.Tests.{lt-ltb, le-ltb, eq-eqb, ne-eqb}
+use borrow.Author.Tests.{lt-ltb, le-ltb, eq-eqb, ne-eqb, eqb-true, eqb-false, ltb-false}
 use Rattle.cofj.specs.Values.{select}
 use Rattle.canon.specs.Layout.{Inside}
 use Rattle.values.specs.declared.ValueRef.{ValueRef}
@@ -85,6 +87,34 @@ small-held W sp (Object b i) h l m = (omega arith, omega (arith, h .held .block 
 small-held W sp (Mark k) h l m = h .held
 small-held W sp Undetermined h l m = tt
 
+-- a number of an object
+pub number-inside : (W : List ℕ) (r : ℕ) → Holds W (refIn r) → r % 256 < 192 → Inside W (r / 256 % 65536) (r % 256)
+number-inside W r h o = subst (HeldBy W) (sym (object-in r o)) (h .held)
+
+-- ---- the code of a value in its block
+abbrev pub codeIn : ValueRef → ℕ
+codeIn (Object b i) = i
+codeIn (Mark k) = 193 + k
+codeIn Undetermined = 192
+
+pub code-from : (b c : ℕ) → codeIn (refFrom b c) ≡ c
+unfolding refFrom
+code-from b c = go (ltb c 192) (eqb c 192) refl refl
+  where
+    go : (p q : Bool) → ltb c 192 ≡ p → eqb c 192 ≡ q → codeIn (cond p (Object b c) (cond q Undetermined (Mark (c - 193)))) ≡ c
+    go true q ep eq = refl
+    go false true ep eq = sym (eqb-true c 192 eq)
+    go false false ep eq = omega (arith, ltb-false c 192 ep, eqb-false c 192 eq)
+
+-- a leaf lies in no block
+pub leaf-low : (sp r : ℕ) → 192 ≤ r % 256 → Low sp (refIn r)
+unfolding refIn refFrom
+leaf-low sp r h = rw (le-ltb (r % 256) 192 h) (go (eqb (r % 256) 192))
+  where
+    go : (q : Bool) → Low sp (cond q Undetermined (Mark (r % 256 - 193)))
+    go true = tt
+    go false = tt
+
 -- ---- the number of a field
 nothing-in : (W : List ℕ) (r f : ℕ) → Chosen W (refIn r) f none → ChosenIn W r f 4294967295
 unfolding answerOf
@@ -123,7 +153,7 @@ code-chosen W b i f ob l m = go (getD W (240 * b + 6 * i + 2 + f) 0) m (choose-o
 
 module _ (W : List ℕ) (r f : ℕ) (h : Holds W (refIn r)) (o : r % 256 < 192) where
   inside : Inside W (r / 256 % 65536) (r % 256)
-  inside = subst (HeldBy W) (sym (object-in r o)) (h .held)
+  inside = number-inside W r h o
 
   pub select-room : 240 * (r / 256 % 65536) + 6 * (r % 256) + 6 ≤ length W
   select-room = inside-room W (r / 256 % 65536) (r % 256) inside

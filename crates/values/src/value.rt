@@ -1,16 +1,16 @@
 // Values closed and moved. Not here: values selected from (refs), values compared (lockstep), a new object (crate maker), how a mark is bound (bind).
 use crate::ValueRef;
 use crate::bind::close_bound;
+use crate::refs::pack;
 use canon::bytes::count_up;
 use canon::lift::lift;
 use canon::number::put;
 ghost use Prim.Native.Nat.{ℕ, _+_, _*_, _<_, _≤_};
 ghost use lib.ListN.{length};
-ghost use Rattle.cofj.specs.Values.{canon};
 ghost use Rattle.canon.specs.Layout.{Block, Inside, graphAt};
 ghost use Rattle.values.specs.Layout.{Holds, valueOf};
+ghost use Rattle.values.specs.Refs.{refIn};
 ghost use Rattle.values.specs.Operations.{Taken, Moved, Copied, Gives, closeOf};
-ghost use Rattle.values.specs.declared.ValueRef.the-variants.{Object};
 
 // Copies the objects of block b to the front of `raw`, and answers how many they are.
 // `ids` becomes 0, 1, .. for each of them.
@@ -69,30 +69,37 @@ pub fn bring(work: &mut [u8], r: ValueRef, dst: u16) -> ValueRef
     ValueRef::Object(dst, i)
 }
 
-// X = u for object i of block b, to block `dst`, or where it lies if the mark is not in it.
-pub fn close_object(work: &mut [u8], x: u8, b: u16, i: u8, dst: u16) -> ValueRef
-    requires { ⌜ Inside (now work) b i × (x < 63) × (240 * dst + 240 ≤ length (now work)) ⌝ }
-    ensures { λ o. ⌜ Gives (now (work .entry)) dst (now (work .exit)) o (closeOf x (canon (graphAt (now (work .entry)) b i))) ⌝ }
+// The number of a value, in block `dst` or below.
+pub fn bring_in(work: &mut [u8], r: u32, dst: u16) -> u32
+    requires { ⌜ Holds (now work) (refIn r) × (240 * dst + 240 ≤ length (now work)) ⌝ }
+    ensures { λ q. ⌜ Gives (now (work .entry)) dst (now (work .exit)) (refIn q) (valueOf (now (work .entry)) (refIn r)) ⌝ }
 {
-    if work[240 * (b as usize) + 193] <= x {
-        return bring(work, ValueRef::Object(b, i), dst);
+    if 192 <= r % 256 {
+        return r;
     }
-    close_bound(work, x, b, i, dst)
+    let b = (r / 256 % 65536) as u16;
+    if b <= dst {
+        return r;
+    }
+    copy_block(work, b, dst);
+    256 * (dst as u32) + r % 256
 }
 
-// X = u, in block `dst` or below if it is an object.
-pub fn close(work: &mut [u8], x: u8, r: ValueRef, dst: u16) -> ValueRef
-    requires { ⌜ Holds (now work) r × (x < 63) × (240 * dst + 240 ≤ length (now work)) ⌝ }
-    ensures { λ o. ⌜ Gives (now (work .entry)) dst (now (work .exit)) o (closeOf x (valueOf (now (work .entry)) r)) ⌝ }
+// The number of X = u, in block `dst` or below.
+pub fn close_in(work: &mut [u8], x: u8, r: u32, dst: u16) -> u32
+    requires { ⌜ Holds (now work) (refIn r) × (x < 63) × (240 * dst + 240 ≤ length (now work)) ⌝ }
+    ensures { λ q. ⌜ Gives (now (work .entry)) dst (now (work .exit)) (refIn q) (closeOf x (valueOf (now (work .entry)) (refIn r))) ⌝ }
 {
-    match r {
-        ValueRef::Object(b, i) => close_object(work, x, b, i, dst),
-        ValueRef::Mark(k) => {
-            if k == x {
-                return ValueRef::Undetermined;
-            }
-            ValueRef::Mark(k)
+    let c = (r % 256) as u8;
+    if 192 <= c {
+        if c == 193 + x {
+            return 192;
         }
-        ValueRef::Undetermined => ValueRef::Undetermined,
+        return r;
     }
+    let b = (r / 256 % 65536) as u16;
+    if work[240 * (b as usize) + 193] <= x {
+        return bring_in(work, r, dst);
+    }
+    pack(close_bound(work, x, b, c, dst))
 }

@@ -37,15 +37,14 @@ use Rattle.evaluator.proofs.find.find.Reads as find-reads
 use Rattle.evaluator.proofs.frame.enter.Reads as enter-reads
 use Rattle.evaluator.proofs.frame.leaf.Reads as leaf-reads
 use Rattle.evaluator.proofs.met.open_call.Reads as open-call-reads
-use Rattle.values.proofs.refs.pack.Reads as pack-reads
 use Rattle.values.proofs.refs.select_in.Reads as select-in-reads
 use Rattle.values.proofs.refs.unpack.Reads as unpack-reads
 use Rattle.evaluator.proofs.stack.push.Reads as push-reads
 use Rattle.evaluator.proofs.stack.set_frame.Reads as set-frame-reads
 use Rattle.evaluator.proofs.stack.stop.Reads as stop-reads
 use Rattle.evaluator.proofs.stack.went_of.Reads as went-of-reads
-use Rattle.values.proofs.value.bring.Reads as bring-reads
-use Rattle.values.proofs.value.close.Reads as close-reads
+use Rattle.values.proofs.value.bring_in.Reads as bring-in-reads
+use Rattle.values.proofs.value.close_in.Reads as close-in-reads
 use Rattle.evaluator.proofs.+call-eval_call+call-invoke+call-run_left+call-run_right+eval-eval+eval-eval_field+eval-eval_list+eval-eval_new+eval-eval_part.{
   statement,
 }
@@ -212,10 +211,10 @@ abbrev call·invoke-claims : ℕ → call·invoke-lts.Claims
 call·invoke-claims t = (stop-reads.Asked, stop-reads.Learnt, open-call-reads.Asked, open-call-reads.Learnt, call·run-left-below t, call·run-left.Post, call·run-right-below t, call·run-right.Post)
 
 abbrev call·run-left-claims : ℕ → call·run-left-lts.Claims
-call·run-left-claims t = (push-reads.Asked, push-reads.Learnt, enter-reads.Asked, enter-reads.Learnt, left-place-reads.Asked, left-place-reads.Learnt, eval·eval-below t, eval·eval.Post, set-frame-reads.Asked, set-frame-reads.Learnt, went-of-reads.Asked, went-of-reads.Learnt, unpack-reads.Asked, unpack-reads.Learnt, close-reads.Asked, close-reads.Learnt, pack-reads.Asked, pack-reads.Learnt)
+call·run-left-claims t = (push-reads.Asked, push-reads.Learnt, enter-reads.Asked, enter-reads.Learnt, left-place-reads.Asked, left-place-reads.Learnt, eval·eval-below t, eval·eval.Post, set-frame-reads.Asked, set-frame-reads.Learnt, went-of-reads.Asked, went-of-reads.Learnt, close-in-reads.Asked, close-in-reads.Learnt)
 
 abbrev call·run-right-claims : ℕ → call·run-right-lts.Claims
-call·run-right-claims t = (enter-reads.Asked, enter-reads.Learnt, right-place-reads.Asked, right-place-reads.Learnt, eval·eval-below t, eval·eval.Post, set-frame-reads.Asked, set-frame-reads.Learnt, went-of-reads.Asked, went-of-reads.Learnt, unpack-reads.Asked, unpack-reads.Learnt, bring-reads.Asked, bring-reads.Learnt, pack-reads.Asked, pack-reads.Learnt)
+call·run-right-claims t = (enter-reads.Asked, enter-reads.Learnt, right-place-reads.Asked, right-place-reads.Learnt, eval·eval-below t, eval·eval.Post, set-frame-reads.Asked, set-frame-reads.Learnt, went-of-reads.Asked, went-of-reads.Learnt, bring-in-reads.Asked, bring-in-reads.Learnt)
 
 abbrev eval·eval-claims : ℕ → eval·eval-lts.Claims
 eval·eval-claims t = (stop-reads.Asked, stop-reads.Learnt, shape-at-reads.Asked, shape-at-reads.Learnt, leaf-reads.Asked, leaf-reads.Learnt, eval·eval-field-below t, eval·eval-field.Post, call·eval-call-below t, call·eval-call.Post, eval·eval-new-below t, eval·eval-new.Post)
@@ -307,35 +306,32 @@ call·run-left-eval-requires t c κs = (search needs, sides.left-run [] _ _ _ _ 
 call·run-left-returns : (t : ℕ) → call·run-left-lts.Need-returns (call·run-left-claims t) (call·run-left-at t) call·run-left.Post
 call·run-left-returns t c = sides.left-stops _ _ _ _ _ _ _ _ _ (c .before .before .before .before .before .before .before .before .before .before .before .before .before .before .before .before .before .before .before .before .pre .1) _ (c .before .before .before .before .before .before .before .before .before .before .before .before .before .push .ensures) _ (c .before .before .before .before .before .before .before .before .before .before .before .enter .ensures) _ (c .before .before .before .before .before .before .before .before .before .before .left-place .ensures) _ _ _ (c .before .before .before .before .before .before .before .eval .ensures) _ (c .before .before .before .set-frame .ensures) (steps.went-stopped _ _ (c .before .before .went-of .ensures) (c .enum-told .given .1))
 
-call·run-left-cast-close : (t : ℕ) → call·run-left-lts.Need-cast-close (call·run-left-claims t) (call·run-left-at t) call·run-left.Post
-call·run-left-cast-close t c = search (needs, sides.body-short _ _ _ _ _ _ (c .before .before .before .before .before .before .before .before .before .before .before .before .before .before .before .before .before .before .before .before .before .before .pre .1), sides.body-top _ _ _ _ _ _ (c .before .before .before .before .before .before .before .before .before .before .before .before .before .before .before .before .before .before .before .before .before .before .pre .1))
+call·run-left-cast-close-in : (t : ℕ) → call·run-left-lts.Need-cast-close-in (call·run-left-claims t) (call·run-left-at t) call·run-left.Post
+call·run-left-cast-close-in t c = search (needs, sides.body-top _ _ _ _ _ _ (c .before .before .before .before .before .before .before .before .before .before .before .before .before .before .before .before .before .before .before .before .before .before .pre .1))
 
-call·run-left-add-unpack : (t : ℕ) → call·run-left-lts.Need-add-unpack (call·run-left-claims t) (call·run-left-at t) call·run-left.Post
-call·run-left-add-unpack t c = search (needs, sides.body-short _ _ _ _ _ _ (c .before .before .before .before .before .before .before .before .before .before .before .before .before .before .before .before .before .before .before .before .before .before .pre .1), sides.body-top _ _ _ _ _ _ (c .before .before .before .before .before .before .before .before .before .before .before .before .before .before .before .before .before .before .before .before .before .before .pre .1))
+call·run-left-add-close-in : (t : ℕ) → call·run-left-lts.Need-add-close-in (call·run-left-claims t) (call·run-left-at t) call·run-left.Post
+call·run-left-add-close-in t c = search (needs, sides.body-short _ _ _ _ _ _ (c .before .before .before .before .before .before .before .before .before .before .before .before .before .before .before .before .before .before .before .before .before .before .pre .1))
 
-call·run-left-mul-unpack : (t : ℕ) → call·run-left-lts.Need-mul-unpack (call·run-left-claims t) (call·run-left-at t) call·run-left.Post
-call·run-left-mul-unpack t c = search (needs, sides.body-short _ _ _ _ _ _ (c .before .before .before .before .before .before .before .before .before .before .before .before .before .before .before .before .before .before .before .before .before .before .pre .1), sides.body-top _ _ _ _ _ _ (c .before .before .before .before .before .before .before .before .before .before .before .before .before .before .before .before .before .before .before .before .before .before .pre .1))
+call·run-left-mul-close-in : (t : ℕ) → call·run-left-lts.Need-mul-close-in (call·run-left-claims t) (call·run-left-at t) call·run-left.Post
+call·run-left-mul-close-in t c = search (needs, sides.body-short _ _ _ _ _ _ (c .before .before .before .before .before .before .before .before .before .before .before .before .before .before .before .before .before .before .before .before .before .before .pre .1))
 
-call·run-left-element-copy-out-unpack : (t : ℕ) → call·run-left-lts.Need-element-copy-out-unpack (call·run-left-claims t) (call·run-left-at t) call·run-left.Post
-call·run-left-element-copy-out-unpack t c = search (needs, sides.body-short _ _ _ _ _ _ (c .before .before .before .before .before .before .before .before .before .before .before .before .before .before .before .before .before .before .before .before .before .before .pre .1), sides.body-top _ _ _ _ _ _ (c .before .before .before .before .before .before .before .before .before .before .before .before .before .before .before .before .before .before .before .before .before .before .pre .1))
+call·run-left-element-copy-out-close-in : (t : ℕ) → call·run-left-lts.Need-element-copy-out-close-in (call·run-left-claims t) (call·run-left-at t) call·run-left.Post
+call·run-left-element-copy-out-close-in t c = search (needs, sides.body-short _ _ _ _ _ _ (c .before .before .before .before .before .before .before .before .before .before .before .before .before .before .before .before .before .before .before .before .before .before .pre .1))
 
-call·run-left-cast-close-2 : (t : ℕ) → call·run-left-lts.Need-cast-close-2 (call·run-left-claims t) (call·run-left-at t) call·run-left.Post
-call·run-left-cast-close-2 t c = search (needs, sides.body-short)
+call·run-left-cast-close-in-2 : (t : ℕ) → call·run-left-lts.Need-cast-close-in-2 (call·run-left-claims t) (call·run-left-at t) call·run-left.Post
+call·run-left-cast-close-in-2 t c = search (needs, sides.body-short)
 
-call·run-left-close-requires : (t : ℕ) → call·run-left-lts.Need-close-requires (call·run-left-claims t) (call·run-left-at t) call·run-left.Post
-call·run-left-close-requires t c κs = (sides.left-held _ _ _ _ _ _ _ _ _ (c .before .before .before .before .before .before .before .before .before .before .before .before .before .before .before .before .before .before .before .before .before .before .before .before .pre .1) _ (c .before .before .before .before .before .before .before .before .before .before .before .before .before .before .before .before .before .push .ensures) _ (c .before .before .before .before .before .before .before .before .before .before .before .before .before .before .before .enter .ensures) _ (c .before .before .before .before .before .before .before .before .before .before .before .before .before .before .left-place .ensures) _ _ _ (c .before .before .before .before .before .before .before .before .before .before .before .eval .ensures) _ (c .before .before .before .before .before .before .before .set-frame .ensures) (steps.went-not _ _ (c .before .before .before .before .before .before .went-of .ensures) _ (c .before .before .before .before .w .given .1)) _ (c .unpack .ensures), sides.body-mark _ _ _ _ _ _ (c .before .before .before .before .before .before .before .before .before .before .before .before .before .before .before .before .before .before .before .before .before .before .before .before .pre .1), sides.left-length _ _ _ _ _ _ _ _ _ (c .before .before .before .before .before .before .before .before .before .before .before .before .before .before .before .before .before .before .before .before .before .before .before .before .pre .1) _ (c .before .before .before .before .before .before .before .before .before .before .before .before .before .before .before .before .before .push .ensures) _ (c .before .before .before .before .before .before .before .before .before .before .before .before .before .before .before .enter .ensures) _ (c .before .before .before .before .before .before .before .before .before .before .before .before .before .before .left-place .ensures) _ _ _ (c .before .before .before .before .before .before .before .before .before .before .before .eval .ensures) _ (c .before .before .before .before .before .before .before .set-frame .ensures) (steps.went-not _ _ (c .before .before .before .before .before .before .went-of .ensures) _ (c .before .before .before .before .w .given .1)) _ (c .unpack .ensures))
-
-call·run-left-pack-requires : (t : ℕ) → call·run-left-lts.Need-pack-requires (call·run-left-claims t) (call·run-left-at t) call·run-left.Post
-call·run-left-pack-requires t c κs = sides.left-small _ _ _ _ _ _ _ _ _ (c .before .before .before .before .before .before .before .before .before .before .before .before .before .before .before .before .before .before .before .before .before .before .before .before .before .before .before .pre .1) _ (c .before .before .before .before .before .before .before .before .before .before .before .before .before .before .before .before .before .before .before .before .push .ensures) _ (c .before .before .before .before .before .before .before .before .before .before .before .before .before .before .before .before .before .before .enter .ensures) _ (c .before .before .before .before .before .before .before .before .before .before .before .before .before .before .before .before .before .left-place .ensures) _ _ _ (c .before .before .before .before .before .before .before .before .before .before .before .before .before .before .eval .ensures) _ (c .before .before .before .before .before .before .before .before .before .before .set-frame .ensures) (steps.went-not _ _ (c .before .before .before .before .before .before .before .before .before .went-of .ensures) _ (c .before .before .before .before .before .before .before .w .given .1)) _ (c .before .before .before .unpack .ensures) _ _ (c .before .before .close .ensures)
+call·run-left-close-in-requires : (t : ℕ) → call·run-left-lts.Need-close-in-requires (call·run-left-claims t) (call·run-left-at t) call·run-left.Post
+call·run-left-close-in-requires t c κs = let w = c .before .before .before in let f = w .before .before .before in let p = f .before .before .before .before .before .before .before in let s = p .before .before .before .before .before .before .before .before .before .before in sides.left-ready _ _ _ _ _ _ _ _ _ (s .pre .1) _ (p .before .before .before .push .ensures) _ (p .before .enter .ensures) _ (p .left-place .ensures) _ _ _ (f .before .before .before .before .eval .ensures) _ (f .set-frame .ensures) (steps.went-not _ _ (w .before .before .went-of .ensures) _ (w .w .given .1))
 
 call·run-left-mul-st : (t : ℕ) → call·run-left-lts.Need-mul-st (call·run-left-claims t) (call·run-left-at t) call·run-left.Post
-call·run-left-mul-st t c = search (needs, sides.body-index _ _ _ _ _ _ (c .before .before .before .before .before .before .before .before .before .before .before .before .before .before .before .before .before .before .before .before .before .before .before .before .before .before .before .before .pre .1))
+call·run-left-mul-st t c = search (needs, sides.body-index _ _ _ _ _ _ (c .before .before .before .before .before .before .before .before .before .before .before .before .before .before .before .before .before .before .before .before .before .before .before .before .before .before .pre .1))
 
 call·run-left-element-write-st-2 : (t : ℕ) → call·run-left-lts.Need-element-write-st-2 (call·run-left-claims t) (call·run-left-at t) call·run-left.Post
-call·run-left-element-write-st-2 t c = sides.body-index _ _ _ _ _ _ (c .before .before .before .before .before .before .before .before .before .before .before .before .before .before .before .before .before .before .before .before .before .before .before .before .before .before .before .before .pre .1)
+call·run-left-element-write-st-2 t c = sides.body-index _ _ _ _ _ _ (c .before .before .before .before .before .before .before .before .before .before .before .before .before .before .before .before .before .before .before .before .before .before .before .before .before .before .pre .1)
 
 call·run-left-returns-2 : (t : ℕ) → call·run-left-lts.Need-returns-2 (call·run-left-claims t) (call·run-left-at t) call·run-left.Post
-call·run-left-returns-2 t c = sides.left-gives _ _ _ _ _ _ _ _ _ (c .before .before .before .before .before .before .before .before .before .before .before .before .before .before .before .before .before .before .before .before .before .before .before .before .before .before .before .before .pre .1) _ (c .before .before .before .before .before .before .before .before .before .before .before .before .before .before .before .before .before .before .before .before .before .push .ensures) _ (c .before .before .before .before .before .before .before .before .before .before .before .before .before .before .before .before .before .before .before .enter .ensures) _ (c .before .before .before .before .before .before .before .before .before .before .before .before .before .before .before .before .before .before .left-place .ensures) _ _ _ (c .before .before .before .before .before .before .before .before .before .before .before .before .before .before .before .eval .ensures) _ (c .before .before .before .before .before .before .before .before .before .before .before .set-frame .ensures) (steps.went-not _ _ (c .before .before .before .before .before .before .before .before .before .before .went-of .ensures) _ (c .before .before .before .before .before .before .before .before .w .given .1)) _ (c .before .before .before .before .unpack .ensures) _ _ _ (c .before .before .before .close .ensures) (c .pack .ensures)
+call·run-left-returns-2 t c = let w = c .before .before .before .before .before .before in let f = w .before .before .before in let p = f .before .before .before .before .before .before .before in let s = p .before .before .before .before .before .before .before .before .before .before in sides.left-gives _ _ _ _ _ _ _ _ _ (s .pre .1) _ (p .before .before .before .push .ensures) _ (p .before .enter .ensures) _ (p .left-place .ensures) _ _ _ (f .before .before .before .before .eval .ensures) _ (f .set-frame .ensures) (steps.went-not _ _ (w .before .before .went-of .ensures) _ (w .w .given .1)) _ _ (c .before .before .close-in .ensures)
 
 call·run-right-eval-requires : (t : ℕ) → call·run-right-lts.Need-eval-requires (call·run-right-claims t) (call·run-right-at t) call·run-right.Post
 call·run-right-eval-requires t c κs = (search needs, sides.right-run [] _ _ _ _ _ _ 0 _ (c .before .before .before .before .before .before .before .before .before .pre .1 .0) (c .before .before .before .before .before .before .before .before .before .pre .1 .1) (c .before .before .before .before .before .before .before .before .before .pre .1 .2) _ (c .before .before .before .enter .ensures))
@@ -343,20 +339,17 @@ call·run-right-eval-requires t c κs = (search needs, sides.right-run [] _ _ _ 
 call·run-right-returns : (t : ℕ) → call·run-right-lts.Need-returns (call·run-right-claims t) (call·run-right-at t) call·run-right.Post
 call·run-right-returns t c = sides.right-stops _ _ _ _ _ _ _ _ _ (c .before .before .before .before .before .before .before .before .before .before .before .before .before .before .before .before .before .pre .1 .0) (c .before .before .before .before .before .before .before .before .before .before .before .before .before .before .before .before .before .pre .1 .1) (c .before .before .before .before .before .before .before .before .before .before .before .before .before .before .before .before .before .pre .1 .2) _ (c .before .before .before .before .before .before .before .before .before .before .before .enter .ensures) _ (c .before .before .before .before .before .before .before .before .before .before .right-place .ensures) _ _ _ (c .before .before .before .before .before .before .before .eval .ensures) _ (c .before .before .before .set-frame .ensures) (steps.went-stopped _ _ (c .before .before .went-of .ensures) (c .enum-told .given .1))
 
-call·run-right-bring-requires : (t : ℕ) → call·run-right-lts.Need-bring-requires (call·run-right-claims t) (call·run-right-at t) call·run-right.Post
-call·run-right-bring-requires t c κs = (sides.right-held _ _ _ _ _ _ _ _ _ (c .before .before .before .before .before .before .before .before .before .before .before .before .before .before .before .before .before .before .before .before .before .pre .1 .0) (c .before .before .before .before .before .before .before .before .before .before .before .before .before .before .before .before .before .before .before .before .before .pre .1 .1) (c .before .before .before .before .before .before .before .before .before .before .before .before .before .before .before .before .before .before .before .before .before .pre .1 .2) _ (c .before .before .before .before .before .before .before .before .before .before .before .before .before .before .before .enter .ensures) _ (c .before .before .before .before .before .before .before .before .before .before .before .before .before .before .right-place .ensures) _ _ _ (c .before .before .before .before .before .before .before .before .before .before .before .eval .ensures) _ (c .before .before .before .before .before .before .before .set-frame .ensures) (steps.went-not _ _ (c .before .before .before .before .before .before .went-of .ensures) _ (c .before .before .before .before .w .given .1)) _ (c .unpack .ensures), sides.right-length _ _ _ _ _ _ _ _ _ (c .before .before .before .before .before .before .before .before .before .before .before .before .before .before .before .before .before .before .before .before .before .pre .1 .0) (c .before .before .before .before .before .before .before .before .before .before .before .before .before .before .before .before .before .before .before .before .before .pre .1 .1) (c .before .before .before .before .before .before .before .before .before .before .before .before .before .before .before .before .before .before .before .before .before .pre .1 .2) _ (c .before .before .before .before .before .before .before .before .before .before .before .before .before .before .before .enter .ensures) _ (c .before .before .before .before .before .before .before .before .before .before .before .before .before .before .right-place .ensures) _ _ _ (c .before .before .before .before .before .before .before .before .before .before .before .eval .ensures) _ (c .before .before .before .before .before .before .before .set-frame .ensures) (steps.went-not _ _ (c .before .before .before .before .before .before .went-of .ensures) _ (c .before .before .before .before .w .given .1)) _ (c .unpack .ensures))
-
-call·run-right-pack-requires : (t : ℕ) → call·run-right-lts.Need-pack-requires (call·run-right-claims t) (call·run-right-at t) call·run-right.Post
-call·run-right-pack-requires t c κs = sides.right-small _ _ _ _ _ _ _ _ _ (c .before .before .before .before .before .before .before .before .before .before .before .before .before .before .before .before .before .before .before .before .before .before .before .before .pre .1 .0) (c .before .before .before .before .before .before .before .before .before .before .before .before .before .before .before .before .before .before .before .before .before .before .before .before .pre .1 .1) (c .before .before .before .before .before .before .before .before .before .before .before .before .before .before .before .before .before .before .before .before .before .before .before .before .pre .1 .2) _ (c .before .before .before .before .before .before .before .before .before .before .before .before .before .before .before .before .before .before .enter .ensures) _ (c .before .before .before .before .before .before .before .before .before .before .before .before .before .before .before .before .before .right-place .ensures) _ _ _ (c .before .before .before .before .before .before .before .before .before .before .before .before .before .before .eval .ensures) _ (c .before .before .before .before .before .before .before .before .before .before .set-frame .ensures) (steps.went-not _ _ (c .before .before .before .before .before .before .before .before .before .went-of .ensures) _ (c .before .before .before .before .before .before .before .w .given .1)) _ (c .before .before .before .unpack .ensures) _ _ (c .before .before .bring .ensures)
+call·run-right-bring-in-requires : (t : ℕ) → call·run-right-lts.Need-bring-in-requires (call·run-right-claims t) (call·run-right-at t) call·run-right.Post
+call·run-right-bring-in-requires t c κs = let w = c .before .before .before in let f = w .before .before .before in let p = f .before .before .before .before .before .before .before in let s = p .before .before .before .before .before .before .before in sides.right-ready _ _ _ _ _ _ _ _ _ (s .pre .1 .0) (s .pre .1 .1) (s .pre .1 .2) _ (p .before .enter .ensures) _ (p .right-place .ensures) _ _ _ (f .before .before .before .before .eval .ensures) _ (f .set-frame .ensures) (steps.went-not _ _ (w .before .before .went-of .ensures) _ (w .w .given .1))
 
 call·run-right-mul-st : (t : ℕ) → call·run-right-lts.Need-mul-st (call·run-right-claims t) (call·run-right-at t) call·run-right.Post
-call·run-right-mul-st t c = search (needs, sides.body-index _ _ _ _ _ _ (c .before .before .before .before .before .before .before .before .before .before .before .before .before .before .before .before .before .before .before .before .before .before .before .before .before .pre .1 .0))
+call·run-right-mul-st t c = search (needs, sides.body-index _ _ _ _ _ _ (c .before .before .before .before .before .before .before .before .before .before .before .before .before .before .before .before .before .before .before .before .before .before .before .pre .1 .0))
 
 call·run-right-element-write-st : (t : ℕ) → call·run-right-lts.Need-element-write-st (call·run-right-claims t) (call·run-right-at t) call·run-right.Post
-call·run-right-element-write-st t c = sides.body-index _ _ _ _ _ _ (c .before .before .before .before .before .before .before .before .before .before .before .before .before .before .before .before .before .before .before .before .before .before .before .before .before .pre .1 .0)
+call·run-right-element-write-st t c = sides.body-index _ _ _ _ _ _ (c .before .before .before .before .before .before .before .before .before .before .before .before .before .before .before .before .before .before .before .before .before .before .before .pre .1 .0)
 
 call·run-right-returns-2 : (t : ℕ) → call·run-right-lts.Need-returns-2 (call·run-right-claims t) (call·run-right-at t) call·run-right.Post
-call·run-right-returns-2 t c = sides.right-gives _ _ _ _ _ _ _ _ _ (c .before .before .before .before .before .before .before .before .before .before .before .before .before .before .before .before .before .before .before .before .before .before .before .before .before .pre .1 .0) (c .before .before .before .before .before .before .before .before .before .before .before .before .before .before .before .before .before .before .before .before .before .before .before .before .before .pre .1 .1) (c .before .before .before .before .before .before .before .before .before .before .before .before .before .before .before .before .before .before .before .before .before .before .before .before .before .pre .1 .2) _ (c .before .before .before .before .before .before .before .before .before .before .before .before .before .before .before .before .before .before .before .enter .ensures) _ (c .before .before .before .before .before .before .before .before .before .before .before .before .before .before .before .before .before .before .right-place .ensures) _ _ _ (c .before .before .before .before .before .before .before .before .before .before .before .before .before .before .before .eval .ensures) _ (c .before .before .before .before .before .before .before .before .before .before .before .set-frame .ensures) (steps.went-not _ _ (c .before .before .before .before .before .before .before .before .before .before .went-of .ensures) _ (c .before .before .before .before .before .before .before .before .w .given .1)) _ (c .before .before .before .before .unpack .ensures) _ _ _ (c .before .before .before .bring .ensures) (c .pack .ensures)
+call·run-right-returns-2 t c = let w = c .before .before .before .before .before .before in let f = w .before .before .before in let p = f .before .before .before .before .before .before .before in let s = p .before .before .before .before .before .before .before in sides.right-gives _ _ _ _ _ _ _ _ _ (s .pre .1 .0) (s .pre .1 .1) (s .pre .1 .2) _ (p .before .enter .ensures) _ (p .right-place .ensures) _ _ _ (f .before .before .before .before .eval .ensures) _ (f .set-frame .ensures) (steps.went-not _ _ (w .before .before .went-of .ensures) _ (w .w .given .1)) _ _ (c .before .before .bring-in .ensures)
 
 eval·eval-stop-requires : (t : ℕ) → eval·eval-lts.Need-stop-requires (eval·eval-claims t) (eval·eval-at t) eval·eval.Post
 eval·eval-stop-requires t c κs = search steps.run-full
@@ -560,14 +553,12 @@ pub +call·eval-call+call·invoke+call·run-left+call·run-right+eval·eval+eval
     (λ c. search needs)
     (λ c. search needs)
     (call·run-left-returns t)
-    (call·run-left-cast-close t)
-    (call·run-left-add-unpack t)
-    (call·run-left-mul-unpack t)
-    (call·run-left-element-copy-out-unpack t)
-    (λ c κs. search needs)
-    (call·run-left-cast-close-2 t)
-    (call·run-left-close-requires t)
-    (call·run-left-pack-requires t)
+    (call·run-left-cast-close-in t)
+    (call·run-left-add-close-in t)
+    (call·run-left-mul-close-in t)
+    (call·run-left-element-copy-out-close-in t)
+    (call·run-left-cast-close-in-2 t)
+    (call·run-left-close-in-requires t)
     (call·run-left-mul-st t)
     (call·run-left-element-write-st-2 t)
     (λ c. search needs)
@@ -590,10 +581,8 @@ pub +call·eval-call+call·invoke+call·run-left+call·run-right+eval·eval+eval
     (λ c. search needs)
     (λ c. search needs)
     (λ c. search needs)
-    (λ c κs. search needs)
     (λ c. search needs)
-    (call·run-right-bring-requires t)
-    (call·run-right-pack-requires t)
+    (call·run-right-bring-in-requires t)
     (call·run-right-mul-st t)
     (call·run-right-element-write-st t)
     (λ c. search needs)

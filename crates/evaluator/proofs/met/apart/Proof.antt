@@ -5,22 +5,14 @@ use Rattle.evaluator.proofs.met.apart.Lts as lts
 use Rattle.evaluator.proofs.StateLaws as laws
 
 returns : tie.Need-returns
-returns c = search laws.apart-same
+returns c = search laws.apart-block
 
 returns-2 : tie.Need-returns-2
-returns-2 c = search laws.apart-block
-
-returns-3 : tie.Need-returns-3
-returns-3 c = search laws.apart-leaf
-
-returns-4 : tie.Need-returns-4
-returns-4 c = search laws.apart-by
+returns-2 c = search laws.apart-by
 
 pub apart-spec : {M : Type 1} → statement M
 apart-spec =
     tie.close
     (tie.spec
     returns
-    returns-2
-    returns-3
-    returns-4)
+    returns-2)

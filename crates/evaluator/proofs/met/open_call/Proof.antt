@@ -2,6 +2,7 @@ use Rattle.evaluator.proofs.met.open_call.Statement.{statement}
 use Rattle.evaluator.proofs.met.open_call.Tie as tie
 use Rattle.evaluator.proofs.met.open_call.Reads as reads
 use Rattle.evaluator.proofs.met.open_call.Lts as lts
+use Rattle.evaluator.proofs.met.other_call.Reads as other-call-reads
 use Rattle.evaluator.proofs.met.same_call.Reads as same-call-reads
 use borrow.Author.Needs.{needs}
 use Prim.Native.Nat.{_+_, _≤_}
@@ -20,14 +21,17 @@ abbrev μ-loop : tie.MeasureT-loop
 loop-holds : tie.Need-loop-holds Inv-loop μ-loop
 loop-holds c = (search laws.few-calls, search laws.left-all)
 
+other-call-requires : tie.Need-other-call-requires Inv-loop μ-loop
+other-call-requires c κs = (search needs, search laws.left-place)
+
 same-call-requires : tie.Need-same-call-requires Inv-loop μ-loop
 same-call-requires c κs = (search needs, search laws.left-place, search laws.left-last, search needs, search needs, search needs, search needs)
 
 returns : tie.Need-returns Inv-loop μ-loop
-returns c = laws.left-found _ _ _ _ _ _ _ _ (c .before .before .before .before .before .loop .inv .1) (c .before .before .before .before .loop-test .taken) (c .before .before .if1 .taken) _ (c .before .same-call .ensures) (c .if2 .taken)
+returns c = let o = c .before .before .before in laws.left-found _ _ _ _ _ _ _ _ (o .before .before .before .loop .inv .1) (o .before .before .loop-test .taken) _ _ (o .other-call .ensures) (c .before .before .if1 .taken) _ (c .before .same-call .ensures) (c .if2 .taken)
 
 loop-again : tie.Need-loop-again Inv-loop μ-loop
-loop-again c = (search needs, ⊎-elim (λ x. search laws.left-more) (λ y. search laws.left-name) (c .if1 .came))
+loop-again c = (search needs, ⊎-elim (λ x. search laws.left-more) (λ y. search laws.left-other) (c .if1 .came))
 
 returns-2 : tie.Need-returns-2 Inv-loop μ-loop
 returns-2 c = search laws.left-none
@@ -43,9 +47,7 @@ open-call-spec =
     (λ c. search needs)
     (λ c. search needs)
     (λ c. search needs)
-    (λ c. search needs)
-    (λ c. search needs)
-    (λ c. search needs)
+    other-call-requires
     (λ c. search needs)
     same-call-requires
     returns

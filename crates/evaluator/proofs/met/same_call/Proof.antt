@@ -4,7 +4,6 @@ use Rattle.evaluator.proofs.met.same_call.Statement.{statement}
 use Rattle.evaluator.proofs.met.same_call.Tie as tie
 use Rattle.evaluator.proofs.met.same_call.Reads as reads
 use Rattle.evaluator.proofs.met.same_call.Lts as lts
-use Rattle.evaluator.proofs.met.apart.Reads as apart-reads
 use Rattle.evaluator.proofs.met.same_args.Reads as same-args-reads
 use Rattle.evaluator.proofs.met.same_value.Reads as same-value-reads
 use Rattle.evaluator.proofs.StateLaws as laws
@@ -22,23 +21,20 @@ mul-x c = omega (arith, laws.base-room (c .before .before .before .before .args 
 element-copy-out-x : tie.Need-element-copy-out-x
 element-copy-out-x c = omega (arith, laws.base-room (c .before .before .before .before .args .st .now) (c .before .before .before .before .args .i) (c .before .before .before .before .pre .1))
 
-returns-2 : tie.Need-returns-2
-returns-2 c = search laws.call-apart
-
 same-value-requires : tie.Need-same-value-requires
 same-value-requires c κs = (search laws.receiver-held, search needs)
 
-returns-3 : tie.Need-returns-3
-returns-3 c = search laws.call-receiver
+returns-2 : tie.Need-returns-2
+returns-2 c = search laws.call-receiver
 
 add-same-args : tie.Need-add-same-args
-add-same-args c = omega (arith, laws.base-room (c .before .before .before .before .before .before .before .before .before .args .st .now) (c .before .before .before .before .before .before .before .before .before .args .i) (c .before .before .before .before .before .before .before .before .before .pre .1))
+add-same-args c = omega (arith, laws.base-room (c .before .before .before .before .before .before .before .args .st .now) (c .before .before .before .before .before .before .before .args .i) (c .before .before .before .before .before .before .before .pre .1))
 
 same-args-requires : tie.Need-same-args-requires
-same-args-requires c κs = (search laws.args-held, search needs, omega (arith, laws.base-room (c .before .before .before .before .before .before .before .before .before .args .st .now) (c .before .before .before .before .before .before .before .before .before .args .i) (c .before .before .before .before .before .before .before .before .before .pre .1)), search needs, search needs)
+same-args-requires c κs = (search laws.args-held, search needs, omega (arith, laws.base-room (c .before .before .before .before .before .before .before .args .st .now) (c .before .before .before .before .before .before .before .args .i) (c .before .before .before .before .before .before .before .pre .1)), search needs, search needs)
 
-returns-4 : tie.Need-returns-4
-returns-4 c = ⊎-elim (λ x. search laws.call-args) (λ y. search laws.call-equal) (c .before .if3 .came)
+returns-3 : tie.Need-returns-3
+returns-3 c = ⊎-elim (λ x. search laws.call-args) (λ y. search laws.call-equal) (c .before .if2 .came)
 
 pub same-call-spec : {M : Type 1} → statement M
 same-call-spec =
@@ -58,11 +54,9 @@ same-call-spec =
     element-copy-out-x
     (λ c. search needs)
     (λ c. search needs)
-    (λ c κs. search needs)
-    returns-2
     same-value-requires
-    returns-3
+    returns-2
     add-same-args
     (λ c. search needs)
     same-args-requires
-    returns-4)
+    returns-3)
