@@ -1,5 +1,5 @@
 -- Laws of a new object beside the objects of one block, or alone in a block.
-use Prim.Native.Nat.{ℕ, zero, suc, _+_, _-_, _*_, _<_, _≤_}
+use Prim.Native.Nat.{ℕ, zero, suc, _+_, _-_, _*_, _/_, _%_, _<_, _≤_}
 use native.Mathlib.Omega.{arith}
 use native.Mathlib.Decide.{decLt, ℕ-discrete}
 use mathlib.Core.Path.{_≡_, refl, sym, ap, ap₂, _∙_, subst}
@@ -9,12 +9,12 @@ use mathlib.Core.Option.{some, Option·none-ne-some}
 use lib.ListN.{length, getD, set, take, getElem?, length-map, length-set, length-take}
 use lib.Seq.{getD-set-same, getD-set-other, getD-take, ext-getD, length-take-le}
 use lib.Dec.{eqb}
-use borrow.Author.Tests.{le-leb, eqb-true}
+use borrow.Author.Tests.{le-leb, eqb-true, eq-eqb, ne-eqb}
 use Rattle.cofj.specs.Values.{Ref, obj, mark, undet, Node, node, Graph, graph, nodeAt, refsAt, canon, make, eqNode, eqNats}
 use Rattle.cofj.specs.Unfolding.{InRange, follow}
 use Rattle.cofj.proofs.Basics.{getD-map-lt, eqNode-true, eqNode-refl}
 use Rattle.cofj.proofs.Canon.{canon-length}
-use Rattle.canon.specs.Layout.{refOf, nodeIn, nodesIn, Packed, part, Distinct, Block, Inside, objectsIn, graphAt, countIn, levelIn}
+use Rattle.canon.specs.Layout.{refOf, nodeIn, nodesIn, Packed, part, Distinct, Block, Inside, objectsIn, graphAt, countIn, levelIn, Outside}
 use Rattle.canon.specs.Tables.{Carried}
 use Rattle.canon.specs.Numbers.{Levels}
 use Rattle.canon.proofs.Nodes.{length-nodes, at-nodes, more-nodes, nodes-same, node-same, packed-same, eq-node, ref-object, ref-undet, ref-mark}
@@ -22,17 +22,19 @@ use Rattle.canon.proofs.Walks.{four, four-at}
 use Rattle.values.specs.declared.ValueRef.{ValueRef}
 use Rattle.values.specs.declared.ValueRef.the-variants.{Object, Mark, Undetermined}
 use Rattle.values.specs.Tests.{any}
+use Rattle.values.specs.Refs.{refIn}
 use Rattle.values.specs.Layout.{valueOf, rawOf, Holds}
 use Rattle.values.specs.Operations.{Gives, Copied}
 use Rattle.values.proofs.Tests.{not-true, not-false, any-there, any-not, any-more}
 use Rattle.values.proofs.Trees.{in-larger, leaf-same}
-use Rattle.values.proofs.Blocks.{held-inside, held-block, size-in}
+use Rattle.values.proofs.Blocks.{held-inside, size-in}
 use Rattle.values.proofs.Selecting.{under}
+use Rattle.values.proofs.RefLaws.{object-in, undetermined-in, mark-in}
 use Rattle.maker.specs.declared.Slot.{Slot}
 use Rattle.maker.specs.declared.Made.the-variants.{Value}
-use Rattle.maker.specs.Laying.{valuesFrom, rawsFrom, PartsHeld, MadeIs}
-use Rattle.maker.specs.Adding.{roots, RootObject, Missed, Found, Appended, Added, isObject, standsIn, partOf, allStand, Leaves, First}
-use Rattle.maker.proofs.Lays.{fresh, fresh-class, fresh-count, fresh-spare, none-slot, raws-whole, made-raw}
+use Rattle.maker.specs.Laying.{partsOf, valuesFrom, rawsFrom, PartsHeld, MadeIs}
+use Rattle.maker.specs.Adding.{roots, RootObject, Missed, Found, Emptied, Appended, Added, isObject, blockOf, standsIn, partOf, allStand, someObject, firstBlock}
+use Rattle.maker.proofs.Lays.{fresh, fresh-class, fresh-count, fresh-spare, none-slot, part-in, raws-whole, made-raw}
 use Rattle.maker.proofs.Adding.{more, inner-more, distinct-more, Fit, AllFit, roots-low, top, make-found, make-new}
 
 -- ---- the new object
@@ -129,25 +131,107 @@ module _ (W : List ℕ) (b t : ℕ) (T : List ℕ) (k : ℕ) (bk : Block W b) (e
   find-miss h l = record { hit = λ z. absurd (omega arith); miss = λ _. record { none = λ j q. m .none j (omega arith) } }
 
 -- ---- the parts
-pub object-first : (ps : List Slot) (n i : ℕ) → Leaves ps i → i < n → First ps n i
-object-first ps n i l h = record { low = omega arith; before = l }
-
-pub object-none : (ps : List Slot) (n i : ℕ) → Leaves ps i → n ≤ i → First ps n n
-object-none ps n i l h = record { low = omega arith; before = record { leaf = λ j k. l .leaf j (omega arith) } }
-
-pub leaves-none : (ps : List Slot) → Leaves ps 0
-leaves-none ps = record { leaf = λ j h. absurd (omega arith) }
-
-pub leaves-more : (ps : List Slot) (i : ℕ) (v : ValueRef) (r : Bool) → Leaves ps i → v ≡ partOf ps i → r ≡ isObject v → r ≡ false → Leaves ps (i + 1)
-leaves-more ps i v r l ev er e = record { leaf = λ j h. go j h (ℕ-discrete j i) }
+-- a number that stands for no object
+leaf-number : (P : ValueRef → Type 0) → ((k : ℕ) → P (Mark k)) → P Undetermined → (r : ℕ) → 192 ≤ r % 256 → P (refIn r)
+leaf-number P m u r h = go (ℕ-discrete (r % 256) 192)
   where
-    go : (j : ℕ) → j < i + 1 → Dec (j ≡ i) → isObject (partOf ps j) ≡ false
-    go j h (yes z) = rw z (ap isObject (sym ev) ∙ sym er ∙ e)
-    go j h (no z) = l .leaf j (omega (arith, z))
+    go : Dec (r % 256 ≡ 192) → P (refIn r)
+    go (yes e) = subst P (undetermined-in r h e) u
+    go (no n) = subst P (mark-in r h n) (m _)
 
-pub leaves-all : (ps : List Slot) (n f : ℕ) → First ps n f → n ≤ f → Leaves ps n
-leaves-all ps n f a h = record { leaf = λ j k. a .before .leaf j (omega arith) }
+module _ (P : List ℕ) (n i : ℕ) (h : i < n) (few : n ≤ 4) where
+  number-part : (v : ValueRef) → v ≡ refIn (getD P i 0) → v ≡ partOf (partsOf P) i
+  number-part v e = part-in P i v (omega arith) e
 
+  pub object-there : getD P i 0 % 256 < 192 → true ≡ someObject (partsOf P) n
+  unfolding someObject isObject
+  object-there l =
+      sym (any-there (λ j. isObject (partOf (partsOf P) j)) n i h (ap isObject (sym (number-part (Object _ _) (object-in (getD P i 0) l)))))
+
+  pub leaves-more : someObject (partsOf P) i ≡ false → 192 ≤ getD P i 0 % 256 → someObject (partsOf P) (i + 1) ≡ false
+  unfolding someObject isObject
+  leaves-more a l =
+      any-more (λ j. isObject (partOf (partsOf P) j)) i a
+      (ap isObject (sym (number-part (refIn (getD P i 0)) refl)) ∙ leaf-number (λ v. isObject v ≡ false) (λ k. refl) refl (getD P i 0) l)
+
+module _ (ps : List Slot) where
+  pub leaves-none : someObject ps 0 ≡ false
+  unfolding someObject any
+  leaves-none = refl
+
+  pub leaves-all : (n i : ℕ) → someObject ps i ≡ false → i ≤ n → n ≤ i → false ≡ someObject ps n
+  leaves-all n i a h l = let e : i ≡ n = omega arith in sym (rw e at a)
+
+-- what a call has denied
+pub denied : (r a : Bool) → r ≡ a → not r ≡ true → a ≡ false
+denied r a e q = sym e ∙ not-true r q
+
+-- ---- the first block other than 0
+module _ (r : ℕ) where
+  pub block-leaf : 192 ≤ r % 256 → 0 ≡ blockOf (refIn r)
+  unfolding blockOf
+  block-leaf h = leaf-number (λ v. 0 ≡ blockOf v) (λ k. refl) refl r h
+
+  pub block-object : r % 256 < 192 → r / 256 % 65536 ≡ blockOf (refIn r)
+  unfolding blockOf
+  block-object h = ap blockOf (object-in r h)
+
+module _ (ps : List Slot) where
+  pub first-none : firstBlock ps 0 ≡ 0
+  unfolding firstBlock
+  first-none = refl
+
+  first-next : (i : ℕ) → firstBlock ps i ≡ 0 → firstBlock ps (suc i) ≡ blockOf (partOf ps i)
+  unfolding firstBlock
+  first-next i e = rw (eq-eqb (firstBlock ps i) 0 e)
+
+  first-stays : (i : ℕ) → (firstBlock ps i ≡ 0 → ⊥) → firstBlock ps (suc i) ≡ firstBlock ps i
+  unfolding firstBlock
+  first-stays i d = rw (ne-eqb (firstBlock ps i) 0 d)
+
+  first-is : (n i : ℕ) → i < n → firstBlock ps i ≡ 0 → (blockOf (partOf ps i) ≡ 0 → ⊥) → firstBlock ps n ≡ blockOf (partOf ps i)
+  first-is zero i h e d = absurd (omega arith)
+  first-is (suc n) i h e d = go (λ l. first-is n i l e d) (ℕ-discrete i n)
+    where
+      go : (i < n → firstBlock ps n ≡ blockOf (partOf ps i)) → Dec (i ≡ n) → firstBlock ps (suc n) ≡ blockOf (partOf ps i)
+      go ih (yes z) = subst (λ (m : ℕ). firstBlock ps (suc m) ≡ blockOf (partOf ps i)) z (first-next i e)
+      go ih (no z) =
+          let q : firstBlock ps n ≡ blockOf (partOf ps i) = ih (omega (arith, z)) in
+          first-stays n (λ y. d (sym q ∙ y)) ∙ q
+
+  pub first-end : (n i : ℕ) → firstBlock ps i ≡ 0 → i ≤ n → n ≤ i → 0 ≡ firstBlock ps n
+  first-end n i a h l = let e : i ≡ n = omega arith in sym (rw e at a)
+
+  -- it holds objects
+  block-held : (W : List ℕ) (v : ValueRef) → Holds W v → (blockOf v ≡ 0 → ⊥) → Block W (blockOf v)
+  unfolding blockOf
+  block-held W (Object b i) h d = h .held .block
+  block-held W (Mark k) h d = absurd (d refl)
+  block-held W Undetermined h d = absurd (d refl)
+
+  module _ (W : List ℕ) (n : ℕ) (held : PartsHeld W ps n) where
+    first-at : (i : ℕ) → i ≤ n → (firstBlock ps i ≡ 0 → ⊥) → Block W (firstBlock ps i)
+    first-at zero l d = absurd (d first-none)
+    first-at (suc i) l d = go (first-at i (omega arith)) (ℕ-discrete (firstBlock ps i) 0)
+      where
+        go : ((firstBlock ps i ≡ 0 → ⊥) → Block W (firstBlock ps i)) → Dec (firstBlock ps i ≡ 0) → Block W (firstBlock ps (suc i))
+        go ih (yes e) = subst (Block W) (sym (first-next i e)) (block-held W (partOf ps i) (held .part i (omega arith)) (λ z. d (first-next i e ∙ z)))
+        go ih (no q) = subst (Block W) (sym (first-stays i q)) (ih q)
+
+    pub first-block : (b : ℕ) → b ≡ firstBlock ps n → (b ≡ 0 → ⊥) → Block W b
+    first-block b e d = subst (Block W) (sym e) (first-at n (omega arith) (λ z. d (e ∙ z)))
+
+module _ (P : List ℕ) (n i b : ℕ) (h : i < n) (few : n ≤ 4) (a : firstBlock (partsOf P) i ≡ 0) (e : b ≡ blockOf (refIn (getD P i 0))) where
+  part-block : b ≡ blockOf (partOf (partsOf P) i)
+  part-block = e ∙ ap blockOf (number-part P n i h few (refIn (getD P i 0)) refl)
+
+  pub first-found : (b ≡ 0 → ⊥) → b ≡ firstBlock (partsOf P) n
+  first-found d = part-block ∙ sym (first-is (partsOf P) n i h a (λ z. d (part-block ∙ z)))
+
+  pub first-more : b ≡ 0 → firstBlock (partsOf P) (i + 1) ≡ 0
+  first-more z = let s : i + 1 ≡ suc i = omega arith in rw s (first-next (partsOf P) i a ∙ sym part-block ∙ z)
+
+-- ---- the parts in one block
 pub stands-here : (b : ℕ) (v : ValueRef) (x i : ℕ) → v ≡ Object x i → eqb x b ≡ standsIn b v
 unfolding standsIn
 stands-here b v x i e = rw e
@@ -187,9 +271,6 @@ module _ (ps : List Slot) (n b : ℕ) where
   unfolding allStand
   stands-at a i h = not-false _ (any-not apart n i (not-true _ a) h)
 
-  pub first-block : (W : List ℕ) (f : ℕ) (v : ValueRef) (i : ℕ) → PartsHeld W ps n → f < n → v ≡ partOf ps f → v ≡ Object b i → Block W b
-  first-block W f v i held h ev e = held-block W (partOf ps f) b i (held .part f h) (sym ev ∙ e)
-
 -- ---- the values of the parts, among the objects
 leaf-fit : (ns : List Node) (s : Ref) → InRange 0 s → Fit ns (graph s [])
 leaf-fit ns s h = record { low = in-larger 0 (length ns) s (omega arith) h; tree = leaf-same ns [] s h }
@@ -207,6 +288,22 @@ all-fit : (W : List ℕ) (ns : List Node) (n : ℕ) (ps : List Slot) → ((i : �
 all-fit W ns zero ps h = tt
 all-fit W ns (suc n) [] h = tt
 all-fit W ns (suc n) (s ∷ ps) h = (h 0 (omega arith), all-fit W ns n ps (λ i l. h (suc i) (omega arith)))
+
+-- ---- a block emptied
+pub empty-done : (W : List ℕ) (dst : ℕ) → 240 * dst + 240 ≤ length W → Emptied W dst (set (set W (240 * dst + 192) 0) (240 * dst + 193) 0)
+unfolding countIn levelIn
+empty-done W dst room =
+    let byte : (p : ℕ) → ((p ≡ 240 * dst + 192) → ⊥) → ((p ≡ 240 * dst + 193) → ⊥) → getD (set (set W (240 * dst + 192) 0) (240 * dst + 193) 0) p 0 ≡ getD W p 0 = λ p x y.
+    getD-set-other (set W (240 * dst + 192) 0) (240 * dst + 193) p 0 0 y ∙ getD-set-other W (240 * dst + 192) p 0 0 x in
+    record {
+      count = getD-set-other (set W (240 * dst + 192) 0) (240 * dst + 193) (240 * dst + 192) 0 0 (λ z. omega arith) ∙ getD-set-same W (240 * dst + 192) 0 0 (omega arith);
+      level = getD-set-same (set W (240 * dst + 192) 0) (240 * dst + 193) 0 0 (omega (arith, length-set W (240 * dst + 192) 0));
+      outside = record {
+        same = length-set (set W (240 * dst + 192) 0) (240 * dst + 193) 0 ∙ length-set W (240 * dst + 192) 0;
+        below = λ p m. byte p (λ z. omega arith) (λ z. omega arith);
+        above = λ p m. byte p (λ z. omega arith) (λ z. omega arith);
+      };
+    }
 
 -- ---- the object written after the others
 module _ (W : List ℕ) (dst t : ℕ) (T : List ℕ) (D : List ℕ) (a : Carried T 0 W (240 * dst + 6 * t) 6 D) (few : t ≤ 31) (room : 240 * dst + 240 ≤ length W) where
@@ -226,6 +323,9 @@ module _ (W : List ℕ) (dst t : ℕ) (T : List ℕ) (D : List ℕ) (a : Carried
           above = λ p m. byte p (λ z. omega arith) (λ z. omega arith) ∙ a .above p (omega arith);
         };
       }
+
+pub outside-more : (b : ℕ) (W W1 W2 : List ℕ) → Outside b W W1 → Outside b W1 W2 → Outside b W W2
+outside-more b W W1 W2 x y = record { same = y .same ∙ x .same; below = λ p h. y .below p h ∙ x .below p h; above = λ p h. y .above p h ∙ x .above p h }
 
 -- ---- added
 module _ (W : List ℕ) (b : ℕ) (T : List ℕ) (dst t l : ℕ) (bk : Block W b) (et : t ≡ getD W (240 * b + 192) 0) (lv : Levels T 0 6 l) (le : getD W (240 * b + 193) 0 ≤ l) where
@@ -258,11 +358,7 @@ module _ (W : List ℕ) (b : ℕ) (T : List ℕ) (dst t l : ℕ) (bk : Block W b
         old = old;
         top = a .top;
         level = add-level D (a .count) (a .level) old (a .top);
-        outside = record {
-          same = a .outside .same ∙ c .outside .same;
-          below = λ p h. a .outside .below p h ∙ c .outside .below p h;
-          above = λ p h. a .outside .above p h ∙ c .outside .above p h;
-        };
+        outside = outside-more dst W C D (c .outside) (a .outside);
       })
 
 -- ---- the block with the new object
@@ -359,15 +455,16 @@ module _ (W : List ℕ) (c : ℕ) (ps : List Slot) (n : ℕ) (T : List ℕ) (hel
           fd .miss ge .none j m (sym (at-nodes W (240 * b) (getD W (240 * b + 192) 0) j m) ∙ e)) room ad
 
   -- alone
-  module _ (lv : Leaves ps n) where
+  module _ (lv : someObject ps n ≡ false) where
     alone-fit : (r : ValueRef) → isObject r ≡ false → Fit [] (rawOf W r)
+    unfolding isObject
     alone-fit (Object b i) e = absurd (false≢true (sym e))
     alone-fit (Mark k) e = leaf-fit [] (mark k) tt
     alone-fit Undetermined e = leaf-fit [] undet tt
 
     alone-fits : AllFit [] gs
-    unfolding rawsFrom
-    alone-fits = all-fit W [] n ps (λ i h. alone-fit (partOf ps i) (lv .leaf i h))
+    unfolding rawsFrom someObject
+    alone-fits = all-fit W [] n ps (λ i h. alone-fit (partOf ps i) (any-not (λ j. isObject (partOf ps j)) n i lv h))
 
     pub alone-new : (dst l : ℕ) (D : List ℕ) → Levels T 0 6 l → 240 * dst + 240 ≤ length W → Appended W dst 0 T l D → MadeIs W (make c (valuesFrom W ps 0 n)) dst D (Value (Object dst 0))
     unfolding nodesIn
@@ -383,10 +480,10 @@ module _ (W : List ℕ) (c : ℕ) (ps : List Slot) (n : ℕ) (T : List ℕ) (hel
         })
 
 -- ---- a new object without parts
-abbrev bareObject : ℕ → List ℕ
+abbrev pub bareObject : ℕ → List ℕ
 bareObject c = c ∷ 0 ∷ 192 ∷ 192 ∷ 192 ∷ 192 ∷ []
 
-bare-root : (W : List ℕ) (c : ℕ) → RootObject c (rawsFrom W [] 0 0) (bareObject c)
+pub bare-root : (W : List ℕ) (c : ℕ) → RootObject c (rawsFrom W [] 0 0) (bareObject c)
 unfolding rawsFrom nodeIn
 bare-root W c = record { is = refl; packed = record { count = omega arith; spare = spare } }
   where
@@ -399,6 +496,9 @@ bare-root W c = record { is = refl; packed = record { count = omega arith; spare
     spare (suc (suc (suc (suc (suc zero))))) l m = refl
     spare (suc (suc (suc (suc (suc (suc k)))))) l m = absurd (omega arith)
 
+pub no-parts : (W : List ℕ) → PartsHeld W [] 0
+no-parts W = record { full = omega arith; part = λ i h. absurd (omega arith) }
+
 pub bare-new : (W : List ℕ) (c dst l : ℕ) (D : List ℕ) → Levels (bareObject c) 0 6 l → 240 * dst + 240 ≤ length W → Appended W dst 0 (bareObject c) l D → MadeIs W (make c []) dst D (Value (Object dst 0))
 unfolding valuesFrom
-bare-new W c dst l D ls room a = alone-new W c [] 0 (bareObject c) (record { full = omega arith; part = λ i h. absurd (omega arith) }) (bare-root W c) (record { leaf = λ i h. absurd (omega arith) }) dst l D ls room a
+bare-new W c dst l D ls room a = alone-new W c [] 0 (bareObject c) (no-parts W) (bare-root W c) (leaves-none []) dst l D ls room a

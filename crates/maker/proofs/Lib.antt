@@ -2,3 +2,4 @@ pub mod Adding
 pub mod Lays
 pub mod Beside
 pub mod Merges
+pub mod BareLaws

@@ -10,7 +10,7 @@ use mathlib.Core.Option.{none, some, Option·none-ne-some}
 use lib.ListN.{length, getD, set, take, getElem?, replicate, length-set, length-take, length-replicate, getD-replicate, List·getD-eq-default}
 use lib.Seq.{getD-set-same, getD-set-other}
 use Rattle.cofj.specs.Partial.{_>>=_}
-use borrow.Author.Tests.{le-leb, lt-ltb, le-ltb}
+use borrow.Author.Tests.{le-leb, lt-ltb, le-ltb, eq-eqb, ne-eqb, eqb-true}
 use types.Run.{OneOf}
 use denote.Enum.Declared.{tagOf}
 use Rattle.cofj.specs.Values.{Ref, obj, mark, undet, Node, node, Graph, nodeAt, refsAt, canon, make}
@@ -40,11 +40,11 @@ use Rattle.maker.specs.declared.Slot.{Slot}
 use Rattle.maker.specs.declared.Made.{Made}
 use Rattle.maker.specs.declared.Made.the-variants.{Value}
 use Rattle.maker.specs.Laying.{valuesFrom, rawsFrom, PartsHeld, MadeIs}
-use Rattle.maker.specs.Adding.{Found, Appended, Added, partOf}
+use Rattle.maker.specs.Adding.{Found, Emptied, Appended, Added, partOf}
 use Rattle.maker.specs.Merging.{Grown, Fits, Standing, Entered, CodeAs, Mapped, Importing, Imported, ObjectBytes, Turned, Turning, TurnedAll, As, PartImported, Begun, RootBrought, PartsBrought, someIn, largerOf, largestOf}
 use Rattle.maker.proofs.Lays.{fresh, fresh-class, fresh-count, fresh-spare, raws-whole, made-raw, parts-length}
 use Rattle.maker.proofs.Adding.{more, old-tree, at-new}
-use Rattle.maker.proofs.Beside.{add-here, objects-are, block-added}
+use Rattle.maker.proofs.Beside.{outside-more, add-here, objects-are, block-added}
 
 -- ---- codes that are no objects
 pub leaf-low : (n c : ℕ) → 192 ≤ c → InRange n (refOf c)
@@ -60,11 +60,7 @@ grown-none host W bk = record { outside = unchanged host W; block = bk; most = o
 
 pub grown-more : (host : ℕ) (W W1 W2 : List ℕ) → Grown host W W1 → Grown host W1 W2 → Grown host W W2
 grown-more host W W1 W2 a b = record {
-  outside = record {
-    same = b .outside .same ∙ a .outside .same;
-    below = λ p h. b .outside .below p h ∙ a .outside .below p h;
-    above = λ p h. b .outside .above p h ∙ a .outside .above p h;
-  };
+  outside = outside-more host W W1 W2 (a .outside) (b .outside);
   block = b .block;
   most = omega (arith, a .most, b .most);
   trees = λ r h p. a .trees r h p ∙ b .trees r (in-larger (countIn W host) (countIn W1 host) r (a .most) h) p;
@@ -821,6 +817,12 @@ pub lies-undet : (d : ℕ) (v : ValueRef) → v ≡ Undetermined → false ≡ l
 unfolding liesIn
 lies-undet d v e = rw e
 
+lies-block : (W : List ℕ) (d : ℕ) (v : ValueRef) → Holds W v → liesIn d v ≡ true → Block W d
+unfolding liesIn
+lies-block W d (Object x i) h e = subst (Block W) (eqb-true x d e) (h .held .block)
+lies-block W d (Mark k) h e = absurd (false≢true e)
+lies-block W d Undetermined h e = absurd (false≢true e)
+
 module _ (ps : List Slot) (n d : ℕ) where
   abbrev lies : ℕ → Bool
   lies i = liesIn d (partOf ps i)
@@ -851,27 +853,47 @@ module _ (ps : List Slot) (n d : ℕ) where
 begun-here : (W : List ℕ) (b : ℕ) → Block W b → Begun W b b
 begun-here W b bk = record { source = bk; target = bk; most = omega arith; trees = λ r h p. refl }
 
+-- a block where a part lies
+module _ (W : List ℕ) (ps : List Slot) (n d : ℕ) (held : PartsHeld W ps n) where
+  lying-at : (i : ℕ) → i ≤ n → someIn ps i d ≡ true → Block W d
+  unfolding someIn any
+  lying-at zero h e = absurd (false≢true e)
+  lying-at (suc i) h e = go (lying-at i (omega arith)) (liesIn d (partOf ps i)) refl e
+    where
+      go : (any (λ j. liesIn d (partOf ps j)) i ≡ true → Block W d) → (b : Bool) → liesIn d (partOf ps i) ≡ b → cond b true (any (λ j. liesIn d (partOf ps j)) i) ≡ true → Block W d
+      go ih true z q = lies-block W d (partOf ps i) (held .part i (omega arith)) z
+      go ih false z q = ih q
+
+  pub some-begun : (r : Bool) → r ≡ someIn ps n d → r ≡ true → Begun W d d
+  some-begun r e q = begun-here W d (lying-at n (omega arith) (sym e ∙ q))
+
 -- ---- the block with the most objects
 module _ (W : List ℕ) (v : ValueRef) (b : ℕ) where
   pub larger-leaf : OneOf (1 ∷ 2 ∷ []) (tagOf RefT.the-type v) → b ≡ largerOf W v b
   unfolding largerOf
   larger-leaf = no-object (λ x. b ≡ largerOf W x b) (λ k. refl) refl v
 
-  pub larger-other : (x i : ℕ) → v ≡ Object x i → getD W (240 * b + 192) 0 < getD W (240 * x + 192) 0 → x ≡ largerOf W v b
-  unfolding largerOf countIn
-  larger-other x i e h = rw (e, lt-ltb _ _ h)
+  module _ (x i : ℕ) (e : v ≡ Object x i) where
+    pub larger-zero : x ≡ 0 → b ≡ largerOf W v b
+    unfolding largerOf
+    larger-zero z = rw (e, eq-eqb x 0 z)
 
-  pub larger-same : (x i : ℕ) → v ≡ Object x i → getD W (240 * x + 192) 0 ≤ getD W (240 * b + 192) 0 → b ≡ largerOf W v b
-  unfolding largerOf countIn
-  larger-same x i e h = rw (e, le-ltb _ _ h)
+    pub larger-other : (x ≡ 0 → ⊥) → getD W (240 * b + 192) 0 < getD W (240 * x + 192) 0 → x ≡ largerOf W v b
+    unfolding largerOf countIn
+    larger-other d h = rw (e, ne-eqb x 0 d, lt-ltb _ _ h)
+
+    pub larger-same : (x ≡ 0 → ⊥) → getD W (240 * x + 192) 0 ≤ getD W (240 * b + 192) 0 → b ≡ largerOf W v b
+    unfolding largerOf countIn
+    larger-same d h = rw (e, ne-eqb x 0 d, le-ltb _ _ h)
 
 larger-block : (W : List ℕ) (v : ValueRef) (b : ℕ) → Holds W v → Block W b → Block W (largerOf W v b)
 unfolding largerOf
-larger-block W (Object x i) b h bk = go (ltb (countIn W b) (countIn W x))
+larger-block W (Object x i) b h bk = go (eqb x 0) (ltb (countIn W b) (countIn W x))
   where
-    go : (t : Bool) → Block W (cond t x b)
-    go true = h .held .block
-    go false = bk
+    go : (z t : Bool) → Block W (cond z b (cond t x b))
+    go true t = bk
+    go false true = h .held .block
+    go false false = bk
 larger-block W (Mark k) b h bk = bk
 larger-block W Undetermined b h bk = bk
 
@@ -902,11 +924,26 @@ module _ (W : List ℕ) (ps : List Slot) (n b : ℕ) where
     pub largest-begun : (d : ℕ) → d ≡ largestOf W ps n b → Begun W d d
     largest-begun d e = begun-here W d (largest-block d e)
 
-module _ (W : List ℕ) (b host dst : ℕ) (W1 : List ℕ) (bk : Block W b) (lb : b < dst) (le : dst ≤ host) (room : 240 * host + 240 ≤ length W) (cp : Copied W b host W1) where
-  pub copied-begun : Begun W1 b host
+-- ---- block dst written, where no part lies
+module _ (W : List ℕ) (dst : ℕ) (W1 : List ℕ) (o : Outside dst W W1) (ps : List Slot) (n : ℕ) (held : PartsHeld W ps n) (away : someIn ps n dst ≡ false) where
+  keeps : (i : ℕ) → i < n → Kept W W1 (partOf ps i)
+  keeps i h = kept dst W W1 o (partOf ps i) (away-at ps n dst away i h) (held .part i h)
+
+  away-held : PartsHeld W1 ps n
+  away-held = record { full = held .full; part = λ i h. keeps i h .held }
+
+  away-values : valuesFrom W1 ps 0 n ≡ valuesFrom W ps 0 n
+  unfolding valuesFrom
+  away-values = same-values W W1 n ps (λ i h. keeps i h .is)
+
+  away-made : (c : ℕ) (W2 : List ℕ) (m : Made) → MadeIs W1 (make c (valuesFrom W1 ps 0 n)) dst W2 m → MadeIs W (make c (valuesFrom W ps 0 n)) dst W2 m
+  away-made c W2 m x = made-from W W1 c ps n dst W2 m (under dst W W1 o) away-values x
+
+module _ (W : List ℕ) (b dst : ℕ) (W1 : List ℕ) (bk : Block W b) (lb : b < dst) (room : 240 * dst + 240 ≤ length W) (cp : Copied W b dst W1) where
+  pub copied-begun : Begun W1 b dst
   copied-begun =
-      let m = block-moves W W1 b host (cp .count) (cp .level) (cp .here) (omega (arith, cp .outside .same)) bk in
-      let o = other-block host W W1 (cp .outside) b (λ z. omega arith) bk in
+      let m = block-moves W W1 b dst (cp .count) (cp .level) (cp .here) (omega (arith, cp .outside .same)) bk in
+      let o = other-block dst W W1 (cp .outside) b (λ z. omega arith) bk in
       let same : countIn W1 b ≡ countIn W b = sym (size-in W1 b (o .1)) ∙ ap length (o .0) ∙ size-in W b bk in
       record {
         source = o .1;
@@ -918,19 +955,37 @@ module _ (W : List ℕ) (b host dst : ℕ) (W1 : List ℕ) (bk : Block W b) (lb 
   pub copied-room : 240 * dst + 240 ≤ length W1
   copied-room = omega (arith, cp .outside .same)
 
-  module _ (ps : List Slot) (n : ℕ) (held : PartsHeld W ps n) (away : someIn ps n host ≡ false) where
-    keeps : (i : ℕ) → i < n → Kept W W1 (partOf ps i)
-    keeps i h = kept host W W1 (cp .outside) (partOf ps i) (away-at ps n host away i h) (held .part i h)
-
+  module _ (ps : List Slot) (n : ℕ) (held : PartsHeld W ps n) (away : someIn ps n dst ≡ false) where
     pub copied-held : PartsHeld W1 ps n
-    copied-held = record { full = held .full; part = λ i h. keeps i h .held }
-
-    copied-values : valuesFrom W1 ps 0 n ≡ valuesFrom W ps 0 n
-    unfolding valuesFrom
-    copied-values = same-values W W1 n ps (λ i h. keeps i h .is)
+    copied-held = away-held W dst W1 (cp .outside) ps n held away
 
     pub copied-made : (c : ℕ) (W2 : List ℕ) (o : Made) → MadeIs W1 (make c (valuesFrom W1 ps 0 n)) dst W2 o → MadeIs W (make c (valuesFrom W ps 0 n)) dst W2 o
-    copied-made c W2 o m = made-from W W1 c ps n dst W2 o (record { same = cp .outside .same; below = λ p h. cp .outside .below p (omega arith) }) copied-values m
+    copied-made = away-made W dst W1 (cp .outside) ps n held away
+
+module _ (W : List ℕ) (dst : ℕ) (W1 : List ℕ) (room : 240 * dst + 240 ≤ length W) (em : Emptied W dst W1) where
+  none-there : objectsIn W1 dst ≡ []
+  unfolding objectsIn nodesIn
+  none-there = rw (em .count)
+
+  pub empty-begun : Begun W1 dst dst
+  empty-begun = begun-here W1 dst (record {
+    room = omega (arith, em .outside .same);
+    small = omega (arith, em .count);
+    packed = λ i h. absurd (omega (arith, em .count));
+    whole = rw none-there (record { top = tt; inner = λ i f r e. absurd (Option·none-ne-some r e) });
+    distinct = rw none-there (record { apart = λ i j h. absurd (omega arith) });
+    level = λ q h. absurd (omega (arith, em .count));
+  })
+
+  pub empty-room : 240 * dst + 240 ≤ length W1
+  empty-room = omega (arith, em .outside .same)
+
+  module _ (ps : List Slot) (n : ℕ) (held : PartsHeld W ps n) (away : someIn ps n dst ≡ false) where
+    pub empty-held : PartsHeld W1 ps n
+    empty-held = away-held W dst W1 (em .outside) ps n held away
+
+    pub empty-made : (c : ℕ) (W2 : List ℕ) (o : Made) → MadeIs W1 (make c (valuesFrom W1 ps 0 n)) dst W2 o → MadeIs W (make c (valuesFrom W ps 0 n)) dst W2 o
+    empty-made = away-made W dst W1 (em .outside) ps n held away
 
 pub larger-read : (W : List ℕ) (v : ValueRef) (x i : ℕ) → Holds W v → v ≡ Object x i → 240 * x + 192 < length W
 larger-read W v x i h e = omega (arith, held-room W v x i h e)

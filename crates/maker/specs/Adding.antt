@@ -1,7 +1,7 @@
 -- A new object beside the objects of the block where its parts lie, or alone in a block.
-use Prim.Native.Nat.{ℕ, _+_, _*_, _≤_, _<_}
+use Prim.Native.Nat.{ℕ, zero, suc, _+_, _*_, _≤_, _<_}
 use mathlib.Core.Path.{_≡_}
-use mathlib.Core.Bool.{Bool, true, false, not}
+use mathlib.Core.Bool.{Bool, true, false, not, cond}
 use mathlib.Core.List.{List, map}
 use lib.Dec.{eqb}
 use lib.ListN.{getD}
@@ -29,6 +29,12 @@ pub record Found (W : List ℕ) (b t : ℕ) (T : List ℕ) (k : ℕ) : Type 0 wh
   pub hit : k < t → nodeIn W (240 * b + 6 * k) ≡ nodeIn T 0
   pub miss : t ≤ k → Missed W b T t
 
+-- block dst has no objects; the bytes outside are W's
+pub record Emptied (W : List ℕ) (dst : ℕ) (D : List ℕ) : Type 0 where
+  pub count : countIn D dst ≡ 0
+  pub level : levelIn D dst ≡ 0
+  pub outside : Outside dst W D
+
 -- the object in T after t objects of block dst, with the level l; the bytes of those, and those outside, are W's
 pub record Appended (W : List ℕ) (dst t : ℕ) (T : List ℕ) (l : ℕ) (D : List ℕ) : Type 0 where
   pub count : countIn D dst ≡ t + 1
@@ -45,10 +51,16 @@ pub record Added (W : List ℕ) (b t : ℕ) (T : List ℕ) (dst : ℕ) (D : List
   pub level : (q : ℕ) → q < 6 * (t + 1) → getD D (240 * dst + q) 0 < 193 + levelIn D dst
   pub outside : Outside dst W D
 
-abbrev pub isObject : ValueRef → Bool
+unfoldable pub isObject : ValueRef → Bool
 isObject (Object b i) = true
 isObject (Mark k) = false
 isObject Undetermined = false
+
+-- the block of a value that is an object; 0 for another
+unfoldable pub blockOf : ValueRef → ℕ
+blockOf (Object b i) = b
+blockOf (Mark k) = 0
+blockOf Undetermined = 0
 
 -- whether a value lies in block b, or is no object
 unfoldable pub standsIn : ℕ → ValueRef → Bool
@@ -63,10 +75,11 @@ partOf ps i = getD ps i (record { r = Object 0 0 }) .r
 unfoldable pub allStand : List Slot → ℕ → ℕ → Bool
 allStand ps n b = not (any (λ i. not (standsIn b (partOf ps i))) n)
 
--- no part before f is an object
-pub record Leaves (ps : List Slot) (f : ℕ) : Type 0 where
-  pub leaf : (i : ℕ) → i < f → isObject (partOf ps i) ≡ false
+-- whether one of the first n parts is an object
+unfoldable pub someObject : List Slot → ℕ → Bool
+someObject ps n = any (λ i. isObject (partOf ps i)) n
 
-pub record First (ps : List Slot) (n f : ℕ) : Type 0 where
-  pub low : f ≤ n
-  pub before : Leaves ps f
+-- the first block other than 0 in which one of the first n parts lies; 0 if there is none
+unfoldable pub firstBlock : List Slot → ℕ → ℕ
+firstBlock ps zero = 0
+firstBlock ps (suc n) = cond (eqb (firstBlock ps n) 0) (blockOf (partOf ps n)) (firstBlock ps n)

@@ -1,3 +1,4 @@
 pub mod Laying
 pub mod Adding
 pub mod Merging
+pub mod Bares

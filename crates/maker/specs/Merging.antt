@@ -5,7 +5,7 @@ use mathlib.Core.Path.{_≡_}
 use mathlib.Core.Bool.{Bool, true, cond}
 use mathlib.Core.List.{List}
 use mathlib.Core.Option.{some}
-use lib.Dec.{ltb}
+use lib.Dec.{ltb, eqb}
 use lib.ListN.{length, getD, getElem?}
 use Rattle.cofj.specs.Values.{Ref, nodeAt}
 use Rattle.cofj.specs.Unfolding.{Same, InRange}
@@ -123,13 +123,13 @@ pub record PartsBrought (W : List ℕ) (c : ℕ) (ps : List Slot) (n host : ℕ)
 unfoldable pub someIn : List Slot → ℕ → ℕ → Bool
 someIn ps n d = any (λ i. liesIn d (partOf ps i)) n
 
--- the block of v, if v is an object and that block has more objects than block b; else b
+-- the block of v, if v is an object of a block other than 0 and that block has more objects than block b; else b
 unfoldable pub largerOf : List ℕ → ValueRef → ℕ → ℕ
-largerOf W (Object x i) b = cond (ltb (countIn W b) (countIn W x)) x b
+largerOf W (Object x i) b = cond (eqb x 0) b (cond (ltb (countIn W b) (countIn W x)) x b)
 largerOf W (Mark k) b = b
 largerOf W Undetermined b = b
 
--- the block with the most objects, of block b and those of the first n parts
+-- the block with the most objects, of block b and those of the first n parts but block 0
 unfoldable pub largestOf : List ℕ → List Slot → ℕ → ℕ → ℕ
 largestOf W ps zero b = b
 largestOf W ps (suc n) b = largerOf W (partOf ps n) (largestOf W ps n b)

@@ -4,6 +4,7 @@ pub mod lay; // values laid side by side below a new object
 pub mod over; // a new object beside the objects of one block
 pub mod merge; // a new object over the objects of several blocks
 pub mod make; // a new object
+pub mod bares; // block 0 with the objects without fields
 
 // A part of a new object.
 pub struct Slot {

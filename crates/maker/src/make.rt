@@ -3,7 +3,10 @@ use crate::Made;
 use crate::lay::build;
 use crate::lay::part_at;
 use crate::merge::make_apart;
+use crate::merge::make_in;
+use crate::merge::some_in;
 use crate::over::add;
+use crate::over::empty;
 use crate::over::find;
 use crate::over::make_alone;
 use crate::over::root_object;
@@ -12,13 +15,15 @@ use canon::number::put;
 use values::ValueRef;
 use values::value::bring;
 ghost use mathlib.Core.Path.{_≡_};
-ghost use mathlib.Core.Bool.{true};
+ghost use mathlib.Core.Bool.{true, false};
 ghost use Prim.Native.Nat.{ℕ, _+_, _*_, _<_, _≤_};
 ghost use lib.ListN.{length};
 ghost use Rattle.cofj.specs.Values.{make};
 ghost use Rattle.maker.specs.Laying.{partsOf, PartsHeld, valuesFrom, MadeIs};
 ghost use Rattle.canon.specs.Layout.{Block};
-ghost use Rattle.maker.specs.Adding.{isObject, standsIn, allStand, First};
+ghost use Rattle.maker.specs.Adding.{someObject, blockOf, firstBlock, standsIn, allStand};
+ghost use Rattle.maker.specs.Merging.{someIn};
+ghost use Rattle.values.specs.Refs.{refIn};
 
 // The parts' objects laid side by side, and equal ones found.
 pub fn make_laid(work: &mut [u8], c: u8, parts: &[u32; 4], n: u8, dst: u16) -> Made
@@ -36,31 +41,45 @@ pub fn make_laid(work: &mut [u8], c: u8, parts: &[u32; 4], n: u8, dst: u16) -> M
     Made::Value(ValueRef::Object(dst, 0))
 }
 
-// Whether a part is an object.
-pub fn is_object(v: ValueRef) -> bool
-    ensures { λ r. ⌜ r ≡ isObject v ⌝ }
-{
-    match v {
-        ValueRef::Object(_, _) => true,
-        ValueRef::Mark(_) => false,
-        ValueRef::Undetermined => false,
-    }
-}
-
-// The first part that is an object; n if none is.
-pub fn first_object(parts: &[u32; 4], n: u8) -> u8
+// Whether one of the parts is an object.
+pub fn some_object(parts: &[u32; 4], n: u8) -> bool
     requires { ⌜ n ≤ 4 ⌝ }
-    ensures { λ f. ⌜ First (partsOf (now (parts .entry))) n f ⌝ }
+    ensures { λ r. ⌜ r ≡ someObject (partsOf (now (parts .entry))) n ⌝ }
 {
     let mut i: u8 = 0;
     while i < n {
-        let v = part_at(parts, i);
-        if is_object(v) {
-            return i;
+        if parts[i as usize] % 256 < 192 {
+            return true;
         }
         i += 1;
     }
-    n
+    false
+}
+
+// The block of a value that is an object; 0 for another.
+pub fn block_of(r: u32) -> u16
+    ensures { λ b. ⌜ b ≡ blockOf (refIn r) ⌝ }
+{
+    if 192 <= r % 256 {
+        return 0;
+    }
+    (r / 256 % 65536) as u16
+}
+
+// The block of the first part that is an object of a block other than 0; 0 if there is none.
+pub fn first_block(parts: &[u32; 4], n: u8) -> u16
+    requires { ⌜ n ≤ 4 ⌝ }
+    ensures { λ b. ⌜ b ≡ firstBlock (partsOf (now (parts .entry))) n ⌝ }
+{
+    let mut i: u8 = 0;
+    while i < n {
+        let b = block_of(parts[i as usize]);
+        if b != 0 {
+            return b;
+        }
+        i += 1;
+    }
+    0
 }
 
 // Whether a part lies in block b, or is no object.
@@ -109,19 +128,31 @@ pub fn make_beside(work: &mut [u8], c: u8, parts: &[u32; 4], n: u8, b: u16, dst:
     Made::Value(ValueRef::Object(dst, t))
 }
 
+// A new object in block `dst`, where no part lies: alone, or after what its parts lead to.
+pub fn make_fresh(work: &mut [u8], c: u8, parts: &[u32; 4], n: u8, dst: u16) -> Made
+    requires { ⌜ PartsHeld (now work) (partsOf (now parts)) n × (n ≤ 4) × (someIn (partsOf (now parts)) n dst ≡ false) × (240 * dst + 240 ≤ length (now work)) ⌝ }
+    ensures { λ o. ⌜ MadeIs (now (work .entry)) (make c (valuesFrom (now (work .entry)) (partsOf (now (parts .entry))) 0 n)) dst (now (work .exit)) o ⌝ }
+{
+    if !some_object(parts, n) {
+        return make_alone(work, c, parts, n, dst);
+    }
+    empty(work, dst);
+    make_in(work, c, parts, n, dst, dst, dst)
+}
+
 // A new object of class c with the n first parts, in block `dst` or below, unless it has more than 32 objects.
+// Block 0 is often full, and block `dst` is to be written: so the parts are brought to `dst` if one lies there or none lies above block 0.
 pub fn make(work: &mut [u8], c: u8, parts: &[u32; 4], n: u8, dst: u16) -> Made
     requires { ⌜ PartsHeld (now work) (partsOf (now parts)) n × (n ≤ 4) × (240 * dst + 240 ≤ length (now work)) ⌝ }
     ensures { λ o. ⌜ MadeIs (now (work .entry)) (make c (valuesFrom (now (work .entry)) (partsOf (now (parts .entry))) 0 n)) dst (now (work .exit)) o ⌝ }
 {
-    let f = first_object(parts, n);
-    if n <= f {
-        return make_alone(work, c, parts, n, dst);
+    if some_in(parts, n, dst) {
+        return make_in(work, c, parts, n, dst, dst, dst);
     }
-    let v = part_at(parts, f);
-    let ValueRef::Object(b, _) = v else {
-        return make_laid(work, c, parts, n, dst);
-    };
+    let b = first_block(parts, n);
+    if b == 0 {
+        return make_fresh(work, c, parts, n, dst);
+    }
     if together(parts, n, b) {
         return make_beside(work, c, parts, n, b, dst);
     }

@@ -199,7 +199,7 @@ pub fn make_in(
     Made::Value(bring(work, ValueRef::Object(host, r), dst))
 }
 
-// The block of v, if v is an object and that block has more objects than block b; else b.
+// The block of v, if v is an object of a block other than 0 and that block has more objects than block b; else b.
 pub fn larger(work: &[u8], v: ValueRef, b: u16) -> u16
     requires { ⌜ Holds (now work) v × Block (now work) b ⌝ }
     ensures { λ r. ⌜ r ≡ largerOf (now (work .entry)) v b ⌝ }
@@ -207,13 +207,16 @@ pub fn larger(work: &[u8], v: ValueRef, b: u16) -> u16
     let ValueRef::Object(x, _) = v else {
         return b;
     };
+    if x == 0 {
+        return b;
+    }
     if work[240 * (b as usize) + 192] < work[240 * (x as usize) + 192] {
         return x;
     }
     b
 }
 
-// The block with the most objects, of block b and those of the parts.
+// The block with the most objects, of block b and those of the parts but block 0.
 pub fn largest(work: &[u8], parts: &[u32; 4], n: u8, b: u16) -> u16
     requires { ⌜ PartsHeld (now work) (partsOf (now parts)) n × (n ≤ 4) × Block (now work) b ⌝ }
     ensures { λ r. ⌜ r ≡ largestOf (now (work .entry)) (partsOf (now (parts .entry))) n b ⌝ }
@@ -255,52 +258,23 @@ pub fn some_in(parts: &[u32; 4], n: u8, d: u16) -> bool
     false
 }
 
-// A new object whose parts are brought into a copy of block b, in block host, where no part lies.
-pub fn make_copied(
-    work: &mut [u8],
-    c: u8,
-    parts: &[u32; 4],
-    n: u8,
-    b: u16,
-    host: u16,
-    dst: u16,
-) -> Made
-    requires { ⌜ PartsHeld (now work) (partsOf (now parts)) n × (n ≤ 4) × Block (now work) b × (b < dst) × (dst ≤ host) × (someIn (partsOf (now parts)) n host ≡ false) × (240 * host + 240 ≤ length (now work)) ⌝ }
+// A new object whose parts are brought into a copy of block b, in block `dst`, where no part lies.
+pub fn make_copied(work: &mut [u8], c: u8, parts: &[u32; 4], n: u8, b: u16, dst: u16) -> Made
+    requires { ⌜ PartsHeld (now work) (partsOf (now parts)) n × (n ≤ 4) × Block (now work) b × (b < dst) × (someIn (partsOf (now parts)) n dst ≡ false) × (240 * dst + 240 ≤ length (now work)) ⌝ }
     ensures { λ o. ⌜ MadeIs (now (work .entry)) (make c (valuesFrom (now (work .entry)) (partsOf (now (parts .entry))) 0 n)) dst (now (work .exit)) o ⌝ }
 {
-    copy_block(work, b, host);
-    make_in(work, c, parts, n, b, host, dst)
+    copy_block(work, b, dst);
+    make_in(work, c, parts, n, b, dst, dst)
 }
 
-// The same with the block after dst for host, if it is there and no part lies in it.
-pub fn make_above(work: &mut [u8], c: u8, parts: &[u32; 4], n: u8, b: u16, dst: u16) -> Made
-    requires { ⌜ PartsHeld (now work) (partsOf (now parts)) n × (n ≤ 4) × Block (now work) b × (b < dst) × (240 * dst + 240 ≤ length (now work)) ⌝ }
-    ensures { λ o. ⌜ MadeIs (now (work .entry)) (make c (valuesFrom (now (work .entry)) (partsOf (now (parts .entry))) 0 n)) dst (now (work .exit)) o ⌝ }
-{
-    if 65535 <= dst {
-        return make_laid(work, c, parts, n, dst);
-    }
-    let host = dst + 1;
-    if work.len() < 240 * (host as usize) + 240 {
-        return make_laid(work, c, parts, n, dst);
-    }
-    if some_in(parts, n, host) {
-        return make_laid(work, c, parts, n, dst);
-    }
-    make_copied(work, c, parts, n, b, host, dst)
-}
-
-// A new object whose parts lie in several blocks, `first` one of them: over the block with the most objects, where it may be written, or over a copy.
+// A new object whose parts lie in several blocks, `first` one of them, none in `dst`: over the block with the most objects, where it may be written, or over a copy.
 pub fn make_apart(work: &mut [u8], c: u8, parts: &[u32; 4], n: u8, first: u16, dst: u16) -> Made
-    requires { ⌜ PartsHeld (now work) (partsOf (now parts)) n × (n ≤ 4) × Block (now work) first × (240 * dst + 240 ≤ length (now work)) ⌝ }
+    requires { ⌜ PartsHeld (now work) (partsOf (now parts)) n × (n ≤ 4) × Block (now work) first × (someIn (partsOf (now parts)) n dst ≡ false) × (240 * dst + 240 ≤ length (now work)) ⌝ }
     ensures { λ o. ⌜ MadeIs (now (work .entry)) (make c (valuesFrom (now (work .entry)) (partsOf (now (parts .entry))) 0 n)) dst (now (work .exit)) o ⌝ }
 {
     let b = largest(work, parts, n, first);
     if dst <= b {
         return make_in(work, c, parts, n, b, b, dst);
     }
-    if some_in(parts, n, dst) {
-        return make_above(work, c, parts, n, b, dst);
-    }
-    make_copied(work, c, parts, n, b, dst, dst)
+    make_copied(work, c, parts, n, b, dst)
 }

@@ -7,6 +7,7 @@ use canon::number::raise_level;
 use values::ValueRef;
 use values::value::copy_block;
 ghost use mathlib.Core.Path.{_≡_};
+ghost use mathlib.Core.Bool.{false};
 ghost use Prim.Native.Nat.{ℕ, _+_, _*_, _<_, _≤_};
 ghost use mathlib.Core.List.{[]};
 ghost use lib.ListN.{length};
@@ -15,7 +16,7 @@ ghost use Rattle.maker.specs.Laying.{partsOf, PartsHeld, rawsFrom, value
 ghost use Rattle.canon.specs.Layout.{refOf, Packed, Block, countIn};
 ghost use Rattle.values.specs.Layout.{rawOf, Holds};
 ghost use Rattle.canon.specs.Numbers.{Levels};
-ghost use Rattle.maker.specs.Adding.{RootObject, Found, Appended, Added, Leaves};
+ghost use Rattle.maker.specs.Adding.{RootObject, Found, Emptied, Appended, Added, someObject};
 
 // The code of a part: its object's.
 pub fn code_of(work: &[u8], r: ValueRef) -> u8
@@ -77,6 +78,15 @@ pub fn level_with(top: &[u8], l: u8) -> u8
     m
 }
 
+// Block `dst` without objects.
+pub fn empty(work: &mut [u8], dst: u16)
+    requires { ⌜ 240 * dst + 240 ≤ length (now work) ⌝ }
+    ensures { λ _. ⌜ Emptied (now (work .entry)) dst (now (work .exit)) ⌝ }
+{
+    work[240 * (dst as usize) + 192] = 0;
+    work[240 * (dst as usize) + 193] = 0;
+}
+
 // The object in `top`, after t objects of block `dst`, and the block's level.
 pub fn append(work: &mut [u8], dst: u16, t: u8, top: &[u8], l: u8)
     requires { ⌜ (t ≤ 31) × (240 * dst + 240 ≤ length (now work)) × (6 ≤ length (now top)) ⌝ }
@@ -94,17 +104,13 @@ pub fn add(work: &mut [u8], b: u16, top: &[u8], dst: u16)
 {
     let t = work[240 * (b as usize) + 192];
     let l = level_with(top, work[240 * (b as usize) + 193]);
-    if b == dst {
-        append(work, dst, t, top, l);
-        return;
-    }
     copy_block(work, b, dst);
     append(work, dst, t, top, l);
 }
 
 // A new object whose parts are no objects.
 pub fn make_alone(work: &mut [u8], c: u8, parts: &[u32; 4], n: u8, dst: u16) -> Made
-    requires { ⌜ PartsHeld (now work) (partsOf (now parts)) n × (n ≤ 4) × Leaves (partsOf (now parts)) n × (240 * dst + 240 ≤ length (now work)) ⌝ }
+    requires { ⌜ PartsHeld (now work) (partsOf (now parts)) n × (n ≤ 4) × (someObject (partsOf (now parts)) n ≡ false) × (240 * dst + 240 ≤ length (now work)) ⌝ }
     ensures { λ o. ⌜ MadeIs (now (work .entry)) (make c (valuesFrom (now (work .entry)) (partsOf (now (parts .entry))) 0 n)) dst (now (work .exit)) o ⌝ }
 {
     let mut top = [0u8; 6];

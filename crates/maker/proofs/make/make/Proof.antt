@@ -3,36 +3,39 @@ use Rattle.maker.proofs.make.make.Statement.{statement}
 use Rattle.maker.proofs.make.make.Tie as tie
 use Rattle.maker.proofs.make.make.Reads as reads
 use Rattle.maker.proofs.make.make.Lts as lts
-use Rattle.maker.proofs.make.first_object.Reads as first-object-reads
+use Rattle.maker.proofs.make.first_block.Reads as first-block-reads
 use Rattle.maker.proofs.make.make_beside.Reads as make-beside-reads
-use Rattle.maker.proofs.make.make_laid.Reads as make-laid-reads
+use Rattle.maker.proofs.make.make_fresh.Reads as make-fresh-reads
 use Rattle.maker.proofs.make.together.Reads as together-reads
 use Rattle.maker.proofs.merge.make_apart.Reads as make-apart-reads
-use Rattle.maker.proofs.over.make_alone.Reads as make-alone-reads
-use Rattle.maker.proofs.lay.part_at.Reads as part-at-reads
+use Rattle.maker.proofs.merge.make_in.Reads as make-in-reads
+use Rattle.maker.proofs.merge.some_in.Reads as some-in-reads
 use Rattle.values.proofs.Tests as tests
 use Rattle.maker.proofs.Beside as laws
+use Rattle.maker.proofs.Merges as merges
 
-make-alone-requires : tie.Need-make-alone-requires
-make-alone-requires c κs = (search needs, search needs, search laws.leaves-all, search needs)
+make-in-requires : tie.Need-make-in-requires
+make-in-requires c κs = (search needs, search needs, search merges.some-begun, search needs, search needs)
+
+make-fresh-requires : tie.Need-make-fresh-requires
+make-fresh-requires c κs = (search needs, search needs, search tests.told, search needs)
 
 make-beside-requires : tie.Need-make-beside-requires
 make-beside-requires c κs = (search needs, search needs, search laws.first-block, search tests.told, search needs)
 
 make-apart-requires : tie.Need-make-apart-requires
-make-apart-requires c κs = (search needs, search needs, search laws.first-block, search needs)
+make-apart-requires c κs = (search needs, search needs, search laws.first-block, search tests.told, search needs)
 
 pub make-spec : {M : Type 1} → statement M
 make-spec =
     tie.close
     (tie.spec
     (λ c κs. search needs)
-    make-alone-requires
+    make-in-requires
     (λ c. search needs)
     (λ c. search needs)
     (λ c κs. search needs)
-    (λ c. search needs)
-    (λ c κs. search needs)
+    make-fresh-requires
     (λ c. search needs)
     (λ c. search needs)
     (λ c κs. search needs)

@@ -5,17 +5,20 @@ use Rattle.maker.proofs.merge.larger.Reads as reads
 use Rattle.maker.proofs.merge.larger.Lts as lts
 use Rattle.maker.proofs.Merges as laws
 
-shared-slice-read-if1-2 : tie.Need-shared-slice-read-if1-2
-shared-slice-read-if1-2 c = search laws.larger-read
-
-returns-2 : tie.Need-returns-2
-returns-2 c = search laws.larger-other
-
 returns : tie.Need-returns
 returns c = search laws.larger-leaf
 
+returns-2 : tie.Need-returns-2
+returns-2 c = search laws.larger-zero
+
+shared-slice-read-if2-2 : tie.Need-shared-slice-read-if2-2
+shared-slice-read-if2-2 c = search laws.larger-read
+
 returns-3 : tie.Need-returns-3
-returns-3 c = search laws.larger-same
+returns-3 c = search laws.larger-other
+
+returns-4 : tie.Need-returns-4
+returns-4 c = search laws.larger-same
 
 pub larger-spec : {M : Type 1} → statement M
 larger-spec =
@@ -23,12 +26,13 @@ larger-spec =
     (tie.spec
     (λ c. search needs)
     returns
-    (λ c. search needs)
-    (λ c. search needs)
-    (λ c. search needs)
-    (λ c. search needs)
-    (λ c. search needs)
-    (λ c. search needs)
-    shared-slice-read-if1-2
     returns-2
-    returns-3)
+    (λ c. search needs)
+    (λ c. search needs)
+    (λ c. search needs)
+    (λ c. search needs)
+    (λ c. search needs)
+    (λ c. search needs)
+    shared-slice-read-if2-2
+    returns-3
+    returns-4)

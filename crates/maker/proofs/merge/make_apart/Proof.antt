@@ -4,21 +4,15 @@ use Rattle.maker.proofs.merge.make_apart.Tie as tie
 use Rattle.maker.proofs.merge.make_apart.Reads as reads
 use Rattle.maker.proofs.merge.make_apart.Lts as lts
 use Rattle.maker.proofs.merge.largest.Reads as largest-reads
-use Rattle.maker.proofs.merge.make_above.Reads as make-above-reads
 use Rattle.maker.proofs.merge.make_copied.Reads as make-copied-reads
 use Rattle.maker.proofs.merge.make_in.Reads as make-in-reads
-use Rattle.maker.proofs.merge.some_in.Reads as some-in-reads
-use Rattle.values.proofs.Tests as tests
 use Rattle.maker.proofs.Merges as laws
 
 make-in-requires : tie.Need-make-in-requires
 make-in-requires c κs = (search needs, search needs, search laws.largest-begun, search needs, search needs)
 
-make-above-requires : tie.Need-make-above-requires
-make-above-requires c κs = (search needs, search needs, search laws.largest-block, search needs, search needs)
-
 make-copied-requires : tie.Need-make-copied-requires
-make-copied-requires c κs = (search needs, search needs, search laws.largest-block, search needs, search needs, search tests.told, search needs)
+make-copied-requires c κs = (search needs, search needs, search laws.largest-block, search needs, search needs, search needs)
 
 pub make-apart-spec : {M : Type 1} → statement M
 make-apart-spec =
@@ -26,10 +20,6 @@ make-apart-spec =
     (tie.spec
     (λ c κs. search needs)
     make-in-requires
-    (λ c. search needs)
-    (λ c. search needs)
-    (λ c κs. search needs)
-    make-above-requires
     (λ c. search needs)
     (λ c. search needs)
     make-copied-requires

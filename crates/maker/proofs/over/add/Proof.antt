@@ -15,14 +15,7 @@ unfolding countIn
 append-requires c κs = (omega arith, search needs, search needs)
 
 returns : tie.Need-returns
-returns c = search laws.add-here
-
-append-requires-2 : tie.Need-append-requires-2
-unfolding countIn
-append-requires-2 c κs = (omega arith, search needs, search needs)
-
-returns-2 : tie.Need-returns-2
-returns-2 c = search laws.add-there
+returns c = search laws.add-there
 
 pub add-spec : {M : Type 1} → statement M
 add-spec =
@@ -35,10 +28,7 @@ add-spec =
     (λ c. search needs)
     (λ c. search needs)
     (λ c κs. search needs)
+    (λ c κs. search needs)
     append-requires
     (λ c. search needs)
-    returns
-    (λ c κs. search needs)
-    append-requires-2
-    (λ c. search needs)
-    returns-2)
+    returns)

@@ -1,0 +1,20 @@
+use borrow.Author.Needs.{needs}
+use Rattle.maker.proofs.make.block_of.Statement.{statement}
+use Rattle.maker.proofs.make.block_of.Tie as tie
+use Rattle.maker.proofs.make.block_of.Reads as reads
+use Rattle.maker.proofs.make.block_of.Lts as lts
+use Rattle.maker.proofs.Beside as laws
+
+returns : tie.Need-returns
+returns c = search laws.block-leaf
+
+returns-2 : tie.Need-returns-2
+returns-2 c = search laws.block-object
+
+pub block-of-spec : {M : Type 1} → statement M
+block-of-spec =
+    tie.close
+    (tie.spec
+    returns
+    (λ c. search needs)
+    returns-2)

@@ -1,0 +1,33 @@
+use borrow.Author.Needs.{needs}
+use Rattle.maker.proofs.make.make_fresh.Statement.{statement}
+use Rattle.maker.proofs.make.make_fresh.Tie as tie
+use Rattle.maker.proofs.make.make_fresh.Reads as reads
+use Rattle.maker.proofs.make.make_fresh.Lts as lts
+use Rattle.maker.proofs.make.some_object.Reads as some-object-reads
+use Rattle.maker.proofs.merge.make_in.Reads as make-in-reads
+use Rattle.maker.proofs.over.empty.Reads as empty-reads
+use Rattle.maker.proofs.over.make_alone.Reads as make-alone-reads
+use Rattle.maker.proofs.Beside as tests
+use Rattle.maker.proofs.Merges as laws
+
+make-alone-requires : tie.Need-make-alone-requires
+make-alone-requires c κs = (search needs, search needs, search tests.denied, search needs)
+
+make-in-requires : tie.Need-make-in-requires
+make-in-requires c κs = (search laws.empty-held, search needs, search laws.empty-begun, search needs, search laws.empty-room)
+
+returns-2 : tie.Need-returns-2
+returns-2 c = search laws.empty-made
+
+pub make-fresh-spec : {M : Type 1} → statement M
+make-fresh-spec =
+    tie.close
+    (tie.spec
+    (λ c κs. search needs)
+    make-alone-requires
+    (λ c. search needs)
+    (λ c. search needs)
+    (λ c κs. search needs)
+    make-in-requires
+    (λ c. search needs)
+    returns-2)
