@@ -195,16 +195,16 @@ module _ (N : List ℕ) (n : ℕ) (C : List ℕ) (root : ℕ) (W : List ℕ) (ds
       has = λ l. absurd (omega arith);
     }
 
-    module _ (M : List ℕ) (lm : Listed M (take m O)) (T : List ℕ) (fm : Filled (λ i. numberIn M m (getD C i 0)) n T) (D : List ℕ) (g : Gathered N O m T W (240 * dst) D) (few : m ≤ 32)
-        (l : ℕ) (lv : Levels D (240 * dst) (6 * m) l) where
+    module _ (M : List ℕ) (lm : Listed M (take m O)) (T : List ℕ) (fm : Filled (λ i. numberIn M m (getD C i 0)) n T) (D : List ℕ) (g : Gathered N O m T W (234 * dst) D) (few : m ≤ 32)
+        (l : ℕ) (lv : Levels D (234 * dst) (6 * m) l) where
       abbrev E : List ℕ
-      E = set (set D (240 * dst + 192) m) (240 * dst + 193) l
+      E = set (set D (234 * dst + 192) m) (234 * dst + 193) l
 
-      kept-byte : (p : ℕ) → ((p ≡ 240 * dst + 192) → ⊥) → ((p ≡ 240 * dst + 193) → ⊥) → getD E p 0 ≡ getD D p 0
-      kept-byte p a b = getD-set-other (set D (240 * dst + 192) m) (240 * dst + 193) p l 0 b ∙ getD-set-other D (240 * dst + 192) p m 0 a
+      kept-byte : (p : ℕ) → ((p ≡ 234 * dst + 192) → ⊥) → ((p ≡ 234 * dst + 193) → ⊥) → getD E p 0 ≡ getD D p 0
+      kept-byte p a b = getD-set-other (set D (234 * dst + 192) m) (234 * dst + 193) p l 0 b ∙ getD-set-other D (234 * dst + 192) p m 0 a
 
       same-size : length E ≡ length W
-      same-size = length-set (set D (240 * dst + 192) m) (240 * dst + 193) l ∙ length-set D (240 * dst + 192) m ∙ g .same
+      same-size = length-set (set D (234 * dst + 192) m) (234 * dst + 193) l ∙ length-set D (234 * dst + 192) m ∙ g .same
 
       ft : Filled (λ i. placeIn (getD C i 0) (take m O)) n T
       ft = record { at = λ i h. fm .at i h ∙ number-in M (take m O) m (getD C i 0) lm size (omega (arith, low i h, rd .raw .few)) }
@@ -215,20 +215,20 @@ module _ (N : List ℕ) (n : ℕ) (C : List ℕ) (root : ℕ) (W : List ℕ) (ds
       number-small : (i : ℕ) → i < n → number (graphIn N n root) wg i < 192
       number-small i h = omega (arith, place-le (colourOf (colours (nodesIn N 0 n)) i) (order (graphIn N n root) wg), counted, canon-count)
 
-      g′ : Gathered N O m T E (240 * dst) E
+      g′ : Gathered N O m T E (234 * dst) E
       g′ = record {
         same = refl;
-        here = λ j k h l. kept-byte (240 * dst + 6 * j + k) (λ z. omega arith) (λ z. omega arith) ∙ g .here j k h l;
+        here = λ j k h l. kept-byte (234 * dst + 6 * j + k) (λ z. omega arith) (λ z. omega arith) ∙ g .here j k h l;
         below = λ q h. refl;
         above = λ q h. refl;
       }
 
-      node-is : (j : ℕ) → j < m → nodeIn E (240 * dst + 6 * j) ≡ nodeAt (listed (graphIn N n root) wg) j
+      node-is : (j : ℕ) → j < m → nodeIn E (234 * dst + 6 * j) ≡ nodeAt (listed (graphIn N n root) wg) j
       node-is j h =
           let c : getD O j 0 < n = listed-low j h in
           let ec : getD O j 0 ≡ getD (order (graphIn N n root) wg) j 0 = sym (getD-take m O j 0 h) ∙ ap (λ (l : List ℕ). getD l j 0) order-is in
           let z : 0 + 6 * getD O j 0 ≡ 6 * getD O j 0 = omega arith in
-          gathered-node N O m T E (240 * dst) E g′ j h
+          gathered-node N O m T E (234 * dst) E g′ j h
           ∙ ap (λ (p : ℕ). changed (turnRef T) (nodeIn N p)) (sym z)
           ∙ ap (changed (turnRef T)) (sym (at-nodes N 0 n (getD O j 0) c))
           ∙ node-agree (turnRef T) (rename (number (graphIn N n root) wg)) (InRange n)
@@ -238,7 +238,7 @@ module _ (N : List ℕ) (n : ℕ) (C : List ℕ) (root : ℕ) (W : List ℕ) (ds
 
       count-is : countIn E dst ≡ m
       unfolding countIn
-      count-is = getD-set-other (set D (240 * dst + 192) m) (240 * dst + 193) (240 * dst + 192) l 0 (λ z. omega arith) ∙ getD-set-same D (240 * dst + 192) m 0 (omega (arith, g .same, rd .room))
+      count-is = getD-set-other (set D (234 * dst + 192) m) (234 * dst + 193) (234 * dst + 192) l 0 (λ z. omega arith) ∙ getD-set-same D (234 * dst + 192) m 0 (omega (arith, g .same, rd .room))
 
       root-is : number (graphIn N n root) wg root ≡ 0
       root-is = canonical-root (canon (graphIn N n root)) (canon-whole (graphIn N n root) wg) (canon-canon (graphIn N n root) wg) _ (ap (λ (h : Graph). h .root) (canon-is (graphIn N n root) wg))
@@ -247,10 +247,10 @@ module _ (N : List ℕ) (n : ℕ) (C : List ℕ) (root : ℕ) (W : List ℕ) (ds
       unfolding objectsIn
       block-is =
           ap₂ graph (ap obj (sym root-is))
-          (ap (nodesIn E (240 * dst)) count-is
-          ∙ nodes-ext (nodesIn E (240 * dst) m) (listed (graphIn N n root) wg)
-          (length-nodes _ (240 * dst) m ∙ counted ∙ canon-count ∙ sym (length-map (order (graphIn N n root) wg) _))
-          (λ j l. let h : j < m = omega (arith, length-nodes E (240 * dst) m) in at-nodes _ (240 * dst) m j h ∙ node-is j h))
+          (ap (nodesIn E (234 * dst)) count-is
+          ∙ nodes-ext (nodesIn E (234 * dst) m) (listed (graphIn N n root) wg)
+          (length-nodes _ (234 * dst) m ∙ counted ∙ canon-count ∙ sym (length-map (order (graphIn N n root) wg) _))
+          (λ j l. let h : j < m = omega (arith, length-nodes E (234 * dst) m) in at-nodes _ (234 * dst) m j h ∙ node-is j h))
           ∙ sym (canon-is (graphIn N n root) wg)
 
       filled-is : 1 ≤ m
@@ -258,7 +258,7 @@ module _ (N : List ℕ) (n : ℕ) (C : List ℕ) (root : ℕ) (W : List ℕ) (ds
 
       level-is : levelIn E dst ≡ l
       unfolding levelIn
-      level-is = getD-set-same (set D (240 * dst + 192) m) (240 * dst + 193) l 0 (omega (arith, length-set D (240 * dst + 192) m, g .same, rd .room))
+      level-is = getD-set-same (set D (234 * dst + 192) m) (234 * dst + 193) l 0 (omega (arith, length-set D (234 * dst + 192) m, g .same, rd .room))
 
       whole-is : Whole (graph undet (objectsIn E dst))
       whole-is =
@@ -271,10 +271,10 @@ module _ (N : List ℕ) (n : ℕ) (C : List ℕ) (root : ℕ) (W : List ℕ) (ds
         small = rw count-is few;
         packed = λ j l.
             let h : j < m = omega (arith, count-is) in
-            gathered-packed N O m T E (240 * dst) E g′ j h (rd .raw .packed (getD O j 0) (listed-low j h));
+            gathered-packed N O m T E (234 * dst) E g′ j h (rd .raw .packed (getD O j 0) (listed-low j h));
         whole = whole-is;
         distinct = subst (λ (v : Graph). Distinct (v .nodes)) (sym block-is) (value-distinct (canon (graphIn N n root)) (canon-whole (graphIn N n root) wg) (canon-canon (graphIn N n root) wg));
-        level = λ q h. rw (kept-byte (240 * dst + q) (λ z. omega (arith, count-is)) (λ z. omega (arith, count-is)), level-is) (lv .below q (omega (arith, count-is)));
+        level = λ q h. rw (kept-byte (234 * dst + q) (λ z. omega (arith, count-is)) (λ z. omega (arith, count-is)), level-is) (lv .below q (omega (arith, count-is)));
       }
 
       pub put-done : Placed N n root W dst E m

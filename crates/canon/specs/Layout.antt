@@ -50,15 +50,15 @@ part S at n = take n (drop at S)
 
 -- the objects that block b lists
 unfoldable pub countIn : List ℕ → ℕ → ℕ
-countIn W b = getD W (240 * b + 192) 0
+countIn W b = getD W (234 * b + 192) 0
 
 -- no byte of these objects is 193 + the level or more: so every mark in them is below the level
 unfoldable pub levelIn : List ℕ → ℕ → ℕ
-levelIn W b = getD W (240 * b + 193) 0
+levelIn W b = getD W (234 * b + 193) 0
 
 -- the objects in block b, and the graph from object i of them on
 unfoldable pub objectsIn : List ℕ → ℕ → List Node
-objectsIn W b = nodesIn W (240 * b) (countIn W b)
+objectsIn W b = nodesIn W (234 * b) (countIn W b)
 
 abbrev pub graphAt : List ℕ → ℕ → ℕ → Graph
 graphAt W b i = graph (obj i) (objectsIn W b)
@@ -69,12 +69,12 @@ pub record Distinct (ns : List Node) : Type 0 where
 
 -- block b holds objects
 pub record Block (W : List ℕ) (b : ℕ) : Type 0 where
-  pub room : 240 * b + 240 ≤ length W
+  pub room : 234 * b + 234 ≤ length W
   pub small : countIn W b ≤ 32
-  pub packed : (i : ℕ) → i < countIn W b → Packed W (240 * b + 6 * i)
+  pub packed : (i : ℕ) → i < countIn W b → Packed W (234 * b + 6 * i)
   pub whole : Whole (graph undet (objectsIn W b))
   pub distinct : Distinct (objectsIn W b)
-  pub level : (q : ℕ) → q < 6 * countIn W b → getD W (240 * b + q) 0 < 193 + levelIn W b
+  pub level : (q : ℕ) → q < 6 * countIn W b → getD W (234 * b + q) 0 < 193 + levelIn W b
 
 -- and object i is one of them
 pub record Inside (W : List ℕ) (b i : ℕ) : Type 0 where
@@ -84,10 +84,10 @@ pub record Inside (W : List ℕ) (b i : ℕ) : Type 0 where
 -- every byte outside block b is as before
 pub record Outside (b : ℕ) (W W′ : List ℕ) : Type 0 where
   pub same : length W′ ≡ length W
-  pub below : (p : ℕ) → p < 240 * b → getD W′ p 0 ≡ getD W p 0
-  pub above : (p : ℕ) → 240 * b + 240 ≤ p → getD W′ p 0 ≡ getD W p 0
+  pub below : (p : ℕ) → p < 234 * b → getD W′ p 0 ≡ getD W p 0
+  pub above : (p : ℕ) → 234 * b + 234 ≤ p → getD W′ p 0 ≡ getD W p 0
 
 -- every byte below block b is as before
 pub record Beneath (b : ℕ) (W W′ : List ℕ) : Type 0 where
   pub same : length W′ ≡ length W
-  pub below : (p : ℕ) → p < 240 * b → getD W′ p 0 ≡ getD W p 0
+  pub below : (p : ℕ) → p < 234 * b → getD W′ p 0 ≡ getD W p 0

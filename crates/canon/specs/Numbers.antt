@@ -31,7 +31,7 @@ pub record Ready (N : List ℕ) (n : ℕ) (C : List ℕ) (root : ℕ) (W : List 
   pub long : 256 ≤ length C
   pub coloured : take n C ≡ colours (nodesIn N 0 n)
   pub inside : root < n
-  pub room : 240 * dst + 240 ≤ length W
+  pub room : 234 * dst + 234 ≤ length W
 
 abbrev pub graphIn : List ℕ → ℕ → ℕ → Graph
 graphIn N n root = graph (obj root) (nodesIn N 0 n)

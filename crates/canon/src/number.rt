@@ -87,7 +87,7 @@ pub fn put(nodes: &[u8], n: u8, cs: &[u8], root: u8, work: &mut [u8], dst: u16) 
     requires { ⌜ Ready (now nodes) n (now cs) root (now work) dst ⌝ }
     ensures { λ r. ⌜ Placed (now (nodes .entry)) n root (now (work .entry)) dst (now (work .exit)) r ⌝ }
 {
-    let at = 240 * (dst as usize);
+    let at = 234 * (dst as usize);
     let count = at + 192;
     let level = at + 193;
     let mut order = [0u8; 256];

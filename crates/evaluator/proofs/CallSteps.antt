@@ -25,7 +25,7 @@ use Rattle.evaluator.specs.Evaluation.{deeper, ListFits, Lists}
 use Rattle.evaluator.specs.Calling.{FindsTarget, ArgsFit, Calls, CallsWith, CallFits, Invokes, RunsRight, RunsLeft}
 use Rattle.evaluator.specs.Steps.{PartRunnable, ListRunnable, CallRunnable, BodyRunnable, EvalStep, ListStep, CallStep, InvokeStep, RightStep, LeftStep}
 use Rattle.evaluator.proofs.LimitLaws.{of-equal, next-nest, next-depth, next-block}
-use Rattle.evaluator.proofs.Keeping.{older-up, parts-held}
+use Rattle.evaluator.proofs.Keeping.{kept-down, older-up, parts-held, based-kept}
 use Rattle.evaluator.proofs.StateLaws.{args-length}
 use Rattle.evaluator.proofs.CallLaws.{call-flat, call-halt, call-none, call-is, args-halt, args-is, args-none, invoke-fuel, invoke-deep, invoke-right, invoke-left}
 use Rattle.evaluator.proofs.FitLaws as fits
@@ -94,6 +94,7 @@ module _ (T W S : List ℕ) (at lim sp m n : ℕ) (run : PartRunnable W S lim sp
 
       pub args-run : ListRunnable W1 S1 at1 (lim + 256) (sp + 1) n
       args-run = record {
+        based = based-kept W W1 (blockOf lim) (blockOf (lim + 256)) (ev .runs .kept) (let z = next-block lim in omega arith) (run .based);
         placed = placed-after sp S S1 (run .placed) (ev .stack) (sp + 1) (omega arith);
         fits = of-equal (λ a d b. ListFits W1 (frameAt S1) S1 (topOf S1) a d b n) (sym (next-nest lim)) (sym (next-depth lim)) (sym (next-block lim))
             (list-fits-on sp S S1 (run .placed) (ev .stack) W1 (nestOf lim) (depthOf lim) (blockOf lim + 1) n (fits.args-list W1 (frameAt S) S (topOf S) (nestOf lim) (depthOf lim) (blockOf lim) v n args-fit));
@@ -108,6 +109,7 @@ module _ (T W S : List ℕ) (at lim sp m n : ℕ) (run : PartRunnable W S lim sp
           let c = args-fit .fits .calls in
           let r = args-fit .fits .room in
           record {
+            based = based-kept W W1 (blockOf lim) (blockOf lim) (ev .runs .kept) (omega arith) (run .based);
             placed = placed-after sp S S1 (run .placed) (ev .stack) sp (omega arith);
             fits = record {
               trace = trace-on sp S S1 (run .placed) (ev .stack) W1 (blockOf lim) (args-fit .fits .trace);
@@ -164,6 +166,7 @@ module _ (T W S : List ℕ) (at lim sp m n : ℕ) (run : PartRunnable W S lim sp
               let t = top-same sp S S2 (run .placed) stack-both in
               let c = fit-there .calls in
               record {
+                based = based-kept W1 W2 (blockOf lim) (blockOf lim) (kept-down (blockOf lim) (blockOf lim + 1) W1 W2 (omega arith) (args-given .kept)) (omega arith) (based-kept W W1 (blockOf lim) (blockOf lim) (ev .runs .kept) (omega arith) (run .based));
                 placed = placed-after sp S S2 (run .placed) stack-both sp (omega arith);
                 fits = record {
                   trace = trace-on sp S S2 (run .placed) stack-both W2 (blockOf lim) (fit-there .trace);
@@ -232,6 +235,7 @@ module _ (W S : List ℕ) (next n lim sp : ℕ) (run : CallRunnable W S next n l
       let t = top-same sp S S1 (run .placed) spent-stack in
       let c = run .fits .calls in
       record {
+        based = run .based;
         placed = placed-after sp S S1 (run .placed) spent-stack sp (omega arith);
         fits = record {
           trace = trace-on sp S S1 (run .placed) spent-stack W (blockOf lim) (run .fits .trace);
@@ -256,7 +260,7 @@ module _ (W S : List ℕ) (next n lim sp : ℕ) (run : CallRunnable W S next n l
   spent-parts = parts-held W (blockOf lim + 4) (argsAt S1 (sp + 1)) n (spent-run .fits .args)
 
   pub spent-body : (lim / 8 % 32 ≡ 0 → ⊥) → BodyRunnable W S1 next n lim sp
-  spent-body nd = record { placed = spent-run .placed; room = run .room; deep = nd; fits = fits.body-fit W S1 (topOf S1) (refAt S1 sp) (argsAt S1 (sp + 1)) n (depthOf lim) (blockOf lim) (spent-run .fits) nd; after = run .after }
+  spent-body nd = record { based = run .based; placed = spent-run .placed; room = run .room; deep = nd; fits = fits.body-fit W S1 (topOf S1) (refAt S1 sp) (argsAt S1 (sp + 1)) n (depthOf lim) (blockOf lim) (spent-run .fits) nd; after = run .after }
 
   pub spent-mark : (m x : ℕ) → x ≡ metOf (openMark (traceIn W S1 (topOf S1)) (valueOf W (refAt S1 sp)) m (valuesFrom W (argsAt S1 (sp + 1)) 0 n)) → (x ≡ 0 → ⊥) → x < 64
   spent-mark m x e nz = fits.mark-small W S1 (topOf S1) (refAt S1 sp) (argsAt S1 (sp + 1)) n (depthOf lim) (blockOf lim) m x (spent-run .fits) e nz

@@ -103,7 +103,7 @@ parts-same W sp ps qs n full e o = record { full = full; part = λ i l. subst (O
     same i l = ap (λ (s : Slot). s .r) (sym (getD-take n qs i none l) ∙ ap (λ (xs : List Slot). getD xs i none) e ∙ getD-take n ps i none l)
 
 pub after-list : (T W : List ℕ) (f : Frame) (tr : List ℕ) (top at left d sp fuel n : ℕ) (W1 : List ℕ) (l : Listed) → Lists T W f tr top at left d sp fuel n W1 l
-    → Fits W f tr top (left + 1) d sp → 240 * sp + 240 ≤ length W1
+    → Fits W f tr top (left + 1) d sp → 234 * sp + 234 ≤ length W1
 after-list T W f tr top at left d sp fuel n W1 l li h = let r = h .room in omega (arith, h .long, li .kept .same)
 
 pub call-fit : (T W : List ℕ) (f : Frame) (tr : List ℕ) (top at left d sp fuel : ℕ) (v : ValueRef) (n : ℕ) (W1 : List ℕ) (l : Listed) (a b c e : ValueRef) (at1 fuel1 : ℕ) (ps : List Slot)

@@ -15,10 +15,12 @@ use Rattle.canon.specs.Layout.{Outside}
 use Rattle.values.specs.Layout.{valueOf, Low}
 use Rattle.maker.specs.Laying.{valuesFrom, PartsHeld}
 use Rattle.values.proofs.Kept as values
+use Rattle.maker.proofs.BareLaws.{bares-kept}
 use Rattle.values.proofs.Kept.{object-kept}
 use Rattle.evaluator.specs.declared.frame.Held.{Held}
 use Rattle.evaluator.specs.declared.frame.Held.the-variants.{Is, Absent}
 use Rattle.evaluator.specs.declared.frame.Frame.{Frame}
+use Rattle.evaluator.specs.Steps.{Based}
 use Rattle.evaluator.specs.State.{OpenCall, Kept, Older, slotAt, PartsOlder, HeldOlder, heldIn, FrameHolds, frameIn, callAt, CallOlder, TraceHolds, callIn, traceIn}
 
 -- ---- changes, one after the other
@@ -96,6 +98,10 @@ module _ (W W′ : List ℕ) (sp : ℕ) (k : Kept sp W W′) where
   trace-same tr (suc n) h =
       ap₂ {A = language.OpenCall} {B = List language.OpenCall} {C = List language.OpenCall} _∷_ (call-same n (callAt tr n) (h .call n (omega arith)))
       (trace-same tr n (record { call = λ i l. h .call i (omega arith) }))
+
+-- ---- block 0
+pub based-kept : (W W′ : List ℕ) (b b′ : ℕ) → Kept b W W′ → b ≤ b′ → Based W b → Based W′ b′
+based-kept W W′ b b′ k l h = let z = h .above in record { bares = bares-kept b W W′ k (h .above) (h .bares); above = omega arith }
 
 -- ---- what lies below a block lies below the blocks above it
 module _ (W : List ℕ) (sp sp′ : ℕ) (l : sp ≤ sp′) where

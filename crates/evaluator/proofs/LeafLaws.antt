@@ -1,6 +1,6 @@
 -- A new object of the values on the stack, and what a run gives: one law for each return of `parts_at`, `finish`, `stop_of` and `out_of`.
 -- Not here: the values' evaluation (ListLaws), the run (RunLaws).
-use Prim.Native.Nat.{ℕ, _+_}
+use Prim.Native.Nat.{ℕ, _+_, _<_}
 use native.Mathlib.Omega.{arith}
 use mathlib.Core.Path.{_≡_, refl, sym, ap, _∙_, subst}
 use mathlib.Core.Bool.{Bool, true, false, cond}
@@ -14,21 +14,19 @@ use Rattle.cofj.specs.Running as language
 use Rattle.cofj.specs.Running.{value, stopped, _then_, sized}
 use Rattle.values.specs.declared.ValueRef.{ValueRef}
 use Rattle.maker.specs.declared.Slot.{Slot}
-use Rattle.maker.specs.declared.Made.{Made}
-use Rattle.maker.specs.declared.Made.the-variants as made
 use Rattle.values.specs.Layout.{valueOf}
-use Rattle.maker.specs.Laying.{valuesFrom, PartsHeld, madeIn, MadeHeld, MadePlace, MadeIs, partsOf}
+use Rattle.maker.specs.Laying.{valuesFrom, PartsHeld, MadeIs, MadeIn, partsOf}
 use Rattle.evaluator.specs.declared.Stop.{Stop}
 use Rattle.evaluator.specs.declared.Stop.the-variants.{Stuck, NoFuel, TooDeep, TooLarge}
 use Rattle.evaluator.specs.declared.Out.{Out}
 use Rattle.evaluator.specs.declared.Out.the-variants.{Value, Halt}
-use Rattle.values.specs.Refs.{refIn, Small}
+use Rattle.values.specs.Refs.{refIn, answerOf}
 use Rattle.evaluator.specs.State.{PartsOlder, refAt}
 use Rattle.evaluator.specs.Answers.{Listed, Values, Stops, slotsOf, listIn, ListOlder, ListNext, Finishes}
 use Rattle.evaluator.specs.Stack.{fuelOf, stopAt, outAt, listAt}
 use Rattle.evaluator.specs.Steps.{PartsReady, FinishStep}
 use Rattle.evaluator.proofs.Keeping.{kept-none, parts-held}
-use Rattle.values.proofs.RefLaws.{small-held}
+use Rattle.maker.proofs.BareLaws.{bare-number}
 use Rattle.evaluator.proofs.StackLaws as stacks
 use Rattle.evaluator.proofs.StackLaws.{list-values, stacked-none, put-stack, put-out, stop-is, stop-stack, too-large-is}
 
@@ -69,23 +67,23 @@ module _ (W : List ℕ) (k : ℕ) (l : Listed) (n sp : ℕ) where
     finish-held : (ps : List Slot) → ps ≡ slotsOf a b c d → ListOlder W (sp + n) n l → PartsHeld W ps n
     finish-held ps ep h = parts-held W (sp + n) ps n (subst (λ (x : List Slot). PartsOlder W (sp + n) x n) (sym ep) (older-parts h))
 
-    module _ (ps : List Slot) (ep : ps ≡ slotsOf a b c d) (W′ : List ℕ) (o : Made) (m : MadeIs W (make k (valuesFrom W ps 0 n)) sp W′ o) where
+    module _ (ps : List Slot) (ep : ps ≡ slotsOf a b c d) (W′ : List ℕ) where
       then-is : (listIn W n l then λ vs x. sized 32 (make k vs) x) ≡ sized 32 (make k (valuesFrom W ps 0 n)) fuel
       then-is = rw (e, ep)
 
-      finish-large : o ≡ made.TooLarge → Finishes W k l n sp W′ (Halt TooLarge fuel)
-      finish-large eo = record {
+      finish-large : MadeIs W (make k (valuesFrom W ps 0 n)) sp W′ none → Finishes W k l n sp W′ (Halt TooLarge fuel)
+      finish-large m = record {
         kept = m .beneath;
         older = tt;
-        is = sym (then-is ∙ sized-none (make k (valuesFrom W ps 0 n)) fuel (sym (m .is) ∙ ap (madeIn W′) eo));
+        is = sym (then-is ∙ sized-none (make k (valuesFrom W ps 0 n)) fuel (sym (m .is)));
         next = λ p h. tt;
       }
 
-      finish-value : (v : ValueRef) → o ≡ made.Value v → Finishes W k l n sp W′ (Value v at fuel)
-      finish-value v eo = record {
+      finish-value : (v : ValueRef) → MadeIs W (make k (valuesFrom W ps 0 n)) sp W′ (some v) → Finishes W k l n sp W′ (Value v at fuel)
+      finish-value v m = record {
         kept = m .beneath;
-        older = record { held = subst (MadeHeld W′) eo (m .held); low = subst (MadePlace sp) eo (m .place) };
-        is = sym (then-is ∙ sized-some (make k (valuesFrom W ps 0 n)) (valueOf W′ v) fuel (sym (m .is) ∙ ap (madeIn W′) eo));
+        older = record { held = m .held; low = m .place };
+        is = sym (then-is ∙ sized-some (make k (valuesFrom W ps 0 n)) (valueOf W′ v) fuel (sym (m .is)));
         next = λ p h. subst (λ (x : Listed). ListNext x p) e h;
       }
 
@@ -97,27 +95,27 @@ module _ (W S : List ℕ) (c n sp dst next : ℕ) (h : PartsReady W S n sp dst n
   pub parts-ready : PartsHeld W ps n
   parts-ready = finish-held W c (listAt S sp next) n dst (refAt S sp) (refAt S (sp + 1)) (refAt S (sp + 2)) (refAt S (sp + 3)) next (fuelOf S) listed ps ep (h .older)
 
-  module _ (W′ : List ℕ) (o : Made) (m : MadeIs W (make c (valuesFrom W ps 0 n)) dst W′ o) where
-    pub made-large : (S′ : List ℕ) (r : ℕ) → o ≡ made.TooLarge → r ≡ 0 → S′ ≡ set S 275 3 → FinishStep W S c n sp dst next W′ S′ r
-    made-large S′ r eo er es = record {
+  module _ (W′ : List ℕ) (q : ℕ) (m : MadeIn W (make c (valuesFrom W ps 0 n)) dst W′ q) where
+    pub made-large : (S′ : List ℕ) (r : ℕ) → q ≡ 4294967295 → r ≡ 0 → S′ ≡ set S 275 3 → FinishStep W S c n sp dst next W′ S′ r
+    unfolding answerOf
+    made-large S′ r eq er es = record {
       stack = stop-stack sp 3 S S S′ r (er, es) (stacked-none sp S) (let l = h .room in omega arith);
       runs = subst (Finishes W c (listAt S sp next) n dst W′) (sym (stop-is sp 3 S S S′ r (er, es) (h .full) TooLarge too-large-is))
-          (finish-large W c (listAt S sp next) n dst (refAt S sp) (refAt S (sp + 1)) (refAt S (sp + 2)) (refAt S (sp + 3)) next (fuelOf S) listed ps ep W′ o m eo);
+          (finish-large W c (listAt S sp next) n dst (refAt S sp) (refAt S (sp + 1)) (refAt S (sp + 2)) (refAt S (sp + 3)) next (fuelOf S) listed ps ep W′
+          (rw (eq-eqb q 4294967295 eq) at (m .is)));
     }
 
-    module _ (v : ValueRef) (eo : o ≡ made.Value v) where
-      pub made-small : Small v
-      made-small = small-held W′ (dst + 1) v (subst (MadeHeld W′) eo (m .held)) (subst (MadePlace dst) eo (m .place)) (let l = h .low in omega arith)
-
-      pub made-value : (x : ℕ) → refIn x ≡ v → FinishStep W S c n sp dst next W′ (set S sp x) next
-      made-value x ex = record {
-        stack = put-stack sp S x (h .room) S (stacked-none sp S);
-        runs = subst (Finishes W c (listAt S sp next) n dst W′) (sym (put-out sp S x (h .room) (h .full) next (λ z. let a = h .after in omega arith) ∙ ap (λ (u : ValueRef). Value u next (fuelOf S)) ex))
-            (finish-value W c (listAt S sp next) n dst (refAt S sp) (refAt S (sp + 1)) (refAt S (sp + 2)) (refAt S (sp + 3)) next (fuelOf S) listed ps ep W′ o m v eo);
-      }
+    pub made-value : (q ≡ 4294967295 → ⊥) → FinishStep W S c n sp dst next W′ (set S sp q) next
+    unfolding answerOf
+    made-value d = record {
+      stack = put-stack sp S q (h .room) S (stacked-none sp S);
+      runs = subst (Finishes W c (listAt S sp next) n dst W′) (sym (put-out sp S q (h .room) (h .full) next (λ z. let a = h .after in omega arith)))
+          (finish-value W c (listAt S sp next) n dst (refAt S sp) (refAt S (sp + 1)) (refAt S (sp + 2)) (refAt S (sp + 3)) next (fuelOf S) listed ps ep W′ (refIn q)
+          (rw (ne-eqb q 4294967295 d) at (m .is)));
+    }
 
 -- ---- the same without parts
-module _ (W S : List ℕ) (c n sp dst next : ℕ) (h : PartsReady W S n sp dst next) (z : n ≡ 0) (W′ : List ℕ) (o : Made) (m : MadeIs W (make c []) dst W′ o) where
+module _ (W S : List ℕ) (c n sp dst next : ℕ) (h : PartsReady W S n sp dst next) (z : n ≡ 0) (W′ : List ℕ) (q : ℕ) (m : MadeIn W (make c []) dst W′ q) where
   abbrev parts : List Slot
   parts = slotsOf (refAt S sp) (refAt S (sp + 1)) (refAt S (sp + 2)) (refAt S (sp + 3))
 
@@ -125,18 +123,18 @@ module _ (W S : List ℕ) (c n sp dst next : ℕ) (h : PartsReady W S n sp dst n
   unfolding valuesFrom
   no-values = rw z
 
-  made-of-none : MadeIs W (make c (valuesFrom W parts 0 n)) dst W′ o
-  made-of-none = subst (λ (vs : List Graph). MadeIs W (make c vs) dst W′ o) (sym no-values) m
+  made-of-none : MadeIn W (make c (valuesFrom W parts 0 n)) dst W′ q
+  made-of-none = subst (λ (vs : List Graph). MadeIn W (make c vs) dst W′ q) (sym no-values) m
 
-  pub bare-large : (S′ : List ℕ) (r : ℕ) → o ≡ made.TooLarge → r ≡ 0 → S′ ≡ set S 275 3 → FinishStep W S c n sp dst next W′ S′ r
-  bare-large S′ r eo er es = made-large W S c n sp dst next h parts refl W′ o made-of-none S′ r eo er es
+  pub bare-large : (S′ : List ℕ) (r : ℕ) → q ≡ 4294967295 → r ≡ 0 → S′ ≡ set S 275 3 → FinishStep W S c n sp dst next W′ S′ r
+  bare-large S′ r eq er es = made-large W S c n sp dst next h parts refl W′ q made-of-none S′ r eq er es
 
-  module _ (v : ValueRef) (eo : o ≡ made.Value v) where
-    pub bare-small : Small v
-    bare-small = made-small W S c n sp dst next h parts refl W′ o made-of-none v eo
+  pub bare-value : (q ≡ 4294967295 → ⊥) → FinishStep W S c n sp dst next W′ (set S sp q) next
+  bare-value d = made-value W S c n sp dst next h parts refl W′ q made-of-none d
 
-    pub bare-value : (x : ℕ) → refIn x ≡ v → FinishStep W S c n sp dst next W′ (set S sp x) next
-    bare-value x ex = made-value W S c n sp dst next h parts refl W′ o made-of-none v eo x ex
+-- ---- an object that stands in block 0
+pub preset-value : (W S : List ℕ) (c n sp dst next : ℕ) → PartsReady W S n sp dst next → n ≡ 0 → c < 32 → FinishStep W S c n sp dst next W (set S sp c) next
+preset-value W S c n sp dst next h z l = bare-value W S c n sp dst next h z W c (bare-number W (h .bares) c dst l) (λ e. omega arith)
 
 -- ---- why a run stopped, and what it gives
 module _ (s : ℕ) where

@@ -4,6 +4,7 @@ pub mod StateLaws
 pub mod Given
 pub mod BodyLaws
 pub mod StackLaws
+pub mod PresetLaws
 pub mod PutLaws
 pub mod LeafLaws
 pub mod FindLaws

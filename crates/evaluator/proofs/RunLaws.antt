@@ -9,6 +9,7 @@ use lib.Seq.{getD-set-same, getD-set-other}
 use Rattle.cofj.specs.Running.{runWithin, mainFrame}
 use Rattle.classes.proofs.Zones.{main-stands}
 use Rattle.maker.specs.Laying.{valuesFrom}
+use Rattle.maker.specs.Bares.{LaidBares}
 use Rattle.evaluator.specs.declared.Out.{Out}
 use Rattle.evaluator.specs.declared.frame.Held.the-variants.{Absent}
 use Rattle.evaluator.specs.State.{HeldOlder, heldIn, frameIn, traceIn}
@@ -72,37 +73,38 @@ module _ (W S : List ℕ) (fuel : ℕ) (b : Bare S fuel) where
   unfolding traceIn
   trace-none = λ i. traceIn W S (b .top i)
 
-  pub main-runnable : 65520 ≤ length W → Runnable W S 134 0
-  main-runnable l =
+  pub main-runnable : (W0 : List ℕ) → LaidBares W0 W → 65520 ≤ length W0 → Runnable W S 390 0
+  main-runnable W0 lb l =
       let a = b .count in
       let t = b .top in
       let m = b .mark in
       let e = b .base in
       record {
+        based = record { bares = lb .bares; above = omega arith };
         placed = record { full = b .full; frame = λ h. absurd (omega arith); low = omega arith; bare = λ h. a; mark = omega arith; calls = λ i h. absurd (omega arith) };
         fits = record {
           frame = record {
-            this = subst (HeldOlder W 0) (sym no-this) tt;
-            res = subst (HeldOlder W 0) (sym no-res) tt;
+            this = subst (HeldOlder W 1) (sym no-this) tt;
+            res = subst (HeldOlder W 1) (sym no-res) tt;
             args = record { full = omega arith; part = λ i h. absurd (omega arith) };
             few = omega arith;
           };
           trace = record { call = λ i h. absurd (omega arith) };
           calls = omega arith;
           room = omega arith;
-          long = l;
+          long = omega (arith, lb .outside .same);
         };
         room = omega arith;
       }
 
-  module _ (T W′ S′ : List ℕ) (r : ℕ) (ev : EvalStep T W S 25361 134 0 W′ S′ r) where
+  module _ (T W′ S′ : List ℕ) (r : ℕ) (ev : EvalStep T W S 25361 390 0 W′ S′ r) where
     pub fuel-fits : fuel < 65536 → fuelOf S′ < 65536
     fuel-fits l = let s = ev .stack .spent in let f = b .fuel-is in omega arith
 
-    pub main-runs : (o : Out) → o ≡ outAt S′ 0 r → Runs T W fuel W′ o
+    pub main-runs : (W0 : List ℕ) → LaidBares W0 W → (o : Out) → o ≡ outAt S′ 0 r → Runs T W0 fuel W′ o
     unfolding runWithin
-    main-runs o eo = subst (Runs T W fuel W′) (sym eo) (record {
-      same = ev .runs .kept .same;
+    main-runs W0 lb o eo = subst (Runs T W0 fuel W′) (sym eo) (record {
+      same = ev .runs .kept .same ∙ lb .outside .same;
       older = ev .runs .older;
       is = λ t tb.
           ev .runs .is t (t .main) (record {

@@ -21,7 +21,7 @@ use Rattle.evaluator.specs.Stack.{fuelOf, topOf, heldThis, heldMark, hel
 use Rattle.evaluator.specs.Limits.{depthOf, blockOf, bodyLimits}
 use Rattle.evaluator.specs.Evaluation.{Fits, Evaluates}
 use Rattle.evaluator.specs.Calling.{RunsRight, RunsLeft}
-use Rattle.evaluator.specs.Steps.{Runnable, BodyRunnable, EvalStep, RightStep, LeftStep}
+use Rattle.evaluator.specs.Steps.{Based, Runnable, BodyRunnable, EvalStep, RightStep, LeftStep}
 use Rattle.evaluator.proofs.LimitLaws.{of-equal, body-nest, body-depth, body-block}
 use Rattle.evaluator.proofs.BodyLaws.{Pushed, rightFrame, leftFrame, trace-below, right-halt, right-value, left-halt, left-value}
 use Rattle.evaluator.proofs.Given.{given-older}
@@ -42,6 +42,9 @@ module _ (W S : List ℕ) (next n lim sp : ℕ) (run : BodyRunnable W S next n l
 
   pub body-top : topOf S < 16
   body-top = fits.push-room W S (topOf S) (refAt S sp) (argsAt S (sp + 1)) n (depthOf lim - 1) (blockOf lim) (run .fits)
+
+  body-based : Based W (blockOf (bodyLimits lim))
+  body-based = let z = body-block lim (run .deep) in let a = run .based .above in record { bares = run .based .bares; above = omega arith }
 
   pub body-limit : lim < 16777216
   body-limit = let r = run .fits .room in omega arith
@@ -103,6 +106,7 @@ module _ (T W S : List ℕ) (next lim sp n i x : ℕ) (run : BodyRunnable W S ne
       let c = f .calls in
       let t = right-top in
       record {
+        based = body-based W S next n lim sp run;
         placed = record {
           full = fs .same ∙ run .placed .full;
           frame = λ l. let b = fs .base in omega arith;
@@ -167,7 +171,7 @@ module _ (T W S : List ℕ) (next lim sp n i x : ℕ) (run : BodyRunnable W S ne
           out-value S2 (sp + 4) r nz
           ∙ ap (λ (q : ℕ). Value (refIn q) r (fuelOf S2)) (sym (fb .below (sp + 4) (let z = short in omega arith)))
 
-      pub right-ready : Holds W1 (refAt S3 (sp + 4)) × (240 * blockOf lim + 240 ≤ length W1)
+      pub right-ready : Holds W1 (refAt S3 (sp + 4)) × (234 * blockOf lim + 234 ≤ length W1)
       right-ready =
           let z = run .fits .room in (
             given-older T W (rightFrame (refAt S sp) (x - 1) (argsAt S (sp + 1)) n) S (topOf S) at 6 (depthOf lim - 1) (blockOf lim + 4) (fuelOf S) W1 (outAt S2 (sp + 4) r) right-evaluates (refAt S3 (sp + 4)) r (fuelOf S2) side-value .held,
@@ -240,6 +244,7 @@ module _ (T W S : List ℕ) (next lim sp m n i : ℕ) (run : BodyRunnable W S ne
             let c = f .calls in
             let t = left-top in
             record {
+              based = body-based W S next n lim sp run;
               placed = record {
                 full = fs .same ∙ cs .same ∙ run .placed .full;
                 frame = λ l. let b = fs .base in omega arith;
@@ -317,7 +322,7 @@ module _ (T W S : List ℕ) (next lim sp m n i : ℕ) (run : BodyRunnable W S ne
             out-value S2 (sp + 4) r nz
             ∙ ap (λ (q : ℕ). Value (refIn q) r (fuelOf S2)) (sym (same-back (sp + 4) (let z = low in omega arith)))
 
-        pub left-ready : Holds W1 (refAt S4 (sp + 4)) × (topOf S < 63) × (240 * blockOf lim + 240 ≤ length W1)
+        pub left-ready : Holds W1 (refAt S4 (sp + 4)) × (topOf S < 63) × (234 * blockOf lim + 234 ≤ length W1)
         left-ready =
             let z = run .fits .room in (
               given-older T W (leftFrame (refAt S sp) (argsAt S (sp + 1)) n) S1 (topOf S + 1) at 6 (depthOf lim - 1) (blockOf lim + 4) (fuelOf S) W1 (outAt S2 (sp + 4) r) left-evaluates (refAt S4 (sp + 4)) r (fuelOf S2) left-there .held,

@@ -22,15 +22,18 @@ use Rattle.evaluator.specs.declared.stack.Went.{Went}
 use Rattle.evaluator.specs.declared.stack.Went.the-variants as went
 use Rattle.evaluator.specs.declared.frame.Frame.{Frame}
 use Rattle.evaluator.specs.State.{Older, refAt, argsAt, FrameHolds, CallOlder, TraceHolds, frameIn, traceIn}
+use Rattle.evaluator.specs.Preset.{isPreset}
 use Rattle.evaluator.specs.Limits.{nestOf, depthOf, blockOf, pastOf}
 use Rattle.evaluator.specs.Answers.{Listed, Values, frontOf}
 use Rattle.evaluator.specs.Stack.{fuelOf, topOf, noArgs, heldArgs, frameAt, Framed, heldOf, nextOf, wentOf, Placed, Stacked, stopAt, outAt, listAt, Answered}
 use Rattle.evaluator.specs.Evaluation.{evalIn, evalsIn, Fits, ListFits, Evaluates, Fields, Lists, News}
 use Rattle.evaluator.specs.Calling.{Calls}
-use Rattle.evaluator.specs.Steps.{Runnable, PartRunnable, ListRunnable, PartsReady, EvalStep, FieldStep, ListStep, FinishStep, NewStep, CallStep}
+use Rattle.evaluator.specs.Steps.{Based, Runnable, PartRunnable, ListRunnable, PartsReady, EvalStep, FieldStep, ListStep, FinishStep, NewStep, CallStep}
+use Rattle.evaluator.proofs.Keeping.{based-kept}
 use Rattle.evaluator.proofs.LimitLaws.{of-equal, inner-nest, inner-less, inner-depth, inner-block, After, past-after}
 use Rattle.evaluator.proofs.Given.{given-older}
-use Rattle.evaluator.proofs.LeafLaws.{finish-halt}
+use Rattle.evaluator.proofs.LeafLaws.{finish-halt, preset-value}
+use Rattle.evaluator.proofs.PresetLaws.{Told, told}
 use Rattle.evaluator.proofs.EvalLaws.{eval-zero, eval-nothing, eval-this, eval-res, eval-param, eval-at-field, eval-at-call, eval-at-new}
 use Rattle.evaluator.proofs.ListLaws.{field-halt, field-none, field-some, list-zero, list-halt, list-more, new-other, new-many, new-is}
 use Rattle.evaluator.proofs.FitLaws as fits
@@ -146,6 +149,7 @@ module _ (W S : List ℕ) (lim sp : ℕ) (run : Runnable W S lim sp) where
 
   pub run-part : (lim % 8 ≡ 0 → ⊥) → PartRunnable W S (lim - 1) sp
   run-part nz = record {
+    based = subst (Based W) (sym (inner-block lim nz)) (run .based);
     placed = run .placed;
     fits = of-equal (λ n d b. Fits W (frameAt S) S (topOf S) n d b) (sym (inner-nest lim nz)) (sym (inner-depth lim nz)) (sym (inner-block lim nz)) (run .fits);
     room = let r = run .room in omega (arith, inner-nest lim nz, inner-depth lim nz);
@@ -165,10 +169,11 @@ module _ (W S : List ℕ) (lim sp : ℕ) (run : PartRunnable W S lim sp) where
   part-low = let r = run .room in omega arith
 
   pub run-inner : Runnable W S lim sp
-  run-inner = record { placed = run .placed; fits = fits.fit-inner W (frameAt S) S (topOf S) (nestOf lim) (depthOf lim) (blockOf lim) (run .fits); room = let r = run .room in omega arith }
+  run-inner = record { based = run .based; placed = run .placed; fits = fits.fit-inner W (frameAt S) S (topOf S) (nestOf lim) (depthOf lim) (blockOf lim) (run .fits); room = let r = run .room in omega arith }
 
   pub run-list : (at n : ℕ) → n ≤ 4 → 0 < at → ListRunnable W S at lim sp n
   run-list at n l p = record {
+    based = run .based;
     placed = run .placed;
     fits = fits.fit-list W (frameAt S) S (topOf S) (nestOf lim) (depthOf lim) (blockOf lim) n (run .fits) l;
     room = let r = run .room in omega arith;
@@ -178,6 +183,7 @@ module _ (W S : List ℕ) (lim sp : ℕ) (run : PartRunnable W S lim sp) where
 module _ (W S : List ℕ) (at lim sp n : ℕ) (run : ListRunnable W S at lim sp n) where
   pub list-run : (n ≡ 0 → ⊥) → Runnable W S lim sp
   list-run nz = record {
+    based = run .based;
     placed = run .placed;
     fits = fits.list-fit W (frameAt S) S (topOf S) (nestOf lim) (depthOf lim) (blockOf lim) n (run .fits) nz;
     room = let r = run .room in omega (arith, nz);
@@ -345,6 +351,7 @@ module _ (T W S : List ℕ) (at lim sp n : ℕ) (run : ListRunnable W S at lim s
 
     pub list-later : ListRunnable W1 S1 at1 l (sp + 1) (n - 1)
     list-later = record {
+      based = based-kept W W1 (blockOf lim) (blockOf l) (ev .runs .kept) (later .from) (run .based);
       placed = placed-after sp S S1 (run .placed) (ev .stack) (sp + 1) (omega arith);
       fits = of-equal (λ a d b. ListFits W1 (frameAt S1) S1 (topOf S1) a d b (n - 1)) (sym (later .nest)) (sym (later .depth)) refl
           (list-fits-on sp S S1 (run .placed) (ev .stack) W1 (nestOf lim) (depthOf lim) (blockOf l) (n - 1)
@@ -450,6 +457,7 @@ module _ (T W S : List ℕ) (at lim sp c n x : ℕ) (run : PartRunnable W S lim 
           let r = run .room in
           let b = run .fits .room in
           record {
+            bares = based-kept W W1 (blockOf lim) (blockOf lim) (li .runs .kept) (omega arith) (run .based) .bares;
             full = li .stack .same ∙ run .placed .full;
             older = li .runs .older;
             few = l;
@@ -464,3 +472,28 @@ module _ (T W S : List ℕ) (at lim sp c n x : ℕ) (run : PartRunnable W S lim 
         stack = stacked-then sp sp S S1 S2 (omega arith) (li .stack) (fi .stack);
         runs = new-is T W (frameAt S) S (topOf S) at (nestOf lim) (depthOf lim) (blockOf lim) (fuelOf S) c n x ex h W1 (listAt S1 sp at1) W2 (outAt S2 sp r) (li .runs) (fi .runs);
       }
+
+-- ---- a new object that stands in block 0
+module _ (T W S : List ℕ) (at lim sp : ℕ) (run : Runnable W S lim sp) (nz : lim % 8 ≡ 0 → ⊥) (s : Shape) (es : s ≡ shapeAt T at) (c n next : ℕ) (z : s ≡ shape.New c n next)
+    (b : Bool) (eb : b ≡ isPreset T c n) (is : b ≡ true) where
+  preset-told : Told T c n
+  preset-told = told T c n (sym eb ∙ is)
+
+  part : PartRunnable W S (lim - 1) sp
+  part = run-part W S lim sp run nz
+
+  forth : 0 < next
+  forth = next-new T at s es c n next z
+
+  few : n ≤ 4
+  few = let e = preset-told .none in omega arith
+
+  pub step-preset : EvalStep T W S at lim sp W (set S sp c) next
+  step-preset =
+      let li = list-done T W S next (lim - 1) sp n (run-list W S (lim - 1) sp part next n few forth) (preset-told .none) in
+      let h = preset-told .total ∙ sym (preset-told .none) in
+      let x = getD T (16 * c + 1) 0 in
+      let ready = parts-ready T W S next (lim - 1) sp c n x part refl h W S next li (λ e. let f = forth in omega arith) few in
+      step-new T W S at lim sp run s es nz next W (set S sp c) next c n z
+      (new-made T W S next (lim - 1) sp c n x part refl h W S next li W (set S sp c) next
+      (preset-value W S c n sp (blockOf (lim - 1)) next ready (preset-told .none) (preset-told .low)))

@@ -63,7 +63,7 @@ pub record CallFits (W tr : List ℕ) (top : ℕ) (v : ValueRef) (ps : List Slot
   pub args : PartsOlder W (sp + 4) ps n
   pub few : n ≤ 3
   pub calls : top + d ≤ 16
-  pub room : sp + 16 * d + 6 ≤ 274
+  pub room : sp + 16 * d + 6 ≤ 275
   pub long : 65520 ≤ length W
 
 -- method i, which has the name m, called on v with the n arguments; `next` is the place after the call
@@ -80,7 +80,7 @@ pub record BodyFits (W tr : List ℕ) (top : ℕ) (v : ValueRef) (ps : List Slot
   pub args : PartsOlder W (sp + 4) ps n
   pub few : n ≤ 3
   pub calls : top + d + 1 ≤ 16
-  pub room : sp + 16 * d + 22 ≤ 274
+  pub room : sp + 16 * d + 22 ≤ 275
   pub long : 65520 ≤ length W
 
 -- the right side, with res the mark x

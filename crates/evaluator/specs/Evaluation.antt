@@ -47,13 +47,13 @@ abbrev pub evalsIn : ℕ → Table → language.Frame → List language.OpenCall
 evalsIn d t f os es n = language.evals 32 t (deeper d t) f os es n
 
 -- What evaluation asks: the frame and the trace stand for values below block sp, and there is room above. Up to 3 parts are pending a level
--- while the next is evaluated, and 4 when a body is run, from the last level but one: 16 blocks a call. 274 is what main needs, and so no
--- block from 273 on is touched.
+-- while the next is evaluated, and 4 when a body is run, from the last level but one: 16 blocks a call. 275 is what main needs, which begins at block 1, and so no
+-- block from 274 on is touched.
 pub record Fits (W : List ℕ) (f : Frame) (tr : List ℕ) (top left d sp : ℕ) : Type 0 where
   pub frame : FrameHolds W sp f
   pub trace : TraceHolds W sp tr top
   pub calls : top + d ≤ 16
-  pub room : sp + 16 * d + 3 * left ≤ 274
+  pub room : sp + 16 * d + 3 * left ≤ 275
   pub long : 65520 ≤ length W
 
 -- n expressions from block sp on
@@ -62,7 +62,7 @@ pub record ListFits (W : List ℕ) (f : Frame) (tr : List ℕ) (top left d sp n 
   pub trace : TraceHolds W sp tr top
   pub calls : top + d ≤ 16
   pub few : n ≤ 4
-  pub room : sp + n + 16 * d + 3 * left ≤ 275
+  pub room : sp + n + 16 * d + 3 * left ≤ 276
   pub long : 65520 ≤ length W
 
 -- the expression at `at`, evaluated at block sp

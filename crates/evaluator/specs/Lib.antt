@@ -4,5 +4,6 @@ pub mod Stack
 pub mod Limits
 pub mod Evaluation
 pub mod Calling
+pub mod Preset
 pub mod Steps
 pub mod Main

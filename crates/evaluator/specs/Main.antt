@@ -11,8 +11,8 @@ use Rattle.evaluator.specs.declared.Out.{Out}
 use Rattle.evaluator.specs.Answers.{outIn, OutOlder}
 use Rattle.evaluator.specs.Evaluation.{Tabled}
 
--- the outcome of main, with the work bytes W′ after; its value, if it has one, lies in block 0
+-- the outcome of main, with the work bytes W′ after; its value, if it has one, lies in block 0 or 1
 pub record Runs (T W : List ℕ) (fuel : ℕ) (W′ : List ℕ) (o : Out) : Type 0 where
   pub same : length W′ ≡ length W
-  pub older : OutOlder W′ 1 o
+  pub older : OutOlder W′ 2 o
   pub is : (t : Table) → Tabled T t → outIn W′ o ≡ language.runWithin standard t fuel

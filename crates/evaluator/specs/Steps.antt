@@ -5,6 +5,7 @@ use Prim.Native.Nat.{ℕ, _+_, _-_, _*_, _≤_, _<_}
 use mathlib.Core.Path.{_≡_}
 use mathlib.Core.List.{List}
 use lib.ListN.{length}
+use Rattle.maker.specs.Bares.{Bares}
 use Rattle.evaluator.specs.State.{refAt, argsAt}
 use Rattle.evaluator.specs.Answers.{Finishes, ListOlder}
 use Rattle.evaluator.specs.Limits.{nestOf, depthOf, blockOf}
@@ -13,33 +14,43 @@ use Rattle.evaluator.specs.Evaluation.{Fits, ListFits, Evaluates, Fields
 use Rattle.evaluator.specs.Calling.{Calls, CallFits, Invokes, BodyFits, RunsRight, RunsLeft}
 
 -- ---- what is asked
+-- block 0 has the objects without fields, and lies below block b
+pub record Based (W : List ℕ) (b : ℕ) : Type 0 where
+  pub bares : Bares W
+  pub above : 0 < b
+
 pub record Runnable (W S : List ℕ) (lim sp : ℕ) : Type 0 where
+  pub based : Based W (blockOf lim)
   pub placed : Placed S sp
   pub fits : Fits W (frameAt S) S (topOf S) (nestOf lim) (depthOf lim) (blockOf lim)
   pub room : sp + 16 * depthOf lim + 3 * nestOf lim ≤ 274
 
 -- one level in, where the nesting left is `nestOf lim`
 pub record PartRunnable (W S : List ℕ) (lim sp : ℕ) : Type 0 where
+  pub based : Based W (blockOf lim)
   pub placed : Placed S sp
   pub fits : Fits W (frameAt S) S (topOf S) (nestOf lim + 1) (depthOf lim) (blockOf lim)
   pub room : sp + 16 * depthOf lim + 3 * nestOf lim + 3 ≤ 274
 
 pub record ListRunnable (W S : List ℕ) (at lim sp n : ℕ) : Type 0 where
+  pub based : Based W (blockOf lim)
   pub placed : Placed S sp
   pub fits : ListFits W (frameAt S) S (topOf S) (nestOf lim) (depthOf lim) (blockOf lim) n
   pub room : sp + n + 16 * depthOf lim + 3 * nestOf lim ≤ 275
   pub start : 0 < at
 
 pub record PartsReady (W S : List ℕ) (n sp dst next : ℕ) : Type 0 where
+  pub bares : Bares W
   pub full : length S ≡ 336
   pub older : ListOlder W (dst + n) n (listAt S sp next)
   pub few : n ≤ 4
   pub room : sp < 274
-  pub low : dst < 274
-  pub long : 240 * dst + 240 ≤ length W
+  pub low : dst < 275
+  pub long : 234 * dst + 234 ≤ length W
   pub after : 0 < next
 
 pub record CallRunnable (W S : List ℕ) (next n lim sp : ℕ) : Type 0 where
+  pub based : Based W (blockOf lim)
   pub placed : Placed S sp
   pub fits : CallFits W S (topOf S) (refAt S sp) (argsAt S (sp + 1)) n (depthOf lim) (blockOf lim)
   pub room : sp + 16 * depthOf lim + 6 ≤ 274
@@ -47,6 +58,7 @@ pub record CallRunnable (W S : List ℕ) (next n lim sp : ℕ) : Type 0 where
 
 -- a call is opened
 pub record BodyRunnable (W S : List ℕ) (next n lim sp : ℕ) : Type 0 where
+  pub based : Based W (blockOf lim)
   pub placed : Placed S sp
   pub fits : BodyFits W S (topOf S) (refAt S sp) (argsAt S (sp + 1)) n (depthOf lim - 1) (blockOf lim)
   pub room : sp + 16 * depthOf lim + 6 ≤ 274

@@ -14,11 +14,9 @@ use checker::shape::Shape;
 use checker::shape::shape_at;
 use classes::chain::field_total;
 use classes::places::SIZE;
-use maker::Made;
 use maker::make::make;
 use maker::over::make_bare;
 use values::refs::NOTHING;
-use values::refs::pack;
 use values::refs::select_in;
 ghost use mathlib.Core.Path.{_≡_};
 ghost use Prim.Native.Nat.{ℕ, _+_, _*_, _<_, _≤_};
@@ -26,6 +24,7 @@ ghost use lib.ListN.{length};
 ghost use Rattle.maker.specs.Laying.{partsOf};
 ghost use Rattle.evaluator.specs.Answers.{slotsOf};
 ghost use Rattle.evaluator.specs.Limits.{pastOf};
+ghost use Rattle.evaluator.specs.Preset.{isPreset};
 ghost use Rattle.evaluator.specs.State.{refAt};
 ghost use Rattle.evaluator.specs.Steps.{Runnable, PartRunnable, ListRunnable, PartsReady, EvalStep, FieldStep, ListStep, NewStep, FinishStep};
 
@@ -76,6 +75,50 @@ pub fn eval_part(
         Shape::This { next: _ } => leaf(t, st, at, sp),
         Shape::Result { next: _ } => leaf(t, st, at, sp),
         Shape::Parameter { k: _, next: _ } => leaf(t, st, at, sp),
+        _ => eval(t, work, st, at, lim, sp),
+    }
+}
+
+// Whether a new object of class c with n values stands in block 0 from the start.
+pub fn is_preset(t: &[u8; SIZE], c: u8, n: u8) -> bool
+    ensures { λ r. ⌜ r ≡ isPreset (now (t .entry)) c n ⌝ }
+{
+    if n != 0 {
+        return false;
+    }
+    if 32 <= c {
+        return false;
+    }
+    field_total(t, c) == 0
+}
+
+// The same for an item of a list. Many are variables, or objects that stand in block 0.
+pub fn eval_item(
+    t: &[u8; SIZE],
+    work: &mut [u8],
+    st: &mut [u32; STACK],
+    at: usize,
+    lim: usize,
+    sp: usize,
+) -> usize
+    requires { ⌜ Runnable (now work) (now st) lim sp ⌝ }
+    ensures { λ r. ⌜ EvalStep (now (t .entry)) (now (work .entry)) (now (st .entry)) at lim sp (now (work .exit)) (now (st .exit)) r ⌝ }
+{
+    if lim % 8 == 0 {
+        return stop(st, STUCK);
+    }
+    let s = shape_at(t, at);
+    match s {
+        Shape::This { next: _ } => leaf(t, st, at, sp),
+        Shape::Result { next: _ } => leaf(t, st, at, sp),
+        Shape::Parameter { k: _, next: _ } => leaf(t, st, at, sp),
+        Shape::New { c, n, next } => {
+            if is_preset(t, c, n) {
+                st[sp] = c as u32;
+                return next;
+            }
+            eval(t, work, st, at, lim, sp)
+        }
         _ => eval(t, work, st, at, lim, sp),
     }
 }
@@ -135,7 +178,7 @@ pub fn eval_list(
     let mut q = sp;
     let mut left = n;
     while 0 < left {
-        let r1 = eval_part(t, work, st, p, l, q);
+        let r1 = eval_item(t, work, st, p, l, q);
         let w1 = went_of(r1);
         let Went::On(at1) = w1 else {
             return 0;
@@ -170,19 +213,23 @@ pub fn finish(
     ensures { λ r. ⌜ FinishStep (now (work .entry)) (now (st .entry)) c n sp dst next (now (work .exit)) (now (st .exit)) r ⌝ }
 {
     if n == 0 {
-        let q = make_bare(work, c, dst);
-        let Made::Value(u) = q else {
+        if c < 32 {
+            st[sp] = c as u32;
+            return next;
+        }
+        let b = make_bare(work, c, dst);
+        if b == NOTHING {
             return stop(st, TOO_LARGE);
-        };
-        st[sp] = pack(u);
+        }
+        st[sp] = b;
         return next;
     }
     let ps = parts_at(st, sp);
-    let o = make(work, c, &ps, n, dst);
-    let Made::Value(v) = o else {
+    let q = make(work, c, &ps, n, dst);
+    if q == NOTHING {
         return stop(st, TOO_LARGE);
-    };
-    st[sp] = pack(v);
+    }
+    st[sp] = q;
     next
 }
 

@@ -15,7 +15,7 @@ pub fn find(t: &[u8; SIZE], work: &[u8], v: ValueRef, m: u8, n: u8) -> Found
     let ValueRef::Object(b, i) = v else {
         return Found::Nothing;
     };
-    let c = work[240 * (b as usize) + 6 * (i as usize)];
+    let c = work[234 * (b as usize) + 6 * (i as usize)];
     if CLASSES < c {
         return Found::Nothing;
     }

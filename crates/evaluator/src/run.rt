@@ -1,4 +1,4 @@
-// Running main: no variables, no open calls, the first block.
+// Running main: no variables, no open calls, the first block after the one with the objects without fields.
 // Not here: the report of its outcome.
 use crate::Out;
 use crate::Stop;
@@ -9,6 +9,7 @@ use crate::stack::STACK;
 use crate::stack::STOP;
 use classes::places::MAIN;
 use classes::places::SIZE;
+use maker::bares::lay_bares;
 use values::refs::unpack;
 ghost use mathlib.Core.Path.{_≡_};
 ghost use Prim.Native.Nat.{ℕ, _<_, _≤_};
@@ -48,14 +49,15 @@ pub fn out_of(st: &[u32; STACK], r: usize) -> Out
     }
 }
 
-// nested 6 deep, 16 calls, block 0
-pub const LIMITS: usize = 134;
+// nested 6 deep, 16 calls, block 1
+pub const LIMITS: usize = 390;
 
-// The outcome of main with this fuel. The work buffer has room for 273 blocks.
+// The outcome of main with this fuel. The work buffer has room for 274 blocks, the first of them with the objects without fields.
 pub fn run(t: &[u8; SIZE], work: &mut [u8], fuel: u16) -> Out
     requires { ⌜ 65520 ≤ length (now work) ⌝ }
     ensures { λ o. ⌜ Runs (now (t .entry)) (now (work .entry)) fuel (now (work .exit)) o ⌝ }
 {
+    lay_bares(work);
     let mut st = [0u32; STACK];
     st[FUEL] = fuel as u32;
     st[BASE] = 274;

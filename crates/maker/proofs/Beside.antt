@@ -9,11 +9,10 @@ use mathlib.Core.Option.{some, Option·none-ne-some}
 use lib.ListN.{length, getD, set, take, getElem?, length-map, length-set, length-take}
 use lib.Seq.{getD-set-same, getD-set-other, getD-take, ext-getD, length-take-le}
 use lib.Dec.{eqb}
-use borrow.Author.Tests.{le-leb, eqb-true, eq-eqb, ne-eqb}
+use borrow.Author.Tests.{eqb-true, eq-eqb, ne-eqb}
 use Rattle.cofj.specs.Values.{Ref, obj, mark, undet, Node, node, Graph, graph, nodeAt, refsAt, canon, make, eqNode, eqNats}
 use Rattle.cofj.specs.Unfolding.{InRange, follow}
 use Rattle.cofj.proofs.Basics.{getD-map-lt, eqNode-true, eqNode-refl}
-use Rattle.cofj.proofs.Canon.{canon-length}
 use Rattle.canon.specs.Layout.{refOf, nodeIn, nodesIn, Packed, part, Distinct, Block, Inside, objectsIn, graphAt, countIn, levelIn, Outside}
 use Rattle.canon.specs.Tables.{Carried}
 use Rattle.canon.specs.Numbers.{Levels}
@@ -28,13 +27,13 @@ use Rattle.values.specs.Operations.{Gives, Copied}
 use Rattle.values.proofs.Tests.{not-true, not-false, any-there, any-not, any-more}
 use Rattle.values.proofs.Trees.{in-larger, leaf-same}
 use Rattle.values.proofs.Blocks.{held-inside, size-in}
-use Rattle.values.proofs.Selecting.{under}
+use Rattle.values.proofs.Copies.{block-held}
+use Rattle.values.proofs.Selecting.{unchanged, under}
 use Rattle.values.proofs.RefLaws.{object-in, undetermined-in, mark-in}
 use Rattle.maker.specs.declared.Slot.{Slot}
-use Rattle.maker.specs.declared.Made.the-variants.{Value}
-use Rattle.maker.specs.Laying.{partsOf, valuesFrom, rawsFrom, PartsHeld, MadeIs}
+use Rattle.maker.specs.Laying.{partsOf, valuesFrom, rawsFrom, PartsHeld, MadeIn}
 use Rattle.maker.specs.Adding.{roots, RootObject, Missed, Found, Emptied, Appended, Added, isObject, blockOf, standsIn, partOf, allStand, someObject, firstBlock}
-use Rattle.maker.proofs.Lays.{fresh, fresh-class, fresh-count, fresh-spare, none-slot, part-in, raws-whole, made-raw}
+use Rattle.maker.proofs.Lays.{fresh, fresh-class, fresh-count, fresh-spare, none-slot, part-in, raws-whole, made-raw, number-held, number-here, number-brought}
 use Rattle.maker.proofs.Adding.{more, inner-more, distinct-more, Fit, AllFit, roots-low, top, make-found, make-new}
 
 -- ---- the new object
@@ -112,16 +111,16 @@ pub missed-none : (W : List ℕ) (b : ℕ) (T : List ℕ) → Missed W b T 0
 missed-none W b T = record { none = λ j h. absurd (omega arith) }
 
 module _ (W : List ℕ) (b t : ℕ) (T : List ℕ) (k : ℕ) (bk : Block W b) (et : t ≡ countIn W b) (pk : Packed T 0) (long : 6 ≤ length T) (m : Missed W b T k) where
-  module _ (h : k < t) (r : Bool) (er : r ≡ eqNats (part W (240 * b + 6 * k) 6) (part T 0 6)) where
-    test : eqNode (nodeIn W (240 * b + 6 * k)) (nodeIn T 0) ≡ r
-    test = eq-node W T (240 * b + 6 * k) 0 (omega (arith, bk .room, bk .small)) long (bk .packed k (omega arith)) pk ∙ sym er
+  module _ (h : k < t) (r : Bool) (er : r ≡ eqNats (part W (234 * b + 6 * k) 6) (part T 0 6)) where
+    test : eqNode (nodeIn W (234 * b + 6 * k)) (nodeIn T 0) ≡ r
+    test = eq-node W T (234 * b + 6 * k) 0 (omega (arith, bk .room, bk .small)) long (bk .packed k (omega arith)) pk ∙ sym er
 
     pub missed-more : r ≡ false → Missed W b T (k + 1)
     missed-more f = record { none = λ j l. go j l (ℕ-discrete j k) }
       where
-        go : (j : ℕ) → j < k + 1 → Dec (j ≡ k) → nodeIn W (240 * b + 6 * j) ≡ nodeIn T 0 → ⊥
+        go : (j : ℕ) → j < k + 1 → Dec (j ≡ k) → nodeIn W (234 * b + 6 * j) ≡ nodeIn T 0 → ⊥
         go j l (yes z) e =
-            false≢true (sym f ∙ sym test ∙ ap (λ (x : Node). eqNode x (nodeIn T 0)) (ap (λ (i : ℕ). nodeIn W (240 * b + 6 * i)) (sym z) ∙ e) ∙ eqNode-refl (nodeIn T 0))
+            false≢true (sym f ∙ sym test ∙ ap (λ (x : Node). eqNode x (nodeIn T 0)) (ap (λ (i : ℕ). nodeIn W (234 * b + 6 * i)) (sym z) ∙ e) ∙ eqNode-refl (nodeIn T 0))
         go j l (no z) e = m .none j (omega (arith, z)) e
 
     pub find-hit : r ≡ true → Found W b t T k
@@ -203,11 +202,11 @@ module _ (ps : List Slot) where
   first-end n i a h l = let e : i ≡ n = omega arith in sym (rw e at a)
 
   -- it holds objects
-  block-held : (W : List ℕ) (v : ValueRef) → Holds W v → (blockOf v ≡ 0 → ⊥) → Block W (blockOf v)
+  own-block : (W : List ℕ) (v : ValueRef) → Holds W v → (blockOf v ≡ 0 → ⊥) → Block W (blockOf v)
   unfolding blockOf
-  block-held W (Object b i) h d = h .held .block
-  block-held W (Mark k) h d = absurd (d refl)
-  block-held W Undetermined h d = absurd (d refl)
+  own-block W (Object b i) h d = h .held .block
+  own-block W (Mark k) h d = absurd (d refl)
+  own-block W Undetermined h d = absurd (d refl)
 
   module _ (W : List ℕ) (n : ℕ) (held : PartsHeld W ps n) where
     first-at : (i : ℕ) → i ≤ n → (firstBlock ps i ≡ 0 → ⊥) → Block W (firstBlock ps i)
@@ -215,7 +214,7 @@ module _ (ps : List Slot) where
     first-at (suc i) l d = go (first-at i (omega arith)) (ℕ-discrete (firstBlock ps i) 0)
       where
         go : ((firstBlock ps i ≡ 0 → ⊥) → Block W (firstBlock ps i)) → Dec (firstBlock ps i ≡ 0) → Block W (firstBlock ps (suc i))
-        go ih (yes e) = subst (Block W) (sym (first-next i e)) (block-held W (partOf ps i) (held .part i (omega arith)) (λ z. d (first-next i e ∙ z)))
+        go ih (yes e) = subst (Block W) (sym (first-next i e)) (own-block W (partOf ps i) (held .part i (omega arith)) (λ z. d (first-next i e ∙ z)))
         go ih (no q) = subst (Block W) (sym (first-stays i q)) (ih q)
 
     pub first-block : (b : ℕ) → b ≡ firstBlock ps n → (b ≡ 0 → ⊥) → Block W b
@@ -290,35 +289,35 @@ all-fit W ns (suc n) [] h = tt
 all-fit W ns (suc n) (s ∷ ps) h = (h 0 (omega arith), all-fit W ns n ps (λ i l. h (suc i) (omega arith)))
 
 -- ---- a block emptied
-pub empty-done : (W : List ℕ) (dst : ℕ) → 240 * dst + 240 ≤ length W → Emptied W dst (set (set W (240 * dst + 192) 0) (240 * dst + 193) 0)
+pub empty-done : (W : List ℕ) (dst : ℕ) → 234 * dst + 234 ≤ length W → Emptied W dst (set (set W (234 * dst + 192) 0) (234 * dst + 193) 0)
 unfolding countIn levelIn
 empty-done W dst room =
-    let byte : (p : ℕ) → ((p ≡ 240 * dst + 192) → ⊥) → ((p ≡ 240 * dst + 193) → ⊥) → getD (set (set W (240 * dst + 192) 0) (240 * dst + 193) 0) p 0 ≡ getD W p 0 = λ p x y.
-    getD-set-other (set W (240 * dst + 192) 0) (240 * dst + 193) p 0 0 y ∙ getD-set-other W (240 * dst + 192) p 0 0 x in
+    let byte : (p : ℕ) → ((p ≡ 234 * dst + 192) → ⊥) → ((p ≡ 234 * dst + 193) → ⊥) → getD (set (set W (234 * dst + 192) 0) (234 * dst + 193) 0) p 0 ≡ getD W p 0 = λ p x y.
+    getD-set-other (set W (234 * dst + 192) 0) (234 * dst + 193) p 0 0 y ∙ getD-set-other W (234 * dst + 192) p 0 0 x in
     record {
-      count = getD-set-other (set W (240 * dst + 192) 0) (240 * dst + 193) (240 * dst + 192) 0 0 (λ z. omega arith) ∙ getD-set-same W (240 * dst + 192) 0 0 (omega arith);
-      level = getD-set-same (set W (240 * dst + 192) 0) (240 * dst + 193) 0 0 (omega (arith, length-set W (240 * dst + 192) 0));
+      count = getD-set-other (set W (234 * dst + 192) 0) (234 * dst + 193) (234 * dst + 192) 0 0 (λ z. omega arith) ∙ getD-set-same W (234 * dst + 192) 0 0 (omega arith);
+      level = getD-set-same (set W (234 * dst + 192) 0) (234 * dst + 193) 0 0 (omega (arith, length-set W (234 * dst + 192) 0));
       outside = record {
-        same = length-set (set W (240 * dst + 192) 0) (240 * dst + 193) 0 ∙ length-set W (240 * dst + 192) 0;
+        same = length-set (set W (234 * dst + 192) 0) (234 * dst + 193) 0 ∙ length-set W (234 * dst + 192) 0;
         below = λ p m. byte p (λ z. omega arith) (λ z. omega arith);
         above = λ p m. byte p (λ z. omega arith) (λ z. omega arith);
       };
     }
 
 -- ---- the object written after the others
-module _ (W : List ℕ) (dst t : ℕ) (T : List ℕ) (D : List ℕ) (a : Carried T 0 W (240 * dst + 6 * t) 6 D) (few : t ≤ 31) (room : 240 * dst + 240 ≤ length W) where
-  pub append-done : (l : ℕ) → Appended W dst t T l (set (set D (240 * dst + 192) (t + 1)) (240 * dst + 193) l)
+module _ (W : List ℕ) (dst t : ℕ) (T : List ℕ) (D : List ℕ) (a : Carried T 0 W (234 * dst + 6 * t) 6 D) (few : t ≤ 31) (room : 234 * dst + 234 ≤ length W) where
+  pub append-done : (l : ℕ) → Appended W dst t T l (set (set D (234 * dst + 192) (t + 1)) (234 * dst + 193) l)
   unfolding countIn levelIn
   append-done l =
-      let byte : (p : ℕ) → ((p ≡ 240 * dst + 192) → ⊥) → ((p ≡ 240 * dst + 193) → ⊥) → getD (set (set D (240 * dst + 192) (t + 1)) (240 * dst + 193) l) p 0 ≡ getD D p 0 = λ p x y.
-      getD-set-other (set D (240 * dst + 192) (t + 1)) (240 * dst + 193) p l 0 y ∙ getD-set-other D (240 * dst + 192) p (t + 1) 0 x in
+      let byte : (p : ℕ) → ((p ≡ 234 * dst + 192) → ⊥) → ((p ≡ 234 * dst + 193) → ⊥) → getD (set (set D (234 * dst + 192) (t + 1)) (234 * dst + 193) l) p 0 ≡ getD D p 0 = λ p x y.
+      getD-set-other (set D (234 * dst + 192) (t + 1)) (234 * dst + 193) p l 0 y ∙ getD-set-other D (234 * dst + 192) p (t + 1) 0 x in
       record {
-        count = getD-set-other (set D (240 * dst + 192) (t + 1)) (240 * dst + 193) (240 * dst + 192) l 0 (λ z. omega arith) ∙ getD-set-same D (240 * dst + 192) (t + 1) 0 (omega (arith, a .same));
-        level = getD-set-same (set D (240 * dst + 192) (t + 1)) (240 * dst + 193) l 0 (omega (arith, a .same, length-set D (240 * dst + 192) (t + 1)));
-        old = λ q m. byte (240 * dst + q) (λ z. omega arith) (λ z. omega arith) ∙ a .below (240 * dst + q) (omega arith);
-        top = λ j m. byte (240 * dst + 6 * t + j) (λ z. omega arith) (λ z. omega arith) ∙ a .here j m ∙ ap (λ (x : ℕ). getD T x 0) (let z : 0 + j ≡ j = omega arith in z);
+        count = getD-set-other (set D (234 * dst + 192) (t + 1)) (234 * dst + 193) (234 * dst + 192) l 0 (λ z. omega arith) ∙ getD-set-same D (234 * dst + 192) (t + 1) 0 (omega (arith, a .same));
+        level = getD-set-same (set D (234 * dst + 192) (t + 1)) (234 * dst + 193) l 0 (omega (arith, a .same, length-set D (234 * dst + 192) (t + 1)));
+        old = λ q m. byte (234 * dst + q) (λ z. omega arith) (λ z. omega arith) ∙ a .below (234 * dst + q) (omega arith);
+        top = λ j m. byte (234 * dst + 6 * t + j) (λ z. omega arith) (λ z. omega arith) ∙ a .here j m ∙ ap (λ (x : ℕ). getD T x 0) (let z : 0 + j ≡ j = omega arith in z);
         outside = record {
-          same = length-set (set D (240 * dst + 192) (t + 1)) (240 * dst + 193) l ∙ length-set D (240 * dst + 192) (t + 1) ∙ a .same;
+          same = length-set (set D (234 * dst + 192) (t + 1)) (234 * dst + 193) l ∙ length-set D (234 * dst + 192) (t + 1) ∙ a .same;
           below = λ p m. byte p (λ z. omega arith) (λ z. omega arith) ∙ a .below p (omega arith);
           above = λ p m. byte p (λ z. omega arith) (λ z. omega arith) ∙ a .above p (omega arith);
         };
@@ -328,16 +327,16 @@ pub outside-more : (b : ℕ) (W W1 W2 : List ℕ) → Outside b W W1 → Outside
 outside-more b W W1 W2 x y = record { same = y .same ∙ x .same; below = λ p h. y .below p h ∙ x .below p h; above = λ p h. y .above p h ∙ x .above p h }
 
 -- ---- added
-module _ (W : List ℕ) (b : ℕ) (T : List ℕ) (dst t l : ℕ) (bk : Block W b) (et : t ≡ getD W (240 * b + 192) 0) (lv : Levels T 0 6 l) (le : getD W (240 * b + 193) 0 ≤ l) where
-  add-level : (D : List ℕ) → countIn D dst ≡ t + 1 → levelIn D dst ≡ l → ((q : ℕ) → q < 6 * t → getD D (240 * dst + q) 0 ≡ getD W (240 * b + q) 0)
-      → ((k : ℕ) → k < 6 → getD D (240 * dst + 6 * t + k) 0 ≡ getD T k 0) → (q : ℕ) → q < 6 * (t + 1) → getD D (240 * dst + q) 0 < 193 + levelIn D dst
+module _ (W : List ℕ) (b : ℕ) (T : List ℕ) (dst t l : ℕ) (bk : Block W b) (et : t ≡ getD W (234 * b + 192) 0) (lv : Levels T 0 6 l) (le : getD W (234 * b + 193) 0 ≤ l) where
+  add-level : (D : List ℕ) → countIn D dst ≡ t + 1 → levelIn D dst ≡ l → ((q : ℕ) → q < 6 * t → getD D (234 * dst + q) 0 ≡ getD W (234 * b + q) 0)
+      → ((k : ℕ) → k < 6 → getD D (234 * dst + 6 * t + k) 0 ≡ getD T k 0) → (q : ℕ) → q < 6 * (t + 1) → getD D (234 * dst + q) 0 < 193 + levelIn D dst
   unfolding countIn levelIn
   add-level D ec el old new q h = go (decLt q (6 * t))
     where
-      go : Dec (q < 6 * t) → getD D (240 * dst + q) 0 < 193 + getD D (240 * dst + 193) 0
+      go : Dec (q < 6 * t) → getD D (234 * dst + q) 0 < 193 + getD D (234 * dst + 193) 0
       go (yes m) = omega (arith, old q m, bk .level q (omega arith), el)
       go (no m) =
-          let e : 240 * dst + q ≡ 240 * dst + 6 * t + (q - 6 * t) = omega (arith, m) in
+          let e : 234 * dst + q ≡ 234 * dst + 6 * t + (q - 6 * t) = omega (arith, m) in
           let z : 0 + (q - 6 * t) ≡ q - 6 * t = omega arith in
           omega (arith, ap (λ (x : ℕ). getD D x 0) e, new (q - 6 * t) (omega (arith, m)), rw z at (lv .below (q - 6 * t) (omega (arith, m))), el)
 
@@ -345,14 +344,14 @@ module _ (W : List ℕ) (b : ℕ) (T : List ℕ) (dst t l : ℕ) (bk : Block W b
   pub add-here : (D : List ℕ) → b ≡ dst → Appended W dst t T l D → Added W b (countIn W b) T dst D
   unfolding countIn
   add-here D e a =
-      let old : (q : ℕ) → q < 6 * t → getD D (240 * dst + q) 0 ≡ getD W (240 * b + q) 0 = λ q h. a .old q h ∙ ap (λ (x : ℕ). getD W (240 * x + q) 0) (sym e) in
+      let old : (q : ℕ) → q < 6 * t → getD D (234 * dst + q) 0 ≡ getD W (234 * b + q) 0 = λ q h. a .old q h ∙ ap (λ (x : ℕ). getD W (234 * x + q) 0) (sym e) in
       rw (← et) (record { count = a .count; old = old; top = a .top; level = add-level D (a .count) (a .level) old (a .top); outside = a .outside })
 
   -- in a copy
   pub add-there : (C D : List ℕ) → Copied W b dst C → Appended C dst t T l D → Added W b (countIn W b) T dst D
   unfolding countIn
   add-there C D c a =
-      let old : (q : ℕ) → q < 6 * t → getD D (240 * dst + q) 0 ≡ getD W (240 * b + q) 0 = λ q h. a .old q h ∙ c .here q (omega arith) in
+      let old : (q : ℕ) → q < 6 * t → getD D (234 * dst + q) 0 ≡ getD W (234 * b + q) 0 = λ q h. a .old q h ∙ c .here q (omega arith) in
       rw (← et) (record {
         count = a .count;
         old = old;
@@ -362,37 +361,40 @@ module _ (W : List ℕ) (b : ℕ) (T : List ℕ) (dst t l : ℕ) (bk : Block W b
       })
 
 -- ---- the block with the new object
-module _ (W : List ℕ) (b t : ℕ) (T : List ℕ) (dst : ℕ) (D : List ℕ) (pk : (i : ℕ) → i < t → Packed W (240 * b + 6 * i)) (pt : Packed T 0) (few : t ≤ 31)
-    (inner : (i f : ℕ) (r : Ref) → getElem? (refsAt (nodesIn W (240 * b) t) i) f ≡ some r → InRange (length (nodesIn W (240 * b) t)) r)
-    (above : (f : ℕ) (r : Ref) → getElem? (nodeIn T 0 .refs) f ≡ some r → InRange (length (nodesIn W (240 * b) t)) r)
-    (d : Distinct (nodesIn W (240 * b) t)) (miss : (j : ℕ) → j < length (nodesIn W (240 * b) t) → nodeAt (nodesIn W (240 * b) t) j ≡ nodeIn T 0 → ⊥)
-    (room : 240 * dst + 240 ≤ length W) (ad : Added W b t T dst D) where
-  top-byte : (k : ℕ) → k < 6 → getD D (240 * dst + 6 * t + k) 0 ≡ getD T (0 + k) 0
+module _ (W : List ℕ) (b t : ℕ) (T : List ℕ) (dst : ℕ) (D : List ℕ) (pk : (i : ℕ) → i < t → Packed W (234 * b + 6 * i)) (pt : Packed T 0) (few : t ≤ 31)
+    (inner : (i f : ℕ) (r : Ref) → getElem? (refsAt (nodesIn W (234 * b) t) i) f ≡ some r → InRange (length (nodesIn W (234 * b) t)) r)
+    (above : (f : ℕ) (r : Ref) → getElem? (nodeIn T 0 .refs) f ≡ some r → InRange (length (nodesIn W (234 * b) t)) r)
+    (d : Distinct (nodesIn W (234 * b) t)) (miss : (j : ℕ) → j < length (nodesIn W (234 * b) t) → nodeAt (nodesIn W (234 * b) t) j ≡ nodeIn T 0 → ⊥)
+    (room : 234 * dst + 234 ≤ length W) (ad : Added W b t T dst D) where
+  top-byte : (k : ℕ) → k < 6 → getD D (234 * dst + 6 * t + k) 0 ≡ getD T (0 + k) 0
   top-byte k h = let e : 0 + k ≡ k = omega arith in rw e (ad .top k h)
 
-  pub objects-are : objectsIn D dst ≡ more (nodesIn W (240 * b) t) (nodeIn T 0)
+  pub objects-are : objectsIn D dst ≡ more (nodesIn W (234 * b) t) (nodeIn T 0)
   unfolding objectsIn nodesIn
   objects-are =
-      ap (nodesIn D (240 * dst)) (ad .count) ∙ more-nodes D t (240 * dst) 1
-      ∙ ap₂ {A = List Node} {B = List Node} _++_ (nodes-same D W t (240 * dst) (240 * b) (ad .old))
-      (ap (λ (x : Node). x ∷ []) (node-same D T (240 * dst + 6 * t) 0 top-byte))
+      ap (nodesIn D (234 * dst)) (ad .count) ∙ more-nodes D t (234 * dst) 1
+      ∙ ap₂ {A = List Node} {B = List Node} _++_ (nodes-same D W t (234 * dst) (234 * b) (ad .old))
+      (ap (λ (x : Node). x ∷ []) (node-same D T (234 * dst + 6 * t) 0 top-byte))
 
   pub block-added : Block D dst
   block-added = record {
     room = omega (arith, ad .outside .same);
     small = rw (ad .count) (omega arith);
     packed = λ i h. go i (decLt i t) (rw (ad .count) at h);
-    whole = record { top = tt; inner = λ i f r e. subst (λ (ns : List Node). InRange (length ns) r) (sym objects-are) (inner-more (nodeIn T 0) (nodesIn W (240 * b) t) inner above i f r (subst (λ (ns : List Node). getElem? (refsAt ns i) f ≡ some r) objects-are e)) };
-    distinct = subst Distinct (sym objects-are) (distinct-more (nodeIn T 0) (nodesIn W (240 * b) t) inner above d miss);
+    whole = record { top = tt; inner = λ i f r e. subst (λ (ns : List Node). InRange (length ns) r) (sym objects-are) (inner-more (nodeIn T 0) (nodesIn W (234 * b) t) inner above i f r (subst (λ (ns : List Node). getElem? (refsAt ns i) f ≡ some r) objects-are e)) };
+    distinct = subst Distinct (sym objects-are) (distinct-more (nodeIn T 0) (nodesIn W (234 * b) t) inner above d miss);
     level = λ q h. ad .level q (rw (ad .count) at h);
   }
     where
-      go : (i : ℕ) → Dec (i < t) → i < t + 1 → Packed D (240 * dst + 6 * i)
-      go i (yes h) l = packed-same D W (240 * dst + 6 * i) (240 * b + 6 * i) (λ k m.
-          let ea : 240 * dst + 6 * i + k ≡ 240 * dst + (6 * i + k) = omega arith in
-          let eb : 240 * b + 6 * i + k ≡ 240 * b + (6 * i + k) = omega arith in
+      go : (i : ℕ) → Dec (i < t) → i < t + 1 → Packed D (234 * dst + 6 * i)
+      go i (yes h) l = packed-same D W (234 * dst + 6 * i) (234 * b + 6 * i) (λ k m.
+          let ea : 234 * dst + 6 * i + k ≡ 234 * dst + (6 * i + k) = omega arith in
+          let eb : 234 * b + 6 * i + k ≡ 234 * b + (6 * i + k) = omega arith in
           rw (ea, eb) (ad .old (6 * i + k) (omega arith))) (pk i h)
-      go i (no h) l = let e : i ≡ t = omega (arith, h) in rw e (packed-same D T (240 * dst + 6 * t) 0 top-byte pt)
+      go i (no h) l = let e : i ≡ t = omega (arith, h) in rw e (packed-same D T (234 * dst + 6 * t) 0 top-byte pt)
+
+pub beside-held : (W : List ℕ) (b k : ℕ) → Block W b → k < getD W (234 * b + 192) 0 → b < 65536 → Holds W (refIn (256 * b + k))
+beside-held W b k bk h s = number-held W b k (block-held W b k bk h .held) s
 
 -- ---- made
 module _ (W : List ℕ) (c : ℕ) (ps : List Slot) (n : ℕ) (T : List ℕ) (held : PartsHeld W ps n) (cr : RootObject c (rawsFrom W ps 0 n) T) where
@@ -400,13 +402,13 @@ module _ (W : List ℕ) (c : ℕ) (ps : List Slot) (n : ℕ) (T : List ℕ) (hel
   gs = rawsFrom W ps 0 n
 
   -- over objects among which the parts are
-  module _ (b t : ℕ) (dst : ℕ) (D : List ℕ) (pk : (i : ℕ) → i < t → Packed W (240 * b + 6 * i)) (few : t ≤ 31)
-      (inner : (i f : ℕ) (r : Ref) → getElem? (refsAt (nodesIn W (240 * b) t) i) f ≡ some r → InRange (length (nodesIn W (240 * b) t)) r)
-      (fits : AllFit (nodesIn W (240 * b) t) gs) (d : Distinct (nodesIn W (240 * b) t))
-      (miss : (j : ℕ) → j < length (nodesIn W (240 * b) t) → nodeAt (nodesIn W (240 * b) t) j ≡ nodeIn T 0 → ⊥)
-      (room : 240 * dst + 240 ≤ length W) (ad : Added W b t T dst D) where
+  module _ (b t : ℕ) (dst : ℕ) (D : List ℕ) (pk : (i : ℕ) → i < t → Packed W (234 * b + 6 * i)) (few : t ≤ 31)
+      (inner : (i f : ℕ) (r : Ref) → getElem? (refsAt (nodesIn W (234 * b) t) i) f ≡ some r → InRange (length (nodesIn W (234 * b) t)) r)
+      (fits : AllFit (nodesIn W (234 * b) t) gs) (d : Distinct (nodesIn W (234 * b) t))
+      (miss : (j : ℕ) → j < length (nodesIn W (234 * b) t) → nodeAt (nodesIn W (234 * b) t) j ≡ nodeIn T 0 → ⊥)
+      (room : 234 * dst + 234 ≤ length W) (ad : Added W b t T dst D) where
     abbrev ns : List Node
-    ns = nodesIn W (240 * b) t
+    ns = nodesIn W (234 * b) t
 
     above : (f : ℕ) (r : Ref) → getElem? (nodeIn T 0 .refs) f ≡ some r → InRange (length ns) r
     above f r e = roots-low ns gs fits f r (subst (λ (x : Node). getElem? (x .refs) f ≡ some r) (cr .is) e)
@@ -420,14 +422,13 @@ module _ (W : List ℕ) (c : ℕ) (ps : List Slot) (n : ℕ) (T : List ℕ) (hel
     value : make c (valuesFrom W ps 0 n) ≡ canon (graphAt D dst t)
     value =
         made-raw W c ps n held ∙ make-new c gs ns (raws-whole W c ps n held) fits inner
-        ∙ ap₂ {A = ℕ} {B = List Node} (λ i l. canon (graph (obj i) l)) (length-nodes W (240 * b) t) (sym are)
+        ∙ ap₂ {A = ℕ} {B = List Node} (λ i l. canon (graph (obj i) l)) (length-nodes W (234 * b) t) (sym are)
 
-    pub made-new : MadeIs W (make c (valuesFrom W ps 0 n)) dst D (Value (Object dst t))
-    made-new =
-        let low : t < countIn D dst = omega (arith, ad .count) in
-        let l : length (make c (valuesFrom W ps 0 n) .nodes) ≤ 32 =
-        omega (arith, ap (λ (g : Graph). length (g .nodes)) value, canon-length (graphAt D dst t) (record { top = subst (λ (k : ℕ). t < k) (sym (size-in D dst bk)) low; inner = bk .whole .inner }), size-in D dst bk, bk .small) in
-        record { held = record { held = record { block = bk; low = low } }; is = rw (le-leb _ 32 l) (ap some (sym value)); place = omega arith; beneath = under dst W D (ad .outside) }
+    new-inside : Inside D dst t
+    new-inside = record { block = bk; low = omega (arith, ad .count) }
+
+    made-new : dst < 65536 → MadeIn W (make c (valuesFrom W ps 0 n)) dst D (256 * dst + t)
+    made-new s = number-here W D _ dst dst t new-inside value (under dst W D (ad .outside)) s (omega arith)
 
   -- beside the objects of a block
   module _ (b : ℕ) (bk : Block W b) (bs : allStand ps n b ≡ true) where
@@ -435,24 +436,24 @@ module _ (W : List ℕ) (c : ℕ) (ps : List Slot) (n : ℕ) (T : List ℕ) (hel
     unfolding rawsFrom
     fits = all-fit W (objectsIn W b) n ps (λ i h. value-fit W b bk (partOf ps i) (held .part i h) (stands-at ps n b bs i h))
 
-    module _ (k : ℕ) (fd : Found W b (getD W (240 * b + 192) 0) T k) where
-      pub beside-found : k < getD W (240 * b + 192) 0 → (dst : ℕ) (W′ : List ℕ) (o : ValueRef) → Gives W dst W′ o (valueOf W (Object b k)) → MadeIs W (make c (valuesFrom W ps 0 n)) dst W′ (Value o)
-      unfolding countIn objectsIn
-      beside-found h dst W′ o g =
-          let e : make c (valuesFrom W ps 0 n) ≡ canon (graphAt W b k) =
-          made-raw W c ps n held ∙ make-found c gs (objectsIn W b) (raws-whole W c ps n held) fits (bk .whole .inner) k (omega (arith, size-in W b bk))
-          (at-nodes W (240 * b) (getD W (240 * b + 192) 0) k h ∙ fd .hit h ∙ cr .is) in
-          let l : length (make c (valuesFrom W ps 0 n) .nodes) ≤ 32 =
-          omega (arith, ap (λ (x : Graph). length (x .nodes)) e, canon-length (graphAt W b k) (record { top = omega (arith, size-in W b bk); inner = bk .whole .inner }), size-in W b bk, bk .small) in
-          record { held = g .held; is = rw (le-leb _ 32 l) (ap some (g .is ∙ sym e)); place = g .place; beneath = under dst W W′ (g .outside) }
+    module _ (k : ℕ) (fd : Found W b (getD W (234 * b + 192) 0) T k) where
+      module _ (h : k < getD W (234 * b + 192) 0) where
+        pub beside-value : make c (valuesFrom W ps 0 n) ≡ canon (graphAt W b k)
+        unfolding objectsIn countIn
+        beside-value =
+            made-raw W c ps n held ∙ make-found c gs (objectsIn W b) (raws-whole W c ps n held) fits (bk .whole .inner) k (omega (arith, size-in W b bk))
+            (at-nodes W (234 * b) (getD W (234 * b + 192) 0) k h ∙ fd .hit h ∙ cr .is)
 
-      pub beside-new : getD W (240 * b + 192) 0 ≤ k → getD W (240 * b + 192) 0 < 32 → (dst : ℕ) (D : List ℕ) → 240 * dst + 240 ≤ length W → Added W b (countIn W b) T dst D
-          → MadeIs W (make c (valuesFrom W ps 0 n)) dst D (Value (Object dst (getD W (240 * b + 192) 0)))
+        pub beside-found : b < 65536 → (dst : ℕ) (W′ : List ℕ) (q : ℕ) → Gives W dst W′ (refIn q) (valueOf W (refIn (256 * b + k))) → MadeIn W (make c (valuesFrom W ps 0 n)) dst W′ q
+        beside-found s dst W′ q g = number-brought W W _ dst b k (block-held W b k bk h .held) beside-value (under dst W W (unchanged dst W)) s W′ q g
+
+      pub beside-new : getD W (234 * b + 192) 0 ≤ k → getD W (234 * b + 192) 0 < 32 → (dst : ℕ) (D : List ℕ) → dst < 65536 → 234 * dst + 234 ≤ length W → Added W b (countIn W b) T dst D
+          → MadeIn W (make c (valuesFrom W ps 0 n)) dst D (256 * dst + getD W (234 * b + 192) 0)
       unfolding countIn objectsIn
-      beside-new ge h dst D room ad =
-          made-new b (getD W (240 * b + 192) 0) dst D (bk .packed) (omega arith) (bk .whole .inner) fits (bk .distinct)
-          (λ j l e. let m : j < getD W (240 * b + 192) 0 = omega (arith, size-in W b bk) in
-          fd .miss ge .none j m (sym (at-nodes W (240 * b) (getD W (240 * b + 192) 0) j m) ∙ e)) room ad
+      beside-new ge h dst D s room ad =
+          made-new b (getD W (234 * b + 192) 0) dst D (bk .packed) (omega arith) (bk .whole .inner) fits (bk .distinct)
+          (λ j l e. let m : j < getD W (234 * b + 192) 0 = omega (arith, size-in W b bk) in
+          fd .miss ge .none j m (sym (at-nodes W (234 * b) (getD W (234 * b + 192) 0) j m) ∙ e)) room ad s
 
   -- alone
   module _ (lv : someObject ps n ≡ false) where
@@ -466,18 +467,19 @@ module _ (W : List ℕ) (c : ℕ) (ps : List Slot) (n : ℕ) (T : List ℕ) (hel
     unfolding rawsFrom someObject
     alone-fits = all-fit W [] n ps (λ i h. alone-fit (partOf ps i) (any-not (λ j. isObject (partOf ps j)) n i lv h))
 
-    pub alone-new : (dst l : ℕ) (D : List ℕ) → Levels T 0 6 l → 240 * dst + 240 ≤ length W → Appended W dst 0 T l D → MadeIs W (make c (valuesFrom W ps 0 n)) dst D (Value (Object dst 0))
+    pub alone-new : (dst l : ℕ) (D : List ℕ) → Levels T 0 6 l → 234 * dst + 234 ≤ length W → dst < 65536 → Appended W dst 0 T l D → MadeIn W (make c (valuesFrom W ps 0 n)) dst D (256 * dst)
     unfolding nodesIn
-    alone-new dst l D ls room a =
-        made-new dst 0 dst D (λ i h. absurd (omega arith)) (omega arith) (λ i f r e. absurd (Option·none-ne-some r e)) alone-fits (record { apart = λ i j h. absurd (omega arith) }) (λ j h. absurd (omega arith)) room
+    alone-new dst l D ls room s a =
+        subst (MadeIn W (make c (valuesFrom W ps 0 n)) dst D) (let z : 256 * dst + 0 ≡ 256 * dst = omega arith in z)
+        (made-new dst 0 dst D (λ i h. absurd (omega arith)) (omega arith) (λ i f r e. absurd (Option·none-ne-some r e)) alone-fits (record { apart = λ i j h. absurd (omega arith) }) (λ j h. absurd (omega arith)) room
         (record {
           count = a .count;
           old = λ q h. absurd (omega arith);
           top = a .top;
-          level = λ q h. let e : 240 * dst + 6 * 0 + q ≡ 240 * dst + q = omega arith in let z : 0 + q ≡ q = omega arith in
+          level = λ q h. let e : 234 * dst + 6 * 0 + q ≡ 234 * dst + q = omega arith in let z : 0 + q ≡ q = omega arith in
               omega (arith, rw e at (a .top q (omega arith)), rw z at (ls .below q (omega arith)), a .level);
           outside = a .outside;
-        })
+        }) s)
 
 -- ---- a new object without parts
 abbrev pub bareObject : ℕ → List ℕ
@@ -499,6 +501,6 @@ bare-root W c = record { is = refl; packed = record { count = omega arith; spare
 pub no-parts : (W : List ℕ) → PartsHeld W [] 0
 no-parts W = record { full = omega arith; part = λ i h. absurd (omega arith) }
 
-pub bare-new : (W : List ℕ) (c dst l : ℕ) (D : List ℕ) → Levels (bareObject c) 0 6 l → 240 * dst + 240 ≤ length W → Appended W dst 0 (bareObject c) l D → MadeIs W (make c []) dst D (Value (Object dst 0))
+pub bare-new : (W : List ℕ) (c dst l : ℕ) (D : List ℕ) → Levels (bareObject c) 0 6 l → 234 * dst + 234 ≤ length W → dst < 65536 → Appended W dst 0 (bareObject c) l D → MadeIn W (make c []) dst D (256 * dst)
 unfolding valuesFrom
-bare-new W c dst l D ls room a = alone-new W c [] 0 (bareObject c) (no-parts W) (bare-root W c) (leaves-none []) dst l D ls room a
+bare-new W c dst l D ls room s a = alone-new W c [] 0 (bareObject c) (no-parts W) (bare-root W c) (leaves-none []) dst l D ls room s a

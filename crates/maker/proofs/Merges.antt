@@ -10,13 +10,12 @@ use mathlib.Core.Option.{none, some, Option·none-ne-some}
 use lib.ListN.{length, getD, set, take, getElem?, replicate, length-set, length-take, length-replicate, getD-replicate, List·getD-eq-default}
 use lib.Seq.{getD-set-same, getD-set-other}
 use Rattle.cofj.specs.Partial.{_>>=_}
-use borrow.Author.Tests.{le-leb, lt-ltb, le-ltb, eq-eqb, ne-eqb, eqb-true}
+use borrow.Author.Tests.{lt-ltb, le-ltb, eq-eqb, ne-eqb, eqb-true}
 use types.Run.{OneOf}
 use denote.Enum.Declared.{tagOf}
 use Rattle.cofj.specs.Values.{Ref, obj, mark, undet, Node, node, Graph, nodeAt, refsAt, canon, make}
 use Rattle.cofj.specs.Unfolding.{object, follow, Same, InRange, Whole}
 use Rattle.cofj.proofs.Trees.{Pointwise}
-use Rattle.cofj.proofs.Canon.{canon-length}
 use Rattle.cofj.proofs.Unique.{same-canon}
 use Rattle.canon.specs.Layout.{refOf, codeOf, nodeIn, nodesIn, Packed, countIn, levelIn, objectsIn, graphAt, Block, Inside, Outside, Beneath}
 use Rattle.canon.specs.Tables.{Carried}
@@ -28,6 +27,7 @@ use Rattle.values.specs.declared.ValueRef.the-variants.{Object, Mark, Undetermi
 use Rattle.values.specs.Layout.{valueOf, rawOf, Holds, HeldBy, liesIn}
 use Rattle.values.specs.Tests.{any}
 use Rattle.values.specs.Operations.{Gives, Copied}
+use Rattle.values.specs.Refs.{refIn}
 use Rattle.values.proofs.ValueRef as RefT
 use Rattle.values.proofs.Tests.{not-false, any-there, any-not, any-more}
 use Rattle.values.proofs.Steps.{object-low}
@@ -37,12 +37,10 @@ use Rattle.values.proofs.Copies.{block-moves}
 use Rattle.values.proofs.Selecting.{unchanged, under}
 use Rattle.values.proofs.Kept.{Kept, kept}
 use Rattle.maker.specs.declared.Slot.{Slot}
-use Rattle.maker.specs.declared.Made.{Made}
-use Rattle.maker.specs.declared.Made.the-variants.{Value}
-use Rattle.maker.specs.Laying.{valuesFrom, rawsFrom, PartsHeld, MadeIs}
+use Rattle.maker.specs.Laying.{valuesFrom, rawsFrom, PartsHeld, MadeIn}
 use Rattle.maker.specs.Adding.{Found, Emptied, Appended, Added, partOf}
 use Rattle.maker.specs.Merging.{Grown, Fits, Standing, Entered, CodeAs, Mapped, Importing, Imported, ObjectBytes, Turned, Turning, TurnedAll, As, PartImported, Begun, RootBrought, PartsBrought, someIn, largerOf, largestOf}
-use Rattle.maker.proofs.Lays.{fresh, fresh-class, fresh-count, fresh-spare, raws-whole, made-raw, parts-length}
+use Rattle.maker.proofs.Lays.{fresh, fresh-class, fresh-count, fresh-spare, raws-whole, made-raw, parts-length, beneath-more, number-held, number-brought}
 use Rattle.maker.proofs.Adding.{more, old-tree, at-new}
 use Rattle.maker.proofs.Beside.{outside-more, add-here, objects-are, block-added}
 
@@ -67,7 +65,7 @@ grown-more host W W1 W2 a b = record {
 }
 
 module _ (host : ℕ) (W W′ : List ℕ) (o : Outside host W W′) (b : ℕ) (apart : (b ≡ host) → ⊥) where
-  pub other-byte : (p : ℕ) → 240 * b ≤ p → p < 240 * b + 240 → getD W′ p 0 ≡ getD W p 0
+  pub other-byte : (p : ℕ) → 234 * b ≤ p → p < 234 * b + 234 → getD W′ p 0 ≡ getD W p 0
   other-byte p l m = go (decLt b host)
     where
       go : Dec (b < host) → getD W′ p 0 ≡ getD W p 0
@@ -77,38 +75,38 @@ module _ (host : ℕ) (W W′ : List ℕ) (o : Outside host W W′) (b : ℕ) (a
   pub other-block : Block W b → (objectsIn W′ b ≡ objectsIn W b) × Block W′ b
   unfolding countIn levelIn
   other-block bk =
-      block-moves W W′ b b (other-byte (240 * b + 192) (omega arith) (omega arith)) (other-byte (240 * b + 193) (omega arith) (omega arith))
-      (λ k h. other-byte (240 * b + k) (omega arith) (omega (arith, bk .small))) (omega (arith, bk .room, o .same)) bk
+      block-moves W W′ b b (other-byte (234 * b + 192) (omega arith) (omega arith)) (other-byte (234 * b + 193) (omega arith) (omega arith))
+      (λ k h. other-byte (234 * b + k) (omega arith) (omega (arith, bk .small))) (omega (arith, bk .room, o .same)) bk
 
   pub other-inside : (i : ℕ) → Inside W b i → Inside W′ b i
   unfolding countIn
-  other-inside i ib = record { block = other-block (ib .block) .1; low = omega (arith, ib .low, other-byte (240 * b + 192) (omega arith) (omega arith)) }
+  other-inside i ib = record { block = other-block (ib .block) .1; low = omega (arith, ib .low, other-byte (234 * b + 192) (omega arith) (omega arith)) }
 
 -- ---- entered
 module _ (W : List ℕ) (host : ℕ) (T : List ℕ) (bk : Block W host) (ft : Fits W host T) where
-  pub enter-count : getD W (240 * host + 192) 0 ≡ countIn W host
+  pub enter-count : getD W (234 * host + 192) 0 ≡ countIn W host
   unfolding countIn
   enter-count = refl
 
   pub enter-full : Entered W host T W 32
   enter-full = record { grown = grown-none host W bk; few = omega arith; standing = λ z. absurd (z refl) }
 
-  module _ (k : ℕ) (fd : Found W host (getD W (240 * host + 192) 0) T k) where
-    pub enter-found : k < getD W (240 * host + 192) 0 → Entered W host T W k
+  module _ (k : ℕ) (fd : Found W host (getD W (234 * host + 192) 0) T k) where
+    pub enter-found : k < getD W (234 * host + 192) 0 → Entered W host T W k
     unfolding countIn objectsIn
     enter-found h = record {
       grown = grown-none host W bk;
       few = omega (arith, bk .small);
-      standing = λ _. record { low = h; is = at-nodes W (240 * host) (getD W (240 * host + 192) 0) k h ∙ fd .hit h };
+      standing = λ _. record { low = h; is = at-nodes W (234 * host) (getD W (234 * host + 192) 0) k h ∙ fd .hit h };
     }
 
-    module _ (ge : getD W (240 * host + 192) 0 ≤ k) (h : getD W (240 * host + 192) 0 < 32) (l : ℕ) (D : List ℕ) (lv : Levels T 0 6 l) (le : getD W (240 * host + 193) 0 ≤ l)
-        (a : Appended W host (getD W (240 * host + 192) 0) T l D) where
+    module _ (ge : getD W (234 * host + 192) 0 ≤ k) (h : getD W (234 * host + 192) 0 < 32) (l : ℕ) (D : List ℕ) (lv : Levels T 0 6 l) (le : getD W (234 * host + 193) 0 ≤ l)
+        (a : Appended W host (getD W (234 * host + 192) 0) T l D) where
       abbrev t : ℕ
-      t = getD W (240 * host + 192) 0
+      t = getD W (234 * host + 192) 0
 
       abbrev ns : List Node
-      ns = nodesIn W (240 * host) t
+      ns = nodesIn W (234 * host) t
 
       inner : (i f : ℕ) (r : Ref) → getElem? (refsAt ns i) f ≡ some r → InRange (length ns) r
       unfolding countIn objectsIn
@@ -116,12 +114,12 @@ module _ (W : List ℕ) (host : ℕ) (T : List ℕ) (bk : Block W host) (ft : Fi
 
       above : (f : ℕ) (r : Ref) → getElem? (nodeIn T 0 .refs) f ≡ some r → InRange (length ns) r
       unfolding countIn
-      above f r e = subst (λ (m : ℕ). InRange m r) (sym (length-nodes W (240 * host) t)) (ft .low f r e)
+      above f r e = subst (λ (m : ℕ). InRange m r) (sym (length-nodes W (234 * host) t)) (ft .low f r e)
 
       miss : (j : ℕ) → j < length ns → nodeAt ns j ≡ nodeIn T 0 → ⊥
       miss j q e =
-          let m : j < t = omega (arith, length-nodes W (240 * host) t) in
-          fd .miss ge .none j m (sym (at-nodes W (240 * host) t j m) ∙ e)
+          let m : j < t = omega (arith, length-nodes W (234 * host) t) in
+          fd .miss ge .none j m (sym (at-nodes W (234 * host) t j m) ∙ e)
 
       added : Added W host t T host D
       unfolding countIn
@@ -138,7 +136,7 @@ module _ (W : List ℕ) (host : ℕ) (T : List ℕ) (bk : Block W host) (ft : Fi
       kept-trees : (r : Ref) → InRange (countIn W host) r → Same (objectsIn W host) r (objectsIn D host) r
       unfolding countIn objectsIn
       kept-trees r q p =
-          sym (old-tree (nodeIn T 0) ns inner above r (subst (λ (m : ℕ). InRange m r) (sym (length-nodes W (240 * host) t)) q) p)
+          sym (old-tree (nodeIn T 0) ns inner above r (subst (λ (m : ℕ). InRange m r) (sym (length-nodes W (234 * host) t)) q) p)
           ∙ ap (λ (x : List Node). follow x r p) (sym are)
 
       pub enter-new : Entered W host T D t
@@ -148,36 +146,36 @@ module _ (W : List ℕ) (host : ℕ) (T : List ℕ) (bk : Block W host) (ft : Fi
         few = omega arith;
         standing = λ _. record {
           low = omega (arith, a .count);
-          is = ap (λ (x : List Node). nodeAt x t) are ∙ ap (nodeAt (more ns (nodeIn T 0))) (sym (length-nodes W (240 * host) t)) ∙ at-new (nodeIn T 0) ns inner above;
+          is = ap (λ (x : List Node). nodeAt x t) are ∙ ap (nodeAt (more ns (nodeIn T 0))) (sym (length-nodes W (234 * host) t)) ∙ at-new (nodeIn T 0) ns inner above;
         };
       }
 
 -- ---- an object's bytes
-pub object-taken : (W : List ℕ) (src i : ℕ) (T₀ T : List ℕ) → length T₀ ≡ 6 → Carried W (240 * src + 6 * i) T₀ 0 6 T → ObjectBytes W src i T
+pub object-taken : (W : List ℕ) (src i : ℕ) (T₀ T : List ℕ) → length T₀ ≡ 6 → Carried W (234 * src + 6 * i) T₀ 0 6 T → ObjectBytes W src i T
 object-taken W src i T₀ T e c = record { long = c .same ∙ e; bytes = λ j h. let z : 0 + j ≡ j = omega arith in rw z at (c .here j h) }
 
 -- ---- the codes of an object
-code-low : (W : List ℕ) (src i : ℕ) → Inside W src i → (k : ℕ) → k < 4 → getD W (240 * src + 6 * i + (2 + k)) 0 < 192 → getD W (240 * src + 6 * i + (2 + k)) 0 < countIn W src
+code-low : (W : List ℕ) (src i : ℕ) → Inside W src i → (k : ℕ) → k < 4 → getD W (234 * src + 6 * i + (2 + k)) 0 < 192 → getD W (234 * src + 6 * i + (2 + k)) 0 < countIn W src
 unfolding byteOf objectsIn
-code-low W src i ib k h l = go (decLt k (getD W (240 * src + 6 * i + 1) 0))
+code-low W src i ib k h l = go (decLt k (getD W (234 * src + 6 * i + 1) 0))
   where
-    pk : Packed W (240 * src + 6 * i)
+    pk : Packed W (234 * src + 6 * i)
     pk = ib .block .packed i (ib .low)
 
-    at-i : nodeAt (nodesIn W (240 * src) (countIn W src)) i ≡ nodeIn W (240 * src + 6 * i)
-    at-i = at-nodes W (240 * src) (countIn W src) i (ib .low)
+    at-i : nodeAt (nodesIn W (234 * src) (countIn W src)) i ≡ nodeIn W (234 * src + 6 * i)
+    at-i = at-nodes W (234 * src) (countIn W src) i (ib .low)
 
-    count : getD W (240 * src + 6 * i + 1) 0 ≡ length (nodeIn W (240 * src + 6 * i) .refs)
-    count = packed-byte W (240 * src + 6 * i) pk 1 (omega arith)
+    count : getD W (234 * src + 6 * i + 1) 0 ≡ length (nodeIn W (234 * src + 6 * i) .refs)
+    count = packed-byte W (234 * src + 6 * i) pk 1 (omega arith)
 
-    code : getD W (240 * src + 6 * i + (2 + k)) 0 ≡ codeOf (getD (nodeIn W (240 * src + 6 * i) .refs) k undet)
-    code = ap (λ (y : ℕ). getD W (240 * src + 6 * i + y) 0) (let q : 2 + k ≡ suc (suc k) = omega arith in q) ∙ packed-byte W (240 * src + 6 * i) pk (suc (suc k)) (omega arith)
+    code : getD W (234 * src + 6 * i + (2 + k)) 0 ≡ codeOf (getD (nodeIn W (234 * src + 6 * i) .refs) k undet)
+    code = ap (λ (y : ℕ). getD W (234 * src + 6 * i + y) 0) (let q : 2 + k ≡ suc (suc k) = omega arith in q) ∙ packed-byte W (234 * src + 6 * i) pk (suc (suc k)) (omega arith)
 
-    go : Dec (k < getD W (240 * src + 6 * i + 1) 0) → getD W (240 * src + 6 * i + (2 + k)) 0 < countIn W src
+    go : Dec (k < getD W (234 * src + 6 * i + 1) 0) → getD W (234 * src + 6 * i + (2 + k)) 0 < countIn W src
     go (yes q) =
-        let low : InRange (countIn W src) (getD (nodeIn W (240 * src + 6 * i) .refs) k undet) =
-        inner-in W src (ib .block) i k (getD (nodeIn W (240 * src + 6 * i) .refs) k undet) (ap (λ (x : Node). getElem? (x .refs) k) at-i ∙ some-at (nodeIn W (240 * src + 6 * i) .refs) k (omega (arith, count))) in
-        rw code (object-low (countIn W src) (getD (nodeIn W (240 * src + 6 * i) .refs) k undet) low (rw code at l))
+        let low : InRange (countIn W src) (getD (nodeIn W (234 * src + 6 * i) .refs) k undet) =
+        inner-in W src (ib .block) i k (getD (nodeIn W (234 * src + 6 * i) .refs) k undet) (ap (λ (x : Node). getElem? (x .refs) k) at-i ∙ some-at (nodeIn W (234 * src + 6 * i) .refs) k (omega (arith, count))) in
+        rw code (object-low (countIn W src) (getD (nodeIn W (234 * src + 6 * i) .refs) k undet) low (rw code at l))
     go (no q) = absurd (omega (arith, pk .spare (2 + k) (omega (arith, q)) (omega arith)))
 
 -- ---- the same codes in a block that has grown
@@ -192,8 +190,8 @@ module _ (host : ℕ) (W W′ : List ℕ) (g : Grown host W W′) (src : ℕ) (a
   pub mapped-grown : (M : List ℕ) → Mapped W src host M → Mapped W′ src host M
   mapped-grown M m = record { table = m .table; each = λ x y e. code-grown x y (m .each x y e) }
 
-  object-byte : (i j : ℕ) → i < countIn W src → j < 6 → getD W′ (240 * src + 6 * i + j) 0 ≡ getD W (240 * src + 6 * i + j) 0
-  object-byte i j h l = other-byte host W W′ (g .outside) src apart (240 * src + 6 * i + j) (omega arith) (omega (arith, sb .small))
+  object-byte : (i j : ℕ) → i < countIn W src → j < 6 → getD W′ (234 * src + 6 * i + j) 0 ≡ getD W (234 * src + 6 * i + j) 0
+  object-byte i j h l = other-byte host W W′ (g .outside) src apart (234 * src + 6 * i + j) (omega arith) (omega (arith, sb .small))
 
   pub turned-grown : (i k : ℕ) (T : List ℕ) → i < countIn W src → Turned W src i host T k → Turned W′ src i host T k
   turned-grown i k T h t = record {
@@ -206,7 +204,7 @@ module _ (host : ℕ) (W W′ : List ℕ) (g : Grown host W W′) (src : ℕ) (a
 
 -- ---- the codes imported
 module _ (W : List ℕ) (src i host : ℕ) (M T : List ℕ) (k : ℕ) (tg : Turning W src i host M T k) where
-  packed : Packed W (240 * src + 6 * i)
+  packed : Packed W (234 * src + 6 * i)
   packed = tg .inside .block .packed i (tg .inside .low)
 
   -- the codes after the last field are undetermined on both sides
@@ -220,10 +218,10 @@ module _ (W : List ℕ) (src i host : ℕ) (M T : List ℕ) (k : ℕ) (tg : Turn
       spare : CodeAs W src 192 host 192
       spare = record { low = rw ref-undet tt; leaf = λ _. refl; same = rw ref-undet (leaf-same (objectsIn W src) (objectsIn W host) undet tt) }
 
-      go : (j : ℕ) → j < 4 → Dec (j < k) → CodeAs W src (getD W (240 * src + 6 * i + (2 + j)) 0) host (getD T (2 + j) 0)
+      go : (j : ℕ) → j < 4 → Dec (j < k) → CodeAs W src (getD W (234 * src + 6 * i + (2 + j)) 0) host (getD T (2 + j) 0)
       go j m (yes l) = tg .turned .done j l m
       go j m (no l) =
-          let e : getD W (240 * src + 6 * i + (2 + j)) 0 ≡ 192 = packed .spare (2 + j) (omega (arith, l, tg .turned .count)) (omega arith) in
+          let e : getD W (234 * src + 6 * i + (2 + j)) 0 ≡ 192 = packed .spare (2 + j) (omega (arith, l, tg .turned .count)) (omega arith) in
           rw (tg .turned .left j (omega (arith, l)) m, e) spare
 
   module _ (g : k < getD T 1 0) where
@@ -235,7 +233,7 @@ module _ (W : List ℕ) (src i host : ℕ) (M T : List ℕ) (k : ℕ) (tg : Turn
 
     pub codes-import : (c : ℕ) → c ≡ getD T (2 + k) 0 → Importing W src c host M
     codes-import c e =
-        let z : c ≡ getD W (240 * src + 6 * i + (2 + k)) 0 = e ∙ tg .turned .left k (omega arith) h in
+        let z : c ≡ getD W (234 * src + 6 * i + (2 + k)) 0 = e ∙ tg .turned .left k (omega arith) h in
         record {
           source = tg .inside .block;
           low = λ l. rw z (code-low W src i (tg .inside) k h (rw z at l));
@@ -252,7 +250,7 @@ module _ (W : List ℕ) (src i host : ℕ) (M T : List ℕ) (k : ℕ) (tg : Turn
         pub codes-next : Turning W1 src i host M1 (set T (2 + k) r) (k + 1)
         codes-next =
             let t : Turned W1 src i host T k = turned-grown host W W1 (im .grown) src (tg .apart) (tg .inside .block) i k T (tg .inside .low) (tg .turned) in
-            let z : c ≡ getD W1 (240 * src + 6 * i + (2 + k)) 0 = e ∙ t .left k (omega arith) h in
+            let z : c ≡ getD W1 (234 * src + 6 * i + (2 + k)) 0 = e ∙ t .left k (omega arith) h in
             record {
               inside = other-inside host W W1 (im .grown .outside) src (tg .apart) i (tg .inside);
               target = im .grown .block;
@@ -267,8 +265,8 @@ module _ (W : List ℕ) (src i host : ℕ) (M T : List ℕ) (k : ℕ) (tg : Turn
               };
             }
           where
-            go : Turned W1 src i host T k → c ≡ getD W1 (240 * src + 6 * i + (2 + k)) 0 → (j : ℕ) → j < k + 1 → j < 4 → Dec (j ≡ k)
-                → CodeAs W1 src (getD W1 (240 * src + 6 * i + (2 + j)) 0) host (getD (set T (2 + k) r) (2 + j) 0)
+            go : Turned W1 src i host T k → c ≡ getD W1 (234 * src + 6 * i + (2 + k)) 0 → (j : ℕ) → j < k + 1 → j < 4 → Dec (j ≡ k)
+                → CodeAs W1 src (getD W1 (234 * src + 6 * i + (2 + j)) 0) host (getD (set T (2 + k) r) (2 + j) 0)
             go t z j l m (yes y) = rw (y, getD-set-same T (2 + k) r 0 (omega (arith, t .long)), ← z) (im .like d)
             go t z j l m (no y) = rw (getD-set-other T (2 + k) (2 + j) r 0 (λ x. y (omega arith))) (t .done j (omega (arith, y)) m)
 
@@ -396,8 +394,8 @@ module _ (W : List ℕ) (src c host : ℕ) (M : List ℕ) (im : Importing W src 
             spare k l m =
                 let z : 2 + (k - 2) ≡ k = omega arith in
                 let y : 0 + k ≡ k = omega arith in
-                let s : getD W2 (240 * src + 6 * c + k) 0 ≡ 192 = ib .block .packed c (ib .low) .spare k (omega (arith, td .count)) m in
-                let t : CodeAs W2 src (getD W2 (240 * src + 6 * c + k) 0) host (getD T k 0) = rw z at (td .done (k - 2) (omega arith) (omega arith)) in
+                let s : getD W2 (234 * src + 6 * c + k) 0 ≡ 192 = ib .block .packed c (ib .low) .spare k (omega (arith, td .count)) m in
+                let t : CodeAs W2 src (getD W2 (234 * src + 6 * c + k) 0) host (getD T k 0) = rw z at (td .done (k - 2) (omega arith) (omega arith)) in
                 rw y (t .leaf (omega arith) ∙ s)
 
         module _ (W3 : List ℕ) (r : ℕ) (en : Entered W2 host T W3 r) where
@@ -417,14 +415,14 @@ module _ (W : List ℕ) (src c host : ℕ) (M : List ℕ) (im : Importing W src 
                 let t3 : Turned W3 src c host T 4 = turned-grown host W2 W3 (en .grown) src (im .apart) (ib .block) c 4 T (ib .low) td in
                 let ic : Inside W3 src c = other-inside host W2 W3 (en .grown .outside) src (im .apart) c ib in
                 let st : Standing W3 host T r = en .standing d in
-                let z0 : 240 * src + 6 * c + 0 ≡ 240 * src + 6 * c = omega arith in
+                let z0 : 234 * src + 6 * c + 0 ≡ 234 * src + 6 * c = omega arith in
                 let ro : refOf r ≡ obj r = ref-object r (omega (arith, st .low, en .grown .block .small)) in
                 record {
                   low = subst (InRange (countIn W3 host)) (sym ro) (st .low);
                   leaf = λ l. absurd (omega arith);
                   same = λ p. ap (λ (x : Ref). follow (objectsIn W3 src) x p) (ref-object c h)
                       ∙ object-tree (objectsIn W3 src) (objectsIn W3 host) c r (getD T 0 0) _ _
-                      (at-nodes W3 (240 * src) (countIn W3 src) c (ic .low) ∙ ap₂ {A = ℕ} {B = ℕ} (λ x y. node x (take y (refOf (getD W3 (240 * src + 6 * c + 2) 0) ∷ refOf (getD W3 (240 * src + 6 * c + 3) 0) ∷ refOf (getD W3 (240 * src + 6 * c + 4) 0) ∷ refOf (getD W3 (240 * src + 6 * c + 5) 0) ∷ []))) (rw z0 at (sym (t3 .cls))) (sym (t3 .count)))
+                      (at-nodes W3 (234 * src) (countIn W3 src) c (ic .low) ∙ ap₂ {A = ℕ} {B = ℕ} (λ x y. node x (take y (refOf (getD W3 (234 * src + 6 * c + 2) 0) ∷ refOf (getD W3 (234 * src + 6 * c + 3) 0) ∷ refOf (getD W3 (234 * src + 6 * c + 4) 0) ∷ refOf (getD W3 (234 * src + 6 * c + 5) 0) ∷ []))) (rw z0 at (sym (t3 .cls))) (sym (t3 .count)))
                       (st .is)
                       (refs-take (λ x y. Same (objectsIn W3 src) x (objectsIn W3 host) y) (getD T 1 0) _ _
                       (t3 .done 0 (omega arith) (omega arith) .same, (t3 .done 1 (omega arith) (omega arith) .same, (t3 .done 2 (omega arith) (omega arith) .same, (t3 .done 3 (omega arith) (omega arith) .same, tt))))) p
@@ -502,7 +500,7 @@ module _ (W : List ℕ) (b i base host : ℕ) (ib : Inside W b i) (bg : Begun W 
     }
 
 -- ---- an object without fields
-module _ (W : List ℕ) (b i host : ℕ) (ib : Inside W b i) (bk : Block W host) (apart : (b ≡ host) → ⊥) (bare : getD W (240 * b + 6 * i + 1) 0 ≡ 0) (T : List ℕ) (o : ObjectBytes W b i T) where
+module _ (W : List ℕ) (b i host : ℕ) (ib : Inside W b i) (bk : Block W host) (apart : (b ≡ host) → ⊥) (bare : getD W (234 * b + 6 * i + 1) 0 ≡ 0) (T : List ℕ) (o : ObjectBytes W b i T) where
   begun : Begun W host host
   begun = record { source = bk; target = bk; most = omega arith; trees = λ r l p. refl }
 
@@ -515,7 +513,7 @@ module _ (W : List ℕ) (b i host : ℕ) (ib : Inside W b i) (bk : Block W host)
   bare-low : i < 192
   bare-low = omega (arith, ib .low, ib .block .small)
 
-  bare-code : (j : ℕ) → j < 4 → getD W (240 * b + 6 * i + (2 + j)) 0 ≡ 192
+  bare-code : (j : ℕ) → j < 4 → getD W (234 * b + 6 * i + (2 + j)) 0 ≡ 192
   bare-code j l = ib .block .packed i (ib .low) .spare (2 + j) (omega (arith, bare)) (omega arith)
 
   bare-turned : TurnedAll W b i host W none-met T true
@@ -527,7 +525,7 @@ module _ (W : List ℕ) (b i host : ℕ) (ib : Inside W b i) (bk : Block W host)
       cls = o .bytes 0 (omega arith);
       count = o .bytes 1 (omega arith);
       done = λ j l m.
-          subst (λ (x : ℕ). CodeAs W b (getD W (240 * b + 6 * i + (2 + j)) 0) host x) (sym (o .bytes (2 + j) (omega arith)))
+          subst (λ (x : ℕ). CodeAs W b (getD W (234 * b + 6 * i + (2 + j)) 0) host x) (sym (o .bytes (2 + j) (omega arith)))
           (subst (λ (x : ℕ). CodeAs W b x host x) (sym (bare-code j m)) (record {
             low = leaf-low (countIn W host) 192 (omega arith);
             leaf = λ _. refl;
@@ -689,16 +687,15 @@ brought-length T i x m e = length-set T i x ∙ e
 beneath-grown : (host dst : ℕ) (W W′ : List ℕ) → dst ≤ host → Grown host W W′ → Beneath dst W W′
 beneath-grown host dst W W′ h g = record { same = g .outside .same; below = λ p l. g .outside .below p (omega arith) }
 
-pub beneath-more : (dst : ℕ) (W W1 W2 : List ℕ) → Beneath dst W W1 → Beneath dst W1 W2 → Beneath dst W W2
-beneath-more dst W W1 W2 a b = record { same = b .same ∙ a .same; below = λ p h. b .below p h ∙ a .below p h }
-
-pub made-from : (W W1 : List ℕ) (c : ℕ) (ps : List Slot) (n dst : ℕ) (W2 : List ℕ) (o : Made) → Beneath dst W W1 → valuesFrom W1 ps 0 n ≡ valuesFrom W ps 0 n
-    → MadeIs W1 (make c (valuesFrom W1 ps 0 n)) dst W2 o → MadeIs W (make c (valuesFrom W ps 0 n)) dst W2 o
-made-from W W1 c ps n dst W2 o b e m = record {
-  held = m .held;
-  is = m .is ∙ ap (λ (v : Graph). cond (leb (length (v .nodes)) 32) (some v) none) (ap (make c) e);
-  place = m .place;
-  beneath = beneath-more dst W W1 W2 b (m .beneath);
+made-from : (W W1 : List ℕ) (c : ℕ) (ps : List Slot) (n dst : ℕ) (W2 : List ℕ) (q : ℕ) → Beneath dst W W1 → valuesFrom W1 ps 0 n ≡ valuesFrom W ps 0 n
+    → MadeIn W1 (make c (valuesFrom W1 ps 0 n)) dst W2 q → MadeIn W (make c (valuesFrom W ps 0 n)) dst W2 q
+made-from W W1 c ps n dst W2 q b e m = record {
+  is = record {
+    held = m .is .held;
+    is = m .is .is ∙ ap (λ (v : Graph). cond (leb (length (v .nodes)) 32) (some v) none) (ap (make c) e);
+    place = m .is .place;
+    beneath = beneath-more dst W W1 W2 b (m .is .beneath);
+  };
 }
 
 abbrev AllLike : List Node → List Ref → List Graph → Type 0
@@ -725,11 +722,11 @@ module _ (W : List ℕ) (c : ℕ) (ps : List Slot) (n host dst : ℕ) (held : Pa
   pub in-held : PartsHeld W1 ps n
   in-held = parts-held host W W1 (br .grown) ps n held
 
-  pub in-room : 240 * dst + 240 ≤ length W → 240 * dst + 240 ≤ length W1
+  pub in-room : 234 * dst + 234 ≤ length W → 234 * dst + 234 ≤ length W1
   in-room h = omega (arith, br .grown .outside .same)
 
-  pub in-laid : (W2 : List ℕ) (o : Made) → MadeIs W1 (make c (valuesFrom W1 ps 0 n)) dst W2 o → MadeIs W (make c (valuesFrom W ps 0 n)) dst W2 o
-  in-laid W2 o m = made-from W W1 c ps n dst W2 o (beneath-grown host dst W W1 le (br .grown)) (parts-values host W W1 (br .grown) ps n held) m
+  pub in-laid : (W2 : List ℕ) (q : ℕ) → MadeIn W1 (make c (valuesFrom W1 ps 0 n)) dst W2 q → MadeIn W (make c (valuesFrom W ps 0 n)) dst W2 q
+  in-laid W2 q m = made-from W W1 c ps n dst W2 q (beneath-grown host dst W W1 le (br .grown)) (parts-values host W W1 (br .grown) ps n held) m
 
   module _ (eb : not b ≡ false) where
     rb : RootBrought W c ps n n W1 host T
@@ -759,18 +756,18 @@ module _ (W : List ℕ) (c : ℕ) (ps : List Slot) (n host dst : ℕ) (held : Pa
       pub in-held-2 : PartsHeld W2 ps n
       in-held-2 = parts-held host W W2 both ps n held
 
-      pub in-room-2 : 240 * dst + 240 ≤ length W → 240 * dst + 240 ≤ length W2
+      pub in-room-2 : 234 * dst + 234 ≤ length W → 234 * dst + 234 ≤ length W2
       in-room-2 h = omega (arith, both .outside .same)
 
-      pub in-laid-2 : (W3 : List ℕ) (o : Made) → MadeIs W2 (make c (valuesFrom W2 ps 0 n)) dst W3 o → MadeIs W (make c (valuesFrom W ps 0 n)) dst W3 o
-      in-laid-2 W3 o m = made-from W W2 c ps n dst W3 o (beneath-grown host dst W W2 le both) (parts-values host W W2 both ps n held) m
+      pub in-laid-2 : (W3 : List ℕ) (q : ℕ) → MadeIn W2 (make c (valuesFrom W2 ps 0 n)) dst W3 q → MadeIn W (make c (valuesFrom W ps 0 n)) dst W3 q
+      in-laid-2 W3 q m = made-from W W2 c ps n dst W3 q (beneath-grown host dst W W2 le both) (parts-values host W W2 both ps n held) m
 
       module _ (d : (r ≡ 32) → ⊥) where
         st : Standing W2 host T r
         st = en .standing d
 
-        pub in-holds : Holds W2 (Object host r)
-        in-holds = record { held = record { block = en .grown .block; low = st .low } }
+        inside : Inside W2 host r
+        inside = record { block = en .grown .block; low = st .low }
 
         whole : Whole (graphAt W2 host r)
         whole = whole-at W2 host (en .grown .block) r (st .low)
@@ -793,16 +790,12 @@ module _ (W : List ℕ) (c : ℕ) (ps : List Slot) (n host dst : ℕ) (held : Pa
             ∙ ap (λ (l : ℕ). some (object c l)) (omega (arith, length-take n (four T 0), few, parts-length W ps n held)))
             (λ f p. ap (λ (x : Node). getElem? (x .refs) f >>= (λ s. follow (objectsIn W2 host) s p)) node-is ∙ like-follow (objectsIn W2 host) (take n (four T 0)) (rawsFrom W ps 0 n) like f p)
 
-        pub in-made : (W3 : List ℕ) (o : ValueRef) → Gives W2 dst W3 o (valueOf W2 (Object host r)) → MadeIs W (make c (valuesFrom W ps 0 n)) dst W3 (Value o)
-        in-made W3 o g =
-            let l : length (make c (valuesFrom W ps 0 n) .nodes) ≤ 32 =
-            omega (arith, ap (λ (x : Graph). length (x .nodes)) value, canon-length (graphAt W2 host r) whole, size-in W2 host (en .grown .block), en .grown .block .small) in
-            record {
-              held = g .held;
-              is = rw (le-leb _ 32 l) (ap some (g .is ∙ sym value));
-              place = g .place;
-              beneath = beneath-more dst W W2 W3 (beneath-grown host dst W W2 le both) (under dst W2 W3 (g .outside));
-            }
+        module _ (s : host < 65536) where
+          pub in-holds : Holds W2 (refIn (256 * host + r))
+          in-holds = number-held W2 host r inside s
+
+          pub in-made : (W3 : List ℕ) (q : ℕ) → Gives W2 dst W3 (refIn q) (valueOf W2 (refIn (256 * host + r))) → MadeIn W (make c (valuesFrom W ps 0 n)) dst W3 q
+          in-made W3 q g = number-brought W W2 _ dst host r inside value (beneath-grown host dst W W2 le both) s W3 q g
 
 -- ---- the host
 pub lies-object : (d : ℕ) (v : ValueRef) (x i : ℕ) → v ≡ Object x i → eqb x d ≡ liesIn d v
@@ -878,11 +871,11 @@ module _ (W : List ℕ) (v : ValueRef) (b : ℕ) where
     unfolding largerOf
     larger-zero z = rw (e, eq-eqb x 0 z)
 
-    pub larger-other : (x ≡ 0 → ⊥) → getD W (240 * b + 192) 0 < getD W (240 * x + 192) 0 → x ≡ largerOf W v b
+    pub larger-other : (x ≡ 0 → ⊥) → getD W (234 * b + 192) 0 < getD W (234 * x + 192) 0 → x ≡ largerOf W v b
     unfolding largerOf countIn
     larger-other d h = rw (e, ne-eqb x 0 d, lt-ltb _ _ h)
 
-    pub larger-same : (x ≡ 0 → ⊥) → getD W (240 * x + 192) 0 ≤ getD W (240 * b + 192) 0 → b ≡ largerOf W v b
+    pub larger-same : (x ≡ 0 → ⊥) → getD W (234 * x + 192) 0 ≤ getD W (234 * b + 192) 0 → b ≡ largerOf W v b
     unfolding largerOf countIn
     larger-same d h = rw (e, ne-eqb x 0 d, le-ltb _ _ h)
 
@@ -936,10 +929,10 @@ module _ (W : List ℕ) (dst : ℕ) (W1 : List ℕ) (o : Outside dst W W1) (ps :
   unfolding valuesFrom
   away-values = same-values W W1 n ps (λ i h. keeps i h .is)
 
-  away-made : (c : ℕ) (W2 : List ℕ) (m : Made) → MadeIs W1 (make c (valuesFrom W1 ps 0 n)) dst W2 m → MadeIs W (make c (valuesFrom W ps 0 n)) dst W2 m
-  away-made c W2 m x = made-from W W1 c ps n dst W2 m (under dst W W1 o) away-values x
+  away-made : (c : ℕ) (W2 : List ℕ) (q : ℕ) → MadeIn W1 (make c (valuesFrom W1 ps 0 n)) dst W2 q → MadeIn W (make c (valuesFrom W ps 0 n)) dst W2 q
+  away-made c W2 q m = made-from W W1 c ps n dst W2 q (under dst W W1 o) away-values m
 
-module _ (W : List ℕ) (b dst : ℕ) (W1 : List ℕ) (bk : Block W b) (lb : b < dst) (room : 240 * dst + 240 ≤ length W) (cp : Copied W b dst W1) where
+module _ (W : List ℕ) (b dst : ℕ) (W1 : List ℕ) (bk : Block W b) (lb : b < dst) (room : 234 * dst + 234 ≤ length W) (cp : Copied W b dst W1) where
   pub copied-begun : Begun W1 b dst
   copied-begun =
       let m = block-moves W W1 b dst (cp .count) (cp .level) (cp .here) (omega (arith, cp .outside .same)) bk in
@@ -952,17 +945,17 @@ module _ (W : List ℕ) (b dst : ℕ) (W1 : List ℕ) (bk : Block W b) (lb : b <
         trees = λ r h p. ap (λ (x : List Node). follow x r p) (o .0 ∙ sym (m .0));
       }
 
-  pub copied-room : 240 * dst + 240 ≤ length W1
+  pub copied-room : 234 * dst + 234 ≤ length W1
   copied-room = omega (arith, cp .outside .same)
 
   module _ (ps : List Slot) (n : ℕ) (held : PartsHeld W ps n) (away : someIn ps n dst ≡ false) where
     pub copied-held : PartsHeld W1 ps n
     copied-held = away-held W dst W1 (cp .outside) ps n held away
 
-    pub copied-made : (c : ℕ) (W2 : List ℕ) (o : Made) → MadeIs W1 (make c (valuesFrom W1 ps 0 n)) dst W2 o → MadeIs W (make c (valuesFrom W ps 0 n)) dst W2 o
+    pub copied-made : (c : ℕ) (W2 : List ℕ) (q : ℕ) → MadeIn W1 (make c (valuesFrom W1 ps 0 n)) dst W2 q → MadeIn W (make c (valuesFrom W ps 0 n)) dst W2 q
     copied-made = away-made W dst W1 (cp .outside) ps n held away
 
-module _ (W : List ℕ) (dst : ℕ) (W1 : List ℕ) (room : 240 * dst + 240 ≤ length W) (em : Emptied W dst W1) where
+module _ (W : List ℕ) (dst : ℕ) (W1 : List ℕ) (room : 234 * dst + 234 ≤ length W) (em : Emptied W dst W1) where
   none-there : objectsIn W1 dst ≡ []
   unfolding objectsIn nodesIn
   none-there = rw (em .count)
@@ -977,15 +970,15 @@ module _ (W : List ℕ) (dst : ℕ) (W1 : List ℕ) (room : 240 * dst + 240 ≤ 
     level = λ q h. absurd (omega (arith, em .count));
   })
 
-  pub empty-room : 240 * dst + 240 ≤ length W1
+  pub empty-room : 234 * dst + 234 ≤ length W1
   empty-room = omega (arith, em .outside .same)
 
   module _ (ps : List Slot) (n : ℕ) (held : PartsHeld W ps n) (away : someIn ps n dst ≡ false) where
     pub empty-held : PartsHeld W1 ps n
     empty-held = away-held W dst W1 (em .outside) ps n held away
 
-    pub empty-made : (c : ℕ) (W2 : List ℕ) (o : Made) → MadeIs W1 (make c (valuesFrom W1 ps 0 n)) dst W2 o → MadeIs W (make c (valuesFrom W ps 0 n)) dst W2 o
+    pub empty-made : (c : ℕ) (W2 : List ℕ) (q : ℕ) → MadeIn W1 (make c (valuesFrom W1 ps 0 n)) dst W2 q → MadeIn W (make c (valuesFrom W ps 0 n)) dst W2 q
     empty-made = away-made W dst W1 (em .outside) ps n held away
 
-pub larger-read : (W : List ℕ) (v : ValueRef) (x i : ℕ) → Holds W v → v ≡ Object x i → 240 * x + 192 < length W
+pub larger-read : (W : List ℕ) (v : ValueRef) (x i : ℕ) → Holds W v → v ≡ Object x i → 234 * x + 192 < length W
 larger-read W v x i h e = omega (arith, held-room W v x i h e)

@@ -22,11 +22,11 @@ pub record RootObject (c : ℕ) (gs : List Graph) (T : List ℕ) : Type 0 where
 
 -- none of the first k objects of block b is the object in T
 pub record Missed (W : List ℕ) (b : ℕ) (T : List ℕ) (k : ℕ) : Type 0 where
-  pub none : (j : ℕ) → j < k → nodeIn W (240 * b + 6 * j) ≡ nodeIn T 0 → ⊥
+  pub none : (j : ℕ) → j < k → nodeIn W (234 * b + 6 * j) ≡ nodeIn T 0 → ⊥
 
 -- the place of the object in T among t of block b, or t
 pub record Found (W : List ℕ) (b t : ℕ) (T : List ℕ) (k : ℕ) : Type 0 where
-  pub hit : k < t → nodeIn W (240 * b + 6 * k) ≡ nodeIn T 0
+  pub hit : k < t → nodeIn W (234 * b + 6 * k) ≡ nodeIn T 0
   pub miss : t ≤ k → Missed W b T t
 
 -- block dst has no objects; the bytes outside are W's
@@ -39,16 +39,16 @@ pub record Emptied (W : List ℕ) (dst : ℕ) (D : List ℕ) : Type 0 where
 pub record Appended (W : List ℕ) (dst t : ℕ) (T : List ℕ) (l : ℕ) (D : List ℕ) : Type 0 where
   pub count : countIn D dst ≡ t + 1
   pub level : levelIn D dst ≡ l
-  pub old : (q : ℕ) → q < 6 * t → getD D (240 * dst + q) 0 ≡ getD W (240 * dst + q) 0
-  pub top : (k : ℕ) → k < 6 → getD D (240 * dst + 6 * t + k) 0 ≡ getD T k 0
+  pub old : (q : ℕ) → q < 6 * t → getD D (234 * dst + q) 0 ≡ getD W (234 * dst + q) 0
+  pub top : (k : ℕ) → k < 6 → getD D (234 * dst + 6 * t + k) 0 ≡ getD T k 0
   pub outside : Outside dst W D
 
 -- t objects of block b and then the one in T, in block dst
 pub record Added (W : List ℕ) (b t : ℕ) (T : List ℕ) (dst : ℕ) (D : List ℕ) : Type 0 where
   pub count : countIn D dst ≡ t + 1
-  pub old : (q : ℕ) → q < 6 * t → getD D (240 * dst + q) 0 ≡ getD W (240 * b + q) 0
-  pub top : (k : ℕ) → k < 6 → getD D (240 * dst + 6 * t + k) 0 ≡ getD T k 0
-  pub level : (q : ℕ) → q < 6 * (t + 1) → getD D (240 * dst + q) 0 < 193 + levelIn D dst
+  pub old : (q : ℕ) → q < 6 * t → getD D (234 * dst + q) 0 ≡ getD W (234 * b + q) 0
+  pub top : (k : ℕ) → k < 6 → getD D (234 * dst + 6 * t + k) 0 ≡ getD T k 0
+  pub level : (q : ℕ) → q < 6 * (t + 1) → getD D (234 * dst + q) 0 < 193 + levelIn D dst
   pub outside : Outside dst W D
 
 unfoldable pub isObject : ValueRef → Bool

@@ -8,12 +8,12 @@ use lib.Dec.{leb}
 use lib.ListN.{length, getD, take, drop}
 use Rattle.cofj.specs.Values.{undet, Node, node, Graph, rename, renameNode, lay}
 use Rattle.canon.specs.Layout.{refOf, nodesIn, Packed, Beneath}
+use Rattle.values.specs.declared.ValueRef.{ValueRef}
 use Rattle.values.specs.declared.ValueRef.the-variants.{Object}
-use Rattle.values.specs.Refs.{refIn}
-use Rattle.values.specs.Layout.{valueOf, rawOf, Holds, Low}
+use Rattle.values.specs.Refs.{refIn, answerOf}
+use Rattle.values.specs.Layout.{valueOf, rawOf, Holds}
+use Rattle.values.specs.Operations.{answerIn, AnswerHeld, AnswerLow}
 use Rattle.maker.specs.declared.Slot.{Slot}
-use Rattle.maker.specs.declared.Made.{Made}
-use Rattle.maker.specs.declared.Made.the-variants.{Value, TooLarge}
 
 -- the parts of a new object, from their numbers
 unfoldable pub partsOf : List ℕ → List Slot
@@ -68,22 +68,13 @@ pub record Built (c : ℕ) (gs : List Graph) (R : List ℕ) (t : ℕ) : Type 0 w
   pub few : t ≤ 129
   pub packed : (j : ℕ) → j < t → Packed R (6 * j)
 
--- what making answers, as a value
-abbrev pub madeIn : List ℕ → Made → Option Graph
-madeIn W (Value r) = some (valueOf W r)
-madeIn W TooLarge = none
-
-abbrev pub MadeHeld : List ℕ → Made → Type 0
-MadeHeld W (Value r) = Holds W r
-MadeHeld W TooLarge = Unit {0}
-
-abbrev pub MadePlace : ℕ → Made → Type 0
-MadePlace b (Value r) = Low (b + 1) r
-MadePlace b TooLarge = Unit {0}
-
 -- the value v, in block dst or below, unless it has more than 32 objects; what lies below block dst is as before
-pub record MadeIs (W : List ℕ) (v : Graph) (dst : ℕ) (W′ : List ℕ) (o : Made) : Type 0 where
-  pub held : MadeHeld W′ o
-  pub is : madeIn W′ o ≡ cond (leb (length (v .nodes)) 32) (some v) none
-  pub place : MadePlace dst o
+pub record MadeIs (W : List ℕ) (v : Graph) (dst : ℕ) (W′ : List ℕ) (o : Option ValueRef) : Type 0 where
+  pub held : AnswerHeld W′ o
+  pub is : answerIn W′ o ≡ cond (leb (length (v .nodes)) 32) (some v) none
+  pub place : AnswerLow (dst + 1) o
   pub beneath : Beneath dst W W′
+
+-- the same, the answer a number
+pub record MadeIn (W : List ℕ) (v : Graph) (dst : ℕ) (W′ : List ℕ) (q : ℕ) : Type 0 where
+  pub is : MadeIs W v dst W′ (answerOf q)

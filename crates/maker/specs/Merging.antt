@@ -67,15 +67,15 @@ pub record Imported (W : List ℕ) (src c host : ℕ) (W′ M′ : List ℕ) (r 
 -- T has the bytes of object i of block src
 pub record ObjectBytes (W : List ℕ) (src i : ℕ) (T : List ℕ) : Type 0 where
   pub long : length T ≡ 6
-  pub bytes : (j : ℕ) → j < 6 → getD T j 0 ≡ getD W (240 * src + 6 * i + j) 0
+  pub bytes : (j : ℕ) → j < 6 → getD T j 0 ≡ getD W (234 * src + 6 * i + j) 0
 
 -- T has object i of block src, its first k codes turned to codes of block host
 pub record Turned (W : List ℕ) (src i host : ℕ) (T : List ℕ) (k : ℕ) : Type 0 where
   pub long : length T ≡ 6
-  pub cls : getD T 0 0 ≡ getD W (240 * src + 6 * i + 0) 0
-  pub count : getD T 1 0 ≡ getD W (240 * src + 6 * i + 1) 0
-  pub done : (j : ℕ) → j < k → j < 4 → CodeAs W src (getD W (240 * src + 6 * i + (2 + j)) 0) host (getD T (2 + j) 0)
-  pub left : (j : ℕ) → k ≤ j → j < 4 → getD T (2 + j) 0 ≡ getD W (240 * src + 6 * i + (2 + j)) 0
+  pub cls : getD T 0 0 ≡ getD W (234 * src + 6 * i + 0) 0
+  pub count : getD T 1 0 ≡ getD W (234 * src + 6 * i + 1) 0
+  pub done : (j : ℕ) → j < k → j < 4 → CodeAs W src (getD W (234 * src + 6 * i + (2 + j)) 0) host (getD T (2 + j) 0)
+  pub left : (j : ℕ) → k ≤ j → j < 4 → getD T (2 + j) 0 ≡ getD W (234 * src + 6 * i + (2 + j)) 0
 
 pub record Turning (W : List ℕ) (src i host : ℕ) (M T : List ℕ) (k : ℕ) : Type 0 where
   pub inside : Inside W src i

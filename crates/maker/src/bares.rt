@@ -6,7 +6,7 @@ ghost use Rattle.maker.specs.Bares.{LaidBares};
 
 // Object c of block 0 is the object of class c without fields, and there is no other.
 pub fn lay_bares(work: &mut [u8])
-    requires { ⌜ 240 ≤ length (now work) ⌝ }
+    requires { ⌜ 234 ≤ length (now work) ⌝ }
     ensures { λ _. ⌜ LaidBares (now (work .entry)) (now (work .exit)) ⌝ }
 {
     let mut c: u8 = 0;

@@ -24,12 +24,12 @@ pub fn lay_block(work: &[u8], b: u16, raw: &mut [u8], at: u8) -> u8
     requires { ⌜ Block (now work) b × (at ≤ 97) × (1536 ≤ length (now raw)) ⌝ }
     ensures { λ n. ⌜ LaidNodes (objectsIn (now (work .entry)) b) at (now (raw .entry)) (now (raw .exit)) n ⌝ }
 {
-    let n = work[240 * (b as usize) + 192];
+    let n = work[234 * (b as usize) + 192];
     let mut table = [0u8; 256];
     count_up(at, n, &mut table);
     lift(
         work,
-        240 * (b as usize),
+        234 * (b as usize),
         6 * (n as usize),
         &table,
         raw,

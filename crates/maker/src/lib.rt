@@ -10,9 +10,3 @@ pub mod bares; // block 0 with the objects without fields
 pub struct Slot {
     pub r: values::ValueRef,
 }
-
-// What making an object answers.
-pub enum Made {
-    Value(values::ValueRef),
-    TooLarge,
-}

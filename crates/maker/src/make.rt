@@ -1,5 +1,4 @@
 // A new object: how it is made, by what its parts are. Not here: each way.
-use crate::Made;
 use crate::lay::build;
 use crate::lay::part_at;
 use crate::merge::make_apart;
@@ -13,22 +12,23 @@ use crate::over::root_object;
 use canon::colours::colour;
 use canon::number::put;
 use values::ValueRef;
-use values::value::bring;
+use values::refs::NOTHING;
+use values::value::bring_in;
 ghost use mathlib.Core.Path.{_≡_};
 ghost use mathlib.Core.Bool.{true, false};
 ghost use Prim.Native.Nat.{ℕ, _+_, _*_, _<_, _≤_};
 ghost use lib.ListN.{length};
 ghost use Rattle.cofj.specs.Values.{make};
-ghost use Rattle.maker.specs.Laying.{partsOf, PartsHeld, valuesFrom, MadeIs};
+ghost use Rattle.maker.specs.Laying.{partsOf, PartsHeld, valuesFrom, MadeIn};
 ghost use Rattle.canon.specs.Layout.{Block};
 ghost use Rattle.maker.specs.Adding.{someObject, blockOf, firstBlock, standsIn, allStand};
 ghost use Rattle.maker.specs.Merging.{someIn};
 ghost use Rattle.values.specs.Refs.{refIn};
 
 // The parts' objects laid side by side, and equal ones found.
-pub fn make_laid(work: &mut [u8], c: u8, parts: &[u32; 4], n: u8, dst: u16) -> Made
-    requires { ⌜ PartsHeld (now work) (partsOf (now parts)) n × (n ≤ 4) × (240 * dst + 240 ≤ length (now work)) ⌝ }
-    ensures { λ o. ⌜ MadeIs (now (work .entry)) (make c (valuesFrom (now (work .entry)) (partsOf (now (parts .entry))) 0 n)) dst (now (work .exit)) o ⌝ }
+pub fn make_laid(work: &mut [u8], c: u8, parts: &[u32; 4], n: u8, dst: u16) -> u32
+    requires { ⌜ PartsHeld (now work) (partsOf (now parts)) n × (n ≤ 4) × (234 * dst + 234 ≤ length (now work)) ⌝ }
+    ensures { λ q. ⌜ MadeIn (now (work .entry)) (make c (valuesFrom (now (work .entry)) (partsOf (now (parts .entry))) 0 n)) dst (now (work .exit)) q ⌝ }
 {
     let mut raw = [0u8; 1536];
     let t = build(work, c, parts, n, &mut raw);
@@ -36,9 +36,9 @@ pub fn make_laid(work: &mut [u8], c: u8, parts: &[u32; 4], n: u8, dst: u16) -> M
     colour(&raw, t, &mut cs);
     let m = put(&raw, t, &cs, 0, work, dst);
     if 32 < m {
-        return Made::TooLarge;
+        return NOTHING;
     }
-    Made::Value(ValueRef::Object(dst, 0))
+    256 * (dst as u32)
 }
 
 // Whether one of the parts is an object.
@@ -110,28 +110,28 @@ pub fn together(parts: &[u32; 4], n: u8, b: u16) -> bool
 }
 
 // A new object whose parts lie in block b, or are no objects.
-pub fn make_beside(work: &mut [u8], c: u8, parts: &[u32; 4], n: u8, b: u16, dst: u16) -> Made
-    requires { ⌜ PartsHeld (now work) (partsOf (now parts)) n × (n ≤ 4) × Block (now work) b × (allStand (partsOf (now parts)) n b ≡ true) × (240 * dst + 240 ≤ length (now work)) ⌝ }
-    ensures { λ o. ⌜ MadeIs (now (work .entry)) (make c (valuesFrom (now (work .entry)) (partsOf (now (parts .entry))) 0 n)) dst (now (work .exit)) o ⌝ }
+pub fn make_beside(work: &mut [u8], c: u8, parts: &[u32; 4], n: u8, b: u16, dst: u16) -> u32
+    requires { ⌜ PartsHeld (now work) (partsOf (now parts)) n × (n ≤ 4) × Block (now work) b × (allStand (partsOf (now parts)) n b ≡ true) × (234 * dst + 234 ≤ length (now work)) ⌝ }
+    ensures { λ q. ⌜ MadeIn (now (work .entry)) (make c (valuesFrom (now (work .entry)) (partsOf (now (parts .entry))) 0 n)) dst (now (work .exit)) q ⌝ }
 {
     let mut top = [0u8; 6];
     root_object(work, c, parts, n, &mut top);
-    let t = work[240 * (b as usize) + 192];
+    let t = work[234 * (b as usize) + 192];
     let k = find(work, b, t, &top);
     if k < t {
-        return Made::Value(bring(work, ValueRef::Object(b, k), dst));
+        return bring_in(work, 256 * (b as u32) + (k as u32), dst);
     }
     if 32 <= t {
         return make_laid(work, c, parts, n, dst);
     }
     add(work, b, &top, dst);
-    Made::Value(ValueRef::Object(dst, t))
+    256 * (dst as u32) + (t as u32)
 }
 
 // A new object in block `dst`, where no part lies: alone, or after what its parts lead to.
-pub fn make_fresh(work: &mut [u8], c: u8, parts: &[u32; 4], n: u8, dst: u16) -> Made
-    requires { ⌜ PartsHeld (now work) (partsOf (now parts)) n × (n ≤ 4) × (someIn (partsOf (now parts)) n dst ≡ false) × (240 * dst + 240 ≤ length (now work)) ⌝ }
-    ensures { λ o. ⌜ MadeIs (now (work .entry)) (make c (valuesFrom (now (work .entry)) (partsOf (now (parts .entry))) 0 n)) dst (now (work .exit)) o ⌝ }
+pub fn make_fresh(work: &mut [u8], c: u8, parts: &[u32; 4], n: u8, dst: u16) -> u32
+    requires { ⌜ PartsHeld (now work) (partsOf (now parts)) n × (n ≤ 4) × (someIn (partsOf (now parts)) n dst ≡ false) × (234 * dst + 234 ≤ length (now work)) ⌝ }
+    ensures { λ q. ⌜ MadeIn (now (work .entry)) (make c (valuesFrom (now (work .entry)) (partsOf (now (parts .entry))) 0 n)) dst (now (work .exit)) q ⌝ }
 {
     if !some_object(parts, n) {
         return make_alone(work, c, parts, n, dst);
@@ -140,11 +140,11 @@ pub fn make_fresh(work: &mut [u8], c: u8, parts: &[u32; 4], n: u8, dst: u16) -> 
     make_in(work, c, parts, n, dst, dst, dst)
 }
 
-// A new object of class c with the n first parts, in block `dst` or below, unless it has more than 32 objects.
+// A new object of class c with the n first parts, in block `dst` or below: its number, or NOTHING if it has more than 32 objects.
 // Block 0 is often full, and block `dst` is to be written: so the parts are brought to `dst` if one lies there or none lies above block 0.
-pub fn make(work: &mut [u8], c: u8, parts: &[u32; 4], n: u8, dst: u16) -> Made
-    requires { ⌜ PartsHeld (now work) (partsOf (now parts)) n × (n ≤ 4) × (240 * dst + 240 ≤ length (now work)) ⌝ }
-    ensures { λ o. ⌜ MadeIs (now (work .entry)) (make c (valuesFrom (now (work .entry)) (partsOf (now (parts .entry))) 0 n)) dst (now (work .exit)) o ⌝ }
+pub fn make(work: &mut [u8], c: u8, parts: &[u32; 4], n: u8, dst: u16) -> u32
+    requires { ⌜ PartsHeld (now work) (partsOf (now parts)) n × (n ≤ 4) × (234 * dst + 234 ≤ length (now work)) ⌝ }
+    ensures { λ q. ⌜ MadeIn (now (work .entry)) (make c (valuesFrom (now (work .entry)) (partsOf (now (parts .entry))) 0 n)) dst (now (work .exit)) q ⌝ }
 {
     if some_in(parts, n, dst) {
         return make_in(work, c, parts, n, dst, dst, dst);

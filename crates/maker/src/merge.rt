@@ -1,6 +1,5 @@
 // Objects of several blocks brought into one, the host, and a new object over them there.
 // Not here: parts that lie in one block already (make), and objects that lead back to themselves, which are laid side by side (make).
-use crate::Made;
 use crate::lay::part_at;
 use crate::make::make_laid;
 use crate::over::append;
@@ -8,14 +7,14 @@ use crate::over::find;
 use crate::over::level_with;
 use canon::bytes::copy;
 use values::ValueRef;
-use values::value::bring;
+use values::value::bring_in;
 use values::value::copy_block;
 ghost use mathlib.Core.Path.{_≡_};
 ghost use mathlib.Core.Bool.{false};
 ghost use Prim.Native.Nat.{ℕ, _+_, _*_, _<_, _≤_};
 ghost use lib.ListN.{length, getD};
 ghost use Rattle.cofj.specs.Values.{make};
-ghost use Rattle.maker.specs.Laying.{partsOf, PartsHeld, valuesFrom, MadeIs};
+ghost use Rattle.maker.specs.Laying.{partsOf, PartsHeld, valuesFrom, MadeIn};
 ghost use Rattle.canon.specs.Layout.{Block, Inside};
 ghost use Rattle.values.specs.Layout.{Holds, liesIn};
 ghost use Rattle.values.specs.declared.ValueRef.the-variants.{Object};
@@ -26,7 +25,7 @@ pub fn enter(work: &mut [u8], host: u16, top: &[u8]) -> u8
     requires { ⌜ Block (now work) host × Fits (now work) host (now top) ⌝ }
     ensures { λ r. ⌜ Entered (now (work .entry)) host (now (top .entry)) (now (work .exit)) r ⌝ }
 {
-    let t = work[240 * (host as usize) + 192];
+    let t = work[234 * (host as usize) + 192];
     let k = find(work, host, t, top);
     if k < t {
         return k;
@@ -34,7 +33,7 @@ pub fn enter(work: &mut [u8], host: u16, top: &[u8]) -> u8
     if 32 <= t {
         return 32;
     }
-    let l = level_with(top, work[240 * (host as usize) + 193]);
+    let l = level_with(top, work[234 * (host as usize) + 193]);
     append(work, host, t, top, l);
     t
 }
@@ -44,7 +43,7 @@ pub fn take_object(work: &[u8], src: u16, i: u8, top: &mut [u8])
     requires { ⌜ Inside (now work) src i × (length (now top) ≡ 6) ⌝ }
     ensures { λ _. ⌜ ObjectBytes (now (work .entry)) src i (now (top .exit)) ⌝ }
 {
-    copy(work, 240 * (src as usize) + 6 * (i as usize), top, 0, 6);
+    copy(work, 234 * (src as usize) + 6 * (i as usize), top, 0, 6);
 }
 
 // A code of block src, with what it leads to, in block host: its code there, or 32 if there is no room or it leads back to itself.
@@ -104,7 +103,7 @@ pub fn import_codes(
 
 // Object i of block b, which has no fields, in block host: its number there, or 32 if there is no room.
 pub fn import_bare(work: &mut [u8], b: u16, i: u8, host: u16) -> u8
-    requires { ⌜ Inside (now work) b i × Block (now work) host × ((b ≡ host) → ⊥) × (getD (now work) (240 * b + 6 * i + 1) 0 ≡ 0) ⌝ }
+    requires { ⌜ Inside (now work) b i × Block (now work) host × ((b ≡ host) → ⊥) × (getD (now work) (234 * b + 6 * i + 1) 0 ≡ 0) ⌝ }
     ensures { λ r. ⌜ PartImported (now (work .entry)) (Object b i) host (now (work .exit)) r ⌝ }
 {
     let mut top = [0u8; 6];
@@ -123,10 +122,10 @@ pub fn import_object(work: &mut [u8], b: u16, i: u8, base: u16, host: u16) -> u8
     if b == host {
         return i;
     }
-    if work[240 * (b as usize) + 6 * (i as usize) + 1] == 0 {
+    if work[234 * (b as usize) + 6 * (i as usize) + 1] == 0 {
         return import_bare(work, b, i, host);
     }
-    let t = work[240 * (b as usize) + 192];
+    let t = work[234 * (b as usize) + 192];
     let mut memo = [0u8; 32];
     import(work, b, i, host, &mut memo, t)
 }
@@ -184,9 +183,9 @@ pub fn make_in(
     base: u16,
     host: u16,
     dst: u16,
-) -> Made
-    requires { ⌜ PartsHeld (now work) (partsOf (now parts)) n × (n ≤ 4) × Begun (now work) base host × (dst ≤ host) × (240 * dst + 240 ≤ length (now work)) ⌝ }
-    ensures { λ o. ⌜ MadeIs (now (work .entry)) (make c (valuesFrom (now (work .entry)) (partsOf (now (parts .entry))) 0 n)) dst (now (work .exit)) o ⌝ }
+) -> u32
+    requires { ⌜ PartsHeld (now work) (partsOf (now parts)) n × (n ≤ 4) × Begun (now work) base host × (dst ≤ host) × (234 * dst + 234 ≤ length (now work)) ⌝ }
+    ensures { λ q. ⌜ MadeIn (now (work .entry)) (make c (valuesFrom (now (work .entry)) (partsOf (now (parts .entry))) 0 n)) dst (now (work .exit)) q ⌝ }
 {
     let mut top = [0u8; 6];
     if !bring_parts(work, c, parts, n, base, host, &mut top) {
@@ -196,7 +195,7 @@ pub fn make_in(
     if r == 32 {
         return make_laid(work, c, parts, n, dst);
     }
-    Made::Value(bring(work, ValueRef::Object(host, r), dst))
+    bring_in(work, 256 * (host as u32) + (r as u32), dst)
 }
 
 // The block of v, if v is an object of a block other than 0 and that block has more objects than block b; else b.
@@ -210,7 +209,7 @@ pub fn larger(work: &[u8], v: ValueRef, b: u16) -> u16
     if x == 0 {
         return b;
     }
-    if work[240 * (b as usize) + 192] < work[240 * (x as usize) + 192] {
+    if work[234 * (b as usize) + 192] < work[234 * (x as usize) + 192] {
         return x;
     }
     b
@@ -259,18 +258,18 @@ pub fn some_in(parts: &[u32; 4], n: u8, d: u16) -> bool
 }
 
 // A new object whose parts are brought into a copy of block b, in block `dst`, where no part lies.
-pub fn make_copied(work: &mut [u8], c: u8, parts: &[u32; 4], n: u8, b: u16, dst: u16) -> Made
-    requires { ⌜ PartsHeld (now work) (partsOf (now parts)) n × (n ≤ 4) × Block (now work) b × (b < dst) × (someIn (partsOf (now parts)) n dst ≡ false) × (240 * dst + 240 ≤ length (now work)) ⌝ }
-    ensures { λ o. ⌜ MadeIs (now (work .entry)) (make c (valuesFrom (now (work .entry)) (partsOf (now (parts .entry))) 0 n)) dst (now (work .exit)) o ⌝ }
+pub fn make_copied(work: &mut [u8], c: u8, parts: &[u32; 4], n: u8, b: u16, dst: u16) -> u32
+    requires { ⌜ PartsHeld (now work) (partsOf (now parts)) n × (n ≤ 4) × Block (now work) b × (b < dst) × (someIn (partsOf (now parts)) n dst ≡ false) × (234 * dst + 234 ≤ length (now work)) ⌝ }
+    ensures { λ q. ⌜ MadeIn (now (work .entry)) (make c (valuesFrom (now (work .entry)) (partsOf (now (parts .entry))) 0 n)) dst (now (work .exit)) q ⌝ }
 {
     copy_block(work, b, dst);
     make_in(work, c, parts, n, b, dst, dst)
 }
 
 // A new object whose parts lie in several blocks, `first` one of them, none in `dst`: over the block with the most objects, where it may be written, or over a copy.
-pub fn make_apart(work: &mut [u8], c: u8, parts: &[u32; 4], n: u8, first: u16, dst: u16) -> Made
-    requires { ⌜ PartsHeld (now work) (partsOf (now parts)) n × (n ≤ 4) × Block (now work) first × (someIn (partsOf (now parts)) n dst ≡ false) × (240 * dst + 240 ≤ length (now work)) ⌝ }
-    ensures { λ o. ⌜ MadeIs (now (work .entry)) (make c (valuesFrom (now (work .entry)) (partsOf (now (parts .entry))) 0 n)) dst (now (work .exit)) o ⌝ }
+pub fn make_apart(work: &mut [u8], c: u8, parts: &[u32; 4], n: u8, first: u16, dst: u16) -> u32
+    requires { ⌜ PartsHeld (now work) (partsOf (now parts)) n × (n ≤ 4) × Block (now work) first × (someIn (partsOf (now parts)) n dst ≡ false) × (234 * dst + 234 ≤ length (now work)) ⌝ }
+    ensures { λ q. ⌜ MadeIn (now (work .entry)) (make c (valuesFrom (now (work .entry)) (partsOf (now (parts .entry))) 0 n)) dst (now (work .exit)) q ⌝ }
 {
     let b = largest(work, parts, n, first);
     if dst <= b {

@@ -1,5 +1,4 @@
 // A new object beside the objects of the block where its parts lie, or alone in a block. Not here: parts in several blocks.
-use crate::Made;
 use crate::lay::part_at;
 use canon::bytes::copy;
 use canon::bytes::same_six;
@@ -12,7 +11,7 @@ ghost use Prim.Native.Nat.{ℕ, _+_, _*_, _<_, _≤_};
 ghost use mathlib.Core.List.{[]};
 ghost use lib.ListN.{length};
 ghost use Rattle.cofj.specs.Values.{make};
-ghost use Rattle.maker.specs.Laying.{partsOf, PartsHeld, rawsFrom, valuesFrom, MadeIs};
+ghost use Rattle.maker.specs.Laying.{partsOf, PartsHeld, rawsFrom, valuesFrom, MadeIn};
 ghost use Rattle.canon.specs.Layout.{refOf, Packed, Block, countIn};
 ghost use Rattle.values.specs.Layout.{rawOf, Holds};
 ghost use Rattle.canon.specs.Numbers.{Levels};
@@ -56,7 +55,7 @@ pub fn find(work: &[u8], b: u16, t: u8, top: &[u8]) -> u8
 {
     let mut k: u8 = 0;
     while k < t {
-        if same_six(work, 240 * (b as usize) + 6 * (k as usize), top, 0) {
+        if same_six(work, 234 * (b as usize) + 6 * (k as usize), top, 0) {
             return k;
         }
         k += 1;
@@ -80,53 +79,53 @@ pub fn level_with(top: &[u8], l: u8) -> u8
 
 // Block `dst` without objects.
 pub fn empty(work: &mut [u8], dst: u16)
-    requires { ⌜ 240 * dst + 240 ≤ length (now work) ⌝ }
+    requires { ⌜ 234 * dst + 234 ≤ length (now work) ⌝ }
     ensures { λ _. ⌜ Emptied (now (work .entry)) dst (now (work .exit)) ⌝ }
 {
-    work[240 * (dst as usize) + 192] = 0;
-    work[240 * (dst as usize) + 193] = 0;
+    work[234 * (dst as usize) + 192] = 0;
+    work[234 * (dst as usize) + 193] = 0;
 }
 
 // The object in `top`, after t objects of block `dst`, and the block's level.
 pub fn append(work: &mut [u8], dst: u16, t: u8, top: &[u8], l: u8)
-    requires { ⌜ (t ≤ 31) × (240 * dst + 240 ≤ length (now work)) × (6 ≤ length (now top)) ⌝ }
+    requires { ⌜ (t ≤ 31) × (234 * dst + 234 ≤ length (now work)) × (6 ≤ length (now top)) ⌝ }
     ensures { λ _. ⌜ Appended (now (work .entry)) dst t (now (top .entry)) l (now (work .exit)) ⌝ }
 {
-    copy(top, 0, work, 240 * (dst as usize) + 6 * (t as usize), 6);
-    work[240 * (dst as usize) + 192] = t + 1;
-    work[240 * (dst as usize) + 193] = l;
+    copy(top, 0, work, 234 * (dst as usize) + 6 * (t as usize), 6);
+    work[234 * (dst as usize) + 192] = t + 1;
+    work[234 * (dst as usize) + 193] = l;
 }
 
 // The objects of block b and the one in `top`, in block `dst`.
 pub fn add(work: &mut [u8], b: u16, top: &[u8], dst: u16)
-    requires { ⌜ Block (now work) b × (countIn (now work) b < 32) × (240 * dst + 240 ≤ length (now work)) × (6 ≤ length (now top)) ⌝ }
+    requires { ⌜ Block (now work) b × (countIn (now work) b < 32) × (234 * dst + 234 ≤ length (now work)) × (6 ≤ length (now top)) ⌝ }
     ensures { λ _. ⌜ Added (now (work .entry)) b (countIn (now (work .entry)) b) (now (top .entry)) dst (now (work .exit)) ⌝ }
 {
-    let t = work[240 * (b as usize) + 192];
-    let l = level_with(top, work[240 * (b as usize) + 193]);
+    let t = work[234 * (b as usize) + 192];
+    let l = level_with(top, work[234 * (b as usize) + 193]);
     copy_block(work, b, dst);
     append(work, dst, t, top, l);
 }
 
 // A new object whose parts are no objects.
-pub fn make_alone(work: &mut [u8], c: u8, parts: &[u32; 4], n: u8, dst: u16) -> Made
-    requires { ⌜ PartsHeld (now work) (partsOf (now parts)) n × (n ≤ 4) × (someObject (partsOf (now parts)) n ≡ false) × (240 * dst + 240 ≤ length (now work)) ⌝ }
-    ensures { λ o. ⌜ MadeIs (now (work .entry)) (make c (valuesFrom (now (work .entry)) (partsOf (now (parts .entry))) 0 n)) dst (now (work .exit)) o ⌝ }
+pub fn make_alone(work: &mut [u8], c: u8, parts: &[u32; 4], n: u8, dst: u16) -> u32
+    requires { ⌜ PartsHeld (now work) (partsOf (now parts)) n × (n ≤ 4) × (someObject (partsOf (now parts)) n ≡ false) × (234 * dst + 234 ≤ length (now work)) ⌝ }
+    ensures { λ q. ⌜ MadeIn (now (work .entry)) (make c (valuesFrom (now (work .entry)) (partsOf (now (parts .entry))) 0 n)) dst (now (work .exit)) q ⌝ }
 {
     let mut top = [0u8; 6];
     root_object(work, c, parts, n, &mut top);
     let l = level_with(&top, 0);
     append(work, dst, 0, &top, l);
-    Made::Value(ValueRef::Object(dst, 0))
+    256 * (dst as u32)
 }
 
 // A new object without parts.
-pub fn make_bare(work: &mut [u8], c: u8, dst: u16) -> Made
-    requires { ⌜ 240 * dst + 240 ≤ length (now work) ⌝ }
-    ensures { λ o. ⌜ MadeIs (now (work .entry)) (make c []) dst (now (work .exit)) o ⌝ }
+pub fn make_bare(work: &mut [u8], c: u8, dst: u16) -> u32
+    requires { ⌜ 234 * dst + 234 ≤ length (now work) ⌝ }
+    ensures { λ q. ⌜ MadeIn (now (work .entry)) (make c []) dst (now (work .exit)) q ⌝ }
 {
     let top = [c, 0, 192, 192, 192, 192];
     let l = level_with(&top, 0);
     append(work, dst, 0, &top, l);
-    Made::Value(ValueRef::Object(dst, 0))
+    256 * (dst as u32)
 }

@@ -246,14 +246,14 @@ module _ (W : List ℕ) (p hot i : ℕ) (R₀ : List ℕ) (q : ℕ) where
 pub bound-none : (W : List ℕ) (b hot i : ℕ) (R : List ℕ) → ObjectsBound W b hot i 0 R
 bound-none W b hot i R = record { here = λ j f h. absurd (omega arith) }
 
-pub bound-more : (W : List ℕ) (b hot i j : ℕ) (R R2 : List ℕ) → ObjectsBound W b hot i j R → ObjectBound W (240 * b + 6 * j) hot i R (6 * j) 6 R2 → ObjectsBound W b hot i (j + 1) R2
+pub bound-more : (W : List ℕ) (b hot i j : ℕ) (R R2 : List ℕ) → ObjectsBound W b hot i j R → ObjectBound W (234 * b + 6 * j) hot i R (6 * j) 6 R2 → ObjectsBound W b hot i (j + 1) R2
 bound-more W b hot i j R R2 o n = record { here = λ k f h l. go k f h l (ℕ-discrete k j) }
   where
-    go : (k f : ℕ) → k < j + 1 → f < 6 → Dec (k ≡ j) → getD R2 (6 * k + f) 0 ≡ boundByte hot i f (getD W (240 * b + 6 * k + f) 0)
+    go : (k f : ℕ) → k < j + 1 → f < 6 → Dec (k ≡ j) → getD R2 (6 * k + f) 0 ≡ boundByte hot i f (getD W (234 * b + 6 * k + f) 0)
     go k f h l (yes z) = rw z (n .here f l)
     go k f h l (no z) = n .below (6 * k + f) (omega (arith, z)) ∙ o .here k f (omega (arith, z)) l
 
-pub bound-all : (W : List ℕ) (b x i n j : ℕ) (R : List ℕ) → n ≡ getD W (240 * b + 192) 0 → ObjectsBound W b (193 + x) i j R → j ≤ n → n ≤ j → 1536 ≤ length R → Bound W b x i R n
+pub bound-all : (W : List ℕ) (b x i n j : ℕ) (R : List ℕ) → n ≡ getD W (234 * b + 192) 0 → ObjectsBound W b (193 + x) i j R → j ≤ n → n ≤ j → 1536 ≤ length R → Bound W b x i R n
 unfolding countIn
 bound-all W b x i n j R e o h k l = let z : j ≡ n = omega arith in record { count = e; objects = rw z at o; room = l }
 
@@ -261,10 +261,10 @@ module _ (W : List ℕ) (b i : ℕ) (ob : Inside W b i) where
   bk : Block W b
   bk = ob .block
 
-  pub block-room : 240 * b + 240 ≤ length W
+  pub block-room : 234 * b + 234 ≤ length W
   block-room = bk .room
 
-  pub few-objects : getD W (240 * b + 192) 0 ≤ 32
+  pub few-objects : getD W (234 * b + 192) 0 ≤ 32
   unfolding countIn
   few-objects = bk .small
 
@@ -272,14 +272,14 @@ module _ (W : List ℕ) (b i : ℕ) (ob : Inside W b i) where
   size = size-in W b bk
 
   module _ (x : ℕ) (R : List ℕ) (n : ℕ) (bd : Bound W b x i R n) where
-    here-at : (j : ℕ) → j < n → (f : ℕ) → f < 6 → getD R (6 * j + f) 0 ≡ boundByte (193 + x) i f (getD W (240 * b + 6 * j + f) 0)
+    here-at : (j : ℕ) → j < n → (f : ℕ) → f < 6 → getD R (6 * j + f) 0 ≡ boundByte (193 + x) i f (getD W (234 * b + 6 * j + f) 0)
     here-at j h f l = bd .objects .here j f h l
 
     objects-are : nodesIn R 0 n ≡ boundNodes x i (objectsIn W b)
     unfolding objectsIn
     objects-are =
-        nodes-bound W R x i (omega (arith, ob .low, bk .small)) n (240 * b) 0 (λ j h f l. let z : 0 + 6 * j ≡ 6 * j = omega arith in rw z (here-at j h f l))
-        ∙ ap (λ (k : ℕ). boundNodes x i (nodesIn W (240 * b) k)) (bd .count)
+        nodes-bound W R x i (omega (arith, ob .low, bk .small)) n (234 * b) 0 (λ j h f l. let z : 0 + 6 * j ≡ 6 * j = omega arith in rw z (here-at j h f l))
+        ∙ ap (λ (k : ℕ). boundNodes x i (nodesIn W (234 * b) k)) (bd .count)
 
     whole-bound : Whole (graph (obj i) (boundNodes x i (objectsIn W b)))
     whole-bound = bound-whole (graphAt W b i) (whole-at W b bk i (ob .low)) x i (omega (arith, size, ob .low))
@@ -288,7 +288,7 @@ module _ (W : List ℕ) (b i : ℕ) (ob : Inside W b i) where
     bound-raw = record {
       few = omega (arith, bd .count, bk .small);
       room = bd .room;
-      packed = λ j h. packed-bound W R x i (omega (arith, ob .low, bk .small)) (240 * b + 6 * j) (6 * j) (here-at j h) (bk .packed j (omega (arith, bd .count)));
+      packed = λ j h. packed-bound W R x i (omega (arith, ob .low, bk .small)) (234 * b + 6 * j) (6 * j) (here-at j h) (bk .packed j (omega (arith, bd .count)));
       whole = record { top = tt; inner = λ j k r e. subst (λ (ns : List Node). InRange (length ns) r) (sym objects-are) (whole-bound .inner j k r (subst (λ (ns : List Node). getElem? (refsAt ns j) k ≡ some r) objects-are e)) };
     }
 
@@ -298,7 +298,7 @@ module _ (W : List ℕ) (b i : ℕ) (ob : Inside W b i) where
     pub bound-few : n ≤ 32
     bound-few = omega (arith, bd .count, bk .small)
 
-    pub bound-rooted : (dst : ℕ) → 240 * dst + 240 ≤ length W → Rooted R n i W dst
+    pub bound-rooted : (dst : ℕ) → 234 * dst + 234 ≤ length W → Rooted R n i W dst
     bound-rooted dst room = record { raw = bound-raw; small = bound-few; inside = root-low; room = room }
 
     -- what the objects bound stand for
@@ -373,13 +373,13 @@ module _ (W : List ℕ) (p i : ℕ) where
 
 module _ (W : List ℕ) (b i : ℕ) where
   abbrev refers : ℕ → Bool
-  refers k = refersTo W (240 * b + 6 * k) i
+  refers k = refersTo W (234 * b + 6 * k) i
 
   pub free-none : noneRefer W b 0 i ≡ true
   unfolding noneRefer any
   free-none = refl
 
-  module _ (k : ℕ) (r : Bool) (er : r ≡ refersTo W (240 * b + 6 * k) i) where
+  module _ (k : ℕ) (r : Bool) (er : r ≡ refersTo W (234 * b + 6 * k) i) where
     pub free-more : noneRefer W b k i ≡ true → r ≡ false → noneRefer W b (k + 1) i ≡ true
     unfolding noneRefer
     free-more u e = ap not (any-more refers k (not-true _ u) (sym er ∙ e))
@@ -391,9 +391,9 @@ module _ (W : List ℕ) (b i : ℕ) where
   pub free-all : (k n : ℕ) → noneRefer W b k i ≡ true → k ≤ n → n ≤ k → true ≡ noneRefer W b n i
   free-all k n u h l = let e : k ≡ n = omega arith in sym (rw e at u)
 
-  free-code : (n : ℕ) → noneRefer W b n i ≡ true → (j : ℕ) → j < n → (f : ℕ) → f < 4 → getD W (240 * b + 6 * j + 2 + f) 0 ≡ i → ⊥
+  free-code : (n : ℕ) → noneRefer W b n i ≡ true → (j : ℕ) → j < n → (f : ℕ) → f < 4 → getD W (234 * b + 6 * j + 2 + f) 0 ≡ i → ⊥
   unfolding noneRefer
-  free-code n u j h = refer-not W (240 * b + 6 * j) i (any-not refers n j (not-true _ u) h)
+  free-code n u j h = refer-not W (234 * b + 6 * j) i (any-not refers n j (not-true _ u) h)
 
 -- ---- two objects side by side
 module _ (R : List ℕ) (x y : ℕ) where
@@ -524,9 +524,9 @@ module _ (W : List ℕ) (b i : ℕ) (bk : Block W b) (un : noneRefer W b (countI
   free-at : (j : ℕ) → j < countIn W b → (f : ℕ) (r : Ref) → getElem? (refsAt (objectsIn W b) j) f ≡ some r → r ≡ obj i → ⊥
   unfolding objectsIn
   free-at j h f r e z =
-      let g = at-some (refsAt (nodesIn W (240 * b) (countIn W b)) j) f r e in
-      let l : f < 4 = omega (arith, g .1, four-fields W (240 * b) (countIn W b) (bk .packed) j h) in
-      free-code W b i (countIn W b) un j h f l (code-is W (240 * b) (countIn W b) (bk .packed) j h f l ∙ ap codeOf (g .0 ∙ z))
+      let g = at-some (refsAt (nodesIn W (234 * b) (countIn W b)) j) f r e in
+      let l : f < 4 = omega (arith, g .1, four-fields W (234 * b) (countIn W b) (bk .packed) j h) in
+      free-code W b i (countIn W b) un j h f l (code-is W (234 * b) (countIn W b) (bk .packed) j h f l ∙ ap codeOf (g .0 ∙ z))
 
   free-in : (j f : ℕ) (r : Ref) → getElem? (refsAt (objectsIn W b) j) f ≡ some r → r ≡ obj i → ⊥
   free-in j f r e = go (decLt j (countIn W b))
@@ -563,38 +563,38 @@ module _ (R : List ℕ) (n i : ℕ) (W : List ℕ) (dst : ℕ) (rd : Rooted R n 
   pub rooted-raw : Raw R n
   rooted-raw = rd .raw
 
-  module _ (d : Distinct (nodesIn R 0 n)) (D : List ℕ) (w : Carried R 0 W (240 * dst) (6 * n) D) (l : ℕ) (lv : Levels R 0 (6 * n) l) where
+  module _ (d : Distinct (nodesIn R 0 n)) (D : List ℕ) (w : Carried R 0 W (234 * dst) (6 * n) D) (l : ℕ) (lv : Levels R 0 (6 * n) l) where
     abbrev E : List ℕ
-    E = set (set D (240 * dst + 192) n) (240 * dst + 193) l
+    E = set (set D (234 * dst + 192) n) (234 * dst + 193) l
 
-    kept : (p : ℕ) → ((p ≡ 240 * dst + 192) → ⊥) → ((p ≡ 240 * dst + 193) → ⊥) → getD E p 0 ≡ getD D p 0
-    kept p h k = getD-set-other (set D (240 * dst + 192) n) (240 * dst + 193) p l 0 k ∙ getD-set-other D (240 * dst + 192) p n 0 h
+    kept : (p : ℕ) → ((p ≡ 234 * dst + 192) → ⊥) → ((p ≡ 234 * dst + 193) → ⊥) → getD E p 0 ≡ getD D p 0
+    kept p h k = getD-set-other (set D (234 * dst + 192) n) (234 * dst + 193) p l 0 k ∙ getD-set-other D (234 * dst + 192) p n 0 h
 
     same-size : length E ≡ length W
-    same-size = length-set (set D (240 * dst + 192) n) (240 * dst + 193) l ∙ length-set D (240 * dst + 192) n ∙ w .same
+    same-size = length-set (set D (234 * dst + 192) n) (234 * dst + 193) l ∙ length-set D (234 * dst + 192) n ∙ w .same
 
-    written : (p : ℕ) → p < 6 * n → getD E (240 * dst + p) 0 ≡ getD R p 0
-    written p h = kept (240 * dst + p) (λ z. omega (arith, rd .small)) (λ z. omega (arith, rd .small)) ∙ w .here p h ∙ ap (λ (k : ℕ). getD R k 0) (let z : 0 + p ≡ p = omega arith in z)
+    written : (p : ℕ) → p < 6 * n → getD E (234 * dst + p) 0 ≡ getD R p 0
+    written p h = kept (234 * dst + p) (λ z. omega (arith, rd .small)) (λ z. omega (arith, rd .small)) ∙ w .here p h ∙ ap (λ (k : ℕ). getD R k 0) (let z : 0 + p ≡ p = omega arith in z)
 
     size-is : countIn E dst ≡ n
     unfolding countIn
-    size-is = getD-set-other (set D (240 * dst + 192) n) (240 * dst + 193) (240 * dst + 192) l 0 (λ z. omega arith) ∙ getD-set-same D (240 * dst + 192) n 0 (omega (arith, w .same, rd .room))
+    size-is = getD-set-other (set D (234 * dst + 192) n) (234 * dst + 193) (234 * dst + 192) l 0 (λ z. omega arith) ∙ getD-set-same D (234 * dst + 192) n 0 (omega (arith, w .same, rd .room))
 
     level-is : levelIn E dst ≡ l
     unfolding levelIn
-    level-is = getD-set-same (set D (240 * dst + 192) n) (240 * dst + 193) l 0 (omega (arith, length-set D (240 * dst + 192) n, w .same, rd .room))
+    level-is = getD-set-same (set D (234 * dst + 192) n) (234 * dst + 193) l 0 (omega (arith, length-set D (234 * dst + 192) n, w .same, rd .room))
 
     objects-same : objectsIn E dst ≡ nodesIn R 0 n
     unfolding objectsIn
-    objects-same = ap (nodesIn E (240 * dst)) size-is ∙ nodes-same E R n (240 * dst) 0 (λ p h. let z : 0 + p ≡ p = omega arith in rw z (written p h))
+    objects-same = ap (nodesIn E (234 * dst)) size-is ∙ nodes-same E R n (234 * dst) 0 (λ p h. let z : 0 + p ≡ p = omega arith in rw z (written p h))
 
     block-is : Block E dst
     block-is = record {
       room = omega (arith, same-size, rd .room);
       small = rw size-is (rd .small);
       packed = λ j h.
-          packed-same E R (240 * dst + 6 * j) (6 * j)
-          (λ f g. let z : 240 * dst + 6 * j + f ≡ 240 * dst + (6 * j + f) = omega arith in rw z (written (6 * j + f) (omega (arith, size-is))))
+          packed-same E R (234 * dst + 6 * j) (6 * j)
+          (λ f g. let z : 234 * dst + 6 * j + f ≡ 234 * dst + (6 * j + f) = omega arith in rw z (written (6 * j + f) (omega (arith, size-is))))
           (rd .raw .packed j (omega (arith, size-is)));
       whole = subst (λ (ns : List Node). Whole (graph undet ns)) (sym objects-same) (rd .raw .whole);
       distinct = subst Distinct (sym objects-same) d;

@@ -35,11 +35,11 @@ module _ (W : List ℕ) (r : ValueRef) (b i : ℕ) (h : Holds W r) (e : r ≡ Ob
   pub held-block : Block W b
   held-block = held-inside .block
 
-  pub held-room : 240 * b + 240 ≤ length W
+  pub held-room : 234 * b + 234 ≤ length W
   held-room = held-block .room
 
 -- the bytes of an object are there
-pub inside-room : (W : List ℕ) (b i : ℕ) → Inside W b i → 240 * b + 6 * i + 6 ≤ length W
+pub inside-room : (W : List ℕ) (b i : ℕ) → Inside W b i → 234 * b + 6 * i + 6 ≤ length W
 inside-room W b i ob = omega (arith, ob .block .room, ob .block .small, ob .low)
 
 -- a reference that stands for none is a mark or undetermined
@@ -49,8 +49,8 @@ no-object P m u (Mark k) h = m k
 no-object P m u Undetermined h = u
 
 -- ---- taken up
-pub taken : (W : List ℕ) (b : ℕ) (I R₀ R : List ℕ) → Filled (λ i. 0 + i) (getD W (240 * b + 192) 0) I → Lifted W (240 * b) (6 * getD W (240 * b + 192) 0) I R₀ 0 R
-    → Taken W b I R₀ R (getD W (240 * b + 192) 0)
+pub taken : (W : List ℕ) (b : ℕ) (I R₀ R : List ℕ) → Filled (λ i. 0 + i) (getD W (234 * b + 192) 0) I → Lifted W (234 * b) (6 * getD W (234 * b + 192) 0) I R₀ 0 R
+    → Taken W b I R₀ R (getD W (234 * b + 192) 0)
 unfolding countIn
 taken W b I R₀ R f l = record { count = refl; ids = f; copy = l }
 
@@ -61,7 +61,7 @@ nodes-id (x ∷ xs) = ap₂ {C = List Node} _∷_ (node-id x) (nodes-id xs)
 module _ (W : List ℕ) (b : ℕ) (bk : Block W b) where
   pub size-in : length (objectsIn W b) ≡ countIn W b
   unfolding objectsIn
-  size-in = length-nodes W (240 * b) (countIn W b)
+  size-in = length-nodes W (234 * b) (countIn W b)
 
   pub inner-in : (i k : ℕ) (r : Ref) → getElem? (refsAt (objectsIn W b) i) k ≡ some r → InRange (countIn W b) r
   inner-in i k r e = subst (λ (l : ℕ). InRange l r) size-in (bk .whole .inner i k r e)
@@ -83,8 +83,8 @@ module _ (W : List ℕ) (b : ℕ) (bk : Block W b) where
     copied-nodes : nodesIn R 0 n ≡ objectsIn W b
     unfolding objectsIn
     copied-nodes =
-        lifted-nodes W (240 * b) I R₀ 0 R n (tk .copy)
-        ∙ ap (λ (k : ℕ). map (changed (turnRef I)) (nodesIn W (240 * b) k)) (tk .count)
+        lifted-nodes W (234 * b) I R₀ 0 R n (tk .copy)
+        ∙ ap (λ (k : ℕ). map (changed (turnRef I)) (nodesIn W (234 * b) k)) (tk .count)
         ∙ nodes-agree (turnRef I) (rename (λ i. i)) (InRange (countIn W b))
         (turn-rename I (countIn W b) (λ i. i) (omega (arith, bk .small)) (λ i h. tk .ids .at i (omega (arith, tk .count)) ∙ omega arith) (λ i h. omega (arith, bk .small)))
         (objectsIn W b) inner-in
@@ -99,11 +99,11 @@ module _ (W : List ℕ) (b : ℕ) (bk : Block W b) where
       room = omega (arith, tk .copy .same);
       packed = λ i h.
           let z : 0 + 6 * i ≡ 6 * i = omega arith in
-          rw z at (lifted-packed W (240 * b) I R₀ 0 R n (tk .copy) (λ j l. bk .packed j (omega (arith, tk .count))) i h);
+          rw z at (lifted-packed W (234 * b) I R₀ 0 R n (tk .copy) (λ j l. bk .packed j (omega (arith, tk .count))) i h);
       whole = whole-copied;
     }
 
-    pub move-ready : (c dst : ℕ) → 1536 ≤ length R₀ → 256 ≤ length I → c < countIn W b → 240 * dst + 240 ≤ length W → Ready R n I c W dst
+    pub move-ready : (c dst : ℕ) → 1536 ≤ length R₀ → 256 ≤ length I → c < countIn W b → 234 * dst + 234 ≤ length W → Ready R n I c W dst
     move-ready c dst lr li hc room = record {
       raw = raw-copied lr;
       long = li;

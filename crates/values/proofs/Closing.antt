@@ -31,7 +31,7 @@ module _ (W : List ℕ) (r dst : ℕ) (h : Holds W (refIn r)) where
     pub number-here : r / 256 % 65536 ≤ dst → Gives W dst W (refIn r) (valueOf W (refIn r))
     number-here l = stays (subst (Low (dst + 1)) (object-in r o) (omega arith))
 
-    pub number-copy : dst < 65536 → (W′ : List ℕ) → 240 * dst + 240 ≤ length W → Copied W (r / 256 % 65536) dst W′ → Gives W dst W′ (refIn (256 * dst + r % 256)) (valueOf W (refIn r))
+    pub number-copy : dst < 65536 → (W′ : List ℕ) → 234 * dst + 234 ≤ length W → Copied W (r / 256 % 65536) dst W′ → Gives W dst W′ (refIn (256 * dst + r % 256)) (valueOf W (refIn r))
     number-copy s W′ room c =
         subst (λ (v : ValueRef). Gives W dst W′ v (valueOf W (refIn r))) (sym (pack-object (Object dst (r % 256)) dst (r % 256) (s, o) refl))
         (bring-copy W (refIn r) dst h (r / 256 % 65536) (r % 256) (sym (object-in r o)) W′ room c)
@@ -64,7 +64,7 @@ module _ (W : List ℕ) (x b i dst : ℕ) (ob : Inside W b i) where
   w : Whole (graphAt W b i)
   w = whole-at W b (ob .block) i (ob .low)
 
-  object-free : getD W (240 * b + 193) 0 ≤ x → (W′ : List ℕ) (o : ValueRef) → Gives W dst W′ o (canon (graphAt W b i)) → Gives W dst W′ o (close x (canon (graphAt W b i)))
+  object-free : getD W (234 * b + 193) 0 ≤ x → (W′ : List ℕ) (o : ValueRef) → Gives W dst W′ o (canon (graphAt W b i)) → Gives W dst W′ o (close x (canon (graphAt W b i)))
   unfolding close levelIn
   object-free h W′ o g = record {
     held = g .held;
@@ -75,7 +75,7 @@ module _ (W : List ℕ) (x b i dst : ℕ) (ob : Inside W b i) where
 
 -- ---- an object closed
 module _ (W : List ℕ) (x r dst : ℕ) (h : Holds W (refIn r)) (o : r % 256 < 192) where
-  pub close-free : getD W (240 * (r / 256 % 65536) + 193) 0 ≤ x → (W′ : List ℕ) (q : ℕ) → Gives W dst W′ (refIn q) (valueOf W (refIn r)) → Gives W dst W′ (refIn q) (close x (valueOf W (refIn r)))
+  pub close-free : getD W (234 * (r / 256 % 65536) + 193) 0 ≤ x → (W′ : List ℕ) (q : ℕ) → Gives W dst W′ (refIn q) (valueOf W (refIn r)) → Gives W dst W′ (refIn q) (close x (valueOf W (refIn r)))
   close-free l W′ q g =
       subst (λ (v : ValueRef). Gives W dst W′ (refIn q) (close x (valueOf W v))) (object-in r o)
       (object-free W x (r / 256 % 65536) (r % 256) dst (number-inside W r h o) l W′ (refIn q)

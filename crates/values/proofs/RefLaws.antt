@@ -137,11 +137,14 @@ answer-code : (b c : ℕ) → b < 65536 → c < 256 → answerOf (256 * b + c) �
 unfolding answerOf
 answer-code b c l m = rw (ne-eqb (256 * b + c) 4294967295 (λ z. omega arith)) (ap some (code-in b c l m))
 
+pub answer-object : (b i : ℕ) → b < 65536 → i < 192 → answerOf (256 * b + i) ≡ some (Object b i)
+answer-object b i l m = answer-code b i l (omega arith) ∙ ap some (from-object b i m)
+
 -- a code in block b as a value of it
-code-chosen : (W : List ℕ) (b i f : ℕ) → Inside W b i → f < getD W (240 * b + 6 * i + 1) 0 → getD W (240 * b + 6 * i + 2 + f) 0 < 256
-    → Chosen W (Object b i) f (some (refFrom b (getD W (240 * b + 6 * i + 2 + f) 0)))
-code-chosen W b i f ob l m = go (getD W (240 * b + 6 * i + 2 + f) 0) m (choose-object W b i f ob l) (choose-leaf W b i f ob l)
-    (decLt (getD W (240 * b + 6 * i + 2 + f) 0) 192) (ℕ-discrete (getD W (240 * b + 6 * i + 2 + f) 0) 192)
+code-chosen : (W : List ℕ) (b i f : ℕ) → Inside W b i → f < getD W (234 * b + 6 * i + 1) 0 → getD W (234 * b + 6 * i + 2 + f) 0 < 256
+    → Chosen W (Object b i) f (some (refFrom b (getD W (234 * b + 6 * i + 2 + f) 0)))
+code-chosen W b i f ob l m = go (getD W (234 * b + 6 * i + 2 + f) 0) m (choose-object W b i f ob l) (choose-leaf W b i f ob l)
+    (decLt (getD W (234 * b + 6 * i + 2 + f) 0) 192) (ℕ-discrete (getD W (234 * b + 6 * i + 2 + f) 0) 192)
   where
     go : (c : ℕ) → c < 256 → (c < 192 → Chosen W (Object b i) f (some (Object b c)))
         → ((o : ValueRef) → 192 ≤ c → Leaf c o → Chosen W (Object b i) f (some o)) → Dec (c < 192) → Dec (c ≡ 192) → Chosen W (Object b i) f (some (refFrom b c))
@@ -155,19 +158,19 @@ module _ (W : List ℕ) (r f : ℕ) (h : Holds W (refIn r)) (o : r % 256 < 192) 
   inside : Inside W (r / 256 % 65536) (r % 256)
   inside = number-inside W r h o
 
-  pub select-room : 240 * (r / 256 % 65536) + 6 * (r % 256) + 6 ≤ length W
+  pub select-room : 234 * (r / 256 % 65536) + 6 * (r % 256) + 6 ≤ length W
   select-room = inside-room W (r / 256 % 65536) (r % 256) inside
 
-  pub select-count : getD W (240 * (r / 256 % 65536) + 6 * (r % 256) + 1) 0 ≤ 4
+  pub select-count : getD W (234 * (r / 256 % 65536) + 6 * (r % 256) + 1) 0 ≤ 4
   select-count = count-four W (r / 256 % 65536) (r % 256) f inside
 
-  pub select-past : getD W (240 * (r / 256 % 65536) + 6 * (r % 256) + 1) 0 ≤ f → ChosenIn W r f 4294967295
+  pub select-past : getD W (234 * (r / 256 % 65536) + 6 * (r % 256) + 1) 0 ≤ f → ChosenIn W r f 4294967295
   select-past l = nothing-in W r f (subst (λ (x : ValueRef). Chosen W x f none) (object-in r o) (choose-none W (r / 256 % 65536) (r % 256) f inside l))
 
-  pub select-code : f < getD W (240 * (r / 256 % 65536) + 6 * (r % 256) + 1) 0 → getD W (240 * (r / 256 % 65536) + 6 * (r % 256) + 2 + f) 0 < 256
-      → ChosenIn W r f (256 * (r / 256 % 65536) + getD W (240 * (r / 256 % 65536) + 6 * (r % 256) + 2 + f) 0)
-  select-code l m = coded (r / 256 % 65536) (getD W (240 * (r / 256 % 65536) + 6 * (r % 256) + 2 + f) 0) (omega arith) m
-      (subst (λ (x : ValueRef). Chosen W x f (some (refFrom (r / 256 % 65536) (getD W (240 * (r / 256 % 65536) + 6 * (r % 256) + 2 + f) 0)))) (object-in r o)
+  pub select-code : f < getD W (234 * (r / 256 % 65536) + 6 * (r % 256) + 1) 0 → getD W (234 * (r / 256 % 65536) + 6 * (r % 256) + 2 + f) 0 < 256
+      → ChosenIn W r f (256 * (r / 256 % 65536) + getD W (234 * (r / 256 % 65536) + 6 * (r % 256) + 2 + f) 0)
+  select-code l m = coded (r / 256 % 65536) (getD W (234 * (r / 256 % 65536) + 6 * (r % 256) + 2 + f) 0) (omega arith) m
+      (subst (λ (x : ValueRef). Chosen W x f (some (refFrom (r / 256 % 65536) (getD W (234 * (r / 256 % 65536) + 6 * (r % 256) + 2 + f) 0)))) (object-in r o)
       (code-chosen W (r / 256 % 65536) (r % 256) f inside l m))
     where
       coded : (b c : ℕ) → b < 65536 → c < 256 → Chosen W (refIn r) f (some (refFrom b c)) → ChosenIn W r f (256 * b + c)

@@ -209,27 +209,27 @@ lines-none W b d = record { top = omega arith; text = front-none d; count = refl
 module _ (W : List ℕ) (b : ℕ) (bk : Block W b) where
   size : length (objectsIn W b) ≡ countIn W b
   unfolding objectsIn
-  size = length-nodes W (240 * b) (countIn W b)
+  size = length-nodes W (234 * b) (countIn W b)
 
   next-text : (j : ℕ) → j < countIn W b → hexText (objectLines 0 (take (j + 1) (objectsIn W b)))
-      ≡ hexText (objectLines 0 (take j (objectsIn W b))) ++ hexLine (lineIn W (240 * b + 6 * j) j)
+      ≡ hexText (objectLines 0 (take j (objectsIn W b))) ++ hexLine (lineIn W (234 * b + 6 * j) j)
   unfolding lineIn objectsIn
   next-text j h =
-      let e : 0 + length (take j (nodesIn W (240 * b) (countIn W b))) ≡ j = omega (arith, length-take-le j (nodesIn W (240 * b) (countIn W b)) (omega (arith, length-nodes W (240 * b) (countIn W b)))) in
+      let e : 0 + length (take j (nodesIn W (234 * b) (countIn W b))) ≡ j = omega (arith, length-take-le j (nodesIn W (234 * b) (countIn W b)) (omega (arith, length-nodes W (234 * b) (countIn W b)))) in
       rw (
         add-one j,
-        take-suc (nodesIn W (240 * b) (countIn W b)) j (node 0 []) (omega (arith, length-nodes W (240 * b) (countIn W b))),
-        lines-more 0 (take j (nodesIn W (240 * b) (countIn W b))) (nodeAt (nodesIn W (240 * b) (countIn W b)) j),
+        take-suc (nodesIn W (234 * b) (countIn W b)) j (node 0 []) (omega (arith, length-nodes W (234 * b) (countIn W b))),
+        lines-more 0 (take j (nodesIn W (234 * b) (countIn W b))) (nodeAt (nodesIn W (234 * b) (countIn W b)) j),
         e,
-        at-nodes W (240 * b) (countIn W b) j h,
+        at-nodes W (234 * b) (countIn W b) j h,
       )
-      (text-more (objectLines 0 (take j (nodesIn W (240 * b) (countIn W b)))) (objectLine j (nodeIn W (240 * b + 6 * j))))
+      (text-more (objectLines 0 (take j (nodesIn W (234 * b) (countIn W b)))) (objectLine j (nodeIn W (234 * b + 6 * j))))
 
   pub lines-next : (d₀ : List ℕ) (j : ℕ) (d : List ℕ) (t : ℕ) (e : List ℕ) (t1 n : ℕ) → Listed W b d₀ j d t → 544 ≤ length d₀ → j < n → n ≡ countIn W b
-      → Line (lineIn W (240 * b + 6 * j) j) d t e t1 → Listed W b d₀ (j + 1) e t1
+      → Line (lineIn W (234 * b + 6 * j) j) d t e t1 → Listed W b d₀ (j + 1) e t1
   lines-next d₀ j d t e t1 n f room h en g =
       let all : Front d₀ e t1 (hexText (objectLines 0 (take (j + 1) (objectsIn W b)))) =
-      rw (next-text j (omega arith)) (front-then d₀ d e t t1 (hexText (objectLines 0 (take j (objectsIn W b)))) (hexLine (lineIn W (240 * b + 6 * j) j)) (f .text) (g .text) (g .up)) in
+      rw (next-text j (omega arith)) (front-then d₀ d e t t1 (hexText (objectLines 0 (take j (objectsIn W b)))) (hexLine (lineIn W (234 * b + 6 * j) j)) (f .text) (g .text) (g .up)) in
       record {
         top = omega (arith, f .top, g .top);
         text = all;
@@ -239,13 +239,13 @@ module _ (W : List ℕ) (b : ℕ) (bk : Block W b) where
   pub lines-done : (d₀ : List ℕ) (j : ℕ) (d : List ℕ) (t n : ℕ) → Listed W b d₀ j d t → j ≤ n → n ≤ j → n ≡ countIn W b → Reported (graphAt W b 0) d₀ d t
   unfolding objectsIn
   lines-done d₀ j d t n f h k en =
-      let ej : j ≡ length (nodesIn W (240 * b) (countIn W b)) = omega (arith, length-nodes W (240 * b) (countIn W b)) in
-      let z : take j (nodesIn W (240 * b) (countIn W b)) ≡ nodesIn W (240 * b) (countIn W b) = ap (λ (q : ℕ). take q (nodesIn W (240 * b) (countIn W b))) ej ∙ take-length (nodesIn W (240 * b) (countIn W b)) in
-      let c : t ≡ length (hexText (objectLines 0 (nodesIn W (240 * b) (countIn W b)))) = f .count ∙ ap (λ (q : List Node). length (hexText (objectLines 0 q))) z in
+      let ej : j ≡ length (nodesIn W (234 * b) (countIn W b)) = omega (arith, length-nodes W (234 * b) (countIn W b)) in
+      let z : take j (nodesIn W (234 * b) (countIn W b)) ≡ nodesIn W (234 * b) (countIn W b) = ap (λ (q : ℕ). take q (nodesIn W (234 * b) (countIn W b))) ej ∙ take-length (nodesIn W (234 * b) (countIn W b)) in
+      let c : t ≡ length (hexText (objectLines 0 (nodesIn W (234 * b) (countIn W b)))) = f .count ∙ ap (λ (q : List Node). length (hexText (objectLines 0 q))) z in
       record {
         fits = omega (arith, f .top, bk .small);
         count = c;
-        text = front-whole d₀ d t (hexText (objectLines 0 (take j (nodesIn W (240 * b) (countIn W b))))) (f .text)
+        text = front-whole d₀ d t (hexText (objectLines 0 (take j (nodesIn W (234 * b) (countIn W b))))) (f .text)
             ∙ ap₂ {A = List ℕ} {B = ℕ} (λ p q. p ++ drop q d₀) (ap (λ (q : List Node). hexText (objectLines 0 q)) z) c;
       }
 

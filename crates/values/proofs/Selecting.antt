@@ -42,20 +42,20 @@ canon-undet ns = refl
 
 module _ (W : List ℕ) (b i f : ℕ) (ob : Inside W b i) where
   abbrev at : ℕ
-  at = 240 * b + 6 * i
+  at = 234 * b + 6 * i
 
   pub count-four : getD W (at + 1) 0 ≤ 4
   count-four = ob .block .packed i (ob .low) .count
 
-  refs-at : refsAt (objectsIn W b) i ≡ take (getD W (at + 1) 0) (four W (40 * b + i))
+  refs-at : refsAt (objectsIn W b) i ≡ take (getD W (at + 1) 0) (four W (39 * b + i))
   unfolding objectsIn nodeIn
   refs-at =
-      let e6 : at ≡ 6 * (40 * b + i) = omega arith in
-      ap (λ (x : Node). x .refs) (at-nodes W (240 * b) (countIn W b) i (ob .low))
+      let e6 : at ≡ 6 * (39 * b + i) = omega arith in
+      ap (λ (x : Node). x .refs) (at-nodes W (234 * b) (countIn W b) i (ob .low))
       ∙ ap (λ (p : ℕ). take (getD W (at + 1) 0) (refOf (getD W (p + 2) 0) ∷ refOf (getD W (p + 3) 0) ∷ refOf (getD W (p + 4) 0) ∷ refOf (getD W (p + 5) 0) ∷ [])) e6
 
   length-refs : length (refsAt (objectsIn W b) i) ≡ getD W (at + 1) 0
-  length-refs = ap length refs-at ∙ omega (arith, count-four, length-take (getD W (at + 1) 0) (four W (40 * b + i)))
+  length-refs = ap length refs-at ∙ omega (arith, count-four, length-take (getD W (at + 1) 0) (four W (39 * b + i)))
 
   whole : Whole (graphAt W b i)
   whole = whole-at W b (ob .block) i (ob .low)
@@ -63,11 +63,11 @@ module _ (W : List ℕ) (b i f : ℕ) (ob : Inside W b i) where
   module _ (hf : f < getD W (at + 1) 0) where
     field-at : getElem? (refsAt (objectsIn W b) i) f ≡ some (refOf (getD W (at + 2 + f) 0))
     field-at =
-        let e6 : 6 * (40 * b + i) + 2 + f ≡ at + 2 + f = omega arith in
+        let e6 : 6 * (39 * b + i) + 2 + f ≡ at + 2 + f = omega arith in
         some-at (refsAt (objectsIn W b) i) f (omega (arith, length-refs))
         ∙ ap some (ap (λ (l : List Ref). getD l f undet) refs-at
-        ∙ getD-take (getD W (at + 1) 0) (four W (40 * b + i)) f undet hf
-        ∙ four-at W (40 * b + i) f (omega (arith, count-four))
+        ∙ getD-take (getD W (at + 1) 0) (four W (39 * b + i)) f undet hf
+        ∙ four-at W (39 * b + i) f (omega (arith, count-four))
         ∙ ap (λ (p : ℕ). refOf (getD W p 0)) e6)
 
     chosen-is : select f (canon (graphAt W b i)) ≡ some (canon (graph (refOf (getD W (at + 2 + f) 0)) (objectsIn W b)))

@@ -149,44 +149,44 @@ module _ (n m : ℕ) (T Q : List ℕ) (t a b : ℕ) (pd : Paired n m T Q t) (few
 module _ (W : List ℕ) (b : ℕ) (bk : Block W b) where
   size : length (objectsIn W b) ≡ countIn W b
   unfolding objectsIn
-  size = length-nodes W (240 * b) (countIn W b)
+  size = length-nodes W (234 * b) (countIn W b)
 
   whole-at : (i : ℕ) → i < countIn W b → Whole (graphAt W b i)
   whole-at i h = record { top = omega (arith, size); inner = bk .whole .inner }
 
   module _ (x : ℕ) (hx : x < countIn W b) where
-    byte : (k : ℕ) → k < 6 → getD W (240 * b + 6 * x + k) 0 ≡ byteOf (nodeAt (objectsIn W b) x) k
+    byte : (k : ℕ) → k < 6 → getD W (234 * b + 6 * x + k) 0 ≡ byteOf (nodeAt (objectsIn W b) x) k
     unfolding objectsIn
-    byte k h = packed-byte W (240 * b + 6 * x) (bk .packed x hx) k h ∙ ap (λ (o : Node). byteOf o k) (sym (at-nodes W (240 * b) (countIn W b) x hx))
+    byte k h = packed-byte W (234 * b + 6 * x) (bk .packed x hx) k h ∙ ap (λ (o : Node). byteOf o k) (sym (at-nodes W (234 * b) (countIn W b) x hx))
 
-    cls-is : getD W (240 * b + 6 * x) 0 ≡ nodeAt (objectsIn W b) x .cls
+    cls-is : getD W (234 * b + 6 * x) 0 ≡ nodeAt (objectsIn W b) x .cls
     unfolding byteOf
-    cls-is = let z : 240 * b + 6 * x + 0 ≡ 240 * b + 6 * x = omega arith in rw z at (byte 0 (omega arith))
+    cls-is = let z : 234 * b + 6 * x + 0 ≡ 234 * b + 6 * x = omega arith in rw z at (byte 0 (omega arith))
 
-    count-is : getD W (240 * b + 6 * x + 1) 0 ≡ length (refsAt (objectsIn W b) x)
+    count-is : getD W (234 * b + 6 * x + 1) 0 ≡ length (refsAt (objectsIn W b) x)
     unfolding byteOf
     count-is = byte 1 (omega arith)
 
-    code-is : (f : ℕ) → f < 4 → getD W (240 * b + 6 * x + 2 + f) 0 ≡ codeOf (getD (refsAt (objectsIn W b) x) f undet)
+    code-is : (f : ℕ) → f < 4 → getD W (234 * b + 6 * x + 2 + f) 0 ≡ codeOf (getD (refsAt (objectsIn W b) x) f undet)
     unfolding byteOf
-    code-is f h = let z : 240 * b + 6 * x + 2 + f ≡ 240 * b + 6 * x + (suc (suc f)) = omega arith in rw z (byte (suc (suc f)) (omega arith))
+    code-is f h = let z : 234 * b + 6 * x + 2 + f ≡ 234 * b + 6 * x + (suc (suc f)) = omega arith in rw z (byte (suc (suc f)) (omega arith))
 
-    in-range : (f : ℕ) → f < getD W (240 * b + 6 * x + 1) 0 → InRange (countIn W b) (getD (refsAt (objectsIn W b) x) f undet)
+    in-range : (f : ℕ) → f < getD W (234 * b + 6 * x + 1) 0 → InRange (countIn W b) (getD (refsAt (objectsIn W b) x) f undet)
     in-range f h =
         subst (λ (l : ℕ). InRange l (getD (refsAt (objectsIn W b) x) f undet)) size
         (bk .whole .inner x f _ (some-at (refsAt (objectsIn W b) x) f (omega (arith, count-is))))
 
 -- ---- two objects look alike
 module _ (W : List ℕ) (b x : ℕ) (ib : Inside W b x) where
-  pub count-read : 240 * b + 6 * x + 1 < length W
+  pub count-read : 234 * b + 6 * x + 1 < length W
   count-read = omega (arith, ib .block .room, ib .block .small, ib .low)
 
-  code-read : (k : ℕ) → k < getD W (240 * b + 6 * x + 1) 0 → 240 * b + 6 * x + 2 + k < length W
+  code-read : (k : ℕ) → k < getD W (234 * b + 6 * x + 1) 0 → 234 * b + 6 * x + 2 + k < length W
   code-read k h = omega (arith, ib .block .room, ib .block .small, ib .low, ib .block .packed x (ib .low) .count)
 
 module _ (W : List ℕ) (b x c y : ℕ) where
   module _ (ib : Inside W b x) (ic : Inside W c y) where
-    same-alike : Same (objectsIn W b) (obj x) (objectsIn W c) (obj y) → Alike W (240 * b + 6 * x) (240 * c + 6 * y)
+    same-alike : Same (objectsIn W b) (obj x) (objectsIn W c) (obj y) → Alike W (234 * b + 6 * x) (234 * c + 6 * y)
     same-alike s = record {
       cls = cls-is W b (ib .block) x (ib .low) ∙ same-cls (objectsIn W b) (objectsIn W c) x y s ∙ sym (cls-is W c (ic .block) y (ic .low));
       count = count-is W b (ib .block) x (ib .low) ∙ same-count (objectsIn W b) (objectsIn W c) x y s ∙ sym (count-is W c (ic .block) y (ic .low));
@@ -318,13 +318,13 @@ module _ (W : List ℕ) (b x c y : ℕ) (T₀ Q₀ : List ℕ) (t₀ : ℕ) wher
   stop : (AllSame W b c T₀ → ⊥) → (T Q : List ℕ) → ObjectStep W b x c y T₀ Q₀ t₀ T Q 0
   stop h T Q = record { differ = λ _. h; grown = λ z. absurd (z refl); paired = λ z. absurd (z refl); closed = λ z. absurd (z refl) }
 
-  pub object-differs : (r : Bool) → Pair W b x c y T₀ Q₀ t₀ → r ≡ alikeAt W (240 * b + 6 * x) (240 * c + 6 * y) → r ≡ false → ObjectStep W b x c y T₀ Q₀ t₀ T₀ Q₀ 0
+  pub object-differs : (r : Bool) → Pair W b x c y T₀ Q₀ t₀ → r ≡ alikeAt W (234 * b + 6 * x) (234 * c + 6 * y) → r ≡ false → ObjectStep W b x c y T₀ Q₀ t₀ T₀ Q₀ 0
   object-differs r pr l z = stop (λ al. alike-no W _ _ r l z (same-alike W b x c y (pr .first) (pr .second) (al .same x y (pr .here)))) T₀ Q₀
 
-  pub pair-count-read : Pair W b x c y T₀ Q₀ t₀ → 240 * b + 6 * x + 1 < length W
+  pub pair-count-read : Pair W b x c y T₀ Q₀ t₀ → 234 * b + 6 * x + 1 < length W
   pair-count-read pr = count-read W b x (pr .first)
 
-  pub fields-start : Pair W b x c y T₀ Q₀ t₀ → Alike W (240 * b + 6 * x) (240 * c + 6 * y) → FieldsSoFar W b x c y T₀ Q₀ t₀ T₀ Q₀ t₀ 0
+  pub fields-start : Pair W b x c y T₀ Q₀ t₀ → Alike W (234 * b + 6 * x) (234 * c + 6 * y) → FieldsSoFar W b x c y T₀ Q₀ t₀ T₀ Q₀ t₀ 0
   fields-start pr a = record {
     start = pr;
     alike = a;
@@ -333,7 +333,7 @@ module _ (W : List ℕ) (b x c y : ℕ) (T₀ Q₀ : List ℕ) (t₀ : ℕ) wher
     fields = record { codes = λ f h. absurd (omega arith) };
   }
 
-  pub four : Pair W b x c y T₀ Q₀ t₀ → getD W (240 * b + 6 * x + 1) 0 ≤ 4
+  pub four : Pair W b x c y T₀ Q₀ t₀ → getD W (234 * b + 6 * x + 1) 0 ≤ 4
   four pr = pr .first .block .packed x (pr .first .low) .count
 
   module _ (T Q : List ℕ) (t k : ℕ) (so : FieldsSoFar W b x c y T₀ Q₀ t₀ T Q t k) where
@@ -343,17 +343,17 @@ module _ (W : List ℕ) (b x c y : ℕ) (T₀ Q₀ : List ℕ) (t₀ : ℕ) wher
     abbrev ic : Inside W c y
     ic = so .start .second
 
-    en : getD W (240 * b + 6 * x + 1) 0 ≡ getD W (240 * c + 6 * y + 1) 0
+    en : getD W (234 * b + 6 * x + 1) 0 ≡ getD W (234 * c + 6 * y + 1) 0
     en = so .alike .count
 
     some-paired : 0 < t
     some-paired = let o = so .paired .listed x y (so .grown .pairs x y (so .start .here)) in let h : o .0 < t = o .1 in omega arith
 
-    module _ (hk : k < getD W (240 * b + 6 * x + 1) 0) where
-      pub first-read : 240 * b + 6 * x + 2 + k < length W
+    module _ (hk : k < getD W (234 * b + 6 * x + 1) 0) where
+      pub first-read : 234 * b + 6 * x + 2 + k < length W
       first-read = code-read W b x ib k hk
 
-      pub second-read : 240 * c + 6 * y + 2 + k < length W
+      pub second-read : 234 * c + 6 * y + 2 + k < length W
       second-read = code-read W c y ic k (omega (arith, en))
 
       abbrev r : Ref
@@ -368,10 +368,10 @@ module _ (W : List ℕ) (b x c y : ℕ) (T₀ Q₀ : List ℕ) (t₀ : ℕ) wher
       hs : InRange (countIn W c) s
       hs = in-range W c (ic .block) y (ic .low) k (omega (arith, en))
 
-      er : getD W (240 * b + 6 * x + 2 + k) 0 ≡ codeOf r
+      er : getD W (234 * b + 6 * x + 2 + k) 0 ≡ codeOf r
       er = code-is W b (ib .block) x (ib .low) k (omega (arith, four (so .start)))
 
-      es : getD W (240 * c + 6 * y + 2 + k) 0 ≡ codeOf s
+      es : getD W (234 * c + 6 * y + 2 + k) 0 ≡ codeOf s
       es = code-is W c (ic .block) y (ic .low) k (omega (arith, four (so .start)))
 
       children : AllSame W b c T₀ → Same (objectsIn W b) r (objectsIn W c) s
@@ -380,13 +380,13 @@ module _ (W : List ℕ) (b x c y : ℕ) (T₀ Q₀ : List ℕ) (t₀ : ℕ) wher
           (some-at (refsAt (objectsIn W b) x) k (omega (arith, count-is W b (ib .block) x (ib .low))))
           (some-at (refsAt (objectsIn W c) y) k (omega (arith, en, count-is W c (ic .block) y (ic .low))))
 
-      pub code-fits : CodeFits T Q t (getD W (240 * b + 6 * x + 2 + k) 0)
+      pub code-fits : CodeFits T Q t (getD W (234 * b + 6 * x + 2 + k) 0)
       code-fits = record { entry = λ h. omega (arith, low h, so .paired .table, ib .block .small); room = room; few = omega (arith, so .paired .free) }
         where
-          low : getD W (240 * b + 6 * x + 2 + k) 0 < 192 → getD W (240 * b + 6 * x + 2 + k) 0 < countIn W b
+          low : getD W (234 * b + 6 * x + 2 + k) 0 < 192 → getD W (234 * b + 6 * x + 2 + k) 0 < countIn W b
           low h = rw er (object-low (countIn W b) r hr (rw er at h))
 
-          room : getD W (240 * b + 6 * x + 2 + k) 0 < 192 → getD T (getD W (240 * b + 6 * x + 2 + k) 0) 0 ≡ 0 → t < length Q
+          room : getD W (234 * b + 6 * x + 2 + k) 0 < 192 → getD T (getD W (234 * b + 6 * x + 2 + k) 0) 0 ≡ 0 → t < length Q
           room h e =
               omega (
                 arith,
@@ -395,10 +395,10 @@ module _ (W : List ℕ) (b x c y : ℕ) (T₀ Q₀ : List ℕ) (t₀ : ℕ) wher
                 low h,
                 so .paired .table,
                 ib .block .small,
-                unpaired-put 32 (getD W (240 * b + 6 * x + 2 + k) 0) 0 T (omega (arith, low h, ib .block .small)) (omega (arith, low h, so .paired .table, ib .block .small)) e,
+                unpaired-put 32 (getD W (234 * b + 6 * x + 2 + k) 0) 0 T (omega (arith, low h, ib .block .small)) (omega (arith, low h, so .paired .table, ib .block .small)) e,
               )
 
-      module _ (T2 Q2 : List ℕ) (u : ℕ) (e : after u T2 Q2 ≡ stepCode T Q t (getD W (240 * b + 6 * x + 2 + k) 0) (getD W (240 * c + 6 * y + 2 + k) 0)) where
+      module _ (T2 Q2 : List ℕ) (u : ℕ) (e : after u T2 Q2 ≡ stepCode T Q t (getD W (234 * b + 6 * x + 2 + k) 0) (getD W (234 * c + 6 * y + 2 + k) 0)) where
         this-step : Stepped W b c T₀ Q₀ t₀ T r s (after u T2 Q2)
         this-step =
             subst (Stepped W b c T₀ Q₀ t₀ T r s) (ap₂ (stepCode T Q t) (sym er) (sym es) ∙ sym e)
@@ -410,14 +410,14 @@ module _ (W : List ℕ) (b x c y : ℕ) (T₀ Q₀ : List ℕ) (t₀ : ℕ) wher
         pub fields-more : ((u ≡ 0) → ⊥) → FieldsSoFar W b x c y T₀ Q₀ t₀ T2 Q2 u (k + 1)
         fields-more z = record { start = so .start; alike = so .alike; grown = this-step .grown z; paired = this-step .paired z; fields = record { codes = λ f h. go f h (ℕ-discrete f k) } }
           where
-            here : Linked T2 (getD W (240 * b + 6 * x + 2 + k) 0) (getD W (240 * c + 6 * y + 2 + k) 0)
+            here : Linked T2 (getD W (234 * b + 6 * x + 2 + k) 0) (getD W (234 * c + 6 * y + 2 + k) 0)
             here = rw (er, es) (this-step .linked z)
 
-            go : (f : ℕ) → f < k + 1 → Dec (f ≡ k) → Linked T2 (getD W (240 * b + 6 * x + 2 + f) 0) (getD W (240 * c + 6 * y + 2 + f) 0)
+            go : (f : ℕ) → f < k + 1 → Dec (f ≡ k) → Linked T2 (getD W (234 * b + 6 * x + 2 + f) 0) (getD W (234 * c + 6 * y + 2 + f) 0)
             go f h (yes q) = rw q here
             go f h (no q) = let l = so .fields .codes f (omega (arith, q)) in record { leaf = l .leaf; pair = λ i. this-step .further z _ _ (l .pair i) }
 
-    pub fields-done : getD W (240 * b + 6 * x + 1) 0 ≤ k → ObjectStep W b x c y T₀ Q₀ t₀ T Q t
+    pub fields-done : getD W (234 * b + 6 * x + 1) 0 ≤ k → ObjectStep W b x c y T₀ Q₀ t₀ T Q t
     fields-done h = record {
       differ = λ z. absurd (omega (arith, some-paired));
       grown = λ _. so .grown;
@@ -469,7 +469,7 @@ module _ (W : List ℕ) (b c : ℕ) (bb : Block W b) (bc : Block W c) where
         let hy = pd .within x y e in
         below p (refsAt (objectsIn W b) x) (refsAt (objectsIn W c) y) (sym (count-is W b bb x hx) ∙ d .alike .count ∙ count-is W c bc y hy)
         (λ g l.
-        let k : g < getD W (240 * b + 6 * x + 1) 0 = omega (arith, count-is W b bb x hx) in
+        let k : g < getD W (234 * b + 6 * x + 1) 0 = omega (arith, count-is W b bb x hx) in
         let k4 : g < 4 = omega (arith, bb .packed x hx .count) in
         linked-refs p (claim p) (getD (refsAt (objectsIn W b) x) g undet) (getD (refsAt (objectsIn W c) y) g undet)
         (in-range W b bb x hx g k) (in-range W c bc y hy g (omega (arith, d .alike .count)))
@@ -603,7 +603,7 @@ module _ (W : List ℕ) (b i c j : ℕ) (ib : Inside W b i) (ic : Inside W c j) 
           (omega (arith, size W c (ic .block), ib .low, ap (countIn W) z)) (omega (arith, size W c (ic .block), ic .low))
           (λ p. ap (λ (k : ℕ). follow (objectsIn W k) (obj i) p) (sym z) ∙ s p)))
 
-  pub roots-differ : (r : Bool) → r ≡ alikeAt W (240 * b + 6 * i) (240 * c + 6 * j) → r ≡ false → false ≡ eqGraph (canon (graphAt W b i)) (canon (graphAt W c j))
+  pub roots-differ : (r : Bool) → r ≡ alikeAt W (234 * b + 6 * i) (234 * c + 6 * j) → r ≡ false → false ≡ eqGraph (canon (graphAt W b i)) (canon (graphAt W c j))
   roots-differ r l z = trees-differ (λ s. alike-no W _ _ r l z (same-alike W b i c j ib ic s))
 
   -- the roots are the first pair

@@ -28,7 +28,7 @@ pub record ObjectBound (W : List ℕ) (p hot i : ℕ) (R₀ : List ℕ) (q k : �
 
 -- the first n objects of block b, bound, at the front of R
 pub record ObjectsBound (W : List ℕ) (b hot i n : ℕ) (R : List ℕ) : Type 0 where
-  pub here : (j f : ℕ) → j < n → f < 6 → getD R (6 * j + f) 0 ≡ boundByte hot i f (getD W (240 * b + 6 * j + f) 0)
+  pub here : (j f : ℕ) → j < n → f < 6 → getD R (6 * j + f) 0 ≡ boundByte hot i f (getD W (234 * b + 6 * j + f) 0)
 
 -- all of them, with mark x bound to object i
 pub record Bound (W : List ℕ) (b x i : ℕ) (R : List ℕ) (n : ℕ) : Type 0 where
@@ -42,7 +42,7 @@ refersTo W p i = any (λ f. eqb (getD W (p + 2 + f) 0) i) 4
 
 -- whether none of the first n objects of block b refers to object i
 unfoldable pub noneRefer : List ℕ → ℕ → ℕ → ℕ → Bool
-noneRefer W b n i = not (any (λ k. refersTo W (240 * b + 6 * k) i) n)
+noneRefer W b n i = not (any (λ k. refersTo W (234 * b + 6 * k) i) n)
 
 -- f is a field whose codes differ, or 4
 pub record OtherField (R : List ℕ) (x y f : ℕ) : Type 0 where
@@ -77,4 +77,4 @@ pub record Rooted (R : List ℕ) (n i : ℕ) (W : List ℕ) (dst : ℕ) : Type 0
   pub raw : Raw R n
   pub small : n ≤ 32
   pub inside : i < n
-  pub room : 240 * dst + 240 ≤ length W
+  pub room : 234 * dst + 234 ≤ length W

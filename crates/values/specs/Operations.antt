@@ -18,7 +18,7 @@ use Rattle.values.specs.Layout.{valueOf, Holds, Low}
 pub record Taken (W : List ℕ) (b : ℕ) (I R₀ R : List ℕ) (n : ℕ) : Type 0 where
   pub count : n ≡ countIn W b
   pub ids : Filled (λ i. 0 + i) n I
-  pub copy : Lifted W (240 * b) (6 * n) I R₀ 0 R
+  pub copy : Lifted W (234 * b) (6 * n) I R₀ 0 R
 
 -- a reference stands for the value v in the bytes after, in block dst or below, and only block dst has changed
 pub record Gives (W : List ℕ) (dst : ℕ) (W′ : List ℕ) (r : ValueRef) (v : Graph) : Type 0 where
@@ -36,7 +36,7 @@ pub record Moved (W : List ℕ) (g : Graph) (dst : ℕ) (W′ : List ℕ) : Type
 pub record Copied (W : List ℕ) (b dst : ℕ) (W′ : List ℕ) : Type 0 where
   pub count : countIn W′ dst ≡ countIn W b
   pub level : levelIn W′ dst ≡ levelIn W b
-  pub here : (k : ℕ) → k < 6 * countIn W b → getD W′ (240 * dst + k) 0 ≡ getD W (240 * b + k) 0
+  pub here : (k : ℕ) → k < 6 * countIn W b → getD W′ (234 * dst + k) 0 ≡ getD W (234 * b + k) 0
   pub outside : Outside dst W W′
 
 -- a code that is no object's

@@ -67,7 +67,7 @@ pub record Linked (T : List ℕ) (a b : ℕ) : Type 0 where
 
 -- the first k fields of object x of block b are linked with those of object y of block c
 pub record LinkedTo (W : List ℕ) (b x c y : ℕ) (T : List ℕ) (k : ℕ) : Type 0 where
-  pub codes : (f : ℕ) → f < k → Linked T (getD W (240 * b + 6 * x + 2 + f) 0) (getD W (240 * c + 6 * y + 2 + f) 0)
+  pub codes : (f : ℕ) → f < k → Linked T (getD W (234 * b + 6 * x + 2 + f) 0) (getD W (234 * c + 6 * y + 2 + f) 0)
 
 -- object x of block b and object y of block c are a pair of the table
 pub record Pair (W : List ℕ) (b x c y : ℕ) (T Q : List ℕ) (t : ℕ) : Type 0 where
@@ -79,15 +79,15 @@ pub record Pair (W : List ℕ) (b x c y : ℕ) (T Q : List ℕ) (t : ℕ) : Type
 -- the first k fields of a pair gone over
 pub record FieldsSoFar (W : List ℕ) (b x c y : ℕ) (T₀ Q₀ : List ℕ) (t₀ : ℕ) (T Q : List ℕ) (t k : ℕ) : Type 0 where
   pub start : Pair W b x c y T₀ Q₀ t₀
-  pub alike : Alike W (240 * b + 6 * x) (240 * c + 6 * y)
+  pub alike : Alike W (234 * b + 6 * x) (234 * c + 6 * y)
   pub grown : Grown W b c T₀ Q₀ t₀ T Q t
   pub paired : Paired (countIn W b) (countIn W c) T Q t
   pub fields : LinkedTo W b x c y T k
 
 -- alike, and all fields are linked
 pub record Closed (W : List ℕ) (b x c y : ℕ) (T : List ℕ) : Type 0 where
-  pub alike : Alike W (240 * b + 6 * x) (240 * c + 6 * y)
-  pub fields : LinkedTo W b x c y T (getD W (240 * b + 6 * x + 1) 0)
+  pub alike : Alike W (234 * b + 6 * x) (234 * c + 6 * y)
+  pub fields : LinkedTo W b x c y T (getD W (234 * b + 6 * x + 1) 0)
 
 -- the first h objects of the queue are so, each with its partner
 pub record ClosedTo (W : List ℕ) (b c : ℕ) (T Q : List ℕ) (h : ℕ) : Type 0 where

@@ -44,12 +44,12 @@ pub fn bind_objects(work: &[u8], b: u16, x: u8, i: u8, raw: &mut [u8]) -> u8
     requires { ⌜ Inside (now work) b i × (x < 63) × (1536 ≤ length (now raw)) ⌝ }
     ensures { λ n. ⌜ Bound (now (work .entry)) b x i (now (raw .exit)) n ⌝ }
 {
-    let n = work[240 * (b as usize) + 192];
+    let n = work[234 * (b as usize) + 192];
     let mut j: u8 = 0;
     while j < n {
         bind_object(
             work,
-            240 * (b as usize) + 6 * (j as usize),
+            234 * (b as usize) + 6 * (j as usize),
             193 + x,
             i,
             raw,
@@ -79,12 +79,12 @@ pub fn refers(work: &[u8], p: usize, i: u8) -> bool
 
 // Whether none of the n objects of block b refers to object i.
 pub fn unreferred(work: &[u8], b: u16, n: u8, i: u8) -> bool
-    requires { ⌜ (240 * b + 240 ≤ length (now work)) × (n ≤ 32) ⌝ }
+    requires { ⌜ (234 * b + 234 ≤ length (now work)) × (n ≤ 32) ⌝ }
     ensures { λ r. ⌜ r ≡ noneRefer (now (work .entry)) b n i ⌝ }
 {
     let mut k: u8 = 0;
     while k < n {
-        if refers(work, 240 * (b as usize) + 6 * (k as usize), i) {
+        if refers(work, 234 * (b as usize) + 6 * (k as usize), i) {
             return false;
         }
         k += 1;
@@ -180,10 +180,10 @@ pub fn put_distinct(raw: &[u8], n: u8, i: u8, work: &mut [u8], dst: u16) -> Valu
     requires { ⌜ Rooted (now raw) n i (now work) dst × Distinct (nodesIn (now raw) 0 n) ⌝ }
     ensures { λ o. ⌜ Gives (now (work .entry)) dst (now (work .exit)) o (canon (graphIn (now (raw .entry)) n i)) ⌝ }
 {
-    copy(raw, 0, work, 240 * (dst as usize), 6 * (n as usize));
+    copy(raw, 0, work, 234 * (dst as usize), 6 * (n as usize));
     let l = level_of(raw, 0, 6 * (n as usize));
-    work[240 * (dst as usize) + 192] = n;
-    work[240 * (dst as usize) + 193] = l;
+    work[234 * (dst as usize) + 192] = n;
+    work[234 * (dst as usize) + 193] = l;
     ValueRef::Object(dst, i)
 }
 
@@ -200,7 +200,7 @@ pub fn put_merged(raw: &[u8], n: u8, i: u8, work: &mut [u8], dst: u16) -> ValueR
 
 // X = u for object i of block b, to block `dst`.
 pub fn close_bound(work: &mut [u8], x: u8, b: u16, i: u8, dst: u16) -> ValueRef
-    requires { ⌜ Inside (now work) b i × (x < 63) × (240 * dst + 240 ≤ length (now work)) ⌝ }
+    requires { ⌜ Inside (now work) b i × (x < 63) × (234 * dst + 234 ≤ length (now work)) ⌝ }
     ensures { λ o. ⌜ Gives (now (work .entry)) dst (now (work .exit)) o (closeOf x (canon (graphAt (now (work .entry)) b i))) ⌝ }
 {
     let mut raw = [0u8; 1536];

@@ -57,11 +57,11 @@ pub fn step_fields(
     queue: &mut [u8],
     tail: u8,
 ) -> u8
-    requires { ⌜ Pair (now work) b x c y (now partner) (now queue) tail × Alike (now work) (240 * b + 6 * x) (240 * c + 6 * y) ⌝ }
+    requires { ⌜ Pair (now work) b x c y (now partner) (now queue) tail × Alike (now work) (234 * b + 6 * x) (234 * c + 6 * y) ⌝ }
     ensures { λ r. ⌜ ObjectStep (now (work .entry)) b x c y (now (partner .entry)) (now (queue .entry)) tail (now (partner .exit)) (now (queue .exit)) r ⌝ }
 {
-    let p = 240 * (b as usize) + 6 * (x as usize);
-    let q = 240 * (c as usize) + 6 * (y as usize);
+    let p = 234 * (b as usize) + 6 * (x as usize);
+    let q = 234 * (c as usize) + 6 * (y as usize);
     let n = work[p + 1];
     let mut t = tail;
     let mut k: u8 = 0;
@@ -94,8 +94,8 @@ pub fn step_object(
 {
     if alike(
         work,
-        240 * (b as usize) + 6 * (x as usize),
-        240 * (c as usize) + 6 * (y as usize),
+        234 * (b as usize) + 6 * (x as usize),
+        234 * (c as usize) + 6 * (y as usize),
     ) {
         return step_fields(work, b, x, c, y, partner, queue, tail);
     }
@@ -144,8 +144,8 @@ pub fn same_trees(work: &[u8], b: u16, i: u8, c: u16, j: u8) -> bool
     }
     if alike(
         work,
-        240 * (b as usize) + 6 * (i as usize),
-        240 * (c as usize) + 6 * (j as usize),
+        234 * (b as usize) + 6 * (i as usize),
+        234 * (c as usize) + 6 * (j as usize),
     ) {
         return roots_in_step(work, b, i, c, j);
     }

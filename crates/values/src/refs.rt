@@ -43,7 +43,7 @@ pub fn select_in(work: &[u8], r: u32, f: u8) -> u32
     if 192 <= c {
         return NOTHING;
     }
-    let at = 240 * ((r / 256 % 65536) as usize) + 6 * (c as usize);
+    let at = 234 * ((r / 256 % 65536) as usize) + 6 * (c as usize);
     if work[at + 1] <= f {
         return NOTHING;
     }

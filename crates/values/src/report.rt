@@ -72,11 +72,11 @@ pub fn put_lines(work: &[u8], b: u16, out: &mut [u8]) -> usize
     requires { ⌜ Block (now work) b × (544 ≤ length (now out)) ⌝ }
     ensures { λ t. ⌜ Reported (graphAt (now (work .entry)) b 0) (now (out .entry)) (now (out .exit)) t ⌝ }
 {
-    let n = work[240 * (b as usize) + 192];
+    let n = work[234 * (b as usize) + 192];
     let mut to: usize = 0;
     let mut j: u8 = 0;
     while j < n {
-        to = put_line(work, 240 * (b as usize) + 6 * (j as usize), j, out, to);
+        to = put_line(work, 234 * (b as usize) + 6 * (j as usize), j, out, to);
         j += 1;
     }
     to

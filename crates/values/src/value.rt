@@ -1,5 +1,4 @@
 // Values closed and moved. Not here: values selected from (refs), values compared (lockstep), a new object (crate maker), how a mark is bound (bind).
-use crate::ValueRef;
 use crate::bind::close_bound;
 use crate::refs::pack;
 use canon::bytes::count_up;
@@ -18,7 +17,7 @@ pub fn take_up(work: &[u8], b: u16, ids: &mut [u8], raw: &mut [u8]) -> u8
     requires { ⌜ Block (now work) b × (256 ≤ length (now ids)) × (1536 ≤ length (now raw)) ⌝ }
     ensures { λ n. ⌜ Taken (now (work .entry)) b (now (ids .exit)) (now (raw .entry)) (now (raw .exit)) n ⌝ }
 {
-    let at = 240 * (b as usize);
+    let at = 234 * (b as usize);
     let n = work[at + 192];
     let p = 6 * (n as usize);
     count_up(0, n, ids);
@@ -28,7 +27,7 @@ pub fn take_up(work: &[u8], b: u16, ids: &mut [u8], raw: &mut [u8]) -> u8
 
 // The value at object i of block b, alone and numbered from its root, to block `dst`.
 pub fn move_out(work: &mut [u8], b: u16, i: u8, dst: u16)
-    requires { ⌜ Inside (now work) b i × (240 * dst + 240 ≤ length (now work)) ⌝ }
+    requires { ⌜ Inside (now work) b i × (234 * dst + 234 ≤ length (now work)) ⌝ }
     ensures { λ _. ⌜ Moved (now (work .entry)) (graphAt (now (work .entry)) b i) dst (now (work .exit)) ⌝ }
 {
     let mut ids = [0u8; 256];
@@ -39,39 +38,24 @@ pub fn move_out(work: &mut [u8], b: u16, i: u8, dst: u16)
 
 // The objects of block b, to block `dst`, which may be b.
 pub fn copy_block(work: &mut [u8], b: u16, dst: u16)
-    requires { ⌜ Block (now work) b × (240 * dst + 240 ≤ length (now work)) ⌝ }
+    requires { ⌜ Block (now work) b × (234 * dst + 234 ≤ length (now work)) ⌝ }
     ensures { λ _. ⌜ Copied (now (work .entry)) b dst (now (work .exit)) ⌝ }
 {
-    let n = work[240 * (b as usize) + 192];
-    let l = work[240 * (b as usize) + 193];
+    let n = work[234 * (b as usize) + 192];
+    let l = work[234 * (b as usize) + 193];
     let p = 6 * (n as usize);
     let mut q: usize = 0;
     while q < p {
-        work[240 * (dst as usize) + q] = work[240 * (b as usize) + q];
+        work[234 * (dst as usize) + q] = work[234 * (b as usize) + q];
         q += 1;
     }
-    work[240 * (dst as usize) + 192] = n;
-    work[240 * (dst as usize) + 193] = l;
-}
-
-// A value, in block `dst` or below.
-pub fn bring(work: &mut [u8], r: ValueRef, dst: u16) -> ValueRef
-    requires { ⌜ Holds (now work) r × (240 * dst + 240 ≤ length (now work)) ⌝ }
-    ensures { λ o. ⌜ Gives (now (work .entry)) dst (now (work .exit)) o (valueOf (now (work .entry)) r) ⌝ }
-{
-    let ValueRef::Object(b, i) = r else {
-        return r;
-    };
-    if b <= dst {
-        return r;
-    }
-    copy_block(work, b, dst);
-    ValueRef::Object(dst, i)
+    work[234 * (dst as usize) + 192] = n;
+    work[234 * (dst as usize) + 193] = l;
 }
 
 // The number of a value, in block `dst` or below.
 pub fn bring_in(work: &mut [u8], r: u32, dst: u16) -> u32
-    requires { ⌜ Holds (now work) (refIn r) × (240 * dst + 240 ≤ length (now work)) ⌝ }
+    requires { ⌜ Holds (now work) (refIn r) × (234 * dst + 234 ≤ length (now work)) ⌝ }
     ensures { λ q. ⌜ Gives (now (work .entry)) dst (now (work .exit)) (refIn q) (valueOf (now (work .entry)) (refIn r)) ⌝ }
 {
     if 192 <= r % 256 {
@@ -87,7 +71,7 @@ pub fn bring_in(work: &mut [u8], r: u32, dst: u16) -> u32
 
 // The number of X = u, in block `dst` or below.
 pub fn close_in(work: &mut [u8], x: u8, r: u32, dst: u16) -> u32
-    requires { ⌜ Holds (now work) (refIn r) × (x < 63) × (240 * dst + 240 ≤ length (now work)) ⌝ }
+    requires { ⌜ Holds (now work) (refIn r) × (x < 63) × (234 * dst + 234 ≤ length (now work)) ⌝ }
     ensures { λ q. ⌜ Gives (now (work .entry)) dst (now (work .exit)) (refIn q) (closeOf x (valueOf (now (work .entry)) (refIn r))) ⌝ }
 {
     let c = (r % 256) as u8;
@@ -98,7 +82,7 @@ pub fn close_in(work: &mut [u8], x: u8, r: u32, dst: u16) -> u32
         return r;
     }
     let b = (r / 256 % 65536) as u16;
-    if work[240 * (b as usize) + 193] <= x {
+    if work[234 * (b as usize) + 193] <= x {
         return bring_in(work, r, dst);
     }
     pack(close_bound(work, x, b, c, dst))

@@ -4,57 +4,50 @@ use Rattle.evaluator.proofs.eval.finish.Tie as tie
 use Rattle.evaluator.proofs.eval.finish.Reads as reads
 use Rattle.evaluator.proofs.eval.finish.Lts as lts
 use Rattle.evaluator.proofs.eval.parts_at.Reads as parts-at-reads
-use Rattle.values.proofs.refs.pack.Reads as pack-reads
 use Rattle.evaluator.proofs.stack.stop.Reads as stop-reads
 use Rattle.maker.proofs.make.make.Reads as make-reads
 use Rattle.maker.proofs.over.make_bare.Reads as make-bare-reads
 use Rattle.evaluator.proofs.LeafLaws as laws
 
 returns : tie.Need-returns
-returns c = search laws.bare-large
-
-pack-requires : tie.Need-pack-requires
-pack-requires c κs = search laws.bare-small
+returns c = search laws.preset-value
 
 returns-2 : tie.Need-returns-2
-returns-2 c = search laws.bare-value
+returns-2 c = search laws.bare-large
+
+returns-3 : tie.Need-returns-3
+returns-3 c = search laws.bare-value
 
 make-requires : tie.Need-make-requires
 make-requires c κs = (search laws.parts-ready, search needs, search needs)
 
-returns-3 : tie.Need-returns-3
-returns-3 c = search laws.made-large
-
-pack-requires-2 : tie.Need-pack-requires-2
-pack-requires-2 c κs = search laws.made-small
-
 returns-4 : tie.Need-returns-4
-returns-4 c = search laws.made-value
+returns-4 c = search laws.made-large
+
+returns-5 : tie.Need-returns-5
+returns-5 c = search laws.made-value
 
 pub finish-spec : {M : Type 1} → statement M
 finish-spec =
     tie.close
     (tie.spec
-    (λ c κs. search needs)
     (λ c. search needs)
-    (λ c. search needs)
-    (λ c κs. search needs)
     (λ c. search needs)
     returns
-    pack-requires
-    (λ c. search needs)
-    (λ c. search needs)
+    (λ c κs. search needs)
+    (λ c κs. search needs)
     (λ c. search needs)
     returns-2
-    (λ c κs. search needs)
-    make-requires
     (λ c. search needs)
     (λ c. search needs)
-    (λ c κs. search needs)
     (λ c. search needs)
     returns-3
-    pack-requires-2
+    (λ c κs. search needs)
+    make-requires
+    (λ c κs. search needs)
+    (λ c. search needs)
+    returns-4
     (λ c. search needs)
     (λ c. search needs)
     (λ c. search needs)
-    returns-4)
+    returns-5)

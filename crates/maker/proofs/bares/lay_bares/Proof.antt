@@ -9,7 +9,7 @@ use lib.ListN.{length}
 use Rattle.maker.proofs.BareLaws as laws
 
 abbrev Inv-loop : tie.InvT-loop
-Inv-loop work₀ c₀ work c = (c ≤ 32) × (240 * 0 + 240 ≤ length work) × laws.BaresTo work₀ c work
+Inv-loop work₀ c₀ work c = (c ≤ 32) × (234 * 0 + 234 ≤ length work) × laws.BaresTo work₀ c work
 
 abbrev μ-loop : tie.MeasureT-loop
 μ-loop work₀ c₀ work c = 32 - c

@@ -7,17 +7,16 @@ use Rattle.maker.proofs.make.make_laid.Reads as make-laid-reads
 use Rattle.maker.proofs.over.add.Reads as add-reads
 use Rattle.maker.proofs.over.find.Reads as find-reads
 use Rattle.maker.proofs.over.root_object.Reads as root-object-reads
-use Rattle.values.proofs.value.bring.Reads as bring-reads
+use Rattle.values.proofs.value.bring_in.Reads as bring-in-reads
 use Rattle.canon.specs.Layout.{countIn}
 use Rattle.maker.proofs.Beside as laws
-use Rattle.values.proofs.Copies as copies
 
 find-requires : tie.Need-find-requires
 unfolding countIn
 find-requires c κs = search needs
 
-bring-requires : tie.Need-bring-requires
-bring-requires c κs = (search copies.block-held, search needs)
+bring-in-requires : tie.Need-bring-in-requires
+bring-in-requires c κs = (search laws.beside-held, search needs)
 
 returns : tie.Need-returns
 returns c = search laws.beside-found
@@ -40,7 +39,10 @@ make-beside-spec =
     (λ c. search needs)
     (λ c. search needs)
     find-requires
-    bring-requires
+    (λ c. search needs)
+    (λ c. search needs)
+    (λ c. search needs)
+    bring-in-requires
     (λ c. search needs)
     returns
     (λ c κs. search needs)
@@ -48,5 +50,8 @@ make-beside-spec =
     (λ c. search needs)
     (λ c. search needs)
     add-requires
+    (λ c. search needs)
+    (λ c. search needs)
+    (λ c. search needs)
     (λ c. search needs)
     returns-3)

@@ -6,8 +6,9 @@ use Rattle.maker.proofs.merge.make_in.Lts as lts
 use Rattle.maker.proofs.make.make_laid.Reads as make-laid-reads
 use Rattle.maker.proofs.merge.bring_parts.Reads as bring-parts-reads
 use Rattle.maker.proofs.merge.enter.Reads as enter-reads
-use Rattle.values.proofs.value.bring.Reads as bring-reads
+use Rattle.values.proofs.value.bring_in.Reads as bring-in-reads
 use Rattle.maker.proofs.Merges as laws
+use native.Mathlib.Omega.{arith}
 
 make-laid-requires : tie.Need-make-laid-requires
 make-laid-requires c κs =
@@ -46,14 +47,14 @@ returns-2 c =
     let st = bp .before .before .before .before in
     laws.in-laid-2 _ _ _ _ _ _ (st .pre .0) (st .pre .1) (st .pre .3) _ _ _ (bp .bring-parts .ensures) (e1 .if1 .left) _ _ (en .enter .ensures) _ _ (ml .make-laid2 .ensures)
 
-bring-requires : tie.Need-bring-requires
-bring-requires c κs =
+bring-in-requires : tie.Need-bring-in-requires
+bring-in-requires c κs =
     let e2 = c .before in
     let en = e2 .before .before .before in
     let e1 = en .before .before .before in
     let bp = e1 .before .before .before .before in
     let st = bp .before .before .before .before in
-    (laws.in-holds _ _ _ _ _ _ (st .pre .0) (st .pre .1) (st .pre .3) _ _ _ (bp .bring-parts .ensures) (e1 .if1 .left) _ _ (en .enter .ensures) (e2 .if2 .left), laws.in-room-2 _ _ _ _ _ _ (st .pre .0) (st .pre .1) (st .pre .3) _ _ _ (bp .bring-parts .ensures) (e1 .if1 .left) _ _ (en .enter .ensures) (st .pre .4))
+    (laws.in-holds _ _ _ _ _ _ (st .pre .0) (st .pre .1) (st .pre .3) _ _ _ (bp .bring-parts .ensures) (e1 .if1 .left) _ _ (en .enter .ensures) (e2 .if2 .left) (omega arith), laws.in-room-2 _ _ _ _ _ _ (st .pre .0) (st .pre .1) (st .pre .3) _ _ _ (bp .bring-parts .ensures) (e1 .if1 .left) _ _ (en .enter .ensures) (st .pre .4))
 
 returns-3 : tie.Need-returns-3
 returns-3 c =
@@ -63,7 +64,7 @@ returns-3 c =
     let e1 = en .before .before .before in
     let bp = e1 .before .before .before .before in
     let st = bp .before .before .before .before in
-    laws.in-made _ _ _ _ _ _ (st .pre .0) (st .pre .1) (st .pre .3) _ _ _ (bp .bring-parts .ensures) (e1 .if1 .left) _ _ (en .enter .ensures) (e2 .if2 .left) _ _ (bg .bring .ensures)
+    laws.in-made _ _ _ _ _ _ (st .pre .0) (st .pre .1) (st .pre .3) _ _ _ (bp .bring-parts .ensures) (e1 .if1 .left) _ _ (en .enter .ensures) (e2 .if2 .left) (omega arith) _ _ (bg .bring-in .ensures)
 
 pub make-in-spec : {M : Type 1} → statement M
 make-in-spec =
@@ -79,6 +80,9 @@ make-in-spec =
     make-laid-requires-2
     (λ c. search needs)
     returns-2
-    bring-requires
+    (λ c. search needs)
+    (λ c. search needs)
+    (λ c. search needs)
+    bring-in-requires
     (λ c. search needs)
     returns-3)

@@ -20,13 +20,13 @@ shared-slice-read-result : tie.Need-shared-slice-read-result
 shared-slice-read-result c = omega (arith, c .before .if2 .left, laws.select-room _ _ (c .before .before .before .before .args .f) (c .before .before .before .before .pre) (c .before .before .before .if1 .left), laws.select-count _ _ (c .before .before .before .before .args .f) (c .before .before .before .before .pre) (c .before .before .before .if1 .left))
 
 cast-result : tie.Need-cast-result
-cast-result c = let a = c .before .before .before .before .args in omega (arith, c .shared-slice-known2 .given (240 * (a .r / 256 % 65536) + 6 * (a .r % 256) + 2 + a .f))
+cast-result c = let a = c .before .before .before .before .args in omega (arith, c .shared-slice-known2 .given (234 * (a .r / 256 % 65536) + 6 * (a .r % 256) + 2 + a .f))
 
 add-result-3 : tie.Need-add-result-3
-add-result-3 c = let a = c .before .before .before .before .args in omega (arith, c .shared-slice-known2 .given (240 * (a .r / 256 % 65536) + 6 * (a .r % 256) + 2 + a .f))
+add-result-3 c = let a = c .before .before .before .before .args in omega (arith, c .shared-slice-known2 .given (234 * (a .r / 256 % 65536) + 6 * (a .r % 256) + 2 + a .f))
 
 returns-3 : tie.Need-returns-3
-returns-3 c = let a = c .before .before .before .before .args in laws.select-code _ _ _ (c .before .before .before .before .pre) (c .before .before .before .if1 .left) (c .before .if2 .left) (omega (arith, c .shared-slice-known2 .given (240 * (a .r / 256 % 65536) + 6 * (a .r % 256) + 2 + a .f)))
+returns-3 c = let a = c .before .before .before .before .args in laws.select-code _ _ _ (c .before .before .before .before .pre) (c .before .before .before .if1 .left) (c .before .if2 .left) (omega (arith, c .shared-slice-known2 .given (234 * (a .r / 256 % 65536) + 6 * (a .r % 256) + 2 + a .f)))
 
 pub select-in-spec : {M : Type 1} → statement M
 select-in-spec =

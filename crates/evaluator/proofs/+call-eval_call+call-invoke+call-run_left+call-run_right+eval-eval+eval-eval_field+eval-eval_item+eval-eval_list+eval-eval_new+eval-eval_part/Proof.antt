@@ -3,32 +3,36 @@ use borrow.Fn.Kinds.{In}
 use borrow.Fn.PlainCycle.{Measures, is, falls, and}
 use Rattle.evaluator.proofs.call.eval_call.Reads as call·eval-call
 use Rattle.evaluator.proofs.call.eval_call.Kinds as call·eval-call-kinds
-use Rattle.evaluator.proofs.+call-eval_call+call-invoke+call-run_left+call-run_right+eval-eval+eval-eval_field+eval-eval_list+eval-eval_new+eval-eval_part.Lts-call-eval_call as call·eval-call-lts
+use Rattle.evaluator.proofs.+call-eval_call+call-invoke+call-run_left+call-run_right+eval-eval+eval-eval_field+eval-eval_item+eval-eval_list+eval-eval_new+eval-eval_part.Lts-call-eval_call as call·eval-call-lts
 use Rattle.evaluator.proofs.call.invoke.Reads as call·invoke
 use Rattle.evaluator.proofs.call.invoke.Kinds as call·invoke-kinds
-use Rattle.evaluator.proofs.+call-eval_call+call-invoke+call-run_left+call-run_right+eval-eval+eval-eval_field+eval-eval_list+eval-eval_new+eval-eval_part.Lts-call-invoke as call·invoke-lts
+use Rattle.evaluator.proofs.+call-eval_call+call-invoke+call-run_left+call-run_right+eval-eval+eval-eval_field+eval-eval_item+eval-eval_list+eval-eval_new+eval-eval_part.Lts-call-invoke as call·invoke-lts
 use Rattle.evaluator.proofs.call.run_left.Reads as call·run-left
 use Rattle.evaluator.proofs.call.run_left.Kinds as call·run-left-kinds
-use Rattle.evaluator.proofs.+call-eval_call+call-invoke+call-run_left+call-run_right+eval-eval+eval-eval_field+eval-eval_list+eval-eval_new+eval-eval_part.Lts-call-run_left as call·run-left-lts
+use Rattle.evaluator.proofs.+call-eval_call+call-invoke+call-run_left+call-run_right+eval-eval+eval-eval_field+eval-eval_item+eval-eval_list+eval-eval_new+eval-eval_part.Lts-call-run_left as call·run-left-lts
 use Rattle.evaluator.proofs.call.run_right.Reads as call·run-right
 use Rattle.evaluator.proofs.call.run_right.Kinds as call·run-right-kinds
-use Rattle.evaluator.proofs.+call-eval_call+call-invoke+call-run_left+call-run_right+eval-eval+eval-eval_field+eval-eval_list+eval-eval_new+eval-eval_part.Lts-call-run_right as call·run-right-lts
+use Rattle.evaluator.proofs.+call-eval_call+call-invoke+call-run_left+call-run_right+eval-eval+eval-eval_field+eval-eval_item+eval-eval_list+eval-eval_new+eval-eval_part.Lts-call-run_right as call·run-right-lts
 use Rattle.evaluator.proofs.eval.eval.Reads as eval·eval
 use Rattle.evaluator.proofs.eval.eval.Kinds as eval·eval-kinds
-use Rattle.evaluator.proofs.+call-eval_call+call-invoke+call-run_left+call-run_right+eval-eval+eval-eval_field+eval-eval_list+eval-eval_new+eval-eval_part.Lts-eval-eval as eval·eval-lts
+use Rattle.evaluator.proofs.+call-eval_call+call-invoke+call-run_left+call-run_right+eval-eval+eval-eval_field+eval-eval_item+eval-eval_list+eval-eval_new+eval-eval_part.Lts-eval-eval as eval·eval-lts
 use Rattle.evaluator.proofs.eval.eval_field.Reads as eval·eval-field
 use Rattle.evaluator.proofs.eval.eval_field.Kinds as eval·eval-field-kinds
-use Rattle.evaluator.proofs.+call-eval_call+call-invoke+call-run_left+call-run_right+eval-eval+eval-eval_field+eval-eval_list+eval-eval_new+eval-eval_part.Lts-eval-eval_field as eval·eval-field-lts
+use Rattle.evaluator.proofs.+call-eval_call+call-invoke+call-run_left+call-run_right+eval-eval+eval-eval_field+eval-eval_item+eval-eval_list+eval-eval_new+eval-eval_part.Lts-eval-eval_field as eval·eval-field-lts
+use Rattle.evaluator.proofs.eval.eval_item.Reads as eval·eval-item
+use Rattle.evaluator.proofs.eval.eval_item.Kinds as eval·eval-item-kinds
+use Rattle.evaluator.proofs.+call-eval_call+call-invoke+call-run_left+call-run_right+eval-eval+eval-eval_field+eval-eval_item+eval-eval_list+eval-eval_new+eval-eval_part.Lts-eval-eval_item as eval·eval-item-lts
 use Rattle.evaluator.proofs.eval.eval_list.Reads as eval·eval-list
 use Rattle.evaluator.proofs.eval.eval_list.Kinds as eval·eval-list-kinds
-use Rattle.evaluator.proofs.+call-eval_call+call-invoke+call-run_left+call-run_right+eval-eval+eval-eval_field+eval-eval_list+eval-eval_new+eval-eval_part.Lts-eval-eval_list as eval·eval-list-lts
+use Rattle.evaluator.proofs.+call-eval_call+call-invoke+call-run_left+call-run_right+eval-eval+eval-eval_field+eval-eval_item+eval-eval_list+eval-eval_new+eval-eval_part.Lts-eval-eval_list as eval·eval-list-lts
 use Rattle.evaluator.proofs.eval.eval_new.Reads as eval·eval-new
 use Rattle.evaluator.proofs.eval.eval_new.Kinds as eval·eval-new-kinds
-use Rattle.evaluator.proofs.+call-eval_call+call-invoke+call-run_left+call-run_right+eval-eval+eval-eval_field+eval-eval_list+eval-eval_new+eval-eval_part.Lts-eval-eval_new as eval·eval-new-lts
+use Rattle.evaluator.proofs.+call-eval_call+call-invoke+call-run_left+call-run_right+eval-eval+eval-eval_field+eval-eval_item+eval-eval_list+eval-eval_new+eval-eval_part.Lts-eval-eval_new as eval·eval-new-lts
 use Rattle.evaluator.proofs.eval.eval_part.Reads as eval·eval-part
 use Rattle.evaluator.proofs.eval.eval_part.Kinds as eval·eval-part-kinds
-use Rattle.evaluator.proofs.+call-eval_call+call-invoke+call-run_left+call-run_right+eval-eval+eval-eval_field+eval-eval_list+eval-eval_new+eval-eval_part.Lts-eval-eval_part as eval·eval-part-lts
+use Rattle.evaluator.proofs.+call-eval_call+call-invoke+call-run_left+call-run_right+eval-eval+eval-eval_field+eval-eval_item+eval-eval_list+eval-eval_new+eval-eval_part.Lts-eval-eval_part as eval·eval-part-lts
 use Rattle.evaluator.proofs.call.body_limits.Reads as body-limits-reads
+use Rattle.evaluator.proofs.eval.is_preset.Reads as is-preset-reads
 use Rattle.evaluator.proofs.eval.past.Reads as past-reads
 use Rattle.checker.proofs.shape.shape_at.Reads as shape-at-reads
 use Rattle.classes.proofs.chain.field_total.Reads as field-total-reads
@@ -47,10 +51,10 @@ use Rattle.evaluator.proofs.stack.stop.Reads as stop-reads
 use Rattle.evaluator.proofs.stack.went_of.Reads as went-of-reads
 use Rattle.values.proofs.value.bring_in.Reads as bring-in-reads
 use Rattle.values.proofs.value.close_in.Reads as close-in-reads
-use Rattle.evaluator.proofs.+call-eval_call+call-invoke+call-run_left+call-run_right+eval-eval+eval-eval_field+eval-eval_list+eval-eval_new+eval-eval_part.{
+use Rattle.evaluator.proofs.+call-eval_call+call-invoke+call-run_left+call-run_right+eval-eval+eval-eval_field+eval-eval_item+eval-eval_list+eval-eval_new+eval-eval_part.{
   statement,
 }
-use Rattle.evaluator.proofs.+call-eval_call+call-invoke+call-run_left+call-run_right+eval-eval+eval-eval_field+eval-eval_list+eval-eval_new+eval-eval_part.Tie.{
+use Rattle.evaluator.proofs.+call-eval_call+call-invoke+call-run_left+call-run_right+eval-eval+eval-eval_field+eval-eval_item+eval-eval_list+eval-eval_new+eval-eval_part.Tie.{
   close,
 }
 use native.Mathlib.Omega.{arith}
@@ -78,6 +82,9 @@ abbrev μ-eval·eval : Measures 3 eval·eval-kinds.ps ℕ
 
 abbrev μ-eval·eval-field : Measures 3 eval·eval-field-kinds.ps ℕ
 μ-eval·eval-field κs a = (a .1 .1 .1 .1 .0) / 8 % 32 * 6000 + (a .1 .1 .1 .1 .0) % 8 * 600 + 500
+
+abbrev μ-eval·eval-item : Measures 3 eval·eval-item-kinds.ps ℕ
+μ-eval·eval-item κs a = (a .1 .1 .1 .1 .0) / 8 % 32 * 6000 + (a .1 .1 .1 .1 .0) % 8 * 600 + 1
 
 abbrev μ-eval·eval-list : Measures 3 eval·eval-list-kinds.ps ℕ
 μ-eval·eval-list κs a = (a .1 .1 .1 .1 .0) / 8 % 32 * 6000 + (a .1 .1 .1 .1 .0) % 8 * 600 + 2
@@ -163,6 +170,22 @@ eval·eval-field-below t =
     (falls 3 eval·eval-field-kinds.ps _<_ μ-eval·eval-field t)
     eval·eval-field.Pre
 
+abbrev eval·eval-item-at : ℕ → In 3 eval·eval-item-kinds.ps
+eval·eval-item-at t =
+    and
+    3
+    eval·eval-item-kinds.ps
+    (is 3 eval·eval-item-kinds.ps μ-eval·eval-item t)
+    eval·eval-item.Pre
+
+abbrev eval·eval-item-below : ℕ → In 3 eval·eval-item-kinds.ps
+eval·eval-item-below t =
+    and
+    3
+    eval·eval-item-kinds.ps
+    (falls 3 eval·eval-item-kinds.ps _<_ μ-eval·eval-item t)
+    eval·eval-item.Pre
+
 abbrev eval·eval-list-at : ℕ → In 3 eval·eval-list-kinds.ps
 eval·eval-list-at t =
     and
@@ -225,8 +248,11 @@ eval·eval-claims t = (stop-reads.Asked, stop-reads.Learnt, shape-at-reads.Asked
 abbrev eval·eval-field-claims : ℕ → eval·eval-field-lts.Claims
 eval·eval-field-claims t = (eval·eval-part-below t, eval·eval-part.Post, went-of-reads.Asked, went-of-reads.Learnt, select-in-reads.Asked, select-in-reads.Learnt, stop-reads.Asked, stop-reads.Learnt)
 
+abbrev eval·eval-item-claims : ℕ → eval·eval-item-lts.Claims
+eval·eval-item-claims t = (stop-reads.Asked, stop-reads.Learnt, shape-at-reads.Asked, shape-at-reads.Learnt, leaf-reads.Asked, leaf-reads.Learnt, is-preset-reads.Asked, is-preset-reads.Learnt, eval·eval-below t, eval·eval.Post)
+
 abbrev eval·eval-list-claims : ℕ → eval·eval-list-lts.Claims
-eval·eval-list-claims t = (eval·eval-part-below t, eval·eval-part.Post, went-of-reads.Asked, went-of-reads.Learnt, past-reads.Asked, past-reads.Learnt)
+eval·eval-list-claims t = (eval·eval-item-below t, eval·eval-item.Post, went-of-reads.Asked, went-of-reads.Learnt, past-reads.Asked, past-reads.Learnt)
 
 abbrev eval·eval-new-claims : ℕ → eval·eval-new-lts.Claims
 eval·eval-new-claims t = (field-total-reads.Asked, field-total-reads.Learnt, stop-reads.Asked, stop-reads.Learnt, eval·eval-list-below t, eval·eval-list.Post, went-of-reads.Asked, went-of-reads.Learnt, finish-reads.Asked, finish-reads.Learnt)
@@ -423,6 +449,45 @@ eval·eval-field-returns-2 t c = steps.field-lacks _ _ _ _ _ _ _ _ _ (steps.eval
 eval·eval-field-returns-3 : (t : ℕ) → eval·eval-field-lts.Need-returns-3 (eval·eval-field-claims t) (eval·eval-field-at t) eval·eval-field.Post
 eval·eval-field-returns-3 t c = steps.field-has _ _ _ _ _ _ _ _ _ (steps.eval-went _ _ (c .before .before .before .before .before .before .before .went-of .ensures) _ (c .before .before .before .before .before .w1 .given .1) _ _ _ _ _ _ _ _ (c .before .before .before .before .before .before .before .before .before .before .eval-part .ensures)) (c .before .before .before .before .before .before .before .before .before .before .before .before .before .before .pre .1) _ _ (steps.went-on _ _ (c .before .before .before .before .before .before .before .went-of .ensures) _ (c .before .before .before .before .before .w1 .given .1)) (c .before .select-in .ensures) (c .if1 .left)
 
+eval·eval-item-stop-requires : (t : ℕ) → eval·eval-item-lts.Need-stop-requires (eval·eval-item-claims t) (eval·eval-item-at t) eval·eval-item.Post
+eval·eval-item-stop-requires t c κs = search steps.run-full
+
+eval·eval-item-returns : (t : ℕ) → eval·eval-item-lts.Need-returns (eval·eval-item-claims t) (eval·eval-item-at t) eval·eval-item.Post
+eval·eval-item-returns t c = search steps.step-zero
+
+eval·eval-item-leaf-requires : (t : ℕ) → eval·eval-item-lts.Need-leaf-requires (eval·eval-item-claims t) (eval·eval-item-at t) eval·eval-item.Post
+eval·eval-item-leaf-requires t c κs = (search steps.run-full, search steps.run-short, search steps.run-framed)
+
+eval·eval-item-leaf-requires-2 : (t : ℕ) → eval·eval-item-lts.Need-leaf-requires-2 (eval·eval-item-claims t) (eval·eval-item-at t) eval·eval-item.Post
+eval·eval-item-leaf-requires-2 t c κs = (search steps.run-full, search steps.run-short, search steps.run-framed)
+
+eval·eval-item-leaf-requires-3 : (t : ℕ) → eval·eval-item-lts.Need-leaf-requires-3 (eval·eval-item-claims t) (eval·eval-item-at t) eval·eval-item.Post
+eval·eval-item-leaf-requires-3 t c κs = (search steps.run-full, search steps.run-short, search steps.run-framed)
+
+eval·eval-item-mul-st : (t : ℕ) → eval·eval-item-lts.Need-mul-st (eval·eval-item-claims t) (eval·eval-item-at t) eval·eval-item.Post
+eval·eval-item-mul-st t c = search (needs, steps.run-short _ _ _ _ (c .before .before .before .before .before .before .before .before .pre .1) (c .before .before .before .before .before .before .if1 .left))
+
+eval·eval-item-element-write-st : (t : ℕ) → eval·eval-item-lts.Need-element-write-st (eval·eval-item-claims t) (eval·eval-item-at t) eval·eval-item.Post
+eval·eval-item-element-write-st t c = search (needs, steps.run-short _ _ _ _ (c .before .before .before .before .before .before .before .before .pre .1) (c .before .before .before .before .before .before .if1 .left))
+
+eval·eval-item-returns-2 : (t : ℕ) → eval·eval-item-lts.Need-returns-2 (eval·eval-item-claims t) (eval·eval-item-at t) eval·eval-item.Post
+eval·eval-item-returns-2 t c = search steps.step-preset
+
+eval·eval-item-eval-requires : (t : ℕ) → eval·eval-item-lts.Need-eval-requires (eval·eval-item-claims t) (eval·eval-item-at t) eval·eval-item.Post
+eval·eval-item-eval-requires t c κs = (search needs, search needs)
+
+eval·eval-item-eval-requires-2 : (t : ℕ) → eval·eval-item-lts.Need-eval-requires-2 (eval·eval-item-claims t) (eval·eval-item-at t) eval·eval-item.Post
+eval·eval-item-eval-requires-2 t c κs = (search needs, search needs)
+
+eval·eval-item-returns-3 : (t : ℕ) → eval·eval-item-lts.Need-returns-3 (eval·eval-item-claims t) (eval·eval-item-at t) eval·eval-item.Post
+eval·eval-item-returns-3 t c = search steps.step-this
+
+eval·eval-item-returns-4 : (t : ℕ) → eval·eval-item-lts.Need-returns-4 (eval·eval-item-claims t) (eval·eval-item-at t) eval·eval-item.Post
+eval·eval-item-returns-4 t c = search steps.step-result
+
+eval·eval-item-returns-5 : (t : ℕ) → eval·eval-item-lts.Need-returns-5 (eval·eval-item-claims t) (eval·eval-item-at t) eval·eval-item.Post
+eval·eval-item-returns-5 t c = search steps.step-parameter
+
 abbrev eval·eval-list-Inv-loop : eval·eval-list-lts.InvT-loop
 eval·eval-list-Inv-loop T W S at lim sp n p₀ l₀ q₀ left₀ W1 S1 p l q left = steps.Rest T W S at lim sp n W1 S1 p l q left
 
@@ -432,14 +497,14 @@ eval·eval-list-μ-loop T W S at lim sp n p₀ l₀ q₀ left₀ W1 S1 p l q lef
 eval·eval-list-loop-holds : (t : ℕ) → eval·eval-list-lts.Need-loop-holds (eval·eval-list-claims t) (eval·eval-list-at t) eval·eval-list.Post eval·eval-list-Inv-loop eval·eval-list-μ-loop
 eval·eval-list-loop-holds t c = search steps.rest-all
 
-eval·eval-list-eval-part-requires : (t : ℕ) → eval·eval-list-lts.Need-eval-part-requires (eval·eval-list-claims t) (eval·eval-list-at t) eval·eval-list.Post eval·eval-list-Inv-loop eval·eval-list-μ-loop
-eval·eval-list-eval-part-requires t c κs = (search limits.same-falls, search steps.rest-run)
+eval·eval-list-eval-item-requires : (t : ℕ) → eval·eval-list-lts.Need-eval-item-requires (eval·eval-list-claims t) (eval·eval-list-at t) eval·eval-list.Post eval·eval-list-Inv-loop eval·eval-list-μ-loop
+eval·eval-list-eval-item-requires t c κs = (search limits.same-falls, search steps.rest-run)
 
 eval·eval-list-same-length : (t : ℕ) → eval·eval-list-lts.Need-same-length (eval·eval-list-claims t) (eval·eval-list-at t) eval·eval-list.Post eval·eval-list-Inv-loop eval·eval-list-μ-loop
-eval·eval-list-same-length t c = search (needs, (steps.rest-stops _ _ _ _ _ _ _ _ _ _ _ _ _ (c .before .before .before .before .before .before .before .before .before .loop .inv) (c .before .before .before .before .before .before .before .before .loop-test .taken) _ _ _ (c .before .before .before .before .before .eval-part .ensures) (steps.went-stopped _ _ (c .before .before .went-of .ensures) (c .enum-told .given .1))) .runs .kept .same)
+eval·eval-list-same-length t c = search (needs, (steps.rest-stops _ _ _ _ _ _ _ _ _ _ _ _ _ (c .before .before .before .before .before .before .before .before .before .loop .inv) (c .before .before .before .before .before .before .before .before .loop-test .taken) _ _ _ (c .before .before .before .before .before .eval-item .ensures) (steps.went-stopped _ _ (c .before .before .went-of .ensures) (c .enum-told .given .1))) .runs .kept .same)
 
 eval·eval-list-returns : (t : ℕ) → eval·eval-list-lts.Need-returns (eval·eval-list-claims t) (eval·eval-list-at t) eval·eval-list.Post eval·eval-list-Inv-loop eval·eval-list-μ-loop
-eval·eval-list-returns t c = steps.rest-stops _ _ _ _ _ _ _ _ _ _ _ _ _ (c .before .before .before .before .before .before .before .before .before .loop .inv) (c .before .before .before .before .before .before .before .before .loop-test .taken) _ _ _ (c .before .before .before .before .before .eval-part .ensures) (steps.went-stopped _ _ (c .before .before .went-of .ensures) (c .enum-told .given .1))
+eval·eval-list-returns t c = steps.rest-stops _ _ _ _ _ _ _ _ _ _ _ _ _ (c .before .before .before .before .before .before .before .before .before .loop .inv) (c .before .before .before .before .before .before .before .before .loop-test .taken) _ _ _ (c .before .before .before .before .before .eval-item .ensures) (steps.went-stopped _ _ (c .before .before .went-of .ensures) (c .enum-told .given .1))
 
 eval·eval-list-element-copy-out-past : (t : ℕ) → eval·eval-list-lts.Need-element-copy-out-past (eval·eval-list-claims t) (eval·eval-list-at t) eval·eval-list.Post eval·eval-list-Inv-loop eval·eval-list-μ-loop
 eval·eval-list-element-copy-out-past t c = steps.rest-index _ _ _ _ _ _ _ _ _ _ _ _ _ (c .before .before .before .before .before .before .before .before .before .before .loop .inv) (c .before .before .before .before .before .before .before .before .before .loop-test .taken)
@@ -451,7 +516,7 @@ eval·eval-list-add-q : (t : ℕ) → eval·eval-list-lts.Need-add-q (eval·eval
 eval·eval-list-add-q t c = search (needs, steps.rest-index _ _ _ _ _ _ _ _ _ _ _ _ _ (c .before .before .before .before .before .before .before .before .before .before .before .before .loop .inv) (c .before .before .before .before .before .before .before .before .before .before .before .loop-test .taken))
 
 eval·eval-list-loop-again : (t : ℕ) → eval·eval-list-lts.Need-loop-again (eval·eval-list-claims t) (eval·eval-list-at t) eval·eval-list.Post eval·eval-list-Inv-loop eval·eval-list-μ-loop
-eval·eval-list-loop-again t c = steps.rest-later _ _ _ _ _ _ _ _ _ _ _ _ _ (c .before .before .before .before .before .before .before .before .before .before .before .before .loop .inv) (c .before .before .before .before .before .before .before .before .before .before .before .loop-test .taken) _ _ _ (steps.eval-went _ _ (c .before .before .before .before .before .went-of .ensures) _ (c .before .before .before .w1 .given .1) _ _ _ _ _ _ _ _ (c .before .before .before .before .before .before .before .before .eval-part .ensures)) (steps.went-on _ _ (c .before .before .before .before .before .went-of .ensures) _ (c .before .before .before .w1 .given .1)) _ (c .past .ensures)
+eval·eval-list-loop-again t c = steps.rest-later _ _ _ _ _ _ _ _ _ _ _ _ _ (c .before .before .before .before .before .before .before .before .before .before .before .before .loop .inv) (c .before .before .before .before .before .before .before .before .before .before .before .loop-test .taken) _ _ _ (steps.eval-went _ _ (c .before .before .before .before .before .went-of .ensures) _ (c .before .before .before .w1 .given .1) _ _ _ _ _ _ _ _ (c .before .before .before .before .before .before .before .before .eval-item .ensures)) (steps.went-on _ _ (c .before .before .before .before .before .went-of .ensures) _ (c .before .before .before .w1 .given .1)) _ (c .past .ensures)
 
 eval·eval-list-same-length-2 : (t : ℕ) → eval·eval-list-lts.Need-same-length-2 (eval·eval-list-claims t) (eval·eval-list-at t) eval·eval-list.Post eval·eval-list-Inv-loop eval·eval-list-μ-loop
 eval·eval-list-same-length-2 t c = search (needs, steps.rest-none _ _ _ _ _ _ _ _ _ _ _ _ _ (c .before .loop .inv) (c .loop-test .left) .runs .kept .same)
@@ -513,9 +578,9 @@ eval·eval-part-returns-3 t c = search steps.step-result
 eval·eval-part-returns-4 : (t : ℕ) → eval·eval-part-lts.Need-returns-4 (eval·eval-part-claims t) (eval·eval-part-at t) eval·eval-part.Post
 eval·eval-part-returns-4 t c = search steps.step-parameter
 
-pub +call·eval-call+call·invoke+call·run-left+call·run-right+eval·eval+eval·eval-field+eval·eval-list+eval·eval-new+eval·eval-part-spec : {M : Type 1} → statement M
-+call·eval-call+call·invoke+call·run-left+call·run-right+eval·eval+eval·eval-field+eval·eval-list+eval·eval-new+eval·eval-part-spec =
-    close μ-call·eval-call μ-call·invoke μ-call·run-left μ-call·run-right μ-eval·eval μ-eval·eval-field μ-eval·eval-list μ-eval·eval-new μ-eval·eval-part
+pub +call·eval-call+call·invoke+call·run-left+call·run-right+eval·eval+eval·eval-field+eval·eval-item+eval·eval-list+eval·eval-new+eval·eval-part-spec : {M : Type 1} → statement M
++call·eval-call+call·invoke+call·run-left+call·run-right+eval·eval+eval·eval-field+eval·eval-item+eval·eval-list+eval·eval-new+eval·eval-part-spec =
+    close μ-call·eval-call μ-call·invoke μ-call·run-left μ-call·run-right μ-eval·eval μ-eval·eval-field μ-eval·eval-item μ-eval·eval-list μ-eval·eval-new μ-eval·eval-part
     (λ t. call·eval-call-lts.spec (call·eval-call-claims t) (call·eval-call-at t) call·eval-call.Post
     (call·eval-call-stop-requires t)
     (call·eval-call-returns t)
@@ -666,9 +731,34 @@ pub +call·eval-call+call·invoke+call·run-left+call·run-right+eval·eval+eval
     (λ c. search needs)
     (λ c. search needs)
     (eval·eval-field-returns-3 t))
+    (λ t. eval·eval-item-lts.spec (eval·eval-item-claims t) (eval·eval-item-at t) eval·eval-item.Post
+    (eval·eval-item-stop-requires t)
+    (eval·eval-item-returns t)
+    (λ c κs. search needs)
+    (λ c. search needs)
+    (eval·eval-item-leaf-requires t)
+    (λ c. search needs)
+    (eval·eval-item-leaf-requires-2 t)
+    (λ c. search needs)
+    (eval·eval-item-leaf-requires-3 t)
+    (λ c. search needs)
+    (λ c κs. search needs)
+    (λ c. search needs)
+    (eval·eval-item-mul-st t)
+    (eval·eval-item-element-write-st t)
+    (eval·eval-item-returns-2 t)
+    (eval·eval-item-eval-requires t)
+    (eval·eval-item-eval-requires-2 t)
+    (eval·eval-item-returns-3 t)
+    (eval·eval-item-returns-4 t)
+    (eval·eval-item-returns-5 t)
+    (λ c. search needs)
+    (λ c. search needs)
+    (λ c. search needs)
+    (λ c. search needs))
     (λ t. eval·eval-list-lts.spec (eval·eval-list-claims t) (eval·eval-list-at t) eval·eval-list.Post eval·eval-list-Inv-loop eval·eval-list-μ-loop
     (eval·eval-list-loop-holds t)
-    (eval·eval-list-eval-part-requires t)
+    (eval·eval-list-eval-item-requires t)
     (λ c κs. search needs)
     (λ c. search needs)
     (λ c. search needs)
