@@ -68,7 +68,7 @@ outcome-halt W o s fuel R R′ σ e w q = rw (e, q) (record {
 })
 
 -- ---- a run that ended in a value
-pub value-held : (W : List ℕ) (o : Out) (v : ValueRef) (at fuel : ℕ) → OutOlder W 1 o → o ≡ Value v at fuel → Holds W v
+pub value-held : (W : List ℕ) (o : Out) (v : ValueRef) (at fuel : ℕ) → OutOlder W 2 o → o ≡ Value v at fuel → Holds W v
 value-held W o v at fuel h e = (rw e at h) .held
 
 pub value-length : (v : Graph) (R R′ : List ℕ) (t : ℕ) → Reported v R R′ t → t < 65536

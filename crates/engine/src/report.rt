@@ -41,7 +41,7 @@ fn report_stop(s: Stop, out: &mut [u8])
 
 // The report of an outcome, at the front of `out`, and the answer.
 pub fn report_outcome(work: &mut [u8], o: Out, out: &mut [u8]) -> Answer
-    requires { ⌜ OutOlder (now work) 1 o × (reportSize ≤ length (now out)) ⌝ }
+    requires { ⌜ OutOlder (now work) 2 o × (reportSize ≤ length (now out)) ⌝ }
     ensures { λ r. ⌜ Reports (outIn (now (work .entry)) o) (now (out .entry)) (now (out .exit)) r × (length (now (work .exit)) ≡ length (now (work .entry))) ⌝ }
 {
     match o {
