@@ -103,6 +103,9 @@ module _ (lim t : ℕ) where
   pub inner-falls : (lim % 8 ≡ 0 → ⊥) → lim / 8 % 32 * 6000 + lim % 8 * 600 ≡ t → (lim - 1) / 8 % 32 * 6000 + (lim - 1) % 8 * 600 + 500 < t
   inner-falls nz e = omega (arith, inner-nest lim nz, inner-depth lim nz)
 
+  pub item-falls : (lim % 8 ≡ 0 → ⊥) → lim / 8 % 32 * 6000 + lim % 8 * 600 + 1 ≡ t → (lim - 1) / 8 % 32 * 6000 + (lim - 1) % 8 * 600 + 500 < t
+  item-falls nz e = omega (arith, inner-nest lim nz, inner-depth lim nz)
+
   pub next-falls : lim / 8 % 32 * 6000 + lim % 8 * 600 + 500 ≡ t → (lim + 256) / 8 % 32 * 6000 + (lim + 256) % 8 * 600 + 2 < t
   next-falls e = omega (arith, next-nest lim, next-depth lim)
 

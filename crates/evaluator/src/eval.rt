@@ -112,6 +112,7 @@ pub fn eval_item(
         Shape::This { next: _ } => leaf(t, st, at, sp),
         Shape::Result { next: _ } => leaf(t, st, at, sp),
         Shape::Parameter { k: _, next: _ } => leaf(t, st, at, sp),
+        Shape::Field { f: k, next } => eval_field(t, work, st, next, lim - 1, sp, k),
         Shape::New { c, n, next } => {
             if is_preset(t, c, n) {
                 st[sp] = c as u32;

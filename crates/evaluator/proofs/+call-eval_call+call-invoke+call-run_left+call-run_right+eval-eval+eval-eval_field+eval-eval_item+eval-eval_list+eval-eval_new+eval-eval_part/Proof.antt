@@ -249,7 +249,7 @@ abbrev eval·eval-field-claims : ℕ → eval·eval-field-lts.Claims
 eval·eval-field-claims t = (eval·eval-part-below t, eval·eval-part.Post, went-of-reads.Asked, went-of-reads.Learnt, select-in-reads.Asked, select-in-reads.Learnt, stop-reads.Asked, stop-reads.Learnt)
 
 abbrev eval·eval-item-claims : ℕ → eval·eval-item-lts.Claims
-eval·eval-item-claims t = (stop-reads.Asked, stop-reads.Learnt, shape-at-reads.Asked, shape-at-reads.Learnt, leaf-reads.Asked, leaf-reads.Learnt, is-preset-reads.Asked, is-preset-reads.Learnt, eval·eval-below t, eval·eval.Post)
+eval·eval-item-claims t = (stop-reads.Asked, stop-reads.Learnt, shape-at-reads.Asked, shape-at-reads.Learnt, leaf-reads.Asked, leaf-reads.Learnt, eval·eval-field-below t, eval·eval-field.Post, is-preset-reads.Asked, is-preset-reads.Learnt, eval·eval-below t, eval·eval.Post)
 
 abbrev eval·eval-list-claims : ℕ → eval·eval-list-lts.Claims
 eval·eval-list-claims t = (eval·eval-item-below t, eval·eval-item.Post, went-of-reads.Asked, went-of-reads.Learnt, past-reads.Asked, past-reads.Learnt)
@@ -464,6 +464,9 @@ eval·eval-item-leaf-requires-2 t c κs = (search steps.run-full, search steps.r
 eval·eval-item-leaf-requires-3 : (t : ℕ) → eval·eval-item-lts.Need-leaf-requires-3 (eval·eval-item-claims t) (eval·eval-item-at t) eval·eval-item.Post
 eval·eval-item-leaf-requires-3 t c κs = (search steps.run-full, search steps.run-short, search steps.run-framed)
 
+eval·eval-item-eval-field-requires : (t : ℕ) → eval·eval-item-lts.Need-eval-field-requires (eval·eval-item-claims t) (eval·eval-item-at t) eval·eval-item.Post
+eval·eval-item-eval-field-requires t c κs = (search limits.item-falls, search steps.run-part)
+
 eval·eval-item-mul-st : (t : ℕ) → eval·eval-item-lts.Need-mul-st (eval·eval-item-claims t) (eval·eval-item-at t) eval·eval-item.Post
 eval·eval-item-mul-st t c = search (needs, steps.run-short _ _ _ _ (c .before .before .before .before .before .before .before .before .pre .1) (c .before .before .before .before .before .before .if1 .left))
 
@@ -487,6 +490,9 @@ eval·eval-item-returns-4 t c = search steps.step-result
 
 eval·eval-item-returns-5 : (t : ℕ) → eval·eval-item-lts.Need-returns-5 (eval·eval-item-claims t) (eval·eval-item-at t) eval·eval-item.Post
 eval·eval-item-returns-5 t c = search steps.step-parameter
+
+eval·eval-item-returns-6 : (t : ℕ) → eval·eval-item-lts.Need-returns-6 (eval·eval-item-claims t) (eval·eval-item-at t) eval·eval-item.Post
+eval·eval-item-returns-6 t c = search steps.step-field
 
 abbrev eval·eval-list-Inv-loop : eval·eval-list-lts.InvT-loop
 eval·eval-list-Inv-loop T W S at lim sp n p₀ l₀ q₀ left₀ W1 S1 p l q left = steps.Rest T W S at lim sp n W1 S1 p l q left
@@ -742,6 +748,9 @@ pub +call·eval-call+call·invoke+call·run-left+call·run-right+eval·eval+eval
     (λ c. search needs)
     (eval·eval-item-leaf-requires-3 t)
     (λ c. search needs)
+    (λ c. search needs)
+    (eval·eval-item-eval-field-requires t)
+    (λ c. search needs)
     (λ c κs. search needs)
     (λ c. search needs)
     (eval·eval-item-mul-st t)
@@ -752,6 +761,8 @@ pub +call·eval-call+call·invoke+call·run-left+call·run-right+eval·eval+eval
     (eval·eval-item-returns-3 t)
     (eval·eval-item-returns-4 t)
     (eval·eval-item-returns-5 t)
+    (λ c. search needs)
+    (eval·eval-item-returns-6 t)
     (λ c. search needs)
     (λ c. search needs)
     (λ c. search needs)
