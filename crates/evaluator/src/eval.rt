@@ -50,7 +50,13 @@ pub fn eval(
         Shape::Parameter { k: _, next: _ } => leaf(t, st, at, sp),
         Shape::Field { f: k, next } => eval_field(t, work, st, next, lim - 1, sp, k),
         Shape::Call { m, n, next } => eval_call(t, work, st, next, lim - 1, sp, m, n),
-        Shape::New { c, n, next } => eval_new(t, work, st, next, lim - 1, sp, c, n),
+        Shape::New { c, n, next } => {
+            if is_preset(t, c, n) {
+                st[sp] = c as u32;
+                return next;
+            }
+            eval_new(t, work, st, next, lim - 1, sp, c, n)
+        }
         Shape::Nothing => stop(st, STUCK),
     }
 }
@@ -214,10 +220,6 @@ pub fn finish(
     ensures { λ r. ⌜ FinishStep (now (work .entry)) (now (st .entry)) c n sp dst next (now (work .exit)) (now (st .exit)) r ⌝ }
 {
     if n == 0 {
-        if c < 32 {
-            st[sp] = c as u32;
-            return next;
-        }
         let b = make_bare(work, c, dst);
         if b == NOTHING {
             return stop(st, TOO_LARGE);

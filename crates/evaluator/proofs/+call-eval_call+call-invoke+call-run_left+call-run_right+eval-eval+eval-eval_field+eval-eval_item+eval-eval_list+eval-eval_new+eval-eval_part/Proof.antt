@@ -243,7 +243,7 @@ abbrev call·run-right-claims : ℕ → call·run-right-lts.Claims
 call·run-right-claims t = (enter-reads.Asked, enter-reads.Learnt, right-place-reads.Asked, right-place-reads.Learnt, body-limits-reads.Asked, body-limits-reads.Learnt, eval·eval-below t, eval·eval.Post, set-frame-reads.Asked, set-frame-reads.Learnt, went-of-reads.Asked, went-of-reads.Learnt, bring-in-reads.Asked, bring-in-reads.Learnt)
 
 abbrev eval·eval-claims : ℕ → eval·eval-lts.Claims
-eval·eval-claims t = (stop-reads.Asked, stop-reads.Learnt, shape-at-reads.Asked, shape-at-reads.Learnt, leaf-reads.Asked, leaf-reads.Learnt, eval·eval-field-below t, eval·eval-field.Post, call·eval-call-below t, call·eval-call.Post, eval·eval-new-below t, eval·eval-new.Post)
+eval·eval-claims t = (stop-reads.Asked, stop-reads.Learnt, shape-at-reads.Asked, shape-at-reads.Learnt, leaf-reads.Asked, leaf-reads.Learnt, eval·eval-field-below t, eval·eval-field.Post, call·eval-call-below t, call·eval-call.Post, is-preset-reads.Asked, is-preset-reads.Learnt, eval·eval-new-below t, eval·eval-new.Post)
 
 abbrev eval·eval-field-claims : ℕ → eval·eval-field-lts.Claims
 eval·eval-field-claims t = (eval·eval-part-below t, eval·eval-part.Post, went-of-reads.Asked, went-of-reads.Learnt, select-in-reads.Asked, select-in-reads.Learnt, stop-reads.Asked, stop-reads.Learnt)
@@ -410,26 +410,35 @@ eval·eval-eval-new-requires t c κs = (search limits.inner-falls, (search steps
 eval·eval-stop-requires-2 : (t : ℕ) → eval·eval-lts.Need-stop-requires-2 (eval·eval-claims t) (eval·eval-at t) eval·eval.Post
 eval·eval-stop-requires-2 t c κs = search steps.run-full
 
+eval·eval-mul-st : (t : ℕ) → eval·eval-lts.Need-mul-st (eval·eval-claims t) (eval·eval-at t) eval·eval.Post
+eval·eval-mul-st t c = search (needs, steps.run-short _ _ _ _ (c .before .before .before .before .before .before .before .before .pre .1) (c .before .before .before .before .before .before .if1 .left))
+
+eval·eval-element-write-st : (t : ℕ) → eval·eval-lts.Need-element-write-st (eval·eval-claims t) (eval·eval-at t) eval·eval.Post
+eval·eval-element-write-st t c = search (needs, steps.run-short _ _ _ _ (c .before .before .before .before .before .before .before .before .pre .1) (c .before .before .before .before .before .before .if1 .left))
+
 eval·eval-returns-2 : (t : ℕ) → eval·eval-lts.Need-returns-2 (eval·eval-claims t) (eval·eval-at t) eval·eval.Post
-eval·eval-returns-2 t c = search steps.step-this
+eval·eval-returns-2 t c = search steps.step-preset
 
 eval·eval-returns-3 : (t : ℕ) → eval·eval-lts.Need-returns-3 (eval·eval-claims t) (eval·eval-at t) eval·eval.Post
-eval·eval-returns-3 t c = search steps.step-result
+eval·eval-returns-3 t c = search steps.step-this
 
 eval·eval-returns-4 : (t : ℕ) → eval·eval-lts.Need-returns-4 (eval·eval-claims t) (eval·eval-at t) eval·eval.Post
-eval·eval-returns-4 t c = search steps.step-parameter
+eval·eval-returns-4 t c = search steps.step-result
 
 eval·eval-returns-5 : (t : ℕ) → eval·eval-lts.Need-returns-5 (eval·eval-claims t) (eval·eval-at t) eval·eval.Post
-eval·eval-returns-5 t c = search steps.step-field
+eval·eval-returns-5 t c = search steps.step-parameter
 
 eval·eval-returns-6 : (t : ℕ) → eval·eval-lts.Need-returns-6 (eval·eval-claims t) (eval·eval-at t) eval·eval.Post
-eval·eval-returns-6 t c = search steps.step-call
+eval·eval-returns-6 t c = search steps.step-field
 
 eval·eval-returns-7 : (t : ℕ) → eval·eval-lts.Need-returns-7 (eval·eval-claims t) (eval·eval-at t) eval·eval.Post
-eval·eval-returns-7 t c = search steps.step-new
+eval·eval-returns-7 t c = search steps.step-call
 
 eval·eval-returns-8 : (t : ℕ) → eval·eval-lts.Need-returns-8 (eval·eval-claims t) (eval·eval-at t) eval·eval.Post
-eval·eval-returns-8 t c = search steps.step-nothing
+eval·eval-returns-8 t c = search steps.step-new
+
+eval·eval-returns-9 : (t : ℕ) → eval·eval-lts.Need-returns-9 (eval·eval-claims t) (eval·eval-at t) eval·eval.Post
+eval·eval-returns-9 t c = search steps.step-nothing
 
 eval·eval-field-eval-part-requires : (t : ℕ) → eval·eval-field-lts.Need-eval-part-requires (eval·eval-field-claims t) (eval·eval-field-at t) eval·eval-field.Post
 eval·eval-field-eval-part-requires t c κs = (search needs, search steps.run-inner)
@@ -706,20 +715,25 @@ pub +call·eval-call+call·invoke+call·run-left+call·run-right+eval·eval+eval
     (λ c. search needs)
     (eval·eval-eval-call-requires t)
     (λ c. search needs)
+    (λ c κs. search needs)
+    (λ c. search needs)
+    (eval·eval-mul-st t)
+    (eval·eval-element-write-st t)
+    (eval·eval-returns-2 t)
     (λ c. search needs)
     (eval·eval-eval-new-requires t)
     (λ c. search needs)
     (eval·eval-stop-requires-2 t)
-    (eval·eval-returns-2 t)
     (eval·eval-returns-3 t)
     (eval·eval-returns-4 t)
-    (λ c. search needs)
     (eval·eval-returns-5 t)
     (λ c. search needs)
     (eval·eval-returns-6 t)
     (λ c. search needs)
     (eval·eval-returns-7 t)
-    (eval·eval-returns-8 t))
+    (λ c. search needs)
+    (eval·eval-returns-8 t)
+    (eval·eval-returns-9 t))
     (λ t. eval·eval-field-lts.spec (eval·eval-field-claims t) (eval·eval-field-at t) eval·eval-field.Post
     (eval·eval-field-eval-part-requires t)
     (λ c κs. search needs)

@@ -10,44 +10,38 @@ use Rattle.maker.proofs.over.make_bare.Reads as make-bare-reads
 use Rattle.evaluator.proofs.LeafLaws as laws
 
 returns : tie.Need-returns
-returns c = search laws.preset-value
+returns c = search laws.bare-large
 
 returns-2 : tie.Need-returns-2
-returns-2 c = search laws.bare-large
-
-returns-3 : tie.Need-returns-3
-returns-3 c = search laws.bare-value
+returns-2 c = search laws.bare-value
 
 make-requires : tie.Need-make-requires
 make-requires c κs = (search laws.parts-ready, search needs, search needs)
 
-returns-4 : tie.Need-returns-4
-returns-4 c = search laws.made-large
+returns-3 : tie.Need-returns-3
+returns-3 c = search laws.made-large
 
-returns-5 : tie.Need-returns-5
-returns-5 c = search laws.made-value
+returns-4 : tie.Need-returns-4
+returns-4 c = search laws.made-value
 
 pub finish-spec : {M : Type 1} → statement M
 finish-spec =
     tie.close
     (tie.spec
-    (λ c. search needs)
+    (λ c κs. search needs)
+    (λ c κs. search needs)
     (λ c. search needs)
     returns
-    (λ c κs. search needs)
-    (λ c κs. search needs)
+    (λ c. search needs)
+    (λ c. search needs)
     (λ c. search needs)
     returns-2
-    (λ c. search needs)
-    (λ c. search needs)
-    (λ c. search needs)
-    returns-3
     (λ c κs. search needs)
     make-requires
     (λ c κs. search needs)
     (λ c. search needs)
-    returns-4
+    returns-3
     (λ c. search needs)
     (λ c. search needs)
     (λ c. search needs)
-    returns-5)
+    returns-4)
