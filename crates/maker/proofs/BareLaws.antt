@@ -1,49 +1,54 @@
 -- Laws of block 0 with one object without fields of each class.
-use Prim.Native.Nat.{ℕ, _+_, _-_, _*_, _/_, _≤_, _<_}
+use Prim.Native.Nat.{ℕ, zero, suc, _+_, _-_, _*_, _/_, _%_, _≤_, _<_}
 use native.Mathlib.Omega.{arith}
 use native.Mathlib.Decide.{decLt, ℕ-discrete}
-use mathlib.Core.Path.{_≡_, sym, ap, _∙_, subst}
+use mathlib.Core.Path.{_≡_, refl, sym, ap, _∙_, subst}
+use mathlib.Core.Bool.{Bool, true, false, cond, false≢true}
 use mathlib.Core.List.{List, []}
 use mathlib.Core.Option.{some, Option·none-ne-some}
+use lib.Dec.{eqb}
+use borrow.Author.Tests.{eqb-true}
 use lib.ListN.{length, getD, getElem?, List·getD-eq-default}
 use Rattle.cofj.specs.Values.{Ref, Node, node, nodeAt, refsAt, canon, make}
 use Rattle.cofj.proofs.Trees.{same-cls}
 use Rattle.canon.specs.Layout.{nodeIn, Block, objectsIn, graphAt, countIn, levelIn, Outside, Beneath}
+use Rattle.canon.specs.Tables.{Carried}
 use Rattle.canon.proofs.Nodes.{length-nodes, at-nodes}
 use Rattle.values.specs.declared.ValueRef.the-variants.{Object}
 use Rattle.values.specs.Layout.{Holds}
 use Rattle.values.proofs.Kept.{object-kept}
 use Rattle.values.proofs.Selecting.{unchanged, under}
 use Rattle.maker.specs.Laying.{valuesFrom, MadeIs, MadeIn}
-use Rattle.maker.specs.Adding.{Appended}
-use Rattle.maker.specs.Bares.{Bares, LaidBares}
+use Rattle.maker.specs.Bares.{bareObject, Preset, Bares, LaidBares}
 use Rattle.maker.proofs.Lays.{made-here, number-here}
-use Rattle.maker.proofs.Beside.{bareObject, bare-root, no-parts, outside-more, each-none, beside-value}
+use Rattle.maker.proofs.Beside.{bare-root, no-parts, each-none, beside-value}
 
--- ---- written
--- the first c objects are
-pub record BaresTo (W : List ℕ) (c : ℕ) (D : List ℕ) : Type 0 where
-  pub outside : Outside 0 W D
-  pub count : 0 < c → countIn D 0 ≡ c
-  pub level : 0 < c → levelIn D 0 ≡ 0
-  pub each : (j : ℕ) → j < c → (k : ℕ) → k < 6 → getD D (234 * 0 + 6 * j + k) 0 ≡ getD (bareObject j) k 0
+-- ---- the table: a test of the numbers below n, and what it tells of each
+abbrev pub allTo : (ℕ → Bool) → ℕ → Bool
+allTo t zero = true
+allTo t (suc n) = cond (t n) (allTo t n) false
 
-pub bares-none : (W : List ℕ) → BaresTo W 0 W
-bares-none W = record { outside = unchanged 0 W; count = λ h. absurd (omega arith); level = λ h. absurd (omega arith); each = λ j h. absurd (omega arith) }
-
-pub bares-more : (W : List ℕ) (c : ℕ) (D E : List ℕ) → BaresTo W c D → Appended D 0 c (bareObject c) 0 E → BaresTo W (c + 1) E
-bares-more W c D E b a = record {
-  outside = outside-more 0 W D E (b .outside) (a .outside);
-  count = λ _. a .count;
-  level = λ _. a .level;
-  each = λ j h k l. go j h k l (ℕ-discrete j c);
-}
+all-at : (t : ℕ → Bool) (n i : ℕ) → allTo t n ≡ true → i < n → t i ≡ true
+all-at t zero i e h = absurd (omega arith)
+all-at t (suc n) i e h = go (t n) refl e (ℕ-discrete i n) (λ q l. all-at t n i q l)
   where
-    go : (j : ℕ) → j < c + 1 → (k : ℕ) → k < 6 → Dec (j ≡ c) → getD E (234 * 0 + 6 * j + k) 0 ≡ getD (bareObject j) k 0
-    go j h k l (yes e) = subst (λ (x : ℕ). getD E (234 * 0 + 6 * x + k) 0 ≡ getD (bareObject x) k 0) (sym e) (a .top k l)
-    go j h k l (no n) =
-        let z : 234 * 0 + 6 * j + k ≡ 234 * 0 + (6 * j + k) = omega arith in
-        ap (λ (p : ℕ). getD E p 0) z ∙ a .old (6 * j + k) (omega (arith, n)) ∙ ap (λ (p : ℕ). getD D p 0) (sym z) ∙ b .each j (omega (arith, n)) k l
+    go : (x : Bool) → t n ≡ x → cond x (allTo t n) false ≡ true → Dec (i ≡ n) → (allTo t n ≡ true → i < n → t i ≡ true) → t i ≡ true
+    go true ex q (yes z) ih = subst (λ (m : ℕ). t m ≡ true) (sym z) ex
+    go true ex q (no z) ih = ih q (omega (arith, z))
+    go false ex q d ih = absurd (false≢true q)
+
+abbrev pub bareByte : List ℕ → ℕ → Bool
+bareByte P p = eqb (getD P p 0) (getD (bareObject (p / 6)) (p % 6) 0)
+
+pub preset-is : (P : List ℕ) → allTo (bareByte P) 192 ≡ true → length P ≡ 194 → getD P 192 0 ≡ 32 → getD P 193 0 ≡ 0 → Preset P
+preset-is P e long count level = record { long = long; each = each; count = count; level = level }
+  where
+    each : (c k : ℕ) → c < 32 → k < 6 → getD P (6 * c + k) 0 ≡ getD (bareObject c) k 0
+    each c k h l =
+        let ec : (6 * c + k) / 6 ≡ c = omega arith in
+        let ek : (6 * c + k) % 6 ≡ k = omega arith in
+        eqb-true (getD P (6 * c + k) 0) (getD (bareObject ((6 * c + k) / 6)) ((6 * c + k) % 6) 0) (all-at (bareByte P) 192 (6 * c + k) e (omega arith))
+        ∙ (λ i. getD (bareObject (ec i)) (ek i) 0)
 
 -- ---- the block
 module _ (D : List ℕ) (room : 234 ≤ length D) (ec : countIn D 0 ≡ 32) (el : levelIn D 0 ≡ 0)
@@ -94,19 +99,32 @@ module _ (D : List ℕ) (room : 234 ≤ length D) (ec : countIn D 0 ≡ 32) (el 
         omega (arith, ap (λ (p : ℕ). getD D p 0) z, each (q / 6) (omega (arith, ec)) (q - 6 * (q / 6)) (omega arith), bare-byte (q / 6) (q - 6 * (q / 6)) (omega (arith, ec)) (omega arith));
   }
 
-pub bares-all : (W : List ℕ) (c : ℕ) (D : List ℕ) → BaresTo W c D → 234 ≤ length W → c ≤ 32 → 32 ≤ c → LaidBares W D
-bares-all W c D b room l h =
-    let ec : countIn D 0 ≡ 32 = omega (arith, b .count (omega arith)) in
-    let long : 234 ≤ length D = omega (arith, b .outside .same) in
-    record {
-      bares = record {
-        block = bares-block D long ec (b .level (omega arith)) (λ j m. b .each j (omega arith));
-        count = ec;
-        cls = λ j m. let z : 6 * j ≡ 234 * 0 + 6 * j = omega arith in rw z (bare-cls D long ec (b .level (omega arith)) (λ i q. b .each i (omega arith)) j m);
-        bare = λ j m. let z : 6 * j + 1 ≡ 234 * 0 + 6 * j + 1 = omega arith in rw z (b .each j (omega arith) 1 (omega arith));
-      };
-      outside = b .outside;
-    }
+pub bares-laid : (W P D : List ℕ) → Preset P → Carried P 0 W 0 194 D → 234 ≤ length W → LaidBares W D
+unfolding countIn levelIn
+bares-laid W P D pr ca room = record {
+  bares = record {
+    block = bares-block D long ec el each;
+    count = ec;
+    cls = λ j m. let z : 6 * j ≡ 234 * 0 + 6 * j = omega arith in rw z (bare-cls D long ec el each j m);
+    bare = λ j m. let z : 6 * j + 1 ≡ 234 * 0 + 6 * j + 1 = omega arith in rw z (each j m 1 (omega arith));
+  };
+  outside = record { same = ca .same; below = λ p h. absurd (omega arith); above = λ p h. ca .above p (omega arith) };
+}
+  where
+    long : 234 ≤ length D
+    long = omega (arith, ca .same)
+
+    ec : getD D (234 * 0 + 192) 0 ≡ 32
+    ec = ca .here 192 (omega arith) ∙ pr .count
+
+    el : getD D (234 * 0 + 193) 0 ≡ 0
+    el = ca .here 193 (omega arith) ∙ pr .level
+
+    each : (j : ℕ) → j < 32 → (k : ℕ) → k < 6 → getD D (234 * 0 + 6 * j + k) 0 ≡ getD (bareObject j) k 0
+    each j h k l =
+        let z : 234 * 0 + 6 * j + k ≡ 0 + (6 * j + k) = omega arith in
+        let y : 0 + (6 * j + k) ≡ 6 * j + k = omega arith in
+        ap (λ (p : ℕ). getD D p 0) z ∙ ca .here (6 * j + k) (omega arith) ∙ ap (λ (p : ℕ). getD P p 0) y ∙ pr .each j k h l
 
 -- ---- read
 module _ (W : List ℕ) (b : Bares W) where

@@ -30,6 +30,7 @@ use Rattle.values.proofs.Blocks.{held-inside, size-in}
 use Rattle.values.proofs.Copies.{block-held}
 use Rattle.values.proofs.Selecting.{unchanged, under}
 use Rattle.values.proofs.RefLaws.{object-in, undetermined-in, mark-in}
+use Rattle.maker.specs.Bares.{bareObject}
 use Rattle.maker.specs.declared.Slot.{Slot}
 use Rattle.maker.specs.Laying.{partsOf, valuesFrom, rawsFrom, PartsHeld, MadeIn}
 use Rattle.maker.specs.Adding.{roots, RootObject, Missed, Found, Emptied, Appended, Added, isObject, blockOf, standsIn, partOf, allStand, someObject, firstBlock}
@@ -482,9 +483,6 @@ module _ (W : List ℕ) (c : ℕ) (ps : List Slot) (n : ℕ) (T : List ℕ) (hel
         }) s)
 
 -- ---- a new object without parts
-abbrev pub bareObject : ℕ → List ℕ
-bareObject c = c ∷ 0 ∷ 192 ∷ 192 ∷ 192 ∷ 192 ∷ []
-
 pub bare-root : (W : List ℕ) (c : ℕ) → RootObject c (rawsFrom W [] 0 0) (bareObject c)
 unfolding rawsFrom nodeIn
 bare-root W c = record { is = refl; packed = record { count = omega arith; spare = spare } }

@@ -1,9 +1,20 @@
 -- Block 0 with one object without fields of each class 0 to 31.
 use Prim.Native.Nat.{ℕ, _+_, _*_, _<_}
 use mathlib.Core.Path.{_≡_}
-use mathlib.Core.List.{List}
-use lib.ListN.{getD}
+use mathlib.Core.List.{List, [], _∷_}
+use lib.ListN.{length, getD}
 use Rattle.canon.specs.Layout.{Block, countIn, Outside}
+
+-- the six bytes of the object of class c without fields
+abbrev pub bareObject : ℕ → List ℕ
+bareObject c = c ∷ 0 ∷ 192 ∷ 192 ∷ 192 ∷ 192 ∷ []
+
+-- the bytes of such a block
+pub record Preset (P : List ℕ) : Type 0 where
+  pub long : length P ≡ 194
+  pub each : (c k : ℕ) → c < 32 → k < 6 → getD P (6 * c + k) 0 ≡ getD (bareObject c) k 0
+  pub count : getD P 192 0 ≡ 32
+  pub level : getD P 193 0 ≡ 0
 
 -- object c of block 0 is the object of class c without fields
 pub record Bares (W : List ℕ) : Type 0 where

@@ -14,12 +14,11 @@ use Rattle.cofj.specs.Unfolding.{InRange, Whole}
 use Rattle.cofj.specs.ReportForm.{upFrom}
 use Rattle.cofj.proofs.Canon.{node-id, canon-length}
 use Rattle.canon.specs.Layout.{nodesIn, Block, Inside, objectsIn, graphAt, countIn}
-use Rattle.canon.specs.Tables.{Filled, Lifted}
+use Rattle.canon.specs.Tables.{Filled, Carried}
 use Rattle.canon.specs.Rounds.{Raw}
 use Rattle.canon.specs.Numbers.{Ready, Placed, Has, graphIn}
-use Rattle.canon.proofs.Nodes.{length-nodes}
+use Rattle.canon.proofs.Nodes.{length-nodes, nodes-same, packed-same}
 use Rattle.canon.proofs.Colouring.{length-up, at-up, distinct-colours}
-use Rattle.canon.proofs.Turned.{turnRef, changed, lifted-nodes, lifted-packed, turn-rename, nodes-agree}
 use Rattle.canon.proofs.Rounds.{front-is}
 use Rattle.values.specs.declared.ValueRef.{ValueRef}
 use Rattle.values.specs.declared.ValueRef.the-variants.{Object, Mark, Undetermined}
@@ -49,7 +48,7 @@ no-object P m u (Mark k) h = m k
 no-object P m u Undetermined h = u
 
 -- ---- taken up
-pub taken : (W : List ℕ) (b : ℕ) (I R₀ R : List ℕ) → Filled (λ i. 0 + i) (getD W (234 * b + 192) 0) I → Lifted W (234 * b) (6 * getD W (234 * b + 192) 0) I R₀ 0 R
+pub taken : (W : List ℕ) (b : ℕ) (I R₀ R : List ℕ) → Filled (λ i. 0 + i) (getD W (234 * b + 192) 0) I → Carried W (234 * b) R₀ 0 (6 * getD W (234 * b + 192) 0) R
     → Taken W b I R₀ R (getD W (234 * b + 192) 0)
 unfolding countIn
 taken W b I R₀ R f l = record { count = refl; ids = f; copy = l }
@@ -82,13 +81,7 @@ module _ (W : List ℕ) (b : ℕ) (bk : Block W b) where
   module _ (I R₀ R : List ℕ) (n : ℕ) (tk : Taken W b I R₀ R n) where
     copied-nodes : nodesIn R 0 n ≡ objectsIn W b
     unfolding objectsIn
-    copied-nodes =
-        lifted-nodes W (234 * b) I R₀ 0 R n (tk .copy)
-        ∙ ap (λ (k : ℕ). map (changed (turnRef I)) (nodesIn W (234 * b) k)) (tk .count)
-        ∙ nodes-agree (turnRef I) (rename (λ i. i)) (InRange (countIn W b))
-        (turn-rename I (countIn W b) (λ i. i) (omega (arith, bk .small)) (λ i h. tk .ids .at i (omega (arith, tk .count)) ∙ omega arith) (λ i h. omega (arith, bk .small)))
-        (objectsIn W b) inner-in
-        ∙ nodes-id (objectsIn W b)
+    copied-nodes = nodes-same R W n 0 (234 * b) (λ p l. tk .copy .here p l) ∙ ap (nodesIn W (234 * b)) (tk .count)
 
     whole-copied : Whole (graph undet (nodesIn R 0 n))
     whole-copied = record { top = tt; inner = λ i k r e. subst (λ (ns : List Node). InRange (length ns) r) (sym copied-nodes) (bk .whole .inner i k r (subst (λ (ns : List Node). getElem? (refsAt ns i) k ≡ some r) copied-nodes e)) }
@@ -98,8 +91,11 @@ module _ (W : List ℕ) (b : ℕ) (bk : Block W b) where
       few = omega (arith, tk .count, bk .small);
       room = omega (arith, tk .copy .same);
       packed = λ i h.
-          let z : 0 + 6 * i ≡ 6 * i = omega arith in
-          rw z at (lifted-packed W (234 * b) I R₀ 0 R n (tk .copy) (λ j l. bk .packed j (omega (arith, tk .count))) i h);
+          packed-same R W (6 * i) (234 * b + 6 * i) (λ f g.
+          let ea : 6 * i + f ≡ 0 + (6 * i + f) = omega arith in
+          let eb : 234 * b + 6 * i + f ≡ 234 * b + (6 * i + f) = omega arith in
+          rw (ea, eb) (tk .copy .here (6 * i + f) (omega arith)))
+          (bk .packed i (omega (arith, tk .count)));
       whole = whole-copied;
     }
 

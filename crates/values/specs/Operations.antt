@@ -8,7 +8,7 @@ use lib.Dec.{eqb}
 use lib.ListN.{getD}
 use Rattle.cofj.specs.Values.{Graph, canon, select, close}
 use Rattle.canon.specs.Layout.{countIn, levelIn, Outside}
-use Rattle.canon.specs.Tables.{Filled, Lifted}
+use Rattle.canon.specs.Tables.{Filled, Carried}
 use Rattle.canon.specs.Numbers.{Has}
 use Rattle.values.specs.declared.ValueRef.{ValueRef}
 use Rattle.values.specs.declared.ValueRef.the-variants.{Mark, Undetermined}
@@ -18,7 +18,7 @@ use Rattle.values.specs.Layout.{valueOf, Holds, Low}
 pub record Taken (W : List ℕ) (b : ℕ) (I R₀ R : List ℕ) (n : ℕ) : Type 0 where
   pub count : n ≡ countIn W b
   pub ids : Filled (λ i. 0 + i) n I
-  pub copy : Lifted W (234 * b) (6 * n) I R₀ 0 R
+  pub copy : Carried W (234 * b) R₀ 0 (6 * n) R
 
 -- a reference stands for the value v in the bytes after, in block dst or below, and only block dst has changed
 pub record Gives (W : List ℕ) (dst : ℕ) (W′ : List ℕ) (r : ValueRef) (v : Graph) : Type 0 where

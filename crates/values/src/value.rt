@@ -1,8 +1,8 @@
 // Values closed and moved. Not here: values selected from (refs), values compared (lockstep), a new object (crate maker), how a mark is bound (bind).
 use crate::bind::close_bound;
 use crate::refs::pack;
+use canon::bytes::copy;
 use canon::bytes::count_up;
-use canon::lift::lift;
 use canon::number::put;
 ghost use Prim.Native.Nat.{ℕ, _+_, _*_, _<_, _≤_};
 ghost use lib.ListN.{length};
@@ -21,7 +21,7 @@ pub fn take_up(work: &[u8], b: u16, ids: &mut [u8], raw: &mut [u8]) -> u8
     let n = work[at + 192];
     let p = 6 * (n as usize);
     count_up(0, n, ids);
-    lift(work, at, p, ids, raw, 0);
+    copy(work, at, raw, 0, p);
     n
 }
 

@@ -4,7 +4,7 @@ use Rattle.values.proofs.value.take_up.Tie as tie
 use Rattle.values.proofs.value.take_up.Reads as reads
 use Rattle.values.proofs.value.take_up.Lts as lts
 use Rattle.canon.proofs.bytes.count_up.Reads as count-up-reads
-use Rattle.canon.proofs.lift.lift.Reads as lift-reads
+use Rattle.canon.proofs.bytes.copy.Reads as copy-reads
 use native.Mathlib.Omega.{arith}
 use Rattle.canon.specs.Layout.{countIn}
 use Rattle.values.proofs.Blocks as laws
@@ -21,9 +21,9 @@ count-up-requires : tie.Need-count-up-requires
 unfolding countIn
 count-up-requires c κs = omega arith
 
-lift-requires : tie.Need-lift-requires
+copy-requires : tie.Need-copy-requires
 unfolding countIn
-lift-requires c κs = omega arith
+copy-requires c κs = omega arith
 
 returns : tie.Need-returns
 returns c = search laws.taken
@@ -38,7 +38,7 @@ take-up-spec =
     cast-p
     mul-p
     count-up-requires
-    lift-requires
+    copy-requires
     (λ c. search needs)
     (λ c. search needs)
     returns)

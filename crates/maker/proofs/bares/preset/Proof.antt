@@ -1,0 +1,13 @@
+-- `bares::preset` meets its contract: every byte is right, by one test of all of them.
+use Rattle.maker.proofs.bares.preset.Statement.{statement}
+use Rattle.maker.proofs.bares.preset.Tie as tie
+use mathlib.Core.Path.{refl}
+use Rattle.maker.proofs.BareLaws as laws
+use Rattle.maker.proofs.bares.preset.Reads as reads
+use Rattle.maker.proofs.bares.preset.Lts as lts
+
+returns : tie.Need-returns
+returns c = laws.preset-is _ refl refl refl refl
+
+pub preset-spec : {M : Type 1} → statement M
+preset-spec = tie.close (tie.spec returns)
