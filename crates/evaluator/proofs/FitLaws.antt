@@ -34,9 +34,6 @@ use Rattle.evaluator.proofs.CallLaws.{met-some}
 
 -- ---- one level in
 module _ (W : List ℕ) (f : Frame) (tr : List ℕ) (top left d sp : ℕ) where
-  pub fit-part : Fits W f tr top left d sp → (left ≡ 0 → ⊥) → Fits W f tr top (left - 1 + 1) d sp
-  fit-part h nz = subst (λ (l : ℕ). Fits W f tr top l d sp) (let z : left ≡ left - 1 + 1 = omega (arith, nz) in z) h
-
   pub fit-inner : Fits W f tr top (left + 1) d sp → Fits W f tr top left d sp
   fit-inner h = let r = h .room in record { frame = h .frame; trace = h .trace; calls = h .calls; room = omega arith; long = h .long }
 

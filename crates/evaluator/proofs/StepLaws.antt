@@ -156,9 +156,6 @@ module _ (W S : List ℕ) (lim sp : ℕ) (run : Runnable W S lim sp) where
   }
 
 module _ (W S : List ℕ) (lim sp : ℕ) (run : PartRunnable W S lim sp) where
-  pub part-full : length S ≡ 336
-  part-full = run .placed .full
-
   pub part-limit : lim < 16777216
   part-limit = let r = run .fits .room in omega arith
 

@@ -1,5 +1,5 @@
-// The stack of values and what stands beside it, in numbers that are lent. At place sp, below 274, stands the value of the expression that is evaluated at
-// block sp. Then the fuel left; why the run stopped; the frame: where the receiver stands (the arguments follow it; 274 in main), how many arguments
+// The stack of values and what stands beside it, in numbers that are lent. At place sp, below 274, stands the value of the expression that is evaluated
+// there. Then the fuel left; why the run stopped; the frame: where the receiver stands (the arguments follow it; 274 in main), how many arguments
 // there are, the mark of res and 1, or 0; how many left-side calls are open; and from place 281 on three numbers for each of those, the oldest first:
 // its name, how many arguments it has, where its receiver stands. The mark of a call is its number.
 // Not here: which call is met again (met).

@@ -5,7 +5,7 @@ use native.Mathlib.Decide.{decLt, ℕ-discrete}
 use mathlib.Core.Path.{_≡_, refl, sym, ap, _∙_, subst}
 use mathlib.Core.Bool.{Bool, true, false, cond, false≢true}
 use mathlib.Core.List.{List, []}
-use mathlib.Core.Option.{some, Option·none-ne-some}
+use mathlib.Core.Option.{Option·none-ne-some}
 use lib.Dec.{eqb}
 use borrow.Author.Tests.{eqb-true}
 use lib.ListN.{length, getD, getElem?, List·getD-eq-default}
@@ -18,9 +18,9 @@ use Rattle.values.specs.declared.ValueRef.the-variants.{Object}
 use Rattle.values.specs.Layout.{Holds}
 use Rattle.values.proofs.Kept.{object-kept}
 use Rattle.values.proofs.Selecting.{unchanged, under}
-use Rattle.maker.specs.Laying.{valuesFrom, MadeIs, MadeIn}
+use Rattle.maker.specs.Laying.{valuesFrom, MadeIn}
 use Rattle.maker.specs.Bares.{bareObject, Preset, Bares, LaidBares}
-use Rattle.maker.proofs.Lays.{made-here, number-here}
+use Rattle.maker.proofs.Lays.{number-here}
 use Rattle.maker.proofs.Beside.{bare-root, no-parts, each-none, beside-value}
 
 -- ---- the table: a test of the numbers below n, and what it tells of each
@@ -144,9 +144,6 @@ module _ (W : List ℕ) (b : Bares W) where
     bare-value =
         beside-value W c [] 0 (bareObject c) (no-parts W) (bare-root W c) 0 (b .block) (each-none [] 0 0) c
         (record { hit = λ _. bare-node c h; miss = λ l. absurd (omega (arith, b .count)) }) (omega (arith, b .count))
-
-    pub bare-made : MadeIs W (make c []) dst W (some (Object 0 c))
-    bare-made = made-here W W _ dst 0 c (bare-held c h .held) bare-value (under dst W W (unchanged dst W)) (omega arith)
 
     pub bare-number : MadeIn W (make c []) dst W c
     bare-number =
