@@ -3,7 +3,7 @@
 // A left side is run under the trace with its call on top.
 use crate::eval::eval;
 use crate::eval::eval_list;
-use crate::eval::eval_part;
+use crate::eval::eval_receiver;
 use crate::find::find;
 use crate::frame::enter;
 use crate::met::open_call;
@@ -50,7 +50,7 @@ pub fn eval_call(
     if lim % 8 == 0 {
         return stop(st, STUCK);
     }
-    let r1 = eval_part(t, work, st, at, lim, sp);
+    let r1 = eval_receiver(t, work, st, at, lim, sp);
     let w1 = went_of(r1);
     let Went::On(at1) = w1 else {
         return 0;

@@ -61,7 +61,8 @@ pub fn eval(
     }
 }
 
-// The same for a part of an expression. Most are variables, which need no call of `eval`.
+// The same for what a field is selected of. Most are variables, which need no call of `eval`. This function and the next two have one caller each, which the
+// compiler takes them into.
 pub fn eval_part(
     t: &[u8; SIZE],
     work: &mut [u8],
@@ -81,6 +82,31 @@ pub fn eval_part(
         Shape::This { next: _ } => leaf(t, st, at, sp),
         Shape::Result { next: _ } => leaf(t, st, at, sp),
         Shape::Parameter { k: _, next: _ } => leaf(t, st, at, sp),
+        _ => eval(t, work, st, at, lim, sp),
+    }
+}
+
+// The same for the receiver of a call. Most are variables or fields.
+pub fn eval_receiver(
+    t: &[u8; SIZE],
+    work: &mut [u8],
+    st: &mut [u32; STACK],
+    at: usize,
+    lim: usize,
+    sp: usize,
+) -> usize
+    requires { ⌜ Runnable (now work) (now st) lim sp ⌝ }
+    ensures { λ r. ⌜ EvalStep (now (t .entry)) (now (work .entry)) (now (st .entry)) at lim sp (now (work .exit)) (now (st .exit)) r ⌝ }
+{
+    if lim % 8 == 0 {
+        return stop(st, STUCK);
+    }
+    let s = shape_at(t, at);
+    match s {
+        Shape::This { next: _ } => leaf(t, st, at, sp),
+        Shape::Result { next: _ } => leaf(t, st, at, sp),
+        Shape::Parameter { k: _, next: _ } => leaf(t, st, at, sp),
+        Shape::Field { f: k, next } => eval_field(t, work, st, next, lim - 1, sp, k),
         _ => eval(t, work, st, at, lim, sp),
     }
 }
@@ -124,7 +150,7 @@ pub fn eval_item(
                 st[sp] = c as u32;
                 return next;
             }
-            eval(t, work, st, at, lim, sp)
+            eval_new(t, work, st, next, lim - 1, sp, c, n)
         }
         _ => eval(t, work, st, at, lim, sp),
     }

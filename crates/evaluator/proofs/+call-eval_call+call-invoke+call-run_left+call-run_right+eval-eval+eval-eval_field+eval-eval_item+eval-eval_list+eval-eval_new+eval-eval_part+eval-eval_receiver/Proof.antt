@@ -3,34 +3,37 @@ use borrow.Fn.Kinds.{In}
 use borrow.Fn.PlainCycle.{Measures, is, falls, and}
 use Rattle.evaluator.proofs.call.eval_call.Reads as call·eval-call
 use Rattle.evaluator.proofs.call.eval_call.Kinds as call·eval-call-kinds
-use Rattle.evaluator.proofs.+call-eval_call+call-invoke+call-run_left+call-run_right+eval-eval+eval-eval_field+eval-eval_item+eval-eval_list+eval-eval_new+eval-eval_part.Lts-call-eval_call as call·eval-call-lts
+use Rattle.evaluator.proofs.+call-eval_call+call-invoke+call-run_left+call-run_right+eval-eval+eval-eval_field+eval-eval_item+eval-eval_list+eval-eval_new+eval-eval_part+eval-eval_receiver.Lts-call-eval_call as call·eval-call-lts
 use Rattle.evaluator.proofs.call.invoke.Reads as call·invoke
 use Rattle.evaluator.proofs.call.invoke.Kinds as call·invoke-kinds
-use Rattle.evaluator.proofs.+call-eval_call+call-invoke+call-run_left+call-run_right+eval-eval+eval-eval_field+eval-eval_item+eval-eval_list+eval-eval_new+eval-eval_part.Lts-call-invoke as call·invoke-lts
+use Rattle.evaluator.proofs.+call-eval_call+call-invoke+call-run_left+call-run_right+eval-eval+eval-eval_field+eval-eval_item+eval-eval_list+eval-eval_new+eval-eval_part+eval-eval_receiver.Lts-call-invoke as call·invoke-lts
 use Rattle.evaluator.proofs.call.run_left.Reads as call·run-left
 use Rattle.evaluator.proofs.call.run_left.Kinds as call·run-left-kinds
-use Rattle.evaluator.proofs.+call-eval_call+call-invoke+call-run_left+call-run_right+eval-eval+eval-eval_field+eval-eval_item+eval-eval_list+eval-eval_new+eval-eval_part.Lts-call-run_left as call·run-left-lts
+use Rattle.evaluator.proofs.+call-eval_call+call-invoke+call-run_left+call-run_right+eval-eval+eval-eval_field+eval-eval_item+eval-eval_list+eval-eval_new+eval-eval_part+eval-eval_receiver.Lts-call-run_left as call·run-left-lts
 use Rattle.evaluator.proofs.call.run_right.Reads as call·run-right
 use Rattle.evaluator.proofs.call.run_right.Kinds as call·run-right-kinds
-use Rattle.evaluator.proofs.+call-eval_call+call-invoke+call-run_left+call-run_right+eval-eval+eval-eval_field+eval-eval_item+eval-eval_list+eval-eval_new+eval-eval_part.Lts-call-run_right as call·run-right-lts
+use Rattle.evaluator.proofs.+call-eval_call+call-invoke+call-run_left+call-run_right+eval-eval+eval-eval_field+eval-eval_item+eval-eval_list+eval-eval_new+eval-eval_part+eval-eval_receiver.Lts-call-run_right as call·run-right-lts
 use Rattle.evaluator.proofs.eval.eval.Reads as eval·eval
 use Rattle.evaluator.proofs.eval.eval.Kinds as eval·eval-kinds
-use Rattle.evaluator.proofs.+call-eval_call+call-invoke+call-run_left+call-run_right+eval-eval+eval-eval_field+eval-eval_item+eval-eval_list+eval-eval_new+eval-eval_part.Lts-eval-eval as eval·eval-lts
+use Rattle.evaluator.proofs.+call-eval_call+call-invoke+call-run_left+call-run_right+eval-eval+eval-eval_field+eval-eval_item+eval-eval_list+eval-eval_new+eval-eval_part+eval-eval_receiver.Lts-eval-eval as eval·eval-lts
 use Rattle.evaluator.proofs.eval.eval_field.Reads as eval·eval-field
 use Rattle.evaluator.proofs.eval.eval_field.Kinds as eval·eval-field-kinds
-use Rattle.evaluator.proofs.+call-eval_call+call-invoke+call-run_left+call-run_right+eval-eval+eval-eval_field+eval-eval_item+eval-eval_list+eval-eval_new+eval-eval_part.Lts-eval-eval_field as eval·eval-field-lts
+use Rattle.evaluator.proofs.+call-eval_call+call-invoke+call-run_left+call-run_right+eval-eval+eval-eval_field+eval-eval_item+eval-eval_list+eval-eval_new+eval-eval_part+eval-eval_receiver.Lts-eval-eval_field as eval·eval-field-lts
 use Rattle.evaluator.proofs.eval.eval_item.Reads as eval·eval-item
 use Rattle.evaluator.proofs.eval.eval_item.Kinds as eval·eval-item-kinds
-use Rattle.evaluator.proofs.+call-eval_call+call-invoke+call-run_left+call-run_right+eval-eval+eval-eval_field+eval-eval_item+eval-eval_list+eval-eval_new+eval-eval_part.Lts-eval-eval_item as eval·eval-item-lts
+use Rattle.evaluator.proofs.+call-eval_call+call-invoke+call-run_left+call-run_right+eval-eval+eval-eval_field+eval-eval_item+eval-eval_list+eval-eval_new+eval-eval_part+eval-eval_receiver.Lts-eval-eval_item as eval·eval-item-lts
 use Rattle.evaluator.proofs.eval.eval_list.Reads as eval·eval-list
 use Rattle.evaluator.proofs.eval.eval_list.Kinds as eval·eval-list-kinds
-use Rattle.evaluator.proofs.+call-eval_call+call-invoke+call-run_left+call-run_right+eval-eval+eval-eval_field+eval-eval_item+eval-eval_list+eval-eval_new+eval-eval_part.Lts-eval-eval_list as eval·eval-list-lts
+use Rattle.evaluator.proofs.+call-eval_call+call-invoke+call-run_left+call-run_right+eval-eval+eval-eval_field+eval-eval_item+eval-eval_list+eval-eval_new+eval-eval_part+eval-eval_receiver.Lts-eval-eval_list as eval·eval-list-lts
 use Rattle.evaluator.proofs.eval.eval_new.Reads as eval·eval-new
 use Rattle.evaluator.proofs.eval.eval_new.Kinds as eval·eval-new-kinds
-use Rattle.evaluator.proofs.+call-eval_call+call-invoke+call-run_left+call-run_right+eval-eval+eval-eval_field+eval-eval_item+eval-eval_list+eval-eval_new+eval-eval_part.Lts-eval-eval_new as eval·eval-new-lts
+use Rattle.evaluator.proofs.+call-eval_call+call-invoke+call-run_left+call-run_right+eval-eval+eval-eval_field+eval-eval_item+eval-eval_list+eval-eval_new+eval-eval_part+eval-eval_receiver.Lts-eval-eval_new as eval·eval-new-lts
 use Rattle.evaluator.proofs.eval.eval_part.Reads as eval·eval-part
 use Rattle.evaluator.proofs.eval.eval_part.Kinds as eval·eval-part-kinds
-use Rattle.evaluator.proofs.+call-eval_call+call-invoke+call-run_left+call-run_right+eval-eval+eval-eval_field+eval-eval_item+eval-eval_list+eval-eval_new+eval-eval_part.Lts-eval-eval_part as eval·eval-part-lts
+use Rattle.evaluator.proofs.+call-eval_call+call-invoke+call-run_left+call-run_right+eval-eval+eval-eval_field+eval-eval_item+eval-eval_list+eval-eval_new+eval-eval_part+eval-eval_receiver.Lts-eval-eval_part as eval·eval-part-lts
+use Rattle.evaluator.proofs.eval.eval_receiver.Reads as eval·eval-receiver
+use Rattle.evaluator.proofs.eval.eval_receiver.Kinds as eval·eval-receiver-kinds
+use Rattle.evaluator.proofs.+call-eval_call+call-invoke+call-run_left+call-run_right+eval-eval+eval-eval_field+eval-eval_item+eval-eval_list+eval-eval_new+eval-eval_part+eval-eval_receiver.Lts-eval-eval_receiver as eval·eval-receiver-lts
 use Rattle.evaluator.proofs.call.body_limits.Reads as body-limits-reads
 use Rattle.evaluator.proofs.eval.is_preset.Reads as is-preset-reads
 use Rattle.evaluator.proofs.eval.past.Reads as past-reads
@@ -51,10 +54,10 @@ use Rattle.evaluator.proofs.stack.stop.Reads as stop-reads
 use Rattle.evaluator.proofs.stack.went_of.Reads as went-of-reads
 use Rattle.values.proofs.value.bring_in.Reads as bring-in-reads
 use Rattle.values.proofs.value.close_in.Reads as close-in-reads
-use Rattle.evaluator.proofs.+call-eval_call+call-invoke+call-run_left+call-run_right+eval-eval+eval-eval_field+eval-eval_item+eval-eval_list+eval-eval_new+eval-eval_part.{
+use Rattle.evaluator.proofs.+call-eval_call+call-invoke+call-run_left+call-run_right+eval-eval+eval-eval_field+eval-eval_item+eval-eval_list+eval-eval_new+eval-eval_part+eval-eval_receiver.{
   statement,
 }
-use Rattle.evaluator.proofs.+call-eval_call+call-invoke+call-run_left+call-run_right+eval-eval+eval-eval_field+eval-eval_item+eval-eval_list+eval-eval_new+eval-eval_part.Tie.{
+use Rattle.evaluator.proofs.+call-eval_call+call-invoke+call-run_left+call-run_right+eval-eval+eval-eval_field+eval-eval_item+eval-eval_list+eval-eval_new+eval-eval_part+eval-eval_receiver.Tie.{
   close,
 }
 use native.Mathlib.Omega.{arith}
@@ -94,6 +97,9 @@ abbrev μ-eval·eval-new : Measures 3 eval·eval-new-kinds.ps ℕ
 
 abbrev μ-eval·eval-part : Measures 3 eval·eval-part-kinds.ps ℕ
 μ-eval·eval-part κs a = (a .1 .1 .1 .1 .0) / 8 % 32 * 6000 + (a .1 .1 .1 .1 .0) % 8 * 600 + 1
+
+abbrev μ-eval·eval-receiver : Measures 3 eval·eval-receiver-kinds.ps ℕ
+μ-eval·eval-receiver κs a = (a .1 .1 .1 .1 .0) / 8 % 32 * 6000 + (a .1 .1 .1 .1 .0) % 8 * 600 + 1
 
 abbrev call·eval-call-at : ℕ → In 3 call·eval-call-kinds.ps
 call·eval-call-at t =
@@ -230,8 +236,24 @@ eval·eval-part-below t =
     (falls 3 eval·eval-part-kinds.ps _<_ μ-eval·eval-part t)
     eval·eval-part.Pre
 
+abbrev eval·eval-receiver-at : ℕ → In 3 eval·eval-receiver-kinds.ps
+eval·eval-receiver-at t =
+    and
+    3
+    eval·eval-receiver-kinds.ps
+    (is 3 eval·eval-receiver-kinds.ps μ-eval·eval-receiver t)
+    eval·eval-receiver.Pre
+
+abbrev eval·eval-receiver-below : ℕ → In 3 eval·eval-receiver-kinds.ps
+eval·eval-receiver-below t =
+    and
+    3
+    eval·eval-receiver-kinds.ps
+    (falls 3 eval·eval-receiver-kinds.ps _<_ μ-eval·eval-receiver t)
+    eval·eval-receiver.Pre
+
 abbrev call·eval-call-claims : ℕ → call·eval-call-lts.Claims
-call·eval-call-claims t = (stop-reads.Asked, stop-reads.Learnt, eval·eval-part-below t, eval·eval-part.Post, went-of-reads.Asked, went-of-reads.Learnt, unpack-reads.Asked, unpack-reads.Learnt, find-reads.Asked, find-reads.Learnt, call·invoke-below t, call·invoke.Post, eval·eval-list-below t, eval·eval-list.Post)
+call·eval-call-claims t = (stop-reads.Asked, stop-reads.Learnt, eval·eval-receiver-below t, eval·eval-receiver.Post, went-of-reads.Asked, went-of-reads.Learnt, unpack-reads.Asked, unpack-reads.Learnt, find-reads.Asked, find-reads.Learnt, call·invoke-below t, call·invoke.Post, eval·eval-list-below t, eval·eval-list.Post)
 
 abbrev call·invoke-claims : ℕ → call·invoke-lts.Claims
 call·invoke-claims t = (stop-reads.Asked, stop-reads.Learnt, open-call-reads.Asked, open-call-reads.Learnt, call·run-left-below t, call·run-left.Post, call·run-right-below t, call·run-right.Post)
@@ -249,7 +271,7 @@ abbrev eval·eval-field-claims : ℕ → eval·eval-field-lts.Claims
 eval·eval-field-claims t = (eval·eval-part-below t, eval·eval-part.Post, went-of-reads.Asked, went-of-reads.Learnt, select-in-reads.Asked, select-in-reads.Learnt, stop-reads.Asked, stop-reads.Learnt)
 
 abbrev eval·eval-item-claims : ℕ → eval·eval-item-lts.Claims
-eval·eval-item-claims t = (stop-reads.Asked, stop-reads.Learnt, shape-at-reads.Asked, shape-at-reads.Learnt, leaf-reads.Asked, leaf-reads.Learnt, eval·eval-field-below t, eval·eval-field.Post, is-preset-reads.Asked, is-preset-reads.Learnt, eval·eval-below t, eval·eval.Post)
+eval·eval-item-claims t = (stop-reads.Asked, stop-reads.Learnt, shape-at-reads.Asked, shape-at-reads.Learnt, leaf-reads.Asked, leaf-reads.Learnt, eval·eval-field-below t, eval·eval-field.Post, is-preset-reads.Asked, is-preset-reads.Learnt, eval·eval-new-below t, eval·eval-new.Post, eval·eval-below t, eval·eval.Post)
 
 abbrev eval·eval-list-claims : ℕ → eval·eval-list-lts.Claims
 eval·eval-list-claims t = (eval·eval-item-below t, eval·eval-item.Post, went-of-reads.Asked, went-of-reads.Learnt, past-reads.Asked, past-reads.Learnt)
@@ -260,50 +282,53 @@ eval·eval-new-claims t = (field-total-reads.Asked, field-total-reads.Learnt, st
 abbrev eval·eval-part-claims : ℕ → eval·eval-part-lts.Claims
 eval·eval-part-claims t = (stop-reads.Asked, stop-reads.Learnt, shape-at-reads.Asked, shape-at-reads.Learnt, leaf-reads.Asked, leaf-reads.Learnt, eval·eval-below t, eval·eval.Post)
 
+abbrev eval·eval-receiver-claims : ℕ → eval·eval-receiver-lts.Claims
+eval·eval-receiver-claims t = (stop-reads.Asked, stop-reads.Learnt, shape-at-reads.Asked, shape-at-reads.Learnt, leaf-reads.Asked, leaf-reads.Learnt, eval·eval-field-below t, eval·eval-field.Post, eval·eval-below t, eval·eval.Post)
+
 call·eval-call-stop-requires : (t : ℕ) → call·eval-call-lts.Need-stop-requires (call·eval-call-claims t) (call·eval-call-at t) call·eval-call.Post
 call·eval-call-stop-requires t c κs = search steps.run-full
 
 call·eval-call-returns : (t : ℕ) → call·eval-call-lts.Need-returns (call·eval-call-claims t) (call·eval-call-at t) call·eval-call.Post
 call·eval-call-returns t c = search calls.call-nested
 
-call·eval-call-eval-part-requires : (t : ℕ) → call·eval-call-lts.Need-eval-part-requires (call·eval-call-claims t) (call·eval-call-at t) call·eval-call.Post
-call·eval-call-eval-part-requires t c κs = (search needs, search steps.run-inner)
+call·eval-call-eval-receiver-requires : (t : ℕ) → call·eval-call-lts.Need-eval-receiver-requires (call·eval-call-claims t) (call·eval-call-at t) call·eval-call.Post
+call·eval-call-eval-receiver-requires t c κs = (search needs, search steps.run-inner)
 
 call·eval-call-returns-2 : (t : ℕ) → call·eval-call-lts.Need-returns-2 (call·eval-call-claims t) (call·eval-call-at t) call·eval-call.Post
-call·eval-call-returns-2 t c = calls.call-stops _ _ _ _ _ _ _ _ (c .before .before .before .before .before .before .before .before .before .before .pre .1) _ _ _ (c .before .before .before .before .before .eval-part .ensures) (steps.went-stopped _ _ (c .before .before .went-of .ensures) (c .enum-told .given .1))
+call·eval-call-returns-2 t c = calls.call-stops _ _ _ _ _ _ _ _ (c .before .before .before .before .before .before .before .before .before .before .pre .1) _ _ _ (c .before .before .before .before .before .eval-receiver .ensures) (steps.went-stopped _ _ (c .before .before .went-of .ensures) (c .enum-told .given .1))
 
 call·eval-call-find-requires : (t : ℕ) → call·eval-call-lts.Need-find-requires (call·eval-call-claims t) (call·eval-call-at t) call·eval-call.Post
-call·eval-call-find-requires t c κs = calls.receiver-there _ _ _ _ _ _ 0 0 (c .before .before .before .before .before .before .before .before .before .before .before .before .before .before .pre .1) _ _ _ (steps.eval-went _ _ (c .before .before .before .before .before .before .went-of .ensures) _ (c .before .before .before .before .w1 .given .1) _ _ _ _ _ _ _ _ (c .before .before .before .before .before .before .before .before .before .eval-part .ensures)) (steps.went-on _ _ (c .before .before .before .before .before .before .went-of .ensures) _ (c .before .before .before .before .w1 .given .1)) _ (c .unpack .ensures)
+call·eval-call-find-requires t c κs = calls.receiver-there _ _ _ _ _ _ 0 0 (c .before .before .before .before .before .before .before .before .before .before .before .before .before .before .pre .1) _ _ _ (steps.eval-went _ _ (c .before .before .before .before .before .before .went-of .ensures) _ (c .before .before .before .before .w1 .given .1) _ _ _ _ _ _ _ _ (c .before .before .before .before .before .before .before .before .before .eval-receiver .ensures)) (steps.went-on _ _ (c .before .before .before .before .before .before .went-of .ensures) _ (c .before .before .before .before .w1 .given .1)) _ (c .unpack .ensures)
 
 call·eval-call-stop-requires-2 : (t : ℕ) → call·eval-call-lts.Need-stop-requires-2 (call·eval-call-claims t) (call·eval-call-at t) call·eval-call.Post
-call·eval-call-stop-requires-2 t c κs = steps.full-after _ _ _ _ _ _ _ _ _ (c .before .before .before .before .before .before .before .before .before .before .before .before .before .eval-part .ensures) (c .before .before .before .before .before .before .before .before .before .before .before .before .before .before .before .before .before .before .pre .1)
+call·eval-call-stop-requires-2 t c κs = steps.full-after _ _ _ _ _ _ _ _ _ (c .before .before .before .before .before .before .before .before .before .before .before .before .before .eval-receiver .ensures) (c .before .before .before .before .before .before .before .before .before .before .before .before .before .before .before .before .before .before .pre .1)
 
 call·eval-call-returns-3 : (t : ℕ) → call·eval-call-lts.Need-returns-3 (call·eval-call-claims t) (call·eval-call-at t) call·eval-call.Post
-call·eval-call-returns-3 t c = calls.call-lacks _ _ _ _ _ _ _ _ (c .before .before .before .before .before .before .before .before .before .before .before .before .before .before .before .before .before .before .before .pre .1) _ _ _ (steps.eval-went _ _ (c .before .before .before .before .before .before .before .before .before .before .before .went-of .ensures) _ (c .before .before .before .before .before .before .before .before .before .w1 .given .1) _ _ _ _ _ _ _ _ (c .before .before .before .before .before .before .before .before .before .before .before .before .before .before .eval-part .ensures)) (steps.went-on _ _ (c .before .before .before .before .before .before .before .before .before .before .before .went-of .ensures) _ (c .before .before .before .before .before .before .before .before .before .w1 .given .1)) _ (c .before .before .before .before .before .unpack .ensures) _ (c .before .before .before .before .find .ensures) (c .before .before .enum-told2 .given .1) _ _ (c .stop2 .ensures)
+call·eval-call-returns-3 t c = calls.call-lacks _ _ _ _ _ _ _ _ (c .before .before .before .before .before .before .before .before .before .before .before .before .before .before .before .before .before .before .before .pre .1) _ _ _ (steps.eval-went _ _ (c .before .before .before .before .before .before .before .before .before .before .before .went-of .ensures) _ (c .before .before .before .before .before .before .before .before .before .w1 .given .1) _ _ _ _ _ _ _ _ (c .before .before .before .before .before .before .before .before .before .before .before .before .before .before .eval-receiver .ensures)) (steps.went-on _ _ (c .before .before .before .before .before .before .before .before .before .before .before .went-of .ensures) _ (c .before .before .before .before .before .before .before .before .before .w1 .given .1)) _ (c .before .before .before .before .before .unpack .ensures) _ (c .before .before .before .before .find .ensures) (c .before .before .enum-told2 .given .1) _ _ (c .stop2 .ensures)
 
 call·eval-call-invoke-requires : (t : ℕ) → call·eval-call-lts.Need-invoke-requires (call·eval-call-claims t) (call·eval-call-at t) call·eval-call.Post
-call·eval-call-invoke-requires t c κs = (search needs, calls.direct-run _ _ _ _ _ _ _ _ (c .before .before .before .before .before .before .before .before .before .before .before .before .before .before .before .before .before .before .before .before .before .pre .1) _ _ _ (steps.eval-went _ _ (c .before .before .before .before .before .before .before .before .before .before .before .before .before .went-of .ensures) _ (c .before .before .before .before .before .before .before .before .before .before .before .w1 .given .1) _ _ _ _ _ _ _ _ (c .before .before .before .before .before .before .before .before .before .before .before .before .before .before .before .before .eval-part .ensures)) (steps.went-on _ _ (c .before .before .before .before .before .before .before .before .before .before .before .before .before .went-of .ensures) _ (c .before .before .before .before .before .before .before .before .before .before .before .w1 .given .1)) _ (c .before .before .before .before .before .before .before .unpack .ensures) _ (c .before .before .before .before .before .before .find .ensures) (c .before .before .before .before .before .before .before .before .before .before .before .before .before .before .before .before .before .before .before .if1 .left) _ (c .before .before .before .before .w .given .1) (c .before .before .if2 .taken))
+call·eval-call-invoke-requires t c κs = (search needs, calls.direct-run _ _ _ _ _ _ _ _ (c .before .before .before .before .before .before .before .before .before .before .before .before .before .before .before .before .before .before .before .before .before .pre .1) _ _ _ (steps.eval-went _ _ (c .before .before .before .before .before .before .before .before .before .before .before .before .before .went-of .ensures) _ (c .before .before .before .before .before .before .before .before .before .before .before .w1 .given .1) _ _ _ _ _ _ _ _ (c .before .before .before .before .before .before .before .before .before .before .before .before .before .before .before .before .eval-receiver .ensures)) (steps.went-on _ _ (c .before .before .before .before .before .before .before .before .before .before .before .before .before .went-of .ensures) _ (c .before .before .before .before .before .before .before .before .before .before .before .w1 .given .1)) _ (c .before .before .before .before .before .before .before .unpack .ensures) _ (c .before .before .before .before .before .before .find .ensures) (c .before .before .before .before .before .before .before .before .before .before .before .before .before .before .before .before .before .before .before .if1 .left) _ (c .before .before .before .before .w .given .1) (c .before .before .if2 .taken))
 
 call·eval-call-returns-4 : (t : ℕ) → call·eval-call-lts.Need-returns-4 (call·eval-call-claims t) (call·eval-call-at t) call·eval-call.Post
-call·eval-call-returns-4 t c = calls.direct-is _ _ _ _ _ _ _ _ (c .before .before .before .before .before .before .before .before .before .before .before .before .before .before .before .before .before .before .before .before .before .before .before .before .pre .1) _ _ _ (steps.eval-went _ _ (c .before .before .before .before .before .before .before .before .before .before .before .before .before .before .before .before .went-of .ensures) _ (c .before .before .before .before .before .before .before .before .before .before .before .before .before .before .w1 .given .1) _ _ _ _ _ _ _ _ (c .before .before .before .before .before .before .before .before .before .before .before .before .before .before .before .before .before .before .before .eval-part .ensures)) (steps.went-on _ _ (c .before .before .before .before .before .before .before .before .before .before .before .before .before .before .before .before .went-of .ensures) _ (c .before .before .before .before .before .before .before .before .before .before .before .before .before .before .w1 .given .1)) _ (c .before .before .before .before .before .before .before .before .before .before .unpack .ensures) _ (c .before .before .before .before .before .before .before .before .before .find .ensures) (c .before .before .before .before .before .before .before .before .before .before .before .before .before .before .before .before .before .before .before .before .before .before .if1 .left) _ (c .before .before .before .before .before .before .before .w .given .1) (c .before .before .before .before .before .if2 .taken) _ _ _ (c .before .before .invoke .ensures)
+call·eval-call-returns-4 t c = calls.direct-is _ _ _ _ _ _ _ _ (c .before .before .before .before .before .before .before .before .before .before .before .before .before .before .before .before .before .before .before .before .before .before .before .before .pre .1) _ _ _ (steps.eval-went _ _ (c .before .before .before .before .before .before .before .before .before .before .before .before .before .before .before .before .went-of .ensures) _ (c .before .before .before .before .before .before .before .before .before .before .before .before .before .before .w1 .given .1) _ _ _ _ _ _ _ _ (c .before .before .before .before .before .before .before .before .before .before .before .before .before .before .before .before .before .before .before .eval-receiver .ensures)) (steps.went-on _ _ (c .before .before .before .before .before .before .before .before .before .before .before .before .before .before .before .before .went-of .ensures) _ (c .before .before .before .before .before .before .before .before .before .before .before .before .before .before .w1 .given .1)) _ (c .before .before .before .before .before .before .before .before .before .before .unpack .ensures) _ (c .before .before .before .before .before .before .before .before .before .find .ensures) (c .before .before .before .before .before .before .before .before .before .before .before .before .before .before .before .before .before .before .before .before .before .before .if1 .left) _ (c .before .before .before .before .before .before .before .w .given .1) (c .before .before .before .before .before .if2 .taken) _ _ _ (c .before .before .invoke .ensures)
 
 call·eval-call-add-eval-list : (t : ℕ) → call·eval-call-lts.Need-add-eval-list (call·eval-call-claims t) (call·eval-call-at t) call·eval-call.Post
 call·eval-call-add-eval-list t c = search (needs, steps.part-limit _ _ _ _ (c .before .before .before .before .before .before .before .before .before .before .before .before .before .before .before .before .before .before .before .before .before .pre .1))
 
 call·eval-call-eval-list-requires : (t : ℕ) → call·eval-call-lts.Need-eval-list-requires (call·eval-call-claims t) (call·eval-call-at t) call·eval-call.Post
-call·eval-call-eval-list-requires t c κs = (search limits.next-falls, calls.args-run _ _ _ _ _ _ _ _ (c .before .before .before .before .before .before .before .before .before .before .before .before .before .before .before .before .before .before .before .before .before .pre .1) _ _ _ (steps.eval-went _ _ (c .before .before .before .before .before .before .before .before .before .before .before .before .before .went-of .ensures) _ (c .before .before .before .before .before .before .before .before .before .before .before .w1 .given .1) _ _ _ _ _ _ _ _ (c .before .before .before .before .before .before .before .before .before .before .before .before .before .before .before .before .eval-part .ensures)) (steps.went-on _ _ (c .before .before .before .before .before .before .before .before .before .before .before .before .before .went-of .ensures) _ (c .before .before .before .before .before .before .before .before .before .before .before .w1 .given .1)) _ (c .before .before .before .before .before .before .before .unpack .ensures) _ (c .before .before .before .before .before .before .find .ensures) (c .before .before .before .before .before .before .before .before .before .before .before .before .before .before .before .before .before .before .before .if1 .left) _ (c .before .before .before .before .w .given .1))
+call·eval-call-eval-list-requires t c κs = (search limits.next-falls, calls.args-run _ _ _ _ _ _ _ _ (c .before .before .before .before .before .before .before .before .before .before .before .before .before .before .before .before .before .before .before .before .before .pre .1) _ _ _ (steps.eval-went _ _ (c .before .before .before .before .before .before .before .before .before .before .before .before .before .went-of .ensures) _ (c .before .before .before .before .before .before .before .before .before .before .before .w1 .given .1) _ _ _ _ _ _ _ _ (c .before .before .before .before .before .before .before .before .before .before .before .before .before .before .before .before .eval-receiver .ensures)) (steps.went-on _ _ (c .before .before .before .before .before .before .before .before .before .before .before .before .before .went-of .ensures) _ (c .before .before .before .before .before .before .before .before .before .before .before .w1 .given .1)) _ (c .before .before .before .before .before .before .before .unpack .ensures) _ (c .before .before .before .before .before .before .find .ensures) (c .before .before .before .before .before .before .before .before .before .before .before .before .before .before .before .before .before .before .before .if1 .left) _ (c .before .before .before .before .w .given .1))
 
 call·eval-call-returns-5 : (t : ℕ) → call·eval-call-lts.Need-returns-5 (call·eval-call-claims t) (call·eval-call-at t) call·eval-call.Post
-call·eval-call-returns-5 t c = calls.args-stop _ _ _ _ _ _ _ _ (c .before .before .before .before .before .before .before .before .before .before .before .before .before .before .before .before .before .before .before .before .before .before .before .before .before .before .before .pre .1) _ _ _ (steps.eval-went _ _ (c .before .before .before .before .before .before .before .before .before .before .before .before .before .before .before .before .before .before .before .went-of .ensures) _ (c .before .before .before .before .before .before .before .before .before .before .before .before .before .before .before .before .before .w1 .given .1) _ _ _ _ _ _ _ _ (c .before .before .before .before .before .before .before .before .before .before .before .before .before .before .before .before .before .before .before .before .before .before .eval-part .ensures)) (steps.went-on _ _ (c .before .before .before .before .before .before .before .before .before .before .before .before .before .before .before .before .before .before .before .went-of .ensures) _ (c .before .before .before .before .before .before .before .before .before .before .before .before .before .before .before .before .before .w1 .given .1)) _ (c .before .before .before .before .before .before .before .before .before .before .before .before .before .unpack .ensures) _ (c .before .before .before .before .before .before .before .before .before .before .before .before .find .ensures) (c .before .before .before .before .before .before .before .before .before .before .before .before .before .before .before .before .before .before .before .before .before .before .before .before .before .if1 .left) _ (c .before .before .before .before .before .before .before .before .before .before .w .given .1) _ _ _ (c .before .before .before .before .before .eval-list .ensures) (steps.went-stopped _ _ (c .before .before .went-of2 .ensures) (c .enum-told3 .given .1))
+call·eval-call-returns-5 t c = calls.args-stop _ _ _ _ _ _ _ _ (c .before .before .before .before .before .before .before .before .before .before .before .before .before .before .before .before .before .before .before .before .before .before .before .before .before .before .before .pre .1) _ _ _ (steps.eval-went _ _ (c .before .before .before .before .before .before .before .before .before .before .before .before .before .before .before .before .before .before .before .went-of .ensures) _ (c .before .before .before .before .before .before .before .before .before .before .before .before .before .before .before .before .before .w1 .given .1) _ _ _ _ _ _ _ _ (c .before .before .before .before .before .before .before .before .before .before .before .before .before .before .before .before .before .before .before .before .before .before .eval-receiver .ensures)) (steps.went-on _ _ (c .before .before .before .before .before .before .before .before .before .before .before .before .before .before .before .before .before .before .before .went-of .ensures) _ (c .before .before .before .before .before .before .before .before .before .before .before .before .before .before .before .before .before .w1 .given .1)) _ (c .before .before .before .before .before .before .before .before .before .before .before .before .before .unpack .ensures) _ (c .before .before .before .before .before .before .before .before .before .before .before .before .find .ensures) (c .before .before .before .before .before .before .before .before .before .before .before .before .before .before .before .before .before .before .before .before .before .before .before .before .before .if1 .left) _ (c .before .before .before .before .before .before .before .before .before .before .w .given .1) _ _ _ (c .before .before .before .before .before .eval-list .ensures) (steps.went-stopped _ _ (c .before .before .went-of2 .ensures) (c .enum-told3 .given .1))
 
 call·eval-call-invoke-requires-2 : (t : ℕ) → call·eval-call-lts.Need-invoke-requires-2 (call·eval-call-claims t) (call·eval-call-at t) call·eval-call.Post
-call·eval-call-invoke-requires-2 t c κs = (omega (arith, (c .before .before .before .before .before .before .before .before .before .before .before .before .before .before .before .before .before .before .before .before .before .before .before .before .before .before .before .before .before .before .pre .0)), calls.call-run _ _ _ _ _ _ _ _ (c .before .before .before .before .before .before .before .before .before .before .before .before .before .before .before .before .before .before .before .before .before .before .before .before .before .before .before .before .before .before .pre .1) _ _ _ (steps.eval-went _ _ (c .before .before .before .before .before .before .before .before .before .before .before .before .before .before .before .before .before .before .before .before .before .before .went-of .ensures) _ (c .before .before .before .before .before .before .before .before .before .before .before .before .before .before .before .before .before .before .before .before .w1 .given .1) _ _ _ _ _ _ _ _ (c .before .before .before .before .before .before .before .before .before .before .before .before .before .before .before .before .before .before .before .before .before .before .before .before .before .eval-part .ensures)) (steps.went-on _ _ (c .before .before .before .before .before .before .before .before .before .before .before .before .before .before .before .before .before .before .before .before .before .before .went-of .ensures) _ (c .before .before .before .before .before .before .before .before .before .before .before .before .before .before .before .before .before .before .before .before .w1 .given .1)) _ (c .before .before .before .before .before .before .before .before .before .before .before .before .before .before .before .before .unpack .ensures) _ (c .before .before .before .before .before .before .before .before .before .before .before .before .before .before .before .find .ensures) (c .before .before .before .before .before .before .before .before .before .before .before .before .before .before .before .before .before .before .before .before .before .before .before .before .before .before .before .before .if1 .left) _ (c .before .before .before .before .before .before .before .before .before .before .before .before .before .w .given .1) _ _ _ (steps.list-went _ _ (c .before .before .before .before .before .went-of2 .ensures) _ (c .before .before .before .w2 .given .1) _ _ _ _ _ _ _ _ _ (c .before .before .before .before .before .before .before .before .eval-list .ensures)) (steps.went-on _ _ (c .before .before .before .before .before .went-of2 .ensures) _ (c .before .before .before .w2 .given .1)))
+call·eval-call-invoke-requires-2 t c κs = (omega (arith, (c .before .before .before .before .before .before .before .before .before .before .before .before .before .before .before .before .before .before .before .before .before .before .before .before .before .before .before .before .before .before .pre .0)), calls.call-run _ _ _ _ _ _ _ _ (c .before .before .before .before .before .before .before .before .before .before .before .before .before .before .before .before .before .before .before .before .before .before .before .before .before .before .before .before .before .before .pre .1) _ _ _ (steps.eval-went _ _ (c .before .before .before .before .before .before .before .before .before .before .before .before .before .before .before .before .before .before .before .before .before .before .went-of .ensures) _ (c .before .before .before .before .before .before .before .before .before .before .before .before .before .before .before .before .before .before .before .before .w1 .given .1) _ _ _ _ _ _ _ _ (c .before .before .before .before .before .before .before .before .before .before .before .before .before .before .before .before .before .before .before .before .before .before .before .before .before .eval-receiver .ensures)) (steps.went-on _ _ (c .before .before .before .before .before .before .before .before .before .before .before .before .before .before .before .before .before .before .before .before .before .before .went-of .ensures) _ (c .before .before .before .before .before .before .before .before .before .before .before .before .before .before .before .before .before .before .before .before .w1 .given .1)) _ (c .before .before .before .before .before .before .before .before .before .before .before .before .before .before .before .before .unpack .ensures) _ (c .before .before .before .before .before .before .before .before .before .before .before .before .before .before .before .find .ensures) (c .before .before .before .before .before .before .before .before .before .before .before .before .before .before .before .before .before .before .before .before .before .before .before .before .before .before .before .before .if1 .left) _ (c .before .before .before .before .before .before .before .before .before .before .before .before .before .w .given .1) _ _ _ (steps.list-went _ _ (c .before .before .before .before .before .went-of2 .ensures) _ (c .before .before .before .w2 .given .1) _ _ _ _ _ _ _ _ _ (c .before .before .before .before .before .before .before .before .eval-list .ensures)) (steps.went-on _ _ (c .before .before .before .before .before .went-of2 .ensures) _ (c .before .before .before .w2 .given .1)))
 
 call·eval-call-same-length-5 : (t : ℕ) → call·eval-call-lts.Need-same-length-5 (call·eval-call-claims t) (call·eval-call-at t) call·eval-call.Post
-call·eval-call-same-length-5 t c = search (needs, (calls.call-goes-on _ _ _ _ _ _ _ _ (c .before .before .before .before .before .before .before .before .before .before .before .before .before .before .before .before .before .before .before .before .before .before .before .before .before .before .before .before .before .before .before .before .before .pre .1) _ _ _ (steps.eval-went _ _ (c .before .before .before .before .before .before .before .before .before .before .before .before .before .before .before .before .before .before .before .before .before .before .before .before .before .went-of .ensures) _ (c .before .before .before .before .before .before .before .before .before .before .before .before .before .before .before .before .before .before .before .before .before .before .before .w1 .given .1) _ _ _ _ _ _ _ _ (c .before .before .before .before .before .before .before .before .before .before .before .before .before .before .before .before .before .before .before .before .before .before .before .before .before .before .before .before .eval-part .ensures)) (steps.went-on _ _ (c .before .before .before .before .before .before .before .before .before .before .before .before .before .before .before .before .before .before .before .before .before .before .before .before .before .went-of .ensures) _ (c .before .before .before .before .before .before .before .before .before .before .before .before .before .before .before .before .before .before .before .before .before .before .before .w1 .given .1)) _ (c .before .before .before .before .before .before .before .before .before .before .before .before .before .before .before .before .before .before .before .unpack .ensures) _ (c .before .before .before .before .before .before .before .before .before .before .before .before .before .before .before .before .before .before .find .ensures) (c .before .before .before .before .before .before .before .before .before .before .before .before .before .before .before .before .before .before .before .before .before .before .before .before .before .before .before .before .before .before .before .if1 .left) _ (c .before .before .before .before .before .before .before .before .before .before .before .before .before .before .before .before .w .given .1) _ _ _ (steps.list-went _ _ (c .before .before .before .before .before .before .before .before .went-of2 .ensures) _ (c .before .before .before .before .before .before .w2 .given .1) _ _ _ _ _ _ _ _ _ (c .before .before .before .before .before .before .before .before .before .before .before .eval-list .ensures)) (steps.went-on _ _ (c .before .before .before .before .before .before .before .before .went-of2 .ensures) _ (c .before .before .before .before .before .before .w2 .given .1)) _ _ _ (c .before .before .invoke2 .ensures)) .runs .kept .same)
+call·eval-call-same-length-5 t c = search (needs, (calls.call-goes-on _ _ _ _ _ _ _ _ (c .before .before .before .before .before .before .before .before .before .before .before .before .before .before .before .before .before .before .before .before .before .before .before .before .before .before .before .before .before .before .before .before .before .pre .1) _ _ _ (steps.eval-went _ _ (c .before .before .before .before .before .before .before .before .before .before .before .before .before .before .before .before .before .before .before .before .before .before .before .before .before .went-of .ensures) _ (c .before .before .before .before .before .before .before .before .before .before .before .before .before .before .before .before .before .before .before .before .before .before .before .w1 .given .1) _ _ _ _ _ _ _ _ (c .before .before .before .before .before .before .before .before .before .before .before .before .before .before .before .before .before .before .before .before .before .before .before .before .before .before .before .before .eval-receiver .ensures)) (steps.went-on _ _ (c .before .before .before .before .before .before .before .before .before .before .before .before .before .before .before .before .before .before .before .before .before .before .before .before .before .went-of .ensures) _ (c .before .before .before .before .before .before .before .before .before .before .before .before .before .before .before .before .before .before .before .before .before .before .before .w1 .given .1)) _ (c .before .before .before .before .before .before .before .before .before .before .before .before .before .before .before .before .before .before .before .unpack .ensures) _ (c .before .before .before .before .before .before .before .before .before .before .before .before .before .before .before .before .before .before .find .ensures) (c .before .before .before .before .before .before .before .before .before .before .before .before .before .before .before .before .before .before .before .before .before .before .before .before .before .before .before .before .before .before .before .if1 .left) _ (c .before .before .before .before .before .before .before .before .before .before .before .before .before .before .before .before .w .given .1) _ _ _ (steps.list-went _ _ (c .before .before .before .before .before .before .before .before .went-of2 .ensures) _ (c .before .before .before .before .before .before .w2 .given .1) _ _ _ _ _ _ _ _ _ (c .before .before .before .before .before .before .before .before .before .before .before .eval-list .ensures)) (steps.went-on _ _ (c .before .before .before .before .before .before .before .before .went-of2 .ensures) _ (c .before .before .before .before .before .before .w2 .given .1)) _ _ _ (c .before .before .invoke2 .ensures)) .runs .kept .same)
 
 call·eval-call-returns-6 : (t : ℕ) → call·eval-call-lts.Need-returns-6 (call·eval-call-claims t) (call·eval-call-at t) call·eval-call.Post
-call·eval-call-returns-6 t c = calls.call-goes-on _ _ _ _ _ _ _ _ (c .before .before .before .before .before .before .before .before .before .before .before .before .before .before .before .before .before .before .before .before .before .before .before .before .before .before .before .before .before .before .before .before .before .pre .1) _ _ _ (steps.eval-went _ _ (c .before .before .before .before .before .before .before .before .before .before .before .before .before .before .before .before .before .before .before .before .before .before .before .before .before .went-of .ensures) _ (c .before .before .before .before .before .before .before .before .before .before .before .before .before .before .before .before .before .before .before .before .before .before .before .w1 .given .1) _ _ _ _ _ _ _ _ (c .before .before .before .before .before .before .before .before .before .before .before .before .before .before .before .before .before .before .before .before .before .before .before .before .before .before .before .before .eval-part .ensures)) (steps.went-on _ _ (c .before .before .before .before .before .before .before .before .before .before .before .before .before .before .before .before .before .before .before .before .before .before .before .before .before .went-of .ensures) _ (c .before .before .before .before .before .before .before .before .before .before .before .before .before .before .before .before .before .before .before .before .before .before .before .w1 .given .1)) _ (c .before .before .before .before .before .before .before .before .before .before .before .before .before .before .before .before .before .before .before .unpack .ensures) _ (c .before .before .before .before .before .before .before .before .before .before .before .before .before .before .before .before .before .before .find .ensures) (c .before .before .before .before .before .before .before .before .before .before .before .before .before .before .before .before .before .before .before .before .before .before .before .before .before .before .before .before .before .before .before .if1 .left) _ (c .before .before .before .before .before .before .before .before .before .before .before .before .before .before .before .before .w .given .1) _ _ _ (steps.list-went _ _ (c .before .before .before .before .before .before .before .before .went-of2 .ensures) _ (c .before .before .before .before .before .before .w2 .given .1) _ _ _ _ _ _ _ _ _ (c .before .before .before .before .before .before .before .before .before .before .before .eval-list .ensures)) (steps.went-on _ _ (c .before .before .before .before .before .before .before .before .went-of2 .ensures) _ (c .before .before .before .before .before .before .w2 .given .1)) _ _ _ (c .before .before .invoke2 .ensures)
+call·eval-call-returns-6 t c = calls.call-goes-on _ _ _ _ _ _ _ _ (c .before .before .before .before .before .before .before .before .before .before .before .before .before .before .before .before .before .before .before .before .before .before .before .before .before .before .before .before .before .before .before .before .before .pre .1) _ _ _ (steps.eval-went _ _ (c .before .before .before .before .before .before .before .before .before .before .before .before .before .before .before .before .before .before .before .before .before .before .before .before .before .went-of .ensures) _ (c .before .before .before .before .before .before .before .before .before .before .before .before .before .before .before .before .before .before .before .before .before .before .before .w1 .given .1) _ _ _ _ _ _ _ _ (c .before .before .before .before .before .before .before .before .before .before .before .before .before .before .before .before .before .before .before .before .before .before .before .before .before .before .before .before .eval-receiver .ensures)) (steps.went-on _ _ (c .before .before .before .before .before .before .before .before .before .before .before .before .before .before .before .before .before .before .before .before .before .before .before .before .before .went-of .ensures) _ (c .before .before .before .before .before .before .before .before .before .before .before .before .before .before .before .before .before .before .before .before .before .before .before .w1 .given .1)) _ (c .before .before .before .before .before .before .before .before .before .before .before .before .before .before .before .before .before .before .before .unpack .ensures) _ (c .before .before .before .before .before .before .before .before .before .before .before .before .before .before .before .before .before .before .find .ensures) (c .before .before .before .before .before .before .before .before .before .before .before .before .before .before .before .before .before .before .before .before .before .before .before .before .before .before .before .before .before .before .before .if1 .left) _ (c .before .before .before .before .before .before .before .before .before .before .before .before .before .before .before .before .w .given .1) _ _ _ (steps.list-went _ _ (c .before .before .before .before .before .before .before .before .went-of2 .ensures) _ (c .before .before .before .before .before .before .w2 .given .1) _ _ _ _ _ _ _ _ _ (c .before .before .before .before .before .before .before .before .before .before .before .eval-list .ensures)) (steps.went-on _ _ (c .before .before .before .before .before .before .before .before .went-of2 .ensures) _ (c .before .before .before .before .before .before .w2 .given .1)) _ _ _ (c .before .before .invoke2 .ensures)
 
 call·invoke-stop-requires : (t : ℕ) → call·invoke-lts.Need-stop-requires (call·invoke-claims t) (call·invoke-at t) call·invoke.Post
 call·invoke-stop-requires t c κs = search calls.calls-full
@@ -488,8 +513,8 @@ eval·eval-item-returns-2 t c = search steps.step-preset
 eval·eval-item-eval-requires : (t : ℕ) → eval·eval-item-lts.Need-eval-requires (eval·eval-item-claims t) (eval·eval-item-at t) eval·eval-item.Post
 eval·eval-item-eval-requires t c κs = (search needs, search needs)
 
-eval·eval-item-eval-requires-2 : (t : ℕ) → eval·eval-item-lts.Need-eval-requires-2 (eval·eval-item-claims t) (eval·eval-item-at t) eval·eval-item.Post
-eval·eval-item-eval-requires-2 t c κs = (search needs, search needs)
+eval·eval-item-eval-new-requires : (t : ℕ) → eval·eval-item-lts.Need-eval-new-requires (eval·eval-item-claims t) (eval·eval-item-at t) eval·eval-item.Post
+eval·eval-item-eval-new-requires t c κs = (search limits.item-falls, (search steps.run-part, search steps.next-new))
 
 eval·eval-item-returns-3 : (t : ℕ) → eval·eval-item-lts.Need-returns-3 (eval·eval-item-claims t) (eval·eval-item-at t) eval·eval-item.Post
 eval·eval-item-returns-3 t c = search steps.step-this
@@ -502,6 +527,9 @@ eval·eval-item-returns-5 t c = search steps.step-parameter
 
 eval·eval-item-returns-6 : (t : ℕ) → eval·eval-item-lts.Need-returns-6 (eval·eval-item-claims t) (eval·eval-item-at t) eval·eval-item.Post
 eval·eval-item-returns-6 t c = search steps.step-field
+
+eval·eval-item-returns-7 : (t : ℕ) → eval·eval-item-lts.Need-returns-7 (eval·eval-item-claims t) (eval·eval-item-at t) eval·eval-item.Post
+eval·eval-item-returns-7 t c = search steps.step-new
 
 abbrev eval·eval-list-Inv-loop : eval·eval-list-lts.InvT-loop
 eval·eval-list-Inv-loop T W S at lim sp n p₀ l₀ q₀ left₀ W1 S1 p l q left = steps.Rest T W S at lim sp n W1 S1 p l q left
@@ -593,13 +621,46 @@ eval·eval-part-returns-3 t c = search steps.step-result
 eval·eval-part-returns-4 : (t : ℕ) → eval·eval-part-lts.Need-returns-4 (eval·eval-part-claims t) (eval·eval-part-at t) eval·eval-part.Post
 eval·eval-part-returns-4 t c = search steps.step-parameter
 
-pub +call·eval-call+call·invoke+call·run-left+call·run-right+eval·eval+eval·eval-field+eval·eval-item+eval·eval-list+eval·eval-new+eval·eval-part-spec : {M : Type 1} → statement M
-+call·eval-call+call·invoke+call·run-left+call·run-right+eval·eval+eval·eval-field+eval·eval-item+eval·eval-list+eval·eval-new+eval·eval-part-spec =
-    close μ-call·eval-call μ-call·invoke μ-call·run-left μ-call·run-right μ-eval·eval μ-eval·eval-field μ-eval·eval-item μ-eval·eval-list μ-eval·eval-new μ-eval·eval-part
+eval·eval-receiver-stop-requires : (t : ℕ) → eval·eval-receiver-lts.Need-stop-requires (eval·eval-receiver-claims t) (eval·eval-receiver-at t) eval·eval-receiver.Post
+eval·eval-receiver-stop-requires t c κs = search steps.run-full
+
+eval·eval-receiver-returns : (t : ℕ) → eval·eval-receiver-lts.Need-returns (eval·eval-receiver-claims t) (eval·eval-receiver-at t) eval·eval-receiver.Post
+eval·eval-receiver-returns t c = search steps.step-zero
+
+eval·eval-receiver-leaf-requires : (t : ℕ) → eval·eval-receiver-lts.Need-leaf-requires (eval·eval-receiver-claims t) (eval·eval-receiver-at t) eval·eval-receiver.Post
+eval·eval-receiver-leaf-requires t c κs = (search steps.run-full, search steps.run-short, search steps.run-framed)
+
+eval·eval-receiver-leaf-requires-2 : (t : ℕ) → eval·eval-receiver-lts.Need-leaf-requires-2 (eval·eval-receiver-claims t) (eval·eval-receiver-at t) eval·eval-receiver.Post
+eval·eval-receiver-leaf-requires-2 t c κs = (search steps.run-full, search steps.run-short, search steps.run-framed)
+
+eval·eval-receiver-leaf-requires-3 : (t : ℕ) → eval·eval-receiver-lts.Need-leaf-requires-3 (eval·eval-receiver-claims t) (eval·eval-receiver-at t) eval·eval-receiver.Post
+eval·eval-receiver-leaf-requires-3 t c κs = (search steps.run-full, search steps.run-short, search steps.run-framed)
+
+eval·eval-receiver-eval-field-requires : (t : ℕ) → eval·eval-receiver-lts.Need-eval-field-requires (eval·eval-receiver-claims t) (eval·eval-receiver-at t) eval·eval-receiver.Post
+eval·eval-receiver-eval-field-requires t c κs = (search limits.item-falls, search steps.run-part)
+
+eval·eval-receiver-eval-requires : (t : ℕ) → eval·eval-receiver-lts.Need-eval-requires (eval·eval-receiver-claims t) (eval·eval-receiver-at t) eval·eval-receiver.Post
+eval·eval-receiver-eval-requires t c κs = (search needs, search needs)
+
+eval·eval-receiver-returns-2 : (t : ℕ) → eval·eval-receiver-lts.Need-returns-2 (eval·eval-receiver-claims t) (eval·eval-receiver-at t) eval·eval-receiver.Post
+eval·eval-receiver-returns-2 t c = search steps.step-this
+
+eval·eval-receiver-returns-3 : (t : ℕ) → eval·eval-receiver-lts.Need-returns-3 (eval·eval-receiver-claims t) (eval·eval-receiver-at t) eval·eval-receiver.Post
+eval·eval-receiver-returns-3 t c = search steps.step-result
+
+eval·eval-receiver-returns-4 : (t : ℕ) → eval·eval-receiver-lts.Need-returns-4 (eval·eval-receiver-claims t) (eval·eval-receiver-at t) eval·eval-receiver.Post
+eval·eval-receiver-returns-4 t c = search steps.step-parameter
+
+eval·eval-receiver-returns-5 : (t : ℕ) → eval·eval-receiver-lts.Need-returns-5 (eval·eval-receiver-claims t) (eval·eval-receiver-at t) eval·eval-receiver.Post
+eval·eval-receiver-returns-5 t c = search steps.step-field
+
+pub +call·eval-call+call·invoke+call·run-left+call·run-right+eval·eval+eval·eval-field+eval·eval-item+eval·eval-list+eval·eval-new+eval·eval-part+eval·eval-receiver-spec : {M : Type 1} → statement M
++call·eval-call+call·invoke+call·run-left+call·run-right+eval·eval+eval·eval-field+eval·eval-item+eval·eval-list+eval·eval-new+eval·eval-part+eval·eval-receiver-spec =
+    close μ-call·eval-call μ-call·invoke μ-call·run-left μ-call·run-right μ-eval·eval μ-eval·eval-field μ-eval·eval-item μ-eval·eval-list μ-eval·eval-new μ-eval·eval-part μ-eval·eval-receiver
     (λ t. call·eval-call-lts.spec (call·eval-call-claims t) (call·eval-call-at t) call·eval-call.Post
     (call·eval-call-stop-requires t)
     (call·eval-call-returns t)
-    (call·eval-call-eval-part-requires t)
+    (call·eval-call-eval-receiver-requires t)
     (λ c κs. search needs)
     (λ c. search needs)
     (λ c. search needs)
@@ -770,15 +831,16 @@ pub +call·eval-call+call·invoke+call·run-left+call·run-right+eval·eval+eval
     (eval·eval-item-mul-st t)
     (eval·eval-item-element-write-st t)
     (eval·eval-item-returns-2 t)
+    (λ c. search needs)
+    (eval·eval-item-eval-new-requires t)
     (eval·eval-item-eval-requires t)
-    (eval·eval-item-eval-requires-2 t)
     (eval·eval-item-returns-3 t)
     (eval·eval-item-returns-4 t)
     (eval·eval-item-returns-5 t)
     (λ c. search needs)
     (eval·eval-item-returns-6 t)
     (λ c. search needs)
-    (λ c. search needs)
+    (eval·eval-item-returns-7 t)
     (λ c. search needs)
     (λ c. search needs))
     (λ t. eval·eval-list-lts.spec (eval·eval-list-claims t) (eval·eval-list-at t) eval·eval-list.Post eval·eval-list-Inv-loop eval·eval-list-μ-loop
@@ -828,5 +890,26 @@ pub +call·eval-call+call·invoke+call·run-left+call·run-right+eval·eval+eval
     (eval·eval-part-returns-2 t)
     (eval·eval-part-returns-3 t)
     (eval·eval-part-returns-4 t)
+    (λ c. search needs)
+    (λ c. search needs))
+    (λ t. eval·eval-receiver-lts.spec (eval·eval-receiver-claims t) (eval·eval-receiver-at t) eval·eval-receiver.Post
+    (eval·eval-receiver-stop-requires t)
+    (eval·eval-receiver-returns t)
+    (λ c κs. search needs)
+    (λ c. search needs)
+    (eval·eval-receiver-leaf-requires t)
+    (λ c. search needs)
+    (eval·eval-receiver-leaf-requires-2 t)
+    (λ c. search needs)
+    (eval·eval-receiver-leaf-requires-3 t)
+    (λ c. search needs)
+    (λ c. search needs)
+    (eval·eval-receiver-eval-field-requires t)
+    (eval·eval-receiver-eval-requires t)
+    (eval·eval-receiver-returns-2 t)
+    (eval·eval-receiver-returns-3 t)
+    (eval·eval-receiver-returns-4 t)
+    (λ c. search needs)
+    (eval·eval-receiver-returns-5 t)
     (λ c. search needs)
     (λ c. search needs))
