@@ -28,6 +28,19 @@ ghost use Rattle.evaluator.specs.Preset.{isPreset};
 ghost use Rattle.evaluator.specs.State.{refAt};
 ghost use Rattle.evaluator.specs.Steps.{Runnable, PartRunnable, ListRunnable, PartsReady, EvalStep, FieldStep, ListStep, NewStep, FinishStep};
 
+// Whether a new object of class c with n values stands in block 0 from the start.
+pub fn is_preset(t: &[u8; SIZE], c: u8, n: u8) -> bool
+    ensures { λ r. ⌜ r ≡ isPreset (now (t .entry)) c n ⌝ }
+{
+    if n != 0 {
+        return false;
+    }
+    if 32 <= c {
+        return false;
+    }
+    field_total(t, c) == 0
+}
+
 // The expression at `at`, within the limits.
 pub fn eval(
     t: &[u8; SIZE],
@@ -61,8 +74,8 @@ pub fn eval(
     }
 }
 
-// The same for what a field is selected of. Most are variables, which need no call of `eval`. This function and the next two have one caller each, which the
-// compiler takes them into.
+// The same for what a field is selected of. Most are variables, which need no call of `eval`. This function and the next two do what `eval` does; each has one caller,
+// which the compiler takes it into, and answers at once what is most often met there.
 pub fn eval_part(
     t: &[u8; SIZE],
     work: &mut [u8],
@@ -111,20 +124,7 @@ pub fn eval_receiver(
     }
 }
 
-// Whether a new object of class c with n values stands in block 0 from the start.
-pub fn is_preset(t: &[u8; SIZE], c: u8, n: u8) -> bool
-    ensures { λ r. ⌜ r ≡ isPreset (now (t .entry)) c n ⌝ }
-{
-    if n != 0 {
-        return false;
-    }
-    if 32 <= c {
-        return false;
-    }
-    field_total(t, c) == 0
-}
-
-// The same for an item of a list. Many are variables, or objects that stand in block 0.
+// The same for an item of a list. Most are variables, fields or new objects.
 pub fn eval_item(
     t: &[u8; SIZE],
     work: &mut [u8],
