@@ -1,5 +1,6 @@
 -- What each function of the evaluator asks of the stack S and does with it: the language's meaning (Evaluation, Calling) for the frame and the calls that stand
--- there, the answer left at place sp, and what stands below as before. The limits are one number; the block that they name is not above the place.
+-- there, the answer left at place sp, and what stands below as before. The limits are one number.
+-- Here sp is a place of the stack; where the language's meaning is said (Evaluation, Calling, Answers) sp is the block, which the limits name.
 -- Not here: where all this stands (Stack).
 use Prim.Native.Nat.{ℕ, _+_, _-_, _*_, _≤_, _<_}
 use mathlib.Core.Path.{_≡_}

@@ -1,5 +1,5 @@
 // Running an expression: it calls its list walk, which calls it back, while the nesting left falls.
-// An expression is evaluated at a place sp of the stack, which stays as it is below sp, and at a block, which is no higher: blocks below it stay. Its value stands at
+// An expression is evaluated at a place sp of the stack, which stays as it is below sp, and at a block of its own count: blocks below it stay. Its value stands at
 // place sp, and is an older one or lies in that block. The nesting left, the calls that may be opened and the block are one number, the limits (specs/Limits).
 // The answer is the place after the expression, or 0 if the run stopped.
 use crate::call::eval_call;
