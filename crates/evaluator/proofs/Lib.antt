@@ -14,6 +14,7 @@ pub mod ListLaws
 pub mod CallLaws
 pub mod FitLaws
 pub mod StepLaws
+pub mod ChainLaws
 pub mod FrameLaws
 pub mod CallSteps
 pub mod SideSteps

@@ -165,6 +165,9 @@ module _ (W S : List ℕ) (lim sp : ℕ) (run : PartRunnable W S lim sp) where
   pub part-low : sp ≤ 275
   part-low = let r = run .room in omega arith
 
+  pub part-short : sp < 274
+  part-short = let r = run .room in omega arith
+
   pub run-inner : Runnable W S lim sp
   run-inner = record { based = run .based; placed = run .placed; fits = fits.fit-inner W (frameAt S) S (topOf S) (nestOf lim) (depthOf lim) (blockOf lim) (run .fits); room = let r = run .room in omega arith }
 

@@ -2,6 +2,7 @@ pub mod State
 pub mod Answers
 pub mod Stack
 pub mod Limits
+pub mod Chains
 pub mod Evaluation
 pub mod Calling
 pub mod Preset

@@ -3,6 +3,9 @@
 // place sp, and is an older one or lies in that block. The nesting left, the calls that may be opened and the block are one number, the limits (specs/Limits).
 // The answer is the place after the expression, or 0 if the run stopped.
 use crate::call::eval_call;
+use crate::fields::fields_at;
+use crate::fields::is_field;
+use crate::fields::select_at;
 use crate::frame::leaf;
 use crate::stack::STACK;
 use crate::stack::STUCK;
@@ -17,7 +20,6 @@ use classes::places::SIZE;
 use maker::make::make;
 use maker::over::make_bare;
 use values::refs::NOTHING;
-use values::refs::select_in;
 ghost use mathlib.Core.Path.{_≡_};
 ghost use Prim.Native.Nat.{ℕ, _+_, _*_, _<_, _≤_};
 ghost use lib.ListN.{length};
@@ -61,7 +63,12 @@ pub fn eval(
         Shape::This { next: _ } => leaf(t, st, at, sp),
         Shape::Result { next: _ } => leaf(t, st, at, sp),
         Shape::Parameter { k: _, next: _ } => leaf(t, st, at, sp),
-        Shape::Field { f: k, next } => eval_field(t, work, st, next, lim - 1, sp, k),
+        Shape::Field { f: k, next } => {
+            if is_field(t, next) {
+                return eval_chain(t, work, st, next, lim - 1, sp, k);
+            }
+            eval_field(t, work, st, next, lim - 1, sp, k)
+        }
         Shape::Call { m, n, next } => eval_call(t, work, st, next, lim - 1, sp, m, n),
         Shape::New { c, n, next } => {
             if is_preset(t, c, n) {
@@ -174,12 +181,38 @@ pub fn eval_field(
     let Went::On(at1) = w1 else {
         return 0;
     };
-    let r = select_in(work, st[sp], k);
-    if r == NOTHING {
-        return stop(st, STUCK);
+    select_at(work, st, sp, k, at1)
+}
+
+// The same where that expression is a field too: what the fields are selected of is evaluated, and they are selected one after another, from the innermost out.
+pub fn eval_chain(
+    t: &[u8; SIZE],
+    work: &mut [u8],
+    st: &mut [u32; STACK],
+    at: usize,
+    lim: usize,
+    sp: usize,
+    k: u8,
+) -> usize
+    requires { ⌜ PartRunnable (now work) (now st) lim sp × (at < 32768) ⌝ }
+    ensures { λ r. ⌜ FieldStep (now (t .entry)) (now (work .entry)) (now (st .entry)) at lim sp k (now (work .exit)) (now (st .exit)) r ⌝ }
+{
+    let d = fields_at(t, at, lim);
+    let r1 = eval_part(t, work, st, at + 2 * d, lim - d, sp);
+    let w1 = went_of(r1);
+    let Went::On(at1) = w1 else {
+        return 0;
+    };
+    let mut j = d;
+    while 0 < j {
+        j -= 1;
+        let r2 = select_at(work, st, sp, t[at + 2 * j + 1], at1);
+        let w2 = went_of(r2);
+        let Went::On(_at2) = w2 else {
+            return 0;
+        };
     }
-    st[sp] = r;
-    at1
+    select_at(work, st, sp, k, at1)
 }
 
 // The limits for what follows the value x: the next block, if x lies in this one.

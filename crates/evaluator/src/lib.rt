@@ -4,6 +4,7 @@ pub mod stack; // the stack of values, where the frame stands, the open calls
 pub mod frame; // frames
 pub mod met; // a call met again
 pub mod find; // the method that a call names
+pub mod fields; // fields of the value at a place of the stack
 pub mod eval; // running an expression
 pub mod call; // running a call
 pub mod run; // running main

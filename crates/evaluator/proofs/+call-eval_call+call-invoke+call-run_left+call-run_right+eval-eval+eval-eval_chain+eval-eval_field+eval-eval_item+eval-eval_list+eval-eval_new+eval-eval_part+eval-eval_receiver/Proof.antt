@@ -3,37 +3,40 @@ use borrow.Fn.Kinds.{In}
 use borrow.Fn.PlainCycle.{Measures, is, falls, and}
 use Rattle.evaluator.proofs.call.eval_call.Reads as call·eval-call
 use Rattle.evaluator.proofs.call.eval_call.Kinds as call·eval-call-kinds
-use Rattle.evaluator.proofs.+call-eval_call+call-invoke+call-run_left+call-run_right+eval-eval+eval-eval_field+eval-eval_item+eval-eval_list+eval-eval_new+eval-eval_part+eval-eval_receiver.Lts-call-eval_call as call·eval-call-lts
+use Rattle.evaluator.proofs.+call-eval_call+call-invoke+call-run_left+call-run_right+eval-eval+eval-eval_chain+eval-eval_field+eval-eval_item+eval-eval_list+eval-eval_new+eval-eval_part+eval-eval_receiver.Lts-call-eval_call as call·eval-call-lts
 use Rattle.evaluator.proofs.call.invoke.Reads as call·invoke
 use Rattle.evaluator.proofs.call.invoke.Kinds as call·invoke-kinds
-use Rattle.evaluator.proofs.+call-eval_call+call-invoke+call-run_left+call-run_right+eval-eval+eval-eval_field+eval-eval_item+eval-eval_list+eval-eval_new+eval-eval_part+eval-eval_receiver.Lts-call-invoke as call·invoke-lts
+use Rattle.evaluator.proofs.+call-eval_call+call-invoke+call-run_left+call-run_right+eval-eval+eval-eval_chain+eval-eval_field+eval-eval_item+eval-eval_list+eval-eval_new+eval-eval_part+eval-eval_receiver.Lts-call-invoke as call·invoke-lts
 use Rattle.evaluator.proofs.call.run_left.Reads as call·run-left
 use Rattle.evaluator.proofs.call.run_left.Kinds as call·run-left-kinds
-use Rattle.evaluator.proofs.+call-eval_call+call-invoke+call-run_left+call-run_right+eval-eval+eval-eval_field+eval-eval_item+eval-eval_list+eval-eval_new+eval-eval_part+eval-eval_receiver.Lts-call-run_left as call·run-left-lts
+use Rattle.evaluator.proofs.+call-eval_call+call-invoke+call-run_left+call-run_right+eval-eval+eval-eval_chain+eval-eval_field+eval-eval_item+eval-eval_list+eval-eval_new+eval-eval_part+eval-eval_receiver.Lts-call-run_left as call·run-left-lts
 use Rattle.evaluator.proofs.call.run_right.Reads as call·run-right
 use Rattle.evaluator.proofs.call.run_right.Kinds as call·run-right-kinds
-use Rattle.evaluator.proofs.+call-eval_call+call-invoke+call-run_left+call-run_right+eval-eval+eval-eval_field+eval-eval_item+eval-eval_list+eval-eval_new+eval-eval_part+eval-eval_receiver.Lts-call-run_right as call·run-right-lts
+use Rattle.evaluator.proofs.+call-eval_call+call-invoke+call-run_left+call-run_right+eval-eval+eval-eval_chain+eval-eval_field+eval-eval_item+eval-eval_list+eval-eval_new+eval-eval_part+eval-eval_receiver.Lts-call-run_right as call·run-right-lts
 use Rattle.evaluator.proofs.eval.eval.Reads as eval·eval
 use Rattle.evaluator.proofs.eval.eval.Kinds as eval·eval-kinds
-use Rattle.evaluator.proofs.+call-eval_call+call-invoke+call-run_left+call-run_right+eval-eval+eval-eval_field+eval-eval_item+eval-eval_list+eval-eval_new+eval-eval_part+eval-eval_receiver.Lts-eval-eval as eval·eval-lts
+use Rattle.evaluator.proofs.+call-eval_call+call-invoke+call-run_left+call-run_right+eval-eval+eval-eval_chain+eval-eval_field+eval-eval_item+eval-eval_list+eval-eval_new+eval-eval_part+eval-eval_receiver.Lts-eval-eval as eval·eval-lts
+use Rattle.evaluator.proofs.eval.eval_chain.Reads as eval·eval-chain
+use Rattle.evaluator.proofs.eval.eval_chain.Kinds as eval·eval-chain-kinds
+use Rattle.evaluator.proofs.+call-eval_call+call-invoke+call-run_left+call-run_right+eval-eval+eval-eval_chain+eval-eval_field+eval-eval_item+eval-eval_list+eval-eval_new+eval-eval_part+eval-eval_receiver.Lts-eval-eval_chain as eval·eval-chain-lts
 use Rattle.evaluator.proofs.eval.eval_field.Reads as eval·eval-field
 use Rattle.evaluator.proofs.eval.eval_field.Kinds as eval·eval-field-kinds
-use Rattle.evaluator.proofs.+call-eval_call+call-invoke+call-run_left+call-run_right+eval-eval+eval-eval_field+eval-eval_item+eval-eval_list+eval-eval_new+eval-eval_part+eval-eval_receiver.Lts-eval-eval_field as eval·eval-field-lts
+use Rattle.evaluator.proofs.+call-eval_call+call-invoke+call-run_left+call-run_right+eval-eval+eval-eval_chain+eval-eval_field+eval-eval_item+eval-eval_list+eval-eval_new+eval-eval_part+eval-eval_receiver.Lts-eval-eval_field as eval·eval-field-lts
 use Rattle.evaluator.proofs.eval.eval_item.Reads as eval·eval-item
 use Rattle.evaluator.proofs.eval.eval_item.Kinds as eval·eval-item-kinds
-use Rattle.evaluator.proofs.+call-eval_call+call-invoke+call-run_left+call-run_right+eval-eval+eval-eval_field+eval-eval_item+eval-eval_list+eval-eval_new+eval-eval_part+eval-eval_receiver.Lts-eval-eval_item as eval·eval-item-lts
+use Rattle.evaluator.proofs.+call-eval_call+call-invoke+call-run_left+call-run_right+eval-eval+eval-eval_chain+eval-eval_field+eval-eval_item+eval-eval_list+eval-eval_new+eval-eval_part+eval-eval_receiver.Lts-eval-eval_item as eval·eval-item-lts
 use Rattle.evaluator.proofs.eval.eval_list.Reads as eval·eval-list
 use Rattle.evaluator.proofs.eval.eval_list.Kinds as eval·eval-list-kinds
-use Rattle.evaluator.proofs.+call-eval_call+call-invoke+call-run_left+call-run_right+eval-eval+eval-eval_field+eval-eval_item+eval-eval_list+eval-eval_new+eval-eval_part+eval-eval_receiver.Lts-eval-eval_list as eval·eval-list-lts
+use Rattle.evaluator.proofs.+call-eval_call+call-invoke+call-run_left+call-run_right+eval-eval+eval-eval_chain+eval-eval_field+eval-eval_item+eval-eval_list+eval-eval_new+eval-eval_part+eval-eval_receiver.Lts-eval-eval_list as eval·eval-list-lts
 use Rattle.evaluator.proofs.eval.eval_new.Reads as eval·eval-new
 use Rattle.evaluator.proofs.eval.eval_new.Kinds as eval·eval-new-kinds
-use Rattle.evaluator.proofs.+call-eval_call+call-invoke+call-run_left+call-run_right+eval-eval+eval-eval_field+eval-eval_item+eval-eval_list+eval-eval_new+eval-eval_part+eval-eval_receiver.Lts-eval-eval_new as eval·eval-new-lts
+use Rattle.evaluator.proofs.+call-eval_call+call-invoke+call-run_left+call-run_right+eval-eval+eval-eval_chain+eval-eval_field+eval-eval_item+eval-eval_list+eval-eval_new+eval-eval_part+eval-eval_receiver.Lts-eval-eval_new as eval·eval-new-lts
 use Rattle.evaluator.proofs.eval.eval_part.Reads as eval·eval-part
 use Rattle.evaluator.proofs.eval.eval_part.Kinds as eval·eval-part-kinds
-use Rattle.evaluator.proofs.+call-eval_call+call-invoke+call-run_left+call-run_right+eval-eval+eval-eval_field+eval-eval_item+eval-eval_list+eval-eval_new+eval-eval_part+eval-eval_receiver.Lts-eval-eval_part as eval·eval-part-lts
+use Rattle.evaluator.proofs.+call-eval_call+call-invoke+call-run_left+call-run_right+eval-eval+eval-eval_chain+eval-eval_field+eval-eval_item+eval-eval_list+eval-eval_new+eval-eval_part+eval-eval_receiver.Lts-eval-eval_part as eval·eval-part-lts
 use Rattle.evaluator.proofs.eval.eval_receiver.Reads as eval·eval-receiver
 use Rattle.evaluator.proofs.eval.eval_receiver.Kinds as eval·eval-receiver-kinds
-use Rattle.evaluator.proofs.+call-eval_call+call-invoke+call-run_left+call-run_right+eval-eval+eval-eval_field+eval-eval_item+eval-eval_list+eval-eval_new+eval-eval_part+eval-eval_receiver.Lts-eval-eval_receiver as eval·eval-receiver-lts
+use Rattle.evaluator.proofs.+call-eval_call+call-invoke+call-run_left+call-run_right+eval-eval+eval-eval_chain+eval-eval_field+eval-eval_item+eval-eval_list+eval-eval_new+eval-eval_part+eval-eval_receiver.Lts-eval-eval_receiver as eval·eval-receiver-lts
 use Rattle.evaluator.proofs.call.body_limits.Reads as body-limits-reads
 use Rattle.evaluator.proofs.eval.is_preset.Reads as is-preset-reads
 use Rattle.evaluator.proofs.eval.past.Reads as past-reads
@@ -46,7 +49,9 @@ use Rattle.evaluator.proofs.find.find.Reads as find-reads
 use Rattle.evaluator.proofs.frame.enter.Reads as enter-reads
 use Rattle.evaluator.proofs.frame.leaf.Reads as leaf-reads
 use Rattle.evaluator.proofs.met.open_call.Reads as open-call-reads
-use Rattle.values.proofs.refs.select_in.Reads as select-in-reads
+use Rattle.evaluator.proofs.fields.fields_at.Reads as fields-at-reads
+use Rattle.evaluator.proofs.fields.is_field.Reads as is-field-reads
+use Rattle.evaluator.proofs.fields.select_at.Reads as select-at-reads
 use Rattle.values.proofs.refs.unpack.Reads as unpack-reads
 use Rattle.evaluator.proofs.stack.push.Reads as push-reads
 use Rattle.evaluator.proofs.stack.set_frame.Reads as set-frame-reads
@@ -54,10 +59,10 @@ use Rattle.evaluator.proofs.stack.stop.Reads as stop-reads
 use Rattle.evaluator.proofs.stack.went_of.Reads as went-of-reads
 use Rattle.values.proofs.value.bring_in.Reads as bring-in-reads
 use Rattle.values.proofs.value.close_in.Reads as close-in-reads
-use Rattle.evaluator.proofs.+call-eval_call+call-invoke+call-run_left+call-run_right+eval-eval+eval-eval_field+eval-eval_item+eval-eval_list+eval-eval_new+eval-eval_part+eval-eval_receiver.{
+use Rattle.evaluator.proofs.+call-eval_call+call-invoke+call-run_left+call-run_right+eval-eval+eval-eval_chain+eval-eval_field+eval-eval_item+eval-eval_list+eval-eval_new+eval-eval_part+eval-eval_receiver.{
   statement,
 }
-use Rattle.evaluator.proofs.+call-eval_call+call-invoke+call-run_left+call-run_right+eval-eval+eval-eval_field+eval-eval_item+eval-eval_list+eval-eval_new+eval-eval_part+eval-eval_receiver.Tie.{
+use Rattle.evaluator.proofs.+call-eval_call+call-invoke+call-run_left+call-run_right+eval-eval+eval-eval_chain+eval-eval_field+eval-eval_item+eval-eval_list+eval-eval_new+eval-eval_part+eval-eval_receiver.Tie.{
   close,
 }
 use native.Mathlib.Omega.{arith}
@@ -65,6 +70,7 @@ use borrow.Author.Needs.{needs}
 use mathlib.Core.List.{[]}
 use Rattle.evaluator.proofs.LimitLaws as limits
 use Rattle.evaluator.proofs.StepLaws as steps
+use Rattle.evaluator.proofs.ChainLaws as chains
 use Rattle.evaluator.proofs.CallSteps as calls
 use Rattle.evaluator.proofs.SideSteps as sides
 
@@ -82,6 +88,9 @@ abbrev μ-call·run-right : Measures 3 call·run-right-kinds.ps ℕ
 
 abbrev μ-eval·eval : Measures 3 eval·eval-kinds.ps ℕ
 μ-eval·eval κs a = (a .1 .1 .1 .1 .0) / 8 % 32 * 6000 + (a .1 .1 .1 .1 .0) % 8 * 600
+
+abbrev μ-eval·eval-chain : Measures 3 eval·eval-chain-kinds.ps ℕ
+μ-eval·eval-chain κs a = (a .1 .1 .1 .1 .0) / 8 % 32 * 6000 + (a .1 .1 .1 .1 .0) % 8 * 600 + 500
 
 abbrev μ-eval·eval-field : Measures 3 eval·eval-field-kinds.ps ℕ
 μ-eval·eval-field κs a = (a .1 .1 .1 .1 .0) / 8 % 32 * 6000 + (a .1 .1 .1 .1 .0) % 8 * 600 + 500
@@ -159,6 +168,22 @@ eval·eval-at t = and 3 eval·eval-kinds.ps (is 3 eval·eval-kinds.ps μ-eval·e
 abbrev eval·eval-below : ℕ → In 3 eval·eval-kinds.ps
 eval·eval-below t =
     and 3 eval·eval-kinds.ps (falls 3 eval·eval-kinds.ps _<_ μ-eval·eval t) eval·eval.Pre
+
+abbrev eval·eval-chain-at : ℕ → In 3 eval·eval-chain-kinds.ps
+eval·eval-chain-at t =
+    and
+    3
+    eval·eval-chain-kinds.ps
+    (is 3 eval·eval-chain-kinds.ps μ-eval·eval-chain t)
+    eval·eval-chain.Pre
+
+abbrev eval·eval-chain-below : ℕ → In 3 eval·eval-chain-kinds.ps
+eval·eval-chain-below t =
+    and
+    3
+    eval·eval-chain-kinds.ps
+    (falls 3 eval·eval-chain-kinds.ps _<_ μ-eval·eval-chain t)
+    eval·eval-chain.Pre
 
 abbrev eval·eval-field-at : ℕ → In 3 eval·eval-field-kinds.ps
 eval·eval-field-at t =
@@ -265,10 +290,13 @@ abbrev call·run-right-claims : ℕ → call·run-right-lts.Claims
 call·run-right-claims t = (enter-reads.Asked, enter-reads.Learnt, right-place-reads.Asked, right-place-reads.Learnt, body-limits-reads.Asked, body-limits-reads.Learnt, eval·eval-below t, eval·eval.Post, set-frame-reads.Asked, set-frame-reads.Learnt, went-of-reads.Asked, went-of-reads.Learnt, bring-in-reads.Asked, bring-in-reads.Learnt)
 
 abbrev eval·eval-claims : ℕ → eval·eval-lts.Claims
-eval·eval-claims t = (stop-reads.Asked, stop-reads.Learnt, shape-at-reads.Asked, shape-at-reads.Learnt, leaf-reads.Asked, leaf-reads.Learnt, eval·eval-field-below t, eval·eval-field.Post, call·eval-call-below t, call·eval-call.Post, is-preset-reads.Asked, is-preset-reads.Learnt, eval·eval-new-below t, eval·eval-new.Post)
+eval·eval-claims t = (stop-reads.Asked, stop-reads.Learnt, shape-at-reads.Asked, shape-at-reads.Learnt, leaf-reads.Asked, leaf-reads.Learnt, is-field-reads.Asked, is-field-reads.Learnt, eval·eval-chain-below t, eval·eval-chain.Post, eval·eval-field-below t, eval·eval-field.Post, call·eval-call-below t, call·eval-call.Post, is-preset-reads.Asked, is-preset-reads.Learnt, eval·eval-new-below t, eval·eval-new.Post)
+
+abbrev eval·eval-chain-claims : ℕ → eval·eval-chain-lts.Claims
+eval·eval-chain-claims t = (fields-at-reads.Asked, fields-at-reads.Learnt, eval·eval-part-below t, eval·eval-part.Post, went-of-reads.Asked, went-of-reads.Learnt, select-at-reads.Asked, select-at-reads.Learnt)
 
 abbrev eval·eval-field-claims : ℕ → eval·eval-field-lts.Claims
-eval·eval-field-claims t = (eval·eval-part-below t, eval·eval-part.Post, went-of-reads.Asked, went-of-reads.Learnt, select-in-reads.Asked, select-in-reads.Learnt, stop-reads.Asked, stop-reads.Learnt)
+eval·eval-field-claims t = (eval·eval-part-below t, eval·eval-part.Post, went-of-reads.Asked, went-of-reads.Learnt, select-at-reads.Asked, select-at-reads.Learnt)
 
 abbrev eval·eval-item-claims : ℕ → eval·eval-item-lts.Claims
 eval·eval-item-claims t = (stop-reads.Asked, stop-reads.Learnt, shape-at-reads.Asked, shape-at-reads.Learnt, leaf-reads.Asked, leaf-reads.Learnt, eval·eval-field-below t, eval·eval-field.Post, is-preset-reads.Asked, is-preset-reads.Learnt, eval·eval-new-below t, eval·eval-new.Post, eval·eval-below t, eval·eval.Post)
@@ -423,6 +451,12 @@ eval·eval-leaf-requires-2 t c κs = (search steps.run-full, search steps.run-sh
 eval·eval-leaf-requires-3 : (t : ℕ) → eval·eval-lts.Need-leaf-requires-3 (eval·eval-claims t) (eval·eval-at t) eval·eval.Post
 eval·eval-leaf-requires-3 t c κs = (search steps.run-full, search steps.run-short, search steps.run-framed)
 
+eval·eval-eval-chain-requires : (t : ℕ) → eval·eval-lts.Need-eval-chain-requires (eval·eval-claims t) (eval·eval-at t) eval·eval.Post
+eval·eval-eval-chain-requires t c κs = (search limits.inner-falls, (search steps.run-part, search chains.field-near))
+
+eval·eval-returns-2 : (t : ℕ) → eval·eval-lts.Need-returns-2 (eval·eval-claims t) (eval·eval-at t) eval·eval.Post
+eval·eval-returns-2 t c = search steps.step-field
+
 eval·eval-eval-field-requires : (t : ℕ) → eval·eval-lts.Need-eval-field-requires (eval·eval-claims t) (eval·eval-at t) eval·eval.Post
 eval·eval-eval-field-requires t c κs = (search limits.inner-falls, search steps.run-part)
 
@@ -441,29 +475,80 @@ eval·eval-mul-st t c = search (needs, steps.run-short _ _ _ _ (c .before .befor
 eval·eval-element-write-st : (t : ℕ) → eval·eval-lts.Need-element-write-st (eval·eval-claims t) (eval·eval-at t) eval·eval.Post
 eval·eval-element-write-st t c = search (needs, steps.run-short _ _ _ _ (c .before .before .before .before .before .before .before .before .pre .1) (c .before .before .before .before .before .before .if1 .left))
 
-eval·eval-returns-2 : (t : ℕ) → eval·eval-lts.Need-returns-2 (eval·eval-claims t) (eval·eval-at t) eval·eval.Post
-eval·eval-returns-2 t c = search steps.step-preset
-
 eval·eval-returns-3 : (t : ℕ) → eval·eval-lts.Need-returns-3 (eval·eval-claims t) (eval·eval-at t) eval·eval.Post
-eval·eval-returns-3 t c = search steps.step-this
+eval·eval-returns-3 t c = search steps.step-preset
 
 eval·eval-returns-4 : (t : ℕ) → eval·eval-lts.Need-returns-4 (eval·eval-claims t) (eval·eval-at t) eval·eval.Post
-eval·eval-returns-4 t c = search steps.step-result
+eval·eval-returns-4 t c = search steps.step-this
 
 eval·eval-returns-5 : (t : ℕ) → eval·eval-lts.Need-returns-5 (eval·eval-claims t) (eval·eval-at t) eval·eval.Post
-eval·eval-returns-5 t c = search steps.step-parameter
+eval·eval-returns-5 t c = search steps.step-result
 
 eval·eval-returns-6 : (t : ℕ) → eval·eval-lts.Need-returns-6 (eval·eval-claims t) (eval·eval-at t) eval·eval.Post
-eval·eval-returns-6 t c = search steps.step-field
+eval·eval-returns-6 t c = search steps.step-parameter
 
 eval·eval-returns-7 : (t : ℕ) → eval·eval-lts.Need-returns-7 (eval·eval-claims t) (eval·eval-at t) eval·eval.Post
-eval·eval-returns-7 t c = search steps.step-call
+eval·eval-returns-7 t c = search steps.step-field
 
 eval·eval-returns-8 : (t : ℕ) → eval·eval-lts.Need-returns-8 (eval·eval-claims t) (eval·eval-at t) eval·eval.Post
-eval·eval-returns-8 t c = search steps.step-new
+eval·eval-returns-8 t c = search steps.step-call
 
 eval·eval-returns-9 : (t : ℕ) → eval·eval-lts.Need-returns-9 (eval·eval-claims t) (eval·eval-at t) eval·eval.Post
-eval·eval-returns-9 t c = search steps.step-nothing
+eval·eval-returns-9 t c = search steps.step-new
+
+eval·eval-returns-10 : (t : ℕ) → eval·eval-lts.Need-returns-10 (eval·eval-claims t) (eval·eval-at t) eval·eval.Post
+eval·eval-returns-10 t c = search steps.step-nothing
+
+abbrev eval·eval-chain-Inv-loop : eval·eval-chain-lts.InvT-loop
+eval·eval-chain-Inv-loop T W1 S1 at lim sp k d r1 at1 j₀ S2 j = chains.Down T W1 S1 at lim sp d at1 S2 j
+
+abbrev eval·eval-chain-μ-loop : eval·eval-chain-lts.MeasureT-loop
+eval·eval-chain-μ-loop T W1 S1 at lim sp k d r1 at1 j₀ S2 j = j
+
+eval·eval-chain-mul-eval-part : (t : ℕ) → eval·eval-chain-lts.Need-mul-eval-part (eval·eval-chain-claims t) (eval·eval-chain-at t) eval·eval-chain.Post eval·eval-chain-Inv-loop eval·eval-chain-μ-loop
+eval·eval-chain-mul-eval-part t c = search (needs, chains.chain-small _ _ _ _ (c .before .before .fields-at .ensures))
+
+eval·eval-chain-add-eval-part : (t : ℕ) → eval·eval-chain-lts.Need-add-eval-part (eval·eval-chain-claims t) (eval·eval-chain-at t) eval·eval-chain.Post eval·eval-chain-Inv-loop eval·eval-chain-μ-loop
+eval·eval-chain-add-eval-part t c = search (needs, chains.chain-small _ _ _ _ (c .before .before .fields-at .ensures))
+
+eval·eval-chain-sub-eval-part : (t : ℕ) → eval·eval-chain-lts.Need-sub-eval-part (eval·eval-chain-claims t) (eval·eval-chain-at t) eval·eval-chain.Post eval·eval-chain-Inv-loop eval·eval-chain-μ-loop
+eval·eval-chain-sub-eval-part t c = search (needs, chains.chain-low _ _ _ _ (c .before .before .fields-at .ensures))
+
+eval·eval-chain-eval-part-requires : (t : ℕ) → eval·eval-chain-lts.Need-eval-part-requires (eval·eval-chain-claims t) (eval·eval-chain-at t) eval·eval-chain.Post eval·eval-chain-Inv-loop eval·eval-chain-μ-loop
+eval·eval-chain-eval-part-requires t c κs = (chains.chain-falls _ _ (chains.chain-nest _ _ _ _ (c .before .before .fields-at .ensures)) _ (c .before .before .before .before .pre .0), chains.less-run _ _ (chains.chain-nest _ _ _ _ (c .before .before .fields-at .ensures)) _ _ _ (c .before .before .before .before .pre .1 .0))
+
+eval·eval-chain-returns : (t : ℕ) → eval·eval-chain-lts.Need-returns (eval·eval-chain-claims t) (eval·eval-chain-at t) eval·eval-chain.Post eval·eval-chain-Inv-loop eval·eval-chain-μ-loop
+eval·eval-chain-returns t c = chains.chain-stops _ _ _ _ _ _ _ (c .before .before .before .before .before .before .before .before .before .before .pre .1 .0) (c .before .before .before .before .before .before .before .before .fields-at .ensures) _ _ (search needs) _ _ _ (c .before .before .before .before .before .eval-part .ensures) (steps.went-stopped _ _ (c .before .before .went-of .ensures) (c .enum-told .given .1))
+
+eval·eval-chain-loop-holds : (t : ℕ) → eval·eval-chain-lts.Need-loop-holds (eval·eval-chain-claims t) (eval·eval-chain-at t) eval·eval-chain.Post eval·eval-chain-Inv-loop eval·eval-chain-μ-loop
+eval·eval-chain-loop-holds t c = chains.down-all _ _ _ _ _ _ _ _
+
+eval·eval-chain-mul-select-at : (t : ℕ) → eval·eval-chain-lts.Need-mul-select-at (eval·eval-chain-claims t) (eval·eval-chain-at t) eval·eval-chain.Post eval·eval-chain-Inv-loop eval·eval-chain-μ-loop
+eval·eval-chain-mul-select-at t c = search (needs, chains.chain-small _ _ _ _ (c .before .before .before .before .before .before .before .before .before .before .before .before .before .fields-at .ensures), (c .before .before .before .loop .inv) .few)
+
+eval·eval-chain-add-select-at : (t : ℕ) → eval·eval-chain-lts.Need-add-select-at (eval·eval-chain-claims t) (eval·eval-chain-at t) eval·eval-chain.Post eval·eval-chain-Inv-loop eval·eval-chain-μ-loop
+eval·eval-chain-add-select-at t c = search (needs, chains.chain-small _ _ _ _ (c .before .before .before .before .before .before .before .before .before .before .before .before .before .fields-at .ensures), (c .before .before .before .loop .inv) .few)
+
+eval·eval-chain-add-select-at-2 : (t : ℕ) → eval·eval-chain-lts.Need-add-select-at-2 (eval·eval-chain-claims t) (eval·eval-chain-at t) eval·eval-chain.Post eval·eval-chain-Inv-loop eval·eval-chain-μ-loop
+eval·eval-chain-add-select-at-2 t c = search (needs, chains.chain-small _ _ _ _ (c .before .before .before .before .before .before .before .before .before .before .before .before .before .fields-at .ensures), (c .before .before .before .loop .inv) .few)
+
+eval·eval-chain-element-copy-out-select-at : (t : ℕ) → eval·eval-chain-lts.Need-element-copy-out-select-at (eval·eval-chain-claims t) (eval·eval-chain-at t) eval·eval-chain.Post eval·eval-chain-Inv-loop eval·eval-chain-μ-loop
+eval·eval-chain-element-copy-out-select-at t c = chains.down-index _ _ _ _ _ _ _ _ (c .before .before .before .before .before .before .before .before .before .before .before .before .before .fields-at .ensures) (steps.went-on _ _ (c .before .before .before .before .before .before .before .went-of .ensures) _ (c .before .before .before .before .before .w1 .given .1)) _ _ (c .before .before .before .loop .inv) (c .before .before .loop-test .taken)
+
+eval·eval-chain-select-at-requires : (t : ℕ) → eval·eval-chain-lts.Need-select-at-requires (eval·eval-chain-claims t) (eval·eval-chain-at t) eval·eval-chain.Post eval·eval-chain-Inv-loop eval·eval-chain-μ-loop
+eval·eval-chain-select-at-requires t c κs = (chains.down-full _ _ _ _ _ _ _ _ (c .before .before .before .before .before .before .before .before .before .before .before .before .before .before .fields-at .ensures) (steps.went-on _ _ (c .before .before .before .before .before .before .before .before .went-of .ensures) _ (c .before .before .before .before .before .before .w1 .given .1)) _ _ (c .before .before .before .before .loop .inv) _ _ (c .before .before .before .before .before .before .before .before .before .before .before .before .before .before .before .before .pre .1 .0) (steps.eval-went _ _ (c .before .before .before .before .before .before .before .before .went-of .ensures) _ (c .before .before .before .before .before .before .w1 .given .1) _ _ _ _ _ _ _ _ (c .before .before .before .before .before .before .before .before .before .before .before .eval-part .ensures)), search steps.part-short, chains.down-held _ _ _ _ _ _ _ _ (c .before .before .before .before .before .before .before .before .before .before .before .before .before .before .fields-at .ensures) (steps.went-on _ _ (c .before .before .before .before .before .before .before .before .went-of .ensures) _ (c .before .before .before .before .before .before .w1 .given .1)) _ _ (c .before .before .before .before .loop .inv) _ _ (c .before .before .before .before .before .before .before .before .before .before .before .before .before .before .before .before .pre .1 .0) (steps.eval-went _ _ (c .before .before .before .before .before .before .before .before .went-of .ensures) _ (c .before .before .before .before .before .before .w1 .given .1) _ _ _ _ _ _ _ _ (c .before .before .before .before .before .before .before .before .before .before .before .eval-part .ensures)))
+
+eval·eval-chain-loop-again : (t : ℕ) → eval·eval-chain-lts.Need-loop-again (eval·eval-chain-claims t) (eval·eval-chain-at t) eval·eval-chain.Post eval·eval-chain-Inv-loop eval·eval-chain-μ-loop
+eval·eval-chain-loop-again t c = chains.down-again _ _ _ _ _ _ _ _ (c .before .before .before .before .before .before .before .before .before .before .before .before .before .before .before .before .before .before .before .fields-at .ensures) (steps.went-on _ _ (c .before .before .before .before .before .before .before .before .before .before .before .before .before .went-of .ensures) _ (c .before .before .before .before .before .before .before .before .before .before .before .w1 .given .1)) _ _ (c .before .before .before .before .before .before .before .before .before .loop .inv) (c .before .before .before .before .before .before .before .before .loop-test .taken) _ _ (c .before .before .before .before .select-at .ensures) (steps.went-not _ _ (c .before .before .before .went-of2 .ensures) _ (c .before .w2 .given .1))
+
+eval·eval-chain-returns-2 : (t : ℕ) → eval·eval-chain-lts.Need-returns-2 (eval·eval-chain-claims t) (eval·eval-chain-at t) eval·eval-chain.Post eval·eval-chain-Inv-loop eval·eval-chain-μ-loop
+eval·eval-chain-returns-2 t c = chains.down-stops _ _ _ _ _ _ _ _ (c .before .before .before .before .before .before .before .before .before .before .before .before .before .before .before .before .before .before .fields-at .ensures) (steps.went-on _ _ (c .before .before .before .before .before .before .before .before .before .before .before .before .went-of .ensures) _ (c .before .before .before .before .before .before .before .before .before .before .w1 .given .1)) _ _ (c .before .before .before .before .before .before .before .before .loop .inv) (c .before .before .before .before .before .before .before .loop-test .taken) _ _ (c .before .before .before .select-at .ensures) _ _ (c .before .before .before .before .before .before .before .before .before .before .before .before .before .before .before .before .before .before .before .before .pre .1 .0) (steps.eval-went _ _ (c .before .before .before .before .before .before .before .before .before .before .before .before .went-of .ensures) _ (c .before .before .before .before .before .before .before .before .before .before .w1 .given .1) _ _ _ _ _ _ _ _ (c .before .before .before .before .before .before .before .before .before .before .before .before .before .before .before .eval-part .ensures)) _ (steps.went-stopped _ _ (c .before .before .went-of2 .ensures) (c .enum-told2 .given .1))
+
+eval·eval-chain-select-at-requires-2 : (t : ℕ) → eval·eval-chain-lts.Need-select-at-requires-2 (eval·eval-chain-claims t) (eval·eval-chain-at t) eval·eval-chain.Post eval·eval-chain-Inv-loop eval·eval-chain-μ-loop
+eval·eval-chain-select-at-requires-2 t c κs = (chains.down-full _ _ _ _ _ _ _ _ (c .before .before .before .before .before .before .before .before .before .before .before .before .before .fields-at .ensures) (steps.went-on _ _ (c .before .before .before .before .before .before .before .went-of .ensures) _ (c .before .before .before .before .before .w1 .given .1)) _ _ (c .before .before .before .loop .inv) _ _ (c .before .before .before .before .before .before .before .before .before .before .before .before .before .before .before .pre .1 .0) (steps.eval-went _ _ (c .before .before .before .before .before .before .before .went-of .ensures) _ (c .before .before .before .before .before .w1 .given .1) _ _ _ _ _ _ _ _ (c .before .before .before .before .before .before .before .before .before .before .eval-part .ensures)), search steps.part-short, chains.down-held _ _ _ _ _ _ _ _ (c .before .before .before .before .before .before .before .before .before .before .before .before .before .fields-at .ensures) (steps.went-on _ _ (c .before .before .before .before .before .before .before .went-of .ensures) _ (c .before .before .before .before .before .w1 .given .1)) _ _ (c .before .before .before .loop .inv) _ _ (c .before .before .before .before .before .before .before .before .before .before .before .before .before .before .before .pre .1 .0) (steps.eval-went _ _ (c .before .before .before .before .before .before .before .went-of .ensures) _ (c .before .before .before .before .before .w1 .given .1) _ _ _ _ _ _ _ _ (c .before .before .before .before .before .before .before .before .before .before .eval-part .ensures)))
+
+eval·eval-chain-returns-3 : (t : ℕ) → eval·eval-chain-lts.Need-returns-3 (eval·eval-chain-claims t) (eval·eval-chain-at t) eval·eval-chain.Post eval·eval-chain-Inv-loop eval·eval-chain-μ-loop
+eval·eval-chain-returns-3 t c = chains.down-last _ _ _ _ _ _ _ _ (c .before .before .before .before .before .before .before .before .before .before .before .before .before .before .fields-at .ensures) (steps.went-on _ _ (c .before .before .before .before .before .before .before .before .went-of .ensures) _ (c .before .before .before .before .before .before .w1 .given .1)) _ _ (c .before .before .before .before .loop .inv) _ _ (c .before .before .before .before .before .before .before .before .before .before .before .before .before .before .before .before .pre .1 .0) (steps.eval-went _ _ (c .before .before .before .before .before .before .before .before .went-of .ensures) _ (c .before .before .before .before .before .before .w1 .given .1) _ _ _ _ _ _ _ _ (c .before .before .before .before .before .before .before .before .before .before .before .eval-part .ensures)) (c .before .before .before .loop-test .left) _ _ _ (c .select-at2 .ensures)
 
 eval·eval-field-eval-part-requires : (t : ℕ) → eval·eval-field-lts.Need-eval-part-requires (eval·eval-field-claims t) (eval·eval-field-at t) eval·eval-field.Post
 eval·eval-field-eval-part-requires t c κs = (search needs, search steps.run-inner)
@@ -471,17 +556,11 @@ eval·eval-field-eval-part-requires t c κs = (search needs, search steps.run-in
 eval·eval-field-returns : (t : ℕ) → eval·eval-field-lts.Need-returns (eval·eval-field-claims t) (eval·eval-field-at t) eval·eval-field.Post
 eval·eval-field-returns t c = steps.field-stops _ _ _ _ _ _ _ _ _ (c .before .before .before .before .before .eval-part .ensures) (c .before .before .before .before .before .before .before .before .before .pre .1) _ (steps.went-stopped _ _ (c .before .before .went-of .ensures) (c .enum-told .given .1))
 
-eval·eval-field-select-in-requires : (t : ℕ) → eval·eval-field-lts.Need-select-in-requires (eval·eval-field-claims t) (eval·eval-field-at t) eval·eval-field.Post
-eval·eval-field-select-in-requires t c κs = steps.value-held _ _ _ _ _ _ _ _ _ (steps.eval-went _ _ (c .before .before .before .before .before .went-of .ensures) _ (c .before .before .before .w1 .given .1) _ _ _ _ _ _ _ _ (c .before .before .before .before .before .before .before .before .eval-part .ensures)) (c .before .before .before .before .before .before .before .before .before .before .before .before .pre .1) (steps.went-on _ _ (c .before .before .before .before .before .went-of .ensures) _ (c .before .before .before .w1 .given .1))
-
-eval·eval-field-stop-requires : (t : ℕ) → eval·eval-field-lts.Need-stop-requires (eval·eval-field-claims t) (eval·eval-field-at t) eval·eval-field.Post
-eval·eval-field-stop-requires t c κs = steps.full-after _ _ _ _ _ _ _ _ _ (c .before .before .before .before .before .before .before .before .before .before .before .eval-part .ensures) (c .before .before .before .before .before .before .before .before .before .before .before .before .before .before .before .pre .1)
+eval·eval-field-select-at-requires : (t : ℕ) → eval·eval-field-lts.Need-select-at-requires (eval·eval-field-claims t) (eval·eval-field-at t) eval·eval-field.Post
+eval·eval-field-select-at-requires t c κs = (steps.full-after _ _ _ _ _ _ _ _ _ (steps.eval-went _ _ (c .before .before .before .before .before .went-of .ensures) _ (c .before .before .before .w1 .given .1) _ _ _ _ _ _ _ _ (c .before .before .before .before .before .before .before .before .eval-part .ensures)) (c .before .before .before .before .before .before .before .before .before .before .before .before .pre .1), search steps.part-short, steps.value-held _ _ _ _ _ _ _ _ _ (steps.eval-went _ _ (c .before .before .before .before .before .went-of .ensures) _ (c .before .before .before .w1 .given .1) _ _ _ _ _ _ _ _ (c .before .before .before .before .before .before .before .before .eval-part .ensures)) (c .before .before .before .before .before .before .before .before .before .before .before .before .pre .1) (steps.went-on _ _ (c .before .before .before .before .before .went-of .ensures) _ (c .before .before .before .w1 .given .1)))
 
 eval·eval-field-returns-2 : (t : ℕ) → eval·eval-field-lts.Need-returns-2 (eval·eval-field-claims t) (eval·eval-field-at t) eval·eval-field.Post
-eval·eval-field-returns-2 t c = steps.field-lacks _ _ _ _ _ _ _ _ _ (steps.eval-went _ _ (c .before .before .before .before .before .before .before .before .before .went-of .ensures) _ (c .before .before .before .before .before .before .before .w1 .given .1) _ _ _ _ _ _ _ _ (c .before .before .before .before .before .before .before .before .before .before .before .before .eval-part .ensures)) (c .before .before .before .before .before .before .before .before .before .before .before .before .before .before .before .before .pre .1) _ _ (steps.went-on _ _ (c .before .before .before .before .before .before .before .before .before .went-of .ensures) _ (c .before .before .before .before .before .before .before .w1 .given .1)) (c .before .before .before .select-in .ensures) (c .before .before .if1 .taken) _ _ (c .stop .ensures)
-
-eval·eval-field-returns-3 : (t : ℕ) → eval·eval-field-lts.Need-returns-3 (eval·eval-field-claims t) (eval·eval-field-at t) eval·eval-field.Post
-eval·eval-field-returns-3 t c = steps.field-has _ _ _ _ _ _ _ _ _ (steps.eval-went _ _ (c .before .before .before .before .before .before .before .went-of .ensures) _ (c .before .before .before .before .before .w1 .given .1) _ _ _ _ _ _ _ _ (c .before .before .before .before .before .before .before .before .before .before .eval-part .ensures)) (c .before .before .before .before .before .before .before .before .before .before .before .before .before .before .pre .1) _ _ (steps.went-on _ _ (c .before .before .before .before .before .before .before .went-of .ensures) _ (c .before .before .before .before .before .w1 .given .1)) (c .before .select-in .ensures) (c .if1 .left)
+eval·eval-field-returns-2 t c = chains.selects-field _ _ _ _ _ _ _ _ _ (steps.eval-went _ _ (c .before .before .before .before .before .before .went-of .ensures) _ (c .before .before .before .before .w1 .given .1) _ _ _ _ _ _ _ _ (c .before .before .before .before .before .before .before .before .before .eval-part .ensures)) (c .before .before .before .before .before .before .before .before .before .before .before .before .before .pre .1) (steps.went-on _ _ (c .before .before .before .before .before .before .went-of .ensures) _ (c .before .before .before .before .w1 .given .1)) _ _ _ (c .select-at .ensures)
 
 eval·eval-item-stop-requires : (t : ℕ) → eval·eval-item-lts.Need-stop-requires (eval·eval-item-claims t) (eval·eval-item-at t) eval·eval-item.Post
 eval·eval-item-stop-requires t c κs = search steps.run-full
@@ -654,9 +733,9 @@ eval·eval-receiver-returns-4 t c = search steps.step-parameter
 eval·eval-receiver-returns-5 : (t : ℕ) → eval·eval-receiver-lts.Need-returns-5 (eval·eval-receiver-claims t) (eval·eval-receiver-at t) eval·eval-receiver.Post
 eval·eval-receiver-returns-5 t c = search steps.step-field
 
-pub +call·eval-call+call·invoke+call·run-left+call·run-right+eval·eval+eval·eval-field+eval·eval-item+eval·eval-list+eval·eval-new+eval·eval-part+eval·eval-receiver-spec : {M : Type 1} → statement M
-+call·eval-call+call·invoke+call·run-left+call·run-right+eval·eval+eval·eval-field+eval·eval-item+eval·eval-list+eval·eval-new+eval·eval-part+eval·eval-receiver-spec =
-    close μ-call·eval-call μ-call·invoke μ-call·run-left μ-call·run-right μ-eval·eval μ-eval·eval-field μ-eval·eval-item μ-eval·eval-list μ-eval·eval-new μ-eval·eval-part μ-eval·eval-receiver
+pub +call·eval-call+call·invoke+call·run-left+call·run-right+eval·eval+eval·eval-chain+eval·eval-field+eval·eval-item+eval·eval-list+eval·eval-new+eval·eval-part+eval·eval-receiver-spec : {M : Type 1} → statement M
++call·eval-call+call·invoke+call·run-left+call·run-right+eval·eval+eval·eval-chain+eval·eval-field+eval·eval-item+eval·eval-list+eval·eval-new+eval·eval-part+eval·eval-receiver-spec =
+    close μ-call·eval-call μ-call·invoke μ-call·run-left μ-call·run-right μ-eval·eval μ-eval·eval-chain μ-eval·eval-field μ-eval·eval-item μ-eval·eval-list μ-eval·eval-new μ-eval·eval-part μ-eval·eval-receiver
     (λ t. call·eval-call-lts.spec (call·eval-call-claims t) (call·eval-call-at t) call·eval-call.Post
     (call·eval-call-stop-requires t)
     (call·eval-call-returns t)
@@ -770,6 +849,11 @@ pub +call·eval-call+call·invoke+call·run-left+call·run-right+eval·eval+eval
     (λ c. search needs)
     (eval·eval-leaf-requires-3 t)
     (λ c. search needs)
+    (λ c κs. search needs)
+    (λ c. search needs)
+    (eval·eval-eval-chain-requires t)
+    (λ c. search needs)
+    (eval·eval-returns-2 t)
     (λ c. search needs)
     (eval·eval-eval-field-requires t)
     (λ c. search needs)
@@ -780,21 +864,49 @@ pub +call·eval-call+call·invoke+call·run-left+call·run-right+eval·eval+eval
     (λ c. search needs)
     (eval·eval-mul-st t)
     (eval·eval-element-write-st t)
-    (eval·eval-returns-2 t)
+    (eval·eval-returns-3 t)
     (λ c. search needs)
     (eval·eval-eval-new-requires t)
     (λ c. search needs)
     (eval·eval-stop-requires-2 t)
-    (eval·eval-returns-3 t)
     (eval·eval-returns-4 t)
     (eval·eval-returns-5 t)
-    (λ c. search needs)
     (eval·eval-returns-6 t)
     (λ c. search needs)
     (eval·eval-returns-7 t)
     (λ c. search needs)
     (eval·eval-returns-8 t)
-    (eval·eval-returns-9 t))
+    (λ c. search needs)
+    (eval·eval-returns-9 t)
+    (eval·eval-returns-10 t))
+    (λ t. eval·eval-chain-lts.spec (eval·eval-chain-claims t) (eval·eval-chain-at t) eval·eval-chain.Post eval·eval-chain-Inv-loop eval·eval-chain-μ-loop
+    (λ c κs. search needs)
+    (eval·eval-chain-mul-eval-part t)
+    (eval·eval-chain-add-eval-part t)
+    (eval·eval-chain-sub-eval-part t)
+    (eval·eval-chain-eval-part-requires t)
+    (λ c κs. search needs)
+    (λ c. search needs)
+    (λ c. search needs)
+    (λ c. search needs)
+    (eval·eval-chain-returns t)
+    (eval·eval-chain-loop-holds t)
+    (λ c. search needs)
+    (eval·eval-chain-mul-select-at t)
+    (eval·eval-chain-add-select-at t)
+    (eval·eval-chain-add-select-at-2 t)
+    (eval·eval-chain-element-copy-out-select-at t)
+    (eval·eval-chain-select-at-requires t)
+    (λ c κs. search needs)
+    (λ c. search needs)
+    (λ c. search needs)
+    (eval·eval-chain-loop-again t)
+    (λ c. search needs)
+    (λ c. search needs)
+    (eval·eval-chain-returns-2 t)
+    (eval·eval-chain-select-at-requires-2 t)
+    (λ c. search needs)
+    (eval·eval-chain-returns-3 t))
     (λ t. eval·eval-field-lts.spec (eval·eval-field-claims t) (eval·eval-field-at t) eval·eval-field.Post
     (eval·eval-field-eval-part-requires t)
     (λ c κs. search needs)
@@ -802,16 +914,9 @@ pub +call·eval-call+call·invoke+call·run-left+call·run-right+eval·eval+eval
     (λ c. search needs)
     (λ c. search needs)
     (eval·eval-field-returns t)
+    (eval·eval-field-select-at-requires t)
     (λ c. search needs)
-    (λ c. search needs)
-    (eval·eval-field-select-in-requires t)
-    (eval·eval-field-stop-requires t)
-    (λ c. search needs)
-    (eval·eval-field-returns-2 t)
-    (λ c. search needs)
-    (λ c. search needs)
-    (λ c. search needs)
-    (eval·eval-field-returns-3 t))
+    (eval·eval-field-returns-2 t))
     (λ t. eval·eval-item-lts.spec (eval·eval-item-claims t) (eval·eval-item-at t) eval·eval-item.Post
     (eval·eval-item-stop-requires t)
     (eval·eval-item-returns t)
