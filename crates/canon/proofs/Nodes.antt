@@ -3,17 +3,18 @@ use Prim.Native.Nat.{ℕ, zero, suc, _+_, _-_, _*_, _/_, _%_, _<_, _≤_}
 use native.Mathlib.Nat.{not-suc-le-zero, le-of-suc-le-suc}
 use native.Mathlib.Omega.{arith}
 use native.Mathlib.Decide.{decLt, ℕ-discrete}
-use mathlib.Core.Path.{_≡_, refl, sym, ap, ap₂, _∙_}
+use mathlib.Core.Path.{_≡_, refl, sym, ap, ap₂, _∙_, subst}
 use mathlib.Core.Bool.{Bool, true, false, cond, false≢true}
 use mathlib.Core.List.{List, [], _∷_, _++_}
 use mathlib.Core.Option.{some, Option·none-ne-some}
 use lib.Dec.{eqb}
-use lib.ListN.{length, getD, take, drop, getElem?, length-take, length-drop, List·getD-eq-default}
-use lib.Seq.{getD-take, getD-drop, length-take-le, ext-getD}
+use lib.ListN.{length, getD, set, take, drop, getElem?, length-set, length-take, length-drop, List·getD-eq-default}
+use lib.Seq.{getD-set-same, getD-set-other, getD-take, getD-drop, length-take-le, ext-getD}
 use borrow.Author.Tests.{lt-ltb, le-ltb, eq-eqb, ne-eqb, eqb-true}
-use Rattle.cofj.specs.Values.{Ref, obj, mark, undet, Node, nodeAt, eqNats, eqNode}
+use Rattle.cofj.specs.Values.{Ref, obj, mark, undet, Node, graph, nodeAt, refsAt, eqNats, eqNode}
+use Rattle.cofj.specs.Unfolding.{InRange, Whole}
 use Rattle.cofj.proofs.Basics.{eqNats-true, eqNode-true, eqNode-refl}
-use Rattle.canon.specs.Layout.{refOf, codeOf, nodeIn, nodesIn, Packed, Alike, alikeAt, part}
+use Rattle.canon.specs.Layout.{refOf, codeOf, nodeIn, nodesIn, Packed, Alike, alikeAt, part, countIn, levelIn, reachIn, ended}
 use Rattle.canon.specs.Tables.{Four, Two}
 use Rattle.canon.proofs.Runs.{eqNats-same, tests-same}
 
@@ -41,6 +42,11 @@ code-ref b = go (decLt b 192) (ℕ-discrete b 192)
     go (no h) (no e) =
         let z : 193 + (b - 193) ≡ b = omega (arith, h, e) in
         ap (λ (x : ℕ). codeOf (refOf x)) (sym z) ∙ ap codeOf (ref-mark (b - 193)) ∙ z
+
+pub object-low : (n : ℕ) (r : Ref) → InRange n r → codeOf r < 192 → codeOf r < n
+object-low n (obj i) l h = l
+object-low n (mark k) l h = absurd (omega arith)
+object-low n undet l h = absurd (omega arith)
 
 -- ---- a reference of a list, if there is one
 pub some-at : (rs : List Ref) (f : ℕ) → f < length rs → getElem? rs f ≡ some (getD rs f undet)
@@ -79,6 +85,18 @@ module _ (S : List ℕ) (at : ℕ) (pk : Packed S at) where
   packed-byte (suc (suc (suc (suc zero)))) h = sym (slot 2 _ (omega arith) refl refl)
   packed-byte (suc (suc (suc (suc (suc zero))))) h = sym (slot 3 _ (omega arith) refl refl)
   packed-byte (suc (suc (suc (suc (suc (suc k)))))) h = absurd (omega arith)
+
+  -- an object whose references are below n has no code of another object
+  pub field-low : (n : ℕ) → ((f : ℕ) (r : Ref) → getElem? (nodeIn S at .refs) f ≡ some r → InRange n r) → (f : ℕ) → f < 4 → getD S (at + 2 + f) 0 < 192 → getD S (at + 2 + f) 0 < n
+  unfolding byteOf
+  field-low n inner f h l = go (getD (nodeIn S at .refs) f undet) refl (decLt f (length (nodeIn S at .refs)))
+    where
+      code : getD S (at + 2 + f) 0 ≡ codeOf (getD (nodeIn S at .refs) f undet)
+      code = let z : at + 2 + f ≡ at + suc (suc f) = omega arith in rw z (packed-byte (suc (suc f)) (omega arith))
+
+      go : (r : Ref) → getD (nodeIn S at .refs) f undet ≡ r → Dec (f < length (nodeIn S at .refs)) → getD S (at + 2 + f) 0 < n
+      go r e (yes k) = omega (arith, code, ap codeOf e, object-low n r (inner f r (some-at (nodeIn S at .refs) f k ∙ ap some e)) (omega (arith, code, ap codeOf e)))
+      go r e (no k) = absurd (omega (arith, code, ap codeOf (List·getD-eq-default (nodeIn S at .refs) undet {n = f} (omega (arith, k)))))
 
 module _ (A B : List ℕ) where
   pub node-same : (a b : ℕ) → ((k : ℕ) → k < 6 → getD A (a + k) 0 ≡ getD B (b + k) 0) → nodeIn A a ≡ nodeIn B b
@@ -138,6 +156,66 @@ bytes-same A B n a b pa pb e p h =
     let eb : b + p ≡ b + 6 * (p / 6) + p % 6 = omega arith in
     let en : nodeIn A (a + 6 * (p / 6)) ≡ nodeIn B (b + 6 * (p / 6)) = sym (at-nodes A a n (p / 6) i) ∙ ap (λ (l : List Node). nodeAt l (p / 6)) e ∙ at-nodes B b n (p / 6) i in
     rw (ea, eb, packed-byte A (a + 6 * (p / 6)) (pa (p / 6) i) (p % 6) (omega arith), packed-byte B (b + 6 * (p / 6)) (pb (p / 6) i) (p % 6) (omega arith), en)
+
+-- an object of them by its bytes
+module _ (S : List ℕ) (base n : ℕ) (pk : AllPacked S base n) (x : ℕ) (hx : x < n) where
+  byte : (k : ℕ) → k < 6 → getD S (base + 6 * x + k) 0 ≡ byteOf (nodeAt (nodesIn S base n) x) k
+  byte k h = packed-byte S (base + 6 * x) (pk x hx) k h ∙ ap (λ (o : Node). byteOf o k) (sym (at-nodes S base n x hx))
+
+  pub class-is : getD S (base + 6 * x) 0 ≡ nodeAt (nodesIn S base n) x .cls
+  unfolding byteOf
+  class-is = let z : base + 6 * x + 0 ≡ base + 6 * x = omega arith in rw z at (byte 0 (omega arith))
+
+  pub count-is : getD S (base + 6 * x + 1) 0 ≡ length (refsAt (nodesIn S base n) x)
+  unfolding byteOf
+  count-is = byte 1 (omega arith)
+
+  pub code-is : (f : ℕ) → f < 4 → getD S (base + 6 * x + 2 + f) 0 ≡ codeOf (getD (refsAt (nodesIn S base n) x) f undet)
+  unfolding byteOf
+  code-is f h = let z : base + 6 * x + 2 + f ≡ base + 6 * x + (suc (suc f)) = omega arith in rw z (byte (suc (suc f)) (omega arith))
+
+  pub four-fields : length (refsAt (nodesIn S base n) x) ≤ 4
+  four-fields = omega (arith, count-is, pk x hx .count)
+
+  -- objects that refer to one another only refer to none from n on
+  pub code-low : Whole (graph undet (nodesIn S base n)) → (f : ℕ) → f < 4 → getD S (base + 6 * x + 2 + f) 0 < 192 → getD S (base + 6 * x + 2 + f) 0 < n
+  code-low w = field-low S (base + 6 * x) (pk x hx) n (λ f r e. subst (λ (k : ℕ). InRange k r) (length-nodes S base n) (w .inner x f r (ap (λ (o : Node). getElem? (o .refs) f) (at-nodes S base n x hx) ∙ e)))
+
+-- ---- the last bytes of a block written
+module _ (W : List ℕ) (b n l m : ℕ) (room : 234 * b + 234 ≤ length W) where
+  pub ended-size : length (ended W b n l m) ≡ length W
+  ended-size = simp length-set
+
+  apart : (p : ℕ) → ((p ≡ 234 * b + 192) → ⊥) → ((p ≡ 234 * b + 193) → ⊥) → ((p ≡ 234 * b + 194) → ⊥) → getD (ended W b n l m) p 0 ≡ getD W p 0
+  apart p h k j =
+      getD-set-other (set (set W (234 * b + 192) n) (234 * b + 193) l) (234 * b + 194) p m 0 j
+      ∙ getD-set-other (set W (234 * b + 192) n) (234 * b + 193) p l 0 k
+      ∙ getD-set-other W (234 * b + 192) p n 0 h
+
+  pub ended-below : (p : ℕ) → p < 234 * b + 192 → getD (ended W b n l m) p 0 ≡ getD W p 0
+  ended-below p h = apart p (λ z. omega arith) (λ z. omega arith) (λ z. omega arith)
+
+  pub ended-above : (p : ℕ) → 234 * b + 195 ≤ p → getD (ended W b n l m) p 0 ≡ getD W p 0
+  ended-above p h = apart p (λ z. omega arith) (λ z. omega arith) (λ z. omega arith)
+
+  pub ended-count : countIn (ended W b n l m) b ≡ n
+  unfolding countIn
+  ended-count =
+      getD-set-other (set (set W (234 * b + 192) n) (234 * b + 193) l) (234 * b + 194) (234 * b + 192) m 0 (λ z. omega arith)
+      ∙ getD-set-other (set W (234 * b + 192) n) (234 * b + 193) (234 * b + 192) l 0 (λ z. omega arith)
+      ∙ getD-set-same W (234 * b + 192) n 0 (omega arith)
+
+  pub ended-level : levelIn (ended W b n l m) b ≡ l
+  unfolding levelIn
+  ended-level =
+      getD-set-other (set (set W (234 * b + 192) n) (234 * b + 193) l) (234 * b + 194) (234 * b + 193) m 0 (λ z. omega arith)
+      ∙ getD-set-same (set W (234 * b + 192) n) (234 * b + 193) l 0 (omega (arith, length-set W (234 * b + 192) n))
+
+  pub ended-reach : reachIn (ended W b n l m) b ≡ m
+  unfolding reachIn
+  ended-reach =
+      getD-set-same (set (set W (234 * b + 192) n) (234 * b + 193) l) (234 * b + 194) m 0
+      (omega (arith, length-set (set W (234 * b + 192) n) (234 * b + 193) l, length-set W (234 * b + 192) n))
 
 -- ---- two objects side by side
 module _ (S : List ℕ) (p q : ℕ) where

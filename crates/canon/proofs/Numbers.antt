@@ -7,8 +7,8 @@ use mathlib.Core.Bool.{Bool, true, false, cond, true≢false}
 use mathlib.Core.List.{List, [], _∷_, _++_}
 use mathlib.Core.Option.{some}
 use lib.Dec.{eqb}
-use lib.ListN.{length, getD, set, take, getElem?, length-map, length-set}
-use lib.Seq.{getD-set-same, getD-set-other, length-take-le, getD-take}
+use lib.ListN.{length, getD, take, getElem?, length-map}
+use lib.Seq.{length-take-le, getD-take}
 use borrow.Author.Tests.{eq-eqb, ne-eqb}
 use Rattle.cofj.specs.Values.{Ref, obj, mark, undet, Node, node, Graph, graph, rename, renameNode, nodeAt, refsAt, colourOf, colours, isIn, placeIn, visit, visitAll, canon}
 use Rattle.cofj.specs.Unfolding.{InRange, Whole}
@@ -18,12 +18,12 @@ use Rattle.cofj.proofs.Walk.{order, order-length, order-kept, order-root, Cover
 use Rattle.cofj.proofs.Canon.{number, listed, canon-is, canon-whole, getD-isIn, placeIn-spec}
 use Rattle.cofj.proofs.Unique.{canon-canon}
 use Rattle.cofj.proofs.Numbering.{canonical-root}
-use Rattle.canon.specs.Layout.{nodeIn, nodesIn, Packed, Distinct, Block, graphAt, objectsIn, countIn, levelIn}
+use Rattle.canon.specs.Layout.{nodeIn, nodesIn, Packed, Distinct, Block, graphAt, objectsIn, countIn, ended}
 use Rattle.canon.specs.Tables.{Filled, copied, Lifted}
 use Rattle.canon.specs.Walking.{walkRef, markIn, Listed}
 use Rattle.canon.specs.Numbers.{numberIn, Gathered, Levels, Ready, Placed, graphIn}
 use Rattle.canon.proofs.Colouring.{value-distinct}
-use Rattle.canon.proofs.Nodes.{at-nodes, length-nodes, ref-object}
+use Rattle.canon.proofs.Nodes.{at-nodes, length-nodes, ref-object, AllPacked, code-low, ended-size, ended-below, ended-above, ended-count, ended-level, ended-reach}
 use Rattle.canon.proofs.Turned.{turnRef, changed, lifted-nodes, lifted-packed, turn-rename, node-agree}
 
 -- ---- gathering
@@ -198,13 +198,13 @@ module _ (N : List ℕ) (n : ℕ) (C : List ℕ) (root : ℕ) (W : List ℕ) (ds
     module _ (M : List ℕ) (lm : Listed M (take m O)) (T : List ℕ) (fm : Filled (λ i. numberIn M m (getD C i 0)) n T) (D : List ℕ) (g : Gathered N O m T W (234 * dst) D) (few : m ≤ 32)
         (l : ℕ) (lv : Levels D (234 * dst) (6 * m) l) where
       abbrev E : List ℕ
-      E = set (set D (234 * dst + 192) m) (234 * dst + 193) l
+      E = ended D dst m l m
 
-      kept-byte : (p : ℕ) → ((p ≡ 234 * dst + 192) → ⊥) → ((p ≡ 234 * dst + 193) → ⊥) → getD E p 0 ≡ getD D p 0
-      kept-byte p a b = getD-set-other (set D (234 * dst + 192) m) (234 * dst + 193) p l 0 b ∙ getD-set-other D (234 * dst + 192) p m 0 a
+      room : 234 * dst + 234 ≤ length D
+      room = omega (arith, g .same, rd .room)
 
       same-size : length E ≡ length W
-      same-size = length-set (set D (234 * dst + 192) m) (234 * dst + 193) l ∙ length-set D (234 * dst + 192) m ∙ g .same
+      same-size = ended-size D dst m l m room ∙ g .same
 
       ft : Filled (λ i. placeIn (getD C i 0) (take m O)) n T
       ft = record { at = λ i h. fm .at i h ∙ number-in M (take m O) m (getD C i 0) lm size (omega (arith, low i h, rd .raw .few)) }
@@ -218,7 +218,7 @@ module _ (N : List ℕ) (n : ℕ) (C : List ℕ) (root : ℕ) (W : List ℕ) (ds
       g′ : Gathered N O m T E (234 * dst) E
       g′ = record {
         same = refl;
-        here = λ j k h l. kept-byte (234 * dst + 6 * j + k) (λ z. omega arith) (λ z. omega arith) ∙ g .here j k h l;
+        here = λ j k h c. ended-below D dst m l m room (234 * dst + 6 * j + k) (omega arith) ∙ g .here j k h c;
         below = λ q h. refl;
         above = λ q h. refl;
       }
@@ -237,8 +237,7 @@ module _ (N : List ℕ) (n : ℕ) (C : List ℕ) (root : ℕ) (W : List ℕ) (ds
           ∙ sym (getD-map-lt (λ q. renameNode (number (graphIn N n root) wg) (nodeAt (nodesIn N 0 n) q)) (order (graphIn N n root) wg) j (node 0 []) 0 (omega (arith, counted, canon-count)))
 
       count-is : countIn E dst ≡ m
-      unfolding countIn
-      count-is = getD-set-other (set D (234 * dst + 192) m) (234 * dst + 193) (234 * dst + 192) l 0 (λ z. omega arith) ∙ getD-set-same D (234 * dst + 192) m 0 (omega (arith, g .same, rd .room))
+      count-is = ended-count D dst m l m room
 
       root-is : number (graphIn N n root) wg root ≡ 0
       root-is = canonical-root (canon (graphIn N n root)) (canon-whole (graphIn N n root) wg) (canon-canon (graphIn N n root) wg) _ (ap (λ (h : Graph). h .root) (canon-is (graphIn N n root) wg))
@@ -256,25 +255,24 @@ module _ (N : List ℕ) (n : ℕ) (C : List ℕ) (root : ℕ) (W : List ℕ) (ds
       filled-is : 1 ≤ m
       filled-is = omega (arith, order-some (graphIn N n root) wg root refl, counted, canon-count)
 
-      level-is : levelIn E dst ≡ l
-      unfolding levelIn
-      level-is = getD-set-same (set D (234 * dst + 192) m) (234 * dst + 193) l 0 (omega (arith, length-set D (234 * dst + 192) m, g .same, rd .room))
-
       whole-is : Whole (graph undet (objectsIn E dst))
       whole-is =
           let w = subst Whole (sym block-is) (canon-whole (graphIn N n root) wg) in
           record { top = tt; inner = w .inner }
 
+      packed-is : AllPacked E (234 * dst) (countIn E dst)
+      packed-is j i = let h : j < m = omega (arith, count-is) in gathered-packed N O m T E (234 * dst) E g′ j h (rd .raw .packed (getD O j 0) (listed-low j h))
+
       block-ok : Block E dst
+      unfolding objectsIn
       block-ok = record {
         room = omega (arith, same-size, rd .room);
         small = rw count-is few;
-        packed = λ j l.
-            let h : j < m = omega (arith, count-is) in
-            gathered-packed N O m T E (234 * dst) E g′ j h (rd .raw .packed (getD O j 0) (listed-low j h));
+        packed = packed-is;
         whole = whole-is;
         distinct = subst (λ (v : Graph). Distinct (v .nodes)) (sym block-is) (value-distinct (canon (graphIn N n root)) (canon-whole (graphIn N n root) wg) (canon-canon (graphIn N n root) wg));
-        level = λ q h. rw (kept-byte (234 * dst + q) (λ z. omega (arith, count-is)) (λ z. omega (arith, count-is)), level-is) (lv .below q (omega (arith, count-is)));
+        level = λ q h. rw (ended-below D dst m l m room (234 * dst + q) (omega (arith, count-is)), ended-level D dst m l m room) (lv .below q (omega (arith, count-is)));
+        reach = λ i f h k c. omega (arith, count-is, ended-reach D dst m l m room, code-low E (234 * dst) (countIn E dst) packed-is i h whole-is f k c);
       }
 
       pub put-done : Placed N n root W dst E m
@@ -282,8 +280,8 @@ module _ (N : List ℕ) (n : ℕ) (C : List ℕ) (root : ℕ) (W : List ℕ) (ds
         count = counted;
         outside = record {
           same = same-size;
-          below = λ p h. kept-byte p (λ z. omega arith) (λ z. omega arith) ∙ g .below p h;
-          above = λ p h. kept-byte p (λ z. omega arith) (λ z. omega arith) ∙ g .above p (omega arith);
+          below = λ p h. ended-below D dst m l m room p (omega arith) ∙ g .below p h;
+          above = λ p h. ended-above D dst m l m room p (omega arith) ∙ g .above p (omega arith);
         };
         has = λ l. record { inside = record { block = block-ok; low = rw count-is filled-is }; is = block-is };
       }

@@ -5,7 +5,7 @@ use mathlib.Core.Path.{_≡_}
 use mathlib.Core.Bool.{Bool, false, cond}
 use mathlib.Core.List.{List, [], _∷_}
 use lib.Dec.{ltb, eqb}
-use lib.ListN.{length, getD, take, drop}
+use lib.ListN.{length, getD, set, take, drop}
 use Rattle.cofj.specs.Values.{Ref, obj, mark, undet, Node, node, Graph, graph}
 use Rattle.cofj.specs.Unfolding.{Same, Whole}
 
@@ -56,6 +56,14 @@ countIn W b = getD W (234 * b + 192) 0
 unfoldable pub levelIn : List ℕ → ℕ → ℕ
 levelIn W b = getD W (234 * b + 193) 0
 
+-- none of these objects refers to an object of this number or a higher one
+unfoldable pub reachIn : List ℕ → ℕ → ℕ
+reachIn W b = getD W (234 * b + 194) 0
+
+-- these three bytes of block b written
+abbrev pub ended : List ℕ → ℕ → ℕ → ℕ → ℕ → List ℕ
+ended W b n l m = set (set (set W (234 * b + 192) n) (234 * b + 193) l) (234 * b + 194) m
+
 -- the objects in block b, and the graph from object i of them on
 unfoldable pub objectsIn : List ℕ → ℕ → List Node
 objectsIn W b = nodesIn W (234 * b) (countIn W b)
@@ -75,6 +83,7 @@ pub record Block (W : List ℕ) (b : ℕ) : Type 0 where
   pub whole : Whole (graph undet (objectsIn W b))
   pub distinct : Distinct (objectsIn W b)
   pub level : (q : ℕ) → q < 6 * countIn W b → getD W (234 * b + q) 0 < 193 + levelIn W b
+  pub reach : (i f : ℕ) → i < countIn W b → f < 4 → getD W (234 * b + 6 * i + 2 + f) 0 < 192 → getD W (234 * b + 6 * i + 2 + f) 0 < reachIn W b
 
 -- and object i is one of them
 pub record Inside (W : List ℕ) (b i : ℕ) : Type 0 where

@@ -72,13 +72,16 @@ pub fn level_of(work: &[u8], at: usize, p: usize) -> u8
     requires { ⌜ at + p ≤ length (now work) ⌝ }
     ensures { λ l. ⌜ Levels (now (work .entry)) at p l ⌝ }
 {
-    let mut l: u8 = 0;
+    let mut m: u8 = 192;
     let mut q: usize = 0;
     while q < p {
-        l = raise_level(l, work[at + q]);
+        let c = work[at + q];
+        if m < c {
+            m = c;
+        }
         q += 1;
     }
-    l
+    m - 192
 }
 
 // Writes the value of n objects with their colours, from the root on, to block `dst`, unless it has more than 32 objects.
@@ -90,6 +93,7 @@ pub fn put(nodes: &[u8], n: u8, cs: &[u8], root: u8, work: &mut [u8], dst: u16) 
     let at = 234 * (dst as usize);
     let count = at + 192;
     let level = at + 193;
+    let reach = at + 194;
     let mut order = [0u8; 256];
     let mut met = [0u8; 256];
     wipe(&mut met, 256);
@@ -103,5 +107,6 @@ pub fn put(nodes: &[u8], n: u8, cs: &[u8], root: u8, work: &mut [u8], dst: u16) 
     let l = level_of(work, at, 6 * (m as usize));
     work[count] = m;
     work[level] = l;
+    work[reach] = m;
     m
 }

@@ -1,6 +1,6 @@
 -- Calls on the stack, up to the choice of a side: what the functions ask of one another, and one law for each of their returns.
 -- Not here: what calls mean (CallLaws), the two sides (SideSteps).
-use Prim.Native.Nat.{ℕ, zero, suc, _+_, _-_, _/_, _%_, _≤_, _<_}
+use Prim.Native.Nat.{ℕ, zero, suc, _+_, _-_, _*_, _/_, _%_, _≤_, _<_}
 use native.Mathlib.Omega.{arith}
 use mathlib.Core.Path.{_≡_, refl, sym, ap, _∙_, subst}
 use mathlib.Core.List.{List, map}
@@ -221,6 +221,7 @@ module _ (W S : List ℕ) (next n lim sp : ℕ) (run : CallRunnable W S next n l
         same = length-set S 274 (fuelOf S - 1);
         below = λ p l. spent-below p (omega arith);
         above = λ p a b. getD-set-other S 274 p (fuelOf S - 1) 0 (λ z. omega arith);
+        calls = λ i j a b. getD-set-other S 274 (281 + 16 * j + i) (fuelOf S - 1) 0 (λ z. omega arith);
         spent = let f = fuel-left in omega arith;
       }
 

@@ -3,7 +3,7 @@
 use Prim.Native.Nat.{ℕ, zero, suc, _+_, _-_, _*_, _/_, _%_, _≤_, _<_}
 use native.Mathlib.Omega.{arith}
 use native.Mathlib.Decide.{ℕ-discrete}
-use mathlib.Core.Path.{_≡_, refl, sym, ap, _∙_, subst}
+use mathlib.Core.Path.{_≡_, refl, sym, _∙_, subst}
 use mathlib.Core.Bool.{Bool, true, false, not, cond, false≢true}
 use mathlib.Core.List.{List}
 use lib.Dec.{eqb, ltb}
@@ -12,9 +12,9 @@ use borrow.Author.Tests.{lt-ltb, le-ltb, eqb-true, ltb-true, not-false}
 use Rattle.classes.specs.Figures.{tableSize}
 use Rattle.checker.specs.declared.shape.Shape.{Shape}
 use Rattle.checker.specs.declared.shape.Shape.the-variants as shape
-use Rattle.checker.specs.Shapes.{byteOf, shapeAt, shapeOf}
+use Rattle.checker.specs.Shapes.{shapeAt}
 use Rattle.values.specs.Layout.{Holds}
-use Rattle.values.specs.Refs.{refIn, ChosenIn}
+use Rattle.values.specs.Refs.{ChosenIn}
 use Rattle.evaluator.specs.State.{refAt}
 use Rattle.evaluator.specs.Chains.{isField, Chain, Selects}
 use Rattle.evaluator.specs.Limits.{nestOf, depthOf, blockOf}

@@ -1,18 +1,20 @@
--- A new object of the values on the stack, and what a run gives: one law for each return of `parts_at`, `finish`, `stop_of` and `out_of`.
+-- A new object of the values on the stack, and what a run gives: one law for each return of `make_at`, `finish`, `stop_of` and `out_of`.
 -- Not here: the values' evaluation (ListLaws), the run (RunLaws).
-use Prim.Native.Nat.{ℕ, _+_, _<_}
+use Prim.Native.Nat.{ℕ, _+_, _-_, _<_}
 use native.Mathlib.Omega.{arith}
 use mathlib.Core.Path.{_≡_, refl, sym, ap, _∙_, subst}
 use mathlib.Core.Bool.{Bool, true, false, cond}
-use mathlib.Core.List.{List, [], _∷_}
+use mathlib.Core.List.{List, []}
 use mathlib.Core.Option.{none, some, Option·none-ne-some}
 use lib.Dec.{leb}
-use lib.ListN.{length, getD, set}
+use lib.ListN.{length, getD, set, take, drop}
+use lib.Seq.{getD-take, getD-drop}
 use borrow.Author.Tests.{lt-ltb, le-ltb, eq-eqb, ne-eqb, leb-true, leb-false}
 use Rattle.cofj.specs.Values.{Graph, make}
 use Rattle.cofj.specs.Running as language
 use Rattle.cofj.specs.Running.{value, stopped, _then_, sized}
 use Rattle.values.specs.declared.ValueRef.{ValueRef}
+use Rattle.canon.specs.Layout.{part}
 use Rattle.maker.specs.declared.Slot.{Slot}
 use Rattle.values.specs.Layout.{valueOf}
 use Rattle.maker.specs.Laying.{valuesFrom, PartsHeld, MadeIs, MadeIn, partsOf}
@@ -31,10 +33,27 @@ use Rattle.evaluator.proofs.StackLaws as stacks
 use Rattle.evaluator.proofs.StackLaws.{list-values, stacked-none, put-stack, put-out, stop-is, stop-stack, too-large-is}
 
 -- ---- parts
-pub parts-are : (P S : List ℕ) (sp : ℕ) → P ≡ getD S sp 0 ∷ getD S (sp + 1) 0 ∷ getD S (sp + 2) 0 ∷ getD S (sp + 3) 0 ∷ []
-    → partsOf P ≡ slotsOf (refAt S sp) (refAt S (sp + 1)) (refAt S (sp + 2)) (refAt S (sp + 3))
+pub parts-are : (S : List ℕ) (sp : ℕ) → partsOf (part S sp 4) ≡ slotsOf (refAt S sp) (refAt S (sp + 1)) (refAt S (sp + 2)) (refAt S (sp + 3))
 unfolding partsOf
-parts-are P S sp e = rw e refl
+parts-are S sp =
+    let at : (i : ℕ) → i < 4 → getD (part S sp 4) i 0 ≡ getD S (sp + i) 0 = λ i h. getD-take 4 (drop sp S) i 0 h ∙ getD-drop sp S i 0 in
+    let e0 : getD (part S sp 4) 0 0 ≡ getD S sp 0 = at 0 (omega arith) ∙ ap (λ (k : ℕ). getD S k 0) (let z : sp + 0 ≡ sp = omega arith in z) in
+    let e1 : getD (part S sp 4) 1 0 ≡ getD S (sp + 1) 0 = at 1 (omega arith) in
+    let e2 : getD (part S sp 4) 2 0 ≡ getD S (sp + 2) 0 = at 2 (omega arith) in
+    let e3 : getD (part S sp 4) 3 0 ≡ getD S (sp + 3) 0 = at 3 (omega arith) in
+    λ i. slotsOf (refIn (e0 i)) (refIn (e1 i)) (refIn (e2 i)) (refIn (e3 i))
+
+-- the four places lent
+module _ (W S : List ℕ) (n sp : ℕ) where
+  lent : take (sp + 4 - sp) (drop sp S) ≡ part S sp 4
+  lent = ap (λ (k : ℕ). take k (drop sp S)) (let e : sp + 4 - sp ≡ 4 = omega arith in e)
+
+  pub lent-held : PartsHeld W (partsOf (part S sp 4)) n → PartsHeld W (partsOf (take (sp + 4 - sp) (drop sp S))) n
+  lent-held h = rw lent h
+
+  pub lent-made : (c dst : ℕ) (W′ : List ℕ) (q : ℕ) → MadeIn W (make c (valuesFrom W (partsOf (take (sp + 4 - sp) (drop sp S))) 0 n)) dst W′ q
+      → MadeIn W (make c (valuesFrom W (partsOf (part S sp 4)) 0 n)) dst W′ q
+  lent-made c dst W′ q m = rw lent at m
 
 -- ---- a new object
 sized-none : (g : Graph) (fuel : ℕ) → cond (leb (length (g .nodes)) 32) (some g) none ≡ none → sized 32 g fuel ≡ stopped language.tooLarge fuel
@@ -88,14 +107,20 @@ module _ (W : List ℕ) (k : ℕ) (l : Listed) (n sp : ℕ) where
       }
 
 -- ---- a new object of the values on the stack
-module _ (W S : List ℕ) (c n sp dst next : ℕ) (h : PartsReady W S n sp dst next) (ps : List Slot) (ep : ps ≡ slotsOf (refAt S sp) (refAt S (sp + 1)) (refAt S (sp + 2)) (refAt S (sp + 3))) where
+module _ (W S : List ℕ) (c n sp dst next : ℕ) (h : PartsReady W S n sp dst next) where
+  abbrev ps : List Slot
+  ps = partsOf (part S sp 4)
+
+  ep : ps ≡ slotsOf (refAt S sp) (refAt S (sp + 1)) (refAt S (sp + 2)) (refAt S (sp + 3))
+  ep = parts-are S sp
+
   listed : listAt S sp next ≡ Values (refAt S sp) (refAt S (sp + 1)) (refAt S (sp + 2)) (refAt S (sp + 3)) next (fuelOf S)
   listed = list-values S sp next (λ z. let a = h .after in omega arith)
 
-  pub parts-ready : PartsHeld W ps n
+  pub parts-ready : PartsHeld W (partsOf (part S sp 4)) n
   parts-ready = finish-held W c (listAt S sp next) n dst (refAt S sp) (refAt S (sp + 1)) (refAt S (sp + 2)) (refAt S (sp + 3)) next (fuelOf S) listed ps ep (h .older)
 
-  module _ (W′ : List ℕ) (q : ℕ) (m : MadeIn W (make c (valuesFrom W ps 0 n)) dst W′ q) where
+  module _ (W′ : List ℕ) (q : ℕ) (m : MadeIn W (make c (valuesFrom W (partsOf (part S sp 4)) 0 n)) dst W′ q) where
     pub made-large : (S′ : List ℕ) (r : ℕ) → q ≡ 4294967295 → r ≡ 0 → S′ ≡ set S 275 3 → FinishStep W S c n sp dst next W′ S′ r
     unfolding answerOf
     made-large S′ r eq er es = record {
@@ -116,21 +141,18 @@ module _ (W S : List ℕ) (c n sp dst next : ℕ) (h : PartsReady W S n sp dst n
 
 -- ---- the same without parts
 module _ (W S : List ℕ) (c n sp dst next : ℕ) (h : PartsReady W S n sp dst next) (z : n ≡ 0) (W′ : List ℕ) (q : ℕ) (m : MadeIn W (make c []) dst W′ q) where
-  abbrev parts : List Slot
-  parts = slotsOf (refAt S sp) (refAt S (sp + 1)) (refAt S (sp + 2)) (refAt S (sp + 3))
-
-  no-values : valuesFrom W parts 0 n ≡ []
+  no-values : valuesFrom W (partsOf (part S sp 4)) 0 n ≡ []
   unfolding valuesFrom
   no-values = rw z
 
-  made-of-none : MadeIn W (make c (valuesFrom W parts 0 n)) dst W′ q
+  made-of-none : MadeIn W (make c (valuesFrom W (partsOf (part S sp 4)) 0 n)) dst W′ q
   made-of-none = subst (λ (vs : List Graph). MadeIn W (make c vs) dst W′ q) (sym no-values) m
 
   pub bare-large : (S′ : List ℕ) (r : ℕ) → q ≡ 4294967295 → r ≡ 0 → S′ ≡ set S 275 3 → FinishStep W S c n sp dst next W′ S′ r
-  bare-large S′ r eq er es = made-large W S c n sp dst next h parts refl W′ q made-of-none S′ r eq er es
+  bare-large S′ r eq er es = made-large W S c n sp dst next h W′ q made-of-none S′ r eq er es
 
   pub bare-value : (q ≡ 4294967295 → ⊥) → FinishStep W S c n sp dst next W′ (set S sp q) next
-  bare-value d = made-value W S c n sp dst next h parts refl W′ q made-of-none d
+  bare-value d = made-value W S c n sp dst next h W′ q made-of-none d
 
 -- ---- an object that stands in block 0
 pub preset-value : (W S : List ℕ) (c n sp dst next : ℕ) → PartsReady W S n sp dst next → n ≡ 0 → c < 32 → FinishStep W S c n sp dst next W (set S sp c) next

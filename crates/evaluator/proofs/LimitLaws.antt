@@ -113,5 +113,9 @@ module _ (lim t : ℕ) where
   body-falls nd e l el =
       subst (λ (k : ℕ). k / 8 % 32 * 6000 + k % 8 * 600 < t) (sym el) (let a = body-nest lim nd in let b = body-depth lim nd in omega (arith, nd))
 
+  pub left-falls : (lim / 8 % 32 ≡ 0 → ⊥) → lim / 8 % 32 * 6000 ≡ t → (l : ℕ) → l ≡ bodyLimits lim → l / 8 % 32 * 6000 + l % 8 * 600 + 1 < t
+  left-falls nd e l el =
+      subst (λ (k : ℕ). k / 8 % 32 * 6000 + k % 8 * 600 + 1 < t) (sym el) (let a = body-nest lim nd in let b = body-depth lim nd in omega (arith, nd))
+
   pub same-falls : (l : ℕ) → nestOf l ≡ nestOf lim → depthOf l ≡ depthOf lim → lim / 8 % 32 * 6000 + lim % 8 * 600 + 2 ≡ t → l / 8 % 32 * 6000 + l % 8 * 600 + 1 < t
   same-falls l a b e = omega arith

@@ -21,6 +21,8 @@ use Rattle.evaluator.specs.Stack.{fuelOf, topOf, heldThis, heldMark, hel
 use Rattle.evaluator.specs.Limits.{depthOf, blockOf, bodyLimits}
 use Rattle.evaluator.specs.Evaluation.{Fits, Evaluates}
 use Rattle.evaluator.specs.Calling.{RunsRight, RunsLeft}
+use Rattle.maker.specs.Bares.{Bares}
+use Rattle.maker.proofs.BareLaws.{bares-kept}
 use Rattle.evaluator.specs.Steps.{Based, Runnable, BodyRunnable, EvalStep, RightStep, LeftStep}
 use Rattle.evaluator.proofs.LimitLaws.{of-equal, body-nest, body-depth, body-block}
 use Rattle.evaluator.proofs.BodyLaws.{Pushed, rightFrame, leftFrame, trace-below, right-halt, right-value, left-halt, left-value}
@@ -95,7 +97,7 @@ module _ (T W S : List ℕ) (next lim sp n i x : ℕ) (run : BodyRunnable W S ne
   right-calls j l =
       let z = run .placed .calls j l in
       let r = short in
-      call-alike S S1 j (fs .above (281 + 3 * j) (omega arith)) (fs .above (282 + 3 * j) (omega arith)) (fs .above (283 + 3 * j) (omega arith)) (λ q a b. fs .below q (omega arith))
+      call-alike S S1 j (fs .above (281 + j) (omega arith)) (fs .above (297 + j) (omega arith)) (fs .above (313 + j) (omega arith)) (λ q a b. fs .below q (omega arith))
 
   right-trace : traceIn W S1 (topOf S1) ≡ traceIn W S (topOf S)
   right-trace = ap (traceIn W S1) right-top ∙ trace-below W S S1 (topOf S) right-calls
@@ -113,7 +115,7 @@ module _ (T W S : List ℕ) (next lim sp n i x : ℕ) (run : BodyRunnable W S ne
           low = let b = fs .base in let z = short in omega arith;
           bare = λ l. let b = fs .base in let z = short in absurd (omega arith);
           mark = let m = fs .mark in omega arith;
-          calls = λ j l. let z = run .placed .calls j (omega arith) in let b = fs .above (283 + 3 * j) (omega arith) in omega arith;
+          calls = λ j l. let z = run .placed .calls j (omega arith) in let b = fs .above (313 + j) (omega arith) in omega arith;
         };
         fits = of-equal (λ a d b. Fits W (frameAt S1) S1 (topOf S1) a d b) (sym (body-nest lim (run .deep))) (sym (body-depth lim (run .deep))) (sym (body-block lim (run .deep))) (record {
           frame = subst (FrameHolds W (blockOf lim + 4)) (sym right-frame) (f .frame);
@@ -148,11 +150,12 @@ module _ (T W S : List ℕ) (next lim sp n i x : ℕ) (run : BodyRunnable W S ne
           same = fb .same ∙ side .stack .same ∙ fs .same;
           below = λ p l. let z = short in fb .below p (omega arith) ∙ side .stack .below p (omega arith) ∙ fs .below p (omega arith);
           above = λ p l m. by-place p l m (decLt p 279);
+          calls = λ j k l m. fb .above (281 + 16 * k + j) (omega arith) ∙ side .stack .calls j k (omega arith) m ∙ fs .above (281 + 16 * k + j) (omega arith);
           spent = omega arith;
         }
       where
-        by-place : (p : ℕ) → 276 ≤ p → p < 281 + 3 * topOf S → Dec (p < 279) → getD S3 p 0 ≡ getD S p 0
-        by-place p l m (no h) = let t = right-top in fb .above p (omega (arith, h)) ∙ side .stack .above p l (omega arith) ∙ fs .above p (omega (arith, h))
+        by-place : (p : ℕ) → 276 ≤ p → p < 281 → Dec (p < 279) → getD S3 p 0 ≡ getD S p 0
+        by-place p l m (no h) = fb .above p (omega (arith, h)) ∙ side .stack .above p l m ∙ fs .above p (omega (arith, h))
         by-place p l m (yes h) = frame-back S S2 S3 fb p l h
 
     pub right-stops : r ≡ 0 → RightStep T W S next lim sp n i x W1 S3 0
@@ -204,8 +207,8 @@ module _ (T W S : List ℕ) (next lim sp m n i : ℕ) (run : BodyRunnable W S ne
     left-top : topOf S1 ≡ topOf S + 1
     left-top = fs .above 279 (omega arith) ∙ cs .top
 
-    older-same : (p : ℕ) → 280 ≤ p → p < 281 + 3 * topOf S → getD S1 p 0 ≡ getD S p 0
-    older-same p l k = fs .above p (omega arith) ∙ cs .above p l k
+    older-same : (j k : ℕ) → j < topOf S → k < 3 → getD S1 (281 + 16 * k + j) 0 ≡ getD S (281 + 16 * k + j) 0
+    older-same j k l h = fs .above (281 + 16 * k + j) (omega arith) ∙ cs .calls j k l h
 
     left-pushed : Pushed S (topOf S) (refAt S sp) m (argsAt S (sp + 1)) n S1
     unfolding callAt
@@ -215,28 +218,27 @@ module _ (T W S : List ℕ) (next lim sp m n i : ℕ) (run : BodyRunnable W S ne
         older j l =
             let z = run .placed .calls j l in
             let r = low in
-            call-alike S S1 j (older-same (281 + 3 * j) (omega arith) (omega arith)) (older-same (282 + 3 * j) (omega arith) (omega arith)) (older-same (283 + 3 * j) (omega arith) (omega arith))
-            (λ q a b. below-same q (omega arith))
+            call-alike S S1 j (older-same j 0 l (omega arith)) (older-same j 1 l (omega arith)) (older-same j 2 l (omega arith)) (λ q a b. below-same q (omega arith))
 
         base-is : baseAt S1 (topOf S) ≡ sp
-        base-is = fs .above (283 + 3 * topOf S) (omega arith) ∙ cs .base
+        base-is = fs .above (313 + topOf S) (omega arith) ∙ cs .base
 
         newest : callAt S1 (topOf S) ≡ record { receiver = refAt S sp; name = m; args = argsAt S (sp + 1); n = n }
         newest =
             let er : getD S1 (baseAt S1 (topOf S)) 0 ≡ getD S sp 0 = ap (λ (b : ℕ). getD S1 b 0) base-is ∙ below-same sp (let r = low in omega arith) in
             let ea : argsAt S1 (baseAt S1 (topOf S) + 1) ≡ argsAt S (sp + 1) = ap (λ (b : ℕ). argsAt S1 (b + 1)) base-is ∙ args-alike S S1 (sp + 1) (λ q a b. below-same q (let r = low in omega arith)) in
-            let em : getD S1 (281 + 3 * topOf S) 0 ≡ m = fs .above (281 + 3 * topOf S) (omega arith) ∙ cs .name in
-            let en : getD S1 (282 + 3 * topOf S) 0 ≡ n = fs .above (282 + 3 * topOf S) (omega arith) ∙ cs .count in
+            let em : getD S1 (281 + topOf S) 0 ≡ m = fs .above (281 + topOf S) (omega arith) ∙ cs .name in
+            let en : getD S1 (297 + topOf S) 0 ≡ n = fs .above (297 + topOf S) (omega arith) ∙ cs .count in
             λ j. record { receiver = refIn (er j); name = em j; args = ea j; n = en j }
 
     pub left-run : (l : ℕ) → l ≡ bodyLimits lim → Runnable W S1 l (sp + 4)
     left-run k ek = subst (λ (y : ℕ). Runnable W S1 y (sp + 4)) (sym ek) there
       where
         call-low : (j : ℕ) → j < topOf S + 1 → Dec (j < topOf S) → baseAt S1 j + 4 ≤ sp + 4
-        call-low j l (yes h) = let z = run .placed .calls j h in let b = older-same (283 + 3 * j) (omega arith) (omega arith) in omega arith
+        call-low j l (yes h) = let z = run .placed .calls j h in let b : baseAt S1 j ≡ baseAt S j = older-same j 2 h (omega arith) in omega arith
         call-low j l (no h) =
             let e : topOf S ≡ j = omega (arith, h) in
-            subst (λ (k : ℕ). baseAt S1 k + 4 ≤ sp + 4) e (let b : baseAt S1 (topOf S) ≡ sp = fs .above (283 + 3 * topOf S) (omega arith) ∙ cs .base in omega arith)
+            subst (λ (k : ℕ). baseAt S1 k + 4 ≤ sp + 4) e (let b : baseAt S1 (topOf S) ≡ sp = fs .above (313 + topOf S) (omega arith) ∙ cs .base in omega arith)
 
         there : Runnable W S1 (bodyLimits lim) (sp + 4)
         there =
@@ -289,20 +291,20 @@ module _ (T W S : List ℕ) (next lim sp m n i : ℕ) (run : BodyRunnable W S ne
             same = length-set S3 279 (topOf S) ∙ fb .same ∙ ev .stack .same ∙ fs .same ∙ cs .same;
             below = λ p l. let z = low in same-back p (omega arith) ∙ ev .stack .below p (omega arith) ∙ below-same p (omega arith);
             above = λ p l k. by-place p l k (ℕ-discrete p 279);
+            calls = λ j k l h. let t = left-top in getD-set-other S3 279 (281 + 16 * k + j) (topOf S) 0 (λ z. omega arith) ∙ fb .above (281 + 16 * k + j) (omega arith) ∙ ev .stack .calls j k (omega arith) h ∙ older-same j k l h;
             spent = omega arith;
           }
         where
           full : length S3 ≡ 336
           full = fb .same ∙ ev .stack .same ∙ fs .same ∙ cs .same ∙ run .placed .full
 
-          beside : (p : ℕ) → 276 ≤ p → p < 281 + 3 * topOf S → (p ≡ 279 → ⊥) → Dec (p < 279) → getD S3 p 0 ≡ getD S p 0
+          beside : (p : ℕ) → 276 ≤ p → p < 281 → (p ≡ 279 → ⊥) → Dec (p < 279) → getD S3 p 0 ≡ getD S p 0
           beside p l k ne (yes h) = frame-back S S2 S3 fb p l h
           beside p l k ne (no h) =
-              let t = left-top in
               let g : 280 ≤ p = omega (arith, h, ne) in
-              fb .above p (omega arith) ∙ ev .stack .above p l (omega arith) ∙ older-same p g k
+              fb .above p (omega arith) ∙ ev .stack .above p l k ∙ fs .above p (omega arith) ∙ cs .above p g k
 
-          by-place : (p : ℕ) → 276 ≤ p → p < 281 + 3 * topOf S → Dec (p ≡ 279) → getD S4 p 0 ≡ getD S p 0
+          by-place : (p : ℕ) → 276 ≤ p → p < 281 → Dec (p ≡ 279) → getD S4 p 0 ≡ getD S p 0
           by-place p l k (yes e) = subst (λ (q : ℕ). getD S4 q 0 ≡ getD S q 0) (sym e) (getD-set-same S3 279 (topOf S) 0 (omega (arith, full)))
           by-place p l k (no e) = getD-set-other S3 279 p (topOf S) 0 e ∙ beside p l k e (decLt p 279)
 
@@ -322,9 +324,10 @@ module _ (T W S : List ℕ) (next lim sp m n i : ℕ) (run : BodyRunnable W S ne
             out-value S2 (sp + 4) r nz
             ∙ ap (λ (q : ℕ). Value (refIn q) r (fuelOf S2)) (sym (same-back (sp + 4) (let z = low in omega arith)))
 
-        pub left-ready : Holds W1 (refAt S4 (sp + 4)) × (topOf S < 63) × (234 * blockOf lim + 234 ≤ length W1)
+        pub left-ready : Bares W1 × Holds W1 (refAt S4 (sp + 4)) × (topOf S < 63) × (234 * blockOf lim + 234 ≤ length W1)
         left-ready =
             let z = run .fits .room in (
+              bares-kept (blockOf lim + 4) W W1 (left-evaluates .kept) (omega arith) (run .based .bares),
               given-older T W (leftFrame (refAt S sp) (argsAt S (sp + 1)) n) S1 (topOf S + 1) at 6 (depthOf lim - 1) (blockOf lim + 4) (fuelOf S) W1 (outAt S2 (sp + 4) r) left-evaluates (refAt S4 (sp + 4)) r (fuelOf S2) left-there .held,
               body-mark W S next n lim sp run,
               omega (arith, run .fits .long, left-evaluates .kept .same),

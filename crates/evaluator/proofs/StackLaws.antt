@@ -70,7 +70,7 @@ pub args-alike : (S S′ : List ℕ) (p : ℕ) → ((q : ℕ) → p ≤ q → q 
 unfolding argsAt
 args-alike S S′ p h = λ i. record { r = refIn (h p (omega arith) (omega arith) i) } ∷ record { r = refIn (h (p + 1) (omega arith) (omega arith) i) } ∷ record { r = refIn (h (p + 2) (omega arith) (omega arith) i) } ∷ []
 
-pub call-alike : (S S′ : List ℕ) (i : ℕ) → getD S′ (281 + 3 * i) 0 ≡ getD S (281 + 3 * i) 0 → getD S′ (282 + 3 * i) 0 ≡ getD S (282 + 3 * i) 0 → baseAt S′ i ≡ baseAt S i
+pub call-alike : (S S′ : List ℕ) (i : ℕ) → getD S′ (281 + i) 0 ≡ getD S (281 + i) 0 → getD S′ (297 + i) 0 ≡ getD S (297 + i) 0 → baseAt S′ i ≡ baseAt S i
     → ((q : ℕ) → baseAt S i ≤ q → q < baseAt S i + 4 → getD S′ q 0 ≡ getD S q 0) → callAt S′ i ≡ callAt S i
 unfolding callAt
 call-alike S S′ i em en eb h =
@@ -111,8 +111,7 @@ module _ (sp : ℕ) (S S′ : List ℕ) (pl : Placed S sp) (st : Stacked sp S S�
   pub call-same : (i : ℕ) → i < topOf S → callAt S′ i ≡ callAt S i
   call-same i l =
       let z = pl .calls i l in
-      call-alike S S′ i (st .above (281 + 3 * i) (omega arith) (omega arith)) (st .above (282 + 3 * i) (omega arith) (omega arith)) (st .above (283 + 3 * i) (omega arith) (omega arith))
-      (λ q a b. st .below q (omega arith))
+      call-alike S S′ i (st .calls i 0 l (omega arith)) (st .calls i 1 l (omega arith)) (st .calls i 2 l (omega arith)) (λ q a b. st .below q (omega arith))
 
   pub trace-same : (W : List ℕ) → traceIn W S′ (topOf S′) ≡ traceIn W S (topOf S)
   trace-same W = ap (traceIn W S′) top-same ∙ trace-below W S S′ (topOf S) call-same
@@ -128,12 +127,12 @@ module _ (sp : ℕ) (S S′ : List ℕ) (pl : Placed S sp) (st : Stacked sp S S�
         low = let b = pl .low in omega arith;
         bare = λ q. st .above 277 (omega arith) (omega arith) ∙ pl .bare (omega arith);
         mark = omega arith;
-        calls = λ i q. let t = top-same in let z = pl .calls i (omega arith) in let b = st .above (283 + 3 * i) (omega arith) (omega arith) in omega arith;
+        calls = λ i q. let t = top-same in let z = pl .calls i (omega arith) in let b : baseAt S′ i ≡ baseAt S i = st .calls i 2 (omega arith) (omega arith) in omega arith;
       }
 
 -- ---- steps, one after the other
 pub stacked-none : (sp : ℕ) (S : List ℕ) → Stacked sp S S
-stacked-none sp S = record { same = refl; below = λ p h. refl; above = λ p a b. refl; spent = omega arith }
+stacked-none sp S = record { same = refl; below = λ p h. refl; above = λ p a b. refl; calls = λ i j a b. refl; spent = omega arith }
 
 pub stacked-then : (sp sp′ : ℕ) (S S1 S2 : List ℕ) → sp ≤ sp′ → Stacked sp S S1 → Stacked sp′ S1 S2 → Stacked sp S S2
 stacked-then sp sp′ S S1 S2 l a b =
@@ -143,7 +142,8 @@ stacked-then sp sp′ S S1 S2 l a b =
     record {
       same = b .same ∙ a .same;
       below = λ p h. b .below p (omega arith) ∙ a .below p h;
-      above = λ p h k. b .above p h (omega arith) ∙ a .above p h k;
+      above = λ p h k. b .above p h k ∙ a .above p h k;
+      calls = λ i j h k. b .calls i j (omega arith) k ∙ a .calls i j h k;
       spent = omega arith;
     }
 
@@ -156,6 +156,7 @@ stacked-set sp S S1 q x a l m nf =
       same = length-set S1 q x ∙ a .same;
       below = λ p h. getD-set-other S1 q p x 0 (λ z. omega arith) ∙ a .below p h;
       above = λ p h k. getD-set-other S1 q p x 0 (λ z. omega arith) ∙ a .above p h k;
+      calls = λ i j h k. getD-set-other S1 q (281 + 16 * j + i) x 0 (λ z. omega arith) ∙ a .calls i j h k;
       spent = omega arith;
     }
 

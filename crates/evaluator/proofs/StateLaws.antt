@@ -1,6 +1,6 @@
 -- Parameters of a frame; numbers, arguments and open calls compared: one law for each return of `apart`, `same_value`, `same_args`, `same_call`, `other_call` and `open_call`.
 -- Not here: how a step changes the frame and the open calls (StackLaws).
-use Prim.Native.Nat.{ℕ, zero, suc, _+_, _-_, _*_, _≤_, _<_, _/_, _%_}
+use Prim.Native.Nat.{ℕ, zero, suc, _+_, _-_, _≤_, _<_, _/_, _%_}
 use native.Mathlib.Omega.{arith}
 use native.Mathlib.Numerals.{sub-one, add-one}
 use mathlib.Core.Path.{_≡_, refl, sym, ap, ap₂, _∙_, subst}
@@ -228,34 +228,34 @@ pick-false true = refl
 pick-false false = refl
 
 -- the places of a call's numbers, as the code has them
-count-place : (S : List ℕ) (i : ℕ) → getD S (281 + 3 * i + 1) 0 ≡ callAt S i .n
+count-place : (S : List ℕ) (i : ℕ) → getD S (281 + i + 16) 0 ≡ callAt S i .n
 unfolding callAt
-count-place S i = ap (λ (p : ℕ). getD S p 0) (let z : 281 + 3 * i + 1 ≡ 282 + 3 * i = omega arith in z)
+count-place S i = ap (λ (p : ℕ). getD S p 0) (let z : 281 + i + 16 ≡ 297 + i = omega arith in z)
 
-base-place : (S : List ℕ) (i : ℕ) → getD S (281 + 3 * i + 2) 0 ≡ baseAt S i
-base-place S i = ap (λ (p : ℕ). getD S p 0) (let z : 281 + 3 * i + 2 ≡ 283 + 3 * i = omega arith in z)
+base-place : (S : List ℕ) (i : ℕ) → getD S (281 + i + 32) 0 ≡ baseAt S i
+base-place S i = ap (λ (p : ℕ). getD S p 0) (let z : 281 + i + 32 ≡ 313 + i = omega arith in z)
 
-pub base-room : (S : List ℕ) (i : ℕ) → baseAt S i + 4 ≤ 336 → getD S (281 + 3 * i + 2) 0 + 4 ≤ 336
+pub base-room : (S : List ℕ) (i : ℕ) → baseAt S i + 4 ≤ 336 → getD S (281 + i + 32) 0 + 4 ≤ 336
 base-room S i h = omega (arith, base-place S i)
 
-receiver-place : (S : List ℕ) (i : ℕ) → refAt S (getD S (281 + 3 * i + 2) 0) ≡ callAt S i .receiver
+receiver-place : (S : List ℕ) (i : ℕ) → refAt S (getD S (281 + i + 32) 0) ≡ callAt S i .receiver
 unfolding callAt
 receiver-place S i = ap (refAt S) (base-place S i)
 
-args-place : (S : List ℕ) (i : ℕ) → argsAt S (getD S (281 + 3 * i + 2) 0 + 1) ≡ callAt S i .args
+args-place : (S : List ℕ) (i : ℕ) → argsAt S (getD S (281 + i + 32) 0 + 1) ≡ callAt S i .args
 unfolding callAt
 args-place S i = ap (λ (b : ℕ). argsAt S (b + 1)) (base-place S i)
 
 module _ (W S : List ℕ) (i : ℕ) (h : CallHolds W (callAt S i)) where
-  pub receiver-held : Holds W (refAt S (getD S (281 + 3 * i + 2) 0))
+  pub receiver-held : Holds W (refAt S (getD S (281 + i + 32) 0))
   receiver-held = subst (Holds W) (sym (receiver-place S i)) (h .receiver)
 
-  pub args-held : (n : ℕ) → getD S (281 + 3 * i + 1) 0 ≡ n → PartsHeld W (argsAt S (getD S (281 + 3 * i + 2) 0 + 1)) n
+  pub args-held : (n : ℕ) → getD S (281 + i + 16) 0 ≡ n → PartsHeld W (argsAt S (getD S (281 + i + 32) 0 + 1)) n
   args-held n e = subst (λ (ps : List Slot). PartsHeld W ps n) (sym (args-place S i)) (subst (PartsHeld W (callAt S i .args)) (sym (count-place S i) ∙ e) (h .args))
 
 module _ (W S : List ℕ) (i n sp : ℕ) where
   module _ (h : CallHolds W (callAt S i)) where
-    pub call-count : PartsHeld W (argsAt S (sp + 1)) n → (getD S (281 + 3 * i + 1) 0 ≡ n → ⊥)
+    pub call-count : PartsHeld W (argsAt S (sp + 1)) n → (getD S (281 + i + 16) 0 ≡ n → ⊥)
         → false ≡ sameOf (callIn W 0 (callAt S i)) (valueOf W (refAt S sp)) (callAt S i .name) (valuesFrom W (argsAt S (sp + 1)) 0 n)
     call-count b z = sym (same-name (callIn W 0 (callAt S i)) (valueOf W (refAt S sp)) (valuesFrom W (argsAt S (sp + 1)) 0 n)
         ∙ ap (λ (x : Bool). pick (eqGraph (valueOf W (callAt S i .receiver)) (valueOf W (refAt S sp))) x false)
@@ -263,7 +263,7 @@ module _ (W S : List ℕ) (i n sp : ℕ) where
         (λ e. z (count-place S i ∙ sym (length-values W (callAt S i .args) (callAt S i .n) (h .args .full)) ∙ e ∙ length-values W (argsAt S (sp + 1)) n (b .full))))
         ∙ pick-false (eqGraph (valueOf W (callAt S i .receiver)) (valueOf W (refAt S sp))))
 
-  module _ (r : Bool) (er : r ≡ eqGraph (valueOf W (refAt S (getD S (281 + 3 * i + 2) 0))) (valueOf W (refAt S sp))) where
+  module _ (r : Bool) (er : r ≡ eqGraph (valueOf W (refAt S (getD S (281 + i + 32) 0))) (valueOf W (refAt S sp))) where
     compared : r ≡ eqGraph (valueOf W (callAt S i .receiver)) (valueOf W (refAt S sp))
     compared = er ∙ ap (λ (x : ValueRef). eqGraph (valueOf W x) (valueOf W (refAt S sp))) (receiver-place S i)
 
@@ -275,17 +275,17 @@ module _ (W S : List ℕ) (i n sp : ℕ) where
     pub call-receiver : not r ≡ true → false ≡ sameOf (callIn W 0 (callAt S i)) (valueOf W (refAt S sp)) (callAt S i .name) (valuesFrom W (argsAt S (sp + 1)) 0 n)
     call-receiver z = sym (by-receiver ∙ ap (λ (x : Bool). pick x (eqGraphs (valuesFrom W (callAt S i .args) 0 (callAt S i .n)) (valuesFrom W (argsAt S (sp + 1)) 0 n)) false) (not-true r z))
 
-    pub call-args : not r ≡ false → getD S (281 + 3 * i + 1) 0 ≡ n → (s : Bool)
-        → s ≡ eqGraphs (valuesFrom W (argsAt S (getD S (281 + 3 * i + 2) 0 + 1)) 0 n) (valuesFrom W (argsAt S (sp + 1)) 0 n)
+    pub call-args : not r ≡ false → getD S (281 + i + 16) 0 ≡ n → (s : Bool)
+        → s ≡ eqGraphs (valuesFrom W (argsAt S (getD S (281 + i + 32) 0 + 1)) 0 n) (valuesFrom W (argsAt S (sp + 1)) 0 n)
         → s ≡ sameOf (callIn W 0 (callAt S i)) (valueOf W (refAt S sp)) (callAt S i .name) (valuesFrom W (argsAt S (sp + 1)) 0 n)
     call-args z e s es = es
         ∙ ap₂ {A = List Slot} {B = ℕ} (λ ps m. eqGraphs (valuesFrom W ps 0 m) (valuesFrom W (argsAt S (sp + 1)) 0 n)) (args-place S i) (sym e ∙ count-place S i)
         ∙ sym (by-receiver ∙ ap (λ (x : Bool). pick x (eqGraphs (valuesFrom W (callAt S i .args) 0 (callAt S i .n)) (valuesFrom W (argsAt S (sp + 1)) 0 n)) false) (not-false r z))
 
-  pub call-equal : CallHolds W (callAt S i) → getD S (getD S (281 + 3 * i + 2) 0) 0 ≡ getD S sp 0 → getD S (281 + 3 * i + 1) 0 ≡ n → (s : Bool)
-      → s ≡ eqGraphs (valuesFrom W (argsAt S (getD S (281 + 3 * i + 2) 0 + 1)) 0 n) (valuesFrom W (argsAt S (sp + 1)) 0 n)
+  pub call-equal : CallHolds W (callAt S i) → getD S (getD S (281 + i + 32) 0) 0 ≡ getD S sp 0 → getD S (281 + i + 16) 0 ≡ n → (s : Bool)
+      → s ≡ eqGraphs (valuesFrom W (argsAt S (getD S (281 + i + 32) 0 + 1)) 0 n) (valuesFrom W (argsAt S (sp + 1)) 0 n)
       → s ≡ sameOf (callIn W 0 (callAt S i)) (valueOf W (refAt S sp)) (callAt S i .name) (valuesFrom W (argsAt S (sp + 1)) 0 n)
-  call-equal h q e s es = call-args true (numbers-same W (getD S (getD S (281 + 3 * i + 2) 0) 0) (getD S sp 0) (receiver-held W S i h) q) refl e s es
+  call-equal h q e s es = call-args true (numbers-same W (getD S (getD S (281 + i + 32) 0) 0) (getD S sp 0) (receiver-held W S i h) q) refl e s es
 
 -- ---- the trace searched, the newest call first
 pub by-tests : (o : language.OpenCall) (os : List language.OpenCall) (v : Graph) (m : ℕ) (vs : List Graph)
@@ -304,31 +304,31 @@ by-tests o os v m vs = go (eqb (o .name) m) (eqGraph (o .receiver) v) (eqGraphs 
 
 -- ---- calls told apart by numbers
 module _ (S : List ℕ) (i m y : ℕ) where
-  pub other-name : (getD S (281 + 3 * i) 0 ≡ m → ⊥) → true ≡ otherOf S i m y
+  pub other-name : (getD S (281 + i) 0 ≡ m → ⊥) → true ≡ otherOf S i m y
   unfolding otherOf
-  other-name h = rw (ne-eqb (getD S (281 + 3 * i) 0) m h)
+  other-name h = rw (ne-eqb (getD S (281 + i) 0) m h)
 
-  pub other-receiver : getD S (281 + 3 * i) 0 ≡ m → (r : Bool) → r ≡ apartOf (getD S (getD S (281 + 3 * i + 2) 0) 0) y → r ≡ otherOf S i m y
+  pub other-receiver : getD S (281 + i) 0 ≡ m → (r : Bool) → r ≡ apartOf (getD S (getD S (281 + i + 32) 0) 0) y → r ≡ otherOf S i m y
   unfolding otherOf
-  other-receiver e r er = rw (eq-eqb (getD S (281 + 3 * i) 0) m e) (er ∙ ap (λ (b : ℕ). apartOf (getD S b 0) y) (base-place S i))
+  other-receiver e r er = rw (eq-eqb (getD S (281 + i) 0) m e) (er ∙ ap (λ (b : ℕ). apartOf (getD S b 0) y) (base-place S i))
 
-  other-not : otherOf S i m y ≡ false → getD S (281 + 3 * i) 0 ≡ m
+  other-not : otherOf S i m y ≡ false → getD S (281 + i) 0 ≡ m
   unfolding otherOf
-  other-not z = go (eqb (getD S (281 + 3 * i) 0) m) refl z
+  other-not z = go (eqb (getD S (281 + i) 0) m) refl z
     where
-      go : (a : Bool) → eqb (getD S (281 + 3 * i) 0) m ≡ a → pick a (apartOf (getD S (baseAt S i) 0) y) true ≡ false → getD S (281 + 3 * i) 0 ≡ m
-      go true e q = eqb-true (getD S (281 + 3 * i) 0) m e
+      go : (a : Bool) → eqb (getD S (281 + i) 0) m ≡ a → pick a (apartOf (getD S (baseAt S i) 0) y) true ≡ false → getD S (281 + i) 0 ≡ m
+      go true e q = eqb-true (getD S (281 + i) 0) m e
       go false e q = absurd (true≢false q)
 
 -- the name of call i, as the code has it
-name-is : (S : List ℕ) (i m : ℕ) → getD S (281 + 3 * i) 0 ≡ m → callAt S i .name ≡ m
+name-is : (S : List ℕ) (i m : ℕ) → getD S (281 + i) 0 ≡ m → callAt S i .name ≡ m
 unfolding callAt
 name-is S i m e = e
 
 call-other : (W S : List ℕ) (i m sp : ℕ) (vs : List Graph) → CallHolds W (callAt S i) → Holds W (refAt S sp) → otherOf S i m (getD S sp 0) ≡ true
     → false ≡ sameOf (callIn W 0 (callAt S i)) (valueOf W (refAt S sp)) m vs
 unfolding sameOf callAt otherOf
-call-other W S i m sp vs h hs z = go (eqb (getD S (281 + 3 * i) 0) m) z
+call-other W S i m sp vs h hs z = go (eqb (getD S (281 + i) 0) m) z
   where
     go : (a : Bool) → pick a (apartOf (getD S (baseAt S i) 0) (getD S sp 0)) true ≡ true
         → false ≡ pick a (pick (eqGraph (valueOf W (refAt S (baseAt S i))) (valueOf W (refAt S sp))) (eqGraphs (callIn W 0 (callAt S i) .args) vs) false) false

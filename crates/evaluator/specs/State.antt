@@ -1,6 +1,6 @@
 -- What the variables of a body and the open calls on the stack stand for in the work bytes W, and when they do.
 -- Not here: the rest of the stack (Stack), what evaluation answers (Answers).
-use Prim.Native.Nat.{ℕ, zero, suc, _+_, _*_, _/_, _≤_, _<_}
+use Prim.Native.Nat.{ℕ, zero, suc, _+_, _/_, _≤_, _<_}
 use mathlib.Core.Bool.{Bool, true, false, not}
 use mathlib.Core.List.{List, [], _∷_}
 use mathlib.Core.Option.{Option, none, some}
@@ -67,7 +67,8 @@ frameIn W f = record { self = heldIn W (f .this); result = heldIn W (f .res); pa
 unfoldable pub variableOf : Frame → ℕ → Held
 variableOf f k = pick (ltb k (f .n)) (Is (slotAt (f .args) k)) Absent
 
--- ---- open calls on the stack S: from place 281 on, three numbers a call: its name, how many arguments it has, where its receiver stands
+-- ---- open calls on the stack S: three rows of 16 numbers, one number a call: its name from place 281 on, how many arguments it has from 297 on, where its
+-- receiver stands from 313 on
 -- the value at a place
 abbrev pub refAt : List ℕ → ℕ → ValueRef
 refAt S p = refIn (getD S p 0)
@@ -78,10 +79,10 @@ argsAt S p = record { r = refAt S p } ∷ record { r = refAt S (p + 1) } ∷ rec
 
 -- where the receiver of call i stands
 abbrev pub baseAt : List ℕ → ℕ → ℕ
-baseAt S i = getD S (283 + 3 * i) 0
+baseAt S i = getD S (313 + i) 0
 
 unfoldable pub callAt : List ℕ → ℕ → OpenCall
-callAt S i = record { receiver = refAt S (baseAt S i); name = getD S (281 + 3 * i) 0; args = argsAt S (baseAt S i + 1); n = getD S (282 + 3 * i) 0 }
+callAt S i = record { receiver = refAt S (baseAt S i); name = getD S (281 + i) 0; args = argsAt S (baseAt S i + 1); n = getD S (297 + i) 0 }
 
 -- ---- traces: the open calls of a stack
 pub record CallOlder (W : List ℕ) (sp : ℕ) (c : OpenCall) : Type 0 where
@@ -119,7 +120,7 @@ apartOf x y = pick (eqb (x / 256) (y / 256)) (not (eqb x y)) false
 
 -- call i of a stack has another name than m, or a receiver whose number and y are apart
 unfoldable pub otherOf : List ℕ → ℕ → ℕ → ℕ → Bool
-otherOf S i m y = pick (eqb (getD S (281 + 3 * i) 0) m) (apartOf (getD S (baseAt S i) 0) y) true
+otherOf S i m y = pick (eqb (getD S (281 + i) 0) m) (apartOf (getD S (baseAt S i) 0) y) true
 
 unfoldable pub sameOf : language.OpenCall → Graph → ℕ → List Graph → Bool
 sameOf o v m vs = pick (eqb (o .name) m) (pick (eqGraph (o .receiver) v) (eqGraphs (o .args) vs) false) false

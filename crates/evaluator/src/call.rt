@@ -2,6 +2,7 @@
 // The receiver stands at place sp and the arguments follow it; a side is run four places and four blocks on, and its value is brought down to the call's.
 // A left side is run under the trace with its call on top.
 use crate::eval::eval;
+use crate::eval::eval_body;
 use crate::eval::eval_list;
 use crate::eval::eval_receiver;
 use crate::find::find;
@@ -29,7 +30,12 @@ use values::refs::unpack;
 use values::value::bring_in;
 use values::value::close_in;
 ghost use mathlib.Core.Path.{_≡_};
-ghost use Prim.Native.Nat.{ℕ, _+_, _<_};
+ghost use Prim.Native.Nat.{ℕ, _+_, _*_, _<_, _≤_};
+ghost use lib.ListN.{length};
+ghost use Rattle.values.specs.Layout.{Holds, valueOf};
+ghost use Rattle.values.specs.Operations.{Gives, closeOf};
+ghost use Rattle.values.specs.Refs.{refIn};
+ghost use Rattle.maker.specs.Bares.{Bares};
 ghost use Rattle.evaluator.specs.Limits.{bodyLimits};
 ghost use Rattle.evaluator.specs.Steps.{PartRunnable, CallRunnable, BodyRunnable, CallStep, InvokeStep, RightStep, LeftStep};
 
@@ -108,6 +114,17 @@ pub fn body_limits(lim: usize) -> usize
     lim / 8 * 8 + 1022
 }
 
+// The number of X = u, in block `dst` or below. In the objects of block 0 there is no mark.
+pub fn close_value(work: &mut [u8], x: u8, u: u32, dst: u16) -> u32
+    requires { ⌜ Bares (now work) × Holds (now work) (refIn u) × (x < 63) × (234 * dst + 234 ≤ length (now work)) ⌝ }
+    ensures { λ q. ⌜ Gives (now (work .entry)) dst (now (work .exit)) (refIn q) (closeOf x (valueOf (now (work .entry)) (refIn u))) ⌝ }
+{
+    if u < 192 {
+        return u;
+    }
+    close_in(work, x, u, dst)
+}
+
 // The right side of method i, with res the mark x - 1.
 pub fn run_right(
     t: &[u8; SIZE],
@@ -160,13 +177,13 @@ pub fn run_left(
     push(st, top, m as u32, n as u32, sp as u32);
     enter(st, sp as u32, n as u32, 0);
     let at = left_place(t, i);
-    let r = eval(t, work, st, at, body_limits(lim), sp + 4);
+    let r = eval_body(t, work, st, at, body_limits(lim), sp + 4);
     set_frame(st, base, count, res);
     st[TOP] = top;
     let w = went_of(r);
     let Went::On(_after) = w else {
         return 0;
     };
-    st[sp] = close_in(work, top as u8, st[sp + 4], (lim / 256) as u16);
+    st[sp] = close_value(work, top as u8, st[sp + 4], (lim / 256) as u16);
     next
 }

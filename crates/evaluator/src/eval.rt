@@ -23,11 +23,11 @@ use values::refs::NOTHING;
 ghost use mathlib.Core.Path.{_≡_};
 ghost use Prim.Native.Nat.{ℕ, _+_, _*_, _<_, _≤_};
 ghost use lib.ListN.{length};
-ghost use Rattle.maker.specs.Laying.{partsOf};
-ghost use Rattle.evaluator.specs.Answers.{slotsOf};
+ghost use Rattle.cofj.specs.Values.{make};
+ghost use Rattle.canon.specs.Layout.{part};
+ghost use Rattle.maker.specs.Laying.{partsOf, PartsHeld, valuesFrom, MadeIn};
 ghost use Rattle.evaluator.specs.Limits.{pastOf};
 ghost use Rattle.evaluator.specs.Preset.{isPreset};
-ghost use Rattle.evaluator.specs.State.{refAt};
 ghost use Rattle.evaluator.specs.Steps.{Runnable, PartRunnable, ListRunnable, PartsReady, EvalStep, FieldStep, ListStep, NewStep, FinishStep};
 
 // Whether a new object of class c with n values stands in block 0 from the start.
@@ -81,8 +81,8 @@ pub fn eval(
     }
 }
 
-// The same for what a field is selected of. Most are variables, which need no call of `eval`. This function and the next two do what `eval` does; each has one caller,
-// which the compiler takes it into, and answers at once what is most often met there.
+// The same for what a field is selected of. Most are variables, which need no call of `eval`. This function and the next three do what `eval` does, and answer at once what is
+// most often met there; the three have one caller each, which the compiler takes them into.
 pub fn eval_part(
     t: &[u8; SIZE],
     work: &mut [u8],
@@ -102,6 +102,37 @@ pub fn eval_part(
         Shape::This { next: _ } => leaf(t, st, at, sp),
         Shape::Result { next: _ } => leaf(t, st, at, sp),
         Shape::Parameter { k: _, next: _ } => leaf(t, st, at, sp),
+        _ => eval(t, work, st, at, lim, sp),
+    }
+}
+
+// The same for the left side of a method. Many are variables or new objects without fields.
+pub fn eval_body(
+    t: &[u8; SIZE],
+    work: &mut [u8],
+    st: &mut [u32; STACK],
+    at: usize,
+    lim: usize,
+    sp: usize,
+) -> usize
+    requires { ⌜ Runnable (now work) (now st) lim sp ⌝ }
+    ensures { λ r. ⌜ EvalStep (now (t .entry)) (now (work .entry)) (now (st .entry)) at lim sp (now (work .exit)) (now (st .exit)) r ⌝ }
+{
+    if lim % 8 == 0 {
+        return stop(st, STUCK);
+    }
+    let s = shape_at(t, at);
+    match s {
+        Shape::This { next: _ } => leaf(t, st, at, sp),
+        Shape::Result { next: _ } => leaf(t, st, at, sp),
+        Shape::Parameter { k: _, next: _ } => leaf(t, st, at, sp),
+        Shape::New { c, n, next } => {
+            if is_preset(t, c, n) {
+                st[sp] = c as u32;
+                return next;
+            }
+            eval(t, work, st, at, lim, sp)
+        }
         _ => eval(t, work, st, at, lim, sp),
     }
 }
@@ -257,12 +288,13 @@ pub fn eval_list(
     p
 }
 
-// The numbers of the four places from sp on.
-pub fn parts_at(st: &[u32; STACK], sp: usize) -> [u32; 4]
-    requires { ⌜ sp + 4 ≤ 336 ⌝ }
-    ensures { λ r. ⌜ partsOf r ≡ slotsOf (refAt (now (st .entry)) sp) (refAt (now (st .entry)) (sp + 1)) (refAt (now (st .entry)) (sp + 2)) (refAt (now (st .entry)) (sp + 3)) ⌝ }
+// A new object of class c with the n values from place sp on, in block dst or below: its number, or NOTHING if it has more than 32 objects.
+pub fn make_at(work: &mut [u8], st: &[u32; STACK], c: u8, n: u8, sp: usize, dst: u16) -> u32
+    requires { ⌜ PartsHeld (now work) (partsOf (part (now st) sp 4)) n × (n ≤ 4) × (234 * dst + 234 ≤ length (now work)) × (sp + 4 ≤ 336) ⌝ }
+    ensures { λ q. ⌜ MadeIn (now (work .entry)) (make c (valuesFrom (now (work .entry)) (partsOf (part (now (st .entry)) sp 4)) 0 n)) dst (now (work .exit)) q ⌝ }
 {
-    [st[sp], st[sp + 1], st[sp + 2], st[sp + 3]]
+    let s = &st[..];
+    make(work, c, &s[sp..sp + 4], n, dst)
 }
 
 // A new object of class c with the n values from place sp on, as the value at sp, in block dst or below; `next` is the place after.
@@ -286,8 +318,7 @@ pub fn finish(
         st[sp] = b;
         return next;
     }
-    let ps = parts_at(st, sp);
-    let q = make(work, c, &ps, n, dst);
+    let q = make_at(work, st, c, n, sp, dst);
     if q == NOTHING {
         return stop(st, TOO_LARGE);
     }

@@ -63,11 +63,11 @@ pub fn same_call(work: &[u8], st: &[u32; STACK], i: u32, n: u32, sp: usize) -> b
     requires { ⌜ (i < 16) × (baseAt (now st) i + 4 ≤ 336) × CallHolds (now work) (callAt (now st) i) × (sp + 4 ≤ 336) × Holds (now work) (refAt (now st) sp) × PartsHeld (now work) (argsAt (now st) (sp + 1)) n × (n ≤ 3) ⌝ }
     ensures { λ r. ⌜ r ≡ sameOf (callIn (now (work .entry)) 0 (callAt (now (st .entry)) i)) (valueOf (now (work .entry)) (refAt (now (st .entry)) sp)) (callAt (now (st .entry)) i .name) (valuesFrom (now (work .entry)) (argsAt (now (st .entry)) (sp + 1)) 0 n) ⌝ }
 {
-    let at = CALLS + 3 * (i as usize);
-    if st[at + 1] != n {
+    let at = CALLS + i as usize;
+    if st[at + 16] != n {
         return false;
     }
-    let base = st[at + 2];
+    let base = st[at + 32];
     let b = base as usize;
     let x = st[b];
     let y = st[sp];
@@ -84,11 +84,11 @@ pub fn other_call(st: &[u32; STACK], i: u32, m: u32, y: u32) -> bool
     requires { ⌜ (i < 16) × (baseAt (now st) i + 4 ≤ 336) ⌝ }
     ensures { λ r. ⌜ r ≡ otherOf (now (st .entry)) i m y ⌝ }
 {
-    let at = CALLS + 3 * (i as usize);
+    let at = CALLS + i as usize;
     if st[at] != m {
         return true;
     }
-    let base = st[at + 2];
+    let base = st[at + 32];
     apart(st[base as usize], y)
 }
 

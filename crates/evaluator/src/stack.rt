@@ -1,10 +1,11 @@
 // The stack of values and what stands beside it, in numbers that are lent. At place sp, below 274, stands the value of the expression that is evaluated
 // there. Then the fuel left; why the run stopped; the frame: where the receiver stands (the arguments follow it; 274 in main), how many arguments
-// there are, the mark of res and 1, or 0; how many left-side calls are open; and from place 281 on three numbers for each of those, the oldest first:
-// its name, how many arguments it has, where its receiver stands. The mark of a call is its number.
+// there are, the mark of res and 1, or 0; how many left-side calls are open; and three rows of 16 numbers, one number for each of those calls,
+// the oldest first: from place 281 on its name, from 297 on how many arguments it has, from 313 on where its receiver stands. The mark of a call is its
+// number.
 // Not here: which call is met again (met).
 ghost use mathlib.Core.Path.{_≡_};
-ghost use Prim.Native.Nat.{ℕ, _+_, _*_, _<_, _≤_};
+ghost use Prim.Native.Nat.{ℕ, _+_, _<_};
 ghost use lib.ListN.{length, set};
 ghost use Rattle.evaluator.specs.Stack.{wentOf, FrameSet, CallSet};
 
@@ -74,9 +75,9 @@ pub fn push(st: &mut [u32; STACK], top: u32, name: u32, count: u32, base: u32)
     requires { ⌜ (length (now st) ≡ 336) × (top < 16) ⌝ }
     ensures { λ _. ⌜ CallSet (now (st .entry)) top name count base (now (st .exit)) ⌝ }
 {
-    let at = CALLS + 3 * (top as usize);
+    let at = CALLS + top as usize;
     st[at] = name;
-    st[at + 1] = count;
-    st[at + 2] = base;
+    st[at + 16] = count;
+    st[at + 32] = base;
     st[TOP] = top + 1;
 }

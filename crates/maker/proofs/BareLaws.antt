@@ -19,9 +19,10 @@ use Rattle.values.specs.Layout.{Holds}
 use Rattle.values.proofs.Kept.{object-kept}
 use Rattle.values.proofs.Selecting.{unchanged, under}
 use Rattle.maker.specs.Laying.{valuesFrom, MadeIn}
+use Rattle.maker.specs.Adding.{codesOf, objectOf}
 use Rattle.maker.specs.Bares.{bareObject, Preset, Bares, LaidBares}
 use Rattle.maker.proofs.Lays.{number-here}
-use Rattle.maker.proofs.Beside.{bare-root, no-parts, each-none, beside-value}
+use Rattle.maker.proofs.Beside.{bare-root, bare-codes, no-parts, each-none, beside-value}
 
 -- ---- the table: a test of the numbers below n, and what it tells of each
 abbrev pub allTo : (ℕ → Bool) → ℕ → Bool
@@ -97,6 +98,11 @@ module _ (D : List ℕ) (room : 234 ≤ length D) (ec : countIn D 0 ≡ 32) (el 
     level = λ q h.
         let z : 234 * 0 + q ≡ 234 * 0 + 6 * (q / 6) + (q - 6 * (q / 6)) = omega arith in
         omega (arith, ap (λ (p : ℕ). getD D p 0) z, each (q / 6) (omega (arith, ec)) (q - 6 * (q / 6)) (omega arith), bare-byte (q / 6) (q - 6 * (q / 6)) (omega (arith, ec)) (omega arith));
+    reach = λ i f h l c.
+        let m : i < 32 = omega (arith, ec) in
+        let z : 234 * 0 + 6 * i + 2 + f ≡ 234 * 0 + 6 * i + (2 + f) = omega arith in
+        let y : 0 + (2 + f) ≡ 2 + f = omega arith in
+        absurd (omega (arith, ap (λ (p : ℕ). getD D p 0) z, each i m (2 + f) (omega arith), rw y at (bare-root D i .packed .spare (2 + f) (omega arith) (omega arith))));
   }
 
 pub bares-laid : (W P D : List ℕ) → Preset P → Carried P 0 W 0 194 D → 234 ≤ length W → LaidBares W D
@@ -105,6 +111,7 @@ bares-laid W P D pr ca room = record {
   bares = record {
     block = bares-block D long ec el each;
     count = ec;
+    level = el;
     cls = λ j m. let z : 6 * j ≡ 234 * 0 + 6 * j = omega arith in rw z (bare-cls D long ec el each j m);
     bare = λ j m. let z : 6 * j + 1 ≡ 234 * 0 + 6 * j + 1 = omega arith in rw z (each j m 1 (omega arith));
   };
@@ -140,9 +147,9 @@ module _ (W : List ℕ) (b : Bares W) where
   -- object c of block 0 is a new object of class c without parts
   module _ (c dst : ℕ) (h : c < 32) where
     bare-value : make c [] ≡ canon (graphAt W 0 c)
-    unfolding valuesFrom countIn
+    unfolding valuesFrom countIn objectOf codesOf
     bare-value =
-        beside-value W c [] 0 (bareObject c) (no-parts W) (bare-root W c) 0 (b .block) (each-none [] 0 0) c
+        beside-value W c [] 0 3233857728 (no-parts W) (bare-codes W) 0 (b .block) (each-none [] 0 0) c
         (record { hit = λ _. bare-node c h; miss = λ l. absurd (omega (arith, b .count)) }) (omega (arith, b .count))
 
     pub bare-number : MadeIn W (make c []) dst W c
@@ -151,10 +158,11 @@ module _ (W : List ℕ) (b : Bares W) where
         (number-here W W _ dst 0 c (bare-held c h .held) bare-value (under dst W W (unchanged dst W)) (omega arith) (omega arith))
 
 pub bares-kept : (b : ℕ) (W W′ : List ℕ) → Beneath b W W′ → 0 < b → Bares W → Bares W′
-unfolding countIn
+unfolding countIn levelIn
 bares-kept b W W′ o h s = record {
   block = object-kept W W′ 0 (o .same) (λ p l m. o .below p (omega arith)) 0 (bare-held W s 0 (omega arith)) .held .held .block;
   count = o .below (234 * 0 + 192) (omega arith) ∙ s .count;
+  level = o .below (234 * 0 + 193) (omega arith) ∙ s .level;
   cls = λ c l. o .below (6 * c) (omega arith) ∙ s .cls c l;
   bare = λ c l. o .below (6 * c + 1) (omega arith) ∙ s .bare c l;
 }

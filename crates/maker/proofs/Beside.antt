@@ -13,10 +13,10 @@ use borrow.Author.Tests.{eqb-true, eq-eqb, ne-eqb}
 use Rattle.cofj.specs.Values.{Ref, obj, mark, undet, Node, node, Graph, graph, nodeAt, refsAt, canon, make, eqNode, eqNats}
 use Rattle.cofj.specs.Unfolding.{InRange, follow}
 use Rattle.cofj.proofs.Basics.{getD-map-lt, eqNode-true, eqNode-refl}
-use Rattle.canon.specs.Layout.{refOf, nodeIn, nodesIn, Packed, part, Distinct, Block, Inside, objectsIn, graphAt, countIn, levelIn, Outside}
+use Rattle.canon.specs.Layout.{refOf, nodeIn, nodesIn, Packed, part, Distinct, Block, Inside, objectsIn, graphAt, countIn, levelIn, Outside, ended}
 use Rattle.canon.specs.Tables.{Carried}
 use Rattle.canon.specs.Numbers.{Levels}
-use Rattle.canon.proofs.Nodes.{length-nodes, at-nodes, more-nodes, nodes-same, node-same, packed-same, eq-node, ref-object, ref-undet, ref-mark}
+use Rattle.canon.proofs.Nodes.{field-low, code-low, ended-size, ended-below, ended-above, ended-count, ended-level, ended-reach, length-nodes, at-nodes, more-nodes, nodes-same, node-same, packed-same, eq-node, ref-object, ref-undet, ref-mark}
 use Rattle.canon.proofs.Walks.{four, four-at}
 use Rattle.values.specs.declared.ValueRef.{ValueRef}
 use Rattle.values.specs.declared.ValueRef.the-variants.{Object, Mark, Undetermined}
@@ -33,8 +33,9 @@ use Rattle.values.proofs.RefLaws.{object-in, undetermined-in, mark-in}
 use Rattle.maker.specs.Bares.{bareObject}
 use Rattle.maker.specs.declared.Slot.{Slot}
 use Rattle.maker.specs.Laying.{partsOf, valuesFrom, rawsFrom, PartsHeld, MadeIn}
-use Rattle.maker.specs.Adding.{roots, RootObject, Missed, Found, Emptied, Appended, Added, isObject, blockOf, standsIn, partOf, allStand, someObject, firstBlock}
-use Rattle.maker.proofs.Lays.{fresh, fresh-class, fresh-count, fresh-spare, none-slot, part-in, raws-whole, made-raw, number-held, number-here, number-brought}
+use Rattle.maker.specs.Adding.{codesOf, objectOf, roots, RootObject, RootCodes, Missed, Found, Emptied, Appended, Added, isObject, blockOf, standsIn, partOf, allStand, someObject, firstBlock}
+use Rattle.maker.proofs.Codes.{object-class, object-count, object-code, object-length, object-whole, spare-codes, first-code, next-code, codes-packed, objectPut, object-put}
+use Rattle.maker.proofs.Lays.{none-slot, part-in, raws-whole, made-raw, number-held, number-here, number-brought}
 use Rattle.maker.proofs.Adding.{more, inner-more, distinct-more, Fit, AllFit, roots-low, top, make-found, make-new}
 
 -- ---- the new object
@@ -48,86 +49,82 @@ module _ (W : List ℕ) (r : ValueRef) where
   pub code-undet : r ≡ Undetermined → refOf 192 ≡ rawOf W r .root
   code-undet e = rw e ref-undet
 
-pub set-length : (T : List ℕ) (i x m : ℕ) → length T ≡ m → length (set T i x) ≡ m
-set-length T i x m e = length-set T i x ∙ e
+-- the codes of the parts from i on, n in all
+pub record RootBegun (W : List ℕ) (ps : List Slot) (n i w : ℕ) : Type 0 where
+  pub done : (j : ℕ) → i + j < n → refOf (getD (codesOf w) j 0) ≡ rawOf W (partOf ps (i + j)) .root
+  pub spare : (j : ℕ) → n ≤ i + j → j < 4 → getD (codesOf w) j 0 ≡ 192
 
--- its first i fields are written
-pub record RootBegun (W : List ℕ) (c : ℕ) (ps : List Slot) (n i : ℕ) (T : List ℕ) : Type 0 where
-  pub long : 6 ≤ length T
-  pub cls : getD T 0 0 ≡ c
-  pub count : getD T 1 0 ≡ n
-  pub done : (j : ℕ) → j < i → refOf (getD T (2 + j) 0) ≡ rawOf W (partOf ps j) .root
-  pub spare : (k : ℕ) → 2 + i ≤ k → k < 6 → getD T k 0 ≡ 192
+pub root-none : (W : List ℕ) (ps : List Slot) (n : ℕ) → RootBegun W ps n n 3233857728
+root-none W ps n = record { done = λ j l. absurd (omega arith); spare = λ j l h. spare-codes j h }
 
-pub root-object-start : (W : List ℕ) (c : ℕ) (ps : List Slot) (n : ℕ) (R : List ℕ) → 6 ≤ length R → RootBegun W c ps n 0 (fresh R c n)
-root-object-start W c ps n R h = record {
-  long = simp length-set (omega arith);
-  cls = fresh-class R c n h;
-  count = fresh-count R c n h;
-  done = λ j l. absurd (omega arith);
-  spare = λ k a b. fresh-spare R c n h k (omega arith) b;
-}
+pub root-held : (W : List ℕ) (ps : List Slot) (n i : ℕ) (v : ValueRef) → PartsHeld W ps n → 0 < i → i ≤ n → v ≡ partOf ps (i - 1) → Holds W v
+root-held W ps n i v held h le e = subst (Holds W) (sym e) (held .part (i - 1) (omega arith))
 
-pub root-object-more : (W : List ℕ) (c : ℕ) (ps : List Slot) (n i : ℕ) (T : List ℕ) (v : ValueRef) (x : ℕ) → RootBegun W c ps n i T → i < n → n ≤ 4
-    → v ≡ partOf ps i → refOf x ≡ rawOf W v .root → RootBegun W c ps n (i + 1) (set T (2 + i) x)
-root-object-more W c ps n i T v x w h few ev ex = record {
-  long = rw (length-set T (2 + i) x) (w .long);
-  cls = getD-set-other T (2 + i) 0 x 0 (λ z. omega arith) ∙ w .cls;
-  count = getD-set-other T (2 + i) 1 x 0 (λ z. omega arith) ∙ w .count;
-  done = λ j l. go j l (ℕ-discrete j i);
-  spare = λ k a b. getD-set-other T (2 + i) k x 0 (λ z. omega arith) ∙ w .spare k (omega arith) b;
+pub root-more : (W : List ℕ) (ps : List Slot) (n i w : ℕ) (v : ValueRef) (x : ℕ) → RootBegun W ps n i w → 0 < i → i ≤ n → n ≤ 4 → x < 256
+    → v ≡ partOf ps (i - 1) → refOf x ≡ rawOf W v .root → RootBegun W ps n (i - 1) (x + 256 * (w % 16777216))
+root-more W ps n i w v x b h le few lx ev ex = record { done = done; spare = spare }
+  where
+    done : (j : ℕ) → i - 1 + j < n → refOf (getD (codesOf (x + 256 * (w % 16777216))) j 0) ≡ rawOf W (partOf ps (i - 1 + j)) .root
+    done zero l = let e : i - 1 + 0 ≡ i - 1 = omega arith in rw e (ap refOf (first-code x w lx) ∙ ex ∙ ap (λ (u : ValueRef). rawOf W u .root) ev)
+    done (suc j) l = let e : i - 1 + suc j ≡ i + j = omega arith in rw e (ap refOf (next-code x w lx j (omega arith)) ∙ b .done j (omega arith))
+
+    spare : (j : ℕ) → n ≤ i - 1 + j → j < 4 → getD (codesOf (x + 256 * (w % 16777216))) j 0 ≡ 192
+    spare zero l m = absurd (omega arith)
+    spare (suc j) l m = next-code x w lx j (omega arith) ∙ b .spare j (omega arith) (omega arith)
+
+root-refs : (W : List ℕ) (ps : List Slot) (n : ℕ) (T : List ℕ) → n ≤ 4 → PartsHeld W ps n → ((j : ℕ) → j < n → refOf (getD T (2 + j) 0) ≡ rawOf W (partOf ps j) .root)
+    → take n (four T 0) ≡ roots (rawsFrom W ps 0 n)
+unfolding rawsFrom
+root-refs W ps n T few held code =
+    let lp : length (take n ps) ≡ n = length-take-le n ps (held .full) in
+    let lg : length (map (λ s. rawOf W (s .r)) (take n ps)) ≡ n = length-map (take n ps) (λ s. rawOf W (s .r)) ∙ lp in
+    let lt : length (take n (four T 0)) ≡ n = omega (arith, length-take n (four T 0)) in
+    ext-getD undet (take n (four T 0)) (roots (map (λ s. rawOf W (s .r)) (take n ps)))
+    (lt ∙ sym lg ∙ sym (length-map (map (λ s. rawOf W (s .r)) (take n ps)) (λ g. g .root)))
+    (λ j h. let h′ : j < n = omega arith in
+    getD-take n (four T 0) j undet h′ ∙ four-at T 0 j (omega arith) ∙ code j h′
+    ∙ ap (λ (s : Slot). rawOf W (s .r) .root) (sym (getD-take n ps j none-slot h′))
+    ∙ ap (λ (g : Graph). g .root) (sym (getD-map-lt (λ s. rawOf W (s .r)) (take n ps) j (graph undet []) none-slot (omega arith)))
+    ∙ sym (getD-map-lt (λ g. g .root) (map (λ s. rawOf W (s .r)) (take n ps)) j undet (graph undet []) (omega arith)))
+
+pub root-done : (W : List ℕ) (ps : List Slot) (n i w : ℕ) → RootBegun W ps n i w → i ≤ 0 → n ≤ 4 → PartsHeld W ps n → RootCodes (rawsFrom W ps 0 n) n w
+unfolding nodeIn
+root-done W ps n i w b none few held = record {
+  object = λ c. record {
+    is = ap₂ node (object-class c n w) (ap (λ (k : ℕ). take k (four (objectOf c n w) 0)) (object-count c n w) ∙ root-refs W ps n (objectOf c n w) few held (code c));
+    packed = codes-packed c n w few (λ j l m. b .spare j (omega arith) m);
+  };
 }
   where
-    go : (j : ℕ) → j < i + 1 → Dec (j ≡ i) → refOf (getD (set T (2 + i) x) (2 + j) 0) ≡ rawOf W (partOf ps j) .root
-    go j l (yes e) = rw e (ap refOf (getD-set-same T (2 + i) x 0 (omega (arith, w .long))) ∙ ex ∙ ap (λ (u : ValueRef). rawOf W u .root) ev)
-    go j l (no e) = ap refOf (getD-set-other T (2 + i) (2 + j) x 0 (λ z. e (omega arith))) ∙ w .done j (omega (arith, e))
+    code : (c j : ℕ) → j < n → refOf (getD (objectOf c n w) (2 + j) 0) ≡ rawOf W (partOf ps j) .root
+    code c j h = let e : i + j ≡ j = omega arith in ap refOf (object-code c n w j) ∙ rw e at (b .done j (omega arith))
 
-module _ (W : List ℕ) (c : ℕ) (ps : List Slot) (n i : ℕ) (T : List ℕ) (w : RootBegun W c ps n i T) (le : i ≤ n) (ge : n ≤ i) (few : n ≤ 4) (held : PartsHeld W ps n) where
-  root-object-refs : take n (four T 0) ≡ roots (rawsFrom W ps 0 n)
-  unfolding rawsFrom
-  root-object-refs =
-      let lp : length (take n ps) ≡ n = length-take-le n ps (held .full) in
-      let lg : length (map (λ s. rawOf W (s .r)) (take n ps)) ≡ n = length-map (take n ps) (λ s. rawOf W (s .r)) ∙ lp in
-      let lt : length (take n (four T 0)) ≡ n = omega (arith, length-take n (four T 0)) in
-      ext-getD undet (take n (four T 0)) (roots (map (λ s. rawOf W (s .r)) (take n ps)))
-      (lt ∙ sym lg ∙ sym (length-map (map (λ s. rawOf W (s .r)) (take n ps)) (λ g. g .root)))
-      (λ j h. let h′ : j < n = omega arith in
-      getD-take n (four T 0) j undet h′ ∙ four-at T 0 j (omega arith) ∙ w .done j (omega arith)
-      ∙ ap (λ (s : Slot). rawOf W (s .r) .root) (sym (getD-take n ps j none-slot h′))
-      ∙ ap (λ (g : Graph). g .root) (sym (getD-map-lt (λ s. rawOf W (s .r)) (take n ps) j (graph undet []) none-slot (omega arith)))
-      ∙ sym (getD-map-lt (λ g. g .root) (map (λ s. rawOf W (s .r)) (take n ps)) j undet (graph undet []) (omega arith)))
-
-  pub root-object-done : RootObject c (rawsFrom W ps 0 n) T
-  unfolding nodeIn
-  root-object-done = record {
-    is = ap₂ node (w .cls) (ap (λ (k : ℕ). take k (four T 0)) (w .count) ∙ root-object-refs);
-    packed = record {
-      count = rw (w .count) few;
-      spare = λ k a b. let e : 0 + k ≡ k = omega arith in rw e (w .spare k (omega (arith, w .count)) b);
-    };
-  }
+pub root-packed : (gs : List Graph) (c n w : ℕ) → RootCodes gs n w → Packed (objectOf c n w) 0
+root-packed gs c n w r = r .object c .packed
 
 -- ---- looked for among the objects
 pub missed-none : (W : List ℕ) (b : ℕ) (T : List ℕ) → Missed W b T 0
 missed-none W b T = record { none = λ j h. absurd (omega arith) }
 
-module _ (W : List ℕ) (b t : ℕ) (T : List ℕ) (k : ℕ) (bk : Block W b) (et : t ≡ countIn W b) (pk : Packed T 0) (long : 6 ≤ length T) (m : Missed W b T k) where
-  module _ (h : k < t) (r : Bool) (er : r ≡ eqNats (part W (234 * b + 6 * k) 6) (part T 0 6)) where
-    test : eqNode (nodeIn W (234 * b + 6 * k)) (nodeIn T 0) ≡ r
-    test = eq-node W T (234 * b + 6 * k) 0 (omega (arith, bk .room, bk .small)) long (bk .packed k (omega arith)) pk ∙ sym er
+module _ (W : List ℕ) (b t c n w k : ℕ) (bk : Block W b) (et : t ≡ countIn W b) (pk : Packed (objectOf c n w) 0) (m : Missed W b (objectOf c n w) k) where
+  module _ (h : k < t) (r : Bool) (er : r ≡ eqNats (part W (234 * b + 6 * k) 6) (objectOf c n w)) where
+    test : eqNode (nodeIn W (234 * b + 6 * k)) (nodeIn (objectOf c n w) 0) ≡ r
+    test =
+        eq-node W (objectOf c n w) (234 * b + 6 * k) 0 (omega (arith, bk .room, bk .small)) (omega (arith, object-length c n w)) (bk .packed k (omega arith)) pk
+        ∙ ap (eqNats (part W (234 * b + 6 * k) 6)) (object-whole c n w) ∙ sym er
 
-    pub missed-more : r ≡ false → Missed W b T (k + 1)
+    pub missed-more : r ≡ false → Missed W b (objectOf c n w) (k + 1)
     missed-more f = record { none = λ j l. go j l (ℕ-discrete j k) }
       where
-        go : (j : ℕ) → j < k + 1 → Dec (j ≡ k) → nodeIn W (234 * b + 6 * j) ≡ nodeIn T 0 → ⊥
+        go : (j : ℕ) → j < k + 1 → Dec (j ≡ k) → nodeIn W (234 * b + 6 * j) ≡ nodeIn (objectOf c n w) 0 → ⊥
         go j l (yes z) e =
-            false≢true (sym f ∙ sym test ∙ ap (λ (x : Node). eqNode x (nodeIn T 0)) (ap (λ (i : ℕ). nodeIn W (234 * b + 6 * i)) (sym z) ∙ e) ∙ eqNode-refl (nodeIn T 0))
+            false≢true (sym f ∙ sym test ∙ ap (λ (x : Node). eqNode x (nodeIn (objectOf c n w) 0)) (ap (λ (i : ℕ). nodeIn W (234 * b + 6 * i)) (sym z) ∙ e) ∙ eqNode-refl (nodeIn (objectOf c n w) 0))
         go j l (no z) e = m .none j (omega (arith, z)) e
 
-    pub find-hit : r ≡ true → Found W b t T k
+    pub find-hit : r ≡ true → Found W b t (objectOf c n w) k
     find-hit e = record { hit = λ _. eqNode-true _ _ (test ∙ e); miss = λ l. absurd (omega arith) }
 
-  pub find-miss : t ≤ k → k ≤ t → Found W b t T t
+  pub find-miss : t ≤ k → k ≤ t → Found W b t (objectOf c n w) t
   find-miss h l = record { hit = λ z. absurd (omega arith); miss = λ _. record { none = λ j q. m .none j (omega arith) } }
 
 -- ---- the parts
@@ -306,23 +303,27 @@ empty-done W dst room =
     }
 
 -- ---- the object written after the others
-module _ (W : List ℕ) (dst t : ℕ) (T : List ℕ) (D : List ℕ) (a : Carried T 0 W (234 * dst + 6 * t) 6 D) (few : t ≤ 31) (room : 234 * dst + 234 ≤ length W) where
-  pub append-done : (l : ℕ) → Appended W dst t T l (set (set D (234 * dst + 192) (t + 1)) (234 * dst + 193) l)
-  unfolding countIn levelIn
-  append-done l =
-      let byte : (p : ℕ) → ((p ≡ 234 * dst + 192) → ⊥) → ((p ≡ 234 * dst + 193) → ⊥) → getD (set (set D (234 * dst + 192) (t + 1)) (234 * dst + 193) l) p 0 ≡ getD D p 0 = λ p x y.
-      getD-set-other (set D (234 * dst + 192) (t + 1)) (234 * dst + 193) p l 0 y ∙ getD-set-other D (234 * dst + 192) p (t + 1) 0 x in
+module _ (W : List ℕ) (dst t : ℕ) (few : t ≤ 31) (room : 234 * dst + 234 ≤ length W) where
+  append-after : (T D : List ℕ) → Carried T 0 W (234 * dst + 6 * t) 6 D → (l : ℕ) → Appended W dst t T l (ended D dst (t + 1) l t)
+  append-after T D a l =
+      let long : 234 * dst + 234 ≤ length D = omega (arith, a .same) in
+      let low : (p : ℕ) → p < 234 * dst + 192 → getD (ended D dst (t + 1) l t) p 0 ≡ getD D p 0 = ended-below D dst (t + 1) l t long in
       record {
-        count = getD-set-other (set D (234 * dst + 192) (t + 1)) (234 * dst + 193) (234 * dst + 192) l 0 (λ z. omega arith) ∙ getD-set-same D (234 * dst + 192) (t + 1) 0 (omega (arith, a .same));
-        level = getD-set-same (set D (234 * dst + 192) (t + 1)) (234 * dst + 193) l 0 (omega (arith, a .same, length-set D (234 * dst + 192) (t + 1)));
-        old = λ q m. byte (234 * dst + q) (λ z. omega arith) (λ z. omega arith) ∙ a .below (234 * dst + q) (omega arith);
-        top = λ j m. byte (234 * dst + 6 * t + j) (λ z. omega arith) (λ z. omega arith) ∙ a .here j m ∙ ap (λ (x : ℕ). getD T x 0) (let z : 0 + j ≡ j = omega arith in z);
+        count = ended-count D dst (t + 1) l t long;
+        level = ended-level D dst (t + 1) l t long;
+        reach = ended-reach D dst (t + 1) l t long;
+        old = λ q m. low (234 * dst + q) (omega arith) ∙ a .below (234 * dst + q) (omega arith);
+        top = λ j m. low (234 * dst + 6 * t + j) (omega arith) ∙ a .here j m ∙ ap (λ (x : ℕ). getD T x 0) (let z : 0 + j ≡ j = omega arith in z);
         outside = record {
-          same = length-set (set D (234 * dst + 192) (t + 1)) (234 * dst + 193) l ∙ length-set D (234 * dst + 192) (t + 1) ∙ a .same;
-          below = λ p m. byte p (λ z. omega arith) (λ z. omega arith) ∙ a .below p (omega arith);
-          above = λ p m. byte p (λ z. omega arith) (λ z. omega arith) ∙ a .above p (omega arith);
+          same = ended-size D dst (t + 1) l t long ∙ a .same;
+          below = λ p m. low p (omega arith) ∙ a .below p (omega arith);
+          above = λ p m. ended-above D dst (t + 1) l t long p (omega arith) ∙ a .above p (omega arith);
         };
       }
+
+  pub append-done : (p c n w l : ℕ) → p ≡ 234 * dst + 6 * t → Appended W dst t (objectOf c n w) l (ended (objectPut W p c n w) dst (t + 1) l t)
+  append-done p c n w l e =
+      append-after (objectOf c n w) (objectPut W p c n w) (subst (λ (q : ℕ). Carried (objectOf c n w) 0 W q 6 (objectPut W p c n w)) e (object-put W p c n w (omega arith))) l
 
 pub outside-more : (b : ℕ) (W W1 W2 : List ℕ) → Outside b W W1 → Outside b W1 W2 → Outside b W W2
 outside-more b W W1 W2 x y = record { same = y .same ∙ x .same; below = λ p h. y .below p h ∙ x .below p h; above = λ p h. y .above p h ∙ x .above p h }
@@ -346,7 +347,7 @@ module _ (W : List ℕ) (b : ℕ) (T : List ℕ) (dst t l : ℕ) (bk : Block W b
   unfolding countIn
   add-here D e a =
       let old : (q : ℕ) → q < 6 * t → getD D (234 * dst + q) 0 ≡ getD W (234 * b + q) 0 = λ q h. a .old q h ∙ ap (λ (x : ℕ). getD W (234 * x + q) 0) (sym e) in
-      rw (← et) (record { count = a .count; old = old; top = a .top; level = add-level D (a .count) (a .level) old (a .top); outside = a .outside })
+      rw (← et) (record { count = a .count; reach = a .reach; old = old; top = a .top; level = add-level D (a .count) (a .level) old (a .top); outside = a .outside })
 
   -- in a copy
   pub add-there : (C D : List ℕ) → Copied W b dst C → Appended C dst t T l D → Added W b (countIn W b) T dst D
@@ -355,6 +356,7 @@ module _ (W : List ℕ) (b : ℕ) (T : List ℕ) (dst t l : ℕ) (bk : Block W b
       let old : (q : ℕ) → q < 6 * t → getD D (234 * dst + q) 0 ≡ getD W (234 * b + q) 0 = λ q h. a .old q h ∙ c .here q (omega arith) in
       rw (← et) (record {
         count = a .count;
+        reach = a .reach;
         old = old;
         top = a .top;
         level = add-level D (a .count) (a .level) old (a .top);
@@ -385,8 +387,25 @@ module _ (W : List ℕ) (b t : ℕ) (T : List ℕ) (dst : ℕ) (D : List ℕ) (p
     whole = record { top = tt; inner = λ i f r e. subst (λ (ns : List Node). InRange (length ns) r) (sym objects-are) (inner-more (nodeIn T 0) (nodesIn W (234 * b) t) inner above i f r (subst (λ (ns : List Node). getElem? (refsAt ns i) f ≡ some r) objects-are e)) };
     distinct = subst Distinct (sym objects-are) (distinct-more (nodeIn T 0) (nodesIn W (234 * b) t) inner above d miss);
     level = λ q h. ad .level q (rw (ad .count) at h);
+    reach = λ i f h l c. omega (arith, ad .reach, low i f l (decLt i t) (rw (ad .count) at h) c);
   }
     where
+      new-low : (f : ℕ) → f < 4 → getD T (0 + 2 + f) 0 < 192 → getD T (0 + 2 + f) 0 < t
+      new-low = field-low T 0 pt t (λ f r e. subst (λ (n : ℕ). InRange n r) (length-nodes W (234 * b) t) (above f r e))
+
+      low : (i f : ℕ) → f < 4 → Dec (i < t) → i < t + 1 → getD D (234 * dst + 6 * i + 2 + f) 0 < 192 → getD D (234 * dst + 6 * i + 2 + f) 0 < t
+      low i f l (yes h) m c =
+          let ea : 234 * dst + 6 * i + 2 + f ≡ 234 * dst + (6 * i + 2 + f) = omega arith in
+          let eb : 234 * b + 6 * i + 2 + f ≡ 234 * b + (6 * i + 2 + f) = omega arith in
+          let e : getD D (234 * dst + 6 * i + 2 + f) 0 ≡ getD W (234 * b + 6 * i + 2 + f) 0 = rw (ea, eb) (ad .old (6 * i + 2 + f) (omega arith)) in
+          omega (arith, e, code-low W (234 * b) t pk i h (record { top = tt; inner = inner }) f l (rw e at c))
+      low i f l (no h) m c =
+          let e : 234 * dst + 6 * i + 2 + f ≡ 234 * dst + 6 * t + (2 + f) = omega (arith, h) in
+          let y : 0 + 2 + f ≡ 0 + (2 + f) = omega arith in
+          let z : getD D (234 * dst + 6 * i + 2 + f) 0 ≡ getD T (0 + 2 + f) 0 =
+          ap (λ (p : ℕ). getD D p 0) e ∙ top-byte (2 + f) (omega arith) ∙ ap (λ (p : ℕ). getD T p 0) (sym y) in
+          omega (arith, z, new-low f l (rw z at c))
+
       go : (i : ℕ) → Dec (i < t) → i < t + 1 → Packed D (234 * dst + 6 * i)
       go i (yes h) l = packed-same D W (234 * dst + 6 * i) (234 * b + 6 * i) (λ k m.
           let ea : 234 * dst + 6 * i + k ≡ 234 * dst + (6 * i + k) = omega arith in
@@ -398,27 +417,33 @@ pub beside-held : (W : List ℕ) (b k : ℕ) → Block W b → k < getD W (234 *
 beside-held W b k bk h s = number-held W b k (block-held W b k bk h .held) s
 
 -- ---- made
-module _ (W : List ℕ) (c : ℕ) (ps : List Slot) (n : ℕ) (T : List ℕ) (held : PartsHeld W ps n) (cr : RootObject c (rawsFrom W ps 0 n) T) where
+module _ (W : List ℕ) (c : ℕ) (ps : List Slot) (n w : ℕ) (held : PartsHeld W ps n) (rc : RootCodes (rawsFrom W ps 0 n) n w) where
   abbrev gs : List Graph
   gs = rawsFrom W ps 0 n
+
+  abbrev bytes : List ℕ
+  bytes = objectOf c n w
+
+  cr : RootObject c gs bytes
+  cr = rc .object c
 
   -- over objects among which the parts are
   module _ (b t : ℕ) (dst : ℕ) (D : List ℕ) (pk : (i : ℕ) → i < t → Packed W (234 * b + 6 * i)) (few : t ≤ 31)
       (inner : (i f : ℕ) (r : Ref) → getElem? (refsAt (nodesIn W (234 * b) t) i) f ≡ some r → InRange (length (nodesIn W (234 * b) t)) r)
       (fits : AllFit (nodesIn W (234 * b) t) gs) (d : Distinct (nodesIn W (234 * b) t))
-      (miss : (j : ℕ) → j < length (nodesIn W (234 * b) t) → nodeAt (nodesIn W (234 * b) t) j ≡ nodeIn T 0 → ⊥)
-      (room : 234 * dst + 234 ≤ length W) (ad : Added W b t T dst D) where
+      (miss : (j : ℕ) → j < length (nodesIn W (234 * b) t) → nodeAt (nodesIn W (234 * b) t) j ≡ nodeIn bytes 0 → ⊥)
+      (room : 234 * dst + 234 ≤ length W) (ad : Added W b t bytes dst D) where
     abbrev ns : List Node
     ns = nodesIn W (234 * b) t
 
-    above : (f : ℕ) (r : Ref) → getElem? (nodeIn T 0 .refs) f ≡ some r → InRange (length ns) r
+    above : (f : ℕ) (r : Ref) → getElem? (nodeIn bytes 0 .refs) f ≡ some r → InRange (length ns) r
     above f r e = roots-low ns gs fits f r (subst (λ (x : Node). getElem? (x .refs) f ≡ some r) (cr .is) e)
 
     are : objectsIn D dst ≡ more ns (node c (roots gs))
-    are = objects-are W b t T dst D pk (cr .packed) few inner above d miss room ad ∙ ap (more ns) (cr .is)
+    are = objects-are W b t bytes dst D pk (cr .packed) few inner above d miss room ad ∙ ap (more ns) (cr .is)
 
     bk : Block D dst
-    bk = block-added W b t T dst D pk (cr .packed) few inner above d miss room ad
+    bk = block-added W b t bytes dst D pk (cr .packed) few inner above d miss room ad
 
     value : make c (valuesFrom W ps 0 n) ≡ canon (graphAt D dst t)
     value =
@@ -437,7 +462,7 @@ module _ (W : List ℕ) (c : ℕ) (ps : List Slot) (n : ℕ) (T : List ℕ) (hel
     unfolding rawsFrom
     fits = all-fit W (objectsIn W b) n ps (λ i h. value-fit W b bk (partOf ps i) (held .part i h) (stands-at ps n b bs i h))
 
-    module _ (k : ℕ) (fd : Found W b (getD W (234 * b + 192) 0) T k) where
+    module _ (k : ℕ) (fd : Found W b (getD W (234 * b + 192) 0) (objectOf c n w) k) where
       module _ (h : k < getD W (234 * b + 192) 0) where
         pub beside-value : make c (valuesFrom W ps 0 n) ≡ canon (graphAt W b k)
         unfolding objectsIn countIn
@@ -448,7 +473,7 @@ module _ (W : List ℕ) (c : ℕ) (ps : List Slot) (n : ℕ) (T : List ℕ) (hel
         pub beside-found : b < 65536 → (dst : ℕ) (W′ : List ℕ) (q : ℕ) → Gives W dst W′ (refIn q) (valueOf W (refIn (256 * b + k))) → MadeIn W (make c (valuesFrom W ps 0 n)) dst W′ q
         beside-found s dst W′ q g = number-brought W W _ dst b k (block-held W b k bk h .held) beside-value (under dst W W (unchanged dst W)) s W′ q g
 
-      pub beside-new : getD W (234 * b + 192) 0 ≤ k → getD W (234 * b + 192) 0 < 32 → (dst : ℕ) (D : List ℕ) → dst < 65536 → 234 * dst + 234 ≤ length W → Added W b (countIn W b) T dst D
+      pub beside-new : getD W (234 * b + 192) 0 ≤ k → getD W (234 * b + 192) 0 < 32 → (dst : ℕ) (D : List ℕ) → dst < 65536 → 234 * dst + 234 ≤ length W → Added W b (countIn W b) (objectOf c n w) dst D
           → MadeIn W (make c (valuesFrom W ps 0 n)) dst D (256 * dst + getD W (234 * b + 192) 0)
       unfolding countIn objectsIn
       beside-new ge h dst D s room ad =
@@ -468,13 +493,14 @@ module _ (W : List ℕ) (c : ℕ) (ps : List Slot) (n : ℕ) (T : List ℕ) (hel
     unfolding rawsFrom someObject
     alone-fits = all-fit W [] n ps (λ i h. alone-fit (partOf ps i) (any-not (λ j. isObject (partOf ps j)) n i lv h))
 
-    pub alone-new : (dst l : ℕ) (D : List ℕ) → Levels T 0 6 l → 234 * dst + 234 ≤ length W → dst < 65536 → Appended W dst 0 T l D → MadeIn W (make c (valuesFrom W ps 0 n)) dst D (256 * dst)
+    pub alone-new : (dst l : ℕ) (D : List ℕ) → Levels (objectOf c n w) 0 6 l → 234 * dst + 234 ≤ length W → dst < 65536 → Appended W dst 0 (objectOf c n w) l D → MadeIn W (make c (valuesFrom W ps 0 n)) dst D (256 * dst)
     unfolding nodesIn
     alone-new dst l D ls room s a =
         subst (MadeIn W (make c (valuesFrom W ps 0 n)) dst D) (let z : 256 * dst + 0 ≡ 256 * dst = omega arith in z)
         (made-new dst 0 dst D (λ i h. absurd (omega arith)) (omega arith) (λ i f r e. absurd (Option·none-ne-some r e)) alone-fits (record { apart = λ i j h. absurd (omega arith) }) (λ j h. absurd (omega arith)) room
         (record {
           count = a .count;
+          reach = a .reach;
           old = λ q h. absurd (omega arith);
           top = a .top;
           level = λ q h. let e : 234 * dst + 6 * 0 + q ≡ 234 * dst + q = omega arith in let z : 0 + q ≡ q = omega arith in
@@ -496,9 +522,14 @@ bare-root W c = record { is = refl; packed = record { count = omega arith; spare
     spare (suc (suc (suc (suc (suc zero))))) l m = refl
     spare (suc (suc (suc (suc (suc (suc k)))))) l m = absurd (omega arith)
 
+pub bare-codes : (W : List ℕ) → RootCodes (rawsFrom W [] 0 0) 0 3233857728
+unfolding objectOf codesOf
+bare-codes W = record { object = λ c. bare-root W c }
+
 pub no-parts : (W : List ℕ) → PartsHeld W [] 0
 no-parts W = record { full = omega arith; part = λ i h. absurd (omega arith) }
 
-pub bare-new : (W : List ℕ) (c dst l : ℕ) (D : List ℕ) → Levels (bareObject c) 0 6 l → 234 * dst + 234 ≤ length W → dst < 65536 → Appended W dst 0 (bareObject c) l D → MadeIn W (make c []) dst D (256 * dst)
+pub bare-new : (W : List ℕ) (c dst l : ℕ) (D : List ℕ) → Levels (objectOf c 0 3233857728) 0 6 l → 234 * dst + 234 ≤ length W → dst < 65536 → Appended W dst 0 (objectOf c 0 3233857728) l D
+    → MadeIn W (make c []) dst D (256 * dst)
 unfolding valuesFrom
-bare-new W c dst l D ls room s a = alone-new W c [] 0 (bareObject c) (no-parts W) (bare-root W c) (leaves-none []) dst l D ls room s a
+bare-new W c dst l D ls room s a = alone-new W c [] 0 3233857728 (no-parts W) (bare-codes W) (leaves-none []) dst l D ls room s a

@@ -200,14 +200,14 @@ module _ (W : List ℕ) (ps : List Slot) (i n : ℕ) where
         (subst (λ (x : ValueRef). LaidOne (rawOf W x) at i R₀ R1 t1) e a) b)
 
 -- ---- the new object
-abbrev pub fresh : List ℕ → ℕ → ℕ → List ℕ
+abbrev fresh : List ℕ → ℕ → ℕ → List ℕ
 fresh R c n = set (set (set (set (set (set R 0 c) 1 n) 2 192) 3 192) 4 192) 5 192
 
-pub fresh-class : (R : List ℕ) (c n : ℕ) → 6 ≤ length R → getD (fresh R c n) 0 0 ≡ c
+fresh-class : (R : List ℕ) (c n : ℕ) → 6 ≤ length R → getD (fresh R c n) 0 0 ≡ c
 fresh-class [] c n h = absurd (omega arith)
 fresh-class (x ∷ R) c n h = refl
 
-pub fresh-count : (R : List ℕ) (c n : ℕ) → 6 ≤ length R → getD (fresh R c n) 1 0 ≡ n
+fresh-count : (R : List ℕ) (c n : ℕ) → 6 ≤ length R → getD (fresh R c n) 1 0 ≡ n
 fresh-count [] c n h = absurd (omega arith)
 fresh-count (x ∷ []) c n h = absurd (omega arith)
 fresh-count (x ∷ (y ∷ R)) c n h = refl
@@ -221,7 +221,7 @@ six P p2 p3 p4 p5 (suc (suc (suc (suc zero)))) h l = p4
 six P p2 p3 p4 p5 (suc (suc (suc (suc (suc zero))))) h l = p5
 six P p2 p3 p4 p5 (suc (suc (suc (suc (suc (suc k)))))) h l = absurd (omega arith)
 
-pub fresh-spare : (R : List ℕ) (c n : ℕ) → 6 ≤ length R → (k : ℕ) → 2 ≤ k → k < 6 → getD (fresh R c n) k 0 ≡ 192
+fresh-spare : (R : List ℕ) (c n : ℕ) → 6 ≤ length R → (k : ℕ) → 2 ≤ k → k < 6 → getD (fresh R c n) k 0 ≡ 192
 fresh-spare [] c n h = absurd (omega arith)
 fresh-spare (x ∷ []) c n h = absurd (omega arith)
 fresh-spare (x ∷ (y ∷ [])) c n h = absurd (omega arith)

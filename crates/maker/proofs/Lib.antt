@@ -1,5 +1,6 @@
 pub mod Adding
 pub mod Lays
+pub mod Codes
 pub mod Beside
 pub mod Merges
 pub mod BareLaws

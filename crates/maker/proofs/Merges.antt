@@ -1,5 +1,5 @@
 -- Laws of objects brought into one block, and of a new object over them. Not here: the bytes of one more object (Beside).
-use Prim.Native.Nat.{ℕ, zero, suc, _+_, _-_, _*_, _<_, _≤_}
+use Prim.Native.Nat.{ℕ, zero, suc, _+_, _-_, _*_, _/_, _%_, _<_, _≤_}
 use native.Mathlib.Omega.{arith}
 use native.Mathlib.Decide.{decLt, ℕ-discrete}
 use mathlib.Core.Path.{_≡_, refl, sym, ap, ap₂, _∙_, subst}
@@ -10,17 +10,17 @@ use mathlib.Core.Option.{none, some, Option·none-ne-some}
 use lib.ListN.{length, getD, set, take, getElem?, replicate, length-set, length-take, length-replicate, getD-replicate, List·getD-eq-default}
 use lib.Seq.{getD-set-same, getD-set-other}
 use Rattle.cofj.specs.Partial.{_>>=_}
-use borrow.Author.Tests.{lt-ltb, le-ltb, eq-eqb, ne-eqb, eqb-true}
+use borrow.Author.Tests.{lt-ltb, le-ltb, eq-eqb, ne-eqb, eqb-true, ltb-true}
 use types.Run.{OneOf}
 use denote.Enum.Declared.{tagOf}
 use Rattle.cofj.specs.Values.{Ref, obj, mark, undet, Node, node, Graph, nodeAt, refsAt, canon, make}
 use Rattle.cofj.specs.Unfolding.{object, follow, Same, InRange, Whole}
 use Rattle.cofj.proofs.Trees.{Pointwise}
 use Rattle.cofj.proofs.Unique.{same-canon}
-use Rattle.canon.specs.Layout.{refOf, codeOf, nodeIn, nodesIn, Packed, countIn, levelIn, objectsIn, graphAt, Block, Inside, Outside, Beneath}
-use Rattle.canon.specs.Tables.{Carried}
+use Rattle.canon.specs.Layout.{refOf, nodeIn, nodesIn, Packed, countIn, levelIn, reachIn, objectsIn, graphAt, Block, Inside, Outside, Beneath}
+use Rattle.canon.specs.Tables.{Four, Carried}
 use Rattle.canon.specs.Numbers.{Levels}
-use Rattle.canon.proofs.Nodes.{some-at, ref-object, ref-undet, ref-mark, byteOf, packed-byte, length-nodes, at-nodes}
+use Rattle.canon.proofs.Nodes.{code-low, ref-object, ref-undet, ref-mark, byteOf, packed-byte, length-nodes, at-nodes}
 use Rattle.canon.proofs.Walks.{four, four-at}
 use Rattle.values.specs.declared.ValueRef.{ValueRef}
 use Rattle.values.specs.declared.ValueRef.the-variants.{Object, Mark, Undetermined}
@@ -29,18 +29,18 @@ use Rattle.values.specs.Tests.{any}
 use Rattle.values.specs.Operations.{Gives, Copied}
 use Rattle.values.specs.Refs.{refIn}
 use Rattle.values.proofs.ValueRef as RefT
-use Rattle.values.proofs.Tests.{not-false, any-there, any-not, any-more}
-use Rattle.values.proofs.Steps.{object-low}
-use Rattle.values.proofs.Blocks.{held-room, no-object, size-in, inner-in, whole-at}
+use Rattle.values.proofs.Tests.{not-false, any-there, any-not}
+use Rattle.values.proofs.Blocks.{held-room, no-object, size-in, whole-at}
 use Rattle.values.proofs.Trees.{in-larger, leaf-same, made-as}
 use Rattle.values.proofs.Copies.{block-moves}
 use Rattle.values.proofs.Selecting.{unchanged, under}
 use Rattle.values.proofs.Kept.{Kept, kept}
 use Rattle.maker.specs.declared.Slot.{Slot}
 use Rattle.maker.specs.Laying.{valuesFrom, rawsFrom, PartsHeld, MadeIn}
-use Rattle.maker.specs.Adding.{Found, Emptied, Appended, Added, partOf}
-use Rattle.maker.specs.Merging.{Grown, Fits, Standing, Entered, CodeAs, Mapped, Importing, Imported, ObjectBytes, Turned, Turning, TurnedAll, As, PartImported, Begun, RootBrought, PartsBrought, someIn, largerOf, largestOf}
-use Rattle.maker.proofs.Lays.{fresh, fresh-class, fresh-count, fresh-spare, raws-whole, made-raw, parts-length, beneath-more, number-held, number-brought}
+use Rattle.maker.specs.Adding.{codesOf, objectOf, Missed, Found, Emptied, Appended, Added, partOf}
+use Rattle.maker.specs.Merging.{Grown, Fits, Standing, Entered, CodeAs, Mapped, Importing, Imported, ObjectBytes, Turned, Turning, TurnedAll, liesFrom, refersFrom, As, PartImported, Begun, RootBrought, PartsBrought, someIn, largerOf, largestOf}
+use Rattle.maker.proofs.Codes.{object-class, object-count, object-code, object-length, codes-packed, spare-codes, first-code, next-code, object-bytes, object-read}
+use Rattle.maker.proofs.Lays.{raws-whole, made-raw, parts-length, beneath-more, number-held, number-brought}
 use Rattle.maker.proofs.Adding.{more, old-tree, at-new}
 use Rattle.maker.proofs.Beside.{outside-more, add-here, objects-are, block-added}
 
@@ -73,9 +73,9 @@ module _ (host : ℕ) (W W′ : List ℕ) (o : Outside host W W′) (b : ℕ) (a
       go (no q) = o .above p (omega (arith, q, apart))
 
   pub other-block : Block W b → (objectsIn W′ b ≡ objectsIn W b) × Block W′ b
-  unfolding countIn levelIn
+  unfolding countIn levelIn reachIn
   other-block bk =
-      block-moves W W′ b b (other-byte (234 * b + 192) (omega arith) (omega arith)) (other-byte (234 * b + 193) (omega arith) (omega arith))
+      block-moves W W′ b b (other-byte (234 * b + 192) (omega arith) (omega arith)) (other-byte (234 * b + 193) (omega arith) (omega arith)) (other-byte (234 * b + 194) (omega arith) (omega arith))
       (λ k h. other-byte (234 * b + k) (omega arith) (omega (arith, bk .small))) (omega (arith, bk .room, o .same)) bk
 
   pub other-inside : (i : ℕ) → Inside W b i → Inside W′ b i
@@ -100,83 +100,154 @@ module _ (W : List ℕ) (host : ℕ) (T : List ℕ) (bk : Block W host) (ft : Fi
       standing = λ _. record { low = h; is = at-nodes W (234 * host) (getD W (234 * host + 192) 0) k h ∙ fd .hit h };
     }
 
-    module _ (ge : getD W (234 * host + 192) 0 ≤ k) (h : getD W (234 * host + 192) 0 < 32) (l : ℕ) (D : List ℕ) (lv : Levels T 0 6 l) (le : getD W (234 * host + 193) 0 ≤ l)
-        (a : Appended W host (getD W (234 * host + 192) 0) T l D) where
-      abbrev t : ℕ
-      t = getD W (234 * host + 192) 0
+    pub enter-missed : getD W (234 * host + 192) 0 ≤ k → Missed W host T (countIn W host)
+    unfolding countIn
+    enter-missed ge = fd .miss ge
 
-      abbrev ns : List Node
-      ns = nodesIn W (234 * host) t
+  module _ (ms : Missed W host T (countIn W host)) (h : getD W (234 * host + 192) 0 < 32) (l : ℕ) (D : List ℕ) (lv : Levels T 0 6 l) (le : getD W (234 * host + 193) 0 ≤ l)
+      (a : Appended W host (getD W (234 * host + 192) 0) T l D) where
+    abbrev t : ℕ
+    t = getD W (234 * host + 192) 0
 
-      inner : (i f : ℕ) (r : Ref) → getElem? (refsAt ns i) f ≡ some r → InRange (length ns) r
-      unfolding countIn objectsIn
-      inner = bk .whole .inner
+    abbrev ns : List Node
+    ns = nodesIn W (234 * host) t
 
-      above : (f : ℕ) (r : Ref) → getElem? (nodeIn T 0 .refs) f ≡ some r → InRange (length ns) r
-      unfolding countIn
-      above f r e = subst (λ (m : ℕ). InRange m r) (sym (length-nodes W (234 * host) t)) (ft .low f r e)
+    inner : (i f : ℕ) (r : Ref) → getElem? (refsAt ns i) f ≡ some r → InRange (length ns) r
+    unfolding countIn objectsIn
+    inner = bk .whole .inner
 
-      miss : (j : ℕ) → j < length ns → nodeAt ns j ≡ nodeIn T 0 → ⊥
-      miss j q e =
-          let m : j < t = omega (arith, length-nodes W (234 * host) t) in
-          fd .miss ge .none j m (sym (at-nodes W (234 * host) t j m) ∙ e)
+    above : (f : ℕ) (r : Ref) → getElem? (nodeIn T 0 .refs) f ≡ some r → InRange (length ns) r
+    unfolding countIn
+    above f r e = subst (λ (m : ℕ). InRange m r) (sym (length-nodes W (234 * host) t)) (ft .low f r e)
 
-      added : Added W host t T host D
-      unfolding countIn
-      added = add-here W host T host t l bk refl lv le D refl a
+    miss : (j : ℕ) → j < length ns → nodeAt ns j ≡ nodeIn T 0 → ⊥
+    unfolding countIn
+    miss j q e =
+        let m : j < t = omega (arith, length-nodes W (234 * host) t) in
+        ms .none j m (sym (at-nodes W (234 * host) t j m) ∙ e)
 
-      are : objectsIn D host ≡ more ns (nodeIn T 0)
-      unfolding countIn objectsIn
-      are = objects-are W host t T host D (bk .packed) (ft .packed) (omega arith) inner above (bk .distinct) miss (bk .room) added
+    added : Added W host t T host D
+    unfolding countIn
+    added = add-here W host T host t l bk refl lv le D refl a
 
-      grown-block : Block D host
-      unfolding countIn objectsIn
-      grown-block = block-added W host t T host D (bk .packed) (ft .packed) (omega arith) inner above (bk .distinct) miss (bk .room) added
+    are : objectsIn D host ≡ more ns (nodeIn T 0)
+    unfolding countIn objectsIn
+    are = objects-are W host t T host D (bk .packed) (ft .packed) (omega arith) inner above (bk .distinct) miss (bk .room) added
 
-      kept-trees : (r : Ref) → InRange (countIn W host) r → Same (objectsIn W host) r (objectsIn D host) r
-      unfolding countIn objectsIn
-      kept-trees r q p =
-          sym (old-tree (nodeIn T 0) ns inner above r (subst (λ (m : ℕ). InRange m r) (sym (length-nodes W (234 * host) t)) q) p)
-          ∙ ap (λ (x : List Node). follow x r p) (sym are)
+    grown-block : Block D host
+    unfolding countIn objectsIn
+    grown-block = block-added W host t T host D (bk .packed) (ft .packed) (omega arith) inner above (bk .distinct) miss (bk .room) added
 
-      pub enter-new : Entered W host T D t
-      unfolding countIn
-      enter-new = record {
-        grown = record { outside = a .outside; block = grown-block; most = omega (arith, a .count); trees = kept-trees };
-        few = omega arith;
-        standing = λ _. record {
-          low = omega (arith, a .count);
-          is = ap (λ (x : List Node). nodeAt x t) are ∙ ap (nodeAt (more ns (nodeIn T 0))) (sym (length-nodes W (234 * host) t)) ∙ at-new (nodeIn T 0) ns inner above;
-        };
-      }
+    kept-trees : (r : Ref) → InRange (countIn W host) r → Same (objectsIn W host) r (objectsIn D host) r
+    unfolding countIn objectsIn
+    kept-trees r q p =
+        sym (old-tree (nodeIn T 0) ns inner above r (subst (λ (m : ℕ). InRange m r) (sym (length-nodes W (234 * host) t)) q) p)
+        ∙ ap (λ (x : List Node). follow x r p) (sym are)
+
+    pub enter-new : Entered W host T D t
+    unfolding countIn
+    enter-new = record {
+      grown = record { outside = a .outside; block = grown-block; most = omega (arith, a .count); trees = kept-trees };
+      few = omega arith;
+      standing = λ _. record {
+        low = omega (arith, a .count);
+        is = ap (λ (x : List Node). nodeAt x t) are ∙ ap (nodeAt (more ns (nodeIn T 0))) (sym (length-nodes W (234 * host) t)) ∙ at-new (nodeIn T 0) ns inner above;
+      };
+    }
+
+-- ---- an object that refers to one that none refers to
+module _ (c f : ℕ) where
+  pub lies-not : c < f → false ≡ liesFrom c f
+  unfolding liesFrom
+  lies-not h = rw (lt-ltb c f h)
+
+  pub lies-tested : f ≤ c → ltb c 192 ≡ liesFrom c f
+  unfolding liesFrom
+  lies-tested h = rw (le-ltb c f h)
+
+  lies-is : liesFrom c f ≡ true → (f ≤ c) × (c < 192)
+  unfolding liesFrom
+  lies-is e = go (decLt c f)
+    where
+      go : Dec (c < f) → (f ≤ c) × (c < 192)
+      go (yes h) = absurd (false≢true (lies-not h ∙ e))
+      go (no h) = (omega (arith, h), ltb-true c 192 (lies-tested (omega (arith, h)) ∙ e))
+
+module _ (w f : ℕ) where
+  module _ (b : Bool) (e : b ≡ liesFrom (w % 256) f) where
+    pub refers-first : b ≡ true → true ≡ refersFrom w f
+    unfolding refersFrom
+    refers-first h = rw (← e, h)
+
+    module _ (n : b ≡ false) (b1 : Bool) (e1 : b1 ≡ liesFrom (w / 256 % 256) f) where
+      pub refers-second : b1 ≡ true → true ≡ refersFrom w f
+      unfolding refersFrom
+      refers-second h = rw (← e, n, ← e1, h)
+
+      module _ (n1 : b1 ≡ false) (b2 : Bool) (e2 : b2 ≡ liesFrom (w / 65536 % 256) f) where
+        pub refers-third : b2 ≡ true → true ≡ refersFrom w f
+        unfolding refersFrom
+        refers-third h = rw (← e, n, ← e1, n1, ← e2, h)
+
+        pub refers-last : b2 ≡ false → (b3 : Bool) → b3 ≡ liesFrom (w / 16777216) f → b3 ≡ refersFrom w f
+        unfolding refersFrom
+        refers-last h b3 e3 = rw (← e, n, ← e1, n1, ← e2, h) e3
+
+  -- a code that is an object's, of number f or a higher one
+  record From : Type 0 where
+    place : ℕ
+    low : place < 4
+    high : f ≤ getD (codesOf w) place 0
+    object : getD (codesOf w) place 0 < 192
+
+  refers-from : refersFrom w f ≡ true → From
+  unfolding refersFrom codesOf
+  refers-from e = go (liesFrom (w % 256) f) refl (liesFrom (w / 256 % 256) f) refl (liesFrom (w / 65536 % 256) f) refl e
+    where
+      at : (i : ℕ) → i < 4 → liesFrom (getD (codesOf w) i 0) f ≡ true → From
+      at i l q = let z = lies-is (getD (codesOf w) i 0) f q in record { place = i; low = l; high = z .0; object = z .1 }
+
+      go : (a : Bool) → liesFrom (w % 256) f ≡ a → (b : Bool) → liesFrom (w / 256 % 256) f ≡ b → (c : Bool) → liesFrom (w / 65536 % 256) f ≡ c
+          → cond a true (cond b true (cond c true (liesFrom (w / 16777216) f))) ≡ true → From
+      go true ea b eb c ec q = at 0 (omega arith) ea
+      go false ea true eb c ec q = at 1 (omega arith) eb
+      go false ea false eb true ec q = at 2 (omega arith) ec
+      go false ea false eb false ec q = at 3 (omega arith) q
+
+object-place : (c n w i : ℕ) → getD (objectOf c n w) (0 + (2 + i)) 0 ≡ getD (codesOf w) i 0
+unfolding objectOf
+object-place c n w i = ap (λ (x : ℕ). getD (objectOf c n w) x 0) (let z : 0 + (2 + i) ≡ suc (suc i) = omega arith in z)
+
+pub fresh-missed : (W : List ℕ) (host c n w : ℕ) → Block W host → Fits W host (objectOf c n w) → (b : Bool) → b ≡ refersFrom w (getD W (234 * host + 194) 0) → b ≡ true
+    → Missed W host (objectOf c n w) (countIn W host)
+unfolding reachIn
+fresh-missed W host c n w bk ft b eb h = record { none = none }
+  where
+    fr : From w (getD W (234 * host + 194) 0)
+    fr = refers-from w (getD W (234 * host + 194) 0) (sym eb ∙ h)
+
+    k : ℕ
+    k = 2 + fr .place
+
+    none : (j : ℕ) → j < countIn W host → nodeIn W (234 * host + 6 * j) ≡ nodeIn (objectOf c n w) 0 → ⊥
+    none j l e =
+        let there : getD W (234 * host + 6 * j + k) 0 ≡ byteOf (nodeIn W (234 * host + 6 * j)) k = packed-byte W (234 * host + 6 * j) (bk .packed j l) k (omega (arith, fr .low)) in
+        let here : getD (objectOf c n w) (0 + k) 0 ≡ byteOf (nodeIn (objectOf c n w) 0) k = packed-byte (objectOf c n w) 0 (ft .packed) k (omega (arith, fr .low)) in
+        let z : 234 * host + 6 * j + 2 + fr .place ≡ 234 * host + 6 * j + k = omega arith in
+        let same : getD W (234 * host + 6 * j + 2 + fr .place) 0 ≡ getD (codesOf w) (fr .place) 0 =
+        ap (λ (x : ℕ). getD W x 0) z ∙ there ∙ ap (λ (x : Node). byteOf x k) e ∙ sym here ∙ object-place c n w (fr .place) in
+        absurd (omega (arith, fr .high, same, bk .reach j (fr .place) l (fr .low) (omega (arith, fr .object, same))))
 
 -- ---- an object's bytes
 pub object-taken : (W : List ℕ) (src i : ℕ) (T₀ T : List ℕ) → length T₀ ≡ 6 → Carried W (234 * src + 6 * i) T₀ 0 6 T → ObjectBytes W src i T
 object-taken W src i T₀ T e c = record { long = c .same ∙ e; bytes = λ j h. let z : 0 + j ≡ j = omega arith in rw z at (c .here j h) }
 
 -- ---- the codes of an object
-code-low : (W : List ℕ) (src i : ℕ) → Inside W src i → (k : ℕ) → k < 4 → getD W (234 * src + 6 * i + (2 + k)) 0 < 192 → getD W (234 * src + 6 * i + (2 + k)) 0 < countIn W src
-unfolding byteOf objectsIn
-code-low W src i ib k h l = go (decLt k (getD W (234 * src + 6 * i + 1) 0))
-  where
-    pk : Packed W (234 * src + 6 * i)
-    pk = ib .block .packed i (ib .low)
-
-    at-i : nodeAt (nodesIn W (234 * src) (countIn W src)) i ≡ nodeIn W (234 * src + 6 * i)
-    at-i = at-nodes W (234 * src) (countIn W src) i (ib .low)
-
-    count : getD W (234 * src + 6 * i + 1) 0 ≡ length (nodeIn W (234 * src + 6 * i) .refs)
-    count = packed-byte W (234 * src + 6 * i) pk 1 (omega arith)
-
-    code : getD W (234 * src + 6 * i + (2 + k)) 0 ≡ codeOf (getD (nodeIn W (234 * src + 6 * i) .refs) k undet)
-    code = ap (λ (y : ℕ). getD W (234 * src + 6 * i + y) 0) (let q : 2 + k ≡ suc (suc k) = omega arith in q) ∙ packed-byte W (234 * src + 6 * i) pk (suc (suc k)) (omega arith)
-
-    go : Dec (k < getD W (234 * src + 6 * i + 1) 0) → getD W (234 * src + 6 * i + (2 + k)) 0 < countIn W src
-    go (yes q) =
-        let low : InRange (countIn W src) (getD (nodeIn W (234 * src + 6 * i) .refs) k undet) =
-        inner-in W src (ib .block) i k (getD (nodeIn W (234 * src + 6 * i) .refs) k undet) (ap (λ (x : Node). getElem? (x .refs) k) at-i ∙ some-at (nodeIn W (234 * src + 6 * i) .refs) k (omega (arith, count))) in
-        rw code (object-low (countIn W src) (getD (nodeIn W (234 * src + 6 * i) .refs) k undet) low (rw code at l))
-    go (no q) = absurd (omega (arith, pk .spare (2 + k) (omega (arith, q)) (omega arith)))
+code-in : (W : List ℕ) (src i : ℕ) → Inside W src i → (k : ℕ) → k < 4 → getD W (234 * src + 6 * i + (2 + k)) 0 < 192 → getD W (234 * src + 6 * i + (2 + k)) 0 < countIn W src
+unfolding objectsIn
+code-in W src i ib k h l =
+    let z : 234 * src + 6 * i + (2 + k) ≡ 234 * src + 6 * i + 2 + k = omega arith in
+    rw z (code-low W (234 * src) (countIn W src) (ib .block .packed) i (ib .low) (ib .block .whole) k h (rw z at l))
 
 -- ---- the same codes in a block that has grown
 module _ (host : ℕ) (W W′ : List ℕ) (g : Grown host W W′) (src : ℕ) (apart : (src ≡ host) → ⊥) (sb : Block W src) where
@@ -236,7 +307,7 @@ module _ (W : List ℕ) (src i host : ℕ) (M T : List ℕ) (k : ℕ) (tg : Turn
         let z : c ≡ getD W (234 * src + 6 * i + (2 + k)) 0 = e ∙ tg .turned .left k (omega arith) h in
         record {
           source = tg .inside .block;
-          low = λ l. rw z (code-low W src i (tg .inside) k h (rw z at l));
+          low = λ l. rw z (code-in W src i (tg .inside) k h (rw z at l));
           target = tg .target;
           apart = tg .apart;
           mapped = tg .mapped;
@@ -380,9 +451,8 @@ module _ (W : List ℕ) (src c host : ℕ) (M : List ℕ) (im : Importing W src 
         pub import-block : Block W2 host
         import-block = ta .grown .block
 
-        pub import-fits : Fits W2 host T
-        import-fits = record {
-          long = omega (arith, td .long);
+        bytes-fit : Fits W2 host T
+        bytes-fit = record {
           packed = record {
             count = omega (arith, td .count, ib .block .packed c (ib .low) .count);
             spare = λ k l m. spare k l m;
@@ -405,8 +475,8 @@ module _ (W : List ℕ) (src c host : ℕ) (M : List ℕ) (im : Importing W src 
           mapped-all : Mapped W3 src host M2
           mapped-all = mapped-grown host W2 W3 (en .grown) src (im .apart) (ib .block) M2 (ta .mapped)
 
-          pub import-full : r ≡ 32 → Imported W src c host W3 M2 32
-          import-full _ = record { grown = grown-all; mapped = mapped-all; like = λ z. absurd (z refl) }
+          bytes-full : r ≡ 32 → Imported W src c host W3 M2 32
+          bytes-full _ = record { grown = grown-all; mapped = mapped-all; like = λ z. absurd (z refl) }
 
           module _ (d : (r ≡ 32) → ⊥) where
             code-new : CodeAs W3 src c host r
@@ -429,8 +499,8 @@ module _ (W : List ℕ) (src c host : ℕ) (M : List ℕ) (im : Importing W src 
                       ∙ ap (λ (x : Ref). follow (objectsIn W3 host) x p) (sym ro);
                 }
 
-            pub import-done : Imported W src c host W3 (set M2 c (r + 1)) r
-            import-done = record {
+            bytes-done : Imported W src c host W3 (set M2 c (r + 1)) r
+            bytes-done = record {
               grown = grown-all;
               mapped = record { table = length-set M2 c (r + 1) ∙ ta .mapped .table; each = λ x y e. go x y e (ℕ-discrete x c) };
               like = λ _. code-new;
@@ -445,6 +515,24 @@ module _ (W : List ℕ) (src c host : ℕ) (M : List ℕ) (im : Importing W src 
                     let w : r ≡ y = omega arith in
                     rw (z, ← w) code-new
                 go x y e (no z) = mapped-all .each x y (sym (getD-set-other M2 c x (r + 1) 0 z) ∙ e)
+
+        -- the same for the bytes read as numbers
+        module _ (w : ℕ) (f : Four T 2 w) where
+          read : T ≡ objectOf (getD T 0 0) (getD T 1 0) w
+          read = object-read T w (td .long) f
+
+          pub import-fits : Fits W2 host (objectOf (getD T 0 0) (getD T 1 0) w)
+          import-fits = subst (Fits W2 host) read bytes-fit
+
+          module _ (W3 : List ℕ) (r : ℕ) (en : Entered W2 host (objectOf (getD T 0 0) (getD T 1 0) w) W3 r) where
+            en-bytes : Entered W2 host T W3 r
+            en-bytes = subst (λ (B : List ℕ). Entered W2 host B W3 r) (sym read) en
+
+            pub import-full : r ≡ 32 → Imported W src c host W3 M2 32
+            import-full = bytes-full W3 r en-bytes
+
+            pub import-done : ((r ≡ 32) → ⊥) → Imported W src c host W3 (set M2 c (r + 1)) r
+            import-done = bytes-done W3 r en-bytes
 
 -- ---- a part
 module _ (W : List ℕ) (b i base host : ℕ) (ib : Inside W b i) (bg : Begun W base host) where
@@ -500,7 +588,16 @@ module _ (W : List ℕ) (b i base host : ℕ) (ib : Inside W b i) (bg : Begun W 
     }
 
 -- ---- an object without fields
-module _ (W : List ℕ) (b i host : ℕ) (ib : Inside W b i) (bk : Block W host) (apart : (b ≡ host) → ⊥) (bare : getD W (234 * b + 6 * i + 1) 0 ≡ 0) (T : List ℕ) (o : ObjectBytes W b i T) where
+module _ (W : List ℕ) (b i host : ℕ) (ib : Inside W b i) (bk : Block W host) (apart : (b ≡ host) → ⊥) (bare : getD W (234 * b + 6 * i + 1) 0 ≡ 0) (w : ℕ) (f : Four W (234 * b + 6 * i + 2) w) where
+  abbrev bare-object : List ℕ
+  bare-object = objectOf (getD W (234 * b + 6 * i) 0) 0 w
+
+  o : ObjectBytes W b i bare-object
+  o = record {
+    long = object-length (getD W (234 * b + 6 * i) 0) 0 w;
+    bytes = λ j h. sym (object-bytes W (234 * b + 6 * i) w f j h ∙ ap (λ (m : ℕ). getD (objectOf (getD W (234 * b + 6 * i) 0) m w) j 0) bare);
+  }
+
   begun : Begun W host host
   begun = record { source = bk; target = bk; most = omega arith; trees = λ r l p. refl }
 
@@ -516,7 +613,7 @@ module _ (W : List ℕ) (b i host : ℕ) (ib : Inside W b i) (bk : Block W host)
   bare-code : (j : ℕ) → j < 4 → getD W (234 * b + 6 * i + (2 + j)) 0 ≡ 192
   bare-code j l = ib .block .packed i (ib .low) .spare (2 + j) (omega (arith, bare)) (omega arith)
 
-  bare-turned : TurnedAll W b i host W none-met T true
+  bare-turned : TurnedAll W b i host W none-met bare-object true
   bare-turned = record {
     grown = grown-none host W bk;
     mapped = bare-importing .mapped;
@@ -535,20 +632,20 @@ module _ (W : List ℕ) (b i host : ℕ) (ib : Inside W b i) (bk : Block W host)
     };
   }
 
-  pub bare-fits : Fits W host T
-  bare-fits = import-fits W b i host none-met bare-importing bare-low W none-met T true bare-turned refl
+  pub bare-fits : Fits W host (objectOf (getD W (234 * b + 6 * i) 0) 0 w)
+  bare-fits = bytes-fit W b i host none-met bare-importing bare-low W none-met bare-object true bare-turned refl
 
-  pub bare-imported : (W′ : List ℕ) (r : ℕ) → Entered W host T W′ r → PartImported W (Object b i) host W′ r
+  pub bare-imported : (W′ : List ℕ) (r : ℕ) → Entered W host (objectOf (getD W (234 * b + 6 * i) 0) 0 w) W′ r → PartImported W (Object b i) host W′ r
   bare-imported W′ r en = go (ℕ-discrete r 32)
     where
       full : r ≡ 32 → Imported W b i host W′ none-met r
-      full e = subst (Imported W b i host W′ none-met) (sym e) (import-full W b i host none-met bare-importing bare-low W none-met T true bare-turned refl W′ r en e)
+      full e = subst (Imported W b i host W′ none-met) (sym e) (bytes-full W b i host none-met bare-importing bare-low W none-met bare-object true bare-turned refl W′ r en e)
 
       go : Dec (r ≡ 32) → PartImported W (Object b i) host W′ r
       go (yes e) = object-other W b i host host ib begun apart W′ none-met r (full e)
       go (no d) =
           object-other W b i host host ib begun apart W′ (set none-met i (r + 1)) r
-          (import-done W b i host none-met bare-importing bare-low W none-met T true bare-turned refl W′ r en d)
+          (bytes-done W b i host none-met bare-importing bare-low W none-met bare-object true bare-turned refl W′ r en d)
 
 module _ (W : List ℕ) (v : ValueRef) (base host : ℕ) (h : Holds W v) (bg : Begun W base host) where
   pub part-object : (b i : ℕ) (W′ : List ℕ) (r : ℕ) → v ≡ Object b i → PartImported W (Object b i) host W′ r → PartImported W v host W′ r
@@ -635,53 +732,44 @@ module _ (host : ℕ) (W W′ : List ℕ) (g : Grown host W W′) where
   }
 
 -- ---- the parts brought
-pub brought-none : (W : List ℕ) (c : ℕ) (ps : List Slot) (n : ℕ) (host : ℕ) (R : List ℕ) → length R ≡ 6 → RootBrought W c ps n 0 W host (fresh R c n)
-brought-none W c ps n host R e = record {
-  long = simp length-set (omega arith);
-  cls = fresh-class R c n (omega arith);
-  count = fresh-count R c n (omega arith);
-  done = λ j l. absurd (omega arith);
-  spare = λ k a b. fresh-spare R c n (omega arith) k (omega arith) b;
-}
+pub brought-none : (W : List ℕ) (ps : List Slot) (n host : ℕ) → RootBrought W ps n n W host 3233857728
+brought-none W ps n host = record { done = λ j l. absurd (omega arith); spare = λ j l h. spare-codes j h }
 
-module _ (W : List ℕ) (c : ℕ) (ps : List Slot) (n i : ℕ) (W1 : List ℕ) (host : ℕ) (T : List ℕ) (held : PartsHeld W ps n) (g : Grown host W W1) (w : RootBrought W c ps n i W1 host T) where
-  pub brought-held : i < n → (v : ValueRef) → v ≡ partOf ps i → Holds W1 v
-  brought-held h v e = part-held host W W1 g v (subst (Holds W) (sym e) (held .part i h))
+module _ (W : List ℕ) (ps : List Slot) (n i : ℕ) (W1 : List ℕ) (host w : ℕ) (held : PartsHeld W ps n) (g : Grown host W W1) (b : RootBrought W ps n i W1 host w) (le : i ≤ n) where
+  pub brought-held : 0 < i → (v : ValueRef) → v ≡ partOf ps (i - 1) → Holds W1 v
+  brought-held h v e = part-held host W W1 g v (subst (Holds W) (sym e) (held .part (i - 1) (omega arith)))
 
-  pub brought-all : n ≤ i → i ≤ n → PartsBrought W c ps n host W1 T true
-  brought-all h l = let e : i ≡ n = omega arith in record { grown = g; done = λ _. subst (λ (k : ℕ). RootBrought W c ps n k W1 host T) e w }
+  pub brought-all : i ≤ 0 → PartsBrought W ps n host W1 w
+  brought-all h = let e : i ≡ 0 = omega arith in record { grown = g; done = λ _. subst (λ (k : ℕ). RootBrought W ps n k W1 host w) e b }
 
-  module _ (h : i < n) (v : ValueRef) (e : v ≡ partOf ps i) (W2 : List ℕ) (r : ℕ) (pi : PartImported W1 v host W2 r) where
+  module _ (h : 0 < i) (v : ValueRef) (e : v ≡ partOf ps (i - 1)) (W2 : List ℕ) (r : ℕ) (pi : PartImported W1 v host W2 r) where
     pub brought-grown : Grown host W W2
     brought-grown = grown-more host W W1 W2 g (pi .grown)
 
-    pub brought-fails : PartsBrought W c ps n host W2 T false
-    brought-fails = record { grown = brought-grown; done = λ z. absurd (false≢true z) }
+    pub brought-fails : PartsBrought W ps n host W2 32
+    brought-fails = record { grown = brought-grown; done = λ z. absurd (z refl) }
 
-    pub brought-more : n ≤ 4 → ((r ≡ 32) → ⊥) → RootBrought W c ps n (i + 1) W2 host (set T (2 + i) r)
-    brought-more few d = record {
-      long = length-set T (2 + i) r ∙ w .long;
-      cls = getD-set-other T (2 + i) 0 r 0 (λ z. omega arith) ∙ w .cls;
-      count = getD-set-other T (2 + i) 1 r 0 (λ z. omega arith) ∙ w .count;
-      done = λ j l. go j l (ℕ-discrete j i);
-      spare = λ k a b. getD-set-other T (2 + i) k r 0 (λ z. omega arith) ∙ w .spare k (omega arith) b;
-    }
+    pub brought-more : n ≤ 4 → r < 256 → ((r ≡ 32) → ⊥) → RootBrought W ps n (i - 1) W2 host (r + 256 * (w % 16777216))
+    brought-more few lr d = record { done = done; spare = spare }
       where
         now-like : As W v W2 host r
         now-like = record {
           low = pi .like d .low;
-          same = λ p. part-tree host W W1 g v (subst (Holds W) (sym e) (held .part i h)) p ∙ pi .like d .same p;
+          same = λ p. part-tree host W W1 g v (subst (Holds W) (sym e) (held .part (i - 1) (omega arith))) p ∙ pi .like d .same p;
         }
 
-        go : (j : ℕ) → j < i + 1 → Dec (j ≡ i) → As W (partOf ps j) W2 host (getD (set T (2 + i) r) (2 + j) 0)
-        go j l (yes z) = rw (z, getD-set-same T (2 + i) r 0 (omega (arith, w .long))) (subst (λ (x : ValueRef). As W x W2 host r) e now-like)
-        go j l (no z) = rw (getD-set-other T (2 + i) (2 + j) r 0 (λ y. z (omega arith))) (like-grown host W1 W2 (pi .grown) W (partOf ps j) _ (w .done j (omega (arith, z))))
+        done : (j : ℕ) → i - 1 + j < n → As W (partOf ps (i - 1 + j)) W2 host (getD (codesOf (r + 256 * (w % 16777216))) j 0)
+        done zero l = let z : i - 1 + 0 ≡ i - 1 = omega arith in rw (z, first-code r w lr) (subst (λ (x : ValueRef). As W x W2 host r) e now-like)
+        done (suc j) l =
+            let z : i - 1 + suc j ≡ i + j = omega arith in
+            rw (z, next-code r w lr j (omega arith)) (like-grown host W1 W2 (pi .grown) W (partOf ps (i + j)) _ (b .done j (omega arith)))
+
+        spare : (j : ℕ) → n ≤ i - 1 + j → j < 4 → getD (codesOf (r + 256 * (w % 16777216))) j 0 ≡ 192
+        spare zero l m = absurd (omega arith)
+        spare (suc j) l m = next-code r w lr j (omega arith) ∙ b .spare j (omega arith) (omega arith)
 
 pub brought-start : (W : List ℕ) (base host : ℕ) → Begun W base host → Grown host W W
 brought-start W base host bg = grown-none host W (bg .target)
-
-pub brought-length : (T : List ℕ) (i x m : ℕ) → length T ≡ m → length (set T i x) ≡ m
-brought-length T i x m e = length-set T i x ∙ e
 
 -- ---- the new object over them
 beneath-grown : (host dst : ℕ) (W W′ : List ℕ) → dst ≤ host → Grown host W W′ → Beneath dst W W′
@@ -718,7 +806,7 @@ like-all W ms (suc n) [] ps a b h = absurd (omega arith)
 like-all W ms (suc n) (r ∷ rs) [] a b h = absurd (omega arith)
 like-all W ms (suc n) (r ∷ rs) (s ∷ ps) a b h = (h 0 (omega arith), like-all W ms n rs ps (omega arith) (omega arith) (λ i l. h (suc i) (omega arith)))
 
-module _ (W : List ℕ) (c : ℕ) (ps : List Slot) (n host dst : ℕ) (held : PartsHeld W ps n) (few : n ≤ 4) (le : dst ≤ host) (W1 T : List ℕ) (b : Bool) (br : PartsBrought W c ps n host W1 T b) where
+module _ (W : List ℕ) (c : ℕ) (ps : List Slot) (n host dst : ℕ) (held : PartsHeld W ps n) (few : n ≤ 4) (le : dst ≤ host) (W1 : List ℕ) (w : ℕ) (br : PartsBrought W ps n host W1 w) where
   pub in-held : PartsHeld W1 ps n
   in-held = parts-held host W W1 (br .grown) ps n held
 
@@ -728,28 +816,30 @@ module _ (W : List ℕ) (c : ℕ) (ps : List Slot) (n host dst : ℕ) (held : Pa
   pub in-laid : (W2 : List ℕ) (q : ℕ) → MadeIn W1 (make c (valuesFrom W1 ps 0 n)) dst W2 q → MadeIn W (make c (valuesFrom W ps 0 n)) dst W2 q
   in-laid W2 q m = made-from W W1 c ps n dst W2 q (beneath-grown host dst W W1 le (br .grown)) (parts-values host W W1 (br .grown) ps n held) m
 
-  module _ (eb : not b ≡ false) where
-    rb : RootBrought W c ps n n W1 host T
-    rb = br .done (not-false b eb)
+  module _ (ew : (w % 256 ≡ 32) → ⊥) where
+    rb : RootBrought W ps n 0 W1 host w
+    rb = br .done ew
+
+    abbrev root-object : List ℕ
+    root-object = objectOf c n w
+
+    like-code : (j : ℕ) → j < n → As W (partOf ps j) W1 host (getD root-object (2 + j) 0)
+    like-code j h = let e : 0 + j ≡ j = omega arith in rw (object-code c n w j) (rw e at (rb .done j (omega arith)))
 
     pub in-block : Block W1 host
     in-block = br .grown .block
 
-    pub in-fits : Fits W1 host T
+    pub in-fits : Fits W1 host (objectOf c n w)
     in-fits = record {
-      long = omega (arith, rb .long);
-      packed = record {
-        count = omega (arith, rb .count);
-        spare = λ k l m. let e : 0 + k ≡ k = omega arith in rw e (rb .spare k (omega (arith, rb .count)) m);
-      };
-      low = low-refs T (countIn W1 host) (λ j l. go j l (decLt j n));
+      packed = codes-packed c n w few (λ j l m. rb .spare j (omega arith) m);
+      low = low-refs root-object (countIn W1 host) (λ j l. go j l (decLt j n));
     }
       where
-        go : (j : ℕ) → j < 4 → Dec (j < n) → InRange (countIn W1 host) (refOf (getD T (2 + j) 0))
-        go j l (yes h) = rb .done j h .low
-        go j l (no h) = rw (rb .spare (2 + j) (omega (arith, h)) (omega arith)) (leaf-low (countIn W1 host) 192 (omega arith))
+        go : (j : ℕ) → j < 4 → Dec (j < n) → InRange (countIn W1 host) (refOf (getD root-object (2 + j) 0))
+        go j l (yes h) = like-code j h .low
+        go j l (no h) = rw (object-code c n w j, rb .spare j (omega (arith, h)) l) (leaf-low (countIn W1 host) 192 (omega arith))
 
-    module _ (W2 : List ℕ) (r : ℕ) (en : Entered W1 host T W2 r) where
+    module _ (W2 : List ℕ) (r : ℕ) (en : Entered W1 host (objectOf c n w) W2 r) where
       both : Grown host W W2
       both = grown-more host W W1 W2 (br .grown) (en .grown)
 
@@ -763,7 +853,7 @@ module _ (W : List ℕ) (c : ℕ) (ps : List Slot) (n host dst : ℕ) (held : Pa
       in-laid-2 W3 q m = made-from W W2 c ps n dst W3 q (beneath-grown host dst W W2 le both) (parts-values host W W2 both ps n held) m
 
       module _ (d : (r ≡ 32) → ⊥) where
-        st : Standing W2 host T r
+        st : Standing W2 host root-object r
         st = en .standing d
 
         inside : Inside W2 host r
@@ -772,23 +862,23 @@ module _ (W : List ℕ) (c : ℕ) (ps : List Slot) (n host dst : ℕ) (held : Pa
         whole : Whole (graphAt W2 host r)
         whole = whole-at W2 host (en .grown .block) r (st .low)
 
-        node-is : nodeAt (objectsIn W2 host) r ≡ node c (take n (four T 0))
+        node-is : nodeAt (objectsIn W2 host) r ≡ node c (take n (four root-object 0))
         unfolding nodeIn
-        node-is = st .is ∙ ap₂ {A = ℕ} {B = ℕ} (λ x y. node x (take y (four T 0))) (rb .cls) (rb .count)
+        node-is = st .is ∙ ap₂ {A = ℕ} {B = ℕ} (λ x y. node x (take y (four root-object 0))) (object-class c n w) (object-count c n w)
 
-        like : AllLike (objectsIn W2 host) (take n (four T 0)) (rawsFrom W ps 0 n)
+        like : AllLike (objectsIn W2 host) (take n (four root-object 0)) (rawsFrom W ps 0 n)
         unfolding rawsFrom
-        like = like-all W (objectsIn W2 host) n (four T 0) ps few (held .full) (λ i l p.
-            ap (λ (x : Ref). follow (objectsIn W2 host) x p) (four-at T 0 i (omega arith))
-            ∙ sym (like-grown host W1 W2 (en .grown) W (partOf ps i) (getD T (2 + i) 0) (rb .done i l) .same p))
+        like = like-all W (objectsIn W2 host) n (four root-object 0) ps few (held .full) (λ i l p.
+            ap (λ (x : Ref). follow (objectsIn W2 host) x p) (four-at root-object 0 i (omega arith))
+            ∙ sym (like-grown host W1 W2 (en .grown) W (partOf ps i) (getD root-object (2 + i) 0) (like-code i l) .same p))
 
         value : make c (valuesFrom W ps 0 n) ≡ canon (graphAt W2 host r)
         value =
             made-raw W c ps n held
             ∙ made-as c (rawsFrom W ps 0 n) (raws-whole W c ps n held) (graphAt W2 host r) whole
             (ap (λ (x : Node). some (object (x .cls) (length (x .refs)))) node-is
-            ∙ ap (λ (l : ℕ). some (object c l)) (omega (arith, length-take n (four T 0), few, parts-length W ps n held)))
-            (λ f p. ap (λ (x : Node). getElem? (x .refs) f >>= (λ s. follow (objectsIn W2 host) s p)) node-is ∙ like-follow (objectsIn W2 host) (take n (four T 0)) (rawsFrom W ps 0 n) like f p)
+            ∙ ap (λ (l : ℕ). some (object c l)) (omega (arith, length-take n (four root-object 0), few, parts-length W ps n held)))
+            (λ f p. ap (λ (x : Node). getElem? (x .refs) f >>= (λ s. follow (objectsIn W2 host) s p)) node-is ∙ like-follow (objectsIn W2 host) (take n (four root-object 0)) (rawsFrom W ps 0 n) like f p)
 
         module _ (s : host < 65536) where
           pub in-holds : Holds W2 (refIn (256 * host + r))
@@ -820,24 +910,23 @@ module _ (ps : List Slot) (n d : ℕ) where
   abbrev lies : ℕ → Bool
   lies i = liesIn d (partOf ps i)
 
-  pub away-none : someIn ps 0 d ≡ false
-  unfolding someIn any
-  away-none = refl
-
   module _ (i : ℕ) (v : ValueRef) (r : Bool) (ev : v ≡ partOf ps i) (er : r ≡ liesIn d v) where
     answer : lies i ≡ r
     answer = ap (liesIn d) (sym ev) ∙ sym er
 
-    pub away-more : someIn ps i d ≡ false → r ≡ false → someIn ps (i + 1) d ≡ false
-    unfolding someIn
-    away-more a e = any-more lies i a (answer ∙ e)
+    pub some-less : (m : ℕ) → someIn ps n d ≡ someIn ps m d → 0 < m → m - 1 ≡ i → r ≡ false → someIn ps n d ≡ someIn ps i d
+    unfolding someIn any
+    some-less m a h em e =
+        let z : m ≡ suc i = omega arith in
+        a ∙ ap (any lies) z ∙ rw (answer ∙ e)
 
-    pub some-there : i < n → r ≡ true → true ≡ someIn ps n d
+    pub some-there : (m : ℕ) → m ≤ n → 0 < m → m - 1 ≡ i → r ≡ true → true ≡ someIn ps n d
     unfolding someIn
-    some-there h e = sym (any-there lies n i h (answer ∙ e))
+    some-there m l h em e = sym (any-there lies n i (omega arith) (answer ∙ e))
 
-  pub some-none : (i : ℕ) → someIn ps i d ≡ false → i ≤ n → n ≤ i → false ≡ someIn ps n d
-  some-none i a h l = let e : i ≡ n = omega arith in sym (rw e at a)
+  pub some-none : (i : ℕ) → someIn ps n d ≡ someIn ps i d → i ≤ 0 → false ≡ someIn ps n d
+  unfolding someIn any
+  some-none i a l = let e : i ≡ 0 = omega arith in sym (a ∙ ap (any lies) e)
 
   away-at : someIn ps n d ≡ false → (i : ℕ) → i < n → lies i ≡ false
   unfolding someIn
@@ -935,7 +1024,7 @@ module _ (W : List ℕ) (dst : ℕ) (W1 : List ℕ) (o : Outside dst W W1) (ps :
 module _ (W : List ℕ) (b dst : ℕ) (W1 : List ℕ) (bk : Block W b) (lb : b < dst) (room : 234 * dst + 234 ≤ length W) (cp : Copied W b dst W1) where
   pub copied-begun : Begun W1 b dst
   copied-begun =
-      let m = block-moves W W1 b dst (cp .count) (cp .level) (cp .here) (omega (arith, cp .outside .same)) bk in
+      let m = block-moves W W1 b dst (cp .count) (cp .level) (cp .reach) (cp .here) (omega (arith, cp .outside .same)) bk in
       let o = other-block dst W W1 (cp .outside) b (λ z. omega arith) bk in
       let same : countIn W1 b ≡ countIn W b = sym (size-in W1 b (o .1)) ∙ ap length (o .0) ∙ size-in W b bk in
       record {
@@ -968,6 +1057,7 @@ module _ (W : List ℕ) (dst : ℕ) (W1 : List ℕ) (room : 234 * dst + 234 ≤ 
     whole = rw none-there (record { top = tt; inner = λ i f r e. absurd (Option·none-ne-some r e) });
     distinct = rw none-there (record { apart = λ i j h. absurd (omega arith) });
     level = λ q h. absurd (omega (arith, em .count));
+    reach = λ i f h l c. absurd (omega (arith, em .count));
   })
 
   pub empty-room : 234 * dst + 234 ≤ length W1

@@ -1,12 +1,12 @@
--- A new object beside the objects of the block where its parts lie, or alone in a block.
-use Prim.Native.Nat.{ℕ, zero, suc, _+_, _*_, _≤_, _<_}
+-- A new object, as numbers and as bytes; beside the objects of the block where its parts lie, or alone in a block.
+use Prim.Native.Nat.{ℕ, zero, suc, _+_, _*_, _/_, _%_, _≤_, _<_}
 use mathlib.Core.Path.{_≡_}
 use mathlib.Core.Bool.{Bool, true, false, not, cond}
-use mathlib.Core.List.{List, map}
+use mathlib.Core.List.{List, [], _∷_, map}
 use lib.Dec.{eqb}
 use lib.ListN.{getD}
 use Rattle.cofj.specs.Values.{Ref, node, Graph}
-use Rattle.canon.specs.Layout.{nodeIn, Packed, countIn, levelIn, Outside}
+use Rattle.canon.specs.Layout.{nodeIn, Packed, countIn, levelIn, reachIn, Outside}
 use Rattle.values.specs.declared.ValueRef.{ValueRef}
 use Rattle.values.specs.declared.ValueRef.the-variants.{Object, Mark, Undetermined}
 use Rattle.values.specs.Tests.{any}
@@ -15,10 +15,22 @@ use Rattle.maker.specs.declared.Slot.{Slot}
 abbrev pub roots : List Graph → List Ref
 roots gs = map (λ g. g .root) gs
 
+-- four codes that are one number, the first the lowest byte
+unfoldable pub codesOf : ℕ → List ℕ
+codesOf w = w % 256 ∷ w / 256 % 256 ∷ w / 65536 % 256 ∷ w / 16777216 ∷ []
+
+-- the six bytes of the object of class c with n fields and these codes
+unfoldable pub objectOf : ℕ → ℕ → ℕ → List ℕ
+objectOf c n w = c ∷ n ∷ codesOf w
+
 -- the new object, its fields the roots of its parts
 pub record RootObject (c : ℕ) (gs : List Graph) (T : List ℕ) : Type 0 where
   pub is : nodeIn T 0 ≡ node c (roots gs)
   pub packed : Packed T 0
+
+-- its codes, whatever its class
+pub record RootCodes (gs : List Graph) (n w : ℕ) : Type 0 where
+  pub object : (c : ℕ) → RootObject c gs (objectOf c n w)
 
 -- none of the first k objects of block b is the object in T
 pub record Missed (W : List ℕ) (b : ℕ) (T : List ℕ) (k : ℕ) : Type 0 where
@@ -35,10 +47,11 @@ pub record Emptied (W : List ℕ) (dst : ℕ) (D : List ℕ) : Type 0 where
   pub level : levelIn D dst ≡ 0
   pub outside : Outside dst W D
 
--- the object in T after t objects of block dst, with the level l; the bytes of those, and those outside, are W's
+-- the object in T after t objects of block dst, with the level l, and none refers to it; the bytes of those, and those outside, are W's
 pub record Appended (W : List ℕ) (dst t : ℕ) (T : List ℕ) (l : ℕ) (D : List ℕ) : Type 0 where
   pub count : countIn D dst ≡ t + 1
   pub level : levelIn D dst ≡ l
+  pub reach : reachIn D dst ≡ t
   pub old : (q : ℕ) → q < 6 * t → getD D (234 * dst + q) 0 ≡ getD W (234 * dst + q) 0
   pub top : (k : ℕ) → k < 6 → getD D (234 * dst + 6 * t + k) 0 ≡ getD T k 0
   pub outside : Outside dst W D
@@ -46,6 +59,7 @@ pub record Appended (W : List ℕ) (dst t : ℕ) (T : List ℕ) (l : ℕ) (D : L
 -- t objects of block b and then the one in T, in block dst
 pub record Added (W : List ℕ) (b t : ℕ) (T : List ℕ) (dst : ℕ) (D : List ℕ) : Type 0 where
   pub count : countIn D dst ≡ t + 1
+  pub reach : reachIn D dst ≡ t
   pub old : (q : ℕ) → q < 6 * t → getD D (234 * dst + q) 0 ≡ getD W (234 * b + q) 0
   pub top : (k : ℕ) → k < 6 → getD D (234 * dst + 6 * t + k) 0 ≡ getD T k 0
   pub level : (q : ℕ) → q < 6 * (t + 1) → getD D (234 * dst + q) 0 < 193 + levelIn D dst

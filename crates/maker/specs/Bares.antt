@@ -3,7 +3,7 @@ use Prim.Native.Nat.{ℕ, _+_, _*_, _<_}
 use mathlib.Core.Path.{_≡_}
 use mathlib.Core.List.{List, [], _∷_}
 use lib.ListN.{length, getD}
-use Rattle.canon.specs.Layout.{Block, countIn, Outside}
+use Rattle.canon.specs.Layout.{Block, countIn, levelIn, Outside}
 
 -- the six bytes of the object of class c without fields
 abbrev pub bareObject : ℕ → List ℕ
@@ -20,6 +20,7 @@ pub record Preset (P : List ℕ) : Type 0 where
 pub record Bares (W : List ℕ) : Type 0 where
   pub block : Block W 0
   pub count : countIn W 0 ≡ 32
+  pub level : levelIn W 0 ≡ 0
   pub cls : (c : ℕ) → c < 32 → getD W (6 * c) 0 ≡ c
   pub bare : (c : ℕ) → c < 32 → getD W (6 * c + 1) 0 ≡ 0
 

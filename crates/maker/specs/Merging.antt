@@ -1,8 +1,8 @@
 -- Objects brought into one block, the host: the codes of a value that lies in another block, and of the parts of a new object.
 -- Not here: the bytes of a block with one more object (Adding).
-use Prim.Native.Nat.{ℕ, zero, suc, _+_, _*_, _≤_, _<_}
+use Prim.Native.Nat.{ℕ, zero, suc, _+_, _*_, _/_, _%_, _≤_, _<_}
 use mathlib.Core.Path.{_≡_}
-use mathlib.Core.Bool.{Bool, true, cond}
+use mathlib.Core.Bool.{Bool, true, false, cond}
 use mathlib.Core.List.{List}
 use mathlib.Core.Option.{some}
 use lib.Dec.{ltb, eqb}
@@ -15,7 +15,7 @@ use Rattle.values.specs.declared.ValueRef.the-variants.{Object, Mark, Undetermi
 use Rattle.values.specs.Tests.{any}
 use Rattle.values.specs.Layout.{rawOf, liesIn}
 use Rattle.maker.specs.declared.Slot.{Slot}
-use Rattle.maker.specs.Adding.{partOf}
+use Rattle.maker.specs.Adding.{codesOf, partOf}
 
 -- block host has grown: what was in it unfolds as before, and the other blocks are as before
 pub record Grown (host : ℕ) (W W′ : List ℕ) : Type 0 where
@@ -26,7 +26,6 @@ pub record Grown (host : ℕ) (W W′ : List ℕ) : Type 0 where
 
 -- the object in T can stand among the objects of block host
 pub record Fits (W : List ℕ) (host : ℕ) (T : List ℕ) : Type 0 where
-  pub long : 6 ≤ length T
   pub packed : Packed T 0
   pub low : (f : ℕ) (r : Ref) → getElem? (nodeIn T 0 .refs) f ≡ some r → InRange (countIn W host) r
 
@@ -39,6 +38,14 @@ pub record Entered (W : List ℕ) (host : ℕ) (T W′ : List ℕ) (r : ℕ) : T
   pub grown : Grown host W W′
   pub few : r ≤ 32
   pub standing : ((r ≡ 32) → ⊥) → Standing W′ host T r
+
+-- whether a code is an object's, of number f or a higher one; and whether one of the four codes of w is
+unfoldable pub liesFrom : ℕ → ℕ → Bool
+liesFrom c f = cond (ltb c f) false (ltb c 192)
+
+unfoldable pub refersFrom : ℕ → ℕ → Bool
+refersFrom w f =
+    cond (liesFrom (w % 256) f) true (cond (liesFrom (w / 256 % 256) f) true (cond (liesFrom (w / 65536 % 256) f) true (liesFrom (w / 16777216) f)))
 
 -- ---- a code of another block
 -- the code r of block host unfolds as the code c of block src
@@ -106,17 +113,14 @@ pub record Begun (W : List ℕ) (base host : ℕ) : Type 0 where
   pub most : countIn W base ≤ countIn W host
   pub trees : (r : Ref) → InRange (countIn W base) r → Same (objectsIn W base) r (objectsIn W host) r
 
--- T has the new object with the codes of its first i parts
-pub record RootBrought (W : List ℕ) (c : ℕ) (ps : List Slot) (n i : ℕ) (W′ : List ℕ) (host : ℕ) (T : List ℕ) : Type 0 where
-  pub long : length T ≡ 6
-  pub cls : getD T 0 0 ≡ c
-  pub count : getD T 1 0 ≡ n
-  pub done : (j : ℕ) → j < i → As W (partOf ps j) W′ host (getD T (2 + j) 0)
-  pub spare : (k : ℕ) → 2 + i ≤ k → k < 6 → getD T k 0 ≡ 192
+-- the number w has the codes of the parts from i on, n in all; the codes after them are 192
+pub record RootBrought (W : List ℕ) (ps : List Slot) (n i : ℕ) (W′ : List ℕ) (host w : ℕ) : Type 0 where
+  pub done : (j : ℕ) → i + j < n → As W (partOf ps (i + j)) W′ host (getD (codesOf w) j 0)
+  pub spare : (j : ℕ) → n ≤ i + j → j < 4 → getD (codesOf w) j 0 ≡ 192
 
-pub record PartsBrought (W : List ℕ) (c : ℕ) (ps : List Slot) (n host : ℕ) (W′ T′ : List ℕ) (r : Bool) : Type 0 where
+pub record PartsBrought (W : List ℕ) (ps : List Slot) (n host : ℕ) (W′ : List ℕ) (w : ℕ) : Type 0 where
   pub grown : Grown host W W′
-  pub done : r ≡ true → RootBrought W c ps n n W′ host T′
+  pub done : ((w % 256 ≡ 32) → ⊥) → RootBrought W ps n 0 W′ host w
 
 -- ---- the host
 -- whether one of the first n parts is an object of block d

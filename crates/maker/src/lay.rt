@@ -12,8 +12,8 @@ ghost use Rattle.canon.specs.Layout.{Block, objectsIn};
 ghost use Rattle.values.specs.Layout.{Holds, rawOf};
 
 // Part i of a new object, whose parts are these numbers.
-pub fn part_at(parts: &[u32; 4], i: u8) -> ValueRef
-    requires { ⌜ i < 4 ⌝ }
+pub fn part_at(parts: &[u32], i: u8) -> ValueRef
+    requires { ⌜ (i < 4) × (4 ≤ length (now parts)) ⌝ }
     ensures { λ v. ⌜ v ≡ partOf (partsOf (now (parts .entry))) i ⌝ }
 {
     unpack(parts[i as usize])
@@ -61,8 +61,8 @@ pub fn lay_one(work: &[u8], r: ValueRef, i: u8, raw: &mut [u8], at: u8) -> u8
 }
 
 // The parts from i on, n in all, their objects from `at` on.
-pub fn lay(work: &[u8], parts: &[u32; 4], i: u8, n: u8, raw: &mut [u8], at: u8) -> u8
-    requires { ⌜ PartsHeld (now work) (partsOf (now parts)) n × (n ≤ 4) × (1 ≤ at) × (at + 32 * n ≤ 129 + 32 * i) × (1536 ≤ length (now raw)) ⌝ }
+pub fn lay(work: &[u8], parts: &[u32], i: u8, n: u8, raw: &mut [u8], at: u8) -> u8
+    requires { ⌜ PartsHeld (now work) (partsOf (now parts)) n × (n ≤ 4) × (1 ≤ at) × (at + 32 * n ≤ 129 + 32 * i) × (1536 ≤ length (now raw)) × (4 ≤ length (now parts)) ⌝ }
     ensures { λ t. ⌜ LaidAll (rawsFrom (now (work .entry)) (partsOf (now (parts .entry))) i n) at i (now (raw .entry)) (now (raw .exit)) t ⌝ }
 {
     if n <= i {
@@ -74,8 +74,8 @@ pub fn lay(work: &[u8], parts: &[u32; 4], i: u8, n: u8, raw: &mut [u8], at: u8) 
 }
 
 // A new object of class c with its parts, object 0 of `raw`, and theirs. Answers how many objects they are.
-pub fn build(work: &[u8], c: u8, parts: &[u32; 4], n: u8, raw: &mut [u8]) -> u8
-    requires { ⌜ PartsHeld (now work) (partsOf (now parts)) n × (n ≤ 4) × (1536 ≤ length (now raw)) ⌝ }
+pub fn build(work: &[u8], c: u8, parts: &[u32], n: u8, raw: &mut [u8]) -> u8
+    requires { ⌜ PartsHeld (now work) (partsOf (now parts)) n × (n ≤ 4) × (1536 ≤ length (now raw)) × (4 ≤ length (now parts)) ⌝ }
     ensures { λ t. ⌜ Built c (rawsFrom (now (work .entry)) (partsOf (now (parts .entry))) 0 n) (now (raw .exit)) t ⌝ }
 {
     raw[0] = c;

@@ -8,7 +8,7 @@ use crate::over::add;
 use crate::over::empty;
 use crate::over::find;
 use crate::over::make_alone;
-use crate::over::root_object;
+use crate::over::root_codes;
 use canon::colours::colour;
 use canon::number::put;
 use values::ValueRef;
@@ -26,8 +26,8 @@ ghost use Rattle.maker.specs.Merging.{someIn};
 ghost use Rattle.values.specs.Refs.{refIn};
 
 // The parts' objects laid side by side, and equal ones found.
-pub fn make_laid(work: &mut [u8], c: u8, parts: &[u32; 4], n: u8, dst: u16) -> u32
-    requires { ⌜ PartsHeld (now work) (partsOf (now parts)) n × (n ≤ 4) × (234 * dst + 234 ≤ length (now work)) ⌝ }
+pub fn make_laid(work: &mut [u8], c: u8, parts: &[u32], n: u8, dst: u16) -> u32
+    requires { ⌜ PartsHeld (now work) (partsOf (now parts)) n × (n ≤ 4) × (234 * dst + 234 ≤ length (now work)) × (4 ≤ length (now parts)) ⌝ }
     ensures { λ q. ⌜ MadeIn (now (work .entry)) (make c (valuesFrom (now (work .entry)) (partsOf (now (parts .entry))) 0 n)) dst (now (work .exit)) q ⌝ }
 {
     let mut raw = [0u8; 1536];
@@ -42,8 +42,8 @@ pub fn make_laid(work: &mut [u8], c: u8, parts: &[u32; 4], n: u8, dst: u16) -> u
 }
 
 // Whether one of the parts is an object.
-pub fn some_object(parts: &[u32; 4], n: u8) -> bool
-    requires { ⌜ n ≤ 4 ⌝ }
+pub fn some_object(parts: &[u32], n: u8) -> bool
+    requires { ⌜ (n ≤ 4) × (4 ≤ length (now parts)) ⌝ }
     ensures { λ r. ⌜ r ≡ someObject (partsOf (now (parts .entry))) n ⌝ }
 {
     let mut i: u8 = 0;
@@ -67,8 +67,8 @@ pub fn block_of(r: u32) -> u16
 }
 
 // The block of the first part that is an object of a block other than 0; 0 if there is none.
-pub fn first_block(parts: &[u32; 4], n: u8) -> u16
-    requires { ⌜ n ≤ 4 ⌝ }
+pub fn first_block(parts: &[u32], n: u8) -> u16
+    requires { ⌜ (n ≤ 4) × (4 ≤ length (now parts)) ⌝ }
     ensures { λ b. ⌜ b ≡ firstBlock (partsOf (now (parts .entry))) n ⌝ }
 {
     let mut i: u8 = 0;
@@ -94,8 +94,8 @@ pub fn stands(v: ValueRef, b: u16) -> bool
 }
 
 // Whether each part lies in block b, or is no object.
-pub fn together(parts: &[u32; 4], n: u8, b: u16) -> bool
-    requires { ⌜ n ≤ 4 ⌝ }
+pub fn together(parts: &[u32], n: u8, b: u16) -> bool
+    requires { ⌜ (n ≤ 4) × (4 ≤ length (now parts)) ⌝ }
     ensures { λ r. ⌜ r ≡ allStand (partsOf (now (parts .entry))) n b ⌝ }
 {
     let mut i: u8 = 0;
@@ -110,27 +110,26 @@ pub fn together(parts: &[u32; 4], n: u8, b: u16) -> bool
 }
 
 // A new object whose parts lie in block b, or are no objects.
-pub fn make_beside(work: &mut [u8], c: u8, parts: &[u32; 4], n: u8, b: u16, dst: u16) -> u32
-    requires { ⌜ PartsHeld (now work) (partsOf (now parts)) n × (n ≤ 4) × Block (now work) b × (allStand (partsOf (now parts)) n b ≡ true) × (234 * dst + 234 ≤ length (now work)) ⌝ }
+pub fn make_beside(work: &mut [u8], c: u8, parts: &[u32], n: u8, b: u16, dst: u16) -> u32
+    requires { ⌜ PartsHeld (now work) (partsOf (now parts)) n × (n ≤ 4) × Block (now work) b × (allStand (partsOf (now parts)) n b ≡ true) × (234 * dst + 234 ≤ length (now work)) × (4 ≤ length (now parts)) ⌝ }
     ensures { λ q. ⌜ MadeIn (now (work .entry)) (make c (valuesFrom (now (work .entry)) (partsOf (now (parts .entry))) 0 n)) dst (now (work .exit)) q ⌝ }
 {
-    let mut top = [0u8; 6];
-    root_object(work, c, parts, n, &mut top);
+    let w = root_codes(work, parts, n);
     let t = work[234 * (b as usize) + 192];
-    let k = find(work, b, t, &top);
+    let k = find(work, b, t, c, n, w);
     if k < t {
         return bring_in(work, 256 * (b as u32) + (k as u32), dst);
     }
     if 32 <= t {
         return make_laid(work, c, parts, n, dst);
     }
-    add(work, b, &top, dst);
+    add(work, b, c, n, w, dst);
     256 * (dst as u32) + (t as u32)
 }
 
 // A new object in block `dst`, where no part lies: alone, or after what its parts lead to.
-pub fn make_fresh(work: &mut [u8], c: u8, parts: &[u32; 4], n: u8, dst: u16) -> u32
-    requires { ⌜ PartsHeld (now work) (partsOf (now parts)) n × (n ≤ 4) × (someIn (partsOf (now parts)) n dst ≡ false) × (234 * dst + 234 ≤ length (now work)) ⌝ }
+pub fn make_fresh(work: &mut [u8], c: u8, parts: &[u32], n: u8, dst: u16) -> u32
+    requires { ⌜ PartsHeld (now work) (partsOf (now parts)) n × (n ≤ 4) × (someIn (partsOf (now parts)) n dst ≡ false) × (234 * dst + 234 ≤ length (now work)) × (4 ≤ length (now parts)) ⌝ }
     ensures { λ q. ⌜ MadeIn (now (work .entry)) (make c (valuesFrom (now (work .entry)) (partsOf (now (parts .entry))) 0 n)) dst (now (work .exit)) q ⌝ }
 {
     if !some_object(parts, n) {
@@ -142,8 +141,8 @@ pub fn make_fresh(work: &mut [u8], c: u8, parts: &[u32; 4], n: u8, dst: u16) -> 
 
 // A new object of class c with the n first parts, in block `dst` or below: its number, or NOTHING if it has more than 32 objects.
 // Block 0 is often full, and block `dst` is to be written: so the parts are brought to `dst` if one lies there or none lies above block 0.
-pub fn make(work: &mut [u8], c: u8, parts: &[u32; 4], n: u8, dst: u16) -> u32
-    requires { ⌜ PartsHeld (now work) (partsOf (now parts)) n × (n ≤ 4) × (234 * dst + 234 ≤ length (now work)) ⌝ }
+pub fn make(work: &mut [u8], c: u8, parts: &[u32], n: u8, dst: u16) -> u32
+    requires { ⌜ PartsHeld (now work) (partsOf (now parts)) n × (n ≤ 4) × (234 * dst + 234 ≤ length (now work)) × (4 ≤ length (now parts)) ⌝ }
     ensures { λ q. ⌜ MadeIn (now (work .entry)) (make c (valuesFrom (now (work .entry)) (partsOf (now (parts .entry))) 0 n)) dst (now (work .exit)) q ⌝ }
 {
     if some_in(parts, n, dst) {

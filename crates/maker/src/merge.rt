@@ -1,11 +1,12 @@
 // Objects of several blocks brought into one, the host, and a new object over them there.
 // Not here: parts that lie in one block already (make), and objects that lead back to themselves, which are laid side by side (make).
+use crate::enter::enter;
+use crate::enter::enter_over;
 use crate::lay::part_at;
 use crate::make::make_laid;
-use crate::over::append;
-use crate::over::find;
-use crate::over::level_with;
+use crate::over::UNUSED;
 use canon::bytes::copy;
+use canon::bytes::four_at;
 use values::ValueRef;
 use values::value::bring_in;
 use values::value::copy_block;
@@ -18,25 +19,7 @@ ghost use Rattle.maker.specs.Laying.{partsOf, PartsHeld, valuesFrom, Mad
 ghost use Rattle.canon.specs.Layout.{Block, Inside};
 ghost use Rattle.values.specs.Layout.{Holds, liesIn};
 ghost use Rattle.values.specs.declared.ValueRef.the-variants.{Object};
-ghost use Rattle.maker.specs.Merging.{Fits, Entered, ObjectBytes, Importing, Imported, Turning, TurnedAll, Begun, PartImported, PartsBrought, someIn, largerOf, largestOf};
-
-// The object in `top`, among the objects of block host: its number there, or 32 if it is new and there is no room.
-pub fn enter(work: &mut [u8], host: u16, top: &[u8]) -> u8
-    requires { ⌜ Block (now work) host × Fits (now work) host (now top) ⌝ }
-    ensures { λ r. ⌜ Entered (now (work .entry)) host (now (top .entry)) (now (work .exit)) r ⌝ }
-{
-    let t = work[234 * (host as usize) + 192];
-    let k = find(work, host, t, top);
-    if k < t {
-        return k;
-    }
-    if 32 <= t {
-        return 32;
-    }
-    let l = level_with(top, work[234 * (host as usize) + 193]);
-    append(work, host, t, top, l);
-    t
-}
+ghost use Rattle.maker.specs.Merging.{ObjectBytes, Importing, Imported, Turning, TurnedAll, Begun, PartImported, PartsBrought, someIn, largerOf, largestOf};
 
 // The six bytes of object i of block src, to the front of `top`.
 pub fn take_object(work: &[u8], src: u16, i: u8, top: &mut [u8])
@@ -67,7 +50,7 @@ pub fn import(work: &mut [u8], src: u16, c: u8, host: u16, memo: &mut [u8], dept
     if !import_codes(work, src, c, host, memo, depth - 1, &mut top, 0) {
         return 32;
     }
-    let r = enter(work, host, &top);
+    let r = enter(work, host, top[0], top[1], four_at(&top, 2));
     if r == 32 {
         return 32;
     }
@@ -106,9 +89,10 @@ pub fn import_bare(work: &mut [u8], b: u16, i: u8, host: u16) -> u8
     requires { ⌜ Inside (now work) b i × Block (now work) host × ((b ≡ host) → ⊥) × (getD (now work) (234 * b + 6 * i + 1) 0 ≡ 0) ⌝ }
     ensures { λ r. ⌜ PartImported (now (work .entry)) (Object b i) host (now (work .exit)) r ⌝ }
 {
-    let mut top = [0u8; 6];
-    take_object(work, b, i, &mut top);
-    enter(work, host, &top)
+    let p = 234 * (b as usize) + 6 * (i as usize);
+    let c = work[p];
+    let w = four_at(work, p + 2);
+    enter(work, host, c, 0, w)
 }
 
 // Object i of block b, in block host, whose first objects are those of block base: its number there, or 32 as `import` answers it.
@@ -142,56 +126,35 @@ pub fn import_part(work: &mut [u8], v: ValueRef, base: u16, host: u16) -> u8
     }
 }
 
-// The new object of class c with the codes of its n parts in block host, to `top`. Answers whether there was room for the parts.
-pub fn bring_parts(
-    work: &mut [u8],
-    c: u8,
-    parts: &[u32; 4],
-    n: u8,
-    base: u16,
-    host: u16,
-    top: &mut [u8],
-) -> bool
-    requires { ⌜ PartsHeld (now work) (partsOf (now parts)) n × (n ≤ 4) × Begun (now work) base host × (length (now top) ≡ 6) ⌝ }
-    ensures { λ r. ⌜ PartsBrought (now (work .entry)) c (partsOf (now (parts .entry))) n host (now (work .exit)) (now (top .exit)) r ⌝ }
+// The codes of the n parts in block host. 32 if there was no room for the parts: no code of the host is 32, so no answer else has it as its first code.
+pub fn bring_parts(work: &mut [u8], parts: &[u32], n: u8, base: u16, host: u16) -> u32
+    requires { ⌜ PartsHeld (now work) (partsOf (now parts)) n × (n ≤ 4) × Begun (now work) base host × (4 ≤ length (now parts)) ⌝ }
+    ensures { λ w. ⌜ PartsBrought (now (work .entry)) (partsOf (now (parts .entry))) n host (now (work .exit)) w ⌝ }
 {
-    top[0] = c;
-    top[1] = n;
-    top[2] = 192;
-    top[3] = 192;
-    top[4] = 192;
-    top[5] = 192;
-    let mut i: u8 = 0;
-    while i < n {
+    let mut w = UNUSED;
+    let mut i: u8 = n;
+    while 0 < i {
+        i -= 1;
         let v = part_at(parts, i);
         let r = import_part(work, v, base, host);
         if r == 32 {
-            return false;
+            return 32;
         }
-        top[2 + i as usize] = r;
-        i += 1;
+        w = (r as u32) + 256 * (w % 16777216);
     }
-    true
+    w
 }
 
 // A new object whose parts are brought into block host, which lies at dst or above and begins with the objects of block base.
-pub fn make_in(
-    work: &mut [u8],
-    c: u8,
-    parts: &[u32; 4],
-    n: u8,
-    base: u16,
-    host: u16,
-    dst: u16,
-) -> u32
-    requires { ⌜ PartsHeld (now work) (partsOf (now parts)) n × (n ≤ 4) × Begun (now work) base host × (dst ≤ host) × (234 * dst + 234 ≤ length (now work)) ⌝ }
+pub fn make_in(work: &mut [u8], c: u8, parts: &[u32], n: u8, base: u16, host: u16, dst: u16) -> u32
+    requires { ⌜ PartsHeld (now work) (partsOf (now parts)) n × (n ≤ 4) × Begun (now work) base host × (dst ≤ host) × (234 * dst + 234 ≤ length (now work)) × (4 ≤ length (now parts)) ⌝ }
     ensures { λ q. ⌜ MadeIn (now (work .entry)) (make c (valuesFrom (now (work .entry)) (partsOf (now (parts .entry))) 0 n)) dst (now (work .exit)) q ⌝ }
 {
-    let mut top = [0u8; 6];
-    if !bring_parts(work, c, parts, n, base, host, &mut top) {
+    let w = bring_parts(work, parts, n, base, host);
+    if w % 256 == 32 {
         return make_laid(work, c, parts, n, dst);
     }
-    let r = enter(work, host, &top);
+    let r = enter_over(work, host, c, n, w);
     if r == 32 {
         return make_laid(work, c, parts, n, dst);
     }
@@ -216,8 +179,8 @@ pub fn larger(work: &[u8], v: ValueRef, b: u16) -> u16
 }
 
 // The block with the most objects, of block b and those of the parts but block 0.
-pub fn largest(work: &[u8], parts: &[u32; 4], n: u8, b: u16) -> u16
-    requires { ⌜ PartsHeld (now work) (partsOf (now parts)) n × (n ≤ 4) × Block (now work) b ⌝ }
+pub fn largest(work: &[u8], parts: &[u32], n: u8, b: u16) -> u16
+    requires { ⌜ PartsHeld (now work) (partsOf (now parts)) n × (n ≤ 4) × Block (now work) b × (4 ≤ length (now parts)) ⌝ }
     ensures { λ r. ⌜ r ≡ largestOf (now (work .entry)) (partsOf (now (parts .entry))) n b ⌝ }
 {
     let mut d = b;
@@ -241,25 +204,25 @@ pub fn lies_in(v: ValueRef, d: u16) -> bool
     }
 }
 
-// Whether one of the parts is an object of block d.
-pub fn some_in(parts: &[u32; 4], n: u8, d: u16) -> bool
-    requires { ⌜ n ≤ 4 ⌝ }
+// Whether one of the parts is an object of block d. Most often the last is.
+pub fn some_in(parts: &[u32], n: u8, d: u16) -> bool
+    requires { ⌜ (n ≤ 4) × (4 ≤ length (now parts)) ⌝ }
     ensures { λ r. ⌜ r ≡ someIn (partsOf (now (parts .entry))) n d ⌝ }
 {
-    let mut i: u8 = 0;
-    while i < n {
+    let mut i: u8 = n;
+    while 0 < i {
+        i -= 1;
         let v = part_at(parts, i);
         if lies_in(v, d) {
             return true;
         }
-        i += 1;
     }
     false
 }
 
 // A new object whose parts are brought into a copy of block b, in block `dst`, where no part lies.
-pub fn make_copied(work: &mut [u8], c: u8, parts: &[u32; 4], n: u8, b: u16, dst: u16) -> u32
-    requires { ⌜ PartsHeld (now work) (partsOf (now parts)) n × (n ≤ 4) × Block (now work) b × (b < dst) × (someIn (partsOf (now parts)) n dst ≡ false) × (234 * dst + 234 ≤ length (now work)) ⌝ }
+pub fn make_copied(work: &mut [u8], c: u8, parts: &[u32], n: u8, b: u16, dst: u16) -> u32
+    requires { ⌜ PartsHeld (now work) (partsOf (now parts)) n × (n ≤ 4) × Block (now work) b × (b < dst) × (someIn (partsOf (now parts)) n dst ≡ false) × (234 * dst + 234 ≤ length (now work)) × (4 ≤ length (now parts)) ⌝ }
     ensures { λ q. ⌜ MadeIn (now (work .entry)) (make c (valuesFrom (now (work .entry)) (partsOf (now (parts .entry))) 0 n)) dst (now (work .exit)) q ⌝ }
 {
     copy_block(work, b, dst);
@@ -267,8 +230,8 @@ pub fn make_copied(work: &mut [u8], c: u8, parts: &[u32; 4], n: u8, b: u16, dst:
 }
 
 // A new object whose parts lie in several blocks, `first` one of them, none in `dst`: over the block with the most objects, where it may be written, or over a copy.
-pub fn make_apart(work: &mut [u8], c: u8, parts: &[u32; 4], n: u8, first: u16, dst: u16) -> u32
-    requires { ⌜ PartsHeld (now work) (partsOf (now parts)) n × (n ≤ 4) × Block (now work) first × (someIn (partsOf (now parts)) n dst ≡ false) × (234 * dst + 234 ≤ length (now work)) ⌝ }
+pub fn make_apart(work: &mut [u8], c: u8, parts: &[u32], n: u8, first: u16, dst: u16) -> u32
+    requires { ⌜ PartsHeld (now work) (partsOf (now parts)) n × (n ≤ 4) × Block (now work) first × (someIn (partsOf (now parts)) n dst ≡ false) × (234 * dst + 234 ≤ length (now work)) × (4 ≤ length (now parts)) ⌝ }
     ensures { λ q. ⌜ MadeIn (now (work .entry)) (make c (valuesFrom (now (work .entry)) (partsOf (now (parts .entry))) 0 n)) dst (now (work .exit)) q ⌝ }
 {
     let b = largest(work, parts, n, first);

@@ -1,7 +1,7 @@
 // A new object beside the objects of the block where its parts lie, or alone in a block. Not here: parts in several blocks.
+// The new object goes as numbers: its class c, how many fields it has, n, and its four codes as one number w, the first the lowest byte.
 use crate::lay::part_at;
-use canon::bytes::copy;
-use canon::bytes::same_six;
+use canon::bytes::four_at;
 use canon::number::raise_level;
 use values::ValueRef;
 use values::value::copy_block;
@@ -10,12 +10,15 @@ ghost use mathlib.Core.Bool.{false};
 ghost use Prim.Native.Nat.{ℕ, _+_, _*_, _<_, _≤_};
 ghost use mathlib.Core.List.{[]};
 ghost use lib.ListN.{length};
-ghost use Rattle.cofj.specs.Values.{make};
+ghost use Rattle.cofj.specs.Values.{make, eqNats};
 ghost use Rattle.maker.specs.Laying.{partsOf, PartsHeld, rawsFrom, valuesFrom, MadeIn};
-ghost use Rattle.canon.specs.Layout.{refOf, Packed, Block, countIn};
+ghost use Rattle.canon.specs.Layout.{refOf, Packed, Block, countIn, part};
 ghost use Rattle.values.specs.Layout.{rawOf, Holds};
 ghost use Rattle.canon.specs.Numbers.{Levels};
-ghost use Rattle.maker.specs.Adding.{RootObject, Found, Emptied, Appended, Added, someObject};
+ghost use Rattle.maker.specs.Adding.{objectOf, RootCodes, Found, Emptied, Appended, Added, someObject};
+
+// Four codes of fields that an object does not have: each is 192.
+pub const UNUSED: u32 = 3233857728;
 
 // The code of a part: its object's.
 pub fn code_of(work: &[u8], r: ValueRef) -> u8
@@ -29,33 +32,43 @@ pub fn code_of(work: &[u8], r: ValueRef) -> u8
     }
 }
 
-// The new object of class c, to the front of `top`.
-pub fn root_object(work: &[u8], c: u8, parts: &[u32; 4], n: u8, top: &mut [u8])
-    requires { ⌜ PartsHeld (now work) (partsOf (now parts)) n × (n ≤ 4) × (6 ≤ length (now top)) ⌝ }
-    ensures { λ _. ⌜ RootObject c (rawsFrom (now (work .entry)) (partsOf (now (parts .entry))) 0 n) (now (top .exit)) ⌝ }
+// The codes of the n parts, and unused ones.
+pub fn root_codes(work: &[u8], parts: &[u32], n: u8) -> u32
+    requires { ⌜ PartsHeld (now work) (partsOf (now parts)) n × (n ≤ 4) × (4 ≤ length (now parts)) ⌝ }
+    ensures { λ w. ⌜ RootCodes (rawsFrom (now (work .entry)) (partsOf (now (parts .entry))) 0 n) n w ⌝ }
 {
-    top[0] = c;
-    top[1] = n;
-    top[2] = 192;
-    top[3] = 192;
-    top[4] = 192;
-    top[5] = 192;
-    let mut i: u8 = 0;
-    while i < n {
+    let mut w = UNUSED;
+    let mut i: u8 = n;
+    while 0 < i {
+        i -= 1;
         let v = part_at(parts, i);
-        top[2 + i as usize] = code_of(work, v);
-        i += 1;
+        w = (code_of(work, v) as u32) + 256 * (w % 16777216);
     }
+    w
 }
 
-// The place of the object in `top` among the t objects of block b; t if it is not there.
-pub fn find(work: &[u8], b: u16, t: u8, top: &[u8]) -> u8
-    requires { ⌜ Block (now work) b × (t ≡ countIn (now work) b) × Packed (now top) 0 × (6 ≤ length (now top)) ⌝ }
-    ensures { λ k. ⌜ Found (now (work .entry)) b t (now (top .entry)) k ⌝ }
+// Whether the object at place p is this one.
+pub fn is_object(work: &[u8], p: usize, c: u8, n: u8, w: u32) -> bool
+    requires { ⌜ p + 6 ≤ length (now work) ⌝ }
+    ensures { λ r. ⌜ r ≡ eqNats (part (now (work .entry)) p 6) (objectOf c n w) ⌝ }
+{
+    if four_at(work, p + 2) != w {
+        return false;
+    }
+    if work[p] != c {
+        return false;
+    }
+    work[p + 1] == n
+}
+
+// The place of the object among the t objects of block b; t if it is not there.
+pub fn find(work: &[u8], b: u16, t: u8, c: u8, n: u8, w: u32) -> u8
+    requires { ⌜ Block (now work) b × (t ≡ countIn (now work) b) × Packed (objectOf c n w) 0 ⌝ }
+    ensures { λ k. ⌜ Found (now (work .entry)) b t (objectOf c n w) k ⌝ }
 {
     let mut k: u8 = 0;
     while k < t {
-        if same_six(work, 234 * (b as usize) + 6 * (k as usize), top, 0) {
+        if is_object(work, 234 * (b as usize) + 6 * (k as usize), c, n, w) {
             return k;
         }
         k += 1;
@@ -63,18 +76,16 @@ pub fn find(work: &[u8], b: u16, t: u8, top: &[u8]) -> u8
     t
 }
 
-// A level for objects of this level and the one in `top`.
-pub fn level_with(top: &[u8], l: u8) -> u8
-    requires { ⌜ 6 ≤ length (now top) ⌝ }
-    ensures { λ m. ⌜ Levels (now (top .entry)) 0 6 m × (l ≤ m) ⌝ }
+// A level for objects of this level and the new one.
+pub fn level_with(c: u8, n: u8, w: u32, l: u8) -> u8
+    ensures { λ m. ⌜ Levels (objectOf c n w) 0 6 m × (l ≤ m) ⌝ }
 {
-    let mut m: u8 = l;
-    let mut k: usize = 0;
-    while k < 6 {
-        m = raise_level(m, top[k]);
-        k += 1;
-    }
-    m
+    let m0 = raise_level(l, c);
+    let m1 = raise_level(m0, n);
+    let m2 = raise_level(m1, (w % 256) as u8);
+    let m3 = raise_level(m2, (w / 256 % 256) as u8);
+    let m4 = raise_level(m3, (w / 65536 % 256) as u8);
+    raise_level(m4, (w / 16777216) as u8)
 }
 
 // Block `dst` without objects.
@@ -86,36 +97,42 @@ pub fn empty(work: &mut [u8], dst: u16)
     work[234 * (dst as usize) + 193] = 0;
 }
 
-// The object in `top`, after t objects of block `dst`, and the block's level.
-pub fn append(work: &mut [u8], dst: u16, t: u8, top: &[u8], l: u8)
-    requires { ⌜ (t ≤ 31) × (234 * dst + 234 ≤ length (now work)) × (6 ≤ length (now top)) ⌝ }
-    ensures { λ _. ⌜ Appended (now (work .entry)) dst t (now (top .entry)) l (now (work .exit)) ⌝ }
+// The object, after t objects of block `dst`, and the block's level. No object refers to the new one.
+pub fn append(work: &mut [u8], dst: u16, t: u8, c: u8, n: u8, w: u32, l: u8)
+    requires { ⌜ (t ≤ 31) × (234 * dst + 234 ≤ length (now work)) ⌝ }
+    ensures { λ _. ⌜ Appended (now (work .entry)) dst t (objectOf c n w) l (now (work .exit)) ⌝ }
 {
-    copy(top, 0, work, 234 * (dst as usize) + 6 * (t as usize), 6);
+    let p = 234 * (dst as usize) + 6 * (t as usize);
+    work[p] = c;
+    work[p + 1] = n;
+    work[p + 2] = (w % 256) as u8;
+    work[p + 3] = (w / 256 % 256) as u8;
+    work[p + 4] = (w / 65536 % 256) as u8;
+    work[p + 5] = (w / 16777216) as u8;
     work[234 * (dst as usize) + 192] = t + 1;
     work[234 * (dst as usize) + 193] = l;
+    work[234 * (dst as usize) + 194] = t;
 }
 
-// The objects of block b and the one in `top`, in block `dst`.
-pub fn add(work: &mut [u8], b: u16, top: &[u8], dst: u16)
-    requires { ⌜ Block (now work) b × (countIn (now work) b < 32) × (234 * dst + 234 ≤ length (now work)) × (6 ≤ length (now top)) ⌝ }
-    ensures { λ _. ⌜ Added (now (work .entry)) b (countIn (now (work .entry)) b) (now (top .entry)) dst (now (work .exit)) ⌝ }
+// The objects of block b and the new one, in block `dst`.
+pub fn add(work: &mut [u8], b: u16, c: u8, n: u8, w: u32, dst: u16)
+    requires { ⌜ Block (now work) b × (countIn (now work) b < 32) × (234 * dst + 234 ≤ length (now work)) ⌝ }
+    ensures { λ _. ⌜ Added (now (work .entry)) b (countIn (now (work .entry)) b) (objectOf c n w) dst (now (work .exit)) ⌝ }
 {
     let t = work[234 * (b as usize) + 192];
-    let l = level_with(top, work[234 * (b as usize) + 193]);
+    let l = level_with(c, n, w, work[234 * (b as usize) + 193]);
     copy_block(work, b, dst);
-    append(work, dst, t, top, l);
+    append(work, dst, t, c, n, w, l);
 }
 
 // A new object whose parts are no objects.
-pub fn make_alone(work: &mut [u8], c: u8, parts: &[u32; 4], n: u8, dst: u16) -> u32
-    requires { ⌜ PartsHeld (now work) (partsOf (now parts)) n × (n ≤ 4) × (someObject (partsOf (now parts)) n ≡ false) × (234 * dst + 234 ≤ length (now work)) ⌝ }
+pub fn make_alone(work: &mut [u8], c: u8, parts: &[u32], n: u8, dst: u16) -> u32
+    requires { ⌜ PartsHeld (now work) (partsOf (now parts)) n × (n ≤ 4) × (someObject (partsOf (now parts)) n ≡ false) × (234 * dst + 234 ≤ length (now work)) × (4 ≤ length (now parts)) ⌝ }
     ensures { λ q. ⌜ MadeIn (now (work .entry)) (make c (valuesFrom (now (work .entry)) (partsOf (now (parts .entry))) 0 n)) dst (now (work .exit)) q ⌝ }
 {
-    let mut top = [0u8; 6];
-    root_object(work, c, parts, n, &mut top);
-    let l = level_with(&top, 0);
-    append(work, dst, 0, &top, l);
+    let w = root_codes(work, parts, n);
+    let l = level_with(c, n, w, 0);
+    append(work, dst, 0, c, n, w, l);
     256 * (dst as u32)
 }
 
@@ -124,8 +141,7 @@ pub fn make_bare(work: &mut [u8], c: u8, dst: u16) -> u32
     requires { ⌜ 234 * dst + 234 ≤ length (now work) ⌝ }
     ensures { λ q. ⌜ MadeIn (now (work .entry)) (make c []) dst (now (work .exit)) q ⌝ }
 {
-    let top = [c, 0, 192, 192, 192, 192];
-    let l = level_with(&top, 0);
-    append(work, dst, 0, &top, l);
+    let l = level_with(c, 0, UNUSED, 0);
+    append(work, dst, 0, c, 0, UNUSED, l);
     256 * (dst as u32)
 }

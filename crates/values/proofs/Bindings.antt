@@ -18,18 +18,18 @@ use Rattle.cofj.proofs.Trees.{same-child, same-cls, same-count}
 use Rattle.cofj.proofs.Canon.{canon-length}
 use Rattle.cofj.proofs.Unique.{canon-canon}
 use Rattle.cofj.proofs.Operations.{boundNode, boundNodes, followBound, bound-follow, bound-whole}
-use Rattle.canon.specs.Layout.{refOf, codeOf, nodeIn, nodesIn, Packed, alikeAt, Distinct, Block, Inside, objectsIn, graphAt, countIn, levelIn}
+use Rattle.canon.specs.Layout.{refOf, codeOf, nodeIn, nodesIn, Packed, alikeAt, Distinct, Block, Inside, objectsIn, graphAt, countIn, reachIn, ended}
 use Rattle.canon.specs.Tables.{Carried}
 use Rattle.canon.specs.Rounds.{Raw}
 use Rattle.canon.specs.Numbers.{Levels, Ready, Placed, Has, graphIn}
-use Rattle.canon.proofs.Nodes.{some-at, at-some, byteOf, packed-byte, packed-same, nodes-same, length-nodes, at-nodes, AllPacked, alike-yes, alike-no, ref-object, ref-undet, ref-mark}
+use Rattle.canon.proofs.Nodes.{some-at, at-some, packed-same, nodes-same, length-nodes, AllPacked, class-is, count-is, code-is, four-fields, code-low, object-low, alike-yes, alike-no, ref-object, ref-undet, ref-mark, ended-size, ended-below, ended-above, ended-count, ended-level, ended-reach}
 use Rattle.values.specs.declared.ValueRef.{ValueRef}
 use Rattle.values.specs.declared.ValueRef.the-variants.{Object}
 use Rattle.values.specs.Tests.{any}
 use Rattle.values.specs.Operations.{Gives}
-use Rattle.values.specs.Binding.{boundCode, boundByte, ObjectBound, ObjectsBound, Bound, refersTo, noneRefer, OtherField, Leads, DifferTest, UnlikeTest, UnlikeOthers, OthersTest, DistinctTest, Rooted}
+use Rattle.values.specs.Binding.{boundCode, boundByte, ObjectBound, ObjectsBound, Bound, Few, refersTo, noneRefer, OtherField, Leads, DifferTest, UnlikeTest, UnlikeOthers, OthersTest, DistinctTest, Rooted}
 use Rattle.values.proofs.Tests.{not-true, not-false, any-there, any-not, any-more, any-none}
-use Rattle.values.proofs.Steps.{leaf-codes, is-object, object-low}
+use Rattle.values.proofs.Steps.{leaf-codes, is-object}
 use Rattle.values.proofs.Blocks.{size-in, whole-at}
 use Rattle.values.proofs.Trees.{in-larger, close-canon}
 
@@ -253,7 +253,7 @@ bound-more W b hot i j R R2 o n = record { here = λ k f h l. go k f h l (ℕ-di
     go k f h l (yes z) = rw z (n .here f l)
     go k f h l (no z) = n .below (6 * k + f) (omega (arith, z)) ∙ o .here k f (omega (arith, z)) l
 
-pub bound-all : (W : List ℕ) (b x i n j : ℕ) (R : List ℕ) → n ≡ getD W (234 * b + 192) 0 → ObjectsBound W b (193 + x) i j R → j ≤ n → n ≤ j → 1536 ≤ length R → Bound W b x i R n
+pub bound-all : (W : List ℕ) (b x i n j : ℕ) (R : List ℕ) → n ≡ getD W (234 * b + 192) 0 → ObjectsBound W b (193 + x) i j R → j ≤ n → n ≤ j → 192 ≤ length R → Bound W b x i R n
 unfolding countIn
 bound-all W b x i n j R e o h k l = let z : j ≡ n = omega arith in record { count = e; objects = rw z at o; room = l }
 
@@ -284,9 +284,12 @@ module _ (W : List ℕ) (b i : ℕ) (ob : Inside W b i) where
     whole-bound : Whole (graph (obj i) (boundNodes x i (objectsIn W b)))
     whole-bound = bound-whole (graphAt W b i) (whole-at W b bk i (ob .low)) x i (omega (arith, size, ob .low))
 
-    pub bound-raw : Raw R n
-    bound-raw = record {
-      few = omega (arith, bd .count, bk .small);
+    pub bound-small : n ≤ 32
+    bound-small = omega (arith, bd .count, bk .small)
+
+    pub bound-few : Few R n
+    bound-few = record {
+      small = bound-small;
       room = bd .room;
       packed = λ j h. packed-bound W R x i (omega (arith, ob .low, bk .small)) (234 * b + 6 * j) (6 * j) (here-at j h) (bk .packed j (omega (arith, bd .count)));
       whole = record { top = tt; inner = λ j k r e. subst (λ (ns : List Node). InRange (length ns) r) (sym objects-are) (whole-bound .inner j k r (subst (λ (ns : List Node). getElem? (refsAt ns j) k ≡ some r) objects-are e)) };
@@ -295,11 +298,8 @@ module _ (W : List ℕ) (b i : ℕ) (ob : Inside W b i) where
     pub root-low : i < n
     root-low = omega (arith, bd .count, ob .low)
 
-    pub bound-few : n ≤ 32
-    bound-few = omega (arith, bd .count, bk .small)
-
     pub bound-rooted : (dst : ℕ) → 234 * dst + 234 ≤ length W → Rooted R n i W dst
-    bound-rooted dst room = record { raw = bound-raw; small = bound-few; inside = root-low; room = room }
+    bound-rooted dst room = record { few = bound-few; inside = root-low; room = room }
 
     -- what the objects bound stand for
     pub closed : (dst : ℕ) (W′ : List ℕ) (o : ValueRef) → Gives W dst W′ o (canon (graphIn R n i)) → Gives W dst W′ o (close x (canon (graphAt W b i)))
@@ -310,26 +310,6 @@ module _ (W : List ℕ) (b i : ℕ) (ob : Inside W b i) where
       place = g .place;
       outside = g .outside;
     }
-
--- ---- objects by their bytes
-module _ (S : List ℕ) (base n : ℕ) (pk : AllPacked S base n) (x : ℕ) (hx : x < n) where
-  byte : (k : ℕ) → k < 6 → getD S (base + 6 * x + k) 0 ≡ byteOf (nodeAt (nodesIn S base n) x) k
-  byte k h = packed-byte S (base + 6 * x) (pk x hx) k h ∙ ap (λ (o : Node). byteOf o k) (sym (at-nodes S base n x hx))
-
-  class-is : getD S (base + 6 * x) 0 ≡ nodeAt (nodesIn S base n) x .cls
-  unfolding byteOf
-  class-is = let z : base + 6 * x + 0 ≡ base + 6 * x = omega arith in rw z at (byte 0 (omega arith))
-
-  count-is : getD S (base + 6 * x + 1) 0 ≡ length (refsAt (nodesIn S base n) x)
-  unfolding byteOf
-  count-is = byte 1 (omega arith)
-
-  code-is : (f : ℕ) → f < 4 → getD S (base + 6 * x + 2 + f) 0 ≡ codeOf (getD (refsAt (nodesIn S base n) x) f undet)
-  unfolding byteOf
-  code-is f h = let z : base + 6 * x + 2 + f ≡ base + 6 * x + (suc (suc f)) = omega arith in rw z (byte (suc (suc f)) (omega arith))
-
-  four-fields : length (refsAt (nodesIn S base n) x) ≤ 4
-  four-fields = omega (arith, count-is, pk x hx .count)
 
 -- ---- whether an object refers to another
 module _ (W : List ℕ) (p i : ℕ) where
@@ -410,9 +390,9 @@ module _ (R : List ℕ) (n i k : ℕ) where
   pub differ-not : DifferTest R n i k false
   differ-not = record { yes = λ z. absurd (false≢true z) }
 
-  module _ (raw : Raw R n) where
+  module _ (fw : Few R n) where
     packed : AllPacked R 0 n
-    packed j h = let z : 0 + 6 * j ≡ 6 * j = omega arith in rw z (raw .packed j h)
+    packed j h = let z : 0 + 6 * j ≡ 6 * j = omega arith in rw z (fw .packed j h)
 
     abbrev ns : List Node
     ns = nodesIn R 0 n
@@ -427,10 +407,10 @@ module _ (R : List ℕ) (n i k : ℕ) where
     code-at x h f l = let z : 0 + 6 * x ≡ 6 * x = omega arith in rw z at (code-is R 0 n packed x h f l)
 
     range-at : (x f : ℕ) → f < length (refsAt ns x) → InRange n (getD (refsAt ns x) f undet)
-    range-at x f h = subst (λ (l : ℕ). InRange l (getD (refsAt ns x) f undet)) (length-nodes R 0 n) (raw .whole .inner x f _ (some-at (refsAt ns x) f h))
+    range-at x f h = subst (λ (l : ℕ). InRange l (getD (refsAt ns x) f undet)) (length-nodes R 0 n) (fw .whole .inner x f _ (some-at (refsAt ns x) f h))
 
     spare-at : (x : ℕ) → x < n → (f : ℕ) → f < 4 → getD R (6 * x + 1) 0 ≤ f → getD R (6 * x + 2 + f) 0 ≡ 192
-    spare-at x h f l m = let z : 6 * x + 2 + f ≡ 6 * x + (2 + f) = omega arith in rw z (raw .packed x h .spare (2 + f) (omega arith) (omega arith))
+    spare-at x h f l m = let z : 6 * x + 2 + f ≡ 6 * x + (2 + f) = omega arith in rw z (fw .packed x h .spare (2 + f) (omega arith) (omega arith))
 
     module _ (x y : ℕ) (ld : Leads R n i k x y) where
       pub differ-unlike : (r : Bool) → r ≡ alikeAt R (6 * x) (6 * y) → not r ≡ true → DifferTest R n i k true
@@ -480,10 +460,10 @@ module _ (R : List ℕ) (n i k : ℕ) where
         children e = same-child ns ns (obj x) (obj y) (ld .leads e) f r s (some-at (refsAt ns x) f low-x) (some-at (refsAt ns y) f low-y)
 
         pub differ-first : 192 ≤ a → DifferTest R n i k true
-        differ-first h = record { yes = λ _ e. o .other hf (ea ∙ leaf-codes ns ns r s (in-larger n 192 r (raw .few) (range-at x f low-x)) (children e) (omega (arith, ea)) ∙ sym ec) }
+        differ-first h = record { yes = λ _ e. o .other hf (ea ∙ leaf-codes ns ns r s (in-larger n 192 r (omega (arith, fw .small)) (range-at x f low-x)) (children e) (omega (arith, ea)) ∙ sym ec) }
 
         pub differ-second : 192 ≤ c → DifferTest R n i k true
-        differ-second h = record { yes = λ _ e. o .other hf (ea ∙ sym (leaf-codes ns ns s r (in-larger n 192 s (raw .few) (range-at y f low-y)) (λ p. sym (children e p)) (omega (arith, ec))) ∙ sym ec) }
+        differ-second h = record { yes = λ _ e. o .other hf (ea ∙ sym (leaf-codes ns ns s r (in-larger n 192 s (omega (arith, fw .small)) (range-at y f low-y)) (λ p. sym (children e p)) (omega (arith, ec))) ∙ sym ec) }
 
         pub differ-step : a < 192 → c < 192 → Leads R n i k a c
         differ-step ha hc =
@@ -520,13 +500,17 @@ module _ (R : List ℕ) (n i : ℕ) where
   others-all k o h l = let e : k ≡ n = omega arith in record { yes = λ _. rw e at o }
 
 -- ---- the objects stay distinct
-module _ (W : List ℕ) (b i : ℕ) (bk : Block W b) (un : noneRefer W b (countIn W b) i ≡ true) where
+-- no object of the block refers to object i
+abbrev Free : List ℕ → ℕ → ℕ → Type 0
+Free W b i = (j : ℕ) → j < countIn W b → (f : ℕ) → f < 4 → getD W (234 * b + 6 * j + 2 + f) 0 ≡ i → ⊥
+
+module _ (W : List ℕ) (b i : ℕ) (bk : Block W b) (fr : Free W b i) where
   free-at : (j : ℕ) → j < countIn W b → (f : ℕ) (r : Ref) → getElem? (refsAt (objectsIn W b) j) f ≡ some r → r ≡ obj i → ⊥
   unfolding objectsIn
   free-at j h f r e z =
       let g = at-some (refsAt (nodesIn W (234 * b) (countIn W b)) j) f r e in
       let l : f < 4 = omega (arith, g .1, four-fields W (234 * b) (countIn W b) (bk .packed) j h) in
-      free-code W b i (countIn W b) un j h f l (code-is W (234 * b) (countIn W b) (bk .packed) j h f l ∙ ap codeOf (g .0 ∙ z))
+      fr j h f l (code-is W (234 * b) (countIn W b) (bk .packed) j h f l ∙ ap codeOf (g .0 ∙ z))
 
   free-in : (j f : ℕ) (r : Ref) → getElem? (refsAt (objectsIn W b) j) f ≡ some r → r ≡ obj i → ⊥
   free-in j f r e = go (decLt j (countIn W b))
@@ -538,16 +522,22 @@ module _ (W : List ℕ) (b i : ℕ) (bk : Block W b) (un : noneRefer W b (countI
           absurd (Option·none-ne-some r (sym (ap (λ (y : Node). getElem? (y .refs) f) d) ∙ e))
 
 module _ (W : List ℕ) (b i : ℕ) (ob : Inside W b i) (x : ℕ) (R : List ℕ) (n : ℕ) (bd : Bound W b x i R n) where
-  distinct-objects : noneRefer W b n i ≡ true → UnlikeOthers R n i n → Distinct (nodesIn R 0 n)
-  distinct-objects u o =
+  distinct-objects : Free W b i → UnlikeOthers R n i n → Distinct (nodesIn R 0 n)
+  distinct-objects fr o =
       let e : nodesIn R 0 n ≡ boundNodes x i (objectsIn W b) = objects-are W b i ob x R n bd in
       subst Distinct (sym e)
-      (distinct-bound (objectsIn W b) x i (ob .block .whole .inner) (free-in W b i (ob .block) (subst (λ (m : ℕ). noneRefer W b m i ≡ true) (bd .count) u))
+      (distinct-bound (objectsIn W b) x i (ob .block .whole .inner) (free-in W b i (ob .block) fr)
       (λ k h q. o .only k (omega (arith, bd .count, size-in W b (ob .block))) (subst (λ (ns : List Node). Same ns (obj i) ns (obj k)) (sym e) q))
       (ob .block .distinct))
 
   pub stays-distinct : (u r : Bool) → u ≡ noneRefer W b n i → u ≡ true → OthersTest R n i r → DistinctTest R n r
-  stays-distinct u r t e o = record { yes = λ z. distinct-objects (sym t ∙ e) (o .yes z) }
+  stays-distinct u r t e o = record { yes = λ z. distinct-objects (λ j h. free-code W b i n (sym t ∙ e) j (omega (arith, bd .count))) (o .yes z) }
+
+  pub stays-beyond : (r : Bool) → getD W (234 * b + 194) 0 ≤ i → OthersTest R n i r → DistinctTest R n r
+  unfolding reachIn
+  stays-beyond r h o = record {
+    yes = λ z. distinct-objects (λ j k f l e. omega (arith, ob .block .reach j f k l (omega (arith, ob .low, ob .block .small)))) (o .yes z);
+  }
 
 pub distinct-not : (R : List ℕ) (n : ℕ) → DistinctTest R n false
 distinct-not R n = record { yes = λ z. absurd (false≢true z) }
@@ -558,47 +548,50 @@ distinct-yes R n r t e = t .yes e
 -- ---- the objects written to a block as they are
 module _ (R : List ℕ) (n i : ℕ) (W : List ℕ) (dst : ℕ) (rd : Rooted R n i W dst) where
   whole-graph : Whole (graphIn R n i)
-  whole-graph = record { top = omega (arith, length-nodes R 0 n, rd .inside); inner = rd .raw .whole .inner }
+  whole-graph = record { top = omega (arith, length-nodes R 0 n, rd .inside); inner = rd .few .whole .inner }
 
-  pub rooted-raw : Raw R n
-  rooted-raw = rd .raw
+  pub rooted-raw : 1536 ≤ length R → Raw R n
+  rooted-raw h = record { few = omega (arith, rd .few .small); room = h; packed = rd .few .packed; whole = rd .few .whole }
 
   module _ (d : Distinct (nodesIn R 0 n)) (D : List ℕ) (w : Carried R 0 W (234 * dst) (6 * n) D) (l : ℕ) (lv : Levels R 0 (6 * n) l) where
     abbrev E : List ℕ
-    E = set (set D (234 * dst + 192) n) (234 * dst + 193) l
+    E = ended D dst n l n
 
-    kept : (p : ℕ) → ((p ≡ 234 * dst + 192) → ⊥) → ((p ≡ 234 * dst + 193) → ⊥) → getD E p 0 ≡ getD D p 0
-    kept p h k = getD-set-other (set D (234 * dst + 192) n) (234 * dst + 193) p l 0 k ∙ getD-set-other D (234 * dst + 192) p n 0 h
+    wide : 234 * dst + 234 ≤ length D
+    wide = omega (arith, w .same, rd .room)
 
     same-size : length E ≡ length W
-    same-size = length-set (set D (234 * dst + 192) n) (234 * dst + 193) l ∙ length-set D (234 * dst + 192) n ∙ w .same
+    same-size = ended-size D dst n l n wide ∙ w .same
 
     written : (p : ℕ) → p < 6 * n → getD E (234 * dst + p) 0 ≡ getD R p 0
-    written p h = kept (234 * dst + p) (λ z. omega (arith, rd .small)) (λ z. omega (arith, rd .small)) ∙ w .here p h ∙ ap (λ (k : ℕ). getD R k 0) (let z : 0 + p ≡ p = omega arith in z)
+    written p h = ended-below D dst n l n wide (234 * dst + p) (omega (arith, rd .few .small)) ∙ w .here p h ∙ ap (λ (k : ℕ). getD R k 0) (let z : 0 + p ≡ p = omega arith in z)
 
     size-is : countIn E dst ≡ n
-    unfolding countIn
-    size-is = getD-set-other (set D (234 * dst + 192) n) (234 * dst + 193) (234 * dst + 192) l 0 (λ z. omega arith) ∙ getD-set-same D (234 * dst + 192) n 0 (omega (arith, w .same, rd .room))
-
-    level-is : levelIn E dst ≡ l
-    unfolding levelIn
-    level-is = getD-set-same (set D (234 * dst + 192) n) (234 * dst + 193) l 0 (omega (arith, length-set D (234 * dst + 192) n, w .same, rd .room))
+    size-is = ended-count D dst n l n wide
 
     objects-same : objectsIn E dst ≡ nodesIn R 0 n
     unfolding objectsIn
     objects-same = ap (nodesIn E (234 * dst)) size-is ∙ nodes-same E R n (234 * dst) 0 (λ p h. let z : 0 + p ≡ p = omega arith in rw z (written p h))
 
+    packed-is : AllPacked E (234 * dst) (countIn E dst)
+    packed-is j h =
+        packed-same E R (234 * dst + 6 * j) (6 * j)
+        (λ f g. let z : 234 * dst + 6 * j + f ≡ 234 * dst + (6 * j + f) = omega arith in rw z (written (6 * j + f) (omega (arith, size-is))))
+        (rd .few .packed j (omega (arith, size-is)))
+
+    whole-is : Whole (graph undet (objectsIn E dst))
+    whole-is = subst (λ (ns : List Node). Whole (graph undet ns)) (sym objects-same) (rd .few .whole)
+
     block-is : Block E dst
+    unfolding objectsIn
     block-is = record {
       room = omega (arith, same-size, rd .room);
-      small = rw size-is (rd .small);
-      packed = λ j h.
-          packed-same E R (234 * dst + 6 * j) (6 * j)
-          (λ f g. let z : 234 * dst + 6 * j + f ≡ 234 * dst + (6 * j + f) = omega arith in rw z (written (6 * j + f) (omega (arith, size-is))))
-          (rd .raw .packed j (omega (arith, size-is)));
-      whole = subst (λ (ns : List Node). Whole (graph undet ns)) (sym objects-same) (rd .raw .whole);
+      small = rw size-is (rd .few .small);
+      packed = packed-is;
+      whole = whole-is;
       distinct = subst Distinct (sym objects-same) d;
-      level = λ q h. let z : 0 + q ≡ q = omega arith in rw (written q (omega (arith, size-is)), level-is) (rw z at (lv .below q (omega (arith, size-is))));
+      level = λ q h. let z : 0 + q ≡ q = omega arith in rw (written q (omega (arith, size-is)), ended-level D dst n l n wide) (rw z at (lv .below q (omega (arith, size-is))));
+      reach = λ j f h k c. omega (arith, size-is, ended-reach D dst n l n wide, code-low E (234 * dst) (countIn E dst) packed-is j h whole-is f k c);
     }
 
     pub put-distinct : Gives W dst E (Object dst i) (canon (graphIn R n i))
@@ -608,18 +601,18 @@ module _ (R : List ℕ) (n i : ℕ) (W : List ℕ) (dst : ℕ) (rd : Rooted R n 
       place = omega arith;
       outside = record {
         same = same-size;
-        below = λ p h. kept p (λ z. omega arith) (λ z. omega arith) ∙ w .below p h;
-        above = λ p h. kept p (λ z. omega arith) (λ z. omega arith) ∙ w .above p (omega (arith, rd .small));
+        below = λ p h. ended-below D dst n l n wide p (omega arith) ∙ w .below p h;
+        above = λ p h. ended-above D dst n l n wide p (omega arith) ∙ w .above p (omega (arith, rd .few .small));
       };
     }
 
   -- merged and numbered
-  pub merge-ready : (C : List ℕ) → 256 ≤ length C → take n C ≡ colours (nodesIn R 0 n) → Ready R n C i W dst
-  merge-ready C h e = record { raw = rd .raw; long = h; coloured = e; inside = rd .inside; room = rd .room }
+  pub merge-ready : 1536 ≤ length R → (C : List ℕ) → 256 ≤ length C → take n C ≡ colours (nodesIn R 0 n) → Ready R n C i W dst
+  merge-ready w C h e = record { raw = rooted-raw w; long = h; coloured = e; inside = rd .inside; room = rd .room }
 
   pub put-merged : (W′ : List ℕ) (m : ℕ) → Placed R n i W dst W′ m → Gives W dst W′ (Object dst 0) (canon (graphIn R n i))
   put-merged W′ m p =
-      let h : Has W′ dst (canon (graphIn R n i)) = p .has (omega (arith, p .count, canon-length (graphIn R n i) whole-graph, length-nodes R 0 n, rd .small)) in
+      let h : Has W′ dst (canon (graphIn R n i)) = p .has (omega (arith, p .count, canon-length (graphIn R n i) whole-graph, length-nodes R 0 n, rd .few .small)) in
       record {
         held = record { held = h .inside };
         is = ap canon (h .is) ∙ canon-canon (graphIn R n i) whole-graph;

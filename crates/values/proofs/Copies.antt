@@ -12,9 +12,9 @@ use borrow.Author.Tests.{ne-eqb}
 use Rattle.cofj.specs.Values.{Ref, obj, mark, undet, Node, node, graph, rename, refsAt, nodeAt, canon, bind}
 use Rattle.cofj.specs.Unfolding.{Whole}
 use Rattle.cofj.proofs.Operations.{boundNodes}
-use Rattle.canon.specs.Layout.{codeOf, nodeIn, nodesIn, Packed, Distinct, Block, Inside, objectsIn, countIn, levelIn}
+use Rattle.canon.specs.Layout.{codeOf, nodeIn, nodesIn, Packed, Distinct, Block, Inside, objectsIn, countIn, levelIn, reachIn, ended}
 use Rattle.canon.specs.Tables.{Carried}
-use Rattle.canon.proofs.Nodes.{at-some, byteOf, packed-byte, packed-same, nodes-same, length-nodes, at-nodes}
+use Rattle.canon.proofs.Nodes.{at-some, byteOf, packed-byte, packed-same, nodes-same, length-nodes, at-nodes, ended-size, ended-below, ended-above, ended-count, ended-level, ended-reach}
 use Rattle.canon.proofs.Turned.{nodes-agree}
 use Rattle.values.specs.declared.ValueRef.{ValueRef}
 use Rattle.values.specs.declared.ValueRef.the-variants.{Object}
@@ -22,17 +22,18 @@ use Rattle.values.specs.Layout.{valueOf, Holds}
 use Rattle.values.specs.Operations.{Gives, Copied}
 use Rattle.values.proofs.Blocks.{held-inside, nodes-id}
 
--- the copying of n objects with the level l has come to byte q of p
-pub record CopyLoop (W : List ℕ) (b dst n l p q : ℕ) (D : List ℕ) : Type 0 where
+-- the copying of n objects with the level l and the reach m has come to byte q of p
+pub record CopyLoop (W : List ℕ) (b dst n l m p q : ℕ) (D : List ℕ) : Type 0 where
   pub count : n ≡ getD W (234 * b + 192) 0
   pub level : l ≡ getD W (234 * b + 193) 0
+  pub reach : m ≡ getD W (234 * b + 194) 0
   pub size : p ≡ 6 * n
   pub copying : Carried W (234 * b) W (234 * dst) q D
 
-pub copy-none : (W : List ℕ) (b dst n l p : ℕ) → n ≡ getD W (234 * b + 192) 0 → l ≡ getD W (234 * b + 193) 0 → p ≡ 6 * n → CopyLoop W b dst n l p 0 W
-copy-none W b dst n l p en el ep = record { count = en; level = el; size = ep; copying = record { same = refl; here = λ k h. absurd (omega arith); below = λ y h. refl; above = λ y h. refl } }
+pub copy-none : (W : List ℕ) (b dst n l m p : ℕ) → n ≡ getD W (234 * b + 192) 0 → l ≡ getD W (234 * b + 193) 0 → m ≡ getD W (234 * b + 194) 0 → p ≡ 6 * n → CopyLoop W b dst n l m p 0 W
+copy-none W b dst n l m p en el er ep = record { count = en; level = el; reach = er; size = ep; copying = record { same = refl; here = λ k h. absurd (omega arith); below = λ y h. refl; above = λ y h. refl } }
 
-module _ (W : List ℕ) (b dst n l p q : ℕ) (D : List ℕ) (bk : Block W b) (room : 234 * dst + 234 ≤ length W) (c : CopyLoop W b dst n l p q D) where
+module _ (W : List ℕ) (b dst n l m p q : ℕ) (D : List ℕ) (bk : Block W b) (room : 234 * dst + 234 ≤ length W) (c : CopyLoop W b dst n l m p q D) where
   few : getD W (234 * b + 192) 0 ≤ 32
   unfolding countIn
   few = bk .small
@@ -40,10 +41,11 @@ module _ (W : List ℕ) (b dst n l p q : ℕ) (D : List ℕ) (bk : Block W b) (r
   cp : Carried W (234 * b) W (234 * dst) q D
   cp = c .copying
 
-  pub copy-step : q < p → CopyLoop W b dst n l p (q + 1) (set D (234 * dst + q) (getD D (234 * b + q) 0))
+  pub copy-step : q < p → CopyLoop W b dst n l m p (q + 1) (set D (234 * dst + q) (getD D (234 * b + q) 0))
   copy-step h = record {
     count = c .count;
     level = c .level;
+    reach = c .reach;
     size = c .size;
     copying = record {
       same = length-set D (234 * dst + q) _ ∙ cp .same;
@@ -64,30 +66,29 @@ module _ (W : List ℕ) (b dst n l p q : ℕ) (D : List ℕ) (bk : Block W b) (r
       go k l (yes z) = rw z (getD-set-same D (234 * dst + q) _ 0 (omega (arith, cp .same, low)) ∙ stays (decLt b dst))
       go k l (no z) = getD-set-other D (234 * dst + q) (234 * dst + k) _ 0 (λ y. z (omega arith)) ∙ cp .here k (omega (arith, z))
 
-  abbrev E : List ℕ
-  E = set (set D (234 * dst + 192) n) (234 * dst + 193) l
+  wide : 234 * dst + 234 ≤ length D
+  wide = omega (arith, cp .same)
 
-  byte : (k : ℕ) → ((k ≡ 234 * dst + 192) → ⊥) → ((k ≡ 234 * dst + 193) → ⊥) → getD E k 0 ≡ getD D k 0
-  byte k a e = getD-set-other (set D (234 * dst + 192) n) (234 * dst + 193) k l 0 e ∙ getD-set-other D (234 * dst + 192) k n 0 a
-
-  pub copy-end : q ≤ p → p ≤ q → Copied W b dst E
-  unfolding countIn levelIn
+  pub copy-end : q ≤ p → p ≤ q → Copied W b dst (ended D dst n l m)
+  unfolding countIn levelIn reachIn
   copy-end top h = record {
-    count = getD-set-other (set D (234 * dst + 192) n) (234 * dst + 193) (234 * dst + 192) l 0 (λ z. omega arith) ∙ getD-set-same D (234 * dst + 192) n 0 (omega (arith, cp .same)) ∙ c .count;
-    level = getD-set-same (set D (234 * dst + 192) n) (234 * dst + 193) l 0 (omega (arith, cp .same, length-set D (234 * dst + 192) n)) ∙ c .level;
-    here = λ k y. byte (234 * dst + k) (λ z. omega (arith, few)) (λ z. omega (arith, few)) ∙ cp .here k (omega (arith, c .count, c .size));
+    count = ended-count D dst n l m wide ∙ c .count;
+    level = ended-level D dst n l m wide ∙ c .level;
+    reach = ended-reach D dst n l m wide ∙ c .reach;
+    here = λ k y. ended-below D dst n l m wide (234 * dst + k) (omega (arith, few)) ∙ cp .here k (omega (arith, c .count, c .size));
     outside = record {
-      same = length-set (set D (234 * dst + 192) n) (234 * dst + 193) l ∙ length-set D (234 * dst + 192) n ∙ cp .same;
-      below = λ k y. byte k (λ z. omega arith) (λ z. omega arith) ∙ cp .below k y;
-      above = λ k y. byte k (λ z. omega arith) (λ z. omega arith) ∙ cp .above k (omega (arith, few, top, c .count, c .size));
+      same = ended-size D dst n l m wide ∙ cp .same;
+      below = λ k y. ended-below D dst n l m wide k (omega arith) ∙ cp .below k y;
+      above = λ k y. ended-above D dst n l m wide k (omega arith) ∙ cp .above k (omega (arith, few, top, c .count, c .size));
     };
   }
 
 -- ---- the block that holds the copy
-pub block-moves : (W W′ : List ℕ) (b d : ℕ) → countIn W′ d ≡ countIn W b → levelIn W′ d ≡ levelIn W b → ((k : ℕ) → k < 6 * countIn W b → getD W′ (234 * d + k) 0 ≡ getD W (234 * b + k) 0)
+pub block-moves : (W W′ : List ℕ) (b d : ℕ) → countIn W′ d ≡ countIn W b → levelIn W′ d ≡ levelIn W b → reachIn W′ d ≡ reachIn W b
+    → ((k : ℕ) → k < 6 * countIn W b → getD W′ (234 * d + k) 0 ≡ getD W (234 * b + k) 0)
     → 234 * d + 234 ≤ length W′ → Block W b → (objectsIn W′ d ≡ objectsIn W b) × Block W′ d
 unfolding objectsIn
-block-moves W W′ b d en el here room bk =
+block-moves W W′ b d en el er here room bk =
     let same : nodesIn W′ (234 * d) (countIn W′ d) ≡ nodesIn W (234 * b) (countIn W b) = ap (nodesIn W′ (234 * d)) en ∙ nodes-same W′ W (countIn W b) (234 * d) (234 * b) here in (
       same,
       record {
@@ -102,6 +103,10 @@ block-moves W W′ b d en el here room bk =
         whole = subst (λ (ns : List Node). Whole (graph undet ns)) (sym same) (bk .whole);
         distinct = subst Distinct (sym same) (bk .distinct);
         level = λ q h. rw (here q (omega (arith, en)), el) (bk .level q (omega (arith, en)));
+        reach = λ i f h k.
+            let ea : 234 * d + 6 * i + 2 + f ≡ 234 * d + (6 * i + 2 + f) = omega arith in
+            let eb : 234 * b + 6 * i + 2 + f ≡ 234 * b + (6 * i + 2 + f) = omega arith in
+            rw (ea, here (6 * i + 2 + f) (omega (arith, en)), er) (rw eb at (bk .reach i f (omega (arith, en)) k));
       },
     )
 
@@ -110,7 +115,7 @@ module _ (W : List ℕ) (r : ValueRef) (dst : ℕ) (h : Holds W r) where
   pub bring-copy : (b i : ℕ) → r ≡ Object b i → (W′ : List ℕ) → 234 * dst + 234 ≤ length W → Copied W b dst W′ → Gives W dst W′ (Object dst i) (valueOf W r)
   bring-copy b i e W′ room c =
       let ob : Inside W b i = held-inside W r b i h e in
-      let m = block-moves W W′ b dst (c .count) (c .level) (c .here) (omega (arith, c .outside .same)) (ob .block) in
+      let m = block-moves W W′ b dst (c .count) (c .level) (c .reach) (c .here) (omega (arith, c .outside .same)) (ob .block) in
       record {
         held = record { held = record { block = m .1; low = omega (arith, c .count, ob .low) } };
         is = ap (λ (ns : List Node). canon (graph (obj i) ns)) (m .0) ∙ ap (valueOf W) (sym e);

@@ -8,7 +8,7 @@ use mathlib.Core.List.{List}
 use lib.ListN.{length, getD}
 use borrow.Author.Tests.{eqb-false}
 use Rattle.cofj.specs.Values.{Node, graph, obj, canon}
-use Rattle.canon.specs.Layout.{Block, objectsIn, countIn, levelIn, Outside}
+use Rattle.canon.specs.Layout.{Block, objectsIn, countIn, levelIn, reachIn, Outside}
 use Rattle.values.specs.declared.ValueRef.{ValueRef}
 use Rattle.values.specs.declared.ValueRef.the-variants.{Object, Mark, Undetermined}
 use Rattle.values.specs.Layout.{valueOf, Holds, liesIn}
@@ -22,9 +22,9 @@ pub record Kept (W W′ : List ℕ) (r : ValueRef) : Type 0 where
 -- the bytes of block b are the same
 module _ (W W′ : List ℕ) (b : ℕ) (same : length W′ ≡ length W) (byte : (p : ℕ) → 234 * b ≤ p → p < 234 * b + 234 → getD W′ p 0 ≡ getD W p 0) where
   stays : Block W b → (objectsIn W′ b ≡ objectsIn W b) × Block W′ b
-  unfolding countIn levelIn
+  unfolding countIn levelIn reachIn
   stays bk =
-      block-moves W W′ b b (byte (234 * b + 192) (omega arith) (omega arith)) (byte (234 * b + 193) (omega arith) (omega arith))
+      block-moves W W′ b b (byte (234 * b + 192) (omega arith) (omega arith)) (byte (234 * b + 193) (omega arith) (omega arith)) (byte (234 * b + 194) (omega arith) (omega arith))
       (λ k h. byte (234 * b + k) (omega arith) (omega (arith, bk .small))) (omega (arith, bk .room)) bk
 
   pub object-kept : (i : ℕ) → Holds W (Object b i) → Kept W W′ (Object b i)

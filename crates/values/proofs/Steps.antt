@@ -19,6 +19,7 @@ use Rattle.cofj.proofs.Traces.{eqGraph-true}
 use Rattle.cofj.proofs.Unique.{same-canon, canon-tree}
 use Rattle.canon.specs.Layout.{codeOf, Alike, alikeAt, countIn, objectsIn, graphAt, Block, Inside}
 use Rattle.canon.proofs.Nodes.{some-at, byteOf, packed-byte, length-nodes, at-nodes, alike-no}
+use Rattle.canon.proofs.Nodes.{object-low}
 use Rattle.values.specs.declared.ValueRef.{ValueRef}
 use Rattle.values.specs.declared.ValueRef.the-variants.{Object, Mark, Undetermined}
 use Rattle.values.specs.Layout.{valueOf}
@@ -220,11 +221,6 @@ pub is-object : (r : Ref) → codeOf r < 192 → r ≡ obj (codeOf r)
 is-object (obj i) h = refl
 is-object (mark k) h = absurd (omega arith)
 is-object undet h = absurd (omega arith)
-
-pub object-low : (n : ℕ) (r : Ref) → InRange n r → codeOf r < 192 → codeOf r < n
-object-low n (obj i) l h = l
-object-low n (mark k) l h = absurd (omega arith)
-object-low n undet l h = absurd (omega arith)
 
 -- ---- a code of one object met with a code of its partner
 module _ (W : List ℕ) (b c : ℕ) (T₀ Q₀ : List ℕ) (t₀ : ℕ) where

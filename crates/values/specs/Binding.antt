@@ -6,10 +6,9 @@ use mathlib.Core.Bool.{Bool, true, not, cond}
 use mathlib.Core.List.{List}
 use lib.Dec.{eqb, ltb}
 use lib.ListN.{length, getD}
-use Rattle.cofj.specs.Values.{obj}
-use Rattle.cofj.specs.Unfolding.{Same}
-use Rattle.canon.specs.Layout.{nodesIn, countIn, Distinct}
-use Rattle.canon.specs.Rounds.{Raw}
+use Rattle.cofj.specs.Values.{obj, undet, graph}
+use Rattle.cofj.specs.Unfolding.{Same, Whole}
+use Rattle.canon.specs.Layout.{nodesIn, countIn, Packed, Distinct}
 use Rattle.values.specs.Tests.{any}
 
 -- a code bound: the code `hot` is turned to object i
@@ -34,7 +33,14 @@ pub record ObjectsBound (W : List ℕ) (b hot i n : ℕ) (R : List ℕ) : Type 0
 pub record Bound (W : List ℕ) (b x i : ℕ) (R : List ℕ) (n : ℕ) : Type 0 where
   pub count : n ≡ countIn W b
   pub objects : ObjectsBound W b (193 + x) i n R
-  pub room : 1536 ≤ length R
+  pub room : 192 ≤ length R
+
+-- n objects from the start on, no more than a block has, which refer to one another
+pub record Few (R : List ℕ) (n : ℕ) : Type 0 where
+  pub small : n ≤ 32
+  pub room : 192 ≤ length R
+  pub packed : (i : ℕ) → i < n → Packed R (6 * i)
+  pub whole : Whole (graph undet (nodesIn R 0 n))
 
 -- whether one of the four codes of the object at a place is i
 unfoldable pub refersTo : List ℕ → ℕ → ℕ → Bool
@@ -74,7 +80,6 @@ pub record DistinctTest (R : List ℕ) (n : ℕ) (r : Bool) : Type 0 where
 
 -- n objects, one of them the root, and room for their block
 pub record Rooted (R : List ℕ) (n i : ℕ) (W : List ℕ) (dst : ℕ) : Type 0 where
-  pub raw : Raw R n
-  pub small : n ≤ 32
+  pub few : Few R n
   pub inside : i < n
   pub room : 234 * dst + 234 ≤ length W

@@ -7,7 +7,7 @@ use mathlib.Core.Option.{Option, none, some}
 use lib.Dec.{eqb}
 use lib.ListN.{getD}
 use Rattle.cofj.specs.Values.{Graph, canon, select, close}
-use Rattle.canon.specs.Layout.{countIn, levelIn, Outside}
+use Rattle.canon.specs.Layout.{countIn, levelIn, reachIn, Outside}
 use Rattle.canon.specs.Tables.{Filled, Carried}
 use Rattle.canon.specs.Numbers.{Has}
 use Rattle.values.specs.declared.ValueRef.{ValueRef}
@@ -36,6 +36,7 @@ pub record Moved (W : List ℕ) (g : Graph) (dst : ℕ) (W′ : List ℕ) : Type
 pub record Copied (W : List ℕ) (b dst : ℕ) (W′ : List ℕ) : Type 0 where
   pub count : countIn W′ dst ≡ countIn W b
   pub level : levelIn W′ dst ≡ levelIn W b
+  pub reach : reachIn W′ dst ≡ reachIn W b
   pub here : (k : ℕ) → k < 6 * countIn W b → getD W′ (234 * dst + k) 0 ≡ getD W (234 * b + k) 0
   pub outside : Outside dst W W′
 

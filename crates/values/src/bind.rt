@@ -11,10 +11,9 @@ ghost use Prim.Native.Nat.{ℕ, _+_, _*_, _<_, _≤_};
 ghost use lib.ListN.{length};
 ghost use Rattle.cofj.specs.Values.{canon};
 ghost use Rattle.canon.specs.Layout.{Inside, nodesIn, graphAt, Distinct};
-ghost use Rattle.canon.specs.Rounds.{Raw};
 ghost use Rattle.canon.specs.Numbers.{graphIn};
 ghost use Rattle.values.specs.Operations.{Gives, closeOf};
-ghost use Rattle.values.specs.Binding.{boundCode, ObjectBound, Bound, refersTo, noneRefer, OtherField, DifferTest, UnlikeTest, OthersTest, DistinctTest, Rooted};
+ghost use Rattle.values.specs.Binding.{boundCode, ObjectBound, Bound, Few, refersTo, noneRefer, OtherField, DifferTest, UnlikeTest, OthersTest, DistinctTest, Rooted};
 
 // A code, the code `hot` turned to object i.
 pub fn bind_code(hot: u8, i: u8, c: u8) -> u8
@@ -41,7 +40,7 @@ pub fn bind_object(work: &[u8], p: usize, hot: u8, i: u8, raw: &mut [u8], q: usi
 
 // The objects of block b, with mark x bound to object i, to the front of `raw`. Answers how many they are.
 pub fn bind_objects(work: &[u8], b: u16, x: u8, i: u8, raw: &mut [u8]) -> u8
-    requires { ⌜ Inside (now work) b i × (x < 63) × (1536 ≤ length (now raw)) ⌝ }
+    requires { ⌜ Inside (now work) b i × (x < 63) × (192 ≤ length (now raw)) ⌝ }
     ensures { λ n. ⌜ Bound (now (work .entry)) b x i (now (raw .exit)) n ⌝ }
 {
     let n = work[234 * (b as usize) + 192];
@@ -94,7 +93,7 @@ pub fn unreferred(work: &[u8], b: u16, n: u8, i: u8) -> bool
 
 // The first field whose codes differ; 4 if there is none.
 pub fn other_field(raw: &[u8], x: u8, y: u8) -> u8
-    requires { ⌜ 1536 ≤ length (now raw) ⌝ }
+    requires { ⌜ (6 * x + 6 ≤ length (now raw)) × (6 * y + 6 ≤ length (now raw)) ⌝ }
     ensures { λ f. ⌜ OtherField (now (raw .entry)) x y f ⌝ }
 {
     let mut f: u8 = 0;
@@ -109,7 +108,7 @@ pub fn other_field(raw: &[u8], x: u8, y: u8) -> u8
 
 // True only if objects i and k of n unfold to different trees: one path is followed, 64 steps at most.
 pub fn differ(raw: &[u8], n: u8, i: u8, k: u8) -> bool
-    requires { ⌜ Raw (now raw) n × (i < n) × (k < n) ⌝ }
+    requires { ⌜ Few (now raw) n × (i < n) × (k < n) ⌝ }
     ensures { λ r. ⌜ DifferTest (now (raw .entry)) n i k r ⌝ }
 {
     let mut x: u8 = i;
@@ -140,7 +139,7 @@ pub fn differ(raw: &[u8], n: u8, i: u8, k: u8) -> bool
 
 // True only if object k of n is object i itself or unfolds to another tree.
 pub fn unlike(raw: &[u8], n: u8, i: u8, k: u8) -> bool
-    requires { ⌜ Raw (now raw) n × (i < n) × (k < n) ⌝ }
+    requires { ⌜ Few (now raw) n × (i < n) × (k < n) ⌝ }
     ensures { λ r. ⌜ UnlikeTest (now (raw .entry)) n i k r ⌝ }
 {
     if k == i {
@@ -151,7 +150,7 @@ pub fn unlike(raw: &[u8], n: u8, i: u8, k: u8) -> bool
 
 // True only if object i of n unfolds to no other object's tree.
 pub fn unlike_others(raw: &[u8], n: u8, i: u8) -> bool
-    requires { ⌜ Raw (now raw) n × (i < n) ⌝ }
+    requires { ⌜ Few (now raw) n × (i < n) ⌝ }
     ensures { λ r. ⌜ OthersTest (now (raw .entry)) n i r ⌝ }
 {
     let mut k: u8 = 0;
@@ -164,11 +163,14 @@ pub fn unlike_others(raw: &[u8], n: u8, i: u8) -> bool
     true
 }
 
-// True only if no two of the objects bound are equal.
+// True only if no two of the objects bound are equal. Where the block's reach is not above i, no object refers to i.
 pub fn stay_distinct(work: &[u8], b: u16, x: u8, i: u8, raw: &[u8], n: u8) -> bool
     requires { ⌜ Inside (now work) b i × Bound (now work) b x i (now raw) n ⌝ }
     ensures { λ r. ⌜ DistinctTest (now (raw .entry)) n r ⌝ }
 {
+    if work[234 * (b as usize) + 194] <= i {
+        return unlike_others(raw, n, i);
+    }
     if unreferred(work, b, n, i) {
         return unlike_others(raw, n, i);
     }
@@ -184,12 +186,13 @@ pub fn put_distinct(raw: &[u8], n: u8, i: u8, work: &mut [u8], dst: u16) -> Valu
     let l = level_of(raw, 0, 6 * (n as usize));
     work[234 * (dst as usize) + 192] = n;
     work[234 * (dst as usize) + 193] = l;
+    work[234 * (dst as usize) + 194] = n;
     ValueRef::Object(dst, i)
 }
 
 // The value at object i of n, to block `dst`, equal objects merged and numbered from there.
 pub fn put_merged(raw: &[u8], n: u8, i: u8, work: &mut [u8], dst: u16) -> ValueRef
-    requires { ⌜ Rooted (now raw) n i (now work) dst ⌝ }
+    requires { ⌜ Rooted (now raw) n i (now work) dst × (1536 ≤ length (now raw)) ⌝ }
     ensures { λ o. ⌜ Gives (now (work .entry)) dst (now (work .exit)) o (canon (graphIn (now (raw .entry)) n i)) ⌝ }
 {
     let mut ids = [0u8; 256];
@@ -198,15 +201,17 @@ pub fn put_merged(raw: &[u8], n: u8, i: u8, work: &mut [u8], dst: u16) -> ValueR
     ValueRef::Object(dst, 0)
 }
 
-// X = u for object i of block b, to block `dst`.
+// X = u for object i of block b, to block `dst`. 192 bytes have room for the objects of a block; colours ask for 1536.
 pub fn close_bound(work: &mut [u8], x: u8, b: u16, i: u8, dst: u16) -> ValueRef
     requires { ⌜ Inside (now work) b i × (x < 63) × (234 * dst + 234 ≤ length (now work)) ⌝ }
     ensures { λ o. ⌜ Gives (now (work .entry)) dst (now (work .exit)) o (closeOf x (canon (graphAt (now (work .entry)) b i))) ⌝ }
 {
-    let mut raw = [0u8; 1536];
+    let mut raw = [0u8; 192];
     let n = bind_objects(work, b, x, i, &mut raw);
     if stay_distinct(work, b, x, i, &raw, n) {
         return put_distinct(&raw, n, i, work, dst);
     }
-    put_merged(&raw, n, i, work, dst)
+    let mut wide = [0u8; 1536];
+    let m = bind_objects(work, b, x, i, &mut wide);
+    put_merged(&wide, m, i, work, dst)
 }

@@ -43,6 +43,7 @@ pub fn copy_block(work: &mut [u8], b: u16, dst: u16)
 {
     let n = work[234 * (b as usize) + 192];
     let l = work[234 * (b as usize) + 193];
+    let m = work[234 * (b as usize) + 194];
     let p = 6 * (n as usize);
     let mut q: usize = 0;
     while q < p {
@@ -51,6 +52,7 @@ pub fn copy_block(work: &mut [u8], b: u16, dst: u16)
     }
     work[234 * (dst as usize) + 192] = n;
     work[234 * (dst as usize) + 193] = l;
+    work[234 * (dst as usize) + 194] = m;
 }
 
 // The number of a value, in block `dst` or below.

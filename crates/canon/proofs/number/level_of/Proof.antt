@@ -2,23 +2,28 @@ use Rattle.canon.proofs.number.level_of.Statement.{statement}
 use Rattle.canon.proofs.number.level_of.Tie as tie
 use Rattle.canon.proofs.number.level_of.Reads as reads
 use Rattle.canon.proofs.number.level_of.Lts as lts
-use Rattle.canon.proofs.number.raise_level.Reads as raise-level-reads
 use borrow.Author.Needs.{needs}
+use native.Mathlib.Omega.{arith}
+use mathlib.Core.Logic.{⊎-elim}
 use Prim.Native.Nat.{_≤_, _-_}
 use Rattle.canon.specs.Numbers.{Levels}
 use Rattle.canon.proofs.Numbers as laws
 
 abbrev Inv-loop : tie.InvT-loop
-Inv-loop work at p l₀ q₀ l q = (q ≤ p) × Levels work at q l
+Inv-loop work at p m₀ q₀ m q = (q ≤ p) × (192 ≤ m) × Levels work at q (m - 192)
 
 abbrev μ-loop : tie.MeasureT-loop
-μ-loop work at p l₀ q₀ l q = p - q
+μ-loop work at p m₀ q₀ m q = p - q
 
 loop-holds : tie.Need-loop-holds Inv-loop μ-loop
-loop-holds c = (search needs, laws.level-none _ _ _)
+loop-holds c = (search needs, search needs, laws.level-none _ _ _)
 
 loop-again : tie.Need-loop-again Inv-loop μ-loop
-loop-again c = (search needs, search laws.level-more)
+loop-again c = (
+  search needs,
+  ⊎-elim (λ w. omega arith) (λ w. omega arith) (c .if1 .came),
+  laws.level-more _ _ _ _ (c .before .before .before .loop .inv .2) _ (⊎-elim (λ w. omega arith) (λ w. omega arith) (c .if1 .came)) (⊎-elim (λ w. omega arith) (λ w. omega arith) (c .if1 .came)),
+)
 
 returns : tie.Need-returns Inv-loop μ-loop
 returns c = search laws.level-done
@@ -32,8 +37,8 @@ level-of-spec =
     loop-holds
     (λ c. search needs)
     (λ c. search needs)
-    (λ c κs. search needs)
     (λ c. search needs)
     (λ c. search needs)
     loop-again
+    (λ c. search needs)
     returns)

@@ -22,6 +22,9 @@ returns c = let v = c .before .before .before in let st = v .before .before .bef
 slice-write-work-2 : tie.Need-slice-write-work-2
 slice-write-work-2 c = simp length-set (omega arith)
 
+slice-write-work-3 : tie.Need-slice-write-work-3
+slice-write-work-3 c = simp length-set (omega arith)
+
 returns-2 : tie.Need-returns-2
 returns-2 c = let g = c .before .before .before .before in let nu = g .before .before .before .before .before in let e = nu .before .before .before in let v = e .before .before .before in let st = v .before .before .before .before .before .before .before .before .before in laws.put-done _ _ _ _ _ _ (st .pre) (v .visit .last .1 .1 .1 .1 .0) (v .visit .result) (v .visit .ensures .0) (search needs) (omega (arith, v .visit .ok)) _ (v .visit .ensures .1) _ (nu .numbers .ensures) _ (g .gather .ensures) (e .if1 .left) _ (c .level-of .ensures)
 
@@ -29,6 +32,7 @@ pub put-spec : {M : Type 1} → statement M
 put-spec =
     tie.close
     (tie.spec
+    (λ c. search needs)
     (λ c. search needs)
     (λ c. search needs)
     (λ c. search needs)
@@ -50,5 +54,6 @@ put-spec =
     (λ c κs. search needs)
     (λ c. search needs)
     slice-write-work-2
+    slice-write-work-3
     (λ c. search needs)
     returns-2)

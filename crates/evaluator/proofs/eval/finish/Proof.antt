@@ -3,9 +3,8 @@ use Rattle.evaluator.proofs.eval.finish.Statement.{statement}
 use Rattle.evaluator.proofs.eval.finish.Tie as tie
 use Rattle.evaluator.proofs.eval.finish.Reads as reads
 use Rattle.evaluator.proofs.eval.finish.Lts as lts
-use Rattle.evaluator.proofs.eval.parts_at.Reads as parts-at-reads
+use Rattle.evaluator.proofs.eval.make_at.Reads as make-at-reads
 use Rattle.evaluator.proofs.stack.stop.Reads as stop-reads
-use Rattle.maker.proofs.make.make.Reads as make-reads
 use Rattle.maker.proofs.over.make_bare.Reads as make-bare-reads
 use Rattle.evaluator.proofs.LeafLaws as laws
 
@@ -15,8 +14,8 @@ returns c = search laws.bare-large
 returns-2 : tie.Need-returns-2
 returns-2 c = search laws.bare-value
 
-make-requires : tie.Need-make-requires
-make-requires c κs = (search laws.parts-ready, search needs, search needs)
+make-at-requires : tie.Need-make-at-requires
+make-at-requires c κs = (search laws.parts-ready, search needs, search needs, search needs)
 
 returns-3 : tie.Need-returns-3
 returns-3 c = search laws.made-large
@@ -36,8 +35,7 @@ finish-spec =
     (λ c. search needs)
     (λ c. search needs)
     returns-2
-    (λ c κs. search needs)
-    make-requires
+    make-at-requires
     (λ c κs. search needs)
     (λ c. search needs)
     returns-3

@@ -34,15 +34,15 @@ lay-lay-one-requires t c κs = (search laws.part-held, search needs, search need
 lay-lay-requires : (t : ℕ) → lay-lts.Need-lay-requires (lay-claims t) (lay-at t) lay.Post
 lay-lay-requires t c κs =
     let o = c .before .before .before in
-    let st = o .before .before .before .before .before .before in
-    (omega arith, (st .pre .1 .0, st .pre .1 .1, omega (arith, o .lay-one .ensures .next), omega (arith, o .lay-one .ensures .next, o .lay-one .ensures .few), omega arith))
+    let st = o .before .before .before .before .before .before .before in
+    (omega arith, (st .pre .1 .0, st .pre .1 .1, omega (arith, o .lay-one .ensures .next), omega (arith, o .lay-one .ensures .next, o .lay-one .ensures .few), omega arith, st .pre .1 .5))
 
 lay-returns-2 : (t : ℕ) → lay-lts.Need-returns-2 (lay-claims t) (lay-at t) lay.Post
 lay-returns-2 t c =
     let l = c .before .before in
     let o = l .before .before .before .before in
     let e1 = o .before .before .before in
-    let st = e1 .before .before .before in
+    let st = e1 .before .before .before .before in
     laws.lay-more _ _ _ _ (st .pre .1 .0) (e1 .if1 .left) _ _ _ _ _ _ _ (o .before .before .part-at .ensures) (st .pre .1 .1) (st .pre .1 .2) (o .lay-one .ensures) (l .lay .ensures)
 
 pub +lay-spec : {M : Type 1} → statement M

@@ -23,6 +23,9 @@ slice-write-raw-5 c = simp length-set (omega arith)
 slice-write-raw-6 : tie.Need-slice-write-raw-6
 slice-write-raw-6 c = simp length-set (omega arith)
 
+lay-requires : tie.Need-lay-requires
+lay-requires c κs = (search needs, search needs, search needs, search needs, simp length-set (omega arith), search needs)
+
 same-length : tie.Need-same-length
 same-length c = omega (arith, simp length-set at (c .before .before .lay .kept .1 .1 .1 .1 .0))
 
@@ -39,6 +42,6 @@ build-spec =
     slice-write-raw-4
     slice-write-raw-5
     slice-write-raw-6
-    (λ c κs. search needs)
+    lay-requires
     same-length
     returns)

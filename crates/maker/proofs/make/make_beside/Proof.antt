@@ -6,14 +6,14 @@ use Rattle.maker.proofs.make.make_beside.Lts as lts
 use Rattle.maker.proofs.make.make_laid.Reads as make-laid-reads
 use Rattle.maker.proofs.over.add.Reads as add-reads
 use Rattle.maker.proofs.over.find.Reads as find-reads
-use Rattle.maker.proofs.over.root_object.Reads as root-object-reads
+use Rattle.maker.proofs.over.root_codes.Reads as root-codes-reads
 use Rattle.values.proofs.value.bring_in.Reads as bring-in-reads
 use Rattle.canon.specs.Layout.{countIn}
 use Rattle.maker.proofs.Beside as laws
 
 find-requires : tie.Need-find-requires
 unfolding countIn
-find-requires c κs = search needs
+find-requires c κs = (search needs, search needs, search laws.root-packed)
 
 bring-in-requires : tie.Need-bring-in-requires
 bring-in-requires c κs = (search laws.beside-held, search needs)
@@ -32,9 +32,7 @@ pub make-beside-spec : {M : Type 1} → statement M
 make-beside-spec =
     tie.close
     (tie.spec
-    (λ c. search needs)
     (λ c κs. search needs)
-    (λ c. search needs)
     (λ c. search needs)
     (λ c. search needs)
     (λ c. search needs)
@@ -46,7 +44,6 @@ make-beside-spec =
     (λ c. search needs)
     returns
     (λ c κs. search needs)
-    (λ c. search needs)
     (λ c. search needs)
     (λ c. search needs)
     add-requires

@@ -12,28 +12,28 @@ use native.Mathlib.Omega.{arith}
 colour-requires : tie.Need-colour-requires
 colour-requires c κs =
     let b = c .before .before .before in
-    let st = b .before .before .before .before in
+    let st = b .before .before .before .before .before in
     (laws.make-raw _ _ _ _ _ _ (st .pre .0) (b .build .ensures) (search needs), search needs)
 
 put-requires : tie.Need-put-requires
 put-requires c κs =
     let co = c .before .before .before .before in
     let b = co .before .before .before .before in
-    let st = b .before .before .before .before in
+    let st = b .before .before .before .before .before in
     laws.make-ready _ _ _ _ _ _ (st .pre .0) (b .build .ensures) (co .colour .last .1 .1 .0) _ (search needs) (co .colour .ensures) (search needs) (st .pre .2)
 
 returns : tie.Need-returns
 returns c =
     let p = c .before .before .before in
     let b = p .before .before .before .before .before .before .before .before .before in
-    let st = b .before .before .before .before in
+    let st = b .before .before .before .before .before in
     laws.made-large _ _ _ _ _ _ (st .pre .0) (b .build .ensures) _ _ _ (p .put .ensures) (c .if1 .taken)
 
 returns-2 : tie.Need-returns-2
 returns-2 c =
     let p = c .before .before .before in
     let b = p .before .before .before .before .before .before .before .before .before in
-    let st = b .before .before .before .before in
+    let st = b .before .before .before .before .before in
     laws.made-value _ _ _ _ _ _ (st .pre .0) (b .build .ensures) _ _ _ (p .put .ensures) (c .if1 .left) (omega arith)
 
 pub make-laid-spec : {M : Type 1} → statement M

@@ -7,8 +7,9 @@ use Rattle.maker.proofs.merge.+import+import_codes.Lts-import as import
 use Rattle.maker.proofs.merge.import_codes.Reads as import-codes
 use Rattle.maker.proofs.merge.import_codes.Kinds as import-codes-kinds
 use Rattle.maker.proofs.merge.+import+import_codes.Lts-import_codes as import-codes-lts
-use Rattle.maker.proofs.merge.enter.Reads as enter-reads
+use Rattle.maker.proofs.enter.enter.Reads as enter-reads
 use Rattle.maker.proofs.merge.take_object.Reads as take-object-reads
+use Rattle.canon.proofs.bytes.four_at.Reads as four-at-reads
 use Rattle.maker.proofs.merge.+import+import_codes.{statement}
 use Rattle.maker.proofs.merge.+import+import_codes.Tie.{close}
 use borrow.Author.Needs.{needs}
@@ -42,7 +43,7 @@ import-codes-below t =
     import-codes.Pre
 
 abbrev import-claims : ℕ → import-lts.Claims
-import-claims t = (take-object-reads.Asked, take-object-reads.Learnt, import-codes-below t, import-codes.Post, enter-reads.Asked, enter-reads.Learnt)
+import-claims t = (take-object-reads.Asked, take-object-reads.Learnt, import-codes-below t, import-codes.Post, four-at-reads.Asked, four-at-reads.Learnt, enter-reads.Asked, enter-reads.Learnt)
 
 abbrev import-codes-claims : ℕ → import-codes-lts.Claims
 import-codes-claims t = (import-below t, import.Post, import-codes-below t, import-codes.Post)
@@ -70,11 +71,11 @@ import-returns-4 t c = search laws.import-fails
 
 import-enter-requires : (t : ℕ) → import-lts.Need-enter-requires (import-claims t) (import-at t) import.Post
 import-enter-requires t c κs =
-    let e4 = c .before .before in
+    let e4 = c .before .before .before in
     let ic = e4 .before .before .before .before .before .before in
     let e1 = ic .before .before .before .before .before .before .before .before .before .before .before in
     let st = e1 .before .before .before in
-    (search laws.import-block, laws.import-fits _ _ _ _ _ (st .pre .1) (e1 .if1 .left) _ _ _ _ (ic .import-codes .ensures) (e4 .if4 .left))
+    (search laws.import-block, laws.import-fits _ _ _ _ _ (st .pre .1) (e1 .if1 .left) _ _ _ _ (ic .import-codes .ensures) (e4 .if4 .left) _ (c .four-at .ensures))
 
 import-returns-5 : (t : ℕ) → import-lts.Need-returns-5 (import-claims t) (import-at t) import.Post
 import-returns-5 t c = search laws.import-full
@@ -120,7 +121,7 @@ import-codes-returns-3 t c = search laws.codes-more
 
 import-slice-write-memo : (t : ℕ) → import-lts.Need-slice-write-memo (import-claims t) (import-at t) import.Post
 import-slice-write-memo t c =
-    let e4 = c .before .before .before .before .before .before in
+    let e4 = c .before .before .before .before .before .before .before in
     let ic = e4 .before .before .before .before .before .before in
     let e1 = ic .before .before .before .before .before .before .before .before .before .before .before in
     let st = e1 .before .before .before in
@@ -147,6 +148,9 @@ pub +import+import-codes-spec : {M : Type 1} → statement M
     (λ c. search needs)
     (import-returns-4 t)
     (λ c. search needs)
+    (λ c. search needs)
+    (λ c. search needs)
+    (λ c κs. search needs)
     (import-enter-requires t)
     (λ c. search needs)
     (λ c. search needs)

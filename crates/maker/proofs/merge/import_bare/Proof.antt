@@ -3,8 +3,8 @@ use Rattle.maker.proofs.merge.import_bare.Statement.{statement}
 use Rattle.maker.proofs.merge.import_bare.Tie as tie
 use Rattle.maker.proofs.merge.import_bare.Reads as reads
 use Rattle.maker.proofs.merge.import_bare.Lts as lts
-use Rattle.maker.proofs.merge.enter.Reads as enter-reads
-use Rattle.maker.proofs.merge.take_object.Reads as take-object-reads
+use Rattle.canon.proofs.bytes.four_at.Reads as four-at-reads
+use Rattle.maker.proofs.enter.enter.Reads as enter-reads
 use Rattle.maker.proofs.Merges as laws
 
 enter-requires : tie.Need-enter-requires
@@ -18,8 +18,11 @@ import-bare-spec =
     tie.close
     (tie.spec
     (λ c. search needs)
-    (λ c κs. search needs)
     (λ c. search needs)
+    (λ c. search needs)
+    (λ c. search needs)
+    (λ c. search needs)
+    (λ c κs. search needs)
     enter-requires
     (λ c. search needs)
     returns)

@@ -9,10 +9,10 @@ use Rattle.maker.proofs.merge.make_in.Reads as make-in-reads
 use Rattle.maker.proofs.Merges as laws
 
 make-in-requires : tie.Need-make-in-requires
-make-in-requires c κs = (search needs, search needs, search laws.largest-begun, search needs, search needs)
+make-in-requires c κs = (search needs, search needs, search laws.largest-begun, search needs, search needs, search needs)
 
 make-copied-requires : tie.Need-make-copied-requires
-make-copied-requires c κs = (search needs, search needs, search laws.largest-block, search needs, search needs, search needs)
+make-copied-requires c κs = (search needs, search needs, search laws.largest-block, search needs, search needs, search needs, search needs)
 
 pub make-apart-spec : {M : Type 1} → statement M
 make-apart-spec =

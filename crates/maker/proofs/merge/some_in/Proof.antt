@@ -5,27 +5,26 @@ use Rattle.maker.proofs.merge.some_in.Lts as lts
 use Rattle.maker.proofs.merge.lies_in.Reads as lies-in-reads
 use Rattle.maker.proofs.lay.part_at.Reads as part-at-reads
 use borrow.Author.Needs.{needs}
-use Prim.Native.Nat.{_≤_, _-_}
+use Prim.Native.Nat.{_≤_}
 use Rattle.maker.specs.Laying.{partsOf}
-use mathlib.Core.Path.{_≡_}
-use mathlib.Core.Bool.{false}
+use mathlib.Core.Path.{_≡_, refl}
 use Rattle.maker.specs.Merging.{someIn}
 use Rattle.maker.proofs.Merges as laws
 
 abbrev Inv-loop : tie.InvT-loop
-Inv-loop parts n d i₀ i = (i ≤ n) × (someIn (partsOf parts) i d ≡ false)
+Inv-loop parts n d i₀ i = (i ≤ n) × (someIn (partsOf parts) n d ≡ someIn (partsOf parts) i d)
 
 abbrev μ-loop : tie.MeasureT-loop
-μ-loop parts n d i₀ i = n - i
+μ-loop parts n d i₀ i = i
 
 loop-holds : tie.Need-loop-holds Inv-loop μ-loop
-loop-holds c = (search needs, laws.away-none _ 0 _)
+loop-holds c = (search needs, refl)
 
 returns : tie.Need-returns Inv-loop μ-loop
 returns c = search laws.some-there
 
 loop-again : tie.Need-loop-again Inv-loop μ-loop
-loop-again c = (search needs, search laws.away-more)
+loop-again c = (search needs, search laws.some-less)
 
 returns-2 : tie.Need-returns-2 Inv-loop μ-loop
 returns-2 c = search laws.some-none
@@ -37,10 +36,10 @@ some-in-spec =
     Inv-loop
     μ-loop
     loop-holds
+    (λ c. search needs)
     (λ c κs. search needs)
     (λ c κs. search needs)
     returns
-    (λ c. search needs)
     (λ c. search needs)
     loop-again
     returns-2)

@@ -12,7 +12,7 @@ use Rattle.maker.proofs.Beside as laws
 
 append-requires : tie.Need-append-requires
 unfolding countIn
-append-requires c κs = (omega arith, search needs, search needs)
+append-requires c κs = (omega arith, search needs)
 
 returns : tie.Need-returns
 returns c = search laws.add-there

@@ -2,17 +2,17 @@ use Rattle.maker.proofs.over.find.Statement.{statement}
 use Rattle.maker.proofs.over.find.Tie as tie
 use Rattle.maker.proofs.over.find.Reads as reads
 use Rattle.maker.proofs.over.find.Lts as lts
-use Rattle.canon.proofs.bytes.same.Reads as same-reads
+use Rattle.maker.proofs.over.is_object.Reads as is-object-reads
 use borrow.Author.Needs.{needs}
 use Prim.Native.Nat.{_≤_, _-_}
-use Rattle.maker.specs.Adding.{Missed}
+use Rattle.maker.specs.Adding.{objectOf, Missed}
 use Rattle.maker.proofs.Beside as laws
 
 abbrev Inv-loop : tie.InvT-loop
-Inv-loop work b t top k₀ k = (k ≤ t) × Missed work b top k
+Inv-loop work b t c n w k₀ k = (k ≤ t) × Missed work b (objectOf c n w) k
 
 abbrev μ-loop : tie.MeasureT-loop
-μ-loop work b t top k₀ k = t - k
+μ-loop work b t c n w k₀ k = t - k
 
 loop-holds : tie.Need-loop-holds Inv-loop μ-loop
 loop-holds c = (search needs, laws.missed-none _ _ _)

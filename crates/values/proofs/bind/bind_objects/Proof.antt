@@ -12,7 +12,7 @@ use Rattle.values.specs.Binding.{ObjectsBound}
 use Rattle.values.proofs.Bindings as laws
 
 abbrev Inv-loop : tie.InvT-loop
-Inv-loop work b x i raw₀ n j₀ raw j = (j ≤ n) × (n ≤ 32) × (234 * b + 234 ≤ length work) × (n ≡ getD work (234 * b + 192) 0) × (length raw ≡ length raw₀) × (1536 ≤ length raw) × ObjectsBound work b (193 + x) i j raw
+Inv-loop work b x i raw₀ n j₀ raw j = (j ≤ n) × (n ≤ 32) × (234 * b + 234 ≤ length work) × (n ≡ getD work (234 * b + 192) 0) × (length raw ≡ length raw₀) × (192 ≤ length raw) × ObjectsBound work b (193 + x) i j raw
 
 abbrev μ-loop : tie.MeasureT-loop
 μ-loop work b x i raw₀ n j₀ raw j = n - j

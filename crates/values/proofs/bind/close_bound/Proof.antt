@@ -16,7 +16,7 @@ returns : tie.Need-returns
 returns c = search laws.closed
 
 put-merged-requires : tie.Need-put-merged-requires
-put-merged-requires c κs = search laws.bound-rooted
+put-merged-requires c κs = let bo = c .before .before .before in let st = bo .before .before .before .before .before .before .before .before .before .before .before .before in (laws.bound-rooted _ _ _ (st .pre .0) _ _ _ (bo .bind-objects2 .ensures) _ (st .pre .2), search needs)
 
 returns-2 : tie.Need-returns-2
 returns-2 c = search laws.closed
@@ -33,6 +33,8 @@ close-bound-spec =
     put-distinct-requires
     (λ c. search needs)
     returns
+    (λ c. search needs)
+    (λ c κs. search needs)
     (λ c. search needs)
     put-merged-requires
     (λ c. search needs)

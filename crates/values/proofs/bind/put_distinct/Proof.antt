@@ -12,6 +12,9 @@ use Rattle.values.proofs.Bindings as laws
 slice-write-work-2 : tie.Need-slice-write-work-2
 slice-write-work-2 c = simp length-set (omega arith)
 
+slice-write-work-3 : tie.Need-slice-write-work-3
+slice-write-work-3 c = simp length-set (omega arith)
+
 same-length : tie.Need-same-length
 same-length c = simp length-set (omega arith)
 
@@ -33,5 +36,8 @@ put-distinct-spec =
     (λ c. search needs)
     (λ c. search needs)
     slice-write-work-2
+    (λ c. search needs)
+    (λ c. search needs)
+    slice-write-work-3
     same-length
     returns)

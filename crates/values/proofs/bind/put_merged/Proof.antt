@@ -11,7 +11,7 @@ colour-requires : tie.Need-colour-requires
 colour-requires c κs = (search laws.rooted-raw, search needs)
 
 put-requires : tie.Need-put-requires
-put-requires c κs = let co = c .before .before .before in laws.merge-ready _ _ _ _ _ (co .before .before .before .before .pre) _ (search needs) (co .colour .ensures)
+put-requires c κs = let co = c .before .before .before in laws.merge-ready _ _ _ _ _ (co .before .before .before .before .pre .0) (co .before .before .before .before .pre .1) _ (search needs) (co .colour .ensures)
 
 returns : tie.Need-returns
 returns c = search laws.put-merged

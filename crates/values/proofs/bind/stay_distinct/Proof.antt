@@ -1,28 +1,47 @@
+use borrow.Author.Needs.{needs}
 use Rattle.values.proofs.bind.stay_distinct.Statement.{statement}
 use Rattle.values.proofs.bind.stay_distinct.Tie as tie
 use Rattle.values.proofs.bind.stay_distinct.Reads as reads
 use Rattle.values.proofs.bind.stay_distinct.Lts as lts
 use Rattle.values.proofs.bind.unlike_others.Reads as unlike-others-reads
 use Rattle.values.proofs.bind.unreferred.Reads as unreferred-reads
+use native.Mathlib.Omega.{arith}
 use Rattle.values.proofs.Bindings as laws
 
-unreferred-requires : tie.Need-unreferred-requires
-unreferred-requires c κs = (search laws.block-room, search laws.bound-few)
+add-if1 : tie.Need-add-if1
+add-if1 c = omega (arith, laws.block-room _ _ _ (c .before .before .pre .0))
+
+shared-slice-read-if1 : tie.Need-shared-slice-read-if1
+shared-slice-read-if1 c = omega (arith, laws.block-room _ _ _ (c .before .before .before .pre .0))
 
 unlike-others-requires : tie.Need-unlike-others-requires
-unlike-others-requires c κs = (search laws.bound-raw, search laws.root-low)
+unlike-others-requires c κs = (search laws.bound-few, search laws.root-low)
 
 returns : tie.Need-returns
-returns c = search laws.stays-distinct
+returns c = search laws.stays-beyond
+
+unreferred-requires : tie.Need-unreferred-requires
+unreferred-requires c κs = (search laws.block-room, search laws.bound-small)
+
+unlike-others-requires-2 : tie.Need-unlike-others-requires-2
+unlike-others-requires-2 c κs = (search laws.bound-few, search laws.root-low)
 
 returns-2 : tie.Need-returns-2
-returns-2 c = laws.distinct-not _ _
+returns-2 c = search laws.stays-distinct
+
+returns-3 : tie.Need-returns-3
+returns-3 c = laws.distinct-not _ _
 
 pub stay-distinct-spec : {M : Type 1} → statement M
 stay-distinct-spec =
     tie.close
     (tie.spec
-    unreferred-requires
+    (λ c. search needs)
+    add-if1
+    shared-slice-read-if1
     unlike-others-requires
     returns
-    returns-2)
+    unreferred-requires
+    unlike-others-requires-2
+    returns-2
+    returns-3)

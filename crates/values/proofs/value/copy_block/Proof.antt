@@ -12,10 +12,10 @@ use Rattle.values.proofs.Copies as laws
 use Rattle.values.proofs.Copies.{CopyLoop}
 
 abbrev Inv-loop : tie.InvT-loop
-Inv-loop work₀ b dst n l p q₀ work q = (q ≤ p) × (p ≤ 192) × (length work ≡ length work₀) × CopyLoop work₀ b dst n l p q work
+Inv-loop work₀ b dst n l m p q₀ work q = (q ≤ p) × (p ≤ 192) × (length work ≡ length work₀) × CopyLoop work₀ b dst n l m p q work
 
 abbrev μ-loop : tie.MeasureT-loop
-μ-loop work₀ b dst n l p q₀ work q = p - q
+μ-loop work₀ b dst n l m p q₀ work q = p - q
 
 cast-p : tie.Need-cast-p Inv-loop μ-loop
 unfolding countIn
@@ -27,7 +27,7 @@ mul-p c = omega arith
 
 loop-holds : tie.Need-loop-holds Inv-loop μ-loop
 unfolding countIn
-loop-holds c = (search needs, omega arith, search needs, laws.copy-none _ _ _ _ _ _ refl refl refl)
+loop-holds c = (search needs, omega arith, search needs, laws.copy-none _ _ _ _ _ _ _ refl refl refl refl)
 
 loop-again : tie.Need-loop-again Inv-loop μ-loop
 loop-again c = (search needs, search needs, simp length-set (omega arith), search laws.copy-step)
@@ -35,11 +35,14 @@ loop-again c = (search needs, search needs, simp length-set (omega arith), searc
 slice-write-work-3 : tie.Need-slice-write-work-3 Inv-loop μ-loop
 slice-write-work-3 c = simp length-set (omega arith)
 
+slice-write-work-4 : tie.Need-slice-write-work-4 Inv-loop μ-loop
+slice-write-work-4 c = simp length-set (omega arith)
+
 same-length : tie.Need-same-length Inv-loop μ-loop
 same-length c = simp length-set (omega arith)
 
 returns : tie.Need-returns Inv-loop μ-loop
-returns c = laws.copy-end _ _ _ _ _ _ _ _ (c .before .before .before .before .pre .0) (c .before .before .before .before .pre .1) (c .before .loop .inv .3) (c .before .loop .inv .0) (c .loop-test .left)
+returns c = laws.copy-end _ _ _ _ _ _ _ _ _ (c .before .before .before .before .before .pre .0) (c .before .before .before .before .before .pre .1) (c .before .loop .inv .3) (c .before .loop .inv .0) (c .loop-test .left)
 
 pub copy-block-spec : {M : Type 1} → statement M
 copy-block-spec =
@@ -47,6 +50,9 @@ copy-block-spec =
     (tie.spec
     Inv-loop
     μ-loop
+    (λ c. search needs)
+    (λ c. search needs)
+    (λ c. search needs)
     (λ c. search needs)
     (λ c. search needs)
     (λ c. search needs)
@@ -71,5 +77,8 @@ copy-block-spec =
     (λ c. search needs)
     (λ c. search needs)
     slice-write-work-3
+    (λ c. search needs)
+    (λ c. search needs)
+    slice-write-work-4
     same-length
     returns)

@@ -3,40 +3,43 @@ use borrow.Fn.Kinds.{In}
 use borrow.Fn.PlainCycle.{Measures, is, falls, and}
 use Rattle.evaluator.proofs.call.eval_call.Reads as call·eval-call
 use Rattle.evaluator.proofs.call.eval_call.Kinds as call·eval-call-kinds
-use Rattle.evaluator.proofs.+call-eval_call+call-invoke+call-run_left+call-run_right+eval-eval+eval-eval_chain+eval-eval_field+eval-eval_item+eval-eval_list+eval-eval_new+eval-eval_part+eval-eval_receiver.Lts-call-eval_call as call·eval-call-lts
+use Rattle.evaluator.proofs.+call-eval_call+call-invoke+call-run_left+call-run_right+eval-eval+eval-eval_body+eval-eval_chain+eval-eval_field+eval-eval_item+eval-eval_list+eval-eval_new+eval-eval_part+eval-eval_receiver.Lts-call-eval_call as call·eval-call-lts
 use Rattle.evaluator.proofs.call.invoke.Reads as call·invoke
 use Rattle.evaluator.proofs.call.invoke.Kinds as call·invoke-kinds
-use Rattle.evaluator.proofs.+call-eval_call+call-invoke+call-run_left+call-run_right+eval-eval+eval-eval_chain+eval-eval_field+eval-eval_item+eval-eval_list+eval-eval_new+eval-eval_part+eval-eval_receiver.Lts-call-invoke as call·invoke-lts
+use Rattle.evaluator.proofs.+call-eval_call+call-invoke+call-run_left+call-run_right+eval-eval+eval-eval_body+eval-eval_chain+eval-eval_field+eval-eval_item+eval-eval_list+eval-eval_new+eval-eval_part+eval-eval_receiver.Lts-call-invoke as call·invoke-lts
 use Rattle.evaluator.proofs.call.run_left.Reads as call·run-left
 use Rattle.evaluator.proofs.call.run_left.Kinds as call·run-left-kinds
-use Rattle.evaluator.proofs.+call-eval_call+call-invoke+call-run_left+call-run_right+eval-eval+eval-eval_chain+eval-eval_field+eval-eval_item+eval-eval_list+eval-eval_new+eval-eval_part+eval-eval_receiver.Lts-call-run_left as call·run-left-lts
+use Rattle.evaluator.proofs.+call-eval_call+call-invoke+call-run_left+call-run_right+eval-eval+eval-eval_body+eval-eval_chain+eval-eval_field+eval-eval_item+eval-eval_list+eval-eval_new+eval-eval_part+eval-eval_receiver.Lts-call-run_left as call·run-left-lts
 use Rattle.evaluator.proofs.call.run_right.Reads as call·run-right
 use Rattle.evaluator.proofs.call.run_right.Kinds as call·run-right-kinds
-use Rattle.evaluator.proofs.+call-eval_call+call-invoke+call-run_left+call-run_right+eval-eval+eval-eval_chain+eval-eval_field+eval-eval_item+eval-eval_list+eval-eval_new+eval-eval_part+eval-eval_receiver.Lts-call-run_right as call·run-right-lts
+use Rattle.evaluator.proofs.+call-eval_call+call-invoke+call-run_left+call-run_right+eval-eval+eval-eval_body+eval-eval_chain+eval-eval_field+eval-eval_item+eval-eval_list+eval-eval_new+eval-eval_part+eval-eval_receiver.Lts-call-run_right as call·run-right-lts
 use Rattle.evaluator.proofs.eval.eval.Reads as eval·eval
 use Rattle.evaluator.proofs.eval.eval.Kinds as eval·eval-kinds
-use Rattle.evaluator.proofs.+call-eval_call+call-invoke+call-run_left+call-run_right+eval-eval+eval-eval_chain+eval-eval_field+eval-eval_item+eval-eval_list+eval-eval_new+eval-eval_part+eval-eval_receiver.Lts-eval-eval as eval·eval-lts
+use Rattle.evaluator.proofs.+call-eval_call+call-invoke+call-run_left+call-run_right+eval-eval+eval-eval_body+eval-eval_chain+eval-eval_field+eval-eval_item+eval-eval_list+eval-eval_new+eval-eval_part+eval-eval_receiver.Lts-eval-eval as eval·eval-lts
+use Rattle.evaluator.proofs.eval.eval_body.Reads as eval·eval-body
+use Rattle.evaluator.proofs.eval.eval_body.Kinds as eval·eval-body-kinds
+use Rattle.evaluator.proofs.+call-eval_call+call-invoke+call-run_left+call-run_right+eval-eval+eval-eval_body+eval-eval_chain+eval-eval_field+eval-eval_item+eval-eval_list+eval-eval_new+eval-eval_part+eval-eval_receiver.Lts-eval-eval_body as eval·eval-body-lts
 use Rattle.evaluator.proofs.eval.eval_chain.Reads as eval·eval-chain
 use Rattle.evaluator.proofs.eval.eval_chain.Kinds as eval·eval-chain-kinds
-use Rattle.evaluator.proofs.+call-eval_call+call-invoke+call-run_left+call-run_right+eval-eval+eval-eval_chain+eval-eval_field+eval-eval_item+eval-eval_list+eval-eval_new+eval-eval_part+eval-eval_receiver.Lts-eval-eval_chain as eval·eval-chain-lts
+use Rattle.evaluator.proofs.+call-eval_call+call-invoke+call-run_left+call-run_right+eval-eval+eval-eval_body+eval-eval_chain+eval-eval_field+eval-eval_item+eval-eval_list+eval-eval_new+eval-eval_part+eval-eval_receiver.Lts-eval-eval_chain as eval·eval-chain-lts
 use Rattle.evaluator.proofs.eval.eval_field.Reads as eval·eval-field
 use Rattle.evaluator.proofs.eval.eval_field.Kinds as eval·eval-field-kinds
-use Rattle.evaluator.proofs.+call-eval_call+call-invoke+call-run_left+call-run_right+eval-eval+eval-eval_chain+eval-eval_field+eval-eval_item+eval-eval_list+eval-eval_new+eval-eval_part+eval-eval_receiver.Lts-eval-eval_field as eval·eval-field-lts
+use Rattle.evaluator.proofs.+call-eval_call+call-invoke+call-run_left+call-run_right+eval-eval+eval-eval_body+eval-eval_chain+eval-eval_field+eval-eval_item+eval-eval_list+eval-eval_new+eval-eval_part+eval-eval_receiver.Lts-eval-eval_field as eval·eval-field-lts
 use Rattle.evaluator.proofs.eval.eval_item.Reads as eval·eval-item
 use Rattle.evaluator.proofs.eval.eval_item.Kinds as eval·eval-item-kinds
-use Rattle.evaluator.proofs.+call-eval_call+call-invoke+call-run_left+call-run_right+eval-eval+eval-eval_chain+eval-eval_field+eval-eval_item+eval-eval_list+eval-eval_new+eval-eval_part+eval-eval_receiver.Lts-eval-eval_item as eval·eval-item-lts
+use Rattle.evaluator.proofs.+call-eval_call+call-invoke+call-run_left+call-run_right+eval-eval+eval-eval_body+eval-eval_chain+eval-eval_field+eval-eval_item+eval-eval_list+eval-eval_new+eval-eval_part+eval-eval_receiver.Lts-eval-eval_item as eval·eval-item-lts
 use Rattle.evaluator.proofs.eval.eval_list.Reads as eval·eval-list
 use Rattle.evaluator.proofs.eval.eval_list.Kinds as eval·eval-list-kinds
-use Rattle.evaluator.proofs.+call-eval_call+call-invoke+call-run_left+call-run_right+eval-eval+eval-eval_chain+eval-eval_field+eval-eval_item+eval-eval_list+eval-eval_new+eval-eval_part+eval-eval_receiver.Lts-eval-eval_list as eval·eval-list-lts
+use Rattle.evaluator.proofs.+call-eval_call+call-invoke+call-run_left+call-run_right+eval-eval+eval-eval_body+eval-eval_chain+eval-eval_field+eval-eval_item+eval-eval_list+eval-eval_new+eval-eval_part+eval-eval_receiver.Lts-eval-eval_list as eval·eval-list-lts
 use Rattle.evaluator.proofs.eval.eval_new.Reads as eval·eval-new
 use Rattle.evaluator.proofs.eval.eval_new.Kinds as eval·eval-new-kinds
-use Rattle.evaluator.proofs.+call-eval_call+call-invoke+call-run_left+call-run_right+eval-eval+eval-eval_chain+eval-eval_field+eval-eval_item+eval-eval_list+eval-eval_new+eval-eval_part+eval-eval_receiver.Lts-eval-eval_new as eval·eval-new-lts
+use Rattle.evaluator.proofs.+call-eval_call+call-invoke+call-run_left+call-run_right+eval-eval+eval-eval_body+eval-eval_chain+eval-eval_field+eval-eval_item+eval-eval_list+eval-eval_new+eval-eval_part+eval-eval_receiver.Lts-eval-eval_new as eval·eval-new-lts
 use Rattle.evaluator.proofs.eval.eval_part.Reads as eval·eval-part
 use Rattle.evaluator.proofs.eval.eval_part.Kinds as eval·eval-part-kinds
-use Rattle.evaluator.proofs.+call-eval_call+call-invoke+call-run_left+call-run_right+eval-eval+eval-eval_chain+eval-eval_field+eval-eval_item+eval-eval_list+eval-eval_new+eval-eval_part+eval-eval_receiver.Lts-eval-eval_part as eval·eval-part-lts
+use Rattle.evaluator.proofs.+call-eval_call+call-invoke+call-run_left+call-run_right+eval-eval+eval-eval_body+eval-eval_chain+eval-eval_field+eval-eval_item+eval-eval_list+eval-eval_new+eval-eval_part+eval-eval_receiver.Lts-eval-eval_part as eval·eval-part-lts
 use Rattle.evaluator.proofs.eval.eval_receiver.Reads as eval·eval-receiver
 use Rattle.evaluator.proofs.eval.eval_receiver.Kinds as eval·eval-receiver-kinds
-use Rattle.evaluator.proofs.+call-eval_call+call-invoke+call-run_left+call-run_right+eval-eval+eval-eval_chain+eval-eval_field+eval-eval_item+eval-eval_list+eval-eval_new+eval-eval_part+eval-eval_receiver.Lts-eval-eval_receiver as eval·eval-receiver-lts
+use Rattle.evaluator.proofs.+call-eval_call+call-invoke+call-run_left+call-run_right+eval-eval+eval-eval_body+eval-eval_chain+eval-eval_field+eval-eval_item+eval-eval_list+eval-eval_new+eval-eval_part+eval-eval_receiver.Lts-eval-eval_receiver as eval·eval-receiver-lts
 use Rattle.evaluator.proofs.call.body_limits.Reads as body-limits-reads
 use Rattle.evaluator.proofs.eval.is_preset.Reads as is-preset-reads
 use Rattle.evaluator.proofs.eval.past.Reads as past-reads
@@ -58,11 +61,11 @@ use Rattle.evaluator.proofs.stack.set_frame.Reads as set-frame-reads
 use Rattle.evaluator.proofs.stack.stop.Reads as stop-reads
 use Rattle.evaluator.proofs.stack.went_of.Reads as went-of-reads
 use Rattle.values.proofs.value.bring_in.Reads as bring-in-reads
-use Rattle.values.proofs.value.close_in.Reads as close-in-reads
-use Rattle.evaluator.proofs.+call-eval_call+call-invoke+call-run_left+call-run_right+eval-eval+eval-eval_chain+eval-eval_field+eval-eval_item+eval-eval_list+eval-eval_new+eval-eval_part+eval-eval_receiver.{
+use Rattle.evaluator.proofs.call.close_value.Reads as close-value-reads
+use Rattle.evaluator.proofs.+call-eval_call+call-invoke+call-run_left+call-run_right+eval-eval+eval-eval_body+eval-eval_chain+eval-eval_field+eval-eval_item+eval-eval_list+eval-eval_new+eval-eval_part+eval-eval_receiver.{
   statement,
 }
-use Rattle.evaluator.proofs.+call-eval_call+call-invoke+call-run_left+call-run_right+eval-eval+eval-eval_chain+eval-eval_field+eval-eval_item+eval-eval_list+eval-eval_new+eval-eval_part+eval-eval_receiver.Tie.{
+use Rattle.evaluator.proofs.+call-eval_call+call-invoke+call-run_left+call-run_right+eval-eval+eval-eval_body+eval-eval_chain+eval-eval_field+eval-eval_item+eval-eval_list+eval-eval_new+eval-eval_part+eval-eval_receiver.Tie.{
   close,
 }
 use native.Mathlib.Omega.{arith}
@@ -88,6 +91,9 @@ abbrev μ-call·run-right : Measures 3 call·run-right-kinds.ps ℕ
 
 abbrev μ-eval·eval : Measures 3 eval·eval-kinds.ps ℕ
 μ-eval·eval κs a = (a .1 .1 .1 .1 .0) / 8 % 32 * 6000 + (a .1 .1 .1 .1 .0) % 8 * 600
+
+abbrev μ-eval·eval-body : Measures 3 eval·eval-body-kinds.ps ℕ
+μ-eval·eval-body κs a = (a .1 .1 .1 .1 .0) / 8 % 32 * 6000 + (a .1 .1 .1 .1 .0) % 8 * 600 + 1
 
 abbrev μ-eval·eval-chain : Measures 3 eval·eval-chain-kinds.ps ℕ
 μ-eval·eval-chain κs a = (a .1 .1 .1 .1 .0) / 8 % 32 * 6000 + (a .1 .1 .1 .1 .0) % 8 * 600 + 500
@@ -168,6 +174,22 @@ eval·eval-at t = and 3 eval·eval-kinds.ps (is 3 eval·eval-kinds.ps μ-eval·e
 abbrev eval·eval-below : ℕ → In 3 eval·eval-kinds.ps
 eval·eval-below t =
     and 3 eval·eval-kinds.ps (falls 3 eval·eval-kinds.ps _<_ μ-eval·eval t) eval·eval.Pre
+
+abbrev eval·eval-body-at : ℕ → In 3 eval·eval-body-kinds.ps
+eval·eval-body-at t =
+    and
+    3
+    eval·eval-body-kinds.ps
+    (is 3 eval·eval-body-kinds.ps μ-eval·eval-body t)
+    eval·eval-body.Pre
+
+abbrev eval·eval-body-below : ℕ → In 3 eval·eval-body-kinds.ps
+eval·eval-body-below t =
+    and
+    3
+    eval·eval-body-kinds.ps
+    (falls 3 eval·eval-body-kinds.ps _<_ μ-eval·eval-body t)
+    eval·eval-body.Pre
 
 abbrev eval·eval-chain-at : ℕ → In 3 eval·eval-chain-kinds.ps
 eval·eval-chain-at t =
@@ -284,13 +306,16 @@ abbrev call·invoke-claims : ℕ → call·invoke-lts.Claims
 call·invoke-claims t = (stop-reads.Asked, stop-reads.Learnt, open-call-reads.Asked, open-call-reads.Learnt, call·run-left-below t, call·run-left.Post, call·run-right-below t, call·run-right.Post)
 
 abbrev call·run-left-claims : ℕ → call·run-left-lts.Claims
-call·run-left-claims t = (push-reads.Asked, push-reads.Learnt, enter-reads.Asked, enter-reads.Learnt, left-place-reads.Asked, left-place-reads.Learnt, body-limits-reads.Asked, body-limits-reads.Learnt, eval·eval-below t, eval·eval.Post, set-frame-reads.Asked, set-frame-reads.Learnt, went-of-reads.Asked, went-of-reads.Learnt, close-in-reads.Asked, close-in-reads.Learnt)
+call·run-left-claims t = (push-reads.Asked, push-reads.Learnt, enter-reads.Asked, enter-reads.Learnt, left-place-reads.Asked, left-place-reads.Learnt, body-limits-reads.Asked, body-limits-reads.Learnt, eval·eval-body-below t, eval·eval-body.Post, set-frame-reads.Asked, set-frame-reads.Learnt, went-of-reads.Asked, went-of-reads.Learnt, close-value-reads.Asked, close-value-reads.Learnt)
 
 abbrev call·run-right-claims : ℕ → call·run-right-lts.Claims
 call·run-right-claims t = (enter-reads.Asked, enter-reads.Learnt, right-place-reads.Asked, right-place-reads.Learnt, body-limits-reads.Asked, body-limits-reads.Learnt, eval·eval-below t, eval·eval.Post, set-frame-reads.Asked, set-frame-reads.Learnt, went-of-reads.Asked, went-of-reads.Learnt, bring-in-reads.Asked, bring-in-reads.Learnt)
 
 abbrev eval·eval-claims : ℕ → eval·eval-lts.Claims
 eval·eval-claims t = (stop-reads.Asked, stop-reads.Learnt, shape-at-reads.Asked, shape-at-reads.Learnt, leaf-reads.Asked, leaf-reads.Learnt, is-field-reads.Asked, is-field-reads.Learnt, eval·eval-chain-below t, eval·eval-chain.Post, eval·eval-field-below t, eval·eval-field.Post, call·eval-call-below t, call·eval-call.Post, is-preset-reads.Asked, is-preset-reads.Learnt, eval·eval-new-below t, eval·eval-new.Post)
+
+abbrev eval·eval-body-claims : ℕ → eval·eval-body-lts.Claims
+eval·eval-body-claims t = (stop-reads.Asked, stop-reads.Learnt, shape-at-reads.Asked, shape-at-reads.Learnt, leaf-reads.Asked, leaf-reads.Learnt, is-preset-reads.Asked, is-preset-reads.Learnt, eval·eval-below t, eval·eval.Post)
 
 abbrev eval·eval-chain-claims : ℕ → eval·eval-chain-lts.Claims
 eval·eval-chain-claims t = (fields-at-reads.Asked, fields-at-reads.Learnt, eval·eval-part-below t, eval·eval-part.Post, went-of-reads.Asked, went-of-reads.Learnt, select-at-reads.Asked, select-at-reads.Learnt)
@@ -385,29 +410,29 @@ call·invoke-returns-4 t c = search calls.invoke-goes-right
 call·run-left-push-requires : (t : ℕ) → call·run-left-lts.Need-push-requires (call·run-left-claims t) (call·run-left-at t) call·run-left.Post
 call·run-left-push-requires t c κs = (search sides.body-full, sides.body-top _ _ _ _ _ _ (c .before .before .before .before .before .before .pre .1))
 
-call·run-left-eval-requires : (t : ℕ) → call·run-left-lts.Need-eval-requires (call·run-left-claims t) (call·run-left-at t) call·run-left.Post
-call·run-left-eval-requires t c κs = (search limits.body-falls, sides.left-run [] _ _ _ _ _ _ _ 0 (c .before .before .before .before .before .before .before .before .before .before .before .before .before .pre .1) _ (c .before .before .before .before .before .before .push .ensures) _ (c .before .before .before .before .enter .ensures) _ (c .body-limits .ensures))
+call·run-left-eval-body-requires : (t : ℕ) → call·run-left-lts.Need-eval-body-requires (call·run-left-claims t) (call·run-left-at t) call·run-left.Post
+call·run-left-eval-body-requires t c κs = (search limits.left-falls, sides.left-run [] _ _ _ _ _ _ _ 0 (c .before .before .before .before .before .before .before .before .before .before .before .before .before .pre .1) _ (c .before .before .before .before .before .before .push .ensures) _ (c .before .before .before .before .enter .ensures) _ (c .body-limits .ensures))
 
 call·run-left-returns : (t : ℕ) → call·run-left-lts.Need-returns (call·run-left-claims t) (call·run-left-at t) call·run-left.Post
-call·run-left-returns t c = sides.left-stops _ _ _ _ _ _ _ _ _ (c .before .before .before .before .before .before .before .before .before .before .before .before .before .before .before .before .before .before .before .before .before .pre .1) _ (c .before .before .before .before .before .before .before .before .before .before .before .before .before .before .push .ensures) _ (c .before .before .before .before .before .before .before .before .before .before .before .before .enter .ensures) _ (c .before .before .before .before .before .before .before .before .before .before .before .left-place .ensures) _ (c .before .before .before .before .before .before .before .before .body-limits .ensures) _ _ _ (c .before .before .before .before .before .before .before .eval .ensures) _ (c .before .before .before .set-frame .ensures) (steps.went-stopped _ _ (c .before .before .went-of .ensures) (c .enum-told .given .1))
+call·run-left-returns t c = sides.left-stops _ _ _ _ _ _ _ _ _ (c .before .before .before .before .before .before .before .before .before .before .before .before .before .before .before .before .before .before .before .before .before .pre .1) _ (c .before .before .before .before .before .before .before .before .before .before .before .before .before .before .push .ensures) _ (c .before .before .before .before .before .before .before .before .before .before .before .before .enter .ensures) _ (c .before .before .before .before .before .before .before .before .before .before .before .left-place .ensures) _ (c .before .before .before .before .before .before .before .before .body-limits .ensures) _ _ _ (c .before .before .before .before .before .before .before .eval-body .ensures) _ (c .before .before .before .set-frame .ensures) (steps.went-stopped _ _ (c .before .before .went-of .ensures) (c .enum-told .given .1))
 
-call·run-left-cast-close-in : (t : ℕ) → call·run-left-lts.Need-cast-close-in (call·run-left-claims t) (call·run-left-at t) call·run-left.Post
-call·run-left-cast-close-in t c = search (needs, sides.body-top _ _ _ _ _ _ (c .before .before .before .before .before .before .before .before .before .before .before .before .before .before .before .before .before .before .before .before .before .before .before .pre .1))
+call·run-left-cast-close-value : (t : ℕ) → call·run-left-lts.Need-cast-close-value (call·run-left-claims t) (call·run-left-at t) call·run-left.Post
+call·run-left-cast-close-value t c = search (needs, sides.body-top _ _ _ _ _ _ (c .before .before .before .before .before .before .before .before .before .before .before .before .before .before .before .before .before .before .before .before .before .before .before .pre .1))
 
-call·run-left-add-close-in : (t : ℕ) → call·run-left-lts.Need-add-close-in (call·run-left-claims t) (call·run-left-at t) call·run-left.Post
-call·run-left-add-close-in t c = search (needs, sides.body-short _ _ _ _ _ _ (c .before .before .before .before .before .before .before .before .before .before .before .before .before .before .before .before .before .before .before .before .before .before .before .pre .1))
+call·run-left-add-close-value : (t : ℕ) → call·run-left-lts.Need-add-close-value (call·run-left-claims t) (call·run-left-at t) call·run-left.Post
+call·run-left-add-close-value t c = search (needs, sides.body-short _ _ _ _ _ _ (c .before .before .before .before .before .before .before .before .before .before .before .before .before .before .before .before .before .before .before .before .before .before .before .pre .1))
 
-call·run-left-mul-close-in : (t : ℕ) → call·run-left-lts.Need-mul-close-in (call·run-left-claims t) (call·run-left-at t) call·run-left.Post
-call·run-left-mul-close-in t c = search (needs, sides.body-short _ _ _ _ _ _ (c .before .before .before .before .before .before .before .before .before .before .before .before .before .before .before .before .before .before .before .before .before .before .before .pre .1))
+call·run-left-mul-close-value : (t : ℕ) → call·run-left-lts.Need-mul-close-value (call·run-left-claims t) (call·run-left-at t) call·run-left.Post
+call·run-left-mul-close-value t c = search (needs, sides.body-short _ _ _ _ _ _ (c .before .before .before .before .before .before .before .before .before .before .before .before .before .before .before .before .before .before .before .before .before .before .before .pre .1))
 
-call·run-left-element-copy-out-close-in : (t : ℕ) → call·run-left-lts.Need-element-copy-out-close-in (call·run-left-claims t) (call·run-left-at t) call·run-left.Post
-call·run-left-element-copy-out-close-in t c = search (needs, sides.body-short _ _ _ _ _ _ (c .before .before .before .before .before .before .before .before .before .before .before .before .before .before .before .before .before .before .before .before .before .before .before .pre .1))
+call·run-left-element-copy-out-close-value : (t : ℕ) → call·run-left-lts.Need-element-copy-out-close-value (call·run-left-claims t) (call·run-left-at t) call·run-left.Post
+call·run-left-element-copy-out-close-value t c = search (needs, sides.body-short _ _ _ _ _ _ (c .before .before .before .before .before .before .before .before .before .before .before .before .before .before .before .before .before .before .before .before .before .before .before .pre .1))
 
-call·run-left-cast-close-in-2 : (t : ℕ) → call·run-left-lts.Need-cast-close-in-2 (call·run-left-claims t) (call·run-left-at t) call·run-left.Post
-call·run-left-cast-close-in-2 t c = search (needs, sides.body-small _ _ _ _ _ _ (c .before .before .before .before .before .before .before .before .before .before .before .before .before .before .before .before .before .before .before .before .before .before .before .before .pre .1))
+call·run-left-cast-close-value-2 : (t : ℕ) → call·run-left-lts.Need-cast-close-value-2 (call·run-left-claims t) (call·run-left-at t) call·run-left.Post
+call·run-left-cast-close-value-2 t c = search (needs, sides.body-small _ _ _ _ _ _ (c .before .before .before .before .before .before .before .before .before .before .before .before .before .before .before .before .before .before .before .before .before .before .before .before .pre .1))
 
-call·run-left-close-in-requires : (t : ℕ) → call·run-left-lts.Need-close-in-requires (call·run-left-claims t) (call·run-left-at t) call·run-left.Post
-call·run-left-close-in-requires t c κs = let w = c .before .before .before in let f = w .before .before .before in let p = f .before .before .before .before .before .before .before .before in let s = p .before .before .before .before .before .before .before .before .before .before in sides.left-ready _ _ _ _ _ _ _ _ _ (s .pre .1) _ (p .before .before .before .push .ensures) _ (p .before .enter .ensures) _ (p .left-place .ensures) _ (f .before .before .before .before .before .body-limits .ensures) _ _ _ (f .before .before .before .before .eval .ensures) _ (f .set-frame .ensures) (steps.went-not _ _ (w .before .before .went-of .ensures) _ (w .w .given .1))
+call·run-left-close-value-requires : (t : ℕ) → call·run-left-lts.Need-close-value-requires (call·run-left-claims t) (call·run-left-at t) call·run-left.Post
+call·run-left-close-value-requires t c κs = let w = c .before .before .before in let f = w .before .before .before in let p = f .before .before .before .before .before .before .before .before in let s = p .before .before .before .before .before .before .before .before .before .before in sides.left-ready _ _ _ _ _ _ _ _ _ (s .pre .1) _ (p .before .before .before .push .ensures) _ (p .before .enter .ensures) _ (p .left-place .ensures) _ (f .before .before .before .before .before .body-limits .ensures) _ _ _ (f .before .before .before .before .eval-body .ensures) _ (f .set-frame .ensures) (steps.went-not _ _ (w .before .before .went-of .ensures) _ (w .w .given .1))
 
 call·run-left-mul-st : (t : ℕ) → call·run-left-lts.Need-mul-st (call·run-left-claims t) (call·run-left-at t) call·run-left.Post
 call·run-left-mul-st t c = search (needs, sides.body-index _ _ _ _ _ _ (c .before .before .before .before .before .before .before .before .before .before .before .before .before .before .before .before .before .before .before .before .before .before .before .before .before .before .before .pre .1))
@@ -416,7 +441,7 @@ call·run-left-element-write-st-2 : (t : ℕ) → call·run-left-lts.Need-elemen
 call·run-left-element-write-st-2 t c = sides.body-index _ _ _ _ _ _ (c .before .before .before .before .before .before .before .before .before .before .before .before .before .before .before .before .before .before .before .before .before .before .before .before .before .before .before .pre .1)
 
 call·run-left-returns-2 : (t : ℕ) → call·run-left-lts.Need-returns-2 (call·run-left-claims t) (call·run-left-at t) call·run-left.Post
-call·run-left-returns-2 t c = let w = c .before .before .before .before .before .before in let f = w .before .before .before in let p = f .before .before .before .before .before .before .before .before in let s = p .before .before .before .before .before .before .before .before .before .before in sides.left-gives _ _ _ _ _ _ _ _ _ (s .pre .1) _ (p .before .before .before .push .ensures) _ (p .before .enter .ensures) _ (p .left-place .ensures) _ (f .before .before .before .before .before .body-limits .ensures) _ _ _ (f .before .before .before .before .eval .ensures) _ (f .set-frame .ensures) (steps.went-not _ _ (w .before .before .went-of .ensures) _ (w .w .given .1)) _ _ (c .before .before .close-in .ensures)
+call·run-left-returns-2 t c = let w = c .before .before .before .before .before .before in let f = w .before .before .before in let p = f .before .before .before .before .before .before .before .before in let s = p .before .before .before .before .before .before .before .before .before .before in sides.left-gives _ _ _ _ _ _ _ _ _ (s .pre .1) _ (p .before .before .before .push .ensures) _ (p .before .enter .ensures) _ (p .left-place .ensures) _ (f .before .before .before .before .before .body-limits .ensures) _ _ _ (f .before .before .before .before .eval-body .ensures) _ (f .set-frame .ensures) (steps.went-not _ _ (w .before .before .went-of .ensures) _ (w .w .given .1)) _ _ (c .before .before .close-value .ensures)
 
 call·run-right-eval-requires : (t : ℕ) → call·run-right-lts.Need-eval-requires (call·run-right-claims t) (call·run-right-at t) call·run-right.Post
 call·run-right-eval-requires t c κs = (search limits.body-falls, sides.right-run [] _ _ _ _ _ _ 0 _ (c .before .before .before .before .before .before .before .before .before .before .pre .1 .0) (c .before .before .before .before .before .before .before .before .before .before .pre .1 .1) (c .before .before .before .before .before .before .before .before .before .before .pre .1 .2) _ (c .before .before .before .before .enter .ensures) _ (c .body-limits .ensures))
@@ -498,6 +523,45 @@ eval·eval-returns-9 t c = search steps.step-new
 
 eval·eval-returns-10 : (t : ℕ) → eval·eval-lts.Need-returns-10 (eval·eval-claims t) (eval·eval-at t) eval·eval.Post
 eval·eval-returns-10 t c = search steps.step-nothing
+
+eval·eval-body-stop-requires : (t : ℕ) → eval·eval-body-lts.Need-stop-requires (eval·eval-body-claims t) (eval·eval-body-at t) eval·eval-body.Post
+eval·eval-body-stop-requires t c κs = search steps.run-full
+
+eval·eval-body-returns : (t : ℕ) → eval·eval-body-lts.Need-returns (eval·eval-body-claims t) (eval·eval-body-at t) eval·eval-body.Post
+eval·eval-body-returns t c = search steps.step-zero
+
+eval·eval-body-leaf-requires : (t : ℕ) → eval·eval-body-lts.Need-leaf-requires (eval·eval-body-claims t) (eval·eval-body-at t) eval·eval-body.Post
+eval·eval-body-leaf-requires t c κs = (search steps.run-full, search steps.run-short, search steps.run-framed)
+
+eval·eval-body-leaf-requires-2 : (t : ℕ) → eval·eval-body-lts.Need-leaf-requires-2 (eval·eval-body-claims t) (eval·eval-body-at t) eval·eval-body.Post
+eval·eval-body-leaf-requires-2 t c κs = (search steps.run-full, search steps.run-short, search steps.run-framed)
+
+eval·eval-body-leaf-requires-3 : (t : ℕ) → eval·eval-body-lts.Need-leaf-requires-3 (eval·eval-body-claims t) (eval·eval-body-at t) eval·eval-body.Post
+eval·eval-body-leaf-requires-3 t c κs = (search steps.run-full, search steps.run-short, search steps.run-framed)
+
+eval·eval-body-mul-st : (t : ℕ) → eval·eval-body-lts.Need-mul-st (eval·eval-body-claims t) (eval·eval-body-at t) eval·eval-body.Post
+eval·eval-body-mul-st t c = search (needs, steps.run-short _ _ _ _ (c .before .before .before .before .before .before .before .before .pre .1) (c .before .before .before .before .before .before .if1 .left))
+
+eval·eval-body-element-write-st : (t : ℕ) → eval·eval-body-lts.Need-element-write-st (eval·eval-body-claims t) (eval·eval-body-at t) eval·eval-body.Post
+eval·eval-body-element-write-st t c = search (needs, steps.run-short _ _ _ _ (c .before .before .before .before .before .before .before .before .pre .1) (c .before .before .before .before .before .before .if1 .left))
+
+eval·eval-body-returns-2 : (t : ℕ) → eval·eval-body-lts.Need-returns-2 (eval·eval-body-claims t) (eval·eval-body-at t) eval·eval-body.Post
+eval·eval-body-returns-2 t c = search steps.step-preset
+
+eval·eval-body-eval-requires : (t : ℕ) → eval·eval-body-lts.Need-eval-requires (eval·eval-body-claims t) (eval·eval-body-at t) eval·eval-body.Post
+eval·eval-body-eval-requires t c κs = (search needs, search needs)
+
+eval·eval-body-eval-requires-2 : (t : ℕ) → eval·eval-body-lts.Need-eval-requires-2 (eval·eval-body-claims t) (eval·eval-body-at t) eval·eval-body.Post
+eval·eval-body-eval-requires-2 t c κs = (search needs, search needs)
+
+eval·eval-body-returns-3 : (t : ℕ) → eval·eval-body-lts.Need-returns-3 (eval·eval-body-claims t) (eval·eval-body-at t) eval·eval-body.Post
+eval·eval-body-returns-3 t c = search steps.step-this
+
+eval·eval-body-returns-4 : (t : ℕ) → eval·eval-body-lts.Need-returns-4 (eval·eval-body-claims t) (eval·eval-body-at t) eval·eval-body.Post
+eval·eval-body-returns-4 t c = search steps.step-result
+
+eval·eval-body-returns-5 : (t : ℕ) → eval·eval-body-lts.Need-returns-5 (eval·eval-body-claims t) (eval·eval-body-at t) eval·eval-body.Post
+eval·eval-body-returns-5 t c = search steps.step-parameter
 
 abbrev eval·eval-chain-Inv-loop : eval·eval-chain-lts.InvT-loop
 eval·eval-chain-Inv-loop T W1 S1 at lim sp k d r1 at1 j₀ S2 j = chains.Down T W1 S1 at lim sp d at1 S2 j
@@ -733,9 +797,9 @@ eval·eval-receiver-returns-4 t c = search steps.step-parameter
 eval·eval-receiver-returns-5 : (t : ℕ) → eval·eval-receiver-lts.Need-returns-5 (eval·eval-receiver-claims t) (eval·eval-receiver-at t) eval·eval-receiver.Post
 eval·eval-receiver-returns-5 t c = search steps.step-field
 
-pub +call·eval-call+call·invoke+call·run-left+call·run-right+eval·eval+eval·eval-chain+eval·eval-field+eval·eval-item+eval·eval-list+eval·eval-new+eval·eval-part+eval·eval-receiver-spec : {M : Type 1} → statement M
-+call·eval-call+call·invoke+call·run-left+call·run-right+eval·eval+eval·eval-chain+eval·eval-field+eval·eval-item+eval·eval-list+eval·eval-new+eval·eval-part+eval·eval-receiver-spec =
-    close μ-call·eval-call μ-call·invoke μ-call·run-left μ-call·run-right μ-eval·eval μ-eval·eval-chain μ-eval·eval-field μ-eval·eval-item μ-eval·eval-list μ-eval·eval-new μ-eval·eval-part μ-eval·eval-receiver
+pub +call·eval-call+call·invoke+call·run-left+call·run-right+eval·eval+eval·eval-body+eval·eval-chain+eval·eval-field+eval·eval-item+eval·eval-list+eval·eval-new+eval·eval-part+eval·eval-receiver-spec : {M : Type 1} → statement M
++call·eval-call+call·invoke+call·run-left+call·run-right+eval·eval+eval·eval-body+eval·eval-chain+eval·eval-field+eval·eval-item+eval·eval-list+eval·eval-new+eval·eval-part+eval·eval-receiver-spec =
+    close μ-call·eval-call μ-call·invoke μ-call·run-left μ-call·run-right μ-eval·eval μ-eval·eval-body μ-eval·eval-chain μ-eval·eval-field μ-eval·eval-item μ-eval·eval-list μ-eval·eval-new μ-eval·eval-part μ-eval·eval-receiver
     (λ t. call·eval-call-lts.spec (call·eval-call-claims t) (call·eval-call-at t) call·eval-call.Post
     (call·eval-call-stop-requires t)
     (call·eval-call-returns t)
@@ -795,7 +859,7 @@ pub +call·eval-call+call·invoke+call·run-left+call·run-right+eval·eval+eval
     (λ c κs. search needs)
     (λ c κs. search sides.body-limit)
     (λ c. search needs)
-    (call·run-left-eval-requires t)
+    (call·run-left-eval-body-requires t)
     (λ c κs. search needs)
     (λ c. search needs)
     (λ c κs. search needs)
@@ -803,12 +867,12 @@ pub +call·eval-call+call·invoke+call·run-left+call·run-right+eval·eval+eval
     (λ c. search needs)
     (λ c. search needs)
     (call·run-left-returns t)
-    (call·run-left-cast-close-in t)
-    (call·run-left-add-close-in t)
-    (call·run-left-mul-close-in t)
-    (call·run-left-element-copy-out-close-in t)
-    (call·run-left-cast-close-in-2 t)
-    (call·run-left-close-in-requires t)
+    (call·run-left-cast-close-value t)
+    (call·run-left-add-close-value t)
+    (call·run-left-mul-close-value t)
+    (call·run-left-element-copy-out-close-value t)
+    (call·run-left-cast-close-value-2 t)
+    (call·run-left-close-value-requires t)
     (call·run-left-mul-st t)
     (call·run-left-element-write-st-2 t)
     (λ c. search needs)
@@ -879,6 +943,31 @@ pub +call·eval-call+call·invoke+call·run-left+call·run-right+eval·eval+eval
     (λ c. search needs)
     (eval·eval-returns-9 t)
     (eval·eval-returns-10 t))
+    (λ t. eval·eval-body-lts.spec (eval·eval-body-claims t) (eval·eval-body-at t) eval·eval-body.Post
+    (eval·eval-body-stop-requires t)
+    (eval·eval-body-returns t)
+    (λ c κs. search needs)
+    (λ c. search needs)
+    (eval·eval-body-leaf-requires t)
+    (λ c. search needs)
+    (eval·eval-body-leaf-requires-2 t)
+    (λ c. search needs)
+    (eval·eval-body-leaf-requires-3 t)
+    (λ c. search needs)
+    (λ c κs. search needs)
+    (λ c. search needs)
+    (eval·eval-body-mul-st t)
+    (eval·eval-body-element-write-st t)
+    (eval·eval-body-returns-2 t)
+    (eval·eval-body-eval-requires t)
+    (eval·eval-body-eval-requires-2 t)
+    (eval·eval-body-returns-3 t)
+    (eval·eval-body-returns-4 t)
+    (eval·eval-body-returns-5 t)
+    (λ c. search needs)
+    (λ c. search needs)
+    (λ c. search needs)
+    (λ c. search needs))
     (λ t. eval·eval-chain-lts.spec (eval·eval-chain-claims t) (eval·eval-chain-at t) eval·eval-chain.Post eval·eval-chain-Inv-loop eval·eval-chain-μ-loop
     (λ c κs. search needs)
     (eval·eval-chain-mul-eval-part t)

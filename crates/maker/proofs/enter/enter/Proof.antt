@@ -1,0 +1,31 @@
+use borrow.Author.Needs.{needs}
+use Rattle.maker.proofs.enter.enter.Statement.{statement}
+use Rattle.maker.proofs.enter.enter.Tie as tie
+use Rattle.maker.proofs.enter.enter.Reads as reads
+use Rattle.maker.proofs.enter.enter.Lts as lts
+use Rattle.maker.proofs.enter.enter_new.Reads as enter-new-reads
+use Rattle.maker.proofs.over.find.Reads as find-reads
+use Rattle.maker.proofs.Merges as laws
+
+find-requires : tie.Need-find-requires
+find-requires c κs = (search needs, search laws.enter-count, search needs)
+
+returns : tie.Need-returns
+returns c = search laws.enter-found
+
+enter-new-requires : tie.Need-enter-new-requires
+enter-new-requires c κs = (search needs, search needs, search laws.enter-missed)
+
+pub enter-spec : {M : Type 1} → statement M
+enter-spec =
+    tie.close
+    (tie.spec
+    (λ c. search needs)
+    (λ c. search needs)
+    (λ c. search needs)
+    find-requires
+    (λ c. search needs)
+    returns
+    enter-new-requires
+    (λ c. search needs)
+    (λ c. search needs))

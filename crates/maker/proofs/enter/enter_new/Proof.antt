@@ -1,0 +1,30 @@
+use borrow.Author.Needs.{needs}
+use Rattle.maker.proofs.enter.enter_new.Statement.{statement}
+use Rattle.maker.proofs.enter.enter_new.Tie as tie
+use Rattle.maker.proofs.enter.enter_new.Reads as reads
+use Rattle.maker.proofs.enter.enter_new.Lts as lts
+use Rattle.maker.proofs.over.append.Reads as append-reads
+use Rattle.maker.proofs.over.level_with.Reads as level-with-reads
+use Rattle.maker.proofs.Merges as laws
+
+returns : tie.Need-returns
+returns c = search laws.enter-full
+
+returns-2 : tie.Need-returns-2
+returns-2 c = search laws.enter-new
+
+pub enter-new-spec : {M : Type 1} → statement M
+enter-new-spec =
+    tie.close
+    (tie.spec
+    (λ c. search needs)
+    (λ c. search needs)
+    (λ c. search needs)
+    returns
+    (λ c. search needs)
+    (λ c. search needs)
+    (λ c. search needs)
+    (λ c κs. search needs)
+    (λ c κs. search needs)
+    (λ c. search needs)
+    returns-2)

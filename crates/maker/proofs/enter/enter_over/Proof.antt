@@ -1,0 +1,27 @@
+use borrow.Author.Needs.{needs}
+use Rattle.maker.proofs.enter.enter_over.Statement.{statement}
+use Rattle.maker.proofs.enter.enter_over.Tie as tie
+use Rattle.maker.proofs.enter.enter_over.Reads as reads
+use Rattle.maker.proofs.enter.enter_over.Lts as lts
+use Rattle.maker.proofs.enter.enter.Reads as enter-reads
+use Rattle.maker.proofs.enter.enter_new.Reads as enter-new-reads
+use Rattle.maker.proofs.enter.refers_from.Reads as refers-from-reads
+use Rattle.maker.proofs.Merges as laws
+
+enter-new-requires : tie.Need-enter-new-requires
+enter-new-requires c κs = (search needs, search needs, search laws.fresh-missed)
+
+pub enter-over-spec : {M : Type 1} → statement M
+enter-over-spec =
+    tie.close
+    (tie.spec
+    (λ c. search needs)
+    (λ c. search needs)
+    (λ c. search needs)
+    (λ c κs. search needs)
+    enter-new-requires
+    (λ c. search needs)
+    (λ c. search needs)
+    (λ c κs. search needs)
+    (λ c. search needs)
+    (λ c. search needs))

@@ -1,0 +1,14 @@
+use Rattle.maker.proofs.enter.lies_from.Statement.{statement}
+use Rattle.maker.proofs.enter.lies_from.Tie as tie
+use Rattle.maker.proofs.enter.lies_from.Reads as reads
+use Rattle.maker.proofs.enter.lies_from.Lts as lts
+use Rattle.maker.proofs.Merges as laws
+
+returns : tie.Need-returns
+returns c = search laws.lies-not
+
+returns-2 : tie.Need-returns-2
+returns-2 c = search laws.lies-tested
+
+pub lies-from-spec : {M : Type 1} → statement M
+lies-from-spec = tie.close (tie.spec returns returns-2)

@@ -1,0 +1,36 @@
+use borrow.Author.Needs.{needs}
+use Rattle.maker.proofs.enter.refers_from.Statement.{statement}
+use Rattle.maker.proofs.enter.refers_from.Tie as tie
+use Rattle.maker.proofs.enter.refers_from.Reads as reads
+use Rattle.maker.proofs.enter.refers_from.Lts as lts
+use Rattle.maker.proofs.enter.lies_from.Reads as lies-from-reads
+use Rattle.maker.proofs.Merges as laws
+
+returns : tie.Need-returns
+returns c = search laws.refers-first
+
+returns-2 : tie.Need-returns-2
+returns-2 c = search laws.refers-second
+
+returns-3 : tie.Need-returns-3
+returns-3 c = search laws.refers-third
+
+returns-4 : tie.Need-returns-4
+returns-4 c = search laws.refers-last
+
+pub refers-from-spec : {M : Type 1} → statement M
+refers-from-spec =
+    tie.close
+    (tie.spec
+    (λ c. search needs)
+    (λ c κs. search needs)
+    returns
+    (λ c. search needs)
+    (λ c κs. search needs)
+    returns-2
+    (λ c. search needs)
+    (λ c κs. search needs)
+    returns-3
+    (λ c. search needs)
+    (λ c κs. search needs)
+    returns-4)

@@ -1,0 +1,45 @@
+use borrow.Author.Needs.{needs}
+use Rattle.maker.proofs.over.root_codes.Statement.{statement}
+use Rattle.maker.proofs.over.root_codes.Tie as tie
+use Rattle.maker.proofs.over.root_codes.Reads as reads
+use Rattle.maker.proofs.over.root_codes.Lts as lts
+use Rattle.maker.proofs.over.code_of.Reads as code-of-reads
+use Rattle.maker.proofs.lay.part_at.Reads as part-at-reads
+use Prim.Native.Nat.{_≤_}
+use Rattle.maker.specs.Laying.{partsOf}
+use Rattle.maker.proofs.Beside as laws
+
+abbrev Inv-loop : tie.InvT-loop
+Inv-loop work parts n w₀ i₀ w i = (i ≤ n) × laws.RootBegun work (partsOf parts) n i w
+
+abbrev μ-loop : tie.MeasureT-loop
+μ-loop work parts n w₀ i₀ w i = i
+
+loop-holds : tie.Need-loop-holds Inv-loop μ-loop
+loop-holds c = (search needs, laws.root-none _ _ _)
+
+code-of-requires : tie.Need-code-of-requires Inv-loop μ-loop
+code-of-requires c κs = search laws.root-held
+
+loop-again : tie.Need-loop-again Inv-loop μ-loop
+loop-again c = (search needs, search laws.root-more)
+
+returns : tie.Need-returns Inv-loop μ-loop
+returns c = search laws.root-done
+
+pub root-codes-spec : {M : Type 1} → statement M
+root-codes-spec =
+    tie.close
+    (tie.spec
+    Inv-loop
+    μ-loop
+    loop-holds
+    (λ c. search needs)
+    (λ c κs. search needs)
+    code-of-requires
+    (λ c. search needs)
+    (λ c. search needs)
+    (λ c. search needs)
+    (λ c. search needs)
+    loop-again
+    returns)
