@@ -53,20 +53,6 @@ pub fn gather(nodes: &[u8], order: &[u8], m: u8, table: &[u8], dst: &mut [u8], t
     }
 }
 
-// A level for a byte more.
-pub fn raise_level(l: u8, c: u8) -> u8
-    ensures { λ m. ⌜ (l ≤ m) × (c < 193 + m) ⌝ }
-{
-    if c <= 192 {
-        return l;
-    }
-    let k = c - 192;
-    if k <= l {
-        return l;
-    }
-    k
-}
-
 // A level for the p bytes from a place on.
 pub fn level_of(work: &[u8], at: usize, p: usize) -> u8
     requires { ⌜ at + p ≤ length (now work) ⌝ }

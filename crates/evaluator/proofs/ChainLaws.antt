@@ -21,7 +21,7 @@ use Rattle.evaluator.specs.Limits.{nestOf, depthOf, blockOf}
 use Rattle.evaluator.specs.Stack.{topOf, frameAt}
 use Rattle.evaluator.specs.Evaluation.{Fits}
 use Rattle.evaluator.specs.Steps.{Based, Runnable, PartRunnable, EvalStep, FieldStep}
-use Rattle.evaluator.proofs.LimitLaws.{of-equal}
+use Rattle.evaluator.proofs.LimitLaws.{of-equal, less-nest, less-depth, less-block}
 use Rattle.evaluator.proofs.StepLaws as steps
 
 -- ---- whether a field is selected at a place
@@ -45,7 +45,7 @@ module _ (T : List ℕ) (at : ℕ) where
   pub field-low : isField T at ≡ true → at < 25614
   field-low e = ltb-true at 25614 (field-tests e .0)
 
-  pub field-near : (b : Bool) → b ≡ isField T at → b ≡ true → at < 32768
+  pub field-near : (b : Bool) → b ≡ isField T at → b ≡ true → at < tableSize
   field-near b eb e = let l = field-low (sym eb ∙ e) in omega arith
 
   pub field-shape : isField T at ≡ true → shapeAt T at ≡ shape.Field (getD T (at + 1) 0) (at + 2)
@@ -89,28 +89,16 @@ selects-field T W S at lim sp W1 S1 at1 ev run nz k S2 r se = go (ℕ-discrete (
         subst (λ (X : List ℕ). FieldStep T W S at lim sp k W1 X r) (sym (h .1))
         (subst (FieldStep T W S at lim sp k W1 (set S1 sp (se .number))) (sym (h .0)) (steps.field-has T W S at lim sp W1 S1 at1 ev run k (se .number) nz (se .chosen) z))
 
--- ---- j levels in
+-- ---- what is asked, j levels in
 module _ (lim j : ℕ) (l : j ≤ lim % 8) where
-  less-nest : nestOf (lim - j) + j ≡ nestOf lim
-  less-nest = omega arith
-
-  less-depth : depthOf (lim - j) ≡ depthOf lim
-  less-depth = omega arith
-
-  less-block : blockOf (lim - j) ≡ blockOf lim
-  less-block = omega arith
-
-  pub chain-falls : (t : ℕ) → lim / 8 % 32 * 6000 + lim % 8 * 600 + 500 ≡ t → (lim - j) / 8 % 32 * 6000 + (lim - j) % 8 * 600 + 1 < t
-  chain-falls t e = omega (arith, less-nest, less-depth)
-
   module _ (W S : List ℕ) (sp : ℕ) (run : PartRunnable W S lim sp) where
     less-part : PartRunnable W S (lim - j) sp
     less-part = record {
-      based = subst (Based W) (sym less-block) (run .based);
+      based = subst (Based W) (sym (less-block lim j l)) (run .based);
       placed = run .placed;
-      fits = of-equal (λ n d b. Fits W (frameAt S) S (topOf S) n d b) {a = nestOf (lim - j) + 1} refl (sym less-depth) (sym less-block)
-          (let f = run .fits in let r = f .room in record { frame = f .frame; trace = f .trace; calls = f .calls; room = omega (arith, less-nest); long = f .long });
-      room = let r = run .room in omega (arith, less-nest, less-depth);
+      fits = of-equal (λ n d b. Fits W (frameAt S) S (topOf S) n d b) {a = nestOf (lim - j) + 1} refl (sym (less-depth lim j l)) (sym (less-block lim j l))
+          (let f = run .fits in let r = f .room in record { frame = f .frame; trace = f .trace; calls = f .calls; room = omega (arith, less-nest lim j l); long = f .long });
+      room = let r = run .room in omega (arith, less-nest lim j l, less-depth lim j l);
     }
 
     pub less-run : Runnable W S (lim - j) sp

@@ -18,19 +18,32 @@ use Rattle.evaluator.specs.Limits.{nestOf, depthOf, blockOf, bodyLimits,
 pub of-equal : (P : ℕ → ℕ → ℕ → Type 0) {a b c x y z : ℕ} → a ≡ x → b ≡ y → c ≡ z → P a b c → P x y z
 of-equal P {a} {b} {c} {x} {y} {z} ea eb ec p = subst (λ (k : ℕ). P x y k) ec (subst (λ (k : ℕ). P x k c) eb (subst (λ (k : ℕ). P k b c) ea p))
 
--- ---- one level in
+-- ---- j levels in, and one
+module _ (lim j : ℕ) (l : j ≤ lim % 8) where
+  pub less-nest : nestOf (lim - j) + j ≡ nestOf lim
+  less-nest = omega arith
+
+  pub less-depth : depthOf (lim - j) ≡ depthOf lim
+  less-depth = omega arith
+
+  pub less-block : blockOf (lim - j) ≡ blockOf lim
+  less-block = omega arith
+
 module _ (lim : ℕ) (nz : lim % 8 ≡ 0 → ⊥) where
+  some : 1 ≤ lim % 8
+  some = omega (arith, nz)
+
   pub inner-nest : nestOf (lim - 1) + 1 ≡ nestOf lim
-  inner-nest = omega (arith, nz)
+  inner-nest = less-nest lim 1 some
 
   pub inner-less : nestOf (lim - 1) ≡ nestOf lim - 1
-  inner-less = omega (arith, nz)
+  inner-less = omega (arith, inner-nest)
 
   pub inner-depth : depthOf (lim - 1) ≡ depthOf lim
-  inner-depth = omega (arith, nz)
+  inner-depth = less-depth lim 1 some
 
   pub inner-block : blockOf (lim - 1) ≡ blockOf lim
-  inner-block = omega (arith, nz)
+  inner-block = less-block lim 1 some
 
 -- ---- one block on
 module _ (lim : ℕ) where
@@ -109,13 +122,15 @@ module _ (lim t : ℕ) where
   pub next-falls : lim / 8 % 32 * 6000 + lim % 8 * 600 + 500 ≡ t → (lim + 256) / 8 % 32 * 6000 + (lim + 256) % 8 * 600 + 2 < t
   next-falls e = omega (arith, next-nest lim, next-depth lim)
 
-  pub body-falls : (lim / 8 % 32 ≡ 0 → ⊥) → lim / 8 % 32 * 6000 ≡ t → (l : ℕ) → l ≡ bodyLimits lim → l / 8 % 32 * 6000 + l % 8 * 600 < t
-  body-falls nd e l el =
-      subst (λ (k : ℕ). k / 8 % 32 * 6000 + k % 8 * 600 < t) (sym el) (let a = body-nest lim nd in let b = body-depth lim nd in omega (arith, nd))
-
   pub left-falls : (lim / 8 % 32 ≡ 0 → ⊥) → lim / 8 % 32 * 6000 ≡ t → (l : ℕ) → l ≡ bodyLimits lim → l / 8 % 32 * 6000 + l % 8 * 600 + 1 < t
   left-falls nd e l el =
       subst (λ (k : ℕ). k / 8 % 32 * 6000 + k % 8 * 600 + 1 < t) (sym el) (let a = body-nest lim nd in let b = body-depth lim nd in omega (arith, nd))
+
+  pub body-falls : (lim / 8 % 32 ≡ 0 → ⊥) → lim / 8 % 32 * 6000 ≡ t → (l : ℕ) → l ≡ bodyLimits lim → l / 8 % 32 * 6000 + l % 8 * 600 < t
+  body-falls nd e l el = let h = left-falls nd e l el in omega arith
+
+  pub chain-falls : (j : ℕ) → j ≤ lim % 8 → lim / 8 % 32 * 6000 + lim % 8 * 600 + 500 ≡ t → (lim - j) / 8 % 32 * 6000 + (lim - j) % 8 * 600 + 1 < t
+  chain-falls j l e = omega (arith, less-nest lim j l, less-depth lim j l)
 
   pub same-falls : (l : ℕ) → nestOf l ≡ nestOf lim → depthOf l ≡ depthOf lim → lim / 8 % 32 * 6000 + lim % 8 * 600 + 2 ≡ t → l / 8 % 32 * 6000 + l % 8 * 600 + 1 < t
   same-falls l a b e = omega arith

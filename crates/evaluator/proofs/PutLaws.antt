@@ -58,6 +58,5 @@ module _ (S : List ℕ) (k m n b : ℕ) (full : length S ≡ 336) (few : k < 16)
         base = ap (λ (p : ℕ). getD (set three 279 (k + 1)) p 0) (let z : 313 + k ≡ 281 + k + 32 = omega arith in z)
             ∙ getD-set-other three 279 (281 + k + 32) (k + 1) 0 (λ z. omega arith) ∙ getD-set-same two (281 + k + 32) b 0 (omega arith);
         below = λ p h. call-others p (λ z. omega arith) (λ z. omega arith) (λ z. omega arith) (λ z. omega arith);
-        above = λ p l h. call-others p (λ z. omega arith) (λ z. omega arith) (λ z. omega arith) (λ z. omega arith);
         calls = λ i j h l. call-others (281 + 16 * j + i) (λ z. omega arith) (λ z. omega arith) (λ z. omega arith) (λ z. omega arith);
       }

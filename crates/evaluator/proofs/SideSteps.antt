@@ -154,7 +154,7 @@ module _ (T W S : List ℕ) (next lim sp n i x : ℕ) (run : BodyRunnable W S ne
           spent = omega arith;
         }
       where
-        by-place : (p : ℕ) → 276 ≤ p → p < 281 → Dec (p < 279) → getD S3 p 0 ≡ getD S p 0
+        by-place : (p : ℕ) → 276 ≤ p → p < 280 → Dec (p < 279) → getD S3 p 0 ≡ getD S p 0
         by-place p l m (no h) = fb .above p (omega (arith, h)) ∙ side .stack .above p l m ∙ fs .above p (omega (arith, h))
         by-place p l m (yes h) = frame-back S S2 S3 fb p l h
 
@@ -298,15 +298,9 @@ module _ (T W S : List ℕ) (next lim sp m n i : ℕ) (run : BodyRunnable W S ne
           full : length S3 ≡ 336
           full = fb .same ∙ ev .stack .same ∙ fs .same ∙ cs .same ∙ run .placed .full
 
-          beside : (p : ℕ) → 276 ≤ p → p < 281 → (p ≡ 279 → ⊥) → Dec (p < 279) → getD S3 p 0 ≡ getD S p 0
-          beside p l k ne (yes h) = frame-back S S2 S3 fb p l h
-          beside p l k ne (no h) =
-              let g : 280 ≤ p = omega (arith, h, ne) in
-              fb .above p (omega arith) ∙ ev .stack .above p l k ∙ fs .above p (omega arith) ∙ cs .above p g k
-
-          by-place : (p : ℕ) → 276 ≤ p → p < 281 → Dec (p ≡ 279) → getD S4 p 0 ≡ getD S p 0
+          by-place : (p : ℕ) → 276 ≤ p → p < 280 → Dec (p ≡ 279) → getD S4 p 0 ≡ getD S p 0
           by-place p l k (yes e) = subst (λ (q : ℕ). getD S4 q 0 ≡ getD S q 0) (sym e) (getD-set-same S3 279 (topOf S) 0 (omega (arith, full)))
-          by-place p l k (no e) = getD-set-other S3 279 p (topOf S) 0 e ∙ beside p l k e (decLt p 279)
+          by-place p l k (no e) = getD-set-other S3 279 p (topOf S) 0 e ∙ frame-back S S2 S3 fb p l (omega (arith, e))
 
       pub left-stops : r ≡ 0 → LeftStep T W S next lim sp m n i W1 S4 0
       left-stops z =

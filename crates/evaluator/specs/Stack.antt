@@ -106,7 +106,7 @@ pub record Placed (S : List ℕ) (sp : ℕ) : Type 0 where
 pub record Stacked (sp : ℕ) (S S′ : List ℕ) : Type 0 where
   pub same : length S′ ≡ length S
   pub below : (p : ℕ) → p < sp → getD S′ p 0 ≡ getD S p 0
-  pub above : (p : ℕ) → 276 ≤ p → p < 281 → getD S′ p 0 ≡ getD S p 0
+  pub above : (p : ℕ) → 276 ≤ p → p < 280 → getD S′ p 0 ≡ getD S p 0
   pub calls : (i j : ℕ) → i < topOf S → j < 3 → getD S′ (281 + 16 * j + i) 0 ≡ getD S (281 + 16 * j + i) 0
   pub spent : fuelOf S′ ≤ fuelOf S
 
@@ -138,7 +138,7 @@ pub record FrameSet (S : List ℕ) (b n x : ℕ) (S′ : List ℕ) : Type 0 wher
   pub below : (p : ℕ) → p < 276 → getD S′ p 0 ≡ getD S p 0
   pub above : (p : ℕ) → 279 ≤ p → getD S′ p 0 ≡ getD S p 0
 
--- call k is this one and the last, and the calls before it and the numbers below the calls have not changed
+-- call k is this one and the last, and the calls before it and all other numbers in use have not changed
 pub record CallSet (S : List ℕ) (k m n b : ℕ) (S′ : List ℕ) : Type 0 where
   pub same : length S′ ≡ length S
   pub top : getD S′ 279 0 ≡ k + 1
@@ -146,5 +146,4 @@ pub record CallSet (S : List ℕ) (k m n b : ℕ) (S′ : List ℕ) : Type 0 whe
   pub count : getD S′ (297 + k) 0 ≡ n
   pub base : getD S′ (313 + k) 0 ≡ b
   pub below : (p : ℕ) → p < 279 → getD S′ p 0 ≡ getD S p 0
-  pub above : (p : ℕ) → 280 ≤ p → p < 281 → getD S′ p 0 ≡ getD S p 0
   pub calls : (i j : ℕ) → i < k → j < 3 → getD S′ (281 + 16 * j + i) 0 ≡ getD S (281 + 16 * j + i) 0

@@ -114,7 +114,7 @@ pub fn body_limits(lim: usize) -> usize
     lim / 8 * 8 + 1022
 }
 
-// The number of X = u, in block `dst` or below. In the objects of block 0 there is no mark.
+// The number of X = u, in block `dst` or below. A number below 192 is an object of block 0, and in these there is no mark.
 pub fn close_value(work: &mut [u8], x: u8, u: u32, dst: u16) -> u32
     requires { ⌜ Bares (now work) × Holds (now work) (refIn u) × (x < 63) × (234 * dst + 234 ≤ length (now work)) ⌝ }
     ensures { λ q. ⌜ Gives (now (work .entry)) dst (now (work .exit)) (refIn q) (closeOf x (valueOf (now (work .entry)) (refIn u))) ⌝ }

@@ -25,6 +25,7 @@ ghost use Prim.Native.Nat.{ℕ, _+_, _*_, _<_, _≤_};
 ghost use lib.ListN.{length};
 ghost use Rattle.cofj.specs.Values.{make};
 ghost use Rattle.canon.specs.Layout.{part};
+ghost use Rattle.classes.specs.Figures.{tableSize};
 ghost use Rattle.maker.specs.Laying.{partsOf, PartsHeld, valuesFrom, MadeIn};
 ghost use Rattle.evaluator.specs.Limits.{pastOf};
 ghost use Rattle.evaluator.specs.Preset.{isPreset};
@@ -225,7 +226,7 @@ pub fn eval_chain(
     sp: usize,
     k: u8,
 ) -> usize
-    requires { ⌜ PartRunnable (now work) (now st) lim sp × (at < 32768) ⌝ }
+    requires { ⌜ PartRunnable (now work) (now st) lim sp × (at < tableSize) ⌝ }
     ensures { λ r. ⌜ FieldStep (now (t .entry)) (now (work .entry)) (now (st .entry)) at lim sp k (now (work .exit)) (now (st .exit)) r ⌝ }
 {
     let d = fields_at(t, at, lim);

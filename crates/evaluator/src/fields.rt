@@ -8,6 +8,7 @@ use values::refs::select_in;
 ghost use mathlib.Core.Path.{_≡_};
 ghost use Prim.Native.Nat.{ℕ, _<_};
 ghost use lib.ListN.{length};
+ghost use Rattle.classes.specs.Figures.{tableSize};
 ghost use Rattle.values.specs.Layout.{Holds};
 ghost use Rattle.evaluator.specs.State.{refAt};
 ghost use Rattle.evaluator.specs.Chains.{isField, Chain, Selects};
@@ -24,7 +25,7 @@ pub fn is_field(t: &[u8; SIZE], at: usize) -> bool
 
 // How many fields of fields begin at `at`, within the nesting left.
 pub fn fields_at(t: &[u8; SIZE], at: usize, lim: usize) -> usize
-    requires { ⌜ at < 32768 ⌝ }
+    requires { ⌜ at < tableSize ⌝ }
     ensures { λ d. ⌜ Chain (now (t .entry)) at lim d ⌝ }
 {
     let mut d: usize = 0;

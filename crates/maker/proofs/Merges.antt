@@ -214,10 +214,6 @@ module _ (w f : ℕ) where
       go false ea false eb true ec q = at 2 (omega arith) ec
       go false ea false eb false ec q = at 3 (omega arith) q
 
-object-place : (c n w i : ℕ) → getD (objectOf c n w) (0 + (2 + i)) 0 ≡ getD (codesOf w) i 0
-unfolding objectOf
-object-place c n w i = ap (λ (x : ℕ). getD (objectOf c n w) x 0) (let z : 0 + (2 + i) ≡ suc (suc i) = omega arith in z)
-
 pub fresh-missed : (W : List ℕ) (host c n w : ℕ) → Block W host → Fits W host (objectOf c n w) → (b : Bool) → b ≡ refersFrom w (getD W (234 * host + 194) 0) → b ≡ true
     → Missed W host (objectOf c n w) (countIn W host)
 unfolding reachIn
@@ -234,8 +230,9 @@ fresh-missed W host c n w bk ft b eb h = record { none = none }
         let there : getD W (234 * host + 6 * j + k) 0 ≡ byteOf (nodeIn W (234 * host + 6 * j)) k = packed-byte W (234 * host + 6 * j) (bk .packed j l) k (omega (arith, fr .low)) in
         let here : getD (objectOf c n w) (0 + k) 0 ≡ byteOf (nodeIn (objectOf c n w) 0) k = packed-byte (objectOf c n w) 0 (ft .packed) k (omega (arith, fr .low)) in
         let z : 234 * host + 6 * j + 2 + fr .place ≡ 234 * host + 6 * j + k = omega arith in
+        let y : 0 + k ≡ 2 + fr .place = omega arith in
         let same : getD W (234 * host + 6 * j + 2 + fr .place) 0 ≡ getD (codesOf w) (fr .place) 0 =
-        ap (λ (x : ℕ). getD W x 0) z ∙ there ∙ ap (λ (x : Node). byteOf x k) e ∙ sym here ∙ object-place c n w (fr .place) in
+        ap (λ (x : ℕ). getD W x 0) z ∙ there ∙ ap (λ (x : Node). byteOf x k) e ∙ sym here ∙ ap (λ (x : ℕ). getD (objectOf c n w) x 0) y ∙ object-code c n w (fr .place) in
         absurd (omega (arith, fr .high, same, bk .reach j (fr .place) l (fr .low) (omega (arith, fr .object, same))))
 
 -- ---- an object's bytes

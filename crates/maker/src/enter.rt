@@ -44,7 +44,7 @@ pub fn lies_from(c: u8, f: u8) -> bool
     c < 192
 }
 
-// Whether one of four codes is.
+// Whether one of the four codes of w is.
 pub fn refers_from(w: u32, f: u8) -> bool
     ensures { λ r. ⌜ r ≡ refersFrom w f ⌝ }
 {
@@ -60,7 +60,7 @@ pub fn refers_from(w: u32, f: u8) -> bool
     lies_from((w / 16777216) as u8, f)
 }
 
-// The same as `enter`. An object that refers to one that none of the block's refers to is not among them, and need not be looked for.
+// The same as `enter`. An object that refers to one that no object of the block refers to is not in the block, and need not be looked for.
 pub fn enter_over(work: &mut [u8], host: u16, c: u8, n: u8, w: u32) -> u8
     requires { ⌜ Block (now work) host × Fits (now work) host (objectOf c n w) ⌝ }
     ensures { λ r. ⌜ Entered (now (work .entry)) host (objectOf c n w) (now (work .exit)) r ⌝ }

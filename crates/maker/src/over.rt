@@ -2,7 +2,6 @@
 // The new object goes as numbers: its class c, how many fields it has, n, and its four codes as one number w, the first the lowest byte.
 use crate::lay::part_at;
 use canon::bytes::four_at;
-use canon::number::raise_level;
 use values::ValueRef;
 use values::value::copy_block;
 ghost use mathlib.Core.Path.{_≡_};
@@ -74,6 +73,20 @@ pub fn find(work: &[u8], b: u16, t: u8, c: u8, n: u8, w: u32) -> u8
         k += 1;
     }
     t
+}
+
+// A level for a byte more.
+pub fn raise_level(l: u8, c: u8) -> u8
+    ensures { λ m. ⌜ (l ≤ m) × (c < 193 + m) ⌝ }
+{
+    if c <= 192 {
+        return l;
+    }
+    let k = c - 192;
+    if k <= l {
+        return l;
+    }
+    k
 }
 
 // A level for objects of this level and the new one.

@@ -579,7 +579,7 @@ eval·eval-chain-sub-eval-part : (t : ℕ) → eval·eval-chain-lts.Need-sub-eva
 eval·eval-chain-sub-eval-part t c = search (needs, chains.chain-low _ _ _ _ (c .before .before .fields-at .ensures))
 
 eval·eval-chain-eval-part-requires : (t : ℕ) → eval·eval-chain-lts.Need-eval-part-requires (eval·eval-chain-claims t) (eval·eval-chain-at t) eval·eval-chain.Post eval·eval-chain-Inv-loop eval·eval-chain-μ-loop
-eval·eval-chain-eval-part-requires t c κs = (chains.chain-falls _ _ (chains.chain-nest _ _ _ _ (c .before .before .fields-at .ensures)) _ (c .before .before .before .before .pre .0), chains.less-run _ _ (chains.chain-nest _ _ _ _ (c .before .before .fields-at .ensures)) _ _ _ (c .before .before .before .before .pre .1 .0))
+eval·eval-chain-eval-part-requires t c κs = (limits.chain-falls _ _ _ (chains.chain-nest _ _ _ _ (c .before .before .fields-at .ensures)) (c .before .before .before .before .pre .0), chains.less-run _ _ (chains.chain-nest _ _ _ _ (c .before .before .fields-at .ensures)) _ _ _ (c .before .before .before .before .pre .1 .0))
 
 eval·eval-chain-returns : (t : ℕ) → eval·eval-chain-lts.Need-returns (eval·eval-chain-claims t) (eval·eval-chain-at t) eval·eval-chain.Post eval·eval-chain-Inv-loop eval·eval-chain-μ-loop
 eval·eval-chain-returns t c = chains.chain-stops _ _ _ _ _ _ _ (c .before .before .before .before .before .before .before .before .before .before .pre .1 .0) (c .before .before .before .before .before .before .before .before .fields-at .ensures) _ _ (search needs) _ _ _ (c .before .before .before .before .before .eval-part .ensures) (steps.went-stopped _ _ (c .before .before .went-of .ensures) (c .enum-told .given .1))

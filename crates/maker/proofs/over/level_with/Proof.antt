@@ -3,7 +3,7 @@ use Rattle.maker.proofs.over.level_with.Statement.{statement}
 use Rattle.maker.proofs.over.level_with.Tie as tie
 use Rattle.maker.proofs.over.level_with.Reads as reads
 use Rattle.maker.proofs.over.level_with.Lts as lts
-use Rattle.canon.proofs.number.raise_level.Reads as raise-level-reads
+use Rattle.maker.proofs.over.raise_level.Reads as raise-level-reads
 use Rattle.maker.proofs.Codes as laws
 
 returns : tie.Need-returns
