@@ -594,7 +594,7 @@ module _ (R : List ℕ) (n i : ℕ) (W : List ℕ) (dst : ℕ) (rd : Rooted R n 
       reach = λ j f h k c. omega (arith, size-is, ended-reach D dst n l n wide, code-low E (234 * dst) (countIn E dst) packed-is j h whole-is f k c);
     }
 
-    pub put-distinct : Gives W dst E (Object dst i) (canon (graphIn R n i))
+    pub put-distinct : Gives W dst E (Object i dst) (canon (graphIn R n i))
     put-distinct = record {
       held = record { held = record { block = block-is; low = rw size-is (rd .inside) } };
       is = ap (λ (ns : List Node). canon (graph (obj i) ns)) objects-same;
@@ -610,7 +610,7 @@ module _ (R : List ℕ) (n i : ℕ) (W : List ℕ) (dst : ℕ) (rd : Rooted R n 
   pub merge-ready : 1536 ≤ length R → (C : List ℕ) → 256 ≤ length C → take n C ≡ colours (nodesIn R 0 n) → Ready R n C i W dst
   merge-ready w C h e = record { raw = rooted-raw w; long = h; coloured = e; inside = rd .inside; room = rd .room }
 
-  pub put-merged : (W′ : List ℕ) (m : ℕ) → Placed R n i W dst W′ m → Gives W dst W′ (Object dst 0) (canon (graphIn R n i))
+  pub put-merged : (W′ : List ℕ) (m : ℕ) → Placed R n i W dst W′ m → Gives W dst W′ (Object 0 dst) (canon (graphIn R n i))
   put-merged W′ m p =
       let h : Has W′ dst (canon (graphIn R n i)) = p .has (omega (arith, p .count, canon-length (graphIn R n i) whole-graph, length-nodes R 0 n, rd .few .small)) in
       record {

@@ -27,7 +27,7 @@ use Rattle.values.specs.Operations.{Taken, Moved}
 use Rattle.values.proofs.ValueRef as RefT
 
 -- ---- a reference that stands for an object
-module _ (W : List ℕ) (r : ValueRef) (b i : ℕ) (h : Holds W r) (e : r ≡ Object b i) where
+module _ (W : List ℕ) (r : ValueRef) (b i : ℕ) (h : Holds W r) (e : r ≡ Object i b) where
   pub held-inside : Inside W b i
   held-inside = subst (HeldBy W) e (h .held)
 
@@ -43,7 +43,7 @@ inside-room W b i ob = omega (arith, ob .block .room, ob .block .small, ob .low)
 
 -- a reference that stands for none is a mark or undetermined
 pub no-object : (P : ValueRef → Type 0) → ((k : ℕ) → P (Mark k)) → P Undetermined → (r : ValueRef) → OneOf (1 ∷ 2 ∷ []) (tagOf RefT.the-type r) → P r
-no-object P m u (Object b i) h = ⊎-elim (λ e. absurd (eqb-false 0 1 refl e)) (λ e. absurd (eqb-false 0 2 refl e)) h
+no-object P m u (Object i b) h = ⊎-elim (λ e. absurd (eqb-false 0 1 refl e)) (λ e. absurd (eqb-false 0 2 refl e)) h
 no-object P m u (Mark k) h = m k
 no-object P m u Undetermined h = u
 

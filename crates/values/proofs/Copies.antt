@@ -112,7 +112,7 @@ block-moves W W′ b d en el er here room bk =
 
 -- ---- brought to a block
 module _ (W : List ℕ) (r : ValueRef) (dst : ℕ) (h : Holds W r) where
-  pub bring-copy : (b i : ℕ) → r ≡ Object b i → (W′ : List ℕ) → 234 * dst + 234 ≤ length W → Copied W b dst W′ → Gives W dst W′ (Object dst i) (valueOf W r)
+  pub bring-copy : (b i : ℕ) → r ≡ Object i b → (W′ : List ℕ) → 234 * dst + 234 ≤ length W → Copied W b dst W′ → Gives W dst W′ (Object i dst) (valueOf W r)
   bring-copy b i e W′ room c =
       let ob : Inside W b i = held-inside W r b i h e in
       let m = block-moves W W′ b dst (c .count) (c .level) (c .reach) (c .here) (omega (arith, c .outside .same)) (ob .block) in
@@ -123,7 +123,7 @@ module _ (W : List ℕ) (r : ValueRef) (dst : ℕ) (h : Holds W r) where
         outside = c .outside;
       }
 
-pub block-held : (W : List ℕ) (b i : ℕ) → Block W b → i < getD W (234 * b + 192) 0 → Holds W (Object b i)
+pub block-held : (W : List ℕ) (b i : ℕ) → Block W b → i < getD W (234 * b + 192) 0 → Holds W (Object i b)
 unfolding countIn
 block-held W b i bk h = record { held = record { block = bk; low = h } }
 

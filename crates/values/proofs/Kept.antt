@@ -27,7 +27,7 @@ module _ (W W′ : List ℕ) (b : ℕ) (same : length W′ ≡ length W) (byte :
       block-moves W W′ b b (byte (234 * b + 192) (omega arith) (omega arith)) (byte (234 * b + 193) (omega arith) (omega arith)) (byte (234 * b + 194) (omega arith) (omega arith))
       (λ k h. byte (234 * b + k) (omega arith) (omega (arith, bk .small))) (omega (arith, bk .room)) bk
 
-  pub object-kept : (i : ℕ) → Holds W (Object b i) → Kept W W′ (Object b i)
+  pub object-kept : (i : ℕ) → Holds W (Object i b) → Kept W W′ (Object i b)
   unfolding countIn
   object-kept i h =
       let s = stays (h .held .block) in
@@ -39,7 +39,7 @@ module _ (W W′ : List ℕ) (b : ℕ) (same : length W′ ≡ length W) (byte :
 -- whoever holds a value in another block still holds it
 pub kept : (d : ℕ) (W W′ : List ℕ) → Outside d W W′ → (r : ValueRef) → liesIn d r ≡ false → Holds W r → Kept W W′ r
 unfolding liesIn
-kept d W W′ o (Object b i) n h = object-kept W W′ b (o .same) (λ p l m. go p l m (decLt b d)) i h
+kept d W W′ o (Object i b) n h = object-kept W W′ b (o .same) (λ p l m. go p l m (decLt b d)) i h
   where
     go : (p : ℕ) → 234 * b ≤ p → p < 234 * b + 234 → Dec (b < d) → getD W′ p 0 ≡ getD W p 0
     go p l m (yes q) = o .below p (omega arith)

@@ -263,7 +263,7 @@ report-none W r d h l =
     (record { fits = omega arith; count = refl; text = six-text d l }) r h
 
 -- ---- an object, alone in its block
-pub report-one : (W : List ℕ) (r : ValueRef) (b i : ℕ) (W′ d₀ d : List ℕ) (t : ℕ) → r ≡ Object b i → Moved W (graphAt W b i) b W′ → Reported (graphAt W′ b 0) d₀ d t
+pub report-one : (W : List ℕ) (r : ValueRef) (b i : ℕ) (W′ d₀ d : List ℕ) (t : ℕ) → r ≡ Object i b → Moved W (graphAt W b i) b W′ → Reported (graphAt W′ b 0) d₀ d t
     → Reported (valueOf W r) d₀ d t × (length W′ ≡ length W)
 report-one W r b i W′ d₀ d t e m h = (subst (λ (v : Graph). Reported v d₀ d t) (m .has .is ∙ ap (valueOf W) (sym e)) h, m .outside .same)
 

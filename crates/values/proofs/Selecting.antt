@@ -1,23 +1,28 @@
--- Laws of selecting a field.
-use Prim.Native.Nat.{ℕ, zero, suc, _+_, _-_, _*_, _<_, _≤_}
+-- Laws of selecting a field: one for each return of `select`. Not here: the value of a code (RefLaws).
+use Prim.Native.Nat.{ℕ, zero, suc, _+_, _*_, _<_, _≤_}
 use native.Mathlib.Omega.{arith}
-use native.Mathlib.Decide.{ℕ-discrete}
-use mathlib.Core.Path.{_≡_, refl, sym, ap, _∙_, subst}
+use mathlib.Core.Path.{_≡_, refl, sym, ap, _∙_}
 use mathlib.Core.List.{List, [], _∷_}
 use mathlib.Core.Option.{none, some}
 use lib.ListN.{length, getD, take, getElem?, length-take}
 use lib.Seq.{getD-take}
-use borrow.Author.Tests.{eq-eqb, ne-eqb}
-use Rattle.cofj.specs.Values.{Ref, mark, undet, Node, graph, refsAt, canon, canonBy, visit, select, selected, markOf, undetermined}
-use Rattle.cofj.specs.Unfolding.{InRange, Whole}
+use types.Run.{OneOf}
+use denote.Enum.Declared.{tagOf}
+use Rattle.cofj.specs.Values.{Ref, undet, Node, graph, refsAt, canon, select, selected}
+use Rattle.cofj.specs.Unfolding.{Whole}
 use Rattle.canon.specs.Layout.{refOf, nodeIn, objectsIn, graphAt, Inside, countIn, Outside, Beneath}
-use Rattle.canon.proofs.Nodes.{some-at, at-nodes, ref-object, ref-undet, ref-mark}
+use Rattle.canon.proofs.Nodes.{some-at, at-nodes}
 use Rattle.canon.proofs.Walks.{four, four-at}
 use Rattle.values.specs.declared.ValueRef.{ValueRef}
-use Rattle.values.specs.declared.ValueRef.the-variants.{Object, Mark, Undetermined}
-use Rattle.values.specs.Operations.{Chosen, Leaf}
-use Rattle.values.proofs.Blocks.{inner-in, whole-at}
+use Rattle.values.specs.declared.ValueRef.the-variants.{Object}
+use Rattle.values.specs.declared.refs.Selected.the-variants.{Value, Nothing}
+use Rattle.values.specs.Layout.{Holds}
+use Rattle.values.specs.Refs.{refFrom}
+use Rattle.values.specs.Operations.{Chosen}
+use Rattle.values.proofs.ValueRef as RefT
+use Rattle.values.proofs.Blocks.{held-inside, inside-room, no-object, inner-in, whole-at}
 use Rattle.values.proofs.Trees.{select-canon}
+use Rattle.values.proofs.RefLaws.{from-low, from-held, from-value}
 
 pub unchanged : (b : ℕ) (W : List ℕ) → Outside b W W
 unchanged b W = record { same = refl; below = λ p h. refl; above = λ p h. refl }
@@ -31,20 +36,11 @@ get-none [] f h = refl
 get-none (x ∷ l) zero h = absurd (omega arith)
 get-none (x ∷ l) (suc f) h = get-none l f (omega arith)
 
--- ---- a graph whose root is no object
-pub canon-mark : (k : ℕ) (ns : List Node) → canon (graph (mark k) ns) ≡ markOf k
-unfolding canon canonBy visit
-canon-mark k ns = refl
-
-pub canon-undet : (ns : List Node) → canon (graph undet ns) ≡ undetermined
-unfolding canon canonBy visit
-canon-undet ns = refl
-
 module _ (W : List ℕ) (b i f : ℕ) (ob : Inside W b i) where
   abbrev at : ℕ
   at = 234 * b + 6 * i
 
-  pub count-four : getD W (at + 1) 0 ≤ 4
+  count-four : getD W (at + 1) 0 ≤ 4
   count-four = ob .block .packed i (ob .low) .count
 
   refs-at : refsAt (objectsIn W b) i ≡ take (getD W (at + 1) 0) (four W (39 * b + i))
@@ -74,35 +70,14 @@ module _ (W : List ℕ) (b i f : ℕ) (ob : Inside W b i) where
     unfolding select
     chosen-is = select-canon (graphAt W b i) whole f ∙ ap (selected (objectsIn W b)) field-at
 
-    pub choose-leaf : (o : ValueRef) → 192 ≤ getD W (at + 2 + f) 0 → Leaf (getD W (at + 2 + f) 0) o → Chosen W (Object b i) f (some o)
-    choose-leaf o h l = go (ℕ-discrete (getD W (at + 2 + f) 0) 192)
-      where
-        go : Dec (getD W (at + 2 + f) 0 ≡ 192) → Chosen W (Object b i) f (some o)
-        go (yes e) =
-            let eo : o ≡ Undetermined = l .is ∙ rw e in
-            subst (λ (x : ValueRef). Chosen W (Object b i) f (some x)) (sym eo) (record {
-              held = record { held = tt };
-              is = ap some (sym (ap (λ (x : ℕ). canon (graph (refOf x) (objectsIn W b))) e ∙ ap (λ (r : Ref). canon (graph r (objectsIn W b))) ref-undet ∙ canon-undet (objectsIn W b))) ∙ sym chosen-is;
-              place = λ sp q. tt;
-            })
-        go (no n) =
-            let z : getD W (at + 2 + f) 0 ≡ 193 + (getD W (at + 2 + f) 0 - 193) = omega (arith, n) in
-            let eo : o ≡ Mark (getD W (at + 2 + f) 0 - 193) = l .is ∙ rw (ne-eqb _ _ n) in
-            let er : refOf (getD W (at + 2 + f) 0) ≡ mark (getD W (at + 2 + f) 0 - 193) = ap refOf z ∙ ref-mark _ in
-            subst (λ (x : ValueRef). Chosen W (Object b i) f (some x)) (sym eo) (record {
-              held = record { held = omega (arith, l .small) };
-              is = ap some (sym (ap (λ (r : Ref). canon (graph r (objectsIn W b))) er ∙ canon-mark _ (objectsIn W b))) ∙ sym chosen-is;
-              place = λ sp q. tt;
-            })
-
-    pub choose-object : getD W (at + 2 + f) 0 < 192 → Chosen W (Object b i) f (some (Object b (getD W (at + 2 + f) 0)))
-    choose-object h = record {
-      held = record { held = record { block = ob .block; low = subst (InRange (countIn W b)) (ref-object _ h) (inner-in W b (ob .block) i f _ field-at) } };
-      is = ap some (ap (λ (r : Ref). canon (graph r (objectsIn W b))) (sym (ref-object _ h))) ∙ sym chosen-is;
-      place = λ sp q. q;
+    choose-code : getD W (at + 2 + f) 0 < 256 → Chosen W (Object i b) f (Value (refFrom b (getD W (at + 2 + f) 0)))
+    choose-code l = record {
+      held = from-held b _ W (ob .block) l (inner-in W b (ob .block) i f _ field-at);
+      is = ap some (from-value b _ W) ∙ sym chosen-is;
+      place = from-low b _;
     }
 
-  pub choose-none : getD W (at + 1) 0 ≤ f → Chosen W (Object b i) f none
+  choose-none : getD W (at + 1) 0 ≤ f → Chosen W (Object i b) f Nothing
   unfolding select
   choose-none h = record {
     held = tt;
@@ -110,9 +85,24 @@ module _ (W : List ℕ) (b i f : ℕ) (ob : Inside W b i) where
     place = λ sp q. tt;
   }
 
--- ---- a leaf
-pub leaf-undet : (c : ℕ) → c ≡ 192 → suc c ≤ 256 → Leaf c Undetermined
-leaf-undet c e h = record { is = rw (eq-eqb _ _ e); small = h }
+-- ---- by what a value is
+module _ (W : List ℕ) (v : ValueRef) (f : ℕ) where
+  pub select-leaf : OneOf (1 ∷ 2 ∷ []) (tagOf RefT.the-type v) → Chosen W v f Nothing
+  unfolding select
+  select-leaf = no-object (λ u. Chosen W u f Nothing) (λ k. record { held = tt; is = refl; place = λ sp q. tt }) (record { held = tt; is = refl; place = λ sp q. tt }) v
 
-pub leaf-mark : (c : ℕ) → ((c ≡ 192) → ⊥) → suc c ≤ 256 → Leaf c (Mark (c - 193))
-leaf-mark c e h = record { is = rw (ne-eqb _ _ e); small = h }
+  module _ (b i : ℕ) (h : Holds W v) (e : v ≡ Object i b) where
+    inside : Inside W b i
+    inside = held-inside W v b i h e
+
+    pub select-room : 234 * b + 6 * i + 6 ≤ length W
+    select-room = inside-room W b i inside
+
+    pub select-count : getD W (234 * b + 6 * i + 1) 0 ≤ 4
+    select-count = count-four W b i f inside
+
+    pub select-past : getD W (234 * b + 6 * i + 1) 0 ≤ f → Chosen W v f Nothing
+    select-past l = rw e (choose-none W b i f inside l)
+
+    pub select-code : f < getD W (234 * b + 6 * i + 1) 0 → getD W (234 * b + 6 * i + 2 + f) 0 < 256 → (u : ValueRef) → u ≡ refFrom b (getD W (234 * b + 6 * i + 2 + f) 0) → Chosen W v f (Value u)
+    select-code l m u q = rw (e, q) (choose-code W b i f inside l m)

@@ -641,18 +641,18 @@ module _ (W : List ℕ) (b i c j : ℕ) (ib : Inside W b i) (ic : Inside W c j) 
 
 -- ---- two references
 module _ (W : List ℕ) (a b : ValueRef) where
-  pub equal-objects : (x i y j : ℕ) (r : Bool) → a ≡ Object x i → b ≡ Object y j → r ≡ eqGraph (canon (graphAt W x i)) (canon (graphAt W y j)) → r ≡ eqGraph (valueOf W a) (valueOf W b)
+  pub equal-objects : (x i y j : ℕ) (r : Bool) → a ≡ Object i x → b ≡ Object j y → r ≡ eqGraph (canon (graphAt W x i)) (canon (graphAt W y j)) → r ≡ eqGraph (valueOf W a) (valueOf W b)
   equal-objects x i y j r ea eb e = rw (ea, eb) e
 
-  pub object-mark : (x i k : ℕ) → a ≡ Object x i → b ≡ Mark k → false ≡ eqGraph (valueOf W a) (valueOf W b)
+  pub object-mark : (x i k : ℕ) → a ≡ Object i x → b ≡ Mark k → false ≡ eqGraph (valueOf W a) (valueOf W b)
   unfolding eqGraph canon
   object-mark x i k ea eb = rw (ea, eb)
 
-  pub object-undet : (x i : ℕ) → a ≡ Object x i → b ≡ Undetermined → false ≡ eqGraph (valueOf W a) (valueOf W b)
+  pub object-undet : (x i : ℕ) → a ≡ Object i x → b ≡ Undetermined → false ≡ eqGraph (valueOf W a) (valueOf W b)
   unfolding eqGraph canon
   object-undet x i ea eb = rw (ea, eb)
 
-  pub mark-object : (k y j : ℕ) → a ≡ Mark k → b ≡ Object y j → false ≡ eqGraph (valueOf W a) (valueOf W b)
+  pub mark-object : (k y j : ℕ) → a ≡ Mark k → b ≡ Object j y → false ≡ eqGraph (valueOf W a) (valueOf W b)
   unfolding eqGraph canon
   mark-object k y j ea eb = rw (ea, eb)
 
@@ -668,7 +668,7 @@ module _ (W : List ℕ) (a b : ValueRef) where
   unfolding eqGraph
   mark-undet k ea eb = rw (ea, eb)
 
-  pub undet-object : (y j : ℕ) → a ≡ Undetermined → b ≡ Object y j → false ≡ eqGraph (valueOf W a) (valueOf W b)
+  pub undet-object : (y j : ℕ) → a ≡ Undetermined → b ≡ Object j y → false ≡ eqGraph (valueOf W a) (valueOf W b)
   unfolding eqGraph canon
   undet-object y j ea eb = rw (ea, eb)
 

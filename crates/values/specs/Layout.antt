@@ -11,18 +11,18 @@ use Rattle.values.specs.declared.ValueRef.the-variants.{Object, Mark, Un
 
 -- the value that a reference stands for
 abbrev pub valueOf : List ℕ → ValueRef → Graph
-valueOf W (Object b i) = canon (graphAt W b i)
+valueOf W (Object i b) = canon (graphAt W b i)
 valueOf W (Mark k) = markOf k
 valueOf W Undetermined = undetermined
 
 -- the same before it is numbered from its root
 abbrev pub rawOf : List ℕ → ValueRef → Graph
-rawOf W (Object b i) = graphAt W b i
+rawOf W (Object i b) = graphAt W b i
 rawOf W (Mark k) = markOf k
 rawOf W Undetermined = undetermined
 
 abbrev pub HeldBy : List ℕ → ValueRef → Type 0
-HeldBy W (Object b i) = Inside W b i
+HeldBy W (Object i b) = Inside W b i
 HeldBy W (Mark k) = k < 63
 HeldBy W Undetermined = Unit {0}
 
@@ -32,12 +32,12 @@ pub record Holds (W : List ℕ) (r : ValueRef) : Type 0 where
 
 -- the value lies below block sp, if it is an object
 abbrev pub Low : ℕ → ValueRef → Type 0
-Low sp (Object b i) = b < sp
+Low sp (Object i b) = b < sp
 Low sp (Mark k) = Unit {0}
 Low sp Undetermined = Unit {0}
 
 -- whether a value is an object of block d
 unfoldable pub liesIn : ℕ → ValueRef → Bool
-liesIn d (Object b i) = eqb b d
+liesIn d (Object i b) = eqb b d
 liesIn d (Mark k) = false
 liesIn d Undetermined = false

@@ -1,17 +1,16 @@
 -- What is done with values in blocks.
-use Prim.Native.Nat.{ℕ, _+_, _-_, _*_, _<_}
-use mathlib.Core.Bool.{cond}
+use Prim.Native.Nat.{ℕ, _+_, _*_, _<_}
 use mathlib.Core.Path.{_≡_}
 use mathlib.Core.List.{List}
 use mathlib.Core.Option.{Option, none, some}
-use lib.Dec.{eqb}
 use lib.ListN.{getD}
 use Rattle.cofj.specs.Values.{Graph, canon, select, close}
 use Rattle.canon.specs.Layout.{countIn, levelIn, reachIn, Outside}
 use Rattle.canon.specs.Tables.{Filled, Carried}
 use Rattle.canon.specs.Numbers.{Has}
 use Rattle.values.specs.declared.ValueRef.{ValueRef}
-use Rattle.values.specs.declared.ValueRef.the-variants.{Mark, Undetermined}
+use Rattle.values.specs.declared.refs.Selected.{Selected}
+use Rattle.values.specs.declared.refs.Selected.the-variants.{Value, Nothing}
 use Rattle.values.specs.Layout.{valueOf, Holds, Low}
 
 -- the objects of block b, copied
@@ -40,15 +39,7 @@ pub record Copied (W : List ℕ) (b dst : ℕ) (W′ : List ℕ) : Type 0 where
   pub here : (k : ℕ) → k < 6 * countIn W b → getD W′ (234 * dst + k) 0 ≡ getD W (234 * b + k) 0
   pub outside : Outside dst W W′
 
--- a code that is no object's
-abbrev pub leafOf : ℕ → ValueRef
-leafOf c = cond (eqb c 192) Undetermined (Mark (c - 193))
-
-pub record Leaf (c : ℕ) (r : ValueRef) : Type 0 where
-  pub is : r ≡ leafOf c
-  pub small : c < 256
-
--- what a selection answers, as a value
+-- an answer that may be none, as a value
 abbrev pub answerIn : List ℕ → Option ValueRef → Option Graph
 answerIn W (some r) = some (valueOf W r)
 answerIn W none = none
@@ -61,11 +52,16 @@ abbrev pub AnswerLow : ℕ → Option ValueRef → Type 0
 AnswerLow sp (some r) = Low sp r
 AnswerLow sp none = Unit {0}
 
+-- what selecting answers
+abbrev pub selectedRef : Selected → Option ValueRef
+selectedRef (Value r) = some r
+selectedRef Nothing = none
+
 -- field f of a value, in the same block
-pub record Chosen (W : List ℕ) (r : ValueRef) (f : ℕ) (o : Option ValueRef) : Type 0 where
-  pub held : AnswerHeld W o
-  pub is : answerIn W o ≡ select f (valueOf W r)
-  pub place : (sp : ℕ) → Low sp r → AnswerLow sp o
+pub record Chosen (W : List ℕ) (v : ValueRef) (f : ℕ) (o : Selected) : Type 0 where
+  pub held : AnswerHeld W (selectedRef o)
+  pub is : answerIn W (selectedRef o) ≡ select f (valueOf W v)
+  pub place : (sp : ℕ) → Low sp v → AnswerLow sp (selectedRef o)
 
 abbrev pub closeOf : ℕ → Graph → Graph
 closeOf x v = close x v

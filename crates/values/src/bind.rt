@@ -187,7 +187,7 @@ pub fn put_distinct(raw: &[u8], n: u8, i: u8, work: &mut [u8], dst: u16) -> Valu
     work[234 * (dst as usize) + 192] = n;
     work[234 * (dst as usize) + 193] = l;
     work[234 * (dst as usize) + 194] = n;
-    ValueRef::Object(dst, i)
+    ValueRef::Object(i, dst)
 }
 
 // The value at object i of n, to block `dst`, equal objects merged and numbered from there.
@@ -198,7 +198,7 @@ pub fn put_merged(raw: &[u8], n: u8, i: u8, work: &mut [u8], dst: u16) -> ValueR
     let mut ids = [0u8; 256];
     colour(raw, n, &mut ids);
     put(raw, n, &ids, i, work, dst);
-    ValueRef::Object(dst, 0)
+    ValueRef::Object(0, dst)
 }
 
 // X = u for object i of block b, to block `dst`. 192 bytes have room for the objects of a block; colours ask for 1536.

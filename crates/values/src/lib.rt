@@ -1,14 +1,14 @@
 // Canonical values in blocks of the work buffer, and what is done with them: selected from, closed, compared, reported.
 // Not here: objects in bytes and which of them are equal (canon), a new object (maker); which blocks are free: the caller names the block that a result goes to.
-pub mod refs; // values as numbers, and selected from
+pub mod refs; // references: at rest as numbers, of a code, selected from
 pub mod lockstep; // values compared
 pub mod bind; // a mark bound to an object
 pub mod value; // values closed, moved
 pub mod report; // the report of a value
 
-// A value: the block where it lies and its object there, the mark of an open call, or undetermined.
+// A value: an object's number and the block where it lies, the mark of an open call, or undetermined.
 pub enum ValueRef {
-    Object(u16, u8),
+    Object(u8, u16),
     Mark(u8),
     Undetermined,
 }

@@ -158,8 +158,8 @@ pub fn equal(work: &[u8], a: ValueRef, b: ValueRef) -> bool
     ensures { λ r. ⌜ r ≡ eqGraph (valueOf (now (work .entry)) a) (valueOf (now (work .entry)) b) ⌝ }
 {
     match a {
-        ValueRef::Object(x, i) => match b {
-            ValueRef::Object(y, j) => same_trees(work, x, i, y, j),
+        ValueRef::Object(i, x) => match b {
+            ValueRef::Object(j, y) => same_trees(work, x, i, y, j),
             ValueRef::Mark(_) => false,
             ValueRef::Undetermined => false,
         },

@@ -1,17 +1,47 @@
-// Values as numbers: 256 times the block of an object and its number there; or a leaf's code: 192 undetermined, 193 and more a mark.
-// Not here: where the numbers stand.
+// References to values: at rest as numbers, of a code of a block, selected from. Not here: where the numbers stand, values moved and closed (value).
 use crate::ValueRef;
 ghost use mathlib.Core.Path.{_≡_};
 ghost use Rattle.values.specs.Layout.{Holds};
-ghost use Rattle.values.specs.Refs.{refIn, Small, ChosenIn};
+ghost use Rattle.values.specs.Refs.{refFrom, refIn};
+ghost use Rattle.values.specs.Operations.{Chosen};
 
-// The value that a number stands for.
-pub fn unpack(r: u32) -> ValueRef
-    ensures { λ v. ⌜ v ≡ refIn r ⌝ }
+// What selecting a field answers.
+pub enum Selected {
+    Value(ValueRef),
+    Nothing,
+}
+
+// The number of a value at rest: which of the three it is, in the lowest byte, then what it holds. No other function but `unpack` knows it.
+pub fn pack(v: ValueRef) -> u32
+    ensures { λ x. ⌜ refIn x ≡ v ⌝ }
 {
-    let c = (r % 256) as u8;
+    match v {
+        ValueRef::Object(i, b) => 256 * (i as u32) + 65536 * (b as u32),
+        ValueRef::Mark(k) => 1 + 256 * (k as u32),
+        ValueRef::Undetermined => 2,
+    }
+}
+
+// The value that such a number stands for.
+pub fn unpack(x: u32) -> ValueRef
+    ensures { λ v. ⌜ v ≡ refIn x ⌝ }
+{
+    let k = x % 256;
+    if k == 0 {
+        return ValueRef::Object((x / 256 % 256) as u8, (x / 65536) as u16);
+    }
+    if k == 1 {
+        return ValueRef::Mark((x / 256 % 256) as u8);
+    }
+    ValueRef::Undetermined
+}
+
+// The value of a code in block b.
+pub fn ref_of(c: u8, b: u16) -> ValueRef
+    ensures { λ v. ⌜ v ≡ refFrom b c ⌝ }
+{
     if c < 192 {
-        return ValueRef::Object((r / 256 % 65536) as u16, c);
+        return ValueRef::Object(c, b);
     }
     if c == 192 {
         return ValueRef::Undetermined;
@@ -19,33 +49,17 @@ pub fn unpack(r: u32) -> ValueRef
     ValueRef::Mark(c - 193)
 }
 
-// A number for a value.
-pub fn pack(v: ValueRef) -> u32
-    requires { ⌜ Small v ⌝ }
-    ensures { λ r. ⌜ refIn r ≡ v ⌝ }
+// Field f of a value, which lies in the same block if it is an object.
+pub fn select(work: &[u8], v: ValueRef, f: u8) -> Selected
+    requires { ⌜ Holds (now work) v ⌝ }
+    ensures { λ o. ⌜ Chosen (now (work .entry)) v f o ⌝ }
 {
-    match v {
-        ValueRef::Object(b, i) => 256 * (b as u32) + (i as u32),
-        ValueRef::Mark(k) => 193 + (k as u32),
-        ValueRef::Undetermined => 192,
-    }
-}
-
-// no number of a value
-pub const NOTHING: u32 = 4294967295;
-
-// The number of field f of a value: the same block and another code; NOTHING if it has none.
-pub fn select_in(work: &[u8], r: u32, f: u8) -> u32
-    requires { ⌜ Holds (now work) (refIn r) ⌝ }
-    ensures { λ q. ⌜ ChosenIn (now (work .entry)) r f q ⌝ }
-{
-    let c = r % 256;
-    if 192 <= c {
-        return NOTHING;
-    }
-    let at = 234 * ((r / 256 % 65536) as usize) + 6 * (c as usize);
+    let ValueRef::Object(i, b) = v else {
+        return Selected::Nothing;
+    };
+    let at = 234 * (b as usize) + 6 * (i as usize);
     if work[at + 1] <= f {
-        return NOTHING;
+        return Selected::Nothing;
     }
-    256 * (r / 256 % 65536) + work[at + 2 + f as usize] as u32
+    Selected::Value(ref_of(work[at + 2 + f as usize], b))
 }

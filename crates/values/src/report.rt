@@ -87,7 +87,7 @@ pub fn report(work: &mut [u8], r: ValueRef, out: &mut [u8]) -> usize
     requires { ⌜ Holds (now work) r × (544 ≤ length (now out)) ⌝ }
     ensures { λ t. ⌜ Reported (valueOf (now (work .entry)) r) (now (out .entry)) (now (out .exit)) t × (length (now (work .exit)) ≡ length (now (work .entry))) ⌝ }
 {
-    let ValueRef::Object(b, i) = r else {
+    let ValueRef::Object(i, b) = r else {
         out[0] = 48;
         out[1] = 54;
         out[2] = 10;

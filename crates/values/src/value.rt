@@ -1,6 +1,6 @@
 // Values closed and moved. Not here: values selected from (refs), values compared (lockstep), a new object (crate maker), how a mark is bound (bind).
+use crate::ValueRef;
 use crate::bind::close_bound;
-use crate::refs::pack;
 use canon::bytes::copy;
 use canon::bytes::count_up;
 use canon::number::put;
@@ -8,7 +8,6 @@ ghost use Prim.Native.Nat.{ℕ, _+_, _*_, _<_, _≤_};
 ghost use lib.ListN.{length};
 ghost use Rattle.canon.specs.Layout.{Block, Inside, graphAt};
 ghost use Rattle.values.specs.Layout.{Holds, valueOf};
-ghost use Rattle.values.specs.Refs.{refIn};
 ghost use Rattle.values.specs.Operations.{Taken, Moved, Copied, Gives, closeOf};
 
 // Copies the objects of block b to the front of `raw`, and answers how many they are.
@@ -55,37 +54,39 @@ pub fn copy_block(work: &mut [u8], b: u16, dst: u16)
     work[234 * (dst as usize) + 194] = m;
 }
 
-// The number of a value, in block `dst` or below.
-pub fn bring_in(work: &mut [u8], r: u32, dst: u16) -> u32
-    requires { ⌜ Holds (now work) (refIn r) × (234 * dst + 234 ≤ length (now work)) ⌝ }
-    ensures { λ q. ⌜ Gives (now (work .entry)) dst (now (work .exit)) (refIn q) (valueOf (now (work .entry)) (refIn r)) ⌝ }
+// A value, in block `dst` or below.
+pub fn bring(work: &mut [u8], v: ValueRef, dst: u16) -> ValueRef
+    requires { ⌜ Holds (now work) v × (234 * dst + 234 ≤ length (now work)) ⌝ }
+    ensures { λ r. ⌜ Gives (now (work .entry)) dst (now (work .exit)) r (valueOf (now (work .entry)) v) ⌝ }
 {
-    if 192 <= r % 256 {
-        return r;
-    }
-    let b = (r / 256 % 65536) as u16;
+    let ValueRef::Object(i, b) = v else {
+        return v;
+    };
     if b <= dst {
-        return r;
+        return v;
     }
     copy_block(work, b, dst);
-    256 * (dst as u32) + r % 256
+    ValueRef::Object(i, dst)
 }
 
-// The number of X = u, in block `dst` or below.
-pub fn close_in(work: &mut [u8], x: u8, r: u32, dst: u16) -> u32
-    requires { ⌜ Holds (now work) (refIn r) × (x < 63) × (234 * dst + 234 ≤ length (now work)) ⌝ }
-    ensures { λ q. ⌜ Gives (now (work .entry)) dst (now (work .exit)) (refIn q) (closeOf x (valueOf (now (work .entry)) (refIn r))) ⌝ }
+// X = u, in block `dst` or below. An object in which the mark is not stays as it is.
+pub fn close(work: &mut [u8], x: u8, v: ValueRef, dst: u16) -> ValueRef
+    requires { ⌜ Holds (now work) v × (x < 63) × (234 * dst + 234 ≤ length (now work)) ⌝ }
+    ensures { λ r. ⌜ Gives (now (work .entry)) dst (now (work .exit)) r (closeOf x (valueOf (now (work .entry)) v)) ⌝ }
 {
-    let c = (r % 256) as u8;
-    if 192 <= c {
-        if c == 193 + x {
-            return 192;
+    match v {
+        ValueRef::Object(i, b) => {
+            if work[234 * (b as usize) + 193] <= x {
+                return bring(work, v, dst);
+            }
+            close_bound(work, x, b, i, dst)
         }
-        return r;
+        ValueRef::Mark(k) => {
+            if k == x {
+                return ValueRef::Undetermined;
+            }
+            v
+        }
+        ValueRef::Undetermined => v,
     }
-    let b = (r / 256 % 65536) as u16;
-    if work[234 * (b as usize) + 193] <= x {
-        return bring_in(work, r, dst);
-    }
-    pack(close_bound(work, x, b, c, dst))
 }

@@ -1,3 +1,4 @@
+-- The number of a value: a law for each case.
 use borrow.Author.Needs.{needs}
 use Rattle.values.proofs.refs.pack.Statement.{statement}
 use Rattle.values.proofs.refs.pack.Tie as tie
@@ -18,6 +19,8 @@ pub pack-spec : {M : Type 1} → statement M
 pack-spec =
     tie.close
     (tie.spec
+    (λ c. search needs)
+    (λ c. search needs)
     (λ c. search needs)
     (λ c. search needs)
     (λ c. search needs)

@@ -1,3 +1,4 @@
+-- The value of a number: a law for each case.
 use borrow.Author.Needs.{needs}
 use Rattle.values.proofs.refs.unpack.Statement.{statement}
 use Rattle.values.proofs.refs.unpack.Tie as tie
@@ -9,10 +10,10 @@ returns : tie.Need-returns
 returns c = search laws.object-in
 
 returns-2 : tie.Need-returns-2
-returns-2 c = search laws.undetermined-in
+returns-2 c = search laws.mark-in
 
 returns-3 : tie.Need-returns-3
-returns-3 c = search laws.mark-in
+returns-3 c = search laws.undetermined-in
 
 pub unpack-spec : {M : Type 1} → statement M
 unpack-spec =
@@ -21,6 +22,6 @@ unpack-spec =
     (λ c. search needs)
     (λ c. search needs)
     returns
-    returns-2
     (λ c. search needs)
+    returns-2
     returns-3)
