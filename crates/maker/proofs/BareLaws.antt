@@ -18,10 +18,11 @@ use Rattle.values.specs.declared.ValueRef.the-variants.{Object}
 use Rattle.values.specs.Layout.{Holds}
 use Rattle.values.proofs.Kept.{object-kept}
 use Rattle.values.proofs.Selecting.{unchanged, under}
-use Rattle.maker.specs.Laying.{valuesFrom, MadeIn}
+use Rattle.maker.specs.declared.Made.the-variants.{Value}
+use Rattle.maker.specs.Laying.{valuesFrom, MadeIs}
 use Rattle.maker.specs.Adding.{codesOf, objectOf}
 use Rattle.maker.specs.Bares.{bareObject, Preset, Bares, LaidBares}
-use Rattle.maker.proofs.Lays.{number-here}
+use Rattle.maker.proofs.Lays.{made-here}
 use Rattle.maker.proofs.Beside.{bare-root, bare-codes, no-parts, each-none, beside-value}
 
 -- ---- the table: a test of the numbers below n, and what it tells of each
@@ -135,7 +136,7 @@ bares-laid W P D pr ca room = record {
 
 -- ---- read
 module _ (W : List ℕ) (b : Bares W) where
-  pub bare-held : (c : ℕ) → c < 32 → Holds W (Object 0 c)
+  pub bare-held : (c : ℕ) → c < 32 → Holds W (Object c 0)
   bare-held c h = record { held = record { block = b .block; low = omega (arith, b .count) } }
 
   bare-node : (c : ℕ) → c < 32 → nodeIn W (234 * 0 + 6 * c) ≡ nodeIn (bareObject c) 0
@@ -152,10 +153,8 @@ module _ (W : List ℕ) (b : Bares W) where
         beside-value W c [] 0 3233857728 (no-parts W) (bare-codes W) 0 (b .block) (each-none [] 0 0) c
         (record { hit = λ _. bare-node c h; miss = λ l. absurd (omega (arith, b .count)) }) (omega (arith, b .count))
 
-    pub bare-number : MadeIn W (make c []) dst W c
-    bare-number =
-        subst (MadeIn W (make c []) dst W) (let z : 256 * 0 + c ≡ c = omega arith in z)
-        (number-here W W _ dst 0 c (bare-held c h .held) bare-value (under dst W W (unchanged dst W)) (omega arith) (omega arith))
+    pub bare-made : MadeIs W (make c []) dst W (Value (Object c 0))
+    bare-made = made-here W W _ dst 0 c (bare-held c h .held) bare-value (under dst W W (unchanged dst W)) (omega arith)
 
 pub bares-kept : (b : ℕ) (W W′ : List ℕ) → Beneath b W W′ → 0 < b → Bares W → Bares W′
 unfolding countIn levelIn

@@ -10,6 +10,8 @@ use lib.ListN.{length, getD, set, take, getElem?, length-map, length-set, length
 use lib.Seq.{getD-set-same, getD-set-other, getD-take, ext-getD, length-take-le}
 use lib.Dec.{eqb}
 use borrow.Author.Tests.{eqb-true, eq-eqb, ne-eqb}
+use types.Run.{OneOf}
+use denote.Enum.Declared.{tagOf}
 use Rattle.cofj.specs.Values.{Ref, obj, mark, undet, Node, node, Graph, graph, nodeAt, refsAt, canon, make, eqNode, eqNats}
 use Rattle.cofj.specs.Unfolding.{InRange, follow}
 use Rattle.cofj.proofs.Basics.{getD-map-lt, eqNode-true, eqNode-refl}
@@ -21,26 +23,26 @@ use Rattle.canon.proofs.Walks.{four, four-at}
 use Rattle.values.specs.declared.ValueRef.{ValueRef}
 use Rattle.values.specs.declared.ValueRef.the-variants.{Object, Mark, Undetermined}
 use Rattle.values.specs.Tests.{any}
-use Rattle.values.specs.Refs.{refIn}
 use Rattle.values.specs.Layout.{valueOf, rawOf, Holds}
 use Rattle.values.specs.Operations.{Gives, Copied}
 use Rattle.values.proofs.Tests.{not-true, not-false, any-there, any-not, any-more}
 use Rattle.values.proofs.Trees.{in-larger, leaf-same}
-use Rattle.values.proofs.Blocks.{held-inside, size-in}
+use Rattle.values.proofs.Blocks.{held-inside, no-object, size-in}
 use Rattle.values.proofs.Copies.{block-held}
 use Rattle.values.proofs.Selecting.{unchanged, under}
-use Rattle.values.proofs.RefLaws.{object-in, undetermined-in, mark-in}
+use Rattle.values.proofs.ValueRef as RefT
 use Rattle.maker.specs.Bares.{bareObject}
 use Rattle.maker.specs.declared.Slot.{Slot}
-use Rattle.maker.specs.Laying.{partsOf, valuesFrom, rawsFrom, PartsHeld, MadeIn}
+use Rattle.maker.specs.declared.Made.the-variants.{Value}
+use Rattle.maker.specs.Laying.{valuesFrom, rawsFrom, PartsHeld, MadeIs}
 use Rattle.maker.specs.Adding.{codesOf, objectOf, roots, RootObject, RootCodes, Missed, Found, Emptied, Appended, Added, isObject, blockOf, standsIn, partOf, allStand, someObject, firstBlock}
 use Rattle.maker.proofs.Codes.{object-class, object-count, object-code, object-length, object-whole, spare-codes, first-code, next-code, codes-packed, objectPut, object-put}
-use Rattle.maker.proofs.Lays.{none-slot, part-in, raws-whole, made-raw, number-held, number-here, number-brought}
+use Rattle.maker.proofs.Lays.{none-slot, raws-whole, made-raw, made-here, made-brought}
 use Rattle.maker.proofs.Adding.{more, inner-more, distinct-more, Fit, AllFit, roots-low, top, make-found, make-new}
 
 -- ---- the new object
 module _ (W : List ℕ) (r : ValueRef) where
-  pub code-object : (b i : ℕ) → Holds W r → r ≡ Object b i → refOf i ≡ rawOf W r .root
+  pub code-object : (b i : ℕ) → Holds W r → r ≡ Object i b → refOf i ≡ rawOf W r .root
   code-object b i h e = let ob : Inside W b i = held-inside W r b i h e in rw e (ref-object i (omega (arith, ob .low, ob .block .small)))
 
   pub code-mark : (k : ℕ) → r ≡ Mark k → refOf (193 + k) ≡ rawOf W r .root
@@ -128,28 +130,14 @@ module _ (W : List ℕ) (b t c n w k : ℕ) (bk : Block W b) (et : t ≡ countIn
   find-miss h l = record { hit = λ z. absurd (omega arith); miss = λ _. record { none = λ j q. m .none j (omega arith) } }
 
 -- ---- the parts
--- a number that stands for no object
-leaf-number : (P : ValueRef → Type 0) → ((k : ℕ) → P (Mark k)) → P Undetermined → (r : ℕ) → 192 ≤ r % 256 → P (refIn r)
-leaf-number P m u r h = go (ℕ-discrete (r % 256) 192)
-  where
-    go : Dec (r % 256 ≡ 192) → P (refIn r)
-    go (yes e) = subst P (undetermined-in r h e) u
-    go (no n) = subst P (mark-in r h n) (m _)
-
-module _ (P : List ℕ) (n i : ℕ) (h : i < n) (few : n ≤ 4) where
-  number-part : (v : ValueRef) → v ≡ refIn (getD P i 0) → v ≡ partOf (partsOf P) i
-  number-part v e = part-in P i v (omega arith) e
-
-  pub object-there : getD P i 0 % 256 < 192 → true ≡ someObject (partsOf P) n
+module _ (ps : List Slot) (n i : ℕ) (h : i < n) (v : ValueRef) (ev : v ≡ partOf ps i) where
+  pub object-there : (x k : ℕ) → v ≡ Object x k → true ≡ someObject ps n
   unfolding someObject isObject
-  object-there l =
-      sym (any-there (λ j. isObject (partOf (partsOf P) j)) n i h (ap isObject (sym (number-part (Object _ _) (object-in (getD P i 0) l)))))
+  object-there x k e = sym (any-there (λ j. isObject (partOf ps j)) n i h (ap isObject (sym ev ∙ e)))
 
-  pub leaves-more : someObject (partsOf P) i ≡ false → 192 ≤ getD P i 0 % 256 → someObject (partsOf P) (i + 1) ≡ false
+  pub leaves-more : someObject ps i ≡ false → OneOf (1 ∷ 2 ∷ []) (tagOf RefT.the-type v) → someObject ps (i + 1) ≡ false
   unfolding someObject isObject
-  leaves-more a l =
-      any-more (λ j. isObject (partOf (partsOf P) j)) i a
-      (ap isObject (sym (number-part (refIn (getD P i 0)) refl)) ∙ leaf-number (λ v. isObject v ≡ false) (λ k. refl) refl (getD P i 0) l)
+  leaves-more a l = any-more (λ j. isObject (partOf ps j)) i a (ap isObject (sym ev) ∙ no-object (λ u. isObject u ≡ false) (λ k. refl) refl v l)
 
 module _ (ps : List Slot) where
   pub leaves-none : someObject ps 0 ≡ false
@@ -164,14 +152,14 @@ pub denied : (r a : Bool) → r ≡ a → not r ≡ true → a ≡ false
 denied r a e q = sym e ∙ not-true r q
 
 -- ---- the first block other than 0
-module _ (r : ℕ) where
-  pub block-leaf : 192 ≤ r % 256 → 0 ≡ blockOf (refIn r)
+module _ (v : ValueRef) where
+  pub block-leaf : OneOf (1 ∷ 2 ∷ []) (tagOf RefT.the-type v) → 0 ≡ blockOf v
   unfolding blockOf
-  block-leaf h = leaf-number (λ v. 0 ≡ blockOf v) (λ k. refl) refl r h
+  block-leaf = no-object (λ u. 0 ≡ blockOf u) (λ k. refl) refl v
 
-  pub block-object : r % 256 < 192 → r / 256 % 65536 ≡ blockOf (refIn r)
+  pub block-object : (i b : ℕ) → v ≡ Object i b → b ≡ blockOf v
   unfolding blockOf
-  block-object h = ap blockOf (object-in r h)
+  block-object i b e = rw e
 
 module _ (ps : List Slot) where
   pub first-none : firstBlock ps 0 ≡ 0
@@ -202,7 +190,7 @@ module _ (ps : List Slot) where
   -- it holds objects
   own-block : (W : List ℕ) (v : ValueRef) → Holds W v → (blockOf v ≡ 0 → ⊥) → Block W (blockOf v)
   unfolding blockOf
-  own-block W (Object b i) h d = h .held .block
+  own-block W (Object i b) h d = h .held .block
   own-block W (Mark k) h d = absurd (d refl)
   own-block W Undetermined h d = absurd (d refl)
 
@@ -218,18 +206,18 @@ module _ (ps : List Slot) where
     pub first-block : (b : ℕ) → b ≡ firstBlock ps n → (b ≡ 0 → ⊥) → Block W b
     first-block b e d = subst (Block W) (sym e) (first-at n (omega arith) (λ z. d (e ∙ z)))
 
-module _ (P : List ℕ) (n i b : ℕ) (h : i < n) (few : n ≤ 4) (a : firstBlock (partsOf P) i ≡ 0) (e : b ≡ blockOf (refIn (getD P i 0))) where
-  part-block : b ≡ blockOf (partOf (partsOf P) i)
-  part-block = e ∙ ap blockOf (number-part P n i h few (refIn (getD P i 0)) refl)
+module _ (ps : List Slot) (n i b : ℕ) (h : i < n) (a : firstBlock ps i ≡ 0) (v : ValueRef) (ev : v ≡ partOf ps i) (e : b ≡ blockOf v) where
+  part-block : b ≡ blockOf (partOf ps i)
+  part-block = e ∙ ap blockOf ev
 
-  pub first-found : (b ≡ 0 → ⊥) → b ≡ firstBlock (partsOf P) n
-  first-found d = part-block ∙ sym (first-is (partsOf P) n i h a (λ z. d (part-block ∙ z)))
+  pub first-found : (b ≡ 0 → ⊥) → b ≡ firstBlock ps n
+  first-found d = part-block ∙ sym (first-is ps n i h a (λ z. d (part-block ∙ z)))
 
-  pub first-more : b ≡ 0 → firstBlock (partsOf P) (i + 1) ≡ 0
-  first-more z = let s : i + 1 ≡ suc i = omega arith in rw s (first-next (partsOf P) i a ∙ sym part-block ∙ z)
+  pub first-more : b ≡ 0 → firstBlock ps (i + 1) ≡ 0
+  first-more z = let s : i + 1 ≡ suc i = omega arith in rw s (first-next ps i a ∙ sym part-block ∙ z)
 
 -- ---- the parts in one block
-pub stands-here : (b : ℕ) (v : ValueRef) (x i : ℕ) → v ≡ Object x i → eqb x b ≡ standsIn b v
+pub stands-here : (b : ℕ) (v : ValueRef) (x i : ℕ) → v ≡ Object i x → eqb x b ≡ standsIn b v
 unfolding standsIn
 stands-here b v x i e = rw e
 
@@ -274,7 +262,7 @@ leaf-fit ns s h = record { low = in-larger 0 (length ns) s (omega arith) h; tree
 
 value-fit : (W : List ℕ) (b : ℕ) → Block W b → (r : ValueRef) → Holds W r → standsIn b r ≡ true → Fit (objectsIn W b) (rawOf W r)
 unfolding standsIn
-value-fit W b bk (Object x i) h e = record {
+value-fit W b bk (Object i x) h e = record {
   low = omega (arith, size-in W b bk, h .held .low, ap (countIn W) (eqb-true x b e));
   tree = λ p. ap (λ (y : ℕ). follow (objectsIn W y) (obj i) p) (sym (eqb-true x b e));
 }
@@ -413,9 +401,6 @@ module _ (W : List ℕ) (b t : ℕ) (T : List ℕ) (dst : ℕ) (D : List ℕ) (p
           rw (ea, eb) (ad .old (6 * i + k) (omega arith))) (pk i h)
       go i (no h) l = let e : i ≡ t = omega (arith, h) in rw e (packed-same D T (234 * dst + 6 * t) 0 top-byte pt)
 
-pub beside-held : (W : List ℕ) (b k : ℕ) → Block W b → k < getD W (234 * b + 192) 0 → b < 65536 → Holds W (refIn (256 * b + k))
-beside-held W b k bk h s = number-held W b k (block-held W b k bk h .held) s
-
 -- ---- made
 module _ (W : List ℕ) (c : ℕ) (ps : List Slot) (n w : ℕ) (held : PartsHeld W ps n) (rc : RootCodes (rawsFrom W ps 0 n) n w) where
   abbrev gs : List Graph
@@ -453,8 +438,8 @@ module _ (W : List ℕ) (c : ℕ) (ps : List Slot) (n w : ℕ) (held : PartsHeld
     new-inside : Inside D dst t
     new-inside = record { block = bk; low = omega (arith, ad .count) }
 
-    made-new : dst < 65536 → MadeIn W (make c (valuesFrom W ps 0 n)) dst D (256 * dst + t)
-    made-new s = number-here W D _ dst dst t new-inside value (under dst W D (ad .outside)) s (omega arith)
+    made-new : MadeIs W (make c (valuesFrom W ps 0 n)) dst D (Value (Object t dst))
+    made-new = made-here W D _ dst dst t new-inside value (under dst W D (ad .outside)) (omega arith)
 
   -- beside the objects of a block
   module _ (b : ℕ) (bk : Block W b) (bs : allStand ps n b ≡ true) where
@@ -470,22 +455,22 @@ module _ (W : List ℕ) (c : ℕ) (ps : List Slot) (n w : ℕ) (held : PartsHeld
             made-raw W c ps n held ∙ make-found c gs (objectsIn W b) (raws-whole W c ps n held) fits (bk .whole .inner) k (omega (arith, size-in W b bk))
             (at-nodes W (234 * b) (getD W (234 * b + 192) 0) k h ∙ fd .hit h ∙ cr .is)
 
-        pub beside-found : b < 65536 → (dst : ℕ) (W′ : List ℕ) (q : ℕ) → Gives W dst W′ (refIn q) (valueOf W (refIn (256 * b + k))) → MadeIn W (make c (valuesFrom W ps 0 n)) dst W′ q
-        beside-found s dst W′ q g = number-brought W W _ dst b k (block-held W b k bk h .held) beside-value (under dst W W (unchanged dst W)) s W′ q g
+        pub beside-found : (dst : ℕ) (W′ : List ℕ) (r : ValueRef) → Gives W dst W′ r (canon (graphAt W b k)) → MadeIs W (make c (valuesFrom W ps 0 n)) dst W′ (Value r)
+        beside-found dst = made-brought W W _ dst b k (block-held W b k bk h .held) beside-value (under dst W W (unchanged dst W))
 
-      pub beside-new : getD W (234 * b + 192) 0 ≤ k → getD W (234 * b + 192) 0 < 32 → (dst : ℕ) (D : List ℕ) → dst < 65536 → 234 * dst + 234 ≤ length W → Added W b (countIn W b) (objectOf c n w) dst D
-          → MadeIn W (make c (valuesFrom W ps 0 n)) dst D (256 * dst + getD W (234 * b + 192) 0)
+      pub beside-new : getD W (234 * b + 192) 0 ≤ k → getD W (234 * b + 192) 0 < 32 → (dst : ℕ) (D : List ℕ) → 234 * dst + 234 ≤ length W → Added W b (countIn W b) (objectOf c n w) dst D
+          → MadeIs W (make c (valuesFrom W ps 0 n)) dst D (Value (Object (getD W (234 * b + 192) 0) dst))
       unfolding countIn objectsIn
-      beside-new ge h dst D s room ad =
+      beside-new ge h dst D room ad =
           made-new b (getD W (234 * b + 192) 0) dst D (bk .packed) (omega arith) (bk .whole .inner) fits (bk .distinct)
           (λ j l e. let m : j < getD W (234 * b + 192) 0 = omega (arith, size-in W b bk) in
-          fd .miss ge .none j m (sym (at-nodes W (234 * b) (getD W (234 * b + 192) 0) j m) ∙ e)) room ad s
+          fd .miss ge .none j m (sym (at-nodes W (234 * b) (getD W (234 * b + 192) 0) j m) ∙ e)) room ad
 
   -- alone
   module _ (lv : someObject ps n ≡ false) where
     alone-fit : (r : ValueRef) → isObject r ≡ false → Fit [] (rawOf W r)
     unfolding isObject
-    alone-fit (Object b i) e = absurd (false≢true (sym e))
+    alone-fit (Object i b) e = absurd (false≢true (sym e))
     alone-fit (Mark k) e = leaf-fit [] (mark k) tt
     alone-fit Undetermined e = leaf-fit [] undet tt
 
@@ -493,11 +478,10 @@ module _ (W : List ℕ) (c : ℕ) (ps : List Slot) (n w : ℕ) (held : PartsHeld
     unfolding rawsFrom someObject
     alone-fits = all-fit W [] n ps (λ i h. alone-fit (partOf ps i) (any-not (λ j. isObject (partOf ps j)) n i lv h))
 
-    pub alone-new : (dst l : ℕ) (D : List ℕ) → Levels (objectOf c n w) 0 6 l → 234 * dst + 234 ≤ length W → dst < 65536 → Appended W dst 0 (objectOf c n w) l D → MadeIn W (make c (valuesFrom W ps 0 n)) dst D (256 * dst)
+    pub alone-new : (dst l : ℕ) (D : List ℕ) → Levels (objectOf c n w) 0 6 l → 234 * dst + 234 ≤ length W → Appended W dst 0 (objectOf c n w) l D → MadeIs W (make c (valuesFrom W ps 0 n)) dst D (Value (Object 0 dst))
     unfolding nodesIn
-    alone-new dst l D ls room s a =
-        subst (MadeIn W (make c (valuesFrom W ps 0 n)) dst D) (let z : 256 * dst + 0 ≡ 256 * dst = omega arith in z)
-        (made-new dst 0 dst D (λ i h. absurd (omega arith)) (omega arith) (λ i f r e. absurd (Option·none-ne-some r e)) alone-fits (record { apart = λ i j h. absurd (omega arith) }) (λ j h. absurd (omega arith)) room
+    alone-new dst l D ls room a =
+        made-new dst 0 dst D (λ i h. absurd (omega arith)) (omega arith) (λ i f r e. absurd (Option·none-ne-some r e)) alone-fits (record { apart = λ i j h. absurd (omega arith) }) (λ j h. absurd (omega arith)) room
         (record {
           count = a .count;
           reach = a .reach;
@@ -506,7 +490,7 @@ module _ (W : List ℕ) (c : ℕ) (ps : List Slot) (n w : ℕ) (held : PartsHeld
           level = λ q h. let e : 234 * dst + 6 * 0 + q ≡ 234 * dst + q = omega arith in let z : 0 + q ≡ q = omega arith in
               omega (arith, rw e at (a .top q (omega arith)), rw z at (ls .below q (omega arith)), a .level);
           outside = a .outside;
-        }) s)
+        })
 
 -- ---- a new object without parts
 pub bare-root : (W : List ℕ) (c : ℕ) → RootObject c (rawsFrom W [] 0 0) (bareObject c)
@@ -529,7 +513,7 @@ bare-codes W = record { object = λ c. bare-root W c }
 pub no-parts : (W : List ℕ) → PartsHeld W [] 0
 no-parts W = record { full = omega arith; part = λ i h. absurd (omega arith) }
 
-pub bare-new : (W : List ℕ) (c dst l : ℕ) (D : List ℕ) → Levels (objectOf c 0 3233857728) 0 6 l → 234 * dst + 234 ≤ length W → dst < 65536 → Appended W dst 0 (objectOf c 0 3233857728) l D
-    → MadeIn W (make c []) dst D (256 * dst)
+pub bare-new : (W : List ℕ) (c dst l : ℕ) (D : List ℕ) → Levels (objectOf c 0 3233857728) 0 6 l → 234 * dst + 234 ≤ length W → Appended W dst 0 (objectOf c 0 3233857728) l D
+    → MadeIs W (make c []) dst D (Value (Object 0 dst))
 unfolding valuesFrom
-bare-new W c dst l D ls room s a = alone-new W c [] 0 3233857728 (no-parts W) (bare-codes W) (leaves-none []) dst l D ls room s a
+bare-new W c = alone-new W c [] 0 3233857728 (no-parts W) (bare-codes W) (leaves-none [])

@@ -8,7 +8,7 @@ use mathlib.Core.List.{List, [], _∷_, _++_, map}
 use mathlib.Core.Option.{none, some, Option·none-ne-some}
 use lib.ListN.{length, getD, set, take, drop, getElem?, length-map, length-set, length-take, length-drop, length-append, drop-of-length-le}
 use lib.Seq.{getD-set-same, getD-set-other, drop-cons, getD-take, ext-getD, length-take-le}
-use borrow.Author.Tests.{le-leb, lt-leb, ne-eqb}
+use borrow.Author.Tests.{le-leb, lt-leb}
 use Rattle.cofj.specs.Values.{Ref, obj, mark, undet, Node, node, Graph, graph, rename, renameNode, refsAt, lay, make, canon, colours}
 use Rattle.cofj.specs.Unfolding.{InRange, SameTree, Whole}
 use Rattle.cofj.proofs.Canon.{canon-same, canon-whole, canon-length}
@@ -17,6 +17,7 @@ use Rattle.cofj.proofs.Operations.{AllWhole, laid, laid-whole, length-roots}
 use Rattle.values.specs.declared.ValueRef.{ValueRef}
 use Rattle.values.specs.declared.ValueRef.the-variants.{Object, Mark, Undetermined}
 use Rattle.maker.specs.declared.Slot.{Slot}
+use Rattle.maker.specs.declared.Made.the-variants.{Value, TooLarge}
 use Rattle.canon.specs.Layout.{refOf, nodeIn, nodesIn, Packed, Block, Inside, objectsIn, graphAt, countIn, Beneath}
 use Rattle.values.specs.Layout.{valueOf, rawOf, Holds, HeldBy}
 use Rattle.canon.specs.Tables.{Filled, Lifted}
@@ -24,15 +25,14 @@ use Rattle.canon.specs.Rounds.{Raw}
 use Rattle.canon.specs.Numbers.{Ready, Placed, graphIn}
 use Rattle.maker.specs.Adding.{partOf}
 use Rattle.values.specs.Operations.{Gives}
-use Rattle.values.specs.Refs.{refIn, answerOf}
-use Rattle.maker.specs.Laying.{partsOf, valuesFrom, rawsFrom, PartsHeld, LaidNodes, LaidOne, LaidAll, Built, MadeIs, MadeIn}
+use Rattle.values.specs.Refs.{refIn}
+use Rattle.maker.specs.Laying.{partsOf, valuesFrom, rawsFrom, PartsHeld, LaidNodes, LaidOne, LaidAll, Built, MadeIs}
 use Rattle.canon.proofs.Nodes.{length-nodes, nodes-same, packed-same, more-nodes, ref-object, ref-undet, ref-mark}
 use Rattle.canon.proofs.Turned.{turnRef, lifted-nodes, lifted-packed, turn-rename, nodes-agree}
 use Rattle.canon.proofs.Walks.{four, four-at}
 use Rattle.values.proofs.Blocks.{held-inside, inner-in, whole-at, size-in}
 use Rattle.values.proofs.Selecting.{unchanged, under}
-use Rattle.values.proofs.RefLaws.{mark-in, pack-object, answer-object}
-use Rattle.values.proofs.Trees.{AllSame, same-make, canon-root}
+use Rattle.values.proofs.Trees.{AllSame, same-make}
 
 -- ---- one value
 pub lay-nodes : (W : List ℕ) (b at : ℕ) (T R₀ R : List ℕ) → Block W b → at ≤ 97 → Filled (λ i. at + i) (getD W (234 * b + 192) 0) T
@@ -53,11 +53,11 @@ lay-nodes W b at T R₀ R bk h f l =
       kept = λ p q. l .below p q;
     }
 
-pub object-low : (W : List ℕ) (r : ValueRef) (at b j : ℕ) → at ≤ 97 → Holds W r → r ≡ Object b j → at + j < 192
+pub object-low : (W : List ℕ) (r : ValueRef) (at b j : ℕ) → at ≤ 97 → Holds W r → r ≡ Object j b → at + j < 192
 object-low W r at b j l h e = let ob : Inside W b j = held-inside W r b j h e in omega (arith, ob .low, ob .block .small)
 
 module _ (W : List ℕ) (r : ValueRef) (at i : ℕ) (R₀ : List ℕ) (hi : i < 4) (one : 1 ≤ at) (top : at ≤ 97) (room : 1536 ≤ length R₀) where
-  pub lay-object : (b j n : ℕ) (R : List ℕ) → Holds W r → r ≡ Object b j → LaidNodes (objectsIn W b) at R₀ R n → LaidOne (rawOf W r) at i R₀ (set R (2 + i) (at + j)) (at + n)
+  pub lay-object : (b j n : ℕ) (R : List ℕ) → Holds W r → r ≡ Object j b → LaidNodes (objectsIn W b) at R₀ R n → LaidOne (rawOf W r) at i R₀ (set R (2 + i) (at + j)) (at + n)
   lay-object b j n R hr e l = rw e (record {
     same = length-set R (2 + i) (at + j) ∙ l .same;
     next = ap (λ (k : ℕ). at + k) (l .count);
@@ -278,17 +278,17 @@ build-done W c ps n R S t h few room l = built c (rawsFrom W ps 0 n) n R S t (pa
 
 -- ---- made
 pub raw-whole : (W : List ℕ) (r : ValueRef) → Holds W r → Whole (rawOf W r)
-raw-whole W (Object b i) h = whole-at W b (h .held .block) i (h .held .low)
+raw-whole W (Object i b) h = whole-at W b (h .held .block) i (h .held .low)
 raw-whole W (Mark k) h = record { top = tt; inner = λ i f r e. absurd (Option·none-ne-some r e) }
 raw-whole W Undetermined h = record { top = tt; inner = λ i f r e. absurd (Option·none-ne-some r e) }
 
 value-whole : (W : List ℕ) (r : ValueRef) → Holds W r → Whole (valueOf W r)
-value-whole W (Object b i) h = canon-whole (graphAt W b i) (raw-whole W (Object b i) h)
+value-whole W (Object i b) h = canon-whole (graphAt W b i) (raw-whole W (Object i b) h)
 value-whole W (Mark k) h = raw-whole W (Mark k) h
 value-whole W Undetermined h = raw-whole W Undetermined h
 
 value-tree : (W : List ℕ) (r : ValueRef) → Holds W r → SameTree (valueOf W r) (rawOf W r)
-value-tree W (Object b i) h = canon-same (graphAt W b i) (raw-whole W (Object b i) h)
+value-tree W (Object i b) h = canon-same (graphAt W b i) (raw-whole W (Object i b) h)
 value-tree W (Mark k) h = λ p. refl
 value-tree W Undetermined h = λ p. refl
 
@@ -319,32 +319,18 @@ module _ (W : List ℕ) (c : ℕ) (ps : List Slot) (n : ℕ) (held : PartsHeld W
   unfolding rawsFrom valuesFrom
   made-raw = same-make c _ _ (all-value W n ps (held .part)) (all-raw W n ps (held .part)) (all-tree W n ps (held .part))
 
--- ---- the number of what is made
+-- ---- made
 pub beneath-more : (dst : ℕ) (W W1 W2 : List ℕ) → Beneath dst W W1 → Beneath dst W1 W2 → Beneath dst W W2
 beneath-more dst W W1 W2 a b = record { same = b .same ∙ a .same; below = λ p h. b .below p h ∙ a .below p h }
 
-pub nothing-made : (W : List ℕ) (v : Graph) (dst : ℕ) (W′ : List ℕ) → MadeIs W v dst W′ none → MadeIn W v dst W′ 4294967295
-unfolding answerOf
-nothing-made W v dst W′ m = record { is = m }
-
--- object i of block b
-module _ (W : List ℕ) (b i : ℕ) (ob : Inside W b i) (s : b < 65536) where
-  small : i < 192
-  small = omega (arith, ob .low, ob .block .small)
-
-  number-is : refIn (256 * b + i) ≡ Object b i
-  number-is = pack-object (Object b i) b i (s, small) refl
-
-  pub number-held : Holds W (refIn (256 * b + i))
-  number-held = rw number-is (record { held = ob })
-
--- the value that it stands for
+-- the value of object i of block b
 module _ (W W1 : List ℕ) (v : Graph) (dst b i : ℕ) (ob : Inside W1 b i) (e : v ≡ canon (graphAt W1 b i)) (bn : Beneath dst W W1) where
   whole : Whole (graphAt W1 b i)
   whole = whole-at W1 b (ob .block) i (ob .low)
 
-  given : (W2 : List ℕ) (o : ValueRef) → Gives W1 dst W2 o (valueOf W1 (Object b i)) → MadeIs W v dst W2 (some o)
-  given W2 o g =
+  -- brought down
+  pub made-brought : (W2 : List ℕ) (r : ValueRef) → Gives W1 dst W2 r (canon (graphAt W1 b i)) → MadeIs W v dst W2 (Value r)
+  made-brought W2 r g =
       let l : length (v .nodes) ≤ 32 = omega (arith, ap (λ (x : Graph). length (x .nodes)) e, canon-length (graphAt W1 b i) whole, size-in W1 b (ob .block), ob .block .small) in
       record {
         held = g .held;
@@ -354,33 +340,8 @@ module _ (W W1 : List ℕ) (v : Graph) (dst b i : ℕ) (ob : Inside W1 b i) (e :
       }
 
   -- where it is
-  pub made-here : b ≤ dst → MadeIs W v dst W1 (some (Object b i))
-  made-here l = given W1 (Object b i) (record { held = record { held = ob }; is = refl; place = omega arith; outside = unchanged dst W1 })
-
-  module _ (s : b < 65536) where
-    pub number-here : b ≤ dst → MadeIn W v dst W1 (256 * b + i)
-    number-here l = record { is = rw (answer-object b i s (small W1 b i ob s)) (made-here l) }
-
-    -- brought down
-    module _ (W2 : List ℕ) (q : ℕ) (g : Gives W1 dst W2 (refIn q) (valueOf W1 (refIn (256 * b + i)))) where
-      is-object : Gives W1 dst W2 (refIn q) (canon (graphAt W1 b i))
-      is-object = rw (number-is W1 b i ob s) at g
-
-      -- the number of no value stands for a mark
-      no-mark : (q ≡ 4294967295) → ⊥
-      no-mark z =
-          let m : Mark 62 ≡ refIn q = rw z (mark-in 4294967295 (omega arith) (λ y. omega arith)) in
-          let r : mark 62 ≡ obj 0 = ap (λ (x : ValueRef). valueOf W2 x .root) m ∙ ap (λ (x : Graph). x .root) (is-object .is) ∙ canon-root i (objectsIn W1 b) whole in
-          let y : _≡_ {A = ℕ} 0 1 = cc in
-          absurd (omega arith)
-
-      pub number-brought : MadeIn W v dst W2 q
-      unfolding answerOf
-      number-brought = record { is = rw (ne-eqb q 4294967295 no-mark) (given W2 (refIn q) is-object) }
-
--- the first object of block dst
-pub first-made : (W W1 : List ℕ) (v : Graph) (dst : ℕ) → Inside W1 dst 0 → v ≡ canon (graphAt W1 dst 0) → Beneath dst W W1 → dst < 65536 → MadeIn W v dst W1 (256 * dst)
-first-made W W1 v dst ob e bn s = subst (MadeIn W v dst W1) (let z : 256 * dst + 0 ≡ 256 * dst = omega arith in z) (number-here W W1 v dst dst 0 ob e bn s (omega arith))
+  pub made-here : b ≤ dst → MadeIs W v dst W1 (Value (Object i b))
+  made-here l = made-brought W1 (Object i b) (record { held = record { held = ob }; is = refl; place = omega arith; outside = unchanged dst W1 })
 
 module _ (W : List ℕ) (c : ℕ) (ps : List Slot) (n : ℕ) (R : List ℕ) (t : ℕ) (held : PartsHeld W ps n) (b : Built c (rawsFrom W ps 0 n) R t) where
   whole-laid : Whole (laid c (rawsFrom W ps 0 n))
@@ -414,8 +375,8 @@ module _ (W : List ℕ) (c : ℕ) (ps : List Slot) (n : ℕ) (R : List ℕ) (t :
     size : m ≡ length (make c (valuesFrom W ps 0 n) .nodes)
     size = p .count ∙ ap (λ (g : Graph). length (g .nodes)) value-is
 
-    pub made-large : 32 < m → MadeIn W (make c (valuesFrom W ps 0 n)) dst W′ 4294967295
-    made-large h = nothing-made W _ dst W′ (record { held = tt; is = rw (← size, lt-leb m 32 h); place = tt; beneath = under dst W W′ (p .outside) })
+    pub made-large : 32 < m → MadeIs W (make c (valuesFrom W ps 0 n)) dst W′ TooLarge
+    made-large h = record { held = tt; is = rw (← size, lt-leb m 32 h); place = tt; beneath = under dst W W′ (p .outside) }
 
-    pub made-value : m ≤ 32 → dst < 65536 → MadeIn W (make c (valuesFrom W ps 0 n)) dst W′ (256 * dst)
-    made-value h s = first-made W W′ _ dst (p .has h .inside) (sym (ap canon (p .has h .is) ∙ canon-canon (graphIn R t 0) whole-in ∙ value-is)) (under dst W W′ (p .outside)) s
+    pub made-value : m ≤ 32 → MadeIs W (make c (valuesFrom W ps 0 n)) dst W′ (Value (Object 0 dst))
+    made-value h = made-here W W′ _ dst dst 0 (p .has h .inside) (sym (ap canon (p .has h .is) ∙ canon-canon (graphIn R t 0) whole-in ∙ value-is)) (under dst W W′ (p .outside)) (omega arith)

@@ -27,7 +27,6 @@ use Rattle.values.specs.declared.ValueRef.the-variants.{Object, Mark, Undetermi
 use Rattle.values.specs.Layout.{valueOf, rawOf, Holds, HeldBy, liesIn}
 use Rattle.values.specs.Tests.{any}
 use Rattle.values.specs.Operations.{Gives, Copied}
-use Rattle.values.specs.Refs.{refIn}
 use Rattle.values.proofs.ValueRef as RefT
 use Rattle.values.proofs.Tests.{not-false, any-there, any-not}
 use Rattle.values.proofs.Blocks.{held-room, no-object, size-in, whole-at}
@@ -36,11 +35,13 @@ use Rattle.values.proofs.Copies.{block-moves}
 use Rattle.values.proofs.Selecting.{unchanged, under}
 use Rattle.values.proofs.Kept.{Kept, kept}
 use Rattle.maker.specs.declared.Slot.{Slot}
-use Rattle.maker.specs.Laying.{valuesFrom, rawsFrom, PartsHeld, MadeIn}
+use Rattle.maker.specs.declared.Made.{Made}
+use Rattle.maker.specs.declared.Made.the-variants.{Value}
+use Rattle.maker.specs.Laying.{valuesFrom, rawsFrom, PartsHeld, MadeIs}
 use Rattle.maker.specs.Adding.{codesOf, objectOf, Missed, Found, Emptied, Appended, Added, partOf}
 use Rattle.maker.specs.Merging.{Grown, Fits, Standing, Entered, CodeAs, Mapped, Importing, Imported, ObjectBytes, Turned, Turning, TurnedAll, liesFrom, refersFrom, As, PartImported, Begun, RootBrought, PartsBrought, someIn, largerOf, largestOf}
 use Rattle.maker.proofs.Codes.{object-class, object-count, object-code, object-length, codes-packed, spare-codes, first-code, next-code, object-bytes, object-read}
-use Rattle.maker.proofs.Lays.{raws-whole, made-raw, parts-length, beneath-more, number-held, number-brought}
+use Rattle.maker.proofs.Lays.{raws-whole, made-raw, parts-length, beneath-more, made-brought}
 use Rattle.maker.proofs.Adding.{more, old-tree, at-new}
 use Rattle.maker.proofs.Beside.{outside-more, add-here, objects-are, block-added}
 
@@ -536,7 +537,7 @@ module _ (W : List ℕ) (b i base host : ℕ) (ib : Inside W b i) (bg : Begun W 
   small-object : refOf i ≡ obj i
   small-object = ref-object i (omega (arith, ib .low, ib .block .small))
 
-  pub object-base : b ≡ base → PartImported W (Object b i) host W i
+  pub object-base : b ≡ base → PartImported W (Object i b) host W i
   object-base e =
       let l : i < countIn W base = omega (arith, ib .low, ap (countIn W) e) in
       record {
@@ -547,7 +548,7 @@ module _ (W : List ℕ) (b i base host : ℕ) (ib : Inside W b i) (bg : Begun W 
         };
       }
 
-  pub object-host : b ≡ host → PartImported W (Object b i) host W i
+  pub object-host : b ≡ host → PartImported W (Object i b) host W i
   object-host e = record {
     grown = grown-none host W (bg .target);
     like = λ _. record {
@@ -573,7 +574,7 @@ module _ (W : List ℕ) (b i base host : ℕ) (ib : Inside W b i) (bg : Begun W 
             go (yes l) = getD-replicate k x 0 0 l
             go (no l) = List·getD-eq-default (replicate k 0) 0 {n = x} (omega (arith, l, length-replicate {A = ℕ} k 0))
 
-    pub object-other : (W′ M′ : List ℕ) (r : ℕ) → Imported W b i host W′ M′ r → PartImported W (Object b i) host W′ r
+    pub object-other : (W′ M′ : List ℕ) (r : ℕ) → Imported W b i host W′ M′ r → PartImported W (Object i b) host W′ r
     object-other W′ M′ r im = record {
       grown = im .grown;
       like = λ d. record {
@@ -632,20 +633,20 @@ module _ (W : List ℕ) (b i host : ℕ) (ib : Inside W b i) (bk : Block W host)
   pub bare-fits : Fits W host (objectOf (getD W (234 * b + 6 * i) 0) 0 w)
   bare-fits = bytes-fit W b i host none-met bare-importing bare-low W none-met bare-object true bare-turned refl
 
-  pub bare-imported : (W′ : List ℕ) (r : ℕ) → Entered W host (objectOf (getD W (234 * b + 6 * i) 0) 0 w) W′ r → PartImported W (Object b i) host W′ r
+  pub bare-imported : (W′ : List ℕ) (r : ℕ) → Entered W host (objectOf (getD W (234 * b + 6 * i) 0) 0 w) W′ r → PartImported W (Object i b) host W′ r
   bare-imported W′ r en = go (ℕ-discrete r 32)
     where
       full : r ≡ 32 → Imported W b i host W′ none-met r
       full e = subst (Imported W b i host W′ none-met) (sym e) (bytes-full W b i host none-met bare-importing bare-low W none-met bare-object true bare-turned refl W′ r en e)
 
-      go : Dec (r ≡ 32) → PartImported W (Object b i) host W′ r
+      go : Dec (r ≡ 32) → PartImported W (Object i b) host W′ r
       go (yes e) = object-other W b i host host ib begun apart W′ none-met r (full e)
       go (no d) =
           object-other W b i host host ib begun apart W′ (set none-met i (r + 1)) r
           (bytes-done W b i host none-met bare-importing bare-low W none-met bare-object true bare-turned refl W′ r en d)
 
 module _ (W : List ℕ) (v : ValueRef) (base host : ℕ) (h : Holds W v) (bg : Begun W base host) where
-  pub part-object : (b i : ℕ) (W′ : List ℕ) (r : ℕ) → v ≡ Object b i → PartImported W (Object b i) host W′ r → PartImported W v host W′ r
+  pub part-object : (b i : ℕ) (W′ : List ℕ) (r : ℕ) → v ≡ Object i b → PartImported W (Object i b) host W′ r → PartImported W v host W′ r
   part-object b i W′ r e p = subst (λ (x : ValueRef). PartImported W x host W′ r) (sym e) p
 
   pub part-small : (k : ℕ) → v ≡ Mark k → k < 63
@@ -671,7 +672,7 @@ same-values W W′ (suc n) (s ∷ ps) h = ap₂ {A = Graph} {B = List Graph} {C 
 -- ---- values in a block that has grown, and in the others
 module _ (host : ℕ) (W W′ : List ℕ) (g : Grown host W W′) where
   pub part-held : (v : ValueRef) → Holds W v → Holds W′ v
-  part-held (Object b i) h = record { held = go (ℕ-discrete b host) }
+  part-held (Object i b) h = record { held = go (ℕ-discrete b host) }
     where
       go : Dec (b ≡ host) → Inside W′ b i
       go (yes e) = subst (λ (x : ℕ). Inside W′ x i) (sym e) (record { block = g .block; low = omega (arith, h .held .low, ap (countIn W) e, g .most) })
@@ -680,7 +681,7 @@ module _ (host : ℕ) (W W′ : List ℕ) (g : Grown host W W′) where
   part-held Undetermined h = record { held = tt }
 
   part-tree : (v : ValueRef) → Holds W v → Same (rawOf W v .nodes) (rawOf W v .root) (rawOf W′ v .nodes) (rawOf W′ v .root)
-  part-tree (Object b i) h p = go (ℕ-discrete b host)
+  part-tree (Object i b) h p = go (ℕ-discrete b host)
     where
       go : Dec (b ≡ host) → follow (objectsIn W b) (obj i) p ≡ follow (objectsIn W′ b) (obj i) p
       go (yes e) =
@@ -691,10 +692,10 @@ module _ (host : ℕ) (W W′ : List ℕ) (g : Grown host W W′) where
   part-tree Undetermined h p = refl
 
   part-value : (v : ValueRef) → Holds W v → valueOf W′ v ≡ valueOf W v
-  part-value (Object b i) h =
-      let h′ : Holds W′ (Object b i) = part-held (Object b i) h in
+  part-value (Object i b) h =
+      let h′ : Holds W′ (Object i b) = part-held (Object i b) h in
       same-canon (graphAt W′ b i) (graphAt W b i) (whole-at W′ b (h′ .held .block) i (h′ .held .low)) (whole-at W b (h .held .block) i (h .held .low))
-      (λ p. sym (part-tree (Object b i) h p))
+      (λ p. sym (part-tree (Object i b) h p))
   part-value (Mark k) h = refl
   part-value Undetermined h = refl
 
@@ -772,15 +773,13 @@ brought-start W base host bg = grown-none host W (bg .target)
 beneath-grown : (host dst : ℕ) (W W′ : List ℕ) → dst ≤ host → Grown host W W′ → Beneath dst W W′
 beneath-grown host dst W W′ h g = record { same = g .outside .same; below = λ p l. g .outside .below p (omega arith) }
 
-made-from : (W W1 : List ℕ) (c : ℕ) (ps : List Slot) (n dst : ℕ) (W2 : List ℕ) (q : ℕ) → Beneath dst W W1 → valuesFrom W1 ps 0 n ≡ valuesFrom W ps 0 n
-    → MadeIn W1 (make c (valuesFrom W1 ps 0 n)) dst W2 q → MadeIn W (make c (valuesFrom W ps 0 n)) dst W2 q
-made-from W W1 c ps n dst W2 q b e m = record {
-  is = record {
-    held = m .is .held;
-    is = m .is .is ∙ ap (λ (v : Graph). cond (leb (length (v .nodes)) 32) (some v) none) (ap (make c) e);
-    place = m .is .place;
-    beneath = beneath-more dst W W1 W2 b (m .is .beneath);
-  };
+made-from : (W W1 : List ℕ) (c : ℕ) (ps : List Slot) (n dst : ℕ) (W2 : List ℕ) (o : Made) → Beneath dst W W1 → valuesFrom W1 ps 0 n ≡ valuesFrom W ps 0 n
+    → MadeIs W1 (make c (valuesFrom W1 ps 0 n)) dst W2 o → MadeIs W (make c (valuesFrom W ps 0 n)) dst W2 o
+made-from W W1 c ps n dst W2 o b e m = record {
+  held = m .held;
+  is = m .is ∙ ap (λ (v : Graph). cond (leb (length (v .nodes)) 32) (some v) none) (ap (make c) e);
+  place = m .place;
+  beneath = beneath-more dst W W1 W2 b (m .beneath);
 }
 
 abbrev AllLike : List Node → List Ref → List Graph → Type 0
@@ -810,8 +809,8 @@ module _ (W : List ℕ) (c : ℕ) (ps : List Slot) (n host dst : ℕ) (held : Pa
   pub in-room : 234 * dst + 234 ≤ length W → 234 * dst + 234 ≤ length W1
   in-room h = omega (arith, br .grown .outside .same)
 
-  pub in-laid : (W2 : List ℕ) (q : ℕ) → MadeIn W1 (make c (valuesFrom W1 ps 0 n)) dst W2 q → MadeIn W (make c (valuesFrom W ps 0 n)) dst W2 q
-  in-laid W2 q m = made-from W W1 c ps n dst W2 q (beneath-grown host dst W W1 le (br .grown)) (parts-values host W W1 (br .grown) ps n held) m
+  pub in-laid : (W2 : List ℕ) (o : Made) → MadeIs W1 (make c (valuesFrom W1 ps 0 n)) dst W2 o → MadeIs W (make c (valuesFrom W ps 0 n)) dst W2 o
+  in-laid W2 o m = made-from W W1 c ps n dst W2 o (beneath-grown host dst W W1 le (br .grown)) (parts-values host W W1 (br .grown) ps n held) m
 
   module _ (ew : (w % 256 ≡ 32) → ⊥) where
     rb : RootBrought W ps n 0 W1 host w
@@ -846,8 +845,8 @@ module _ (W : List ℕ) (c : ℕ) (ps : List Slot) (n host dst : ℕ) (held : Pa
       pub in-room-2 : 234 * dst + 234 ≤ length W → 234 * dst + 234 ≤ length W2
       in-room-2 h = omega (arith, both .outside .same)
 
-      pub in-laid-2 : (W3 : List ℕ) (q : ℕ) → MadeIn W2 (make c (valuesFrom W2 ps 0 n)) dst W3 q → MadeIn W (make c (valuesFrom W ps 0 n)) dst W3 q
-      in-laid-2 W3 q m = made-from W W2 c ps n dst W3 q (beneath-grown host dst W W2 le both) (parts-values host W W2 both ps n held) m
+      pub in-laid-2 : (W3 : List ℕ) (o : Made) → MadeIs W2 (make c (valuesFrom W2 ps 0 n)) dst W3 o → MadeIs W (make c (valuesFrom W ps 0 n)) dst W3 o
+      in-laid-2 W3 o m = made-from W W2 c ps n dst W3 o (beneath-grown host dst W W2 le both) (parts-values host W W2 both ps n held) m
 
       module _ (d : (r ≡ 32) → ⊥) where
         st : Standing W2 host root-object r
@@ -877,15 +876,14 @@ module _ (W : List ℕ) (c : ℕ) (ps : List Slot) (n host dst : ℕ) (held : Pa
             ∙ ap (λ (l : ℕ). some (object c l)) (omega (arith, length-take n (four root-object 0), few, parts-length W ps n held)))
             (λ f p. ap (λ (x : Node). getElem? (x .refs) f >>= (λ s. follow (objectsIn W2 host) s p)) node-is ∙ like-follow (objectsIn W2 host) (take n (four root-object 0)) (rawsFrom W ps 0 n) like f p)
 
-        module _ (s : host < 65536) where
-          pub in-holds : Holds W2 (refIn (256 * host + r))
-          in-holds = number-held W2 host r inside s
+        pub in-holds : Holds W2 (Object r host)
+        in-holds = record { held = inside }
 
-          pub in-made : (W3 : List ℕ) (q : ℕ) → Gives W2 dst W3 (refIn q) (valueOf W2 (refIn (256 * host + r))) → MadeIn W (make c (valuesFrom W ps 0 n)) dst W3 q
-          in-made W3 q g = number-brought W W2 _ dst host r inside value (beneath-grown host dst W W2 le both) s W3 q g
+        pub in-made : (W3 : List ℕ) (v : ValueRef) → Gives W2 dst W3 v (canon (graphAt W2 host r)) → MadeIs W (make c (valuesFrom W ps 0 n)) dst W3 (Value v)
+        in-made = made-brought W W2 _ dst host r inside value (beneath-grown host dst W W2 le both)
 
 -- ---- the host
-pub lies-object : (d : ℕ) (v : ValueRef) (x i : ℕ) → v ≡ Object x i → eqb x d ≡ liesIn d v
+pub lies-object : (d : ℕ) (v : ValueRef) (x i : ℕ) → v ≡ Object i x → eqb x d ≡ liesIn d v
 unfolding liesIn
 lies-object d v x i e = rw e
 
@@ -899,7 +897,7 @@ lies-undet d v e = rw e
 
 lies-block : (W : List ℕ) (d : ℕ) (v : ValueRef) → Holds W v → liesIn d v ≡ true → Block W d
 unfolding liesIn
-lies-block W d (Object x i) h e = subst (Block W) (eqb-true x d e) (h .held .block)
+lies-block W d (Object i x) h e = subst (Block W) (eqb-true x d e) (h .held .block)
 lies-block W d (Mark k) h e = absurd (false≢true e)
 lies-block W d Undetermined h e = absurd (false≢true e)
 
@@ -952,7 +950,7 @@ module _ (W : List ℕ) (v : ValueRef) (b : ℕ) where
   unfolding largerOf
   larger-leaf = no-object (λ x. b ≡ largerOf W x b) (λ k. refl) refl v
 
-  module _ (x i : ℕ) (e : v ≡ Object x i) where
+  module _ (x i : ℕ) (e : v ≡ Object i x) where
     pub larger-zero : x ≡ 0 → b ≡ largerOf W v b
     unfolding largerOf
     larger-zero z = rw (e, eq-eqb x 0 z)
@@ -967,7 +965,7 @@ module _ (W : List ℕ) (v : ValueRef) (b : ℕ) where
 
 larger-block : (W : List ℕ) (v : ValueRef) (b : ℕ) → Holds W v → Block W b → Block W (largerOf W v b)
 unfolding largerOf
-larger-block W (Object x i) b h bk = go (eqb x 0) (ltb (countIn W b) (countIn W x))
+larger-block W (Object i x) b h bk = go (eqb x 0) (ltb (countIn W b) (countIn W x))
   where
     go : (z t : Bool) → Block W (cond z b (cond t x b))
     go true t = bk
@@ -1015,7 +1013,7 @@ module _ (W : List ℕ) (dst : ℕ) (W1 : List ℕ) (o : Outside dst W W1) (ps :
   unfolding valuesFrom
   away-values = same-values W W1 n ps (λ i h. keeps i h .is)
 
-  away-made : (c : ℕ) (W2 : List ℕ) (q : ℕ) → MadeIn W1 (make c (valuesFrom W1 ps 0 n)) dst W2 q → MadeIn W (make c (valuesFrom W ps 0 n)) dst W2 q
+  away-made : (c : ℕ) (W2 : List ℕ) (q : Made) → MadeIs W1 (make c (valuesFrom W1 ps 0 n)) dst W2 q → MadeIs W (make c (valuesFrom W ps 0 n)) dst W2 q
   away-made c W2 q m = made-from W W1 c ps n dst W2 q (under dst W W1 o) away-values m
 
 module _ (W : List ℕ) (b dst : ℕ) (W1 : List ℕ) (bk : Block W b) (lb : b < dst) (room : 234 * dst + 234 ≤ length W) (cp : Copied W b dst W1) where
@@ -1038,7 +1036,7 @@ module _ (W : List ℕ) (b dst : ℕ) (W1 : List ℕ) (bk : Block W b) (lb : b <
     pub copied-held : PartsHeld W1 ps n
     copied-held = away-held W dst W1 (cp .outside) ps n held away
 
-    pub copied-made : (c : ℕ) (W2 : List ℕ) (q : ℕ) → MadeIn W1 (make c (valuesFrom W1 ps 0 n)) dst W2 q → MadeIn W (make c (valuesFrom W ps 0 n)) dst W2 q
+    pub copied-made : (c : ℕ) (W2 : List ℕ) (o : Made) → MadeIs W1 (make c (valuesFrom W1 ps 0 n)) dst W2 o → MadeIs W (make c (valuesFrom W ps 0 n)) dst W2 o
     copied-made = away-made W dst W1 (cp .outside) ps n held away
 
 module _ (W : List ℕ) (dst : ℕ) (W1 : List ℕ) (room : 234 * dst + 234 ≤ length W) (em : Emptied W dst W1) where
@@ -1064,8 +1062,8 @@ module _ (W : List ℕ) (dst : ℕ) (W1 : List ℕ) (room : 234 * dst + 234 ≤ 
     pub empty-held : PartsHeld W1 ps n
     empty-held = away-held W dst W1 (em .outside) ps n held away
 
-    pub empty-made : (c : ℕ) (W2 : List ℕ) (q : ℕ) → MadeIn W1 (make c (valuesFrom W1 ps 0 n)) dst W2 q → MadeIn W (make c (valuesFrom W ps 0 n)) dst W2 q
+    pub empty-made : (c : ℕ) (W2 : List ℕ) (o : Made) → MadeIs W1 (make c (valuesFrom W1 ps 0 n)) dst W2 o → MadeIs W (make c (valuesFrom W ps 0 n)) dst W2 o
     empty-made = away-made W dst W1 (em .outside) ps n held away
 
-pub larger-read : (W : List ℕ) (v : ValueRef) (x i : ℕ) → Holds W v → v ≡ Object x i → 234 * x + 192 < length W
+pub larger-read : (W : List ℕ) (v : ValueRef) (x i : ℕ) → Holds W v → v ≡ Object i x → 234 * x + 192 < length W
 larger-read W v x i h e = omega (arith, held-room W v x i h e)

@@ -66,19 +66,19 @@ pub record Added (W : List ℕ) (b t : ℕ) (T : List ℕ) (dst : ℕ) (D : List
   pub outside : Outside dst W D
 
 unfoldable pub isObject : ValueRef → Bool
-isObject (Object b i) = true
+isObject (Object i b) = true
 isObject (Mark k) = false
 isObject Undetermined = false
 
 -- the block of a value that is an object; 0 for another
 unfoldable pub blockOf : ValueRef → ℕ
-blockOf (Object b i) = b
+blockOf (Object i b) = b
 blockOf (Mark k) = 0
 blockOf Undetermined = 0
 
 -- whether a value lies in block b, or is no object
 unfoldable pub standsIn : ℕ → ValueRef → Bool
-standsIn b (Object x i) = eqb x b
+standsIn b (Object i x) = eqb x b
 standsIn b (Mark k) = true
 standsIn b Undetermined = true
 

@@ -10,10 +10,12 @@ use Rattle.cofj.specs.Values.{undet, Node, node, Graph, rename, renameNode, lay
 use Rattle.canon.specs.Layout.{refOf, nodesIn, Packed, Beneath}
 use Rattle.values.specs.declared.ValueRef.{ValueRef}
 use Rattle.values.specs.declared.ValueRef.the-variants.{Object}
-use Rattle.values.specs.Refs.{refIn, answerOf}
+use Rattle.values.specs.Refs.{refIn}
 use Rattle.values.specs.Layout.{valueOf, rawOf, Holds}
 use Rattle.values.specs.Operations.{answerIn, AnswerHeld, AnswerLow}
 use Rattle.maker.specs.declared.Slot.{Slot}
+use Rattle.maker.specs.declared.Made.{Made}
+use Rattle.maker.specs.declared.Made.the-variants.{Value, TooLarge}
 
 -- the parts of a new object, from their numbers
 unfoldable pub partsOf : List ℕ → List Slot
@@ -68,13 +70,14 @@ pub record Built (c : ℕ) (gs : List Graph) (R : List ℕ) (t : ℕ) : Type 0 w
   pub few : t ≤ 129
   pub packed : (j : ℕ) → j < t → Packed R (6 * j)
 
--- the value v, in block dst or below, unless it has more than 32 objects; what lies below block dst is as before
-pub record MadeIs (W : List ℕ) (v : Graph) (dst : ℕ) (W′ : List ℕ) (o : Option ValueRef) : Type 0 where
-  pub held : AnswerHeld W′ o
-  pub is : answerIn W′ o ≡ cond (leb (length (v .nodes)) 32) (some v) none
-  pub place : AnswerLow (dst + 1) o
-  pub beneath : Beneath dst W W′
+-- what making answers
+abbrev pub madeRef : Made → Option ValueRef
+madeRef (Value r) = some r
+madeRef TooLarge = none
 
--- the same, the answer a number
-pub record MadeIn (W : List ℕ) (v : Graph) (dst : ℕ) (W′ : List ℕ) (q : ℕ) : Type 0 where
-  pub is : MadeIs W v dst W′ (answerOf q)
+-- the value v, in block dst or below, unless it has more than 32 objects; what lies below block dst is as before
+pub record MadeIs (W : List ℕ) (v : Graph) (dst : ℕ) (W′ : List ℕ) (o : Made) : Type 0 where
+  pub held : AnswerHeld W′ (madeRef o)
+  pub is : answerIn W′ (madeRef o) ≡ cond (leb (length (v .nodes)) 32) (some v) none
+  pub place : AnswerLow (dst + 1) (madeRef o)
+  pub beneath : Beneath dst W W′

@@ -129,7 +129,7 @@ someIn ps n d = any (λ i. liesIn d (partOf ps i)) n
 
 -- the block of v, if v is an object of a block other than 0 and that block has more objects than block b; else b
 unfoldable pub largerOf : List ℕ → ValueRef → ℕ → ℕ
-largerOf W (Object x i) b = cond (eqb x 0) b (cond (ltb (countIn W b) (countIn W x)) x b)
+largerOf W (Object i x) b = cond (eqb x 0) b (cond (ltb (countIn W b) (countIn W x)) x b)
 largerOf W (Mark k) b = b
 largerOf W Undetermined b = b
 

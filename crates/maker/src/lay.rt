@@ -44,7 +44,7 @@ pub fn lay_one(work: &[u8], r: ValueRef, i: u8, raw: &mut [u8], at: u8) -> u8
     ensures { λ t. ⌜ LaidOne (rawOf (now (work .entry)) r) at i (now (raw .entry)) (now (raw .exit)) t ⌝ }
 {
     match r {
-        ValueRef::Object(b, k) => {
+        ValueRef::Object(k, b) => {
             let n = lay_block(work, b, raw, at);
             raw[2 + i as usize] = at + k;
             at + n

@@ -7,6 +7,12 @@ pub mod merge; // a new object over the objects of several blocks
 pub mod make; // a new object
 pub mod bares; // block 0 with the objects without fields
 
+// What making an object answers.
+pub enum Made {
+    Value(values::ValueRef),
+    TooLarge,
+}
+
 // A part of a new object.
 pub struct Slot {
     pub r: values::ValueRef,

@@ -1,4 +1,5 @@
 // A new object: how it is made, by what its parts are. Not here: each way.
+use crate::Made;
 use crate::lay::build;
 use crate::lay::part_at;
 use crate::merge::make_apart;
@@ -12,23 +13,21 @@ use crate::over::root_codes;
 use canon::colours::colour;
 use canon::number::put;
 use values::ValueRef;
-use values::refs::NOTHING;
-use values::value::bring_in;
+use values::value::bring;
 ghost use mathlib.Core.Path.{_≡_};
 ghost use mathlib.Core.Bool.{true, false};
 ghost use Prim.Native.Nat.{ℕ, _+_, _*_, _<_, _≤_};
 ghost use lib.ListN.{length};
 ghost use Rattle.cofj.specs.Values.{make};
-ghost use Rattle.maker.specs.Laying.{partsOf, PartsHeld, valuesFrom, MadeIn};
+ghost use Rattle.maker.specs.Laying.{partsOf, PartsHeld, valuesFrom, MadeIs};
 ghost use Rattle.canon.specs.Layout.{Block};
 ghost use Rattle.maker.specs.Adding.{someObject, blockOf, firstBlock, standsIn, allStand};
 ghost use Rattle.maker.specs.Merging.{someIn};
-ghost use Rattle.values.specs.Refs.{refIn};
 
 // The parts' objects laid side by side, and equal ones found.
-pub fn make_laid(work: &mut [u8], c: u8, parts: &[u32], n: u8, dst: u16) -> u32
+pub fn make_laid(work: &mut [u8], c: u8, parts: &[u32], n: u8, dst: u16) -> Made
     requires { ⌜ PartsHeld (now work) (partsOf (now parts)) n × (n ≤ 4) × (234 * dst + 234 ≤ length (now work)) × (4 ≤ length (now parts)) ⌝ }
-    ensures { λ q. ⌜ MadeIn (now (work .entry)) (make c (valuesFrom (now (work .entry)) (partsOf (now (parts .entry))) 0 n)) dst (now (work .exit)) q ⌝ }
+    ensures { λ o. ⌜ MadeIs (now (work .entry)) (make c (valuesFrom (now (work .entry)) (partsOf (now (parts .entry))) 0 n)) dst (now (work .exit)) o ⌝ }
 {
     let mut raw = [0u8; 1536];
     let t = build(work, c, parts, n, &mut raw);
@@ -36,9 +35,9 @@ pub fn make_laid(work: &mut [u8], c: u8, parts: &[u32], n: u8, dst: u16) -> u32
     colour(&raw, t, &mut cs);
     let m = put(&raw, t, &cs, 0, work, dst);
     if 32 < m {
-        return NOTHING;
+        return Made::TooLarge;
     }
-    256 * (dst as u32)
+    Made::Value(ValueRef::Object(0, dst))
 }
 
 // Whether one of the parts is an object.
@@ -48,7 +47,8 @@ pub fn some_object(parts: &[u32], n: u8) -> bool
 {
     let mut i: u8 = 0;
     while i < n {
-        if parts[i as usize] % 256 < 192 {
+        let v = part_at(parts, i);
+        if let ValueRef::Object(_, _) = v {
             return true;
         }
         i += 1;
@@ -57,13 +57,13 @@ pub fn some_object(parts: &[u32], n: u8) -> bool
 }
 
 // The block of a value that is an object; 0 for another.
-pub fn block_of(r: u32) -> u16
-    ensures { λ b. ⌜ b ≡ blockOf (refIn r) ⌝ }
+pub fn block_of(v: ValueRef) -> u16
+    ensures { λ b. ⌜ b ≡ blockOf v ⌝ }
 {
-    if 192 <= r % 256 {
+    let ValueRef::Object(_, b) = v else {
         return 0;
-    }
-    (r / 256 % 65536) as u16
+    };
+    b
 }
 
 // The block of the first part that is an object of a block other than 0; 0 if there is none.
@@ -73,7 +73,8 @@ pub fn first_block(parts: &[u32], n: u8) -> u16
 {
     let mut i: u8 = 0;
     while i < n {
-        let b = block_of(parts[i as usize]);
+        let v = part_at(parts, i);
+        let b = block_of(v);
         if b != 0 {
             return b;
         }
@@ -87,7 +88,7 @@ pub fn stands(v: ValueRef, b: u16) -> bool
     ensures { λ r. ⌜ r ≡ standsIn b v ⌝ }
 {
     match v {
-        ValueRef::Object(x, _) => x == b,
+        ValueRef::Object(_, x) => x == b,
         ValueRef::Mark(_) => true,
         ValueRef::Undetermined => true,
     }
@@ -110,27 +111,27 @@ pub fn together(parts: &[u32], n: u8, b: u16) -> bool
 }
 
 // A new object whose parts lie in block b, or are no objects.
-pub fn make_beside(work: &mut [u8], c: u8, parts: &[u32], n: u8, b: u16, dst: u16) -> u32
+pub fn make_beside(work: &mut [u8], c: u8, parts: &[u32], n: u8, b: u16, dst: u16) -> Made
     requires { ⌜ PartsHeld (now work) (partsOf (now parts)) n × (n ≤ 4) × Block (now work) b × (allStand (partsOf (now parts)) n b ≡ true) × (234 * dst + 234 ≤ length (now work)) × (4 ≤ length (now parts)) ⌝ }
-    ensures { λ q. ⌜ MadeIn (now (work .entry)) (make c (valuesFrom (now (work .entry)) (partsOf (now (parts .entry))) 0 n)) dst (now (work .exit)) q ⌝ }
+    ensures { λ o. ⌜ MadeIs (now (work .entry)) (make c (valuesFrom (now (work .entry)) (partsOf (now (parts .entry))) 0 n)) dst (now (work .exit)) o ⌝ }
 {
     let w = root_codes(work, parts, n);
     let t = work[234 * (b as usize) + 192];
     let k = find(work, b, t, c, n, w);
     if k < t {
-        return bring_in(work, 256 * (b as u32) + (k as u32), dst);
+        return Made::Value(bring(work, ValueRef::Object(k, b), dst));
     }
     if 32 <= t {
         return make_laid(work, c, parts, n, dst);
     }
     add(work, b, c, n, w, dst);
-    256 * (dst as u32) + (t as u32)
+    Made::Value(ValueRef::Object(t, dst))
 }
 
 // A new object in block `dst`, where no part lies: alone, or after what its parts lead to.
-pub fn make_fresh(work: &mut [u8], c: u8, parts: &[u32], n: u8, dst: u16) -> u32
+pub fn make_fresh(work: &mut [u8], c: u8, parts: &[u32], n: u8, dst: u16) -> Made
     requires { ⌜ PartsHeld (now work) (partsOf (now parts)) n × (n ≤ 4) × (someIn (partsOf (now parts)) n dst ≡ false) × (234 * dst + 234 ≤ length (now work)) × (4 ≤ length (now parts)) ⌝ }
-    ensures { λ q. ⌜ MadeIn (now (work .entry)) (make c (valuesFrom (now (work .entry)) (partsOf (now (parts .entry))) 0 n)) dst (now (work .exit)) q ⌝ }
+    ensures { λ o. ⌜ MadeIs (now (work .entry)) (make c (valuesFrom (now (work .entry)) (partsOf (now (parts .entry))) 0 n)) dst (now (work .exit)) o ⌝ }
 {
     if !some_object(parts, n) {
         return make_alone(work, c, parts, n, dst);
@@ -139,11 +140,11 @@ pub fn make_fresh(work: &mut [u8], c: u8, parts: &[u32], n: u8, dst: u16) -> u32
     make_in(work, c, parts, n, dst, dst, dst)
 }
 
-// A new object of class c with the n first parts, in block `dst` or below: its number, or NOTHING if it has more than 32 objects.
+// A new object of class c with the n first parts, in block `dst` or below, unless it has more than 32 objects.
 // Block 0 is often full, and block `dst` is to be written: so the parts are brought to `dst` if one lies there or none lies above block 0.
-pub fn make(work: &mut [u8], c: u8, parts: &[u32], n: u8, dst: u16) -> u32
+pub fn make(work: &mut [u8], c: u8, parts: &[u32], n: u8, dst: u16) -> Made
     requires { ⌜ PartsHeld (now work) (partsOf (now parts)) n × (n ≤ 4) × (234 * dst + 234 ≤ length (now work)) × (4 ≤ length (now parts)) ⌝ }
-    ensures { λ q. ⌜ MadeIn (now (work .entry)) (make c (valuesFrom (now (work .entry)) (partsOf (now (parts .entry))) 0 n)) dst (now (work .exit)) q ⌝ }
+    ensures { λ o. ⌜ MadeIs (now (work .entry)) (make c (valuesFrom (now (work .entry)) (partsOf (now (parts .entry))) 0 n)) dst (now (work .exit)) o ⌝ }
 {
     if some_in(parts, n, dst) {
         return make_in(work, c, parts, n, dst, dst, dst);

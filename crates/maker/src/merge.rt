@@ -1,5 +1,6 @@
 // Objects of several blocks brought into one, the host, and a new object over them there.
 // Not here: parts that lie in one block already (make), and objects that lead back to themselves, which are laid side by side (make).
+use crate::Made;
 use crate::enter::enter;
 use crate::enter::enter_over;
 use crate::lay::part_at;
@@ -8,14 +9,14 @@ use crate::over::UNUSED;
 use canon::bytes::copy;
 use canon::bytes::four_at;
 use values::ValueRef;
-use values::value::bring_in;
+use values::value::bring;
 use values::value::copy_block;
 ghost use mathlib.Core.Path.{_≡_};
 ghost use mathlib.Core.Bool.{false};
 ghost use Prim.Native.Nat.{ℕ, _+_, _*_, _<_, _≤_};
 ghost use lib.ListN.{length, getD};
 ghost use Rattle.cofj.specs.Values.{make};
-ghost use Rattle.maker.specs.Laying.{partsOf, PartsHeld, valuesFrom, MadeIn};
+ghost use Rattle.maker.specs.Laying.{partsOf, PartsHeld, valuesFrom, MadeIs};
 ghost use Rattle.canon.specs.Layout.{Block, Inside};
 ghost use Rattle.values.specs.Layout.{Holds, liesIn};
 ghost use Rattle.values.specs.declared.ValueRef.the-variants.{Object};
@@ -87,7 +88,7 @@ pub fn import_codes(
 // Object i of block b, which has no fields, in block host: its number there, or 32 if there is no room.
 pub fn import_bare(work: &mut [u8], b: u16, i: u8, host: u16) -> u8
     requires { ⌜ Inside (now work) b i × Block (now work) host × ((b ≡ host) → ⊥) × (getD (now work) (234 * b + 6 * i + 1) 0 ≡ 0) ⌝ }
-    ensures { λ r. ⌜ PartImported (now (work .entry)) (Object b i) host (now (work .exit)) r ⌝ }
+    ensures { λ r. ⌜ PartImported (now (work .entry)) (Object i b) host (now (work .exit)) r ⌝ }
 {
     let p = 234 * (b as usize) + 6 * (i as usize);
     let c = work[p];
@@ -98,7 +99,7 @@ pub fn import_bare(work: &mut [u8], b: u16, i: u8, host: u16) -> u8
 // Object i of block b, in block host, whose first objects are those of block base: its number there, or 32 as `import` answers it.
 pub fn import_object(work: &mut [u8], b: u16, i: u8, base: u16, host: u16) -> u8
     requires { ⌜ Inside (now work) b i × Begun (now work) base host ⌝ }
-    ensures { λ r. ⌜ PartImported (now (work .entry)) (Object b i) host (now (work .exit)) r ⌝ }
+    ensures { λ r. ⌜ PartImported (now (work .entry)) (Object i b) host (now (work .exit)) r ⌝ }
 {
     if b == base {
         return i;
@@ -120,7 +121,7 @@ pub fn import_part(work: &mut [u8], v: ValueRef, base: u16, host: u16) -> u8
     ensures { λ r. ⌜ PartImported (now (work .entry)) v host (now (work .exit)) r ⌝ }
 {
     match v {
-        ValueRef::Object(b, i) => import_object(work, b, i, base, host),
+        ValueRef::Object(i, b) => import_object(work, b, i, base, host),
         ValueRef::Mark(k) => 193 + k,
         ValueRef::Undetermined => 192,
     }
@@ -146,9 +147,9 @@ pub fn bring_parts(work: &mut [u8], parts: &[u32], n: u8, base: u16, host: u16) 
 }
 
 // A new object whose parts are brought into block host, which lies at dst or above and begins with the objects of block base.
-pub fn make_in(work: &mut [u8], c: u8, parts: &[u32], n: u8, base: u16, host: u16, dst: u16) -> u32
+pub fn make_in(work: &mut [u8], c: u8, parts: &[u32], n: u8, base: u16, host: u16, dst: u16) -> Made
     requires { ⌜ PartsHeld (now work) (partsOf (now parts)) n × (n ≤ 4) × Begun (now work) base host × (dst ≤ host) × (234 * dst + 234 ≤ length (now work)) × (4 ≤ length (now parts)) ⌝ }
-    ensures { λ q. ⌜ MadeIn (now (work .entry)) (make c (valuesFrom (now (work .entry)) (partsOf (now (parts .entry))) 0 n)) dst (now (work .exit)) q ⌝ }
+    ensures { λ o. ⌜ MadeIs (now (work .entry)) (make c (valuesFrom (now (work .entry)) (partsOf (now (parts .entry))) 0 n)) dst (now (work .exit)) o ⌝ }
 {
     let w = bring_parts(work, parts, n, base, host);
     if w % 256 == 32 {
@@ -158,7 +159,7 @@ pub fn make_in(work: &mut [u8], c: u8, parts: &[u32], n: u8, base: u16, host: u1
     if r == 32 {
         return make_laid(work, c, parts, n, dst);
     }
-    bring_in(work, 256 * (host as u32) + (r as u32), dst)
+    Made::Value(bring(work, ValueRef::Object(r, host), dst))
 }
 
 // The block of v, if v is an object of a block other than 0 and that block has more objects than block b; else b.
@@ -166,7 +167,7 @@ pub fn larger(work: &[u8], v: ValueRef, b: u16) -> u16
     requires { ⌜ Holds (now work) v × Block (now work) b ⌝ }
     ensures { λ r. ⌜ r ≡ largerOf (now (work .entry)) v b ⌝ }
 {
-    let ValueRef::Object(x, _) = v else {
+    let ValueRef::Object(_, x) = v else {
         return b;
     };
     if x == 0 {
@@ -198,7 +199,7 @@ pub fn lies_in(v: ValueRef, d: u16) -> bool
     ensures { λ r. ⌜ r ≡ liesIn d v ⌝ }
 {
     match v {
-        ValueRef::Object(x, _) => x == d,
+        ValueRef::Object(_, x) => x == d,
         ValueRef::Mark(_) => false,
         ValueRef::Undetermined => false,
     }
@@ -221,18 +222,18 @@ pub fn some_in(parts: &[u32], n: u8, d: u16) -> bool
 }
 
 // A new object whose parts are brought into a copy of block b, in block `dst`, where no part lies.
-pub fn make_copied(work: &mut [u8], c: u8, parts: &[u32], n: u8, b: u16, dst: u16) -> u32
+pub fn make_copied(work: &mut [u8], c: u8, parts: &[u32], n: u8, b: u16, dst: u16) -> Made
     requires { ⌜ PartsHeld (now work) (partsOf (now parts)) n × (n ≤ 4) × Block (now work) b × (b < dst) × (someIn (partsOf (now parts)) n dst ≡ false) × (234 * dst + 234 ≤ length (now work)) × (4 ≤ length (now parts)) ⌝ }
-    ensures { λ q. ⌜ MadeIn (now (work .entry)) (make c (valuesFrom (now (work .entry)) (partsOf (now (parts .entry))) 0 n)) dst (now (work .exit)) q ⌝ }
+    ensures { λ o. ⌜ MadeIs (now (work .entry)) (make c (valuesFrom (now (work .entry)) (partsOf (now (parts .entry))) 0 n)) dst (now (work .exit)) o ⌝ }
 {
     copy_block(work, b, dst);
     make_in(work, c, parts, n, b, dst, dst)
 }
 
 // A new object whose parts lie in several blocks, `first` one of them, none in `dst`: over the block with the most objects, where it may be written, or over a copy.
-pub fn make_apart(work: &mut [u8], c: u8, parts: &[u32], n: u8, first: u16, dst: u16) -> u32
+pub fn make_apart(work: &mut [u8], c: u8, parts: &[u32], n: u8, first: u16, dst: u16) -> Made
     requires { ⌜ PartsHeld (now work) (partsOf (now parts)) n × (n ≤ 4) × Block (now work) first × (someIn (partsOf (now parts)) n dst ≡ false) × (234 * dst + 234 ≤ length (now work)) × (4 ≤ length (now parts)) ⌝ }
-    ensures { λ q. ⌜ MadeIn (now (work .entry)) (make c (valuesFrom (now (work .entry)) (partsOf (now (parts .entry))) 0 n)) dst (now (work .exit)) q ⌝ }
+    ensures { λ o. ⌜ MadeIs (now (work .entry)) (make c (valuesFrom (now (work .entry)) (partsOf (now (parts .entry))) 0 n)) dst (now (work .exit)) o ⌝ }
 {
     let b = largest(work, parts, n, first);
     if dst <= b {

@@ -1,5 +1,6 @@
 // A new object beside the objects of the block where its parts lie, or alone in a block. Not here: parts in several blocks.
 // The new object goes as numbers: its class c, how many fields it has, n, and its four codes as one number w, the first the lowest byte.
+use crate::Made;
 use crate::lay::part_at;
 use canon::bytes::four_at;
 use values::ValueRef;
@@ -10,7 +11,8 @@ ghost use Prim.Native.Nat.{ℕ, _+_, _*_, _<_, _≤_};
 ghost use mathlib.Core.List.{[]};
 ghost use lib.ListN.{length};
 ghost use Rattle.cofj.specs.Values.{make, eqNats};
-ghost use Rattle.maker.specs.Laying.{partsOf, PartsHeld, rawsFrom, valuesFrom, MadeIn};
+ghost use Rattle.maker.specs.declared.Made.the-variants.{Value};
+ghost use Rattle.maker.specs.Laying.{partsOf, PartsHeld, rawsFrom, valuesFrom, MadeIs};
 ghost use Rattle.canon.specs.Layout.{refOf, Packed, Block, countIn, part};
 ghost use Rattle.values.specs.Layout.{rawOf, Holds};
 ghost use Rattle.canon.specs.Numbers.{Levels};
@@ -25,7 +27,7 @@ pub fn code_of(work: &[u8], r: ValueRef) -> u8
     ensures { λ c. ⌜ refOf c ≡ rawOf (now (work .entry)) r .root ⌝ }
 {
     match r {
-        ValueRef::Object(_, i) => i,
+        ValueRef::Object(i, _) => i,
         ValueRef::Mark(k) => 193 + k,
         ValueRef::Undetermined => 192,
     }
@@ -139,22 +141,22 @@ pub fn add(work: &mut [u8], b: u16, c: u8, n: u8, w: u32, dst: u16)
 }
 
 // A new object whose parts are no objects.
-pub fn make_alone(work: &mut [u8], c: u8, parts: &[u32], n: u8, dst: u16) -> u32
+pub fn make_alone(work: &mut [u8], c: u8, parts: &[u32], n: u8, dst: u16) -> Made
     requires { ⌜ PartsHeld (now work) (partsOf (now parts)) n × (n ≤ 4) × (someObject (partsOf (now parts)) n ≡ false) × (234 * dst + 234 ≤ length (now work)) × (4 ≤ length (now parts)) ⌝ }
-    ensures { λ q. ⌜ MadeIn (now (work .entry)) (make c (valuesFrom (now (work .entry)) (partsOf (now (parts .entry))) 0 n)) dst (now (work .exit)) q ⌝ }
+    ensures { λ o. ⌜ MadeIs (now (work .entry)) (make c (valuesFrom (now (work .entry)) (partsOf (now (parts .entry))) 0 n)) dst (now (work .exit)) o ⌝ }
 {
     let w = root_codes(work, parts, n);
     let l = level_with(c, n, w, 0);
     append(work, dst, 0, c, n, w, l);
-    256 * (dst as u32)
+    Made::Value(ValueRef::Object(0, dst))
 }
 
-// A new object without parts.
-pub fn make_bare(work: &mut [u8], c: u8, dst: u16) -> u32
+// A new object without parts, which never is too large.
+pub fn make_bare(work: &mut [u8], c: u8, dst: u16) -> ValueRef
     requires { ⌜ 234 * dst + 234 ≤ length (now work) ⌝ }
-    ensures { λ q. ⌜ MadeIn (now (work .entry)) (make c []) dst (now (work .exit)) q ⌝ }
+    ensures { λ r. ⌜ MadeIs (now (work .entry)) (make c []) dst (now (work .exit)) (Value r) ⌝ }
 {
     let l = level_with(c, 0, UNUSED, 0);
     append(work, dst, 0, c, 0, UNUSED, l);
-    256 * (dst as u32)
+    ValueRef::Object(0, dst)
 }

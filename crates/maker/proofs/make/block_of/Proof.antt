@@ -1,3 +1,4 @@
+-- The block of a value: a law for each return.
 use borrow.Author.Needs.{needs}
 use Rattle.maker.proofs.make.block_of.Statement.{statement}
 use Rattle.maker.proofs.make.block_of.Tie as tie
@@ -15,6 +16,6 @@ pub block-of-spec : {M : Type 1} → statement M
 block-of-spec =
     tie.close
     (tie.spec
-    returns
     (λ c. search needs)
+    returns
     returns-2)

@@ -1,7 +1,9 @@
+-- The first block of a part: the parts before have none.
 use Rattle.maker.proofs.make.first_block.Statement.{statement}
 use Rattle.maker.proofs.make.first_block.Tie as tie
 use Rattle.maker.proofs.make.first_block.Reads as reads
 use Rattle.maker.proofs.make.first_block.Lts as lts
+use Rattle.maker.proofs.lay.part_at.Reads as part-at-reads
 use Rattle.maker.proofs.make.block_of.Reads as block-of-reads
 use borrow.Author.Needs.{needs}
 use Prim.Native.Nat.{_≤_, _-_}
@@ -35,9 +37,7 @@ first-block-spec =
     Inv-loop
     μ-loop
     loop-holds
-    (λ c. search needs)
-    (λ c. search needs)
-    (λ c. search needs)
+    (λ c κs. search needs)
     (λ c κs. search needs)
     returns
     (λ c. search needs)

@@ -1,3 +1,4 @@
+-- A new object beside its parts: found, laid or added.
 use borrow.Author.Needs.{needs}
 use Rattle.maker.proofs.make.make_beside.Statement.{statement}
 use Rattle.maker.proofs.make.make_beside.Tie as tie
@@ -7,16 +8,17 @@ use Rattle.maker.proofs.make.make_laid.Reads as make-laid-reads
 use Rattle.maker.proofs.over.add.Reads as add-reads
 use Rattle.maker.proofs.over.find.Reads as find-reads
 use Rattle.maker.proofs.over.root_codes.Reads as root-codes-reads
-use Rattle.values.proofs.value.bring_in.Reads as bring-in-reads
+use Rattle.values.proofs.value.bring.Reads as bring-reads
 use Rattle.canon.specs.Layout.{countIn}
+use Rattle.values.proofs.Copies as copies
 use Rattle.maker.proofs.Beside as laws
 
 find-requires : tie.Need-find-requires
 unfolding countIn
 find-requires c κs = (search needs, search needs, search laws.root-packed)
 
-bring-in-requires : tie.Need-bring-in-requires
-bring-in-requires c κs = (search laws.beside-held, search needs)
+bring-requires : tie.Need-bring-requires
+bring-requires c κs = (search copies.block-held, search needs)
 
 returns : tie.Need-returns
 returns c = search laws.beside-found
@@ -37,18 +39,12 @@ make-beside-spec =
     (λ c. search needs)
     (λ c. search needs)
     find-requires
-    (λ c. search needs)
-    (λ c. search needs)
-    (λ c. search needs)
-    bring-in-requires
+    bring-requires
     (λ c. search needs)
     returns
     (λ c κs. search needs)
     (λ c. search needs)
     (λ c. search needs)
     add-requires
-    (λ c. search needs)
-    (λ c. search needs)
-    (λ c. search needs)
     (λ c. search needs)
     returns-3)

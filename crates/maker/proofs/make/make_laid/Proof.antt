@@ -7,7 +7,6 @@ use Rattle.canon.proofs.colours.colour.Reads as colour-reads
 use Rattle.canon.proofs.number.put.Reads as put-reads
 use Rattle.maker.proofs.lay.build.Reads as build-reads
 use Rattle.maker.proofs.Lays as laws
-use native.Mathlib.Omega.{arith}
 
 colour-requires : tie.Need-colour-requires
 colour-requires c κs =
@@ -34,7 +33,7 @@ returns-2 c =
     let p = c .before .before .before in
     let b = p .before .before .before .before .before .before .before .before .before in
     let st = b .before .before .before .before .before in
-    laws.made-value _ _ _ _ _ _ (st .pre .0) (b .build .ensures) _ _ _ (p .put .ensures) (c .if1 .left) (omega arith)
+    laws.made-value _ _ _ _ _ _ (st .pre .0) (b .build .ensures) _ _ _ (p .put .ensures) (c .if1 .left)
 
 pub make-laid-spec : {M : Type 1} → statement M
 make-laid-spec =
@@ -50,6 +49,5 @@ make-laid-spec =
     put-requires
     (λ c. search needs)
     returns
-    (λ c. search needs)
     (λ c. search needs)
     returns-2)

@@ -1,7 +1,9 @@
+-- Whether a part is an object: the parts before are none.
 use Rattle.maker.proofs.make.some_object.Statement.{statement}
 use Rattle.maker.proofs.make.some_object.Tie as tie
 use Rattle.maker.proofs.make.some_object.Reads as reads
 use Rattle.maker.proofs.make.some_object.Lts as lts
+use Rattle.maker.proofs.lay.part_at.Reads as part-at-reads
 use borrow.Author.Needs.{needs}
 use Prim.Native.Nat.{_≤_, _-_}
 use mathlib.Core.Path.{_≡_}
@@ -35,8 +37,7 @@ some-object-spec =
     Inv-loop
     μ-loop
     loop-holds
-    (λ c. search needs)
-    (λ c. search needs)
+    (λ c κs. search needs)
     (λ c. search needs)
     returns
     (λ c. search needs)

@@ -1,3 +1,4 @@
+-- A new object alone in a block.
 use borrow.Author.Needs.{needs}
 use Rattle.maker.proofs.over.make_alone.Statement.{statement}
 use Rattle.maker.proofs.over.make_alone.Tie as tie
@@ -18,6 +19,5 @@ make-alone-spec =
     (λ c κs. search needs)
     (λ c κs. search needs)
     (λ c κs. search needs)
-    (λ c. search needs)
     (λ c. search needs)
     returns)

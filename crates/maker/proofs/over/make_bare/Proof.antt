@@ -1,3 +1,4 @@
+-- A new object without parts.
 use borrow.Author.Needs.{needs}
 use Rattle.maker.proofs.over.make_bare.Statement.{statement}
 use Rattle.maker.proofs.over.make_bare.Tie as tie
@@ -6,10 +7,9 @@ use Rattle.maker.proofs.over.make_bare.Lts as lts
 use Rattle.maker.proofs.over.append.Reads as append-reads
 use Rattle.maker.proofs.over.level_with.Reads as level-with-reads
 use Rattle.maker.proofs.Beside as laws
-use native.Mathlib.Omega.{arith}
 
 returns : tie.Need-returns
-returns c = laws.bare-new _ _ _ _ _ (c .before .before .before .before .level-with .ensures .0) (c .before .before .before .before .before .before .pre) (omega arith) (c .before .before .append .ensures)
+returns c = search laws.bare-new
 
 pub make-bare-spec : {M : Type 1} → statement M
 make-bare-spec =
@@ -17,6 +17,5 @@ make-bare-spec =
     (tie.spec
     (λ c κs. search needs)
     (λ c κs. search needs)
-    (λ c. search needs)
     (λ c. search needs)
     returns)
