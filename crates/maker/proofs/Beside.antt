@@ -1,5 +1,5 @@
 -- Laws of a new object beside the objects of one block, or alone in a block.
-use Prim.Native.Nat.{ℕ, zero, suc, _+_, _-_, _*_, _/_, _%_, _<_, _≤_}
+use Prim.Native.Nat.{ℕ, zero, suc, _+_, _-_, _*_, _%_, _<_, _≤_}
 use native.Mathlib.Omega.{arith}
 use native.Mathlib.Decide.{decLt, ℕ-discrete}
 use mathlib.Core.Path.{_≡_, refl, sym, ap, ap₂, _∙_, subst}
@@ -23,7 +23,7 @@ use Rattle.canon.proofs.Walks.{four, four-at}
 use Rattle.values.specs.declared.ValueRef.{ValueRef}
 use Rattle.values.specs.declared.ValueRef.the-variants.{Object, Mark, Undetermined}
 use Rattle.values.specs.Tests.{any}
-use Rattle.values.specs.Layout.{valueOf, rawOf, Holds}
+use Rattle.values.specs.Layout.{rawOf, Holds}
 use Rattle.values.specs.Operations.{Gives, Copied}
 use Rattle.values.proofs.Tests.{not-true, not-false, any-there, any-not, any-more}
 use Rattle.values.proofs.Trees.{in-larger, leaf-same}

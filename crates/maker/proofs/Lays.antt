@@ -5,7 +5,7 @@ use native.Mathlib.Decide.{decLt}
 use native.Mathlib.Numerals.{add-one}
 use mathlib.Core.Path.{_≡_, refl, sym, ap, ap₂, _∙_, subst}
 use mathlib.Core.List.{List, [], _∷_, _++_, map}
-use mathlib.Core.Option.{none, some, Option·none-ne-some}
+use mathlib.Core.Option.{some, Option·none-ne-some}
 use lib.ListN.{length, getD, set, take, drop, getElem?, length-map, length-set, length-take, length-drop, length-append, drop-of-length-le}
 use lib.Seq.{getD-set-same, getD-set-other, drop-cons, getD-take, ext-getD, length-take-le}
 use borrow.Author.Tests.{le-leb, lt-leb}
