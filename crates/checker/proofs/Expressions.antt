@@ -26,8 +26,8 @@ use Rattle.classes.specs.Layout as lay
 use Rattle.classes.proofs.Zones.{stands-front, stands-after, total-at, param-count-at, first-at, second-at}
 use Rattle.classes.proofs.OnTables.{field-on, lookup-on}
 use Rattle.checker.specs.Items.{Parameters, Fields}
-use Rattle.checker.specs.Typed.{Typed}
-use Rattle.checker.specs.Typed.{No}
+use Rattle.checker.specs.declared.scope.Typed.{Typed}
+use Rattle.checker.specs.declared.scope.Typed.the-variants.{No}
 use Rattle.checker.specs.declared.scope.Scope.{Scope}
 use Rattle.checker.specs.Listed.{Listed}
 use Rattle.checker.specs.Shapes.{shapeAt}

@@ -1,5 +1,4 @@
 pub mod ShapeLaws
-pub mod NumberLaws
 pub mod TypeLaws
 pub mod WalkLaws
 pub mod ProgramLaws

@@ -19,7 +19,7 @@ use Rattle.classes.specs.Machine.{pick}
 use Rattle.classes.specs.Layout.{layout, Stands, bytesOf, foundType}
 use Rattle.classes.proofs.Zones.{stands-front, stands-after}
 use Rattle.checker.specs.Items.{Items}
-use Rattle.checker.specs.Typed.{Typed}
+use Rattle.checker.specs.declared.scope.Typed.{Typed}
 use Rattle.checker.specs.Listed.{Listed}
 use Rattle.checker.specs.Listed as list
 use Rattle.checker.specs.Types.{wantedOf, fitsFound, narrowTag, itemFits}

@@ -2,7 +2,7 @@
 use mathlib.Core.Path.{_≡_, refl, sym, ap, _∙_}
 use mathlib.Core.Bool.{Bool, true, false, not}
 use mathlib.Core.List.{List}
-use Prim.Native.Nat.{ℕ, zero, suc, _+_, _-_, _%_, _/_, _<_, _≤_}
+use Prim.Native.Nat.{ℕ, zero, suc, _+_, _-_, _<_, _≤_}
 use native.Mathlib.Omega.{arith}
 use lib.ListN.{getD}
 use borrow.Author.Tests.{not-true, not-false}
@@ -11,12 +11,12 @@ use Rattle.cofj.specs.Typing.{closeTag}
 use Rattle.classes.specs.declared.chain.FieldType.{FieldType}
 use Rattle.classes.specs.Machine.{pick, typeAt, rowOf, leftOf, rightOf}
 use Rattle.classes.specs.Figures.{mainAt}
-use Rattle.checker.specs.Numbers.{Packs}
+use Rattle.checker.specs.declared.scope.Typed.{Typed}
+use Rattle.checker.specs.declared.scope.Typed.the-variants.{Has, No}
 use Rattle.checker.specs.declared.scope.Res.the-variants.{Absent, Class}
 use Rattle.checker.specs.declared.program.Checked.the-variants.{Main, Refused}
 use Rattle.checker.specs.Types.{fitsType}
 use Rattle.checker.specs.Machine.{typeIn}
-use Rattle.checker.proofs.NumberLaws.{none-is, some-is}
 use Rattle.checker.specs.Program.{body, inMain, fitsFirst, fitsSecond, resultsFit, rightTyped, methodIn, methodsFrom, methodsIn, checkOf}
 
 module _ (B : List ℕ) (i c g : ℕ) (d : FieldType) (r : Bool) where
@@ -55,23 +55,23 @@ module _ (B : List ℕ) (i c g d h k : ℕ) (ek : k ≡ closeTag g) (x : Bool) (
       results-left r q p = rw (← first-of, not-false x qx, ← ey, not-false y qy, ← ez′, not-false z q) p
 
 -- ---- a method
-module _ (B : List ℕ) (i c g at : ℕ) (ea : at ≡ rightOf B i) (o : ℕ) (p : Packs o (typeIn B nestingLimit (body i (Class c)) at)) where
-  pub right-no : o ≡ 0 → false ≡ rightTyped B i c g
+module _ (B : List ℕ) (i c g at : ℕ) (ea : at ≡ rightOf B i) (o : Typed) (eo : o ≡ typeIn B nestingLimit (body i (Class c)) at) where
+  pub right-no : o ≡ No → false ≡ rightTyped B i c g
   unfolding rightTyped
-  right-no e = rw (← ea, none-is o _ p e)
+  right-no e = rw (← ea, ← eo, e)
 
-  pub right-is : (d h : ℕ) (r : Bool) → (o ≡ 0 → ⊥) → d ≡ o % 256 → h ≡ o / 256 % 256 → r ≡ resultsFit B i c g d h → r ≡ rightTyped B i c g
+  pub right-is : (d h next : ℕ) (r : Bool) → o ≡ Has d h next → r ≡ resultsFit B i c g d h → r ≡ rightTyped B i c g
   unfolding rightTyped
-  right-is d h r nz ed eh q = rw (← ea, some-is o _ p nz, ← ed, ← eh) q
+  right-is d h next r e p = rw (← ea, ← eo, e) p
 
-module _ (B : List ℕ) (i at : ℕ) (ea : at ≡ leftOf B i) (o : ℕ) (p : Packs o (typeIn B nestingLimit (body i Absent) at)) where
-  pub left-no : o ≡ 0 → false ≡ methodIn B i
+module _ (B : List ℕ) (i at : ℕ) (ea : at ≡ leftOf B i) (o : Typed) (eo : o ≡ typeIn B nestingLimit (body i Absent) at) where
+  pub left-no : o ≡ No → false ≡ methodIn B i
   unfolding methodIn
-  left-no e = rw (← ea, none-is o _ p e)
+  left-no e = rw (← ea, ← eo, e)
 
-  pub left-is : (c g : ℕ) (r : Bool) → (o ≡ 0 → ⊥) → c ≡ o % 256 → g ≡ o / 256 % 256 → r ≡ rightTyped B i c g → r ≡ methodIn B i
+  pub left-is : (c g next : ℕ) (r : Bool) → o ≡ Has c g next → r ≡ rightTyped B i c g → r ≡ methodIn B i
   unfolding methodIn
-  left-is c g r nz ec eg q = rw (← ea, some-is o _ p nz, ← ec, ← eg) q
+  left-is c g next r e p = rw (← ea, ← eo, e) p
 
 -- ---- the loop: of n methods, those from i on decide
 pub record Rest (B : List ℕ) (n i : ℕ) : Type 0 where
@@ -115,11 +115,11 @@ module _ (B : List ℕ) (m : Bool) (em : m ≡ methodsIn B) where
   unfolding checkOf
   check-six q = rw (← em, not-true m q)
 
-  module _ (q : not m ≡ false) (o : ℕ) (p : Packs o (typeIn B nestingLimit inMain (mainAt + 1))) where
-    pub check-seven : o ≡ 0 → Refused 7 ≡ checkOf B
+  module _ (q : not m ≡ false) (o : Typed) (eo : o ≡ typeIn B nestingLimit inMain (mainAt + 1)) where
+    pub check-seven : o ≡ No → Refused 7 ≡ checkOf B
     unfolding checkOf
-    check-seven e = rw (← em, not-false m q, none-is o _ p e)
+    check-seven e = rw (← em, not-false m q, ← eo, e)
 
-    pub check-main : (c g : ℕ) → (o ≡ 0 → ⊥) → c ≡ o % 256 → g ≡ o / 256 % 256 → Main (record { class = c; tag = g }) ≡ checkOf B
+    pub check-main : (c g next : ℕ) → o ≡ Has c g next → Main (record { class = c; tag = g }) ≡ checkOf B
     unfolding checkOf
-    check-main c g nz ec eg = rw (← em, not-false m q, some-is o _ p nz, ← ec, ← eg)
+    check-main c g next e = rw (← em, not-false m q, ← eo, e)

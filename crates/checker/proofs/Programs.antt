@@ -20,8 +20,8 @@ use Rattle.classes.specs.Machine.{pick, paramOf, rowOf, leftOf, rightOf}
 use Rattle.classes.specs.Figures.{mainAt}
 use Rattle.classes.specs.Layout.{layout}
 use Rattle.classes.proofs.Zones.{method-count-at, owner-at, first-at, second-at, left-stands, right-stands, main-stands}
-use Rattle.checker.specs.Typed.{Typed}
-use Rattle.checker.specs.Typed.{Has}
+use Rattle.checker.specs.declared.scope.Typed.{Typed}
+use Rattle.checker.specs.declared.scope.Typed.the-variants.{Has}
 use Rattle.checker.specs.declared.scope.Res.the-variants.{Absent, Class}
 use Rattle.checker.specs.declared.program.Checked.the-variants.{Refused}
 use Rattle.checker.specs.Types.{fitsType, foundAt}

@@ -1,5 +1,5 @@
 -- specs/Types at each return of the code.
-use mathlib.Core.Path.{_≡_, refl, sym, ap, _∙_}
+use mathlib.Core.Path.{_≡_, sym, ap, _∙_}
 use mathlib.Core.Bool.{Bool, true, false, not}
 use mathlib.Core.List.{List}
 use Prim.Native.Nat.{ℕ, _+_}
@@ -14,11 +14,11 @@ use Rattle.classes.specs.declared.methods.Found.{Found}
 use Rattle.classes.specs.declared.methods.Found.the-variants as method
 use Rattle.classes.specs.Machine.{pick, fitsOf, typeAt, fieldOf, paramOf, lookupOf, rowOf}
 use Rattle.checker.specs.Items.{Fields}
-use Rattle.checker.specs.Typed.{Has}
+use Rattle.checker.specs.declared.scope.Typed.{Typed}
+use Rattle.checker.specs.declared.scope.Typed.the-variants.{Has}
 use Rattle.checker.specs.declared.scope.Res.{Res}
-use Rattle.checker.specs.declared.scope.Res.the-variants.{Absent, Class}
+use Rattle.checker.specs.declared.scope.Res.the-variants.{Class}
 use Rattle.checker.specs.declared.scope.Scope.{Scope}
-use Rattle.checker.specs.Numbers.{Packs}
 use Rattle.checker.specs.Types.{fitsType, narrowTag, fitsFound, itemFits, argFits, receiverOf, resultOf, foundAt, thisOf, resIn, paramVar}
 
 -- ---- tags
@@ -105,29 +105,15 @@ module _ (B : List ℕ) (top : Bool) (i : ℕ) (r : FieldType) where
   result-second e q = rw e q
 
 -- ---- variables
-module _ (w : FieldFound) (next : ℕ) where
-  pub found-none : w ≡ field.Nothing → Packs 0 (foundAt w next)
-  found-none e = rw e (record { holds = refl })
-
-  pub found-type : (d : FieldType) (r : ℕ) → w ≡ field.Type d → Packs r (Has (d .class) (d .tag) next) → Packs r (foundAt w next)
-  found-type d r e p = rw e p
+pub found-type : (w : FieldFound) (next : ℕ) (d : FieldType) → w ≡ field.Type d → Has (d .class) (d .tag) next ≡ foundAt w next
+found-type w next d e = rw e
 
 module _ (B : List ℕ) (s : Scope) (next : ℕ) where
-  pub this-main : s .main ≡ true → Packs 0 (thisOf B s next)
-  this-main e = rw e (record { holds = refl })
+  pub this-body : (o : ℕ) → s .main ≡ false → o ≡ getD B (rowOf (s .method) + 1) 0 → Has o 0 next ≡ thisOf B s next
+  this-body o e q = rw (e, q)
 
-  pub this-body : (o r : ℕ) → s .main ≡ false → o ≡ getD B (rowOf (s .method) + 1) 0 → Packs r (Has o 0 next) → Packs r (thisOf B s next)
-  this-body o r e q p = rw (e, ← q) p
-
-  pub param-main : (k : ℕ) → s .main ≡ true → Packs 0 (paramVar B s k next)
-  param-main k e = rw e (record { holds = refl })
-
-  pub param-body : (k : ℕ) (w : FieldFound) (r : ℕ) → s .main ≡ false → w ≡ paramOf B (s .method) k → Packs r (foundAt w next) → Packs r (paramVar B s k next)
+  pub param-body : (k : ℕ) (w : FieldFound) (r : Typed) → s .main ≡ false → w ≡ paramOf B (s .method) k → r ≡ foundAt w next → r ≡ paramVar B s k next
   param-body k w r e p q = rw (e, ← p) q
 
-module _ (r : Res) (next : ℕ) where
-  pub res-none : r ≡ Absent → Packs 0 (resIn r next)
-  res-none e = rw e (record { holds = refl })
-
-  pub res-class : (c n : ℕ) → r ≡ Class c → Packs n (Has c 2 next) → Packs n (resIn r next)
-  res-class c n e p = rw e p
+pub res-class : (r : Res) (next c : ℕ) → r ≡ Class c → Has c 2 next ≡ resIn r next
+res-class r next c e = rw e

@@ -5,8 +5,8 @@ use Rattle.cofj.specs.declared.Verdict.{Verdict}
 use Rattle.cofj.specs.Syntax.{Ty}
 use Rattle.cofj.specs.Typing as language
 use Rattle.classes.specs.Layout.{bytesOf}
-use Rattle.checker.specs.Typed.{Typed}
-use Rattle.checker.specs.Typed.{Has, No}
+use Rattle.checker.specs.declared.scope.Typed.{Typed}
+use Rattle.checker.specs.declared.scope.Typed.the-variants.{Has, No}
 use Rattle.checker.specs.declared.program.Checked.{Checked}
 use Rattle.checker.specs.declared.program.Checked.the-variants.{Main, Refused}
 

@@ -1,7 +1,5 @@
-pub mod Typed
 pub mod Listed
 pub mod Items
-pub mod Numbers
 pub mod Shapes
 pub mod Types
 pub mod Machine

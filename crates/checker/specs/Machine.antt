@@ -12,8 +12,8 @@ use Rattle.classes.specs.declared.methods.Found.the-variants as method
 use Rattle.classes.specs.Machine.{pick, fieldOf}
 use Rattle.checker.specs.Items.{Items}
 use Rattle.checker.specs.Items.{Parameters, Fields}
-use Rattle.checker.specs.Typed.{Typed}
-use Rattle.checker.specs.Typed.{Has, No}
+use Rattle.checker.specs.declared.scope.Typed.{Typed}
+use Rattle.checker.specs.declared.scope.Typed.the-variants.{Has, No}
 use Rattle.checker.specs.declared.scope.Scope.{Scope}
 use Rattle.checker.specs.Listed.{Listed}
 use Rattle.checker.specs.Listed as list

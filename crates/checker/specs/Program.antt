@@ -7,8 +7,8 @@ use Rattle.cofj.specs.Limits.{nestingLimit}
 use Rattle.cofj.specs.Typing.{closeTag}
 use Rattle.classes.specs.Machine.{pick, typeAt, rowOf, leftOf, rightOf}
 use Rattle.classes.specs.Figures.{mainAt}
-use Rattle.checker.specs.Typed.{Typed}
-use Rattle.checker.specs.Typed.{Has, No}
+use Rattle.checker.specs.declared.scope.Typed.{Typed}
+use Rattle.checker.specs.declared.scope.Typed.the-variants.{Has, No}
 use Rattle.checker.specs.declared.scope.Res.{Res}
 use Rattle.checker.specs.declared.scope.Res.the-variants.{Absent, Class}
 use Rattle.checker.specs.declared.scope.Scope.{Scope}

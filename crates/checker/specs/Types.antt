@@ -14,8 +14,8 @@ use Rattle.classes.specs.declared.methods.Found.the-variants as method
 use Rattle.classes.specs.Machine.{pick, fitsOf, typeAt, fieldOf, paramOf, lookupOf, rowOf}
 use Rattle.checker.specs.Items.{Items}
 use Rattle.checker.specs.Items.{Parameters, Fields}
-use Rattle.checker.specs.Typed.{Typed}
-use Rattle.checker.specs.Typed.{Has, No}
+use Rattle.checker.specs.declared.scope.Typed.{Typed}
+use Rattle.checker.specs.declared.scope.Typed.the-variants.{Has, No}
 use Rattle.checker.specs.declared.scope.Res.{Res}
 use Rattle.checker.specs.declared.scope.Res.the-variants.{Absent, Class}
 use Rattle.checker.specs.declared.scope.Scope.{Scope}

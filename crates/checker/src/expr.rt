@@ -4,15 +4,11 @@ use crate::fits::arg_fits;
 use crate::fits::receiver;
 use crate::fits::result_type;
 use crate::fits::value_fits;
-use crate::scope::NONE;
 use crate::scope::Scope;
-use crate::scope::answer;
-use crate::scope::class_of;
+use crate::scope::Typed;
 use crate::scope::found;
-use crate::scope::next_of;
 use crate::scope::param_var;
 use crate::scope::res_type;
-use crate::scope::tag_of;
 use crate::scope::this_type;
 use crate::shape::byte_at;
 use classes::chain::field_total;
@@ -21,27 +17,26 @@ use classes::methods::Found;
 use classes::places::SIZE;
 ghost use mathlib.Core.Path.{_≡_};
 ghost use mathlib.Core.Bool.{true, false};
-ghost use Prim.Native.Nat.{_<_, _≤_};
+ghost use Prim.Native.Nat.{_<_};
 ghost use Rattle.cofj.specs.Limits.{nestingLimit};
 ghost use Rattle.cofj.specs.Typing.{closedTag};
 ghost use Rattle.classes.specs.Machine.{pick};
 ghost use Rattle.classes.specs.Figures.{tableSize};
 ghost use Rattle.checker.specs.Items.{Fields};
-ghost use Rattle.checker.specs.Numbers.{Packs, lastNext};
 ghost use Rattle.checker.specs.Machine.{typeIn, varBy, partsBy, fieldBy, callBy, argsBy, newBy, newThen, listBy};
 
 // How deep the parts of a body may be nested.
 const PARTS_NESTING: usize = 5;
 
 // The type of the expression at `at`, nested at most `left` deep.
-pub fn type_expr(t: &[u8; SIZE], scope: Scope, at: usize, left: usize) -> usize
-    ensures { λ r. ⌜ Packs r (typeIn (now (t .entry)) left scope at) ⌝ }
+pub fn type_expr(t: &[u8; SIZE], scope: Scope, at: usize, left: usize) -> Typed
+    ensures { λ r. ⌜ r ≡ typeIn (now (t .entry)) left scope at ⌝ }
 {
     if left == 0 {
-        return NONE;
+        return Typed::No;
     }
     if SIZE <= at {
-        return NONE;
+        return Typed::No;
     }
     let b = t[at];
     if b < 0x43 {
@@ -51,11 +46,11 @@ pub fn type_expr(t: &[u8; SIZE], scope: Scope, at: usize, left: usize) -> usize
 }
 
 // The type of a body, or of main. It is type_expr for the whole nesting: with two callers the walk of the parts stays one function when compiled.
-pub fn type_body(t: &[u8; SIZE], scope: Scope, at: usize) -> usize
-    ensures { λ r. ⌜ Packs r (typeIn (now (t .entry)) nestingLimit scope at) ⌝ }
+pub fn type_body(t: &[u8; SIZE], scope: Scope, at: usize) -> Typed
+    ensures { λ r. ⌜ r ≡ typeIn (now (t .entry)) nestingLimit scope at ⌝ }
 {
     if SIZE <= at {
-        return NONE;
+        return Typed::No;
     }
     let b = t[at];
     if b < 0x43 {
@@ -65,9 +60,9 @@ pub fn type_body(t: &[u8; SIZE], scope: Scope, at: usize) -> usize
 }
 
 // The variable at `at`, whose first byte is b.
-pub fn type_var(t: &[u8; SIZE], scope: Scope, b: u8, at: usize) -> usize
+pub fn type_var(t: &[u8; SIZE], scope: Scope, b: u8, at: usize) -> Typed
     requires { ⌜ at < tableSize ⌝ }
-    ensures { λ r. ⌜ Packs r (varBy (now (t .entry)) scope b at) ⌝ }
+    ensures { λ r. ⌜ r ≡ varBy (now (t .entry)) scope b at ⌝ }
 {
     if b == 0x40 {
         return this_type(t, scope, at + 1);
@@ -79,13 +74,13 @@ pub fn type_var(t: &[u8; SIZE], scope: Scope, b: u8, at: usize) -> usize
         let k = byte_at(t, at + 1);
         return param_var(t, scope, k, at + 2);
     }
-    NONE
+    Typed::No
 }
 
 // The expression with parts at `at`, whose first byte is b. The parts are nested at most `left` deep.
-pub fn type_parts(t: &[u8; SIZE], scope: Scope, b: u8, at: usize, left: usize) -> usize
+pub fn type_parts(t: &[u8; SIZE], scope: Scope, b: u8, at: usize, left: usize) -> Typed
     requires { ⌜ at < tableSize ⌝ }
-    ensures { λ r. ⌜ Packs r (partsBy (now (t .entry)) (typeIn (now (t .entry)) left scope) (scope .main) b at) ⌝ }
+    ensures { λ r. ⌜ r ≡ partsBy (now (t .entry)) (typeIn (now (t .entry)) left scope) (scope .main) b at ⌝ }
 {
     let k = byte_at(t, at + 1);
     if b == 0x43 {
@@ -98,69 +93,66 @@ pub fn type_parts(t: &[u8; SIZE], scope: Scope, b: u8, at: usize, left: usize) -
     if b == 0x45 {
         return type_new(t, scope, k, n, at + 3, left);
     }
-    NONE
+    Typed::No
 }
 
 // Field f of the expression at `at`.
-pub fn type_field(t: &[u8; SIZE], scope: Scope, f: u8, at: usize, left: usize) -> usize
-    ensures { λ r. ⌜ Packs r (fieldBy (now (t .entry)) (typeIn (now (t .entry)) left scope) f at) ⌝ }
+pub fn type_field(t: &[u8; SIZE], scope: Scope, f: u8, at: usize, left: usize) -> Typed
+    ensures { λ r. ⌜ r ≡ fieldBy (now (t .entry)) (typeIn (now (t .entry)) left scope) f at ⌝ }
 {
     let o = type_expr(t, scope, at, left);
-    if o == NONE {
-        return NONE;
+    let Typed::Has(class, tag, next) = o else {
+        return Typed::No;
+    };
+    if tag != 0 {
+        return Typed::No;
     }
-    if tag_of(o) != 0 {
-        return NONE;
-    }
-    let c = class_of(o);
-    found(field_type(t, c, f), next_of(o))
+    found(field_type(t, class, f), next)
 }
 
 // Call of m with n arguments: the receiver at `at`, then the arguments.
-pub fn type_call(t: &[u8; SIZE], scope: Scope, m: u8, n: u8, at: usize, left: usize) -> usize
-    ensures { λ r. ⌜ Packs r (callBy (now (t .entry)) (typeIn (now (t .entry)) left scope) (scope .main) m n at) ⌝ }
+pub fn type_call(t: &[u8; SIZE], scope: Scope, m: u8, n: u8, at: usize, left: usize) -> Typed
+    ensures { λ r. ⌜ r ≡ callBy (now (t .entry)) (typeIn (now (t .entry)) left scope) (scope .main) m n at ⌝ }
 {
     let o = type_expr(t, scope, at, left);
-    if o == NONE {
-        return NONE;
-    }
-    let f = receiver(t, class_of(o), tag_of(o), m, n);
-    let Found::At(i) = f else {
-        return NONE;
+    let Typed::Has(class, tag, next) = o else {
+        return Typed::No;
     };
-    type_args(t, scope, i, n, next_of(o), left)
+    let f = receiver(t, class, tag, m, n);
+    let Found::At(i) = f else {
+        return Typed::No;
+    };
+    type_args(t, scope, i, n, next, left)
 }
 
 // The n arguments of a call of method i: each has a closed tag and fits its parameter.
-pub fn type_args(t: &[u8; SIZE], scope: Scope, i: u8, n: u8, at: usize, left: usize) -> usize
-    requires { ⌜ (0 < at) × (at ≤ lastNext) ⌝ }
-    ensures { λ r. ⌜ Packs r (argsBy (now (t .entry)) (typeIn (now (t .entry)) left scope) (scope .main) i n at) ⌝ }
+pub fn type_args(t: &[u8; SIZE], scope: Scope, i: u8, n: u8, at: usize, left: usize) -> Typed
+    ensures { λ r. ⌜ r ≡ argsBy (now (t .entry)) (typeIn (now (t .entry)) left scope) (scope .main) i n at ⌝ }
 {
     let mut k: u8 = 0;
     let mut a: usize = at;
     while k < n {
         let o = type_expr(t, scope, a, left);
-        if o == NONE {
-            return NONE;
+        let Typed::Has(class, tag, next) = o else {
+            return Typed::No;
+        };
+        if !arg_fits(t, i, k, class, tag) {
+            return Typed::No;
         }
-        if !arg_fits(t, i, k, class_of(o), tag_of(o)) {
-            return NONE;
-        }
-        a = next_of(o);
+        a = next;
         k += 1;
     }
     let main = scope.main;
     let u = result_type(t, main, i);
-    answer(u.class, u.tag, a)
+    Typed::Has(u.class, u.tag, a)
 }
 
 // A new object of class c with n values.
-pub fn type_new(t: &[u8; SIZE], scope: Scope, c: u8, n: u8, at: usize, left: usize) -> usize
-    requires { ⌜ (0 < at) × (at ≤ lastNext) ⌝ }
-    ensures { λ r. ⌜ Packs r (newBy (now (t .entry)) (typeIn (now (t .entry)) left scope) c n at) ⌝ }
+pub fn type_new(t: &[u8; SIZE], scope: Scope, c: u8, n: u8, at: usize, left: usize) -> Typed
+    ensures { λ r. ⌜ r ≡ newBy (now (t .entry)) (typeIn (now (t .entry)) left scope) c n at ⌝ }
 {
     if field_total(t, c) != n {
-        return NONE;
+        return Typed::No;
     }
     type_values(t, scope, c, n, at, left)
 }
@@ -179,28 +171,26 @@ fn stays_closed(closed: bool, tag: u8) -> bool
 }
 
 // The n values of a new object of class c: each fits its field, an open tag read as 0. The object is open if a value is.
-pub fn type_values(t: &[u8; SIZE], scope: Scope, c: u8, n: u8, at: usize, left: usize) -> usize
-    requires { ⌜ (0 < at) × (at ≤ lastNext) ⌝ }
-    ensures { λ r. ⌜ Packs r (newThen c (listBy (now (t .entry)) (typeIn (now (t .entry)) left scope) (Fields c) 0 n true at)) ⌝ }
+pub fn type_values(t: &[u8; SIZE], scope: Scope, c: u8, n: u8, at: usize, left: usize) -> Typed
+    ensures { λ r. ⌜ r ≡ newThen c (listBy (now (t .entry)) (typeIn (now (t .entry)) left scope) (Fields c) 0 n true at) ⌝ }
 {
     let mut k: u8 = 0;
     let mut closed = true;
     let mut a: usize = at;
     while k < n {
         let o = type_expr(t, scope, a, left);
-        if o == NONE {
-            return NONE;
-        }
-        let tag = tag_of(o);
-        if !value_fits(t, c, k, class_of(o), tag) {
-            return NONE;
+        let Typed::Has(class, tag, next) = o else {
+            return Typed::No;
+        };
+        if !value_fits(t, c, k, class, tag) {
+            return Typed::No;
         }
         closed = stays_closed(closed, tag);
-        a = next_of(o);
+        a = next;
         k += 1;
     }
     if closed {
-        return answer(c, 0, a);
+        return Typed::Has(c, 0, a);
     }
-    answer(c, 1, a)
+    Typed::Has(c, 1, a)
 }

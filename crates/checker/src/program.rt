@@ -3,11 +3,9 @@
 use crate::expr::type_body;
 use crate::fits::close_tag;
 use crate::fits::fits;
-use crate::scope::NONE;
 use crate::scope::Res;
 use crate::scope::Scope;
-use crate::scope::class_of;
-use crate::scope::tag_of;
+use crate::scope::Typed;
 use classes::chain::FieldType;
 use classes::methods::first;
 use classes::methods::left_place;
@@ -70,10 +68,10 @@ pub fn right_typed(t: &[u8; SIZE], i: u8, class: u8, tag: u8) -> bool
     };
     let at = right_place(t, i);
     let o = type_body(t, scope, at);
-    if o == NONE {
+    let Typed::Has(c, g, _) = o else {
         return false;
-    }
-    results_fit(t, i, class, tag, class_of(o), tag_of(o))
+    };
+    results_fit(t, i, class, tag, c, g)
 }
 
 // Whether method i has a type.
@@ -87,10 +85,10 @@ pub fn method_typed(t: &[u8; SIZE], i: u8) -> bool
     };
     let at = left_place(t, i);
     let o = type_body(t, scope, at);
-    if o == NONE {
+    let Typed::Has(class, tag, _) = o else {
         return false;
-    }
-    right_typed(t, i, class_of(o), tag_of(o))
+    };
+    right_typed(t, i, class, tag)
 }
 
 // How many methods there are.
@@ -128,11 +126,8 @@ pub fn check(t: &[u8; SIZE]) -> Checked
         res: Res::Absent,
     };
     let o = type_body(t, scope, MAIN + 1);
-    if o == NONE {
+    let Typed::Has(class, tag, _) = o else {
         return Checked::Refused(7);
-    }
-    Checked::Main(FieldType {
-        class: class_of(o),
-        tag: tag_of(o),
-    })
+    };
+    Checked::Main(FieldType { class, tag })
 }

@@ -4,22 +4,13 @@ use Rattle.checker.proofs.expr.type_body.Statement.{statement}
 use Rattle.checker.proofs.expr.type_body.Tie as tie
 use Rattle.checker.proofs.WalkLaws as laws
 
-returns : tie.Need-returns
-returns c = search laws.body-past
-
-returns-2 : tie.Need-returns-2
-returns-2 c = search laws.body-var
-
-returns-3 : tie.Need-returns-3
-returns-3 c = search laws.body-parts
-
 pub type-body-spec : {M : Type 1} → statement M
 type-body-spec =
     tie.close
     (tie.spec
-    returns
+    (λ c. search (laws.at-past, laws.some-left))
     (λ c. search needs)
     (λ c κs. search needs)
-    returns-2
+    (λ c. search (laws.at-var, laws.some-left))
     (λ c κs. search needs)
-    returns-3)
+    (λ c. search (laws.at-parts, laws.some-left)))

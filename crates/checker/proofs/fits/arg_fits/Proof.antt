@@ -4,18 +4,5 @@ use Rattle.checker.proofs.fits.arg_fits.Statement.{statement}
 use Rattle.checker.proofs.fits.arg_fits.Tie as tie
 use Rattle.checker.proofs.TypeLaws as laws
 
-returns : tie.Need-returns
-returns c = search laws.arg-open
-
-returns-2 : tie.Need-returns-2
-returns-2 c = search laws.arg-is
-
 pub arg-fits-spec : {M : Type 1} → statement M
-arg-fits-spec =
-    tie.close
-    (tie.spec
-    (λ c κs. search needs)
-    returns
-    (λ c κs. search needs)
-    (λ c κs. search needs)
-    returns-2)
+arg-fits-spec = tie.close (tie.spec (λ c κs. search needs) (λ c. search laws.arg-open) (λ c κs. search needs) (λ c κs. search needs) (λ c. search laws.arg-is))

@@ -4,17 +4,5 @@ use Rattle.checker.proofs.fits.result_type.Statement.{statement}
 use Rattle.checker.proofs.fits.result_type.Tie as tie
 use Rattle.checker.proofs.TypeLaws as laws
 
-returns : tie.Need-returns
-returns c = search laws.result-first
-
-returns-2 : tie.Need-returns-2
-returns-2 c = search laws.result-second
-
 pub result-type-spec : {M : Type 1} → statement M
-result-type-spec =
-    tie.close
-    (tie.spec
-    (λ c κs. search needs)
-    returns
-    (λ c κs. search needs)
-    returns-2)
+result-type-spec = tie.close (tie.spec (λ c κs. search needs) (λ c. search laws.result-first) (λ c κs. search needs) (λ c. search laws.result-second))

@@ -4,13 +4,5 @@ use Rattle.checker.proofs.fits.value_fits.Statement.{statement}
 use Rattle.checker.proofs.fits.value_fits.Tie as tie
 use Rattle.checker.proofs.TypeLaws as laws
 
-returns : tie.Need-returns
-returns c = search laws.value-is
-
 pub value-fits-spec : {M : Type 1} → statement M
-value-fits-spec =
-    tie.close
-    (tie.spec
-    (λ c κs. search needs)
-    (λ c κs. search needs)
-    returns)
+value-fits-spec = tie.close (tie.spec (λ c κs. search needs) (λ c κs. search needs) (λ c. search laws.value-is))

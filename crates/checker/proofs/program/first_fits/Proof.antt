@@ -4,13 +4,5 @@ use Rattle.checker.proofs.program.first_fits.Statement.{statement}
 use Rattle.checker.proofs.program.first_fits.Tie as tie
 use Rattle.checker.proofs.ProgramLaws as laws
 
-returns : tie.Need-returns
-returns c = search laws.first-is
-
 pub first-fits-spec : {M : Type 1} → statement M
-first-fits-spec =
-    tie.close
-    (tie.spec
-    (λ c κs. search needs)
-    (λ c κs. search needs)
-    returns)
+first-fits-spec = tie.close (tie.spec (λ c κs. search needs) (λ c κs. search needs) (λ c. search laws.first-is))

@@ -4,20 +4,14 @@ use Rattle.checker.proofs.program.method_typed.Statement.{statement}
 use Rattle.checker.proofs.program.method_typed.Tie as tie
 use Rattle.checker.proofs.ProgramLaws as laws
 
-returns : tie.Need-returns
-returns c = search laws.left-no
-
-returns-2 : tie.Need-returns-2
-returns-2 c = search laws.left-is
-
 pub method-typed-spec : {M : Type 1} → statement M
 method-typed-spec =
     tie.close
     (tie.spec
     (λ c κs. search needs)
     (λ c κs. search needs)
-    returns
+    (λ c. search needs)
+    (λ c. search needs)
+    (λ c. search laws.left-no)
     (λ c κs. search needs)
-    (λ c κs. search needs)
-    (λ c κs. search needs)
-    returns-2)
+    (λ c. search laws.left-is))

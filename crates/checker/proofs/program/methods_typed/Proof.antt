@@ -11,18 +11,6 @@ Inv-loop t n i₀ i = laws.Rest t n i
 abbrev μ-loop : tie.MeasureT-loop
 μ-loop t n i₀ i = n - i
 
-loop-holds : tie.Need-loop-holds Inv-loop μ-loop
-loop-holds c = search laws.rest-start
-
-returns : tie.Need-returns Inv-loop μ-loop
-returns c = search laws.rest-stop
-
-loop-again : tie.Need-loop-again Inv-loop μ-loop
-loop-again c = search laws.rest-next
-
-returns-2 : tie.Need-returns-2 Inv-loop μ-loop
-returns-2 c = search laws.rest-end
-
 pub methods-typed-spec : {M : Type 1} → statement M
 methods-typed-spec =
     tie.close
@@ -30,10 +18,10 @@ methods-typed-spec =
     Inv-loop
     μ-loop
     (λ c κs. search needs)
-    loop-holds
+    (λ c. search laws.rest-start)
     (λ c κs. search needs)
-    returns
+    (λ c. search laws.rest-stop)
     (λ c. search needs)
     (λ c. search needs)
-    loop-again
-    returns-2)
+    (λ c. search laws.rest-next)
+    (λ c. search laws.rest-end))

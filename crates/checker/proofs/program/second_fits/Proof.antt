@@ -4,13 +4,5 @@ use Rattle.checker.proofs.program.second_fits.Statement.{statement}
 use Rattle.checker.proofs.program.second_fits.Tie as tie
 use Rattle.checker.proofs.ProgramLaws as laws
 
-returns : tie.Need-returns
-returns c = search laws.second-is
-
 pub second-fits-spec : {M : Type 1} → statement M
-second-fits-spec =
-    tie.close
-    (tie.spec
-    (λ c κs. search needs)
-    (λ c κs. search needs)
-    returns)
+second-fits-spec = tie.close (tie.spec (λ c κs. search needs) (λ c κs. search needs) (λ c. search laws.second-is))

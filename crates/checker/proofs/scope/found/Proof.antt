@@ -4,18 +4,5 @@ use Rattle.checker.proofs.scope.found.Statement.{statement}
 use Rattle.checker.proofs.scope.found.Tie as tie
 use Rattle.checker.proofs.TypeLaws as laws
 
-returns : tie.Need-returns
-returns c = search laws.found-none
-
-returns-2 : tie.Need-returns-2
-returns-2 c = search laws.found-type
-
 pub found-spec : {M : Type 1} → statement M
-found-spec =
-    tie.close
-    (tie.spec
-    (λ c. search needs)
-    (λ c. search needs)
-    returns
-    (λ c κs. search needs)
-    returns-2)
+found-spec = tie.close (tie.spec (λ c. search needs) (λ c. search needs) (λ c. search needs) (λ c. search laws.found-type))

@@ -4,17 +4,5 @@ use Rattle.checker.proofs.scope.this_type.Statement.{statement}
 use Rattle.checker.proofs.scope.this_type.Tie as tie
 use Rattle.checker.proofs.TypeLaws as laws
 
-returns : tie.Need-returns
-returns c = search laws.this-main
-
-returns-2 : tie.Need-returns-2
-returns-2 c = search laws.this-body
-
 pub this-type-spec : {M : Type 1} → statement M
-this-type-spec =
-    tie.close
-    (tie.spec
-    returns
-    (λ c κs. search needs)
-    (λ c κs. search needs)
-    returns-2)
+this-type-spec = tie.close (tie.spec (λ c. search needs) (λ c κs. search needs) (λ c. search laws.this-body))
