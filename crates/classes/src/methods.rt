@@ -10,7 +10,7 @@ use crate::places::ROW;
 use crate::places::SIZE;
 use crate::places::wide;
 ghost use mathlib.Core.Path.{_≡_};
-ghost use Prim.Native.Nat.{ℕ, _+_, _*_};
+ghost use Prim.Native.Nat.{ℕ, _+_, _*_, _<_};
 ghost use lib.ListN.{getD};
 ghost use Rattle.classes.specs.Machine.{numbered, ownOf, lookupOf, rowOf, typeAt, paramOf, leftOf, rightOf};
 
@@ -130,7 +130,7 @@ pub fn param_type(t: &[u8; SIZE], i: u8, k: u8) -> FieldFound
 
 // Where the left expression of method i stands.
 pub fn left_place(t: &[u8; SIZE], i: u8) -> usize
-    ensures { λ r. ⌜ r ≡ leftOf (now (t .entry)) i ⌝ }
+    ensures { λ r. ⌜ (r ≡ leftOf (now (t .entry)) i) × (r < 65536) ⌝ }
 {
     let b = METHODS + LONG * ((i % 64) as usize);
     let n = t[b + 7];
@@ -139,7 +139,7 @@ pub fn left_place(t: &[u8; SIZE], i: u8) -> usize
 
 // Where the right expression of method i stands.
 pub fn right_place(t: &[u8; SIZE], i: u8) -> usize
-    ensures { λ r. ⌜ r ≡ rightOf (now (t .entry)) i ⌝ }
+    ensures { λ r. ⌜ (r ≡ rightOf (now (t .entry)) i) × (r < 65536) ⌝ }
 {
     let b = METHODS + LONG * ((i % 64) as usize);
     let n = t[b];

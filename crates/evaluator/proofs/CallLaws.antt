@@ -1,5 +1,5 @@
 -- Calls up to the choice of a side, as the language has them: one law for each return of the code.
--- Not here: the sides (BodyLaws), the receiver and the arguments on the stack (CallSteps).
+-- Not here: the sides (BodyLaws), what the functions ask of one another (CallSteps).
 use Prim.Native.Nat.{ℕ, zero, suc, _+_, _-_, _<_}
 use native.Mathlib.Omega.{arith}
 use native.Mathlib.Numerals.{sub-one}
@@ -16,6 +16,7 @@ use Rattle.classes.specs.declared.methods.Found.{Found}
 use Rattle.classes.specs.declared.methods.Found.the-variants as found
 use Rattle.classes.specs.Layout.{Finds}
 use Rattle.values.specs.declared.ValueRef.{ValueRef}
+use Rattle.values.specs.declared.ValueRef.the-variants.{Mark, Undetermined}
 use Rattle.maker.specs.declared.Slot.{Slot}
 use Rattle.values.specs.Layout.{valueOf}
 use Rattle.maker.specs.Laying.{valuesFrom}
@@ -23,11 +24,14 @@ use Rattle.evaluator.specs.declared.Stop.{Stop}
 use Rattle.evaluator.specs.declared.Stop.the-variants.{Stuck, NoFuel, TooDeep}
 use Rattle.evaluator.specs.declared.Out.{Out}
 use Rattle.evaluator.specs.declared.Out.the-variants.{Value, Halt}
+use Rattle.evaluator.specs.declared.frame.Held.{Held}
+use Rattle.evaluator.specs.declared.frame.Held.the-variants.{Is, Absent}
 use Rattle.evaluator.specs.declared.frame.Frame.{Frame}
 use Rattle.evaluator.specs.State.{Kept, frameIn, traceIn, metOf}
 use Rattle.evaluator.specs.Answers.{Listed, Values, Stops, stopOf, slotsOf, Shows}
 use Rattle.evaluator.specs.Evaluation.{Reads, ReadsAll, evalIn, evalsIn, deeper, Fits, Evaluates, Lists}
 use Rattle.evaluator.specs.Calling.{ArgsFit, FindsTarget, Calls, CallsWith, Invokes, RunsRight, RunsLeft}
+use Rattle.evaluator.specs.Steps.{markIn}
 use Rattle.evaluator.proofs.Keeping.{kept-none, kept-then, kept-down, value-kept, frame-same, trace-same}
 use Rattle.evaluator.proofs.Standing.{nested-none}
 use Rattle.evaluator.proofs.ListLaws.{list-zero}
@@ -173,13 +177,36 @@ args-none T W f tr top at left d sp fuel v m n i z ps W2 o inv = record { kept =
         })
 
 -- ---- fuel, depth, and the side that runs
-pub met-some : (o : Option ℕ) (x : ℕ) → (x ≡ 0 → ⊥) → x ≡ metOf o → o ≡ some (x - 1)
-met-some none x nz e = absurd (nz e)
-met-some (some y) x nz e = ap some (let w : y ≡ x - 1 = omega arith in w)
+abbrev present : Held → ℕ
+present (Is r) = 1
+present Absent = 0
 
-met-none : (o : Option ℕ) (x : ℕ) → x ≡ 0 → x ≡ metOf o → o ≡ none
-met-none none x z e = refl
-met-none (some y) x z e = absurd (let w : 0 ≡ suc y = sym z ∙ e in omega arith)
+abbrev held : Held → ValueRef
+held (Is r) = r
+held Absent = Undetermined
+
+-- what meeting a call gave, taken apart
+module _ (o : Option ℕ) (h : Held) (e : h ≡ metOf o) where
+  pub met-mark : (y : ValueRef) → h ≡ Is y → y ≡ Mark (markIn y)
+  met-mark y q = go o (sym q ∙ e)
+    where
+      go : (o′ : Option ℕ) → Is y ≡ metOf o′ → y ≡ Mark (markIn y)
+      go none z = absurd (let w : 1 ≡ 0 = ap present z in omega arith)
+      go (some x) z = let w : y ≡ Mark x = ap held z in w ∙ ap (λ (r : ValueRef). Mark (markIn r)) (sym w)
+
+  pub met-some : (y : ValueRef) → h ≡ Is y → o ≡ some (markIn y)
+  met-some y q = go o (sym q ∙ e)
+    where
+      go : (o′ : Option ℕ) → Is y ≡ metOf o′ → o′ ≡ some (markIn y)
+      go none z = absurd (let w : 1 ≡ 0 = ap present z in omega arith)
+      go (some x) z = let w : y ≡ Mark x = ap held z in ap (λ (r : ValueRef). some (markIn r)) (sym w)
+
+  met-none : h ≡ Absent → o ≡ none
+  met-none q = go o (sym q ∙ e)
+    where
+      go : (o′ : Option ℕ) → Absent ≡ metOf o′ → o′ ≡ none
+      go none z = refl
+      go (some x) z = absurd (let w : 0 ≡ 1 = ap present z in omega arith)
 
 module _ (t : Table) (os : List language.OpenCall) (v : Graph) (m : ℕ) (vs : List Graph) (k : Method) where
   spent : (d : Deeper) (fuel : ℕ) → fuel ≡ 0 → stopped language.noFuel fuel ≡ invoke d os v m vs k fuel
@@ -228,21 +255,21 @@ module _ (T W tr : List ℕ) (top : ℕ) (v : ValueRef) (ps : List Slot) (n i ne
       is = λ t k tb ek. record { is = too-deep t (traceIn W tr top) (valueOf W v) m (valuesFrom W ps 0 n) k d fuel nf z; next = tt };
     }
 
-    module _ (nd : d ≡ 0 → ⊥) (x : ℕ) (ex : x ≡ metOf (openMark (traceIn W tr top) (valueOf W v) m (valuesFrom W ps 0 n))) (W′ : List ℕ) (o : Out) where
-      pub invoke-right : (x ≡ 0 → ⊥) → RunsRight T W tr top v ps n i next (d - 1) sp (fuel - 1) (x - 1) W′ o → Invokes T W tr top v ps n i next d sp fuel m W′ o
+    module _ (nd : d ≡ 0 → ⊥) (h : Held) (eh : h ≡ metOf (openMark (traceIn W tr top) (valueOf W v) m (valuesFrom W ps 0 n))) (W′ : List ℕ) (o : Out) where
+      pub invoke-right : (y : ValueRef) → h ≡ Is y → RunsRight T W tr top v ps n i next (d - 1) sp (fuel - 1) (markIn y) W′ o → Invokes T W tr top v ps n i next d sp fuel m W′ o
       unfolding traceIn
-      invoke-right ey r = record {
+      invoke-right y ey r = record {
         kept = r .kept;
         older = r .older;
         is = λ t k tb ek. let z = r .is t k tb ek in record {
           is = z .is
-              ∙ sym (deeper-is t (traceIn W tr top) (valueOf W v) m (valuesFrom W ps 0 n) k d nd (frameOf (valueOf W v) (some (markOf (x - 1))) (valuesFrom W ps 0 n)) (traceIn W tr top) (k .right) (fuel - 1))
-              ∙ side-is t (traceIn W tr top) (valueOf W v) m (valuesFrom W ps 0 n) k (deeper d t) fuel nf (some (x - 1)) (met-some (openMark (traceIn W tr top) (valueOf W v) m (valuesFrom W ps 0 n)) x ey ex);
+              ∙ sym (deeper-is t (traceIn W tr top) (valueOf W v) m (valuesFrom W ps 0 n) k d nd (frameOf (valueOf W v) (some (markOf (markIn y))) (valuesFrom W ps 0 n)) (traceIn W tr top) (k .right) (fuel - 1))
+              ∙ side-is t (traceIn W tr top) (valueOf W v) m (valuesFrom W ps 0 n) k (deeper d t) fuel nf (some (markIn y)) (met-some (openMark (traceIn W tr top) (valueOf W v) m (valuesFrom W ps 0 n)) h eh y ey);
           next = z .next;
         };
       }
 
-      pub invoke-left : x ≡ 0 → RunsLeft T W tr top v ps n i next (d - 1) sp (fuel - 1) m W′ o → Invokes T W tr top v ps n i next d sp fuel m W′ o
+      pub invoke-left : h ≡ Absent → RunsLeft T W tr top v ps n i next (d - 1) sp (fuel - 1) m W′ o → Invokes T W tr top v ps n i next d sp fuel m W′ o
       unfolding traceIn
       invoke-left ey r = record {
         kept = r .kept;
@@ -253,7 +280,7 @@ module _ (T W tr : List ℕ) (top : ℕ) (v : ValueRef) (ps : List Slot) (n i ne
               (deeper d t (frameOf (valueOf W v) none (valuesFrom W ps 0 n)) (opened (traceIn W tr top) (valueOf W v) m (valuesFrom W ps 0 n)) (k .left) (fuel - 1))
               (λ u n′. value (close (length (traceIn W tr top)) u) n′)
               (sym (deeper-is t (traceIn W tr top) (valueOf W v) m (valuesFrom W ps 0 n) k d nd (frameOf (valueOf W v) none (valuesFrom W ps 0 n)) (opened (traceIn W tr top) (valueOf W v) m (valuesFrom W ps 0 n)) (k .left) (fuel - 1)))
-              ∙ side-is t (traceIn W tr top) (valueOf W v) m (valuesFrom W ps 0 n) k (deeper d t) fuel nf none (met-none (openMark (traceIn W tr top) (valueOf W v) m (valuesFrom W ps 0 n)) x ey ex);
+              ∙ side-is t (traceIn W tr top) (valueOf W v) m (valuesFrom W ps 0 n) k (deeper d t) fuel nf none (met-none (openMark (traceIn W tr top) (valueOf W v) m (valuesFrom W ps 0 n)) h eh ey);
           next = z .next;
         };
       }

@@ -1,305 +1,417 @@
--- Calls on the stack, up to the choice of a side: what the functions ask of one another, and one law for each of their returns.
--- Not here: what calls mean (CallLaws), the two sides (SideSteps).
-use Prim.Native.Nat.{ℕ, zero, suc, _+_, _-_, _*_, _/_, _%_, _≤_, _<_}
+-- Calls and the two sides of a method: what the functions ask of one another, and one law for each of their returns.
+-- Not here: what calls and sides mean (CallLaws, BodyLaws), other expressions.
+use Prim.Native.Nat.{ℕ, zero, suc, _+_, _-_, _*_, _≤_, _<_}
 use native.Mathlib.Omega.{arith}
 use mathlib.Core.Path.{_≡_, refl, sym, ap, _∙_, subst}
 use mathlib.Core.List.{List, map}
-use lib.ListN.{length, getD, take, set, length-set}
-use lib.Seq.{getD-set-same, getD-set-other}
-use Rattle.cofj.specs.Running.{openMark, invoke}
+use lib.ListN.{length, getD, take, set}
+use Rattle.cofj.specs.Running.{openMark}
 use Rattle.classes.specs.declared.methods.Found.{Found}
 use Rattle.classes.specs.declared.methods.Found.the-variants as found
+use Rattle.classes.specs.Machine.{rowOf, leftOf, rightOf}
 use Rattle.values.specs.declared.ValueRef.{ValueRef}
+use Rattle.values.specs.declared.ValueRef.the-variants.{Mark}
 use Rattle.maker.specs.declared.Slot.{Slot}
+use Rattle.values.specs.Refs.{refIn}
 use Rattle.values.specs.Layout.{valueOf, Holds}
+use Rattle.values.specs.Operations.{Gives, closeOf}
 use Rattle.maker.specs.Laying.{valuesFrom, PartsHeld}
+use Rattle.evaluator.specs.declared.Stop.{Stop}
 use Rattle.evaluator.specs.declared.Stop.the-variants.{Stuck, NoFuel, TooDeep}
 use Rattle.evaluator.specs.declared.Out.{Out}
 use Rattle.evaluator.specs.declared.Out.the-variants.{Value, Halt}
-use Rattle.values.specs.Refs.{refIn}
-use Rattle.evaluator.specs.State.{Older, PartsOlder, refAt, argsAt, CallsHold, traceIn, metOf}
-use Rattle.evaluator.specs.Answers.{slotsOf}
-use Rattle.evaluator.specs.Stack.{fuelOf, topOf, frameAt, Stacked, stopAt, outAt, listAt}
-use Rattle.evaluator.specs.Limits.{nestOf, depthOf, blockOf}
-use Rattle.evaluator.specs.Evaluation.{deeper, ListFits, Lists}
-use Rattle.evaluator.specs.Calling.{FindsTarget, ArgsFit, Calls, CallsWith, CallFits, Invokes, RunsRight, RunsLeft}
-use Rattle.evaluator.specs.Steps.{PartRunnable, ListRunnable, CallRunnable, BodyRunnable, EvalStep, ListStep, CallStep, InvokeStep, RightStep, LeftStep}
-use Rattle.evaluator.proofs.LimitLaws.{of-equal, next-nest, next-depth, next-block}
+use Rattle.evaluator.specs.declared.Done.{Done}
+use Rattle.evaluator.specs.declared.Done.the-variants as done
+use Rattle.evaluator.specs.declared.Walked.{Walked}
+use Rattle.evaluator.specs.declared.Walked.the-variants as walked
+use Rattle.evaluator.specs.declared.spot.Spot.{Spot}
+use Rattle.evaluator.specs.declared.frame.Held.{Held}
+use Rattle.evaluator.specs.declared.frame.Held.the-variants.{Is, Absent}
+use Rattle.evaluator.specs.declared.frame.Frame.{Frame}
+use Rattle.evaluator.specs.State.{slotsAt, sideCall, CallPut, CallsHold, traceIn, metOf}
+use Rattle.evaluator.specs.Resting.{bodyFrame}
+use Rattle.evaluator.specs.Answers.{Values, Stops, slotsOf, outWith, listFrom, haltsAs}
+use Rattle.evaluator.specs.Spots.{movedSpot, bodySpot}
+use Rattle.evaluator.specs.Evaluation.{Fits, Evaluates, Lists}
+use Rattle.evaluator.specs.Calling.{FindsTarget, ArgsFit, Calls, CallsWith, CallFits, Invokes, RunsLeft, RunsRight}
+use Rattle.evaluator.specs.Steps.{fuelOf, Traced, Based, Runnable, PartRunnable, ArgsRunnable, ListRunnable, CallRunnable, BodyRunnable, markIn, MarkGiven, EvalStep, ListStep, CallStep, ArgsStep, InvokeStep, RightStep, LeftStep}
 use Rattle.evaluator.proofs.Keeping.{kept-down, older-up, parts-held, based-kept}
-use Rattle.evaluator.proofs.StateLaws.{args-length}
+use Rattle.evaluator.proofs.Given.{given-older}
+use Rattle.evaluator.proofs.TraceLaws.{traced-none, traced-then, traced-down, fuel-set, traced-fuel, trace-on, calls-on, fits-on, calls-with-on, invokes-on}
+use Rattle.evaluator.proofs.BodyLaws.{put-traced, right-halt, right-value, left-halt, left-value}
 use Rattle.evaluator.proofs.CallLaws.{call-flat, call-halt, call-none, call-is, args-halt, args-is, args-none, invoke-fuel, invoke-deep, invoke-right, invoke-left}
 use Rattle.evaluator.proofs.FitLaws as fits
-use Rattle.evaluator.proofs.StackLaws.{out-stop, out-value, list-stop, list-values, args-alike, frame-same, top-same, trace-same, placed-after, stacked-none, stacked-then, Stops-with, stop-is, stop-stack, stuck-is, no-fuel-is, too-deep-is}
-use Rattle.evaluator.proofs.StepLaws.{lists-on, trace-on, list-fits-on, part-low, value-held}
 
--- ---- the arguments that stand on the stack
-module _ (S : List ℕ) (p : ℕ) (x : ValueRef) where
-  args-first : (n : ℕ) → n ≤ 3 → take n (argsAt S p) ≡ take n (slotsOf (refAt S p) (refAt S (p + 1)) (refAt S (p + 2)) x)
-  unfolding argsAt
-  args-first zero h = refl
-  args-first (suc zero) h = refl
-  args-first (suc (suc zero)) h = refl
-  args-first (suc (suc (suc zero))) h = refl
-  args-first (suc (suc (suc (suc n)))) h = absurd (omega arith)
+-- ---- the arguments at rest
+slots-length : (A : List ℕ) → length (slotsAt A 0) ≡ 3
+unfolding slotsAt
+slots-length A = refl
 
-  args-values : (W : List ℕ) (n : ℕ) → n ≤ 3 → valuesFrom W (argsAt S p) 0 n ≡ valuesFrom W (slotsOf (refAt S p) (refAt S (p + 1)) (refAt S (p + 2)) x) 0 n
+module _ (A : List ℕ) (x : ValueRef) where
+  slots-first : (n : ℕ) → n ≤ 3 → take n (slotsAt A 0) ≡ take n (slotsOf (refIn (getD A 0 0)) (refIn (getD A 1 0)) (refIn (getD A 2 0)) x)
+  unfolding slotsAt
+  slots-first zero h = refl
+  slots-first (suc zero) h = refl
+  slots-first (suc (suc zero)) h = refl
+  slots-first (suc (suc (suc zero))) h = refl
+  slots-first (suc (suc (suc (suc n)))) h = absurd (omega arith)
+
+  slots-values : (W : List ℕ) (n : ℕ) → n ≤ 3 → valuesFrom W (slotsAt A 0) 0 n ≡ valuesFrom W (slotsOf (refIn (getD A 0 0)) (refIn (getD A 1 0)) (refIn (getD A 2 0)) x) 0 n
   unfolding valuesFrom
-  args-values W n h = ap (map (λ (s : Slot). valueOf W (s .r))) (args-first n h)
+  slots-values W n h = ap (map (λ (s : Slot). valueOf W (s .r))) (slots-first n h)
 
--- ---- the same trace, receiver and arguments, the same meaning
-invokes-on : (T W tr tr1 : List ℕ) (top top1 : ℕ) (v v1 : ValueRef) (ps ps1 : List Slot) (n i next d sp fuel m : ℕ) (W′ : List ℕ) (o : Out)
-    → traceIn W tr1 top1 ≡ traceIn W tr top → v1 ≡ v → ps1 ≡ ps
-    → Invokes T W tr1 top1 v1 ps1 n i next d sp fuel m W′ o → Invokes T W tr top v ps n i next d sp fuel m W′ o
-invokes-on T W tr tr1 top top1 v v1 ps ps1 n i next d sp fuel m W′ o et ev ep x = record {
-  kept = x .kept;
-  older = x .older;
-  is = λ t k tb ek. let z = x .is t k tb ek in record { is = z .is ∙ (λ j. invoke (deeper d t) (et j) (valueOf W (ev j)) m (valuesFrom W (ep j) 0 n) k fuel); next = z .next };
-}
+-- ---- a call (eval_call)
+module _ (T W : List ℕ) (f : Frame) (S : List ℕ) (p : Spot) (run : PartRunnable W f S p) where
+  pub receiver-run : Runnable W f S p
+  receiver-run = record { based = run .based; full = run .full; count = run .count; fits = fits.fit-inner W f S (p .opened) (p .nesting) (p .calls) (p .block) (run .fits) }
 
--- ---- a call
-pub call-nested : (T W S : List ℕ) (at lim sp m n : ℕ) → PartRunnable W S lim sp → lim % 8 ≡ 0 → (S′ : List ℕ) (r : ℕ) → Stops-with 0 S S′ r → CallStep T W S at lim sp m n W S′ r
-call-nested T W S at lim sp m n run z S′ r e = record {
-  stack = stop-stack sp 0 S S S′ r e (stacked-none sp S) (part-low W S lim sp run);
-  runs = subst (Calls T W (frameAt S) S (topOf S) at (nestOf lim) (depthOf lim) (blockOf lim) (fuelOf S) m n W) (sym (stop-is sp 0 S S S′ r e (run .placed .full) Stuck stuck-is))
-      (call-flat T W (frameAt S) S (topOf S) at (nestOf lim) (depthOf lim) (blockOf lim) (fuelOf S) m n z);
-}
+  module _ (m n : ℕ) where
+    pub call-nested : p .nesting ≡ 0 → CallStep T W f S p m n W S (done.Halt Stuck)
+    call-nested z = record { trace = traced-none (p .opened) S; runs = call-flat T W f S (p .opened) (p .at) (p .nesting) (p .calls) (p .block) (fuelOf S) m n z }
 
-module _ (T W S : List ℕ) (at lim sp m n : ℕ) (run : PartRunnable W S lim sp) (W1 S1 : List ℕ) (at1 : ℕ) (ev : EvalStep T W S at lim sp W1 S1 at1) where
-  pub call-stops : at1 ≡ 0 → CallStep T W S at lim sp m n W1 S1 0
-  call-stops z = subst (CallStep T W S at lim sp m n W1 S1) z (record {
-    stack = ev .stack;
-    runs = call-halt T W (frameAt S) S (topOf S) at (nestOf lim) (depthOf lim) (blockOf lim) (fuelOf S) m n W1 (outAt S1 sp at1) (ev .runs) (stopAt (getD S1 275 0)) (fuelOf S1) (out-stop S1 sp at1 z);
-  })
-
-  pub receiver-there : (at1 ≡ 0 → ⊥) → (v : ValueRef) → v ≡ refIn (getD S1 sp 0) → Holds W1 v
-  receiver-there nz v e = subst (Holds W1) (sym e) (value-held T W S at lim sp W1 S1 at1 ev run nz)
-
-  module _ (nz1 : at1 ≡ 0 → ⊥) (v : ValueRef) (evv : v ≡ refIn (getD S1 sp 0)) (w : Found) (fi : FindsTarget T W1 v m n w) where
-    receiver-is : outAt S1 sp at1 ≡ Value v at1 (fuelOf S1)
-    receiver-is = out-value S1 sp at1 nz1 ∙ ap (λ (x : ValueRef). Value x at1 (fuelOf S1)) (sym evv)
-
-    pub call-lacks : w ≡ found.Nothing → (S′ : List ℕ) (r : ℕ) → Stops-with 0 S1 S′ r → CallStep T W S at lim sp m n W1 S′ r
-    call-lacks ew S′ r e = record {
-      stack = stop-stack sp 0 S S1 S′ r e (ev .stack) (part-low W S lim sp run);
-      runs = subst (Calls T W (frameAt S) S (topOf S) at (nestOf lim) (depthOf lim) (blockOf lim) (fuelOf S) m n W1) (sym (stop-is sp 0 S S1 S′ r e (ev .stack .same ∙ run .placed .full) Stuck stuck-is))
-          (call-none T W (frameAt S) S (topOf S) at (nestOf lim) (depthOf lim) (blockOf lim) (fuelOf S) m n W1 (outAt S1 sp at1) (ev .runs) v at1 (fuelOf S1) receiver-is w fi ew);
-    }
-
-    module _ (nl : lim % 8 ≡ 0 → ⊥) (i : ℕ) (ew : w ≡ found.At i) where
-      args-fit : ArgsFit W1 (frameAt S) S (topOf S) (nestOf lim) (depthOf lim) (blockOf lim) v n
-      args-fit = fits.args-fit T W (frameAt S) S (topOf S) at (nestOf lim) (depthOf lim) (blockOf lim) (fuelOf S) W1 (outAt S1 sp at1) (ev .runs) v at1 (fuelOf S1) m n w i (run .fits) nl receiver-is fi ew
-
-      call-by : (W2 : List ℕ) (x : Out) → CallsWith T W1 (frameAt S) S (topOf S) at1 (nestOf lim) (depthOf lim) (blockOf lim) (fuelOf S1) v m n i W2 x → Calls T W (frameAt S) S (topOf S) at (nestOf lim) (depthOf lim) (blockOf lim) (fuelOf S) m n W2 x
-      call-by W2 x cw = call-is T W (frameAt S) S (topOf S) at (nestOf lim) (depthOf lim) (blockOf lim) (fuelOf S) m n W1 (outAt S1 sp at1) (ev .runs) v at1 (fuelOf S1) receiver-is w fi i W2 x (run .fits) ew cw
-
-      pub args-run : ListRunnable W1 S1 at1 (lim + 256) (sp + 1) n
-      args-run = record {
-        based = based-kept W W1 (blockOf lim) (blockOf (lim + 256)) (ev .runs .kept) (let z = next-block lim in omega arith) (run .based);
-        placed = placed-after sp S S1 (run .placed) (ev .stack) (sp + 1) (omega arith);
-        fits = of-equal (λ a d b. ListFits W1 (frameAt S1) S1 (topOf S1) a d b n) (sym (next-nest lim)) (sym (next-depth lim)) (sym (next-block lim))
-            (list-fits-on sp S S1 (run .placed) (ev .stack) W1 (nestOf lim) (depthOf lim) (blockOf lim + 1) n (fits.args-list W1 (frameAt S) S (topOf S) (nestOf lim) (depthOf lim) (blockOf lim) v n args-fit));
-        room = let r = run .room in omega (arith, args-fit .few, next-nest lim, next-depth lim);
-        start = omega (arith, nz1);
+    module _ (W1 S1 : List ℕ) (o : Done) (ev : EvalStep T W f S p W1 S1 o) where
+      pub call-stops : (s : Stop) → o ≡ done.Halt s → CallStep T W f S p m n W1 S1 o
+      call-stops s e = record {
+        trace = ev .trace;
+        runs = call-halt T W f S (p .opened) (p .at) (p .nesting) (p .calls) (p .block) (fuelOf S) m n W1 (outWith (fuelOf S1) o) (ev .runs) s (fuelOf S1) (ap (outWith (fuelOf S1)) e);
       }
 
-      -- no arguments
-      pub direct-run : n ≡ 0 → CallRunnable W1 S1 at1 n lim sp
-      direct-run z =
-          let t = top-same sp S S1 (run .placed) (ev .stack) in
-          let c = args-fit .fits .calls in
-          let r = args-fit .fits .room in
-          record {
-            based = based-kept W W1 (blockOf lim) (blockOf lim) (ev .runs .kept) (omega arith) (run .based);
-            placed = placed-after sp S S1 (run .placed) (ev .stack) sp (omega arith);
-            fits = record {
-              trace = trace-on sp S S1 (run .placed) (ev .stack) W1 (blockOf lim) (args-fit .fits .trace);
-              receiver = older-up W1 (blockOf lim + 1) (blockOf lim + 4) (omega arith) (refAt S1 sp) (subst (Older W1 (blockOf lim + 1)) evv (args-fit .receiver));
-              args = record { full = omega arith; part = λ j l. absurd (omega arith) };
-              few = args-fit .few;
-              calls = omega arith;
-              room = omega (arith, nl);
-              long = args-fit .fits .long;
-            };
-            room = let q = run .room in omega (arith, nl);
-            after = omega (arith, nz1);
+      module _ (v : ValueRef) (at : ℕ) (eo : o ≡ done.Value v at) where
+        value-is : outWith (fuelOf S1) o ≡ Value v at (fuelOf S1)
+        value-is = ap (outWith (fuelOf S1)) eo
+
+        pub receiver-there : Holds W1 v
+        receiver-there = given-older T W f S (p .opened) (p .at) (p .nesting) (p .calls) (p .block) (fuelOf S) W1 (outWith (fuelOf S1) o) (ev .runs) v at (fuelOf S1) value-is .held
+
+        module _ (w : Found) (fi : FindsTarget T W1 v m n w) where
+          pub call-lacks : w ≡ found.Nothing → CallStep T W f S p m n W1 S1 (done.Halt Stuck)
+          call-lacks ew = record {
+            trace = ev .trace;
+            runs = call-none T W f S (p .opened) (p .at) (p .nesting) (p .calls) (p .block) (fuelOf S) m n W1 (outWith (fuelOf S1) o) (ev .runs) v at (fuelOf S1) value-is w fi ew;
           }
 
-      pub direct-is : n ≡ 0 → (W2 S2 : List ℕ) (r : ℕ) → InvokeStep T W1 S1 at1 lim sp m n i W2 S2 r → CallStep T W S at lim sp m n W2 S2 r
-      direct-is z W2 S2 r x = record {
-        stack = stacked-then sp sp S S1 S2 (omega arith) (ev .stack) (x .stack);
-        runs = call-by W2 (outAt S2 sp r)
-            (args-none T W1 (frameAt S) S (topOf S) at1 (nestOf lim) (depthOf lim) (blockOf lim) (fuelOf S1) v m n i z (argsAt S1 (sp + 1)) W2 (outAt S2 sp r)
-            (invokes-on T W1 S S1 (topOf S) (topOf S1) v (refAt S1 sp) (argsAt S1 (sp + 1)) (argsAt S1 (sp + 1)) n i at1 (depthOf lim) (blockOf lim) (fuelOf S1) m W2 (outAt S2 sp r)
-            (trace-same sp S S1 (run .placed) (ev .stack) W1) (sym evv) refl (x .runs)));
+          module _ (nz : p .nesting ≡ 0 → ⊥) (i : ℕ) (ew : w ≡ found.At i) where
+            args-fit : ArgsFit W1 f S (p .opened) (p .nesting) (p .calls) (p .block) v n
+            args-fit =
+                fits.args-fit T W f S (p .opened) (p .at) (p .nesting) (p .calls) (p .block) (fuelOf S) W1 (outWith (fuelOf S1) o) (ev .runs) v at (fuelOf S1) m n w i (run .fits) nz value-is fi ew
+
+            call-by : (W2 : List ℕ) (x : Out) → CallsWith T W1 f S (p .opened) at (p .nesting) (p .calls) (p .block) (fuelOf S1) v m n i W2 x
+                → Calls T W f S (p .opened) (p .at) (p .nesting) (p .calls) (p .block) (fuelOf S) m n W2 x
+            call-by W2 x cw =
+                call-is T W f S (p .opened) (p .at) (p .nesting) (p .calls) (p .block) (fuelOf S) m n W1 (outWith (fuelOf S1) o) (ev .runs) v at (fuelOf S1) value-is w fi i W2 x (run .fits) ew cw
+
+            -- the call goes on at q
+            module _ (q : Spot) (eq : q ≡ movedSpot p at (p .block)) where
+              pub args-asked : ArgsRunnable W1 f S1 q v n
+              args-asked = subst (λ (y : Spot). ArgsRunnable W1 f S1 y v n) (sym eq) (record {
+                based = based-kept W W1 (p .block) (p .block) (ev .runs .kept) (omega arith) (run .based);
+                full = ev .trace .same ∙ run .full;
+                count = run .count;
+                fits = record {
+                  fits = fits-on (p .opened) S S1 (ev .trace) W1 f (p .nesting + 1) (p .calls) (p .block) (args-fit .fits);
+                  deep = nz;
+                  receiver = args-fit .receiver;
+                  few = args-fit .few;
+                };
+              })
+
+              pub call-goes-on : (W2 S2 : List ℕ) (x : Done) → ArgsStep T W1 f S1 q v m n i W2 S2 x → (r : Done) → r ≡ x → CallStep T W f S p m n W2 S2 r
+              call-goes-on W2 S2 x st r er =
+                  let y : ArgsStep T W1 f S1 (movedSpot p at (p .block)) v m n i W2 S2 x = subst (λ (z : Spot). ArgsStep T W1 f S1 z v m n i W2 S2 x) eq st in
+                  subst (CallStep T W f S p m n W2 S2) (sym er) (record {
+                    trace = traced-then (p .opened) S S1 S2 (ev .trace) (y .trace);
+                    runs = call-by W2 (outWith (fuelOf S2) x)
+                        (calls-with-on (p .opened) S S1 (ev .trace) T W1 f at (p .nesting) (p .calls) (p .block) (fuelOf S1) v m n i W2 (outWith (fuelOf S2) x) (y .runs));
+                  })
+
+-- ---- the arguments (eval_args)
+module _ (T W : List ℕ) (f : Frame) (S : List ℕ) (p : Spot) (v : ValueRef) (m n i : ℕ) (run : ArgsRunnable W f S p v n) where
+  pub args-block : p .block + 1 < 65536
+  args-block = let r = run .fits .fits .room in omega arith
+
+  -- there are none
+  module _ (z : n ≡ 0) (A : List ℕ) where
+    pub direct-run : CallRunnable W S v A n p
+    direct-run =
+        let r = run .fits .fits .room in
+        record {
+          based = run .based;
+          full = run .full;
+          fits = record {
+            trace = run .fits .fits .trace;
+            receiver = older-up W (p .block + 1) (p .block + 4) (omega arith) v (run .fits .receiver);
+            args = record { full = omega arith; part = λ j l. absurd (omega arith) };
+            few = run .fits .few;
+            calls = run .fits .fits .calls;
+            room = omega (arith, run .fits .deep);
+            long = run .fits .fits .long;
+          };
+        }
+
+    pub direct-is : (W2 S2 : List ℕ) (r : Done) → InvokeStep T W S v A n i m p W2 S2 r → (x : Done) → x ≡ r → ArgsStep T W f S p v m n i W2 S2 x
+    direct-is W2 S2 r inv x ex = subst (ArgsStep T W f S p v m n i W2 S2) (sym ex) (record {
+      trace = inv .trace;
+      runs = args-none T W f S (p .opened) (p .at) (p .nesting) (p .calls) (p .block) (fuelOf S) v m n i z (slotsAt A 0) W2 (outWith (fuelOf S2) r) (inv .runs);
+    })
+
+  -- they are evaluated
+  module _ (q : Spot) (eq : q ≡ movedSpot p (p .at) (p .block + 1)) where
+    pub args-run : ListRunnable W f S q n
+    args-run = let a = run .based .above in subst (λ (y : Spot). ListRunnable W f S y n) (sym eq) (record {
+      based = record { bares = run .based .bares; above = omega arith };
+      full = run .full;
+      count = run .count;
+      fits = fits.args-list W f S (p .opened) (p .nesting) (p .calls) (p .block) v n (run .fits);
+    })
+
+    module _ (W2 S2 A : List ℕ) (l : Walked) (ls : ListStep T W f S q n W2 S2 A l) where
+      li : ListStep T W f S (movedSpot p (p .at) (p .block + 1)) n W2 S2 A l
+      li = subst (λ (y : Spot). ListStep T W f S y n W2 S2 A l) eq ls
+
+      pub args-stop : (s : Stop) → l ≡ walked.Halt s → (x : Done) → x ≡ haltsAs l → ArgsStep T W f S p v m n i W2 S2 x
+      args-stop s el x ex = record {
+        trace = li .trace;
+        runs = args-halt T W f S (p .opened) (p .at) (p .nesting) (p .calls) (p .block) (fuelOf S) v m n i (run .fits) W2 (listFrom (fuelOf S2) A 0 l) (li .runs) s (fuelOf S2) (outWith (fuelOf S2) x)
+            (ap (listFrom (fuelOf S2) A 0) el) (ap (outWith (fuelOf S2)) (ex ∙ ap haltsAs el));
       }
 
-      -- the arguments evaluated
-      module _ (W2 S2 : List ℕ) (at2 : ℕ) (li : ListStep T W1 S1 at1 (lim + 256) (sp + 1) n W2 S2 at2) where
-        args-given : Lists T W1 (frameAt S) S (topOf S) at1 (nestOf lim) (depthOf lim) (blockOf lim + 1) (fuelOf S1) n W2 (listAt S2 (sp + 1) at2)
-        args-given =
-            lists-on T W1 (frameAt S) (frameAt S1) (frame-same sp S S1 (run .placed) (ev .stack)) S S1 (topOf S) (topOf S1) (trace-same sp S S1 (run .placed) (ev .stack) W1) at1 (nestOf lim) (depthOf lim) (blockOf lim + 1) (fuelOf S1) W2 n
-            (listAt S2 (sp + 1) at2)
-            (of-equal (λ a d b. Lists T W1 (frameAt S1) S1 (topOf S1) at1 a d b (fuelOf S1) n W2 (listAt S2 (sp + 1) at2)) (next-nest lim) (next-depth lim) (next-block lim) (li .runs))
+      module _ (next : ℕ) (el : l ≡ walked.After next) (q2 : Spot) (eq2 : q2 ≡ movedSpot p next (p .block)) where
+        values-are : listFrom (fuelOf S2) A 0 l ≡ Values (refIn (getD A 0 0)) (refIn (getD A 1 0)) (refIn (getD A 2 0)) (refIn (getD A 3 0)) next (fuelOf S2)
+        values-are = ap (listFrom (fuelOf S2) A 0) el
 
-        stack-both : Stacked sp S S2
-        stack-both = stacked-then sp (sp + 1) S S1 S2 (omega arith) (ev .stack) (li .stack)
+        fit-there : CallFits W2 S (p .opened) v (slotsAt A 0) n (p .calls) (p .block)
+        fit-there =
+            fits.call-fit T W f S (p .opened) (p .at) (p .nesting) (p .calls) (p .block) (fuelOf S) v n W2 (listFrom (fuelOf S2) A 0 l) (refIn (getD A 0 0)) (refIn (getD A 1 0)) (refIn (getD A 2 0)) (refIn (getD A 3 0)) next (fuelOf S2)
+            (slotsAt A 0) (run .fits) (li .runs) values-are (omega (arith, run .fits .few, slots-length A)) (slots-first A (refIn (getD A 3 0)) n (run .fits .few))
 
-        receiver-stays : v ≡ refAt S2 sp
-        receiver-stays = evv ∙ ap refIn (sym (li .stack .below sp (omega arith)))
-
-        pub args-stop : at2 ≡ 0 → CallStep T W S at lim sp m n W2 S2 0
-        args-stop z = subst (CallStep T W S at lim sp m n W2 S2) z (record {
-          stack = stack-both;
-          runs = call-by W2 (outAt S2 sp at2)
-              (args-halt T W1 (frameAt S) S (topOf S) at1 (nestOf lim) (depthOf lim) (blockOf lim) (fuelOf S1) v m n i args-fit W2 (listAt S2 (sp + 1) at2) args-given (stopAt (getD S2 275 0)) (fuelOf S2) (outAt S2 sp at2)
-              (list-stop S2 (sp + 1) at2 z) (out-stop S2 sp at2 z));
+        pub call-run : CallRunnable W2 S2 v A n q2
+        call-run = subst (CallRunnable W2 S2 v A n) (sym eq2) (record {
+          based = based-kept W W2 (p .block) (p .block) (kept-down (p .block) (p .block + 1) W W2 (omega arith) (li .runs .kept)) (omega arith) (run .based);
+          full = li .trace .same ∙ run .full;
+          fits = record {
+            trace = calls-on (p .opened) S S2 (li .trace) W2 (p .block) (fit-there .trace);
+            receiver = fit-there .receiver;
+            args = fit-there .args;
+            few = fit-there .few;
+            calls = fit-there .calls;
+            room = fit-there .room;
+            long = fit-there .long;
+          };
         })
 
-        module _ (nz2 : at2 ≡ 0 → ⊥) where
-          fit-there : CallFits W2 S (topOf S) v (argsAt S2 (sp + 1)) n (depthOf lim) (blockOf lim)
-          fit-there =
-              fits.call-fit T W1 (frameAt S) S (topOf S) at1 (nestOf lim) (depthOf lim) (blockOf lim) (fuelOf S1) v n W2 (listAt S2 (sp + 1) at2) (refAt S2 (sp + 1)) (refAt S2 (sp + 1 + 1)) (refAt S2 (sp + 1 + 2)) (refAt S2 (sp + 1 + 3)) at2 (fuelOf S2)
-              (argsAt S2 (sp + 1)) args-fit args-given (list-values S2 (sp + 1) at2 nz2) (omega (arith, args-fit .few, args-length S2 (sp + 1))) (args-first S2 (sp + 1) (refAt S2 (sp + 1 + 3)) n (args-fit .few))
+        pub args-go-on : (W3 S3 : List ℕ) (r : Done) → InvokeStep T W2 S2 v A n i m q2 W3 S3 r → (x : Done) → x ≡ r → ArgsStep T W f S p v m n i W3 S3 x
+        args-go-on W3 S3 r inv x ex =
+            let iv : InvokeStep T W2 S2 v A n i m (movedSpot p next (p .block)) W3 S3 r = subst (λ (y : Spot). InvokeStep T W2 S2 v A n i m y W3 S3 r) eq2 inv in
+            subst (ArgsStep T W f S p v m n i W3 S3) (sym ex) (record {
+              trace = traced-then (p .opened) S S2 S3 (li .trace) (iv .trace);
+              runs = args-is T W f S (p .opened) (p .at) (p .nesting) (p .calls) (p .block) (fuelOf S) v m n i (run .fits) W2 (listFrom (fuelOf S2) A 0 l) (li .runs)
+                  (refIn (getD A 0 0)) (refIn (getD A 1 0)) (refIn (getD A 2 0)) (refIn (getD A 3 0)) next (fuelOf S2) (slotsAt A 0) W3 (outWith (fuelOf S3) r) values-are
+                  (slots-values A (refIn (getD A 3 0)) W2 n (run .fits .few))
+                  (invokes-on (p .opened) S S2 (li .trace) T W2 v (slotsAt A 0) n i next (p .calls) (p .block) (fuelOf S2) m W3 (outWith (fuelOf S3) r) (iv .runs));
+            })
 
-          pub call-run : CallRunnable W2 S2 at2 n lim sp
-          call-run =
-              let t = top-same sp S S2 (run .placed) stack-both in
-              let c = fit-there .calls in
-              record {
-                based = based-kept W1 W2 (blockOf lim) (blockOf lim) (kept-down (blockOf lim) (blockOf lim + 1) W1 W2 (omega arith) (args-given .kept)) (omega arith) (based-kept W W1 (blockOf lim) (blockOf lim) (ev .runs .kept) (omega arith) (run .based));
-                placed = placed-after sp S S2 (run .placed) stack-both sp (omega arith);
-                fits = record {
-                  trace = trace-on sp S S2 (run .placed) stack-both W2 (blockOf lim) (fit-there .trace);
-                  receiver = subst (Older W2 (blockOf lim + 4)) receiver-stays (fit-there .receiver);
-                  args = fit-there .args;
-                  few = fit-there .few;
-                  calls = omega arith;
-                  room = fit-there .room;
-                  long = fit-there .long;
-                };
-                room = let q = run .room in omega (arith, nl);
-                after = omega (arith, nz2);
-              }
-
-          pub call-goes-on : (W3 S3 : List ℕ) (r : ℕ) → InvokeStep T W2 S2 at2 lim sp m n i W3 S3 r → CallStep T W S at lim sp m n W3 S3 r
-          call-goes-on W3 S3 r x = record {
-            stack = stacked-then sp sp S S2 S3 (omega arith) stack-both (x .stack);
-            runs = call-by W3 (outAt S3 sp r)
-                (args-is T W1 (frameAt S) S (topOf S) at1 (nestOf lim) (depthOf lim) (blockOf lim) (fuelOf S1) v m n i args-fit W2 (listAt S2 (sp + 1) at2) args-given
-                (refAt S2 (sp + 1)) (refAt S2 (sp + 1 + 1)) (refAt S2 (sp + 1 + 2)) (refAt S2 (sp + 1 + 3)) at2 (fuelOf S2) (argsAt S2 (sp + 1)) W3 (outAt S3 sp r) (list-values S2 (sp + 1) at2 nz2)
-                (args-values S2 (sp + 1) (refAt S2 (sp + 1 + 3)) W2 n (args-fit .few))
-                (invokes-on T W2 S S2 (topOf S) (topOf S2) v (refAt S2 sp) (argsAt S2 (sp + 1)) (argsAt S2 (sp + 1)) n i at2 (depthOf lim) (blockOf lim) (fuelOf S2) m W3 (outAt S3 sp r)
-                (trace-same sp S S2 (run .placed) stack-both W2) (sym receiver-stays) refl (x .runs)));
-          }
-
--- ---- a call whose receiver and arguments stand on the stack
-module _ (W S : List ℕ) (next n lim sp : ℕ) (run : CallRunnable W S next n lim sp) where
-  pub calls-full : length S ≡ 336
-  calls-full = run .placed .full
-
-  pub call-room : sp + 4 ≤ 336
-  call-room = let r = run .room in omega arith
+-- ---- a method called (invoke)
+module _ (W S : List ℕ) (v : ValueRef) (A : List ℕ) (n : ℕ) (p : Spot) (run : CallRunnable W S v A n p) where
+  pub call-full : length S ≡ 129
+  call-full = run .full
 
   pub call-few : n ≤ 3
   call-few = run .fits .few
 
--- a unit spent
-module _ (W S : List ℕ) (next n lim sp : ℕ) (run : CallRunnable W S next n lim sp) where
-  abbrev S1 : List ℕ
-  S1 = set S 274 (fuelOf S - 1)
+  pub spent-held : Holds W v
+  spent-held = run .fits .receiver .held
 
-  fuel-left : fuelOf S1 ≡ fuelOf S - 1
-  fuel-left = getD-set-same S 274 (fuelOf S - 1) 0 (omega (arith, run .placed .full))
+  pub spent-parts : PartsHeld W (slotsAt A 0) n
+  spent-parts = parts-held W (p .block + 4) (slotsAt A 0) n (run .fits .args)
 
-  spent-below : (p : ℕ) → p < 274 → getD S1 p 0 ≡ getD S p 0
-  spent-below p l = getD-set-other S 274 p (fuelOf S - 1) 0 (λ z. omega arith)
+  few-open : p .opened ≤ 16
+  few-open = let c = run .fits .calls in omega arith
 
-  spent-stack : Stacked sp S S1
-  spent-stack =
-      let r = run .room in
-      record {
-        same = length-set S 274 (fuelOf S - 1);
-        below = λ p l. spent-below p (omega arith);
-        above = λ p a b. getD-set-other S 274 p (fuelOf S - 1) 0 (λ z. omega arith);
-        calls = λ i j a b. getD-set-other S 274 (281 + 16 * j + i) (fuelOf S - 1) 0 (λ z. omega arith);
-        spent = let f = fuel-left in omega arith;
-      }
+  -- a unit spent
+  abbrev less : List ℕ
+  less = set S 128 (fuelOf S - 1)
 
-  spent-receiver : refAt S1 sp ≡ refAt S sp
-  spent-receiver = let r = run .room in ap refIn (spent-below sp (omega arith))
+  fuel-left : fuelOf less ≡ fuelOf S - 1
+  fuel-left = fuel-set (p .opened) S (fuelOf S - 1) few-open (run .full)
 
-  spent-args : argsAt S1 (sp + 1) ≡ argsAt S (sp + 1)
-  spent-args = let r = run .room in args-alike S S1 (sp + 1) (λ q a b. spent-below q (omega arith))
+  spent-trace : Traced (p .opened) S less
+  spent-trace = traced-fuel (p .opened) S (fuelOf S - 1) few-open (run .full) (omega arith)
 
-  spent-run : CallRunnable W S1 next n lim sp
-  spent-run =
-      let t = top-same sp S S1 (run .placed) spent-stack in
-      let c = run .fits .calls in
-      record {
-        based = run .based;
-        placed = placed-after sp S S1 (run .placed) spent-stack sp (omega arith);
-        fits = record {
-          trace = trace-on sp S S1 (run .placed) spent-stack W (blockOf lim) (run .fits .trace);
-          receiver = subst (Older W (blockOf lim + 4)) (sym spent-receiver) (run .fits .receiver);
-          args = subst (λ (ps : List Slot). PartsOlder W (blockOf lim + 4) ps n) (sym spent-args) (run .fits .args);
-          few = run .fits .few;
-          calls = omega arith;
-          room = run .fits .room;
-          long = run .fits .long;
-        };
-        room = run .room;
-        after = run .after;
-      }
+  spent-fits : CallFits W less (p .opened) v (slotsAt A 0) n (p .calls) (p .block)
+  spent-fits = record {
+    trace = calls-on (p .opened) S less spent-trace W (p .block) (run .fits .trace);
+    receiver = run .fits .receiver;
+    args = run .fits .args;
+    few = run .fits .few;
+    calls = run .fits .calls;
+    room = run .fits .room;
+    long = run .fits .long;
+  }
 
-  pub spent-calls : CallsHold W S1 (topOf S1)
-  spent-calls = fits.calls-held W S1 (topOf S1) (refAt S1 sp) (argsAt S1 (sp + 1)) n (depthOf lim) (blockOf lim) (spent-run .fits) (λ i l. let z = spent-run .placed .calls i l in let r = run .room in omega arith)
+  pub spent-calls : CallsHold W (set S 128 (fuelOf S - 1)) (p .opened)
+  spent-calls = fits.calls-held W less (p .opened) v (slotsAt A 0) n (p .calls) (p .block) spent-fits
 
-  pub spent-held : Holds W (refAt S1 sp)
-  spent-held = spent-run .fits .receiver .held
+  pub spent-body : (p .calls ≡ 0 → ⊥) → BodyRunnable W (set S 128 (fuelOf S - 1)) v A n p
+  spent-body nd = record {
+    based = run .based;
+    full = spent-trace .same ∙ run .full;
+    fits = fits.body-fit W less (p .opened) v (slotsAt A 0) n (p .calls) (p .block) spent-fits nd;
+    deep = nd;
+  }
 
-  pub spent-parts : PartsHeld W (argsAt S1 (sp + 1)) n
-  spent-parts = parts-held W (blockOf lim + 4) (argsAt S1 (sp + 1)) n (spent-run .fits .args)
-
-  pub spent-body : (lim / 8 % 32 ≡ 0 → ⊥) → BodyRunnable W S1 next n lim sp
-  spent-body nd = record { based = run .based; placed = spent-run .placed; room = run .room; deep = nd; fits = fits.body-fit W S1 (topOf S1) (refAt S1 sp) (argsAt S1 (sp + 1)) n (depthOf lim) (blockOf lim) (spent-run .fits) nd; after = run .after }
-
-  pub spent-mark : (m x : ℕ) → x ≡ metOf (openMark (traceIn W S1 (topOf S1)) (valueOf W (refAt S1 sp)) m (valuesFrom W (argsAt S1 (sp + 1)) 0 n)) → (x ≡ 0 → ⊥) → x < 64
-  spent-mark m x e nz = fits.mark-small W S1 (topOf S1) (refAt S1 sp) (argsAt S1 (sp + 1)) n (depthOf lim) (blockOf lim) m x (spent-run .fits) e nz
+  pub spent-mark : (m : ℕ) (h : Held) → h ≡ metOf (openMark (traceIn W (set S 128 (fuelOf S - 1)) (p .opened)) (valueOf W v) m (valuesFrom W (slotsAt A 0) 0 n))
+      → (y : ValueRef) → h ≡ Is y → MarkGiven y
+  spent-mark m h e y q = fits.mark-given W less (p .opened) v (slotsAt A 0) n (p .calls) (p .block) m h spent-fits e y q
 
   module _ (T : List ℕ) (m i : ℕ) where
-    pub invoke-stops : fuelOf S ≡ 0 → (S′ : List ℕ) (r : ℕ) → Stops-with 1 S S′ r → InvokeStep T W S next lim sp m n i W S′ r
-    invoke-stops z S′ r e = record {
-      stack = stop-stack sp 1 S S S′ r e (stacked-none sp S) (let l = run .room in omega arith);
-      runs = subst (Invokes T W S (topOf S) (refAt S sp) (argsAt S (sp + 1)) n i next (depthOf lim) (blockOf lim) (fuelOf S) m W) (sym (stop-is sp 1 S S S′ r e (run .placed .full) NoFuel no-fuel-is))
-          (invoke-fuel T W S (topOf S) (refAt S sp) (argsAt S (sp + 1)) n i next (depthOf lim) (blockOf lim) (fuelOf S) m z);
-    }
+    pub invoke-stops : fuelOf S ≡ 0 → InvokeStep T W S v A n i m p W S (done.Halt NoFuel)
+    invoke-stops z = record { trace = traced-none (p .opened) S; runs = invoke-fuel T W S (p .opened) v (slotsAt A 0) n i (p .at) (p .calls) (p .block) (fuelOf S) m z }
 
     module _ (nf : fuelOf S ≡ 0 → ⊥) where
-      pub invoke-sinks : lim / 8 % 32 ≡ 0 → (S′ : List ℕ) (r : ℕ) → Stops-with 2 S1 S′ r → InvokeStep T W S next lim sp m n i W S′ r
-      invoke-sinks z S′ r e = record {
-        stack = stop-stack sp 2 S S1 S′ r e spent-stack (let l = run .room in omega arith);
-        runs = subst (Invokes T W S (topOf S) (refAt S sp) (argsAt S (sp + 1)) n i next (depthOf lim) (blockOf lim) (fuelOf S) m W)
-            (sym (stop-is sp 2 S S1 S′ r e (length-set S 274 (fuelOf S - 1) ∙ run .placed .full) TooDeep too-deep-is ∙ ap (Halt TooDeep) fuel-left))
-            (invoke-deep T W S (topOf S) (refAt S sp) (argsAt S (sp + 1)) n i next (depthOf lim) (blockOf lim) (fuelOf S) m nf z);
+      pub invoke-sinks : p .calls ≡ 0 → InvokeStep T W S v A n i m p W (set S 128 (fuelOf S - 1)) (done.Halt TooDeep)
+      invoke-sinks z = record {
+        trace = spent-trace;
+        runs = subst (λ (u : ℕ). Invokes T W S (p .opened) v (slotsAt A 0) n i (p .at) (p .calls) (p .block) (fuelOf S) m W (Halt TooDeep u)) (sym fuel-left)
+            (invoke-deep T W S (p .opened) v (slotsAt A 0) n i (p .at) (p .calls) (p .block) (fuelOf S) m nf z);
       }
 
-      module _ (nd : lim / 8 % 32 ≡ 0 → ⊥) (x : ℕ) (ex : x ≡ metOf (openMark (traceIn W S1 (topOf S1)) (valueOf W (refAt S1 sp)) m (valuesFrom W (argsAt S1 (sp + 1)) 0 n))) (W′ S′ : List ℕ) (r : ℕ) where
-        back : Invokes T W S1 (topOf S1) (refAt S1 sp) (argsAt S1 (sp + 1)) n i next (depthOf lim) (blockOf lim) (fuelOf S) m W′ (outAt S′ sp r)
-            → Invokes T W S (topOf S) (refAt S sp) (argsAt S (sp + 1)) n i next (depthOf lim) (blockOf lim) (fuelOf S) m W′ (outAt S′ sp r)
-        back =
-            invokes-on T W S S1 (topOf S) (topOf S1) (refAt S sp) (refAt S1 sp) (argsAt S (sp + 1)) (argsAt S1 (sp + 1)) n i next (depthOf lim) (blockOf lim) (fuelOf S) m W′ (outAt S′ sp r)
-            (trace-same sp S S1 (run .placed) spent-stack W) spent-receiver spent-args
-
-        pub invoke-goes-left : x ≡ 0 → LeftStep T W S1 next lim sp m n i W′ S′ r → InvokeStep T W S next lim sp m n i W′ S′ r
-        invoke-goes-left z l = record {
-          stack = stacked-then sp sp S S1 S′ (omega arith) spent-stack (l .stack);
-          runs = back (invoke-left T W S1 (topOf S1) (refAt S1 sp) (argsAt S1 (sp + 1)) n i next (depthOf lim) (blockOf lim) (fuelOf S) m nf nd x ex W′ (outAt S′ sp r) z
-              (subst (λ (u : ℕ). RunsLeft T W S1 (topOf S1) (refAt S1 sp) (argsAt S1 (sp + 1)) n i next (depthOf lim - 1) (blockOf lim) u m W′ (outAt S′ sp r)) fuel-left (l .runs)));
+      module _ (nd : p .calls ≡ 0 → ⊥) (h : Held) (eh : h ≡ metOf (openMark (traceIn W (set S 128 (fuelOf S - 1)) (p .opened)) (valueOf W v) m (valuesFrom W (slotsAt A 0) 0 n)))
+          (W′ S′ : List ℕ) (o : Done) where
+        pub invoke-goes-right : (y : ValueRef) → h ≡ Is y → RightStep T W (set S 128 (fuelOf S - 1)) v A n i p y W′ S′ o → InvokeStep T W S v A n i m p W′ S′ o
+        invoke-goes-right y ey r = record {
+          trace = traced-then (p .opened) S less S′ spent-trace (r .trace);
+          runs = invokes-on (p .opened) S less spent-trace T W v (slotsAt A 0) n i (p .at) (p .calls) (p .block) (fuelOf S) m W′ (outWith (fuelOf S′) o)
+              (invoke-right T W less (p .opened) v (slotsAt A 0) n i (p .at) (p .calls) (p .block) (fuelOf S) m nf nd h eh W′ (outWith (fuelOf S′) o) y ey
+              (subst (λ (u : ℕ). RunsRight T W less (p .opened) v (slotsAt A 0) n i (p .at) (p .calls - 1) (p .block) u (markIn y) W′ (outWith (fuelOf S′) o)) fuel-left (r .runs)));
         }
 
-        pub invoke-goes-right : (x ≡ 0 → ⊥) → RightStep T W S1 next lim sp n i x W′ S′ r → InvokeStep T W S next lim sp m n i W′ S′ r
-        invoke-goes-right z l = record {
-          stack = stacked-then sp sp S S1 S′ (omega arith) spent-stack (l .stack);
-          runs = back (invoke-right T W S1 (topOf S1) (refAt S1 sp) (argsAt S1 (sp + 1)) n i next (depthOf lim) (blockOf lim) (fuelOf S) m nf nd x ex W′ (outAt S′ sp r) z
-              (subst (λ (u : ℕ). RunsRight T W S1 (topOf S1) (refAt S1 sp) (argsAt S1 (sp + 1)) n i next (depthOf lim - 1) (blockOf lim) u (x - 1) W′ (outAt S′ sp r)) fuel-left (l .runs)));
+        pub invoke-goes-left : h ≡ Absent → LeftStep T W (set S 128 (fuelOf S - 1)) v A n i m p W′ S′ o → InvokeStep T W S v A n i m p W′ S′ o
+        invoke-goes-left ea l = record {
+          trace = traced-then (p .opened) S less S′ spent-trace (l .trace);
+          runs = invokes-on (p .opened) S less spent-trace T W v (slotsAt A 0) n i (p .at) (p .calls) (p .block) (fuelOf S) m W′ (outWith (fuelOf S′) o)
+              (invoke-left T W less (p .opened) v (slotsAt A 0) n i (p .at) (p .calls) (p .block) (fuelOf S) m nf nd h eh W′ (outWith (fuelOf S′) o) ea
+              (subst (λ (u : ℕ). RunsLeft T W less (p .opened) v (slotsAt A 0) n i (p .at) (p .calls - 1) (p .block) u m W′ (outWith (fuelOf S′) o)) fuel-left (l .runs)));
         }
+
+-- ---- a side (run_right, run_left)
+module _ (W S : List ℕ) (v : ValueRef) (A : List ℕ) (n : ℕ) (p : Spot) (run : BodyRunnable W S v A n p) where
+  pub body-full : length S ≡ 129
+  body-full = run .full
+
+  pub body-deep : 0 < p .calls
+  body-deep = omega (arith, run .deep)
+
+  pub body-block : p .block + 4 < 65536
+  body-block = let r = run .fits .room in omega arith
+
+  pub body-top : p .opened < 16
+  body-top = fits.push-room W S (p .opened) v A n (p .calls - 1) (p .block) (run .fits)
+
+  pub body-next : p .opened + 1 < 256
+  body-next = let t = body-top in omega arith
+
+  pub body-mark : p .opened < 63
+  body-mark = let t = body-top in omega arith
+
+  body-based : Based W (p .block + 4)
+  body-based = let a = run .based .above in record { bares = run .based .bares; above = omega arith }
+
+-- ---- the right side
+module _ (T W S : List ℕ) (v : ValueRef) (A : List ℕ) (n i : ℕ) (p : Spot) (mark : ValueRef) (run : BodyRunnable W S v A n p) (given : MarkGiven mark)
+    (f : Frame) (owner : ℕ) (ef : f ≡ bodyFrame v (Is mark) A n owner) (q : Spot) (eq : q ≡ bodySpot p (rightOf T i) (p .opened)) where
+  pub right-run : Runnable W f S q
+  right-run = subst (λ (y : Spot). Runnable W f S y) (sym eq) (subst (λ (g : Frame). Runnable W g S (bodySpot p (rightOf T i) (p .opened))) (sym ef) (record {
+    based = body-based W S v A n p run;
+    full = run .full;
+    count = run .fits .few;
+    fits = fits.right-fit W S (p .opened) v A n (p .calls - 1) (p .block) (run .fits) mark owner given;
+  }))
+
+  module _ (W1 S1 : List ℕ) (o : Done) (ran : EvalStep T W f S q W1 S1 o) where
+    right-side : EvalStep T W (bodyFrame v (Is (Mark (markIn mark))) A n owner) S (bodySpot p (rightOf T i) (p .opened)) W1 S1 o
+    right-side =
+        subst (λ (g : Frame). EvalStep T W g S (bodySpot p (rightOf T i) (p .opened)) W1 S1 o) (ef ∙ ap (λ (r : ValueRef). bodyFrame v (Is r) A n owner) (given .is))
+        (subst (λ (y : Spot). EvalStep T W f S y W1 S1 o) eq ran)
+
+    pub right-stops : (s : Stop) → o ≡ done.Halt s → RightStep T W S v A n i p mark W1 S1 o
+    right-stops s e = record {
+      trace = right-side .trace;
+      runs = right-halt T W S (p .opened) v A n owner i (p .at) (p .calls - 1) (p .block) (fuelOf S) (markIn mark) (rightOf T i) refl W1 (outWith (fuelOf S1) o) (right-side .runs) s (fuelOf S1) (ap (outWith (fuelOf S1)) e);
+    }
+
+    module _ (u : ValueRef) (next : ℕ) (eo : o ≡ done.Value u next) where
+      pub right-there : Holds W1 u
+      right-there =
+          given-older T W (bodyFrame v (Is (Mark (markIn mark))) A n owner) S (p .opened) (rightOf T i) 6 (p .calls - 1) (p .block + 4) (fuelOf S) W1 (outWith (fuelOf S1) o) (right-side .runs) u next (fuelOf S1)
+          (ap (outWith (fuelOf S1)) eo) .held
+
+      pub right-room : 234 * p .block + 234 ≤ length W1
+      right-room = let r = run .fits .room in omega (arith, run .fits .long, right-side .runs .kept .same)
+
+      pub right-gives : (W2 : List ℕ) (r : ValueRef) → Gives W1 (p .block) W2 r (valueOf W1 u) → RightStep T W S v A n i p mark W2 S1 (done.Value r (p .at))
+      right-gives W2 r g = record {
+        trace = right-side .trace;
+        runs = right-value T W S (p .opened) v A n owner i (p .at) (p .calls - 1) (p .block) (fuelOf S) (markIn mark) (rightOf T i) refl W1 (outWith (fuelOf S1) o) (right-side .runs) u next (fuelOf S1) W2 r
+            (ap (outWith (fuelOf S1)) eo) g;
+      }
+
+-- ---- the left side
+module _ (T W S : List ℕ) (v : ValueRef) (A : List ℕ) (n i m : ℕ) (p : Spot) (run : BodyRunnable W S v A n p)
+    (S1 : List ℕ) (opens : CallPut S (p .opened) (sideCall v m (slotsAt A 0) n (p .opened)) S1)
+    (f : Frame) (owner : ℕ) (ef : f ≡ bodyFrame v Absent A n owner) (q : Spot) (eq : q ≡ bodySpot p (leftOf T i) (p .opened + 1)) where
+  open-trace : Traced (p .opened) S S1
+  open-trace = put-traced S (p .opened) (sideCall v m (slotsAt A 0) n (p .opened)) S1 opens (body-top W S v A n p run)
+
+  open-fuel : fuelOf S1 ≡ fuelOf S
+  open-fuel = opens .above 128 (let t = body-top W S v A n p run in omega arith)
+
+  pub left-run : Runnable W f S1 q
+  left-run = subst (λ (y : Spot). Runnable W f S1 y) (sym eq) (subst (λ (g : Frame). Runnable W g S1 (bodySpot p (leftOf T i) (p .opened + 1))) (sym ef) (record {
+    based = body-based W S v A n p run;
+    full = opens .same ∙ run .full;
+    count = run .fits .few;
+    fits = fits.left-fit W S (p .opened) v A n (p .calls - 1) (p .block) (run .fits) m owner S1 opens;
+  }))
+
+  module _ (W1 S2 : List ℕ) (o : Done) (ran : EvalStep T W f S1 q W1 S2 o) where
+    left-side : EvalStep T W (bodyFrame v Absent A n owner) S1 (bodySpot p (leftOf T i) (p .opened + 1)) W1 S2 o
+    left-side = subst (λ (g : Frame). EvalStep T W g S1 (bodySpot p (leftOf T i) (p .opened + 1)) W1 S2 o) ef (subst (λ (y : Spot). EvalStep T W f S1 y W1 S2 o) eq ran)
+
+    left-evaluates : Evaluates T W (bodyFrame v Absent A n owner) S1 (p .opened + 1) (leftOf T i) 6 (p .calls - 1) (p .block + 4) (fuelOf S) W1 (outWith (fuelOf S2) o)
+    left-evaluates = subst (λ (u : ℕ). Evaluates T W (bodyFrame v Absent A n owner) S1 (p .opened + 1) (leftOf T i) 6 (p .calls - 1) (p .block + 4) u W1 (outWith (fuelOf S2) o)) open-fuel (left-side .runs)
+
+    left-trace : Traced (p .opened) S S2
+    left-trace = traced-then (p .opened) S S1 S2 open-trace (traced-down (p .opened) (p .opened + 1) S1 S2 (omega arith) (left-side .trace))
+
+    pub left-stops : (s : Stop) → o ≡ done.Halt s → LeftStep T W S v A n i m p W1 S2 o
+    left-stops s e = record {
+      trace = left-trace;
+      runs = left-halt T W S (p .opened) v A n owner i (p .at) (p .calls - 1) (p .block) (fuelOf S) m S1 opens (leftOf T i) refl W1 (outWith (fuelOf S2) o) left-evaluates s (fuelOf S2) (ap (outWith (fuelOf S2)) e);
+    }
+
+    module _ (u : ValueRef) (next : ℕ) (eo : o ≡ done.Value u next) where
+      pub left-there : Holds W1 u
+      left-there =
+          given-older T W (bodyFrame v Absent A n owner) S1 (p .opened + 1) (leftOf T i) 6 (p .calls - 1) (p .block + 4) (fuelOf S) W1 (outWith (fuelOf S2) o) left-evaluates u next (fuelOf S2)
+          (ap (outWith (fuelOf S2)) eo) .held
+
+      pub left-room : 234 * p .block + 234 ≤ length W1
+      left-room = let r = run .fits .room in omega (arith, run .fits .long, left-evaluates .kept .same)
+
+      pub left-gives : (W2 : List ℕ) (r : ValueRef) → Gives W1 (p .block) W2 r (closeOf (p .opened) (valueOf W1 u)) → LeftStep T W S v A n i m p W2 S2 (done.Value r (p .at))
+      left-gives W2 r g = record {
+        trace = left-trace;
+        runs = left-value T W S (p .opened) v A n owner i (p .at) (p .calls - 1) (p .block) (fuelOf S) m S1 opens (leftOf T i) refl W1 (outWith (fuelOf S2) o) left-evaluates u next (fuelOf S2) W2 r
+            (ap (outWith (fuelOf S2)) eo) g;
+      }
+
+-- ---- where the sides stand and what they are evaluated with (right_spot, left_spot, side_frame)
+module _ (T : List ℕ) (i : ℕ) (p : Spot) (at : ℕ) (q : Spot) where
+  pub right-stands : (at ≡ rightOf T i) × (at < 65536) → q ≡ bodySpot p at (p .opened) → q ≡ bodySpot p (rightOf T i) (p .opened)
+  right-stands e eq = eq ∙ ap (λ (a : ℕ). bodySpot p a (p .opened)) (e .0)
+
+  pub left-stands : (at ≡ leftOf T i) × (at < 65536) → q ≡ bodySpot p at (p .opened + 1) → q ≡ bodySpot p (leftOf T i) (p .opened + 1)
+  left-stands e eq = eq ∙ ap (λ (a : ℕ). bodySpot p a (p .opened + 1)) (e .0)
+
+pub frame-owned : (v : ValueRef) (res : Held) (A : List ℕ) (n x y : ℕ) (f : Frame) → x ≡ y → f ≡ bodyFrame v res A n x → f ≡ bodyFrame v res A n y
+frame-owned v res A n x y f e ef = ef ∙ ap (bodyFrame v res A n) e

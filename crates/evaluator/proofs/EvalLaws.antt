@@ -1,5 +1,5 @@
 -- An expression, by what stands at its place, as the language has it: one law for each return of `eval`.
--- Not here: fields, lists and new objects (ListLaws), calls (CallLaws), the stack (StepLaws).
+-- Not here: fields, lists and new objects (ListLaws), calls (CallLaws), what the functions do (StepLaws).
 use Prim.Native.Nat.{ℕ, suc, _+_, _-_, _≤_, _<_}
 use native.Mathlib.Omega.{arith}
 use mathlib.Core.Path.{_≡_, refl, sym, ap, _∙_, subst}

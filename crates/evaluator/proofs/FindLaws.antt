@@ -1,15 +1,14 @@
--- The method that a call names, found in a table's bytes.
+-- The method that a call names, found in a table's bytes: one law for each return of `find`.
 -- Not here: the call itself (CallLaws).
 use Prim.Native.Nat.{ℕ, zero, suc, _+_, _*_, _≤_, _<_}
 use native.Mathlib.Omega.{arith}
 use mathlib.Core.Path.{_≡_, refl, sym, ap, _∙_, subst}
 use mathlib.Core.Bool.{Bool, true, false}
 use mathlib.Core.List.{List, [], _∷_}
-use mathlib.Core.Logic.{⊎-elim}
 use mathlib.Core.Option.{Option, none, some, Option·none-ne-some}
 use lib.Dec.{eqb}
 use lib.ListN.{length, getD}
-use borrow.Author.Tests.{eqb-false, ne-eqb}
+use borrow.Author.Tests.{ne-eqb}
 use types.Run.{OneOf}
 use denote.Enum.Declared.{tagOf}
 use Rattle.cofj.specs.Limits.{classCount, methodCount}
@@ -30,11 +29,11 @@ use Rattle.checker.specs.Ready.{Ready, MethodReady}
 use Rattle.checker.proofs.OnBytes.{index-below}
 use Rattle.checker.proofs.Known.{method-at}
 use Rattle.values.specs.declared.ValueRef.{ValueRef}
-use Rattle.values.specs.declared.ValueRef.the-variants.{Object, Mark, Undetermined}
+use Rattle.values.specs.declared.ValueRef.the-variants.{Object}
 use Rattle.values.proofs.ValueRef as RefT
 use Rattle.canon.specs.Layout.{nodeIn, countIn, objectsIn, graphAt, Inside}
 use Rattle.values.specs.Layout.{HeldBy, valueOf, Holds}
-use Rattle.values.proofs.Blocks.{whole-at}
+use Rattle.values.proofs.Blocks.{whole-at, inside-room, no-object}
 use Rattle.cofj.proofs.Canon.{canon-same}
 use Rattle.cofj.specs.Unfolding.{object, labelAt}
 use Rattle.canon.proofs.Nodes.{at-nodes}
@@ -72,7 +71,7 @@ module _ (t : Table) (rd : Ready t) (m : ℕ) where
       rw (own-past (length (t .classes)) (suc k) m (t .methods) (rd .methods) l, lookupTo, parent-past (t .classes) (suc k) l) (lookup-object k)
 
 -- ---- the class of an object
-object-in : (W : List ℕ) (v : ValueRef) (b i : ℕ) → Holds W v → v ≡ Object b i → Inside W b i
+object-in : (W : List ℕ) (v : ValueRef) (b i : ℕ) → Holds W v → v ≡ Object i b → Inside W b i
 object-in W v b i h e = subst (HeldBy W) e (h .held)
 
 class-in : (W : List ℕ) (b i : ℕ) → Inside W b i → classOf (canon (graphAt W b i)) ≡ some (getD W (234 * b + 6 * i) 0)
@@ -90,8 +89,8 @@ class-in W b i ob =
     go (mark k) e = absurd (let q : _≡_ {A = ℕ} 0 1 = cc in omega arith)
     go undet e = absurd (let q : _≡_ {A = ℕ} 0 1 = cc in omega arith)
 
-pub object-room : (W : List ℕ) (v : ValueRef) (b i : ℕ) → Holds W v → v ≡ Object b i → 234 * b + 6 * i + 6 ≤ length W
-object-room W v b i h e = let ob = object-in W v b i h e in omega (arith, ob .block .room, ob .block .small, ob .low)
+pub object-room : (W : List ℕ) (v : ValueRef) (b i : ℕ) → Holds W v → v ≡ Object i b → 234 * b + 6 * i + 6 ≤ length W
+object-room W v b i h e = inside-room W b i (object-in W v b i h e)
 
 none-found : (t : Table) (x : Option Method) → x ≡ none → Finds (t .methods) found.Nothing x
 none-found t none e = Finds.nothing
@@ -99,14 +98,12 @@ none-found t (some d) e = absurd (Option·none-ne-some d (sym e))
 
 module _ (T W : List ℕ) (v : ValueRef) (m n : ℕ) where
   pub find-none : OneOf (1 ∷ 2 ∷ []) (tagOf RefT.the-type v) → FindsTarget T W v m n found.Nothing
-  find-none h = record { few = tt; is = λ t tb s. none-found t (target t (valueOf W v) m n) (target-object t (valueOf W v) m n (no-class v h)) }
+  find-none h = record { few = tt; is = λ t tb s. none-found t (target t (valueOf W v) m n) (target-object t (valueOf W v) m n no-class) }
     where
-      no-class : (r : ValueRef) → OneOf (1 ∷ 2 ∷ []) (tagOf RefT.the-type r) → classOf (valueOf W r) ≡ none
-      no-class (Object b i) z = ⊎-elim (λ e. absurd (eqb-false 0 1 refl e)) (λ e. absurd (eqb-false 0 2 refl e)) z
-      no-class (Mark k) z = refl
-      no-class Undetermined z = refl
+      no-class : classOf (valueOf W v) ≡ none
+      no-class = no-object (λ (r : ValueRef). classOf (valueOf W r) ≡ none) (λ k. refl) refl v h
 
-  module _ (hv : Holds W v) (b j : ℕ) (ev : v ≡ Object b j) where
+  module _ (hv : Holds W v) (b j : ℕ) (ev : v ≡ Object j b) where
     class-is : classOf (valueOf W v) ≡ some (getD W (234 * b + 6 * j) 0)
     class-is = ap (λ (r : ValueRef). classOf (valueOf W r)) ev ∙ class-in W b j (object-in W v b j hv ev)
 

@@ -1,36 +1,40 @@
 -- What evaluation, lists, calls and sides ask of the frame, the open calls and the room, carried from one to the next.
--- Not here: that the stack has it (StepLaws, CallSteps, SideSteps).
+-- Not here: what the functions ask of one another (CallSteps).
 use Prim.Native.Nat.{ℕ, zero, suc, _+_, _-_, _*_, _≤_, _<_}
 use native.Mathlib.Omega.{arith}
-use mathlib.Core.Path.{_≡_, sym, ap, _∙_, subst}
-use mathlib.Core.List.{List}
-use mathlib.Core.Option.{some, Option·none-ne-some}
+use mathlib.Core.Path.{_≡_, refl, sym, ap, _∙_, subst}
+use mathlib.Core.List.{List, _∷_}
+use mathlib.Core.Option.{Option, some, Option·none-ne-some}
 use mathlib.Core.Bool.{Bool, true, false}
 use Rattle.classes.specs.Machine.{pick}
 use lib.ListN.{length, getD, take}
 use lib.Seq.{getD-take}
-use native.Mathlib.Decide.{decLt}
-use Rattle.cofj.specs.Values.{Graph}
+use lib.Dec.{eqb}
+use Rattle.cofj.specs.Values.{Graph, eqGraph, eqGraphs}
+use Rattle.cofj.specs.Running as language
 use Rattle.cofj.specs.Running.{openMark}
 use Rattle.classes.specs.declared.methods.Found.{Found}
 use Rattle.classes.specs.declared.methods.Found.the-variants as found
 use Rattle.values.specs.declared.ValueRef.{ValueRef}
-use Rattle.values.specs.declared.ValueRef.the-variants.{Object}
+use Rattle.values.specs.declared.ValueRef.the-variants.{Object, Mark}
 use Rattle.maker.specs.declared.Slot.{Slot}
 use Rattle.values.specs.Layout.{valueOf}
 use Rattle.maker.specs.Laying.{valuesFrom}
 use Rattle.evaluator.specs.declared.Out.{Out}
 use Rattle.evaluator.specs.declared.Out.the-variants.{Value}
+use Rattle.evaluator.specs.declared.frame.Held.{Held}
+use Rattle.evaluator.specs.declared.frame.Held.the-variants.{Is, Absent}
 use Rattle.evaluator.specs.declared.frame.Frame.{Frame}
-use Rattle.evaluator.specs.State.{baseAt, Older, slotAt, PartsOlder, callAt, CallOlder, CallsHold, callIn, sameOf, traceIn, metOf}
+use Rattle.evaluator.specs.State.{sideCall, Older, slotsAt, slotAt, PartsOlder, CallPut, callAt, CallsHold, callIn, sameOf, traceIn, metOf}
 use Rattle.evaluator.specs.Answers.{Listed, Values, slotsOf}
 use Rattle.evaluator.specs.Calling.{FewIf, ArgsFit, CallFits, BodyFits, FindsTarget}
 use Rattle.evaluator.specs.Evaluation.{Fits, ListFits, Evaluates, Lists}
 use Rattle.evaluator.proofs.Keeping.{kept-down, older-kept, older-up, parts-up, frame-kept, frame-up, trace-kept, trace-up, parts-held}
-use Rattle.evaluator.proofs.BodyLaws.{Pushed, rightFrame, leftFrame}
-use Rattle.evaluator.proofs.StateLaws.{by-tests}
+use Rattle.evaluator.specs.Resting.{bodyFrame}
+use Rattle.evaluator.specs.Steps.{markIn, MarkGiven}
+use Rattle.evaluator.proofs.BodyLaws.{put-holds}
 use Rattle.evaluator.proofs.Given.{given-older, all-older}
-use Rattle.evaluator.proofs.CallLaws.{met-some}
+use Rattle.evaluator.proofs.CallLaws.{met-mark, met-some}
 
 -- ---- one level in
 module _ (W : List ℕ) (f : Frame) (tr : List ℕ) (top left d sp : ℕ) where
@@ -122,15 +126,15 @@ call-fit T W f tr top at left d sp fuel v n W1 l a b c e at1 fuel1 ps h li el fu
 
 -- ---- a call
 module _ (W tr : List ℕ) (top : ℕ) (v : ValueRef) (ps : List Slot) (n d sp : ℕ) (h : CallFits W tr top v ps n d sp) where
-  pub calls-held : ((i : ℕ) → i < top → baseAt tr i + 4 ≤ 336) → CallsHold W tr top
-  calls-held place = let c = h .calls in record {
+  pub calls-held : CallsHold W tr top
+  calls-held = let c = h .calls in record {
     few = omega arith;
-    place = place;
     call = λ i l. let q = h .trace .call i l in record {
       receiver = q .receiver .held;
       args = parts-held W sp (callAt tr i .args) (callAt tr i .n) (q .args);
       few = q .few;
     };
+    mark = h .trace .mark;
   }
 
   pub body-fit : (d ≡ 0 → ⊥) → BodyFits W tr top v ps n (d - 1) sp
@@ -140,44 +144,51 @@ module _ (W tr : List ℕ) (top : ℕ) (v : ValueRef) (ps : List Slot) (n d sp :
       record { trace = h .trace; receiver = h .receiver; args = h .args; few = h .few; calls = omega (arith, nz); room = omega (arith, nz); long = h .long }
 
 -- ---- a side
-module _ (W tr : List ℕ) (top : ℕ) (v : ValueRef) (ps : List Slot) (n d sp : ℕ) (h : BodyFits W tr top v ps n d sp) where
+module _ (W tr : List ℕ) (top : ℕ) (v : ValueRef) (A : List ℕ) (n d sp : ℕ) (h : BodyFits W tr top v (slotsAt A 0) n d sp) where
   pub push-room : top < 16
   push-room = let c = h .calls in omega arith
 
-  pub right-fit : (x : ℕ) → x < 63 → Fits W (rightFrame v x ps n) tr top 6 d (sp + 4)
-  right-fit x l =
+  pub right-fit : (x : ValueRef) (owner : ℕ) → MarkGiven x → Fits W (bodyFrame v (Is x) A n owner) tr top 6 d (sp + 4)
+  right-fit x owner g =
       let c = h .calls in
       let r = h .room in
       let few = h .few in
       record {
-        frame = record { this = h .receiver; res = record { held = record { held = l }; low = tt }; args = h .args; few = omega arith };
+        frame = record { this = h .receiver; res = subst (Older W (sp + 4)) (sym (g .is)) (record { held = record { held = g .small }; low = tt }); args = h .args; few = omega arith };
         trace = trace-up W sp (sp + 4) (omega arith) tr top (h .trace);
         calls = omega arith;
         room = omega arith;
         long = h .long;
       }
 
-  pub left-fit : (m : ℕ) (tr1 : List ℕ) → Pushed tr top v m ps n tr1 → Fits W (leftFrame v ps n) tr1 (top + 1) 6 d (sp + 4)
-  left-fit m tr1 p =
+  pub left-fit : (m owner : ℕ) (tr1 : List ℕ) → CallPut tr top (sideCall v m (slotsAt A 0) n top) tr1 → Fits W (bodyFrame v Absent A n owner) tr1 (top + 1) 6 d (sp + 4)
+  left-fit m owner tr1 put =
       let c = h .calls in
       let r = h .room in
       let few = h .few in
       record {
         frame = record { this = h .receiver; res = tt; args = h .args; few = omega arith };
-        trace = record { call = λ i l. at-call i l (decLt i top) };
+        trace = put-holds tr top v m (slotsAt A 0) n tr1 put W (sp + 4) (trace-up W sp (sp + 4) (omega arith) tr top (h .trace)) (h .receiver) (h .args) (omega arith);
         calls = omega arith;
         room = omega arith;
         long = h .long;
       }
-    where
-      at-call : (i : ℕ) → i < top + 1 → Dec (i < top) → CallOlder W (sp + 4) (callAt tr1 i)
-      at-call i l (yes q) = subst (CallOlder W (sp + 4)) (sym (p .older i q)) (trace-up W sp (sp + 4) (omega arith) tr top (h .trace) .call i q)
-      at-call i l (no q) =
-          let few = h .few in
-          let e : top ≡ i = omega (arith, q) in
-          subst (λ (j : ℕ). CallOlder W (sp + 4) (callAt tr1 j)) e (subst (CallOlder W (sp + 4)) (sym (p .newest)) (record { receiver = h .receiver; args = h .args; few = omega arith }))
 
 -- ---- the mark of a call met again
+by-tests : (o : language.OpenCall) (os : List language.OpenCall) (v : Graph) (m : ℕ) (vs : List Graph)
+    → openMark (o ∷ os) v m vs ≡ pick (sameOf o v m vs) (some (o .label)) (openMark os v m vs)
+unfolding openMark sameOf
+by-tests o os v m vs = go (eqb (o .name) m) (eqGraph (o .receiver) v) (eqGraphs (o .args) vs)
+  where
+    go : (a b c : Bool) → _≡_ {A = Option ℕ} (elim a [
+      | true ↦ elim b [ true ↦ elim c [ true ↦ some (o .label) | false ↦ openMark os v m vs ] | false ↦ openMark os v m vs ]
+      | false ↦ openMark os v m vs
+    ]) (pick (pick a (pick b c false) false) (some (o .label)) (openMark os v m vs))
+    go true true true = refl
+    go true true false = refl
+    go true false c = refl
+    go false b c = refl
+
 marks-below : (W tr : List ℕ) (v : Graph) (m : ℕ) (vs : List Graph) (x k : ℕ) → openMark (traceIn W tr k) v m vs ≡ some x → x < k
 unfolding traceIn openMark
 marks-below W tr v m vs x zero e = absurd (Option·none-ne-some x e)
@@ -188,9 +199,9 @@ marks-below W tr v m vs x (suc k) e =
     go true q ih = let y : some k ≡ some x = q in let z : k ≡ x = cc in omega arith
     go false q ih = let z = ih q in omega arith
 
-pub mark-small : (W tr : List ℕ) (top : ℕ) (v : ValueRef) (ps : List Slot) (n d sp m x : ℕ) → CallFits W tr top v ps n d sp
-    → x ≡ metOf (openMark (traceIn W tr top) (valueOf W v) m (valuesFrom W ps 0 n)) → (x ≡ 0 → ⊥) → x < 64
-mark-small W tr top v ps n d sp m x h e q =
-    let l = marks-below W tr (valueOf W v) m (valuesFrom W ps 0 n) (x - 1) top (met-some (openMark (traceIn W tr top) (valueOf W v) m (valuesFrom W ps 0 n)) x q e) in
-    let c = h .calls in
-    omega arith
+pub mark-given : (W tr : List ℕ) (top : ℕ) (v : ValueRef) (ps : List Slot) (n d sp m : ℕ) (h : Held) → CallFits W tr top v ps n d sp
+    → h ≡ metOf (openMark (traceIn W tr top) (valueOf W v) m (valuesFrom W ps 0 n)) → (y : ValueRef) → h ≡ Is y → MarkGiven y
+mark-given W tr top v ps n d sp m h fit e y q =
+    let l = marks-below W tr (valueOf W v) m (valuesFrom W ps 0 n) (markIn y) top (met-some (openMark (traceIn W tr top) (valueOf W v) m (valuesFrom W ps 0 n)) h e y q) in
+    let c = fit .calls in
+    record { is = met-mark (openMark (traceIn W tr top) (valueOf W v) m (valuesFrom W ps 0 n)) h e y q; small = omega arith }

@@ -1,5 +1,5 @@
 -- What a change of block sp and of those above does to values, frames and open calls below it: nothing.
--- Not here: what a step does to the stack (StackLaws).
+-- Not here: what a step does to the numbers at rest (TraceLaws).
 use Prim.Native.Nat.{ℕ, zero, suc, _≤_, _<_}
 use native.Mathlib.Omega.{arith}
 use mathlib.Core.Path.{_≡_, refl, ap, ap₂, _∙_}
@@ -21,7 +21,8 @@ use Rattle.evaluator.specs.declared.frame.Held.{Held}
 use Rattle.evaluator.specs.declared.frame.Held.the-variants.{Is, Absent}
 use Rattle.evaluator.specs.declared.frame.Frame.{Frame}
 use Rattle.evaluator.specs.Steps.{Based}
-use Rattle.evaluator.specs.State.{OpenCall, Kept, Older, slotAt, PartsOlder, HeldOlder, heldIn, FrameHolds, frameIn, callAt, CallOlder, TraceHolds, callIn, traceIn}
+use Rattle.evaluator.specs.declared.trace.OpenCall.{OpenCall}
+use Rattle.evaluator.specs.State.{Kept, Older, slotAt, PartsOlder, HeldOlder, heldIn, FrameHolds, frameIn, callAt, CallOlder, TraceHolds, callIn, traceIn}
 
 -- ---- changes, one after the other
 pub kept-none : (sp : ℕ) (W : List ℕ) → Kept sp W W
@@ -45,16 +46,16 @@ values-map W W′ (p ∷ ps) (suc n) h l = ap₂ {A = Graph} {B = List Graph} {C
 
 module _ (W W′ : List ℕ) (sp : ℕ) (k : Kept sp W W′) where
   -- ---- one value
-  object-stays : (b i : ℕ) → Older W sp (Object b i) → values.Kept W W′ (Object b i)
-  object-stays b i o = object-kept W W′ b (k .same) (λ p l m. k .below p (let q = o .low in omega arith)) i (o .held)
+  object-stays : (i b : ℕ) → Older W sp (Object i b) → values.Kept W W′ (Object i b)
+  object-stays i b o = object-kept W W′ b (k .same) (λ p l m. k .below p (let q = o .low in omega arith)) i (o .held)
 
   pub value-kept : (r : ValueRef) → Older W sp r → valueOf W′ r ≡ valueOf W r
-  value-kept (Object b i) o = object-stays b i o .is
+  value-kept (Object i b) o = object-stays i b o .is
   value-kept (Mark x) o = refl
   value-kept Undetermined o = refl
 
   pub older-kept : (r : ValueRef) → Older W sp r → Older W′ sp r
-  older-kept (Object b i) o = record { held = object-stays b i o .held; low = o .low }
+  older-kept (Object i b) o = record { held = object-stays i b o .held; low = o .low }
   older-kept (Mark x) o = record { held = record { held = o .held .held }; low = tt }
   older-kept Undetermined o = record { held = record { held = tt }; low = tt }
 
@@ -90,14 +91,14 @@ module _ (W W′ : List ℕ) (sp : ℕ) (k : Kept sp W W′) where
   call-same x c o = λ i. record { receiver = value-kept (c .receiver) (o .receiver) i; name = c .name; args = values-kept (c .args) (c .n) (o .args) i; label = x }
 
   pub trace-kept : (tr : List ℕ) (top : ℕ) → TraceHolds W sp tr top → TraceHolds W′ sp tr top
-  trace-kept tr top h = record { call = λ i l. call-kept (callAt tr i) (h .call i l) }
+  trace-kept tr top h = record { call = λ i l. call-kept (callAt tr i) (h .call i l); mark = h .mark }
 
   pub trace-same : (tr : List ℕ) (top : ℕ) → TraceHolds W sp tr top → traceIn W′ tr top ≡ traceIn W tr top
   unfolding traceIn
   trace-same tr zero h = refl
   trace-same tr (suc n) h =
       ap₂ {A = language.OpenCall} {B = List language.OpenCall} {C = List language.OpenCall} _∷_ (call-same n (callAt tr n) (h .call n (omega arith)))
-      (trace-same tr n (record { call = λ i l. h .call i (omega arith) }))
+      (trace-same tr n (record { call = λ i l. h .call i (omega arith); mark = λ i l. h .mark i (omega arith) }))
 
 -- ---- block 0
 pub based-kept : (W W′ : List ℕ) (b b′ : ℕ) → Kept b W W′ → b ≤ b′ → Based W b → Based W′ b′
@@ -106,7 +107,7 @@ based-kept W W′ b b′ k l h = let z = h .above in record { bares = bares-kept
 -- ---- what lies below a block lies below the blocks above it
 module _ (W : List ℕ) (sp sp′ : ℕ) (l : sp ≤ sp′) where
   low-up : (r : ValueRef) → Low sp r → Low sp′ r
-  low-up (Object b i) h = omega arith
+  low-up (Object i b) h = omega arith
   low-up (Mark x) h = tt
   low-up Undetermined h = tt
 
@@ -126,6 +127,7 @@ module _ (W : List ℕ) (sp sp′ : ℕ) (l : sp ≤ sp′) where
   pub trace-up : (tr : List ℕ) (top : ℕ) → TraceHolds W sp tr top → TraceHolds W sp′ tr top
   trace-up tr top h = record {
     call = λ i q. let c = h .call i q in record { receiver = older-up (callAt tr i .receiver) (c .receiver); args = parts-up (callAt tr i .args) (callAt tr i .n) (c .args); few = c .few };
+    mark = h .mark;
   }
 
 -- ---- what lies below a block is held

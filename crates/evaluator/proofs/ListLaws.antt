@@ -1,5 +1,5 @@
 -- Fields, lists and new objects, as the language has them: one law for each return of the code.
--- Not here: the values on the stack (StepLaws, LeafLaws).
+-- Not here: what the functions do (StepLaws).
 use Prim.Native.Nat.{ℕ, zero, suc, _+_, _-_, _*_, _≤_, _<_}
 use native.Mathlib.Omega.{arith}
 use mathlib.Core.Path.{_≡_, refl, sym, ap, _∙_, subst}
@@ -18,7 +18,9 @@ use Rattle.cofj.specs.Running.{Outcome, value, stopped, _then_, orStuck, eval, 
 use Rattle.classes.proofs.Zones.{total-at}
 use Rattle.values.specs.declared.ValueRef.{ValueRef}
 use Rattle.values.specs.Layout.{valueOf, Low}
-use Rattle.values.specs.Operations.{answerIn, AnswerHeld, AnswerLow, Chosen}
+use Rattle.values.specs.declared.refs.Selected.{Selected}
+use Rattle.values.specs.declared.refs.Selected.the-variants as selected
+use Rattle.values.specs.Operations.{answerIn, AnswerHeld, AnswerLow, selectedRef, Chosen}
 use Rattle.maker.specs.Laying.{valuesFrom}
 use Rattle.evaluator.specs.declared.Stop.{Stop}
 use Rattle.evaluator.specs.declared.Stop.the-variants.{Stuck}
@@ -45,7 +47,7 @@ module _ (T W : List ℕ) (f : Frame) (tr : List ℕ) (top at left d sp fuel k :
     };
   })
 
-  module _ (v : ValueRef) (at1 fuel1 : ℕ) (eo : o ≡ Value v at1 fuel1) (x : Option ValueRef) (ch : Chosen W1 v k x) where
+  module _ (v : ValueRef) (at1 fuel1 : ℕ) (eo : o ≡ Value v at1 fuel1) (x : Selected) (ch : Chosen W1 v k x) where
     chosen : (t : Table) (e : Expr) → Reads T left at t e → (y : Option Graph) → y ≡ select k (valueOf W1 v)
         → orStuck y fuel1 ≡ evalIn d t (frameIn W f) (traceIn W tr top) (field k e) fuel
     unfolding eval
@@ -53,19 +55,19 @@ module _ (T W : List ℕ) (f : Frame) (tr : List ℕ) (top at left d sp fuel k :
         ap (λ (z : Option Graph). orStuck z fuel1) q
         ∙ going-on (value (valueOf W1 v) fuel1) (evalIn d t (frameIn W f) (traceIn W tr top) e fuel) (λ u n′. orStuck (select k u) n′) (given T W f tr top at left d sp fuel W1 o ev v at1 fuel1 eo t e r)
 
-    pub field-none : x ≡ none → Fields T W f tr top at left d sp fuel k W1 (Halt Stuck fuel1)
+    pub field-none : x ≡ selected.Nothing → Fields T W f tr top at left d sp fuel k W1 (Halt Stuck fuel1)
     field-none ex = record {
       kept = ev .kept;
       older = tt;
-      is = λ t e r. record { is = chosen t e r none (sym (ap (answerIn W1) ex) ∙ ch .is); next = tt };
+      is = λ t e r. record { is = chosen t e r none (sym (ap (λ (y : Selected). answerIn W1 (selectedRef y)) ex) ∙ ch .is); next = tt };
     }
 
-    pub field-some : (r : ValueRef) → x ≡ some r → Fields T W f tr top at left d sp fuel k W1 (Value r at1 fuel1)
+    pub field-some : (r : ValueRef) → x ≡ selected.Value r → Fields T W f tr top at left d sp fuel k W1 (Value r at1 fuel1)
     field-some u ex = record {
       kept = ev .kept;
-      older = record { held = subst (AnswerHeld W1) ex (ch .held); low = subst (AnswerLow (sp + 1)) ex (ch .place (sp + 1) (given-older T W f tr top at left d sp fuel W1 o ev v at1 fuel1 eo .low)) };
+      older = record { held = subst (λ (y : Selected). AnswerHeld W1 (selectedRef y)) ex (ch .held); low = subst (λ (y : Selected). AnswerLow (sp + 1) (selectedRef y)) ex (ch .place (sp + 1) (given-older T W f tr top at left d sp fuel W1 o ev v at1 fuel1 eo .low)) };
       is = λ t e r. record {
-        is = chosen t e r (some (valueOf W1 u)) (sym (ap (answerIn W1) ex) ∙ ch .is);
+        is = chosen t e r (some (valueOf W1 u)) (sym (ap (λ (y : Selected). answerIn W1 (selectedRef y)) ex) ∙ ch .is);
         next = given-next T W f tr top at left d sp fuel W1 o ev v at1 fuel1 eo t e r;
       };
     }

@@ -1,21 +1,13 @@
--- New objects that stand in block 0 from the start: the test, what one is, and that X = u leaves one as it is.
+-- New objects that stand in block 0 from the start: the test, one law for each return of `is_preset`, and what it tells.
 -- Not here: how they got there (crate maker, BareLaws).
-use Prim.Native.Nat.{ℕ, _+_, _*_, _/_, _%_, _≤_, _<_}
-use native.Mathlib.Omega.{arith}
-use mathlib.Core.Path.{_≡_, refl, sym, ap, _∙_, subst}
+use Prim.Native.Nat.{ℕ, _+_, _*_, _≤_, _<_}
+use mathlib.Core.Path.{_≡_, refl}
 use mathlib.Core.Bool.{Bool, true, false, false≢true}
 use mathlib.Core.List.{List}
 use lib.Dec.{eqb, ltb}
 use lib.ListN.{getD}
 use borrow.Author.Tests.{eq-eqb, ne-eqb, lt-ltb, le-ltb, eqb-true, ltb-true}
 use Rattle.classes.specs.Machine.{pick}
-use Rattle.cofj.specs.Values.{close}
-use Rattle.canon.specs.Layout.{levelIn}
-use Rattle.values.specs.Layout.{Holds, valueOf}
-use Rattle.values.specs.Operations.{Gives}
-use Rattle.values.specs.Refs.{refIn}
-use Rattle.values.proofs.Closing.{number-here, close-free}
-use Rattle.maker.specs.Bares.{Bares}
 use Rattle.evaluator.specs.Preset.{isPreset}
 
 module _ (T : List ℕ) (c n : ℕ) where
@@ -46,11 +38,3 @@ module _ (T : List ℕ) (c n : ℕ) where
       go true ex true ey false ez h = absurd (false≢true h)
       go true ex false ey z ez h = absurd (false≢true h)
       go false ex y ey z ez h = absurd (false≢true h)
-
--- ---- in a value of block 0 there is no mark
-pub bare-closed : (W : List ℕ) (x u dst : ℕ) → Bares W → Holds W (refIn u) → u < 192 → Gives W dst W (refIn u) (close x (valueOf W (refIn u)))
-unfolding levelIn
-bare-closed W x u dst b h l =
-    let o : u % 256 < 192 = omega arith in
-    let z : 234 * (u / 256 % 65536) + 193 ≡ 234 * 0 + 193 = omega arith in
-    close-free W x u dst h o (omega (arith, ap (λ (p : ℕ). getD W p 0) z, b .level)) W u (number-here W u dst h o (omega arith))

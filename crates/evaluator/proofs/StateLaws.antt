@@ -1,33 +1,40 @@
--- Parameters of a frame; numbers, arguments and open calls compared: one law for each return of `apart`, `same_value`, `same_args`, `same_call`, `other_call` and `open_call`.
--- Not here: how a step changes the frame and the open calls (StackLaws).
-use Prim.Native.Nat.{ℕ, zero, suc, _+_, _-_, _≤_, _<_, _/_, _%_}
+-- Variables of a frame; values, arguments and open calls compared and told apart: one law for each return of `parameter`, `variable`, `apart`, `same_args`, `same_call`,
+-- `args_apart`, `other_call` and `open_call`.
+-- Not here: frames and calls at rest (RestLaws).
+use Prim.Native.Nat.{ℕ, zero, suc, _+_, _-_, _*_, _≤_, _<_, _%_}
 use native.Mathlib.Omega.{arith}
+use native.Mathlib.Decide.{ℕ-discrete}
 use native.Mathlib.Numerals.{sub-one, add-one}
 use mathlib.Core.Path.{_≡_, refl, sym, ap, ap₂, _∙_, subst}
-use mathlib.Core.Bool.{Bool, true, false, not, cond, false≢true, true≢false}
+use mathlib.Core.Bool.{Bool, true, false, not, false≢true}
 use mathlib.Core.List.{List, [], _∷_, map}
 use mathlib.Core.Option.{Option, none, some}
 use lib.Dec.{eqb, ltb}
 use lib.ListN.{length, getD, take, drop, getElem?, length-take, length-map, drop-of-length-le}
 use lib.Seq.{drop-cons, getD-take, length-take-le}
-use borrow.Author.Tests.{lt-ltb, le-ltb, eq-eqb, ne-eqb, eqb-true, eqb-false, ltb-true, ltb-false, not-true, not-false}
+use borrow.Author.Tests.{lt-ltb, le-ltb, eq-eqb, ne-eqb, eqb-true, ltb-true, ltb-false, not-true, not-false}
+use types.Run.{OneOf}
+use denote.Enum.Declared.{tagOf}
 use Rattle.cofj.specs.Values.{Graph, eqGraph, eqGraphs}
 use Rattle.cofj.specs.Running as language
 use Rattle.cofj.specs.Running.{openMark}
 use Rattle.classes.specs.Machine.{pick}
 use Rattle.values.specs.declared.ValueRef.{ValueRef}
 use Rattle.values.specs.declared.ValueRef.the-variants.{Object, Mark, Undetermined}
-use Rattle.maker.specs.declared.Slot.{Slot}
+use Rattle.values.proofs.ValueRef as RefT
 use Rattle.values.specs.Layout.{valueOf, Holds}
+use Rattle.values.specs.Refs.{refIn}
+use Rattle.values.proofs.Blocks.{no-object}
+use Rattle.values.proofs.Steps.{one-block}
+use Rattle.maker.specs.declared.Slot.{Slot}
 use Rattle.maker.specs.Laying.{valuesFrom, PartsHeld}
-use Rattle.values.proofs.Steps.{one-block, object-mark, object-undet, mark-object, mark-mark, mark-undet, undet-object, undet-mark, undet-undet}
-use Rattle.values.specs.Refs.{refFrom, refIn}
-use Rattle.values.proofs.RefLaws.{codeIn, code-from}
-use Rattle.evaluator.specs.State.{apartOf, otherOf, OpenCall, slotAt, HeldOlder, heldIn, FrameHolds, frameIn, variableOf, refAt, argsAt, baseAt, callAt, callIn, CallHolds, CallsHold, traceIn, sameOf, metOf}
+use Rattle.evaluator.specs.declared.frame.Held.{Held}
 use Rattle.evaluator.specs.declared.frame.Held.the-variants.{Is, Absent}
 use Rattle.evaluator.specs.declared.frame.Frame.{Frame}
+use Rattle.evaluator.specs.declared.trace.OpenCall.{OpenCall}
+use Rattle.evaluator.specs.State.{slotAt, HeldOlder, heldIn, FrameHolds, frameIn, variableOf, holds, slotsAt, callAt, callIn, CallHolds, CallsHold, traceIn, apartOf, ApartTest, Other, OtherTest, sameOf, metOf}
 
--- ---- parameters
+-- ---- variables
 pub variable-none : (f : Frame) (k : ℕ) → f .n ≤ k → Absent ≡ variableOf f k
 unfolding variableOf
 variable-none f k h = rw (le-ltb k (f .n) h)
@@ -35,6 +42,35 @@ variable-none f k h = rw (le-ltb k (f .n) h)
 pub variable-is : (f : Frame) (k : ℕ) → k < f .n → Is (slotAt (f .args) k) ≡ variableOf f k
 unfolding variableOf
 variable-is f k h = rw (lt-ltb k (f .n) h)
+
+-- the parameters, written out
+module _ (f : Frame) (k : ℕ) (l : k < f .n) where
+  pub first-parameter : k ≡ 0 → Is (slotAt (f .args) 0) ≡ variableOf f k
+  first-parameter e = ap (λ (j : ℕ). Is (slotAt (f .args) j)) (sym e) ∙ variable-is f k l
+
+  module _ (nz : k ≡ 0 → ⊥) where
+    pub second-parameter : k ≡ 1 → Is (slotAt (f .args) 1) ≡ variableOf f k
+    second-parameter e = ap (λ (j : ℕ). Is (slotAt (f .args) j)) (sym e) ∙ variable-is f k l
+
+    pub third-parameter : f .n ≤ 3 → (k ≡ 1 → ⊥) → Is (slotAt (f .args) 2) ≡ variableOf f k
+    third-parameter m nu = let e : 2 ≡ k = omega (arith, nz, nu) in ap (λ (j : ℕ). Is (slotAt (f .args) j)) e ∙ variable-is f k l
+
+module _ (f g : Frame) (e : f ≡ g) (k : ℕ) where
+  pub holds-this : k ≡ 0 → f .this ≡ holds g k
+  unfolding holds
+  holds-this z = rw (eq-eqb k 0 z) (ap (λ (x : Frame). x .this) e)
+
+  module _ (nz : k ≡ 0 → ⊥) where
+    pub holds-result : k ≡ 1 → f .res ≡ holds g k
+    unfolding holds
+    holds-result z = rw (ne-eqb k 0 nz, eq-eqb k 1 z) (ap (λ (x : Frame). x .res) e)
+
+    pub holds-parameter : (k ≡ 1 → ⊥) → (h : Held) → h ≡ variableOf f (k - 2) → h ≡ holds g k
+    unfolding holds
+    holds-parameter nu h z = rw (ne-eqb k 0 nz, ne-eqb k 1 nu) (z ∙ ap (λ (x : Frame). variableOf x (k - 2)) e)
+
+pub few-parameters : (f g : Frame) → f ≡ g → g .n ≤ 3 → f .n ≤ 3
+few-parameters f g e h = subst (λ (x : Frame). x .n ≤ 3) (sym e) h
 
 -- ---- values from a place on
 module _ (W : List ℕ) (ps : List Slot) (i n : ℕ) where
@@ -83,89 +119,37 @@ module _ (W : List ℕ) (sp : ℕ) (f : Frame) (k : ℕ) (h : FrameHolds W sp f)
       go true q = sym (get-values W (f .args) (f .n) k (h .args .full) (ltb-true k (f .n) q))
       go false q = sym (get-past (valuesFrom W (f .args) 0 (f .n)) k (let l = ltb-false k (f .n) q in omega (arith, length-values W (f .args) (f .n) (h .args .full))))
 
--- ---- numbers told apart
-module _ (x y : ℕ) where
-  pub apart-block : (x / 256 ≡ y / 256 → ⊥) → false ≡ apartOf x y
-  unfolding apartOf
-  apart-block h = rw (ne-eqb (x / 256) (y / 256) h)
+-- ---- values told apart
+module _ (v w : ValueRef) where
+  pub apart-leaf : OneOf (1 ∷ 2 ∷ []) (tagOf RefT.the-type v) → false ≡ apartOf v w
+  apart-leaf h = no-object (λ (r : ValueRef). false ≡ apartOf r w) (λ k. refl) refl v h
 
-  pub apart-by : x / 256 ≡ y / 256 → not (eqb x y) ≡ apartOf x y
-  unfolding apartOf
-  apart-by e = rw (eq-eqb (x / 256) (y / 256) e)
+  module _ (i b : ℕ) (ev : v ≡ Object i b) where
+    pub apart-other : OneOf (1 ∷ 2 ∷ []) (tagOf RefT.the-type w) → false ≡ apartOf v w
+    apart-other h = subst (λ (x : ValueRef). false ≡ apartOf x w) (sym ev) (no-object (λ (r : ValueRef). false ≡ apartOf (Object i b) r) (λ k. refl) refl w h)
 
--- ---- numbers compared
--- a value is itself
-value-same : (W : List ℕ) (r : ValueRef) → Holds W r → true ≡ eqGraph (valueOf W r) (valueOf W r)
-value-same W (Object b i) h = sym (eq-eqb i i refl) ∙ one-block W b i b i (h .held) (h .held) refl
-value-same W (Mark k) h = sym (eq-eqb k k refl) ∙ mark-mark W (Mark k) (Mark k) k k refl refl
-value-same W Undetermined h = undet-undet W Undetermined Undetermined refl refl
+    module _ (j c : ℕ) (ew : w ≡ Object j c) where
+      pub apart-block : (b ≡ c → ⊥) → false ≡ apartOf v w
+      apart-block h = rw (ev, ew, ne-eqb b c h)
 
--- a value of block b, or a leaf
-abbrev OfBlock : ℕ → ValueRef → Type 0
-OfBlock b (Object c i) = c ≡ b
-OfBlock b (Mark k) = Unit {0}
-OfBlock b Undetermined = Unit {0}
+      pub apart-by : b ≡ c → not (eqb i j) ≡ apartOf v w
+      apart-by h = rw (ev, ew, eq-eqb b c h)
 
-from-block : (b d c : ℕ) → b ≡ d → OfBlock d (refFrom b c)
-unfolding refFrom
-from-block b d c e = go (ltb c 192) (eqb c 192)
+apart-differ : (W : List ℕ) (v w : ValueRef) → Holds W v → Holds W w → apartOf v w ≡ true → false ≡ eqGraph (valueOf W v) (valueOf W w)
+apart-differ W (Object i b) (Object j c) hv hw z = go (eqb b c) refl (eqb i j) refl z
   where
-    go : (p q : Bool) → OfBlock d (cond p (Object b c) (cond q Undetermined (Mark (c - 193))))
-    go true q = e
-    go false true = tt
-    go false false = tt
-
--- values of one block with two codes differ
-values-differ : (W : List ℕ) (b : ℕ) (r s : ValueRef) → OfBlock b r → OfBlock b s → (codeIn r ≡ codeIn s → ⊥) → Holds W r → Holds W s → false ≡ eqGraph (valueOf W r) (valueOf W s)
-values-differ W b (Object c i) (Object d j) p q ne h k = sym (ne-eqb i j ne) ∙ one-block W c i d j (h .held) (k .held) (p ∙ sym q)
-values-differ W b (Object c i) (Mark l) p q ne h k = object-mark W (Object c i) (Mark l) c i l refl refl
-values-differ W b (Object c i) Undetermined p q ne h k = object-undet W (Object c i) Undetermined c i refl refl
-values-differ W b (Mark l) (Object d j) p q ne h k = mark-object W (Mark l) (Object d j) l d j refl refl
-values-differ W b (Mark l) (Mark m) p q ne h k = sym (ne-eqb l m (λ z. ne (ap (λ (n : ℕ). 193 + n) z))) ∙ mark-mark W (Mark l) (Mark m) l m refl refl
-values-differ W b (Mark l) Undetermined p q ne h k = mark-undet W (Mark l) Undetermined l refl refl
-values-differ W b Undetermined (Object d j) p q ne h k = undet-object W Undetermined (Object d j) d j refl refl
-values-differ W b Undetermined (Mark m) p q ne h k = undet-mark W Undetermined (Mark m) m refl refl
-values-differ W b Undetermined Undetermined p q ne h k = absurd (ne refl)
-
-module _ (W : List ℕ) (x y : ℕ) where
-  pub numbers-same : Holds W (refIn x) → x ≡ y → true ≡ eqGraph (valueOf W (refIn x)) (valueOf W (refIn y))
-  numbers-same h e = value-same W (refIn x) h ∙ ap (λ (z : ℕ). eqGraph (valueOf W (refIn x)) (valueOf W (refIn z))) e
-
-  numbers-apart : Holds W (refIn x) → Holds W (refIn y) → apartOf x y ≡ true → false ≡ eqGraph (valueOf W (refIn x)) (valueOf W (refIn y))
-  unfolding apartOf refIn
-  numbers-apart hx hy z = go (eqb (x / 256) (y / 256)) (eqb x y) refl refl z
-    where
-      differ : x / 256 ≡ y / 256 → (x ≡ y → ⊥) → false ≡ eqGraph (valueOf W (refIn x)) (valueOf W (refIn y))
-      differ e ne =
-          values-differ W (y / 256 % 65536) (refIn x) (refIn y) (from-block (x / 256 % 65536) (y / 256 % 65536) (x % 256) (ap (λ (b : ℕ). b % 65536) e)) (from-block (y / 256 % 65536) (y / 256 % 65536) (y % 256) refl)
-          (λ q. ne (omega (arith, code-from (x / 256 % 65536) (x % 256), code-from (y / 256 % 65536) (y % 256)))) hx hy
-
-      go : (a b : Bool) → eqb (x / 256) (y / 256) ≡ a → eqb x y ≡ b → pick a (not b) false ≡ true → false ≡ eqGraph (valueOf W (refIn x)) (valueOf W (refIn y))
-      go false b ea eb q = absurd (false≢true q)
-      go true true ea eb q = absurd (false≢true q)
-      go true false ea eb q = differ (eqb-true (x / 256) (y / 256) ea) (eqb-false x y eb)
-
-  pub numbers-compared : (u v : ValueRef) (r : Bool) → u ≡ refIn x → v ≡ refIn y → r ≡ eqGraph (valueOf W u) (valueOf W v) → r ≡ eqGraph (valueOf W (refIn x)) (valueOf W (refIn y))
-  numbers-compared u v r eu ev er = rw (← eu, ← ev) er
-
-pub number-held : (W : List ℕ) (x : ℕ) (u : ValueRef) → u ≡ refIn x → Holds W (refIn x) → Holds W u
-number-held W x u e h = subst (Holds W) (sym e) h
-
--- ---- arguments on the stack
-pub args-at : (S : List ℕ) (p i : ℕ) → i < 3 → slotAt (argsAt S p) i ≡ refAt S (p + i)
-unfolding argsAt
-args-at S p zero h = ap (refAt S) (let z : p ≡ p + 0 = omega arith in z)
-args-at S p (suc zero) h = refl
-args-at S p (suc (suc zero)) h = refl
-args-at S p (suc (suc (suc i))) h = absurd (omega arith)
-
-pub args-length : (S : List ℕ) (p : ℕ) → length (argsAt S p) ≡ 3
-unfolding argsAt
-args-length S p = refl
+    go : (x : Bool) → eqb b c ≡ x → (y : Bool) → eqb i j ≡ y → pick x (not y) false ≡ true → false ≡ eqGraph (valueOf W (Object i b)) (valueOf W (Object j c))
+    go true ex false ey q = sym ey ∙ one-block W b i c j (hv .held) (hw .held) (eqb-true b c ex)
+    go true ex true ey q = absurd (false≢true q)
+    go false ex y ey q = absurd (false≢true q)
+apart-differ W (Object i b) (Mark k) hv hw z = absurd (false≢true z)
+apart-differ W (Object i b) Undetermined hv hw z = absurd (false≢true z)
+apart-differ W (Mark k) w hv hw z = absurd (false≢true z)
+apart-differ W Undetermined w hv hw z = absurd (false≢true z)
 
 -- ---- arguments compared
-pub arg-held : (W S : List ℕ) (p n i : ℕ) → PartsHeld W (argsAt S p) n → n ≤ 3 → i < n → Holds W (refAt S (p + i))
-arg-held W S p n i h m l = subst (Holds W) (args-at S p i (omega arith)) (h .part i l)
+pub part-held : (W : List ℕ) (ps : List Slot) (n i : ℕ) → PartsHeld W ps n → i < n → Holds W (slotAt ps i)
+part-held W ps n i h l = h .part i l
 
 -- the comparison has come to place i
 pub record Comparing (W : List ℕ) (ps qs : List Slot) (i n : ℕ) : Type 0 where
@@ -174,38 +158,45 @@ pub record Comparing (W : List ℕ) (ps qs : List Slot) (i n : ℕ) : Type 0 whe
 pub args-start : (W : List ℕ) (ps qs : List Slot) (n : ℕ) → Comparing W ps qs 0 n
 args-start W ps qs n = record { rest = refl }
 
-pub args-end : (W : List ℕ) (ps qs : List Slot) (i n : ℕ) → Comparing W ps qs i n → n ≤ i → true ≡ eqGraphs (valuesFrom W ps 0 n) (valuesFrom W qs 0 n)
-unfolding eqGraphs
-args-end W ps qs i n c h = rw (values-end W ps i n h, values-end W qs i n h) at (c .rest)
-
-module _ (W S : List ℕ) (p q i n : ℕ) (c : Comparing W (argsAt S p) (argsAt S q) i n) (a : PartsHeld W (argsAt S p) n) (b : PartsHeld W (argsAt S q) n) (few : n ≤ 3) (h : i < n)
-    (r : Bool) (e : r ≡ eqGraph (valueOf W (refAt S (p + i))) (valueOf W (refAt S (q + i)))) where
-  one-compared : r ≡ eqGraph (valueOf W (slotAt (argsAt S p) i)) (valueOf W (slotAt (argsAt S q) i))
-  one-compared = rw (args-at S p i (omega arith), args-at S q i (omega arith)) e
-
-  differ : not r ≡ true → false ≡ eqGraphs (valuesFrom W (argsAt S p) i n) (valuesFrom W (argsAt S q) i n)
+module _ (W : List ℕ) (ps qs : List Slot) (i n : ℕ) (c : Comparing W ps qs i n) where
+  pub args-end : n ≤ i → true ≡ eqGraphs (valuesFrom W ps 0 n) (valuesFrom W qs 0 n)
   unfolding eqGraphs
-  differ z = rw (values-cons W (argsAt S p) i n (a .full) h, values-cons W (argsAt S q) i n (b .full) h, ← one-compared, not-true r z, eqGraphs)
+  args-end h = rw (values-end W ps i n h, values-end W qs i n h) at (c .rest)
 
-  more : not r ≡ false → eqGraphs (valuesFrom W (argsAt S p) (i + 1) n) (valuesFrom W (argsAt S q) (i + 1) n) ≡ eqGraphs (valuesFrom W (argsAt S p) i n) (valuesFrom W (argsAt S q) i n)
+  module _ (a : PartsHeld W ps n) (b : PartsHeld W qs n) (h : i < n) (r : Bool) (e : r ≡ eqGraph (valueOf W (slotAt ps i)) (valueOf W (slotAt qs i))) where
+    differ : not r ≡ true → false ≡ eqGraphs (valuesFrom W ps i n) (valuesFrom W qs i n)
+    unfolding eqGraphs
+    differ z = rw (values-cons W ps i n (a .full) h, values-cons W qs i n (b .full) h, ← e, not-true r z, eqGraphs)
+
+    more : not r ≡ false → eqGraphs (valuesFrom W ps (i + 1) n) (valuesFrom W qs (i + 1) n) ≡ eqGraphs (valuesFrom W ps i n) (valuesFrom W qs i n)
+    unfolding eqGraphs
+    more z = rw (values-cons W ps i n (a .full) h, values-cons W qs i n (b .full) h, ← e, not-false r z, eqGraphs)
+
+    pub args-differ : not r ≡ true → false ≡ eqGraphs (valuesFrom W ps 0 n) (valuesFrom W qs 0 n)
+    args-differ z = differ z ∙ c .rest
+
+    pub args-more : not r ≡ false → Comparing W ps qs (i + 1) n
+    args-more z = record { rest = more z ∙ c .rest }
+
+-- lists of values one of which differs
+module _ (W : List ℕ) (ps qs : List Slot) (n k : ℕ) (a : PartsHeld W ps n) (b : PartsHeld W qs n) (l : k < n) (ne : false ≡ eqGraph (valueOf W (slotAt ps k)) (valueOf W (slotAt qs k))) where
+  one-differs : (d i : ℕ) → i + d ≡ k → false ≡ eqGraphs (valuesFrom W ps i n) (valuesFrom W qs i n)
   unfolding eqGraphs
-  more z = rw (values-cons W (argsAt S p) i n (a .full) h, values-cons W (argsAt S q) i n (b .full) h, ← one-compared, not-false r z, eqGraphs)
+  one-differs zero i e =
+      let z : k ≡ i = omega arith in
+      let ne′ = subst (λ (j : ℕ). false ≡ eqGraph (valueOf W (slotAt ps j)) (valueOf W (slotAt qs j))) z ne in
+      rw (values-cons W ps i n (a .full) (omega arith), values-cons W qs i n (b .full) (omega arith), ← ne′, eqGraphs)
+  one-differs (suc d) i e =
+      rw (values-cons W ps i n (a .full) (omega arith), values-cons W qs i n (b .full) (omega arith), eqGraphs)
+      (go (eqGraph (valueOf W (slotAt ps i)) (valueOf W (slotAt qs i))) (one-differs d (i + 1) (omega arith)))
+    where
+      go : (x : Bool) → false ≡ eqGraphs (valuesFrom W ps (i + 1) n) (valuesFrom W qs (i + 1) n)
+          → _≡_ {A = Bool} false (elim x [ true ↦ eqGraphs (valuesFrom W ps (i + 1) n) (valuesFrom W qs (i + 1) n) | false ↦ false ])
+      go true z = z
+      go false z = refl
 
-  pub args-differ : not r ≡ true → false ≡ eqGraphs (valuesFrom W (argsAt S p) 0 n) (valuesFrom W (argsAt S q) 0 n)
-  args-differ z = differ z ∙ c .rest
-
-  pub args-more : not r ≡ false → Comparing W (argsAt S p) (argsAt S q) (i + 1) n
-  args-more z = record { rest = more z ∙ c .rest }
-
-pub args-apart : (W S : List ℕ) (p q i n : ℕ) → Comparing W (argsAt S p) (argsAt S q) i n → PartsHeld W (argsAt S p) n → PartsHeld W (argsAt S q) n → n ≤ 3 → i < n
-    → (r : Bool) → r ≡ apartOf (getD S (p + i) 0) (getD S (q + i) 0) → r ≡ true → false ≡ eqGraphs (valuesFrom W (argsAt S p) 0 n) (valuesFrom W (argsAt S q) 0 n)
-args-apart W S p q i n c a b few h r e z =
-    args-differ W S p q i n c a b few h false (numbers-apart W (getD S (p + i) 0) (getD S (q + i) 0) (arg-held W S p n i a few h) (arg-held W S q n i b few h) (sym e ∙ z)) refl
-
-pub args-equal : (W S : List ℕ) (p q i n : ℕ) → Comparing W (argsAt S p) (argsAt S q) i n → PartsHeld W (argsAt S p) n → PartsHeld W (argsAt S q) n → n ≤ 3 → i < n
-    → getD S (p + i) 0 ≡ getD S (q + i) 0 → Comparing W (argsAt S p) (argsAt S q) (i + 1) n
-args-equal W S p q i n c a b few h e =
-    args-more W S p q i n c a b few h true (numbers-same W (getD S (p + i) 0) (getD S (q + i) 0) (arg-held W S p n i a few h) e) refl
+  lists-differ : false ≡ eqGraphs (valuesFrom W ps 0 n) (valuesFrom W qs 0 n)
+  lists-differ = one-differs k 0 (omega arith)
 
 lengths-differ : (vs ws : List Graph) → (length vs ≡ length ws → ⊥) → eqGraphs vs ws ≡ false
 unfolding eqGraphs
@@ -218,74 +209,93 @@ lengths-differ (v ∷ vs) (w ∷ ws) h = go (eqGraph v w) (lengths-differ vs ws 
     go true e = e
     go false e = refl
 
--- ---- calls compared: call i and the one with the receiver at sp and the n arguments after it
-same-name : (o : language.OpenCall) (v : Graph) (vs : List Graph) → sameOf o v (o .name) vs ≡ pick (eqGraph (o .receiver) v) (eqGraphs (o .args) vs) false
-unfolding sameOf
-same-name o v vs = rw (eq-eqb (o .name) (o .name) refl)
-
+-- ---- calls compared
 pick-false : (b : Bool) → pick b false false ≡ false
 pick-false true = refl
 pick-false false = refl
 
--- the places of a call's numbers, as the code has them
-count-place : (S : List ℕ) (i : ℕ) → getD S (281 + i + 16) 0 ≡ callAt S i .n
-unfolding callAt
-count-place S i = ap (λ (p : ℕ). getD S p 0) (let z : 281 + i + 16 ≡ 297 + i = omega arith in z)
+module _ (W : List ℕ) (c : OpenCall) (v : ValueRef) (m : ℕ) (ps : List Slot) (n : ℕ) where
+  pub call-name : (c .name ≡ m → ⊥) → false ≡ sameOf (callIn W 0 c) (valueOf W v) m (valuesFrom W ps 0 n)
+  unfolding sameOf
+  call-name h = rw (ne-eqb (c .name) m h)
 
-base-place : (S : List ℕ) (i : ℕ) → getD S (281 + i + 32) 0 ≡ baseAt S i
-base-place S i = ap (λ (p : ℕ). getD S p 0) (let z : 281 + i + 32 ≡ 313 + i = omega arith in z)
+  by-args : eqGraphs (valuesFrom W (c .args) 0 (c .n)) (valuesFrom W ps 0 n) ≡ false → false ≡ sameOf (callIn W 0 c) (valueOf W v) m (valuesFrom W ps 0 n)
+  unfolding sameOf
+  by-args h = rw (h, pick-false (eqGraph (valueOf W (c .receiver)) (valueOf W v)), pick-false (eqb (c .name) m))
 
-pub base-room : (S : List ℕ) (i : ℕ) → baseAt S i + 4 ≤ 336 → getD S (281 + i + 32) 0 + 4 ≤ 336
-base-room S i h = omega (arith, base-place S i)
+  pub call-count : CallHolds W c → PartsHeld W ps n → (c .n ≡ n → ⊥) → false ≡ sameOf (callIn W 0 c) (valueOf W v) m (valuesFrom W ps 0 n)
+  call-count a b h =
+      by-args (lengths-differ (valuesFrom W (c .args) 0 (c .n)) (valuesFrom W ps 0 n) (λ e. h (sym (length-values W (c .args) (c .n) (a .args .full)) ∙ e ∙ length-values W ps n (b .full))))
 
-receiver-place : (S : List ℕ) (i : ℕ) → refAt S (getD S (281 + i + 32) 0) ≡ callAt S i .receiver
-unfolding callAt
-receiver-place S i = ap (refAt S) (base-place S i)
+  module _ (r : Bool) (er : r ≡ eqGraph (valueOf W (c .receiver)) (valueOf W v)) where
+    pub call-receiver : not r ≡ true → false ≡ sameOf (callIn W 0 c) (valueOf W v) m (valuesFrom W ps 0 n)
+    unfolding sameOf
+    call-receiver z = rw (← er, not-true r z, pick-false (eqb (c .name) m))
 
-args-place : (S : List ℕ) (i : ℕ) → argsAt S (getD S (281 + i + 32) 0 + 1) ≡ callAt S i .args
-unfolding callAt
-args-place S i = ap (λ (b : ℕ). argsAt S (b + 1)) (base-place S i)
+    pub call-args : c .name ≡ m → c .n ≡ n → not r ≡ false → (s : Bool) → s ≡ eqGraphs (valuesFrom W (c .args) 0 n) (valuesFrom W ps 0 n)
+        → s ≡ sameOf (callIn W 0 c) (valueOf W v) m (valuesFrom W ps 0 n)
+    unfolding sameOf
+    call-args en e z s q = rw (eq-eqb (c .name) m en, ← er, not-false r z, e) q
 
-module _ (W S : List ℕ) (i : ℕ) (h : CallHolds W (callAt S i)) where
-  pub receiver-held : Holds W (refAt S (getD S (281 + i + 32) 0))
-  receiver-held = subst (Holds W) (sym (receiver-place S i)) (h .receiver)
+pub receiver-held : (W : List ℕ) (c : OpenCall) → CallHolds W c → Holds W (c .receiver)
+receiver-held W c h = h .receiver
 
-  pub args-held : (n : ℕ) → getD S (281 + i + 16) 0 ≡ n → PartsHeld W (argsAt S (getD S (281 + i + 32) 0 + 1)) n
-  args-held n e = subst (λ (ps : List Slot). PartsHeld W ps n) (sym (args-place S i)) (subst (PartsHeld W (callAt S i .args)) (sym (count-place S i) ∙ e) (h .args))
+pub args-held : (W : List ℕ) (c : OpenCall) → CallHolds W c → (n : ℕ) → c .n ≡ n → PartsHeld W (c .args) n
+args-held W c h n e = subst (PartsHeld W (c .args)) e (h .args)
 
-module _ (W S : List ℕ) (i n sp : ℕ) where
-  module _ (h : CallHolds W (callAt S i)) where
-    pub call-count : PartsHeld W (argsAt S (sp + 1)) n → (getD S (281 + i + 16) 0 ≡ n → ⊥)
-        → false ≡ sameOf (callIn W 0 (callAt S i)) (valueOf W (refAt S sp)) (callAt S i .name) (valuesFrom W (argsAt S (sp + 1)) 0 n)
-    call-count b z = sym (same-name (callIn W 0 (callAt S i)) (valueOf W (refAt S sp)) (valuesFrom W (argsAt S (sp + 1)) 0 n)
-        ∙ ap (λ (x : Bool). pick (eqGraph (valueOf W (callAt S i .receiver)) (valueOf W (refAt S sp))) x false)
-        (lengths-differ (valuesFrom W (callAt S i .args) 0 (callAt S i .n)) (valuesFrom W (argsAt S (sp + 1)) 0 n)
-        (λ e. z (count-place S i ∙ sym (length-values W (callAt S i .args) (callAt S i .n) (h .args .full)) ∙ e ∙ length-values W (argsAt S (sp + 1)) n (b .full))))
-        ∙ pick-false (eqGraph (valueOf W (callAt S i .receiver)) (valueOf W (refAt S sp))))
+-- ---- arguments at rest told apart
+pub slots-at : (S : List ℕ) (p i : ℕ) → i < 3 → slotAt (slotsAt S p) i ≡ refIn (getD S (p + i) 0)
+unfolding slotsAt
+slots-at S p zero h = ap (λ (q : ℕ). refIn (getD S q 0)) (let z : p ≡ p + 0 = omega arith in z)
+slots-at S p (suc zero) h = refl
+slots-at S p (suc (suc zero)) h = refl
+slots-at S p (suc (suc (suc i))) h = absurd (omega arith)
 
-  module _ (r : Bool) (er : r ≡ eqGraph (valueOf W (refAt S (getD S (281 + i + 32) 0))) (valueOf W (refAt S sp))) where
-    compared : r ≡ eqGraph (valueOf W (callAt S i .receiver)) (valueOf W (refAt S sp))
-    compared = er ∙ ap (λ (x : ValueRef). eqGraph (valueOf W x) (valueOf W (refAt S sp))) (receiver-place S i)
+pub apart-none : (ps qs : List Slot) (n : ℕ) → ApartTest ps qs n false
+apart-none ps qs n = record { told = λ e. absurd (false≢true e) }
 
-    by-receiver : sameOf (callIn W 0 (callAt S i)) (valueOf W (refAt S sp)) (callAt S i .name) (valuesFrom W (argsAt S (sp + 1)) 0 n)
-        ≡ pick r (eqGraphs (valuesFrom W (callAt S i .args) 0 (callAt S i .n)) (valuesFrom W (argsAt S (sp + 1)) 0 n)) false
-    by-receiver = same-name (callIn W 0 (callAt S i)) (valueOf W (refAt S sp)) (valuesFrom W (argsAt S (sp + 1)) 0 n)
-        ∙ ap (λ (x : Bool). pick x (eqGraphs (valuesFrom W (callAt S i .args) 0 (callAt S i .n)) (valuesFrom W (argsAt S (sp + 1)) 0 n)) false) (sym compared)
+pub apart-found : (S A : List ℕ) (p n k : ℕ) → k < n → n ≤ 3 → (x y : ValueRef) → x ≡ refIn (getD S (p + k) 0) → y ≡ refIn (getD A k 0) → (r : Bool) → r ≡ apartOf x y → r ≡ true
+    → ApartTest (slotsAt S p) (slotsAt A 0) n true
+apart-found S A p n k l few x y ex ey r er z = record {
+  told = λ _. record {
+    which = k;
+    low = l;
+    apart = ap₂ apartOf (slots-at S p k (omega arith) ∙ sym ex) (slots-at A 0 k (omega arith) ∙ ap (λ (q : ℕ). refIn (getD A q 0)) (let q : 0 + k ≡ k = omega arith in q) ∙ sym ey) ∙ sym er ∙ z;
+  };
+}
 
-    pub call-receiver : not r ≡ true → false ≡ sameOf (callIn W 0 (callAt S i)) (valueOf W (refAt S sp)) (callAt S i .name) (valuesFrom W (argsAt S (sp + 1)) 0 n)
-    call-receiver z = sym (by-receiver ∙ ap (λ (x : Bool). pick x (eqGraphs (valuesFrom W (callAt S i .args) 0 (callAt S i .n)) (valuesFrom W (argsAt S (sp + 1)) 0 n)) false) (not-true r z))
+-- ---- calls at rest told apart
+module _ (S : List ℕ) (i : ℕ) (v : ValueRef) (m : ℕ) (A : List ℕ) (n : ℕ) where
+  pub other-name : (getD S (8 * i) 0 % 256 ≡ m → ⊥) → OtherTest S i v m A n true
+  unfolding callAt
+  other-name h = record { told = λ _. Other.by-name h }
 
-    pub call-args : not r ≡ false → getD S (281 + i + 16) 0 ≡ n → (s : Bool)
-        → s ≡ eqGraphs (valuesFrom W (argsAt S (getD S (281 + i + 32) 0 + 1)) 0 n) (valuesFrom W (argsAt S (sp + 1)) 0 n)
-        → s ≡ sameOf (callIn W 0 (callAt S i)) (valueOf W (refAt S sp)) (callAt S i .name) (valuesFrom W (argsAt S (sp + 1)) 0 n)
-    call-args z e s es = es
-        ∙ ap₂ {A = List Slot} {B = ℕ} (λ ps m. eqGraphs (valuesFrom W ps 0 m) (valuesFrom W (argsAt S (sp + 1)) 0 n)) (args-place S i) (sym e ∙ count-place S i)
-        ∙ sym (by-receiver ∙ ap (λ (x : Bool). pick x (eqGraphs (valuesFrom W (callAt S i .args) 0 (callAt S i .n)) (valuesFrom W (argsAt S (sp + 1)) 0 n)) false) (not-false r z))
+  pub other-count : (getD S (8 * i + 1) 0 % 256 ≡ n → ⊥) → OtherTest S i v m A n true
+  unfolding callAt
+  other-count h = record { told = λ _. Other.by-count h }
 
-  pub call-equal : CallHolds W (callAt S i) → getD S (getD S (281 + i + 32) 0) 0 ≡ getD S sp 0 → getD S (281 + i + 16) 0 ≡ n → (s : Bool)
-      → s ≡ eqGraphs (valuesFrom W (argsAt S (getD S (281 + i + 32) 0 + 1)) 0 n) (valuesFrom W (argsAt S (sp + 1)) 0 n)
-      → s ≡ sameOf (callIn W 0 (callAt S i)) (valueOf W (refAt S sp)) (callAt S i .name) (valuesFrom W (argsAt S (sp + 1)) 0 n)
-  call-equal h q e s es = call-args true (numbers-same W (getD S (getD S (281 + i + 32) 0) 0) (getD S sp 0) (receiver-held W S i h) q) refl e s es
+  pub other-receiver : (x : ValueRef) → x ≡ refIn (getD S (8 * i + 2) 0) → (r : Bool) → r ≡ apartOf x v → r ≡ true → OtherTest S i v m A n true
+  unfolding callAt
+  other-receiver x ex r er z = record { told = λ _. Other.by-receiver (ap (λ (y : ValueRef). apartOf y v) (sym ex) ∙ sym er ∙ z) }
+
+  pub other-args : (r : Bool) → ApartTest (slotsAt S (8 * i + 3)) (slotsAt A 0) n r → OtherTest S i v m A n r
+  unfolding callAt
+  other-args r t = record { told = λ e. Other.by-argument (t .told e) }
+
+  module _ (W : List ℕ) (h : CallHolds W (callAt S i)) (hv : Holds W v) (ha : PartsHeld W (slotsAt A 0) n) where
+    call-other : Other S i v m A n → false ≡ sameOf (callIn W 0 (callAt S i)) (valueOf W v) m (valuesFrom W (slotsAt A 0) 0 n)
+    call-other (Other.by-name d) = call-name W (callAt S i) v m (slotsAt A 0) n d
+    call-other (Other.by-count d) = call-count W (callAt S i) v m (slotsAt A 0) n h ha d
+    call-other (Other.by-receiver d) = call-receiver W (callAt S i) v m (slotsAt A 0) n false (apart-differ W (callAt S i .receiver) v (h .receiver) hv d) refl
+    call-other (Other.by-argument d) = go (ℕ-discrete (callAt S i .n) n)
+      where
+        go : Dec (callAt S i .n ≡ n) → false ≡ sameOf (callIn W 0 (callAt S i)) (valueOf W v) m (valuesFrom W (slotsAt A 0) 0 n)
+        go (no z) = call-count W (callAt S i) v m (slotsAt A 0) n h ha z
+        go (yes z) =
+            let own = args-held W (callAt S i) h n z in
+            let ne = apart-differ W (slotAt (callAt S i .args) (d .which)) (slotAt (slotsAt A 0) (d .which)) (own .part (d .which) (d .low)) (ha .part (d .which) (d .low)) (d .apart) in
+            by-args W (callAt S i) v m (slotsAt A 0) n
+            (ap (λ (x : ℕ). eqGraphs (valuesFrom W (callAt S i .args) 0 x) (valuesFrom W (slotsAt A 0) 0 n)) z ∙ sym (lists-differ W (callAt S i .args) (slotsAt A 0) n (d .which) own ha (d .low) ne))
 
 -- ---- the trace searched, the newest call first
 pub by-tests : (o : language.OpenCall) (os : List language.OpenCall) (v : Graph) (m : ℕ) (vs : List Graph)
@@ -302,41 +312,8 @@ by-tests o os v m vs = go (eqb (o .name) m) (eqGraph (o .receiver) v) (eqGraphs 
     go true false c = refl
     go false b c = refl
 
--- ---- calls told apart by numbers
-module _ (S : List ℕ) (i m y : ℕ) where
-  pub other-name : (getD S (281 + i) 0 ≡ m → ⊥) → true ≡ otherOf S i m y
-  unfolding otherOf
-  other-name h = rw (ne-eqb (getD S (281 + i) 0) m h)
-
-  pub other-receiver : getD S (281 + i) 0 ≡ m → (r : Bool) → r ≡ apartOf (getD S (getD S (281 + i + 32) 0) 0) y → r ≡ otherOf S i m y
-  unfolding otherOf
-  other-receiver e r er = rw (eq-eqb (getD S (281 + i) 0) m e) (er ∙ ap (λ (b : ℕ). apartOf (getD S b 0) y) (base-place S i))
-
-  other-not : otherOf S i m y ≡ false → getD S (281 + i) 0 ≡ m
-  unfolding otherOf
-  other-not z = go (eqb (getD S (281 + i) 0) m) refl z
-    where
-      go : (a : Bool) → eqb (getD S (281 + i) 0) m ≡ a → pick a (apartOf (getD S (baseAt S i) 0) y) true ≡ false → getD S (281 + i) 0 ≡ m
-      go true e q = eqb-true (getD S (281 + i) 0) m e
-      go false e q = absurd (true≢false q)
-
--- the name of call i, as the code has it
-name-is : (S : List ℕ) (i m : ℕ) → getD S (281 + i) 0 ≡ m → callAt S i .name ≡ m
-unfolding callAt
-name-is S i m e = e
-
-call-other : (W S : List ℕ) (i m sp : ℕ) (vs : List Graph) → CallHolds W (callAt S i) → Holds W (refAt S sp) → otherOf S i m (getD S sp 0) ≡ true
-    → false ≡ sameOf (callIn W 0 (callAt S i)) (valueOf W (refAt S sp)) m vs
-unfolding sameOf callAt otherOf
-call-other W S i m sp vs h hs z = go (eqb (getD S (281 + i) 0) m) z
-  where
-    go : (a : Bool) → pick a (apartOf (getD S (baseAt S i) 0) (getD S sp 0)) true ≡ true
-        → false ≡ pick a (pick (eqGraph (valueOf W (refAt S (baseAt S i))) (valueOf W (refAt S sp))) (eqGraphs (callIn W 0 (callAt S i) .args) vs) false) false
-    go true q = ap (λ (b : Bool). pick b (eqGraphs (callIn W 0 (callAt S i) .args) vs) false) (numbers-apart W (getD S (baseAt S i) 0) (getD S sp 0) (h .receiver) hs q)
-    go false q = refl
-
 module _ (W S : List ℕ) (v : ValueRef) (m : ℕ) (ps : List Slot) (n : ℕ) where
-  open-end : (k : ℕ) → k ≡ 0 → 0 ≡ metOf (openMark (traceIn W S k) (valueOf W v) m (valuesFrom W ps 0 n))
+  open-end : (k : ℕ) → k ≡ 0 → Absent ≡ metOf (openMark (traceIn W S k) (valueOf W v) m (valuesFrom W ps 0 n))
   unfolding traceIn openMark
   open-end k e = rw e
 
@@ -348,9 +325,6 @@ module _ (W S : List ℕ) (v : ValueRef) (m : ℕ) (ps : List Slot) (n : ℕ) wh
       let e = rw sub-one at e0 in
       rw sub-one (by-tests (callIn W j (callAt S j)) (traceIn W S j) (valueOf W v) m (valuesFrom W ps 0 n)
       ∙ ap (λ (b : Bool). pick b (some j) (openMark (traceIn W S j) (valueOf W v) m (valuesFrom W ps 0 n))) (sym e))
-
-met-last : (k : ℕ) → (k ≡ 0 → ⊥) → k ≡ metOf (some (k - 1))
-met-last k z = omega (arith, z)
 
 pub few-calls : (W S : List ℕ) (k : ℕ) → CallsHold W S k → k ≤ 16
 few-calls W S k h = h .few
@@ -365,36 +339,41 @@ module _ (W S : List ℕ) (k : ℕ) (v : ValueRef) (m : ℕ) (ps : List Slot) (n
   left-all h = record { calls = h; same = refl }
 
   module _ (j : ℕ) (l : Left W S k v m ps n j) where
-    pub left-none : j ≤ 0 → 0 ≡ metOf (openMark (traceIn W S k) (valueOf W v) m (valuesFrom W ps 0 n))
+    pub left-none : j ≤ 0 → Absent ≡ metOf (openMark (traceIn W S k) (valueOf W v) m (valuesFrom W ps 0 n))
     left-none z = open-end W S v m ps n j (omega arith) ∙ ap metOf (l .same)
 
-    pub left-place : 0 < j → baseAt S (j - 1) + 4 ≤ 336
-    left-place p = l .calls .place (j - 1) (omega arith)
-
-    pub left-last : 0 < j → CallHolds W (callAt S (j - 1))
+    left-last : 0 < j → CallHolds W (callAt S (j - 1))
     left-last p = l .calls .call (j - 1) (omega arith)
 
     left-less : 0 < j → (r : Bool) → r ≡ sameOf (callIn W 0 (callAt S (j - 1))) (valueOf W v) m (valuesFrom W ps 0 n) → r ≡ false → Left W S k v m ps n (j - 1)
     left-less p r er z =
         let f = l .calls .few in
         record {
-          calls = record { few = omega arith; place = λ i q. l .calls .place i (omega arith); call = λ i q. l .calls .call i (omega arith) };
+          calls = record { few = omega arith; call = λ i q. l .calls .call i (omega arith); mark = λ i q. l .calls .mark i (omega arith) };
           same = sym (open-step W S v m ps n j (λ e. omega arith) r er ∙ ap (λ (b : Bool). pick b (some (j - 1)) (openMark (traceIn W S (j - 1)) (valueOf W v) m (valuesFrom W ps 0 n))) z) ∙ l .same;
         }
 
-    module _ (p : 0 < j) (y : ℕ) (o : Bool) (eo : o ≡ otherOf S (j - 1) m y) (no : not o ≡ true) (r : Bool) (er : r ≡ sameOf (callIn W 0 (callAt S (j - 1))) (valueOf W v) (callAt S (j - 1) .name) (valuesFrom W ps 0 n)) where
-      named : r ≡ sameOf (callIn W 0 (callAt S (j - 1))) (valueOf W v) m (valuesFrom W ps 0 n)
-      named = er ∙ ap (λ (x : ℕ). sameOf (callIn W 0 (callAt S (j - 1))) (valueOf W v) x (valuesFrom W ps 0 n)) (name-is S (j - 1) m (other-not S (j - 1) m y (sym eo ∙ not-true o no)))
+    module _ (p : 0 < j) (c : OpenCall) (ec : c ≡ callAt S (j - 1)) where
+      pub left-call : CallHolds W c
+      left-call = subst (CallHolds W) (sym ec) (left-last p)
 
-      pub left-found : r ≡ true → j ≡ metOf (openMark (traceIn W S k) (valueOf W v) m (valuesFrom W ps 0 n))
-      left-found z =
-          met-last j (λ q. omega arith)
-          ∙ ap metOf (sym (open-step W S v m ps n j (λ q. omega arith) r named ∙ ap (λ (b : Bool). pick b (some (j - 1)) (openMark (traceIn W S (j - 1)) (valueOf W v) m (valuesFrom W ps 0 n))) z) ∙ l .same)
+      module _ (qs : List Slot) (eq : qs ≡ ps) (r : Bool) (er : r ≡ sameOf (callIn W 0 c) (valueOf W v) m (valuesFrom W qs 0 n)) where
+        here : r ≡ sameOf (callIn W 0 (callAt S (j - 1))) (valueOf W v) m (valuesFrom W ps 0 n)
+        here = er ∙ ap₂ {A = OpenCall} {B = List Slot} (λ x y. sameOf (callIn W 0 x) (valueOf W v) m (valuesFrom W y 0 n)) ec eq
 
-      pub left-more : r ≡ false → Left W S k v m ps n (j - 1)
-      left-more z = left-less p r named z
+        pub left-found : r ≡ true → Is (c .gives) ≡ metOf (openMark (traceIn W S k) (valueOf W v) m (valuesFrom W ps 0 n))
+        left-found z =
+            ap Is (ap (λ (x : OpenCall). x .gives) ec ∙ l .calls .mark (j - 1) (omega arith))
+            ∙ ap metOf (sym (open-step W S v m ps n j (λ q. omega arith) r here ∙ ap (λ (b : Bool). pick b (some (j - 1)) (openMark (traceIn W S (j - 1)) (valueOf W v) m (valuesFrom W ps 0 n))) z) ∙ l .same)
 
-pub left-other : (W S : List ℕ) (k sp m : ℕ) (ps : List Slot) (n j : ℕ) → Left W S k (refAt S sp) m ps n j → Holds W (refAt S sp) → 0 < j
-    → (o : Bool) → o ≡ otherOf S (j - 1) m (getD S sp 0) → not o ≡ false → Left W S k (refAt S sp) m ps n (j - 1)
-left-other W S k sp m ps n j l hs p o eo z =
-    left-less W S k (refAt S sp) m ps n j l p false (call-other W S (j - 1) m sp (valuesFrom W ps 0 n) (left-last W S k (refAt S sp) m ps n j l p) hs (sym eo ∙ not-false o z)) refl
+        pub left-more : r ≡ false → Left W S k v m ps n (j - 1)
+        left-more z = left-less p r here z
+
+pub slots-held : (W : List ℕ) (ps qs : List Slot) (n : ℕ) → qs ≡ ps → PartsHeld W ps n → PartsHeld W qs n
+slots-held W ps qs n e h = subst (λ (x : List Slot). PartsHeld W x n) (sym e) h
+
+pub left-other : (W S : List ℕ) (k : ℕ) (v : ValueRef) (m : ℕ) (A : List ℕ) (n j : ℕ) → Left W S k v m (slotsAt A 0) n j → Holds W v → PartsHeld W (slotsAt A 0) n → 0 < j
+    → (o : Bool) → OtherTest S (j - 1) v m A n o → not o ≡ false → Left W S k v m (slotsAt A 0) n (j - 1)
+left-other W S k v m A n j l hv ha p o eo z =
+    left-less W S k v m (slotsAt A 0) n j l p false
+    (call-other S (j - 1) v m A n W (left-last W S k v m (slotsAt A 0) n j l p) hv ha (eo .told (not-false o z))) refl

@@ -1,19 +1,25 @@
 -- What the code answers, of an expression and of a list, as the language's outcomes; a new object put in a block.
--- Not here: where answers stand (Stack), what evaluation answers of an expression (Evaluation), of a call (Calling) and of main (Main).
+-- Not here: what evaluation answers of an expression (Evaluation), of a call (Calling) and of main (Main).
 use Prim.Native.Nat.{ℕ, _+_}
 use mathlib.Core.Path.{_≡_}
 use mathlib.Core.List.{List, [], _∷_}
+use lib.ListN.{getD}
 use Rattle.cofj.specs.Values.{Graph, make}
 use Rattle.cofj.specs.Running as language
 use Rattle.cofj.specs.Running.{Outcome, value, stopped, _then_}
 use Rattle.values.specs.declared.ValueRef.{ValueRef}
 use Rattle.maker.specs.declared.Slot.{Slot}
 use Rattle.values.specs.Layout.{valueOf}
+use Rattle.values.specs.Refs.{refIn}
 use Rattle.maker.specs.Laying.{valuesFrom}
 use Rattle.evaluator.specs.declared.Stop.{Stop}
 use Rattle.evaluator.specs.declared.Stop.the-variants.{Stuck, NoFuel, TooDeep, TooLarge}
 use Rattle.evaluator.specs.declared.Out.{Out}
 use Rattle.evaluator.specs.declared.Out.the-variants.{Value, Halt}
+use Rattle.evaluator.specs.declared.Done.{Done}
+use Rattle.evaluator.specs.declared.Done.the-variants as done
+use Rattle.evaluator.specs.declared.Walked.{Walked}
+use Rattle.evaluator.specs.declared.Walked.the-variants as walked
 use Rattle.evaluator.specs.declared.frame.Held.{Held}
 use Rattle.evaluator.specs.declared.frame.Held.the-variants.{Is, Absent}
 use Rattle.evaluator.specs.State.{Kept, Older, PartsOlder}
@@ -70,6 +76,30 @@ pub record Shows (W : List ℕ) (o : Out) (p : ℕ) (x : Outcome Graph) : Type 0
 pub record ShowsAll (W : List ℕ) (n : ℕ) (o : Listed) (p : ℕ) (x : Outcome (List Graph)) : Type 0 where
   pub is : listIn W n o ≡ x
   pub next : ListNext o p
+
+-- ---- the code's answers, with the fuel left
+abbrev pub outWith : ℕ → Done → Out
+outWith fuel (done.Value v at) = Value v at fuel
+outWith fuel (done.Halt s) = Halt s fuel
+
+-- of a list, whose values are at rest in A, from place i on
+abbrev pub listFrom : ℕ → List ℕ → ℕ → Walked → Listed
+listFrom fuel A i (walked.After at) = Values (refIn (getD A i 0)) (refIn (getD A (i + 1) 0)) (refIn (getD A (i + 2) 0)) (refIn (getD A (i + 3) 0)) at fuel
+listFrom fuel A i (walked.Halt s) = Stops s fuel
+
+-- what one stopped at, as the other
+abbrev pub stopsAs : Done → Walked
+stopsAs (done.Value v at) = walked.Halt Stuck
+stopsAs (done.Halt s) = walked.Halt s
+
+abbrev pub haltsAs : Walked → Done
+haltsAs (walked.After at) = done.Halt Stuck
+haltsAs (walked.Halt s) = done.Halt s
+
+-- what a variable holds, as an answer
+abbrev pub doneOf : Held → ℕ → Done
+doneOf (Is r) next = done.Value r next
+doneOf Absent next = done.Halt Stuck
 
 abbrev pub outOf : Held → ℕ → ℕ → Out
 outOf (Is r) next fuel = Value r next fuel

@@ -1,5 +1,5 @@
 -- What calls ask and answer: the method, the arguments, the two sides of the method.
--- Not here: other expressions (Evaluation), the stack (Steps).
+-- Not here: other expressions (Evaluation), what the functions ask and do (Steps).
 use Prim.Native.Nat.{ℕ, _+_, _*_, _≤_, _<_}
 use mathlib.Core.Path.{_≡_}
 use mathlib.Core.List.{List}

@@ -1,5 +1,5 @@
 -- What evaluation asks and answers, for every table and expression whose bytes stand where it looks.
--- Not here: calls (Calling), main (Main), what frames and open calls stand for (State), the stack (Steps).
+-- Not here: calls (Calling), main (Main), what frames and open calls stand for (State), what the functions ask and do (Steps).
 use Prim.Native.Nat.{ℕ, zero, suc, _+_, _*_, _≤_}
 use mathlib.Core.Path.{_≡_}
 use mathlib.Core.Bool.{true}

@@ -1,7 +1,7 @@
 pub mod State
+pub mod Resting
 pub mod Answers
-pub mod Stack
-pub mod Limits
+pub mod Spots
 pub mod Chains
 pub mod Evaluation
 pub mod Calling

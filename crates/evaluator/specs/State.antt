@@ -1,6 +1,7 @@
--- What the variables of a body and the open calls on the stack stand for in the work bytes W, and when they do.
--- Not here: the rest of the stack (Stack), what evaluation answers (Answers).
-use Prim.Native.Nat.{ℕ, zero, suc, _+_, _/_, _≤_, _<_}
+-- What the variables of a body and the open calls stand for in the work bytes W, and when they do.
+-- Not here: frames at rest (Resting), what evaluation answers (Answers).
+use Prim.Native.Nat.{ℕ, zero, suc, _+_, _-_, _*_, _%_, _≤_, _<_}
+use mathlib.Core.Path.{_≡_}
 use mathlib.Core.Bool.{Bool, true, false, not}
 use mathlib.Core.List.{List, [], _∷_}
 use mathlib.Core.Option.{Option, none, some}
@@ -10,7 +11,7 @@ use Rattle.cofj.specs.Values.{Graph, eqGraph, eqGraphs}
 use Rattle.cofj.specs.Running as language
 use Rattle.classes.specs.Machine.{pick}
 use Rattle.values.specs.declared.ValueRef.{ValueRef}
-use Rattle.values.specs.declared.ValueRef.the-variants.{Object}
+use Rattle.values.specs.declared.ValueRef.the-variants.{Object, Mark, Undetermined}
 use Rattle.maker.specs.declared.Slot.{Slot}
 use Rattle.canon.specs.Layout.{Beneath}
 use Rattle.values.specs.Layout.{valueOf, Holds, Low}
@@ -18,14 +19,8 @@ use Rattle.maker.specs.Laying.{valuesFrom, PartsHeld}
 use Rattle.evaluator.specs.declared.frame.Held.{Held}
 use Rattle.evaluator.specs.declared.frame.Held.the-variants.{Is, Absent}
 use Rattle.evaluator.specs.declared.frame.Frame.{Frame}
+use Rattle.evaluator.specs.declared.trace.OpenCall.{OpenCall}
 use Rattle.values.specs.Refs.{refIn}
-
--- an open call: its receiver, its name and its first n arguments
-pub record OpenCall : Type 0 where
-  pub receiver : ValueRef
-  pub name : ℕ
-  pub args : List Slot
-  pub n : ℕ
 
 -- ---- blocks below sp
 -- the bytes below block sp are as before
@@ -67,32 +62,39 @@ frameIn W f = record { self = heldIn W (f .this); result = heldIn W (f .res); pa
 unfoldable pub variableOf : Frame → ℕ → Held
 variableOf f k = pick (ltb k (f .n)) (Is (slotAt (f .args) k)) Absent
 
--- ---- open calls on the stack S: three rows of 16 numbers, one number a call: its name from place 281 on, how many arguments it has from 297 on, where its
--- receiver stands from 313 on
--- the value at a place
-abbrev pub refAt : List ℕ → ℕ → ValueRef
-refAt S p = refIn (getD S p 0)
+-- what variable k holds: this, res, a parameter
+unfoldable pub holds : Frame → ℕ → Held
+holds f k = pick (eqb k 0) (f .this) (pick (eqb k 1) (f .res) (variableOf f (k - 2)))
 
--- the arguments from a place on, three at most
-unfoldable pub argsAt : List ℕ → ℕ → List Slot
-argsAt S p = record { r = refAt S p } ∷ record { r = refAt S (p + 1) } ∷ record { r = refAt S (p + 2) } ∷ []
-
--- where the receiver of call i stands
-abbrev pub baseAt : List ℕ → ℕ → ℕ
-baseAt S i = getD S (313 + i) 0
+-- ---- open calls at rest in numbers S, eight a call: its name, how many arguments it has, its receiver, three arguments, what meeting it gives
+-- three values from a place on
+unfoldable pub slotsAt : List ℕ → ℕ → List Slot
+slotsAt S p = record { r = refIn (getD S p 0) } ∷ record { r = refIn (getD S (p + 1) 0) } ∷ record { r = refIn (getD S (p + 2) 0) } ∷ []
 
 unfoldable pub callAt : List ℕ → ℕ → OpenCall
-callAt S i = record { receiver = refAt S (baseAt S i); name = getD S (281 + i) 0; args = argsAt S (baseAt S i + 1); n = getD S (297 + i) 0 }
+callAt S i = record { receiver = refIn (getD S (8 * i + 2) 0); name = getD S (8 * i) 0 % 256; args = slotsAt S (8 * i + 3); n = getD S (8 * i + 1) 0 % 256; gives = refIn (getD S (8 * i + 6) 0) }
 
--- ---- traces: the open calls of a stack
+-- the call of m on v with the first n of these arguments, as call k: meeting it gives its mark
+abbrev pub sideCall : ValueRef → ℕ → List Slot → ℕ → ℕ → OpenCall
+sideCall v m ps n k = record { receiver = v; name = m; args = ps; n = n; gives = Mark k }
+
+-- call k is this one; the numbers before it and after it are as before
+pub record CallPut (S : List ℕ) (k : ℕ) (c : OpenCall) (S′ : List ℕ) : Type 0 where
+  pub same : length S′ ≡ length S
+  pub call : callAt S′ k ≡ c
+  pub below : (p : ℕ) → p < 8 * k → getD S′ p 0 ≡ getD S p 0
+  pub above : (p : ℕ) → 8 * k + 7 ≤ p → getD S′ p 0 ≡ getD S p 0
+
+-- ---- traces: the open calls
 pub record CallOlder (W : List ℕ) (sp : ℕ) (c : OpenCall) : Type 0 where
   pub receiver : Older W sp (c .receiver)
   pub args : PartsOlder W sp (c .args) (c .n)
   pub few : c .n ≤ 4
 
--- the first k calls of a stack stand for calls with values below block sp
+-- the first k calls stand for calls with values below block sp, and meeting one gives its mark
 pub record TraceHolds (W : List ℕ) (sp : ℕ) (S : List ℕ) (k : ℕ) : Type 0 where
   pub call : (i : ℕ) → i < k → CallOlder W sp (callAt S i)
+  pub mark : (i : ℕ) → i < k → callAt S i .gives ≡ Mark i
 
 -- the same, without where the values lie
 pub record CallHolds (W : List ℕ) (c : OpenCall) : Type 0 where
@@ -102,30 +104,49 @@ pub record CallHolds (W : List ℕ) (c : OpenCall) : Type 0 where
 
 pub record CallsHold (W S : List ℕ) (k : ℕ) : Type 0 where
   pub few : k ≤ 16
-  pub place : (i : ℕ) → i < k → baseAt S i + 4 ≤ 336
   pub call : (i : ℕ) → i < k → CallHolds W (callAt S i)
+  pub mark : (i : ℕ) → i < k → callAt S i .gives ≡ Mark i
 
 abbrev pub callIn : List ℕ → ℕ → OpenCall → language.OpenCall
 callIn W k c = record { receiver = valueOf W (c .receiver); name = c .name; args = valuesFrom W (c .args) 0 (c .n); label = k }
 
--- the first k calls of a stack, the newest first
+-- the first k calls, the newest first
 unfoldable pub traceIn : List ℕ → List ℕ → ℕ → List language.OpenCall
 traceIn W S zero = []
 traceIn W S (suc k) = callIn W k (callAt S k) ∷ traceIn W S k
 
 -- ---- a call met again
--- two numbers of one block that differ
-unfoldable pub apartOf : ℕ → ℕ → Bool
-apartOf x y = pick (eqb (x / 256) (y / 256)) (not (eqb x y)) false
+-- two objects of one block that are not one
+abbrev pub apartOf : ValueRef → ValueRef → Bool
+apartOf (Object i b) (Object j c) = pick (eqb b c) (not (eqb i j)) false
+apartOf (Object i b) (Mark k) = false
+apartOf (Object i b) Undetermined = false
+apartOf (Mark k) w = false
+apartOf Undetermined w = false
 
--- call i of a stack has another name than m, or a receiver whose number and y are apart
-unfoldable pub otherOf : List ℕ → ℕ → ℕ → ℕ → Bool
-otherOf S i m y = pick (eqb (getD S (281 + i) 0) m) (apartOf (getD S (baseAt S i) 0) y) true
+-- one of the first n of two lists is apart
+pub record SomeApart (ps qs : List Slot) (n : ℕ) : Type 0 where
+  pub which : ℕ
+  pub low : which < n
+  pub apart : apartOf (slotAt ps which) (slotAt qs which) ≡ true
+
+pub record ApartTest (ps qs : List Slot) (n : ℕ) (r : Bool) : Type 0 where
+  pub told : r ≡ true → SomeApart ps qs n
+
+-- why call i is not the call of m on v with the n arguments A
+pub data Other (S : List ℕ) (i : ℕ) (v : ValueRef) (m : ℕ) (A : List ℕ) (n : ℕ) : Type 0 where
+  by-name : (callAt S i .name ≡ m → ⊥) → Other S i v m A n
+  by-count : (callAt S i .n ≡ n → ⊥) → Other S i v m A n
+  by-receiver : apartOf (callAt S i .receiver) v ≡ true → Other S i v m A n
+  by-argument : SomeApart (callAt S i .args) (slotsAt A 0) n → Other S i v m A n
+
+pub record OtherTest (S : List ℕ) (i : ℕ) (v : ValueRef) (m : ℕ) (A : List ℕ) (n : ℕ) (r : Bool) : Type 0 where
+  pub told : r ≡ true → Other S i v m A n
 
 unfoldable pub sameOf : language.OpenCall → Graph → ℕ → List Graph → Bool
 sameOf o v m vs = pick (eqb (o .name) m) (pick (eqGraph (o .receiver) v) (eqGraphs (o .args) vs) false) false
 
--- a mark and 1, or 0
-abbrev pub metOf : Option ℕ → ℕ
-metOf none = 0
-metOf (some x) = suc x
+-- what meeting a call gives: its mark
+abbrev pub metOf : Option ℕ → Held
+metOf none = Absent
+metOf (some x) = Is (Mark x)

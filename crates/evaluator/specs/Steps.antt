@@ -1,18 +1,33 @@
--- What each function of the evaluator asks of the stack S and does with it: the language's meaning (Evaluation, Calling) for the frame and the calls that stand
--- there, the answer left at place sp, and what stands below as before. The limits are one number.
--- Here sp is a place of the stack; where the language's meaning is said (Evaluation, Calling, Answers) sp is the block, which the limits name.
--- Not here: where all this stands (Stack).
+-- What each function of the evaluator asks and does: the language's meaning (Evaluation, Calling) for a frame f and the open calls at rest in S, at a spot p;
+-- the calls that were open are as before, and no fuel was won.
+-- Not here: what evaluation means.
 use Prim.Native.Nat.{ℕ, _+_, _-_, _*_, _≤_, _<_}
 use mathlib.Core.Path.{_≡_}
 use mathlib.Core.List.{List}
-use lib.ListN.{length}
+use lib.ListN.{length, getD}
+use Rattle.values.specs.declared.ValueRef.{ValueRef}
+use Rattle.values.specs.declared.ValueRef.the-variants.{Object, Mark, Undetermined}
+use Rattle.maker.specs.Laying.{partsOf}
 use Rattle.maker.specs.Bares.{Bares}
-use Rattle.evaluator.specs.State.{refAt, argsAt}
-use Rattle.evaluator.specs.Answers.{Finishes, ListOlder}
-use Rattle.evaluator.specs.Limits.{nestOf, depthOf, blockOf}
-use Rattle.evaluator.specs.Stack.{fuelOf, topOf, frameAt, Placed, Stacked, outAt, listAt}
+use Rattle.evaluator.specs.declared.Done.{Done}
+use Rattle.evaluator.specs.declared.Walked.{Walked}
+use Rattle.evaluator.specs.declared.Walked.the-variants as walked
+use Rattle.evaluator.specs.declared.frame.Frame.{Frame}
+use Rattle.evaluator.specs.declared.spot.Spot.{Spot}
+use Rattle.evaluator.specs.State.{slotsAt, PartsOlder}
+use Rattle.evaluator.specs.Answers.{outWith, listFrom, Finishes}
 use Rattle.evaluator.specs.Evaluation.{Fits, ListFits, Evaluates, Fields, Lists, News}
-use Rattle.evaluator.specs.Calling.{Calls, CallFits, Invokes, BodyFits, RunsRight, RunsLeft}
+use Rattle.evaluator.specs.Calling.{Calls, ArgsFit, CallsWith, CallFits, Invokes, BodyFits, RunsRight, RunsLeft}
+
+-- the fuel left, after 16 calls
+abbrev pub fuelOf : List ℕ → ℕ
+fuelOf S = getD S 128 0
+
+-- the first k calls are as before, and no fuel was won
+pub record Traced (k : ℕ) (S S′ : List ℕ) : Type 0 where
+  pub same : length S′ ≡ length S
+  pub calls : (p : ℕ) → p < 8 * k → getD S′ p 0 ≡ getD S p 0
+  pub spent : fuelOf S′ ≤ fuelOf S
 
 -- ---- what is asked
 -- block 0 has the objects without fields, and lies below block b
@@ -20,85 +35,101 @@ pub record Based (W : List ℕ) (b : ℕ) : Type 0 where
   pub bares : Bares W
   pub above : 0 < b
 
-pub record Runnable (W S : List ℕ) (lim sp : ℕ) : Type 0 where
-  pub based : Based W (blockOf lim)
-  pub placed : Placed S sp
-  pub fits : Fits W (frameAt S) S (topOf S) (nestOf lim) (depthOf lim) (blockOf lim)
-  pub room : sp + 16 * depthOf lim + 3 * nestOf lim ≤ 274
+pub record Runnable (W : List ℕ) (f : Frame) (S : List ℕ) (p : Spot) : Type 0 where
+  pub based : Based W (p .block)
+  pub full : length S ≡ 129
+  pub count : f .n ≤ 3
+  pub fits : Fits W f S (p .opened) (p .nesting) (p .calls) (p .block)
 
--- one level in, where the nesting left is `nestOf lim`
-pub record PartRunnable (W S : List ℕ) (lim sp : ℕ) : Type 0 where
-  pub based : Based W (blockOf lim)
-  pub placed : Placed S sp
-  pub fits : Fits W (frameAt S) S (topOf S) (nestOf lim + 1) (depthOf lim) (blockOf lim)
-  pub room : sp + 16 * depthOf lim + 3 * nestOf lim + 3 ≤ 274
+-- one level in
+pub record PartRunnable (W : List ℕ) (f : Frame) (S : List ℕ) (p : Spot) : Type 0 where
+  pub based : Based W (p .block)
+  pub full : length S ≡ 129
+  pub place : p .at < 26000
+  pub count : f .n ≤ 3
+  pub fits : Fits W f S (p .opened) (p .nesting + 1) (p .calls) (p .block)
 
-pub record ListRunnable (W S : List ℕ) (at lim sp n : ℕ) : Type 0 where
-  pub based : Based W (blockOf lim)
-  pub placed : Placed S sp
-  pub fits : ListFits W (frameAt S) S (topOf S) (nestOf lim) (depthOf lim) (blockOf lim) n
-  pub room : sp + n + 16 * depthOf lim + 3 * nestOf lim ≤ 275
-  pub start : 0 < at
+pub record ListRunnable (W : List ℕ) (f : Frame) (S : List ℕ) (p : Spot) (n : ℕ) : Type 0 where
+  pub based : Based W (p .block)
+  pub full : length S ≡ 129
+  pub count : f .n ≤ 3
+  pub fits : ListFits W f S (p .opened) (p .nesting) (p .calls) (p .block) n
 
-pub record PartsReady (W S : List ℕ) (n sp dst next : ℕ) : Type 0 where
-  pub bares : Bares W
-  pub full : length S ≡ 336
-  pub older : ListOlder W (dst + n) n (listAt S sp next)
+-- the n values at rest in A lie below block dst + n
+pub record PartsReady (W A : List ℕ) (n dst : ℕ) : Type 0 where
+  pub older : PartsOlder W (dst + n) (partsOf A) n
   pub few : n ≤ 4
-  pub room : sp < 274
-  pub low : dst < 275
+  pub full : length A ≡ 4
   pub long : 234 * dst + 234 ≤ length W
-  pub after : 0 < next
 
-pub record CallRunnable (W S : List ℕ) (next n lim sp : ℕ) : Type 0 where
-  pub based : Based W (blockOf lim)
-  pub placed : Placed S sp
-  pub fits : CallFits W S (topOf S) (refAt S sp) (argsAt S (sp + 1)) n (depthOf lim) (blockOf lim)
-  pub room : sp + 16 * depthOf lim + 6 ≤ 274
-  pub after : 0 < next
+-- the receiver v was evaluated
+pub record ArgsRunnable (W : List ℕ) (f : Frame) (S : List ℕ) (p : Spot) (v : ValueRef) (n : ℕ) : Type 0 where
+  pub based : Based W (p .block)
+  pub full : length S ≡ 129
+  pub count : f .n ≤ 3
+  pub fits : ArgsFit W f S (p .opened) (p .nesting) (p .calls) (p .block) v n
+
+pub record CallRunnable (W S : List ℕ) (v : ValueRef) (A : List ℕ) (n : ℕ) (p : Spot) : Type 0 where
+  pub based : Based W (p .block)
+  pub full : length S ≡ 129
+  pub fits : CallFits W S (p .opened) v (slotsAt A 0) n (p .calls) (p .block)
 
 -- a call is opened
-pub record BodyRunnable (W S : List ℕ) (next n lim sp : ℕ) : Type 0 where
-  pub based : Based W (blockOf lim)
-  pub placed : Placed S sp
-  pub fits : BodyFits W S (topOf S) (refAt S sp) (argsAt S (sp + 1)) n (depthOf lim - 1) (blockOf lim)
-  pub room : sp + 16 * depthOf lim + 6 ≤ 274
-  pub deep : depthOf lim ≡ 0 → ⊥
-  pub after : 0 < next
+pub record BodyRunnable (W S : List ℕ) (v : ValueRef) (A : List ℕ) (n : ℕ) (p : Spot) : Type 0 where
+  pub based : Based W (p .block)
+  pub full : length S ≡ 129
+  pub fits : BodyFits W S (p .opened) v (slotsAt A 0) n (p .calls - 1) (p .block)
+  pub deep : p .calls ≡ 0 → ⊥
+
+-- the mark of a call
+abbrev pub markIn : ValueRef → ℕ
+markIn (Object i b) = 0
+markIn (Mark k) = k
+markIn Undetermined = 0
+
+pub record MarkGiven (r : ValueRef) : Type 0 where
+  pub is : r ≡ Mark (markIn r)
+  pub small : markIn r < 63
 
 -- ---- what is done
-pub record EvalStep (T W S : List ℕ) (at lim sp : ℕ) (W′ S′ : List ℕ) (r : ℕ) : Type 0 where
-  pub stack : Stacked sp S S′
-  pub runs : Evaluates T W (frameAt S) S (topOf S) at (nestOf lim) (depthOf lim) (blockOf lim) (fuelOf S) W′ (outAt S′ sp r)
+pub record EvalStep (T W : List ℕ) (f : Frame) (S : List ℕ) (p : Spot) (W′ S′ : List ℕ) (o : Done) : Type 0 where
+  pub trace : Traced (p .opened) S S′
+  pub runs : Evaluates T W f S (p .opened) (p .at) (p .nesting) (p .calls) (p .block) (fuelOf S) W′ (outWith (fuelOf S′) o)
 
-pub record FieldStep (T W S : List ℕ) (at lim sp k : ℕ) (W′ S′ : List ℕ) (r : ℕ) : Type 0 where
-  pub stack : Stacked sp S S′
-  pub runs : Fields T W (frameAt S) S (topOf S) at (nestOf lim) (depthOf lim) (blockOf lim) (fuelOf S) k W′ (outAt S′ sp r)
+pub record FieldStep (T W : List ℕ) (f : Frame) (S : List ℕ) (p : Spot) (k : ℕ) (W′ S′ : List ℕ) (o : Done) : Type 0 where
+  pub trace : Traced (p .opened) S S′
+  pub runs : Fields T W f S (p .opened) (p .at) (p .nesting) (p .calls) (p .block) (fuelOf S) k W′ (outWith (fuelOf S′) o)
 
-pub record ListStep (T W S : List ℕ) (at lim sp n : ℕ) (W′ S′ : List ℕ) (r : ℕ) : Type 0 where
-  pub stack : Stacked sp S S′
-  pub runs : Lists T W (frameAt S) S (topOf S) at (nestOf lim) (depthOf lim) (blockOf lim) (fuelOf S) n W′ (listAt S′ sp r)
+pub record ListStep (T W : List ℕ) (f : Frame) (S : List ℕ) (p : Spot) (n : ℕ) (W′ S′ A : List ℕ) (w : Walked) : Type 0 where
+  pub trace : Traced (p .opened) S S′
+  pub full : length A ≡ 4
+  pub runs : Lists T W f S (p .opened) (p .at) (p .nesting) (p .calls) (p .block) (fuelOf S) n W′ (listFrom (fuelOf S′) A 0 w)
 
-pub record FinishStep (W S : List ℕ) (c n sp dst next : ℕ) (W′ S′ : List ℕ) (r : ℕ) : Type 0 where
-  pub stack : Stacked sp S S′
-  pub runs : Finishes W c (listAt S sp next) n dst W′ (outAt S′ sp r)
+-- whatever the fuel
+pub record FinishStep (W : List ℕ) (c n : ℕ) (A : List ℕ) (dst next : ℕ) (W′ : List ℕ) (o : Done) : Type 0 where
+  pub runs : (fuel : ℕ) → Finishes W c (listFrom fuel A 0 (walked.After next)) n dst W′ (outWith fuel o)
 
-pub record NewStep (T W S : List ℕ) (at lim sp c n : ℕ) (W′ S′ : List ℕ) (r : ℕ) : Type 0 where
-  pub stack : Stacked sp S S′
-  pub runs : News T W (frameAt S) S (topOf S) at (nestOf lim) (depthOf lim) (blockOf lim) (fuelOf S) c n W′ (outAt S′ sp r)
+pub record NewStep (T W : List ℕ) (f : Frame) (S : List ℕ) (p : Spot) (c n : ℕ) (W′ S′ : List ℕ) (o : Done) : Type 0 where
+  pub trace : Traced (p .opened) S S′
+  pub runs : News T W f S (p .opened) (p .at) (p .nesting) (p .calls) (p .block) (fuelOf S) c n W′ (outWith (fuelOf S′) o)
 
-pub record CallStep (T W S : List ℕ) (at lim sp m n : ℕ) (W′ S′ : List ℕ) (r : ℕ) : Type 0 where
-  pub stack : Stacked sp S S′
-  pub runs : Calls T W (frameAt S) S (topOf S) at (nestOf lim) (depthOf lim) (blockOf lim) (fuelOf S) m n W′ (outAt S′ sp r)
+pub record CallStep (T W : List ℕ) (f : Frame) (S : List ℕ) (p : Spot) (m n : ℕ) (W′ S′ : List ℕ) (o : Done) : Type 0 where
+  pub trace : Traced (p .opened) S S′
+  pub runs : Calls T W f S (p .opened) (p .at) (p .nesting) (p .calls) (p .block) (fuelOf S) m n W′ (outWith (fuelOf S′) o)
 
-pub record InvokeStep (T W S : List ℕ) (next lim sp m n i : ℕ) (W′ S′ : List ℕ) (r : ℕ) : Type 0 where
-  pub stack : Stacked sp S S′
-  pub runs : Invokes T W S (topOf S) (refAt S sp) (argsAt S (sp + 1)) n i next (depthOf lim) (blockOf lim) (fuelOf S) m W′ (outAt S′ sp r)
+pub record ArgsStep (T W : List ℕ) (f : Frame) (S : List ℕ) (p : Spot) (v : ValueRef) (m n i : ℕ) (W′ S′ : List ℕ) (o : Done) : Type 0 where
+  pub trace : Traced (p .opened) S S′
+  pub runs : CallsWith T W f S (p .opened) (p .at) (p .nesting) (p .calls) (p .block) (fuelOf S) v m n i W′ (outWith (fuelOf S′) o)
 
-pub record RightStep (T W S : List ℕ) (next lim sp n i x : ℕ) (W′ S′ : List ℕ) (r : ℕ) : Type 0 where
-  pub stack : Stacked sp S S′
-  pub runs : RunsRight T W S (topOf S) (refAt S sp) (argsAt S (sp + 1)) n i next (depthOf lim - 1) (blockOf lim) (fuelOf S) (x - 1) W′ (outAt S′ sp r)
+-- the spot is after the call
+pub record InvokeStep (T W S : List ℕ) (v : ValueRef) (A : List ℕ) (n i m : ℕ) (p : Spot) (W′ S′ : List ℕ) (o : Done) : Type 0 where
+  pub trace : Traced (p .opened) S S′
+  pub runs : Invokes T W S (p .opened) v (slotsAt A 0) n i (p .at) (p .calls) (p .block) (fuelOf S) m W′ (outWith (fuelOf S′) o)
 
-pub record LeftStep (T W S : List ℕ) (next lim sp m n i : ℕ) (W′ S′ : List ℕ) (r : ℕ) : Type 0 where
-  pub stack : Stacked sp S S′
-  pub runs : RunsLeft T W S (topOf S) (refAt S sp) (argsAt S (sp + 1)) n i next (depthOf lim - 1) (blockOf lim) (fuelOf S) m W′ (outAt S′ sp r)
+pub record RightStep (T W S : List ℕ) (v : ValueRef) (A : List ℕ) (n i : ℕ) (p : Spot) (mark : ValueRef) (W′ S′ : List ℕ) (o : Done) : Type 0 where
+  pub trace : Traced (p .opened) S S′
+  pub runs : RunsRight T W S (p .opened) v (slotsAt A 0) n i (p .at) (p .calls - 1) (p .block) (fuelOf S) (markIn mark) W′ (outWith (fuelOf S′) o)
+
+pub record LeftStep (T W S : List ℕ) (v : ValueRef) (A : List ℕ) (n i m : ℕ) (p : Spot) (W′ S′ : List ℕ) (o : Done) : Type 0 where
+  pub trace : Traced (p .opened) S S′
+  pub runs : RunsLeft T W S (p .opened) v (slotsAt A 0) n i (p .at) (p .calls - 1) (p .block) (fuelOf S) m W′ (outWith (fuelOf S′) o)

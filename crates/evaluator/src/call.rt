@@ -1,189 +1,197 @@
 // Running a call: its receiver, its arguments, then a side of its method, while the calls that may be opened fall.
-// The receiver stands at place sp and the arguments follow it; a side is run four places and four blocks on, and its value is brought down to the call's.
-// A left side is run under the trace with its call on top.
+// The receiver lies in the call's block or below, and the arguments in the three blocks after it; a side is run four blocks on, and its value is brought
+// down to the call's block. A left side is run with its call open.
+use crate::Done;
+use crate::Stop;
+use crate::Walked;
+use crate::eval::again;
 use crate::eval::eval;
-use crate::eval::eval_body;
 use crate::eval::eval_list;
-use crate::eval::eval_receiver;
+use crate::eval::halted;
 use crate::find::find;
-use crate::frame::enter;
+use crate::frame::FRAME;
+use crate::frame::Held;
+use crate::frame::body_frame;
 use crate::met::open_call;
-use crate::stack::BASE;
-use crate::stack::COUNT;
-use crate::stack::FUEL;
-use crate::stack::NO_FUEL;
-use crate::stack::RESULT;
-use crate::stack::STACK;
-use crate::stack::STUCK;
-use crate::stack::TOO_DEEP;
-use crate::stack::TOP;
-use crate::stack::Went;
-use crate::stack::push;
-use crate::stack::set_frame;
-use crate::stack::stop;
-use crate::stack::went_of;
+use crate::spot::Spot;
+use crate::spot::body;
+use crate::spot::moved;
+use crate::trace::FUEL;
+use crate::trace::TRACE;
+use crate::trace::push;
 use classes::methods::Found;
 use classes::methods::left_place;
+use classes::methods::owner;
 use classes::methods::right_place;
 use classes::places::SIZE;
-use values::refs::unpack;
-use values::value::bring_in;
-use values::value::close_in;
+use values::ValueRef;
+use values::value::bring;
+use values::value::close;
 ghost use mathlib.Core.Path.{_≡_};
 ghost use Prim.Native.Nat.{ℕ, _+_, _*_, _<_, _≤_};
-ghost use lib.ListN.{length};
-ghost use Rattle.values.specs.Layout.{Holds, valueOf};
-ghost use Rattle.values.specs.Operations.{Gives, closeOf};
-ghost use Rattle.values.specs.Refs.{refIn};
-ghost use Rattle.maker.specs.Bares.{Bares};
-ghost use Rattle.evaluator.specs.Limits.{bodyLimits};
-ghost use Rattle.evaluator.specs.Steps.{PartRunnable, CallRunnable, BodyRunnable, CallStep, InvokeStep, RightStep, LeftStep};
+ghost use lib.ListN.{getD};
+ghost use Rattle.classes.specs.Machine.{rowOf, leftOf, rightOf};
+ghost use Rattle.evaluator.specs.Resting.{frameOf, bodyFrame};
+ghost use Rattle.evaluator.specs.Spots.{bodySpot};
+ghost use Rattle.evaluator.specs.Steps.{PartRunnable, ArgsRunnable, CallRunnable, BodyRunnable, MarkGiven, CallStep, ArgsStep, InvokeStep, RightStep, LeftStep};
 
-// The call of m with n arguments: the receiver at `at`, then the arguments.
-pub fn eval_call(
+// The call of m with n arguments: the receiver at a spot, then the arguments.
+pub(crate) fn eval_call(
     t: &[u8; SIZE],
     work: &mut [u8],
-    st: &mut [u32; STACK],
-    at: usize,
-    lim: usize,
-    sp: usize,
+    tr: &mut [u32; TRACE],
+    fr: &[u32; FRAME],
+    p: Spot,
     m: u8,
     n: u8,
-) -> usize
-    requires { ⌜ PartRunnable (now work) (now st) lim sp ⌝ }
-    ensures { λ r. ⌜ CallStep (now (t .entry)) (now (work .entry)) (now (st .entry)) at lim sp m n (now (work .exit)) (now (st .exit)) r ⌝ }
+) -> Done
+    requires { ⌜ PartRunnable (now work) (frameOf (now fr)) (now tr) p ⌝ }
+    ensures { λ o. ⌜ CallStep (now (t .entry)) (now (work .entry)) (frameOf (now (fr .entry))) (now (tr .entry)) p m n (now (work .exit)) (now (tr .exit)) o ⌝ }
 {
-    if lim % 8 == 0 {
-        return stop(st, STUCK);
+    if p.nesting == 0 {
+        return Done::Halt(Stop::Stuck);
     }
-    let r1 = eval_receiver(t, work, st, at, lim, sp);
-    let w1 = went_of(r1);
-    let Went::On(at1) = w1 else {
-        return 0;
+    let o = eval(t, work, tr, fr, p);
+    let Done::Value(v, at) = o else {
+        return o;
     };
-    let w = find(t, work, unpack(st[sp]), m, n);
+    let w = find(t, work, v, m, n);
     let Found::At(i) = w else {
-        return stop(st, STUCK);
+        return Done::Halt(Stop::Stuck);
     };
-    if n == 0 {
-        return invoke(t, work, st, at1, lim, sp, m, n, i);
-    }
-    let r2 = eval_list(t, work, st, at1, lim + 256, sp + 1, n);
-    let w2 = went_of(r2);
-    let Went::On(at2) = w2 else {
-        return 0;
-    };
-    invoke(t, work, st, at2, lim, sp, m, n, i)
+    again(eval_args(t, work, tr, fr, moved(p, at, p.block), v, i, m, n))
 }
 
-// Method i, which has the name m, called on the value at sp with the n arguments after it; `next` is the place after the call.
-pub fn invoke(
+// The n arguments at a spot, and the call of method i, which has the name m, on v.
+pub(crate) fn eval_args(
     t: &[u8; SIZE],
     work: &mut [u8],
-    st: &mut [u32; STACK],
-    next: usize,
-    lim: usize,
-    sp: usize,
+    tr: &mut [u32; TRACE],
+    fr: &[u32; FRAME],
+    p: Spot,
+    v: ValueRef,
+    i: u8,
     m: u8,
     n: u8,
-    i: u8,
-) -> usize
-    requires { ⌜ CallRunnable (now work) (now st) next n lim sp ⌝ }
-    ensures { λ r. ⌜ InvokeStep (now (t .entry)) (now (work .entry)) (now (st .entry)) next lim sp m n i (now (work .exit)) (now (st .exit)) r ⌝ }
+) -> Done
+    requires { ⌜ ArgsRunnable (now work) (frameOf (now fr)) (now tr) p v n ⌝ }
+    ensures { λ o. ⌜ ArgsStep (now (t .entry)) (now (work .entry)) (frameOf (now (fr .entry))) (now (tr .entry)) p v m n i (now (work .exit)) (now (tr .exit)) o ⌝ }
 {
-    let fuel = st[FUEL];
-    if fuel == 0 {
-        return stop(st, NO_FUEL);
+    let mut vs = [0u32; 4];
+    if n == 0 {
+        return again(invoke(t, work, tr, v, &vs, n, i, m, p));
     }
-    st[FUEL] = fuel - 1;
-    if lim / 8 % 32 == 0 {
-        return stop(st, TOO_DEEP);
-    }
-    let x = open_call(work, st, m as u32, n as u32, sp);
-    if x == 0 {
-        return run_left(t, work, st, next, lim, sp, m, n, i);
-    }
-    run_right(t, work, st, next, lim, sp, n, i, x)
+    let l = eval_list(t, work, tr, fr, moved(p, p.at, p.block + 1), n, &mut vs);
+    let Walked::After(next) = l else {
+        return halted(l);
+    };
+    again(invoke(t, work, tr, v, &vs, n, i, m, moved(p, next, p.block)))
 }
 
-// The limits of a body: nested 6 deep, one call fewer, four blocks on.
-pub fn body_limits(lim: usize) -> usize
-    requires { ⌜ lim < 16777216 ⌝ }
-    ensures { λ r. ⌜ r ≡ bodyLimits lim ⌝ }
-{
-    lim / 8 * 8 + 1022
-}
-
-// The number of X = u, in block `dst` or below. A number below 192 is an object of block 0, and in these there is no mark.
-pub fn close_value(work: &mut [u8], x: u8, u: u32, dst: u16) -> u32
-    requires { ⌜ Bares (now work) × Holds (now work) (refIn u) × (x < 63) × (234 * dst + 234 ≤ length (now work)) ⌝ }
-    ensures { λ q. ⌜ Gives (now (work .entry)) dst (now (work .exit)) (refIn q) (closeOf x (valueOf (now (work .entry)) (refIn u))) ⌝ }
-{
-    if u < 192 {
-        return u;
-    }
-    close_in(work, x, u, dst)
-}
-
-// The right side of method i, with res the mark x - 1.
-pub fn run_right(
+// Method i, which has the name m, called on v with the n arguments at rest in vs; the spot is after the call.
+pub(crate) fn invoke(
     t: &[u8; SIZE],
     work: &mut [u8],
-    st: &mut [u32; STACK],
-    next: usize,
-    lim: usize,
-    sp: usize,
+    tr: &mut [u32; TRACE],
+    v: ValueRef,
+    vs: &[u32; 4],
     n: u8,
     i: u8,
-    x: u32,
-) -> usize
-    requires { ⌜ BodyRunnable (now work) (now st) next n lim sp × (0 < x) × (x < 64) ⌝ }
-    ensures { λ r. ⌜ RightStep (now (t .entry)) (now (work .entry)) (now (st .entry)) next lim sp n i x (now (work .exit)) (now (st .exit)) r ⌝ }
+    m: u8,
+    p: Spot,
+) -> Done
+    requires { ⌜ CallRunnable (now work) (now tr) v (now vs) n p ⌝ }
+    ensures { λ o. ⌜ InvokeStep (now (t .entry)) (now (work .entry)) (now (tr .entry)) v (now (vs .entry)) n i m p (now (work .exit)) (now (tr .exit)) o ⌝ }
 {
-    let base = st[BASE];
-    let count = st[COUNT];
-    let res = st[RESULT];
-    enter(st, sp as u32, n as u32, x);
-    let at = right_place(t, i);
-    let r = eval(t, work, st, at, body_limits(lim), sp + 4);
-    set_frame(st, base, count, res);
-    let w = went_of(r);
-    let Went::On(_after) = w else {
-        return 0;
+    let fuel = tr[FUEL];
+    if fuel == 0 {
+        return Done::Halt(Stop::NoFuel);
+    }
+    tr[FUEL] = fuel - 1;
+    if p.calls == 0 {
+        return Done::Halt(Stop::TooDeep);
+    }
+    let h = open_call(work, tr, p.opened, v, m, vs, n);
+    match h {
+        Held::Is(mark) => run_right(t, work, tr, v, vs, n, i, p, mark),
+        Held::Absent => run_left(t, work, tr, v, vs, n, i, m, p),
+    }
+}
+
+// The frame at rest of a side of method i.
+pub(crate) fn side_frame(
+    t: &[u8; SIZE],
+    i: u8,
+    v: ValueRef,
+    res: Held,
+    vs: &[u32; 4],
+    n: u8,
+) -> [u32; FRAME]
+    ensures { λ r. ⌜ frameOf r ≡ bodyFrame v res (now (vs .entry)) n (getD (now (t .entry)) (rowOf i + 1) 0) ⌝ }
+{
+    body_frame(v, res, vs, n, owner(t, i))
+}
+
+// Where the right side of method i is evaluated, in a call at p.
+pub(crate) fn right_spot(t: &[u8; SIZE], i: u8, p: Spot) -> Spot
+    requires { ⌜ (0 < p .calls) × (p .block + 4 < 65536) ⌝ }
+    ensures { λ q. ⌜ q ≡ bodySpot p (rightOf (now (t .entry)) i) (p .opened) ⌝ }
+{
+    body(p, right_place(t, i), p.opened)
+}
+
+// The same for the left side, under one open call more.
+pub(crate) fn left_spot(t: &[u8; SIZE], i: u8, p: Spot) -> Spot
+    requires { ⌜ (0 < p .calls) × (p .block + 4 < 65536) × (p .opened < 16) ⌝ }
+    ensures { λ q. ⌜ q ≡ bodySpot p (leftOf (now (t .entry)) i) (p .opened + 1) ⌝ }
+{
+    body(p, left_place(t, i), p.opened + 1)
+}
+
+// The right side of method i, with res the mark of the open call.
+pub(crate) fn run_right(
+    t: &[u8; SIZE],
+    work: &mut [u8],
+    tr: &mut [u32; TRACE],
+    v: ValueRef,
+    vs: &[u32; 4],
+    n: u8,
+    i: u8,
+    p: Spot,
+    mark: ValueRef,
+) -> Done
+    requires { ⌜ BodyRunnable (now work) (now tr) v (now vs) n p × MarkGiven mark ⌝ }
+    ensures { λ o. ⌜ RightStep (now (t .entry)) (now (work .entry)) (now (tr .entry)) v (now (vs .entry)) n i p mark (now (work .exit)) (now (tr .exit)) o ⌝ }
+{
+    let fr = side_frame(t, i, v, Held::Is(mark), vs, n);
+    let o = eval(t, work, tr, &fr, right_spot(t, i, p));
+    let Done::Value(u, _) = o else {
+        return o;
     };
-    st[sp] = bring_in(work, st[sp + 4], (lim / 256) as u16);
-    next
+    Done::Value(bring(work, u, p.block), p.at)
 }
 
 // The left side of method i, which has the name m, under a fresh mark.
-pub fn run_left(
+pub(crate) fn run_left(
     t: &[u8; SIZE],
     work: &mut [u8],
-    st: &mut [u32; STACK],
-    next: usize,
-    lim: usize,
-    sp: usize,
-    m: u8,
+    tr: &mut [u32; TRACE],
+    v: ValueRef,
+    vs: &[u32; 4],
     n: u8,
     i: u8,
-) -> usize
-    requires { ⌜ BodyRunnable (now work) (now st) next n lim sp ⌝ }
-    ensures { λ r. ⌜ LeftStep (now (t .entry)) (now (work .entry)) (now (st .entry)) next lim sp m n i (now (work .exit)) (now (st .exit)) r ⌝ }
+    m: u8,
+    p: Spot,
+) -> Done
+    requires { ⌜ BodyRunnable (now work) (now tr) v (now vs) n p ⌝ }
+    ensures { λ o. ⌜ LeftStep (now (t .entry)) (now (work .entry)) (now (tr .entry)) v (now (vs .entry)) n i m p (now (work .exit)) (now (tr .exit)) o ⌝ }
 {
-    let base = st[BASE];
-    let count = st[COUNT];
-    let res = st[RESULT];
-    let top = st[TOP];
-    push(st, top, m as u32, n as u32, sp as u32);
-    enter(st, sp as u32, n as u32, 0);
-    let at = left_place(t, i);
-    let r = eval_body(t, work, st, at, body_limits(lim), sp + 4);
-    set_frame(st, base, count, res);
-    st[TOP] = top;
-    let w = went_of(r);
-    let Went::On(_after) = w else {
-        return 0;
+    let k = p.opened;
+    push(tr, k, v, m, vs, n);
+    let fr = side_frame(t, i, v, Held::Absent, vs, n);
+    let o = eval(t, work, tr, &fr, left_spot(t, i, p));
+    let Done::Value(u, _) = o else {
+        return o;
     };
-    st[sp] = close_value(work, top as u8, st[sp + 4], (lim / 256) as u16);
-    next
+    Done::Value(close(work, k, u, p.block), p.at)
 }

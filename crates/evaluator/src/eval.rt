@@ -1,38 +1,44 @@
 // Running an expression: it calls its list walk, which calls it back, while the nesting left falls.
-// An expression is evaluated at a place sp of the stack, which stays as it is below sp, and at a block of its own count: blocks below it stay. Its value stands at
-// place sp, and is an older one or lies in that block. The nesting left, the calls that may be opened and the block are one number, the limits (specs/Limits).
-// The answer is the place after the expression, or 0 if the run stopped.
+// An expression is evaluated at a block: blocks below it stay, and its value is an older one or lies in that block. The frame is lent at rest, and
+// so are the open calls with the fuel left.
+use crate::Done;
+use crate::Stop;
+use crate::Walked;
 use crate::call::eval_call;
 use crate::fields::fields_at;
-use crate::fields::is_field;
-use crate::fields::select_at;
-use crate::frame::leaf;
-use crate::stack::STACK;
-use crate::stack::STUCK;
-use crate::stack::TOO_LARGE;
-use crate::stack::Went;
-use crate::stack::stop;
-use crate::stack::went_of;
+use crate::frame::FRAME;
+use crate::frame::PARAMETER;
+use crate::frame::RES;
+use crate::frame::THIS;
+use crate::frame::answer;
+use crate::frame::variable;
+use crate::spot::Spot;
+use crate::spot::down;
+use crate::spot::inner;
+use crate::spot::moved;
+use crate::trace::TRACE;
 use checker::shape::Shape;
 use checker::shape::shape_at;
 use classes::chain::field_total;
 use classes::places::SIZE;
+use maker::Made;
 use maker::make::make;
 use maker::over::make_bare;
-use values::refs::NOTHING;
+use values::ValueRef;
+use values::refs::Selected;
+use values::refs::pack;
+use values::refs::select;
 ghost use mathlib.Core.Path.{_≡_};
 ghost use Prim.Native.Nat.{ℕ, _+_, _*_, _<_, _≤_};
 ghost use lib.ListN.{length};
-ghost use Rattle.cofj.specs.Values.{make};
-ghost use Rattle.canon.specs.Layout.{part};
-ghost use Rattle.classes.specs.Figures.{tableSize};
-ghost use Rattle.maker.specs.Laying.{partsOf, PartsHeld, valuesFrom, MadeIn};
-ghost use Rattle.evaluator.specs.Limits.{pastOf};
+ghost use Rattle.evaluator.specs.Answers.{stopsAs, haltsAs};
 ghost use Rattle.evaluator.specs.Preset.{isPreset};
-ghost use Rattle.evaluator.specs.Steps.{Runnable, PartRunnable, ListRunnable, PartsReady, EvalStep, FieldStep, ListStep, NewStep, FinishStep};
+ghost use Rattle.evaluator.specs.Resting.{frameOf};
+ghost use Rattle.evaluator.specs.Spots.{pastOf};
+ghost use Rattle.evaluator.specs.Steps.{Runnable, PartRunnable, ListRunnable, PartsReady, EvalStep, FieldStep, ListStep, FinishStep, NewStep};
 
 // Whether a new object of class c with n values stands in block 0 from the start.
-pub fn is_preset(t: &[u8; SIZE], c: u8, n: u8) -> bool
+pub(crate) fn is_preset(t: &[u8; SIZE], c: u8, n: u8) -> bool
     ensures { λ r. ⌜ r ≡ isPreset (now (t .entry)) c n ⌝ }
 {
     if n != 0 {
@@ -44,313 +50,233 @@ pub fn is_preset(t: &[u8; SIZE], c: u8, n: u8) -> bool
     field_total(t, c) == 0
 }
 
-// The expression at `at`, within the limits.
-pub fn eval(
+// An answer handed on as it is.
+pub(crate) fn again(o: Done) -> Done
+    ensures { λ r. ⌜ r ≡ o ⌝ }
+{
+    match o {
+        Done::Value(v, at) => Done::Value(v, at),
+        Done::Halt(s) => Done::Halt(s),
+    }
+}
+
+// The expression at a spot.
+pub(crate) fn eval(
     t: &[u8; SIZE],
     work: &mut [u8],
-    st: &mut [u32; STACK],
-    at: usize,
-    lim: usize,
-    sp: usize,
-) -> usize
-    requires { ⌜ Runnable (now work) (now st) lim sp ⌝ }
-    ensures { λ r. ⌜ EvalStep (now (t .entry)) (now (work .entry)) (now (st .entry)) at lim sp (now (work .exit)) (now (st .exit)) r ⌝ }
+    tr: &mut [u32; TRACE],
+    fr: &[u32; FRAME],
+    p: Spot,
+) -> Done
+    requires { ⌜ Runnable (now work) (frameOf (now fr)) (now tr) p ⌝ }
+    ensures { λ o. ⌜ EvalStep (now (t .entry)) (now (work .entry)) (frameOf (now (fr .entry))) (now (tr .entry)) p (now (work .exit)) (now (tr .exit)) o ⌝ }
 {
-    if lim % 8 == 0 {
-        return stop(st, STUCK);
+    if p.nesting == 0 {
+        return Done::Halt(Stop::Stuck);
     }
-    let s = shape_at(t, at);
+    let s = shape_at(t, p.at as usize);
     match s {
-        Shape::This { next: _ } => leaf(t, st, at, sp),
-        Shape::Result { next: _ } => leaf(t, st, at, sp),
-        Shape::Parameter { k: _, next: _ } => leaf(t, st, at, sp),
-        Shape::Field { f: k, next } => {
-            if is_field(t, next) {
-                return eval_chain(t, work, st, next, lim - 1, sp, k);
-            }
-            eval_field(t, work, st, next, lim - 1, sp, k)
-        }
-        Shape::Call { m, n, next } => eval_call(t, work, st, next, lim - 1, sp, m, n),
+        Shape::This { next } => answer(variable(fr, THIS), next),
+        Shape::Result { next } => answer(variable(fr, RES), next),
+        Shape::Parameter { k, next } => answer(variable(fr, PARAMETER + k as u16), next),
+        Shape::Field { f: k, next } => again(eval_field(t, work, tr, fr, inner(p, next), k)),
+        Shape::Call { m, n, next } => again(eval_call(t, work, tr, fr, inner(p, next), m, n)),
+        Shape::New { c, n, next } => again(eval_new(t, work, tr, fr, inner(p, next), c, n)),
+        Shape::Nothing => Done::Halt(Stop::Stuck),
+    }
+}
+
+// The same for what a field is selected of: variables, which most are, at once. With one caller, which the compiler takes it into, it saves a tenth of a
+// walk and of recursion down a chain.
+pub(crate) fn eval_part(
+    t: &[u8; SIZE],
+    work: &mut [u8],
+    tr: &mut [u32; TRACE],
+    fr: &[u32; FRAME],
+    p: Spot,
+) -> Done
+    requires { ⌜ Runnable (now work) (frameOf (now fr)) (now tr) p ⌝ }
+    ensures { λ o. ⌜ EvalStep (now (t .entry)) (now (work .entry)) (frameOf (now (fr .entry))) (now (tr .entry)) p (now (work .exit)) (now (tr .exit)) o ⌝ }
+{
+    if p.nesting == 0 {
+        return Done::Halt(Stop::Stuck);
+    }
+    let s = shape_at(t, p.at as usize);
+    match s {
+        Shape::This { next } => answer(variable(fr, THIS), next),
+        Shape::Parameter { k, next } => answer(variable(fr, PARAMETER + k as u16), next),
+        _ => again(eval(t, work, tr, fr, p)),
+    }
+}
+
+// The same for an item of a list: variables, fields and new objects, which most are, at once. With one caller it saves a seventh of building a list.
+pub(crate) fn eval_item(
+    t: &[u8; SIZE],
+    work: &mut [u8],
+    tr: &mut [u32; TRACE],
+    fr: &[u32; FRAME],
+    p: Spot,
+) -> Done
+    requires { ⌜ Runnable (now work) (frameOf (now fr)) (now tr) p ⌝ }
+    ensures { λ o. ⌜ EvalStep (now (t .entry)) (now (work .entry)) (frameOf (now (fr .entry))) (now (tr .entry)) p (now (work .exit)) (now (tr .exit)) o ⌝ }
+{
+    if p.nesting == 0 {
+        return Done::Halt(Stop::Stuck);
+    }
+    let s = shape_at(t, p.at as usize);
+    match s {
+        Shape::This { next } => answer(variable(fr, THIS), next),
+        Shape::Parameter { k, next } => answer(variable(fr, PARAMETER + k as u16), next),
+        Shape::Field { f: k, next } => again(eval_field(t, work, tr, fr, inner(p, next), k)),
         Shape::New { c, n, next } => {
             if is_preset(t, c, n) {
-                st[sp] = c as u32;
-                return next;
+                let v = ValueRef::Object(c, 0);
+                return Done::Value(v, next as u16);
             }
-            eval_new(t, work, st, next, lim - 1, sp, c, n)
+            again(eval_new(t, work, tr, fr, inner(p, next), c, n))
         }
-        Shape::Nothing => stop(st, STUCK),
+        _ => again(eval(t, work, tr, fr, p)),
     }
 }
 
-// The same for what a field is selected of. Most are variables, which need no call of `eval`. This function and the next three do what `eval` does, and answer at once what is
-// most often met there; the three have one caller each, which the compiler takes them into.
-pub fn eval_part(
+// Field k of the expression at a spot. Where that is a field too, the fields are selected one after another, from the innermost out.
+pub(crate) fn eval_field(
     t: &[u8; SIZE],
     work: &mut [u8],
-    st: &mut [u32; STACK],
-    at: usize,
-    lim: usize,
-    sp: usize,
-) -> usize
-    requires { ⌜ Runnable (now work) (now st) lim sp ⌝ }
-    ensures { λ r. ⌜ EvalStep (now (t .entry)) (now (work .entry)) (now (st .entry)) at lim sp (now (work .exit)) (now (st .exit)) r ⌝ }
-{
-    if lim % 8 == 0 {
-        return stop(st, STUCK);
-    }
-    let s = shape_at(t, at);
-    match s {
-        Shape::This { next: _ } => leaf(t, st, at, sp),
-        Shape::Result { next: _ } => leaf(t, st, at, sp),
-        Shape::Parameter { k: _, next: _ } => leaf(t, st, at, sp),
-        _ => eval(t, work, st, at, lim, sp),
-    }
-}
-
-// The same for the left side of a method. Many are variables or new objects without fields.
-pub fn eval_body(
-    t: &[u8; SIZE],
-    work: &mut [u8],
-    st: &mut [u32; STACK],
-    at: usize,
-    lim: usize,
-    sp: usize,
-) -> usize
-    requires { ⌜ Runnable (now work) (now st) lim sp ⌝ }
-    ensures { λ r. ⌜ EvalStep (now (t .entry)) (now (work .entry)) (now (st .entry)) at lim sp (now (work .exit)) (now (st .exit)) r ⌝ }
-{
-    if lim % 8 == 0 {
-        return stop(st, STUCK);
-    }
-    let s = shape_at(t, at);
-    match s {
-        Shape::This { next: _ } => leaf(t, st, at, sp),
-        Shape::Result { next: _ } => leaf(t, st, at, sp),
-        Shape::Parameter { k: _, next: _ } => leaf(t, st, at, sp),
-        Shape::New { c, n, next } => {
-            if is_preset(t, c, n) {
-                st[sp] = c as u32;
-                return next;
-            }
-            eval(t, work, st, at, lim, sp)
-        }
-        _ => eval(t, work, st, at, lim, sp),
-    }
-}
-
-// The same for the receiver of a call. Most are variables or fields.
-pub fn eval_receiver(
-    t: &[u8; SIZE],
-    work: &mut [u8],
-    st: &mut [u32; STACK],
-    at: usize,
-    lim: usize,
-    sp: usize,
-) -> usize
-    requires { ⌜ Runnable (now work) (now st) lim sp ⌝ }
-    ensures { λ r. ⌜ EvalStep (now (t .entry)) (now (work .entry)) (now (st .entry)) at lim sp (now (work .exit)) (now (st .exit)) r ⌝ }
-{
-    if lim % 8 == 0 {
-        return stop(st, STUCK);
-    }
-    let s = shape_at(t, at);
-    match s {
-        Shape::This { next: _ } => leaf(t, st, at, sp),
-        Shape::Result { next: _ } => leaf(t, st, at, sp),
-        Shape::Parameter { k: _, next: _ } => leaf(t, st, at, sp),
-        Shape::Field { f: k, next } => eval_field(t, work, st, next, lim - 1, sp, k),
-        _ => eval(t, work, st, at, lim, sp),
-    }
-}
-
-// The same for an item of a list. Most are variables, fields or new objects.
-pub fn eval_item(
-    t: &[u8; SIZE],
-    work: &mut [u8],
-    st: &mut [u32; STACK],
-    at: usize,
-    lim: usize,
-    sp: usize,
-) -> usize
-    requires { ⌜ Runnable (now work) (now st) lim sp ⌝ }
-    ensures { λ r. ⌜ EvalStep (now (t .entry)) (now (work .entry)) (now (st .entry)) at lim sp (now (work .exit)) (now (st .exit)) r ⌝ }
-{
-    if lim % 8 == 0 {
-        return stop(st, STUCK);
-    }
-    let s = shape_at(t, at);
-    match s {
-        Shape::This { next: _ } => leaf(t, st, at, sp),
-        Shape::Result { next: _ } => leaf(t, st, at, sp),
-        Shape::Parameter { k: _, next: _ } => leaf(t, st, at, sp),
-        Shape::Field { f: k, next } => eval_field(t, work, st, next, lim - 1, sp, k),
-        Shape::New { c, n, next } => {
-            if is_preset(t, c, n) {
-                st[sp] = c as u32;
-                return next;
-            }
-            eval_new(t, work, st, next, lim - 1, sp, c, n)
-        }
-        _ => eval(t, work, st, at, lim, sp),
-    }
-}
-
-// Field k of the expression at `at`.
-pub fn eval_field(
-    t: &[u8; SIZE],
-    work: &mut [u8],
-    st: &mut [u32; STACK],
-    at: usize,
-    lim: usize,
-    sp: usize,
+    tr: &mut [u32; TRACE],
+    fr: &[u32; FRAME],
+    p: Spot,
     k: u8,
-) -> usize
-    requires { ⌜ PartRunnable (now work) (now st) lim sp ⌝ }
-    ensures { λ r. ⌜ FieldStep (now (t .entry)) (now (work .entry)) (now (st .entry)) at lim sp k (now (work .exit)) (now (st .exit)) r ⌝ }
+) -> Done
+    requires { ⌜ PartRunnable (now work) (frameOf (now fr)) (now tr) p ⌝ }
+    ensures { λ o. ⌜ FieldStep (now (t .entry)) (now (work .entry)) (frameOf (now (fr .entry))) (now (tr .entry)) p k (now (work .exit)) (now (tr .exit)) o ⌝ }
 {
-    let r1 = eval_part(t, work, st, at, lim, sp);
-    let w1 = went_of(r1);
-    let Went::On(at1) = w1 else {
-        return 0;
+    let at = p.at as usize;
+    let d = fields_at(t, at, p.nesting);
+    let o = eval_part(t, work, tr, fr, down(p, d));
+    let Done::Value(v, next) = o else {
+        return o;
     };
-    select_at(work, st, sp, k, at1)
-}
-
-// The same where that expression is a field too: what the fields are selected of is evaluated, and they are selected one after another, from the innermost out.
-pub fn eval_chain(
-    t: &[u8; SIZE],
-    work: &mut [u8],
-    st: &mut [u32; STACK],
-    at: usize,
-    lim: usize,
-    sp: usize,
-    k: u8,
-) -> usize
-    requires { ⌜ PartRunnable (now work) (now st) lim sp × (at < tableSize) ⌝ }
-    ensures { λ r. ⌜ FieldStep (now (t .entry)) (now (work .entry)) (now (st .entry)) at lim sp k (now (work .exit)) (now (st .exit)) r ⌝ }
-{
-    let d = fields_at(t, at, lim);
-    let r1 = eval_part(t, work, st, at + 2 * d, lim - d, sp);
-    let w1 = went_of(r1);
-    let Went::On(at1) = w1 else {
-        return 0;
-    };
+    let mut u = v;
     let mut j = d;
     while 0 < j {
         j -= 1;
-        let r2 = select_at(work, st, sp, t[at + 2 * j + 1], at1);
-        let w2 = went_of(r2);
-        let Went::On(_at2) = w2 else {
-            return 0;
+        let s = select(work, u, t[at + 2 * (j as usize) + 1]);
+        let Selected::Value(r) = s else {
+            return Done::Halt(Stop::Stuck);
         };
+        u = r;
     }
-    select_at(work, st, sp, k, at1)
+    let s = select(work, u, k);
+    let Selected::Value(r) = s else {
+        return Done::Halt(Stop::Stuck);
+    };
+    Done::Value(r, next)
 }
 
-// The limits for what follows the value x: the next block, if x lies in this one.
-pub fn past(lim: usize, x: u32) -> usize
-    requires { ⌜ lim < 16777216 ⌝ }
-    ensures { λ r. ⌜ r ≡ pastOf lim x ⌝ }
+// The block for what follows the value v: the next, if v lies in this one.
+pub(crate) fn past(b: u16, v: ValueRef) -> u16
+    requires { ⌜ b < 65535 ⌝ }
+    ensures { λ r. ⌜ r ≡ pastOf b v ⌝ }
 {
-    if (x / 256 % 65536) as usize == lim / 256 {
-        return lim + 256;
+    let ValueRef::Object(_, c) = v else {
+        return b;
+    };
+    if c == b {
+        return b + 1;
     }
-    lim
+    b
 }
 
-// The n expressions at `at`, each at the place and the block after those of the one before.
-pub fn eval_list(
+// What an expression stopped at, as a list's answer.
+pub(crate) fn stopped(o: Done) -> Walked
+    ensures { λ w. ⌜ w ≡ stopsAs o ⌝ }
+{
+    match o {
+        Done::Value(_, _) => Walked::Halt(Stop::Stuck),
+        Done::Halt(s) => Walked::Halt(s),
+    }
+}
+
+// What a list stopped at, as an expression's answer.
+pub(crate) fn halted(w: Walked) -> Done
+    ensures { λ o. ⌜ o ≡ haltsAs w ⌝ }
+{
+    match w {
+        Walked::After(_) => Done::Halt(Stop::Stuck),
+        Walked::Halt(s) => Done::Halt(s),
+    }
+}
+
+// The n expressions at a spot, each at the block after that of the one before; their values, at rest, to the front of vs.
+pub(crate) fn eval_list(
     t: &[u8; SIZE],
     work: &mut [u8],
-    st: &mut [u32; STACK],
-    at: usize,
-    lim: usize,
-    sp: usize,
+    tr: &mut [u32; TRACE],
+    fr: &[u32; FRAME],
+    p: Spot,
     n: u8,
-) -> usize
-    requires { ⌜ ListRunnable (now work) (now st) at lim sp n ⌝ }
-    ensures { λ r. ⌜ ListStep (now (t .entry)) (now (work .entry)) (now (st .entry)) at lim sp n (now (work .exit)) (now (st .exit)) r ⌝ }
+    vs: &mut [u32; 4],
+) -> Walked
+    requires { ⌜ ListRunnable (now work) (frameOf (now fr)) (now tr) p n × (length (now vs) ≡ 4) ⌝ }
+    ensures { λ w. ⌜ ListStep (now (t .entry)) (now (work .entry)) (frameOf (now (fr .entry))) (now (tr .entry)) p n (now (work .exit)) (now (tr .exit)) (now (vs .exit)) w ⌝ }
 {
-    let mut p = at;
-    let mut l = lim;
-    let mut q = sp;
-    let mut left = n;
-    while 0 < left {
-        let r1 = eval_item(t, work, st, p, l, q);
-        let w1 = went_of(r1);
-        let Went::On(at1) = w1 else {
-            return 0;
+    let mut q = p;
+    let mut i: u8 = 0;
+    while i < n {
+        let o = eval_item(t, work, tr, fr, q);
+        let Done::Value(v, at) = o else {
+            return stopped(o);
         };
-        l = past(l, st[q]);
-        p = at1;
-        q += 1;
-        left -= 1;
+        vs[i as usize] = pack(v);
+        q = moved(q, at, past(q.block, v));
+        i += 1;
     }
-    p
+    Walked::After(q.at)
 }
 
-// A new object of class c with the n values from place sp on, in block dst or below: its number, or NOTHING if it has more than 32 objects.
-pub fn make_at(work: &mut [u8], st: &[u32; STACK], c: u8, n: u8, sp: usize, dst: u16) -> u32
-    requires { ⌜ PartsHeld (now work) (partsOf (part (now st) sp 4)) n × (n ≤ 4) × (234 * dst + 234 ≤ length (now work)) × (sp + 4 ≤ 336) ⌝ }
-    ensures { λ q. ⌜ MadeIn (now (work .entry)) (make c (valuesFrom (now (work .entry)) (partsOf (part (now (st .entry)) sp 4)) 0 n)) dst (now (work .exit)) q ⌝ }
-{
-    let s = &st[..];
-    make(work, c, &s[sp..sp + 4], n, dst)
-}
-
-// A new object of class c with the n values from place sp on, as the value at sp, in block dst or below; `next` is the place after.
-pub fn finish(
-    work: &mut [u8],
-    st: &mut [u32; STACK],
-    c: u8,
-    n: u8,
-    sp: usize,
-    dst: u16,
-    next: usize,
-) -> usize
-    requires { ⌜ PartsReady (now work) (now st) n sp dst next ⌝ }
-    ensures { λ r. ⌜ FinishStep (now (work .entry)) (now (st .entry)) c n sp dst next (now (work .exit)) (now (st .exit)) r ⌝ }
+// A new object of class c with the n values at rest in vs, in block dst or below; `next` is the place after.
+pub(crate) fn finish(work: &mut [u8], c: u8, n: u8, vs: &[u32; 4], dst: u16, next: u16) -> Done
+    requires { ⌜ PartsReady (now work) (now vs) n dst ⌝ }
+    ensures { λ o. ⌜ FinishStep (now (work .entry)) c n (now (vs .entry)) dst next (now (work .exit)) o ⌝ }
 {
     if n == 0 {
-        let b = make_bare(work, c, dst);
-        if b == NOTHING {
-            return stop(st, TOO_LARGE);
-        }
-        st[sp] = b;
-        return next;
+        return Done::Value(make_bare(work, c, dst), next);
     }
-    let q = make_at(work, st, c, n, sp, dst);
-    if q == NOTHING {
-        return stop(st, TOO_LARGE);
-    }
-    st[sp] = q;
-    next
+    let m = make(work, c, &vs[..], n, dst);
+    let Made::Value(v) = m else {
+        return Done::Halt(Stop::TooLarge);
+    };
+    Done::Value(v, next)
 }
 
-// A new object of class c with the values of the n expressions at `at`.
-pub fn eval_new(
+// A new object of class c with the values of the n expressions at a spot.
+pub(crate) fn eval_new(
     t: &[u8; SIZE],
     work: &mut [u8],
-    st: &mut [u32; STACK],
-    at: usize,
-    lim: usize,
-    sp: usize,
+    tr: &mut [u32; TRACE],
+    fr: &[u32; FRAME],
+    p: Spot,
     c: u8,
     n: u8,
-) -> usize
-    requires { ⌜ PartRunnable (now work) (now st) lim sp × (0 < at) ⌝ }
-    ensures { λ r. ⌜ NewStep (now (t .entry)) (now (work .entry)) (now (st .entry)) at lim sp c n (now (work .exit)) (now (st .exit)) r ⌝ }
+) -> Done
+    requires { ⌜ PartRunnable (now work) (frameOf (now fr)) (now tr) p ⌝ }
+    ensures { λ o. ⌜ NewStep (now (t .entry)) (now (work .entry)) (frameOf (now (fr .entry))) (now (tr .entry)) p c n (now (work .exit)) (now (tr .exit)) o ⌝ }
 {
+    if is_preset(t, c, n) {
+        let v = ValueRef::Object(c, 0);
+        return Done::Value(v, p.at);
+    }
     if field_total(t, c) != n {
-        return stop(st, STUCK);
+        return Done::Halt(Stop::Stuck);
     }
     if 4 < n {
-        return stop(st, STUCK);
+        return Done::Halt(Stop::Stuck);
     }
-    let r1 = eval_list(t, work, st, at, lim, sp, n);
-    let w1 = went_of(r1);
-    let Went::On(at1) = w1 else {
-        return 0;
+    let mut vs = [0u32; 4];
+    let w = eval_list(t, work, tr, fr, p, n, &mut vs);
+    let Walked::After(next) = w else {
+        return halted(w);
     };
-    finish(work, st, c, n, sp, (lim / 256) as u16, at1)
+    finish(work, c, n, &vs, p.block, next)
 }

@@ -8,11 +8,11 @@ ghost use Rattle.values.specs.Layout.{Holds};
 ghost use Rattle.evaluator.specs.Calling.{FindsTarget};
 
 // The method m with n parameters of the class of v, if v is an object that has it. No class has a number above 32.
-pub fn find(t: &[u8; SIZE], work: &[u8], v: ValueRef, m: u8, n: u8) -> Found
+pub(crate) fn find(t: &[u8; SIZE], work: &[u8], v: ValueRef, m: u8, n: u8) -> Found
     requires { ⌜ Holds (now work) v ⌝ }
     ensures { λ r. ⌜ FindsTarget (now (t .entry)) (now (work .entry)) v m n r ⌝ }
 {
-    let ValueRef::Object(b, i) = v else {
+    let ValueRef::Object(i, b) = v else {
         return Found::Nothing;
     };
     let c = work[234 * (b as usize) + 6 * (i as usize)];

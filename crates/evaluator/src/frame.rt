@@ -1,23 +1,16 @@
-// Frames: what the variables of a body hold, as value enums. A frame is made where a body is entered; its values stand on the stack, from the receiver's
-// place on, and a variable is read there. Not here: the places of the stack (stack).
-use crate::stack::BASE;
-use crate::stack::COUNT;
-use crate::stack::RESULT;
-use crate::stack::STACK;
-use crate::stack::STUCK;
-use crate::stack::set_frame;
-use crate::stack::stop;
-use checker::shape::Shape;
-use checker::shape::shape_at;
-use classes::places::SIZE;
+// Frames: what the variables of a body hold, as value enums. A frame is lent at rest, as numbers, and read as the struct where a variable is read.
+// Not here: the numbers of values (crate values, refs).
+use crate::Done;
+use crate::Stop;
 use maker::Slot;
 use values::ValueRef;
+use values::refs::pack;
 use values::refs::unpack;
 ghost use mathlib.Core.Path.{_≡_};
-ghost use Prim.Native.Nat.{ℕ, _<_};
-ghost use lib.ListN.{length, getD};
-ghost use Rattle.checker.specs.Shapes.{shapeAt};
-ghost use Rattle.evaluator.specs.Stack.{markHeld, markNumber, bodyFrame, heldThis, heldMark, heldParameter, Framed, heldOf, nextOf, Answered, FrameSet};
+ghost use Prim.Native.Nat.{ℕ, _≤_, _<_};
+ghost use Rattle.evaluator.specs.State.{variableOf, holds};
+ghost use Rattle.evaluator.specs.Answers.{doneOf};
+ghost use Rattle.evaluator.specs.Resting.{heldOf, frameOf, bodyFrame, noVariables};
 
 // What a variable holds, if anything.
 pub enum Held {
@@ -25,145 +18,140 @@ pub enum Held {
     Absent,
 }
 
-// The variables of a body: this, res and the first n arguments.
+// The variables of a body: this, res and the first n arguments; and the class that owns the body. In main there is no `this`, and the owner is 0.
 pub struct Frame {
     pub this: Held,
     pub res: Held,
     pub args: [Slot; 3],
-    pub n: u32,
+    pub n: u8,
+    pub owner: u8,
 }
 
-// The mark of res: x is its number and 1, or 0 if res is absent.
-pub fn held_mark(x: u32) -> Held
-    requires { ⌜ x < 64 ⌝ }
-    ensures { λ h. ⌜ h ≡ markHeld x ⌝ }
-{
-    if x == 0 {
-        return Held::Absent;
-    }
-    let mark = ValueRef::Mark((x - 1) as u8);
-    Held::Is(mark)
-}
+// a frame at rest: this, res, three arguments, how many there are, the owner
+pub const FRAME: usize = 7;
 
-// The number of a mark and 1; 0 if it is absent or no mark.
-pub fn mark_number(h: Held) -> u32
-    ensures { λ x. ⌜ x ≡ markNumber h ⌝ }
+// at rest, a variable that holds nothing: no value has this number
+pub const ABSENT: u32 = 3;
+
+// at rest, the undetermined value
+pub const UNUSED: u32 = 2;
+
+// the variables by number
+pub const THIS: u16 = 0;
+
+pub const RES: u16 = 1;
+
+pub const PARAMETER: u16 = 2;
+
+// What a variable holds, at rest.
+pub(crate) fn rest(h: Held) -> u32
+    ensures { λ x. ⌜ heldOf x ≡ h ⌝ }
 {
     let Held::Is(v) = h else {
-        return 0;
+        return ABSENT;
     };
-    match v {
-        ValueRef::Object(_, _) => 0,
-        ValueRef::Mark(k) => k as u32 + 1,
-        ValueRef::Undetermined => 0,
-    }
+    pack(v)
 }
 
-// The frame of a body: its receiver stands at place b, then its n arguments; res is the mark x - 1, or absent if x is 0.
-pub fn body_frame(st: &[u32; STACK], b: u32, n: u32, x: u32) -> Frame
-    requires { ⌜ (b < 270) × (x < 64) ⌝ }
-    ensures { λ f. ⌜ f ≡ bodyFrame (now (st .entry)) b n x ⌝ }
+// What a variable holds whose number at rest is x.
+pub(crate) fn unrest(x: u32) -> Held
+    ensures { λ h. ⌜ h ≡ heldOf x ⌝ }
 {
-    let at = b as usize;
-    let v = unpack(st[at]);
-    let this = Held::Is(v);
-    let res = held_mark(x);
-    let first = Slot {
-        r: unpack(st[at + 1]),
-    };
-    let second = Slot {
-        r: unpack(st[at + 2]),
-    };
-    let third = Slot {
-        r: unpack(st[at + 3]),
-    };
+    if x == ABSENT {
+        return Held::Absent;
+    }
+    let v = unpack(x);
+    Held::Is(v)
+}
+
+// The frame at rest of a body: its receiver, what res holds, the n arguments, which are at rest, and the class that owns it.
+pub(crate) fn body_frame(v: ValueRef, res: Held, vs: &[u32; 4], n: u8, owner: u8) -> [u32; FRAME]
+    ensures { λ r. ⌜ frameOf r ≡ bodyFrame v res (now (vs .entry)) n owner ⌝ }
+{
+    [
+        pack(v),
+        rest(res),
+        vs[0],
+        vs[1],
+        vs[2],
+        n as u32,
+        owner as u32,
+    ]
+}
+
+// The frame at rest of main.
+pub(crate) fn main_frame() -> [u32; FRAME]
+    ensures { λ r. ⌜ frameOf r ≡ noVariables ⌝ }
+{
+    [ABSENT, ABSENT, UNUSED, UNUSED, UNUSED, 0, 0]
+}
+
+// The frame that rests in these numbers.
+pub(crate) fn frame_of(fr: &[u32; FRAME]) -> Frame
+    ensures { λ f. ⌜ f ≡ frameOf (now (fr .entry)) ⌝ }
+{
+    let this = unrest(fr[0]);
+    let res = unrest(fr[1]);
+    let first = Slot { r: unpack(fr[2]) };
+    let second = Slot { r: unpack(fr[3]) };
+    let third = Slot { r: unpack(fr[4]) };
     Frame {
         this,
         res,
         args: [first, second, third],
-        n,
+        n: (fr[5] % 256) as u8,
+        owner: (fr[6] % 256) as u8,
     }
 }
 
-// The frame f, whose values stand from place b on.
-pub fn put_frame(st: &mut [u32; STACK], f: Frame, b: u32)
-    requires { ⌜ length (now st) ≡ 336 ⌝ }
-    ensures { λ _. ⌜ FrameSet (now (st .entry)) b (f .n) (markNumber (f .res)) (now (st .exit)) ⌝ }
+// What parameter k holds. The places are written out, so that the compiler reads one of them.
+pub(crate) fn parameter(f: Frame, k: u16) -> Held
+    requires { ⌜ f .n ≤ 3 ⌝ }
+    ensures { λ h. ⌜ h ≡ variableOf f k ⌝ }
 {
-    let h = f.res;
-    let x = mark_number(h);
-    set_frame(st, b, f.n, x);
-}
-
-// A body is entered: its frame is made, and stands where its values do.
-pub fn enter(st: &mut [u32; STACK], b: u32, n: u32, x: u32)
-    requires { ⌜ (length (now st) ≡ 336) × (b < 270) × (x < 64) ⌝ }
-    ensures { λ _. ⌜ FrameSet (now (st .entry)) b n x (now (st .exit)) ⌝ }
-{
-    let f = body_frame(st, b, n, x);
-    put_frame(st, f, b);
-}
-
-// What `this` holds, as the value at sp, and the place after; stuck in main.
-pub fn read_this(st: &mut [u32; STACK], sp: usize, next: usize) -> usize
-    requires { ⌜ (length (now st) ≡ 336) × (sp < 274) × (0 < next) ⌝ }
-    ensures { λ r. ⌜ Answered (now (st .entry)) (heldThis (now (st .entry))) sp next (now (st .exit)) r ⌝ }
-{
-    let b = st[BASE];
-    if 274 <= b {
-        return stop(st, STUCK);
+    if f.n as u16 <= k {
+        return Held::Absent;
     }
-    st[sp] = st[b as usize];
-    next
+    let ps = f.args;
+    if k == 0 {
+        let first = ps[0];
+        let v = first.r;
+        return Held::Is(v);
+    }
+    if k == 1 {
+        let second = ps[1];
+        let v = second.r;
+        return Held::Is(v);
+    }
+    let third = ps[2];
+    let v = third.r;
+    Held::Is(v)
 }
 
-// The same for res; stuck on a left side and in main.
-pub fn read_result(st: &mut [u32; STACK], sp: usize, next: usize) -> usize
-    requires { ⌜ (length (now st) ≡ 336) × (sp < 274) × (0 < next) × Framed (now st) ⌝ }
-    ensures { λ r. ⌜ Answered (now (st .entry)) (heldMark (now (st .entry))) sp next (now (st .exit)) r ⌝ }
+// What variable k holds: this, res or a parameter.
+pub(crate) fn variable(fr: &[u32; FRAME], k: u16) -> Held
+    requires { ⌜ frameOf (now fr) .n ≤ 3 ⌝ }
+    ensures { λ h. ⌜ h ≡ holds (frameOf (now (fr .entry))) k ⌝ }
 {
-    let x = st[RESULT];
-    if x == 0 {
-        return stop(st, STUCK);
+    let f = frame_of(fr);
+    if k == THIS {
+        let h = f.this;
+        return h;
     }
-    st[sp] = 192 + x;
-    next
+    if k == RES {
+        let h = f.res;
+        return h;
+    }
+    parameter(f, k - PARAMETER)
 }
 
-// The same for parameter k; stuck if there are not so many.
-pub fn read_parameter(st: &mut [u32; STACK], k: u8, sp: usize, next: usize) -> usize
-    requires { ⌜ (length (now st) ≡ 336) × (sp < 274) × (0 < next) × Framed (now st) ⌝ }
-    ensures { λ r. ⌜ Answered (now (st .entry)) (heldParameter (now (st .entry)) k) sp next (now (st .exit)) r ⌝ }
+// What a variable holds, as an answer: stuck if it holds nothing.
+pub(crate) fn answer(h: Held, next: usize) -> Done
+    requires { ⌜ next < 26000 ⌝ }
+    ensures { λ o. ⌜ o ≡ doneOf h next ⌝ }
 {
-    if st[COUNT] <= k as u32 {
-        return stop(st, STUCK);
-    }
-    let b = st[BASE];
-    st[sp] = st[b as usize + 1 + k as usize];
-    next
-}
-
-// The variable at `at`, as the value at sp; stuck if there is none.
-pub fn leaf(t: &[u8; SIZE], st: &mut [u32; STACK], at: usize, sp: usize) -> usize
-    requires { ⌜ (length (now st) ≡ 336) × (sp < 274) × Framed (now st) ⌝ }
-    ensures { λ r. ⌜ Answered (now (st .entry)) (heldOf (shapeAt (now (t .entry)) at) (now (st .entry))) sp (nextOf (shapeAt (now (t .entry)) at)) (now (st .exit)) r ⌝ }
-{
-    let s = shape_at(t, at);
-    match s {
-        Shape::This { next } => read_this(st, sp, next),
-        Shape::Result { next } => read_result(st, sp, next),
-        Shape::Parameter { k, next } => read_parameter(st, k, sp, next),
-        Shape::Field { f: _, next: _ } => stop(st, STUCK),
-        Shape::Call {
-            m: _,
-            n: _,
-            next: _,
-        } => stop(st, STUCK),
-        Shape::New {
-            c: _,
-            n: _,
-            next: _,
-        } => stop(st, STUCK),
-        Shape::Nothing => stop(st, STUCK),
-    }
+    let Held::Is(r) = h else {
+        return Done::Halt(Stop::Stuck);
+    };
+    Done::Value(r, next as u16)
 }

@@ -1,10 +1,11 @@
 // Running a program from its class table's bytes, with values in blocks of the work buffer.
 // Not here: the table (classes), what is done with values (values, maker), the report of a run.
-pub mod stack; // the stack of values, where the frame stands, the open calls
-pub mod frame; // frames
+pub mod frame; // frames: what the variables of a body hold
+pub mod spot; // where an evaluation stands
+pub mod trace; // the open calls and the fuel left
 pub mod met; // a call met again
 pub mod find; // the method that a call names
-pub mod fields; // fields of the value at a place of the stack
+pub mod fields; // fields of fields
 pub mod eval; // running an expression
 pub mod call; // running a call
 pub mod run; // running main
@@ -15,6 +16,18 @@ pub enum Stop {
     NoFuel,
     TooDeep,
     TooLarge,
+}
+
+// What an expression gives: a value and the place after the expression, or what the run stopped at.
+pub enum Done {
+    Value(values::ValueRef, u16),
+    Halt(Stop),
+}
+
+// What the walk of a list gives: the place after the list, its values being lent; or what the run stopped at.
+pub enum Walked {
+    After(u16),
+    Halt(Stop),
 }
 
 // What a run gives: a value, the place after its expression and the fuel left; or what it stopped at and the fuel left.

@@ -1,110 +1,143 @@
 // A call met again: an open call with the same receiver, name and arguments, the newest first.
 // Not here: when two values are equal (values), what is done with a call that is met (call).
-use crate::stack::CALLS;
-use crate::stack::STACK;
-use crate::stack::TOP;
+use crate::frame::Held;
+use crate::trace::ARGS;
+use crate::trace::CALL;
+use crate::trace::OpenCall;
+use crate::trace::TRACE;
+use crate::trace::call_at;
+use crate::trace::slots;
+use maker::Slot;
+use values::ValueRef;
 use values::lockstep::equal;
 use values::refs::unpack;
 ghost use mathlib.Core.Path.{_≡_};
-ghost use Prim.Native.Nat.{ℕ, _+_, _<_, _≤_};
-ghost use Rattle.cofj.specs.Values.{eqGraph, eqGraphs};
+ghost use Prim.Native.Nat.{ℕ, _+_, _*_, _<_, _≤_};
+ghost use lib.ListN.{length};
+ghost use Rattle.cofj.specs.Values.{eqGraphs};
 ghost use Rattle.cofj.specs.Running.{openMark};
 ghost use Rattle.values.specs.Layout.{Holds, valueOf};
 ghost use Rattle.maker.specs.Laying.{PartsHeld, valuesFrom};
-ghost use Rattle.values.specs.Refs.{refIn};
-ghost use Rattle.evaluator.specs.State.{apartOf, otherOf, refAt, argsAt, baseAt, CallHolds, CallsHold, callAt, callIn, sameOf, traceIn, metOf};
-ghost use Rattle.evaluator.specs.Stack.{topOf};
+ghost use Rattle.evaluator.specs.State.{apartOf, ApartTest, OtherTest, slotsAt, CallHolds, CallsHold, callIn, sameOf, traceIn, metOf};
 
-// Whether two numbers differ and are of one block: these never stand for one value. It costs no call.
-pub fn apart(x: u32, y: u32) -> bool
-    ensures { λ r. ⌜ r ≡ apartOf x y ⌝ }
+// Whether two values are different objects of one block: it costs no comparison of objects.
+pub(crate) fn apart(v: ValueRef, w: ValueRef) -> bool
+    ensures { λ r. ⌜ r ≡ apartOf v w ⌝ }
 {
-    if x / 256 != y / 256 {
+    let ValueRef::Object(i, b) = v else {
+        return false;
+    };
+    let ValueRef::Object(j, c) = w else {
+        return false;
+    };
+    if b != c {
         return false;
     }
-    x != y
+    i != j
 }
 
-// Whether two numbers stand for one value.
-pub fn same_value(work: &[u8], x: u32, y: u32) -> bool
-    requires { ⌜ Holds (now work) (refIn x) × Holds (now work) (refIn y) ⌝ }
-    ensures { λ r. ⌜ r ≡ eqGraph (valueOf (now (work .entry)) (refIn x)) (valueOf (now (work .entry)) (refIn y)) ⌝ }
+// Whether the first n arguments are the same.
+pub(crate) fn same_args(work: &[u8], a: [Slot; 3], b: [Slot; 3], n: u8) -> bool
+    requires { ⌜ PartsHeld (now work) a n × PartsHeld (now work) b n × (n ≤ 3) ⌝ }
+    ensures { λ r. ⌜ r ≡ eqGraphs (valuesFrom (now (work .entry)) a 0 n) (valuesFrom (now (work .entry)) b 0 n) ⌝ }
 {
-    if x == y {
-        return true;
-    }
-    equal(work, unpack(x), unpack(y))
-}
-
-// Whether the n values from place p on and those from place q on are the same.
-pub fn same_args(work: &[u8], st: &[u32; STACK], p: usize, q: usize, n: u32) -> bool
-    requires { ⌜ PartsHeld (now work) (argsAt (now st) p) n × PartsHeld (now work) (argsAt (now st) q) n × (p + 3 ≤ 336) × (q + 3 ≤ 336) × (n ≤ 3) ⌝ }
-    ensures { λ r. ⌜ r ≡ eqGraphs (valuesFrom (now (work .entry)) (argsAt (now (st .entry)) p) 0 n) (valuesFrom (now (work .entry)) (argsAt (now (st .entry)) q) 0 n) ⌝ }
-{
-    let mut i: u32 = 0;
+    let mut i: u8 = 0;
     while i < n {
-        let x = st[p + i as usize];
-        let y = st[q + i as usize];
-        if apart(x, y) {
+        let p = a[i as usize];
+        let q = b[i as usize];
+        let v = p.r;
+        let w = q.r;
+        if !equal(work, v, w) {
             return false;
-        }
-        if x != y {
-            if !same_value(work, x, y) {
-                return false;
-            }
         }
         i += 1;
     }
     true
 }
 
-// Whether call i has the receiver at sp and the n arguments after it; it has the name.
-pub fn same_call(work: &[u8], st: &[u32; STACK], i: u32, n: u32, sp: usize) -> bool
-    requires { ⌜ (i < 16) × (baseAt (now st) i + 4 ≤ 336) × CallHolds (now work) (callAt (now st) i) × (sp + 4 ≤ 336) × Holds (now work) (refAt (now st) sp) × PartsHeld (now work) (argsAt (now st) (sp + 1)) n × (n ≤ 3) ⌝ }
-    ensures { λ r. ⌜ r ≡ sameOf (callIn (now (work .entry)) 0 (callAt (now (st .entry)) i)) (valueOf (now (work .entry)) (refAt (now (st .entry)) sp)) (callAt (now (st .entry)) i .name) (valuesFrom (now (work .entry)) (argsAt (now (st .entry)) (sp + 1)) 0 n) ⌝ }
+// Whether an open call is the call of m on v with these n arguments.
+pub(crate) fn same_call(
+    work: &[u8],
+    c: OpenCall,
+    v: ValueRef,
+    m: u8,
+    args: [Slot; 3],
+    n: u8,
+) -> bool
+    requires { ⌜ CallHolds (now work) c × Holds (now work) v × PartsHeld (now work) args n × (n ≤ 3) ⌝ }
+    ensures { λ r. ⌜ r ≡ sameOf (callIn (now (work .entry)) 0 c) (valueOf (now (work .entry)) v) m (valuesFrom (now (work .entry)) args 0 n) ⌝ }
 {
-    let at = CALLS + i as usize;
-    if st[at + 16] != n {
+    if c.name != m {
         return false;
     }
-    let base = st[at + 32];
-    let b = base as usize;
-    let x = st[b];
-    let y = st[sp];
-    if x != y {
-        if !same_value(work, x, y) {
-            return false;
-        }
+    if c.n != n {
+        return false;
     }
-    same_args(work, st, b + 1, sp + 1, n)
+    let receiver = c.receiver;
+    if !equal(work, receiver, v) {
+        return false;
+    }
+    let own = c.args;
+    same_args(work, own, args, n)
 }
 
-// Whether numbers alone tell that call i has another name than m, or another receiver than the one with the number y.
-pub fn other_call(st: &[u32; STACK], i: u32, m: u32, y: u32) -> bool
-    requires { ⌜ (i < 16) × (baseAt (now st) i + 4 ≤ 336) ⌝ }
-    ensures { λ r. ⌜ r ≡ otherOf (now (st .entry)) i m y ⌝ }
+// True only if one of the n arguments of call i is apart from that of vs, all at rest.
+pub(crate) fn args_apart(tr: &[u32; TRACE], i: u8, vs: &[u32; 4], n: u8) -> bool
+    requires { ⌜ (i < 16) × (n ≤ 3) ⌝ }
+    ensures { λ r. ⌜ ApartTest (slotsAt (now (tr .entry)) (8 * i + 3)) (slotsAt (now (vs .entry)) 0) n r ⌝ }
 {
-    let at = CALLS + i as usize;
-    if st[at] != m {
+    let at = CALL * (i as usize) + ARGS;
+    let mut k: u8 = 0;
+    while k < n {
+        if apart(unpack(tr[at + k as usize]), unpack(vs[k as usize])) {
+            return true;
+        }
+        k += 1;
+    }
+    false
+}
+
+// True only if call i is not the call of m on v with the n arguments, told before it is read: by its name, its count, or a receiver or an argument that is apart.
+pub(crate) fn other_call(tr: &[u32; TRACE], i: u8, v: ValueRef, m: u8, vs: &[u32; 4], n: u8) -> bool
+    requires { ⌜ (i < 16) × (n ≤ 3) ⌝ }
+    ensures { λ r. ⌜ OtherTest (now (tr .entry)) i v m (now (vs .entry)) n r ⌝ }
+{
+    let at = CALL * (i as usize);
+    if (tr[at] % 256) as u8 != m {
         return true;
     }
-    let base = st[at + 32];
-    apart(st[base as usize], y)
+    if (tr[at + 1] % 256) as u8 != n {
+        return true;
+    }
+    if apart(unpack(tr[at + 2]), v) {
+        return true;
+    }
+    args_apart(tr, i, vs, n)
 }
 
-// The mark and 1 of the newest open call with this name, the receiver at sp and the n arguments after it; 0 if there is none.
-pub fn open_call(work: &[u8], st: &[u32; STACK], m: u32, n: u32, sp: usize) -> u32
-    requires { ⌜ CallsHold (now work) (now st) (topOf (now st)) × Holds (now work) (refAt (now st) sp) × PartsHeld (now work) (argsAt (now st) (sp + 1)) n × (sp + 4 ≤ 336) × (n ≤ 3) ⌝ }
-    ensures { λ r. ⌜ r ≡ metOf (openMark (traceIn (now (work .entry)) (now (st .entry)) (topOf (now (st .entry)))) (valueOf (now (work .entry)) (refAt (now (st .entry)) sp)) m (valuesFrom (now (work .entry)) (argsAt (now (st .entry)) (sp + 1)) 0 n)) ⌝ }
+// What meeting the newest of the first k open calls gives that is the call of m on v with the n arguments; absent if there is none.
+pub(crate) fn open_call(
+    work: &[u8],
+    tr: &[u32; TRACE],
+    k: u8,
+    v: ValueRef,
+    m: u8,
+    vs: &[u32; 4],
+    n: u8,
+) -> Held
+    requires { ⌜ CallsHold (now work) (now tr) k × Holds (now work) v × PartsHeld (now work) (slotsAt (now vs) 0) n × (n ≤ 3) ⌝ }
+    ensures { λ h. ⌜ h ≡ metOf (openMark (traceIn (now (work .entry)) (now (tr .entry)) k) (valueOf (now (work .entry)) v) m (valuesFrom (now (work .entry)) (slotsAt (now (vs .entry)) 0) 0 n)) ⌝ }
 {
-    let mut j: u32 = st[TOP];
+    let mut j: u8 = k;
     while 0 < j {
-        if !other_call(st, j - 1, m, st[sp]) {
-            if same_call(work, st, j - 1, n, sp) {
-                return j;
+        if !other_call(tr, j - 1, v, m, vs, n) {
+            let c = call_at(tr, j - 1);
+            if same_call(work, c, v, m, slots(vs), n) {
+                let g = c.gives;
+                return Held::Is(g);
             }
         }
         j -= 1;
     }
-    0
+    Held::Absent
 }

@@ -1,6 +1,7 @@
 // References to values: at rest as numbers, of a code of a block, selected from. Not here: where the numbers stand, values moved and closed (value).
 use crate::ValueRef;
 ghost use mathlib.Core.Path.{_≡_};
+ghost use Prim.Native.Nat.{_<_, _%_};
 ghost use Rattle.values.specs.Layout.{Holds};
 ghost use Rattle.values.specs.Refs.{refFrom, refIn};
 ghost use Rattle.values.specs.Operations.{Chosen};
@@ -13,7 +14,7 @@ pub enum Selected {
 
 // The number of a value at rest: which of the three it is, in the lowest byte, then what it holds. No other function but `unpack` knows it.
 pub fn pack(v: ValueRef) -> u32
-    ensures { λ x. ⌜ refIn x ≡ v ⌝ }
+    ensures { λ x. ⌜ (refIn x ≡ v) × (x % 256 < 3) ⌝ }
 {
     match v {
         ValueRef::Object(i, b) => 256 * (i as u32) + 65536 * (b as u32),

@@ -1,3 +1,4 @@
+-- Which new objects stand in block 0 from the start: a law for each return.
 use borrow.Author.Needs.{needs}
 use Rattle.evaluator.proofs.eval.is_preset.Statement.{statement}
 use Rattle.evaluator.proofs.eval.is_preset.Tie as tie
@@ -16,4 +17,10 @@ returns-3 : tie.Need-returns-3
 returns-3 c = search laws.preset-fields
 
 pub is-preset-spec : {M : Type 1} → statement M
-is-preset-spec = tie.close (tie.spec returns returns-2 (λ c κs. search needs) returns-3)
+is-preset-spec =
+    tie.close
+    (tie.spec
+    returns
+    returns-2
+    (λ c κs. search needs)
+    returns-3)

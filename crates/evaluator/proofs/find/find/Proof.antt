@@ -1,11 +1,12 @@
+-- The method that a call names: a law for each return.
 use borrow.Author.Needs.{needs}
 use Rattle.evaluator.proofs.find.find.Statement.{statement}
 use Rattle.evaluator.proofs.find.find.Tie as tie
 use Rattle.evaluator.proofs.find.find.Reads as reads
 use Rattle.evaluator.proofs.find.find.Lts as lts
 use Rattle.checker.proofs.fits.receiver.Reads as receiver-reads
-use native.Mathlib.Omega.{arith}
 use Rattle.evaluator.proofs.FindLaws as laws
+use native.Mathlib.Omega.{arith}
 
 returns : tie.Need-returns
 returns c = search laws.find-none

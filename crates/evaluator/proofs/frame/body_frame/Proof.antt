@@ -1,33 +1,23 @@
+-- The frame of a body at rest.
 use borrow.Author.Needs.{needs}
 use Rattle.evaluator.proofs.frame.body_frame.Statement.{statement}
 use Rattle.evaluator.proofs.frame.body_frame.Tie as tie
 use Rattle.evaluator.proofs.frame.body_frame.Reads as reads
 use Rattle.evaluator.proofs.frame.body_frame.Lts as lts
-use Rattle.evaluator.proofs.frame.held_mark.Reads as held-mark-reads
-use Rattle.values.proofs.refs.unpack.Reads as unpack-reads
-use Rattle.evaluator.proofs.FrameLaws as laws
+use Rattle.evaluator.proofs.frame.rest.Reads as rest-reads
+use Rattle.values.proofs.refs.pack.Reads as pack-reads
+use Rattle.evaluator.proofs.RestLaws as laws
 
 returns : tie.Need-returns
-returns c = search laws.body-is
+returns c = search laws.body-frame
 
 pub body-frame-spec : {M : Type 1} → statement M
 body-frame-spec =
     tie.close
     (tie.spec
-    (λ c. search needs)
-    (λ c. search needs)
     (λ c κs. search needs)
     (λ c κs. search needs)
     (λ c. search needs)
     (λ c. search needs)
     (λ c. search needs)
-    (λ c κs. search needs)
-    (λ c. search needs)
-    (λ c. search needs)
-    (λ c. search needs)
-    (λ c κs. search needs)
-    (λ c. search needs)
-    (λ c. search needs)
-    (λ c. search needs)
-    (λ c κs. search needs)
     returns)

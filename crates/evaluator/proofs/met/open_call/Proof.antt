@@ -1,34 +1,33 @@
+-- The trace searched for a call: the calls left, at each turn of the loop.
 use Rattle.evaluator.proofs.met.open_call.Statement.{statement}
 use Rattle.evaluator.proofs.met.open_call.Tie as tie
 use Rattle.evaluator.proofs.met.open_call.Reads as reads
 use Rattle.evaluator.proofs.met.open_call.Lts as lts
 use Rattle.evaluator.proofs.met.other_call.Reads as other-call-reads
 use Rattle.evaluator.proofs.met.same_call.Reads as same-call-reads
+use Rattle.evaluator.proofs.trace.call_at.Reads as call-at-reads
+use Rattle.evaluator.proofs.trace.slots.Reads as slots-reads
 use borrow.Author.Needs.{needs}
-use Prim.Native.Nat.{_+_, _≤_}
-use mathlib.Core.Logic.{⊎-elim}
-use Rattle.evaluator.specs.State.{refAt, argsAt}
-use Rattle.evaluator.specs.Stack.{topOf}
 use Rattle.evaluator.proofs.StateLaws as laws
 use Rattle.evaluator.proofs.StateLaws.{Left}
+use Rattle.evaluator.specs.State.{slotsAt}
+use Prim.Native.Nat.{_≤_}
+use mathlib.Core.Logic.{⊎-elim}
 
 abbrev Inv-loop : tie.InvT-loop
-Inv-loop work st m n sp j₀ j = (j ≤ 16) × Left work st (topOf st) (refAt st sp) m (argsAt st (sp + 1)) n j
+Inv-loop work tr k v m vs n j₀ j = (j ≤ 16) × Left work tr k v m (slotsAt vs 0) n j
 
 abbrev μ-loop : tie.MeasureT-loop
-μ-loop work st m n sp j₀ j = j
+μ-loop work tr k v m vs n j₀ j = j
 
 loop-holds : tie.Need-loop-holds Inv-loop μ-loop
 loop-holds c = (search laws.few-calls, search laws.left-all)
 
-other-call-requires : tie.Need-other-call-requires Inv-loop μ-loop
-other-call-requires c κs = (search needs, search laws.left-place)
-
 same-call-requires : tie.Need-same-call-requires Inv-loop μ-loop
-same-call-requires c κs = (search needs, search laws.left-place, search laws.left-last, search needs, search needs, search needs, search needs)
+same-call-requires c κs = (search laws.left-call, search needs, search laws.slots-held, search needs)
 
 returns : tie.Need-returns Inv-loop μ-loop
-returns c = let o = c .before .before .before in laws.left-found _ _ _ _ _ _ _ _ (o .before .before .before .loop .inv .1) (o .before .before .loop-test .taken) _ _ (o .other-call .ensures) (c .before .before .if1 .taken) _ (c .before .same-call .ensures) (c .if2 .taken)
+returns c = search laws.left-found
 
 loop-again : tie.Need-loop-again Inv-loop μ-loop
 loop-again c = (search needs, ⊎-elim (λ x. search laws.left-more) (λ y. search laws.left-other) (c .if1 .came))
@@ -42,13 +41,12 @@ open-call-spec =
     (tie.spec
     Inv-loop
     μ-loop
-    (λ c. search needs)
     loop-holds
     (λ c. search needs)
+    (λ c κs. search needs)
     (λ c. search needs)
-    (λ c. search needs)
-    other-call-requires
-    (λ c. search needs)
+    (λ c κs. search needs)
+    (λ c κs. search needs)
     same-call-requires
     returns
     (λ c. search needs)

@@ -1,39 +1,34 @@
+-- Arguments compared: so far they are the same, at each turn of the loop.
 use Rattle.evaluator.proofs.met.same_args.Statement.{statement}
 use Rattle.evaluator.proofs.met.same_args.Tie as tie
 use Rattle.evaluator.proofs.met.same_args.Reads as reads
 use Rattle.evaluator.proofs.met.same_args.Lts as lts
-use Rattle.evaluator.proofs.met.apart.Reads as apart-reads
-use Rattle.evaluator.proofs.met.same_value.Reads as same-value-reads
+use Rattle.values.proofs.lockstep.equal.Reads as equal-reads
 use borrow.Author.Needs.{needs}
-use mathlib.Core.Logic.{⊎-elim}
-use Prim.Native.Nat.{_≤_, _-_}
-use Rattle.evaluator.specs.State.{argsAt}
 use Rattle.evaluator.proofs.StateLaws as laws
+use Prim.Native.Nat.{_≤_, _-_}
 use Rattle.evaluator.proofs.StateLaws.{Comparing}
 
 abbrev Inv-loop : tie.InvT-loop
-Inv-loop work st p q n i₀ i = (i ≤ n) × Comparing work (argsAt st p) (argsAt st q) i n
+Inv-loop work n a b i₀ i = (i ≤ n) × Comparing work a b i n
 
 abbrev μ-loop : tie.MeasureT-loop
-μ-loop work st p q n i₀ i = n - i
+μ-loop work n a b i₀ i = n - i
 
 loop-holds : tie.Need-loop-holds Inv-loop μ-loop
 loop-holds c = (search needs, laws.args-start _ _ _ _)
 
+equal-requires : tie.Need-equal-requires Inv-loop μ-loop
+equal-requires c κs = (search laws.part-held, search laws.part-held)
+
 returns : tie.Need-returns Inv-loop μ-loop
-returns c = search laws.args-apart
-
-same-value-requires : tie.Need-same-value-requires Inv-loop μ-loop
-same-value-requires c κs = (search laws.arg-held, search laws.arg-held)
-
-returns-2 : tie.Need-returns-2 Inv-loop μ-loop
-returns-2 c = search laws.args-differ
+returns c = search laws.args-differ
 
 loop-again : tie.Need-loop-again Inv-loop μ-loop
-loop-again c = (search needs, ⊎-elim (λ x. laws.args-more _ _ _ _ _ _ (c .before .before .before .before .before .before .loop .inv .1) (c .before .before .before .before .before .before .before .before .pre .0) (c .before .before .before .before .before .before .before .before .pre .1) (c .before .before .before .before .before .before .before .before .pre .4) (c .before .before .before .before .before .loop-test .taken) _ (x .1 .ensures) (x .2 .left)) (λ y. search laws.args-equal) (c .if2 .came))
+loop-again c = (search needs, laws.args-more _ _ _ _ _ (c .before .before .before .before .before .loop .inv .1) (c .before .before .before .before .before .before .before .pre .0) (c .before .before .before .before .before .before .before .pre .1) (c .before .before .before .before .loop-test .taken) _ (c .before .equal .ensures) (c .if1 .left))
 
-returns-3 : tie.Need-returns-3 Inv-loop μ-loop
-returns-3 c = search laws.args-end
+returns-2 : tie.Need-returns-2 Inv-loop μ-loop
+returns-2 c = search laws.args-end
 
 pub same-args-spec : {M : Type 1} → statement M
 same-args-spec =
@@ -48,13 +43,9 @@ same-args-spec =
     (λ c. search needs)
     (λ c. search needs)
     (λ c. search needs)
-    (λ c. search needs)
-    (λ c. search needs)
-    (λ c κs. search needs)
+    equal-requires
     returns
-    same-value-requires
-    returns-2
     (λ c. search needs)
     (λ c. search needs)
     loop-again
-    returns-3)
+    returns-2)

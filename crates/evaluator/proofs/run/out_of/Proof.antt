@@ -1,17 +1,16 @@
+-- What a run gives: a law for each answer.
 use borrow.Author.Needs.{needs}
 use Rattle.evaluator.proofs.run.out_of.Statement.{statement}
 use Rattle.evaluator.proofs.run.out_of.Tie as tie
 use Rattle.evaluator.proofs.run.out_of.Reads as reads
 use Rattle.evaluator.proofs.run.out_of.Lts as lts
-use Rattle.values.proofs.refs.unpack.Reads as unpack-reads
-use Rattle.evaluator.proofs.run.stop_of.Reads as stop-of-reads
-use Rattle.evaluator.proofs.LeafLaws as laws
+use Rattle.evaluator.proofs.AnswerLaws as laws
 
 returns : tie.Need-returns
-returns c = search laws.out-halt
+returns c = search laws.out-value
 
 returns-2 : tie.Need-returns-2
-returns-2 c = search laws.out-value
+returns-2 c = search laws.out-halt
 
 pub out-of-spec : {M : Type 1} → statement M
 out-of-spec =
@@ -20,8 +19,5 @@ out-of-spec =
     (λ c. search needs)
     (λ c. search needs)
     (λ c. search needs)
-    (λ c κs. search needs)
     returns
-    (λ c. search needs)
-    (λ c κs. search needs)
     returns-2)

@@ -4,19 +4,19 @@ use Rattle.evaluator.proofs.run.run.Tie as tie
 use Rattle.evaluator.proofs.run.run.Reads as reads
 use Rattle.evaluator.proofs.run.run.Lts as lts
 use Rattle.evaluator.proofs.eval.eval.Reads as eval-reads
+use Rattle.evaluator.proofs.frame.main_frame.Reads as main-frame-reads
 use Rattle.evaluator.proofs.run.out_of.Reads as out-of-reads
 use Rattle.maker.proofs.bares.lay_bares.Reads as lay-bares-reads
 use Rattle.evaluator.proofs.RunLaws as laws
-use mathlib.Core.Path.{refl}
 
 eval-requires : tie.Need-eval-requires
-eval-requires c κs = laws.main-runnable _ _ (c .before .before .before .before .before .before .before .args .fuel) (laws.bare 336 _ refl) _ (c .before .before .before .before .lay-bares .ensures) (c .before .before .before .before .before .before .before .pre)
+eval-requires c κs = search (laws.main-runnable, laws.begins-full)
 
-out-of-requires : tie.Need-out-of-requires
-out-of-requires c κs = laws.fuel-fits _ _ (c .before .before .before .before .before .before .before .before .before .before .before .args .fuel) (laws.bare 336 _ refl) _ _ _ _ (c .before .before .before .eval .ensures) (search needs)
+cast-out-of-2 : tie.Need-cast-out-of-2
+cast-out-of-2 c = search (laws.fuel-fits, laws.begins-fuel)
 
 returns : tie.Need-returns
-returns c = laws.main-runs _ _ _ (laws.bare 336 _ refl) _ _ _ _ (c .before .before .before .before .eval .ensures) _ (c .before .before .before .before .before .before .before .before .before .lay-bares .ensures) _ (c .out-of .ensures)
+returns c = search (laws.main-runs, laws.begins-fuel)
 
 pub run-spec : {M : Type 1} → statement M
 run-spec =
@@ -24,9 +24,12 @@ run-spec =
     (tie.spec
     (λ c κs. search needs)
     (λ c. search needs)
+    (λ c κs. search needs)
     (λ c. search needs)
     (λ c. search needs)
     eval-requires
-    out-of-requires
+    (λ c. search needs)
+    cast-out-of-2
+    (λ c κs. search needs)
     (λ c. search needs)
     returns)

@@ -1,0 +1,75 @@
+-- The number that falls at each call in the cycle of evaluation: calls that may be opened first, then the nesting left, then the functions in their order.
+-- Not here: the cycle.
+use Prim.Native.Nat.{ℕ, _+_, _*_, _≤_, _<_}
+use native.Mathlib.Omega.{arith}
+use mathlib.Core.Path.{_≡_, sym, ap, _∙_, subst}
+use Rattle.evaluator.specs.declared.spot.Spot.{Spot}
+use mathlib.Core.List.{List}
+use Rattle.values.specs.declared.ValueRef.{ValueRef}
+use Rattle.evaluator.specs.Steps.{BodyRunnable}
+use Rattle.evaluator.specs.Spots.{innerSpot, movedSpot, downSpot, bodySpot}
+
+-- a body is nested at most 6 deep, and 6 times 600 is below 6000; the order of the functions is below 600
+abbrev pub μ : Spot → ℕ → ℕ
+μ p rank = p .calls * 6000 + p .nesting * 600 + rank
+
+-- in a call, where its nesting plays no part
+abbrev pub μ-call : Spot → ℕ → ℕ
+μ-call p rank = p .calls * 6000 + rank
+
+-- ---- one level in: from `eval`, which is 0, and from `eval_item`, which is 1
+module _ (p q : Spot) (next t : ℕ) (eq : q ≡ innerSpot p next) (nz : p .nesting ≡ 0 → ⊥) where
+  inner : (r s : ℕ) → r < 600 + s → μ p s ≡ t → μ q r < t
+  inner r s l e = subst (λ (x : Spot). μ x r < t) (sym eq) (omega (arith, nz, e))
+
+  pub eval-field-falls : μ p 0 ≡ t → μ q 2 < t
+  eval-field-falls e = inner 2 0 (omega arith) e
+
+  pub eval-new-falls : μ p 0 ≡ t → μ q 3 < t
+  eval-new-falls e = inner 3 0 (omega arith) e
+
+  pub eval-call-falls : μ p 0 ≡ t → μ q 4 < t
+  eval-call-falls e = inner 4 0 (omega arith) e
+
+  pub item-field-falls : μ p 1 ≡ t → μ q 2 < t
+  item-field-falls e = inner 2 1 (omega arith) e
+
+  pub item-new-falls : μ p 1 ≡ t → μ q 3 < t
+  item-new-falls e = inner 3 1 (omega arith) e
+
+-- ---- the same level
+pub same-falls : (p : Spot) (t : ℕ) → μ p 1 ≡ t → μ p 0 < t
+same-falls p t e = omega (arith, e)
+
+pub new-list-falls : (p : Spot) (t : ℕ) → μ p 3 ≡ t → μ p 2 < t
+new-list-falls p t e = omega (arith, e)
+
+pub call-eval-falls : (p : Spot) (t : ℕ) → μ p 4 ≡ t → μ p 0 < t
+call-eval-falls p t e = omega (arith, e)
+
+pub list-item-falls : (p q : Spot) (t : ℕ) → μ p 2 ≡ t → q .nesting ≡ p .nesting → q .calls ≡ p .calls → μ q 1 < t
+list-item-falls p q t e n c = subst (λ (x : ℕ). q .calls * 6000 + x * 600 + 1 < t) (sym n) (subst (λ (y : ℕ). y * 6000 + p .nesting * 600 + 1 < t) (sym c) (omega (arith, e)))
+
+pub field-part-falls : (p q : Spot) (d t : ℕ) → q ≡ downSpot p d → d ≤ p .nesting → μ p 2 ≡ t → μ q 1 < t
+field-part-falls p q d t eq l e = subst (λ (x : Spot). μ x 1 < t) (sym eq) (omega (arith, e))
+
+pub call-args-falls : (p q : Spot) (at b t : ℕ) → q ≡ movedSpot p at b → μ p 4 ≡ t → μ q 3 < t
+call-args-falls p q at b t eq e = subst (λ (x : Spot). μ x 3 < t) (sym eq) (omega (arith, e))
+
+module _ (p q : Spot) (at b t : ℕ) (eq : q ≡ movedSpot p at b) (e : μ p 3 ≡ t) where
+  pub args-list-falls : μ q 2 < t
+  args-list-falls = subst (λ (x : Spot). μ x 2 < t) (sym eq) (omega (arith, e))
+
+  pub args-invoke-falls : μ-call q 2 < t
+  args-invoke-falls = subst (λ (x : Spot). μ-call x 2 < t) (sym eq) (omega (arith, e))
+
+pub args-direct-falls : (p : Spot) (t : ℕ) → μ p 3 ≡ t → μ-call p 2 < t
+args-direct-falls p t e = omega (arith, e)
+
+-- ---- calls
+pub invoke-side-falls : (p : Spot) (t : ℕ) → μ-call p 2 ≡ t → μ-call p 1 < t
+invoke-side-falls p t e = omega (arith, e)
+
+module _ (W S : List ℕ) (v : ValueRef) (A : List ℕ) (n : ℕ) (p : Spot) (run : BodyRunnable W S v A n p) (q : Spot) (at k t : ℕ) (eq : q ≡ bodySpot p at k) where
+  pub side-eval-falls : μ-call p 1 ≡ t → μ q 0 < t
+  side-eval-falls e = subst (λ (x : Spot). μ x 0 < t) (sym eq) (omega (arith, run .deep, e))

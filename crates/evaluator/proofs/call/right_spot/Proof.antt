@@ -1,0 +1,20 @@
+-- Where the right side is evaluated: its place is within the table's rows.
+use borrow.Author.Needs.{needs}
+use Rattle.evaluator.proofs.call.right_spot.Statement.{statement}
+use Rattle.evaluator.proofs.call.right_spot.Tie as tie
+use Rattle.evaluator.proofs.call.right_spot.Reads as reads
+use Rattle.evaluator.proofs.call.right_spot.Lts as lts
+use Rattle.classes.proofs.methods.right_place.Reads as right-place-reads
+use Rattle.evaluator.proofs.spot.body.Reads as body-reads
+use Rattle.evaluator.proofs.CallSteps as laws
+
+returns : tie.Need-returns
+returns c = search laws.right-stands
+
+pub right-spot-spec : {M : Type 1} → statement M
+right-spot-spec =
+    tie.close
+    (tie.spec
+    (λ c κs. search needs)
+    (λ c κs. search needs)
+    returns)
