@@ -8,3 +8,7 @@ pub mod Walks
 pub mod Colouring
 pub mod Numbers
 pub mod Pairings
+pub mod Hangs
+pub mod Marks
+pub mod Splits
+pub mod Parts

@@ -1,0 +1,74 @@
+use Rattle.canon.proofs.links.group.Statement.{statement}
+use Rattle.canon.proofs.links.group.Tie as tie
+use Rattle.canon.proofs.links.group.Reads as reads
+use Rattle.canon.proofs.links.group.Lts as lts
+use Rattle.canon.proofs.links.hang.Reads as hang-reads
+use Rattle.canon.proofs.links.hash.Reads as hash-reads
+use Rattle.canon.proofs.links.like_before.Reads as like-before-reads
+use borrow.Author.Needs.{needs}
+use mathlib.Core.Path.{_≡_, _∙_, refl}
+use Prim.Native.Nat.{_≤_, _<_, _-_}
+use native.Mathlib.Omega.{arith}
+use lib.ListN.{length}
+use Rattle.canon.specs.Links.{Chained, Hung, Grouped}
+use Rattle.canon.proofs.Hangs as laws
+
+abbrev Inv-loop : tie.InvT-loop
+Inv-loop raw n t₀ links₀ last₀ x₀ t links last x = (length t ≡ length t₀) × (length links ≡ length links₀) × (length last ≡ length last₀) × (0 < x) × (x ≤ n) × Chained raw x last t × Hung n 4 x links × Grouped raw x links × laws.Rest links₀ links
+
+abbrev μ-loop : tie.MeasureT-loop
+μ-loop raw n t₀ links₀ last₀ x₀ t links last x = n - x
+
+loop-holds : tie.Need-loop-holds Inv-loop μ-loop
+loop-holds c = (search needs, search needs, search needs, search needs, search needs, laws.chain-start _ _ _ ((c .before .before .before .before) .pre .4), (c .before .before .before .before) .pre .1, laws.group-start _ _, laws.rest-refl _)
+
+hash-requires : tie.Need-hash-requires Inv-loop μ-loop
+hash-requires c κs = omega (arith, (c .before .before .before .before .before .before) .pre .0 .room)
+
+slice-read-l : tie.Need-slice-read-l Inv-loop μ-loop
+slice-read-l c = omega (arith, laws.hash-small _ _ _ ((c .before) .hash .ensures))
+
+like-before-requires : tie.Need-like-before-requires Inv-loop μ-loop
+like-before-requires c κs = laws.group-sought _ _ _ _ _ _ _ ((c .before .before .before .before .before .before .before .before .before .before) .pre .0) ((c .before .before .before .before .before) .loop .inv .6) ((c .before .before .before .before .before) .loop .inv .3) ((c .before .before .before .before) .loop-test .taken) (omega arith) ((c .before .before .before .before .before) .loop .inv .5) ((c .before .before .before .before .before) .loop .inv .7) ((c .before .before .before) .hash .ensures)
+
+hang-requires : tie.Need-hang-requires Inv-loop μ-loop
+hang-requires c κs = ((c .before .before .before .before .before .before .before) .loop .inv .6, search needs, search needs, search needs, (c .before) .like-before .ensures .low)
+
+slice-write-last : tie.Need-slice-write-last Inv-loop μ-loop
+slice-write-last c = omega (arith, laws.hash-small _ _ _ ((c .before .before .before .before .before .before .before .before) .hash .ensures))
+
+loop-again : tie.Need-loop-again Inv-loop μ-loop
+loop-again c = (search needs, ((c .before .before) .hang .ensures .size) ∙ ((c .before .before .before .before .before .before .before .before .before .before) .loop .inv .1), search needs, search needs, search needs, laws.chain-more _ _ _ _ _ _ _ ((c .before .before .before .before .before .before .before .before .before .before) .loop .inv .5) ((c .before .before .before .before .before .before .before .before .before .before) .loop .inv .3) ((c .before .before .before .before .before .before .before .before .before) .loop-test .taken) (omega arith) (omega arith) ((c .before .before .before .before .before .before .before .before) .hash .ensures) refl, (c .before .before) .hang .ensures .hung, laws.group-more _ _ _ _ _ _ ((c .before .before .before .before .before .before .before .before .before .before) .loop .inv .7) ((c .before .before .before .before) .like-before .ensures) ((c .before .before) .hang .ensures), laws.rest-more _ _ _ _ _ _ ((c .before .before .before .before .before .before .before .before .before .before) .loop .inv .8) ((c .before .before) .hang .ensures))
+
+returns : tie.Need-returns Inv-loop μ-loop
+returns c = laws.group-done _ _ _ _ _ ((c .before) .loop .inv .1) ((c .before) .loop .inv .6) ((c .before) .loop .inv .7) ((c .before) .loop .inv .8) (c .loop-test .left) ((c .before) .loop .inv .4)
+
+pub group-spec : {M : Type 1} → statement M
+group-spec =
+    tie.close
+    (tie.spec
+    Inv-loop
+    μ-loop
+    loop-holds
+    (λ c. search needs)
+    hash-requires
+    (λ c. search needs)
+    (λ c. search needs)
+    slice-read-l
+    like-before-requires
+    hang-requires
+    (λ c. search needs)
+    (λ c. search needs)
+    (λ c. search needs)
+    (λ c. search needs)
+    (λ c. search needs)
+    (λ c. search needs)
+    (λ c. search needs)
+    slice-write-last
+    (λ c. search needs)
+    (λ c. search needs)
+    loop-again
+    (λ c. search needs)
+    (λ c. search needs)
+    (λ c. search needs)
+    returns)
