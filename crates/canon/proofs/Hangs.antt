@@ -435,7 +435,12 @@ rest-more n x r K K1 K2 a h = record { each = λ g l. field-then g K K1 K2 (a .e
 
 pub group-sought : (N T K H : List ℕ) (n x h : ℕ) → Codes N n → Hung n 4 x K → 0 < x → x < n → 8 * n ≤ length T → Chained N x H T → Grouped N x K → h ≡ hashOf N (x - 1) → Sought N T K n x h (getD H h 0)
 group-sought N T K H n x h c k pos hx room ch g e = record {
-  codes = c; roomT = room; roomK = k .room; pos = pos; small = hx; is = e;
+  codes = c;
+  roomT = room;
+  roomK = k .room;
+  pos = pos;
+  small = hx;
+  is = e;
   nexts = ch .nexts;
   start = ch .heads h (hash-small N (x - 1) h e);
   low = k .low;

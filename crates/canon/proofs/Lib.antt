@@ -7,8 +7,8 @@ pub mod Rounds
 pub mod Walks
 pub mod Colouring
 pub mod Numbers
-pub mod Pairings
 pub mod Hangs
 pub mod Marks
 pub mod Splits
 pub mod Parts
+pub mod Classing

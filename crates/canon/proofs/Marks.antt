@@ -91,7 +91,10 @@ module _ (n m : ℕ) (T : List ℕ) (k : Classes n m T) (z c a l : ℕ) (fd : Fo
 module _ (n m z : ℕ) (T : List ℕ) (k : Classes n m T) (hz : z < n) where
   pub mark-there : (c a l : ℕ) → c ≡ getD T (8 * z) 0 → a ≡ getD T (8 * c + 4) 0 → l ≡ getD T (8 * z + 1) 0 → l < a → Brought n m T T (λ x. x ≡ z)
   mark-there c a l ec ea el h = record {
-    classes = k; same = refl; cls = λ x l. refl; keep = λ x l f. f;
+    classes = k;
+    same = refl;
+    cls = λ x l. refl;
+    keep = λ x l f. f;
     only = λ x l f d. absurd (d f);
     all = λ x l e. subst (Front T) (sym e) (record { at = omega (arith, el, ea, ap (λ (y : ℕ). getD T (8 * y + 4) 0) ec) });
   }
@@ -373,14 +376,20 @@ brought-then n m T T1 T2 P Q R a b p q r = record {
 
 pub brought-as : (n m : ℕ) (T T1 : List ℕ) (P R : ℕ → Type 0) → Brought n m T T1 P → ((x : ℕ) → x < n → P x → R x) → ((x : ℕ) → x < n → R x → P x) → Brought n m T T1 R
 brought-as n m T T1 P R a p r = record {
-  classes = a .classes; same = a .same; cls = a .cls; keep = a .keep;
+  classes = a .classes;
+  same = a .same;
+  cls = a .cls;
+  keep = a .keep;
   only = λ x h f d. p x h (a .only x h f d);
   all = λ x h t. a .all x h (r x h t);
 }
 
 pub brought-none : (n m : ℕ) (T : List ℕ) (P : ℕ → Type 0) → Classes n m T → ((x : ℕ) → x < n → P x → ⊥) → Brought n m T T P
 brought-none n m T P k never = record {
-  classes = k; same = refl; cls = λ x h. refl; keep = λ x h f. f;
+  classes = k;
+  same = refl;
+  cls = λ x h. refl;
+  keep = λ x h f. f;
   only = λ x h f d. absurd (d f);
   all = λ x h p. absurd (never x h p);
 }

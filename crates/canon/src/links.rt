@@ -85,15 +85,7 @@ pub fn refers_to(links: &[u16], f: u16, x: u16) -> u16
 }
 
 // The first row of those that look as row x does, if one below x does, which are listed from `from` on; else x.
-pub fn like_before(
-    raw: &[u8],
-    t: &[u16],
-    links: &[u16],
-    n: u16,
-    x: u16,
-    h: u16,
-    from: u16,
-) -> u16
+pub fn like_before(raw: &[u8], t: &[u16], links: &[u16], n: u16, x: u16, h: u16, from: u16) -> u16
     requires { ⌜ Sought (now raw) (now t) (now links) n x h from ⌝ }
     ensures { λ r. ⌜ LikeBefore (now (raw .entry)) n x (now (links .entry)) r ⌝ }
 {
