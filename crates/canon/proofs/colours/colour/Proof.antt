@@ -10,7 +10,11 @@ use native.Mathlib.Omega.{arith}
 use Rattle.canon.proofs.Classing as laws
 
 returns : tie.Need-returns
-returns c = laws.steady-colours _ _ ((c .before .before .before .before .before .before .before .before .before) .pre .0) _ (omega arith) ((c .before .before .before .before .before) .part-own .ensures) ((c .before) .steady .ensures .yes (c .if1 .taken))
+returns c =
+    let after-steady = c .before in
+    let after-part-own = after-steady .before .before .before .before in
+    let start = after-part-own .before .before .before .before in
+    laws.steady-colours _ _ (start .pre .0) _ (omega arith) (after-part-own .part-own .ensures) (after-steady .steady .ensures .yes (c .if1 .taken))
 
 pub colour-spec : {M : Type 1} → statement M
 colour-spec =

@@ -26,19 +26,38 @@ add-k : tie.Need-add-k Inv-loop μ-loop
 add-k c = omega (arith, laws.square-fits _ ((c .before .before .before .before) .pre .0 .few))
 
 loop-holds : tie.Need-loop-holds Inv-loop μ-loop
-loop-holds c = (search needs, search needs, search needs, search needs, search needs, laws.going-start _ _ ((c .before .before .before .before) .pre .0) _ ((c .before .before .before .before) .pre .1))
+loop-holds c =
+    let start = c .before .before .before .before in
+    (search needs, search needs, search needs, search needs, search needs, laws.going-start _ _ (start .pre .0) _ (start .pre .1))
 
 round-requires : tie.Need-round-requires Inv-loop μ-loop
-round-requires c κs = ((c .before .before .before .before .before .before .before .before .before) .pre .0, laws.coarse-below _ _ ((c .before .before .before .before .before .before .before .before .before) .pre .0) _ ((c .before .before .before .before) .loop .inv .5 .coarse) ((c .before .before .before .before) .loop .inv .0), (c .before .before .before .before) .loop .inv .4)
+round-requires c κs =
+    let head = c .before .before .before .before in
+    let start = head .before .before .before .before .before in
+    (start .pre .0, laws.coarse-below _ _ (start .pre .0) _ (head .loop .inv .5 .coarse) (head .loop .inv .0), head .loop .inv .4)
 
 returns : tie.Need-returns Inv-loop μ-loop
-returns c = laws.settle-still _ _ ((c .before .before .before .before .before .before .before .before .before .before .before .before .before .before .before .before .before .before) .pre .0) _ ((c .before .before .before .before .before .before .before .before .before .before .before .before .before) .loop .inv .0) _ _ ((c .before .before .before .before .before .before .before .before .before .before .before .before .before) .loop .inv .5 .coarse) ((c .before .before .before .before .before .before .before .before) .round .ensures) ((c .before) .same .ensures) (c .if1 .taken)
+returns c =
+    let after-same = c .before in
+    let after-round = after-same .before .before .before .before .before .before .before in
+    let head = after-round .before .before .before .before .before in
+    let start = head .before .before .before .before .before in
+    laws.settle-still _ _ (start .pre .0) _ (head .loop .inv .0) _ _ (head .loop .inv .5 .coarse) (after-round .round .ensures) (after-same .same .ensures) (c .if1 .taken)
 
 loop-again : tie.Need-loop-again Inv-loop μ-loop
-loop-again c = (omega (arith, (c .before .before .before .before .before .before .before .before .before .before .before .before .before .before .before .before .before .before) .loop .inv .0), omega (arith, (c .before .before .before .before .before .before .before .before .before .before .before .before .before .before .before .before .before .before) .loop .inv .1), omega (arith, (c .before .before .before .before .before .before .before .before .before .before .before .before .before .before .before .before .before .before) .loop .inv .2, (c .before .before .before .before .before .before .before .before .before .before .before .before .before) .round .kept .1 .1 .1 .0), omega (arith, (c .before .before .before .before .before .before .before .before .before .before .before .before .before .before .before .before .before .before) .loop .inv .3, (c .before .before .before .before .before .before .before .before .before .before .before .before .before) .round .kept .1 .1 .1 .1 .0), record { looks = omega (arith, (c .before .before .before .before .before .before .before .before .before .before .before .before .before .before .before .before .before .before) .loop .inv .4 .looks, (c .before .before .before .before .before .before .before .before .before .before .before .before .before) .round .kept .1 .1 .1 .0); next = omega (arith, (c .before .before .before .before .before .before .before .before .before .before .before .before .before .before .before .before .before .before) .loop .inv .4 .next, (c .before .before .before .before .before .before .before .before .before .before .before .before .before) .round .kept .1 .1 .1 .1 .0) }, laws.going-more _ _ ((c .before .before .before .before .before .before .before .before .before .before .before .before .before .before .before .before .before .before .before .before .before .before .before) .pre .0) _ ((c .before .before .before .before .before .before .before .before .before .before .before .before .before .before .before .before .before .before) .loop .inv .0) _ (laws.copied-is _ _ ((c .before .before .before .before .before .before .before .before .before .before .before .before .before .before .before .before .before .before .before .before .before .before .before) .pre .0) _ _ _ ((c .before .before) .copy .ensures) (omega (arith, (c .before .before .before .before .before .before .before .before .before .before .before .before .before .before .before .before .before .before) .loop .inv .0)) (omega (arith, (c .before .before .before .before .before .before .before .before .before .before .before .before .before .before .before .before .before .before) .loop .inv .4 .next, (c .before .before .before .before .before .before .before .before .before .before .before .before .before) .round .kept .1 .1 .1 .1 .0)) ((c .before .before .before .before .before .before .before .before .before .before .before .before .before) .round .ensures)) _ ((c .before .before .before .before .before .before .before .before .before .before .before .before .before .before .before .before .before) .loop-test .taken) ((c .before .before .before .before .before .before .before .before .before .before .before .before .before .before .before .before .before .before) .loop .inv .5))
+loop-again c =
+    let after-copy = c .before .before in
+    let after-round = after-copy .before .before .before .before .before .before .before .before .before .before .before in
+    let turn = after-round .before .before .before .before in
+    let head = turn .before in
+    let start = head .before .before .before .before .before in
+    (omega (arith, head .loop .inv .0), omega (arith, head .loop .inv .1), omega (arith, head .loop .inv .2, after-round .round .kept .1 .1 .1 .0), omega (arith, head .loop .inv .3, after-round .round .kept .1 .1 .1 .1 .0), record { looks = omega (arith, head .loop .inv .4 .looks, after-round .round .kept .1 .1 .1 .0); next = omega (arith, head .loop .inv .4 .next, after-round .round .kept .1 .1 .1 .1 .0) }, laws.going-more _ _ (start .pre .0) _ (head .loop .inv .0) _ (laws.copied-is _ _ (start .pre .0) _ _ _ (after-copy .copy .ensures) (omega (arith, head .loop .inv .0)) (omega (arith, head .loop .inv .4 .next, after-round .round .kept .1 .1 .1 .1 .0)) (after-round .round .ensures)) _ (turn .loop-test .taken) (head .loop .inv .5))
 
 returns-2 : tie.Need-returns-2 Inv-loop μ-loop
-returns-2 c = laws.settle-done _ _ ((c .before .before .before .before .before .before) .pre .0) _ ((c .before) .loop .inv .0) _ ((c .before) .loop .inv .5) (c .loop-test .left)
+returns-2 c =
+    let head = c .before in
+    let start = head .before .before .before .before .before in
+    laws.settle-done _ _ (start .pre .0) _ (head .loop .inv .0) _ (head .loop .inv .5) (c .loop-test .left)
 
 pub settle-spec : {M : Type 1} → statement M
 settle-spec =

@@ -10,10 +10,16 @@ returns : tie.Need-returns
 returns c = laws.known-not _ _ _ _ (c .if1 .taken)
 
 returns-2 : tie.Need-returns-2
-returns-2 c = laws.known-yes _ _ _ _ _ ((c .before .before) .if1 .left) ((c .before) .class-of .ensures) (c .if2 .taken)
+returns-2 c =
+    let after-class-of = c .before in
+    let else1 = after-class-of .before in
+    laws.known-yes _ _ _ _ _ (else1 .if1 .left) (after-class-of .class-of .ensures) (c .if2 .taken)
 
 returns-3 : tie.Need-returns-3
-returns-3 c = laws.known-other _ _ _ _ _ ((c .before .before) .if1 .left) ((c .before) .class-of .ensures) (c .if2 .left)
+returns-3 c =
+    let after-class-of = c .before in
+    let else1 = after-class-of .before in
+    laws.known-other _ _ _ _ _ (else1 .if1 .left) (after-class-of .class-of .ensures) (c .if2 .left)
 
 pub known-spec : {M : Type 1} → statement M
 known-spec =

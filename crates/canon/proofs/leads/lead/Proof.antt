@@ -25,7 +25,11 @@ class-of-requires : tie.Need-class-of-requires Inv-loop μ-loop
 class-of-requires c κs = omega (arith, (c .before .before .before .before .before) .pre .0 .placed .room)
 
 cell-requires : tie.Need-cell-requires Inv-loop μ-loop
-cell-requires c κs = (omega (arith, laws.lead-class _ _ _ _ _ _ _ ((c .before .before .before .before .before .before .before) .pre .0) ((c .before .before .before .before) .loop .inv .3) (omega arith) ((c .before) .class-of .ensures)), search needs)
+cell-requires c κs =
+    let after-class-of = c .before in
+    let head = after-class-of .before .before .before in
+    let start = head .before .before .before in
+    (omega (arith, laws.lead-class _ _ _ _ _ _ _ (start .pre .0) (head .loop .inv .3) (omega arith) (after-class-of .class-of .ensures)), search needs)
 
 known-requires : tie.Need-known-requires Inv-loop μ-loop
 known-requires c κs = omega (arith, (c .before .before .before .before .before .before .before .before .before) .pre .0 .placed .room)
@@ -34,13 +38,28 @@ cast-cs : tie.Need-cast-cs Inv-loop μ-loop
 cast-cs c = omega (arith, (c .before) .known .ensures .below (c .if1 .taken))
 
 loop-again : tie.Need-loop-again Inv-loop μ-loop
-loop-again c = (search needs, search needs, search needs, laws.lead-met _ _ _ _ _ _ ((c .before .before .before .before .before .before .before .before) .loop .inv .3) ((c .before .before .before .before .before) .class-of .ensures) ((c .before .before .before) .cell .ensures) (omega arith) _ ((c .before) .known .ensures) ((c) .if1 .taken))
+loop-again c =
+    let after-known = c .before in
+    let after-cell = after-known .before .before in
+    let after-class-of = after-cell .before .before in
+    let head = after-class-of .before .before .before in
+    (search needs, search needs, search needs, laws.lead-met _ _ _ _ _ _ (head .loop .inv .3) (after-class-of .class-of .ensures) (after-cell .cell .ensures) (omega arith) _ (after-known .known .ensures) (c .if1 .taken))
 
 slice-write-t : tie.Need-slice-write-t Inv-loop μ-loop
-slice-write-t c = omega (arith, laws.lead-class _ _ _ _ _ _ _ ((c .before .before .before .before .before .before .before .before .before .before .before) .pre .0) ((c .before .before .before .before .before .before .before .before) .loop .inv .3) (omega arith) ((c .before .before .before .before .before) .class-of .ensures))
+slice-write-t c =
+    let after-class-of = c .before .before .before .before .before in
+    let head = after-class-of .before .before .before in
+    let start = head .before .before .before in
+    omega (arith, laws.lead-class _ _ _ _ _ _ _ (start .pre .0) (head .loop .inv .3) (omega arith) (after-class-of .class-of .ensures))
 
 loop-again-2 : tie.Need-loop-again-2 Inv-loop μ-loop
-loop-again-2 c = (search needs, search needs, search needs, laws.lead-new _ _ _ _ _ _ ((c .before .before .before .before .before .before .before .before) .loop .inv .3) ((c .before .before .before .before .before) .class-of .ensures) ((c .before .before .before) .cell .ensures) (omega arith) _ ((c .before) .known .ensures) ((c) .if1 .left) (omega (arith, laws.lead-class _ _ _ _ _ _ _ ((c .before .before .before .before .before .before .before .before .before .before .before) .pre .0) ((c .before .before .before .before .before .before .before .before) .loop .inv .3) (omega arith) ((c .before .before .before .before .before) .class-of .ensures))))
+loop-again-2 c =
+    let after-known = c .before in
+    let after-cell = after-known .before .before in
+    let after-class-of = after-cell .before .before in
+    let head = after-class-of .before .before .before in
+    let start = head .before .before .before in
+    (search needs, search needs, search needs, laws.lead-new _ _ _ _ _ _ (head .loop .inv .3) (after-class-of .class-of .ensures) (after-cell .cell .ensures) (omega arith) _ (after-known .known .ensures) (c .if1 .left) (omega (arith, laws.lead-class _ _ _ _ _ _ _ (start .pre .0) (head .loop .inv .3) (omega arith) (after-class-of .class-of .ensures))))
 
 returns : tie.Need-returns Inv-loop μ-loop
 returns c = laws.lead-done _ _ _ _ _ ((c .before) .loop .inv .3) (c .loop-test .left)

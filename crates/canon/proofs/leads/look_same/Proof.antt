@@ -21,10 +21,19 @@ loop-holds : tie.Need-loop-holds Inv-loop μ-loop
 loop-holds c = (search needs, laws.alike-none _ _ _ _)
 
 returns : tie.Need-returns Inv-loop μ-loop
-returns c = laws.alike-not _ _ _ _ _ _ _ ((c .before .before .before .before .before .before) .loop .inv .1) ((c .before .before .before) .part-of .ensures) ((c .before) .part-of2 .ensures) ((c .before .before .before .before .before) .loop-test .taken) (c .if1 .taken)
+returns c =
+    let after-part-of2 = c .before in
+    let after-part-of = after-part-of2 .before .before in
+    let turn = after-part-of .before .before in
+    let head = turn .before in
+    laws.alike-not _ _ _ _ _ _ _ (head .loop .inv .1) (after-part-of .part-of .ensures) (after-part-of2 .part-of2 .ensures) (turn .loop-test .taken) (c .if1 .taken)
 
 loop-again : tie.Need-loop-again Inv-loop μ-loop
-loop-again c = (search needs, laws.alike-more _ _ _ _ _ _ _ ((c .before .before .before .before .before .before) .loop .inv .1) ((c .before .before .before) .part-of .ensures) ((c .before) .part-of2 .ensures) (c .if1 .left))
+loop-again c =
+    let after-part-of2 = c .before in
+    let after-part-of = after-part-of2 .before .before in
+    let head = after-part-of .before .before .before in
+    (search needs, laws.alike-more _ _ _ _ _ _ _ (head .loop .inv .1) (after-part-of .part-of .ensures) (after-part-of2 .part-of2 .ensures) (c .if1 .left))
 
 returns-2 : tie.Need-returns-2 Inv-loop μ-loop
 returns-2 c = laws.alike-all _ _ _ _ _ ((c .before) .loop .inv .1) (c .loop-test .left)

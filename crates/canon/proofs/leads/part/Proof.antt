@@ -15,7 +15,14 @@ link-requires : tie.Need-link-requires
 link-requires c κs = (laws.raw-codes _ _ ((c .before .before .before .before .before .before) .pre .0), search needs, search needs, search needs)
 
 returns : tie.Need-returns
-returns c = laws.parted-coarse _ _ ((c .before .before .before .before .before .before .before .before .before .before .before .before .before .before .before .before .before .before .before .before .before .before .before .before .before .before .before .before .before .before .before .before) .pre .0) _ ((c .before .before .before .before .before .before .before .before .before .before .before .before .before .before .before .before .before .before .before .before .before .before .before .before .before) .link .ensures .0) _ _ _ _ _ _ ((c .before .before .before .before .before .before .before .before .before .before .before .before .before .before .before .before .before .before .before) .begin .ensures) ((c .before .before .before .before .before .before .before .before .before .before .before .before .before .before) .part-looks .ensures) ((c .before .before .before .before .before .before .before .before .before) .part-fields .ensures) ((c .before .before .before .before) .lead .ensures)
+returns c =
+    let after-lead = c .before .before .before .before in
+    let after-part-fields = after-lead .before .before .before .before .before in
+    let after-part-looks = after-part-fields .before .before .before .before .before in
+    let after-begin = after-part-looks .before .before .before .before .before in
+    let after-link = after-begin .before .before .before .before .before .before in
+    let start = after-link .before .before .before .before .before .before .before in
+    laws.parted-coarse _ _ (start .pre .0) _ (after-link .link .ensures .0) _ _ _ _ _ _ (after-begin .begin .ensures) (after-part-looks .part-looks .ensures) (after-part-fields .part-fields .ensures) (after-lead .lead .ensures)
 
 pub part-spec : {M : Type 1} → statement M
 part-spec =

@@ -24,7 +24,10 @@ returns : tie.Need-returns Inv-loop μ-loop
 returns c = laws.steady-not _ _ _
 
 loop-again : tie.Need-loop-again Inv-loop μ-loop
-loop-again c = (search needs, laws.steady-more _ _ _ _ ((c .before .before .before .before .before) .loop .inv .1) ((c .before) .look-same .ensures) (not-false _ (c .if2 .left)))
+loop-again c =
+    let after-look-same = c .before in
+    let head = after-look-same .before .before .before .before in
+    (search needs, laws.steady-more _ _ _ _ (head .loop .inv .1) (after-look-same .look-same .ensures) (not-false _ (c .if2 .left)))
 
 loop-again-2 : tie.Need-loop-again-2 Inv-loop μ-loop
 loop-again-2 c = (search needs, laws.steady-own _ _ _ ((c .before .before .before) .loop .inv .1) ((c) .if1 .left))

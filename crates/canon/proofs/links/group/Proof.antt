@@ -20,7 +20,9 @@ abbrev μ-loop : tie.MeasureT-loop
 μ-loop raw n t₀ links₀ last₀ x₀ t links last x = n - x
 
 loop-holds : tie.Need-loop-holds Inv-loop μ-loop
-loop-holds c = (search needs, search needs, search needs, search needs, search needs, laws.chain-start _ _ _ ((c .before .before .before .before) .pre .4), (c .before .before .before .before) .pre .1, laws.group-start _ _, laws.rest-refl _)
+loop-holds c =
+    let start = c .before .before .before .before in
+    (search needs, search needs, search needs, search needs, search needs, laws.chain-start _ _ _ (start .pre .4), start .pre .1, laws.group-start _ _, laws.rest-refl _)
 
 hash-requires : tie.Need-hash-requires Inv-loop μ-loop
 hash-requires c κs = omega (arith, (c .before .before .before .before .before .before) .pre .0 .room)
@@ -29,19 +31,35 @@ slice-read-l : tie.Need-slice-read-l Inv-loop μ-loop
 slice-read-l c = omega (arith, laws.hash-small _ _ _ ((c .before) .hash .ensures))
 
 like-before-requires : tie.Need-like-before-requires Inv-loop μ-loop
-like-before-requires c κs = laws.group-sought _ _ _ _ _ _ _ ((c .before .before .before .before .before .before .before .before .before .before) .pre .0) ((c .before .before .before .before .before) .loop .inv .6) ((c .before .before .before .before .before) .loop .inv .3) ((c .before .before .before .before) .loop-test .taken) (omega arith) ((c .before .before .before .before .before) .loop .inv .5) ((c .before .before .before .before .before) .loop .inv .7) ((c .before .before .before) .hash .ensures)
+like-before-requires c κs =
+    let after-hash = c .before .before .before in
+    let turn = after-hash .before in
+    let head = turn .before in
+    let start = head .before .before .before .before .before in
+    laws.group-sought _ _ _ _ _ _ _ (start .pre .0) (head .loop .inv .6) (head .loop .inv .3) (turn .loop-test .taken) (omega arith) (head .loop .inv .5) (head .loop .inv .7) (after-hash .hash .ensures)
 
 hang-requires : tie.Need-hang-requires Inv-loop μ-loop
-hang-requires c κs = ((c .before .before .before .before .before .before .before) .loop .inv .6, search needs, search needs, search needs, (c .before) .like-before .ensures .low)
+hang-requires c κs =
+    let after-like-before = c .before in
+    let head = after-like-before .before .before .before .before .before .before in
+    (head .loop .inv .6, search needs, search needs, search needs, after-like-before .like-before .ensures .low)
 
 slice-write-last : tie.Need-slice-write-last Inv-loop μ-loop
 slice-write-last c = omega (arith, laws.hash-small _ _ _ ((c .before .before .before .before .before .before .before .before) .hash .ensures))
 
 loop-again : tie.Need-loop-again Inv-loop μ-loop
-loop-again c = (search needs, ((c .before .before) .hang .ensures .size) ∙ ((c .before .before .before .before .before .before .before .before .before .before) .loop .inv .1), search needs, search needs, search needs, laws.chain-more _ _ _ _ _ _ _ ((c .before .before .before .before .before .before .before .before .before .before) .loop .inv .5) ((c .before .before .before .before .before .before .before .before .before .before) .loop .inv .3) ((c .before .before .before .before .before .before .before .before .before) .loop-test .taken) (omega arith) (omega arith) ((c .before .before .before .before .before .before .before .before) .hash .ensures) refl, (c .before .before) .hang .ensures .hung, laws.group-more _ _ _ _ _ _ ((c .before .before .before .before .before .before .before .before .before .before) .loop .inv .7) ((c .before .before .before .before) .like-before .ensures) ((c .before .before) .hang .ensures), laws.rest-more _ _ _ _ _ _ ((c .before .before .before .before .before .before .before .before .before .before) .loop .inv .8) ((c .before .before) .hang .ensures))
+loop-again c =
+    let after-hang = c .before .before in
+    let after-like-before = after-hang .before .before in
+    let after-hash = after-like-before .before .before .before .before in
+    let turn = after-hash .before in
+    let head = turn .before in
+    (search needs, (after-hang .hang .ensures .size) ∙ (head .loop .inv .1), search needs, search needs, search needs, laws.chain-more _ _ _ _ _ _ _ (head .loop .inv .5) (head .loop .inv .3) (turn .loop-test .taken) (omega arith) (omega arith) (after-hash .hash .ensures) refl, after-hang .hang .ensures .hung, laws.group-more _ _ _ _ _ _ (head .loop .inv .7) (after-like-before .like-before .ensures) (after-hang .hang .ensures), laws.rest-more _ _ _ _ _ _ (head .loop .inv .8) (after-hang .hang .ensures))
 
 returns : tie.Need-returns Inv-loop μ-loop
-returns c = laws.group-done _ _ _ _ _ ((c .before) .loop .inv .1) ((c .before) .loop .inv .6) ((c .before) .loop .inv .7) ((c .before) .loop .inv .8) (c .loop-test .left) ((c .before) .loop .inv .4)
+returns c =
+    let head = c .before in
+    laws.group-done _ _ _ _ _ (head .loop .inv .1) (head .loop .inv .6) (head .loop .inv .7) (head .loop .inv .8) (c .loop-test .left) (head .loop .inv .4)
 
 pub group-spec : {M : Type 1} → statement M
 group-spec =

@@ -9,7 +9,9 @@ use lib.ListN.{length-set}
 use Rattle.canon.proofs.Hangs as laws
 
 returns : tie.Need-returns
-returns c = laws.hang-leaf _ _ _ _ _ ((c .before .before) .pre .0) ((c .before .before) .pre .1) ((c .before .before) .pre .2) ((c .before .before) .pre .3) ((c .before .before) .pre .4) (c .if1 .taken)
+returns c =
+    let start = c .before .before in
+    laws.hang-leaf _ _ _ _ _ (start .pre .0) (start .pre .1) (start .pre .2) (start .pre .3) (start .pre .4) (c .if1 .taken)
 
 last-into-requires : tie.Need-last-into-requires
 last-into-requires c κs = (simp length-set (omega (arith, (c .before .before .before) .pre .0 .room)), search needs)
@@ -21,7 +23,10 @@ slice-write-links-3 : tie.Need-slice-write-links-3
 slice-write-links-3 c = simp length-set (omega (arith, (c .before .before .before .before) .pre .0 .room))
 
 returns-2 : tie.Need-returns-2
-returns-2 c = laws.hang-object _ _ _ _ _ ((c .before .before .before .before) .pre .0) ((c .before .before .before .before) .pre .1) ((c .before .before .before .before) .pre .2) ((c .before .before .before .before) .pre .3) ((c .before .before .before .before) .pre .4) _ ((c) .last-into .ensures) ((c .before .before) .if1 .left)
+returns-2 c =
+    let else1 = c .before .before in
+    let start = else1 .before .before in
+    laws.hang-object _ _ _ _ _ (start .pre .0) (start .pre .1) (start .pre .2) (start .pre .3) (start .pre .4) _ (c .last-into .ensures) (else1 .if1 .left)
 
 pub hang-spec : {M : Type 1} → statement M
 hang-spec =

@@ -7,7 +7,12 @@ use Rattle.canon.proofs.links.show.Reads as show-reads
 use Rattle.canon.proofs.Hangs as laws
 
 returns : tie.Need-returns
-returns c = laws.hash-is _ _ _ _ _ _ _ ((c .before .before .before .before .before .before .before .before) .show .ensures) ((c .before .before .before .before .before .before) .show2 .ensures) ((c .before .before .before .before) .show3 .ensures) ((c .before .before) .show4 .ensures) ((c) .show5 .ensures)
+returns c =
+    let after-show4 = c .before .before in
+    let after-show3 = after-show4 .before .before in
+    let after-show2 = after-show3 .before .before in
+    let after-show = after-show2 .before .before in
+    laws.hash-is _ _ _ _ _ _ _ (after-show .show .ensures) (after-show2 .show2 .ensures) (after-show3 .show3 .ensures) (after-show4 .show4 .ensures) (c .show5 .ensures)
 
 pub hash-spec : {M : Type 1} → statement M
 hash-spec =

@@ -24,25 +24,53 @@ sub-look-alike : tie.Need-sub-look-alike Inv-loop μ-loop
 sub-look-alike c = omega (arith, (c .before .before .before .before .before) .pre .pos)
 
 look-alike-requires : tie.Need-look-alike-requires Inv-loop μ-loop
-look-alike-requires c κs = (omega (arith, (c .before .before .before .before .before) .pre .codes .room, (c .before .before .before .before .before) .pre .small, (c .before .before .before .before .before) .pre .pos), omega (arith, (c .before .before .before .before .before) .pre .codes .room, (c .before .before .before .before .before) .pre .small, (c .before) .loop .inv .low))
+look-alike-requires c κs =
+    let head = c .before in
+    let start = head .before .before .before .before in
+    (omega (arith, start .pre .codes .room, start .pre .small, start .pre .pos), omega (arith, start .pre .codes .room, start .pre .small, head .loop .inv .low))
 
 refers-to-requires : tie.Need-refers-to-requires Inv-loop μ-loop
-refers-to-requires c κs = (omega (arith, (c .before .before .before .before .before .before .before) .pre .roomK, (c .before .before .before .before .before .before .before) .pre .small, (c .before .before .before) .loop .inv .low), search needs)
+refers-to-requires c κs =
+    let head = c .before .before .before in
+    let start = head .before .before .before .before in
+    (omega (arith, start .pre .roomK, start .pre .small, head .loop .inv .low), search needs)
 
 returns : tie.Need-returns Inv-loop μ-loop
-returns c = laws.like-found _ _ _ _ _ _ _ ((c .before .before .before .before .before .before .before .before) .pre) _ ((c .before .before .before .before) .loop .inv) ((c .before .before .before) .loop-test .taken) _ ((c .before .before) .look-alike .ensures) _ (c .refers-to .ensures) ((c .before) .if1 .taken)
+returns c =
+    let then1 = c .before in
+    let after-look-alike = then1 .before in
+    let turn = after-look-alike .before in
+    let head = turn .before in
+    let start = head .before .before .before .before in
+    laws.like-found _ _ _ _ _ _ _ (start .pre) _ (head .loop .inv) (turn .loop-test .taken) _ (after-look-alike .look-alike .ensures) _ (c .refers-to .ensures) (then1 .if1 .taken)
 
 cell-requires : tie.Need-cell-requires Inv-loop μ-loop
-cell-requires c κs = (omega (arith, (c .before .before .before .before .before .before .before) .pre .roomT, (c .before .before .before .before .before .before .before) .pre .small, (c .before .before .before) .loop .inv .low), search needs)
+cell-requires c κs =
+    let head = c .before .before .before in
+    let start = head .before .before .before .before in
+    (omega (arith, start .pre .roomT, start .pre .small, head .loop .inv .low), search needs)
 
 loop-less : tie.Need-loop-less Inv-loop μ-loop
-loop-less c = laws.search-falls _ _ _ _ _ _ _ ((c .before .before .before .before .before .before .before .before) .pre) _ ((c .before .before .before .before) .loop .inv) ((c .before .before .before) .loop-test .taken) _ (c .cell .ensures)
+loop-less c =
+    let turn = c .before .before .before in
+    let head = turn .before in
+    let start = head .before .before .before .before in
+    laws.search-falls _ _ _ _ _ _ _ (start .pre) _ (head .loop .inv) (turn .loop-test .taken) _ (c .cell .ensures)
 
 loop-again : tie.Need-loop-again Inv-loop μ-loop
-loop-again c = laws.search-more _ _ _ _ _ _ _ ((c .before .before .before .before .before .before .before .before) .pre) _ ((c .before .before .before .before) .loop .inv) ((c .before .before .before) .loop-test .taken) _ ((c .before .before) .look-alike .ensures) _ (c .cell .ensures) ((c .before) .if1 .left)
+loop-again c =
+    let else1 = c .before in
+    let after-look-alike = else1 .before in
+    let turn = after-look-alike .before in
+    let head = turn .before in
+    let start = head .before .before .before .before in
+    laws.search-more _ _ _ _ _ _ _ (start .pre) _ (head .loop .inv) (turn .loop-test .taken) _ (after-look-alike .look-alike .ensures) _ (c .cell .ensures) (else1 .if1 .left)
 
 returns-2 : tie.Need-returns-2 Inv-loop μ-loop
-returns-2 c = laws.like-none _ _ _ _ _ _ _ ((c .before .before .before .before .before) .pre) _ ((c .before) .loop .inv) (c .loop-test .left)
+returns-2 c =
+    let head = c .before in
+    let start = head .before .before .before .before in
+    laws.like-none _ _ _ _ _ _ _ (start .pre) _ (head .loop .inv) (c .loop-test .left)
 
 pub like-before-spec : {M : Type 1} → statement M
 like-before-spec =

@@ -10,13 +10,24 @@ use native.Mathlib.Omega.{arith}
 use Rattle.canon.proofs.Hangs as laws
 
 group-requires : tie.Need-group-requires
-group-requires c κs = ((c .before .before .before .before .before .before .before .before .before .before .before .before .before) .pre .0, laws.blank-hung _ _ _ ((c .before .before .before .before .before) .blank2 .ensures) (omega arith) ((c .before .before .before .before .before .before .before .before .before .before .before .before .before) .pre .1) (omega arith), (c .before .before .before .before .before .before .before .before .before .before .before .before .before) .pre .1, search needs, (c .before .before .before .before .before .before .before .before) .blank .ensures, search needs)
+group-requires c κs =
+    let after-blank2 = c .before .before .before .before .before in
+    let after-blank = after-blank2 .before .before .before in
+    let start = after-blank .before .before .before .before .before in
+    (start .pre .0, laws.blank-hung _ _ _ (after-blank2 .blank2 .ensures) (omega arith) (start .pre .1) (omega arith), start .pre .1, search needs, after-blank .blank .ensures, search needs)
 
 refer-requires : tie.Need-refer-requires
-refer-requires c κs = ((c .before .before .before .before .before .before .before .before .before .before .before .before .before .before .before .before .before .before .before .before) .pre .0, (c .before .before .before .before .before .before .before .before .before .before .before .before .before .before .before .before .before .before .before .before) .pre .1, laws.grouped-unhung _ _ _ _ ((c .before .before .before .before .before .before) .group .ensures) (λ f h. laws.blank-hung _ _ _ ((c .before .before .before .before .before .before .before .before .before .before .before .before) .blank2 .ensures) (omega arith) ((c .before .before .before .before .before .before .before .before .before .before .before .before .before .before .before .before .before .before .before .before) .pre .1) h))
+refer-requires c κs =
+    let after-group = c .before .before .before .before .before .before in
+    let after-blank2 = after-group .before .before .before .before .before .before in
+    let start = after-blank2 .before .before .before .before .before .before .before .before in
+    (start .pre .0, start .pre .1, laws.grouped-unhung _ _ _ _ (after-group .group .ensures) (λ f h. laws.blank-hung _ _ _ (after-blank2 .blank2 .ensures) (omega arith) (start .pre .1) h))
 
 returns : tie.Need-returns
-returns c = (laws.all-linked _ _ _ _ _ ((c .before .before .before .before .before .before .before .before .before) .group .ensures) ((c .before .before) .refer .ensures .0), (c .before .before) .refer .ensures .1)
+returns c =
+    let after-refer = c .before .before in
+    let after-group = after-refer .before .before .before .before .before .before .before in
+    (laws.all-linked _ _ _ _ _ (after-group .group .ensures) (after-refer .refer .ensures .0), after-refer .refer .ensures .1)
 
 pub link-spec : {M : Type 1} → statement M
 link-spec =

@@ -21,16 +21,30 @@ loop-holds : tie.Need-loop-holds Inv-loop μ-loop
 loop-holds c = (search needs, search needs, search needs, laws.fields-none _ _ _)
 
 refer-field-requires : tie.Need-refer-field-requires Inv-loop μ-loop
-refer-field-requires c κs = ((c .before .before .before .before .before) .pre .0, (c .before .before .before .before .before) .pre .1, search needs, laws.field-unhung _ _ _ _ _ ((c .before .before) .loop .inv .3) ((c .before) .loop-test .taken) ((c .before .before .before .before .before) .pre .2))
+refer-field-requires c κs =
+    let turn = c .before in
+    let head = turn .before in
+    let start = head .before .before .before in
+    (start .pre .0, start .pre .1, search needs, laws.field-unhung _ _ _ _ _ (head .loop .inv .3) (turn .loop-test .taken) (start .pre .2))
 
 loop-again : tie.Need-loop-again Inv-loop μ-loop
-loop-again c = (((c .before .before .before) .refer-field .ensures .size) ∙ ((c .before .before .before .before .before .before) .loop .inv .0), search needs, search needs, laws.fields-more _ _ _ _ _ _ ((c .before .before .before .before .before .before) .loop .inv .3) ((c .before .before .before .before .before) .loop-test .taken) ((c .before .before .before) .refer-field .ensures))
+loop-again c =
+    let after-refer-field = c .before .before .before in
+    let turn = after-refer-field .before .before in
+    let head = turn .before in
+    ((after-refer-field .refer-field .ensures .size) ∙ (head .loop .inv .0), search needs, search needs, laws.fields-more _ _ _ _ _ _ (head .loop .inv .3) (turn .loop-test .taken) (after-refer-field .refer-field .ensures))
 
 loop-again-2 : tie.Need-loop-again-2 Inv-loop μ-loop
-loop-again-2 c = (((c .before .before .before) .refer-field .ensures .size) ∙ ((c .before .before .before .before .before .before) .loop .inv .0), search needs, search needs, laws.fields-more _ _ _ _ _ _ ((c .before .before .before .before .before .before) .loop .inv .3) ((c .before .before .before .before .before) .loop-test .taken) ((c .before .before .before) .refer-field .ensures))
+loop-again-2 c =
+    let after-refer-field = c .before .before .before in
+    let turn = after-refer-field .before .before in
+    let head = turn .before in
+    ((after-refer-field .refer-field .ensures .size) ∙ (head .loop .inv .0), search needs, search needs, laws.fields-more _ _ _ _ _ _ (head .loop .inv .3) (turn .loop-test .taken) (after-refer-field .refer-field .ensures))
 
 returns : tie.Need-returns Inv-loop μ-loop
-returns c = (laws.fields-done _ _ _ _ _ ((c .before) .loop .inv .3) (c .loop-test .left) ((c .before) .loop .inv .2), (c .before) .loop .inv .1)
+returns c =
+    let head = c .before in
+    (laws.fields-done _ _ _ _ _ (head .loop .inv .3) (c .loop-test .left) (head .loop .inv .2), head .loop .inv .1)
 
 pub refer-spec : {M : Type 1} → statement M
 refer-spec =

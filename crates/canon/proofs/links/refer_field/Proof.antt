@@ -25,16 +25,30 @@ target-requires : tie.Need-target-requires Inv-loop μ-loop
 target-requires c κs = (omega (arith, (c .before .before .before .before) .pre .0 .room), search needs)
 
 hang-requires : tie.Need-hang-requires Inv-loop μ-loop
-hang-requires c κs = ((c .before .before .before) .loop .inv .3 .hung, search needs, search needs, search needs, laws.target-low _ _ _ _ _ ((c .before .before .before .before .before .before) .pre .0) ((c .before .before .before .before .before .before) .pre .1) (omega arith) ((c .before .before .before .before .before .before) .pre .2) ((c .before) .target .ensures))
+hang-requires c κs =
+    let after-target = c .before in
+    let head = after-target .before .before in
+    let start = head .before .before .before in
+    (head .loop .inv .3 .hung, search needs, search needs, search needs, laws.target-low _ _ _ _ _ (start .pre .0) (start .pre .1) (omega arith) (start .pre .2) (after-target .target .ensures))
 
 loop-again : tie.Need-loop-again Inv-loop μ-loop
-loop-again c = (((c .before .before .before) .hang .ensures .size) ∙ ((c .before .before .before .before .before .before .before) .loop .inv .0), search needs, search needs, laws.refer-more _ _ _ _ _ _ _ _ ((c .before .before .before .before .before .before .before) .loop .inv .3) ((c .before .before .before) .hang .ensures) ((c .before .before .before .before .before) .target .ensures))
+loop-again c =
+    let after-hang = c .before .before .before in
+    let after-target = after-hang .before .before in
+    let head = after-target .before .before in
+    ((after-hang .hang .ensures .size) ∙ (head .loop .inv .0), search needs, search needs, laws.refer-more _ _ _ _ _ _ _ _ (head .loop .inv .3) (after-hang .hang .ensures) (after-target .target .ensures))
 
 loop-again-2 : tie.Need-loop-again-2 Inv-loop μ-loop
-loop-again-2 c = (((c .before .before .before) .hang .ensures .size) ∙ ((c .before .before .before .before .before .before .before) .loop .inv .0), search needs, search needs, laws.refer-more _ _ _ _ _ _ _ _ ((c .before .before .before .before .before .before .before) .loop .inv .3) ((c .before .before .before) .hang .ensures) ((c .before .before .before .before .before) .target .ensures))
+loop-again-2 c =
+    let after-hang = c .before .before .before in
+    let after-target = after-hang .before .before in
+    let head = after-target .before .before in
+    ((after-hang .hang .ensures .size) ∙ (head .loop .inv .0), search needs, search needs, laws.refer-more _ _ _ _ _ _ _ _ (head .loop .inv .3) (after-hang .hang .ensures) (after-target .target .ensures))
 
 returns : tie.Need-returns Inv-loop μ-loop
-returns c = laws.refer-done _ _ _ _ _ _ ((c .before) .loop .inv .3) (c .loop-test .left) ((c .before) .loop .inv .2)
+returns c =
+    let head = c .before in
+    laws.refer-done _ _ _ _ _ _ (head .loop .inv .3) (c .loop-test .left) (head .loop .inv .2)
 
 pub refer-field-spec : {M : Type 1} → statement M
 refer-field-spec =

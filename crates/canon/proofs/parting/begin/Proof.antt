@@ -24,13 +24,21 @@ stand-requires : tie.Need-stand-requires Inv-loop μ-loop
 stand-requires c κs = (simp length-set (omega arith), simp length-set (omega arith))
 
 loop-again : tie.Need-loop-again Inv-loop μ-loop
-loop-again c = ((simp length-set at ((c .before .before) .stand .ensures .same)) ∙ ((c .before .before .before .before .before) .loop .inv .0), search needs, laws.start-more _ _ _ ((c .before .before .before .before .before) .loop .inv .2) (omega arith) ((c .before .before) .stand .ensures))
+loop-again c =
+    let after-stand = c .before .before in
+    let head = after-stand .before .before .before in
+    ((simp length-set at (after-stand .stand .ensures .same)) ∙ (head .loop .inv .0), search needs, laws.start-more _ _ _ (head .loop .inv .2) (omega arith) (after-stand .stand .ensures))
 
 lay-out-requires : tie.Need-lay-out-requires Inv-loop μ-loop
 lay-out-requires c κs = omega arith
 
 returns : tie.Need-returns Inv-loop μ-loop
-returns c = laws.begun _ _ _ _ ((c .before .before .before .before .before) .loop .inv .2) ((c .before .before .before .before) .loop-test .left) ((c .before .before .before .before .before .before .before) .pre .0) (omega arith) ((c .before .before) .lay-out .ensures)
+returns c =
+    let after-lay-out = c .before .before in
+    let over = after-lay-out .before .before in
+    let head = over .before in
+    let start = head .before .before in
+    laws.begun _ _ _ _ (head .loop .inv .2) (over .loop-test .left) (start .pre .0) (omega arith) (after-lay-out .lay-out .ensures)
 
 pub begin-spec : {M : Type 1} → statement M
 begin-spec =

@@ -13,13 +13,20 @@ cell-requires : tie.Need-cell-requires
 cell-requires c κs = (search laws.class-room, search needs)
 
 returns : tie.Need-returns
-returns c = (laws.mark-there _ _ _ _ ((c .before .before .before .before .before .before .before .before) .pre .0) ((c .before .before .before .before .before .before .before .before) .pre .1) _ _ _ ((c .before .before .before .before .before) .class-of .ensures) ((c .before .before .before) .cell .ensures) ((c .before) .cell2 .ensures) (c .if1 .taken), laws.notes-refl _ _, search needs)
+returns c =
+    let after-cell2 = c .before in
+    let after-cell = after-cell2 .before .before in
+    let after-class-of = after-cell .before .before in
+    let start = after-class-of .before .before .before in
+    (laws.mark-there _ _ _ _ (start .pre .0) (start .pre .1) _ _ _ (after-class-of .class-of .ensures) (after-cell .cell .ensures) (after-cell2 .cell2 .ensures) (c .if1 .taken), laws.notes-refl _ _, search needs)
 
 cell-requires-3 : tie.Need-cell-requires-3
 cell-requires-3 c κs = (search laws.class-room, search needs)
 
 returns-4 : tie.Need-returns-4
-returns-4 c = (laws.brought-noted _ _ _ _ _ _ _ ((c .before .before .before .before) .bring .ensures .0), laws.notes-noted _ _ _ _ _ ((c .before .before .before .before) .bring .ensures .1), search needs)
+returns-4 c =
+    let after-bring = c .before .before .before .before in
+    (laws.brought-noted _ _ _ _ _ _ _ (after-bring .bring .ensures .0), laws.notes-noted _ _ _ _ _ (after-bring .bring .ensures .1), search needs)
 
 pub mark-spec : {M : Type 1} → statement M
 mark-spec =

@@ -22,22 +22,41 @@ last-into-requires : tie.Need-last-into-requires Inv-loop μ-loop
 last-into-requires c κs = (omega (arith, (c .before .before) .pre .1 .all .room), search needs)
 
 loop-holds : tie.Need-loop-holds Inv-loop μ-loop
-loop-holds c = (search needs, search needs, laws.walk-begin _ _ _ _ _ ((c .before .before .before) .pre .1) ((c .before .before .before) .pre .3) ((c .before .before .before) .pre .4) _ _ ((c .before .before .before) .pre .0) (c .last-into .ensures))
+loop-holds c =
+    let start = c .before .before .before in
+    (search needs, search needs, laws.walk-begin _ _ _ _ _ (start .pre .1) (start .pre .3) (start .pre .4) _ _ (start .pre .0) (c .last-into .ensures))
 
 mark-requires : tie.Need-mark-requires Inv-loop μ-loop
-mark-requires c κs = ((c .before .before) .loop .inv .2 .brought .classes, (c .before .before) .loop .inv .2 .low, (c .before .before) .loop .inv .1)
+mark-requires c κs =
+    let head = c .before .before in
+    (head .loop .inv .2 .brought .classes, head .loop .inv .2 .low, head .loop .inv .1)
 
 one-before-requires : tie.Need-one-before-requires Inv-loop μ-loop
-one-before-requires c κs = (omega (arith, (c .before .before .before .before .before .before .before .before .before) .pre .1 .all .room, (c .before .before .before .before .before) .loop .inv .2 .low), search needs)
+one-before-requires c κs =
+    let head = c .before .before .before .before .before in
+    let start = head .before .before .before .before in
+    (omega (arith, start .pre .1 .all .room, head .loop .inv .2 .low), search needs)
 
 loop-less : tie.Need-loop-less Inv-loop μ-loop
-loop-less c = laws.walk-falls _ _ _ _ _ ((c .before .before .before .before .before .before .before .before .before .before) .pre .1) ((c .before .before .before .before .before .before .before .before .before .before) .pre .3) ((c .before .before .before .before .before .before .before .before .before .before) .pre .4) _ _ _ _ ((c .before .before .before .before .before .before) .loop .inv .2) ((c .before .before .before .before .before) .loop-test .taken) (c .one-before .ensures)
+loop-less c =
+    let turn = c .before .before .before .before .before in
+    let head = turn .before in
+    let start = head .before .before .before .before in
+    laws.walk-falls _ _ _ _ _ (start .pre .1) (start .pre .3) (start .pre .4) _ _ _ _ (head .loop .inv .2) (turn .loop-test .taken) (c .one-before .ensures)
 
 loop-again : tie.Need-loop-again Inv-loop μ-loop
-loop-again c = (((c .before .before .before) .mark .ensures .0 .same) ∙ ((c .before .before .before .before .before .before) .loop .inv .0), (c .before .before .before) .mark .ensures .2, laws.walk-step _ _ _ _ _ ((c .before .before .before .before .before .before .before .before .before .before) .pre .1) ((c .before .before .before .before .before .before .before .before .before .before) .pre .3) ((c .before .before .before .before .before .before .before .before .before .before) .pre .4) _ _ _ _ ((c .before .before .before .before .before .before) .loop .inv .2) ((c .before .before .before .before .before) .loop-test .taken) (c .one-before .ensures) _ ((c .before .before .before) .mark .ensures .0) ((c .before .before .before) .mark .ensures .1))
+loop-again c =
+    let after-mark = c .before .before .before in
+    let turn = after-mark .before .before in
+    let head = turn .before in
+    let start = head .before .before .before .before in
+    ((after-mark .mark .ensures .0 .same) ∙ (head .loop .inv .0), after-mark .mark .ensures .2, laws.walk-step _ _ _ _ _ (start .pre .1) (start .pre .3) (start .pre .4) _ _ _ _ (head .loop .inv .2) (turn .loop-test .taken) (c .one-before .ensures) _ (after-mark .mark .ensures .0) (after-mark .mark .ensures .1))
 
 returns : tie.Need-returns Inv-loop μ-loop
-returns c = (laws.walk-done _ _ _ _ _ ((c .before .before .before .before .before) .pre .1) ((c .before .before .before .before .before) .pre .3) ((c .before .before .before .before .before) .pre .4) _ _ _ ((c .before) .loop .inv .2) (c .loop-test .left), (c .before) .loop .inv .2 .notes, (c .before) .loop .inv .1)
+returns c =
+    let head = c .before in
+    let start = head .before .before .before .before in
+    (laws.walk-done _ _ _ _ _ (start .pre .1) (start .pre .3) (start .pre .4) _ _ _ (head .loop .inv .2) (c .loop-test .left), head .loop .inv .2 .notes, head .loop .inv .1)
 
 pub mark-into-spec : {M : Type 1} → statement M
 mark-into-spec =

@@ -21,16 +21,32 @@ loop-holds : tie.Need-loop-holds Inv-loop μ-loop
 loop-holds c = (search needs, search needs, laws.note-begin _ _ _ (c .cell2 .ensures))
 
 cell-requires-3 : tie.Need-cell-requires-3 Inv-loop μ-loop
-cell-requires-3 c κs = (omega (arith, laws.place-in _ _ _ _ _ _ ((c .before .before .before .before .before .before .before .before) .pre .0) ((c .before .before .before .before .before .before .before .before) .pre .1) ((c .before .before .before .before .before) .cell .ensures) ((c .before) .loop-test .taken)), search needs)
+cell-requires-3 c κs =
+    let turn = c .before in
+    let after-cell = turn .before .before .before .before in
+    let start = after-cell .before .before .before in
+    (omega (arith, laws.place-in _ _ _ _ _ _ (start .pre .0) (start .pre .1) (after-cell .cell .ensures) (turn .loop-test .taken)), search needs)
 
 slice-write-t : tie.Need-slice-write-t Inv-loop μ-loop
-slice-write-t c = omega (arith, laws.place-in _ _ _ _ _ _ ((c .before .before .before .before .before .before .before .before .before) .pre .0) ((c .before .before .before .before .before .before .before .before .before) .pre .1) ((c .before .before .before .before .before .before) .cell .ensures) ((c .before .before) .loop-test .taken))
+slice-write-t c =
+    let turn = c .before .before in
+    let after-cell = turn .before .before .before .before in
+    let start = after-cell .before .before .before in
+    omega (arith, laws.place-in _ _ _ _ _ _ (start .pre .0) (start .pre .1) (after-cell .cell .ensures) (turn .loop-test .taken))
 
 loop-again : tie.Need-loop-again Inv-loop μ-loop
-loop-again c = (search needs, search needs, laws.note-step _ _ _ _ _ _ _ _ ((c .before .before .before .before .before .before .before .before .before) .pre .0) ((c .before .before .before .before .before .before .before .before .before) .pre .1) ((c .before .before .before .before .before .before) .cell .ensures) ((c .before .before) .loop-test .taken) ((c .before .before .before) .loop .inv .2) ((c) .cell3 .ensures))
+loop-again c =
+    let turn = c .before .before in
+    let head = turn .before in
+    let after-cell = head .before .before .before in
+    let start = after-cell .before .before .before in
+    (search needs, search needs, laws.note-step _ _ _ _ _ _ _ _ (start .pre .0) (start .pre .1) (after-cell .cell .ensures) (turn .loop-test .taken) (head .loop .inv .2) (c .cell3 .ensures))
 
 returns : tie.Need-returns Inv-loop μ-loop
-returns c = laws.note-done _ _ _ _ _ ((c .before .before .before .before) .cell .ensures) (c .loop-test .left) ((c .before) .loop .inv .2)
+returns c =
+    let head = c .before in
+    let after-cell = head .before .before .before in
+    laws.note-done _ _ _ _ _ (after-cell .cell .ensures) (c .loop-test .left) (head .loop .inv .2)
 
 pub note-spec : {M : Type 1} → statement M
 note-spec =

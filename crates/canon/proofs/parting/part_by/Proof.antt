@@ -22,13 +22,24 @@ loop-holds : tie.Need-loop-holds Inv-loop μ-loop
 loop-holds c = (search needs, search needs, laws.fields-start _ _ _ _ ((c .before .before) .pre .0))
 
 mark-class-requires : tie.Need-mark-class-requires Inv-loop μ-loop
-mark-class-requires c κs = ((c .before .before) .loop .inv .2 .classes, (c .before .before .before .before .before) .pre .1 .each _ (omega arith), search needs, omega (arith, (c .before .before) .loop .inv .2 .more, (c .before .before .before .before .before) .pre .3))
+mark-class-requires c κs =
+    let head = c .before .before in
+    let start = head .before .before .before in
+    (head .loop .inv .2 .classes, start .pre .1 .each _ (omega arith), search needs, omega (arith, head .loop .inv .2 .more, start .pre .3))
 
 split-all-requires : tie.Need-split-all-requires Inv-loop μ-loop
-split-all-requires c κs = ((c .before .before .before) .mark-class .ensures .0 .classes, (c .before .before .before) .mark-class .ensures .1)
+split-all-requires c κs =
+    let after-mark-class = c .before .before .before in
+    (after-mark-class .mark-class .ensures .0 .classes, after-mark-class .mark-class .ensures .1)
 
 loop-again : tie.Need-loop-again Inv-loop μ-loop
-loop-again c = (((c .before .before) .split-all .ensures .same) ∙ ((c .before .before .before .before .before .before) .mark-class .ensures .0 .same) ∙ ((c .before .before .before .before .before .before .before .before .before) .loop .inv .0), search needs, laws.fields-more _ _ _ _ _ _ _ _ _ _ _ _ ((c .before .before .before .before .before .before .before .before .before .before .before .before) .pre .1) ((c .before .before .before .before .before .before .before .before) .loop-test .taken) ((c .before .before .before .before .before .before .before .before .before .before .before .before) .pre .2) ((c .before .before .before .before .before .before .before .before .before) .loop .inv .2) ((c .before .before .before .before .before .before) .mark-class .ensures .0) ((c .before .before) .split-all .ensures))
+loop-again c =
+    let after-split-all = c .before .before in
+    let after-mark-class = after-split-all .before .before .before .before in
+    let turn = after-mark-class .before .before in
+    let head = turn .before in
+    let start = head .before .before .before in
+    ((after-split-all .split-all .ensures .same) ∙ (after-mark-class .mark-class .ensures .0 .same) ∙ (head .loop .inv .0), search needs, laws.fields-more _ _ _ _ _ _ _ _ _ _ _ _ (start .pre .1) (turn .loop-test .taken) (start .pre .2) (head .loop .inv .2) (after-mark-class .mark-class .ensures .0) (after-split-all .split-all .ensures))
 
 returns : tie.Need-returns Inv-loop μ-loop
 returns c = (c .before) .loop .inv .2

@@ -21,7 +21,11 @@ loop-holds : tie.Need-loop-holds Inv-loop μ-loop
 loop-holds c = (search needs, search needs, laws.fields-start _ _ _ _ ((c .before .before) .pre .0))
 
 part-by-requires : tie.Need-part-by-requires Inv-loop μ-loop
-part-by-requires c κs = ((c .before .before) .loop .inv .2 .classes, (c .before .before .before .before .before) .pre .1, (c .before .before .before .before .before) .pre .2, (c .before) .loop-test .taken)
+part-by-requires c κs =
+    let turn = c .before in
+    let head = turn .before in
+    let start = head .before .before .before in
+    (head .loop .inv .2 .classes, start .pre .1, start .pre .2, turn .loop-test .taken)
 
 add-s : tie.Need-add-s Inv-loop μ-loop
 add-s c = omega (arith, (c .before .before .before .before .before) .loop .inv .2 .classes .few)
@@ -30,7 +34,10 @@ loop-less : tie.Need-loop-less Inv-loop μ-loop
 loop-less c = omega (arith, (c .before .before .before .before .before) .loop .inv .2 .classes .few)
 
 loop-again : tie.Need-loop-again Inv-loop μ-loop
-loop-again c = (((c .before .before) .part-by .ensures .same) ∙ ((c .before .before .before .before .before) .loop .inv .0), omega (arith, (c .before .before .before .before .before) .loop .inv .2 .classes .few), laws.fields-then _ _ _ _ _ _ _ _ ((c .before .before .before .before .before) .loop .inv .2) ((c .before .before) .part-by .ensures))
+loop-again c =
+    let after-part-by = c .before .before in
+    let head = after-part-by .before .before .before in
+    ((after-part-by .part-by .ensures .same) ∙ (head .loop .inv .0), omega (arith, head .loop .inv .2 .classes .few), laws.fields-then _ _ _ _ _ _ _ _ (head .loop .inv .2) (after-part-by .part-by .ensures))
 
 returns : tie.Need-returns Inv-loop μ-loop
 returns c = (c .before) .loop .inv .2

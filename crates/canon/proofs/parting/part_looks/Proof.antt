@@ -26,16 +26,27 @@ last-into-requires : tie.Need-last-into-requires Inv-loop μ-loop
 last-into-requires c κs = (omega (arith, (c .before .before .before .before) .pre .1 .all .room), search needs)
 
 mark-into-requires : tie.Need-mark-into-requires Inv-loop μ-loop
-mark-into-requires c κs = ((c .before .before .before .before) .loop .inv .2 .classes, (c .before .before .before .before .before .before .before) .pre .1, search needs, (c .before .before .before .before) .loop .inv .1, search needs, search needs)
+mark-into-requires c κs =
+    let head = c .before .before .before .before in
+    let start = head .before .before .before in
+    (head .loop .inv .2 .classes, start .pre .1, search needs, head .loop .inv .1, search needs, search needs)
 
 split-all-requires : tie.Need-split-all-requires Inv-loop μ-loop
-split-all-requires c κs = ((c .before .before .before) .mark-into .ensures .0 .classes, (c .before .before .before) .mark-into .ensures .2)
+split-all-requires c κs =
+    let after-mark-into = c .before .before .before in
+    (after-mark-into .mark-into .ensures .0 .classes, after-mark-into .mark-into .ensures .2)
 
 loop-again : tie.Need-loop-again Inv-loop μ-loop
-loop-again c = (((c .before .before) .split-all .ensures .same) ∙ ((c .before .before .before .before .before .before) .mark-into .ensures .0 .same) ∙ ((c .before .before .before .before .before .before .before .before .before .before .before) .loop .inv .0), search needs, laws.looks-more _ _ _ _ _ _ _ _ _ ((c .before .before .before .before .before .before .before .before .before .before .before) .loop .inv .2) ((c .before .before .before .before .before .before) .mark-into .ensures .0) ((c .before .before) .split-all .ensures))
+loop-again c =
+    let after-split-all = c .before .before in
+    let after-mark-into = after-split-all .before .before .before .before in
+    let head = after-mark-into .before .before .before .before .before in
+    ((after-split-all .split-all .ensures .same) ∙ (after-mark-into .mark-into .ensures .0 .same) ∙ (head .loop .inv .0), search needs, laws.looks-more _ _ _ _ _ _ _ _ _ (head .loop .inv .2) (after-mark-into .mark-into .ensures .0) (after-split-all .split-all .ensures))
 
 loop-again-2 : tie.Need-loop-again-2 Inv-loop μ-loop
-loop-again-2 c = ((c .before .before .before) .loop .inv .0, search needs, (c .before .before .before) .loop .inv .2)
+loop-again-2 c =
+    let head = c .before .before .before in
+    (head .loop .inv .0, search needs, head .loop .inv .2)
 
 returns : tie.Need-returns Inv-loop μ-loop
 returns c = (c .before) .loop .inv .2

@@ -29,7 +29,10 @@ split-requires : tie.Need-split-requires Inv-loop μ-loop
 split-requires c κs = ((c .before .before .before .before .before) .loop .inv .2 .classes, c .before .if1 .taken)
 
 loop-again : tie.Need-loop-again Inv-loop μ-loop
-loop-again c = (((c .before .before) .split .ensures .same) ∙ ((c .before .before .before .before .before .before .before .before) .loop .inv .0), search needs, laws.split-then _ _ _ _ _ _ _ ((c .before .before .before .before .before .before .before .before) .loop .inv .2) ((c .before .before) .split .ensures))
+loop-again c =
+    let after-split = c .before .before in
+    let head = after-split .before .before .before .before .before .before in
+    ((after-split .split .ensures .same) ∙ (head .loop .inv .0), search needs, laws.split-then _ _ _ _ _ _ _ (head .loop .inv .2) (after-split .split .ensures))
 
 returns : tie.Need-returns Inv-loop μ-loop
 returns c = (c .before) .loop .inv .2
