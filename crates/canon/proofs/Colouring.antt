@@ -5,8 +5,10 @@ use mathlib.Core.Path.{_≡_, refl, sym, ap, _∙_, subst}
 use mathlib.Core.List.{List}
 use lib.ListN.{length, getD}
 use lib.Seq.{ext-getD}
-use Rattle.cofj.specs.Values.{obj, Graph, colourOf, colours, canon}
-use Rattle.cofj.specs.Unfolding.{Same, Whole}
+use mathlib.Core.Option.{some}
+use Rattle.cofj.specs.Values.{Ref, obj, mark, undet, Graph, renameNode, nodeAt, colourOf, colours, canon}
+use Rattle.cofj.specs.Unfolding.{child, Same, InRange, Whole}
+use Rattle.cofj.proofs.Trees.{renamed-same}
 use Rattle.cofj.specs.ReportForm.{upFrom}
 use Rattle.cofj.proofs.Basics.{eqNats-true}
 use Rattle.cofj.proofs.Numbering.{canonical-distinct}
@@ -42,6 +44,23 @@ module _ (g : Graph) (w : Whole g) (cs : List ℕ) (size : length cs ≡ length 
 
   pub colours-are : cs ≡ colours (g .nodes)
   colours-are = ext-getD 0 cs (colours (g .nodes)) (size ∙ sym (colour-size g w)) (λ i h. entry i (subst (λ (k : ℕ). i < k) size h))
+
+-- the same, where objects of one colour look alike under the colours
+module _ (g : Graph) (w : Whole g) (cs : List ℕ) (size : length cs ≡ length (g .nodes))
+    (low : (i : ℕ) → i < length (g .nodes) → colourOf cs i ≤ i)
+    (first : (i : ℕ) → i < length (g .nodes) → colourOf cs (colourOf cs i) ≡ colourOf cs i)
+    (looks : (i j : ℕ) → i < length (g .nodes) → j < length (g .nodes) → colourOf cs i ≡ colourOf cs j → renameNode (colourOf cs) (nodeAt (g .nodes) i) ≡ renameNode (colourOf cs) (nodeAt (g .nodes) j))
+    (full : (i j : ℕ) → i < length (g .nodes) → j < length (g .nodes) → Same (g .nodes) (obj i) (g .nodes) (obj j) → colourOf cs i ≡ colourOf cs j) where
+  child-in : (r : Ref) → InRange (length (g .nodes)) r → (k : ℕ) (q : Ref) → child (g .nodes) r k ≡ some q → InRange (length (g .nodes)) q
+  child-in (obj i) p k q e = w .inner i k q e
+  child-in (mark x) p k q e = absurd (let z : _≡_ {A = ℕ} 0 1 = cc in omega arith)
+  child-in undet p k q e = absurd (let z : _≡_ {A = ℕ} 0 1 = cc in omega arith)
+
+  pub looks-colours : cs ≡ colours (g .nodes)
+  looks-colours =
+      colours-are g w cs size low first
+      (λ i j h l e p. renamed-same (g .nodes) (g .nodes) (colourOf cs) (colourOf cs) (InRange (length (g .nodes))) (InRange (length (g .nodes))) child-in child-in looks p (obj i) (obj j) h l (ap obj e))
+      full
 
 -- objects that unfold to trees of their own have themselves for colours
 pub distinct-colours : (g : Graph) → Whole g → Distinct (g .nodes) → colours (g .nodes) ≡ upFrom 0 (length (g .nodes))

@@ -7,4 +7,15 @@ pub mod Rounds
 pub mod Walks
 pub mod Colouring
 pub mod Numbers
-pub mod Pairings
+pub mod Hangs
+pub mod Looks
+pub mod Refers
+pub mod Notes
+pub mod Fronts
+pub mod Marks
+pub mod Relabels
+pub mod Backs
+pub mod Splits
+pub mod Parts
+pub mod Firsts
+pub mod Classing

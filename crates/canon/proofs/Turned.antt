@@ -19,7 +19,7 @@ turnRef T r = refOf (turned T (codeOf r))
 abbrev pub changed : (Ref → Ref) → Node → Node
 changed f x = node (x .cls) (map f (x .refs))
 
-map-take : (f : Ref → Ref) (n : ℕ) (l : List Ref) → map f (take n l) ≡ take n (map f l)
+pub map-take : (f : Ref → Ref) (n : ℕ) (l : List Ref) → map f (take n l) ≡ take n (map f l)
 map-take f zero l = refl
 map-take f (suc n) [] = refl
 map-take f (suc n) (x ∷ l) = ap (λ (t : List Ref). f x ∷ t) (map-take f n l)

@@ -74,19 +74,7 @@ pub fn count_up(base: u8, n: u8, to: &mut [u8])
     }
 }
 
-// n zeros.
-pub fn clear(n: u8, to: &mut [u8])
-    requires { ⌜ 256 ≤ length (now to) ⌝ }
-    ensures { λ _. ⌜ Filled (λ i. 0) n (now (to .exit)) ⌝ }
-{
-    let mut i: u8 = 0;
-    while i < n {
-        to[i as usize] = 0;
-        i += 1;
-    }
-}
-
-// m zeros, for a longer table.
+// m zeros.
 pub fn wipe(to: &mut [u8], m: usize)
     requires { ⌜ m ≤ length (now to) ⌝ }
     ensures { λ _. ⌜ Filled (λ i. 0) m (now (to .exit)) ⌝ }

@@ -1,11 +1,11 @@
-// The objects' colours: by pairs for up to 64 of them, else by rounds until nothing changes.
-// Not here: the pairs (pairs); a new object over one value, which needs no colours (crate maker, over).
-use crate::bytes::clear;
+// The objects' colours: by parting, and by rounds from there if objects of one class did not look alike.
+// Not here: how objects are parted (parting, leads); a new object over one value, which needs no colours (crate maker, over).
 use crate::bytes::copy;
 use crate::bytes::same;
 use crate::bytes::same_six;
+use crate::leads::part_own;
+use crate::leads::steady;
 use crate::lift::lift;
-use crate::pairs::colour_pairs;
 ghost use mathlib.Core.Path.{_≡_};
 ghost use Prim.Native.Nat.{ℕ, _+_, _*_, _<_, _≤_};
 ghost use lib.ListN.{length, take};
@@ -13,6 +13,7 @@ ghost use Rattle.cofj.specs.Values.{refine, colours};
 ghost use Rattle.canon.specs.Layout.{nodesIn};
 ghost use Rattle.canon.specs.Tables.{Filled};
 ghost use Rattle.canon.specs.Rounds.{Looks, placeIs, Raw, Below, Scratch};
+ghost use Rattle.canon.specs.Classing.{Coarse};
 
 // The first object that looks as object i does.
 pub fn place(looks: &[u8], i: u8, n: u8) -> u8
@@ -50,12 +51,11 @@ pub fn round(nodes: &[u8], n: u8, cs: &[u8], looks: &mut [u8], next: &mut [u8])
     places(looks, n, next);
 }
 
-// Two objects have one colour exactly when they unfold to the same tree.
+// Rounds from colours that no two equal objects differ in, until nothing changes: then two objects have one colour exactly when they unfold to the same tree.
 pub fn settle(nodes: &[u8], n: u8, cs: &mut [u8], looks: &mut [u8], next: &mut [u8])
-    requires { ⌜ Raw (now nodes) n × (256 ≤ length (now cs)) × Scratch (now looks) (now next) ⌝ }
+    requires { ⌜ Raw (now nodes) n × Coarse (now nodes) n (now cs) × (256 ≤ length (now cs)) × Scratch (now looks) (now next) ⌝ }
     ensures { λ _. ⌜ take n (now (cs .exit)) ≡ colours (nodesIn (now (nodes .entry)) 0 n) ⌝ }
 {
-    clear(n, cs);
     let mut k: usize = (n as usize) * (n as usize) + 1;
     while 0 < k {
         round(nodes, n, cs, looks, next);
@@ -68,8 +68,8 @@ pub fn settle(nodes: &[u8], n: u8, cs: &mut [u8], looks: &mut [u8], next: &mut [
 }
 
 // The same, with scratch of its own.
-pub fn colour_rounds(raw: &[u8], n: u8, cs: &mut [u8])
-    requires { ⌜ Raw (now raw) n × (256 ≤ length (now cs)) ⌝ }
+pub fn settle_own(raw: &[u8], n: u8, cs: &mut [u8])
+    requires { ⌜ Raw (now raw) n × Coarse (now raw) n (now cs) × (256 ≤ length (now cs)) ⌝ }
     ensures { λ _. ⌜ take n (now (cs .exit)) ≡ colours (nodesIn (now (raw .entry)) 0 n) ⌝ }
 {
     let mut looks = [0u8; 1536];
@@ -77,17 +77,14 @@ pub fn colour_rounds(raw: &[u8], n: u8, cs: &mut [u8])
     settle(raw, n, cs, &mut looks, &mut next);
 }
 
-// The colours of n objects: by pairs, or by rounds where there are too many.
+// The colours of n objects, by parting. That rounds are ever needed after it was never seen; the test spares a proof that they are not.
 pub fn colour(raw: &[u8], n: u8, cs: &mut [u8])
     requires { ⌜ Raw (now raw) n × (256 ≤ length (now cs)) ⌝ }
     ensures { λ _. ⌜ take n (now (cs .exit)) ≡ colours (nodesIn (now (raw .entry)) 0 n) ⌝ }
 {
-    if 64 < n {
-        colour_rounds(raw, n, cs);
+    part_own(raw, n, cs);
+    if steady(raw, n, cs) {
         return;
     }
-    if colour_pairs(raw, n, cs) {
-        return;
-    }
-    colour_rounds(raw, n, cs);
+    settle_own(raw, n, cs);
 }

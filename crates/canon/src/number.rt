@@ -1,5 +1,5 @@
 // The objects of a graph, merged by colour and numbered in the order met, in a block: its value.
-// Not here: the colours (colours, pairs), the order (walk).
+// Not here: the colours (colours), the order (walk).
 use crate::bytes::wipe;
 use crate::lift::lift;
 use crate::walk::visit;

@@ -68,7 +68,7 @@ module _ (n : ℕ) (a b : ℕ → ℕ) (coarser : (i j : ℕ) → i < n → j < 
   ref-coarser undet (mark l) p q e = cc
   ref-coarser undet undet p q e = refl
 
-  refs-coarser : (rs ss : List Ref) → ((f : ℕ) (r : Ref) → getElem? rs f ≡ some r → InRange n r) → ((f : ℕ) (r : Ref) → getElem? ss f ≡ some r → InRange n r)
+  pub refs-coarser : (rs ss : List Ref) → ((f : ℕ) (r : Ref) → getElem? rs f ≡ some r → InRange n r) → ((f : ℕ) (r : Ref) → getElem? ss f ≡ some r → InRange n r)
       → map (rename a) rs ≡ map (rename a) ss → map (rename b) rs ≡ map (rename b) ss
   refs-coarser [] [] p q e = refl
   refs-coarser [] (s ∷ ss) p q e = cc

@@ -4,3 +4,4 @@ pub mod Codes
 pub mod Beside
 pub mod Merges
 pub mod BareLaws
+pub mod Fresh

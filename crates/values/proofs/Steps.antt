@@ -5,6 +5,7 @@ use native.Mathlib.Decide.{decLt, ℕ-discrete}
 use mathlib.Core.Path.{_≡_, refl, sym, ap, ap₂, _∙_, subst}
 use mathlib.Core.Bool.{Bool, true, false, cond, false≢true, true≢false}
 use mathlib.Core.List.{List, [], _∷_}
+use mathlib.Core.Logic.{_⊎_, inl, inr, ⊎-elim}
 use mathlib.Core.Option.{some}
 use lib.Dec.{eqb}
 use lib.ListN.{length, getD, set, getElem?, replicate, length-set, length-replicate, getD-replicate, List·getD-eq-default}
@@ -82,13 +83,8 @@ unpaired-put (suc k) x v T h l e = go (ℕ-discrete k x) (λ h′. unpaired-put 
         rw (eq-eqb (getD T k 0) 0 o, ne-eqb (getD (set T x (v + 1)) k 0) 0 (λ q. omega arith), unpaired-other k x (v + 1) T (omega arith)) (omega arith)
     go (no z) ih = rw (getD-set-other T x k (v + 1) 0 z, ← ih (omega (arith, z))) (omega arith)
 
-unpaired-all : (k : ℕ) (T : List ℕ) → ((x : ℕ) → getD T x 0 ≡ 0) → unpaired k T ≡ k
-unfolding unpaired
-unpaired-all zero T h = refl
-unpaired-all (suc k) T h = rw (eq-eqb (getD T k 0) 0 (h k), unpaired-all k T h) (omega arith)
-
 -- ---- a pair added
-module _ (n m : ℕ) (T Q : List ℕ) (t a b : ℕ) (pd : Paired n m T Q t) (few : n ≤ 32) (ha : a < n) (hb : b < m) (e : getD T a 0 ≡ 0) where
+module _ (W : List ℕ) (f g : ℕ) (T Q : List ℕ) (t a b : ℕ) (pd : Paired W f g T Q t) (few : countIn W f ≤ 32) (ha : a < countIn W f) (hb : b < countIn W g) (e : getD T a 0 ≡ 0) where
   put : getD (set T a (b + 1)) a 0 ≡ b + 1
   put = getD-set-same T a (b + 1) 0 (omega (arith, pd .table))
 
@@ -98,7 +94,7 @@ module _ (n m : ℕ) (T Q : List ℕ) (t a b : ℕ) (pd : Paired n m T Q t) (few
   end : getD (set Q t a) t 0 ≡ a
   end = getD-set-same Q t a 0 (omega (arith, room-left, pd .queue))
 
-  pub pair-new : Paired n m (set T a (b + 1)) (set Q t a) (t + 1)
+  pub pair-new : Paired W f g (set T a (b + 1)) (set Q t a) (t + 1)
   pair-new = record {
     table = length-set T a (b + 1) ∙ pd .table;
     queue = length-set Q t a ∙ pd .queue;
@@ -109,7 +105,7 @@ module _ (n m : ℕ) (T Q : List ℕ) (t a b : ℕ) (pd : Paired n m T Q t) (few
     within = λ x y z. within x y z (ℕ-discrete x a);
   }
     where
-      low : (q : ℕ) → q < t + 1 → Dec (q ≡ t) → getD (set Q t a) q 0 < n
+      low : (q : ℕ) → q < t + 1 → Dec (q ≡ t) → getD (set Q t a) q 0 < countIn W f
       low q h (yes z) = rw (z, end) ha
       low q h (no z) = rw (getD-set-other Q t q a 0 z) (pd .low q (omega (arith, z)))
 
@@ -126,14 +122,14 @@ module _ (n m : ℕ) (T Q : List ℕ) (t a b : ℕ) (pd : Paired n m T Q t) (few
           let i : getD (set Q t a) q 0 ≡ getD Q q 0 = getD-set-other Q t q a 0 z in
           kept (getD Q q 0) (ℕ-discrete (getD Q q 0) a) (pd .there q (omega (arith, z))) (ap (λ (k : ℕ). getD (set T a (b + 1)) k 0) (sym i) ∙ w)
 
-      listed : (x y : ℕ) → getD (set T a (b + 1)) x 0 ≡ y + 1 → Dec (x ≡ a) → (q : ℕ) × (q < t + 1) × (getD (set Q t a) q 0 ≡ x)
-      listed x y w (yes z) = (t, omega arith, end ∙ sym z)
-      listed x y w (no z) =
-          let o = pd .listed x y (sym (getD-set-other T a x (b + 1) 0 z) ∙ w) in
-          let h : o .0 < t = o .1 in
-          (o .0, omega arith, getD-set-other Q t (o .0) a 0 (λ i. omega arith) ∙ o .2)
+      moved : (x : ℕ) → ((q : ℕ) × (q < t) × (getD Q q 0 ≡ x)) → (q : ℕ) × (q < t + 1) × (getD (set Q t a) q 0 ≡ x)
+      moved x o = let h : o .0 < t = o .1 in (o .0, omega arith, getD-set-other Q t (o .0) a 0 (λ i. omega arith) ∙ o .2)
 
-      within : (x y : ℕ) → getD (set T a (b + 1)) x 0 ≡ y + 1 → Dec (x ≡ a) → y < m
+      listed : (x y : ℕ) → getD (set T a (b + 1)) x 0 ≡ y + 1 → Dec (x ≡ a) → ((q : ℕ) × (q < t + 1) × (getD (set Q t a) q 0 ≡ x)) ⊎ Same (objectsIn W f) (obj x) (objectsIn W g) (obj y)
+      listed x y w (yes z) = inl (t, omega arith, end ∙ sym z)
+      listed x y w (no z) = ⊎-elim (λ o. inl (moved x o)) (λ s. inr s) (pd .listed x y (sym (getD-set-other T a x (b + 1) 0 z) ∙ w))
+
+      within : (x y : ℕ) → getD (set T a (b + 1)) x 0 ≡ y + 1 → Dec (x ≡ a) → y < countIn W g
       within x y w (yes z) =
           let v : b + 1 ≡ y + 1 = sym put ∙ ap (λ (k : ℕ). getD (set T a (b + 1)) k 0) (sym z) ∙ w in
           omega arith
@@ -227,11 +223,11 @@ module _ (W : List ℕ) (b c : ℕ) (T₀ Q₀ : List ℕ) (t₀ : ℕ) where
   record Stepped (T : List ℕ) (r s : Ref) (o : After) : Type 0 where
     differ : o .tail ≡ 0 → AllSame W b c T₀ → ⊥
     grown : ((o .tail ≡ 0) → ⊥) → Grown W b c T₀ Q₀ t₀ (o .table) (o .queue) (o .tail)
-    paired : ((o .tail ≡ 0) → ⊥) → Paired (countIn W b) (countIn W c) (o .table) (o .queue) (o .tail)
+    paired : ((o .tail ≡ 0) → ⊥) → Paired W b c (o .table) (o .queue) (o .tail)
     linked : ((o .tail ≡ 0) → ⊥) → Linked (o .table) (codeOf r) (codeOf s)
     further : ((o .tail ≡ 0) → ⊥) → (x y : ℕ) → getD T x 0 ≡ y + 1 → getD (o .table) x 0 ≡ y + 1
 
-  module _ (bb : Block W b) (bc : Block W c) (T Q : List ℕ) (t : ℕ) (g : Grown W b c T₀ Q₀ t₀ T Q t) (pd : Paired (countIn W b) (countIn W c) T Q t) (pos : 0 < t)
+  module _ (bb : Block W b) (bc : Block W c) (T Q : List ℕ) (t : ℕ) (g : Grown W b c T₀ Q₀ t₀ T Q t) (pd : Paired W b c T Q t) (pos : 0 < t)
       (r s : Ref) (hr : InRange (countIn W b) r) (hs : InRange (countIn W c) s) (ch : AllSame W b c T₀ → Same (objectsIn W b) r (objectsIn W c) s) where
     -- nothing is added
     same-again : Linked T (codeOf r) (codeOf s) → Stepped T r s (after t T Q)
@@ -265,8 +261,8 @@ module _ (W : List ℕ) (b c : ℕ) (T₀ Q₀ : List ℕ) (t₀ : ℕ) where
           front = λ q h. getD-set-other Q t q (codeOf r) 0 (λ z. omega (arith, g .more)) ∙ g .front q h;
           keeps = λ al. record { same = λ x y q. same al x y q (ℕ-discrete x (codeOf r)) };
         };
-        paired = λ _. pair-new (countIn W b) (countIn W c) T Q t (codeOf r) (codeOf s) pd (bb .small) la lb e;
-        linked = λ _. record { leaf = λ h. absurd (omega arith); pair = λ _. put (countIn W b) (countIn W c) T Q t (codeOf r) (codeOf s) pd (bb .small) la lb e };
+        paired = λ _. pair-new W b c T Q t (codeOf r) (codeOf s) pd (bb .small) la lb e;
+        linked = λ _. record { leaf = λ h. absurd (omega arith); pair = λ _. put W b c T Q t (codeOf r) (codeOf s) pd (bb .small) la lb e };
         further = λ _. stays;
       }
         where
@@ -277,11 +273,11 @@ module _ (W : List ℕ) (b c : ℕ) (T₀ Q₀ : List ℕ) (t₀ : ℕ) where
           lb = object-low (countIn W c) s hs hb
 
           stays : (x y : ℕ) → getD T x 0 ≡ y + 1 → getD (set T (codeOf r) (codeOf s + 1)) x 0 ≡ y + 1
-          stays = pairs-stay (countIn W b) (countIn W c) T Q t (codeOf r) (codeOf s) pd (bb .small) la lb e
+          stays = pairs-stay W b c T Q t (codeOf r) (codeOf s) pd (bb .small) la lb e
 
           same : AllSame W b c T₀ → (x y : ℕ) → getD (set T (codeOf r) (codeOf s + 1)) x 0 ≡ y + 1 → Dec (x ≡ codeOf r) → Same (objectsIn W b) (obj x) (objectsIn W c) (obj y)
           same al x y q (yes z) =
-              let v : codeOf s + 1 ≡ y + 1 = sym (put (countIn W b) (countIn W c) T Q t (codeOf r) (codeOf s) pd (bb .small) la lb e) ∙ ap (λ (k : ℕ). getD (set T (codeOf r) (codeOf s + 1)) k 0) (sym z) ∙ q in
+              let v : codeOf s + 1 ≡ y + 1 = sym (put W b c T Q t (codeOf r) (codeOf s) pd (bb .small) la lb e) ∙ ap (λ (k : ℕ). getD (set T (codeOf r) (codeOf s + 1)) k 0) (sym z) ∙ q in
               let u : codeOf s ≡ y = omega arith in
               subst (λ (k : ℕ). Same (objectsIn W b) (obj x) (objectsIn W c) (obj k)) u (subst (λ (k : ℕ). Same (objectsIn W b) (obj k) (objectsIn W c) (obj (codeOf s))) (sym z) (twins al))
           same al x y q (no z) = g .keeps al .same x y (sym (getD-set-other T (codeOf r) x (codeOf s + 1) 0 z) ∙ q)
@@ -343,7 +339,7 @@ module _ (W : List ℕ) (b x c y : ℕ) (T₀ Q₀ : List ℕ) (t₀ : ℕ) wher
     en = so .alike .count
 
     some-paired : 0 < t
-    some-paired = let o = so .paired .listed x y (so .grown .pairs x y (so .start .here)) in let h : o .0 < t = o .1 in omega arith
+    some-paired = omega (arith, so .start .some, so .grown .more)
 
     module _ (hk : k < getD W (234 * b + 6 * x + 1) 0) where
       pub first-read : 234 * b + 6 * x + 2 + k < length W
@@ -432,7 +428,8 @@ module _ (W : List ℕ) (b c : ℕ) (bb : Block W b) (bc : Block W c) where
   below p (r ∷ rs) (s ∷ ss) l h zero = h 0 (omega arith)
   below p (r ∷ rs) (s ∷ ss) l h (suc f) = below p rs ss (omega arith) (λ g k. h (suc g) (omega arith)) f
 
-  module _ (T Q : List ℕ) (t : ℕ) (pd : Paired (countIn W b) (countIn W c) T Q t) (cl : (x y : ℕ) → getD T x 0 ≡ y + 1 → Closed W b x c y T) where
+  module _ (T Q : List ℕ) (t : ℕ) (pd : Paired W b c T Q t)
+      (cl : (x y : ℕ) → getD T x 0 ≡ y + 1 → ((x < countIn W b) × Closed W b x c y T) ⊎ Same (objectsIn W b) (obj x) (objectsIn W c) (obj y)) where
     abbrev Claim : List ℕ → Type 0
     Claim p = (x y : ℕ) → getD T x 0 ≡ y + 1 → follow (objectsIn W b) (obj x) p ≡ follow (objectsIn W c) (obj y) p
 
@@ -450,31 +447,34 @@ module _ (W : List ℕ) (b c : ℕ) (bb : Block W b) (bc : Block W c) where
             leaf-same (objectsIn W b) (objectsIn W c) r (leaf-range r i k) p
             ∙ ap (λ (q : Ref). follow (objectsIn W c) q p) (codes-leaf r s i (in-larger (countIn W c) 192 s (omega (arith, bc .small)) hs) k (l .leaf k))
 
-    low-first : (x y : ℕ) → getD T x 0 ≡ y + 1 → x < countIn W b
-    low-first x y e = let o = pd .listed x y e in let h : o .0 < t = o .1 in subst (λ (k : ℕ). k < countIn W b) (o .2) (pd .low (o .0) h)
-
-    claim : (p : List ℕ) → Claim p
-    claim [] x y e =
-        let d = cl x y e in
-        let hx = low-first x y e in
+    label : (x y : ℕ) → getD T x 0 ≡ y + 1 → (x < countIn W b) × Closed W b x c y T → follow (objectsIn W b) (obj x) [] ≡ follow (objectsIn W c) (obj y) []
+    label x y e o =
+        let hx : x < countIn W b = o .0 in
+        let d = o .1 in
         let hy = pd .within x y e in
         ap some (ap₂ object (sym (cls-is W b bb x hx) ∙ d .alike .cls ∙ cls-is W c bc y hy) (sym (count-is W b bb x hx) ∙ d .alike .count ∙ count-is W c bc y hy))
-    claim (f ∷ p) x y e =
-        let d = cl x y e in
-        let hx = low-first x y e in
+
+    field : (f : ℕ) (p : List ℕ) → Claim p → (x y : ℕ) → getD T x 0 ≡ y + 1 → (x < countIn W b) × Closed W b x c y T → follow (objectsIn W b) (obj x) (f ∷ p) ≡ follow (objectsIn W c) (obj y) (f ∷ p)
+    field f p ih x y e o =
+        let hx : x < countIn W b = o .0 in
+        let d = o .1 in
         let hy = pd .within x y e in
         below p (refsAt (objectsIn W b) x) (refsAt (objectsIn W c) y) (sym (count-is W b bb x hx) ∙ d .alike .count ∙ count-is W c bc y hy)
         (λ g l.
         let k : g < getD W (234 * b + 6 * x + 1) 0 = omega (arith, count-is W b bb x hx) in
         let k4 : g < 4 = omega (arith, bb .packed x hx .count) in
-        linked-refs p (claim p) (getD (refsAt (objectsIn W b) x) g undet) (getD (refsAt (objectsIn W c) y) g undet)
+        linked-refs p ih (getD (refsAt (objectsIn W b) x) g undet) (getD (refsAt (objectsIn W c) y) g undet)
         (in-range W b bb x hx g k) (in-range W c bc y hy g (omega (arith, d .alike .count)))
         (rw (← code-is W b bb x hx g k4, ← code-is W c bc y hy g k4) (d .fields .codes g k)))
         f
 
+    claim : (p : List ℕ) → Claim p
+    claim [] x y e = ⊎-elim (λ o. label x y e o) (λ s. s []) (cl x y e)
+    claim (f ∷ p) x y e = ⊎-elim (λ o. field f p (claim p) x y e o) (λ s. s (f ∷ p)) (cl x y e)
+
 -- ---- the pairs gone over
 module _ (W : List ℕ) (b c : ℕ) (T₀ Q₀ : List ℕ) where
-  pub pairs-start : Block W b → Block W c → Paired (countIn W b) (countIn W c) T₀ Q₀ 1 → PairsSoFar W b c T₀ Q₀ T₀ Q₀ 1 0
+  pub pairs-start : Block W b → Block W c → Paired W b c T₀ Q₀ 1 → PairsSoFar W b c T₀ Q₀ T₀ Q₀ 1 0
   pairs-start bb bc pd = record {
     first = bb;
     second = bc;
@@ -501,12 +501,13 @@ module _ (W : List ℕ) (b c : ℕ) (T₀ Q₀ : List ℕ) where
             first = record { block = so .first; low = so .paired .low h hh };
             second = record { block = so .second; low = so .paired .within (getD Q h 0) (getD T (getD Q h 0) 0 - 1) e };
             paired = so .paired;
+            some = omega arith;
             here = e;
           }
 
       module _ (T2 Q2 : List ℕ) (u : ℕ) (o : ObjectStep W b (getD Q h 0) c (getD T (getD Q h 0) 0 - 1) T Q t T2 Q2 u) where
-        pub pairs-differ : u ≡ 0 → InStep W b c T₀ false
-        pairs-differ z = record { yes = λ f. absurd (false≢true f); no = λ _ al. o .differ z (so .grown .keeps al) }
+        pub pairs-differ : u ≡ 0 → InStep W b c T₀ T2 false
+        pairs-differ z = record { pairs = λ f. absurd (false≢true f); yes = λ f. absurd (false≢true f); within = λ f. absurd (false≢true f); no = λ _ al. o .differ z (so .grown .keeps al) }
 
         pub pairs-few : ((u ≡ 0) → ⊥) → u ≤ 32
         pairs-few z = omega (arith, o .paired z .free)
@@ -548,17 +549,71 @@ module _ (W : List ℕ) (b c : ℕ) (T₀ Q₀ : List ℕ) where
                   fields = record { codes = λ f k. let n = d .fields .codes f k in record { leaf = n .leaf; pair = λ j. o .grown z .pairs _ _ (n .pair j) } };
                 }
 
-    pub pairs-done : t ≤ h → InStep W b c T₀ true
+    pub pairs-done : t ≤ h → InStep W b c T₀ T true
     pairs-done l = record {
-      yes = λ _. record { same = λ x y e p. claim W b c (so .first) (so .second) T Q t (so .paired) all p x y (so .grown .pairs x y e) };
+      pairs = λ _. so .grown .pairs;
+      yes = λ _. record { same = λ x y e p. claim W b c (so .first) (so .second) T Q t (so .paired) all p x y e };
+      within = λ _. so .paired .within;
       no = λ f. absurd (true≢false f);
     }
       where
-        all : (x y : ℕ) → getD T x 0 ≡ y + 1 → Closed W b x c y T
-        all x y e =
-            let o = so .paired .listed x y e in
-            let k : o .0 < t = o .1 in
-            subst (λ (i : ℕ). Closed W b i c y T) (o .2) (so .closed .before (o .0) (omega arith) y (ap (λ (i : ℕ). getD T i 0) (o .2) ∙ e))
+        gone : (x y : ℕ) → getD T x 0 ≡ y + 1 → ((q : ℕ) × (q < t) × (getD Q q 0 ≡ x)) → (x < countIn W b) × Closed W b x c y T
+        gone x y e o =
+            let k : o .0 < t = o .1 in (
+              subst (λ (i : ℕ). i < countIn W b) (o .2) (so .paired .low (o .0) k),
+              subst (λ (i : ℕ). Closed W b i c y T) (o .2) (so .closed .before (o .0) (omega arith) y (ap (λ (i : ℕ). getD T i 0) (o .2) ∙ e)),
+            )
+
+        all : (x y : ℕ) → getD T x 0 ≡ y + 1 → ((x < countIn W b) × Closed W b x c y T) ⊎ Same (objectsIn W b) (obj x) (objectsIn W c) (obj y)
+        all x y e = ⊎-elim (λ o. inl (gone x y e o)) (λ s. inr s) (so .paired .listed x y e)
+
+-- ---- where comparing begins
+unpaired-few : (k : ℕ) (T : List ℕ) → unpaired k T ≤ k
+unfolding unpaired
+unpaired-few zero T = omega arith
+unpaired-few (suc k) T = go (eqb (getD T k 0) 0) (unpaired-few k T)
+  where
+    go : (b : Bool) → unpaired k T ≤ k → cond b 1 0 + unpaired k T ≤ suc k
+    go true h = omega arith
+    go false h = omega arith
+
+-- a table of partners that are known to unfold to the same trees, and an empty queue
+pub told-paired : (W : List ℕ) (b c : ℕ) (T Q : List ℕ) → length T ≡ 32 → length Q ≡ 32 → AllSame W b c T → ((x y : ℕ) → getD T x 0 ≡ y + 1 → y < countIn W c) → Paired W b c T Q 0
+told-paired W b c T Q lt lq al wi = record {
+  table = lt;
+  queue = lq;
+  free = omega (arith, unpaired-few 32 T);
+  low = λ q h. absurd (omega arith);
+  there = λ q h. absurd (omega arith);
+  listed = λ x y e. inr (al .same x y e);
+  within = wi;
+}
+
+-- and one pair more, which is to be gone over
+module _ (W : List ℕ) (b c : ℕ) (bb : Block W b) (T Q : List ℕ) (lt : length T ≡ 32) (lq : length Q ≡ 32) (al : AllSame W b c T) (wi : (x y : ℕ) → getD T x 0 ≡ y + 1 → y < countIn W c)
+    (i j : ℕ) (hi : i < countIn W b) (hj : j < countIn W c) (e : getD T i 0 ≡ 0) where
+  pub told-roots : Paired W b c (set T i (j + 1)) (set Q 0 i) 1
+  told-roots = pair-new W b c T Q 0 i j (told-paired W b c T Q lt lq al wi) (bb .small) hi hj e
+
+  root-here : getD (set T i (j + 1)) i 0 ≡ j + 1
+  root-here = put W b c T Q 0 i j (told-paired W b c T Q lt lq al wi) (bb .small) hi hj e
+
+  module _ (T2 : List ℕ) (r : Bool) (s : InStep W b c (set T i (j + 1)) T2 r) where
+    pub told-same : r ≡ true → Same (objectsIn W b) (obj i) (objectsIn W c) (obj j)
+    told-same z = s .yes z .same i j (s .pairs z i j root-here)
+
+    pub told-kept : r ≡ true → (x y : ℕ) → getD T x 0 ≡ y + 1 → getD T2 x 0 ≡ y + 1
+    told-kept z x y q = s .pairs z x y (pairs-stay W b c T Q 0 i j (told-paired W b c T Q lt lq al wi) (bb .small) hi hj e x y q)
+
+    pub told-differ : r ≡ false → Same (objectsIn W b) (obj i) (objectsIn W c) (obj j) → ⊥
+    told-differ z t = s .no z (record { same = λ x y q. go x y q (ℕ-discrete x i) })
+      where
+        go : (x y : ℕ) → getD (set T i (j + 1)) x 0 ≡ y + 1 → Dec (x ≡ i) → Same (objectsIn W b) (obj x) (objectsIn W c) (obj y)
+        go x y q (yes p) =
+            let v : j + 1 ≡ y + 1 = sym root-here ∙ ap (λ (k : ℕ). getD (set T i (j + 1)) k 0) (sym p) ∙ q in
+            let w : j ≡ y = omega arith in
+            λ l. ap (λ (k : ℕ). follow (objectsIn W b) (obj k) l) p ∙ t l ∙ ap (λ (k : ℕ). follow (objectsIn W c) (obj k) l) w
+        go x y q (no p) = al .same x y (sym (getD-set-other T i x (j + 1) 0 p) ∙ q)
 
 -- ---- two objects
 eqNodes-refl : (ns : List Node) → eqNodes ns ns ≡ true
@@ -611,33 +666,21 @@ module _ (W : List ℕ) (b i c j : ℕ) (ib : Inside W b i) (ic : Inside W c j) 
         go (yes l) = getD-replicate k x 0 0 l
         go (no l) = List·getD-eq-default (replicate k 0) 0 {n = x} (omega (arith, l, length-replicate {A = ℕ} k 0))
 
-    none-paired : (m : ℕ) → Paired m (countIn W c) (replicate k 0) (replicate k 0) 0
-    none-paired m = record {
-      table = length-replicate k 0 ∙ ek;
-      queue = length-replicate k 0 ∙ ek;
-      free = omega (arith, unpaired-all 32 (replicate k 0) zero-at);
-      low = λ q h. absurd (omega arith);
-      there = λ q h. absurd (omega arith);
-      listed = λ x y e. absurd (omega (arith, zero-at x));
-      within = λ x y e. absurd (omega (arith, zero-at x));
-    }
+    none-told : AllSame W b c (replicate k 0)
+    none-told = record { same = λ x y e. absurd (omega (arith, zero-at x)) }
 
-    pub roots-paired : Paired (countIn W b) (countIn W c) (set (replicate k 0) i (j + 1)) (set (replicate k 0) 0 i) 1
-    roots-paired = pair-new (countIn W b) (countIn W c) (replicate k 0) (replicate k 0) 0 i j (none-paired (countIn W b)) (ib .block .small) (ib .low) (ic .low) (zero-at i)
+    none-within : (x y : ℕ) → getD (replicate k 0) x 0 ≡ y + 1 → y < countIn W c
+    none-within x y e = absurd (omega (arith, zero-at x))
 
-    pub roots-in-step : (r : Bool) → InStep W b c (set (replicate k 0) i (j + 1)) r → r ≡ eqGraph (canon (graphAt W b i)) (canon (graphAt W c j))
-    roots-in-step true s =
-        trees-same (s .yes refl .same i j (put (countIn W b) (countIn W c) (replicate k 0) (replicate k 0) 0 i j (none-paired (countIn W b)) (ib .block .small) (ib .low) (ic .low) (zero-at i)))
-    roots-in-step false s = trees-differ (λ t. s .no refl (record { same = λ x y e. go t x y e (ℕ-discrete x i) }))
-      where
-        go : Same (objectsIn W b) (obj i) (objectsIn W c) (obj j) → (x y : ℕ) → getD (set (replicate k 0) i (j + 1)) x 0 ≡ y + 1 → Dec (x ≡ i) → Same (objectsIn W b) (obj x) (objectsIn W c) (obj y)
-        go t x y e (yes z) =
-            let v : j + 1 ≡ y + 1 =
-            sym (put (countIn W b) (countIn W c) (replicate k 0) (replicate k 0) 0 i j (none-paired (countIn W b)) (ib .block .small) (ib .low) (ic .low) (zero-at i))
-            ∙ ap (λ (q : ℕ). getD (set (replicate k 0) i (j + 1)) q 0) (sym z) ∙ e in
-            let w : j ≡ y = omega arith in
-            λ p. ap₂ {A = ℕ} {B = ℕ} (λ q l. follow (objectsIn W b) (obj q) p) z w ∙ t p ∙ ap (λ (l : ℕ). follow (objectsIn W c) (obj l) p) w
-        go t x y e (no z) = let v : y + 1 ≡ 0 = sym e ∙ getD-set-other (replicate k 0) i x (j + 1) 0 z ∙ zero-at x in absurd (omega arith)
+    long : length (replicate {A = ℕ} k 0) ≡ 32
+    long = length-replicate k 0 ∙ ek
+
+    pub roots-paired : Paired W b c (set (replicate k 0) i (j + 1)) (set (replicate k 0) 0 i) 1
+    roots-paired = told-roots W b c (ib .block) (replicate k 0) (replicate k 0) long long none-told none-within i j (ib .low) (ic .low) (zero-at i)
+
+    pub roots-in-step : (T : List ℕ) (r : Bool) → InStep W b c (set (replicate k 0) i (j + 1)) T r → r ≡ eqGraph (canon (graphAt W b i)) (canon (graphAt W c j))
+    roots-in-step T true s = trees-same (told-same W b c (ib .block) (replicate k 0) (replicate k 0) long long none-told none-within i j (ib .low) (ic .low) (zero-at i) T true s refl)
+    roots-in-step T false s = trees-differ (told-differ W b c (ib .block) (replicate k 0) (replicate k 0) long long none-told none-within i j (ib .low) (ic .low) (zero-at i) T false s refl)
 
 -- ---- two references
 module _ (W : List ℕ) (a b : ValueRef) where

@@ -1,5 +1,5 @@
 -- A mark bound to an object of a block, the objects left where they are; and objects of which no two are the same.
--- Not here: which of them are merged (crate canon, Pairing and Rounds), a value in which the mark does not occur.
+-- Not here: which of them are merged (crate canon, Parting and Classing), a value in which the mark does not occur.
 use Prim.Native.Nat.{ℕ, _+_, _*_, _≤_, _<_}
 use mathlib.Core.Path.{_≡_}
 use mathlib.Core.Bool.{Bool, true, not, cond}

@@ -4,6 +4,7 @@ use Prim.Native.Nat.{ℕ, zero, suc, _+_, _*_, _≤_, _<_}
 use mathlib.Core.Path.{_≡_}
 use mathlib.Core.Bool.{Bool, true, false, cond}
 use mathlib.Core.List.{List}
+use mathlib.Core.Logic.{_⊎_}
 use lib.Dec.{eqb, ltb}
 use lib.ListN.{length, getD, set}
 use Rattle.cofj.specs.Values.{obj}
@@ -39,15 +40,16 @@ unfoldable pub unpaired : ℕ → List ℕ → ℕ
 unpaired zero T = 0
 unpaired (suc k) T = cond (eqb (getD T k 0) 0) 1 0 + unpaired k T
 
--- object x is paired with y where the table has y + 1 for x; the queue lists the paired objects
-pub record Paired (n m : ℕ) (T Q : List ℕ) (t : ℕ) : Type 0 where
+-- object x of block b is paired with object y of block c where the table has y + 1 for x; the queue lists the paired objects, but those that are known to unfold to
+-- their partners' trees: they need not be gone over. Comparing begins with none such, merging with those that have codes
+pub record Paired (W : List ℕ) (b c : ℕ) (T Q : List ℕ) (t : ℕ) : Type 0 where
   pub table : length T ≡ 32
   pub queue : length Q ≡ 32
   pub free : t + unpaired 32 T ≤ 32
-  pub low : (q : ℕ) → q < t → getD Q q 0 < n
+  pub low : (q : ℕ) → q < t → getD Q q 0 < countIn W b
   pub there : (q : ℕ) → q < t → (getD T (getD Q q 0) 0 ≡ 0) → ⊥
-  pub listed : (x y : ℕ) → getD T x 0 ≡ y + 1 → (q : ℕ) × (q < t) × (getD Q q 0 ≡ x)
-  pub within : (x y : ℕ) → getD T x 0 ≡ y + 1 → y < m
+  pub listed : (x y : ℕ) → getD T x 0 ≡ y + 1 → ((q : ℕ) × (q < t) × (getD Q q 0 ≡ x)) ⊎ Same (objectsIn W b) (obj x) (objectsIn W c) (obj y)
+  pub within : (x y : ℕ) → getD T x 0 ≡ y + 1 → y < countIn W c
 
 -- each pair unfolds to one tree
 pub record AllSame (W : List ℕ) (b c : ℕ) (T : List ℕ) : Type 0 where
@@ -73,7 +75,8 @@ pub record LinkedTo (W : List ℕ) (b x c y : ℕ) (T : List ℕ) (k : ℕ) : Ty
 pub record Pair (W : List ℕ) (b x c y : ℕ) (T Q : List ℕ) (t : ℕ) : Type 0 where
   pub first : Inside W b x
   pub second : Inside W c y
-  pub paired : Paired (countIn W b) (countIn W c) T Q t
+  pub paired : Paired W b c T Q t
+  pub some : 0 < t
   pub here : getD T x 0 ≡ y + 1
 
 -- the first k fields of a pair gone over
@@ -81,7 +84,7 @@ pub record FieldsSoFar (W : List ℕ) (b x c y : ℕ) (T₀ Q₀ : List ℕ) (t�
   pub start : Pair W b x c y T₀ Q₀ t₀
   pub alike : Alike W (234 * b + 6 * x) (234 * c + 6 * y)
   pub grown : Grown W b c T₀ Q₀ t₀ T Q t
-  pub paired : Paired (countIn W b) (countIn W c) T Q t
+  pub paired : Paired W b c T Q t
   pub fields : LinkedTo W b x c y T k
 
 -- alike, and all fields are linked
@@ -98,17 +101,19 @@ pub record PairsSoFar (W : List ℕ) (b c : ℕ) (T₀ Q₀ T Q : List ℕ) (t h
   pub first : Block W b
   pub second : Block W c
   pub grown : Grown W b c T₀ Q₀ 1 T Q t
-  pub paired : Paired (countIn W b) (countIn W c) T Q t
+  pub paired : Paired W b c T Q t
   pub closed : ClosedTo W b c T Q h
 
 -- one pair gone over
 pub record ObjectStep (W : List ℕ) (b x c y : ℕ) (T₀ Q₀ : List ℕ) (t : ℕ) (T Q : List ℕ) (r : ℕ) : Type 0 where
   pub differ : r ≡ 0 → AllSame W b c T₀ → ⊥
   pub grown : ((r ≡ 0) → ⊥) → Grown W b c T₀ Q₀ t T Q r
-  pub paired : ((r ≡ 0) → ⊥) → Paired (countIn W b) (countIn W c) T Q r
+  pub paired : ((r ≡ 0) → ⊥) → Paired W b c T Q r
   pub closed : ((r ≡ 0) → ⊥) → Closed W b x c y T
 
--- whether each pair unfolds to one tree
-pub record InStep (W : List ℕ) (b c : ℕ) (T : List ℕ) (r : Bool) : Type 0 where
+-- whether each pair unfolds to one tree; if so, those added do too
+pub record InStep (W : List ℕ) (b c : ℕ) (T₀ T : List ℕ) (r : Bool) : Type 0 where
+  pub pairs : r ≡ true → (x y : ℕ) → getD T₀ x 0 ≡ y + 1 → getD T x 0 ≡ y + 1
   pub yes : r ≡ true → AllSame W b c T
-  pub no : r ≡ false → AllSame W b c T → ⊥
+  pub within : r ≡ true → (x y : ℕ) → getD T x 0 ≡ y + 1 → y < countIn W c
+  pub no : r ≡ false → AllSame W b c T₀ → ⊥

@@ -4,7 +4,7 @@ ghost use mathlib.Core.Path.{_≡_};
 ghost use Prim.Native.Nat.{ℕ, _+_, _*_, _≤_};
 ghost use lib.ListN.{length};
 ghost use Rattle.cofj.specs.Values.{eqGraph, canon};
-ghost use Rattle.canon.specs.Layout.{Alike, alikeAt, Inside, Block, countIn, graphAt};
+ghost use Rattle.canon.specs.Layout.{Alike, alikeAt, Inside, Block, graphAt};
 ghost use Rattle.values.specs.Layout.{Holds, valueOf};
 ghost use Rattle.values.specs.Stepping.{after, stepCode, CodeFits, Paired, Pair, ObjectStep, InStep};
 
@@ -102,10 +102,11 @@ pub fn step_object(
     0
 }
 
-// Meets the objects of the queue and their partners, those too that are added. Answers whether each unfolds to its partner's tree.
+// Meets the objects of the queue and their partners, those too that are added. Answers whether each unfolds to its partner's tree; then the table has them all.
+// The table may have partners to begin with that are known to be so and are not in the queue.
 pub fn in_step(work: &[u8], b: u16, c: u16, partner: &mut [u8], queue: &mut [u8]) -> bool
-    requires { ⌜ Block (now work) b × Block (now work) c × Paired (countIn (now work) b) (countIn (now work) c) (now partner) (now queue) 1 ⌝ }
-    ensures { λ r. ⌜ InStep (now (work .entry)) b c (now (partner .entry)) r ⌝ }
+    requires { ⌜ Block (now work) b × Block (now work) c × Paired (now work) b c (now partner) (now queue) 1 ⌝ }
+    ensures { λ r. ⌜ InStep (now (work .entry)) b c (now (partner .entry)) (now (partner .exit)) r ⌝ }
 {
     let mut head: u8 = 0;
     let mut tail: u8 = 1;

@@ -3,23 +3,27 @@ use Rattle.canon.proofs.colours.colour.Statement.{statement}
 use Rattle.canon.proofs.colours.colour.Tie as tie
 use Rattle.canon.proofs.colours.colour.Reads as reads
 use Rattle.canon.proofs.colours.colour.Lts as lts
-use Rattle.canon.proofs.colours.colour_rounds.Reads as colour-rounds-reads
-use Rattle.canon.proofs.pairs.colour_pairs.Reads as colour-pairs-reads
-use Rattle.canon.proofs.Pairings as laws
+use Rattle.canon.proofs.leads.part_own.Reads as part-own-reads
+use Rattle.canon.proofs.leads.steady.Reads as steady-reads
+use Rattle.canon.proofs.colours.settle_own.Reads as settle-own-reads
+use native.Mathlib.Omega.{arith}
+use Rattle.canon.proofs.Classing as laws
 
-returns-2 : tie.Need-returns-2
-returns-2 c = search laws.colour-by
+returns : tie.Need-returns
+returns c =
+    let after-steady = c .before in
+    let after-part-own = after-steady .before .before .before .before in
+    let start = after-part-own .before .before .before .before in
+    laws.steady-colours _ _ (start .pre .0) _ (omega arith) (after-part-own .part-own .ensures) (after-steady .steady .ensures .yes (c .if1 .taken))
 
 pub colour-spec : {M : Type 1} → statement M
 colour-spec =
     tie.close
     (tie.spec
     (λ c κs. search needs)
-    (λ c. search needs)
-    (λ c. search needs)
     (λ c κs. search needs)
     (λ c. search needs)
-    returns-2
+    returns
     (λ c κs. search needs)
     (λ c. search needs)
     (λ c. search needs))

@@ -1,0 +1,40 @@
+use borrow.Author.Needs.{needs}
+use Rattle.canon.proofs.leads.part.Statement.{statement}
+use Rattle.canon.proofs.leads.part.Tie as tie
+use Rattle.canon.proofs.leads.part.Reads as reads
+use Rattle.canon.proofs.leads.part.Lts as lts
+use Rattle.canon.proofs.leads.lead.Reads as lead-reads
+use Rattle.canon.proofs.links.link.Reads as link-reads
+use Rattle.canon.proofs.parting.begin.Reads as begin-reads
+use Rattle.canon.proofs.parting.part_fields.Reads as part-fields-reads
+use Rattle.canon.proofs.parting.part_looks.Reads as part-looks-reads
+use native.Mathlib.Omega.{arith}
+use Rattle.canon.proofs.Classing as laws
+
+link-requires : tie.Need-link-requires
+link-requires c κs = (laws.raw-codes _ _ ((c .before .before .before .before .before .before) .pre .0), search needs, search needs, search needs)
+
+returns : tie.Need-returns
+returns c =
+    let after-lead = c .before .before .before .before in
+    let after-part-fields = after-lead .before .before .before .before .before in
+    let after-part-looks = after-part-fields .before .before .before .before .before in
+    let after-begin = after-part-looks .before .before .before .before .before in
+    let after-link = after-begin .before .before .before .before .before .before in
+    let start = after-link .before .before .before .before .before .before .before in
+    laws.parted-coarse _ _ (start .pre .0) _ (after-link .link .ensures .0) _ _ _ _ _ _ (after-begin .begin .ensures) (after-part-looks .part-looks .ensures) (after-part-fields .part-fields .ensures) (after-lead .lead .ensures)
+
+pub part-spec : {M : Type 1} → statement M
+part-spec =
+    tie.close
+    (tie.spec
+    (λ c. search needs)
+    link-requires
+    (λ c κs. search needs)
+    (λ c κs. search needs)
+    (λ c κs. search needs)
+    (λ c κs. search needs)
+    (λ c. search needs)
+    (λ c. search needs)
+    (λ c. search needs)
+    returns)

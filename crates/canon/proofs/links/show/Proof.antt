@@ -1,0 +1,23 @@
+use Rattle.canon.proofs.links.show.Statement.{statement}
+use Rattle.canon.proofs.links.show.Tie as tie
+use Rattle.canon.proofs.links.show.Reads as reads
+use Rattle.canon.proofs.links.show.Lts as lts
+use borrow.Author.Needs.{needs}
+use Rattle.canon.proofs.Looks as laws
+
+returns : tie.Need-returns
+returns c = search laws.show-plain
+
+returns-2 : tie.Need-returns-2
+returns-2 c = search laws.show-object
+
+returns-3 : tie.Need-returns-3
+returns-3 c = search laws.show-leaf
+
+pub show-spec : {M : Type 1} → statement M
+show-spec =
+    tie.close
+    (tie.spec
+    returns
+    returns-2
+    returns-3)

@@ -1,0 +1,25 @@
+use borrow.Author.Needs.{needs}
+use Rattle.canon.proofs.links.target_row.Statement.{statement}
+use Rattle.canon.proofs.links.target_row.Tie as tie
+use Rattle.canon.proofs.links.target_row.Reads as reads
+use Rattle.canon.proofs.links.target_row.Lts as lts
+use Rattle.canon.proofs.Refers as laws
+
+returns : tie.Need-returns
+returns c = search laws.target-object
+
+returns-2 : tie.Need-returns-2
+returns-2 c = search laws.target-leaf
+
+pub target-row-spec : {M : Type 1} → statement M
+target-row-spec =
+    tie.close
+    (tie.spec
+    (λ c. search needs)
+    (λ c. search needs)
+    (λ c. search needs)
+    (λ c. search needs)
+    (λ c. search needs)
+    (λ c. search needs)
+    returns
+    returns-2)

@@ -1,0 +1,259 @@
+// Objects parted into classes until those of one class look alike: a class is parted by who refers into a class, and the smaller part is a new one (Hopcroft).
+// Not here: who refers to whom (links), the test that it is done (steady).
+ghost use mathlib.Core.Path.{_≡_};
+ghost use Prim.Native.Nat.{ℕ, _+_, _*_, _<_, _≤_};
+ghost use lib.ListN.{length, getD};
+ghost use Rattle.canon.specs.Links.{Lists, AllLists};
+ghost use Rattle.canon.specs.Parting.{Stood, Begun, Standing, Classes, Found, Brought, SameNotes, Into, Noted, Relabelled, LaidOut, Kept, Split, PartedLooks, PartedFields};
+
+// The class of object x, and number k of row x.
+pub fn class_of(t: &[u16], x: u16) -> u16
+    requires { ⌜ 8 * x + 8 ≤ length (now t) ⌝ }
+    ensures { λ r. ⌜ r ≡ getD (now (t .entry)) (8 * x) 0 ⌝ }
+{
+    t[8 * (x as usize)]
+}
+
+pub fn cell(t: &[u16], x: u16, k: u16) -> u16
+    requires { ⌜ (8 * x + 8 ≤ length (now t)) × (k < 8) ⌝ }
+    ensures { λ r. ⌜ r ≡ getD (now (t .entry)) (8 * x + k) 0 ⌝ }
+{
+    t[8 * (x as usize) + k as usize]
+}
+
+// The last that refers to v by field f, and the one before z that refers to what z does.
+pub fn last_into(links: &[u16], f: u16, v: u16) -> u16
+    requires { ⌜ (15 * v + 15 ≤ length (now links)) × (f < 5) ⌝ }
+    ensures { λ r. ⌜ r ≡ getD (now (links .entry)) (15 * v + f) 0 ⌝ }
+{
+    links[15 * (v as usize) + f as usize]
+}
+
+pub fn one_before(links: &[u16], f: u16, z: u16) -> u16
+    requires { ⌜ (15 * z + 15 ≤ length (now links)) × (f < 5) ⌝ }
+    ensures { λ r. ⌜ r ≡ getD (now (links .entry)) (15 * z + 5 + f) 0 ⌝ }
+{
+    links[15 * (z as usize) + 5 + f as usize]
+}
+
+// Object x stands at place p.
+pub fn stand(t: &mut [u16], x: u16, p: u16)
+    requires { ⌜ (8 * x + 8 ≤ length (now t)) × (8 * p + 8 ≤ length (now t)) ⌝ }
+    ensures { λ _. ⌜ Stood (now (t .entry)) x p (now (t .exit)) ⌝ }
+{
+    t[8 * (p as usize) + 2] = x;
+    t[8 * (x as usize) + 1] = p;
+}
+
+// Class c has the places from a to e, none of them in front.
+pub fn lay_out(t: &mut [u16], c: u16, a: u16, e: u16)
+    requires { ⌜ 8 * c + 8 ≤ length (now t) ⌝ }
+    ensures { λ _. ⌜ LaidOut (now (t .entry)) c a e (now (t .exit)) ⌝ }
+{
+    t[8 * (c as usize) + 3] = a;
+    t[8 * (c as usize) + 4] = a;
+    t[8 * (c as usize) + 5] = e;
+}
+
+// n objects in one class.
+pub fn begin(t: &mut [u16], n: u16)
+    requires { ⌜ (0 < n) × (8 * n ≤ length (now t)) ⌝ }
+    ensures { λ _. ⌜ Begun n (now (t .exit)) ⌝ }
+{
+    let mut x: u16 = 0;
+    while x < n {
+        t[8 * (x as usize)] = 0;
+        stand(t, x, x);
+        x += 1;
+    }
+    lay_out(t, 0, 0, n);
+}
+
+// Brings object z, at place l of class c, to the class's middle a.
+pub fn bring(t: &mut [u16], n: u16, m: u16, z: u16, c: u16, a: u16, l: u16)
+    requires { ⌜ Classes n m (now t) × Found n m (now t) z c a l ⌝ }
+    ensures { λ _. ⌜ Brought n m (now (t .entry)) (now (t .exit)) (λ x. x ≡ z) × SameNotes n (now (t .entry)) (now (t .exit)) ⌝ }
+{
+    let e = cell(t, a, 2);
+    stand(t, e, l);
+    stand(t, z, a);
+    t[8 * (c as usize) + 4] = a + 1;
+}
+
+// Brings object z to the front of its class. Notes the class if it is the first there, and answers how many are noted.
+pub fn mark(t: &mut [u16], n: u16, m: u16, z: u16, k: u16) -> u16
+    requires { ⌜ Classes n m (now t) × (z < n) × (k ≤ n) ⌝ }
+    ensures { λ r. ⌜ Brought n m (now (t .entry)) (now (t .exit)) (λ x. x ≡ z) × SameNotes n (now (t .entry)) (now (t .exit)) × (r ≤ n) ⌝ }
+{
+    let c = class_of(t, z);
+    let a = cell(t, c, 4);
+    let l = cell(t, z, 1);
+    if l < a {
+        return k;
+    }
+    let b = cell(t, c, 3);
+    bring(t, n, m, z, c, a, l);
+    if a != b {
+        return k;
+    }
+    if n <= k {
+        return k;
+    }
+    t[8 * (k as usize) + 7] = c;
+    k + 1
+}
+
+// Brings all that refer to object v by field f to the fronts of their classes.
+pub fn mark_into(t: &mut [u16], n: u16, m: u16, links: &[u16], f: u16, v: u16, k: u16) -> u16
+    requires { ⌜ Classes n m (now t) × Lists n f (now links) × (f < 5) × (0 < v) × (v < n) × (k ≤ n) ⌝ }
+    ensures { λ r. ⌜ Brought n m (now (t .entry)) (now (t .exit)) (λ x. getD (now (links .entry)) (15 * x + 10 + f) 0 ≡ v) × SameNotes n (now (t .entry)) (now (t .exit)) × (r ≤ n) ⌝ }
+{
+    let mut j = k;
+    let mut z = last_into(links, f, v);
+    while 0 < z {
+        j = mark(t, n, m, z, j);
+        z = one_before(links, f, z);
+    }
+    j
+}
+
+// Notes the objects of class s.
+pub fn note(t: &mut [u16], n: u16, m: u16, s: u16)
+    requires { ⌜ Classes n m (now t) × (s < m) ⌝ }
+    ensures { λ _. ⌜ Noted (now (t .entry)) s (getD (now (t .entry)) (8 * s + 5) 0) (now (t .exit)) ⌝ }
+{
+    let e = cell(t, s, 5);
+    let mut p = cell(t, s, 3);
+    while p < e {
+        let v = cell(t, p, 2);
+        t[8 * (p as usize) + 6] = v;
+        p += 1;
+    }
+}
+
+// Brings all that refer to an object of class s by field f to the fronts of their classes.
+pub fn mark_class(t: &mut [u16], n: u16, m: u16, links: &[u16], f: u16, s: u16) -> u16
+    requires { ⌜ Classes n m (now t) × Lists n f (now links) × (f < 5) × (s < m) ⌝ }
+    ensures { λ r. ⌜ Brought n m (now (t .entry)) (now (t .exit)) (Into (now (links .entry)) f (now (t .entry)) s) × (r ≤ n) ⌝ }
+{
+    note(t, n, m, s);
+    let e = cell(t, s, 5);
+    let mut p = cell(t, s, 3);
+    let mut k: u16 = 0;
+    while p < e {
+        let v = cell(t, p, 6);
+        p += 1;
+        if 0 < v {
+            k = mark_into(t, n, m, links, f, v, k);
+        }
+    }
+    k
+}
+
+// The objects at places a to e are of class m.
+pub fn relabel(t: &mut [u16], n: u16, a: u16, e: u16, m: u16)
+    requires { ⌜ Standing n (now t) × (a ≤ e) × (e ≤ n) ⌝ }
+    ensures { λ _. ⌜ Relabelled n (now (t .entry)) a e m (now (t .exit)) ⌝ }
+{
+    let mut p = a;
+    while p < e {
+        let x = cell(t, p, 2);
+        t[8 * (x as usize)] = m;
+        p += 1;
+    }
+}
+
+// Parts class d at its middle, if there are objects on both sides; the smaller side is a new class. Answers how many classes there are.
+pub fn split(t: &mut [u16], n: u16, m: u16, d: u16) -> u16
+    requires { ⌜ Classes n m (now t) × (d < m) ⌝ }
+    ensures { λ r. ⌜ Split n (now (t .entry)) (now (t .exit)) m r ⌝ }
+{
+    let a = cell(t, d, 3);
+    let g = cell(t, d, 4);
+    let e = cell(t, d, 5);
+    if g <= a {
+        return m;
+    }
+    if e <= g {
+        lay_out(t, d, a, e);
+        return m;
+    }
+    if n <= m {
+        lay_out(t, d, a, e);
+        return m;
+    }
+    if g - a <= e - g {
+        lay_out(t, d, g, e);
+        lay_out(t, m, a, g);
+        relabel(t, n, a, g, m);
+        return m + 1;
+    }
+    lay_out(t, d, a, g);
+    lay_out(t, m, g, e);
+    relabel(t, n, g, e, m);
+    m + 1
+}
+
+// The same for the k classes noted.
+pub fn split_all(t: &mut [u16], n: u16, m: u16, k: u16) -> u16
+    requires { ⌜ Classes n m (now t) × (k ≤ n) ⌝ }
+    ensures { λ r. ⌜ Split n (now (t .entry)) (now (t .exit)) m r ⌝ }
+{
+    let mut r = m;
+    let mut i: u16 = 0;
+    while i < k {
+        let d = cell(t, i, 7);
+        i += 1;
+        if d < r {
+            r = split(t, n, r, d);
+        }
+    }
+    r
+}
+
+// Parts the classes by the first object that looks alike, which is field 4.
+pub fn part_looks(t: &mut [u16], n: u16, links: &[u16]) -> u16
+    requires { ⌜ Classes n 1 (now t) × Lists n 4 (now links) ⌝ }
+    ensures { λ r. ⌜ PartedLooks n (now (links .entry)) (now (t .entry)) (now (t .exit)) r ⌝ }
+{
+    let mut m: u16 = 1;
+    let mut v: u16 = 1;
+    while v < n {
+        let u = v;
+        v += 1;
+        if 0 < last_into(links, 4, u) {
+            let k = mark_into(t, n, m, links, 4, u, 0);
+            m = split_all(t, n, m, k);
+        }
+    }
+    m
+}
+
+// Parts the classes by who refers into class s, by each field below w.
+pub fn part_by(t: &mut [u16], n: u16, m: u16, links: &[u16], w: u16, s: u16) -> u16
+    requires { ⌜ Classes n m (now t) × AllLists n (now links) × (w ≤ 4) × (s < m) ⌝ }
+    ensures { λ r. ⌜ PartedFields n (now (links .entry)) (now (t .entry)) (now (t .exit)) m r ⌝ }
+{
+    let mut r = m;
+    let mut f: u16 = 0;
+    while f < w {
+        let k = mark_class(t, n, r, links, f, s);
+        r = split_all(t, n, r, k);
+        f += 1;
+    }
+    r
+}
+
+// Parts the classes by who refers into them, the new ones too. The first class need not be looked at.
+pub fn part_fields(t: &mut [u16], n: u16, m: u16, links: &[u16], w: u16) -> u16
+    requires { ⌜ Classes n m (now t) × AllLists n (now links) × (w ≤ 4) ⌝ }
+    ensures { λ r. ⌜ PartedFields n (now (links .entry)) (now (t .entry)) (now (t .exit)) m r ⌝ }
+{
+    let mut r = m;
+    let mut s: u16 = 1;
+    while s < r {
+        r = part_by(t, n, r, links, w, s);
+        s += 1;
+    }
+    r
+}
