@@ -4,6 +4,8 @@
 //! What each call answers is proved in crates/engine; here slices and structs only pass across. Nothing is read from
 //! files, printed or kept: a session is a value that goes in and comes back.
 //!
+//! A call needs at most 320 KiB of stack: give a thread that calls no less.
+//!
 //! Every answer has a `refusal`, 0 when the call was accepted. A refused call writes nothing in what it was lent.
 //! Nothing checks these declarations against the Rattle source: host/include/baqolluy.h has the same, for C.
 
