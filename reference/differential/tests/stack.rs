@@ -19,6 +19,7 @@ const OTHER: u8 = 3;
 const HOLDER: u8 = 4;
 
 const UNKNOWN: u8 = 1;
+const SAME: u8 = 2;
 /// LAY + i lays the objects from 4 i on, DEEP + i is the i-th call that is open.
 const LAY: u8 = 0x10;
 const DEEP: u8 = 0x20;
@@ -59,38 +60,46 @@ fn ring_of_32() -> Program {
     p
 }
 
-/// So many open calls, each nested 6 deep in new objects: the next call below four of them, and below those of the last
-/// call the innermost one. The new objects go back around the ring, so that they are objects of it.
-fn deep(calls: u8, innermost: Expr) -> Vec<u8> {
+/// What a body has around its innermost expression.
+#[derive(Clone, Copy)]
+enum Around {
+    /// New objects that go back around the ring, so that they are objects of it.
+    Objects,
+    /// Calls whose argument it is.
+    Calls,
+}
+
+/// So many open calls, each nested 6 deep: the next call below four new objects or calls, in the last one the innermost
+/// expression.
+fn deep(calls: u8, around: Around, innermost: Expr) -> Vec<u8> {
     let mut p = ring_of_32();
-    let mut made = 1;
-    let mut class = || {
-        made += 1;
-        if made % 32 == 0 { OTHER } else { COMMON }
-    };
     let node = plus(NODE);
+    p.method((HOLDER, SAME), (node, node), &[node], (param(0), param(0)));
+    let mut made = 1;
+    let mut wrap = |inner, receiver: fn() -> Expr, unknown: fn() -> Expr| {
+        made += 1;
+        let class = if made % 32 == 0 { OTHER } else { COMMON };
+        match around {
+            Around::Objects => new(class, [unknown(), unknown(), unknown(), inner]),
+            Around::Calls => call(SAME, receiver(), [inner]),
+        }
+    };
     let mut inner = innermost;
     for place in (1..=calls).rev() {
-        let left = (0..4).fold(inner, |inner, _| {
-            new(class(), [param(1), param(1), param(1), inner])
-        });
-        let sides = (left, param(0));
+        let left = (0..4).fold(inner, |inner, _| wrap(inner, this, || param(1)));
+        let params = [node, minus(0)];
         p.method(
             (HOLDER, DEEP + place),
             (node, node),
-            &[node, minus(0)],
-            sides,
+            &params,
+            (left, param(0)),
         );
         inner = call(DEEP + place, this(), [param(0), param(1)]);
     }
     let holder = || new(HOLDER, []);
-    let unknown = || call(UNKNOWN, holder(), []);
-    let ring = call(LAY, holder(), []);
-    let start = call(DEEP + 1, holder(), [ring, unknown()]);
-    let main = (0..3).fold(start, |inner, _| {
-        new(class(), [unknown(), unknown(), unknown(), inner])
-    });
-    p.text(main)
+    let unknown = || call(UNKNOWN, new(HOLDER, []), []);
+    let start = call(DEEP + 1, holder(), [call(LAY, holder(), []), unknown()]);
+    p.text((0..3).fold(start, |inner, _| wrap(inner, holder, unknown)))
 }
 
 /// A new object over the ring that is none of it: its parts are laid side by side, coloured and walked.
@@ -105,8 +114,12 @@ fn of_the_ring() -> Expr {
 
 /// Units that a text of `deep` spends: two for each undetermined value, one for each four objects of the ring and one
 /// for its end, one for each call that is open.
-fn spent(calls: u16) -> u16 {
-    2 * (3 * 32 + 3 * 3 + 1) + 9 + calls
+fn spent(calls: u16, around: Around) -> u16 {
+    let in_main = match around {
+        Around::Objects => 3 * 3 + 1,
+        Around::Calls => 1,
+    };
+    2 * (3 * 32 + in_main) + 9 + calls
 }
 
 /// Both runs, as the reference engine's, end in this report with these units spent.
@@ -153,22 +166,26 @@ fn assert_read_and_written(text: &[u8]) {
 
 #[test]
 fn sixteen_open_calls_and_a_walk() {
-    let text = deep(16, over_the_ring());
-    assert_ends(&text, "0704", 1, spent(16));
-    assert_read_and_written(&text);
+    for around in [Around::Objects, Around::Calls] {
+        let text = deep(16, around, over_the_ring());
+        assert_ends(&text, "0704", 1, spent(16, around));
+        assert_read_and_written(&text);
+    }
 }
 
 #[test]
 fn sixteen_open_calls_and_a_value() {
-    let text = deep(16, of_the_ring());
-    assert_ends(&text, "0500", 32, spent(16));
+    let text = deep(16, Around::Objects, of_the_ring());
+    assert_ends(&text, "0500", 32, spent(16, Around::Objects));
 }
 
 /// That 16 calls are open above: one more is too deep.
 #[test]
 fn one_call_more() {
-    let text = deep(17, over_the_ring());
-    assert_ends(&text, "0703", 1, spent(17));
+    for around in [Around::Objects, Around::Calls] {
+        let text = deep(17, around, over_the_ring());
+        assert_ends(&text, "0703", 1, spent(17, around));
+    }
 }
 
 #[test]
