@@ -1,6 +1,6 @@
 -- The two sides of a method, as the language has them: one law for each return of the code; the open calls with one more.
 -- Not here: what the functions ask of one another (CallSteps).
-use Prim.Native.Nat.{ℕ, zero, suc, _+_, _*_, _≤_, _<_}
+use Prim.Native.Nat.{ℕ, zero, suc, _+_, _≤_, _<_}
 use native.Mathlib.Omega.{arith}
 use native.Mathlib.Decide.{decLt}
 use native.Mathlib.Numerals.{add-one}
@@ -31,7 +31,6 @@ use Rattle.evaluator.specs.declared.Stop.{Stop}
 use Rattle.evaluator.specs.declared.Out.{Out}
 use Rattle.evaluator.specs.declared.Out.the-variants.{Value, Halt}
 use Rattle.evaluator.specs.declared.frame.Held.the-variants.{Is, Absent}
-use Rattle.evaluator.specs.declared.frame.Held.{Held}
 use Rattle.evaluator.specs.declared.trace.OpenCall.{OpenCall}
 use Rattle.evaluator.specs.State.{sideCall, Kept, Older, PartsOlder, slotsAt, callAt, CallPut, CallOlder, TraceHolds, callIn, frameIn, traceIn}
 use Rattle.evaluator.specs.Resting.{bodyFrame}

@@ -8,7 +8,7 @@ use lib.ListN.{length, getD, take, set}
 use Rattle.cofj.specs.Running.{openMark}
 use Rattle.classes.specs.declared.methods.Found.{Found}
 use Rattle.classes.specs.declared.methods.Found.the-variants as found
-use Rattle.classes.specs.Machine.{rowOf, leftOf, rightOf}
+use Rattle.classes.specs.Machine.{leftOf, rightOf}
 use Rattle.values.specs.declared.ValueRef.{ValueRef}
 use Rattle.values.specs.declared.ValueRef.the-variants.{Mark}
 use Rattle.maker.specs.declared.Slot.{Slot}
@@ -30,14 +30,14 @@ use Rattle.evaluator.specs.declared.frame.Held.the-variants.{Is, Absent}
 use Rattle.evaluator.specs.declared.frame.Frame.{Frame}
 use Rattle.evaluator.specs.State.{slotsAt, sideCall, CallPut, CallsHold, traceIn, metOf}
 use Rattle.evaluator.specs.Resting.{bodyFrame}
-use Rattle.evaluator.specs.Answers.{Values, Stops, slotsOf, outWith, listFrom, haltsAs}
+use Rattle.evaluator.specs.Answers.{Values, slotsOf, outWith, listFrom, haltsAs}
 use Rattle.evaluator.specs.Spots.{movedSpot, bodySpot}
-use Rattle.evaluator.specs.Evaluation.{Fits, Evaluates, Lists}
+use Rattle.evaluator.specs.Evaluation.{Evaluates}
 use Rattle.evaluator.specs.Calling.{FindsTarget, ArgsFit, Calls, CallsWith, CallFits, Invokes, RunsLeft, RunsRight}
 use Rattle.evaluator.specs.Steps.{fuelOf, Traced, Based, Runnable, PartRunnable, ArgsRunnable, ListRunnable, CallRunnable, BodyRunnable, markIn, MarkGiven, EvalStep, ListStep, CallStep, ArgsStep, InvokeStep, RightStep, LeftStep}
 use Rattle.evaluator.proofs.Keeping.{kept-down, older-up, parts-held, based-kept}
 use Rattle.evaluator.proofs.Given.{given-older}
-use Rattle.evaluator.proofs.TraceLaws.{traced-none, traced-then, traced-down, fuel-set, traced-fuel, trace-on, calls-on, fits-on, calls-with-on, invokes-on}
+use Rattle.evaluator.proofs.TraceLaws.{traced-none, traced-then, traced-down, fuel-set, traced-fuel, calls-on, fits-on, calls-with-on, invokes-on}
 use Rattle.evaluator.proofs.BodyLaws.{put-traced, right-halt, right-value, left-halt, left-value}
 use Rattle.evaluator.proofs.CallLaws.{call-flat, call-halt, call-none, call-is, args-halt, args-is, args-none, invoke-fuel, invoke-deep, invoke-right, invoke-left}
 use Rattle.evaluator.proofs.FitLaws as fits
@@ -62,9 +62,6 @@ module _ (A : List ℕ) (x : ValueRef) where
 
 -- ---- a call (eval_call)
 module _ (T W : List ℕ) (f : Frame) (S : List ℕ) (p : Spot) (run : PartRunnable W f S p) where
-  pub receiver-run : Runnable W f S p
-  receiver-run = record { based = run .based; full = run .full; count = run .count; fits = fits.fit-inner W f S (p .opened) (p .nesting) (p .calls) (p .block) (run .fits) }
-
   module _ (m n : ℕ) where
     pub call-nested : p .nesting ≡ 0 → CallStep T W f S p m n W S (done.Halt Stuck)
     call-nested z = record { trace = traced-none (p .opened) S; runs = call-flat T W f S (p .opened) (p .at) (p .nesting) (p .calls) (p .block) (fuelOf S) m n z }
@@ -212,9 +209,6 @@ module _ (T W : List ℕ) (f : Frame) (S : List ℕ) (p : Spot) (v : ValueRef) (
 
 -- ---- a method called (invoke)
 module _ (W S : List ℕ) (v : ValueRef) (A : List ℕ) (n : ℕ) (p : Spot) (run : CallRunnable W S v A n p) where
-  pub call-full : length S ≡ 129
-  call-full = run .full
-
   pub call-few : n ≤ 3
   call-few = run .fits .few
 
@@ -306,9 +300,6 @@ module _ (W S : List ℕ) (v : ValueRef) (A : List ℕ) (n : ℕ) (p : Spot) (ru
 
   pub body-top : p .opened < 16
   body-top = fits.push-room W S (p .opened) v A n (p .calls - 1) (p .block) (run .fits)
-
-  pub body-next : p .opened + 1 < 256
-  body-next = let t = body-top in omega arith
 
   pub body-mark : p .opened < 63
   body-mark = let t = body-top in omega arith

@@ -35,9 +35,6 @@ module _ (T : List ℕ) (at : ℕ) where
   pub field-low : isField T at ≡ true → at < 25614
   field-low e = ltb-true at 25614 (field-tests e .0)
 
-  pub field-near : (b : Bool) → b ≡ isField T at → b ≡ true → at < tableSize
-  field-near b eb e = let l = field-low (sym eb ∙ e) in omega arith
-
   pub field-shape : isField T at ≡ true → shapeAt T at ≡ shape.Field (getD T (at + 1) 0) (at + 2)
   unfolding shapeAt
   field-shape e =

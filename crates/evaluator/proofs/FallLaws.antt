@@ -2,7 +2,7 @@
 -- Not here: the cycle.
 use Prim.Native.Nat.{ℕ, _+_, _*_, _≤_, _<_}
 use native.Mathlib.Omega.{arith}
-use mathlib.Core.Path.{_≡_, sym, ap, _∙_, subst}
+use mathlib.Core.Path.{_≡_, sym, subst}
 use Rattle.evaluator.specs.declared.spot.Spot.{Spot}
 use mathlib.Core.List.{List}
 use Rattle.values.specs.declared.ValueRef.{ValueRef}

@@ -2,12 +2,9 @@
 -- Not here: where they begin (ChainLaws), what a field means (ListLaws).
 use Prim.Native.Nat.{ℕ, zero, suc, _+_, _-_, _*_, _≤_, _<_}
 use native.Mathlib.Omega.{arith}
-use mathlib.Core.Path.{_≡_, refl, sym, ap, _∙_, subst}
-use mathlib.Core.Bool.{true}
+use mathlib.Core.Path.{_≡_, refl, sym, subst}
 use mathlib.Core.List.{List}
-use lib.ListN.{length, getD}
-use Rattle.classes.specs.Figures.{tableSize}
-use Rattle.checker.specs.declared.shape.Shape.the-variants as shape
+use lib.ListN.{getD}
 use Rattle.checker.specs.Shapes.{shapeAt}
 use Rattle.values.specs.declared.ValueRef.{ValueRef}
 use Rattle.values.specs.declared.refs.Selected.{Selected}
@@ -21,15 +18,13 @@ use Rattle.evaluator.specs.declared.Done.the-variants as done
 use Rattle.evaluator.specs.declared.Out.the-variants.{Value, Halt}
 use Rattle.evaluator.specs.declared.frame.Frame.{Frame}
 use Rattle.evaluator.specs.declared.spot.Spot.{Spot}
-use Rattle.evaluator.specs.Answers.{outWith}
 use Rattle.evaluator.specs.Spots.{innerSpot, downSpot}
 use Rattle.evaluator.specs.Chains.{Chain}
-use Rattle.evaluator.specs.Evaluation.{Fits, Evaluates, Fields}
-use Rattle.evaluator.specs.Steps.{fuelOf, Traced, Runnable, PartRunnable, EvalStep, FieldStep}
+use Rattle.evaluator.specs.Steps.{fuelOf, Runnable, PartRunnable, EvalStep, FieldStep}
 use Rattle.evaluator.proofs.Given.{given-older}
 use Rattle.evaluator.proofs.ListLaws.{field-halt, field-none, field-some}
 use Rattle.evaluator.proofs.ChainLaws.{field-low, field-shape}
-use Rattle.evaluator.proofs.StepLaws.{run-inner, step-field}
+use Rattle.evaluator.proofs.StepLaws.{step-field}
 
 -- ---- one field
 module _ (T W : List ℕ) (f : Frame) (S : List ℕ) (p : Spot) (k : ℕ) (W1 S1 : List ℕ) where

@@ -1,22 +1,20 @@
 -- What evaluation, lists, calls and sides ask of the frame, the open calls and the room, carried from one to the next.
 -- Not here: what the functions ask of one another (CallSteps).
-use Prim.Native.Nat.{ℕ, zero, suc, _+_, _-_, _*_, _≤_, _<_}
+use Prim.Native.Nat.{ℕ, zero, suc, _+_, _-_, _≤_, _<_}
 use native.Mathlib.Omega.{arith}
-use mathlib.Core.Path.{_≡_, refl, sym, ap, _∙_, subst}
-use mathlib.Core.List.{List, _∷_}
+use mathlib.Core.Path.{_≡_, sym, ap, _∙_, subst}
+use mathlib.Core.List.{List}
 use mathlib.Core.Option.{Option, some, Option·none-ne-some}
 use mathlib.Core.Bool.{Bool, true, false}
 use Rattle.classes.specs.Machine.{pick}
 use lib.ListN.{length, getD, take}
 use lib.Seq.{getD-take}
-use lib.Dec.{eqb}
-use Rattle.cofj.specs.Values.{Graph, eqGraph, eqGraphs}
-use Rattle.cofj.specs.Running as language
+use Rattle.cofj.specs.Values.{Graph}
 use Rattle.cofj.specs.Running.{openMark}
 use Rattle.classes.specs.declared.methods.Found.{Found}
 use Rattle.classes.specs.declared.methods.Found.the-variants as found
 use Rattle.values.specs.declared.ValueRef.{ValueRef}
-use Rattle.values.specs.declared.ValueRef.the-variants.{Object, Mark}
+use Rattle.values.specs.declared.ValueRef.the-variants.{Object}
 use Rattle.maker.specs.declared.Slot.{Slot}
 use Rattle.values.specs.Layout.{valueOf}
 use Rattle.maker.specs.Laying.{valuesFrom}
@@ -32,6 +30,7 @@ use Rattle.evaluator.specs.Evaluation.{Fits, ListFits, Evaluates, Lists}
 use Rattle.evaluator.proofs.Keeping.{kept-down, older-kept, older-up, parts-up, frame-kept, frame-up, trace-kept, trace-up, parts-held}
 use Rattle.evaluator.specs.Resting.{bodyFrame}
 use Rattle.evaluator.specs.Steps.{markIn, MarkGiven}
+use Rattle.evaluator.proofs.StateLaws.{by-tests}
 use Rattle.evaluator.proofs.BodyLaws.{put-holds}
 use Rattle.evaluator.proofs.Given.{given-older, all-older}
 use Rattle.evaluator.proofs.CallLaws.{met-mark, met-some}
@@ -103,10 +102,6 @@ parts-same W sp ps qs n full e o = record { full = full; part = λ i l. subst (O
     same : (i : ℕ) → i < n → slotAt qs i ≡ slotAt ps i
     same i l = ap (λ (s : Slot). s .r) (sym (getD-take n qs i none l) ∙ ap (λ (xs : List Slot). getD xs i none) e ∙ getD-take n ps i none l)
 
-pub after-list : (T W : List ℕ) (f : Frame) (tr : List ℕ) (top at left d sp fuel n : ℕ) (W1 : List ℕ) (l : Listed) → Lists T W f tr top at left d sp fuel n W1 l
-    → Fits W f tr top (left + 1) d sp → 234 * sp + 234 ≤ length W1
-after-list T W f tr top at left d sp fuel n W1 l li h = let r = h .room in omega (arith, h .long, li .kept .same)
-
 pub call-fit : (T W : List ℕ) (f : Frame) (tr : List ℕ) (top at left d sp fuel : ℕ) (v : ValueRef) (n : ℕ) (W1 : List ℕ) (l : Listed) (a b c e : ValueRef) (at1 fuel1 : ℕ) (ps : List Slot)
     → ArgsFit W f tr top left d sp v n → Lists T W f tr top at left d (sp + 1) fuel n W1 l → l ≡ Values a b c e at1 fuel1 → n ≤ length ps → take n ps ≡ take n (slotsOf a b c e) → CallFits W1 tr top v ps n d sp
 call-fit T W f tr top at left d sp fuel v n W1 l a b c e at1 fuel1 ps h li el full ep =
@@ -175,20 +170,6 @@ module _ (W tr : List ℕ) (top : ℕ) (v : ValueRef) (A : List ℕ) (n d sp : �
       }
 
 -- ---- the mark of a call met again
-by-tests : (o : language.OpenCall) (os : List language.OpenCall) (v : Graph) (m : ℕ) (vs : List Graph)
-    → openMark (o ∷ os) v m vs ≡ pick (sameOf o v m vs) (some (o .label)) (openMark os v m vs)
-unfolding openMark sameOf
-by-tests o os v m vs = go (eqb (o .name) m) (eqGraph (o .receiver) v) (eqGraphs (o .args) vs)
-  where
-    go : (a b c : Bool) → _≡_ {A = Option ℕ} (elim a [
-      | true ↦ elim b [ true ↦ elim c [ true ↦ some (o .label) | false ↦ openMark os v m vs ] | false ↦ openMark os v m vs ]
-      | false ↦ openMark os v m vs
-    ]) (pick (pick a (pick b c false) false) (some (o .label)) (openMark os v m vs))
-    go true true true = refl
-    go true true false = refl
-    go true false c = refl
-    go false b c = refl
-
 marks-below : (W tr : List ℕ) (v : Graph) (m : ℕ) (vs : List Graph) (x k : ℕ) → openMark (traceIn W tr k) v m vs ≡ some x → x < k
 unfolding traceIn openMark
 marks-below W tr v m vs x zero e = absurd (Option·none-ne-some x e)

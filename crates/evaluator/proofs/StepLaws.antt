@@ -7,25 +7,23 @@ use mathlib.Core.Bool.{Bool, true, false, cond}
 use mathlib.Core.List.{List, [], _∷_}
 use mathlib.Core.Option.{none, some, Option·none-ne-some}
 use lib.Dec.{eqb, ltb, leb}
-use lib.ListN.{length, getD, set, length-set}
-use lib.Seq.{getD-set-same, getD-set-other}
-use borrow.Author.Tests.{lt-ltb, le-ltb, eq-eqb, ne-eqb, eqb-true, eqb-false, ltb-true, ltb-false, leb-true, leb-false}
+use lib.ListN.{length, getD}
+use borrow.Author.Tests.{lt-ltb, le-ltb, ltb-true, leb-true, leb-false}
 use Rattle.cofj.specs.Values.{Graph, make}
 use Rattle.cofj.specs.Running as language
-use Rattle.cofj.specs.Running.{value, stopped, _then_, sized}
+use Rattle.cofj.specs.Running.{value, stopped, sized}
 use Rattle.classes.specs.Machine.{pick}
 use Rattle.classes.specs.Figures.{tableSize}
 use Rattle.checker.specs.declared.shape.Shape.{Shape}
 use Rattle.checker.specs.declared.shape.Shape.the-variants as shape
 use Rattle.checker.specs.Shapes.{byteOf, shapeAt, shapeOf}
 use Rattle.values.specs.declared.ValueRef.{ValueRef}
-use Rattle.values.specs.declared.ValueRef.the-variants.{Object, Mark, Undetermined}
-use Rattle.values.specs.Layout.{valueOf, Low, Holds}
+use Rattle.values.specs.declared.ValueRef.the-variants.{Object}
+use Rattle.values.specs.Layout.{valueOf}
 use Rattle.values.specs.Refs.{refIn}
 use Rattle.maker.specs.declared.Made.{Made}
 use Rattle.maker.specs.declared.Made.the-variants as made
-use Rattle.maker.specs.declared.Slot.{Slot}
-use Rattle.maker.specs.Laying.{valuesFrom, PartsHeld, partsOf, madeRef, MadeIs}
+use Rattle.maker.specs.Laying.{valuesFrom, PartsHeld, partsOf, MadeIs}
 use Rattle.maker.proofs.BareLaws.{bare-made}
 use Rattle.evaluator.specs.declared.Stop.{Stop}
 use Rattle.evaluator.specs.declared.Stop.the-variants.{Stuck, TooLarge}
@@ -33,25 +31,24 @@ use Rattle.evaluator.specs.declared.Done.{Done}
 use Rattle.evaluator.specs.declared.Done.the-variants as done
 use Rattle.evaluator.specs.declared.Walked.{Walked}
 use Rattle.evaluator.specs.declared.Walked.the-variants as walked
-use Rattle.evaluator.specs.declared.Out.{Out}
-use Rattle.evaluator.specs.declared.Out.the-variants.{Value, Halt}
+use Rattle.evaluator.specs.declared.Out.the-variants.{Halt}
 use Rattle.evaluator.specs.declared.frame.Held.{Held}
 use Rattle.evaluator.specs.declared.frame.Held.the-variants.{Is, Absent}
 use Rattle.evaluator.specs.declared.frame.Frame.{Frame}
 use Rattle.evaluator.specs.declared.spot.Spot.{Spot}
-use Rattle.evaluator.specs.State.{Older, PartsOlder, variableOf, holds}
-use Rattle.evaluator.specs.Answers.{Listed, Values, Stops, slotsOf, listIn, ListOlder, ListNext, frontOf, outWith, listFrom, stopsAs, haltsAs, doneOf, outOf, Finishes}
-use Rattle.evaluator.specs.Spots.{innerSpot, movedSpot, pastOf}
+use Rattle.evaluator.specs.State.{variableOf, holds}
+use Rattle.evaluator.specs.Answers.{Stops, outWith, listFrom, haltsAs, doneOf, outOf}
+use Rattle.evaluator.specs.Spots.{innerSpot}
 use Rattle.evaluator.specs.Preset.{isPreset}
-use Rattle.evaluator.specs.Evaluation.{Fits, ListFits, Evaluates, Fields, Lists, News}
-use Rattle.evaluator.specs.Calling.{Calls}
-use Rattle.evaluator.specs.Steps.{fuelOf, Traced, Based, Runnable, PartRunnable, ListRunnable, PartsReady, EvalStep, FieldStep, ListStep, FinishStep, NewStep, CallStep}
-use Rattle.evaluator.proofs.Keeping.{kept-none, based-kept, frame-kept, frame-up, trace-kept, trace-up, parts-held}
-use Rattle.evaluator.proofs.Given.{given-older, all-older}
+use Rattle.evaluator.specs.Evaluation.{Fits}
+use Rattle.evaluator.specs.Steps.{fuelOf, Runnable, PartRunnable, ListRunnable, PartsReady, EvalStep, FieldStep, ListStep, FinishStep, NewStep, CallStep}
+use Rattle.evaluator.proofs.Keeping.{kept-none, parts-held}
 use Rattle.evaluator.proofs.PresetLaws.{Told, told}
-use Rattle.evaluator.proofs.TraceLaws.{traced-none, traced-then, calls-on, lists-on}
+use Rattle.evaluator.proofs.TraceLaws.{traced-none}
+use Rattle.evaluator.proofs.StateLaws.{holds-this, holds-result, holds-parameter}
+use Rattle.evaluator.proofs.FitLaws.{fit-inner, fit-list, list-fit}
 use Rattle.evaluator.proofs.EvalLaws.{eval-zero, eval-nothing, eval-this, eval-res, eval-param, eval-at-field, eval-at-call, eval-at-new}
-use Rattle.evaluator.proofs.ListLaws.{list-zero, list-halt, list-more, new-other, new-many, new-is}
+use Rattle.evaluator.proofs.ListLaws.{list-zero, new-other, new-many, new-is}
 
 -- ---- the place after an expression's first bytes is a place of the table, or just past it
 abbrev Near : Shape → Type 0
@@ -135,7 +132,7 @@ module _ (W : List ℕ) (f : Frame) (S : List ℕ) (p : Spot) where
     based = run .based;
     full = run .full;
     count = run .count;
-    fits = let h = run .fits in let r = h .room in record { frame = h .frame; trace = h .trace; calls = h .calls; room = omega arith; long = h .long };
+    fits = fit-inner W f S (p .opened) (p .nesting) (p .calls) (p .block) (run .fits);
   }
 
   pub run-list : (n : ℕ) → PartRunnable W f S p → n ≤ 4 → ListRunnable W f S p n
@@ -143,7 +140,7 @@ module _ (W : List ℕ) (f : Frame) (S : List ℕ) (p : Spot) where
     based = run .based;
     full = run .full;
     count = run .count;
-    fits = let h = run .fits in let r = h .room in record { frame = h .frame; trace = h .trace; calls = h .calls; few = l; room = omega arith; long = h .long };
+    fits = fit-list W f S (p .opened) (p .nesting) (p .calls) (p .block) n (run .fits) l;
   }
 
   pub list-run : (n : ℕ) → ListRunnable W f S p n → (n ≡ 0 → ⊥) → Runnable W f S p
@@ -151,23 +148,12 @@ module _ (W : List ℕ) (f : Frame) (S : List ℕ) (p : Spot) where
     based = run .based;
     full = run .full;
     count = run .count;
-    fits = let h = run .fits in let r = h .room in record { frame = h .frame; trace = h .trace; calls = h .calls; room = omega (arith, nz); long = h .long };
+    fits = list-fit W f S (p .opened) (p .nesting) (p .calls) (p .block) n (run .fits) nz;
   }
 
 -- ---- variables
-module _ (f : Frame) where
-  holds-this : holds f 0 ≡ f .this
-  unfolding holds
-  holds-this = refl
-
-  holds-res : holds f 1 ≡ f .res
-  unfolding holds
-  holds-res = refl
-
-  holds-parameter : (k : ℕ) → holds f (2 + k) ≡ variableOf f k
-  unfolding holds
-  holds-parameter k =
-      rw (ne-eqb (2 + k) 0 (λ z. omega arith), ne-eqb (2 + k) 1 (λ z. omega arith)) (ap (variableOf f) (let e : 2 + k - 2 ≡ k = omega arith in e))
+parameter-is : (f : Frame) (k : ℕ) → holds f (2 + k) ≡ variableOf f k
+parameter-is f k = sym (holds-parameter f f refl (2 + k) (λ z. omega arith) (λ z. omega arith) (variableOf f k) (ap (variableOf f) (let e : k ≡ 2 + k - 2 = omega arith in e)))
 
 done-out : (h : Held) (next fuel : ℕ) → outWith fuel (doneOf h next) ≡ outOf h next fuel
 done-out (Is r) next fuel = refl
@@ -189,19 +175,19 @@ module _ (T W : List ℕ) (f : Frame) (S : List ℕ) (p : Spot) where
       pub step-this : s ≡ shape.This next → h ≡ holds f 0 → EvalStep T W f S p W S o
       step-this z e = record {
         trace = traced-none (p .opened) S;
-        runs = eval-this T W f S (p .opened) (p .at) (p .nesting) (p .calls) (p .block) (fuelOf S) s es (run .fits) next (outWith (fuelOf S) o) z (answered (f .this) (e ∙ holds-this f));
+        runs = eval-this T W f S (p .opened) (p .at) (p .nesting) (p .calls) (p .block) (fuelOf S) s es (run .fits) next (outWith (fuelOf S) o) z (answered (f .this) (e ∙ sym (holds-this f f refl 0 refl)));
       }
 
       pub step-result : s ≡ shape.Result next → h ≡ holds f 1 → EvalStep T W f S p W S o
       step-result z e = record {
         trace = traced-none (p .opened) S;
-        runs = eval-res T W f S (p .opened) (p .at) (p .nesting) (p .calls) (p .block) (fuelOf S) s es (run .fits) next (outWith (fuelOf S) o) z (answered (f .res) (e ∙ holds-res f));
+        runs = eval-res T W f S (p .opened) (p .at) (p .nesting) (p .calls) (p .block) (fuelOf S) s es (run .fits) next (outWith (fuelOf S) o) z (answered (f .res) (e ∙ sym (holds-result f f refl 1 (λ z. omega arith) refl)));
       }
 
       pub step-parameter : (k : ℕ) → s ≡ shape.Parameter k next → h ≡ holds f (2 + k) → EvalStep T W f S p W S o
       step-parameter k z e = record {
         trace = traced-none (p .opened) S;
-        runs = eval-param T W f S (p .opened) (p .at) (p .nesting) (p .calls) (p .block) (fuelOf S) s es (run .fits) next (outWith (fuelOf S) o) k z (answered (variableOf f k) (e ∙ holds-parameter f k));
+        runs = eval-param T W f S (p .opened) (p .at) (p .nesting) (p .calls) (p .block) (fuelOf S) s es (run .fits) next (outWith (fuelOf S) o) k z (answered (variableOf f k) (e ∙ parameter-is f k));
       }
 
     -- what a part of it gave is handed on

@@ -9,7 +9,6 @@ use lib.Seq.{getD-set-same, getD-set-other}
 use Rattle.cofj.specs.Running as language
 use Rattle.cofj.specs.Running.{_then_}
 use Rattle.values.specs.declared.ValueRef.{ValueRef}
-use Rattle.values.specs.declared.ValueRef.the-variants.{Mark}
 use Rattle.maker.specs.declared.Slot.{Slot}
 use Rattle.values.specs.Refs.{refIn}
 use Rattle.values.specs.Layout.{valueOf}
@@ -19,7 +18,7 @@ use Rattle.evaluator.specs.declared.frame.Frame.{Frame}
 use Rattle.evaluator.specs.declared.trace.OpenCall.{OpenCall}
 use Rattle.evaluator.specs.State.{slotsAt, callAt, CallOlder, TraceHolds, callIn, frameIn, traceIn}
 use Rattle.evaluator.specs.Answers.{Listed}
-use Rattle.evaluator.specs.Evaluation.{evalIn, evalsIn, deeper, Fits, ListFits, Evaluates, Lists}
+use Rattle.evaluator.specs.Evaluation.{evalsIn, deeper, Fits, Lists}
 use Rattle.evaluator.specs.Calling.{CallsWith, Invokes}
 use Rattle.evaluator.specs.Steps.{fuelOf, Traced}
 
@@ -87,17 +86,7 @@ module _ (k : ℕ) (S S1 : List ℕ) (st : Traced k S S1) where
   pub fits-on : (W : List ℕ) (f : Frame) (left d sp : ℕ) → Fits W f S k left d sp → Fits W f S1 k left d sp
   fits-on W f left d sp h = record { frame = h .frame; trace = calls-on W sp (h .trace); calls = h .calls; room = h .room; long = h .long }
 
-  pub list-fits-on : (W : List ℕ) (f : Frame) (left d sp n : ℕ) → ListFits W f S k left d sp n → ListFits W f S1 k left d sp n
-  list-fits-on W f left d sp n h = record { frame = h .frame; trace = calls-on W sp (h .trace); calls = h .calls; few = h .few; room = h .room; long = h .long }
-
   -- ---- the same trace, the same meaning
-  pub evaluates-on : (T W : List ℕ) (f : Frame) (at left d sp fuel : ℕ) (W′ : List ℕ) (o : Out) → Evaluates T W f S1 k at left d sp fuel W′ o → Evaluates T W f S k at left d sp fuel W′ o
-  evaluates-on T W f at left d sp fuel W′ o x = let et = trace-on W in record {
-    kept = x .kept;
-    older = x .older;
-    is = λ t e r. let z = x .is t e r in record { is = z .is ∙ (λ i. evalIn d t (frameIn W f) (et i) e fuel); next = z .next };
-  }
-
   pub lists-on : (T W : List ℕ) (f : Frame) (at left d sp fuel n : ℕ) (W′ : List ℕ) (l : Listed) → Lists T W f S1 k at left d sp fuel n W′ l → Lists T W f S k at left d sp fuel n W′ l
   lists-on T W f at left d sp fuel n W′ l x = let et = trace-on W in record {
     kept = x .kept;

@@ -1,6 +1,6 @@
 -- The walk of a list, in a loop: what it has come to, and one law for each of its returns.
 -- Not here: what a list means (ListLaws).
-use Prim.Native.Nat.{ℕ, _+_, _-_, _*_, _≤_, _<_}
+use Prim.Native.Nat.{ℕ, _+_, _-_, _≤_, _<_}
 use native.Mathlib.Omega.{arith}
 use mathlib.Core.Path.{_≡_, refl, sym, ap, _∙_, subst}
 use mathlib.Core.Bool.{Bool, true, false}
@@ -8,7 +8,7 @@ use mathlib.Core.List.{List}
 use lib.Dec.{eqb}
 use lib.ListN.{length, getD, set, length-set}
 use lib.Seq.{getD-set-same, getD-set-other}
-use borrow.Author.Tests.{eqb-true, eqb-false}
+use borrow.Author.Tests.{eqb-false}
 use Rattle.classes.specs.Machine.{pick}
 use Rattle.values.specs.declared.ValueRef.{ValueRef}
 use Rattle.values.specs.declared.ValueRef.the-variants.{Object, Mark, Undetermined}
@@ -23,13 +23,14 @@ use Rattle.evaluator.specs.declared.Out.the-variants.{Value, Halt}
 use Rattle.evaluator.specs.declared.frame.Frame.{Frame}
 use Rattle.evaluator.specs.declared.spot.Spot.{Spot}
 use Rattle.evaluator.specs.State.{Older}
-use Rattle.evaluator.specs.Answers.{Listed, Values, Stops, frontOf, outWith, listFrom, stopsAs}
+use Rattle.evaluator.specs.Answers.{Values, Stops, frontOf, listFrom, stopsAs}
 use Rattle.evaluator.specs.Spots.{movedSpot, pastOf}
-use Rattle.evaluator.specs.Evaluation.{ListFits, Lists}
+use Rattle.evaluator.specs.Evaluation.{Lists}
 use Rattle.evaluator.specs.Steps.{fuelOf, Traced, Runnable, ListRunnable, EvalStep, ListStep}
-use Rattle.evaluator.proofs.Keeping.{based-kept, frame-kept, frame-up, trace-kept, trace-up}
+use Rattle.evaluator.proofs.Keeping.{based-kept}
 use Rattle.evaluator.proofs.Given.{given-older}
 use Rattle.evaluator.proofs.TraceLaws.{traced-none, traced-then, calls-on, lists-on}
+use Rattle.evaluator.proofs.FitLaws.{list-later}
 use Rattle.evaluator.proofs.ListLaws.{list-zero, list-halt, list-more}
 use Rattle.evaluator.proofs.StepLaws.{list-run}
 
@@ -122,22 +123,18 @@ module _ (T W : List ℕ) (f : Frame) (S : List ℕ) (p : Spot) (n : ℕ) (W1 S1
           ready : ListRunnable W2 f S2 (movedSpot q at b) (n - (i + 1))
           ready =
               let k = first .runs .kept in
-              let h = re .ready .fits in
-              let r = h .room in
-              let l = h .few in
-              let from = after .from in
-              let to = after .to in
+              let h = list-later T W1 f S1 (q .opened) (q .at) (q .nesting) (q .calls) (q .block) (fuelOf S1) W2 (Value v at (fuelOf S2)) (first .runs) (n - i) b (re .ready .fits) left (after .from) (after .to) in
               record {
-                based = based-kept W1 W2 (q .block) b k from (re .ready .based);
+                based = based-kept W1 W2 (q .block) b k (after .from) (re .ready .based);
                 full = first .trace .same ∙ re .ready .full;
                 count = re .ready .count;
                 fits = record {
-                  frame = frame-up W2 (q .block) b from f (frame-kept W1 W2 (q .block) k f (h .frame));
-                  trace = calls-on (q .opened) S1 S2 (first .trace) W2 b (trace-up W2 (q .block) b from S1 (q .opened) (trace-kept W1 W2 (q .block) k S1 (q .opened) (h .trace)));
+                  frame = h .frame;
+                  trace = calls-on (q .opened) S1 S2 (first .trace) W2 b (h .trace);
                   calls = h .calls;
-                  few = omega arith;
-                  room = omega arith;
-                  long = omega (arith, h .long, k .same);
+                  few = omega (arith, h .few);
+                  room = omega (arith, h .room);
+                  long = h .long;
                 };
               }
 

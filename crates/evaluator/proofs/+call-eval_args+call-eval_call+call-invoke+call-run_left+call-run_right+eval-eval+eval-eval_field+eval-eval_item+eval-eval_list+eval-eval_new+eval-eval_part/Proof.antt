@@ -258,7 +258,7 @@ pub +call·eval-args+call·eval-call+call·invoke+call·run-left+call·run-right
     -- eval_call
     (λ t. call·eval-call-lts.spec (call·eval-call-claims t) (call·eval-call-at t) call·eval-call.Post
     (λ c. search calls.call-nested)
-    (λ c κs. (search fall.call-eval-falls, search calls.receiver-run))
+    (λ c κs. (search fall.call-eval-falls, search steps.run-inner))
     (λ c. search needs)
     (λ c. search needs)
     (λ c. search needs)
