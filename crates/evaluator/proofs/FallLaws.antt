@@ -53,8 +53,12 @@ list-item-falls p q t e n c = subst (λ (x : ℕ). q .calls * 6000 + x * 600 + 1
 pub field-part-falls : (p q : Spot) (d t : ℕ) → q ≡ downSpot p d → d ≤ p .nesting → μ p 2 ≡ t → μ q 1 < t
 field-part-falls p q d t eq l e = subst (λ (x : Spot). μ x 1 < t) (sym eq) (omega (arith, e))
 
-pub call-args-falls : (p q : Spot) (at b t : ℕ) → q ≡ movedSpot p at b → μ p 4 ≡ t → μ q 3 < t
-call-args-falls p q at b t eq e = subst (λ (x : Spot). μ x 3 < t) (sym eq) (omega (arith, e))
+module _ (p q : Spot) (at b t : ℕ) (eq : q ≡ movedSpot p at b) (e : μ p 4 ≡ t) where
+  pub call-args-falls : μ q 3 < t
+  call-args-falls = subst (λ (x : Spot). μ x 3 < t) (sym eq) (omega (arith, e))
+
+  pub call-invoke-falls : μ-call q 2 < t
+  call-invoke-falls = subst (λ (x : Spot). μ-call x 2 < t) (sym eq) (omega (arith, e))
 
 module _ (p q : Spot) (at b t : ℕ) (eq : q ≡ movedSpot p at b) (e : μ p 3 ≡ t) where
   pub args-list-falls : μ q 2 < t
@@ -62,9 +66,6 @@ module _ (p q : Spot) (at b t : ℕ) (eq : q ≡ movedSpot p at b) (e : μ p 3 �
 
   pub args-invoke-falls : μ-call q 2 < t
   args-invoke-falls = subst (λ (x : Spot). μ-call x 2 < t) (sym eq) (omega (arith, e))
-
-pub args-direct-falls : (p : Spot) (t : ℕ) → μ p 3 ≡ t → μ-call p 2 < t
-args-direct-falls p t e = omega (arith, e)
 
 -- ---- calls
 pub invoke-side-falls : (p : Spot) (t : ℕ) → μ-call p 2 ≡ t → μ-call p 1 < t

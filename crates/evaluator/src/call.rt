@@ -59,6 +59,10 @@ pub(crate) fn eval_call(
     let Found::At(i) = w else {
         return Done::Halt(Stop::Stuck);
     };
+    if n == 0 {
+        let vs = [0u32; 4];
+        return again(invoke(t, work, tr, v, &vs, n, i, m, moved(p, at, p.block)));
+    }
     again(eval_args(t, work, tr, fr, moved(p, at, p.block), v, i, m, n))
 }
 
@@ -78,9 +82,6 @@ pub(crate) fn eval_args(
     ensures { λ o. ⌜ ArgsStep (now (t .entry)) (now (work .entry)) (frameOf (now (fr .entry))) (now (tr .entry)) p v m n i (now (work .exit)) (now (tr .exit)) o ⌝ }
 {
     let mut vs = [0u32; 4];
-    if n == 0 {
-        return again(invoke(t, work, tr, v, &vs, n, i, m, p));
-    }
     let l = eval_list(t, work, tr, fr, moved(p, p.at, p.block + 1), n, &mut vs);
     let Walked::After(next) = l else {
         return halted(l);

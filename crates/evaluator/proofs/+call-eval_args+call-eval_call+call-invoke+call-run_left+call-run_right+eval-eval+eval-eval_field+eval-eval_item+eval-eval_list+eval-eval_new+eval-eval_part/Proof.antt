@@ -69,6 +69,7 @@ use Rattle.evaluator.proofs.+call-eval_args+call-eval_call+call-invoke+
 }
 use borrow.Author.Needs.{needs}
 use mathlib.Core.Path.{refl}
+use mathlib.Core.List.{[]}
 use Prim.Native.Nat.{_+_, _-_, _*_, _≤_}
 use native.Mathlib.Omega.{arith}
 use Rattle.evaluator.specs.Resting.{frameOf}
@@ -179,10 +180,10 @@ abbrev eval·eval-part-below : ℕ → In 4 eval·eval-part-kinds.ps
 eval·eval-part-below t = and 4 eval·eval-part-kinds.ps (falls 4 eval·eval-part-kinds.ps _<_ μ-eval·eval-part t) eval·eval-part.Pre
 
 abbrev call·eval-args-claims : ℕ → call·eval-args-lts.Claims
-call·eval-args-claims t = (call·invoke-below t, call·invoke.Post, again-reads.Asked, again-reads.Learnt, moved-reads.Asked, moved-reads.Learnt, eval·eval-list-below t, eval·eval-list.Post, halted-reads.Asked, halted-reads.Learnt)
+call·eval-args-claims t = (moved-reads.Asked, moved-reads.Learnt, eval·eval-list-below t, eval·eval-list.Post, halted-reads.Asked, halted-reads.Learnt, call·invoke-below t, call·invoke.Post, again-reads.Asked, again-reads.Learnt)
 
 abbrev call·eval-call-claims : ℕ → call·eval-call-lts.Claims
-call·eval-call-claims t = (eval·eval-below t, eval·eval.Post, find-reads.Asked, find-reads.Learnt, moved-reads.Asked, moved-reads.Learnt, call·eval-args-below t, call·eval-args.Post, again-reads.Asked, again-reads.Learnt)
+call·eval-call-claims t = (eval·eval-below t, eval·eval.Post, find-reads.Asked, find-reads.Learnt, moved-reads.Asked, moved-reads.Learnt, call·invoke-below t, call·invoke.Post, again-reads.Asked, again-reads.Learnt, call·eval-args-below t, call·eval-args.Post)
 
 abbrev call·invoke-claims : ℕ → call·invoke-lts.Claims
 call·invoke-claims t = (open-call-reads.Asked, open-call-reads.Learnt, call·run-right-below t, call·run-right.Post, call·run-left-below t, call·run-left.Post)
@@ -228,10 +229,6 @@ pub +call·eval-args+call·eval-call+call·invoke+call·run-left+call·run-right
     close μ-call·eval-args μ-call·eval-call μ-call·invoke μ-call·run-left μ-call·run-right μ-eval·eval μ-eval·eval-field μ-eval·eval-item μ-eval·eval-list μ-eval·eval-new μ-eval·eval-part
     -- eval_args
     (λ t. call·eval-args-lts.spec (call·eval-args-claims t) (call·eval-args-at t) call·eval-args.Post
-    (λ c κs. (search fall.args-direct-falls, search calls.direct-run))
-    (λ c κs. search needs)
-    (λ c. search needs)
-    (λ c. search calls.direct-is)
     (λ c. search calls.args-block)
     (λ c κs. search needs)
     (λ c κs. (search fall.args-list-falls, (search calls.args-run, search needs)))
@@ -244,17 +241,17 @@ pub +call·eval-args+call·eval-call+call·invoke+call·run-left+call·run-right
     (λ c κs. let at-l = c .before .before .before .before .before in
     let at-eval-list = at-l .before .before .before .before in
     let at-moved = at-eval-list .before .before in
-    let start = at-moved .before .before .before .before .before .before in
+    let start = at-moved .before .before .before .before .before in
     (search fall.args-invoke-falls, calls.call-run _ _ _ _ _ _ 0 _ 0 (start .pre .1) _ (at-moved .moved .ensures) _ _ _ _ (at-eval-list .eval-list .ensures) _ (at-l .l .given .1) _ (c .moved2 .ensures)))
     (λ c κs. search needs)
     (λ c. search needs)
-    (λ c. let at-invoke2 = c .before .before .before in
-    let at-moved2 = at-invoke2 .before in
+    (λ c. let at-invoke = c .before .before .before in
+    let at-moved2 = at-invoke .before in
     let at-l = at-moved2 .before .before .before .before .before in
     let at-eval-list = at-l .before .before .before .before in
     let at-moved = at-eval-list .before .before in
-    let start = at-moved .before .before .before .before .before .before in
-    calls.args-go-on _ _ _ _ _ _ _ _ _ (start .pre .1) _ (at-moved .moved .ensures) _ _ _ _ (at-eval-list .eval-list .ensures) _ (at-l .l .given .1) _ (at-moved2 .moved2 .ensures) _ _ _ (at-invoke2 .invoke2 .ensures) _ (c .again2 .ensures)))
+    let start = at-moved .before .before .before .before .before in
+    calls.args-go-on _ _ _ _ _ _ _ _ _ (start .pre .1) _ (at-moved .moved .ensures) _ _ _ _ (at-eval-list .eval-list .ensures) _ (at-l .l .given .1) _ (at-moved2 .moved2 .ensures) _ _ _ (at-invoke .invoke .ensures) _ (c .again .ensures)))
     -- eval_call
     (λ t. call·eval-call-lts.spec (call·eval-call-claims t) (call·eval-call-at t) call·eval-call.Post
     (λ c. search calls.call-nested)
@@ -269,24 +266,45 @@ pub +call·eval-args+call·eval-call+call·invoke+call·run-left+call·run-right
     (λ c. search needs)
     (λ c. search calls.call-lacks)
     (λ c κs. search needs)
-    (λ c κs. let at-w = c .before .before .before .before in
+    (λ c κs. let then2 = c .before .before .before .before in
+    let at-w = then2 .before .before in
     let at-find = at-w .before .before in
     let at-o = at-find .before .before .before in
     let at-eval = at-o .before .before .before .before in
     let else1 = at-eval .before .before .before in
     let start = else1 .before .before .before in
-    (search fall.call-args-falls, calls.args-asked _ _ _ _ _ (start .pre .1) _ _ _ _ _ (at-eval .eval .ensures) _ _ (at-o .o .given .1) _ (at-find .find .ensures) (else1 .if1 .left) _ (at-w .w .given .1) _ (c .moved .ensures)))
+    (search fall.call-invoke-falls, calls.direct-run [] _ _ _ _ _ 0 _ 0 (calls.args-asked _ _ _ _ _ (start .pre .1) _ _ _ _ _ (at-eval .eval .ensures) _ _ (at-o .o .given .1) _ (at-find .find .ensures) (else1 .if1 .left) _ (at-w .w .given .1) _ (c .moved .ensures)) (then2 .if2 .taken) _))
+    (λ c κs. search needs)
+    (λ c. search needs)
+    (λ c. let at-invoke = c .before .before .before in
+    let at-moved = at-invoke .before in
+    let then2 = at-moved .before .before .before .before in
+    let at-w = then2 .before .before in
+    let at-find = at-w .before .before in
+    let at-o = at-find .before .before .before in
+    let at-eval = at-o .before .before .before .before in
+    let else1 = at-eval .before .before .before in
+    let start = else1 .before .before .before in
+    calls.call-goes-on _ _ _ _ _ (start .pre .1) _ _ _ _ _ (at-eval .eval .ensures) _ _ (at-o .o .given .1) _ (at-find .find .ensures) (else1 .if1 .left) _ (at-w .w .given .1) _ (at-moved .moved .ensures) _ _ _ (calls.direct-is _ _ _ _ _ _ _ _ _ (calls.args-asked _ _ _ _ _ (start .pre .1) _ _ _ _ _ (at-eval .eval .ensures) _ _ (at-o .o .given .1) _ (at-find .find .ensures) (else1 .if1 .left) _ (at-w .w .given .1) _ (at-moved .moved .ensures)) (then2 .if2 .taken) _ _ _ _ (at-invoke .invoke .ensures) _ refl) _ (c .again .ensures))
+    (λ c κs. search needs)
+    (λ c κs. let at-w = c .before .before .before .before .before in
+    let at-find = at-w .before .before in
+    let at-o = at-find .before .before .before in
+    let at-eval = at-o .before .before .before .before in
+    let else1 = at-eval .before .before .before in
+    let start = else1 .before .before .before in
+    (search fall.call-args-falls, calls.args-asked _ _ _ _ _ (start .pre .1) _ _ _ _ _ (at-eval .eval .ensures) _ _ (at-o .o .given .1) _ (at-find .find .ensures) (else1 .if1 .left) _ (at-w .w .given .1) _ (c .moved2 .ensures)))
     (λ c κs. search needs)
     (λ c. search needs)
     (λ c. let at-eval-args = c .before .before .before in
-    let at-moved = at-eval-args .before in
-    let at-w = at-moved .before .before .before .before in
+    let at-moved2 = at-eval-args .before in
+    let at-w = at-moved2 .before .before .before .before .before in
     let at-find = at-w .before .before in
     let at-o = at-find .before .before .before in
     let at-eval = at-o .before .before .before .before in
     let else1 = at-eval .before .before .before in
     let start = else1 .before .before .before in
-    calls.call-goes-on _ _ _ _ _ (start .pre .1) _ _ _ _ _ (at-eval .eval .ensures) _ _ (at-o .o .given .1) _ (at-find .find .ensures) (else1 .if1 .left) _ (at-w .w .given .1) _ (at-moved .moved .ensures) _ _ _ (at-eval-args .eval-args .ensures) _ (c .again .ensures)))
+    calls.call-goes-on _ _ _ _ _ (start .pre .1) _ _ _ _ _ (at-eval .eval .ensures) _ _ (at-o .o .given .1) _ (at-find .find .ensures) (else1 .if1 .left) _ (at-w .w .given .1) _ (at-moved2 .moved2 .ensures) _ _ _ (at-eval-args .eval-args .ensures) _ (c .again2 .ensures)))
     -- invoke
     (λ t. call·invoke-lts.spec (call·invoke-claims t) (call·invoke-at t) call·invoke.Post
     (λ c. search needs)
