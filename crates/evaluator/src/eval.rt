@@ -86,8 +86,8 @@ pub(crate) fn eval(
     }
 }
 
-// The same for what a field is selected of: variables, which most are, at once. With one caller, which the compiler takes it into, it saves a tenth of a
-// walk and of recursion down a chain.
+// The same for what a field is selected of: variables, which most are, at once. With one caller, which the compiler takes it into, it saves a tenth of
+// recursion down a chain and less elsewhere (docs/SPEED.md).
 pub(crate) fn eval_part(
     t: &[u8; SIZE],
     work: &mut [u8],
@@ -109,7 +109,8 @@ pub(crate) fn eval_part(
     }
 }
 
-// The same for an item of a list: variables, fields and new objects, which most are, at once. With one caller it saves a seventh of building a list.
+// The same for an item of a list: variables, fields and new objects, which most are, at once. With one caller it saves a sixth of
+// building a list of 16, and costs rings and sums up to a tenth (docs/SPEED.md).
 pub(crate) fn eval_item(
     t: &[u8; SIZE],
     work: &mut [u8],
