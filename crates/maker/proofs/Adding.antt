@@ -20,6 +20,20 @@ use Rattle.maker.specs.Adding.{roots}
 abbrev pub more : List Node → Node → List Node
 more ns top = ns ++ (top ∷ [])
 
+-- objects that are the same are equal, and so are references to them
+module _ (ns : List Node) (d : Distinct ns) where
+  ref-equal : (r s : Ref) → InRange (length ns) r → InRange (length ns) s → Same ns r ns s → r ≡ s
+  ref-equal r s a b e = sym (rename-id r) ∙ same-rename ns ns (length ns) (length ns) (λ i. i) (λ i. i) (d .apart) r s a b e ∙ rename-id s
+
+  pub refs-equal : (rs ss : List Ref) → ((f : ℕ) (r : Ref) → getElem? rs f ≡ some r → InRange (length ns) r) → ((f : ℕ) (r : Ref) → getElem? ss f ≡ some r → InRange (length ns) r)
+      → length rs ≡ length ss → ((f : ℕ) (r s : Ref) → getElem? rs f ≡ some r → getElem? ss f ≡ some s → Same ns r ns s) → rs ≡ ss
+  refs-equal [] [] a b l h = refl
+  refs-equal [] (s ∷ ss) a b l h = absurd (omega arith)
+  refs-equal (r ∷ rs) [] a b l h = absurd (omega arith)
+  refs-equal (r ∷ rs) (s ∷ ss) a b l h =
+      ap₂ {C = List Ref} _∷_ (ref-equal r s (a 0 r refl) (b 0 s refl) (h 0 r s refl refl))
+      (refs-equal rs ss (λ f. a (suc f)) (λ f. b (suc f)) (omega arith) (λ f. h (suc f)))
+
 module _ (top : Node) (ns : List Node)
     (inner : (i f : ℕ) (r : Ref) → getElem? (refsAt ns i) f ≡ some r → InRange (length ns) r)
     (above : (f : ℕ) (r : Ref) → getElem? (top .refs) f ≡ some r → InRange (length ns) r) where
@@ -65,22 +79,10 @@ module _ (top : Node) (ns : List Node)
 
   -- ---- no two equal
   module _ (d : Distinct ns) (miss : (j : ℕ) → j < length ns → nodeAt ns j ≡ top → ⊥) where
-    ref-equal : (r s : Ref) → InRange (length ns) r → InRange (length ns) s → Same ns r ns s → r ≡ s
-    ref-equal r s a b e = sym (rename-id r) ∙ same-rename ns ns (length ns) (length ns) (λ i. i) (λ i. i) (d .apart) r s a b e ∙ rename-id s
-
-    refs-equal : (rs ss : List Ref) → ((f : ℕ) (r : Ref) → getElem? rs f ≡ some r → InRange (length ns) r) → ((f : ℕ) (r : Ref) → getElem? ss f ≡ some r → InRange (length ns) r)
-        → length rs ≡ length ss → ((f : ℕ) (r s : Ref) → getElem? rs f ≡ some r → getElem? ss f ≡ some s → Same ns r ns s) → rs ≡ ss
-    refs-equal [] [] a b l h = refl
-    refs-equal [] (s ∷ ss) a b l h = absurd (omega arith)
-    refs-equal (r ∷ rs) [] a b l h = absurd (omega arith)
-    refs-equal (r ∷ rs) (s ∷ ss) a b l h =
-        ap₂ {C = List Ref} _∷_ (ref-equal r s (a 0 r refl) (b 0 s refl) (h 0 r s refl refl))
-        (refs-equal rs ss (λ f. a (suc f)) (λ f. b (suc f)) (omega arith) (λ f. h (suc f)))
-
     new-alike : (j : ℕ) → j < length ns → Same (more ns top) (obj (length ns)) ns (obj j) → nodeAt ns j ≡ top
     new-alike j h e =
         ap₂ node (sym (same-cls (more ns top) ns (length ns) j e) ∙ ap (λ (x : Node). x .cls) at-new)
-        (sym (refs-equal (top .refs) (refsAt ns j) above (inner j)
+        (sym (refs-equal ns d (top .refs) (refsAt ns j) above (inner j)
         (ap (λ (x : Node). length (x .refs)) (sym at-new) ∙ same-count (more ns top) ns (length ns) j e)
         (λ f r s er es p.
         sym (old-tree r (above f r er) p)

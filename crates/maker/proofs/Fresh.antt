@@ -17,10 +17,7 @@ use Rattle.cofj.proofs.Trees.{renamed-same, same-child, same-count}
 use Rattle.canon.specs.Layout.{Distinct}
 use Rattle.canon.proofs.Nodes.{some-at, at-some}
 use Rattle.values.proofs.Trees.{in-larger, leaf-same}
-
--- object x of ps is none of the first t of ns
-pub record Fresh (ps ns : List Node) (t x : ℕ) : Type 0 where
-  pub none : (y : ℕ) → y < t → Same ps (obj x) ns (obj y) → ⊥
+use Rattle.maker.specs.Sorting.{Fresh}
 
 module _ (ps ns : List Node) (t : ℕ) (inner : (y f : ℕ) (s : Ref) → y < t → getElem? (refsAt ns y) f ≡ some s → InRange t s) where
   -- whoever leads to a fresh object is fresh

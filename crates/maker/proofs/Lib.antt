@@ -2,6 +2,12 @@ pub mod Adding
 pub mod Lays
 pub mod Codes
 pub mod Beside
+pub mod Turns
 pub mod Merges
 pub mod BareLaws
 pub mod Fresh
+pub mod Reaches
+pub mod Seeks
+pub mod Sorts
+pub mod Joins
+pub mod Parts

@@ -39,19 +39,13 @@ use Rattle.maker.specs.declared.Made.{Made}
 use Rattle.maker.specs.declared.Made.the-variants.{Value}
 use Rattle.maker.specs.Laying.{valuesFrom, rawsFrom, PartsHeld, MadeIs}
 use Rattle.maker.specs.Adding.{codesOf, objectOf, Missed, Found, Emptied, Appended, Added, partOf}
-use Rattle.maker.specs.Merging.{Grown, Fits, Standing, Entered, CodeAs, Mapped, Importing, Imported, ObjectBytes, Turned, Turning, TurnedAll, liesFrom, refersFrom, As, PartImported, Begun, RootBrought, PartsBrought, someIn, largerOf, largestOf}
+use Rattle.maker.specs.Merging.{Grown, Fits, Standing, Entered, CodeAs, Mapped, Imported, liesFrom, refersFrom, As, PartImported, Begun, RootBrought, PartsBrought, someIn, largerOf, largestOf}
+use Rattle.maker.specs.Sorting.{codeAt, TurnedAs}
 use Rattle.maker.proofs.Codes.{object-class, object-count, object-code, object-length, codes-packed, spare-codes, first-code, next-code, object-bytes, object-read}
 use Rattle.maker.proofs.Lays.{raws-whole, made-raw, parts-length, beneath-more, made-brought}
 use Rattle.maker.proofs.Adding.{more, old-tree, at-new}
+use Rattle.maker.proofs.Turns.{leaf-low, low-refs, take-all, turned-fits, turned-same}
 use Rattle.maker.proofs.Beside.{outside-more, add-here, objects-are, block-added}
-
--- ---- codes that are no objects
-pub leaf-low : (n c : ℕ) → 192 ≤ c → InRange n (refOf c)
-leaf-low n c h = go (ℕ-discrete c 192)
-  where
-    go : Dec (c ≡ 192) → InRange n (refOf c)
-    go (yes e) = subst (InRange n) (sym (ap refOf e ∙ ref-undet)) tt
-    go (no d) = let z : c ≡ 193 + (c - 193) = omega (arith, d) in subst (InRange n) (sym (ap refOf z ∙ ref-mark (c - 193))) tt
 
 -- ---- a block that has grown, and the others
 pub grown-none : (host : ℕ) (W : List ℕ) → Block W host → Grown host W W
@@ -236,17 +230,6 @@ fresh-missed W host c n w bk ft b eb h = record { none = none }
         ap (λ (x : ℕ). getD W x 0) z ∙ there ∙ ap (λ (x : Node). byteOf x k) e ∙ sym here ∙ ap (λ (x : ℕ). getD (objectOf c n w) x 0) y ∙ object-code c n w (fr .place) in
         absurd (omega (arith, fr .high, same, bk .reach j (fr .place) l (fr .low) (omega (arith, fr .object, same))))
 
--- ---- an object's bytes
-pub object-taken : (W : List ℕ) (src i : ℕ) (T₀ T : List ℕ) → length T₀ ≡ 6 → Carried W (234 * src + 6 * i) T₀ 0 6 T → ObjectBytes W src i T
-object-taken W src i T₀ T e c = record { long = c .same ∙ e; bytes = λ j h. let z : 0 + j ≡ j = omega arith in rw z at (c .here j h) }
-
--- ---- the codes of an object
-code-in : (W : List ℕ) (src i : ℕ) → Inside W src i → (k : ℕ) → k < 4 → getD W (234 * src + 6 * i + (2 + k)) 0 < 192 → getD W (234 * src + 6 * i + (2 + k)) 0 < countIn W src
-unfolding objectsIn
-code-in W src i ib k h l =
-    let z : 234 * src + 6 * i + (2 + k) ≡ 234 * src + 6 * i + 2 + k = omega arith in
-    rw z (code-low W (234 * src) (countIn W src) (ib .block .packed) i (ib .low) (ib .block .whole) k h (rw z at l))
-
 -- ---- the same codes in a block that has grown
 module _ (host : ℕ) (W W′ : List ℕ) (g : Grown host W W′) (src : ℕ) (apart : (src ≡ host) → ⊥) (sb : Block W src) where
   pub code-grown : (c r : ℕ) → CodeAs W src c host r → CodeAs W′ src c host r
@@ -259,278 +242,16 @@ module _ (host : ℕ) (W W′ : List ℕ) (g : Grown host W W′) (src : ℕ) (a
   pub mapped-grown : (M : List ℕ) → Mapped W src host M → Mapped W′ src host M
   mapped-grown M m = record { table = m .table; each = λ x y e. code-grown x y (m .each x y e) }
 
-  object-byte : (i j : ℕ) → i < countIn W src → j < 6 → getD W′ (234 * src + 6 * i + j) 0 ≡ getD W (234 * src + 6 * i + j) 0
-  object-byte i j h l = other-byte host W W′ (g .outside) src apart (234 * src + 6 * i + j) (omega arith) (omega (arith, sb .small))
-
-  pub turned-grown : (i k : ℕ) (T : List ℕ) → i < countIn W src → Turned W src i host T k → Turned W′ src i host T k
-  turned-grown i k T h t = record {
-    long = t .long;
-    cls = t .cls ∙ sym (object-byte i 0 h (omega arith));
-    count = t .count ∙ sym (object-byte i 1 h (omega arith));
-    done = λ j l m. subst (λ (c : ℕ). CodeAs W′ src c host (getD T (2 + j) 0)) (sym (object-byte i (2 + j) h (omega arith))) (code-grown _ _ (t .done j l m));
-    left = λ j l m. t .left j l m ∙ sym (object-byte i (2 + j) h (omega arith));
-  }
-
--- ---- the codes imported
-module _ (W : List ℕ) (src i host : ℕ) (M T : List ℕ) (k : ℕ) (tg : Turning W src i host M T k) where
-  packed : Packed W (234 * src + 6 * i)
-  packed = tg .inside .block .packed i (tg .inside .low)
-
-  -- the codes after the last field are undetermined on both sides
-  pub codes-end : getD T 1 0 ≤ k → TurnedAll W src i host W M T true
-  codes-end h = record {
-    grown = grown-none host W (tg .target);
-    mapped = tg .mapped;
-    turned = λ _. record { long = tg .turned .long; cls = tg .turned .cls; count = tg .turned .count; done = λ j l m. go j m (decLt j k); left = λ j l m. absurd (omega arith) };
+  -- an object turned
+  pub turned-grown : (i : ℕ) (B : List ℕ) → i < countIn W src → TurnedAs W src i host B → TurnedAs W′ src i host B
+  turned-grown i B h t = record {
+    cls = t .cls ∙ sym (byte (234 * src + 6 * i) (omega arith) (omega (arith, sb .small)));
+    count = t .count ∙ sym (byte (234 * src + 6 * i + 1) (omega arith) (omega (arith, sb .small)));
+    code = λ f l. subst (λ (c : ℕ). CodeAs W′ src c host (getD B (2 + f) 0)) (sym (byte (234 * src + 6 * i + 2 + f) (omega arith) (omega (arith, sb .small)))) (code-grown _ _ (t .code f l));
   }
     where
-      spare : CodeAs W src 192 host 192
-      spare = record { low = rw ref-undet tt; leaf = λ _. refl; same = rw ref-undet (leaf-same (objectsIn W src) (objectsIn W host) undet tt) }
-
-      go : (j : ℕ) → j < 4 → Dec (j < k) → CodeAs W src (getD W (234 * src + 6 * i + (2 + j)) 0) host (getD T (2 + j) 0)
-      go j m (yes l) = tg .turned .done j l m
-      go j m (no l) =
-          let e : getD W (234 * src + 6 * i + (2 + j)) 0 ≡ 192 = packed .spare (2 + j) (omega (arith, l, tg .turned .count)) (omega arith) in
-          rw (tg .turned .left j (omega (arith, l)) m, e) spare
-
-  module _ (g : k < getD T 1 0) where
-    pub codes-low : k < 4
-    codes-low = omega (arith, tg .turned .count, packed .count)
-
-    h : k < 4
-    h = codes-low
-
-    pub codes-import : (c : ℕ) → c ≡ getD T (2 + k) 0 → Importing W src c host M
-    codes-import c e =
-        let z : c ≡ getD W (234 * src + 6 * i + (2 + k)) 0 = e ∙ tg .turned .left k (omega arith) h in
-        record {
-          source = tg .inside .block;
-          low = λ l. rw z (code-in W src i (tg .inside) k h (rw z at l));
-          target = tg .target;
-          apart = tg .apart;
-          mapped = tg .mapped;
-        }
-
-    module _ (c : ℕ) (e : c ≡ getD T (2 + k) 0) (W1 M1 : List ℕ) (r : ℕ) (im : Imported W src c host W1 M1 r) where
-      pub codes-fail : TurnedAll W src i host W1 M1 T false
-      codes-fail = record { grown = im .grown; mapped = im .mapped; turned = λ z. absurd (false≢true z) }
-
-      module _ (d : (r ≡ 32) → ⊥) where
-        pub codes-next : Turning W1 src i host M1 (set T (2 + k) r) (k + 1)
-        codes-next =
-            let t : Turned W1 src i host T k = turned-grown host W W1 (im .grown) src (tg .apart) (tg .inside .block) i k T (tg .inside .low) (tg .turned) in
-            let z : c ≡ getD W1 (234 * src + 6 * i + (2 + k)) 0 = e ∙ t .left k (omega arith) h in
-            record {
-              inside = other-inside host W W1 (im .grown .outside) src (tg .apart) i (tg .inside);
-              target = im .grown .block;
-              apart = tg .apart;
-              mapped = im .mapped;
-              turned = record {
-                long = length-set T (2 + k) r ∙ t .long;
-                cls = getD-set-other T (2 + k) 0 r 0 (λ y. omega arith) ∙ t .cls;
-                count = getD-set-other T (2 + k) 1 r 0 (λ y. omega arith) ∙ t .count;
-                done = λ j l m. go t z j l m (ℕ-discrete j k);
-                left = λ j l m. getD-set-other T (2 + k) (2 + j) r 0 (λ y. omega arith) ∙ t .left j (omega arith) m;
-              };
-            }
-          where
-            go : Turned W1 src i host T k → c ≡ getD W1 (234 * src + 6 * i + (2 + k)) 0 → (j : ℕ) → j < k + 1 → j < 4 → Dec (j ≡ k)
-                → CodeAs W1 src (getD W1 (234 * src + 6 * i + (2 + j)) 0) host (getD (set T (2 + k) r) (2 + j) 0)
-            go t z j l m (yes y) = rw (y, getD-set-same T (2 + k) r 0 (omega (arith, t .long)), ← z) (im .like d)
-            go t z j l m (no y) = rw (getD-set-other T (2 + k) (2 + j) r 0 (λ x. y (omega arith))) (t .done j (omega (arith, y)) m)
-
-        pub codes-more : (W2 M2 T2 : List ℕ) (b : Bool) → TurnedAll W1 src i host W2 M2 T2 b → TurnedAll W src i host W2 M2 T2 b
-        codes-more W2 M2 T2 b t = record { grown = grown-more host W W1 W2 (im .grown) (t .grown); mapped = t .mapped; turned = t .turned }
-
--- ---- an object with the same codes unfolds to the same tree
-refs-follow : (ns ms : List Node) (rs ss : List Ref) → Pointwise (λ r s. Same ns r ms s) rs ss → (f : ℕ) (p : List ℕ) → getElem? rs f >>= (λ s. follow ns s p) ≡ getElem? ss f >>= (λ s. follow ms s p)
-refs-follow ns ms [] [] a f p = refl
-refs-follow ns ms [] (s ∷ ss) a f p = absurd a
-refs-follow ns ms (r ∷ rs) [] a f p = absurd a
-refs-follow ns ms (r ∷ rs) (s ∷ ss) a zero p = a .0 p
-refs-follow ns ms (r ∷ rs) (s ∷ ss) a (suc f) p = refs-follow ns ms rs ss (a .1) f p
-
-refs-length : (R : Ref → Ref → Type 0) (rs ss : List Ref) → Pointwise R rs ss → length rs ≡ length ss
-refs-length R [] [] a = refl
-refs-length R [] (s ∷ ss) a = absurd a
-refs-length R (r ∷ rs) [] a = absurd a
-refs-length R (r ∷ rs) (s ∷ ss) a = ap suc (refs-length R rs ss (a .1))
-
-refs-take : (R : Ref → Ref → Type 0) (n : ℕ) (rs ss : List Ref) → Pointwise R rs ss → Pointwise R (take n rs) (take n ss)
-refs-take R zero rs ss a = tt
-refs-take R (suc n) [] [] a = tt
-refs-take R (suc n) [] (s ∷ ss) a = absurd a
-refs-take R (suc n) (r ∷ rs) [] a = absurd a
-refs-take R (suc n) (r ∷ rs) (s ∷ ss) a = (a .0, refs-take R n rs ss (a .1))
-
-object-tree : (ns ms : List Node) (i k a : ℕ) (rs ss : List Ref) → nodeAt ns i ≡ node a rs → nodeAt ms k ≡ node a ss → Pointwise (λ r s. Same ns r ms s) rs ss → Same ns (obj i) ms (obj k)
-object-tree ns ms i k a rs ss ei ek w [] =
-    ap (λ (x : Node). some (object (x .cls) (length (x .refs)))) ei ∙ ap (λ (l : ℕ). some (object a l)) (refs-length (λ r s. Same ns r ms s) rs ss w)
-    ∙ sym (ap (λ (x : Node). some (object (x .cls) (length (x .refs)))) ek)
-object-tree ns ms i k a rs ss ei ek w (f ∷ p) =
-    ap (λ (x : Node). getElem? (x .refs) f >>= (λ s. follow ns s p)) ei ∙ refs-follow ns ms rs ss w f p
-    ∙ sym (ap (λ (x : Node). getElem? (x .refs) f >>= (λ s. follow ms s p)) ek)
-
-pub take-all : (P : Ref → Type 0) (n : ℕ) (rs : List Ref) → ((f : ℕ) (r : Ref) → getElem? rs f ≡ some r → P r) → (f : ℕ) (r : Ref) → getElem? (take n rs) f ≡ some r → P r
-take-all P zero rs h f r e = absurd (Option·none-ne-some r e)
-take-all P (suc n) [] h f r e = absurd (Option·none-ne-some r e)
-take-all P (suc n) (x ∷ rs) h zero r e = h 0 r e
-take-all P (suc n) (x ∷ rs) h (suc f) r e = take-all P n rs (λ g. h (suc g)) f r e
-
-four-all : (P : Ref → Type 0) (a b c d : Ref) → P a → P b → P c → P d → (f : ℕ) (r : Ref) → getElem? (a ∷ b ∷ c ∷ d ∷ []) f ≡ some r → P r
-four-all P a b c d pa pb pc pd zero r e = subst P (let z : a ≡ r = cc in z) pa
-four-all P a b c d pa pb pc pd (suc zero) r e = subst P (let z : b ≡ r = cc in z) pb
-four-all P a b c d pa pb pc pd (suc (suc zero)) r e = subst P (let z : c ≡ r = cc in z) pc
-four-all P a b c d pa pb pc pd (suc (suc (suc zero))) r e = subst P (let z : d ≡ r = cc in z) pd
-four-all P a b c d pa pb pc pd (suc (suc (suc (suc f)))) r e = absurd (Option·none-ne-some r e)
-
-pub low-refs : (T : List ℕ) (n : ℕ) → ((j : ℕ) → j < 4 → InRange n (refOf (getD T (2 + j) 0))) → (f : ℕ) (r : Ref) → getElem? (nodeIn T 0 .refs) f ≡ some r → InRange n r
-unfolding nodeIn
-low-refs T n h = take-all (InRange n) (getD T 1 0) _ (four-all (InRange n) _ _ _ _ (h 0 (omega arith)) (h 1 (omega arith)) (h 2 (omega arith)) (h 3 (omega arith)))
-
--- ---- imported
-module _ (W : List ℕ) (src c host : ℕ) (M : List ℕ) (im : Importing W src c host M) where
-  pub import-leaf : 192 ≤ c → Imported W src c host W M c
-  import-leaf h = record {
-    grown = grown-none host W (im .target);
-    mapped = im .mapped;
-    like = λ _. record { low = leaf-low (countIn W host) c h; leaf = λ _. refl; same = leaf-same (objectsIn W src) (objectsIn W host) (refOf c) (leaf-low 0 c h) };
-  }
-
-  pub import-none : Imported W src c host W M 32
-  import-none = record { grown = grown-none host W (im .target); mapped = im .mapped; like = λ z. absurd (z refl) }
-
-  module _ (h : c < 192) where
-    pub import-inside : Inside W src c
-    import-inside = record { block = im .source; low = im .low h }
-
-    pub import-room : c < length M
-    import-room = omega (arith, im .low h, im .source .small, im .mapped .table)
-
-    pub import-known : (m : ℕ) → m ≡ getD M c 0 → ((m ≡ 0) → ⊥) → Imported W src c host W M (m - 1)
-    import-known m e d = record {
-      grown = grown-none host W (im .target);
-      mapped = im .mapped;
-      like = λ _. im .mapped .each c (m - 1) (omega (arith, e, d));
-    }
-
-    pub import-codes : (T : List ℕ) → ObjectBytes W src c T → Turning W src c host M T 0
-    import-codes T o = record {
-      inside = import-inside;
-      target = im .target;
-      apart = im .apart;
-      mapped = im .mapped;
-      turned = record {
-        long = o .long;
-        cls = o .bytes 0 (omega arith);
-        count = o .bytes 1 (omega arith);
-        done = λ j l. absurd (omega arith);
-        left = λ j l m. o .bytes (2 + j) (omega arith);
-      };
-    }
-
-    module _ (W2 M2 T : List ℕ) (b : Bool) (ta : TurnedAll W src c host W2 M2 T b) where
-      pub import-write : c < length M2
-      import-write = omega (arith, im .low h, im .source .small, ta .mapped .table)
-
-      pub import-fails : not b ≡ true → Imported W src c host W2 M2 32
-      import-fails _ = record { grown = ta .grown; mapped = ta .mapped; like = λ z. absurd (z refl) }
-
-      module _ (eb : not b ≡ false) where
-        yes-b : b ≡ true
-        yes-b = not-false b eb
-
-        td : Turned W2 src c host T 4
-        td = ta .turned yes-b
-
-        ib : Inside W2 src c
-        ib = other-inside host W W2 (ta .grown .outside) src (im .apart) c import-inside
-
-        pub import-block : Block W2 host
-        import-block = ta .grown .block
-
-        bytes-fit : Fits W2 host T
-        bytes-fit = record {
-          packed = record {
-            count = omega (arith, td .count, ib .block .packed c (ib .low) .count);
-            spare = λ k l m. spare k l m;
-          };
-          low = low-refs T (countIn W2 host) (λ j l. td .done j l l .low);
-        }
-          where
-            spare : (k : ℕ) → 2 + getD T (0 + 1) 0 ≤ k → k < 6 → getD T (0 + k) 0 ≡ 192
-            spare k l m =
-                let z : 2 + (k - 2) ≡ k = omega arith in
-                let y : 0 + k ≡ k = omega arith in
-                let s : getD W2 (234 * src + 6 * c + k) 0 ≡ 192 = ib .block .packed c (ib .low) .spare k (omega (arith, td .count)) m in
-                let t : CodeAs W2 src (getD W2 (234 * src + 6 * c + k) 0) host (getD T k 0) = rw z at (td .done (k - 2) (omega arith) (omega arith)) in
-                rw y (t .leaf (omega arith) ∙ s)
-
-        module _ (W3 : List ℕ) (r : ℕ) (en : Entered W2 host T W3 r) where
-          grown-all : Grown host W W3
-          grown-all = grown-more host W W2 W3 (ta .grown) (en .grown)
-
-          mapped-all : Mapped W3 src host M2
-          mapped-all = mapped-grown host W2 W3 (en .grown) src (im .apart) (ib .block) M2 (ta .mapped)
-
-          bytes-full : r ≡ 32 → Imported W src c host W3 M2 32
-          bytes-full _ = record { grown = grown-all; mapped = mapped-all; like = λ z. absurd (z refl) }
-
-          module _ (d : (r ≡ 32) → ⊥) where
-            code-new : CodeAs W3 src c host r
-            unfolding nodeIn objectsIn
-            code-new =
-                let t3 : Turned W3 src c host T 4 = turned-grown host W2 W3 (en .grown) src (im .apart) (ib .block) c 4 T (ib .low) td in
-                let ic : Inside W3 src c = other-inside host W2 W3 (en .grown .outside) src (im .apart) c ib in
-                let st : Standing W3 host T r = en .standing d in
-                let z0 : 234 * src + 6 * c + 0 ≡ 234 * src + 6 * c = omega arith in
-                let ro : refOf r ≡ obj r = ref-object r (omega (arith, st .low, en .grown .block .small)) in
-                record {
-                  low = subst (InRange (countIn W3 host)) (sym ro) (st .low);
-                  leaf = λ l. absurd (omega arith);
-                  same = λ p. ap (λ (x : Ref). follow (objectsIn W3 src) x p) (ref-object c h)
-                      ∙ object-tree (objectsIn W3 src) (objectsIn W3 host) c r (getD T 0 0) _ _
-                      (at-nodes W3 (234 * src) (countIn W3 src) c (ic .low) ∙ ap₂ {A = ℕ} {B = ℕ} (λ x y. node x (take y (refOf (getD W3 (234 * src + 6 * c + 2) 0) ∷ refOf (getD W3 (234 * src + 6 * c + 3) 0) ∷ refOf (getD W3 (234 * src + 6 * c + 4) 0) ∷ refOf (getD W3 (234 * src + 6 * c + 5) 0) ∷ []))) (rw z0 at (sym (t3 .cls))) (sym (t3 .count)))
-                      (st .is)
-                      (refs-take (λ x y. Same (objectsIn W3 src) x (objectsIn W3 host) y) (getD T 1 0) _ _
-                      (t3 .done 0 (omega arith) (omega arith) .same, (t3 .done 1 (omega arith) (omega arith) .same, (t3 .done 2 (omega arith) (omega arith) .same, (t3 .done 3 (omega arith) (omega arith) .same, tt))))) p
-                      ∙ ap (λ (x : Ref). follow (objectsIn W3 host) x p) (sym ro);
-                }
-
-            bytes-done : Imported W src c host W3 (set M2 c (r + 1)) r
-            bytes-done = record {
-              grown = grown-all;
-              mapped = record { table = length-set M2 c (r + 1) ∙ ta .mapped .table; each = λ x y e. go x y e (ℕ-discrete x c) };
-              like = λ _. code-new;
-            }
-              where
-                put : getD (set M2 c (r + 1)) c 0 ≡ r + 1
-                put = getD-set-same M2 c (r + 1) 0 (omega (arith, ta .mapped .table, im .low h, im .source .small))
-
-                go : (x y : ℕ) → getD (set M2 c (r + 1)) x 0 ≡ y + 1 → Dec (x ≡ c) → CodeAs W3 src x host y
-                go x y e (yes z) =
-                    let v : r + 1 ≡ y + 1 = sym put ∙ ap (λ (q : ℕ). getD (set M2 c (r + 1)) q 0) (sym z) ∙ e in
-                    let w : r ≡ y = omega arith in
-                    rw (z, ← w) code-new
-                go x y e (no z) = mapped-all .each x y (sym (getD-set-other M2 c x (r + 1) 0 z) ∙ e)
-
-        -- the same for the bytes read as numbers
-        module _ (w : ℕ) (f : Four T 2 w) where
-          read : T ≡ objectOf (getD T 0 0) (getD T 1 0) w
-          read = object-read T w (td .long) f
-
-          pub import-fits : Fits W2 host (objectOf (getD T 0 0) (getD T 1 0) w)
-          import-fits = subst (Fits W2 host) read bytes-fit
-
-          module _ (W3 : List ℕ) (r : ℕ) (en : Entered W2 host (objectOf (getD T 0 0) (getD T 1 0) w) W3 r) where
-            en-bytes : Entered W2 host T W3 r
-            en-bytes = subst (λ (B : List ℕ). Entered W2 host B W3 r) (sym read) en
-
-            pub import-full : r ≡ 32 → Imported W src c host W3 M2 32
-            import-full = bytes-full W3 r en-bytes
-
-            pub import-done : ((r ≡ 32) → ⊥) → Imported W src c host W3 (set M2 c (r + 1)) r
-            import-done = bytes-done W3 r en-bytes
+      byte : (p : ℕ) → 234 * src ≤ p → p < 234 * src + 234 → getD W′ p 0 ≡ getD W p 0
+      byte = other-byte host W W′ (g .outside) src apart
 
 -- ---- a part
 module _ (W : List ℕ) (b i base host : ℕ) (ib : Inside W b i) (bg : Begun W base host) where
@@ -558,24 +279,8 @@ module _ (W : List ℕ) (b i base host : ℕ) (ib : Inside W b i) (bg : Begun W 
   }
 
   module _ (apart : (b ≡ host) → ⊥) where
-    pub object-importing : (k : ℕ) → k ≡ 32 → Importing W b i host (replicate k 0)
-    object-importing k ek = record {
-      source = ib .block;
-      low = λ _. ib .low;
-      target = bg .target;
-      apart = apart;
-      mapped = record { table = length-replicate k 0 ∙ ek; each = λ x y e. absurd (omega (arith, zero-at x, e)) };
-    }
-      where
-        zero-at : (x : ℕ) → _≡_ {A = ℕ} (getD (replicate k 0) x 0) 0
-        zero-at x = go (decLt x k)
-          where
-            go : Dec (x < k) → _≡_ {A = ℕ} (getD (replicate k 0) x 0) 0
-            go (yes l) = getD-replicate k x 0 0 l
-            go (no l) = List·getD-eq-default (replicate k 0) 0 {n = x} (omega (arith, l, length-replicate {A = ℕ} k 0))
-
-    pub object-other : (W′ M′ : List ℕ) (r : ℕ) → Imported W b i host W′ M′ r → PartImported W (Object i b) host W′ r
-    object-other W′ M′ r im = record {
+    pub object-other : (W′ : List ℕ) (r : ℕ) → Imported W b i host W′ r → PartImported W (Object i b) host W′ r
+    object-other W′ r im = record {
       grown = im .grown;
       like = λ d. record {
         low = im .like d .low;
@@ -590,60 +295,36 @@ module _ (W : List ℕ) (b i host : ℕ) (ib : Inside W b i) (bk : Block W host)
   abbrev bare-object : List ℕ
   bare-object = objectOf (getD W (234 * b + 6 * i) 0) 0 w
 
-  o : ObjectBytes W b i bare-object
-  o = record {
-    long = object-length (getD W (234 * b + 6 * i) 0) 0 w;
-    bytes = λ j h. sym (object-bytes W (234 * b + 6 * i) w f j h ∙ ap (λ (m : ℕ). getD (objectOf (getD W (234 * b + 6 * i) 0) m w) j 0) bare);
+  bare-code : (k : ℕ) → k < 4 → (codeAt W b i k ≡ 192) × (getD bare-object (2 + k) 0 ≡ 192)
+  bare-code k l =
+      let z : 234 * b + 6 * i + (2 + k) ≡ 234 * b + 6 * i + 2 + k = omega arith in
+      let s : getD W (234 * b + 6 * i + (2 + k)) 0 ≡ 192 = ib .block .packed i (ib .low) .spare (2 + k) (omega (arith, bare)) (omega arith) in
+      (rw z at s, sym (object-bytes W (234 * b + 6 * i) w f (2 + k) (omega arith) ∙ ap (λ (m : ℕ). getD (objectOf (getD W (234 * b + 6 * i) 0) m w) (2 + k) 0) bare) ∙ s)
+
+  bare-turned : TurnedAs W b i host bare-object
+  bare-turned = record {
+    cls = object-class _ 0 w;
+    count = object-count _ 0 w ∙ sym bare;
+    code = λ k l. rw (bare-code k l .0, bare-code k l .1) (record {
+      low = leaf-low (countIn W host) 192 (omega arith);
+      leaf = λ _. refl;
+      same = leaf-same (objectsIn W b) (objectsIn W host) (refOf 192) (leaf-low 0 192 (omega arith));
+    });
   }
+
+  pub bare-fits : Fits W host (objectOf (getD W (234 * b + 6 * i) 0) 0 w)
+  bare-fits = turned-fits W b i host bare-object ib bk bare-turned
 
   begun : Begun W host host
   begun = record { source = bk; target = bk; most = omega arith; trees = λ r l p. refl }
 
-  abbrev none-met : List ℕ
-  none-met = replicate 32 0
-
-  bare-importing : Importing W b i host none-met
-  bare-importing = object-importing W b i host host ib begun apart 32 refl
-
-  bare-low : i < 192
-  bare-low = omega (arith, ib .low, ib .block .small)
-
-  bare-code : (j : ℕ) → j < 4 → getD W (234 * b + 6 * i + (2 + j)) 0 ≡ 192
-  bare-code j l = ib .block .packed i (ib .low) .spare (2 + j) (omega (arith, bare)) (omega arith)
-
-  bare-turned : TurnedAll W b i host W none-met bare-object true
-  bare-turned = record {
-    grown = grown-none host W bk;
-    mapped = bare-importing .mapped;
-    turned = λ _. record {
-      long = o .long;
-      cls = o .bytes 0 (omega arith);
-      count = o .bytes 1 (omega arith);
-      done = λ j l m.
-          subst (λ (x : ℕ). CodeAs W b (getD W (234 * b + 6 * i + (2 + j)) 0) host x) (sym (o .bytes (2 + j) (omega arith)))
-          (subst (λ (x : ℕ). CodeAs W b x host x) (sym (bare-code j m)) (record {
-            low = leaf-low (countIn W host) 192 (omega arith);
-            leaf = λ _. refl;
-            same = leaf-same (objectsIn W b) (objectsIn W host) (refOf 192) (leaf-low 0 192 (omega arith));
-          }));
-      left = λ j l m. o .bytes (2 + j) (omega arith);
-    };
-  }
-
-  pub bare-fits : Fits W host (objectOf (getD W (234 * b + 6 * i) 0) 0 w)
-  bare-fits = bytes-fit W b i host none-met bare-importing bare-low W none-met bare-object true bare-turned refl
-
   pub bare-imported : (W′ : List ℕ) (r : ℕ) → Entered W host (objectOf (getD W (234 * b + 6 * i) 0) 0 w) W′ r → PartImported W (Object i b) host W′ r
-  bare-imported W′ r en = go (ℕ-discrete r 32)
-    where
-      full : r ≡ 32 → Imported W b i host W′ none-met r
-      full e = subst (Imported W b i host W′ none-met) (sym e) (bytes-full W b i host none-met bare-importing bare-low W none-met bare-object true bare-turned refl W′ r en e)
-
-      go : Dec (r ≡ 32) → PartImported W (Object i b) host W′ r
-      go (yes e) = object-other W b i host host ib begun apart W′ none-met r (full e)
-      go (no d) =
-          object-other W b i host host ib begun apart W′ (set none-met i (r + 1)) r
-          (bytes-done W b i host none-met bare-importing bare-low W none-met bare-object true bare-turned refl W′ r en d)
+  bare-imported W′ r en = object-other W b i host host ib begun apart W′ r (record {
+    grown = en .grown;
+    like = λ d.
+        turned-same W′ b i host bare-object (other-inside host W W′ (en .grown .outside) b apart i ib) (en .grown .block)
+        (turned-grown host W W′ (en .grown) b apart (ib .block) i bare-object (ib .low) bare-turned) r (en .standing d);
+  })
 
 module _ (W : List ℕ) (v : ValueRef) (base host : ℕ) (h : Holds W v) (bg : Begun W base host) where
   pub part-object : (b i : ℕ) (W′ : List ℕ) (r : ℕ) → v ≡ Object i b → PartImported W (Object i b) host W′ r → PartImported W v host W′ r

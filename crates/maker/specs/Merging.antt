@@ -9,7 +9,7 @@ use lib.Dec.{ltb, eqb}
 use lib.ListN.{length, getD, getElem?}
 use Rattle.cofj.specs.Values.{Ref, nodeAt}
 use Rattle.cofj.specs.Unfolding.{Same, InRange}
-use Rattle.canon.specs.Layout.{refOf, nodeIn, Packed, countIn, objectsIn, Block, Inside, Outside}
+use Rattle.canon.specs.Layout.{refOf, nodeIn, Packed, countIn, objectsIn, Block, Outside}
 use Rattle.values.specs.declared.ValueRef.{ValueRef}
 use Rattle.values.specs.declared.ValueRef.the-variants.{Object, Mark, Undetermined}
 use Rattle.values.specs.Tests.{any}
@@ -59,42 +59,10 @@ pub record Mapped (W : List ℕ) (src host : ℕ) (M : List ℕ) : Type 0 where
   pub table : length M ≡ 32
   pub each : (x y : ℕ) → getD M x 0 ≡ y + 1 → CodeAs W src x host y
 
-pub record Importing (W : List ℕ) (src c host : ℕ) (M : List ℕ) : Type 0 where
-  pub source : Block W src
-  pub low : c < 192 → c < countIn W src
-  pub target : Block W host
-  pub apart : (src ≡ host) → ⊥
-  pub mapped : Mapped W src host M
-
-pub record Imported (W : List ℕ) (src c host : ℕ) (W′ M′ : List ℕ) (r : ℕ) : Type 0 where
+-- object i of block src, with what it leads to, is in the host; r is its number there, or 32 where there was no room
+pub record Imported (W : List ℕ) (src i host : ℕ) (W′ : List ℕ) (r : ℕ) : Type 0 where
   pub grown : Grown host W W′
-  pub mapped : Mapped W′ src host M′
-  pub like : ((r ≡ 32) → ⊥) → CodeAs W′ src c host r
-
--- T has the bytes of object i of block src
-pub record ObjectBytes (W : List ℕ) (src i : ℕ) (T : List ℕ) : Type 0 where
-  pub long : length T ≡ 6
-  pub bytes : (j : ℕ) → j < 6 → getD T j 0 ≡ getD W (234 * src + 6 * i + j) 0
-
--- T has object i of block src, its first k codes turned to codes of block host
-pub record Turned (W : List ℕ) (src i host : ℕ) (T : List ℕ) (k : ℕ) : Type 0 where
-  pub long : length T ≡ 6
-  pub cls : getD T 0 0 ≡ getD W (234 * src + 6 * i + 0) 0
-  pub count : getD T 1 0 ≡ getD W (234 * src + 6 * i + 1) 0
-  pub done : (j : ℕ) → j < k → j < 4 → CodeAs W src (getD W (234 * src + 6 * i + (2 + j)) 0) host (getD T (2 + j) 0)
-  pub left : (j : ℕ) → k ≤ j → j < 4 → getD T (2 + j) 0 ≡ getD W (234 * src + 6 * i + (2 + j)) 0
-
-pub record Turning (W : List ℕ) (src i host : ℕ) (M T : List ℕ) (k : ℕ) : Type 0 where
-  pub inside : Inside W src i
-  pub target : Block W host
-  pub apart : (src ≡ host) → ⊥
-  pub mapped : Mapped W src host M
-  pub turned : Turned W src i host T k
-
-pub record TurnedAll (W : List ℕ) (src i host : ℕ) (W′ M′ T′ : List ℕ) (r : Bool) : Type 0 where
-  pub grown : Grown host W W′
-  pub mapped : Mapped W′ src host M′
-  pub turned : r ≡ true → Turned W′ src i host T′ 4
+  pub like : ((r ≡ 32) → ⊥) → CodeAs W′ src i host r
 
 -- ---- the parts
 -- the code r of block host unfolds as the value of v in the bytes W

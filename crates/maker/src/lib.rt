@@ -3,6 +3,11 @@
 pub mod lay; // values laid side by side below a new object
 pub mod over; // a new object beside the objects of one block
 pub mod enter; // an object among the objects of a block
+pub mod reach; // what an object of a block leads to
+pub mod seek; // an object of a part among the objects of the host
+pub mod sort; // which objects of a part are new to the host
+pub mod join; // the new objects of a part added to the host
+pub mod part; // an object of another block in the host
 pub mod merge; // a new object over the objects of several blocks
 pub mod make; // a new object
 pub mod bares; // block 0 with the objects without fields

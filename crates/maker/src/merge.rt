@@ -1,12 +1,12 @@
 // Objects of several blocks brought into one, the host, and a new object over them there.
-// Not here: parts that lie in one block already (make), and objects that lead back to themselves, which are laid side by side (make).
+// Not here: parts that lie in one block already (make), an object of another block brought into the host (part).
 use crate::Made;
 use crate::enter::enter;
 use crate::enter::enter_over;
 use crate::lay::part_at;
 use crate::make::make_laid;
 use crate::over::UNUSED;
-use canon::bytes::copy;
+use crate::part::import;
 use canon::bytes::four_at;
 use values::ValueRef;
 use values::value::bring;
@@ -20,70 +20,7 @@ ghost use Rattle.maker.specs.Laying.{partsOf, PartsHeld, valuesFrom, Mad
 ghost use Rattle.canon.specs.Layout.{Block, Inside};
 ghost use Rattle.values.specs.Layout.{Holds, liesIn};
 ghost use Rattle.values.specs.declared.ValueRef.the-variants.{Object};
-ghost use Rattle.maker.specs.Merging.{ObjectBytes, Importing, Imported, Turning, TurnedAll, Begun, PartImported, PartsBrought, someIn, largerOf, largestOf};
-
-// The six bytes of object i of block src, to the front of `top`.
-pub fn take_object(work: &[u8], src: u16, i: u8, top: &mut [u8])
-    requires { ⌜ Inside (now work) src i × (length (now top) ≡ 6) ⌝ }
-    ensures { λ _. ⌜ ObjectBytes (now (work .entry)) src i (now (top .exit)) ⌝ }
-{
-    copy(work, 234 * (src as usize) + 6 * (i as usize), top, 0, 6);
-}
-
-// A code of block src, with what it leads to, in block host: its code there, or 32 if there is no room or it leads back to itself.
-// `memo` has k + 1 for an object that is object k of the host, 0 for one not yet met.
-pub fn import(work: &mut [u8], src: u16, c: u8, host: u16, memo: &mut [u8], depth: u8) -> u8
-    requires { ⌜ Importing (now work) src c host (now memo) ⌝ }
-    ensures { λ r. ⌜ Imported (now (work .entry)) src c host (now (work .exit)) (now (memo .exit)) r ⌝ }
-{
-    if 192 <= c {
-        return c;
-    }
-    let m = memo[c as usize];
-    if m != 0 {
-        return m - 1;
-    }
-    if depth == 0 {
-        return 32;
-    }
-    let mut top = [0u8; 6];
-    take_object(work, src, c, &mut top);
-    if !import_codes(work, src, c, host, memo, depth - 1, &mut top, 0) {
-        return 32;
-    }
-    let r = enter(work, host, top[0], top[1], four_at(&top, 2));
-    if r == 32 {
-        return 32;
-    }
-    memo[c as usize] = r + 1;
-    r
-}
-
-// The codes of object i of block src, from code k on, in block host; `top` has the object. Answers whether there was room.
-pub fn import_codes(
-    work: &mut [u8],
-    src: u16,
-    i: u8,
-    host: u16,
-    memo: &mut [u8],
-    depth: u8,
-    top: &mut [u8],
-    k: u8,
-) -> bool
-    requires { ⌜ Turning (now work) src i host (now memo) (now top) k ⌝ }
-    ensures { λ r. ⌜ TurnedAll (now (work .entry)) src i host (now (work .exit)) (now (memo .exit)) (now (top .exit)) r ⌝ }
-{
-    if top[1] <= k {
-        return true;
-    }
-    let c = top[2 + k as usize];
-    let r = import(work, src, c, host, memo, depth);
-    if r == 32 {
-        return false;
-    }
-    top[2 + k as usize] = r;
-    import_codes(work, src, i, host, memo, depth, top, k + 1)
-}
+ghost use Rattle.maker.specs.Merging.{Begun, PartImported, PartsBrought, someIn, largerOf, largestOf};
 
 // Object i of block b, which has no fields, in block host: its number there, or 32 if there is no room.
 pub fn import_bare(work: &mut [u8], b: u16, i: u8, host: u16) -> u8
@@ -110,9 +47,7 @@ pub fn import_object(work: &mut [u8], b: u16, i: u8, base: u16, host: u16) -> u8
     if work[234 * (b as usize) + 6 * (i as usize) + 1] == 0 {
         return import_bare(work, b, i, host);
     }
-    let t = work[234 * (b as usize) + 192];
-    let mut memo = [0u8; 32];
-    import(work, b, i, host, &mut memo, t)
+    import(work, b, i, host)
 }
 
 // A value in block host: its code there, or 32.

@@ -70,7 +70,7 @@ unpaired-other zero x v T h = refl
 unpaired-other (suc k) x v T h =
     ap₂ {A = ℕ} {B = ℕ} {C = ℕ} (λ p q. cond (eqb p 0) 1 0 + q) (getD-set-other T x k v 0 (λ z. omega arith)) (unpaired-other k x v T (omega arith))
 
-unpaired-put : (k x v : ℕ) (T : List ℕ) → x < k → x < length T → getD T x 0 ≡ 0 → suc (unpaired k (set T x (v + 1))) ≡ unpaired k T
+pub unpaired-put : (k x v : ℕ) (T : List ℕ) → x < k → x < length T → getD T x 0 ≡ 0 → suc (unpaired k (set T x (v + 1))) ≡ unpaired k T
 unfolding unpaired
 unpaired-put zero x v T h l e = absurd (omega arith)
 unpaired-put (suc k) x v T h l e = go (ℕ-discrete k x) (λ h′. unpaired-put k x v T h′ l e)
@@ -183,7 +183,7 @@ module _ (W : List ℕ) (b x : ℕ) (ib : Inside W b x) where
 
 module _ (W : List ℕ) (b x c y : ℕ) where
   module _ (ib : Inside W b x) (ic : Inside W c y) where
-    same-alike : Same (objectsIn W b) (obj x) (objectsIn W c) (obj y) → Alike W (234 * b + 6 * x) (234 * c + 6 * y)
+    pub same-alike : Same (objectsIn W b) (obj x) (objectsIn W c) (obj y) → Alike W (234 * b + 6 * x) (234 * c + 6 * y)
     same-alike s = record {
       cls = cls-is W b (ib .block) x (ib .low) ∙ same-cls (objectsIn W b) (objectsIn W c) x y s ∙ sym (cls-is W c (ic .block) y (ic .low));
       count = count-is W b (ib .block) x (ib .low) ∙ same-count (objectsIn W b) (objectsIn W c) x y s ∙ sym (count-is W c (ic .block) y (ic .low));
@@ -568,7 +568,7 @@ module _ (W : List ℕ) (b c : ℕ) (T₀ Q₀ : List ℕ) where
         all x y e = ⊎-elim (λ o. inl (gone x y e o)) (λ s. inr s) (so .paired .listed x y e)
 
 -- ---- where comparing begins
-unpaired-few : (k : ℕ) (T : List ℕ) → unpaired k T ≤ k
+pub unpaired-few : (k : ℕ) (T : List ℕ) → unpaired k T ≤ k
 unfolding unpaired
 unpaired-few zero T = omega arith
 unpaired-few (suc k) T = go (eqb (getD T k 0) 0) (unpaired-few k T)

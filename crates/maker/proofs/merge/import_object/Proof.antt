@@ -3,7 +3,7 @@ use Rattle.maker.proofs.merge.import_object.Statement.{statement}
 use Rattle.maker.proofs.merge.import_object.Tie as tie
 use Rattle.maker.proofs.merge.import_object.Reads as reads
 use Rattle.maker.proofs.merge.import_object.Lts as lts
-use Rattle.maker.proofs.merge.import.Reads as import-reads
+use Rattle.maker.proofs.part.import.Reads as import-reads
 use Rattle.maker.proofs.merge.import_bare.Reads as import-bare-reads
 use Rattle.maker.proofs.Merges as laws
 
@@ -12,9 +12,6 @@ returns c = search laws.object-base
 
 returns-2 : tie.Need-returns-2
 returns-2 c = search laws.object-host
-
-import-requires : tie.Need-import-requires
-import-requires c κs = search laws.object-importing
 
 returns-4 : tie.Need-returns-4
 returns-4 c = search laws.object-other
@@ -33,10 +30,6 @@ import-object-spec =
     (λ c κs. search needs)
     (λ c. search needs)
     (λ c. search needs)
-    (λ c. search needs)
-    (λ c. search needs)
-    (λ c. search needs)
-    (λ c. search needs)
-    import-requires
+    (λ c κs. search needs)
     (λ c. search needs)
     returns-4)

@@ -1,0 +1,87 @@
+-- Laws of an object of another block brought into the host, with what it leads to: found at once under its own number, or sorted out and joined.
+-- Not here: what is known of single objects (Sorts), the bytes that are added (Joins).
+use Prim.Native.Nat.{ℕ, _+_, _-_, _*_, _≤_, _<_}
+use native.Mathlib.Omega.{arith}
+use mathlib.Core.Path.{_≡_, refl, sym, ap, _∙_, subst}
+use mathlib.Core.Bool.{Bool, true, false, not, false≢true}
+use mathlib.Core.List.{List}
+use lib.ListN.{length, getD, replicate, length-replicate}
+use Rattle.canon.specs.Layout.{countIn, Block, Inside}
+use Rattle.values.proofs.Tests.{not-false}
+use Rattle.maker.specs.Merging.{CodeAs, Mapped, Imported}
+use Rattle.maker.specs.Sorting.{Sorted, Decided, codeAt, Listed, Reached, Sorting, SortedFrom}
+use Rattle.maker.specs.Seeking.{Telling, SameNumber}
+use Rattle.maker.specs.Joining.{Joining, Joined}
+use Rattle.maker.proofs.Turns.{zero-at}
+use Rattle.maker.proofs.Merges.{grown-none}
+
+-- ---- the same number
+module _ (W : List ℕ) (src i host : ℕ) (T : List ℕ) where
+  pub number-none : SameNumber W src i host T T false
+  number-none = record { yes = λ e. absurd (false≢true e); no = λ _. refl }
+
+  pub number-inside : Block W host → i < getD W (234 * host + 192) 0 → Inside W host i
+  unfolding countIn
+  number-inside bk h = record { block = bk; low = h }
+
+  pub number-read : Block W host → 234 * host + 192 < length W
+  number-read bk = omega (arith, bk .room)
+
+  pub number-told : (T′ : List ℕ) (r : Bool) → Telling W src i host i T T′ r → SameNumber W src i host T T′ r
+  number-told T′ r t = record { yes = λ e. t .yes e .each i i (t .here e); no = t .no }
+
+-- ---- nothing is known at first
+pub mapped-none : (W : List ℕ) (src host k : ℕ) → k ≡ 32 → Mapped W src host (replicate k 0)
+mapped-none W src host k e = record { table = length-replicate k 0 ∙ e; each = λ x y z. absurd (omega (arith, zero-at k x, z)) }
+
+-- ---- sorted out and joined
+module _ (W : List ℕ) (src i host : ℕ) (ib : Inside W src i) (bk : Block W host) (apart : (src ≡ host) → ⊥) (L : List ℕ) (m : ℕ) (rc : Reached W src i L m) where
+  pub bring-sorting : (T : List ℕ) → Mapped W src host T → (k : ℕ) → k ≡ 32 → Sorting W src host L m T (replicate k 0)
+  bring-sorting T mp k e = record {
+    ground = record { source = ib .block; target = bk; few = rc .few; long = rc .long; low = rc .low };
+    sorted = record { mapped = mp; table = length-replicate k 0 ∙ e; low = λ x d. absurd (d (zero-at k x)); fresh = λ x d. absurd (d (zero-at k x)) };
+    listed = λ x d. absurd (d (zero-at k x));
+  }
+
+  module _ (T F : List ℕ) (s : SortedFrom W src host L m 0 T F) where
+    pub bring-joining : Joining W src host T F
+    bring-joining = record {
+      source = ib .block;
+      target = bk;
+      apart = apart;
+      sorted = s .sorting .sorted;
+      settled = record {
+        field = λ x f d h l. decided (codeAt W src x f) (field x f (s .sorting .listed x d) h l);
+      };
+    }
+      where
+        decided : (x : ℕ) → Listed L m x → Decided T F x
+        decided x p = subst (Decided T F) (p .2) (s .above (p .0) (omega arith) (p .1))
+
+        field : (x f : ℕ) → Listed L m x → f < 4 → codeAt W src x f < 192 → Listed L m (codeAt W src x f)
+        field x f p h l = subst (λ (y : ℕ). codeAt W src y f < 192 → Listed L m (codeAt W src y f)) (p .2) (rc .closed (p .0) f (p .1) h) l
+
+    module _ (W′ T′ : List ℕ) (r : Bool) (j : Joined W src host T F W′ T′ r) where
+      pub bring-full : not r ≡ true → Imported W src i host W′ 32
+      bring-full _ = record { grown = j .grown; like = λ d. absurd (d refl) }
+
+      module _ (e : not r ≡ false) where
+        here : (getD T′ i 0 ≡ 0) → ⊥
+        here = j .told (not-false r e) i (subst (Decided T F) (rc .root .2) (s .above (rc .root .0) (omega arith) (rc .root .1)))
+
+        pub bring-read : i < length T′
+        bring-read = omega (arith, j .mapped (not-false r e) .table, ib .low, ib .block .small)
+
+        pub bring-some : 1 ≤ getD T′ i 0
+        bring-some = omega (arith, here)
+
+        pub bring-done : Imported W src i host W′ (getD T′ i 0 - 1)
+        bring-done = record { grown = j .grown; like = λ _. j .mapped (not-false r e) .each i (getD T′ i 0 - 1) (omega (arith, here)) }
+
+-- ---- the whole
+module _ (W : List ℕ) (src i host : ℕ) (bk : Block W host) (k : ℕ) (e : k ≡ 32) (T : List ℕ) (r : Bool) (sn : SameNumber W src i host (replicate k 0) T r) where
+  pub import-same : r ≡ true → Imported W src i host W i
+  import-same z = record { grown = grown-none host W bk; like = λ _. sn .yes z }
+
+  pub import-mapped : r ≡ false → Mapped W src host T
+  import-mapped z = subst (Mapped W src host) (sym (sn .no z)) (mapped-none W src host k e)

@@ -1,0 +1,49 @@
+use Rattle.maker.proofs.join.join.Statement.{statement}
+use Rattle.maker.proofs.join.join.Tie as tie
+use Rattle.maker.proofs.join.join.Reads as reads
+use Rattle.maker.proofs.join.join.Lts as lts
+use Rattle.maker.proofs.join.extend.Reads as extend-reads
+use Rattle.maker.proofs.join.number_new.Reads as number-new-reads
+use borrow.Author.Needs.{needs}
+use Rattle.maker.proofs.Joins as laws
+use native.Mathlib.Omega.{arith}
+use Rattle.canon.specs.Layout.{countIn}
+
+number-new-requires : tie.Need-number-new-requires
+unfolding countIn
+number-new-requires c κs = omega arith
+
+returns : tie.Need-returns
+returns c = search laws.join-full
+
+returns-2 : tie.Need-returns-2
+returns-2 c = search laws.join-none
+
+extend-requires : tie.Need-extend-requires
+extend-requires c κs =
+    let e = c .before .before .before in
+    let nn = e .before .before .before in
+    laws.join-ready _ _ _ _ _ (nn .before .before .before .before .before .before .before .pre) _ _ (nn .number-new .ensures) (e .if1 .left)
+
+returns-3 : tie.Need-returns-3
+returns-3 c = search laws.join-more
+
+pub join-spec : {M : Type 1} → statement M
+join-spec =
+    tie.close
+    (tie.spec
+    (λ c. search needs)
+    (λ c. search needs)
+    (λ c. search needs)
+    (λ c. search needs)
+    (λ c. search needs)
+    (λ c. search needs)
+    number-new-requires
+    (λ c. search needs)
+    returns
+    (λ c. search needs)
+    returns-2
+    extend-requires
+    (λ c. search needs)
+    (λ c. search needs)
+    returns-3)

@@ -1,0 +1,34 @@
+use borrow.Author.Needs.{needs}
+use mathlib.Core.Path.{refl}
+use Rattle.maker.proofs.part.import.Statement.{statement}
+use Rattle.maker.proofs.part.import.Tie as tie
+use Rattle.maker.proofs.part.import.Reads as reads
+use Rattle.maker.proofs.part.import.Lts as lts
+use Rattle.maker.proofs.part.bring_new.Reads as bring-new-reads
+use Rattle.maker.proofs.part.same_number.Reads as same-number-reads
+use Rattle.maker.proofs.Parts as laws
+use Rattle.maker.proofs.Turns as tables
+
+same-number-requires : tie.Need-same-number-requires
+same-number-requires c κs = (search needs, search needs, search laws.mapped-none, tables.zero-at 32 (c .before .before .before .args .i))
+
+returns : tie.Need-returns
+returns c = search laws.import-same
+
+bring-new-requires : tie.Need-bring-new-requires
+bring-new-requires c κs =
+    let same = c .before .before .before .before in
+    (search needs, search needs, search needs, laws.import-mapped _ _ _ _ (same .before .before .before .before .pre .1) 32 refl _ _ (same .same-number .ensures) (c .before .before .if1 .left))
+
+pub import-spec : {M : Type 1} → statement M
+import-spec =
+    tie.close
+    (tie.spec
+    (λ c. search needs)
+    same-number-requires
+    (λ c. search needs)
+    returns
+    (λ c. search needs)
+    bring-new-requires
+    (λ c. search needs)
+    (λ c. search needs))

@@ -1,0 +1,37 @@
+use borrow.Author.Needs.{needs}
+use Rattle.maker.proofs.part.same_number.Statement.{statement}
+use Rattle.maker.proofs.part.same_number.Tie as tie
+use Rattle.maker.proofs.part.same_number.Reads as reads
+use Rattle.maker.proofs.part.same_number.Lts as lts
+use Rattle.maker.proofs.seek.like.Reads as like-reads
+use Rattle.maker.proofs.seek.tell.Reads as tell-reads
+use Rattle.maker.proofs.Parts as laws
+
+returns : tie.Need-returns
+returns c = search laws.number-none
+
+like-requires : tie.Need-like-requires
+like-requires c κs = (search needs, search laws.number-inside)
+
+returns-2 : tie.Need-returns-2
+returns-2 c = search laws.number-none
+
+tell-requires : tie.Need-tell-requires
+tell-requires c κs = (search needs, search laws.number-inside, search needs, search needs)
+
+returns-3 : tie.Need-returns-3
+returns-3 c = search laws.number-told
+
+pub same-number-spec : {M : Type 1} → statement M
+same-number-spec =
+    tie.close
+    (tie.spec
+    (λ c. search needs)
+    (λ c. search needs)
+    (λ c. search needs)
+    returns
+    like-requires
+    returns-2
+    tell-requires
+    (λ c. search needs)
+    returns-3)

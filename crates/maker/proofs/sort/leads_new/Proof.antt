@@ -1,0 +1,44 @@
+use Rattle.maker.proofs.sort.leads_new.Statement.{statement}
+use Rattle.maker.proofs.sort.leads_new.Tie as tie
+use Rattle.maker.proofs.sort.leads_new.Reads as reads
+use Rattle.maker.proofs.sort.leads_new.Lts as lts
+use Rattle.maker.proofs.sort.is_new.Reads as is-new-reads
+use borrow.Author.Needs.{needs}
+use Rattle.maker.proofs.Sorts as laws
+use Prim.Native.Nat.{_≤_, _-_}
+
+abbrev Inv-loop : tie.InvT-loop
+Inv-loop work src x fresh p k₀ k = k ≤ 4
+
+abbrev μ-loop : tie.MeasureT-loop
+μ-loop work src x fresh p k₀ k = 4 - k
+
+is-new-requires : tie.Need-is-new-requires Inv-loop μ-loop
+is-new-requires c κs = search laws.code-small
+
+returns : tie.Need-returns Inv-loop μ-loop
+returns c = search laws.leads-yes
+
+returns-2 : tie.Need-returns-2 Inv-loop μ-loop
+returns-2 c = search laws.leads-no
+
+pub leads-new-spec : {M : Type 1} → statement M
+leads-new-spec =
+    tie.close
+    (tie.spec
+    Inv-loop
+    μ-loop
+    (λ c. search needs)
+    (λ c. search needs)
+    (λ c. search needs)
+    (λ c. search needs)
+    (λ c. search needs)
+    (λ c. search needs)
+    (λ c. search needs)
+    (λ c. search needs)
+    is-new-requires
+    returns
+    (λ c. search needs)
+    (λ c. search needs)
+    (λ c. search needs)
+    returns-2)

@@ -1,0 +1,23 @@
+use borrow.Author.Needs.{needs}
+use Rattle.maker.proofs.sort.seek_rare.Statement.{statement}
+use Rattle.maker.proofs.sort.seek_rare.Tie as tie
+use Rattle.maker.proofs.sort.seek_rare.Reads as reads
+use Rattle.maker.proofs.sort.seek_rare.Lts as lts
+use Rattle.maker.proofs.sort.choose.Reads as choose-reads
+use Rattle.maker.proofs.sort.seek_open.Reads as seek-open-reads
+use Rattle.maker.proofs.sort.spread.Reads as spread-reads
+use Rattle.maker.proofs.Sorts as laws
+
+returns : tie.Need-returns
+returns c = search laws.rare-onward
+
+pub seek-rare-spec : {M : Type 1} → statement M
+seek-rare-spec =
+    tie.close
+    (tie.spec
+    (λ c κs. search needs)
+    (λ c κs. search needs)
+    (λ c κs. search needs)
+    (λ c. search needs)
+    (λ c. search needs)
+    returns)

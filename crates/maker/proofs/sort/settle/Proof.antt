@@ -1,0 +1,29 @@
+use borrow.Author.Needs.{needs}
+use Rattle.maker.proofs.sort.settle.Statement.{statement}
+use Rattle.maker.proofs.sort.settle.Tie as tie
+use Rattle.maker.proofs.sort.settle.Reads as reads
+use Rattle.maker.proofs.sort.settle.Lts as lts
+use Rattle.maker.proofs.sort.by_fields.Reads as by-fields-reads
+use Rattle.maker.proofs.sort.seek_open.Reads as seek-open-reads
+use Rattle.maker.proofs.sort.seek_rare.Reads as seek-rare-reads
+use Rattle.maker.proofs.Sorts as laws
+
+returns : tie.Need-returns
+returns c = search laws.settled-fields
+
+returns-2 : tie.Need-returns-2
+returns-2 c = search laws.settled-sought
+
+pub settle-spec : {M : Type 1} → statement M
+settle-spec =
+    tie.close
+    (tie.spec
+    (λ c κs. search needs)
+    (λ c. search needs)
+    (λ c. search needs)
+    returns
+    (λ c κs. search needs)
+    (λ c κs. search needs)
+    (λ c. search needs)
+    (λ c. search needs)
+    returns-2)

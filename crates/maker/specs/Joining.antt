@@ -1,0 +1,85 @@
+-- The new objects of a part, which lies in block src, added to the host, rings too: their numbers there, their bytes, and the host then.
+-- Not here: which objects are new (Sorting).
+use Prim.Native.Nat.{ℕ, _+_, _-_, _*_, _≤_, _<_}
+use mathlib.Core.Path.{_≡_}
+use mathlib.Core.Bool.{Bool, true, cond}
+use mathlib.Core.List.{List, map}
+use lib.Dec.{ltb, eqb}
+use lib.ListN.{length, getD}
+use Rattle.canon.specs.Layout.{countIn, levelIn, reachIn, Block, Outside}
+use Rattle.canon.specs.Tables.{copied}
+use Rattle.canon.specs.Numbers.{numberIn}
+use Rattle.maker.specs.Merging.{Grown, Mapped}
+use Rattle.maker.specs.Sorting.{Sorted, Settled, Decided}
+
+-- the table of told objects as canon has one for turning codes: k for object k, 32 for one that is not told
+unfoldable pub numbersOf : List ℕ → List ℕ
+numbersOf T = map (λ k. cond (eqb k 0) 32 (k - 1)) T
+
+-- ---- the numbers
+-- object x is new
+abbrev pub New : List ℕ → ℕ → Type 0
+New F x = (getD F x 0 ≡ 0) → ⊥
+
+-- each new one of the first n objects has a number of its own, from t on and below m
+pub record Numbered (n t : ℕ) (F T : List ℕ) (m : ℕ) : Type 0 where
+  pub low : (x : ℕ) → x < n → New F x → t < getD T x 0
+  pub high : (x : ℕ) → x < n → New F x → getD T x 0 ≤ m
+  pub one : (x y : ℕ) → x < n → y < n → New F x → New F y → getD T x 0 ≡ getD T y 0 → x ≡ y
+
+-- number k - 1 is that of a new one of them
+pub record Given (n : ℕ) (F T : List ℕ) (k : ℕ) : Type 0 where
+  pub source : ℕ
+  pub below : source < n
+  pub new : New F source
+  pub at : getD T source 0 ≡ k
+
+-- they have the numbers from t on, all that are below m; T′ is T for the other objects
+pub record Counted (n t : ℕ) (T F T′ : List ℕ) (m : ℕ) : Type 0 where
+  pub same : length T′ ≡ length T
+  pub most : t ≤ m
+  pub kept : (x : ℕ) → getD F x 0 ≡ 0 → getD T′ x 0 ≡ getD T x 0
+  pub numbered : Numbered n t F T′ m
+  pub from : (k : ℕ) → t < k → k ≤ m → Given n F T′ k
+
+-- if there is room
+pub record Fitted (n t : ℕ) (T F T′ : List ℕ) (m : ℕ) : Type 0 where
+  pub counted : m ≤ 32 → Counted n t T F T′ m
+
+-- ---- the bytes
+pub record Placing (W : List ℕ) (src host : ℕ) (T F : List ℕ) : Type 0 where
+  pub source : Block W src
+  pub target : Block W host
+  pub apart : (src ≡ host) → ⊥
+  pub told : length T ≡ 32
+  pub marked : length F ≡ 32
+  pub numbered : Numbered (countIn W src) (countIn W host) F T 32
+
+-- the new ones of the first n objects have their places in the host, after its objects; the other bytes are W's
+pub record Laid (W : List ℕ) (src host : ℕ) (T F : List ℕ) (n : ℕ) (W′ : List ℕ) : Type 0 where
+  pub same : length W′ ≡ length W
+  pub here : (x k : ℕ) → x < n → New F x → k < 6 → getD W′ (234 * host + 6 * (getD T x 0 - 1) + k) 0 ≡ copied (numbersOf T) k (getD W (234 * src + 6 * x + k) 0)
+  pub below : (p : ℕ) → p < 234 * host + 6 * countIn W host → getD W′ p 0 ≡ getD W p 0
+  pub above : (p : ℕ) → 234 * host + 192 ≤ p → getD W′ p 0 ≡ getD W p 0
+
+-- and the host counts m objects
+pub record Extended (W : List ℕ) (src host : ℕ) (T F : List ℕ) (m : ℕ) (W′ : List ℕ) : Type 0 where
+  pub count : countIn W′ host ≡ m
+  pub reach : reachIn W′ host ≡ m
+  pub level : (q : ℕ) → q < 6 * m → getD W′ (234 * host + q) 0 < 193 + levelIn W′ host
+  pub here : (x k : ℕ) → x < countIn W src → New F x → k < 6 → getD W′ (234 * host + 6 * (getD T x 0 - 1) + k) 0 ≡ copied (numbersOf T) k (getD W (234 * src + 6 * x + k) 0)
+  pub old : (q : ℕ) → q < 6 * countIn W host → getD W′ (234 * host + q) 0 ≡ getD W (234 * host + q) 0
+  pub outside : Outside host W W′
+
+-- ---- the host
+pub record Joining (W : List ℕ) (src host : ℕ) (T F : List ℕ) : Type 0 where
+  pub source : Block W src
+  pub target : Block W host
+  pub apart : (src ≡ host) → ⊥
+  pub sorted : Sorted W src host T F
+  pub settled : Settled W src T F
+
+pub record Joined (W : List ℕ) (src host : ℕ) (T F W′ T′ : List ℕ) (r : Bool) : Type 0 where
+  pub grown : Grown host W W′
+  pub mapped : r ≡ true → Mapped W′ src host T′
+  pub told : r ≡ true → (x : ℕ) → Decided T F x → (getD T′ x 0 ≡ 0) → ⊥
