@@ -23,7 +23,7 @@ use Rattle.values.specs.Layout.{valueOf}
 use Rattle.values.specs.Refs.{refIn}
 use Rattle.maker.specs.declared.Made.{Made}
 use Rattle.maker.specs.declared.Made.the-variants as made
-use Rattle.maker.specs.Laying.{valuesFrom, PartsHeld, partsOf, MadeIs}
+use Rattle.maker.specs.Laying.{valuesFrom, partsOf, spare, Makeable, MadeIs}
 use Rattle.maker.proofs.BareLaws.{bare-made}
 use Rattle.evaluator.specs.declared.Stop.{Stop}
 use Rattle.evaluator.specs.declared.Stop.the-variants.{Stuck, TooLarge}
@@ -36,13 +36,13 @@ use Rattle.evaluator.specs.declared.frame.Held.{Held}
 use Rattle.evaluator.specs.declared.frame.Held.the-variants.{Is, Absent}
 use Rattle.evaluator.specs.declared.frame.Frame.{Frame}
 use Rattle.evaluator.specs.declared.spot.Spot.{Spot}
-use Rattle.evaluator.specs.State.{variableOf, holds}
+use Rattle.evaluator.specs.State.{slotAt, variableOf, holds}
 use Rattle.evaluator.specs.Answers.{Stops, outWith, listFrom, haltsAs, doneOf, outOf}
 use Rattle.evaluator.specs.Spots.{innerSpot}
 use Rattle.evaluator.specs.Preset.{isPreset}
 use Rattle.evaluator.specs.Evaluation.{Fits}
 use Rattle.evaluator.specs.Steps.{fuelOf, Runnable, PartRunnable, ListRunnable, PartsReady, EvalStep, FieldStep, ListStep, FinishStep, NewStep, CallStep}
-use Rattle.evaluator.proofs.Keeping.{kept-none, parts-held}
+use Rattle.evaluator.proofs.Keeping.{kept-none, older-up, parts-held}
 use Rattle.evaluator.proofs.PresetLaws.{Told, told}
 use Rattle.evaluator.proofs.TraceLaws.{traced-none}
 use Rattle.evaluator.proofs.StateLaws.{holds-this, holds-result, holds-parameter}
@@ -231,8 +231,14 @@ sized-some g v fuel h = go (leb (length (g .nodes)) 32) refl h
     go false q z = absurd (Option·none-ne-some v z)
 
 module _ (W : List ℕ) (c n : ℕ) (A : List ℕ) (dst next : ℕ) where
-  pub finish-parts : PartsReady W A n dst → PartsHeld W (partsOf A) n
-  finish-parts h = parts-held W (dst + n) (partsOf A) n (h .older)
+  pub finish-parts : PartsReady W A n dst → Makeable W (partsOf A) n dst
+  finish-parts h = let l = h .few in let u = h .under in record {
+    held = parts-held W (dst + n) (partsOf A) n (h .older);
+    few = l;
+    below = λ i i<. older-up W (dst + n) spare (omega arith) (slotAt (partsOf A) i) (h .older .part i i<) .low;
+    under = omega arith;
+    room = h .room;
+  }
 
   module _ (W′ : List ℕ) (m : Made) (mk : MadeIs W (make c (valuesFrom W (partsOf A) 0 n)) dst W′ m) where
     pub finish-large : m ≡ made.TooLarge → FinishStep W c n A dst next W′ (done.Halt TooLarge)
@@ -290,7 +296,8 @@ module _ (T W : List ℕ) (f : Frame) (S : List ℕ) (p : Spot) (c n : ℕ) (run
             older = walk-after .runs .older;
             few = l;
             full = walk-after .full;
-            long = omega (arith, run .fits .long, li .runs .kept .same);
+            under = omega arith;
+            room = omega (arith, run .fits .long, li .runs .kept .same);
           }
 
           pub new-made : (W2 : List ℕ) (o : Done) → FinishStep W1 c n A (p .block) next W2 o → NewStep T W f S p c n W2 S1 o

@@ -7,7 +7,7 @@ use mathlib.Core.List.{List}
 use lib.ListN.{length, getD}
 use Rattle.values.specs.declared.ValueRef.{ValueRef}
 use Rattle.values.specs.declared.ValueRef.the-variants.{Object, Mark, Undetermined}
-use Rattle.maker.specs.Laying.{partsOf}
+use Rattle.maker.specs.Laying.{partsOf, spare}
 use Rattle.maker.specs.Bares.{Bares}
 use Rattle.evaluator.specs.declared.Done.{Done}
 use Rattle.evaluator.specs.declared.Walked.{Walked}
@@ -55,12 +55,13 @@ pub record ListRunnable (W : List ℕ) (f : Frame) (S : List ℕ) (p : Spot) (n 
   pub count : f .n ≤ 3
   pub fits : ListFits W f S (p .opened) (p .nesting) (p .calls) (p .block) n
 
--- the n values at rest in A lie below block dst + n
+-- the n values at rest in A lie below block dst + n, and that below the spare block
 pub record PartsReady (W A : List ℕ) (n dst : ℕ) : Type 0 where
   pub older : PartsOlder W (dst + n) (partsOf A) n
   pub few : n ≤ 4
   pub full : length A ≡ 4
-  pub long : 234 * dst + 234 ≤ length W
+  pub under : dst + 4 < spare
+  pub room : 234 * spare + 234 ≤ length W
 
 -- the receiver v was evaluated
 pub record ArgsRunnable (W : List ℕ) (f : Frame) (S : List ℕ) (p : Spot) (v : ValueRef) (n : ℕ) : Type 0 where

@@ -11,7 +11,7 @@ use Rattle.canon.specs.Layout.{refOf, nodesIn, Packed, Beneath}
 use Rattle.values.specs.declared.ValueRef.{ValueRef}
 use Rattle.values.specs.declared.ValueRef.the-variants.{Object}
 use Rattle.values.specs.Refs.{refIn}
-use Rattle.values.specs.Layout.{valueOf, rawOf, Holds}
+use Rattle.values.specs.Layout.{valueOf, rawOf, Holds, Low}
 use Rattle.values.specs.Operations.{answerIn, AnswerHeld, AnswerLow}
 use Rattle.maker.specs.declared.Slot.{Slot}
 use Rattle.maker.specs.declared.Made.{Made}
@@ -33,6 +33,18 @@ rawsFrom W ps i n = map (λ s. rawOf W (s .r)) (drop i (take n ps))
 pub record PartsHeld (W : List ℕ) (ps : List Slot) (n : ℕ) : Type 0 where
   pub full : n ≤ length ps
   pub part : (i : ℕ) → i < n → Holds W (getD ps i (record { r = Object 0 0 }) .r)
+
+-- the spare block, above all blocks that evaluation uses: parts may be brought together there
+abbrev pub spare : ℕ
+spare = 279
+
+-- what making asks: the parts stand for values, and they and dst lie below the spare block
+pub record Makeable (W : List ℕ) (ps : List Slot) (n dst : ℕ) : Type 0 where
+  pub held : PartsHeld W ps n
+  pub few : n ≤ 4
+  pub below : (i : ℕ) → i < n → Low spare (getD ps i (record { r = Object 0 0 }) .r)
+  pub under : dst < spare
+  pub room : 234 * spare + 234 ≤ length W
 
 -- the objects ns, moved to `at`; the bytes before are R₀'s
 pub record LaidNodes (ns : List Node) (at : ℕ) (R₀ R : List ℕ) (n : ℕ) : Type 0 where

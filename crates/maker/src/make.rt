@@ -19,7 +19,7 @@ ghost use mathlib.Core.Bool.{true, false};
 ghost use Prim.Native.Nat.{ℕ, _+_, _*_, _<_, _≤_};
 ghost use lib.ListN.{length};
 ghost use Rattle.cofj.specs.Values.{make};
-ghost use Rattle.maker.specs.Laying.{partsOf, PartsHeld, valuesFrom, MadeIs};
+ghost use Rattle.maker.specs.Laying.{partsOf, PartsHeld, Makeable, valuesFrom, MadeIs};
 ghost use Rattle.canon.specs.Layout.{Block};
 ghost use Rattle.maker.specs.Adding.{someObject, blockOf, firstBlock, standsIn, allStand};
 ghost use Rattle.maker.specs.Merging.{someIn};
@@ -143,7 +143,7 @@ pub fn make_fresh(work: &mut [u8], c: u8, parts: &[u32], n: u8, dst: u16) -> Mad
 // A new object of class c with the n first parts, in block `dst` or below, unless it has more than 32 objects.
 // Block 0 is often full, and block `dst` is to be written: so the parts are brought to `dst` if one lies there or none lies above block 0.
 pub fn make(work: &mut [u8], c: u8, parts: &[u32], n: u8, dst: u16) -> Made
-    requires { ⌜ PartsHeld (now work) (partsOf (now parts)) n × (n ≤ 4) × (234 * dst + 234 ≤ length (now work)) × (4 ≤ length (now parts)) ⌝ }
+    requires { ⌜ Makeable (now work) (partsOf (now parts)) n dst × (4 ≤ length (now parts)) ⌝ }
     ensures { λ o. ⌜ MadeIs (now (work .entry)) (make c (valuesFrom (now (work .entry)) (partsOf (now (parts .entry))) 0 n)) dst (now (work .exit)) o ⌝ }
 {
     if some_in(parts, n, dst) {
