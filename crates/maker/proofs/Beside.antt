@@ -34,7 +34,7 @@ use Rattle.values.proofs.ValueRef as RefT
 use Rattle.maker.specs.Bares.{bareObject}
 use Rattle.maker.specs.declared.Slot.{Slot}
 use Rattle.maker.specs.declared.Made.the-variants.{Value}
-use Rattle.maker.specs.Laying.{valuesFrom, rawsFrom, PartsHeld, MadeIs}
+use Rattle.maker.specs.Laying.{valuesFrom, rawsFrom, PartsHeld, Makeable, MadeIs}
 use Rattle.maker.specs.Adding.{codesOf, objectOf, roots, RootObject, RootCodes, Missed, Found, Emptied, Appended, Added, isObject, blockOf, standsIn, partOf, allStand, someObject, firstBlock}
 use Rattle.maker.proofs.Codes.{object-class, object-count, object-code, object-length, object-whole, spare-codes, first-code, next-code, codes-packed, objectPut, object-put}
 use Rattle.maker.proofs.Lays.{none-slot, raws-whole, made-raw, made-here, made-brought}
@@ -458,13 +458,13 @@ module _ (W : List ℕ) (c : ℕ) (ps : List Slot) (n w : ℕ) (held : PartsHeld
         pub beside-found : (dst : ℕ) (W′ : List ℕ) (r : ValueRef) → Gives W dst W′ r (canon (graphAt W b k)) → MadeIs W (make c (valuesFrom W ps 0 n)) dst W′ (Value r)
         beside-found dst = made-brought W W _ dst b k (block-held W b k bk h .held) beside-value (under dst W W (unchanged dst W))
 
-      pub beside-new : getD W (234 * b + 192) 0 ≤ k → getD W (234 * b + 192) 0 < 32 → (dst : ℕ) (D : List ℕ) → 234 * dst + 234 ≤ length W → Added W b (countIn W b) (objectOf c n w) dst D
+      pub beside-new : getD W (234 * b + 192) 0 ≤ k → getD W (234 * b + 192) 0 < 32 → (dst : ℕ) (D : List ℕ) → Makeable W ps n dst → Added W b (countIn W b) (objectOf c n w) dst D
           → MadeIs W (make c (valuesFrom W ps 0 n)) dst D (Value (Object (getD W (234 * b + 192) 0) dst))
       unfolding countIn objectsIn
-      beside-new ge h dst D room ad =
+      beside-new ge h dst D mk ad =
           made-new b (getD W (234 * b + 192) 0) dst D (bk .packed) (omega arith) (bk .whole .inner) fits (bk .distinct)
           (λ j l e. let m : j < getD W (234 * b + 192) 0 = omega (arith, size-in W b bk) in
-          fd .miss ge .none j m (sym (at-nodes W (234 * b) (getD W (234 * b + 192) 0) j m) ∙ e)) room ad
+          fd .miss ge .none j m (sym (at-nodes W (234 * b) (getD W (234 * b + 192) 0) j m) ∙ e)) (omega (arith, mk .under, mk .room)) ad
 
   -- alone
   module _ (lv : someObject ps n ≡ false) where

@@ -10,7 +10,7 @@ use mathlib.Core.Option.{none, some, Option·none-ne-some}
 use lib.ListN.{length, getD, set, take, getElem?, replicate, length-set, length-take, length-replicate, getD-replicate, List·getD-eq-default}
 use lib.Seq.{getD-set-same, getD-set-other}
 use Rattle.cofj.specs.Partial.{_>>=_}
-use borrow.Author.Tests.{lt-ltb, le-ltb, eq-eqb, ne-eqb, eqb-true, ltb-true}
+use borrow.Author.Tests.{lt-ltb, le-ltb, eq-eqb, ne-eqb, eqb-true, eqb-false, ltb-true}
 use types.Run.{OneOf}
 use denote.Enum.Declared.{tagOf}
 use Rattle.cofj.specs.Values.{Ref, obj, mark, undet, Node, node, Graph, nodeAt, refsAt, canon, make}
@@ -24,7 +24,7 @@ use Rattle.canon.proofs.Nodes.{code-low, ref-object, ref-undet, ref-mark, byteO
 use Rattle.canon.proofs.Walks.{four, four-at}
 use Rattle.values.specs.declared.ValueRef.{ValueRef}
 use Rattle.values.specs.declared.ValueRef.the-variants.{Object, Mark, Undetermined}
-use Rattle.values.specs.Layout.{valueOf, rawOf, Holds, HeldBy, liesIn}
+use Rattle.values.specs.Layout.{valueOf, rawOf, Holds, HeldBy, Low, liesIn}
 use Rattle.values.specs.Tests.{any}
 use Rattle.values.specs.Operations.{Gives, Copied}
 use Rattle.values.proofs.ValueRef as RefT
@@ -37,9 +37,12 @@ use Rattle.values.proofs.Kept.{Kept, kept}
 use Rattle.maker.specs.declared.Slot.{Slot}
 use Rattle.maker.specs.declared.Made.{Made}
 use Rattle.maker.specs.declared.Made.the-variants.{Value}
-use Rattle.maker.specs.Laying.{valuesFrom, rawsFrom, PartsHeld, MadeIs}
+use Rattle.maker.specs.declared.merge.Tried.{Tried}
+use Rattle.maker.specs.declared.merge.Tried.the-variants.{Here, NoRoom}
+use Rattle.maker.proofs.merge.Tried as TriedT
+use Rattle.maker.specs.Laying.{valuesFrom, rawsFrom, PartsHeld, spare, Makeable, MadeIs}
 use Rattle.maker.specs.Adding.{codesOf, objectOf, Missed, Found, Emptied, Appended, Added, partOf}
-use Rattle.maker.specs.Merging.{Grown, Fits, Standing, Entered, CodeAs, Mapped, Imported, liesFrom, refersFrom, As, PartImported, Begun, RootBrought, PartsBrought, someIn, largerOf, largestOf}
+use Rattle.maker.specs.Merging.{Grown, Fits, Standing, Entered, CodeAs, Mapped, Imported, TriedIs, liesFrom, refersFrom, As, PartImported, Begun, RootBrought, PartsBrought, someIn, largerOf, largestOf}
 use Rattle.maker.specs.Sorting.{codeAt, TurnedAs}
 use Rattle.maker.proofs.Codes.{object-class, object-count, object-code, object-length, codes-packed, spare-codes, first-code, next-code, object-bytes, object-read}
 use Rattle.maker.proofs.Lays.{raws-whole, made-raw, parts-length, beneath-more, made-brought}
@@ -463,6 +466,21 @@ made-from W W1 c ps n dst W2 o b e m = record {
   beneath = beneath-more dst W W1 W2 b (m .beneath);
 }
 
+-- ---- what trying a host answers
+module _ (W : List ℕ) (v : Graph) (host dst : ℕ) (W1 : List ℕ) where
+  tried-none : Grown host W W1 → TriedIs W v host dst W1 NoRoom
+  tried-none g = record { here = λ r e. absurd (let u : _≡_ {A = ℕ} 0 1 = cc in omega arith); none = λ _. g }
+
+  tried-value : (r : ValueRef) → MadeIs W v dst W1 (Value r) → TriedIs W v host dst W1 (Here r)
+  tried-value r m = record {
+    here = λ s e. let z : r ≡ s = cc in subst (λ (x : ValueRef). MadeIs W v dst W1 (Value x)) z m;
+    none = λ e. absurd (let u : _≡_ {A = ℕ} 0 1 = cc in omega arith);
+  }
+
+  no-room : (o : Tried) → TriedIs W v host dst W1 o → OneOf (1 ∷ []) (tagOf TriedT.the-type o) → Grown host W W1
+  no-room (Here r) t e = absurd (eqb-false 0 1 refl e)
+  no-room NoRoom t e = t .none refl
+
 abbrev AllLike : List Node → List Ref → List Graph → Type 0
 AllLike ms [] [] = Unit {0}
 AllLike ms [] (g ∷ gs) = ⊥
@@ -484,14 +502,8 @@ like-all W ms (suc n) (r ∷ rs) [] a b h = absurd (omega arith)
 like-all W ms (suc n) (r ∷ rs) (s ∷ ps) a b h = (h 0 (omega arith), like-all W ms n rs ps (omega arith) (omega arith) (λ i l. h (suc i) (omega arith)))
 
 module _ (W : List ℕ) (c : ℕ) (ps : List Slot) (n host dst : ℕ) (held : PartsHeld W ps n) (few : n ≤ 4) (le : dst ≤ host) (W1 : List ℕ) (w : ℕ) (br : PartsBrought W ps n host W1 w) where
-  pub in-held : PartsHeld W1 ps n
-  in-held = parts-held host W W1 (br .grown) ps n held
-
-  pub in-room : 234 * dst + 234 ≤ length W → 234 * dst + 234 ≤ length W1
-  in-room h = omega (arith, br .grown .outside .same)
-
-  pub in-laid : (W2 : List ℕ) (o : Made) → MadeIs W1 (make c (valuesFrom W1 ps 0 n)) dst W2 o → MadeIs W (make c (valuesFrom W ps 0 n)) dst W2 o
-  in-laid W2 o m = made-from W W1 c ps n dst W2 o (beneath-grown host dst W W1 le (br .grown)) (parts-values host W W1 (br .grown) ps n held) m
+  pub in-none : TriedIs W (make c (valuesFrom W ps 0 n)) host dst W1 NoRoom
+  in-none = tried-none W _ host dst W1 (br .grown)
 
   module _ (ew : (w % 256 ≡ 32) → ⊥) where
     rb : RootBrought W ps n 0 W1 host w
@@ -520,14 +532,11 @@ module _ (W : List ℕ) (c : ℕ) (ps : List Slot) (n host dst : ℕ) (held : Pa
       both : Grown host W W2
       both = grown-more host W W1 W2 (br .grown) (en .grown)
 
-      pub in-held-2 : PartsHeld W2 ps n
-      in-held-2 = parts-held host W W2 both ps n held
+      pub in-full : TriedIs W (make c (valuesFrom W ps 0 n)) host dst W2 NoRoom
+      in-full = tried-none W _ host dst W2 both
 
-      pub in-room-2 : 234 * dst + 234 ≤ length W → 234 * dst + 234 ≤ length W2
-      in-room-2 h = omega (arith, both .outside .same)
-
-      pub in-laid-2 : (W3 : List ℕ) (o : Made) → MadeIs W2 (make c (valuesFrom W2 ps 0 n)) dst W3 o → MadeIs W (make c (valuesFrom W ps 0 n)) dst W3 o
-      in-laid-2 W3 o m = made-from W W2 c ps n dst W3 o (beneath-grown host dst W W2 le both) (parts-values host W W2 both ps n held) m
+      pub in-room : 234 * dst + 234 ≤ length W → 234 * dst + 234 ≤ length W2
+      in-room h = omega (arith, both .outside .same)
 
       module _ (d : (r ≡ 32) → ⊥) where
         st : Standing W2 host root-object r
@@ -560,8 +569,8 @@ module _ (W : List ℕ) (c : ℕ) (ps : List Slot) (n host dst : ℕ) (held : Pa
         pub in-holds : Holds W2 (Object r host)
         in-holds = record { held = inside }
 
-        pub in-made : (W3 : List ℕ) (v : ValueRef) → Gives W2 dst W3 v (canon (graphAt W2 host r)) → MadeIs W (make c (valuesFrom W ps 0 n)) dst W3 (Value v)
-        in-made = made-brought W W2 _ dst host r inside value (beneath-grown host dst W W2 le both)
+        pub in-made : (W3 : List ℕ) (v : ValueRef) → Gives W2 dst W3 v (canon (graphAt W2 host r)) → TriedIs W (make c (valuesFrom W ps 0 n)) host dst W3 (Here v)
+        in-made W3 v g = tried-value W _ host dst W3 v (made-brought W W2 _ dst host r inside value (beneath-grown host dst W W2 le both) W3 v g)
 
 -- ---- the host
 pub lies-object : (d : ℕ) (v : ValueRef) (x i : ℕ) → v ≡ Object i x → eqb x d ≡ liesIn d v
@@ -679,13 +688,45 @@ module _ (W : List ℕ) (ps : List Slot) (n b : ℕ) where
     pub largest-block : (d : ℕ) → d ≡ largestOf W ps n b → Block W d
     largest-block d e = subst (Block W) (sym e) (block-at n (omega arith))
 
+    pub largest-read : (d : ℕ) → d ≡ largestOf W ps n b → 234 * d + 192 < length W
+    largest-read d e = omega (arith, largest-block d e .room)
+
     pub largest-begun : (d : ℕ) → d ≡ largestOf W ps n b → Begun W d d
     largest-begun d e = begun-here W d (largest-block d e)
 
--- ---- block dst written, where no part lies
-module _ (W : List ℕ) (dst : ℕ) (W1 : List ℕ) (o : Outside dst W W1) (ps : List Slot) (n : ℕ) (held : PartsHeld W ps n) (away : someIn ps n dst ≡ false) where
+-- ---- what making asks still holds
+module _ (W : List ℕ) (ps : List Slot) (n dst : ℕ) (mk : Makeable W ps n dst) where
+  pub makeable-room : 234 * dst + 234 ≤ length W
+  makeable-room = omega (arith, mk .under, mk .room)
+
+  pub makeable-held : PartsHeld W ps n
+  makeable-held = mk .held
+
+  pub makeable-few : n ≤ 4
+  makeable-few = mk .few
+
+  kept-makeable : (W1 : List ℕ) → length W1 ≡ length W → PartsHeld W1 ps n → Makeable W1 ps n dst
+  kept-makeable W1 e h = record { held = h; few = mk .few; below = mk .below; under = mk .under; room = omega (arith, mk .room, e) }
+
+  -- after a host that had no room
+  module _ (host : ℕ) (le : dst ≤ host) (c : ℕ) (W1 : List ℕ) (o : Tried) (to : TriedIs W (make c (valuesFrom W ps 0 n)) host dst W1 o) where
+    grown : OneOf (1 ∷ []) (tagOf TriedT.the-type o) → Grown host W W1
+    grown = no-room W (make c (valuesFrom W ps 0 n)) host dst W1 o to
+
+    module _ (t : OneOf (1 ∷ []) (tagOf TriedT.the-type o)) where
+      pub tried-makeable : Makeable W1 ps n dst
+      tried-makeable = kept-makeable W1 (grown t .outside .same) (parts-held host W W1 (grown t) ps n (mk .held))
+
+      pub tried-made : (W2 : List ℕ) (q : Made) → MadeIs W1 (make c (valuesFrom W1 ps 0 n)) dst W2 q → MadeIs W (make c (valuesFrom W ps 0 n)) dst W2 q
+      tried-made W2 q m = made-from W W1 c ps n dst W2 q (beneath-grown host dst W W1 le (grown t)) (parts-values host W W1 (grown t) ps n (mk .held)) m
+
+    pub tried-here : (v : ValueRef) → o ≡ Here v → MadeIs W (make c (valuesFrom W ps 0 n)) dst W1 (Value v)
+    tried-here v e = to .here v e
+
+-- ---- a block written, where no part lies
+module _ (W : List ℕ) (b : ℕ) (W1 : List ℕ) (o : Outside b W W1) (ps : List Slot) (n : ℕ) (held : PartsHeld W ps n) (away : (i : ℕ) → i < n → liesIn b (partOf ps i) ≡ false) where
   keeps : (i : ℕ) → i < n → Kept W W1 (partOf ps i)
-  keeps i h = kept dst W W1 o (partOf ps i) (away-at ps n dst away i h) (held .part i h)
+  keeps i h = kept b W W1 o (partOf ps i) (away i h) (held .part i h)
 
   away-held : PartsHeld W1 ps n
   away-held = record { full = held .full; part = λ i h. keeps i h .held }
@@ -694,13 +735,13 @@ module _ (W : List ℕ) (dst : ℕ) (W1 : List ℕ) (o : Outside dst W W1) (ps :
   unfolding valuesFrom
   away-values = same-values W W1 n ps (λ i h. keeps i h .is)
 
-  away-made : (c : ℕ) (W2 : List ℕ) (q : Made) → MadeIs W1 (make c (valuesFrom W1 ps 0 n)) dst W2 q → MadeIs W (make c (valuesFrom W ps 0 n)) dst W2 q
-  away-made c W2 q m = made-from W W1 c ps n dst W2 q (under dst W W1 o) away-values m
+  away-made : (c dst : ℕ) → dst ≤ b → (W2 : List ℕ) (q : Made) → MadeIs W1 (make c (valuesFrom W1 ps 0 n)) dst W2 q → MadeIs W (make c (valuesFrom W ps 0 n)) dst W2 q
+  away-made c dst l W2 q m = made-from W W1 c ps n dst W2 q (record { same = o .same; below = λ p h. o .below p (omega arith) }) away-values m
 
-module _ (W : List ℕ) (b dst : ℕ) (W1 : List ℕ) (bk : Block W b) (lb : b < dst) (room : 234 * dst + 234 ≤ length W) (cp : Copied W b dst W1) where
+module _ (W : List ℕ) (b dst : ℕ) (W1 : List ℕ) (bk : Block W b) (lb : b < dst) (cp : Copied W b dst W1) (ps : List Slot) (n : ℕ) (mk : Makeable W ps n dst) where
   pub copied-begun : Begun W1 b dst
   copied-begun =
-      let m = block-moves W W1 b dst (cp .count) (cp .level) (cp .reach) (cp .here) (omega (arith, cp .outside .same)) bk in
+      let m = block-moves W W1 b dst (cp .count) (cp .level) (cp .reach) (cp .here) (omega (arith, cp .outside .same, makeable-room W ps n dst mk)) bk in
       let o = other-block dst W W1 (cp .outside) b (λ z. omega arith) bk in
       let same : countIn W1 b ≡ countIn W b = sym (size-in W1 b (o .1)) ∙ ap length (o .0) ∙ size-in W b bk in
       record {
@@ -710,23 +751,20 @@ module _ (W : List ℕ) (b dst : ℕ) (W1 : List ℕ) (bk : Block W b) (lb : b <
         trees = λ r h p. ap (λ (x : List Node). follow x r p) (o .0 ∙ sym (m .0));
       }
 
-  pub copied-room : 234 * dst + 234 ≤ length W1
-  copied-room = omega (arith, cp .outside .same)
-
-  module _ (ps : List Slot) (n : ℕ) (held : PartsHeld W ps n) (away : someIn ps n dst ≡ false) where
-    pub copied-held : PartsHeld W1 ps n
-    copied-held = away-held W dst W1 (cp .outside) ps n held away
+  module _ (away : someIn ps n dst ≡ false) where
+    pub copied-makeable : Makeable W1 ps n dst
+    copied-makeable = kept-makeable W ps n dst mk W1 (cp .outside .same) (away-held W dst W1 (cp .outside) ps n (mk .held) (away-at ps n dst away))
 
     pub copied-made : (c : ℕ) (W2 : List ℕ) (o : Made) → MadeIs W1 (make c (valuesFrom W1 ps 0 n)) dst W2 o → MadeIs W (make c (valuesFrom W ps 0 n)) dst W2 o
-    copied-made = away-made W dst W1 (cp .outside) ps n held away
+    copied-made c = away-made W dst W1 (cp .outside) ps n (mk .held) (away-at ps n dst away) c dst (omega arith)
 
-module _ (W : List ℕ) (dst : ℕ) (W1 : List ℕ) (room : 234 * dst + 234 ≤ length W) (em : Emptied W dst W1) where
-  none-there : objectsIn W1 dst ≡ []
+module _ (W : List ℕ) (b : ℕ) (W1 : List ℕ) (room : 234 * b + 234 ≤ length W) (em : Emptied W b W1) where
+  none-there : objectsIn W1 b ≡ []
   unfolding objectsIn nodesIn
   none-there = rw (em .count)
 
-  pub empty-begun : Begun W1 dst dst
-  empty-begun = begun-here W1 dst (record {
+  pub empty-begun : Begun W1 b b
+  empty-begun = begun-here W1 b (record {
     room = omega (arith, em .outside .same);
     small = omega (arith, em .count);
     packed = λ i h. absurd (omega (arith, em .count));
@@ -736,15 +774,68 @@ module _ (W : List ℕ) (dst : ℕ) (W1 : List ℕ) (room : 234 * dst + 234 ≤ 
     reach = λ i f h l c. absurd (omega (arith, em .count));
   })
 
-  pub empty-room : 234 * dst + 234 ≤ length W1
-  empty-room = omega (arith, em .outside .same)
+-- block dst emptied
+module _ (W : List ℕ) (dst : ℕ) (W1 : List ℕ) (em : Emptied W dst W1) (ps : List Slot) (n : ℕ) (mk : Makeable W ps n dst) where
+  pub fresh-begun : Begun W1 dst dst
+  fresh-begun = empty-begun W dst W1 (makeable-room W ps n dst mk) em
 
-  module _ (ps : List Slot) (n : ℕ) (held : PartsHeld W ps n) (away : someIn ps n dst ≡ false) where
-    pub empty-held : PartsHeld W1 ps n
-    empty-held = away-held W dst W1 (em .outside) ps n held away
+  module _ (away : someIn ps n dst ≡ false) where
+    pub fresh-makeable : Makeable W1 ps n dst
+    fresh-makeable = kept-makeable W ps n dst mk W1 (em .outside .same) (away-held W dst W1 (em .outside) ps n (mk .held) (away-at ps n dst away))
 
-    pub empty-made : (c : ℕ) (W2 : List ℕ) (o : Made) → MadeIs W1 (make c (valuesFrom W1 ps 0 n)) dst W2 o → MadeIs W (make c (valuesFrom W ps 0 n)) dst W2 o
-    empty-made = away-made W dst W1 (em .outside) ps n held away
+    pub fresh-made : (c : ℕ) (W2 : List ℕ) (o : Made) → MadeIs W1 (make c (valuesFrom W1 ps 0 n)) dst W2 o → MadeIs W (make c (valuesFrom W ps 0 n)) dst W2 o
+    fresh-made c = away-made W dst W1 (em .outside) ps n (mk .held) (away-at ps n dst away) c dst (omega arith)
+
+-- the spare block emptied: no part lies there
+module _ (W : List ℕ) (ps : List Slot) (n dst : ℕ) (mk : Makeable W ps n dst) where
+  pub spare-room : 234 * spare + 234 ≤ length W
+  spare-room = mk .room
+
+  spare-away : (i : ℕ) → i < n → liesIn spare (partOf ps i) ≡ false
+  unfolding liesIn
+  spare-away i h = go (partOf ps i) (mk .below i h)
+    where
+      go : (v : ValueRef) → Low spare v → liesIn spare v ≡ false
+      go (Object k b) l = ne-eqb b spare (λ e. omega arith)
+      go (Mark k) l = refl
+      go Undetermined l = refl
+
+  module _ (W1 : List ℕ) (em : Emptied W spare W1) where
+    pub spare-begun : Begun W1 spare spare
+    spare-begun = empty-begun W spare W1 (mk .room) em
+
+    pub spare-held : PartsHeld W1 ps n
+    spare-held = away-held W spare W1 (em .outside) ps n (mk .held) spare-away
+
+    pub spare-above : dst ≤ spare
+    spare-above = omega (arith, mk .under)
+
+    pub spare-dst : 234 * dst + 234 ≤ length W1
+    spare-dst = omega (arith, mk .under, mk .room, em .outside .same)
+
+    pub spare-makeable : Makeable W1 ps n dst
+    spare-makeable = kept-makeable W ps n dst mk W1 (em .outside .same) spare-held
+
+    pub spare-made : (c : ℕ) (W2 : List ℕ) (o : Made) → MadeIs W1 (make c (valuesFrom W1 ps 0 n)) dst W2 o → MadeIs W (make c (valuesFrom W ps 0 n)) dst W2 o
+    spare-made c = away-made W spare W1 (em .outside) ps n (mk .held) spare-away c dst (omega (arith, mk .under))
+
+    -- and tried
+    module _ (c : ℕ) (W2 : List ℕ) (o : Tried) (to : TriedIs W1 (make c (valuesFrom W1 ps 0 n)) spare dst W2 o) where
+      pub anew-here : (v : ValueRef) → o ≡ Here v → MadeIs W (make c (valuesFrom W ps 0 n)) dst W2 (Value v)
+      anew-here v e = spare-made c W2 (Value v) (tried-here W1 ps n dst spare-makeable spare spare-above c W2 o to v e)
+
+      module _ (t : OneOf (1 ∷ []) (tagOf TriedT.the-type o)) where
+        pub anew-makeable : Makeable W2 ps n dst
+        anew-makeable = tried-makeable W1 ps n dst spare-makeable spare spare-above c W2 o to t
+
+        pub anew-held : PartsHeld W2 ps n
+        anew-held = anew-makeable .held
+
+        pub anew-room : 234 * dst + 234 ≤ length W2
+        anew-room = makeable-room W2 ps n dst anew-makeable
+
+        pub anew-laid : (W3 : List ℕ) (q : Made) → MadeIs W2 (make c (valuesFrom W2 ps 0 n)) dst W3 q → MadeIs W (make c (valuesFrom W ps 0 n)) dst W3 q
+        anew-laid W3 q m = spare-made c W3 q (tried-made W1 ps n dst spare-makeable spare spare-above c W2 o to t W3 q m)
 
 pub larger-read : (W : List ℕ) (v : ValueRef) (x i : ℕ) → Holds W v → v ≡ Object i x → 234 * x + 192 < length W
 larger-read W v x i h e = omega (arith, held-room W v x i h e)

@@ -7,7 +7,7 @@ use mathlib.Core.List.{List}
 use mathlib.Core.Option.{some}
 use lib.Dec.{ltb, eqb}
 use lib.ListN.{length, getD, getElem?}
-use Rattle.cofj.specs.Values.{Ref, nodeAt}
+use Rattle.cofj.specs.Values.{Ref, Graph, nodeAt}
 use Rattle.cofj.specs.Unfolding.{Same, InRange}
 use Rattle.canon.specs.Layout.{refOf, nodeIn, Packed, countIn, objectsIn, Block, Outside}
 use Rattle.values.specs.declared.ValueRef.{ValueRef}
@@ -15,6 +15,10 @@ use Rattle.values.specs.declared.ValueRef.the-variants.{Object, Mark, Undetermi
 use Rattle.values.specs.Tests.{any}
 use Rattle.values.specs.Layout.{rawOf, liesIn}
 use Rattle.maker.specs.declared.Slot.{Slot}
+use Rattle.maker.specs.declared.Made.the-variants.{Value}
+use Rattle.maker.specs.declared.merge.Tried.{Tried}
+use Rattle.maker.specs.declared.merge.Tried.the-variants.{Here, NoRoom}
+use Rattle.maker.specs.Laying.{MadeIs}
 use Rattle.maker.specs.Adding.{codesOf, partOf}
 
 -- block host has grown: what was in it unfolds as before, and the other blocks are as before
@@ -89,6 +93,11 @@ pub record RootBrought (W : List ℕ) (ps : List Slot) (n i : ℕ) (W′ : List 
 pub record PartsBrought (W : List ℕ) (ps : List Slot) (n host : ℕ) (W′ : List ℕ) (w : ℕ) : Type 0 where
   pub grown : Grown host W W′
   pub done : ((w % 256 ≡ 32) → ⊥) → RootBrought W ps n 0 W′ host w
+
+-- what trying a host answers: the value, in block dst or below, or only a host that has grown
+pub record TriedIs (W : List ℕ) (v : Graph) (host dst : ℕ) (W′ : List ℕ) (o : Tried) : Type 0 where
+  pub here : (r : ValueRef) → o ≡ Here r → MadeIs W v dst W′ (Value r)
+  pub none : o ≡ NoRoom → Grown host W W′
 
 -- ---- the host
 -- whether one of the first n parts is an object of block d

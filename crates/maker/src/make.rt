@@ -2,6 +2,7 @@
 use crate::Made;
 use crate::lay::build;
 use crate::lay::part_at;
+use crate::merge::make_anew;
 use crate::merge::make_apart;
 use crate::merge::make_in;
 use crate::merge::some_in;
@@ -112,7 +113,7 @@ pub fn together(parts: &[u32], n: u8, b: u16) -> bool
 
 // A new object whose parts lie in block b, or are no objects.
 pub fn make_beside(work: &mut [u8], c: u8, parts: &[u32], n: u8, b: u16, dst: u16) -> Made
-    requires { ⌜ PartsHeld (now work) (partsOf (now parts)) n × (n ≤ 4) × Block (now work) b × (allStand (partsOf (now parts)) n b ≡ true) × (234 * dst + 234 ≤ length (now work)) × (4 ≤ length (now parts)) ⌝ }
+    requires { ⌜ Makeable (now work) (partsOf (now parts)) n dst × Block (now work) b × (allStand (partsOf (now parts)) n b ≡ true) × (4 ≤ length (now parts)) ⌝ }
     ensures { λ o. ⌜ MadeIs (now (work .entry)) (make c (valuesFrom (now (work .entry)) (partsOf (now (parts .entry))) 0 n)) dst (now (work .exit)) o ⌝ }
 {
     let w = root_codes(work, parts, n);
@@ -122,7 +123,7 @@ pub fn make_beside(work: &mut [u8], c: u8, parts: &[u32], n: u8, b: u16, dst: u1
         return Made::Value(bring(work, ValueRef::Object(k, b), dst));
     }
     if 32 <= t {
-        return make_laid(work, c, parts, n, dst);
+        return make_anew(work, c, parts, n, dst);
     }
     add(work, b, c, n, w, dst);
     Made::Value(ValueRef::Object(t, dst))
@@ -130,7 +131,7 @@ pub fn make_beside(work: &mut [u8], c: u8, parts: &[u32], n: u8, b: u16, dst: u1
 
 // A new object in block `dst`, where no part lies: alone, or after what its parts lead to.
 pub fn make_fresh(work: &mut [u8], c: u8, parts: &[u32], n: u8, dst: u16) -> Made
-    requires { ⌜ PartsHeld (now work) (partsOf (now parts)) n × (n ≤ 4) × (someIn (partsOf (now parts)) n dst ≡ false) × (234 * dst + 234 ≤ length (now work)) × (4 ≤ length (now parts)) ⌝ }
+    requires { ⌜ Makeable (now work) (partsOf (now parts)) n dst × (someIn (partsOf (now parts)) n dst ≡ false) × (4 ≤ length (now parts)) ⌝ }
     ensures { λ o. ⌜ MadeIs (now (work .entry)) (make c (valuesFrom (now (work .entry)) (partsOf (now (parts .entry))) 0 n)) dst (now (work .exit)) o ⌝ }
 {
     if !some_object(parts, n) {

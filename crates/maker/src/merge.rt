@@ -6,6 +6,7 @@ use crate::enter::enter_over;
 use crate::lay::part_at;
 use crate::make::make_laid;
 use crate::over::UNUSED;
+use crate::over::empty;
 use crate::part::import;
 use canon::bytes::four_at;
 use values::ValueRef;
@@ -16,11 +17,20 @@ ghost use mathlib.Core.Bool.{false};
 ghost use Prim.Native.Nat.{ℕ, _+_, _*_, _<_, _≤_};
 ghost use lib.ListN.{length, getD};
 ghost use Rattle.cofj.specs.Values.{make};
-ghost use Rattle.maker.specs.Laying.{partsOf, PartsHeld, valuesFrom, MadeIs};
+ghost use Rattle.maker.specs.Laying.{partsOf, PartsHeld, Makeable, valuesFrom, MadeIs};
 ghost use Rattle.canon.specs.Layout.{Block, Inside};
 ghost use Rattle.values.specs.Layout.{Holds, liesIn};
 ghost use Rattle.values.specs.declared.ValueRef.the-variants.{Object};
-ghost use Rattle.maker.specs.Merging.{Begun, PartImported, PartsBrought, someIn, largerOf, largestOf};
+ghost use Rattle.maker.specs.Merging.{Begun, TriedIs, PartImported, PartsBrought, someIn, largerOf, largestOf};
+
+// A block above all that evaluation uses.
+const SPARE: u16 = 279;
+
+// What trying a host answers: the value, or that there is no room for it.
+pub enum Tried {
+    Here(ValueRef),
+    NoRoom,
+}
 
 // Object i of block b, which has no fields, in block host: its number there, or 32 if there is no room.
 pub fn import_bare(work: &mut [u8], b: u16, i: u8, host: u16) -> u8
@@ -82,19 +92,60 @@ pub fn bring_parts(work: &mut [u8], parts: &[u32], n: u8, base: u16, host: u16) 
 }
 
 // A new object whose parts are brought into block host, which lies at dst or above and begins with the objects of block base.
-pub fn make_in(work: &mut [u8], c: u8, parts: &[u32], n: u8, base: u16, host: u16, dst: u16) -> Made
+pub(crate) fn try_in(
+    work: &mut [u8],
+    c: u8,
+    parts: &[u32],
+    n: u8,
+    base: u16,
+    host: u16,
+    dst: u16,
+) -> Tried
     requires { ⌜ PartsHeld (now work) (partsOf (now parts)) n × (n ≤ 4) × Begun (now work) base host × (dst ≤ host) × (234 * dst + 234 ≤ length (now work)) × (4 ≤ length (now parts)) ⌝ }
-    ensures { λ o. ⌜ MadeIs (now (work .entry)) (make c (valuesFrom (now (work .entry)) (partsOf (now (parts .entry))) 0 n)) dst (now (work .exit)) o ⌝ }
+    ensures { λ o. ⌜ TriedIs (now (work .entry)) (make c (valuesFrom (now (work .entry)) (partsOf (now (parts .entry))) 0 n)) host dst (now (work .exit)) o ⌝ }
 {
     let w = bring_parts(work, parts, n, base, host);
     if w % 256 == 32 {
-        return make_laid(work, c, parts, n, dst);
+        return Tried::NoRoom;
     }
     let r = enter_over(work, host, c, n, w);
     if r == 32 {
-        return make_laid(work, c, parts, n, dst);
+        return Tried::NoRoom;
     }
-    Made::Value(bring(work, ValueRef::Object(r, host), dst))
+    Tried::Here(bring(work, ValueRef::Object(r, host), dst))
+}
+
+// A new object whose parts are brought together in the spare block, where nothing else is: if there is no room, it is too large.
+pub(crate) fn make_anew(work: &mut [u8], c: u8, parts: &[u32], n: u8, dst: u16) -> Made
+    requires { ⌜ Makeable (now work) (partsOf (now parts)) n dst × (4 ≤ length (now parts)) ⌝ }
+    ensures { λ o. ⌜ MadeIs (now (work .entry)) (make c (valuesFrom (now (work .entry)) (partsOf (now (parts .entry))) 0 n)) dst (now (work .exit)) o ⌝ }
+{
+    empty(work, SPARE);
+    let o = try_in(work, c, parts, n, SPARE, SPARE, dst);
+    let Tried::Here(v) = o else {
+        return make_laid(work, c, parts, n, dst);
+    };
+    Made::Value(v)
+}
+
+// A new object whose parts are brought into block host, as in `try_in`; anew where that has no room, for it may be full of objects that no part leads to.
+pub(crate) fn make_in(
+    work: &mut [u8],
+    c: u8,
+    parts: &[u32],
+    n: u8,
+    base: u16,
+    host: u16,
+    dst: u16,
+) -> Made
+    requires { ⌜ Makeable (now work) (partsOf (now parts)) n dst × Begun (now work) base host × (dst ≤ host) × (4 ≤ length (now parts)) ⌝ }
+    ensures { λ o. ⌜ MadeIs (now (work .entry)) (make c (valuesFrom (now (work .entry)) (partsOf (now (parts .entry))) 0 n)) dst (now (work .exit)) o ⌝ }
+{
+    let o = try_in(work, c, parts, n, base, host, dst);
+    let Tried::Here(v) = o else {
+        return make_anew(work, c, parts, n, dst);
+    };
+    Made::Value(v)
 }
 
 // The block of v, if v is an object of a block other than 0 and that block has more objects than block b; else b.
@@ -158,19 +209,22 @@ pub fn some_in(parts: &[u32], n: u8, d: u16) -> bool
 
 // A new object whose parts are brought into a copy of block b, in block `dst`, where no part lies.
 pub fn make_copied(work: &mut [u8], c: u8, parts: &[u32], n: u8, b: u16, dst: u16) -> Made
-    requires { ⌜ PartsHeld (now work) (partsOf (now parts)) n × (n ≤ 4) × Block (now work) b × (b < dst) × (someIn (partsOf (now parts)) n dst ≡ false) × (234 * dst + 234 ≤ length (now work)) × (4 ≤ length (now parts)) ⌝ }
+    requires { ⌜ Makeable (now work) (partsOf (now parts)) n dst × Block (now work) b × (b < dst) × (someIn (partsOf (now parts)) n dst ≡ false) × (4 ≤ length (now parts)) ⌝ }
     ensures { λ o. ⌜ MadeIs (now (work .entry)) (make c (valuesFrom (now (work .entry)) (partsOf (now (parts .entry))) 0 n)) dst (now (work .exit)) o ⌝ }
 {
     copy_block(work, b, dst);
     make_in(work, c, parts, n, b, dst, dst)
 }
 
-// A new object whose parts lie in several blocks, `first` one of them, none in `dst`: over the block with the most objects, where it may be written, or over a copy.
+// A new object whose parts lie in several blocks, `first` one of them, none in `dst`: over the block with the most objects, where it may be written, or over a copy; anew if that block is full.
 pub fn make_apart(work: &mut [u8], c: u8, parts: &[u32], n: u8, first: u16, dst: u16) -> Made
-    requires { ⌜ PartsHeld (now work) (partsOf (now parts)) n × (n ≤ 4) × Block (now work) first × (someIn (partsOf (now parts)) n dst ≡ false) × (234 * dst + 234 ≤ length (now work)) × (4 ≤ length (now parts)) ⌝ }
+    requires { ⌜ Makeable (now work) (partsOf (now parts)) n dst × Block (now work) first × (someIn (partsOf (now parts)) n dst ≡ false) × (4 ≤ length (now parts)) ⌝ }
     ensures { λ o. ⌜ MadeIs (now (work .entry)) (make c (valuesFrom (now (work .entry)) (partsOf (now (parts .entry))) 0 n)) dst (now (work .exit)) o ⌝ }
 {
     let b = largest(work, parts, n, first);
+    if 32 <= work[234 * (b as usize) + 192] {
+        return make_anew(work, c, parts, n, dst);
+    }
     if dst <= b {
         return make_in(work, c, parts, n, b, b, dst);
     }

@@ -15,16 +15,16 @@ use Rattle.maker.proofs.Beside as laws
 use Rattle.maker.proofs.Merges as merges
 
 make-in-requires : tie.Need-make-in-requires
-make-in-requires c κs = (search needs, search needs, search merges.some-begun, search needs, search needs, search needs)
+make-in-requires c κs = (search needs, search merges.some-begun, search needs, search needs)
 
 make-fresh-requires : tie.Need-make-fresh-requires
-make-fresh-requires c κs = (search needs, search needs, search tests.told, search needs, search needs)
+make-fresh-requires c κs = (search needs, search tests.told, search needs)
 
 make-beside-requires : tie.Need-make-beside-requires
-make-beside-requires c κs = (search needs, search needs, search laws.first-block, search tests.told, search needs, search needs)
+make-beside-requires c κs = (search needs, search laws.first-block, search tests.told, search needs)
 
 make-apart-requires : tie.Need-make-apart-requires
-make-apart-requires c κs = (search needs, search needs, search laws.first-block, search tests.told, search needs, search needs)
+make-apart-requires c κs = (search needs, search laws.first-block, search tests.told, search needs)
 
 pub make-spec : {M : Type 1} → statement M
 make-spec =

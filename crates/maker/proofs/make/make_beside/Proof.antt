@@ -1,31 +1,31 @@
--- A new object beside its parts: found, laid or added.
 use borrow.Author.Needs.{needs}
 use Rattle.maker.proofs.make.make_beside.Statement.{statement}
 use Rattle.maker.proofs.make.make_beside.Tie as tie
 use Rattle.maker.proofs.make.make_beside.Reads as reads
 use Rattle.maker.proofs.make.make_beside.Lts as lts
-use Rattle.maker.proofs.make.make_laid.Reads as make-laid-reads
+use Rattle.maker.proofs.merge.make_anew.Reads as make-anew-reads
 use Rattle.maker.proofs.over.add.Reads as add-reads
 use Rattle.maker.proofs.over.find.Reads as find-reads
 use Rattle.maker.proofs.over.root_codes.Reads as root-codes-reads
 use Rattle.values.proofs.value.bring.Reads as bring-reads
+use Rattle.maker.proofs.Beside as laws
 use Rattle.canon.specs.Layout.{countIn}
 use Rattle.values.proofs.Copies as copies
-use Rattle.maker.proofs.Beside as laws
+use Rattle.maker.proofs.Merges as merges
 
 find-requires : tie.Need-find-requires
 unfolding countIn
 find-requires c κs = (search needs, search needs, search laws.root-packed)
 
 bring-requires : tie.Need-bring-requires
-bring-requires c κs = (search copies.block-held, search needs)
+bring-requires c κs = (search copies.block-held, search merges.makeable-room)
 
 returns : tie.Need-returns
 returns c = search laws.beside-found
 
 add-requires : tie.Need-add-requires
 unfolding countIn
-add-requires c κs = search needs
+add-requires c κs = (search needs, search needs, search merges.makeable-room)
 
 returns-3 : tie.Need-returns-3
 returns-3 c = search laws.beside-new

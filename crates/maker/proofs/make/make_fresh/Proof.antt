@@ -11,13 +11,13 @@ use Rattle.maker.proofs.Beside as tests
 use Rattle.maker.proofs.Merges as laws
 
 make-alone-requires : tie.Need-make-alone-requires
-make-alone-requires c κs = (search needs, search needs, search tests.denied, search needs, search needs)
+make-alone-requires c κs = (search laws.makeable-held, search laws.makeable-few, search tests.denied, search laws.makeable-room, search needs)
 
 make-in-requires : tie.Need-make-in-requires
-make-in-requires c κs = (search laws.empty-held, search needs, search laws.empty-begun, search needs, search laws.empty-room, search needs)
+make-in-requires c κs = (search laws.fresh-makeable, search laws.fresh-begun, search needs, search needs)
 
 returns-2 : tie.Need-returns-2
-returns-2 c = search laws.empty-made
+returns-2 c = search laws.fresh-made
 
 pub make-fresh-spec : {M : Type 1} → statement M
 make-fresh-spec =

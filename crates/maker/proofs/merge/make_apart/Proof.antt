@@ -4,21 +4,32 @@ use Rattle.maker.proofs.merge.make_apart.Tie as tie
 use Rattle.maker.proofs.merge.make_apart.Reads as reads
 use Rattle.maker.proofs.merge.make_apart.Lts as lts
 use Rattle.maker.proofs.merge.largest.Reads as largest-reads
+use Rattle.maker.proofs.merge.make_anew.Reads as make-anew-reads
 use Rattle.maker.proofs.merge.make_copied.Reads as make-copied-reads
 use Rattle.maker.proofs.merge.make_in.Reads as make-in-reads
 use Rattle.maker.proofs.Merges as laws
 
+slice-read-if1 : tie.Need-slice-read-if1
+slice-read-if1 c = search laws.largest-read
+
 make-in-requires : tie.Need-make-in-requires
-make-in-requires c κs = (search needs, search needs, search laws.largest-begun, search needs, search needs, search needs)
+make-in-requires c κs = (search needs, search laws.largest-begun, search needs, search needs)
 
 make-copied-requires : tie.Need-make-copied-requires
-make-copied-requires c κs = (search needs, search needs, search laws.largest-block, search needs, search needs, search needs, search needs)
+make-copied-requires c κs = (search needs, search laws.largest-block, search needs, search needs, search needs)
 
 pub make-apart-spec : {M : Type 1} → statement M
 make-apart-spec =
     tie.close
     (tie.spec
     (λ c κs. search needs)
+    (λ c. search needs)
+    (λ c. search needs)
+    (λ c. search needs)
+    slice-read-if1
+    (λ c κs. search needs)
+    (λ c. search needs)
+    (λ c. search needs)
     make-in-requires
     (λ c. search needs)
     (λ c. search needs)

@@ -8,7 +8,7 @@ use Rattle.values.proofs.value.copy_block.Reads as copy-block-reads
 use Rattle.maker.proofs.Merges as laws
 
 make-in-requires : tie.Need-make-in-requires
-make-in-requires c κs = (search laws.copied-held, search needs, search laws.copied-begun, search needs, search laws.copied-room, search needs)
+make-in-requires c κs = (search laws.copied-makeable, search laws.copied-begun, search needs, search needs)
 
 returns : tie.Need-returns
 returns c = search laws.copied-made
