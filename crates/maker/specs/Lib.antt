@@ -1,6 +1,7 @@
 pub mod Laying
 pub mod Adding
 pub mod Merging
+pub mod Crowds
 pub mod Sorting
 pub mod Reaching
 pub mod Seeking

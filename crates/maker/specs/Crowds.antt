@@ -1,0 +1,18 @@
+-- More objects than a value may have: 33 of which no two are the same, all in one value.
+use Prim.Native.Nat.{ℕ, _<_}
+use mathlib.Core.Path.{_≡_}
+use mathlib.Core.List.{List, _++_}
+use Rattle.cofj.specs.Values.{Node, Graph, obj}
+use Rattle.cofj.specs.Unfolding.{follow, Same}
+
+-- object x of ns stands in the value g, at the end of a path from its root
+pub record In (ns : List Node) (x : ℕ) (g : Graph) : Type 0 where
+  pub path : List ℕ
+  pub tree : (q : List ℕ) → follow ns (obj x) q ≡ follow (g .nodes) (g .root) (path ++ q)
+
+-- 33 objects: object `at k` of the list `list k`, for each k
+pub record Crowd (g : Graph) : Type 0 where
+  pub list : ℕ → List Node
+  pub at : ℕ → ℕ
+  pub inside : (k : ℕ) → k < 33 → In (list k) (at k) g
+  pub apart : (k l : ℕ) → k < 33 → l < 33 → Same (list k) (obj (at k)) (list l) (obj (at l)) → k ≡ l
