@@ -4,15 +4,33 @@ use Prim.Native.Nat.{ℕ, _+_, _*_, _<_, _≤_}
 use native.Mathlib.Omega.{arith}
 use native.Mathlib.Decide.{decLt, ℕ-discrete}
 use mathlib.Core.Path.{_≡_, refl, sym, ap, _∙_, subst}
-use mathlib.Core.List.{List}
-use lib.ListN.{length, getD, set, replicate, length-set, length-replicate}
+use mathlib.Core.List.{List, [], _∷_, _++_, append-assoc}
+use mathlib.Core.Option.{Option, some}
+use lib.ListN.{length, getD, getElem?, set, replicate, length-set, length-replicate}
 use lib.Seq.{getD-set-same, getD-set-other}
-use Rattle.canon.specs.Layout.{countIn, objectsIn, Inside}
+use Rattle.cofj.specs.Partial.{_>>=_}
+use Rattle.cofj.specs.Values.{Ref, obj, Node, Graph, graph, refsAt}
+use Rattle.cofj.specs.Unfolding.{follow}
+use Rattle.canon.specs.Layout.{countIn, objectsIn, graphAt, Inside}
 use Rattle.canon.proofs.Nodes.{code-low}
 use Rattle.values.proofs.Steps.{unpaired-put, unpaired-few}
 use Rattle.maker.specs.Sorting.{codeAt, Listed, Reached}
-use Rattle.maker.specs.Reaching.{Noted, Met, FieldsMet, ReachedTo}
-use Rattle.maker.proofs.Turns.{zero-at}
+use Rattle.maker.specs.Reaching.{Noted, Met, FieldOf, FieldsMet, ReachedTo}
+use Rattle.maker.specs.Crowds.{In}
+use Rattle.maker.proofs.Turns.{zero-at, field-ref}
+
+-- ---- a path leads to a listed object
+led-root : (ns : List Node) (i : ℕ) → In ns i (graph (obj i) ns)
+led-root ns i = record { path = []; tree = λ q. refl }
+
+-- one field further
+led-step : (ns : List Node) (g : Graph) (y f z : ℕ) → In ns y g → getElem? (refsAt ns y) f ≡ some (obj z) → In ns z g
+led-step ns g y f z a e = record {
+  path = a .path ++ (f ∷ []);
+  tree = λ q.
+      sym (ap (λ (o : Option Ref). o >>= (λ s. follow ns s q)) e) ∙ a .tree (f ∷ q)
+      ∙ ap (follow (g .nodes) (g .root)) (sym (append-assoc (a .path) (f ∷ []) q));
+}
 
 -- what is listed stays so while the list grows
 listed-kept : (L L′ : List ℕ) (t r x : ℕ) → t ≤ r → ((q : ℕ) → q < t → getD L′ q 0 ≡ getD L q 0) → Listed L t x → Listed L′ r x
@@ -84,6 +102,7 @@ module _ (W : List ℕ) (src x : ℕ) (ib : Inside W src x) where
       front = λ q l. m .front q (omega (arith, so .more)) ∙ so .front q l;
       low = λ q a b. lows q a b (decLt q r);
       here = λ f l c. heres f l c (ℕ-discrete f k);
+      new = λ q a b. news q a b (decLt q r);
     }
       where
         code : getD W p 0 ≡ codeAt W src x k
@@ -99,6 +118,10 @@ module _ (W : List ℕ) (src x : ℕ) (ib : Inside W src x) where
             subst (Listed L′ r′) u (m .here (rw u c))
         heres f l c (no z) = listed-kept L L′ r r′ _ (m .more) (m .front) (so .here f (omega (arith, z)) c)
 
+        news : (q : ℕ) → t ≤ q → q < r′ → Dec (q < r) → FieldOf W src x (getD L′ q 0)
+        news q a b (yes l) = subst (FieldOf W src x) (sym (m .front q l)) (so .new q a l)
+        news q a b (no l) = record { field = k; low = h; object = rw code at (m .object (omega (arith, l))); is = m .new q (omega (arith, l)) b ∙ code }
+
     pub fields-met : (S₀ S1 L1 : List ℕ) (r1 : ℕ) (S2 L2 : List ℕ) (r2 : ℕ) (S3 L3 : List ℕ) (r3 : ℕ) (S L : List ℕ) (r : ℕ) → Noted S₀ L₀ t
         → Met L₀ t (getD W (234 * src + 6 * x + 2) 0) S1 L1 r1
         → Met L1 r1 (getD W (234 * src + 6 * x + 3) 0) S2 L2 r2
@@ -112,7 +135,7 @@ module _ (W : List ℕ) (src x : ℕ) (ib : Inside W src x) where
         (next S₀ L₀ t 0 _ S1 L1 r1 (omega arith) (omega arith) none a) b) c) d
       where
         none : FieldsMet W src x 0 L₀ t S₀ L₀ t
-        none = record { noted = nd; more = omega arith; front = λ q l. refl; low = λ q l m. absurd (omega arith); here = λ f l. absurd (omega arith) }
+        none = record { noted = nd; more = omega arith; front = λ q l. refl; low = λ q l m. absurd (omega arith); here = λ f l. absurd (omega arith); new = λ q l m. absurd (omega arith) }
 
 -- ---- the list gone over
 module _ (W : List ℕ) (src i : ℕ) where
@@ -125,6 +148,7 @@ module _ (W : List ℕ) (src i : ℕ) where
       low = λ q l. rw (m .new q (omega arith) l) (ib .low);
       root = m .here (omega (arith, small));
       closed = λ q f l. absurd (omega arith);
+      led = λ q l. subst (λ (y : ℕ). In (objectsIn W src) y (graphAt W src i)) (sym (m .new q (omega arith) l)) (led-root (objectsIn W src) i);
     }
       where
         small : i < 32
@@ -157,6 +181,7 @@ module _ (W : List ℕ) (src i : ℕ) where
           closed = λ q f l b c.
               let e : getD L2 q 0 ≡ getD L q 0 = o .front q (omega arith) in
               subst (λ (y : ℕ). Listed L2 r (codeAt W src y f)) (sym e) (closed q f l b (rw e at c) (ℕ-discrete q h));
+          led = λ q l. leds q l (decLt q t);
         }
           where
             kept : (y : ℕ) → Listed L t y → Listed L2 r y
@@ -170,5 +195,12 @@ module _ (W : List ℕ) (src i : ℕ) where
             closed q f l b c (yes z) = rw z (o .here f b (rw z at c))
             closed q f l b c (no z) = kept _ (so .closed q f (omega (arith, z)) b c)
 
+            leds : (q : ℕ) → q < r → Dec (q < t) → In (objectsIn W src) (getD L2 q 0) (graphAt W src i)
+            leds q l (yes b) = subst (λ (y : ℕ). In (objectsIn W src) y (graphAt W src i)) (sym (o .front q b)) (so .led q b)
+            leds q l (no b) =
+                let n = o .new q (omega (arith, b)) l in
+                subst (λ (y : ℕ). In (objectsIn W src) y (graphAt W src i)) (sym (n .is))
+                (led-step (objectsIn W src) (graphAt W src i) (getD L h 0) (n .field) _ (so .led h hh) (field-ref W src (getD L h 0) head-inside (n .field) (n .low) (n .object)))
+
     pub reach-done : t ≤ h → Reached W src i L t
-    reach-done l = record { few = omega (arith, so .noted .free); long = so .noted .list; low = so .low; root = so .root; closed = λ q f b. so .closed q f (omega arith) }
+    reach-done l = record { few = omega (arith, so .noted .free); long = so .noted .list; low = so .low; root = so .root; closed = λ q f b. so .closed q f (omega arith); led = so .led }

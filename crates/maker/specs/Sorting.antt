@@ -9,12 +9,13 @@ use lib.Dec.{ltb}
 use lib.ListN.{length, getD}
 use Rattle.cofj.specs.Values.{Node, obj}
 use Rattle.cofj.specs.Unfolding.{Same}
-use Rattle.canon.specs.Layout.{countIn, objectsIn, Block}
+use Rattle.canon.specs.Layout.{countIn, objectsIn, graphAt, Block}
 use Rattle.canon.specs.Numbers.{numberIn}
 use Rattle.maker.specs.declared.sort.Turned.{Turned}
 use Rattle.maker.specs.declared.sort.Turned.the-variants.{All, Open}
 use Rattle.maker.specs.Adding.{codesOf}
 use Rattle.maker.specs.Merging.{CodeAs, Mapped}
+use Rattle.maker.specs.Crowds.{In}
 
 -- object x of ps is none of the first t of ns
 pub record Fresh (ps ns : List Node) (t x : ℕ) : Type 0 where
@@ -62,6 +63,7 @@ pub record Reached (W : List ℕ) (src i : ℕ) (L : List ℕ) (m : ℕ) : Type 
   pub low : (q : ℕ) → q < m → getD L q 0 < countIn W src
   pub root : Listed L m i
   pub closed : (q f : ℕ) → q < m → f < 4 → codeAt W src (getD L q 0) f < 192 → Listed L m (codeAt W src (getD L q 0) f)
+  pub led : (q : ℕ) → q < m → In (objectsIn W src) (getD L q 0) (graphAt W src i)
 
 -- ---- the listed objects sorted out
 -- the first m of L are objects of block src, and the host is another block
