@@ -2,7 +2,7 @@
 -- Who asks: join. Not here: which objects are new; what holds of the trees alone, whatever the bytes (Fresh).
 use Prim.Native.Nat.{ℕ, _+_, _-_, _*_, _%_, _<_, _≤_}
 use native.Mathlib.Omega.{arith}
-use native.Mathlib.Decide.{decLt, ℕ-discrete}
+use native.Mathlib.Decide.{decLt, decLe, ℕ-discrete}
 use mathlib.Core.Path.{_≡_, refl, sym, ap, _∙_, subst}
 use mathlib.Core.Bool.{true, false, cond, false≢true}
 use mathlib.Core.List.{List, [], _∷_}
@@ -25,7 +25,7 @@ use Rattle.canon.proofs.Turned.{turnRef, changed, lifted-nodes, lifted-packed, 
 use Rattle.values.proofs.Blocks.{size-in, inner-in}
 use Rattle.maker.specs.Merging.{Grown, CodeAs}
 use Rattle.maker.specs.Sorting.{Fresh, Decided, codeAt, turnIn}
-use Rattle.maker.specs.Joining.{numbersOf, New, Given, Counted, Fitted, Placing, Laid, Extended, Joining, Joined}
+use Rattle.maker.specs.Joining.{numbersOf, New, Given, Counted, Overfull, Fitted, Placing, Laid, Extended, Joining, Joined}
 use Rattle.maker.proofs.Fresh.{Told, Source, old-trees, new-trees, inner-many, distinct-many}
 use Rattle.maker.proofs.Turns.{leaf-low}
 use Rattle.maker.proofs.Merges.{grown-none, other-byte, other-block, other-inside, code-grown}
@@ -50,6 +50,34 @@ counted-none t T F = record {
   numbered = record { low = λ x h. absurd (omega arith); high = λ x h. absurd (omega arith); one = λ x y h. absurd (omega arith) };
   from = λ k l h. absurd (omega arith);
 }
+
+-- more numbers than there is room for: the objects that have those up to 32
+module _ (n t : ℕ) (T₀ F T : List ℕ) (m : ℕ) (ct : Counted n t T₀ F T m) where
+  number-of : (k : ℕ) → Dec (t < k + 1) → Dec (k + 1 ≤ m) → ℕ
+  number-of k (yes a) (yes b) = ct .from (k + 1) a b .source
+  number-of k (yes a) (no b) = 0
+  number-of k (no a) b = 0
+
+  -- object x has number k
+  abbrev Has : ℕ → ℕ → Type 0
+  Has k x = (x < n) × New F x × (getD T x 0 ≡ k + 1)
+
+  number-is : (k : ℕ) (a : Dec (t < k + 1)) (b : Dec (k + 1 ≤ m)) → t < k + 1 → k + 1 ≤ m → Has k (number-of k a b)
+  unfolding number-of
+  number-is k (yes a) (yes b) l h = let g = ct .from (k + 1) a b in (g .below, g .new, g .at)
+  number-is k (yes a) (no b) l h = absurd (b h)
+  number-is k (no a) b l h = absurd (a l)
+
+  counted-over : 32 < m → (n′ : ℕ) → n ≤ n′ → Overfull n′ t F
+  counted-over h n′ le = record {
+    from = λ k. number-of k (decLt t (k + 1)) (decLe (k + 1) m);
+    low = λ k a b. omega (arith, is k a b .0);
+    new = λ k a b. is k a b .1;
+    one = λ k l a b c d e. omega (arith, is k a b .2, is l c d .2, ap (λ (x : ℕ). getD T x 0) e);
+  }
+    where
+      is : (k : ℕ) → t ≤ k → k < 33 → Has k (number-of k (decLt t (k + 1)) (decLe (k + 1) m))
+      is k a b = number-is k (decLt t (k + 1)) (decLe (k + 1) m) (omega arith) (omega arith)
 
 module _ (x t : ℕ) (T₀ F T : List ℕ) (m : ℕ) (ct : Counted x t T₀ F T m) where
   counted-same : getD F x 0 ≡ 0 → Counted (x + 1) t T₀ F T m
@@ -113,10 +141,13 @@ module _ (x t : ℕ) (T₀ F T : List ℕ) (m : ℕ) (ct : Counted x t T₀ F T 
   number-more T′ m′ n new h l eT em = rw (eT, em) (counted-new new (omega (arith, ct .same)))
 
   pub number-end : (n : ℕ) → x ≤ n → n ≤ x → Fitted n t T₀ F T m
-  number-end n h k = let e : x ≡ n = omega arith in record { counted = λ _. rw e at ct }
+  number-end n h k = let e : x ≡ n = omega arith in record { counted = λ _. rw e at ct; over = λ l. counted-over x t T₀ F T m ct l n h }
 
-pub number-full : (n t : ℕ) (T F T′ : List ℕ) → Fitted n t T F T′ 33
-number-full n t T F T′ = record { counted = λ h. absurd (omega arith) }
+  pub number-full : (n : ℕ) → ((getD F x 0 ≡ 0) → ⊥) → x < n → n ≤ length T₀ → 32 ≤ m → Fitted n t T₀ F T 33
+  number-full n new h l full = record {
+    counted = λ z. absurd (omega arith);
+    over = λ _. counted-over (x + 1) t T₀ F (set T x (m + 1)) (m + 1) (counted-new new (omega (arith, ct .same))) (omega arith) n (omega arith);
+  }
 
 -- ---- one object
 -- its codes are in reach of the table
@@ -281,8 +312,15 @@ code-small ps ns z r q = go (decLt r 192)
     go (no h) = absurd (none (refOf r) (leaf-low 0 r (omega (arith, h))) q)
 
 module _ (W : List ℕ) (src host : ℕ) (T F : List ℕ) (jn : Joining W src host T F) where
-  pub join-full : (T′ : List ℕ) → Joined W src host T F W T′ false
-  join-full T′ = record { grown = grown-none host W (jn .target); mapped = λ z. absurd (false≢true z); told = λ z. absurd (false≢true z) }
+  pub join-full : (T′ : List ℕ) (m : ℕ) → Fitted (getD W (234 * src + 192) 0) (getD W (234 * host + 192) 0) T F T′ m → 32 < m → Joined W src host T F W T′ false
+  unfolding countIn
+  join-full T′ m ft h = record {
+    grown = grown-none host W (jn .target);
+    mapped = λ z. absurd (false≢true z);
+    told = λ z. absurd (false≢true z);
+    from = λ z. absurd (false≢true z);
+    over = λ _. ft .over h;
+  }
 
   module _ (T′ : List ℕ) (m : ℕ) (ft : Fitted (getD W (234 * src + 192) 0) (getD W (234 * host + 192) 0) T F T′ m) (few : m ≤ 32) where
     ct : Counted (countIn W src) (countIn W host) T F T′ m
@@ -322,6 +360,8 @@ module _ (W : List ℕ) (src host : ℕ) (T F : List ℕ) (jn : Joining W src ho
       grown = grown-none host W (jn .target);
       mapped = λ _. record { table = table; each = λ x y q. jn .sorted .mapped .each x y (sym (ct .kept x (old x (ℕ-discrete (getD F x 0) 0))) ∙ q) };
       told = λ _. told-some;
+      from = λ _ y h. inl h;
+      over = λ z. absurd (false≢true (sym z));
     }
       where
         old : (x : ℕ) → Dec (getD F x 0 ≡ 0) → getD F x 0 ≡ 0
@@ -503,8 +543,16 @@ module _ (W : List ℕ) (src host : ℕ) (T F : List ℕ) (jn : Joining W src ho
         grown = grown;
         mapped = λ _. record { table = table; each = λ x y e. go x y e (ℕ-discrete (getD F x 0) 0) };
         told = λ _. told-some;
+        from = λ _ y h. from y h (decLt y (countIn W host));
+        over = λ z. absurd (false≢true (sym z));
       }
         where
+          from : (y : ℕ) → y < countIn W′ host → Dec (y < countIn W host) → (y < countIn W host) ⊎ ((x : ℕ) × New F x × Same ps (obj x) ms (obj y))
+          from y h (yes l) = inl l
+          from y h (no l) =
+              let s = source y (omega (arith, l, size-old)) (omega (arith, size-new, ex .count)) in
+              inr (s .from, s .new, λ p. new-trees ps ns ms inner most old to (New F) small is fields p (s .from) (inl (s .new)) ∙ ap (λ (k : ℕ). follow ms (obj k) p) (s .at))
+
           go : (x y : ℕ) → getD T′ x 0 ≡ y + 1 → Dec (getD F x 0 ≡ 0) → CodeAs W′ src x host y
           go x y e (yes z) = code-grown host W W′ grown src (jn .apart) (jn .source) x y (jn .sorted .mapped .each x y (sym (ct .kept x z) ∙ e))
           go x y e (no n) = new-code x y e n

@@ -2,11 +2,14 @@
 -- Not here: which objects are new (Sorting).
 use Prim.Native.Nat.{ℕ, _+_, _-_, _*_, _≤_, _<_}
 use mathlib.Core.Path.{_≡_}
-use mathlib.Core.Bool.{Bool, true, cond}
+use mathlib.Core.Bool.{Bool, true, false, cond}
 use mathlib.Core.List.{List, map}
+use mathlib.Core.Logic.{_⊎_}
 use lib.Dec.{ltb, eqb}
 use lib.ListN.{length, getD}
-use Rattle.canon.specs.Layout.{countIn, levelIn, reachIn, Block, Outside}
+use Rattle.cofj.specs.Values.{obj}
+use Rattle.cofj.specs.Unfolding.{Same}
+use Rattle.canon.specs.Layout.{countIn, levelIn, reachIn, objectsIn, Block, Outside}
 use Rattle.canon.specs.Tables.{copied}
 use Rattle.canon.specs.Numbers.{numberIn}
 use Rattle.maker.specs.Merging.{Grown, Mapped}
@@ -42,9 +45,17 @@ pub record Counted (n t : ℕ) (T F T′ : List ℕ) (m : ℕ) : Type 0 where
   pub numbered : Numbered n t F T′ m
   pub from : (k : ℕ) → t < k → k ≤ m → Given n F T′ k
 
--- if there is room
+-- more new objects than there is room for: those with the numbers from t to 32
+pub record Overfull (n t : ℕ) (F : List ℕ) : Type 0 where
+  pub from : ℕ → ℕ
+  pub low : (k : ℕ) → t ≤ k → k < 33 → from k < n
+  pub new : (k : ℕ) → t ≤ k → k < 33 → New F (from k)
+  pub one : (k l : ℕ) → t ≤ k → k < 33 → t ≤ l → l < 33 → from k ≡ from l → k ≡ l
+
+-- if there is room; if not, they are too many
 pub record Fitted (n t : ℕ) (T F T′ : List ℕ) (m : ℕ) : Type 0 where
   pub counted : m ≤ 32 → Counted n t T F T′ m
+  pub over : 32 < m → Overfull n t F
 
 -- ---- the bytes
 pub record Placing (W : List ℕ) (src host : ℕ) (T F : List ℕ) : Type 0 where
@@ -79,7 +90,10 @@ pub record Joining (W : List ℕ) (src host : ℕ) (T F : List ℕ) : Type 0 whe
   pub sorted : Sorted W src host T F
   pub settled : Settled W src T F
 
+-- if there is room, each object of the host then is an old one or a new object of the part; if not, these are too many
 pub record Joined (W : List ℕ) (src host : ℕ) (T F W′ T′ : List ℕ) (r : Bool) : Type 0 where
   pub grown : Grown host W W′
   pub mapped : r ≡ true → Mapped W′ src host T′
   pub told : r ≡ true → (x : ℕ) → Decided T F x → (getD T′ x 0 ≡ 0) → ⊥
+  pub from : r ≡ true → (y : ℕ) → y < countIn W′ host → (y < countIn W host) ⊎ ((x : ℕ) × New F x × Same (objectsIn W src) (obj x) (objectsIn W′ host) (obj y))
+  pub over : r ≡ false → Overfull (countIn W src) (countIn W host) F

@@ -18,7 +18,7 @@ loop-holds : tie.Need-loop-holds Inv-loop μ-loop
 loop-holds c = (search needs, laws.counted-none _ _ _)
 
 returns : tie.Need-returns Inv-loop μ-loop
-returns c = laws.number-full _ _ _ _ _
+returns c = search laws.number-full
 
 loop-again : tie.Need-loop-again Inv-loop μ-loop
 loop-again c = (search needs, ⊎-elim (λ w. search laws.number-more) (λ w. search laws.number-same) (c .if1 .came))
