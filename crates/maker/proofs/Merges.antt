@@ -6,6 +6,7 @@ use mathlib.Core.Path.{_≡_, refl, sym, ap, ap₂, _∙_, subst}
 use mathlib.Core.Bool.{Bool, true, false, not, cond, false≢true}
 use lib.Dec.{leb, eqb, ltb}
 use mathlib.Core.List.{List, [], _∷_, map}
+use mathlib.Core.Logic.{_⊎_, inl, inr}
 use mathlib.Core.Option.{none, some, Option·none-ne-some}
 use lib.ListN.{length, getD, set, take, getElem?, replicate, length-set, length-take, length-replicate, getD-replicate, List·getD-eq-default}
 use lib.Seq.{getD-set-same, getD-set-other}
@@ -86,8 +87,17 @@ module _ (W : List ℕ) (host : ℕ) (T : List ℕ) (bk : Block W host) (ft : Fi
   unfolding countIn
   enter-count = refl
 
-  pub enter-full : Entered W host T W 32
-  enter-full = record { grown = grown-none host W bk; few = omega arith; standing = λ z. absurd (z refl) }
+  pub enter-full : Missed W host T (countIn W host) → 32 ≤ getD W (234 * host + 192) 0 → Entered W host T W 32
+  unfolding countIn
+  enter-full ms h =
+      let e : getD W (234 * host + 192) 0 ≡ 32 = omega (arith, bk .small) in
+      record {
+        grown = grown-none host W bk;
+        few = omega arith;
+        standing = λ z. absurd (z refl);
+        from = λ y l. inl l;
+        full = λ _. (e, subst (Missed W host T) e ms, refl);
+      }
 
   module _ (k : ℕ) (fd : Found W host (getD W (234 * host + 192) 0) T k) where
     pub enter-found : k < getD W (234 * host + 192) 0 → Entered W host T W k
@@ -96,6 +106,8 @@ module _ (W : List ℕ) (host : ℕ) (T : List ℕ) (bk : Block W host) (ft : Fi
       grown = grown-none host W bk;
       few = omega (arith, bk .small);
       standing = λ _. record { low = h; is = at-nodes W (234 * host) (getD W (234 * host + 192) 0) k h ∙ fd .hit h };
+      from = λ y l. inl l;
+      full = λ z. absurd (omega (arith, bk .small));
     }
 
     pub enter-missed : getD W (234 * host + 192) 0 ≤ k → Missed W host T (countIn W host)
@@ -151,7 +163,13 @@ module _ (W : List ℕ) (host : ℕ) (T : List ℕ) (bk : Block W host) (ft : Fi
         low = omega (arith, a .count);
         is = ap (λ (x : List Node). nodeAt x t) are ∙ ap (nodeAt (more ns (nodeIn T 0))) (sym (length-nodes W (234 * host) t)) ∙ at-new (nodeIn T 0) ns inner above;
       };
+      from = λ y l. from y l (decLt y t);
+      full = λ z. absurd (omega arith);
     }
+      where
+        from : (y : ℕ) → y < getD D (234 * host + 192) 0 → Dec (y < t) → (y < t) ⊎ (y ≡ t)
+        from y l (yes q) = inl q
+        from y l (no q) = inr (omega (arith, a .count, q))
 
 -- ---- an object that refers to one that none refers to
 module _ (c f : ℕ) where

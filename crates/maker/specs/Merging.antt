@@ -4,6 +4,7 @@ use Prim.Native.Nat.{ℕ, zero, suc, _+_, _*_, _/_, _%_, _≤_, _<_}
 use mathlib.Core.Path.{_≡_}
 use mathlib.Core.Bool.{Bool, true, false, cond}
 use mathlib.Core.List.{List}
+use mathlib.Core.Logic.{_⊎_}
 use mathlib.Core.Option.{some}
 use lib.Dec.{ltb, eqb}
 use lib.ListN.{length, getD, getElem?}
@@ -19,7 +20,7 @@ use Rattle.maker.specs.declared.Made.the-variants.{Value}
 use Rattle.maker.specs.declared.merge.Tried.{Tried}
 use Rattle.maker.specs.declared.merge.Tried.the-variants.{Here, NoRoom}
 use Rattle.maker.specs.Laying.{MadeIs}
-use Rattle.maker.specs.Adding.{codesOf, partOf}
+use Rattle.maker.specs.Adding.{codesOf, partOf, Missed}
 
 -- block host has grown: what was in it unfolds as before, and the other blocks are as before
 pub record Grown (host : ℕ) (W W′ : List ℕ) : Type 0 where
@@ -38,10 +39,13 @@ pub record Standing (W : List ℕ) (host : ℕ) (T : List ℕ) (r : ℕ) : Type 
   pub low : r < countIn W host
   pub is : nodeAt (objectsIn W host) r ≡ nodeIn T 0
 
+-- r is the number of the object in T, which was there or is added; 32 if the host is full and has it not
 pub record Entered (W : List ℕ) (host : ℕ) (T W′ : List ℕ) (r : ℕ) : Type 0 where
   pub grown : Grown host W W′
   pub few : r ≤ 32
   pub standing : ((r ≡ 32) → ⊥) → Standing W′ host T r
+  pub from : (y : ℕ) → y < countIn W′ host → (y < countIn W host) ⊎ (y ≡ r)
+  pub full : r ≡ 32 → (countIn W host ≡ 32) × Missed W host T 32 × (W′ ≡ W)
 
 -- whether a code is an object's, of number f or a higher one; and whether one of the four codes of w is
 unfoldable pub liesFrom : ℕ → ℕ → Bool
