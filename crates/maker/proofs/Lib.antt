@@ -6,6 +6,7 @@ pub mod Turns
 pub mod Merges
 pub mod BareLaws
 pub mod Fresh
+pub mod Crowds
 pub mod Reaches
 pub mod Seeks
 pub mod Sorts
