@@ -70,7 +70,7 @@ module _ (top : Node) (ns : List Node)
       sym (renamed-same ns (more ns top) (λ i. i) (λ i. i) (InRange (length ns)) (λ _. Unit {0}) inside (λ _ _ _ _ _. tt)
       (λ i j l u z. ap (renameNode (λ k. k)) (sym (at-old i l) ∙ ap (nodeAt (more ns top)) z)) p r r h tt refl)
 
-  follow-new : (f : ℕ) (p : List ℕ) → follow (more ns top) (obj (length ns)) (f ∷ p) ≡ getElem? (top .refs) f >>= (λ s. follow ns s p)
+  pub follow-new : (f : ℕ) (p : List ℕ) → follow (more ns top) (obj (length ns)) (f ∷ p) ≡ getElem? (top .refs) f >>= (λ s. follow ns s p)
   follow-new f p = ap (λ (x : Node). getElem? (x .refs) f >>= (λ s. follow (more ns top) s p)) at-new ∙ go (getElem? (top .refs) f) refl
     where
       go : (o : Option Ref) → getElem? (top .refs) f ≡ o → o >>= (λ s. follow (more ns top) s p) ≡ o >>= (λ s. follow ns s p)

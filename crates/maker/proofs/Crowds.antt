@@ -14,7 +14,7 @@ use Rattle.cofj.specs.Unfolding.{object, opened, unknown, child, follow, Same, 
 use Rattle.cofj.proofs.Operations.{AllWhole, make-field}
 use Rattle.canon.specs.Layout.{Distinct}
 use Rattle.maker.specs.Sorting.{Fresh}
-use Rattle.maker.specs.Crowds.{In, Crowd}
+use Rattle.maker.specs.Crowds.{In, Within, Crowd}
 use Rattle.maker.proofs.Adding.{more, size-more, old-tree, distinct-more}
 
 -- ---- n different numbers below m: n is at most m
@@ -119,16 +119,27 @@ module _ (g : Graph) where
     tree = λ q. j .tree q ∙ i .tree (j .path ++ q) ∙ sym (ap (follow (g .nodes) (g .root)) (append-assoc (i .path) (j .path) q));
   }
 
+-- an object in a value that stands in another
+pub in-part : (h g : Graph) (ns : List Node) (x : ℕ) → Within h g → In ns x h → In ns x g
+in-part h g ns x w i = record {
+  path = w .path ++ i .path;
+  tree = λ q. i .tree q ∙ w .tree (i .path ++ q) ∙ sym (ap (follow (g .nodes) (g .root)) (append-assoc (w .path) (i .path) q));
+}
+
+-- the same value, otherwise laid out
+pub within-same : (h k g : Graph) → SameTree h k → Within h g → Within k g
+within-same h k g e w = record { path = w .path; tree = λ q. sym (e q) ∙ w .tree q }
+
 -- what is in a part is in the new object
 graph-at : (d : Graph) (gs : List Graph) (f : ℕ) → f < length gs → getElem? gs f ≡ some (getD gs f d)
 graph-at d [] f h = absurd (omega arith)
 graph-at d (g ∷ gs) zero h = refl
 graph-at d (g ∷ gs) (suc f) h = graph-at d gs f (omega arith)
 
-pub in-field : (c : ℕ) (gs : List Graph) → AllWhole gs → (d : Graph) (f : ℕ) → f < length gs → (ns : List Node) (x : ℕ) → In ns x (getD gs f d) → In ns x (make c gs)
-in-field c gs w d f h ns x i = record {
-  path = f ∷ i .path;
-  tree = λ q. i .tree q ∙ sym (make-field c gs w f (i .path ++ q) ∙ ap (λ (o : Option Graph). o >>= λ v. follow (v .nodes) (v .root) (i .path ++ q)) (graph-at d gs f h));
+pub within-field : (c : ℕ) (gs : List Graph) → AllWhole gs → (d : Graph) (f : ℕ) → f < length gs → Within (getD gs f d) (make c gs)
+within-field c gs w d f h = record {
+  path = f ∷ [];
+  tree = λ q. sym (make-field c gs w f q ∙ ap (λ (o : Option Graph). o >>= λ v. follow (v .nodes) (v .root) q) (graph-at d gs f h));
 }
 
 -- ---- the objects of a host ns, and new ones of a part ps

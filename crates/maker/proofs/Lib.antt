@@ -2,11 +2,11 @@ pub mod Adding
 pub mod Lays
 pub mod Codes
 pub mod Beside
+pub mod Fresh
+pub mod Crowds
 pub mod Turns
 pub mod Merges
 pub mod BareLaws
-pub mod Fresh
-pub mod Crowds
 pub mod Reaches
 pub mod Seeks
 pub mod Sorts

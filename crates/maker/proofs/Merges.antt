@@ -6,17 +6,20 @@ use mathlib.Core.Path.{_≡_, refl, sym, ap, ap₂, _∙_, subst}
 use mathlib.Core.Bool.{Bool, true, false, not, cond, false≢true}
 use lib.Dec.{leb, eqb, ltb}
 use mathlib.Core.List.{List, [], _∷_, map}
-use mathlib.Core.Logic.{_⊎_, inl, inr}
+use mathlib.Core.Logic.{_⊎_, inl, inr, ⊎-elim}
 use mathlib.Core.Option.{none, some, Option·none-ne-some}
 use lib.ListN.{length, getD, set, take, getElem?, replicate, length-set, length-take, length-replicate, getD-replicate, List·getD-eq-default}
-use lib.Seq.{getD-set-same, getD-set-other}
+use lib.Seq.{getD-take}
 use Rattle.cofj.specs.Partial.{_>>=_}
-use borrow.Author.Tests.{lt-ltb, le-ltb, eq-eqb, ne-eqb, eqb-true, eqb-false, ltb-true}
+use borrow.Author.Tests.{lt-ltb, le-ltb, eq-eqb, ne-eqb, eqb-true, eqb-false, ltb-true, lt-leb}
 use types.Run.{OneOf}
 use denote.Enum.Declared.{tagOf}
-use Rattle.cofj.specs.Values.{Ref, obj, mark, undet, Node, node, Graph, nodeAt, refsAt, canon, make}
+use Rattle.cofj.specs.Values.{Ref, obj, mark, undet, Node, node, Graph, graph, nodeAt, refsAt, canon, make}
 use Rattle.cofj.specs.Unfolding.{object, follow, Same, InRange, Whole}
 use Rattle.cofj.proofs.Trees.{Pointwise}
+use Rattle.cofj.proofs.Basics.{getD-map-lt}
+use Rattle.cofj.proofs.Canon.{canon-same}
+use Rattle.cofj.proofs.Operations.{make-whole}
 use Rattle.cofj.proofs.Unique.{same-canon}
 use Rattle.canon.specs.Layout.{refOf, nodeIn, nodesIn, Packed, countIn, levelIn, reachIn, objectsIn, graphAt, Block, Inside, Outside, Beneath}
 use Rattle.canon.specs.Tables.{Four, Carried}
@@ -37,18 +40,20 @@ use Rattle.values.proofs.Selecting.{unchanged, under}
 use Rattle.values.proofs.Kept.{Kept, kept}
 use Rattle.maker.specs.declared.Slot.{Slot}
 use Rattle.maker.specs.declared.Made.{Made}
-use Rattle.maker.specs.declared.Made.the-variants.{Value}
+use Rattle.maker.specs.declared.Made.the-variants.{Value, TooLarge}
 use Rattle.maker.specs.declared.merge.Tried.{Tried}
 use Rattle.maker.specs.declared.merge.Tried.the-variants.{Here, NoRoom}
 use Rattle.maker.proofs.merge.Tried as TriedT
 use Rattle.maker.specs.Laying.{valuesFrom, rawsFrom, PartsHeld, spare, Makeable, MadeIs}
 use Rattle.maker.specs.Adding.{codesOf, objectOf, Missed, Found, Emptied, Appended, Added, partOf}
-use Rattle.maker.specs.Merging.{Grown, Fits, Standing, Entered, CodeAs, Mapped, Imported, TriedIs, liesFrom, refersFrom, As, PartImported, Begun, RootBrought, PartsBrought, someIn, largerOf, largestOf}
+use Rattle.maker.specs.Merging.{Grown, Fits, Standing, Entered, CodeAs, Mapped, Imported, TriedIs, liesFrom, refersFrom, As, PartImported, Begun, AllWithin, RootBrought, PartsBrought, someIn, largerOf, largestOf}
 use Rattle.maker.specs.Sorting.{codeAt, TurnedAs}
+use Rattle.maker.specs.Crowds.{In, Within, BlockIn, Crowd}
+use Rattle.maker.proofs.Crowds.{in-same, within-same, within-field, crowd-joined, crowd-topped, crowd-large}
 use Rattle.maker.proofs.Codes.{object-class, object-count, object-code, object-length, codes-packed, spare-codes, first-code, next-code, object-bytes, object-read}
 use Rattle.maker.proofs.Lays.{raws-whole, made-raw, parts-length, beneath-more, made-brought}
-use Rattle.maker.proofs.Adding.{more, old-tree, at-new}
-use Rattle.maker.proofs.Turns.{leaf-low, low-refs, take-all, turned-fits, turned-same}
+use Rattle.maker.proofs.Adding.{more, size-more, inner-more, old-tree, at-new, follow-new}
+use Rattle.maker.proofs.Turns.{leaf-low, low-refs, take-all, turned-fits, turned-same, turned-fresh}
 use Rattle.maker.proofs.Beside.{outside-more, add-here, objects-are, block-added}
 
 -- ---- a block that has grown, and the others
@@ -288,6 +293,8 @@ module _ (W : List ℕ) (b i base host : ℕ) (ib : Inside W b i) (bg : Begun W 
           low = subst (InRange (countIn W host)) (sym small-object) (omega (arith, bg .most));
           same = λ p. ap (λ (x : ℕ). follow (objectsIn W x) (obj i) p) e ∙ bg .trees (obj i) l p ∙ ap (λ (x : Ref). follow (objectsIn W host) x p) (sym small-object);
         };
+        stand = λ _ g old at. old;
+        over = λ z. absurd (omega (arith, ib .low, ib .block .small));
       }
 
   pub object-host : b ≡ host → PartImported W (Object i b) host W i
@@ -297,6 +304,8 @@ module _ (W : List ℕ) (b i base host : ℕ) (ib : Inside W b i) (bg : Begun W 
       low = subst (InRange (countIn W host)) (sym small-object) (omega (arith, ib .low, ap (countIn W) e));
       same = λ p. ap (λ (x : ℕ). follow (objectsIn W x) (obj i) p) e ∙ ap (λ (x : Ref). follow (objectsIn W host) x p) (sym small-object);
     };
+    stand = λ _ g old at. old;
+    over = λ z. absurd (omega (arith, ib .low, ib .block .small));
   }
 
   module _ (apart : (b ≡ host) → ⊥) where
@@ -309,6 +318,8 @@ module _ (W : List ℕ) (b i base host : ℕ) (ib : Inside W b i) (bg : Begun W 
             ap (λ (x : Ref). follow (objectsIn W b) x p) (sym small-object)
             ∙ ap (λ (x : List Node). follow x (refOf i) p) (sym (other-block host W W′ (im .grown .outside) b apart (ib .block) .0)) ∙ im .like d .same p;
       };
+      stand = λ d g old at. im .stand d g old (record { path = at .path; tree = at .tree });
+      over = λ z g old at. im .over z g old (record { path = at .path; tree = at .tree });
     }
 
 -- ---- an object without fields
@@ -342,10 +353,29 @@ module _ (W : List ℕ) (b i host : ℕ) (ib : Inside W b i) (bk : Block W host)
   pub bare-imported : (W′ : List ℕ) (r : ℕ) → Entered W host (objectOf (getD W (234 * b + 6 * i) 0) 0 w) W′ r → PartImported W (Object i b) host W′ r
   bare-imported W′ r en = object-other W b i host host ib begun apart W′ r (record {
     grown = en .grown;
-    like = λ d.
-        turned-same W′ b i host bare-object (other-inside host W W′ (en .grown .outside) b apart i ib) (en .grown .block)
-        (turned-grown host W W′ (en .grown) b apart (ib .block) i bare-object (ib .low) bare-turned) r (en .standing d);
+    like = like;
+    stand = λ d g old at y h. ⊎-elim (λ l. in-same g (objectsIn W host) (objectsIn W′ host) y y (old y l) (en .grown .trees (obj y) l)) (λ e. here d g at y e) (en .from y h);
+    over = λ z g old at. full z g old at;
   })
+    where
+      like : ((r ≡ 32) → ⊥) → CodeAs W′ b i host r
+      like d =
+          turned-same W′ b i host bare-object (other-inside host W W′ (en .grown .outside) b apart i ib) (en .grown .block)
+          (turned-grown host W W′ (en .grown) b apart (ib .block) i bare-object (ib .low) bare-turned) r (en .standing d)
+
+      here : ((r ≡ 32) → ⊥) → (g : Graph) → In (objectsIn W b) i g → (y : ℕ) → y ≡ r → In (objectsIn W′ host) y g
+      here d g at y e = in-same g (objectsIn W b) (objectsIn W′ host) i y at (λ p.
+          ap (λ (x : List Node). follow x (obj i) p) (sym (other-block host W W′ (en .grown .outside) b apart (ib .block) .0))
+          ∙ ap (λ (x : Ref). follow (objectsIn W′ b) x p) (sym (ref-object i (omega (arith, ib .low, ib .block .small)))) ∙ like d .same p
+          ∙ ap (λ (x : Ref). follow (objectsIn W′ host) x p) (ref-object r (omega (arith, en .standing d .low, en .grown .block .small)) ∙ ap obj (sym e)))
+
+      -- the host is full, and does not have it
+      full : r ≡ 32 → (g : Graph) → BlockIn W host g → In (objectsIn W b) i g → Crowd g
+      full z g old at =
+          let f = en .full z in
+          crowd-joined (objectsIn W b) (objectsIn W host) g (countIn W host) (size-in W host bk) (bk .distinct) old (λ _. i)
+          (λ k h l. turned-fresh W b i host bare-object ib bk bare-turned (subst (Missed W host bare-object) (sym (f .0)) (f .1)))
+          (λ k h l. at) (λ k l hk lk hl ll e. omega (arith, f .0))
 
 module _ (W : List ℕ) (v : ValueRef) (base host : ℕ) (h : Holds W v) (bg : Begun W base host) where
   pub part-object : (b i : ℕ) (W′ : List ℕ) (r : ℕ) → v ≡ Object i b → PartImported W (Object i b) host W′ r → PartImported W v host W′ r
@@ -358,12 +388,16 @@ module _ (W : List ℕ) (v : ValueRef) (base host : ℕ) (h : Holds W v) (bg : B
   part-mark k e = rw e (record {
     grown = grown-none host W (bg .target);
     like = λ _. record { low = leaf-low (countIn W host) (193 + k) (omega arith); same = λ p. leaf-same [] (objectsIn W host) (mark k) tt p ∙ ap (λ (x : Ref). follow (objectsIn W host) x p) (sym (ref-mark k)) };
+    stand = λ _ g old at. old;
+    over = λ z. absurd (omega arith);
   })
 
   pub part-undet : v ≡ Undetermined → PartImported W v host W 192
   part-undet e = rw e (record {
     grown = grown-none host W (bg .target);
     like = λ _. record { low = leaf-low (countIn W host) 192 (omega arith); same = λ p. leaf-same [] (objectsIn W host) undet tt p ∙ ap (λ (x : Ref). follow (objectsIn W host) x p) (sym ref-undet) };
+    stand = λ _ g old at. old;
+    over = λ z. absurd (omega arith);
   })
 
 same-values : (W W′ : List ℕ) (n : ℕ) (ps : List Slot) → ((i : ℕ) → i < n → valueOf W′ (partOf ps i) ≡ valueOf W (partOf ps i)) → map (λ s. valueOf W′ (s .r)) (take n ps) ≡ map (λ s. valueOf W (s .r)) (take n ps)
@@ -432,30 +466,49 @@ module _ (host : ℕ) (W W′ : List ℕ) (g : Grown host W W′) where
   }
 
 -- ---- the parts brought
+first-byte : (w : ℕ) → getD (codesOf w) 0 0 ≡ w % 256
+unfolding codesOf
+first-byte w = refl
+
 pub brought-none : (W : List ℕ) (ps : List Slot) (n host : ℕ) → RootBrought W ps n n W host 3233857728
-brought-none W ps n host = record { done = λ j l. absurd (omega arith); spare = λ j l h. spare-codes j h }
+brought-none W ps n host = record { done = λ j l. absurd (omega arith); spare = λ j l h. spare-codes j h; stand = λ g old at. old }
 
 module _ (W : List ℕ) (ps : List Slot) (n i : ℕ) (W1 : List ℕ) (host w : ℕ) (held : PartsHeld W ps n) (g : Grown host W W1) (b : RootBrought W ps n i W1 host w) (le : i ≤ n) where
   pub brought-held : 0 < i → (v : ValueRef) → v ≡ partOf ps (i - 1) → Holds W1 v
   brought-held h v e = part-held host W W1 g v (subst (Holds W) (sym e) (held .part (i - 1) (omega arith)))
 
   pub brought-all : i ≤ 0 → PartsBrought W ps n host W1 w
-  brought-all h = let e : i ≡ 0 = omega arith in record { grown = g; done = λ _. subst (λ (k : ℕ). RootBrought W ps n k W1 host w) e b }
+  brought-all h = let e : i ≡ 0 = omega arith in record { grown = g; done = λ _. subst (λ (k : ℕ). RootBrought W ps n k W1 host w) e b; over = λ z. absurd (not-full e z) }
+    where
+      not-full : i ≡ 0 → w % 256 ≡ 32 → ⊥
+      not-full e z = go (decLt 0 n)
+        where
+          go : Dec (0 < n) → ⊥
+          go (yes l) =
+              let c : 32 < countIn W1 host = subst (InRange (countIn W1 host)) (ap refOf (first-byte w ∙ z) ∙ ref-object 32 (omega arith)) (b .done 0 (omega arith) .low) in
+              omega (arith, g .block .small)
+          go (no l) = let c : w % 256 ≡ 192 = sym (first-byte w) ∙ b .spare 0 (omega (arith, l)) (omega arith) in omega arith
 
   module _ (h : 0 < i) (v : ValueRef) (e : v ≡ partOf ps (i - 1)) (W2 : List ℕ) (r : ℕ) (pi : PartImported W1 v host W2 r) where
     pub brought-grown : Grown host W W2
     brought-grown = grown-more host W W1 W2 g (pi .grown)
 
-    pub brought-fails : PartsBrought W ps n host W2 32
-    brought-fails = record { grown = brought-grown; done = λ z. absurd (z refl) }
+    part-held-in : Holds W v
+    part-held-in = subst (Holds W) (sym e) (held .part (i - 1) (omega arith))
+
+    part-within : (x : Graph) → AllWithin W ps n x → Within (rawOf W1 v) x
+    part-within x ws = within-same (rawOf W v) (rawOf W1 v) x (part-tree host W W1 g v part-held-in) (subst (λ (u : ValueRef). Within (rawOf W u) x) (sym e) (ws (i - 1) (omega arith)))
+
+    pub brought-fails : r ≡ 32 → PartsBrought W ps n host W2 32
+    brought-fails z = record { grown = brought-grown; done = λ u. absurd (u refl); over = λ _ x old ws. pi .over z x (b .stand x old ws) (part-within x ws) }
 
     pub brought-more : n ≤ 4 → r < 256 → ((r ≡ 32) → ⊥) → RootBrought W ps n (i - 1) W2 host (r + 256 * (w % 16777216))
-    brought-more few lr d = record { done = done; spare = spare }
+    brought-more few lr d = record { done = done; spare = spare; stand = λ x old ws. pi .stand d x (b .stand x old ws) (part-within x ws) }
       where
         now-like : As W v W2 host r
         now-like = record {
           low = pi .like d .low;
-          same = λ p. part-tree host W W1 g v (subst (Holds W) (sym e) (held .part (i - 1) (omega arith))) p ∙ pi .like d .same p;
+          same = λ p. part-tree host W W1 g v part-held-in p ∙ pi .like d .same p;
         }
 
         done : (j : ℕ) → i - 1 + j < n → As W (partOf ps (i - 1 + j)) W2 host (getD (codesOf (r + 256 * (w % 16777216))) j 0)
@@ -486,18 +539,23 @@ made-from W W1 c ps n dst W2 o b e m = record {
 
 -- ---- what trying a host answers
 module _ (W : List ℕ) (v : Graph) (host dst : ℕ) (W1 : List ℕ) where
-  tried-none : Grown host W W1 → TriedIs W v host dst W1 NoRoom
-  tried-none g = record { here = λ r e. absurd (let u : _≡_ {A = ℕ} 0 1 = cc in omega arith); none = λ _. g }
+  tried-none : Grown host W W1 → (BlockIn W host v → Crowd v) → TriedIs W v host dst W1 NoRoom
+  tried-none g c = record { here = λ r e. absurd (let u : _≡_ {A = ℕ} 0 1 = cc in omega arith); none = λ _. g; over = λ _. c }
 
   tried-value : (r : ValueRef) → MadeIs W v dst W1 (Value r) → TriedIs W v host dst W1 (Here r)
   tried-value r m = record {
     here = λ s e. let z : r ≡ s = cc in subst (λ (x : ValueRef). MadeIs W v dst W1 (Value x)) z m;
     none = λ e. absurd (let u : _≡_ {A = ℕ} 0 1 = cc in omega arith);
+    over = λ e. absurd (let u : _≡_ {A = ℕ} 0 1 = cc in omega arith);
   }
 
   no-room : (o : Tried) → TriedIs W v host dst W1 o → OneOf (1 ∷ []) (tagOf TriedT.the-type o) → Grown host W W1
   no-room (Here r) t e = absurd (eqb-false 0 1 refl e)
   no-room NoRoom t e = t .none refl
+
+  too-small : (o : Tried) → TriedIs W v host dst W1 o → OneOf (1 ∷ []) (tagOf TriedT.the-type o) → BlockIn W host v → Crowd v
+  too-small (Here r) t e = absurd (eqb-false 0 1 refl e)
+  too-small NoRoom t e = t .over refl
 
 abbrev AllLike : List Node → List Ref → List Graph → Type 0
 AllLike ms [] [] = Unit {0}
@@ -520,8 +578,24 @@ like-all W ms (suc n) (r ∷ rs) [] a b h = absurd (omega arith)
 like-all W ms (suc n) (r ∷ rs) (s ∷ ps) a b h = (h 0 (omega arith), like-all W ms n rs ps (omega arith) (omega arith) (λ i l. h (suc i) (omega arith)))
 
 module _ (W : List ℕ) (c : ℕ) (ps : List Slot) (n host dst : ℕ) (held : PartsHeld W ps n) (few : n ≤ 4) (le : dst ≤ host) (W1 : List ℕ) (w : ℕ) (br : PartsBrought W ps n host W1 w) where
-  pub in-none : TriedIs W (make c (valuesFrom W ps 0 n)) host dst W1 NoRoom
-  in-none = tried-none W _ host dst W1 (br .grown)
+  abbrev made : Graph
+  made = make c (valuesFrom W ps 0 n)
+
+  -- the parts stand in the new object
+  raw-at : (i : ℕ) → i < n → getD (rawsFrom W ps 0 n) i (graph undet []) ≡ rawOf W (partOf ps i)
+  unfolding rawsFrom
+  raw-at i l =
+      getD-map-lt (λ s. rawOf W (s .r)) (take n ps) i (graph undet []) (record { r = Object 0 0 }) (omega (arith, length-take n ps, held .full))
+      ∙ ap (λ (s : Slot). rawOf W (s .r)) (getD-take n ps i (record { r = Object 0 0 }) l)
+
+  all-within : AllWithin W ps n made
+  all-within i l =
+      subst (Within (rawOf W (partOf ps i))) (sym (made-raw W c ps n held))
+      (subst (λ (h : Graph). Within h (make c (rawsFrom W ps 0 n))) (raw-at i l)
+      (within-field c (rawsFrom W ps 0 n) (raws-whole W c ps n held) (graph undet []) i (omega (arith, parts-length W ps n held))))
+
+  pub in-none : w % 256 ≡ 32 → TriedIs W (make c (valuesFrom W ps 0 n)) host dst W1 NoRoom
+  in-none z = tried-none W made host dst W1 (br .grown) (λ old. br .over z made old all-within)
 
   module _ (ew : (w % 256 ≡ 32) → ⊥) where
     rb : RootBrought W ps n 0 W1 host w
@@ -550,8 +624,57 @@ module _ (W : List ℕ) (c : ℕ) (ps : List Slot) (n host dst : ℕ) (held : Pa
       both : Grown host W W2
       both = grown-more host W W1 W2 (br .grown) (en .grown)
 
-      pub in-full : TriedIs W (make c (valuesFrom W ps 0 n)) host dst W2 NoRoom
-      in-full = tried-none W _ host dst W2 both
+      -- the host is full of objects that stand in the new one, and does not have it
+      module _ (z : r ≡ 32) where
+        abbrev hosted : List Node
+        hosted = objectsIn W1 host
+
+        abbrev new-node : Node
+        new-node = nodeIn root-object 0
+
+        size : length hosted ≡ 32
+        size = size-in W1 host in-block ∙ en .full z .0
+
+        hosted-low : (f : ℕ) (s : Ref) → getElem? (new-node .refs) f ≡ some s → InRange (length hosted) s
+        hosted-low f s e = subst (λ (k : ℕ). InRange k s) (sym (size-in W1 host in-block)) (in-fits .low f s e)
+
+        not-hosted : (j : ℕ) → j < length hosted → nodeAt hosted j ≡ new-node → ⊥
+        unfolding objectsIn
+        not-hosted j h e = en .full z .1 .none j (omega (arith, size)) (sym (at-nodes W1 (234 * host) (countIn W1 host) j (omega (arith, size-in W1 host in-block))) ∙ e)
+
+        top-is : new-node ≡ node c (take n (four root-object 0))
+        unfolding nodeIn
+        top-is = ap₂ {A = ℕ} {B = ℕ} (λ x y. node x (take y (four root-object 0))) (object-class c n w) (object-count c n w)
+
+        whole-more : Whole (graph (obj (length hosted)) (more hosted new-node))
+        whole-more = record { top = omega (arith, size-more new-node hosted (in-block .whole .inner) hosted-low); inner = inner-more new-node hosted (in-block .whole .inner) hosted-low }
+
+        like-now : AllLike hosted (take n (four root-object 0)) (rawsFrom W ps 0 n)
+        unfolding rawsFrom
+        like-now = like-all W hosted n (four root-object 0) ps few (held .full) (λ i l p.
+            ap (λ (x : Ref). follow hosted x p) (four-at root-object 0 i (omega arith)) ∙ sym (like-code i l .same p))
+
+        value-more : made ≡ canon (graph (obj (length hosted)) (more hosted new-node))
+        value-more =
+            made-raw W c ps n held
+            ∙ made-as c (rawsFrom W ps 0 n) (raws-whole W c ps n held) (graph (obj (length hosted)) (more hosted new-node)) whole-more
+            (ap (λ (x : Node). some (object (x .cls) (length (x .refs)))) (at-new new-node hosted (in-block .whole .inner) hosted-low ∙ top-is)
+            ∙ ap (λ (l : ℕ). some (object c l)) (omega (arith, length-take n (four root-object 0), few, parts-length W ps n held)))
+            (λ f p. follow-new new-node hosted (in-block .whole .inner) hosted-low f p ∙ ap (λ (x : Node). getElem? (x .refs) f >>= (λ s. follow hosted s p)) top-is
+            ∙ like-follow hosted (take n (four root-object 0)) (rawsFrom W ps 0 n) like-now f p)
+
+        root : Same (more hosted new-node) (obj 32) (made .nodes) (made .root)
+        root p =
+            ap (λ (k : ℕ). follow (more hosted new-node) (obj k) p) (sym size) ∙ sym (canon-same (graph (obj (length hosted)) (more hosted new-node)) whole-more p)
+            ∙ ap (λ (x : Graph). follow (x .nodes) (x .root) p) (sym value-more)
+
+        crowd : BlockIn W host made → Crowd made
+        crowd old =
+            crowd-topped new-node hosted (in-block .whole .inner) hosted-low (in-block .distinct) not-hosted made size
+            (λ y h. rb .stand made old all-within y (omega (arith, en .full z .0))) root
+
+        pub in-full : TriedIs W (make c (valuesFrom W ps 0 n)) host dst W2 NoRoom
+        in-full = tried-none W made host dst W2 both crowd
 
       pub in-room : 234 * dst + 234 ≤ length W → 234 * dst + 234 ≤ length W2
       in-room h = omega (arith, both .outside .same)
@@ -843,17 +966,19 @@ module _ (W : List ℕ) (ps : List Slot) (n dst : ℕ) (mk : Makeable W ps n dst
       anew-here v e = spare-made c W2 (Value v) (tried-here W1 ps n dst spare-makeable spare spare-above c W2 o to v e)
 
       module _ (t : OneOf (1 ∷ []) (tagOf TriedT.the-type o)) where
-        pub anew-makeable : Makeable W2 ps n dst
-        anew-makeable = tried-makeable W1 ps n dst spare-makeable spare spare-above c W2 o to t
+        made-whole : Whole (make c (valuesFrom W1 ps 0 n))
+        made-whole = subst Whole (sym (made-raw W1 c ps n spare-held)) (make-whole c (rawsFrom W1 ps 0 n) (raws-whole W1 c ps n spare-held))
 
-        pub anew-held : PartsHeld W2 ps n
-        anew-held = anew-makeable .held
+        large : 32 < length (make c (valuesFrom W1 ps 0 n) .nodes)
+        large = crowd-large _ made-whole (too-small W1 _ spare dst W2 o to t (λ y h. absurd (omega (arith, em .count))))
 
-        pub anew-room : 234 * dst + 234 ≤ length W2
-        anew-room = makeable-room W2 ps n dst anew-makeable
-
-        pub anew-laid : (W3 : List ℕ) (q : Made) → MadeIs W2 (make c (valuesFrom W2 ps 0 n)) dst W3 q → MadeIs W (make c (valuesFrom W ps 0 n)) dst W3 q
-        anew-laid W3 q m = spare-made c W3 q (tried-made W1 ps n dst spare-makeable spare spare-above c W2 o to t W3 q m)
+        pub anew-large : MadeIs W (make c (valuesFrom W ps 0 n)) dst W2 TooLarge
+        anew-large = spare-made c W2 TooLarge (record {
+          held = tt;
+          is = rw (lt-leb (length (make c (valuesFrom W1 ps 0 n) .nodes)) 32 large);
+          place = tt;
+          beneath = beneath-grown spare dst W1 W2 spare-above (no-room W1 _ spare dst W2 o to t);
+        })
 
 pub larger-read : (W : List ℕ) (v : ValueRef) (x i : ℕ) → Holds W v → v ≡ Object i x → 234 * x + 192 < length W
 larger-read W v x i h e = omega (arith, held-room W v x i h e)

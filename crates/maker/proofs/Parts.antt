@@ -5,15 +5,26 @@ use native.Mathlib.Omega.{arith}
 use mathlib.Core.Path.{_≡_, refl, sym, ap, _∙_, subst}
 use mathlib.Core.Bool.{Bool, true, false, not, false≢true}
 use mathlib.Core.List.{List}
+use mathlib.Core.Logic.{⊎-elim}
 use lib.ListN.{length, getD, replicate, length-replicate}
-use Rattle.canon.specs.Layout.{countIn, Block, Inside}
+use Rattle.cofj.specs.Values.{Graph, obj}
+use Rattle.cofj.specs.Unfolding.{InRange}
+use Rattle.canon.specs.Layout.{countIn, objectsIn, graphAt, Block, Inside}
+use Rattle.canon.proofs.Nodes.{ref-object}
 use Rattle.values.proofs.Tests.{not-false}
+use Rattle.values.proofs.Blocks.{size-in}
+use Rattle.maker.specs.Crowds.{In, BlockIn, Crowd}
 use Rattle.maker.specs.Merging.{CodeAs, Mapped, Imported}
 use Rattle.maker.specs.Sorting.{Sorted, Decided, codeAt, Listed, Reached, Sorting, SortedFrom}
 use Rattle.maker.specs.Seeking.{Telling, SameNumber}
 use Rattle.maker.specs.Joining.{Joining, Joined}
 use Rattle.maker.proofs.Turns.{zero-at}
+use Rattle.maker.proofs.Crowds.{in-same, in-within, crowd-joined}
 use Rattle.maker.proofs.Merges.{grown-none}
+
+not-true : (b : Bool) → not b ≡ true → b ≡ false
+not-true true e = absurd (false≢true e)
+not-true false e = refl
 
 -- ---- the same number
 module _ (W : List ℕ) (src i host : ℕ) (T : List ℕ) where
@@ -33,6 +44,10 @@ module _ (W : List ℕ) (src i host : ℕ) (T : List ℕ) where
 -- ---- nothing is known at first
 pub mapped-none : (W : List ℕ) (src host k : ℕ) → k ≡ 32 → Mapped W src host (replicate k 0)
 mapped-none W src host k e = record { table = length-replicate k 0 ∙ e; each = λ x y z. absurd (omega (arith, zero-at k x, z)) }
+
+-- no object of a block has the number 32
+no-room : (W : List ℕ) (src i host r : ℕ) → Block W host → CodeAs W src i host r → r ≡ 32 → ⊥
+no-room W src i host r bk c e = let z : r < countIn W host = subst (InRange (countIn W host)) (ref-object r (omega arith)) (c .low) in omega (arith, bk .small)
 
 -- ---- sorted out and joined
 module _ (W : List ℕ) (src i host : ℕ) (ib : Inside W src i) (bk : Block W host) (apart : (src ≡ host) → ⊥) (L : List ℕ) (m : ℕ) (rc : Reached W src i L m) where
@@ -62,8 +77,22 @@ module _ (W : List ℕ) (src i host : ℕ) (ib : Inside W src i) (bk : Block W h
         field x f p h l = subst (λ (y : ℕ). codeAt W src y f < 192 → Listed L m (codeAt W src y f)) (p .2) (rc .closed (p .0) f (p .1) h) l
 
     module _ (W′ T′ : List ℕ) (r : Bool) (j : Joined W src host T F W′ T′ r) where
+      -- what is listed stands in any value in which object i stands
+      led : (g : Graph) → In (objectsIn W src) i g → (x : ℕ) → ((getD F x 0 ≡ 0) → ⊥) → In (objectsIn W src) x g
+      led g at x d =
+          let p = s .sorting .listed x d in
+          in-within g (objectsIn W src) (objectsIn W src) i x at (subst (λ (y : ℕ). In (objectsIn W src) y (graphAt W src i)) (p .2) (rc .led (p .0) (p .1)))
+
+      too-many : r ≡ false → (g : Graph) → BlockIn W host g → In (objectsIn W src) i g → Crowd g
+      too-many e g old at =
+          let o = j .over e in
+          crowd-joined (objectsIn W src) (objectsIn W host) g (countIn W host) (size-in W host bk) (bk .distinct) old (o .from)
+          (λ k h l. s .sorting .sorted .fresh (o .from k) (o .new k h l)) (λ k h l. led g at (o .from k) (o .new k h l))
+          (λ k l hk lk hl ll z. o .one k l hk lk hl ll
+          (ib .block .distinct .apart (o .from k) (o .from l) (omega (arith, o .low k hk lk, size-in W src (ib .block))) (omega (arith, o .low l hl ll, size-in W src (ib .block))) z))
+
       pub bring-full : not r ≡ true → Imported W src i host W′ 32
-      bring-full _ = record { grown = j .grown; like = λ d. absurd (d refl) }
+      bring-full e = record { grown = j .grown; like = λ d. absurd (d refl); stand = λ d. absurd (d refl); over = λ _. too-many (not-true r e) }
 
       module _ (e : not r ≡ false) where
         here : (getD T′ i 0 ≡ 0) → ⊥
@@ -75,13 +104,20 @@ module _ (W : List ℕ) (src i host : ℕ) (ib : Inside W src i) (bk : Block W h
         pub bring-some : 1 ≤ getD T′ i 0
         bring-some = omega (arith, here)
 
+        is : CodeAs W′ src i host (getD T′ i 0 - 1)
+        is = j .mapped (not-false r e) .each i (getD T′ i 0 - 1) (omega (arith, here))
+
+        stand : (g : Graph) → BlockIn W host g → In (objectsIn W src) i g → BlockIn W′ host g
+        stand g old at y h = ⊎-elim (λ l. in-same g (objectsIn W host) (objectsIn W′ host) y y (old y l) (j .grown .trees (obj y) l))
+            (λ n. in-same g (objectsIn W src) (objectsIn W′ host) (n .0) y (led g at (n .0) (n .1)) (n .2)) (j .from (not-false r e) y h)
+
         pub bring-done : Imported W src i host W′ (getD T′ i 0 - 1)
-        bring-done = record { grown = j .grown; like = λ _. j .mapped (not-false r e) .each i (getD T′ i 0 - 1) (omega (arith, here)) }
+        bring-done = record { grown = j .grown; like = λ _. is; stand = λ _. stand; over = λ z. absurd (no-room W′ src i host (getD T′ i 0 - 1) (j .grown .block) is z) }
 
 -- ---- the whole
 module _ (W : List ℕ) (src i host : ℕ) (bk : Block W host) (k : ℕ) (e : k ≡ 32) (T : List ℕ) (r : Bool) (sn : SameNumber W src i host (replicate k 0) T r) where
   pub import-same : r ≡ true → Imported W src i host W i
-  import-same z = record { grown = grown-none host W bk; like = λ _. sn .yes z }
+  import-same z = record { grown = grown-none host W bk; like = λ _. sn .yes z; stand = λ _ g old at. old; over = λ u. absurd (no-room W src i host i bk (sn .yes z) u) }
 
   pub import-mapped : r ≡ false → Mapped W src host T
   import-mapped z = subst (Mapped W src host) (sym (sn .no z)) (mapped-none W src host k e)

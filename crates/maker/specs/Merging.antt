@@ -21,6 +21,7 @@ use Rattle.maker.specs.declared.merge.Tried.{Tried}
 use Rattle.maker.specs.declared.merge.Tried.the-variants.{Here, NoRoom}
 use Rattle.maker.specs.Laying.{MadeIs}
 use Rattle.maker.specs.Adding.{codesOf, partOf, Missed}
+use Rattle.maker.specs.Crowds.{In, Within, BlockIn, Crowd}
 
 -- block host has grown: what was in it unfolds as before, and the other blocks are as before
 pub record Grown (host : ℕ) (W W′ : List ℕ) : Type 0 where
@@ -67,10 +68,13 @@ pub record Mapped (W : List ℕ) (src host : ℕ) (M : List ℕ) : Type 0 where
   pub table : length M ≡ 32
   pub each : (x y : ℕ) → getD M x 0 ≡ y + 1 → CodeAs W src x host y
 
--- object i of block src, with what it leads to, is in the host; r is its number there, or 32 where there was no room
+-- object i of block src, with what it leads to, is in the host; r is its number there, or 32 where there was no room. A value g in which the host's objects and
+-- object i stand has the objects of the grown host in it, or too many
 pub record Imported (W : List ℕ) (src i host : ℕ) (W′ : List ℕ) (r : ℕ) : Type 0 where
   pub grown : Grown host W W′
   pub like : ((r ≡ 32) → ⊥) → CodeAs W′ src i host r
+  pub stand : ((r ≡ 32) → ⊥) → (g : Graph) → BlockIn W host g → In (objectsIn W src) i g → BlockIn W′ host g
+  pub over : r ≡ 32 → (g : Graph) → BlockIn W host g → In (objectsIn W src) i g → Crowd g
 
 -- ---- the parts
 -- the code r of block host unfolds as the value of v in the bytes W
@@ -81,6 +85,8 @@ pub record As (W : List ℕ) (v : ValueRef) (W′ : List ℕ) (host r : ℕ) : T
 pub record PartImported (W : List ℕ) (v : ValueRef) (host : ℕ) (W′ : List ℕ) (r : ℕ) : Type 0 where
   pub grown : Grown host W W′
   pub like : ((r ≡ 32) → ⊥) → As W v W′ host r
+  pub stand : ((r ≡ 32) → ⊥) → (g : Graph) → BlockIn W host g → Within (rawOf W v) g → BlockIn W′ host g
+  pub over : r ≡ 32 → (g : Graph) → BlockIn W host g → Within (rawOf W v) g → Crowd g
 
 -- the objects of block base are the first of block host, which may be base
 pub record Begun (W : List ℕ) (base host : ℕ) : Type 0 where
@@ -89,19 +95,27 @@ pub record Begun (W : List ℕ) (base host : ℕ) : Type 0 where
   pub most : countIn W base ≤ countIn W host
   pub trees : (r : Ref) → InRange (countIn W base) r → Same (objectsIn W base) r (objectsIn W host) r
 
+-- the first n parts stand in g
+abbrev pub AllWithin : List ℕ → List Slot → ℕ → Graph → Type 0
+AllWithin W ps n g = (i : ℕ) → i < n → Within (rawOf W (partOf ps i)) g
+
 -- the number w has the codes of the parts from i on, n in all; the codes after them are 192
 pub record RootBrought (W : List ℕ) (ps : List Slot) (n i : ℕ) (W′ : List ℕ) (host w : ℕ) : Type 0 where
   pub done : (j : ℕ) → i + j < n → As W (partOf ps (i + j)) W′ host (getD (codesOf w) j 0)
   pub spare : (j : ℕ) → n ≤ i + j → j < 4 → getD (codesOf w) j 0 ≡ 192
+  pub stand : (g : Graph) → BlockIn W host g → AllWithin W ps n g → BlockIn W′ host g
 
 pub record PartsBrought (W : List ℕ) (ps : List Slot) (n host : ℕ) (W′ : List ℕ) (w : ℕ) : Type 0 where
   pub grown : Grown host W W′
   pub done : ((w % 256 ≡ 32) → ⊥) → RootBrought W ps n 0 W′ host w
+  pub over : w % 256 ≡ 32 → (g : Graph) → BlockIn W host g → AllWithin W ps n g → Crowd g
 
--- what trying a host answers: the value, in block dst or below, or only a host that has grown
+-- what trying a host answers: the value, in block dst or below, or only a host that has grown; a host whose objects all stand in the value is too small only for a
+-- value that is too large
 pub record TriedIs (W : List ℕ) (v : Graph) (host dst : ℕ) (W′ : List ℕ) (o : Tried) : Type 0 where
   pub here : (r : ValueRef) → o ≡ Here r → MadeIs W v dst W′ (Value r)
   pub none : o ≡ NoRoom → Grown host W W′
+  pub over : o ≡ NoRoom → BlockIn W host v → Crowd v
 
 -- ---- the host
 -- whether one of the first n parts is an object of block d

@@ -123,7 +123,7 @@ pub(crate) fn make_anew(work: &mut [u8], c: u8, parts: &[u32], n: u8, dst: u16) 
     empty(work, SPARE);
     let o = try_in(work, c, parts, n, SPARE, SPARE, dst);
     let Tried::Here(v) = o else {
-        return make_laid(work, c, parts, n, dst);
+        return Made::TooLarge;
     };
     Made::Value(v)
 }

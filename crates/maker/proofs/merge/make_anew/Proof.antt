@@ -3,7 +3,6 @@ use Rattle.maker.proofs.merge.make_anew.Statement.{statement}
 use Rattle.maker.proofs.merge.make_anew.Tie as tie
 use Rattle.maker.proofs.merge.make_anew.Reads as reads
 use Rattle.maker.proofs.merge.make_anew.Lts as lts
-use Rattle.maker.proofs.make.make_laid.Reads as make-laid-reads
 use Rattle.maker.proofs.merge.try_in.Reads as try-in-reads
 use Rattle.maker.proofs.over.empty.Reads as empty-reads
 use Rattle.maker.proofs.Merges as laws
@@ -11,19 +10,8 @@ use Rattle.maker.proofs.Merges as laws
 try-in-requires : tie.Need-try-in-requires
 try-in-requires c κs = (search laws.spare-held, search laws.makeable-few, search laws.spare-begun, search laws.spare-above, search laws.spare-dst, search needs)
 
-make-laid-requires : tie.Need-make-laid-requires
-make-laid-requires c κs =
-    let tr = c .before .before .before .before .before in
-    let em = tr .before .before .before .before in
-    let st = em .before .before .before .before in (
-      laws.anew-held _ _ _ _ (st .pre .0) _ (em .empty .ensures) _ _ _ (tr .try-in .ensures) (c .before .before .match .keys2),
-      st .pre .0 .few,
-      laws.anew-room _ _ _ _ (st .pre .0) _ (em .empty .ensures) _ _ _ (tr .try-in .ensures) (c .before .before .match .keys2),
-      st .pre .1,
-    )
-
 returns : tie.Need-returns
-returns c = search laws.anew-laid
+returns c = search laws.anew-large
 
 returns-2 : tie.Need-returns-2
 returns-2 c = search laws.anew-here
@@ -36,7 +24,6 @@ make-anew-spec =
     try-in-requires
     (λ c. search needs)
     (λ c. search needs)
-    make-laid-requires
     (λ c. search needs)
     returns
     (λ c. search needs)
