@@ -22,7 +22,7 @@ use Rattle.maker.specs.declared.Made.the-variants.{Value}
 use Rattle.maker.specs.Laying.{valuesFrom, MadeIs}
 use Rattle.maker.specs.Adding.{codesOf, objectOf}
 use Rattle.maker.specs.Bares.{bareObject, Preset, Bares, LaidBares}
-use Rattle.maker.proofs.Lays.{made-here}
+use Rattle.maker.proofs.Makes.{made-here}
 use Rattle.maker.proofs.Beside.{bare-root, bare-codes, no-parts, each-none, beside-value}
 
 -- ---- the table: a test of the numbers below n, and what it tells of each

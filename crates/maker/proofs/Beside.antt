@@ -37,7 +37,7 @@ use Rattle.maker.specs.declared.Made.the-variants.{Value}
 use Rattle.maker.specs.Laying.{valuesFrom, rawsFrom, PartsHeld, Makeable, MadeIs}
 use Rattle.maker.specs.Adding.{codesOf, objectOf, roots, RootObject, RootCodes, Missed, Found, Emptied, Appended, Added, isObject, blockOf, standsIn, partOf, allStand, someObject, firstBlock}
 use Rattle.maker.proofs.Codes.{object-class, object-count, object-code, object-length, object-whole, spare-codes, first-code, next-code, codes-packed, objectPut, object-put}
-use Rattle.maker.proofs.Lays.{none-slot, raws-whole, made-raw, made-here, made-brought}
+use Rattle.maker.proofs.Makes.{none-slot, raws-whole, made-raw, made-here, made-brought}
 use Rattle.maker.proofs.Adding.{more, inner-more, distinct-more, Fit, AllFit, roots-low, top, make-found, make-new}
 
 -- ---- the new object

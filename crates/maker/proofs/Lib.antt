@@ -1,5 +1,5 @@
 pub mod Adding
-pub mod Lays
+pub mod Makes
 pub mod Codes
 pub mod Beside
 pub mod Fresh
@@ -11,4 +11,4 @@ pub mod Reaches
 pub mod Seeks
 pub mod Sorts
 pub mod Joins
-pub mod Parts
+pub mod Imports

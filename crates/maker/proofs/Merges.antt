@@ -51,7 +51,7 @@ use Rattle.maker.specs.Sorting.{codeAt, TurnedAs}
 use Rattle.maker.specs.Crowds.{In, Within, BlockIn, Crowd}
 use Rattle.maker.proofs.Crowds.{in-same, within-same, within-field, crowd-joined, crowd-topped, crowd-large}
 use Rattle.maker.proofs.Codes.{object-class, object-count, object-code, object-length, codes-packed, spare-codes, first-code, next-code, object-bytes, object-read}
-use Rattle.maker.proofs.Lays.{raws-whole, made-raw, parts-length, beneath-more, made-brought}
+use Rattle.maker.proofs.Makes.{raws-whole, made-raw, parts-length, beneath-more, made-brought}
 use Rattle.maker.proofs.Adding.{more, size-more, inner-more, old-tree, at-new, follow-new}
 use Rattle.maker.proofs.Turns.{leaf-low, low-refs, take-all, turned-fits, turned-same, turned-fresh}
 use Rattle.maker.proofs.Beside.{outside-more, add-here, objects-are, block-added}

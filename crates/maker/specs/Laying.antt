@@ -1,4 +1,4 @@
--- Values laid side by side below a new object.
+-- A new object: its parts, what making asks, and what it answers.
 use Prim.Native.Nat.{ℕ, _+_, _*_, _≤_, _<_}
 use mathlib.Core.Path.{_≡_}
 use mathlib.Core.Bool.{cond}
@@ -6,8 +6,8 @@ use mathlib.Core.List.{List, [], _∷_, map}
 use mathlib.Core.Option.{Option, none, some}
 use lib.Dec.{leb}
 use lib.ListN.{length, getD, take, drop}
-use Rattle.cofj.specs.Values.{undet, Node, node, Graph, rename, renameNode, lay}
-use Rattle.canon.specs.Layout.{refOf, nodesIn, Packed, Beneath}
+use Rattle.cofj.specs.Values.{Graph}
+use Rattle.canon.specs.Layout.{Beneath}
 use Rattle.values.specs.declared.ValueRef.{ValueRef}
 use Rattle.values.specs.declared.ValueRef.the-variants.{Object}
 use Rattle.values.specs.Refs.{refIn}
@@ -45,42 +45,6 @@ pub record Makeable (W : List ℕ) (ps : List Slot) (n dst : ℕ) : Type 0 where
   pub below : (i : ℕ) → i < n → Low spare (getD ps i (record { r = Object 0 0 }) .r)
   pub under : dst < spare
   pub room : 234 * spare + 234 ≤ length W
-
--- the objects ns, moved to `at`; the bytes before are R₀'s
-pub record LaidNodes (ns : List Node) (at : ℕ) (R₀ R : List ℕ) (n : ℕ) : Type 0 where
-  pub same : length R ≡ length R₀
-  pub count : n ≡ length ns
-  pub few : n ≤ 32
-  pub nodes : nodesIn R (6 * at) (length ns) ≡ map (renameNode (λ k. at + k)) ns
-  pub packed : (j : ℕ) → j < length ns → Packed R (6 * at + 6 * j)
-  pub kept : (p : ℕ) → p < 6 * at → getD R p 0 ≡ getD R₀ p 0
-
--- the objects of g, moved to `at`, and its root for field i of object 0
-pub record LaidOne (g : Graph) (at i : ℕ) (R₀ R : List ℕ) (t : ℕ) : Type 0 where
-  pub same : length R ≡ length R₀
-  pub next : t ≡ at + length (g .nodes)
-  pub few : length (g .nodes) ≤ 32
-  pub nodes : nodesIn R (6 * at) (length (g .nodes)) ≡ map (renameNode (λ k. at + k)) (g .nodes)
-  pub packed : (j : ℕ) → j < length (g .nodes) → Packed R (6 * at + 6 * j)
-  pub code : refOf (getD R (2 + i) 0) ≡ rename (λ k. at + k) (g .root)
-  pub kept : (p : ℕ) → p < 6 * at → ((p ≡ 2 + i) → ⊥) → getD R p 0 ≡ getD R₀ p 0
-
--- the same for a list of values, for the fields from i on
-pub record LaidAll (gs : List Graph) (at i : ℕ) (R₀ R : List ℕ) (t : ℕ) : Type 0 where
-  pub same : length R ≡ length R₀
-  pub next : t ≡ at + length (lay at gs .all)
-  pub few : length (lay at gs .all) ≤ 32 * length gs
-  pub nodes : nodesIn R (6 * at) (length (lay at gs .all)) ≡ lay at gs .all
-  pub packed : (j : ℕ) → j < length (lay at gs .all) → Packed R (6 * at + 6 * j)
-  pub codes : (j : ℕ) → j < length gs → refOf (getD R (2 + i + j) 0) ≡ getD (lay at gs .roots) j undet
-  pub low : (p : ℕ) → p < 2 + i → p < 6 * at → getD R p 0 ≡ getD R₀ p 0
-  pub high : (p : ℕ) → 2 + i + length gs ≤ p → p < 6 * at → getD R p 0 ≡ getD R₀ p 0
-
--- a new object and what is below it
-pub record Built (c : ℕ) (gs : List Graph) (R : List ℕ) (t : ℕ) : Type 0 where
-  pub nodes : nodesIn R 0 t ≡ node c (lay 1 gs .roots) ∷ lay 1 gs .all
-  pub few : t ≤ 129
-  pub packed : (j : ℕ) → j < t → Packed R (6 * j)
 
 -- what making answers
 abbrev pub madeRef : Made → Option ValueRef

@@ -1,6 +1,6 @@
 // A new object over values, in a block of the work buffer.
 // Not here: what else is done with values (values), which objects are equal (canon), which blocks are free.
-pub mod lay; // values laid side by side below a new object
+pub mod parts; // the parts of a new object, and where they lie
 pub mod over; // a new object beside the objects of one block
 pub mod enter; // an object among the objects of a block
 pub mod reach; // what an object of a block leads to

@@ -1,18 +1,17 @@
 // A new object: how it is made, by what its parts are. Not here: each way.
 use crate::Made;
-use crate::lay::build;
-use crate::lay::part_at;
 use crate::merge::make_anew;
 use crate::merge::make_apart;
 use crate::merge::make_in;
-use crate::merge::some_in;
 use crate::over::add;
 use crate::over::empty;
 use crate::over::find;
 use crate::over::make_alone;
 use crate::over::root_codes;
-use canon::colours::colour;
-use canon::number::put;
+use crate::parts::first_block;
+use crate::parts::some_in;
+use crate::parts::some_object;
+use crate::parts::together;
 use values::ValueRef;
 use values::value::bring;
 ghost use mathlib.Core.Path.{_≡_};
@@ -24,92 +23,6 @@ ghost use Rattle.maker.specs.Laying.{partsOf, PartsHeld, Makeable, value
 ghost use Rattle.canon.specs.Layout.{Block};
 ghost use Rattle.maker.specs.Adding.{someObject, blockOf, firstBlock, standsIn, allStand};
 ghost use Rattle.maker.specs.Merging.{someIn};
-
-// The parts' objects laid side by side, and equal ones found.
-pub fn make_laid(work: &mut [u8], c: u8, parts: &[u32], n: u8, dst: u16) -> Made
-    requires { ⌜ PartsHeld (now work) (partsOf (now parts)) n × (n ≤ 4) × (234 * dst + 234 ≤ length (now work)) × (4 ≤ length (now parts)) ⌝ }
-    ensures { λ o. ⌜ MadeIs (now (work .entry)) (make c (valuesFrom (now (work .entry)) (partsOf (now (parts .entry))) 0 n)) dst (now (work .exit)) o ⌝ }
-{
-    let mut raw = [0u8; 1536];
-    let t = build(work, c, parts, n, &mut raw);
-    let mut cs = [0u8; 256];
-    colour(&raw, t, &mut cs);
-    let m = put(&raw, t, &cs, 0, work, dst);
-    if 32 < m {
-        return Made::TooLarge;
-    }
-    Made::Value(ValueRef::Object(0, dst))
-}
-
-// Whether one of the parts is an object.
-pub fn some_object(parts: &[u32], n: u8) -> bool
-    requires { ⌜ (n ≤ 4) × (4 ≤ length (now parts)) ⌝ }
-    ensures { λ r. ⌜ r ≡ someObject (partsOf (now (parts .entry))) n ⌝ }
-{
-    let mut i: u8 = 0;
-    while i < n {
-        let v = part_at(parts, i);
-        if let ValueRef::Object(_, _) = v {
-            return true;
-        }
-        i += 1;
-    }
-    false
-}
-
-// The block of a value that is an object; 0 for another.
-pub fn block_of(v: ValueRef) -> u16
-    ensures { λ b. ⌜ b ≡ blockOf v ⌝ }
-{
-    let ValueRef::Object(_, b) = v else {
-        return 0;
-    };
-    b
-}
-
-// The block of the first part that is an object of a block other than 0; 0 if there is none.
-pub fn first_block(parts: &[u32], n: u8) -> u16
-    requires { ⌜ (n ≤ 4) × (4 ≤ length (now parts)) ⌝ }
-    ensures { λ b. ⌜ b ≡ firstBlock (partsOf (now (parts .entry))) n ⌝ }
-{
-    let mut i: u8 = 0;
-    while i < n {
-        let v = part_at(parts, i);
-        let b = block_of(v);
-        if b != 0 {
-            return b;
-        }
-        i += 1;
-    }
-    0
-}
-
-// Whether a part lies in block b, or is no object.
-pub fn stands(v: ValueRef, b: u16) -> bool
-    ensures { λ r. ⌜ r ≡ standsIn b v ⌝ }
-{
-    match v {
-        ValueRef::Object(_, x) => x == b,
-        ValueRef::Mark(_) => true,
-        ValueRef::Undetermined => true,
-    }
-}
-
-// Whether each part lies in block b, or is no object.
-pub fn together(parts: &[u32], n: u8, b: u16) -> bool
-    requires { ⌜ (n ≤ 4) × (4 ≤ length (now parts)) ⌝ }
-    ensures { λ r. ⌜ r ≡ allStand (partsOf (now (parts .entry))) n b ⌝ }
-{
-    let mut i: u8 = 0;
-    while i < n {
-        let v = part_at(parts, i);
-        if !stands(v, b) {
-            return false;
-        }
-        i += 1;
-    }
-    true
-}
 
 // A new object whose parts lie in block b, or are no objects.
 pub fn make_beside(work: &mut [u8], c: u8, parts: &[u32], n: u8, b: u16, dst: u16) -> Made

@@ -3,11 +3,11 @@
 use crate::Made;
 use crate::enter::enter;
 use crate::enter::enter_over;
-use crate::lay::part_at;
-use crate::make::make_laid;
 use crate::over::UNUSED;
 use crate::over::empty;
 use crate::part::import;
+use crate::parts::largest;
+use crate::parts::part_at;
 use canon::bytes::four_at;
 use values::ValueRef;
 use values::value::bring;
@@ -146,65 +146,6 @@ pub(crate) fn make_in(
         return make_anew(work, c, parts, n, dst);
     };
     Made::Value(v)
-}
-
-// The block of v, if v is an object of a block other than 0 and that block has more objects than block b; else b.
-pub fn larger(work: &[u8], v: ValueRef, b: u16) -> u16
-    requires { ⌜ Holds (now work) v × Block (now work) b ⌝ }
-    ensures { λ r. ⌜ r ≡ largerOf (now (work .entry)) v b ⌝ }
-{
-    let ValueRef::Object(_, x) = v else {
-        return b;
-    };
-    if x == 0 {
-        return b;
-    }
-    if work[234 * (b as usize) + 192] < work[234 * (x as usize) + 192] {
-        return x;
-    }
-    b
-}
-
-// The block with the most objects, of block b and those of the parts but block 0.
-pub fn largest(work: &[u8], parts: &[u32], n: u8, b: u16) -> u16
-    requires { ⌜ PartsHeld (now work) (partsOf (now parts)) n × (n ≤ 4) × Block (now work) b × (4 ≤ length (now parts)) ⌝ }
-    ensures { λ r. ⌜ r ≡ largestOf (now (work .entry)) (partsOf (now (parts .entry))) n b ⌝ }
-{
-    let mut d = b;
-    let mut i: u8 = 0;
-    while i < n {
-        let v = part_at(parts, i);
-        d = larger(work, v, d);
-        i += 1;
-    }
-    d
-}
-
-// Whether v is an object of block d.
-pub fn lies_in(v: ValueRef, d: u16) -> bool
-    ensures { λ r. ⌜ r ≡ liesIn d v ⌝ }
-{
-    match v {
-        ValueRef::Object(_, x) => x == d,
-        ValueRef::Mark(_) => false,
-        ValueRef::Undetermined => false,
-    }
-}
-
-// Whether one of the parts is an object of block d. Most often the last is.
-pub fn some_in(parts: &[u32], n: u8, d: u16) -> bool
-    requires { ⌜ (n ≤ 4) × (4 ≤ length (now parts)) ⌝ }
-    ensures { λ r. ⌜ r ≡ someIn (partsOf (now (parts .entry))) n d ⌝ }
-{
-    let mut i: u8 = n;
-    while 0 < i {
-        i -= 1;
-        let v = part_at(parts, i);
-        if lies_in(v, d) {
-            return true;
-        }
-    }
-    false
 }
 
 // A new object whose parts are brought into a copy of block b, in block `dst`, where no part lies.

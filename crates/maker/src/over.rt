@@ -1,7 +1,7 @@
 // A new object beside the objects of the block where its parts lie, or alone in a block. Not here: parts in several blocks.
 // The new object goes as numbers: its class c, how many fields it has, n, and its four codes as one number w, the first the lowest byte.
 use crate::Made;
-use crate::lay::part_at;
+use crate::parts::part_at;
 use canon::bytes::four_at;
 use values::ValueRef;
 use values::value::copy_block;

@@ -4,7 +4,7 @@ use Rattle.maker.proofs.over.code_of.Tie as tie
 use Rattle.maker.proofs.over.code_of.Reads as reads
 use Rattle.maker.proofs.over.code_of.Lts as lts
 use native.Mathlib.Omega.{arith}
-use Rattle.maker.proofs.Lays as lays
+use Rattle.maker.proofs.Makes as lays
 use Rattle.maker.proofs.Beside as laws
 
 add-result : tie.Need-add-result

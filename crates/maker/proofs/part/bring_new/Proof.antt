@@ -6,7 +6,7 @@ use Rattle.maker.proofs.part.bring_new.Lts as lts
 use Rattle.maker.proofs.join.join.Reads as join-reads
 use Rattle.maker.proofs.reach.reach.Reads as reach-reads
 use Rattle.maker.proofs.sort.sort.Reads as sort-reads
-use Rattle.maker.proofs.Parts as laws
+use Rattle.maker.proofs.Imports as laws
 
 sort-requires : tie.Need-sort-requires
 sort-requires c κs = search laws.bring-sorting

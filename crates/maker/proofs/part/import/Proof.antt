@@ -6,7 +6,7 @@ use Rattle.maker.proofs.part.import.Reads as reads
 use Rattle.maker.proofs.part.import.Lts as lts
 use Rattle.maker.proofs.part.bring_new.Reads as bring-new-reads
 use Rattle.maker.proofs.part.same_number.Reads as same-number-reads
-use Rattle.maker.proofs.Parts as laws
+use Rattle.maker.proofs.Imports as laws
 use Rattle.maker.proofs.Turns as tables
 
 same-number-requires : tie.Need-same-number-requires

@@ -5,7 +5,7 @@ use Rattle.maker.proofs.part.same_number.Reads as reads
 use Rattle.maker.proofs.part.same_number.Lts as lts
 use Rattle.maker.proofs.seek.like.Reads as like-reads
 use Rattle.maker.proofs.seek.tell.Reads as tell-reads
-use Rattle.maker.proofs.Parts as laws
+use Rattle.maker.proofs.Imports as laws
 
 returns : tie.Need-returns
 returns c = search laws.number-none

@@ -1,15 +1,15 @@
-use Rattle.maker.proofs.merge.largest.Statement.{statement}
-use Rattle.maker.proofs.merge.largest.Tie as tie
-use Rattle.maker.proofs.merge.largest.Reads as reads
-use Rattle.maker.proofs.merge.largest.Lts as lts
-use Rattle.maker.proofs.merge.larger.Reads as larger-reads
-use Rattle.maker.proofs.lay.part_at.Reads as part-at-reads
+use Rattle.maker.proofs.parts.largest.Statement.{statement}
+use Rattle.maker.proofs.parts.largest.Tie as tie
+use Rattle.maker.proofs.parts.largest.Reads as reads
+use Rattle.maker.proofs.parts.largest.Lts as lts
+use Rattle.maker.proofs.parts.larger.Reads as larger-reads
+use Rattle.maker.proofs.parts.part_at.Reads as part-at-reads
 use borrow.Author.Needs.{needs}
 use Prim.Native.Nat.{_≤_, _-_}
 use Rattle.maker.specs.Laying.{partsOf}
 use mathlib.Core.Path.{_≡_}
 use Rattle.maker.specs.Merging.{largestOf}
-use Rattle.maker.proofs.Lays as lays
+use Rattle.maker.proofs.Makes as lays
 use Rattle.maker.proofs.Merges as laws
 
 abbrev Inv-loop : tie.InvT-loop

@@ -1,8 +1,8 @@
 use borrow.Author.Needs.{needs}
-use Rattle.maker.proofs.merge.larger.Statement.{statement}
-use Rattle.maker.proofs.merge.larger.Tie as tie
-use Rattle.maker.proofs.merge.larger.Reads as reads
-use Rattle.maker.proofs.merge.larger.Lts as lts
+use Rattle.maker.proofs.parts.larger.Statement.{statement}
+use Rattle.maker.proofs.parts.larger.Tie as tie
+use Rattle.maker.proofs.parts.larger.Reads as reads
+use Rattle.maker.proofs.parts.larger.Lts as lts
 use Rattle.maker.proofs.Merges as laws
 
 returns : tie.Need-returns

@@ -1,9 +1,9 @@
 -- The block of a value: a law for each return.
 use borrow.Author.Needs.{needs}
-use Rattle.maker.proofs.make.block_of.Statement.{statement}
-use Rattle.maker.proofs.make.block_of.Tie as tie
-use Rattle.maker.proofs.make.block_of.Reads as reads
-use Rattle.maker.proofs.make.block_of.Lts as lts
+use Rattle.maker.proofs.parts.block_of.Statement.{statement}
+use Rattle.maker.proofs.parts.block_of.Tie as tie
+use Rattle.maker.proofs.parts.block_of.Reads as reads
+use Rattle.maker.proofs.parts.block_of.Lts as lts
 use Rattle.maker.proofs.Beside as laws
 
 returns : tie.Need-returns

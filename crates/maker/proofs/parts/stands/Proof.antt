@@ -1,8 +1,8 @@
 use borrow.Author.Needs.{needs}
-use Rattle.maker.proofs.make.stands.Statement.{statement}
-use Rattle.maker.proofs.make.stands.Tie as tie
-use Rattle.maker.proofs.make.stands.Reads as reads
-use Rattle.maker.proofs.make.stands.Lts as lts
+use Rattle.maker.proofs.parts.stands.Statement.{statement}
+use Rattle.maker.proofs.parts.stands.Tie as tie
+use Rattle.maker.proofs.parts.stands.Reads as reads
+use Rattle.maker.proofs.parts.stands.Lts as lts
 use Rattle.maker.proofs.Beside as laws
 
 returns : tie.Need-returns

@@ -1,9 +1,9 @@
-use Rattle.maker.proofs.make.together.Statement.{statement}
-use Rattle.maker.proofs.make.together.Tie as tie
-use Rattle.maker.proofs.make.together.Reads as reads
-use Rattle.maker.proofs.make.together.Lts as lts
-use Rattle.maker.proofs.make.stands.Reads as stands-reads
-use Rattle.maker.proofs.lay.part_at.Reads as part-at-reads
+use Rattle.maker.proofs.parts.together.Statement.{statement}
+use Rattle.maker.proofs.parts.together.Tie as tie
+use Rattle.maker.proofs.parts.together.Reads as reads
+use Rattle.maker.proofs.parts.together.Lts as lts
+use Rattle.maker.proofs.parts.stands.Reads as stands-reads
+use Rattle.maker.proofs.parts.part_at.Reads as part-at-reads
 use borrow.Author.Needs.{needs}
 use Prim.Native.Nat.{_≤_, _-_}
 use Rattle.maker.specs.Laying.{partsOf}
