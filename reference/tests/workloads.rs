@@ -68,4 +68,9 @@ fn growth_rows_end_as_they_say() {
             .iter()
             .for_each(assert_ends_as_it_says);
     }
+    for objects in 1..=31 {
+        workloads::by_objects_of_a_ring(objects)
+            .iter()
+            .for_each(assert_ends_as_it_says);
+    }
 }

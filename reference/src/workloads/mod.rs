@@ -6,8 +6,11 @@
 //! it is done again and again, so that evaluation outweighs reading.
 
 mod examples;
+mod laying;
 mod lists;
 mod nested;
+mod over_rings;
+pub mod parts;
 mod repeat;
 mod rings;
 
@@ -15,6 +18,9 @@ use crate::calls::Mode;
 use crate::generator::random::Random;
 use crate::generator::{self, Kind};
 pub use lists::{list_built, list_walked};
+use over_rings::{closing_each, list_of_rings, pair_of_rings, ring_twice};
+use parts::{Parts, Shape, Word};
+use rings::ring_closing_to;
 pub use rings::{ring_built, ring_walked};
 
 #[derive(Clone, Copy, Debug, PartialEq, Eq)]
@@ -87,7 +93,33 @@ pub fn all() -> Vec<Workload> {
     }
     all.extend(examples::all());
     all.extend(nested::all());
+    all.extend(equal_objects());
     all
+}
+
+/// Where equal objects have to be found among many.
+fn equal_objects() -> Vec<Workload> {
+    let among_others = Parts {
+        shape: Shape::Ring,
+        word: Word::Alike,
+        objects: 1,
+        turn: 0,
+        beside: 31,
+        count: 4,
+    };
+    let name = "21 new objects over loops";
+    vec![
+        pair_of_rings(4),
+        pair_of_rings(8),
+        pair_of_rings(15),
+        ring_twice(31),
+        list_of_rings(6),
+        ring_closing_to(16, Times(9, 23)),
+        ring_closing_to(8, Times(9, 23)),
+        ring_closing_to(1, Times(9, 23)),
+        closing_each(10, Times(1, 23)),
+        among_others.workload(name.to_string(), 1_000),
+    ]
 }
 
 /// The rows for time against fuel: each runs out of it.
@@ -109,6 +141,11 @@ pub fn by_objects(objects: usize) -> Vec<Workload> {
         ring_built(objects, Times(1, 23)),
         ring_walked(objects, Times(5, 23)),
     ]
+}
+
+/// The row for a new object over rings against their objects, up to 31.
+pub fn by_objects_of_a_ring(objects: usize) -> Vec<Workload> {
+    vec![ring_twice(objects)]
 }
 
 /// The overhead of one call, and reading and checking a full-size text. A run

@@ -15,6 +15,7 @@ pub fn all() -> Vec<Workload> {
         recursion(Times(23, 23)),
         compared(Times(23, 23)),
         compared_in_full(Times(23, 23)),
+        compared_copies(Times(3, 11)),
     ]
 }
 
@@ -149,4 +150,24 @@ fn compared_in_full(times: Times) -> Workload {
     let text = p.text(start(holder(), vec![chain, ring()]));
     let spends = 5 + 4 + 5 + fuel(times, DEPTH);
     Workload::checked("compared: ring and 32 alike".to_string(), text, spends, 32)
+}
+
+/// search(r, ..) on a receiver and two arguments of 28 objects that are equal in
+/// every call, but new copies: each was put into an object and taken out again.
+fn compared_copies(times: Times) -> Workload {
+    let mut p = ring_of_13();
+    let node = plus(NODE);
+    let holding = p.class(0, &[node, minus(0)]);
+    let any = (minus(0), minus(0));
+    let copied = |value| field(0, new(holding, [value, new(HOLDER, [])]));
+    let arguments = [copied(param(0)), copied(param(1)), field(0, param(2))];
+    let left = call(SEARCH, copied(this()), arguments);
+    p.method((NODE, SEARCH), any, &[node; 3], (left, new(HOLDER, [])));
+    let work = call(SEARCH, param(0), [param(0), param(0), param(1)]);
+    let start = repeated(&mut p, HOLDER, &[node, node], work, times);
+    let five = |inner| call(FIVE, new(HOLDER, []), [inner]);
+    let chain = five(five(five(ring())));
+    let text = p.text(start(new(HOLDER, []), vec![chain, ring()]));
+    let spends = 5 + 3 + 5 + fuel(times, DEPTH);
+    Workload::checked("compared: copies of 28".to_string(), text, spends, 1)
 }

@@ -1,9 +1,11 @@
 //! Rings of so many objects, each leading to the next, all of one class but
-//! one, so that no two of them are equal.
+//! one, so that no two of them are equal; or one of each so many, so that the
+//! ring closes to fewer objects.
 
+use super::laying::{Row, calls_to_lay};
 use super::repeat::{fuel, repeated};
 use super::{ONCE, Times, Workload};
-use crate::builder::{Program, call, field, minus, minus_open, new, param, plus, res, this};
+use crate::builder::{Program, call, field, minus, new, param, plus, this};
 
 const NODE: u8 = 1;
 const COMMON: u8 = 2;
@@ -16,57 +18,66 @@ const BUILT: u8 = 1;
 const HOP: u8 = 2;
 const AROUND: u8 = 3;
 
-/// The classes, and methods that build a ring: 4 objects a call.
-fn building(objects: usize) -> Program {
+/// The classes, and methods that build a ring: 4 objects a call, one of each
+/// `period` unlike the others.
+fn building(objects: usize, period: usize) -> Program {
     let mut p = Program::start();
     p.class(0, &[plus(NODE)]);
     p.class(NODE, &[]);
     p.class(NODE, &[]);
     p.class(0, &[]);
-    let ring = (plus(NODE), minus_open(NODE));
-    for first in (0..objects).step_by(4) {
-        let count = (objects - first).min(4);
-        let place = LAY + (first / 4) as u8;
-        let next = if first + count == objects {
-            LAY
-        } else {
-            place + 1
-        };
-        let left = (0..count).fold(call(next, this(), []), |rest, laid| {
-            let class = if first + laid == 0 { OTHER } else { COMMON };
-            new(class, [rest])
-        });
-        p.method((HOLDER, place), ring, &[], (left, res()));
-    }
+    let row = Row {
+        holder: HOLDER,
+        name: LAY,
+        base: NODE,
+        params: &[],
+    };
+    let other = period.min(4) - 1;
+    let class = |place: usize| match place % period == other {
+        true => OTHER,
+        false => COMMON,
+    };
+    let classes: Vec<u8> = (0..objects).map(class).collect();
+    row.ring(&mut p, &classes, |class, next| new(class, [next]));
     p
 }
 
 /// One call for each four objects, and the one that is met again.
 fn calls_to_build(objects: usize) -> usize {
-    objects.div_ceil(4) + 1
+    calls_to_lay(objects) + 1
 }
 
 /// A ring of 1 to 32 objects, closed by the call that is met again.
 pub fn ring_built(objects: usize, times: Times) -> Workload {
-    let mut p = building(objects);
-    let spends = calls_to_build(objects);
     if times == ONCE {
-        let text = p.text(call(LAY, new(HOLDER, []), []));
+        let text = building(objects, objects).text(call(LAY, new(HOLDER, []), []));
         let name = format!("ring of {objects}, built once");
-        return Workload::checked(name, text, spends, objects);
+        return Workload::checked(name, text, calls_to_build(objects), objects);
     }
+    let name = format!("ring of {objects}, built");
+    built(name, objects, objects, times)
+}
+
+/// A ring of 32 objects, of which those a period apart are equal.
+pub fn ring_closing_to(period: usize, times: Times) -> Workload {
+    let name = format!("ring of 32, closes to {period}");
+    built(name, 32, period, times)
+}
+
+fn built(name: String, objects: usize, period: usize, times: Times) -> Workload {
+    let mut p = building(objects, period);
     // In a body the ring counts as open; this method's answer does not.
     let any = (minus(0), minus(0));
     p.method((HOLDER, BUILT), any, &[], (call(LAY, this(), []), this()));
     let start = repeated(&mut p, HOLDER, &[], call(BUILT, this(), []), times);
     let text = p.text(start(new(HOLDER, []), vec![]));
-    let name = format!("ring of {objects}, built");
-    Workload::checked(name, text, fuel(times, spends + 1), objects)
+    let spends = fuel(times, calls_to_build(objects) + 1);
+    Workload::checked(name, text, spends, period)
 }
 
 /// A ring of 1 to 32 objects, built once, then gone round: 20 fields a time.
 pub fn ring_walked(objects: usize, times: Times) -> Workload {
-    let mut p = building(objects);
+    let mut p = building(objects, objects);
     let node = (plus(NODE), plus(NODE));
     let hop = (0..5).fold(this(), |node, _| field(0, node));
     p.method((NODE, HOP), node, &[], (hop, this()));

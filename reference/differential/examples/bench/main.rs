@@ -2,6 +2,7 @@
 //! simple mode, on the same inputs in one run.
 //!
 //!     cargo run --release --offline --example bench            the tables
+//!     cargo run --release --offline --example bench like WORD  rows with this in their names
 //!     cargo run --release --offline --example bench rows       names of the rows
 //!     cargo run --release --offline --example bench one ROW ENGINE N
 //!
@@ -24,7 +25,9 @@ fn main() -> ExitCode {
     match command(&words) {
         Some(()) => ExitCode::SUCCESS,
         None => {
-            eprintln!("usage: bench | bench rows | bench one ROW proved|fast|simple N");
+            eprintln!(
+                "usage: bench | bench like WORD | bench rows | bench one ROW proved|fast|simple N"
+            );
             ExitCode::from(2)
         }
     }
@@ -33,6 +36,7 @@ fn main() -> ExitCode {
 fn command(words: &[&str]) -> Option<()> {
     match words {
         [] => tables::print(),
+        ["like", word] => tables::print_rows(word),
         ["rows"] => {
             for (number, row) in workloads::all().iter().enumerate() {
                 println!("{number}\t{}\t{}", row.spends, row.name);

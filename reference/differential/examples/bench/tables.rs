@@ -8,9 +8,10 @@ pub fn print() {
     println!("CPU time of one call: medians of up to {SAMPLES} samples, the engines in turn.");
     println!("Each run zeroes the first 65,536 bytes of its work buffer itself, in all engines,");
     println!("and that is in the times; no buffer is cleared in between. Fuel is what is spent.\n");
-    print_rows();
+    print_rows("");
     print_fuel();
-    print_objects();
+    print_objects(&[1, 2, 4, 8, 16, 24, 32], workloads::by_objects);
+    print_objects(&[4, 8, 16, 31], workloads::by_objects_of_a_ring);
 }
 
 fn measured(workloads: &[Workload]) -> Vec<[f64; 3]> {
@@ -27,12 +28,14 @@ fn time(nanoseconds: f64) -> String {
     }
 }
 
-fn print_rows() {
+/// The rows with this word in their names.
+pub fn print_rows(word: &str) {
     println!(
         "{:<30}{:>7}{:>12}{:>12}{:>12}{:>13}{:>15}",
         "row", "fuel", "proved", "fast", "simple", "proved/fast", "proved/simple"
     );
-    for row in workloads::all() {
+    let all = workloads::all().into_iter();
+    for row in all.filter(|row| row.name.contains(word)) {
         let [proved, fast, simple] = measured(std::slice::from_ref(&row))[0];
         println!(
             "{:<30}{:>7}{:>12}{:>12}{:>12}{:>13.2}{:>15.3}",
@@ -68,8 +71,7 @@ fn print_fuel() {
 
 /// Beside each time, the power of the objects that it grew with since the line
 /// before: 1 is linear growth.
-fn print_objects() {
-    const OBJECTS: [usize; 7] = [1, 2, 4, 8, 16, 24, 32];
+fn print_objects(counts: &[usize], rows: fn(usize) -> Vec<Workload>) {
     println!(
         "\nTime against objects, and the power of them that it grew with since the line before"
     );
@@ -77,11 +79,14 @@ fn print_objects() {
         "{:<20}{:>9}{:>12}{:>7}{:>12}{:>7}{:>12}{:>7}",
         "row", "objects", "proved", "", "fast", "", "simple", ""
     );
-    for place in 0..workloads::by_objects(1).len() {
-        let rows = OBJECTS.map(|objects| workloads::by_objects(objects).swap_remove(place));
-        let name = rows[0].name.replace(" of 1,", ",");
+    for place in 0..rows(counts[0]).len() {
+        let each = counts
+            .iter()
+            .map(|&objects| rows(objects).swap_remove(place));
+        let each: Vec<Workload> = each.collect();
+        let name = each[0].name.replace(&format!(" of {},", counts[0]), ",");
         let mut before: Option<(f64, [f64; 3])> = None;
-        for (objects, taken) in OBJECTS.into_iter().zip(measured(&rows)) {
+        for (&objects, taken) in counts.iter().zip(measured(&each)) {
             let objects = objects as f64;
             print!("{name:<20}{objects:>9}");
             for engine in 0..taken.len() {

@@ -1,0 +1,234 @@
+//! Texts made to be slow: 21 new objects in a body, again and again, over parts
+//! that are copies of one graph and lie in blocks of their own, which other
+//! objects may fill. The row of the table is one of them; `worst` in
+//! `differential/examples` tries many.
+
+use super::laying::Row;
+use super::{Call, Ending, Workload};
+use crate::builder::{Program, call, field, minus, minus_open, new, param, plus, res, this};
+use crate::calls::Mode;
+use crate::syntax::Expr;
+use std::fmt;
+
+/// How the objects of a part hang together.
+#[derive(Clone, Copy, Debug, PartialEq, Eq)]
+pub enum Shape {
+    Ring,
+    Chain,
+    /// A chain whose objects lead to themselves too; at most 14 of them.
+    Loops,
+}
+
+/// Which of a part's objects are of the other of two classes.
+#[derive(Clone, Copy, Debug, PartialEq, Eq)]
+pub enum Word {
+    /// The first.
+    Odd,
+    /// A good third, as evenly spread as can be: paths must be long to tell
+    /// two objects apart.
+    Balanced,
+    /// None.
+    Alike,
+}
+
+#[derive(Clone, Copy, Debug)]
+pub struct Parts {
+    pub shape: Shape,
+    pub word: Word,
+    pub objects: usize,
+    /// By how many places the word of each part is turned against the last.
+    pub turn: usize,
+    /// Other objects in the block of each part.
+    pub beside: usize,
+    /// 2 to 4.
+    pub count: usize,
+}
+
+const NODE: u8 = 1;
+const LINK: u8 = 2;
+const END: u8 = 3;
+const A: u8 = 4;
+const B: u8 = 5;
+const HOLDER: u8 = 6;
+/// The new object over the parts, and one over four others.
+const OVER: u8 = 7;
+const BOX: u8 = 8;
+const BESIDE: u8 = 9;
+/// LETTERS classes below BESIDE, from here on.
+const LETTER: u8 = 10;
+const LETTERS: usize = 18;
+
+const UNDETERMINED: u8 = 0xFE;
+/// The names of part k are those from 16 k on; where the other objects of its
+/// block begin.
+const AROUND: u8 = 0x40;
+/// LEVEL makes the 21 new objects, each name after it calls the one before it.
+const LEVEL: u8 = 0x80;
+const LEVELS: u8 = 5;
+
+impl fmt::Display for Parts {
+    fn fmt(&self, to: &mut fmt::Formatter) -> fmt::Result {
+        let Parts {
+            shape,
+            word,
+            objects,
+            turn,
+            beside,
+            count,
+        } = self;
+        write!(
+            to,
+            "{shape:?} {word:?}, objects {objects}, turn {turn}, beside {beside}, parts {count}"
+        )
+    }
+}
+
+impl Parts {
+    /// A checked run that spends all of its fuel, unless an object gets too
+    /// large.
+    pub fn workload(&self, name: String, fuel: u16) -> Workload {
+        Workload {
+            name,
+            call: Call::Run(Mode::Checked),
+            text: self.text(),
+            fuel,
+            spends: usize::from(fuel),
+            ending: Ending::OutOfFuel,
+        }
+    }
+
+    pub fn text(&self) -> Vec<u8> {
+        let mut p = classes(self.count);
+        let any = (minus(0), minus(0));
+        let endless = (call(UNDETERMINED, this(), []), res());
+        p.method((HOLDER, UNDETERMINED), any, &[], endless);
+        for part in 0..self.count {
+            self.lay(&mut p, part);
+        }
+        let arguments: Vec<Expr> = (0..self.count as u8 - 1).map(param).collect();
+        let params = vec![plus(NODE); arguments.len()];
+        let mut over = arguments.clone();
+        over.push(this());
+        let mut work = Expr::New(OVER, over);
+        for level in 0..LEVELS {
+            let left = twenty_one(&work);
+            p.method((NODE, LEVEL + level), any, &params, (left, this()));
+            work = Expr::Call(LEVEL + level, Box::new(this()), arguments.clone());
+        }
+        let mut parts = (0..self.count).map(|part| self.made(part));
+        let receiver = Box::new(parts.next().expect("a part"));
+        p.text(Expr::Call(LEVEL + LEVELS - 1, receiver, parts.collect()))
+    }
+
+    /// The classes of a part's objects.
+    fn letters(&self, part: usize) -> Vec<u8> {
+        let objects = self.objects;
+        let letter = |place: usize| match self.word {
+            Word::Odd => place == 0,
+            Word::Balanced => {
+                let others = coprime_third(objects);
+                (place + 1) * others / objects > place * others / objects
+            }
+            Word::Alike => false,
+        };
+        let turned = |place| (place + part * self.turn) % objects;
+        let class = |place| if letter(turned(place)) { B } else { A };
+        (0..objects).map(class).collect()
+    }
+
+    /// The methods of a part, and those of the other objects in its block: in
+    /// the first two parts a ring with one odd object, in the others a ring of
+    /// many classes.
+    fn lay(&self, p: &mut Program, part: usize) {
+        let name = 16 * part as u8;
+        let letters = self.letters(part);
+        let row = Row {
+            holder: HOLDER,
+            name,
+            base: NODE,
+            params: &[minus(0)],
+        };
+        let link = |class, next| new(class, [next, param(0), param(0), param(0)]);
+        match self.shape {
+            Shape::Ring => row.ring(p, &letters, link),
+            Shape::Chain => row.chain(p, &letters, END, link),
+            Shape::Loops => lay_loops(p, name, &letters),
+        }
+        let beside = self.beside.saturating_sub(part % 2);
+        let varied = |place: usize| 7 * place + 5 * part + 3 * (place / LETTERS);
+        let class = |place: usize| match part {
+            0 | 1 => usize::from(place + 1 == beside),
+            _ => varied(place) % LETTERS,
+        };
+        let classes: Vec<u8> = (0..beside).map(|at| LETTER + class(at) as u8).collect();
+        let row = Row {
+            holder: HOLDER,
+            name: AROUND + name,
+            base: BESIDE,
+            params: &[plus(NODE)],
+        };
+        row.ring(p, &classes, |class, next| {
+            new(class, [next, param(0), param(0), param(0)])
+        });
+    }
+
+    /// A part, taken out of the ring around it if there is one.
+    fn made(&self, part: usize) -> Expr {
+        let name = 16 * part as u8;
+        let holder = || new(HOLDER, []);
+        let made = call(name, holder(), [call(UNDETERMINED, holder(), [])]);
+        if self.beside <= part % 2 {
+            return made;
+        }
+        field(1, call(AROUND + name, holder(), [made]))
+    }
+}
+
+fn classes(parts: usize) -> Program {
+    let mut p = Program::start();
+    let any = minus(0);
+    p.class(0, &[]);
+    p.class(NODE, &[plus(NODE), any, any, any]);
+    p.class(NODE, &[]);
+    p.class(LINK, &[]);
+    p.class(LINK, &[]);
+    p.class(0, &[]);
+    p.class(0, &vec![any; parts]);
+    p.class(0, &[any; 4]);
+    p.class(0, &[plus(BESIDE), plus(NODE), plus(NODE), plus(NODE)]);
+    for _ in 0..LETTERS {
+        p.class(BESIDE, &[]);
+    }
+    p
+}
+
+/// One object a call: the next one's is open while it is made.
+fn lay_loops(p: &mut Program, name: u8, letters: &[u8]) {
+    let types = (plus(NODE), minus_open(NODE));
+    for (place, &class) in (name..).zip(letters) {
+        let made = |name| call(name, this(), [param(0)]);
+        let next = match place + 1 == name + letters.len() as u8 {
+            true => new(END, []),
+            false => made(place + 1),
+        };
+        let left = new(class, [next, made(place), made(place), param(0)]);
+        p.method((HOLDER, place), types, &[minus(0)], (left, res()));
+    }
+}
+
+/// Does the work 21 times, boxes the answers, and gives back `this`: the boxes
+/// are four distinct objects, however often that is done.
+fn twenty_one(work: &Expr) -> Expr {
+    let work = || work.clone();
+    let four = || new(BOX, [work(), work(), work(), work()]);
+    let seven = || new(BOX, [four(), work(), work(), work()]);
+    field(0, new(BOX, [this(), seven(), seven(), seven()]))
+}
+
+/// A number near 0.38 of another that has no divisor in common with it.
+fn coprime_third(number: usize) -> usize {
+    let divides = |one: &usize, by: usize| one.is_multiple_of(by) && number.is_multiple_of(by);
+    (number * 38 / 100..)
+        .find(|one| *one > 0 && !(2..=number).any(|by| divides(one, by)))
+        .expect("the number after it at the latest")
+}
