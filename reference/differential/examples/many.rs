@@ -1,9 +1,12 @@
 //! The long comparison: `many SEED COUNT` compares COUNT programs and damaged texts of a seed, each checked and on
-//! trial with two fuels, and prints what came out. Any difference is printed with its text and makes it fail.
+//! trial with two fuels, and prints what came out; `many SEED COUNT rings` compares programs that put rings together, and
+//! counts those that got too large and those with equal objects in different parts. Any difference is printed with its
+//! text and makes it fail.
 
 use differential::compare::Bench;
 use differential::sample;
 use differential::tally::Tally;
+use reference::calls::Mode;
 use std::process::ExitCode;
 
 /// Differences printed in full; all are counted.
@@ -11,33 +14,68 @@ const SHOWN: u64 = 10;
 
 fn main() -> ExitCode {
     let words: Vec<String> = std::env::args().skip(1).collect();
-    let numbers: Vec<u64> = words.iter().flat_map(|word| word.parse()).collect();
+    let words: Vec<&str> = words.iter().map(String::as_str).collect();
+    let (numbers, rings) = match words[..] {
+        [ref numbers @ .., "rings"] => (numbers, true),
+        ref numbers => (numbers, false),
+    };
+    let numbers: Vec<u64> = numbers.iter().flat_map(|word| word.parse()).collect();
     let [seed, count] = numbers[..] else {
-        eprintln!("usage: many SEED COUNT");
+        eprintln!("usage: many SEED COUNT [rings]");
         return ExitCode::from(2);
     };
-    let differences = compare(seed, count);
-    println!("differences {differences}");
-    if differences == 0 {
+    let mut many = Many {
+        bench: Bench::new(seed),
+        tally: Tally::default(),
+        differences: 0,
+    };
+    if rings {
+        many.rings(seed, count);
+    } else {
+        many.mixed(seed, count);
+    }
+    print!("{}", many.tally);
+    println!("differences {}", many.differences);
+    if many.differences == 0 {
         ExitCode::SUCCESS
     } else {
         ExitCode::FAILURE
     }
 }
 
-fn compare(seed: u64, count: u64) -> u64 {
-    let mut bench = Bench::new(seed);
-    let mut tally = Tally::default();
-    let mut differences = 0;
-    for number in 0..count {
-        let (text, fuels) = sample::mixed(seed, number);
-        if let Err(difference) = bench.program(&text, &fuels, &mut tally) {
-            differences += 1;
-            if differences <= SHOWN {
-                println!("program {number} of seed {seed}: {difference}");
+/// The comparison so far.
+struct Many {
+    bench: Bench,
+    tally: Tally,
+    differences: u64,
+}
+
+impl Many {
+    fn mixed(&mut self, seed: u64, count: u64) {
+        for number in 0..count {
+            let (text, fuels) = sample::mixed(seed, number);
+            self.compare(number, &text, &fuels);
+        }
+    }
+
+    fn rings(&mut self, seed: u64, count: u64) {
+        let (mut merged, mut large) = (0, 0);
+        for number in 0..count {
+            let (rings, fuels) = sample::rings(seed, number);
+            let before = self.tally.ended(Mode::Trial, "0704");
+            self.compare(number, &rings.text(), &fuels);
+            large += u64::from(self.tally.ended(Mode::Trial, "0704") > before);
+            merged += u64::from(rings.merges());
+        }
+        println!("programs too large {large}, with equal objects in different parts {merged}");
+    }
+
+    fn compare(&mut self, number: u64, text: &[u8], fuels: &[u16]) {
+        if let Err(difference) = self.bench.program(text, fuels, &mut self.tally) {
+            self.differences += 1;
+            if self.differences <= SHOWN {
+                println!("program {number}: {difference}");
             }
         }
     }
-    print!("{tally}");
-    differences
 }

@@ -3,6 +3,7 @@
 use crate::compare::{Bench, Difference};
 use crate::tally::Tally;
 use reference::generator::random::Random;
+use reference::generator::rings::Rings;
 use reference::generator::{Kind, text};
 
 /// Nothing at all, the first calls, a few, `linerun`'s fuel, all that a session can have.
@@ -38,4 +39,11 @@ pub fn mixed(seed: u64, number: u64) -> (Vec<u8>, [u16; 2]) {
     let all = fuels(&mut random);
     let fuel = |random: &mut Random| all[random.below(all.len())];
     (text, [fuel(&mut random), fuel(&mut random)])
+}
+
+/// Program `number` of a seed's rings, and two fuels: one under which some stop half-way, and one that most end with.
+pub fn rings(seed: u64, number: u64) -> (Rings, [u16; 2]) {
+    let mut random = Random::for_case(seed, number);
+    let rings = Rings::draw(&mut random);
+    (rings, [random.below(60) as u16, 1_000])
 }

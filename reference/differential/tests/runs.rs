@@ -1,6 +1,7 @@
 //! Generated programs and damaged texts through both engines: verdict, refusal, session, report length and every byte of
 //! both buffers, checked and on trial, with seven fuels each. Each sample must also hold enough of what it is meant for.
 
+use differential::compare::Bench;
 use differential::sample;
 use differential::tally::Tally;
 use reference::calls::Mode::{self, Checked, Trial};
@@ -87,4 +88,25 @@ fn damaged_texts() {
             assert!(tally.refused(mode, refusal) > 7 * 3_500, "{tally}");
         }
     }
+}
+
+/// Graphs that lie apart, put together: equal objects in several of them, some too large together.
+#[test]
+fn rings_put_together() {
+    let mut bench = Bench::new(107);
+    let mut tally = Tally::default();
+    let mut merged = 0;
+    for number in 0..2_000 {
+        let (rings, fuels) = sample::rings(107, number);
+        let compared = bench.program(&rings.text(), &fuels, &mut tally);
+        compared.unwrap_or_else(|difference| panic!("{difference}"));
+        merged += u64::from(rings.merges());
+    }
+    for mode in [Checked, Trial] {
+        assert_eq!(tally.refused(mode, 0), 2 * tally.programs);
+        assert_eq!(tally.ended(mode, "0701"), 0, "{tally}");
+        assert_ended(&tally, mode, &["05"], 2_000);
+        assert_ended(&tally, mode, &["0704"], 100);
+    }
+    assert!(merged > 1_000, "{merged}");
 }

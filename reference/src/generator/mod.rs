@@ -5,9 +5,11 @@
 mod damaged;
 mod exprs;
 mod full;
+mod graphs;
 mod illtyped;
 mod limits;
 pub mod random;
+pub mod rings;
 pub mod rows;
 mod signatures;
 pub mod stats;
@@ -34,6 +36,8 @@ pub enum Kind {
     Damaged,
     /// Accepted, and as long as a text can be.
     Full,
+    /// Accepted, and full of rings that are put together.
+    Rings,
 }
 
 impl Kind {
@@ -45,6 +49,7 @@ impl Kind {
             "illtyped" => Some(Kind::IllTyped),
             "damaged" => Some(Kind::Damaged),
             "full" => Some(Kind::Full),
+            "rings" => Some(Kind::Rings),
             _ => None,
         }
     }
@@ -59,6 +64,7 @@ pub fn text(kind: Kind, random: &mut Random) -> Vec<u8> {
         Kind::IllTyped => illtyped::text(random),
         Kind::Damaged => damaged::text(random),
         Kind::Full => written(&full::table(random)),
+        Kind::Rings => rings::Rings::draw(random).text(),
     }
 }
 

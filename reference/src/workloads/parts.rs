@@ -1,13 +1,14 @@
 //! Texts made to be slow: 21 new objects in a body, again and again, over parts
 //! that are copies of one graph and lie in blocks of their own, which other
-//! objects may fill. The row of the table is one of them; `worst` in
-//! `differential/examples` tries many.
+//! objects may fill. One of them is a row of the table; the example `worst` of
+//! `differential` tries them all.
 
 use super::laying::Row;
 use super::{Call, Ending, Workload};
 use crate::builder::{Program, call, field, minus, minus_open, new, param, plus, res, this};
 use crate::calls::Mode;
 use crate::syntax::Expr;
+use crate::writing;
 use std::fmt;
 
 /// How the objects of a part hang together.
@@ -59,8 +60,8 @@ const LETTER: u8 = 10;
 const LETTERS: usize = 18;
 
 const UNDETERMINED: u8 = 0xFE;
-/// The names of part k are those from 16 k on; where the other objects of its
-/// block begin.
+/// Part k is made by the names from 16 k on, the others of its block by those
+/// from AROUND + 16 k on.
 const AROUND: u8 = 0x40;
 /// LEVEL makes the 21 new objects, each name after it calls the one before it.
 const LEVEL: u8 = 0x80;
@@ -84,26 +85,29 @@ impl fmt::Display for Parts {
 }
 
 impl Parts {
-    /// A checked run that spends all of its fuel, unless an object gets too
-    /// large.
+    /// A checked run that spends all of its fuel: no object is too large.
     pub fn workload(&self, name: String, fuel: u16) -> Workload {
         Workload {
             name,
             call: Call::Run(Mode::Checked),
-            text: self.text(),
+            text: self.text().expect("parts with few methods"),
             fuel,
             spends: usize::from(fuel),
             ending: Ending::OutOfFuel,
         }
     }
 
-    pub fn text(&self) -> Vec<u8> {
+    /// The text, unless the parts need more methods than it may have.
+    pub fn text(&self) -> Option<Vec<u8>> {
         let mut p = classes(self.count);
         let any = (minus(0), minus(0));
         let endless = (call(UNDETERMINED, this(), []), res());
         p.method((HOLDER, UNDETERMINED), any, &[], endless);
         for part in 0..self.count {
-            self.lay(&mut p, part);
+            if self.name(part) == 16 * part as u8 {
+                self.lay(&mut p, part);
+            }
+            self.lay_beside(&mut p, part);
         }
         let arguments: Vec<Expr> = (0..self.count as u8 - 1).map(param).collect();
         let params = vec![plus(NODE); arguments.len()];
@@ -117,7 +121,13 @@ impl Parts {
         }
         let mut parts = (0..self.count).map(|part| self.made(part));
         let receiver = Box::new(parts.next().expect("a part"));
-        p.text(Expr::Call(LEVEL + LEVELS - 1, receiver, parts.collect()))
+        let main = Expr::Call(LEVEL + LEVELS - 1, receiver, parts.collect());
+        writing::text(&p.table(main))
+    }
+
+    /// The first method of a part: the same for all if they are made alike.
+    fn name(&self, part: usize) -> u8 {
+        if self.turn == 0 { 0 } else { 16 * part as u8 }
     }
 
     /// The classes of a part's objects.
@@ -136,11 +146,8 @@ impl Parts {
         (0..objects).map(class).collect()
     }
 
-    /// The methods of a part, and those of the other objects in its block: in
-    /// the first two parts a ring with one odd object, in the others a ring of
-    /// many classes.
     fn lay(&self, p: &mut Program, part: usize) {
-        let name = 16 * part as u8;
+        let name = self.name(part);
         let letters = self.letters(part);
         let row = Row {
             holder: HOLDER,
@@ -154,7 +161,12 @@ impl Parts {
             Shape::Chain => row.chain(p, &letters, END, link),
             Shape::Loops => lay_loops(p, name, &letters),
         }
-        let beside = self.beside.saturating_sub(part % 2);
+    }
+
+    /// A ring around a part: in the first two blocks with one odd object, in
+    /// the others of many classes.
+    fn lay_beside(&self, p: &mut Program, part: usize) {
+        let beside = self.beside(part);
         let varied = |place: usize| 7 * place + 5 * part + 3 * (place / LETTERS);
         let class = |place: usize| match part {
             0 | 1 => usize::from(place + 1 == beside),
@@ -163,7 +175,7 @@ impl Parts {
         let classes: Vec<u8> = (0..beside).map(|at| LETTER + class(at) as u8).collect();
         let row = Row {
             holder: HOLDER,
-            name: AROUND + name,
+            name: AROUND + 16 * part as u8,
             base: BESIDE,
             params: &[plus(NODE)],
         };
@@ -172,15 +184,20 @@ impl Parts {
         });
     }
 
+    /// Every other block has one object less.
+    fn beside(&self, part: usize) -> usize {
+        self.beside.saturating_sub(part % 2)
+    }
+
     /// A part, taken out of the ring around it if there is one.
     fn made(&self, part: usize) -> Expr {
-        let name = 16 * part as u8;
         let holder = || new(HOLDER, []);
-        let made = call(name, holder(), [call(UNDETERMINED, holder(), [])]);
-        if self.beside <= part % 2 {
+        let undetermined = call(UNDETERMINED, holder(), []);
+        let made = call(self.name(part), holder(), [undetermined]);
+        if self.beside(part) == 0 {
             return made;
         }
-        field(1, call(AROUND + name, holder(), [made]))
+        field(1, call(AROUND + 16 * part as u8, holder(), [made]))
     }
 }
 
