@@ -12,7 +12,7 @@ use std::process::ExitCode;
 const USAGE: &str = "usage: reference run < TEXT
        reference stats SEED COUNT
        reference rows SEED COUNT
-       reference emit typed|plain|limits|illtyped|damaged|full|rings SEED";
+       reference emit typed|plain|limits|illtyped|damaged|full|large|rings SEED";
 
 fn main() -> ExitCode {
     let arguments: Vec<String> = std::env::args().skip(1).collect();

@@ -1,8 +1,10 @@
-//! The bytes of a class table, laid out from the reference engine's table by docs/TABLE.md.
+//! The bytes of a class table, laid out from the reference engine's table by docs/TABLE.md, and the text of such bytes.
 
 use baqolluy::TABLE_LENGTH;
 use reference::classes;
-use reference::syntax::{Table, Type};
+use reference::reading;
+use reference::syntax::{MAX_CLASSES, MAX_FIELDS, MAX_METHODS, Table, Type};
+use reference::text::push_line;
 use reference::writing::{main_bytes, method_bytes};
 
 const ROW: usize = 16;
@@ -40,6 +42,42 @@ pub fn layout(table: &Table) -> Vec<u8> {
     let line = main_bytes(&table.main).expect("a table that was read has a main");
     put_long(&mut bytes, MAIN, &line, 0);
     bytes
+}
+
+/// The text that reads into these bytes, if there is one: the lines that they hold, if the reader agrees.
+pub fn text(bytes: &[u8]) -> Option<Vec<u8>> {
+    let text = lines(bytes)?;
+    let table = reading::read(&text).ok()?;
+    (layout(&table) == bytes).then_some(text)
+}
+
+fn lines(bytes: &[u8]) -> Option<Vec<u8>> {
+    let (classes, methods) = (usize::from(bytes[11]), usize::from(bytes[12]));
+    if classes > MAX_CLASSES || methods > MAX_METHODS {
+        return None;
+    }
+    let mut text = Vec::new();
+    for number in 1..=classes {
+        let row = &bytes[ROW * number..ROW * (number + 1)];
+        let own = usize::from(row[2]);
+        if own > MAX_FIELDS {
+            return None;
+        }
+        let head = [0x01, small(number), row[0], row[2]];
+        push_line(&mut text, &[&head, &row[3..3 + 2 * own]].concat());
+    }
+    for number in 0..methods {
+        push_line(&mut text, &long(bytes, METHODS + LONG * number, 0x02)?);
+    }
+    push_line(&mut text, &long(bytes, MAIN, 0x03)?);
+    Some(text)
+}
+
+/// The line in a row of 256 bytes, with its own first byte.
+fn long(bytes: &[u8], at: usize, first: u8) -> Option<Vec<u8>> {
+    let length = usize::from(bytes[at + LONG - 1]);
+    let rest = bytes[at..at + length].get(1..)?;
+    Some([&[first], rest].concat())
 }
 
 fn put_types(bytes: &mut [u8], at: usize, types: &[Type]) {

@@ -7,6 +7,7 @@ mod exprs;
 mod full;
 mod graphs;
 mod illtyped;
+mod large;
 mod limits;
 pub mod random;
 pub mod rings;
@@ -36,6 +37,8 @@ pub enum Kind {
     Damaged,
     /// Accepted, and as long as a text can be.
     Full,
+    /// Accepted, with 32 classes and many methods: several programs in one.
+    Large,
     /// Accepted, and full of rings that are put together.
     Rings,
 }
@@ -49,6 +52,7 @@ impl Kind {
             "illtyped" => Some(Kind::IllTyped),
             "damaged" => Some(Kind::Damaged),
             "full" => Some(Kind::Full),
+            "large" => Some(Kind::Large),
             "rings" => Some(Kind::Rings),
             _ => None,
         }
@@ -64,6 +68,7 @@ pub fn text(kind: Kind, random: &mut Random) -> Vec<u8> {
         Kind::IllTyped => illtyped::text(random),
         Kind::Damaged => damaged::text(random),
         Kind::Full => written(&full::table(random)),
+        Kind::Large => written(&large::table(random)),
         Kind::Rings => rings::Rings::draw(random).text(),
     }
 }
