@@ -1,7 +1,8 @@
 /* The proved engine of the line language, for C99 and C++. Link target/staticlib/libengine.a.
  * It declares the calls and their answers; what a text, a report and a refusal are is said in the README and in docs/.
  * host/src/lib.rs has the same declarations for Rust.
- * A call needs at most 320 KiB of stack: give a thread that calls no less. */
+ * A call needs at most 320 KiB of stack: give a thread that calls no less.
+ * What is lent to one call must not overlap: text, report and work are three places in memory apart. */
 #ifndef BAQOLLUY_H
 #define BAQOLLUY_H
 
@@ -70,6 +71,27 @@ typedef struct line_reading {
     uint8_t refusal;
     line_table table; /* zeros if refused */
 } line_reading;
+
+/* Sizes and places as the library has them: from C11 and C++11 on, a compiler that lays these structs out otherwise
+ * stops here. */
+#if defined(__cplusplus) && __cplusplus >= 201103L
+#define LINE_ASSERT(fact) static_assert(fact, #fact);
+#elif defined(__STDC_VERSION__) && __STDC_VERSION__ >= 201112L
+#define LINE_ASSERT(fact) _Static_assert(fact, #fact);
+#else
+#define LINE_ASSERT(fact)
+#endif
+LINE_ASSERT(sizeof(line_session) == 4 && offsetof(line_session, active) == 0 && offsetof(line_session, fuel) == 2)
+LINE_ASSERT(sizeof(line_answer) == 8 && offsetof(line_answer, refusal) == 0 && offsetof(line_answer, session) == 2 &&
+            offsetof(line_answer, length) == 6)
+LINE_ASSERT(sizeof(line_closing) == 6 && offsetof(line_closing, refusal) == 0 && offsetof(line_closing, session) == 2)
+LINE_ASSERT(sizeof(line_verdict) == 3 && offsetof(line_verdict, refusal) == 0 &&
+            offsetof(line_verdict, class_number) == 1 && offsetof(line_verdict, tag) == 2)
+LINE_ASSERT(sizeof(line_written) == 4 && offsetof(line_written, refusal) == 0 && offsetof(line_written, length) == 2)
+LINE_ASSERT(sizeof(line_table) == LINE_TABLE_LENGTH)
+LINE_ASSERT(sizeof(line_reading) == 1 + LINE_TABLE_LENGTH && offsetof(line_reading, refusal) == 0 &&
+            offsetof(line_reading, table) == 1)
+#undef LINE_ASSERT
 
 /* Opens a session. Never refused. */
 line_session line_open(uint16_t fuel);

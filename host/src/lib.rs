@@ -7,7 +7,12 @@
 //! A call needs at most 320 KiB of stack: give a thread that calls no less.
 //!
 //! Every answer has a `refusal`, 0 when the call was accepted. A refused call writes nothing in what it was lent.
-//! Nothing checks these declarations against the Rattle source: host/include/baqolluy.h has the same, for C.
+//! The proofs assume that what is lent to one call does not overlap; here the borrow checker sees to it.
+//!
+//! Nothing checks these declarations against the Rattle source: host/include/baqolluy.h has the same, for C. Sizes and
+//! places of the structs are asserted in both.
+
+use std::mem::{offset_of, size_of};
 
 /// Longest text, and the least length of a buffer to write one in.
 pub const TEXT_LENGTH: usize = 49_567;
@@ -103,6 +108,23 @@ pub struct Reading {
     pub refusal: u8,
     pub table: ClassTable,
 }
+
+// Sizes and places as the library has them.
+const _: () = {
+    assert!(size_of::<Session>() == 4);
+    assert!(offset_of!(Session, active) == 0 && offset_of!(Session, fuel) == 2);
+    assert!(size_of::<Answer>() == 8 && offset_of!(Answer, refusal) == 0);
+    assert!(offset_of!(Answer, session) == 2 && offset_of!(Answer, length) == 6);
+    assert!(size_of::<Closing>() == 6);
+    assert!(offset_of!(Closing, refusal) == 0 && offset_of!(Closing, session) == 2);
+    assert!(size_of::<Verdict>() == 3 && offset_of!(Verdict, refusal) == 0);
+    assert!(offset_of!(Verdict, class) == 1 && offset_of!(Verdict, tag) == 2);
+    assert!(size_of::<Written>() == 4);
+    assert!(offset_of!(Written, refusal) == 0 && offset_of!(Written, length) == 2);
+    assert!(size_of::<ClassTable>() == TABLE_LENGTH);
+    assert!(size_of::<Reading>() == 1 + TABLE_LENGTH);
+    assert!(offset_of!(Reading, refusal) == 0 && offset_of!(Reading, table) == 1);
+};
 
 unsafe extern "C" {
     safe fn line_open(fuel: u16) -> Session;
