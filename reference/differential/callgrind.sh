@@ -6,7 +6,7 @@
 set -euo pipefail
 cd "$(dirname "$0")"
 cargo build --release --offline --quiet --example bench
-bench=target/release/examples/bench
+bench=../../target/release/examples/bench
 out=$(mktemp)
 trap 'rm -f "$out"' EXIT
 

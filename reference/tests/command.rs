@@ -44,7 +44,9 @@ fn rows_stats_and_emit_depend_on_the_seed_only() {
     assert_eq!(rows, printed(&["rows", "4", "20"], b""));
     assert_ne!(rows, printed(&["rows", "5", "20"], b""));
     assert!(printed(&["stats", "4", "40"], b"").contains("checked: verdict 00"));
-    for (kind, verdicts) in [("typed", ["0800"; 2]), ("illtyped", ["0806", "0807"])] {
+    let accepted = ["typed", "large", "rings"].map(|kind| (kind, ["0800"; 2]));
+    let refused = [("illtyped", ["0806", "0807"])];
+    for (kind, verdicts) in accepted.into_iter().chain(refused) {
         let text = printed(&["emit", kind, "9"], b"");
         let output = printed(&["run"], text.as_bytes());
         assert!(verdicts.iter().any(|verdict| output.starts_with(verdict)));
@@ -59,7 +61,7 @@ fn anything_else_is_no_command() {
         &["run", "fast"],
         &["stats", "1"],
         &["rows", "one", "2"],
-        &["emit", "large", "1"],
+        &["emit", "huge", "1"],
         &["emit", "typed"],
     ];
     for words in wrong {
