@@ -25,10 +25,13 @@ fn tables(seed: u64, count: u64) -> impl Iterator<Item = Table> {
 
 #[test]
 fn the_kinds_are_what_they_say() {
-    for kind in [Kind::Typed, Kind::Plain, Kind::Limits] {
-        for text in texts(kind, 11, 100) {
-            assert!(check(&text).is_ok());
-        }
+    let accepted = [Kind::Typed, Kind::Plain, Kind::Limits, Kind::Rings];
+    for text in accepted.into_iter().flat_map(|kind| texts(kind, 11, 100)) {
+        assert!(check(&text).is_ok());
+    }
+    for text in texts(Kind::Large, 11, 100) {
+        assert!(check(&text).is_ok());
+        assert_eq!(read(&text).unwrap().classes.len(), 32);
     }
     for text in texts(Kind::IllTyped, 12, 150) {
         let number = check(&text).unwrap_err().number();

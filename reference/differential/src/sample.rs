@@ -31,7 +31,8 @@ pub fn mixed(seed: u64, number: u64) -> (Vec<u8>, [u16; 2]) {
         0..400 => Kind::Plain,
         400..450 => Kind::Typed,
         450..480 => Kind::Limits,
-        480..748 => Kind::IllTyped,
+        480..738 => Kind::IllTyped,
+        738..748 => Kind::Large,
         748..750 => Kind::Full,
         _ => Kind::Damaged,
     };
