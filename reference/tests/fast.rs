@@ -2,6 +2,8 @@
 //! buffers, on generated programs, on rings and graphs, and on small texts
 //! with each character changed.
 
+#[path = "fast/paths.rs"]
+mod paths;
 #[path = "fast/programs.rs"]
 mod programs;
 
@@ -168,6 +170,12 @@ fn values_of_about_32_objects() {
     for outcome in ["05", "0702", "0704"] {
         assert!(comparison.count(outcome) > 100, "{:?}", comparison.outcomes);
     }
+}
+
+#[test]
+fn many_fields_in_a_row() {
+    let comparison = agree_on_tables(108, 2_000, paths::paths);
+    assert!(comparison.count("05") > 1_000, "{:?}", comparison.outcomes);
 }
 
 #[test]

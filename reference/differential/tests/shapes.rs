@@ -1,7 +1,9 @@
 //! Programs of shapes that the usual mixture hardly has, through both engines: those of the fast mode's own tests
-//! (reference/tests/fast/programs.rs) and large ones. Each shape is counted, so that none is missing. Rings put together are
-//! in `runs.rs`.
+//! (reference/tests/fast) and large ones. Each shape is counted, so that none is missing. Rings put together are in
+//! `runs.rs`.
 
+#[path = "../../tests/fast/paths.rs"]
+mod paths;
 #[path = "../../tests/fast/programs.rs"]
 mod programs;
 
@@ -25,6 +27,8 @@ struct Shapes {
     /// A field of a field; and in an accepted program.
     two_fields: u64,
     two_fields_accepted: u64,
+    /// Three fields in a row, not all of one number, in an accepted program that ends in a value.
+    three_fields: u64,
     /// Accepted, with more than 7 classes, more than 20 methods, res, fields and parents.
     large: u64,
     /// Accepted, with a method whose two results have different classes.
@@ -35,13 +39,24 @@ struct Shapes {
     too_large: u64,
 }
 
-fn any_part(expr: &Expr, is: fn(&Expr) -> bool) -> bool {
+fn any_part(expr: &Expr, is: impl Fn(&Expr) -> bool + Copy) -> bool {
     is(expr) || expr.parts().iter().any(|part| any_part(part, is))
 }
 
-fn any_expr(table: &Table, is: fn(&Expr) -> bool) -> bool {
+fn any_expr(table: &Table, is: impl Fn(&Expr) -> bool + Copy) -> bool {
     let bodies = table.methods.iter().flat_map(|m| [&m.left, &m.right]);
     bodies.chain([&table.main]).any(|expr| any_part(expr, is))
+}
+
+/// The numbers of fields selected one after the other, the last first.
+fn fields_in_a_row(expr: &Expr) -> Vec<u8> {
+    let mut fields = Vec::new();
+    let mut inner = expr;
+    while let Expr::Field(field, receiver) = inner {
+        fields.push(*field);
+        inner = receiver;
+    }
+    fields
 }
 
 fn is_large(table: &Table) -> bool {
@@ -74,11 +89,9 @@ impl Shapes {
     }
 
     fn count(&mut self, table: &Table, accepted: bool, report: &str) {
-        let two_fields = |expr: &Expr| match expr {
-            Expr::Field(_, receiver) => matches!(**receiver, Expr::Field(..)),
-            _ => false,
-        };
-        let two_fields = any_expr(table, two_fields);
+        let two_fields = any_expr(table, |expr| fields_in_a_row(expr).len() >= 2);
+        let different = |fields: &[u8]| fields.len() >= 3 && fields.iter().any(|f| *f != fields[0]);
+        let three_fields = any_expr(table, |expr| different(&fields_in_a_row(expr)));
         let mut methods = table.methods.iter();
         let two_results = methods.any(|method| method.first.class != method.second.class);
         // Class 20 and a count of 00 end the line.
@@ -91,6 +104,10 @@ impl Shapes {
             (&mut self.last_class, last_class),
             (&mut self.two_fields, two_fields),
             (&mut self.two_fields_accepted, two_fields && accepted),
+            (
+                &mut self.three_fields,
+                three_fields && accepted && report.starts_with("05"),
+            ),
             (&mut self.large, is_large(table) && accepted),
             (&mut self.two_results, two_results && accepted),
             (&mut self.large_cyclic, cyclic),
@@ -130,6 +147,14 @@ fn wild_programs() {
 fn graphs_of_methods() {
     let shapes = of_tables(502, 10_000, programs::graph);
     assert!(shapes.large_cyclic > 0, "{shapes:?}");
+}
+
+/// Paths of several fields.
+#[test]
+fn many_fields_in_a_row() {
+    let shapes = of_tables(505, 2_000, paths::paths);
+    assert_eq!(shapes.accepted, 2_000);
+    assert!(shapes.three_fields > 1_000, "{shapes:?}");
 }
 
 /// Rings and chains of about 32 objects.
