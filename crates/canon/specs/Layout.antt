@@ -9,6 +9,13 @@ use lib.ListN.{length, getD, set, take, drop}
 use Rattle.cofj.specs.Values.{Ref, obj, mark, undet, Node, node, Graph, graph}
 use Rattle.cofj.specs.Unfolding.{Same, Whole}
 
+-- the bytes of a block and of an object; src/lib.rt has the same for the code
+abbrev pub blockSize : ℕ
+blockSize = 234
+
+abbrev pub objectSize : ℕ
+objectSize = 6
+
 -- the reference that a code stands for: every number is one
 unfoldable pub refOf : ℕ → Ref
 refOf b = cond (ltb b 192) (obj b) (cond (eqb b 192) undet (mark (b - 193)))

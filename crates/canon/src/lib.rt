@@ -8,3 +8,9 @@ pub mod leads; // the first object of each class
 pub mod colours; // the objects' colours
 pub mod walk; // the order in which they are met
 pub mod number; // the objects, numbered in that order, in a block
+
+// the bytes of a block
+pub const BLOCK: usize = 234;
+
+// the bytes of an object
+pub const OBJECT: usize = 6;

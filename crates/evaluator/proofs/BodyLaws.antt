@@ -8,7 +8,7 @@ use mathlib.Core.Path.{_≡_, refl, sym, ap, ap₂, _∙_, subst}
 use mathlib.Core.List.{List, _∷_}
 use mathlib.Core.Option.{none, some}
 use lib.ListN.{length, getElem?}
-use Rattle.cofj.specs.Limits.{methodCount}
+use Rattle.cofj.specs.Limits.{methodCount, nestingLimit}
 use Rattle.cofj.specs.Syntax.{Expr, Method, Table}
 use Rattle.cofj.specs.Writing.{codeOf}
 use Rattle.cofj.specs.Values.{Graph, markOf, close}
@@ -27,6 +27,7 @@ use Rattle.maker.specs.declared.Slot.{Slot}
 use Rattle.values.specs.Layout.{valueOf}
 use Rattle.values.specs.Operations.{Gives}
 use Rattle.maker.specs.Laying.{valuesFrom}
+use Rattle.evaluator.specs.Figures.{callLimit, fuelAt}
 use Rattle.evaluator.specs.declared.Stop.{Stop}
 use Rattle.evaluator.specs.declared.Out.{Out}
 use Rattle.evaluator.specs.declared.Out.the-variants.{Value, Halt}
@@ -58,8 +59,8 @@ module _ (S : List ℕ) (k : ℕ) (c : OpenCall) (S1 : List ℕ) (put : CallPut 
   put-older : (i : ℕ) → i < k → callAt S1 i ≡ callAt S i
   put-older i l = call-alike S S1 i (λ p a b. put .below p (omega arith))
 
-  pub put-traced : k < 16 → Traced k S S1
-  put-traced l = let e = put .above 128 (omega arith) in record { same = put .same; calls = put .below; spent = omega arith }
+  pub put-traced : k < callLimit → Traced k S S1
+  put-traced l = let e = put .above fuelAt (omega arith) in record { same = put .same; calls = put .below; spent = omega arith }
 
 pub put-side : (S : List ℕ) (k : ℕ) (v : ValueRef) (m : ℕ) (ps qs : List Slot) (n : ℕ) (S1 : List ℕ) → ps ≡ qs → CallPut S k (sideCall v m ps n k) S1 → CallPut S k (sideCall v m qs n k) S1
 put-side S k v m ps qs n S1 e put = subst (λ (xs : List Slot). CallPut S k (sideCall v m xs n k) S1) e put
@@ -100,7 +101,7 @@ module _ (T : List ℕ) (t : Table) (tb : Tabled T t) (i : ℕ) (k : Method) (ek
   row : i < methodCount
   row = let a = index-below (t .methods) i k ek in let b = tb .ready .count in omega arith
 
-  right-reads : (at : ℕ) → at ≡ rightOf T i → Reads T 6 at t (k .right)
+  right-reads : (at : ℕ) → at ≡ rightOf T i → Reads T nestingLimit at t (k .right)
   right-reads at e = record {
     table = tb;
     nested = ready .right;
@@ -108,7 +109,7 @@ module _ (T : List ℕ) (t : Table) (tb : Tabled T t) (i : ℕ) (k : Method) (ek
     stands = subst (λ (p : ℕ). Stands (layout t) p (codeOf (k .right))) (sym (e ∙ ap (λ (B : List ℕ). rightOf B i) (tb .bytes))) (right-stands t i k row ek (ready .short));
   }
 
-  left-reads : (at : ℕ) → at ≡ leftOf T i → Reads T 6 at t (k .left)
+  left-reads : (at : ℕ) → at ≡ leftOf T i → Reads T nestingLimit at t (k .left)
   left-reads at e = record {
     table = tb;
     nested = ready .left;
@@ -118,7 +119,7 @@ module _ (T : List ℕ) (t : Table) (tb : Tabled T t) (i : ℕ) (k : Method) (ek
 
 -- ---- the sides
 module _ (T W tr : List ℕ) (top : ℕ) (v : ValueRef) (A : List ℕ) (n owner i next d sp fuel x at : ℕ) (ea : at ≡ rightOf T i) (W1 : List ℕ) (o : Out)
-    (ev : Evaluates T W (bodyFrame v (Is (Mark x)) A n owner) tr top at 6 d (sp + 4) fuel W1 o) where
+    (ev : Evaluates T W (bodyFrame v (Is (Mark x)) A n owner) tr top at nestingLimit d (sp + 4) fuel W1 o) where
   kept-right : Kept sp W W1
   kept-right = kept-down sp (sp + 4) W W1 (omega arith) (ev .kept)
 
@@ -131,7 +132,7 @@ module _ (T W tr : List ℕ) (top : ℕ) (v : ValueRef) (A : List ℕ) (n owner 
     kept = kept-right;
     older = tt;
     is = λ t k tb ek. record {
-      is = halted T W (bodyFrame v (Is (Mark x)) A n owner) tr top at 6 d (sp + 4) fuel W1 o ev s fuel1 eo t (k .right) (right-reads T t tb i k ek at ea) ∙ right-runs t (k .right);
+      is = halted T W (bodyFrame v (Is (Mark x)) A n owner) tr top at nestingLimit d (sp + 4) fuel W1 o ev s fuel1 eo t (k .right) (right-reads T t tb i k ek at ea) ∙ right-runs t (k .right);
       next = tt;
     };
   })
@@ -143,14 +144,14 @@ module _ (T W tr : List ℕ) (top : ℕ) (v : ValueRef) (A : List ℕ) (n owner 
     older = record { held = b .held; low = b .place };
     is = λ t k tb ek. record {
       is = ap (λ (g : Graph). value g fuel1) (b .is)
-          ∙ given T W (bodyFrame v (Is (Mark x)) A n owner) tr top at 6 d (sp + 4) fuel W1 o ev u at1 fuel1 eo t (k .right) (right-reads T t tb i k ek at ea) ∙ right-runs t (k .right);
+          ∙ given T W (bodyFrame v (Is (Mark x)) A n owner) tr top at nestingLimit d (sp + 4) fuel W1 o ev u at1 fuel1 eo t (k .right) (right-reads T t tb i k ek at ea) ∙ right-runs t (k .right);
       next = refl;
     };
   }
 
 module _ (T W tr : List ℕ) (top : ℕ) (v : ValueRef) (A : List ℕ) (n owner i next d sp fuel m : ℕ) (tr1 : List ℕ)
     (pu : CallPut tr top (sideCall v m (slotsAt A 0) n top) tr1) (at : ℕ) (ea : at ≡ leftOf T i) (W1 : List ℕ) (o : Out)
-    (ev : Evaluates T W (bodyFrame v Absent A n owner) tr1 (top + 1) at 6 d (sp + 4) fuel W1 o) where
+    (ev : Evaluates T W (bodyFrame v Absent A n owner) tr1 (top + 1) at nestingLimit d (sp + 4) fuel W1 o) where
   kept-left : Kept sp W W1
   kept-left = kept-down sp (sp + 4) W W1 (omega arith) (ev .kept)
 
@@ -171,7 +172,7 @@ module _ (T W tr : List ℕ) (top : ℕ) (v : ValueRef) (A : List ℕ) (n owner 
     is = λ t k tb ek. record {
       is = going-on (stopped (stopOf s) fuel1) (evalTo 32 d t (frameOf (valueOf W v) none (valuesFrom W (slotsAt A 0) 0 n)) (opened (traceIn W tr top) (valueOf W v) m (valuesFrom W (slotsAt A 0) 0 n)) (k .left) fuel)
           (λ u n′. value (close (length (traceIn W tr top)) u) n′)
-          (halted T W (bodyFrame v Absent A n owner) tr1 (top + 1) at 6 d (sp + 4) fuel W1 o ev s fuel1 eo t (k .left) (left-reads T t tb i k ek at ea) ∙ left-runs t (k .left));
+          (halted T W (bodyFrame v Absent A n owner) tr1 (top + 1) at nestingLimit d (sp + 4) fuel W1 o ev s fuel1 eo t (k .left) (left-reads T t tb i k ek at ea) ∙ left-runs t (k .left));
       next = tt;
     };
   })
@@ -185,7 +186,7 @@ module _ (T W tr : List ℕ) (top : ℕ) (v : ValueRef) (A : List ℕ) (n owner 
       is = ap (λ (w : Graph). value w fuel1) (g .is ∙ ap (λ (x : ℕ). close x (valueOf W1 u)) (sym (trace-length W tr top)))
           ∙ going-on (value (valueOf W1 u) fuel1) (evalTo 32 d t (frameOf (valueOf W v) none (valuesFrom W (slotsAt A 0) 0 n)) (opened (traceIn W tr top) (valueOf W v) m (valuesFrom W (slotsAt A 0) 0 n)) (k .left) fuel)
           (λ w n′. value (close (length (traceIn W tr top)) w) n′)
-          (given T W (bodyFrame v Absent A n owner) tr1 (top + 1) at 6 d (sp + 4) fuel W1 o ev u at1 fuel1 eo t (k .left) (left-reads T t tb i k ek at ea) ∙ left-runs t (k .left));
+          (given T W (bodyFrame v Absent A n owner) tr1 (top + 1) at nestingLimit d (sp + 4) fuel W1 o ev u at1 fuel1 eo t (k .left) (left-reads T t tb i k ek at ea) ∙ left-runs t (k .left));
       next = refl;
     };
   }

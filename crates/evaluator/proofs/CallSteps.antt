@@ -5,6 +5,8 @@ use native.Mathlib.Omega.{arith}
 use mathlib.Core.Path.{_≡_, refl, sym, ap, _∙_, subst}
 use mathlib.Core.List.{List, map}
 use lib.ListN.{length, getD, take, set}
+use Rattle.canon.specs.Layout.{blockSize}
+use Rattle.cofj.specs.Limits.{nestingLimit}
 use Rattle.cofj.specs.Running.{openMark}
 use Rattle.classes.specs.declared.methods.Found.{Found}
 use Rattle.classes.specs.declared.methods.Found.the-variants as found
@@ -16,6 +18,7 @@ use Rattle.values.specs.Refs.{refIn}
 use Rattle.values.specs.Layout.{valueOf, Holds}
 use Rattle.values.specs.Operations.{Gives, closeOf}
 use Rattle.maker.specs.Laying.{valuesFrom, PartsHeld}
+use Rattle.evaluator.specs.Figures.{callLimit, fuelAt, traceSize}
 use Rattle.evaluator.specs.declared.Stop.{Stop}
 use Rattle.evaluator.specs.declared.Stop.the-variants.{Stuck, NoFuel, TooDeep}
 use Rattle.evaluator.specs.declared.Out.{Out}
@@ -218,12 +221,12 @@ module _ (W S : List ℕ) (v : ValueRef) (A : List ℕ) (n : ℕ) (p : Spot) (ru
   pub spent-parts : PartsHeld W (slotsAt A 0) n
   spent-parts = parts-held W (p .block + 4) (slotsAt A 0) n (run .fits .args)
 
-  few-open : p .opened ≤ 16
+  few-open : p .opened ≤ callLimit
   few-open = let c = run .fits .calls in omega arith
 
   -- a unit spent
   abbrev less : List ℕ
-  less = set S 128 (fuelOf S - 1)
+  less = set S fuelAt (fuelOf S - 1)
 
   fuel-left : fuelOf less ≡ fuelOf S - 1
   fuel-left = fuel-set (p .opened) S (fuelOf S - 1) few-open (run .full)
@@ -242,10 +245,10 @@ module _ (W S : List ℕ) (v : ValueRef) (A : List ℕ) (n : ℕ) (p : Spot) (ru
     long = run .fits .long;
   }
 
-  pub spent-calls : CallsHold W (set S 128 (fuelOf S - 1)) (p .opened)
+  pub spent-calls : CallsHold W (set S fuelAt (fuelOf S - 1)) (p .opened)
   spent-calls = fits.calls-held W less (p .opened) v (slotsAt A 0) n (p .calls) (p .block) spent-fits
 
-  pub spent-body : (p .calls ≡ 0 → ⊥) → BodyRunnable W (set S 128 (fuelOf S - 1)) v A n p
+  pub spent-body : (p .calls ≡ 0 → ⊥) → BodyRunnable W (set S fuelAt (fuelOf S - 1)) v A n p
   spent-body nd = record {
     based = run .based;
     full = spent-trace .same ∙ run .full;
@@ -253,7 +256,7 @@ module _ (W S : List ℕ) (v : ValueRef) (A : List ℕ) (n : ℕ) (p : Spot) (ru
     deep = nd;
   }
 
-  pub spent-mark : (m : ℕ) (h : Held) → h ≡ metOf (openMark (traceIn W (set S 128 (fuelOf S - 1)) (p .opened)) (valueOf W v) m (valuesFrom W (slotsAt A 0) 0 n))
+  pub spent-mark : (m : ℕ) (h : Held) → h ≡ metOf (openMark (traceIn W (set S fuelAt (fuelOf S - 1)) (p .opened)) (valueOf W v) m (valuesFrom W (slotsAt A 0) 0 n))
       → (y : ValueRef) → h ≡ Is y → MarkGiven y
   spent-mark m h e y q = fits.mark-given W less (p .opened) v (slotsAt A 0) n (p .calls) (p .block) m h spent-fits e y q
 
@@ -262,16 +265,16 @@ module _ (W S : List ℕ) (v : ValueRef) (A : List ℕ) (n : ℕ) (p : Spot) (ru
     invoke-stops z = record { trace = traced-none (p .opened) S; runs = invoke-fuel T W S (p .opened) v (slotsAt A 0) n i (p .at) (p .calls) (p .block) (fuelOf S) m z }
 
     module _ (nf : fuelOf S ≡ 0 → ⊥) where
-      pub invoke-sinks : p .calls ≡ 0 → InvokeStep T W S v A n i m p W (set S 128 (fuelOf S - 1)) (done.Halt TooDeep)
+      pub invoke-sinks : p .calls ≡ 0 → InvokeStep T W S v A n i m p W (set S fuelAt (fuelOf S - 1)) (done.Halt TooDeep)
       invoke-sinks z = record {
         trace = spent-trace;
         runs = subst (λ (u : ℕ). Invokes T W S (p .opened) v (slotsAt A 0) n i (p .at) (p .calls) (p .block) (fuelOf S) m W (Halt TooDeep u)) (sym fuel-left)
             (invoke-deep T W S (p .opened) v (slotsAt A 0) n i (p .at) (p .calls) (p .block) (fuelOf S) m nf z);
       }
 
-      module _ (nd : p .calls ≡ 0 → ⊥) (h : Held) (eh : h ≡ metOf (openMark (traceIn W (set S 128 (fuelOf S - 1)) (p .opened)) (valueOf W v) m (valuesFrom W (slotsAt A 0) 0 n)))
+      module _ (nd : p .calls ≡ 0 → ⊥) (h : Held) (eh : h ≡ metOf (openMark (traceIn W (set S fuelAt (fuelOf S - 1)) (p .opened)) (valueOf W v) m (valuesFrom W (slotsAt A 0) 0 n)))
           (W′ S′ : List ℕ) (o : Done) where
-        pub invoke-goes-right : (y : ValueRef) → h ≡ Is y → RightStep T W (set S 128 (fuelOf S - 1)) v A n i p y W′ S′ o → InvokeStep T W S v A n i m p W′ S′ o
+        pub invoke-goes-right : (y : ValueRef) → h ≡ Is y → RightStep T W (set S fuelAt (fuelOf S - 1)) v A n i p y W′ S′ o → InvokeStep T W S v A n i m p W′ S′ o
         invoke-goes-right y ey r = record {
           trace = traced-then (p .opened) S less S′ spent-trace (r .trace);
           runs = invokes-on (p .opened) S less spent-trace T W v (slotsAt A 0) n i (p .at) (p .calls) (p .block) (fuelOf S) m W′ (outWith (fuelOf S′) o)
@@ -279,7 +282,7 @@ module _ (W S : List ℕ) (v : ValueRef) (A : List ℕ) (n : ℕ) (p : Spot) (ru
               (subst (λ (u : ℕ). RunsRight T W less (p .opened) v (slotsAt A 0) n i (p .at) (p .calls - 1) (p .block) u (markIn y) W′ (outWith (fuelOf S′) o)) fuel-left (r .runs)));
         }
 
-        pub invoke-goes-left : h ≡ Absent → LeftStep T W (set S 128 (fuelOf S - 1)) v A n i m p W′ S′ o → InvokeStep T W S v A n i m p W′ S′ o
+        pub invoke-goes-left : h ≡ Absent → LeftStep T W (set S fuelAt (fuelOf S - 1)) v A n i m p W′ S′ o → InvokeStep T W S v A n i m p W′ S′ o
         invoke-goes-left ea l = record {
           trace = traced-then (p .opened) S less S′ spent-trace (l .trace);
           runs = invokes-on (p .opened) S less spent-trace T W v (slotsAt A 0) n i (p .at) (p .calls) (p .block) (fuelOf S) m W′ (outWith (fuelOf S′) o)
@@ -289,7 +292,7 @@ module _ (W S : List ℕ) (v : ValueRef) (A : List ℕ) (n : ℕ) (p : Spot) (ru
 
 -- ---- a side (run_right, run_left)
 module _ (W S : List ℕ) (v : ValueRef) (A : List ℕ) (n : ℕ) (p : Spot) (run : BodyRunnable W S v A n p) where
-  pub body-full : length S ≡ 129
+  pub body-full : length S ≡ traceSize
   body-full = run .full
 
   pub body-deep : 0 < p .calls
@@ -298,7 +301,7 @@ module _ (W S : List ℕ) (v : ValueRef) (A : List ℕ) (n : ℕ) (p : Spot) (ru
   pub body-block : p .block + 4 < 65536
   body-block = let r = run .fits .room in omega arith
 
-  pub body-top : p .opened < 16
+  pub body-top : p .opened < callLimit
   body-top = fits.push-room W S (p .opened) v A n (p .calls - 1) (p .block) (run .fits)
 
   pub body-mark : p .opened < 63
@@ -333,10 +336,10 @@ module _ (T W S : List ℕ) (v : ValueRef) (A : List ℕ) (n i : ℕ) (p : Spot)
     module _ (u : ValueRef) (next : ℕ) (eo : o ≡ done.Value u next) where
       pub right-there : Holds W1 u
       right-there =
-          given-older T W (bodyFrame v (Is (Mark (markIn mark))) A n owner) S (p .opened) (rightOf T i) 6 (p .calls - 1) (p .block + 4) (fuelOf S) W1 (outWith (fuelOf S1) o) (right-side .runs) u next (fuelOf S1)
+          given-older T W (bodyFrame v (Is (Mark (markIn mark))) A n owner) S (p .opened) (rightOf T i) nestingLimit (p .calls - 1) (p .block + 4) (fuelOf S) W1 (outWith (fuelOf S1) o) (right-side .runs) u next (fuelOf S1)
           (ap (outWith (fuelOf S1)) eo) .held
 
-      pub right-room : 234 * p .block + 234 ≤ length W1
+      pub right-room : blockSize * p .block + blockSize ≤ length W1
       right-room = let r = run .fits .room in omega (arith, run .fits .long, right-side .runs .kept .same)
 
       pub right-gives : (W2 : List ℕ) (r : ValueRef) → Gives W1 (p .block) W2 r (valueOf W1 u) → RightStep T W S v A n i p mark W2 S1 (done.Value r (p .at))
@@ -354,7 +357,7 @@ module _ (T W S : List ℕ) (v : ValueRef) (A : List ℕ) (n i m : ℕ) (p : Spo
   open-trace = put-traced S (p .opened) (sideCall v m (slotsAt A 0) n (p .opened)) S1 opens (body-top W S v A n p run)
 
   open-fuel : fuelOf S1 ≡ fuelOf S
-  open-fuel = opens .above 128 (let t = body-top W S v A n p run in omega arith)
+  open-fuel = opens .above fuelAt (let t = body-top W S v A n p run in omega arith)
 
   pub left-run : Runnable W f S1 q
   left-run = subst (λ (y : Spot). Runnable W f S1 y) (sym eq) (subst (λ (g : Frame). Runnable W g S1 (bodySpot p (leftOf T i) (p .opened + 1))) (sym ef) (record {
@@ -368,8 +371,8 @@ module _ (T W S : List ℕ) (v : ValueRef) (A : List ℕ) (n i m : ℕ) (p : Spo
     left-side : EvalStep T W (bodyFrame v Absent A n owner) S1 (bodySpot p (leftOf T i) (p .opened + 1)) W1 S2 o
     left-side = subst (λ (g : Frame). EvalStep T W g S1 (bodySpot p (leftOf T i) (p .opened + 1)) W1 S2 o) ef (subst (λ (y : Spot). EvalStep T W f S1 y W1 S2 o) eq ran)
 
-    left-evaluates : Evaluates T W (bodyFrame v Absent A n owner) S1 (p .opened + 1) (leftOf T i) 6 (p .calls - 1) (p .block + 4) (fuelOf S) W1 (outWith (fuelOf S2) o)
-    left-evaluates = subst (λ (u : ℕ). Evaluates T W (bodyFrame v Absent A n owner) S1 (p .opened + 1) (leftOf T i) 6 (p .calls - 1) (p .block + 4) u W1 (outWith (fuelOf S2) o)) open-fuel (left-side .runs)
+    left-evaluates : Evaluates T W (bodyFrame v Absent A n owner) S1 (p .opened + 1) (leftOf T i) nestingLimit (p .calls - 1) (p .block + 4) (fuelOf S) W1 (outWith (fuelOf S2) o)
+    left-evaluates = subst (λ (u : ℕ). Evaluates T W (bodyFrame v Absent A n owner) S1 (p .opened + 1) (leftOf T i) nestingLimit (p .calls - 1) (p .block + 4) u W1 (outWith (fuelOf S2) o)) open-fuel (left-side .runs)
 
     left-trace : Traced (p .opened) S S2
     left-trace = traced-then (p .opened) S S1 S2 open-trace (traced-down (p .opened) (p .opened + 1) S1 S2 (omega arith) (left-side .trace))
@@ -383,10 +386,10 @@ module _ (T W S : List ℕ) (v : ValueRef) (A : List ℕ) (n i m : ℕ) (p : Spo
     module _ (u : ValueRef) (next : ℕ) (eo : o ≡ done.Value u next) where
       pub left-there : Holds W1 u
       left-there =
-          given-older T W (bodyFrame v Absent A n owner) S1 (p .opened + 1) (leftOf T i) 6 (p .calls - 1) (p .block + 4) (fuelOf S) W1 (outWith (fuelOf S2) o) left-evaluates u next (fuelOf S2)
+          given-older T W (bodyFrame v Absent A n owner) S1 (p .opened + 1) (leftOf T i) nestingLimit (p .calls - 1) (p .block + 4) (fuelOf S) W1 (outWith (fuelOf S2) o) left-evaluates u next (fuelOf S2)
           (ap (outWith (fuelOf S2)) eo) .held
 
-      pub left-room : 234 * p .block + 234 ≤ length W1
+      pub left-room : blockSize * p .block + blockSize ≤ length W1
       left-room = let r = run .fits .room in omega (arith, run .fits .long, left-evaluates .kept .same)
 
       pub left-gives : (W2 : List ℕ) (r : ValueRef) → Gives W1 (p .block) W2 r (closeOf (p .opened) (valueOf W1 u)) → LeftStep T W S v A n i m p W2 S2 (done.Value r (p .at))

@@ -31,7 +31,7 @@ use Rattle.checker.proofs.Known.{method-at}
 use Rattle.values.specs.declared.ValueRef.{ValueRef}
 use Rattle.values.specs.declared.ValueRef.the-variants.{Object}
 use Rattle.values.proofs.ValueRef as RefT
-use Rattle.canon.specs.Layout.{nodeIn, countIn, objectsIn, graphAt, Inside}
+use Rattle.canon.specs.Layout.{nodeIn, countIn, objectsIn, graphAt, Inside, blockSize, objectSize}
 use Rattle.values.specs.Layout.{HeldBy, valueOf, Holds}
 use Rattle.values.proofs.Blocks.{whole-at, inside-room, no-object}
 use Rattle.cofj.proofs.Canon.{canon-same}
@@ -74,11 +74,15 @@ module _ (t : Table) (rd : Ready t) (m : ℕ) where
 object-in : (W : List ℕ) (v : ValueRef) (b i : ℕ) → Holds W v → v ≡ Object i b → Inside W b i
 object-in W v b i h e = subst (HeldBy W) e (h .held)
 
-class-in : (W : List ℕ) (b i : ℕ) → Inside W b i → classOf (canon (graphAt W b i)) ≡ some (getD W (234 * b + 6 * i) 0)
+-- the class of object i of block b
+abbrev classAt : List ℕ → ℕ → ℕ → ℕ
+classAt W b i = getD W (blockSize * b + objectSize * i) 0
+
+class-in : (W : List ℕ) (b i : ℕ) → Inside W b i → classOf (canon (graphAt W b i)) ≡ some (classAt W b i)
 unfolding objectsIn nodeIn
 class-in W b i ob =
     go (canon (graphAt W b i) .root) (let z = canon-same (graphAt W b i) (whole-at W b (ob .block) i (ob .low)) [] in cc)
-    ∙ ap (λ (n : Node). some (n .cls)) (at-nodes W (234 * b) (countIn W b) i (ob .low))
+    ∙ ap (λ (n : Node). some (n .cls)) (at-nodes W (blockSize * b) (countIn W b) i (ob .low))
   where
     ns : List Node
     ns = canon (graphAt W b i) .nodes
@@ -89,7 +93,7 @@ class-in W b i ob =
     go (mark k) e = absurd (let q : _≡_ {A = ℕ} 0 1 = cc in omega arith)
     go undet e = absurd (let q : _≡_ {A = ℕ} 0 1 = cc in omega arith)
 
-pub object-room : (W : List ℕ) (v : ValueRef) (b i : ℕ) → Holds W v → v ≡ Object i b → 234 * b + 6 * i + 6 ≤ length W
+pub object-room : (W : List ℕ) (v : ValueRef) (b i : ℕ) → Holds W v → v ≡ Object i b → blockSize * b + objectSize * i + objectSize ≤ length W
 object-room W v b i h e = inside-room W b i (object-in W v b i h e)
 
 none-found : (t : Table) (x : Option Method) → x ≡ none → Finds (t .methods) found.Nothing x
@@ -104,17 +108,17 @@ module _ (T W : List ℕ) (v : ValueRef) (m n : ℕ) where
       no-class = no-object (λ (r : ValueRef). classOf (valueOf W r) ≡ none) (λ k. refl) refl v h
 
   module _ (hv : Holds W v) (b j : ℕ) (ev : v ≡ Object j b) where
-    class-is : classOf (valueOf W v) ≡ some (getD W (234 * b + 6 * j) 0)
+    class-is : classOf (valueOf W v) ≡ some (classAt W b j)
     class-is = ap (λ (r : ValueRef). classOf (valueOf W r)) ev ∙ class-in W b j (object-in W v b j hv ev)
 
-    pub find-past : 32 < getD W (234 * b + 6 * j) 0 → FindsTarget T W v m n found.Nothing
+    pub find-past : 32 < classAt W b j → FindsTarget T W v m n found.Nothing
     find-past h = record {
       few = tt;
-      is = λ t tb s. none-found t (target t (valueOf W v) m n) (target-lacks t (valueOf W v) m n (getD W (234 * b + 6 * j) 0) class-is (lookup-past t (tb .ready) m (getD W (234 * b + 6 * j) 0) h));
+      is = λ t tb s. none-found t (target t (valueOf W v) m n) (target-lacks t (valueOf W v) m n (classAt W b j) class-is (lookup-past t (tb .ready) m (classAt W b j) h));
     }
 
-    module _ (known : getD W (234 * b + 6 * j) 0 ≤ 32) where
-      counted-is : (t : Table) → Tabled T t → (f : Found) (x : Option Method) → Finds (t .methods) f x → lookup t (getD W (234 * b + 6 * j) 0) m ≡ x
+    module _ (known : classAt W b j ≤ 32) where
+      counted-is : (t : Table) → Tabled T t → (f : Found) (x : Option Method) → Finds (t .methods) f x → lookup t (classAt W b j) m ≡ x
           → Finds (t .methods) (counted T n f) (target t (valueOf W v) m n)
       unfolding target
       counted-is t tb f x (Finds.at {i} {d} e) q =
@@ -124,29 +128,29 @@ module _ (T W : List ℕ) (v : ValueRef) (m n : ℕ) where
           go : (y : Bool) → Finds (t .methods) (pick y (found.At i) found.Nothing) (elim y as (λ _. Option Method) [ true ↦ some d | false ↦ none ])
           go true = Finds.at e
           go false = Finds.nothing
-      counted-is t tb f x Finds.nothing q = none-found t (target t (valueOf W v) m n) (target-lacks t (valueOf W v) m n (getD W (234 * b + 6 * j) 0) class-is q)
+      counted-is t tb f x Finds.nothing q = none-found t (target t (valueOf W v) m n) (target-lacks t (valueOf W v) m n (classAt W b j) class-is q)
 
-      found-is : (t : Table) → Tabled T t → m < 256 → Finds (t .methods) (receiverOf T (getD W (234 * b + 6 * j) 0) 0 m n) (target t (valueOf W v) m n)
+      found-is : (t : Table) → Tabled T t → m < 256 → Finds (t .methods) (receiverOf T (classAt W b j) 0 m n) (target t (valueOf W v) m n)
       unfolding receiverOf
       found-is t tb s =
-          counted-is t tb (lookupOf T (getD W (234 * b + 6 * j) 0) m) (lookup t (getD W (234 * b + 6 * j) 0) m)
-          (subst (λ (B : List ℕ). Finds (t .methods) (lookupOf B (getD W (234 * b + 6 * j) 0) m) (lookup t (getD W (234 * b + 6 * j) 0) m)) (sym (tb .bytes))
-          (lookup-on t (tb .ready .formed) m s (getD W (234 * b + 6 * j) 0) known)) refl
+          counted-is t tb (lookupOf T (classAt W b j) m) (lookup t (classAt W b j) m)
+          (subst (λ (B : List ℕ). Finds (t .methods) (lookupOf B (classAt W b j) m) (lookup t (classAt W b j) m)) (sym (tb .bytes))
+          (lookup-on t (tb .ready .formed) m s (classAt W b j) known)) refl
 
-      many-is : (t : Table) → Tabled T t → 3 < n → (f : Found) (x : Option Method) → Finds (t .methods) f x → lookup t (getD W (234 * b + 6 * j) 0) m ≡ x → target t (valueOf W v) m n ≡ none
+      many-is : (t : Table) → Tabled T t → 3 < n → (f : Found) (x : Option Method) → Finds (t .methods) f x → lookup t (classAt W b j) m ≡ x → target t (valueOf W v) m n ≡ none
       many-is t tb h f x (Finds.at {i} {d} e) q =
           let few = method-at (MethodReady (length (t .classes))) (t .methods) i d (tb .ready .methods) e .few in
-          target-count t (valueOf W v) m n (getD W (234 * b + 6 * j) 0) d class-is q (λ z. omega arith)
-      many-is t tb h f x Finds.nothing q = target-lacks t (valueOf W v) m n (getD W (234 * b + 6 * j) 0) class-is q
+          target-count t (valueOf W v) m n (classAt W b j) d class-is q (λ z. omega arith)
+      many-is t tb h f x Finds.nothing q = target-lacks t (valueOf W v) m n (classAt W b j) class-is q
 
       pub find-many : 3 < n → FindsTarget T W v m n found.Nothing
       find-many h = record {
         few = tt;
         is = λ t tb s. none-found t (target t (valueOf W v) m n)
-            (many-is t tb h (lookupOf (layout t) (getD W (234 * b + 6 * j) 0) m) (lookup t (getD W (234 * b + 6 * j) 0) m) (lookup-on t (tb .ready .formed) m s (getD W (234 * b + 6 * j) 0) known) refl);
+            (many-is t tb h (lookupOf (layout t) (classAt W b j) m) (lookup t (classAt W b j) m) (lookup-on t (tb .ready .formed) m s (classAt W b j) known) refl);
       }
 
-      pub find-is : (f : Found) → n ≤ 3 → f ≡ receiverOf T (getD W (234 * b + 6 * j) 0) 0 m n → FindsTarget T W v m n f
+      pub find-is : (f : Found) → n ≤ 3 → f ≡ receiverOf T (classAt W b j) 0 m n → FindsTarget T W v m n f
       find-is f h e = record {
         few = few-if f;
         is = λ t tb s. subst (λ (x : Found). Finds (t .methods) x (target t (valueOf W v) m n)) (sym e) (found-is t tb s);

@@ -6,6 +6,7 @@ use mathlib.Core.Path.{_≡_, sym, ap, _∙_, subst}
 use mathlib.Core.List.{List}
 use mathlib.Core.Option.{Option, some, Option·none-ne-some}
 use mathlib.Core.Bool.{Bool, true, false}
+use Rattle.cofj.specs.Limits.{nestingLimit}
 use Rattle.classes.specs.Machine.{pick}
 use lib.ListN.{length, getD, take}
 use lib.Seq.{getD-take}
@@ -18,6 +19,7 @@ use Rattle.values.specs.declared.ValueRef.the-variants.{Object}
 use Rattle.maker.specs.declared.Slot.{Slot}
 use Rattle.values.specs.Layout.{valueOf}
 use Rattle.maker.specs.Laying.{valuesFrom}
+use Rattle.evaluator.specs.Figures.{callLimit}
 use Rattle.evaluator.specs.declared.Out.{Out}
 use Rattle.evaluator.specs.declared.Out.the-variants.{Value}
 use Rattle.evaluator.specs.declared.frame.Held.{Held}
@@ -140,10 +142,10 @@ module _ (W tr : List ℕ) (top : ℕ) (v : ValueRef) (ps : List Slot) (n d sp :
 
 -- ---- a side
 module _ (W tr : List ℕ) (top : ℕ) (v : ValueRef) (A : List ℕ) (n d sp : ℕ) (h : BodyFits W tr top v (slotsAt A 0) n d sp) where
-  pub push-room : top < 16
+  pub push-room : top < callLimit
   push-room = let c = h .calls in omega arith
 
-  pub right-fit : (x : ValueRef) (owner : ℕ) → MarkGiven x → Fits W (bodyFrame v (Is x) A n owner) tr top 6 d (sp + 4)
+  pub right-fit : (x : ValueRef) (owner : ℕ) → MarkGiven x → Fits W (bodyFrame v (Is x) A n owner) tr top nestingLimit d (sp + 4)
   right-fit x owner g =
       let c = h .calls in
       let r = h .room in
@@ -156,7 +158,7 @@ module _ (W tr : List ℕ) (top : ℕ) (v : ValueRef) (A : List ℕ) (n d sp : �
         long = h .long;
       }
 
-  pub left-fit : (m owner : ℕ) (tr1 : List ℕ) → CallPut tr top (sideCall v m (slotsAt A 0) n top) tr1 → Fits W (bodyFrame v Absent A n owner) tr1 (top + 1) 6 d (sp + 4)
+  pub left-fit : (m owner : ℕ) (tr1 : List ℕ) → CallPut tr top (sideCall v m (slotsAt A 0) n top) tr1 → Fits W (bodyFrame v Absent A n owner) tr1 (top + 1) nestingLimit d (sp + 4)
   left-fit m owner tr1 put =
       let c = h .calls in
       let r = h .room in

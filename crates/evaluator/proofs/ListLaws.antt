@@ -9,6 +9,7 @@ use mathlib.Core.Option.{Option, none, some}
 use lib.Dec.{eqb}
 use lib.ListN.{length, getD}
 use borrow.Author.Tests.{eq-eqb, ne-eqb}
+use Rattle.classes.specs.Figures.{rowSize}
 use Rattle.cofj.specs.Syntax.{Expr, field, new, Exprs, done, also, count, Table}
 use Rattle.cofj.specs.Classes.{fieldsOf}
 use Rattle.cofj.specs.Writing.{codesOf}
@@ -191,10 +192,10 @@ unfolding eval
 new-by d t p os c es fuel b q =
     ap (λ (x : Bool). elim x as (λ _. Outcome Graph) [ true ↦ evalsIn d t p os es fuel then λ vs m. sized 32 (make c vs) m | false ↦ stopped language.stuck fuel ]) q
 
-module _ (T W : List ℕ) (f : Frame) (tr : List ℕ) (top at left d sp fuel c n x : ℕ) (ex : x ≡ getD T (16 * c + 1) 0) where
+module _ (T W : List ℕ) (f : Frame) (tr : List ℕ) (top at left d sp fuel c n x : ℕ) (ex : x ≡ getD T (rowSize * c + 1) 0) where
   total : (t : Table) → Tabled T t → c ≤ length (t .classes) → x ≡ length (fieldsOf (t .classes) c)
   total t tb h =
-      ex ∙ ap (λ (B : List ℕ). getD B (16 * c + 1) 0) (tb .bytes) ∙ total-at t c (let l = tb .ready .formed .classes in omega arith)
+      ex ∙ ap (λ (B : List ℕ). getD B (rowSize * c + 1) 0) (tb .bytes) ∙ total-at t c (let l = tb .ready .formed .classes in omega arith)
 
   pub new-other : (x ≡ n → ⊥) → News T W f tr top at left d sp fuel c n W (Halt Stuck fuel)
   new-other h = record {

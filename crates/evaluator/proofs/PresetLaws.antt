@@ -7,6 +7,7 @@ use mathlib.Core.List.{List}
 use lib.Dec.{eqb, ltb}
 use lib.ListN.{getD}
 use borrow.Author.Tests.{eq-eqb, ne-eqb, lt-ltb, le-ltb, eqb-true, ltb-true}
+use Rattle.classes.specs.Figures.{rowSize}
 use Rattle.classes.specs.Machine.{pick}
 use Rattle.evaluator.specs.Preset.{isPreset}
 
@@ -19,7 +20,7 @@ module _ (T : List ℕ) (c n : ℕ) where
   unfolding isPreset
   preset-high e h = rw (eq-eqb n 0 e, le-ltb c 32 h)
 
-  pub preset-fields : n ≡ 0 → c < 32 → (x : ℕ) → x ≡ getD T (16 * c + 1) 0 → eqb x 0 ≡ isPreset T c n
+  pub preset-fields : n ≡ 0 → c < 32 → (x : ℕ) → x ≡ getD T (rowSize * c + 1) 0 → eqb x 0 ≡ isPreset T c n
   unfolding isPreset
   preset-fields e l x ex = rw (eq-eqb n 0 e, lt-ltb c 32 l, ex)
 
@@ -27,14 +28,14 @@ module _ (T : List ℕ) (c n : ℕ) where
   pub record Told : Type 0 where
     pub none : n ≡ 0
     pub low : c < 32
-    pub total : getD T (16 * c + 1) 0 ≡ 0
+    pub total : getD T (rowSize * c + 1) 0 ≡ 0
 
   pub told : isPreset T c n ≡ true → Told
   unfolding isPreset
-  told e = go (eqb n 0) refl (ltb c 32) refl (eqb (getD T (16 * c + 1) 0) 0) refl e
+  told e = go (eqb n 0) refl (ltb c 32) refl (eqb (getD T (rowSize * c + 1) 0) 0) refl e
     where
-      go : (x : Bool) → eqb n 0 ≡ x → (y : Bool) → ltb c 32 ≡ y → (z : Bool) → eqb (getD T (16 * c + 1) 0) 0 ≡ z → pick x (pick y z false) false ≡ true → Told
-      go true ex true ey true ez h = record { none = eqb-true n 0 ex; low = ltb-true c 32 ey; total = eqb-true (getD T (16 * c + 1) 0) 0 ez }
+      go : (x : Bool) → eqb n 0 ≡ x → (y : Bool) → ltb c 32 ≡ y → (z : Bool) → eqb (getD T (rowSize * c + 1) 0) 0 ≡ z → pick x (pick y z false) false ≡ true → Told
+      go true ex true ey true ez h = record { none = eqb-true n 0 ex; low = ltb-true c 32 ey; total = eqb-true (getD T (rowSize * c + 1) 0) 0 ez }
       go true ex true ey false ez h = absurd (false≢true h)
       go true ex false ey z ez h = absurd (false≢true h)
       go false ex y ey z ez h = absurd (false≢true h)

@@ -12,6 +12,7 @@ use Rattle.values.specs.declared.ValueRef.the-variants.{Undetermined}
 use Rattle.values.specs.Refs.{refIn}
 use Rattle.values.proofs.RefLaws.{pack-undetermined}
 use Rattle.maker.specs.declared.Slot.{Slot}
+use Rattle.evaluator.specs.Figures.{callLimit, callSize, traceSize}
 use Rattle.evaluator.specs.declared.frame.Held.{Held}
 use Rattle.evaluator.specs.declared.frame.Held.the-variants.{Is, Absent}
 use Rattle.evaluator.specs.declared.frame.Frame.{Frame}
@@ -74,21 +75,21 @@ pub slots-are : (A : List ℕ) (a b d : ValueRef) → a ≡ refIn (getD A 0 0) �
 unfolding slotsAt
 slots-are A a b d ea eb ed = λ i. record { r = ea i } ∷ record { r = eb i } ∷ record { r = ed i } ∷ []
 
-pub call-is : (S : List ℕ) (i : ℕ) (v a b d g : ValueRef) → v ≡ refIn (getD S (8 * i + 2) 0) → a ≡ refIn (getD S (8 * i + 3) 0) → b ≡ refIn (getD S (8 * i + 4) 0)
-    → d ≡ refIn (getD S (8 * i + 5) 0) → g ≡ refIn (getD S (8 * i + 6) 0)
+pub call-is : (S : List ℕ) (i : ℕ) (v a b d g : ValueRef) → v ≡ refIn (getD S (callSize * i + 2) 0) → a ≡ refIn (getD S (callSize * i + 3) 0) → b ≡ refIn (getD S (callSize * i + 4) 0)
+    → d ≡ refIn (getD S (callSize * i + 5) 0) → g ≡ refIn (getD S (callSize * i + 6) 0)
     → _≡_ {A = OpenCall}
-    (record { receiver = v; name = getD S (8 * i) 0 % 256; args = record { r = a } ∷ record { r = b } ∷ record { r = d } ∷ []; n = getD S (8 * i + 1) 0 % 256; gives = g }) (callAt S i)
+    (record { receiver = v; name = getD S (callSize * i) 0 % 256; args = record { r = a } ∷ record { r = b } ∷ record { r = d } ∷ []; n = getD S (callSize * i + 1) 0 % 256; gives = g }) (callAt S i)
 unfolding callAt slotsAt
 call-is S i v a b d g ev ea eb ed eg =
-    let e4 : 8 * i + 4 ≡ 8 * i + 3 + 1 = omega arith in
-    let e5 : 8 * i + 5 ≡ 8 * i + 3 + 2 = omega arith in
-    let b4 : b ≡ refIn (getD S (8 * i + 3 + 1) 0) = eb ∙ ap (λ (p : ℕ). refIn (getD S p 0)) e4 in
-    let d5 : d ≡ refIn (getD S (8 * i + 3 + 2) 0) = ed ∙ ap (λ (p : ℕ). refIn (getD S p 0)) e5 in
+    let e4 : callSize * i + 4 ≡ callSize * i + 3 + 1 = omega arith in
+    let e5 : callSize * i + 5 ≡ callSize * i + 3 + 2 = omega arith in
+    let b4 : b ≡ refIn (getD S (callSize * i + 3 + 1) 0) = eb ∙ ap (λ (p : ℕ). refIn (getD S p 0)) e4 in
+    let d5 : d ≡ refIn (getD S (callSize * i + 3 + 2) 0) = ed ∙ ap (λ (p : ℕ). refIn (getD S p 0)) e5 in
     λ j. record {
       receiver = ev j;
-      name = getD S (8 * i) 0 % 256;
+      name = getD S (callSize * i) 0 % 256;
       args = record { r = ea j } ∷ record { r = b4 j } ∷ record { r = d5 j } ∷ [];
-      n = getD S (8 * i + 1) 0 % 256;
+      n = getD S (callSize * i + 1) 0 % 256;
       gives = eg j;
     }
 
@@ -181,29 +182,29 @@ three-slots (x ∷ y ∷ z ∷ w ∷ ps) h = absurd (omega arith)
 
 module _ (S : List ℕ) (k : ℕ) (o : OpenCall) (x0 x1 x2 x3 x4 : ℕ) where
   abbrev after : List ℕ
-  after = put7 S (8 * k) (o .name) (o .n) x0 x1 x2 x3 x4
+  after = put7 S (callSize * k) (o .name) (o .n) x0 x1 x2 x3 x4
 
-  module _ (lk : k < 16) (full : length S ≡ 129) (three : length (o .args) ≡ 3) (ln : o .name < 256) (lc : o .n < 256)
+  module _ (lk : k < callLimit) (full : length S ≡ traceSize) (three : length (o .args) ≡ 3) (ln : o .name < 256) (lc : o .n < 256)
       (p0 : (refIn x0 ≡ o .receiver) × (x0 % 256 < 3)) (p1 : (refIn x1 ≡ slotAt (o .args) 0) × (x1 % 256 < 3)) (p2 : (refIn x2 ≡ slotAt (o .args) 1) × (x2 % 256 < 3))
       (p3 : (refIn x3 ≡ slotAt (o .args) 2) × (x3 % 256 < 3)) (p4 : (refIn x4 ≡ o .gives) × (x4 % 256 < 3)) where
     call-here : callAt after k ≡ o
     call-here =
-        let room : 8 * k + 7 ≤ length S = omega arith in
+        let room : callSize * k + 7 ≤ length S = omega arith in
         let at : (p : ℕ) (x : ℕ) (v : ValueRef) → getD after p 0 ≡ x → refIn x ≡ v → v ≡ refIn (getD after p 0) = λ p x v e f. sym (ap refIn e ∙ f) in
-        let en : getD after (8 * k) 0 % 256 ≡ o .name = (let z = put-1 S (8 * k) (o .name) (o .n) x0 x1 x2 x3 x4 room in omega arith) in
-        let ec : getD after (8 * k + 1) 0 % 256 ≡ o .n = (let z = put-2 S (8 * k) (o .name) (o .n) x0 x1 x2 x3 x4 room in omega arith) in
+        let en : getD after (callSize * k) 0 % 256 ≡ o .name = (let z = put-1 S (callSize * k) (o .name) (o .n) x0 x1 x2 x3 x4 room in omega arith) in
+        let ec : getD after (callSize * k + 1) 0 % 256 ≡ o .n = (let z = put-2 S (callSize * k) (o .name) (o .n) x0 x1 x2 x3 x4 room in omega arith) in
         sym (call-is after k (o .receiver) (slotAt (o .args) 0) (slotAt (o .args) 1) (slotAt (o .args) 2) (o .gives)
-        (at (8 * k + 2) x0 (o .receiver) (put-3 S (8 * k) (o .name) (o .n) x0 x1 x2 x3 x4 room) (p0 .0))
-        (at (8 * k + 3) x1 (slotAt (o .args) 0) (put-4 S (8 * k) (o .name) (o .n) x0 x1 x2 x3 x4 room) (p1 .0))
-        (at (8 * k + 4) x2 (slotAt (o .args) 1) (put-5 S (8 * k) (o .name) (o .n) x0 x1 x2 x3 x4 room) (p2 .0))
-        (at (8 * k + 5) x3 (slotAt (o .args) 2) (put-6 S (8 * k) (o .name) (o .n) x0 x1 x2 x3 x4 room) (p3 .0))
-        (at (8 * k + 6) x4 (o .gives) (put-7 S (8 * k) (o .name) (o .n) x0 x1 x2 x3 x4 room) (p4 .0)))
+        (at (callSize * k + 2) x0 (o .receiver) (put-3 S (callSize * k) (o .name) (o .n) x0 x1 x2 x3 x4 room) (p0 .0))
+        (at (callSize * k + 3) x1 (slotAt (o .args) 0) (put-4 S (callSize * k) (o .name) (o .n) x0 x1 x2 x3 x4 room) (p1 .0))
+        (at (callSize * k + 4) x2 (slotAt (o .args) 1) (put-5 S (callSize * k) (o .name) (o .n) x0 x1 x2 x3 x4 room) (p2 .0))
+        (at (callSize * k + 5) x3 (slotAt (o .args) 2) (put-6 S (callSize * k) (o .name) (o .n) x0 x1 x2 x3 x4 room) (p3 .0))
+        (at (callSize * k + 6) x4 (o .gives) (put-7 S (callSize * k) (o .name) (o .n) x0 x1 x2 x3 x4 room) (p4 .0)))
         ∙ (λ i. record { receiver = o .receiver; name = en i; args = three-slots (o .args) three i; n = ec i; gives = o .gives })
 
-    pub call-put : CallPut S k o (set (set (set (set (set (set (set S (8 * k) (o .name)) (8 * k + 1) (o .n)) (8 * k + 2) x0) (8 * k + 3) x1) (8 * k + 4) x2) (8 * k + 5) x3) (8 * k + 6) x4)
+    pub call-put : CallPut S k o (set (set (set (set (set (set (set S (callSize * k) (o .name)) (callSize * k + 1) (o .n)) (callSize * k + 2) x0) (callSize * k + 3) x1) (callSize * k + 4) x2) (callSize * k + 5) x3) (callSize * k + 6) x4)
     call-put = record {
-      same = long S (8 * k) (o .name) (o .n) x0 x1 x2 x3 x4;
+      same = long S (callSize * k) (o .name) (o .n) x0 x1 x2 x3 x4;
       call = call-here;
-      below = λ p h. beside S (8 * k) (o .name) (o .n) x0 x1 x2 x3 x4 p (λ l m. omega arith);
-      above = λ p h. beside S (8 * k) (o .name) (o .n) x0 x1 x2 x3 x4 p (λ l m. omega arith);
+      below = λ p h. beside S (callSize * k) (o .name) (o .n) x0 x1 x2 x3 x4 p (λ l m. omega arith);
+      above = λ p h. beside S (callSize * k) (o .name) (o .n) x0 x1 x2 x3 x4 p (λ l m. omega arith);
     }

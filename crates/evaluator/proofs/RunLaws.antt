@@ -1,15 +1,18 @@
 -- Main, run with no variables and no open calls: the language's outcome.
 -- Not here: that the table was read (Promise).
-use Prim.Native.Nat.{ℕ, _≤_, _<_}
+use Prim.Native.Nat.{ℕ, _+_, _≤_, _<_}
 use native.Mathlib.Omega.{arith}
 use mathlib.Core.Path.{_≡_, refl, sym, _∙_, subst}
 use mathlib.Core.List.{List, []}
 use lib.ListN.{length, set, replicate, length-set, length-replicate}
 use lib.Seq.{getD-set-same}
+use Rattle.classes.specs.Figures.{mainAt}
+use Rattle.cofj.specs.Limits.{nestingLimit}
 use Rattle.cofj.specs.Running.{runWithin, mainFrame}
 use Rattle.classes.proofs.Zones.{main-stands}
 use Rattle.maker.specs.Laying.{valuesFrom}
 use Rattle.maker.specs.Bares.{LaidBares}
+use Rattle.evaluator.specs.Figures.{callLimit, fuelAt, traceSize, workRoom}
 use Rattle.evaluator.specs.declared.Out.{Out}
 use Rattle.evaluator.specs.declared.Done.{Done}
 use Rattle.evaluator.specs.declared.frame.Frame.{Frame}
@@ -22,23 +25,23 @@ use Rattle.evaluator.specs.Steps.{fuelOf, Runnable, EvalStep}
 use Rattle.evaluator.specs.Main.{Runs}
 use Rattle.evaluator.proofs.BodyLaws.{evalTo-is}
 
--- where main is evaluated: nested 6 deep, 16 calls, block 1
+-- where main is evaluated
 abbrev start : Spot
-start = record { at = 25361; block = 1; nesting = 6; calls = 16; opened = 0; objects = 32 }
+start = record { at = mainAt + 1; block = 1; nesting = nestingLimit; calls = callLimit; opened = 0; objects = 32 }
 
 -- ---- the numbers that main begins with: the fuel, and no calls
-module _ (k fuel : ℕ) (ek : k ≡ 129) where
+module _ (k fuel : ℕ) (ek : k ≡ traceSize) where
   abbrev zeros : List ℕ
   zeros = replicate k 0
 
-  zeros-full : length zeros ≡ 129
+  zeros-full : length zeros ≡ traceSize
   zeros-full = length-replicate k 0 ∙ ek
 
-  pub begins-full : length (set zeros 128 fuel) ≡ 129
-  begins-full = length-set zeros 128 fuel ∙ zeros-full
+  pub begins-full : length (set zeros fuelAt fuel) ≡ traceSize
+  begins-full = length-set zeros fuelAt fuel ∙ zeros-full
 
-  pub begins-fuel : fuelOf (set zeros 128 fuel) ≡ fuel
-  begins-fuel = getD-set-same zeros 128 fuel 0 (omega (arith, zeros-full))
+  pub begins-fuel : fuelOf (set zeros fuelAt fuel) ≡ fuel
+  begins-fuel = getD-set-same zeros fuelAt fuel 0 (omega (arith, zeros-full))
 
 frame-none : (W : List ℕ) → frameIn W noVariables ≡ mainFrame
 unfolding frameIn valuesFrom
@@ -49,7 +52,7 @@ unfolding traceIn
 trace-none W S = refl
 
 module _ (W0 W : List ℕ) (lb : LaidBares W0 W) (f : Frame) (ef : f ≡ noVariables) (S : List ℕ) where
-  pub main-runnable : 65520 ≤ length W0 → length S ≡ 129 → Runnable W f S start
+  pub main-runnable : workRoom ≤ length W0 → length S ≡ traceSize → Runnable W f S start
   main-runnable l full = subst (λ (g : Frame). Runnable W g S start) (sym ef) (record {
     based = record { bares = lb .bares; above = omega arith };
     full = full;
@@ -81,6 +84,6 @@ module _ (W0 W : List ℕ) (lb : LaidBares W0 W) (f : Frame) (ef : f ≡ noVaria
                 known = tb .ready .formed .mainKnown;
                 stands = main-stands t (tb .ready .short);
               }) .is
-              ∙ (λ i. evalIn 16 t (frame-none W i) (trace-none W S i) (t .main) (es i))
-              ∙ evalTo-is 16 t mainFrame [] (t .main) fuel;
+              ∙ (λ i. evalIn callLimit t (frame-none W i) (trace-none W S i) (t .main) (es i))
+              ∙ evalTo-is callLimit t mainFrame [] (t .main) fuel;
         })

@@ -28,6 +28,7 @@ use Rattle.values.proofs.Blocks.{no-object}
 use Rattle.values.proofs.Steps.{one-block}
 use Rattle.maker.specs.declared.Slot.{Slot}
 use Rattle.maker.specs.Laying.{valuesFrom, PartsHeld}
+use Rattle.evaluator.specs.Figures.{callLimit, callSize}
 use Rattle.evaluator.specs.declared.frame.Held.{Held}
 use Rattle.evaluator.specs.declared.frame.Held.the-variants.{Is, Absent}
 use Rattle.evaluator.specs.declared.frame.Frame.{Frame}
@@ -266,19 +267,19 @@ apart-found S A p n k l few x y ex ey r er z = record {
 
 -- ---- calls at rest told apart
 module _ (S : List ℕ) (i : ℕ) (v : ValueRef) (m : ℕ) (A : List ℕ) (n : ℕ) where
-  pub other-name : (getD S (8 * i) 0 % 256 ≡ m → ⊥) → OtherTest S i v m A n true
+  pub other-name : (getD S (callSize * i) 0 % 256 ≡ m → ⊥) → OtherTest S i v m A n true
   unfolding callAt
   other-name h = record { told = λ _. Other.by-name h }
 
-  pub other-count : (getD S (8 * i + 1) 0 % 256 ≡ n → ⊥) → OtherTest S i v m A n true
+  pub other-count : (getD S (callSize * i + 1) 0 % 256 ≡ n → ⊥) → OtherTest S i v m A n true
   unfolding callAt
   other-count h = record { told = λ _. Other.by-count h }
 
-  pub other-receiver : (x : ValueRef) → x ≡ refIn (getD S (8 * i + 2) 0) → (r : Bool) → r ≡ apartOf x v → r ≡ true → OtherTest S i v m A n true
+  pub other-receiver : (x : ValueRef) → x ≡ refIn (getD S (callSize * i + 2) 0) → (r : Bool) → r ≡ apartOf x v → r ≡ true → OtherTest S i v m A n true
   unfolding callAt
   other-receiver x ex r er z = record { told = λ _. Other.by-receiver (ap (λ (y : ValueRef). apartOf y v) (sym ex) ∙ sym er ∙ z) }
 
-  pub other-args : (r : Bool) → ApartTest (slotsAt S (8 * i + 3)) (slotsAt A 0) n r → OtherTest S i v m A n r
+  pub other-args : (r : Bool) → ApartTest (slotsAt S (callSize * i + 3)) (slotsAt A 0) n r → OtherTest S i v m A n r
   unfolding callAt
   other-args r t = record { told = λ e. Other.by-argument (t .told e) }
 
@@ -326,7 +327,7 @@ module _ (W S : List ℕ) (v : ValueRef) (m : ℕ) (ps : List Slot) (n : ℕ) wh
       rw sub-one (by-tests (callIn W j (callAt S j)) (traceIn W S j) (valueOf W v) m (valuesFrom W ps 0 n)
       ∙ ap (λ (b : Bool). pick b (some j) (openMark (traceIn W S j) (valueOf W v) m (valuesFrom W ps 0 n))) (sym e))
 
-pub few-calls : (W S : List ℕ) (k : ℕ) → CallsHold W S k → k ≤ 16
+pub few-calls : (W S : List ℕ) (k : ℕ) → CallsHold W S k → k ≤ callLimit
 few-calls W S k h = h .few
 
 -- ---- the loop through the open calls: the first j of k are left, and the others are not the call

@@ -13,7 +13,7 @@ use Rattle.cofj.specs.Values.{Graph, make}
 use Rattle.cofj.specs.Running as language
 use Rattle.cofj.specs.Running.{value, stopped, sized}
 use Rattle.classes.specs.Machine.{pick}
-use Rattle.classes.specs.Figures.{tableSize}
+use Rattle.classes.specs.Figures.{tableSize, rowSize}
 use Rattle.checker.specs.declared.shape.Shape.{Shape}
 use Rattle.checker.specs.declared.shape.Shape.the-variants as shape
 use Rattle.checker.specs.Shapes.{byteOf, shapeAt, shapeOf}
@@ -25,6 +25,7 @@ use Rattle.maker.specs.declared.Made.{Made}
 use Rattle.maker.specs.declared.Made.the-variants as made
 use Rattle.maker.specs.Laying.{valuesFrom, partsOf, spare, Makeable, MadeIs}
 use Rattle.maker.proofs.BareLaws.{bare-made}
+use Rattle.evaluator.specs.Figures.{placeLimit}
 use Rattle.evaluator.specs.declared.Stop.{Stop}
 use Rattle.evaluator.specs.declared.Stop.the-variants.{Stuck, TooLarge}
 use Rattle.evaluator.specs.declared.Done.{Done}
@@ -52,12 +53,12 @@ use Rattle.evaluator.proofs.ListLaws.{list-zero, new-other, new-many, n
 
 -- ---- the place after an expression's first bytes is a place of the table, or just past it
 abbrev Near : Shape → Type 0
-Near (shape.This next) = next < 26000
-Near (shape.Result next) = next < 26000
-Near (shape.Parameter k next) = next < 26000
-Near (shape.Field f next) = next < 26000
-Near (shape.Call m n next) = next < 26000
-Near (shape.New c n next) = next < 26000
+Near (shape.This next) = next < placeLimit
+Near (shape.Result next) = next < placeLimit
+Near (shape.Parameter k next) = next < placeLimit
+Near (shape.Field f next) = next < placeLimit
+Near (shape.Call m n next) = next < placeLimit
+Near (shape.New c n next) = next < placeLimit
 Near shape.Nothing = Unit {0}
 
 either : (b : Bool) (x y : Shape) → Near x → Near y → Near (pick b x y)
@@ -66,12 +67,12 @@ either false x y a c = c
 
 near-of : (b k n at : ℕ) → at < 25616 → Near (shapeOf b k n at)
 near-of b k n at l =
-    either (eqb b 0x40) (shape.This (at + 1)) _ (let z : at + 1 < 26000 = omega arith in z)
-    (either (eqb b 0x41) (shape.Result (at + 1)) _ (let z : at + 1 < 26000 = omega arith in z)
-    (either (eqb b 0x42) (shape.Parameter k (at + 2)) _ (let z : at + 2 < 26000 = omega arith in z)
-    (either (eqb b 0x43) (shape.Field k (at + 2)) _ (let z : at + 2 < 26000 = omega arith in z)
-    (either (eqb b 0x44) (shape.Call k n (at + 3)) _ (let z : at + 3 < 26000 = omega arith in z)
-    (either (eqb b 0x45) (shape.New k n (at + 3)) shape.Nothing (let z : at + 3 < 26000 = omega arith in z) tt)))))
+    either (eqb b 0x40) (shape.This (at + 1)) _ (let z : at + 1 < placeLimit = omega arith in z)
+    (either (eqb b 0x41) (shape.Result (at + 1)) _ (let z : at + 1 < placeLimit = omega arith in z)
+    (either (eqb b 0x42) (shape.Parameter k (at + 2)) _ (let z : at + 2 < placeLimit = omega arith in z)
+    (either (eqb b 0x43) (shape.Field k (at + 2)) _ (let z : at + 2 < placeLimit = omega arith in z)
+    (either (eqb b 0x44) (shape.Call k n (at + 3)) _ (let z : at + 3 < placeLimit = omega arith in z)
+    (either (eqb b 0x45) (shape.New k n (at + 3)) shape.Nothing (let z : at + 3 < placeLimit = omega arith in z) tt)))))
 
 near : (T : List ℕ) (at : ℕ) → Near (shapeAt T at)
 unfolding shapeAt
@@ -85,22 +86,22 @@ module _ (T : List ℕ) (at : ℕ) (s : Shape) (es : s ≡ shapeAt T at) where
   ahead : (q : Shape) → s ≡ q → Near q
   ahead q e = subst Near (sym es ∙ e) (near T at)
 
-  pub next-this : (next : ℕ) → s ≡ shape.This next → next < 26000
+  pub next-this : (next : ℕ) → s ≡ shape.This next → next < placeLimit
   next-this next e = ahead (shape.This next) e
 
-  pub next-result : (next : ℕ) → s ≡ shape.Result next → next < 26000
+  pub next-result : (next : ℕ) → s ≡ shape.Result next → next < placeLimit
   next-result next e = ahead (shape.Result next) e
 
-  pub next-parameter : (k next : ℕ) → s ≡ shape.Parameter k next → next < 26000
+  pub next-parameter : (k next : ℕ) → s ≡ shape.Parameter k next → next < placeLimit
   next-parameter k next e = ahead (shape.Parameter k next) e
 
-  pub next-field : (k next : ℕ) → s ≡ shape.Field k next → next < 26000
+  pub next-field : (k next : ℕ) → s ≡ shape.Field k next → next < placeLimit
   next-field k next e = ahead (shape.Field k next) e
 
-  pub next-call : (m n next : ℕ) → s ≡ shape.Call m n next → next < 26000
+  pub next-call : (m n next : ℕ) → s ≡ shape.Call m n next → next < placeLimit
   next-call m n next e = ahead (shape.Call m n next) e
 
-  pub next-new : (c n next : ℕ) → s ≡ shape.New c n next → next < 26000
+  pub next-new : (c n next : ℕ) → s ≡ shape.New c n next → next < placeLimit
   next-new c n next e = ahead (shape.New c n next) e
 
   pub new-fits : (c n next : ℕ) → s ≡ shape.New c n next → next < 65536
@@ -108,7 +109,7 @@ module _ (T : List ℕ) (at : ℕ) (s : Shape) (es : s ≡ shapeAt T at) where
 
 -- ---- what the functions ask
 module _ (W : List ℕ) (f : Frame) (S : List ℕ) (p : Spot) where
-  pub run-part : Runnable W f S p → (p .nesting ≡ 0 → ⊥) → (next : ℕ) → next < 26000 → (q : Spot) → q ≡ innerSpot p next → PartRunnable W f S q
+  pub run-part : Runnable W f S p → (p .nesting ≡ 0 → ⊥) → (next : ℕ) → next < placeLimit → (q : Spot) → q ≡ innerSpot p next → PartRunnable W f S q
   run-part run nz next l q eq = subst (PartRunnable W f S) (sym eq) (record {
     based = run .based;
     full = run .full;
@@ -268,7 +269,7 @@ module _ (W : List ℕ) (c n : ℕ) (A : List ℕ) (dst next : ℕ) where
   finish-bare z W′ v mk = finish-value W′ (made.Value v) (subst (λ (gs : List Graph). MadeIs W (make c gs) dst W′ (made.Value v)) (let e : [] ≡ valuesFrom W (partsOf A) 0 n = rw z in e) mk) v refl
 
 module _ (T W : List ℕ) (f : Frame) (S : List ℕ) (p : Spot) (c n : ℕ) (run : PartRunnable W f S p) where
-  module _ (x : ℕ) (ex : x ≡ getD T (16 * c + 1) 0) where
+  module _ (x : ℕ) (ex : x ≡ getD T (rowSize * c + 1) 0) where
     pub new-unlike : (x ≡ n → ⊥) → NewStep T W f S p c n W S (done.Halt Stuck)
     new-unlike h = record { trace = traced-none (p .opened) S; runs = new-other T W f S (p .opened) (p .at) (p .nesting) (p .calls) (p .block) (fuelOf S) c n x ex h }
 
@@ -322,7 +323,7 @@ module _ (T W : List ℕ) (f : Frame) (S : List ℕ) (p : Spot) (c n : ℕ) (run
     pub new-preset : NewStep T W f S p c n W S (done.Value (Object c 0) (p .at))
     new-preset =
         let h = preset-told .total ∙ sym (preset-told .none) in
-        new-made (getD T (16 * c + 1) 0) refl h W S (0 ∷ 0 ∷ 0 ∷ 0 ∷ []) (walked.After (p .at)) none-walked (p .at) refl W (done.Value (Object c 0) (p .at))
+        new-made (getD T (rowSize * c + 1) 0) refl h W S (0 ∷ 0 ∷ 0 ∷ 0 ∷ []) (walked.After (p .at)) none-walked (p .at) refl W (done.Value (Object c 0) (p .at))
         (finish-bare W c n (0 ∷ 0 ∷ 0 ∷ 0 ∷ []) (p .block) (p .at) (preset-told .none) W (Object c 0) (bare-made W (run .based .bares) c (p .block) (preset-told .low)))
 
 pub step-preset : (T W : List ℕ) (f : Frame) (S : List ℕ) (p : Spot) (s : Shape) → s ≡ shapeAt T (p .at) → Runnable W f S p → (p .nesting ≡ 0 → ⊥) → (c n next : ℕ) → s ≡ shape.New c n next

@@ -13,6 +13,7 @@ use Rattle.maker.specs.declared.Slot.{Slot}
 use Rattle.values.specs.Refs.{refIn}
 use Rattle.values.specs.Layout.{valueOf}
 use Rattle.maker.specs.Laying.{valuesFrom}
+use Rattle.evaluator.specs.Figures.{callLimit, callSize, fuelAt, traceSize}
 use Rattle.evaluator.specs.declared.Out.{Out}
 use Rattle.evaluator.specs.declared.frame.Frame.{Frame}
 use Rattle.evaluator.specs.declared.trace.OpenCall.{OpenCall}
@@ -33,28 +34,28 @@ pub traced-down : (j k : ℕ) (S S1 : List ℕ) → j ≤ k → Traced k S S1 �
 traced-down j k S S1 l a = record { same = a .same; calls = λ p q. a .calls p (omega arith); spent = a .spent }
 
 -- fuel spent
-module _ (k : ℕ) (S : List ℕ) (x : ℕ) (few : k ≤ 16) (full : length S ≡ 129) where
-  pub fuel-set : fuelOf (set S 128 x) ≡ x
-  fuel-set = getD-set-same S 128 x 0 (omega (arith, full))
+module _ (k : ℕ) (S : List ℕ) (x : ℕ) (few : k ≤ callLimit) (full : length S ≡ traceSize) where
+  pub fuel-set : fuelOf (set S fuelAt x) ≡ x
+  fuel-set = getD-set-same S fuelAt x 0 (omega (arith, full))
 
-  pub traced-fuel : x ≤ fuelOf S → Traced k S (set S 128 x)
+  pub traced-fuel : x ≤ fuelOf S → Traced k S (set S fuelAt x)
   traced-fuel l = record {
-    same = length-set S 128 x;
-    calls = λ p q. getD-set-other S 128 p x 0 (λ z. omega arith);
+    same = length-set S fuelAt x;
+    calls = λ p q. getD-set-other S fuelAt p x 0 (λ z. omega arith);
     spent = let e = fuel-set in omega arith;
   }
 
 -- ---- the calls of a trace
-pub call-alike : (S S1 : List ℕ) (i : ℕ) → ((p : ℕ) → 8 * i ≤ p → p < 8 * i + 7 → getD S1 p 0 ≡ getD S p 0) → callAt S1 i ≡ callAt S i
+pub call-alike : (S S1 : List ℕ) (i : ℕ) → ((p : ℕ) → callSize * i ≤ p → p < callSize * i + 7 → getD S1 p 0 ≡ getD S p 0) → callAt S1 i ≡ callAt S i
 unfolding callAt slotsAt
 call-alike S S1 i h =
-    let name = h (8 * i) (omega arith) (omega arith) in
-    let count = h (8 * i + 1) (omega arith) (omega arith) in
-    let receiver = h (8 * i + 2) (omega arith) (omega arith) in
-    let first = h (8 * i + 3) (omega arith) (omega arith) in
-    let second = h (8 * i + 3 + 1) (omega arith) (omega arith) in
-    let third = h (8 * i + 3 + 2) (omega arith) (omega arith) in
-    let gives = h (8 * i + 6) (omega arith) (omega arith) in
+    let name = h (callSize * i) (omega arith) (omega arith) in
+    let count = h (callSize * i + 1) (omega arith) (omega arith) in
+    let receiver = h (callSize * i + 2) (omega arith) (omega arith) in
+    let first = h (callSize * i + 3) (omega arith) (omega arith) in
+    let second = h (callSize * i + 3 + 1) (omega arith) (omega arith) in
+    let third = h (callSize * i + 3 + 2) (omega arith) (omega arith) in
+    let gives = h (callSize * i + 6) (omega arith) (omega arith) in
     λ j. record {
       receiver = refIn (receiver j);
       name = name j % 256;

@@ -17,6 +17,7 @@ use Rattle.values.specs.declared.ValueRef.{ValueRef}
 use Rattle.maker.specs.declared.Slot.{Slot}
 use Rattle.values.specs.Layout.{valueOf}
 use Rattle.maker.specs.Laying.{valuesFrom}
+use Rattle.evaluator.specs.Figures.{callLimit, levelBlocks, openBlocks, blockLimit, workRoom}
 use Rattle.evaluator.specs.declared.Out.{Out}
 use Rattle.evaluator.specs.declared.frame.Frame.{Frame}
 use Rattle.evaluator.specs.State.{Kept, Older, PartsOlder, TraceHolds, frameIn, traceIn}
@@ -62,9 +63,9 @@ pub record CallFits (W tr : List ℕ) (top : ℕ) (v : ValueRef) (ps : List Slot
   pub receiver : Older W (sp + 4) v
   pub args : PartsOlder W (sp + 4) ps n
   pub few : n ≤ 3
-  pub calls : top + d ≤ 16
-  pub room : sp + 16 * d + 6 ≤ 275
-  pub long : 65520 ≤ length W
+  pub calls : top + d ≤ callLimit
+  pub room : sp + openBlocks * d + 2 * levelBlocks ≤ blockLimit
+  pub long : workRoom ≤ length W
 
 -- method i, which has the name m, called on v with the n arguments; `next` is the place after the call
 pub record Invokes (T W tr : List ℕ) (top : ℕ) (v : ValueRef) (ps : List Slot) (n i next d sp fuel m : ℕ) (W′ : List ℕ) (o : Out) : Type 0 where
@@ -79,9 +80,9 @@ pub record BodyFits (W tr : List ℕ) (top : ℕ) (v : ValueRef) (ps : List Slot
   pub receiver : Older W (sp + 4) v
   pub args : PartsOlder W (sp + 4) ps n
   pub few : n ≤ 3
-  pub calls : top + d + 1 ≤ 16
-  pub room : sp + 16 * d + 22 ≤ 275
-  pub long : 65520 ≤ length W
+  pub calls : top + d + 1 ≤ callLimit
+  pub room : sp + openBlocks * (d + 1) + 2 * levelBlocks ≤ blockLimit
+  pub long : workRoom ≤ length W
 
 -- the right side, with res the mark x
 pub record RunsRight (T W tr : List ℕ) (top : ℕ) (v : ValueRef) (ps : List Slot) (n i next d sp fuel x : ℕ) (W′ : List ℕ) (o : Out) : Type 0 where

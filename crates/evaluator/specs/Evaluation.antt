@@ -13,6 +13,7 @@ use Rattle.cofj.specs.Running as language
 use Rattle.cofj.specs.Running.{Outcome, stopped, Deeper}
 use Rattle.classes.specs.Layout.{layout, Stands}
 use Rattle.checker.specs.Ready.{Ready, Each, Nested}
+use Rattle.evaluator.specs.Figures.{callLimit, levelBlocks, openBlocks, blockLimit, workRoom}
 use Rattle.evaluator.specs.declared.Out.{Out}
 use Rattle.evaluator.specs.declared.frame.Frame.{Frame}
 use Rattle.evaluator.specs.State.{Kept, FrameHolds, TraceHolds, frameIn, traceIn}
@@ -46,24 +47,22 @@ evalIn d t f os e n = language.eval 32 t (deeper d t) f os e n
 abbrev pub evalsIn : ℕ → Table → language.Frame → List language.OpenCall → Exprs → ℕ → Outcome (List Graph)
 evalsIn d t f os es n = language.evals 32 t (deeper d t) f os es n
 
--- What evaluation asks: the frame and the trace stand for values below block sp, and there is room above. Up to 3 parts are pending a level
--- while the next is evaluated, and 4 when a body is run, from the last level but one: 16 blocks a call. 275 is what main needs, which begins at block 1, and so no
--- block from 274 on is touched.
+-- What evaluation asks: the frame and the trace stand for values below block sp, and there is room above (Figures).
 pub record Fits (W : List ℕ) (f : Frame) (tr : List ℕ) (top left d sp : ℕ) : Type 0 where
   pub frame : FrameHolds W sp f
   pub trace : TraceHolds W sp tr top
-  pub calls : top + d ≤ 16
-  pub room : sp + 16 * d + 3 * left ≤ 275
-  pub long : 65520 ≤ length W
+  pub calls : top + d ≤ callLimit
+  pub room : sp + openBlocks * d + levelBlocks * left ≤ blockLimit
+  pub long : workRoom ≤ length W
 
 -- n expressions from block sp on
 pub record ListFits (W : List ℕ) (f : Frame) (tr : List ℕ) (top left d sp n : ℕ) : Type 0 where
   pub frame : FrameHolds W sp f
   pub trace : TraceHolds W sp tr top
-  pub calls : top + d ≤ 16
+  pub calls : top + d ≤ callLimit
   pub few : n ≤ 4
-  pub room : sp + n + 16 * d + 3 * left ≤ 276
-  pub long : 65520 ≤ length W
+  pub room : sp + n + openBlocks * d + levelBlocks * left ≤ blockLimit + 1
+  pub long : workRoom ≤ length W
 
 -- the expression at `at`, evaluated at block sp
 pub record Evaluates (T W : List ℕ) (f : Frame) (tr : List ℕ) (top at left d sp fuel : ℕ) (W′ : List ℕ) (o : Out) : Type 0 where

@@ -1,3 +1,4 @@
+pub mod Figures
 pub mod State
 pub mod Resting
 pub mod Answers

@@ -2,6 +2,7 @@
 -- Not here: what is asked there (Steps).
 use Prim.Native.Nat.{ℕ, _+_, _-_, _*_}
 use lib.Dec.{eqb}
+use Rattle.cofj.specs.Limits.{nestingLimit}
 use Rattle.classes.specs.Machine.{pick}
 use Rattle.values.specs.declared.ValueRef.{ValueRef}
 use Rattle.values.specs.declared.ValueRef.the-variants.{Object, Mark, Undetermined}
@@ -19,9 +20,9 @@ movedSpot p at block = record { at = at; block = block; nesting = p .nesting; ca
 abbrev pub downSpot : Spot → ℕ → Spot
 downSpot p d = record { at = p .at + 2 * d; block = p .block; nesting = p .nesting - d; calls = p .calls; opened = p .opened; objects = p .objects }
 
--- a body at a place: nested 6 deep, one call fewer, four blocks on
+-- a body at a place: nested as deep as may be, one call fewer, four blocks on
 abbrev pub bodySpot : Spot → ℕ → ℕ → Spot
-bodySpot p at opened = record { at = at; block = p .block + 4; nesting = 6; calls = p .calls - 1; opened = opened; objects = p .objects }
+bodySpot p at opened = record { at = at; block = p .block + 4; nesting = nestingLimit; calls = p .calls - 1; opened = opened; objects = p .objects }
 
 -- the block for what follows a value: the next, if it lies in this one
 abbrev pub pastOf : ℕ → ValueRef → ℕ

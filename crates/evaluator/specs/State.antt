@@ -16,6 +16,7 @@ use Rattle.maker.specs.declared.Slot.{Slot}
 use Rattle.canon.specs.Layout.{Beneath}
 use Rattle.values.specs.Layout.{valueOf, Holds, Low}
 use Rattle.maker.specs.Laying.{valuesFrom, PartsHeld}
+use Rattle.evaluator.specs.Figures.{callLimit, callSize, argsAt}
 use Rattle.evaluator.specs.declared.frame.Held.{Held}
 use Rattle.evaluator.specs.declared.frame.Held.the-variants.{Is, Absent}
 use Rattle.evaluator.specs.declared.frame.Frame.{Frame}
@@ -72,7 +73,7 @@ unfoldable pub slotsAt : List ℕ → ℕ → List Slot
 slotsAt S p = record { r = refIn (getD S p 0) } ∷ record { r = refIn (getD S (p + 1) 0) } ∷ record { r = refIn (getD S (p + 2) 0) } ∷ []
 
 unfoldable pub callAt : List ℕ → ℕ → OpenCall
-callAt S i = record { receiver = refIn (getD S (8 * i + 2) 0); name = getD S (8 * i) 0 % 256; args = slotsAt S (8 * i + 3); n = getD S (8 * i + 1) 0 % 256; gives = refIn (getD S (8 * i + 6) 0) }
+callAt S i = record { receiver = refIn (getD S (callSize * i + 2) 0); name = getD S (callSize * i) 0 % 256; args = slotsAt S (callSize * i + argsAt); n = getD S (callSize * i + 1) 0 % 256; gives = refIn (getD S (callSize * i + 6) 0) }
 
 -- the call of m on v with the first n of these arguments, as call k: meeting it gives its mark
 abbrev pub sideCall : ValueRef → ℕ → List Slot → ℕ → ℕ → OpenCall
@@ -82,8 +83,8 @@ sideCall v m ps n k = record { receiver = v; name = m; args = ps; n = n; gives =
 pub record CallPut (S : List ℕ) (k : ℕ) (c : OpenCall) (S′ : List ℕ) : Type 0 where
   pub same : length S′ ≡ length S
   pub call : callAt S′ k ≡ c
-  pub below : (p : ℕ) → p < 8 * k → getD S′ p 0 ≡ getD S p 0
-  pub above : (p : ℕ) → 8 * k + 7 ≤ p → getD S′ p 0 ≡ getD S p 0
+  pub below : (p : ℕ) → p < callSize * k → getD S′ p 0 ≡ getD S p 0
+  pub above : (p : ℕ) → callSize * k + 7 ≤ p → getD S′ p 0 ≡ getD S p 0
 
 -- ---- traces: the open calls
 pub record CallOlder (W : List ℕ) (sp : ℕ) (c : OpenCall) : Type 0 where
@@ -103,7 +104,7 @@ pub record CallHolds (W : List ℕ) (c : OpenCall) : Type 0 where
   pub few : c .n ≤ 4
 
 pub record CallsHold (W S : List ℕ) (k : ℕ) : Type 0 where
-  pub few : k ≤ 16
+  pub few : k ≤ callLimit
   pub call : (i : ℕ) → i < k → CallHolds W (callAt S i)
   pub mark : (i : ℕ) → i < k → callAt S i .gives ≡ Mark i
 

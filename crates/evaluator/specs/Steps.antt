@@ -5,10 +5,12 @@ use Prim.Native.Nat.{ℕ, _+_, _-_, _*_, _≤_, _<_}
 use mathlib.Core.Path.{_≡_}
 use mathlib.Core.List.{List}
 use lib.ListN.{length, getD}
+use Rattle.canon.specs.Layout.{blockSize}
 use Rattle.values.specs.declared.ValueRef.{ValueRef}
 use Rattle.values.specs.declared.ValueRef.the-variants.{Object, Mark, Undetermined}
 use Rattle.maker.specs.Laying.{partsOf, spare}
 use Rattle.maker.specs.Bares.{Bares}
+use Rattle.evaluator.specs.Figures.{callSize, fuelAt, traceSize, placeLimit}
 use Rattle.evaluator.specs.declared.Done.{Done}
 use Rattle.evaluator.specs.declared.Walked.{Walked}
 use Rattle.evaluator.specs.declared.Walked.the-variants as walked
@@ -19,14 +21,14 @@ use Rattle.evaluator.specs.Answers.{outWith, listFrom, Finishes}
 use Rattle.evaluator.specs.Evaluation.{Fits, ListFits, Evaluates, Fields, Lists, News}
 use Rattle.evaluator.specs.Calling.{Calls, ArgsFit, CallsWith, CallFits, Invokes, BodyFits, RunsRight, RunsLeft}
 
--- the fuel left, after 16 calls
+-- the fuel left, after the calls
 abbrev pub fuelOf : List ℕ → ℕ
-fuelOf S = getD S 128 0
+fuelOf S = getD S fuelAt 0
 
 -- the first k calls are as before, and no fuel was won
 pub record Traced (k : ℕ) (S S′ : List ℕ) : Type 0 where
   pub same : length S′ ≡ length S
-  pub calls : (p : ℕ) → p < 8 * k → getD S′ p 0 ≡ getD S p 0
+  pub calls : (p : ℕ) → p < callSize * k → getD S′ p 0 ≡ getD S p 0
   pub spent : fuelOf S′ ≤ fuelOf S
 
 -- ---- what is asked
@@ -37,21 +39,21 @@ pub record Based (W : List ℕ) (b : ℕ) : Type 0 where
 
 pub record Runnable (W : List ℕ) (f : Frame) (S : List ℕ) (p : Spot) : Type 0 where
   pub based : Based W (p .block)
-  pub full : length S ≡ 129
+  pub full : length S ≡ traceSize
   pub count : f .n ≤ 3
   pub fits : Fits W f S (p .opened) (p .nesting) (p .calls) (p .block)
 
 -- one level in
 pub record PartRunnable (W : List ℕ) (f : Frame) (S : List ℕ) (p : Spot) : Type 0 where
   pub based : Based W (p .block)
-  pub full : length S ≡ 129
-  pub place : p .at < 26000
+  pub full : length S ≡ traceSize
+  pub place : p .at < placeLimit
   pub count : f .n ≤ 3
   pub fits : Fits W f S (p .opened) (p .nesting + 1) (p .calls) (p .block)
 
 pub record ListRunnable (W : List ℕ) (f : Frame) (S : List ℕ) (p : Spot) (n : ℕ) : Type 0 where
   pub based : Based W (p .block)
-  pub full : length S ≡ 129
+  pub full : length S ≡ traceSize
   pub count : f .n ≤ 3
   pub fits : ListFits W f S (p .opened) (p .nesting) (p .calls) (p .block) n
 
@@ -61,24 +63,24 @@ pub record PartsReady (W A : List ℕ) (n dst : ℕ) : Type 0 where
   pub few : n ≤ 4
   pub full : length A ≡ 4
   pub under : dst + 4 < spare
-  pub room : 234 * spare + 234 ≤ length W
+  pub room : blockSize * spare + blockSize ≤ length W
 
 -- the receiver v was evaluated
 pub record ArgsRunnable (W : List ℕ) (f : Frame) (S : List ℕ) (p : Spot) (v : ValueRef) (n : ℕ) : Type 0 where
   pub based : Based W (p .block)
-  pub full : length S ≡ 129
+  pub full : length S ≡ traceSize
   pub count : f .n ≤ 3
   pub fits : ArgsFit W f S (p .opened) (p .nesting) (p .calls) (p .block) v n
 
 pub record CallRunnable (W S : List ℕ) (v : ValueRef) (A : List ℕ) (n : ℕ) (p : Spot) : Type 0 where
   pub based : Based W (p .block)
-  pub full : length S ≡ 129
+  pub full : length S ≡ traceSize
   pub fits : CallFits W S (p .opened) v (slotsAt A 0) n (p .calls) (p .block)
 
 -- a call is opened
 pub record BodyRunnable (W S : List ℕ) (v : ValueRef) (A : List ℕ) (n : ℕ) (p : Spot) : Type 0 where
   pub based : Based W (p .block)
-  pub full : length S ≡ 129
+  pub full : length S ≡ traceSize
   pub fits : BodyFits W S (p .opened) v (slotsAt A 0) n (p .calls - 1) (p .block)
   pub deep : p .calls ≡ 0 → ⊥
 

@@ -31,6 +31,7 @@ ghost use mathlib.Core.Path.{_≡_};
 ghost use Prim.Native.Nat.{ℕ, _+_, _*_, _<_, _≤_};
 ghost use lib.ListN.{getD};
 ghost use Rattle.classes.specs.Machine.{rowOf, leftOf, rightOf};
+ghost use Rattle.evaluator.specs.Figures.{callLimit};
 ghost use Rattle.evaluator.specs.Resting.{frameOf, bodyFrame};
 ghost use Rattle.evaluator.specs.Spots.{bodySpot};
 ghost use Rattle.evaluator.specs.Steps.{PartRunnable, ArgsRunnable, CallRunnable, BodyRunnable, MarkGiven, CallStep, ArgsStep, InvokeStep, RightStep, LeftStep};
@@ -143,7 +144,7 @@ pub(crate) fn right_spot(t: &[u8; SIZE], i: u8, p: Spot) -> Spot
 
 // The same for the left side, under one open call more.
 pub(crate) fn left_spot(t: &[u8; SIZE], i: u8, p: Spot) -> Spot
-    requires { ⌜ (0 < p .calls) × (p .block + 4 < 65536) × (p .opened < 16) ⌝ }
+    requires { ⌜ (0 < p .calls) × (p .block + 4 < 65536) × (p .opened < callLimit) ⌝ }
     ensures { λ q. ⌜ q ≡ bodySpot p (leftOf (now (t .entry)) i) (p .opened + 1) ⌝ }
 {
     body(p, left_place(t, i), p.opened + 1)

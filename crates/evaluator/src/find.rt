@@ -1,4 +1,6 @@
 // The method that a call names, or that it is stuck. Not here: lookup along the parents (classes).
+use canon::BLOCK;
+use canon::OBJECT;
 use checker::fits::receiver;
 use classes::methods::Found;
 use classes::places::CLASSES;
@@ -15,7 +17,7 @@ pub(crate) fn find(t: &[u8; SIZE], work: &[u8], v: ValueRef, m: u8, n: u8) -> Fo
     let ValueRef::Object(i, b) = v else {
         return Found::Nothing;
     };
-    let c = work[234 * (b as usize) + 6 * (i as usize)];
+    let c = work[BLOCK * (b as usize) + OBJECT * (i as usize)];
     if CLASSES < c {
         return Found::Nothing;
     }

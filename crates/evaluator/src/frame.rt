@@ -8,6 +8,7 @@ use values::refs::pack;
 use values::refs::unpack;
 ghost use mathlib.Core.Path.{_≡_};
 ghost use Prim.Native.Nat.{ℕ, _≤_, _<_};
+ghost use Rattle.evaluator.specs.Figures.{placeLimit};
 ghost use Rattle.evaluator.specs.State.{variableOf, holds};
 ghost use Rattle.evaluator.specs.Answers.{doneOf};
 ghost use Rattle.evaluator.specs.Resting.{heldOf, frameOf, bodyFrame, noVariables};
@@ -18,7 +19,8 @@ pub enum Held {
     Absent,
 }
 
-// The variables of a body: this, res and the first n arguments; and the class that owns the body. In main there is no `this`, and the owner is 0.
+// The variables of a body: this, res and the first n arguments; and the class that owns the body, for 2026-01 (parameters
+// without `this`) and 2026-07 (open calls by owner) to read. In main there is no `this`, and the owner is 0.
 pub struct Frame {
     pub this: Held,
     pub res: Held,
@@ -147,7 +149,7 @@ pub(crate) fn variable(fr: &[u32; FRAME], k: u16) -> Held
 
 // What a variable holds, as an answer: stuck if it holds nothing.
 pub(crate) fn answer(h: Held, next: usize) -> Done
-    requires { ⌜ next < 26000 ⌝ }
+    requires { ⌜ next < placeLimit ⌝ }
     ensures { λ o. ⌜ o ≡ doneOf h next ⌝ }
 {
     let Held::Is(r) = h else {

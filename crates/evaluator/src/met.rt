@@ -18,6 +18,7 @@ ghost use Rattle.cofj.specs.Values.{eqGraphs};
 ghost use Rattle.cofj.specs.Running.{openMark};
 ghost use Rattle.values.specs.Layout.{Holds, valueOf};
 ghost use Rattle.maker.specs.Laying.{PartsHeld, valuesFrom};
+ghost use Rattle.evaluator.specs.Figures.{callLimit, callSize, argsAt};
 ghost use Rattle.evaluator.specs.State.{apartOf, ApartTest, OtherTest, slotsAt, CallHolds, CallsHold, callIn, sameOf, traceIn, metOf};
 
 // Whether two values are different objects of one block: it costs no comparison of objects.
@@ -83,8 +84,8 @@ pub(crate) fn same_call(
 
 // True only if one of the n arguments of call i is apart from that of vs, all at rest.
 pub(crate) fn args_apart(tr: &[u32; TRACE], i: u8, vs: &[u32; 4], n: u8) -> bool
-    requires { ⌜ (i < 16) × (n ≤ 3) ⌝ }
-    ensures { λ r. ⌜ ApartTest (slotsAt (now (tr .entry)) (8 * i + 3)) (slotsAt (now (vs .entry)) 0) n r ⌝ }
+    requires { ⌜ (i < callLimit) × (n ≤ 3) ⌝ }
+    ensures { λ r. ⌜ ApartTest (slotsAt (now (tr .entry)) (callSize * i + argsAt)) (slotsAt (now (vs .entry)) 0) n r ⌝ }
 {
     let at = CALL * (i as usize) + ARGS;
     let mut k: u8 = 0;
@@ -99,7 +100,7 @@ pub(crate) fn args_apart(tr: &[u32; TRACE], i: u8, vs: &[u32; 4], n: u8) -> bool
 
 // True only if call i is not the call of m on v with the n arguments, told before it is read: by its name, its count, or a receiver or an argument that is apart.
 pub(crate) fn other_call(tr: &[u32; TRACE], i: u8, v: ValueRef, m: u8, vs: &[u32; 4], n: u8) -> bool
-    requires { ⌜ (i < 16) × (n ≤ 3) ⌝ }
+    requires { ⌜ (i < callLimit) × (n ≤ 3) ⌝ }
     ensures { λ r. ⌜ OtherTest (now (tr .entry)) i v m (now (vs .entry)) n r ⌝ }
 {
     let at = CALL * (i as usize);

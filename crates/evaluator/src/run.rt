@@ -16,6 +16,7 @@ use maker::bares::lay_bares;
 ghost use mathlib.Core.Path.{_≡_};
 ghost use Prim.Native.Nat.{ℕ, _<_, _≤_};
 ghost use lib.ListN.{length};
+ghost use Rattle.evaluator.specs.Figures.{workRoom};
 ghost use Rattle.evaluator.specs.Answers.{outWith};
 ghost use Rattle.evaluator.specs.Main.{Runs};
 
@@ -33,9 +34,9 @@ pub(crate) fn out_of(o: Done, fuel: u16) -> Out
     }
 }
 
-// The outcome of main with this fuel. The work buffer has room for 275 blocks, the first of them with the objects without fields.
+// The outcome of main with this fuel. The first block of the work buffer is for the objects without fields.
 pub fn run(t: &[u8; SIZE], work: &mut [u8], fuel: u16) -> Out
-    requires { ⌜ 65520 ≤ length (now work) ⌝ }
+    requires { ⌜ workRoom ≤ length (now work) ⌝ }
     ensures { λ o. ⌜ Runs (now (t .entry)) (now (work .entry)) fuel (now (work .exit)) o ⌝ }
 {
     lay_bares(work);

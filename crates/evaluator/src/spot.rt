@@ -1,10 +1,11 @@
 // Where an evaluation stands. Not here: what it is evaluated with (frame, trace).
 ghost use mathlib.Core.Path.{_≡_};
 ghost use Prim.Native.Nat.{ℕ, _+_, _<_, _≤_};
+ghost use Rattle.evaluator.specs.Figures.{placeLimit};
 ghost use Rattle.evaluator.specs.Spots.{innerSpot, movedSpot, downSpot, bodySpot};
 
 // The place of the expression, the block that its value goes to, the nesting left, how many calls may still be opened, how many left-side calls are
-// open, and how many objects a value may have. Eight bytes go in a register.
+// open, and how many objects a value may have: nobody reads that until the session has a limit of its own (2026-11). Eight bytes go in a register.
 pub struct Spot {
     pub at: u16,
     pub block: u16,
@@ -28,7 +29,7 @@ pub const CALL_BLOCKS: u16 = 4;
 
 // One level in, at another place.
 pub(crate) fn inner(p: Spot, at: usize) -> Spot
-    requires { ⌜ (0 < p .nesting) × (at < 26000) ⌝ }
+    requires { ⌜ (0 < p .nesting) × (at < placeLimit) ⌝ }
     ensures { λ q. ⌜ q ≡ innerSpot p at ⌝ }
 {
     Spot {

@@ -7,6 +7,7 @@ use values::refs::unpack;
 ghost use mathlib.Core.Path.{_≡_};
 ghost use Prim.Native.Nat.{ℕ, _<_};
 ghost use lib.ListN.{length};
+ghost use Rattle.evaluator.specs.Figures.{callLimit, traceSize};
 ghost use Rattle.evaluator.specs.State.{callAt, slotsAt, sideCall, CallPut};
 
 // An open call: its receiver, its name, its first n arguments, and what meeting it again gives.
@@ -24,7 +25,7 @@ pub const CALL: usize = 8;
 // the first argument's, from the call's first on
 pub const ARGS: usize = 3;
 
-// where the fuel left stands, after 16 calls
+// where the fuel left stands, after the calls
 pub const FUEL: usize = 128;
 
 // all numbers
@@ -42,7 +43,7 @@ pub(crate) fn slots(vs: &[u32; 4]) -> [Slot; 3]
 
 // Call i.
 pub(crate) fn call_at(tr: &[u32; TRACE], i: u8) -> OpenCall
-    requires { ⌜ i < 16 ⌝ }
+    requires { ⌜ i < callLimit ⌝ }
     ensures { λ c. ⌜ c ≡ callAt (now (tr .entry)) i ⌝ }
 {
     let at = CALL * (i as usize);
@@ -68,7 +69,7 @@ pub(crate) fn call_at(tr: &[u32; TRACE], i: u8) -> OpenCall
 
 // Call i becomes this one.
 pub(crate) fn put_call(tr: &mut [u32; TRACE], i: u8, c: OpenCall)
-    requires { ⌜ (i < 16) × (length (now tr) ≡ 129) ⌝ }
+    requires { ⌜ (i < callLimit) × (length (now tr) ≡ traceSize) ⌝ }
     ensures { λ _. ⌜ CallPut (now (tr .entry)) i c (now (tr .exit)) ⌝ }
 {
     let at = CALL * (i as usize);
@@ -92,7 +93,7 @@ pub(crate) fn put_call(tr: &mut [u32; TRACE], i: u8, c: OpenCall)
 
 // The call of m on v with the n arguments at rest in vs becomes call k, and meeting it again gives its mark.
 pub(crate) fn push(tr: &mut [u32; TRACE], k: u8, v: ValueRef, m: u8, vs: &[u32; 4], n: u8)
-    requires { ⌜ (k < 16) × (length (now tr) ≡ 129) ⌝ }
+    requires { ⌜ (k < callLimit) × (length (now tr) ≡ traceSize) ⌝ }
     ensures { λ _. ⌜ CallPut (now (tr .entry)) k (sideCall v m (slotsAt (now (vs .entry)) 0) n k) (now (tr .exit)) ⌝ }
 {
     let gives = ValueRef::Mark(k);

@@ -1,4 +1,5 @@
 -- The trace searched for a call: the calls left, at each turn of the loop.
+use Rattle.evaluator.specs.Figures.{callLimit}
 use Rattle.evaluator.proofs.met.open_call.Statement.{statement}
 use Rattle.evaluator.proofs.met.open_call.Tie as tie
 use Rattle.evaluator.proofs.met.open_call.Reads as reads
@@ -15,7 +16,7 @@ use Prim.Native.Nat.{_≤_}
 use mathlib.Core.Logic.{⊎-elim}
 
 abbrev Inv-loop : tie.InvT-loop
-Inv-loop work tr k v m vs n j₀ j = (j ≤ 16) × Left work tr k v m (slotsAt vs 0) n j
+Inv-loop work tr k v m vs n j₀ j = (j ≤ callLimit) × Left work tr k v m (slotsAt vs 0) n j
 
 abbrev μ-loop : tie.MeasureT-loop
 μ-loop work tr k v m vs n j₀ j = j

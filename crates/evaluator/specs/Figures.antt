@@ -1,0 +1,41 @@
+-- The figures of evaluation, each named once; src/trace.rt and src/spot.rt have the same for the code.
+-- Not here: document 01's (the language's Limits), those of a table (crate classes, Figures) and of a block (crate canon, Layout).
+use Prim.Native.Nat.{ℕ}
+
+-- how many calls may be open
+abbrev pub callLimit : ℕ
+callLimit = 16
+
+-- the numbers of an open call at rest, and where its arguments begin among them
+abbrev pub callSize : ℕ
+callSize = 8
+
+abbrev pub argsAt : ℕ
+argsAt = 3
+
+-- where the fuel left stands, after callLimit calls; all numbers
+abbrev pub fuelAt : ℕ
+fuelAt = 128
+
+abbrev pub traceSize : ℕ
+traceSize = 129
+
+-- every place of a table, and what follows its last expression, lies below
+abbrev pub placeLimit : ℕ
+placeLimit = 26000
+
+-- the blocks of a level, and of a call that may still be opened: up to 3 parts are pending a level while the next is evaluated, and 4 when a body is run, from the
+-- last level but one
+abbrev pub levelBlocks : ℕ
+levelBlocks = 3
+
+abbrev pub openBlocks : ℕ
+openBlocks = 16
+
+-- what main needs, which begins at block 1: 1 + openBlocks * callLimit + levelBlocks * nestingLimit. So no block from 274 on is touched
+abbrev pub blockLimit : ℕ
+blockLimit = 275
+
+-- the bytes that the work buffer has at least: these blocks', and those up to the spare one (crate maker, Laying)
+abbrev pub workRoom : ℕ
+workRoom = 65520
