@@ -10,7 +10,7 @@ use borrow.Author.Tests.{eq-eqb, ne-eqb}
 use Rattle.values.specs.declared.ValueRef.{ValueRef}
 use Rattle.values.specs.declared.ValueRef.the-variants.{Undetermined}
 use Rattle.values.specs.Refs.{refIn}
-use Rattle.values.proofs.RefLaws.{pack-undetermined}
+use Rattle.values.proofs.RefLaws.{undetermined-is}
 use Rattle.maker.specs.declared.Slot.{Slot}
 use Rattle.evaluator.specs.Figures.{callLimit, callSize, traceSize}
 use Rattle.evaluator.specs.declared.frame.Held.{Held}
@@ -54,7 +54,7 @@ module _ (A : List ℕ) (v : ValueRef) (res : Held) (n owner : ℕ) where
 pub main-frame : frameOf (3 ∷ 3 ∷ 2 ∷ 2 ∷ 2 ∷ 0 ∷ 0 ∷ []) ≡ noVariables
 unfolding frameOf slotsAt heldOf
 main-frame =
-    let u : refIn 2 ≡ Undetermined = pack-undetermined Undetermined refl in
+    let u : refIn 2 ≡ Undetermined = undetermined-is in
     λ i. record { this = Absent; res = Absent; args = record { r = u i } ∷ record { r = u i } ∷ record { r = u i } ∷ []; n = 0; owner = 0 }
 
 module _ (R : List ℕ) (this res : Held) (a b d : ValueRef) where

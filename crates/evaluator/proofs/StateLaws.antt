@@ -3,7 +3,7 @@
 -- Not here: frames and calls at rest (RestLaws).
 use Prim.Native.Nat.{ℕ, zero, suc, _+_, _-_, _*_, _≤_, _<_, _%_}
 use native.Mathlib.Omega.{arith}
-use native.Mathlib.Decide.{ℕ-discrete}
+use native.Mathlib.Decide.{decLt, ℕ-discrete}
 use native.Mathlib.Numerals.{sub-one, add-one}
 use mathlib.Core.Path.{_≡_, refl, sym, ap, ap₂, _∙_, subst}
 use mathlib.Core.Bool.{Bool, true, false, not, false≢true}
@@ -33,45 +33,51 @@ use Rattle.evaluator.specs.declared.frame.Held.{Held}
 use Rattle.evaluator.specs.declared.frame.Held.the-variants.{Is, Absent}
 use Rattle.evaluator.specs.declared.frame.Frame.{Frame}
 use Rattle.evaluator.specs.declared.trace.OpenCall.{OpenCall}
-use Rattle.evaluator.specs.State.{slotAt, HeldOlder, heldIn, FrameHolds, frameIn, variableOf, holds, slotsAt, callAt, callIn, CallHolds, CallsHold, traceIn, apartOf, ApartTest, Other, OtherTest, sameOf, metOf}
+use Rattle.evaluator.specs.State.{slotAt, HeldOlder, heldIn, FrameHolds, frameIn, passedOf, variableOf, slotsAt, callAt, callIn, CallHolds, CallsHold, traceIn, apartOf, ApartTest, Other, OtherTest, sameOf, metOf}
 
 -- ---- variables
-pub variable-none : (f : Frame) (k : ℕ) → f .n ≤ k → Absent ≡ variableOf f k
-unfolding variableOf
-variable-none f k h = rw (le-ltb k (f .n) h)
+pub passed-none : (k n : ℕ) (v : ValueRef) → n ≤ k → Absent ≡ passedOf k n v
+unfolding passedOf
+passed-none k n v h = rw (le-ltb k n h)
 
-pub variable-is : (f : Frame) (k : ℕ) → k < f .n → Is (slotAt (f .args) k) ≡ variableOf f k
-unfolding variableOf
-variable-is f k h = rw (lt-ltb k (f .n) h)
+pub passed-is : (k n : ℕ) (v : ValueRef) → k < n → Is v ≡ passedOf k n v
+unfolding passedOf
+passed-is k n v h = rw (lt-ltb k n h)
 
--- the parameters, written out
-module _ (f : Frame) (k : ℕ) (l : k < f .n) where
-  pub first-parameter : k ≡ 0 → Is (slotAt (f .args) 0) ≡ variableOf f k
-  first-parameter e = ap (λ (j : ℕ). Is (slotAt (f .args) j)) (sym e) ∙ variable-is f k l
+-- what is read of a frame
+module _ (f g : Frame) (e : f ≡ g) where
+  pub this-is : f .this ≡ g .this
+  this-is = ap (λ (x : Frame). x .this) e
 
-  module _ (nz : k ≡ 0 → ⊥) where
-    pub second-parameter : k ≡ 1 → Is (slotAt (f .args) 1) ≡ variableOf f k
-    second-parameter e = ap (λ (j : ℕ). Is (slotAt (f .args) j)) (sym e) ∙ variable-is f k l
+  pub res-is : f .res ≡ g .res
+  res-is = ap (λ (x : Frame). x .res) e
 
-    pub third-parameter : f .n ≤ 3 → (k ≡ 1 → ⊥) → Is (slotAt (f .args) 2) ≡ variableOf f k
-    third-parameter m nu = let e : 2 ≡ k = omega (arith, nz, nu) in ap (λ (j : ℕ). Is (slotAt (f .args) j)) e ∙ variable-is f k l
+  -- the parameters, written out
+  module _ (k : ℕ) (h : Held) where
+    at-place : (j : ℕ) → k ≡ j → h ≡ passedOf k (f .n) (slotAt (f .args) j) → h ≡ variableOf g k
+    unfolding variableOf
+    at-place j z p = p ∙ ap (λ (i : ℕ). passedOf k (f .n) (slotAt (f .args) i)) (sym z) ∙ ap (λ (x : Frame). passedOf k (x .n) (slotAt (x .args) k)) e
 
-module _ (f g : Frame) (e : f ≡ g) (k : ℕ) where
-  pub holds-this : k ≡ 0 → f .this ≡ holds g k
-  unfolding holds
-  holds-this z = rw (eq-eqb k 0 z) (ap (λ (x : Frame). x .this) e)
+    pub first-parameter : k ≡ 0 → h ≡ passedOf k (f .n) (slotAt (f .args) 0) → h ≡ variableOf g k
+    first-parameter z p = at-place 0 z p
 
-  module _ (nz : k ≡ 0 → ⊥) where
-    pub holds-result : k ≡ 1 → f .res ≡ holds g k
-    unfolding holds
-    holds-result z = rw (ne-eqb k 0 nz, eq-eqb k 1 z) (ap (λ (x : Frame). x .res) e)
+    module _ (nz : k ≡ 0 → ⊥) where
+      pub second-parameter : k ≡ 1 → h ≡ passedOf k (f .n) (slotAt (f .args) 1) → h ≡ variableOf g k
+      second-parameter z p = at-place 1 z p
 
-    pub holds-parameter : (k ≡ 1 → ⊥) → (h : Held) → h ≡ variableOf f (k - 2) → h ≡ holds g k
-    unfolding holds
-    holds-parameter nu h z = rw (ne-eqb k 0 nz, ne-eqb k 1 nu) (z ∙ ap (λ (x : Frame). variableOf x (k - 2)) e)
+      pub third-parameter : (k ≡ 1 → ⊥) → g .n ≤ 3 → h ≡ passedOf k (f .n) (slotAt (f .args) 2) → h ≡ variableOf g k
+      unfolding variableOf
+      third-parameter nu l p = go (decLt k (f .n))
+        where
+          few : f .n ≤ 3
+          few = subst (λ (x : Frame). x .n ≤ 3) (sym e) l
 
-pub few-parameters : (f g : Frame) → f ≡ g → g .n ≤ 3 → f .n ≤ 3
-few-parameters f g e h = subst (λ (x : Frame). x .n ≤ 3) (sym e) h
+          go : Dec (k < f .n) → h ≡ variableOf g k
+          go (yes q) = at-place 2 (let m = few in omega (arith, nz, nu)) p
+          go (no q) =
+              p ∙ sym (passed-none k (f .n) (slotAt (f .args) 2) (omega (arith, q)))
+              ∙ passed-none k (f .n) (slotAt (f .args) k) (omega (arith, q))
+              ∙ ap (λ (x : Frame). passedOf k (x .n) (slotAt (x .args) k)) e
 
 -- ---- values from a place on
 module _ (W : List ℕ) (ps : List Slot) (i n : ℕ) where
@@ -105,7 +111,7 @@ length-values W ps n h = length-map (take n ps) (λ (s : Slot). valueOf W (s .r)
 
 module _ (W : List ℕ) (sp : ℕ) (f : Frame) (k : ℕ) (h : FrameHolds W sp f) where
   pub variable-held : HeldOlder W sp (variableOf f k)
-  unfolding variableOf
+  unfolding variableOf passedOf
   variable-held = go (ltb k (f .n)) refl
     where
       go : (b : Bool) → ltb k (f .n) ≡ b → HeldOlder W sp (pick b (Is (slotAt (f .args) k)) Absent)
@@ -113,7 +119,7 @@ module _ (W : List ℕ) (sp : ℕ) (f : Frame) (k : ℕ) (h : FrameHolds W sp f)
       go false q = tt
 
   pub variable-in : heldIn W (variableOf f k) ≡ getElem? (frameIn W f .params) k
-  unfolding variableOf frameIn valuesFrom
+  unfolding variableOf passedOf frameIn valuesFrom
   variable-in = go (ltb k (f .n)) refl
     where
       go : (b : Bool) → ltb k (f .n) ≡ b → heldIn W (pick b (Is (slotAt (f .args) k)) Absent) ≡ getElem? (valuesFrom W (f .args) 0 (f .n)) k

@@ -37,7 +37,7 @@ use Rattle.evaluator.specs.declared.frame.Held.{Held}
 use Rattle.evaluator.specs.declared.frame.Held.the-variants.{Is, Absent}
 use Rattle.evaluator.specs.declared.frame.Frame.{Frame}
 use Rattle.evaluator.specs.declared.spot.Spot.{Spot}
-use Rattle.evaluator.specs.State.{slotAt, variableOf, holds}
+use Rattle.evaluator.specs.State.{slotAt, variableOf}
 use Rattle.evaluator.specs.Answers.{Stops, outWith, listFrom, haltsAs, doneOf, outOf}
 use Rattle.evaluator.specs.Spots.{innerSpot}
 use Rattle.evaluator.specs.Preset.{isPreset}
@@ -46,7 +46,6 @@ use Rattle.evaluator.specs.Steps.{fuelOf, Runnable, PartRunnable, ListRu
 use Rattle.evaluator.proofs.Keeping.{kept-none, older-up, parts-held}
 use Rattle.evaluator.proofs.PresetLaws.{Told, told}
 use Rattle.evaluator.proofs.TraceLaws.{traced-none}
-use Rattle.evaluator.proofs.StateLaws.{holds-this, holds-result, holds-parameter}
 use Rattle.evaluator.proofs.FitLaws.{fit-inner, fit-list, list-fit}
 use Rattle.evaluator.proofs.EvalLaws.{eval-zero, eval-nothing, eval-this, eval-res, eval-param, eval-at-field, eval-at-call, eval-at-new}
 use Rattle.evaluator.proofs.ListLaws.{list-zero, new-other, new-many, new-is}
@@ -153,9 +152,6 @@ module _ (W : List ℕ) (f : Frame) (S : List ℕ) (p : Spot) where
   }
 
 -- ---- variables
-parameter-is : (f : Frame) (k : ℕ) → holds f (2 + k) ≡ variableOf f k
-parameter-is f k = sym (holds-parameter f f refl (2 + k) (λ z. omega arith) (λ z. omega arith) (variableOf f k) (ap (variableOf f) (let e : k ≡ 2 + k - 2 = omega arith in e)))
-
 done-out : (h : Held) (next fuel : ℕ) → outWith fuel (doneOf h next) ≡ outOf h next fuel
 done-out (Is r) next fuel = refl
 done-out Absent next fuel = refl
@@ -173,22 +169,22 @@ module _ (T W : List ℕ) (f : Frame) (S : List ℕ) (p : Spot) where
       answered : (g : Held) → h ≡ g → outWith (fuelOf S) o ≡ outOf g next (fuelOf S)
       answered g e = ap (outWith (fuelOf S)) (eo ∙ ap (λ (x : Held). doneOf x next) e) ∙ done-out g next (fuelOf S)
 
-      pub step-this : s ≡ shape.This next → h ≡ holds f 0 → EvalStep T W f S p W S o
+      pub step-this : s ≡ shape.This next → h ≡ f .this → EvalStep T W f S p W S o
       step-this z e = record {
         trace = traced-none (p .opened) S;
-        runs = eval-this T W f S (p .opened) (p .at) (p .nesting) (p .calls) (p .block) (fuelOf S) s es (run .fits) next (outWith (fuelOf S) o) z (answered (f .this) (e ∙ sym (holds-this f f refl 0 refl)));
+        runs = eval-this T W f S (p .opened) (p .at) (p .nesting) (p .calls) (p .block) (fuelOf S) s es (run .fits) next (outWith (fuelOf S) o) z (answered (f .this) e);
       }
 
-      pub step-result : s ≡ shape.Result next → h ≡ holds f 1 → EvalStep T W f S p W S o
+      pub step-result : s ≡ shape.Result next → h ≡ f .res → EvalStep T W f S p W S o
       step-result z e = record {
         trace = traced-none (p .opened) S;
-        runs = eval-res T W f S (p .opened) (p .at) (p .nesting) (p .calls) (p .block) (fuelOf S) s es (run .fits) next (outWith (fuelOf S) o) z (answered (f .res) (e ∙ sym (holds-result f f refl 1 (λ z. omega arith) refl)));
+        runs = eval-res T W f S (p .opened) (p .at) (p .nesting) (p .calls) (p .block) (fuelOf S) s es (run .fits) next (outWith (fuelOf S) o) z (answered (f .res) e);
       }
 
-      pub step-parameter : (k : ℕ) → s ≡ shape.Parameter k next → h ≡ holds f (2 + k) → EvalStep T W f S p W S o
+      pub step-parameter : (k : ℕ) → s ≡ shape.Parameter k next → h ≡ variableOf f k → EvalStep T W f S p W S o
       step-parameter k z e = record {
         trace = traced-none (p .opened) S;
-        runs = eval-param T W f S (p .opened) (p .at) (p .nesting) (p .calls) (p .block) (fuelOf S) s es (run .fits) next (outWith (fuelOf S) o) k z (answered (variableOf f k) (e ∙ parameter-is f k));
+        runs = eval-param T W f S (p .opened) (p .at) (p .nesting) (p .calls) (p .block) (fuelOf S) s es (run .fits) next (outWith (fuelOf S) o) k z (answered (variableOf f k) e);
       }
 
     -- what a part of it gave is handed on

@@ -60,12 +60,12 @@ pub record FrameHolds (W : List ℕ) (sp : ℕ) (f : Frame) : Type 0 where
 unfoldable pub frameIn : List ℕ → Frame → language.Frame
 frameIn W f = record { self = heldIn W (f .this); result = heldIn W (f .res); params = valuesFrom W (f .args) 0 (f .n) }
 
-unfoldable pub variableOf : Frame → ℕ → Held
-variableOf f k = pick (ltb k (f .n)) (Is (slotAt (f .args) k)) Absent
+-- what parameter k of n holds, v if there are so many
+unfoldable pub passedOf : ℕ → ℕ → ValueRef → Held
+passedOf k n v = pick (ltb k n) (Is v) Absent
 
--- what variable k holds: this, res, a parameter
-unfoldable pub holds : Frame → ℕ → Held
-holds f k = pick (eqb k 0) (f .this) (pick (eqb k 1) (f .res) (variableOf f (k - 2)))
+unfoldable pub variableOf : Frame → ℕ → Held
+variableOf f k = passedOf k (f .n) (slotAt (f .args) k)
 
 -- ---- open calls at rest in numbers S, eight a call: its name, how many arguments it has, its receiver, three arguments, what meeting it gives
 -- three values from a place on

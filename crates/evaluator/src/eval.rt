@@ -7,11 +7,10 @@ use crate::Walked;
 use crate::call::eval_call;
 use crate::fields::fields_at;
 use crate::frame::FRAME;
-use crate::frame::PARAMETER;
-use crate::frame::RES;
-use crate::frame::THIS;
 use crate::frame::answer;
-use crate::frame::variable;
+use crate::frame::parameter;
+use crate::frame::res_of;
+use crate::frame::this_of;
 use crate::spot::Spot;
 use crate::spot::down;
 use crate::spot::inner;
@@ -76,9 +75,9 @@ pub(crate) fn eval(
     }
     let s = shape_at(t, p.at as usize);
     match s {
-        Shape::This { next } => answer(variable(fr, THIS), next),
-        Shape::Result { next } => answer(variable(fr, RES), next),
-        Shape::Parameter { k, next } => answer(variable(fr, PARAMETER + k as u16), next),
+        Shape::This { next } => answer(this_of(fr), next),
+        Shape::Result { next } => answer(res_of(fr), next),
+        Shape::Parameter { k, next } => answer(parameter(fr, k), next),
         Shape::Field { f: k, next } => again(eval_field(t, work, tr, fr, inner(p, next), k)),
         Shape::Call { m, n, next } => again(eval_call(t, work, tr, fr, inner(p, next), m, n)),
         Shape::New { c, n, next } => again(eval_new(t, work, tr, fr, inner(p, next), c, n)),
@@ -103,8 +102,8 @@ pub(crate) fn eval_part(
     }
     let s = shape_at(t, p.at as usize);
     match s {
-        Shape::This { next } => answer(variable(fr, THIS), next),
-        Shape::Parameter { k, next } => answer(variable(fr, PARAMETER + k as u16), next),
+        Shape::This { next } => answer(this_of(fr), next),
+        Shape::Parameter { k, next } => answer(parameter(fr, k), next),
         _ => again(eval(t, work, tr, fr, p)),
     }
 }
@@ -126,8 +125,8 @@ pub(crate) fn eval_item(
     }
     let s = shape_at(t, p.at as usize);
     match s {
-        Shape::This { next } => answer(variable(fr, THIS), next),
-        Shape::Parameter { k, next } => answer(variable(fr, PARAMETER + k as u16), next),
+        Shape::This { next } => answer(this_of(fr), next),
+        Shape::Parameter { k, next } => answer(parameter(fr, k), next),
         Shape::Field { f: k, next } => again(eval_field(t, work, tr, fr, inner(p, next), k)),
         Shape::New { c, n, next } => {
             if is_preset(t, c, n) {

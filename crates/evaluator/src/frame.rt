@@ -9,7 +9,8 @@ use values::refs::unpack;
 ghost use mathlib.Core.Path.{_≡_};
 ghost use Prim.Native.Nat.{ℕ, _≤_, _<_};
 ghost use Rattle.evaluator.specs.Figures.{placeLimit};
-ghost use Rattle.evaluator.specs.State.{variableOf, holds};
+ghost use Rattle.evaluator.specs.State.{passedOf, variableOf};
+ghost use Rattle.values.specs.Refs.{refIn};
 ghost use Rattle.evaluator.specs.Answers.{doneOf};
 ghost use Rattle.evaluator.specs.Resting.{heldOf, frameOf, bodyFrame, noVariables};
 
@@ -38,13 +39,6 @@ pub const ABSENT: u32 = 3;
 // at rest, the undetermined value
 pub const UNUSED: u32 = 2;
 
-// the variables by number
-pub const THIS: u16 = 0;
-
-pub const RES: u16 = 1;
-
-pub const PARAMETER: u16 = 2;
-
 // What a variable holds, at rest.
 pub(crate) fn rest(h: Held) -> u32
     ensures { λ x. ⌜ heldOf x ≡ h ⌝ }
@@ -55,14 +49,15 @@ pub(crate) fn rest(h: Held) -> u32
     pack(v)
 }
 
-// What a variable holds whose number at rest is x.
-pub(crate) fn unrest(x: u32) -> Held
+// What a variable holds whose number at rest is x, the number of v unless it is absent. The value is told before the choice, and so in `frame_of` the compiler
+// makes no branches, and drops what is not read of the frame.
+pub(crate) fn unrest(x: u32, v: ValueRef) -> Held
+    requires { ⌜ v ≡ refIn x ⌝ }
     ensures { λ h. ⌜ h ≡ heldOf x ⌝ }
 {
     if x == ABSENT {
         return Held::Absent;
     }
-    let v = unpack(x);
     Held::Is(v)
 }
 
@@ -92,59 +87,71 @@ pub(crate) fn main_frame() -> [u32; FRAME]
 pub(crate) fn frame_of(fr: &[u32; FRAME]) -> Frame
     ensures { λ f. ⌜ f ≡ frameOf (now (fr .entry)) ⌝ }
 {
-    let this = unrest(fr[0]);
-    let res = unrest(fr[1]);
-    let first = Slot { r: unpack(fr[2]) };
-    let second = Slot { r: unpack(fr[3]) };
-    let third = Slot { r: unpack(fr[4]) };
+    let v = unpack(fr[0]);
+    let w = unpack(fr[1]);
+    let a = unpack(fr[2]);
+    let b = unpack(fr[3]);
+    let c = unpack(fr[4]);
+    let first = Slot { r: a };
+    let second = Slot { r: b };
+    let third = Slot { r: c };
     Frame {
-        this,
-        res,
+        this: unrest(fr[0], v),
+        res: unrest(fr[1], w),
         args: [first, second, third],
         n: (fr[5] % 256) as u8,
         owner: (fr[6] % 256) as u8,
     }
 }
 
-// What parameter k holds. The places are written out, so that the compiler reads one of them.
-pub(crate) fn parameter(f: Frame, k: u16) -> Held
-    requires { ⌜ f .n ≤ 3 ⌝ }
-    ensures { λ h. ⌜ h ≡ variableOf f k ⌝ }
+// What this holds.
+pub(crate) fn this_of(fr: &[u32; FRAME]) -> Held
+    ensures { λ h. ⌜ h ≡ frameOf (now (fr .entry)) .this ⌝ }
 {
-    if f.n as u16 <= k {
+    let f = frame_of(fr);
+    let h = f.this;
+    h
+}
+
+// What res holds.
+pub(crate) fn res_of(fr: &[u32; FRAME]) -> Held
+    ensures { λ h. ⌜ h ≡ frameOf (now (fr .entry)) .res ⌝ }
+{
+    let f = frame_of(fr);
+    let h = f.res;
+    h
+}
+
+// What parameter k of n holds, v if there are so many.
+pub(crate) fn passed(k: u8, n: u8, v: ValueRef) -> Held
+    ensures { λ h. ⌜ h ≡ passedOf k n v ⌝ }
+{
+    if n <= k {
         return Held::Absent;
     }
+    Held::Is(v)
+}
+
+// What parameter k holds. The places are written out, so that the compiler reads one of them.
+pub(crate) fn parameter(fr: &[u32; FRAME], k: u8) -> Held
+    requires { ⌜ frameOf (now fr) .n ≤ 3 ⌝ }
+    ensures { λ h. ⌜ h ≡ variableOf (frameOf (now (fr .entry))) k ⌝ }
+{
+    let f = frame_of(fr);
     let ps = f.args;
     if k == 0 {
         let first = ps[0];
         let v = first.r;
-        return Held::Is(v);
+        return passed(k, f.n, v);
     }
     if k == 1 {
         let second = ps[1];
         let v = second.r;
-        return Held::Is(v);
+        return passed(k, f.n, v);
     }
     let third = ps[2];
     let v = third.r;
-    Held::Is(v)
-}
-
-// What variable k holds: this, res or a parameter.
-pub(crate) fn variable(fr: &[u32; FRAME], k: u16) -> Held
-    requires { ⌜ frameOf (now fr) .n ≤ 3 ⌝ }
-    ensures { λ h. ⌜ h ≡ holds (frameOf (now (fr .entry))) k ⌝ }
-{
-    let f = frame_of(fr);
-    if k == THIS {
-        let h = f.this;
-        return h;
-    }
-    if k == RES {
-        let h = f.res;
-        return h;
-    }
-    parameter(f, k - PARAMETER)
+    passed(k, f.n, v)
 }
 
 // What a variable holds, as an answer: stuck if it holds nothing.

@@ -35,9 +35,12 @@ pub const TRACE: usize = 129;
 pub(crate) fn slots(vs: &[u32; 4]) -> [Slot; 3]
     ensures { λ r. ⌜ r ≡ slotsAt (now (vs .entry)) 0 ⌝ }
 {
-    let first = Slot { r: unpack(vs[0]) };
-    let second = Slot { r: unpack(vs[1]) };
-    let third = Slot { r: unpack(vs[2]) };
+    let a = unpack(vs[0]);
+    let b = unpack(vs[1]);
+    let c = unpack(vs[2]);
+    let first = Slot { r: a };
+    let second = Slot { r: b };
+    let third = Slot { r: c };
     [first, second, third]
 }
 
@@ -48,16 +51,13 @@ pub(crate) fn call_at(tr: &[u32; TRACE], i: u8) -> OpenCall
 {
     let at = CALL * (i as usize);
     let receiver = unpack(tr[at + 2]);
-    let first = Slot {
-        r: unpack(tr[at + 3]),
-    };
-    let second = Slot {
-        r: unpack(tr[at + 4]),
-    };
-    let third = Slot {
-        r: unpack(tr[at + 5]),
-    };
+    let a = unpack(tr[at + 3]);
+    let b = unpack(tr[at + 4]);
+    let c = unpack(tr[at + 5]);
     let gives = unpack(tr[at + 6]);
+    let first = Slot { r: a };
+    let second = Slot { r: b };
+    let third = Slot { r: c };
     OpenCall {
         receiver,
         name: (tr[at] % 256) as u8,

@@ -1,7 +1,7 @@
 -- References: one law for each return of `pack`, `unpack` and `ref_of`, and what the value of a code is. Not here: a field selected (Selecting).
 use Prim.Native.Nat.{ℕ, _+_, _-_, _*_, _/_, _%_, _≤_, _<_}
 use native.Mathlib.Omega.{arith}
-use mathlib.Core.Path.{_≡_, sym, ap, ap₂, refl, _∙_}
+use mathlib.Core.Path.{_≡_, sym, ap, ap₂, refl, _∙_, subst}
 use mathlib.Core.Bool.{Bool, true, false, cond}
 use mathlib.Core.List.{List}
 use lib.Dec.{eqb, ltb}
@@ -12,7 +12,7 @@ use Rattle.canon.specs.Layout.{refOf, Block, countIn, objectsIn}
 use Rattle.values.specs.declared.ValueRef.{ValueRef}
 use Rattle.values.specs.declared.ValueRef.the-variants.{Object, Mark, Undetermined}
 use Rattle.values.specs.Layout.{valueOf, Holds, Low}
-use Rattle.values.specs.Refs.{refFrom, refIn}
+use Rattle.values.specs.Refs.{refFrom, refIn, OtherPacked}
 
 -- ---- a number read
 module _ (x : ℕ) where
@@ -20,16 +20,18 @@ module _ (x : ℕ) where
   unfolding refIn
   object-in e = rw (eq-eqb (x % 256) 0 e)
 
-  module _ (n : x % 256 ≡ 0 → ⊥) where
-    pub mark-in : x % 256 ≡ 1 → Mark (x / 256 % 256) ≡ refIn x
-    unfolding refIn
-    mark-in e = rw (ne-eqb (x % 256) 0 n, eq-eqb (x % 256) 1 e)
+  pub mark-in : x % 256 ≤ 1 → (x % 256 ≡ 0 → ⊥) → Mark (x / 256 % 256) ≡ refIn x
+  unfolding refIn
+  mark-in l n = rw (ne-eqb (x % 256) 0 n, eq-eqb (x % 256) 1 (omega (arith, n)))
 
-    pub undetermined-in : (x % 256 ≡ 1 → ⊥) → Undetermined ≡ refIn x
-    unfolding refIn
-    undetermined-in e = rw (ne-eqb (x % 256) 0 n, ne-eqb (x % 256) 1 e)
+  pub undetermined-in : 1 < x % 256 → Undetermined ≡ refIn x
+  unfolding refIn
+  undetermined-in l = rw (ne-eqb (x % 256) 0 (λ z. omega arith), ne-eqb (x % 256) 1 (λ z. omega arith))
 
 -- ---- a number made
+pub undetermined-is : refIn 2 ≡ Undetermined
+undetermined-is = sym (undetermined-in 2 (omega arith))
+
 module _ (v : ValueRef) where
   pub pack-object : (i b : ℕ) → i < 256 → v ≡ Object i b → refIn (256 * i + 65536 * b) ≡ v
   pack-object i b l e =
@@ -37,13 +39,26 @@ module _ (v : ValueRef) where
       let eb : (256 * i + 65536 * b) / 65536 ≡ b = omega arith in
       sym (object-in (256 * i + 65536 * b) (omega arith)) ∙ ap₂ Object ei eb ∙ sym e
 
-  pub pack-mark : (k : ℕ) → k < 256 → v ≡ Mark k → refIn (1 + 256 * k) ≡ v
-  pack-mark k l e =
-      let ek : (1 + 256 * k) / 256 % 256 ≡ k = omega arith in
-      sym (mark-in (1 + 256 * k) (λ z. omega arith) (omega arith)) ∙ ap Mark ek ∙ sym e
+  pub other-object : (i b : ℕ) → v ≡ Object i b → OtherPacked v 2
+  other-object i b e = subst (λ (w : ValueRef). OtherPacked w 2) (sym e) (record { is = tt; small = omega arith })
 
-  pub pack-undetermined : v ≡ Undetermined → refIn 2 ≡ v
-  pack-undetermined e = sym (undetermined-in 2 (λ z. omega arith) (λ z. omega arith)) ∙ sym e
+  pub other-mark : (k : ℕ) → k < 256 → v ≡ Mark k → OtherPacked v (1 + 256 * k)
+  other-mark k l e =
+      let ek : (1 + 256 * k) / 256 % 256 ≡ k = omega arith in
+      subst (λ (w : ValueRef). OtherPacked w (1 + 256 * k)) (sym e) (record {
+        is = sym (mark-in (1 + 256 * k) (omega arith) (λ z. omega arith)) ∙ ap Mark ek;
+        small = omega arith;
+      })
+
+  pub other-undetermined : v ≡ Undetermined → OtherPacked v 2
+  other-undetermined e = subst (λ (w : ValueRef). OtherPacked w 2) (sym e) (record { is = undetermined-is; small = omega arith })
+
+  module _ (x : ℕ) (p : OtherPacked v x) where
+    pub pack-mark : (k : ℕ) → v ≡ Mark k → refIn x ≡ v
+    pack-mark k e = subst (λ (w : ValueRef). OtherPacked w x) e p .is ∙ sym e
+
+    pub pack-none : v ≡ Undetermined → refIn x ≡ v
+    pack-none e = subst (λ (w : ValueRef). OtherPacked w x) e p .is ∙ sym e
 
 -- ---- a graph whose root is no object
 canon-mark : (k : ℕ) (ns : List Node) → canon (graph (mark k) ns) ≡ markOf k

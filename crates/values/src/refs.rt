@@ -3,7 +3,7 @@ use crate::ValueRef;
 ghost use mathlib.Core.Path.{_≡_};
 ghost use Prim.Native.Nat.{_<_, _%_};
 ghost use Rattle.values.specs.Layout.{Holds};
-ghost use Rattle.values.specs.Refs.{refFrom, refIn};
+ghost use Rattle.values.specs.Refs.{refFrom, refIn, OtherPacked};
 ghost use Rattle.values.specs.Operations.{Chosen};
 
 // What selecting a field answers.
@@ -12,29 +12,44 @@ pub enum Selected {
     Nothing,
 }
 
-// The number of a value at rest: which of the three it is, in the lowest byte, then what it holds. No other function but `unpack` knows it.
-pub fn pack(v: ValueRef) -> u32
-    ensures { λ x. ⌜ (refIn x ≡ v) × (x % 256 < 3) ⌝ }
+// The number of a value that is no object; that of an object is not told.
+pub fn pack_other(v: ValueRef) -> u32
+    ensures { λ x. ⌜ OtherPacked v x ⌝ }
 {
     match v {
-        ValueRef::Object(i, b) => 256 * (i as u32) + 65536 * (b as u32),
+        ValueRef::Object(_, _) => 2,
         ValueRef::Mark(k) => 1 + 256 * (k as u32),
         ValueRef::Undetermined => 2,
     }
 }
 
-// The value that such a number stands for.
+// The number of a value at rest: which of the three it is, in the lowest byte, then what it holds. No other functions but `unpack` and `pack_other` know it.
+// One choice after the other, each between two numbers: the compiler makes no branches of them.
+pub fn pack(v: ValueRef) -> u32
+    ensures { λ x. ⌜ (refIn x ≡ v) × (x % 256 < 3) ⌝ }
+{
+    let x = pack_other(v);
+    match v {
+        ValueRef::Object(i, b) => 256 * (i as u32) + 65536 * (b as u32),
+        ValueRef::Mark(_) => x,
+        ValueRef::Undetermined => x,
+    }
+}
+
+// The value that such a number stands for. What it holds is read before the choices, which the compiler makes no branches of.
 pub fn unpack(x: u32) -> ValueRef
     ensures { λ v. ⌜ v ≡ refIn x ⌝ }
 {
     let k = x % 256;
+    let i = (x / 256 % 256) as u8;
+    let b = (x / 65536) as u16;
+    if 1 < k {
+        return ValueRef::Undetermined;
+    }
     if k == 0 {
-        return ValueRef::Object((x / 256 % 256) as u8, (x / 65536) as u16);
+        return ValueRef::Object(i, b);
     }
-    if k == 1 {
-        return ValueRef::Mark((x / 256 % 256) as u8);
-    }
-    ValueRef::Undetermined
+    ValueRef::Mark(i)
 }
 
 // The value of a code in block b.

@@ -51,7 +51,9 @@ use Rattle.evaluator.proofs.eval.stopped.Reads as stopped-reads
 use Rattle.evaluator.proofs.fields.fields_at.Reads as fields-at-reads
 use Rattle.evaluator.proofs.find.find.Reads as find-reads
 use Rattle.evaluator.proofs.frame.answer.Reads as answer-reads
-use Rattle.evaluator.proofs.frame.variable.Reads as variable-reads
+use Rattle.evaluator.proofs.frame.parameter.Reads as parameter-reads
+use Rattle.evaluator.proofs.frame.res_of.Reads as res-of-reads
+use Rattle.evaluator.proofs.frame.this_of.Reads as this-of-reads
 use Rattle.evaluator.proofs.met.open_call.Reads as open-call-reads
 use Rattle.evaluator.proofs.spot.down.Reads as down-reads
 use Rattle.evaluator.proofs.spot.inner.Reads as inner-reads
@@ -195,13 +197,13 @@ abbrev call·run-right-claims : ℕ → call·run-right-lts.Claims
 call·run-right-claims t = (side-frame-reads.Asked, side-frame-reads.Learnt, right-spot-reads.Asked, right-spot-reads.Learnt, eval·eval-below t, eval·eval.Post, bring-reads.Asked, bring-reads.Learnt)
 
 abbrev eval·eval-claims : ℕ → eval·eval-lts.Claims
-eval·eval-claims t = (shape-at-reads.Asked, shape-at-reads.Learnt, variable-reads.Asked, variable-reads.Learnt, answer-reads.Asked, answer-reads.Learnt, inner-reads.Asked, inner-reads.Learnt, eval·eval-field-below t, eval·eval-field.Post, again-reads.Asked, again-reads.Learnt, call·eval-call-below t, call·eval-call.Post, eval·eval-new-below t, eval·eval-new.Post)
+eval·eval-claims t = (shape-at-reads.Asked, shape-at-reads.Learnt, this-of-reads.Asked, this-of-reads.Learnt, answer-reads.Asked, answer-reads.Learnt, res-of-reads.Asked, res-of-reads.Learnt, parameter-reads.Asked, parameter-reads.Learnt, inner-reads.Asked, inner-reads.Learnt, eval·eval-field-below t, eval·eval-field.Post, again-reads.Asked, again-reads.Learnt, call·eval-call-below t, call·eval-call.Post, eval·eval-new-below t, eval·eval-new.Post)
 
 abbrev eval·eval-field-claims : ℕ → eval·eval-field-lts.Claims
 eval·eval-field-claims t = (fields-at-reads.Asked, fields-at-reads.Learnt, down-reads.Asked, down-reads.Learnt, eval·eval-part-below t, eval·eval-part.Post, select-reads.Asked, select-reads.Learnt)
 
 abbrev eval·eval-item-claims : ℕ → eval·eval-item-lts.Claims
-eval·eval-item-claims t = (shape-at-reads.Asked, shape-at-reads.Learnt, variable-reads.Asked, variable-reads.Learnt, answer-reads.Asked, answer-reads.Learnt, inner-reads.Asked, inner-reads.Learnt, eval·eval-field-below t, eval·eval-field.Post, again-reads.Asked, again-reads.Learnt, is-preset-reads.Asked, is-preset-reads.Learnt, eval·eval-new-below t, eval·eval-new.Post, eval·eval-below t, eval·eval.Post)
+eval·eval-item-claims t = (shape-at-reads.Asked, shape-at-reads.Learnt, this-of-reads.Asked, this-of-reads.Learnt, answer-reads.Asked, answer-reads.Learnt, parameter-reads.Asked, parameter-reads.Learnt, inner-reads.Asked, inner-reads.Learnt, eval·eval-field-below t, eval·eval-field.Post, again-reads.Asked, again-reads.Learnt, is-preset-reads.Asked, is-preset-reads.Learnt, eval·eval-new-below t, eval·eval-new.Post, eval·eval-below t, eval·eval.Post)
 
 abbrev eval·eval-list-claims : ℕ → eval·eval-list-lts.Claims
 eval·eval-list-claims t = (eval·eval-item-below t, eval·eval-item.Post, stopped-reads.Asked, stopped-reads.Learnt, pack-reads.Asked, pack-reads.Learnt, past-reads.Asked, past-reads.Learnt, moved-reads.Asked, moved-reads.Learnt)
@@ -210,7 +212,7 @@ abbrev eval·eval-new-claims : ℕ → eval·eval-new-lts.Claims
 eval·eval-new-claims t = (is-preset-reads.Asked, is-preset-reads.Learnt, field-total-reads.Asked, field-total-reads.Learnt, eval·eval-list-below t, eval·eval-list.Post, halted-reads.Asked, halted-reads.Learnt, finish-reads.Asked, finish-reads.Learnt)
 
 abbrev eval·eval-part-claims : ℕ → eval·eval-part-lts.Claims
-eval·eval-part-claims t = (shape-at-reads.Asked, shape-at-reads.Learnt, variable-reads.Asked, variable-reads.Learnt, answer-reads.Asked, answer-reads.Learnt, eval·eval-below t, eval·eval.Post, again-reads.Asked, again-reads.Learnt)
+eval·eval-part-claims t = (shape-at-reads.Asked, shape-at-reads.Learnt, this-of-reads.Asked, this-of-reads.Learnt, answer-reads.Asked, answer-reads.Learnt, parameter-reads.Asked, parameter-reads.Learnt, eval·eval-below t, eval·eval.Post, again-reads.Asked, again-reads.Learnt)
 
 abbrev eval·eval-field-Inv-loop : eval·eval-field-lts.InvT-loop
 eval·eval-field-Inv-loop t work tr fr k at d next u₀ j₀ u j = fields.Down t work (frameOf fr) tr at d next u₀ u j
@@ -358,8 +360,6 @@ pub +call·eval-args+call·eval-call+call·invoke+call·run-left+call·run-right
     (λ c κs. search needs)
     (λ c κs. search steps.next-result)
     (λ c. search needs)
-    (λ c. search needs)
-    (λ c. search needs)
     (λ c κs. search needs)
     (λ c κs. search steps.next-parameter)
     (λ c. search needs)
@@ -464,8 +464,6 @@ pub +call·eval-args+call·eval-call+call·invoke+call·run-left+call·run-right
     (λ c κs. search needs)
     (λ c κs. search steps.next-this)
     (λ c. search needs)
-    (λ c. search needs)
-    (λ c. search needs)
     (λ c κs. search needs)
     (λ c κs. search steps.next-parameter)
     (λ c. search needs)
@@ -535,8 +533,6 @@ pub +call·eval-args+call·eval-call+call·invoke+call·run-left+call·run-right
     (λ c. search needs)
     (λ c κs. search needs)
     (λ c κs. search steps.next-this)
-    (λ c. search needs)
-    (λ c. search needs)
     (λ c. search needs)
     (λ c κs. search needs)
     (λ c κs. search steps.next-parameter)

@@ -4,29 +4,30 @@ use Rattle.evaluator.proofs.frame.parameter.Statement.{statement}
 use Rattle.evaluator.proofs.frame.parameter.Tie as tie
 use Rattle.evaluator.proofs.frame.parameter.Reads as reads
 use Rattle.evaluator.proofs.frame.parameter.Lts as lts
+use Rattle.evaluator.proofs.frame.frame_of.Reads as frame-of-reads
+use Rattle.evaluator.proofs.frame.passed.Reads as passed-reads
 use Rattle.evaluator.proofs.StateLaws as laws
 
 returns : tie.Need-returns
-returns c = search laws.variable-none
+returns c = search laws.first-parameter
 
 returns-2 : tie.Need-returns-2
-returns-2 c = search laws.first-parameter
+returns-2 c = search laws.second-parameter
 
 returns-3 : tie.Need-returns-3
-returns-3 c = search laws.second-parameter
-
-returns-4 : tie.Need-returns-4
-returns-4 c = search laws.third-parameter
+returns-3 c = search laws.third-parameter
 
 pub parameter-spec : {M : Type 1} → statement M
 parameter-spec =
     tie.close
     (tie.spec
+    (λ c κs. search needs)
     (λ c. search needs)
+    (λ c κs. search needs)
     returns
     (λ c. search needs)
+    (λ c κs. search needs)
     returns-2
     (λ c. search needs)
-    returns-3
-    (λ c. search needs)
-    returns-4)
+    (λ c κs. search needs)
+    returns-3)

@@ -1,10 +1,8 @@
 -- What a variable holds whose number at rest is given: a law for each case.
-use borrow.Author.Needs.{needs}
 use Rattle.evaluator.proofs.frame.unrest.Statement.{statement}
 use Rattle.evaluator.proofs.frame.unrest.Tie as tie
 use Rattle.evaluator.proofs.frame.unrest.Reads as reads
 use Rattle.evaluator.proofs.frame.unrest.Lts as lts
-use Rattle.values.proofs.refs.unpack.Reads as unpack-reads
 use Rattle.evaluator.proofs.RestLaws as laws
 
 returns : tie.Need-returns
@@ -18,5 +16,4 @@ unrest-spec =
     tie.close
     (tie.spec
     returns
-    (λ c κs. search needs)
     returns-2)

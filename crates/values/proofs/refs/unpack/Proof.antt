@@ -7,13 +7,13 @@ use Rattle.values.proofs.refs.unpack.Lts as lts
 use Rattle.values.proofs.RefLaws as laws
 
 returns : tie.Need-returns
-returns c = search laws.object-in
+returns c = search laws.undetermined-in
 
 returns-2 : tie.Need-returns-2
-returns-2 c = search laws.mark-in
+returns-2 c = search laws.object-in
 
 returns-3 : tie.Need-returns-3
-returns-3 c = search laws.undetermined-in
+returns-3 c = search laws.mark-in
 
 pub unpack-spec : {M : Type 1} → statement M
 unpack-spec =
@@ -22,6 +22,5 @@ unpack-spec =
     (λ c. search needs)
     (λ c. search needs)
     returns
-    (λ c. search needs)
     returns-2
     returns-3)
