@@ -63,7 +63,7 @@ module _ (A : List ℕ) (x : ValueRef) where
   unfolding valuesFrom
   slots-values W n h = ap (map (λ (s : Slot). valueOf W (s .r))) (slots-first n h)
 
--- ---- a call (eval_call)
+-- ---- a call's receiver (eval_call)
 module _ (T W : List ℕ) (f : Frame) (S : List ℕ) (p : Spot) (run : PartRunnable W f S p) where
   module _ (m n : ℕ) where
     pub call-nested : p .nesting ≡ 0 → CallStep T W f S p m n W S (done.Halt Stuck)
@@ -124,11 +124,8 @@ module _ (T W : List ℕ) (f : Frame) (S : List ℕ) (p : Spot) (run : PartRunna
                         (calls-with-on (p .opened) S S1 (ev .trace) T W1 f at (p .nesting) (p .calls) (p .block) (fuelOf S1) v m n i W2 (outWith (fuelOf S2) x) (y .runs));
                   })
 
--- ---- the arguments (eval_args)
+-- ---- its arguments (eval_call)
 module _ (T W : List ℕ) (f : Frame) (S : List ℕ) (p : Spot) (v : ValueRef) (m n i : ℕ) (run : ArgsRunnable W f S p v n) where
-  pub args-block : p .block + 1 < 65536
-  args-block = let r = run .fits .fits .room in omega arith
-
   -- there are none
   module _ (z : n ≡ 0) (A : List ℕ) where
     pub direct-run : CallRunnable W S v A n p
@@ -209,6 +206,56 @@ module _ (T W : List ℕ) (f : Frame) (S : List ℕ) (p : Spot) (v : ValueRef) (
                   (slots-values A (refIn (getD A 3 0)) W2 n (run .fits .few))
                   (invokes-on (p .opened) S S2 (li .trace) T W2 v (slotsAt A 0) n i next (p .calls) (p .block) (fuelOf S2) m W3 (outWith (fuelOf S3) r) (iv .runs));
             })
+
+-- ---- no evaluation changes how long the work buffer is
+module _ (T W : List ℕ) (f : Frame) (S : List ℕ) (p : Spot) (W1 S1 : List ℕ) (o : Done) (ev : EvalStep T W f S p W1 S1 o)
+    (q : Spot) (n : ℕ) (W2 S2 A : List ℕ) (l : Walked) (ls : ListStep T W1 f S1 q n W2 S2 A l) where
+  pub list-length : length W2 ≡ length W
+  list-length = ls .runs .kept .same ∙ ev .runs .kept .same
+
+  pub invoke-length : (v : ValueRef) (i m : ℕ) (r : Spot) (W3 S3 : List ℕ) (x : Done) → InvokeStep T W2 S2 v A n i m r W3 S3 x → length W3 ≡ length W
+  invoke-length v i m r W3 S3 x inv = inv .runs .kept .same ∙ list-length
+
+-- ---- the whole call (eval_call), its receiver v evaluated and its method i found
+module _ (T W : List ℕ) (f : Frame) (S : List ℕ) (p : Spot) (run : PartRunnable W f S p) where
+  pub call-block : p .block + 1 < 65536
+  call-block = let r = run .fits .room in omega arith
+
+  module _ (m n : ℕ) (W1 S1 : List ℕ) (o : Done) (ev : EvalStep T W f S p W1 S1 o) (v : ValueRef) (at : ℕ) (eo : o ≡ done.Value v at)
+      (w : Found) (fi : FindsTarget T W1 v m n w) (nz : p .nesting ≡ 0 → ⊥) (i : ℕ) (ew : w ≡ found.At i) where
+    abbrev here : Spot
+    here = movedSpot p at (p .block)
+
+    asked : ArgsRunnable W1 f S1 here v n
+    asked = args-asked T W f S p run m n W1 S1 o ev v at eo w fi nz i ew here refl
+
+    goes-on : (W2 S2 : List ℕ) (x : Done) → ArgsStep T W1 f S1 here v m n i W2 S2 x → CallStep T W f S p m n W2 S2 x
+    goes-on W2 S2 x st = call-goes-on T W f S p run m n W1 S1 o ev v at eo w fi nz i ew here refl W2 S2 x st x refl
+
+    -- without arguments
+    module _ (z : n ≡ 0) (A : List ℕ) (q : Spot) (eq : q ≡ here) where
+      pub bare-asked : CallRunnable W1 S1 v A n q
+      bare-asked = subst (CallRunnable W1 S1 v A n) (sym eq) (direct-run T W1 f S1 here v m n i asked z A)
+
+      pub bare-done : (W2 S2 : List ℕ) (r : Done) → InvokeStep T W1 S1 v A n i m q W2 S2 r → (x : Done) → x ≡ r → CallStep T W f S p m n W2 S2 x
+      bare-done W2 S2 r inv x ex =
+          goes-on W2 S2 x (direct-is T W1 f S1 here v m n i asked z A W2 S2 r (subst (λ (y : Spot). InvokeStep T W1 S1 v A n i m y W2 S2 r) eq inv) x ex)
+
+    -- with arguments
+    module _ (q : Spot) (eq : q ≡ movedSpot p at (p .block + 1)) where
+      pub list-asked : ListRunnable W1 f S1 q n
+      list-asked = args-run T W1 f S1 here v m n i asked q eq
+
+      module _ (W2 S2 A : List ℕ) (l : Walked) (ls : ListStep T W1 f S1 q n W2 S2 A l) where
+        pub list-stops : (s : Stop) → l ≡ walked.Halt s → (x : Done) → x ≡ haltsAs l → CallStep T W f S p m n W2 S2 x
+        list-stops s el x ex = goes-on W2 S2 x (args-stop T W1 f S1 here v m n i asked q eq W2 S2 A l ls s el x ex)
+
+        module _ (next : ℕ) (el : l ≡ walked.After next) (q2 : Spot) (eq2 : q2 ≡ movedSpot p next (p .block)) where
+          pub call-asked : CallRunnable W2 S2 v A n q2
+          call-asked = call-run T W1 f S1 here v m n i asked q eq W2 S2 A l ls next el q2 eq2
+
+          pub call-done : (W3 S3 : List ℕ) (r : Done) → InvokeStep T W2 S2 v A n i m q2 W3 S3 r → (x : Done) → x ≡ r → CallStep T W f S p m n W3 S3 x
+          call-done W3 S3 r inv x ex = goes-on W3 S3 x (args-go-on T W1 f S1 here v m n i asked q eq W2 S2 A l ls next el q2 eq2 W3 S3 r inv x ex)
 
 -- ---- a method called (invoke)
 module _ (W S : List ℕ) (v : ValueRef) (A : List ℕ) (n : ℕ) (p : Spot) (run : CallRunnable W S v A n p) where

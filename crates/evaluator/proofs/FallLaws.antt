@@ -28,8 +28,8 @@ module _ (p q : Spot) (next t : ℕ) (eq : q ≡ innerSpot p next) (nz : p .nest
   pub eval-new-falls : μ p 0 ≡ t → μ q 3 < t
   eval-new-falls e = inner 3 0 (omega arith) e
 
-  pub eval-call-falls : μ p 0 ≡ t → μ q 4 < t
-  eval-call-falls e = inner 4 0 (omega arith) e
+  pub eval-call-falls : μ p 0 ≡ t → μ q 3 < t
+  eval-call-falls e = inner 3 0 (omega arith) e
 
   pub item-field-falls : μ p 1 ≡ t → μ q 2 < t
   item-field-falls e = inner 2 1 (omega arith) e
@@ -44,7 +44,7 @@ same-falls p t e = omega (arith, e)
 pub new-list-falls : (p : Spot) (t : ℕ) → μ p 3 ≡ t → μ p 2 < t
 new-list-falls p t e = omega (arith, e)
 
-pub call-eval-falls : (p : Spot) (t : ℕ) → μ p 4 ≡ t → μ p 0 < t
+pub call-eval-falls : (p : Spot) (t : ℕ) → μ p 3 ≡ t → μ p 0 < t
 call-eval-falls p t e = omega (arith, e)
 
 pub list-item-falls : (p q : Spot) (t : ℕ) → μ p 2 ≡ t → q .nesting ≡ p .nesting → q .calls ≡ p .calls → μ q 1 < t
@@ -53,19 +53,12 @@ list-item-falls p q t e n c = subst (λ (x : ℕ). q .calls * 6000 + x * 600 + 1
 pub field-part-falls : (p q : Spot) (d t : ℕ) → q ≡ downSpot p d → d ≤ p .nesting → μ p 2 ≡ t → μ q 1 < t
 field-part-falls p q d t eq l e = subst (λ (x : Spot). μ x 1 < t) (sym eq) (omega (arith, e))
 
-module _ (p q : Spot) (at b t : ℕ) (eq : q ≡ movedSpot p at b) (e : μ p 4 ≡ t) where
-  pub call-args-falls : μ q 3 < t
-  call-args-falls = subst (λ (x : Spot). μ x 3 < t) (sym eq) (omega (arith, e))
+module _ (p q : Spot) (at b t : ℕ) (eq : q ≡ movedSpot p at b) (e : μ p 3 ≡ t) where
+  pub call-list-falls : μ q 2 < t
+  call-list-falls = subst (λ (x : Spot). μ x 2 < t) (sym eq) (omega (arith, e))
 
   pub call-invoke-falls : μ-call q 2 < t
   call-invoke-falls = subst (λ (x : Spot). μ-call x 2 < t) (sym eq) (omega (arith, e))
-
-module _ (p q : Spot) (at b t : ℕ) (eq : q ≡ movedSpot p at b) (e : μ p 3 ≡ t) where
-  pub args-list-falls : μ q 2 < t
-  args-list-falls = subst (λ (x : Spot). μ x 2 < t) (sym eq) (omega (arith, e))
-
-  pub args-invoke-falls : μ-call q 2 < t
-  args-invoke-falls = subst (λ (x : Spot). μ-call x 2 < t) (sym eq) (omega (arith, e))
 
 -- ---- calls
 pub invoke-side-falls : (p : Spot) (t : ℕ) → μ-call p 2 ≡ t → μ-call p 1 < t

@@ -34,9 +34,10 @@ ghost use Rattle.classes.specs.Machine.{rowOf, leftOf, rightOf};
 ghost use Rattle.evaluator.specs.Figures.{callLimit};
 ghost use Rattle.evaluator.specs.Resting.{frameOf, bodyFrame};
 ghost use Rattle.evaluator.specs.Spots.{bodySpot};
-ghost use Rattle.evaluator.specs.Steps.{PartRunnable, ArgsRunnable, CallRunnable, BodyRunnable, MarkGiven, CallStep, ArgsStep, InvokeStep, RightStep, LeftStep};
+ghost use Rattle.evaluator.specs.Steps.{PartRunnable, CallRunnable, BodyRunnable, MarkGiven, CallStep, InvokeStep, RightStep, LeftStep};
 
-// The call of m with n arguments: the receiver at a spot, then the arguments.
+// The call of m with n arguments: the receiver at a spot, then the arguments, if there are any. In one function, since the compiler leaves one for the arguments
+// outside, which costs calls with arguments a seventh (docs/SPEED.md).
 pub(crate) fn eval_call(
     t: &[u8; SIZE],
     work: &mut [u8],
@@ -64,26 +65,8 @@ pub(crate) fn eval_call(
         let vs = [0u32; 4];
         return again(invoke(t, work, tr, v, &vs, n, i, m, moved(p, at, p.block)));
     }
-    again(eval_args(t, work, tr, fr, moved(p, at, p.block), v, i, m, n))
-}
-
-// The n arguments at a spot, and the call of method i, which has the name m, on v.
-pub(crate) fn eval_args(
-    t: &[u8; SIZE],
-    work: &mut [u8],
-    tr: &mut [u32; TRACE],
-    fr: &[u32; FRAME],
-    p: Spot,
-    v: ValueRef,
-    i: u8,
-    m: u8,
-    n: u8,
-) -> Done
-    requires { ⌜ ArgsRunnable (now work) (frameOf (now fr)) (now tr) p v n ⌝ }
-    ensures { λ o. ⌜ ArgsStep (now (t .entry)) (now (work .entry)) (frameOf (now (fr .entry))) (now (tr .entry)) p v m n i (now (work .exit)) (now (tr .exit)) o ⌝ }
-{
     let mut vs = [0u32; 4];
-    let l = eval_list(t, work, tr, fr, moved(p, p.at, p.block + 1), n, &mut vs);
+    let l = eval_list(t, work, tr, fr, moved(p, at, p.block + 1), n, &mut vs);
     let Walked::After(next) = l else {
         return halted(l);
     };

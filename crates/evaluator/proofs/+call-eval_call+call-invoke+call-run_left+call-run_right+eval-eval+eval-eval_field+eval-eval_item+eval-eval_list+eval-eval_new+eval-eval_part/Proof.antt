@@ -1,42 +1,39 @@
--- The proof of the cycle of evaluation, eleven functions. At each call the number μ falls (FallLaws): a call that is opened takes one from the calls that may be
--- opened, a part takes one from the nesting left, and otherwise the functions come in the order eval, eval_part and eval_item, eval_field and eval_list, eval_new and eval_args, eval_call.
+-- The proof of the cycle of evaluation, ten functions. At each call the number μ falls (FallLaws): a call that is opened takes one from the calls that may be
+-- opened, a part takes one from the nesting left, and otherwise the functions come in the order eval, eval_part and eval_item, eval_field and eval_list, eval_new and eval_call.
 -- Each return is a law of StepLaws, FieldLaws, WalkLaws or CallSteps.
 use Prim.Native.Nat.{ℕ, _<_}
 use borrow.Fn.Kinds.{In}
 use borrow.Fn.PlainCycle.{Measures, is, falls, and}
-use Rattle.evaluator.proofs.call.eval_args.Reads as call·eval-args
-use Rattle.evaluator.proofs.call.eval_args.Kinds as call·eval-args-kinds
-use Rattle.evaluator.proofs.+call-eval_args+call-eval_call+call-invoke+call-run_left+call-run_right+eval-eval+eval-eval_field+eval-eval_item+eval-eval_list+eval-eval_new+eval-eval_part.Lts-call-eval_args as call·eval-args-lts
 use Rattle.evaluator.proofs.call.eval_call.Reads as call·eval-call
 use Rattle.evaluator.proofs.call.eval_call.Kinds as call·eval-call-kinds
-use Rattle.evaluator.proofs.+call-eval_args+call-eval_call+call-invoke+call-run_left+call-run_right+eval-eval+eval-eval_field+eval-eval_item+eval-eval_list+eval-eval_new+eval-eval_part.Lts-call-eval_call as call·eval-call-lts
+use Rattle.evaluator.proofs.+call-eval_call+call-invoke+call-run_left+call-run_right+eval-eval+eval-eval_field+eval-eval_item+eval-eval_list+eval-eval_new+eval-eval_part.Lts-call-eval_call as call·eval-call-lts
 use Rattle.evaluator.proofs.call.invoke.Reads as call·invoke
 use Rattle.evaluator.proofs.call.invoke.Kinds as call·invoke-kinds
-use Rattle.evaluator.proofs.+call-eval_args+call-eval_call+call-invoke+call-run_left+call-run_right+eval-eval+eval-eval_field+eval-eval_item+eval-eval_list+eval-eval_new+eval-eval_part.Lts-call-invoke as call·invoke-lts
+use Rattle.evaluator.proofs.+call-eval_call+call-invoke+call-run_left+call-run_right+eval-eval+eval-eval_field+eval-eval_item+eval-eval_list+eval-eval_new+eval-eval_part.Lts-call-invoke as call·invoke-lts
 use Rattle.evaluator.proofs.call.run_left.Reads as call·run-left
 use Rattle.evaluator.proofs.call.run_left.Kinds as call·run-left-kinds
-use Rattle.evaluator.proofs.+call-eval_args+call-eval_call+call-invoke+call-run_left+call-run_right+eval-eval+eval-eval_field+eval-eval_item+eval-eval_list+eval-eval_new+eval-eval_part.Lts-call-run_left as call·run-left-lts
+use Rattle.evaluator.proofs.+call-eval_call+call-invoke+call-run_left+call-run_right+eval-eval+eval-eval_field+eval-eval_item+eval-eval_list+eval-eval_new+eval-eval_part.Lts-call-run_left as call·run-left-lts
 use Rattle.evaluator.proofs.call.run_right.Reads as call·run-right
 use Rattle.evaluator.proofs.call.run_right.Kinds as call·run-right-kinds
-use Rattle.evaluator.proofs.+call-eval_args+call-eval_call+call-invoke+call-run_left+call-run_right+eval-eval+eval-eval_field+eval-eval_item+eval-eval_list+eval-eval_new+eval-eval_part.Lts-call-run_right as call·run-right-lts
+use Rattle.evaluator.proofs.+call-eval_call+call-invoke+call-run_left+call-run_right+eval-eval+eval-eval_field+eval-eval_item+eval-eval_list+eval-eval_new+eval-eval_part.Lts-call-run_right as call·run-right-lts
 use Rattle.evaluator.proofs.eval.eval.Reads as eval·eval
 use Rattle.evaluator.proofs.eval.eval.Kinds as eval·eval-kinds
-use Rattle.evaluator.proofs.+call-eval_args+call-eval_call+call-invoke+call-run_left+call-run_right+eval-eval+eval-eval_field+eval-eval_item+eval-eval_list+eval-eval_new+eval-eval_part.Lts-eval-eval as eval·eval-lts
+use Rattle.evaluator.proofs.+call-eval_call+call-invoke+call-run_left+call-run_right+eval-eval+eval-eval_field+eval-eval_item+eval-eval_list+eval-eval_new+eval-eval_part.Lts-eval-eval as eval·eval-lts
 use Rattle.evaluator.proofs.eval.eval_field.Reads as eval·eval-field
 use Rattle.evaluator.proofs.eval.eval_field.Kinds as eval·eval-field-kinds
-use Rattle.evaluator.proofs.+call-eval_args+call-eval_call+call-invoke+call-run_left+call-run_right+eval-eval+eval-eval_field+eval-eval_item+eval-eval_list+eval-eval_new+eval-eval_part.Lts-eval-eval_field as eval·eval-field-lts
+use Rattle.evaluator.proofs.+call-eval_call+call-invoke+call-run_left+call-run_right+eval-eval+eval-eval_field+eval-eval_item+eval-eval_list+eval-eval_new+eval-eval_part.Lts-eval-eval_field as eval·eval-field-lts
 use Rattle.evaluator.proofs.eval.eval_item.Reads as eval·eval-item
 use Rattle.evaluator.proofs.eval.eval_item.Kinds as eval·eval-item-kinds
-use Rattle.evaluator.proofs.+call-eval_args+call-eval_call+call-invoke+call-run_left+call-run_right+eval-eval+eval-eval_field+eval-eval_item+eval-eval_list+eval-eval_new+eval-eval_part.Lts-eval-eval_item as eval·eval-item-lts
+use Rattle.evaluator.proofs.+call-eval_call+call-invoke+call-run_left+call-run_right+eval-eval+eval-eval_field+eval-eval_item+eval-eval_list+eval-eval_new+eval-eval_part.Lts-eval-eval_item as eval·eval-item-lts
 use Rattle.evaluator.proofs.eval.eval_list.Reads as eval·eval-list
 use Rattle.evaluator.proofs.eval.eval_list.Kinds as eval·eval-list-kinds
-use Rattle.evaluator.proofs.+call-eval_args+call-eval_call+call-invoke+call-run_left+call-run_right+eval-eval+eval-eval_field+eval-eval_item+eval-eval_list+eval-eval_new+eval-eval_part.Lts-eval-eval_list as eval·eval-list-lts
+use Rattle.evaluator.proofs.+call-eval_call+call-invoke+call-run_left+call-run_right+eval-eval+eval-eval_field+eval-eval_item+eval-eval_list+eval-eval_new+eval-eval_part.Lts-eval-eval_list as eval·eval-list-lts
 use Rattle.evaluator.proofs.eval.eval_new.Reads as eval·eval-new
 use Rattle.evaluator.proofs.eval.eval_new.Kinds as eval·eval-new-kinds
-use Rattle.evaluator.proofs.+call-eval_args+call-eval_call+call-invoke+call-run_left+call-run_right+eval-eval+eval-eval_field+eval-eval_item+eval-eval_list+eval-eval_new+eval-eval_part.Lts-eval-eval_new as eval·eval-new-lts
+use Rattle.evaluator.proofs.+call-eval_call+call-invoke+call-run_left+call-run_right+eval-eval+eval-eval_field+eval-eval_item+eval-eval_list+eval-eval_new+eval-eval_part.Lts-eval-eval_new as eval·eval-new-lts
 use Rattle.evaluator.proofs.eval.eval_part.Reads as eval·eval-part
 use Rattle.evaluator.proofs.eval.eval_part.Kinds as eval·eval-part-kinds
-use Rattle.evaluator.proofs.+call-eval_args+call-eval_call+call-invoke+call-run_left+call-run_right+eval-eval+eval-eval_field+eval-eval_item+eval-eval_list+eval-eval_new+eval-eval_part.Lts-eval-eval_part as eval·eval-part-lts
+use Rattle.evaluator.proofs.+call-eval_call+call-invoke+call-run_left+call-run_right+eval-eval+eval-eval_field+eval-eval_item+eval-eval_list+eval-eval_new+eval-eval_part.Lts-eval-eval_part as eval·eval-part-lts
 use Rattle.checker.proofs.shape.shape_at.Reads as shape-at-reads
 use Rattle.classes.proofs.chain.field_total.Reads as field-total-reads
 use Rattle.evaluator.proofs.call.left_spot.Reads as left-spot-reads
@@ -63,10 +60,10 @@ use Rattle.values.proofs.refs.pack.Reads as pack-reads
 use Rattle.values.proofs.refs.select.Reads as select-reads
 use Rattle.values.proofs.value.bring.Reads as bring-reads
 use Rattle.values.proofs.value.close.Reads as close-reads
-use Rattle.evaluator.proofs.+call-eval_args+call-eval_call+call-invoke+call-run_left+call-run_right+eval-eval+eval-eval_field+eval-eval_item+eval-eval_list+eval-eval_new+eval-eval_part.{
+use Rattle.evaluator.proofs.+call-eval_call+call-invoke+call-run_left+call-run_right+eval-eval+eval-eval_field+eval-eval_item+eval-eval_list+eval-eval_new+eval-eval_part.{
   statement,
 }
-use Rattle.evaluator.proofs.+call-eval_args+call-eval_call+call-invoke+call-run_left+call-run_right+eval-eval+eval-eval_field+eval-eval_item+eval-eval_list+eval-eval_new+eval-eval_part.Tie.{
+use Rattle.evaluator.proofs.+call-eval_call+call-invoke+call-run_left+call-run_right+eval-eval+eval-eval_field+eval-eval_item+eval-eval_list+eval-eval_new+eval-eval_part.Tie.{
   close,
 }
 use borrow.Author.Needs.{needs}
@@ -82,11 +79,8 @@ use Rattle.evaluator.proofs.CallSteps as calls
 use Rattle.evaluator.proofs.FallLaws as fall
 use Rattle.evaluator.proofs.FallLaws.{μ, μ-call}
 
-abbrev μ-call·eval-args : Measures 4 call·eval-args-kinds.ps ℕ
-μ-call·eval-args κs a = μ (a .1 .1 .1 .1 .0) 3
-
 abbrev μ-call·eval-call : Measures 4 call·eval-call-kinds.ps ℕ
-μ-call·eval-call κs a = μ (a .1 .1 .1 .1 .0) 4
+μ-call·eval-call κs a = μ (a .1 .1 .1 .1 .0) 3
 
 abbrev μ-call·invoke : Measures 4 call·invoke-kinds.ps ℕ
 μ-call·invoke κs a = μ-call (a .1 .1 .1 .1 .1 .1 .1 .1 .0) 2
@@ -114,12 +108,6 @@ abbrev μ-eval·eval-new : Measures 4 eval·eval-new-kinds.ps ℕ
 
 abbrev μ-eval·eval-part : Measures 4 eval·eval-part-kinds.ps ℕ
 μ-eval·eval-part κs a = μ (a .1 .1 .1 .1 .0) 1
-
-abbrev call·eval-args-at : ℕ → In 4 call·eval-args-kinds.ps
-call·eval-args-at t = and 4 call·eval-args-kinds.ps (is 4 call·eval-args-kinds.ps μ-call·eval-args t) call·eval-args.Pre
-
-abbrev call·eval-args-below : ℕ → In 4 call·eval-args-kinds.ps
-call·eval-args-below t = and 4 call·eval-args-kinds.ps (falls 4 call·eval-args-kinds.ps _<_ μ-call·eval-args t) call·eval-args.Pre
 
 abbrev call·eval-call-at : ℕ → In 4 call·eval-call-kinds.ps
 call·eval-call-at t = and 4 call·eval-call-kinds.ps (is 4 call·eval-call-kinds.ps μ-call·eval-call t) call·eval-call.Pre
@@ -181,11 +169,8 @@ eval·eval-part-at t = and 4 eval·eval-part-kinds.ps (is 4 eval·eval-part-kind
 abbrev eval·eval-part-below : ℕ → In 4 eval·eval-part-kinds.ps
 eval·eval-part-below t = and 4 eval·eval-part-kinds.ps (falls 4 eval·eval-part-kinds.ps _<_ μ-eval·eval-part t) eval·eval-part.Pre
 
-abbrev call·eval-args-claims : ℕ → call·eval-args-lts.Claims
-call·eval-args-claims t = (moved-reads.Asked, moved-reads.Learnt, eval·eval-list-below t, eval·eval-list.Post, halted-reads.Asked, halted-reads.Learnt, call·invoke-below t, call·invoke.Post, again-reads.Asked, again-reads.Learnt)
-
 abbrev call·eval-call-claims : ℕ → call·eval-call-lts.Claims
-call·eval-call-claims t = (eval·eval-below t, eval·eval.Post, find-reads.Asked, find-reads.Learnt, moved-reads.Asked, moved-reads.Learnt, call·invoke-below t, call·invoke.Post, again-reads.Asked, again-reads.Learnt, call·eval-args-below t, call·eval-args.Post)
+call·eval-call-claims t = (eval·eval-below t, eval·eval.Post, find-reads.Asked, find-reads.Learnt, moved-reads.Asked, moved-reads.Learnt, call·invoke-below t, call·invoke.Post, again-reads.Asked, again-reads.Learnt, eval·eval-list-below t, eval·eval-list.Post, halted-reads.Asked, halted-reads.Learnt)
 
 abbrev call·invoke-claims : ℕ → call·invoke-lts.Claims
 call·invoke-claims t = (open-call-reads.Asked, open-call-reads.Learnt, call·run-right-below t, call·run-right.Post, call·run-left-below t, call·run-left.Post)
@@ -226,34 +211,9 @@ eval·eval-list-Inv-loop t work₀ tr₀ fr n vs₀ q₀ i₀ work tr vs q i = w
 abbrev eval·eval-list-μ-loop : eval·eval-list-lts.MeasureT-loop
 eval·eval-list-μ-loop t work₀ tr₀ fr n vs₀ q₀ i₀ work tr vs q i = n - i
 
-pub +call·eval-args+call·eval-call+call·invoke+call·run-left+call·run-right+eval·eval+eval·eval-field+eval·eval-item+eval·eval-list+eval·eval-new+eval·eval-part-spec : {M : Type 1} → statement M
-+call·eval-args+call·eval-call+call·invoke+call·run-left+call·run-right+eval·eval+eval·eval-field+eval·eval-item+eval·eval-list+eval·eval-new+eval·eval-part-spec =
-    close μ-call·eval-args μ-call·eval-call μ-call·invoke μ-call·run-left μ-call·run-right μ-eval·eval μ-eval·eval-field μ-eval·eval-item μ-eval·eval-list μ-eval·eval-new μ-eval·eval-part
-    -- eval_args
-    (λ t. call·eval-args-lts.spec (call·eval-args-claims t) (call·eval-args-at t) call·eval-args.Post
-    (λ c. search calls.args-block)
-    (λ c κs. search needs)
-    (λ c κs. (search fall.args-list-falls, (search calls.args-run, search needs)))
-    (λ c. search needs)
-    (λ c. search needs)
-    (λ c κs. search needs)
-    (λ c. search needs)
-    (λ c. search calls.args-stop)
-    (λ c κs. search needs)
-    (λ c κs. let at-l = c .before .before .before .before .before in
-    let at-eval-list = at-l .before .before .before .before in
-    let at-moved = at-eval-list .before .before in
-    let start = at-moved .before .before .before .before .before in
-    (search fall.args-invoke-falls, calls.call-run _ _ _ _ _ _ 0 _ 0 (start .pre .1) _ (at-moved .moved .ensures) _ _ _ _ (at-eval-list .eval-list .ensures) _ (at-l .l .given .1) _ (c .moved2 .ensures)))
-    (λ c κs. search needs)
-    (λ c. search needs)
-    (λ c. let at-invoke = c .before .before .before in
-    let at-moved2 = at-invoke .before in
-    let at-l = at-moved2 .before .before .before .before .before in
-    let at-eval-list = at-l .before .before .before .before in
-    let at-moved = at-eval-list .before .before in
-    let start = at-moved .before .before .before .before .before in
-    calls.args-go-on _ _ _ _ _ _ _ _ _ (start .pre .1) _ (at-moved .moved .ensures) _ _ _ _ (at-eval-list .eval-list .ensures) _ (at-l .l .given .1) _ (at-moved2 .moved2 .ensures) _ _ _ (at-invoke .invoke .ensures) _ (c .again .ensures)))
+pub +call·eval-call+call·invoke+call·run-left+call·run-right+eval·eval+eval·eval-field+eval·eval-item+eval·eval-list+eval·eval-new+eval·eval-part-spec : {M : Type 1} → statement M
++call·eval-call+call·invoke+call·run-left+call·run-right+eval·eval+eval·eval-field+eval·eval-item+eval·eval-list+eval·eval-new+eval·eval-part-spec =
+    close μ-call·eval-call μ-call·invoke μ-call·run-left μ-call·run-right μ-eval·eval μ-eval·eval-field μ-eval·eval-item μ-eval·eval-list μ-eval·eval-new μ-eval·eval-part
     -- eval_call
     (λ t. call·eval-call-lts.spec (call·eval-call-claims t) (call·eval-call-at t) call·eval-call.Post
     (λ c. search calls.call-nested)
@@ -274,8 +234,12 @@ pub +call·eval-args+call·eval-call+call·invoke+call·run-left+call·run-right
     let at-o = at-find .before .before .before in
     let at-eval = at-o .before .before .before .before in
     let else1 = at-eval .before .before .before in
-    let start = else1 .before .before .before in
-    (search fall.call-invoke-falls, calls.direct-run [] _ _ _ _ _ 0 _ 0 (calls.args-asked _ _ _ _ _ (start .pre .1) _ _ _ _ _ (at-eval .eval .ensures) _ _ (at-o .o .given .1) _ (at-find .find .ensures) (else1 .if1 .left) _ (at-w .w .given .1) _ (c .moved .ensures)) (then2 .if2 .taken) _))
+    let start = else1 .before .before .before in (
+      search fall.call-invoke-falls,
+      calls.bare-asked _ _ _ _ _ (start .pre .1) _ _ _ _ _ (at-eval .eval .ensures) _ _ (at-o .o .given .1)
+          _ (at-find .find .ensures) (else1 .if1 .left) _ (at-w .w .given .1)
+          (then2 .if2 .taken) _ _ (c .moved .ensures),
+    ))
     (λ c κs. search needs)
     (λ c. search needs)
     (λ c. let at-invoke = c .before .before .before in
@@ -287,26 +251,83 @@ pub +call·eval-args+call·eval-call+call·invoke+call·run-left+call·run-right
     let at-eval = at-o .before .before .before .before in
     let else1 = at-eval .before .before .before in
     let start = else1 .before .before .before in
-    calls.call-goes-on _ _ _ _ _ (start .pre .1) _ _ _ _ _ (at-eval .eval .ensures) _ _ (at-o .o .given .1) _ (at-find .find .ensures) (else1 .if1 .left) _ (at-w .w .given .1) _ (at-moved .moved .ensures) _ _ _ (calls.direct-is _ _ _ _ _ _ _ _ _ (calls.args-asked _ _ _ _ _ (start .pre .1) _ _ _ _ _ (at-eval .eval .ensures) _ _ (at-o .o .given .1) _ (at-find .find .ensures) (else1 .if1 .left) _ (at-w .w .given .1) _ (at-moved .moved .ensures)) (then2 .if2 .taken) _ _ _ _ (at-invoke .invoke .ensures) _ refl) _ (c .again .ensures))
+    calls.bare-done _ _ _ _ _ (start .pre .1) _ _ _ _ _ (at-eval .eval .ensures) _ _ (at-o .o .given .1)
+    _ (at-find .find .ensures) (else1 .if1 .left) _ (at-w .w .given .1)
+    (then2 .if2 .taken) _ _ (at-moved .moved .ensures) _ _ _ (at-invoke .invoke .ensures) _ (c .again .ensures))
+    (λ c. search calls.call-block)
     (λ c κs. search needs)
-    (λ c κs. let at-w = c .before .before .before .before .before in
+    (λ c κs. let at-moved = c .before in
+    let at-w = at-moved .before .before .before .before .before .before in
     let at-find = at-w .before .before in
     let at-o = at-find .before .before .before in
     let at-eval = at-o .before .before .before .before in
     let else1 = at-eval .before .before .before in
-    let start = else1 .before .before .before in
-    (search fall.call-args-falls, calls.args-asked _ _ _ _ _ (start .pre .1) _ _ _ _ _ (at-eval .eval .ensures) _ _ (at-o .o .given .1) _ (at-find .find .ensures) (else1 .if1 .left) _ (at-w .w .given .1) _ (c .moved2 .ensures)))
-    (λ c κs. search needs)
+    let start = else1 .before .before .before in (
+      search fall.call-list-falls,
+      (
+        calls.list-asked _ _ _ _ _ (start .pre .1) _ _ _ _ _ (at-eval .eval .ensures) _ _ (at-o .o .given .1)
+            _ (at-find .find .ensures) (else1 .if1 .left) _ (at-w .w .given .1)
+            _ (at-moved .moved2 .ensures),
+        search needs,
+      ),
+    ))
     (λ c. search needs)
-    (λ c. let at-eval-args = c .before .before .before in
-    let at-moved2 = at-eval-args .before in
-    let at-w = at-moved2 .before .before .before .before .before in
+    (λ c. search needs)
+    (λ c κs. search needs)
+    (λ c. let at-list = c .before .before .before .before .before in
+    let at-w = at-list .before .before .before .before .before .before .before .before in
+    let at-eval = at-w .before .before .before .before .before .before .before .before .before in
+    calls.list-length _ _ _ _ _ _ _ _ (at-eval .eval .ensures) _ _ _ _ _ _ (at-list .eval-list .ensures))
+    (λ c. let at-told = c .before in
+    let at-list = at-told .before .before .before .before in
+    let at-moved = at-list .before .before in
+    let at-w = at-moved .before .before .before .before .before .before in
     let at-find = at-w .before .before in
     let at-o = at-find .before .before .before in
     let at-eval = at-o .before .before .before .before in
     let else1 = at-eval .before .before .before in
     let start = else1 .before .before .before in
-    calls.call-goes-on _ _ _ _ _ (start .pre .1) _ _ _ _ _ (at-eval .eval .ensures) _ _ (at-o .o .given .1) _ (at-find .find .ensures) (else1 .if1 .left) _ (at-w .w .given .1) _ (at-moved2 .moved2 .ensures) _ _ _ (at-eval-args .eval-args .ensures) _ (c .again2 .ensures)))
+    calls.list-stops _ _ _ _ _ (start .pre .1) _ _ _ _ _ (at-eval .eval .ensures) _ _ (at-o .o .given .1)
+    _ (at-find .find .ensures) (else1 .if1 .left) _ (at-w .w .given .1)
+    _ (at-moved .moved2 .ensures) _ _ _ _ (at-list .eval-list .ensures) _ (at-told .enum-told3 .given .1) _ (c .halted .ensures))
+    (λ c κs. search needs)
+    (λ c κs. let at-l = c .before .before .before .before .before in
+    let at-list = at-l .before .before .before .before in
+    let at-moved = at-list .before .before in
+    let at-w = at-moved .before .before .before .before .before .before in
+    let at-find = at-w .before .before in
+    let at-o = at-find .before .before .before in
+    let at-eval = at-o .before .before .before .before in
+    let else1 = at-eval .before .before .before in
+    let start = else1 .before .before .before in (
+      search fall.call-invoke-falls,
+      calls.call-asked _ _ _ _ _ (start .pre .1) _ _ _ _ _ (at-eval .eval .ensures) _ _ (at-o .o .given .1)
+          _ (at-find .find .ensures) (else1 .if1 .left) _ (at-w .w .given .1)
+          _ (at-moved .moved2 .ensures) _ _ _ _ (at-list .eval-list .ensures) _ (at-l .l .given .1) _ (c .moved3 .ensures),
+    ))
+    (λ c κs. search needs)
+    (λ c. let at-invoke = c .before .before .before in
+    let at-l = at-invoke .before .before .before .before .before .before in
+    let at-list = at-l .before .before .before .before in
+    let at-w = at-list .before .before .before .before .before .before .before .before in
+    let at-eval = at-w .before .before .before .before .before .before .before .before .before in
+    calls.invoke-length _ _ _ _ _ _ _ _ (at-eval .eval .ensures) _ _ _ _ _ _ (at-list .eval-list .ensures)
+    _ _ _ _ _ _ _ (at-invoke .invoke2 .ensures))
+    (λ c. let at-invoke = c .before .before .before in
+    let at-moved3 = at-invoke .before in
+    let at-l = at-moved3 .before .before .before .before .before in
+    let at-list = at-l .before .before .before .before in
+    let at-moved = at-list .before .before in
+    let at-w = at-moved .before .before .before .before .before .before in
+    let at-find = at-w .before .before in
+    let at-o = at-find .before .before .before in
+    let at-eval = at-o .before .before .before .before in
+    let else1 = at-eval .before .before .before in
+    let start = else1 .before .before .before in
+    calls.call-done _ _ _ _ _ (start .pre .1) _ _ _ _ _ (at-eval .eval .ensures) _ _ (at-o .o .given .1)
+    _ (at-find .find .ensures) (else1 .if1 .left) _ (at-w .w .given .1)
+    _ (at-moved .moved2 .ensures) _ _ _ _ (at-list .eval-list .ensures) _ (at-l .l .given .1) _ (at-moved3 .moved3 .ensures)
+    _ _ _ (at-invoke .invoke2 .ensures) _ (c .again2 .ensures)))
     -- invoke
     (λ t. call·invoke-lts.spec (call·invoke-claims t) (call·invoke-at t) call·invoke.Post
     (λ c. search needs)
