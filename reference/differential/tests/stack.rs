@@ -10,7 +10,7 @@ use reference::refusals::Refusal;
 use reference::syntax::Expr;
 use std::thread;
 
-const STACK: usize = 320 * 1024;
+const STACK: usize = 192 * 1024;
 const FUEL: u16 = 1_000;
 
 const NODE: u8 = 1;
