@@ -50,8 +50,8 @@ call-eval-falls p t e = omega (arith, e)
 pub list-item-falls : (p q : Spot) (t : ℕ) → μ p 2 ≡ t → q .nesting ≡ p .nesting → q .calls ≡ p .calls → μ q 1 < t
 list-item-falls p q t e n c = subst (λ (x : ℕ). q .calls * 6000 + x * 600 + 1 < t) (sym n) (subst (λ (y : ℕ). y * 6000 + p .nesting * 600 + 1 < t) (sym c) (omega (arith, e)))
 
-pub field-part-falls : (p q : Spot) (d t : ℕ) → q ≡ downSpot p d → d ≤ p .nesting → μ p 2 ≡ t → μ q 1 < t
-field-part-falls p q d t eq l e = subst (λ (x : Spot). μ x 1 < t) (sym eq) (omega (arith, e))
+pub field-eval-falls : (p q : Spot) (d t : ℕ) → q ≡ downSpot p d → d ≤ p .nesting → μ p 2 ≡ t → μ q 0 < t
+field-eval-falls p q d t eq l e = subst (λ (x : Spot). μ x 0 < t) (sym eq) (omega (arith, e))
 
 module _ (p q : Spot) (at b t : ℕ) (eq : q ≡ movedSpot p at b) (e : μ p 3 ≡ t) where
   pub call-list-falls : μ q 2 < t

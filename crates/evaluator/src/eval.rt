@@ -85,31 +85,8 @@ pub(crate) fn eval(
     }
 }
 
-// The same for what a field is selected of: variables, which most are, at once. With one caller, which the compiler takes it into, it saves a tenth of
-// recursion down a chain and less elsewhere (docs/SPEED.md).
-pub(crate) fn eval_part(
-    t: &[u8; SIZE],
-    work: &mut [u8],
-    tr: &mut [u32; TRACE],
-    fr: &[u32; FRAME],
-    p: Spot,
-) -> Done
-    requires { ⌜ Runnable (now work) (frameOf (now fr)) (now tr) p ⌝ }
-    ensures { λ o. ⌜ EvalStep (now (t .entry)) (now (work .entry)) (frameOf (now (fr .entry))) (now (tr .entry)) p (now (work .exit)) (now (tr .exit)) o ⌝ }
-{
-    if p.nesting == 0 {
-        return Done::Halt(Stop::Stuck);
-    }
-    let s = shape_at(t, p.at as usize);
-    match s {
-        Shape::This { next } => answer(this_of(fr), next),
-        Shape::Parameter { k, next } => answer(parameter(fr, k), next),
-        _ => again(eval(t, work, tr, fr, p)),
-    }
-}
-
-// The same for an item of a list: variables, fields and new objects, which most are, at once. With one caller it saves a sixth of
-// building a list of 16, and costs rings and sums up to a tenth (docs/SPEED.md).
+// The same for an item of a list: variables, fields and new objects, which most are, at once. With one caller, which the compiler takes it into, it
+// saves a quarter to three tenths of building a list (docs/SPEED.md).
 pub(crate) fn eval_item(
     t: &[u8; SIZE],
     work: &mut [u8],
@@ -153,7 +130,7 @@ pub(crate) fn eval_field(
 {
     let at = p.at as usize;
     let d = fields_at(t, at, p.nesting);
-    let o = eval_part(t, work, tr, fr, down(p, d));
+    let o = eval(t, work, tr, fr, down(p, d));
     let Done::Value(v, next) = o else {
         return o;
     };

@@ -1,39 +1,36 @@
--- The proof of the cycle of evaluation, ten functions. At each call the number μ falls (FallLaws): a call that is opened takes one from the calls that may be
--- opened, a part takes one from the nesting left, and otherwise the functions come in the order eval, eval_part and eval_item, eval_field and eval_list, eval_new and eval_call.
+-- The proof of the cycle of evaluation, nine functions. At each call the number μ falls (FallLaws): a call that is opened takes one from the calls that may be
+-- opened, a part takes one from the nesting left, and otherwise the functions come in the order eval, eval_item, eval_field and eval_list, eval_new and eval_call.
 -- Each return is a law of StepLaws, FieldLaws, WalkLaws or CallSteps.
 use Prim.Native.Nat.{ℕ, _<_}
 use borrow.Fn.Kinds.{In}
 use borrow.Fn.PlainCycle.{Measures, is, falls, and}
 use Rattle.evaluator.proofs.call.eval_call.Reads as call·eval-call
 use Rattle.evaluator.proofs.call.eval_call.Kinds as call·eval-call-kinds
-use Rattle.evaluator.proofs.+call-eval_call+call-invoke+call-run_left+call-run_right+eval-eval+eval-eval_field+eval-eval_item+eval-eval_list+eval-eval_new+eval-eval_part.Lts-call-eval_call as call·eval-call-lts
+use Rattle.evaluator.proofs.+call-eval_call+call-invoke+call-run_left+call-run_right+eval-eval+eval-eval_field+eval-eval_item+eval-eval_list+eval-eval_new.Lts-call-eval_call as call·eval-call-lts
 use Rattle.evaluator.proofs.call.invoke.Reads as call·invoke
 use Rattle.evaluator.proofs.call.invoke.Kinds as call·invoke-kinds
-use Rattle.evaluator.proofs.+call-eval_call+call-invoke+call-run_left+call-run_right+eval-eval+eval-eval_field+eval-eval_item+eval-eval_list+eval-eval_new+eval-eval_part.Lts-call-invoke as call·invoke-lts
+use Rattle.evaluator.proofs.+call-eval_call+call-invoke+call-run_left+call-run_right+eval-eval+eval-eval_field+eval-eval_item+eval-eval_list+eval-eval_new.Lts-call-invoke as call·invoke-lts
 use Rattle.evaluator.proofs.call.run_left.Reads as call·run-left
 use Rattle.evaluator.proofs.call.run_left.Kinds as call·run-left-kinds
-use Rattle.evaluator.proofs.+call-eval_call+call-invoke+call-run_left+call-run_right+eval-eval+eval-eval_field+eval-eval_item+eval-eval_list+eval-eval_new+eval-eval_part.Lts-call-run_left as call·run-left-lts
+use Rattle.evaluator.proofs.+call-eval_call+call-invoke+call-run_left+call-run_right+eval-eval+eval-eval_field+eval-eval_item+eval-eval_list+eval-eval_new.Lts-call-run_left as call·run-left-lts
 use Rattle.evaluator.proofs.call.run_right.Reads as call·run-right
 use Rattle.evaluator.proofs.call.run_right.Kinds as call·run-right-kinds
-use Rattle.evaluator.proofs.+call-eval_call+call-invoke+call-run_left+call-run_right+eval-eval+eval-eval_field+eval-eval_item+eval-eval_list+eval-eval_new+eval-eval_part.Lts-call-run_right as call·run-right-lts
+use Rattle.evaluator.proofs.+call-eval_call+call-invoke+call-run_left+call-run_right+eval-eval+eval-eval_field+eval-eval_item+eval-eval_list+eval-eval_new.Lts-call-run_right as call·run-right-lts
 use Rattle.evaluator.proofs.eval.eval.Reads as eval·eval
 use Rattle.evaluator.proofs.eval.eval.Kinds as eval·eval-kinds
-use Rattle.evaluator.proofs.+call-eval_call+call-invoke+call-run_left+call-run_right+eval-eval+eval-eval_field+eval-eval_item+eval-eval_list+eval-eval_new+eval-eval_part.Lts-eval-eval as eval·eval-lts
+use Rattle.evaluator.proofs.+call-eval_call+call-invoke+call-run_left+call-run_right+eval-eval+eval-eval_field+eval-eval_item+eval-eval_list+eval-eval_new.Lts-eval-eval as eval·eval-lts
 use Rattle.evaluator.proofs.eval.eval_field.Reads as eval·eval-field
 use Rattle.evaluator.proofs.eval.eval_field.Kinds as eval·eval-field-kinds
-use Rattle.evaluator.proofs.+call-eval_call+call-invoke+call-run_left+call-run_right+eval-eval+eval-eval_field+eval-eval_item+eval-eval_list+eval-eval_new+eval-eval_part.Lts-eval-eval_field as eval·eval-field-lts
+use Rattle.evaluator.proofs.+call-eval_call+call-invoke+call-run_left+call-run_right+eval-eval+eval-eval_field+eval-eval_item+eval-eval_list+eval-eval_new.Lts-eval-eval_field as eval·eval-field-lts
 use Rattle.evaluator.proofs.eval.eval_item.Reads as eval·eval-item
 use Rattle.evaluator.proofs.eval.eval_item.Kinds as eval·eval-item-kinds
-use Rattle.evaluator.proofs.+call-eval_call+call-invoke+call-run_left+call-run_right+eval-eval+eval-eval_field+eval-eval_item+eval-eval_list+eval-eval_new+eval-eval_part.Lts-eval-eval_item as eval·eval-item-lts
+use Rattle.evaluator.proofs.+call-eval_call+call-invoke+call-run_left+call-run_right+eval-eval+eval-eval_field+eval-eval_item+eval-eval_list+eval-eval_new.Lts-eval-eval_item as eval·eval-item-lts
 use Rattle.evaluator.proofs.eval.eval_list.Reads as eval·eval-list
 use Rattle.evaluator.proofs.eval.eval_list.Kinds as eval·eval-list-kinds
-use Rattle.evaluator.proofs.+call-eval_call+call-invoke+call-run_left+call-run_right+eval-eval+eval-eval_field+eval-eval_item+eval-eval_list+eval-eval_new+eval-eval_part.Lts-eval-eval_list as eval·eval-list-lts
+use Rattle.evaluator.proofs.+call-eval_call+call-invoke+call-run_left+call-run_right+eval-eval+eval-eval_field+eval-eval_item+eval-eval_list+eval-eval_new.Lts-eval-eval_list as eval·eval-list-lts
 use Rattle.evaluator.proofs.eval.eval_new.Reads as eval·eval-new
 use Rattle.evaluator.proofs.eval.eval_new.Kinds as eval·eval-new-kinds
-use Rattle.evaluator.proofs.+call-eval_call+call-invoke+call-run_left+call-run_right+eval-eval+eval-eval_field+eval-eval_item+eval-eval_list+eval-eval_new+eval-eval_part.Lts-eval-eval_new as eval·eval-new-lts
-use Rattle.evaluator.proofs.eval.eval_part.Reads as eval·eval-part
-use Rattle.evaluator.proofs.eval.eval_part.Kinds as eval·eval-part-kinds
-use Rattle.evaluator.proofs.+call-eval_call+call-invoke+call-run_left+call-run_right+eval-eval+eval-eval_field+eval-eval_item+eval-eval_list+eval-eval_new+eval-eval_part.Lts-eval-eval_part as eval·eval-part-lts
+use Rattle.evaluator.proofs.+call-eval_call+call-invoke+call-run_left+call-run_right+eval-eval+eval-eval_field+eval-eval_item+eval-eval_list+eval-eval_new.Lts-eval-eval_new as eval·eval-new-lts
 use Rattle.checker.proofs.shape.shape_at.Reads as shape-at-reads
 use Rattle.classes.proofs.chain.field_total.Reads as field-total-reads
 use Rattle.evaluator.proofs.call.left_spot.Reads as left-spot-reads
@@ -60,10 +57,10 @@ use Rattle.values.proofs.refs.pack.Reads as pack-reads
 use Rattle.values.proofs.refs.select.Reads as select-reads
 use Rattle.values.proofs.value.bring.Reads as bring-reads
 use Rattle.values.proofs.value.close.Reads as close-reads
-use Rattle.evaluator.proofs.+call-eval_call+call-invoke+call-run_left+call-run_right+eval-eval+eval-eval_field+eval-eval_item+eval-eval_list+eval-eval_new+eval-eval_part.{
+use Rattle.evaluator.proofs.+call-eval_call+call-invoke+call-run_left+call-run_right+eval-eval+eval-eval_field+eval-eval_item+eval-eval_list+eval-eval_new.{
   statement,
 }
-use Rattle.evaluator.proofs.+call-eval_call+call-invoke+call-run_left+call-run_right+eval-eval+eval-eval_field+eval-eval_item+eval-eval_list+eval-eval_new+eval-eval_part.Tie.{
+use Rattle.evaluator.proofs.+call-eval_call+call-invoke+call-run_left+call-run_right+eval-eval+eval-eval_field+eval-eval_item+eval-eval_list+eval-eval_new.Tie.{
   close,
 }
 use borrow.Author.Needs.{needs}
@@ -105,9 +102,6 @@ abbrev μ-eval·eval-list : Measures 5 eval·eval-list-kinds.ps ℕ
 
 abbrev μ-eval·eval-new : Measures 4 eval·eval-new-kinds.ps ℕ
 μ-eval·eval-new κs a = μ (a .1 .1 .1 .1 .0) 3
-
-abbrev μ-eval·eval-part : Measures 4 eval·eval-part-kinds.ps ℕ
-μ-eval·eval-part κs a = μ (a .1 .1 .1 .1 .0) 1
 
 abbrev call·eval-call-at : ℕ → In 4 call·eval-call-kinds.ps
 call·eval-call-at t = and 4 call·eval-call-kinds.ps (is 4 call·eval-call-kinds.ps μ-call·eval-call t) call·eval-call.Pre
@@ -163,12 +157,6 @@ eval·eval-new-at t = and 4 eval·eval-new-kinds.ps (is 4 eval·eval-new-kinds.p
 abbrev eval·eval-new-below : ℕ → In 4 eval·eval-new-kinds.ps
 eval·eval-new-below t = and 4 eval·eval-new-kinds.ps (falls 4 eval·eval-new-kinds.ps _<_ μ-eval·eval-new t) eval·eval-new.Pre
 
-abbrev eval·eval-part-at : ℕ → In 4 eval·eval-part-kinds.ps
-eval·eval-part-at t = and 4 eval·eval-part-kinds.ps (is 4 eval·eval-part-kinds.ps μ-eval·eval-part t) eval·eval-part.Pre
-
-abbrev eval·eval-part-below : ℕ → In 4 eval·eval-part-kinds.ps
-eval·eval-part-below t = and 4 eval·eval-part-kinds.ps (falls 4 eval·eval-part-kinds.ps _<_ μ-eval·eval-part t) eval·eval-part.Pre
-
 abbrev call·eval-call-claims : ℕ → call·eval-call-lts.Claims
 call·eval-call-claims t = (eval·eval-below t, eval·eval.Post, find-reads.Asked, find-reads.Learnt, moved-reads.Asked, moved-reads.Learnt, call·invoke-below t, call·invoke.Post, again-reads.Asked, again-reads.Learnt, eval·eval-list-below t, eval·eval-list.Post, halted-reads.Asked, halted-reads.Learnt)
 
@@ -185,7 +173,7 @@ abbrev eval·eval-claims : ℕ → eval·eval-lts.Claims
 eval·eval-claims t = (shape-at-reads.Asked, shape-at-reads.Learnt, this-of-reads.Asked, this-of-reads.Learnt, answer-reads.Asked, answer-reads.Learnt, res-of-reads.Asked, res-of-reads.Learnt, parameter-reads.Asked, parameter-reads.Learnt, inner-reads.Asked, inner-reads.Learnt, eval·eval-field-below t, eval·eval-field.Post, again-reads.Asked, again-reads.Learnt, call·eval-call-below t, call·eval-call.Post, eval·eval-new-below t, eval·eval-new.Post)
 
 abbrev eval·eval-field-claims : ℕ → eval·eval-field-lts.Claims
-eval·eval-field-claims t = (fields-at-reads.Asked, fields-at-reads.Learnt, down-reads.Asked, down-reads.Learnt, eval·eval-part-below t, eval·eval-part.Post, select-reads.Asked, select-reads.Learnt)
+eval·eval-field-claims t = (fields-at-reads.Asked, fields-at-reads.Learnt, down-reads.Asked, down-reads.Learnt, eval·eval-below t, eval·eval.Post, select-reads.Asked, select-reads.Learnt)
 
 abbrev eval·eval-item-claims : ℕ → eval·eval-item-lts.Claims
 eval·eval-item-claims t = (shape-at-reads.Asked, shape-at-reads.Learnt, this-of-reads.Asked, this-of-reads.Learnt, answer-reads.Asked, answer-reads.Learnt, parameter-reads.Asked, parameter-reads.Learnt, inner-reads.Asked, inner-reads.Learnt, eval·eval-field-below t, eval·eval-field.Post, again-reads.Asked, again-reads.Learnt, is-preset-reads.Asked, is-preset-reads.Learnt, eval·eval-new-below t, eval·eval-new.Post, eval·eval-below t, eval·eval.Post)
@@ -195,9 +183,6 @@ eval·eval-list-claims t = (eval·eval-item-below t, eval·eval-item.Post, stopp
 
 abbrev eval·eval-new-claims : ℕ → eval·eval-new-lts.Claims
 eval·eval-new-claims t = (is-preset-reads.Asked, is-preset-reads.Learnt, field-total-reads.Asked, field-total-reads.Learnt, eval·eval-list-below t, eval·eval-list.Post, halted-reads.Asked, halted-reads.Learnt, finish-reads.Asked, finish-reads.Learnt)
-
-abbrev eval·eval-part-claims : ℕ → eval·eval-part-lts.Claims
-eval·eval-part-claims t = (shape-at-reads.Asked, shape-at-reads.Learnt, this-of-reads.Asked, this-of-reads.Learnt, answer-reads.Asked, answer-reads.Learnt, parameter-reads.Asked, parameter-reads.Learnt, eval·eval-below t, eval·eval.Post, again-reads.Asked, again-reads.Learnt)
 
 abbrev eval·eval-field-Inv-loop : eval·eval-field-lts.InvT-loop
 eval·eval-field-Inv-loop t work tr fr k at d next u₀ j₀ u j = fields.Down t work (frameOf fr) tr at d next u₀ u j
@@ -211,9 +196,9 @@ eval·eval-list-Inv-loop t work₀ tr₀ fr n vs₀ q₀ i₀ work tr vs q i = w
 abbrev eval·eval-list-μ-loop : eval·eval-list-lts.MeasureT-loop
 eval·eval-list-μ-loop t work₀ tr₀ fr n vs₀ q₀ i₀ work tr vs q i = n - i
 
-pub +call·eval-call+call·invoke+call·run-left+call·run-right+eval·eval+eval·eval-field+eval·eval-item+eval·eval-list+eval·eval-new+eval·eval-part-spec : {M : Type 1} → statement M
-+call·eval-call+call·invoke+call·run-left+call·run-right+eval·eval+eval·eval-field+eval·eval-item+eval·eval-list+eval·eval-new+eval·eval-part-spec =
-    close μ-call·eval-call μ-call·invoke μ-call·run-left μ-call·run-right μ-eval·eval μ-eval·eval-field μ-eval·eval-item μ-eval·eval-list μ-eval·eval-new μ-eval·eval-part
+pub +call·eval-call+call·invoke+call·run-left+call·run-right+eval·eval+eval·eval-field+eval·eval-item+eval·eval-list+eval·eval-new-spec : {M : Type 1} → statement M
++call·eval-call+call·invoke+call·run-left+call·run-right+eval·eval+eval·eval-field+eval·eval-item+eval·eval-list+eval·eval-new-spec =
+    close μ-call·eval-call μ-call·invoke μ-call·run-left μ-call·run-right μ-eval·eval μ-eval·eval-field μ-eval·eval-item μ-eval·eval-list μ-eval·eval-new
     -- eval_call
     (λ t. call·eval-call-lts.spec (call·eval-call-claims t) (call·eval-call-at t) call·eval-call.Post
     (λ c. search calls.call-nested)
@@ -413,7 +398,7 @@ pub +call·eval-call+call·invoke+call·run-left+call·run-right+eval·eval+eval
     (λ c. search needs)
     (λ c κs. search needs)
     (λ c κs. search needs)
-    (λ c κs. (search fall.field-part-falls, search fields.fields-run))
+    (λ c κs. (search fall.field-eval-falls, search fields.fields-run))
     (λ c. search needs)
     (λ c. search needs)
     (λ c. search needs)
@@ -427,11 +412,11 @@ pub +call·eval-call+call·invoke+call·run-left+call·run-right+eval·eval+eval
     (λ c. search fields.down-index)
     (λ c κs. let at-loop = c .before .before .before in
     let at-o = at-loop .before .before in
-    let at-eval-part = at-o .before .before .before .before in
-    let at-down = at-eval-part .before in
+    let at-eval = at-o .before .before .before .before in
+    let at-down = at-eval .before in
     let at-fields-at = at-down .before .before .before in
     let start = at-fields-at .before .before .before in
-    fields.down-held _ _ _ _ _ _ _ _ _ _ (at-loop .loop .inv) _ _ _ (start .pre .1) refl (at-fields-at .fields-at .ensures) _ (at-down .down .ensures) _ (at-eval-part .eval-part .ensures) (at-o .o .given .1))
+    fields.down-held _ _ _ _ _ _ _ _ _ _ (at-loop .loop .inv) _ _ _ (start .pre .1) refl (at-fields-at .fields-at .ensures) _ (at-down .down .ensures) _ (at-eval .eval .ensures) (at-o .o .given .1))
     (λ c. search needs)
     (λ c. search needs)
     (λ c. search needs)
@@ -439,20 +424,20 @@ pub +call·eval-call+call·invoke+call·run-left+call·run-right+eval·eval+eval
     let in-loop = at-select .before .before .before in
     let at-loop = in-loop .before in
     let at-o = at-loop .before .before in
-    let at-eval-part = at-o .before .before .before .before in
-    let at-down = at-eval-part .before in
+    let at-eval = at-o .before .before .before .before in
+    let at-down = at-eval .before in
     let at-fields-at = at-down .before .before .before in
     let start = at-fields-at .before .before .before in
-    fields.down-stops _ _ _ _ _ _ _ _ _ _ (at-loop .loop .inv) _ _ _ (start .pre .1) refl (at-fields-at .fields-at .ensures) _ (at-down .down .ensures) _ (at-eval-part .eval-part .ensures) (at-o .o .given .1) (in-loop .loop-test .taken) _ _ (at-select .select .ensures) (c .enum-told2 .given .1))
+    fields.down-stops _ _ _ _ _ _ _ _ _ _ (at-loop .loop .inv) _ _ _ (start .pre .1) refl (at-fields-at .fields-at .ensures) _ (at-down .down .ensures) _ (at-eval .eval .ensures) (at-o .o .given .1) (in-loop .loop-test .taken) _ _ (at-select .select .ensures) (c .enum-told2 .given .1))
     (λ c. search needs)
     (λ c. search fields.down-again)
     (λ c κs. let at-loop = c .before .before in
     let at-o = at-loop .before .before in
-    let at-eval-part = at-o .before .before .before .before in
-    let at-down = at-eval-part .before in
+    let at-eval = at-o .before .before .before .before in
+    let at-down = at-eval .before in
     let at-fields-at = at-down .before .before .before in
     let start = at-fields-at .before .before .before in
-    fields.down-held _ _ _ _ _ _ _ _ _ _ (at-loop .loop .inv) _ _ _ (start .pre .1) refl (at-fields-at .fields-at .ensures) _ (at-down .down .ensures) _ (at-eval-part .eval-part .ensures) (at-o .o .given .1))
+    fields.down-held _ _ _ _ _ _ _ _ _ _ (at-loop .loop .inv) _ _ _ (start .pre .1) refl (at-fields-at .fields-at .ensures) _ (at-down .down .ensures) _ (at-eval .eval .ensures) (at-o .o .given .1))
     (λ c. search needs)
     (λ c. search needs)
     (λ c. search needs)
@@ -460,22 +445,22 @@ pub +call·eval-call+call·invoke+call·run-left+call·run-right+eval·eval+eval
     let after-loop = at-select2 .before .before in
     let at-loop = after-loop .before in
     let at-o = at-loop .before .before in
-    let at-eval-part = at-o .before .before .before .before in
-    let at-down = at-eval-part .before in
+    let at-eval = at-o .before .before .before .before in
+    let at-down = at-eval .before in
     let at-fields-at = at-down .before .before .before in
     let start = at-fields-at .before .before .before in
-    fields.down-lacks _ _ _ _ _ _ _ _ _ _ (at-loop .loop .inv) _ _ _ (start .pre .1) refl (at-fields-at .fields-at .ensures) _ (at-down .down .ensures) _ (at-eval-part .eval-part .ensures) (at-o .o .given .1) (after-loop .loop-test .left) _ _ (at-select2 .select2 .ensures) (c .enum-told3 .given .1))
+    fields.down-lacks _ _ _ _ _ _ _ _ _ _ (at-loop .loop .inv) _ _ _ (start .pre .1) refl (at-fields-at .fields-at .ensures) _ (at-down .down .ensures) _ (at-eval .eval .ensures) (at-o .o .given .1) (after-loop .loop-test .left) _ _ (at-select2 .select2 .ensures) (c .enum-told3 .given .1))
     (λ c. search needs)
     (λ c. let at-s2 = c .before in
     let at-select2 = at-s2 .before .before in
     let after-loop = at-select2 .before .before in
     let at-loop = after-loop .before in
     let at-o = at-loop .before .before in
-    let at-eval-part = at-o .before .before .before .before in
-    let at-down = at-eval-part .before in
+    let at-eval = at-o .before .before .before .before in
+    let at-down = at-eval .before in
     let at-fields-at = at-down .before .before .before in
     let start = at-fields-at .before .before .before in
-    fields.down-has _ _ _ _ _ _ _ _ _ _ (at-loop .loop .inv) _ _ _ (start .pre .1) refl (at-fields-at .fields-at .ensures) _ (at-down .down .ensures) _ (at-eval-part .eval-part .ensures) (at-o .o .given .1) (after-loop .loop-test .left) _ _ (at-select2 .select2 .ensures) _ (at-s2 .s2 .given .1)))
+    fields.down-has _ _ _ _ _ _ _ _ _ _ (at-loop .loop .inv) _ _ _ (start .pre .1) refl (at-fields-at .fields-at .ensures) _ (at-down .down .ensures) _ (at-eval .eval .ensures) (at-o .o .given .1) (after-loop .loop-test .left) _ _ (at-select2 .select2 .ensures) _ (at-s2 .s2 .given .1)))
     -- eval_item
     (λ t. eval·eval-item-lts.spec (eval·eval-item-claims t) (eval·eval-item-at t) eval·eval-item.Post
     (λ c. search steps.step-zero)
@@ -546,20 +531,3 @@ pub +call·eval-call+call·invoke+call·run-left+call·run-right+eval·eval+eval
     (λ c κs. search steps.parts-ready)
     (λ c. search needs)
     (λ c. search steps.new-made))
-    -- eval_part
-    (λ t. eval·eval-part-lts.spec (eval·eval-part-claims t) (eval·eval-part-at t) eval·eval-part.Post
-    (λ c. search steps.step-zero)
-    (λ c. search needs)
-    (λ c κs. search needs)
-    (λ c. search needs)
-    (λ c κs. search needs)
-    (λ c κs. search steps.next-this)
-    (λ c. search needs)
-    (λ c κs. search needs)
-    (λ c κs. search steps.next-parameter)
-    (λ c κs. (search fall.same-falls, search needs))
-    (λ c κs. search needs)
-    (λ c. search steps.step-this)
-    (λ c. search steps.step-parameter)
-    (λ c. search needs)
-    (λ c. search steps.step-again))
