@@ -1,18 +1,23 @@
 -- Document 01's shams, refuted: a function that meets the contract of a public call does not answer as the sham does.
 -- Each by a call that the sham would answer otherwise. The table of them, with the edits of the code, is docs/SHAMS.md.
-use Prim.Native.Nat.{ℕ, _≤_}
+use Prim.Native.Nat.{ℕ, _≤_, _<_}
 use Prim.Native.String.{String}
 use native.Mathlib.Omega.{arith}
 use mathlib.Core.Path.{_≡_, refl, sym, ap, _∙_}
+use mathlib.Core.Bool.{true, false, false≢true}
 use mathlib.Core.List.{List, [], _∷_}
 use lib.ListN.{length, getD, drop, length-replicate}
 use lib.Seq.{take-append-seam}
+use Rattle.cofj.specs.declared.Session.{Session}
+use Rattle.cofj.specs.declared.Closing.{Closing}
 use Rattle.cofj.specs.declared.Verdict.{Verdict}
 use Rattle.cofj.specs.Bytes.{bytes}
+use Rattle.cofj.specs.Rows.{row-a, row-f, row-i}
 use Rattle.cofj.specs.Running.{run}
 use Rattle.cofj.specs.Report.{reportOf}
-use Rattle.cofj.specs.Calls.{Mode, checked, openSession, zeros, over, Ran, Admitted, declined, admitted, admit, runAdmitted, reportAdmitted, checkText, checkCall}
+use Rattle.cofj.specs.Calls.{Mode, checked, trial, openSession, closeSession, linerun, zeros, over, Ran, Admitted, declined, admitted, admit, runAdmitted, reportAdmitted, checkText, checkCall}
 use Rattle.cofj.specs.Promises.{Call, called, reportText}
+use Rattle.cofj.proofs.Promises.{refusals}
 use Rattle.engine.proofs.StateLaws.{lent-run}
 
 -- a call with buffers just long enough
@@ -40,11 +45,11 @@ reports m s n = ap reportText (lent m s n) ∙ admitted-text (admit m (bytes s))
 -- ---- the calls
 -- case A
 abbrev text-a : String
-text-a = "010100010003\n01020000\n02020101030103004402004041\n02020201000102004501014401004041\n03440100450200\n"
+text-a = row-a .text
 
 -- the ring of case I
 abbrev text-i : String
-text-i = "01010000\n01020000\n010300010003\n01040000\n010500010003\n02010103000302004503014402004041\n02010205000502004505014401004041\n03440100450100\n"
+text-i = row-i .text
 
 -- a pair whose first value is one call, and whose second is an Object or an object of class 2
 abbrev text-p : String
@@ -60,6 +65,14 @@ text-o = "03450000\n"
 -- m of class 1 calls n of class 2, which calls m again, whose right side is `this`: the object of class 1, and not the caller's
 abbrev text-f : String
 text-f = "01010000\n01020000\n02010101000100004402014502004040\n0202020100010001010044010042004200\n03440100450100\n"
+
+-- case F
+abbrev text-u : String
+text-u = row-f .text
+
+-- a call whose report buffer is a byte too short
+abbrev short : String → Call
+short s = record { mode = checked; text = bytes s; session = openSession 0; report = zeros 543; work = zeros 65536 }
 
 checks-a : checkCall (bytes text-a) ≡ record { refusal = 0; class = 1; tag = 3 }
 unfolding checkText bytes
@@ -136,3 +149,46 @@ module _ (f : Call → Ran) (meets : (a : Call) → f a ≡ called a) where
   pub callers-frame : reportText (f (calling checked text-f 3)) ≡ bytes "05000200\n" → ⊥
   unfolding bytes
   callers-frame sham = apart 5 (bytes "05000100\n") (bytes "05000200\n") (λ z. omega arith) (sym (says checked text-f 3 _ report-f) ∙ sham)
+
+  -- a trial run checks types: case F, whose method k has none
+  pub trial-checks : f (calling trial text-u 9) .answer .refusal ≡ 6 → ⊥
+  unfolding admit bytes
+  trial-checks sham =
+      let e : f (calling trial text-u 9) .answer .refusal ≡ 0 = ap (λ (r : Ran). r .answer .refusal) (meets (calling trial text-u 9) ∙ lent trial text-u 9) in
+      omega (arith, e, sham)
+
+  -- a report buffer of 543 bytes is taken
+  pub short-report : f (short text-o) .answer .refusal ≡ 0 → ⊥
+  short-report sham =
+      let h : length (zeros 543) < 544 = let l = zeros-length 543 in omega arith in
+      let e : f (short text-o) .answer .refusal ≡ 12 = ap (λ (r : Ran). r .answer .refusal) (meets (short text-o) ∙ refusals (short text-o) .shortReport refl h) in
+      omega (arith, e, sham)
+
+-- ---- sessions
+module _ (f : ℕ → Session) (meets : (n : ℕ) → f n ≡ openSession n) where
+  -- a session is opened closed
+  pub opened-closed : (n : ℕ) → f n .active ≡ false → ⊥
+  opened-closed n sham = false≢true (sym sham ∙ ap (λ (σ : Session). σ .active) (meets n))
+
+  -- or without the fuel asked for
+  pub opened-empty : f 3 .fuel ≡ 0 → ⊥
+  opened-empty sham = let e : f 3 .fuel ≡ 3 = ap (λ (σ : Session). σ .fuel) (meets 3) in omega (arith, e, sham)
+
+module _ (f : Session → Closing) (meets : (σ : Session) → f σ ≡ closeSession σ) where
+  -- closing a closed session is accepted
+  pub closed-twice : f (f (openSession 3) .session) .refusal ≡ 0 → ⊥
+  unfolding closeSession
+  closed-twice sham =
+      let e : f (f (openSession 3) .session) .refusal ≡ 11 = ap (λ (σ : Session). f σ .refusal) (ap (λ (c : Closing). c .session) (meets (openSession 3))) ∙ ap (λ (c : Closing). c .refusal) (meets _) in
+      omega (arith, e, sham)
+
+  -- a closed session keeps its fuel
+  pub closed-with-fuel : f (openSession 3) .session .fuel ≡ 3 → ⊥
+  unfolding closeSession
+  closed-with-fuel sham = let e : f (openSession 3) .session .fuel ≡ 0 = ap (λ (c : Closing). c .session .fuel) (meets (openSession 3)) in omega (arith, e, sham)
+
+-- ---- `linerun`
+-- a verdict line of another kind
+pub other-verdict : (f : List ℕ → List ℕ) → ((s : List ℕ) → f s ≡ linerun s) → getD (f []) 1 0 ≡ getD (bytes "09") 1 0 → ⊥
+unfolding linerun bytes
+other-verdict f meets sham = let e : getD (f []) 1 0 ≡ getD (bytes "08") 1 0 = ap (λ (s : List ℕ). getD s 1 0) (meets []) in omega (arith, e, sham)
