@@ -12,25 +12,25 @@ use Rattle.cofj.specs.Tables.{exprKnown}
 use Rattle.cofj.specs.Reading.{Answer, refusal, read, readText}
 use Rattle.cofj.specs.Calls as calls
 use Rattle.cofj.specs.Writing.{codeOf}
+use Rattle.cofj.specs.Nesting.{Nested}
+use Rattle.cofj.proofs.Readable.{read-formed}
 use Rattle.classes.specs.Layout.{layout, Stands}
 use Rattle.checker.specs.declared.scope.Scope.{Scope}
 use Rattle.checker.specs.Machine.{typeIn}
 use Rattle.checker.specs.Program.{checkOf}
 use Rattle.checker.specs.Answers.{typedAt, answerOf, verdictOf}
-use Rattle.checker.specs.Ready.{Nested}
 use Rattle.checker.proofs.Expressions.{Agree, types-on}
-use Rattle.checker.proofs.Programs.{ready-check}
-use Rattle.checker.proofs.ReadTables.{read-ready}
+use Rattle.checker.proofs.Programs.{formed-check}
 
 module _ (s : List ℕ) (t : Table) (reads : readText s ≡ read t) where
   -- an expression nested at most `left` deep, of known classes, whose bytes stand at `at`
   pub type-on : (scope : Scope) (top : Bool) (g : Env) → Agree t scope top g → (left : ℕ) (e : Expr) (at : ℕ)
       → Nested left e → exprKnown (length (t .classes)) e ≡ true → Stands (layout t) at (codeOf e)
       → typeIn (layout t) left scope at ≡ typedAt (typeOf t top g e) (at + length (codeOf e))
-  type-on scope top g agree left e at nested known stands = types-on t (read-ready s t reads) scope top g agree left .types e at nested known stands
+  type-on scope top g agree left e at nested known stands = types-on t (read-formed s t reads) scope top g agree left .types e at nested known stands
 
   pub check-on : checkOf (layout t) ≡ answerOf (check t)
-  check-on = ready-check t (read-ready s t reads)
+  check-on = formed-check t (read-formed s t reads)
 
   -- and so the public call's answer
   pub verdict-on : verdictOf (checkOf (layout t)) ≡ calls.checkCall s

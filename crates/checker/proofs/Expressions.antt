@@ -3,7 +3,7 @@ use Prim.Native.Nat.{ℕ, zero, suc, _+_, _<_, _≤_}
 use native.Mathlib.Omega.{arith}
 use mathlib.Core.Path.{_≡_, refl, sym, ap, _∙_}
 use mathlib.Core.Bool.{Bool, true, false, _&&_, cond}
-use mathlib.Core.List.{List, [], _++_, map}
+use mathlib.Core.List.{List, _++_, map}
 use mathlib.Core.Option.{Option, none, some}
 use lib.Dec.{eqb, leb}
 use lib.ListN.{length, getElem?, length-append}
@@ -15,28 +15,31 @@ use Rattle.cofj.specs.Classes.{fieldsOf, lookup}
 use Rattle.cofj.specs.Typing.{Env, allClosed, narrow, allFit, fieldType, callType, newType, typeOf, typesOf}
 use Rattle.cofj.specs.Tables.{exprKnown, exprsKnown}
 use Rattle.cofj.specs.Writing.{codeOf, codesOf}
+use Rattle.cofj.specs.Nesting.{Each, Parts, Nested}
+use Rattle.cofj.specs.WellFormed.{MethodFormed, WellFormed}
 use Rattle.cofj.proofs.Partial.{and-true}
 use Rattle.classes.specs.declared.chain.FieldType.{FieldType}
 use Rattle.classes.specs.declared.chain.FieldFound.{FieldFound}
 use Rattle.classes.specs.declared.methods.Found.{Found}
 use Rattle.classes.specs.declared.methods.Found.the-variants as method
-use Rattle.classes.specs.Machine.{pick, fieldOf, paramOf, lookupOf}
+use Rattle.classes.specs.Machine.{pick, fieldOf, paramOf, lookupOf, counted, methodWith}
 use Rattle.classes.specs.Layout.{layout, Stands, foundType}
 use Rattle.classes.specs.Layout as lay
 use Rattle.classes.proofs.Zones.{stands-front, stands-after, total-at, param-count-at, first-at, second-at}
+use Rattle.classes.proofs.Lists.{index-below, method-at}
 use Rattle.classes.proofs.OnTables.{field-on, lookup-on}
+use Rattle.classes.proofs.ShapesOn.{shape-on, field-part, call-parts, new-parts}
 use Rattle.checker.specs.Items.{Parameters, Fields}
 use Rattle.checker.specs.declared.scope.Typed.{Typed}
 use Rattle.checker.specs.declared.scope.Typed.the-variants.{No}
 use Rattle.checker.specs.declared.scope.Scope.{Scope}
 use Rattle.checker.specs.Listed.{Listed}
-use Rattle.checker.specs.Shapes.{shapeAt}
-use Rattle.checker.specs.Types.{foundAt, thisOf, resOf, paramVar, counted, receiverOf, resultOf}
+use Rattle.classes.specs.Shapes.{shapeAt}
+use Rattle.checker.specs.Types.{foundAt, thisOf, resOf, paramVar, receiverOf, resultOf}
 use Rattle.checker.specs.Machine.{Walk, typed, listBy, fieldBy, resultAt, argsThen, argsBy, calledBy, callBy, newThen, newBy, stepBy, typeIn}
 use Rattle.checker.specs.Answers.{typedAt}
-use Rattle.checker.specs.Ready.{Ready, MethodReady, Each, Parts, Nested}
-use Rattle.checker.proofs.Known.{KnownEnv, typed-known, method-at}
-use Rattle.checker.proofs.OnBytes.{within, one-byte, two-bytes, after-two, three-bytes, after-three, index-below, param-on}
+use Rattle.checker.proofs.Known.{KnownEnv, typed-known}
+use Rattle.checker.proofs.OnBytes.{within, param-on}
 use Rattle.checker.proofs.Lists.{listedAt, Finds, unfit, length-narrow, narrow-same, types-length, list-on}
 
 -- a scope of the code says what an environment of the language says
@@ -56,7 +59,7 @@ none-after : {A : Type 0} (o : Option A) (f : A → Option Ty) → ((a : A) → 
 none-after none f h = refl
 none-after (some a) f h = h a refl
 
-module _ (t : Table) (rd : Ready t) where
+module _ (t : Table) (wf : WellFormed t) where
   -- ---- a field of a receiver
   field-of : (o : Option Ty) (f next : ℕ) → ((u : Ty) → o ≡ some u → u .cls ≤ length (t .classes))
       → typed (typedAt o next) (λ c g to. pick (eqb g 0) (foundAt (fieldOf (layout t) c f) to) No) ≡ typedAt (o >>= λ u. fieldType t u f) next
@@ -65,7 +68,7 @@ module _ (t : Table) (rd : Ready t) where
   field-of (some u) f next kn = go (eqb (u .tag) 0)
     where
       go : (b : Bool) → pick b (foundAt (fieldOf (layout t) (u .cls) f) next) No ≡ typedAt (guard b >>= λ _. getElem? (fieldsOf (t .classes) (u .cls)) f) next
-      go true = ap (λ (x : FieldFound). foundAt x next) (field-on t (rd .formed) (u .cls) f (within t rd (u .cls) (kn u refl))) ∙ found-typed (getElem? (fieldsOf (t .classes) (u .cls)) f) next
+      go true = ap (λ (x : FieldFound). foundAt x next) (field-on t wf (u .cls) f (within t wf (u .cls) (kn u refl))) ∙ found-typed (getElem? (fieldsOf (t .classes) (u .cls)) f) next
       go false = refl
 
   -- ---- the arguments of a call of method i, which is d
@@ -136,7 +139,7 @@ module _ (t : Table) (rd : Ready t) where
       go false = refl
 
 -- ---- one step: `one` finds the types of what is nested less deep
-module _ (t : Table) (rd : Ready t) (top : Bool) (g : Env) (kg : KnownEnv (length (t .classes)) g) (P : Expr → Type 0) (one : Walk) (ih : Finds t top g P one) where
+module _ (t : Table) (wf : WellFormed t) (top : Bool) (g : Env) (kg : KnownEnv (length (t .classes)) g) (P : Expr → Type 0) (one : Walk) (ih : Finds t top g P one) where
   -- the type of a call of m on a receiver of type u
   abbrev callOf : Option (List Ty) → Ty → ℕ → Option Ty
   callOf os u m = os >>= λ us. callType t top u m us
@@ -150,22 +153,22 @@ module _ (t : Table) (rd : Ready t) (top : Bool) (g : Env) (kg : KnownEnv (lengt
     counted-is i d e = rw (param-count-at t i d l e) (go (eqb (length (d .params)) (count es)) refl)
       where
         l : i < methodCount
-        l = let a = index-below (t .methods) i d e in let b = rd .count in omega arith
+        l = let a = index-below (t .methods) i d e in let b = wf .count in omega arith
 
         go : (b : Bool) → eqb (length (d .params)) (count es) ≡ b
             → calledBy (layout t) one top (count es) a1 (pick b (method.At i) method.Nothing)
             ≡ typedAt (typesOf t top g es >>= λ us. guard (allClosed us && allFit t us (d .params)) >>= λ _. some (cond top (d .first) (d .second))) (a1 + length (codesOf es))
         go true q =
-            let r = method-at (MethodReady (length (t .classes))) (t .methods) i d (rd .methods) e in
+            let r = method-at (MethodFormed t) (t .methods) i d (wf .methods) e in
             ap (argsThen (layout t) top i)
-            (list-on t rd top g kg P one ih (Parameters i) es (d .params) 0 a1 true
+            (list-on t wf top g kg P one ih (Parameters i) es (d .params) 0 a1 true
             (λ j. ap (λ (x : ℕ). paramOf (layout t) i x) (let z : 0 + j ≡ j = omega arith in z) ∙ param-on t i d l e (r .few) j)
             (sym (eqb-true (length (d .params)) (count es) q)) each kn st)
-            ∙ args-is t rd i d l e top (a1 + length (codesOf es)) (typesOf t top g es)
+            ∙ args-is t wf i d l e top (a1 + length (codesOf es)) (typesOf t top g es)
         go false q =
             ap (λ (o : Option Ty). typedAt o (a1 + length (codesOf es)))
             (sym (none-after (typesOf t top g es) (λ us. guard (allClosed us && allFit t us (d .params)) >>= λ _. some (cond top (d .first) (d .second)))
-            (λ us z. args-other t rd top d us (λ y. eqb-false (length (d .params)) (count es) q (sym y ∙ types-length t top g es us z)))))
+            (λ us z. args-other t wf top d us (λ y. eqb-false (length (d .params)) (count es) q (sym y ∙ types-length t top g es us z)))))
 
     found-is : (f : Found) (x : Option Method) → lay.Finds (t .methods) f x
         → calledBy (layout t) one top (count es) a1 (counted (layout t) (count es) f)
@@ -175,12 +178,12 @@ module _ (t : Table) (rd : Ready t) (top : Bool) (g : Env) (kg : KnownEnv (lengt
 
     called-is : (u : Ty) (m : ℕ) → m < 256 → u .cls ≤ length (t .classes)
         → calledBy (layout t) one top (count es) a1 (receiverOf (layout t) (u .cls) (u .tag) m (count es)) ≡ typedAt (callOf (typesOf t top g es) u m) (a1 + length (codesOf es))
-    unfolding receiverOf callType
+    unfolding receiverOf methodWith callType
     called-is u m small h = go (eqb (u .tag) 0)
       where
         go : (b : Bool) → calledBy (layout t) one top (count es) a1 (pick b (counted (layout t) (count es) (lookupOf (layout t) (u .cls) m)) method.Nothing)
             ≡ typedAt (typesOf t top g es >>= λ us. guard b >>= λ _. lookup t (u .cls) m >>= λ d. guard (allClosed us && allFit t us (d .params)) >>= λ _. some (cond top (d .first) (d .second))) (a1 + length (codesOf es))
-        go true = found-is (lookupOf (layout t) (u .cls) m) (lookup t (u .cls) m) (lookup-on t (rd .formed) m small (u .cls) (within t rd (u .cls) h))
+        go true = found-is (lookupOf (layout t) (u .cls) m) (lookup t (u .cls) m) (lookup-on t wf m small (u .cls) (within t wf (u .cls) h))
         go false = ap (λ (o : Option Ty). typedAt o (a1 + length (codesOf es))) (sym (none-after (typesOf t top g es) (λ us. none) (λ us z. refl)))
 
     call-is : (o : Option Ty) (m : ℕ) → m < 256 → ((u : Ty) → o ≡ some u → u .cls ≤ length (t .classes))
@@ -191,58 +194,58 @@ module _ (t : Table) (rd : Ready t) (top : Bool) (g : Env) (kg : KnownEnv (lengt
 
     object-is : (c : ℕ) → c ≤ length (t .classes) → newBy (layout t) one c (count es) a1 ≡ typedAt (typesOf t top g es >>= λ us. newType t c us) (a1 + length (codesOf es))
     unfolding newBy
-    object-is c h = rw (total-at t c (within t rd c h)) (go (eqb (length (fieldsOf (t .classes) c)) (count es)) refl)
+    object-is c h = rw (total-at t c (within t wf c h)) (go (eqb (length (fieldsOf (t .classes) c)) (count es)) refl)
       where
         go : (b : Bool) → eqb (length (fieldsOf (t .classes) c)) (count es) ≡ b
             → pick b (newThen c (listBy (layout t) one (Fields c) 0 (count es) true a1)) No ≡ typedAt (typesOf t top g es >>= λ us. newType t c us) (a1 + length (codesOf es))
         go true q =
             ap (newThen c)
-            (list-on t rd top g kg P one ih (Fields c) es (fieldsOf (t .classes) c) 0 a1 true
-            (λ j. ap (λ (x : ℕ). fieldOf (layout t) c x) (let z : 0 + j ≡ j = omega arith in z) ∙ field-on t (rd .formed) c j (within t rd c h))
+            (list-on t wf top g kg P one ih (Fields c) es (fieldsOf (t .classes) c) 0 a1 true
+            (λ j. ap (λ (x : ℕ). fieldOf (layout t) c x) (let z : 0 + j ≡ j = omega arith in z) ∙ field-on t wf c j (within t wf c h))
             (sym (eqb-true (length (fieldsOf (t .classes) c)) (count es) q)) each kn st)
-            ∙ new-is t rd c (a1 + length (codesOf es)) (typesOf t top g es)
+            ∙ new-is t wf c (a1 + length (codesOf es)) (typesOf t top g es)
         go false q =
             ap (λ (o : Option Ty). typedAt o (a1 + length (codesOf es)))
             (sym (none-after (typesOf t top g es) (λ us. newType t c us)
-            (λ us z. new-other t rd c us (λ y. eqb-false (length (fieldsOf (t .classes) c)) (count es) q (sym y ∙ types-length t top g es us z)))))
+            (λ us z. new-other t wf c us (λ y. eqb-false (length (fieldsOf (t .classes) c)) (count es) q (sym y ∙ types-length t top g es us z)))))
 
   -- ---- an expression, by what stands at its place
   module _ (s : Scope) (ag : Agree t s top g) where
     pub step-on : (e : Expr) (at : ℕ) → Parts P e → exprKnown (length (t .classes)) e ≡ true → Stands (layout t) at (codeOf e)
         → stepBy (layout t) one s (shapeAt (layout t) at) ≡ typedAt (typeOf t top g e) (at + length (codeOf e))
     unfolding codeOf typeOf exprKnown fieldBy callBy
-    step-on this at p kn st = ap (stepBy (layout t) one s) (one-byte t at 0x40 (λ z. omega arith) [] st) ∙ ag .self (at + 1)
-    step-on res at p kn st = ap (stepBy (layout t) one s) (one-byte t at 0x41 (λ z. omega arith) [] st) ∙ ag .result (at + 1)
-    step-on (param k) at p kn st = ap (stepBy (layout t) one s) (two-bytes t at 0x42 (λ z. omega arith) k [] st) ∙ ag .param k (at + 2)
+    step-on this at p kn st = ap (stepBy (layout t) one s) (shape-on t this at st) ∙ ag .self (at + 1)
+    step-on res at p kn st = ap (stepBy (layout t) one s) (shape-on t res at st) ∙ ag .result (at + 1)
+    step-on (param k) at p kn st = ap (stepBy (layout t) one s) (shape-on t (param k) at st) ∙ ag .param k (at + 2)
     step-on (field f e) at p kn st =
-        ap (stepBy (layout t) one s) (two-bytes t at 0x43 (λ z. omega arith) f (codeOf e) st)
+        ap (stepBy (layout t) one s) (shape-on t (field f e) at st)
         ∙ ap (λ (o : Typed). typed o (λ c h to. pick (eqb h 0) (foundAt (fieldOf (layout t) c f) to) No))
-        (ih .types e (at + 2) p kn (after-two t at 0x43 (λ z. omega arith) f (codeOf e) st))
-        ∙ field-of t rd (typeOf t top g e) f (at + 2 + length (codeOf e)) (λ u z. typed-known t rd top g kg e u kn z)
+        (ih .types e (at + 2) p kn (field-part t at f e st))
+        ∙ field-of t wf (typeOf t top g e) f (at + 2 + length (codeOf e)) (λ u z. typed-known t wf top g kg e u kn z)
         ∙ ap (typedAt (typeOf t top g (field f e))) (let z : at + 2 + length (codeOf e) ≡ at + suc (suc (length (codeOf e))) = omega arith in z)
     step-on (call m e es) at p kn st =
         let k = and-true (exprKnown (length (t .classes)) e) (exprsKnown (length (t .classes)) es) kn in
         let n = count es in
         let a1 = at + 3 + length (codeOf e) in
-        let after = after-three t at 0x44 (λ z. omega arith) m n (codeOf e ++ codesOf es) st in
+        let after = call-parts t at m e es st in
         let l = length-append (codeOf e) (codesOf es) in
-        ap (stepBy (layout t) one s) (three-bytes t at 0x44 (λ z. omega arith) m n (codeOf e ++ codesOf es) st)
+        ap (stepBy (layout t) one s) (shape-on t (call m e es) at st)
         ∙ ap (λ (b : Bool). callBy (layout t) one b m n (at + 3)) (ag .main)
         ∙ ap (λ (o : Typed). typed o (λ c h next. calledBy (layout t) one top n next (receiverOf (layout t) c h m n)))
         (ih .types e (at + 3) (p .1) (k .0) (stands-front (layout t) (at + 3) (codeOf e) (codesOf es) after))
-        ∙ call-is es (p .2) (k .1) a1 (stands-after (layout t) (at + 3) (codeOf e) (codesOf es) after) (typeOf t top g e) m (p .0) (λ u z. typed-known t rd top g kg e u (k .0) z)
+        ∙ call-is es (p .2) (k .1) a1 (stands-after (layout t) (at + 3) (codeOf e) (codesOf es) after) (typeOf t top g e) m (p .0) (λ u z. typed-known t wf top g kg e u (k .0) z)
         ∙ ap (typedAt (typeOf t top g (call m e es)))
         (let z : a1 + length (codesOf es) ≡ at + suc (suc (suc (length (codeOf e ++ codesOf es)))) = omega arith in z)
     step-on (new c es) at p kn st =
         let k = and-true (leb c (length (t .classes))) (exprsKnown (length (t .classes)) es) kn in
-        ap (stepBy (layout t) one s) (three-bytes t at 0x45 (λ z. omega arith) c (count es) (codesOf es) st)
-        ∙ object-is es p (k .1) (at + 3) (after-three t at 0x45 (λ z. omega arith) c (count es) (codesOf es) st) c (leb-true c (length (t .classes)) (k .0))
+        ap (stepBy (layout t) one s) (shape-on t (new c es) at st)
+        ∙ object-is es p (k .1) (at + 3) (new-parts t at c es st) c (leb-true c (length (t .classes)) (k .0))
         ∙ ap (typedAt (typeOf t top g (new c es))) (let z : at + 3 + length (codesOf es) ≡ at + suc (suc (suc (length (codesOf es)))) = omega arith in z)
 
 -- where the bytes of an expression stand that is nested at most `left` deep, its type is found, and the place after it
-pub types-on : (t : Table) → Ready t → (s : Scope) (top : Bool) (g : Env) → Agree t s top g → (left : ℕ) → Finds t top g (Nested left) (typeIn (layout t) left s)
+pub types-on : (t : Table) → WellFormed t → (s : Scope) (top : Bool) (g : Env) → Agree t s top g → (left : ℕ) → Finds t top g (Nested left) (typeIn (layout t) left s)
 unfolding typeIn Nested
-types-on t rd s top g ag zero = record { types = λ e at p kn st. absurd p }
-types-on t rd s top g ag (suc left) = record {
-  types = λ e at p kn st. step-on t rd top g (ag .known) (Nested left) (typeIn (layout t) left s) (types-on t rd s top g ag left) s ag e at p kn st;
+types-on t wf s top g ag zero = record { types = λ e at p kn st. absurd p }
+types-on t wf s top g ag (suc left) = record {
+  types = λ e at p kn st. step-on t wf top g (ag .known) (Nested left) (typeIn (layout t) left s) (types-on t wf s top g ag left) s ag e at p kn st;
 }

@@ -3,20 +3,18 @@ use Prim.Native.Nat.{ℕ, zero, suc, _≤_}
 use mathlib.Core.Path.{_≡_, refl, subst}
 use mathlib.Core.Bool.{Bool, true, false, _&&_, cond}
 use mathlib.Core.List.{List, [], _∷_, _++_, map}
-use mathlib.Core.Option.{Option, none, some, Option·none-ne-some}
+use mathlib.Core.Option.{Option, some, Option·none-ne-some}
 use lib.Dec.{eqb, leb}
 use lib.ListN.{length, getElem?}
 use borrow.Author.Tests.{leb-true}
 use Rattle.cofj.specs.Partial.{_>>=_, guard}
 use Rattle.cofj.specs.Syntax.{Expr, this, res, param, field, call, new, Ty, ty, Method, Table}
-use Rattle.cofj.specs.Classes.{parentOf, classAt, ownOrNone, fieldsTo, fieldsOf, methodOf, lookupTo, lookup}
+use Rattle.cofj.specs.Classes.{parentOf, classAt, ownOrNone, fieldsTo, fieldsOf, lookup}
 use Rattle.cofj.specs.Typing.{Env, allClosed, narrow, allFit, fieldType, callType, newType, typeOf, typesOf}
 use Rattle.cofj.specs.Tables.{allKnown, exprKnown, exprsKnown}
-use Rattle.cofj.specs.WellFormed.{AllMethods}
-use Rattle.cofj.proofs.Partial.{and-true}
-use Rattle.cofj.proofs.Climb.{found}
-use Rattle.cofj.proofs.Partial.{opt-bind, guard-bind}
-use Rattle.checker.specs.Ready.{Ready, MethodReady}
+use Rattle.cofj.specs.WellFormed.{WellFormed, MethodFormed}
+use Rattle.cofj.proofs.Partial.{and-true, opt-bind, guard-bind}
+use Rattle.cofj.proofs.Climb.{lookup-found}
 
 -- ---- lists of types
 pub known-at : (n : ℕ) (us : List Ty) (j : ℕ) (u : Ty) → allKnown n us ≡ true → getElem? us j ≡ some u → u .cls ≤ n
@@ -34,37 +32,18 @@ known-append n (u ∷ us) vs h k =
     let p = and-true (leb (u .cls) n) (allKnown n us) h in
     rw (p .0) (known-append n us vs (p .1) k)
 
-pub method-at : (P : Method → Type 0) (ds : List Method) (i : ℕ) (d : Method) → AllMethods P ds → getElem? ds i ≡ some d → P d
-method-at P [] i d h e = absurd (Option·none-ne-some d e)
-method-at P (x ∷ ds) zero d h e = let q : x ≡ d = cc in subst P q (h .0)
-method-at P (x ∷ ds) (suc i) d h e = method-at P ds i d (h .1) e
-
 -- ---- what a rule gives
 pub just : {A : Type 0} (x y : A) → some x ≡ some y → x ≡ y
 just x y e = cc
 
-module _ (t : Table) (rd : Ready t) where
+module _ (t : Table) (wf : WellFormed t) where
   abbrev n : ℕ
   n = length (t .classes)
 
   fields-known : (k c : ℕ) → allKnown n (fieldsTo k (t .classes) c) ≡ true
   unfolding fieldsTo allKnown
   fields-known zero c = refl
-  fields-known (suc k) c = known-append n (fieldsTo k (t .classes) (parentOf (t .classes) c)) (ownOrNone (classAt (t .classes) c)) (fields-known k (parentOf (t .classes) c)) (rd .own c)
-
-  own-ready : (c m : ℕ) (d : Method) → methodOf (t .methods) c m ≡ some d → MethodReady n d
-  own-ready c m d e = found (MethodReady n) (t .methods) (rd .methods) c m d e .0
-
-  lookup-ready : (k c m : ℕ) (d : Method) → lookupTo k t c m ≡ some d → MethodReady n d
-  unfolding lookupTo
-  lookup-ready zero c m d e = absurd (Option·none-ne-some d e)
-  lookup-ready (suc k) c m d e = go (methodOf (t .methods) c m) refl e (lookup-ready k (parentOf (t .classes) c) m d)
-    where
-      go : (o : Option Method) → methodOf (t .methods) c m ≡ o
-          → _≡_ {A = Option Method} (elim o [ none ↦ lookupTo k t (parentOf (t .classes) c) m | some x ↦ some x ]) (some d)
-          → (lookupTo k t (parentOf (t .classes) c) m ≡ some d → MethodReady n d) → MethodReady n d
-      go none q z ih = ih z
-      go (some x) q z ih = subst (MethodReady n) (just x d z) (own-ready c m x q)
+  fields-known (suc k) c = known-append n (fieldsTo k (t .classes) (parentOf (t .classes) c)) (ownOrNone (classAt (t .classes) c)) (fields-known k (parentOf (t .classes) c)) (wf .ownKnown c)
 
   field-known : (u : Ty) (f : ℕ) (v : Ty) → fieldType t u f ≡ some v → v .cls ≤ n
   unfolding fieldType
@@ -79,12 +58,12 @@ module _ (t : Table) (rd : Ready t) where
       let b = opt-bind (lookup t (u .cls) m) _ v (a .1) in
       let d = b .0 in
       let c = guard-bind (allClosed us && allFit t us (d .params)) (λ _. some (cond top (d .first) (d .second))) v (b .2) in
-      let r = lookup-ready (u .cls) (u .cls) m d (b .1) in
+      let r = lookup-found t wf (MethodFormed t) (wf .methods) (u .cls) m d (b .1) .0 in
       subst (λ (w : Ty). w .cls ≤ n) (just _ v (c .1)) (pick-known top d r)
     where
-      pick-known : (b : Bool) (d : Method) → MethodReady n d → cond b (d .first) (d .second) .cls ≤ n
-      pick-known true d r = r .first
-      pick-known false d r = r .second
+      pick-known : (b : Bool) (d : Method) → MethodFormed t d → cond b (d .first) (d .second) .cls ≤ n
+      pick-known true d r = r .firstKnown
+      pick-known false d r = r .secondKnown
 
   new-known : (c : ℕ) (us : List Ty) (v : Ty) → c ≤ n → newType t c us ≡ some v → v .cls ≤ n
   unfolding newType
@@ -103,19 +82,19 @@ pub record KnownEnv (n : ℕ) (g : Env) : Type 0 where
   pub result : (u : Ty) → g .result ≡ some u → u .cls ≤ n
   pub params : allKnown n (g .params) ≡ true
 
-pub typed-known : (t : Table) → Ready t → (top : Bool) (g : Env) → KnownEnv (length (t .classes)) g → (e : Expr) (u : Ty)
+pub typed-known : (t : Table) → WellFormed t → (top : Bool) (g : Env) → KnownEnv (length (t .classes)) g → (e : Expr) (u : Ty)
     → exprKnown (length (t .classes)) e ≡ true → typeOf t top g e ≡ some u → u .cls ≤ length (t .classes)
 unfolding typeOf exprKnown
-typed-known t rd top g kg this u h e = kg .self u e
-typed-known t rd top g kg res u h e = kg .result u e
-typed-known t rd top g kg (param k) u h e = known-at (length (t .classes)) (g .params) k u (kg .params) e
-typed-known t rd top g kg (field f x) u h e =
+typed-known t wf top g kg this u h e = kg .self u e
+typed-known t wf top g kg res u h e = kg .result u e
+typed-known t wf top g kg (param k) u h e = known-at (length (t .classes)) (g .params) k u (kg .params) e
+typed-known t wf top g kg (field f x) u h e =
     let a = opt-bind (typeOf t top g x) _ u e in
-    field-known t rd (a .0) f u (a .2)
-typed-known t rd top g kg (call m x xs) u h e =
+    field-known t wf (a .0) f u (a .2)
+typed-known t wf top g kg (call m x xs) u h e =
     let a = opt-bind (typeOf t top g x) _ u e in
     let b = opt-bind (typesOf t top g xs) _ u (a .2) in
-    call-known t rd top (a .0) m (b .0) u (b .2)
-typed-known t rd top g kg (new c xs) u h e =
+    call-known t wf top (a .0) m (b .0) u (b .2)
+typed-known t wf top g kg (new c xs) u h e =
     let a = opt-bind (typesOf t top g xs) _ u e in
-    new-known t rd c (a .0) u (leb-true c (length (t .classes)) (and-true (leb c (length (t .classes))) (exprsKnown (length (t .classes)) xs) h .0)) (a .2)
+    new-known t wf c (a .0) u (leb-true c (length (t .classes)) (and-true (leb c (length (t .classes))) (exprsKnown (length (t .classes)) xs) h .0)) (a .2)

@@ -1,4 +1,3 @@
-pub mod ShapeLaws
 pub mod TypeLaws
 pub mod WalkLaws
 pub mod ProgramLaws
@@ -7,7 +6,5 @@ pub mod OnBytes
 pub mod Lists
 pub mod Expressions
 pub mod Programs
-pub mod ReadFrames
-pub mod ReadTables
 pub mod Check
 pub mod Errors

@@ -12,6 +12,8 @@ use Rattle.cofj.specs.Classes.{fits}
 use Rattle.cofj.specs.Typing.{Env, closedTag, allClosed, narrow, allFit, typeOf, typesOf}
 use Rattle.cofj.specs.Tables.{exprKnown, exprsKnown}
 use Rattle.cofj.specs.Writing.{codeOf, codesOf}
+use Rattle.cofj.specs.Nesting.{Each}
+use Rattle.cofj.specs.WellFormed.{WellFormed}
 use Rattle.cofj.proofs.Partial.{and-true}
 use Rattle.cofj.proofs.Partial.{opt-bind}
 use Rattle.classes.specs.declared.chain.FieldFound.the-variants as field
@@ -25,7 +27,6 @@ use Rattle.checker.specs.Listed as list
 use Rattle.checker.specs.Types.{wantedOf, fitsFound, narrowTag, itemFits}
 use Rattle.checker.specs.Machine.{Walk, listed, listBy}
 use Rattle.checker.specs.Answers.{typedAt}
-use Rattle.checker.specs.Ready.{Ready, Each}
 use Rattle.checker.proofs.Known.{KnownEnv, typed-known}
 use Rattle.checker.proofs.OnBytes.{fits-on}
 
@@ -79,11 +80,11 @@ regroup a true c = refl
 regroup true false c = refl
 regroup false false c = refl
 
-module _ (t : Table) (rd : Ready t) (items : Items) (k : ℕ) (v : Ty) (vs : List Ty) (closed : Bool) (end : ℕ) (rest : Bool → ℕ → Listed)
+module _ (t : Table) (wf : WellFormed t) (items : Items) (k : ℕ) (v : Ty) (vs : List Ty) (closed : Bool) (end : ℕ) (rest : Bool → ℕ → Listed)
     (w : wantedOf (layout t) items k ≡ field.Type (bytesOf v)) where
   fits-item : (u : Ty) → u .cls ≤ length (t .classes) → itemFits (layout t) items k (u .cls) (u .tag) ≡ fits (t .classes) (narrow u) v
   unfolding itemFits
-  fits-item u h = ap (fitsFound (layout t) (u .cls) (narrowTag (u .tag))) w ∙ fits-on t rd (narrow u) v h
+  fits-item u h = ap (fitsFound (layout t) (u .cls) (narrowTag (u .tag))) w ∙ fits-on t wf (narrow u) v h
 
   put-front : (u : Ty) (f : Bool) → f ≡ fits (t .classes) (narrow u) v → (os : Option (List Ty))
       → pick f (listedAt t os vs (pick (closedTag (u .tag)) closed false) end) list.No ≡ listedAt t (os >>= λ us. some (u ∷ us)) (v ∷ vs) closed end
@@ -102,7 +103,7 @@ module _ (t : Table) (rd : Ready t) (items : Items) (k : ℕ) (v : Ty) (vs : Lis
       ∙ put-front u (itemFits (layout t) items k (u .cls) (u .tag)) (fits-item u (kn u refl)) os
 
 -- ---- the walk: from item k on the items are vs
-module _ (t : Table) (rd : Ready t) (top : Bool) (g : Env) (kg : KnownEnv (length (t .classes)) g) (P : Expr → Type 0) (one : Walk) (ih : Finds t top g P one) (items : Items) where
+module _ (t : Table) (wf : WellFormed t) (top : Bool) (g : Env) (kg : KnownEnv (length (t .classes)) g) (P : Expr → Type 0) (one : Walk) (ih : Finds t top g P one) (items : Items) where
   pub list-on : (es : Exprs) (vs : List Ty) (k at : ℕ) (closed : Bool) → ((j : ℕ) → wantedOf (layout t) items (k + j) ≡ foundType (getElem? vs j))
       → count es ≡ length vs → Each P es → exprsKnown (length (t .classes)) es ≡ true → Stands (layout t) at (codesOf es)
       → listBy (layout t) one items k (count es) closed at ≡ listedAt t (typesOf t top g es) vs closed (at + length (codesOf es))
@@ -127,7 +128,7 @@ module _ (t : Table) (rd : Ready t) (top : Bool) (g : Env) (kg : KnownEnv (lengt
       let later : (j : ℕ) → wantedOf (layout t) items (k + 1 + j) ≡ foundType (getElem? vs j) = λ j. ap (wantedOf (layout t) items) (let z : k + 1 + j ≡ k + suc j = omega arith in z) ∙ w (suc j) in
       let x = ih .types e at (p .0) (b .0) (stands-front (layout t) at (codeOf e) (codesOf es) st) in
       ap (λ (o : Typed). listed o (λ c h next. pick (itemFits (layout t) items k c h) (listBy (layout t) one items (k + 1) (count es) (pick (closedTag h) closed false) next) list.No)) x
-      ∙ front-on t rd items k v vs closed (a1 + length (codesOf es)) (λ c next. listBy (layout t) one items (k + 1) (count es) c next) h
-      (typeOf t top g e) (typesOf t top g es) a1 (λ u z. typed-known t rd top g kg e u (b .0) z)
+      ∙ front-on t wf items k v vs closed (a1 + length (codesOf es)) (λ c next. listBy (layout t) one items (k + 1) (count es) c next) h
+      (typeOf t top g e) (typesOf t top g es) a1 (λ u z. typed-known t wf top g kg e u (b .0) z)
       (λ c. list-on es vs (k + 1) a1 c later (let z : count es ≡ length vs = omega arith in z) (p .1) (b .1) (stands-after (layout t) at (codeOf e) (codesOf es) st))
       ∙ ap (listedAt t (typesOf t top g (also e es)) (v ∷ vs) closed) end

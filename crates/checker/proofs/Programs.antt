@@ -1,4 +1,4 @@
--- The check of a table's bytes is the language's check. Not here: that a table that was read is ready (ReadTables).
+-- The check of a table's bytes is the language's check. Not here: that a table that was read is well formed (cofj, Readable).
 use Prim.Native.Nat.{ℕ, suc, _+_, _<_, _≤_}
 use native.Mathlib.Omega.{arith}
 use mathlib.Core.Path.{_≡_, refl, ap, _∙_, subst}
@@ -12,13 +12,14 @@ use Rattle.cofj.specs.Syntax.{Ty, ty, Method, Table}
 use Rattle.cofj.specs.Classes.{fits}
 use Rattle.cofj.specs.Typing.{Env, closeTag, typeOf, methodTyped, methodsTyped, mainType, mainOr7, refused, check}
 use Rattle.cofj.specs.Tables.{allKnown}
-use Rattle.cofj.specs.WellFormed.{MethodFormed}
+use Rattle.cofj.specs.WellFormed.{MethodFormed, WellFormed}
 use Rattle.cofj.specs.Writing.{codeOf}
 use Rattle.classes.specs.declared.chain.FieldType.{FieldType}
 use Rattle.classes.specs.declared.chain.FieldFound.{FieldFound}
 use Rattle.classes.specs.Machine.{pick, paramOf, rowOf, leftOf, rightOf}
 use Rattle.classes.specs.Figures.{mainAt}
 use Rattle.classes.specs.Layout.{layout}
+use Rattle.classes.proofs.Lists.{index-below, method-at}
 use Rattle.classes.proofs.Zones.{method-count-at, owner-at, first-at, second-at, left-stands, right-stands, main-stands}
 use Rattle.checker.specs.declared.scope.Typed.{Typed}
 use Rattle.checker.specs.declared.scope.Typed.the-variants.{Has}
@@ -28,9 +29,8 @@ use Rattle.checker.specs.Types.{fitsType, foundAt}
 use Rattle.checker.specs.Machine.{typeIn}
 use Rattle.checker.specs.Program.{body, inMain, fitsFirst, fitsSecond, resultsFit, holds, rightTyped, methodIn, methodsFrom, methodsIn, mainOf, checkOf}
 use Rattle.checker.specs.Answers.{typedAt, answerOf}
-use Rattle.checker.specs.Ready.{Ready, MethodReady}
-use Rattle.checker.proofs.Known.{just, typed-known, method-at}
-use Rattle.checker.proofs.OnBytes.{fits-on, index-below, param-on}
+use Rattle.checker.proofs.Known.{just, typed-known}
+use Rattle.checker.proofs.OnBytes.{fits-on, param-on}
 use Rattle.checker.proofs.Expressions.{Agree, found-typed, types-on}
 
 -- whether an answer is there
@@ -69,24 +69,21 @@ four true false c d = refl
 four false b c d = refl
 
 -- ---- method i, which is d
-module _ (t : Table) (rd : Ready t) (i : ℕ) (d : Method) (e : getElem? (t .methods) i ≡ some d) where
+module _ (t : Table) (wf : WellFormed t) (i : ℕ) (d : Method) (e : getElem? (t .methods) i ≡ some d) where
   abbrev n : ℕ
   n = length (t .classes)
 
-  ready : MethodReady n d
-  ready = method-at (MethodReady n) (t .methods) i d (rd .methods) e
-
   formed : MethodFormed t d
-  formed = method-at (MethodFormed t) (t .methods) i d (rd .formed .methods) e
+  formed = method-at (MethodFormed t) (t .methods) i d (wf .methods) e
 
   row : i < methodCount
-  row = let a = index-below (t .methods) i d e in let b = rd .count in omega arith
+  row = let a = index-below (t .methods) i d e in let b = wf .count in omega arith
 
   self-known : (u : Ty) → some (ty (d .owner) 0) ≡ some u → u .cls ≤ n
-  self-known u z = subst (λ (v : Ty). v .cls ≤ n) (just (ty (d .owner) 0) u z) (ready .owner)
+  self-known u z = subst (λ (v : Ty). v .cls ≤ n) (just (ty (d .owner) 0) u z) (formed .ownerKnown)
 
   param-typed : (k next : ℕ) → foundAt (paramOf (layout t) i k) next ≡ typedAt (getElem? (d .params) k) next
-  param-typed k next = ap (λ (w : FieldFound). foundAt w next) (param-on t i d row e (ready .few) k) ∙ found-typed (getElem? (d .params) k) next
+  param-typed k next = ap (λ (w : FieldFound). foundAt w next) (param-on t i d row e (formed .few) k) ∙ found-typed (getElem? (d .params) k) next
 
   left-agree : Agree t (body i Absent) false (bodyEnv d none)
   left-agree = record {
@@ -94,7 +91,7 @@ module _ (t : Table) (rd : Ready t) (i : ℕ) (d : Method) (e : getElem? (t .met
     self = λ next. ap (λ (c : ℕ). Has c 0 next) (owner-at t i d row e);
     result = λ next. refl;
     param = param-typed;
-    known = record { self = self-known; result = λ u z. nowhere u z; params = ready .params };
+    known = record { self = self-known; result = λ u z. nowhere u z; params = formed .paramsKnown };
   }
 
   right-agree : (c : ℕ) → c ≤ n → Agree t (body i (Class c)) false (bodyEnv d (some (ty c 2)))
@@ -106,21 +103,21 @@ module _ (t : Table) (rd : Ready t) (i : ℕ) (d : Method) (e : getElem? (t .met
     known = record {
       self = self-known;
       result = λ u z. subst (λ (v : Ty). v .cls ≤ n) (just (ty c 2) u z) h;
-      params = ready .params;
+      params = formed .paramsKnown;
     };
   }
 
   -- the four conditions
   first-fits : (u : Ty) → u .cls ≤ n → fitsFirst (layout t) i (u .cls) (u .tag) ≡ fits (t .classes) u (d .first)
   unfolding fitsFirst
-  first-fits u h = ap (λ (x : FieldType). fitsType (layout t) (u .cls) (u .tag) x) (first-at t i d row e) ∙ fits-on t rd u (d .first) h
+  first-fits u h = ap (λ (x : FieldType). fitsType (layout t) (u .cls) (u .tag) x) (first-at t i d row e) ∙ fits-on t wf u (d .first) h
 
   second-fits : (u : Ty) → u .cls ≤ n → fitsSecond (layout t) i (u .cls) (u .tag) ≡ fits (t .classes) u (d .second)
   unfolding fitsSecond
-  second-fits u h = ap (λ (x : FieldType). fitsType (layout t) (u .cls) (u .tag) x) (second-at t i d row e) ∙ fits-on t rd u (d .second) h
+  second-fits u h = ap (λ (x : FieldType). fitsType (layout t) (u .cls) (u .tag) x) (second-at t i d row e) ∙ fits-on t wf u (d .second) h
 
   both-fit : fitsSecond (layout t) i (getD (layout t) (rowOf i + 3) 0) (getD (layout t) (rowOf i + 3 + 1) 0) ≡ fits (t .classes) (d .first) (d .second)
-  both-fit = ap (λ (x : FieldType). fitsSecond (layout t) i (x .class) (x .tag)) (first-at t i d row e) ∙ second-fits (d .first) (ready .first)
+  both-fit = ap (λ (x : FieldType). fitsSecond (layout t) i (x .class) (x .tag)) (first-at t i d row e) ∙ second-fits (d .first) (formed .firstKnown)
 
   abbrev conditions : Ty → Ty → Bool
   conditions u v =
@@ -143,8 +140,8 @@ module _ (t : Table) (rd : Ready t) (i : ℕ) (d : Method) (e : getElem? (t .met
       let g = bodyEnv d (some (ty (u .cls) 2)) in
       let ag = right-agree (u .cls) h in
       ap (λ (o : Typed). holds o (λ c k. resultsFit (layout t) i (u .cls) (u .tag) c k))
-      (types-on t rd (body i (Class (u .cls))) false g ag nestingLimit .types (d .right) (rightOf (layout t) i) (ready .right) (formed .rightKnown) (right-stands t i d row e (ready .short)))
-      ∙ go (typeOf t false g (d .right)) (rightOf (layout t) i + length (codeOf (d .right))) (λ v z. typed-known t rd false g (ag .known) (d .right) v (formed .rightKnown) z)
+      (types-on t wf (body i (Class (u .cls))) false g ag nestingLimit .types (d .right) (rightOf (layout t) i) (formed .rightNested) (formed .rightKnown) (right-stands t i d row e (formed .short)))
+      ∙ go (typeOf t false g (d .right)) (rightOf (layout t) i + length (codeOf (d .right))) (λ v z. typed-known t wf false g (ag .known) (d .right) v (formed .rightKnown) z)
     where
       go : (o : Option Ty) (next : ℕ) → ((v : Ty) → o ≡ some v → v .cls ≤ n)
           → holds (typedAt o next) (λ c k. resultsFit (layout t) i (u .cls) (u .tag) c k) ≡ there (o >>= λ v. guard (conditions u v))
@@ -156,8 +153,8 @@ module _ (t : Table) (rd : Ready t) (i : ℕ) (d : Method) (e : getElem? (t .met
   method-on =
       let g = bodyEnv d none in
       ap (λ (o : Typed). holds o (λ c k. rightTyped (layout t) i c k))
-      (types-on t rd (body i Absent) false g left-agree nestingLimit .types (d .left) (leftOf (layout t) i) (ready .left) (formed .leftKnown) (left-stands t i d row e (ready .short)))
-      ∙ go (typeOf t false g (d .left)) (leftOf (layout t) i + length (codeOf (d .left))) (λ u z. typed-known t rd false g (left-agree .known) (d .left) u (formed .leftKnown) z)
+      (types-on t wf (body i Absent) false g left-agree nestingLimit .types (d .left) (leftOf (layout t) i) (formed .leftNested) (formed .leftKnown) (left-stands t i d row e (formed .short)))
+      ∙ go (typeOf t false g (d .left)) (leftOf (layout t) i + length (codeOf (d .left))) (λ u z. typed-known t wf false g (left-agree .known) (d .left) u (formed .leftKnown) z)
     where
       go : (o : Option Ty) (next : ℕ) → ((u : Ty) → o ≡ some u → u .cls ≤ n)
           → holds (typedAt o next) (λ c k. rightTyped (layout t) i c k)
@@ -166,15 +163,15 @@ module _ (t : Table) (rd : Ready t) (i : ℕ) (d : Method) (e : getElem? (t .met
       go (some u) next kn = right-on u (kn u refl)
 
 -- ---- the methods from number k on
-methods-on : (t : Table) → Ready t → (ds : List Method) (k : ℕ) → ((j : ℕ) → getElem? (t .methods) (k + j) ≡ getElem? ds j)
+methods-on : (t : Table) → WellFormed t → (ds : List Method) (k : ℕ) → ((j : ℕ) → getElem? (t .methods) (k + j) ≡ getElem? ds j)
     → methodsFrom (layout t) (length ds) k ≡ there (methodsTyped t ds)
 unfolding methodsFrom
-methods-on t rd [] k h = refl
-methods-on t rd (d ∷ ds) k h =
+methods-on t wf [] k h = refl
+methods-on t wf (d ∷ ds) k h =
     ap (λ (b : Bool). pick b (methodsFrom (layout t) (length ds) (suc k)) false)
-    (method-on t rd k d (ap (λ (x : ℕ). getElem? (t .methods) x) (let z : k ≡ k + 0 = omega arith in z) ∙ h 0))
+    (method-on t wf k d (ap (λ (x : ℕ). getElem? (t .methods) x) (let z : k ≡ k + 0 = omega arith in z) ∙ h 0))
     ∙ go (methodTyped t d)
-    (methods-on t rd ds (suc k) (λ j. ap (λ (x : ℕ). getElem? (t .methods) x) (let z : suc k + j ≡ k + suc j = omega arith in z) ∙ h (suc j)))
+    (methods-on t wf ds (suc k) (λ j. ap (λ (x : ℕ). getElem? (t .methods) x) (let z : suc k + j ≡ k + suc j = omega arith in z) ∙ h (suc j)))
   where
     go : (o : Option (Unit {0})) → methodsFrom (layout t) (length ds) (suc k) ≡ there (methodsTyped t ds)
         → pick (there o) (methodsFrom (layout t) (length ds) (suc k)) false ≡ there (o >>= λ _. methodsTyped t ds)
@@ -182,18 +179,18 @@ methods-on t rd (d ∷ ds) k h =
     go (some u) ih = ih
 
 -- ---- the program
-pub ready-check : (t : Table) → Ready t → checkOf (layout t) ≡ answerOf (check t)
+pub formed-check : (t : Table) → WellFormed t → checkOf (layout t) ≡ answerOf (check t)
 unfolding checkOf check
-ready-check t rd =
+formed-check t wf =
     (λ i. pick (methods i) (mainOf (main i)) (Refused 6)) ∙ go (methodsTyped t (t .methods)) (mainType t) (mainAt + 1 + length (codeOf (t .main)))
   where
     methods : methodsIn (layout t) ≡ there (methodsTyped t (t .methods))
     methods =
         ap (λ (n : ℕ). methodsFrom (layout t) n 0) (method-count-at t)
-        ∙ methods-on t rd (t .methods) 0 (λ j. ap (λ (x : ℕ). getElem? (t .methods) x) (let z : 0 + j ≡ j = omega arith in z))
+        ∙ methods-on t wf (t .methods) 0 (λ j. ap (λ (x : ℕ). getElem? (t .methods) x) (let z : 0 + j ≡ j = omega arith in z))
 
     main : typeIn (layout t) nestingLimit inMain (mainAt + 1) ≡ typedAt (mainType t) (mainAt + 1 + length (codeOf (t .main)))
-    main = types-on t rd inMain true mainEnv (main-agree t) nestingLimit .types (t .main) (mainAt + 1) (rd .main) (rd .formed .mainKnown) (main-stands t (rd .short))
+    main = types-on t wf inMain true mainEnv (main-agree t) nestingLimit .types (t .main) (mainAt + 1) (wf .mainNested) (wf .mainKnown) (main-stands t (wf .mainShort))
 
     go : (o : Option (Unit {0})) (m : Option Ty) (next : ℕ)
         → pick (there o) (mainOf (typedAt m next)) (Refused 6) ≡ answerOf (elim o [ none ↦ refused 6 | some u ↦ mainOr7 m ])

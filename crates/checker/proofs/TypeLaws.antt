@@ -12,7 +12,7 @@ use Rattle.classes.specs.declared.chain.FieldFound.{FieldFound}
 use Rattle.classes.specs.declared.chain.FieldFound.the-variants as field
 use Rattle.classes.specs.declared.methods.Found.{Found}
 use Rattle.classes.specs.declared.methods.Found.the-variants as method
-use Rattle.classes.specs.Machine.{pick, fitsOf, typeAt, fieldOf, paramOf, lookupOf, rowOf}
+use Rattle.classes.specs.Machine.{pick, fitsOf, typeAt, fieldOf, paramOf, methodWith, rowOf}
 use Rattle.checker.specs.Items.{Fields}
 use Rattle.checker.specs.declared.scope.Typed.{Typed}
 use Rattle.checker.specs.declared.scope.Typed.the-variants.{Has}
@@ -83,19 +83,9 @@ module _ (B : List ℕ) (c g m n : ℕ) where
   unfolding receiverOf
   receiver-open h = rw (ne-eqb g 0 h)
 
-  module _ (h : g ≡ 0) (f : Found) (ef : f ≡ lookupOf B c m) where
-    pub receiver-none : f ≡ method.Nothing → method.Nothing ≡ receiverOf B c g m n
-    unfolding receiverOf
-    receiver-none e = rw (h, ← ef, e)
-
-    module _ (i x : ℕ) (e : f ≡ method.At i) (ex : x ≡ getD B (rowOf i + 7) 0) where
-      pub receiver-other : (x ≡ n → ⊥) → method.Nothing ≡ receiverOf B c g m n
-      unfolding receiverOf
-      receiver-other q = rw (h, ← ef, e, ← ex, ne-eqb x n q)
-
-      pub receiver-is : x ≡ n → method.At i ≡ receiverOf B c g m n
-      unfolding receiverOf
-      receiver-is q = rw (h, ← ef, e, ← ex, eq-eqb x n q)
+  pub receiver-is : (f : Found) → g ≡ 0 → f ≡ methodWith B c m n → f ≡ receiverOf B c g m n
+  unfolding receiverOf
+  receiver-is f h e = rw h e
 
 module _ (B : List ℕ) (top : Bool) (i : ℕ) (r : FieldType) where
   pub result-first : top ≡ true → r ≡ typeAt B (rowOf i + 3) → r ≡ resultOf B top i

@@ -22,8 +22,8 @@ use Rattle.checker.specs.declared.scope.Typed.the-variants.{Has, No}
 use Rattle.checker.specs.declared.scope.Scope.{Scope}
 use Rattle.checker.specs.Listed.{Listed}
 use Rattle.checker.specs.Listed as list
-use Rattle.checker.specs.declared.shape.Shape.the-variants as shape
-use Rattle.checker.specs.Shapes.{byteOf, shapeOf, shapeAt}
+use Rattle.classes.specs.declared.shape.Shape.the-variants as shape
+use Rattle.classes.specs.Shapes.{byteIn, shapeOf, shapeAt}
 use Rattle.checker.specs.Types.{itemFits, argFits, receiverOf, resultOf, foundAt, thisOf, resOf, paramVar}
 use Rattle.checker.specs.Machine.{Walk, listed, listBy, fieldBy, argsThen, argsBy, callBy, newThen, newBy, stepBy, varBy, partsBy, typeIn}
 
@@ -35,34 +35,34 @@ step B (suc left) s at nz = rw sub-one
 
 -- in the table
 step-in : (B : List ℕ) (left : ℕ) (s : Scope) (at : ℕ) → (left ≡ 0 → ⊥) → at < tableSize
-    → typeIn B left s at ≡ stepBy B (typeIn B (left - 1) s) s (shapeOf (getD B at 0) (byteOf B (at + 1)) (byteOf B (at + 2)) at)
+    → typeIn B left s at ≡ stepBy B (typeIn B (left - 1) s) s (shapeOf (getD B at 0) (byteIn B (at + 1)) (byteIn B (at + 2)) at)
 unfolding shapeAt
 step-in B left s at nz h = step B left s at nz ∙ rw (lt-ltb at tableSize h)
 
-var-is : (B : List ℕ) (one : Walk) (s : Scope) (b at : ℕ) → b < 0x43 → stepBy B one s (shapeOf b (byteOf B (at + 1)) (byteOf B (at + 2)) at) ≡ varBy B s b at
+var-is : (B : List ℕ) (one : Walk) (s : Scope) (b at : ℕ) → b < 0x43 → stepBy B one s (shapeOf b (byteIn B (at + 1)) (byteIn B (at + 2)) at) ≡ varBy B s b at
 unfolding varBy
 var-is B one s b at h =
     rw (ne-eqb b 0x43 (λ z. omega arith), ne-eqb b 0x44 (λ z. omega arith), ne-eqb b 0x45 (λ z. omega arith)) (go (eqb b 0x40) (eqb b 0x41) (eqb b 0x42))
   where
     go : (x y z : Bool)
-        → stepBy B one s (pick x (shape.This (at + 1)) (pick y (shape.Result (at + 1)) (pick z (shape.Parameter (byteOf B (at + 1)) (at + 2)) shape.Nothing)))
-        ≡ pick x (thisOf B s (at + 1)) (pick y (resOf s (at + 1)) (pick z (paramVar B s (byteOf B (at + 1)) (at + 2)) No))
+        → stepBy B one s (pick x (shape.This (at + 1)) (pick y (shape.Result (at + 1)) (pick z (shape.Parameter (byteIn B (at + 1)) (at + 2)) shape.Nothing)))
+        ≡ pick x (thisOf B s (at + 1)) (pick y (resOf s (at + 1)) (pick z (paramVar B s (byteIn B (at + 1)) (at + 2)) No))
     go true y z = refl
     go false true z = refl
     go false false true = refl
     go false false false = refl
 
 parts-are : (B : List ℕ) (one : Walk) (s : Scope) (b at : ℕ) → 0x43 ≤ b
-    → stepBy B one s (shapeOf b (byteOf B (at + 1)) (byteOf B (at + 2)) at) ≡ partsBy B one (s .main) b at
+    → stepBy B one s (shapeOf b (byteIn B (at + 1)) (byteIn B (at + 2)) at) ≡ partsBy B one (s .main) b at
 unfolding partsBy
 parts-are B one s b at h =
     rw (ne-eqb b 0x40 (λ z. omega arith), ne-eqb b 0x41 (λ z. omega arith), ne-eqb b 0x42 (λ z. omega arith)) (go (eqb b 0x43) (eqb b 0x44) (eqb b 0x45))
   where
     k : ℕ
-    k = byteOf B (at + 1)
+    k = byteIn B (at + 1)
 
     n : ℕ
-    n = byteOf B (at + 2)
+    n = byteIn B (at + 2)
 
     go : (x y z : Bool)
         → stepBy B one s (pick x (shape.Field k (at + 2)) (pick y (shape.Call k n (at + 3)) (pick z (shape.New k n (at + 3)) shape.Nothing)))
@@ -103,7 +103,7 @@ module _ (B : List ℕ) (s : Scope) (b at : ℕ) (r : Typed) where
   unfolding varBy
   var-res e p = rw e p
 
-  pub var-param : (k : ℕ) → b ≡ 0x42 → k ≡ byteOf B (at + 1) → r ≡ paramVar B s k (at + 2) → r ≡ varBy B s b at
+  pub var-param : (k : ℕ) → b ≡ 0x42 → k ≡ byteIn B (at + 1) → r ≡ paramVar B s k (at + 2) → r ≡ varBy B s b at
   unfolding varBy
   var-param k e q p = rw (e, ← q) p
 
@@ -112,12 +112,12 @@ unfolding varBy
 var-none B s b at x y z = rw (ne-eqb b 0x40 x, ne-eqb b 0x41 y, ne-eqb b 0x42 z)
 
 -- an expression with parts
-module _ (B : List ℕ) (one : Walk) (top : Bool) (b at k : ℕ) (ek : k ≡ byteOf B (at + 1)) (r : Typed) where
+module _ (B : List ℕ) (one : Walk) (top : Bool) (b at k : ℕ) (ek : k ≡ byteIn B (at + 1)) (r : Typed) where
   pub parts-field : b ≡ 0x43 → r ≡ fieldBy B one k (at + 2) → r ≡ partsBy B one top b at
   unfolding partsBy
   parts-field e p = rw (e, ← ek) p
 
-  module _ (n : ℕ) (en : n ≡ byteOf B (at + 2)) where
+  module _ (n : ℕ) (en : n ≡ byteIn B (at + 2)) where
     pub parts-call : b ≡ 0x44 → r ≡ callBy B one top k n (at + 3) → r ≡ partsBy B one top b at
     unfolding partsBy
     parts-call e p = rw (e, ← ek, ← en) p

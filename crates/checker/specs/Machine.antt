@@ -17,9 +17,9 @@ use Rattle.checker.specs.declared.scope.Typed.the-variants.{Has, No}
 use Rattle.checker.specs.declared.scope.Scope.{Scope}
 use Rattle.checker.specs.Listed.{Listed}
 use Rattle.checker.specs.Listed as list
-use Rattle.checker.specs.declared.shape.Shape.{Shape}
-use Rattle.checker.specs.declared.shape.Shape.the-variants as shape
-use Rattle.checker.specs.Shapes.{byteOf, shapeAt}
+use Rattle.classes.specs.declared.shape.Shape.{Shape}
+use Rattle.classes.specs.declared.shape.Shape.the-variants as shape
+use Rattle.classes.specs.Shapes.{byteIn, shapeAt}
 use Rattle.checker.specs.Types.{itemFits, receiverOf, resultOf, foundAt, thisOf, resOf, paramVar}
 
 -- what types the expression at a place
@@ -85,13 +85,13 @@ unfoldable pub varBy : List ℕ → Scope → ℕ → ℕ → Typed
 varBy B s b at =
     pick (eqb b 0x40) (thisOf B s (at + 1))
     (pick (eqb b 0x41) (resOf s (at + 1))
-    (pick (eqb b 0x42) (paramVar B s (byteOf B (at + 1)) (at + 2)) No))
+    (pick (eqb b 0x42) (paramVar B s (byteIn B (at + 1)) (at + 2)) No))
 
 unfoldable pub partsBy : List ℕ → Walk → Bool → ℕ → ℕ → Typed
 partsBy B one top b at =
-    pick (eqb b 0x43) (fieldBy B one (byteOf B (at + 1)) (at + 2))
-    (pick (eqb b 0x44) (callBy B one top (byteOf B (at + 1)) (byteOf B (at + 2)) (at + 3))
-    (pick (eqb b 0x45) (newBy B one (byteOf B (at + 1)) (byteOf B (at + 2)) (at + 3)) No))
+    pick (eqb b 0x43) (fieldBy B one (byteIn B (at + 1)) (at + 2))
+    (pick (eqb b 0x44) (callBy B one top (byteIn B (at + 1)) (byteIn B (at + 2)) (at + 3))
+    (pick (eqb b 0x45) (newBy B one (byteIn B (at + 1)) (byteIn B (at + 2)) (at + 3)) No))
 
 -- an expression nested at most `left` deep
 unfoldable pub typeIn : List ℕ → ℕ → Scope → Walk

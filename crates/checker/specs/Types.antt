@@ -11,7 +11,7 @@ use Rattle.classes.specs.declared.chain.FieldFound.{FieldFound}
 use Rattle.classes.specs.declared.chain.FieldFound.the-variants as field
 use Rattle.classes.specs.declared.methods.Found.{Found}
 use Rattle.classes.specs.declared.methods.Found.the-variants as method
-use Rattle.classes.specs.Machine.{pick, fitsOf, typeAt, fieldOf, paramOf, lookupOf, rowOf}
+use Rattle.classes.specs.Machine.{pick, fitsOf, typeAt, fieldOf, paramOf, methodWith, rowOf}
 use Rattle.checker.specs.Items.{Items}
 use Rattle.checker.specs.Items.{Parameters, Fields}
 use Rattle.checker.specs.declared.scope.Typed.{Typed}
@@ -45,13 +45,9 @@ unfoldable pub argFits : List ℕ → ℕ → ℕ → ℕ → ℕ → Bool
 argFits B i k c g = pick (closedTag g) (itemFits B (Parameters i) k c g) false
 
 -- ---- calls
-abbrev pub counted : List ℕ → ℕ → Found → Found
-counted B n (method.At i) = pick (eqb (getD B (rowOf i + 7) 0) n) (method.At i) method.Nothing
-counted B n method.Nothing = method.Nothing
-
 -- the method m with n parameters of a receiver of class c and tag g
 unfoldable pub receiverOf : List ℕ → ℕ → ℕ → ℕ → ℕ → Found
-receiverOf B c g m n = pick (eqb g 0) (counted B n (lookupOf B c m)) method.Nothing
+receiverOf B c g m n = pick (eqb g 0) (methodWith B c m n) method.Nothing
 
 abbrev pub resultOf : List ℕ → Bool → ℕ → FieldType
 resultOf B top i = pick top (typeAt B (rowOf i + 3)) (typeAt B (rowOf i + 5))

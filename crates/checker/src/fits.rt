@@ -5,8 +5,7 @@ use classes::chain::field_type;
 use classes::chain::fit;
 use classes::methods::Found;
 use classes::methods::first;
-use classes::methods::lookup;
-use classes::methods::param_count;
+use classes::methods::method_with;
 use classes::methods::param_type;
 use classes::methods::second;
 use classes::places::SIZE;
@@ -104,14 +103,7 @@ pub fn receiver(t: &[u8; SIZE], class: u8, tag: u8, m: u8, n: u8) -> Found
     if tag != 0 {
         return Found::Nothing;
     }
-    let f = lookup(t, class, m);
-    let Found::At(i) = f else {
-        return Found::Nothing;
-    };
-    if param_count(t, i) != n {
-        return Found::Nothing;
-    }
-    Found::At(i)
+    method_with(t, class, m, n)
 }
 
 // The type of a call of method i: the first result type in main, the second in a body.

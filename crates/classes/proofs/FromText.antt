@@ -19,10 +19,9 @@ use Rattle.cofj.specs.Tables.{Raw, raw, inFront, ordered, few, numbered, bodies
 use Rattle.cofj.specs.Writing.{codeOf, typesBytes, methodLine, methodLines}
 use Rattle.cofj.specs.WellFormed.{AllMethods}
 use Rattle.cofj.proofs.Readable.{parents-in}
-use Rattle.cofj.proofs.Partial.{and-true}
+use Rattle.cofj.proofs.Passed.{methods-ruled, tableOf, table-ruled, few-inv}
 use Rattle.cofj.proofs.Chain.{ParentsSmaller}
-use Rattle.cofj.proofs.Partial.{opt-bind, guard-bind}
-use Rattle.cofj.proofs.Partial.{taken}
+use Rattle.cofj.proofs.Partial.{guard-bind, taken}
 use Rattle.cofj.proofs.FrameRound.{pair, taken-as, given, same, type-forth, types-forth, expr-forth, lineOf, frame-back}
 use Rattle.lineform.specs.Packed.{packed, unpack, Sized, none as no-lines, also as and-line, Packed}
 use Rattle.lineform.proofs.PackedLaws.{unpack-packed}
@@ -32,7 +31,7 @@ use Rattle.classes.specs.Overriding.{overridesOf}
 use Rattle.classes.specs.Placing.{Placed}
 use Rattle.classes.specs.Made.{Lined, Zeros, Makes, Built, Overrides}
 use Rattle.classes.proofs.ClassLines.{classLinesOf}
-use Rattle.classes.proofs.MethodLines.{Framed, owner-in}
+use Rattle.classes.proofs.MethodLines.{Framed}
 use Rattle.classes.proofs.TableLines.{rawLines, Short, length-bodies, table-lines}
 use Rattle.classes.proofs.OnOverrides.{Shaped, overrides-on}
 
@@ -143,21 +142,18 @@ behind S r h =
     let fs = h .found in
     let u : unpack S ≡ p .lines = ap unpack (p .is) ∙ unpack-packed (p .lines) in
     let a = frames-read (p .lines) fs (sym (ap frames u) ∙ h .read) (p .sized) (subst (λ (x : List ℕ). (i : ℕ) → getD x i 0 < 256) (p .is) (h .bytes)) in
-    let x = opt-bind (ordered fs) few r (h .order) in
-    let y = guard-bind (leb (length (x .0 .classes)) classCount && leb (length (x .0 .methods)) methodCount) (λ _. some (x .0)) r (x .2) in
-    let q : x .0 ≡ r = cc (y .1) in
-    let l = and-true (leb (length (x .0 .classes)) classCount) (leb (length (x .0 .methods)) methodCount) (y .0) in
-    let i = in-order fs (x .0) (x .1) (a .1) in
-    subst (Behind S) q (record {
+    let x = few-inv (ordered fs) r (h .order) in
+    let i = in-order fs r (x .0) (a .1) in
+    record {
       lines = p .is ∙ ap packed (sym (i .lines ∙ a .0));
       short = record {
-        classes = leb-true (length (x .0 .classes)) classCount (l .0);
-        methods = leb-true (length (x .0 .methods)) methodCount (l .1);
-        framed = framed (x .0 .methods) (i .methods);
+        classes = x .1;
+        methods = x .2;
+        framed = framed (r .methods) (i .methods);
         main = i .main .short;
       };
       methods = i .methods;
-    })
+    }
 
 -- ---- the table of such lines: its bytes, and overriding
 pub built : (S : List ℕ) (n m : ℕ) (B : List ℕ) (p : Placed) → p ≡ tablePlaced S n m B → Built S n m B p
@@ -167,36 +163,29 @@ built S n m B p e = record {
 }
 
 shaped : (n : ℕ) → n ≤ classCount → (ds : List Method) → methodsGood n ds ≡ true → AllMethods ReadMethod ds → AllMethods Shaped ds
-unfolding methodsGood methodLine
+unfolding methodLine
 shaped n h [] e a = tt
 shaped n h (m ∷ ms) e a =
-    let a9 = and-true _ (methodsGood n ms) e in
-    let a8 = and-true _ (not (hasName m ms)) (a9 .0) in
-    let o = owner-in n m (a8 .0) in (
+    let r = methods-ruled n m ms e in (
       record {
-        owned = o .0;
-        owner = let l = o .1 in omega arith;
+        owned = r .0 .owned;
+        owner = let l = r .0 .owner in omega arith;
         name = a .0 .small 2;
         params = few-params m (methodFrame m) (a .0 .back);
         short = a .0 .short;
       },
-      shaped n h ms (a9 .1) (a .1),
+      shaped n h ms (r .1) (a .1),
     )
 
 overrides-read : (S : List ℕ) (r : Raw) (t : Table) → Behind S r → table r ≡ some t → overridesOf (layout t) ≡ overridesGood t (t .methods)
-unfolding table
 overrides-read S r t h e =
     let n = length (bodies (r .classes)) in
-    let a = guard-bind _ (λ _. some (record { classes = bodies (r .classes); methods = r .methods; main = r .main })) t e in
-    let a2 = and-true _ (exprKnown n (r .main)) (a .0) in
-    let a1 = and-true _ (methodsGood n (r .methods)) (a2 .0) in
-    let a0 = and-true (numbered 1 (r .classes)) (classesGood n (bodies (r .classes)) (bodies (r .classes)) 1) (a1 .0) in
-    let w : record { classes = bodies (r .classes); methods = r .methods; main = r .main } ≡ t = cc (a .1) in
+    let a = table-ruled r t e in
     let z = length-bodies (r .classes) in
     let c = h .short .classes in
-    subst (λ (x : Table). overridesOf (layout x) ≡ overridesGood x (x .methods)) w
-    (overrides-on (record { classes = bodies (r .classes); methods = r .methods; main = r .main }) (λ k. let l = parents-in 0 (r .classes) (a0 .0) k in omega arith)
-    (shaped n (omega arith) (r .methods) (a1 .1) (h .methods)) (h .short .methods))
+    subst (λ (x : Table). overridesOf (layout x) ≡ overridesGood x (x .methods)) (a .1)
+    (overrides-on (tableOf r) (λ k. let l = parents-in 0 (r .classes) (a .0 .numbers) k in omega arith)
+    (shaped n (omega arith) (r .methods) (a .0 .methods) (h .methods)) (h .short .methods))
 
 pub overrides-tested : (B : List ℕ) (b : Bool) → b ≡ overridesOf B → Overrides B b
 overrides-tested B b e = record {

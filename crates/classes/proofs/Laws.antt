@@ -11,7 +11,7 @@ use Rattle.classes.specs.declared.chain.FieldFound.{FieldFound}
 use Rattle.classes.specs.declared.chain.FieldFound.the-variants as field
 use Rattle.classes.specs.declared.methods.Found.{Found}
 use Rattle.classes.specs.declared.methods.Found.the-variants as found
-use Rattle.classes.specs.Machine.{Stored, pick, up, fitsIn, fitsOf, typeAt, ownField, fieldIn, fieldOf, numbered, ownOf, orElse, lookupIn, lookupOf, rowOf, paramOf}
+use Rattle.classes.specs.Machine.{Stored, pick, up, fitsIn, fitsOf, typeAt, ownField, fieldIn, fieldOf, numbered, ownOf, orElse, lookupIn, lookupOf, methodWith, rowOf, paramOf}
 
 -- ---- class fit
 pub fits-zero : (B : List ℕ) (n d : ℕ) → fitsIn B n 0 d ≡ eqb 0 d
@@ -187,3 +187,18 @@ module _ (B : List ℕ) (i k : ℕ) where
 
   pub param-at : k ≤ 2 → k < getD B (rowOf i + 7) 0 → field.Type (typeAt B (rowOf i + 8 + 2 * k)) ≡ paramOf B i k
   param-at h l = rw (le-ltb 2 k h, lt-leb (getD B (rowOf i + 7) 0) k l)
+
+-- ---- a method with a number of parameters
+module _ (B : List ℕ) (c m n : ℕ) (f : Found) (ef : f ≡ lookupOf B c m) where
+  pub with-none : f ≡ found.Nothing → found.Nothing ≡ methodWith B c m n
+  unfolding methodWith
+  with-none e = rw (← ef, e)
+
+  module _ (i x : ℕ) (e : f ≡ found.At i) (ex : x ≡ getD B (rowOf i + 7) 0) where
+    pub with-other : (x ≡ n → ⊥) → found.Nothing ≡ methodWith B c m n
+    unfolding methodWith
+    with-other q = rw (← ef, e, ← ex, ne-eqb x n q)
+
+    pub with-is : x ≡ n → found.At i ≡ methodWith B c m n
+    unfolding methodWith
+    with-is q = rw (← ef, e, ← ex, eq-eqb x n q)

@@ -1,9 +1,11 @@
 pub mod Lists
 pub mod Laws
+pub mod ShapeLaws
 pub mod LineLaws
 pub mod PlaceLaws
 pub mod Zones
 pub mod OnTables
+pub mod ShapesOn
 pub mod OnOverrides
 pub mod Filling
 pub mod FillingMethods

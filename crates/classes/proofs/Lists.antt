@@ -2,11 +2,13 @@
 use Prim.Native.Nat.{ℕ, zero, suc, _+_, _-_, _<_, _≤_}
 use native.Mathlib.Nat.{not-suc-le-zero}
 use native.Mathlib.Omega.{arith}
-use mathlib.Core.Path.{_≡_, refl, sym, ap, _∙_}
+use mathlib.Core.Path.{_≡_, refl, sym, ap, _∙_, subst}
 use mathlib.Core.List.{List, [], _∷_, _++_}
-use mathlib.Core.Option.{Option, none, some}
+use mathlib.Core.Option.{Option, none, some, Option·none-ne-some}
 use lib.ListN.{length, getD, getElem?, set, length-set}
 use lib.Seq.{sets, getD-set-same, getD-set-other}
+use Rattle.cofj.specs.Syntax.{Method}
+use Rattle.cofj.specs.WellFormed.{AllMethods}
 
 -- ---- what stands at a place
 module _ {A : Type 0} where
@@ -34,6 +36,16 @@ module _ {A : Type 0} where
   within [] f h = absurd (not-suc-le-zero h)
   within (x ∷ xs) zero h = (x, refl)
   within (x ∷ xs) (suc f) h = within xs f (omega arith)
+
+  pub index-below : (xs : List A) (i : ℕ) (x : A) → getElem? xs i ≡ some x → i < length xs
+  index-below [] i x e = absurd (Option·none-ne-some x e)
+  index-below (y ∷ xs) zero x e = omega arith
+  index-below (y ∷ xs) (suc i) x e = let h = index-below xs i x e in omega arith
+
+pub method-at : (P : Method → Type 0) (ds : List Method) (i : ℕ) (d : Method) → AllMethods P ds → getElem? ds i ≡ some d → P d
+method-at P [] i d h e = absurd (Option·none-ne-some d e)
+method-at P (x ∷ ds) zero d h e = let q : x ≡ d = cc in subst P q (h .0)
+method-at P (x ∷ ds) (suc i) d h e = method-at P ds i d (h .1) e
 
 -- ---- a run of stores
 pub sets-before : (xs B : List ℕ) (at i : ℕ) → i < at → getD (sets B at xs) i 0 ≡ getD B i 0

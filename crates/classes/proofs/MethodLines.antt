@@ -9,7 +9,7 @@ use mathlib.Core.Option.{Option, none, some}
 use lib.Dec.{eqb, leb, ltb}
 use lib.ListN.{length, getD, drop, length-append}
 use lib.Seq.{drop-append-seam, getD-append-add}
-use borrow.Author.Tests.{eqb-true, eqb-false, eq-eqb, ne-eqb, leb-true, le-leb, le-ltb}
+use borrow.Author.Tests.{eqb-true, eqb-false, eq-eqb, ne-eqb, le-leb, le-ltb}
 use Rattle.cofj.specs.Limits.{classCount, methodCount, lineSize}
 use Rattle.cofj.specs.Syntax.{Expr, this, res, param, field, call, new, Exprs, done, also, count, Ty, Class, Method}
 use Rattle.cofj.specs.Typing.{closedTag, allClosed}
@@ -17,6 +17,7 @@ use Rattle.cofj.specs.Tables.{known, allKnown, exprKnown, exprsKnown, hasName, 
 use Rattle.cofj.specs.Writing.{codeOf, codesOf, typesBytes, methodLine, methodLines}
 use Rattle.cofj.specs.WellFormed.{AllMethods}
 use Rattle.cofj.proofs.Partial.{and-true}
+use Rattle.cofj.proofs.Passed.{methodRules, method-ruled}
 use Rattle.lineform.specs.Packed.{packed}
 use Rattle.classes.specs.declared.methods.Found.the-variants as found
 use Rattle.classes.specs.declared.place.Place.the-variants as place
@@ -76,12 +77,6 @@ unfolding scan
 scan-whole e n = ap (λ (x : List ℕ). scan n 0 x) (sym (append-nil (codeOf e))) ∙ scan-code e n [] ∙ and-nil (exprKnown n e)
 
 -- ---- one method's line
--- the rules for this method without its name
-abbrev pub methodRules : ℕ → Method → Bool
-methodRules n d =
-    (leb 1 (d .owner) && leb (d .owner) n) && known n (d .first) && known n (d .second) && closedTag (d .first .tag) && allKnown n (d .params) && allClosed (d .params)
-    && exprKnown n (d .left) && exprKnown n (d .right)
-
 module _ (d : Method) where
   abbrev code : List ℕ
   code = codeOf (d .left) ++ codeOf (d .right)
@@ -149,18 +144,6 @@ right-is d f =
     let p : past 1 0 (codeOf (d .left) ++ codeOf (d .right)) ≡ length (codeOf (d .left)) = past-code (d .left) 0 (codeOf (d .right)) ∙ (let z = past-zero (codeOf (d .right)) in let w : length (codeOf (d .left)) + past 0 0 (codeOf (d .right)) ≡ length (codeOf (d .left)) = omega arith in w) in
     rw (drop-types d, p, le-ltb 255 (8 + 2 * length (d .params) + length (codeOf (d .left))) (omega arith))
 
-pub owner-in : (n : ℕ) (d : Method) → methodRules n d ≡ true → (1 ≤ d .owner) × (d .owner ≤ n)
-owner-in n d e =
-    let a7 = and-true _ (exprKnown n (d .right)) e in
-    let a6 = and-true _ (exprKnown n (d .left)) (a7 .0) in
-    let a5 = and-true _ (allClosed (d .params)) (a6 .0) in
-    let a4 = and-true _ (allKnown n (d .params)) (a5 .0) in
-    let a3 = and-true _ (closedTag (d .first .tag)) (a4 .0) in
-    let a2 = and-true _ (known n (d .second)) (a3 .0) in
-    let a1 = and-true _ (known n (d .first)) (a2 .0) in
-    let a0 = and-true (leb 1 (d .owner)) (leb (d .owner) n) (a1 .0) in
-    (leb-true 1 (d .owner) (a0 .0), leb-true (d .owner) n (a0 .1))
-
 -- ---- names that are taken
 eqb-sym : (a b : ℕ) → eqb a b ≡ eqb b a
 eqb-sym a b = go (eqb b a) refl
@@ -212,13 +195,13 @@ module _ (n : ℕ) (bound : n ≤ classCount) (cs : List Class) (ms : List Metho
       go true p false q z = absurd (true≢false z)
       go true p true q z =
           let t = taken-index d 0 ms q in
-          rw (own-is (owner-in n d p .1), t .1, ne-eqb (suc (t .0)) 0 (λ w. omega arith))
+          rw (own-is (method-ruled n d p .owner), t .1, ne-eqb (suc (t .0)) 0 (λ w. omega arith))
 
   pub method-good : methodRules n d && not (hasName d ms) ≡ true → methodPlaced (methodLine d) (length ms) n B ≡ placed true (filled 0 0 cs (ms ++ (d ∷ [])) [])
   unfolding methodPlaced methodLine
   method-good e =
       let a = and-true (methodRules n d) (not (hasName d ms)) e in
-      let h = owner-in n d (a .0) .1 in
+      let h = method-ruled n d (a .0) .owner in
       let z = free-index d 0 ms (not-is (hasName d ms) (a .1)) in
       rw (rules-are d n, a .0, own-is h, z, right-is d f) (ap (λ (x : List ℕ). placed true x) (method-filled cs ms d few (omega arith) (f .name) (f .short) z))
     where

@@ -9,6 +9,7 @@ use lib.ListN.{length, getD, getElem?}
 use Rattle.cofj.specs.Syntax.{Ty, Expr, Class, Method, Table}
 use Rattle.cofj.specs.Classes.{parentOf, classAt, ownOrNone, fieldsOf, fieldsTo}
 use Rattle.cofj.specs.Writing.{codeOf, typesBytes, methodLine}
+use Rattle.cofj.specs.WellFormed.{WellFormed}
 use Rattle.classes.specs.declared.chain.FieldType.{FieldType}
 use Rattle.classes.specs.declared.chain.FieldFound.{FieldFound}
 use Rattle.classes.specs.declared.chain.FieldFound.the-variants as field
@@ -79,6 +80,11 @@ bytesOf u = record { class = u .cls; tag = u .tag }
 -- ---- the bytes `code` stand in B from the place `at` on
 pub record Stands (B : List ℕ) (at : ℕ) (code : List ℕ) : Type 0 where
   pub byte : (k : ℕ) → k < length code → getD B (at + k) 0 ≡ getD code k 0
+
+-- the bytes T are those of a table that was read
+pub record Tabled (T : List ℕ) (t : Table) : Type 0 where
+  pub formed : WellFormed t
+  pub bytes : T ≡ layout t
 
 -- ---- what a lookup finds, in bytes and in the language
 pub data Finds (ds : List Method) : Found → Option Method → Type 0 where

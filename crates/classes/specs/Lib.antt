@@ -1,6 +1,7 @@
 pub mod Figures
 pub mod Machine
 pub mod Layout
+pub mod Shapes
 pub mod Placing
 pub mod Building
 pub mod Overriding

@@ -81,6 +81,15 @@ lookupOf B c m = lookupIn B c c m
 abbrev pub rowOf : ℕ → ℕ
 rowOf i = methodsAt + longSize * (i % methodCount)
 
+-- a method that was found, if it has n parameters
+abbrev pub counted : List ℕ → ℕ → Found → Found
+counted B n (found.At i) = pick (eqb (getD B (rowOf i + 7) 0) n) (found.At i) found.Nothing
+counted B n found.Nothing = found.Nothing
+
+-- the method m with n parameters that class c has, its own or the nearest above
+unfoldable pub methodWith : List ℕ → ℕ → ℕ → ℕ → Found
+methodWith B c m n = counted B n (lookupOf B c m)
+
 abbrev pub paramOf : List ℕ → ℕ → ℕ → FieldFound
 paramOf B i k =
     pick (ltb 2 k) field.Nothing (pick (leb (getD B (rowOf i + 7) 0) k) field.Nothing (field.Type (typeAt B (rowOf i + 8 + 2 * k))))

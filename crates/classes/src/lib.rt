@@ -3,6 +3,7 @@
 pub mod places; // the figures of the layout
 pub mod chain; // class fit and the fields of a class
 pub mod methods; // lookup, and the parts of a method
+pub mod shape; // what stands at a place of an expression
 pub mod known; // tests of a line against the number of classes
 pub mod place; // one line into the table
 pub mod build; // all lines into the table

@@ -12,7 +12,7 @@ use crate::places::wide;
 ghost use mathlib.Core.Path.{_≡_};
 ghost use Prim.Native.Nat.{ℕ, _+_, _*_, _<_};
 ghost use lib.ListN.{getD};
-ghost use Rattle.classes.specs.Machine.{numbered, ownOf, lookupOf, rowOf, typeAt, paramOf, leftOf, rightOf};
+ghost use Rattle.classes.specs.Machine.{numbered, ownOf, lookupOf, methodWith, rowOf, typeAt, paramOf, leftOf, rightOf};
 
 // The number of a method, in file order.
 pub enum Found {
@@ -108,6 +108,20 @@ pub fn param_count(t: &[u8; SIZE], i: u8) -> u8
     ensures { λ r. ⌜ r ≡ getD (now (t .entry)) (rowOf i + 7) 0 ⌝ }
 {
     t[METHODS + LONG * ((i % 64) as usize) + 7]
+}
+
+// The method with the name m and n parameters that class c has, its own or the nearest above.
+pub fn method_with(t: &[u8; SIZE], c: u8, m: u8, n: u8) -> Found
+    ensures { λ r. ⌜ r ≡ methodWith (now (t .entry)) c m n ⌝ }
+{
+    let f = lookup(t, c, m);
+    let Found::At(i) = f else {
+        return Found::Nothing;
+    };
+    if param_count(t, i) != n {
+        return Found::Nothing;
+    }
+    Found::At(i)
 }
 
 // The type of parameter k of method i. There are at most three.

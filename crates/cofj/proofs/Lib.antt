@@ -23,8 +23,10 @@ pub mod Reached
 pub mod TextRound
 pub mod ReportLines
 pub mod Reports
-pub mod Readable
 pub mod FrameRound
+pub mod ReadFrames
+pub mod Passed
+pub mod Readable
 pub mod RoundTrip
 pub mod TypingRules
 pub mod CheckRules

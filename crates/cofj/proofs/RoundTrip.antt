@@ -1,26 +1,27 @@
 -- Reading and writing are inverse: a text that passes 1 to 5 is the text of its table, and a table's text, if it passes, reads into the table.
--- So the writer refuses (8) exactly the tables that no text reads into. Not here: lines (TextRound), frames (FrameRound).
+-- So the writer refuses (8) exactly the tables that no text reads into. Not here: lines (TextRound), frames (FrameRound), what a text that
+-- passes went through (Passed).
 use Prim.Native.Nat.{ℕ, suc, _≤_}
 use native.Mathlib.Omega.{arith}
 use mathlib.Core.Path.{_≡_, refl, sym, ap, ap₂, _∙_, subst}
 use mathlib.Core.Bool.{true, _&&_}
 use mathlib.Core.List.{List, [], _∷_, _++_, map}
 use mathlib.Core.Option.{Option, none, some, Option·none-ne-some}
-use lib.Dec.{eqb, leb, ltb}
+use lib.Dec.{eqb, ltb}
 use lib.ListN.{length}
 use borrow.Author.Tests.{eqb-true}
-use Rattle.cofj.specs.Limits.{textSize, classCount, methodCount}
+use Rattle.cofj.specs.Limits.{textSize}
 use Rattle.cofj.specs.Partial.{_>>=_}
 use Rattle.cofj.specs.Syntax.{Expr, Class, Method, Table}
-use Rattle.cofj.specs.Text.{within, lines, linesFrom, hexText}
+use Rattle.cofj.specs.Text.{hexText}
 use Rattle.cofj.specs.Frames.{ClassFrame, TextFrame, classFrame, methodFrame, mainFrame, frame, frames}
-use Rattle.cofj.specs.Tables.{Raw, raw, inFront, ordered, few, numbered, bodies, table, overridesGood, overridden}
+use Rattle.cofj.specs.Tables.{Raw, raw, inFront, ordered, numbered, bodies, table}
 use Rattle.cofj.specs.Reading.{Answer, refusal, read, readText}
 use Rattle.cofj.specs.Writing.{codeOf, classLine, classLines, methodLines, methodLine, tableLines, textOf, Text, noText, text, writeTable}
-use Rattle.cofj.proofs.Readable.{else-inv}
-use Rattle.cofj.proofs.TextRound.{within-true, hex-lines, lines-hex}
+use Rattle.cofj.proofs.TextRound.{hex-lines, lines-hex}
 use Rattle.cofj.proofs.FrameRound.{given, same, taken-as, lineOf, frame-back, frame-forth}
-use Rattle.cofj.proofs.Partial.{and-true, opt-bind, guard-bind, taken}
+use Rattle.cofj.proofs.Partial.{and-true, taken}
+use Rattle.cofj.proofs.Passed.{table-ruled, passed}
 
 -- ---- lines and frames
 frames-back : (ls : List (List ℕ)) (fs : List TextFrame) → frames ls ≡ some fs → map lineOf fs ≡ ls
@@ -98,22 +99,16 @@ unfolding numberFrom
 bodies-number k [] = refl
 bodies-number k (c ∷ cs) = ap (λ (l : List Class). c ∷ l) (bodies-number (suc k) cs)
 
-table-is : (r : Raw) (t : Table) → table r ≡ some t → (numbered 1 (r .classes) ≡ true) × (t ≡ record { classes = bodies (r .classes); methods = r .methods; main = r .main })
-unfolding table
-table-is r t e =
-    let a = guard-bind _ (λ _. some (record { classes = bodies (r .classes); methods = r .methods; main = r .main })) t e in
-    (and-true (numbered 1 (r .classes)) _ (and-true _ _ (and-true _ _ (a .0) .0) .0) .0, same _ t (a .1))
-
 table-back : (r : Raw) (t : Table) → table r ≡ some t → rawOf t ≡ r
 unfolding rawOf
 table-back r t e =
-    let a = table-is r t e in
-    ap rawOf (a .1) ∙ ap (λ (cs : List ClassFrame). raw cs (r .methods) (r .main)) (numbered-back 1 (r .classes) (a .0))
+    let a = table-ruled r t e in
+    ap rawOf (sym (a .1)) ∙ ap (λ (cs : List ClassFrame). raw cs (r .methods) (r .main)) (numbered-back 1 (r .classes) (a .0 .numbers))
 
 table-forth : (t u : Table) → table (rawOf t) ≡ some u → u ≡ t
 unfolding rawOf
 table-forth t u e =
-    table-is (rawOf t) u e .1 ∙ ap {B = Table} (λ (cs : List Class). record { classes = cs; methods = t .methods; main = t .main }) (bodies-number 1 (t .classes))
+    sym (table-ruled (rawOf t) u e .1) ∙ ap {B = Table} (λ (cs : List Class). record { classes = cs; methods = t .methods; main = t .main }) (bodies-number 1 (t .classes))
 
 -- the lines of a table are the lines of its frames
 method-lines : (ms : List Method) (e : Expr) → methodLines ms ++ ((3 ∷ codeOf e) ∷ []) ≡ map lineOf (map methodFrame ms ++ (mainFrame e ∷ []))
@@ -130,42 +125,7 @@ table-lines : (t : Table) → tableLines t ≡ map lineOf (framesOf (rawOf t))
 unfolding tableLines framesOf rawOf
 table-lines t = class-lines 1 (t .classes) _ _ (method-lines (t .methods) (t .main))
 
--- ---- what a text that passes 1 to 5 went through
-record Passed (s : List ℕ) (t : Table) : Type 0 where
-  ls : List (List ℕ)
-  fs : List TextFrame
-  r : Raw
-  size : length s ≤ textSize
-  toLines : linesFrom s none [] ≡ some ls
-  toFrames : frames ls ≡ some fs
-  toRaw : ordered fs ≡ some r
-  toTable : table r ≡ some t
-
-passed : (s : List ℕ) (t : Table) → readText s ≡ read t → Passed s t
-unfolding readText
-passed s t e =
-    let a = else-inv (lines s) 1 _ t e in
-    let b = else-inv (frames (a .0)) 2 _ t (a .2) in
-    let c = else-inv (ordered (b .0) >>= few) 3 _ t (b .2) in
-    let d = else-inv (table (c .0)) 4 _ t (c .2) in
-    let f = else-inv (overridden (d .0)) 5 _ t (d .2) in
-    let g = guard-bind (overridesGood (d .0) (d .0 .methods)) (λ _. some (d .0)) (f .0) (f .1) in
-    let x = opt-bind (ordered (b .0)) few (c .0) (c .1) in
-    let y = guard-bind (leb (length (x .0 .classes)) classCount && leb (length (x .0 .methods)) methodCount) (λ _. some (x .0)) (c .0) (x .2) in
-    let z = guard-bind (within 1 textSize (length s)) (λ _. linesFrom s none []) (a .0) (a .1) in
-    let p : x .0 ≡ c .0 = cc (y .1) in
-    let q : d .0 ≡ t = cc (g .1, f .2) in
-    record {
-      ls = a .0;
-      fs = b .0;
-      r = c .0;
-      size = within-true 1 textSize (length s) (z .0) .1;
-      toLines = z .1;
-      toFrames = b .1;
-      toRaw = x .1 ∙ ap {B = Option Raw} some p;
-      toTable = d .1 ∙ ap {B = Option Table} some q;
-    }
-
+-- ---- both ways
 -- text, table, text
 pub write-read : (s : List ℕ) (t : Table) → readText s ≡ read t → textOf t ≡ s
 unfolding textOf
@@ -173,14 +133,14 @@ write-read s t e =
     let p = passed s t e in
     let r : framesOf (rawOf t) ≡ p .fs = ap framesOf (table-back (p .r) t (p .toTable)) ∙ ordered-back (p .fs) (p .r) (p .toRaw) in
     ap hexText (table-lines t ∙ ap (map lineOf) r ∙ frames-back (p .ls) (p .fs) (p .toFrames))
-    ∙ hex-lines s (p .ls) (p .toLines)
+    ∙ hex-lines s (p .ls) (p .eachLine)
 
 -- table, text, table
 pub read-write : (t u : Table) → readText (textOf t) ≡ read u → u ≡ t
 unfolding textOf rawOf
 read-write t u e =
     let p = passed (textOf t) u e in
-    let l = lines-hex (tableLines t) (p .ls) (p .toLines) ∙ table-lines t in
+    let l = lines-hex (tableLines t) (p .ls) (p .eachLine) ∙ table-lines t in
     let f = frames-forth (framesOf (rawOf t)) (p .fs) (subst (λ (ls : List (List ℕ)). frames ls ≡ some (p .fs)) l (p .toFrames)) in
     let o : some (rawOf t) ≡ some (p .r) = sym (ordered-forth (rawOf t .classes) (t .methods) (t .main)) ∙ ap ordered (sym f) ∙ p .toRaw in
     table-forth t u (subst (λ (r : Raw). table r ≡ some u) (same (rawOf t) (p .r) o) (p .toTable))

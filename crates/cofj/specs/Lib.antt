@@ -7,6 +7,7 @@ pub mod Frames
 pub mod Tables
 pub mod Reading
 pub mod Writing
+pub mod Nesting
 pub mod WellFormed
 pub mod Typing
 pub mod TypingRules

@@ -15,9 +15,10 @@ use Rattle.cofj.specs.Running.{run, runWithin}
 use Rattle.cofj.specs.Report.{reportOf, fuelOf}
 use Rattle.cofj.specs.Calls as calls
 use Rattle.cofj.specs.Calls.{Mode, checked, trial, over, cleared, Ran, Admitted, declined, admitted, afterCheck, admitTable, admit, ended, runAdmitted, runCall, checkText, checkCall}
+use Rattle.cofj.proofs.Readable.{read-formed}
 use Rattle.cofj.proofs.Promises.{admit-unread, admit-read, run-standard}
 use Rattle.classes.specs.declared.chain.FieldType.{FieldType}
-use Rattle.classes.specs.Layout.{layout}
+use Rattle.classes.specs.Layout.{layout, Tabled}
 use Rattle.tables.specs.Readings.{readingOf, Into}
 use Rattle.tables.proofs.Written.{TableOf, answer-table, answer-refusal}
 use Rattle.checker.specs.declared.program.Checked.{Checked}
@@ -25,11 +26,9 @@ use Rattle.checker.specs.declared.program.Checked.the-variants.{Main, Refused}
 use Rattle.checker.specs.Program.{checkOf}
 use Rattle.checker.specs.Answers.{answerOf, verdictOf}
 use Rattle.checker.proofs.Check.{verdict-on}
-use Rattle.checker.proofs.Programs.{ready-check}
-use Rattle.checker.proofs.ReadTables.{read-ready}
+use Rattle.checker.proofs.Programs.{formed-check}
 use Rattle.evaluator.specs.declared.Out.{Out}
 use Rattle.evaluator.specs.Answers.{outIn}
-use Rattle.evaluator.specs.Evaluation.{Tabled}
 use Rattle.evaluator.specs.Main as main
 use Rattle.engine.specs.declared.run.Mode as code
 use Rattle.engine.specs.declared.run.Mode.the-variants as modes
@@ -81,7 +80,7 @@ table-ran T σ R R′ W X W′ a h x e = record {
 
 -- ---- and its check
 checks-on : (T : List ℕ) (t : Table) (c : Checked) → Tabled T t → c ≡ checkOf T → c ≡ answerOf (language.check t)
-checks-on T t c h e = e ∙ ap checkOf (h .bytes) ∙ ready-check t (h .ready)
+checks-on T t c h e = e ∙ ap checkOf (h .bytes) ∙ formed-check t (h .formed)
 
 main-accepted : (c : language.Checked) (t : Table) (u : FieldType) → Main u ≡ answerOf c → afterCheck t c ≡ admitted t
 main-accepted (language.accepted v) t u e = refl
@@ -113,7 +112,7 @@ module _ (m : Mode) (s : List ℕ) (σ : Session) (R W : List ℕ) (k : ℕ) (g 
   run-read x z h =
       let t = answer-table s j B e z in
       state-admits m s σ R W k g x none
-      (h .is (t .whole) (record { ready = read-ready s (t .whole) (t .reads); bytes = t .bytes })
+      (h .is (t .whole) (record { formed = read-formed s (t .whole) (t .reads); bytes = t .bytes })
       ∙ sym (ap (λ (y : Admitted). runAdmitted y σ R W) (admit-read m s (t .whole) (t .reads))))
 
 -- by the code's mode

@@ -17,7 +17,7 @@ use Rattle.cofj.specs.Calls as calls
 use Rattle.cofj.specs.Calls.{checked, trial, openSession, over, Ran, admitTable, runAdmitted}
 use Rattle.evaluator.specs.declared.Stop.{Stop}
 use Rattle.evaluator.specs.Answers.{stopOf}
-use Rattle.evaluator.specs.Evaluation.{Tabled}
+use Rattle.classes.specs.Layout.{Tabled}
 use Rattle.engine.specs.declared.run.Mode.{Mode}
 use Rattle.engine.specs.declared.run.Mode.the-variants.{Checked, Trial}
 

@@ -16,11 +16,9 @@ use Rattle.cofj.specs.Running as language
 use Rattle.cofj.specs.Running.{value, stopped, evalTo, frameOf, opened}
 use Rattle.cofj.specs.WellFormed.{MethodFormed}
 use Rattle.classes.specs.Machine.{leftOf, rightOf}
-use Rattle.classes.specs.Layout.{layout, Stands}
+use Rattle.classes.specs.Layout.{layout, Stands, Tabled}
 use Rattle.classes.proofs.Zones.{left-stands, right-stands}
-use Rattle.checker.specs.Ready.{MethodReady}
-use Rattle.checker.proofs.Known.{method-at}
-use Rattle.checker.proofs.OnBytes.{index-below}
+use Rattle.classes.proofs.Lists.{index-below, method-at}
 use Rattle.values.specs.declared.ValueRef.{ValueRef}
 use Rattle.values.specs.declared.ValueRef.the-variants.{Mark}
 use Rattle.maker.specs.declared.Slot.{Slot}
@@ -36,7 +34,7 @@ use Rattle.evaluator.specs.declared.trace.OpenCall.{OpenCall}
 use Rattle.evaluator.specs.State.{sideCall, Kept, Older, PartsOlder, slotsAt, callAt, CallPut, CallOlder, TraceHolds, callIn, frameIn, traceIn}
 use Rattle.evaluator.specs.Resting.{bodyFrame}
 use Rattle.evaluator.specs.Answers.{stopOf}
-use Rattle.evaluator.specs.Evaluation.{Tabled, Reads, evalIn, deeper, Evaluates}
+use Rattle.evaluator.specs.Evaluation.{Reads, evalIn, deeper, Evaluates}
 use Rattle.evaluator.specs.Calling.{RunsRight, RunsLeft}
 use Rattle.evaluator.specs.Steps.{Traced}
 use Rattle.evaluator.proofs.TraceLaws.{call-alike, trace-below}
@@ -92,29 +90,26 @@ module _ (S : List ℕ) (k : ℕ) (v : ValueRef) (m : ℕ) (ps : List Slot) (n :
 
 -- ---- where the sides stand
 module _ (T : List ℕ) (t : Table) (tb : Tabled T t) (i : ℕ) (k : Method) (ek : getElem? (t .methods) i ≡ some k) where
-  ready : MethodReady (length (t .classes)) k
-  ready = method-at (MethodReady (length (t .classes))) (t .methods) i k (tb .ready .methods) ek
-
   formed : MethodFormed t k
-  formed = method-at (MethodFormed t) (t .methods) i k (tb .ready .formed .methods) ek
+  formed = method-at (MethodFormed t) (t .methods) i k (tb .formed .methods) ek
 
   row : i < methodCount
-  row = let a = index-below (t .methods) i k ek in let b = tb .ready .count in omega arith
+  row = let a = index-below (t .methods) i k ek in let b = tb .formed .count in omega arith
 
   right-reads : (at : ℕ) → at ≡ rightOf T i → Reads T nestingLimit at t (k .right)
   right-reads at e = record {
     table = tb;
-    nested = ready .right;
+    nested = formed .rightNested;
     known = formed .rightKnown;
-    stands = subst (λ (p : ℕ). Stands (layout t) p (codeOf (k .right))) (sym (e ∙ ap (λ (B : List ℕ). rightOf B i) (tb .bytes))) (right-stands t i k row ek (ready .short));
+    stands = subst (λ (p : ℕ). Stands (layout t) p (codeOf (k .right))) (sym (e ∙ ap (λ (B : List ℕ). rightOf B i) (tb .bytes))) (right-stands t i k row ek (formed .short));
   }
 
   left-reads : (at : ℕ) → at ≡ leftOf T i → Reads T nestingLimit at t (k .left)
   left-reads at e = record {
     table = tb;
-    nested = ready .left;
+    nested = formed .leftNested;
     known = formed .leftKnown;
-    stands = subst (λ (p : ℕ). Stands (layout t) p (codeOf (k .left))) (sym (e ∙ ap (λ (B : List ℕ). leftOf B i) (tb .bytes))) (left-stands t i k row ek (ready .short));
+    stands = subst (λ (p : ℕ). Stands (layout t) p (codeOf (k .left))) (sym (e ∙ ap (λ (B : List ℕ). leftOf B i) (tb .bytes))) (left-stands t i k row ek (formed .short));
   }
 
 -- ---- the sides

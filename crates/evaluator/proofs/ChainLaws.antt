@@ -10,8 +10,8 @@ use lib.Dec.{eqb, ltb}
 use lib.ListN.{getD}
 use borrow.Author.Tests.{lt-ltb, le-ltb, eqb-true, ltb-true, not-false}
 use Rattle.classes.specs.Figures.{tableSize}
-use Rattle.checker.specs.declared.shape.Shape.the-variants as shape
-use Rattle.checker.specs.Shapes.{shapeAt}
+use Rattle.classes.specs.declared.shape.Shape.the-variants as shape
+use Rattle.classes.specs.Shapes.{shapeAt}
 use Rattle.evaluator.specs.Chains.{isField, Chain}
 
 -- ---- whether a field is selected at a place

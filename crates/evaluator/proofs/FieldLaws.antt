@@ -5,7 +5,7 @@ use native.Mathlib.Omega.{arith}
 use mathlib.Core.Path.{_≡_, refl, sym, subst}
 use mathlib.Core.List.{List}
 use lib.ListN.{getD}
-use Rattle.checker.specs.Shapes.{shapeAt}
+use Rattle.classes.specs.Shapes.{shapeAt}
 use Rattle.values.specs.declared.ValueRef.{ValueRef}
 use Rattle.values.specs.declared.refs.Selected.{Selected}
 use Rattle.values.specs.declared.refs.Selected.the-variants as selected

@@ -16,18 +16,15 @@ use Rattle.cofj.specs.Syntax.{Class, Method, Table}
 use Rattle.cofj.specs.Classes.{parentOf, parentOr0, methodOf, lookupTo, lookup}
 use Rattle.cofj.specs.Values.{Node, Ref, canon, mark, nodeAt, obj, refsAt, undet}
 use Rattle.cofj.specs.Running.{classOf, target}
-use Rattle.cofj.specs.WellFormed.{AllMethods, MethodFormed}
+use Rattle.cofj.specs.WellFormed.{AllMethods, MethodFormed, WellFormed}
 use Rattle.cofj.proofs.SideConditions.{target-object, target-lacks, target-count}
 use Rattle.classes.specs.declared.methods.Found.{Found}
 use Rattle.classes.specs.declared.methods.Found.the-variants as found
-use Rattle.classes.specs.Machine.{pick, lookupOf}
-use Rattle.classes.specs.Layout.{layout, Finds}
+use Rattle.classes.specs.Machine.{pick, lookupOf, counted, methodWith}
+use Rattle.classes.specs.Layout.{layout, Tabled, Finds}
+use Rattle.classes.proofs.Lists.{index-below, method-at}
 use Rattle.classes.proofs.Zones.{param-count-at}
 use Rattle.classes.proofs.OnTables.{lookup-on}
-use Rattle.checker.specs.Types.{counted, receiverOf}
-use Rattle.checker.specs.Ready.{Ready, MethodReady}
-use Rattle.checker.proofs.OnBytes.{index-below}
-use Rattle.checker.proofs.Known.{method-at}
 use Rattle.values.specs.declared.ValueRef.{ValueRef}
 use Rattle.values.specs.declared.ValueRef.the-variants.{Object}
 use Rattle.values.proofs.ValueRef as RefT
@@ -37,16 +34,15 @@ use Rattle.values.proofs.Blocks.{whole-at, inside-room, no-object}
 use Rattle.cofj.proofs.Canon.{canon-same}
 use Rattle.cofj.specs.Unfolding.{object, labelAt}
 use Rattle.canon.proofs.Nodes.{at-nodes}
-use Rattle.evaluator.specs.Evaluation.{Tabled}
 use Rattle.evaluator.specs.Calling.{FewIf, FindsTarget}
 use Rattle.evaluator.proofs.StateLaws.{get-past}
 
 -- ---- classes past the table have no methods
-own-past : (n c m : ℕ) (ds : List Method) → AllMethods (MethodReady n) ds → n < c → methodOf ds c m ≡ none
+own-past : (t : Table) (c m : ℕ) (ds : List Method) → AllMethods (MethodFormed t) ds → length (t .classes) < c → methodOf ds c m ≡ none
 unfolding methodOf
-own-past n c m [] h l = refl
-own-past n c m (d ∷ ds) h l =
-    rw (ne-eqb (d .owner) c (λ e. let o = h .0 .owner in omega arith), methodOf) (own-past n c m ds (h .1) l)
+own-past t c m [] h l = refl
+own-past t c m (d ∷ ds) h l =
+    rw (ne-eqb (d .owner) c (λ e. let o = h .0 .ownerKnown in omega arith), methodOf) (own-past t c m ds (h .1) l)
 
 own-object : (t : Table) (m : ℕ) (ds : List Method) → AllMethods (MethodFormed t) ds → methodOf ds 0 m ≡ none
 unfolding methodOf
@@ -57,18 +53,18 @@ parent-past : (cs : List Class) (c : ℕ) → length cs < c → parentOf cs c �
 parent-past cs zero h = absurd (omega arith)
 parent-past cs (suc k) h = ap parentOr0 (get-past cs k (omega arith))
 
-module _ (t : Table) (rd : Ready t) (m : ℕ) where
+module _ (t : Table) (wf : WellFormed t) (m : ℕ) where
   lookup-object : (n : ℕ) → lookupTo n t 0 m ≡ none
   unfolding lookupTo
   lookup-object zero = refl
-  lookup-object (suc n) = rw (own-object t m (t .methods) (rd .formed .methods), lookupTo) (lookup-object n)
+  lookup-object (suc n) = rw (own-object t m (t .methods) (wf .methods), lookupTo) (lookup-object n)
 
   lookup-past : (c : ℕ) → classCount < c → lookup t c m ≡ none
   unfolding lookupTo
   lookup-past zero h = absurd (omega arith)
   lookup-past (suc k) h =
-      let l : length (t .classes) < suc k = (let q = rd .formed .classes in omega arith) in
-      rw (own-past (length (t .classes)) (suc k) m (t .methods) (rd .methods) l, lookupTo, parent-past (t .classes) (suc k) l) (lookup-object k)
+      let l : length (t .classes) < suc k = (let q = wf .classes in omega arith) in
+      rw (own-past t (suc k) m (t .methods) (wf .methods) l, lookupTo, parent-past (t .classes) (suc k) l) (lookup-object k)
 
 -- ---- the class of an object
 object-in : (W : List ℕ) (v : ValueRef) (b i : ℕ) → Holds W v → v ≡ Object i b → Inside W b i
@@ -114,7 +110,7 @@ module _ (T W : List ℕ) (v : ValueRef) (m n : ℕ) where
     pub find-past : 32 < classAt W b j → FindsTarget T W v m n found.Nothing
     find-past h = record {
       few = tt;
-      is = λ t tb s. none-found t (target t (valueOf W v) m n) (target-lacks t (valueOf W v) m n (classAt W b j) class-is (lookup-past t (tb .ready) m (classAt W b j) h));
+      is = λ t tb s. none-found t (target t (valueOf W v) m n) (target-lacks t (valueOf W v) m n (classAt W b j) class-is (lookup-past t (tb .formed) m (classAt W b j) h));
     }
 
     module _ (known : classAt W b j ≤ 32) where
@@ -122,7 +118,7 @@ module _ (T W : List ℕ) (v : ValueRef) (m n : ℕ) where
           → Finds (t .methods) (counted T n f) (target t (valueOf W v) m n)
       unfolding target
       counted-is t tb f x (Finds.at {i} {d} e) q =
-          let l : i < methodCount = (let a = index-below (t .methods) i d e in let c = tb .ready .count in omega arith) in
+          let l : i < methodCount = (let a = index-below (t .methods) i d e in let c = tb .formed .count in omega arith) in
           rw (tb .bytes, param-count-at t i d l e, class-is, target, q) (go (eqb (length (d .params)) n))
         where
           go : (y : Bool) → Finds (t .methods) (pick y (found.At i) found.Nothing) (elim y as (λ _. Option Method) [ true ↦ some d | false ↦ none ])
@@ -130,16 +126,16 @@ module _ (T W : List ℕ) (v : ValueRef) (m n : ℕ) where
           go false = Finds.nothing
       counted-is t tb f x Finds.nothing q = none-found t (target t (valueOf W v) m n) (target-lacks t (valueOf W v) m n (classAt W b j) class-is q)
 
-      found-is : (t : Table) → Tabled T t → m < 256 → Finds (t .methods) (receiverOf T (classAt W b j) 0 m n) (target t (valueOf W v) m n)
-      unfolding receiverOf
+      found-is : (t : Table) → Tabled T t → m < 256 → Finds (t .methods) (methodWith T (classAt W b j) m n) (target t (valueOf W v) m n)
+      unfolding methodWith
       found-is t tb s =
           counted-is t tb (lookupOf T (classAt W b j) m) (lookup t (classAt W b j) m)
           (subst (λ (B : List ℕ). Finds (t .methods) (lookupOf B (classAt W b j) m) (lookup t (classAt W b j) m)) (sym (tb .bytes))
-          (lookup-on t (tb .ready .formed) m s (classAt W b j) known)) refl
+          (lookup-on t (tb .formed) m s (classAt W b j) known)) refl
 
       many-is : (t : Table) → Tabled T t → 3 < n → (f : Found) (x : Option Method) → Finds (t .methods) f x → lookup t (classAt W b j) m ≡ x → target t (valueOf W v) m n ≡ none
       many-is t tb h f x (Finds.at {i} {d} e) q =
-          let few = method-at (MethodReady (length (t .classes))) (t .methods) i d (tb .ready .methods) e .few in
+          let few = method-at (MethodFormed t) (t .methods) i d (tb .formed .methods) e .few in
           target-count t (valueOf W v) m n (classAt W b j) d class-is q (λ z. omega arith)
       many-is t tb h f x Finds.nothing q = target-lacks t (valueOf W v) m n (classAt W b j) class-is q
 
@@ -147,10 +143,10 @@ module _ (T W : List ℕ) (v : ValueRef) (m n : ℕ) where
       find-many h = record {
         few = tt;
         is = λ t tb s. none-found t (target t (valueOf W v) m n)
-            (many-is t tb h (lookupOf (layout t) (classAt W b j) m) (lookup t (classAt W b j) m) (lookup-on t (tb .ready .formed) m s (classAt W b j) known) refl);
+            (many-is t tb h (lookupOf (layout t) (classAt W b j) m) (lookup t (classAt W b j) m) (lookup-on t (tb .formed) m s (classAt W b j) known) refl);
       }
 
-      pub find-is : (f : Found) → n ≤ 3 → f ≡ receiverOf T (classAt W b j) 0 m n → FindsTarget T W v m n f
+      pub find-is : (f : Found) → n ≤ 3 → f ≡ methodWith T (classAt W b j) m n → FindsTarget T W v m n f
       find-is f h e = record {
         few = few-if f;
         is = λ t tb s. subst (λ (x : Found). Finds (t .methods) x (target t (valueOf W v) m n)) (sym e) (found-is t tb s);

@@ -10,6 +10,7 @@ use lib.Dec.{eqb}
 use lib.ListN.{length, getD}
 use borrow.Author.Tests.{eq-eqb, ne-eqb}
 use Rattle.classes.specs.Figures.{rowSize}
+use Rattle.classes.specs.Layout.{Tabled}
 use Rattle.cofj.specs.Syntax.{Expr, field, new, Exprs, done, also, count, Table}
 use Rattle.cofj.specs.Classes.{fieldsOf}
 use Rattle.cofj.specs.Writing.{codesOf}
@@ -30,7 +31,7 @@ use Rattle.evaluator.specs.declared.Out.the-variants.{Value, Halt}
 use Rattle.evaluator.specs.declared.frame.Frame.{Frame}
 use Rattle.evaluator.specs.State.{Older, slotAt, PartsOlder, Kept, frameIn, traceIn}
 use Rattle.evaluator.specs.Answers.{Listed, Values, Stops, stopOf, slotsOf, frontOf, listIn, ListOlder, ListNext, ShowsAll, Finishes}
-use Rattle.evaluator.specs.Evaluation.{Tabled, ReadsAll, Reads, evalIn, evalsIn, ListFits, Evaluates, Fields, Lists, News}
+use Rattle.evaluator.specs.Evaluation.{ReadsAll, Reads, evalIn, evalsIn, ListFits, Evaluates, Fields, Lists, News}
 use Rattle.evaluator.proofs.Keeping.{kept-none, kept-then, value-kept, older-kept, older-up, parts-up, frame-same, trace-same}
 use Rattle.evaluator.proofs.Standing.{first-reads, others-read, also-end}
 use Rattle.evaluator.proofs.Given.{going-on, halted, given, given-next, given-older}
@@ -195,7 +196,7 @@ new-by d t p os c es fuel b q =
 module _ (T W : List ℕ) (f : Frame) (tr : List ℕ) (top at left d sp fuel c n x : ℕ) (ex : x ≡ getD T (rowSize * c + 1) 0) where
   total : (t : Table) → Tabled T t → c ≤ length (t .classes) → x ≡ length (fieldsOf (t .classes) c)
   total t tb h =
-      ex ∙ ap (λ (B : List ℕ). getD B (rowSize * c + 1) 0) (tb .bytes) ∙ total-at t c (let l = tb .ready .formed .classes in omega arith)
+      ex ∙ ap (λ (B : List ℕ). getD B (rowSize * c + 1) 0) (tb .bytes) ∙ total-at t c (let l = tb .formed .classes in omega arith)
 
   pub new-other : (x ≡ n → ⊥) → News T W f tr top at left d sp fuel c n W (Halt Stuck fuel)
   new-other h = record {
@@ -211,7 +212,7 @@ module _ (T W : List ℕ) (f : Frame) (tr : List ℕ) (top at left d sp fuel c n
   new-many h m = record {
     kept = kept-none sp W;
     older = tt;
-    is = λ t es r k l. absurd (let b = r .table .ready .formed .fields c l in let z = total t (r .table) l in omega arith);
+    is = λ t es r k l. absurd (let b = r .table .formed .fields c l in let z = total t (r .table) l in omega arith);
   }
 
   pub new-is : x ≡ n → (W1 : List ℕ) (y : Listed) (W2 : List ℕ) (o : Out) → Lists T W f tr top at left d sp fuel n W1 y → Finishes W1 c y n sp W2 o

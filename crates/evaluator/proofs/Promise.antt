@@ -6,8 +6,8 @@ use mathlib.Core.List.{List}
 use Rattle.cofj.specs.Syntax.{Table}
 use Rattle.cofj.specs.Reading.{read, readText}
 use Rattle.cofj.specs.Running as language
+use Rattle.cofj.proofs.Readable.{read-formed}
 use Rattle.classes.specs.Layout.{layout}
-use Rattle.checker.proofs.ReadTables.{read-ready}
 use Rattle.evaluator.specs.declared.Out.{Out}
 use Rattle.evaluator.specs.Answers.{outIn}
 use Rattle.evaluator.specs.Main.{Runs}
@@ -15,4 +15,4 @@ use Rattle.evaluator.specs.Main.{Runs}
 pub run-on : (s : List ℕ) (t : Table) → readText s ≡ read t → (W : List ℕ) (fuel : ℕ) (W′ : List ℕ) (o : Out) → Runs (layout t) W fuel W′ o
     → outIn W′ o ≡ language.run t fuel
 unfolding language.run
-run-on s t e W fuel W′ o r = r .is t (record { ready = read-ready s t e; bytes = refl })
+run-on s t e W fuel W′ o r = r .is t (record { formed = read-formed s t e; bytes = refl })

@@ -80,9 +80,9 @@ module _ (W0 W : List ℕ) (lb : LaidBares W0 W) (f : Frame) (ef : f ≡ noVaria
           is = λ t tb.
               x .runs .is t (t .main) (record {
                 table = tb;
-                nested = tb .ready .main;
-                known = tb .ready .formed .mainKnown;
-                stands = main-stands t (tb .ready .short);
+                nested = tb .formed .mainNested;
+                known = tb .formed .mainKnown;
+                stands = main-stands t (tb .formed .mainShort);
               }) .is
               ∙ (λ i. evalIn callLimit t (frame-none W i) (trace-none W S i) (t .main) (es i))
               ∙ evalTo-is callLimit t mainFrame [] (t .main) fuel;

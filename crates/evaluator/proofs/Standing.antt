@@ -3,45 +3,27 @@
 use Prim.Native.Nat.{ℕ, zero, suc, _+_, _-_, _≤_, _<_}
 use native.Mathlib.Omega.{arith}
 use native.Mathlib.Numerals.{sub-one}
-use mathlib.Core.Path.{_≡_, refl, ap, _∙_}
+use mathlib.Core.Path.{_≡_, refl, sym, ap, _∙_}
 use mathlib.Core.Bool.{true}
-use mathlib.Core.List.{List, [], _++_}
+use mathlib.Core.List.{List, _++_}
 use lib.Dec.{leb}
 use lib.ListN.{length, length-append}
 use borrow.Author.Tests.{leb-true}
-use Rattle.cofj.specs.Syntax.{Expr, this, res, param, field, call, new, Exprs, also, count, Table}
+use Rattle.cofj.specs.Syntax.{Expr, field, call, new, Exprs, also, Table}
 use Rattle.cofj.specs.Tables.{exprKnown, exprsKnown}
 use Rattle.cofj.specs.Writing.{codeOf, codesOf}
+use Rattle.cofj.specs.Nesting.{Parts, Nested}
 use Rattle.cofj.proofs.Partial.{and-true}
 use Rattle.classes.specs.Layout.{layout, Stands}
 use Rattle.classes.proofs.Zones.{stands-front, stands-after}
-use Rattle.checker.specs.declared.shape.Shape.{Shape}
-use Rattle.checker.specs.declared.shape.Shape.the-variants as shape
-use Rattle.checker.specs.Shapes.{shapeAt}
-use Rattle.checker.specs.Ready.{Parts, Nested}
-use Rattle.checker.proofs.OnBytes.{one-byte, two-bytes, after-two, three-bytes, after-three}
+use Rattle.classes.specs.declared.shape.Shape.{Shape}
+use Rattle.classes.specs.Shapes.{shapeAt}
+use Rattle.classes.proofs.ShapesOn.{shape-on, field-part, call-parts, new-parts, Shaped, shape-back}
 use Rattle.evaluator.specs.Evaluation.{Reads, ReadsAll}
 
--- the first bytes of an expression at a place
-abbrev pub shapeFor : Expr → ℕ → Shape
-shapeFor this at = shape.This (at + 1)
-shapeFor res at = shape.Result (at + 1)
-shapeFor (param k) at = shape.Parameter k (at + 2)
-shapeFor (field f e) at = shape.Field f (at + 2)
-shapeFor (call m e es) at = shape.Call m (count es) (at + 3)
-shapeFor (new c es) at = shape.New c (count es) (at + 3)
-
-shape-on : (t : Table) (e : Expr) (at : ℕ) → Stands (layout t) at (codeOf e) → shapeAt (layout t) at ≡ shapeFor e at
-unfolding codeOf
-shape-on t this at st = one-byte t at 0x40 (λ z. omega arith) [] st
-shape-on t res at st = one-byte t at 0x41 (λ z. omega arith) [] st
-shape-on t (param k) at st = two-bytes t at 0x42 (λ z. omega arith) k [] st
-shape-on t (field f e) at st = two-bytes t at 0x43 (λ z. omega arith) f (codeOf e) st
-shape-on t (call m e es) at st = three-bytes t at 0x44 (λ z. omega arith) m (count es) (codeOf e ++ codesOf es) st
-shape-on t (new c es) at st = three-bytes t at 0x45 (λ z. omega arith) c (count es) (codesOf es) st
-
-pub shape-read : (T : List ℕ) (left at : ℕ) (t : Table) (e : Expr) (s : Shape) → Reads T left at t e → s ≡ shapeAt T at → s ≡ shapeFor e at
-shape-read T left at t e s r q = q ∙ ap (λ (B : List ℕ). shapeAt B at) (r .table .bytes) ∙ shape-on t e at (r .stands)
+-- which expression it is
+pub shape-read : (T : List ℕ) (left at : ℕ) (t : Table) (e : Expr) → Reads T left at t e → (s : Shape) → s ≡ shapeAt T at → Shaped at e s
+shape-read T left at t e r s q = shape-back e at s (sym (q ∙ ap (λ (B : List ℕ). shapeAt B at) (r .table .bytes) ∙ shape-on t e at (r .stands)))
 
 -- ---- nesting
 pub nested-none : (left : ℕ) (e : Expr) → left ≡ 0 → Nested left e → ⊥
@@ -57,18 +39,17 @@ nested-parts (suc l) e nz n = rw sub-one n
 -- ---- the parts of an expression that was read
 module _ (T : List ℕ) (left at : ℕ) (t : Table) (nz : left ≡ 0 → ⊥) where
   pub field-reads : (k : ℕ) (e : Expr) → Reads T left at t (field k e) → Reads T (left - 1) (at + 2) t e
-  unfolding codeOf exprKnown
+  unfolding exprKnown
   field-reads k e r = record {
     table = r .table;
     nested = nested-parts left (field k e) nz (r .nested);
     known = r .known;
-    stands = after-two t at 0x43 (λ z. omega arith) k (codeOf e) (r .stands);
+    stands = field-part t at k e (r .stands);
   }
 
   module _ (m : ℕ) (e : Expr) (es : Exprs) (r : Reads T left at t (call m e es)) where
     call-stands : Stands (layout t) (at + 3) (codeOf e ++ codesOf es)
-    unfolding codeOf
-    call-stands = after-three t at 0x44 (λ z. omega arith) m (count es) (codeOf e ++ codesOf es) (r .stands)
+    call-stands = call-parts t at m e es (r .stands)
 
     call-known : (exprKnown (length (t .classes)) e ≡ true) × (exprsKnown (length (t .classes)) es ≡ true)
     unfolding exprKnown
@@ -106,12 +87,11 @@ module _ (T : List ℕ) (left at : ℕ) (t : Table) (nz : left ≡ 0 → ⊥) wh
     class-known = leb-true c (length (t .classes)) (new-known .0)
 
     pub values-read : ReadsAll T (left - 1) (at + 3) t es
-    unfolding codeOf
     values-read = record {
       table = r .table;
       nested = nested-parts left (new c es) nz (r .nested);
       known = new-known .1;
-      stands = after-three t at 0x45 (λ z. omega arith) c (count es) (codesOf es) (r .stands);
+      stands = new-parts t at c es (r .stands);
     }
 
 -- ---- the first of a list, and the others

@@ -14,9 +14,9 @@ use Rattle.cofj.specs.Running as language
 use Rattle.cofj.specs.Running.{value, stopped, sized}
 use Rattle.classes.specs.Machine.{pick}
 use Rattle.classes.specs.Figures.{tableSize, rowSize}
-use Rattle.checker.specs.declared.shape.Shape.{Shape}
-use Rattle.checker.specs.declared.shape.Shape.the-variants as shape
-use Rattle.checker.specs.Shapes.{byteOf, shapeAt, shapeOf}
+use Rattle.classes.specs.declared.shape.Shape.{Shape}
+use Rattle.classes.specs.declared.shape.Shape.the-variants as shape
+use Rattle.classes.specs.Shapes.{byteIn, shapeAt, shapeOf}
 use Rattle.values.specs.declared.ValueRef.{ValueRef}
 use Rattle.values.specs.declared.ValueRef.the-variants.{Object}
 use Rattle.values.specs.Layout.{valueOf}
@@ -77,8 +77,8 @@ near : (T : List ℕ) (at : ℕ) → Near (shapeAt T at)
 unfolding shapeAt
 near T at = go (ltb at tableSize) refl
   where
-    go : (b : Bool) → ltb at tableSize ≡ b → Near (pick b (shapeOf (getD T at 0) (byteOf T (at + 1)) (byteOf T (at + 2)) at) shape.Nothing)
-    go true q = near-of (getD T at 0) (byteOf T (at + 1)) (byteOf T (at + 2)) at (ltb-true at tableSize q)
+    go : (b : Bool) → ltb at tableSize ≡ b → Near (pick b (shapeOf (getD T at 0) (byteIn T (at + 1)) (byteIn T (at + 2)) at) shape.Nothing)
+    go true q = near-of (getD T at 0) (byteIn T (at + 1)) (byteIn T (at + 2)) at (ltb-true at tableSize q)
     go false q = tt
 
 module _ (T : List ℕ) (at : ℕ) (s : Shape) (es : s ≡ shapeAt T at) where

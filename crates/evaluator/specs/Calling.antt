@@ -12,7 +12,7 @@ use Rattle.cofj.specs.Running as language
 use Rattle.cofj.specs.Running.{value, _then_, target}
 use Rattle.classes.specs.declared.methods.Found.{Found}
 use Rattle.classes.specs.declared.methods.Found.the-variants as found
-use Rattle.classes.specs.Layout.{Finds}
+use Rattle.classes.specs.Layout.{Tabled, Finds}
 use Rattle.values.specs.declared.ValueRef.{ValueRef}
 use Rattle.maker.specs.declared.Slot.{Slot}
 use Rattle.values.specs.Layout.{valueOf}
@@ -22,7 +22,7 @@ use Rattle.evaluator.specs.declared.Out.{Out}
 use Rattle.evaluator.specs.declared.frame.Frame.{Frame}
 use Rattle.evaluator.specs.State.{Kept, Older, PartsOlder, TraceHolds, frameIn, traceIn}
 use Rattle.evaluator.specs.Answers.{OutOlder, Shows}
-use Rattle.evaluator.specs.Evaluation.{Tabled, Reads, ReadsAll, deeper, evalIn, evalsIn, Fits}
+use Rattle.evaluator.specs.Evaluation.{Reads, ReadsAll, deeper, evalIn, evalsIn, Fits}
 
 -- ---- the method
 abbrev pub FewIf : ℕ → Found → Type 0

@@ -8,11 +8,11 @@ use lib.ListN.{length}
 use Rattle.cofj.specs.Syntax.{Expr, field, new, Exprs, count, Table}
 use Rattle.cofj.specs.Tables.{exprKnown, exprsKnown}
 use Rattle.cofj.specs.Writing.{codeOf, codesOf}
+use Rattle.cofj.specs.Nesting.{Each, Nested}
 use Rattle.cofj.specs.Values.{Graph}
 use Rattle.cofj.specs.Running as language
 use Rattle.cofj.specs.Running.{Outcome, stopped, Deeper}
-use Rattle.classes.specs.Layout.{layout, Stands}
-use Rattle.checker.specs.Ready.{Ready, Each, Nested}
+use Rattle.classes.specs.Layout.{layout, Stands, Tabled}
 use Rattle.evaluator.specs.Figures.{callLimit, levelBlocks, openBlocks, blockLimit, workRoom}
 use Rattle.evaluator.specs.declared.Out.{Out}
 use Rattle.evaluator.specs.declared.frame.Frame.{Frame}
@@ -20,10 +20,6 @@ use Rattle.evaluator.specs.State.{Kept, FrameHolds, TraceHolds, frameIn,
 use Rattle.evaluator.specs.Answers.{Listed, OutOlder, ListOlder, Shows, ShowsAll}
 
 -- ---- the table's bytes are T, and an expression nested at most `left` deep stands in them
-pub record Tabled (T : List ℕ) (t : Table) : Type 0 where
-  pub ready : Ready t
-  pub bytes : T ≡ layout t
-
 pub record Reads (T : List ℕ) (left at : ℕ) (t : Table) (e : Expr) : Type 0 where
   pub table : Tabled T t
   pub nested : Nested left e

@@ -9,7 +9,7 @@ use Rattle.cofj.specs.Syntax.{Table}
 use Rattle.cofj.specs.Running as language
 use Rattle.evaluator.specs.declared.Out.{Out}
 use Rattle.evaluator.specs.Answers.{outIn, OutOlder}
-use Rattle.evaluator.specs.Evaluation.{Tabled}
+use Rattle.classes.specs.Layout.{Tabled}
 
 -- the outcome of main, with the work bytes W′ after; its value, if it has one, lies in block 0 or 1
 pub record Runs (T W : List ℕ) (fuel : ℕ) (W′ : List ℕ) (o : Out) : Type 0 where

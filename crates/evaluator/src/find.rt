@@ -1,8 +1,8 @@
 // The method that a call names, or that it is stuck. Not here: lookup along the parents (classes).
 use canon::BLOCK;
 use canon::OBJECT;
-use checker::fits::receiver;
 use classes::methods::Found;
+use classes::methods::method_with;
 use classes::places::CLASSES;
 use classes::places::SIZE;
 use values::ValueRef;
@@ -24,5 +24,5 @@ pub(crate) fn find(t: &[u8; SIZE], work: &[u8], v: ValueRef, m: u8, n: u8) -> Fo
     if 3 < n {
         return Found::Nothing;
     }
-    receiver(t, c, 0, m, n)
+    method_with(t, c, m, n)
 }

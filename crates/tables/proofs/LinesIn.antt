@@ -2,92 +2,32 @@
 use Prim.Native.Nat.{ℕ, zero, suc, _+_, _*_, _-_, _%_, _≤_, _<_}
 use native.Mathlib.Omega.{arith}
 use mathlib.Core.Path.{_≡_, refl, sym, ap, ap₂, _∙_, subst}
-use mathlib.Core.Bool.{_&&_}
 use mathlib.Core.List.{List, [], _∷_, _++_, append-assoc}
-use mathlib.Core.Option.{Option, none, some, Option·none-ne-some}
-use lib.Dec.{leb}
+use mathlib.Core.Option.{Option, some, Option·none-ne-some}
 use lib.ListN.{length, getD, getElem?, take, drop, length-append, length-take, length-drop}
 use lib.Seq.{take-suc, take-length, ext-getD, getD-take, getD-drop}
-use borrow.Author.Tests.{le-ltb, leb-true}
-use Rattle.cofj.specs.Limits.{classCount, methodCount, textSize}
-use Rattle.cofj.specs.Partial.{_>>=_}
+use borrow.Author.Tests.{le-ltb}
 use Rattle.cofj.specs.Syntax.{Class, Method, Table}
 use Rattle.cofj.specs.Classes.{parentOf, ownOrNone, parentOr0, fieldsTo}
-use Rattle.cofj.specs.Text.{within, lines, linesFrom, hexText}
-use Rattle.cofj.specs.Frames.{frames}
-use Rattle.cofj.specs.Tables.{Raw, ordered, few, numbered, classesGood, methodsGood, exprKnown, table, overridden, overridesGood, bodies}
-use Rattle.cofj.specs.Reading.{read, readText}
-use Rattle.cofj.specs.Writing.{codeOf, typesBytes, classLine, classLines, methodLine, methodLines, tableLines, textOf}
-use Rattle.cofj.proofs.Partial.{opt-bind, guard-bind, and-true}
-use Rattle.cofj.proofs.Readable.{else-inv, read-formed}
-use Rattle.cofj.proofs.TextRound.{Lines, lines-bytes, lines-hex}
-use Rattle.cofj.proofs.RoundTrip.{write-read}
+use Rattle.cofj.specs.WellFormed.{MethodFormed, WellFormed}
+use Rattle.cofj.specs.Writing.{codeOf, typesBytes, classLine, classLines, methodLine, methodLines, tableLines}
 use Rattle.classes.specs.Layout.{layout, rest, classRow, methodByte, Stands}
 use Rattle.classes.specs.Machine.{rowOf}
-use Rattle.classes.proofs.Lists.{within as inside}
+use Rattle.classes.proofs.Lists.{within as inside, method-at}
 use Rattle.classes.proofs.Zones.{class-zone, method-zone, main-zone, parent-at, class-count-at, method-count-at, length-layout, length-types, line-stands, main-stands, stands-moved}
 use Rattle.tables.specs.Writings.{cap, classIn, longIn, classesIn, methodsIn, mainIn, linesIn}
 
 cap-within : (x most : ℕ) → x ≤ most → cap x most ≡ x
 cap-within x most h = rw (le-ltb most x h)
 
--- ---- a table that is read has lines within the limits
-record Fits (t : Table) : Type 0 where
-  classes : length (t .classes) ≤ classCount
-  methods : length (t .methods) ≤ methodCount
-  own : (k : ℕ) (c : Class) → getElem? (t .classes) k ≡ some c → k < length (t .classes) → length (c .own) ≤ 4
-  short : Lines (tableLines t)
-
-table-methods : (r : Raw) (t : Table) → table r ≡ some t → r .methods ≡ t .methods
-unfolding table
-table-methods r t e =
-    let cs = bodies (r .classes) in
-    let n = length cs in
-    let good = numbered 1 (r .classes) && classesGood n cs cs 1 && methodsGood n (r .methods) && exprKnown n (r .main) in
-    let a = guard-bind good (λ _. some (record { classes = bodies (r .classes); methods = r .methods; main = r .main })) t e in
-    let w : record { classes = bodies (r .classes); methods = r .methods; main = r .main } ≡ t = cc (a .1) in
-    ap (λ (u : Table). u .methods) w
-
-few-methods : (s : List ℕ) (t : Table) → readText s ≡ read t → length (t .methods) ≤ methodCount
-unfolding readText
-few-methods s t e =
-    let a = else-inv (lines s) 1 _ t e in
-    let b = else-inv (frames (a .0)) 2 _ t (a .2) in
-    let c = else-inv (ordered (b .0) >>= few) 3 _ t (b .2) in
-    let d = else-inv (table (c .0)) 4 _ t (c .2) in
-    let f = else-inv (overridden (d .0)) 5 _ t (d .2) in
-    let g = guard-bind (overridesGood (d .0) (d .0 .methods)) (λ _. some (d .0)) (f .0) (f .1) in
-    let x = opt-bind (ordered (b .0)) few (c .0) (c .1) in
-    let y = guard-bind (leb (length (x .0 .classes)) classCount && leb (length (x .0 .methods)) methodCount) (λ _. some (x .0)) (c .0) (x .2) in
-    let p : x .0 ≡ c .0 = cc (y .1) in
-    let q : d .0 ≡ t = cc (g .1, f .2) in
-    let l = leb-true (length (x .0 .methods)) methodCount (and-true (leb (length (x .0 .classes)) classCount) (leb (length (x .0 .methods)) methodCount) (y .0) .1) in
-    let m : c .0 .methods ≡ t .methods = table-methods (c .0) (d .0) (d .1) ∙ ap (λ (u : Table). u .methods) q in
-    subst (λ (ms : List Method). length ms ≤ methodCount) m (subst (λ (r : Raw). length (r .methods) ≤ methodCount) p l)
-
-lines-short : (s : List ℕ) (t : Table) → readText s ≡ read t → Lines (tableLines t)
-unfolding readText textOf lines
-lines-short s t e =
-    let a = else-inv (lines s) 1 _ t e in
-    let z = guard-bind (within 1 textSize (length s)) (λ _. linesFrom s none []) (a .0) (a .1) in
-    let w : hexText (tableLines t) ≡ s = write-read s t e in
-    let l = lines-hex (tableLines t) (a .0) (subst (λ (x : List ℕ). linesFrom x none [] ≡ some (a .0)) (sym w) (z .1)) in
-    subst Lines l (lines-bytes s (a .0) (a .1))
-
-fits : (s : List ℕ) (t : Table) → readText s ≡ read t → Fits t
+-- own fields are among all fields of their class
+own-few : (t : Table) → WellFormed t → (k : ℕ) (c : Class) → getElem? (t .classes) k ≡ some c → k < length (t .classes) → length (c .own) ≤ 4
 unfolding fieldsTo
-fits s t e =
-    let w = read-formed s t e in
-    record {
-      classes = w .classes;
-      methods = few-methods s t e;
-      own = λ k c q h.
-          let f = w .fields (suc k) (omega arith) in
-          let n = length-append (fieldsTo k (t .classes) (parentOf (t .classes) (suc k))) (ownOrNone (getElem? (t .classes) k)) in
-          let o : length (ownOrNone (getElem? (t .classes) k)) ≤ 4 = omega arith in
-          subst (λ (x : Option Class). length (ownOrNone x) ≤ 4) q o;
-      short = lines-short s t e;
-    }
+own-few t w k c q h =
+    let f = w .fields (suc k) (omega arith) in
+    let n = length-append (fieldsTo k (t .classes) (parentOf (t .classes) (suc k))) (ownOrNone (getElem? (t .classes) k)) in
+    let o : length (ownOrNone (getElem? (t .classes) k)) ≤ 4 = omega arith in
+    subst (λ (x : Option Class). length (ownOrNone x) ≤ 4) q o
 
 -- ---- one class
 eight : (xs : List ℕ) → length xs ≤ 8
@@ -190,48 +130,32 @@ method-nth [] i d e = absurd (Option·none-ne-some d e)
 method-nth (m ∷ ms) zero d e = let q : m ≡ d = cc in ap methodLine q
 method-nth (m ∷ ms) (suc i) d e = method-nth ms i d e
 
--- ---- lengths of lines among lines
-lines-after : (xs bs : List (List ℕ)) → Lines (xs ++ bs) → Lines bs
-lines-after [] bs h = h
-lines-after (a ∷ xs) bs h = lines-after xs bs (h .3)
-
-lines-front : (xs bs : List (List ℕ)) → Lines (xs ++ bs) → (i : ℕ) → i < length xs → length (getD xs i []) ≤ 255
-lines-front [] bs h i l = absurd (omega arith)
-lines-front (a ∷ xs) bs h zero l = h .1
-lines-front (a ∷ xs) bs h (suc i) l = lines-front xs bs (h .3) i (omega arith)
-
-fits-lines : (t : Table) → Fits t → linesIn (layout t) ≡ tableLines t
+-- the lines in the bytes of a table that is read
+pub lines-in : (t : Table) → WellFormed t → linesIn (layout t) ≡ tableLines t
 unfolding linesIn tableLines
-fits-lines t f =
+lines-in t w =
     let cs = classLines 1 (t .classes) in
     let ms = methodLines (t .methods) in
-    let after = lines-after cs (ms ++ ((3 ∷ codeOf (t .main)) ∷ [])) (f .short) in
-    let last = lines-after ms ((3 ∷ codeOf (t .main)) ∷ []) after in
-    let nc : cap (getD (layout t) 11 0) 32 ≡ length cs = ap (λ (x : ℕ). cap x 32) (class-count-at t) ∙ cap-within (length (t .classes)) 32 (f .classes) ∙ sym (class-count 1 (t .classes)) in
-    let nm : cap (getD (layout t) 12 0) 64 ≡ length ms = ap (λ (x : ℕ). cap x 64) (method-count-at t) ∙ cap-within (length (t .methods)) 64 (f .methods) ∙ sym (method-count (t .methods)) in
+    let nc : cap (getD (layout t) 11 0) 32 ≡ length cs = ap (λ (x : ℕ). cap x 32) (class-count-at t) ∙ cap-within (length (t .classes)) 32 (w .classes) ∙ sym (class-count 1 (t .classes)) in
+    let nm : cap (getD (layout t) 12 0) 64 ≡ length ms = ap (λ (x : ℕ). cap x 64) (method-count-at t) ∙ cap-within (length (t .methods)) 64 (w .count) ∙ sym (method-count (t .methods)) in
     let c : classesIn (layout t) (length cs) ≡ cs = classes-take (layout t) cs (λ i h. one-class i (omega (arith, class-count 1 (t .classes)))) (length cs) (omega arith) ∙ take-length cs in
     let m : methodsIn (layout t) (length ms) ≡ ms =
-    methods-take (layout t) ms (λ i h. one-method i (omega (arith, method-count (t .methods))) (lines-front ms ((3 ∷ codeOf (t .main)) ∷ []) after i h)) (length ms) (omega arith) ∙ take-length ms
+    methods-take (layout t) ms (λ i h. one-method i (omega (arith, method-count (t .methods)))) (length ms) (omega arith) ∙ take-length ms
     in
     ap₂ {C = List (List ℕ)} (λ x y. x ++ (y ∷ []))
     (ap₂ {C = List (List ℕ)} _++_ (ap (classesIn (layout t)) nc ∙ c) (ap (methodsIn (layout t)) nm ∙ m))
-    (main-in t (last .1))
+    (main-in t (w .mainShort))
     ∙ append-assoc cs ms ((3 ∷ codeOf (t .main)) ∷ [])
   where
     one-class : (i : ℕ) → i < length (t .classes) → classIn (layout t) (suc i) ≡ getD (classLines 1 (t .classes)) i []
     one-class i h =
         let u = inside (t .classes) i h in
         let z : 1 + i ≡ suc i = omega arith in
-        class-in t i (u .0) (omega (arith, f .classes)) (u .1) (f .own i (u .0) (u .1) h)
+        class-in t i (u .0) (omega (arith, w .classes)) (u .1) (own-few t w i (u .0) (u .1) h)
         ∙ sym (class-nth 1 (t .classes) i (u .0) (u .1) ∙ ap (λ (x : ℕ). classLine x (u .0)) z)
 
-    one-method : (i : ℕ) → i < length (t .methods) → length (getD (methodLines (t .methods)) i []) ≤ 255
-        → (2 ∷ longIn (layout t) (8976 + 256 * i)) ≡ getD (methodLines (t .methods)) i []
-    one-method i h l =
+    one-method : (i : ℕ) → i < length (t .methods) → (2 ∷ longIn (layout t) (8976 + 256 * i)) ≡ getD (methodLines (t .methods)) i []
+    one-method i h =
         let u = inside (t .methods) i h in
-        let n = method-nth (t .methods) i (u .0) (u .1) in
-        method-in t i (u .0) (omega (arith, f .methods)) (u .1) (subst (λ (x : List ℕ). length x ≤ 255) n l) ∙ sym n
-
--- the lines in the bytes of a table that is read
-pub lines-in : (s : List ℕ) (t : Table) → readText s ≡ read t → linesIn (layout t) ≡ tableLines t
-lines-in s t e = fits-lines t (fits s t e)
+        let d = method-at (MethodFormed t) (t .methods) i (u .0) (w .methods) (u .1) in
+        method-in t i (u .0) (omega (arith, w .count)) (u .1) (d .short) ∙ sym (method-nth (t .methods) i (u .0) (u .1))

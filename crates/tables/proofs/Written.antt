@@ -16,6 +16,7 @@ use Rattle.cofj.specs.Tables.{ordered, few, table, overridden}
 use Rattle.cofj.specs.Reading.{Answer, refusal, read, _else_next_, readText}
 use Rattle.cofj.specs.Writing.{textOf, Text, noText, text}
 use Rattle.cofj.specs.Calls.{Wrote, wrote, over, writeCall}
+use Rattle.cofj.proofs.Readable.{read-formed}
 use Rattle.cofj.proofs.RoundTrip.{write-read, read-writes}
 use Rattle.classes.specs.Layout.{layout}
 use Rattle.classes.specs.Machine.{pick}
@@ -129,7 +130,7 @@ by-test B b e = ap (λ (x : Bool). pick x (text (hexText (linesIn B))) noText) e
 pub text-of-read : (s : List ℕ) (t : Table) → readText s ≡ read t → textIn (layout t) ≡ text s
 unfolding readable readingOf textOf
 text-of-read s t e =
-    let w : hexText (linesIn (layout t)) ≡ s = ap hexText (lines-in s t e) ∙ write-read s t e in
+    let w : hexText (linesIn (layout t)) ≡ s = ap hexText (lines-in t (read-formed s t e)) ∙ write-read s t e in
     let r : readingOf (hexText (linesIn (layout t))) ≡ holding (layout t) = ap readingOf w ∙ ap answered e in
     by-test (layout t) true (ap (λ (x : Reading). gives x (layout t)) r ∙ gives-holding (layout t)) ∙ ap text w
 

@@ -31,7 +31,7 @@ use Rattle.evaluator.proofs.+call-eval_call+call-invoke+call-run_left+c
 use Rattle.evaluator.proofs.eval.eval_new.Reads as eval·eval-new
 use Rattle.evaluator.proofs.eval.eval_new.Kinds as eval·eval-new-kinds
 use Rattle.evaluator.proofs.+call-eval_call+call-invoke+call-run_left+call-run_right+eval-eval+eval-eval_field+eval-eval_item+eval-eval_list+eval-eval_new.Lts-eval-eval_new as eval·eval-new-lts
-use Rattle.checker.proofs.shape.shape_at.Reads as shape-at-reads
+use Rattle.classes.proofs.shape.shape_at.Reads as shape-at-reads
 use Rattle.classes.proofs.chain.field_total.Reads as field-total-reads
 use Rattle.evaluator.proofs.call.left_spot.Reads as left-spot-reads
 use Rattle.evaluator.proofs.call.right_spot.Reads as right-spot-reads

@@ -31,7 +31,7 @@ use Rattle.checker.proofs.fits.receiver.Reads as receiver-reads
 use Rattle.checker.proofs.fits.result_type.Reads as result-type-reads
 use Rattle.checker.proofs.fits.value_fits.Reads as value-fits-reads
 use Rattle.checker.proofs.scope.found.Reads as found-reads
-use Rattle.checker.proofs.shape.byte_at.Reads as byte-at-reads
+use Rattle.classes.proofs.shape.byte_at.Reads as byte-at-reads
 use Rattle.classes.proofs.chain.field_total.Reads as field-total-reads
 use Rattle.classes.proofs.chain.field_type.Reads as field-type-reads
 use Rattle.checker.proofs.expr.+type_args+type_call+type_expr+type_field+type_new+type_parts+type_values.{statement}

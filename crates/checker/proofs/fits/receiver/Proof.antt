@@ -5,14 +5,4 @@ use Rattle.checker.proofs.fits.receiver.Tie as tie
 use Rattle.checker.proofs.TypeLaws as laws
 
 pub receiver-spec : {M : Type 1} → statement M
-receiver-spec =
-    tie.close
-    (tie.spec
-    (λ c. search laws.receiver-open)
-    (λ c κs. search needs)
-    (λ c. search needs)
-    (λ c. search needs)
-    (λ c. search laws.receiver-none)
-    (λ c κs. search needs)
-    (λ c. search laws.receiver-other)
-    (λ c. search laws.receiver-is))
+receiver-spec = tie.close (tie.spec (λ c. search laws.receiver-open) (λ c κs. search needs) (λ c. search laws.receiver-is))

@@ -1,9 +1,9 @@
 // What stands at a place of an expression in prefix form. Not here: its type.
-use classes::places::SIZE;
+use crate::places::SIZE;
 ghost use mathlib.Core.Path.{_≡_};
 ghost use Prim.Native.Nat.{_<_};
 ghost use Rattle.classes.specs.Figures.{tableSize};
-ghost use Rattle.checker.specs.Shapes.{byteOf, shapeOf, shapeAt};
+ghost use Rattle.classes.specs.Shapes.{byteIn, shapeOf, shapeAt};
 
 // An expression's first bytes, and the place after them.
 pub enum Shape {
@@ -18,7 +18,7 @@ pub enum Shape {
 
 // The byte at a place, 0 past the end.
 pub fn byte_at(t: &[u8; SIZE], at: usize) -> u8
-    ensures { λ r. ⌜ r ≡ byteOf (now (t .entry)) at ⌝ }
+    ensures { λ r. ⌜ r ≡ byteIn (now (t .entry)) at ⌝ }
 {
     if at < SIZE {
         return t[at];

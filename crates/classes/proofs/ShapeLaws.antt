@@ -5,16 +5,16 @@ use Prim.Native.Nat.{ℕ, _+_, _-_, _<_, _≤_}
 use native.Mathlib.Omega.{arith}
 use lib.ListN.{getD}
 use borrow.Author.Tests.{ne-eqb, lt-ltb, le-ltb}
 use Rattle.classes.specs.Figures.{tableSize}
-use Rattle.checker.specs.declared.shape.Shape.{Shape}
-use Rattle.checker.specs.declared.shape.Shape.the-variants.{This, Result, Parameter, Field, Call, New, Nothing}
-use Rattle.checker.specs.Shapes.{byteOf, shapeOf, shapeAt}
+use Rattle.classes.specs.declared.shape.Shape.{Shape}
+use Rattle.classes.specs.declared.shape.Shape.the-variants.{This, Result, Parameter, Field, Call, New, Nothing}
+use Rattle.classes.specs.Shapes.{byteIn, shapeOf, shapeAt}
 
 module _ (B : List ℕ) (at : ℕ) where
-  pub byte-in : at < tableSize → getD B at 0 ≡ byteOf B at
+  pub byte-in : at < tableSize → getD B at 0 ≡ byteIn B at
   byte-in h = rw (lt-ltb at tableSize h)
 
-  pub byte-past : tableSize ≤ at → 0 ≡ byteOf B at
+  pub byte-past : tableSize ≤ at → 0 ≡ byteIn B at
   byte-past h = rw (le-ltb at tableSize h)
 
 -- ---- by the first byte
@@ -47,7 +47,7 @@ module _ (B : List ℕ) (at : ℕ) where
   shape-past h = rw (le-ltb at tableSize h)
 
   -- the last two places
-  pub shape-end : at < tableSize → (k : ℕ) → k ≡ byteOf B (at + 1) → (n : ℕ) → n ≡ byteOf B (at + 2) → (r : Shape) → r ≡ shapeOf (getD B at 0) k n at → r ≡ shapeAt B at
+  pub shape-end : at < tableSize → (k : ℕ) → k ≡ byteIn B (at + 1) → (n : ℕ) → n ≡ byteIn B (at + 2) → (r : Shape) → r ≡ shapeOf (getD B at 0) k n at → r ≡ shapeAt B at
   unfolding shapeAt
   shape-end h k ek n en r e = rw (lt-ltb at tableSize h, ← ek, ← en) e
 

@@ -3,14 +3,14 @@ use mathlib.Core.List.{List}
 use Prim.Native.Nat.{ℕ, _+_}
 use lib.ListN.{getD}
 use lib.Dec.{eqb, ltb}
 use Rattle.classes.specs.Machine.{pick}
 use Rattle.classes.specs.Figures.{tableSize}
-use Rattle.checker.specs.declared.shape.Shape.{Shape}
-use Rattle.checker.specs.declared.shape.Shape.the-variants.{This, Result, Parameter, Field, Call, New, Nothing}
+use Rattle.classes.specs.declared.shape.Shape.{Shape}
+use Rattle.classes.specs.declared.shape.Shape.the-variants.{This, Result, Parameter, Field, Call, New, Nothing}
 
 -- the byte at a place, 0 past the end
-abbrev pub byteOf : List ℕ → ℕ → ℕ
-byteOf B at = pick (ltb at tableSize) (getD B at 0) 0
+abbrev pub byteIn : List ℕ → ℕ → ℕ
+byteIn B at = pick (ltb at tableSize) (getD B at 0) 0
 
 -- an expression at `at` whose first three bytes are b, k and n
 abbrev pub shapeOf : ℕ → ℕ → ℕ → ℕ → Shape
@@ -24,4 +24,4 @@ shapeOf b k n at =
     Nothing)))))
 
 unfoldable pub shapeAt : List ℕ → ℕ → Shape
-shapeAt B at = pick (ltb at tableSize) (shapeOf (getD B at 0) (byteOf B (at + 1)) (byteOf B (at + 2)) at) Nothing
+shapeAt B at = pick (ltb at tableSize) (shapeOf (getD B at 0) (byteIn B (at + 1)) (byteIn B (at + 2)) at) Nothing

@@ -1,4 +1,5 @@
--- What reading makes sure of in a line: its numbers are bytes, and its expressions are nested within the limit. Not here: tables (ReadTables).
+-- What reading makes sure of in a line: its numbers are bytes, its tags are tags, and its expressions are nested within the limit.
+-- Not here: tables (Readable).
 use Prim.Native.Nat.{ℕ, zero, suc, _≤_}
 use mathlib.Core.Path.{_≡_, sym, subst}
 use mathlib.Core.Bool.{Bool, true, false}
@@ -7,17 +8,15 @@ use mathlib.Core.Option.{Option, none, some, Option·none-ne-some}
 use lib.Dec.{eqb, leb}
 use lib.ListN.{length}
 use borrow.Author.Tests.{leb-true}
 use Rattle.cofj.specs.Limits.{lineSize, fieldCount, paramCount, nestingLimit}
 use Rattle.cofj.specs.Partial.{_>>=_}
-use Rattle.cofj.specs.Syntax.{Expr, param, Exprs, Ty, Method}
-use Rattle.cofj.specs.Text.{within}
+use Rattle.cofj.specs.Syntax.{Expr, param, Exprs, Ty, ty, Method}
 use Rattle.cofj.specs.Frames.{Got, Reader, got, byte, upTo, type, types, exprsBy, fieldAfter, callAfter, newAfter, exprAfter, expr, TextFrame, classFrame, methodFrame, mainFrame, whole, classAfter, methodAfter, mainAfter, frame, frames}
+use Rattle.cofj.specs.Nesting.{Each, Parts, Nested}
 use Rattle.cofj.specs.Writing.{typesBytes}
-use Rattle.cofj.proofs.Partial.{guard-bind}
-use Rattle.cofj.proofs.Partial.{taken}
+use Rattle.cofj.proofs.Partial.{guard-bind, taken}
 use Rattle.cofj.proofs.TextRound.{Bytes, Lines}
 use Rattle.cofj.proofs.FrameRound.{pair, given, same, taken-as, type-back, types-back, lineOf, frame-back}
-use Rattle.checker.specs.Ready.{Each, Parts, Nested}
 
 -- ---- steps of a reader
 bytes-after : (xs ys : List ℕ) → Bytes (xs ++ ys) → Bytes ys
@@ -96,6 +95,7 @@ expr-good (suc n) (b ∷ bs) g e h = after-good (λ xs. expr n xs) (Nested n) (e
 
 -- ---- frames within the limits
 pub record Body (d : Method) : Type 0 where
+  pub second : d .second .tag ≤ 3
   pub few : length (d .params) ≤ paramCount
   pub left : Nested nestingLimit (d .left)
   pub right : Nested nestingLimit (d .right)
@@ -128,14 +128,23 @@ main-within bs f e h =
     taken (whole x) f e1 λ main w e2.
     given Within _ f e2 (subst (Nested nestingLimit) (whole-item x main w) (expr-good nestingLimit bs x q h .0))
 
+up-to-most : (n : ℕ) (bs : List ℕ) (g : Got ℕ) → upTo n bs ≡ some g → g .item ≤ n
+up-to-most n [] g e = absurd (Option·none-ne-some g e)
+up-to-most n (k ∷ bs) g e = let a = up-to n k bs g e in subst (λ (x : Got ℕ). x .item ≤ n) (sym (a .0)) (a .1)
+
+type-tag : (bs : List ℕ) (g : Got Ty) → type bs ≡ some g → g .item .tag ≤ 3
+unfolding type
+type-tag bs g e =
+    taken (byte bs) g e λ c _ e1.
+    taken (upTo 3 (c .rest)) g e1 λ k q e2.
+    given (λ (x : Got Ty). x .item .tag ≤ 3) (pair (ty (c .item) (k .item)) (k .rest)) g e2 (up-to-most 3 (c .rest) k q)
+
 type-bytes : (bs : List ℕ) (a : Got Ty) → type bs ≡ some a → Bytes bs → Bytes (a .rest)
 type-bytes bs a q h = subst Bytes (sym (type-back bs a q)) h .1 .1
 
-up-to-bytes : (n : ℕ) (bs : List ℕ) (g : Got ℕ) → upTo n bs ≡ some g → Bytes bs → (g .item ≤ n) × Bytes (g .rest)
+up-to-bytes : (n : ℕ) (bs : List ℕ) (g : Got ℕ) → upTo n bs ≡ some g → Bytes bs → Bytes (g .rest)
 up-to-bytes n [] g e h = absurd (Option·none-ne-some g e)
-up-to-bytes n (k ∷ bs) g e h =
-    let a = up-to n k bs g e in
-    subst (λ (x : Got ℕ). (x .item ≤ n) × Bytes (x .rest)) (sym (a .0)) (a .1, h .1)
+up-to-bytes n (k ∷ bs) g e h = subst (λ (x : Got ℕ). Bytes (x .rest)) (sym (up-to n k bs g e .0)) (h .1)
 
 method-within : (bs : List ℕ) (f : TextFrame) → methodAfter bs ≡ some f → Bytes bs → Within f
 unfolding methodAfter
@@ -152,12 +161,13 @@ method-within (o ∷ m ∷ bs) f e h =
     let h2 = type-bytes (a .rest) b q2 (type-bytes bs a q1 (h .1 .1)) in
     let h3 = up-to-bytes paramCount (b .rest) n q3 h2 in
     let t4 = types-back (n .item) (n .rest) ts q4 in
-    let h4 = bytes-after (typesBytes (ts .item)) (ts .rest) (subst Bytes (sym (t4 .0)) (h3 .1)) in
+    let h4 = bytes-after (typesBytes (ts .item)) (ts .rest) (subst Bytes (sym (t4 .0)) h3) in
     let h5 = expr-good nestingLimit (ts .rest) l q5 h4 in
     let h6 = expr-good nestingLimit (l .rest) r q6 (h5 .1) in
     given Within _ f e7
     (record {
-      few = subst (λ (k : ℕ). k ≤ paramCount) (sym (t4 .1)) (h3 .0);
+      second = type-tag (a .rest) b q2;
+      few = subst (λ (k : ℕ). k ≤ paramCount) (sym (t4 .1)) (up-to-most paramCount (b .rest) n q3);
       left = h5 .0;
       right = subst (Nested nestingLimit) (whole-item r right w) (h6 .0);
     })

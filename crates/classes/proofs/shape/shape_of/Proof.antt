@@ -1,8 +1,8 @@
 -- `shape::shape_of` meets its contract: a law of ShapeLaws at each return.
 use borrow.Author.Needs.{needs}
-use Rattle.checker.proofs.shape.shape_of.Statement.{statement}
-use Rattle.checker.proofs.shape.shape_of.Tie as tie
-use Rattle.checker.proofs.ShapeLaws as laws
+use Rattle.classes.proofs.shape.shape_of.Statement.{statement}
+use Rattle.classes.proofs.shape.shape_of.Tie as tie
+use Rattle.classes.proofs.ShapeLaws as laws
 
 pub shape-of-spec : {M : Type 1} → statement M
 shape-of-spec =
