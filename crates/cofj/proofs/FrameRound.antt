@@ -2,7 +2,7 @@
 -- Not here: that it is read (a count or a nesting over its limit is not), the text (TextRound), tables (RoundTrip).
 use Prim.Native.Nat.{ℕ, zero, suc}
 use mathlib.Core.Path.{_≡_, refl, sym, ap, ap₂, _∙_, subst}
-use mathlib.Core.Bool.{Bool, true, false}
+use mathlib.Core.Bool.{Bool, true, false, cond}
 use mathlib.Core.List.{List, [], _∷_, _++_, append-assoc, append-nil}
 use mathlib.Core.Option.{Option, none, some, Option·none-ne-some}
 use lib.Dec.{eqb, leb}
@@ -30,7 +30,7 @@ pub given : {A : Type 0} (P : A → Type 0) (x y : A) → some x ≡ some y → 
 given P x y e p = subst P (let w : x ≡ y = cc in w) p
 
 -- which way a test went
-branch : {B C : Type 0} (t : Bool) (o p : Option B) (b : B) → _≡_ {A = Option B} (elim t [ true ↦ o | false ↦ p ]) (some b)
+branch : {B C : Type 0} (t : Bool) (o p : Option B) (b : B) → cond t o p ≡ some b
     → (t ≡ true → o ≡ some b → C) → (p ≡ some b → C) → C
 branch true o p b e yea nay = yea refl e
 branch false o p b e yea nay = nay e

@@ -2,7 +2,7 @@
 -- Not here: tables (Readable).
 use Prim.Native.Nat.{ℕ, zero, suc, _≤_}
 use mathlib.Core.Path.{_≡_, sym, subst}
-use mathlib.Core.Bool.{Bool, true, false}
+use mathlib.Core.Bool.{Bool, true, false, cond}
 use mathlib.Core.List.{List, [], _∷_, _++_}
 use mathlib.Core.Option.{Option, none, some, Option·none-ne-some}
 use lib.Dec.{eqb, leb}
@@ -23,7 +23,7 @@ bytes-after : (xs ys : List ℕ) → Bytes (xs ++ ys) → Bytes ys
 bytes-after [] ys h = h
 bytes-after (x ∷ xs) ys h = bytes-after xs ys (h .1)
 
-branch : {B C : Type 0} (t : Bool) (o p : Option B) (b : B) → _≡_ {A = Option B} (elim t [ true ↦ o | false ↦ p ]) (some b) → (o ≡ some b → C) → (p ≡ some b → C) → C
+branch : {B C : Type 0} (t : Bool) (o p : Option B) (b : B) → cond t o p ≡ some b → (o ≡ some b → C) → (p ≡ some b → C) → C
 branch true o p b e yea nay = yea e
 branch false o p b e yea nay = nay e
 

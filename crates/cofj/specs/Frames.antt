@@ -1,7 +1,7 @@
 -- From a line's bytes to its frame: refusal 2 is a line that has none (unknown first byte, a tag, count or nesting over its limit,
 -- too short or too long). Not here: the order of frames and the rules of a class table (Tables).
 use Prim.Native.Nat.{ℕ, zero, suc}
-use mathlib.Core.Bool.{true, false}
+use mathlib.Core.Bool.{cond}
 use mathlib.Core.List.{List, [], _∷_}
 use mathlib.Core.Option.{Option, none, some}
 use lib.Dec.{eqb, leb}
@@ -59,27 +59,13 @@ module _ (one : Reader Expr) where
   unfoldable pub exprAfter : ℕ → Reader Expr
   unfolding fieldAfter callAfter newAfter
   exprAfter b bs =
-      elim (eqb b 0x40) [
-        | true ↦ got this bs
-        | false ↦
-            elim (eqb b 0x41) [
-              | true ↦ got res bs
-              | false ↦
-                  elim (eqb b 0x42) [
-                    | true ↦ byte bs >>= λ k. got (param (k .item)) (k .rest)
-                    | false ↦
-                        elim (eqb b 0x43) [
-                          | true ↦ fieldAfter bs
-                          | false ↦
-                              elim (eqb b 0x44) [
-                                | true ↦ callAfter bs
-                                | false ↦
-                                    elim (eqb b 0x45) [ true ↦ newAfter bs | false ↦ none ]
-                              ]
-                        ]
-                  ]
-            ]
-      ]
+      cond (eqb b 0x40) (got this bs)
+      (cond (eqb b 0x41) (got res bs)
+      (cond (eqb b 0x42) (byte bs >>= λ k. got (param (k .item)) (k .rest))
+      (cond (eqb b 0x43) (fieldAfter bs)
+      (cond (eqb b 0x44) (callAfter bs)
+      (cond (eqb b 0x45) (newAfter bs)
+      none)))))
 
 -- an expression nested at most n deep
 unfoldable pub expr : ℕ → Reader Expr
@@ -129,15 +115,10 @@ unfoldable pub frame : List ℕ → Option TextFrame
 unfolding classAfter methodAfter mainAfter
 frame bs =
     byte bs >>= λ k.
-    elim (eqb (k .item) 1) [
-      | true ↦ classAfter (k .rest)
-      | false ↦
-          elim (eqb (k .item) 2) [
-            | true ↦ methodAfter (k .rest)
-            | false ↦
-                elim (eqb (k .item) 3) [ true ↦ mainAfter (k .rest) | false ↦ none ]
-          ]
-    ]
+    cond (eqb (k .item) 1) (classAfter (k .rest))
+    (cond (eqb (k .item) 2) (methodAfter (k .rest))
+    (cond (eqb (k .item) 3) (mainAfter (k .rest))
+    none))
 
 unfoldable pub frames : List (List ℕ) → Option (List TextFrame)
 unfolding frame

@@ -3,7 +3,7 @@ use Prim.Native.Nat.{ℕ, zero, suc, _+_, _-_, _<_, _≤_}
 use native.Mathlib.Omega.{arith}
 use native.Mathlib.Numerals.{sub-one}
 use mathlib.Core.Path.{_≡_, refl, sym, ap, _∙_}
-use mathlib.Core.Bool.{Bool, true, false}
+use mathlib.Core.Bool.{Bool, true, false, cond}
 use mathlib.Core.List.{List, [], _∷_}
 use mathlib.Core.Option.{Option, none, some}
 use lib.Dec.{eqb, leb, ltb}
@@ -37,7 +37,7 @@ alone : (one : Reader Expr) (b : ℕ) → 0x42 ≤ b → exprAfter one b [] ≡ 
 unfolding exprAfter fieldAfter callAfter newAfter
 alone one b h = rw (ne-eqb b 0x40 (λ e. omega arith), ne-eqb b 0x41 (λ e. omega arith), exprAfter) (go (eqb b 0x42) (eqb b 0x43) (eqb b 0x44) (eqb b 0x45))
   where
-    go : (x y z w : Bool) → _≡_ {A = Option (Got Expr)} (elim x [ true ↦ none | false ↦ elim y [ true ↦ none | false ↦ elim z [ true ↦ none | false ↦ elim w [ true ↦ none | false ↦ none ] ] ] ]) none
+    go : (x y z w : Bool) → _≡_ {A = Option (Got Expr)} (cond x none (cond y none (cond z none (cond w none none)))) none
     go true y z w = refl
     go false true z w = refl
     go false false true w = refl
