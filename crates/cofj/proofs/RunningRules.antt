@@ -149,9 +149,9 @@ module _ (objects : ℕ) (t : Table) where
 
   -- ---- what follows by the rules is the interpreter's outcome
   -- the evaluation of bodies, where k more calls may be opened
-  abbrev pub bodies : ℕ → Deeper
-  bodies zero = λ _ _ _ n. stopped tooDeep n
-  bodies (suc k) = λ fr os e n. evalTo objects k t fr os e n
+  abbrev pub bodies : ℕ → Option Deeper
+  bodies zero = none
+  bodies (suc k) = some (λ fr os e n. evalTo objects k t fr os e n)
 
   to-eval : (k : ℕ) (fr : Frame) (os : List OpenCall) (e : Expr) (n : ℕ) → evalTo objects k t fr os e n ≡ eval objects t (bodies k) fr os e n
   unfolding evalTo
@@ -171,11 +171,7 @@ module _ (objects : ℕ) (t : Table) where
 
     too-deep : invoke (bodies zero) os v m vs d (suc n) ≡ stopped tooDeep n
     unfolding invoke
-    too-deep = go (openMark os v m vs)
-      where
-        go : (o : Option ℕ) → _≡_ {A = Outcome Graph} (elim o [ some x ↦ stopped tooDeep n | none ↦ stopped tooDeep n ]) (stopped tooDeep n)
-        go none = refl
-        go (some x) = refl
+    too-deep = refl
 
   new-runs : (k : ℕ) (fr : Frame) (os : List OpenCall) (c : ℕ) (es : Exprs) (n : ℕ) (o : Outcome (List Graph)) → length (fieldsOf (t .classes) c) ≡ count es
       → evals objects t (bodies k) fr os es n ≡ o → eval objects t (bodies k) fr os (new c es) n ≡ (o then λ vs n′. sized objects (make c vs) n′)

@@ -194,29 +194,30 @@ module _ (t : Table) (wf : WellFormed t) (objects : ℕ) where
   frame-more k v vs a b =
       record { self = good-more t objects k v a; result = tt; params = all-weaken (G k) (G (suc k)) (good-more t objects k) vs b }
 
-  good-invoke : (deeper : Deeper) → GoodDeeper deeper → (os : List OpenCall) → Numbered os → (v : Graph) (m : ℕ) (vs : List Graph) (d : Method) (n : ℕ)
+  good-invoke : (deeper : Option Deeper) → Opt GoodDeeper deeper → (os : List OpenCall) → Numbered os → (v : Graph) (m : ℕ) (vs : List Graph) (d : Method) (n : ℕ)
       → MethodFormed t d → G (length os) v → Gs (length os) vs → Out (G (length os)) (invoke deeper os v m vs d n)
   unfolding invoke
   good-invoke deeper D os ns v m vs d zero kd a b = tt
-  good-invoke deeper D os ns v m vs d (suc n) kd a b = go (openMark os v m vs) refl
+  good-invoke none D os ns v m vs d (suc n) kd a b = tt
+  good-invoke (some body) D os ns v m vs d (suc n) kd a b = go (openMark os v m vs) refl
     where
       go : (o : Option ℕ) → openMark os v m vs ≡ o → Out (G (length os)) (elim o as (λ _. Outcome Graph) [
-        | some x ↦ deeper (frameOf v (some (markOf x)) vs) os (d .right) n
-        | none ↦ deeper (frameOf v none vs) (opened os v m vs) (d .left) n then λ u n′. value (close (length os) u) n′
+        | some x ↦ body (frameOf v (some (markOf x)) vs) os (d .right) n
+        | none ↦ body (frameOf v none vs) (opened os v m vs) (d .left) n then λ u n′. value (close (length os) u) n′
       ])
       go (some x) q =
           D (frameOf v (some (markOf x)) vs) os (d .right) n (kd .rightKnown)
           (record { self = a; result = good-mark t objects (length os) x (open-below os v m vs x ns q); params = b }) ns
       go none q =
           out-then (G (suc (length os))) (G (length os)) (λ u n′. value (close (length os) u) n′) (λ u n′ h. good-close (length os) u h)
-          (deeper (frameOf v none vs) (opened os v m vs) (d .left) n)
+          (body (frameOf v none vs) (opened os v m vs) (d .left) n)
           (D (frameOf v none vs) (opened os v m vs) (d .left) n (kd .leftKnown) (frame-more (length os) v vs a b) (refl, ns))
 
   -- values of a list, and how many
   abbrev Listed : ℕ → ℕ → List Graph → Type 0
   Listed k n vs = Gs k vs × (length vs ≡ n)
 
-  module _ (deeper : Deeper) (D : GoodDeeper deeper) (os : List OpenCall) (ns : Numbered os) (fr : Frame) (h : GoodFrame (length os) fr) where
+  module _ (deeper : Option Deeper) (D : Opt GoodDeeper deeper) (os : List OpenCall) (ns : Numbered os) (fr : Frame) (h : GoodFrame (length os) fr) where
     good-count : (c : ℕ) (es : Exprs) (n : ℕ) → c ≤ length (t .classes) → (b : Bool) → eqb (length (fieldsOf (t .classes) c)) (count es) ≡ b
         → Out (Listed (length os) (count es)) (evals objects t deeper fr os es n)
         → Out (G (length os)) (elim b as (λ _. Outcome Graph) [ true ↦ evals objects t deeper fr os es n then λ vs n′. sized objects (make c vs) n′ | false ↦ stopped Stop.stuck n ])
@@ -257,9 +258,9 @@ module _ (t : Table) (wf : WellFormed t) (objects : ℕ) where
 
   good-evalTo : (d : ℕ) → GoodDeeper (evalTo objects d t)
   unfolding evalTo
-  good-evalTo zero fr os e n k h ns = good-eval (λ _ _ _ n′. stopped Stop.tooDeep n′) (λ _ _ _ _ _ _ _. tt) os ns fr h e n k
+  good-evalTo zero fr os e n k h ns = good-eval none tt os ns fr h e n k
   good-evalTo (suc d) fr os e n k h ns =
-      good-eval (λ fr′ os′ e′ n′. evalTo objects d t fr′ os′ e′ n′) (λ fr′ os′ e′ n′ k′ h′ ns′. good-evalTo d fr′ os′ e′ n′ k′ h′ ns′) os ns fr h e n k
+      good-eval (some (λ fr′ os′ e′ n′. evalTo objects d t fr′ os′ e′ n′)) (λ fr′ os′ e′ n′ k′ h′ ns′. good-evalTo d fr′ os′ e′ n′ k′ h′ ns′) os ns fr h e n k
 
 -- the value of a run: no left-side call is open at main
 pub good-run : (l : Limits) (t : Table) (n : ℕ) → WellFormed t → Out (Good t (l .objects) 0) (runWithin l t n)

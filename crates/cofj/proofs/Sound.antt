@@ -142,7 +142,7 @@ module _ (t : Table) (wf : WellFormed t) (ok : AllMethods (MethodOk t) (t .metho
   out-if P true o n e h = h
   out-if P false o n e h = absurd (false≢true e)
 
-  module _ (objects : ℕ) (deeper : Deeper) (D : DeeperOk t deeper) where
+  module _ (objects : ℕ) (deeper : Option Deeper) (D : DeeperOk t deeper) where
     mutual
       unfolding eval typeOf
 
@@ -194,9 +194,9 @@ module _ (t : Table) (wf : WellFormed t) (ok : AllMethods (MethodOk t) (t .metho
   sound-evalTo : (objects k : ℕ) (top : Bool) (fr : Frame) (os : List OpenCall) (σ : List ℕ) (g : Env) (e : Expr) (n : ℕ) (u : Ty) → FrameOk t σ g fr → Trace t os σ → (top ≡ true → σ ≡ [])
       → typeOf t top g e ≡ some u → Out (Has t σ u) (evalTo objects k t fr os e n)
   unfolding evalTo
-  sound-evalTo objects zero top fr os σ g e n u h tr z q = sound-eval objects (λ _ _ _ n′. stopped Stop.tooDeep n′) (λ _ _ _ _ _ _ _ _ _ _. tt) e top g fr os σ n u h tr z q
+  sound-evalTo objects zero top fr os σ g e n u h tr z q = sound-eval objects none tt e top g fr os σ n u h tr z q
   sound-evalTo objects (suc k) top fr os σ g e n u h tr z q =
-      sound-eval objects (λ fr′ os′ e′ n′. evalTo objects k t fr′ os′ e′ n′)
+      sound-eval objects (some (λ fr′ os′ e′ n′. evalTo objects k t fr′ os′ e′ n′))
       (λ fr′ os′ σ′ g′ e′ n′ u′ h′ tr′ q′. sound-evalTo objects k false fr′ os′ σ′ g′ e′ n′ u′ h′ tr′ (λ x. absurd (false≢true x)) q′) e top g fr os σ n u h tr z q
 
   -- the value of a run has main's type, with no call open

@@ -53,9 +53,14 @@ pub record FrameOk (t : Table) (σ : List ℕ) (g : Env) (fr : Frame) : Type 0 w
   pub params : Hold t σ (g .params) (fr .params)
 
 -- what is known of the evaluation of bodies
-abbrev pub DeeperOk : Table → Deeper → Type 0
-DeeperOk t deeper = (fr : Frame) (os : List OpenCall) (σ : List ℕ) (g : Env) (e : Expr) (n : ℕ) (u : Ty) → FrameOk t σ g fr → Trace t os σ → typeOf t false g e ≡ some u
+abbrev pub BodyOk : Table → Deeper → Type 0
+BodyOk t deeper = (fr : Frame) (os : List OpenCall) (σ : List ℕ) (g : Env) (e : Expr) (n : ℕ) (u : Ty) → FrameOk t σ g fr → Trace t os σ → typeOf t false g e ≡ some u
     → Out (Has t σ u) (deeper fr os e n)
+
+-- if one more call may be opened
+abbrev pub DeeperOk : Table → Option Deeper → Type 0
+DeeperOk t none = Unit {0}
+DeeperOk t (some body) = BodyOk t body
 
 -- ---- tags of a call
 raise-le-second : (g a b : ℕ) → g ≤ 3 → closeTag g ≤ a → a ≤ b → g ≤ b → raise g ≤ b
@@ -113,19 +118,20 @@ module _ (t : Table) (wf : WellFormed t) (ok : AllMethods (MethodOk t) (t .metho
       let e : u ≡ u′ = cc in
       sym (ap (λ (x : Ty). x .cls) e)
 
-  pub sound-invoke : (deeper : Deeper) → DeeperOk t deeper → (top : Bool) (os : List OpenCall) (σ : List ℕ) → Trace t os σ → (top ≡ true → σ ≡ [])
+  pub sound-invoke : (deeper : Option Deeper) → DeeperOk t deeper → (top : Bool) (os : List OpenCall) (σ : List ℕ) → Trace t os σ → (top ≡ true → σ ≡ [])
       → (v : Graph) (m c : ℕ) (vs : List Graph) (d : Method) (n : ℕ) → classOf v ≡ some c → lookup t c m ≡ some d → MethodFormed t d → MethodOk t d
       → Has t σ (ty (d .owner) 0) v → Hold t σ (d .params) vs → Out (Has t σ (cond top (d .first) (d .second))) (invoke deeper os v m vs d n)
   unfolding invoke leftType
   sound-invoke deeper D top os σ tr z v m c vs d zero p q mf mo a b = tt
-  sound-invoke deeper D top os σ tr z v m c vs d (suc n) p q mf mo a b = go (openMark os v m vs) refl
+  sound-invoke none D top os σ tr z v m c vs d (suc n) p q mf mo a b = tt
+  sound-invoke (some body) D top os σ tr z v m c vs d (suc n) p q mf mo a b = go (openMark os v m vs) refl
     where
       meets : (x : ℕ) → (c′ : ℕ) × (bound σ x ≡ some c′) × Runs t v m c′
-          → Out (Has t σ (cond top (d .first) (d .second))) (deeper (frameOf v (some (markOf x)) vs) os (d .right) n)
+          → Out (Has t σ (cond top (d .first) (d .second))) (body (frameOf v (some (markOf x)) vs) os (d .right) n)
       meets x r =
           let e : mo .u .cls ≡ r .0 = r .2 c d (mo .u) p q (mo .left) in
           out-map (Has t σ (mo .v)) (Has t σ (cond top (d .first) (d .second))) (λ w h. again top σ z x (r .0) (r .1) d mf mo w h)
-          (deeper (frameOf v (some (markOf x)) vs) os (d .right) n)
+          (body (frameOf v (some (markOf x)) vs) os (d .right) n)
           (D (frameOf v (some (markOf x)) vs) os σ (rightEnv d (mo .u .cls)) (d .right) n (mo .v)
           (record {
             self = λ w y. (v, refl, subst (λ (k : Ty). Has t σ k v) (let s : ty (d .owner) 0 ≡ w = cc in s) a);
@@ -139,14 +145,14 @@ module _ (t : Table) (wf : WellFormed t) (ok : AllMethods (MethodOk t) (t .metho
           }) tr (mo .right))
 
       go : (o : Option ℕ) → openMark os v m vs ≡ o → Out (Has t σ (cond top (d .first) (d .second))) (elim o as (λ _. Outcome Graph) [
-        | some x ↦ deeper (frameOf v (some (markOf x)) vs) os (d .right) n
-        | none ↦ deeper (frameOf v none vs) (opened os v m vs) (d .left) n then λ u n′. value (close (length os) u) n′
+        | some x ↦ body (frameOf v (some (markOf x)) vs) os (d .right) n
+        | none ↦ body (frameOf v none vs) (opened os v m vs) (d .left) n then λ u n′. value (close (length os) u) n′
       ])
       go (some x) y = meets x (open-bound t os σ v m vs x tr y)
       go none y =
           out-then (Has t (mo .u .cls ∷ σ) (mo .u)) (Has t σ (cond top (d .first) (d .second))) (λ u n′. value (close (length os) u) n′)
           (λ u n′ h. subst (λ (k : ℕ). Has t σ (cond top (d .first) (d .second)) (close k u)) (sym (trace-length t os σ tr)) (closed top σ z d mf mo u h))
-          (deeper (frameOf v none vs) (opened os v m vs) (d .left) n)
+          (body (frameOf v none vs) (opened os v m vs) (d .left) n)
           (D (frameOf v none vs) (opened os v m vs) (mo .u .cls ∷ σ) (leftEnv d) (d .left) n (mo .u)
           (record {
             self = λ w s. (v, refl, subst (λ (k : Ty). Has t (mo .u .cls ∷ σ) k v) (let s′ : ty (d .owner) 0 ≡ w = cc in s′) (has-more t wf (mo .u .cls) σ (ty (d .owner) 0) v a));

@@ -79,22 +79,24 @@ frameOf v r vs = record { self = some v; result = r; params = vs }
 abbrev pub opened : List OpenCall → Graph → ℕ → List Graph → List OpenCall
 opened os v m vs = record { receiver = v; name = m; args = vs; label = length os } ∷ os
 
--- A call, its receiver, method and arguments known. One unit is spent before the depth is tested (by `deeper`), met again or not;
--- a fresh mark is the number of open left-side calls, which no value has that is alive.
-unfoldable pub invoke : Deeper → List OpenCall → Graph → ℕ → List Graph → Method → ℕ → Outcome Graph
+-- A call, its receiver, method and arguments known: first fuel, of which one unit is spent; then depth (`none`: as many calls are open as may
+-- be); then whether it is met again. A fresh mark is the number of open left-side calls, which no value has that is alive.
+unfoldable pub invoke : Option Deeper → List OpenCall → Graph → ℕ → List Graph → Method → ℕ → Outcome Graph
 unfolding openMark close
 invoke deeper os v m vs d zero = stopped noFuel zero
-invoke deeper os v m vs d (suc n) =
+invoke none os v m vs d (suc n) = stopped tooDeep n
+invoke (some body) os v m vs d (suc n) =
     elim (openMark os v m vs) [
-      | some x ↦ deeper (frameOf v (some (markOf x)) vs) os (d .right) n
-      | none ↦ deeper (frameOf v none vs) (opened os v m vs) (d .left) n then λ u n′. value (close (length os) u) n′
+      | some x ↦ body (frameOf v (some (markOf x)) vs) os (d .right) n
+      | none ↦ body (frameOf v none vs) (opened os v m vs) (d .left) n then λ u n′. value (close (length os) u) n′
     ]
 
 -- too large: more than so many distinct objects, the new one included
 unfoldable pub sized : ℕ → Graph → ℕ → Outcome Graph
 sized objects g n = elim (ltb objects (length (g .nodes))) [ true ↦ stopped tooLarge n | false ↦ value g n ]
 
-module _ (objects : ℕ) (t : Table) (deeper : Deeper) where
+-- `deeper` evaluates the bodies of calls, if one more call may be opened
+module _ (objects : ℕ) (t : Table) (deeper : Option Deeper) where
   unfoldable mutual
     unfolding invoke target make select sized fieldsTo
 
@@ -121,8 +123,8 @@ module _ (objects : ℕ) (t : Table) (deeper : Deeper) where
 -- evaluation with room for so many more open calls; both sides of a method count as open while they run
 unfoldable pub evalTo : ℕ → ℕ → Table → Deeper
 unfolding eval
-evalTo objects zero t fr os e n = eval objects t (λ _ _ _ n′. stopped tooDeep n′) fr os e n
-evalTo objects (suc d) t fr os e n = eval objects t (λ fr′ os′ e′ n′. evalTo objects d t fr′ os′ e′ n′) fr os e n
+evalTo objects zero t fr os e n = eval objects t none fr os e n
+evalTo objects (suc d) t fr os e n = eval objects t (some (λ fr′ os′ e′ n′. evalTo objects d t fr′ os′ e′ n′)) fr os e n
 
 -- in main there are no variables
 abbrev pub mainFrame : Frame

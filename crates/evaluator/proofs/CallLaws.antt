@@ -209,35 +209,30 @@ module _ (o : Option ℕ) (h : Held) (e : h ≡ metOf o) where
       go (some x) z = absurd (let w : 0 ≡ 1 = ap present z in omega arith)
 
 module _ (t : Table) (os : List language.OpenCall) (v : Graph) (m : ℕ) (vs : List Graph) (k : Method) where
-  spent : (d : Deeper) (fuel : ℕ) → fuel ≡ 0 → stopped language.noFuel fuel ≡ invoke d os v m vs k fuel
+  spent : (d : Option Deeper) (fuel : ℕ) → fuel ≡ 0 → stopped language.noFuel fuel ≡ invoke d os v m vs k fuel
   unfolding invoke
   spent d zero z = refl
   spent d (suc n) z = absurd (omega arith)
 
-  abbrev sides : Deeper → ℕ → Option ℕ → Outcome Graph
-  sides d n o = elim o as (λ _. Outcome Graph) [
-    | some x ↦ d (frameOf v (some (markOf x)) vs) os (k .right) n
-    | none ↦ d (frameOf v none vs) (opened os v m vs) (k .left) n then λ u n′. value (close (length os) u) n′
-  ]
-
-  side-is : (d : Deeper) (fuel : ℕ) → (fuel ≡ 0 → ⊥) → (o : Option ℕ) → openMark os v m vs ≡ o → sides d (fuel - 1) o ≡ invoke d os v m vs k fuel
-  unfolding invoke
-  side-is d zero nz o q = absurd (nz refl)
-  side-is d (suc n) nz o q = rw sub-one (ap (sides d n) (sym q))
-
   too-deep : (d fuel : ℕ) → (fuel ≡ 0 → ⊥) → d ≡ 0 → stopped language.tooDeep (fuel - 1) ≡ invoke (deeper d t) os v m vs k fuel
-  unfolding deeper
-  too-deep zero fuel nz z = go (openMark os v m vs) refl
-    where
-      go : (o : Option ℕ) → openMark os v m vs ≡ o → stopped language.tooDeep (fuel - 1) ≡ invoke (deeper zero t) os v m vs k fuel
-      go none q = side-is (deeper zero t) fuel nz none q
-      go (some x) q = side-is (deeper zero t) fuel nz (some x) q
+  unfolding deeper invoke
+  too-deep zero zero nz z = absurd (nz refl)
+  too-deep zero (suc n) nz z = rw sub-one
   too-deep (suc d) fuel nz z = absurd (omega arith)
 
-  deeper-is : (d : ℕ) → (d ≡ 0 → ⊥) → (p : language.Frame) (xs : List language.OpenCall) (e : Expr) (n : ℕ) → deeper d t p xs e n ≡ language.evalTo 32 (d - 1) t p xs e n
-  unfolding deeper
-  deeper-is zero nz p xs e n = absurd (nz refl)
-  deeper-is (suc d) nz p xs e n = rw sub-one
+  -- what a call gives whose bodies are evaluated by `body`, by the mark that it is open under
+  abbrev sides : Deeper → ℕ → Option ℕ → Outcome Graph
+  sides body n o = elim o as (λ _. Outcome Graph) [
+    | some x ↦ body (frameOf v (some (markOf x)) vs) os (k .right) n
+    | none ↦ body (frameOf v none vs) (opened os v m vs) (k .left) n then λ u n′. value (close (length os) u) n′
+  ]
+
+  side-is : (d fuel : ℕ) → (d ≡ 0 → ⊥) → (fuel ≡ 0 → ⊥) → (o : Option ℕ) → openMark os v m vs ≡ o
+      → sides (λ p xs e n. language.evalTo 32 (d - 1) t p xs e n) (fuel - 1) o ≡ invoke (deeper d t) os v m vs k fuel
+  unfolding deeper invoke
+  side-is zero fuel nd nz o q = absurd (nd refl)
+  side-is (suc d) zero nd nz o q = absurd (nz refl)
+  side-is (suc d) (suc n) nd nz o q = rw (sub-one, sub-one) (ap (sides (λ p xs e n. language.evalTo 32 d t p xs e n) n) (sym q))
 
 module _ (T W tr : List ℕ) (top : ℕ) (v : ValueRef) (ps : List Slot) (n i next d sp fuel m : ℕ) where
   pub invoke-fuel : fuel ≡ 0 → Invokes T W tr top v ps n i next d sp fuel m W (Halt NoFuel fuel)
@@ -263,8 +258,7 @@ module _ (T W tr : List ℕ) (top : ℕ) (v : ValueRef) (ps : List Slot) (n i ne
         older = r .older;
         is = λ t k tb ek. let z = r .is t k tb ek in record {
           is = z .is
-              ∙ sym (deeper-is t (traceIn W tr top) (valueOf W v) m (valuesFrom W ps 0 n) k d nd (frameOf (valueOf W v) (some (markOf (markIn y))) (valuesFrom W ps 0 n)) (traceIn W tr top) (k .right) (fuel - 1))
-              ∙ side-is t (traceIn W tr top) (valueOf W v) m (valuesFrom W ps 0 n) k (deeper d t) fuel nf (some (markIn y)) (met-some (openMark (traceIn W tr top) (valueOf W v) m (valuesFrom W ps 0 n)) h eh y ey);
+              ∙ side-is t (traceIn W tr top) (valueOf W v) m (valuesFrom W ps 0 n) k d fuel nd nf (some (markIn y)) (met-some (openMark (traceIn W tr top) (valueOf W v) m (valuesFrom W ps 0 n)) h eh y ey);
           next = z .next;
         };
       }
@@ -274,13 +268,9 @@ module _ (T W tr : List ℕ) (top : ℕ) (v : ValueRef) (ps : List Slot) (n i ne
       invoke-left ey r = record {
         kept = r .kept;
         older = r .older;
-        is = λ t k tb ek. let z = r .is t k tb ek in let os = traceIn W tr top in record {
+        is = λ t k tb ek. let z = r .is t k tb ek in record {
           is = z .is
-              ∙ going-on (language.evalTo 32 (d - 1) t (frameOf (valueOf W v) none (valuesFrom W ps 0 n)) (opened (traceIn W tr top) (valueOf W v) m (valuesFrom W ps 0 n)) (k .left) (fuel - 1))
-              (deeper d t (frameOf (valueOf W v) none (valuesFrom W ps 0 n)) (opened (traceIn W tr top) (valueOf W v) m (valuesFrom W ps 0 n)) (k .left) (fuel - 1))
-              (λ u n′. value (close (length (traceIn W tr top)) u) n′)
-              (sym (deeper-is t (traceIn W tr top) (valueOf W v) m (valuesFrom W ps 0 n) k d nd (frameOf (valueOf W v) none (valuesFrom W ps 0 n)) (opened (traceIn W tr top) (valueOf W v) m (valuesFrom W ps 0 n)) (k .left) (fuel - 1)))
-              ∙ side-is t (traceIn W tr top) (valueOf W v) m (valuesFrom W ps 0 n) k (deeper d t) fuel nf none (met-none (openMark (traceIn W tr top) (valueOf W v) m (valuesFrom W ps 0 n)) h eh ey);
+              ∙ side-is t (traceIn W tr top) (valueOf W v) m (valuesFrom W ps 0 n) k d fuel nd nf none (met-none (openMark (traceIn W tr top) (valueOf W v) m (valuesFrom W ps 0 n)) h eh ey);
           next = z .next;
         };
       }

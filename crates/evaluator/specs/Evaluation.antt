@@ -4,6 +4,7 @@ use Prim.Native.Nat.{ℕ, zero, suc, _+_, _*_, _≤_}
 use mathlib.Core.Path.{_≡_}
 use mathlib.Core.Bool.{true}
 use mathlib.Core.List.{List}
+use mathlib.Core.Option.{Option, none, some}
 use lib.ListN.{length}
 use Rattle.cofj.specs.Syntax.{Expr, field, new, Exprs, count, Table}
 use Rattle.cofj.specs.Tables.{exprKnown, exprsKnown}
@@ -11,7 +12,7 @@ use Rattle.cofj.specs.Writing.{codeOf, codesOf}
 use Rattle.cofj.specs.Nesting.{Each, Nested}
 use Rattle.cofj.specs.Values.{Graph}
 use Rattle.cofj.specs.Running as language
-use Rattle.cofj.specs.Running.{Outcome, stopped, Deeper}
+use Rattle.cofj.specs.Running.{Outcome, Deeper}
 use Rattle.classes.specs.Layout.{layout, Stands, Tabled}
 use Rattle.evaluator.specs.Figures.{callLimit, levelBlocks, openBlocks, blockLimit, workRoom}
 use Rattle.evaluator.specs.declared.Out.{Out}
@@ -33,9 +34,10 @@ pub record ReadsAll (T : List ℕ) (left at : ℕ) (t : Table) (es : Exprs) : Ty
   pub stands : Stands (layout t) at (codesOf es)
 
 -- ---- evaluation with room for d more open calls, at document 01's size
-unfoldable pub deeper : ℕ → Table → Deeper
-deeper zero t = λ f os e n. stopped language.tooDeep n
-deeper (suc d) t = λ f os e n. language.evalTo 32 d t f os e n
+-- the evaluation of the bodies of calls, if one more may be opened
+unfoldable pub deeper : ℕ → Table → Option Deeper
+deeper zero t = none
+deeper (suc d) t = some (λ f os e n. language.evalTo 32 d t f os e n)
 
 abbrev pub evalIn : ℕ → Table → Deeper
 evalIn d t f os e n = language.eval 32 t (deeper d t) f os e n
