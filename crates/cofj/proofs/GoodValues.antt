@@ -11,11 +11,11 @@ use borrow.Author.Tests.{eqb-false}
 use Rattle.cofj.specs.Syntax.{count, Table}
 use Rattle.cofj.specs.Classes.{fieldsTo}
 use Rattle.cofj.specs.Values.{Ref, obj, mark, undet, Node, node, Graph, graph, rename, renameNode, nodeAt, canon, colours, visit, bind, undetermined, markOf}
-use Rattle.cofj.specs.Unfolding.{Whole}
+use Rattle.cofj.specs.Unfolding.{Whole, AllWhole}
 use Rattle.cofj.specs.Formed.{AllIn, MarkBelow, Formed, Good}
 use Rattle.cofj.proofs.Canon.{canon-whole, canon-length}
 use Rattle.cofj.proofs.Unique.{canon-canon}
-use Rattle.cofj.proofs.Operations.{AllWhole, boundNode}
+use Rattle.cofj.proofs.Operations.{boundNode}
 
 -- ---- every item of a list
 module _ {A B : Type 0} where

@@ -13,12 +13,12 @@ use Rattle.cofj.specs.Partial.{_>>=_}
 use Rattle.cofj.specs.Classes.{classFits, fits, fieldsOf}
 use Rattle.cofj.specs.Typing.{closedTag, allFit, narrow}
 use Rattle.cofj.specs.Values.{Ref, obj, mark, undet, Node, Graph, graph, refsAt, canon, select, selected, make, undetermined, markOf}
-use Rattle.cofj.specs.Unfolding.{Label, object, opened, unknown, follow, Whole, InRange}
+use Rattle.cofj.specs.Unfolding.{Label, object, opened, unknown, follow, Whole, InRange, AllWhole}
 use Rattle.cofj.specs.WellFormed.{WellFormed, Tags}
 use Rattle.cofj.proofs.Chain.{fits-self}
 use Rattle.cofj.proofs.Climb.{fits-fields, field-tag}
 use Rattle.cofj.proofs.Canon.{canon-whole}
-use Rattle.cofj.proofs.Operations.{AllWhole, make-top, make-field, make-whole, select-tree, at-ref}
+use Rattle.cofj.proofs.Operations.{make-top, make-field, make-whole, select-tree, at-ref}
 use Rattle.cofj.proofs.Typed.{tree, under, Ok, OkAt, Typed, AllTyped, Has, Hold, typed-fits, typed-more, typed-closed}
 use Rattle.cofj.proofs.Partial.{and-true}
 

@@ -12,11 +12,11 @@ use Rattle.cofj.specs.Syntax.{Ty, ty, Table}
 use Rattle.cofj.specs.Partial.{_>>=_}
 use Rattle.cofj.specs.Classes.{classFits, fieldsOf}
 use Rattle.cofj.specs.Values.{Ref, obj, mark, undet, Node, Graph, graph, close, bind, undetermined, markOf}
-use Rattle.cofj.specs.Unfolding.{object, opened, labelAt, child, follow, Whole}
+use Rattle.cofj.specs.Unfolding.{object, opened, labelAt, child, follow, Whole, followBound}
 use Rattle.cofj.specs.WellFormed.{WellFormed}
 use Rattle.cofj.proofs.Chain.{fits-self}
 use Rattle.cofj.proofs.Canon.{canon-whole}
-use Rattle.cofj.proofs.Operations.{followBound, close-tree, bound-whole}
+use Rattle.cofj.proofs.Operations.{close-tree, bound-whole}
 use Rattle.cofj.proofs.Keeps.{leaf-whole, mark-typed, undet-typed}
 use Rattle.cofj.proofs.Typed.{tree, bound, under, Ok, OkAt, Typed, AllTyped, Has, bound-old, bound-new, typed-fits}
 

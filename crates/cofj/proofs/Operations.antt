@@ -10,7 +10,7 @@ use lib.ListN.{length, getElem?, length-map, length-append, List·getD-append, L
 use lib.Seq.{getD-append-add}
 use Rattle.cofj.specs.Partial.{_>>=_}
 use Rattle.cofj.specs.Values.{Ref, obj, mark, undet, Node, node, Graph, graph, rename, renameNode, nodeAt, refsAt, canon, select, selected, close, bind, make, lay, undetermined}
-use Rattle.cofj.specs.Unfolding.{Label, object, labelAt, child, follow, InRange, Whole}
+use Rattle.cofj.specs.Unfolding.{Label, object, labelAt, child, follow, followBound, InRange, Whole, AllWhole}
 use Rattle.cofj.proofs.Basics.{at-map}
 use Rattle.cofj.proofs.Trees.{renamed-same}
 use Rattle.cofj.proofs.Canon.{canon-same, canon-whole, rename-id, node-id}
@@ -37,10 +37,6 @@ select-tree g w f v e p = go (g .root) e
     go undet z = absurd (Option·none-ne-some v z)
 
 -- ---- X = u: a mark x met on the way or at the end stands for u
-abbrev pub followBound : ℕ → Ref → List Node → Ref → List ℕ → Option Label
-followBound x u ns r [] = some (labelAt ns (bind x u r))
-followBound x u ns r (f ∷ p) = child ns (bind x u r) f >>= λ s. followBound x u ns s p
-
 abbrev pub boundNode : ℕ → ℕ → Node → Node
 boundNode x i n = node (n .cls) (map (bind x (obj i)) (n .refs))
 
@@ -111,10 +107,6 @@ shift-range : (n m : ℕ) (r : Ref) → InRange m r → InRange (n + m) (rename 
 shift-range n m (obj i) p = omega arith
 shift-range n m (mark k) p = tt
 shift-range n m undet p = tt
-
-abbrev pub AllWhole : List Graph → Type 0
-AllWhole [] = Unit {0}
-AllWhole (g ∷ gs) = Whole g × AllWhole gs
 
 abbrev moved : ℕ → List Node → List Node
 moved n ns = map (renameNode (λ i. n + i)) ns

@@ -13,6 +13,7 @@ use Rattle.cofj.specs.Syntax.{Method, Table}
 use Rattle.cofj.specs.Classes.{lookup}
 use Rattle.cofj.specs.Values.{Graph, Node, Ref, obj, mark, undet, nodeAt, refsAt, selected, select, eqRef, eqNode, eqNodes, eqGraph, eqGraphs}
 use Rattle.cofj.specs.Running.{OpenCall, openMark, classOf, target}
+use Rattle.cofj.specs.Promises.{Equals, OpenUnder}
 use Rattle.cofj.proofs.Basics.{both-true, true-both, eqRef-refl, eqNode-refl}
 use Rattle.cofj.proofs.Traces.{eqGraph-true}
 
@@ -66,10 +67,6 @@ eqGraphs-refl [] = refl
 eqGraphs-refl (v ∷ vs) = true-both (eqGraph v v) (eqGraphs vs vs) (eqGraph-refl v) (eqGraphs-refl vs)
 
 module _ (v : Graph) (m : ℕ) (vs : List Graph) where
-  -- an open call with this receiver, name and arguments
-  abbrev pub Equals : OpenCall → Type 0
-  Equals o = (o .name ≡ m) × (o .receiver ≡ v) × (o .args ≡ vs)
-
   -- what `openMark` answers, when the tests of its first call gave a, b and c
   abbrev byTests : OpenCall → List OpenCall → Bool → Bool → Bool → Option ℕ
   unfolding openMark
@@ -81,21 +78,17 @@ module _ (v : Graph) (m : ℕ) (vs : List Graph) where
     | false ↦ openMark os v m vs
   ]
 
-  -- an equal call among these is open, under the mark x
-  abbrev pub OpenUnder : List OpenCall → ℕ → Type 0
-  OpenUnder os x = (o : OpenCall) × List·Memᴰ o os × Equals o × (o .label ≡ x)
-
   -- σ(v.m(v̄)) = X
-  pub open-some : (os : List OpenCall) (x : ℕ) → openMark os v m vs ≡ some x → OpenUnder os x
+  pub open-some : (os : List OpenCall) (x : ℕ) → openMark os v m vs ≡ some x → OpenUnder v m vs os x
   unfolding openMark
   open-some [] x e = absurd (Option·none-ne-some x e)
   open-some (o ∷ os) x e = go (eqb (o .name) m) refl (eqGraph (o .receiver) v) refl (eqGraphs (o .args) vs) refl e (λ z. later (open-some os x z))
     where
-      later : OpenUnder os x → OpenUnder (o ∷ os) x
+      later : OpenUnder v m vs os x → OpenUnder v m vs (o ∷ os) x
       later r = (r .0, List·Memᴰ·tail (r .1), r .2, r .3)
 
       go : (a : Bool) → eqb (o .name) m ≡ a → (b : Bool) → eqGraph (o .receiver) v ≡ b → (c : Bool) → eqGraphs (o .args) vs ≡ c
-          → byTests o os a b c ≡ some x → (openMark os v m vs ≡ some x → OpenUnder (o ∷ os) x) → OpenUnder (o ∷ os) x
+          → byTests o os a b c ≡ some x → (openMark os v m vs ≡ some x → OpenUnder v m vs (o ∷ os) x) → OpenUnder v m vs (o ∷ os) x
       go true p true q true r z ih =
           let y : some (o .label) ≡ some x = z in
           (o, List·Memᴰ·head refl, (eqb-true (o .name) m p, eqGraph-true (o .receiver) v q, eqGraphs-true (o .args) vs r), let l : o .label ≡ x = cc in l)
@@ -104,7 +97,7 @@ module _ (v : Graph) (m : ℕ) (vs : List Graph) where
       go false p b q c r z ih = ih z
 
   -- an equal call at the head is found
-  open-head : (o : OpenCall) (os : List OpenCall) → Equals o → openMark (o ∷ os) v m vs ≡ some (o .label)
+  open-head : (o : OpenCall) (os : List OpenCall) → Equals v m vs o → openMark (o ∷ os) v m vs ≡ some (o .label)
   unfolding openMark
   open-head o os e =
       rw (eq-eqb (o .name) m (e .0), openMark, ap (λ (g : Graph). eqGraph g v) (e .1) ∙ eqGraph-refl v, ap (λ (gs : List Graph). eqGraphs gs vs) (e .2) ∙ eqGraphs-refl vs)
@@ -120,7 +113,7 @@ module _ (v : Graph) (m : ℕ) (vs : List Graph) where
       go false b c z = z
 
   -- the call is not in dom(σ): no equal call is open
-  pub open-none : (os : List OpenCall) → openMark os v m vs ≡ none → (o : OpenCall) → List·Memᴰ o os → Equals o → ⊥
+  pub open-none : (os : List OpenCall) → openMark os v m vs ≡ none → (o : OpenCall) → List·Memᴰ o os → Equals v m vs o → ⊥
   open-none [] e o k q = List·Memᴰ·not-nil k
   open-none (x ∷ os) e o k q =
-      ⊎-elim (λ z. Option·none-ne-some (x .label) (sym e ∙ open-head x os (subst Equals z q))) (λ k′. open-none os (open-tail x os e) o k′ q) (List·Memᴰ·cases-cons k)
+      ⊎-elim (λ z. Option·none-ne-some (x .label) (sym e ∙ open-head x os (subst (Equals v m vs) z q))) (λ k′. open-none os (open-tail x os e) o k′ q) (List·Memᴰ·cases-cons k)

@@ -1,7 +1,7 @@
 -- Sessions and the public calls: what each answers, and every byte of the lent buffers after it.
 -- A refused call answers its number, the same session and length 0, and leaves the buffers as they were.
 use Prim.Native.Nat.{ℕ}
-use mathlib.Core.Bool.{true, false}
+use mathlib.Core.Bool.{true, false, not, cond}
 use mathlib.Core.List.{List, [], _∷_, _++_}
 use mathlib.Core.Option.{Option, none, some}
 use lib.Dec.{ltb}
@@ -27,12 +27,16 @@ use Rattle.cofj.specs.Report.{reportOf, fuelOf}
 abbrev pub openSession : ℕ → Session
 openSession n = record { active = true; fuel = n }
 
+-- the session with this fuel left, all else as it was: a run changes a session and never makes one
+abbrev pub withFuel : Session → ℕ → Session
+withFuel σ n = record { active = σ .active; fuel = n }
+
 -- closing sets the fuel to 0; closing again is 11
+abbrev pub closedSession : Session → Session
+closedSession σ = record { active = false; fuel = 0 }
+
 unfoldable pub closeSession : Session → Closing
-closeSession σ = elim (σ .active) [
-  | true ↦ record { refusal = 0; session = record { active = false; fuel = 0 } }
-  | false ↦ record { refusal = 11; session = σ }
-]
+closeSession σ = cond (σ .active) (record { refusal = 0; session = closedSession σ }) (record { refusal = 11; session = σ })
 
 -- ---- the check of a text: 1 to 7, or main's class and tag
 unfoldable pub checkText : List ℕ → Checked
@@ -68,12 +72,21 @@ unfoldable pub admit : Mode → List ℕ → Admitted
 unfolding readText check methodTyped typeOf fieldType callType newType chainHas fieldsTo lookupTo methodOf
 admit m s = elim (readText s) [ refusal k ↦ declined k | read t ↦ admitTable m t ]
 
+-- a call of a run: its input, its state and the buffers that it lends
+pub record Call : Type 0 where
+  pub mode : Mode
+  pub text : List ℕ
+  pub session : Session
+  pub report : List ℕ
+  pub work : List ℕ
+
 -- state refusals, before the text is looked at
-unfoldable pub stateRefusal : Session → List ℕ → List ℕ → Option ℕ
-stateRefusal σ report work = elim (σ .active) [
-  | false ↦ some 11
-  | true ↦ elim (ltb (length report) reportSize) [ true ↦ some 12 | false ↦ elim (ltb (length work) workSize) [ true ↦ some 13 | false ↦ none ] ]
-]
+unfoldable pub stateRefusal : Call → Option ℕ
+stateRefusal a =
+    cond (not (a .session .active)) (some 11)
+    (cond (ltb (length (a .report)) reportSize) (some 12)
+    (cond (ltb (length (a .work)) workSize) (some 13)
+    none))
 
 -- bytes after the text stay
 unfoldable pub over : List ℕ → List ℕ → List ℕ
@@ -93,41 +106,46 @@ pub record Ran : Type 0 where
   pub report : List ℕ
   pub work : List ℕ
 
-abbrev pub turnedAway : ℕ → Session → List ℕ → List ℕ → Ran
-turnedAway k σ report work = record { answer = record { refusal = k; session = σ; length = 0 }; report = report; work = work }
+-- refused: the number, the same session, length 0, both buffers as they were
+abbrev pub turnedAway : ℕ → Call → Ran
+turnedAway k a = record { answer = record { refusal = k; session = a .session; length = 0 }; report = a .report; work = a .work }
 
-abbrev pub ended : Outcome Graph → List ℕ → List ℕ → Ran
-ended o report work =
+-- accepted: the report of the outcome, and its fuel left in the session
+abbrev pub ended : Outcome Graph → Call → Ran
+ended o a =
     record {
-      answer = record { refusal = 0; session = openSession (fuelOf o); length = length (reportOf o) };
-      report = over (reportOf o) report;
-      work = cleared work;
+      answer = record { refusal = 0; session = withFuel (a .session) (fuelOf o); length = length (reportOf o) };
+      report = over (reportOf o) (a .report);
+      work = cleared (a .work);
     }
 
-abbrev pub runAdmitted : Admitted → Session → List ℕ → List ℕ → Ran
-runAdmitted (declined k) σ report work = turnedAway k σ report work
-runAdmitted (admitted t) σ report work = ended (run t (σ .fuel)) report work
+abbrev pub runAdmitted : Admitted → Call → Ran
+runAdmitted (declined k) a = turnedAway k a
+runAdmitted (admitted t) a = ended (run t (a .session .fuel)) a
 
-abbrev pub runUnless : Option ℕ → Mode → List ℕ → Session → List ℕ → List ℕ → Ran
-runUnless (some k) m s σ report work = turnedAway k σ report work
-runUnless none m s σ report work = runAdmitted (admit m s) σ report work
+abbrev pub runUnless : Option ℕ → Call → Ran
+runUnless (some k) a = turnedAway k a
+runUnless none a = runAdmitted (admit (a .mode) (a .text)) a
 
 -- the checked run and the trial run
-unfoldable pub runCall : Mode → List ℕ → Session → List ℕ → List ℕ → Ran
+unfoldable pub runCall : Call → Ran
 unfolding stateRefusal admit run over cleared
-runCall m s σ report work = runUnless (stateRefusal σ report work) m s σ report work
+runCall a = runUnless (stateRefusal a) a
 
 -- ---- the writer: 8, then 9; bytes after the text stay
 pub record Wrote : Type 0 where
   pub answer : Written
   pub buffer : List ℕ
 
+abbrev pub notWritten : ℕ → List ℕ → Wrote
+notWritten k buffer = record { answer = record { refusal = k; length = 0 }; buffer = buffer }
+
+abbrev pub written : List ℕ → List ℕ → Wrote
+written s buffer = record { answer = record { refusal = 0; length = length s }; buffer = over s buffer }
+
 abbrev pub wrote : Text → List ℕ → Wrote
-wrote noText buffer = record { answer = record { refusal = 8; length = 0 }; buffer = buffer }
-wrote (text s) buffer = elim (ltb (length buffer) textSize) [
-  | true ↦ record { answer = record { refusal = 9; length = 0 }; buffer = buffer }
-  | false ↦ record { answer = record { refusal = 0; length = length s }; buffer = over s buffer }
-]
+wrote noText buffer = notWritten 8 buffer
+wrote (text s) buffer = elim (ltb (length buffer) textSize) [ true ↦ notWritten 9 buffer | false ↦ written s buffer ]
 
 unfoldable pub writeCall : Table → List ℕ → Wrote
 unfolding writeTable over

@@ -1,46 +1,122 @@
--- What is promised of the public calls, as statements. Proved in proofs/Promises; read these two files first.
--- Demand 1: refusals number by number. Demand 2: the checker and the runs give what the rules give; texts and tables are each other's.
--- Demand 3: equal reports exactly for the same end, and what an accepted program's report shows. Then canonical forms and reports.
+-- What is promised of the public calls, as statements of what a call returned. Proved in proofs/Promises of what the definitions give, and
+-- in the crate engine (proofs/Promise) of what its functions return. Read this file first.
+-- Demand 1: refusals number by number, of every call. Demand 2: the checker and the runs give what the rules give; texts and tables are
+-- each other's. Demand 3: equal reports exactly for the same end, and what an accepted program's report shows. Then values and reports.
 use Prim.Native.Nat.{ℕ, _≤_, _<_}
 use mathlib.Core.Path.{_≡_}
 use mathlib.Core.Bool.{true, false}
-use mathlib.Core.List.{List}
+use mathlib.Core.List.{List, [], _∷_, List·Memᴰ}
 use mathlib.Core.Logic.{_↔_}
-use mathlib.Core.Option.{some}
-use lib.ListN.{length, take}
+use mathlib.Core.Option.{none, some}
+use lib.ListN.{length, take, getElem?}
 use Rattle.cofj.specs.declared.Session.{Session}
-use Rattle.cofj.specs.Limits.{Limits, reportSize, workSize}
-use Rattle.cofj.specs.Syntax.{Ty, Table}
-use Rattle.cofj.specs.Reading.{refusal, read, readText}
-use Rattle.cofj.specs.Typing.{refused, accepted, check}
-use Rattle.cofj.specs.TypingRules.{ProgramTyped}
-use Rattle.cofj.specs.Values.{Graph, canon}
-use Rattle.cofj.specs.Unfolding.{SameTree, Whole}
-use Rattle.cofj.specs.Running.{Outcome, run, runWithin}
+use Rattle.cofj.specs.declared.Closing.{Closing}
+use Rattle.cofj.specs.declared.Verdict.{Verdict}
+use Rattle.cofj.specs.Limits.{Limits, standard, textSize, reportSize, workSize}
+use Rattle.cofj.specs.Partial.{_>>=_}
+use Rattle.cofj.specs.Text.{lines}
+use Rattle.cofj.specs.Syntax.{Ty, Method, Table}
+use Rattle.cofj.specs.Frames.{TextFrame, frames}
+use Rattle.cofj.specs.Tables.{Raw, ordered, few, table, overridden}
+use Rattle.cofj.specs.Reading.{Answer, refusal, read, readText}
+use Rattle.cofj.specs.WellFormed.{AllMethods}
+use Rattle.cofj.specs.Typing.{Checked, refused, accepted, check}
+use Rattle.cofj.specs.TypingRules.{HasType, noVariables, MethodTyped, ProgramTyped}
+use Rattle.cofj.specs.Values.{Ref, obj, Node, Graph, graph, canon, make, select, close, markOf, undetermined}
+use Rattle.cofj.specs.Unfolding.{object, follow, followBound, SameTree, Whole, AllWhole}
+use Rattle.cofj.specs.Running.{Outcome, OpenCall, openMark, run, runWithin}
 use Rattle.cofj.specs.RunningRules.{RunsTo}
-use Rattle.cofj.specs.Writing.{noText, text, writeTable}
+use Rattle.cofj.specs.Writing.{Text, noText, text, writeTable}
 use Rattle.cofj.specs.Formed.{Good, Out}
 use Rattle.cofj.specs.Report.{reportOf, fuelOf, valueReport, SameEnd}
 use Rattle.cofj.specs.ReportForm.{reported, Reportable}
 use Rattle.cofj.specs.Soundness.{Ends, EndsListed}
-use Rattle.cofj.specs.Calls.{Mode, checked, trial, Ran, openSession, turnedAway, ended, runCall}
+use Rattle.cofj.specs.Calls.{checked, trial, Call, Ran, closedSession, withFuel, turnedAway, ended, verdictOf, Wrote, notWritten, written}
 
--- a call of a run: its input and its state
-pub record Call : Type 0 where
-  pub mode : Mode
-  pub text : List ℕ
-  pub session : Session
-  pub report : List ℕ
-  pub work : List ℕ
-
-abbrev pub called : Call → Ran
-called a = runCall (a .mode) (a .text) (a .session) (a .report) (a .work)
-
--- the report that the call wrote: as many bytes of the buffer as it answers
+-- the report that a run wrote: as many bytes of the buffer as it answers
 abbrev pub reportText : Ran → List ℕ
-reportText r = take (r .answer .length) (r .report)
+reportText x = take (x .answer .length) (x .report)
 
--- ---- demand 1
+-- an accepted program
+pub record Program (s : List ℕ) : Type 0 where
+  pub table : Table
+  pub type : Ty
+  pub reads : readText s ≡ read table
+  pub accepts : check table ≡ accepted type
+
+-- ---- demand 1: reading. Lowest number first, each over the whole text
+pub data Reads (s : List ℕ) : Answer → Type 0 where
+  REFUSAL-1 :
+      lines s ≡ none
+      -- -------------------
+      → Reads s (refusal 1)
+  REFUSAL-2 :
+      {ls : List (List ℕ)}
+      → lines s ≡ some ls
+      → frames ls ≡ none
+      -- -------------------
+      → Reads s (refusal 2)
+  REFUSAL-3 :
+      {ls : List (List ℕ)} {fs : List TextFrame}
+      → lines s ≡ some ls
+      → frames ls ≡ some fs
+      → (ordered fs >>= few) ≡ none
+      -- --------------------------
+      → Reads s (refusal 3)
+  REFUSAL-4 :
+      {ls : List (List ℕ)} {fs : List TextFrame} {r : Raw}
+      → lines s ≡ some ls
+      → frames ls ≡ some fs
+      → (ordered fs >>= few) ≡ some r
+      → table r ≡ none
+      -- ----------------------------
+      → Reads s (refusal 4)
+  REFUSAL-5 :
+      {ls : List (List ℕ)} {fs : List TextFrame} {r : Raw} {t : Table}
+      → lines s ≡ some ls
+      → frames ls ≡ some fs
+      → (ordered fs >>= few) ≡ some r
+      → table r ≡ some t
+      → overridden t ≡ none
+      -- ----------------------------
+      → Reads s (refusal 5)
+  READ :
+      {ls : List (List ℕ)} {fs : List TextFrame} {r : Raw} {t u : Table}
+      → lines s ≡ some ls
+      → frames ls ≡ some fs
+      → (ordered fs >>= few) ≡ some r
+      → table r ≡ some t
+      → overridden t ≡ some u
+      -- ----------------------------
+      → Reads s (read u)
+
+-- ---- demand 1: the check
+pub record Checks (s : List ℕ) (v : Verdict) : Type 0 where
+  -- 1 to 5, by the text
+  pub unread : (k : ℕ) → readText s ≡ refusal k → v ≡ verdictOf (refused k)
+  -- 6: some method has no type by the rules
+  pub six : (t : Table) → readText s ≡ read t → (v ≡ verdictOf (refused 6)) ↔ ((d : Method) × List·Memᴰ d (t .methods) × (MethodTyped t d → ⊥))
+  -- 7: every method has one, and main has none
+  pub seven : (t : Table) → readText s ≡ read t
+      → (v ≡ verdictOf (refused 7)) ↔ (AllMethods (MethodTyped t) (t .methods) × ((u : Ty) → HasType t true noVariables (t .main) u → ⊥))
+  -- else the type that the rules give
+  pub types : (t : Table) (u : Ty) → readText s ≡ read t → (v ≡ verdictOf (accepted u)) ↔ ProgramTyped t u
+  -- 0 for an accepted program, and for no other text
+  pub zero : (v .refusal ≡ 0) ↔ Program s
+  pub most : v .refusal ≤ 7
+
+-- ---- demand 1: closing
+pub record Closes (σ : Session) (x : Closing) : Type 0 where
+  pub first : σ .active ≡ true → x ≡ record { refusal = 0; session = closedSession σ }
+  pub again : σ .active ≡ false → x ≡ record { refusal = 11; session = σ }
+
+-- ---- demand 1: the writer. The text of the table is given, or that it has none: 8, and then 9; nothing is written
+pub record Writes (o : Text) (buffer : List ℕ) (x : Wrote) : Type 0 where
+  pub eight : o ≡ noText → x ≡ notWritten 8 buffer
+  pub nine : (s : List ℕ) → o ≡ text s → length buffer < textSize → x ≡ notWritten 9 buffer
+  pub writes : (s : List ℕ) → o ≡ text s → textSize ≤ length buffer → x ≡ written s buffer
+
+-- ---- demand 1: runs
 -- the state refuses nothing
 pub record Lent (a : Call) : Type 0 where
   pub active : a .session .active ≡ true
@@ -48,22 +124,47 @@ pub record Lent (a : Call) : Type 0 where
   pub work : workSize ≤ length (a .work)
 
 -- `turnedAway k` has the number, the session and both buffers as they were, and length 0
-abbrev pub Refuses : ℕ → Call → Type 0
-Refuses k a = called a ≡ turnedAway k (a .session) (a .report) (a .work)
-
-pub record Refusals (a : Call) : Type 0 where
-  pub closed : a .session .active ≡ false → Refuses 11 a
-  pub shortReport : a .session .active ≡ true → length (a .report) < reportSize → Refuses 12 a
-  pub shortWork : a .session .active ≡ true → reportSize ≤ length (a .report) → length (a .work) < workSize → Refuses 13 a
+pub record Refusals (a : Call) (x : Ran) : Type 0 where
+  pub closed : a .session .active ≡ false → x ≡ turnedAway 11 a
+  pub shortReport : a .session .active ≡ true → length (a .report) < reportSize → x ≡ turnedAway 12 a
+  pub shortWork : a .session .active ≡ true → reportSize ≤ length (a .report) → length (a .work) < workSize → x ≡ turnedAway 13 a
   -- 1 to 5, by the text
-  pub unread : (k : ℕ) → Lent a → readText (a .text) ≡ refusal k → Refuses k a
+  pub unread : (k : ℕ) → Lent a → readText (a .text) ≡ refusal k → x ≡ turnedAway k a
   -- 6 and 7, of a checked run only
-  pub untyped : (t : Table) (k : ℕ) → Lent a → a .mode ≡ checked → readText (a .text) ≡ read t → check t ≡ refused k → Refuses k a
+  pub untyped : (t : Table) (k : ℕ) → Lent a → a .mode ≡ checked → readText (a .text) ≡ read t → check t ≡ refused k → x ≡ turnedAway k a
   -- every other call is accepted, and ends with a report
-  pub accepts : (t : Table) (u : Ty) → Lent a → readText (a .text) ≡ read t → check t ≡ accepted u → called a ≡ ended (run t (a .session .fuel)) (a .report) (a .work)
-  pub tries : (t : Table) → Lent a → a .mode ≡ trial → readText (a .text) ≡ read t → called a ≡ ended (run t (a .session .fuel)) (a .report) (a .work)
+  pub accepts : (t : Table) (u : Ty) → Lent a → readText (a .text) ≡ read t → check t ≡ accepted u → x ≡ ended (run t (a .session .fuel)) a
+  pub tries : (t : Table) → Lent a → a .mode ≡ trial → readText (a .text) ≡ read t → x ≡ ended (run t (a .session .fuel)) a
+
+-- every call is refused with a number that is not 0, or ends with 0
+pub data Answers (a : Call) (x : Ran) : Type 0 where
+  refuses : (k : ℕ) → 1 ≤ k → k ≤ 13 → x ≡ turnedAway k a → Answers a x
+  runs : (t : Table) → Lent a → readText (a .text) ≡ read t → x ≡ ended (run t (a .session .fuel)) a → Answers a x
+
+-- the report fits, and the buffers keep their lengths: of every call, refused or not, of a trial of an untyped program too
+pub record Lengths (a : Call) (x : Ran) : Type 0 where
+  pub fits : x .answer .length ≤ reportSize
+  pub report : length (x .report) ≡ length (a .report)
+  pub work : length (x .work) ≡ length (a .work)
 
 -- ---- demand 2
+-- what a run reports is this outcome, and its fuel is left in the session
+pub record EndsIn (o : Outcome Graph) (a : Call) (x : Ran) : Type 0 where
+  pub whole : x ≡ ended o a
+  pub report : reportText x ≡ reportOf o
+  pub session : x .answer .session ≡ withFuel (a .session) (fuelOf o)
+
+-- the calls, by the rules alone
+pub record Follows (a : Call) (x : Ran) : Type 0 where
+  -- a checked run of a typed program, and a trial run of any, end in what the big-step rules give
+  pub typed : (t : Table) (u : Ty) (o : Outcome Graph) → Lent a → readText (a .text) ≡ read t → ProgramTyped t u → RunsTo standard t (a .session .fuel) o → EndsIn o a x
+  pub tried : (t : Table) (o : Outcome Graph) → Lent a → a .mode ≡ trial → readText (a .text) ≡ read t → RunsTo standard t (a .session .fuel) o → EndsIn o a x
+  -- 6: a method has no type; 7: every method has one, and main has none
+  pub six : (t : Table) (d : Method) → Lent a → a .mode ≡ checked → readText (a .text) ≡ read t → List·Memᴰ d (t .methods) → (MethodTyped t d → ⊥) → x ≡ turnedAway 6 a
+  pub seven : (t : Table) → Lent a → a .mode ≡ checked → readText (a .text) ≡ read t → AllMethods (MethodTyped t) (t .methods)
+      → ((u : Ty) → HasType t true noVariables (t .main) u → ⊥) → x ≡ turnedAway 7 a
+
+-- the definitions
 pub record Demand2 : Type 0 where
   -- a program that is read is accepted exactly when the typing rules give it a type, which is the one named
   pub checks : (s : List ℕ) (t : Table) (u : Ty) → readText s ≡ read t → (check t ≡ accepted u) ↔ ProgramTyped t u
@@ -79,35 +180,31 @@ pub record Demand2 : Type 0 where
   pub refusedExactly : (t : Table) → (writeTable t ≡ noText) ↔ ((s : List ℕ) → readText s ≡ read t → ⊥)
 
 -- ---- demand 3
--- an accepted program
-pub record Program (s : List ℕ) : Type 0 where
-  pub table : Table
-  pub type : Ty
-  pub reads : readText s ≡ read table
-  pub accepts : check table ≡ accepted type
-
--- what the rules give for its input and session
+-- what the rules give for an accepted program, its input and its session
 abbrev pub ending : (a : Call) → Program (a .text) → Outcome Graph
 ending a p = run (p .table) (a .session .fuel)
 
-pub record Kept (a : Call) (p : Program (a .text)) : Type 0 where
-  pub written : reportText (called a) ≡ reportOf (ending a p)
-  pub session : called a .answer .session ≡ openSession (fuelOf (ending a p))
-  -- the report fits, so that the buffers keep their lengths
-  pub fits : length (reportOf (ending a p)) ≤ reportSize
-  pub reportLength : length (called a .report) ≡ length (a .report)
-  pub workLength : length (called a .work) ≡ length (a .work)
+pub record Kept (a : Call) (p : Program (a .text)) (x : Ran) : Type 0 where
+  pub endsIn : EndsIn (ending a p) a x
   -- never stuck; classes fit; undetermined only at tag 03; no mark: on the tree, and on the objects listed
   pub ends : Ends (p .table) (p .type) (ending a p)
   pub listed : EndsListed (p .table) (p .type) (ending a p)
 
 -- for any two accepted programs, run any way, neither refused
-pub record Demand3 (a b : Call) (p : Program (a .text)) (q : Program (b .text)) : Type 0 where
-  pub reports : (reportText (called a) ≡ reportText (called b)) ↔ SameEnd (ending a p) (ending b q)
-  pub first : Kept a p
-  pub second : Kept b q
+pub record Demand3 (a b : Call) (p : Program (a .text)) (q : Program (b .text)) (x y : Ran) : Type 0 where
+  pub reports : (reportText x ≡ reportText y) ↔ SameEnd (ending a p) (ending b q)
+  pub first : Kept a p x
+  pub second : Kept b q y
 
 -- ---- values and reports
+-- an open call with this receiver, name and arguments
+abbrev pub Equals : Graph → ℕ → List Graph → OpenCall → Type 0
+Equals v m vs o = (o .name ≡ m) × (o .receiver ≡ v) × (o .args ≡ vs)
+
+-- such a call among these is open, under the mark x
+abbrev pub OpenUnder : Graph → ℕ → List Graph → List OpenCall → ℕ → Type 0
+OpenUnder v m vs os x = (o : OpenCall) × List·Memᴰ o os × Equals v m vs o × (o .label ≡ x)
+
 pub record Canonical : Type 0 where
   -- the canonical form unfolds to the same tree
   pub same : (g : Graph) → Whole g → SameTree (canon g) g
@@ -115,6 +212,22 @@ pub record Canonical : Type 0 where
   pub unique : (g h : Graph) → Whole g → Whole h → SameTree g h ↔ (canon g ≡ canon h)
   -- every value of a run of a program that is read: canonical, closed, within the limit, made of its classes' objects
   pub values : (l : Limits) (s : List ℕ) (t : Table) (n : ℕ) → readText s ≡ read t → Out (Good t (l .objects) 0) (runWithin l t n)
+  -- the operations that the rules use, by the trees that they give.
+  -- A new object: its class and count, and below field f the value of field f
+  pub newObject : (c : ℕ) (gs : List Graph) → AllWhole gs → follow (make c gs .nodes) (make c gs .root) [] ≡ some (object c (length gs))
+  pub newField : (c : ℕ) (gs : List Graph) → AllWhole gs → (f : ℕ) (p : List ℕ)
+      → follow (make c gs .nodes) (make c gs .root) (f ∷ p) ≡ getElem? gs f >>= (λ v. follow (v .nodes) (v .root) p)
+  -- field f of a value: what lies below f, with marks back to the receiver unfolded
+  pub selects : (g : Graph) → Whole g → (f : ℕ) (v : Graph) → select f g ≡ some v → (p : List ℕ) → follow (v .nodes) (v .root) p ≡ follow (g .nodes) (g .root) (f ∷ p)
+  -- X = u: u's tree, with u's root for each mark X on the way; undetermined when u is X
+  pub closes : (x i : ℕ) (ns : List Node) → Whole (graph (obj i) ns) → (p : List ℕ)
+      → follow (close x (graph (obj i) ns) .nodes) (close x (graph (obj i) ns) .root) p ≡ followBound x (obj i) ns (obj i) p
+  pub closesItself : (x : ℕ) → close x (markOf x) ≡ undetermined
+  pub closesOther : (x k : ℕ) → (k ≡ x → ⊥) → close x (markOf k) ≡ markOf k
+  pub closesNothing : (x : ℕ) → close x undetermined ≡ undetermined
+  -- a call is met again exactly when an open one has this receiver, name and arguments
+  pub metAgain : (v : Graph) (m : ℕ) (vs : List Graph) (os : List OpenCall) (x : ℕ) → openMark os v m vs ≡ some x → OpenUnder v m vs os x
+  pub metFirst : (v : Graph) (m : ℕ) (vs : List Graph) (os : List OpenCall) → openMark os v m vs ≡ none → (o : OpenCall) → List·Memᴰ o os → Equals v m vs o → ⊥
 
 -- a text is a value's report exactly when it is the report of one value, the one that it is read into
 pub record Reports (objects : ℕ) : Type 0 where

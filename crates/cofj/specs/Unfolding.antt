@@ -5,7 +5,7 @@ use mathlib.Core.List.{List, [], _∷_}
 use mathlib.Core.Option.{Option, none, some}
 use lib.ListN.{length, getElem?}
 use Rattle.cofj.specs.Partial.{_>>=_}
-use Rattle.cofj.specs.Values.{Ref, obj, mark, undet, Node, Graph, nodeAt, refsAt}
+use Rattle.cofj.specs.Values.{Ref, obj, mark, undet, Node, Graph, nodeAt, refsAt, bind}
 
 -- what stands at the end of a path
 pub data Label : Type 0 where
@@ -35,6 +35,11 @@ Same ns r ms s = (p : List ℕ) → follow ns r p ≡ follow ms s p
 abbrev pub SameTree : Graph → Graph → Type 0
 SameTree g h = Same (g .nodes) (g .root) (h .nodes) (h .root)
 
+-- the same where the mark x is bound to u: met on the way or at the end, it stands for u
+abbrev pub followBound : ℕ → Ref → List Node → Ref → List ℕ → Option Label
+followBound x u ns r [] = some (labelAt ns (bind x u r))
+followBound x u ns r (f ∷ p) = child ns (bind x u r) f >>= λ s. followBound x u ns s p
+
 -- an object's number is below n
 abbrev pub InRange : ℕ → Ref → Type 0
 InRange n (obj i) = i < n
@@ -45,3 +50,7 @@ InRange n undet = Unit {0}
 pub record Whole (g : Graph) : Type 0 where
   pub top : InRange (length (g .nodes)) (g .root)
   pub inner : (i f : ℕ) (r : Ref) → getElem? (refsAt (g .nodes) i) f ≡ some r → InRange (length (g .nodes)) r
+
+abbrev pub AllWhole : List Graph → Type 0
+AllWhole [] = Unit {0}
+AllWhole (g ∷ gs) = Whole g × AllWhole gs

@@ -1,5 +1,5 @@
 pub mod StateLaws
-pub mod ReportLaws
+pub mod WorkLaws
 pub mod RunLaws
 pub mod ShowLaws
 pub mod Promise

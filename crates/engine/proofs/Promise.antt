@@ -1,82 +1,189 @@
 -- The promises of this crate, read this first: the three demands, of what its functions return.
--- The contracts of `checked_run` and `trial_run` say `Returned`; what that is worth is proved of the language's calls (cofj's Promises).
-use Prim.Native.Nat.{ℕ, _≤_, _<_}
+-- Their contracts say what they return by the language's definitions (of a run: `Returned`); what that is worth is proved of these (cofj's Promises).
+use Prim.Native.Nat.{ℕ, _+_, _≤_, _<_}
 use native.Mathlib.Omega.{arith}
 use mathlib.Core.Path.{_≡_, refl, sym, ap, ap₂, _∙_, subst}
 use mathlib.Core.Bool.{Bool, true, false, _&&_}
-use mathlib.Core.List.{List, [], _∷_, _++_}
-use mathlib.Core.Logic.{_↔_}
+use mathlib.Core.List.{List, [], _∷_, _++_, List·Memᴰ, List·Memᴰ·not-nil, List·Memᴰ·cases-cons}
+use mathlib.Core.Logic.{_↔_, _⊎_, inl, inr}
 use mathlib.Core.Option.{Option, none, some}
 use lib.Dec.{leb, ltb}
 use lib.ListN.{length, take}
 use lib.Seq.{take-all, length-take-le}
 use borrow.Author.Tests.{lt-leb, ltb-true, ltb-false}
+use Rattle.cofj.specs.Limits.{textSize, linerunFuel}
 use Rattle.cofj.specs.Partial.{_>>=_, guard}
 use Rattle.cofj.specs.Text.{hexText, lines, linesFrom}
-use Rattle.cofj.specs.Reading.{refusal, readText}
-use Rattle.cofj.specs.Report.{SameEnd}
-use Rattle.cofj.specs.Calls.{checked, Ran, Admitted, verdictOf, verdictLine, reportAdmitted, linerun}
+use Rattle.cofj.specs.declared.Session.{Session}
+use Rattle.cofj.specs.declared.Closing.{Closing}
+use Rattle.cofj.specs.declared.Verdict.{Verdict}
+use Rattle.cofj.specs.Syntax.{Table}
+use Rattle.cofj.specs.Frames.{TextFrame, frame, frames}
+use Rattle.cofj.specs.Tables as tables
+use Rattle.cofj.specs.Tables.{Raw, few}
+use Rattle.cofj.specs.Reading.{Answer, refusal, read, readText}
+use Rattle.cofj.specs.Writing.{text}
+use Rattle.cofj.specs.Calls.{closeSession, checkCall, checked, Call, Ran, runCall, Wrote, Admitted, verdictLine, reportAdmitted, linerun}
 use Rattle.cofj.specs.Typing.{Checked}
-use Rattle.cofj.specs.Promises.{Call, called, reportText, Program, ending, Kept, Demand3}
-use Rattle.cofj.proofs.Promises.{demand3, admit-unread}
+use Rattle.cofj.specs.Promises.{Program, Reads, REFUSAL-1, REFUSAL-2, REFUSAL-3, Checks, Closes, Writes, Refusals, Answers, Lengths, Follows, Demand3}
+use Rattle.cofj.proofs.Promises.{reads, reads-is, read-number, check-unread, checks, closes, wrote-writes, refusals, answers, lengths, follows, demand3, admit-unread}
+use Rattle.lineform.specs.declared.lines.Decoded.{Decoded}
+use Rattle.lineform.specs.declared.frames.Framed.{Framed}
+use Rattle.lineform.specs.declared.lines.Ordered.{Ordered}
+use Rattle.lineform.specs.Answers.{decodedOf, framedOf, countsOf, orderOf}
 use Rattle.tables.specs.declared.read.Reading.{Reading}
-use Rattle.tables.specs.Readings.{afterLines, readingOf}
-use Rattle.tables.proofs.ReadLaws.{reading-steps}
-use Rattle.tables.proofs.Written.{answer-refusal}
-use Rattle.engine.proofs.RunLaws.{check-unread}
+use Rattle.tables.specs.Readings.{noTable, theTable, answered, readingOf}
+use Rattle.tables.specs.Writings.{textIn, writingOf, holding}
+use Rattle.engine.specs.Numbers.{decodedNumber, framedNumber, orderedNumber}
+use Rattle.tables.proofs.Written.{into-text, text-into, eight-exactly}
 
 -- what a run of the engine returned for a call: its answer and both buffers, as the contract has them
 pub record Returned (a : Call) (x : Ran) : Type 0 where
-  pub is : x ≡ called a
+  pub is : x ≡ runCall a
 
--- demand 3, of any two runs that were not refused, of accepted programs
-pub record Demand3Of (a b : Call) (p : Program (a .text)) (q : Program (b .text)) (x y : Ran) : Type 0 where
-  pub reports : (reportText x ≡ reportText y) ↔ SameEnd (ending a p) (ending b q)
-  pub first : Kept a p
-  pub second : Kept b q
+-- ---- demand 1
+module _ (a : Call) (x : Ran) (r : Returned a x) where
+  pub refusals-of : Refusals a x
+  refusals-of = subst (Refusals a) (sym (r .is)) (refusals a)
 
+  pub answers-of : Answers a x
+  answers-of = subst (Answers a) (sym (r .is)) (answers a)
+
+  pub lengths-of : Lengths a x
+  lengths-of = subst (Lengths a) (sym (r .is)) (lengths a)
+
+  -- demand 2
+  pub follows-of : Follows a x
+  follows-of = subst (Follows a) (sym (r .is)) (follows a)
+
+pub closes-of : (σ : Session) (x : Closing) → x ≡ closeSession σ → Closes σ x
+closes-of σ x e = subst (Closes σ) (sym e) (closes σ)
+
+pub checks-of : (s : List ℕ) (v : Verdict) → v ≡ checkCall s → Checks s v
+checks-of s v e = subst (Checks s) (sym e) (checks s)
+
+-- reading: the table's bytes, or the number and zeros
+pub record ReadsInto (s : List ℕ) (x : Reading) : Type 0 where
+  pub refuses : (k : ℕ) → Reads s (refusal k) → x ≡ noTable k
+  pub table : (t : Table) → Reads s (read t) → x ≡ theTable t
+  -- 0 exactly for a text that has a table
+  pub zero : (x .refusal ≡ 0) ↔ ((t : Table) × Reads s (read t))
+  pub most : x .refusal ≤ 5
+  -- the answers of the steps, by document 01's numbers: the first that is not 0 is the call's
+  pub decoded : (o : Decoded) → o ≡ decodedOf (lines s) → (decodedNumber o ≡ 0 → ⊥) → x .refusal ≡ decodedNumber o
+  pub framed : (ls : List (List ℕ)) → lines s ≡ some ls → (l : List ℕ) → List·Memᴰ l ls → (o : Framed) → o ≡ framedOf (frame l) → (framedNumber o ≡ 0 → ⊥)
+      → x .refusal ≡ framedNumber o
+  pub ordered : (ls : List (List ℕ)) (fs : List TextFrame) → lines s ≡ some ls → frames ls ≡ some fs → (o : Ordered) → o ≡ orderOf (some fs) → (orderedNumber o ≡ 0 → ⊥)
+      → x .refusal ≡ orderedNumber o
+
+-- a line without a frame: there are no frames
+no-frames : (ls : List (List ℕ)) (l : List ℕ) → List·Memᴰ l ls → frame l ≡ none → frames ls ≡ none
+unfolding frames
+no-frames [] l m e = absurd (List·Memᴰ·not-nil m)
+no-frames (k ∷ ls) l m e = go (List·Memᴰ·cases-cons m) (λ n. no-frames ls l n e)
+  where
+    tail : (o : Option TextFrame) → frames ls ≡ none → (o >>= λ f. frames ls >>= λ fs. some (f ∷ fs)) ≡ none
+    tail none q = refl
+    tail (some f) q = rw q
+
+    go : (l ≡ k) ⊎ List·Memᴰ l ls → (List·Memᴰ l ls → frames ls ≡ none) → frames (k ∷ ls) ≡ none
+    go (inl q) ih = let z : frame k ≡ none = ap frame (sym q) ∙ e in rw z
+    go (inr n) ih = tail (frame k) (ih n)
+
+order-is : (fs : List TextFrame) (x : Option Raw) → (tables.ordered fs >>= few) ≡ x → orderOf (some fs) ≡ countsOf x
+unfolding orderOf
+order-is fs x e = ap countsOf e
+
+reads-into : (s : List ℕ) → ReadsInto s (readingOf s)
+unfolding readingOf
+reads-into s =
+    record {
+      refuses = λ k h. ap answered (reads-is s h);
+      table = λ t h. ap answered (reads-is s h);
+      zero = (λ e. by-zero (readText s) refl e, λ h. ap (λ (r : Answer). answered r .refusal) (reads-is s (h .1)));
+      most = small (readText s) refl;
+      decoded = λ o q n. by-lines (lines s) refl o q n;
+      framed = λ ls a l m o q n. by-frame ls a l m (frame l) refl o q n;
+      ordered = λ ls fs a b o q n. by-order ls fs a b (tables.ordered fs >>= few) refl o q n;
+    }
+  where
+    by-zero : (r : Answer) → readText s ≡ r → answered r .refusal ≡ 0 → (t : Table) × Reads s (read t)
+    by-zero (refusal k) q e = absurd (omega (arith, read-number s k q .0))
+    by-zero (read t) q e = (t, subst (Reads s) q (reads s))
+
+    small : (r : Answer) → readText s ≡ r → answered r .refusal ≤ 5
+    small (refusal k) q = read-number s k q .1
+    small (read t) q = omega arith
+
+    -- the number of a refusal
+    number : {k : ℕ} → Reads s (refusal k) → answered (readText s) .refusal ≡ k
+    number h = ap (λ (r : Answer). answered r .refusal) (reads-is s h)
+
+    by-lines : (x : Option (List (List ℕ))) → lines s ≡ x → (o : Decoded) → o ≡ decodedOf x → (decodedNumber o ≡ 0 → ⊥) → answered (readText s) .refusal ≡ decodedNumber o
+    by-lines none a o q n = number (REFUSAL-1 a) ∙ ap decodedNumber (sym q)
+    by-lines (some ls) a o q n = absurd (n (ap decodedNumber q))
+
+    by-frame : (ls : List (List ℕ)) → lines s ≡ some ls → (l : List ℕ) → List·Memᴰ l ls → (x : Option TextFrame) → frame l ≡ x → (o : Framed) → o ≡ framedOf (frame l) → (framedNumber o ≡ 0 → ⊥)
+        → answered (readText s) .refusal ≡ framedNumber o
+    by-frame ls a l m none e o q n = number (REFUSAL-2 a (no-frames ls l m e)) ∙ sym (ap framedNumber (q ∙ ap framedOf e))
+    by-frame ls a l m (some f) e o q n = absurd (n (ap framedNumber (q ∙ ap framedOf e)))
+
+    by-order : (ls : List (List ℕ)) (fs : List TextFrame) → lines s ≡ some ls → frames ls ≡ some fs → (x : Option Raw) → (tables.ordered fs >>= few) ≡ x
+        → (o : Ordered) → o ≡ orderOf (some fs) → (orderedNumber o ≡ 0 → ⊥) → answered (readText s) .refusal ≡ orderedNumber o
+    by-order ls fs a b none e o q n = number (REFUSAL-3 a b e) ∙ sym (ap orderedNumber (q ∙ order-is fs none e))
+    by-order ls fs a b (some r) e o q n = absurd (n (ap orderedNumber (q ∙ order-is fs (some r) e)))
+
+pub reads-of : (s : List ℕ) (x : Reading) → x ≡ readingOf s → ReadsInto s x
+reads-of s x e = subst (ReadsInto s) (sym e) (reads-into s)
+
+-- the writer, of a table's bytes B: their text is the one that reads into them, and 8 is for exactly the bytes that have none
+pub record WritesFrom (B buffer : List ℕ) (x : Wrote) : Type 0 where
+  pub writes : Writes (textIn B) buffer x
+  pub texts : (s : List ℕ) → (textIn B ≡ text s) ↔ (readingOf s ≡ holding B)
+  pub eight : (x .answer .refusal ≡ 8) ↔ ((s : List ℕ) → readingOf s ≡ holding B → ⊥)
+
+pub writes-of : (B buffer : List ℕ) (x : Wrote) → x ≡ writingOf B buffer → WritesFrom B buffer x
+unfolding writingOf
+writes-of B buffer x e = subst (WritesFrom B buffer) (sym e) (record {
+  writes = wrote-writes (textIn B) buffer;
+  texts = λ s. (text-into s B, into-text s B);
+  eight = eight-exactly B buffer;
+})
+
+-- ---- demand 3, of any two runs that were not refused, of accepted programs
 pub demand3-of : (a b : Call) (p : Program (a .text)) (q : Program (b .text)) (x y : Ran) → Returned a x → Returned b y → x .answer .refusal ≡ 0 → y .answer .refusal ≡ 0
-    → Demand3Of a b p q x y
+    → Demand3 a b p q x y
 demand3-of a b p q x y r s e f =
     let d = demand3 a b p q (sym (ap (λ (z : Ran). z .answer .refusal) (r .is)) ∙ e) (sym (ap (λ (z : Ran). z .answer .refusal) (s .is)) ∙ f) in
-    record {
-      reports = (
-        λ z. d .reports .0 (sym (ap reportText (r .is)) ∙ z ∙ ap reportText (s .is)),
-        λ z. ap reportText (r .is) ∙ d .reports .1 z ∙ sym (ap reportText (s .is)),
-      );
-      first = d .first;
-      second = d .second;
-    }
+    subst (λ (z : Ran). Demand3 a b p q z y) (sym (r .is)) (subst (Demand3 a b p q (runCall a)) (sym (s .is)) d)
 
 -- ---- `linerun` reads no more than one character over the longest text: what it writes is the same for the whole input
-no-lines : (s : List ℕ) → 49567 < length s → lines s ≡ none
+no-lines : (s : List ℕ) → textSize < length s → lines s ≡ none
 unfolding lines
 no-lines s h = go (leb 1 (length s)) ∙ refl
   where
-    out : (b : Bool) → b && leb (length s) 49567 ≡ false
-    out true = lt-leb (length s) 49567 h
+    out : (b : Bool) → b && leb (length s) textSize ≡ false
+    out true = lt-leb (length s) textSize h
     out false = refl
 
-    go : (b : Bool) → (guard (b && leb (length s) 49567) >>= λ _. linesFrom s none []) ≡ none
+    go : (b : Bool) → (guard (b && leb (length s) textSize) >>= λ _. linesFrom s none []) ≡ none
     go b = ap (λ (x : Bool). guard x >>= λ _. linesFrom s none []) (out b)
 
-long-read : (s : List ℕ) → 49567 < length s → readText s ≡ refusal 1
-long-read s h =
-    let k : readingOf s .refusal ≡ 1 = ap (λ (r : Reading). r .refusal) (reading-steps s ∙ ap afterLines (no-lines s h)) in
-    answer-refusal s 1 (readingOf s .table .bytes) (record { number = sym k; table = λ z. refl }) (λ z. omega arith)
+long-read : (s : List ℕ) → textSize < length s → readText s ≡ refusal 1
+long-read s h = reads-is s (REFUSAL-1 (no-lines s h))
 
 unread-writes : (s : List ℕ) → readText s ≡ refusal 1 → linerun s ≡ hexText ((8 ∷ 1 ∷ []) ∷ []) ++ []
 unfolding linerun
 unread-writes s e =
     ap₂ {C = List ℕ} _++_ (ap (λ (c : Checked). hexText (verdictLine c ∷ [])) (check-unread s 1 e))
-    (ap (λ (a : Admitted). reportAdmitted a 1000) (admit-unread checked s 1 e))
+    (ap (λ (a : Admitted). reportAdmitted a linerunFuel) (admit-unread checked s 1 e))
 
-pub any-length : (s : List ℕ) → linerun (take 49568 s) ≡ linerun s
-any-length s = go (ltb 49567 (length s)) refl
+pub any-length : (s : List ℕ) → linerun (take (textSize + 1) s) ≡ linerun s
+any-length s = go (ltb textSize (length s)) refl
   where
-    go : (b : Bool) → ltb 49567 (length s) ≡ b → linerun (take 49568 s) ≡ linerun s
+    go : (b : Bool) → ltb textSize (length s) ≡ b → linerun (take (textSize + 1) s) ≡ linerun s
     go true q =
-        let h = ltb-true 49567 (length s) q in
-        let k : 49567 < length (take 49568 s) = omega (arith, length-take-le 49568 s (omega arith)) in
-        unread-writes (take 49568 s) (long-read (take 49568 s) k) ∙ sym (unread-writes s (long-read s h))
-    go false q = ap linerun (take-all 49568 s (omega (arith, ltb-false 49567 (length s) q)))
+        let h = ltb-true textSize (length s) q in
+        let k : textSize < length (take (textSize + 1) s) = omega (arith, length-take-le (textSize + 1) s (omega arith)) in
+        unread-writes (take (textSize + 1) s) (long-read (take (textSize + 1) s) k) ∙ sym (unread-writes s (long-read s h))
+    go false q = ap linerun (take-all (textSize + 1) s (omega (arith, ltb-false textSize (length s) q)))

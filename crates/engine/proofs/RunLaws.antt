@@ -7,16 +7,14 @@ use lib.ListN.{length, take, drop}
 use Rattle.cofj.specs.declared.Session.{Session}
 use Rattle.cofj.specs.declared.Answer as public
 use Rattle.cofj.specs.declared.Verdict.{Verdict}
-use Rattle.cofj.specs.Limits.{standard}
+use Rattle.cofj.specs.Limits.{workSize}
 use Rattle.cofj.specs.Syntax.{Table, Ty}
 use Rattle.cofj.specs.Reading.{Answer, refusal, read, readText}
 use Rattle.cofj.specs.Typing as language
-use Rattle.cofj.specs.Running.{run, runWithin}
-use Rattle.cofj.specs.Report.{reportOf, fuelOf}
 use Rattle.cofj.specs.Calls as calls
-use Rattle.cofj.specs.Calls.{Mode, checked, trial, over, cleared, Ran, Admitted, declined, admitted, afterCheck, admitTable, admit, ended, runAdmitted, runCall, checkText, checkCall}
+use Rattle.cofj.specs.Calls.{Mode, checked, trial, withFuel, cleared, Ran, Admitted, declined, admitted, afterCheck, runAdmitted, runCall, checkCall}
 use Rattle.cofj.proofs.Readable.{read-formed}
-use Rattle.cofj.proofs.Promises.{admit-unread, admit-read, run-standard}
+use Rattle.cofj.proofs.Promises.{check-unread, admit-unread, admit-read}
 use Rattle.classes.specs.declared.chain.FieldType.{FieldType}
 use Rattle.classes.specs.Layout.{layout, Tabled}
 use Rattle.tables.specs.Readings.{readingOf, Into}
@@ -27,14 +25,13 @@ use Rattle.checker.specs.Program.{checkOf}
 use Rattle.checker.specs.Answers.{answerOf, verdictOf}
 use Rattle.checker.proofs.Check.{verdict-on}
 use Rattle.checker.proofs.Programs.{formed-check}
-use Rattle.evaluator.specs.declared.Out.{Out}
-use Rattle.evaluator.specs.Answers.{outIn}
-use Rattle.evaluator.specs.Main as main
+use Rattle.evaluator.specs.declared.report.Reported.{Reported}
+use Rattle.evaluator.specs.Reporting.{RunReports}
 use Rattle.engine.specs.declared.run.Mode as code
 use Rattle.engine.specs.declared.run.Mode.the-variants as modes
-use Rattle.engine.specs.Steps.{ran, noReport, modeOf, stateNumber, Reports, Executes, Runs}
-use Rattle.engine.proofs.StateLaws.{state-admits}
-use Rattle.engine.proofs.ReportLaws.{cleared-part}
+use Rattle.engine.specs.Steps.{ran, noReport, modeOf, stateNumber, Runs}
+use Rattle.engine.proofs.StateLaws.{call, state-admits}
+use Rattle.engine.proofs.WorkLaws.{cleared-part}
 
 -- ---- the check
 pub verdict-main : (c : Checked) (B : List ℕ) (u : FieldType) → c ≡ checkOf B → c ≡ Main u → record { refusal = 0; class = u .class; tag = u .tag } ≡ verdictOf (checkOf B)
@@ -42,14 +39,6 @@ verdict-main c B u e q = ap verdictOf (sym q ∙ e)
 
 pub verdict-refused : (c : Checked) (B : List ℕ) (k : ℕ) → c ≡ checkOf B → c ≡ Refused k → record { refusal = k; class = 0; tag = 0 } ≡ verdictOf (checkOf B)
 verdict-refused c B k e q = ap verdictOf (sym q ∙ e)
-
-pub check-unread : (s : List ℕ) (k : ℕ) → readText s ≡ refusal k → checkText s ≡ language.refused k
-unfolding checkText
-check-unread s k e = rw (e, checkText)
-
-pub check-read : (s : List ℕ) (t : Table) → readText s ≡ read t → checkText s ≡ language.check t
-unfolding checkText
-check-read s t e = rw (e, checkText)
 
 module _ (s : List ℕ) (k : ℕ) (B : List ℕ) (e : Into (readingOf s) k B) where
   pub text-refused : (k ≡ 0 → ⊥) → record { refusal = k; class = 0; tag = 0 } ≡ checkCall s
@@ -61,21 +50,17 @@ module _ (s : List ℕ) (k : ℕ) (B : List ℕ) (e : Into (readingOf s) k B) wh
       q ∙ ap (λ (C : List ℕ). verdictOf (checkOf C)) (t .bytes) ∙ verdict-on s (t .whole) (t .reads)
 
 -- ---- a table's bytes
-pub executes : (T W W′ X : List ℕ) (fuel : ℕ) (R R′ : List ℕ) (o : Out) (a : public.Answer) → main.Runs T W fuel W′ o → Reports (outIn W′ o) R R′ a × (length X ≡ length W′)
-    → Executes T fuel R (length W) R′ (length X) a
-executes T W W′ X fuel R R′ o a r w = record {
-  same = w .1 ∙ r .same;
-  is = λ t h. subst (λ x. Reports x R R′ a) (r .is t h ∙ run-standard t fuel) (w .0);
-}
-
-reports-ended : (t : Table) (n : ℕ) (R R′ W : List ℕ) (a : public.Answer) → Reports (run t n) R R′ a → ran a R′ (cleared W) ≡ ended (run t n) R W
-reports-ended t n R R′ W a h = let p = h .answer in let q = h .text in λ i. ran (p i) (q i) (cleared W)
-
-pub table-ran : (T : List ℕ) (σ : Session) (R R′ W X W′ : List ℕ) (a : public.Answer) → 65536 ≤ length W
-    → Executes T (σ .fuel) R (length (take 65536 W)) R′ (length X) a → W′ ≡ cleared (X ++ drop 65536 W)
-    → Runs trial T σ R W (ran a R′ W′)
-table-ran T σ R R′ W X W′ a h x e = record {
-  is = λ t k. ap (λ (Y : List ℕ). ran a R′ Y) (e ∙ cleared-part W X (x .same) h) ∙ reports-ended t (σ .fuel) R R′ W a (x .is t k);
+pub table-ran : (T : List ℕ) (σ σ′ : Session) (R R′ W X W′ : List ℕ) (r : Reported) → workSize ≤ length W
+    → RunReports T (σ .fuel) (length (take workSize W)) R (length X) R′ r → W′ ≡ cleared (X ++ drop workSize W) → σ′ ≡ withFuel σ (r .fuel)
+    → Runs trial T σ R W (ran (record { refusal = 0; session = σ′; length = r .length }) R′ W′)
+table-ran T σ σ′ R R′ W X W′ r h x e q = record {
+  is = λ s t k.
+      let y = x .is t k in
+      let count = y .count in
+      let text = y .text in
+      let left = q ∙ ap (withFuel σ) (y .left) in
+      let work = e ∙ cleared-part W X (x .same) h in
+      λ i. ran (record { refusal = 0; session = left i; length = count i }) (text i) (work i);
 }
 
 -- ---- and its check
@@ -93,32 +78,33 @@ refused-declined (language.refused n) t k e = ap declined (let z : n ≡ k = cc 
 module _ (T : List ℕ) (σ : Session) (R W : List ℕ) (c : Checked) (e : c ≡ checkOf T) where
   pub checked-ran : (u : FieldType) (x : Ran) → c ≡ Main u → Runs trial T σ R W x → Runs checked T σ R W x
   checked-ran u x q r = record {
-    is = λ t h. r .is t h ∙ sym (ap (λ (y : Admitted). runAdmitted y σ R W) (main-accepted (language.check t) t u (sym q ∙ checks-on T t c h e)));
+    is = λ s t h. r .is s t h ∙ sym (ap (λ (y : Admitted). runAdmitted y (call checked s σ R W)) (main-accepted (language.check t) t u (sym q ∙ checks-on T t c h e)));
   }
 
   pub checked-refused : (k : ℕ) (a : public.Answer) → c ≡ Refused k → a ≡ noReport k σ → Runs checked T σ R W (ran a R W)
   checked-refused k a q p = record {
-    is = λ t h. ap (λ (y : public.Answer). ran y R W) p ∙ sym (ap (λ (y : Admitted). runAdmitted y σ R W) (refused-declined (language.check t) t k (sym q ∙ checks-on T t c h e)));
+    is = λ s t h. ap (λ (y : public.Answer). ran y R W) p
+        ∙ sym (ap (λ (y : Admitted). runAdmitted y (call checked s σ R W)) (refused-declined (language.check t) t k (sym q ∙ checks-on T t c h e)));
   }
 
 -- ---- a text
 module _ (m : Mode) (s : List ℕ) (σ : Session) (R W : List ℕ) (k : ℕ) (g : k ≡ stateNumber (σ .active) (length R) (length W)) (none : k ≡ 0) (j : ℕ) (B : List ℕ) (e : Into (readingOf s) j B) where
-  pub run-unread : (a : public.Answer) → (j ≡ 0 → ⊥) → a ≡ noReport j σ → ran a R W ≡ runCall m s σ R W
+  pub run-unread : (a : public.Answer) → (j ≡ 0 → ⊥) → a ≡ noReport j σ → ran a R W ≡ runCall (call m s σ R W)
   run-unread a n q =
       state-admits m s σ R W k g (ran a R W) none
-      (ap (λ (y : public.Answer). ran y R W) q ∙ sym (ap (λ (y : Admitted). runAdmitted y σ R W) (admit-unread m s j (answer-refusal s j B e n))))
+      (ap (λ (y : public.Answer). ran y R W) q ∙ sym (ap (λ (y : Admitted). runAdmitted y (call m s σ R W)) (admit-unread m s j (answer-refusal s j B e n))))
 
-  run-read : (x : Ran) → j ≡ 0 → Runs m B σ R W x → x ≡ runCall m s σ R W
+  run-read : (x : Ran) → j ≡ 0 → Runs m B σ R W x → x ≡ runCall (call m s σ R W)
   run-read x z h =
       let t = answer-table s j B e z in
       state-admits m s σ R W k g x none
-      (h .is (t .whole) (record { formed = read-formed s (t .whole) (t .reads); bytes = t .bytes })
-      ∙ sym (ap (λ (y : Admitted). runAdmitted y σ R W) (admit-read m s (t .whole) (t .reads))))
+      (h .is s (t .whole) (record { formed = read-formed s (t .whole) (t .reads); bytes = t .bytes })
+      ∙ sym (ap (λ (y : Admitted). runAdmitted y (call m s σ R W)) (admit-read m s (t .whole) (t .reads))))
 
 -- by the code's mode
 module _ (c : code.Mode) (s : List ℕ) (σ : Session) (R W : List ℕ) (k : ℕ) (g : k ≡ stateNumber (σ .active) (length R) (length W)) (none : k ≡ 0) (j : ℕ) (B : List ℕ) (e : Into (readingOf s) j B) where
-  pub run-checked : (x : Ran) → j ≡ 0 → c ≡ modes.Checked → Runs checked B σ R W x → x ≡ runCall (modeOf c) s σ R W
-  run-checked x z q h = run-read checked s σ R W k g none j B e x z h ∙ sym (ap (λ (y : code.Mode). runCall (modeOf y) s σ R W) q)
+  pub run-checked : (x : Ran) → j ≡ 0 → c ≡ modes.Checked → Runs checked B σ R W x → x ≡ runCall (call (modeOf c) s σ R W)
+  run-checked x z q h = run-read checked s σ R W k g none j B e x z h ∙ sym (ap (λ (y : code.Mode). runCall (call (modeOf y) s σ R W)) q)
 
-  pub run-trial : (x : Ran) → j ≡ 0 → c ≡ modes.Trial → Runs trial B σ R W x → x ≡ runCall (modeOf c) s σ R W
-  run-trial x z q h = run-read trial s σ R W k g none j B e x z h ∙ sym (ap (λ (y : code.Mode). runCall (modeOf y) s σ R W) q)
+  pub run-trial : (x : Ran) → j ≡ 0 → c ≡ modes.Trial → Runs trial B σ R W x → x ≡ runCall (call (modeOf c) s σ R W)
+  run-trial x z q h = run-read trial s σ R W k g none j B e x z h ∙ sym (ap (λ (y : code.Mode). runCall (call (modeOf y) s σ R W)) q)

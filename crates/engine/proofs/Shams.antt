@@ -1,46 +1,43 @@
 -- Document 01's shams, refuted: a function that meets the contract of a public call does not answer as the sham does.
 -- Each by a call that the sham would answer otherwise. The table of them, with the edits of the code, is docs/SHAMS.md.
-use Prim.Native.Nat.{ℕ, _≤_, _<_}
+use Prim.Native.Nat.{ℕ, _-_, _≤_, _<_}
 use Prim.Native.String.{String}
 use native.Mathlib.Omega.{arith}
 use mathlib.Core.Path.{_≡_, refl, sym, ap, _∙_}
 use mathlib.Core.Bool.{true, false, false≢true}
 use mathlib.Core.List.{List, [], _∷_}
-use lib.ListN.{length, getD, drop, length-replicate}
-use lib.Seq.{take-append-seam}
+use lib.ListN.{length, getD, length-replicate}
 use Rattle.cofj.specs.declared.Session.{Session}
 use Rattle.cofj.specs.declared.Closing.{Closing}
 use Rattle.cofj.specs.declared.Verdict.{Verdict}
 use Rattle.cofj.specs.Bytes.{bytes}
+use Rattle.cofj.specs.Limits.{reportSize, workSize}
 use Rattle.cofj.specs.Rows.{row-a, row-f, row-i}
-use Rattle.cofj.specs.Running.{run}
+use Rattle.cofj.specs.Values.{Graph}
+use Rattle.cofj.specs.Running.{Outcome, value, stopped, run}
 use Rattle.cofj.specs.Report.{reportOf}
-use Rattle.cofj.specs.Calls.{Mode, checked, trial, openSession, closeSession, linerun, zeros, over, Ran, Admitted, declined, admitted, admit, runAdmitted, reportAdmitted, checkText, checkCall}
-use Rattle.cofj.specs.Promises.{Call, called, reportText}
-use Rattle.cofj.proofs.Promises.{refusals}
-use Rattle.engine.proofs.StateLaws.{lent-run}
+use Rattle.cofj.specs.Calls.{Mode, checked, trial, openSession, closeSession, linerun, zeros, Call, Ran, Admitted, declined, admitted, admit, ended, runAdmitted, runCall, reportAdmitted, checkText, checkCall}
+use Rattle.cofj.specs.Promises.{reportText, Lent}
+use Rattle.cofj.proofs.Promises.{refusals, by-text, ends-in}
 
 -- a call with buffers just long enough
 abbrev pub calling : Mode → String → ℕ → Call
-calling m s n = record { mode = m; text = bytes s; session = openSession n; report = zeros 544; work = zeros 65536 }
+calling m s n = record { mode = m; text = bytes s; session = openSession n; report = zeros reportSize; work = zeros workSize }
 
 zeros-length : (n : ℕ) → length (zeros n) ≡ n
 unfolding zeros
 zeros-length n = length-replicate n 0
 
-admitted-text : (x : Admitted) (n : ℕ) (R W : List ℕ) → reportText (runAdmitted x (openSession n) R W) ≡ reportAdmitted x n
-unfolding over
-admitted-text (declined k) n R W = refl
-admitted-text (admitted t) n R W = take-append-seam (reportOf (run t n)) (drop (length (reportOf (run t n))) R)
+admitted-text : (x : Admitted) (a : Call) → reportText (runAdmitted x a) ≡ reportAdmitted x (a .session .fuel)
+admitted-text (declined k) a = refl
+admitted-text (admitted t) a = ends-in (run t (a .session .fuel)) a (ended (run t (a .session .fuel)) a) refl .report
 
-lent : (m : Mode) (s : String) (n : ℕ) → called (calling m s n) ≡ runAdmitted (admit m (bytes s)) (openSession n) (zeros 544) (zeros 65536)
-lent m s n =
-    lent-run m (bytes s) (openSession n) (zeros 544) (zeros 65536) refl
-    (let l = zeros-length 544 in omega arith) (let l = zeros-length 65536 in omega arith)
+lent : (m : Mode) (s : String) (n : ℕ) → Lent (calling m s n)
+lent m s n = record { active = refl; report = omega (arith, zeros-length reportSize); work = omega (arith, zeros-length workSize) }
 
 -- what such a call reports
-reports : (m : Mode) (s : String) (n : ℕ) → reportText (called (calling m s n)) ≡ reportAdmitted (admit m (bytes s)) n
-reports m s n = ap reportText (lent m s n) ∙ admitted-text (admit m (bytes s)) n (zeros 544) (zeros 65536)
+reports : (m : Mode) (s : String) (n : ℕ) → reportText (runCall (calling m s n)) ≡ reportAdmitted (admit m (bytes s)) n
+reports m s n = ap reportText (by-text (calling m s n) (admit m (bytes s)) (lent m s n) refl) ∙ admitted-text (admit m (bytes s)) (calling m s n)
 
 -- ---- the calls
 -- case A
@@ -72,7 +69,7 @@ text-u = row-f .text
 
 -- a call whose report buffer is a byte too short
 abbrev short : String → Call
-short s = record { mode = checked; text = bytes s; session = openSession 0; report = zeros 543; work = zeros 65536 }
+short s = record { mode = checked; text = bytes s; session = openSession 0; report = zeros (reportSize - 1); work = zeros workSize }
 
 checks-a : checkCall (bytes text-a) ≡ record { refusal = 0; class = 1; tag = 3 }
 unfolding checkText bytes
@@ -115,7 +112,24 @@ refuses-all f meets sham = sham (bytes text-a) (ap (λ (v : Verdict). v .refusal
 apart : (k : ℕ) (s t : List ℕ) → (getD s k 0 ≡ getD t k 0 → ⊥) → s ≡ t → ⊥
 apart k s t n e = n (ap (λ (x : List ℕ). getD x k 0) e)
 
-module _ (f : Call → Ran) (meets : (a : Call) → f a ≡ called a) where
+-- the report of every stop as it should be, and the text r for every value
+abbrev pub fixed : List ℕ → Outcome Graph → List ℕ
+fixed r (value v n) = r
+fixed r (stopped l n) = reportOf (stopped l n)
+
+abbrev pub fixedFor : List ℕ → Admitted → ℕ → List ℕ
+fixedFor r (declined k) n = []
+fixedFor r (admitted t) n = fixed r (run t n)
+
+fixed-a : (r : List ℕ) → fixedFor r (admit checked (bytes text-a)) 3 ≡ r
+unfolding admit run bytes
+fixed-a r = refl
+
+fixed-i : (r : List ℕ) → fixedFor r (admit checked (bytes text-i)) 3 ≡ r
+unfolding admit run bytes
+fixed-i r = refl
+
+module _ (f : Call → Ran) (meets : (a : Call) → f a ≡ runCall a) where
   says : (m : Mode) (s : String) (n : ℕ) (r : List ℕ) → reportAdmitted (admit m (bytes s)) n ≡ r → reportText (f (calling m s n)) ≡ r
   says m s n r e = ap reportText (meets (calling m s n)) ∙ reports m s n ∙ e
 
@@ -125,6 +139,13 @@ module _ (f : Call → Ran) (meets : (a : Call) → f a ≡ called a) where
   one-report r sham =
       apart 5 (bytes "0500010100\n") (bytes "0500030101\n0501050100\n") (λ z. omega arith)
       (sym (says checked text-a 3 _ report-a) ∙ sham checked text-a 3 ∙ sym (sham checked text-i 3) ∙ says checked text-i 3 _ report-i)
+
+  -- every value is one fixed ring, though every stop is reported as it should be
+  pub one-value : (r : List ℕ) → ((m : Mode) (s : String) (n : ℕ) → reportText (f (calling m s n)) ≡ fixedFor r (admit m (bytes s)) n) → ⊥
+  unfolding bytes
+  one-value r sham =
+      apart 5 (bytes "0500010100\n") (bytes "0500030101\n0501050100\n") (λ z. omega arith)
+      (sym (says checked text-a 3 _ report-a) ∙ sham checked text-a 3 ∙ fixed-a r ∙ sym (sham checked text-i 3 ∙ fixed-i r) ∙ says checked text-i 3 _ report-i)
 
   -- main's first call is evaluated and the rest invented: the report is the same whatever follows that call
   pub first-call-only : reportText (f (calling checked text-p 1)) ≡ reportText (f (calling checked text-q 1)) → ⊥
@@ -154,13 +175,13 @@ module _ (f : Call → Ran) (meets : (a : Call) → f a ≡ called a) where
   pub trial-checks : f (calling trial text-u 9) .answer .refusal ≡ 6 → ⊥
   unfolding admit bytes
   trial-checks sham =
-      let e : f (calling trial text-u 9) .answer .refusal ≡ 0 = ap (λ (r : Ran). r .answer .refusal) (meets (calling trial text-u 9) ∙ lent trial text-u 9) in
+      let e : f (calling trial text-u 9) .answer .refusal ≡ 0 = ap (λ (r : Ran). r .answer .refusal) (meets (calling trial text-u 9) ∙ by-text (calling trial text-u 9) (admit trial (bytes text-u)) (lent trial text-u 9) refl) in
       omega (arith, e, sham)
 
   -- a report buffer of 543 bytes is taken
   pub short-report : f (short text-o) .answer .refusal ≡ 0 → ⊥
   short-report sham =
-      let h : length (zeros 543) < 544 = let l = zeros-length 543 in omega arith in
+      let h : length (zeros (reportSize - 1)) < reportSize = let l = zeros-length (reportSize - 1) in omega arith in
       let e : f (short text-o) .answer .refusal ≡ 12 = ap (λ (r : Ran). r .answer .refusal) (meets (short text-o) ∙ refusals (short text-o) .shortReport refl h) in
       omega (arith, e, sham)
 

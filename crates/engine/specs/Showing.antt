@@ -11,6 +11,10 @@ use Rattle.cofj.specs.Limits.{reportSize, linerunFuel}
 use Rattle.cofj.specs.Calls.{checked, over, zeros, admit, reportAdmitted, linerun}
 use Rattle.engine.specs.declared.show.Shown.{Shown}
 
+-- room for a verdict line and a report
+abbrev pub shownSize : ℕ
+shownSize = 560
+
 -- the bytes of a verdict's line
 abbrev pub verdictBytes : Verdict → List ℕ
 verdictBytes v = elim (eqb (v .refusal) 0) [ true ↦ 8 ∷ v .refusal ∷ v .class ∷ v .tag ∷ [] | false ↦ 8 ∷ v .refusal ∷ [] ]
@@ -32,7 +36,7 @@ pub record PutReport (s d₀ d : List ℕ) (t : ℕ) : Type 0 where
 
 -- these characters, zeros after them
 abbrev pub shownOf : List ℕ → Shown
-shownOf l = record { length = length l; bytes = over l (zeros 560) }
+shownOf l = record { length = length l; bytes = over l (zeros shownSize) }
 
 pub record Shows (s : List ℕ) (r : Shown) : Type 0 where
   pub is : r ≡ shownOf (linerun s)

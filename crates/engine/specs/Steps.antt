@@ -4,19 +4,12 @@ use mathlib.Core.Path.{_≡_}
 use mathlib.Core.Bool.{Bool, true, false}
 use mathlib.Core.List.{List}
 use lib.Dec.{ltb}
-use lib.ListN.{length}
 use Rattle.cofj.specs.declared.Session.{Session}
 use Rattle.cofj.specs.declared.Answer.{Answer}
 use Rattle.cofj.specs.Limits.{reportSize, workSize}
 use Rattle.cofj.specs.Syntax.{Table}
-use Rattle.cofj.specs.Values.{Graph}
-use Rattle.cofj.specs.Running as language
-use Rattle.cofj.specs.Running.{Outcome}
-use Rattle.cofj.specs.Report.{reportOf, fuelOf, stopByte}
 use Rattle.cofj.specs.Calls as calls
-use Rattle.cofj.specs.Calls.{checked, trial, openSession, over, Ran, admitTable, runAdmitted}
-use Rattle.evaluator.specs.declared.Stop.{Stop}
-use Rattle.evaluator.specs.Answers.{stopOf}
+use Rattle.cofj.specs.Calls.{checked, trial, Ran, admitTable, runAdmitted}
 use Rattle.classes.specs.Layout.{Tabled}
 use Rattle.engine.specs.declared.run.Mode.{Mode}
 use Rattle.engine.specs.declared.run.Mode.the-variants.{Checked, Trial}
@@ -43,23 +36,6 @@ numberBy true false false = 0
 unfoldable pub stateNumber : Bool → ℕ → ℕ → ℕ
 stateNumber active report work = numberBy active (ltb report reportSize) (ltb work workSize)
 
-abbrev pub stopNumber : Stop → ℕ
-stopNumber s = stopByte (stopOf s)
-
--- the report of what a run stopped at
-pub record StopReports (s : Stop) (R R′ : List ℕ) : Type 0 where
-  pub text : (n : ℕ) → R′ ≡ over (reportOf (language.stopped (stopOf s) n)) R
-
--- the report of an outcome in front of what was there, and the answer
-pub record Reports (o : Outcome Graph) (R R′ : List ℕ) (a : Answer) : Type 0 where
-  pub answer : a ≡ record { refusal = 0; session = openSession (fuelOf o); length = length (reportOf o) }
-  pub text : R′ ≡ over (reportOf o) R
-
--- main of the table whose bytes T are is run and reported; n and n′ are the lengths of the work buffer
-pub record Executes (T : List ℕ) (fuel : ℕ) (R : List ℕ) (n : ℕ) (R′ : List ℕ) (n′ : ℕ) (a : Answer) : Type 0 where
-  pub same : n′ ≡ n
-  pub is : (t : Table) → Tabled T t → Reports (language.run t fuel) R R′ a
-
--- what a run of the table whose bytes T are gives in a mode
+-- what a run of the table whose bytes T are gives in a mode, whatever its text was
 pub record Runs (m : calls.Mode) (T : List ℕ) (σ : Session) (R W : List ℕ) (x : Ran) : Type 0 where
-  pub is : (t : Table) → Tabled T t → x ≡ runAdmitted (admitTable m t) σ R W
+  pub is : (s : List ℕ) (t : Table) → Tabled T t → x ≡ runAdmitted (admitTable m t) (record { mode = m; text = s; session = σ; report = R; work = W })

@@ -1,8 +1,8 @@
 // The engine's public calls. Each has one contract, by the language's definition of the call, and asks nothing of its caller.
-// Not here: what they are made of (tables, checker, evaluator, values), the program `linerun`.
+// Not here: what they are made of (tables, checker, evaluator), the program `linerun`.
 pub mod session; // opening and closing
 pub mod check; // the check of a text
-mod report; // the report of an outcome
+mod work; // the work buffer cleared
 pub mod run; // the checked run and the trial run
 pub mod show; // what `linerun` writes for a text
 pub mod exports; // the same calls for C and Rust

@@ -1,21 +1,22 @@
 // The checked run and the trial run: state, text, types where they are asked for, then main.
 // Not here: evaluation (evaluator).
-use crate::report::clear;
-use crate::report::report_outcome;
+use crate::session::WORK;
 use crate::session::state_refusal;
+use crate::session::with_fuel;
+use crate::work::clear;
 use checker::program::Checked;
 use checker::program::check;
 use classes::places::SIZE;
 use cofj::Answer;
 use cofj::Session;
-use evaluator::run::run;
+use evaluator::report::run_report;
 use tables::read::read_into;
 ghost use Prim.Native.Nat.{ℕ, _≤_};
 ghost use mathlib.Core.Path.{_≡_};
 ghost use lib.ListN.{length};
 ghost use Rattle.cofj.specs.Limits.{reportSize, workSize};
 ghost use Rattle.cofj.specs.Calls.{checked, trial, Ran, runCall};
-ghost use Rattle.engine.specs.Steps.{ran, noReport, modeOf, Executes, Runs};
+ghost use Rattle.engine.specs.Steps.{ran, noReport, modeOf, Runs};
 
 // Whether types are checked first.
 enum Mode {
@@ -34,24 +35,19 @@ fn refuse(refusal: u8, session: Session) -> Answer
     }
 }
 
-// Runs main of a table's bytes and writes the report. What it leaves in `work` is open.
-fn execute(t: &[u8; SIZE], fuel: u16, out: &mut [u8], work: &mut [u8]) -> Answer
-    requires { ⌜ (reportSize ≤ length (now out)) × (65520 ≤ length (now work)) ⌝ }
-    ensures { λ r. ⌜ Executes (now (t .entry)) fuel (now (out .entry)) (length (now (work .entry))) (now (out .exit)) (length (now (work .exit))) r ⌝ }
-{
-    let o = run(t, work, fuel);
-    report_outcome(work, o, out)
-}
-
-// The same in the first 65,536 work bytes, which are zero after.
+// Runs main of a table's bytes in the first 65,536 work bytes, which are zero after, and writes the report.
 fn run_table(t: &[u8; SIZE], session: Session, out: &mut [u8], work: &mut [u8]) -> Answer
     requires { ⌜ (reportSize ≤ length (now out)) × (workSize ≤ length (now work)) ⌝ }
     ensures { λ r. ⌜ Runs trial (now (t .entry)) session (now (out .entry)) (now (work .entry)) (ran r (now (out .exit)) (now (work .exit))) ⌝ }
 {
     let fuel = session.fuel;
-    let r = execute(t, fuel, out, &mut work[..65536]);
+    let r = run_report(t, &mut work[..WORK], fuel, out);
     clear(work);
-    r
+    Answer {
+        refusal: 0,
+        session: with_fuel(session, r.fuel),
+        length: r.length,
+    }
 }
 
 // The same after the check of types.
@@ -68,7 +64,7 @@ fn check_and_run(t: &[u8; SIZE], session: Session, out: &mut [u8], work: &mut [u
 
 // A run of a text.
 fn run_text(mode: Mode, text: &[u8], session: Session, out: &mut [u8], work: &mut [u8]) -> Answer
-    ensures { λ r. ⌜ ran r (now (out .exit)) (now (work .exit)) ≡ runCall (modeOf mode) (now (text .entry)) session (now (out .entry)) (now (work .entry)) ⌝ }
+    ensures { λ r. ⌜ ran r (now (out .exit)) (now (work .exit)) ≡ runCall (record { mode = modeOf mode; text = now (text .entry); session = session; report = now (out .entry); work = now (work .entry) }) ⌝ }
 {
     let active = session.active;
     let k = state_refusal(active, out.len(), work.len());
@@ -88,14 +84,14 @@ fn run_text(mode: Mode, text: &[u8], session: Session, out: &mut [u8], work: &mu
 
 // The checked run of a text.
 pub fn checked_run(text: &[u8], session: Session, out: &mut [u8], work: &mut [u8]) -> Answer
-    ensures { λ r. ⌜ ran r (now (out .exit)) (now (work .exit)) ≡ runCall checked (now (text .entry)) session (now (out .entry)) (now (work .entry)) ⌝ }
+    ensures { λ r. ⌜ ran r (now (out .exit)) (now (work .exit)) ≡ runCall (record { mode = checked; text = now (text .entry); session = session; report = now (out .entry); work = now (work .entry) }) ⌝ }
 {
     run_text(Mode::Checked, text, session, out, work)
 }
 
 // The trial run of a text: no types are asked for.
 pub fn trial_run(text: &[u8], session: Session, out: &mut [u8], work: &mut [u8]) -> Answer
-    ensures { λ r. ⌜ ran r (now (out .exit)) (now (work .exit)) ≡ runCall trial (now (text .entry)) session (now (out .entry)) (now (work .entry)) ⌝ }
+    ensures { λ r. ⌜ ran r (now (out .exit)) (now (work .exit)) ≡ runCall (record { mode = trial; text = now (text .entry); session = session; report = now (out .entry); work = now (work .entry) }) ⌝ }
 {
     run_text(Mode::Trial, text, session, out, work)
 }

@@ -3,7 +3,7 @@
 use cofj::Closing;
 use cofj::Session;
 ghost use mathlib.Core.Path.{_≡_};
-ghost use Rattle.cofj.specs.Calls.{openSession, closeSession};
+ghost use Rattle.cofj.specs.Calls.{openSession, withFuel, closeSession};
 ghost use Rattle.engine.specs.Steps.{stateNumber};
 
 // How many bytes a report buffer has at least, and a work buffer.
@@ -18,6 +18,15 @@ pub fn open_session(fuel: u16) -> Session
     Session { active: true, fuel }
 }
 
+// The session with this fuel left.
+pub fn with_fuel(session: Session, fuel: u16) -> Session
+    ensures { λ r. ⌜ r ≡ withFuel session fuel ⌝ }
+{
+    let mut left = session;
+    left.fuel = fuel;
+    left
+}
+
 // A closed session has no fuel; closing it again is 11.
 pub fn close_session(session: Session) -> Closing
     ensures { λ r. ⌜ r ≡ closeSession session ⌝ }
@@ -29,12 +38,12 @@ pub fn close_session(session: Session) -> Closing
             session,
         };
     }
+    let mut closed = session;
+    closed.active = false;
+    closed.fuel = 0;
     Closing {
         refusal: 0,
-        session: Session {
-            active: false,
-            fuel: 0,
-        },
+        session: closed,
     }
 }
 

@@ -2,6 +2,7 @@
 // Not here: standard input and output.
 use crate::check::check_text;
 use crate::run::checked_run;
+use crate::session::WORK;
 use crate::session::open_session;
 use cofj::Verdict;
 use lineform::write::put_line;
@@ -9,20 +10,23 @@ ghost use Prim.Native.Nat.{ℕ, _≤_};
 ghost use mathlib.Core.Path.{_≡_};
 ghost use lib.ListN.{length};
 ghost use Rattle.cofj.specs.Limits.{reportSize, workSize};
-ghost use Rattle.engine.specs.Showing.{PutVerdict, PutReport, Shows};
+ghost use Rattle.engine.specs.Showing.{shownSize, PutVerdict, PutReport, Shows};
 
 // The fuel that `linerun` opens with.
 const FUEL: u16 = 1000;
 
+// Room for a verdict line and a report.
+pub const SHOWN: usize = 560;
+
 // Characters, and how many of them count; the others are zero.
 pub struct Shown {
     pub length: usize,
-    pub bytes: [u8; 560],
+    pub bytes: [u8; SHOWN],
 }
 
 // The verdict line at the front of `out`. Answers with the place after it.
 fn put_verdict(v: Verdict, out: &mut [u8]) -> usize
-    requires { ⌜ 560 ≤ length (now out) ⌝ }
+    requires { ⌜ shownSize ≤ length (now out) ⌝ }
     ensures { λ r. ⌜ PutVerdict v (now (out .entry)) (now (out .exit)) r ⌝ }
 {
     let k = v.refusal;
@@ -48,10 +52,10 @@ fn put_report(text: &[u8], out: &mut [u8], work: &mut [u8]) -> usize
 pub fn show(text: &[u8]) -> Shown
     ensures { λ r. ⌜ Shows (now (text .entry)) r ⌝ }
 {
-    let mut bytes = [0u8; 560];
+    let mut bytes = [0u8; SHOWN];
     let v = check_text(text);
     let at = put_verdict(v, &mut bytes);
-    let mut work = [0u8; 65536];
+    let mut work = [0u8; WORK];
     let n = put_report(text, &mut bytes[at..], &mut work);
     Shown {
         length: at + n,

@@ -19,4 +19,5 @@ pub mod FieldLaws
 pub mod CallSteps
 pub mod FallLaws
 pub mod RunLaws
+pub mod ReportLaws
 pub mod Promise

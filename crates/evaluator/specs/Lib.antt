@@ -9,3 +9,4 @@ pub mod Calling
 pub mod Preset
 pub mod Steps
 pub mod Main
+pub mod Reporting

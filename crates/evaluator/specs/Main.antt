@@ -1,5 +1,5 @@
 -- What a run of main answers.
--- Not here: its report.
+-- Not here: its report (Reporting).
 use Prim.Native.Nat.{ℕ}
 use mathlib.Core.Path.{_≡_}
 use mathlib.Core.List.{List}

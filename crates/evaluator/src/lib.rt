@@ -1,5 +1,5 @@
 // Running a program from its class table's bytes, with values in blocks of the work buffer.
-// Not here: the table (classes), what is done with values (values, maker), the report of a run.
+// Not here: the table (classes), what is done with values (values, maker), what a call answers (engine).
 pub mod frame; // frames: what the variables of a body hold
 pub mod spot; // where an evaluation stands
 pub mod trace; // the open calls and the fuel left
@@ -9,6 +9,7 @@ pub mod fields; // fields of fields
 pub mod eval; // running an expression
 pub mod call; // running a call
 pub mod run; // running main
+pub mod report; // running main and reporting it: what other crates ask for
 
 // Why a run ends without a value.
 pub enum Stop {

@@ -1,5 +1,5 @@
 // Running main: no variables, no open calls, the first block after the one with the objects without fields.
-// Not here: the report of its outcome.
+// Not here: the report of its outcome (report).
 use crate::Done;
 use crate::Out;
 use crate::eval::eval;
@@ -35,7 +35,7 @@ pub(crate) fn out_of(o: Done, fuel: u16) -> Out
 }
 
 // The outcome of main with this fuel. The first block of the work buffer is for the objects without fields.
-pub fn run(t: &[u8; SIZE], work: &mut [u8], fuel: u16) -> Out
+pub(crate) fn run(t: &[u8; SIZE], work: &mut [u8], fuel: u16) -> Out
     requires { ⌜ workRoom ≤ length (now work) ⌝ }
     ensures { λ o. ⌜ Runs (now (t .entry)) (now (work .entry)) fuel (now (work .exit)) o ⌝ }
 {

@@ -9,10 +9,9 @@ use lib.ListN.{length, getElem?, length-map, length-append, List·getD-append, L
 use lib.Seq.{getD-append-add}
 use Rattle.cofj.specs.Partial.{_>>=_}
 use Rattle.cofj.specs.Values.{Ref, obj, mark, undet, Node, node, Graph, graph, renameNode, nodeAt, refsAt, canon, make}
-use Rattle.cofj.specs.Unfolding.{object, child, follow, Same, InRange}
+use Rattle.cofj.specs.Unfolding.{object, child, follow, Same, InRange, AllWhole}
 use Rattle.cofj.proofs.Trees.{renamed-same, same-cls, same-count, same-child, same-rename}
 use Rattle.cofj.proofs.Canon.{rename-id}
-use Rattle.cofj.proofs.Operations.{AllWhole}
 use Rattle.canon.specs.Layout.{Distinct}
 use Rattle.values.proofs.Trees.{in-larger, made-as}
 use Rattle.maker.specs.Adding.{roots}

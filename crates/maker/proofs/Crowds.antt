@@ -10,8 +10,8 @@ use mathlib.Core.Option.{Option, none, some, Option·none-ne-some}
 use lib.ListN.{length, getD, getElem?}
 use Rattle.cofj.specs.Partial.{_>>=_}
 use Rattle.cofj.specs.Values.{Ref, obj, mark, undet, Node, Graph, graph, nodeAt, refsAt, make}
-use Rattle.cofj.specs.Unfolding.{object, opened, unknown, child, follow, Same, SameTree, InRange, Whole}
-use Rattle.cofj.proofs.Operations.{AllWhole, make-field}
+use Rattle.cofj.specs.Unfolding.{object, opened, unknown, child, follow, Same, SameTree, InRange, Whole, AllWhole}
+use Rattle.cofj.proofs.Operations.{make-field}
 use Rattle.canon.specs.Layout.{Distinct}
 use Rattle.maker.specs.Sorting.{Fresh}
 use Rattle.maker.specs.Crowds.{In, Within, Crowd}

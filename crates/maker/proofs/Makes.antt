@@ -8,9 +8,8 @@ use lib.ListN.{length, getD, take, length-map}
 use lib.Seq.{length-take-le}
 use borrow.Author.Tests.{le-leb}
 use Rattle.cofj.specs.Values.{Graph, make, canon}
-use Rattle.cofj.specs.Unfolding.{SameTree, Whole}
+use Rattle.cofj.specs.Unfolding.{SameTree, Whole, AllWhole}
 use Rattle.cofj.proofs.Canon.{canon-same, canon-whole, canon-length}
-use Rattle.cofj.proofs.Operations.{AllWhole}
 use Rattle.values.specs.declared.ValueRef.{ValueRef}
 use Rattle.values.specs.declared.ValueRef.the-variants.{Object, Mark, Undetermined}
 use Rattle.maker.specs.declared.Slot.{Slot}

@@ -13,11 +13,11 @@ use lib.Seq.{getD-set-same, getD-set-other}
 use borrow.Author.Tests.{le-ltb, eq-eqb, ne-eqb, eqb-true, eqb-false}
 use Rattle.cofj.specs.Partial.{_>>=_}
 use Rattle.cofj.specs.Values.{Ref, obj, mark, undet, Node, node, graph, nodeAt, refsAt, colours, canon, bind, close}
-use Rattle.cofj.specs.Unfolding.{object, opened, unknown, labelAt, child, follow, Same, InRange, Whole}
+use Rattle.cofj.specs.Unfolding.{object, opened, unknown, labelAt, child, follow, Same, InRange, Whole, followBound}
 use Rattle.cofj.proofs.Trees.{same-child, same-cls, same-count}
 use Rattle.cofj.proofs.Canon.{canon-length}
 use Rattle.cofj.proofs.Unique.{canon-canon}
-use Rattle.cofj.proofs.Operations.{boundNode, boundNodes, followBound, bound-follow, bound-whole}
+use Rattle.cofj.proofs.Operations.{boundNode, boundNodes, bound-follow, bound-whole}
 use Rattle.canon.specs.Layout.{refOf, codeOf, nodeIn, nodesIn, Packed, alikeAt, Distinct, Block, Inside, objectsIn, graphAt, countIn, reachIn, ended}
 use Rattle.canon.specs.Tables.{Carried}
 use Rattle.canon.specs.Rounds.{Raw}

@@ -9,12 +9,12 @@ use lib.Dec.{eqb}
 use lib.ListN.{length, getElem?}
 use Rattle.cofj.specs.Partial.{_>>=_}
 use Rattle.cofj.specs.Values.{Ref, obj, mark, undet, Node, Graph, graph, refsAt, canon, select, selected, bind, close, make}
-use Rattle.cofj.specs.Unfolding.{object, opened, unknown, child, follow, Same, SameTree, InRange, Whole}
+use Rattle.cofj.specs.Unfolding.{object, opened, unknown, child, follow, Same, SameTree, InRange, Whole, followBound, AllWhole}
 use Rattle.cofj.proofs.Trees.{same-child}
 use Rattle.cofj.proofs.Canon.{number, canon-is, canon-same, canon-whole}
 use Rattle.cofj.proofs.Unique.{same-canon, canon-canon}
 use Rattle.cofj.proofs.Numbering.{canonical-root}
-use Rattle.cofj.proofs.Operations.{at-ref, followBound, boundNodes, bound-follow, bound-whole, AllWhole, laid, laid-whole, make-top, make-field, make-whole}
+use Rattle.cofj.proofs.Operations.{at-ref, boundNodes, bound-follow, bound-whole, laid, laid-whole, make-top, make-field, make-whole}
 
 child-in : (g : Graph) → Whole g → (r : Ref) (f : ℕ) (s : Ref) → child (g .nodes) r f ≡ some s → InRange (length (g .nodes)) s
 child-in g w (obj i) f s e = w .inner i f s e

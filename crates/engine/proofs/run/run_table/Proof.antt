@@ -3,16 +3,17 @@ use Rattle.engine.proofs.run.run_table.Statement.{statement}
 use Rattle.engine.proofs.run.run_table.Tie as tie
 use Rattle.engine.proofs.run.run_table.Reads as reads
 use Rattle.engine.proofs.run.run_table.Lts as lts
-use Rattle.engine.proofs.report.clear.Reads as clear-reads
-use Rattle.engine.proofs.run.execute.Reads as execute-reads
-use Rattle.engine.proofs.ReportLaws as reports
+use Rattle.engine.proofs.work.clear.Reads as clear-reads
+use Rattle.engine.proofs.session.with_fuel.Reads as with-fuel-reads
+use Rattle.evaluator.proofs.report.run_report.Reads as run-report-reads
+use Rattle.engine.proofs.WorkLaws as works
 use Rattle.engine.proofs.RunLaws as laws
 
-slice-aggregate-execute : tie.Need-slice-aggregate-execute
-slice-aggregate-execute c = search reports.front-count
+slice-aggregate-run-report : tie.Need-slice-aggregate-run-report
+slice-aggregate-run-report c = search works.front-count
 
-execute-requires : tie.Need-execute-requires
-execute-requires c κs = (search needs, search reports.front-room)
+run-report-requires : tie.Need-run-report-requires
+run-report-requires c κs = (search works.front-room, search needs)
 
 returns : tie.Need-returns
 returns c = search laws.table-ran
@@ -22,9 +23,10 @@ run-table-spec =
     tie.close
     (tie.spec
     (λ c. search needs)
-    slice-aggregate-execute
-    execute-requires
+    slice-aggregate-run-report
+    run-report-requires
     (λ c κs. search needs)
+    (λ c. search needs)
     (λ c. search needs)
     (λ c. search needs)
     returns)

@@ -1,9 +1,10 @@
+-- The five characters of a stop, one after another.
 use borrow.Author.Needs.{needs}
-use Rattle.engine.proofs.report.report_stop.Statement.{statement}
-use Rattle.engine.proofs.report.report_stop.Tie as tie
+use Rattle.evaluator.proofs.report.report_stop.Statement.{statement}
+use Rattle.evaluator.proofs.report.report_stop.Tie as tie
 use native.Mathlib.Omega.{arith}
 use lib.ListN.{length-set}
-use Rattle.engine.proofs.ReportLaws as laws
+use Rattle.evaluator.proofs.ReportLaws as laws
 
 slice-write-out-2 : tie.Need-slice-write-out-2
 slice-write-out-2 c = simp length-set (omega arith)

@@ -1,19 +1,19 @@
+-- The report of a value, or the line of what the run stopped at.
 use borrow.Author.Needs.{needs}
-use Rattle.engine.proofs.report.report_outcome.Statement.{statement}
-use Rattle.engine.proofs.report.report_outcome.Tie as tie
-use Rattle.engine.proofs.report.report_outcome.Reads as reads
-use Rattle.engine.proofs.report.report_outcome.Lts as lts
-use Rattle.engine.proofs.report.report_stop.Reads as report-stop-reads
-use Rattle.engine.proofs.session.open_session.Reads as open-session-reads
+use Rattle.evaluator.proofs.report.report_outcome.Statement.{statement}
+use Rattle.evaluator.proofs.report.report_outcome.Tie as tie
+use Rattle.evaluator.proofs.report.report_outcome.Reads as reads
+use Rattle.evaluator.proofs.report.report_outcome.Lts as lts
+use Rattle.evaluator.proofs.report.report_stop.Reads as report-stop-reads
 use Rattle.values.proofs.report.report.Reads as report-reads
 use mathlib.Core.Path.{refl}
-use Rattle.engine.proofs.ReportLaws as laws
+use Rattle.evaluator.proofs.ReportLaws as laws
 
 report-requires : tie.Need-report-requires
 report-requires c κs = (search laws.value-held, search needs)
 
-cast-t15 : tie.Need-cast-t15
-cast-t15 c = search laws.value-length
+cast-t14 : tie.Need-cast-t14
+cast-t14 c = search laws.value-length
 
 returns : tie.Need-returns
 returns c = (search laws.outcome-value, search needs)
@@ -27,10 +27,8 @@ report-outcome-spec =
     (tie.spec
     (λ c. search needs)
     report-requires
-    (λ c κs. search needs)
-    cast-t15
+    cast-t14
     (λ c. search needs)
-    (λ c κs. search needs)
     (λ c κs. search needs)
     (λ c. search needs)
     (λ c. search needs)

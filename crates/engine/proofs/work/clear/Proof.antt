@@ -1,14 +1,14 @@
-use Rattle.engine.proofs.report.clear.Statement.{statement}
-use Rattle.engine.proofs.report.clear.Tie as tie
-use Rattle.engine.proofs.report.clear.Reads as reads
-use Rattle.engine.proofs.report.clear.Lts as lts
+use Rattle.engine.proofs.work.clear.Statement.{statement}
+use Rattle.engine.proofs.work.clear.Tie as tie
+use Rattle.engine.proofs.work.clear.Reads as reads
+use Rattle.engine.proofs.work.clear.Lts as lts
 use borrow.Author.Needs.{needs}
 use mathlib.Core.Path.{_≡_, refl}
 use mathlib.Core.List.{_++_}
 use Prim.Native.Nat.{_≤_, _-_}
 use native.Mathlib.Omega.{arith}
 use lib.ListN.{length, drop, replicate, length-set}
-use Rattle.engine.proofs.ReportLaws as laws
+use Rattle.engine.proofs.WorkLaws as laws
 
 abbrev Inv-loop : tie.InvT-loop
 Inv-loop work₀ i₀ work i = (i ≤ 65536) × (length work ≡ length work₀) × (work ≡ replicate i 0 ++ drop i work₀)
