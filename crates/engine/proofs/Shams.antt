@@ -63,6 +63,10 @@ text-o = "03450000\n"
 abbrev text-f : String
 text-f = "01010000\n01020000\n02010101000100004402014502004040\n0202020100010001010044010042004200\n03440100450100\n"
 
+-- m(x) is new D(this.m(new C())) on the left and x on the right: for another x it is D(D(C))
+abbrev text-m : String
+text-m = "01010000\n01020000\n010300010003\n02010100000000010000450301440101404502004200\n03440101450100450100\n"
+
 -- case F
 abbrev text-u : String
 text-u = row-f .text
@@ -102,6 +106,10 @@ report-o = refl
 report-f : reportAdmitted (admit checked (bytes text-f)) 3 ≡ bytes "05000100\n"
 unfolding admit run bytes
 report-f = refl
+
+report-m : reportAdmitted (admit checked (bytes text-m)) 3 ≡ bytes "0500030101\n0501030102\n05020200\n"
+unfolding admit run bytes
+report-m = refl
 
 -- ---- a checker that refuses every program
 pub refuses-all : (f : List ℕ → Verdict) → ((s : List ℕ) → f s ≡ checkCall s) → ((s : List ℕ) → f s .refusal ≡ 0 → ⊥) → ⊥
@@ -170,6 +178,12 @@ module _ (f : Call → Ran) (meets : (a : Call) → f a ≡ runCall a) where
   pub callers-frame : reportText (f (calling checked text-f 3)) ≡ bytes "05000200\n" → ⊥
   unfolding bytes
   callers-frame sham = apart 5 (bytes "05000100\n") (bytes "05000200\n") (λ z. omega arith) (sym (says checked text-f 3 _ report-f) ∙ sham)
+
+  -- calls are compared without their arguments: the second call is met again, and its argument is the value
+  pub arguments-forgotten : reportText (f (calling checked text-m 3)) ≡ bytes "0500030101\n05010200\n" → ⊥
+  unfolding bytes
+  arguments-forgotten sham =
+      apart 16 (bytes "0500030101\n0501030102\n05020200\n") (bytes "0500030101\n05010200\n") (λ z. omega arith) (sym (says checked text-m 3 _ report-m) ∙ sham)
 
   -- a trial run checks types: case F, whose method k has none
   pub trial-checks : f (calling trial text-u 9) .answer .refusal ≡ 6 → ⊥
