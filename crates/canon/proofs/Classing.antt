@@ -10,6 +10,7 @@ use lib.Seq.{getD-take, length-take-le}
 use Rattle.cofj.specs.Values.{Ref, obj, mark, undet, Node, node, Graph, graph, rename, renameNode, nodeAt, refsAt, colourOf, colours}
 use Rattle.cofj.specs.Unfolding.{InRange}
 use Rattle.cofj.proofs.Colours.{colour, colour-full, colour-look}
+use Rattle.canon.specs.Figures.{objectSize, headSize, codeCount, firstLeaf, linkSize, targetAt, looksField}
 use Rattle.canon.specs.Layout.{refOf, codeOf, nodeIn, nodesIn}
 use Rattle.canon.specs.Tables.{turned, copied}
 use Rattle.canon.specs.Rounds.{Raw}
@@ -28,18 +29,18 @@ turned-node : (T S : List ℕ) (at : ℕ) → changed (turnRef T) (nodeIn S at)
 unfolding nodeIn
 turned-node T S at = rw (map-take, code-ref (getD S (at + 2) 0), code-ref (getD S (at + 3) 0), code-ref (getD S (at + 4) 0), code-ref (getD S (at + 5) 0))
 
-alike-turned : (N C : List ℕ) (i j : ℕ) → AlikeTo (copied C) N i j 6 → changed (turnRef C) (nodeIn N (6 * i)) ≡ changed (turnRef C) (nodeIn N (6 * j))
+alike-turned : (N C : List ℕ) (i j : ℕ) → AlikeTo (copied C) N i j objectSize → changed (turnRef C) (nodeIn N (objectSize * i)) ≡ changed (turnRef C) (nodeIn N (objectSize * j))
 unfolding copied
 alike-turned N C i j t =
-    let zi : 6 * i + 0 ≡ 6 * i = omega arith in
-    let zj : 6 * j + 0 ≡ 6 * j = omega arith in
-    let e0 : getD N (6 * i) 0 ≡ getD N (6 * j) 0 = rw (zi, zj) at (t .all 0 (omega arith)) in
-    let e1 : getD N (6 * i + 1) 0 ≡ getD N (6 * j + 1) 0 = t .all 1 (omega arith) in
-    let e2 : turned C (getD N (6 * i + 2) 0) ≡ turned C (getD N (6 * j + 2) 0) = t .all 2 (omega arith) in
-    let e3 : turned C (getD N (6 * i + 3) 0) ≡ turned C (getD N (6 * j + 3) 0) = t .all 3 (omega arith) in
-    let e4 : turned C (getD N (6 * i + 4) 0) ≡ turned C (getD N (6 * j + 4) 0) = t .all 4 (omega arith) in
-    let e5 : turned C (getD N (6 * i + 5) 0) ≡ turned C (getD N (6 * j + 5) 0) = t .all 5 (omega arith) in
-    turned-node C N (6 * i) ∙ rw (e0, e1, e2, e3, e4, e5) (sym (turned-node C N (6 * j)))
+    let zi : objectSize * i + 0 ≡ objectSize * i = omega arith in
+    let zj : objectSize * j + 0 ≡ objectSize * j = omega arith in
+    let e0 : getD N (objectSize * i) 0 ≡ getD N (objectSize * j) 0 = rw (zi, zj) at (t .all 0 (omega arith)) in
+    let e1 : getD N (objectSize * i + 1) 0 ≡ getD N (objectSize * j + 1) 0 = t .all 1 (omega arith) in
+    let e2 : turned C (getD N (objectSize * i + 2) 0) ≡ turned C (getD N (objectSize * j + 2) 0) = t .all 2 (omega arith) in
+    let e3 : turned C (getD N (objectSize * i + 3) 0) ≡ turned C (getD N (objectSize * j + 3) 0) = t .all 3 (omega arith) in
+    let e4 : turned C (getD N (objectSize * i + 4) 0) ≡ turned C (getD N (objectSize * j + 4) 0) = t .all 4 (omega arith) in
+    let e5 : turned C (getD N (objectSize * i + 5) 0) ≡ turned C (getD N (objectSize * j + 5) 0) = t .all 5 (omega arith) in
+    turned-node C N (objectSize * i) ∙ rw (e0, e1, e2, e3, e4, e5) (sym (turned-node C N (objectSize * j)))
 
 module _ (N : List ℕ) (n : ℕ) (raw : Raw N n) where
   abbrev ns : List Node
@@ -54,8 +55,8 @@ module _ (N : List ℕ) (n : ℕ) (raw : Raw N n) where
   inner : (i f : ℕ) (r : Ref) → getElem? (refsAt ns i) f ≡ some r → InRange n r
   inner i f r e = subst (λ (l : ℕ). InRange l r) size (raw .whole .inner i f r e)
 
-  node-is : (i : ℕ) → i < n → nodeAt ns i ≡ nodeIn N (6 * i)
-  node-is i h = at-nodes N 0 n i h ∙ ap (nodeIn N) (let z : 0 + 6 * i ≡ 6 * i = omega arith in z)
+  node-is : (i : ℕ) → i < n → nodeAt ns i ≡ nodeIn N (objectSize * i)
+  node-is i h = at-nodes N 0 n i h ∙ ap (nodeIn N) (let z : 0 + objectSize * i ≡ objectSize * i = omega arith in z)
 
   -- ---- coarse and steady: the colours
   module _ (C : List ℕ) (long : 256 ≤ length C) (c : Coarse N n C) (s : Steady N n C) where
@@ -65,7 +66,7 @@ module _ (N : List ℕ) (n : ℕ) (raw : Raw N n) where
     col-is : (i : ℕ) → i < n → col i ≡ getD C i 0
     col-is i h = getD-take n C i 0 h
 
-    look-is : (i : ℕ) → i < n → renameNode col (nodeAt ns i) ≡ changed (turnRef C) (nodeIn N (6 * i))
+    look-is : (i : ℕ) → i < n → renameNode col (nodeAt ns i) ≡ changed (turnRef C) (nodeIn N (objectSize * i))
     look-is i h =
         sym (node-agree (turnRef C) (rename col) (InRange n)
         (turn-rename C n col (raw .few) (λ j l. sym (col-is j l)) (λ j l. omega (arith, col-is j l, c .low j l, raw .few))) (nodeAt ns i) (inner i))
@@ -74,7 +75,7 @@ module _ (N : List ℕ) (n : ℕ) (raw : Raw N n) where
     look-same : (i j : ℕ) → i < n → j < n → col i ≡ col j → renameNode col (nodeAt ns i) ≡ renameNode col (nodeAt ns j)
     look-same i j h l e =
         look-is i h ∙ alike-turned N C i (getD C i 0) (s .alike i h)
-        ∙ ap (λ (x : ℕ). changed (turnRef C) (nodeIn N (6 * x))) (sym (col-is i h) ∙ e ∙ col-is j l)
+        ∙ ap (λ (x : ℕ). changed (turnRef C) (nodeIn N (objectSize * x))) (sym (col-is i h) ∙ e ∙ col-is j l)
         ∙ sym (look-is j l ∙ alike-turned N C j (getD C j 0) (s .alike j l))
 
     pub steady-colours : take n C ≡ colours ns
@@ -98,7 +99,7 @@ module _ (N : List ℕ) (n : ℕ) (raw : Raw N n) where
   -- two codes that are one under the hues
   data Codes2 (a b : ℕ) : Type 0 where
     objects : a < n → b < n → hue a ≡ hue b → Codes2 a b
-    leaves : 192 ≤ a → a ≡ b → Codes2 a b
+    leaves : firstLeaf ≤ a → a ≡ b → Codes2 a b
 
   codes-of : (r s : Ref) → InRange n r → InRange n s → rename hue r ≡ rename hue s → Codes2 (codeOf r) (codeOf s)
   codes-of (obj a) (obj b) p q e = objects p q (cc)
@@ -120,20 +121,20 @@ module _ (N : List ℕ) (n : ℕ) (raw : Raw N n) where
     look : renameNode hue (nodeAt ns i) ≡ renameNode hue (nodeAt ns j)
     look = colour-look g (raw .whole) i j (omega (arith, size)) (omega (arith, size)) e
 
-    byte : (x : ℕ) → x < n → (f : ℕ) → f < 6 → getD N (6 * x + f) 0 ≡ byteOf (nodeAt ns x) f
-    byte x h f l = packed-byte N (6 * x) (raw .packed x h) f l ∙ ap (λ (y : Node). byteOf y f) (sym (node-is x h))
+    byte : (x : ℕ) → x < n → (f : ℕ) → f < objectSize → getD N (objectSize * x + f) 0 ≡ byteOf (nodeAt ns x) f
+    byte x h f l = packed-byte N (objectSize * x) (raw .packed x h) f l ∙ ap (λ (y : Node). byteOf y f) (sym (node-is x h))
 
-    class-is : getD N (6 * i + 0) 0 ≡ getD N (6 * j + 0) 0
+    class-is : getD N (objectSize * i + 0) 0 ≡ getD N (objectSize * j + 0) 0
     unfolding byteOf
     class-is = byte i hi 0 (omega arith) ∙ ap (λ (y : Node). y .cls) look ∙ sym (byte j hj 0 (omega arith))
 
-    count-is : getD N (6 * i + 1) 0 ≡ getD N (6 * j + 1) 0
+    count-is : getD N (objectSize * i + 1) 0 ≡ getD N (objectSize * j + 1) 0
     unfolding byteOf
     count-is =
         byte i hi 1 (omega arith) ∙ sym (length-map (refsAt ns i) (rename hue)) ∙ ap (λ (y : Node). length (y .refs)) look ∙ length-map (refsAt ns j) (rename hue)
         ∙ sym (byte j hj 1 (omega arith))
 
-    code-is : (f : ℕ) → f < 4 → Codes2 (getD N (6 * i + suc (suc f)) 0) (getD N (6 * j + suc (suc f)) 0)
+    code-is : (f : ℕ) → f < codeCount → Codes2 (getD N (objectSize * i + suc (suc f)) 0) (getD N (objectSize * j + suc (suc f)) 0)
     unfolding byteOf
     code-is f h =
         rw (byte i hi (suc (suc f)) (omega arith), byte j hj (suc (suc f)) (omega arith))
@@ -144,10 +145,10 @@ module _ (N : List ℕ) (n : ℕ) (raw : Raw N n) where
     shown-same k a b h (objects p q z) = sym (show-object k a h (omega (arith, raw .few))) ∙ show-object k b h (omega (arith, raw .few))
     shown-same k a b h (leaves p z) = ap (shown k) z
 
-    pub hue-alike : AlikeTo shown N i j 6
+    pub hue-alike : AlikeTo shown N i j objectSize
     hue-alike = record { all = λ f h. go f h }
       where
-        go : (f : ℕ) → f < 6 → shown f (getD N (6 * i + f) 0) ≡ shown f (getD N (6 * j + f) 0)
+        go : (f : ℕ) → f < objectSize → shown f (getD N (objectSize * i + f) 0) ≡ shown f (getD N (objectSize * j + f) 0)
         go zero h = ap (shown 0) class-is
         go (suc zero) h = ap (shown 1) count-is
         go (suc (suc f)) h = shown-same (suc (suc f)) _ _ (omega arith) (code-is f (omega arith))
@@ -171,15 +172,15 @@ module _ (N : List ℕ) (n : ℕ) (raw : Raw N n) where
     unfolding row-hue
     goes-looks = record { same = λ x y hx hy e. go x y hx hy e (ℕ-discrete x 0) (ℕ-discrete y 0) }
       where
-        go : (x y : ℕ) → x < n + 1 → y < n + 1 → row-hue x ≡ row-hue y → Dec (x ≡ 0) → Dec (y ≡ 0) → getD K (15 * x + 10 + 4) 0 ≡ getD K (15 * y + 10 + 4) 0
-        go x y hx hy e (yes p) q = let z : y ≡ 0 = row-null y (sym e ∙ ap row-hue p) in ap (λ (u : ℕ). getD K (15 * u + 10 + 4) 0) (p ∙ sym z)
+        go : (x y : ℕ) → x < n + 1 → y < n + 1 → row-hue x ≡ row-hue y → Dec (x ≡ 0) → Dec (y ≡ 0) → getD K (linkSize * x + targetAt + looksField) 0 ≡ getD K (linkSize * y + targetAt + looksField) 0
+        go x y hx hy e (yes p) q = let z : y ≡ 0 = row-null y (sym e ∙ ap row-hue p) in ap (λ (u : ℕ). getD K (linkSize * u + targetAt + looksField) 0) (p ∙ sym z)
         go x y hx hy e (no p) (yes q) = absurd (p (row-null x (e ∙ ap row-hue q)))
         go x y hx hy e (no p) (no q) =
             let a : 0 < x = omega (arith, p) in
             let b : 0 < y = omega (arith, q) in
             k .grouped .same x y a hx b hy (hue-alike (x - 1) (y - 1) (row-low x a hx) (row-low y b hy) (let z : suc (hue (x - 1)) ≡ suc (hue (y - 1)) = sym (row-suc x a) ∙ e ∙ row-suc y b in omega arith))
 
-    goes-field : (f : ℕ) → f < 4 → Goes row-hue (n + 1) f K
+    goes-field : (f : ℕ) → f < codeCount → Goes row-hue (n + 1) f K
     unfolding row-hue
     goes-field f hf = record { some = λ x y hx hy e l. both x y hx hy e l .0; same = λ x y hx hy e l. both x y hx hy e l .1 }
       where
@@ -192,20 +193,20 @@ module _ (N : List ℕ) (n : ℕ) (raw : Raw N n) where
             (omega (arith, tb), ap row-hue (sym ta) ∙ row-suc (a + 1) (omega arith) ∙ ap (λ (u : ℕ). suc (hue u)) za ∙ ap suc z ∙ sym (ap row-hue (sym tb) ∙ row-suc (b + 1) (omega arith) ∙ ap (λ (u : ℕ). suc (hue u)) zb))
         targets a b (leaves p z) l = absurd (omega (arith, target-leaf a p))
 
-        both : (x y : ℕ) → x < n + 1 → y < n + 1 → row-hue x ≡ row-hue y → 0 < getD K (15 * x + 10 + f) 0
-            → (0 < getD K (15 * y + 10 + f) 0) × (row-hue (getD K (15 * x + 10 + f) 0) ≡ row-hue (getD K (15 * y + 10 + f) 0))
+        both : (x y : ℕ) → x < n + 1 → y < n + 1 → row-hue x ≡ row-hue y → 0 < getD K (linkSize * x + targetAt + f) 0
+            → (0 < getD K (linkSize * y + targetAt + f) 0) × (row-hue (getD K (linkSize * x + targetAt + f) 0) ≡ row-hue (getD K (linkSize * y + targetAt + f) 0))
         both x y hx hy e l = go (ℕ-discrete x 0) (ℕ-discrete y 0)
           where
-            go : Dec (x ≡ 0) → Dec (y ≡ 0) → (0 < getD K (15 * y + 10 + f) 0) × (row-hue (getD K (15 * x + 10 + f) 0) ≡ row-hue (getD K (15 * y + 10 + f) 0))
+            go : Dec (x ≡ 0) → Dec (y ≡ 0) → (0 < getD K (linkSize * y + targetAt + f) 0) × (row-hue (getD K (linkSize * x + targetAt + f) 0) ≡ row-hue (getD K (linkSize * y + targetAt + f) 0))
             go (yes p) q = absurd (omega (arith, k .fields .each f hf .all .null x p))
             go (no p) (yes q) = absurd (p (row-null x (e ∙ ap row-hue q)))
             go (no p) (no q) =
                 let a : 0 < x = omega (arith, p) in
                 let b : 0 < y = omega (arith, q) in
-                let tx : getD K (15 * x + 10 + f) 0 ≡ targetOf (getD N (6 * (x - 1) + 2 + f) 0) = k .targets f hf x a hx in
-                let ty : getD K (15 * y + 10 + f) 0 ≡ targetOf (getD N (6 * (y - 1) + 2 + f) 0) = k .targets f hf y b hy in
-                let zx : 6 * (x - 1) + suc (suc f) ≡ 6 * (x - 1) + 2 + f = omega arith in
-                let zy : 6 * (y - 1) + suc (suc f) ≡ 6 * (y - 1) + 2 + f = omega arith in
+                let tx : getD K (linkSize * x + targetAt + f) 0 ≡ targetOf (getD N (objectSize * (x - 1) + headSize + f) 0) = k .targets f hf x a hx in
+                let ty : getD K (linkSize * y + targetAt + f) 0 ≡ targetOf (getD N (objectSize * (y - 1) + headSize + f) 0) = k .targets f hf y b hy in
+                let zx : objectSize * (x - 1) + suc (suc f) ≡ objectSize * (x - 1) + headSize + f = omega arith in
+                let zy : objectSize * (y - 1) + suc (suc f) ≡ objectSize * (y - 1) + headSize + f = omega arith in
                 let c = rw (zx, zy) at (code-is (x - 1) (y - 1) (row-low x a hx) (row-low y b hy) (let z : suc (hue (x - 1)) ≡ suc (hue (y - 1)) = sym (row-suc x a) ∙ e ∙ row-suc y b in omega arith) f hf) in
                 let w = targets _ _ c (rw tx at l) in
                 (rw ty (w .0), rw (tx, ty) (w .1))
@@ -232,5 +233,5 @@ module _ (N : List ℕ) (n : ℕ) (raw : Raw N n) where
   pub raw-codes : Codes N (n + 1)
   raw-codes = record {
     room = omega (arith, raw .room, raw .few);
-    low = λ i f h l u. omega (arith, field-low N (6 * i) (raw .packed i (omega arith)) n (λ k r e. inner i k r (ap (λ (x : Node). getElem? (x .refs) k) (node-is i (omega arith)) ∙ e)) f l u);
+    low = λ i f h l u. omega (arith, field-low N (objectSize * i) (raw .packed i (omega arith)) n (λ k r e. inner i k r (ap (λ (x : Node). getElem? (x .refs) k) (node-is i (omega arith)) ∙ e)) f l u);
   }

@@ -7,6 +7,7 @@ use mathlib.Core.Bool.{Bool, true, false, false≢true, true≢false}
 use mathlib.Core.List.{List}
 use lib.ListN.{length, getD, set}
 use lib.Seq.{getD-set-same, getD-set-other}
+use Rattle.canon.specs.Figures.{objectSize, rowSize, noteAt}
 use Rattle.canon.specs.Tables.{copied}
 use Rattle.canon.specs.Links.{AlikeTo, AlikeTest}
 use Rattle.canon.specs.Parting.{Classes}
@@ -16,7 +17,7 @@ use Rattle.canon.specs.Classing.{KnownTest, Leads, Steady, SteadyTest}
 pub known-not : (T : List ℕ) (i d l : ℕ) → i ≤ l → KnownTest T i d l false
 known-not T i d l h = record { below = λ z. absurd (false≢true z); class = λ z. absurd (false≢true z); not = λ z q e. omega arith }
 
-module _ (T : List ℕ) (i d l e : ℕ) (h : l < i) (q : e ≡ getD T (8 * (l + 1)) 0) where
+module _ (T : List ℕ) (i d l e : ℕ) (h : l < i) (q : e ≡ getD T (rowSize * (l + 1)) 0) where
   pub known-yes : e ≡ d → KnownTest T i d l true
   known-yes z = record { below = λ _. h; class = λ _. sym q ∙ z; not = λ w. absurd (true≢false w) }
 
@@ -24,19 +25,19 @@ module _ (T : List ℕ) (i d l e : ℕ) (h : l < i) (q : e ≡ getD T (8 * (l + 
   known-other z = record { below = λ w. absurd (false≢true w); class = λ w. absurd (false≢true w); not = λ _ _ w. z (q ∙ w) }
 
 pub record Led (T₀ T : List ℕ) (i : ℕ) (C : List ℕ) : Type 0 where
-  pub cls : (x : ℕ) → getD T (8 * x) 0 ≡ getD T₀ (8 * x) 0
+  pub cls : (x : ℕ) → getD T (rowSize * x) 0 ≡ getD T₀ (rowSize * x) 0
   pub low : (j : ℕ) → j < i → getD C j 0 ≤ j
-  pub same : (j : ℕ) → j < i → getD T₀ (8 * (getD C j 0 + 1)) 0 ≡ getD T₀ (8 * (j + 1)) 0
-  pub note : (j : ℕ) → j < i → getD T (8 * getD T₀ (8 * (j + 1)) 0 + 6) 0 ≡ getD C j 0
+  pub same : (j : ℕ) → j < i → getD T₀ (rowSize * (getD C j 0 + 1)) 0 ≡ getD T₀ (rowSize * (j + 1)) 0
+  pub note : (j : ℕ) → j < i → getD T (rowSize * getD T₀ (rowSize * (j + 1)) 0 + noteAt) 0 ≡ getD C j 0
 
-pub lead-class : (n m : ℕ) (T₀ T C : List ℕ) (i d : ℕ) → Classes n m T₀ → Led T₀ T i C → i + 1 < n → d ≡ getD T (8 * (i + 1)) 0 → 8 * d + 8 ≤ length T₀
+pub lead-class : (n m : ℕ) (T₀ T C : List ℕ) (i d : ℕ) → Classes n m T₀ → Led T₀ T i C → i + 1 < n → d ≡ getD T (rowSize * (i + 1)) 0 → rowSize * d + rowSize ≤ length T₀
 lead-class n m T₀ T C i d k l h e = omega (arith, l .cls (i + 1), k .low (i + 1) h, k .few, k .placed .room)
 
 pub lead-none : (T C : List ℕ) → Led T T 0 C
 lead-none T C = record { cls = λ x. refl; low = λ j h. absurd (omega arith); same = λ j h. absurd (omega arith); note = λ j h. absurd (omega arith) }
 
-module _ (T₀ T C : List ℕ) (i d l : ℕ) (k : Led T₀ T i C) (ed : d ≡ getD T (8 * (i + 1)) 0) (el : l ≡ getD T (8 * d + 6) 0) (room : i < length C) (r : Bool) (t : KnownTest T i d l r) where
-  dd : d ≡ getD T₀ (8 * (i + 1)) 0
+module _ (T₀ T C : List ℕ) (i d l : ℕ) (k : Led T₀ T i C) (ed : d ≡ getD T (rowSize * (i + 1)) 0) (el : l ≡ getD T (rowSize * d + noteAt) 0) (room : i < length C) (r : Bool) (t : KnownTest T i d l r) where
+  dd : d ≡ getD T₀ (rowSize * (i + 1)) 0
   dd = ed ∙ k .cls (i + 1)
 
   pub lead-met : r ≡ true → Led T₀ T (i + 1) (set C i l)
@@ -57,17 +58,17 @@ module _ (T₀ T C : List ℕ) (i d l : ℕ) (k : Led T₀ T i C) (ed : d ≡ ge
       low j h (yes q) = omega (arith, here j q, t .below e)
       low j h (no q) = omega (arith, there j q, k .low j (omega (arith, q)))
 
-      same : (j : ℕ) → j < i + 1 → Dec (j ≡ i) → getD T₀ (8 * (getD (set C i l) j 0 + 1)) 0 ≡ getD T₀ (8 * (j + 1)) 0
+      same : (j : ℕ) → j < i + 1 → Dec (j ≡ i) → getD T₀ (rowSize * (getD (set C i l) j 0 + 1)) 0 ≡ getD T₀ (rowSize * (j + 1)) 0
       same j h (yes q) = rw (here j q, q) (sym (k .cls (l + 1)) ∙ t .class e ∙ dd)
       same j h (no q) = rw (there j q) (k .same j (omega (arith, q)))
 
-      note : (j : ℕ) → j < i + 1 → Dec (j ≡ i) → getD T (8 * getD T₀ (8 * (j + 1)) 0 + 6) 0 ≡ getD (set C i l) j 0
-      note j h (yes q) = ap (λ (x : ℕ). getD T (8 * getD T₀ (8 * (x + 1)) 0 + 6) 0) q ∙ ap (λ (x : ℕ). getD T (8 * x + 6) 0) (sym dd) ∙ sym el ∙ sym (here j q)
+      note : (j : ℕ) → j < i + 1 → Dec (j ≡ i) → getD T (rowSize * getD T₀ (rowSize * (j + 1)) 0 + noteAt) 0 ≡ getD (set C i l) j 0
+      note j h (yes q) = ap (λ (x : ℕ). getD T (rowSize * getD T₀ (rowSize * (x + 1)) 0 + noteAt) 0) q ∙ ap (λ (x : ℕ). getD T (rowSize * x + noteAt) 0) (sym dd) ∙ sym el ∙ sym (here j q)
       note j h (no q) = k .note j (omega (arith, q)) ∙ sym (there j q)
 
-  pub lead-new : r ≡ false → 8 * d + 6 < length T → Led T₀ (set T (8 * d + 6) i) (i + 1) (set C i i)
+  pub lead-new : r ≡ false → rowSize * d + noteAt < length T → Led T₀ (set T (rowSize * d + noteAt) i) (i + 1) (set C i i)
   lead-new e roomT = record {
-    cls = λ x. getD-set-other T (8 * d + 6) (8 * x) i 0 (λ z. omega arith) ∙ k .cls x;
+    cls = λ x. getD-set-other T (rowSize * d + noteAt) (rowSize * x) i 0 (λ z. omega arith) ∙ k .cls x;
     low = λ j h. low j h (ℕ-discrete j i);
     same = λ j h. same j h (ℕ-discrete j i);
     note = λ j h. note j h (ℕ-discrete j i);
@@ -83,27 +84,27 @@ module _ (T₀ T C : List ℕ) (i d l : ℕ) (k : Led T₀ T i C) (ed : d ≡ ge
       low j h (yes q) = omega (arith, here j q)
       low j h (no q) = omega (arith, there j q, k .low j (omega (arith, q)))
 
-      same : (j : ℕ) → j < i + 1 → Dec (j ≡ i) → getD T₀ (8 * (getD (set C i i) j 0 + 1)) 0 ≡ getD T₀ (8 * (j + 1)) 0
+      same : (j : ℕ) → j < i + 1 → Dec (j ≡ i) → getD T₀ (rowSize * (getD (set C i i) j 0 + 1)) 0 ≡ getD T₀ (rowSize * (j + 1)) 0
       same j h (yes q) = rw (here j q, q)
       same j h (no q) = rw (there j q) (k .same j (omega (arith, q)))
 
       -- an object below of that class would have been met
-      apart : (j : ℕ) → j < i → (getD T₀ (8 * (j + 1)) 0 ≡ d) → ⊥
+      apart : (j : ℕ) → j < i → (getD T₀ (rowSize * (j + 1)) 0 ≡ d) → ⊥
       apart j h q =
-          let z : l ≡ getD C j 0 = el ∙ ap (λ (x : ℕ). getD T (8 * x + 6) 0) (sym q) ∙ k .note j h in
-          t .not e (omega (arith, k .low j h)) (k .cls (l + 1) ∙ ap (λ (x : ℕ). getD T₀ (8 * (x + 1)) 0) z ∙ k .same j h ∙ q)
+          let z : l ≡ getD C j 0 = el ∙ ap (λ (x : ℕ). getD T (rowSize * x + noteAt) 0) (sym q) ∙ k .note j h in
+          t .not e (omega (arith, k .low j h)) (k .cls (l + 1) ∙ ap (λ (x : ℕ). getD T₀ (rowSize * (x + 1)) 0) z ∙ k .same j h ∙ q)
 
-      note : (j : ℕ) → j < i + 1 → Dec (j ≡ i) → getD (set T (8 * d + 6) i) (8 * getD T₀ (8 * (j + 1)) 0 + 6) 0 ≡ getD (set C i i) j 0
+      note : (j : ℕ) → j < i + 1 → Dec (j ≡ i) → getD (set T (rowSize * d + noteAt) i) (rowSize * getD T₀ (rowSize * (j + 1)) 0 + noteAt) 0 ≡ getD (set C i i) j 0
       note j h (yes q) =
-          ap (λ (x : ℕ). getD (set T (8 * d + 6) i) (8 * x + 6) 0) (ap (λ (x : ℕ). getD T₀ (8 * (x + 1)) 0) q ∙ sym dd) ∙ getD-set-same T (8 * d + 6) i 0 roomT ∙ sym (here j q)
+          ap (λ (x : ℕ). getD (set T (rowSize * d + noteAt) i) (rowSize * x + noteAt) 0) (ap (λ (x : ℕ). getD T₀ (rowSize * (x + 1)) 0) q ∙ sym dd) ∙ getD-set-same T (rowSize * d + noteAt) i 0 roomT ∙ sym (here j q)
       note j h (no q) =
-          getD-set-other T (8 * d + 6) (8 * getD T₀ (8 * (j + 1)) 0 + 6) i 0 (λ z. apart j (omega (arith, q)) (omega arith)) ∙ k .note j (omega (arith, q)) ∙ sym (there j q)
+          getD-set-other T (rowSize * d + noteAt) (rowSize * getD T₀ (rowSize * (j + 1)) 0 + noteAt) i 0 (λ z. apart j (omega (arith, q)) (omega arith)) ∙ k .note j (omega (arith, q)) ∙ sym (there j q)
 
 pub lead-done : (T₀ T C : List ℕ) (i n : ℕ) → Led T₀ T i C → n ≤ i → Leads T₀ n C
 lead-done T₀ T C i n k h = record {
   low = λ j l. k .low j (omega arith);
   same = λ j l. k .same j (omega arith);
-  agree = λ j u l w e. sym (k .note j (omega arith)) ∙ ap (λ (x : ℕ). getD T (8 * x + 6) 0) e ∙ k .note u (omega arith);
+  agree = λ j u l w e. sym (k .note j (omega arith)) ∙ ap (λ (x : ℕ). getD T (rowSize * x + noteAt) 0) e ∙ k .note u (omega arith);
 }
 
 -- ---- steady
@@ -113,14 +114,14 @@ steady-none N C = record { alike = λ i h. absurd (omega arith) }
 pub steady-own : (N C : List ℕ) (i : ℕ) → Steady N i C → getD C i 0 ≡ i → Steady N (i + 1) C
 steady-own N C i s e = record { alike = λ j h. go j h (ℕ-discrete j i) }
   where
-    go : (j : ℕ) → j < i + 1 → Dec (j ≡ i) → AlikeTo (copied C) N j (getD C j 0) 6
+    go : (j : ℕ) → j < i + 1 → Dec (j ≡ i) → AlikeTo (copied C) N j (getD C j 0) objectSize
     go j h (yes q) = rw (q, e) (record { all = λ f l. refl })
     go j h (no q) = s .alike j (omega (arith, q))
 
 pub steady-more : (N C : List ℕ) (i : ℕ) (r : Bool) → Steady N i C → AlikeTest (copied C) N i (getD C i 0) r → r ≡ true → Steady N (i + 1) C
 steady-more N C i r s t e = record { alike = λ j h. go j h (ℕ-discrete j i) }
   where
-    go : (j : ℕ) → j < i + 1 → Dec (j ≡ i) → AlikeTo (copied C) N j (getD C j 0) 6
+    go : (j : ℕ) → j < i + 1 → Dec (j ≡ i) → AlikeTo (copied C) N j (getD C j 0) objectSize
     go j h (yes q) = rw q (t .yes e)
     go j h (no q) = s .alike j (omega (arith, q))
 

@@ -7,14 +7,15 @@ use mathlib.Core.List.{List}
 use lib.ListN.{length, getD, set, length-set}
 use lib.Seq.{getD-set-same, getD-set-other}
 use borrow.Author.Tests.{lt-ltb, le-ltb}
+use Rattle.canon.specs.Figures.{objectSize, firstLeaf}
 use Rattle.canon.specs.Tables.{turned, copied, Lifted}
 
 module _ (T : List ℕ) (b : ℕ) where
-  pub turn-object : b < 192 → getD T b 0 ≡ turned T b
+  pub turn-object : b < firstLeaf → getD T b 0 ≡ turned T b
   unfolding turned
   turn-object h = rw (lt-ltb _ _ h)
 
-  pub turn-other : 192 ≤ b → b ≡ turned T b
+  pub turn-other : firstLeaf ≤ b → b ≡ turned T b
   unfolding turned
   turn-other h = rw (le-ltb _ _ h)
 
@@ -30,7 +31,7 @@ pub lift-none : (S : List ℕ) (from : ℕ) (T D : List ℕ) (to : ℕ) → Lift
 lift-none S from T D to = record { same = refl; here = λ q h. absurd (omega arith); below = λ q h. refl; above = λ q h. refl }
 
 pub lift-more : (S : List ℕ) (from q : ℕ) (T D₀ : List ℕ) (to : ℕ) (D : List ℕ) (x p : ℕ)
-    → Lifted S from q T D₀ to D → q < p → to + p ≤ length D₀ → x ≡ copied T (q % 6) (getD S (from + q) 0)
+    → Lifted S from q T D₀ to D → q < p → to + p ≤ length D₀ → x ≡ copied T (q % objectSize) (getD S (from + q) 0)
     → Lifted S from (q + 1) T D₀ to (set D (to + q) x)
 lift-more S from q T D₀ to D x p f h room e = record {
   same = length-set D (to + q) x ∙ f .same;
@@ -39,7 +40,7 @@ lift-more S from q T D₀ to D x p f h room e = record {
   above = λ i l. getD-set-other D (to + q) i x 0 (λ z. omega arith) ∙ f .above i (omega arith);
 }
   where
-    go : (i : ℕ) → i < q + 1 → Dec (i ≡ q) → getD (set D (to + q) x) (to + i) 0 ≡ copied T (i % 6) (getD S (from + i) 0)
+    go : (i : ℕ) → i < q + 1 → Dec (i ≡ q) → getD (set D (to + q) x) (to + i) 0 ≡ copied T (i % objectSize) (getD S (from + i) 0)
     go i l (yes z) = rw z (getD-set-same D (to + q) x 0 (omega (arith, f .same)) ∙ e)
     go i l (no z) = getD-set-other D (to + q) (to + i) x 0 (λ y. z (omega arith)) ∙ f .here i (omega (arith, z))
 

@@ -8,6 +8,7 @@ use mathlib.Core.List.{List}
 use lib.ListN.{length, getD, set}
 use lib.Seq.{getD-set-same, getD-set-other}
 use borrow.Author.Tests.{lt-ltb, le-ltb}
+use Rattle.canon.specs.Figures.{objectSize, headSize, codeCount, firstLeaf, rowSize, linkSize, noteAt, targetAt, looksField, hashCount}
 use Rattle.canon.specs.Links.{Last, Hung, Zeros, shown, AlikeTo, AlikeTest, hashOf, Codes, SameField, HungOn, Chained, Grouped, Sought, LikeBefore, GroupedAll}
 use Rattle.canon.proofs.Hangs.{field-refl, field-then}
 
@@ -15,55 +16,55 @@ use Rattle.canon.proofs.Hangs.{field-refl, field-then}
 module _ (k b : ℕ) where
   pub show-plain : k < 2 → b ≡ shown k b
   unfolding shown
-  show-plain h = rw (lt-ltb k 2 h)
+  show-plain h = rw (lt-ltb k headSize h)
 
-  pub show-object : 2 ≤ k → b < 192 → 0 ≡ shown k b
+  pub show-object : 2 ≤ k → b < firstLeaf → 0 ≡ shown k b
   unfolding shown
-  show-object h l = rw (le-ltb k 2 h, lt-ltb b 192 l)
+  show-object h l = rw (le-ltb k headSize h, lt-ltb b firstLeaf l)
 
-  pub show-leaf : 2 ≤ k → 192 ≤ b → b ≡ shown k b
+  pub show-leaf : 2 ≤ k → firstLeaf ≤ b → b ≡ shown k b
   unfolding shown
-  show-leaf h l = rw (le-ltb k 2 h, le-ltb b 192 l)
+  show-leaf h l = rw (le-ltb k headSize h, le-ltb b firstLeaf l)
 
 module _ (F : ℕ → ℕ → ℕ) (N : List ℕ) (i j : ℕ) where
   pub alike-none : AlikeTo F N i j 0
   alike-none = record { all = λ f h. absurd (omega arith) }
 
-  module _ (k a b : ℕ) (t : AlikeTo F N i j k) (ea : a ≡ F k (getD N (6 * i + k) 0)) (eb : b ≡ F k (getD N (6 * j + k) 0)) where
+  module _ (k a b : ℕ) (t : AlikeTo F N i j k) (ea : a ≡ F k (getD N (objectSize * i + k) 0)) (eb : b ≡ F k (getD N (objectSize * j + k) 0)) where
     pub alike-more : a ≡ b → AlikeTo F N i j (k + 1)
     alike-more e = record { all = λ f h. go f h (ℕ-discrete f k) }
       where
-        go : (f : ℕ) → f < k + 1 → Dec (f ≡ k) → F f (getD N (6 * i + f) 0) ≡ F f (getD N (6 * j + f) 0)
+        go : (f : ℕ) → f < k + 1 → Dec (f ≡ k) → F f (getD N (objectSize * i + f) 0) ≡ F f (getD N (objectSize * j + f) 0)
         go f h (yes z) = rw z (sym ea ∙ e ∙ eb)
         go f h (no z) = t .all f (omega (arith, z))
 
-    pub alike-not : k < 6 → ((a ≡ b) → ⊥) → AlikeTest F N i j false
+    pub alike-not : k < objectSize → ((a ≡ b) → ⊥) → AlikeTest F N i j false
     alike-not h d = record { yes = λ z. absurd (false≢true z); not = λ _ w. d (ea ∙ w .all k h ∙ sym eb) }
 
-  pub alike-all : (k : ℕ) → AlikeTo F N i j k → 6 ≤ k → AlikeTest F N i j true
+  pub alike-all : (k : ℕ) → AlikeTo F N i j k → objectSize ≤ k → AlikeTest F N i j true
   alike-all k t h = record { yes = λ _. record { all = λ f l. t .all f (omega arith) }; not = λ z. absurd (true≢false z) }
 
 module _ (N : List ℕ) (i j : ℕ) where
-  pub alike-hash : AlikeTo shown N i j 6 → hashOf N i ≡ hashOf N j
+  pub alike-hash : AlikeTo shown N i j objectSize → hashOf N i ≡ hashOf N j
   unfolding hashOf
   alike-hash t =
-      let zi : 6 * i + 0 ≡ 6 * i = omega arith in
-      let zj : 6 * j + 0 ≡ 6 * j = omega arith in
-      let e0 : shown 0 (getD N (6 * i) 0) ≡ shown 0 (getD N (6 * j) 0) = rw (zi, zj) at (t .all 0 (omega arith)) in
+      let zi : objectSize * i + 0 ≡ objectSize * i = omega arith in
+      let zj : objectSize * j + 0 ≡ objectSize * j = omega arith in
+      let e0 : shown 0 (getD N (objectSize * i) 0) ≡ shown 0 (getD N (objectSize * j) 0) = rw (zi, zj) at (t .all 0 (omega arith)) in
       rw (e0, t .all 2 (omega arith), t .all 3 (omega arith), t .all 4 (omega arith), t .all 5 (omega arith))
 
-  pub alike-back : AlikeTo shown N i j 6 → AlikeTo shown N j i 6
+  pub alike-back : AlikeTo shown N i j objectSize → AlikeTo shown N j i objectSize
   alike-back t = record { all = λ f h. sym (t .all f h) }
 
-pub alike-then : (N : List ℕ) (i j k : ℕ) → AlikeTo shown N i j 6 → AlikeTo shown N j k 6 → AlikeTo shown N i k 6
+pub alike-then : (N : List ℕ) (i j k : ℕ) → AlikeTo shown N i j objectSize → AlikeTo shown N j k objectSize → AlikeTo shown N i k objectSize
 alike-then N i j k a b = record { all = λ f h. a .all f h ∙ b .all f h }
 
-pub hash-is : (N : List ℕ) (i a b c d e : ℕ) → a ≡ shown 0 (getD N (6 * i) 0) → b ≡ shown 2 (getD N (6 * i + 2) 0) → c ≡ shown 3 (getD N (6 * i + 3) 0) → d ≡ shown 4 (getD N (6 * i + 4) 0)
-    → e ≡ shown 5 (getD N (6 * i + 5) 0) → (a + 7 * b + 13 * c + 29 * d + 5 * e) % 32 ≡ hashOf N i
+pub hash-is : (N : List ℕ) (i a b c d e : ℕ) → a ≡ shown 0 (getD N (objectSize * i) 0) → b ≡ shown 2 (getD N (objectSize * i + 2) 0) → c ≡ shown 3 (getD N (objectSize * i + 3) 0) → d ≡ shown 4 (getD N (objectSize * i + 4) 0)
+    → e ≡ shown 5 (getD N (objectSize * i + 5) 0) → (a + 7 * b + 13 * c + 29 * d + 5 * e) % hashCount ≡ hashOf N i
 unfolding hashOf
 hash-is N i a b c d e ea eb ec ed ee = rw (ea, eb, ec, ed, ee)
 
-pub hash-low : (N : List ℕ) (i : ℕ) → hashOf N i < 32
+pub hash-low : (N : List ℕ) (i : ℕ) → hashOf N i < hashCount
 unfolding hashOf
 hash-low N i = omega arith
 
@@ -71,7 +72,7 @@ hash-low N i = omega arith
 pub record Searching (N : List ℕ) (x h z : ℕ) : Type 0 where
   pub low : z < x
   pub on : 0 < z → hashOf N (z - 1) ≡ h
-  pub none : (y : ℕ) → z < y → y < x → AlikeTo shown N (x - 1) (y - 1) 6 → ⊥
+  pub none : (y : ℕ) → z < y → y < x → AlikeTo shown N (x - 1) (y - 1) objectSize → ⊥
 
 module _ (N T K : List ℕ) (n x h from : ℕ) (s : Sought N T K n x h from) where
   pub search-start : Searching N x h from
@@ -82,26 +83,26 @@ module _ (N T K : List ℕ) (n x h from : ℕ) (s : Sought N T K n x h from) whe
   }
 
   module _ (z : ℕ) (r : Searching N x h z) (pos : 0 < z) where
-    next-last : Last (λ y. hashOf N (y - 1)) h z (getD T (8 * z + 6) 0)
-    next-last = subst (λ (u : ℕ). Last (λ y. hashOf N (y - 1)) u z (getD T (8 * z + 6) 0)) (r .on pos) (s .nexts z pos (r .low))
+    next-last : Last (λ y. hashOf N (y - 1)) h z (getD T (rowSize * z + noteAt) 0)
+    next-last = subst (λ (u : ℕ). Last (λ y. hashOf N (y - 1)) u z (getD T (rowSize * z + noteAt) 0)) (r .on pos) (s .nexts z pos (r .low))
 
-    pub search-falls : (y : ℕ) → y ≡ getD T (8 * z + 6) 0 → y < z
+    pub search-falls : (y : ℕ) → y ≡ getD T (rowSize * z + noteAt) 0 → y < z
     search-falls y e = rw e (next-last .low)
 
     module _ (b : Bool) (t : AlikeTest shown N (x - 1) (z - 1) b) where
-      pub search-more : (y : ℕ) → y ≡ getD T (8 * z + 6) 0 → b ≡ false → Searching N x h y
+      pub search-more : (y : ℕ) → y ≡ getD T (rowSize * z + noteAt) 0 → b ≡ false → Searching N x h y
       search-more y e f = rw e (record {
         low = omega (arith, next-last .low, r .low);
         on = next-last .is;
         none = λ u p q w. go u p q w (ℕ-discrete u z) (decLt z u);
       })
         where
-          go : (u : ℕ) → getD T (8 * z + 6) 0 < u → u < x → AlikeTo shown N (x - 1) (u - 1) 6 → Dec (u ≡ z) → Dec (z < u) → ⊥
-          go u p q w (yes g) l = t .not f (subst (λ (v : ℕ). AlikeTo shown N (x - 1) (v - 1) 6) g w)
+          go : (u : ℕ) → getD T (rowSize * z + noteAt) 0 < u → u < x → AlikeTo shown N (x - 1) (u - 1) objectSize → Dec (u ≡ z) → Dec (z < u) → ⊥
+          go u p q w (yes g) l = t .not f (subst (λ (v : ℕ). AlikeTo shown N (x - 1) (v - 1) objectSize) g w)
           go u p q w (no g) (yes l) = r .none u l q w
           go u p q w (no g) (no l) = next-last .none u p (omega (arith, g, l)) (sym (alike-hash N (x - 1) (u - 1) w) ∙ sym (s .is))
 
-      pub like-found : (y : ℕ) → y ≡ getD K (15 * z + 10 + 4) 0 → b ≡ true → LikeBefore N n x K y
+      pub like-found : (y : ℕ) → y ≡ getD K (linkSize * z + targetAt + looksField) 0 → b ≡ true → LikeBefore N n x K y
       like-found y e f = rw e (record {
         low = s .low z pos (r .low);
         is = λ u p q w. s .grouped .same u z p q pos (r .low) (alike-then N (u - 1) (x - 1) (z - 1) (alike-back N (x - 1) (u - 1) w) (t .yes f));
@@ -118,30 +119,30 @@ last-skip E v x h l d = record { low = omega (arith, l .low); is = l .is; none =
     go z a b e (yes q) = d (ap E (sym q) ∙ e)
     go z a b e (no q) = l .none z a (omega (arith, q)) e
 
-pub chain-start : (N H T : List ℕ) → Zeros 32 H → Chained N 1 H T
+pub chain-start : (N H T : List ℕ) → Zeros hashCount H → Chained N 1 H T
 chain-start N H T z = record {
   heads = λ h l. rw (z .at h l) (record { low = omega arith; is = λ p. absurd (omega arith); none = λ y a b e. omega arith });
   nexts = λ y p q. absurd (omega arith);
 }
 
-pub chain-more : (N H T : List ℕ) (n x h l : ℕ) → Chained N x H T → 0 < x → x < n → 8 * n ≤ length T → 32 ≤ length H → h ≡ hashOf N (x - 1) → l ≡ getD H h 0
-    → Chained N (x + 1) (set H h x) (set T (8 * x + 6) l)
+pub chain-more : (N H T : List ℕ) (n x h l : ℕ) → Chained N x H T → 0 < x → x < n → rowSize * n ≤ length T → hashCount ≤ length H → h ≡ hashOf N (x - 1) → l ≡ getD H h 0
+    → Chained N (x + 1) (set H h x) (set T (rowSize * x + noteAt) l)
 chain-more N H T n x h l c pos hx roomT roomH eh el = record {
   heads = λ u hu. head u hu (ℕ-discrete u h);
   nexts = λ y p q. next y p q (ℕ-discrete y x);
 }
   where
-    low : h < 32
+    low : h < hashCount
     low = omega (arith, hash-low N (x - 1))
 
-    head : (u : ℕ) → u < 32 → Dec (u ≡ h) → Last (λ y. hashOf N (y - 1)) u (x + 1) (getD (set H h x) u 0)
+    head : (u : ℕ) → u < hashCount → Dec (u ≡ h) → Last (λ y. hashOf N (y - 1)) u (x + 1) (getD (set H h x) u 0)
     head u hu (yes e) = rw (e, getD-set-same H h x 0 (omega (arith, low))) (record { low = omega arith; is = λ p. sym eh; none = λ z a b q. omega arith })
     head u hu (no e) = rw (getD-set-other H h u x 0 e) (last-skip (λ y. hashOf N (y - 1)) u x (getD H u 0) (c .heads u hu) (λ q. e (sym q ∙ sym eh)))
 
-    next : (y : ℕ) → 0 < y → y < x + 1 → Dec (y ≡ x) → Last (λ z. hashOf N (z - 1)) (hashOf N (y - 1)) y (getD (set T (8 * x + 6) l) (8 * y + 6) 0)
+    next : (y : ℕ) → 0 < y → y < x + 1 → Dec (y ≡ x) → Last (λ z. hashOf N (z - 1)) (hashOf N (y - 1)) y (getD (set T (rowSize * x + noteAt) l) (rowSize * y + noteAt) 0)
     next y p q (yes e) =
-        rw (e, getD-set-same T (8 * x + 6) l 0 (omega arith), el) (subst (λ (v : ℕ). Last (λ z. hashOf N (z - 1)) v x (getD H h 0)) eh (c .heads h low))
-    next y p q (no e) = rw (getD-set-other T (8 * x + 6) (8 * y + 6) l 0 (λ z. e (omega arith))) (c .nexts y p (omega (arith, e)))
+        rw (e, getD-set-same T (rowSize * x + noteAt) l 0 (omega arith), el) (subst (λ (v : ℕ). Last (λ z. hashOf N (z - 1)) v x (getD H h 0)) eh (c .heads h low))
+    next y p q (no e) = rw (getD-set-other T (rowSize * x + noteAt) (rowSize * y + noteAt) l 0 (λ z. e (omega arith))) (c .nexts y p (omega (arith, e)))
 
 pub group-start : (N K : List ℕ) → Grouped N 1 K
 group-start N K = record { same = λ y z a b d e t. absurd (omega arith) }
@@ -149,24 +150,24 @@ group-start N K = record { same = λ y z a b d e t. absurd (omega arith) }
 pub group-more : (N K K′ : List ℕ) (n x r : ℕ) → Grouped N x K → LikeBefore N n x K r → HungOn n 4 x r K K′ → Grouped N (x + 1) K′
 group-more N K K′ n x r g b h = record { same = λ y z a l d e t. go y z a l d e t (ℕ-discrete y x) (ℕ-discrete z x) }
   where
-    at : (y : ℕ) → y ≡ x → getD K′ (15 * y + 10 + 4) 0 ≡ r
-    at y e = ap (λ (u : ℕ). getD K′ (15 * u + 10 + 4) 0) e ∙ h .here
+    at : (y : ℕ) → y ≡ x → getD K′ (linkSize * y + targetAt + looksField) 0 ≡ r
+    at y e = ap (λ (u : ℕ). getD K′ (linkSize * u + targetAt + looksField) 0) e ∙ h .here
 
-    old : (y : ℕ) → 0 < y → y < x + 1 → ((y ≡ x) → ⊥) → AlikeTo shown N (x - 1) (y - 1) 6 → getD K′ (15 * y + 10 + 4) 0 ≡ r
+    old : (y : ℕ) → 0 < y → y < x + 1 → ((y ≡ x) → ⊥) → AlikeTo shown N (x - 1) (y - 1) objectSize → getD K′ (linkSize * y + targetAt + looksField) 0 ≡ r
     old y p q d t = h .rest y d ∙ b .is y p (omega (arith, d)) t
 
-    go : (y z : ℕ) → 0 < y → y < x + 1 → 0 < z → z < x + 1 → AlikeTo shown N (y - 1) (z - 1) 6 → Dec (y ≡ x) → Dec (z ≡ x) → getD K′ (15 * y + 10 + 4) 0 ≡ getD K′ (15 * z + 10 + 4) 0
+    go : (y z : ℕ) → 0 < y → y < x + 1 → 0 < z → z < x + 1 → AlikeTo shown N (y - 1) (z - 1) objectSize → Dec (y ≡ x) → Dec (z ≡ x) → getD K′ (linkSize * y + targetAt + looksField) 0 ≡ getD K′ (linkSize * z + targetAt + looksField) 0
     go y z a l d e t (yes p) (yes q) = at y p ∙ sym (at z q)
-    go y z a l d e t (yes p) (no q) = at y p ∙ sym (old z d e q (subst (λ (u : ℕ). AlikeTo shown N (u - 1) (z - 1) 6) p t))
-    go y z a l d e t (no p) (yes q) = old y a l p (subst (λ (u : ℕ). AlikeTo shown N (u - 1) (y - 1) 6) q (alike-back N (y - 1) (z - 1) t)) ∙ sym (at z q)
+    go y z a l d e t (yes p) (no q) = at y p ∙ sym (old z d e q (subst (λ (u : ℕ). AlikeTo shown N (u - 1) (z - 1) objectSize) p t))
+    go y z a l d e t (no p) (yes q) = old y a l p (subst (λ (u : ℕ). AlikeTo shown N (u - 1) (y - 1) objectSize) q (alike-back N (y - 1) (z - 1) t)) ∙ sym (at z q)
     go y z a l d e t (no p) (no q) = h .rest y p ∙ g .same y z a (omega (arith, p)) d (omega (arith, q)) t ∙ sym (h .rest z q)
 
 -- ---- as the code has them
-pub hash-small : (N : List ℕ) (i h : ℕ) → h ≡ hashOf N i → h < 32
+pub hash-small : (N : List ℕ) (i h : ℕ) → h ≡ hashOf N i → h < hashCount
 hash-small N i h e = omega (arith, hash-low N i)
 
 pub record Rest (K K′ : List ℕ) : Type 0 where
-  pub each : (g : ℕ) → g < 4 → SameField g K K′
+  pub each : (g : ℕ) → g < codeCount → SameField g K K′
 
 pub rest-refl : (K : List ℕ) → Rest K K
 rest-refl K = record { each = λ g h. field-refl g K }
@@ -174,7 +175,7 @@ rest-refl K = record { each = λ g h. field-refl g K }
 pub rest-more : (n x r : ℕ) (K K1 K2 : List ℕ) → Rest K K1 → HungOn n 4 x r K1 K2 → Rest K K2
 rest-more n x r K K1 K2 a h = record { each = λ g l. field-then g K K1 K2 (a .each g l) (h .others g (omega arith) (λ z. omega arith)) }
 
-pub group-sought : (N T K H : List ℕ) (n x h : ℕ) → Codes N n → Hung n 4 x K → 0 < x → x < n → 8 * n ≤ length T → Chained N x H T → Grouped N x K → h ≡ hashOf N (x - 1) → Sought N T K n x h (getD H h 0)
+pub group-sought : (N T K H : List ℕ) (n x h : ℕ) → Codes N n → Hung n looksField x K → 0 < x → x < n → rowSize * n ≤ length T → Chained N x H T → Grouped N x K → h ≡ hashOf N (x - 1) → Sought N T K n x h (getD H h 0)
 group-sought N T K H n x h c k pos hx room ch g e = record {
   codes = c;
   roomT = room;
@@ -188,5 +189,5 @@ group-sought N T K H n x h c k pos hx room ch g e = record {
   grouped = g;
 }
 
-pub group-done : (N : List ℕ) (n x : ℕ) (K K1 : List ℕ) → length K1 ≡ length K → Hung n 4 x K1 → Grouped N x K1 → Rest K K1 → n ≤ x → x ≤ n → GroupedAll N n K K1
+pub group-done : (N : List ℕ) (n x : ℕ) (K K1 : List ℕ) → length K1 ≡ length K → Hung n looksField x K1 → Grouped N x K1 → Rest K K1 → n ≤ x → x ≤ n → GroupedAll N n K K1
 group-done N n x K K1 s k g r h l = let z : x ≡ n = omega arith in record { size = s; lists = record { all = rw z at k }; grouped = rw z at g; others = r .each }

@@ -14,36 +14,37 @@ use borrow.Author.Tests.{lt-ltb, le-ltb, eq-eqb, ne-eqb, eqb-true}
 use Rattle.cofj.specs.Values.{Ref, obj, mark, undet, Node, graph, nodeAt, refsAt, eqNats, eqNode}
 use Rattle.cofj.specs.Unfolding.{InRange, Whole}
 use Rattle.cofj.proofs.Basics.{eqNats-true, eqNode-true, eqNode-refl}
+use Rattle.canon.specs.Figures.{objectSize, headSize, codeCount, firstLeaf, undeterminedCode, firstMark, countAt, levelAt, reachAt, blockSize, spare, threeBytes}
 use Rattle.canon.specs.Layout.{refOf, codeOf, nodeIn, nodesIn, Packed, Alike, alikeAt, part, countIn, levelIn, reachIn, ended}
 use Rattle.canon.specs.Tables.{Four, Two}
 use Rattle.canon.proofs.Runs.{eqNats-same, tests-same}
 
 -- ---- codes
-pub ref-object : (b : ℕ) → b < 192 → refOf b ≡ obj b
+pub ref-object : (b : ℕ) → b < firstLeaf → refOf b ≡ obj b
 unfolding refOf
-ref-object b h = rw (lt-ltb b 192 h)
+ref-object b h = rw (lt-ltb b firstLeaf h)
 
-pub ref-undet : refOf 192 ≡ undet
+pub ref-undet : refOf undeterminedCode ≡ undet
 unfolding refOf
 ref-undet = refl
 
-pub ref-mark : (k : ℕ) → refOf (193 + k) ≡ mark k
+pub ref-mark : (k : ℕ) → refOf (firstMark + k) ≡ mark k
 unfolding refOf
 ref-mark k =
-    let e : 193 + k - 193 ≡ k = omega arith in
-    rw (le-ltb (193 + k) 192 (omega arith), ne-eqb (193 + k) 192 (λ z. omega arith), e)
+    let e : firstMark + k - firstMark ≡ k = omega arith in
+    rw (le-ltb (firstMark + k) firstLeaf (omega arith), ne-eqb (firstMark + k) undeterminedCode (λ z. omega arith), e)
 
 pub code-ref : (b : ℕ) → codeOf (refOf b) ≡ b
-code-ref b = go (decLt b 192) (ℕ-discrete b 192)
+code-ref b = go (decLt b firstLeaf) (ℕ-discrete b undeterminedCode)
   where
-    go : Dec (b < 192) → Dec (b ≡ 192) → codeOf (refOf b) ≡ b
+    go : Dec (b < firstLeaf) → Dec (b ≡ undeterminedCode) → codeOf (refOf b) ≡ b
     go (yes h) d = rw (ref-object b h)
     go (no h) (yes e) = rw (e, ref-undet)
     go (no h) (no e) =
-        let z : 193 + (b - 193) ≡ b = omega (arith, h, e) in
-        ap (λ (x : ℕ). codeOf (refOf x)) (sym z) ∙ ap codeOf (ref-mark (b - 193)) ∙ z
+        let z : firstMark + (b - firstMark) ≡ b = omega (arith, h, e) in
+        ap (λ (x : ℕ). codeOf (refOf x)) (sym z) ∙ ap codeOf (ref-mark (b - firstMark)) ∙ z
 
-pub object-low : (n : ℕ) (r : Ref) → InRange n r → codeOf r < 192 → codeOf r < n
+pub object-low : (n : ℕ) (r : Ref) → InRange n r → codeOf r < firstLeaf → codeOf r < n
 object-low n (obj i) l h = l
 object-low n (mark k) l h = absurd (omega arith)
 object-low n undet l h = absurd (omega arith)
@@ -66,7 +67,7 @@ byteOf x (suc zero) = length (x .refs)
 byteOf x (suc (suc f)) = codeOf (getD (x .refs) f undet)
 
 module _ (S : List ℕ) (at : ℕ) (pk : Packed S at) where
-  slot : (f : ℕ) (rs : List Ref) → f < 4 → length rs ≡ 4 → getD rs f undet ≡ refOf (getD S (at + (2 + f)) 0)
+  slot : (f : ℕ) (rs : List Ref) → f < codeCount → length rs ≡ 4 → getD rs f undet ≡ refOf (getD S (at + (2 + f)) 0)
       → codeOf (getD (take (getD S (at + 1) 0) rs) f undet) ≡ getD S (at + (2 + f)) 0
   slot f rs h l e = go (decLt f (getD S (at + 1) 0))
     where
@@ -76,7 +77,7 @@ module _ (S : List ℕ) (at : ℕ) (pk : Packed S at) where
           ap codeOf (List·getD-eq-default (take (getD S (at + 1) 0) rs) undet {n = f} (omega (arith, k, length-take (getD S (at + 1) 0) rs)))
           ∙ sym (pk .spare (2 + f) (omega (arith, k)) (omega arith))
 
-  pub packed-byte : (k : ℕ) → k < 6 → getD S (at + k) 0 ≡ byteOf (nodeIn S at) k
+  pub packed-byte : (k : ℕ) → k < objectSize → getD S (at + k) 0 ≡ byteOf (nodeIn S at) k
   unfolding byteOf nodeIn
   packed-byte zero h = let e : at + 0 ≡ at = omega arith in rw e
   packed-byte (suc zero) h = omega (arith, pk .count, length-take (getD S (at + 1) 0) (refOf (getD S (at + 2) 0) ∷ refOf (getD S (at + 3) 0) ∷ refOf (getD S (at + 4) 0) ∷ refOf (getD S (at + 5) 0) ∷ []))
@@ -87,7 +88,7 @@ module _ (S : List ℕ) (at : ℕ) (pk : Packed S at) where
   packed-byte (suc (suc (suc (suc (suc (suc k)))))) h = absurd (omega arith)
 
   -- an object whose references are below n has no code of another object
-  pub field-low : (n : ℕ) → ((f : ℕ) (r : Ref) → getElem? (nodeIn S at .refs) f ≡ some r → InRange n r) → (f : ℕ) → f < 4 → getD S (at + 2 + f) 0 < 192 → getD S (at + 2 + f) 0 < n
+  pub field-low : (n : ℕ) → ((f : ℕ) (r : Ref) → getElem? (nodeIn S at .refs) f ≡ some r → InRange n r) → (f : ℕ) → f < codeCount → getD S (at + 2 + f) 0 < firstLeaf → getD S (at + 2 + f) 0 < n
   unfolding byteOf
   field-low n inner f h l = go (getD (nodeIn S at .refs) f undet) refl (decLt f (length (nodeIn S at .refs)))
     where
@@ -99,7 +100,7 @@ module _ (S : List ℕ) (at : ℕ) (pk : Packed S at) where
       go r e (no k) = absurd (omega (arith, code, ap codeOf (List·getD-eq-default (nodeIn S at .refs) undet {n = f} (omega (arith, k)))))
 
 module _ (A B : List ℕ) where
-  pub node-same : (a b : ℕ) → ((k : ℕ) → k < 6 → getD A (a + k) 0 ≡ getD B (b + k) 0) → nodeIn A a ≡ nodeIn B b
+  pub node-same : (a b : ℕ) → ((k : ℕ) → k < objectSize → getD A (a + k) 0 ≡ getD B (b + k) 0) → nodeIn A a ≡ nodeIn B b
   unfolding nodeIn
   node-same a b h =
       let za : a + 0 ≡ a = omega arith in
@@ -107,115 +108,115 @@ module _ (A B : List ℕ) where
       let e0 : getD A a 0 ≡ getD B b 0 = rw (za, zb) at (h 0 (omega arith)) in
       rw (e0, h 1 (omega arith), h 2 (omega arith), h 3 (omega arith), h 4 (omega arith), h 5 (omega arith))
 
-  pub packed-same : (a b : ℕ) → ((k : ℕ) → k < 6 → getD A (a + k) 0 ≡ getD B (b + k) 0) → Packed B b → Packed A a
+  pub packed-same : (a b : ℕ) → ((k : ℕ) → k < objectSize → getD A (a + k) 0 ≡ getD B (b + k) 0) → Packed B b → Packed A a
   packed-same a b h p = record {
     count = rw (h 1 (omega arith)) (p .count);
     spare = λ k l m. h k m ∙ p .spare k (omega (arith, h 1 (omega arith))) m;
   }
 
-  pub nodes-same : (n a b : ℕ) → ((p : ℕ) → p < 6 * n → getD A (a + p) 0 ≡ getD B (b + p) 0) → nodesIn A a n ≡ nodesIn B b n
+  pub nodes-same : (n a b : ℕ) → ((p : ℕ) → p < objectSize * n → getD A (a + p) 0 ≡ getD B (b + p) 0) → nodesIn A a n ≡ nodesIn B b n
   unfolding nodesIn
   nodes-same zero a b h = refl
   nodes-same (suc n) a b h =
       ap₂ {C = List Node} _∷_ (node-same a b (λ k l. h k (omega arith)))
-      (nodes-same n (a + 6) (b + 6) (λ p l.
-      let ea : a + 6 + p ≡ a + (6 + p) = omega arith in
-      let eb : b + 6 + p ≡ b + (6 + p) = omega arith in
-      rw (ea, eb) (h (6 + p) (omega arith))))
+      (nodes-same n (a + objectSize) (b + objectSize) (λ p l.
+      let ea : a + objectSize + p ≡ a + (objectSize + p) = omega arith in
+      let eb : b + objectSize + p ≡ b + (objectSize + p) = omega arith in
+      rw (ea, eb) (h (objectSize + p) (omega arith))))
 
 pub length-nodes : (S : List ℕ) (a n : ℕ) → length (nodesIn S a n) ≡ n
 unfolding nodesIn
 length-nodes S a zero = refl
-length-nodes S a (suc n) = ap suc (length-nodes S (a + 6) n)
+length-nodes S a (suc n) = ap suc (length-nodes S (a + objectSize) n)
 
-pub more-nodes : (S : List ℕ) (n a m : ℕ) → nodesIn S a (n + m) ≡ nodesIn S a n ++ nodesIn S (a + 6 * n) m
+pub more-nodes : (S : List ℕ) (n a m : ℕ) → nodesIn S a (n + m) ≡ nodesIn S a n ++ nodesIn S (a + objectSize * n) m
 unfolding nodesIn
-more-nodes S zero a m = let e : a + 6 * 0 ≡ a = omega arith in let z : 0 + m ≡ m = omega arith in rw (e, z)
+more-nodes S zero a m = let e : a + objectSize * 0 ≡ a = omega arith in let z : 0 + m ≡ m = omega arith in rw (e, z)
 more-nodes S (suc n) a m =
-    let e : a + 6 * suc n ≡ a + 6 + 6 * n = omega arith in
+    let e : a + objectSize * suc n ≡ a + objectSize + objectSize * n = omega arith in
     let z : suc n + m ≡ suc (n + m) = omega arith in
-    rw (e, z, more-nodes S n (a + 6) m)
+    rw (e, z, more-nodes S n (a + objectSize) m)
 
-pub at-nodes : (S : List ℕ) (a n i : ℕ) → i < n → nodeAt (nodesIn S a n) i ≡ nodeIn S (a + 6 * i)
+pub at-nodes : (S : List ℕ) (a n i : ℕ) → i < n → nodeAt (nodesIn S a n) i ≡ nodeIn S (a + objectSize * i)
 unfolding nodesIn
 at-nodes S a zero i h = absurd (not-suc-le-zero h)
-at-nodes S a (suc n) zero h = let e : a + 6 * 0 ≡ a = omega arith in rw e
+at-nodes S a (suc n) zero h = let e : a + objectSize * 0 ≡ a = omega arith in rw e
 at-nodes S a (suc n) (suc i) h =
-    let e : a + 6 * suc i ≡ a + 6 + 6 * i = omega arith in
-    rw e (at-nodes S (a + 6) n i (le-of-suc-le-suc h))
+    let e : a + objectSize * suc i ≡ a + objectSize + objectSize * i = omega arith in
+    rw e (at-nodes S (a + objectSize) n i (le-of-suc-le-suc h))
 
 -- n packed objects from a place on
 abbrev pub AllPacked : List ℕ → ℕ → ℕ → Type 0
-AllPacked S a n = (i : ℕ) → i < n → Packed S (a + 6 * i)
+AllPacked S a n = (i : ℕ) → i < n → Packed S (a + objectSize * i)
 
 pub bytes-same : (A B : List ℕ) (n a b : ℕ) → AllPacked A a n → AllPacked B b n → nodesIn A a n ≡ nodesIn B b n
-    → (p : ℕ) → p < 6 * n → getD A (a + p) 0 ≡ getD B (b + p) 0
+    → (p : ℕ) → p < objectSize * n → getD A (a + p) 0 ≡ getD B (b + p) 0
 bytes-same A B n a b pa pb e p h =
-    let i : p / 6 < n = omega arith in
-    let ea : a + p ≡ a + 6 * (p / 6) + p % 6 = omega arith in
-    let eb : b + p ≡ b + 6 * (p / 6) + p % 6 = omega arith in
-    let en : nodeIn A (a + 6 * (p / 6)) ≡ nodeIn B (b + 6 * (p / 6)) = sym (at-nodes A a n (p / 6) i) ∙ ap (λ (l : List Node). nodeAt l (p / 6)) e ∙ at-nodes B b n (p / 6) i in
-    rw (ea, eb, packed-byte A (a + 6 * (p / 6)) (pa (p / 6) i) (p % 6) (omega arith), packed-byte B (b + 6 * (p / 6)) (pb (p / 6) i) (p % 6) (omega arith), en)
+    let i : p / objectSize < n = omega arith in
+    let ea : a + p ≡ a + objectSize * (p / objectSize) + p % objectSize = omega arith in
+    let eb : b + p ≡ b + objectSize * (p / objectSize) + p % objectSize = omega arith in
+    let en : nodeIn A (a + objectSize * (p / objectSize)) ≡ nodeIn B (b + objectSize * (p / objectSize)) = sym (at-nodes A a n (p / objectSize) i) ∙ ap (λ (l : List Node). nodeAt l (p / objectSize)) e ∙ at-nodes B b n (p / objectSize) i in
+    rw (ea, eb, packed-byte A (a + objectSize * (p / objectSize)) (pa (p / objectSize) i) (p % objectSize) (omega arith), packed-byte B (b + objectSize * (p / objectSize)) (pb (p / objectSize) i) (p % objectSize) (omega arith), en)
 
 -- an object of them by its bytes
 module _ (S : List ℕ) (base n : ℕ) (pk : AllPacked S base n) (x : ℕ) (hx : x < n) where
-  byte : (k : ℕ) → k < 6 → getD S (base + 6 * x + k) 0 ≡ byteOf (nodeAt (nodesIn S base n) x) k
-  byte k h = packed-byte S (base + 6 * x) (pk x hx) k h ∙ ap (λ (o : Node). byteOf o k) (sym (at-nodes S base n x hx))
+  byte : (k : ℕ) → k < objectSize → getD S (base + objectSize * x + k) 0 ≡ byteOf (nodeAt (nodesIn S base n) x) k
+  byte k h = packed-byte S (base + objectSize * x) (pk x hx) k h ∙ ap (λ (o : Node). byteOf o k) (sym (at-nodes S base n x hx))
 
-  pub class-is : getD S (base + 6 * x) 0 ≡ nodeAt (nodesIn S base n) x .cls
+  pub class-is : getD S (base + objectSize * x) 0 ≡ nodeAt (nodesIn S base n) x .cls
   unfolding byteOf
-  class-is = let z : base + 6 * x + 0 ≡ base + 6 * x = omega arith in rw z at (byte 0 (omega arith))
+  class-is = let z : base + objectSize * x + 0 ≡ base + objectSize * x = omega arith in rw z at (byte 0 (omega arith))
 
-  pub count-is : getD S (base + 6 * x + 1) 0 ≡ length (refsAt (nodesIn S base n) x)
+  pub count-is : getD S (base + objectSize * x + 1) 0 ≡ length (refsAt (nodesIn S base n) x)
   unfolding byteOf
   count-is = byte 1 (omega arith)
 
-  pub code-is : (f : ℕ) → f < 4 → getD S (base + 6 * x + 2 + f) 0 ≡ codeOf (getD (refsAt (nodesIn S base n) x) f undet)
+  pub code-is : (f : ℕ) → f < codeCount → getD S (base + objectSize * x + headSize + f) 0 ≡ codeOf (getD (refsAt (nodesIn S base n) x) f undet)
   unfolding byteOf
-  code-is f h = let z : base + 6 * x + 2 + f ≡ base + 6 * x + (suc (suc f)) = omega arith in rw z (byte (suc (suc f)) (omega arith))
+  code-is f h = let z : base + objectSize * x + headSize + f ≡ base + objectSize * x + (suc (suc f)) = omega arith in rw z (byte (suc (suc f)) (omega arith))
 
   pub four-fields : length (refsAt (nodesIn S base n) x) ≤ 4
   four-fields = omega (arith, count-is, pk x hx .count)
 
   -- objects that refer to one another only refer to none from n on
-  pub code-low : Whole (graph undet (nodesIn S base n)) → (f : ℕ) → f < 4 → getD S (base + 6 * x + 2 + f) 0 < 192 → getD S (base + 6 * x + 2 + f) 0 < n
-  code-low w = field-low S (base + 6 * x) (pk x hx) n (λ f r e. subst (λ (k : ℕ). InRange k r) (length-nodes S base n) (w .inner x f r (ap (λ (o : Node). getElem? (o .refs) f) (at-nodes S base n x hx) ∙ e)))
+  pub code-low : Whole (graph undet (nodesIn S base n)) → (f : ℕ) → f < codeCount → getD S (base + objectSize * x + headSize + f) 0 < firstLeaf → getD S (base + objectSize * x + headSize + f) 0 < n
+  code-low w = field-low S (base + objectSize * x) (pk x hx) n (λ f r e. subst (λ (k : ℕ). InRange k r) (length-nodes S base n) (w .inner x f r (ap (λ (o : Node). getElem? (o .refs) f) (at-nodes S base n x hx) ∙ e)))
 
 -- ---- the last bytes of a block written
-module _ (W : List ℕ) (b n l m : ℕ) (room : 234 * b + 234 ≤ length W) where
+module _ (W : List ℕ) (b n l m : ℕ) (room : blockSize * b + blockSize ≤ length W) where
   pub ended-size : length (ended W b n l m) ≡ length W
   ended-size = simp length-set
 
-  apart : (p : ℕ) → ((p ≡ 234 * b + 192) → ⊥) → ((p ≡ 234 * b + 193) → ⊥) → ((p ≡ 234 * b + 194) → ⊥) → getD (ended W b n l m) p 0 ≡ getD W p 0
+  apart : (p : ℕ) → ((p ≡ blockSize * b + countAt) → ⊥) → ((p ≡ blockSize * b + levelAt) → ⊥) → ((p ≡ blockSize * b + reachAt) → ⊥) → getD (ended W b n l m) p 0 ≡ getD W p 0
   apart p h k j =
-      getD-set-other (set (set W (234 * b + 192) n) (234 * b + 193) l) (234 * b + 194) p m 0 j
-      ∙ getD-set-other (set W (234 * b + 192) n) (234 * b + 193) p l 0 k
-      ∙ getD-set-other W (234 * b + 192) p n 0 h
+      getD-set-other (set (set W (blockSize * b + countAt) n) (blockSize * b + levelAt) l) (blockSize * b + reachAt) p m 0 j
+      ∙ getD-set-other (set W (blockSize * b + countAt) n) (blockSize * b + levelAt) p l 0 k
+      ∙ getD-set-other W (blockSize * b + countAt) p n 0 h
 
-  pub ended-below : (p : ℕ) → p < 234 * b + 192 → getD (ended W b n l m) p 0 ≡ getD W p 0
+  pub ended-below : (p : ℕ) → p < blockSize * b + countAt → getD (ended W b n l m) p 0 ≡ getD W p 0
   ended-below p h = apart p (λ z. omega arith) (λ z. omega arith) (λ z. omega arith)
 
-  pub ended-above : (p : ℕ) → 234 * b + 195 ≤ p → getD (ended W b n l m) p 0 ≡ getD W p 0
+  pub ended-above : (p : ℕ) → blockSize * b + 195 ≤ p → getD (ended W b n l m) p 0 ≡ getD W p 0
   ended-above p h = apart p (λ z. omega arith) (λ z. omega arith) (λ z. omega arith)
 
   pub ended-count : countIn (ended W b n l m) b ≡ n
   unfolding countIn
   ended-count =
-      getD-set-other (set (set W (234 * b + 192) n) (234 * b + 193) l) (234 * b + 194) (234 * b + 192) m 0 (λ z. omega arith)
-      ∙ getD-set-other (set W (234 * b + 192) n) (234 * b + 193) (234 * b + 192) l 0 (λ z. omega arith)
-      ∙ getD-set-same W (234 * b + 192) n 0 (omega arith)
+      getD-set-other (set (set W (blockSize * b + countAt) n) (blockSize * b + levelAt) l) (blockSize * b + reachAt) (blockSize * b + countAt) m 0 (λ z. omega arith)
+      ∙ getD-set-other (set W (blockSize * b + countAt) n) (blockSize * b + levelAt) (blockSize * b + countAt) l 0 (λ z. omega arith)
+      ∙ getD-set-same W (blockSize * b + countAt) n 0 (omega arith)
 
   pub ended-level : levelIn (ended W b n l m) b ≡ l
   unfolding levelIn
   ended-level =
-      getD-set-other (set (set W (234 * b + 192) n) (234 * b + 193) l) (234 * b + 194) (234 * b + 193) m 0 (λ z. omega arith)
-      ∙ getD-set-same (set W (234 * b + 192) n) (234 * b + 193) l 0 (omega (arith, length-set W (234 * b + 192) n))
+      getD-set-other (set (set W (blockSize * b + countAt) n) (blockSize * b + levelAt) l) (blockSize * b + reachAt) (blockSize * b + levelAt) m 0 (λ z. omega arith)
+      ∙ getD-set-same (set W (blockSize * b + countAt) n) (blockSize * b + levelAt) l 0 (omega (arith, length-set W (blockSize * b + countAt) n))
 
   pub ended-reach : reachIn (ended W b n l m) b ≡ m
   unfolding reachIn
   ended-reach =
-      getD-set-same (set (set W (234 * b + 192) n) (234 * b + 193) l) (234 * b + 194) m 0
-      (omega (arith, length-set (set W (234 * b + 192) n) (234 * b + 193) l, length-set W (234 * b + 192) n))
+      getD-set-same (set (set W (blockSize * b + countAt) n) (blockSize * b + levelAt) l) (blockSize * b + reachAt) m 0
+      (omega (arith, length-set (set W (blockSize * b + countAt) n) (blockSize * b + levelAt) l, length-set W (blockSize * b + countAt) n))
 
 -- ---- two objects side by side
 module _ (S : List ℕ) (p q : ℕ) where
@@ -253,16 +254,16 @@ parts-same A B a b n ha hb h =
     ext-getD 0 (part A a n) (part B b n) (length-part A a n ha ∙ sym (length-part B b n hb))
     (λ p l. let l′ : p < n = omega (arith, length-part A a n ha) in at-part A a n ha p l′ ∙ h p l′ ∙ sym (at-part B b n hb p l′))
 
-module _ (A B : List ℕ) (n a b : ℕ) (ha : a + 6 * n ≤ length A) (hb : b + 6 * n ≤ length B) where
-  pub nodes-of-parts : part A a (6 * n) ≡ part B b (6 * n) → nodesIn A a n ≡ nodesIn B b n
-  nodes-of-parts e = nodes-same A B n a b (λ p l. sym (at-part A a (6 * n) ha p l) ∙ ap (λ (x : List ℕ). getD x p 0) e ∙ at-part B b (6 * n) hb p l)
+module _ (A B : List ℕ) (n a b : ℕ) (ha : a + objectSize * n ≤ length A) (hb : b + objectSize * n ≤ length B) where
+  pub nodes-of-parts : part A a (objectSize * n) ≡ part B b (objectSize * n) → nodesIn A a n ≡ nodesIn B b n
+  nodes-of-parts e = nodes-same A B n a b (λ p l. sym (at-part A a (objectSize * n) ha p l) ∙ ap (λ (x : List ℕ). getD x p 0) e ∙ at-part B b (objectSize * n) hb p l)
 
-  pub parts-of-nodes : AllPacked A a n → AllPacked B b n → nodesIn A a n ≡ nodesIn B b n → part A a (6 * n) ≡ part B b (6 * n)
-  parts-of-nodes pa pb e = parts-same A B a b (6 * n) ha hb (bytes-same A B n a b pa pb e)
+  pub parts-of-nodes : AllPacked A a n → AllPacked B b n → nodesIn A a n ≡ nodesIn B b n → part A a (objectSize * n) ≡ part B b (objectSize * n)
+  parts-of-nodes pa pb e = parts-same A B a b (objectSize * n) ha hb (bytes-same A B n a b pa pb e)
 
 -- ---- bytes by the numbers that they make
 four-digits : (a b c d a′ b′ c′ d′ : ℕ) → a < 256 → b < 256 → c < 256 → d < 256 → a′ < 256 → b′ < 256 → c′ < 256 → d′ < 256
-    → a + 256 * b + 65536 * c + 16777216 * d ≡ a′ + 256 * b′ + 65536 * c′ + 16777216 * d′ → (a ≡ a′) × (b ≡ b′) × (c ≡ c′) × (d ≡ d′)
+    → a + 256 * b + 65536 * c + threeBytes * d ≡ a′ + 256 * b′ + 65536 * c′ + threeBytes * d′ → (a ≡ a′) × (b ≡ b′) × (c ≡ c′) × (d ≡ d′)
 four-digits a b c d a′ b′ c′ d′ la lb lc ld la′ lb′ lc′ ld′ e = (omega arith, omega arith, omega arith, omega arith)
 
 module _ (A B : List ℕ) (i j x y : ℕ) where
@@ -299,27 +300,27 @@ module _ (A B : List ℕ) (i j x y : ℕ) where
     two-bytes e (suc zero) h = omega (arith, ta .is, tb .is, ta .low0, ta .low1, tb .low0, tb .low1)
     two-bytes e (suc (suc p)) h = absurd (omega arith)
 
-module _ (A B : List ℕ) (i j : ℕ) (ha : i + 6 ≤ length A) (hb : j + 6 ≤ length B) (x y : ℕ) (fa : Four A i x) (fb : Four B j y) where
-  byte-of : eqNats (part A i 6) (part B j 6) ≡ true → (p : ℕ) → p < 6 → getD A (i + p) 0 ≡ getD B (j + p) 0
-  byte-of e p h = sym (at-part A i 6 ha p h) ∙ ap (λ (l : List ℕ). getD l p 0) (eqNats-true _ _ e) ∙ at-part B j 6 hb p h
+module _ (A B : List ℕ) (i j : ℕ) (ha : i + objectSize ≤ length A) (hb : j + objectSize ≤ length B) (x y : ℕ) (fa : Four A i x) (fb : Four B j y) where
+  byte-of : eqNats (part A i objectSize) (part B j objectSize) ≡ true → (p : ℕ) → p < objectSize → getD A (i + p) 0 ≡ getD B (j + p) 0
+  byte-of e p h = sym (at-part A i objectSize ha p h) ∙ ap (λ (l : List ℕ). getD l p 0) (eqNats-true _ _ e) ∙ at-part B j objectSize hb p h
 
-  pub six-not : ((x ≡ y) → ⊥) → false ≡ eqNats (part A i 6) (part B j 6)
-  six-not d = go (eqNats (part A i 6) (part B j 6)) refl
+  pub six-not : ((x ≡ y) → ⊥) → false ≡ eqNats (part A i objectSize) (part B j objectSize)
+  six-not d = go (eqNats (part A i objectSize) (part B j objectSize)) refl
     where
-      go : (r : Bool) → eqNats (part A i 6) (part B j 6) ≡ r → false ≡ r
+      go : (r : Bool) → eqNats (part A i objectSize) (part B j objectSize) ≡ r → false ≡ r
       go true e = absurd (d (four-number A B i j x y fa fb (λ p h. byte-of e p (omega arith))))
       go false e = refl
 
-  pub six-by-last : (u v : ℕ) → x ≡ y → Two A (i + 4) u → Two B (j + 4) v → eqb u v ≡ eqNats (part A i 6) (part B j 6)
+  pub six-by-last : (u v : ℕ) → x ≡ y → Two A (i + 4) u → Two B (j + 4) v → eqb u v ≡ eqNats (part A i objectSize) (part B j objectSize)
   six-by-last u v e ta tb =
-      tests-same (eqb u v) (eqNats (part A i 6) (part B j 6))
-      (λ q. eqNats-same _ _ (parts-same A B i j 6 ha hb (λ p h. go q p h (decLt p 4))))
+      tests-same (eqb u v) (eqNats (part A i objectSize) (part B j objectSize))
+      (λ q. eqNats-same _ _ (parts-same A B i j objectSize ha hb (λ p h. go q p h (decLt p 4))))
       (λ q. eq-eqb u v (two-number A B (i + 4) (j + 4) u v ta tb (λ p h.
       let zi : i + 4 + p ≡ i + (4 + p) = omega arith in
       let zj : j + 4 + p ≡ j + (4 + p) = omega arith in
       rw (zi, zj) (byte-of q (4 + p) (omega arith)))))
     where
-      go : eqb u v ≡ true → (p : ℕ) → p < 6 → Dec (p < 4) → getD A (i + p) 0 ≡ getD B (j + p) 0
+      go : eqb u v ≡ true → (p : ℕ) → p < objectSize → Dec (p < 4) → getD A (i + p) 0 ≡ getD B (j + p) 0
       go q p h (yes l) = four-bytes A B i j x y fa fb e p l
       go q p h (no l) =
           let zi : i + 4 + (p - 4) ≡ i + p = omega (arith, l) in
@@ -328,13 +329,13 @@ module _ (A B : List ℕ) (i j : ℕ) (ha : i + 6 ≤ length A) (hb : j + 6 ≤ 
 
 -- one object
 one : (S : List ℕ) (a : ℕ) → Packed S a → AllPacked S a 1
-one S a p i h = let e : a + 6 * i ≡ a = omega arith in rw e p
+one S a p i h = let e : a + objectSize * i ≡ a = omega arith in rw e p
 
-pub eq-node : (A B : List ℕ) (a b : ℕ) → a + 6 ≤ length A → b + 6 ≤ length B → Packed A a → Packed B b
-    → eqNode (nodeIn A a) (nodeIn B b) ≡ eqNats (part A a 6) (part B b 6)
+pub eq-node : (A B : List ℕ) (a b : ℕ) → a + objectSize ≤ length A → b + objectSize ≤ length B → Packed A a → Packed B b
+    → eqNode (nodeIn A a) (nodeIn B b) ≡ eqNats (part A a objectSize) (part B b objectSize)
 unfolding nodesIn
 eq-node A B a b ha hb pa pb =
-    tests-same (eqNode (nodeIn A a) (nodeIn B b)) (eqNats (part A a 6) (part B b 6))
+    tests-same (eqNode (nodeIn A a) (nodeIn B b)) (eqNats (part A a objectSize) (part B b objectSize))
     (λ e. eqNats-same _ _ (parts-of-nodes A B 1 a b ha hb (one A a pa) (one B b pb) (ap (λ (x : Node). x ∷ []) (eqNode-true _ _ e))))
     (λ e. let z : nodeIn A a ∷ [] ≡ nodeIn B b ∷ [] = nodes-of-parts A B 1 a b ha hb (eqNats-true _ _ e) in
     let y : nodeIn A a ≡ nodeIn B b = cc in

@@ -18,6 +18,7 @@ use Rattle.cofj.proofs.Walk.{order, order-length, order-kept, order-root, Cover
 use Rattle.cofj.proofs.Canon.{number, listed, canon-is, canon-whole, getD-isIn, placeIn-spec}
 use Rattle.cofj.proofs.Unique.{canon-canon}
 use Rattle.cofj.proofs.Numbering.{canonical-root}
+use Rattle.canon.specs.Figures.{objectSize, firstLeaf, firstMark, capacity, blockSize}
 use Rattle.canon.specs.Layout.{nodeIn, nodesIn, Packed, Distinct, Block, graphAt, objectsIn, countIn, ended}
 use Rattle.canon.specs.Tables.{Filled, copied, Lifted}
 use Rattle.canon.specs.Walking.{walkRef, markIn, Listed}
@@ -30,7 +31,7 @@ use Rattle.canon.proofs.Turned.{turnRef, changed, lifted-nodes, lifted-
 pub gather-none : (N O T D : List ℕ) (to : ℕ) → Gathered N O 0 T D to D
 gather-none N O T D to = record { same = refl; here = λ j k h. absurd (omega arith); below = λ q h. refl; above = λ q h. refl }
 
-pub gather-more : (N O T D₀ : List ℕ) (to : ℕ) (D D2 : List ℕ) (j : ℕ) → Gathered N O j T D₀ to D → Lifted N (6 * getD O j 0) 6 T D (to + 6 * j) D2
+pub gather-more : (N O T D₀ : List ℕ) (to : ℕ) (D D2 : List ℕ) (j : ℕ) → Gathered N O j T D₀ to D → Lifted N (objectSize * getD O j 0) objectSize T D (to + objectSize * j) D2
     → Gathered N O (j + 1) T D₀ to D2
 gather-more N O T D₀ to D D2 j g f = record {
   same = f .same ∙ g .same;
@@ -39,15 +40,15 @@ gather-more N O T D₀ to D D2 j g f = record {
   above = λ q h. f .above q (omega arith) ∙ g .above q (omega arith);
 }
   where
-    go : (i k : ℕ) → i < j + 1 → k < 6 → Dec (i ≡ j) → getD D2 (to + 6 * i + k) 0 ≡ copied T k (getD N (6 * getD O i 0 + k) 0)
-    go i k h l (yes e) = let z : k % 6 ≡ k = omega arith in rw e (rw z at (f .here k l))
-    go i k h l (no e) = f .below (to + 6 * i + k) (omega (arith, e)) ∙ g .here i k (omega (arith, e)) l
+    go : (i k : ℕ) → i < j + 1 → k < objectSize → Dec (i ≡ j) → getD D2 (to + objectSize * i + k) 0 ≡ copied T k (getD N (objectSize * getD O i 0 + k) 0)
+    go i k h l (yes e) = let z : k % objectSize ≡ k = omega arith in rw e (rw z at (f .here k l))
+    go i k h l (no e) = f .below (to + objectSize * i + k) (omega (arith, e)) ∙ g .here i k (omega (arith, e)) l
 
 pub gather-done : (N O T D₀ : List ℕ) (to : ℕ) (D : List ℕ) (j m : ℕ) → Gathered N O j T D₀ to D → j ≤ m → m ≤ j → Gathered N O m T D₀ to D
 gather-done N O T D₀ to D j m g h k = let e : j ≡ m = omega arith in rw e at g
 
 -- ---- the walk over the bytes is the walk over the graph
-module _ (N C : List ℕ) (n : ℕ) (few : n ≤ 192) (w : (i k : ℕ) (r : Ref) → getElem? (refsAt (nodesIn N 0 n) i) k ≡ some r → InRange n r)
+module _ (N C : List ℕ) (n : ℕ) (few : n ≤ firstLeaf) (w : (i k : ℕ) (r : Ref) → getElem? (refsAt (nodesIn N 0 n) i) k ≡ some r → InRange n r)
     (low : (i : ℕ) → i < n → getD C i 0 < n) where
   node-at : (c : ℕ) → c < n → nodeAt (nodesIn N 0 256) c ≡ nodeAt (nodesIn N 0 n) c
   node-at c h = at-nodes N 0 256 c (omega arith) ∙ sym (at-nodes N 0 n c h)
@@ -77,25 +78,25 @@ module _ (N C : List ℕ) (n : ℕ) (few : n ≤ 192) (w : (i k : ℕ) (r : Ref)
 
 -- ---- what is gathered
 module _ (N O : List ℕ) (m : ℕ) (T D₀ : List ℕ) (to : ℕ) (D : List ℕ) (g : Gathered N O m T D₀ to D) where
-  one : (j : ℕ) → j < m → Lifted N (6 * getD O j 0) 6 T D (to + 6 * j) D
+  one : (j : ℕ) → j < m → Lifted N (objectSize * getD O j 0) objectSize T D (to + objectSize * j) D
   one j h = record {
     same = refl;
-    here = λ q l. let z : q % 6 ≡ q = omega arith in rw z (g .here j q h l);
+    here = λ q l. let z : q % objectSize ≡ q = omega arith in rw z (g .here j q h l);
     below = λ q l. refl;
     above = λ q l. refl;
   }
 
-  gathered-node : (j : ℕ) → j < m → nodeIn D (to + 6 * j) ≡ changed (turnRef T) (nodeIn N (6 * getD O j 0))
+  gathered-node : (j : ℕ) → j < m → nodeIn D (to + objectSize * j) ≡ changed (turnRef T) (nodeIn N (objectSize * getD O j 0))
   unfolding nodesIn
   gathered-node j h =
-      let e : nodeIn D (to + 6 * j) ∷ [] ≡ changed (turnRef T) (nodeIn N (6 * getD O j 0)) ∷ [] = lifted-nodes N (6 * getD O j 0) T D (to + 6 * j) D 1 (one j h) in
+      let e : nodeIn D (to + objectSize * j) ∷ [] ≡ changed (turnRef T) (nodeIn N (objectSize * getD O j 0)) ∷ [] = lifted-nodes N (objectSize * getD O j 0) T D (to + objectSize * j) D 1 (one j h) in
       cc
 
-  gathered-packed : (j : ℕ) → j < m → Packed N (6 * getD O j 0) → Packed D (to + 6 * j)
+  gathered-packed : (j : ℕ) → j < m → Packed N (objectSize * getD O j 0) → Packed D (to + objectSize * j)
   gathered-packed j h pk =
-      let z : to + 6 * j + 6 * 0 ≡ to + 6 * j = omega arith in
-      rw z at (lifted-packed N (6 * getD O j 0) T D (to + 6 * j) D 1 (one j h)
-      (λ i l. let y : 6 * getD O j 0 + 6 * i ≡ 6 * getD O j 0 = omega arith in rw y pk) 0 (omega arith))
+      let z : to + objectSize * j + objectSize * 0 ≡ to + objectSize * j = omega arith in
+      rw z at (lifted-packed N (objectSize * getD O j 0) T D (to + objectSize * j) D 1 (one j h)
+      (λ i l. let y : objectSize * getD O j 0 + objectSize * i ≡ objectSize * getD O j 0 = omega arith in rw y pk) 0 (omega arith))
 
 place-le : (c : ℕ) (s : List ℕ) → placeIn c s ≤ length s
 unfolding placeIn
@@ -188,19 +189,19 @@ module _ (N : List ℕ) (n : ℕ) (C : List ℕ) (root : ℕ) (W : List ℕ) (ds
         let i : isIn (getD (order (graphIn N n root) wg) j 0) (order (graphIn N n root) wg) ≡ true = getD-isIn (order (graphIn N n root) wg) j (omega (arith, counted, canon-count)) in
         omega (arith, order-kept (graphIn N n root) wg _ i .0, length-nodes N 0 n)
 
-    pub put-large : 32 < m → Placed N n root W dst W m
+    pub put-large : capacity < m → Placed N n root W dst W m
     put-large h = record {
       count = counted;
       outside = record { same = refl; below = λ p l. refl; above = λ p l. refl };
       has = λ l. absurd (omega arith);
     }
 
-    module _ (M : List ℕ) (lm : Listed M (take m O)) (T : List ℕ) (fm : Filled (λ i. numberIn M m (getD C i 0)) n T) (D : List ℕ) (g : Gathered N O m T W (234 * dst) D) (few : m ≤ 32)
-        (l : ℕ) (lv : Levels D (234 * dst) (6 * m) l) where
+    module _ (M : List ℕ) (lm : Listed M (take m O)) (T : List ℕ) (fm : Filled (λ i. numberIn M m (getD C i 0)) n T) (D : List ℕ) (g : Gathered N O m T W (blockSize * dst) D) (few : m ≤ capacity)
+        (l : ℕ) (lv : Levels D (blockSize * dst) (objectSize * m) l) where
       abbrev E : List ℕ
       E = ended D dst m l m
 
-      room : 234 * dst + 234 ≤ length D
+      room : blockSize * dst + blockSize ≤ length D
       room = omega (arith, g .same, rd .room)
 
       same-size : length E ≡ length W
@@ -212,23 +213,23 @@ module _ (N : List ℕ) (n : ℕ) (C : List ℕ) (root : ℕ) (W : List ℕ) (ds
       number-is : (i : ℕ) → i < n → getD T i 0 ≡ number (graphIn N n root) wg i
       number-is i h = ft .at i h ∙ ap₂ placeIn (colour-is i h) order-is
 
-      number-small : (i : ℕ) → i < n → number (graphIn N n root) wg i < 192
+      number-small : (i : ℕ) → i < n → number (graphIn N n root) wg i < firstLeaf
       number-small i h = omega (arith, place-le (colourOf (colours (nodesIn N 0 n)) i) (order (graphIn N n root) wg), counted, canon-count)
 
-      g′ : Gathered N O m T E (234 * dst) E
+      g′ : Gathered N O m T E (blockSize * dst) E
       g′ = record {
         same = refl;
-        here = λ j k h c. ended-below D dst m l m room (234 * dst + 6 * j + k) (omega arith) ∙ g .here j k h c;
+        here = λ j k h c. ended-below D dst m l m room (blockSize * dst + objectSize * j + k) (omega arith) ∙ g .here j k h c;
         below = λ q h. refl;
         above = λ q h. refl;
       }
 
-      node-is : (j : ℕ) → j < m → nodeIn E (234 * dst + 6 * j) ≡ nodeAt (listed (graphIn N n root) wg) j
+      node-is : (j : ℕ) → j < m → nodeIn E (blockSize * dst + objectSize * j) ≡ nodeAt (listed (graphIn N n root) wg) j
       node-is j h =
           let c : getD O j 0 < n = listed-low j h in
           let ec : getD O j 0 ≡ getD (order (graphIn N n root) wg) j 0 = sym (getD-take m O j 0 h) ∙ ap (λ (l : List ℕ). getD l j 0) order-is in
-          let z : 0 + 6 * getD O j 0 ≡ 6 * getD O j 0 = omega arith in
-          gathered-node N O m T E (234 * dst) E g′ j h
+          let z : 0 + objectSize * getD O j 0 ≡ objectSize * getD O j 0 = omega arith in
+          gathered-node N O m T E (blockSize * dst) E g′ j h
           ∙ ap (λ (p : ℕ). changed (turnRef T) (nodeIn N p)) (sym z)
           ∙ ap (changed (turnRef T)) (sym (at-nodes N 0 n (getD O j 0) c))
           ∙ node-agree (turnRef T) (rename (number (graphIn N n root) wg)) (InRange n)
@@ -246,10 +247,10 @@ module _ (N : List ℕ) (n : ℕ) (C : List ℕ) (root : ℕ) (W : List ℕ) (ds
       unfolding objectsIn
       block-is =
           ap₂ graph (ap obj (sym root-is))
-          (ap (nodesIn E (234 * dst)) count-is
-          ∙ nodes-ext (nodesIn E (234 * dst) m) (listed (graphIn N n root) wg)
-          (length-nodes _ (234 * dst) m ∙ counted ∙ canon-count ∙ sym (length-map (order (graphIn N n root) wg) _))
-          (λ j l. let h : j < m = omega (arith, length-nodes E (234 * dst) m) in at-nodes _ (234 * dst) m j h ∙ node-is j h))
+          (ap (nodesIn E (blockSize * dst)) count-is
+          ∙ nodes-ext (nodesIn E (blockSize * dst) m) (listed (graphIn N n root) wg)
+          (length-nodes _ (blockSize * dst) m ∙ counted ∙ canon-count ∙ sym (length-map (order (graphIn N n root) wg) _))
+          (λ j l. let h : j < m = omega (arith, length-nodes E (blockSize * dst) m) in at-nodes _ (blockSize * dst) m j h ∙ node-is j h))
           ∙ sym (canon-is (graphIn N n root) wg)
 
       filled-is : 1 ≤ m
@@ -260,8 +261,8 @@ module _ (N : List ℕ) (n : ℕ) (C : List ℕ) (root : ℕ) (W : List ℕ) (ds
           let w = subst Whole (sym block-is) (canon-whole (graphIn N n root) wg) in
           record { top = tt; inner = w .inner }
 
-      packed-is : AllPacked E (234 * dst) (countIn E dst)
-      packed-is j i = let h : j < m = omega (arith, count-is) in gathered-packed N O m T E (234 * dst) E g′ j h (rd .raw .packed (getD O j 0) (listed-low j h))
+      packed-is : AllPacked E (blockSize * dst) (countIn E dst)
+      packed-is j i = let h : j < m = omega (arith, count-is) in gathered-packed N O m T E (blockSize * dst) E g′ j h (rd .raw .packed (getD O j 0) (listed-low j h))
 
       block-ok : Block E dst
       unfolding objectsIn
@@ -271,8 +272,8 @@ module _ (N : List ℕ) (n : ℕ) (C : List ℕ) (root : ℕ) (W : List ℕ) (ds
         packed = packed-is;
         whole = whole-is;
         distinct = subst (λ (v : Graph). Distinct (v .nodes)) (sym block-is) (value-distinct (canon (graphIn N n root)) (canon-whole (graphIn N n root) wg) (canon-canon (graphIn N n root) wg));
-        level = λ q h. rw (ended-below D dst m l m room (234 * dst + q) (omega (arith, count-is)), ended-level D dst m l m room) (lv .below q (omega (arith, count-is)));
-        reach = λ i f h k c. omega (arith, count-is, ended-reach D dst m l m room, code-low E (234 * dst) (countIn E dst) packed-is i h whole-is f k c);
+        level = λ q h. rw (ended-below D dst m l m room (blockSize * dst + q) (omega (arith, count-is)), ended-level D dst m l m room) (lv .below q (omega (arith, count-is)));
+        reach = λ i f h k c. omega (arith, count-is, ended-reach D dst m l m room, code-low E (blockSize * dst) (countIn E dst) packed-is i h whole-is f k c);
       }
 
       pub put-done : Placed N n root W dst E m
@@ -291,14 +292,14 @@ pub level-none : (W : List ℕ) (at : ℕ) (l : ℕ) → Levels W at 0 l
 level-none W at l = record { below = λ q h. absurd (omega arith) }
 
 module _ (W : List ℕ) (at q l : ℕ) (lv : Levels W at q l) where
-  pub level-more : (m : ℕ) → l ≤ m → getD W (at + q) 0 < 193 + m → Levels W at (q + 1) m
+  pub level-more : (m : ℕ) → l ≤ m → getD W (at + q) 0 < firstMark + m → Levels W at (q + 1) m
   level-more m h c = record { below = λ p k. go p k (ℕ-discrete p q) }
     where
-      go : (p : ℕ) → p < q + 1 → Dec (p ≡ q) → getD W (at + p) 0 < 193 + m
+      go : (p : ℕ) → p < q + 1 → Dec (p ≡ q) → getD W (at + p) 0 < firstMark + m
       go p k (yes e) = rw e c
       go p k (no e) = omega (arith, lv .below p (omega (arith, e)))
 
-  pub level-more-0 : at ≡ 0 → (m : ℕ) → l ≤ m → getD W q 0 < 193 + m → Levels W 0 (q + 1) m
+  pub level-more-0 : at ≡ 0 → (m : ℕ) → l ≤ m → getD W q 0 < firstMark + m → Levels W 0 (q + 1) m
   level-more-0 e m h c = let z : at + q ≡ q = omega arith in rw e at (level-more m h (rw z c))
 
   pub level-done : (p : ℕ) → q ≤ p → p ≤ q → Levels W at p l

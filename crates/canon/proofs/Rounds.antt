@@ -13,6 +13,7 @@ use Rattle.cofj.specs.Unfolding.{Same, InRange}
 use Rattle.cofj.proofs.Basics.{eqNats-true}
 use Rattle.cofj.proofs.Trees.{same-look}
 use Rattle.cofj.proofs.Colours.{look, next, next-at, next-low, next-looks, next-same, look-next, length-refine, refs-coarser, colour-same}
+use Rattle.canon.specs.Figures.{objectSize, firstLeaf, wideSize}
 use Rattle.canon.specs.Layout.{nodeIn, nodesIn, part}
 use Rattle.canon.specs.Tables.{Filled, Carried, Lifted}
 use Rattle.canon.specs.Rounds.{Looks, placeIs, Raw, Below}
@@ -27,12 +28,12 @@ front-is A l n e h f =
     ext-getD 0 (take n A) l (length-take-le n A h ∙ sym e)
     (λ i k. let k′ : i < n = omega (arith, length-take-le n A h) in getD-take n A i 0 k′ ∙ f i k′)
 
-module _ (N C L₀ L : List ℕ) (n : ℕ) (raw : Raw N n) (f : Lifted N 0 (6 * n) C L₀ 0 L) where
-  pub looks-ok : 1536 ≤ length L₀ → Looks L n
+module _ (N C L₀ L : List ℕ) (n : ℕ) (raw : Raw N n) (f : Lifted N 0 (objectSize * n) C L₀ 0 L) where
+  pub looks-ok : wideSize ≤ length L₀ → Looks L n
   looks-ok h = record {
     few = raw .few;
     room = omega (arith, f .same);
-    packed = λ i l. let e : 6 * i ≡ 0 + 6 * i = omega arith in rw e (lifted-packed N 0 C L₀ 0 L n f (λ j k. let ej : 0 + 6 * j ≡ 6 * j = omega arith in rw ej (raw .packed j k)) i l);
+    packed = λ i l. let e : objectSize * i ≡ 0 + objectSize * i = omega arith in rw e (lifted-packed N 0 C L₀ 0 L n f (λ j k. let ej : 0 + objectSize * j ≡ objectSize * j = omega arith in rw ej (raw .packed j k)) i l);
   }
 
   inner : (i k : ℕ) (r : Ref) → getElem? (refsAt (nodesIn N 0 n) i) k ≡ some r → InRange n r
@@ -51,9 +52,9 @@ module _ (N C L₀ L : List ℕ) (n : ℕ) (raw : Raw N n) (f : Lifted N 0 (6 * 
   round-done X b g room =
       front-is X (refine (nodesIn N 0 n) (take n C)) n (length-refine (nodesIn N 0 n) (take n C) ∙ length-nodes N 0 n) (omega (arith, raw .few))
       (λ i h.
-      let ei : 0 + 6 * i ≡ 6 * i = omega arith in
+      let ei : 0 + objectSize * i ≡ objectSize * i = omega arith in
       let h′ : i < length (nodesIn N 0 n) = rw (length-nodes N 0 n) h in
-      let en : nodeIn L (6 * i) ≡ renameNode (colourOf (take n C)) (nodeAt (nodesIn N 0 n) i) =
+      let en : nodeIn L (objectSize * i) ≡ renameNode (colourOf (take n C)) (nodeAt (nodesIn N 0 n) i) =
       ap (nodeIn L) (sym ei) ∙ sym (at-nodes L 0 n i h) ∙ ap (λ (l : List Node). nodeAt l i) (looks-are b) ∙ List·getD-map (renameNode (colourOf (take n C))) (nodesIn N 0 n) i (node 0 []) in
       g .at i h ∙ ap₂ placeOf en (looks-are b) ∙ sym (next-at (nodesIn N 0 n) (take n C) i h′))
 
@@ -68,7 +69,7 @@ unfolding refineTo
 still-to ns cs zero e = refl
 still-to ns cs (suc k) e = turn-step ns cs k true e
 
-pub square-fits : (n : ℕ) → n ≤ 192 → n * n ≤ 36864
+pub square-fits : (n : ℕ) → n ≤ firstLeaf → n * n ≤ 36864
 square-fits n h = mul-le-mul h h
 
 -- a table that k rounds more of the rounds from zeros cannot be finer than

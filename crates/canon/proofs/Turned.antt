@@ -7,6 +7,7 @@ use mathlib.Core.Option.{some}
 use lib.ListN.{getD, take, getElem?}
 use Rattle.cofj.specs.Values.{Ref, obj, mark, undet, Node, node, rename, refsAt}
 use Rattle.cofj.specs.Unfolding.{InRange}
+use Rattle.canon.specs.Figures.{objectSize, firstLeaf, undeterminedCode, firstMark, spare}
 use Rattle.canon.specs.Layout.{refOf, codeOf, nodeIn, nodesIn, Packed}
 use Rattle.canon.specs.Tables.{turned, copied, Lifted}
 use Rattle.canon.proofs.Nodes.{code-ref, ref-object, ref-undet, ref-mark, AllPacked}
@@ -26,9 +27,9 @@ map-take f (suc n) (x ∷ l) = ap (λ (t : List Ref). f x ∷ t) (map-take f n l
 
 module _ (S D T : List ℕ) where
   abbrev Here : ℕ → ℕ → ℕ → Type 0
-  Here from to n = (p : ℕ) → p < n → getD D (to + p) 0 ≡ copied T (p % 6) (getD S (from + p) 0)
+  Here from to n = (p : ℕ) → p < n → getD D (to + p) 0 ≡ copied T (p % objectSize) (getD S (from + p) 0)
 
-  node-turned : (from to : ℕ) → Here from to 6 → nodeIn D to ≡ changed (turnRef T) (nodeIn S from)
+  node-turned : (from to : ℕ) → Here from to objectSize → nodeIn D to ≡ changed (turnRef T) (nodeIn S from)
   unfolding nodeIn copied
   node-turned from to h =
       let za : to + 0 ≡ to = omega arith in
@@ -48,58 +49,58 @@ module _ (S D T : List ℕ) where
         code-ref (getD S (from + 5) 0),
       )
 
-  later : (from to n : ℕ) → Here from to (6 * suc n) → Here (from + 6) (to + 6) (6 * n)
+  later : (from to n : ℕ) → Here from to (objectSize * suc n) → Here (from + objectSize) (to + objectSize) (objectSize * n)
   later from to n h p l =
-      let ea : to + 6 + p ≡ to + (6 + p) = omega arith in
-      let eb : from + 6 + p ≡ from + (6 + p) = omega arith in
-      let ec : p % 6 ≡ (6 + p) % 6 = omega arith in
-      rw (ea, eb, ec) (h (6 + p) (omega arith))
+      let ea : to + objectSize + p ≡ to + (objectSize + p) = omega arith in
+      let eb : from + objectSize + p ≡ from + (objectSize + p) = omega arith in
+      let ec : p % objectSize ≡ (objectSize + p) % objectSize = omega arith in
+      rw (ea, eb, ec) (h (objectSize + p) (omega arith))
 
-  nodes-turned : (n from to : ℕ) → Here from to (6 * n) → nodesIn D to n ≡ map (changed (turnRef T)) (nodesIn S from n)
+  nodes-turned : (n from to : ℕ) → Here from to (objectSize * n) → nodesIn D to n ≡ map (changed (turnRef T)) (nodesIn S from n)
   unfolding nodesIn
   nodes-turned zero from to h = refl
   nodes-turned (suc n) from to h =
       ap₂ {C = List Node} _∷_ (node-turned from to (λ p l. h p (omega arith)))
-      (nodes-turned n (from + 6) (to + 6) (later from to n h))
+      (nodes-turned n (from + objectSize) (to + objectSize) (later from to n h))
 
-  packed-turned : (from to : ℕ) → Here from to 6 → Packed S from → Packed D to
+  packed-turned : (from to : ℕ) → Here from to objectSize → Packed S from → Packed D to
   unfolding copied
   packed-turned from to h pk = record {
     count = rw (h 1 (omega arith)) (pk .count);
     spare = λ k a b. spare′ k a b;
   }
     where
-      spare′ : (k : ℕ) → 2 + getD D (to + 1) 0 ≤ k → k < 6 → getD D (to + k) 0 ≡ 192
+      spare′ : (k : ℕ) → 2 + getD D (to + 1) 0 ≤ k → k < objectSize → getD D (to + k) 0 ≡ undeterminedCode
       spare′ k a b =
           let e1 : getD D (to + 1) 0 ≡ getD S (from + 1) 0 = h 1 (omega arith) in
-          let es : getD S (from + k) 0 ≡ 192 = pk .spare k (omega arith) b in
-          let ek : k % 6 ≡ k = omega arith in
-          h k b ∙ rw (es, ek) (sym (copy-turned T 192 k 192 (omega arith) (turn-other T 192 (omega arith))))
+          let es : getD S (from + k) 0 ≡ undeterminedCode = pk .spare k (omega arith) b in
+          let ek : k % objectSize ≡ k = omega arith in
+          h k b ∙ rw (es, ek) (sym (copy-turned T undeterminedCode k undeterminedCode (omega arith) (turn-other T undeterminedCode (omega arith))))
 
-  all-turned : (n from to : ℕ) → Here from to (6 * n) → AllPacked S from n → AllPacked D to n
+  all-turned : (n from to : ℕ) → Here from to (objectSize * n) → AllPacked S from n → AllPacked D to n
   all-turned n from to h pk i l =
-      packed-turned (from + 6 * i) (to + 6 * i)
+      packed-turned (from + objectSize * i) (to + objectSize * i)
       (λ p k.
-      let ea : to + 6 * i + p ≡ to + (6 * i + p) = omega arith in
-      let eb : from + 6 * i + p ≡ from + (6 * i + p) = omega arith in
-      let ec : p % 6 ≡ (6 * i + p) % 6 = omega arith in
-      rw (ea, eb, ec) (h (6 * i + p) (omega arith)))
+      let ea : to + objectSize * i + p ≡ to + (objectSize * i + p) = omega arith in
+      let eb : from + objectSize * i + p ≡ from + (objectSize * i + p) = omega arith in
+      let ec : p % objectSize ≡ (objectSize * i + p) % objectSize = omega arith in
+      rw (ea, eb, ec) (h (objectSize * i + p) (omega arith)))
       (pk i l)
 
 pub lifted-nodes : (S : List ℕ) (from : ℕ) (T D₀ : List ℕ) (to : ℕ) (D : List ℕ) (n : ℕ)
-    → Lifted S from (6 * n) T D₀ to D → nodesIn D to n ≡ map (changed (turnRef T)) (nodesIn S from n)
+    → Lifted S from (objectSize * n) T D₀ to D → nodesIn D to n ≡ map (changed (turnRef T)) (nodesIn S from n)
 lifted-nodes S from T D₀ to D n f = nodes-turned S D T n from to (f .here)
 
 pub lifted-packed : (S : List ℕ) (from : ℕ) (T D₀ : List ℕ) (to : ℕ) (D : List ℕ) (n : ℕ)
-    → Lifted S from (6 * n) T D₀ to D → AllPacked S from n → AllPacked D to n
+    → Lifted S from (objectSize * n) T D₀ to D → AllPacked S from n → AllPacked D to n
 lifted-packed S from T D₀ to D n f pk = all-turned S D T n from to (f .here) pk
 
 -- ---- a table renames
-pub turn-rename : (T : List ℕ) (n : ℕ) (f : ℕ → ℕ) → n ≤ 192 → ((i : ℕ) → i < n → getD T i 0 ≡ f i) → ((i : ℕ) → i < n → f i < 192)
+pub turn-rename : (T : List ℕ) (n : ℕ) (f : ℕ → ℕ) → n ≤ firstLeaf → ((i : ℕ) → i < n → getD T i 0 ≡ f i) → ((i : ℕ) → i < n → f i < firstLeaf)
     → (r : Ref) → InRange n r → turnRef T r ≡ rename f r
 turn-rename T n f few e small (obj i) h = ap refOf (sym (turn-object T i (omega arith)) ∙ e i h) ∙ ref-object (f i) (small i h)
-turn-rename T n f few e small (mark k) h = ap refOf (sym (turn-other T (193 + k) (omega arith))) ∙ ref-mark k
-turn-rename T n f few e small undet h = ap refOf (sym (turn-other T 192 (omega arith))) ∙ ref-undet
+turn-rename T n f few e small (mark k) h = ap refOf (sym (turn-other T (firstMark + k) (omega arith))) ∙ ref-mark k
+turn-rename T n f few e small undet h = ap refOf (sym (turn-other T undeterminedCode (omega arith))) ∙ ref-undet
 
 -- ---- changes that agree on what is there
 refs-agree : (f g : Ref → Ref) (P : Ref → Type 0) → ((r : Ref) → P r → f r ≡ g r) → (rs : List Ref)

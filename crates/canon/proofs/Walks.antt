@@ -11,6 +11,7 @@ use lib.ListN.{length, getD, set, take, length-append, length-take, length-set, 
 use lib.Seq.{drop-cons, getD-take, getD-set-same, getD-set-other, length-take-le, take-suc-set}
 use borrow.Author.Tests.{eq-eqb, ne-eqb}
 use Rattle.cofj.specs.Values.{Ref, obj, mark, undet, Node, refsAt, colourOf, isIn, placeIn, visit, visitAll}
+use Rattle.canon.specs.Figures.{objectSize, headSize, codeCount, firstLeaf, undeterminedCode, firstMark}
 use Rattle.canon.specs.Layout.{refOf, nodeIn, nodesIn}
 use Rattle.canon.specs.Walking.{walkRef, walkFields, markIn, Listed}
 use Rattle.canon.specs.Tables.{Filled}
@@ -113,14 +114,14 @@ no-visit ns cs (suc k) (obj i) s h = absurd (h i refl)
 no-visit ns cs (suc k) (mark x) s h = refl
 no-visit ns cs (suc k) undet s h = refl
 
-no-object : (r : ℕ) → 192 ≤ r → (i : ℕ) → refOf r ≡ obj i → ⊥
-no-object r h i e = go (ℕ-discrete r 192)
+no-object : (r : ℕ) → firstLeaf ≤ r → (i : ℕ) → refOf r ≡ obj i → ⊥
+no-object r h i e = go (ℕ-discrete r undeterminedCode)
   where
-    go : Dec (r ≡ 192) → ⊥
+    go : Dec (r ≡ undeterminedCode) → ⊥
     go (yes z) = let y : undet ≡ obj i = sym ref-undet ∙ ap refOf (sym z) ∙ e in let q : _≡_ {A = ℕ} 0 1 = cc in omega arith
     go (no z) =
-        let zz : 193 + (r - 193) ≡ r = omega (arith, z) in
-        let y : mark (r - 193) ≡ obj i = sym (ref-mark (r - 193)) ∙ ap refOf zz ∙ e in
+        let zz : firstMark + (r - firstMark) ≡ r = omega (arith, z) in
+        let y : mark (r - firstMark) ≡ obj i = sym (ref-mark (r - firstMark)) ∙ ap refOf zz ∙ e in
         let q : _≡_ {A = ℕ} 0 1 = cc in omega arith
 
 module _ (N C O : List ℕ) (k r m : ℕ) where
@@ -128,11 +129,11 @@ module _ (N C O : List ℕ) (k r m : ℕ) where
   unfolding walkRef visit
   visit-zero e = rw e
 
-  pub visit-none : 192 ≤ r → take m O ≡ walkRef N C k r (take m O)
+  pub visit-none : firstLeaf ≤ r → take m O ≡ walkRef N C k r (take m O)
   unfolding walkRef
   visit-none h = sym (no-visit (nodesIn N 0 256) C k (refOf r) (take m O) (no-object r h))
 
-  module _ (nz : (k ≡ 0) → ⊥) (obj-r : r < 192) (T : List ℕ) (low : getD C r 0 < 256) (lt : Listed T (take m O)) where
+  module _ (nz : (k ≡ 0) → ⊥) (obj-r : r < firstLeaf) (T : List ℕ) (low : getD C r 0 < 256) (lt : Listed T (take m O)) where
     step : (b : Bool) → isIn (getD C r 0) (take m O) ≡ b → walkRef N C k r (take m O)
         ≡ (elim b as (λ _. List ℕ) [ true ↦ take m O | false ↦ walkFields N C (k - 1) (getD C r 0) 0 (take m O ++ (getD C r 0 ∷ [])) ])
     unfolding walkRef visit walkFields
@@ -166,18 +167,18 @@ module _ (N C O : List ℕ) (k r m : ℕ) where
 
 -- ---- the fields
 refs-are : (N : List ℕ) (c : ℕ) → suc c ≤ 256 → refsAt (nodesIn N 0 256) c
-    ≡ take (getD N (6 * c + 1) 0) (refOf (getD N (6 * c + 2) 0) ∷ refOf (getD N (6 * c + 3) 0) ∷ refOf (getD N (6 * c + 4) 0) ∷ refOf (getD N (6 * c + 5) 0) ∷ [])
+    ≡ take (getD N (objectSize * c + 1) 0) (refOf (getD N (objectSize * c + 2) 0) ∷ refOf (getD N (objectSize * c + 3) 0) ∷ refOf (getD N (objectSize * c + 4) 0) ∷ refOf (getD N (objectSize * c + 5) 0) ∷ [])
 unfolding nodeIn
-refs-are N c h = let e : 0 + 6 * c ≡ 6 * c = omega arith in ap (λ (x : Node). x .refs) (at-nodes N 0 256 c h ∙ ap (nodeIn N) e)
+refs-are N c h = let e : 0 + objectSize * c ≡ objectSize * c = omega arith in ap (λ (x : Node). x .refs) (at-nodes N 0 256 c h ∙ ap (nodeIn N) e)
 
 abbrev pub four : List ℕ → ℕ → List Ref
-four N c = refOf (getD N (6 * c + 2) 0) ∷ refOf (getD N (6 * c + 3) 0) ∷ refOf (getD N (6 * c + 4) 0) ∷ refOf (getD N (6 * c + 5) 0) ∷ []
+four N c = refOf (getD N (objectSize * c + 2) 0) ∷ refOf (getD N (objectSize * c + 3) 0) ∷ refOf (getD N (objectSize * c + 4) 0) ∷ refOf (getD N (objectSize * c + 5) 0) ∷ []
 
-pub four-at : (N : List ℕ) (c f : ℕ) → f < 4 → getD (four N c) f undet ≡ refOf (getD N (6 * c + 2 + f) 0)
-four-at N c zero h = let e : 6 * c + 2 + 0 ≡ 6 * c + 2 = omega arith in rw e
-four-at N c (suc zero) h = let e : 6 * c + 2 + 1 ≡ 6 * c + 3 = omega arith in rw e
-four-at N c (suc (suc zero)) h = let e : 6 * c + 2 + 2 ≡ 6 * c + 4 = omega arith in rw e
-four-at N c (suc (suc (suc zero))) h = let e : 6 * c + 2 + 3 ≡ 6 * c + 5 = omega arith in rw e
+pub four-at : (N : List ℕ) (c f : ℕ) → f < codeCount → getD (four N c) f undet ≡ refOf (getD N (objectSize * c + headSize + f) 0)
+four-at N c zero h = let e : objectSize * c + headSize + 0 ≡ objectSize * c + 2 = omega arith in rw e
+four-at N c (suc zero) h = let e : objectSize * c + headSize + 1 ≡ objectSize * c + 3 = omega arith in rw e
+four-at N c (suc (suc zero)) h = let e : objectSize * c + headSize + 2 ≡ objectSize * c + 4 = omega arith in rw e
+four-at N c (suc (suc (suc zero))) h = let e : objectSize * c + headSize + 3 ≡ objectSize * c + 5 = omega arith in rw e
 four-at N c (suc (suc (suc (suc f)))) h = absurd (omega arith)
 
 module _ (N C : List ℕ) (k c f : ℕ) (s : List ℕ) (small : suc c ≤ 256) where
@@ -185,26 +186,26 @@ module _ (N C : List ℕ) (k c f : ℕ) (s : List ℕ) (small : suc c ≤ 256) w
   unfolding walkFields visitAll
   over h = sym (ap (λ (l : List Ref). visitAll (λ r t. visit (nodesIn N 0 256) C k r t) l s) (drop-of-length-le (refsAt (nodesIn N 0 256) c) {i = f} h))
 
-  pub fields-end : 4 ≤ f → s ≡ walkFields N C k c f s
-  fields-end h = over (omega (arith, ap length (refs-are N c small), length-take (getD N (6 * c + 1) 0) (four N c)))
+  pub fields-end : codeCount ≤ f → s ≡ walkFields N C k c f s
+  fields-end h = over (omega (arith, ap length (refs-are N c small), length-take (getD N (objectSize * c + 1) 0) (four N c)))
 
-  pub fields-out : getD N (6 * c + 1) 0 ≤ f → s ≡ walkFields N C k c f s
-  fields-out h = over (omega (arith, ap length (refs-are N c small), length-take (getD N (6 * c + 1) 0) (four N c)))
+  pub fields-out : getD N (objectSize * c + 1) 0 ≤ f → s ≡ walkFields N C k c f s
+  fields-out h = over (omega (arith, ap length (refs-are N c small), length-take (getD N (objectSize * c + 1) 0) (four N c)))
 
-  module _ (h4 : f < 4) (hc : f < getD N (6 * c + 1) 0) where
-    pub fields-step : walkFields N C k c f s ≡ walkFields N C k c (f + 1) (walkRef N C k (getD N (6 * c + 2 + f) 0) s)
+  module _ (h4 : f < codeCount) (hc : f < getD N (objectSize * c + 1) 0) where
+    pub fields-step : walkFields N C k c f s ≡ walkFields N C k c (f + 1) (walkRef N C k (getD N (objectSize * c + headSize + f) 0) s)
     unfolding walkFields visitAll walkRef
     fields-step =
-        let l : f < length (refsAt (nodesIn N 0 256) c) = omega (arith, ap length (refs-are N c small), length-take (getD N (6 * c + 1) 0) (four N c)) in
-        let e : getD (refsAt (nodesIn N 0 256) c) f undet ≡ refOf (getD N (6 * c + 2 + f) 0) =
-        ap (λ (x : List Ref). getD x f undet) (refs-are N c small) ∙ getD-take (getD N (6 * c + 1) 0) (four N c) f undet hc ∙ four-at N c f h4 in
+        let l : f < length (refsAt (nodesIn N 0 256) c) = omega (arith, ap length (refs-are N c small), length-take (getD N (objectSize * c + 1) 0) (four N c)) in
+        let e : getD (refsAt (nodesIn N 0 256) c) f undet ≡ refOf (getD N (objectSize * c + headSize + f) 0) =
+        ap (λ (x : List Ref). getD x f undet) (refs-are N c small) ∙ getD-take (getD N (objectSize * c + 1) 0) (four N c) f undet hc ∙ four-at N c f h4 in
         ap (λ (x : List Ref). visitAll (λ r t. visit (nodesIn N 0 256) C k r t) x s) (drop-cons (refsAt (nodesIn N 0 256) c) f undet l)
         ∙ rw (e, add-one f)
 
-    pub first-small : length (walkFields N C k c f s) ≤ 255 → length (walkRef N C k (getD N (6 * c + 2 + f) 0) s) ≤ 255
-    first-small l = omega (arith, rw fields-step at l, fields-grow N C k c (f + 1) (walkRef N C k (getD N (6 * c + 2 + f) 0) s))
+    pub first-small : length (walkFields N C k c f s) ≤ 255 → length (walkRef N C k (getD N (objectSize * c + headSize + f) 0) s) ≤ 255
+    first-small l = omega (arith, rw fields-step at l, fields-grow N C k c (f + 1) (walkRef N C k (getD N (objectSize * c + headSize + f) 0) s))
 
-    module _ (s1 : List ℕ) (e1 : s1 ≡ walkRef N C k (getD N (6 * c + 2 + f) 0) s) where
+    module _ (s1 : List ℕ) (e1 : s1 ≡ walkRef N C k (getD N (objectSize * c + headSize + f) 0) s) where
       pub rest-small : length (walkFields N C k c f s) ≤ 255 → length (walkFields N C k c (f + 1) (s1)) ≤ 255
       rest-small l = rw e1 (rw fields-step at l)
 

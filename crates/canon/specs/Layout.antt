@@ -1,5 +1,5 @@
 -- How references and objects lie in bytes (docs/VALUES.md), and when a block holds objects.
--- Not here: the values that they stand for (crate values, Layout), what is done with them.
+-- Not here: the figures (Figures), the values that they stand for (crate values, Layout), what is done with them.
 use Prim.Native.Nat.{ℕ, zero, suc, _+_, _-_, _*_, _≤_, _<_}
 use mathlib.Core.Path.{_≡_}
 use mathlib.Core.Bool.{Bool, false, cond}
@@ -8,22 +8,16 @@ use lib.Dec.{ltb, eqb}
 use lib.ListN.{length, getD, set, take, drop}
 use Rattle.cofj.specs.Values.{Ref, obj, mark, undet, Node, node, Graph, graph}
 use Rattle.cofj.specs.Unfolding.{Same, Whole}
-
--- the bytes of a block and of an object; src/lib.rt has the same for the code
-abbrev pub blockSize : ℕ
-blockSize = 234
-
-abbrev pub objectSize : ℕ
-objectSize = 6
+use Rattle.canon.specs.Figures.{objectSize, headSize, codeCount, firstLeaf, undeterminedCode, firstMark, capacity, countAt, levelAt, reachAt, blockSize, spare}
 
 -- the reference that a code stands for: every number is one
 unfoldable pub refOf : ℕ → Ref
-refOf b = cond (ltb b 192) (obj b) (cond (eqb b 192) undet (mark (b - 193)))
+refOf b = cond (ltb b firstLeaf) (obj b) (cond (eqb b undeterminedCode) undet (mark (b - firstMark)))
 
 abbrev pub codeOf : Ref → ℕ
 codeOf (obj i) = i
-codeOf undet = 192
-codeOf (mark k) = 193 + k
+codeOf undet = undeterminedCode
+codeOf (mark k) = firstMark + k
 
 -- the object at a place: class, number of fields, four codes
 unfoldable pub nodeIn : List ℕ → ℕ → Node
@@ -35,12 +29,12 @@ nodeIn S at =
 -- n objects from a place on
 unfoldable pub nodesIn : List ℕ → ℕ → ℕ → List Node
 nodesIn S at zero = []
-nodesIn S at (suc n) = nodeIn S at ∷ nodesIn S (at + 6) n
+nodesIn S at (suc n) = nodeIn S at ∷ nodesIn S (at + objectSize) n
 
 -- at most four fields, and the codes of the others undetermined
 pub record Packed (S : List ℕ) (at : ℕ) : Type 0 where
-  pub count : getD S (at + 1) 0 ≤ 4
-  pub spare : (k : ℕ) → 2 + getD S (at + 1) 0 ≤ k → k < 6 → getD S (at + k) 0 ≡ 192
+  pub count : getD S (at + 1) 0 ≤ codeCount
+  pub spare : (k : ℕ) → 2 + getD S (at + 1) 0 ≤ k → k < objectSize → getD S (at + k) 0 ≡ undeterminedCode
 
 -- the objects at two places have one class and as many fields
 pub record Alike (S : List ℕ) (p q : ℕ) : Type 0 where
@@ -57,23 +51,23 @@ part S at n = take n (drop at S)
 
 -- the objects that block b lists
 unfoldable pub countIn : List ℕ → ℕ → ℕ
-countIn W b = getD W (234 * b + 192) 0
+countIn W b = getD W (blockSize * b + countAt) 0
 
 -- no byte of these objects is 193 + the level or more: so every mark in them is below the level
 unfoldable pub levelIn : List ℕ → ℕ → ℕ
-levelIn W b = getD W (234 * b + 193) 0
+levelIn W b = getD W (blockSize * b + levelAt) 0
 
 -- none of these objects refers to an object of this number or a higher one
 unfoldable pub reachIn : List ℕ → ℕ → ℕ
-reachIn W b = getD W (234 * b + 194) 0
+reachIn W b = getD W (blockSize * b + reachAt) 0
 
 -- these three bytes of block b written
 abbrev pub ended : List ℕ → ℕ → ℕ → ℕ → ℕ → List ℕ
-ended W b n l m = set (set (set W (234 * b + 192) n) (234 * b + 193) l) (234 * b + 194) m
+ended W b n l m = set (set (set W (blockSize * b + countAt) n) (blockSize * b + levelAt) l) (blockSize * b + reachAt) m
 
 -- the objects in block b, and the graph from object i of them on
 unfoldable pub objectsIn : List ℕ → ℕ → List Node
-objectsIn W b = nodesIn W (234 * b) (countIn W b)
+objectsIn W b = nodesIn W (blockSize * b) (countIn W b)
 
 abbrev pub graphAt : List ℕ → ℕ → ℕ → Graph
 graphAt W b i = graph (obj i) (objectsIn W b)
@@ -84,13 +78,13 @@ pub record Distinct (ns : List Node) : Type 0 where
 
 -- block b holds objects
 pub record Block (W : List ℕ) (b : ℕ) : Type 0 where
-  pub room : 234 * b + 234 ≤ length W
-  pub small : countIn W b ≤ 32
-  pub packed : (i : ℕ) → i < countIn W b → Packed W (234 * b + 6 * i)
+  pub room : blockSize * b + blockSize ≤ length W
+  pub small : countIn W b ≤ capacity
+  pub packed : (i : ℕ) → i < countIn W b → Packed W (blockSize * b + objectSize * i)
   pub whole : Whole (graph undet (objectsIn W b))
   pub distinct : Distinct (objectsIn W b)
-  pub level : (q : ℕ) → q < 6 * countIn W b → getD W (234 * b + q) 0 < 193 + levelIn W b
-  pub reach : (i f : ℕ) → i < countIn W b → f < 4 → getD W (234 * b + 6 * i + 2 + f) 0 < 192 → getD W (234 * b + 6 * i + 2 + f) 0 < reachIn W b
+  pub level : (q : ℕ) → q < objectSize * countIn W b → getD W (blockSize * b + q) 0 < firstMark + levelIn W b
+  pub reach : (i f : ℕ) → i < countIn W b → f < codeCount → getD W (blockSize * b + objectSize * i + headSize + f) 0 < firstLeaf → getD W (blockSize * b + objectSize * i + headSize + f) 0 < reachIn W b
 
 -- and object i is one of them
 pub record Inside (W : List ℕ) (b i : ℕ) : Type 0 where
@@ -100,10 +94,10 @@ pub record Inside (W : List ℕ) (b i : ℕ) : Type 0 where
 -- every byte outside block b is as before
 pub record Outside (b : ℕ) (W W′ : List ℕ) : Type 0 where
   pub same : length W′ ≡ length W
-  pub below : (p : ℕ) → p < 234 * b → getD W′ p 0 ≡ getD W p 0
-  pub above : (p : ℕ) → 234 * b + 234 ≤ p → getD W′ p 0 ≡ getD W p 0
+  pub below : (p : ℕ) → p < blockSize * b → getD W′ p 0 ≡ getD W p 0
+  pub above : (p : ℕ) → blockSize * b + blockSize ≤ p → getD W′ p 0 ≡ getD W p 0
 
 -- every byte below block b is as before
 pub record Beneath (b : ℕ) (W W′ : List ℕ) : Type 0 where
   pub same : length W′ ≡ length W
-  pub below : (p : ℕ) → p < 234 * b → getD W′ p 0 ≡ getD W p 0
+  pub below : (p : ℕ) → p < blockSize * b → getD W′ p 0 ≡ getD W p 0

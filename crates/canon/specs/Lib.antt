@@ -1,3 +1,4 @@
+pub mod Figures
 pub mod Layout
 pub mod Tables
 pub mod Rounds

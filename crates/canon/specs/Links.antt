@@ -6,6 +6,7 @@ use mathlib.Core.Bool.{Bool, true, false, cond}
 use mathlib.Core.List.{List}
 use lib.Dec.{ltb}
 use lib.ListN.{length, getD}
+use Rattle.canon.specs.Figures.{objectSize, headSize, codeCount, firstLeaf, rowSize, linkSize, noteAt, beforeAt, targetAt, looksField, hashCount}
 
 -- h is the last below b that E takes to v, 0 if there is none
 pub record Last (E : ℕ → ℕ) (v b h : ℕ) : Type 0 where
@@ -15,11 +16,11 @@ pub record Last (E : ℕ → ℕ) (v b h : ℕ) : Type 0 where
 
 -- the lists of field f, of the rows below b
 pub record Hung (n f b : ℕ) (K : List ℕ) : Type 0 where
-  pub room : 15 * n ≤ length K
-  pub null : (x : ℕ) → x ≡ 0 → getD K (15 * x + 10 + f) 0 ≡ 0
-  pub low : (x : ℕ) → 0 < x → x < b → getD K (15 * x + 10 + f) 0 < n
-  pub heads : (v : ℕ) → 0 < v → v < n → Last (λ x. getD K (15 * x + 10 + f) 0) v b (getD K (15 * v + f) 0)
-  pub nexts : (x : ℕ) → 0 < x → x < b → 0 < getD K (15 * x + 10 + f) 0 → Last (λ y. getD K (15 * y + 10 + f) 0) (getD K (15 * x + 10 + f) 0) x (getD K (15 * x + 5 + f) 0)
+  pub room : linkSize * n ≤ length K
+  pub null : (x : ℕ) → x ≡ 0 → getD K (linkSize * x + targetAt + f) 0 ≡ 0
+  pub low : (x : ℕ) → 0 < x → x < b → getD K (linkSize * x + targetAt + f) 0 < n
+  pub heads : (v : ℕ) → 0 < v → v < n → Last (λ x. getD K (linkSize * x + targetAt + f) 0) v b (getD K (linkSize * v + f) 0)
+  pub nexts : (x : ℕ) → 0 < x → x < b → 0 < getD K (linkSize * x + targetAt + f) 0 → Last (λ y. getD K (linkSize * y + targetAt + f) 0) (getD K (linkSize * x + targetAt + f) 0) x (getD K (linkSize * x + beforeAt + f) 0)
 
 -- of all n
 pub record Lists (n f : ℕ) (K : List ℕ) : Type 0 where
@@ -27,7 +28,7 @@ pub record Lists (n f : ℕ) (K : List ℕ) : Type 0 where
 
 -- of each field
 pub record AllLists (n : ℕ) (K : List ℕ) : Type 0 where
-  pub each : (f : ℕ) → f < 4 → Lists n f K
+  pub each : (f : ℕ) → f < codeCount → Lists n f K
 
 -- ---- the lists made
 pub record Zeros (m : ℕ) (A : List ℕ) : Type 0 where
@@ -35,101 +36,101 @@ pub record Zeros (m : ℕ) (A : List ℕ) : Type 0 where
 
 -- byte k of an object as it looks at first: all objects alike
 unfoldable pub shown : ℕ → ℕ → ℕ
-shown k b = cond (ltb k 2) b (cond (ltb b 192) 0 b)
+shown k b = cond (ltb k headSize) b (cond (ltb b firstLeaf) 0 b)
 
 -- objects i and j look alike in their first k bytes, each shown by F, and whether they do in all
 pub record AlikeTo (F : ℕ → ℕ → ℕ) (N : List ℕ) (i j k : ℕ) : Type 0 where
-  pub all : (f : ℕ) → f < k → F f (getD N (6 * i + f) 0) ≡ F f (getD N (6 * j + f) 0)
+  pub all : (f : ℕ) → f < k → F f (getD N (objectSize * i + f) 0) ≡ F f (getD N (objectSize * j + f) 0)
 
 pub record AlikeTest (F : ℕ → ℕ → ℕ) (N : List ℕ) (i j : ℕ) (r : Bool) : Type 0 where
-  pub yes : r ≡ true → AlikeTo F N i j 6
-  pub not : r ≡ false → AlikeTo F N i j 6 → ⊥
+  pub yes : r ≡ true → AlikeTo F N i j objectSize
+  pub not : r ≡ false → AlikeTo F N i j objectSize → ⊥
 
 -- a number that tells most looks apart
 unfoldable pub hashOf : List ℕ → ℕ → ℕ
 hashOf N i =
-    (shown 0 (getD N (6 * i) 0) + 7 * shown 2 (getD N (6 * i + 2) 0) + 13 * shown 3 (getD N (6 * i + 3) 0) + 29 * shown 4 (getD N (6 * i + 4) 0)
-    + 5 * shown 5 (getD N (6 * i + 5) 0)) % 32
+    (shown 0 (getD N (objectSize * i) 0) + 7 * shown 2 (getD N (objectSize * i + 2) 0) + 13 * shown 3 (getD N (objectSize * i + 3) 0) + 29 * shown 4 (getD N (objectSize * i + 4) 0)
+    + 5 * shown 5 (getD N (objectSize * i + 5) 0)) % hashCount
 
 -- what a code refers to
 unfoldable pub targetOf : ℕ → ℕ
-targetOf b = cond (ltb b 192) (b + 1) 0
+targetOf b = cond (ltb b firstLeaf) (b + 1) 0
 
 -- the objects of rows 1 to n - 1, whose codes are of such rows
 pub record Codes (N : List ℕ) (n : ℕ) : Type 0 where
-  pub room : 6 * n ≤ length N + 6
-  pub low : (i f : ℕ) → i + 1 < n → f < 4 → getD N (6 * i + 2 + f) 0 < 192 → getD N (6 * i + 2 + f) 0 + 1 < n
+  pub room : objectSize * n ≤ length N + objectSize
+  pub low : (i f : ℕ) → i + 1 < n → f < codeCount → getD N (objectSize * i + headSize + f) 0 < firstLeaf → getD N (objectSize * i + headSize + f) 0 + 1 < n
 
 -- the numbers of field g are as before
 pub record SameField (g : ℕ) (K K′ : List ℕ) : Type 0 where
   pub size : length K′ ≡ length K
-  pub head : (x : ℕ) → getD K′ (15 * x + g) 0 ≡ getD K (15 * x + g) 0
-  pub next : (x : ℕ) → getD K′ (15 * x + 5 + g) 0 ≡ getD K (15 * x + 5 + g) 0
-  pub target : (x : ℕ) → getD K′ (15 * x + 10 + g) 0 ≡ getD K (15 * x + 10 + g) 0
+  pub head : (x : ℕ) → getD K′ (linkSize * x + g) 0 ≡ getD K (linkSize * x + g) 0
+  pub next : (x : ℕ) → getD K′ (linkSize * x + beforeAt + g) 0 ≡ getD K (linkSize * x + beforeAt + g) 0
+  pub target : (x : ℕ) → getD K′ (linkSize * x + targetAt + g) 0 ≡ getD K (linkSize * x + targetAt + g) 0
 
 -- row x hung up on v
 pub record HungOn (n f x v : ℕ) (K K′ : List ℕ) : Type 0 where
   pub hung : Hung n f (x + 1) K′
   pub size : length K′ ≡ length K
-  pub here : getD K′ (15 * x + 10 + f) 0 ≡ v
-  pub rest : (y : ℕ) → ((y ≡ x) → ⊥) → getD K′ (15 * y + 10 + f) 0 ≡ getD K (15 * y + 10 + f) 0
+  pub here : getD K′ (linkSize * x + targetAt + f) 0 ≡ v
+  pub rest : (y : ℕ) → ((y ≡ x) → ⊥) → getD K′ (linkSize * y + targetAt + f) 0 ≡ getD K (linkSize * y + targetAt + f) 0
   pub others : (g : ℕ) → g < 5 → ((g ≡ f) → ⊥) → SameField g K K′
 
 -- the rows below x by their hashes: the last of each, in H; the one before each, in T
 pub record Chained (N : List ℕ) (x : ℕ) (H T : List ℕ) : Type 0 where
-  pub heads : (h : ℕ) → h < 32 → Last (λ y. hashOf N (y - 1)) h x (getD H h 0)
-  pub nexts : (y : ℕ) → 0 < y → y < x → Last (λ z. hashOf N (z - 1)) (hashOf N (y - 1)) y (getD T (8 * y + 6) 0)
+  pub heads : (h : ℕ) → h < hashCount → Last (λ y. hashOf N (y - 1)) h x (getD H h 0)
+  pub nexts : (y : ℕ) → 0 < y → y < x → Last (λ z. hashOf N (z - 1)) (hashOf N (y - 1)) y (getD T (rowSize * y + noteAt) 0)
 
 -- those that look alike have one first one
 pub record Grouped (N : List ℕ) (x : ℕ) (K : List ℕ) : Type 0 where
-  pub same : (y z : ℕ) → 0 < y → y < x → 0 < z → z < x → AlikeTo shown N (y - 1) (z - 1) 6 → getD K (15 * y + 10 + 4) 0 ≡ getD K (15 * z + 10 + 4) 0
+  pub same : (y z : ℕ) → 0 < y → y < x → 0 < z → z < x → AlikeTo shown N (y - 1) (z - 1) objectSize → getD K (linkSize * y + targetAt + looksField) 0 ≡ getD K (linkSize * z + targetAt + looksField) 0
 
 -- what is needed to look for it: the list of those with x's hash begins at `from`
 pub record Sought (N T K : List ℕ) (n x h from : ℕ) : Type 0 where
   pub codes : Codes N n
-  pub roomT : 8 * n ≤ length T
-  pub roomK : 15 * n ≤ length K
+  pub roomT : rowSize * n ≤ length T
+  pub roomK : linkSize * n ≤ length K
   pub pos : 0 < x
   pub small : x < n
   pub is : h ≡ hashOf N (x - 1)
-  pub nexts : (y : ℕ) → 0 < y → y < x → Last (λ z. hashOf N (z - 1)) (hashOf N (y - 1)) y (getD T (8 * y + 6) 0)
+  pub nexts : (y : ℕ) → 0 < y → y < x → Last (λ z. hashOf N (z - 1)) (hashOf N (y - 1)) y (getD T (rowSize * y + noteAt) 0)
   pub start : Last (λ y. hashOf N (y - 1)) h x from
-  pub low : (y : ℕ) → 0 < y → y < x → getD K (15 * y + 10 + 4) 0 < n
+  pub low : (y : ℕ) → 0 < y → y < x → getD K (linkSize * y + targetAt + looksField) 0 < n
   pub grouped : Grouped N x K
 
 -- r is the first one of those that look as x does
 pub record LikeBefore (N : List ℕ) (n x : ℕ) (K : List ℕ) (r : ℕ) : Type 0 where
   pub low : r < n
-  pub is : (y : ℕ) → 0 < y → y < x → AlikeTo shown N (x - 1) (y - 1) 6 → getD K (15 * y + 10 + 4) 0 ≡ r
+  pub is : (y : ℕ) → 0 < y → y < x → AlikeTo shown N (x - 1) (y - 1) objectSize → getD K (linkSize * y + targetAt + looksField) 0 ≡ r
 
 -- field 4 hung up
 pub record GroupedAll (N : List ℕ) (n : ℕ) (K K′ : List ℕ) : Type 0 where
   pub size : length K′ ≡ length K
-  pub lists : Lists n 4 K′
+  pub lists : Lists n looksField K′
   pub grouped : Grouped N n K′
-  pub others : (g : ℕ) → g < 4 → SameField g K K′
+  pub others : (g : ℕ) → g < codeCount → SameField g K K′
 
 -- field f hung up, of the rows below x
 pub record ReferredTo (N : List ℕ) (n f x : ℕ) (K K′ : List ℕ) : Type 0 where
   pub hung : Hung n f x K′
   pub size : length K′ ≡ length K
-  pub targets : (y : ℕ) → 0 < y → y < x → getD K′ (15 * y + 10 + f) 0 ≡ targetOf (getD N (6 * (y - 1) + 2 + f) 0)
+  pub targets : (y : ℕ) → 0 < y → y < x → getD K′ (linkSize * y + targetAt + f) 0 ≡ targetOf (getD N (objectSize * (y - 1) + headSize + f) 0)
   pub others : (g : ℕ) → g < 5 → ((g ≡ f) → ⊥) → SameField g K K′
 
 -- the first w fields
 pub record Referred (N : List ℕ) (n w : ℕ) (K K′ : List ℕ) : Type 0 where
   pub size : length K′ ≡ length K
   pub done : (f : ℕ) → f < w → Lists n f K′
-  pub targets : (f : ℕ) → f < w → (y : ℕ) → 0 < y → y < n → getD K′ (15 * y + 10 + f) 0 ≡ targetOf (getD N (6 * (y - 1) + 2 + f) 0)
+  pub targets : (f : ℕ) → f < w → (y : ℕ) → 0 < y → y < n → getD K′ (linkSize * y + targetAt + f) 0 ≡ targetOf (getD N (objectSize * (y - 1) + headSize + f) 0)
   pub others : (g : ℕ) → w ≤ g → g < 5 → SameField g K K′
 
 -- nothing hung up by the four fields
 pub record Unhung (n : ℕ) (K : List ℕ) : Type 0 where
-  pub each : (f : ℕ) → f < 4 → Hung n f 1 K
+  pub each : (f : ℕ) → f < codeCount → Hung n f 1 K
 
 -- all of it
 pub record Linked (N : List ℕ) (n : ℕ) (K : List ℕ) : Type 0 where
-  pub looks : Lists n 4 K
+  pub looks : Lists n looksField K
   pub grouped : Grouped N n K
   pub fields : AllLists n K
-  pub targets : (f : ℕ) → f < 4 → (y : ℕ) → 0 < y → y < n → getD K (15 * y + 10 + f) 0 ≡ targetOf (getD N (6 * (y - 1) + 2 + f) 0)
+  pub targets : (f : ℕ) → f < codeCount → (y : ℕ) → 0 < y → y < n → getD K (linkSize * y + targetAt + f) 0 ≡ targetOf (getD N (objectSize * (y - 1) + headSize + f) 0)

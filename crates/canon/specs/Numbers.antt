@@ -6,6 +6,7 @@ use mathlib.Core.List.{List}
 use lib.Dec.{eqb}
 use lib.ListN.{length, getD, take}
 use Rattle.cofj.specs.Values.{Graph, graph, obj, colours, canon}
+use Rattle.canon.specs.Figures.{objectSize, firstMark, capacity, blockSize}
 use Rattle.canon.specs.Layout.{nodesIn, Inside, graphAt, Outside}
 use Rattle.canon.specs.Tables.{copied}
 use Rattle.canon.specs.Rounds.{Raw}
@@ -17,13 +18,13 @@ numberIn T m c = cond (eqb (getD T c 0) 0) m (getD T c 0 - 1)
 -- objects of N, as O lists them, renamed by T, from a place of D on; the other bytes are D₀'s
 pub record Gathered (N O : List ℕ) (m : ℕ) (T D₀ : List ℕ) (to : ℕ) (D : List ℕ) : Type 0 where
   pub same : length D ≡ length D₀
-  pub here : (j k : ℕ) → j < m → k < 6 → getD D (to + 6 * j + k) 0 ≡ copied T k (getD N (6 * getD O j 0 + k) 0)
+  pub here : (j k : ℕ) → j < m → k < objectSize → getD D (to + objectSize * j + k) 0 ≡ copied T k (getD N (objectSize * getD O j 0 + k) 0)
   pub below : (q : ℕ) → q < to → getD D q 0 ≡ getD D₀ q 0
-  pub above : (q : ℕ) → to + 6 * m ≤ q → getD D q 0 ≡ getD D₀ q 0
+  pub above : (q : ℕ) → to + objectSize * m ≤ q → getD D q 0 ≡ getD D₀ q 0
 
 -- none of the p bytes from a place on is 193 + l or more
 pub record Levels (W : List ℕ) (at p l : ℕ) : Type 0 where
-  pub below : (q : ℕ) → q < p → getD W (at + q) 0 < 193 + l
+  pub below : (q : ℕ) → q < p → getD W (at + q) 0 < firstMark + l
 
 -- n objects with their colours, a root, and room for the block
 pub record Ready (N : List ℕ) (n : ℕ) (C : List ℕ) (root : ℕ) (W : List ℕ) (dst : ℕ) : Type 0 where
@@ -31,7 +32,7 @@ pub record Ready (N : List ℕ) (n : ℕ) (C : List ℕ) (root : ℕ) (W : List 
   pub long : 256 ≤ length C
   pub coloured : take n C ≡ colours (nodesIn N 0 n)
   pub inside : root < n
-  pub room : 234 * dst + 234 ≤ length W
+  pub room : blockSize * dst + blockSize ≤ length W
 
 abbrev pub graphIn : List ℕ → ℕ → ℕ → Graph
 graphIn N n root = graph (obj root) (nodesIn N 0 n)
@@ -45,4 +46,4 @@ pub record Has (W : List ℕ) (b : ℕ) (v : Graph) : Type 0 where
 pub record Placed (N : List ℕ) (n root : ℕ) (W : List ℕ) (dst : ℕ) (W′ : List ℕ) (r : ℕ) : Type 0 where
   pub count : r ≡ length (canon (graphIn N n root) .nodes)
   pub outside : Outside dst W W′
-  pub has : r ≤ 32 → Has W′ dst (canon (graphIn N n root))
+  pub has : r ≤ capacity → Has W′ dst (canon (graphIn N n root))

@@ -4,23 +4,24 @@ use mathlib.Core.List.{List}
 use lib.ListN.{length, getD}
 use Rattle.cofj.specs.Values.{placeOf, graph, undet}
 use Rattle.cofj.specs.Unfolding.{Whole}
+use Rattle.canon.specs.Figures.{objectSize, firstLeaf, wideSize}
 use Rattle.canon.specs.Layout.{nodeIn, nodesIn, Packed}
 
 -- n objects from the start on
 pub record Looks (L : List ℕ) (n : ℕ) : Type 0 where
-  pub few : n ≤ 192
-  pub room : 1536 ≤ length L
-  pub packed : (i : ℕ) → i < n → Packed L (6 * i)
+  pub few : n ≤ firstLeaf
+  pub room : wideSize ≤ length L
+  pub packed : (i : ℕ) → i < n → Packed L (objectSize * i)
 
 -- the first of n objects that is as object i
 unfoldable pub placeIs : List ℕ → ℕ → ℕ → ℕ
-placeIs L n i = placeOf (nodeIn L (6 * i)) (nodesIn L 0 n)
+placeIs L n i = placeOf (nodeIn L (objectSize * i)) (nodesIn L 0 n)
 
 -- n objects from the start on, which refer to one another
 pub record Raw (N : List ℕ) (n : ℕ) : Type 0 where
-  pub few : n ≤ 192
-  pub room : 1536 ≤ length N
-  pub packed : (i : ℕ) → i < n → Packed N (6 * i)
+  pub few : n ≤ firstLeaf
+  pub room : wideSize ≤ length N
+  pub packed : (i : ℕ) → i < n → Packed N (objectSize * i)
   pub whole : Whole (graph undet (nodesIn N 0 n))
 
 -- the first n of a table are below n
@@ -30,5 +31,5 @@ pub record Below (n : ℕ) (C : List ℕ) : Type 0 where
 
 -- room for the looks, and for the next colours
 pub record Scratch (L X : List ℕ) : Type 0 where
-  pub looks : 1536 ≤ length L
+  pub looks : wideSize ≤ length L
   pub next : 256 ≤ length X

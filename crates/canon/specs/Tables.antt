@@ -5,6 +5,7 @@ use mathlib.Core.Bool.{cond}
 use mathlib.Core.List.{List}
 use lib.Dec.{ltb}
 use lib.ListN.{length, getD}
+use Rattle.canon.specs.Figures.{objectSize, headSize, firstLeaf, threeBytes}
 
 -- the first n bytes are F 0, F 1, ..
 pub record Filled (F : ℕ → ℕ) (n : ℕ) (A : List ℕ) : Type 0 where
@@ -12,7 +13,7 @@ pub record Filled (F : ℕ → ℕ) (n : ℕ) (A : List ℕ) : Type 0 where
 
 -- four bytes, and two, as one number
 pub record Four (S : List ℕ) (p r : ℕ) : Type 0 where
-  pub is : r ≡ getD S p 0 + 256 * getD S (p + 1) 0 + 65536 * getD S (p + 2) 0 + 16777216 * getD S (p + 3) 0
+  pub is : r ≡ getD S p 0 + 256 * getD S (p + 1) 0 + 65536 * getD S (p + 2) 0 + threeBytes * getD S (p + 3) 0
   pub low0 : getD S p 0 < 256
   pub low1 : getD S (p + 1) 0 < 256
   pub low2 : getD S (p + 2) 0 < 256
@@ -32,15 +33,15 @@ pub record Carried (S : List ℕ) (from : ℕ) (D₀ : List ℕ) (to n : ℕ) (D
 
 -- a code turned: an object by the table T, any other code itself
 unfoldable pub turned : List ℕ → ℕ → ℕ
-turned T b = cond (ltb b 192) (getD T b 0) b
+turned T b = cond (ltb b firstLeaf) (getD T b 0) b
 
 -- byte k of an object, its codes turned
 unfoldable pub copied : List ℕ → ℕ → ℕ → ℕ
-copied T k b = cond (ltb k 2) b (turned T b)
+copied T k b = cond (ltb k headSize) b (turned T b)
 
 -- p bytes of objects copied from a place of S to a place of D; the others are D₀'s
 pub record Lifted (S : List ℕ) (from p : ℕ) (T D₀ : List ℕ) (to : ℕ) (D : List ℕ) : Type 0 where
   pub same : length D ≡ length D₀
-  pub here : (q : ℕ) → q < p → getD D (to + q) 0 ≡ copied T (q % 6) (getD S (from + q) 0)
+  pub here : (q : ℕ) → q < p → getD D (to + q) 0 ≡ copied T (q % objectSize) (getD S (from + q) 0)
   pub below : (q : ℕ) → q < to → getD D q 0 ≡ getD D₀ q 0
   pub above : (q : ℕ) → to + p ≤ q → getD D q 0 ≡ getD D₀ q 0

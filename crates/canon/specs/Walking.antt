@@ -5,6 +5,7 @@ use mathlib.Core.Bool.{cond}
 use mathlib.Core.List.{List}
 use lib.ListN.{length, getD, drop}
 use Rattle.cofj.specs.Values.{isIn, placeIn, visit, visitAll, refsAt}
+use Rattle.canon.specs.Figures.{wideSize}
 use Rattle.canon.specs.Layout.{refOf, nodesIn}
 
 -- the order after a code, and after the fields of object c from field f on
@@ -25,7 +26,7 @@ pub record Listed (T s : List ℕ) : Type 0 where
 
 -- room for the nodes, the colours, the order and the table
 pub record Room (N C O T : List ℕ) : Type 0 where
-  pub nodes : 1536 ≤ length N
+  pub nodes : wideSize ≤ length N
   pub colours : 256 ≤ length C
   pub order : 256 ≤ length O
   pub met : 256 ≤ length T

@@ -1,8 +1,12 @@
 // Runs of bytes compared and copied, and tables filled. Not here: what the bytes stand for.
+use crate::layout::BYTE;
+use crate::layout::THREE_BYTES;
+use crate::layout::TWO_BYTES;
 ghost use mathlib.Core.Path.{_≡_};
 ghost use Prim.Native.Nat.{ℕ, _+_, _<_, _≤_};
 ghost use lib.ListN.{length};
 ghost use Rattle.cofj.specs.Values.{eqNats};
+ghost use Rattle.canon.specs.Figures.{objectSize, firstLeaf};
 ghost use Rattle.canon.specs.Layout.{part};
 ghost use Rattle.canon.specs.Tables.{Filled, Four, Two, Carried};
 
@@ -27,22 +31,22 @@ pub fn four_at(a: &[u8], p: usize) -> u32
     ensures { λ r. ⌜ Four (now (a .entry)) p r ⌝ }
 {
     (a[p] as u32)
-        + 256 * (a[p + 1] as u32)
-        + 65536 * (a[p + 2] as u32)
-        + 16777216 * (a[p + 3] as u32)
+        + BYTE * (a[p + 1] as u32)
+        + TWO_BYTES * (a[p + 2] as u32)
+        + THREE_BYTES * (a[p + 3] as u32)
 }
 
 pub fn two_at(a: &[u8], p: usize) -> u32
     requires { ⌜ p + 2 ≤ length (now a) ⌝ }
     ensures { λ r. ⌜ Two (now (a .entry)) p r ⌝ }
 {
-    (a[p] as u32) + 256 * (a[p + 1] as u32)
+    (a[p] as u32) + BYTE * (a[p + 1] as u32)
 }
 
-// The same as `same` for six bytes.
+// The same as `same` for the bytes of an object.
 pub fn same_six(a: &[u8], i: usize, b: &[u8], j: usize) -> bool
-    requires { ⌜ (i + 6 ≤ length (now a)) × (j + 6 ≤ length (now b)) ⌝ }
-    ensures { λ r. ⌜ r ≡ eqNats (part (now (a .entry)) i 6) (part (now (b .entry)) j 6) ⌝ }
+    requires { ⌜ (i + objectSize ≤ length (now a)) × (j + objectSize ≤ length (now b)) ⌝ }
+    ensures { λ r. ⌜ r ≡ eqNats (part (now (a .entry)) i objectSize) (part (now (b .entry)) j objectSize) ⌝ }
 {
     if four_at(a, i) != four_at(b, j) {
         return false;
@@ -64,7 +68,7 @@ pub fn copy(from: &[u8], i: usize, to: &mut [u8], j: usize, n: usize)
 
 // base, base + 1, .., n of them.
 pub fn count_up(base: u8, n: u8, to: &mut [u8])
-    requires { ⌜ (base + n ≤ 192) × (256 ≤ length (now to)) ⌝ }
+    requires { ⌜ (base + n ≤ firstLeaf) × (256 ≤ length (now to)) ⌝ }
     ensures { λ _. ⌜ Filled (λ i. base + i) n (now (to .exit)) ⌝ }
 {
     let mut i: u8 = 0;

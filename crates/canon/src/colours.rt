@@ -3,6 +3,8 @@
 use crate::bytes::copy;
 use crate::bytes::same;
 use crate::bytes::same_six;
+use crate::layout::OBJECT;
+use crate::layout::WIDE;
 use crate::leads::part_own;
 use crate::leads::steady;
 use crate::lift::lift;
@@ -22,7 +24,7 @@ pub fn place(looks: &[u8], i: u8, n: u8) -> u8
 {
     let mut j: u8 = 0;
     while j < i {
-        if same_six(looks, 6 * (i as usize), looks, 6 * (j as usize)) {
+        if same_six(looks, OBJECT * (i as usize), looks, OBJECT * (j as usize)) {
             return j;
         }
         j += 1;
@@ -47,7 +49,7 @@ pub fn round(nodes: &[u8], n: u8, cs: &[u8], looks: &mut [u8], next: &mut [u8])
     requires { ⌜ Raw (now nodes) n × Below n (now cs) × Scratch (now looks) (now next) ⌝ }
     ensures { λ _. ⌜ take n (now (next .exit)) ≡ refine (nodesIn (now (nodes .entry)) 0 n) (take n (now (cs .entry))) ⌝ }
 {
-    lift(nodes, 0, 6 * (n as usize), cs, looks, 0);
+    lift(nodes, 0, OBJECT * (n as usize), cs, looks, 0);
     places(looks, n, next);
 }
 
@@ -72,7 +74,7 @@ pub fn settle_own(raw: &[u8], n: u8, cs: &mut [u8])
     requires { ⌜ Raw (now raw) n × Coarse (now raw) n (now cs) × (256 ≤ length (now cs)) ⌝ }
     ensures { λ _. ⌜ take n (now (cs .exit)) ≡ colours (nodesIn (now (raw .entry)) 0 n) ⌝ }
 {
-    let mut looks = [0u8; 1536];
+    let mut looks = [0u8; WIDE];
     let mut next = [0u8; 256];
     settle(raw, n, cs, &mut looks, &mut next);
 }

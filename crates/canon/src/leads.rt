@@ -1,7 +1,11 @@
 // The first object of each class that parting leaves, and the test that objects of one class look alike.
 // Not here: how they are parted (parting).
+use crate::layout::CAPACITY;
+use crate::layout::OBJECT;
 use crate::lift::part_of;
 use crate::links::link;
+use crate::parting::NOTE;
+use crate::parting::ROW;
 use crate::parting::begin;
 use crate::parting::cell;
 use crate::parting::class_of;
@@ -10,15 +14,25 @@ use crate::parting::part_looks;
 ghost use mathlib.Core.Path.{_≡_};
 ghost use Prim.Native.Nat.{ℕ, _+_, _*_, _<_, _≤_};
 ghost use lib.ListN.{length, getD};
+ghost use Rattle.canon.specs.Figures.{wideSize, capacity, rowSize, linkSize};
 ghost use Rattle.canon.specs.Tables.{copied};
 ghost use Rattle.canon.specs.Rounds.{Raw};
 ghost use Rattle.canon.specs.Links.{AlikeTest};
 ghost use Rattle.canon.specs.Parting.{Classes};
 ghost use Rattle.canon.specs.Classing.{KnownTest, Leads, SteadyTest, Coarse};
 
+// The tables for the objects of a block, and for as many as codes can name: a row for each, and one for none.
+const FEW_ROWS: usize = 264;
+
+const FEW_LINKS: usize = 495;
+
+const MANY_ROWS: usize = 1544;
+
+const MANY_LINKS: usize = 2895;
+
 // Whether object l is below i and of class d.
 pub fn known(t: &[u16], i: u16, d: u16, l: u16) -> bool
-    requires { ⌜ 8 * i + 8 ≤ length (now t) ⌝ }
+    requires { ⌜ rowSize * i + rowSize ≤ length (now t) ⌝ }
     ensures { λ r. ⌜ KnownTest (now (t .entry)) i d l r ⌝ }
 {
     if i <= l {
@@ -40,11 +54,11 @@ pub fn lead(t: &mut [u16], rows: u16, m: u16, n: u8, cs: &mut [u8])
         let j = i;
         i += 1;
         let d = class_of(t, i as u16);
-        let l = cell(t, d, 6);
+        let l = cell(t, d, NOTE);
         if known(t, j as u16, d, l) {
             cs[j as usize] = l as u8;
         } else {
-            t[8 * (d as usize) + 6] = j as u16;
+            t[ROW * (d as usize) + NOTE] = j as u16;
             cs[j as usize] = j;
         }
     }
@@ -52,13 +66,13 @@ pub fn lead(t: &mut [u16], rows: u16, m: u16, n: u8, cs: &mut [u8])
 
 // Whether objects i and j look alike by their colours.
 pub fn look_same(nodes: &[u8], cs: &[u8], i: u8, j: u8) -> bool
-    requires { ⌜ (1536 ≤ length (now nodes)) × (256 ≤ length (now cs)) ⌝ }
+    requires { ⌜ (wideSize ≤ length (now nodes)) × (256 ≤ length (now cs)) ⌝ }
     ensures { λ r. ⌜ AlikeTest (copied (now (cs .entry))) (now (nodes .entry)) i j r ⌝ }
 {
     let mut k: usize = 0;
-    while k < 6 {
-        let a = part_of(cs, k, nodes[6 * (i as usize) + k]);
-        let b = part_of(cs, k, nodes[6 * (j as usize) + k]);
+    while k < OBJECT {
+        let a = part_of(cs, k, nodes[OBJECT * (i as usize) + k]);
+        let b = part_of(cs, k, nodes[OBJECT * (j as usize) + k]);
         if a != b {
             return false;
         }
@@ -69,7 +83,7 @@ pub fn look_same(nodes: &[u8], cs: &[u8], i: u8, j: u8) -> bool
 
 // Whether each of n objects looks as the one of its colour does.
 pub fn steady(nodes: &[u8], n: u8, cs: &[u8]) -> bool
-    requires { ⌜ (1536 ≤ length (now nodes)) × (256 ≤ length (now cs)) ⌝ }
+    requires { ⌜ (wideSize ≤ length (now nodes)) × (256 ≤ length (now cs)) ⌝ }
     ensures { λ r. ⌜ SteadyTest (now (nodes .entry)) n (now (cs .entry)) r ⌝ }
 {
     let mut i: u8 = 0;
@@ -88,7 +102,7 @@ pub fn steady(nodes: &[u8], n: u8, cs: &[u8]) -> bool
 
 // Colours of n objects that no two equal ones differ in: the first object of each class.
 pub fn part(nodes: &[u8], n: u8, cs: &mut [u8], t: &mut [u16], links: &mut [u16])
-    requires { ⌜ Raw (now nodes) n × (256 ≤ length (now cs)) × (8 * n + 8 ≤ length (now t)) × (15 * n + 15 ≤ length (now links)) ⌝ }
+    requires { ⌜ Raw (now nodes) n × (256 ≤ length (now cs)) × (rowSize * n + rowSize ≤ length (now t)) × (linkSize * n + linkSize ≤ length (now links)) ⌝ }
     ensures { λ _. ⌜ Coarse (now (nodes .entry)) n (now (cs .exit)) ⌝ }
 {
     let rows = n as u16 + 1;
@@ -101,11 +115,11 @@ pub fn part(nodes: &[u8], n: u8, cs: &mut [u8], t: &mut [u16], links: &mut [u16]
 
 // The same, with tables of its own: for the objects of a block, and for more.
 pub fn part_few(nodes: &[u8], n: u8, cs: &mut [u8])
-    requires { ⌜ Raw (now nodes) n × (n ≤ 32) × (256 ≤ length (now cs)) ⌝ }
+    requires { ⌜ Raw (now nodes) n × (n ≤ capacity) × (256 ≤ length (now cs)) ⌝ }
     ensures { λ _. ⌜ Coarse (now (nodes .entry)) n (now (cs .exit)) ⌝ }
 {
-    let mut t = [0u16; 264];
-    let mut links = [0u16; 495];
+    let mut t = [0u16; FEW_ROWS];
+    let mut links = [0u16; FEW_LINKS];
     part(nodes, n, cs, &mut t, &mut links);
 }
 
@@ -113,8 +127,8 @@ pub fn part_many(nodes: &[u8], n: u8, cs: &mut [u8])
     requires { ⌜ Raw (now nodes) n × (256 ≤ length (now cs)) ⌝ }
     ensures { λ _. ⌜ Coarse (now (nodes .entry)) n (now (cs .exit)) ⌝ }
 {
-    let mut t = [0u16; 1544];
-    let mut links = [0u16; 2895];
+    let mut t = [0u16; MANY_ROWS];
+    let mut links = [0u16; MANY_LINKS];
     part(nodes, n, cs, &mut t, &mut links);
 }
 
@@ -122,7 +136,7 @@ pub fn part_own(nodes: &[u8], n: u8, cs: &mut [u8])
     requires { ⌜ Raw (now nodes) n × (256 ≤ length (now cs)) ⌝ }
     ensures { λ _. ⌜ Coarse (now (nodes .entry)) n (now (cs .exit)) ⌝ }
 {
-    if 32 < n {
+    if CAPACITY < n {
         part_many(nodes, n, cs);
         return;
     }

@@ -1,4 +1,7 @@
 // Objects copied, with their codes turned. Not here: which table turns them.
+use crate::layout::FIRST_LEAF;
+use crate::layout::HEAD;
+use crate::layout::OBJECT;
 ghost use mathlib.Core.Path.{_≡_};
 ghost use Prim.Native.Nat.{ℕ, _+_, _<_, _≤_};
 ghost use lib.ListN.{length};
@@ -9,7 +12,7 @@ pub fn turn(table: &[u8], b: u8) -> u8
     requires { ⌜ 256 ≤ length (now table) ⌝ }
     ensures { λ r. ⌜ r ≡ turned (now (table .entry)) b ⌝ }
 {
-    if b < 192 {
+    if b < FIRST_LEAF {
         return table[b as usize];
     }
     b
@@ -20,7 +23,7 @@ pub fn part_of(table: &[u8], k: usize, b: u8) -> u8
     requires { ⌜ 256 ≤ length (now table) ⌝ }
     ensures { λ r. ⌜ r ≡ copied (now (table .entry)) k b ⌝ }
 {
-    if k < 2 {
+    if k < HEAD {
         return b;
     }
     turn(table, b)
@@ -33,7 +36,7 @@ pub fn lift(src: &[u8], from: usize, p: usize, table: &[u8], dst: &mut [u8], to:
 {
     let mut q: usize = 0;
     while q < p {
-        dst[to + q] = part_of(table, q % 6, src[from + q]);
+        dst[to + q] = part_of(table, q % OBJECT, src[from + q]);
         q += 1;
     }
 }

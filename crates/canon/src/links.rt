@@ -1,11 +1,26 @@
 // Who refers to whom by which field, in lists: numbers are rows, an object's number and one, and 0 is none. Field 4 leads to the first object that looks alike.
 // Not here: what is done with them (parting).
+use crate::layout::FIRST_LEAF;
+use crate::layout::HEAD;
+use crate::layout::OBJECT;
+use crate::parting::BEFORE;
+use crate::parting::LINKS;
+use crate::parting::LOOKS;
+use crate::parting::NOTE;
+use crate::parting::ROW;
+use crate::parting::TARGET;
 use crate::parting::cell;
 use crate::parting::last_into;
 ghost use mathlib.Core.Path.{_≡_};
 ghost use Prim.Native.Nat.{ℕ, _+_, _-_, _*_, _<_, _≤_};
 ghost use lib.ListN.{length, getD};
+ghost use Rattle.canon.specs.Figures.{objectSize, headSize, codeCount, rowSize, linkSize, targetAt, looksField, hashCount};
 ghost use Rattle.canon.specs.Links.{Zeros, Hung, shown, AlikeTest, hashOf, targetOf, Codes, HungOn, Sought, LikeBefore, GroupedAll, ReferredTo, Referred, Unhung, Linked};
+
+// how many hashes there are, as a number and as the length of a table with a number for each
+const HASHES: u16 = 32;
+
+const LASTS: usize = 32;
 
 // m zeros.
 pub fn blank(to: &mut [u16], m: usize)
@@ -23,10 +38,10 @@ pub fn blank(to: &mut [u16], m: usize)
 pub fn show(k: usize, b: u8) -> u8
     ensures { λ r. ⌜ r ≡ shown k b ⌝ }
 {
-    if k < 2 {
+    if k < HEAD {
         return b;
     }
-    if b < 192 {
+    if b < FIRST_LEAF {
         return 0;
     }
     b
@@ -34,13 +49,13 @@ pub fn show(k: usize, b: u8) -> u8
 
 // Whether objects i and j look alike at first.
 pub fn look_alike(raw: &[u8], i: u16, j: u16) -> bool
-    requires { ⌜ (6 * i + 6 ≤ length (now raw)) × (6 * j + 6 ≤ length (now raw)) ⌝ }
+    requires { ⌜ (objectSize * i + objectSize ≤ length (now raw)) × (objectSize * j + objectSize ≤ length (now raw)) ⌝ }
     ensures { λ r. ⌜ AlikeTest shown (now (raw .entry)) i j r ⌝ }
 {
     let mut k: usize = 0;
-    while k < 6 {
-        let a = show(k, raw[6 * (i as usize) + k]);
-        let b = show(k, raw[6 * (j as usize) + k]);
+    while k < OBJECT {
+        let a = show(k, raw[OBJECT * (i as usize) + k]);
+        let b = show(k, raw[OBJECT * (j as usize) + k]);
         if a != b {
             return false;
         }
@@ -51,15 +66,15 @@ pub fn look_alike(raw: &[u8], i: u16, j: u16) -> bool
 
 // A number that tells most looks apart.
 pub fn hash(raw: &[u8], i: u16) -> u16
-    requires { ⌜ 6 * i + 6 ≤ length (now raw) ⌝ }
+    requires { ⌜ objectSize * i + objectSize ≤ length (now raw) ⌝ }
     ensures { λ r. ⌜ r ≡ hashOf (now (raw .entry)) i ⌝ }
 {
-    let a = show(0, raw[6 * (i as usize)]);
-    let b = show(2, raw[6 * (i as usize) + 2]);
-    let c = show(3, raw[6 * (i as usize) + 3]);
-    let d = show(4, raw[6 * (i as usize) + 4]);
-    let e = show(5, raw[6 * (i as usize) + 5]);
-    ((a as u16) + 7 * (b as u16) + 13 * (c as u16) + 29 * (d as u16) + 5 * (e as u16)) % 32
+    let a = show(0, raw[OBJECT * (i as usize)]);
+    let b = show(2, raw[OBJECT * (i as usize) + 2]);
+    let c = show(3, raw[OBJECT * (i as usize) + 3]);
+    let d = show(4, raw[OBJECT * (i as usize) + 4]);
+    let e = show(5, raw[OBJECT * (i as usize) + 5]);
+    ((a as u16) + 7 * (b as u16) + 13 * (c as u16) + 29 * (d as u16) + 5 * (e as u16)) % HASHES
 }
 
 // Row x refers to row v by field f.
@@ -67,21 +82,21 @@ pub fn hang(links: &mut [u16], n: u16, f: u16, x: u16, v: u16)
     requires { ⌜ Hung n f x (now links) × (f < 5) × (0 < x) × (x < n) × (v < n) ⌝ }
     ensures { λ _. ⌜ HungOn n f x v (now (links .entry)) (now (links .exit)) ⌝ }
 {
-    links[15 * (x as usize) + 10 + f as usize] = v;
+    links[LINKS * (x as usize) + TARGET + f as usize] = v;
     if v == 0 {
         return;
     }
     let l = last_into(links, f, v);
-    links[15 * (x as usize) + 5 + f as usize] = l;
-    links[15 * (v as usize) + f as usize] = x;
+    links[LINKS * (x as usize) + BEFORE + f as usize] = l;
+    links[LINKS * (v as usize) + f as usize] = x;
 }
 
 // What row x refers to by field f.
 pub fn refers_to(links: &[u16], f: u16, x: u16) -> u16
-    requires { ⌜ (15 * x + 15 ≤ length (now links)) × (f < 5) ⌝ }
-    ensures { λ r. ⌜ r ≡ getD (now (links .entry)) (15 * x + 10 + f) 0 ⌝ }
+    requires { ⌜ (linkSize * x + linkSize ≤ length (now links)) × (f < 5) ⌝ }
+    ensures { λ r. ⌜ r ≡ getD (now (links .entry)) (linkSize * x + targetAt + f) 0 ⌝ }
 {
-    links[15 * (x as usize) + 10 + f as usize]
+    links[LINKS * (x as usize) + TARGET + f as usize]
 }
 
 // The first row of those that look as row x does, if one below x does, which are listed from `from` on; else x.
@@ -92,16 +107,16 @@ pub fn like_before(raw: &[u8], t: &[u16], links: &[u16], n: u16, x: u16, h: u16,
     let mut z = from;
     while 0 < z {
         if look_alike(raw, x - 1, z - 1) {
-            return refers_to(links, 4, z);
+            return refers_to(links, LOOKS, z);
         }
-        z = cell(t, z, 6);
+        z = cell(t, z, NOTE);
     }
     x
 }
 
 // Hangs the rows up by their looks.
 pub fn group(raw: &[u8], n: u16, t: &mut [u16], links: &mut [u16], last: &mut [u16])
-    requires { ⌜ Codes (now raw) n × Hung n 4 1 (now links) × (0 < n) × (8 * n ≤ length (now t)) × Zeros 32 (now last) × (32 ≤ length (now last)) ⌝ }
+    requires { ⌜ Codes (now raw) n × Hung n looksField 1 (now links) × (0 < n) × (rowSize * n ≤ length (now t)) × Zeros hashCount (now last) × (hashCount ≤ length (now last)) ⌝ }
     ensures { λ _. ⌜ GroupedAll (now (raw .entry)) n (now (links .entry)) (now (links .exit)) ⌝ }
 {
     let mut x: u16 = 1;
@@ -109,8 +124,8 @@ pub fn group(raw: &[u8], n: u16, t: &mut [u16], links: &mut [u16], last: &mut [u
         let h = hash(raw, x - 1);
         let l = last[h as usize];
         let r = like_before(raw, t, links, n, x, h, l);
-        hang(links, n, 4, x, r);
-        t[8 * (x as usize) + 6] = l;
+        hang(links, n, LOOKS, x, r);
+        t[ROW * (x as usize) + NOTE] = l;
         last[h as usize] = x;
         x += 1;
     }
@@ -118,11 +133,11 @@ pub fn group(raw: &[u8], n: u16, t: &mut [u16], links: &mut [u16], last: &mut [u
 
 // The row that field f of object i leads to; 0 if it leads to none.
 pub fn target_row(raw: &[u8], i: u16, f: u16) -> u16
-    requires { ⌜ (6 * i + 6 ≤ length (now raw)) × (f < 4) ⌝ }
-    ensures { λ r. ⌜ r ≡ targetOf (getD (now (raw .entry)) (6 * i + 2 + f) 0) ⌝ }
+    requires { ⌜ (objectSize * i + objectSize ≤ length (now raw)) × (f < codeCount) ⌝ }
+    ensures { λ r. ⌜ r ≡ targetOf (getD (now (raw .entry)) (objectSize * i + headSize + f) 0) ⌝ }
 {
-    let b = raw[6 * (i as usize) + 2 + f as usize];
-    if b < 192 {
+    let b = raw[OBJECT * (i as usize) + HEAD + f as usize];
+    if b < FIRST_LEAF {
         return b as u16 + 1;
     }
     0
@@ -130,7 +145,7 @@ pub fn target_row(raw: &[u8], i: u16, f: u16) -> u16
 
 // Hangs the rows up by field f. Answers whether one leads to an object.
 pub fn refer_field(raw: &[u8], n: u16, f: u16, links: &mut [u16]) -> bool
-    requires { ⌜ Codes (now raw) n × (0 < n) × (f < 4) × Hung n f 1 (now links) ⌝ }
+    requires { ⌜ Codes (now raw) n × (0 < n) × (f < codeCount) × Hung n f 1 (now links) ⌝ }
     ensures { λ _. ⌜ ReferredTo (now (raw .entry)) n f n (now (links .entry)) (now (links .exit)) ⌝ }
 {
     let mut some = false;
@@ -149,11 +164,11 @@ pub fn refer_field(raw: &[u8], n: u16, f: u16, links: &mut [u16]) -> bool
 // The same for all four fields. Answers how many of them are to be looked at.
 pub fn refer(raw: &[u8], n: u16, links: &mut [u16]) -> u16
     requires { ⌜ Codes (now raw) n × (0 < n) × Unhung n (now links) ⌝ }
-    ensures { λ w. ⌜ Referred (now (raw .entry)) n 4 (now (links .entry)) (now (links .exit)) × (w ≤ 4) ⌝ }
+    ensures { λ w. ⌜ Referred (now (raw .entry)) n 4 (now (links .entry)) (now (links .exit)) × (w ≤ codeCount) ⌝ }
 {
     let mut w: u16 = 0;
     let mut f: u16 = 0;
-    while f < 4 {
+    while f < LOOKS {
         let g = f;
         f += 1;
         if refer_field(raw, n, g, links) {
@@ -165,12 +180,12 @@ pub fn refer(raw: &[u8], n: u16, links: &mut [u16]) -> u16
 
 // All of it.
 pub fn link(raw: &[u8], n: u16, t: &mut [u16], links: &mut [u16]) -> u16
-    requires { ⌜ Codes (now raw) n × (0 < n) × (8 * n ≤ length (now t)) × (15 * n ≤ length (now links)) ⌝ }
-    ensures { λ w. ⌜ Linked (now (raw .entry)) n (now (links .exit)) × (w ≤ 4) ⌝ }
+    requires { ⌜ Codes (now raw) n × (0 < n) × (rowSize * n ≤ length (now t)) × (linkSize * n ≤ length (now links)) ⌝ }
+    ensures { λ w. ⌜ Linked (now (raw .entry)) n (now (links .exit)) × (w ≤ codeCount) ⌝ }
 {
-    let mut last = [0u16; 32];
-    blank(&mut last, 32);
-    blank(links, 15 * (n as usize));
+    let mut last = [0u16; LASTS];
+    blank(&mut last, LASTS);
+    blank(links, LINKS * (n as usize));
     group(raw, n, t, links, &mut last);
     refer(raw, n, links)
 }

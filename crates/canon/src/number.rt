@@ -1,11 +1,19 @@
 // The objects of a graph, merged by colour and numbered in the order met, in a block: its value.
 // Not here: the colours (colours), the order (walk).
 use crate::bytes::wipe;
+use crate::layout::BLOCK;
+use crate::layout::CAPACITY;
+use crate::layout::COUNT;
+use crate::layout::LEVEL;
+use crate::layout::OBJECT;
+use crate::layout::REACH;
+use crate::layout::UNDETERMINED;
 use crate::lift::lift;
 use crate::walk::visit;
 ghost use mathlib.Core.Path.{_≡_};
 ghost use Prim.Native.Nat.{ℕ, _+_, _*_, _<_, _≤_};
 ghost use lib.ListN.{length, getD};
+ghost use Rattle.canon.specs.Figures.{objectSize, wideSize};
 ghost use Rattle.canon.specs.Tables.{Filled};
 ghost use Rattle.canon.specs.Numbers.{numberIn, Gathered, Levels, Ready, Placed};
 
@@ -35,7 +43,7 @@ pub fn numbers(cs: &[u8], n: u8, met: &[u8], m: u8, to: &mut [u8])
 
 // The objects that the order lists, renamed by the table, from a place of `dst` on.
 pub fn gather(nodes: &[u8], order: &[u8], m: u8, table: &[u8], dst: &mut [u8], to: usize)
-    requires { ⌜ (1536 ≤ length (now nodes)) × (256 ≤ length (now order)) × (256 ≤ length (now table)) × (to + 6 * m ≤ length (now dst)) ⌝ }
+    requires { ⌜ (wideSize ≤ length (now nodes)) × (256 ≤ length (now order)) × (256 ≤ length (now table)) × (to + objectSize * m ≤ length (now dst)) ⌝ }
     ensures { λ _. ⌜ Gathered (now (nodes .entry)) (now (order .entry)) m (now (table .entry)) (now (dst .entry)) to (now (dst .exit)) ⌝ }
 {
     let mut j: u8 = 0;
@@ -43,11 +51,11 @@ pub fn gather(nodes: &[u8], order: &[u8], m: u8, table: &[u8], dst: &mut [u8], t
         let c = order[j as usize];
         lift(
             nodes,
-            6 * (c as usize),
-            6,
+            OBJECT * (c as usize),
+            OBJECT,
             table,
             dst,
-            to + 6 * (j as usize),
+            to + OBJECT * (j as usize),
         );
         j += 1;
     }
@@ -58,7 +66,7 @@ pub fn level_of(work: &[u8], at: usize, p: usize) -> u8
     requires { ⌜ at + p ≤ length (now work) ⌝ }
     ensures { λ l. ⌜ Levels (now (work .entry)) at p l ⌝ }
 {
-    let mut m: u8 = 192;
+    let mut m = UNDETERMINED;
     let mut q: usize = 0;
     while q < p {
         let c = work[at + q];
@@ -67,30 +75,30 @@ pub fn level_of(work: &[u8], at: usize, p: usize) -> u8
         }
         q += 1;
     }
-    m - 192
+    m - UNDETERMINED
 }
 
-// Writes the value of n objects with their colours, from the root on, to block `dst`, unless it has more than 32 objects.
+// Writes the value of n objects with their colours, from the root on, to block `dst`, unless it has more objects than a block has room for.
 // Answers with the number of its objects.
 pub fn put(nodes: &[u8], n: u8, cs: &[u8], root: u8, work: &mut [u8], dst: u16) -> u8
     requires { ⌜ Ready (now nodes) n (now cs) root (now work) dst ⌝ }
     ensures { λ r. ⌜ Placed (now (nodes .entry)) n root (now (work .entry)) dst (now (work .exit)) r ⌝ }
 {
-    let at = 234 * (dst as usize);
-    let count = at + 192;
-    let level = at + 193;
-    let reach = at + 194;
+    let at = BLOCK * (dst as usize);
+    let count = at + COUNT;
+    let level = at + LEVEL;
+    let reach = at + REACH;
     let mut order = [0u8; 256];
     let mut met = [0u8; 256];
     wipe(&mut met, 256);
     let m = visit(nodes, cs, n + 1, root, &mut order, &mut met, 0);
-    if 32 < m {
+    if CAPACITY < m {
         return m;
     }
     let mut table = [0u8; 256];
     numbers(cs, n, &met, m, &mut table);
     gather(nodes, &order, m, &table, work, at);
-    let l = level_of(work, at, 6 * (m as usize));
+    let l = level_of(work, at, OBJECT * (m as usize));
     work[count] = m;
     work[level] = l;
     work[reach] = m;

@@ -3,66 +3,94 @@
 ghost use mathlib.Core.Path.{_≡_};
 ghost use Prim.Native.Nat.{ℕ, _+_, _*_, _<_, _≤_};
 ghost use lib.ListN.{length, getD};
+ghost use Rattle.canon.specs.Figures.{codeCount, rowSize, linkSize, beforeAt, targetAt, looksField};
 ghost use Rattle.canon.specs.Links.{Lists, AllLists};
 ghost use Rattle.canon.specs.Parting.{Stood, Begun, Standing, Classes, Found, Brought, SameNotes, Into, Noted, Relabelled, LaidOut, Kept, Split, PartedLooks, PartedFields};
 
+// the numbers of a row: of object x its class and its place, the object at place x, where class x begins, its middle and its end, two notes
+pub const ROW: usize = 8;
+
+const PLACE: usize = 1;
+
+const OBJECT_AT: usize = 2;
+
+const BEGIN: usize = 3;
+
+const MIDDLE: usize = 4;
+
+const END: usize = 5;
+
+pub const NOTE: usize = 6;
+
+const MARKED: usize = 7;
+
+// the numbers of a row of links, three for each field: the last that refers to x, the one before x, what x refers to
+pub const LINKS: usize = 15;
+
+pub const BEFORE: usize = 5;
+
+pub const TARGET: usize = 10;
+
+// the field, after an object's four, that leads to the first object that looks alike
+pub const LOOKS: u16 = 4;
+
 // The class of object x, and number k of row x.
 pub fn class_of(t: &[u16], x: u16) -> u16
-    requires { ⌜ 8 * x + 8 ≤ length (now t) ⌝ }
-    ensures { λ r. ⌜ r ≡ getD (now (t .entry)) (8 * x) 0 ⌝ }
+    requires { ⌜ rowSize * x + rowSize ≤ length (now t) ⌝ }
+    ensures { λ r. ⌜ r ≡ getD (now (t .entry)) (rowSize * x) 0 ⌝ }
 {
-    t[8 * (x as usize)]
+    t[ROW * (x as usize)]
 }
 
-pub fn cell(t: &[u16], x: u16, k: u16) -> u16
-    requires { ⌜ (8 * x + 8 ≤ length (now t)) × (k < 8) ⌝ }
-    ensures { λ r. ⌜ r ≡ getD (now (t .entry)) (8 * x + k) 0 ⌝ }
+pub fn cell(t: &[u16], x: u16, k: usize) -> u16
+    requires { ⌜ (rowSize * x + rowSize ≤ length (now t)) × (k < rowSize) ⌝ }
+    ensures { λ r. ⌜ r ≡ getD (now (t .entry)) (rowSize * x + k) 0 ⌝ }
 {
-    t[8 * (x as usize) + k as usize]
+    t[ROW * (x as usize) + k]
 }
 
 // The last that refers to v by field f, and the one before z that refers to what z does.
 pub fn last_into(links: &[u16], f: u16, v: u16) -> u16
-    requires { ⌜ (15 * v + 15 ≤ length (now links)) × (f < 5) ⌝ }
-    ensures { λ r. ⌜ r ≡ getD (now (links .entry)) (15 * v + f) 0 ⌝ }
+    requires { ⌜ (linkSize * v + linkSize ≤ length (now links)) × (f < 5) ⌝ }
+    ensures { λ r. ⌜ r ≡ getD (now (links .entry)) (linkSize * v + f) 0 ⌝ }
 {
-    links[15 * (v as usize) + f as usize]
+    links[LINKS * (v as usize) + f as usize]
 }
 
 pub fn one_before(links: &[u16], f: u16, z: u16) -> u16
-    requires { ⌜ (15 * z + 15 ≤ length (now links)) × (f < 5) ⌝ }
-    ensures { λ r. ⌜ r ≡ getD (now (links .entry)) (15 * z + 5 + f) 0 ⌝ }
+    requires { ⌜ (linkSize * z + linkSize ≤ length (now links)) × (f < 5) ⌝ }
+    ensures { λ r. ⌜ r ≡ getD (now (links .entry)) (linkSize * z + beforeAt + f) 0 ⌝ }
 {
-    links[15 * (z as usize) + 5 + f as usize]
+    links[LINKS * (z as usize) + BEFORE + f as usize]
 }
 
 // Object x stands at place p.
 pub fn stand(t: &mut [u16], x: u16, p: u16)
-    requires { ⌜ (8 * x + 8 ≤ length (now t)) × (8 * p + 8 ≤ length (now t)) ⌝ }
+    requires { ⌜ (rowSize * x + rowSize ≤ length (now t)) × (rowSize * p + rowSize ≤ length (now t)) ⌝ }
     ensures { λ _. ⌜ Stood (now (t .entry)) x p (now (t .exit)) ⌝ }
 {
-    t[8 * (p as usize) + 2] = x;
-    t[8 * (x as usize) + 1] = p;
+    t[ROW * (p as usize) + OBJECT_AT] = x;
+    t[ROW * (x as usize) + PLACE] = p;
 }
 
 // Class c has the places from a to e, none of them in front.
 pub fn lay_out(t: &mut [u16], c: u16, a: u16, e: u16)
-    requires { ⌜ 8 * c + 8 ≤ length (now t) ⌝ }
+    requires { ⌜ rowSize * c + rowSize ≤ length (now t) ⌝ }
     ensures { λ _. ⌜ LaidOut (now (t .entry)) c a e (now (t .exit)) ⌝ }
 {
-    t[8 * (c as usize) + 3] = a;
-    t[8 * (c as usize) + 4] = a;
-    t[8 * (c as usize) + 5] = e;
+    t[ROW * (c as usize) + BEGIN] = a;
+    t[ROW * (c as usize) + MIDDLE] = a;
+    t[ROW * (c as usize) + END] = e;
 }
 
 // n objects in one class.
 pub fn begin(t: &mut [u16], n: u16)
-    requires { ⌜ (0 < n) × (8 * n ≤ length (now t)) ⌝ }
+    requires { ⌜ (0 < n) × (rowSize * n ≤ length (now t)) ⌝ }
     ensures { λ _. ⌜ Begun n (now (t .exit)) ⌝ }
 {
     let mut x: u16 = 0;
     while x < n {
-        t[8 * (x as usize)] = 0;
+        t[ROW * (x as usize)] = 0;
         stand(t, x, x);
         x += 1;
     }
@@ -74,10 +102,10 @@ pub fn bring(t: &mut [u16], n: u16, m: u16, z: u16, c: u16, a: u16, l: u16)
     requires { ⌜ Classes n m (now t) × Found n m (now t) z c a l ⌝ }
     ensures { λ _. ⌜ Brought n m (now (t .entry)) (now (t .exit)) (λ x. x ≡ z) × SameNotes n (now (t .entry)) (now (t .exit)) ⌝ }
 {
-    let e = cell(t, a, 2);
+    let e = cell(t, a, OBJECT_AT);
     stand(t, e, l);
     stand(t, z, a);
-    t[8 * (c as usize) + 4] = a + 1;
+    t[ROW * (c as usize) + MIDDLE] = a + 1;
 }
 
 // Brings object z to the front of its class. Notes the class if it is the first there, and answers how many are noted.
@@ -86,12 +114,12 @@ pub fn mark(t: &mut [u16], n: u16, m: u16, z: u16, k: u16) -> u16
     ensures { λ r. ⌜ Brought n m (now (t .entry)) (now (t .exit)) (λ x. x ≡ z) × SameNotes n (now (t .entry)) (now (t .exit)) × (r ≤ n) ⌝ }
 {
     let c = class_of(t, z);
-    let a = cell(t, c, 4);
-    let l = cell(t, z, 1);
+    let a = cell(t, c, MIDDLE);
+    let l = cell(t, z, PLACE);
     if l < a {
         return k;
     }
-    let b = cell(t, c, 3);
+    let b = cell(t, c, BEGIN);
     bring(t, n, m, z, c, a, l);
     if a != b {
         return k;
@@ -99,14 +127,14 @@ pub fn mark(t: &mut [u16], n: u16, m: u16, z: u16, k: u16) -> u16
     if n <= k {
         return k;
     }
-    t[8 * (k as usize) + 7] = c;
+    t[ROW * (k as usize) + MARKED] = c;
     k + 1
 }
 
 // Brings all that refer to object v by field f to the fronts of their classes.
 pub fn mark_into(t: &mut [u16], n: u16, m: u16, links: &[u16], f: u16, v: u16, k: u16) -> u16
     requires { ⌜ Classes n m (now t) × Lists n f (now links) × (f < 5) × (0 < v) × (v < n) × (k ≤ n) ⌝ }
-    ensures { λ r. ⌜ Brought n m (now (t .entry)) (now (t .exit)) (λ x. getD (now (links .entry)) (15 * x + 10 + f) 0 ≡ v) × SameNotes n (now (t .entry)) (now (t .exit)) × (r ≤ n) ⌝ }
+    ensures { λ r. ⌜ Brought n m (now (t .entry)) (now (t .exit)) (λ x. getD (now (links .entry)) (linkSize * x + targetAt + f) 0 ≡ v) × SameNotes n (now (t .entry)) (now (t .exit)) × (r ≤ n) ⌝ }
 {
     let mut j = k;
     let mut z = last_into(links, f, v);
@@ -120,13 +148,13 @@ pub fn mark_into(t: &mut [u16], n: u16, m: u16, links: &[u16], f: u16, v: u16, k
 // Notes the objects of class s.
 pub fn note(t: &mut [u16], n: u16, m: u16, s: u16)
     requires { ⌜ Classes n m (now t) × (s < m) ⌝ }
-    ensures { λ _. ⌜ Noted (now (t .entry)) s (getD (now (t .entry)) (8 * s + 5) 0) (now (t .exit)) ⌝ }
+    ensures { λ _. ⌜ Noted (now (t .entry)) s (getD (now (t .entry)) (rowSize * s + 5) 0) (now (t .exit)) ⌝ }
 {
-    let e = cell(t, s, 5);
-    let mut p = cell(t, s, 3);
+    let e = cell(t, s, END);
+    let mut p = cell(t, s, BEGIN);
     while p < e {
-        let v = cell(t, p, 2);
-        t[8 * (p as usize) + 6] = v;
+        let v = cell(t, p, OBJECT_AT);
+        t[ROW * (p as usize) + NOTE] = v;
         p += 1;
     }
 }
@@ -137,11 +165,11 @@ pub fn mark_class(t: &mut [u16], n: u16, m: u16, links: &[u16], f: u16, s: u16) 
     ensures { λ r. ⌜ Brought n m (now (t .entry)) (now (t .exit)) (Into (now (links .entry)) f (now (t .entry)) s) × (r ≤ n) ⌝ }
 {
     note(t, n, m, s);
-    let e = cell(t, s, 5);
-    let mut p = cell(t, s, 3);
+    let e = cell(t, s, END);
+    let mut p = cell(t, s, BEGIN);
     let mut k: u16 = 0;
     while p < e {
-        let v = cell(t, p, 6);
+        let v = cell(t, p, NOTE);
         p += 1;
         if 0 < v {
             k = mark_into(t, n, m, links, f, v, k);
@@ -157,8 +185,8 @@ pub fn relabel(t: &mut [u16], n: u16, a: u16, e: u16, m: u16)
 {
     let mut p = a;
     while p < e {
-        let x = cell(t, p, 2);
-        t[8 * (x as usize)] = m;
+        let x = cell(t, p, OBJECT_AT);
+        t[ROW * (x as usize)] = m;
         p += 1;
     }
 }
@@ -168,9 +196,9 @@ pub fn split(t: &mut [u16], n: u16, m: u16, d: u16) -> u16
     requires { ⌜ Classes n m (now t) × (d < m) ⌝ }
     ensures { λ r. ⌜ Split n (now (t .entry)) (now (t .exit)) m r ⌝ }
 {
-    let a = cell(t, d, 3);
-    let g = cell(t, d, 4);
-    let e = cell(t, d, 5);
+    let a = cell(t, d, BEGIN);
+    let g = cell(t, d, MIDDLE);
+    let e = cell(t, d, END);
     if g <= a {
         return m;
     }
@@ -202,7 +230,7 @@ pub fn split_all(t: &mut [u16], n: u16, m: u16, k: u16) -> u16
     let mut r = m;
     let mut i: u16 = 0;
     while i < k {
-        let d = cell(t, i, 7);
+        let d = cell(t, i, MARKED);
         i += 1;
         if d < r {
             r = split(t, n, r, d);
@@ -213,7 +241,7 @@ pub fn split_all(t: &mut [u16], n: u16, m: u16, k: u16) -> u16
 
 // Parts the classes by the first object that looks alike, which is field 4.
 pub fn part_looks(t: &mut [u16], n: u16, links: &[u16]) -> u16
-    requires { ⌜ Classes n 1 (now t) × Lists n 4 (now links) ⌝ }
+    requires { ⌜ Classes n 1 (now t) × Lists n looksField (now links) ⌝ }
     ensures { λ r. ⌜ PartedLooks n (now (links .entry)) (now (t .entry)) (now (t .exit)) r ⌝ }
 {
     let mut m: u16 = 1;
@@ -221,8 +249,8 @@ pub fn part_looks(t: &mut [u16], n: u16, links: &[u16]) -> u16
     while v < n {
         let u = v;
         v += 1;
-        if 0 < last_into(links, 4, u) {
-            let k = mark_into(t, n, m, links, 4, u, 0);
+        if 0 < last_into(links, LOOKS, u) {
+            let k = mark_into(t, n, m, links, LOOKS, u, 0);
             m = split_all(t, n, m, k);
         }
     }
@@ -231,7 +259,7 @@ pub fn part_looks(t: &mut [u16], n: u16, links: &[u16]) -> u16
 
 // Parts the classes by who refers into class s, by each field below w.
 pub fn part_by(t: &mut [u16], n: u16, m: u16, links: &[u16], w: u16, s: u16) -> u16
-    requires { ⌜ Classes n m (now t) × AllLists n (now links) × (w ≤ 4) × (s < m) ⌝ }
+    requires { ⌜ Classes n m (now t) × AllLists n (now links) × (w ≤ codeCount) × (s < m) ⌝ }
     ensures { λ r. ⌜ PartedFields n (now (links .entry)) (now (t .entry)) (now (t .exit)) m r ⌝ }
 {
     let mut r = m;
@@ -246,7 +274,7 @@ pub fn part_by(t: &mut [u16], n: u16, m: u16, links: &[u16], w: u16, s: u16) -> 
 
 // Parts the classes by who refers into them, the new ones too. The first class need not be looked at.
 pub fn part_fields(t: &mut [u16], n: u16, m: u16, links: &[u16], w: u16) -> u16
-    requires { ⌜ Classes n m (now t) × AllLists n (now links) × (w ≤ 4) ⌝ }
+    requires { ⌜ Classes n m (now t) × AllLists n (now links) × (w ≤ codeCount) ⌝ }
     ensures { λ r. ⌜ PartedFields n (now (links .entry)) (now (t .entry)) (now (t .exit)) m r ⌝ }
 {
     let mut r = m;

@@ -1,4 +1,7 @@
 // The order in which the colours are first met, depth first, and a table of their places in it. Not here: the objects renumbered in it.
+use crate::layout::FIRST_LEAF;
+use crate::layout::HEAD;
+use crate::layout::OBJECT;
 ghost use mathlib.Core.Path.{_≡_};
 ghost use Prim.Native.Nat.{ℕ, _+_, _*_, _<_, _≤_};
 ghost use lib.ListN.{length, take};
@@ -12,7 +15,7 @@ pub fn visit(nodes: &[u8], cs: &[u8], k: u8, r: u8, order: &mut [u8], met: &mut 
     if k == 0 {
         return m;
     }
-    if 192 <= r {
+    if FIRST_LEAF <= r {
         return m;
     }
     let c = cs[r as usize];
@@ -41,11 +44,11 @@ pub fn fields(
     if 4 <= f {
         return m;
     }
-    let at = 6 * (c as usize);
+    let at = OBJECT * (c as usize);
     if nodes[at + 1] <= f {
         return m;
     }
-    let r = nodes[at + 2 + f as usize];
+    let r = nodes[at + HEAD + f as usize];
     let t = visit(nodes, cs, k, r, order, met, m);
     fields(nodes, cs, k, c, f + 1, order, met, t)
 }

@@ -5,7 +5,7 @@ use native.Mathlib.Omega.{arith}
 use mathlib.Core.Path.{_≡_, refl, sym, ap, _∙_, subst}
 use mathlib.Core.List.{List, map}
 use lib.ListN.{length, getD, take, set}
-use Rattle.canon.specs.Layout.{blockSize}
+use Rattle.canon.specs.Figures.{markCount, blockSize}
 use Rattle.cofj.specs.Limits.{nestingLimit}
 use Rattle.cofj.specs.Running.{openMark}
 use Rattle.classes.specs.declared.methods.Found.{Found}
@@ -351,7 +351,7 @@ module _ (W S : List ℕ) (v : ValueRef) (A : List ℕ) (n : ℕ) (p : Spot) (ru
   pub body-top : p .opened < callLimit
   body-top = fits.push-room W S (p .opened) v A n (p .calls - 1) (p .block) (run .fits)
 
-  pub body-mark : p .opened < 63
+  pub body-mark : p .opened < markCount
   body-mark = let t = body-top in omega arith
 
   body-based : Based W (p .block + 4)

@@ -28,7 +28,8 @@ use Rattle.classes.proofs.OnTables.{lookup-on}
 use Rattle.values.specs.declared.ValueRef.{ValueRef}
 use Rattle.values.specs.declared.ValueRef.the-variants.{Object}
 use Rattle.values.proofs.ValueRef as RefT
-use Rattle.canon.specs.Layout.{nodeIn, countIn, objectsIn, graphAt, Inside, blockSize, objectSize}
+use Rattle.canon.specs.Figures.{blockSize, objectSize}
+use Rattle.canon.specs.Layout.{nodeIn, countIn, objectsIn, graphAt, Inside}
 use Rattle.values.specs.Layout.{HeldBy, valueOf, Holds}
 use Rattle.values.proofs.Blocks.{whole-at, inside-room, no-object}
 use Rattle.cofj.proofs.Canon.{canon-same}

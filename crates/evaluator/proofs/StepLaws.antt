@@ -23,7 +23,8 @@ use Rattle.values.specs.Layout.{valueOf}
 use Rattle.values.specs.Refs.{refIn}
 use Rattle.maker.specs.declared.Made.{Made}
 use Rattle.maker.specs.declared.Made.the-variants as made
-use Rattle.maker.specs.Laying.{valuesFrom, partsOf, spare, Makeable, MadeIs}
+use Rattle.canon.specs.Figures.{spare}
+use Rattle.maker.specs.Laying.{valuesFrom, partsOf, Makeable, MadeIs}
 use Rattle.maker.proofs.BareLaws.{bare-made}
 use Rattle.evaluator.specs.Figures.{placeLimit}
 use Rattle.evaluator.specs.declared.Stop.{Stop}

@@ -1,6 +1,7 @@
 -- The figures of evaluation, each named once; src/trace.rt and src/spot.rt have the same for the code.
--- Not here: document 01's (the language's Limits), those of a table (crate classes, Figures) and of a block (crate canon, Layout).
+-- Not here: document 01's (the language's Limits), those of a table (crate classes, Figures) and of a block (crate canon, Figures).
 use Prim.Native.Nat.{ℕ}
+use Rattle.canon.specs.Figures.{blocksSize}
 
 -- how many calls may be open
 abbrev pub callLimit : ℕ
@@ -36,6 +37,6 @@ openBlocks = 16
 abbrev pub blockLimit : ℕ
 blockLimit = 275
 
--- the bytes that the work buffer has at least: these blocks', and those up to the spare one (crate maker, Laying)
+-- the bytes that the work buffer has at least: these blocks', and those up to the spare one
 abbrev pub workRoom : ℕ
-workRoom = 65520
+workRoom = blocksSize

@@ -7,7 +7,8 @@ use lib.Dec.{eqb, ltb}
 use lib.ListN.{getD}
 use Rattle.classes.specs.Figures.{rowSize}
 use Rattle.classes.specs.Machine.{pick}
+use Rattle.maker.specs.Figures.{presetCount}
 
--- an object of class c with n values: c is below 32 and has no fields, and there are no values
+-- an object of class c with n values: c is one of the first classes and has no fields, and there are no values
 unfoldable pub isPreset : List ℕ → ℕ → ℕ → Bool
-isPreset T c n = pick (eqb n 0) (pick (ltb c 32) (eqb (getD T (rowSize * c + 1) 0) 0) false) false
+isPreset T c n = pick (eqb n 0) (pick (ltb c presetCount) (eqb (getD T (rowSize * c + 1) 0) 0) false) false

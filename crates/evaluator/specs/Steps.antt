@@ -5,10 +5,10 @@ use Prim.Native.Nat.{ℕ, _+_, _-_, _*_, _≤_, _<_}
 use mathlib.Core.Path.{_≡_}
 use mathlib.Core.List.{List}
 use lib.ListN.{length, getD}
-use Rattle.canon.specs.Layout.{blockSize}
+use Rattle.canon.specs.Figures.{markCount, blockSize, spare}
 use Rattle.values.specs.declared.ValueRef.{ValueRef}
 use Rattle.values.specs.declared.ValueRef.the-variants.{Object, Mark, Undetermined}
-use Rattle.maker.specs.Laying.{partsOf, spare}
+use Rattle.maker.specs.Laying.{partsOf}
 use Rattle.maker.specs.Bares.{Bares}
 use Rattle.evaluator.specs.Figures.{callSize, fuelAt, traceSize, placeLimit}
 use Rattle.evaluator.specs.declared.Done.{Done}
@@ -92,7 +92,7 @@ markIn Undetermined = 0
 
 pub record MarkGiven (r : ValueRef) : Type 0 where
   pub is : r ≡ Mark (markIn r)
-  pub small : markIn r < 63
+  pub small : markIn r < markCount
 
 -- ---- what is done
 pub record EvalStep (T W : List ℕ) (f : Frame) (S : List ℕ) (p : Spot) (W′ S′ : List ℕ) (o : Done) : Type 0 where

@@ -21,6 +21,7 @@ use classes::places::SIZE;
 use classes::shape::Shape;
 use classes::shape::shape_at;
 use maker::Made;
+use maker::bares::PRESETS;
 use maker::make::make;
 use maker::over::make_bare;
 use values::ValueRef;
@@ -43,7 +44,7 @@ pub(crate) fn is_preset(t: &[u8; SIZE], c: u8, n: u8) -> bool
     if n != 0 {
         return false;
     }
-    if 32 <= c {
+    if PRESETS <= c {
         return false;
     }
     field_total(t, c) == 0

@@ -1,6 +1,6 @@
 // The method that a call names, or that it is stuck. Not here: lookup along the parents (classes).
-use canon::BLOCK;
-use canon::OBJECT;
+use canon::layout::BLOCK;
+use canon::layout::OBJECT;
 use classes::methods::Found;
 use classes::methods::method_with;
 use classes::places::CLASSES;

@@ -12,7 +12,9 @@ use Rattle.cofj.specs.Partial.{_>>=_}
 use Rattle.cofj.specs.Values.{Ref, obj, mark, undet, Node, Graph, graph, nodeAt, refsAt, make}
 use Rattle.cofj.specs.Unfolding.{object, opened, unknown, child, follow, Same, SameTree, InRange, Whole, AllWhole}
 use Rattle.cofj.proofs.Operations.{make-field}
+use Rattle.canon.specs.Figures.{capacity}
 use Rattle.canon.specs.Layout.{Distinct}
+use Rattle.maker.specs.Figures.{tooMany}
 use Rattle.maker.specs.Sorting.{Fresh}
 use Rattle.maker.specs.Crowds.{In, Within, Crowd}
 use Rattle.maker.proofs.Adding.{more, size-more, old-tree, distinct-more}
@@ -83,12 +85,12 @@ module _ (ns : List Node) (x : ℕ) (g : Graph) (w : Whole g) where
   pub in-number : In ns x g → Numbered ns x g
   in-number i = along (i .path) (g .root) (w .top) (i .tree)
 
-pub crowd-large : (g : Graph) → Whole g → Crowd g → 32 < length (g .nodes)
+pub crowd-large : (g : Graph) → Whole g → Crowd g → capacity < length (g .nodes)
 crowd-large g w c =
-    pigeon 33 (length (g .nodes)) (λ k h. num k h .at) (λ k h. num k h .low)
+    pigeon tooMany (length (g .nodes)) (λ k h. num k h .at) (λ k h. num k h .low)
     (λ k l h u e. c .apart k l h u (λ p. num k h .same p ∙ ap (λ (i : ℕ). follow (g .nodes) (obj i) p) e ∙ sym (num l u .same p)))
   where
-    num : (k : ℕ) → k < 33 → Numbered (c .list k) (c .at k) g
+    num : (k : ℕ) → k < tooMany → Numbered (c .list k) (c .at k) g
     num k h = in-number (c .list k) (c .at k) g w (c .inside k h)
 
 -- ---- which objects are in a value
@@ -149,9 +151,9 @@ pick (no h) a b = b
 
 module _ (ps ns : List Node) (g : Graph) (t : ℕ) (size : length ns ≡ t) (distinct : Distinct ns) (old : (y : ℕ) → y < t → In ns y g)
     (from : ℕ → ℕ)
-    (fresh : (k : ℕ) → t ≤ k → k < 33 → Fresh ps ns t (from k))
-    (new : (k : ℕ) → t ≤ k → k < 33 → In ps (from k) g)
-    (apart : (k l : ℕ) → t ≤ k → k < 33 → t ≤ l → l < 33 → Same ps (obj (from k)) ps (obj (from l)) → k ≡ l) where
+    (fresh : (k : ℕ) → t ≤ k → k < tooMany → Fresh ps ns t (from k))
+    (new : (k : ℕ) → t ≤ k → k < tooMany → In ps (from k) g)
+    (apart : (k l : ℕ) → t ≤ k → k < tooMany → t ≤ l → l < tooMany → Same ps (obj (from k)) ps (obj (from l)) → k ≡ l) where
   pub crowd-joined : Crowd g
   crowd-joined = record {
     list = λ k. pick (decLt k t) ns ps;
@@ -160,11 +162,11 @@ module _ (ps ns : List Node) (g : Graph) (t : ℕ) (size : length ns ≡ t) (dis
     apart = λ k l h u e. differ k l h u (decLt k t) (decLt l t) e;
   }
     where
-      there : (k : ℕ) → k < 33 → (z : Dec (k < t)) → In (pick z ns ps) (pick z k (from k)) g
+      there : (k : ℕ) → k < tooMany → (z : Dec (k < t)) → In (pick z ns ps) (pick z k (from k)) g
       there k h (yes a) = old k a
       there k h (no a) = new k (omega (arith, a)) h
 
-      differ : (k l : ℕ) → k < 33 → l < 33 → (z : Dec (k < t)) (w : Dec (l < t)) → Same (pick z ns ps) (obj (pick z k (from k))) (pick w ns ps) (obj (pick w l (from l))) → k ≡ l
+      differ : (k l : ℕ) → k < tooMany → l < tooMany → (z : Dec (k < t)) (w : Dec (l < t)) → Same (pick z ns ps) (obj (pick z k (from k))) (pick w ns ps) (obj (pick w l (from l))) → k ≡ l
       differ k l h u (yes a) (yes b) e = distinct .apart k l (omega arith) (omega arith) e
       differ k l h u (yes a) (no b) e = absurd (fresh l (omega (arith, b)) u .none k a (λ p. sym (e p)))
       differ k l h u (no a) (yes b) e = absurd (fresh k (omega (arith, a)) h .none l b e)
@@ -175,18 +177,18 @@ module _ (top : Node) (ns : List Node)
     (inner : (i f : ℕ) (r : Ref) → getElem? (refsAt ns i) f ≡ some r → InRange (length ns) r)
     (above : (f : ℕ) (r : Ref) → getElem? (top .refs) f ≡ some r → InRange (length ns) r)
     (distinct : Distinct ns) (miss : (j : ℕ) → j < length ns → nodeAt ns j ≡ top → ⊥)
-    (g : Graph) (size : length ns ≡ 32) (old : (y : ℕ) → y < 32 → In ns y g) (root : Same (more ns top) (obj 32) (g .nodes) (g .root)) where
+    (g : Graph) (size : length ns ≡ capacity) (old : (y : ℕ) → y < capacity → In ns y g) (root : Same (more ns top) (obj capacity) (g .nodes) (g .root)) where
   pub crowd-topped : Crowd g
   crowd-topped = record {
     list = λ k. more ns top;
     at = λ k. k;
-    inside = λ k h. there k h (decLt k 32);
+    inside = λ k h. there k h (decLt k capacity);
     apart = λ k l h u e. distinct-more top ns inner above distinct miss .apart k l (fits k h) (fits l u) e;
   }
     where
-      fits : (k : ℕ) → k < 33 → k < length (more ns top)
+      fits : (k : ℕ) → k < tooMany → k < length (more ns top)
       fits k h = omega (arith, size-more top ns inner above)
 
-      there : (k : ℕ) → k < 33 → Dec (k < 32) → In (more ns top) k g
+      there : (k : ℕ) → k < tooMany → Dec (k < capacity) → In (more ns top) k g
       there k h (yes a) = in-same g ns (more ns top) k k (old k a) (λ p. sym (old-tree top ns inner above (obj k) (omega arith) p))
-      there k h (no a) = let z : k ≡ 32 = omega (arith, a) in in-root g (more ns top) k (λ p. ap (λ (i : ℕ). follow (more ns top) (obj i) p) z ∙ root p)
+      there k h (no a) = let z : k ≡ capacity = omega (arith, a) in in-root g (more ns top) k (λ p. ap (λ (i : ℕ). follow (more ns top) (obj i) p) z ∙ root p)

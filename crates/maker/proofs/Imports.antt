@@ -9,10 +9,12 @@ use mathlib.Core.Logic.{⊎-elim}
 use lib.ListN.{length, getD, replicate, length-replicate}
 use Rattle.cofj.specs.Values.{Graph, obj}
 use Rattle.cofj.specs.Unfolding.{InRange}
+use Rattle.canon.specs.Figures.{codeCount, firstLeaf, capacity, countAt, blockSize}
 use Rattle.canon.specs.Layout.{countIn, objectsIn, graphAt, Block, Inside}
 use Rattle.canon.proofs.Nodes.{ref-object}
 use Rattle.values.proofs.Tests.{not-false}
 use Rattle.values.proofs.Blocks.{size-in}
+use Rattle.maker.specs.Figures.{noRoom}
 use Rattle.maker.specs.Crowds.{In, BlockIn, Crowd}
 use Rattle.maker.specs.Merging.{CodeAs, Mapped, Imported}
 use Rattle.maker.specs.Sorting.{Sorted, Decided, codeAt, Listed, Reached, Sorting, SortedFrom}
@@ -31,27 +33,27 @@ module _ (W : List ℕ) (src i host : ℕ) (T : List ℕ) where
   pub number-none : SameNumber W src i host T T false
   number-none = record { yes = λ e. absurd (false≢true e); no = λ _. refl }
 
-  pub number-inside : Block W host → i < getD W (234 * host + 192) 0 → Inside W host i
+  pub number-inside : Block W host → i < getD W (blockSize * host + countAt) 0 → Inside W host i
   unfolding countIn
   number-inside bk h = record { block = bk; low = h }
 
-  pub number-read : Block W host → 234 * host + 192 < length W
+  pub number-read : Block W host → blockSize * host + countAt < length W
   number-read bk = omega (arith, bk .room)
 
   pub number-told : (T′ : List ℕ) (r : Bool) → Telling W src i host i T T′ r → SameNumber W src i host T T′ r
   number-told T′ r t = record { yes = λ e. t .yes e .each i i (t .here e); no = t .no }
 
 -- ---- nothing is known at first
-pub mapped-none : (W : List ℕ) (src host k : ℕ) → k ≡ 32 → Mapped W src host (replicate k 0)
+pub mapped-none : (W : List ℕ) (src host k : ℕ) → k ≡ capacity → Mapped W src host (replicate k 0)
 mapped-none W src host k e = record { table = length-replicate k 0 ∙ e; each = λ x y z. absurd (omega (arith, zero-at k x, z)) }
 
 -- no object of a block has the number 32
-no-room : (W : List ℕ) (src i host r : ℕ) → Block W host → CodeAs W src i host r → r ≡ 32 → ⊥
+no-room : (W : List ℕ) (src i host r : ℕ) → Block W host → CodeAs W src i host r → r ≡ noRoom → ⊥
 no-room W src i host r bk c e = let z : r < countIn W host = subst (InRange (countIn W host)) (ref-object r (omega arith)) (c .low) in omega (arith, bk .small)
 
 -- ---- sorted out and joined
 module _ (W : List ℕ) (src i host : ℕ) (ib : Inside W src i) (bk : Block W host) (apart : (src ≡ host) → ⊥) (L : List ℕ) (m : ℕ) (rc : Reached W src i L m) where
-  pub bring-sorting : (T : List ℕ) → Mapped W src host T → (k : ℕ) → k ≡ 32 → Sorting W src host L m T (replicate k 0)
+  pub bring-sorting : (T : List ℕ) → Mapped W src host T → (k : ℕ) → k ≡ capacity → Sorting W src host L m T (replicate k 0)
   bring-sorting T mp k e = record {
     ground = record { source = ib .block; target = bk; few = rc .few; long = rc .long; low = rc .low };
     sorted = record { mapped = mp; table = length-replicate k 0 ∙ e; low = λ x d. absurd (d (zero-at k x)); fresh = λ x d. absurd (d (zero-at k x)) };
@@ -73,8 +75,8 @@ module _ (W : List ℕ) (src i host : ℕ) (ib : Inside W src i) (bk : Block W h
         decided : (x : ℕ) → Listed L m x → Decided T F x
         decided x p = subst (Decided T F) (p .2) (s .above (p .0) (omega arith) (p .1))
 
-        field : (x f : ℕ) → Listed L m x → f < 4 → codeAt W src x f < 192 → Listed L m (codeAt W src x f)
-        field x f p h l = subst (λ (y : ℕ). codeAt W src y f < 192 → Listed L m (codeAt W src y f)) (p .2) (rc .closed (p .0) f (p .1) h) l
+        field : (x f : ℕ) → Listed L m x → f < codeCount → codeAt W src x f < firstLeaf → Listed L m (codeAt W src x f)
+        field x f p h l = subst (λ (y : ℕ). codeAt W src y f < firstLeaf → Listed L m (codeAt W src y f)) (p .2) (rc .closed (p .0) f (p .1) h) l
 
     module _ (W′ T′ : List ℕ) (r : Bool) (j : Joined W src host T F W′ T′ r) where
       -- what is listed stands in any value in which object i stands
@@ -91,7 +93,7 @@ module _ (W : List ℕ) (src i host : ℕ) (ib : Inside W src i) (bk : Block W h
           (λ k l hk lk hl ll z. o .one k l hk lk hl ll
           (ib .block .distinct .apart (o .from k) (o .from l) (omega (arith, o .low k hk lk, size-in W src (ib .block))) (omega (arith, o .low l hl ll, size-in W src (ib .block))) z))
 
-      pub bring-full : not r ≡ true → Imported W src i host W′ 32
+      pub bring-full : not r ≡ true → Imported W src i host W′ noRoom
       bring-full e = record { grown = j .grown; like = λ d. absurd (d refl); stand = λ d. absurd (d refl); over = λ _. too-many (not-true r e) }
 
       module _ (e : not r ≡ false) where
@@ -115,7 +117,7 @@ module _ (W : List ℕ) (src i host : ℕ) (ib : Inside W src i) (bk : Block W h
         bring-done = record { grown = j .grown; like = λ _. is; stand = λ _. stand; over = λ z. absurd (no-room W′ src i host (getD T′ i 0 - 1) (j .grown .block) is z) }
 
 -- ---- the whole
-module _ (W : List ℕ) (src i host : ℕ) (bk : Block W host) (k : ℕ) (e : k ≡ 32) (T : List ℕ) (r : Bool) (sn : SameNumber W src i host (replicate k 0) T r) where
+module _ (W : List ℕ) (src i host : ℕ) (bk : Block W host) (k : ℕ) (e : k ≡ capacity) (T : List ℕ) (r : Bool) (sn : SameNumber W src i host (replicate k 0) T r) where
   pub import-same : r ≡ true → Imported W src i host W i
   import-same z = record { grown = grown-none host W bk; like = λ _. sn .yes z; stand = λ _ g old at. old; over = λ u. absurd (no-room W src i host i bk (sn .yes z) u) }
 

@@ -15,6 +15,7 @@ use borrow.Author.Tests.{lt-ltb, le-ltb, ne-eqb}
 use Rattle.cofj.specs.Values.{Ref, obj, mark, undet, Node, graph, rename, renameNode, nodeAt, refsAt}
 use Rattle.cofj.specs.Unfolding.{object, opened, unknown, follow, Same, InRange, Whole}
 use Rattle.cofj.proofs.Basics.{getD-map-lt}
+use Rattle.canon.specs.Figures.{objectSize, headSize, codeCount, firstLeaf, undeterminedCode, firstMark, capacity, countAt, levelAt, blockSize}
 use Rattle.canon.specs.Layout.{refOf, codeOf, nodesIn, Packed, Distinct, countIn, levelIn, objectsIn, Block, Inside, Outside, ended}
 use Rattle.canon.specs.Tables.{turned, copied, Lifted}
 use Rattle.canon.specs.Numbers.{numberIn, Levels}
@@ -23,6 +24,7 @@ use Rattle.canon.proofs.Nodes.{ended-size, ended-below, ended-above, ended-coun
 use Rattle.canon.proofs.Lifts.{turn-object, turn-other, copy-plain, copy-turned, lift-none, lift-more}
 use Rattle.canon.proofs.Turned.{turnRef, changed, lifted-nodes, lifted-packed, node-agree}
 use Rattle.values.proofs.Blocks.{size-in, inner-in}
+use Rattle.maker.specs.Figures.{notTold, tooMany}
 use Rattle.maker.specs.Merging.{Grown, CodeAs}
 use Rattle.maker.specs.Sorting.{Fresh, Decided, codeAt, turnIn}
 use Rattle.maker.specs.Joining.{numbersOf, New, Given, Counted, Overfull, Fitted, Placing, Laid, Extended, Joining, Joined}
@@ -33,13 +35,13 @@ use Rattle.maker.proofs.Merges.{grown-none, other-byte, other-block, ot
 -- ---- a code turned
 module _ (T : List ℕ) (c : ℕ) where
   -- as canon turns it
-  turn-is : (c < 192 → c < length T) → turnIn T c ≡ turned (numbersOf T) c
+  turn-is : (c < firstLeaf → c < length T) → turnIn T c ≡ turned (numbersOf T) c
   unfolding turnIn turned numbersOf numberIn
-  turn-is h = go (decLt c 192)
+  turn-is h = go (decLt c firstLeaf)
     where
-      go : Dec (c < 192) → turnIn T c ≡ turned (numbersOf T) c
-      go (yes l) = rw (lt-ltb c 192 l) (sym (getD-map-lt (λ k. cond (eqb k 0) 32 (k - 1)) T c 0 0 (h l)))
-      go (no l) = rw (le-ltb c 192 (omega (arith, l)))
+      go : Dec (c < firstLeaf) → turnIn T c ≡ turned (numbersOf T) c
+      go (yes l) = rw (lt-ltb c firstLeaf l) (sym (getD-map-lt (λ k. cond (eqb k 0) notTold (k - 1)) T c 0 0 (h l)))
+      go (no l) = rw (le-ltb c firstLeaf (omega (arith, l)))
 
 -- ---- the numbers
 pub counted-none : (t : ℕ) (T F : List ℕ) → Counted 0 t T F T t
@@ -68,7 +70,7 @@ module _ (n t : ℕ) (T₀ F T : List ℕ) (m : ℕ) (ct : Counted n t T₀ F T 
   number-is k (yes a) (no b) l h = absurd (b h)
   number-is k (no a) b l h = absurd (a l)
 
-  counted-over : 32 < m → (n′ : ℕ) → n ≤ n′ → Overfull n′ t F
+  counted-over : capacity < m → (n′ : ℕ) → n ≤ n′ → Overfull n′ t F
   counted-over h n′ le = record {
     from = λ k. number-of k (decLt t (k + 1)) (decLe (k + 1) m);
     low = λ k a b. omega (arith, is k a b .0);
@@ -76,7 +78,7 @@ module _ (n t : ℕ) (T₀ F T : List ℕ) (m : ℕ) (ct : Counted n t T₀ F T 
     one = λ k l a b c d e. omega (arith, is k a b .2, is l c d .2, ap (λ (x : ℕ). getD T x 0) e);
   }
     where
-      is : (k : ℕ) → t ≤ k → k < 33 → Has k (number-of k (decLt t (k + 1)) (decLe (k + 1) m))
+      is : (k : ℕ) → t ≤ k → k < tooMany → Has k (number-of k (decLt t (k + 1)) (decLe (k + 1) m))
       is k a b = number-is k (decLt t (k + 1)) (decLe (k + 1) m) (omega arith) (omega arith)
 
 module _ (x t : ℕ) (T₀ F T : List ℕ) (m : ℕ) (ct : Counted x t T₀ F T m) where
@@ -143,7 +145,7 @@ module _ (x t : ℕ) (T₀ F T : List ℕ) (m : ℕ) (ct : Counted x t T₀ F T 
   pub number-end : (n : ℕ) → x ≤ n → n ≤ x → Fitted n t T₀ F T m
   number-end n h k = let e : x ≡ n = omega arith in record { counted = λ _. rw e at ct; over = λ l. counted-over x t T₀ F T m ct l n h }
 
-  pub number-full : (n : ℕ) → ((getD F x 0 ≡ 0) → ⊥) → x < n → n ≤ length T₀ → 32 ≤ m → Fitted n t T₀ F T 33
+  pub number-full : (n : ℕ) → ((getD F x 0 ≡ 0) → ⊥) → x < n → n ≤ length T₀ → capacity ≤ m → Fitted n t T₀ F T tooMany
   number-full n new h l full = record {
     counted = λ z. absurd (omega arith);
     over = λ _. counted-over (x + 1) t T₀ F (set T x (m + 1)) (m + 1) (counted-new new (omega (arith, ct .same))) (omega arith) n (omega arith);
@@ -151,21 +153,21 @@ module _ (x t : ℕ) (T₀ F T : List ℕ) (m : ℕ) (ct : Counted x t T₀ F T 
 
 -- ---- one object
 -- its codes are in reach of the table
-pub put-code : (W : List ℕ) (src x n : ℕ) → Inside W src x → n ≡ 32 → (k : ℕ) → 2 ≤ k → k < 6 → getD W (234 * src + 6 * x + k) 0 < 192 → getD W (234 * src + 6 * x + k) 0 < n
+pub put-code : (W : List ℕ) (src x n : ℕ) → Inside W src x → n ≡ capacity → (k : ℕ) → 2 ≤ k → k < objectSize → getD W (blockSize * src + objectSize * x + k) 0 < firstLeaf → getD W (blockSize * src + objectSize * x + k) 0 < n
 unfolding objectsIn
 put-code W src x n ib long k l h c =
-    let z : 234 * src + 6 * x + k ≡ 234 * src + 6 * x + 2 + (k - 2) = omega arith in
-    let e : getD W (234 * src + 6 * x + k) 0 < countIn W src =
-    rw z (code-low W (234 * src) (countIn W src) (ib .block .packed) x (ib .low) (ib .block .whole) (k - 2) (omega arith) (rw z at c)) in
+    let z : blockSize * src + objectSize * x + k ≡ blockSize * src + objectSize * x + headSize + (k - 2) = omega arith in
+    let e : getD W (blockSize * src + objectSize * x + k) 0 < countIn W src =
+    rw z (code-low W (blockSize * src) (countIn W src) (ib .block .packed) x (ib .low) (ib .block .whole) (k - 2) (omega arith) (rw z at c)) in
     omega (arith, ib .block .small)
 
-module _ (W : List ℕ) (src x host y : ℕ) (T : List ℕ) (ib : Inside W src x) (apart : (src ≡ host) → ⊥) (few : y < 32) (room : 234 * host + 234 ≤ length W) (long : length T ≡ 32) where
-  module _ (p q : ℕ) (ep : p ≡ 234 * src + 6 * x) (eq : q ≡ 234 * host + 6 * y) where
+module _ (W : List ℕ) (src x host y : ℕ) (T : List ℕ) (ib : Inside W src x) (apart : (src ≡ host) → ⊥) (few : y < capacity) (room : blockSize * host + blockSize ≤ length W) (long : length T ≡ capacity) where
+  module _ (p q : ℕ) (ep : p ≡ blockSize * src + objectSize * x) (eq : q ≡ blockSize * host + objectSize * y) where
     abbrev Begun : ℕ → List ℕ → Type 0
     Begun k D = Lifted W p k (numbersOf T) W q D
 
     -- what is read is as before
-    read : (k : ℕ) (D : List ℕ) → Begun k D → k ≤ 6 → (j : ℕ) → j < 6 → getD D (p + j) 0 ≡ getD W (p + j) 0
+    read : (k : ℕ) (D : List ℕ) → Begun k D → k ≤ objectSize → (j : ℕ) → j < objectSize → getD D (p + j) 0 ≡ getD W (p + j) 0
     read k D b h j l = go (decLt src host)
       where
         go : Dec (src < host) → getD D (p + j) 0 ≡ getD W (p + j) 0
@@ -176,24 +178,24 @@ module _ (W : List ℕ) (src x host y : ℕ) (T : List ℕ) (ib : Inside W src x
     put a b c d = set (set (set (set (set (set W q (getD W p 0)) (q + 1) (getD (set W q (getD W p 0)) (p + 1) 0)) (q + 2) a) (q + 3) b) (q + 4) c) (q + 5) d
 
     pub put-done : (a b c d : ℕ) → a ≡ turnIn T (getD W (p + 2) 0) → b ≡ turnIn T (getD W (p + 3) 0) → c ≡ turnIn T (getD W (p + 4) 0) → d ≡ turnIn T (getD W (p + 5) 0)
-        → Lifted W (234 * src + 6 * x) 6 (numbersOf T) W (234 * host + 6 * y) (put a b c d)
+        → Lifted W (blockSize * src + objectSize * x) objectSize (numbersOf T) W (blockSize * host + objectSize * y) (put a b c d)
     put-done a b c d ea eb ec ed =
         let N = numbersOf T in
         let z : q + 0 ≡ q = omega arith in
         let u : p + 0 ≡ p = omega arith in
-        let l : q + 6 ≤ length W = omega arith in
+        let l : q + objectSize ≤ length W = omega arith in
         let b1 : Begun 1 (set W q (getD W p 0)) =
-        rw z at (lift-more W p 0 N W q W (getD W p 0) 6 (lift-none W p N W q) (omega arith) l (ap (λ (i : ℕ). getD W i 0) (sym u) ∙ copy-plain N (getD W (p + 0) 0) 0 (omega arith))) in
-        let b2 : Begun 2 _ = lift-more W p 1 N W q _ _ 6 b1 (omega arith) l (read 1 _ b1 (omega arith) 1 (omega arith) ∙ copy-plain N (getD W (p + 1) 0) 1 (omega arith)) in
-        let b3 : Begun 3 _ = lift-more W p 2 N W q _ a 6 b2 (omega arith) l (code 2 (omega arith) (omega arith) a ea) in
-        let b4 : Begun 4 _ = lift-more W p 3 N W q _ b 6 b3 (omega arith) l (code 3 (omega arith) (omega arith) b eb) in
-        let b5 : Begun 5 _ = lift-more W p 4 N W q _ c 6 b4 (omega arith) l (code 4 (omega arith) (omega arith) c ec) in
-        let b6 : Begun 6 _ = lift-more W p 5 N W q _ d 6 b5 (omega arith) l (code 5 (omega arith) (omega arith) d ed) in
-        subst (λ (i : ℕ). Lifted W i 6 N W (234 * host + 6 * y) (put a b c d)) ep (subst (λ (i : ℕ). Lifted W p 6 N W i (put a b c d)) eq b6)
+        rw z at (lift-more W p 0 N W q W (getD W p 0) objectSize (lift-none W p N W q) (omega arith) l (ap (λ (i : ℕ). getD W i 0) (sym u) ∙ copy-plain N (getD W (p + 0) 0) 0 (omega arith))) in
+        let b2 : Begun 2 _ = lift-more W p 1 N W q _ _ objectSize b1 (omega arith) l (read 1 _ b1 (omega arith) 1 (omega arith) ∙ copy-plain N (getD W (p + 1) 0) 1 (omega arith)) in
+        let b3 : Begun 3 _ = lift-more W p 2 N W q _ a objectSize b2 (omega arith) l (code 2 (omega arith) (omega arith) a ea) in
+        let b4 : Begun 4 _ = lift-more W p 3 N W q _ b objectSize b3 (omega arith) l (code 3 (omega arith) (omega arith) b eb) in
+        let b5 : Begun 5 _ = lift-more W p 4 N W q _ c objectSize b4 (omega arith) l (code 4 (omega arith) (omega arith) c ec) in
+        let b6 : Begun objectSize _ = lift-more W p 5 N W q _ d objectSize b5 (omega arith) l (code 5 (omega arith) (omega arith) d ed) in
+        subst (λ (i : ℕ). Lifted W i objectSize N W (blockSize * host + objectSize * y) (put a b c d)) ep (subst (λ (i : ℕ). Lifted W p objectSize N W i (put a b c d)) eq b6)
       where
-        code : (k : ℕ) → 2 ≤ k → k < 6 → (r : ℕ) → r ≡ turnIn T (getD W (p + k) 0) → r ≡ copied (numbersOf T) (k % 6) (getD W (p + k) 0)
+        code : (k : ℕ) → 2 ≤ k → k < objectSize → (r : ℕ) → r ≡ turnIn T (getD W (p + k) 0) → r ≡ copied (numbersOf T) (k % objectSize) (getD W (p + k) 0)
         code k h l r e =
-            let z : k % 6 ≡ k = omega arith in
+            let z : k % objectSize ≡ k = omega arith in
             rw z (copy-turned (numbersOf T) (getD W (p + k) 0) k r h (e ∙ turn-is T (getD W (p + k) 0) (rw (← ep) at (put-code W src x (length T) ib long k h l))))
 
 -- ---- all new objects
@@ -205,16 +207,16 @@ module _ (W : List ℕ) (src host : ℕ) (T F : List ℕ) (pl : Placing W src ho
     laid-outside : Outside host W D
     laid-outside = record { same = ld .same; below = λ p l. ld .below p (omega arith); above = λ p l. ld .above p (omega arith) }
 
-    pub laid-end : x ≤ getD W (234 * src + 192) 0 → getD W (234 * src + 192) 0 ≤ x → Laid W src host T F (countIn W src) D
+    pub laid-end : x ≤ getD W (blockSize * src + countAt) 0 → getD W (blockSize * src + countAt) 0 ≤ x → Laid W src host T F (countIn W src) D
     unfolding countIn
-    laid-end h l = let e : x ≡ getD W (234 * src + 192) 0 = omega arith in rw e at ld
+    laid-end h l = let e : x ≡ getD W (blockSize * src + countAt) 0 = omega arith in rw e at ld
 
-    module _ (h : x < getD W (234 * src + 192) 0) where
+    module _ (h : x < getD W (blockSize * src + countAt) 0) where
       pub laid-inside : Inside D src x
       unfolding countIn
       laid-inside = other-inside host W D laid-outside src (pl .apart) x (record { block = pl .source; low = h })
 
-      pub laid-room : 234 * host + 234 ≤ length D
+      pub laid-room : blockSize * host + blockSize ≤ length D
       laid-room = omega (arith, ld .same, pl .target .room)
 
       laid-same : getD F x 0 ≡ 0 → Laid W src host T F (x + 1) D
@@ -229,11 +231,11 @@ module _ (W : List ℕ) (src host : ℕ) (T F : List ℕ) (pl : Placing W src ho
         unfolding countIn
         new-some = omega (arith, pl .numbered .low x h new)
 
-        pub new-few : getD T x 0 - 1 < 32
+        pub new-few : getD T x 0 - 1 < capacity
         unfolding countIn
         new-few = omega (arith, pl .numbered .low x h new, pl .numbered .high x h new)
 
-        laid-new : (D2 : List ℕ) → Lifted D (234 * src + 6 * x) 6 (numbersOf T) D (234 * host + 6 * (getD T x 0 - 1)) D2 → Laid W src host T F (x + 1) D2
+        laid-new : (D2 : List ℕ) → Lifted D (blockSize * src + objectSize * x) objectSize (numbersOf T) D (blockSize * host + objectSize * (getD T x 0 - 1)) D2 → Laid W src host T F (x + 1) D2
         unfolding countIn
         laid-new D2 f = record {
           same = f .same ∙ ld .same;
@@ -243,51 +245,51 @@ module _ (W : List ℕ) (src host : ℕ) (T F : List ℕ) (pl : Placing W src ho
         }
           where
             -- two places
-            clear : (y k : ℕ) → y < x → New F y → k < 6 → Dec (getD T y 0 < getD T x 0) → getD D2 (234 * host + 6 * (getD T y 0 - 1) + k) 0 ≡ getD D (234 * host + 6 * (getD T y 0 - 1) + k) 0
-            clear y k l n m (yes z) = f .below (234 * host + 6 * (getD T y 0 - 1) + k) (omega (arith, pl .numbered .low y (omega arith) n))
+            clear : (y k : ℕ) → y < x → New F y → k < objectSize → Dec (getD T y 0 < getD T x 0) → getD D2 (blockSize * host + objectSize * (getD T y 0 - 1) + k) 0 ≡ getD D (blockSize * host + objectSize * (getD T y 0 - 1) + k) 0
+            clear y k l n m (yes z) = f .below (blockSize * host + objectSize * (getD T y 0 - 1) + k) (omega (arith, pl .numbered .low y (omega arith) n))
             clear y k l n m (no z) =
                 let d : (getD T y 0 ≡ getD T x 0) → ⊥ = λ e. let w : y ≡ x = pl .numbered .one y x (omega arith) h n new e in omega arith in
-                f .above (234 * host + 6 * (getD T y 0 - 1) + k) (omega (arith, z, d, new-some))
+                f .above (blockSize * host + objectSize * (getD T y 0 - 1) + k) (omega (arith, z, d, new-some))
 
-            go : (y k : ℕ) → y < x + 1 → New F y → k < 6 → Dec (y ≡ x) → getD D2 (234 * host + 6 * (getD T y 0 - 1) + k) 0 ≡ copied (numbersOf T) k (getD W (234 * src + 6 * y + k) 0)
+            go : (y k : ℕ) → y < x + 1 → New F y → k < objectSize → Dec (y ≡ x) → getD D2 (blockSize * host + objectSize * (getD T y 0 - 1) + k) 0 ≡ copied (numbersOf T) k (getD W (blockSize * src + objectSize * y + k) 0)
             go y k l n m (yes e) =
-                let z : k % 6 ≡ k = omega arith in
-                rw e (rw z at (f .here k m) ∙ ap (copied (numbersOf T) k) (other-byte host W D laid-outside src (pl .apart) (234 * src + 6 * x + k) (omega arith) (omega (arith, pl .source .small))))
+                let z : k % objectSize ≡ k = omega arith in
+                rw e (rw z at (f .here k m) ∙ ap (copied (numbersOf T) k) (other-byte host W D laid-outside src (pl .apart) (blockSize * src + objectSize * x + k) (omega arith) (omega (arith, pl .source .small))))
             go y k l n m (no d) = clear y k (omega (arith, d)) n m (decLt (getD T y 0) (getD T x 0)) ∙ ld .here y k (omega (arith, d)) n m
 
   -- what the loop has
-  pub laid-few : getD W (234 * src + 192) 0 ≤ 32
+  pub laid-few : getD W (blockSize * src + countAt) 0 ≤ capacity
   unfolding countIn
   laid-few = pl .source .small
 
-  module _ (x : ℕ) (D : List ℕ) (ld : Laid W src host T F x D) (h : x < getD W (234 * src + 192) 0) (D′ : List ℕ) where
+  module _ (x : ℕ) (D : List ℕ) (ld : Laid W src host T F x D) (h : x < getD W (blockSize * src + countAt) 0) (D′ : List ℕ) where
     pub laid-kept : getD F x 0 ≡ 0 → D′ ≡ D → Laid W src host T F (x + 1) D′
     laid-kept z e = rw e (laid-same x D ld h z)
 
-    pub laid-more : ((getD F x 0 ≡ 0) → ⊥) → (D2 : List ℕ) → Lifted D (234 * src + 6 * x) 6 (numbersOf T) D (234 * host + 6 * (getD T x 0 - 1)) D2 → D′ ≡ D2 → Laid W src host T F (x + 1) D′
+    pub laid-more : ((getD F x 0 ≡ 0) → ⊥) → (D2 : List ℕ) → Lifted D (blockSize * src + objectSize * x) objectSize (numbersOf T) D (blockSize * host + objectSize * (getD T x 0 - 1)) D2 → D′ ≡ D2 → Laid W src host T F (x + 1) D′
     laid-more new D2 f e = rw e (laid-new x D ld h new D2 f)
 
   -- counted
-  module _ (m : ℕ) (tm : countIn W host ≤ m) (few : m ≤ 32) (D : List ℕ) (ld : Laid W src host T F (countIn W src) D)
-      (k : ℕ) (lv : Levels D (234 * host + 6 * getD W (234 * host + 192) 0) (6 * (m - getD W (234 * host + 192) 0)) k) (h : ℕ) (lh : getD W (234 * host + 193) 0 ≤ h) (kh : k ≤ h) where
-    long : 234 * host + 234 ≤ length D
+  module _ (m : ℕ) (tm : countIn W host ≤ m) (few : m ≤ capacity) (D : List ℕ) (ld : Laid W src host T F (countIn W src) D)
+      (k : ℕ) (lv : Levels D (blockSize * host + objectSize * getD W (blockSize * host + countAt) 0) (objectSize * (m - getD W (blockSize * host + countAt) 0)) k) (h : ℕ) (lh : getD W (blockSize * host + levelAt) 0 ≤ h) (kh : k ≤ h) where
+    long : blockSize * host + blockSize ≤ length D
     long = omega (arith, ld .same, pl .target .room)
 
-    byte : (p : ℕ) → p < 234 * host + 192 → getD (ended D host m h m) p 0 ≡ getD D p 0
+    byte : (p : ℕ) → p < blockSize * host + countAt → getD (ended D host m h m) p 0 ≡ getD D p 0
     byte = ended-below D host m h m long
 
-    level : (q : ℕ) → q < 6 * m → Dec (q < 6 * getD W (234 * host + 192) 0) → getD D (234 * host + q) 0 < 193 + h
+    level : (q : ℕ) → q < objectSize * m → Dec (q < objectSize * getD W (blockSize * host + countAt) 0) → getD D (blockSize * host + q) 0 < firstMark + h
     unfolding countIn levelIn
-    level q l (yes z) = omega (arith, ld .below (234 * host + q) (omega arith), pl .target .level q z)
+    level q l (yes z) = omega (arith, ld .below (blockSize * host + q) (omega arith), pl .target .level q z)
     level q l (no z) =
-        let e : 234 * host + q ≡ 234 * host + 6 * getD W (234 * host + 192) 0 + (q - 6 * getD W (234 * host + 192) 0) = omega (arith, z) in
-        omega (arith, ap (λ (p : ℕ). getD D p 0) e, lv .below (q - 6 * getD W (234 * host + 192) 0) (omega (arith, z)))
+        let e : blockSize * host + q ≡ blockSize * host + objectSize * getD W (blockSize * host + countAt) 0 + (q - objectSize * getD W (blockSize * host + countAt) 0) = omega (arith, z) in
+        omega (arith, ap (λ (p : ℕ). getD D p 0) e, lv .below (q - objectSize * getD W (blockSize * host + countAt) 0) (omega (arith, z)))
 
     pub extend-done : Extended W src host T F m (ended D host m h m)
     extend-done = record {
       count = ended-count D host m h m long;
       reach = ended-reach D host m h m long;
-      level = λ q l. omega (arith, byte (234 * host + q) (omega arith), ended-level D host m h m long, level q l (decLt q (6 * getD W (234 * host + 192) 0)));
+      level = λ q l. omega (arith, byte (blockSize * host + q) (omega arith), ended-level D host m h m long, level q l (decLt q (objectSize * getD W (blockSize * host + countAt) 0)));
       here = λ x j l n i. byte _ (omega (arith, pl .numbered .low x l n, pl .numbered .high x l n)) ∙ ld .here x j l n i;
       old = λ q l. byte _ (omega arith) ∙ ld .below _ (omega arith);
       outside = record {
@@ -299,20 +301,20 @@ module _ (W : List ℕ) (src host : ℕ) (T F : List ℕ) (pl : Placing W src ho
 
 -- ---- the host then
 -- what unfolds as an object is an object
-code-small : (ps ns : List Node) (z r : ℕ) → Same ps (obj z) ns (refOf r) → r < 192
-code-small ps ns z r q = go (decLt r 192)
+code-small : (ps ns : List Node) (z r : ℕ) → Same ps (obj z) ns (refOf r) → r < firstLeaf
+code-small ps ns z r q = go (decLt r firstLeaf)
   where
     none : (s : Ref) → InRange 0 s → Same ps (obj z) ns s → ⊥
     none (obj i) h q = absurd (omega arith)
     none (mark k) h q = let d : some (object _ _) ≡ some (opened k) = q [] in absurd (let u : _≡_ {A = ℕ} 0 1 = cc in omega arith)
     none undet h q = let d : some (object _ _) ≡ some unknown = q [] in absurd (let u : _≡_ {A = ℕ} 0 1 = cc in omega arith)
 
-    go : Dec (r < 192) → r < 192
+    go : Dec (r < firstLeaf) → r < firstLeaf
     go (yes h) = h
     go (no h) = absurd (none (refOf r) (leaf-low 0 r (omega (arith, h))) q)
 
 module _ (W : List ℕ) (src host : ℕ) (T F : List ℕ) (jn : Joining W src host T F) where
-  pub join-full : (T′ : List ℕ) (m : ℕ) → Fitted (getD W (234 * src + 192) 0) (getD W (234 * host + 192) 0) T F T′ m → 32 < m → Joined W src host T F W T′ false
+  pub join-full : (T′ : List ℕ) (m : ℕ) → Fitted (getD W (blockSize * src + countAt) 0) (getD W (blockSize * host + countAt) 0) T F T′ m → capacity < m → Joined W src host T F W T′ false
   unfolding countIn
   join-full T′ m ft h = record {
     grown = grown-none host W (jn .target);
@@ -322,12 +324,12 @@ module _ (W : List ℕ) (src host : ℕ) (T F : List ℕ) (jn : Joining W src ho
     over = λ _. ft .over h;
   }
 
-  module _ (T′ : List ℕ) (m : ℕ) (ft : Fitted (getD W (234 * src + 192) 0) (getD W (234 * host + 192) 0) T F T′ m) (few : m ≤ 32) where
+  module _ (T′ : List ℕ) (m : ℕ) (ft : Fitted (getD W (blockSize * src + countAt) 0) (getD W (blockSize * host + countAt) 0) T F T′ m) (few : m ≤ capacity) where
     ct : Counted (countIn W src) (countIn W host) T F T′ m
     unfolding countIn
     ct = ft .counted few
 
-    table : length T′ ≡ 32
+    table : length T′ ≡ capacity
     table = ct .same ∙ jn .sorted .mapped .table
 
     join-placing : Placing W src host T′ F
@@ -340,7 +342,7 @@ module _ (W : List ℕ) (src host : ℕ) (T F : List ℕ) (jn : Joining W src ho
       numbered = record { low = ct .numbered .low; high = λ x h n. omega (arith, ct .numbered .high x h n); one = ct .numbered .one };
     }
 
-    pub join-ready : Placing W src host T′ F × (countIn W host ≤ m) × (m ≤ 32)
+    pub join-ready : Placing W src host T′ F × (countIn W host ≤ m) × (m ≤ capacity)
     join-ready = (join-placing, ct .most, few)
 
     low : (x : ℕ) → New F x → x < countIn W src
@@ -368,7 +370,7 @@ module _ (W : List ℕ) (src host : ℕ) (T F : List ℕ) (jn : Joining W src ho
         old x (yes z) = z
         old x (no n) = absurd (omega (arith, ct .numbered .low x (low x n) n, ct .numbered .high x (low x n) n))
 
-    pub join-none : m ≡ getD W (234 * host + 192) 0 → Joined W src host T F W T′ true
+    pub join-none : m ≡ getD W (blockSize * host + countAt) 0 → Joined W src host T F W T′ true
     unfolding countIn
     join-none e = none-new e
 
@@ -391,35 +393,35 @@ module _ (W : List ℕ) (src host : ℕ) (T F : List ℕ) (jn : Joining W src ho
 
       size-new : length ms ≡ m
       unfolding objectsIn
-      size-new = length-nodes W′ (234 * host) (countIn W′ host) ∙ ex .count
+      size-new = length-nodes W′ (blockSize * host) (countIn W′ host) ∙ ex .count
 
       most : length ns ≤ length ms
       most = omega (arith, size-old, size-new, ct .most)
 
-      old-byte : (i k : ℕ) → i < countIn W host → k < 6 → getD W′ (234 * host + 6 * i + k) 0 ≡ getD W (234 * host + 6 * i + k) 0
-      old-byte i k h l = let e : 234 * host + 6 * i + k ≡ 234 * host + (6 * i + k) = omega arith in rw e (ex .old (6 * i + k) (omega arith))
+      old-byte : (i k : ℕ) → i < countIn W host → k < objectSize → getD W′ (blockSize * host + objectSize * i + k) 0 ≡ getD W (blockSize * host + objectSize * i + k) 0
+      old-byte i k h l = let e : blockSize * host + objectSize * i + k ≡ blockSize * host + (objectSize * i + k) = omega arith in rw e (ex .old (objectSize * i + k) (omega arith))
 
       old : (i : ℕ) → i < length ns → nodeAt ms i ≡ nodeAt ns i
       unfolding objectsIn
       old i h =
           let l : i < countIn W host = omega (arith, size-old) in
-          at-nodes W′ (234 * host) (countIn W′ host) i (omega (arith, ex .count, ct .most))
-          ∙ node-same W′ W (234 * host + 6 * i) (234 * host + 6 * i) (λ k g. old-byte i k l g)
-          ∙ sym (at-nodes W (234 * host) (countIn W host) i l)
+          at-nodes W′ (blockSize * host) (countIn W′ host) i (omega (arith, ex .count, ct .most))
+          ∙ node-same W′ W (blockSize * host + objectSize * i) (blockSize * host + objectSize * i) (λ k g. old-byte i k l g)
+          ∙ sym (at-nodes W (blockSize * host) (countIn W host) i l)
 
       small : (x : ℕ) → New F x → to x < length ms
       small x n = omega (arith, size-new, ct .numbered .low x (low x n) n, ct .numbered .high x (low x n) n)
 
-      lifted : (x : ℕ) → New F x → Lifted W (234 * src + 6 * x) 6 (numbersOf T′) W′ (234 * host + 6 * to x) W′
-      lifted x n = record { same = refl; here = λ q h. let z : q % 6 ≡ q = omega arith in rw z (ex .here x q (low x n) n h); below = λ q h. refl; above = λ q h. refl }
+      lifted : (x : ℕ) → New F x → Lifted W (blockSize * src + objectSize * x) objectSize (numbersOf T′) W′ (blockSize * host + objectSize * to x) W′
+      lifted x n = record { same = refl; here = λ q h. let z : q % objectSize ≡ q = omega arith in rw z (ex .here x q (low x n) n h); below = λ q h. refl; above = λ q h. refl }
 
       -- what a new object refers to
       field-decided : (x f z : ℕ) → New F x → getElem? (refsAt ps x) f ≡ some (obj z) → (z < countIn W src) × Decided T F z
       unfolding objectsIn
       field-decided x f z n e =
           let a = at-some (refsAt ps x) f (obj z) e in
-          let l : f < 4 = omega (arith, a .1, four-fields W (234 * src) (countIn W src) (jn .source .packed) x (low x n)) in
-          let c : codeAt W src x f ≡ z = code-is W (234 * src) (countIn W src) (jn .source .packed) x (low x n) f l ∙ ap codeOf (a .0) in
+          let l : f < codeCount = omega (arith, a .1, four-fields W (blockSize * src) (countIn W src) (jn .source .packed) x (low x n)) in
+          let c : codeAt W src x f ≡ z = code-is W (blockSize * src) (countIn W src) (jn .source .packed) x (low x n) f l ∙ ap codeOf (a .0) in
           let h : z < countIn W src = inner-in W src (jn .source) x f (obj z) e in
           (h, subst (λ (i : ℕ). Decided T F i) c (jn .settled .field x f n l (omega (arith, jn .source .small))))
 
@@ -452,17 +454,17 @@ module _ (W : List ℕ) (src host : ℕ) (T F : List ℕ) (jn : Joining W src ho
       turns (obj z) h =
           let d = h z refl in
           let l : z < length T′ = omega (arith, d .0, jn .source .small, table) in
-          let e : getD (numbersOf T′) z 0 ≡ to z = getD-map-lt (λ k. cond (eqb k 0) 32 (k - 1)) T′ z 0 0 l ∙ rw (ne-eqb (getD T′ z 0) 0 (told-some z (d .1))) in
+          let e : getD (numbersOf T′) z 0 ≡ to z = getD-map-lt (λ k. cond (eqb k 0) notTold (k - 1)) T′ z 0 0 l ∙ rw (ne-eqb (getD T′ z 0) 0 (told-some z (d .1))) in
           ap refOf (sym (turn-object (numbersOf T′) z (omega (arith, table))) ∙ e) ∙ ref-object (to z) (omega (arith, to-low z (d .0) (d .1)))
-      turns (mark k) h = ap refOf (sym (turn-other (numbersOf T′) (193 + k) (omega arith))) ∙ ref-mark k
-      turns undet h = ap refOf (sym (turn-other (numbersOf T′) 192 (omega arith))) ∙ ref-undet
+      turns (mark k) h = ap refOf (sym (turn-other (numbersOf T′) (firstMark + k) (omega arith))) ∙ ref-mark k
+      turns undet h = ap refOf (sym (turn-other (numbersOf T′) undeterminedCode (omega arith))) ∙ ref-undet
 
       is : (x : ℕ) → New F x → nodeAt ms (to x) ≡ renameNode to (nodeAt ps x)
       unfolding objectsIn nodesIn
       is x n =
-          at-nodes W′ (234 * host) (countIn W′ host) (to x) (omega (arith, ex .count, size-new, small x n))
-          ∙ ap (λ (l : List Node). nodeAt l 0) (lifted-nodes W (234 * src + 6 * x) (numbersOf T′) W′ (234 * host + 6 * to x) W′ 1 (lifted x n))
-          ∙ ap (changed (turnRef (numbersOf T′))) (sym (at-nodes W (234 * src) (countIn W src) x (low x n)))
+          at-nodes W′ (blockSize * host) (countIn W′ host) (to x) (omega (arith, ex .count, size-new, small x n))
+          ∙ ap (λ (l : List Node). nodeAt l 0) (lifted-nodes W (blockSize * src + objectSize * x) (numbersOf T′) W′ (blockSize * host + objectSize * to x) W′ 1 (lifted x n))
+          ∙ ap (changed (turnRef (numbersOf T′))) (sym (at-nodes W (blockSize * src) (countIn W src) x (low x n)))
           ∙ node-agree (turnRef (numbersOf T′)) (rename to) Turns (λ r t. t) (nodeAt ps x) (λ f r e. turns r (λ z q. field-decided x f z n (e ∙ ap some q)))
 
       inner : (i f : ℕ) (r : Ref) → getElem? (refsAt ns i) f ≡ some r → InRange (length ns) r
@@ -489,20 +491,20 @@ module _ (W : List ℕ) (src host : ℕ) (T F : List ℕ) (jn : Joining W src ho
       whole : Whole (graph undet ms)
       whole = record { top = tt; inner = inner-many ps ns ms inner most old to (New F) small is fields source }
 
-      packed : (i : ℕ) → i < countIn W′ host → Packed W′ (234 * host + 6 * i)
+      packed : (i : ℕ) → i < countIn W′ host → Packed W′ (blockSize * host + objectSize * i)
       packed i h = go (decLt i (countIn W host))
         where
-          new : (x : ℕ) → New F x → Packed W′ (234 * host + 6 * to x)
+          new : (x : ℕ) → New F x → Packed W′ (blockSize * host + objectSize * to x)
           new x n =
-              let z : 234 * host + 6 * to x + 6 * 0 ≡ 234 * host + 6 * to x = omega arith in
-              rw z at (lifted-packed W (234 * src + 6 * x) (numbersOf T′) W′ (234 * host + 6 * to x) W′ 1 (lifted x n) (λ j l.
-              let e : 234 * src + 6 * x + 6 * j ≡ 234 * src + 6 * x = omega arith in rw e (jn .source .packed x (low x n))) 0 (omega arith))
+              let z : blockSize * host + objectSize * to x + objectSize * 0 ≡ blockSize * host + objectSize * to x = omega arith in
+              rw z at (lifted-packed W (blockSize * src + objectSize * x) (numbersOf T′) W′ (blockSize * host + objectSize * to x) W′ 1 (lifted x n) (λ j l.
+              let e : blockSize * src + objectSize * x + objectSize * j ≡ blockSize * src + objectSize * x = omega arith in rw e (jn .source .packed x (low x n))) 0 (omega arith))
 
-          go : Dec (i < countIn W host) → Packed W′ (234 * host + 6 * i)
-          go (yes l) = packed-same W′ W (234 * host + 6 * i) (234 * host + 6 * i) (λ k g. old-byte i k l g) (jn .target .packed i l)
+          go : Dec (i < countIn W host) → Packed W′ (blockSize * host + objectSize * i)
+          go (yes l) = packed-same W′ W (blockSize * host + objectSize * i) (blockSize * host + objectSize * i) (λ k g. old-byte i k l g) (jn .target .packed i l)
           go (no l) =
               let s = source i (omega (arith, l, size-old)) (omega (arith, size-new, ex .count)) in
-              subst (λ (k : ℕ). Packed W′ (234 * host + 6 * k)) (s .at) (new (s .from) (s .new))
+              subst (λ (k : ℕ). Packed W′ (blockSize * host + objectSize * k)) (s .at) (new (s .from) (s .new))
 
       block : Block W′ host
       unfolding objectsIn
@@ -513,7 +515,7 @@ module _ (W : List ℕ) (src host : ℕ) (T F : List ℕ) (jn : Joining W src ho
         whole = whole;
         distinct = distinct;
         level = λ q h. ex .level q (omega (arith, ex .count));
-        reach = λ i f h l c. omega (arith, ex .reach, ex .count, code-low W′ (234 * host) (countIn W′ host) packed i h whole f l c);
+        reach = λ i f h l c. omega (arith, ex .reach, ex .count, code-low W′ (blockSize * host) (countIn W′ host) packed i h whole f l c);
       }
 
       grown : Grown host W W′

@@ -10,6 +10,7 @@ use borrow.Author.Tests.{le-leb}
 use Rattle.cofj.specs.Values.{Graph, make, canon}
 use Rattle.cofj.specs.Unfolding.{SameTree, Whole, AllWhole}
 use Rattle.cofj.proofs.Canon.{canon-same, canon-whole, canon-length}
+use Rattle.canon.specs.Figures.{codeCount, markCount, capacity}
 use Rattle.values.specs.declared.ValueRef.{ValueRef}
 use Rattle.values.specs.declared.ValueRef.the-variants.{Object, Mark, Undetermined}
 use Rattle.maker.specs.declared.Slot.{Slot}
@@ -25,14 +26,14 @@ use Rattle.values.proofs.Selecting.{unchanged, under}
 use Rattle.values.proofs.Trees.{AllSame, same-make}
 
 -- ---- the parts
-pub mark-small : (W : List ℕ) (r : ValueRef) (k : ℕ) → Holds W r → r ≡ Mark k → k < 63
+pub mark-small : (W : List ℕ) (r : ValueRef) (k : ℕ) → Holds W r → r ≡ Mark k → k < markCount
 mark-small W r k h e = subst (HeldBy W) e (h .held)
 
 abbrev pub none-slot : Slot
 none-slot = record { r = Object 0 0 }
 
 -- a part is the value of its number
-pub part-in : (P : List ℕ) (i : ℕ) (v : ValueRef) → i < 4 → v ≡ refIn (getD P i 0) → v ≡ partOf (partsOf P) i
+pub part-in : (P : List ℕ) (i : ℕ) (v : ValueRef) → i < codeCount → v ≡ refIn (getD P i 0) → v ≡ partOf (partsOf P) i
 unfolding partsOf
 part-in P zero v l e = e
 part-in P (suc zero) v l e = e
@@ -103,10 +104,10 @@ module _ (W W1 : List ℕ) (v : Graph) (dst b i : ℕ) (ob : Inside W1 b i) (e :
   -- brought down
   pub made-brought : (W2 : List ℕ) (r : ValueRef) → Gives W1 dst W2 r (canon (graphAt W1 b i)) → MadeIs W v dst W2 (Value r)
   made-brought W2 r g =
-      let l : length (v .nodes) ≤ 32 = omega (arith, ap (λ (x : Graph). length (x .nodes)) e, canon-length (graphAt W1 b i) whole, size-in W1 b (ob .block), ob .block .small) in
+      let l : length (v .nodes) ≤ capacity = omega (arith, ap (λ (x : Graph). length (x .nodes)) e, canon-length (graphAt W1 b i) whole, size-in W1 b (ob .block), ob .block .small) in
       record {
         held = g .held;
-        is = rw (le-leb _ 32 l) (ap some (g .is ∙ sym e));
+        is = rw (le-leb _ capacity l) (ap some (g .is ∙ sym e));
         place = g .place;
         beneath = beneath-more dst W W1 W2 bn (under dst W1 W2 (g .outside));
       }

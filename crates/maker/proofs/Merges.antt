@@ -21,6 +21,7 @@ use Rattle.cofj.proofs.Basics.{getD-map-lt}
 use Rattle.cofj.proofs.Canon.{canon-same}
 use Rattle.cofj.proofs.Operations.{make-whole}
 use Rattle.cofj.proofs.Unique.{same-canon}
+use Rattle.canon.specs.Figures.{objectSize, headSize, codeCount, firstLeaf, undeterminedCode, firstMark, markCount, capacity, countAt, levelAt, reachAt, blockSize, spare, threeBytes}
 use Rattle.canon.specs.Layout.{refOf, nodeIn, nodesIn, Packed, countIn, levelIn, reachIn, objectsIn, graphAt, Block, Inside, Outside, Beneath}
 use Rattle.canon.specs.Tables.{Four, Carried}
 use Rattle.canon.specs.Numbers.{Levels}
@@ -38,13 +39,14 @@ use Rattle.values.proofs.Trees.{in-larger, leaf-same, made-as}
 use Rattle.values.proofs.Copies.{block-moves}
 use Rattle.values.proofs.Selecting.{unchanged, under}
 use Rattle.values.proofs.Kept.{Kept, kept}
+use Rattle.maker.specs.Figures.{noRoom, unusedCodes}
 use Rattle.maker.specs.declared.Slot.{Slot}
 use Rattle.maker.specs.declared.Made.{Made}
 use Rattle.maker.specs.declared.Made.the-variants.{Value, TooLarge}
 use Rattle.maker.specs.declared.merge.Tried.{Tried}
 use Rattle.maker.specs.declared.merge.Tried.the-variants.{Here, NoRoom}
 use Rattle.maker.proofs.merge.Tried as TriedT
-use Rattle.maker.specs.Laying.{valuesFrom, rawsFrom, PartsHeld, spare, Makeable, MadeIs}
+use Rattle.maker.specs.Laying.{valuesFrom, rawsFrom, PartsHeld, Makeable, MadeIs}
 use Rattle.maker.specs.Adding.{codesOf, objectOf, Missed, Found, Emptied, Appended, Added, partOf}
 use Rattle.maker.specs.Merging.{Grown, Fits, Standing, Entered, CodeAs, Mapped, Imported, TriedIs, liesFrom, refersFrom, As, PartImported, Begun, AllWithin, RootBrought, PartsBrought, someIn, largerOf, largestOf}
 use Rattle.maker.specs.Sorting.{codeAt, TurnedAs}
@@ -69,7 +71,7 @@ grown-more host W W1 W2 a b = record {
 }
 
 module _ (host : ℕ) (W W′ : List ℕ) (o : Outside host W W′) (b : ℕ) (apart : (b ≡ host) → ⊥) where
-  pub other-byte : (p : ℕ) → 234 * b ≤ p → p < 234 * b + 234 → getD W′ p 0 ≡ getD W p 0
+  pub other-byte : (p : ℕ) → blockSize * b ≤ p → p < blockSize * b + blockSize → getD W′ p 0 ≡ getD W p 0
   other-byte p l m = go (decLt b host)
     where
       go : Dec (b < host) → getD W′ p 0 ≡ getD W p 0
@@ -79,23 +81,23 @@ module _ (host : ℕ) (W W′ : List ℕ) (o : Outside host W W′) (b : ℕ) (a
   pub other-block : Block W b → (objectsIn W′ b ≡ objectsIn W b) × Block W′ b
   unfolding countIn levelIn reachIn
   other-block bk =
-      block-moves W W′ b b (other-byte (234 * b + 192) (omega arith) (omega arith)) (other-byte (234 * b + 193) (omega arith) (omega arith)) (other-byte (234 * b + 194) (omega arith) (omega arith))
-      (λ k h. other-byte (234 * b + k) (omega arith) (omega (arith, bk .small))) (omega (arith, bk .room, o .same)) bk
+      block-moves W W′ b b (other-byte (blockSize * b + countAt) (omega arith) (omega arith)) (other-byte (blockSize * b + levelAt) (omega arith) (omega arith)) (other-byte (blockSize * b + reachAt) (omega arith) (omega arith))
+      (λ k h. other-byte (blockSize * b + k) (omega arith) (omega (arith, bk .small))) (omega (arith, bk .room, o .same)) bk
 
   pub other-inside : (i : ℕ) → Inside W b i → Inside W′ b i
   unfolding countIn
-  other-inside i ib = record { block = other-block (ib .block) .1; low = omega (arith, ib .low, other-byte (234 * b + 192) (omega arith) (omega arith)) }
+  other-inside i ib = record { block = other-block (ib .block) .1; low = omega (arith, ib .low, other-byte (blockSize * b + countAt) (omega arith) (omega arith)) }
 
 -- ---- entered
 module _ (W : List ℕ) (host : ℕ) (T : List ℕ) (bk : Block W host) (ft : Fits W host T) where
-  pub enter-count : getD W (234 * host + 192) 0 ≡ countIn W host
+  pub enter-count : getD W (blockSize * host + countAt) 0 ≡ countIn W host
   unfolding countIn
   enter-count = refl
 
-  pub enter-full : Missed W host T (countIn W host) → 32 ≤ getD W (234 * host + 192) 0 → Entered W host T W 32
+  pub enter-full : Missed W host T (countIn W host) → capacity ≤ getD W (blockSize * host + countAt) 0 → Entered W host T W noRoom
   unfolding countIn
   enter-full ms h =
-      let e : getD W (234 * host + 192) 0 ≡ 32 = omega (arith, bk .small) in
+      let e : getD W (blockSize * host + countAt) 0 ≡ capacity = omega (arith, bk .small) in
       record {
         grown = grown-none host W bk;
         few = omega arith;
@@ -104,28 +106,28 @@ module _ (W : List ℕ) (host : ℕ) (T : List ℕ) (bk : Block W host) (ft : Fi
         full = λ _. (e, subst (Missed W host T) e ms, refl);
       }
 
-  module _ (k : ℕ) (fd : Found W host (getD W (234 * host + 192) 0) T k) where
-    pub enter-found : k < getD W (234 * host + 192) 0 → Entered W host T W k
+  module _ (k : ℕ) (fd : Found W host (getD W (blockSize * host + countAt) 0) T k) where
+    pub enter-found : k < getD W (blockSize * host + countAt) 0 → Entered W host T W k
     unfolding countIn objectsIn
     enter-found h = record {
       grown = grown-none host W bk;
       few = omega (arith, bk .small);
-      standing = λ _. record { low = h; is = at-nodes W (234 * host) (getD W (234 * host + 192) 0) k h ∙ fd .hit h };
+      standing = λ _. record { low = h; is = at-nodes W (blockSize * host) (getD W (blockSize * host + countAt) 0) k h ∙ fd .hit h };
       from = λ y l. inl l;
       full = λ z. absurd (omega (arith, bk .small));
     }
 
-    pub enter-missed : getD W (234 * host + 192) 0 ≤ k → Missed W host T (countIn W host)
+    pub enter-missed : getD W (blockSize * host + countAt) 0 ≤ k → Missed W host T (countIn W host)
     unfolding countIn
     enter-missed ge = fd .miss ge
 
-  module _ (ms : Missed W host T (countIn W host)) (h : getD W (234 * host + 192) 0 < 32) (l : ℕ) (D : List ℕ) (lv : Levels T 0 6 l) (le : getD W (234 * host + 193) 0 ≤ l)
-      (a : Appended W host (getD W (234 * host + 192) 0) T l D) where
+  module _ (ms : Missed W host T (countIn W host)) (h : getD W (blockSize * host + countAt) 0 < capacity) (l : ℕ) (D : List ℕ) (lv : Levels T 0 objectSize l) (le : getD W (blockSize * host + levelAt) 0 ≤ l)
+      (a : Appended W host (getD W (blockSize * host + countAt) 0) T l D) where
     abbrev t : ℕ
-    t = getD W (234 * host + 192) 0
+    t = getD W (blockSize * host + countAt) 0
 
     abbrev ns : List Node
-    ns = nodesIn W (234 * host) t
+    ns = nodesIn W (blockSize * host) t
 
     inner : (i f : ℕ) (r : Ref) → getElem? (refsAt ns i) f ≡ some r → InRange (length ns) r
     unfolding countIn objectsIn
@@ -133,13 +135,13 @@ module _ (W : List ℕ) (host : ℕ) (T : List ℕ) (bk : Block W host) (ft : Fi
 
     above : (f : ℕ) (r : Ref) → getElem? (nodeIn T 0 .refs) f ≡ some r → InRange (length ns) r
     unfolding countIn
-    above f r e = subst (λ (m : ℕ). InRange m r) (sym (length-nodes W (234 * host) t)) (ft .low f r e)
+    above f r e = subst (λ (m : ℕ). InRange m r) (sym (length-nodes W (blockSize * host) t)) (ft .low f r e)
 
     miss : (j : ℕ) → j < length ns → nodeAt ns j ≡ nodeIn T 0 → ⊥
     unfolding countIn
     miss j q e =
-        let m : j < t = omega (arith, length-nodes W (234 * host) t) in
-        ms .none j m (sym (at-nodes W (234 * host) t j m) ∙ e)
+        let m : j < t = omega (arith, length-nodes W (blockSize * host) t) in
+        ms .none j m (sym (at-nodes W (blockSize * host) t j m) ∙ e)
 
     added : Added W host t T host D
     unfolding countIn
@@ -156,7 +158,7 @@ module _ (W : List ℕ) (host : ℕ) (T : List ℕ) (bk : Block W host) (ft : Fi
     kept-trees : (r : Ref) → InRange (countIn W host) r → Same (objectsIn W host) r (objectsIn D host) r
     unfolding countIn objectsIn
     kept-trees r q p =
-        sym (old-tree (nodeIn T 0) ns inner above r (subst (λ (m : ℕ). InRange m r) (sym (length-nodes W (234 * host) t)) q) p)
+        sym (old-tree (nodeIn T 0) ns inner above r (subst (λ (m : ℕ). InRange m r) (sym (length-nodes W (blockSize * host) t)) q) p)
         ∙ ap (λ (x : List Node). follow x r p) (sym are)
 
     pub enter-new : Entered W host T D t
@@ -166,13 +168,13 @@ module _ (W : List ℕ) (host : ℕ) (T : List ℕ) (bk : Block W host) (ft : Fi
       few = omega arith;
       standing = λ _. record {
         low = omega (arith, a .count);
-        is = ap (λ (x : List Node). nodeAt x t) are ∙ ap (nodeAt (more ns (nodeIn T 0))) (sym (length-nodes W (234 * host) t)) ∙ at-new (nodeIn T 0) ns inner above;
+        is = ap (λ (x : List Node). nodeAt x t) are ∙ ap (nodeAt (more ns (nodeIn T 0))) (sym (length-nodes W (blockSize * host) t)) ∙ at-new (nodeIn T 0) ns inner above;
       };
       from = λ y l. from y l (decLt y t);
       full = λ z. absurd (omega arith);
     }
       where
-        from : (y : ℕ) → y < getD D (234 * host + 192) 0 → Dec (y < t) → (y < t) ⊎ (y ≡ t)
+        from : (y : ℕ) → y < getD D (blockSize * host + countAt) 0 → Dec (y < t) → (y < t) ⊎ (y ≡ t)
         from y l (yes q) = inl q
         from y l (no q) = inr (omega (arith, a .count, q))
 
@@ -182,17 +184,17 @@ module _ (c f : ℕ) where
   unfolding liesFrom
   lies-not h = rw (lt-ltb c f h)
 
-  pub lies-tested : f ≤ c → ltb c 192 ≡ liesFrom c f
+  pub lies-tested : f ≤ c → ltb c firstLeaf ≡ liesFrom c f
   unfolding liesFrom
   lies-tested h = rw (le-ltb c f h)
 
-  lies-is : liesFrom c f ≡ true → (f ≤ c) × (c < 192)
+  lies-is : liesFrom c f ≡ true → (f ≤ c) × (c < firstLeaf)
   unfolding liesFrom
   lies-is e = go (decLt c f)
     where
-      go : Dec (c < f) → (f ≤ c) × (c < 192)
+      go : Dec (c < f) → (f ≤ c) × (c < firstLeaf)
       go (yes h) = absurd (false≢true (lies-not h ∙ e))
-      go (no h) = (omega (arith, h), ltb-true c 192 (lies-tested (omega (arith, h)) ∙ e))
+      go (no h) = (omega (arith, h), ltb-true c firstLeaf (lies-tested (omega (arith, h)) ∙ e))
 
 module _ (w f : ℕ) where
   module _ (b : Bool) (e : b ≡ liesFrom (w % 256) f) where
@@ -210,49 +212,49 @@ module _ (w f : ℕ) where
         unfolding refersFrom
         refers-third h = rw (← e, n, ← e1, n1, ← e2, h)
 
-        pub refers-last : b2 ≡ false → (b3 : Bool) → b3 ≡ liesFrom (w / 16777216) f → b3 ≡ refersFrom w f
+        pub refers-last : b2 ≡ false → (b3 : Bool) → b3 ≡ liesFrom (w / threeBytes) f → b3 ≡ refersFrom w f
         unfolding refersFrom
         refers-last h b3 e3 = rw (← e, n, ← e1, n1, ← e2, h) e3
 
   -- a code that is an object's, of number f or a higher one
   record From : Type 0 where
     place : ℕ
-    low : place < 4
+    low : place < codeCount
     high : f ≤ getD (codesOf w) place 0
-    object : getD (codesOf w) place 0 < 192
+    object : getD (codesOf w) place 0 < firstLeaf
 
   refers-from : refersFrom w f ≡ true → From
   unfolding refersFrom codesOf
   refers-from e = go (liesFrom (w % 256) f) refl (liesFrom (w / 256 % 256) f) refl (liesFrom (w / 65536 % 256) f) refl e
     where
-      at : (i : ℕ) → i < 4 → liesFrom (getD (codesOf w) i 0) f ≡ true → From
+      at : (i : ℕ) → i < codeCount → liesFrom (getD (codesOf w) i 0) f ≡ true → From
       at i l q = let z = lies-is (getD (codesOf w) i 0) f q in record { place = i; low = l; high = z .0; object = z .1 }
 
       go : (a : Bool) → liesFrom (w % 256) f ≡ a → (b : Bool) → liesFrom (w / 256 % 256) f ≡ b → (c : Bool) → liesFrom (w / 65536 % 256) f ≡ c
-          → cond a true (cond b true (cond c true (liesFrom (w / 16777216) f))) ≡ true → From
+          → cond a true (cond b true (cond c true (liesFrom (w / threeBytes) f))) ≡ true → From
       go true ea b eb c ec q = at 0 (omega arith) ea
       go false ea true eb c ec q = at 1 (omega arith) eb
       go false ea false eb true ec q = at 2 (omega arith) ec
       go false ea false eb false ec q = at 3 (omega arith) q
 
-pub fresh-missed : (W : List ℕ) (host c n w : ℕ) → Block W host → Fits W host (objectOf c n w) → (b : Bool) → b ≡ refersFrom w (getD W (234 * host + 194) 0) → b ≡ true
+pub fresh-missed : (W : List ℕ) (host c n w : ℕ) → Block W host → Fits W host (objectOf c n w) → (b : Bool) → b ≡ refersFrom w (getD W (blockSize * host + reachAt) 0) → b ≡ true
     → Missed W host (objectOf c n w) (countIn W host)
 unfolding reachIn
 fresh-missed W host c n w bk ft b eb h = record { none = none }
   where
-    fr : From w (getD W (234 * host + 194) 0)
-    fr = refers-from w (getD W (234 * host + 194) 0) (sym eb ∙ h)
+    fr : From w (getD W (blockSize * host + reachAt) 0)
+    fr = refers-from w (getD W (blockSize * host + reachAt) 0) (sym eb ∙ h)
 
     k : ℕ
     k = 2 + fr .place
 
-    none : (j : ℕ) → j < countIn W host → nodeIn W (234 * host + 6 * j) ≡ nodeIn (objectOf c n w) 0 → ⊥
+    none : (j : ℕ) → j < countIn W host → nodeIn W (blockSize * host + objectSize * j) ≡ nodeIn (objectOf c n w) 0 → ⊥
     none j l e =
-        let there : getD W (234 * host + 6 * j + k) 0 ≡ byteOf (nodeIn W (234 * host + 6 * j)) k = packed-byte W (234 * host + 6 * j) (bk .packed j l) k (omega (arith, fr .low)) in
+        let there : getD W (blockSize * host + objectSize * j + k) 0 ≡ byteOf (nodeIn W (blockSize * host + objectSize * j)) k = packed-byte W (blockSize * host + objectSize * j) (bk .packed j l) k (omega (arith, fr .low)) in
         let here : getD (objectOf c n w) (0 + k) 0 ≡ byteOf (nodeIn (objectOf c n w) 0) k = packed-byte (objectOf c n w) 0 (ft .packed) k (omega (arith, fr .low)) in
-        let z : 234 * host + 6 * j + 2 + fr .place ≡ 234 * host + 6 * j + k = omega arith in
+        let z : blockSize * host + objectSize * j + headSize + fr .place ≡ blockSize * host + objectSize * j + k = omega arith in
         let y : 0 + k ≡ 2 + fr .place = omega arith in
-        let same : getD W (234 * host + 6 * j + 2 + fr .place) 0 ≡ getD (codesOf w) (fr .place) 0 =
+        let same : getD W (blockSize * host + objectSize * j + headSize + fr .place) 0 ≡ getD (codesOf w) (fr .place) 0 =
         ap (λ (x : ℕ). getD W x 0) z ∙ there ∙ ap (λ (x : Node). byteOf x k) e ∙ sym here ∙ ap (λ (x : ℕ). getD (objectOf c n w) x 0) y ∙ object-code c n w (fr .place) in
         absurd (omega (arith, fr .high, same, bk .reach j (fr .place) l (fr .low) (omega (arith, fr .object, same))))
 
@@ -271,12 +273,12 @@ module _ (host : ℕ) (W W′ : List ℕ) (g : Grown host W W′) (src : ℕ) (a
   -- an object turned
   pub turned-grown : (i : ℕ) (B : List ℕ) → i < countIn W src → TurnedAs W src i host B → TurnedAs W′ src i host B
   turned-grown i B h t = record {
-    cls = t .cls ∙ sym (byte (234 * src + 6 * i) (omega arith) (omega (arith, sb .small)));
-    count = t .count ∙ sym (byte (234 * src + 6 * i + 1) (omega arith) (omega (arith, sb .small)));
-    code = λ f l. subst (λ (c : ℕ). CodeAs W′ src c host (getD B (2 + f) 0)) (sym (byte (234 * src + 6 * i + 2 + f) (omega arith) (omega (arith, sb .small)))) (code-grown _ _ (t .code f l));
+    cls = t .cls ∙ sym (byte (blockSize * src + objectSize * i) (omega arith) (omega (arith, sb .small)));
+    count = t .count ∙ sym (byte (blockSize * src + objectSize * i + 1) (omega arith) (omega (arith, sb .small)));
+    code = λ f l. subst (λ (c : ℕ). CodeAs W′ src c host (getD B (2 + f) 0)) (sym (byte (blockSize * src + objectSize * i + headSize + f) (omega arith) (omega (arith, sb .small)))) (code-grown _ _ (t .code f l));
   }
     where
-      byte : (p : ℕ) → 234 * src ≤ p → p < 234 * src + 234 → getD W′ p 0 ≡ getD W p 0
+      byte : (p : ℕ) → blockSize * src ≤ p → p < blockSize * src + blockSize → getD W′ p 0 ≡ getD W p 0
       byte = other-byte host W W′ (g .outside) src apart
 
 -- ---- a part
@@ -323,34 +325,34 @@ module _ (W : List ℕ) (b i base host : ℕ) (ib : Inside W b i) (bg : Begun W 
     }
 
 -- ---- an object without fields
-module _ (W : List ℕ) (b i host : ℕ) (ib : Inside W b i) (bk : Block W host) (apart : (b ≡ host) → ⊥) (bare : getD W (234 * b + 6 * i + 1) 0 ≡ 0) (w : ℕ) (f : Four W (234 * b + 6 * i + 2) w) where
+module _ (W : List ℕ) (b i host : ℕ) (ib : Inside W b i) (bk : Block W host) (apart : (b ≡ host) → ⊥) (bare : getD W (blockSize * b + objectSize * i + 1) 0 ≡ 0) (w : ℕ) (f : Four W (blockSize * b + objectSize * i + 2) w) where
   abbrev bare-object : List ℕ
-  bare-object = objectOf (getD W (234 * b + 6 * i) 0) 0 w
+  bare-object = objectOf (getD W (blockSize * b + objectSize * i) 0) 0 w
 
-  bare-code : (k : ℕ) → k < 4 → (codeAt W b i k ≡ 192) × (getD bare-object (2 + k) 0 ≡ 192)
+  bare-code : (k : ℕ) → k < codeCount → (codeAt W b i k ≡ undeterminedCode) × (getD bare-object (2 + k) 0 ≡ undeterminedCode)
   bare-code k l =
-      let z : 234 * b + 6 * i + (2 + k) ≡ 234 * b + 6 * i + 2 + k = omega arith in
-      let s : getD W (234 * b + 6 * i + (2 + k)) 0 ≡ 192 = ib .block .packed i (ib .low) .spare (2 + k) (omega (arith, bare)) (omega arith) in
-      (rw z at s, sym (object-bytes W (234 * b + 6 * i) w f (2 + k) (omega arith) ∙ ap (λ (m : ℕ). getD (objectOf (getD W (234 * b + 6 * i) 0) m w) (2 + k) 0) bare) ∙ s)
+      let z : blockSize * b + objectSize * i + (2 + k) ≡ blockSize * b + objectSize * i + headSize + k = omega arith in
+      let s : getD W (blockSize * b + objectSize * i + (2 + k)) 0 ≡ undeterminedCode = ib .block .packed i (ib .low) .spare (2 + k) (omega (arith, bare)) (omega arith) in
+      (rw z at s, sym (object-bytes W (blockSize * b + objectSize * i) w f (2 + k) (omega arith) ∙ ap (λ (m : ℕ). getD (objectOf (getD W (blockSize * b + objectSize * i) 0) m w) (2 + k) 0) bare) ∙ s)
 
   bare-turned : TurnedAs W b i host bare-object
   bare-turned = record {
     cls = object-class _ 0 w;
     count = object-count _ 0 w ∙ sym bare;
     code = λ k l. rw (bare-code k l .0, bare-code k l .1) (record {
-      low = leaf-low (countIn W host) 192 (omega arith);
+      low = leaf-low (countIn W host) undeterminedCode (omega arith);
       leaf = λ _. refl;
-      same = leaf-same (objectsIn W b) (objectsIn W host) (refOf 192) (leaf-low 0 192 (omega arith));
+      same = leaf-same (objectsIn W b) (objectsIn W host) (refOf undeterminedCode) (leaf-low 0 undeterminedCode (omega arith));
     });
   }
 
-  pub bare-fits : Fits W host (objectOf (getD W (234 * b + 6 * i) 0) 0 w)
+  pub bare-fits : Fits W host (objectOf (getD W (blockSize * b + objectSize * i) 0) 0 w)
   bare-fits = turned-fits W b i host bare-object ib bk bare-turned
 
   begun : Begun W host host
   begun = record { source = bk; target = bk; most = omega arith; trees = λ r l p. refl }
 
-  pub bare-imported : (W′ : List ℕ) (r : ℕ) → Entered W host (objectOf (getD W (234 * b + 6 * i) 0) 0 w) W′ r → PartImported W (Object i b) host W′ r
+  pub bare-imported : (W′ : List ℕ) (r : ℕ) → Entered W host (objectOf (getD W (blockSize * b + objectSize * i) 0) 0 w) W′ r → PartImported W (Object i b) host W′ r
   bare-imported W′ r en = object-other W b i host host ib begun apart W′ r (record {
     grown = en .grown;
     like = like;
@@ -358,19 +360,19 @@ module _ (W : List ℕ) (b i host : ℕ) (ib : Inside W b i) (bk : Block W host)
     over = λ z g old at. full z g old at;
   })
     where
-      like : ((r ≡ 32) → ⊥) → CodeAs W′ b i host r
+      like : ((r ≡ noRoom) → ⊥) → CodeAs W′ b i host r
       like d =
           turned-same W′ b i host bare-object (other-inside host W W′ (en .grown .outside) b apart i ib) (en .grown .block)
           (turned-grown host W W′ (en .grown) b apart (ib .block) i bare-object (ib .low) bare-turned) r (en .standing d)
 
-      here : ((r ≡ 32) → ⊥) → (g : Graph) → In (objectsIn W b) i g → (y : ℕ) → y ≡ r → In (objectsIn W′ host) y g
+      here : ((r ≡ noRoom) → ⊥) → (g : Graph) → In (objectsIn W b) i g → (y : ℕ) → y ≡ r → In (objectsIn W′ host) y g
       here d g at y e = in-same g (objectsIn W b) (objectsIn W′ host) i y at (λ p.
           ap (λ (x : List Node). follow x (obj i) p) (sym (other-block host W W′ (en .grown .outside) b apart (ib .block) .0))
           ∙ ap (λ (x : Ref). follow (objectsIn W′ b) x p) (sym (ref-object i (omega (arith, ib .low, ib .block .small)))) ∙ like d .same p
           ∙ ap (λ (x : Ref). follow (objectsIn W′ host) x p) (ref-object r (omega (arith, en .standing d .low, en .grown .block .small)) ∙ ap obj (sym e)))
 
       -- the host is full, and does not have it
-      full : r ≡ 32 → (g : Graph) → BlockIn W host g → In (objectsIn W b) i g → Crowd g
+      full : r ≡ noRoom → (g : Graph) → BlockIn W host g → In (objectsIn W b) i g → Crowd g
       full z g old at =
           let f = en .full z in
           crowd-joined (objectsIn W b) (objectsIn W host) g (countIn W host) (size-in W host bk) (bk .distinct) old (λ _. i)
@@ -381,21 +383,21 @@ module _ (W : List ℕ) (v : ValueRef) (base host : ℕ) (h : Holds W v) (bg : B
   pub part-object : (b i : ℕ) (W′ : List ℕ) (r : ℕ) → v ≡ Object i b → PartImported W (Object i b) host W′ r → PartImported W v host W′ r
   part-object b i W′ r e p = subst (λ (x : ValueRef). PartImported W x host W′ r) (sym e) p
 
-  pub part-small : (k : ℕ) → v ≡ Mark k → k < 63
-  part-small k e = let z : k < 63 = subst (HeldBy W) e (h .held) in z
+  pub part-small : (k : ℕ) → v ≡ Mark k → k < markCount
+  part-small k e = let z : k < markCount = subst (HeldBy W) e (h .held) in z
 
-  pub part-mark : (k : ℕ) → v ≡ Mark k → PartImported W v host W (193 + k)
+  pub part-mark : (k : ℕ) → v ≡ Mark k → PartImported W v host W (firstMark + k)
   part-mark k e = rw e (record {
     grown = grown-none host W (bg .target);
-    like = λ _. record { low = leaf-low (countIn W host) (193 + k) (omega arith); same = λ p. leaf-same [] (objectsIn W host) (mark k) tt p ∙ ap (λ (x : Ref). follow (objectsIn W host) x p) (sym (ref-mark k)) };
+    like = λ _. record { low = leaf-low (countIn W host) (firstMark + k) (omega arith); same = λ p. leaf-same [] (objectsIn W host) (mark k) tt p ∙ ap (λ (x : Ref). follow (objectsIn W host) x p) (sym (ref-mark k)) };
     stand = λ _ g old at. old;
     over = λ z. absurd (omega arith);
   })
 
-  pub part-undet : v ≡ Undetermined → PartImported W v host W 192
+  pub part-undet : v ≡ Undetermined → PartImported W v host W undeterminedCode
   part-undet e = rw e (record {
     grown = grown-none host W (bg .target);
-    like = λ _. record { low = leaf-low (countIn W host) 192 (omega arith); same = λ p. leaf-same [] (objectsIn W host) undet tt p ∙ ap (λ (x : Ref). follow (objectsIn W host) x p) (sym ref-undet) };
+    like = λ _. record { low = leaf-low (countIn W host) undeterminedCode (omega arith); same = λ p. leaf-same [] (objectsIn W host) undet tt p ∙ ap (λ (x : Ref). follow (objectsIn W host) x p) (sym ref-undet) };
     stand = λ _ g old at. old;
     over = λ z. absurd (omega arith);
   })
@@ -470,7 +472,7 @@ first-byte : (w : ℕ) → getD (codesOf w) 0 0 ≡ w % 256
 unfolding codesOf
 first-byte w = refl
 
-pub brought-none : (W : List ℕ) (ps : List Slot) (n host : ℕ) → RootBrought W ps n n W host 3233857728
+pub brought-none : (W : List ℕ) (ps : List Slot) (n host : ℕ) → RootBrought W ps n n W host unusedCodes
 brought-none W ps n host = record { done = λ j l. absurd (omega arith); spare = λ j l h. spare-codes j h; stand = λ g old at. old }
 
 module _ (W : List ℕ) (ps : List Slot) (n i : ℕ) (W1 : List ℕ) (host w : ℕ) (held : PartsHeld W ps n) (g : Grown host W W1) (b : RootBrought W ps n i W1 host w) (le : i ≤ n) where
@@ -480,14 +482,14 @@ module _ (W : List ℕ) (ps : List Slot) (n i : ℕ) (W1 : List ℕ) (host w : �
   pub brought-all : i ≤ 0 → PartsBrought W ps n host W1 w
   brought-all h = let e : i ≡ 0 = omega arith in record { grown = g; done = λ _. subst (λ (k : ℕ). RootBrought W ps n k W1 host w) e b; over = λ z. absurd (not-full e z) }
     where
-      not-full : i ≡ 0 → w % 256 ≡ 32 → ⊥
+      not-full : i ≡ 0 → w % 256 ≡ noRoom → ⊥
       not-full e z = go (decLt 0 n)
         where
           go : Dec (0 < n) → ⊥
           go (yes l) =
-              let c : 32 < countIn W1 host = subst (InRange (countIn W1 host)) (ap refOf (first-byte w ∙ z) ∙ ref-object 32 (omega arith)) (b .done 0 (omega arith) .low) in
+              let c : capacity < countIn W1 host = subst (InRange (countIn W1 host)) (ap refOf (first-byte w ∙ z) ∙ ref-object capacity (omega arith)) (b .done 0 (omega arith) .low) in
               omega (arith, g .block .small)
-          go (no l) = let c : w % 256 ≡ 192 = sym (first-byte w) ∙ b .spare 0 (omega (arith, l)) (omega arith) in omega arith
+          go (no l) = let c : w % 256 ≡ undeterminedCode = sym (first-byte w) ∙ b .spare 0 (omega (arith, l)) (omega arith) in omega arith
 
   module _ (h : 0 < i) (v : ValueRef) (e : v ≡ partOf ps (i - 1)) (W2 : List ℕ) (r : ℕ) (pi : PartImported W1 v host W2 r) where
     pub brought-grown : Grown host W W2
@@ -499,10 +501,10 @@ module _ (W : List ℕ) (ps : List Slot) (n i : ℕ) (W1 : List ℕ) (host w : �
     part-within : (x : Graph) → AllWithin W ps n x → Within (rawOf W1 v) x
     part-within x ws = within-same (rawOf W v) (rawOf W1 v) x (part-tree host W W1 g v part-held-in) (subst (λ (u : ValueRef). Within (rawOf W u) x) (sym e) (ws (i - 1) (omega arith)))
 
-    pub brought-fails : r ≡ 32 → PartsBrought W ps n host W2 32
+    pub brought-fails : r ≡ noRoom → PartsBrought W ps n host W2 noRoom
     brought-fails z = record { grown = brought-grown; done = λ u. absurd (u refl); over = λ _ x old ws. pi .over z x (b .stand x old ws) (part-within x ws) }
 
-    pub brought-more : n ≤ 4 → r < 256 → ((r ≡ 32) → ⊥) → RootBrought W ps n (i - 1) W2 host (r + 256 * (w % 16777216))
+    pub brought-more : n ≤ codeCount → r < 256 → ((r ≡ noRoom) → ⊥) → RootBrought W ps n (i - 1) W2 host (r + 256 * (w % threeBytes))
     brought-more few lr d = record { done = done; spare = spare; stand = λ x old ws. pi .stand d x (b .stand x old ws) (part-within x ws) }
       where
         now-like : As W v W2 host r
@@ -511,13 +513,13 @@ module _ (W : List ℕ) (ps : List Slot) (n i : ℕ) (W1 : List ℕ) (host w : �
           same = λ p. part-tree host W W1 g v part-held-in p ∙ pi .like d .same p;
         }
 
-        done : (j : ℕ) → i - 1 + j < n → As W (partOf ps (i - 1 + j)) W2 host (getD (codesOf (r + 256 * (w % 16777216))) j 0)
+        done : (j : ℕ) → i - 1 + j < n → As W (partOf ps (i - 1 + j)) W2 host (getD (codesOf (r + 256 * (w % threeBytes))) j 0)
         done zero l = let z : i - 1 + 0 ≡ i - 1 = omega arith in rw (z, first-code r w lr) (subst (λ (x : ValueRef). As W x W2 host r) e now-like)
         done (suc j) l =
             let z : i - 1 + suc j ≡ i + j = omega arith in
             rw (z, next-code r w lr j (omega arith)) (like-grown host W1 W2 (pi .grown) W (partOf ps (i + j)) _ (b .done j (omega arith)))
 
-        spare : (j : ℕ) → n ≤ i - 1 + j → j < 4 → getD (codesOf (r + 256 * (w % 16777216))) j 0 ≡ 192
+        spare : (j : ℕ) → n ≤ i - 1 + j → j < codeCount → getD (codesOf (r + 256 * (w % threeBytes))) j 0 ≡ undeterminedCode
         spare zero l m = absurd (omega arith)
         spare (suc j) l m = next-code r w lr j (omega arith) ∙ b .spare j (omega arith) (omega arith)
 
@@ -532,7 +534,7 @@ made-from : (W W1 : List ℕ) (c : ℕ) (ps : List Slot) (n dst : ℕ) (W2 : Lis
     → MadeIs W1 (make c (valuesFrom W1 ps 0 n)) dst W2 o → MadeIs W (make c (valuesFrom W ps 0 n)) dst W2 o
 made-from W W1 c ps n dst W2 o b e m = record {
   held = m .held;
-  is = m .is ∙ ap (λ (v : Graph). cond (leb (length (v .nodes)) 32) (some v) none) (ap (make c) e);
+  is = m .is ∙ ap (λ (v : Graph). cond (leb (length (v .nodes)) capacity) (some v) none) (ap (make c) e);
   place = m .place;
   beneath = beneath-more dst W W1 W2 b (m .beneath);
 }
@@ -577,7 +579,7 @@ like-all W ms (suc n) [] ps a b h = absurd (omega arith)
 like-all W ms (suc n) (r ∷ rs) [] a b h = absurd (omega arith)
 like-all W ms (suc n) (r ∷ rs) (s ∷ ps) a b h = (h 0 (omega arith), like-all W ms n rs ps (omega arith) (omega arith) (λ i l. h (suc i) (omega arith)))
 
-module _ (W : List ℕ) (c : ℕ) (ps : List Slot) (n host dst : ℕ) (held : PartsHeld W ps n) (few : n ≤ 4) (le : dst ≤ host) (W1 : List ℕ) (w : ℕ) (br : PartsBrought W ps n host W1 w) where
+module _ (W : List ℕ) (c : ℕ) (ps : List Slot) (n host dst : ℕ) (held : PartsHeld W ps n) (few : n ≤ codeCount) (le : dst ≤ host) (W1 : List ℕ) (w : ℕ) (br : PartsBrought W ps n host W1 w) where
   abbrev made : Graph
   made = make c (valuesFrom W ps 0 n)
 
@@ -594,10 +596,10 @@ module _ (W : List ℕ) (c : ℕ) (ps : List Slot) (n host dst : ℕ) (held : Pa
       (subst (λ (h : Graph). Within h (make c (rawsFrom W ps 0 n))) (raw-at i l)
       (within-field c (rawsFrom W ps 0 n) (raws-whole W c ps n held) (graph undet []) i (omega (arith, parts-length W ps n held))))
 
-  pub in-none : w % 256 ≡ 32 → TriedIs W (make c (valuesFrom W ps 0 n)) host dst W1 NoRoom
+  pub in-none : w % 256 ≡ noRoom → TriedIs W (make c (valuesFrom W ps 0 n)) host dst W1 NoRoom
   in-none z = tried-none W made host dst W1 (br .grown) (λ old. br .over z made old all-within)
 
-  module _ (ew : (w % 256 ≡ 32) → ⊥) where
+  module _ (ew : (w % 256 ≡ noRoom) → ⊥) where
     rb : RootBrought W ps n 0 W1 host w
     rb = br .done ew
 
@@ -616,23 +618,23 @@ module _ (W : List ℕ) (c : ℕ) (ps : List Slot) (n host dst : ℕ) (held : Pa
       low = low-refs root-object (countIn W1 host) (λ j l. go j l (decLt j n));
     }
       where
-        go : (j : ℕ) → j < 4 → Dec (j < n) → InRange (countIn W1 host) (refOf (getD root-object (2 + j) 0))
+        go : (j : ℕ) → j < codeCount → Dec (j < n) → InRange (countIn W1 host) (refOf (getD root-object (2 + j) 0))
         go j l (yes h) = like-code j h .low
-        go j l (no h) = rw (object-code c n w j, rb .spare j (omega (arith, h)) l) (leaf-low (countIn W1 host) 192 (omega arith))
+        go j l (no h) = rw (object-code c n w j, rb .spare j (omega (arith, h)) l) (leaf-low (countIn W1 host) undeterminedCode (omega arith))
 
     module _ (W2 : List ℕ) (r : ℕ) (en : Entered W1 host (objectOf c n w) W2 r) where
       both : Grown host W W2
       both = grown-more host W W1 W2 (br .grown) (en .grown)
 
       -- the host is full of objects that stand in the new one, and does not have it
-      module _ (z : r ≡ 32) where
+      module _ (z : r ≡ noRoom) where
         abbrev hosted : List Node
         hosted = objectsIn W1 host
 
         abbrev new-node : Node
         new-node = nodeIn root-object 0
 
-        size : length hosted ≡ 32
+        size : length hosted ≡ capacity
         size = size-in W1 host in-block ∙ en .full z .0
 
         hosted-low : (f : ℕ) (s : Ref) → getElem? (new-node .refs) f ≡ some s → InRange (length hosted) s
@@ -640,7 +642,7 @@ module _ (W : List ℕ) (c : ℕ) (ps : List Slot) (n host dst : ℕ) (held : Pa
 
         not-hosted : (j : ℕ) → j < length hosted → nodeAt hosted j ≡ new-node → ⊥
         unfolding objectsIn
-        not-hosted j h e = en .full z .1 .none j (omega (arith, size)) (sym (at-nodes W1 (234 * host) (countIn W1 host) j (omega (arith, size-in W1 host in-block))) ∙ e)
+        not-hosted j h e = en .full z .1 .none j (omega (arith, size)) (sym (at-nodes W1 (blockSize * host) (countIn W1 host) j (omega (arith, size-in W1 host in-block))) ∙ e)
 
         top-is : new-node ≡ node c (take n (four root-object 0))
         unfolding nodeIn
@@ -663,7 +665,7 @@ module _ (W : List ℕ) (c : ℕ) (ps : List Slot) (n host dst : ℕ) (held : Pa
             (λ f p. follow-new new-node hosted (in-block .whole .inner) hosted-low f p ∙ ap (λ (x : Node). getElem? (x .refs) f >>= (λ s. follow hosted s p)) top-is
             ∙ like-follow hosted (take n (four root-object 0)) (rawsFrom W ps 0 n) like-now f p)
 
-        root : Same (more hosted new-node) (obj 32) (made .nodes) (made .root)
+        root : Same (more hosted new-node) (obj capacity) (made .nodes) (made .root)
         root p =
             ap (λ (k : ℕ). follow (more hosted new-node) (obj k) p) (sym size) ∙ sym (canon-same (graph (obj (length hosted)) (more hosted new-node)) whole-more p)
             ∙ ap (λ (x : Graph). follow (x .nodes) (x .root) p) (sym value-more)
@@ -676,10 +678,10 @@ module _ (W : List ℕ) (c : ℕ) (ps : List Slot) (n host dst : ℕ) (held : Pa
         pub in-full : TriedIs W (make c (valuesFrom W ps 0 n)) host dst W2 NoRoom
         in-full = tried-none W made host dst W2 both crowd
 
-      pub in-room : 234 * dst + 234 ≤ length W → 234 * dst + 234 ≤ length W2
+      pub in-room : blockSize * dst + blockSize ≤ length W → blockSize * dst + blockSize ≤ length W2
       in-room h = omega (arith, both .outside .same)
 
-      module _ (d : (r ≡ 32) → ⊥) where
+      module _ (d : (r ≡ noRoom) → ⊥) where
         st : Standing W2 host root-object r
         st = en .standing d
 
@@ -786,11 +788,11 @@ module _ (W : List ℕ) (v : ValueRef) (b : ℕ) where
     unfolding largerOf
     larger-zero z = rw (e, eq-eqb x 0 z)
 
-    pub larger-other : (x ≡ 0 → ⊥) → getD W (234 * b + 192) 0 < getD W (234 * x + 192) 0 → x ≡ largerOf W v b
+    pub larger-other : (x ≡ 0 → ⊥) → getD W (blockSize * b + countAt) 0 < getD W (blockSize * x + countAt) 0 → x ≡ largerOf W v b
     unfolding largerOf countIn
     larger-other d h = rw (e, ne-eqb x 0 d, lt-ltb _ _ h)
 
-    pub larger-same : (x ≡ 0 → ⊥) → getD W (234 * x + 192) 0 ≤ getD W (234 * b + 192) 0 → b ≡ largerOf W v b
+    pub larger-same : (x ≡ 0 → ⊥) → getD W (blockSize * x + countAt) 0 ≤ getD W (blockSize * b + countAt) 0 → b ≡ largerOf W v b
     unfolding largerOf countIn
     larger-same d h = rw (e, ne-eqb x 0 d, le-ltb _ _ h)
 
@@ -829,7 +831,7 @@ module _ (W : List ℕ) (ps : List Slot) (n b : ℕ) where
     pub largest-block : (d : ℕ) → d ≡ largestOf W ps n b → Block W d
     largest-block d e = subst (Block W) (sym e) (block-at n (omega arith))
 
-    pub largest-read : (d : ℕ) → d ≡ largestOf W ps n b → 234 * d + 192 < length W
+    pub largest-read : (d : ℕ) → d ≡ largestOf W ps n b → blockSize * d + countAt < length W
     largest-read d e = omega (arith, largest-block d e .room)
 
     pub largest-begun : (d : ℕ) → d ≡ largestOf W ps n b → Begun W d d
@@ -837,13 +839,13 @@ module _ (W : List ℕ) (ps : List Slot) (n b : ℕ) where
 
 -- ---- what making asks still holds
 module _ (W : List ℕ) (ps : List Slot) (n dst : ℕ) (mk : Makeable W ps n dst) where
-  pub makeable-room : 234 * dst + 234 ≤ length W
+  pub makeable-room : blockSize * dst + blockSize ≤ length W
   makeable-room = omega (arith, mk .under, mk .room)
 
   pub makeable-held : PartsHeld W ps n
   makeable-held = mk .held
 
-  pub makeable-few : n ≤ 4
+  pub makeable-few : n ≤ codeCount
   makeable-few = mk .few
 
   kept-makeable : (W1 : List ℕ) → length W1 ≡ length W → PartsHeld W1 ps n → Makeable W1 ps n dst
@@ -899,7 +901,7 @@ module _ (W : List ℕ) (b dst : ℕ) (W1 : List ℕ) (bk : Block W b) (lb : b <
     pub copied-made : (c : ℕ) (W2 : List ℕ) (o : Made) → MadeIs W1 (make c (valuesFrom W1 ps 0 n)) dst W2 o → MadeIs W (make c (valuesFrom W ps 0 n)) dst W2 o
     copied-made c = away-made W dst W1 (cp .outside) ps n (mk .held) (away-at ps n dst away) c dst (omega arith)
 
-module _ (W : List ℕ) (b : ℕ) (W1 : List ℕ) (room : 234 * b + 234 ≤ length W) (em : Emptied W b W1) where
+module _ (W : List ℕ) (b : ℕ) (W1 : List ℕ) (room : blockSize * b + blockSize ≤ length W) (em : Emptied W b W1) where
   none-there : objectsIn W1 b ≡ []
   unfolding objectsIn nodesIn
   none-there = rw (em .count)
@@ -929,7 +931,7 @@ module _ (W : List ℕ) (dst : ℕ) (W1 : List ℕ) (em : Emptied W dst W1) (ps 
 
 -- the spare block emptied: no part lies there
 module _ (W : List ℕ) (ps : List Slot) (n dst : ℕ) (mk : Makeable W ps n dst) where
-  pub spare-room : 234 * spare + 234 ≤ length W
+  pub spare-room : blockSize * spare + blockSize ≤ length W
   spare-room = mk .room
 
   spare-away : (i : ℕ) → i < n → liesIn spare (partOf ps i) ≡ false
@@ -951,7 +953,7 @@ module _ (W : List ℕ) (ps : List Slot) (n dst : ℕ) (mk : Makeable W ps n dst
     pub spare-above : dst ≤ spare
     spare-above = omega (arith, mk .under)
 
-    pub spare-dst : 234 * dst + 234 ≤ length W1
+    pub spare-dst : blockSize * dst + blockSize ≤ length W1
     spare-dst = omega (arith, mk .under, mk .room, em .outside .same)
 
     pub spare-makeable : Makeable W1 ps n dst
@@ -969,16 +971,16 @@ module _ (W : List ℕ) (ps : List Slot) (n dst : ℕ) (mk : Makeable W ps n dst
         made-whole : Whole (make c (valuesFrom W1 ps 0 n))
         made-whole = subst Whole (sym (made-raw W1 c ps n spare-held)) (make-whole c (rawsFrom W1 ps 0 n) (raws-whole W1 c ps n spare-held))
 
-        large : 32 < length (make c (valuesFrom W1 ps 0 n) .nodes)
+        large : capacity < length (make c (valuesFrom W1 ps 0 n) .nodes)
         large = crowd-large _ made-whole (too-small W1 _ spare dst W2 o to t (λ y h. absurd (omega (arith, em .count))))
 
         pub anew-large : MadeIs W (make c (valuesFrom W ps 0 n)) dst W2 TooLarge
         anew-large = spare-made c W2 TooLarge (record {
           held = tt;
-          is = rw (lt-leb (length (make c (valuesFrom W1 ps 0 n) .nodes)) 32 large);
+          is = rw (lt-leb (length (make c (valuesFrom W1 ps 0 n) .nodes)) capacity large);
           place = tt;
           beneath = beneath-grown spare dst W1 W2 spare-above (no-room W1 _ spare dst W2 o to t);
         })
 
-pub larger-read : (W : List ℕ) (v : ValueRef) (x i : ℕ) → Holds W v → v ≡ Object i x → 234 * x + 192 < length W
+pub larger-read : (W : List ℕ) (v : ValueRef) (x i : ℕ) → Holds W v → v ≡ Object i x → blockSize * x + countAt < length W
 larger-read W v x i h e = omega (arith, held-room W v x i h e)

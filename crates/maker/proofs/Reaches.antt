@@ -11,6 +11,7 @@ use lib.Seq.{getD-set-same, getD-set-other}
 use Rattle.cofj.specs.Partial.{_>>=_}
 use Rattle.cofj.specs.Values.{Ref, obj, Node, Graph, graph, refsAt}
 use Rattle.cofj.specs.Unfolding.{follow}
+use Rattle.canon.specs.Figures.{objectSize, headSize, codeCount, firstLeaf, capacity, blockSize}
 use Rattle.canon.specs.Layout.{countIn, objectsIn, graphAt, Inside}
 use Rattle.canon.proofs.Nodes.{code-low}
 use Rattle.values.proofs.Steps.{unpaired-put, unpaired-few}
@@ -38,22 +39,22 @@ listed-kept L L′ t r x h front o = let l : o .0 < t = o .1 in (o .0, omega ari
 
 -- ---- a code met
 module _ (S L : List ℕ) (t c : ℕ) (nd : Noted S L t) where
-  unchanged : (c < 192 → Listed L t c) → Met L t c S L t
+  unchanged : (c < firstLeaf → Listed L t c) → Met L t c S L t
   unchanged h = record { noted = nd; more = omega arith; front = λ q l. refl; new = λ q a b. absurd (omega arith); object = λ l. absurd (omega arith); here = h }
 
-  pub met-leaf : 192 ≤ c → Met L t c S L t
+  pub met-leaf : firstLeaf ≤ c → Met L t c S L t
   met-leaf h = unchanged (λ l. absurd (omega arith))
 
   pub met-known : ((getD S c 0 ≡ 0) → ⊥) → Met L t c S L t
   met-known d = unchanged (λ _. nd .listed c d)
 
-  module _ (lc : c < 192 → c < 32) (h : c < 192) where
+  module _ (lc : c < firstLeaf → c < capacity) (h : c < firstLeaf) where
     pub met-entry : c < length S
     met-entry = omega (arith, lc h, nd .seen)
 
     module _ (e : getD S c 0 ≡ 0) where
-      pub met-few : t < 32
-      met-few = omega (arith, nd .free, unpaired-put 32 c 0 S (lc h) met-entry e)
+      pub met-few : t < capacity
+      met-few = omega (arith, nd .free, unpaired-put capacity c 0 S (lc h) met-entry e)
 
       pub met-room : t < length L
       met-room = omega (arith, met-few, nd .list)
@@ -66,7 +67,7 @@ module _ (S L : List ℕ) (t c : ℕ) (nd : Noted S L t) where
         noted = record {
           seen = length-set S c 1 ∙ nd .seen;
           list = length-set L t c ∙ nd .list;
-          free = omega (arith, nd .free, unpaired-put 32 c 0 S (lc h) met-entry e);
+          free = omega (arith, nd .free, unpaired-put capacity c 0 S (lc h) met-entry e);
           listed = λ x d. listed x d (ℕ-discrete x c);
         };
         more = omega arith;
@@ -85,16 +86,16 @@ module _ (S L : List ℕ) (t c : ℕ) (nd : Noted S L t) where
 
 -- ---- the codes of an object met
 module _ (W : List ℕ) (src x : ℕ) (ib : Inside W src x) where
-  low : (k : ℕ) → k < 4 → codeAt W src x k < 192 → codeAt W src x k < countIn W src
+  low : (k : ℕ) → k < codeCount → codeAt W src x k < firstLeaf → codeAt W src x k < countIn W src
   unfolding objectsIn
-  low = code-low W (234 * src) (countIn W src) (ib .block .packed) x (ib .low) (ib .block .whole)
+  low = code-low W (blockSize * src) (countIn W src) (ib .block .packed) x (ib .low) (ib .block .whole)
 
   -- code k of the object is at the place p
-  pub field-low : (k p : ℕ) → k < 4 → p ≡ 234 * src + 6 * x + 2 + k → getD W p 0 < 192 → getD W p 0 < 32
+  pub field-low : (k p : ℕ) → k < codeCount → p ≡ blockSize * src + objectSize * x + headSize + k → getD W p 0 < firstLeaf → getD W p 0 < capacity
   field-low k p h e l = rw e (omega (arith, low k h (rw e at l), ib .block .small))
 
   module _ (L₀ : List ℕ) (t : ℕ) where
-    next : (S L : List ℕ) (r k p : ℕ) (S′ L′ : List ℕ) (r′ : ℕ) → k < 4 → p ≡ 234 * src + 6 * x + 2 + k → FieldsMet W src x k L₀ t S L r → Met L r (getD W p 0) S′ L′ r′
+    next : (S L : List ℕ) (r k p : ℕ) (S′ L′ : List ℕ) (r′ : ℕ) → k < codeCount → p ≡ blockSize * src + objectSize * x + headSize + k → FieldsMet W src x k L₀ t S L r → Met L r (getD W p 0) S′ L′ r′
         → FieldsMet W src x (k + 1) L₀ t S′ L′ r′
     next S L r k p S′ L′ r′ h e so m = record {
       noted = m .noted;
@@ -112,7 +113,7 @@ module _ (W : List ℕ) (src x : ℕ) (ib : Inside W src x) where
         lows q a b (yes l) = rw (m .front q l) (so .low q a l)
         lows q a b (no l) = rw (m .new q (omega (arith, l)) b, code) (low k h (rw code at (m .object (omega (arith, l)))))
 
-        heres : (f : ℕ) → f < k + 1 → codeAt W src x f < 192 → Dec (f ≡ k) → Listed L′ r′ (codeAt W src x f)
+        heres : (f : ℕ) → f < k + 1 → codeAt W src x f < firstLeaf → Dec (f ≡ k) → Listed L′ r′ (codeAt W src x f)
         heres f l c (yes z) =
             let u : getD W p 0 ≡ codeAt W src x f = code ∙ ap (codeAt W src x) (sym z) in
             subst (Listed L′ r′) u (m .here (rw u c))
@@ -123,10 +124,10 @@ module _ (W : List ℕ) (src x : ℕ) (ib : Inside W src x) where
         news q a b (no l) = record { field = k; low = h; object = rw code at (m .object (omega (arith, l))); is = m .new q (omega (arith, l)) b ∙ code }
 
     pub fields-met : (S₀ S1 L1 : List ℕ) (r1 : ℕ) (S2 L2 : List ℕ) (r2 : ℕ) (S3 L3 : List ℕ) (r3 : ℕ) (S L : List ℕ) (r : ℕ) → Noted S₀ L₀ t
-        → Met L₀ t (getD W (234 * src + 6 * x + 2) 0) S1 L1 r1
-        → Met L1 r1 (getD W (234 * src + 6 * x + 3) 0) S2 L2 r2
-        → Met L2 r2 (getD W (234 * src + 6 * x + 4) 0) S3 L3 r3
-        → Met L3 r3 (getD W (234 * src + 6 * x + 5) 0) S L r
+        → Met L₀ t (getD W (blockSize * src + objectSize * x + 2) 0) S1 L1 r1
+        → Met L1 r1 (getD W (blockSize * src + objectSize * x + 3) 0) S2 L2 r2
+        → Met L2 r2 (getD W (blockSize * src + objectSize * x + 4) 0) S3 L3 r3
+        → Met L3 r3 (getD W (blockSize * src + objectSize * x + 5) 0) S L r
         → FieldsMet W src x 4 L₀ t S L r
     fields-met S₀ S1 L1 r1 S2 L2 r2 S3 L3 r3 S L r nd a b c d =
         next S3 L3 r3 3 _ S L r (omega arith) (omega arith)
@@ -140,7 +141,7 @@ module _ (W : List ℕ) (src x : ℕ) (ib : Inside W src x) where
 -- ---- the list gone over
 module _ (W : List ℕ) (src i : ℕ) where
   -- object i is the first; `seen` begins with k zeros
-  module _ (ib : Inside W src i) (L : List ℕ) (ll : length L ≡ 32) (k : ℕ) (ek : k ≡ 32) where
+  module _ (ib : Inside W src i) (L : List ℕ) (ll : length L ≡ capacity) (k : ℕ) (ek : k ≡ capacity) where
     pub reach-start : ReachedTo W src i (set (replicate k 0) i 1) (set L 0 i) 1 0
     reach-start = record {
       inside = ib;
@@ -151,11 +152,11 @@ module _ (W : List ℕ) (src i : ℕ) where
       led = λ q l. subst (λ (y : ℕ). In (objectsIn W src) y (graphAt W src i)) (sym (m .new q (omega arith) l)) (led-root (objectsIn W src) i);
     }
       where
-        small : i < 32
+        small : i < capacity
         small = omega (arith, ib .low, ib .block .small)
 
         nothing : Noted (replicate k 0) L 0
-        nothing = record { seen = length-replicate k 0 ∙ ek; list = ll; free = omega (arith, unpaired-few 32 (replicate k 0)); listed = λ x d. absurd (d (zero-at k x)) }
+        nothing = record { seen = length-replicate k 0 ∙ ek; list = ll; free = omega (arith, unpaired-few capacity (replicate k 0)); listed = λ x d. absurd (d (zero-at k x)) }
 
         m : Met L 0 i (set (replicate k 0) i 1) (set L 0 i) 1
         m = met-new (replicate k 0) L 0 i nothing (λ _. small) (omega (arith, small)) (zero-at k i)
@@ -169,7 +170,7 @@ module _ (W : List ℕ) (src i : ℕ) where
       head-inside = record { block = so .inside .block; low = so .low h hh }
 
       module _ (S2 L2 : List ℕ) (r : ℕ) (o : FieldsMet W src (getD L h 0) 4 L t S2 L2 r) where
-        pub reach-few : r ≤ 32
+        pub reach-few : r ≤ capacity
         reach-few = omega (arith, o .noted .free)
 
         pub reach-more : ReachedTo W src i S2 L2 r (h + 1)
@@ -191,7 +192,7 @@ module _ (W : List ℕ) (src i : ℕ) where
             lows q l (yes b) = rw (o .front q b) (so .low q b)
             lows q l (no b) = o .low q (omega (arith, b)) l
 
-            closed : (q f : ℕ) → q < h + 1 → f < 4 → codeAt W src (getD L q 0) f < 192 → Dec (q ≡ h) → Listed L2 r (codeAt W src (getD L q 0) f)
+            closed : (q f : ℕ) → q < h + 1 → f < codeCount → codeAt W src (getD L q 0) f < firstLeaf → Dec (q ≡ h) → Listed L2 r (codeAt W src (getD L q 0) f)
             closed q f l b c (yes z) = rw z (o .here f b (rw z at c))
             closed q f l b c (no z) = kept _ (so .closed q f (omega (arith, z)) b c)
 

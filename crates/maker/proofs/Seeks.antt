@@ -10,6 +10,7 @@ use lib.ListN.{length, getD, set, replicate, length-set, length-replicate, List�
 use lib.Seq.{getD-set-same, getD-set-other, ext-getD}
 use Rattle.cofj.specs.Values.{Ref, obj}
 use Rattle.cofj.specs.Unfolding.{follow, Same, InRange}
+use Rattle.canon.specs.Figures.{objectSize, firstLeaf, capacity, countAt, blockSize}
 use Rattle.canon.specs.Layout.{refOf, alikeAt, countIn, objectsIn, Block, Inside}
 use Rattle.canon.specs.Tables.{Carried}
 use Rattle.canon.proofs.Nodes.{ref-object, code-ref, object-low, alike-no}
@@ -21,31 +22,31 @@ use Rattle.maker.specs.Sorting.{Fresh, Sorted}
 use Rattle.maker.specs.Seeking.{Telling, SoughtTo, Sought}
 
 -- ---- a table of 32 copied
-module _ (S D₀ D : List ℕ) (c : Carried S 0 D₀ 0 32 D) where
-  copied-at : (z : ℕ) → z < 32 → getD D z 0 ≡ getD S z 0
+module _ (S D₀ D : List ℕ) (c : Carried S 0 D₀ 0 capacity D) where
+  copied-at : (z : ℕ) → z < capacity → getD D z 0 ≡ getD S z 0
   copied-at z h = let e : 0 + z ≡ z = omega arith in rw e at (c .here z h)
 
-  copied-whole : length S ≡ 32 → length D₀ ≡ 32 → D ≡ S
+  copied-whole : length S ≡ capacity → length D₀ ≡ capacity → D ≡ S
   copied-whole ls ld = ext-getD 0 D S (c .same ∙ ld ∙ sym ls) (λ z h. copied-at z (omega (arith, c .same)))
 
-table-low : (T : List ℕ) (z k : ℕ) → length T ≡ 32 → getD T z 0 ≡ k + 1 → z < 32
-table-low T z k l e = go (decLt z 32)
+table-low : (T : List ℕ) (z k : ℕ) → length T ≡ capacity → getD T z 0 ≡ k + 1 → z < capacity
+table-low T z k l e = go (decLt z capacity)
   where
-    go : Dec (z < 32) → z < 32
+    go : Dec (z < capacity) → z < capacity
     go (yes h) = h
     go (no h) = absurd (omega (arith, List·getD-eq-default T 0 {n = z} (omega (arith, h))))
 
 -- ---- a table that tells the partners of objects, as one of codes and as one of pairs
 module _ (W : List ℕ) (src host : ℕ) (bh : Block W host) (T : List ℕ) where
   module _ (mp : Mapped W src host T) (z k : ℕ) (e : getD T z 0 ≡ k + 1) where
-    from-low : z < 32
+    from-low : z < capacity
     from-low = table-low T z k (mp .table) e
 
     -- no object unfolds as a code that is none
-    to-object : k < 192
-    to-object = go (decLt k 192)
+    to-object : k < firstLeaf
+    to-object = go (decLt k firstLeaf)
       where
-        go : Dec (k < 192) → k < 192
+        go : Dec (k < firstLeaf) → k < firstLeaf
         go (yes h) = h
         go (no h) =
             absurd (omega (
@@ -54,7 +55,7 @@ module _ (W : List ℕ) (src host : ℕ) (bh : Block W host) (T : List ℕ) wher
               from-low,
               code-ref k,
               code-ref z,
-              leaf-codes (objectsIn W host) (objectsIn W src) (refOf k) (refOf z) (in-larger (countIn W host) 192 (refOf k) (omega (arith, bh .small)) (mp .each z k e .low))
+              leaf-codes (objectsIn W host) (objectsIn W src) (refOf k) (refOf z) (in-larger (countIn W host) firstLeaf (refOf k) (omega (arith, bh .small)) (mp .each z k e .low))
                   (λ p. sym (mp .each z k e .same p)) (omega (arith, h, code-ref k)),
             ))
 
@@ -67,11 +68,11 @@ module _ (W : List ℕ) (src host : ℕ) (bh : Block W host) (T : List ℕ) wher
         ∙ mp .each z k e .same p
         ∙ ap (λ (r : Ref). follow (objectsIn W host) r p) (ref-object k to-object)
 
-  mapped-told : length T ≡ 32 → ((z k : ℕ) → getD T z 0 ≡ k + 1 → k < countIn W host) → AllSame W src host T → Mapped W src host T
+  mapped-told : length T ≡ capacity → ((z k : ℕ) → getD T z 0 ≡ k + 1 → k < countIn W host) → AllSame W src host T → Mapped W src host T
   mapped-told l within al = record {
     table = l;
     each = λ z k e.
-        let from : z < 32 = table-low T z k l e in
+        let from : z < capacity = table-low T z k l e in
         let to : k < countIn W host = within z k e in
         let there : refOf k ≡ obj k = ref-object k (omega (arith, bh .small)) in
         record {
@@ -83,8 +84,8 @@ module _ (W : List ℕ) (src host : ℕ) (bh : Block W host) (T : List ℕ) wher
 
 -- ---- two objects gone over in step, with what is told already
 module _ (W : List ℕ) (src x host y : ℕ) (ib : Inside W src x) (ic : Inside W host y) (T : List ℕ) (mp : Mapped W src host T) (e : getD T x 0 ≡ 0)
-    (k : ℕ) (ek : k ≡ 32) (P : List ℕ) (cp : Carried T 0 (replicate k 0) 0 32 P) where
-  zeros : length (replicate {A = ℕ} k 0) ≡ 32
+    (k : ℕ) (ek : k ≡ capacity) (P : List ℕ) (cp : Carried T 0 (replicate k 0) 0 capacity P) where
+  zeros : length (replicate {A = ℕ} k 0) ≡ capacity
   zeros = length-replicate k 0 ∙ ek
 
   partners : P ≡ T
@@ -115,7 +116,7 @@ module _ (W : List ℕ) (src x host y : ℕ) (ib : Inside W src x) (ic : Inside 
         go true h = absurd (false≢true h)
         go false h = refl
 
-    pub tell-all : not r ≡ false → (T′ : List ℕ) → Carried P2 0 T 0 32 T′ → Telling W src x host y T T′ true
+    pub tell-all : not r ≡ false → (T′ : List ℕ) → Carried P2 0 T 0 capacity T′ → Telling W src x host y T T′ true
     tell-all n T′ c = record {
       yes = λ _. mapped-told W src host (ic .block) T′ long (λ z j q. step .within yes z j (back z j q)) (record { same = λ z j q. step .yes yes .same z j (back z j q) });
       here = λ _. copied-at P2 T T′ c x small ∙ step .pairs yes x y (getD-set-same T x (y + 1) 0 (omega (arith, small, mp .table)));
@@ -131,17 +132,17 @@ module _ (W : List ℕ) (src x host y : ℕ) (ib : Inside W src x) (ic : Inside 
         yes : r ≡ true
         yes = go r n
 
-        small : x < 32
+        small : x < capacity
         small = omega (arith, ib .low, ib .block .small)
 
-        long : length T′ ≡ 32
+        long : length T′ ≡ capacity
         long = c .same ∙ mp .table
 
         back : (z j : ℕ) → getD T′ z 0 ≡ j + 1 → getD P2 z 0 ≡ j + 1
         back z j q = sym (copied-at P2 T T′ c z (table-low T′ z j long q)) ∙ q
 
 -- ---- the objects of the host gone over
-pub seek-few : (W : List ℕ) (host : ℕ) → Block W host → getD W (234 * host + 192) 0 ≤ 32
+pub seek-few : (W : List ℕ) (host : ℕ) → Block W host → getD W (blockSize * host + countAt) 0 ≤ capacity
 unfolding countIn
 seek-few W host bh = bh .small
 
@@ -153,7 +154,7 @@ module _ (W : List ℕ) (src x host : ℕ) (T₀ : List ℕ) where
     as-before : (z : ℕ) → getD T z 0 ≡ getD T₀ z 0
     as-before z = ap (λ (A : List ℕ). getD A z 0) (sf .same)
 
-    pub seek-inside : Block W host → y < getD W (234 * host + 192) 0 → Inside W host y
+    pub seek-inside : Block W host → y < getD W (blockSize * host + countAt) 0 → Inside W host y
     unfolding countIn
     seek-inside bh h = record { block = bh; low = h }
 
@@ -168,7 +169,7 @@ module _ (W : List ℕ) (src x host : ℕ) (T₀ : List ℕ) where
         go k h s (yes z) = d (subst (λ (j : ℕ). Same (objectsIn W src) (obj x) (objectsIn W host) (obj j)) z s)
         go k h s (no z) = sf .none .none k (omega (arith, z)) s
 
-    pub seek-unlike : Inside W src x → Block W host → y < getD W (234 * host + 192) 0 → (r : Bool) → r ≡ alikeAt W (234 * src + 6 * x) (234 * host + 6 * y) → r ≡ false → (A : List ℕ) → A ≡ T
+    pub seek-unlike : Inside W src x → Block W host → y < getD W (blockSize * host + countAt) 0 → (r : Bool) → r ≡ alikeAt W (blockSize * src + objectSize * x) (blockSize * host + objectSize * y) → r ≡ false → (A : List ℕ) → A ≡ T
         → SoughtTo W src x host T₀ A (y + 1)
     seek-unlike ib bh h r l z = more (λ s. alike-no W _ _ r l z (same-alike W src x host y ib (seek-inside bh h) s))
 
@@ -193,7 +194,7 @@ module _ (W : List ℕ) (src x host : ℕ) (T₀ : List ℕ) where
               let u : getD T k 0 ≡ (getD T k 0 - 1) + 1 = omega (arith, d, as-before k) in
               omega (arith, o .kept z k (getD T k 0 - 1) u)
 
-      all-gone : getD W (234 * host + 192) 0 ≤ y → Fresh (objectsIn W src) (objectsIn W host) (countIn W host) x
+      all-gone : getD W (blockSize * host + countAt) 0 ≤ y → Fresh (objectsIn W src) (objectsIn W host) (countIn W host) x
       unfolding countIn
       all-gone h = record { none = λ k l. sf .none .none k (omega (arith, h)) }
 
@@ -202,7 +203,7 @@ module _ (W : List ℕ) (src x host : ℕ) (T₀ : List ℕ) where
         seek-room = omega (arith, ib .low, ib .block .small, so .table)
 
         -- none of the host's is the same: it is marked
-        pub seek-new : getD W (234 * host + 192) 0 ≤ y → Sought W src x host T₀ F T (set F x 1)
+        pub seek-new : getD W (blockSize * host + countAt) 0 ≤ y → Sought W src x host T₀ F T (set F x 1)
         seek-new h = record {
           sorted = record {
             mapped = seek-mapped;

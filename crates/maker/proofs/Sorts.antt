@@ -14,11 +14,13 @@ use lib.Seq.{getD-set-same, getD-set-other}
 use borrow.Author.Tests.{lt-ltb, le-ltb, eq-eqb, ne-eqb, eqb-true}
 use Rattle.cofj.specs.Values.{Ref, refsAt}
 use Rattle.cofj.specs.Unfolding.{InRange}
+use Rattle.canon.specs.Figures.{objectSize, headSize, codeCount, firstLeaf, capacity, countAt, blockSize, threeBytes}
 use Rattle.canon.specs.Layout.{refOf, nodeIn, Packed, countIn, objectsIn, Block, Inside}
 use Rattle.canon.proofs.Numbers.{number-met, number-not}
 use Rattle.canon.proofs.Nodes.{length-nodes, at-nodes, code-low}
 use Rattle.values.proofs.Tests.{not-false}
 use Rattle.values.proofs.Trees.{leaf-same}
+use Rattle.maker.specs.Figures.{notTold}
 use Rattle.maker.specs.Adding.{codesOf, objectOf, Missed, Found}
 use Rattle.maker.specs.Merging.{CodeAs, Mapped}
 use Rattle.maker.specs.Sorting.{Fresh, Sorted, Decided, codeAt, turnIn, TurnedAs, Listed, Ground, Sorting, Further, Onward, Settling, ByFields, SortedFrom, OpenIs, NewCode, NewIs, LeadsNew, LeadsIs, CodesTurned, TurnedIs}
@@ -42,13 +44,13 @@ module _ (T F : List ℕ) (x : ℕ) where
 
 -- ---- a code of a new object
 module _ (F : List ℕ) (c : ℕ) where
-  pub new-read : (c < 192 → c < length F) → c < 192 → c < length F
+  pub new-read : (c < firstLeaf → c < length F) → c < firstLeaf → c < length F
   new-read h = h
 
-  pub new-leaf : 192 ≤ c → NewIs F c false
+  pub new-leaf : firstLeaf ≤ c → NewIs F c false
   new-leaf h = record { yes = λ e. absurd (false≢true e) }
 
-  pub new-marked : c < 192 → NewIs F c (not (eqb (getD F c 0) 0))
+  pub new-marked : c < firstLeaf → NewIs F c (not (eqb (getD F c 0) 0))
   new-marked h = record { yes = λ e. record { object = h; marked = λ z. absurd (go z e) } }
     where
       go : getD F c 0 ≡ 0 → not (eqb (getD F c 0) 0) ≡ true → ⊥
@@ -56,15 +58,15 @@ module _ (F : List ℕ) (c : ℕ) where
 
 module _ (W : List ℕ) (src x : ℕ) (ib : Inside W src x) where
   -- a code that is an object's has a place in the tables
-  pub code-small : (M : List ℕ) → length M ≡ 32 → (k : ℕ) → k < 4 → getD W (234 * src + 6 * x + 2 + k) 0 < 192 → getD W (234 * src + 6 * x + 2 + k) 0 < length M
+  pub code-small : (M : List ℕ) → length M ≡ capacity → (k : ℕ) → k < codeCount → getD W (blockSize * src + objectSize * x + headSize + k) 0 < firstLeaf → getD W (blockSize * src + objectSize * x + headSize + k) 0 < length M
   unfolding objectsIn
-  code-small M e k h l = omega (arith, code-low W (234 * src) (countIn W src) (ib .block .packed) x (ib .low) (ib .block .whole) k h l, ib .block .small)
+  code-small M e k h l = omega (arith, code-low W (blockSize * src) (countIn W src) (ib .block .packed) x (ib .low) (ib .block .whole) k h l, ib .block .small)
 
-  pub code-small-before : (M : List ℕ) → length M ≡ 32 → (k : ℕ) → 0 < k → k ≤ 4 → getD W (234 * src + 6 * x + 2 + (k - 1)) 0 < 192 → getD W (234 * src + 6 * x + 2 + (k - 1)) 0 < length M
+  pub code-small-before : (M : List ℕ) → length M ≡ capacity → (k : ℕ) → 0 < k → k ≤ codeCount → getD W (blockSize * src + objectSize * x + headSize + (k - 1)) 0 < firstLeaf → getD W (blockSize * src + objectSize * x + headSize + (k - 1)) 0 < length M
   code-small-before M e k h u = code-small M e (k - 1) (omega arith)
 
 module _ (W : List ℕ) (src x : ℕ) (F : List ℕ) where
-  pub leads-yes : (k : ℕ) (b : Bool) → k < 4 → NewIs F (codeAt W src x k) b → b ≡ true → LeadsIs W src x F true
+  pub leads-yes : (k : ℕ) (b : Bool) → k < codeCount → NewIs F (codeAt W src x k) b → b ≡ true → LeadsIs W src x F true
   leads-yes k b h n e = record { yes = λ _. record { field = k; low = h; new = n .yes e } }
 
   pub leads-no : LeadsIs W src x F false
@@ -72,23 +74,23 @@ module _ (W : List ℕ) (src x : ℕ) (F : List ℕ) where
 
 -- ---- codes turned
 module _ (T : List ℕ) (c : ℕ) where
-  pub turn-leaf : 192 ≤ c → c ≡ turnIn T c
+  pub turn-leaf : firstLeaf ≤ c → c ≡ turnIn T c
   unfolding turnIn
-  turn-leaf h = rw (le-ltb c 192 h)
+  turn-leaf h = rw (le-ltb c firstLeaf h)
 
-  pub turn-none : c < 192 → getD T c 0 ≡ 0 → 32 ≡ turnIn T c
+  pub turn-none : c < firstLeaf → getD T c 0 ≡ 0 → notTold ≡ turnIn T c
   unfolding turnIn
-  turn-none h e = rw (lt-ltb c 192 h) (number-not T 32 c e)
+  turn-none h e = rw (lt-ltb c firstLeaf h) (number-not T notTold c e)
 
-  pub turn-told : c < 192 → ((getD T c 0 ≡ 0) → ⊥) → getD T c 0 - 1 ≡ turnIn T c
+  pub turn-told : c < firstLeaf → ((getD T c 0 ≡ 0) → ⊥) → getD T c 0 - 1 ≡ turnIn T c
   unfolding turnIn
-  turn-told h d = rw (lt-ltb c 192 h) (number-met T 32 c d)
+  turn-told h d = rw (lt-ltb c firstLeaf h) (number-met T notTold c d)
 
 module _ (W : List ℕ) (src host : ℕ) (T : List ℕ) (mp : Mapped W src host T) where
-  turn-code : (c : ℕ) → ((turnIn T c ≡ 32) → ⊥) → CodeAs W src c host (turnIn T c)
-  turn-code c d = go (decLt c 192) (ℕ-discrete (getD T c 0) 0)
+  turn-code : (c : ℕ) → ((turnIn T c ≡ notTold) → ⊥) → CodeAs W src c host (turnIn T c)
+  turn-code c d = go (decLt c firstLeaf) (ℕ-discrete (getD T c 0) 0)
     where
-      go : Dec (c < 192) → Dec (getD T c 0 ≡ 0) → CodeAs W src c host (turnIn T c)
+      go : Dec (c < firstLeaf) → Dec (getD T c 0 ≡ 0) → CodeAs W src c host (turnIn T c)
       go (yes h) (yes z) = absurd (d (sym (turn-none T c h z)))
       go (yes h) (no n) = rw (← turn-told T c h n) (mp .each c (getD T c 0 - 1) (omega (arith, n)))
       go (no h) z =
@@ -98,7 +100,7 @@ module _ (W : List ℕ) (src host : ℕ) (T : List ℕ) (mp : Mapped W src host 
             same = leaf-same (objectsIn W src) (objectsIn W host) (refOf c) (leaf-low 0 c (omega (arith, h)));
           })
 
-  pub turned-by : (x w : ℕ) → CodesTurned W src x T 0 w → TurnedAs W src x host (objectOf (getD W (234 * src + 6 * x) 0) (getD W (234 * src + 6 * x + 1) 0) w)
+  pub turned-by : (x w : ℕ) → CodesTurned W src x T 0 w → TurnedAs W src x host (objectOf (getD W (blockSize * src + objectSize * x) 0) (getD W (blockSize * src + objectSize * x + 1) 0) w)
   turned-by x w t = record {
     cls = object-class _ _ w;
     count = object-count _ _ w;
@@ -115,14 +117,14 @@ module _ (W : List ℕ) (src x : ℕ) (T : List ℕ) where
   pub codes-none : CodesTurned W src x T 4 0
   codes-none = record { code = λ j h. absurd (omega arith); told = λ j h. absurd (omega arith) }
 
-  pub codes-more : (k w r : ℕ) → CodesTurned W src x T k w → 0 < k → r < 256 → r ≡ turnIn T (codeAt W src x (k - 1)) → ((r ≡ 32) → ⊥) → CodesTurned W src x T (k - 1) (r + 256 * (w % 16777216))
+  pub codes-more : (k w r : ℕ) → CodesTurned W src x T k w → 0 < k → r < 256 → r ≡ turnIn T (codeAt W src x (k - 1)) → ((r ≡ notTold) → ⊥) → CodesTurned W src x T (k - 1) (r + 256 * (w % threeBytes))
   codes-more k w r c h l e d = record { code = code; told = told }
     where
-      code : (j : ℕ) → k - 1 + j < 4 → getD (codesOf (r + 256 * (w % 16777216))) j 0 ≡ turnIn T (codeAt W src x (k - 1 + j))
+      code : (j : ℕ) → k - 1 + j < codeCount → getD (codesOf (r + 256 * (w % threeBytes))) j 0 ≡ turnIn T (codeAt W src x (k - 1 + j))
       code zero u = let z : k - 1 + 0 ≡ k - 1 = omega arith in rw z (first-code r w l ∙ e)
       code (suc j) u = let z : k - 1 + suc j ≡ k + j = omega arith in rw z (next-code r w l j (omega arith) ∙ c .code j (omega arith))
 
-      told : (j : ℕ) → k - 1 + j < 4 → (turnIn T (codeAt W src x (k - 1 + j)) ≡ 32) → ⊥
+      told : (j : ℕ) → k - 1 + j < codeCount → (turnIn T (codeAt W src x (k - 1 + j)) ≡ notTold) → ⊥
       told zero u = let z : k - 1 + 0 ≡ k - 1 = omega arith in rw (z, ← e) d
       told (suc j) u = let z : k - 1 + suc j ≡ k + j = omega arith in rw z (c .told j (omega arith))
 
@@ -154,31 +156,31 @@ module _ (W : List ℕ) (src host : ℕ) (L : List ℕ) (m : ℕ) (T F : List �
   pub sorting-host : Block W host
   sorting-host = s .ground .target
 
-  pub host-count : getD W (234 * host + 192) 0 ≡ countIn W host
+  pub host-count : getD W (blockSize * host + countAt) 0 ≡ countIn W host
   unfolding countIn
   host-count = refl
 
-  pub found-small : (k : ℕ) → k < getD W (234 * host + 192) 0 → k + 1 < 256
+  pub found-small : (k : ℕ) → k < getD W (blockSize * host + countAt) 0 → k + 1 < 256
   unfolding countIn
   found-small k h = omega (arith, s .ground .target .small)
 
-  pub sorting-told : length T ≡ 32
+  pub sorting-told : length T ≡ capacity
   sorting-told = s .sorted .mapped .table
 
-  pub sorting-marked : length F ≡ 32
+  pub sorting-marked : length F ≡ capacity
   sorting-marked = s .sorted .table
 
   module _ (x : ℕ) (li : Listed L m x) where
     pub listed-inside : Inside W src x
     listed-inside = subst (Inside W src) (li .2) (place-inside (li .0) (li .1))
 
-    pub listed-small : x < 32
+    pub listed-small : x < capacity
     listed-small = omega (arith, listed-inside .low, s .ground .source .small)
 
-    pub listed-room : 234 * src + 6 * x < length W
+    pub listed-room : blockSize * src + objectSize * x < length W
     listed-room = omega (arith, listed-small, s .ground .source .room)
 
-    pub listed-room-1 : 234 * src + 6 * x + 1 < length W
+    pub listed-room-1 : blockSize * src + objectSize * x + 1 < length W
     listed-room-1 = omega (arith, listed-small, s .ground .source .room)
 
     pub listed-told : x < length T
@@ -267,7 +269,7 @@ module _ (W : List ℕ) (src host : ℕ) (L : List ℕ) (m : ℕ) (T F : List �
         (field-ref W src x listed-inside (l .field) (l .low) (l .new .object)) (s .sorted .fresh (codeAt W src x (l .field)) (l .new .marked))
       where
         inner : (y f : ℕ) (r : Ref) → y < countIn W host → getElem? (refsAt (objectsIn W host) y) f ≡ some r → InRange (countIn W host) r
-        inner y f r h e = subst (λ (k : ℕ). InRange k r) (length-nodes W (234 * host) (countIn W host)) (s .ground .target .whole .inner y f r e)
+        inner y f r h e = subst (λ (k : ℕ). InRange k r) (length-nodes W (blockSize * host) (countIn W host)) (s .ground .target .whole .inner y f r e)
 
     module _ (b : Bool) (lb : LeadsIs W src x F b) (eb : b ≡ true) where
       pub lead-onward : Onward W src host L m T F T (set F x 1)
@@ -284,24 +286,24 @@ module _ (W : List ℕ) (src host : ℕ) (L : List ℕ) (m : ℕ) (T F : List �
       tu = subst (TurnedIs W src x T) eo to
 
       abbrev turned : List ℕ
-      turned = objectOf (getD W (234 * src + 6 * x) 0) (getD W (234 * src + 6 * x + 1) 0) w
+      turned = objectOf (getD W (blockSize * src + objectSize * x) 0) (getD W (blockSize * src + objectSize * x + 1) 0) w
 
       turned-as : TurnedAs W src x host turned
       turned-as = turned-by W src host T (s .sorted .mapped) x w tu
 
-      pub fields-packed : Packed (objectOf (getD W (234 * src + 6 * x) 0) (getD W (234 * src + 6 * x + 1) 0) w) 0
+      pub fields-packed : Packed (objectOf (getD W (blockSize * src + objectSize * x) 0) (getD W (blockSize * src + objectSize * x + 1) 0) w) 0
       fields-packed = turned-packed W src x host turned listed-inside (s .ground .target) turned-as
 
-      module _ (k : ℕ) (fd : Found W host (getD W (234 * host + 192) 0) turned k) where
-        pub fields-found : k < getD W (234 * host + 192) 0 → ByFields W src host L m x T F (set T x (k + 1)) F true
+      module _ (k : ℕ) (fd : Found W host (getD W (blockSize * host + countAt) 0) turned k) where
+        pub fields-found : k < getD W (blockSize * host + countAt) 0 → ByFields W src host L m x T F (set T x (k + 1)) F true
         unfolding countIn objectsIn
         fields-found h =
             let ca : CodeAs W src x host k =
             turned-same W src x host turned listed-inside (s .ground .target) turned-as k
-            (record { low = h; is = at-nodes W (234 * host) (getD W (234 * host + 192) 0) k h ∙ fd .hit h }) in
+            (record { low = h; is = at-nodes W (blockSize * host) (getD W (blockSize * host + countAt) 0) k h ∙ fd .hit h }) in
             record { onward = tell-one k ca; here = λ _. tell-here k ca }
 
-        pub fields-missed : getD W (234 * host + 192) 0 ≤ k → ByFields W src host L m x T F T (set F x 1) true
+        pub fields-missed : getD W (blockSize * host + countAt) 0 ≤ k → ByFields W src host L m x T F T (set F x 1) true
         unfolding countIn
         fields-missed h = record { onward = mark-new (turned-fresh W src x host turned listed-inside (s .ground .target) turned-as (fd .miss h)); here = λ _. mark-here }
 
@@ -363,7 +365,7 @@ module _ (W : List ℕ) (src host : ℕ) (L : List ℕ) (m : ℕ) (T F0 F : List
   pub onward-inside : Inside W src (getD L (q - 1) 0)
   onward-inside = listed-inside W src host L m T F (o .sorting) (getD L (q - 1) 0) at-place
 
-  pub onward-table : length F ≡ 32
+  pub onward-table : length F ≡ capacity
   onward-table = o .sorting .sorted .table
 
   pub onward-lead : (b : Bool) → LeadsIs W src (getD L (q - 1) 0) F b → b ≡ true → Onward W src host L m T F0 T (set F (getD L (q - 1) 0) 1)
@@ -388,13 +390,13 @@ module _ (W : List ℕ) (src host : ℕ) (L : List ℕ) (m : ℕ) (T F : List �
   pub choose-fits : getD L (q - 1) 0 < 18446744073709551616
   choose-fits = omega (arith, listed-small W src host L m T F s (getD L (q - 1) 0) choose-place)
 
-  pub choose-mul : 6 * getD L (q - 1) 0 < 18446744073709551616
+  pub choose-mul : objectSize * getD L (q - 1) 0 < 18446744073709551616
   choose-mul = omega (arith, listed-small W src host L m T F s (getD L (q - 1) 0) choose-place)
 
-  pub choose-add : src < 65536 → 234 * src + 6 * getD L (q - 1) 0 < 18446744073709551616
+  pub choose-add : src < 65536 → blockSize * src + objectSize * getD L (q - 1) 0 < 18446744073709551616
   choose-add l = omega (arith, listed-small W src host L m T F s (getD L (q - 1) 0) choose-place)
 
-  pub choose-room : 234 * src + 6 * getD L (q - 1) 0 < length W
+  pub choose-room : blockSize * src + objectSize * getD L (q - 1) 0 < length W
   choose-room = listed-room W src host L m T F s (getD L (q - 1) 0) choose-place
 
   pub choose-told : getD L (q - 1) 0 < length T
@@ -404,7 +406,7 @@ module _ (W : List ℕ) (src host : ℕ) (L : List ℕ) (m : ℕ) (T F : List �
   choose-marked = listed-marked W src host L m T F s (getD L (q - 1) 0) choose-place
 
 -- ---- objects counted by their classes
-pub count-small : (W : List ℕ) (host : ℕ) → Block W host → getD W (234 * host + 192) 0 ≤ 32
+pub count-small : (W : List ℕ) (host : ℕ) → Block W host → getD W (blockSize * host + countAt) 0 ≤ capacity
 unfolding countIn
 count-small W host bk = bk .small
 
@@ -412,12 +414,12 @@ pub count-none : (C : List ℕ) → ((k : ℕ) → getD C k 0 ≡ 0) → (k : �
 count-none C z k = omega (arith, z k)
 
 module _ (C : List ℕ) (y : ℕ) (most : (k : ℕ) → getD C k 0 ≤ y) where
-  pub count-room : (t k : ℕ) → y < t → t ≤ 32 → getD C k 0 + 1 < 256
+  pub count-room : (t k : ℕ) → y < t → t ≤ capacity → getD C k 0 + 1 < 256
   count-room t k h l = omega (arith, most k)
 
   pub count-more : length C ≡ 64 → (W : List ℕ) (host j : ℕ)
-      → getD (set C (getD W (234 * host + 6 * y) 0 % 64) (getD C (getD W (234 * host + 6 * y) 0 % 64) 0 + 1)) j 0 ≤ y + 1
-  count-more l W host j = go (getD W (234 * host + 6 * y) 0 % 64) (omega arith) (ℕ-discrete j (getD W (234 * host + 6 * y) 0 % 64))
+      → getD (set C (getD W (blockSize * host + objectSize * y) 0 % 64) (getD C (getD W (blockSize * host + objectSize * y) 0 % 64) 0 + 1)) j 0 ≤ y + 1
+  count-more l W host j = go (getD W (blockSize * host + objectSize * y) 0 % 64) (omega arith) (ℕ-discrete j (getD W (blockSize * host + objectSize * y) 0 % 64))
     where
       go : (k : ℕ) → k < length C → Dec (j ≡ k) → getD (set C k (getD C k 0 + 1)) j 0 ≤ y + 1
       go k h (yes e) = rw (e, getD-set-same C k (getD C k 0 + 1) 0 h) (omega (arith, most k))

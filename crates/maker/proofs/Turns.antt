@@ -12,6 +12,7 @@ use Rattle.cofj.specs.Partial.{_>>=_}
 use Rattle.cofj.specs.Values.{Ref, obj, mark, undet, Node, node, nodeAt, refsAt}
 use Rattle.cofj.specs.Unfolding.{object, follow, Same, InRange}
 use Rattle.cofj.proofs.Trees.{Pointwise, same-cls, same-count, same-child}
+use Rattle.canon.specs.Figures.{objectSize, headSize, codeCount, firstLeaf, undeterminedCode, firstMark, blockSize, spare}
 use Rattle.canon.specs.Layout.{refOf, codeOf, nodeIn, Packed, countIn, objectsIn, Block, Inside}
 use Rattle.canon.proofs.Nodes.{ref-object, ref-undet, ref-mark, some-at, at-some, length-nodes, at-nodes, code-is, count-is}
 use Rattle.canon.proofs.Walks.{four, four-at}
@@ -29,12 +30,12 @@ zero-at k x = go (decLt x k)
     go (no l) = List·getD-eq-default (replicate k 0) 0 {n = x} (omega (arith, l, length-replicate {A = ℕ} k 0))
 
 -- ---- codes that are no objects
-pub leaf-low : (n c : ℕ) → 192 ≤ c → InRange n (refOf c)
-leaf-low n c h = go (ℕ-discrete c 192)
+pub leaf-low : (n c : ℕ) → firstLeaf ≤ c → InRange n (refOf c)
+leaf-low n c h = go (ℕ-discrete c undeterminedCode)
   where
-    go : Dec (c ≡ 192) → InRange n (refOf c)
+    go : Dec (c ≡ undeterminedCode) → InRange n (refOf c)
     go (yes e) = subst (InRange n) (sym (ap refOf e ∙ ref-undet)) tt
-    go (no d) = let z : c ≡ 193 + (c - 193) = omega (arith, d) in subst (InRange n) (sym (ap refOf z ∙ ref-mark (c - 193))) tt
+    go (no d) = let z : c ≡ firstMark + (c - firstMark) = omega (arith, d) in subst (InRange n) (sym (ap refOf z ∙ ref-mark (c - firstMark))) tt
 
 -- ---- an object with the same codes unfolds to the same tree
 refs-follow : (ns ms : List Node) (rs ss : List Ref) → Pointwise (λ r s. Same ns r ms s) rs ss → (f : ℕ) (p : List ℕ) → getElem? rs f >>= (λ s. follow ns s p) ≡ getElem? ss f >>= (λ s. follow ms s p)
@@ -78,25 +79,25 @@ four-all P a b c d pa pb pc pd (suc (suc zero)) r e = subst P (let z : c ≡ r =
 four-all P a b c d pa pb pc pd (suc (suc (suc zero))) r e = subst P (let z : d ≡ r = cc in z) pd
 four-all P a b c d pa pb pc pd (suc (suc (suc (suc f)))) r e = absurd (Option·none-ne-some r e)
 
-pub low-refs : (T : List ℕ) (n : ℕ) → ((j : ℕ) → j < 4 → InRange n (refOf (getD T (2 + j) 0))) → (f : ℕ) (r : Ref) → getElem? (nodeIn T 0 .refs) f ≡ some r → InRange n r
+pub low-refs : (T : List ℕ) (n : ℕ) → ((j : ℕ) → j < codeCount → InRange n (refOf (getD T (2 + j) 0))) → (f : ℕ) (r : Ref) → getElem? (nodeIn T 0 .refs) f ≡ some r → InRange n r
 unfolding nodeIn
 low-refs T n h = take-all (InRange n) (getD T 1 0) _ (four-all (InRange n) _ _ _ _ (h 0 (omega arith)) (h 1 (omega arith)) (h 2 (omega arith)) (h 3 (omega arith)))
 
 -- ---- the codes of an object, as references
 module _ (W : List ℕ) (src x : ℕ) (ib : Inside W src x) where
-  code-of-ref : (f : ℕ) → f < 4 → codeAt W src x f ≡ codeOf (getD (refsAt (objectsIn W src) x) f undet)
+  code-of-ref : (f : ℕ) → f < codeCount → codeAt W src x f ≡ codeOf (getD (refsAt (objectsIn W src) x) f undet)
   unfolding objectsIn
-  code-of-ref f h = code-is W (234 * src) (countIn W src) (ib .block .packed) x (ib .low) f h
+  code-of-ref f h = code-is W (blockSize * src) (countIn W src) (ib .block .packed) x (ib .low) f h
 
-  count-of : getD W (234 * src + 6 * x + 1) 0 ≡ length (refsAt (objectsIn W src) x)
+  count-of : getD W (blockSize * src + objectSize * x + 1) 0 ≡ length (refsAt (objectsIn W src) x)
   unfolding objectsIn
-  count-of = count-is W (234 * src) (countIn W src) (ib .block .packed) x (ib .low)
+  count-of = count-is W (blockSize * src) (countIn W src) (ib .block .packed) x (ib .low)
 
   -- a code that is an object's
-  pub field-ref : (f : ℕ) → f < 4 → codeAt W src x f < 192 → getElem? (refsAt (objectsIn W src) x) f ≡ some (obj (codeAt W src x f))
+  pub field-ref : (f : ℕ) → f < codeCount → codeAt W src x f < firstLeaf → getElem? (refsAt (objectsIn W src) x) f ≡ some (obj (codeAt W src x f))
   field-ref f h l = go (decLt f (length (refsAt (objectsIn W src) x)))
     where
-      is : (r : Ref) → codeOf r < 192 → r ≡ obj (codeOf r)
+      is : (r : Ref) → codeOf r < firstLeaf → r ≡ obj (codeOf r)
       is (obj i) u = refl
       is (mark k) u = absurd (omega arith)
       is undet u = absurd (omega arith)
@@ -106,26 +107,26 @@ module _ (W : List ℕ) (src x : ℕ) (ib : Inside W src x) where
           some-at (refsAt (objectsIn W src) x) f u
           ∙ ap some (is (getD (refsAt (objectsIn W src) x) f undet) (omega (arith, code-of-ref f h)) ∙ ap obj (sym (code-of-ref f h)))
       go (no u) =
-          let z : codeAt W src x f ≡ 192 = code-of-ref f h ∙ ap codeOf (List·getD-eq-default (refsAt (objectsIn W src) x) undet {n = f} (omega (arith, u))) in
+          let z : codeAt W src x f ≡ undeterminedCode = code-of-ref f h ∙ ap codeOf (List·getD-eq-default (refsAt (objectsIn W src) x) undet {n = f} (omega (arith, u))) in
           absurd (omega arith)
 
-  node-of : nodeAt (objectsIn W src) x ≡ node (getD W (234 * src + 6 * x) 0) (take (getD W (234 * src + 6 * x + 1) 0) (refOf (codeAt W src x 0) ∷ refOf (codeAt W src x 1) ∷ refOf (codeAt W src x 2) ∷ refOf (codeAt W src x 3) ∷ []))
+  node-of : nodeAt (objectsIn W src) x ≡ node (getD W (blockSize * src + objectSize * x) 0) (take (getD W (blockSize * src + objectSize * x + 1) 0) (refOf (codeAt W src x 0) ∷ refOf (codeAt W src x 1) ∷ refOf (codeAt W src x 2) ∷ refOf (codeAt W src x 3) ∷ []))
   unfolding objectsIn nodeIn
   node-of =
-      let z0 : 234 * src + 6 * x + 2 + 0 ≡ 234 * src + 6 * x + 2 = omega arith in
-      let z1 : 234 * src + 6 * x + 2 + 1 ≡ 234 * src + 6 * x + 3 = omega arith in
-      let z2 : 234 * src + 6 * x + 2 + 2 ≡ 234 * src + 6 * x + 4 = omega arith in
-      let z3 : 234 * src + 6 * x + 2 + 3 ≡ 234 * src + 6 * x + 5 = omega arith in
-      at-nodes W (234 * src) (countIn W src) x (ib .low) ∙ rw (z0, z1, z2, z3)
+      let z0 : blockSize * src + objectSize * x + headSize + 0 ≡ blockSize * src + objectSize * x + 2 = omega arith in
+      let z1 : blockSize * src + objectSize * x + headSize + 1 ≡ blockSize * src + objectSize * x + 3 = omega arith in
+      let z2 : blockSize * src + objectSize * x + headSize + 2 ≡ blockSize * src + objectSize * x + 4 = omega arith in
+      let z3 : blockSize * src + objectSize * x + headSize + 3 ≡ blockSize * src + objectSize * x + 5 = omega arith in
+      at-nodes W (blockSize * src) (countIn W src) x (ib .low) ∙ rw (z0, z1, z2, z3)
 
-  ref-of : (f : ℕ) (r : Ref) → f < 4 → getElem? (refsAt (objectsIn W src) x) f ≡ some r → r ≡ refOf (codeAt W src x f)
+  ref-of : (f : ℕ) (r : Ref) → f < codeCount → getElem? (refsAt (objectsIn W src) x) f ≡ some r → r ≡ refOf (codeAt W src x f)
   ref-of f r h e =
-      let l : f < getD W (234 * src + 6 * x + 1) 0 = omega (arith, at-some (refsAt (objectsIn W src) x) f r e .1, count-of) in
+      let l : f < getD W (blockSize * src + objectSize * x + 1) 0 = omega (arith, at-some (refsAt (objectsIn W src) x) f r e .1, count-of) in
       sym (at-some (refsAt (objectsIn W src) x) f r e .0)
       ∙ ap (λ (n : Node). getD (n .refs) f undet) node-of
-      ∙ getD-take (getD W (234 * src + 6 * x + 1) 0) (refOf (codeAt W src x 0) ∷ refOf (codeAt W src x 1) ∷ refOf (codeAt W src x 2) ∷ refOf (codeAt W src x 3) ∷ []) f undet l ∙ pick f h
+      ∙ getD-take (getD W (blockSize * src + objectSize * x + 1) 0) (refOf (codeAt W src x 0) ∷ refOf (codeAt W src x 1) ∷ refOf (codeAt W src x 2) ∷ refOf (codeAt W src x 3) ∷ []) f undet l ∙ pick f h
     where
-      pick : (g : ℕ) → g < 4 → getD (refOf (codeAt W src x 0) ∷ refOf (codeAt W src x 1) ∷ refOf (codeAt W src x 2) ∷ refOf (codeAt W src x 3) ∷ []) g undet ≡ refOf (codeAt W src x g)
+      pick : (g : ℕ) → g < codeCount → getD (refOf (codeAt W src x 0) ∷ refOf (codeAt W src x 1) ∷ refOf (codeAt W src x 2) ∷ refOf (codeAt W src x 3) ∷ []) g undet ≡ refOf (codeAt W src x g)
       pick zero u = refl
       pick (suc zero) u = refl
       pick (suc (suc zero)) u = refl
@@ -137,12 +138,12 @@ module _ (W : List ℕ) (src x host : ℕ) (B : List ℕ) (ib : Inside W src x) 
   pub turned-packed : Packed B 0
   turned-packed = record { count = omega (arith, tu .count, ib .block .packed x (ib .low) .count); spare = spare }
     where
-      spare : (k : ℕ) → 2 + getD B (0 + 1) 0 ≤ k → k < 6 → getD B (0 + k) 0 ≡ 192
+      spare : (k : ℕ) → 2 + getD B (0 + 1) 0 ≤ k → k < objectSize → getD B (0 + k) 0 ≡ undeterminedCode
       spare k l m =
           let z : 2 + (k - 2) ≡ k = omega arith in
           let y : 0 + k ≡ k = omega arith in
-          let v : 234 * src + 6 * x + 2 + (k - 2) ≡ 234 * src + 6 * x + k = omega arith in
-          let s : codeAt W src x (k - 2) ≡ 192 = ap (λ (q : ℕ). getD W q 0) v ∙ ib .block .packed x (ib .low) .spare k (omega (arith, tu .count)) m in
+          let v : blockSize * src + objectSize * x + headSize + (k - 2) ≡ blockSize * src + objectSize * x + k = omega arith in
+          let s : codeAt W src x (k - 2) ≡ undeterminedCode = ap (λ (q : ℕ). getD W q 0) v ∙ ib .block .packed x (ib .low) .spare k (omega (arith, tu .count)) m in
           ap (λ (q : ℕ). getD B q 0) (y ∙ sym z) ∙ tu .code (k - 2) (omega arith) .leaf (omega arith) ∙ s
 
   pub turned-fits : Fits W host B
@@ -175,9 +176,9 @@ module _ (W : List ℕ) (src x host : ℕ) (B : List ℕ) (ib : Inside W src x) 
 
   size : length ns ≡ countIn W host
   unfolding objectsIn
-  size = length-nodes W (234 * host) (countIn W host)
+  size = length-nodes W (blockSize * host) (countIn W host)
 
-  count-low : getD B 1 0 ≤ 4
+  count-low : getD B 1 0 ≤ codeCount
   count-low = turned-packed .count
 
   fields : length (nodeIn B 0 .refs) ≡ getD B 1 0
@@ -188,13 +189,13 @@ module _ (W : List ℕ) (src x host : ℕ) (B : List ℕ) (ib : Inside W src x) 
   unfolding nodeIn
   ref-turned f r e =
       let l : f < getD B 1 0 = omega (arith, at-some (take (getD B 1 0) (four B 0)) f r e .1, count-low, length-take (getD B 1 0) (four B 0)) in
-      let z : 6 * 0 + 2 + f ≡ 2 + f = omega arith in
+      let z : objectSize * 0 + headSize + f ≡ 2 + f = omega arith in
       (l, sym (at-some (take (getD B 1 0) (four B 0)) f r e .0) ∙ getD-take (getD B 1 0) (four B 0) f undet l ∙ four-at B 0 f (omega (arith, count-low)) ∙ ap (λ (q : ℕ). refOf (getD B q 0)) z)
 
   module _ (y : ℕ) (l : y < countIn W host) (e : Same ps (obj x) ns (obj y)) where
     child : (f : ℕ) (r s : Ref) → getElem? (nodeIn B 0 .refs) f ≡ some r → getElem? (refsAt ns y) f ≡ some s → Same ns r ns s
     child f r s er es p =
-        let h : f < 4 = omega (arith, ref-turned f r er .0, count-low) in
+        let h : f < codeCount = omega (arith, ref-turned f r er .0, count-low) in
         let q : Ref = getD (refsAt ps x) f undet in
         let eq : getElem? (refsAt ps x) f ≡ some q = some-at (refsAt ps x) f (omega (arith, ref-turned f r er .0, tu .count, count-of W src x ib)) in
         ap (λ (u : Ref). follow ns u p) (ref-turned f r er .1) ∙ sym (tu .code f h .same p) ∙ ap (λ (u : Ref). follow ps u p) (sym (ref-of W src x ib f q h eq))
@@ -210,9 +211,9 @@ module _ (W : List ℕ) (src x host : ℕ) (B : List ℕ) (ib : Inside W src x) 
     unfolding nodeIn
     class = sym (same-cls ps ns x y e) ∙ ap (λ (n : Node). n .cls) (node-of W src x ib) ∙ sym (tu .cls)
 
-    is : nodeIn W (234 * host + 6 * y) ≡ nodeIn B 0
+    is : nodeIn W (blockSize * host + objectSize * y) ≡ nodeIn B 0
     unfolding objectsIn
-    is = sym (at-nodes W (234 * host) (countIn W host) y l) ∙ ap₂ node class refs
+    is = sym (at-nodes W (blockSize * host) (countIn W host) y l) ∙ ap₂ node class refs
 
   pub turned-fresh : Missed W host B (countIn W host) → Fresh (objectsIn W src) (objectsIn W host) (countIn W host) x
   turned-fresh ms = record { none = λ y l e. ms .none y l (is y l e) }

@@ -6,6 +6,7 @@ use mathlib.Core.List.{List, [], _∷_, map}
 use lib.Dec.{eqb}
 use lib.ListN.{getD}
 use Rattle.cofj.specs.Values.{Ref, node, Graph}
+use Rattle.canon.specs.Figures.{objectSize, firstMark, blockSize, threeBytes}
 use Rattle.canon.specs.Layout.{nodeIn, Packed, countIn, levelIn, reachIn, Outside}
 use Rattle.values.specs.declared.ValueRef.{ValueRef}
 use Rattle.values.specs.declared.ValueRef.the-variants.{Object, Mark, Undetermined}
@@ -17,7 +18,7 @@ roots gs = map (λ g. g .root) gs
 
 -- four codes that are one number, the first the lowest byte
 unfoldable pub codesOf : ℕ → List ℕ
-codesOf w = w % 256 ∷ w / 256 % 256 ∷ w / 65536 % 256 ∷ w / 16777216 ∷ []
+codesOf w = w % 256 ∷ w / 256 % 256 ∷ w / 65536 % 256 ∷ w / threeBytes ∷ []
 
 -- the six bytes of the object of class c with n fields and these codes
 unfoldable pub objectOf : ℕ → ℕ → ℕ → List ℕ
@@ -34,11 +35,11 @@ pub record RootCodes (gs : List Graph) (n w : ℕ) : Type 0 where
 
 -- none of the first k objects of block b is the object in T
 pub record Missed (W : List ℕ) (b : ℕ) (T : List ℕ) (k : ℕ) : Type 0 where
-  pub none : (j : ℕ) → j < k → nodeIn W (234 * b + 6 * j) ≡ nodeIn T 0 → ⊥
+  pub none : (j : ℕ) → j < k → nodeIn W (blockSize * b + objectSize * j) ≡ nodeIn T 0 → ⊥
 
 -- the place of the object in T among t of block b, or t
 pub record Found (W : List ℕ) (b t : ℕ) (T : List ℕ) (k : ℕ) : Type 0 where
-  pub hit : k < t → nodeIn W (234 * b + 6 * k) ≡ nodeIn T 0
+  pub hit : k < t → nodeIn W (blockSize * b + objectSize * k) ≡ nodeIn T 0
   pub miss : t ≤ k → Missed W b T t
 
 -- block dst has no objects; the bytes outside are W's
@@ -52,17 +53,17 @@ pub record Appended (W : List ℕ) (dst t : ℕ) (T : List ℕ) (l : ℕ) (D : L
   pub count : countIn D dst ≡ t + 1
   pub level : levelIn D dst ≡ l
   pub reach : reachIn D dst ≡ t
-  pub old : (q : ℕ) → q < 6 * t → getD D (234 * dst + q) 0 ≡ getD W (234 * dst + q) 0
-  pub top : (k : ℕ) → k < 6 → getD D (234 * dst + 6 * t + k) 0 ≡ getD T k 0
+  pub old : (q : ℕ) → q < objectSize * t → getD D (blockSize * dst + q) 0 ≡ getD W (blockSize * dst + q) 0
+  pub top : (k : ℕ) → k < objectSize → getD D (blockSize * dst + objectSize * t + k) 0 ≡ getD T k 0
   pub outside : Outside dst W D
 
 -- t objects of block b and then the one in T, in block dst
 pub record Added (W : List ℕ) (b t : ℕ) (T : List ℕ) (dst : ℕ) (D : List ℕ) : Type 0 where
   pub count : countIn D dst ≡ t + 1
   pub reach : reachIn D dst ≡ t
-  pub old : (q : ℕ) → q < 6 * t → getD D (234 * dst + q) 0 ≡ getD W (234 * b + q) 0
-  pub top : (k : ℕ) → k < 6 → getD D (234 * dst + 6 * t + k) 0 ≡ getD T k 0
-  pub level : (q : ℕ) → q < 6 * (t + 1) → getD D (234 * dst + q) 0 < 193 + levelIn D dst
+  pub old : (q : ℕ) → q < objectSize * t → getD D (blockSize * dst + q) 0 ≡ getD W (blockSize * b + q) 0
+  pub top : (k : ℕ) → k < objectSize → getD D (blockSize * dst + objectSize * t + k) 0 ≡ getD T k 0
+  pub level : (q : ℕ) → q < objectSize * (t + 1) → getD D (blockSize * dst + q) 0 < firstMark + levelIn D dst
   pub outside : Outside dst W D
 
 unfoldable pub isObject : ValueRef → Bool

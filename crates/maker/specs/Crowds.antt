@@ -5,6 +5,7 @@ use mathlib.Core.List.{List, _++_}
 use Rattle.cofj.specs.Values.{Node, Graph, obj}
 use Rattle.cofj.specs.Unfolding.{follow, Same}
 use Rattle.canon.specs.Layout.{countIn, objectsIn}
+use Rattle.maker.specs.Figures.{tooMany}
 
 -- object x of ns stands in the value g, at the end of a path from its root
 pub record In (ns : List Node) (x : ℕ) (g : Graph) : Type 0 where
@@ -24,5 +25,5 @@ BlockIn W b g = (y : ℕ) → y < countIn W b → In (objectsIn W b) y g
 pub record Crowd (g : Graph) : Type 0 where
   pub list : ℕ → List Node
   pub at : ℕ → ℕ
-  pub inside : (k : ℕ) → k < 33 → In (list k) (at k) g
-  pub apart : (k l : ℕ) → k < 33 → l < 33 → Same (list k) (obj (at k)) (list l) (obj (at l)) → k ≡ l
+  pub inside : (k : ℕ) → k < tooMany → In (list k) (at k) g
+  pub apart : (k l : ℕ) → k < tooMany → l < tooMany → Same (list k) (obj (at k)) (list l) (obj (at l)) → k ≡ l

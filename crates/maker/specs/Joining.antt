@@ -9,15 +9,17 @@ use lib.Dec.{ltb, eqb}
 use lib.ListN.{length, getD}
 use Rattle.cofj.specs.Values.{obj}
 use Rattle.cofj.specs.Unfolding.{Same}
+use Rattle.canon.specs.Figures.{objectSize, firstMark, capacity, countAt, blockSize}
 use Rattle.canon.specs.Layout.{countIn, levelIn, reachIn, objectsIn, Block, Outside}
 use Rattle.canon.specs.Tables.{copied}
 use Rattle.canon.specs.Numbers.{numberIn}
+use Rattle.maker.specs.Figures.{notTold, tooMany}
 use Rattle.maker.specs.Merging.{Grown, Mapped}
 use Rattle.maker.specs.Sorting.{Sorted, Settled, Decided}
 
 -- the table of told objects as canon has one for turning codes: k for object k, 32 for one that is not told
 unfoldable pub numbersOf : List ℕ → List ℕ
-numbersOf T = map (λ k. cond (eqb k 0) 32 (k - 1)) T
+numbersOf T = map (λ k. cond (eqb k 0) notTold (k - 1)) T
 
 -- ---- the numbers
 -- object x is new
@@ -48,38 +50,38 @@ pub record Counted (n t : ℕ) (T F T′ : List ℕ) (m : ℕ) : Type 0 where
 -- more new objects than there is room for: those with the numbers from t to 32
 pub record Overfull (n t : ℕ) (F : List ℕ) : Type 0 where
   pub from : ℕ → ℕ
-  pub low : (k : ℕ) → t ≤ k → k < 33 → from k < n
-  pub new : (k : ℕ) → t ≤ k → k < 33 → New F (from k)
-  pub one : (k l : ℕ) → t ≤ k → k < 33 → t ≤ l → l < 33 → from k ≡ from l → k ≡ l
+  pub low : (k : ℕ) → t ≤ k → k < tooMany → from k < n
+  pub new : (k : ℕ) → t ≤ k → k < tooMany → New F (from k)
+  pub one : (k l : ℕ) → t ≤ k → k < tooMany → t ≤ l → l < tooMany → from k ≡ from l → k ≡ l
 
 -- if there is room; if not, they are too many
 pub record Fitted (n t : ℕ) (T F T′ : List ℕ) (m : ℕ) : Type 0 where
-  pub counted : m ≤ 32 → Counted n t T F T′ m
-  pub over : 32 < m → Overfull n t F
+  pub counted : m ≤ capacity → Counted n t T F T′ m
+  pub over : capacity < m → Overfull n t F
 
 -- ---- the bytes
 pub record Placing (W : List ℕ) (src host : ℕ) (T F : List ℕ) : Type 0 where
   pub source : Block W src
   pub target : Block W host
   pub apart : (src ≡ host) → ⊥
-  pub told : length T ≡ 32
-  pub marked : length F ≡ 32
-  pub numbered : Numbered (countIn W src) (countIn W host) F T 32
+  pub told : length T ≡ capacity
+  pub marked : length F ≡ capacity
+  pub numbered : Numbered (countIn W src) (countIn W host) F T capacity
 
 -- the new ones of the first n objects have their places in the host, after its objects; the other bytes are W's
 pub record Laid (W : List ℕ) (src host : ℕ) (T F : List ℕ) (n : ℕ) (W′ : List ℕ) : Type 0 where
   pub same : length W′ ≡ length W
-  pub here : (x k : ℕ) → x < n → New F x → k < 6 → getD W′ (234 * host + 6 * (getD T x 0 - 1) + k) 0 ≡ copied (numbersOf T) k (getD W (234 * src + 6 * x + k) 0)
-  pub below : (p : ℕ) → p < 234 * host + 6 * countIn W host → getD W′ p 0 ≡ getD W p 0
-  pub above : (p : ℕ) → 234 * host + 192 ≤ p → getD W′ p 0 ≡ getD W p 0
+  pub here : (x k : ℕ) → x < n → New F x → k < objectSize → getD W′ (blockSize * host + objectSize * (getD T x 0 - 1) + k) 0 ≡ copied (numbersOf T) k (getD W (blockSize * src + objectSize * x + k) 0)
+  pub below : (p : ℕ) → p < blockSize * host + objectSize * countIn W host → getD W′ p 0 ≡ getD W p 0
+  pub above : (p : ℕ) → blockSize * host + countAt ≤ p → getD W′ p 0 ≡ getD W p 0
 
 -- and the host counts m objects
 pub record Extended (W : List ℕ) (src host : ℕ) (T F : List ℕ) (m : ℕ) (W′ : List ℕ) : Type 0 where
   pub count : countIn W′ host ≡ m
   pub reach : reachIn W′ host ≡ m
-  pub level : (q : ℕ) → q < 6 * m → getD W′ (234 * host + q) 0 < 193 + levelIn W′ host
-  pub here : (x k : ℕ) → x < countIn W src → New F x → k < 6 → getD W′ (234 * host + 6 * (getD T x 0 - 1) + k) 0 ≡ copied (numbersOf T) k (getD W (234 * src + 6 * x + k) 0)
-  pub old : (q : ℕ) → q < 6 * countIn W host → getD W′ (234 * host + q) 0 ≡ getD W (234 * host + q) 0
+  pub level : (q : ℕ) → q < objectSize * m → getD W′ (blockSize * host + q) 0 < firstMark + levelIn W′ host
+  pub here : (x k : ℕ) → x < countIn W src → New F x → k < objectSize → getD W′ (blockSize * host + objectSize * (getD T x 0 - 1) + k) 0 ≡ copied (numbersOf T) k (getD W (blockSize * src + objectSize * x + k) 0)
+  pub old : (q : ℕ) → q < objectSize * countIn W host → getD W′ (blockSize * host + q) 0 ≡ getD W (blockSize * host + q) 0
   pub outside : Outside host W W′
 
 -- ---- the host

@@ -7,6 +7,7 @@ use mathlib.Core.Option.{Option, none, some}
 use lib.Dec.{leb}
 use lib.ListN.{length, getD, take, drop}
 use Rattle.cofj.specs.Values.{Graph}
+use Rattle.canon.specs.Figures.{codeCount, capacity, blockSize, spare}
 use Rattle.canon.specs.Layout.{Beneath}
 use Rattle.values.specs.declared.ValueRef.{ValueRef}
 use Rattle.values.specs.declared.ValueRef.the-variants.{Object}
@@ -34,17 +35,13 @@ pub record PartsHeld (W : List ℕ) (ps : List Slot) (n : ℕ) : Type 0 where
   pub full : n ≤ length ps
   pub part : (i : ℕ) → i < n → Holds W (getD ps i (record { r = Object 0 0 }) .r)
 
--- the spare block, above all blocks that evaluation uses: parts may be brought together there
-abbrev pub spare : ℕ
-spare = 279
-
 -- what making asks: the parts stand for values, and they and dst lie below the spare block
 pub record Makeable (W : List ℕ) (ps : List Slot) (n dst : ℕ) : Type 0 where
   pub held : PartsHeld W ps n
-  pub few : n ≤ 4
+  pub few : n ≤ codeCount
   pub below : (i : ℕ) → i < n → Low spare (getD ps i (record { r = Object 0 0 }) .r)
   pub under : dst < spare
-  pub room : 234 * spare + 234 ≤ length W
+  pub room : blockSize * spare + blockSize ≤ length W
 
 -- what making answers
 abbrev pub madeRef : Made → Option ValueRef
@@ -54,6 +51,6 @@ madeRef TooLarge = none
 -- the value v, in block dst or below, unless it has more than 32 objects; what lies below block dst is as before
 pub record MadeIs (W : List ℕ) (v : Graph) (dst : ℕ) (W′ : List ℕ) (o : Made) : Type 0 where
   pub held : AnswerHeld W′ (madeRef o)
-  pub is : answerIn W′ (madeRef o) ≡ cond (leb (length (v .nodes)) 32) (some v) none
+  pub is : answerIn W′ (madeRef o) ≡ cond (leb (length (v .nodes)) capacity) (some v) none
   pub place : AnswerLow (dst + 1) (madeRef o)
   pub beneath : Beneath dst W W′

@@ -1,3 +1,4 @@
+pub mod Figures
 pub mod Laying
 pub mod Adding
 pub mod Merging

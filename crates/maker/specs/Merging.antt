@@ -10,11 +10,13 @@ use lib.Dec.{ltb, eqb}
 use lib.ListN.{length, getD, getElem?}
 use Rattle.cofj.specs.Values.{Ref, Graph, nodeAt}
 use Rattle.cofj.specs.Unfolding.{Same, InRange}
+use Rattle.canon.specs.Figures.{codeCount, firstLeaf, undeterminedCode, capacity, spare, threeBytes}
 use Rattle.canon.specs.Layout.{refOf, nodeIn, Packed, countIn, objectsIn, Block, Outside}
 use Rattle.values.specs.declared.ValueRef.{ValueRef}
 use Rattle.values.specs.declared.ValueRef.the-variants.{Object, Mark, Undetermined}
 use Rattle.values.specs.Tests.{any}
 use Rattle.values.specs.Layout.{rawOf, liesIn}
+use Rattle.maker.specs.Figures.{noRoom}
 use Rattle.maker.specs.declared.Slot.{Slot}
 use Rattle.maker.specs.declared.Made.the-variants.{Value}
 use Rattle.maker.specs.declared.merge.Tried.{Tried}
@@ -43,38 +45,38 @@ pub record Standing (W : List ℕ) (host : ℕ) (T : List ℕ) (r : ℕ) : Type 
 -- r is the number of the object in T, which was there or is added; 32 if the host is full and has it not
 pub record Entered (W : List ℕ) (host : ℕ) (T W′ : List ℕ) (r : ℕ) : Type 0 where
   pub grown : Grown host W W′
-  pub few : r ≤ 32
-  pub standing : ((r ≡ 32) → ⊥) → Standing W′ host T r
+  pub few : r ≤ noRoom
+  pub standing : ((r ≡ noRoom) → ⊥) → Standing W′ host T r
   pub from : (y : ℕ) → y < countIn W′ host → (y < countIn W host) ⊎ (y ≡ r)
-  pub full : r ≡ 32 → (countIn W host ≡ 32) × Missed W host T 32 × (W′ ≡ W)
+  pub full : r ≡ noRoom → (countIn W host ≡ capacity) × Missed W host T capacity × (W′ ≡ W)
 
 -- whether a code is an object's, of number f or a higher one; and whether one of the four codes of w is
 unfoldable pub liesFrom : ℕ → ℕ → Bool
-liesFrom c f = cond (ltb c f) false (ltb c 192)
+liesFrom c f = cond (ltb c f) false (ltb c firstLeaf)
 
 unfoldable pub refersFrom : ℕ → ℕ → Bool
 refersFrom w f =
-    cond (liesFrom (w % 256) f) true (cond (liesFrom (w / 256 % 256) f) true (cond (liesFrom (w / 65536 % 256) f) true (liesFrom (w / 16777216) f)))
+    cond (liesFrom (w % 256) f) true (cond (liesFrom (w / 256 % 256) f) true (cond (liesFrom (w / 65536 % 256) f) true (liesFrom (w / threeBytes) f)))
 
 -- ---- a code of another block
 -- the code r of block host unfolds as the code c of block src
 pub record CodeAs (W : List ℕ) (src c host r : ℕ) : Type 0 where
   pub low : InRange (countIn W host) (refOf r)
-  pub leaf : 192 ≤ c → r ≡ c
+  pub leaf : firstLeaf ≤ c → r ≡ c
   pub same : Same (objectsIn W src) (refOf c) (objectsIn W host) (refOf r)
 
 -- the table has k + 1 for an object that unfolds as object k of the host
 pub record Mapped (W : List ℕ) (src host : ℕ) (M : List ℕ) : Type 0 where
-  pub table : length M ≡ 32
+  pub table : length M ≡ capacity
   pub each : (x y : ℕ) → getD M x 0 ≡ y + 1 → CodeAs W src x host y
 
 -- object i of block src, with what it leads to, is in the host; r is its number there, or 32 where there was no room. A value g in which the host's objects and
 -- object i stand has the objects of the grown host in it, or too many
 pub record Imported (W : List ℕ) (src i host : ℕ) (W′ : List ℕ) (r : ℕ) : Type 0 where
   pub grown : Grown host W W′
-  pub like : ((r ≡ 32) → ⊥) → CodeAs W′ src i host r
-  pub stand : ((r ≡ 32) → ⊥) → (g : Graph) → BlockIn W host g → In (objectsIn W src) i g → BlockIn W′ host g
-  pub over : r ≡ 32 → (g : Graph) → BlockIn W host g → In (objectsIn W src) i g → Crowd g
+  pub like : ((r ≡ noRoom) → ⊥) → CodeAs W′ src i host r
+  pub stand : ((r ≡ noRoom) → ⊥) → (g : Graph) → BlockIn W host g → In (objectsIn W src) i g → BlockIn W′ host g
+  pub over : r ≡ noRoom → (g : Graph) → BlockIn W host g → In (objectsIn W src) i g → Crowd g
 
 -- ---- the parts
 -- the code r of block host unfolds as the value of v in the bytes W
@@ -84,9 +86,9 @@ pub record As (W : List ℕ) (v : ValueRef) (W′ : List ℕ) (host r : ℕ) : T
 
 pub record PartImported (W : List ℕ) (v : ValueRef) (host : ℕ) (W′ : List ℕ) (r : ℕ) : Type 0 where
   pub grown : Grown host W W′
-  pub like : ((r ≡ 32) → ⊥) → As W v W′ host r
-  pub stand : ((r ≡ 32) → ⊥) → (g : Graph) → BlockIn W host g → Within (rawOf W v) g → BlockIn W′ host g
-  pub over : r ≡ 32 → (g : Graph) → BlockIn W host g → Within (rawOf W v) g → Crowd g
+  pub like : ((r ≡ noRoom) → ⊥) → As W v W′ host r
+  pub stand : ((r ≡ noRoom) → ⊥) → (g : Graph) → BlockIn W host g → Within (rawOf W v) g → BlockIn W′ host g
+  pub over : r ≡ noRoom → (g : Graph) → BlockIn W host g → Within (rawOf W v) g → Crowd g
 
 -- the objects of block base are the first of block host, which may be base
 pub record Begun (W : List ℕ) (base host : ℕ) : Type 0 where
@@ -102,13 +104,13 @@ AllWithin W ps n g = (i : ℕ) → i < n → Within (rawOf W (partOf ps i)) g
 -- the number w has the codes of the parts from i on, n in all; the codes after them are 192
 pub record RootBrought (W : List ℕ) (ps : List Slot) (n i : ℕ) (W′ : List ℕ) (host w : ℕ) : Type 0 where
   pub done : (j : ℕ) → i + j < n → As W (partOf ps (i + j)) W′ host (getD (codesOf w) j 0)
-  pub spare : (j : ℕ) → n ≤ i + j → j < 4 → getD (codesOf w) j 0 ≡ 192
+  pub spare : (j : ℕ) → n ≤ i + j → j < codeCount → getD (codesOf w) j 0 ≡ undeterminedCode
   pub stand : (g : Graph) → BlockIn W host g → AllWithin W ps n g → BlockIn W′ host g
 
 pub record PartsBrought (W : List ℕ) (ps : List Slot) (n host : ℕ) (W′ : List ℕ) (w : ℕ) : Type 0 where
   pub grown : Grown host W W′
-  pub done : ((w % 256 ≡ 32) → ⊥) → RootBrought W ps n 0 W′ host w
-  pub over : w % 256 ≡ 32 → (g : Graph) → BlockIn W host g → AllWithin W ps n g → Crowd g
+  pub done : ((w % 256 ≡ noRoom) → ⊥) → RootBrought W ps n 0 W′ host w
+  pub over : w % 256 ≡ noRoom → (g : Graph) → BlockIn W host g → AllWithin W ps n g → Crowd g
 
 -- what trying a host answers: the value, in block dst or below, or only a host that has grown; a host whose objects all stand in the value is too small only for a
 -- value that is too large

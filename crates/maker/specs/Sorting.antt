@@ -9,8 +9,10 @@ use lib.Dec.{ltb}
 use lib.ListN.{length, getD}
 use Rattle.cofj.specs.Values.{Node, obj}
 use Rattle.cofj.specs.Unfolding.{Same}
+use Rattle.canon.specs.Figures.{objectSize, headSize, codeCount, firstLeaf, capacity, blockSize}
 use Rattle.canon.specs.Layout.{countIn, objectsIn, graphAt, Block}
 use Rattle.canon.specs.Numbers.{numberIn}
+use Rattle.maker.specs.Figures.{notTold}
 use Rattle.maker.specs.declared.sort.Turned.{Turned}
 use Rattle.maker.specs.declared.sort.Turned.the-variants.{All, Open}
 use Rattle.maker.specs.Adding.{codesOf}
@@ -25,7 +27,7 @@ pub record Fresh (ps ns : List Node) (t x : ℕ) : Type 0 where
 -- T has k + 1 for an object that unfolds as object k of the host; F has not 0 for one that unfolds as none of them
 pub record Sorted (W : List ℕ) (src host : ℕ) (T F : List ℕ) : Type 0 where
   pub mapped : Mapped W src host T
-  pub table : length F ≡ 32
+  pub table : length F ≡ capacity
   pub low : (x : ℕ) → ((getD F x 0 ≡ 0) → ⊥) → x < countIn W src
   pub fresh : (x : ℕ) → ((getD F x 0 ≡ 0) → ⊥) → Fresh (objectsIn W src) (objectsIn W host) (countIn W host) x
 
@@ -35,21 +37,21 @@ Decided T F x = ((getD T x 0 ≡ 0) → ⊥) ⊎ ((getD F x 0 ≡ 0) → ⊥)
 
 -- code f of object x of block src
 abbrev pub codeAt : List ℕ → ℕ → ℕ → ℕ → ℕ
-codeAt W src x f = getD W (234 * src + 6 * x + 2 + f) 0
+codeAt W src x f = getD W (blockSize * src + objectSize * x + headSize + f) 0
 
 -- a code of the part in the host; 32 for an object that is not told
 unfoldable pub turnIn : List ℕ → ℕ → ℕ
-turnIn T c = cond (ltb c 192) (numberIn T 32 c) c
+turnIn T c = cond (ltb c firstLeaf) (numberIn T notTold c) c
 
 -- B has the six bytes of object x of block src, its codes turned to codes of block host
 pub record TurnedAs (W : List ℕ) (src x host : ℕ) (B : List ℕ) : Type 0 where
-  pub cls : getD B 0 0 ≡ getD W (234 * src + 6 * x) 0
-  pub count : getD B 1 0 ≡ getD W (234 * src + 6 * x + 1) 0
-  pub code : (f : ℕ) → f < 4 → CodeAs W src (codeAt W src x f) host (getD B (2 + f) 0)
+  pub cls : getD B 0 0 ≡ getD W (blockSize * src + objectSize * x) 0
+  pub count : getD B 1 0 ≡ getD W (blockSize * src + objectSize * x + 1) 0
+  pub code : (f : ℕ) → f < codeCount → CodeAs W src (codeAt W src x f) host (getD B (2 + f) 0)
 
 -- whatever a new object refers to is decided
 pub record Settled (W : List ℕ) (src : ℕ) (T F : List ℕ) : Type 0 where
-  pub field : (x f : ℕ) → ((getD F x 0 ≡ 0) → ⊥) → f < 4 → codeAt W src x f < 192 → Decided T F (codeAt W src x f)
+  pub field : (x f : ℕ) → ((getD F x 0 ≡ 0) → ⊥) → f < codeCount → codeAt W src x f < firstLeaf → Decided T F (codeAt W src x f)
 
 -- ---- what an object leads to
 -- x is one of the first m of L
@@ -58,11 +60,11 @@ Listed L m x = (q : ℕ) × (q < m) × (getD L q 0 ≡ x)
 
 -- the first m of L are object i of block src and all that it leads to
 pub record Reached (W : List ℕ) (src i : ℕ) (L : List ℕ) (m : ℕ) : Type 0 where
-  pub few : m ≤ 32
-  pub long : length L ≡ 32
+  pub few : m ≤ capacity
+  pub long : length L ≡ capacity
   pub low : (q : ℕ) → q < m → getD L q 0 < countIn W src
   pub root : Listed L m i
-  pub closed : (q f : ℕ) → q < m → f < 4 → codeAt W src (getD L q 0) f < 192 → Listed L m (codeAt W src (getD L q 0) f)
+  pub closed : (q f : ℕ) → q < m → f < codeCount → codeAt W src (getD L q 0) f < firstLeaf → Listed L m (codeAt W src (getD L q 0) f)
   pub led : (q : ℕ) → q < m → In (objectsIn W src) (getD L q 0) (graphAt W src i)
 
 -- ---- the listed objects sorted out
@@ -70,8 +72,8 @@ pub record Reached (W : List ℕ) (src i : ℕ) (L : List ℕ) (m : ℕ) : Type 
 pub record Ground (W : List ℕ) (src host : ℕ) (L : List ℕ) (m : ℕ) : Type 0 where
   pub source : Block W src
   pub target : Block W host
-  pub few : m ≤ 32
-  pub long : length L ≡ 32
+  pub few : m ≤ capacity
+  pub long : length L ≡ capacity
   pub low : (q : ℕ) → q < m → getD L q 0 < countIn W src
 
 -- what is known so far; only listed ones are marked as new
@@ -113,7 +115,7 @@ pub record OpenIs (T F : List ℕ) (x : ℕ) (r : Bool) : Type 0 where
 
 -- a code of an object that is marked as new
 pub record NewCode (F : List ℕ) (c : ℕ) : Type 0 where
-  pub object : c < 192
+  pub object : c < firstLeaf
   pub marked : (getD F c 0 ≡ 0) → ⊥
 
 pub record NewIs (F : List ℕ) (c : ℕ) (r : Bool) : Type 0 where
@@ -122,7 +124,7 @@ pub record NewIs (F : List ℕ) (c : ℕ) (r : Bool) : Type 0 where
 -- one of the codes of object x is
 pub record LeadsNew (W : List ℕ) (src x : ℕ) (F : List ℕ) : Type 0 where
   pub field : ℕ
-  pub low : field < 4
+  pub low : field < codeCount
   pub new : NewCode F (codeAt W src x field)
 
 pub record LeadsIs (W : List ℕ) (src x : ℕ) (F : List ℕ) (r : Bool) : Type 0 where
@@ -130,8 +132,8 @@ pub record LeadsIs (W : List ℕ) (src x : ℕ) (F : List ℕ) (r : Bool) : Type
 
 -- the codes of object x from code k on in the host, as one number
 pub record CodesTurned (W : List ℕ) (src x : ℕ) (T : List ℕ) (k w : ℕ) : Type 0 where
-  pub code : (j : ℕ) → k + j < 4 → getD (codesOf w) j 0 ≡ turnIn T (codeAt W src x (k + j))
-  pub told : (j : ℕ) → k + j < 4 → (turnIn T (codeAt W src x (k + j)) ≡ 32) → ⊥
+  pub code : (j : ℕ) → k + j < codeCount → getD (codesOf w) j 0 ≡ turnIn T (codeAt W src x (k + j))
+  pub told : (j : ℕ) → k + j < codeCount → (turnIn T (codeAt W src x (k + j)) ≡ notTold) → ⊥
 
 abbrev pub TurnedIs : List ℕ → ℕ → ℕ → List ℕ → Turned → Type 0
 TurnedIs W src x T (All w) = CodesTurned W src x T 0 w

@@ -1,15 +1,23 @@
 // The new objects of a part, which lies in block src, added to the host, rings too.
 // `told` has k + 1 for an object of the part that is object k of the host, `fresh` has not 0 for a new one. Not here: which objects are new.
+use crate::TOO_MANY;
 use crate::sort::turn;
+use canon::layout::BLOCK;
+use canon::layout::CAPACITY;
+use canon::layout::COUNT;
+use canon::layout::LEVEL;
+use canon::layout::OBJECT;
+use canon::layout::REACH;
 use canon::number::level_of;
 ghost use mathlib.Core.Path.{_≡_};
 ghost use Prim.Native.Nat.{ℕ, _+_, _*_, _<_, _≤_};
 ghost use lib.ListN.{length};
+ghost use Rattle.canon.specs.Figures.{objectSize, capacity, blockSize};
 ghost use Rattle.canon.specs.Layout.{Inside, countIn};
 ghost use Rattle.canon.specs.Tables.{Lifted};
 ghost use Rattle.maker.specs.Joining.{numbersOf, Fitted, Placing, Laid, Extended, Joining, Joined};
 
-// Numbers for the new ones of the first n objects, from t on in their order. Answers how many objects the host then has, 33 if there is no room.
+// Numbers for the new ones of the first n objects, from t on in their order. Answers how many objects the host then has, TOO_MANY if there is no room.
 pub(crate) fn number_new(n: u8, t: u8, told: &mut [u8], fresh: &[u8]) -> u8
     requires { ⌜ (n ≤ length (now told)) × (n ≤ length (now fresh)) ⌝ }
     ensures { λ m. ⌜ Fitted n t (now (told .entry)) (now (fresh .entry)) (now (told .exit)) m ⌝ }
@@ -18,8 +26,8 @@ pub(crate) fn number_new(n: u8, t: u8, told: &mut [u8], fresh: &[u8]) -> u8
     let mut x: u8 = 0;
     while x < n {
         if fresh[x as usize] != 0 {
-            if 32 <= next {
-                return 33;
+            if CAPACITY <= next {
+                return TOO_MANY;
             }
             next += 1;
             told[x as usize] = next;
@@ -31,11 +39,11 @@ pub(crate) fn number_new(n: u8, t: u8, told: &mut [u8], fresh: &[u8]) -> u8
 
 // Object x of block src, its codes turned, at the place of object y of block host.
 pub(crate) fn put_object(work: &mut [u8], src: u16, x: u8, host: u16, y: u8, told: &[u8])
-    requires { ⌜ Inside (now work) src x × ((src ≡ host) → ⊥) × (y < 32) × (234 * host + 234 ≤ length (now work)) × (length (now told) ≡ 32) ⌝ }
-    ensures { λ _. ⌜ Lifted (now (work .entry)) (234 * src + 6 * x) 6 (numbersOf (now (told .entry))) (now (work .entry)) (234 * host + 6 * y) (now (work .exit)) ⌝ }
+    requires { ⌜ Inside (now work) src x × ((src ≡ host) → ⊥) × (y < capacity) × (blockSize * host + blockSize ≤ length (now work)) × (length (now told) ≡ capacity) ⌝ }
+    ensures { λ _. ⌜ Lifted (now (work .entry)) (blockSize * src + objectSize * x) objectSize (numbersOf (now (told .entry))) (now (work .entry)) (blockSize * host + objectSize * y) (now (work .exit)) ⌝ }
 {
-    let p = 234 * (src as usize) + 6 * (x as usize);
-    let q = 234 * (host as usize) + 6 * (y as usize);
+    let p = BLOCK * (src as usize) + OBJECT * (x as usize);
+    let q = BLOCK * (host as usize) + OBJECT * (y as usize);
     let a = turn(told, work[p + 2]);
     let b = turn(told, work[p + 3]);
     let c = turn(told, work[p + 4]);
@@ -53,7 +61,7 @@ pub(crate) fn put_new(work: &mut [u8], src: u16, host: u16, told: &[u8], fresh: 
     requires { ⌜ Placing (now work) src host (now told) (now fresh) ⌝ }
     ensures { λ _. ⌜ Laid (now (work .entry)) src host (now (told .entry)) (now (fresh .entry)) (countIn (now (work .entry)) src) (now (work .exit)) ⌝ }
 {
-    let n = work[234 * (src as usize) + 192];
+    let n = work[BLOCK * (src as usize) + COUNT];
     let mut x: u8 = 0;
     while x < n {
         if fresh[x as usize] != 0 {
@@ -75,21 +83,21 @@ pub(crate) fn higher(a: u8, b: u8) -> u8
 
 // The new objects in block host, which then has m objects.
 pub(crate) fn extend(work: &mut [u8], src: u16, host: u16, told: &[u8], fresh: &[u8], m: u8)
-    requires { ⌜ Placing (now work) src host (now told) (now fresh) × (countIn (now work) host ≤ m) × (m ≤ 32) ⌝ }
+    requires { ⌜ Placing (now work) src host (now told) (now fresh) × (countIn (now work) host ≤ m) × (m ≤ capacity) ⌝ }
     ensures { λ _. ⌜ Extended (now (work .entry)) src host (now (told .entry)) (now (fresh .entry)) m (now (work .exit)) ⌝ }
 {
-    let t = work[234 * (host as usize) + 192];
-    let l = work[234 * (host as usize) + 193];
+    let t = work[BLOCK * (host as usize) + COUNT];
+    let l = work[BLOCK * (host as usize) + LEVEL];
     put_new(work, src, host, told, fresh);
     let k = level_of(
         work,
-        234 * (host as usize) + 6 * (t as usize),
-        6 * ((m - t) as usize),
+        BLOCK * (host as usize) + OBJECT * (t as usize),
+        OBJECT * ((m - t) as usize),
     );
     let h = higher(l, k);
-    work[234 * (host as usize) + 192] = m;
-    work[234 * (host as usize) + 193] = h;
-    work[234 * (host as usize) + 194] = m;
+    work[BLOCK * (host as usize) + COUNT] = m;
+    work[BLOCK * (host as usize) + LEVEL] = h;
+    work[BLOCK * (host as usize) + REACH] = m;
 }
 
 // The new objects of block src added to block host. Answers whether there was room; if not, the host is as before.
@@ -97,10 +105,10 @@ pub(crate) fn join(work: &mut [u8], src: u16, host: u16, told: &mut [u8], fresh:
     requires { ⌜ Joining (now work) src host (now told) (now fresh) ⌝ }
     ensures { λ r. ⌜ Joined (now (work .entry)) src host (now (told .entry)) (now (fresh .entry)) (now (work .exit)) (now (told .exit)) r ⌝ }
 {
-    let t = work[234 * (host as usize) + 192];
-    let n = work[234 * (src as usize) + 192];
+    let t = work[BLOCK * (host as usize) + COUNT];
+    let n = work[BLOCK * (src as usize) + COUNT];
     let m = number_new(n, t, told, fresh);
-    if 32 < m {
+    if CAPACITY < m {
         return false;
     }
     if m == t {

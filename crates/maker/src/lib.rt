@@ -12,6 +12,18 @@ pub mod merge; // a new object over the objects of several blocks
 pub mod make; // a new object
 pub mod bares; // block 0 with the objects without fields
 
+// what bringing an object into a block answers where there is no room: no object of a block has this number, and no other code is it
+const NO_ROOM: u8 = 32;
+
+// the same for several parts, in the place of their codes as one number
+const NO_CODES: u32 = NO_ROOM as u32;
+
+// the number in the host of an object that is not told: the same
+const NOT_TOLD: u8 = 32;
+
+// one object more than a block has room for
+const TOO_MANY: u8 = 33;
+
 // What making an object answers.
 pub enum Made {
     Value(values::ValueRef),

@@ -12,6 +12,9 @@ use crate::parts::first_block;
 use crate::parts::some_in;
 use crate::parts::some_object;
 use crate::parts::together;
+use canon::layout::BLOCK;
+use canon::layout::CAPACITY;
+use canon::layout::COUNT;
 use values::ValueRef;
 use values::value::bring;
 ghost use mathlib.Core.Path.{_≡_};
@@ -19,6 +22,7 @@ ghost use mathlib.Core.Bool.{true, false};
 ghost use Prim.Native.Nat.{ℕ, _+_, _*_, _<_, _≤_};
 ghost use lib.ListN.{length};
 ghost use Rattle.cofj.specs.Values.{make};
+ghost use Rattle.canon.specs.Figures.{codeCount};
 ghost use Rattle.maker.specs.Laying.{partsOf, PartsHeld, Makeable, valuesFrom, MadeIs};
 ghost use Rattle.canon.specs.Layout.{Block};
 ghost use Rattle.maker.specs.Adding.{someObject, blockOf, firstBlock, standsIn, allStand};
@@ -26,16 +30,16 @@ ghost use Rattle.maker.specs.Merging.{someIn};
 
 // A new object whose parts lie in block b, or are no objects.
 pub fn make_beside(work: &mut [u8], c: u8, parts: &[u32], n: u8, b: u16, dst: u16) -> Made
-    requires { ⌜ Makeable (now work) (partsOf (now parts)) n dst × Block (now work) b × (allStand (partsOf (now parts)) n b ≡ true) × (4 ≤ length (now parts)) ⌝ }
+    requires { ⌜ Makeable (now work) (partsOf (now parts)) n dst × Block (now work) b × (allStand (partsOf (now parts)) n b ≡ true) × (codeCount ≤ length (now parts)) ⌝ }
     ensures { λ o. ⌜ MadeIs (now (work .entry)) (make c (valuesFrom (now (work .entry)) (partsOf (now (parts .entry))) 0 n)) dst (now (work .exit)) o ⌝ }
 {
     let w = root_codes(work, parts, n);
-    let t = work[234 * (b as usize) + 192];
+    let t = work[BLOCK * (b as usize) + COUNT];
     let k = find(work, b, t, c, n, w);
     if k < t {
         return Made::Value(bring(work, ValueRef::Object(k, b), dst));
     }
-    if 32 <= t {
+    if CAPACITY <= t {
         return make_anew(work, c, parts, n, dst);
     }
     add(work, b, c, n, w, dst);
@@ -44,7 +48,7 @@ pub fn make_beside(work: &mut [u8], c: u8, parts: &[u32], n: u8, b: u16, dst: u1
 
 // A new object in block `dst`, where no part lies: alone, or after what its parts lead to.
 pub fn make_fresh(work: &mut [u8], c: u8, parts: &[u32], n: u8, dst: u16) -> Made
-    requires { ⌜ Makeable (now work) (partsOf (now parts)) n dst × (someIn (partsOf (now parts)) n dst ≡ false) × (4 ≤ length (now parts)) ⌝ }
+    requires { ⌜ Makeable (now work) (partsOf (now parts)) n dst × (someIn (partsOf (now parts)) n dst ≡ false) × (codeCount ≤ length (now parts)) ⌝ }
     ensures { λ o. ⌜ MadeIs (now (work .entry)) (make c (valuesFrom (now (work .entry)) (partsOf (now (parts .entry))) 0 n)) dst (now (work .exit)) o ⌝ }
 {
     if !some_object(parts, n) {
@@ -57,7 +61,7 @@ pub fn make_fresh(work: &mut [u8], c: u8, parts: &[u32], n: u8, dst: u16) -> Mad
 // A new object of class c with the n first parts, in block `dst` or below, unless it has more than 32 objects.
 // Block 0 is often full, and block `dst` is to be written: so the parts are brought to `dst` if one lies there or none lies above block 0.
 pub fn make(work: &mut [u8], c: u8, parts: &[u32], n: u8, dst: u16) -> Made
-    requires { ⌜ Makeable (now work) (partsOf (now parts)) n dst × (4 ≤ length (now parts)) ⌝ }
+    requires { ⌜ Makeable (now work) (partsOf (now parts)) n dst × (codeCount ≤ length (now parts)) ⌝ }
     ensures { λ o. ⌜ MadeIs (now (work .entry)) (make c (valuesFrom (now (work .entry)) (partsOf (now (parts .entry))) 0 n)) dst (now (work .exit)) o ⌝ }
 {
     if some_in(parts, n, dst) {

@@ -1,6 +1,8 @@
 // Objects of several blocks brought into one, the host, and a new object over them there.
 // Not here: parts that lie in one block already (make), an object of another block brought into the host (part).
 use crate::Made;
+use crate::NO_CODES;
+use crate::NO_ROOM;
 use crate::enter::enter;
 use crate::enter::enter_over;
 use crate::over::UNUSED;
@@ -9,6 +11,15 @@ use crate::part::import;
 use crate::parts::largest;
 use crate::parts::part_at;
 use canon::bytes::four_at;
+use canon::layout::BLOCK;
+use canon::layout::BYTE;
+use canon::layout::CAPACITY;
+use canon::layout::COUNT;
+use canon::layout::FIRST_MARK;
+use canon::layout::OBJECT;
+use canon::layout::SPARE;
+use canon::layout::THREE_BYTES;
+use canon::layout::UNDETERMINED;
 use values::ValueRef;
 use values::value::bring;
 use values::value::copy_block;
@@ -17,14 +28,12 @@ ghost use mathlib.Core.Bool.{false};
 ghost use Prim.Native.Nat.{ℕ, _+_, _*_, _<_, _≤_};
 ghost use lib.ListN.{length, getD};
 ghost use Rattle.cofj.specs.Values.{make};
+ghost use Rattle.canon.specs.Figures.{objectSize, codeCount, blockSize};
 ghost use Rattle.maker.specs.Laying.{partsOf, PartsHeld, Makeable, valuesFrom, MadeIs};
 ghost use Rattle.canon.specs.Layout.{Block, Inside};
 ghost use Rattle.values.specs.Layout.{Holds, liesIn};
 ghost use Rattle.values.specs.declared.ValueRef.the-variants.{Object};
 ghost use Rattle.maker.specs.Merging.{Begun, TriedIs, PartImported, PartsBrought, someIn, largerOf, largestOf};
-
-// A block above all that evaluation uses.
-const SPARE: u16 = 279;
 
 // What trying a host answers: the value, or that there is no room for it.
 pub enum Tried {
@@ -32,18 +41,18 @@ pub enum Tried {
     NoRoom,
 }
 
-// Object i of block b, which has no fields, in block host: its number there, or 32 if there is no room.
+// Object i of block b, which has no fields, in block host: its number there, or NO_ROOM.
 pub fn import_bare(work: &mut [u8], b: u16, i: u8, host: u16) -> u8
-    requires { ⌜ Inside (now work) b i × Block (now work) host × ((b ≡ host) → ⊥) × (getD (now work) (234 * b + 6 * i + 1) 0 ≡ 0) ⌝ }
+    requires { ⌜ Inside (now work) b i × Block (now work) host × ((b ≡ host) → ⊥) × (getD (now work) (blockSize * b + objectSize * i + 1) 0 ≡ 0) ⌝ }
     ensures { λ r. ⌜ PartImported (now (work .entry)) (Object i b) host (now (work .exit)) r ⌝ }
 {
-    let p = 234 * (b as usize) + 6 * (i as usize);
+    let p = BLOCK * (b as usize) + OBJECT * (i as usize);
     let c = work[p];
     let w = four_at(work, p + 2);
     enter(work, host, c, 0, w)
 }
 
-// Object i of block b, in block host, whose first objects are those of block base: its number there, or 32 as `import` answers it.
+// Object i of block b, in block host, whose first objects are those of block base: its number there, or NO_ROOM.
 pub fn import_object(work: &mut [u8], b: u16, i: u8, base: u16, host: u16) -> u8
     requires { ⌜ Inside (now work) b i × Begun (now work) base host ⌝ }
     ensures { λ r. ⌜ PartImported (now (work .entry)) (Object i b) host (now (work .exit)) r ⌝ }
@@ -54,27 +63,27 @@ pub fn import_object(work: &mut [u8], b: u16, i: u8, base: u16, host: u16) -> u8
     if b == host {
         return i;
     }
-    if work[234 * (b as usize) + 6 * (i as usize) + 1] == 0 {
+    if work[BLOCK * (b as usize) + OBJECT * (i as usize) + 1] == 0 {
         return import_bare(work, b, i, host);
     }
     import(work, b, i, host)
 }
 
-// A value in block host: its code there, or 32.
+// A value in block host: its code there, or NO_ROOM.
 pub fn import_part(work: &mut [u8], v: ValueRef, base: u16, host: u16) -> u8
     requires { ⌜ Holds (now work) v × Begun (now work) base host ⌝ }
     ensures { λ r. ⌜ PartImported (now (work .entry)) v host (now (work .exit)) r ⌝ }
 {
     match v {
         ValueRef::Object(i, b) => import_object(work, b, i, base, host),
-        ValueRef::Mark(k) => 193 + k,
-        ValueRef::Undetermined => 192,
+        ValueRef::Mark(k) => FIRST_MARK + k,
+        ValueRef::Undetermined => UNDETERMINED,
     }
 }
 
-// The codes of the n parts in block host. 32 if there was no room for the parts: no code of the host is 32, so no answer else has it as its first code.
+// The codes of the n parts in block host. NO_CODES if there was no room for them: it is no code of the host, so no other answer has it as its first code.
 pub fn bring_parts(work: &mut [u8], parts: &[u32], n: u8, base: u16, host: u16) -> u32
-    requires { ⌜ PartsHeld (now work) (partsOf (now parts)) n × (n ≤ 4) × Begun (now work) base host × (4 ≤ length (now parts)) ⌝ }
+    requires { ⌜ PartsHeld (now work) (partsOf (now parts)) n × (n ≤ codeCount) × Begun (now work) base host × (codeCount ≤ length (now parts)) ⌝ }
     ensures { λ w. ⌜ PartsBrought (now (work .entry)) (partsOf (now (parts .entry))) n host (now (work .exit)) w ⌝ }
 {
     let mut w = UNUSED;
@@ -83,10 +92,10 @@ pub fn bring_parts(work: &mut [u8], parts: &[u32], n: u8, base: u16, host: u16) 
         i -= 1;
         let v = part_at(parts, i);
         let r = import_part(work, v, base, host);
-        if r == 32 {
-            return 32;
+        if r == NO_ROOM {
+            return NO_CODES;
         }
-        w = (r as u32) + 256 * (w % 16777216);
+        w = (r as u32) + BYTE * (w % THREE_BYTES);
     }
     w
 }
@@ -101,15 +110,15 @@ pub(crate) fn try_in(
     host: u16,
     dst: u16,
 ) -> Tried
-    requires { ⌜ PartsHeld (now work) (partsOf (now parts)) n × (n ≤ 4) × Begun (now work) base host × (dst ≤ host) × (234 * dst + 234 ≤ length (now work)) × (4 ≤ length (now parts)) ⌝ }
+    requires { ⌜ PartsHeld (now work) (partsOf (now parts)) n × (n ≤ codeCount) × Begun (now work) base host × (dst ≤ host) × (blockSize * dst + blockSize ≤ length (now work)) × (codeCount ≤ length (now parts)) ⌝ }
     ensures { λ o. ⌜ TriedIs (now (work .entry)) (make c (valuesFrom (now (work .entry)) (partsOf (now (parts .entry))) 0 n)) host dst (now (work .exit)) o ⌝ }
 {
     let w = bring_parts(work, parts, n, base, host);
-    if w % 256 == 32 {
+    if w % BYTE == NO_CODES {
         return Tried::NoRoom;
     }
     let r = enter_over(work, host, c, n, w);
-    if r == 32 {
+    if r == NO_ROOM {
         return Tried::NoRoom;
     }
     Tried::Here(bring(work, ValueRef::Object(r, host), dst))
@@ -117,7 +126,7 @@ pub(crate) fn try_in(
 
 // A new object whose parts are brought together in the spare block, where nothing else is: if there is no room, it is too large.
 pub(crate) fn make_anew(work: &mut [u8], c: u8, parts: &[u32], n: u8, dst: u16) -> Made
-    requires { ⌜ Makeable (now work) (partsOf (now parts)) n dst × (4 ≤ length (now parts)) ⌝ }
+    requires { ⌜ Makeable (now work) (partsOf (now parts)) n dst × (codeCount ≤ length (now parts)) ⌝ }
     ensures { λ o. ⌜ MadeIs (now (work .entry)) (make c (valuesFrom (now (work .entry)) (partsOf (now (parts .entry))) 0 n)) dst (now (work .exit)) o ⌝ }
 {
     empty(work, SPARE);
@@ -138,7 +147,7 @@ pub(crate) fn make_in(
     host: u16,
     dst: u16,
 ) -> Made
-    requires { ⌜ Makeable (now work) (partsOf (now parts)) n dst × Begun (now work) base host × (dst ≤ host) × (4 ≤ length (now parts)) ⌝ }
+    requires { ⌜ Makeable (now work) (partsOf (now parts)) n dst × Begun (now work) base host × (dst ≤ host) × (codeCount ≤ length (now parts)) ⌝ }
     ensures { λ o. ⌜ MadeIs (now (work .entry)) (make c (valuesFrom (now (work .entry)) (partsOf (now (parts .entry))) 0 n)) dst (now (work .exit)) o ⌝ }
 {
     let o = try_in(work, c, parts, n, base, host, dst);
@@ -150,7 +159,7 @@ pub(crate) fn make_in(
 
 // A new object whose parts are brought into a copy of block b, in block `dst`, where no part lies.
 pub fn make_copied(work: &mut [u8], c: u8, parts: &[u32], n: u8, b: u16, dst: u16) -> Made
-    requires { ⌜ Makeable (now work) (partsOf (now parts)) n dst × Block (now work) b × (b < dst) × (someIn (partsOf (now parts)) n dst ≡ false) × (4 ≤ length (now parts)) ⌝ }
+    requires { ⌜ Makeable (now work) (partsOf (now parts)) n dst × Block (now work) b × (b < dst) × (someIn (partsOf (now parts)) n dst ≡ false) × (codeCount ≤ length (now parts)) ⌝ }
     ensures { λ o. ⌜ MadeIs (now (work .entry)) (make c (valuesFrom (now (work .entry)) (partsOf (now (parts .entry))) 0 n)) dst (now (work .exit)) o ⌝ }
 {
     copy_block(work, b, dst);
@@ -159,11 +168,11 @@ pub fn make_copied(work: &mut [u8], c: u8, parts: &[u32], n: u8, b: u16, dst: u1
 
 // A new object whose parts lie in several blocks, `first` one of them, none in `dst`: over the block with the most objects, where it may be written, or over a copy; anew if that block is full.
 pub fn make_apart(work: &mut [u8], c: u8, parts: &[u32], n: u8, first: u16, dst: u16) -> Made
-    requires { ⌜ Makeable (now work) (partsOf (now parts)) n dst × Block (now work) first × (someIn (partsOf (now parts)) n dst ≡ false) × (4 ≤ length (now parts)) ⌝ }
+    requires { ⌜ Makeable (now work) (partsOf (now parts)) n dst × Block (now work) first × (someIn (partsOf (now parts)) n dst ≡ false) × (codeCount ≤ length (now parts)) ⌝ }
     ensures { λ o. ⌜ MadeIs (now (work .entry)) (make c (valuesFrom (now (work .entry)) (partsOf (now (parts .entry))) 0 n)) dst (now (work .exit)) o ⌝ }
 {
     let b = largest(work, parts, n, first);
-    if 32 <= work[234 * (b as usize) + 192] {
+    if CAPACITY <= work[BLOCK * (b as usize) + COUNT] {
         return make_anew(work, c, parts, n, dst);
     }
     if dst <= b {

@@ -3,6 +3,16 @@
 use crate::Made;
 use crate::parts::part_at;
 use canon::bytes::four_at;
+use canon::layout::BLOCK;
+use canon::layout::BYTE;
+use canon::layout::COUNT;
+use canon::layout::FIRST_MARK;
+use canon::layout::LEVEL;
+use canon::layout::OBJECT;
+use canon::layout::REACH;
+use canon::layout::THREE_BYTES;
+use canon::layout::TWO_BYTES;
+use canon::layout::UNDETERMINED;
 use values::ValueRef;
 use values::value::copy_block;
 ghost use mathlib.Core.Path.{_≡_};
@@ -11,6 +21,7 @@ ghost use Prim.Native.Nat.{ℕ, _+_, _*_, _<_, _≤_};
 ghost use mathlib.Core.List.{[]};
 ghost use lib.ListN.{length};
 ghost use Rattle.cofj.specs.Values.{make, eqNats};
+ghost use Rattle.canon.specs.Figures.{objectSize, codeCount, firstMark, capacity, blockSize};
 ghost use Rattle.maker.specs.declared.Made.the-variants.{Value};
 ghost use Rattle.maker.specs.Laying.{partsOf, PartsHeld, rawsFrom, valuesFrom, MadeIs};
 ghost use Rattle.canon.specs.Layout.{refOf, Packed, Block, countIn, part};
@@ -18,7 +29,7 @@ ghost use Rattle.values.specs.Layout.{rawOf, Holds};
 ghost use Rattle.canon.specs.Numbers.{Levels};
 ghost use Rattle.maker.specs.Adding.{objectOf, RootCodes, Found, Emptied, Appended, Added, someObject};
 
-// Four codes of fields that an object does not have: each is 192.
+// Four codes of fields that an object does not have: each is UNDETERMINED.
 pub const UNUSED: u32 = 3233857728;
 
 // The code of a part: its object's.
@@ -28,14 +39,14 @@ pub fn code_of(work: &[u8], r: ValueRef) -> u8
 {
     match r {
         ValueRef::Object(i, _) => i,
-        ValueRef::Mark(k) => 193 + k,
-        ValueRef::Undetermined => 192,
+        ValueRef::Mark(k) => FIRST_MARK + k,
+        ValueRef::Undetermined => UNDETERMINED,
     }
 }
 
 // The codes of the n parts, and unused ones.
 pub fn root_codes(work: &[u8], parts: &[u32], n: u8) -> u32
-    requires { ⌜ PartsHeld (now work) (partsOf (now parts)) n × (n ≤ 4) × (4 ≤ length (now parts)) ⌝ }
+    requires { ⌜ PartsHeld (now work) (partsOf (now parts)) n × (n ≤ codeCount) × (codeCount ≤ length (now parts)) ⌝ }
     ensures { λ w. ⌜ RootCodes (rawsFrom (now (work .entry)) (partsOf (now (parts .entry))) 0 n) n w ⌝ }
 {
     let mut w = UNUSED;
@@ -43,15 +54,15 @@ pub fn root_codes(work: &[u8], parts: &[u32], n: u8) -> u32
     while 0 < i {
         i -= 1;
         let v = part_at(parts, i);
-        w = (code_of(work, v) as u32) + 256 * (w % 16777216);
+        w = (code_of(work, v) as u32) + BYTE * (w % THREE_BYTES);
     }
     w
 }
 
 // Whether the object at place p is this one.
 pub fn is_object(work: &[u8], p: usize, c: u8, n: u8, w: u32) -> bool
-    requires { ⌜ p + 6 ≤ length (now work) ⌝ }
-    ensures { λ r. ⌜ r ≡ eqNats (part (now (work .entry)) p 6) (objectOf c n w) ⌝ }
+    requires { ⌜ p + objectSize ≤ length (now work) ⌝ }
+    ensures { λ r. ⌜ r ≡ eqNats (part (now (work .entry)) p objectSize) (objectOf c n w) ⌝ }
 {
     if four_at(work, p + 2) != w {
         return false;
@@ -69,7 +80,7 @@ pub fn find(work: &[u8], b: u16, t: u8, c: u8, n: u8, w: u32) -> u8
 {
     let mut k: u8 = 0;
     while k < t {
-        if is_object(work, 234 * (b as usize) + 6 * (k as usize), c, n, w) {
+        if is_object(work, BLOCK * (b as usize) + OBJECT * (k as usize), c, n, w) {
             return k;
         }
         k += 1;
@@ -79,12 +90,12 @@ pub fn find(work: &[u8], b: u16, t: u8, c: u8, n: u8, w: u32) -> u8
 
 // A level for a byte more.
 pub fn raise_level(l: u8, c: u8) -> u8
-    ensures { λ m. ⌜ (l ≤ m) × (c < 193 + m) ⌝ }
+    ensures { λ m. ⌜ (l ≤ m) × (c < firstMark + m) ⌝ }
 {
-    if c <= 192 {
+    if c <= UNDETERMINED {
         return l;
     }
-    let k = c - 192;
+    let k = c - UNDETERMINED;
     if k <= l {
         return l;
     }
@@ -93,56 +104,56 @@ pub fn raise_level(l: u8, c: u8) -> u8
 
 // A level for objects of this level and the new one.
 pub fn level_with(c: u8, n: u8, w: u32, l: u8) -> u8
-    ensures { λ m. ⌜ Levels (objectOf c n w) 0 6 m × (l ≤ m) ⌝ }
+    ensures { λ m. ⌜ Levels (objectOf c n w) 0 objectSize m × (l ≤ m) ⌝ }
 {
     let m0 = raise_level(l, c);
     let m1 = raise_level(m0, n);
-    let m2 = raise_level(m1, (w % 256) as u8);
-    let m3 = raise_level(m2, (w / 256 % 256) as u8);
-    let m4 = raise_level(m3, (w / 65536 % 256) as u8);
-    raise_level(m4, (w / 16777216) as u8)
+    let m2 = raise_level(m1, (w % BYTE) as u8);
+    let m3 = raise_level(m2, (w / BYTE % BYTE) as u8);
+    let m4 = raise_level(m3, (w / TWO_BYTES % BYTE) as u8);
+    raise_level(m4, (w / THREE_BYTES) as u8)
 }
 
 // Block `dst` without objects.
 pub fn empty(work: &mut [u8], dst: u16)
-    requires { ⌜ 234 * dst + 234 ≤ length (now work) ⌝ }
+    requires { ⌜ blockSize * dst + blockSize ≤ length (now work) ⌝ }
     ensures { λ _. ⌜ Emptied (now (work .entry)) dst (now (work .exit)) ⌝ }
 {
-    work[234 * (dst as usize) + 192] = 0;
-    work[234 * (dst as usize) + 193] = 0;
+    work[BLOCK * (dst as usize) + COUNT] = 0;
+    work[BLOCK * (dst as usize) + LEVEL] = 0;
 }
 
 // The object, after t objects of block `dst`, and the block's level. No object refers to the new one.
 pub fn append(work: &mut [u8], dst: u16, t: u8, c: u8, n: u8, w: u32, l: u8)
-    requires { ⌜ (t ≤ 31) × (234 * dst + 234 ≤ length (now work)) ⌝ }
+    requires { ⌜ (t < capacity) × (blockSize * dst + blockSize ≤ length (now work)) ⌝ }
     ensures { λ _. ⌜ Appended (now (work .entry)) dst t (objectOf c n w) l (now (work .exit)) ⌝ }
 {
-    let p = 234 * (dst as usize) + 6 * (t as usize);
+    let p = BLOCK * (dst as usize) + OBJECT * (t as usize);
     work[p] = c;
     work[p + 1] = n;
-    work[p + 2] = (w % 256) as u8;
-    work[p + 3] = (w / 256 % 256) as u8;
-    work[p + 4] = (w / 65536 % 256) as u8;
-    work[p + 5] = (w / 16777216) as u8;
-    work[234 * (dst as usize) + 192] = t + 1;
-    work[234 * (dst as usize) + 193] = l;
-    work[234 * (dst as usize) + 194] = t;
+    work[p + 2] = (w % BYTE) as u8;
+    work[p + 3] = (w / BYTE % BYTE) as u8;
+    work[p + 4] = (w / TWO_BYTES % BYTE) as u8;
+    work[p + 5] = (w / THREE_BYTES) as u8;
+    work[BLOCK * (dst as usize) + COUNT] = t + 1;
+    work[BLOCK * (dst as usize) + LEVEL] = l;
+    work[BLOCK * (dst as usize) + REACH] = t;
 }
 
 // The objects of block b and the new one, in block `dst`.
 pub fn add(work: &mut [u8], b: u16, c: u8, n: u8, w: u32, dst: u16)
-    requires { ⌜ Block (now work) b × (countIn (now work) b < 32) × (234 * dst + 234 ≤ length (now work)) ⌝ }
+    requires { ⌜ Block (now work) b × (countIn (now work) b < capacity) × (blockSize * dst + blockSize ≤ length (now work)) ⌝ }
     ensures { λ _. ⌜ Added (now (work .entry)) b (countIn (now (work .entry)) b) (objectOf c n w) dst (now (work .exit)) ⌝ }
 {
-    let t = work[234 * (b as usize) + 192];
-    let l = level_with(c, n, w, work[234 * (b as usize) + 193]);
+    let t = work[BLOCK * (b as usize) + COUNT];
+    let l = level_with(c, n, w, work[BLOCK * (b as usize) + LEVEL]);
     copy_block(work, b, dst);
     append(work, dst, t, c, n, w, l);
 }
 
 // A new object whose parts are no objects.
 pub fn make_alone(work: &mut [u8], c: u8, parts: &[u32], n: u8, dst: u16) -> Made
-    requires { ⌜ PartsHeld (now work) (partsOf (now parts)) n × (n ≤ 4) × (someObject (partsOf (now parts)) n ≡ false) × (234 * dst + 234 ≤ length (now work)) × (4 ≤ length (now parts)) ⌝ }
+    requires { ⌜ PartsHeld (now work) (partsOf (now parts)) n × (n ≤ codeCount) × (someObject (partsOf (now parts)) n ≡ false) × (blockSize * dst + blockSize ≤ length (now work)) × (codeCount ≤ length (now parts)) ⌝ }
     ensures { λ o. ⌜ MadeIs (now (work .entry)) (make c (valuesFrom (now (work .entry)) (partsOf (now (parts .entry))) 0 n)) dst (now (work .exit)) o ⌝ }
 {
     let w = root_codes(work, parts, n);
@@ -153,7 +164,7 @@ pub fn make_alone(work: &mut [u8], c: u8, parts: &[u32], n: u8, dst: u16) -> Mad
 
 // A new object without parts, which never is too large.
 pub fn make_bare(work: &mut [u8], c: u8, dst: u16) -> ValueRef
-    requires { ⌜ 234 * dst + 234 ≤ length (now work) ⌝ }
+    requires { ⌜ blockSize * dst + blockSize ≤ length (now work) ⌝ }
     ensures { λ r. ⌜ MadeIs (now (work .entry)) (make c []) dst (now (work .exit)) (Value r) ⌝ }
 {
     let l = level_with(c, 0, UNUSED, 0);

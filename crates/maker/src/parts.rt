@@ -1,10 +1,13 @@
 // The parts of a new object: which they are, and in which blocks they lie. Not here: what is made of them.
+use canon::layout::BLOCK;
+use canon::layout::COUNT;
 use values::ValueRef;
 use values::refs::unpack;
 ghost use mathlib.Core.Path.{_≡_};
 ghost use mathlib.Core.Bool.{false};
 ghost use Prim.Native.Nat.{ℕ, _+_, _*_, _<_, _≤_};
 ghost use lib.ListN.{length};
+ghost use Rattle.canon.specs.Figures.{codeCount};
 ghost use Rattle.canon.specs.Layout.{Block};
 ghost use Rattle.values.specs.Layout.{Holds, liesIn};
 ghost use Rattle.maker.specs.Laying.{partsOf, PartsHeld};
@@ -13,7 +16,7 @@ ghost use Rattle.maker.specs.Merging.{someIn, largerOf, largestOf};
 
 // Part i of a new object, whose parts are these numbers.
 pub fn part_at(parts: &[u32], i: u8) -> ValueRef
-    requires { ⌜ (i < 4) × (4 ≤ length (now parts)) ⌝ }
+    requires { ⌜ (i < codeCount) × (codeCount ≤ length (now parts)) ⌝ }
     ensures { λ v. ⌜ v ≡ partOf (partsOf (now (parts .entry))) i ⌝ }
 {
     unpack(parts[i as usize])
@@ -21,7 +24,7 @@ pub fn part_at(parts: &[u32], i: u8) -> ValueRef
 
 // Whether one of the parts is an object.
 pub fn some_object(parts: &[u32], n: u8) -> bool
-    requires { ⌜ (n ≤ 4) × (4 ≤ length (now parts)) ⌝ }
+    requires { ⌜ (n ≤ codeCount) × (codeCount ≤ length (now parts)) ⌝ }
     ensures { λ r. ⌜ r ≡ someObject (partsOf (now (parts .entry))) n ⌝ }
 {
     let mut i: u8 = 0;
@@ -47,7 +50,7 @@ pub fn block_of(v: ValueRef) -> u16
 
 // The block of the first part that is an object of a block other than 0; 0 if there is none.
 pub fn first_block(parts: &[u32], n: u8) -> u16
-    requires { ⌜ (n ≤ 4) × (4 ≤ length (now parts)) ⌝ }
+    requires { ⌜ (n ≤ codeCount) × (codeCount ≤ length (now parts)) ⌝ }
     ensures { λ b. ⌜ b ≡ firstBlock (partsOf (now (parts .entry))) n ⌝ }
 {
     let mut i: u8 = 0;
@@ -75,7 +78,7 @@ pub fn stands(v: ValueRef, b: u16) -> bool
 
 // Whether each part lies in block b, or is no object.
 pub fn together(parts: &[u32], n: u8, b: u16) -> bool
-    requires { ⌜ (n ≤ 4) × (4 ≤ length (now parts)) ⌝ }
+    requires { ⌜ (n ≤ codeCount) × (codeCount ≤ length (now parts)) ⌝ }
     ensures { λ r. ⌜ r ≡ allStand (partsOf (now (parts .entry))) n b ⌝ }
 {
     let mut i: u8 = 0;
@@ -102,7 +105,7 @@ pub fn lies_in(v: ValueRef, d: u16) -> bool
 
 // Whether one of the parts is an object of block d. Most often the last is.
 pub fn some_in(parts: &[u32], n: u8, d: u16) -> bool
-    requires { ⌜ (n ≤ 4) × (4 ≤ length (now parts)) ⌝ }
+    requires { ⌜ (n ≤ codeCount) × (codeCount ≤ length (now parts)) ⌝ }
     ensures { λ r. ⌜ r ≡ someIn (partsOf (now (parts .entry))) n d ⌝ }
 {
     let mut i: u8 = n;
@@ -127,7 +130,7 @@ pub fn larger(work: &[u8], v: ValueRef, b: u16) -> u16
     if x == 0 {
         return b;
     }
-    if work[234 * (b as usize) + 192] < work[234 * (x as usize) + 192] {
+    if work[BLOCK * (b as usize) + COUNT] < work[BLOCK * (x as usize) + COUNT] {
         return x;
     }
     b
@@ -135,7 +138,7 @@ pub fn larger(work: &[u8], v: ValueRef, b: u16) -> u16
 
 // The block with the most objects, of block b and those of the parts but block 0.
 pub fn largest(work: &[u8], parts: &[u32], n: u8, b: u16) -> u16
-    requires { ⌜ PartsHeld (now work) (partsOf (now parts)) n × (n ≤ 4) × Block (now work) b × (4 ≤ length (now parts)) ⌝ }
+    requires { ⌜ PartsHeld (now work) (partsOf (now parts)) n × (n ≤ codeCount) × Block (now work) b × (codeCount ≤ length (now parts)) ⌝ }
     ensures { λ r. ⌜ r ≡ largestOf (now (work .entry)) (partsOf (now (parts .entry))) n b ⌝ }
 {
     let mut d = b;

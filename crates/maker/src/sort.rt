@@ -1,11 +1,19 @@
 // The objects of a part sorted out: which are objects of the host, and which are new to it. An object is told by its fields where they are told, and looked
 // for in the host where it leads back to itself. Nothing is written to the host.
 // Not here: the new ones added (join). The order in which objects are looked at decides the time, not the answer.
+use crate::NOT_TOLD;
 use crate::over::find;
 use crate::seek::seek;
+use canon::layout::BLOCK;
+use canon::layout::BYTE;
+use canon::layout::COUNT;
+use canon::layout::FIRST_LEAF;
+use canon::layout::OBJECT;
+use canon::layout::THREE_BYTES;
 ghost use mathlib.Core.Path.{_≡_};
 ghost use Prim.Native.Nat.{ℕ, _+_, _*_, _<_, _≤_};
 ghost use lib.ListN.{length, getD};
+ghost use Rattle.canon.specs.Figures.{firstLeaf, capacity};
 ghost use Rattle.canon.specs.Layout.{Block, Inside};
 ghost use Rattle.maker.specs.Sorting.{Sorting, Onward, Settling, ByFields, SortedFrom, Listed, turnIn, OpenIs, NewIs, LeadsIs, TurnedIs};
 
@@ -28,10 +36,10 @@ pub(crate) fn is_open(x: u8, told: &[u8], fresh: &[u8]) -> bool
 
 // Whether a code is that of an object marked as new.
 pub(crate) fn is_new(c: u8, fresh: &[u8]) -> bool
-    requires { ⌜ (c < 192 → c < length (now fresh)) ⌝ }
+    requires { ⌜ (c < firstLeaf → c < length (now fresh)) ⌝ }
     ensures { λ r. ⌜ NewIs (now (fresh .entry)) c r ⌝ }
 {
-    if 192 <= c {
+    if FIRST_LEAF <= c {
         return false;
     }
     fresh[c as usize] != 0
@@ -39,10 +47,10 @@ pub(crate) fn is_new(c: u8, fresh: &[u8]) -> bool
 
 // Whether a field of object x of block src is.
 pub(crate) fn leads_new(work: &[u8], src: u16, x: u8, fresh: &[u8]) -> bool
-    requires { ⌜ Inside (now work) src x × (length (now fresh) ≡ 32) ⌝ }
+    requires { ⌜ Inside (now work) src x × (length (now fresh) ≡ capacity) ⌝ }
     ensures { λ r. ⌜ LeadsIs (now (work .entry)) src x (now (fresh .entry)) r ⌝ }
 {
-    let p = 234 * (src as usize) + 6 * (x as usize) + 2;
+    let p = BLOCK * (src as usize) + OBJECT * (x as usize) + 2;
     let mut k: u8 = 0;
     while k < 4 {
         if is_new(work[p + k as usize], fresh) {
@@ -53,36 +61,36 @@ pub(crate) fn leads_new(work: &[u8], src: u16, x: u8, fresh: &[u8]) -> bool
     false
 }
 
-// A code of the part in the host; 32 for an object that is not told.
+// A code of the part in the host; NOT_TOLD for an object that is not told.
 pub(crate) fn turn(told: &[u8], c: u8) -> u8
-    requires { ⌜ (c < 192 → c < length (now told)) ⌝ }
+    requires { ⌜ (c < firstLeaf → c < length (now told)) ⌝ }
     ensures { λ r. ⌜ r ≡ turnIn (now (told .entry)) c ⌝ }
 {
-    if 192 <= c {
+    if FIRST_LEAF <= c {
         return c;
     }
     let k = told[c as usize];
     if k == 0 {
-        return 32;
+        return NOT_TOLD;
     }
     k - 1
 }
 
 // The codes of object x of block src in the host.
 pub(crate) fn turn_fields(work: &[u8], src: u16, x: u8, told: &[u8]) -> Turned
-    requires { ⌜ Inside (now work) src x × (length (now told) ≡ 32) ⌝ }
+    requires { ⌜ Inside (now work) src x × (length (now told) ≡ capacity) ⌝ }
     ensures { λ o. ⌜ TurnedIs (now (work .entry)) src x (now (told .entry)) o ⌝ }
 {
-    let p = 234 * (src as usize) + 6 * (x as usize) + 2;
+    let p = BLOCK * (src as usize) + OBJECT * (x as usize) + 2;
     let mut w: u32 = 0;
     let mut k: u8 = 4;
     while 0 < k {
         k -= 1;
         let r = turn(told, work[p + k as usize]);
-        if r == 32 {
+        if r == NOT_TOLD {
             return Turned::Open;
         }
-        w = (r as u32) + 256 * (w % 16777216);
+        w = (r as u32) + BYTE * (w % THREE_BYTES);
     }
     Turned::All(w)
 }
@@ -110,8 +118,8 @@ pub(crate) fn by_fields(
     let Turned::All(w) = o else {
         return false;
     };
-    let p = 234 * (src as usize) + 6 * (x as usize);
-    let t = work[234 * (host as usize) + 192];
+    let p = BLOCK * (src as usize) + OBJECT * (x as usize);
+    let t = work[BLOCK * (host as usize) + COUNT];
     let k = find(work, host, t, work[p], work[p + 1], w);
     if k < t {
         told[x as usize] = k + 1;
@@ -145,10 +153,10 @@ pub(crate) fn count_classes(work: &[u8], host: u16, count: &mut [u8])
     requires { ⌜ Block (now work) host × (length (now count) ≡ 64) × ((k : ℕ) → getD (now count) k 0 ≡ 0) ⌝ }
     ensures { λ _. ⌜ length (now (count .exit)) ≡ 64 ⌝ }
 {
-    let t = work[234 * (host as usize) + 192];
+    let t = work[BLOCK * (host as usize) + COUNT];
     let mut y: u8 = 0;
     while y < t {
-        let k = (work[234 * (host as usize) + 6 * (y as usize)] % 64) as usize;
+        let k = (work[BLOCK * (host as usize) + OBJECT * (y as usize)] % 64) as usize;
         count[k] = count[k] + 1;
         y += 1;
     }
@@ -176,7 +184,7 @@ pub(crate) fn choose(
     while 0 < q {
         q -= 1;
         let y = list[q as usize];
-        let n = count[(work[234 * (src as usize) + 6 * (y as usize)] % 64) as usize];
+        let n = count[(work[BLOCK * (src as usize) + OBJECT * (y as usize)] % 64) as usize];
         if n < few {
             if is_open(y, told, fresh) {
                 few = n;

@@ -18,6 +18,7 @@ use Rattle.cofj.proofs.Trees.{same-child, same-cls, same-count}
 use Rattle.cofj.proofs.Canon.{canon-length}
 use Rattle.cofj.proofs.Unique.{canon-canon}
 use Rattle.cofj.proofs.Operations.{boundNode, boundNodes, bound-follow, bound-whole}
+use Rattle.canon.specs.Figures.{objectSize, headSize, codeCount, firstLeaf, undeterminedCode, firstMark, wideSize, capacity, objectsSize, countAt, reachAt, blockSize, spare}
 use Rattle.canon.specs.Layout.{refOf, codeOf, nodeIn, nodesIn, Packed, alikeAt, Distinct, Block, Inside, objectsIn, graphAt, countIn, reachIn, ended}
 use Rattle.canon.specs.Tables.{Carried}
 use Rattle.canon.specs.Rounds.{Raw}
@@ -148,29 +149,29 @@ module _ (hot i c : ℕ) where
   unfolding boundCode
   code-kept h = rw (ne-eqb c hot h)
 
-bound-ref : (x i c : ℕ) → i < 192 → refOf (boundCode (193 + x) i c) ≡ bind x (obj i) (refOf c)
-bound-ref x i c small = go (decLt c 192) (ℕ-discrete c 192) (ℕ-discrete c (193 + x))
+bound-ref : (x i c : ℕ) → i < firstLeaf → refOf (boundCode (firstMark + x) i c) ≡ bind x (obj i) (refOf c)
+bound-ref x i c small = go (decLt c firstLeaf) (ℕ-discrete c undeterminedCode) (ℕ-discrete c (firstMark + x))
   where
-    kept : (r : Ref) → refOf c ≡ r → ((c ≡ 193 + x) → ⊥) → bind x (obj i) r ≡ r → refOf (boundCode (193 + x) i c) ≡ bind x (obj i) (refOf c)
-    kept r e h b = ap refOf (sym (code-kept (193 + x) i c h)) ∙ e ∙ sym b ∙ ap (bind x (obj i)) (sym e)
+    kept : (r : Ref) → refOf c ≡ r → ((c ≡ firstMark + x) → ⊥) → bind x (obj i) r ≡ r → refOf (boundCode (firstMark + x) i c) ≡ bind x (obj i) (refOf c)
+    kept r e h b = ap refOf (sym (code-kept (firstMark + x) i c h)) ∙ e ∙ sym b ∙ ap (bind x (obj i)) (sym e)
 
-    go : Dec (c < 192) → Dec (c ≡ 192) → Dec (c ≡ 193 + x) → refOf (boundCode (193 + x) i c) ≡ bind x (obj i) (refOf c)
+    go : Dec (c < firstLeaf) → Dec (c ≡ undeterminedCode) → Dec (c ≡ firstMark + x) → refOf (boundCode (firstMark + x) i c) ≡ bind x (obj i) (refOf c)
     go (yes h) d e = kept (obj c) (ref-object c h) (λ z. omega arith) refl
     go (no h) (yes d) e = kept undet (ap refOf d ∙ ref-undet) (λ z. omega arith) refl
     go (no h) (no d) (yes e) =
-        ap refOf (sym (code-bound (193 + x) i c e)) ∙ ref-object i small ∙ sym (bind-this x i x (eq-eqb x x refl)) ∙ ap (bind x (obj i)) (sym (ap refOf e ∙ ref-mark x))
+        ap refOf (sym (code-bound (firstMark + x) i c e)) ∙ ref-object i small ∙ sym (bind-this x i x (eq-eqb x x refl)) ∙ ap (bind x (obj i)) (sym (ap refOf e ∙ ref-mark x))
     go (no h) (no d) (no e) =
-        let z : c ≡ 193 + (c - 193) = omega (arith, h, d) in
-        kept (mark (c - 193)) (ap refOf z ∙ ref-mark (c - 193)) e (bind-other x i (c - 193) (ne-eqb (c - 193) x (λ y. e (omega (arith, h, d)))))
+        let z : c ≡ firstMark + (c - firstMark) = omega (arith, h, d) in
+        kept (mark (c - firstMark)) (ap refOf z ∙ ref-mark (c - firstMark)) e (bind-other x i (c - firstMark) (ne-eqb (c - firstMark) x (λ y. e (omega (arith, h, d)))))
 
 map-take : (f : Ref → Ref) (n : ℕ) (l : List Ref) → map f (take n l) ≡ take n (map f l)
 map-take f zero l = refl
 map-take f (suc n) [] = refl
 map-take f (suc n) (y ∷ l) = ap (λ (t : List Ref). f y ∷ t) (map-take f n l)
 
-module _ (S R : List ℕ) (x i : ℕ) (small : i < 192) where
+module _ (S R : List ℕ) (x i : ℕ) (small : i < firstLeaf) where
   abbrev Here : ℕ → ℕ → Type 0
-  Here from to = (f : ℕ) → f < 6 → getD R (to + f) 0 ≡ boundByte (193 + x) i f (getD S (from + f) 0)
+  Here from to = (f : ℕ) → f < objectSize → getD R (to + f) 0 ≡ boundByte (firstMark + x) i f (getD S (from + f) 0)
 
   node-bound : (from to : ℕ) → Here from to → nodeIn R to ≡ boundNode x i (nodeIn S from)
   unfolding nodeIn boundByte
@@ -196,22 +197,22 @@ module _ (S R : List ℕ) (x i : ℕ) (small : i < 192) where
   unfolding boundByte
   packed-bound from to h pk = record { count = rw (h 1 (omega arith)) (pk .count); spare = λ k a l. spare k a l }
     where
-      spare : (k : ℕ) → 2 + getD R (to + 1) 0 ≤ k → k < 6 → getD R (to + k) 0 ≡ 192
+      spare : (k : ℕ) → 2 + getD R (to + 1) 0 ≤ k → k < objectSize → getD R (to + k) 0 ≡ undeterminedCode
       spare k a l =
           let e1 : getD R (to + 1) 0 ≡ getD S (from + 1) 0 = h 1 (omega arith) in
-          let es : getD S (from + k) 0 ≡ 192 = pk .spare k (omega arith) l in
-          h k l ∙ rw (le-ltb k 2 (omega arith)) (sym (code-kept (193 + x) i (getD S (from + k) 0) (λ z. omega arith)) ∙ es)
+          let es : getD S (from + k) 0 ≡ undeterminedCode = pk .spare k (omega arith) l in
+          h k l ∙ rw (le-ltb k headSize (omega arith)) (sym (code-kept (firstMark + x) i (getD S (from + k) 0) (λ z. omega arith)) ∙ es)
 
-  nodes-bound : (n from to : ℕ) → ((j : ℕ) → j < n → Here (from + 6 * j) (to + 6 * j)) → nodesIn R to n ≡ boundNodes x i (nodesIn S from n)
+  nodes-bound : (n from to : ℕ) → ((j : ℕ) → j < n → Here (from + objectSize * j) (to + objectSize * j)) → nodesIn R to n ≡ boundNodes x i (nodesIn S from n)
   unfolding nodesIn
   nodes-bound zero from to h = refl
   nodes-bound (suc n) from to h =
-      let za : to + 6 * 0 ≡ to = omega arith in
-      let zb : from + 6 * 0 ≡ from = omega arith in
+      let za : to + objectSize * 0 ≡ to = omega arith in
+      let zb : from + objectSize * 0 ≡ from = omega arith in
       ap₂ {C = List Node} _∷_ (node-bound from to (rw (za, zb) at (h 0 (omega arith))))
       (nodes-bound n (from + 6) (to + 6) (λ j l.
-      let ea : to + 6 + 6 * j ≡ to + 6 * suc j = omega arith in
-      let eb : from + 6 + 6 * j ≡ from + 6 * suc j = omega arith in
+      let ea : to + 6 + objectSize * j ≡ to + objectSize * suc j = omega arith in
+      let eb : from + 6 + objectSize * j ≡ from + objectSize * suc j = omega arith in
       rw (ea, eb) (h (suc j) (omega arith))))
 
 -- ---- an object written byte by byte
@@ -227,7 +228,7 @@ module _ (W : List ℕ) (p hot i : ℕ) (R₀ : List ℕ) (q : ℕ) where
       go f h (yes z) = rw z (getD-set-same R (q + k) v 0 (omega (arith, o .same)) ∙ e)
       go f h (no z) = getD-set-other R (q + k) (q + f) v 0 (λ y. z (omega arith)) ∙ o .here f (omega (arith, z))
 
-  pub object-bound : q + 6 ≤ length R₀ → (v2 v3 v4 v5 : ℕ) → v2 ≡ boundCode hot i (getD W (p + 2) 0) → v3 ≡ boundCode hot i (getD W (p + 3) 0)
+  pub object-bound : q + objectSize ≤ length R₀ → (v2 v3 v4 v5 : ℕ) → v2 ≡ boundCode hot i (getD W (p + 2) 0) → v3 ≡ boundCode hot i (getD W (p + 3) 0)
       → v4 ≡ boundCode hot i (getD W (p + 4) 0) → v5 ≡ boundCode hot i (getD W (p + 5) 0)
       → ObjectBound W p hot i R₀ q 6 (set (set (set (set (set (set R₀ q (getD W p 0)) (q + 1) (getD W (p + 1) 0)) (q + 2) v2) (q + 3) v3) (q + 4) v4) (q + 5) v5)
   unfolding boundByte
@@ -246,14 +247,14 @@ module _ (W : List ℕ) (p hot i : ℕ) (R₀ : List ℕ) (q : ℕ) where
 pub bound-none : (W : List ℕ) (b hot i : ℕ) (R : List ℕ) → ObjectsBound W b hot i 0 R
 bound-none W b hot i R = record { here = λ j f h. absurd (omega arith) }
 
-pub bound-more : (W : List ℕ) (b hot i j : ℕ) (R R2 : List ℕ) → ObjectsBound W b hot i j R → ObjectBound W (234 * b + 6 * j) hot i R (6 * j) 6 R2 → ObjectsBound W b hot i (j + 1) R2
+pub bound-more : (W : List ℕ) (b hot i j : ℕ) (R R2 : List ℕ) → ObjectsBound W b hot i j R → ObjectBound W (blockSize * b + objectSize * j) hot i R (objectSize * j) 6 R2 → ObjectsBound W b hot i (j + 1) R2
 bound-more W b hot i j R R2 o n = record { here = λ k f h l. go k f h l (ℕ-discrete k j) }
   where
-    go : (k f : ℕ) → k < j + 1 → f < 6 → Dec (k ≡ j) → getD R2 (6 * k + f) 0 ≡ boundByte hot i f (getD W (234 * b + 6 * k + f) 0)
+    go : (k f : ℕ) → k < j + 1 → f < objectSize → Dec (k ≡ j) → getD R2 (objectSize * k + f) 0 ≡ boundByte hot i f (getD W (blockSize * b + objectSize * k + f) 0)
     go k f h l (yes z) = rw z (n .here f l)
-    go k f h l (no z) = n .below (6 * k + f) (omega (arith, z)) ∙ o .here k f (omega (arith, z)) l
+    go k f h l (no z) = n .below (objectSize * k + f) (omega (arith, z)) ∙ o .here k f (omega (arith, z)) l
 
-pub bound-all : (W : List ℕ) (b x i n j : ℕ) (R : List ℕ) → n ≡ getD W (234 * b + 192) 0 → ObjectsBound W b (193 + x) i j R → j ≤ n → n ≤ j → 192 ≤ length R → Bound W b x i R n
+pub bound-all : (W : List ℕ) (b x i n j : ℕ) (R : List ℕ) → n ≡ getD W (blockSize * b + countAt) 0 → ObjectsBound W b (firstMark + x) i j R → j ≤ n → n ≤ j → objectsSize ≤ length R → Bound W b x i R n
 unfolding countIn
 bound-all W b x i n j R e o h k l = let z : j ≡ n = omega arith in record { count = e; objects = rw z at o; room = l }
 
@@ -261,10 +262,10 @@ module _ (W : List ℕ) (b i : ℕ) (ob : Inside W b i) where
   bk : Block W b
   bk = ob .block
 
-  pub block-room : 234 * b + 234 ≤ length W
+  pub block-room : blockSize * b + blockSize ≤ length W
   block-room = bk .room
 
-  pub few-objects : getD W (234 * b + 192) 0 ≤ 32
+  pub few-objects : getD W (blockSize * b + countAt) 0 ≤ capacity
   unfolding countIn
   few-objects = bk .small
 
@@ -272,33 +273,33 @@ module _ (W : List ℕ) (b i : ℕ) (ob : Inside W b i) where
   size = size-in W b bk
 
   module _ (x : ℕ) (R : List ℕ) (n : ℕ) (bd : Bound W b x i R n) where
-    here-at : (j : ℕ) → j < n → (f : ℕ) → f < 6 → getD R (6 * j + f) 0 ≡ boundByte (193 + x) i f (getD W (234 * b + 6 * j + f) 0)
+    here-at : (j : ℕ) → j < n → (f : ℕ) → f < objectSize → getD R (objectSize * j + f) 0 ≡ boundByte (firstMark + x) i f (getD W (blockSize * b + objectSize * j + f) 0)
     here-at j h f l = bd .objects .here j f h l
 
     objects-are : nodesIn R 0 n ≡ boundNodes x i (objectsIn W b)
     unfolding objectsIn
     objects-are =
-        nodes-bound W R x i (omega (arith, ob .low, bk .small)) n (234 * b) 0 (λ j h f l. let z : 0 + 6 * j ≡ 6 * j = omega arith in rw z (here-at j h f l))
-        ∙ ap (λ (k : ℕ). boundNodes x i (nodesIn W (234 * b) k)) (bd .count)
+        nodes-bound W R x i (omega (arith, ob .low, bk .small)) n (blockSize * b) 0 (λ j h f l. let z : 0 + objectSize * j ≡ objectSize * j = omega arith in rw z (here-at j h f l))
+        ∙ ap (λ (k : ℕ). boundNodes x i (nodesIn W (blockSize * b) k)) (bd .count)
 
     whole-bound : Whole (graph (obj i) (boundNodes x i (objectsIn W b)))
     whole-bound = bound-whole (graphAt W b i) (whole-at W b bk i (ob .low)) x i (omega (arith, size, ob .low))
 
-    pub bound-small : n ≤ 32
+    pub bound-small : n ≤ capacity
     bound-small = omega (arith, bd .count, bk .small)
 
     pub bound-few : Few R n
     bound-few = record {
       small = bound-small;
       room = bd .room;
-      packed = λ j h. packed-bound W R x i (omega (arith, ob .low, bk .small)) (234 * b + 6 * j) (6 * j) (here-at j h) (bk .packed j (omega (arith, bd .count)));
+      packed = λ j h. packed-bound W R x i (omega (arith, ob .low, bk .small)) (blockSize * b + objectSize * j) (objectSize * j) (here-at j h) (bk .packed j (omega (arith, bd .count)));
       whole = record { top = tt; inner = λ j k r e. subst (λ (ns : List Node). InRange (length ns) r) (sym objects-are) (whole-bound .inner j k r (subst (λ (ns : List Node). getElem? (refsAt ns j) k ≡ some r) objects-are e)) };
     }
 
     pub root-low : i < n
     root-low = omega (arith, bd .count, ob .low)
 
-    pub bound-rooted : (dst : ℕ) → 234 * dst + 234 ≤ length W → Rooted R n i W dst
+    pub bound-rooted : (dst : ℕ) → blockSize * dst + blockSize ≤ length W → Rooted R n i W dst
     bound-rooted dst room = record { few = bound-few; inside = root-low; room = room }
 
     -- what the objects bound stand for
@@ -316,7 +317,7 @@ module _ (W : List ℕ) (p i : ℕ) where
   abbrev is : ℕ → Bool
   is f = eqb (getD W (p + 2 + f) 0) i
 
-  refer-at : (f a : ℕ) → f < 4 → p + 2 + f ≡ a → getD W a 0 ≡ i → true ≡ refersTo W p i
+  refer-at : (f a : ℕ) → f < codeCount → p + 2 + f ≡ a → getD W a 0 ≡ i → true ≡ refersTo W p i
   unfolding refersTo
   refer-at f a h z e = sym (any-there is 4 f h (eq-eqb _ _ (ap (λ (k : ℕ). getD W k 0) z ∙ e)))
 
@@ -336,7 +337,7 @@ module _ (W : List ℕ) (p i : ℕ) where
       at : (f a : ℕ) → p + 2 + f ≡ a → ((getD W a 0 ≡ i) → ⊥) → is f ≡ false
       at f a e h = ne-eqb _ _ (λ q. h (ap (λ (k : ℕ). getD W k 0) (sym e) ∙ q))
 
-      codes : eqb (getD W (p + 5) 0) i ≡ false → (f : ℕ) → f < 4 → is f ≡ false
+      codes : eqb (getD W (p + 5) 0) i ≡ false → (f : ℕ) → f < codeCount → is f ≡ false
       codes z zero h = at 0 (p + 2) (omega arith) h2
       codes z (suc zero) h = at 1 (p + 3) (omega arith) h3
       codes z (suc (suc zero)) h = at 2 (p + 4) (omega arith) h4
@@ -347,19 +348,19 @@ module _ (W : List ℕ) (p i : ℕ) where
       go true z = refer-at 3 (p + 5) (omega arith) (omega arith) (eqb-true _ _ z)
       go false z = sym (any-none is 4 (codes z))
 
-  refer-not : refersTo W p i ≡ false → (f : ℕ) → f < 4 → getD W (p + 2 + f) 0 ≡ i → ⊥
+  refer-not : refersTo W p i ≡ false → (f : ℕ) → f < codeCount → getD W (p + 2 + f) 0 ≡ i → ⊥
   unfolding refersTo
   refer-not z f h = eqb-false _ _ (any-not is 4 f z h)
 
 module _ (W : List ℕ) (b i : ℕ) where
   abbrev refers : ℕ → Bool
-  refers k = refersTo W (234 * b + 6 * k) i
+  refers k = refersTo W (blockSize * b + objectSize * k) i
 
   pub free-none : noneRefer W b 0 i ≡ true
   unfolding noneRefer any
   free-none = refl
 
-  module _ (k : ℕ) (r : Bool) (er : r ≡ refersTo W (234 * b + 6 * k) i) where
+  module _ (k : ℕ) (r : Bool) (er : r ≡ refersTo W (blockSize * b + objectSize * k) i) where
     pub free-more : noneRefer W b k i ≡ true → r ≡ false → noneRefer W b (k + 1) i ≡ true
     unfolding noneRefer
     free-more u e = ap not (any-more refers k (not-true _ u) (sym er ∙ e))
@@ -371,13 +372,13 @@ module _ (W : List ℕ) (b i : ℕ) where
   pub free-all : (k n : ℕ) → noneRefer W b k i ≡ true → k ≤ n → n ≤ k → true ≡ noneRefer W b n i
   free-all k n u h l = let e : k ≡ n = omega arith in sym (rw e at u)
 
-  free-code : (n : ℕ) → noneRefer W b n i ≡ true → (j : ℕ) → j < n → (f : ℕ) → f < 4 → getD W (234 * b + 6 * j + 2 + f) 0 ≡ i → ⊥
+  free-code : (n : ℕ) → noneRefer W b n i ≡ true → (j : ℕ) → j < n → (f : ℕ) → f < codeCount → getD W (blockSize * b + objectSize * j + headSize + f) 0 ≡ i → ⊥
   unfolding noneRefer
-  free-code n u j h = refer-not W (234 * b + 6 * j) i (any-not refers n j (not-true _ u) h)
+  free-code n u j h = refer-not W (blockSize * b + objectSize * j) i (any-not refers n j (not-true _ u) h)
 
 -- ---- two objects side by side
 module _ (R : List ℕ) (x y : ℕ) where
-  pub other-here : (f : ℕ) → ((getD R (6 * x + 2 + f) 0 ≡ getD R (6 * y + 2 + f) 0) → ⊥) → OtherField R x y f
+  pub other-here : (f : ℕ) → ((getD R (objectSize * x + headSize + f) 0 ≡ getD R (objectSize * y + headSize + f) 0) → ⊥) → OtherField R x y f
   other-here f h = record { other = λ _. h }
 
   pub other-none : OtherField R x y 4
@@ -392,49 +393,49 @@ module _ (R : List ℕ) (n i k : ℕ) where
 
   module _ (fw : Few R n) where
     packed : AllPacked R 0 n
-    packed j h = let z : 0 + 6 * j ≡ 6 * j = omega arith in rw z (fw .packed j h)
+    packed j h = let z : 0 + objectSize * j ≡ objectSize * j = omega arith in rw z (fw .packed j h)
 
     abbrev ns : List Node
     ns = nodesIn R 0 n
 
-    cls-at : (x : ℕ) → x < n → getD R (6 * x) 0 ≡ nodeAt ns x .cls
-    cls-at x h = let z : 0 + 6 * x ≡ 6 * x = omega arith in rw z at (class-is R 0 n packed x h)
+    cls-at : (x : ℕ) → x < n → getD R (objectSize * x) 0 ≡ nodeAt ns x .cls
+    cls-at x h = let z : 0 + objectSize * x ≡ objectSize * x = omega arith in rw z at (class-is R 0 n packed x h)
 
-    count-at : (x : ℕ) → x < n → getD R (6 * x + 1) 0 ≡ length (refsAt ns x)
-    count-at x h = let z : 0 + 6 * x ≡ 6 * x = omega arith in rw z at (count-is R 0 n packed x h)
+    count-at : (x : ℕ) → x < n → getD R (objectSize * x + 1) 0 ≡ length (refsAt ns x)
+    count-at x h = let z : 0 + objectSize * x ≡ objectSize * x = omega arith in rw z at (count-is R 0 n packed x h)
 
-    code-at : (x : ℕ) → x < n → (f : ℕ) → f < 4 → getD R (6 * x + 2 + f) 0 ≡ codeOf (getD (refsAt ns x) f undet)
-    code-at x h f l = let z : 0 + 6 * x ≡ 6 * x = omega arith in rw z at (code-is R 0 n packed x h f l)
+    code-at : (x : ℕ) → x < n → (f : ℕ) → f < codeCount → getD R (objectSize * x + headSize + f) 0 ≡ codeOf (getD (refsAt ns x) f undet)
+    code-at x h f l = let z : 0 + objectSize * x ≡ objectSize * x = omega arith in rw z at (code-is R 0 n packed x h f l)
 
     range-at : (x f : ℕ) → f < length (refsAt ns x) → InRange n (getD (refsAt ns x) f undet)
     range-at x f h = subst (λ (l : ℕ). InRange l (getD (refsAt ns x) f undet)) (length-nodes R 0 n) (fw .whole .inner x f _ (some-at (refsAt ns x) f h))
 
-    spare-at : (x : ℕ) → x < n → (f : ℕ) → f < 4 → getD R (6 * x + 1) 0 ≤ f → getD R (6 * x + 2 + f) 0 ≡ 192
-    spare-at x h f l m = let z : 6 * x + 2 + f ≡ 6 * x + (2 + f) = omega arith in rw z (fw .packed x h .spare (2 + f) (omega arith) (omega arith))
+    spare-at : (x : ℕ) → x < n → (f : ℕ) → f < codeCount → getD R (objectSize * x + 1) 0 ≤ f → getD R (objectSize * x + headSize + f) 0 ≡ undeterminedCode
+    spare-at x h f l m = let z : objectSize * x + headSize + f ≡ objectSize * x + (2 + f) = omega arith in rw z (fw .packed x h .spare (2 + f) (omega arith) (omega arith))
 
     module _ (x y : ℕ) (ld : Leads R n i k x y) where
-      pub differ-unlike : (r : Bool) → r ≡ alikeAt R (6 * x) (6 * y) → not r ≡ true → DifferTest R n i k true
+      pub differ-unlike : (r : Bool) → r ≡ alikeAt R (objectSize * x) (objectSize * y) → not r ≡ true → DifferTest R n i k true
       differ-unlike r t z = record {
-        yes = λ _ e. alike-no R (6 * x) (6 * y) r t (not-true r z) (record {
+        yes = λ _ e. alike-no R (objectSize * x) (objectSize * y) r t (not-true r z) (record {
           cls = cls-at x (ld .first) ∙ same-cls ns ns x y (ld .leads e) ∙ sym (cls-at y (ld .second));
           count = count-at x (ld .first) ∙ same-count ns ns x y (ld .leads e) ∙ sym (count-at y (ld .second));
         });
       }
 
-      module _ (u : Bool) (t : u ≡ alikeAt R (6 * x) (6 * y)) (zu : not u ≡ false) (f : ℕ) (o : OtherField R x y f) (hf : f < 4) where
+      module _ (u : Bool) (t : u ≡ alikeAt R (objectSize * x) (objectSize * y)) (zu : not u ≡ false) (f : ℕ) (o : OtherField R x y f) (hf : f < codeCount) where
         abbrev a : ℕ
-        a = getD R (6 * x + 2 + f) 0
+        a = getD R (objectSize * x + headSize + f) 0
 
         abbrev c : ℕ
-        c = getD R (6 * y + 2 + f) 0
+        c = getD R (objectSize * y + headSize + f) 0
 
-        en : getD R (6 * x + 1) 0 ≡ getD R (6 * y + 1) 0
-        en = alike-yes R (6 * x) (6 * y) u t (not-false u zu) .count
+        en : getD R (objectSize * x + 1) 0 ≡ getD R (objectSize * y + 1) 0
+        en = alike-yes R (objectSize * x) (objectSize * y) u t (not-false u zu) .count
 
-        field-low : f < getD R (6 * x + 1) 0
-        field-low = go (decLt f (getD R (6 * x + 1) 0))
+        field-low : f < getD R (objectSize * x + 1) 0
+        field-low = go (decLt f (getD R (objectSize * x + 1) 0))
           where
-            go : Dec (f < getD R (6 * x + 1) 0) → f < getD R (6 * x + 1) 0
+            go : Dec (f < getD R (objectSize * x + 1) 0) → f < getD R (objectSize * x + 1) 0
             go (yes h) = h
             go (no h) = absurd (o .other hf (spare-at x (ld .first) f hf (omega (arith, h)) ∙ sym (spare-at y (ld .second) f hf (omega (arith, h, en)))))
 
@@ -459,16 +460,16 @@ module _ (R : List ℕ) (n i k : ℕ) where
         children : Same ns (obj i) ns (obj k) → Same ns r ns s
         children e = same-child ns ns (obj x) (obj y) (ld .leads e) f r s (some-at (refsAt ns x) f low-x) (some-at (refsAt ns y) f low-y)
 
-        pub differ-first : 192 ≤ a → DifferTest R n i k true
-        differ-first h = record { yes = λ _ e. o .other hf (ea ∙ leaf-codes ns ns r s (in-larger n 192 r (omega (arith, fw .small)) (range-at x f low-x)) (children e) (omega (arith, ea)) ∙ sym ec) }
+        pub differ-first : firstLeaf ≤ a → DifferTest R n i k true
+        differ-first h = record { yes = λ _ e. o .other hf (ea ∙ leaf-codes ns ns r s (in-larger n firstLeaf r (omega (arith, fw .small)) (range-at x f low-x)) (children e) (omega (arith, ea)) ∙ sym ec) }
 
-        pub differ-second : 192 ≤ c → DifferTest R n i k true
-        differ-second h = record { yes = λ _ e. o .other hf (ea ∙ sym (leaf-codes ns ns s r (in-larger n 192 s (omega (arith, fw .small)) (range-at y f low-y)) (λ p. sym (children e p)) (omega (arith, ec))) ∙ sym ec) }
+        pub differ-second : firstLeaf ≤ c → DifferTest R n i k true
+        differ-second h = record { yes = λ _ e. o .other hf (ea ∙ sym (leaf-codes ns ns s r (in-larger n firstLeaf s (omega (arith, fw .small)) (range-at y f low-y)) (λ p. sym (children e p)) (omega (arith, ec))) ∙ sym ec) }
 
-        pub differ-step : a < 192 → c < 192 → Leads R n i k a c
+        pub differ-step : a < firstLeaf → c < firstLeaf → Leads R n i k a c
         differ-step ha hc =
-            let la : codeOf r < 192 = omega (arith, ea) in
-            let lc : codeOf s < 192 = omega (arith, ec) in
+            let la : codeOf r < firstLeaf = omega (arith, ea) in
+            let lc : codeOf s < firstLeaf = omega (arith, ec) in
             record {
               first = omega (arith, ea, object-low n r (range-at x f low-x) la);
               second = omega (arith, ec, object-low n s (range-at y f low-y) lc);
@@ -502,15 +503,15 @@ module _ (R : List ℕ) (n i : ℕ) where
 -- ---- the objects stay distinct
 -- no object of the block refers to object i
 abbrev Free : List ℕ → ℕ → ℕ → Type 0
-Free W b i = (j : ℕ) → j < countIn W b → (f : ℕ) → f < 4 → getD W (234 * b + 6 * j + 2 + f) 0 ≡ i → ⊥
+Free W b i = (j : ℕ) → j < countIn W b → (f : ℕ) → f < codeCount → getD W (blockSize * b + objectSize * j + headSize + f) 0 ≡ i → ⊥
 
 module _ (W : List ℕ) (b i : ℕ) (bk : Block W b) (fr : Free W b i) where
   free-at : (j : ℕ) → j < countIn W b → (f : ℕ) (r : Ref) → getElem? (refsAt (objectsIn W b) j) f ≡ some r → r ≡ obj i → ⊥
   unfolding objectsIn
   free-at j h f r e z =
-      let g = at-some (refsAt (nodesIn W (234 * b) (countIn W b)) j) f r e in
-      let l : f < 4 = omega (arith, g .1, four-fields W (234 * b) (countIn W b) (bk .packed) j h) in
-      fr j h f l (code-is W (234 * b) (countIn W b) (bk .packed) j h f l ∙ ap codeOf (g .0 ∙ z))
+      let g = at-some (refsAt (nodesIn W (blockSize * b) (countIn W b)) j) f r e in
+      let l : f < codeCount = omega (arith, g .1, four-fields W (blockSize * b) (countIn W b) (bk .packed) j h) in
+      fr j h f l (code-is W (blockSize * b) (countIn W b) (bk .packed) j h f l ∙ ap codeOf (g .0 ∙ z))
 
   free-in : (j f : ℕ) (r : Ref) → getElem? (refsAt (objectsIn W b) j) f ≡ some r → r ≡ obj i → ⊥
   free-in j f r e = go (decLt j (countIn W b))
@@ -533,7 +534,7 @@ module _ (W : List ℕ) (b i : ℕ) (ob : Inside W b i) (x : ℕ) (R : List ℕ)
   pub stays-distinct : (u r : Bool) → u ≡ noneRefer W b n i → u ≡ true → OthersTest R n i r → DistinctTest R n r
   stays-distinct u r t e o = record { yes = λ z. distinct-objects (λ j h. free-code W b i n (sym t ∙ e) j (omega (arith, bd .count))) (o .yes z) }
 
-  pub stays-beyond : (r : Bool) → getD W (234 * b + 194) 0 ≤ i → OthersTest R n i r → DistinctTest R n r
+  pub stays-beyond : (r : Bool) → getD W (blockSize * b + reachAt) 0 ≤ i → OthersTest R n i r → DistinctTest R n r
   unfolding reachIn
   stays-beyond r h o = record {
     yes = λ z. distinct-objects (λ j k f l e. omega (arith, ob .block .reach j f k l (omega (arith, ob .low, ob .block .small)))) (o .yes z);
@@ -550,33 +551,33 @@ module _ (R : List ℕ) (n i : ℕ) (W : List ℕ) (dst : ℕ) (rd : Rooted R n 
   whole-graph : Whole (graphIn R n i)
   whole-graph = record { top = omega (arith, length-nodes R 0 n, rd .inside); inner = rd .few .whole .inner }
 
-  pub rooted-raw : 1536 ≤ length R → Raw R n
+  pub rooted-raw : wideSize ≤ length R → Raw R n
   rooted-raw h = record { few = omega (arith, rd .few .small); room = h; packed = rd .few .packed; whole = rd .few .whole }
 
-  module _ (d : Distinct (nodesIn R 0 n)) (D : List ℕ) (w : Carried R 0 W (234 * dst) (6 * n) D) (l : ℕ) (lv : Levels R 0 (6 * n) l) where
+  module _ (d : Distinct (nodesIn R 0 n)) (D : List ℕ) (w : Carried R 0 W (blockSize * dst) (objectSize * n) D) (l : ℕ) (lv : Levels R 0 (objectSize * n) l) where
     abbrev E : List ℕ
     E = ended D dst n l n
 
-    wide : 234 * dst + 234 ≤ length D
+    wide : blockSize * dst + blockSize ≤ length D
     wide = omega (arith, w .same, rd .room)
 
     same-size : length E ≡ length W
     same-size = ended-size D dst n l n wide ∙ w .same
 
-    written : (p : ℕ) → p < 6 * n → getD E (234 * dst + p) 0 ≡ getD R p 0
-    written p h = ended-below D dst n l n wide (234 * dst + p) (omega (arith, rd .few .small)) ∙ w .here p h ∙ ap (λ (k : ℕ). getD R k 0) (let z : 0 + p ≡ p = omega arith in z)
+    written : (p : ℕ) → p < objectSize * n → getD E (blockSize * dst + p) 0 ≡ getD R p 0
+    written p h = ended-below D dst n l n wide (blockSize * dst + p) (omega (arith, rd .few .small)) ∙ w .here p h ∙ ap (λ (k : ℕ). getD R k 0) (let z : 0 + p ≡ p = omega arith in z)
 
     size-is : countIn E dst ≡ n
     size-is = ended-count D dst n l n wide
 
     objects-same : objectsIn E dst ≡ nodesIn R 0 n
     unfolding objectsIn
-    objects-same = ap (nodesIn E (234 * dst)) size-is ∙ nodes-same E R n (234 * dst) 0 (λ p h. let z : 0 + p ≡ p = omega arith in rw z (written p h))
+    objects-same = ap (nodesIn E (blockSize * dst)) size-is ∙ nodes-same E R n (blockSize * dst) 0 (λ p h. let z : 0 + p ≡ p = omega arith in rw z (written p h))
 
-    packed-is : AllPacked E (234 * dst) (countIn E dst)
+    packed-is : AllPacked E (blockSize * dst) (countIn E dst)
     packed-is j h =
-        packed-same E R (234 * dst + 6 * j) (6 * j)
-        (λ f g. let z : 234 * dst + 6 * j + f ≡ 234 * dst + (6 * j + f) = omega arith in rw z (written (6 * j + f) (omega (arith, size-is))))
+        packed-same E R (blockSize * dst + objectSize * j) (objectSize * j)
+        (λ f g. let z : blockSize * dst + objectSize * j + f ≡ blockSize * dst + (objectSize * j + f) = omega arith in rw z (written (objectSize * j + f) (omega (arith, size-is))))
         (rd .few .packed j (omega (arith, size-is)))
 
     whole-is : Whole (graph undet (objectsIn E dst))
@@ -591,7 +592,7 @@ module _ (R : List ℕ) (n i : ℕ) (W : List ℕ) (dst : ℕ) (rd : Rooted R n 
       whole = whole-is;
       distinct = subst Distinct (sym objects-same) d;
       level = λ q h. let z : 0 + q ≡ q = omega arith in rw (written q (omega (arith, size-is)), ended-level D dst n l n wide) (rw z at (lv .below q (omega (arith, size-is))));
-      reach = λ j f h k c. omega (arith, size-is, ended-reach D dst n l n wide, code-low E (234 * dst) (countIn E dst) packed-is j h whole-is f k c);
+      reach = λ j f h k c. omega (arith, size-is, ended-reach D dst n l n wide, code-low E (blockSize * dst) (countIn E dst) packed-is j h whole-is f k c);
     }
 
     pub put-distinct : Gives W dst E (Object i dst) (canon (graphIn R n i))
@@ -607,7 +608,7 @@ module _ (R : List ℕ) (n i : ℕ) (W : List ℕ) (dst : ℕ) (rd : Rooted R n 
     }
 
   -- merged and numbered
-  pub merge-ready : 1536 ≤ length R → (C : List ℕ) → 256 ≤ length C → take n C ≡ colours (nodesIn R 0 n) → Ready R n C i W dst
+  pub merge-ready : wideSize ≤ length R → (C : List ℕ) → 256 ≤ length C → take n C ≡ colours (nodesIn R 0 n) → Ready R n C i W dst
   merge-ready w C h e = record { raw = rooted-raw w; long = h; coloured = e; inside = rd .inside; room = rd .room }
 
   pub put-merged : (W′ : List ℕ) (m : ℕ) → Placed R n i W dst W′ m → Gives W dst W′ (Object 0 dst) (canon (graphIn R n i))

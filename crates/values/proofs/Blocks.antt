@@ -13,6 +13,7 @@ use Rattle.cofj.specs.Values.{Ref, obj, undet, Node, Graph, graph, rename, rena
 use Rattle.cofj.specs.Unfolding.{InRange, Whole}
 use Rattle.cofj.specs.ReportForm.{upFrom}
 use Rattle.cofj.proofs.Canon.{node-id, canon-length}
+use Rattle.canon.specs.Figures.{objectSize, wideSize, capacity, countAt, blockSize}
 use Rattle.canon.specs.Layout.{nodesIn, Block, Inside, objectsIn, graphAt, countIn}
 use Rattle.canon.specs.Tables.{Filled, Carried}
 use Rattle.canon.specs.Rounds.{Raw}
@@ -34,11 +35,11 @@ module _ (W : List ℕ) (r : ValueRef) (b i : ℕ) (h : Holds W r) (e : r ≡ Ob
   pub held-block : Block W b
   held-block = held-inside .block
 
-  pub held-room : 234 * b + 234 ≤ length W
+  pub held-room : blockSize * b + blockSize ≤ length W
   held-room = held-block .room
 
 -- the bytes of an object are there
-pub inside-room : (W : List ℕ) (b i : ℕ) → Inside W b i → 234 * b + 6 * i + 6 ≤ length W
+pub inside-room : (W : List ℕ) (b i : ℕ) → Inside W b i → blockSize * b + objectSize * i + objectSize ≤ length W
 inside-room W b i ob = omega (arith, ob .block .room, ob .block .small, ob .low)
 
 -- a reference that stands for none is a mark or undetermined
@@ -48,8 +49,8 @@ no-object P m u (Mark k) h = m k
 no-object P m u Undetermined h = u
 
 -- ---- taken up
-pub taken : (W : List ℕ) (b : ℕ) (I R₀ R : List ℕ) → Filled (λ i. 0 + i) (getD W (234 * b + 192) 0) I → Carried W (234 * b) R₀ 0 (6 * getD W (234 * b + 192) 0) R
-    → Taken W b I R₀ R (getD W (234 * b + 192) 0)
+pub taken : (W : List ℕ) (b : ℕ) (I R₀ R : List ℕ) → Filled (λ i. 0 + i) (getD W (blockSize * b + countAt) 0) I → Carried W (blockSize * b) R₀ 0 (objectSize * getD W (blockSize * b + countAt) 0) R
+    → Taken W b I R₀ R (getD W (blockSize * b + countAt) 0)
 unfolding countIn
 taken W b I R₀ R f l = record { count = refl; ids = f; copy = l }
 
@@ -60,7 +61,7 @@ nodes-id (x ∷ xs) = ap₂ {C = List Node} _∷_ (node-id x) (nodes-id xs)
 module _ (W : List ℕ) (b : ℕ) (bk : Block W b) where
   pub size-in : length (objectsIn W b) ≡ countIn W b
   unfolding objectsIn
-  size-in = length-nodes W (234 * b) (countIn W b)
+  size-in = length-nodes W (blockSize * b) (countIn W b)
 
   pub inner-in : (i k : ℕ) (r : Ref) → getElem? (refsAt (objectsIn W b) i) k ≡ some r → InRange (countIn W b) r
   inner-in i k r e = subst (λ (l : ℕ). InRange l r) size-in (bk .whole .inner i k r e)
@@ -81,25 +82,25 @@ module _ (W : List ℕ) (b : ℕ) (bk : Block W b) where
   module _ (I R₀ R : List ℕ) (n : ℕ) (tk : Taken W b I R₀ R n) where
     copied-nodes : nodesIn R 0 n ≡ objectsIn W b
     unfolding objectsIn
-    copied-nodes = nodes-same R W n 0 (234 * b) (λ p l. tk .copy .here p l) ∙ ap (nodesIn W (234 * b)) (tk .count)
+    copied-nodes = nodes-same R W n 0 (blockSize * b) (λ p l. tk .copy .here p l) ∙ ap (nodesIn W (blockSize * b)) (tk .count)
 
     whole-copied : Whole (graph undet (nodesIn R 0 n))
     whole-copied = record { top = tt; inner = λ i k r e. subst (λ (ns : List Node). InRange (length ns) r) (sym copied-nodes) (bk .whole .inner i k r (subst (λ (ns : List Node). getElem? (refsAt ns i) k ≡ some r) copied-nodes e)) }
 
-    raw-copied : 1536 ≤ length R₀ → Raw R n
+    raw-copied : wideSize ≤ length R₀ → Raw R n
     raw-copied room = record {
       few = omega (arith, tk .count, bk .small);
       room = omega (arith, tk .copy .same);
       packed = λ i h.
-          packed-same R W (6 * i) (234 * b + 6 * i) (λ f g.
-          let ea : 6 * i + f ≡ 0 + (6 * i + f) = omega arith in
-          let eb : 234 * b + 6 * i + f ≡ 234 * b + (6 * i + f) = omega arith in
-          rw (ea, eb) (tk .copy .here (6 * i + f) (omega arith)))
+          packed-same R W (objectSize * i) (blockSize * b + objectSize * i) (λ f g.
+          let ea : objectSize * i + f ≡ 0 + (objectSize * i + f) = omega arith in
+          let eb : blockSize * b + objectSize * i + f ≡ blockSize * b + (objectSize * i + f) = omega arith in
+          rw (ea, eb) (tk .copy .here (objectSize * i + f) (omega arith)))
           (bk .packed i (omega (arith, tk .count)));
       whole = whole-copied;
     }
 
-    pub move-ready : (c dst : ℕ) → 1536 ≤ length R₀ → 256 ≤ length I → c < countIn W b → 234 * dst + 234 ≤ length W → Ready R n I c W dst
+    pub move-ready : (c dst : ℕ) → wideSize ≤ length R₀ → 256 ≤ length I → c < countIn W b → blockSize * dst + blockSize ≤ length W → Ready R n I c W dst
     move-ready c dst lr li hc room = record {
       raw = raw-copied lr;
       long = li;
@@ -114,7 +115,7 @@ module _ (W : List ℕ) (b : ℕ) (bk : Block W b) where
     pub moved : (c dst m : ℕ) (W′ : List ℕ) → c < countIn W b → Placed R n c W dst W′ m → Moved W (graphAt W b c) dst W′
     moved c dst m W′ hc p =
         let e : canon (graphIn R n c) ≡ canon (graphAt W b c) = ap canon (graph-copied c) in
-        let few : m ≤ 32 = omega (arith, p .count, ap (λ (g : Graph). length (g .nodes)) e, canon-length (graphAt W b c) (whole-at c hc), size-in, bk .small) in
+        let few : m ≤ capacity = omega (arith, p .count, ap (λ (g : Graph). length (g .nodes)) e, canon-length (graphAt W b c) (whole-at c hc), size-in, bk .small) in
         let h : Has W′ dst (canon (graphIn R n c)) = p .has few in
         record { has = record { inside = h .inside; is = h .is ∙ e }; outside = p .outside }
 

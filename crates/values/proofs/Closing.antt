@@ -8,6 +8,7 @@ use borrow.Author.Tests.{eq-eqb, ne-eqb}
 use types.Run.{OneOf}
 use denote.Enum.Declared.{tagOf}
 use Rattle.cofj.specs.Values.{obj, Node, graph, canon, close}
+use Rattle.canon.specs.Figures.{levelAt, blockSize}
 use Rattle.canon.specs.Layout.{Inside, objectsIn, graphAt, levelIn}
 use Rattle.values.specs.declared.ValueRef.{ValueRef}
 use Rattle.values.specs.declared.ValueRef.the-variants.{Object, Mark, Undetermined}
@@ -36,7 +37,7 @@ module _ (W : List ℕ) (v : ValueRef) (dst : ℕ) (h : Holds W v) where
 
     -- ---- an object closed
     module _ (b i : ℕ) (e : v ≡ Object i b) (W′ : List ℕ) (r : ValueRef) where
-      pub close-free : getD W (234 * b + 193) 0 ≤ x → Gives W dst W′ r (canon (graphAt W b i)) → Gives W dst W′ r (close x (valueOf W v))
+      pub close-free : getD W (blockSize * b + levelAt) 0 ≤ x → Gives W dst W′ r (canon (graphAt W b i)) → Gives W dst W′ r (close x (valueOf W v))
       unfolding close levelIn
       close-free l g =
           let ob : Inside W b i = held-inside W v b i h e in

@@ -8,6 +8,7 @@ use mathlib.Core.List.{List}
 use lib.ListN.{length, getD}
 use borrow.Author.Tests.{eqb-false}
 use Rattle.cofj.specs.Values.{Node, graph, obj, canon}
+use Rattle.canon.specs.Figures.{countAt, levelAt, reachAt, blockSize}
 use Rattle.canon.specs.Layout.{Block, objectsIn, countIn, levelIn, reachIn, Outside}
 use Rattle.values.specs.declared.ValueRef.{ValueRef}
 use Rattle.values.specs.declared.ValueRef.the-variants.{Object, Mark, Undetermined}
@@ -20,19 +21,19 @@ pub record Kept (W W′ : List ℕ) (r : ValueRef) : Type 0 where
   pub is : valueOf W′ r ≡ valueOf W r
 
 -- the bytes of block b are the same
-module _ (W W′ : List ℕ) (b : ℕ) (same : length W′ ≡ length W) (byte : (p : ℕ) → 234 * b ≤ p → p < 234 * b + 234 → getD W′ p 0 ≡ getD W p 0) where
+module _ (W W′ : List ℕ) (b : ℕ) (same : length W′ ≡ length W) (byte : (p : ℕ) → blockSize * b ≤ p → p < blockSize * b + blockSize → getD W′ p 0 ≡ getD W p 0) where
   stays : Block W b → (objectsIn W′ b ≡ objectsIn W b) × Block W′ b
   unfolding countIn levelIn reachIn
   stays bk =
-      block-moves W W′ b b (byte (234 * b + 192) (omega arith) (omega arith)) (byte (234 * b + 193) (omega arith) (omega arith)) (byte (234 * b + 194) (omega arith) (omega arith))
-      (λ k h. byte (234 * b + k) (omega arith) (omega (arith, bk .small))) (omega (arith, bk .room)) bk
+      block-moves W W′ b b (byte (blockSize * b + countAt) (omega arith) (omega arith)) (byte (blockSize * b + levelAt) (omega arith) (omega arith)) (byte (blockSize * b + reachAt) (omega arith) (omega arith))
+      (λ k h. byte (blockSize * b + k) (omega arith) (omega (arith, bk .small))) (omega (arith, bk .room)) bk
 
   pub object-kept : (i : ℕ) → Holds W (Object i b) → Kept W W′ (Object i b)
   unfolding countIn
   object-kept i h =
       let s = stays (h .held .block) in
       record {
-        held = record { held = record { block = s .1; low = omega (arith, h .held .low, byte (234 * b + 192) (omega arith) (omega arith)) } };
+        held = record { held = record { block = s .1; low = omega (arith, h .held .low, byte (blockSize * b + countAt) (omega arith) (omega arith)) } };
         is = ap (λ (ns : List Node). canon (graph (obj i) ns)) (s .0);
       }
 
@@ -41,7 +42,7 @@ pub kept : (d : ℕ) (W W′ : List ℕ) → Outside d W W′ → (r : ValueRef)
 unfolding liesIn
 kept d W W′ o (Object i b) n h = object-kept W W′ b (o .same) (λ p l m. go p l m (decLt b d)) i h
   where
-    go : (p : ℕ) → 234 * b ≤ p → p < 234 * b + 234 → Dec (b < d) → getD W′ p 0 ≡ getD W p 0
+    go : (p : ℕ) → blockSize * b ≤ p → p < blockSize * b + blockSize → Dec (b < d) → getD W′ p 0 ≡ getD W p 0
     go p l m (yes q) = o .below p (omega arith)
     go p l m (no q) = o .above p (omega (arith, q, eqb-false b d n))
 kept d W W′ o (Mark k) n h = record { held = record { held = h .held }; is = refl }

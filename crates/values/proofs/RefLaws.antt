@@ -8,6 +8,7 @@ use lib.Dec.{eqb, ltb}
 use borrow.Author.Tests.{lt-ltb, le-ltb, eq-eqb, ne-eqb}
 use Rattle.cofj.specs.Values.{obj, mark, undet, Node, graph, canon, canonBy, visit, markOf, undetermined}
 use Rattle.cofj.specs.Unfolding.{InRange}
+use Rattle.canon.specs.Figures.{firstLeaf, undeterminedCode, firstMark}
 use Rattle.canon.specs.Layout.{refOf, Block, countIn, objectsIn}
 use Rattle.values.specs.declared.ValueRef.{ValueRef}
 use Rattle.values.specs.declared.ValueRef.the-variants.{Object, Mark, Undetermined}
@@ -71,24 +72,24 @@ canon-undet ns = refl
 
 -- ---- a code
 module _ (b c : ℕ) where
-  pub from-object : c < 192 → Object c b ≡ refFrom b c
+  pub from-object : c < firstLeaf → Object c b ≡ refFrom b c
   unfolding refFrom
-  from-object h = rw (lt-ltb c 192 h)
+  from-object h = rw (lt-ltb c firstLeaf h)
 
-  module _ (h : 192 ≤ c) where
-    pub from-undetermined : c ≡ 192 → Undetermined ≡ refFrom b c
+  module _ (h : firstLeaf ≤ c) where
+    pub from-undetermined : c ≡ undeterminedCode → Undetermined ≡ refFrom b c
     unfolding refFrom
-    from-undetermined e = rw (le-ltb c 192 h, eq-eqb c 192 e)
+    from-undetermined e = rw (le-ltb c firstLeaf h, eq-eqb c undeterminedCode e)
 
-    pub from-mark : (c ≡ 192 → ⊥) → Mark (c - 193) ≡ refFrom b c
+    pub from-mark : (c ≡ undeterminedCode → ⊥) → Mark (c - firstMark) ≡ refFrom b c
     unfolding refFrom
-    from-mark n = rw (le-ltb c 192 h, ne-eqb c 192 n)
+    from-mark n = rw (le-ltb c firstLeaf h, ne-eqb c undeterminedCode n)
 
   pub from-low : (sp : ℕ) → b < sp → Low sp (refFrom b c)
   unfolding refFrom
-  from-low sp h = go (ltb c 192) (eqb c 192)
+  from-low sp h = go (ltb c firstLeaf) (eqb c undeterminedCode)
     where
-      go : (p q : Bool) → Low sp (cond p (Object c b) (cond q Undetermined (Mark (c - 193))))
+      go : (p q : Bool) → Low sp (cond p (Object c b) (cond q Undetermined (Mark (c - firstMark))))
       go true q = h
       go false true = tt
       go false false = tt
@@ -96,18 +97,18 @@ module _ (b c : ℕ) where
   module _ (W : List ℕ) where
     pub from-held : Block W b → c < 256 → InRange (countIn W b) (refOf c) → Holds W (refFrom b c)
     unfolding refFrom refOf
-    from-held bk l h = go (ltb c 192) (eqb c 192) h
+    from-held bk l h = go (ltb c firstLeaf) (eqb c undeterminedCode) h
       where
-        go : (p q : Bool) → InRange (countIn W b) (cond p (obj c) (cond q undet (mark (c - 193)))) → Holds W (cond p (Object c b) (cond q Undetermined (Mark (c - 193))))
+        go : (p q : Bool) → InRange (countIn W b) (cond p (obj c) (cond q undet (mark (c - firstMark)))) → Holds W (cond p (Object c b) (cond q Undetermined (Mark (c - firstMark))))
         go true q i = record { held = record { block = bk; low = i } }
         go false true i = record { held = tt }
         go false false i = record { held = omega arith }
 
     pub from-value : valueOf W (refFrom b c) ≡ canon (graph (refOf c) (objectsIn W b))
     unfolding refFrom refOf
-    from-value = go (ltb c 192) (eqb c 192)
+    from-value = go (ltb c firstLeaf) (eqb c undeterminedCode)
       where
-        go : (p q : Bool) → valueOf W (cond p (Object c b) (cond q Undetermined (Mark (c - 193)))) ≡ canon (graph (cond p (obj c) (cond q undet (mark (c - 193)))) (objectsIn W b))
+        go : (p q : Bool) → valueOf W (cond p (Object c b) (cond q Undetermined (Mark (c - firstMark)))) ≡ canon (graph (cond p (obj c) (cond q undet (mark (c - firstMark)))) (objectsIn W b))
         go true q = refl
         go false true = sym (canon-undet (objectsIn W b))
-        go false false = sym (canon-mark (c - 193) (objectsIn W b))
+        go false false = sym (canon-mark (c - firstMark) (objectsIn W b))

@@ -10,17 +10,19 @@ use lib.Seq.{take-suc, take-suc-set, drop-set-lt, drop-drop, length-take-le, tak
 use borrow.Author.Tests.{le-leb, lt-leb}
 use types.Run.{OneOf}
 use denote.Enum.Declared.{tagOf}
+use Rattle.cofj.specs.Limits.{reportSize}
 use Rattle.cofj.specs.Values.{undet, Node, node, Graph, nodeAt}
 use Rattle.cofj.specs.Text.{char, hexLine, hexText}
 use Rattle.cofj.specs.Report.{refByte, objectLine, objectLines}
 use Rattle.cofj.proofs.Basics.{getD-map-lt}
+use Rattle.canon.specs.Figures.{objectSize, firstLeaf, undeterminedCode, firstMark, blockSize}
 use Rattle.canon.specs.Layout.{refOf, nodeIn, nodesIn, Packed, Block, objectsIn, graphAt, countIn}
 use Rattle.canon.proofs.Nodes.{at-nodes, length-nodes, packed-byte, byteOf, ref-object, ref-undet, ref-mark}
 use Rattle.values.specs.declared.ValueRef.{ValueRef}
 use Rattle.values.specs.declared.ValueRef.the-variants.{Object}
 use Rattle.values.specs.Layout.{valueOf}
 use Rattle.values.specs.Operations.{Moved}
-use Rattle.values.specs.Reporting.{Front, lineIn, Line, Reported}
+use Rattle.values.specs.Reporting.{digitChar, letterChar, lineSize, Front, lineIn, Line, Reported}
 use Rattle.values.proofs.ValueRef as RefT
 use Rattle.values.proofs.Blocks.{no-object}
 
@@ -55,10 +57,10 @@ front-whole : (d₀ d : List ℕ) (j : ℕ) (p : List ℕ) → Front d₀ d j p 
 front-whole d₀ d j p f = rw (← (f .front), ← (f .rest), take-append-drop)
 
 -- ---- digits
-pub char-low : (d : ℕ) → d ≤ 9 → d + 48 ≡ char d
+pub char-low : (d : ℕ) → d ≤ 9 → d + digitChar ≡ char d
 char-low d h = rw (le-leb d 9 h)
 
-pub char-high : (d : ℕ) → 9 < d → d + 55 ≡ char d
+pub char-high : (d : ℕ) → 9 < d → d + letterChar ≡ char d
 char-high d h = rw (lt-leb d 9 h)
 
 pub put-two : (d : List ℕ) (at b x y : ℕ) → at + 2 ≤ length d → x ≡ char (b / 16) → y ≡ char (b % 16)
@@ -101,12 +103,12 @@ four-any S at (suc (suc zero)) h = refl
 four-any S at (suc (suc (suc zero))) h = refl
 four-any S at (suc (suc (suc (suc f)))) h = absurd (omega arith)
 
-leaf-byte : (c : ℕ) → 192 ≤ c → refByte (refOf c) ≡ 255
-leaf-byte c h = go (ℕ-discrete c 192)
+leaf-byte : (c : ℕ) → firstLeaf ≤ c → refByte (refOf c) ≡ 255
+leaf-byte c h = go (ℕ-discrete c undeterminedCode)
   where
-    go : Dec (c ≡ 192) → refByte (refOf c) ≡ 255
+    go : Dec (c ≡ undeterminedCode) → refByte (refOf c) ≡ 255
     go (yes e) = ap (λ (x : ℕ). refByte (refOf x)) e ∙ ap refByte ref-undet
-    go (no n) = let z : c ≡ 193 + (c - 193) = omega (arith, n) in ap (λ (x : ℕ). refByte (refOf x)) z ∙ ap refByte (ref-mark (c - 193))
+    go (no n) = let z : c ≡ firstMark + (c - firstMark) = omega (arith, n) in ap (λ (x : ℕ). refByte (refOf x)) z ∙ ap refByte (ref-mark (c - firstMark))
 
 module _ (W : List ℕ) (at j : ℕ) (pk : Packed W at) where
   count-refs : length (nodeIn W at .refs) ≡ getD W (at + 1) 0
@@ -152,10 +154,10 @@ module _ (W : List ℕ) (at j : ℕ) (pk : Packed W at) where
       ap (λ (q : ℕ). getD (lineIn W at j) q 0) (sym z) ∙ field-byte (k - 4) (omega arith) ∙ ap (λ (q : ℕ). refByte (refOf (getD W q 0))) e
 
   module _ (k : ℕ) (a : 4 ≤ k) (h : k < 4 + getD W (at + 1) 0) where
-    pub byte-object : getD W (at + k - 2) 0 < 192 → getD W (at + k - 2) 0 ≡ getD (lineIn W at j) k 0
+    pub byte-object : getD W (at + k - 2) 0 < firstLeaf → getD W (at + k - 2) 0 ≡ getD (lineIn W at j) k 0
     byte-object l = sym (code-byte k a h ∙ ap refByte (ref-object (getD W (at + k - 2) 0) l))
 
-    pub byte-leaf : 192 ≤ getD W (at + k - 2) 0 → 255 ≡ getD (lineIn W at j) k 0
+    pub byte-leaf : firstLeaf ≤ getD W (at + k - 2) 0 → 255 ≡ getD (lineIn W at j) k 0
     byte-leaf l = sym (code-byte k a h ∙ leaf-byte (getD W (at + k - 2) 0) l)
 
 -- ---- a line
@@ -167,7 +169,7 @@ module _ (l d₀ : List ℕ) (to k : ℕ) (d : List ℕ) (f : Begun l d₀ to k 
       rw (add-one k, take-suc l k 0 (omega arith), ← eb, digits-more (take k l) b) (sym (append-assoc (take to d₀) (digits (take k l)) (char (b / 16) ∷ char (b % 16) ∷ []))) in
       record { text = rw (z, t) (front-then d₀ d e (to + 2 * k) (to + 2 * k + 2) (take to d₀ ++ digits (take k l)) (char (b / 16) ∷ char (b % 16) ∷ []) (f .text) g (omega arith)) }
 
-  pub line-done : (n : ℕ) → k ≤ n → n ≤ k → n ≡ length l → n ≤ 8 → to + 17 ≤ length d₀ → Line l d₀ to (set d (to + 2 * n) 10) (to + 2 * n + 1)
+  pub line-done : (n : ℕ) → k ≤ n → n ≤ k → n ≡ length l → n ≤ 8 → to + lineSize ≤ length d₀ → Line l d₀ to (set d (to + 2 * n) 10) (to + 2 * n + 1)
   line-done n h h′ en few room =
       let ek : k ≡ n = omega arith in
       let et : take n l ≡ l = ap (λ (q : ℕ). take q l) en ∙ take-length l in
@@ -183,7 +185,7 @@ module _ (W : List ℕ) (at j : ℕ) (pk : Packed W at) (d₀ : List ℕ) (to k 
   pub line-step : (e : List ℕ) (b : ℕ) → k < n → b ≡ getD (lineIn W at j) k 0 → Front d e (to + 2 * k + 2) (take (to + 2 * k) d ++ (char (b / 16) ∷ char (b % 16) ∷ [])) → Begun (lineIn W at j) d₀ to (k + 1) e
   line-step e b h eb g = line-more (lineIn W at j) d₀ to k d f e b n g eb h (en ∙ sym (line-length W at j pk))
 
-  pub line-end : k ≤ n → n ≤ k → to + 17 ≤ length d₀ → Line (lineIn W at j) d₀ to (set d (to + 2 * n) 10) (to + 2 * n + 1)
+  pub line-end : k ≤ n → n ≤ k → to + lineSize ≤ length d₀ → Line (lineIn W at j) d₀ to (set d (to + 2 * n) 10) (to + 2 * n + 1)
   line-end h h′ room = line-done (lineIn W at j) d₀ to k d f n h h′ (en ∙ sym (line-length W at j pk)) (omega (arith, pk .count)) room
 
 -- ---- the lines
@@ -199,7 +201,7 @@ text-more (x ∷ ls) l = ap (λ (t : List ℕ). hexLine x ++ t) (text-more ls l)
 
 -- the lines of the first j objects of block b are written, up to t
 pub record Listed (W : List ℕ) (b : ℕ) (d₀ : List ℕ) (j : ℕ) (d : List ℕ) (t : ℕ) : Type 0 where
-  pub top : t ≤ 17 * j
+  pub top : t ≤ lineSize * j
   pub text : Front d₀ d t (hexText (objectLines 0 (take j (objectsIn W b))))
   pub count : t ≡ length (hexText (objectLines 0 (take j (objectsIn W b))))
 
@@ -209,27 +211,27 @@ lines-none W b d = record { top = omega arith; text = front-none d; count = refl
 module _ (W : List ℕ) (b : ℕ) (bk : Block W b) where
   size : length (objectsIn W b) ≡ countIn W b
   unfolding objectsIn
-  size = length-nodes W (234 * b) (countIn W b)
+  size = length-nodes W (blockSize * b) (countIn W b)
 
   next-text : (j : ℕ) → j < countIn W b → hexText (objectLines 0 (take (j + 1) (objectsIn W b)))
-      ≡ hexText (objectLines 0 (take j (objectsIn W b))) ++ hexLine (lineIn W (234 * b + 6 * j) j)
+      ≡ hexText (objectLines 0 (take j (objectsIn W b))) ++ hexLine (lineIn W (blockSize * b + objectSize * j) j)
   unfolding lineIn objectsIn
   next-text j h =
-      let e : 0 + length (take j (nodesIn W (234 * b) (countIn W b))) ≡ j = omega (arith, length-take-le j (nodesIn W (234 * b) (countIn W b)) (omega (arith, length-nodes W (234 * b) (countIn W b)))) in
+      let e : 0 + length (take j (nodesIn W (blockSize * b) (countIn W b))) ≡ j = omega (arith, length-take-le j (nodesIn W (blockSize * b) (countIn W b)) (omega (arith, length-nodes W (blockSize * b) (countIn W b)))) in
       rw (
         add-one j,
-        take-suc (nodesIn W (234 * b) (countIn W b)) j (node 0 []) (omega (arith, length-nodes W (234 * b) (countIn W b))),
-        lines-more 0 (take j (nodesIn W (234 * b) (countIn W b))) (nodeAt (nodesIn W (234 * b) (countIn W b)) j),
+        take-suc (nodesIn W (blockSize * b) (countIn W b)) j (node 0 []) (omega (arith, length-nodes W (blockSize * b) (countIn W b))),
+        lines-more 0 (take j (nodesIn W (blockSize * b) (countIn W b))) (nodeAt (nodesIn W (blockSize * b) (countIn W b)) j),
         e,
-        at-nodes W (234 * b) (countIn W b) j h,
+        at-nodes W (blockSize * b) (countIn W b) j h,
       )
-      (text-more (objectLines 0 (take j (nodesIn W (234 * b) (countIn W b)))) (objectLine j (nodeIn W (234 * b + 6 * j))))
+      (text-more (objectLines 0 (take j (nodesIn W (blockSize * b) (countIn W b)))) (objectLine j (nodeIn W (blockSize * b + objectSize * j))))
 
-  pub lines-next : (d₀ : List ℕ) (j : ℕ) (d : List ℕ) (t : ℕ) (e : List ℕ) (t1 n : ℕ) → Listed W b d₀ j d t → 544 ≤ length d₀ → j < n → n ≡ countIn W b
-      → Line (lineIn W (234 * b + 6 * j) j) d t e t1 → Listed W b d₀ (j + 1) e t1
+  pub lines-next : (d₀ : List ℕ) (j : ℕ) (d : List ℕ) (t : ℕ) (e : List ℕ) (t1 n : ℕ) → Listed W b d₀ j d t → reportSize ≤ length d₀ → j < n → n ≡ countIn W b
+      → Line (lineIn W (blockSize * b + objectSize * j) j) d t e t1 → Listed W b d₀ (j + 1) e t1
   lines-next d₀ j d t e t1 n f room h en g =
       let all : Front d₀ e t1 (hexText (objectLines 0 (take (j + 1) (objectsIn W b)))) =
-      rw (next-text j (omega arith)) (front-then d₀ d e t t1 (hexText (objectLines 0 (take j (objectsIn W b)))) (hexLine (lineIn W (234 * b + 6 * j) j)) (f .text) (g .text) (g .up)) in
+      rw (next-text j (omega arith)) (front-then d₀ d e t t1 (hexText (objectLines 0 (take j (objectsIn W b)))) (hexLine (lineIn W (blockSize * b + objectSize * j) j)) (f .text) (g .text) (g .up)) in
       record {
         top = omega (arith, f .top, g .top);
         text = all;
@@ -239,26 +241,30 @@ module _ (W : List ℕ) (b : ℕ) (bk : Block W b) where
   pub lines-done : (d₀ : List ℕ) (j : ℕ) (d : List ℕ) (t n : ℕ) → Listed W b d₀ j d t → j ≤ n → n ≤ j → n ≡ countIn W b → Reported (graphAt W b 0) d₀ d t
   unfolding objectsIn
   lines-done d₀ j d t n f h k en =
-      let ej : j ≡ length (nodesIn W (234 * b) (countIn W b)) = omega (arith, length-nodes W (234 * b) (countIn W b)) in
-      let z : take j (nodesIn W (234 * b) (countIn W b)) ≡ nodesIn W (234 * b) (countIn W b) = ap (λ (q : ℕ). take q (nodesIn W (234 * b) (countIn W b))) ej ∙ take-length (nodesIn W (234 * b) (countIn W b)) in
-      let c : t ≡ length (hexText (objectLines 0 (nodesIn W (234 * b) (countIn W b)))) = f .count ∙ ap (λ (q : List Node). length (hexText (objectLines 0 q))) z in
+      let ej : j ≡ length (nodesIn W (blockSize * b) (countIn W b)) = omega (arith, length-nodes W (blockSize * b) (countIn W b)) in
+      let z : take j (nodesIn W (blockSize * b) (countIn W b)) ≡ nodesIn W (blockSize * b) (countIn W b) = ap (λ (q : ℕ). take q (nodesIn W (blockSize * b) (countIn W b))) ej ∙ take-length (nodesIn W (blockSize * b) (countIn W b)) in
+      let c : t ≡ length (hexText (objectLines 0 (nodesIn W (blockSize * b) (countIn W b)))) = f .count ∙ ap (λ (q : List Node). length (hexText (objectLines 0 q))) z in
       record {
         fits = omega (arith, f .top, bk .small);
         count = c;
-        text = front-whole d₀ d t (hexText (objectLines 0 (take j (nodesIn W (234 * b) (countIn W b))))) (f .text)
+        text = front-whole d₀ d t (hexText (objectLines 0 (take j (nodesIn W (blockSize * b) (countIn W b))))) (f .text)
             ∙ ap₂ {A = List ℕ} {B = ℕ} (λ p q. p ++ drop q d₀) (ap (λ (q : List Node). hexText (objectLines 0 q)) z) c;
       }
 
 -- ---- no object
-six-text : (d : List ℕ) → 544 ≤ length d → set (set (set d 0 48) 1 54) 2 10 ≡ 48 ∷ 54 ∷ 10 ∷ drop 3 d
+-- the line 06 at the front of d
+abbrev sixLine : List ℕ → List ℕ
+sixLine d = set (set (set d 0 digitChar) 1 (digitChar + 6)) 2 10
+
+six-text : (d : List ℕ) → reportSize ≤ length d → sixLine d ≡ digitChar ∷ (digitChar + 6) ∷ 10 ∷ drop 3 d
 six-text [] h = absurd (omega arith)
 six-text (a ∷ []) h = absurd (omega arith)
 six-text (a ∷ (b ∷ [])) h = absurd (omega arith)
 six-text (a ∷ (b ∷ (c ∷ d))) h = refl
 
-pub report-none : (W : List ℕ) (r : ValueRef) (d : List ℕ) → OneOf (1 ∷ 2 ∷ []) (tagOf RefT.the-type r) → 544 ≤ length d → Reported (valueOf W r) d (set (set (set d 0 48) 1 54) 2 10) 3
+pub report-none : (W : List ℕ) (r : ValueRef) (d : List ℕ) → OneOf (1 ∷ 2 ∷ []) (tagOf RefT.the-type r) → reportSize ≤ length d → Reported (valueOf W r) d (sixLine d) 3
 report-none W r d h l =
-    no-object (λ x. Reported (valueOf W x) d (set (set (set d 0 48) 1 54) 2 10) 3)
+    no-object (λ x. Reported (valueOf W x) d (sixLine d) 3)
     (λ k. record { fits = omega arith; count = refl; text = six-text d l })
     (record { fits = omega arith; count = refl; text = six-text d l }) r h
 

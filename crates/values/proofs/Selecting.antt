@@ -10,6 +10,7 @@ use types.Run.{OneOf}
 use denote.Enum.Declared.{tagOf}
 use Rattle.cofj.specs.Values.{Ref, undet, Node, graph, refsAt, canon, select, selected}
 use Rattle.cofj.specs.Unfolding.{Whole}
+use Rattle.canon.specs.Figures.{objectSize, headSize, codeCount, blockSize}
 use Rattle.canon.specs.Layout.{refOf, nodeIn, objectsIn, graphAt, Inside, countIn, Outside, Beneath}
 use Rattle.canon.proofs.Nodes.{some-at, at-nodes}
 use Rattle.canon.proofs.Walks.{four, four-at}
@@ -38,16 +39,16 @@ get-none (x ∷ l) (suc f) h = get-none l f (omega arith)
 
 module _ (W : List ℕ) (b i f : ℕ) (ob : Inside W b i) where
   abbrev at : ℕ
-  at = 234 * b + 6 * i
+  at = blockSize * b + objectSize * i
 
-  count-four : getD W (at + 1) 0 ≤ 4
+  count-four : getD W (at + 1) 0 ≤ codeCount
   count-four = ob .block .packed i (ob .low) .count
 
   refs-at : refsAt (objectsIn W b) i ≡ take (getD W (at + 1) 0) (four W (39 * b + i))
   unfolding objectsIn nodeIn
   refs-at =
-      let e6 : at ≡ 6 * (39 * b + i) = omega arith in
-      ap (λ (x : Node). x .refs) (at-nodes W (234 * b) (countIn W b) i (ob .low))
+      let e6 : at ≡ objectSize * (39 * b + i) = omega arith in
+      ap (λ (x : Node). x .refs) (at-nodes W (blockSize * b) (countIn W b) i (ob .low))
       ∙ ap (λ (p : ℕ). take (getD W (at + 1) 0) (refOf (getD W (p + 2) 0) ∷ refOf (getD W (p + 3) 0) ∷ refOf (getD W (p + 4) 0) ∷ refOf (getD W (p + 5) 0) ∷ [])) e6
 
   length-refs : length (refsAt (objectsIn W b) i) ≡ getD W (at + 1) 0
@@ -59,7 +60,7 @@ module _ (W : List ℕ) (b i f : ℕ) (ob : Inside W b i) where
   module _ (hf : f < getD W (at + 1) 0) where
     field-at : getElem? (refsAt (objectsIn W b) i) f ≡ some (refOf (getD W (at + 2 + f) 0))
     field-at =
-        let e6 : 6 * (39 * b + i) + 2 + f ≡ at + 2 + f = omega arith in
+        let e6 : objectSize * (39 * b + i) + headSize + f ≡ at + 2 + f = omega arith in
         some-at (refsAt (objectsIn W b) i) f (omega (arith, length-refs))
         ∙ ap some (ap (λ (l : List Ref). getD l f undet) refs-at
         ∙ getD-take (getD W (at + 1) 0) (four W (39 * b + i)) f undet hf
@@ -95,14 +96,14 @@ module _ (W : List ℕ) (v : ValueRef) (f : ℕ) where
     inside : Inside W b i
     inside = held-inside W v b i h e
 
-    pub select-room : 234 * b + 6 * i + 6 ≤ length W
+    pub select-room : blockSize * b + objectSize * i + objectSize ≤ length W
     select-room = inside-room W b i inside
 
-    pub select-count : getD W (234 * b + 6 * i + 1) 0 ≤ 4
+    pub select-count : getD W (blockSize * b + objectSize * i + 1) 0 ≤ 4
     select-count = count-four W b i f inside
 
-    pub select-past : getD W (234 * b + 6 * i + 1) 0 ≤ f → Chosen W v f Nothing
+    pub select-past : getD W (blockSize * b + objectSize * i + 1) 0 ≤ f → Chosen W v f Nothing
     select-past l = rw e (choose-none W b i f inside l)
 
-    pub select-code : f < getD W (234 * b + 6 * i + 1) 0 → getD W (234 * b + 6 * i + 2 + f) 0 < 256 → (u : ValueRef) → u ≡ refFrom b (getD W (234 * b + 6 * i + 2 + f) 0) → Chosen W v f (Value u)
+    pub select-code : f < getD W (blockSize * b + objectSize * i + 1) 0 → getD W (blockSize * b + objectSize * i + headSize + f) 0 < 256 → (u : ValueRef) → u ≡ refFrom b (getD W (blockSize * b + objectSize * i + headSize + f) 0) → Chosen W v f (Value u)
     select-code l m u q = rw (e, q) (choose-code W b i f inside l m)

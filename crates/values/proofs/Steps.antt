@@ -18,6 +18,7 @@ use Rattle.cofj.proofs.Basics.{true-both, eqRef-refl, eqNode-refl}
 use Rattle.cofj.proofs.Trees.{same-child, same-cls, same-count}
 use Rattle.cofj.proofs.Traces.{eqGraph-true}
 use Rattle.cofj.proofs.Unique.{same-canon, canon-tree}
+use Rattle.canon.specs.Figures.{objectSize, headSize, codeCount, firstLeaf, capacity, blockSize}
 use Rattle.canon.specs.Layout.{codeOf, Alike, alikeAt, countIn, objectsIn, graphAt, Block, Inside}
 use Rattle.canon.proofs.Nodes.{some-at, byteOf, packed-byte, length-nodes, at-nodes, alike-no}
 use Rattle.canon.proofs.Nodes.{object-low}
@@ -29,34 +30,34 @@ use Rattle.values.proofs.Trees.{in-larger, leaf-same}
 
 -- ---- one code
 module _ (T Q : List ℕ) (t a b : ℕ) where
-  pub code-equal : 192 ≤ a → a ≡ b → after t T Q ≡ stepCode T Q t a b
+  pub code-equal : firstLeaf ≤ a → a ≡ b → after t T Q ≡ stepCode T Q t a b
   unfolding stepCode
-  code-equal h e = rw (le-ltb a 192 h, eq-eqb a b e)
+  code-equal h e = rw (le-ltb a firstLeaf h, eq-eqb a b e)
 
-  pub code-other : 192 ≤ a → ((a ≡ b) → ⊥) → after 0 T Q ≡ stepCode T Q t a b
+  pub code-other : firstLeaf ≤ a → ((a ≡ b) → ⊥) → after 0 T Q ≡ stepCode T Q t a b
   unfolding stepCode
-  code-other h d = rw (le-ltb a 192 h, ne-eqb a b d)
+  code-other h d = rw (le-ltb a firstLeaf h, ne-eqb a b d)
 
-  module _ (ha : a < 192) where
-    pub code-second : 192 ≤ b → after 0 T Q ≡ stepCode T Q t a b
+  module _ (ha : a < firstLeaf) where
+    pub code-second : firstLeaf ≤ b → after 0 T Q ≡ stepCode T Q t a b
     unfolding stepCode
-    code-second h = rw (lt-ltb a 192 ha, le-ltb b 192 h)
+    code-second h = rw (lt-ltb a firstLeaf ha, le-ltb b firstLeaf h)
 
-    module _ (hb : b < 192) where
+    module _ (hb : b < firstLeaf) where
       pub code-new : getD T a 0 ≡ 0 → after (t + 1) (set T a (b + 1)) (set Q t a) ≡ stepCode T Q t a b
       unfolding stepCode
-      code-new e = rw (lt-ltb a 192 ha, lt-ltb b 192 hb, eq-eqb (getD T a 0) 0 e)
+      code-new e = rw (lt-ltb a firstLeaf ha, lt-ltb b firstLeaf hb, eq-eqb (getD T a 0) 0 e)
 
       module _ (d : (getD T a 0 ≡ 0) → ⊥) where
         pub code-known : getD T a 0 ≡ b + 1 → after t T Q ≡ stepCode T Q t a b
         unfolding stepCode
-        code-known e = rw (lt-ltb a 192 ha, lt-ltb b 192 hb, ne-eqb (getD T a 0) 0 d, eq-eqb (getD T a 0) (b + 1) e)
+        code-known e = rw (lt-ltb a firstLeaf ha, lt-ltb b firstLeaf hb, ne-eqb (getD T a 0) 0 d, eq-eqb (getD T a 0) (b + 1) e)
 
         pub code-taken : ((getD T a 0 ≡ b + 1) → ⊥) → after 0 T Q ≡ stepCode T Q t a b
         unfolding stepCode
-        code-taken e = rw (lt-ltb a 192 ha, lt-ltb b 192 hb, ne-eqb (getD T a 0) 0 d, ne-eqb (getD T a 0) (b + 1) e)
+        code-taken e = rw (lt-ltb a firstLeaf ha, lt-ltb b firstLeaf hb, ne-eqb (getD T a 0) 0 d, ne-eqb (getD T a 0) (b + 1) e)
 
-  module _ (f : CodeFits T Q t a) (h : a < 192) where
+  module _ (f : CodeFits T Q t a) (h : a < firstLeaf) where
     pub code-entry : a < length T
     code-entry = f .entry h
 
@@ -84,12 +85,12 @@ unpaired-put (suc k) x v T h l e = go (ℕ-discrete k x) (λ h′. unpaired-put 
     go (no z) ih = rw (getD-set-other T x k (v + 1) 0 z, ← ih (omega (arith, z))) (omega arith)
 
 -- ---- a pair added
-module _ (W : List ℕ) (f g : ℕ) (T Q : List ℕ) (t a b : ℕ) (pd : Paired W f g T Q t) (few : countIn W f ≤ 32) (ha : a < countIn W f) (hb : b < countIn W g) (e : getD T a 0 ≡ 0) where
+module _ (W : List ℕ) (f g : ℕ) (T Q : List ℕ) (t a b : ℕ) (pd : Paired W f g T Q t) (few : countIn W f ≤ capacity) (ha : a < countIn W f) (hb : b < countIn W g) (e : getD T a 0 ≡ 0) where
   put : getD (set T a (b + 1)) a 0 ≡ b + 1
   put = getD-set-same T a (b + 1) 0 (omega (arith, pd .table))
 
-  room-left : t < 32
-  room-left = omega (arith, pd .free, unpaired-put 32 a b T (omega arith) (omega (arith, pd .table)) e)
+  room-left : t < capacity
+  room-left = omega (arith, pd .free, unpaired-put capacity a b T (omega arith) (omega (arith, pd .table)) e)
 
   end : getD (set Q t a) t 0 ≡ a
   end = getD-set-same Q t a 0 (omega (arith, room-left, pd .queue))
@@ -98,7 +99,7 @@ module _ (W : List ℕ) (f g : ℕ) (T Q : List ℕ) (t a b : ℕ) (pd : Paired 
   pair-new = record {
     table = length-set T a (b + 1) ∙ pd .table;
     queue = length-set Q t a ∙ pd .queue;
-    free = omega (arith, pd .free, unpaired-put 32 a b T (omega arith) (omega (arith, pd .table)) e);
+    free = omega (arith, pd .free, unpaired-put capacity a b T (omega arith) (omega (arith, pd .table)) e);
     low = λ q h. low q h (ℕ-discrete q t);
     there = λ q h. there q h (ℕ-discrete q t);
     listed = λ x y z. listed x y z (ℕ-discrete x a);
@@ -146,51 +147,51 @@ module _ (W : List ℕ) (f g : ℕ) (T Q : List ℕ) (t a b : ℕ) (pd : Paired 
 module _ (W : List ℕ) (b : ℕ) (bk : Block W b) where
   size : length (objectsIn W b) ≡ countIn W b
   unfolding objectsIn
-  size = length-nodes W (234 * b) (countIn W b)
+  size = length-nodes W (blockSize * b) (countIn W b)
 
   whole-at : (i : ℕ) → i < countIn W b → Whole (graphAt W b i)
   whole-at i h = record { top = omega (arith, size); inner = bk .whole .inner }
 
   module _ (x : ℕ) (hx : x < countIn W b) where
-    byte : (k : ℕ) → k < 6 → getD W (234 * b + 6 * x + k) 0 ≡ byteOf (nodeAt (objectsIn W b) x) k
+    byte : (k : ℕ) → k < objectSize → getD W (blockSize * b + objectSize * x + k) 0 ≡ byteOf (nodeAt (objectsIn W b) x) k
     unfolding objectsIn
-    byte k h = packed-byte W (234 * b + 6 * x) (bk .packed x hx) k h ∙ ap (λ (o : Node). byteOf o k) (sym (at-nodes W (234 * b) (countIn W b) x hx))
+    byte k h = packed-byte W (blockSize * b + objectSize * x) (bk .packed x hx) k h ∙ ap (λ (o : Node). byteOf o k) (sym (at-nodes W (blockSize * b) (countIn W b) x hx))
 
-    cls-is : getD W (234 * b + 6 * x) 0 ≡ nodeAt (objectsIn W b) x .cls
+    cls-is : getD W (blockSize * b + objectSize * x) 0 ≡ nodeAt (objectsIn W b) x .cls
     unfolding byteOf
-    cls-is = let z : 234 * b + 6 * x + 0 ≡ 234 * b + 6 * x = omega arith in rw z at (byte 0 (omega arith))
+    cls-is = let z : blockSize * b + objectSize * x + 0 ≡ blockSize * b + objectSize * x = omega arith in rw z at (byte 0 (omega arith))
 
-    count-is : getD W (234 * b + 6 * x + 1) 0 ≡ length (refsAt (objectsIn W b) x)
+    count-is : getD W (blockSize * b + objectSize * x + 1) 0 ≡ length (refsAt (objectsIn W b) x)
     unfolding byteOf
     count-is = byte 1 (omega arith)
 
-    code-is : (f : ℕ) → f < 4 → getD W (234 * b + 6 * x + 2 + f) 0 ≡ codeOf (getD (refsAt (objectsIn W b) x) f undet)
+    code-is : (f : ℕ) → f < codeCount → getD W (blockSize * b + objectSize * x + headSize + f) 0 ≡ codeOf (getD (refsAt (objectsIn W b) x) f undet)
     unfolding byteOf
-    code-is f h = let z : 234 * b + 6 * x + 2 + f ≡ 234 * b + 6 * x + (suc (suc f)) = omega arith in rw z (byte (suc (suc f)) (omega arith))
+    code-is f h = let z : blockSize * b + objectSize * x + headSize + f ≡ blockSize * b + objectSize * x + (suc (suc f)) = omega arith in rw z (byte (suc (suc f)) (omega arith))
 
-    in-range : (f : ℕ) → f < getD W (234 * b + 6 * x + 1) 0 → InRange (countIn W b) (getD (refsAt (objectsIn W b) x) f undet)
+    in-range : (f : ℕ) → f < getD W (blockSize * b + objectSize * x + 1) 0 → InRange (countIn W b) (getD (refsAt (objectsIn W b) x) f undet)
     in-range f h =
         subst (λ (l : ℕ). InRange l (getD (refsAt (objectsIn W b) x) f undet)) size
         (bk .whole .inner x f _ (some-at (refsAt (objectsIn W b) x) f (omega (arith, count-is))))
 
 -- ---- two objects look alike
 module _ (W : List ℕ) (b x : ℕ) (ib : Inside W b x) where
-  pub count-read : 234 * b + 6 * x + 1 < length W
+  pub count-read : blockSize * b + objectSize * x + 1 < length W
   count-read = omega (arith, ib .block .room, ib .block .small, ib .low)
 
-  code-read : (k : ℕ) → k < getD W (234 * b + 6 * x + 1) 0 → 234 * b + 6 * x + 2 + k < length W
+  code-read : (k : ℕ) → k < getD W (blockSize * b + objectSize * x + 1) 0 → blockSize * b + objectSize * x + headSize + k < length W
   code-read k h = omega (arith, ib .block .room, ib .block .small, ib .low, ib .block .packed x (ib .low) .count)
 
 module _ (W : List ℕ) (b x c y : ℕ) where
   module _ (ib : Inside W b x) (ic : Inside W c y) where
-    pub same-alike : Same (objectsIn W b) (obj x) (objectsIn W c) (obj y) → Alike W (234 * b + 6 * x) (234 * c + 6 * y)
+    pub same-alike : Same (objectsIn W b) (obj x) (objectsIn W c) (obj y) → Alike W (blockSize * b + objectSize * x) (blockSize * c + objectSize * y)
     same-alike s = record {
       cls = cls-is W b (ib .block) x (ib .low) ∙ same-cls (objectsIn W b) (objectsIn W c) x y s ∙ sym (cls-is W c (ic .block) y (ic .low));
       count = count-is W b (ib .block) x (ib .low) ∙ same-count (objectsIn W b) (objectsIn W c) x y s ∙ sym (count-is W c (ic .block) y (ic .low));
     }
 
 -- ---- what two references with one tree say of their codes, and the other way round
-pub leaf-codes : (ns ms : List Node) (r s : Ref) → InRange 192 r → Same ns r ms s → 192 ≤ codeOf r → codeOf r ≡ codeOf s
+pub leaf-codes : (ns ms : List Node) (r s : Ref) → InRange firstLeaf r → Same ns r ms s → firstLeaf ≤ codeOf r → codeOf r ≡ codeOf s
 leaf-codes ns ms (obj i) s hr e h = absurd (omega arith)
 leaf-codes ns ms (mark k) (obj j) hr e h = let z : some (opened k) ≡ some (object _ _) = e [] in cc
 leaf-codes ns ms (mark k) (mark l) hr e h = let z : some (opened k) ≡ some (opened l) = e [] in let q : k ≡ l = cc in omega arith
@@ -199,7 +200,7 @@ leaf-codes ns ms undet (obj j) hr e h = let z : some unknown ≡ some (object _ 
 leaf-codes ns ms undet (mark l) hr e h = let z : some unknown ≡ some (opened l) = e [] in cc
 leaf-codes ns ms undet undet hr e h = refl
 
-codes-leaf : (r s : Ref) → InRange 192 r → InRange 192 s → 192 ≤ codeOf r → codeOf r ≡ codeOf s → r ≡ s
+codes-leaf : (r s : Ref) → InRange firstLeaf r → InRange firstLeaf s → firstLeaf ≤ codeOf r → codeOf r ≡ codeOf s → r ≡ s
 codes-leaf (obj i) s hr hs h e = absurd (omega arith)
 codes-leaf (mark k) (obj j) hr hs h e = absurd (omega arith)
 codes-leaf (mark k) (mark l) hr hs h e = ap mark (omega arith)
@@ -208,12 +209,12 @@ codes-leaf undet (obj j) hr hs h e = absurd (omega arith)
 codes-leaf undet (mark l) hr hs h e = absurd (omega arith)
 codes-leaf undet undet hr hs h e = refl
 
-leaf-range : (r : Ref) → InRange 192 r → 192 ≤ codeOf r → InRange 0 r
+leaf-range : (r : Ref) → InRange firstLeaf r → firstLeaf ≤ codeOf r → InRange 0 r
 leaf-range (obj i) h k = absurd (omega arith)
 leaf-range (mark i) h k = tt
 leaf-range undet h k = tt
 
-pub is-object : (r : Ref) → codeOf r < 192 → r ≡ obj (codeOf r)
+pub is-object : (r : Ref) → codeOf r < firstLeaf → r ≡ obj (codeOf r)
 is-object (obj i) h = refl
 is-object (mark k) h = absurd (omega arith)
 is-object undet h = absurd (omega arith)
@@ -236,13 +237,13 @@ module _ (W : List ℕ) (b c : ℕ) (T₀ Q₀ : List ℕ) (t₀ : ℕ) where
     fails : (AllSame W b c T₀ → ⊥) → Stepped T r s (after 0 T Q)
     fails h = record { differ = λ _. h; grown = λ z. absurd (z refl); paired = λ z. absurd (z refl); linked = λ z. absurd (z refl); further = λ z. absurd (z refl) }
 
-    r192 : InRange 192 r
-    r192 = in-larger (countIn W b) 192 r (omega (arith, bb .small)) hr
+    r-coded : InRange firstLeaf r
+    r-coded = in-larger (countIn W b) firstLeaf r (omega (arith, bb .small)) hr
 
-    s192 : InRange 192 s
-    s192 = in-larger (countIn W c) 192 s (omega (arith, bc .small)) hs
+    s-coded : InRange firstLeaf s
+    s-coded = in-larger (countIn W c) firstLeaf s (omega (arith, bc .small)) hs
 
-    module _ (ha : codeOf r < 192) (hb : codeOf s < 192) where
+    module _ (ha : codeOf r < firstLeaf) (hb : codeOf s < firstLeaf) where
       twins : AllSame W b c T₀ → Same (objectsIn W b) (obj (codeOf r)) (objectsIn W c) (obj (codeOf s))
       twins al p = ap (λ (x : Ref). follow (objectsIn W b) x p) (sym (is-object r ha)) ∙ ch al p ∙ ap (λ (x : Ref). follow (objectsIn W c) x p) (is-object s hb)
 
@@ -293,30 +294,30 @@ module _ (W : List ℕ) (b c : ℕ) (T₀ Q₀ : List ℕ) (t₀ : ℕ) where
               (fails (λ al. let z : getD T (codeOf r) 0 ≡ (getD T (codeOf r) 0 - 1) + 1 = omega (arith, n) in d (z ∙ ap (λ (k : ℕ). k + 1) (sym (other-partner (getD T (codeOf r) 0 - 1) z al)))))
 
     code-step : Stepped T r s (stepCode T Q t (codeOf r) (codeOf s))
-    code-step = go (decLt (codeOf r) 192) (decLt (codeOf s) 192) (ℕ-discrete (codeOf r) (codeOf s))
+    code-step = go (decLt (codeOf r) firstLeaf) (decLt (codeOf s) firstLeaf) (ℕ-discrete (codeOf r) (codeOf s))
       where
-        go : Dec (codeOf r < 192) → Dec (codeOf s < 192) → Dec (codeOf r ≡ codeOf s) → Stepped T r s (stepCode T Q t (codeOf r) (codeOf s))
+        go : Dec (codeOf r < firstLeaf) → Dec (codeOf s < firstLeaf) → Dec (codeOf r ≡ codeOf s) → Stepped T r s (stepCode T Q t (codeOf r) (codeOf s))
         go (yes ha) (yes hb) d = objects-step ha hb
         go (yes ha) (no hb) d =
             subst (Stepped T r s) (code-second T Q t (codeOf r) (codeOf s) ha (omega (arith, hb)))
-            (fails (λ al. omega (arith, hb, leaf-codes (objectsIn W c) (objectsIn W b) s r s192 (λ p. sym (ch al p)) (omega (arith, hb)))))
+            (fails (λ al. omega (arith, hb, leaf-codes (objectsIn W c) (objectsIn W b) s r s-coded (λ p. sym (ch al p)) (omega (arith, hb)))))
         go (no ha) hb (yes e) = subst (Stepped T r s) (code-equal T Q t (codeOf r) (codeOf s) (omega (arith, ha)) e) (same-again (record { leaf = λ _. e; pair = λ h. absurd (ha h) }))
         go (no ha) hb (no d) =
             subst (Stepped T r s) (code-other T Q t (codeOf r) (codeOf s) (omega (arith, ha)) d)
-            (fails (λ al. d (leaf-codes (objectsIn W b) (objectsIn W c) r s r192 (ch al) (omega (arith, ha)))))
+            (fails (λ al. d (leaf-codes (objectsIn W b) (objectsIn W c) r s r-coded (ch al) (omega (arith, ha)))))
 
 -- ---- one object and its partner
 module _ (W : List ℕ) (b x c y : ℕ) (T₀ Q₀ : List ℕ) (t₀ : ℕ) where
   stop : (AllSame W b c T₀ → ⊥) → (T Q : List ℕ) → ObjectStep W b x c y T₀ Q₀ t₀ T Q 0
   stop h T Q = record { differ = λ _. h; grown = λ z. absurd (z refl); paired = λ z. absurd (z refl); closed = λ z. absurd (z refl) }
 
-  pub object-differs : (r : Bool) → Pair W b x c y T₀ Q₀ t₀ → r ≡ alikeAt W (234 * b + 6 * x) (234 * c + 6 * y) → r ≡ false → ObjectStep W b x c y T₀ Q₀ t₀ T₀ Q₀ 0
+  pub object-differs : (r : Bool) → Pair W b x c y T₀ Q₀ t₀ → r ≡ alikeAt W (blockSize * b + objectSize * x) (blockSize * c + objectSize * y) → r ≡ false → ObjectStep W b x c y T₀ Q₀ t₀ T₀ Q₀ 0
   object-differs r pr l z = stop (λ al. alike-no W _ _ r l z (same-alike W b x c y (pr .first) (pr .second) (al .same x y (pr .here)))) T₀ Q₀
 
-  pub pair-count-read : Pair W b x c y T₀ Q₀ t₀ → 234 * b + 6 * x + 1 < length W
+  pub pair-count-read : Pair W b x c y T₀ Q₀ t₀ → blockSize * b + objectSize * x + 1 < length W
   pair-count-read pr = count-read W b x (pr .first)
 
-  pub fields-start : Pair W b x c y T₀ Q₀ t₀ → Alike W (234 * b + 6 * x) (234 * c + 6 * y) → FieldsSoFar W b x c y T₀ Q₀ t₀ T₀ Q₀ t₀ 0
+  pub fields-start : Pair W b x c y T₀ Q₀ t₀ → Alike W (blockSize * b + objectSize * x) (blockSize * c + objectSize * y) → FieldsSoFar W b x c y T₀ Q₀ t₀ T₀ Q₀ t₀ 0
   fields-start pr a = record {
     start = pr;
     alike = a;
@@ -325,7 +326,7 @@ module _ (W : List ℕ) (b x c y : ℕ) (T₀ Q₀ : List ℕ) (t₀ : ℕ) wher
     fields = record { codes = λ f h. absurd (omega arith) };
   }
 
-  pub four : Pair W b x c y T₀ Q₀ t₀ → getD W (234 * b + 6 * x + 1) 0 ≤ 4
+  pub four : Pair W b x c y T₀ Q₀ t₀ → getD W (blockSize * b + objectSize * x + 1) 0 ≤ 4
   four pr = pr .first .block .packed x (pr .first .low) .count
 
   module _ (T Q : List ℕ) (t k : ℕ) (so : FieldsSoFar W b x c y T₀ Q₀ t₀ T Q t k) where
@@ -335,17 +336,17 @@ module _ (W : List ℕ) (b x c y : ℕ) (T₀ Q₀ : List ℕ) (t₀ : ℕ) wher
     abbrev ic : Inside W c y
     ic = so .start .second
 
-    en : getD W (234 * b + 6 * x + 1) 0 ≡ getD W (234 * c + 6 * y + 1) 0
+    en : getD W (blockSize * b + objectSize * x + 1) 0 ≡ getD W (blockSize * c + objectSize * y + 1) 0
     en = so .alike .count
 
     some-paired : 0 < t
     some-paired = omega (arith, so .start .some, so .grown .more)
 
-    module _ (hk : k < getD W (234 * b + 6 * x + 1) 0) where
-      pub first-read : 234 * b + 6 * x + 2 + k < length W
+    module _ (hk : k < getD W (blockSize * b + objectSize * x + 1) 0) where
+      pub first-read : blockSize * b + objectSize * x + headSize + k < length W
       first-read = code-read W b x ib k hk
 
-      pub second-read : 234 * c + 6 * y + 2 + k < length W
+      pub second-read : blockSize * c + objectSize * y + headSize + k < length W
       second-read = code-read W c y ic k (omega (arith, en))
 
       abbrev r : Ref
@@ -360,10 +361,10 @@ module _ (W : List ℕ) (b x c y : ℕ) (T₀ Q₀ : List ℕ) (t₀ : ℕ) wher
       hs : InRange (countIn W c) s
       hs = in-range W c (ic .block) y (ic .low) k (omega (arith, en))
 
-      er : getD W (234 * b + 6 * x + 2 + k) 0 ≡ codeOf r
+      er : getD W (blockSize * b + objectSize * x + headSize + k) 0 ≡ codeOf r
       er = code-is W b (ib .block) x (ib .low) k (omega (arith, four (so .start)))
 
-      es : getD W (234 * c + 6 * y + 2 + k) 0 ≡ codeOf s
+      es : getD W (blockSize * c + objectSize * y + headSize + k) 0 ≡ codeOf s
       es = code-is W c (ic .block) y (ic .low) k (omega (arith, four (so .start)))
 
       children : AllSame W b c T₀ → Same (objectsIn W b) r (objectsIn W c) s
@@ -372,13 +373,13 @@ module _ (W : List ℕ) (b x c y : ℕ) (T₀ Q₀ : List ℕ) (t₀ : ℕ) wher
           (some-at (refsAt (objectsIn W b) x) k (omega (arith, count-is W b (ib .block) x (ib .low))))
           (some-at (refsAt (objectsIn W c) y) k (omega (arith, en, count-is W c (ic .block) y (ic .low))))
 
-      pub code-fits : CodeFits T Q t (getD W (234 * b + 6 * x + 2 + k) 0)
+      pub code-fits : CodeFits T Q t (getD W (blockSize * b + objectSize * x + headSize + k) 0)
       code-fits = record { entry = λ h. omega (arith, low h, so .paired .table, ib .block .small); room = room; few = omega (arith, so .paired .free) }
         where
-          low : getD W (234 * b + 6 * x + 2 + k) 0 < 192 → getD W (234 * b + 6 * x + 2 + k) 0 < countIn W b
+          low : getD W (blockSize * b + objectSize * x + headSize + k) 0 < firstLeaf → getD W (blockSize * b + objectSize * x + headSize + k) 0 < countIn W b
           low h = rw er (object-low (countIn W b) r hr (rw er at h))
 
-          room : getD W (234 * b + 6 * x + 2 + k) 0 < 192 → getD T (getD W (234 * b + 6 * x + 2 + k) 0) 0 ≡ 0 → t < length Q
+          room : getD W (blockSize * b + objectSize * x + headSize + k) 0 < firstLeaf → getD T (getD W (blockSize * b + objectSize * x + headSize + k) 0) 0 ≡ 0 → t < length Q
           room h e =
               omega (
                 arith,
@@ -387,10 +388,10 @@ module _ (W : List ℕ) (b x c y : ℕ) (T₀ Q₀ : List ℕ) (t₀ : ℕ) wher
                 low h,
                 so .paired .table,
                 ib .block .small,
-                unpaired-put 32 (getD W (234 * b + 6 * x + 2 + k) 0) 0 T (omega (arith, low h, ib .block .small)) (omega (arith, low h, so .paired .table, ib .block .small)) e,
+                unpaired-put capacity (getD W (blockSize * b + objectSize * x + headSize + k) 0) 0 T (omega (arith, low h, ib .block .small)) (omega (arith, low h, so .paired .table, ib .block .small)) e,
               )
 
-      module _ (T2 Q2 : List ℕ) (u : ℕ) (e : after u T2 Q2 ≡ stepCode T Q t (getD W (234 * b + 6 * x + 2 + k) 0) (getD W (234 * c + 6 * y + 2 + k) 0)) where
+      module _ (T2 Q2 : List ℕ) (u : ℕ) (e : after u T2 Q2 ≡ stepCode T Q t (getD W (blockSize * b + objectSize * x + headSize + k) 0) (getD W (blockSize * c + objectSize * y + headSize + k) 0)) where
         this-step : Stepped W b c T₀ Q₀ t₀ T r s (after u T2 Q2)
         this-step =
             subst (Stepped W b c T₀ Q₀ t₀ T r s) (ap₂ (stepCode T Q t) (sym er) (sym es) ∙ sym e)
@@ -402,14 +403,14 @@ module _ (W : List ℕ) (b x c y : ℕ) (T₀ Q₀ : List ℕ) (t₀ : ℕ) wher
         pub fields-more : ((u ≡ 0) → ⊥) → FieldsSoFar W b x c y T₀ Q₀ t₀ T2 Q2 u (k + 1)
         fields-more z = record { start = so .start; alike = so .alike; grown = this-step .grown z; paired = this-step .paired z; fields = record { codes = λ f h. go f h (ℕ-discrete f k) } }
           where
-            here : Linked T2 (getD W (234 * b + 6 * x + 2 + k) 0) (getD W (234 * c + 6 * y + 2 + k) 0)
+            here : Linked T2 (getD W (blockSize * b + objectSize * x + headSize + k) 0) (getD W (blockSize * c + objectSize * y + headSize + k) 0)
             here = rw (er, es) (this-step .linked z)
 
-            go : (f : ℕ) → f < k + 1 → Dec (f ≡ k) → Linked T2 (getD W (234 * b + 6 * x + 2 + f) 0) (getD W (234 * c + 6 * y + 2 + f) 0)
+            go : (f : ℕ) → f < k + 1 → Dec (f ≡ k) → Linked T2 (getD W (blockSize * b + objectSize * x + headSize + f) 0) (getD W (blockSize * c + objectSize * y + headSize + f) 0)
             go f h (yes q) = rw q here
             go f h (no q) = let l = so .fields .codes f (omega (arith, q)) in record { leaf = l .leaf; pair = λ i. this-step .further z _ _ (l .pair i) }
 
-    pub fields-done : getD W (234 * b + 6 * x + 1) 0 ≤ k → ObjectStep W b x c y T₀ Q₀ t₀ T Q t
+    pub fields-done : getD W (blockSize * b + objectSize * x + 1) 0 ≤ k → ObjectStep W b x c y T₀ Q₀ t₀ T Q t
     fields-done h = record {
       differ = λ z. absurd (omega (arith, some-paired));
       grown = λ _. so .grown;
@@ -434,18 +435,18 @@ module _ (W : List ℕ) (b c : ℕ) (bb : Block W b) (bc : Block W c) where
     Claim p = (x y : ℕ) → getD T x 0 ≡ y + 1 → follow (objectsIn W b) (obj x) p ≡ follow (objectsIn W c) (obj y) p
 
     linked-refs : (p : List ℕ) → Claim p → (r s : Ref) → InRange (countIn W b) r → InRange (countIn W c) s → Linked T (codeOf r) (codeOf s) → follow (objectsIn W b) r p ≡ follow (objectsIn W c) s p
-    linked-refs p ih r s hr hs l = go (decLt (codeOf r) 192)
+    linked-refs p ih r s hr hs l = go (decLt (codeOf r) firstLeaf)
       where
-        go : Dec (codeOf r < 192) → follow (objectsIn W b) r p ≡ follow (objectsIn W c) s p
+        go : Dec (codeOf r < firstLeaf) → follow (objectsIn W b) r p ≡ follow (objectsIn W c) s p
         go (yes h) =
             let e = l .pair h in
-            let k : codeOf s < 192 = omega (arith, pd .within (codeOf r) (codeOf s) e, bc .small) in
+            let k : codeOf s < firstLeaf = omega (arith, pd .within (codeOf r) (codeOf s) e, bc .small) in
             ap (λ (q : Ref). follow (objectsIn W b) q p) (is-object r h) ∙ ih (codeOf r) (codeOf s) e ∙ ap (λ (q : Ref). follow (objectsIn W c) q p) (sym (is-object s k))
         go (no h) =
-            let k : 192 ≤ codeOf r = omega (arith, h) in
-            let i : InRange 192 r = in-larger (countIn W b) 192 r (omega (arith, bb .small)) hr in
+            let k : firstLeaf ≤ codeOf r = omega (arith, h) in
+            let i : InRange firstLeaf r = in-larger (countIn W b) firstLeaf r (omega (arith, bb .small)) hr in
             leaf-same (objectsIn W b) (objectsIn W c) r (leaf-range r i k) p
-            ∙ ap (λ (q : Ref). follow (objectsIn W c) q p) (codes-leaf r s i (in-larger (countIn W c) 192 s (omega (arith, bc .small)) hs) k (l .leaf k))
+            ∙ ap (λ (q : Ref). follow (objectsIn W c) q p) (codes-leaf r s i (in-larger (countIn W c) firstLeaf s (omega (arith, bc .small)) hs) k (l .leaf k))
 
     label : (x y : ℕ) → getD T x 0 ≡ y + 1 → (x < countIn W b) × Closed W b x c y T → follow (objectsIn W b) (obj x) [] ≡ follow (objectsIn W c) (obj y) []
     label x y e o =
@@ -461,8 +462,8 @@ module _ (W : List ℕ) (b c : ℕ) (bb : Block W b) (bc : Block W c) where
         let hy = pd .within x y e in
         below p (refsAt (objectsIn W b) x) (refsAt (objectsIn W c) y) (sym (count-is W b bb x hx) ∙ d .alike .count ∙ count-is W c bc y hy)
         (λ g l.
-        let k : g < getD W (234 * b + 6 * x + 1) 0 = omega (arith, count-is W b bb x hx) in
-        let k4 : g < 4 = omega (arith, bb .packed x hx .count) in
+        let k : g < getD W (blockSize * b + objectSize * x + 1) 0 = omega (arith, count-is W b bb x hx) in
+        let k4 : g < codeCount = omega (arith, bb .packed x hx .count) in
         linked-refs p ih (getD (refsAt (objectsIn W b) x) g undet) (getD (refsAt (objectsIn W c) y) g undet)
         (in-range W b bb x hx g k) (in-range W c bc y hy g (omega (arith, d .alike .count)))
         (rw (← code-is W b bb x hx g k4, ← code-is W c bc y hy g k4) (d .fields .codes g k)))
@@ -509,7 +510,7 @@ module _ (W : List ℕ) (b c : ℕ) (T₀ Q₀ : List ℕ) where
         pub pairs-differ : u ≡ 0 → InStep W b c T₀ T2 false
         pairs-differ z = record { pairs = λ f. absurd (false≢true f); yes = λ f. absurd (false≢true f); within = λ f. absurd (false≢true f); no = λ _ al. o .differ z (so .grown .keeps al) }
 
-        pub pairs-few : ((u ≡ 0) → ⊥) → u ≤ 32
+        pub pairs-few : ((u ≡ 0) → ⊥) → u ≤ capacity
         pairs-few z = omega (arith, o .paired z .free)
 
         pub pairs-more : ((u ≡ 0) → ⊥) → PairsSoFar W b c T₀ Q₀ T2 Q2 u (h + 1)
@@ -578,11 +579,11 @@ unpaired-few (suc k) T = go (eqb (getD T k 0) 0) (unpaired-few k T)
     go false h = omega arith
 
 -- a table of partners that are known to unfold to the same trees, and an empty queue
-pub told-paired : (W : List ℕ) (b c : ℕ) (T Q : List ℕ) → length T ≡ 32 → length Q ≡ 32 → AllSame W b c T → ((x y : ℕ) → getD T x 0 ≡ y + 1 → y < countIn W c) → Paired W b c T Q 0
+pub told-paired : (W : List ℕ) (b c : ℕ) (T Q : List ℕ) → length T ≡ capacity → length Q ≡ capacity → AllSame W b c T → ((x y : ℕ) → getD T x 0 ≡ y + 1 → y < countIn W c) → Paired W b c T Q 0
 told-paired W b c T Q lt lq al wi = record {
   table = lt;
   queue = lq;
-  free = omega (arith, unpaired-few 32 T);
+  free = omega (arith, unpaired-few capacity T);
   low = λ q h. absurd (omega arith);
   there = λ q h. absurd (omega arith);
   listed = λ x y e. inr (al .same x y e);
@@ -590,7 +591,7 @@ told-paired W b c T Q lt lq al wi = record {
 }
 
 -- and one pair more, which is to be gone over
-module _ (W : List ℕ) (b c : ℕ) (bb : Block W b) (T Q : List ℕ) (lt : length T ≡ 32) (lq : length Q ≡ 32) (al : AllSame W b c T) (wi : (x y : ℕ) → getD T x 0 ≡ y + 1 → y < countIn W c)
+module _ (W : List ℕ) (b c : ℕ) (bb : Block W b) (T Q : List ℕ) (lt : length T ≡ capacity) (lq : length Q ≡ capacity) (al : AllSame W b c T) (wi : (x y : ℕ) → getD T x 0 ≡ y + 1 → y < countIn W c)
     (i j : ℕ) (hi : i < countIn W b) (hj : j < countIn W c) (e : getD T i 0 ≡ 0) where
   pub told-roots : Paired W b c (set T i (j + 1)) (set Q 0 i) 1
   told-roots = pair-new W b c T Q 0 i j (told-paired W b c T Q lt lq al wi) (bb .small) hi hj e
@@ -654,11 +655,11 @@ module _ (W : List ℕ) (b i c j : ℕ) (ib : Inside W b i) (ic : Inside W c j) 
           (omega (arith, size W c (ic .block), ib .low, ap (countIn W) z)) (omega (arith, size W c (ic .block), ic .low))
           (λ p. ap (λ (k : ℕ). follow (objectsIn W k) (obj i) p) (sym z) ∙ s p)))
 
-  pub roots-differ : (r : Bool) → r ≡ alikeAt W (234 * b + 6 * i) (234 * c + 6 * j) → r ≡ false → false ≡ eqGraph (canon (graphAt W b i)) (canon (graphAt W c j))
+  pub roots-differ : (r : Bool) → r ≡ alikeAt W (blockSize * b + objectSize * i) (blockSize * c + objectSize * j) → r ≡ false → false ≡ eqGraph (canon (graphAt W b i)) (canon (graphAt W c j))
   roots-differ r l z = trees-differ (λ s. alike-no W _ _ r l z (same-alike W b i c j ib ic s))
 
   -- the roots are the first pair
-  module _ (k : ℕ) (ek : k ≡ 32) where
+  module _ (k : ℕ) (ek : k ≡ capacity) where
     zero-at : (x : ℕ) → _≡_ {A = ℕ} (getD (replicate k 0) x 0) 0
     zero-at x = go (decLt x k)
       where
@@ -672,7 +673,7 @@ module _ (W : List ℕ) (b i c j : ℕ) (ib : Inside W b i) (ic : Inside W c j) 
     none-within : (x y : ℕ) → getD (replicate k 0) x 0 ≡ y + 1 → y < countIn W c
     none-within x y e = absurd (omega (arith, zero-at x))
 
-    long : length (replicate {A = ℕ} k 0) ≡ 32
+    long : length (replicate {A = ℕ} k 0) ≡ capacity
     long = length-replicate k 0 ∙ ek
 
     pub roots-paired : Paired W b c (set (replicate k 0) i (j + 1)) (set (replicate k 0) 0 i) 1

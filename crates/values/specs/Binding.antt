@@ -8,6 +8,7 @@ use lib.Dec.{eqb, ltb}
 use lib.ListN.{length, getD}
 use Rattle.cofj.specs.Values.{obj, undet, graph}
 use Rattle.cofj.specs.Unfolding.{Same, Whole}
+use Rattle.canon.specs.Figures.{objectSize, headSize, codeCount, firstMark, capacity, objectsSize, blockSize}
 use Rattle.canon.specs.Layout.{nodesIn, countIn, Packed, Distinct}
 use Rattle.values.specs.Tests.{any}
 
@@ -17,7 +18,7 @@ boundCode hot i c = cond (eqb c hot) i c
 
 -- byte k of an object, its codes bound
 unfoldable pub boundByte : ℕ → ℕ → ℕ → ℕ → ℕ
-boundByte hot i k c = cond (ltb k 2) c (boundCode hot i c)
+boundByte hot i k c = cond (ltb k headSize) c (boundCode hot i c)
 
 -- the first k bytes of the object at a place of W, bound, at a place of R; the bytes below are R₀'s
 pub record ObjectBound (W : List ℕ) (p hot i : ℕ) (R₀ : List ℕ) (q k : ℕ) (R : List ℕ) : Type 0 where
@@ -27,19 +28,19 @@ pub record ObjectBound (W : List ℕ) (p hot i : ℕ) (R₀ : List ℕ) (q k : �
 
 -- the first n objects of block b, bound, at the front of R
 pub record ObjectsBound (W : List ℕ) (b hot i n : ℕ) (R : List ℕ) : Type 0 where
-  pub here : (j f : ℕ) → j < n → f < 6 → getD R (6 * j + f) 0 ≡ boundByte hot i f (getD W (234 * b + 6 * j + f) 0)
+  pub here : (j f : ℕ) → j < n → f < objectSize → getD R (objectSize * j + f) 0 ≡ boundByte hot i f (getD W (blockSize * b + objectSize * j + f) 0)
 
 -- all of them, with mark x bound to object i
 pub record Bound (W : List ℕ) (b x i : ℕ) (R : List ℕ) (n : ℕ) : Type 0 where
   pub count : n ≡ countIn W b
-  pub objects : ObjectsBound W b (193 + x) i n R
-  pub room : 192 ≤ length R
+  pub objects : ObjectsBound W b (firstMark + x) i n R
+  pub room : objectsSize ≤ length R
 
 -- n objects from the start on, no more than a block has, which refer to one another
 pub record Few (R : List ℕ) (n : ℕ) : Type 0 where
-  pub small : n ≤ 32
-  pub room : 192 ≤ length R
-  pub packed : (i : ℕ) → i < n → Packed R (6 * i)
+  pub small : n ≤ capacity
+  pub room : objectsSize ≤ length R
+  pub packed : (i : ℕ) → i < n → Packed R (objectSize * i)
   pub whole : Whole (graph undet (nodesIn R 0 n))
 
 -- whether one of the four codes of the object at a place is i
@@ -48,11 +49,11 @@ refersTo W p i = any (λ f. eqb (getD W (p + 2 + f) 0) i) 4
 
 -- whether none of the first n objects of block b refers to object i
 unfoldable pub noneRefer : List ℕ → ℕ → ℕ → ℕ → Bool
-noneRefer W b n i = not (any (λ k. refersTo W (234 * b + 6 * k) i) n)
+noneRefer W b n i = not (any (λ k. refersTo W (blockSize * b + objectSize * k) i) n)
 
 -- f is a field whose codes differ, or 4
 pub record OtherField (R : List ℕ) (x y f : ℕ) : Type 0 where
-  pub other : f < 4 → getD R (6 * x + 2 + f) 0 ≡ getD R (6 * y + 2 + f) 0 → ⊥
+  pub other : f < codeCount → getD R (objectSize * x + headSize + f) 0 ≡ getD R (objectSize * y + headSize + f) 0 → ⊥
 
 -- objects i and k of n unfold to the same tree only if x and y do
 pub record Leads (R : List ℕ) (n i k x y : ℕ) : Type 0 where
@@ -82,4 +83,4 @@ pub record DistinctTest (R : List ℕ) (n : ℕ) (r : Bool) : Type 0 where
 pub record Rooted (R : List ℕ) (n i : ℕ) (W : List ℕ) (dst : ℕ) : Type 0 where
   pub few : Few R n
   pub inside : i < n
-  pub room : 234 * dst + 234 ≤ length W
+  pub room : blockSize * dst + blockSize ≤ length W

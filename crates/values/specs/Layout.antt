@@ -5,6 +5,7 @@ use mathlib.Core.Bool.{Bool, false}
 use mathlib.Core.List.{List}
 use lib.Dec.{eqb}
 use Rattle.cofj.specs.Values.{Graph, canon, undetermined, markOf}
+use Rattle.canon.specs.Figures.{markCount}
 use Rattle.canon.specs.Layout.{graphAt, Inside}
 use Rattle.values.specs.declared.ValueRef.{ValueRef}
 use Rattle.values.specs.declared.ValueRef.the-variants.{Object, Mark, Undetermined}
@@ -23,7 +24,7 @@ rawOf W Undetermined = undetermined
 
 abbrev pub HeldBy : List ℕ → ValueRef → Type 0
 HeldBy W (Object i b) = Inside W b i
-HeldBy W (Mark k) = k < 63
+HeldBy W (Mark k) = k < markCount
 HeldBy W Undetermined = Unit {0}
 
 -- the reference stands for a value in these bytes

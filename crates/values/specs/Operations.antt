@@ -5,6 +5,7 @@ use mathlib.Core.List.{List}
 use mathlib.Core.Option.{Option, none, some}
 use lib.ListN.{getD}
 use Rattle.cofj.specs.Values.{Graph, canon, select, close}
+use Rattle.canon.specs.Figures.{objectSize, blockSize}
 use Rattle.canon.specs.Layout.{countIn, levelIn, reachIn, Outside}
 use Rattle.canon.specs.Tables.{Filled, Carried}
 use Rattle.canon.specs.Numbers.{Has}
@@ -17,7 +18,7 @@ use Rattle.values.specs.Layout.{valueOf, Holds, Low}
 pub record Taken (W : List ℕ) (b : ℕ) (I R₀ R : List ℕ) (n : ℕ) : Type 0 where
   pub count : n ≡ countIn W b
   pub ids : Filled (λ i. 0 + i) n I
-  pub copy : Carried W (234 * b) R₀ 0 (6 * n) R
+  pub copy : Carried W (blockSize * b) R₀ 0 (objectSize * n) R
 
 -- a reference stands for the value v in the bytes after, in block dst or below, and only block dst has changed
 pub record Gives (W : List ℕ) (dst : ℕ) (W′ : List ℕ) (r : ValueRef) (v : Graph) : Type 0 where
@@ -36,7 +37,7 @@ pub record Copied (W : List ℕ) (b dst : ℕ) (W′ : List ℕ) : Type 0 where
   pub count : countIn W′ dst ≡ countIn W b
   pub level : levelIn W′ dst ≡ levelIn W b
   pub reach : reachIn W′ dst ≡ reachIn W b
-  pub here : (k : ℕ) → k < 6 * countIn W b → getD W′ (234 * dst + k) 0 ≡ getD W (234 * b + k) 0
+  pub here : (k : ℕ) → k < objectSize * countIn W b → getD W′ (blockSize * dst + k) 0 ≡ getD W (blockSize * b + k) 0
   pub outside : Outside dst W W′
 
 -- an answer that may be none, as a value

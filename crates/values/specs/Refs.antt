@@ -3,12 +3,13 @@ use Prim.Native.Nat.{ℕ, _-_, _/_, _%_, _<_}
 use mathlib.Core.Bool.{cond}
 use mathlib.Core.Path.{_≡_}
 use lib.Dec.{eqb, ltb}
+use Rattle.canon.specs.Figures.{firstLeaf, undeterminedCode, firstMark}
 use Rattle.values.specs.declared.ValueRef.{ValueRef}
 use Rattle.values.specs.declared.ValueRef.the-variants.{Object, Mark, Undetermined}
 
 -- the value of block b and code c
 unfoldable pub refFrom : ℕ → ℕ → ValueRef
-refFrom b c = cond (ltb c 192) (Object c b) (cond (eqb c 192) Undetermined (Mark (c - 193)))
+refFrom b c = cond (ltb c firstLeaf) (Object c b) (cond (eqb c undeterminedCode) Undetermined (Mark (c - firstMark)))
 
 -- the value that a number stands for
 unfoldable pub refIn : ℕ → ValueRef

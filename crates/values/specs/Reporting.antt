@@ -3,10 +3,22 @@ use Prim.Native.Nat.{ℕ, _+_, _≤_}
 use mathlib.Core.Path.{_≡_}
 use mathlib.Core.List.{List, _++_}
 use lib.ListN.{length, take, drop}
+use Rattle.cofj.specs.Limits.{reportSize}
 use Rattle.cofj.specs.Values.{Graph}
 use Rattle.cofj.specs.Text.{hexLine}
 use Rattle.cofj.specs.Report.{objectLine, valueReport}
 use Rattle.canon.specs.Layout.{nodeIn}
+
+-- what makes a digit its character: one below ten, and one from ten on
+abbrev pub digitChar : ℕ
+digitChar = 48
+
+abbrev pub letterChar : ℕ
+letterChar = 55
+
+-- the characters of an object's line at most: eight bytes and LF
+abbrev pub lineSize : ℕ
+lineSize = 17
 
 -- the first j of d are p, and the others are as in d₀
 pub record Front (d₀ d : List ℕ) (j : ℕ) (p : List ℕ) : Type 0 where
@@ -21,11 +33,11 @@ lineIn W at j = objectLine j (nodeIn W at)
 -- a line's characters from one place to another
 pub record Line (l d₀ : List ℕ) (to : ℕ) (d : List ℕ) (t : ℕ) : Type 0 where
   pub up : to ≤ t
-  pub top : t ≤ to + 17
+  pub top : t ≤ to + lineSize
   pub text : Front d₀ d t (take to d₀ ++ hexLine l)
 
 -- the report of v in front of what was there, and its length
 pub record Reported (v : Graph) (d₀ d : List ℕ) (t : ℕ) : Type 0 where
-  pub fits : t ≤ 544
+  pub fits : t ≤ reportSize
   pub count : t ≡ length (valueReport v)
   pub text : d ≡ valueReport v ++ drop (length (valueReport v)) d₀

@@ -9,6 +9,7 @@ use lib.Dec.{eqb, ltb}
 use lib.ListN.{length, getD, set}
 use Rattle.cofj.specs.Values.{obj}
 use Rattle.cofj.specs.Unfolding.{Same}
+use Rattle.canon.specs.Figures.{objectSize, headSize, firstLeaf, capacity, blockSize}
 use Rattle.canon.specs.Layout.{Alike, countIn, objectsIn, Block, Inside}
 
 -- the length of the queue (0 where two things differ), the table and the queue
@@ -23,17 +24,17 @@ after t T Q = record { tail = t; table = T; queue = Q }
 -- a code of the first block met with one of the second: objects are paired, unless the first has a partner already
 unfoldable pub stepCode : List ℕ → List ℕ → ℕ → ℕ → ℕ → After
 stepCode T Q t a b =
-    cond (ltb a 192)
-    (cond (ltb b 192)
+    cond (ltb a firstLeaf)
+    (cond (ltb b firstLeaf)
     (cond (eqb (getD T a 0) 0) (after (t + 1) (set T a (b + 1)) (set Q t a)) (cond (eqb (getD T a 0) (b + 1)) (after t T Q) (after 0 T Q)))
     (after 0 T Q))
     (cond (eqb a b) (after t T Q) (after 0 T Q))
 
 -- room for a new pair
 pub record CodeFits (T Q : List ℕ) (t a : ℕ) : Type 0 where
-  pub entry : a < 192 → a < length T
-  pub room : a < 192 → getD T a 0 ≡ 0 → t < length Q
-  pub few : t ≤ 32
+  pub entry : a < firstLeaf → a < length T
+  pub room : a < firstLeaf → getD T a 0 ≡ 0 → t < length Q
+  pub few : t ≤ capacity
 
 -- how many of the first k objects are not paired
 unfoldable pub unpaired : ℕ → List ℕ → ℕ
@@ -43,9 +44,9 @@ unpaired (suc k) T = cond (eqb (getD T k 0) 0) 1 0 + unpaired k T
 -- object x of block b is paired with object y of block c where the table has y + 1 for x; the queue lists the paired objects, but those that are known to unfold to
 -- their partners' trees: they need not be gone over. Comparing begins with none such, merging with those that have codes
 pub record Paired (W : List ℕ) (b c : ℕ) (T Q : List ℕ) (t : ℕ) : Type 0 where
-  pub table : length T ≡ 32
-  pub queue : length Q ≡ 32
-  pub free : t + unpaired 32 T ≤ 32
+  pub table : length T ≡ capacity
+  pub queue : length Q ≡ capacity
+  pub free : t + unpaired capacity T ≤ capacity
   pub low : (q : ℕ) → q < t → getD Q q 0 < countIn W b
   pub there : (q : ℕ) → q < t → (getD T (getD Q q 0) 0 ≡ 0) → ⊥
   pub listed : (x y : ℕ) → getD T x 0 ≡ y + 1 → ((q : ℕ) × (q < t) × (getD Q q 0 ≡ x)) ⊎ Same (objectsIn W b) (obj x) (objectsIn W c) (obj y)
@@ -64,12 +65,12 @@ pub record Grown (W : List ℕ) (b c : ℕ) (T₀ Q₀ : List ℕ) (t₀ : ℕ) 
 
 -- equal codes, or objects that are paired
 pub record Linked (T : List ℕ) (a b : ℕ) : Type 0 where
-  pub leaf : 192 ≤ a → a ≡ b
-  pub pair : a < 192 → getD T a 0 ≡ b + 1
+  pub leaf : firstLeaf ≤ a → a ≡ b
+  pub pair : a < firstLeaf → getD T a 0 ≡ b + 1
 
 -- the first k fields of object x of block b are linked with those of object y of block c
 pub record LinkedTo (W : List ℕ) (b x c y : ℕ) (T : List ℕ) (k : ℕ) : Type 0 where
-  pub codes : (f : ℕ) → f < k → Linked T (getD W (234 * b + 6 * x + 2 + f) 0) (getD W (234 * c + 6 * y + 2 + f) 0)
+  pub codes : (f : ℕ) → f < k → Linked T (getD W (blockSize * b + objectSize * x + headSize + f) 0) (getD W (blockSize * c + objectSize * y + headSize + f) 0)
 
 -- object x of block b and object y of block c are a pair of the table
 pub record Pair (W : List ℕ) (b x c y : ℕ) (T Q : List ℕ) (t : ℕ) : Type 0 where
@@ -82,15 +83,15 @@ pub record Pair (W : List ℕ) (b x c y : ℕ) (T Q : List ℕ) (t : ℕ) : Type
 -- the first k fields of a pair gone over
 pub record FieldsSoFar (W : List ℕ) (b x c y : ℕ) (T₀ Q₀ : List ℕ) (t₀ : ℕ) (T Q : List ℕ) (t k : ℕ) : Type 0 where
   pub start : Pair W b x c y T₀ Q₀ t₀
-  pub alike : Alike W (234 * b + 6 * x) (234 * c + 6 * y)
+  pub alike : Alike W (blockSize * b + objectSize * x) (blockSize * c + objectSize * y)
   pub grown : Grown W b c T₀ Q₀ t₀ T Q t
   pub paired : Paired W b c T Q t
   pub fields : LinkedTo W b x c y T k
 
 -- alike, and all fields are linked
 pub record Closed (W : List ℕ) (b x c y : ℕ) (T : List ℕ) : Type 0 where
-  pub alike : Alike W (234 * b + 6 * x) (234 * c + 6 * y)
-  pub fields : LinkedTo W b x c y T (getD W (234 * b + 6 * x + 1) 0)
+  pub alike : Alike W (blockSize * b + objectSize * x) (blockSize * c + objectSize * y)
+  pub fields : LinkedTo W b x c y T (getD W (blockSize * b + objectSize * x + 1) 0)
 
 -- the first h objects of the queue are so, each with its partner
 pub record ClosedTo (W : List ℕ) (b c : ℕ) (T Q : List ℕ) (h : ℕ) : Type 0 where

@@ -4,16 +4,34 @@ use crate::ValueRef;
 use crate::lockstep::alike;
 use canon::bytes::copy;
 use canon::colours::colour;
+use canon::layout::BLOCK;
+use canon::layout::CODES;
+use canon::layout::COUNT;
+use canon::layout::FIRST_LEAF;
+use canon::layout::FIRST_MARK;
+use canon::layout::HEAD;
+use canon::layout::LEVEL;
+use canon::layout::OBJECT;
+use canon::layout::OBJECTS;
+use canon::layout::REACH;
+use canon::layout::WIDE;
 use canon::number::level_of;
 use canon::number::put;
 ghost use mathlib.Core.Path.{_≡_};
 ghost use Prim.Native.Nat.{ℕ, _+_, _*_, _<_, _≤_};
 ghost use lib.ListN.{length};
 ghost use Rattle.cofj.specs.Values.{canon};
+ghost use Rattle.canon.specs.Figures.{objectSize, markCount, wideSize, capacity, objectsSize, blockSize};
 ghost use Rattle.canon.specs.Layout.{Inside, nodesIn, graphAt, Distinct};
 ghost use Rattle.canon.specs.Numbers.{graphIn};
 ghost use Rattle.values.specs.Operations.{Gives, closeOf};
 ghost use Rattle.values.specs.Binding.{boundCode, ObjectBound, Bound, Few, refersTo, noneRefer, OtherField, DifferTest, UnlikeTest, OthersTest, DistinctTest, Rooted};
+
+// how far a path is followed that may tell two objects apart: it decides the time only
+const STEPS: u8 = 64;
+
+// the answer that no field differs, which is no field
+const NO_FIELD: u8 = CODES;
 
 // A code, the code `hot` turned to object i.
 pub fn bind_code(hot: u8, i: u8, c: u8) -> u8
@@ -27,8 +45,8 @@ pub fn bind_code(hot: u8, i: u8, c: u8) -> u8
 
 // The object at place p of `work`, to place q of `raw`.
 pub fn bind_object(work: &[u8], p: usize, hot: u8, i: u8, raw: &mut [u8], q: usize)
-    requires { ⌜ (p + 6 ≤ length (now work)) × (q + 6 ≤ length (now raw)) ⌝ }
-    ensures { λ _. ⌜ ObjectBound (now (work .entry)) p hot i (now (raw .entry)) q 6 (now (raw .exit)) ⌝ }
+    requires { ⌜ (p + objectSize ≤ length (now work)) × (q + objectSize ≤ length (now raw)) ⌝ }
+    ensures { λ _. ⌜ ObjectBound (now (work .entry)) p hot i (now (raw .entry)) q objectSize (now (raw .exit)) ⌝ }
 {
     raw[q] = work[p];
     raw[q + 1] = work[p + 1];
@@ -40,19 +58,19 @@ pub fn bind_object(work: &[u8], p: usize, hot: u8, i: u8, raw: &mut [u8], q: usi
 
 // The objects of block b, with mark x bound to object i, to the front of `raw`. Answers how many they are.
 pub fn bind_objects(work: &[u8], b: u16, x: u8, i: u8, raw: &mut [u8]) -> u8
-    requires { ⌜ Inside (now work) b i × (x < 63) × (192 ≤ length (now raw)) ⌝ }
+    requires { ⌜ Inside (now work) b i × (x < markCount) × (objectsSize ≤ length (now raw)) ⌝ }
     ensures { λ n. ⌜ Bound (now (work .entry)) b x i (now (raw .exit)) n ⌝ }
 {
-    let n = work[234 * (b as usize) + 192];
+    let n = work[BLOCK * (b as usize) + COUNT];
     let mut j: u8 = 0;
     while j < n {
         bind_object(
             work,
-            234 * (b as usize) + 6 * (j as usize),
-            193 + x,
+            BLOCK * (b as usize) + OBJECT * (j as usize),
+            FIRST_MARK + x,
             i,
             raw,
-            6 * (j as usize),
+            OBJECT * (j as usize),
         );
         j += 1;
     }
@@ -61,7 +79,7 @@ pub fn bind_objects(work: &[u8], b: u16, x: u8, i: u8, raw: &mut [u8]) -> u8
 
 // Whether the object at place p refers to object i.
 pub fn refers(work: &[u8], p: usize, i: u8) -> bool
-    requires { ⌜ p + 6 ≤ length (now work) ⌝ }
+    requires { ⌜ p + objectSize ≤ length (now work) ⌝ }
     ensures { λ r. ⌜ r ≡ refersTo (now (work .entry)) p i ⌝ }
 {
     if work[p + 2] == i {
@@ -78,12 +96,12 @@ pub fn refers(work: &[u8], p: usize, i: u8) -> bool
 
 // Whether none of the n objects of block b refers to object i.
 pub fn unreferred(work: &[u8], b: u16, n: u8, i: u8) -> bool
-    requires { ⌜ (234 * b + 234 ≤ length (now work)) × (n ≤ 32) ⌝ }
+    requires { ⌜ (blockSize * b + blockSize ≤ length (now work)) × (n ≤ capacity) ⌝ }
     ensures { λ r. ⌜ r ≡ noneRefer (now (work .entry)) b n i ⌝ }
 {
     let mut k: u8 = 0;
     while k < n {
-        if refers(work, 234 * (b as usize) + 6 * (k as usize), i) {
+        if refers(work, BLOCK * (b as usize) + OBJECT * (k as usize), i) {
             return false;
         }
         k += 1;
@@ -91,43 +109,45 @@ pub fn unreferred(work: &[u8], b: u16, n: u8, i: u8) -> bool
     true
 }
 
-// The first field whose codes differ; 4 if there is none.
+// The first field whose codes differ; NO_FIELD if there is none.
 pub fn other_field(raw: &[u8], x: u8, y: u8) -> u8
-    requires { ⌜ (6 * x + 6 ≤ length (now raw)) × (6 * y + 6 ≤ length (now raw)) ⌝ }
+    requires { ⌜ (objectSize * x + objectSize ≤ length (now raw)) × (objectSize * y + objectSize ≤ length (now raw)) ⌝ }
     ensures { λ f. ⌜ OtherField (now (raw .entry)) x y f ⌝ }
 {
     let mut f: u8 = 0;
-    while f < 4 {
-        if raw[6 * (x as usize) + 2 + f as usize] != raw[6 * (y as usize) + 2 + f as usize] {
+    while f < CODES {
+        if raw[OBJECT * (x as usize) + HEAD + f as usize]
+            != raw[OBJECT * (y as usize) + HEAD + f as usize]
+        {
             return f;
         }
         f += 1;
     }
-    4
+    NO_FIELD
 }
 
-// True only if objects i and k of n unfold to different trees: one path is followed, 64 steps at most.
+// True only if objects i and k of n unfold to different trees: one path is followed, STEPS steps at most.
 pub fn differ(raw: &[u8], n: u8, i: u8, k: u8) -> bool
     requires { ⌜ Few (now raw) n × (i < n) × (k < n) ⌝ }
     ensures { λ r. ⌜ DifferTest (now (raw .entry)) n i k r ⌝ }
 {
     let mut x: u8 = i;
     let mut y: u8 = k;
-    let mut left: u8 = 64;
+    let mut left = STEPS;
     while 0 < left {
-        if !alike(raw, 6 * (x as usize), 6 * (y as usize)) {
+        if !alike(raw, OBJECT * (x as usize), OBJECT * (y as usize)) {
             return true;
         }
         let f = other_field(raw, x, y);
-        if 4 <= f {
+        if NO_FIELD <= f {
             return false;
         }
-        let first = raw[6 * (x as usize) + 2 + f as usize];
-        let second = raw[6 * (y as usize) + 2 + f as usize];
-        if 192 <= first {
+        let first = raw[OBJECT * (x as usize) + HEAD + f as usize];
+        let second = raw[OBJECT * (y as usize) + HEAD + f as usize];
+        if FIRST_LEAF <= first {
             return true;
         }
-        if 192 <= second {
+        if FIRST_LEAF <= second {
             return true;
         }
         x = first;
@@ -168,7 +188,7 @@ pub fn stay_distinct(work: &[u8], b: u16, x: u8, i: u8, raw: &[u8], n: u8) -> bo
     requires { ⌜ Inside (now work) b i × Bound (now work) b x i (now raw) n ⌝ }
     ensures { λ r. ⌜ DistinctTest (now (raw .entry)) n r ⌝ }
 {
-    if work[234 * (b as usize) + 194] <= i {
+    if work[BLOCK * (b as usize) + REACH] <= i {
         return unlike_others(raw, n, i);
     }
     if unreferred(work, b, n, i) {
@@ -182,17 +202,17 @@ pub fn put_distinct(raw: &[u8], n: u8, i: u8, work: &mut [u8], dst: u16) -> Valu
     requires { ⌜ Rooted (now raw) n i (now work) dst × Distinct (nodesIn (now raw) 0 n) ⌝ }
     ensures { λ o. ⌜ Gives (now (work .entry)) dst (now (work .exit)) o (canon (graphIn (now (raw .entry)) n i)) ⌝ }
 {
-    copy(raw, 0, work, 234 * (dst as usize), 6 * (n as usize));
-    let l = level_of(raw, 0, 6 * (n as usize));
-    work[234 * (dst as usize) + 192] = n;
-    work[234 * (dst as usize) + 193] = l;
-    work[234 * (dst as usize) + 194] = n;
+    copy(raw, 0, work, BLOCK * (dst as usize), OBJECT * (n as usize));
+    let l = level_of(raw, 0, OBJECT * (n as usize));
+    work[BLOCK * (dst as usize) + COUNT] = n;
+    work[BLOCK * (dst as usize) + LEVEL] = l;
+    work[BLOCK * (dst as usize) + REACH] = n;
     ValueRef::Object(i, dst)
 }
 
 // The value at object i of n, to block `dst`, equal objects merged and numbered from there.
 pub fn put_merged(raw: &[u8], n: u8, i: u8, work: &mut [u8], dst: u16) -> ValueRef
-    requires { ⌜ Rooted (now raw) n i (now work) dst × (1536 ≤ length (now raw)) ⌝ }
+    requires { ⌜ Rooted (now raw) n i (now work) dst × (wideSize ≤ length (now raw)) ⌝ }
     ensures { λ o. ⌜ Gives (now (work .entry)) dst (now (work .exit)) o (canon (graphIn (now (raw .entry)) n i)) ⌝ }
 {
     let mut ids = [0u8; 256];
@@ -201,17 +221,17 @@ pub fn put_merged(raw: &[u8], n: u8, i: u8, work: &mut [u8], dst: u16) -> ValueR
     ValueRef::Object(0, dst)
 }
 
-// X = u for object i of block b, to block `dst`. 192 bytes have room for the objects of a block; colours ask for 1536.
+// X = u for object i of block b, to block `dst`. Few bytes have room for the objects of a block; colours ask for more.
 pub fn close_bound(work: &mut [u8], x: u8, b: u16, i: u8, dst: u16) -> ValueRef
-    requires { ⌜ Inside (now work) b i × (x < 63) × (234 * dst + 234 ≤ length (now work)) ⌝ }
+    requires { ⌜ Inside (now work) b i × (x < markCount) × (blockSize * dst + blockSize ≤ length (now work)) ⌝ }
     ensures { λ o. ⌜ Gives (now (work .entry)) dst (now (work .exit)) o (closeOf x (canon (graphAt (now (work .entry)) b i))) ⌝ }
 {
-    let mut raw = [0u8; 192];
+    let mut raw = [0u8; OBJECTS];
     let n = bind_objects(work, b, x, i, &mut raw);
     if stay_distinct(work, b, x, i, &raw, n) {
         return put_distinct(&raw, n, i, work, dst);
     }
-    let mut wide = [0u8; 1536];
+    let mut wide = [0u8; WIDE];
     let m = bind_objects(work, b, x, i, &mut wide);
     put_merged(&wide, m, i, work, dst)
 }

@@ -1,27 +1,36 @@
 // Values compared: two objects of two blocks, and what they lead to, in step. Not here: equal objects of one block, which there are none of.
 use crate::ValueRef;
+use canon::layout::BLOCK;
+use canon::layout::FIRST_LEAF;
+use canon::layout::HEAD;
+use canon::layout::OBJECT;
+use canon::layout::PER_OBJECT;
 ghost use mathlib.Core.Path.{_≡_};
 ghost use Prim.Native.Nat.{ℕ, _+_, _*_, _≤_};
 ghost use lib.ListN.{length};
 ghost use Rattle.cofj.specs.Values.{eqGraph, canon};
+ghost use Rattle.canon.specs.Figures.{objectSize, blockSize};
 ghost use Rattle.canon.specs.Layout.{Alike, alikeAt, Inside, Block, graphAt};
 ghost use Rattle.values.specs.Layout.{Holds, valueOf};
 ghost use Rattle.values.specs.Stepping.{after, stepCode, CodeFits, Paired, Pair, ObjectStep, InStep};
 
+// the answer that two things differ: a queue has one object at least
+const DIFFERENT: u8 = 0;
+
 // Meets two codes: they are equal, or objects that are partners or can become so. `partner` has y + 1 for an object with the partner y, 0 for one
-// without; `queue` lists the objects that have one, `tail` of them. Answers how many there are then, 0 if the codes differ.
+// without; `queue` lists the objects that have one, `tail` of them. Answers how many there are then, DIFFERENT if the codes differ.
 pub fn step_code(partner: &mut [u8], queue: &mut [u8], tail: u8, first: u8, second: u8) -> u8
     requires { ⌜ CodeFits (now partner) (now queue) tail first ⌝ }
     ensures { λ r. ⌜ after r (now (partner .exit)) (now (queue .exit)) ≡ stepCode (now (partner .entry)) (now (queue .entry)) tail first second ⌝ }
 {
-    if 192 <= first {
+    if FIRST_LEAF <= first {
         if first == second {
             return tail;
         }
-        return 0;
+        return DIFFERENT;
     }
-    if 192 <= second {
-        return 0;
+    if FIRST_LEAF <= second {
+        return DIFFERENT;
     }
     let known = partner[first as usize];
     if known == 0 {
@@ -32,12 +41,12 @@ pub fn step_code(partner: &mut [u8], queue: &mut [u8], tail: u8, first: u8, seco
     if known == second + 1 {
         return tail;
     }
-    0
+    DIFFERENT
 }
 
 // Whether the objects at places p and q have one class and as many fields.
 pub fn alike(a: &[u8], p: usize, q: usize) -> bool
-    requires { ⌜ (p + 6 ≤ length (now a)) × (q + 6 ≤ length (now a)) ⌝ }
+    requires { ⌜ (p + objectSize ≤ length (now a)) × (q + objectSize ≤ length (now a)) ⌝ }
     ensures { λ r. ⌜ r ≡ alikeAt (now (a .entry)) p q ⌝ }
 {
     if a[p] != a[q] {
@@ -57,20 +66,20 @@ pub fn step_fields(
     queue: &mut [u8],
     tail: u8,
 ) -> u8
-    requires { ⌜ Pair (now work) b x c y (now partner) (now queue) tail × Alike (now work) (234 * b + 6 * x) (234 * c + 6 * y) ⌝ }
+    requires { ⌜ Pair (now work) b x c y (now partner) (now queue) tail × Alike (now work) (blockSize * b + objectSize * x) (blockSize * c + objectSize * y) ⌝ }
     ensures { λ r. ⌜ ObjectStep (now (work .entry)) b x c y (now (partner .entry)) (now (queue .entry)) tail (now (partner .exit)) (now (queue .exit)) r ⌝ }
 {
-    let p = 234 * (b as usize) + 6 * (x as usize);
-    let q = 234 * (c as usize) + 6 * (y as usize);
+    let p = BLOCK * (b as usize) + OBJECT * (x as usize);
+    let q = BLOCK * (c as usize) + OBJECT * (y as usize);
     let n = work[p + 1];
     let mut t = tail;
     let mut k: u8 = 0;
     while k < n {
-        let first = work[p + 2 + k as usize];
-        let second = work[q + 2 + k as usize];
+        let first = work[p + HEAD + k as usize];
+        let second = work[q + HEAD + k as usize];
         let r = step_code(partner, queue, t, first, second);
-        if r == 0 {
-            return 0;
+        if r == DIFFERENT {
+            return DIFFERENT;
         }
         t = r;
         k += 1;
@@ -94,12 +103,12 @@ pub fn step_object(
 {
     if alike(
         work,
-        234 * (b as usize) + 6 * (x as usize),
-        234 * (c as usize) + 6 * (y as usize),
+        BLOCK * (b as usize) + OBJECT * (x as usize),
+        BLOCK * (c as usize) + OBJECT * (y as usize),
     ) {
         return step_fields(work, b, x, c, y, partner, queue, tail);
     }
-    0
+    DIFFERENT
 }
 
 // Meets the objects of the queue and their partners, those too that are added. Answers whether each unfolds to its partner's tree; then the table has them all.
@@ -114,7 +123,7 @@ pub fn in_step(work: &[u8], b: u16, c: u16, partner: &mut [u8], queue: &mut [u8]
         let x = queue[head as usize];
         let y = partner[x as usize];
         let t = step_object(work, b, x, c, y - 1, partner, queue, tail);
-        if t == 0 {
+        if t == DIFFERENT {
             return false;
         }
         tail = t;
@@ -128,8 +137,8 @@ pub fn roots_in_step(work: &[u8], b: u16, i: u8, c: u16, j: u8) -> bool
     requires { ⌜ Inside (now work) b i × Inside (now work) c j ⌝ }
     ensures { λ r. ⌜ r ≡ eqGraph (canon (graphAt (now (work .entry)) b i)) (canon (graphAt (now (work .entry)) c j)) ⌝ }
 {
-    let mut partner = [0u8; 32];
-    let mut queue = [0u8; 32];
+    let mut partner = [0u8; PER_OBJECT];
+    let mut queue = [0u8; PER_OBJECT];
     partner[i as usize] = j + 1;
     queue[0] = i;
     in_step(work, b, c, &mut partner, &mut queue)
@@ -145,8 +154,8 @@ pub fn same_trees(work: &[u8], b: u16, i: u8, c: u16, j: u8) -> bool
     }
     if alike(
         work,
-        234 * (b as usize) + 6 * (i as usize),
-        234 * (c as usize) + 6 * (j as usize),
+        BLOCK * (b as usize) + OBJECT * (i as usize),
+        BLOCK * (c as usize) + OBJECT * (j as usize),
     ) {
         return roots_in_step(work, b, i, c, j);
     }

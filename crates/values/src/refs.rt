@@ -1,5 +1,11 @@
 // References to values: at rest as numbers, of a code of a block, selected from. Not here: where the numbers stand, values moved and closed (value).
 use crate::ValueRef;
+use canon::layout::BLOCK;
+use canon::layout::FIRST_LEAF;
+use canon::layout::FIRST_MARK;
+use canon::layout::HEAD;
+use canon::layout::OBJECT;
+use canon::layout::UNDETERMINED;
 ghost use mathlib.Core.Path.{_≡_};
 ghost use Prim.Native.Nat.{_<_, _%_};
 ghost use Rattle.values.specs.Layout.{Holds};
@@ -56,13 +62,13 @@ pub fn unpack(x: u32) -> ValueRef
 pub fn ref_of(c: u8, b: u16) -> ValueRef
     ensures { λ v. ⌜ v ≡ refFrom b c ⌝ }
 {
-    if c < 192 {
+    if c < FIRST_LEAF {
         return ValueRef::Object(c, b);
     }
-    if c == 192 {
+    if c == UNDETERMINED {
         return ValueRef::Undetermined;
     }
-    ValueRef::Mark(c - 193)
+    ValueRef::Mark(c - FIRST_MARK)
 }
 
 // Field f of a value, which lies in the same block if it is an object.
@@ -73,9 +79,9 @@ pub fn select(work: &[u8], v: ValueRef, f: u8) -> Selected
     let ValueRef::Object(i, b) = v else {
         return Selected::Nothing;
     };
-    let at = 234 * (b as usize) + 6 * (i as usize);
+    let at = BLOCK * (b as usize) + OBJECT * (i as usize);
     if work[at + 1] <= f {
         return Selected::Nothing;
     }
-    Selected::Value(ref_of(work[at + 2 + f as usize], b))
+    Selected::Value(ref_of(work[at + HEAD + f as usize], b))
 }

@@ -3,9 +3,16 @@ use crate::ValueRef;
 use crate::bind::close_bound;
 use canon::bytes::copy;
 use canon::bytes::count_up;
+use canon::layout::BLOCK;
+use canon::layout::COUNT;
+use canon::layout::LEVEL;
+use canon::layout::OBJECT;
+use canon::layout::REACH;
+use canon::layout::WIDE;
 use canon::number::put;
 ghost use Prim.Native.Nat.{ℕ, _+_, _*_, _<_, _≤_};
 ghost use lib.ListN.{length};
+ghost use Rattle.canon.specs.Figures.{markCount, wideSize, blockSize};
 ghost use Rattle.canon.specs.Layout.{Block, Inside, graphAt};
 ghost use Rattle.values.specs.Layout.{Holds, valueOf};
 ghost use Rattle.values.specs.Operations.{Taken, Moved, Copied, Gives, closeOf};
@@ -13,12 +20,12 @@ ghost use Rattle.values.specs.Operations.{Taken, Moved, Copied, Gives, c
 // Copies the objects of block b to the front of `raw`, and answers how many they are.
 // `ids` becomes 0, 1, .. for each of them.
 pub fn take_up(work: &[u8], b: u16, ids: &mut [u8], raw: &mut [u8]) -> u8
-    requires { ⌜ Block (now work) b × (256 ≤ length (now ids)) × (1536 ≤ length (now raw)) ⌝ }
+    requires { ⌜ Block (now work) b × (256 ≤ length (now ids)) × (wideSize ≤ length (now raw)) ⌝ }
     ensures { λ n. ⌜ Taken (now (work .entry)) b (now (ids .exit)) (now (raw .entry)) (now (raw .exit)) n ⌝ }
 {
-    let at = 234 * (b as usize);
-    let n = work[at + 192];
-    let p = 6 * (n as usize);
+    let at = BLOCK * (b as usize);
+    let n = work[at + COUNT];
+    let p = OBJECT * (n as usize);
     count_up(0, n, ids);
     copy(work, at, raw, 0, p);
     n
@@ -26,37 +33,37 @@ pub fn take_up(work: &[u8], b: u16, ids: &mut [u8], raw: &mut [u8]) -> u8
 
 // The value at object i of block b, alone and numbered from its root, to block `dst`.
 pub fn move_out(work: &mut [u8], b: u16, i: u8, dst: u16)
-    requires { ⌜ Inside (now work) b i × (234 * dst + 234 ≤ length (now work)) ⌝ }
+    requires { ⌜ Inside (now work) b i × (blockSize * dst + blockSize ≤ length (now work)) ⌝ }
     ensures { λ _. ⌜ Moved (now (work .entry)) (graphAt (now (work .entry)) b i) dst (now (work .exit)) ⌝ }
 {
     let mut ids = [0u8; 256];
-    let mut raw = [0u8; 1536];
+    let mut raw = [0u8; WIDE];
     let n = take_up(work, b, &mut ids, &mut raw);
     put(&raw, n, &ids, i, work, dst);
 }
 
 // The objects of block b, to block `dst`, which may be b.
 pub fn copy_block(work: &mut [u8], b: u16, dst: u16)
-    requires { ⌜ Block (now work) b × (234 * dst + 234 ≤ length (now work)) ⌝ }
+    requires { ⌜ Block (now work) b × (blockSize * dst + blockSize ≤ length (now work)) ⌝ }
     ensures { λ _. ⌜ Copied (now (work .entry)) b dst (now (work .exit)) ⌝ }
 {
-    let n = work[234 * (b as usize) + 192];
-    let l = work[234 * (b as usize) + 193];
-    let m = work[234 * (b as usize) + 194];
-    let p = 6 * (n as usize);
+    let n = work[BLOCK * (b as usize) + COUNT];
+    let l = work[BLOCK * (b as usize) + LEVEL];
+    let m = work[BLOCK * (b as usize) + REACH];
+    let p = OBJECT * (n as usize);
     let mut q: usize = 0;
     while q < p {
-        work[234 * (dst as usize) + q] = work[234 * (b as usize) + q];
+        work[BLOCK * (dst as usize) + q] = work[BLOCK * (b as usize) + q];
         q += 1;
     }
-    work[234 * (dst as usize) + 192] = n;
-    work[234 * (dst as usize) + 193] = l;
-    work[234 * (dst as usize) + 194] = m;
+    work[BLOCK * (dst as usize) + COUNT] = n;
+    work[BLOCK * (dst as usize) + LEVEL] = l;
+    work[BLOCK * (dst as usize) + REACH] = m;
 }
 
 // A value, in block `dst` or below.
 pub fn bring(work: &mut [u8], v: ValueRef, dst: u16) -> ValueRef
-    requires { ⌜ Holds (now work) v × (234 * dst + 234 ≤ length (now work)) ⌝ }
+    requires { ⌜ Holds (now work) v × (blockSize * dst + blockSize ≤ length (now work)) ⌝ }
     ensures { λ r. ⌜ Gives (now (work .entry)) dst (now (work .exit)) r (valueOf (now (work .entry)) v) ⌝ }
 {
     let ValueRef::Object(i, b) = v else {
@@ -71,12 +78,12 @@ pub fn bring(work: &mut [u8], v: ValueRef, dst: u16) -> ValueRef
 
 // X = u, in block `dst` or below. An object in which the mark is not stays as it is.
 pub fn close(work: &mut [u8], x: u8, v: ValueRef, dst: u16) -> ValueRef
-    requires { ⌜ Holds (now work) v × (x < 63) × (234 * dst + 234 ≤ length (now work)) ⌝ }
+    requires { ⌜ Holds (now work) v × (x < markCount) × (blockSize * dst + blockSize ≤ length (now work)) ⌝ }
     ensures { λ r. ⌜ Gives (now (work .entry)) dst (now (work .exit)) r (closeOf x (valueOf (now (work .entry)) v)) ⌝ }
 {
     match v {
         ValueRef::Object(i, b) => {
-            if work[234 * (b as usize) + 193] <= x {
+            if work[BLOCK * (b as usize) + LEVEL] <= x {
                 return bring(work, v, dst);
             }
             close_bound(work, x, b, i, dst)

@@ -7,12 +7,13 @@ use borrow.Author.Needs.{needs}
 use mathlib.Core.Path.{_≡_}
 use Prim.Native.Nat.{_≤_, _-_, _+_, _*_}
 use Rattle.cofj.specs.Values.{placeOf}
+use Rattle.canon.specs.Figures.{objectSize}
 use Rattle.canon.specs.Layout.{nodeIn, nodesIn}
 use Rattle.canon.specs.Rounds.{placeIs}
 use Rattle.canon.proofs.Places as laws
 
 abbrev Inv-loop : tie.InvT-loop
-Inv-loop looks i n j₀ j = (j ≤ i) × (placeIs looks n i ≡ j + placeOf (nodeIn looks (6 * i)) (nodesIn looks (6 * j) (n - j)))
+Inv-loop looks i n j₀ j = (j ≤ i) × (placeIs looks n i ≡ j + placeOf (nodeIn looks (objectSize * i)) (nodesIn looks (objectSize * j) (n - j)))
 
 abbrev μ-loop : tie.MeasureT-loop
 μ-loop looks i n j₀ j = i - j

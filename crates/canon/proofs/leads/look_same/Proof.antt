@@ -7,15 +7,16 @@ use borrow.Author.Needs.{needs}
 use mathlib.Core.Path.{_≡_}
 use Prim.Native.Nat.{_≤_, _-_}
 use native.Mathlib.Omega.{arith}
+use Rattle.canon.specs.Figures.{objectSize}
 use Rattle.canon.specs.Tables.{copied}
 use Rattle.canon.specs.Links.{AlikeTo}
 use Rattle.canon.proofs.Looks as laws
 
 abbrev Inv-loop : tie.InvT-loop
-Inv-loop nodes cs i j k₀ k = (k ≤ 6) × AlikeTo (copied cs) nodes i j k
+Inv-loop nodes cs i j k₀ k = (k ≤ objectSize) × AlikeTo (copied cs) nodes i j k
 
 abbrev μ-loop : tie.MeasureT-loop
-μ-loop nodes cs i j k₀ k = 6 - k
+μ-loop nodes cs i j k₀ k = objectSize - k
 
 loop-holds : tie.Need-loop-holds Inv-loop μ-loop
 loop-holds c = (search needs, laws.alike-none _ _ _ _)

@@ -10,11 +10,12 @@ use mathlib.Core.Path.{_≡_, _∙_, refl}
 use Prim.Native.Nat.{_≤_, _<_, _-_}
 use native.Mathlib.Omega.{arith}
 use lib.ListN.{length}
+use Rattle.canon.specs.Figures.{looksField}
 use Rattle.canon.specs.Links.{Chained, Hung, Grouped}
 use Rattle.canon.proofs.Looks as laws
 
 abbrev Inv-loop : tie.InvT-loop
-Inv-loop raw n t₀ links₀ last₀ x₀ t links last x = (length t ≡ length t₀) × (length links ≡ length links₀) × (length last ≡ length last₀) × (0 < x) × (x ≤ n) × Chained raw x last t × Hung n 4 x links × Grouped raw x links × laws.Rest links₀ links
+Inv-loop raw n t₀ links₀ last₀ x₀ t links last x = (length t ≡ length t₀) × (length links ≡ length links₀) × (length last ≡ length last₀) × (0 < x) × (x ≤ n) × Chained raw x last t × Hung n looksField x links × Grouped raw x links × laws.Rest links₀ links
 
 abbrev μ-loop : tie.MeasureT-loop
 μ-loop raw n t₀ links₀ last₀ x₀ t links last x = n - x

@@ -8,11 +8,12 @@ use mathlib.Core.Path.{_≡_, _∙_}
 use Prim.Native.Nat.{_≤_, _-_}
 use native.Mathlib.Omega.{arith}
 use lib.ListN.{length}
+use Rattle.canon.specs.Figures.{codeCount}
 use Rattle.canon.specs.Links.{Referred}
 use Rattle.canon.proofs.Refers as laws
 
 abbrev Inv-loop : tie.InvT-loop
-Inv-loop raw n links₀ w₀ f₀ links w f = (length links ≡ length links₀) × (w ≤ 4) × (f ≤ 4) × Referred raw n f links₀ links
+Inv-loop raw n links₀ w₀ f₀ links w f = (length links ≡ length links₀) × (w ≤ codeCount) × (f ≤ codeCount) × Referred raw n f links₀ links
 
 abbrev μ-loop : tie.MeasureT-loop
 μ-loop raw n links₀ w₀ f₀ links w f = 4 - f

@@ -6,11 +6,12 @@ use borrow.Author.Needs.{needs}
 use native.Mathlib.Omega.{arith}
 use mathlib.Core.Logic.{⊎-elim}
 use Prim.Native.Nat.{_≤_, _-_}
+use Rattle.canon.specs.Figures.{undeterminedCode}
 use Rattle.canon.specs.Numbers.{Levels}
 use Rattle.canon.proofs.Numbers as laws
 
 abbrev Inv-loop : tie.InvT-loop
-Inv-loop work at p m₀ q₀ m q = (q ≤ p) × (192 ≤ m) × Levels work at q (m - 192)
+Inv-loop work at p m₀ q₀ m q = (q ≤ p) × (undeterminedCode ≤ m) × Levels work at q (m - undeterminedCode)
 
 abbrev μ-loop : tie.MeasureT-loop
 μ-loop work at p m₀ q₀ m q = p - q

@@ -10,12 +10,13 @@ use mathlib.Core.Path.{_≡_, _∙_}
 use Prim.Native.Nat.{_≤_, _-_, _*_, _+_}
 use native.Mathlib.Omega.{arith}
 use lib.ListN.{length, getD}
+use Rattle.canon.specs.Figures.{rowSize}
 use Rattle.canon.specs.Parting.{Brought, SameNotes}
 use Rattle.canon.proofs.Marks as laws
 use Rattle.canon.proofs.Notes as notes
 
 abbrev Inv-loop : tie.InvT-loop
-Inv-loop t₀ n m links f s e p₀ k₀ t p k = (length t ≡ length t₀) × (getD t₀ (8 * s + 3) 0 ≤ p) × (k ≤ n) × Brought n m t₀ t (laws.Seen links f t₀ s p) × SameNotes n t₀ t
+Inv-loop t₀ n m links f s e p₀ k₀ t p k = (length t ≡ length t₀) × (getD t₀ (rowSize * s + 3) 0 ≤ p) × (k ≤ n) × Brought n m t₀ t (laws.Seen links f t₀ s p) × SameNotes n t₀ t
 
 abbrev μ-loop : tie.MeasureT-loop
 μ-loop t₀ n m links f s e p₀ k₀ t p k = e - p

@@ -8,11 +8,12 @@ use mathlib.Core.Path.{_≡_}
 use Prim.Native.Nat.{_≤_, _-_, _*_, _+_}
 use native.Mathlib.Omega.{arith}
 use lib.ListN.{length, getD}
+use Rattle.canon.specs.Figures.{rowSize}
 use Rattle.canon.specs.Parting.{Noted}
 use Rattle.canon.proofs.Notes as laws
 
 abbrev Inv-loop : tie.InvT-loop
-Inv-loop t₀ n m s e p₀ t p = (length t ≡ length t₀) × (getD t₀ (8 * s + 3) 0 ≤ p) × Noted t₀ s p t
+Inv-loop t₀ n m s e p₀ t p = (length t ≡ length t₀) × (getD t₀ (rowSize * s + 3) 0 ≤ p) × Noted t₀ s p t
 
 abbrev μ-loop : tie.MeasureT-loop
 μ-loop t₀ n m s e p₀ t p = e - p

@@ -6,11 +6,12 @@ use Rattle.maker.proofs.join.put_object.Reads as put-object-reads
 use borrow.Author.Needs.{needs}
 use Prim.Native.Nat.{_≤_, _-_}
 use mathlib.Core.Logic.{⊎-elim}
+use Rattle.canon.specs.Figures.{capacity}
 use Rattle.maker.specs.Joining.{Laid}
 use Rattle.maker.proofs.Joins as laws
 
 abbrev Inv-loop : tie.InvT-loop
-Inv-loop work₀ src host told fresh n x₀ work x = (x ≤ n) × (n ≤ 32) × Laid work₀ src host told fresh x work
+Inv-loop work₀ src host told fresh n x₀ work x = (x ≤ n) × (n ≤ capacity) × Laid work₀ src host told fresh x work
 
 abbrev μ-loop : tie.MeasureT-loop
 μ-loop work₀ src host told fresh n x₀ work x = n - x

@@ -8,9 +8,10 @@ use Rattle.maker.proofs.part.bring_new.Reads as bring-new-reads
 use Rattle.maker.proofs.part.same_number.Reads as same-number-reads
 use Rattle.maker.proofs.Imports as laws
 use Rattle.maker.proofs.Turns as tables
+use Rattle.canon.specs.Figures.{capacity}
 
 same-number-requires : tie.Need-same-number-requires
-same-number-requires c κs = (search needs, search needs, search laws.mapped-none, tables.zero-at 32 (c .before .before .before .args .i))
+same-number-requires c κs = (search needs, search needs, search laws.mapped-none, tables.zero-at capacity (c .before .before .before .args .i))
 
 returns : tie.Need-returns
 returns c = search laws.import-same
@@ -18,7 +19,7 @@ returns c = search laws.import-same
 bring-new-requires : tie.Need-bring-new-requires
 bring-new-requires c κs =
     let same = c .before .before .before .before in
-    (search needs, search needs, search needs, laws.import-mapped _ _ _ _ (same .before .before .before .before .pre .1) 32 refl _ _ (same .same-number .ensures) (c .before .before .if1 .left))
+    (search needs, search needs, search needs, laws.import-mapped _ _ _ _ (same .before .before .before .before .pre .1) capacity refl _ _ (same .same-number .ensures) (c .before .before .if1 .left))
 
 pub import-spec : {M : Type 1} → statement M
 import-spec =

@@ -7,14 +7,15 @@ use borrow.Author.Needs.{needs}
 use Prim.Native.Nat.{_≤_, _-_}
 use mathlib.Core.Path.{_≡_}
 use lib.ListN.{length}
+use Rattle.canon.specs.Figures.{capacity}
 use Rattle.maker.specs.Reaching.{ReachedTo}
 use Rattle.maker.proofs.Reaches as laws
 
 abbrev Inv-loop : tie.InvT-loop
-Inv-loop work src i list₀ seen₀ head₀ tail₀ list seen head tail = (tail ≤ 32) × (length list ≡ length list₀) × (length seen ≡ length seen₀) × ReachedTo work src i seen list tail head
+Inv-loop work src i list₀ seen₀ head₀ tail₀ list seen head tail = (tail ≤ capacity) × (length list ≡ length list₀) × (length seen ≡ length seen₀) × ReachedTo work src i seen list tail head
 
 abbrev μ-loop : tie.MeasureT-loop
-μ-loop work src i list₀ seen₀ head₀ tail₀ list seen head tail = 32 - head
+μ-loop work src i list₀ seen₀ head₀ tail₀ list seen head tail = capacity - head
 
 loop-holds : tie.Need-loop-holds Inv-loop μ-loop
 loop-holds c = (search needs, search needs, search needs, search laws.reach-start)

@@ -9,11 +9,12 @@ use Prim.Native.Nat.{_≤_, _-_}
 use mathlib.Core.Path.{_≡_, ap}
 use mathlib.Core.Logic.{⊎-elim}
 use lib.ListN.{length}
+use Rattle.canon.specs.Figures.{capacity}
 use Rattle.maker.specs.Seeking.{SoughtTo}
 use Rattle.maker.proofs.Seeks as laws
 
 abbrev Inv-loop : tie.InvT-loop
-Inv-loop work src x host told₀ fresh t y₀ told y = (y ≤ t) × (t ≤ 32) × (length told ≡ length told₀) × SoughtTo work src x host told₀ told y
+Inv-loop work src x host told₀ fresh t y₀ told y = (y ≤ t) × (t ≤ capacity) × (length told ≡ length told₀) × SoughtTo work src x host told₀ told y
 
 abbrev μ-loop : tie.MeasureT-loop
 μ-loop work src x host told₀ fresh t y₀ told y = t - y

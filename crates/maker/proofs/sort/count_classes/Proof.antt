@@ -7,9 +7,10 @@ use Rattle.maker.proofs.Sorts as laws
 use Prim.Native.Nat.{ℕ, _≤_, _-_}
 use mathlib.Core.Path.{_≡_}
 use lib.ListN.{length, getD}
+use Rattle.canon.specs.Figures.{capacity}
 
 abbrev Inv-loop : tie.InvT-loop
-Inv-loop work host count₀ t y₀ count y = (y ≤ t) × (t ≤ 32) × (length count ≡ 64) × ((k : ℕ) → getD count k 0 ≤ y)
+Inv-loop work host count₀ t y₀ count y = (y ≤ t) × (t ≤ capacity) × (length count ≡ 64) × ((k : ℕ) → getD count k 0 ≤ y)
 
 abbrev μ-loop : tie.MeasureT-loop
 μ-loop work host count₀ t y₀ count y = t - y

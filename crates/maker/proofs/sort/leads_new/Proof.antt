@@ -6,9 +6,10 @@ use Rattle.maker.proofs.sort.is_new.Reads as is-new-reads
 use borrow.Author.Needs.{needs}
 use Rattle.maker.proofs.Sorts as laws
 use Prim.Native.Nat.{_≤_, _-_}
+use Rattle.canon.specs.Figures.{codeCount}
 
 abbrev Inv-loop : tie.InvT-loop
-Inv-loop work src x fresh p k₀ k = k ≤ 4
+Inv-loop work src x fresh p k₀ k = k ≤ codeCount
 
 abbrev μ-loop : tie.MeasureT-loop
 μ-loop work src x fresh p k₀ k = 4 - k

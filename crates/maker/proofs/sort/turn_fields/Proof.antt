@@ -6,10 +6,11 @@ use Rattle.maker.proofs.sort.turn.Reads as turn-reads
 use borrow.Author.Needs.{needs}
 use Rattle.maker.proofs.Sorts as laws
 use Prim.Native.Nat.{_≤_}
+use Rattle.canon.specs.Figures.{codeCount}
 use Rattle.maker.specs.Sorting.{CodesTurned}
 
 abbrev Inv-loop : tie.InvT-loop
-Inv-loop work src x told p w₀ k₀ w k = (k ≤ 4) × CodesTurned work src x told k w
+Inv-loop work src x told p w₀ k₀ w k = (k ≤ codeCount) × CodesTurned work src x told k w
 
 abbrev μ-loop : tie.MeasureT-loop
 μ-loop work src x told p w₀ k₀ w k = k

@@ -8,11 +8,12 @@ use native.Mathlib.Omega.{arith}
 use mathlib.Core.Path.{_≡_, refl}
 use Prim.Native.Nat.{_≤_, _-_, _+_, _*_}
 use lib.ListN.{length, getD}
+use Rattle.canon.specs.Figures.{firstMark, capacity, objectsSize, countAt, blockSize}
 use Rattle.values.specs.Binding.{ObjectsBound}
 use Rattle.values.proofs.Bindings as laws
 
 abbrev Inv-loop : tie.InvT-loop
-Inv-loop work b x i raw₀ n j₀ raw j = (j ≤ n) × (n ≤ 32) × (234 * b + 234 ≤ length work) × (n ≡ getD work (234 * b + 192) 0) × (length raw ≡ length raw₀) × (192 ≤ length raw) × ObjectsBound work b (193 + x) i j raw
+Inv-loop work b x i raw₀ n j₀ raw j = (j ≤ n) × (n ≤ capacity) × (blockSize * b + blockSize ≤ length work) × (n ≡ getD work (blockSize * b + countAt) 0) × (length raw ≡ length raw₀) × (objectsSize ≤ length raw) × ObjectsBound work b (firstMark + x) i j raw
 
 abbrev μ-loop : tie.MeasureT-loop
 μ-loop work b x i raw₀ n j₀ raw j = n - j

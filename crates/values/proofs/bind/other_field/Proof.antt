@@ -5,9 +5,10 @@ use Rattle.values.proofs.bind.other_field.Lts as lts
 use borrow.Author.Needs.{needs}
 use Prim.Native.Nat.{_≤_, _-_}
 use Rattle.values.proofs.Bindings as laws
+use Rattle.canon.specs.Figures.{codeCount}
 
 abbrev Inv-loop : tie.InvT-loop
-Inv-loop raw x y f₀ f = f ≤ 4
+Inv-loop raw x y f₀ f = f ≤ codeCount
 
 abbrev μ-loop : tie.MeasureT-loop
 μ-loop raw x y f₀ f = 4 - f

@@ -8,14 +8,15 @@ use native.Mathlib.Omega.{arith}
 use mathlib.Core.Path.{_≡_}
 use Prim.Native.Nat.{_≤_, _-_}
 use lib.ListN.{length}
+use Rattle.canon.specs.Figures.{capacity}
 use Rattle.values.specs.Stepping.{PairsSoFar}
 use Rattle.values.proofs.Steps as laws
 
 abbrev Inv-loop : tie.InvT-loop
-Inv-loop work b c partner₀ queue₀ head₀ tail₀ partner queue head tail = (tail ≤ 32) × (length partner ≡ length partner₀) × (length queue ≡ length queue₀) × PairsSoFar work b c partner₀ queue₀ partner queue tail head
+Inv-loop work b c partner₀ queue₀ head₀ tail₀ partner queue head tail = (tail ≤ capacity) × (length partner ≡ length partner₀) × (length queue ≡ length queue₀) × PairsSoFar work b c partner₀ queue₀ partner queue tail head
 
 abbrev μ-loop : tie.MeasureT-loop
-μ-loop work b c partner₀ queue₀ head₀ tail₀ partner queue head tail = 32 - head
+μ-loop work b c partner₀ queue₀ head₀ tail₀ partner queue head tail = capacity - head
 
 loop-holds : tie.Need-loop-holds Inv-loop μ-loop
 loop-holds c = (search needs, search needs, search needs, search laws.pairs-start)

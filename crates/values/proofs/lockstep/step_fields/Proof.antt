@@ -7,11 +7,12 @@ use borrow.Author.Needs.{needs}
 use mathlib.Core.Path.{_≡_}
 use Prim.Native.Nat.{_≤_, _-_}
 use lib.ListN.{length}
+use Rattle.canon.specs.Figures.{codeCount}
 use Rattle.values.specs.Stepping.{FieldsSoFar}
 use Rattle.values.proofs.Steps as laws
 
 abbrev Inv-loop : tie.InvT-loop
-Inv-loop work b x c y partner₀ queue₀ tail p q n t₀ k₀ partner queue t k = (k ≤ n) × (n ≤ 4) × (length partner ≡ length partner₀) × (length queue ≡ length queue₀) × FieldsSoFar work b x c y partner₀ queue₀ tail partner queue t k
+Inv-loop work b x c y partner₀ queue₀ tail p q n t₀ k₀ partner queue t k = (k ≤ n) × (n ≤ codeCount) × (length partner ≡ length partner₀) × (length queue ≡ length queue₀) × FieldsSoFar work b x c y partner₀ queue₀ tail partner queue t k
 
 abbrev μ-loop : tie.MeasureT-loop
 μ-loop work b x c y partner₀ queue₀ tail p q n t₀ k₀ partner queue t k = n - k

@@ -8,6 +8,7 @@ use Rattle.values.proofs.refs.ref_of.Reads as ref-of-reads
 use native.Mathlib.Omega.{arith}
 use Prim.Native.Nat.{_+_, _*_}
 use Rattle.values.proofs.Selecting as laws
+use Rattle.canon.specs.Figures.{objectSize, blockSize}
 
 returns : tie.Need-returns
 returns c = search laws.select-leaf
@@ -22,7 +23,7 @@ shared-slice-read-ref-of : tie.Need-shared-slice-read-ref-of
 shared-slice-read-ref-of c = let e = c .before .before .before .before in let s = e .before .before .before in omega (arith, laws.select-room _ _ (s .args .f) _ _ (s .pre) (e .v .given .1), laws.select-count _ _ (s .args .f) _ _ (s .pre) (e .v .given .1))
 
 returns-3 : tie.Need-returns-3
-returns-3 c = let e = c .before .before .before .before .before in let o = e .v .given in let s = e .before .before .before in laws.select-code _ _ (s .args .f) _ _ (s .pre) (o .1) (c .before .before .if1 .left) (omega (arith, c .before .shared-slice-known3 .given (234 * o .0 .1 .0 + 6 * o .0 .0 + 2 + s .args .f))) _ (c .ref-of .ensures)
+returns-3 c = let e = c .before .before .before .before .before in let o = e .v .given in let s = e .before .before .before in laws.select-code _ _ (s .args .f) _ _ (s .pre) (o .1) (c .before .before .if1 .left) (omega (arith, c .before .shared-slice-known3 .given (blockSize * o .0 .1 .0 + objectSize * o .0 .0 + 2 + s .args .f))) _ (c .ref-of .ensures)
 
 pub select-spec : {M : Type 1} → statement M
 select-spec =
