@@ -36,69 +36,54 @@ lead-class n m T₀ T C i d k l h e = omega (arith, l .cls (i + 1), k .low (i + 
 pub lead-none : (T C : List ℕ) → Led T T 0 C
 lead-none T C = record { cls = λ x. refl; low = λ j h. absurd (omega arith); same = λ j h. absurd (omega arith); note = λ j h. absurd (omega arith) }
 
+-- object x put for object i, which has the class d, and the notes after it
+module _ (T₀ T C : List ℕ) (i d : ℕ) (k : Led T₀ T i C) (dd : d ≡ getD T₀ (rowSize * (i + 1)) 0) (room : i < length C) where
+  led-put : (T1 : List ℕ) (x : ℕ) → ((y : ℕ) → getD T1 (rowSize * y) 0 ≡ getD T₀ (rowSize * y) 0) → x ≤ i → getD T₀ (rowSize * (x + 1)) 0 ≡ getD T₀ (rowSize * (i + 1)) 0
+      → getD T1 (rowSize * d + noteAt) 0 ≡ x → ((j : ℕ) → j < i → getD T1 (rowSize * getD T₀ (rowSize * (j + 1)) 0 + noteAt) 0 ≡ getD C j 0) → Led T₀ T1 (i + 1) (set C i x)
+  led-put T1 x cls le class-is top old = record {
+    cls = cls;
+    low = λ j h. low j h (ℕ-discrete j i);
+    same = λ j h. same j h (ℕ-discrete j i);
+    note = λ j h. note j h (ℕ-discrete j i);
+  }
+    where
+      here : (j : ℕ) → j ≡ i → getD (set C i x) j 0 ≡ x
+      here j q = rw q (getD-set-same C i x 0 room)
+
+      there : (j : ℕ) → ((j ≡ i) → ⊥) → getD (set C i x) j 0 ≡ getD C j 0
+      there j q = getD-set-other C i j x 0 q
+
+      low : (j : ℕ) → j < i + 1 → Dec (j ≡ i) → getD (set C i x) j 0 ≤ j
+      low j h (yes q) = omega (arith, here j q)
+      low j h (no q) = omega (arith, there j q, k .low j (omega (arith, q)))
+
+      same : (j : ℕ) → j < i + 1 → Dec (j ≡ i) → getD T₀ (rowSize * (getD (set C i x) j 0 + 1)) 0 ≡ getD T₀ (rowSize * (j + 1)) 0
+      same j h (yes q) = rw (here j q, q) class-is
+      same j h (no q) = rw (there j q) (k .same j (omega (arith, q)))
+
+      note : (j : ℕ) → j < i + 1 → Dec (j ≡ i) → getD T1 (rowSize * getD T₀ (rowSize * (j + 1)) 0 + noteAt) 0 ≡ getD (set C i x) j 0
+      note j h (yes q) = ap (λ (y : ℕ). getD T1 (rowSize * getD T₀ (rowSize * (y + 1)) 0 + noteAt) 0) q ∙ ap (λ (y : ℕ). getD T1 (rowSize * y + noteAt) 0) (sym dd) ∙ top ∙ sym (here j q)
+      note j h (no q) = old j (omega (arith, q)) ∙ sym (there j q)
+
 module _ (T₀ T C : List ℕ) (i d l : ℕ) (k : Led T₀ T i C) (ed : d ≡ getD T (rowSize * (i + 1)) 0) (el : l ≡ getD T (rowSize * d + noteAt) 0) (room : i < length C) (r : Bool) (t : KnownTest T i d l r) where
   dd : d ≡ getD T₀ (rowSize * (i + 1)) 0
   dd = ed ∙ k .cls (i + 1)
 
   pub lead-met : r ≡ true → Led T₀ T (i + 1) (set C i l)
-  lead-met e = record {
-    cls = k .cls;
-    low = λ j h. low j h (ℕ-discrete j i);
-    same = λ j h. same j h (ℕ-discrete j i);
-    note = λ j h. note j h (ℕ-discrete j i);
-  }
-    where
-      here : (j : ℕ) → j ≡ i → getD (set C i l) j 0 ≡ l
-      here j q = rw q (getD-set-same C i l 0 room)
+  lead-met e = led-put T₀ T C i d k dd room T l (k .cls) (omega (arith, t .below e)) (sym (k .cls (l + 1)) ∙ t .class e ∙ dd) (sym el) (k .note)
 
-      there : (j : ℕ) → ((j ≡ i) → ⊥) → getD (set C i l) j 0 ≡ getD C j 0
-      there j q = getD-set-other C i j l 0 q
-
-      low : (j : ℕ) → j < i + 1 → Dec (j ≡ i) → getD (set C i l) j 0 ≤ j
-      low j h (yes q) = omega (arith, here j q, t .below e)
-      low j h (no q) = omega (arith, there j q, k .low j (omega (arith, q)))
-
-      same : (j : ℕ) → j < i + 1 → Dec (j ≡ i) → getD T₀ (rowSize * (getD (set C i l) j 0 + 1)) 0 ≡ getD T₀ (rowSize * (j + 1)) 0
-      same j h (yes q) = rw (here j q, q) (sym (k .cls (l + 1)) ∙ t .class e ∙ dd)
-      same j h (no q) = rw (there j q) (k .same j (omega (arith, q)))
-
-      note : (j : ℕ) → j < i + 1 → Dec (j ≡ i) → getD T (rowSize * getD T₀ (rowSize * (j + 1)) 0 + noteAt) 0 ≡ getD (set C i l) j 0
-      note j h (yes q) = ap (λ (x : ℕ). getD T (rowSize * getD T₀ (rowSize * (x + 1)) 0 + noteAt) 0) q ∙ ap (λ (x : ℕ). getD T (rowSize * x + noteAt) 0) (sym dd) ∙ sym el ∙ sym (here j q)
-      note j h (no q) = k .note j (omega (arith, q)) ∙ sym (there j q)
+  -- an object below of that class would have been met
+  apart : r ≡ false → (j : ℕ) → j < i → (getD T₀ (rowSize * (j + 1)) 0 ≡ d) → ⊥
+  apart e j h q =
+      let z : l ≡ getD C j 0 = el ∙ ap (λ (x : ℕ). getD T (rowSize * x + noteAt) 0) (sym q) ∙ k .note j h in
+      t .not e (omega (arith, k .low j h)) (k .cls (l + 1) ∙ ap (λ (x : ℕ). getD T₀ (rowSize * (x + 1)) 0) z ∙ k .same j h ∙ q)
 
   pub lead-new : r ≡ false → rowSize * d + noteAt < length T → Led T₀ (set T (rowSize * d + noteAt) i) (i + 1) (set C i i)
-  lead-new e roomT = record {
-    cls = λ x. getD-set-other T (rowSize * d + noteAt) (rowSize * x) i 0 (λ z. omega arith) ∙ k .cls x;
-    low = λ j h. low j h (ℕ-discrete j i);
-    same = λ j h. same j h (ℕ-discrete j i);
-    note = λ j h. note j h (ℕ-discrete j i);
-  }
-    where
-      here : (j : ℕ) → j ≡ i → getD (set C i i) j 0 ≡ i
-      here j q = rw q (getD-set-same C i i 0 room)
-
-      there : (j : ℕ) → ((j ≡ i) → ⊥) → getD (set C i i) j 0 ≡ getD C j 0
-      there j q = getD-set-other C i j i 0 q
-
-      low : (j : ℕ) → j < i + 1 → Dec (j ≡ i) → getD (set C i i) j 0 ≤ j
-      low j h (yes q) = omega (arith, here j q)
-      low j h (no q) = omega (arith, there j q, k .low j (omega (arith, q)))
-
-      same : (j : ℕ) → j < i + 1 → Dec (j ≡ i) → getD T₀ (rowSize * (getD (set C i i) j 0 + 1)) 0 ≡ getD T₀ (rowSize * (j + 1)) 0
-      same j h (yes q) = rw (here j q, q)
-      same j h (no q) = rw (there j q) (k .same j (omega (arith, q)))
-
-      -- an object below of that class would have been met
-      apart : (j : ℕ) → j < i → (getD T₀ (rowSize * (j + 1)) 0 ≡ d) → ⊥
-      apart j h q =
-          let z : l ≡ getD C j 0 = el ∙ ap (λ (x : ℕ). getD T (rowSize * x + noteAt) 0) (sym q) ∙ k .note j h in
-          t .not e (omega (arith, k .low j h)) (k .cls (l + 1) ∙ ap (λ (x : ℕ). getD T₀ (rowSize * (x + 1)) 0) z ∙ k .same j h ∙ q)
-
-      note : (j : ℕ) → j < i + 1 → Dec (j ≡ i) → getD (set T (rowSize * d + noteAt) i) (rowSize * getD T₀ (rowSize * (j + 1)) 0 + noteAt) 0 ≡ getD (set C i i) j 0
-      note j h (yes q) =
-          ap (λ (x : ℕ). getD (set T (rowSize * d + noteAt) i) (rowSize * x + noteAt) 0) (ap (λ (x : ℕ). getD T₀ (rowSize * (x + 1)) 0) q ∙ sym dd) ∙ getD-set-same T (rowSize * d + noteAt) i 0 roomT ∙ sym (here j q)
-      note j h (no q) =
-          getD-set-other T (rowSize * d + noteAt) (rowSize * getD T₀ (rowSize * (j + 1)) 0 + noteAt) i 0 (λ z. apart j (omega (arith, q)) (omega arith)) ∙ k .note j (omega (arith, q)) ∙ sym (there j q)
+  lead-new e roomT =
+      led-put T₀ T C i d k dd room (set T (rowSize * d + noteAt) i) i
+      (λ x. getD-set-other T (rowSize * d + noteAt) (rowSize * x) i 0 (λ z. omega arith) ∙ k .cls x) (omega arith) refl
+      (getD-set-same T (rowSize * d + noteAt) i 0 roomT)
+      (λ j h. getD-set-other T (rowSize * d + noteAt) (rowSize * getD T₀ (rowSize * (j + 1)) 0 + noteAt) i 0 (λ z. apart e j h (omega arith)) ∙ k .note j h)
 
 pub lead-done : (T₀ T C : List ℕ) (i n : ℕ) → Led T₀ T i C → n ≤ i → Leads T₀ n C
 lead-done T₀ T C i n k h = record {

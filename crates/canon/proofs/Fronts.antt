@@ -20,9 +20,6 @@ module _ (n m z : ℕ) (T : List ℕ) (k : Classes n m T) (hz : z < n) where
     all = λ x l e. subst (Front T) (sym e) (record { at = omega (arith, el, ea, ap (λ (y : ℕ). getD T (rowSize * y + 4) 0) ec) });
   }
 
-  pub mark-found : (c a l : ℕ) → c ≡ getD T (rowSize * z) 0 → a ≡ getD T (rowSize * c + 4) 0 → l ≡ getD T (rowSize * z + 1) 0 → a ≤ l → Found n m T z c a l
-  mark-found c a l ec ea el h = record { low = hz; cls = ec; mid = ea; place = el; behind = h }
-
   module _ (T1 T2 : List ℕ) (c a l e : ℕ) (fd : Found n m T z c a l) (ee′ : e ≡ getD T (rowSize * a + 2) 0) (s1 : Stood T e l T1) (s2 : Stood T1 z a T2) where
     ec : getD T (rowSize * z) 0 ≡ c
     ec = sym (fd .cls)

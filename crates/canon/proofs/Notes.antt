@@ -67,9 +67,6 @@ pub set-mark : (T : List ℕ) (p v : ℕ) → Like T (set T (rowSize * p + 7) v)
 set-mark T p v = like-set T (rowSize * p + 7) v (λ x k h z. omega arith)
 
 -- ---- rows that there are
-pub row-room : (n m : ℕ) (T : List ℕ) → Classes n m T → (x : ℕ) → x < n → rowSize * x + rowSize ≤ length T
-row-room n m T k x h = omega (arith, k .placed .room)
-
 pub class-room : (n m : ℕ) (T : List ℕ) → Classes n m T → (x c : ℕ) → x < n → c ≡ getD T (rowSize * x) 0 → rowSize * c + rowSize ≤ length T
 class-room n m T k x c h e = omega (arith, k .placed .room, k .low x h, k .few)
 

@@ -299,8 +299,5 @@ module _ (W : List ℕ) (at q l : ℕ) (lv : Levels W at q l) where
       go p k (yes e) = rw e c
       go p k (no e) = omega (arith, lv .below p (omega (arith, e)))
 
-  pub level-more-0 : at ≡ 0 → (m : ℕ) → l ≤ m → getD W q 0 < firstMark + m → Levels W 0 (q + 1) m
-  level-more-0 e m h c = let z : at + q ≡ q = omega arith in rw e at (level-more m h (rw z c))
-
   pub level-done : (p : ℕ) → q ≤ p → p ≤ q → Levels W at p l
   level-done p h k = let e : q ≡ p = omega arith in rw e at lv

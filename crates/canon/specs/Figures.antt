@@ -1,6 +1,6 @@
 -- The figures of blocks, objects, codes and parting's tables, each named once (docs/VALUES.md); src/layout.rt and src/parting.rt have the same for the code.
 -- Not here: what stands in the bytes (Layout), document 01's figures (the language's Limits).
-use Prim.Native.Nat.{ℕ}
+use Prim.Native.Nat.{ℕ, _+_, _-_, _*_}
 
 -- ---- objects
 -- the bytes of an object: its head, which is its class and how many fields it has, and its codes, one byte each
@@ -21,14 +21,14 @@ abbrev pub undeterminedCode : ℕ
 undeterminedCode = 192
 
 abbrev pub firstMark : ℕ
-firstMark = 193
+firstMark = undeterminedCode + 1
 
 abbrev pub markCount : ℕ
 markCount = 63
 
 -- the bytes of as many objects as a byte can number: room for all that a code can refer to
 abbrev pub wideSize : ℕ
-wideSize = 1536
+wideSize = objectSize * 256
 
 -- ---- blocks
 -- how many objects a block has room for, and their bytes; how many a value may have is the run's limit, which is not above it
@@ -36,17 +36,17 @@ abbrev pub capacity : ℕ
 capacity = 32
 
 abbrev pub objectsSize : ℕ
-objectsSize = 192
+objectsSize = objectSize * capacity
 
 -- where a block has the number of its objects, its level and its reach; its bytes
 abbrev pub countAt : ℕ
-countAt = 192
+countAt = objectsSize
 
 abbrev pub levelAt : ℕ
-levelAt = 193
+levelAt = countAt + 1
 
 abbrev pub reachAt : ℕ
-reachAt = 194
+reachAt = countAt + 2
 
 abbrev pub blockSize : ℕ
 blockSize = 234
@@ -56,10 +56,10 @@ abbrev pub blockCount : ℕ
 blockCount = 280
 
 abbrev pub blocksSize : ℕ
-blocksSize = 65520
+blocksSize = blockSize * blockCount
 
 abbrev pub spare : ℕ
-spare = 279
+spare = blockCount - 1
 
 -- ---- numbers of several bytes
 -- what a byte more is worth in a number of four bytes, the highest

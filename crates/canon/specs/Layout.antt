@@ -53,7 +53,7 @@ part S at n = take n (drop at S)
 unfoldable pub countIn : List ℕ → ℕ → ℕ
 countIn W b = getD W (blockSize * b + countAt) 0
 
--- no byte of these objects is 193 + the level or more: so every mark in them is below the level
+-- no byte of these objects is firstMark + the level or more: so every mark in them is below the level
 unfoldable pub levelIn : List ℕ → ℕ → ℕ
 levelIn W b = getD W (blockSize * b + levelAt) 0
 

@@ -22,7 +22,7 @@ pub record Gathered (N O : List ℕ) (m : ℕ) (T D₀ : List ℕ) (to : ℕ) (D
   pub below : (q : ℕ) → q < to → getD D q 0 ≡ getD D₀ q 0
   pub above : (q : ℕ) → to + objectSize * m ≤ q → getD D q 0 ≡ getD D₀ q 0
 
--- none of the p bytes from a place on is 193 + l or more
+-- none of the p bytes from a place on is firstMark + l or more
 pub record Levels (W : List ℕ) (at p l : ℕ) : Type 0 where
   pub below : (q : ℕ) → q < p → getD W (at + q) 0 < firstMark + l
 
@@ -42,7 +42,7 @@ pub record Has (W : List ℕ) (b : ℕ) (v : Graph) : Type 0 where
   pub inside : Inside W b 0
   pub is : graphAt W b 0 ≡ v
 
--- the value's objects are counted; up to 32 of them are in the block, and nothing else has changed
+-- the value's objects are counted; if a block has room for them they are in the block, and nothing else has changed
 pub record Placed (N : List ℕ) (n root : ℕ) (W : List ℕ) (dst : ℕ) (W′ : List ℕ) (r : ℕ) : Type 0 where
   pub count : r ≡ length (canon (graphIn N n root) .nodes)
   pub outside : Outside dst W W′

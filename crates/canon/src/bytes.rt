@@ -11,7 +11,7 @@ ghost use Rattle.canon.specs.Layout.{part};
 ghost use Rattle.canon.specs.Tables.{Filled, Four, Two, Carried};
 
 // Whether the n bytes of a from i on are those of b from j on.
-pub fn same(a: &[u8], i: usize, b: &[u8], j: usize, n: usize) -> bool
+pub(crate) fn same(a: &[u8], i: usize, b: &[u8], j: usize, n: usize) -> bool
     requires { ⌜ (i + n ≤ length (now a)) × (j + n ≤ length (now b)) ⌝ }
     ensures { λ r. ⌜ r ≡ eqNats (part (now (a .entry)) i n) (part (now (b .entry)) j n) ⌝ }
 {
@@ -36,7 +36,7 @@ pub fn four_at(a: &[u8], p: usize) -> u32
         + THREE_BYTES * (a[p + 3] as u32)
 }
 
-pub fn two_at(a: &[u8], p: usize) -> u32
+pub(crate) fn two_at(a: &[u8], p: usize) -> u32
     requires { ⌜ p + 2 ≤ length (now a) ⌝ }
     ensures { λ r. ⌜ Two (now (a .entry)) p r ⌝ }
 {
@@ -44,7 +44,7 @@ pub fn two_at(a: &[u8], p: usize) -> u32
 }
 
 // The same as `same` for the bytes of an object.
-pub fn same_six(a: &[u8], i: usize, b: &[u8], j: usize) -> bool
+pub(crate) fn same_six(a: &[u8], i: usize, b: &[u8], j: usize) -> bool
     requires { ⌜ (i + objectSize ≤ length (now a)) × (j + objectSize ≤ length (now b)) ⌝ }
     ensures { λ r. ⌜ r ≡ eqNats (part (now (a .entry)) i objectSize) (part (now (b .entry)) j objectSize) ⌝ }
 {
@@ -79,7 +79,7 @@ pub fn count_up(base: u8, n: u8, to: &mut [u8])
 }
 
 // m zeros.
-pub fn wipe(to: &mut [u8], m: usize)
+pub(crate) fn wipe(to: &mut [u8], m: usize)
     requires { ⌜ m ≤ length (now to) ⌝ }
     ensures { λ _. ⌜ Filled (λ i. 0) m (now (to .exit)) ⌝ }
 {

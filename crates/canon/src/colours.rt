@@ -18,7 +18,7 @@ ghost use Rattle.canon.specs.Rounds.{Looks, placeIs, Raw, Below, Scratch
 ghost use Rattle.canon.specs.Classing.{Coarse};
 
 // The first object that looks as object i does.
-pub fn place(looks: &[u8], i: u8, n: u8) -> u8
+pub(crate) fn place(looks: &[u8], i: u8, n: u8) -> u8
     requires { ⌜ Looks (now looks) n × (i < n) ⌝ }
     ensures { λ r. ⌜ r ≡ placeIs (now (looks .entry)) n i ⌝ }
 {
@@ -33,7 +33,7 @@ pub fn place(looks: &[u8], i: u8, n: u8) -> u8
 }
 
 // The places of the first n objects.
-pub fn places(looks: &[u8], n: u8, next: &mut [u8])
+pub(crate) fn places(looks: &[u8], n: u8, next: &mut [u8])
     requires { ⌜ Looks (now looks) n × (256 ≤ length (now next)) ⌝ }
     ensures { λ _. ⌜ Filled (λ i. placeIs (now (looks .entry)) n i) n (now (next .exit)) ⌝ }
 {
@@ -45,7 +45,7 @@ pub fn places(looks: &[u8], n: u8, next: &mut [u8])
 }
 
 // The colours of one round more, to `next`.
-pub fn round(nodes: &[u8], n: u8, cs: &[u8], looks: &mut [u8], next: &mut [u8])
+pub(crate) fn round(nodes: &[u8], n: u8, cs: &[u8], looks: &mut [u8], next: &mut [u8])
     requires { ⌜ Raw (now nodes) n × Below n (now cs) × Scratch (now looks) (now next) ⌝ }
     ensures { λ _. ⌜ take n (now (next .exit)) ≡ refine (nodesIn (now (nodes .entry)) 0 n) (take n (now (cs .entry))) ⌝ }
 {
@@ -54,7 +54,7 @@ pub fn round(nodes: &[u8], n: u8, cs: &[u8], looks: &mut [u8], next: &mut [u8])
 }
 
 // Rounds from colours that no two equal objects differ in, until nothing changes: then two objects have one colour exactly when they unfold to the same tree.
-pub fn settle(nodes: &[u8], n: u8, cs: &mut [u8], looks: &mut [u8], next: &mut [u8])
+pub(crate) fn settle(nodes: &[u8], n: u8, cs: &mut [u8], looks: &mut [u8], next: &mut [u8])
     requires { ⌜ Raw (now nodes) n × Coarse (now nodes) n (now cs) × (256 ≤ length (now cs)) × Scratch (now looks) (now next) ⌝ }
     ensures { λ _. ⌜ take n (now (cs .exit)) ≡ colours (nodesIn (now (nodes .entry)) 0 n) ⌝ }
 {
@@ -70,7 +70,7 @@ pub fn settle(nodes: &[u8], n: u8, cs: &mut [u8], looks: &mut [u8], next: &mut [
 }
 
 // The same, with scratch of its own.
-pub fn settle_own(raw: &[u8], n: u8, cs: &mut [u8])
+pub(crate) fn settle_own(raw: &[u8], n: u8, cs: &mut [u8])
     requires { ⌜ Raw (now raw) n × Coarse (now raw) n (now cs) × (256 ≤ length (now cs)) ⌝ }
     ensures { λ _. ⌜ take n (now (cs .exit)) ≡ colours (nodesIn (now (raw .entry)) 0 n) ⌝ }
 {

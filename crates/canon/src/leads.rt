@@ -1,9 +1,12 @@
 // The first object of each class that parting leaves, and the test that objects of one class look alike.
 // Not here: how they are parted (parting).
 use crate::layout::CAPACITY;
+use crate::layout::FIRST_LEAF;
 use crate::layout::OBJECT;
+use crate::layout::PER_OBJECT;
 use crate::lift::part_of;
 use crate::links::link;
+use crate::parting::LINKS;
 use crate::parting::NOTE;
 use crate::parting::ROW;
 use crate::parting::begin;
@@ -21,17 +24,14 @@ ghost use Rattle.canon.specs.Links.{AlikeTest};
 ghost use Rattle.canon.specs.Parting.{Classes};
 ghost use Rattle.canon.specs.Classing.{KnownTest, Leads, SteadyTest, Coarse};
 
-// The tables for the objects of a block, and for as many as codes can name: a row for each, and one for none.
-const FEW_ROWS: usize = 264;
+// the rows of the tables for the objects of a block: one for each, and one for none
+const FEW: usize = PER_OBJECT + 1;
 
-const FEW_LINKS: usize = 495;
-
-const MANY_ROWS: usize = 1544;
-
-const MANY_LINKS: usize = 2895;
+// of those for as many objects as codes can name
+const MANY: usize = FIRST_LEAF as usize + 1;
 
 // Whether object l is below i and of class d.
-pub fn known(t: &[u16], i: u16, d: u16, l: u16) -> bool
+pub(crate) fn known(t: &[u16], i: u16, d: u16, l: u16) -> bool
     requires { ⌜ rowSize * i + rowSize ≤ length (now t) ⌝ }
     ensures { λ r. ⌜ KnownTest (now (t .entry)) i d l r ⌝ }
 {
@@ -45,7 +45,7 @@ pub fn known(t: &[u16], i: u16, d: u16, l: u16) -> bool
 }
 
 // The first object of the class of each of n objects.
-pub fn lead(t: &mut [u16], rows: u16, m: u16, n: u8, cs: &mut [u8])
+pub(crate) fn lead(t: &mut [u16], rows: u16, m: u16, n: u8, cs: &mut [u8])
     requires { ⌜ Classes rows m (now t) × (rows ≡ n + 1) × (256 ≤ length (now cs)) ⌝ }
     ensures { λ _. ⌜ Leads (now (t .entry)) n (now (cs .exit)) ⌝ }
 {
@@ -65,7 +65,7 @@ pub fn lead(t: &mut [u16], rows: u16, m: u16, n: u8, cs: &mut [u8])
 }
 
 // Whether objects i and j look alike by their colours.
-pub fn look_same(nodes: &[u8], cs: &[u8], i: u8, j: u8) -> bool
+pub(crate) fn look_same(nodes: &[u8], cs: &[u8], i: u8, j: u8) -> bool
     requires { ⌜ (wideSize ≤ length (now nodes)) × (256 ≤ length (now cs)) ⌝ }
     ensures { λ r. ⌜ AlikeTest (copied (now (cs .entry))) (now (nodes .entry)) i j r ⌝ }
 {
@@ -82,7 +82,7 @@ pub fn look_same(nodes: &[u8], cs: &[u8], i: u8, j: u8) -> bool
 }
 
 // Whether each of n objects looks as the one of its colour does.
-pub fn steady(nodes: &[u8], n: u8, cs: &[u8]) -> bool
+pub(crate) fn steady(nodes: &[u8], n: u8, cs: &[u8]) -> bool
     requires { ⌜ (wideSize ≤ length (now nodes)) × (256 ≤ length (now cs)) ⌝ }
     ensures { λ r. ⌜ SteadyTest (now (nodes .entry)) n (now (cs .entry)) r ⌝ }
 {
@@ -101,7 +101,7 @@ pub fn steady(nodes: &[u8], n: u8, cs: &[u8]) -> bool
 }
 
 // Colours of n objects that no two equal ones differ in: the first object of each class.
-pub fn part(nodes: &[u8], n: u8, cs: &mut [u8], t: &mut [u16], links: &mut [u16])
+pub(crate) fn part(nodes: &[u8], n: u8, cs: &mut [u8], t: &mut [u16], links: &mut [u16])
     requires { ⌜ Raw (now nodes) n × (256 ≤ length (now cs)) × (rowSize * n + rowSize ≤ length (now t)) × (linkSize * n + linkSize ≤ length (now links)) ⌝ }
     ensures { λ _. ⌜ Coarse (now (nodes .entry)) n (now (cs .exit)) ⌝ }
 {
@@ -114,25 +114,25 @@ pub fn part(nodes: &[u8], n: u8, cs: &mut [u8], t: &mut [u16], links: &mut [u16]
 }
 
 // The same, with tables of its own: for the objects of a block, and for more.
-pub fn part_few(nodes: &[u8], n: u8, cs: &mut [u8])
+pub(crate) fn part_few(nodes: &[u8], n: u8, cs: &mut [u8])
     requires { ⌜ Raw (now nodes) n × (n ≤ capacity) × (256 ≤ length (now cs)) ⌝ }
     ensures { λ _. ⌜ Coarse (now (nodes .entry)) n (now (cs .exit)) ⌝ }
 {
-    let mut t = [0u16; FEW_ROWS];
-    let mut links = [0u16; FEW_LINKS];
+    let mut t = [0u16; ROW * FEW];
+    let mut links = [0u16; LINKS * FEW];
     part(nodes, n, cs, &mut t, &mut links);
 }
 
-pub fn part_many(nodes: &[u8], n: u8, cs: &mut [u8])
+pub(crate) fn part_many(nodes: &[u8], n: u8, cs: &mut [u8])
     requires { ⌜ Raw (now nodes) n × (256 ≤ length (now cs)) ⌝ }
     ensures { λ _. ⌜ Coarse (now (nodes .entry)) n (now (cs .exit)) ⌝ }
 {
-    let mut t = [0u16; MANY_ROWS];
-    let mut links = [0u16; MANY_LINKS];
+    let mut t = [0u16; ROW * MANY];
+    let mut links = [0u16; LINKS * MANY];
     part(nodes, n, cs, &mut t, &mut links);
 }
 
-pub fn part_own(nodes: &[u8], n: u8, cs: &mut [u8])
+pub(crate) fn part_own(nodes: &[u8], n: u8, cs: &mut [u8])
     requires { ⌜ Raw (now nodes) n × (256 ≤ length (now cs)) ⌝ }
     ensures { λ _. ⌜ Coarse (now (nodes .entry)) n (now (cs .exit)) ⌝ }
 {

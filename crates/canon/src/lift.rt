@@ -8,7 +8,7 @@ ghost use lib.ListN.{length};
 ghost use Rattle.canon.specs.Tables.{turned, copied, Lifted};
 
 // A code turned: an object by the table, any other code itself.
-pub fn turn(table: &[u8], b: u8) -> u8
+pub(crate) fn turn(table: &[u8], b: u8) -> u8
     requires { ⌜ 256 ≤ length (now table) ⌝ }
     ensures { λ r. ⌜ r ≡ turned (now (table .entry)) b ⌝ }
 {
@@ -19,7 +19,7 @@ pub fn turn(table: &[u8], b: u8) -> u8
 }
 
 // Byte k of an object, turned if it is a code.
-pub fn part_of(table: &[u8], k: usize, b: u8) -> u8
+pub(crate) fn part_of(table: &[u8], k: usize, b: u8) -> u8
     requires { ⌜ 256 ≤ length (now table) ⌝ }
     ensures { λ r. ⌜ r ≡ copied (now (table .entry)) k b ⌝ }
 {
@@ -30,7 +30,7 @@ pub fn part_of(table: &[u8], k: usize, b: u8) -> u8
 }
 
 // p bytes of objects, from a place of `src` to a place of `dst`.
-pub fn lift(src: &[u8], from: usize, p: usize, table: &[u8], dst: &mut [u8], to: usize)
+pub(crate) fn lift(src: &[u8], from: usize, p: usize, table: &[u8], dst: &mut [u8], to: usize)
     requires { ⌜ (from + p ≤ length (now src)) × (to + p ≤ length (now dst)) × (256 ≤ length (now table)) ⌝ }
     ensures { λ _. ⌜ Lifted (now (src .entry)) from p (now (table .entry)) (now (dst .entry)) to (now (dst .exit)) ⌝ }
 {

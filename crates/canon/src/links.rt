@@ -17,13 +17,14 @@ ghost use lib.ListN.{length, getD};
 ghost use Rattle.canon.specs.Figures.{objectSize, headSize, codeCount, rowSize, linkSize, targetAt, looksField, hashCount};
 ghost use Rattle.canon.specs.Links.{Zeros, Hung, shown, AlikeTest, hashOf, targetOf, Codes, HungOn, Sought, LikeBefore, GroupedAll, ReferredTo, Referred, Unhung, Linked};
 
-// how many hashes there are, as a number and as the length of a table with a number for each
+// how many hashes there are
 const HASHES: u16 = 32;
 
-const LASTS: usize = 32;
+// the same as the length of a table with a number for each
+const LASTS: usize = HASHES as usize;
 
 // m zeros.
-pub fn blank(to: &mut [u16], m: usize)
+pub(crate) fn blank(to: &mut [u16], m: usize)
     requires { ⌜ m ≤ length (now to) ⌝ }
     ensures { λ _. ⌜ Zeros m (now (to .exit)) ⌝ }
 {
@@ -35,7 +36,7 @@ pub fn blank(to: &mut [u16], m: usize)
 }
 
 // Byte k of an object as it looks at first: all objects alike.
-pub fn show(k: usize, b: u8) -> u8
+pub(crate) fn show(k: usize, b: u8) -> u8
     ensures { λ r. ⌜ r ≡ shown k b ⌝ }
 {
     if k < HEAD {
@@ -48,7 +49,7 @@ pub fn show(k: usize, b: u8) -> u8
 }
 
 // Whether objects i and j look alike at first.
-pub fn look_alike(raw: &[u8], i: u16, j: u16) -> bool
+pub(crate) fn look_alike(raw: &[u8], i: u16, j: u16) -> bool
     requires { ⌜ (objectSize * i + objectSize ≤ length (now raw)) × (objectSize * j + objectSize ≤ length (now raw)) ⌝ }
     ensures { λ r. ⌜ AlikeTest shown (now (raw .entry)) i j r ⌝ }
 {
@@ -65,7 +66,7 @@ pub fn look_alike(raw: &[u8], i: u16, j: u16) -> bool
 }
 
 // A number that tells most looks apart.
-pub fn hash(raw: &[u8], i: u16) -> u16
+pub(crate) fn hash(raw: &[u8], i: u16) -> u16
     requires { ⌜ objectSize * i + objectSize ≤ length (now raw) ⌝ }
     ensures { λ r. ⌜ r ≡ hashOf (now (raw .entry)) i ⌝ }
 {
@@ -78,7 +79,7 @@ pub fn hash(raw: &[u8], i: u16) -> u16
 }
 
 // Row x refers to row v by field f.
-pub fn hang(links: &mut [u16], n: u16, f: u16, x: u16, v: u16)
+pub(crate) fn hang(links: &mut [u16], n: u16, f: u16, x: u16, v: u16)
     requires { ⌜ Hung n f x (now links) × (f < 5) × (0 < x) × (x < n) × (v < n) ⌝ }
     ensures { λ _. ⌜ HungOn n f x v (now (links .entry)) (now (links .exit)) ⌝ }
 {
@@ -92,7 +93,7 @@ pub fn hang(links: &mut [u16], n: u16, f: u16, x: u16, v: u16)
 }
 
 // What row x refers to by field f.
-pub fn refers_to(links: &[u16], f: u16, x: u16) -> u16
+pub(crate) fn refers_to(links: &[u16], f: u16, x: u16) -> u16
     requires { ⌜ (linkSize * x + linkSize ≤ length (now links)) × (f < 5) ⌝ }
     ensures { λ r. ⌜ r ≡ getD (now (links .entry)) (linkSize * x + targetAt + f) 0 ⌝ }
 {
@@ -100,7 +101,15 @@ pub fn refers_to(links: &[u16], f: u16, x: u16) -> u16
 }
 
 // The first row of those that look as row x does, if one below x does, which are listed from `from` on; else x.
-pub fn like_before(raw: &[u8], t: &[u16], links: &[u16], n: u16, x: u16, h: u16, from: u16) -> u16
+pub(crate) fn like_before(
+    raw: &[u8],
+    t: &[u16],
+    links: &[u16],
+    n: u16,
+    x: u16,
+    h: u16,
+    from: u16,
+) -> u16
     requires { ⌜ Sought (now raw) (now t) (now links) n x h from ⌝ }
     ensures { λ r. ⌜ LikeBefore (now (raw .entry)) n x (now (links .entry)) r ⌝ }
 {
@@ -115,7 +124,7 @@ pub fn like_before(raw: &[u8], t: &[u16], links: &[u16], n: u16, x: u16, h: u16,
 }
 
 // Hangs the rows up by their looks.
-pub fn group(raw: &[u8], n: u16, t: &mut [u16], links: &mut [u16], last: &mut [u16])
+pub(crate) fn group(raw: &[u8], n: u16, t: &mut [u16], links: &mut [u16], last: &mut [u16])
     requires { ⌜ Codes (now raw) n × Hung n looksField 1 (now links) × (0 < n) × (rowSize * n ≤ length (now t)) × Zeros hashCount (now last) × (hashCount ≤ length (now last)) ⌝ }
     ensures { λ _. ⌜ GroupedAll (now (raw .entry)) n (now (links .entry)) (now (links .exit)) ⌝ }
 {
@@ -132,7 +141,7 @@ pub fn group(raw: &[u8], n: u16, t: &mut [u16], links: &mut [u16], last: &mut [u
 }
 
 // The row that field f of object i leads to; 0 if it leads to none.
-pub fn target_row(raw: &[u8], i: u16, f: u16) -> u16
+pub(crate) fn target_row(raw: &[u8], i: u16, f: u16) -> u16
     requires { ⌜ (objectSize * i + objectSize ≤ length (now raw)) × (f < codeCount) ⌝ }
     ensures { λ r. ⌜ r ≡ targetOf (getD (now (raw .entry)) (objectSize * i + headSize + f) 0) ⌝ }
 {
@@ -144,7 +153,7 @@ pub fn target_row(raw: &[u8], i: u16, f: u16) -> u16
 }
 
 // Hangs the rows up by field f. Answers whether one leads to an object.
-pub fn refer_field(raw: &[u8], n: u16, f: u16, links: &mut [u16]) -> bool
+pub(crate) fn refer_field(raw: &[u8], n: u16, f: u16, links: &mut [u16]) -> bool
     requires { ⌜ Codes (now raw) n × (0 < n) × (f < codeCount) × Hung n f 1 (now links) ⌝ }
     ensures { λ _. ⌜ ReferredTo (now (raw .entry)) n f n (now (links .entry)) (now (links .exit)) ⌝ }
 {
@@ -162,7 +171,7 @@ pub fn refer_field(raw: &[u8], n: u16, f: u16, links: &mut [u16]) -> bool
 }
 
 // The same for all four fields. Answers how many of them are to be looked at.
-pub fn refer(raw: &[u8], n: u16, links: &mut [u16]) -> u16
+pub(crate) fn refer(raw: &[u8], n: u16, links: &mut [u16]) -> u16
     requires { ⌜ Codes (now raw) n × (0 < n) × Unhung n (now links) ⌝ }
     ensures { λ w. ⌜ Referred (now (raw .entry)) n 4 (now (links .entry)) (now (links .exit)) × (w ≤ codeCount) ⌝ }
 {
@@ -179,7 +188,7 @@ pub fn refer(raw: &[u8], n: u16, links: &mut [u16]) -> u16
 }
 
 // All of it.
-pub fn link(raw: &[u8], n: u16, t: &mut [u16], links: &mut [u16]) -> u16
+pub(crate) fn link(raw: &[u8], n: u16, t: &mut [u16], links: &mut [u16]) -> u16
     requires { ⌜ Codes (now raw) n × (0 < n) × (rowSize * n ≤ length (now t)) × (linkSize * n ≤ length (now links)) ⌝ }
     ensures { λ w. ⌜ Linked (now (raw .entry)) n (now (links .exit)) × (w ≤ codeCount) ⌝ }
 {

@@ -18,7 +18,7 @@ ghost use Rattle.canon.specs.Tables.{Filled};
 ghost use Rattle.canon.specs.Numbers.{numberIn, Gathered, Levels, Ready, Placed};
 
 // The number of an object of colour c: the colour's place in the order, which the table tells; m if it is not met.
-pub fn number_of(met: &[u8], c: u8, m: u8) -> u8
+pub(crate) fn number_of(met: &[u8], c: u8, m: u8) -> u8
     requires { ⌜ 256 ≤ length (now met) ⌝ }
     ensures { λ r. ⌜ r ≡ numberIn (now (met .entry)) m c ⌝ }
 {
@@ -30,7 +30,7 @@ pub fn number_of(met: &[u8], c: u8, m: u8) -> u8
 }
 
 // The number of each of n objects.
-pub fn numbers(cs: &[u8], n: u8, met: &[u8], m: u8, to: &mut [u8])
+pub(crate) fn numbers(cs: &[u8], n: u8, met: &[u8], m: u8, to: &mut [u8])
     requires { ⌜ (256 ≤ length (now cs)) × (256 ≤ length (now met)) × (256 ≤ length (now to)) ⌝ }
     ensures { λ _. ⌜ Filled (λ i. numberIn (now (met .entry)) m (getD (now (cs .entry)) i 0)) n (now (to .exit)) ⌝ }
 {
@@ -42,7 +42,7 @@ pub fn numbers(cs: &[u8], n: u8, met: &[u8], m: u8, to: &mut [u8])
 }
 
 // The objects that the order lists, renamed by the table, from a place of `dst` on.
-pub fn gather(nodes: &[u8], order: &[u8], m: u8, table: &[u8], dst: &mut [u8], to: usize)
+pub(crate) fn gather(nodes: &[u8], order: &[u8], m: u8, table: &[u8], dst: &mut [u8], to: usize)
     requires { ⌜ (wideSize ≤ length (now nodes)) × (256 ≤ length (now order)) × (256 ≤ length (now table)) × (to + objectSize * m ≤ length (now dst)) ⌝ }
     ensures { λ _. ⌜ Gathered (now (nodes .entry)) (now (order .entry)) m (now (table .entry)) (now (dst .entry)) to (now (dst .exit)) ⌝ }
 {

@@ -7,42 +7,51 @@ ghost use Rattle.canon.specs.Figures.{codeCount, rowSize, linkSize, befo
 ghost use Rattle.canon.specs.Links.{Lists, AllLists};
 ghost use Rattle.canon.specs.Parting.{Stood, Begun, Standing, Classes, Found, Brought, SameNotes, Into, Noted, Relabelled, LaidOut, Kept, Split, PartedLooks, PartedFields};
 
-// the numbers of a row: of object x its class and its place, the object at place x, where class x begins, its middle and its end, two notes
-pub const ROW: usize = 8;
+// the numbers of a row: the class of object x first,
+pub(crate) const ROW: usize = 8;
 
+// then its place,
 const PLACE: usize = 1;
 
+// the object at place x,
 const OBJECT_AT: usize = 2;
 
+// where class x begins,
 const BEGIN: usize = 3;
 
+// its middle,
 const MIDDLE: usize = 4;
 
+// its end,
 const END: usize = 5;
 
-pub const NOTE: usize = 6;
+// a note, of whoever uses it,
+pub(crate) const NOTE: usize = 6;
 
+// and the classes that have objects in front
 const MARKED: usize = 7;
 
-// the numbers of a row of links, three for each field: the last that refers to x, the one before x, what x refers to
-pub const LINKS: usize = 15;
+// the numbers of a row of links: for each field the last row that refers to row x,
+pub(crate) const LINKS: usize = 15;
 
-pub const BEFORE: usize = 5;
+// the row before x that refers to what x does,
+pub(crate) const BEFORE: usize = 5;
 
-pub const TARGET: usize = 10;
+// and what x refers to
+pub(crate) const TARGET: usize = 10;
 
 // the field, after an object's four, that leads to the first object that looks alike
-pub const LOOKS: u16 = 4;
+pub(crate) const LOOKS: u16 = 4;
 
 // The class of object x, and number k of row x.
-pub fn class_of(t: &[u16], x: u16) -> u16
+pub(crate) fn class_of(t: &[u16], x: u16) -> u16
     requires { ⌜ rowSize * x + rowSize ≤ length (now t) ⌝ }
     ensures { λ r. ⌜ r ≡ getD (now (t .entry)) (rowSize * x) 0 ⌝ }
 {
     t[ROW * (x as usize)]
 }
 
-pub fn cell(t: &[u16], x: u16, k: usize) -> u16
+pub(crate) fn cell(t: &[u16], x: u16, k: usize) -> u16
     requires { ⌜ (rowSize * x + rowSize ≤ length (now t)) × (k < rowSize) ⌝ }
     ensures { λ r. ⌜ r ≡ getD (now (t .entry)) (rowSize * x + k) 0 ⌝ }
 {
@@ -50,14 +59,14 @@ pub fn cell(t: &[u16], x: u16, k: usize) -> u16
 }
 
 // The last that refers to v by field f, and the one before z that refers to what z does.
-pub fn last_into(links: &[u16], f: u16, v: u16) -> u16
+pub(crate) fn last_into(links: &[u16], f: u16, v: u16) -> u16
     requires { ⌜ (linkSize * v + linkSize ≤ length (now links)) × (f < 5) ⌝ }
     ensures { λ r. ⌜ r ≡ getD (now (links .entry)) (linkSize * v + f) 0 ⌝ }
 {
     links[LINKS * (v as usize) + f as usize]
 }
 
-pub fn one_before(links: &[u16], f: u16, z: u16) -> u16
+pub(crate) fn one_before(links: &[u16], f: u16, z: u16) -> u16
     requires { ⌜ (linkSize * z + linkSize ≤ length (now links)) × (f < 5) ⌝ }
     ensures { λ r. ⌜ r ≡ getD (now (links .entry)) (linkSize * z + beforeAt + f) 0 ⌝ }
 {
@@ -65,7 +74,7 @@ pub fn one_before(links: &[u16], f: u16, z: u16) -> u16
 }
 
 // Object x stands at place p.
-pub fn stand(t: &mut [u16], x: u16, p: u16)
+pub(crate) fn stand(t: &mut [u16], x: u16, p: u16)
     requires { ⌜ (rowSize * x + rowSize ≤ length (now t)) × (rowSize * p + rowSize ≤ length (now t)) ⌝ }
     ensures { λ _. ⌜ Stood (now (t .entry)) x p (now (t .exit)) ⌝ }
 {
@@ -74,7 +83,7 @@ pub fn stand(t: &mut [u16], x: u16, p: u16)
 }
 
 // Class c has the places from a to e, none of them in front.
-pub fn lay_out(t: &mut [u16], c: u16, a: u16, e: u16)
+pub(crate) fn lay_out(t: &mut [u16], c: u16, a: u16, e: u16)
     requires { ⌜ rowSize * c + rowSize ≤ length (now t) ⌝ }
     ensures { λ _. ⌜ LaidOut (now (t .entry)) c a e (now (t .exit)) ⌝ }
 {
@@ -84,7 +93,7 @@ pub fn lay_out(t: &mut [u16], c: u16, a: u16, e: u16)
 }
 
 // n objects in one class.
-pub fn begin(t: &mut [u16], n: u16)
+pub(crate) fn begin(t: &mut [u16], n: u16)
     requires { ⌜ (0 < n) × (rowSize * n ≤ length (now t)) ⌝ }
     ensures { λ _. ⌜ Begun n (now (t .exit)) ⌝ }
 {
@@ -98,7 +107,7 @@ pub fn begin(t: &mut [u16], n: u16)
 }
 
 // Brings object z, at place l of class c, to the class's middle a.
-pub fn bring(t: &mut [u16], n: u16, m: u16, z: u16, c: u16, a: u16, l: u16)
+pub(crate) fn bring(t: &mut [u16], n: u16, m: u16, z: u16, c: u16, a: u16, l: u16)
     requires { ⌜ Classes n m (now t) × Found n m (now t) z c a l ⌝ }
     ensures { λ _. ⌜ Brought n m (now (t .entry)) (now (t .exit)) (λ x. x ≡ z) × SameNotes n (now (t .entry)) (now (t .exit)) ⌝ }
 {
@@ -109,7 +118,7 @@ pub fn bring(t: &mut [u16], n: u16, m: u16, z: u16, c: u16, a: u16, l: u16)
 }
 
 // Brings object z to the front of its class. Notes the class if it is the first there, and answers how many are noted.
-pub fn mark(t: &mut [u16], n: u16, m: u16, z: u16, k: u16) -> u16
+pub(crate) fn mark(t: &mut [u16], n: u16, m: u16, z: u16, k: u16) -> u16
     requires { ⌜ Classes n m (now t) × (z < n) × (k ≤ n) ⌝ }
     ensures { λ r. ⌜ Brought n m (now (t .entry)) (now (t .exit)) (λ x. x ≡ z) × SameNotes n (now (t .entry)) (now (t .exit)) × (r ≤ n) ⌝ }
 {
@@ -132,7 +141,7 @@ pub fn mark(t: &mut [u16], n: u16, m: u16, z: u16, k: u16) -> u16
 }
 
 // Brings all that refer to object v by field f to the fronts of their classes.
-pub fn mark_into(t: &mut [u16], n: u16, m: u16, links: &[u16], f: u16, v: u16, k: u16) -> u16
+pub(crate) fn mark_into(t: &mut [u16], n: u16, m: u16, links: &[u16], f: u16, v: u16, k: u16) -> u16
     requires { ⌜ Classes n m (now t) × Lists n f (now links) × (f < 5) × (0 < v) × (v < n) × (k ≤ n) ⌝ }
     ensures { λ r. ⌜ Brought n m (now (t .entry)) (now (t .exit)) (λ x. getD (now (links .entry)) (linkSize * x + targetAt + f) 0 ≡ v) × SameNotes n (now (t .entry)) (now (t .exit)) × (r ≤ n) ⌝ }
 {
@@ -146,7 +155,7 @@ pub fn mark_into(t: &mut [u16], n: u16, m: u16, links: &[u16], f: u16, v: u16, k
 }
 
 // Notes the objects of class s.
-pub fn note(t: &mut [u16], n: u16, m: u16, s: u16)
+pub(crate) fn note(t: &mut [u16], n: u16, m: u16, s: u16)
     requires { ⌜ Classes n m (now t) × (s < m) ⌝ }
     ensures { λ _. ⌜ Noted (now (t .entry)) s (getD (now (t .entry)) (rowSize * s + 5) 0) (now (t .exit)) ⌝ }
 {
@@ -160,7 +169,7 @@ pub fn note(t: &mut [u16], n: u16, m: u16, s: u16)
 }
 
 // Brings all that refer to an object of class s by field f to the fronts of their classes.
-pub fn mark_class(t: &mut [u16], n: u16, m: u16, links: &[u16], f: u16, s: u16) -> u16
+pub(crate) fn mark_class(t: &mut [u16], n: u16, m: u16, links: &[u16], f: u16, s: u16) -> u16
     requires { ⌜ Classes n m (now t) × Lists n f (now links) × (f < 5) × (s < m) ⌝ }
     ensures { λ r. ⌜ Brought n m (now (t .entry)) (now (t .exit)) (Into (now (links .entry)) f (now (t .entry)) s) × (r ≤ n) ⌝ }
 {
@@ -179,7 +188,7 @@ pub fn mark_class(t: &mut [u16], n: u16, m: u16, links: &[u16], f: u16, s: u16) 
 }
 
 // The objects at places a to e are of class m.
-pub fn relabel(t: &mut [u16], n: u16, a: u16, e: u16, m: u16)
+pub(crate) fn relabel(t: &mut [u16], n: u16, a: u16, e: u16, m: u16)
     requires { ⌜ Standing n (now t) × (a ≤ e) × (e ≤ n) ⌝ }
     ensures { λ _. ⌜ Relabelled n (now (t .entry)) a e m (now (t .exit)) ⌝ }
 {
@@ -192,7 +201,7 @@ pub fn relabel(t: &mut [u16], n: u16, a: u16, e: u16, m: u16)
 }
 
 // Parts class d at its middle, if there are objects on both sides; the smaller side is a new class. Answers how many classes there are.
-pub fn split(t: &mut [u16], n: u16, m: u16, d: u16) -> u16
+pub(crate) fn split(t: &mut [u16], n: u16, m: u16, d: u16) -> u16
     requires { ⌜ Classes n m (now t) × (d < m) ⌝ }
     ensures { λ r. ⌜ Split n (now (t .entry)) (now (t .exit)) m r ⌝ }
 {
@@ -223,7 +232,7 @@ pub fn split(t: &mut [u16], n: u16, m: u16, d: u16) -> u16
 }
 
 // The same for the k classes noted.
-pub fn split_all(t: &mut [u16], n: u16, m: u16, k: u16) -> u16
+pub(crate) fn split_all(t: &mut [u16], n: u16, m: u16, k: u16) -> u16
     requires { ⌜ Classes n m (now t) × (k ≤ n) ⌝ }
     ensures { λ r. ⌜ Split n (now (t .entry)) (now (t .exit)) m r ⌝ }
 {
@@ -240,7 +249,7 @@ pub fn split_all(t: &mut [u16], n: u16, m: u16, k: u16) -> u16
 }
 
 // Parts the classes by the first object that looks alike, which is field 4.
-pub fn part_looks(t: &mut [u16], n: u16, links: &[u16]) -> u16
+pub(crate) fn part_looks(t: &mut [u16], n: u16, links: &[u16]) -> u16
     requires { ⌜ Classes n 1 (now t) × Lists n looksField (now links) ⌝ }
     ensures { λ r. ⌜ PartedLooks n (now (links .entry)) (now (t .entry)) (now (t .exit)) r ⌝ }
 {
@@ -258,7 +267,7 @@ pub fn part_looks(t: &mut [u16], n: u16, links: &[u16]) -> u16
 }
 
 // Parts the classes by who refers into class s, by each field below w.
-pub fn part_by(t: &mut [u16], n: u16, m: u16, links: &[u16], w: u16, s: u16) -> u16
+pub(crate) fn part_by(t: &mut [u16], n: u16, m: u16, links: &[u16], w: u16, s: u16) -> u16
     requires { ⌜ Classes n m (now t) × AllLists n (now links) × (w ≤ codeCount) × (s < m) ⌝ }
     ensures { λ r. ⌜ PartedFields n (now (links .entry)) (now (t .entry)) (now (t .exit)) m r ⌝ }
 {
@@ -273,7 +282,7 @@ pub fn part_by(t: &mut [u16], n: u16, m: u16, links: &[u16], w: u16, s: u16) -> 
 }
 
 // Parts the classes by who refers into them, the new ones too. The first class need not be looked at.
-pub fn part_fields(t: &mut [u16], n: u16, m: u16, links: &[u16], w: u16) -> u16
+pub(crate) fn part_fields(t: &mut [u16], n: u16, m: u16, links: &[u16], w: u16) -> u16
     requires { ⌜ Classes n m (now t) × AllLists n (now links) × (w ≤ codeCount) ⌝ }
     ensures { λ r. ⌜ PartedFields n (now (links .entry)) (now (t .entry)) (now (t .exit)) m r ⌝ }
 {

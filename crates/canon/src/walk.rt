@@ -8,7 +8,15 @@ ghost use lib.ListN.{length, take};
 ghost use Rattle.canon.specs.Walking.{Room, Listed, walkRef, walkFields};
 
 // Meets the object that the code r stands for, if it is new, and then its fields.
-pub fn visit(nodes: &[u8], cs: &[u8], k: u8, r: u8, order: &mut [u8], met: &mut [u8], m: u8) -> u8
+pub(crate) fn visit(
+    nodes: &[u8],
+    cs: &[u8],
+    k: u8,
+    r: u8,
+    order: &mut [u8],
+    met: &mut [u8],
+    m: u8,
+) -> u8
     requires { ⌜ Room (now nodes) (now cs) (now order) (now met) × Listed (now met) (take m (now order)) × (length (walkRef (now nodes) (now cs) k r (take m (now order))) ≤ 255) ⌝ }
     ensures { λ t. ⌜ (take t (now (order .exit)) ≡ walkRef (now (nodes .entry)) (now (cs .entry)) k r (take m (now (order .entry)))) × Listed (now (met .exit)) (take t (now (order .exit))) ⌝ }
 {
@@ -28,7 +36,7 @@ pub fn visit(nodes: &[u8], cs: &[u8], k: u8, r: u8, order: &mut [u8], met: &mut 
 }
 
 // Meets the fields of object c, from field f on.
-pub fn fields(
+pub(crate) fn fields(
     nodes: &[u8],
     cs: &[u8],
     k: u8,

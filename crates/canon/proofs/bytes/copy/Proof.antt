@@ -1,3 +1,4 @@
+-- The proof of `bytes::copy`: n bytes of `from`, from place i on, to place j of `to`. By a loop in which n - k falls, and the laws of Runs.
 use Rattle.canon.proofs.bytes.copy.Statement.{statement}
 use Rattle.canon.proofs.bytes.copy.Tie as tie
 use Rattle.canon.proofs.bytes.copy.Reads as reads

@@ -1,3 +1,4 @@
+-- The proof of `bytes::four_at`: four bytes as one number. By arithmetic.
 use borrow.Author.Needs.{needs}
 use Rattle.canon.proofs.bytes.four_at.Statement.{statement}
 use Rattle.canon.proofs.bytes.four_at.Tie as tie

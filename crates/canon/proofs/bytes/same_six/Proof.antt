@@ -1,3 +1,4 @@
+-- The proof of `bytes::same_six`: whether the bytes of two objects are the same. By the laws of Nodes.
 use borrow.Author.Needs.{needs}
 use Rattle.canon.proofs.bytes.same_six.Statement.{statement}
 use Rattle.canon.proofs.bytes.same_six.Tie as tie

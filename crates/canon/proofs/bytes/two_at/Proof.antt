@@ -1,3 +1,4 @@
+-- The proof of `bytes::two_at`: two bytes as one number. By arithmetic.
 use borrow.Author.Needs.{needs}
 use Rattle.canon.proofs.bytes.two_at.Statement.{statement}
 use Rattle.canon.proofs.bytes.two_at.Tie as tie

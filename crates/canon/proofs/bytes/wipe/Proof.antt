@@ -1,3 +1,4 @@
+-- The proof of `bytes::wipe`: m zeros. By a loop in which m - i falls, and the laws of Runs.
 use Rattle.canon.proofs.bytes.wipe.Statement.{statement}
 use Rattle.canon.proofs.bytes.wipe.Tie as tie
 use Rattle.canon.proofs.bytes.wipe.Reads as reads

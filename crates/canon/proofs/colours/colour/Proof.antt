@@ -1,3 +1,4 @@
+-- The proof of `colours::colour`: the colours of n objects. By the laws of Classing.
 use borrow.Author.Needs.{needs}
 use Rattle.canon.proofs.colours.colour.Statement.{statement}
 use Rattle.canon.proofs.colours.colour.Tie as tie

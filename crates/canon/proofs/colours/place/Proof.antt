@@ -1,3 +1,4 @@
+-- The proof of `colours::place`: the first object that looks as object i does. By a loop in which i - j falls, and the laws of Places.
 use Rattle.canon.proofs.colours.place.Statement.{statement}
 use Rattle.canon.proofs.colours.place.Tie as tie
 use Rattle.canon.proofs.colours.place.Reads as reads

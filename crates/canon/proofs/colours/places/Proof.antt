@@ -1,3 +1,4 @@
+-- The proof of `colours::places`: the places of the first n objects. By a loop in which n - i falls, and the laws of Runs.
 use Rattle.canon.proofs.colours.places.Statement.{statement}
 use Rattle.canon.proofs.colours.places.Tie as tie
 use Rattle.canon.proofs.colours.places.Reads as reads

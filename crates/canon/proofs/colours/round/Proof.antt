@@ -1,3 +1,4 @@
+-- The proof of `colours::round`: the colours of one round more, to `next`. By the laws of Rounds.
 use borrow.Author.Needs.{needs}
 use Rattle.canon.proofs.colours.round.Statement.{statement}
 use Rattle.canon.proofs.colours.round.Tie as tie

@@ -1,3 +1,4 @@
+-- The proof of `colours::settle`: rounds until nothing changes, and the colours then. By a loop in which k falls, and the laws of Rounds.
 use Rattle.canon.proofs.colours.settle.Statement.{statement}
 use Rattle.canon.proofs.colours.settle.Tie as tie
 use Rattle.canon.proofs.colours.settle.Reads as reads

@@ -1,3 +1,4 @@
+-- The proof of `leads::known`: whether object l is below i and of class d. By the laws of Firsts.
 use borrow.Author.Needs.{needs}
 use Rattle.canon.proofs.leads.known.Statement.{statement}
 use Rattle.canon.proofs.leads.known.Tie as tie

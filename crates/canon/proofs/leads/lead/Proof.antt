@@ -1,3 +1,4 @@
+-- The proof of `leads::lead`: the first object of the class of each of n objects. By a loop in which n - i falls, and the laws of Firsts.
 use Rattle.canon.proofs.leads.lead.Statement.{statement}
 use Rattle.canon.proofs.leads.lead.Tie as tie
 use Rattle.canon.proofs.leads.lead.Reads as reads

@@ -1,3 +1,4 @@
+-- The proof of `leads::look_same`: whether objects i and j look alike by their colours. By a loop in which objectSize - k falls, and the laws of Looks.
 use Rattle.canon.proofs.leads.look_same.Statement.{statement}
 use Rattle.canon.proofs.leads.look_same.Tie as tie
 use Rattle.canon.proofs.leads.look_same.Reads as reads

@@ -1,3 +1,4 @@
+-- The proof of `leads::part`: colours of n objects that no two equal ones differ in: the first object of each class. By the laws of Classing.
 use borrow.Author.Needs.{needs}
 use Rattle.canon.proofs.leads.part.Statement.{statement}
 use Rattle.canon.proofs.leads.part.Tie as tie

@@ -1,3 +1,4 @@
+-- The proof of `leads::steady`: whether each of n objects looks as the one of its colour does. By a loop in which n - i falls, and the laws of Firsts.
 use Rattle.canon.proofs.leads.steady.Statement.{statement}
 use Rattle.canon.proofs.leads.steady.Tie as tie
 use Rattle.canon.proofs.leads.steady.Reads as reads

@@ -1,3 +1,4 @@
+-- The proof of `lift::lift`: p bytes of objects, from a place of `src` to a place of `dst`. By a loop in which p - q falls, and the laws of Lifts.
 use Rattle.canon.proofs.lift.lift.Statement.{statement}
 use Rattle.canon.proofs.lift.lift.Tie as tie
 use Rattle.canon.proofs.lift.lift.Reads as reads

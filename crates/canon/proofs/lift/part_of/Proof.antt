@@ -1,3 +1,4 @@
+-- The proof of `lift::part_of`: byte k of an object, turned if it is a code. By the laws of Lifts.
 use borrow.Author.Needs.{needs}
 use Rattle.canon.proofs.lift.part_of.Statement.{statement}
 use Rattle.canon.proofs.lift.part_of.Tie as tie

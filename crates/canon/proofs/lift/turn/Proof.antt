@@ -1,3 +1,4 @@
+-- The proof of `lift::turn`: a code turned: an object by the table, any other code itself. By the laws of Lifts.
 use borrow.Author.Needs.{needs}
 use Rattle.canon.proofs.lift.turn.Statement.{statement}
 use Rattle.canon.proofs.lift.turn.Tie as tie

@@ -1,3 +1,4 @@
+-- The proof of `links::blank`: m zeros. By a loop in which m - i falls, and the laws of Hangs.
 use Rattle.canon.proofs.links.blank.Statement.{statement}
 use Rattle.canon.proofs.links.blank.Tie as tie
 use Rattle.canon.proofs.links.blank.Reads as reads

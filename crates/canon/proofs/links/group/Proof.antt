@@ -1,3 +1,4 @@
+-- The proof of `links::group`: hangs the rows up by their looks. By a loop in which n - x falls, and the laws of Looks.
 use Rattle.canon.proofs.links.group.Statement.{statement}
 use Rattle.canon.proofs.links.group.Tie as tie
 use Rattle.canon.proofs.links.group.Reads as reads

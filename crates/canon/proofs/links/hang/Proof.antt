@@ -1,3 +1,4 @@
+-- The proof of `links::hang`: row x refers to row v by field f. By the laws of Hangs.
 use borrow.Author.Needs.{needs}
 use Rattle.canon.proofs.links.hang.Statement.{statement}
 use Rattle.canon.proofs.links.hang.Tie as tie

@@ -1,3 +1,4 @@
+-- The proof of `links::hash`: a number that tells most looks apart. By the laws of Looks.
 use borrow.Author.Needs.{needs}
 use Rattle.canon.proofs.links.hash.Statement.{statement}
 use Rattle.canon.proofs.links.hash.Tie as tie

@@ -1,3 +1,4 @@
+-- The proof of `links::like_before`: the first row of those that look as row x does, if one below x does, which are listed from `from` on; else x. By a loop in which z falls, and the laws of Looks.
 use Rattle.canon.proofs.links.like_before.Statement.{statement}
 use Rattle.canon.proofs.links.like_before.Tie as tie
 use Rattle.canon.proofs.links.like_before.Reads as reads

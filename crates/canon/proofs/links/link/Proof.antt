@@ -1,3 +1,4 @@
+-- The proof of `links::link`: the lists of who refers to whom, by looks and by each field. By the laws of Hangs and Refers.
 use borrow.Author.Needs.{needs}
 use Rattle.canon.proofs.links.link.Statement.{statement}
 use Rattle.canon.proofs.links.link.Tie as tie

@@ -1,3 +1,4 @@
+-- The proof of `links::look_alike`: whether objects i and j look alike at first. By a loop in which objectSize - k falls, and the laws of Looks.
 use Rattle.canon.proofs.links.look_alike.Statement.{statement}
 use Rattle.canon.proofs.links.look_alike.Tie as tie
 use Rattle.canon.proofs.links.look_alike.Reads as reads

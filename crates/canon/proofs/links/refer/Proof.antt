@@ -1,3 +1,4 @@
+-- The proof of `links::refer`: the rows hung up by all four fields. By a loop in which 4 - f falls, and the laws of Refers.
 use Rattle.canon.proofs.links.refer.Statement.{statement}
 use Rattle.canon.proofs.links.refer.Tie as tie
 use Rattle.canon.proofs.links.refer.Reads as reads

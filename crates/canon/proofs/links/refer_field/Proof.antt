@@ -1,3 +1,4 @@
+-- The proof of `links::refer_field`: hangs the rows up by field f. By a loop in which n - x falls, and the laws of Refers.
 use Rattle.canon.proofs.links.refer_field.Statement.{statement}
 use Rattle.canon.proofs.links.refer_field.Tie as tie
 use Rattle.canon.proofs.links.refer_field.Reads as reads

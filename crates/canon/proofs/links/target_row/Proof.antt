@@ -1,3 +1,4 @@
+-- The proof of `links::target_row`: the row that field f of object i leads to; 0 if it leads to none. By the laws of Refers.
 use borrow.Author.Needs.{needs}
 use Rattle.canon.proofs.links.target_row.Statement.{statement}
 use Rattle.canon.proofs.links.target_row.Tie as tie

@@ -1,3 +1,4 @@
+-- The proof of `number::gather`: the objects that the order lists, renamed by the table, from a place of `dst` on. By a loop in which m - j falls, and the laws of Numbers.
 use Rattle.canon.proofs.number.gather.Statement.{statement}
 use Rattle.canon.proofs.number.gather.Tie as tie
 use Rattle.canon.proofs.number.gather.Reads as reads

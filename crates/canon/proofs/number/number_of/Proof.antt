@@ -1,3 +1,4 @@
+-- The proof of `number::number_of`: the number of an object of colour c: the colour's place in the order, which the table tells; m if it is not met. By the laws of Numbers.
 use borrow.Author.Needs.{needs}
 use Rattle.canon.proofs.number.number_of.Statement.{statement}
 use Rattle.canon.proofs.number.number_of.Tie as tie

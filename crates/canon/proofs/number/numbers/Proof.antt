@@ -1,3 +1,4 @@
+-- The proof of `number::numbers`: the number of each of n objects. By a loop in which n - i falls, and the laws of Runs.
 use Rattle.canon.proofs.number.numbers.Statement.{statement}
 use Rattle.canon.proofs.number.numbers.Tie as tie
 use Rattle.canon.proofs.number.numbers.Reads as reads

@@ -1,3 +1,4 @@
+-- The proof of `parting::begin`: n objects in one class. By a loop in which n - x falls, and the laws of Parts.
 use Rattle.canon.proofs.parting.begin.Statement.{statement}
 use Rattle.canon.proofs.parting.begin.Tie as tie
 use Rattle.canon.proofs.parting.begin.Reads as reads

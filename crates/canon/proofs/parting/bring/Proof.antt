@@ -1,3 +1,4 @@
+-- The proof of `parting::bring`: brings object z, at place l of class c, to the class's middle a. By the laws of Fronts and Notes.
 use borrow.Author.Needs.{needs}
 use Rattle.canon.proofs.parting.bring.Statement.{statement}
 use Rattle.canon.proofs.parting.bring.Tie as tie

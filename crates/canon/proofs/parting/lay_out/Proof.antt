@@ -1,3 +1,4 @@
+-- The proof of `parting::lay_out`: class c has the places from a to e, none of them in front. By the laws of Relabels.
 use borrow.Author.Needs.{needs}
 use Rattle.canon.proofs.parting.lay_out.Statement.{statement}
 use Rattle.canon.proofs.parting.lay_out.Tie as tie

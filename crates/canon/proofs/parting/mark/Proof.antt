@@ -1,3 +1,4 @@
+-- The proof of `parting::mark`: an object brought to the front of its class, and its class noted. By the laws of Fronts and Notes.
 use borrow.Author.Needs.{needs}
 use Rattle.canon.proofs.parting.mark.Statement.{statement}
 use Rattle.canon.proofs.parting.mark.Tie as tie

@@ -1,3 +1,4 @@
+-- The proof of `parting::mark_class`: brings all that refer to an object of class s by field f to the fronts of their classes. By a loop in which e - p falls, and the laws of Marks and Notes.
 use Rattle.canon.proofs.parting.mark_class.Statement.{statement}
 use Rattle.canon.proofs.parting.mark_class.Tie as tie
 use Rattle.canon.proofs.parting.mark_class.Reads as reads

@@ -1,3 +1,4 @@
+-- The proof of `parting::mark_into`: brings all that refer to object v by field f to the fronts of their classes. By a loop in which z falls, and the laws of Marks.
 use Rattle.canon.proofs.parting.mark_into.Statement.{statement}
 use Rattle.canon.proofs.parting.mark_into.Tie as tie
 use Rattle.canon.proofs.parting.mark_into.Reads as reads

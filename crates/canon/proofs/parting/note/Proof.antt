@@ -1,3 +1,4 @@
+-- The proof of `parting::note`: notes the objects of class s. By a loop in which e - p falls, and the laws of Notes.
 use Rattle.canon.proofs.parting.note.Statement.{statement}
 use Rattle.canon.proofs.parting.note.Tie as tie
 use Rattle.canon.proofs.parting.note.Reads as reads

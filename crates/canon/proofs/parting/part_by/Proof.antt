@@ -1,3 +1,4 @@
+-- The proof of `parting::part_by`: parts the classes by who refers into class s, by each field below w. By a loop in which w - f falls, and the laws of Parts.
 use Rattle.canon.proofs.parting.part_by.Statement.{statement}
 use Rattle.canon.proofs.parting.part_by.Tie as tie
 use Rattle.canon.proofs.parting.part_by.Reads as reads

@@ -1,3 +1,4 @@
+-- The proof of `parting::part_fields`: parts the classes by who refers into them, the new ones too. By a loop in which n - s falls, and the laws of Parts.
 use Rattle.canon.proofs.parting.part_fields.Statement.{statement}
 use Rattle.canon.proofs.parting.part_fields.Tie as tie
 use Rattle.canon.proofs.parting.part_fields.Reads as reads

@@ -1,3 +1,4 @@
+-- The proof of `parting::part_looks`: parts the classes by the first object that looks alike, which is field 4. By a loop in which n - v falls, and the laws of Parts.
 use Rattle.canon.proofs.parting.part_looks.Statement.{statement}
 use Rattle.canon.proofs.parting.part_looks.Tie as tie
 use Rattle.canon.proofs.parting.part_looks.Reads as reads

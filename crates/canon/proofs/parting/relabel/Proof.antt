@@ -1,3 +1,4 @@
+-- The proof of `parting::relabel`: the objects at places a to e are of class m. By a loop in which e - p falls, and the laws of Relabels.
 use Rattle.canon.proofs.parting.relabel.Statement.{statement}
 use Rattle.canon.proofs.parting.relabel.Tie as tie
 use Rattle.canon.proofs.parting.relabel.Reads as reads

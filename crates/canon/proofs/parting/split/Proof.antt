@@ -1,3 +1,4 @@
+-- The proof of `parting::split`: parts class d at its middle, if there are objects on both sides; the smaller side is a new class. By the laws of Parts.
 use borrow.Author.Needs.{needs}
 use Rattle.canon.proofs.parting.split.Statement.{statement}
 use Rattle.canon.proofs.parting.split.Tie as tie

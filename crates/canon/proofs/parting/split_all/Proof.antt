@@ -1,3 +1,4 @@
+-- The proof of `parting::split_all`: the noted classes parted. By a loop in which k - i falls, and the laws of Backs and Parts.
 use Rattle.canon.proofs.parting.split_all.Statement.{statement}
 use Rattle.canon.proofs.parting.split_all.Tie as tie
 use Rattle.canon.proofs.parting.split_all.Reads as reads

@@ -1,3 +1,4 @@
+-- The proof of `parting::stand`: object x stands at place p. By the laws of Notes.
 use borrow.Author.Needs.{needs}
 use Rattle.canon.proofs.parting.stand.Statement.{statement}
 use Rattle.canon.proofs.parting.stand.Tie as tie

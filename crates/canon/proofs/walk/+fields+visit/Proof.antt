@@ -1,3 +1,5 @@
+-- The proof of the cycle of `walk::visit` and `walk::fields`: the objects met, depth first. At each call the measure μ falls: `visit` goes on with one step
+-- fewer, k, and `fields` with the same k to `visit` and to the fields that are left, 4 - f of them. Each return is a law of Walks.
 use Prim.Native.Nat.{ℕ, _<_, _+_, _*_, _-_}
 use borrow.Fn.Kinds.{In}
 use borrow.Fn.PlainCycle.{Measures, is, falls, and}
