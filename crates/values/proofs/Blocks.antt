@@ -112,12 +112,12 @@ module _ (W : List ℕ) (b : ℕ) (bk : Block W b) where
     graph-copied : (c : ℕ) → graphIn R n c ≡ graphAt W b c
     graph-copied c = ap (graph (obj c)) copied-nodes
 
-    pub moved : (c dst m : ℕ) (W′ : List ℕ) → c < countIn W b → Placed R n c W dst W′ m → Moved W (graphAt W b c) dst W′
+    pub moved : (c dst m : ℕ) (W′ : List ℕ) → c < countIn W b → Placed R n c W dst W′ m → Moved W (graphAt W b c) dst W′ m
     moved c dst m W′ hc p =
         let e : canon (graphIn R n c) ≡ canon (graphAt W b c) = ap canon (graph-copied c) in
         let few : m ≤ capacity = omega (arith, p .count, ap (λ (g : Graph). length (g .nodes)) e, canon-length (graphAt W b c) (whole-at c hc), size-in, bk .small) in
         let h : Has W′ dst (canon (graphIn R n c)) = p .has few in
-        record { has = record { inside = h .inside; is = h .is ∙ e }; outside = p .outside }
+        record { count = p .count ∙ ap (λ (g : Graph). length (g .nodes)) e; has = record { inside = h .inside; is = h .is ∙ e }; outside = p .outside }
 
-pub moved-out : (W : List ℕ) (b i : ℕ) (I R₀ R : List ℕ) (n dst m : ℕ) (W′ : List ℕ) → Inside W b i → Taken W b I R₀ R n → Placed R n i W dst W′ m → Moved W (graphAt W b i) dst W′
+pub moved-out : (W : List ℕ) (b i : ℕ) (I R₀ R : List ℕ) (n dst m : ℕ) (W′ : List ℕ) → Inside W b i → Taken W b I R₀ R n → Placed R n i W dst W′ m → Moved W (graphAt W b i) dst W′ m
 moved-out W b i I R₀ R n dst m W′ ob tk p = moved W b (ob .block) I R₀ R n tk i dst m W′ (ob .low) p

@@ -1,11 +1,15 @@
 pub mod Tests
 pub mod Trees
+pub mod Pairs
+pub mod Partners
 pub mod Steps
 pub mod Blocks
 pub mod Selecting
 pub mod RefLaws
 pub mod Copies
+pub mod BoundTrees
 pub mod Bindings
+pub mod Apart
 pub mod Closing
 pub mod Reports
 pub mod Kept

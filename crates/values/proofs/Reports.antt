@@ -269,9 +269,9 @@ report-none W r d h l =
     (record { fits = omega arith; count = refl; text = six-text d l }) r h
 
 -- ---- an object, alone in its block
-pub report-one : (W : List ℕ) (r : ValueRef) (b i : ℕ) (W′ d₀ d : List ℕ) (t : ℕ) → r ≡ Object i b → Moved W (graphAt W b i) b W′ → Reported (graphAt W′ b 0) d₀ d t
+pub report-one : (W : List ℕ) (r : ValueRef) (b i : ℕ) (W′ d₀ d : List ℕ) (t n : ℕ) → r ≡ Object i b → Moved W (graphAt W b i) b W′ n → Reported (graphAt W′ b 0) d₀ d t
     → Reported (valueOf W r) d₀ d t × (length W′ ≡ length W)
-report-one W r b i W′ d₀ d t e m h = (subst (λ (v : Graph). Reported v d₀ d t) (m .has .is ∙ ap (valueOf W) (sym e)) h, m .outside .same)
+report-one W r b i W′ d₀ d t n e m h = (subst (λ (v : Graph). Reported v d₀ d t) (m .has .is ∙ ap (valueOf W) (sym e)) h, m .outside .same)
 
-pub report-block : (W : List ℕ) (g : Graph) (b : ℕ) (W′ : List ℕ) → Moved W g b W′ → Block W′ b
-report-block W g b W′ m = m .has .inside .block
+pub report-block : (W : List ℕ) (g : Graph) (b : ℕ) (W′ : List ℕ) (n : ℕ) → Moved W g b W′ n → Block W′ b
+report-block W g b W′ n m = m .has .inside .block

@@ -3,7 +3,7 @@ use Prim.Native.Nat.{ℕ, _+_, _*_, _<_}
 use mathlib.Core.Path.{_≡_}
 use mathlib.Core.List.{List}
 use mathlib.Core.Option.{Option, none, some}
-use lib.ListN.{getD}
+use lib.ListN.{length, getD}
 use Rattle.cofj.specs.Values.{Graph, canon, select, close}
 use Rattle.canon.specs.Figures.{objectSize, blockSize}
 use Rattle.canon.specs.Layout.{countIn, levelIn, reachIn, Outside}
@@ -27,8 +27,9 @@ pub record Gives (W : List ℕ) (dst : ℕ) (W′ : List ℕ) (r : ValueRef) (v 
   pub place : Low (dst + 1) r
   pub outside : Outside dst W W′
 
--- the value of the graph g is in block dst, from its first object on
-pub record Moved (W : List ℕ) (g : Graph) (dst : ℕ) (W′ : List ℕ) : Type 0 where
+-- the value of the graph g is in block dst, from its first object on, and has m objects
+pub record Moved (W : List ℕ) (g : Graph) (dst : ℕ) (W′ : List ℕ) (m : ℕ) : Type 0 where
+  pub count : m ≡ length (canon g .nodes)
   pub has : Has W′ dst (canon g)
   pub outside : Outside dst W W′
 

@@ -34,7 +34,7 @@ const STEPS: u8 = 64;
 const NO_FIELD: u8 = CODES;
 
 // A code, the code `hot` turned to object i.
-pub fn bind_code(hot: u8, i: u8, c: u8) -> u8
+pub(crate) fn bind_code(hot: u8, i: u8, c: u8) -> u8
     ensures { λ r. ⌜ r ≡ boundCode hot i c ⌝ }
 {
     if c == hot {
@@ -44,7 +44,7 @@ pub fn bind_code(hot: u8, i: u8, c: u8) -> u8
 }
 
 // The object at place p of `work`, to place q of `raw`.
-pub fn bind_object(work: &[u8], p: usize, hot: u8, i: u8, raw: &mut [u8], q: usize)
+pub(crate) fn bind_object(work: &[u8], p: usize, hot: u8, i: u8, raw: &mut [u8], q: usize)
     requires { ⌜ (p + objectSize ≤ length (now work)) × (q + objectSize ≤ length (now raw)) ⌝ }
     ensures { λ _. ⌜ ObjectBound (now (work .entry)) p hot i (now (raw .entry)) q objectSize (now (raw .exit)) ⌝ }
 {
@@ -57,7 +57,7 @@ pub fn bind_object(work: &[u8], p: usize, hot: u8, i: u8, raw: &mut [u8], q: usi
 }
 
 // The objects of block b, with mark x bound to object i, to the front of `raw`. Answers how many they are.
-pub fn bind_objects(work: &[u8], b: u16, x: u8, i: u8, raw: &mut [u8]) -> u8
+pub(crate) fn bind_objects(work: &[u8], b: u16, x: u8, i: u8, raw: &mut [u8]) -> u8
     requires { ⌜ Inside (now work) b i × (x < markCount) × (objectsSize ≤ length (now raw)) ⌝ }
     ensures { λ n. ⌜ Bound (now (work .entry)) b x i (now (raw .exit)) n ⌝ }
 {
@@ -78,7 +78,7 @@ pub fn bind_objects(work: &[u8], b: u16, x: u8, i: u8, raw: &mut [u8]) -> u8
 }
 
 // Whether the object at place p refers to object i.
-pub fn refers(work: &[u8], p: usize, i: u8) -> bool
+pub(crate) fn refers(work: &[u8], p: usize, i: u8) -> bool
     requires { ⌜ p + objectSize ≤ length (now work) ⌝ }
     ensures { λ r. ⌜ r ≡ refersTo (now (work .entry)) p i ⌝ }
 {
@@ -95,7 +95,7 @@ pub fn refers(work: &[u8], p: usize, i: u8) -> bool
 }
 
 // Whether none of the n objects of block b refers to object i.
-pub fn unreferred(work: &[u8], b: u16, n: u8, i: u8) -> bool
+pub(crate) fn unreferred(work: &[u8], b: u16, n: u8, i: u8) -> bool
     requires { ⌜ (blockSize * b + blockSize ≤ length (now work)) × (n ≤ capacity) ⌝ }
     ensures { λ r. ⌜ r ≡ noneRefer (now (work .entry)) b n i ⌝ }
 {
@@ -110,7 +110,7 @@ pub fn unreferred(work: &[u8], b: u16, n: u8, i: u8) -> bool
 }
 
 // The first field whose codes differ; NO_FIELD if there is none.
-pub fn other_field(raw: &[u8], x: u8, y: u8) -> u8
+pub(crate) fn other_field(raw: &[u8], x: u8, y: u8) -> u8
     requires { ⌜ (objectSize * x + objectSize ≤ length (now raw)) × (objectSize * y + objectSize ≤ length (now raw)) ⌝ }
     ensures { λ f. ⌜ OtherField (now (raw .entry)) x y f ⌝ }
 {
@@ -127,7 +127,7 @@ pub fn other_field(raw: &[u8], x: u8, y: u8) -> u8
 }
 
 // True only if objects i and k of n unfold to different trees: one path is followed, STEPS steps at most.
-pub fn differ(raw: &[u8], n: u8, i: u8, k: u8) -> bool
+pub(crate) fn differ(raw: &[u8], n: u8, i: u8, k: u8) -> bool
     requires { ⌜ Few (now raw) n × (i < n) × (k < n) ⌝ }
     ensures { λ r. ⌜ DifferTest (now (raw .entry)) n i k r ⌝ }
 {
@@ -158,7 +158,7 @@ pub fn differ(raw: &[u8], n: u8, i: u8, k: u8) -> bool
 }
 
 // True only if object k of n is object i itself or unfolds to another tree.
-pub fn unlike(raw: &[u8], n: u8, i: u8, k: u8) -> bool
+pub(crate) fn unlike(raw: &[u8], n: u8, i: u8, k: u8) -> bool
     requires { ⌜ Few (now raw) n × (i < n) × (k < n) ⌝ }
     ensures { λ r. ⌜ UnlikeTest (now (raw .entry)) n i k r ⌝ }
 {
@@ -169,7 +169,7 @@ pub fn unlike(raw: &[u8], n: u8, i: u8, k: u8) -> bool
 }
 
 // True only if object i of n unfolds to no other object's tree.
-pub fn unlike_others(raw: &[u8], n: u8, i: u8) -> bool
+pub(crate) fn unlike_others(raw: &[u8], n: u8, i: u8) -> bool
     requires { ⌜ Few (now raw) n × (i < n) ⌝ }
     ensures { λ r. ⌜ OthersTest (now (raw .entry)) n i r ⌝ }
 {
@@ -184,7 +184,7 @@ pub fn unlike_others(raw: &[u8], n: u8, i: u8) -> bool
 }
 
 // True only if no two of the objects bound are equal. Where the block's reach is not above i, no object refers to i.
-pub fn stay_distinct(work: &[u8], b: u16, x: u8, i: u8, raw: &[u8], n: u8) -> bool
+pub(crate) fn stay_distinct(work: &[u8], b: u16, x: u8, i: u8, raw: &[u8], n: u8) -> bool
     requires { ⌜ Inside (now work) b i × Bound (now work) b x i (now raw) n ⌝ }
     ensures { λ r. ⌜ DistinctTest (now (raw .entry)) n r ⌝ }
 {
@@ -198,7 +198,7 @@ pub fn stay_distinct(work: &[u8], b: u16, x: u8, i: u8, raw: &[u8], n: u8) -> bo
 }
 
 // The value at object i of n, of which no two are equal, to block `dst` as they are.
-pub fn put_distinct(raw: &[u8], n: u8, i: u8, work: &mut [u8], dst: u16) -> ValueRef
+pub(crate) fn put_distinct(raw: &[u8], n: u8, i: u8, work: &mut [u8], dst: u16) -> ValueRef
     requires { ⌜ Rooted (now raw) n i (now work) dst × Distinct (nodesIn (now raw) 0 n) ⌝ }
     ensures { λ o. ⌜ Gives (now (work .entry)) dst (now (work .exit)) o (canon (graphIn (now (raw .entry)) n i)) ⌝ }
 {
@@ -211,7 +211,7 @@ pub fn put_distinct(raw: &[u8], n: u8, i: u8, work: &mut [u8], dst: u16) -> Valu
 }
 
 // The value at object i of n, to block `dst`, equal objects merged and numbered from there.
-pub fn put_merged(raw: &[u8], n: u8, i: u8, work: &mut [u8], dst: u16) -> ValueRef
+pub(crate) fn put_merged(raw: &[u8], n: u8, i: u8, work: &mut [u8], dst: u16) -> ValueRef
     requires { ⌜ Rooted (now raw) n i (now work) dst × (wideSize ≤ length (now raw)) ⌝ }
     ensures { λ o. ⌜ Gives (now (work .entry)) dst (now (work .exit)) o (canon (graphIn (now (raw .entry)) n i)) ⌝ }
 {
@@ -222,7 +222,7 @@ pub fn put_merged(raw: &[u8], n: u8, i: u8, work: &mut [u8], dst: u16) -> ValueR
 }
 
 // X = u for object i of block b, to block `dst`. Few bytes have room for the objects of a block; colours ask for more.
-pub fn close_bound(work: &mut [u8], x: u8, b: u16, i: u8, dst: u16) -> ValueRef
+pub(crate) fn close_bound(work: &mut [u8], x: u8, b: u16, i: u8, dst: u16) -> ValueRef
     requires { ⌜ Inside (now work) b i × (x < markCount) × (blockSize * dst + blockSize ≤ length (now work)) ⌝ }
     ensures { λ o. ⌜ Gives (now (work .entry)) dst (now (work .exit)) o (closeOf x (canon (graphAt (now (work .entry)) b i))) ⌝ }
 {

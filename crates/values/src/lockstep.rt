@@ -19,7 +19,7 @@ const DIFFERENT: u8 = 0;
 
 // Meets two codes: they are equal, or objects that are partners or can become so. `partner` has y + 1 for an object with the partner y, 0 for one
 // without; `queue` lists the objects that have one, `tail` of them. Answers how many there are then, DIFFERENT if the codes differ.
-pub fn step_code(partner: &mut [u8], queue: &mut [u8], tail: u8, first: u8, second: u8) -> u8
+pub(crate) fn step_code(partner: &mut [u8], queue: &mut [u8], tail: u8, first: u8, second: u8) -> u8
     requires { ⌜ CodeFits (now partner) (now queue) tail first ⌝ }
     ensures { λ r. ⌜ after r (now (partner .exit)) (now (queue .exit)) ≡ stepCode (now (partner .entry)) (now (queue .entry)) tail first second ⌝ }
 {
@@ -56,7 +56,7 @@ pub fn alike(a: &[u8], p: usize, q: usize) -> bool
 }
 
 // Meets the fields of object x of block b and of its partner y of block c. Answers as `step_code`.
-pub fn step_fields(
+pub(crate) fn step_fields(
     work: &[u8],
     b: u16,
     x: u8,
@@ -88,7 +88,7 @@ pub fn step_fields(
 }
 
 // Meets object x of block b and its partner y of block c. Answers as `step_code`.
-pub fn step_object(
+pub(crate) fn step_object(
     work: &[u8],
     b: u16,
     x: u8,
@@ -133,7 +133,7 @@ pub fn in_step(work: &[u8], b: u16, c: u16, partner: &mut [u8], queue: &mut [u8]
 }
 
 // The same as `same_trees`, for objects of two blocks: they are the first partners.
-pub fn roots_in_step(work: &[u8], b: u16, i: u8, c: u16, j: u8) -> bool
+pub(crate) fn roots_in_step(work: &[u8], b: u16, i: u8, c: u16, j: u8) -> bool
     requires { ⌜ Inside (now work) b i × Inside (now work) c j ⌝ }
     ensures { λ r. ⌜ r ≡ eqGraph (canon (graphAt (now (work .entry)) b i)) (canon (graphAt (now (work .entry)) c j)) ⌝ }
 {
@@ -145,7 +145,7 @@ pub fn roots_in_step(work: &[u8], b: u16, i: u8, c: u16, j: u8) -> bool
 }
 
 // Whether object i of block b and object j of block c unfold to the same tree.
-pub fn same_trees(work: &[u8], b: u16, i: u8, c: u16, j: u8) -> bool
+pub(crate) fn same_trees(work: &[u8], b: u16, i: u8, c: u16, j: u8) -> bool
     requires { ⌜ Inside (now work) b i × Inside (now work) c j ⌝ }
     ensures { λ r. ⌜ r ≡ eqGraph (canon (graphAt (now (work .entry)) b i)) (canon (graphAt (now (work .entry)) c j)) ⌝ }
 {

@@ -19,7 +19,7 @@ pub enum Selected {
 }
 
 // The number of a value that is no object; that of an object is not told.
-pub fn pack_other(v: ValueRef) -> u32
+pub(crate) fn pack_other(v: ValueRef) -> u32
     ensures { λ x. ⌜ OtherPacked v x ⌝ }
 {
     match v {
@@ -59,7 +59,7 @@ pub fn unpack(x: u32) -> ValueRef
 }
 
 // The value of a code in block b.
-pub fn ref_of(c: u8, b: u16) -> ValueRef
+pub(crate) fn ref_of(c: u8, b: u16) -> ValueRef
     ensures { λ v. ⌜ v ≡ refFrom b c ⌝ }
 {
     if c < FIRST_LEAF {

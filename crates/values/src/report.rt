@@ -22,7 +22,7 @@ const DIGIT: u8 = b'0';
 const LETTER: u8 = b'A' - 10;
 
 // The character of a digit.
-pub fn char_of(d: u8) -> u8
+pub(crate) fn char_of(d: u8) -> u8
     requires { ⌜ d < 16 ⌝ }
     ensures { λ r. ⌜ r ≡ char d ⌝ }
 {
@@ -33,7 +33,7 @@ pub fn char_of(d: u8) -> u8
 }
 
 // A byte as two digits, at a place of `out`.
-pub fn put_byte(out: &mut [u8], at: usize, b: u8)
+pub(crate) fn put_byte(out: &mut [u8], at: usize, b: u8)
     requires { ⌜ at + 2 ≤ length (now out) ⌝ }
     ensures { λ _. ⌜ Front (now (out .entry)) (now (out .exit)) (at + 2) (take at (now (out .entry)) ++ (char (b / 16) ∷ char (b % 16) ∷ [])) ⌝ }
 {
@@ -42,7 +42,7 @@ pub fn put_byte(out: &mut [u8], at: usize, b: u8)
 }
 
 // Byte k of the line of object j, which lies at a place of `work`.
-pub fn line_byte(work: &[u8], at: usize, j: u8, k: usize) -> u8
+pub(crate) fn line_byte(work: &[u8], at: usize, j: u8, k: usize) -> u8
     requires { ⌜ Packed (now work) at × (at + objectSize ≤ length (now work)) × (k < 4 + getD (now work) (at + 1) 0) ⌝ }
     ensures { λ r. ⌜ r ≡ getD (lineIn (now (work .entry)) at j) k 0 ⌝ }
 {
@@ -63,7 +63,7 @@ pub fn line_byte(work: &[u8], at: usize, j: u8, k: usize) -> u8
 }
 
 // The line of object j, at a place of `out`. Answers with the place after it.
-pub fn put_line(work: &[u8], at: usize, j: u8, out: &mut [u8], to: usize) -> usize
+pub(crate) fn put_line(work: &[u8], at: usize, j: u8, out: &mut [u8], to: usize) -> usize
     requires { ⌜ Packed (now work) at × (at + objectSize ≤ length (now work)) × (to + lineSize ≤ length (now out)) ⌝ }
     ensures { λ t. ⌜ Line (lineIn (now (work .entry)) at j) (now (out .entry)) to (now (out .exit)) t ⌝ }
 {
@@ -79,7 +79,7 @@ pub fn put_line(work: &[u8], at: usize, j: u8, out: &mut [u8], to: usize) -> usi
 }
 
 // The lines of the value in block b. Answers how many characters they are.
-pub fn put_lines(work: &[u8], b: u16, out: &mut [u8]) -> usize
+pub(crate) fn put_lines(work: &[u8], b: u16, out: &mut [u8]) -> usize
     requires { ⌜ Block (now work) b × (reportSize ≤ length (now out)) ⌝ }
     ensures { λ t. ⌜ Reported (graphAt (now (work .entry)) b 0) (now (out .entry)) (now (out .exit)) t ⌝ }
 {

@@ -19,7 +19,7 @@ ghost use Rattle.values.specs.Operations.{Taken, Moved, Copied, Gives, c
 
 // Copies the objects of block b to the front of `raw`, and answers how many they are.
 // `ids` becomes 0, 1, .. for each of them.
-pub fn take_up(work: &[u8], b: u16, ids: &mut [u8], raw: &mut [u8]) -> u8
+pub(crate) fn take_up(work: &[u8], b: u16, ids: &mut [u8], raw: &mut [u8]) -> u8
     requires { ⌜ Block (now work) b × (256 ≤ length (now ids)) × (wideSize ≤ length (now raw)) ⌝ }
     ensures { λ n. ⌜ Taken (now (work .entry)) b (now (ids .exit)) (now (raw .entry)) (now (raw .exit)) n ⌝ }
 {
@@ -31,15 +31,15 @@ pub fn take_up(work: &[u8], b: u16, ids: &mut [u8], raw: &mut [u8]) -> u8
     n
 }
 
-// The value at object i of block b, alone and numbered from its root, to block `dst`.
-pub fn move_out(work: &mut [u8], b: u16, i: u8, dst: u16)
+// The value at object i of block b, alone and numbered from its root, to block `dst`. Answers how many objects it has.
+pub fn move_out(work: &mut [u8], b: u16, i: u8, dst: u16) -> u8
     requires { ⌜ Inside (now work) b i × (blockSize * dst + blockSize ≤ length (now work)) ⌝ }
-    ensures { λ _. ⌜ Moved (now (work .entry)) (graphAt (now (work .entry)) b i) dst (now (work .exit)) ⌝ }
+    ensures { λ m. ⌜ Moved (now (work .entry)) (graphAt (now (work .entry)) b i) dst (now (work .exit)) m ⌝ }
 {
     let mut ids = [0u8; 256];
     let mut raw = [0u8; WIDE];
     let n = take_up(work, b, &mut ids, &mut raw);
-    put(&raw, n, &ids, i, work, dst);
+    put(&raw, n, &ids, i, work, dst)
 }
 
 // The objects of block b, to block `dst`, which may be b.

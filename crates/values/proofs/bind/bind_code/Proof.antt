@@ -1,3 +1,4 @@
+-- The proof of `bind::bind_code`: a code, the code `hot` turned to object i. By the laws of Bindings.
 use Rattle.values.proofs.bind.bind_code.Statement.{statement}
 use Rattle.values.proofs.bind.bind_code.Tie as tie
 use Rattle.values.proofs.bind.bind_code.Reads as reads

@@ -1,3 +1,4 @@
+-- The proof of `bind::bind_object`: the object at place p of `work`, to place q of `raw`. By the laws of Bindings.
 use borrow.Author.Needs.{needs}
 use Rattle.values.proofs.bind.bind_object.Statement.{statement}
 use Rattle.values.proofs.bind.bind_object.Tie as tie

@@ -1,3 +1,4 @@
+-- The proof of `bind::close_bound`: X = u for object i of block b, to block `dst`. By the laws of Bindings and Apart.
 use borrow.Author.Needs.{needs}
 use Rattle.values.proofs.bind.close_bound.Statement.{statement}
 use Rattle.values.proofs.bind.close_bound.Tie as tie
@@ -7,19 +8,20 @@ use Rattle.values.proofs.bind.bind_objects.Reads as bind-objects-reads
 use Rattle.values.proofs.bind.put_distinct.Reads as put-distinct-reads
 use Rattle.values.proofs.bind.put_merged.Reads as put-merged-reads
 use Rattle.values.proofs.bind.stay_distinct.Reads as stay-distinct-reads
-use Rattle.values.proofs.Bindings as laws
+use Rattle.values.proofs.Bindings as bindings
+use Rattle.values.proofs.Apart as apart
 
 put-distinct-requires : tie.Need-put-distinct-requires
-put-distinct-requires c κs = let t = c .before .before in let bo = t .before .before .before .before .before in let st = bo .before .before .before .before in (laws.bound-rooted _ _ _ (st .pre .0) _ _ _ (bo .bind-objects .ensures) _ (st .pre .2), laws.distinct-yes _ _ _ (t .before .stay-distinct .ensures) (t .if1 .taken))
+put-distinct-requires c κs = let t = c .before .before in let bo = t .before .before .before .before .before in let st = bo .before .before .before .before in (bindings.bound-rooted _ _ _ (st .pre .0) _ _ _ (bo .bind-objects .ensures) _ (st .pre .2), apart.distinct-yes _ _ _ (t .before .stay-distinct .ensures) (t .if1 .taken))
 
 returns : tie.Need-returns
-returns c = search laws.closed
+returns c = search bindings.closed
 
 put-merged-requires : tie.Need-put-merged-requires
-put-merged-requires c κs = let bo = c .before .before .before in let st = bo .before .before .before .before .before .before .before .before .before .before .before .before in (laws.bound-rooted _ _ _ (st .pre .0) _ _ _ (bo .bind-objects2 .ensures) _ (st .pre .2), search needs)
+put-merged-requires c κs = let bo = c .before .before .before in let st = bo .before .before .before .before .before .before .before .before .before .before .before .before in (bindings.bound-rooted _ _ _ (st .pre .0) _ _ _ (bo .bind-objects2 .ensures) _ (st .pre .2), search needs)
 
 returns-2 : tie.Need-returns-2
-returns-2 c = search laws.closed
+returns-2 c = search bindings.closed
 
 pub close-bound-spec : {M : Type 1} → statement M
 close-bound-spec =

@@ -1,3 +1,4 @@
+-- The proof of `bind::differ`: true only if two objects unfold to different trees. By a loop in which left falls, and the laws of Apart.
 use Rattle.values.proofs.bind.differ.Statement.{statement}
 use Rattle.values.proofs.bind.differ.Tie as tie
 use Rattle.values.proofs.bind.differ.Reads as reads
@@ -6,7 +7,7 @@ use Rattle.values.proofs.bind.other_field.Reads as other-field-reads
 use Rattle.values.proofs.lockstep.alike.Reads as alike-reads
 use borrow.Author.Needs.{needs}
 use Rattle.values.specs.Binding.{Leads}
-use Rattle.values.proofs.Bindings as laws
+use Rattle.values.proofs.Apart as laws
 
 abbrev Inv-loop : tie.InvT-loop
 Inv-loop raw n i k x₀ y₀ left₀ x y left = Leads raw n i k x y

@@ -1,3 +1,4 @@
+-- The proof of `bind::put_distinct`: the value at object i of n, of which no two are equal, to block `dst` as they are. By the laws of Apart.
 use borrow.Author.Needs.{needs}
 use Rattle.values.proofs.bind.put_distinct.Statement.{statement}
 use Rattle.values.proofs.bind.put_distinct.Tie as tie
@@ -7,7 +8,7 @@ use Rattle.canon.proofs.bytes.copy.Reads as copy-reads
 use Rattle.canon.proofs.number.level_of.Reads as level-of-reads
 use native.Mathlib.Omega.{arith}
 use lib.ListN.{length-set}
-use Rattle.values.proofs.Bindings as laws
+use Rattle.values.proofs.Apart as laws
 
 slice-write-work-2 : tie.Need-slice-write-work-2
 slice-write-work-2 c = simp length-set (omega arith)

@@ -1,3 +1,4 @@
+-- The proof of `bind::put_merged`: the value at object i of n, to block `dst`, equal objects merged and numbered from there. By the laws of Apart.
 use borrow.Author.Needs.{needs}
 use Rattle.values.proofs.bind.put_merged.Statement.{statement}
 use Rattle.values.proofs.bind.put_merged.Tie as tie
@@ -5,7 +6,7 @@ use Rattle.values.proofs.bind.put_merged.Reads as reads
 use Rattle.values.proofs.bind.put_merged.Lts as lts
 use Rattle.canon.proofs.colours.colour.Reads as colour-reads
 use Rattle.canon.proofs.number.put.Reads as put-reads
-use Rattle.values.proofs.Bindings as laws
+use Rattle.values.proofs.Apart as laws
 
 colour-requires : tie.Need-colour-requires
 colour-requires c κs = (search laws.rooted-raw, search needs)

@@ -1,3 +1,4 @@
+-- The proof of `bind::refers`: whether the object at place p refers to object i. By the laws of Bindings.
 use borrow.Author.Needs.{needs}
 use Rattle.values.proofs.bind.refers.Statement.{statement}
 use Rattle.values.proofs.bind.refers.Tie as tie

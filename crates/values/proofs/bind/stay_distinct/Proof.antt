@@ -1,3 +1,4 @@
+-- The proof of `bind::stay_distinct`: true only if no two of the objects bound are equal. By the laws of Bindings and Apart.
 use borrow.Author.Needs.{needs}
 use Rattle.values.proofs.bind.stay_distinct.Statement.{statement}
 use Rattle.values.proofs.bind.stay_distinct.Tie as tie
@@ -6,31 +7,32 @@ use Rattle.values.proofs.bind.stay_distinct.Lts as lts
 use Rattle.values.proofs.bind.unlike_others.Reads as unlike-others-reads
 use Rattle.values.proofs.bind.unreferred.Reads as unreferred-reads
 use native.Mathlib.Omega.{arith}
-use Rattle.values.proofs.Bindings as laws
+use Rattle.values.proofs.Bindings as bindings
+use Rattle.values.proofs.Apart as apart
 
 add-if1 : tie.Need-add-if1
-add-if1 c = omega (arith, laws.block-room _ _ _ (c .before .before .pre .0))
+add-if1 c = omega (arith, bindings.block-room _ _ _ (c .before .before .pre .0))
 
 shared-slice-read-if1 : tie.Need-shared-slice-read-if1
-shared-slice-read-if1 c = omega (arith, laws.block-room _ _ _ (c .before .before .before .pre .0))
+shared-slice-read-if1 c = omega (arith, bindings.block-room _ _ _ (c .before .before .before .pre .0))
 
 unlike-others-requires : tie.Need-unlike-others-requires
-unlike-others-requires c κs = (search laws.bound-few, search laws.root-low)
+unlike-others-requires c κs = (search bindings.bound-few, search bindings.root-low)
 
 returns : tie.Need-returns
-returns c = search laws.stays-beyond
+returns c = search apart.stays-beyond
 
 unreferred-requires : tie.Need-unreferred-requires
-unreferred-requires c κs = (search laws.block-room, search laws.bound-small)
+unreferred-requires c κs = (search bindings.block-room, search bindings.bound-small)
 
 unlike-others-requires-2 : tie.Need-unlike-others-requires-2
-unlike-others-requires-2 c κs = (search laws.bound-few, search laws.root-low)
+unlike-others-requires-2 c κs = (search bindings.bound-few, search bindings.root-low)
 
 returns-2 : tie.Need-returns-2
-returns-2 c = search laws.stays-distinct
+returns-2 c = search apart.stays-distinct
 
 returns-3 : tie.Need-returns-3
-returns-3 c = laws.distinct-not _ _
+returns-3 c = apart.distinct-not _ _
 
 pub stay-distinct-spec : {M : Type 1} → statement M
 stay-distinct-spec =

@@ -1,10 +1,11 @@
+-- The proof of `bind::unlike`: true only if object k of n is object i itself or unfolds to another tree. By the laws of Apart.
 use borrow.Author.Needs.{needs}
 use Rattle.values.proofs.bind.unlike.Statement.{statement}
 use Rattle.values.proofs.bind.unlike.Tie as tie
 use Rattle.values.proofs.bind.unlike.Reads as reads
 use Rattle.values.proofs.bind.unlike.Lts as lts
 use Rattle.values.proofs.bind.differ.Reads as differ-reads
-use Rattle.values.proofs.Bindings as laws
+use Rattle.values.proofs.Apart as laws
 
 returns : tie.Need-returns
 returns c = search laws.unlike-same

@@ -1,3 +1,4 @@
+-- The proof of `bind::unlike_others`: true only if object i of n unfolds to no other object's tree. By a loop in which n - k falls, and the laws of Apart.
 use Rattle.values.proofs.bind.unlike_others.Statement.{statement}
 use Rattle.values.proofs.bind.unlike_others.Tie as tie
 use Rattle.values.proofs.bind.unlike_others.Reads as reads
@@ -6,7 +7,7 @@ use Rattle.values.proofs.bind.unlike.Reads as unlike-reads
 use borrow.Author.Needs.{needs}
 use Prim.Native.Nat.{_≤_, _-_}
 use Rattle.values.specs.Binding.{UnlikeOthers}
-use Rattle.values.proofs.Bindings as laws
+use Rattle.values.proofs.Apart as laws
 
 abbrev Inv-loop : tie.InvT-loop
 Inv-loop raw n i k₀ k = (k ≤ n) × UnlikeOthers raw n i k

@@ -1,3 +1,4 @@
+-- The proof of `bind::unreferred`: whether none of the n objects of block b refers to object i. By a loop in which n - k falls, and the laws of Bindings.
 use Rattle.values.proofs.bind.unreferred.Statement.{statement}
 use Rattle.values.proofs.bind.unreferred.Tie as tie
 use Rattle.values.proofs.bind.unreferred.Reads as reads

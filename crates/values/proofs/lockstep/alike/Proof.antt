@@ -1,3 +1,4 @@
+-- The proof of `lockstep::alike`: whether the objects at places p and q have one class and as many fields. By the laws of canon's Nodes.
 use borrow.Author.Needs.{needs}
 use Rattle.values.proofs.lockstep.alike.Statement.{statement}
 use Rattle.values.proofs.lockstep.alike.Tie as tie

@@ -1,3 +1,4 @@
+-- The proof of `lockstep::equal`: whether two references stand for one value. By the laws of Blocks and Steps.
 use borrow.Author.Needs.{needs}
 use Rattle.values.proofs.lockstep.equal.Statement.{statement}
 use Rattle.values.proofs.lockstep.equal.Tie as tie

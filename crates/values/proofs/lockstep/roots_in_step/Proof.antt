@@ -1,3 +1,4 @@
+-- The proof of `lockstep::roots_in_step`: whether two objects of two blocks unfold to the same tree. By the laws of Steps.
 use borrow.Author.Needs.{needs}
 use Rattle.values.proofs.lockstep.roots_in_step.Statement.{statement}
 use Rattle.values.proofs.lockstep.roots_in_step.Tie as tie

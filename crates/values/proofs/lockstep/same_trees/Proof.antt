@@ -1,3 +1,4 @@
+-- The proof of `lockstep::same_trees`: whether object i of block b and object j of block c unfold to the same tree. By the laws of Blocks and Steps.
 use borrow.Author.Needs.{needs}
 use Rattle.values.proofs.lockstep.same_trees.Statement.{statement}
 use Rattle.values.proofs.lockstep.same_trees.Tie as tie

@@ -1,9 +1,10 @@
+-- The proof of `lockstep::step_code`: two codes met: equal, or objects that are partners then. By the laws of Pairs.
 use borrow.Author.Needs.{needs}
 use Rattle.values.proofs.lockstep.step_code.Statement.{statement}
 use Rattle.values.proofs.lockstep.step_code.Tie as tie
 use Rattle.values.proofs.lockstep.step_code.Reads as reads
 use Rattle.values.proofs.lockstep.step_code.Lts as lts
-use Rattle.values.proofs.Steps as laws
+use Rattle.values.proofs.Pairs as laws
 
 returns : tie.Need-returns
 returns c = search laws.code-equal

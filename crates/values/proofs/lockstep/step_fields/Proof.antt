@@ -1,3 +1,4 @@
+-- The proof of `lockstep::step_fields`: meets the fields of object x of block b and of its partner y of block c. By a loop in which n - k falls, and the laws of Partners.
 use Rattle.values.proofs.lockstep.step_fields.Statement.{statement}
 use Rattle.values.proofs.lockstep.step_fields.Tie as tie
 use Rattle.values.proofs.lockstep.step_fields.Reads as reads
@@ -9,7 +10,7 @@ use Prim.Native.Nat.{_≤_, _-_}
 use lib.ListN.{length}
 use Rattle.canon.specs.Figures.{codeCount}
 use Rattle.values.specs.Stepping.{FieldsSoFar}
-use Rattle.values.proofs.Steps as laws
+use Rattle.values.proofs.Partners as laws
 
 abbrev Inv-loop : tie.InvT-loop
 Inv-loop work b x c y partner₀ queue₀ tail p q n t₀ k₀ partner queue t k = (k ≤ n) × (n ≤ codeCount) × (length partner ≡ length partner₀) × (length queue ≡ length queue₀) × FieldsSoFar work b x c y partner₀ queue₀ tail partner queue t k

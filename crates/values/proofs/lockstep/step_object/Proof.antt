@@ -1,3 +1,4 @@
+-- The proof of `lockstep::step_object`: meets object x of block b and its partner y of block c. By the laws of Blocks, Partners and canon's Nodes.
 use borrow.Author.Needs.{needs}
 use Rattle.values.proofs.lockstep.step_object.Statement.{statement}
 use Rattle.values.proofs.lockstep.step_object.Tie as tie
@@ -7,7 +8,7 @@ use Rattle.values.proofs.lockstep.alike.Reads as alike-reads
 use Rattle.values.proofs.lockstep.step_fields.Reads as step-fields-reads
 use Rattle.canon.proofs.Nodes as nodes
 use Rattle.values.proofs.Blocks as blocks
-use Rattle.values.proofs.Steps as laws
+use Rattle.values.proofs.Partners as laws
 
 step-fields-requires : tie.Need-step-fields-requires
 step-fields-requires c κs = (search needs, search nodes.alike-yes)

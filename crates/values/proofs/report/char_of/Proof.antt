@@ -1,3 +1,4 @@
+-- The proof of `report::char_of`: the character of a digit. By the laws of Reports.
 use borrow.Author.Needs.{needs}
 use Rattle.values.proofs.report.char_of.Statement.{statement}
 use Rattle.values.proofs.report.char_of.Tie as tie

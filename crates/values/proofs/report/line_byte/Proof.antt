@@ -1,3 +1,4 @@
+-- The proof of `report::line_byte`: byte k of the line of object j, which lies at a place of `work`. By the laws of Reports.
 use borrow.Author.Needs.{needs}
 use Rattle.values.proofs.report.line_byte.Statement.{statement}
 use Rattle.values.proofs.report.line_byte.Tie as tie

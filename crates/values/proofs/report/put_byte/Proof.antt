@@ -1,3 +1,4 @@
+-- The proof of `report::put_byte`: a byte as two digits, at a place of `out`. By the laws of Reports.
 use borrow.Author.Needs.{needs}
 use Rattle.values.proofs.report.put_byte.Statement.{statement}
 use Rattle.values.proofs.report.put_byte.Tie as tie

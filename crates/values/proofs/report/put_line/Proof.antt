@@ -1,3 +1,4 @@
+-- The proof of `report::put_line`: the line of object j, at a place of `out`. By a loop in which n - k falls, and the laws of Reports.
 use Rattle.values.proofs.report.put_line.Statement.{statement}
 use Rattle.values.proofs.report.put_line.Tie as tie
 use Rattle.values.proofs.report.put_line.Reads as reads

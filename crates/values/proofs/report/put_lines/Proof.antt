@@ -1,3 +1,4 @@
+-- The proof of `report::put_lines`: the lines of the value in block b. By a loop in which n - j falls, and the laws of Reports.
 use Rattle.values.proofs.report.put_lines.Statement.{statement}
 use Rattle.values.proofs.report.put_lines.Tie as tie
 use Rattle.values.proofs.report.put_lines.Reads as reads

@@ -1,3 +1,4 @@
+-- The proof of `report::report`: the report of a value, at the front of `out`. By the laws of Blocks and Reports.
 use borrow.Author.Needs.{needs}
 use Rattle.values.proofs.report.report.Statement.{statement}
 use Rattle.values.proofs.report.report.Tie as tie
@@ -30,7 +31,7 @@ put-lines-requires : tie.Need-put-lines-requires
 put-lines-requires c κs = (search laws.report-block, search needs)
 
 returns-2 : tie.Need-returns-2
-returns-2 c = laws.report-one _ _ _ _ _ _ _ _ (c .before .before .before .before .before .before .before .before .before .before .r .given .1) (c .before .before .before .before .before .before .before .move-out .ensures) (c .before .before .put-lines .ensures)
+returns-2 c = laws.report-one _ _ _ _ _ _ _ _ _ (c .before .before .before .before .before .before .before .before .before .before .r .given .1) (c .before .before .before .before .before .before .before .move-out .ensures) (c .before .before .put-lines .ensures)
 
 pub report-spec : {M : Type 1} → statement M
 report-spec =

@@ -1,3 +1,4 @@
+-- The proof of `value::copy_block`: the objects of block b, to block `dst`, which may be b. By a loop in which p - q falls, and the laws of Copies.
 use Rattle.values.proofs.value.copy_block.Statement.{statement}
 use Rattle.values.proofs.value.copy_block.Tie as tie
 use Rattle.values.proofs.value.copy_block.Reads as reads

@@ -1,3 +1,4 @@
+-- The proof of `value::move_out`: the value at object i of block b, alone and numbered from its root, to block `dst`. By the laws of Blocks.
 use borrow.Author.Needs.{needs}
 use Rattle.values.proofs.value.move_out.Statement.{statement}
 use Rattle.values.proofs.value.move_out.Tie as tie

@@ -1,3 +1,4 @@
+-- The proof of `value::take_up`: copies the objects of block b to the front of `raw`, and answers how many they are. By the laws of Blocks.
 use borrow.Author.Needs.{needs}
 use Rattle.values.proofs.value.take_up.Statement.{statement}
 use Rattle.values.proofs.value.take_up.Tie as tie
