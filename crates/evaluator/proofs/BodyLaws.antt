@@ -42,10 +42,10 @@ use Rattle.evaluator.proofs.Keeping.{kept-then, kept-down, kept-outside
 use Rattle.evaluator.proofs.Given.{going-on, halted, given}
 
 -- evaluation with room for d more calls is the language's
-pub evalTo-is : (d : ℕ) (t : Table) (p : language.Frame) (os : List language.OpenCall) (e : Expr) (n : ℕ) → evalIn d t p os e n ≡ evalTo 32 d t p os e n
+pub evalTo-is : (objects d : ℕ) (t : Table) (p : language.Frame) (os : List language.OpenCall) (e : Expr) (n : ℕ) → evalIn objects d t p os e n ≡ evalTo objects d t p os e n
 unfolding evalTo deeper
-evalTo-is zero t p os e n = refl
-evalTo-is (suc d) t p os e n = refl
+evalTo-is objects zero t p os e n = refl
+evalTo-is objects (suc d) t p os e n = refl
 
 -- ---- the trace with one call more
 trace-length : (W tr : List ℕ) (n : ℕ) → length (traceIn W tr n) ≡ n
@@ -113,75 +113,75 @@ module _ (T : List ℕ) (t : Table) (tb : Tabled T t) (i : ℕ) (k : Method) (ek
   }
 
 -- ---- the sides
-module _ (T W tr : List ℕ) (top : ℕ) (v : ValueRef) (A : List ℕ) (n owner i next d sp fuel x at : ℕ) (ea : at ≡ rightOf T i) (W1 : List ℕ) (o : Out)
-    (ev : Evaluates T W (bodyFrame v (Is (Mark x)) A n owner) tr top at nestingLimit d (sp + 4) fuel W1 o) where
+module _ (T W tr : List ℕ) (top : ℕ) (v : ValueRef) (A : List ℕ) (n owner i next objects d sp fuel x at : ℕ) (ea : at ≡ rightOf T i) (W1 : List ℕ) (o : Out)
+    (ev : Evaluates T W (bodyFrame v (Is (Mark x)) A n owner) tr top at nestingLimit objects d (sp + 4) fuel W1 o) where
   kept-right : Kept sp W W1
   kept-right = kept-down sp (sp + 4) W W1 (omega arith) (ev .kept)
 
-  right-runs : (t : Table) (e : Expr) → evalIn d t (frameIn W (bodyFrame v (Is (Mark x)) A n owner)) (traceIn W tr top) e fuel ≡ evalTo 32 d t (frameOf (valueOf W v) (some (markOf x)) (valuesFrom W (slotsAt A 0) 0 n)) (traceIn W tr top) e fuel
+  right-runs : (t : Table) (e : Expr) → evalIn objects d t (frameIn W (bodyFrame v (Is (Mark x)) A n owner)) (traceIn W tr top) e fuel ≡ evalTo objects d t (frameOf (valueOf W v) (some (markOf x)) (valuesFrom W (slotsAt A 0) 0 n)) (traceIn W tr top) e fuel
   unfolding frameIn
-  right-runs t e = evalTo-is d t (frameIn W (bodyFrame v (Is (Mark x)) A n owner)) (traceIn W tr top) e fuel
+  right-runs t e = evalTo-is objects d t (frameIn W (bodyFrame v (Is (Mark x)) A n owner)) (traceIn W tr top) e fuel
 
-  pub right-halt : (s : Stop) (fuel1 : ℕ) → o ≡ Halt s fuel1 → RunsRight T W tr top v (slotsAt A 0) n i next d sp fuel x W1 o
-  right-halt s fuel1 eo = subst (RunsRight T W tr top v (slotsAt A 0) n i next d sp fuel x W1) (sym eo) (record {
+  pub right-halt : (s : Stop) (fuel1 : ℕ) → o ≡ Halt s fuel1 → RunsRight T W tr top v (slotsAt A 0) n i next objects d sp fuel x W1 o
+  right-halt s fuel1 eo = subst (RunsRight T W tr top v (slotsAt A 0) n i next objects d sp fuel x W1) (sym eo) (record {
     kept = kept-right;
     older = tt;
     is = λ t k tb ek. record {
-      is = halted T W (bodyFrame v (Is (Mark x)) A n owner) tr top at nestingLimit d (sp + 4) fuel W1 o ev s fuel1 eo t (k .right) (right-reads T t tb i k ek at ea) ∙ right-runs t (k .right);
+      is = halted T W (bodyFrame v (Is (Mark x)) A n owner) tr top at nestingLimit objects d (sp + 4) fuel W1 o ev s fuel1 eo t (k .right) (right-reads T t tb i k ek at ea) ∙ right-runs t (k .right);
       next = tt;
     };
   })
 
   pub right-value : (u : ValueRef) (at1 fuel1 : ℕ) (W2 : List ℕ) (r : ValueRef) → o ≡ Value u at1 fuel1 → Gives W1 sp W2 r (valueOf W1 u)
-      → RunsRight T W tr top v (slotsAt A 0) n i next d sp fuel x W2 (Value r next fuel1)
+      → RunsRight T W tr top v (slotsAt A 0) n i next objects d sp fuel x W2 (Value r next fuel1)
   right-value u at1 fuel1 W2 r eo b = record {
     kept = kept-then sp sp W W1 W2 (omega arith) kept-right (kept-outside sp W1 W2 (b .outside));
     older = record { held = b .held; low = b .place };
     is = λ t k tb ek. record {
       is = ap (λ (g : Graph). value g fuel1) (b .is)
-          ∙ given T W (bodyFrame v (Is (Mark x)) A n owner) tr top at nestingLimit d (sp + 4) fuel W1 o ev u at1 fuel1 eo t (k .right) (right-reads T t tb i k ek at ea) ∙ right-runs t (k .right);
+          ∙ given T W (bodyFrame v (Is (Mark x)) A n owner) tr top at nestingLimit objects d (sp + 4) fuel W1 o ev u at1 fuel1 eo t (k .right) (right-reads T t tb i k ek at ea) ∙ right-runs t (k .right);
       next = refl;
     };
   }
 
-module _ (T W tr : List ℕ) (top : ℕ) (v : ValueRef) (A : List ℕ) (n owner i next d sp fuel m : ℕ) (tr1 : List ℕ)
+module _ (T W tr : List ℕ) (top : ℕ) (v : ValueRef) (A : List ℕ) (n owner i next objects d sp fuel m : ℕ) (tr1 : List ℕ)
     (pu : CallPut tr top (sideCall v m (slotsAt A 0) n top) tr1) (at : ℕ) (ea : at ≡ leftOf T i) (W1 : List ℕ) (o : Out)
-    (ev : Evaluates T W (bodyFrame v Absent A n owner) tr1 (top + 1) at nestingLimit d (sp + 4) fuel W1 o) where
+    (ev : Evaluates T W (bodyFrame v Absent A n owner) tr1 (top + 1) at nestingLimit objects d (sp + 4) fuel W1 o) where
   kept-left : Kept sp W W1
   kept-left = kept-down sp (sp + 4) W W1 (omega arith) (ev .kept)
 
   trace-is : traceIn W tr1 (top + 1) ≡ opened (traceIn W tr top) (valueOf W v) m (valuesFrom W (slotsAt A 0) 0 n)
   trace-is = put-in tr top v m (slotsAt A 0) n tr1 pu W
 
-  left-runs : (t : Table) (e : Expr) → evalIn d t (frameIn W (bodyFrame v Absent A n owner)) (traceIn W tr1 (top + 1)) e fuel
-      ≡ evalTo 32 d t (frameOf (valueOf W v) none (valuesFrom W (slotsAt A 0) 0 n)) (opened (traceIn W tr top) (valueOf W v) m (valuesFrom W (slotsAt A 0) 0 n)) e fuel
+  left-runs : (t : Table) (e : Expr) → evalIn objects d t (frameIn W (bodyFrame v Absent A n owner)) (traceIn W tr1 (top + 1)) e fuel
+      ≡ evalTo objects d t (frameOf (valueOf W v) none (valuesFrom W (slotsAt A 0) 0 n)) (opened (traceIn W tr top) (valueOf W v) m (valuesFrom W (slotsAt A 0) 0 n)) e fuel
   unfolding frameIn
   left-runs t e =
-      ap (λ (os : List language.OpenCall). evalIn d t (frameIn W (bodyFrame v Absent A n owner)) os e fuel) trace-is
-      ∙ evalTo-is d t (frameIn W (bodyFrame v Absent A n owner)) (opened (traceIn W tr top) (valueOf W v) m (valuesFrom W (slotsAt A 0) 0 n)) e fuel
+      ap (λ (os : List language.OpenCall). evalIn objects d t (frameIn W (bodyFrame v Absent A n owner)) os e fuel) trace-is
+      ∙ evalTo-is objects d t (frameIn W (bodyFrame v Absent A n owner)) (opened (traceIn W tr top) (valueOf W v) m (valuesFrom W (slotsAt A 0) 0 n)) e fuel
 
-  pub left-halt : (s : Stop) (fuel1 : ℕ) → o ≡ Halt s fuel1 → RunsLeft T W tr top v (slotsAt A 0) n i next d sp fuel m W1 o
-  left-halt s fuel1 eo = subst (RunsLeft T W tr top v (slotsAt A 0) n i next d sp fuel m W1) (sym eo) (record {
+  pub left-halt : (s : Stop) (fuel1 : ℕ) → o ≡ Halt s fuel1 → RunsLeft T W tr top v (slotsAt A 0) n i next objects d sp fuel m W1 o
+  left-halt s fuel1 eo = subst (RunsLeft T W tr top v (slotsAt A 0) n i next objects d sp fuel m W1) (sym eo) (record {
     kept = kept-left;
     older = tt;
     is = λ t k tb ek. record {
-      is = going-on (stopped (stopOf s) fuel1) (evalTo 32 d t (frameOf (valueOf W v) none (valuesFrom W (slotsAt A 0) 0 n)) (opened (traceIn W tr top) (valueOf W v) m (valuesFrom W (slotsAt A 0) 0 n)) (k .left) fuel)
+      is = going-on (stopped (stopOf s) fuel1) (evalTo objects d t (frameOf (valueOf W v) none (valuesFrom W (slotsAt A 0) 0 n)) (opened (traceIn W tr top) (valueOf W v) m (valuesFrom W (slotsAt A 0) 0 n)) (k .left) fuel)
           (λ u n′. value (close (length (traceIn W tr top)) u) n′)
-          (halted T W (bodyFrame v Absent A n owner) tr1 (top + 1) at nestingLimit d (sp + 4) fuel W1 o ev s fuel1 eo t (k .left) (left-reads T t tb i k ek at ea) ∙ left-runs t (k .left));
+          (halted T W (bodyFrame v Absent A n owner) tr1 (top + 1) at nestingLimit objects d (sp + 4) fuel W1 o ev s fuel1 eo t (k .left) (left-reads T t tb i k ek at ea) ∙ left-runs t (k .left));
       next = tt;
     };
   })
 
   pub left-value : (u : ValueRef) (at1 fuel1 : ℕ) (W2 : List ℕ) (r : ValueRef) → o ≡ Value u at1 fuel1 → Gives W1 sp W2 r (close top (valueOf W1 u))
-      → RunsLeft T W tr top v (slotsAt A 0) n i next d sp fuel m W2 (Value r next fuel1)
+      → RunsLeft T W tr top v (slotsAt A 0) n i next objects d sp fuel m W2 (Value r next fuel1)
   left-value u at1 fuel1 W2 r eo g = record {
     kept = kept-then sp sp W W1 W2 (omega arith) kept-left (kept-outside sp W1 W2 (g .outside));
     older = record { held = g .held; low = g .place };
     is = λ t k tb ek. record {
       is = ap (λ (w : Graph). value w fuel1) (g .is ∙ ap (λ (x : ℕ). close x (valueOf W1 u)) (sym (trace-length W tr top)))
-          ∙ going-on (value (valueOf W1 u) fuel1) (evalTo 32 d t (frameOf (valueOf W v) none (valuesFrom W (slotsAt A 0) 0 n)) (opened (traceIn W tr top) (valueOf W v) m (valuesFrom W (slotsAt A 0) 0 n)) (k .left) fuel)
+          ∙ going-on (value (valueOf W1 u) fuel1) (evalTo objects d t (frameOf (valueOf W v) none (valuesFrom W (slotsAt A 0) 0 n)) (opened (traceIn W tr top) (valueOf W v) m (valuesFrom W (slotsAt A 0) 0 n)) (k .left) fuel)
           (λ w n′. value (close (length (traceIn W tr top)) w) n′)
-          (given T W (bodyFrame v Absent A n owner) tr1 (top + 1) at nestingLimit d (sp + 4) fuel W1 o ev u at1 fuel1 eo t (k .left) (left-reads T t tb i k ek at ea) ∙ left-runs t (k .left));
+          (given T W (bodyFrame v Absent A n owner) tr1 (top + 1) at nestingLimit objects d (sp + 4) fuel W1 o ev u at1 fuel1 eo t (k .left) (left-reads T t tb i k ek at ea) ∙ left-runs t (k .left));
       next = refl;
     };
   }

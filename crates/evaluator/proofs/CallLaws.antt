@@ -60,37 +60,37 @@ finds-none ds f x (Finds.at {i = j} {d = d} e) q = absurd (let z : suc j ≡ 0 =
 finds-none ds f x Finds.nothing q = refl
 
 -- ---- a call, its receiver known
-abbrev chosen : ℕ → Table → language.Frame → List language.OpenCall → ℕ → Exprs → Graph → Option Method → ℕ → Outcome Graph
-chosen d t p os m es v x n = orStuck x n then λ k n″. (evalsIn d t p os es n″ then λ vs n‴. invoke (deeper d t) os v m vs k n‴)
+abbrev chosen : ℕ → ℕ → Table → language.Frame → List language.OpenCall → ℕ → Exprs → Graph → Option Method → ℕ → Outcome Graph
+chosen objects d t p os m es v x n = orStuck x n then λ k n″. (evalsIn objects d t p os es n″ then λ vs n‴. invoke (deeper objects d t) os v m vs k n‴)
 
-call-step : (d : ℕ) (t : Table) (p : language.Frame) (os : List language.OpenCall) (m : ℕ) (e : Expr) (es : Exprs) (fuel : ℕ) (y : Outcome Graph) → y ≡ evalIn d t p os e fuel
-    → (y then λ v n′. chosen d t p os m es v (target t v m (count es)) n′) ≡ evalIn d t p os (call m e es) fuel
+call-step : (objects d : ℕ) (t : Table) (p : language.Frame) (os : List language.OpenCall) (m : ℕ) (e : Expr) (es : Exprs) (fuel : ℕ) (y : Outcome Graph) → y ≡ evalIn objects d t p os e fuel
+    → (y then λ v n′. chosen objects d t p os m es v (target t v m (count es)) n′) ≡ evalIn objects d t p os (call m e es) fuel
 unfolding eval
-call-step d t p os m e es fuel y q = going-on y (evalIn d t p os e fuel) (λ v n′. chosen d t p os m es v (target t v m (count es)) n′) q
+call-step objects d t p os m e es fuel y q = going-on y (evalIn objects d t p os e fuel) (λ v n′. chosen objects d t p os m es v (target t v m (count es)) n′) q
 
-module _ (T W : List ℕ) (f : Frame) (tr : List ℕ) (top at left d sp fuel m n : ℕ) where
-  pub call-flat : left ≡ 0 → Calls T W f tr top at left d sp fuel m n W (Halt Stuck fuel)
+module _ (T W : List ℕ) (f : Frame) (tr : List ℕ) (top at left objects d sp fuel m n : ℕ) where
+  pub call-flat : left ≡ 0 → Calls T W f tr top at left objects d sp fuel m n W (Halt Stuck fuel)
   call-flat z = record { kept = kept-none sp W; older = tt; is = λ t e es small r rs c. absurd (nested-none left e z (r .nested)) }
 
-  module _ (W1 : List ℕ) (o : Out) (ev : Evaluates T W f tr top at left d sp fuel W1 o) where
-    pub call-halt : (s : Stop) (fuel1 : ℕ) → o ≡ Halt s fuel1 → Calls T W f tr top at left d sp fuel m n W1 o
-    call-halt s fuel1 eo = subst (Calls T W f tr top at left d sp fuel m n W1) (sym eo) (record {
+  module _ (W1 : List ℕ) (o : Out) (ev : Evaluates T W f tr top at left objects d sp fuel W1 o) where
+    pub call-halt : (s : Stop) (fuel1 : ℕ) → o ≡ Halt s fuel1 → Calls T W f tr top at left objects d sp fuel m n W1 o
+    call-halt s fuel1 eo = subst (Calls T W f tr top at left objects d sp fuel m n W1) (sym eo) (record {
       kept = ev .kept;
       older = tt;
       is = λ t e es small r rs c. record {
-        is = call-step d t (frameIn W f) (traceIn W tr top) m e es fuel (stopped (stopOf s) fuel1) (halted T W f tr top at left d sp fuel W1 o ev s fuel1 eo t e r);
+        is = call-step objects d t (frameIn W f) (traceIn W tr top) m e es fuel (stopped (stopOf s) fuel1) (halted T W f tr top at left objects d sp fuel W1 o ev s fuel1 eo t e r);
         next = tt;
       };
     })
 
     module _ (v : ValueRef) (at1 fuel1 : ℕ) (eo : o ≡ Value v at1 fuel1) (w : Found) (fi : FindsTarget T W1 v m n w) where
       target-is : (t : Table) (e : Expr) (es : Exprs) → Reads T left at t e → count es ≡ n → (x : Option Method) → target t (valueOf W1 v) m n ≡ x
-          → chosen d t (frameIn W f) (traceIn W tr top) m es (valueOf W1 v) x fuel1 ≡ evalIn d t (frameIn W f) (traceIn W tr top) (call m e es) fuel
+          → chosen objects d t (frameIn W f) (traceIn W tr top) m es (valueOf W1 v) x fuel1 ≡ evalIn objects d t (frameIn W f) (traceIn W tr top) (call m e es) fuel
       target-is t e es r c x q =
-          ap (λ (y : Option Method). chosen d t (frameIn W f) (traceIn W tr top) m es (valueOf W1 v) y fuel1) (sym q ∙ ap (target t (valueOf W1 v) m) (sym c))
-          ∙ call-step d t (frameIn W f) (traceIn W tr top) m e es fuel (value (valueOf W1 v) fuel1) (given T W f tr top at left d sp fuel W1 o ev v at1 fuel1 eo t e r)
+          ap (λ (y : Option Method). chosen objects d t (frameIn W f) (traceIn W tr top) m es (valueOf W1 v) y fuel1) (sym q ∙ ap (target t (valueOf W1 v) m) (sym c))
+          ∙ call-step objects d t (frameIn W f) (traceIn W tr top) m e es fuel (value (valueOf W1 v) fuel1) (given T W f tr top at left objects d sp fuel W1 o ev v at1 fuel1 eo t e r)
 
-      pub call-none : w ≡ found.Nothing → Calls T W f tr top at left d sp fuel m n W1 (Halt Stuck fuel1)
+      pub call-none : w ≡ found.Nothing → Calls T W f tr top at left objects d sp fuel m n W1 (Halt Stuck fuel1)
       call-none ew = record {
         kept = ev .kept;
         older = tt;
@@ -100,58 +100,58 @@ module _ (T W : List ℕ) (f : Frame) (tr : List ℕ) (top at left d sp fuel m n
         };
       }
 
-      pub call-is : (i : ℕ) (W2 : List ℕ) (x : Out) → Fits W f tr top (left + 1) d sp → w ≡ found.At i → CallsWith T W1 f tr top at1 left d sp fuel1 v m n i W2 x
-          → Calls T W f tr top at left d sp fuel m n W2 x
+      pub call-is : (i : ℕ) (W2 : List ℕ) (x : Out) → Fits W f tr top (left + 1) objects d sp → w ≡ found.At i → CallsWith T W1 f tr top at1 left objects d sp fuel1 v m n i W2 x
+          → Calls T W f tr top at left objects d sp fuel m n W2 x
       call-is i W2 x fit ew cw = record { kept = kept-then sp sp W W1 W2 (omega arith) (ev .kept) (cw .kept); older = cw .older; is = shows }
         where
           shows : (t : Table) (e : Expr) (es : Exprs) → m < 256 → Reads T left at t e → ReadsAll T left (at + length (codeOf e)) t es → count es ≡ n
-              → Shows W2 x (at + length (codeOf e) + length (codesOf es)) (evalIn d t (frameIn W f) (traceIn W tr top) (call m e es) fuel)
+              → Shows W2 x (at + length (codeOf e) + length (codesOf es)) (evalIn objects d t (frameIn W f) (traceIn W tr top) (call m e es) fuel)
           shows t e es small r rs c =
-              let a1 = given-next T W f tr top at left d sp fuel W1 o ev v at1 fuel1 eo t e r in
+              let a1 = given-next T W f tr top at left objects d sp fuel W1 o ev v at1 fuel1 eo t e r in
               let k = finds-at (t .methods) w (target t (valueOf W1 v) m n) (fi .is t (r .table) small) i ew in
               let z = cw .is t es (k .method) (subst (λ (p : ℕ). ReadsAll T left p t es) (sym a1) rs) c (k .here) in
               let ef = frame-same W W1 sp (ev .kept) f (fit .frame) in
               let et = trace-same W W1 sp (ev .kept) tr top (fit .trace) in
-              let same : (evalsIn d t (frameIn W1 f) (traceIn W1 tr top) es fuel1 then λ vs n′. invoke (deeper d t) (traceIn W1 tr top) (valueOf W1 v) m vs (k .method) n′)
-              ≡ (evalsIn d t (frameIn W f) (traceIn W tr top) es fuel1 then λ vs n′. invoke (deeper d t) (traceIn W tr top) (valueOf W1 v) m vs (k .method) n′)
-              = (λ j. evalsIn d t (ef j) (et j) es fuel1 then λ vs n′. invoke (deeper d t) (et j) (valueOf W1 v) m vs (k .method) n′) in
-              subst (λ (p : ℕ). Shows W2 x (p + length (codesOf es)) (evalIn d t (frameIn W f) (traceIn W tr top) (call m e es) fuel)) a1
+              let same : (evalsIn objects d t (frameIn W1 f) (traceIn W1 tr top) es fuel1 then λ vs n′. invoke (deeper objects d t) (traceIn W1 tr top) (valueOf W1 v) m vs (k .method) n′)
+              ≡ (evalsIn objects d t (frameIn W f) (traceIn W tr top) es fuel1 then λ vs n′. invoke (deeper objects d t) (traceIn W tr top) (valueOf W1 v) m vs (k .method) n′)
+              = (λ j. evalsIn objects d t (ef j) (et j) es fuel1 then λ vs n′. invoke (deeper objects d t) (et j) (valueOf W1 v) m vs (k .method) n′) in
+              subst (λ (p : ℕ). Shows W2 x (p + length (codesOf es)) (evalIn objects d t (frameIn W f) (traceIn W tr top) (call m e es) fuel)) a1
               (record { is = z .is ∙ same ∙ target-is t e es r c (some (k .method)) (k .is); next = z .next })
 
 -- ---- the arguments
-module _ (T W : List ℕ) (f : Frame) (tr : List ℕ) (top at left d sp fuel : ℕ) (v : ValueRef) (m n i : ℕ) (fit : ArgsFit W f tr top left d sp v n) (W1 : List ℕ) (l : Listed)
-    (li : Lists T W f tr top at left d (sp + 1) fuel n W1 l) where
+module _ (T W : List ℕ) (f : Frame) (tr : List ℕ) (top at left objects d sp fuel : ℕ) (v : ValueRef) (m n i : ℕ) (fit : ArgsFit W f tr top left objects d sp v n) (W1 : List ℕ) (l : Listed)
+    (li : Lists T W f tr top at left objects d (sp + 1) fuel n W1 l) where
   kept-args : Kept sp W W1
   kept-args = kept-down sp (sp + 1) W W1 (omega arith) (li .kept)
 
-  pub args-halt : (s : Stop) (fuel1 : ℕ) (o : Out) → l ≡ Stops s fuel1 → o ≡ Halt s fuel1 → CallsWith T W f tr top at left d sp fuel v m n i W1 o
-  args-halt s fuel1 o el eo = subst (CallsWith T W f tr top at left d sp fuel v m n i W1) (sym eo) (record {
+  pub args-halt : (s : Stop) (fuel1 : ℕ) (o : Out) → l ≡ Stops s fuel1 → o ≡ Halt s fuel1 → CallsWith T W f tr top at left objects d sp fuel v m n i W1 o
+  args-halt s fuel1 o el eo = subst (CallsWith T W f tr top at left objects d sp fuel v m n i W1) (sym eo) (record {
     kept = kept-args;
     older = tt;
     is = λ t es k rs c ek. record {
-      is = going-on (stopped (stopOf s) fuel1) (evalsIn d t (frameIn W f) (traceIn W tr top) es fuel) (λ vs n′. invoke (deeper d t) (traceIn W tr top) (valueOf W v) m vs k n′)
-          (all-halted T W f tr top at left d (sp + 1) fuel n W1 l li s fuel1 el t es rs c);
+      is = going-on (stopped (stopOf s) fuel1) (evalsIn objects d t (frameIn W f) (traceIn W tr top) es fuel) (λ vs n′. invoke (deeper objects d t) (traceIn W tr top) (valueOf W v) m vs k n′)
+          (all-halted T W f tr top at left objects d (sp + 1) fuel n W1 l li s fuel1 el t es rs c);
       next = tt;
     };
   })
 
   pub args-is : (a b c e : ValueRef) (at1 fuel1 : ℕ) (ps : List Slot) (W2 : List ℕ) (o : Out) → l ≡ Values a b c e at1 fuel1
-      → valuesFrom W1 ps 0 n ≡ valuesFrom W1 (slotsOf a b c e) 0 n → Invokes T W1 tr top v ps n i at1 d sp fuel1 m W2 o → CallsWith T W f tr top at left d sp fuel v m n i W2 o
+      → valuesFrom W1 ps 0 n ≡ valuesFrom W1 (slotsOf a b c e) 0 n → Invokes T W1 tr top v ps n i at1 objects d sp fuel1 m W2 o → CallsWith T W f tr top at left objects d sp fuel v m n i W2 o
   args-is a b c e at1 fuel1 ps W2 o el ep inv = record { kept = kept-then sp sp W W1 W2 (omega arith) kept-args (inv .kept); older = inv .older; is = shows }
     where
       shows : (t : Table) (es : Exprs) (k : Method) → ReadsAll T left at t es → count es ≡ n → getElem? (t .methods) i ≡ some k
-          → Shows W2 o (at + length (codesOf es)) (evalsIn d t (frameIn W f) (traceIn W tr top) es fuel then λ vs n′. invoke (deeper d t) (traceIn W tr top) (valueOf W v) m vs k n′)
+          → Shows W2 o (at + length (codesOf es)) (evalsIn objects d t (frameIn W f) (traceIn W tr top) es fuel then λ vs n′. invoke (deeper objects d t) (traceIn W tr top) (valueOf W v) m vs k n′)
       shows t es k rs q ek =
           let z = inv .is t k (rs .table) ek in
           let et = trace-same W W1 sp kept-args tr top (fit .fits .trace) in
           let eg = value-kept W W1 (sp + 1) (li .kept) v (fit .receiver) in
-          let same : invoke (deeper d t) (traceIn W1 tr top) (valueOf W1 v) m (valuesFrom W1 ps 0 n) k fuel1 ≡ invoke (deeper d t) (traceIn W tr top) (valueOf W v) m (valuesFrom W1 (slotsOf a b c e) 0 n) k fuel1
-          = (λ j. invoke (deeper d t) (et j) (eg j) m (ep j) k fuel1) in
-          subst (λ (p : ℕ). Shows W2 o p (evalsIn d t (frameIn W f) (traceIn W tr top) es fuel then λ vs n′. invoke (deeper d t) (traceIn W tr top) (valueOf W v) m vs k n′))
-          (all-next T W f tr top at left d (sp + 1) fuel n W1 l li a b c e at1 fuel1 el t es rs q)
+          let same : invoke (deeper objects d t) (traceIn W1 tr top) (valueOf W1 v) m (valuesFrom W1 ps 0 n) k fuel1 ≡ invoke (deeper objects d t) (traceIn W tr top) (valueOf W v) m (valuesFrom W1 (slotsOf a b c e) 0 n) k fuel1
+          = (λ j. invoke (deeper objects d t) (et j) (eg j) m (ep j) k fuel1) in
+          subst (λ (p : ℕ). Shows W2 o p (evalsIn objects d t (frameIn W f) (traceIn W tr top) es fuel then λ vs n′. invoke (deeper objects d t) (traceIn W tr top) (valueOf W v) m vs k n′))
+          (all-next T W f tr top at left objects d (sp + 1) fuel n W1 l li a b c e at1 fuel1 el t es rs q)
           (record {
-            is = z .is ∙ same ∙ going-on (value (valuesFrom W1 (slotsOf a b c e) 0 n) fuel1) (evalsIn d t (frameIn W f) (traceIn W tr top) es fuel) (λ vs n′. invoke (deeper d t) (traceIn W tr top) (valueOf W v) m vs k n′)
-                (all-given T W f tr top at left d (sp + 1) fuel n W1 l li a b c e at1 fuel1 el t es rs q);
+            is = z .is ∙ same ∙ going-on (value (valuesFrom W1 (slotsOf a b c e) 0 n) fuel1) (evalsIn objects d t (frameIn W f) (traceIn W tr top) es fuel) (λ vs n′. invoke (deeper objects d t) (traceIn W tr top) (valueOf W v) m vs k n′)
+                (all-given T W f tr top at left objects d (sp + 1) fuel n W1 l li a b c e at1 fuel1 el t es rs q);
             next = z .next;
           })
 
@@ -160,19 +160,19 @@ values-none : (W : List ℕ) (ps : List Slot) (n : ℕ) → n ≡ 0 → valuesFr
 unfolding valuesFrom
 values-none W ps n z = rw z
 
-pub args-none : (T W : List ℕ) (f : Frame) (tr : List ℕ) (top at left d sp fuel : ℕ) (v : ValueRef) (m n i : ℕ) → n ≡ 0 → (ps : List Slot) (W2 : List ℕ) (o : Out)
-    → Invokes T W tr top v ps n i at d sp fuel m W2 o → CallsWith T W f tr top at left d sp fuel v m n i W2 o
-args-none T W f tr top at left d sp fuel v m n i z ps W2 o inv = record { kept = inv .kept; older = inv .older; is = shows }
+pub args-none : (T W : List ℕ) (f : Frame) (tr : List ℕ) (top at left objects d sp fuel : ℕ) (v : ValueRef) (m n i : ℕ) → n ≡ 0 → (ps : List Slot) (W2 : List ℕ) (o : Out)
+    → Invokes T W tr top v ps n i at objects d sp fuel m W2 o → CallsWith T W f tr top at left objects d sp fuel v m n i W2 o
+args-none T W f tr top at left objects d sp fuel v m n i z ps W2 o inv = record { kept = inv .kept; older = inv .older; is = shows }
   where
     shows : (t : Table) (es : Exprs) (k : Method) → ReadsAll T left at t es → count es ≡ n → getElem? (t .methods) i ≡ some k
-        → Shows W2 o (at + length (codesOf es)) (evalsIn d t (frameIn W f) (traceIn W tr top) es fuel then λ vs n′. invoke (deeper d t) (traceIn W tr top) (valueOf W v) m vs k n′)
+        → Shows W2 o (at + length (codesOf es)) (evalsIn objects d t (frameIn W f) (traceIn W tr top) es fuel then λ vs n′. invoke (deeper objects d t) (traceIn W tr top) (valueOf W v) m vs k n′)
     shows t es k rs q ek =
         let a = inv .is t k (rs .table) ek in
-        let b = list-zero T W f tr top at left d sp fuel n v v v v z .is t es rs q in
-        subst (λ (p : ℕ). Shows W2 o p (evalsIn d t (frameIn W f) (traceIn W tr top) es fuel then λ vs n′. invoke (deeper d t) (traceIn W tr top) (valueOf W v) m vs k n′)) (b .next)
+        let b = list-zero T W f tr top at left objects d sp fuel n v v v v z .is t es rs q in
+        subst (λ (p : ℕ). Shows W2 o p (evalsIn objects d t (frameIn W f) (traceIn W tr top) es fuel then λ vs n′. invoke (deeper objects d t) (traceIn W tr top) (valueOf W v) m vs k n′)) (b .next)
         (record {
-          is = a .is ∙ ap (λ (vs : List Graph). invoke (deeper d t) (traceIn W tr top) (valueOf W v) m vs k fuel) (values-none W ps n z ∙ sym (values-none W (slotsOf v v v v) n z))
-              ∙ going-on (value (valuesFrom W (slotsOf v v v v) 0 n) fuel) (evalsIn d t (frameIn W f) (traceIn W tr top) es fuel) (λ vs n′. invoke (deeper d t) (traceIn W tr top) (valueOf W v) m vs k n′) (b .is);
+          is = a .is ∙ ap (λ (vs : List Graph). invoke (deeper objects d t) (traceIn W tr top) (valueOf W v) m vs k fuel) (values-none W ps n z ∙ sym (values-none W (slotsOf v v v v) n z))
+              ∙ going-on (value (valuesFrom W (slotsOf v v v v) 0 n) fuel) (evalsIn objects d t (frameIn W f) (traceIn W tr top) es fuel) (λ vs n′. invoke (deeper objects d t) (traceIn W tr top) (valueOf W v) m vs k n′) (b .is);
           next = a .next;
         })
 
@@ -214,11 +214,11 @@ module _ (t : Table) (os : List language.OpenCall) (v : Graph) (m : ℕ) (vs : L
   spent d zero z = refl
   spent d (suc n) z = absurd (omega arith)
 
-  too-deep : (d fuel : ℕ) → (fuel ≡ 0 → ⊥) → d ≡ 0 → stopped language.tooDeep (fuel - 1) ≡ invoke (deeper d t) os v m vs k fuel
+  too-deep : (objects d fuel : ℕ) → (fuel ≡ 0 → ⊥) → d ≡ 0 → stopped language.tooDeep (fuel - 1) ≡ invoke (deeper objects d t) os v m vs k fuel
   unfolding deeper invoke
-  too-deep zero zero nz z = absurd (nz refl)
-  too-deep zero (suc n) nz z = rw sub-one
-  too-deep (suc d) fuel nz z = absurd (omega arith)
+  too-deep objects zero zero nz z = absurd (nz refl)
+  too-deep objects zero (suc n) nz z = rw sub-one
+  too-deep objects (suc d) fuel nz z = absurd (omega arith)
 
   -- what a call gives whose bodies are evaluated by `body`, by the mark that it is open under
   abbrev sides : Deeper → ℕ → Option ℕ → Outcome Graph
@@ -227,50 +227,50 @@ module _ (t : Table) (os : List language.OpenCall) (v : Graph) (m : ℕ) (vs : L
     | none ↦ body (frameOf v none vs) (opened os v m vs) (k .left) n then λ u n′. value (close (length os) u) n′
   ]
 
-  side-is : (d fuel : ℕ) → (d ≡ 0 → ⊥) → (fuel ≡ 0 → ⊥) → (o : Option ℕ) → openMark os v m vs ≡ o
-      → sides (λ p xs e n. language.evalTo 32 (d - 1) t p xs e n) (fuel - 1) o ≡ invoke (deeper d t) os v m vs k fuel
+  side-is : (objects d fuel : ℕ) → (d ≡ 0 → ⊥) → (fuel ≡ 0 → ⊥) → (o : Option ℕ) → openMark os v m vs ≡ o
+      → sides (λ p xs e n. language.evalTo objects (d - 1) t p xs e n) (fuel - 1) o ≡ invoke (deeper objects d t) os v m vs k fuel
   unfolding deeper invoke
-  side-is zero fuel nd nz o q = absurd (nd refl)
-  side-is (suc d) zero nd nz o q = absurd (nz refl)
-  side-is (suc d) (suc n) nd nz o q = rw (sub-one, sub-one) (ap (sides (λ p xs e n. language.evalTo 32 d t p xs e n) n) (sym q))
+  side-is objects zero fuel nd nz o q = absurd (nd refl)
+  side-is objects (suc d) zero nd nz o q = absurd (nz refl)
+  side-is objects (suc d) (suc n) nd nz o q = rw (sub-one, sub-one) (ap (sides (λ p xs e n. language.evalTo objects d t p xs e n) n) (sym q))
 
-module _ (T W tr : List ℕ) (top : ℕ) (v : ValueRef) (ps : List Slot) (n i next d sp fuel m : ℕ) where
-  pub invoke-fuel : fuel ≡ 0 → Invokes T W tr top v ps n i next d sp fuel m W (Halt NoFuel fuel)
+module _ (T W tr : List ℕ) (top : ℕ) (v : ValueRef) (ps : List Slot) (n i next objects d sp fuel m : ℕ) where
+  pub invoke-fuel : fuel ≡ 0 → Invokes T W tr top v ps n i next objects d sp fuel m W (Halt NoFuel fuel)
   invoke-fuel z = record {
     kept = kept-none sp W;
     older = tt;
-    is = λ t k tb ek. record { is = spent t (traceIn W tr top) (valueOf W v) m (valuesFrom W ps 0 n) k (deeper d t) fuel z; next = tt };
+    is = λ t k tb ek. record { is = spent t (traceIn W tr top) (valueOf W v) m (valuesFrom W ps 0 n) k (deeper objects d t) fuel z; next = tt };
   }
 
   module _ (nf : fuel ≡ 0 → ⊥) where
-    pub invoke-deep : d ≡ 0 → Invokes T W tr top v ps n i next d sp fuel m W (Halt TooDeep (fuel - 1))
+    pub invoke-deep : d ≡ 0 → Invokes T W tr top v ps n i next objects d sp fuel m W (Halt TooDeep (fuel - 1))
     invoke-deep z = record {
       kept = kept-none sp W;
       older = tt;
-      is = λ t k tb ek. record { is = too-deep t (traceIn W tr top) (valueOf W v) m (valuesFrom W ps 0 n) k d fuel nf z; next = tt };
+      is = λ t k tb ek. record { is = too-deep t (traceIn W tr top) (valueOf W v) m (valuesFrom W ps 0 n) k objects d fuel nf z; next = tt };
     }
 
     module _ (nd : d ≡ 0 → ⊥) (h : Held) (eh : h ≡ metOf (openMark (traceIn W tr top) (valueOf W v) m (valuesFrom W ps 0 n))) (W′ : List ℕ) (o : Out) where
-      pub invoke-right : (y : ValueRef) → h ≡ Is y → RunsRight T W tr top v ps n i next (d - 1) sp (fuel - 1) (markIn y) W′ o → Invokes T W tr top v ps n i next d sp fuel m W′ o
+      pub invoke-right : (y : ValueRef) → h ≡ Is y → RunsRight T W tr top v ps n i next objects (d - 1) sp (fuel - 1) (markIn y) W′ o → Invokes T W tr top v ps n i next objects d sp fuel m W′ o
       unfolding traceIn
       invoke-right y ey r = record {
         kept = r .kept;
         older = r .older;
         is = λ t k tb ek. let z = r .is t k tb ek in record {
           is = z .is
-              ∙ side-is t (traceIn W tr top) (valueOf W v) m (valuesFrom W ps 0 n) k d fuel nd nf (some (markIn y)) (met-some (openMark (traceIn W tr top) (valueOf W v) m (valuesFrom W ps 0 n)) h eh y ey);
+              ∙ side-is t (traceIn W tr top) (valueOf W v) m (valuesFrom W ps 0 n) k objects d fuel nd nf (some (markIn y)) (met-some (openMark (traceIn W tr top) (valueOf W v) m (valuesFrom W ps 0 n)) h eh y ey);
           next = z .next;
         };
       }
 
-      pub invoke-left : h ≡ Absent → RunsLeft T W tr top v ps n i next (d - 1) sp (fuel - 1) m W′ o → Invokes T W tr top v ps n i next d sp fuel m W′ o
+      pub invoke-left : h ≡ Absent → RunsLeft T W tr top v ps n i next objects (d - 1) sp (fuel - 1) m W′ o → Invokes T W tr top v ps n i next objects d sp fuel m W′ o
       unfolding traceIn
       invoke-left ey r = record {
         kept = r .kept;
         older = r .older;
         is = λ t k tb ek. let z = r .is t k tb ek in record {
           is = z .is
-              ∙ side-is t (traceIn W tr top) (valueOf W v) m (valuesFrom W ps 0 n) k d fuel nd nf none (met-none (openMark (traceIn W tr top) (valueOf W v) m (valuesFrom W ps 0 n)) h eh ey);
+              ∙ side-is t (traceIn W tr top) (valueOf W v) m (valuesFrom W ps 0 n) k objects d fuel nd nf none (met-none (openMark (traceIn W tr top) (valueOf W v) m (valuesFrom W ps 0 n)) h eh ey);
           next = z .next;
         };
       }

@@ -67,13 +67,13 @@ module _ (A : List ℕ) (x : ValueRef) where
 module _ (T W : List ℕ) (f : Frame) (S : List ℕ) (p : Spot) (run : PartRunnable W f S p) where
   module _ (m n : ℕ) where
     pub call-nested : p .nesting ≡ 0 → CallStep T W f S p m n W S (done.Halt Stuck)
-    call-nested z = record { trace = traced-none (p .opened) S; runs = call-flat T W f S (p .opened) (p .at) (p .nesting) (p .calls) (p .block) (fuelOf S) m n z }
+    call-nested z = record { trace = traced-none (p .opened) S; runs = call-flat T W f S (p .opened) (p .at) (p .nesting) (p .objects) (p .calls) (p .block) (fuelOf S) m n z }
 
     module _ (W1 S1 : List ℕ) (o : Done) (ev : EvalStep T W f S p W1 S1 o) where
       pub call-stops : (s : Stop) → o ≡ done.Halt s → CallStep T W f S p m n W1 S1 o
       call-stops s e = record {
         trace = ev .trace;
-        runs = call-halt T W f S (p .opened) (p .at) (p .nesting) (p .calls) (p .block) (fuelOf S) m n W1 (outWith (fuelOf S1) o) (ev .runs) s (fuelOf S1) (ap (outWith (fuelOf S1)) e);
+        runs = call-halt T W f S (p .opened) (p .at) (p .nesting) (p .objects) (p .calls) (p .block) (fuelOf S) m n W1 (outWith (fuelOf S1) o) (ev .runs) s (fuelOf S1) (ap (outWith (fuelOf S1)) e);
       }
 
       module _ (v : ValueRef) (at : ℕ) (eo : o ≡ done.Value v at) where
@@ -81,24 +81,24 @@ module _ (T W : List ℕ) (f : Frame) (S : List ℕ) (p : Spot) (run : PartRunna
         value-is = ap (outWith (fuelOf S1)) eo
 
         pub receiver-there : Holds W1 v
-        receiver-there = given-older T W f S (p .opened) (p .at) (p .nesting) (p .calls) (p .block) (fuelOf S) W1 (outWith (fuelOf S1) o) (ev .runs) v at (fuelOf S1) value-is .held
+        receiver-there = given-older T W f S (p .opened) (p .at) (p .nesting) (p .objects) (p .calls) (p .block) (fuelOf S) W1 (outWith (fuelOf S1) o) (ev .runs) v at (fuelOf S1) value-is .held
 
         module _ (w : Found) (fi : FindsTarget T W1 v m n w) where
           pub call-lacks : w ≡ found.Nothing → CallStep T W f S p m n W1 S1 (done.Halt Stuck)
           call-lacks ew = record {
             trace = ev .trace;
-            runs = call-none T W f S (p .opened) (p .at) (p .nesting) (p .calls) (p .block) (fuelOf S) m n W1 (outWith (fuelOf S1) o) (ev .runs) v at (fuelOf S1) value-is w fi ew;
+            runs = call-none T W f S (p .opened) (p .at) (p .nesting) (p .objects) (p .calls) (p .block) (fuelOf S) m n W1 (outWith (fuelOf S1) o) (ev .runs) v at (fuelOf S1) value-is w fi ew;
           }
 
           module _ (nz : p .nesting ≡ 0 → ⊥) (i : ℕ) (ew : w ≡ found.At i) where
-            args-fit : ArgsFit W1 f S (p .opened) (p .nesting) (p .calls) (p .block) v n
+            args-fit : ArgsFit W1 f S (p .opened) (p .nesting) (p .objects) (p .calls) (p .block) v n
             args-fit =
-                fits.args-fit T W f S (p .opened) (p .at) (p .nesting) (p .calls) (p .block) (fuelOf S) W1 (outWith (fuelOf S1) o) (ev .runs) v at (fuelOf S1) m n w i (run .fits) nz value-is fi ew
+                fits.args-fit T W f S (p .opened) (p .at) (p .nesting) (p .objects) (p .calls) (p .block) (fuelOf S) W1 (outWith (fuelOf S1) o) (ev .runs) v at (fuelOf S1) m n w i (run .fits) nz value-is fi ew
 
-            call-by : (W2 : List ℕ) (x : Out) → CallsWith T W1 f S (p .opened) at (p .nesting) (p .calls) (p .block) (fuelOf S1) v m n i W2 x
-                → Calls T W f S (p .opened) (p .at) (p .nesting) (p .calls) (p .block) (fuelOf S) m n W2 x
+            call-by : (W2 : List ℕ) (x : Out) → CallsWith T W1 f S (p .opened) at (p .nesting) (p .objects) (p .calls) (p .block) (fuelOf S1) v m n i W2 x
+                → Calls T W f S (p .opened) (p .at) (p .nesting) (p .objects) (p .calls) (p .block) (fuelOf S) m n W2 x
             call-by W2 x cw =
-                call-is T W f S (p .opened) (p .at) (p .nesting) (p .calls) (p .block) (fuelOf S) m n W1 (outWith (fuelOf S1) o) (ev .runs) v at (fuelOf S1) value-is w fi i W2 x (run .fits) ew cw
+                call-is T W f S (p .opened) (p .at) (p .nesting) (p .objects) (p .calls) (p .block) (fuelOf S) m n W1 (outWith (fuelOf S1) o) (ev .runs) v at (fuelOf S1) value-is w fi i W2 x (run .fits) ew cw
 
             -- the call goes on at q
             module _ (q : Spot) (eq : q ≡ movedSpot p at (p .block)) where
@@ -108,7 +108,7 @@ module _ (T W : List ℕ) (f : Frame) (S : List ℕ) (p : Spot) (run : PartRunna
                 full = ev .trace .same ∙ run .full;
                 count = run .count;
                 fits = record {
-                  fits = fits-on (p .opened) S S1 (ev .trace) W1 f (p .nesting + 1) (p .calls) (p .block) (args-fit .fits);
+                  fits = fits-on (p .opened) S S1 (ev .trace) W1 f (p .nesting + 1) (p .objects) (p .calls) (p .block) (args-fit .fits);
                   deep = nz;
                   receiver = args-fit .receiver;
                   few = args-fit .few;
@@ -121,7 +121,7 @@ module _ (T W : List ℕ) (f : Frame) (S : List ℕ) (p : Spot) (run : PartRunna
                   subst (CallStep T W f S p m n W2 S2) (sym er) (record {
                     trace = traced-then (p .opened) S S1 S2 (ev .trace) (y .trace);
                     runs = call-by W2 (outWith (fuelOf S2) x)
-                        (calls-with-on (p .opened) S S1 (ev .trace) T W1 f at (p .nesting) (p .calls) (p .block) (fuelOf S1) v m n i W2 (outWith (fuelOf S2) x) (y .runs));
+                        (calls-with-on (p .opened) S S1 (ev .trace) T W1 f at (p .nesting) (p .objects) (p .calls) (p .block) (fuelOf S1) v m n i W2 (outWith (fuelOf S2) x) (y .runs));
                   })
 
 -- ---- its arguments (eval_call)
@@ -140,6 +140,7 @@ module _ (T W : List ℕ) (f : Frame) (S : List ℕ) (p : Spot) (v : ValueRef) (
             args = record { full = omega arith; part = λ j l. absurd (omega arith) };
             few = run .fits .few;
             calls = run .fits .fits .calls;
+            limit = run .fits .fits .limit;
             room = omega (arith, run .fits .deep);
             long = run .fits .fits .long;
           };
@@ -148,7 +149,7 @@ module _ (T W : List ℕ) (f : Frame) (S : List ℕ) (p : Spot) (v : ValueRef) (
     pub direct-is : (W2 S2 : List ℕ) (r : Done) → InvokeStep T W S v A n i m p W2 S2 r → (x : Done) → x ≡ r → ArgsStep T W f S p v m n i W2 S2 x
     direct-is W2 S2 r inv x ex = subst (ArgsStep T W f S p v m n i W2 S2) (sym ex) (record {
       trace = inv .trace;
-      runs = args-none T W f S (p .opened) (p .at) (p .nesting) (p .calls) (p .block) (fuelOf S) v m n i z (slotsAt A 0) W2 (outWith (fuelOf S2) r) (inv .runs);
+      runs = args-none T W f S (p .opened) (p .at) (p .nesting) (p .objects) (p .calls) (p .block) (fuelOf S) v m n i z (slotsAt A 0) W2 (outWith (fuelOf S2) r) (inv .runs);
     })
 
   -- they are evaluated
@@ -158,7 +159,7 @@ module _ (T W : List ℕ) (f : Frame) (S : List ℕ) (p : Spot) (v : ValueRef) (
       based = record { bares = run .based .bares; above = omega arith };
       full = run .full;
       count = run .count;
-      fits = fits.args-list W f S (p .opened) (p .nesting) (p .calls) (p .block) v n (run .fits);
+      fits = fits.args-list W f S (p .opened) (p .nesting) (p .objects) (p .calls) (p .block) v n (run .fits);
     })
 
     module _ (W2 S2 A : List ℕ) (l : Walked) (ls : ListStep T W f S q n W2 S2 A l) where
@@ -168,7 +169,7 @@ module _ (T W : List ℕ) (f : Frame) (S : List ℕ) (p : Spot) (v : ValueRef) (
       pub args-stop : (s : Stop) → l ≡ walked.Halt s → (x : Done) → x ≡ haltsAs l → ArgsStep T W f S p v m n i W2 S2 x
       args-stop s el x ex = record {
         trace = li .trace;
-        runs = args-halt T W f S (p .opened) (p .at) (p .nesting) (p .calls) (p .block) (fuelOf S) v m n i (run .fits) W2 (listFrom (fuelOf S2) A 0 l) (li .runs) s (fuelOf S2) (outWith (fuelOf S2) x)
+        runs = args-halt T W f S (p .opened) (p .at) (p .nesting) (p .objects) (p .calls) (p .block) (fuelOf S) v m n i (run .fits) W2 (listFrom (fuelOf S2) A 0 l) (li .runs) s (fuelOf S2) (outWith (fuelOf S2) x)
             (ap (listFrom (fuelOf S2) A 0) el) (ap (outWith (fuelOf S2)) (ex ∙ ap haltsAs el));
       }
 
@@ -176,9 +177,9 @@ module _ (T W : List ℕ) (f : Frame) (S : List ℕ) (p : Spot) (v : ValueRef) (
         values-are : listFrom (fuelOf S2) A 0 l ≡ Values (refIn (getD A 0 0)) (refIn (getD A 1 0)) (refIn (getD A 2 0)) (refIn (getD A 3 0)) next (fuelOf S2)
         values-are = ap (listFrom (fuelOf S2) A 0) el
 
-        fit-there : CallFits W2 S (p .opened) v (slotsAt A 0) n (p .calls) (p .block)
+        fit-there : CallFits W2 S (p .opened) v (slotsAt A 0) n (p .objects) (p .calls) (p .block)
         fit-there =
-            fits.call-fit T W f S (p .opened) (p .at) (p .nesting) (p .calls) (p .block) (fuelOf S) v n W2 (listFrom (fuelOf S2) A 0 l) (refIn (getD A 0 0)) (refIn (getD A 1 0)) (refIn (getD A 2 0)) (refIn (getD A 3 0)) next (fuelOf S2)
+            fits.call-fit T W f S (p .opened) (p .at) (p .nesting) (p .objects) (p .calls) (p .block) (fuelOf S) v n W2 (listFrom (fuelOf S2) A 0 l) (refIn (getD A 0 0)) (refIn (getD A 1 0)) (refIn (getD A 2 0)) (refIn (getD A 3 0)) next (fuelOf S2)
             (slotsAt A 0) (run .fits) (li .runs) values-are (omega (arith, run .fits .few, slots-length A)) (slots-first A (refIn (getD A 3 0)) n (run .fits .few))
 
         pub call-run : CallRunnable W2 S2 v A n q2
@@ -191,6 +192,7 @@ module _ (T W : List ℕ) (f : Frame) (S : List ℕ) (p : Spot) (v : ValueRef) (
             args = fit-there .args;
             few = fit-there .few;
             calls = fit-there .calls;
+            limit = fit-there .limit;
             room = fit-there .room;
             long = fit-there .long;
           };
@@ -201,10 +203,10 @@ module _ (T W : List ℕ) (f : Frame) (S : List ℕ) (p : Spot) (v : ValueRef) (
             let iv : InvokeStep T W2 S2 v A n i m (movedSpot p next (p .block)) W3 S3 r = subst (λ (y : Spot). InvokeStep T W2 S2 v A n i m y W3 S3 r) eq2 inv in
             subst (ArgsStep T W f S p v m n i W3 S3) (sym ex) (record {
               trace = traced-then (p .opened) S S2 S3 (li .trace) (iv .trace);
-              runs = args-is T W f S (p .opened) (p .at) (p .nesting) (p .calls) (p .block) (fuelOf S) v m n i (run .fits) W2 (listFrom (fuelOf S2) A 0 l) (li .runs)
+              runs = args-is T W f S (p .opened) (p .at) (p .nesting) (p .objects) (p .calls) (p .block) (fuelOf S) v m n i (run .fits) W2 (listFrom (fuelOf S2) A 0 l) (li .runs)
                   (refIn (getD A 0 0)) (refIn (getD A 1 0)) (refIn (getD A 2 0)) (refIn (getD A 3 0)) next (fuelOf S2) (slotsAt A 0) W3 (outWith (fuelOf S3) r) values-are
                   (slots-values A (refIn (getD A 3 0)) W2 n (run .fits .few))
-                  (invokes-on (p .opened) S S2 (li .trace) T W2 v (slotsAt A 0) n i next (p .calls) (p .block) (fuelOf S2) m W3 (outWith (fuelOf S3) r) (iv .runs));
+                  (invokes-on (p .opened) S S2 (li .trace) T W2 v (slotsAt A 0) n i next (p .objects) (p .calls) (p .block) (fuelOf S2) m W3 (outWith (fuelOf S3) r) (iv .runs));
             })
 
 -- ---- no evaluation changes how long the work buffer is
@@ -281,42 +283,43 @@ module _ (W S : List ℕ) (v : ValueRef) (A : List ℕ) (n : ℕ) (p : Spot) (ru
   spent-trace : Traced (p .opened) S less
   spent-trace = traced-fuel (p .opened) S (fuelOf S - 1) few-open (run .full) (omega arith)
 
-  spent-fits : CallFits W less (p .opened) v (slotsAt A 0) n (p .calls) (p .block)
+  spent-fits : CallFits W less (p .opened) v (slotsAt A 0) n (p .objects) (p .calls) (p .block)
   spent-fits = record {
     trace = calls-on (p .opened) S less spent-trace W (p .block) (run .fits .trace);
     receiver = run .fits .receiver;
     args = run .fits .args;
     few = run .fits .few;
     calls = run .fits .calls;
+    limit = run .fits .limit;
     room = run .fits .room;
     long = run .fits .long;
   }
 
   pub spent-calls : CallsHold W (set S fuelAt (fuelOf S - 1)) (p .opened)
-  spent-calls = fits.calls-held W less (p .opened) v (slotsAt A 0) n (p .calls) (p .block) spent-fits
+  spent-calls = fits.calls-held W less (p .opened) v (slotsAt A 0) n (p .objects) (p .calls) (p .block) spent-fits
 
   pub spent-body : (p .calls ≡ 0 → ⊥) → BodyRunnable W (set S fuelAt (fuelOf S - 1)) v A n p
   spent-body nd = record {
     based = run .based;
     full = spent-trace .same ∙ run .full;
-    fits = fits.body-fit W less (p .opened) v (slotsAt A 0) n (p .calls) (p .block) spent-fits nd;
+    fits = fits.body-fit W less (p .opened) v (slotsAt A 0) n (p .objects) (p .calls) (p .block) spent-fits nd;
     deep = nd;
   }
 
   pub spent-mark : (m : ℕ) (h : Held) → h ≡ metOf (openMark (traceIn W (set S fuelAt (fuelOf S - 1)) (p .opened)) (valueOf W v) m (valuesFrom W (slotsAt A 0) 0 n))
       → (y : ValueRef) → h ≡ Is y → MarkGiven y
-  spent-mark m h e y q = fits.mark-given W less (p .opened) v (slotsAt A 0) n (p .calls) (p .block) m h spent-fits e y q
+  spent-mark m h e y q = fits.mark-given W less (p .opened) v (slotsAt A 0) n (p .objects) (p .calls) (p .block) m h spent-fits e y q
 
   module _ (T : List ℕ) (m i : ℕ) where
     pub invoke-stops : fuelOf S ≡ 0 → InvokeStep T W S v A n i m p W S (done.Halt NoFuel)
-    invoke-stops z = record { trace = traced-none (p .opened) S; runs = invoke-fuel T W S (p .opened) v (slotsAt A 0) n i (p .at) (p .calls) (p .block) (fuelOf S) m z }
+    invoke-stops z = record { trace = traced-none (p .opened) S; runs = invoke-fuel T W S (p .opened) v (slotsAt A 0) n i (p .at) (p .objects) (p .calls) (p .block) (fuelOf S) m z }
 
     module _ (nf : fuelOf S ≡ 0 → ⊥) where
       pub invoke-sinks : p .calls ≡ 0 → InvokeStep T W S v A n i m p W (set S fuelAt (fuelOf S - 1)) (done.Halt TooDeep)
       invoke-sinks z = record {
         trace = spent-trace;
-        runs = subst (λ (u : ℕ). Invokes T W S (p .opened) v (slotsAt A 0) n i (p .at) (p .calls) (p .block) (fuelOf S) m W (Halt TooDeep u)) (sym fuel-left)
-            (invoke-deep T W S (p .opened) v (slotsAt A 0) n i (p .at) (p .calls) (p .block) (fuelOf S) m nf z);
+        runs = subst (λ (u : ℕ). Invokes T W S (p .opened) v (slotsAt A 0) n i (p .at) (p .objects) (p .calls) (p .block) (fuelOf S) m W (Halt TooDeep u)) (sym fuel-left)
+            (invoke-deep T W S (p .opened) v (slotsAt A 0) n i (p .at) (p .objects) (p .calls) (p .block) (fuelOf S) m nf z);
       }
 
       module _ (nd : p .calls ≡ 0 → ⊥) (h : Held) (eh : h ≡ metOf (openMark (traceIn W (set S fuelAt (fuelOf S - 1)) (p .opened)) (valueOf W v) m (valuesFrom W (slotsAt A 0) 0 n)))
@@ -324,17 +327,17 @@ module _ (W S : List ℕ) (v : ValueRef) (A : List ℕ) (n : ℕ) (p : Spot) (ru
         pub invoke-goes-right : (y : ValueRef) → h ≡ Is y → RightStep T W (set S fuelAt (fuelOf S - 1)) v A n i p y W′ S′ o → InvokeStep T W S v A n i m p W′ S′ o
         invoke-goes-right y ey r = record {
           trace = traced-then (p .opened) S less S′ spent-trace (r .trace);
-          runs = invokes-on (p .opened) S less spent-trace T W v (slotsAt A 0) n i (p .at) (p .calls) (p .block) (fuelOf S) m W′ (outWith (fuelOf S′) o)
-              (invoke-right T W less (p .opened) v (slotsAt A 0) n i (p .at) (p .calls) (p .block) (fuelOf S) m nf nd h eh W′ (outWith (fuelOf S′) o) y ey
-              (subst (λ (u : ℕ). RunsRight T W less (p .opened) v (slotsAt A 0) n i (p .at) (p .calls - 1) (p .block) u (markIn y) W′ (outWith (fuelOf S′) o)) fuel-left (r .runs)));
+          runs = invokes-on (p .opened) S less spent-trace T W v (slotsAt A 0) n i (p .at) (p .objects) (p .calls) (p .block) (fuelOf S) m W′ (outWith (fuelOf S′) o)
+              (invoke-right T W less (p .opened) v (slotsAt A 0) n i (p .at) (p .objects) (p .calls) (p .block) (fuelOf S) m nf nd h eh W′ (outWith (fuelOf S′) o) y ey
+              (subst (λ (u : ℕ). RunsRight T W less (p .opened) v (slotsAt A 0) n i (p .at) (p .objects) (p .calls - 1) (p .block) u (markIn y) W′ (outWith (fuelOf S′) o)) fuel-left (r .runs)));
         }
 
         pub invoke-goes-left : h ≡ Absent → LeftStep T W (set S fuelAt (fuelOf S - 1)) v A n i m p W′ S′ o → InvokeStep T W S v A n i m p W′ S′ o
         invoke-goes-left ea l = record {
           trace = traced-then (p .opened) S less S′ spent-trace (l .trace);
-          runs = invokes-on (p .opened) S less spent-trace T W v (slotsAt A 0) n i (p .at) (p .calls) (p .block) (fuelOf S) m W′ (outWith (fuelOf S′) o)
-              (invoke-left T W less (p .opened) v (slotsAt A 0) n i (p .at) (p .calls) (p .block) (fuelOf S) m nf nd h eh W′ (outWith (fuelOf S′) o) ea
-              (subst (λ (u : ℕ). RunsLeft T W less (p .opened) v (slotsAt A 0) n i (p .at) (p .calls - 1) (p .block) u m W′ (outWith (fuelOf S′) o)) fuel-left (l .runs)));
+          runs = invokes-on (p .opened) S less spent-trace T W v (slotsAt A 0) n i (p .at) (p .objects) (p .calls) (p .block) (fuelOf S) m W′ (outWith (fuelOf S′) o)
+              (invoke-left T W less (p .opened) v (slotsAt A 0) n i (p .at) (p .objects) (p .calls) (p .block) (fuelOf S) m nf nd h eh W′ (outWith (fuelOf S′) o) ea
+              (subst (λ (u : ℕ). RunsLeft T W less (p .opened) v (slotsAt A 0) n i (p .at) (p .objects) (p .calls - 1) (p .block) u m W′ (outWith (fuelOf S′) o)) fuel-left (l .runs)));
         }
 
 -- ---- a side (run_right, run_left)
@@ -349,7 +352,7 @@ module _ (W S : List ℕ) (v : ValueRef) (A : List ℕ) (n : ℕ) (p : Spot) (ru
   body-block = let r = run .fits .room in omega arith
 
   pub body-top : p .opened < callLimit
-  body-top = fits.push-room W S (p .opened) v A n (p .calls - 1) (p .block) (run .fits)
+  body-top = fits.push-room W S (p .opened) v A n (p .objects) (p .calls - 1) (p .block) (run .fits)
 
   pub body-mark : p .opened < markCount
   body-mark = let t = body-top in omega arith
@@ -365,7 +368,7 @@ module _ (T W S : List ℕ) (v : ValueRef) (A : List ℕ) (n i : ℕ) (p : Spot)
     based = body-based W S v A n p run;
     full = run .full;
     count = run .fits .few;
-    fits = fits.right-fit W S (p .opened) v A n (p .calls - 1) (p .block) (run .fits) mark owner given;
+    fits = fits.right-fit W S (p .opened) v A n (p .objects) (p .calls - 1) (p .block) (run .fits) mark owner given;
   }))
 
   module _ (W1 S1 : List ℕ) (o : Done) (ran : EvalStep T W f S q W1 S1 o) where
@@ -377,13 +380,13 @@ module _ (T W S : List ℕ) (v : ValueRef) (A : List ℕ) (n i : ℕ) (p : Spot)
     pub right-stops : (s : Stop) → o ≡ done.Halt s → RightStep T W S v A n i p mark W1 S1 o
     right-stops s e = record {
       trace = right-side .trace;
-      runs = right-halt T W S (p .opened) v A n owner i (p .at) (p .calls - 1) (p .block) (fuelOf S) (markIn mark) (rightOf T i) refl W1 (outWith (fuelOf S1) o) (right-side .runs) s (fuelOf S1) (ap (outWith (fuelOf S1)) e);
+      runs = right-halt T W S (p .opened) v A n owner i (p .at) (p .objects) (p .calls - 1) (p .block) (fuelOf S) (markIn mark) (rightOf T i) refl W1 (outWith (fuelOf S1) o) (right-side .runs) s (fuelOf S1) (ap (outWith (fuelOf S1)) e);
     }
 
     module _ (u : ValueRef) (next : ℕ) (eo : o ≡ done.Value u next) where
       pub right-there : Holds W1 u
       right-there =
-          given-older T W (bodyFrame v (Is (Mark (markIn mark))) A n owner) S (p .opened) (rightOf T i) nestingLimit (p .calls - 1) (p .block + 4) (fuelOf S) W1 (outWith (fuelOf S1) o) (right-side .runs) u next (fuelOf S1)
+          given-older T W (bodyFrame v (Is (Mark (markIn mark))) A n owner) S (p .opened) (rightOf T i) nestingLimit (p .objects) (p .calls - 1) (p .block + 4) (fuelOf S) W1 (outWith (fuelOf S1) o) (right-side .runs) u next (fuelOf S1)
           (ap (outWith (fuelOf S1)) eo) .held
 
       pub right-room : blockSize * p .block + blockSize ≤ length W1
@@ -392,7 +395,7 @@ module _ (T W S : List ℕ) (v : ValueRef) (A : List ℕ) (n i : ℕ) (p : Spot)
       pub right-gives : (W2 : List ℕ) (r : ValueRef) → Gives W1 (p .block) W2 r (valueOf W1 u) → RightStep T W S v A n i p mark W2 S1 (done.Value r (p .at))
       right-gives W2 r g = record {
         trace = right-side .trace;
-        runs = right-value T W S (p .opened) v A n owner i (p .at) (p .calls - 1) (p .block) (fuelOf S) (markIn mark) (rightOf T i) refl W1 (outWith (fuelOf S1) o) (right-side .runs) u next (fuelOf S1) W2 r
+        runs = right-value T W S (p .opened) v A n owner i (p .at) (p .objects) (p .calls - 1) (p .block) (fuelOf S) (markIn mark) (rightOf T i) refl W1 (outWith (fuelOf S1) o) (right-side .runs) u next (fuelOf S1) W2 r
             (ap (outWith (fuelOf S1)) eo) g;
       }
 
@@ -411,15 +414,15 @@ module _ (T W S : List ℕ) (v : ValueRef) (A : List ℕ) (n i m : ℕ) (p : Spo
     based = body-based W S v A n p run;
     full = opens .same ∙ run .full;
     count = run .fits .few;
-    fits = fits.left-fit W S (p .opened) v A n (p .calls - 1) (p .block) (run .fits) m owner S1 opens;
+    fits = fits.left-fit W S (p .opened) v A n (p .objects) (p .calls - 1) (p .block) (run .fits) m owner S1 opens;
   }))
 
   module _ (W1 S2 : List ℕ) (o : Done) (ran : EvalStep T W f S1 q W1 S2 o) where
     left-side : EvalStep T W (bodyFrame v Absent A n owner) S1 (bodySpot p (leftOf T i) (p .opened + 1)) W1 S2 o
     left-side = subst (λ (g : Frame). EvalStep T W g S1 (bodySpot p (leftOf T i) (p .opened + 1)) W1 S2 o) ef (subst (λ (y : Spot). EvalStep T W f S1 y W1 S2 o) eq ran)
 
-    left-evaluates : Evaluates T W (bodyFrame v Absent A n owner) S1 (p .opened + 1) (leftOf T i) nestingLimit (p .calls - 1) (p .block + 4) (fuelOf S) W1 (outWith (fuelOf S2) o)
-    left-evaluates = subst (λ (u : ℕ). Evaluates T W (bodyFrame v Absent A n owner) S1 (p .opened + 1) (leftOf T i) nestingLimit (p .calls - 1) (p .block + 4) u W1 (outWith (fuelOf S2) o)) open-fuel (left-side .runs)
+    left-evaluates : Evaluates T W (bodyFrame v Absent A n owner) S1 (p .opened + 1) (leftOf T i) nestingLimit (p .objects) (p .calls - 1) (p .block + 4) (fuelOf S) W1 (outWith (fuelOf S2) o)
+    left-evaluates = subst (λ (u : ℕ). Evaluates T W (bodyFrame v Absent A n owner) S1 (p .opened + 1) (leftOf T i) nestingLimit (p .objects) (p .calls - 1) (p .block + 4) u W1 (outWith (fuelOf S2) o)) open-fuel (left-side .runs)
 
     left-trace : Traced (p .opened) S S2
     left-trace = traced-then (p .opened) S S1 S2 open-trace (traced-down (p .opened) (p .opened + 1) S1 S2 (omega arith) (left-side .trace))
@@ -427,13 +430,13 @@ module _ (T W S : List ℕ) (v : ValueRef) (A : List ℕ) (n i m : ℕ) (p : Spo
     pub left-stops : (s : Stop) → o ≡ done.Halt s → LeftStep T W S v A n i m p W1 S2 o
     left-stops s e = record {
       trace = left-trace;
-      runs = left-halt T W S (p .opened) v A n owner i (p .at) (p .calls - 1) (p .block) (fuelOf S) m S1 opens (leftOf T i) refl W1 (outWith (fuelOf S2) o) left-evaluates s (fuelOf S2) (ap (outWith (fuelOf S2)) e);
+      runs = left-halt T W S (p .opened) v A n owner i (p .at) (p .objects) (p .calls - 1) (p .block) (fuelOf S) m S1 opens (leftOf T i) refl W1 (outWith (fuelOf S2) o) left-evaluates s (fuelOf S2) (ap (outWith (fuelOf S2)) e);
     }
 
     module _ (u : ValueRef) (next : ℕ) (eo : o ≡ done.Value u next) where
       pub left-there : Holds W1 u
       left-there =
-          given-older T W (bodyFrame v Absent A n owner) S1 (p .opened + 1) (leftOf T i) nestingLimit (p .calls - 1) (p .block + 4) (fuelOf S) W1 (outWith (fuelOf S2) o) left-evaluates u next (fuelOf S2)
+          given-older T W (bodyFrame v Absent A n owner) S1 (p .opened + 1) (leftOf T i) nestingLimit (p .objects) (p .calls - 1) (p .block + 4) (fuelOf S) W1 (outWith (fuelOf S2) o) left-evaluates u next (fuelOf S2)
           (ap (outWith (fuelOf S2)) eo) .held
 
       pub left-room : blockSize * p .block + blockSize ≤ length W1
@@ -442,7 +445,7 @@ module _ (T W S : List ℕ) (v : ValueRef) (A : List ℕ) (n i m : ℕ) (p : Spo
       pub left-gives : (W2 : List ℕ) (r : ValueRef) → Gives W1 (p .block) W2 r (closeOf (p .opened) (valueOf W1 u)) → LeftStep T W S v A n i m p W2 S2 (done.Value r (p .at))
       left-gives W2 r g = record {
         trace = left-trace;
-        runs = left-value T W S (p .opened) v A n owner i (p .at) (p .calls - 1) (p .block) (fuelOf S) m S1 opens (leftOf T i) refl W1 (outWith (fuelOf S2) o) left-evaluates u next (fuelOf S2) W2 r
+        runs = left-value T W S (p .opened) v A n owner i (p .at) (p .objects) (p .calls - 1) (p .block) (fuelOf S) m S1 opens (leftOf T i) refl W1 (outWith (fuelOf S2) o) left-evaluates u next (fuelOf S2) W2 r
             (ap (outWith (fuelOf S2)) eo) g;
       }
 

@@ -40,26 +40,26 @@ held-shows : (W : List ℕ) (h : Held) (p fuel : ℕ) (x : Option Graph) → hel
 held-shows W (Is r) p fuel x e = record { is = ap (λ (y : Option Graph). orStuck y fuel) e; next = refl }
 held-shows W Absent p fuel x e = record { is = ap (λ (y : Option Graph). orStuck y fuel) e; next = tt }
 
-module _ (T W : List ℕ) (f : Frame) (tr : List ℕ) (top at left d sp fuel : ℕ) where
-  pub eval-zero : left ≡ 0 → Evaluates T W f tr top at left d sp fuel W (Halt Stuck fuel)
+module _ (T W : List ℕ) (f : Frame) (tr : List ℕ) (top at left objects d sp fuel : ℕ) where
+  pub eval-zero : left ≡ 0 → Evaluates T W f tr top at left objects d sp fuel W (Halt Stuck fuel)
   eval-zero z = record { kept = kept-none sp W; older = tt; is = λ t e r. absurd (nested-none left e z (r .nested)) }
 
   -- o is what the language gives of e, and ends after e
   abbrev Says : List ℕ → Out → Table → Expr → Type 0
-  Says W′ o t e = Shows W′ o (at + length (codeOf e)) (evalIn d t (frameIn W f) (traceIn W tr top) e fuel)
+  Says W′ o t e = Shows W′ o (at + length (codeOf e)) (evalIn objects d t (frameIn W f) (traceIn W tr top) e fuel)
 
   module _ (s : Shape) (es : s ≡ shapeAt T at) where
     stands-as : (t : Table) (e : Expr) (q : Shape) → Reads T left at t e → s ≡ q → Shaped at e q
     stands-as t e q r z = shape-read T left at t e r q (sym z ∙ es)
 
-    pub eval-nothing : s ≡ shape.Nothing → Evaluates T W f tr top at left d sp fuel W (Halt Stuck fuel)
+    pub eval-nothing : s ≡ shape.Nothing → Evaluates T W f tr top at left objects d sp fuel W (Halt Stuck fuel)
     eval-nothing z = record { kept = kept-none sp W; older = tt; is = λ t e r. absurd (stands-as t e shape.Nothing r z) }
 
     -- ---- variables
-    module _ (fit : Fits W f tr top left d sp) (next : ℕ) (o : Out) where
-      pub eval-this : s ≡ shape.This next → o ≡ outOf (f .this) next fuel → Evaluates T W f tr top at left d sp fuel W o
+    module _ (fit : Fits W f tr top left objects d sp) (next : ℕ) (o : Out) where
+      pub eval-this : s ≡ shape.This next → o ≡ outOf (f .this) next fuel → Evaluates T W f tr top at left objects d sp fuel W o
       unfolding codeOf eval frameIn
-      eval-this z eo = subst (Evaluates T W f tr top at left d sp fuel W) (sym eo) (record {
+      eval-this z eo = subst (Evaluates T W f tr top at left objects d sp fuel W) (sym eo) (record {
         kept = kept-none sp W;
         older = held-older W sp (f .this) next fuel (fit .frame .this);
         is = λ t e r.
@@ -67,9 +67,9 @@ module _ (T W : List ℕ) (f : Frame) (tr : List ℕ) (top at left d sp fuel : �
             subst (Says W (outOf (f .this) next fuel) t) (sym (w .0)) (shows-at W _ next (at + 1) _ (w .1) (held-shows W (f .this) next fuel (heldIn W (f .this)) refl));
       })
 
-      pub eval-res : s ≡ shape.Result next → o ≡ outOf (f .res) next fuel → Evaluates T W f tr top at left d sp fuel W o
+      pub eval-res : s ≡ shape.Result next → o ≡ outOf (f .res) next fuel → Evaluates T W f tr top at left objects d sp fuel W o
       unfolding codeOf eval frameIn
-      eval-res z eo = subst (Evaluates T W f tr top at left d sp fuel W) (sym eo) (record {
+      eval-res z eo = subst (Evaluates T W f tr top at left objects d sp fuel W) (sym eo) (record {
         kept = kept-none sp W;
         older = held-older W sp (f .res) next fuel (fit .frame .res);
         is = λ t e r.
@@ -77,9 +77,9 @@ module _ (T W : List ℕ) (f : Frame) (tr : List ℕ) (top at left d sp fuel : �
             subst (Says W (outOf (f .res) next fuel) t) (sym (w .0)) (shows-at W _ next (at + 1) _ (w .1) (held-shows W (f .res) next fuel (heldIn W (f .res)) refl));
       })
 
-      pub eval-param : (k : ℕ) → s ≡ shape.Parameter k next → o ≡ outOf (variableOf f k) next fuel → Evaluates T W f tr top at left d sp fuel W o
+      pub eval-param : (k : ℕ) → s ≡ shape.Parameter k next → o ≡ outOf (variableOf f k) next fuel → Evaluates T W f tr top at left objects d sp fuel W o
       unfolding codeOf eval
-      eval-param k z eo = subst (Evaluates T W f tr top at left d sp fuel W) (sym eo) (record {
+      eval-param k z eo = subst (Evaluates T W f tr top at left objects d sp fuel W) (sym eo) (record {
         kept = kept-none sp W;
         older = held-older W sp (variableOf f k) next fuel (variable-held W sp f k (fit .frame));
         is = λ t e r.
@@ -90,7 +90,7 @@ module _ (T W : List ℕ) (f : Frame) (tr : List ℕ) (top at left d sp fuel : �
 
     -- ---- fields, calls, objects
     module _ (nz : left ≡ 0 → ⊥) (next : ℕ) (W′ : List ℕ) (o : Out) where
-      pub eval-at-field : (k : ℕ) → s ≡ shape.Field k next → Fields T W f tr top next (left - 1) d sp fuel k W′ o → Evaluates T W f tr top at left d sp fuel W′ o
+      pub eval-at-field : (k : ℕ) → s ≡ shape.Field k next → Fields T W f tr top next (left - 1) objects d sp fuel k W′ o → Evaluates T W f tr top at left objects d sp fuel W′ o
       unfolding codeOf
       eval-at-field k z x = record { kept = x .kept; older = x .older; is = λ t e r. go t e r (stands-as t e (shape.Field k next) r z) }
         where
@@ -103,7 +103,7 @@ module _ (T W : List ℕ) (f : Frame) (tr : List ℕ) (top at left d sp fuel : �
               (shows-at W′ o (next + length (codeOf i)) (at + suc (suc (length (codeOf i)))) _ (omega arith)
               (x .is t i (subst (λ (p : ℕ). Reads T (left - 1) p t i) (sym n) r′)))
 
-      pub eval-at-call : (m n : ℕ) → s ≡ shape.Call m n next → Calls T W f tr top next (left - 1) d sp fuel m n W′ o → Evaluates T W f tr top at left d sp fuel W′ o
+      pub eval-at-call : (m n : ℕ) → s ≡ shape.Call m n next → Calls T W f tr top next (left - 1) objects d sp fuel m n W′ o → Evaluates T W f tr top at left objects d sp fuel W′ o
       eval-at-call m n z x = record { kept = x .kept; older = x .older; is = λ t e r. go t e r (stands-as t e (shape.Call m n next) r z) }
         where
           go : (t : Table) (e : Expr) → Reads T left at t e → Shaped at e (shape.Call m n next) → Says W′ o t e
@@ -118,7 +118,7 @@ module _ (T W : List ℕ) (f : Frame) (tr : List ℕ) (top at left d sp fuel : �
               (subst (λ (p : ℕ). Reads T (left - 1) p t i) (sym en) (receiver-reads T left at t nz m i xs r′))
               (subst (λ (p : ℕ). ReadsAll T (left - 1) (p + length (codeOf i)) t xs) (sym en) (args-read T left at t nz m i xs r′)) (w .3)))
 
-      pub eval-at-new : (c n : ℕ) → s ≡ shape.New c n next → News T W f tr top next (left - 1) d sp fuel c n W′ o → Evaluates T W f tr top at left d sp fuel W′ o
+      pub eval-at-new : (c n : ℕ) → s ≡ shape.New c n next → News T W f tr top next (left - 1) objects d sp fuel c n W′ o → Evaluates T W f tr top at left objects d sp fuel W′ o
       unfolding codeOf
       eval-at-new c n z x = record { kept = x .kept; older = x .older; is = λ t e r. go t e r (stands-as t e (shape.New c n next) r z) }
         where

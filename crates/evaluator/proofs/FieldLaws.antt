@@ -31,24 +31,24 @@ module _ (T W : List ℕ) (f : Frame) (S : List ℕ) (p : Spot) (k : ℕ) (W1 S1
   field-stops : (s : Stop) → EvalStep T W f S p W1 S1 (done.Halt s) → FieldStep T W f S p k W1 S1 (done.Halt s)
   field-stops s ev = record {
     trace = ev .trace;
-    runs = field-halt T W f S (p .opened) (p .at) (p .nesting) (p .calls) (p .block) (fuelOf S) k W1 (Halt s (fuelOf S1)) (ev .runs) s (fuelOf S1) refl;
+    runs = field-halt T W f S (p .opened) (p .at) (p .nesting) (p .objects) (p .calls) (p .block) (fuelOf S) k W1 (Halt s (fuelOf S1)) (ev .runs) s (fuelOf S1) refl;
   }
 
   module _ (v : ValueRef) (at : ℕ) (ev : EvalStep T W f S p W1 S1 (done.Value v at)) where
     value-held : Holds W1 v
-    value-held = given-older T W f S (p .opened) (p .at) (p .nesting) (p .calls) (p .block) (fuelOf S) W1 (Value v at (fuelOf S1)) (ev .runs) v at (fuelOf S1) refl .held
+    value-held = given-older T W f S (p .opened) (p .at) (p .nesting) (p .objects) (p .calls) (p .block) (fuelOf S) W1 (Value v at (fuelOf S1)) (ev .runs) v at (fuelOf S1) refl .held
 
     module _ (x : Selected) (ch : Chosen W1 v k x) where
       field-lacks : x ≡ selected.Nothing → FieldStep T W f S p k W1 S1 (done.Halt Stuck)
       field-lacks e = record {
         trace = ev .trace;
-        runs = field-none T W f S (p .opened) (p .at) (p .nesting) (p .calls) (p .block) (fuelOf S) k W1 (Value v at (fuelOf S1)) (ev .runs) v at (fuelOf S1) refl x ch e;
+        runs = field-none T W f S (p .opened) (p .at) (p .nesting) (p .objects) (p .calls) (p .block) (fuelOf S) k W1 (Value v at (fuelOf S1)) (ev .runs) v at (fuelOf S1) refl x ch e;
       }
 
       field-has : (r : ValueRef) → x ≡ selected.Value r → FieldStep T W f S p k W1 S1 (done.Value r at)
       field-has r e = record {
         trace = ev .trace;
-        runs = field-some T W f S (p .opened) (p .at) (p .nesting) (p .calls) (p .block) (fuelOf S) k W1 (Value v at (fuelOf S1)) (ev .runs) v at (fuelOf S1) refl x ch r e;
+        runs = field-some T W f S (p .opened) (p .at) (p .nesting) (p .objects) (p .calls) (p .block) (fuelOf S) k W1 (Value v at (fuelOf S1)) (ev .runs) v at (fuelOf S1) refl x ch r e;
       }
 
 -- ---- j levels in
@@ -58,7 +58,7 @@ module _ (W : List ℕ) (f : Frame) (S : List ℕ) (p : Spot) (run : PartRunnabl
     based = run .based;
     full = run .full;
     count = run .count;
-    fits = let h = run .fits in let r = h .room in record { frame = h .frame; trace = h .trace; calls = h .calls; room = omega arith; long = h .long };
+    fits = let h = run .fits in let r = h .room in record { frame = h .frame; trace = h .trace; calls = h .calls; limit = h .limit; room = omega arith; long = h .long };
   }
 
 module _ (T W : List ℕ) (f : Frame) (S : List ℕ) (p : Spot) (d : ℕ) (run : PartRunnable W f S p) (ch : Chain T (p .at) (p .nesting) d) where

@@ -37,40 +37,40 @@ use Rattle.evaluator.proofs.Standing.{first-reads, others-read, also-en
 use Rattle.evaluator.proofs.Given.{going-on, halted, given, given-next, given-older}
 
 -- ---- a field: the expression at `at` was evaluated to o
-module _ (T W : List ℕ) (f : Frame) (tr : List ℕ) (top at left d sp fuel k : ℕ) (W1 : List ℕ) (o : Out) (ev : Evaluates T W f tr top at left d sp fuel W1 o) where
-  pub field-halt : (s : Stop) (fuel1 : ℕ) → o ≡ Halt s fuel1 → Fields T W f tr top at left d sp fuel k W1 o
+module _ (T W : List ℕ) (f : Frame) (tr : List ℕ) (top at left objects d sp fuel k : ℕ) (W1 : List ℕ) (o : Out) (ev : Evaluates T W f tr top at left objects d sp fuel W1 o) where
+  pub field-halt : (s : Stop) (fuel1 : ℕ) → o ≡ Halt s fuel1 → Fields T W f tr top at left objects d sp fuel k W1 o
   unfolding eval
-  field-halt s fuel1 eo = subst (Fields T W f tr top at left d sp fuel k W1) (sym eo) (record {
+  field-halt s fuel1 eo = subst (Fields T W f tr top at left objects d sp fuel k W1) (sym eo) (record {
     kept = ev .kept;
     older = tt;
     is = λ t e r. record {
-      is = going-on (stopped (stopOf s) fuel1) (evalIn d t (frameIn W f) (traceIn W tr top) e fuel) (λ v n′. orStuck (select k v) n′) (halted T W f tr top at left d sp fuel W1 o ev s fuel1 eo t e r);
+      is = going-on (stopped (stopOf s) fuel1) (evalIn objects d t (frameIn W f) (traceIn W tr top) e fuel) (λ v n′. orStuck (select k v) n′) (halted T W f tr top at left objects d sp fuel W1 o ev s fuel1 eo t e r);
       next = tt;
     };
   })
 
   module _ (v : ValueRef) (at1 fuel1 : ℕ) (eo : o ≡ Value v at1 fuel1) (x : Selected) (ch : Chosen W1 v k x) where
     chosen : (t : Table) (e : Expr) → Reads T left at t e → (y : Option Graph) → y ≡ select k (valueOf W1 v)
-        → orStuck y fuel1 ≡ evalIn d t (frameIn W f) (traceIn W tr top) (field k e) fuel
+        → orStuck y fuel1 ≡ evalIn objects d t (frameIn W f) (traceIn W tr top) (field k e) fuel
     unfolding eval
     chosen t e r y q =
         ap (λ (z : Option Graph). orStuck z fuel1) q
-        ∙ going-on (value (valueOf W1 v) fuel1) (evalIn d t (frameIn W f) (traceIn W tr top) e fuel) (λ u n′. orStuck (select k u) n′) (given T W f tr top at left d sp fuel W1 o ev v at1 fuel1 eo t e r)
+        ∙ going-on (value (valueOf W1 v) fuel1) (evalIn objects d t (frameIn W f) (traceIn W tr top) e fuel) (λ u n′. orStuck (select k u) n′) (given T W f tr top at left objects d sp fuel W1 o ev v at1 fuel1 eo t e r)
 
-    pub field-none : x ≡ selected.Nothing → Fields T W f tr top at left d sp fuel k W1 (Halt Stuck fuel1)
+    pub field-none : x ≡ selected.Nothing → Fields T W f tr top at left objects d sp fuel k W1 (Halt Stuck fuel1)
     field-none ex = record {
       kept = ev .kept;
       older = tt;
       is = λ t e r. record { is = chosen t e r none (sym (ap (λ (y : Selected). answerIn W1 (selectedRef y)) ex) ∙ ch .is); next = tt };
     }
 
-    pub field-some : (r : ValueRef) → x ≡ selected.Value r → Fields T W f tr top at left d sp fuel k W1 (Value r at1 fuel1)
+    pub field-some : (r : ValueRef) → x ≡ selected.Value r → Fields T W f tr top at left objects d sp fuel k W1 (Value r at1 fuel1)
     field-some u ex = record {
       kept = ev .kept;
-      older = record { held = subst (λ (y : Selected). AnswerHeld W1 (selectedRef y)) ex (ch .held); low = subst (λ (y : Selected). AnswerLow (sp + 1) (selectedRef y)) ex (ch .place (sp + 1) (given-older T W f tr top at left d sp fuel W1 o ev v at1 fuel1 eo .low)) };
+      older = record { held = subst (λ (y : Selected). AnswerHeld W1 (selectedRef y)) ex (ch .held); low = subst (λ (y : Selected). AnswerLow (sp + 1) (selectedRef y)) ex (ch .place (sp + 1) (given-older T W f tr top at left objects d sp fuel W1 o ev v at1 fuel1 eo .low)) };
       is = λ t e r. record {
         is = chosen t e r (some (valueOf W1 u)) (sym (ap (λ (y : Selected). answerIn W1 (selectedRef y)) ex) ∙ ch .is);
-        next = given-next T W f tr top at left d sp fuel W1 o ev v at1 fuel1 eo t e r;
+        next = given-next T W f tr top at left objects d sp fuel W1 o ev v at1 fuel1 eo t e r;
       };
     }
 
@@ -95,55 +95,55 @@ front-older W sp v a b c e m h ov ps = record { full = omega arith; part = λ i 
     go (suc (suc (suc (suc i)))) l = absurd (omega arith)
 
 -- the first of a list, and the others, by what they give
-module _ (d : ℕ) (t : Table) (p : language.Frame) (os : List language.OpenCall) (e : Expr) (es : Exprs) (fuel : ℕ) where
-  first-stops : (s : language.Stop) (fuel1 : ℕ) → stopped s fuel1 ≡ evalIn d t p os e fuel → stopped s fuel1 ≡ evalsIn d t p os (also e es) fuel
+module _ (objects d : ℕ) (t : Table) (p : language.Frame) (os : List language.OpenCall) (e : Expr) (es : Exprs) (fuel : ℕ) where
+  first-stops : (s : language.Stop) (fuel1 : ℕ) → stopped s fuel1 ≡ evalIn objects d t p os e fuel → stopped s fuel1 ≡ evalsIn objects d t p os (also e es) fuel
   unfolding evals
-  first-stops s fuel1 q = going-on (stopped s fuel1) (evalIn d t p os e fuel) (λ v n′. evalsIn d t p os es n′ then λ vs n″. value (v ∷ vs) n″) q
+  first-stops s fuel1 q = going-on (stopped s fuel1) (evalIn objects d t p os e fuel) (λ v n′. evalsIn objects d t p os es n′ then λ vs n″. value (v ∷ vs) n″) q
 
-  others-follow : (g : Graph) (fuel1 : ℕ) (y : Outcome (List Graph)) → value g fuel1 ≡ evalIn d t p os e fuel → y ≡ evalsIn d t p os es fuel1
-      → (y then λ vs n″. value (g ∷ vs) n″) ≡ evalsIn d t p os (also e es) fuel
+  others-follow : (g : Graph) (fuel1 : ℕ) (y : Outcome (List Graph)) → value g fuel1 ≡ evalIn objects d t p os e fuel → y ≡ evalsIn objects d t p os es fuel1
+      → (y then λ vs n″. value (g ∷ vs) n″) ≡ evalsIn objects d t p os (also e es) fuel
   unfolding evals
   others-follow g fuel1 y q z =
-      going-on y (evalsIn d t p os es fuel1) (λ vs n″. value (g ∷ vs) n″) z
-      ∙ going-on (value g fuel1) (evalIn d t p os e fuel) (λ v n′. evalsIn d t p os es n′ then λ vs n″. value (v ∷ vs) n″) q
+      going-on y (evalsIn objects d t p os es fuel1) (λ vs n″. value (g ∷ vs) n″) z
+      ∙ going-on (value g fuel1) (evalIn objects d t p os e fuel) (λ v n′. evalsIn objects d t p os es n′ then λ vs n″. value (v ∷ vs) n″) q
 
-none-given : (W : List ℕ) (a b c e : ValueRef) (d : ℕ) (t : Table) (p : language.Frame) (os : List language.OpenCall) (at fuel : ℕ) (es : Exprs) → count es ≡ 0
-    → ShowsAll W 0 (Values a b c e at fuel) (at + length (codesOf es)) (evalsIn d t p os es fuel)
+none-given : (W : List ℕ) (a b c e : ValueRef) (objects d : ℕ) (t : Table) (p : language.Frame) (os : List language.OpenCall) (at fuel : ℕ) (es : Exprs) → count es ≡ 0
+    → ShowsAll W 0 (Values a b c e at fuel) (at + length (codesOf es)) (evalsIn objects d t p os es fuel)
 unfolding evals codesOf valuesFrom
-none-given W a b c e d t p os at fuel done q = record { is = refl; next = omega arith }
-none-given W a b c e d t p os at fuel (also x xs) q = absurd (omega arith)
+none-given W a b c e objects d t p os at fuel done q = record { is = refl; next = omega arith }
+none-given W a b c e objects d t p os at fuel (also x xs) q = absurd (omega arith)
 
-module _ (T W : List ℕ) (f : Frame) (tr : List ℕ) (top at left d sp fuel n : ℕ) where
-  pub list-zero : (a b c e : ValueRef) → n ≡ 0 → Lists T W f tr top at left d sp fuel n W (Values a b c e at fuel)
-  list-zero a b c e z = subst (λ (m : ℕ). Lists T W f tr top at left d sp fuel m W (Values a b c e at fuel)) (sym z) (record {
+module _ (T W : List ℕ) (f : Frame) (tr : List ℕ) (top at left objects d sp fuel n : ℕ) where
+  pub list-zero : (a b c e : ValueRef) → n ≡ 0 → Lists T W f tr top at left objects d sp fuel n W (Values a b c e at fuel)
+  list-zero a b c e z = subst (λ (m : ℕ). Lists T W f tr top at left objects d sp fuel m W (Values a b c e at fuel)) (sym z) (record {
     kept = kept-none sp W;
     older = record { full = omega arith; part = λ i h. absurd (omega arith) };
-    is = λ t es r k. none-given W a b c e d t (frameIn W f) (traceIn W tr top) at fuel es k;
+    is = λ t es r k. none-given W a b c e objects d t (frameIn W f) (traceIn W tr top) at fuel es k;
   })
 
-  module _ (fit : ListFits W f tr top left d sp n) (nz : n ≡ 0 → ⊥) (W1 : List ℕ) (o : Out) (ev : Evaluates T W f tr top at left d sp fuel W1 o) where
-    pub list-halt : (s : Stop) (fuel1 : ℕ) (l : Listed) → o ≡ Halt s fuel1 → l ≡ Stops s fuel1 → Lists T W f tr top at left d sp fuel n W1 l
-    list-halt s fuel1 l eo el = subst (Lists T W f tr top at left d sp fuel n W1) (sym el) (record { kept = ev .kept; older = tt; is = go })
+  module _ (fit : ListFits W f tr top left objects d sp n) (nz : n ≡ 0 → ⊥) (W1 : List ℕ) (o : Out) (ev : Evaluates T W f tr top at left objects d sp fuel W1 o) where
+    pub list-halt : (s : Stop) (fuel1 : ℕ) (l : Listed) → o ≡ Halt s fuel1 → l ≡ Stops s fuel1 → Lists T W f tr top at left objects d sp fuel n W1 l
+    list-halt s fuel1 l eo el = subst (Lists T W f tr top at left objects d sp fuel n W1) (sym el) (record { kept = ev .kept; older = tt; is = go })
       where
         go : (t : Table) (es : Exprs) → ReadsAll T left at t es → count es ≡ n
-            → ShowsAll W1 n (Stops s fuel1) (at + length (codesOf es)) (evalsIn d t (frameIn W f) (traceIn W tr top) es fuel)
+            → ShowsAll W1 n (Stops s fuel1) (at + length (codesOf es)) (evalsIn objects d t (frameIn W f) (traceIn W tr top) es fuel)
         go t done r c = absurd (nz (sym c))
         go t (also e es) r c = record {
-          is = first-stops d t (frameIn W f) (traceIn W tr top) e es fuel (stopOf s) fuel1 (halted T W f tr top at left d sp fuel W1 o ev s fuel1 eo t e (first-reads T left at t e es r));
+          is = first-stops objects d t (frameIn W f) (traceIn W tr top) e es fuel (stopOf s) fuel1 (halted T W f tr top at left objects d sp fuel W1 o ev s fuel1 eo t e (first-reads T left at t e es r));
           next = tt;
         }
 
     -- the others from block b on, which is sp if the first does not lie there, or the next
     module _ (v : ValueRef) (at1 fuel1 : ℕ) (eo : o ≡ Value v at1 fuel1) (b : ℕ) (from : sp ≤ b) (to : b ≤ sp + 1) (lv : Low b v)
-        (W2 : List ℕ) (l : Listed) (li : Lists T W1 f tr top at1 left d b fuel1 (n - 1) W2 l) where
-      pub list-more : (x : Listed) → x ≡ frontOf v l → Lists T W f tr top at left d sp fuel n W2 x
-      list-more x ex = subst (Lists T W f tr top at left d sp fuel n W2) (sym ex) (record { kept = kept-both; older = older-all l (li .older); is = shows })
+        (W2 : List ℕ) (l : Listed) (li : Lists T W1 f tr top at1 left objects d b fuel1 (n - 1) W2 l) where
+      pub list-more : (x : Listed) → x ≡ frontOf v l → Lists T W f tr top at left objects d sp fuel n W2 x
+      list-more x ex = subst (Lists T W f tr top at left objects d sp fuel n W2) (sym ex) (record { kept = kept-both; older = older-all l (li .older); is = shows })
         where
           kept-both : Kept sp W W2
           kept-both = kept-then sp b W W1 W2 (omega arith) (ev .kept) (li .kept)
 
           first-older : Older W1 b v
-          first-older = record { held = given-older T W f tr top at left d sp fuel W1 o ev v at1 fuel1 eo .held; low = lv }
+          first-older = record { held = given-older T W f tr top at left objects d sp fuel W1 o ev v at1 fuel1 eo .held; low = lv }
 
           suc-n : suc (n - 1) ≡ n
           suc-n = omega (arith, nz)
@@ -171,58 +171,58 @@ module _ (T W : List ℕ) (f : Frame) (tr : List ℕ) (top at left d sp fuel n :
           front-next (Stops s k) p q h g = tt
 
           shows : (t : Table) (es : Exprs) → ReadsAll T left at t es → count es ≡ n
-              → ShowsAll W2 n (frontOf v l) (at + length (codesOf es)) (evalsIn d t (frameIn W f) (traceIn W tr top) es fuel)
+              → ShowsAll W2 n (frontOf v l) (at + length (codesOf es)) (evalsIn objects d t (frameIn W f) (traceIn W tr top) es fuel)
           shows t done r c = absurd (nz (sym c))
           shows t (also e es) r c =
               let r1 = first-reads T left at t e es r in
-              let a1 = given-next T W f tr top at left d sp fuel W1 o ev v at1 fuel1 eo t e r1 in
+              let a1 = given-next T W f tr top at left objects d sp fuel W1 o ev v at1 fuel1 eo t e r1 in
               let r2 = subst (λ (p : ℕ). ReadsAll T left p t es) (sym a1) (others-read T left at t e es r) in
               let z = li .is t es r2 (omega arith) in
               let ef = frame-same W W1 sp (ev .kept) f (fit .frame) in
               let et = trace-same W W1 sp (ev .kept) tr top (fit .trace) in
-              let same : evalsIn d t (frameIn W1 f) (traceIn W1 tr top) es fuel1 ≡ evalsIn d t (frameIn W f) (traceIn W tr top) es fuel1 = (λ i. evalsIn d t (ef i) (et i) es fuel1) in
+              let same : evalsIn objects d t (frameIn W1 f) (traceIn W1 tr top) es fuel1 ≡ evalsIn objects d t (frameIn W f) (traceIn W tr top) es fuel1 = (λ i. evalsIn objects d t (ef i) (et i) es fuel1) in
               record {
-                is = front-in l ∙ others-follow d t (frameIn W f) (traceIn W tr top) e es fuel (valueOf W1 v) fuel1 (listIn W2 (n - 1) l) (given T W f tr top at left d sp fuel W1 o ev v at1 fuel1 eo t e r1) (z .is ∙ same);
+                is = front-in l ∙ others-follow objects d t (frameIn W f) (traceIn W tr top) e es fuel (valueOf W1 v) fuel1 (listIn W2 (n - 1) l) (given T W f tr top at left objects d sp fuel W1 o ev v at1 fuel1 eo t e r1) (z .is ∙ same);
                 next = front-next l (at1 + length (codesOf es)) (at + length (codesOf (also e es))) (ap (λ (p : ℕ). p + length (codesOf es)) a1 ∙ also-end T left at t e es r) (z .next);
               }
 
 -- ---- a new object: x is the number of the class's fields
-new-by : (d : ℕ) (t : Table) (p : language.Frame) (os : List language.OpenCall) (c : ℕ) (es : Exprs) (fuel : ℕ) (b : Bool) → eqb (length (fieldsOf (t .classes) c)) (count es) ≡ b
-    → evalIn d t p os (new c es) fuel ≡ (elim b as (λ _. Outcome Graph) [ true ↦ evalsIn d t p os es fuel then λ vs m. sized 32 (make c vs) m | false ↦ stopped language.stuck fuel ])
+new-by : (objects d : ℕ) (t : Table) (p : language.Frame) (os : List language.OpenCall) (c : ℕ) (es : Exprs) (fuel : ℕ) (b : Bool) → eqb (length (fieldsOf (t .classes) c)) (count es) ≡ b
+    → evalIn objects d t p os (new c es) fuel ≡ (elim b as (λ _. Outcome Graph) [ true ↦ evalsIn objects d t p os es fuel then λ vs m. sized objects (make c vs) m | false ↦ stopped language.stuck fuel ])
 unfolding eval
-new-by d t p os c es fuel b q =
-    ap (λ (x : Bool). elim x as (λ _. Outcome Graph) [ true ↦ evalsIn d t p os es fuel then λ vs m. sized 32 (make c vs) m | false ↦ stopped language.stuck fuel ]) q
+new-by objects d t p os c es fuel b q =
+    ap (λ (x : Bool). elim x as (λ _. Outcome Graph) [ true ↦ evalsIn objects d t p os es fuel then λ vs m. sized objects (make c vs) m | false ↦ stopped language.stuck fuel ]) q
 
-module _ (T W : List ℕ) (f : Frame) (tr : List ℕ) (top at left d sp fuel c n x : ℕ) (ex : x ≡ getD T (rowSize * c + 1) 0) where
+module _ (T W : List ℕ) (f : Frame) (tr : List ℕ) (top at left objects d sp fuel c n x : ℕ) (ex : x ≡ getD T (rowSize * c + 1) 0) where
   total : (t : Table) → Tabled T t → c ≤ length (t .classes) → x ≡ length (fieldsOf (t .classes) c)
   total t tb h =
       ex ∙ ap (λ (B : List ℕ). getD B (rowSize * c + 1) 0) (tb .bytes) ∙ total-at t c (let l = tb .formed .classes in omega arith)
 
-  pub new-other : (x ≡ n → ⊥) → News T W f tr top at left d sp fuel c n W (Halt Stuck fuel)
+  pub new-other : (x ≡ n → ⊥) → News T W f tr top at left objects d sp fuel c n W (Halt Stuck fuel)
   new-other h = record {
     kept = kept-none sp W;
     older = tt;
     is = λ t es r k l. record {
-      is = sym (new-by d t (frameIn W f) (traceIn W tr top) c es fuel false (ne-eqb (length (fieldsOf (t .classes) c)) (count es) (λ z. h (total t (r .table) l ∙ z ∙ k))));
+      is = sym (new-by objects d t (frameIn W f) (traceIn W tr top) c es fuel false (ne-eqb (length (fieldsOf (t .classes) c)) (count es) (λ z. h (total t (r .table) l ∙ z ∙ k))));
       next = tt;
     };
   }
 
-  pub new-many : x ≡ n → 4 < n → News T W f tr top at left d sp fuel c n W (Halt Stuck fuel)
+  pub new-many : x ≡ n → 4 < n → News T W f tr top at left objects d sp fuel c n W (Halt Stuck fuel)
   new-many h m = record {
     kept = kept-none sp W;
     older = tt;
     is = λ t es r k l. absurd (let b = r .table .formed .fields c l in let z = total t (r .table) l in omega arith);
   }
 
-  pub new-is : x ≡ n → (W1 : List ℕ) (y : Listed) (W2 : List ℕ) (o : Out) → Lists T W f tr top at left d sp fuel n W1 y → Finishes W1 c y n sp W2 o
-      → News T W f tr top at left d sp fuel c n W2 o
+  pub new-is : x ≡ n → (W1 : List ℕ) (y : Listed) (W2 : List ℕ) (o : Out) → Lists T W f tr top at left objects d sp fuel n W1 y → Finishes W1 c y n objects sp W2 o
+      → News T W f tr top at left objects d sp fuel c n W2 o
   new-is h W1 y W2 o li fi = record {
     kept = kept-then sp sp W W1 W2 (omega arith) (li .kept) (fi .kept);
     older = fi .older;
     is = λ t es r k l. let z = li .is t es r k in record {
-      is = fi .is ∙ going-on (listIn W1 n y) (evalsIn d t (frameIn W f) (traceIn W tr top) es fuel) (λ vs m. sized 32 (make c vs) m) (z .is)
-          ∙ sym (new-by d t (frameIn W f) (traceIn W tr top) c es fuel true (eq-eqb (length (fieldsOf (t .classes) c)) (count es) (sym (total t (r .table) l) ∙ h ∙ sym k)));
+      is = fi .is ∙ going-on (listIn W1 n y) (evalsIn objects d t (frameIn W f) (traceIn W tr top) es fuel) (λ vs m. sized objects (make c vs) m) (z .is)
+          ∙ sym (new-by objects d t (frameIn W f) (traceIn W tr top) c es fuel true (eq-eqb (length (fieldsOf (t .classes) c)) (count es) (sym (total t (r .table) l) ∙ h ∙ sym k)));
       next = fi .next (at + length (codesOf es)) (z .next);
     };
   }

@@ -12,7 +12,7 @@ use Rattle.cofj.specs.Running.{runWithin, mainFrame}
 use Rattle.classes.proofs.Zones.{main-stands}
 use Rattle.maker.specs.Laying.{valuesFrom}
 use Rattle.maker.specs.Bares.{LaidBares}
-use Rattle.evaluator.specs.Figures.{callLimit, fuelAt, traceSize, workRoom}
+use Rattle.evaluator.specs.Figures.{objectLimit, callLimit, fuelAt, traceSize, workRoom}
 use Rattle.evaluator.specs.declared.Out.{Out}
 use Rattle.evaluator.specs.declared.Done.{Done}
 use Rattle.evaluator.specs.declared.frame.Frame.{Frame}
@@ -27,7 +27,7 @@ use Rattle.evaluator.proofs.BodyLaws.{evalTo-is}
 
 -- where main is evaluated
 abbrev start : Spot
-start = record { at = mainAt + 1; block = 1; nesting = nestingLimit; calls = callLimit; opened = 0; objects = 32 }
+start = record { at = mainAt + 1; block = 1; nesting = nestingLimit; calls = callLimit; opened = 0; objects = objectLimit }
 
 -- ---- the numbers that main begins with: the fuel, and no calls
 module _ (k fuel : ℕ) (ek : k ≡ traceSize) where
@@ -61,6 +61,7 @@ module _ (W0 W : List ℕ) (lb : LaidBares W0 W) (f : Frame) (ef : f ≡ noVaria
       frame = record { this = tt; res = tt; args = record { full = omega arith; part = λ i h. absurd (omega arith) }; few = omega arith };
       trace = record { call = λ i h. absurd (omega arith); mark = λ i h. absurd (omega arith) };
       calls = omega arith;
+      limit = record { some = omega arith; room = omega arith };
       room = omega arith;
       long = omega (arith, lb .outside .same);
     };
@@ -84,6 +85,6 @@ module _ (W0 W : List ℕ) (lb : LaidBares W0 W) (f : Frame) (ef : f ≡ noVaria
                 known = tb .formed .mainKnown;
                 stands = main-stands t (tb .formed .mainShort);
               }) .is
-              ∙ (λ i. evalIn callLimit t (frame-none W i) (trace-none W S i) (t .main) (es i))
-              ∙ evalTo-is callLimit t mainFrame [] (t .main) fuel;
+              ∙ (λ i. evalIn objectLimit callLimit t (frame-none W i) (trace-none W S i) (t .main) (es i))
+              ∙ evalTo-is objectLimit callLimit t mainFrame [] (t .main) fuel;
         })

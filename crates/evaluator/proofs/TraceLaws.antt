@@ -84,32 +84,32 @@ module _ (k : ℕ) (S S1 : List ℕ) (st : Traced k S S1) where
     mark = λ i l. ap (λ (c : OpenCall). c .gives) (call-on i l) ∙ h .mark i l;
   }
 
-  pub fits-on : (W : List ℕ) (f : Frame) (left d sp : ℕ) → Fits W f S k left d sp → Fits W f S1 k left d sp
-  fits-on W f left d sp h = record { frame = h .frame; trace = calls-on W sp (h .trace); calls = h .calls; room = h .room; long = h .long }
+  pub fits-on : (W : List ℕ) (f : Frame) (left objects d sp : ℕ) → Fits W f S k left objects d sp → Fits W f S1 k left objects d sp
+  fits-on W f left objects d sp h = record { frame = h .frame; trace = calls-on W sp (h .trace); calls = h .calls; limit = h .limit; room = h .room; long = h .long }
 
   -- ---- the same trace, the same meaning
-  pub lists-on : (T W : List ℕ) (f : Frame) (at left d sp fuel n : ℕ) (W′ : List ℕ) (l : Listed) → Lists T W f S1 k at left d sp fuel n W′ l → Lists T W f S k at left d sp fuel n W′ l
-  lists-on T W f at left d sp fuel n W′ l x = let et = trace-on W in record {
+  pub lists-on : (T W : List ℕ) (f : Frame) (at left objects d sp fuel n : ℕ) (W′ : List ℕ) (l : Listed) → Lists T W f S1 k at left objects d sp fuel n W′ l → Lists T W f S k at left objects d sp fuel n W′ l
+  lists-on T W f at left objects d sp fuel n W′ l x = let et = trace-on W in record {
     kept = x .kept;
     older = x .older;
-    is = λ t es r c. let z = x .is t es r c in record { is = z .is ∙ (λ i. evalsIn d t (frameIn W f) (et i) es fuel); next = z .next };
+    is = λ t es r c. let z = x .is t es r c in record { is = z .is ∙ (λ i. evalsIn objects d t (frameIn W f) (et i) es fuel); next = z .next };
   }
 
-  pub calls-with-on : (T W : List ℕ) (f : Frame) (at left d sp fuel : ℕ) (v : ValueRef) (m n i : ℕ) (W′ : List ℕ) (o : Out)
-      → CallsWith T W f S1 k at left d sp fuel v m n i W′ o → CallsWith T W f S k at left d sp fuel v m n i W′ o
-  calls-with-on T W f at left d sp fuel v m n i W′ o x = let et = trace-on W in record {
+  pub calls-with-on : (T W : List ℕ) (f : Frame) (at left objects d sp fuel : ℕ) (v : ValueRef) (m n i : ℕ) (W′ : List ℕ) (o : Out)
+      → CallsWith T W f S1 k at left objects d sp fuel v m n i W′ o → CallsWith T W f S k at left objects d sp fuel v m n i W′ o
+  calls-with-on T W f at left objects d sp fuel v m n i W′ o x = let et = trace-on W in record {
     kept = x .kept;
     older = x .older;
     is = λ t es c r q ek. let z = x .is t es c r q ek in record {
-      is = z .is ∙ (λ j. evalsIn d t (frameIn W f) (et j) es fuel then λ vs n′. language.invoke (deeper d t) (et j) (valueOf W v) m vs c n′);
+      is = z .is ∙ (λ j. evalsIn objects d t (frameIn W f) (et j) es fuel then λ vs n′. language.invoke (deeper objects d t) (et j) (valueOf W v) m vs c n′);
       next = z .next;
     };
   }
 
-  pub invokes-on : (T W : List ℕ) (v : ValueRef) (ps : List Slot) (n i next d sp fuel m : ℕ) (W′ : List ℕ) (o : Out)
-      → Invokes T W S1 k v ps n i next d sp fuel m W′ o → Invokes T W S k v ps n i next d sp fuel m W′ o
-  invokes-on T W v ps n i next d sp fuel m W′ o x = let et = trace-on W in record {
+  pub invokes-on : (T W : List ℕ) (v : ValueRef) (ps : List Slot) (n i next objects d sp fuel m : ℕ) (W′ : List ℕ) (o : Out)
+      → Invokes T W S1 k v ps n i next objects d sp fuel m W′ o → Invokes T W S k v ps n i next objects d sp fuel m W′ o
+  invokes-on T W v ps n i next objects d sp fuel m W′ o x = let et = trace-on W in record {
     kept = x .kept;
     older = x .older;
-    is = λ t c tb ek. let z = x .is t c tb ek in record { is = z .is ∙ (λ j. language.invoke (deeper d t) (et j) (valueOf W v) m (valuesFrom W ps 0 n) c fuel); next = z .next };
+    is = λ t c tb ek. let z = x .is t c tb ek in record { is = z .is ∙ (λ j. language.invoke (deeper objects d t) (et j) (valueOf W v) m (valuesFrom W ps 0 n) c fuel); next = z .next };
   }

@@ -59,7 +59,7 @@ pub record Rest (T W : List ℕ) (f : Frame) (S : List ℕ) (p : Spot) (n : ℕ)
   pub level : q .nesting ≡ p .nesting
   pub depth : q .calls ≡ p .calls
   pub whole : (W′ S′ A′ : List ℕ) (w : Walked) → length A′ ≡ 4 → ((j : ℕ) → j < i → getD A′ j 0 ≡ getD A1 j 0) → Traced (q .opened) S1 S′
-      → Lists T W1 f S1 (q .opened) (q .at) (q .nesting) (q .calls) (q .block) (fuelOf S1) (n - i) W′ (listFrom (fuelOf S′) A′ i w)
+      → Lists T W1 f S1 (q .opened) (q .at) (q .nesting) (q .objects) (q .calls) (q .block) (fuelOf S1) (n - i) W′ (listFrom (fuelOf S′) A′ i w)
       → ListStep T W f S p n W′ S′ A′ w
 
 pub rest-all : (T W : List ℕ) (f : Frame) (S : List ℕ) (p : Spot) (n : ℕ) (A : List ℕ) → ListRunnable W f S p n → length A ≡ 4 → Rest T W f S p n W S A p 0
@@ -74,7 +74,7 @@ rest-all T W f S p n A run full = record {
   whole = λ W′ S′ A′ w len same tr li. record {
     trace = tr;
     full = len;
-    runs = subst (λ (k : ℕ). Lists T W f S (p .opened) (p .at) (p .nesting) (p .calls) (p .block) (fuelOf S) k W′ (listFrom (fuelOf S′) A′ 0 w)) (let e : n - 0 ≡ n = omega arith in e) li;
+    runs = subst (λ (k : ℕ). Lists T W f S (p .opened) (p .at) (p .nesting) (p .objects) (p .calls) (p .block) (fuelOf S) k W′ (listFrom (fuelOf S′) A′ 0 w)) (let e : n - 0 ≡ n = omega arith in e) li;
   };
 }
 
@@ -87,7 +87,7 @@ module _ (T W : List ℕ) (f : Frame) (S : List ℕ) (p : Spot) (n : ℕ) (W1 S1
 
   pub rest-done : n ≤ i → ListStep T W f S p n W1 S1 A1 (walked.After (q .at))
   rest-done l = let g = re .few in re .whole W1 S1 A1 (walked.After (q .at)) (re .full) (λ j h. refl) (traced-none (q .opened) S1)
-      (list-zero T W1 f S1 (q .opened) (q .at) (q .nesting) (q .calls) (q .block) (fuelOf S1) (n - i) (refIn (getD A1 i 0)) (refIn (getD A1 (i + 1) 0)) (refIn (getD A1 (i + 2) 0)) (refIn (getD A1 (i + 3) 0)) (omega arith))
+      (list-zero T W1 f S1 (q .opened) (q .at) (q .nesting) (q .objects) (q .calls) (q .block) (fuelOf S1) (n - i) (refIn (getD A1 i 0)) (refIn (getD A1 (i + 1) 0)) (refIn (getD A1 (i + 2) 0)) (refIn (getD A1 (i + 3) 0)) (omega arith))
 
   module _ (more : i < n) where
     left : n - i ≡ 0 → ⊥
@@ -107,14 +107,14 @@ module _ (T W : List ℕ) (f : Frame) (S : List ℕ) (p : Spot) (n : ℕ) (W1 S1
       rest-stops s w eo ew = subst (ListStep T W f S p n W2 S2 A1) (sym (ew ∙ ap stopsAs eo)) (
           let x = subst (EvalStep T W1 f S1 q W2 S2) eo ev in
           re .whole W2 S2 A1 (walked.Halt s) (re .full) (λ j h. refl) (x .trace)
-          (list-halt T W1 f S1 (q .opened) (q .at) (q .nesting) (q .calls) (q .block) (fuelOf S1) (n - i) (re .ready .fits) left W2 (Halt s (fuelOf S2)) (x .runs) s (fuelOf S2) (Stops s (fuelOf S2)) refl refl))
+          (list-halt T W1 f S1 (q .opened) (q .at) (q .nesting) (q .objects) (q .calls) (q .block) (fuelOf S1) (n - i) (re .ready .fits) left W2 (Halt s (fuelOf S2)) (x .runs) s (fuelOf S2) (Stops s (fuelOf S2)) refl refl))
 
       module _ (v : ValueRef) (at : ℕ) (eo : o ≡ done.Value v at) where
         first : EvalStep T W1 f S1 q W2 S2 (done.Value v at)
         first = subst (EvalStep T W1 f S1 q W2 S2) eo ev
 
         first-older : Older W2 (q .block + 1) v
-        first-older = given-older T W1 f S1 (q .opened) (q .at) (q .nesting) (q .calls) (q .block) (fuelOf S1) W2 (Value v at (fuelOf S2)) (first .runs) v at (fuelOf S2) refl
+        first-older = given-older T W1 f S1 (q .opened) (q .at) (q .nesting) (q .objects) (q .calls) (q .block) (fuelOf S1) W2 (Value v at (fuelOf S2)) (first .runs) v at (fuelOf S2) refl
 
         module _ (x : ℕ) (ex : refIn x ≡ v) (b : ℕ) (eb : b ≡ pastOf (q .block) v) where
           after : After (q .block) v b
@@ -123,7 +123,7 @@ module _ (T W : List ℕ) (f : Frame) (S : List ℕ) (p : Spot) (n : ℕ) (W1 S1
           ready : ListRunnable W2 f S2 (movedSpot q at b) (n - (i + 1))
           ready =
               let k = first .runs .kept in
-              let h = list-later T W1 f S1 (q .opened) (q .at) (q .nesting) (q .calls) (q .block) (fuelOf S1) W2 (Value v at (fuelOf S2)) (first .runs) (n - i) b (re .ready .fits) left (after .from) (after .to) in
+              let h = list-later T W1 f S1 (q .opened) (q .at) (q .nesting) (q .objects) (q .calls) (q .block) (fuelOf S1) W2 (Value v at (fuelOf S2)) (first .runs) (n - i) b (re .ready .fits) left (after .from) (after .to) in
               record {
                 based = based-kept W1 W2 (q .block) b k (after .from) (re .ready .based);
                 full = first .trace .same ∙ re .ready .full;
@@ -132,6 +132,7 @@ module _ (T W : List ℕ) (f : Frame) (S : List ℕ) (p : Spot) (n : ℕ) (W1 S1
                   frame = h .frame;
                   trace = calls-on (q .opened) S1 S2 (first .trace) W2 b (h .trace);
                   calls = h .calls;
+                  limit = h .limit;
                   few = omega (arith, h .few);
                   room = omega (arith, h .room);
                   long = h .long;
@@ -149,13 +150,13 @@ module _ (T W : List ℕ) (f : Frame) (S : List ℕ) (p : Spot) (n : ℕ) (W1 S1
                 λ j. Values (here j) (refIn (getD A′ (i + 1) 0)) (refIn (getD A′ (e2 j) 0)) (refIn (getD A′ (e3 j) 0)) z (fuelOf S′)
             front (walked.Halt s) = refl
 
-            goes-on : Traced (q .opened) S2 S′ → Lists T W2 f S2 (q .opened) at (q .nesting) (q .calls) b (fuelOf S2) (n - (i + 1)) W′ (listFrom (fuelOf S′) A′ (i + 1) w)
-                → Lists T W1 f S1 (q .opened) (q .at) (q .nesting) (q .calls) (q .block) (fuelOf S1) (n - i) W′ (listFrom (fuelOf S′) A′ i w)
+            goes-on : Traced (q .opened) S2 S′ → Lists T W2 f S2 (q .opened) at (q .nesting) (q .objects) (q .calls) b (fuelOf S2) (n - (i + 1)) W′ (listFrom (fuelOf S′) A′ (i + 1) w)
+                → Lists T W1 f S1 (q .opened) (q .at) (q .nesting) (q .objects) (q .calls) (q .block) (fuelOf S1) (n - i) W′ (listFrom (fuelOf S′) A′ i w)
             goes-on tr li =
-                list-more T W1 f S1 (q .opened) (q .at) (q .nesting) (q .calls) (q .block) (fuelOf S1) (n - i) (re .ready .fits) left W2 (Value v at (fuelOf S2)) (first .runs) v at (fuelOf S2) refl b
+                list-more T W1 f S1 (q .opened) (q .at) (q .nesting) (q .objects) (q .calls) (q .block) (fuelOf S1) (n - i) (re .ready .fits) left W2 (Value v at (fuelOf S2)) (first .runs) v at (fuelOf S2) refl b
                 (after .from) (after .to) (after .low) W′ (listFrom (fuelOf S′) A′ (i + 1) w)
-                (lists-on (q .opened) S1 S2 (first .trace) T W2 f at (q .nesting) (q .calls) b (fuelOf S2) (n - i - 1) W′ (listFrom (fuelOf S′) A′ (i + 1) w)
-                (subst (λ (k : ℕ). Lists T W2 f S2 (q .opened) at (q .nesting) (q .calls) b (fuelOf S2) k W′ (listFrom (fuelOf S′) A′ (i + 1) w)) (let e : n - (i + 1) ≡ n - i - 1 = omega arith in e) li))
+                (lists-on (q .opened) S1 S2 (first .trace) T W2 f at (q .nesting) (q .objects) (q .calls) b (fuelOf S2) (n - i - 1) W′ (listFrom (fuelOf S′) A′ (i + 1) w)
+                (subst (λ (k : ℕ). Lists T W2 f S2 (q .opened) at (q .nesting) (q .objects) (q .calls) b (fuelOf S2) k W′ (listFrom (fuelOf S′) A′ (i + 1) w)) (let e : n - (i + 1) ≡ n - i - 1 = omega arith in e) li))
                 (listFrom (fuelOf S′) A′ i w) (front w)
 
           pub rest-later : (q2 : Spot) → q2 ≡ movedSpot q at b → Rest T W f S p n W2 S2 (set A1 i x) q2 (i + 1)

@@ -106,9 +106,9 @@ outOf (Is r) next fuel = Value r next fuel
 outOf Absent next fuel = Halt Stuck fuel
 
 -- ---- values put in block sp
--- a new object of class k with the values of a list
-pub record Finishes (W : List ℕ) (k : ℕ) (l : Listed) (n sp : ℕ) (W′ : List ℕ) (o : Out) : Type 0 where
+-- a new object of class k with the values of a list, unless it has more than so many objects
+pub record Finishes (W : List ℕ) (k : ℕ) (l : Listed) (n objects sp : ℕ) (W′ : List ℕ) (o : Out) : Type 0 where
   pub kept : Kept sp W W′
   pub older : OutOlder W′ (sp + 1) o
-  pub is : outIn W′ o ≡ (listIn W n l then λ vs m. language.sized 32 (make k vs) m)
+  pub is : outIn W′ o ≡ (listIn W n l then λ vs m. language.sized objects (make k vs) m)
   pub next : (p : ℕ) → ListNext l p → NextIs o p

@@ -22,7 +22,7 @@ use Rattle.evaluator.specs.declared.Out.{Out}
 use Rattle.evaluator.specs.declared.frame.Frame.{Frame}
 use Rattle.evaluator.specs.State.{Kept, Older, PartsOlder, TraceHolds, frameIn, traceIn}
 use Rattle.evaluator.specs.Answers.{OutOlder, Shows}
-use Rattle.evaluator.specs.Evaluation.{Reads, ReadsAll, deeper, evalIn, evalsIn, Fits}
+use Rattle.evaluator.specs.Evaluation.{Reads, ReadsAll, deeper, evalIn, evalsIn, Limited, Fits}
 
 -- ---- the method
 abbrev pub FewIf : ℕ → Found → Type 0
@@ -36,66 +36,68 @@ pub record FindsTarget (T W : List ℕ) (v : ValueRef) (m n : ℕ) (o : Found) :
 
 -- ---- the receiver and the arguments
 -- the call of m with n arguments: the receiver at `at`, then the arguments
-pub record Calls (T W : List ℕ) (f : Frame) (tr : List ℕ) (top at left d sp fuel m n : ℕ) (W′ : List ℕ) (o : Out) : Type 0 where
+pub record Calls (T W : List ℕ) (f : Frame) (tr : List ℕ) (top at left objects d sp fuel m n : ℕ) (W′ : List ℕ) (o : Out) : Type 0 where
   pub kept : Kept sp W W′
   pub older : OutOlder W′ (sp + 1) o
   pub is : (t : Table) (e : Expr) (es : Exprs) → m < 256 → Reads T left at t e → ReadsAll T left (at + length (codeOf e)) t es → count es ≡ n
-      → Shows W′ o (at + length (codeOf e) + length (codesOf es)) (evalIn d t (frameIn W f) (traceIn W tr top) (call m e es) fuel)
+      → Shows W′ o (at + length (codeOf e) + length (codesOf es)) (evalIn objects d t (frameIn W f) (traceIn W tr top) (call m e es) fuel)
 
 -- what the arguments of a call ask, its receiver in block sp or below
-pub record ArgsFit (W : List ℕ) (f : Frame) (tr : List ℕ) (top left d sp : ℕ) (v : ValueRef) (n : ℕ) : Type 0 where
-  pub fits : Fits W f tr top (left + 1) d sp
+pub record ArgsFit (W : List ℕ) (f : Frame) (tr : List ℕ) (top left objects d sp : ℕ) (v : ValueRef) (n : ℕ) : Type 0 where
+  pub fits : Fits W f tr top (left + 1) objects d sp
   pub deep : left ≡ 0 → ⊥
   pub receiver : Older W (sp + 1) v
   pub few : n ≤ 3
 
 -- the n arguments at `at` of a call of method i, which has the name m, on v
-pub record CallsWith (T W : List ℕ) (f : Frame) (tr : List ℕ) (top at left d sp fuel : ℕ) (v : ValueRef) (m n i : ℕ) (W′ : List ℕ) (o : Out) : Type 0 where
+pub record CallsWith (T W : List ℕ) (f : Frame) (tr : List ℕ) (top at left objects d sp fuel : ℕ) (v : ValueRef) (m n i : ℕ) (W′ : List ℕ) (o : Out) : Type 0 where
   pub kept : Kept sp W W′
   pub older : OutOlder W′ (sp + 1) o
   pub is : (t : Table) (es : Exprs) (k : Method) → ReadsAll T left at t es → count es ≡ n → getElem? (t .methods) i ≡ some k
       → Shows W′ o (at + length (codesOf es))
-      (evalsIn d t (frameIn W f) (traceIn W tr top) es fuel then λ vs n′. language.invoke (deeper d t) (traceIn W tr top) (valueOf W v) m vs k n′)
+      (evalsIn objects d t (frameIn W f) (traceIn W tr top) es fuel then λ vs n′. language.invoke (deeper objects d t) (traceIn W tr top) (valueOf W v) m vs k n′)
 
 -- what a call asks whose receiver and n arguments lie below block sp + 4
-pub record CallFits (W tr : List ℕ) (top : ℕ) (v : ValueRef) (ps : List Slot) (n d sp : ℕ) : Type 0 where
+pub record CallFits (W tr : List ℕ) (top : ℕ) (v : ValueRef) (ps : List Slot) (n objects d sp : ℕ) : Type 0 where
   pub trace : TraceHolds W sp tr top
   pub receiver : Older W (sp + 4) v
   pub args : PartsOlder W (sp + 4) ps n
   pub few : n ≤ 3
   pub calls : top + d ≤ callLimit
+  pub limit : Limited objects
   pub room : sp + openBlocks * d + 2 * levelBlocks ≤ blockLimit
   pub long : workRoom ≤ length W
 
 -- method i, which has the name m, called on v with the n arguments; `next` is the place after the call
-pub record Invokes (T W tr : List ℕ) (top : ℕ) (v : ValueRef) (ps : List Slot) (n i next d sp fuel m : ℕ) (W′ : List ℕ) (o : Out) : Type 0 where
+pub record Invokes (T W tr : List ℕ) (top : ℕ) (v : ValueRef) (ps : List Slot) (n i next objects d sp fuel m : ℕ) (W′ : List ℕ) (o : Out) : Type 0 where
   pub kept : Kept sp W W′
   pub older : OutOlder W′ (sp + 1) o
   pub is : (t : Table) (k : Method) → Tabled T t → getElem? (t .methods) i ≡ some k
-      → Shows W′ o next (language.invoke (deeper d t) (traceIn W tr top) (valueOf W v) m (valuesFrom W ps 0 n) k fuel)
+      → Shows W′ o next (language.invoke (deeper objects d t) (traceIn W tr top) (valueOf W v) m (valuesFrom W ps 0 n) k fuel)
 
 -- ---- bodies, with room for d more open calls inside them
-pub record BodyFits (W tr : List ℕ) (top : ℕ) (v : ValueRef) (ps : List Slot) (n d sp : ℕ) : Type 0 where
+pub record BodyFits (W tr : List ℕ) (top : ℕ) (v : ValueRef) (ps : List Slot) (n objects d sp : ℕ) : Type 0 where
   pub trace : TraceHolds W sp tr top
   pub receiver : Older W (sp + 4) v
   pub args : PartsOlder W (sp + 4) ps n
   pub few : n ≤ 3
   pub calls : top + d + 1 ≤ callLimit
+  pub limit : Limited objects
   pub room : sp + openBlocks * (d + 1) + 2 * levelBlocks ≤ blockLimit
   pub long : workRoom ≤ length W
 
 -- the right side, with res the mark x
-pub record RunsRight (T W tr : List ℕ) (top : ℕ) (v : ValueRef) (ps : List Slot) (n i next d sp fuel x : ℕ) (W′ : List ℕ) (o : Out) : Type 0 where
+pub record RunsRight (T W tr : List ℕ) (top : ℕ) (v : ValueRef) (ps : List Slot) (n i next objects d sp fuel x : ℕ) (W′ : List ℕ) (o : Out) : Type 0 where
   pub kept : Kept sp W W′
   pub older : OutOlder W′ (sp + 1) o
   pub is : (t : Table) (k : Method) → Tabled T t → getElem? (t .methods) i ≡ some k
-      → Shows W′ o next (language.evalTo 32 d t (language.frameOf (valueOf W v) (some (markOf x)) (valuesFrom W ps 0 n)) (traceIn W tr top) (k .right) fuel)
+      → Shows W′ o next (language.evalTo objects d t (language.frameOf (valueOf W v) (some (markOf x)) (valuesFrom W ps 0 n)) (traceIn W tr top) (k .right) fuel)
 
 -- the left side, under a fresh mark
-pub record RunsLeft (T W tr : List ℕ) (top : ℕ) (v : ValueRef) (ps : List Slot) (n i next d sp fuel m : ℕ) (W′ : List ℕ) (o : Out) : Type 0 where
+pub record RunsLeft (T W tr : List ℕ) (top : ℕ) (v : ValueRef) (ps : List Slot) (n i next objects d sp fuel m : ℕ) (W′ : List ℕ) (o : Out) : Type 0 where
   pub kept : Kept sp W W′
   pub older : OutOlder W′ (sp + 1) o
   pub is : (t : Table) (k : Method) → Tabled T t → getElem? (t .methods) i ≡ some k
       → Shows W′ o next
-      (language.evalTo 32 d t (language.frameOf (valueOf W v) none (valuesFrom W ps 0 n)) (language.opened (traceIn W tr top) (valueOf W v) m (valuesFrom W ps 0 n)) (k .left) fuel
+      (language.evalTo objects d t (language.frameOf (valueOf W v) none (valuesFrom W ps 0 n)) (language.opened (traceIn W tr top) (valueOf W v) m (valuesFrom W ps 0 n)) (k .left) fuel
       then λ u n′. value (close (length (traceIn W tr top)) u) n′)

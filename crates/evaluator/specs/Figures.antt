@@ -7,6 +7,10 @@ use Rattle.canon.specs.Figures.{blocksSize}
 abbrev pub callLimit : ℕ
 callLimit = 16
 
+-- how many objects a value may have, in a run of document 01
+abbrev pub objectLimit : ℕ
+objectLimit = 32
+
 -- the numbers of an open call at rest, and where its arguments begin among them
 abbrev pub callSize : ℕ
 callSize = 8
@@ -33,7 +37,7 @@ levelBlocks = 3
 abbrev pub openBlocks : ℕ
 openBlocks = 16
 
--- what main needs, which begins at block 1: 1 + openBlocks * callLimit + levelBlocks * nestingLimit. So no block from 274 on is touched
+-- what main needs, which begins at block 1: 1 + openBlocks * callLimit + levelBlocks * nestingLimit. So no block from blockLimit - 1 on is touched
 abbrev pub blockLimit : ℕ
 blockLimit = 275
 

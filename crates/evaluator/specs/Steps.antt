@@ -41,7 +41,7 @@ pub record Runnable (W : List ℕ) (f : Frame) (S : List ℕ) (p : Spot) : Type 
   pub based : Based W (p .block)
   pub full : length S ≡ traceSize
   pub count : f .n ≤ 3
-  pub fits : Fits W f S (p .opened) (p .nesting) (p .calls) (p .block)
+  pub fits : Fits W f S (p .opened) (p .nesting) (p .objects) (p .calls) (p .block)
 
 -- one level in
 pub record PartRunnable (W : List ℕ) (f : Frame) (S : List ℕ) (p : Spot) : Type 0 where
@@ -49,13 +49,13 @@ pub record PartRunnable (W : List ℕ) (f : Frame) (S : List ℕ) (p : Spot) : T
   pub full : length S ≡ traceSize
   pub place : p .at < placeLimit
   pub count : f .n ≤ 3
-  pub fits : Fits W f S (p .opened) (p .nesting + 1) (p .calls) (p .block)
+  pub fits : Fits W f S (p .opened) (p .nesting + 1) (p .objects) (p .calls) (p .block)
 
 pub record ListRunnable (W : List ℕ) (f : Frame) (S : List ℕ) (p : Spot) (n : ℕ) : Type 0 where
   pub based : Based W (p .block)
   pub full : length S ≡ traceSize
   pub count : f .n ≤ 3
-  pub fits : ListFits W f S (p .opened) (p .nesting) (p .calls) (p .block) n
+  pub fits : ListFits W f S (p .opened) (p .nesting) (p .objects) (p .calls) (p .block) n
 
 -- the n values at rest in A lie below block dst + n, and that below the spare block
 pub record PartsReady (W A : List ℕ) (n dst : ℕ) : Type 0 where
@@ -70,18 +70,18 @@ pub record ArgsRunnable (W : List ℕ) (f : Frame) (S : List ℕ) (p : Spot) (v 
   pub based : Based W (p .block)
   pub full : length S ≡ traceSize
   pub count : f .n ≤ 3
-  pub fits : ArgsFit W f S (p .opened) (p .nesting) (p .calls) (p .block) v n
+  pub fits : ArgsFit W f S (p .opened) (p .nesting) (p .objects) (p .calls) (p .block) v n
 
 pub record CallRunnable (W S : List ℕ) (v : ValueRef) (A : List ℕ) (n : ℕ) (p : Spot) : Type 0 where
   pub based : Based W (p .block)
   pub full : length S ≡ traceSize
-  pub fits : CallFits W S (p .opened) v (slotsAt A 0) n (p .calls) (p .block)
+  pub fits : CallFits W S (p .opened) v (slotsAt A 0) n (p .objects) (p .calls) (p .block)
 
 -- a call is opened
 pub record BodyRunnable (W S : List ℕ) (v : ValueRef) (A : List ℕ) (n : ℕ) (p : Spot) : Type 0 where
   pub based : Based W (p .block)
   pub full : length S ≡ traceSize
-  pub fits : BodyFits W S (p .opened) v (slotsAt A 0) n (p .calls - 1) (p .block)
+  pub fits : BodyFits W S (p .opened) v (slotsAt A 0) n (p .objects) (p .calls - 1) (p .block)
   pub deep : p .calls ≡ 0 → ⊥
 
 -- the mark of a call
@@ -97,42 +97,42 @@ pub record MarkGiven (r : ValueRef) : Type 0 where
 -- ---- what is done
 pub record EvalStep (T W : List ℕ) (f : Frame) (S : List ℕ) (p : Spot) (W′ S′ : List ℕ) (o : Done) : Type 0 where
   pub trace : Traced (p .opened) S S′
-  pub runs : Evaluates T W f S (p .opened) (p .at) (p .nesting) (p .calls) (p .block) (fuelOf S) W′ (outWith (fuelOf S′) o)
+  pub runs : Evaluates T W f S (p .opened) (p .at) (p .nesting) (p .objects) (p .calls) (p .block) (fuelOf S) W′ (outWith (fuelOf S′) o)
 
 pub record FieldStep (T W : List ℕ) (f : Frame) (S : List ℕ) (p : Spot) (k : ℕ) (W′ S′ : List ℕ) (o : Done) : Type 0 where
   pub trace : Traced (p .opened) S S′
-  pub runs : Fields T W f S (p .opened) (p .at) (p .nesting) (p .calls) (p .block) (fuelOf S) k W′ (outWith (fuelOf S′) o)
+  pub runs : Fields T W f S (p .opened) (p .at) (p .nesting) (p .objects) (p .calls) (p .block) (fuelOf S) k W′ (outWith (fuelOf S′) o)
 
 pub record ListStep (T W : List ℕ) (f : Frame) (S : List ℕ) (p : Spot) (n : ℕ) (W′ S′ A : List ℕ) (w : Walked) : Type 0 where
   pub trace : Traced (p .opened) S S′
   pub full : length A ≡ 4
-  pub runs : Lists T W f S (p .opened) (p .at) (p .nesting) (p .calls) (p .block) (fuelOf S) n W′ (listFrom (fuelOf S′) A 0 w)
+  pub runs : Lists T W f S (p .opened) (p .at) (p .nesting) (p .objects) (p .calls) (p .block) (fuelOf S) n W′ (listFrom (fuelOf S′) A 0 w)
 
 -- whatever the fuel
-pub record FinishStep (W : List ℕ) (c n : ℕ) (A : List ℕ) (dst next : ℕ) (W′ : List ℕ) (o : Done) : Type 0 where
-  pub runs : (fuel : ℕ) → Finishes W c (listFrom fuel A 0 (walked.After next)) n dst W′ (outWith fuel o)
+pub record FinishStep (W : List ℕ) (c n : ℕ) (A : List ℕ) (objects dst next : ℕ) (W′ : List ℕ) (o : Done) : Type 0 where
+  pub runs : (fuel : ℕ) → Finishes W c (listFrom fuel A 0 (walked.After next)) n objects dst W′ (outWith fuel o)
 
 pub record NewStep (T W : List ℕ) (f : Frame) (S : List ℕ) (p : Spot) (c n : ℕ) (W′ S′ : List ℕ) (o : Done) : Type 0 where
   pub trace : Traced (p .opened) S S′
-  pub runs : News T W f S (p .opened) (p .at) (p .nesting) (p .calls) (p .block) (fuelOf S) c n W′ (outWith (fuelOf S′) o)
+  pub runs : News T W f S (p .opened) (p .at) (p .nesting) (p .objects) (p .calls) (p .block) (fuelOf S) c n W′ (outWith (fuelOf S′) o)
 
 pub record CallStep (T W : List ℕ) (f : Frame) (S : List ℕ) (p : Spot) (m n : ℕ) (W′ S′ : List ℕ) (o : Done) : Type 0 where
   pub trace : Traced (p .opened) S S′
-  pub runs : Calls T W f S (p .opened) (p .at) (p .nesting) (p .calls) (p .block) (fuelOf S) m n W′ (outWith (fuelOf S′) o)
+  pub runs : Calls T W f S (p .opened) (p .at) (p .nesting) (p .objects) (p .calls) (p .block) (fuelOf S) m n W′ (outWith (fuelOf S′) o)
 
 pub record ArgsStep (T W : List ℕ) (f : Frame) (S : List ℕ) (p : Spot) (v : ValueRef) (m n i : ℕ) (W′ S′ : List ℕ) (o : Done) : Type 0 where
   pub trace : Traced (p .opened) S S′
-  pub runs : CallsWith T W f S (p .opened) (p .at) (p .nesting) (p .calls) (p .block) (fuelOf S) v m n i W′ (outWith (fuelOf S′) o)
+  pub runs : CallsWith T W f S (p .opened) (p .at) (p .nesting) (p .objects) (p .calls) (p .block) (fuelOf S) v m n i W′ (outWith (fuelOf S′) o)
 
 -- the spot is after the call
 pub record InvokeStep (T W S : List ℕ) (v : ValueRef) (A : List ℕ) (n i m : ℕ) (p : Spot) (W′ S′ : List ℕ) (o : Done) : Type 0 where
   pub trace : Traced (p .opened) S S′
-  pub runs : Invokes T W S (p .opened) v (slotsAt A 0) n i (p .at) (p .calls) (p .block) (fuelOf S) m W′ (outWith (fuelOf S′) o)
+  pub runs : Invokes T W S (p .opened) v (slotsAt A 0) n i (p .at) (p .objects) (p .calls) (p .block) (fuelOf S) m W′ (outWith (fuelOf S′) o)
 
 pub record RightStep (T W S : List ℕ) (v : ValueRef) (A : List ℕ) (n i : ℕ) (p : Spot) (mark : ValueRef) (W′ S′ : List ℕ) (o : Done) : Type 0 where
   pub trace : Traced (p .opened) S S′
-  pub runs : RunsRight T W S (p .opened) v (slotsAt A 0) n i (p .at) (p .calls - 1) (p .block) (fuelOf S) (markIn mark) W′ (outWith (fuelOf S′) o)
+  pub runs : RunsRight T W S (p .opened) v (slotsAt A 0) n i (p .at) (p .objects) (p .calls - 1) (p .block) (fuelOf S) (markIn mark) W′ (outWith (fuelOf S′) o)
 
 pub record LeftStep (T W S : List ℕ) (v : ValueRef) (A : List ℕ) (n i m : ℕ) (p : Spot) (W′ S′ : List ℕ) (o : Done) : Type 0 where
   pub trace : Traced (p .opened) S S′
-  pub runs : RunsLeft T W S (p .opened) v (slotsAt A 0) n i (p .at) (p .calls - 1) (p .block) (fuelOf S) m W′ (outWith (fuelOf S′) o)
+  pub runs : RunsLeft T W S (p .opened) v (slotsAt A 0) n i (p .at) (p .objects) (p .calls - 1) (p .block) (fuelOf S) m W′ (outWith (fuelOf S′) o)

@@ -32,6 +32,7 @@ ghost use mathlib.Core.Path.{_≡_};
 ghost use Prim.Native.Nat.{ℕ, _+_, _*_, _<_, _≤_};
 ghost use lib.ListN.{length};
 ghost use Rattle.evaluator.specs.Answers.{stopsAs, haltsAs};
+ghost use Rattle.evaluator.specs.Evaluation.{Limited};
 ghost use Rattle.evaluator.specs.Preset.{isPreset};
 ghost use Rattle.evaluator.specs.Resting.{frameOf};
 ghost use Rattle.evaluator.specs.Spots.{pastOf};
@@ -213,15 +214,23 @@ pub(crate) fn eval_list(
     Walked::After(q.at)
 }
 
-// A new object of class c with the n values at rest in vs, in block dst or below; `next` is the place after.
-pub(crate) fn finish(work: &mut [u8], c: u8, n: u8, vs: &[u32; 4], dst: u16, next: u16) -> Done
-    requires { ⌜ PartsReady (now work) (now vs) n dst ⌝ }
-    ensures { λ o. ⌜ FinishStep (now (work .entry)) c n (now (vs .entry)) dst next (now (work .exit)) o ⌝ }
+// A new object of class c with the n values at rest in vs, in block dst or below, unless it has more than `objects` objects; `next` is the place after.
+pub(crate) fn finish(
+    work: &mut [u8],
+    c: u8,
+    n: u8,
+    vs: &[u32; 4],
+    objects: u8,
+    dst: u16,
+    next: u16,
+) -> Done
+    requires { ⌜ PartsReady (now work) (now vs) n dst × Limited objects ⌝ }
+    ensures { λ o. ⌜ FinishStep (now (work .entry)) c n (now (vs .entry)) objects dst next (now (work .exit)) o ⌝ }
 {
     if n == 0 {
         return Done::Value(make_bare(work, c, dst), next);
     }
-    let m = make(work, c, &vs[..], n, dst);
+    let m = make(work, c, &vs[..], n, dst, objects);
     let Made::Value(v) = m else {
         return Done::Halt(Stop::TooLarge);
     };
@@ -256,5 +265,5 @@ pub(crate) fn eval_new(
     let Walked::After(next) = w else {
         return halted(w);
     };
-    finish(work, c, n, &vs, p.block, next)
+    finish(work, c, n, &vs, p.objects, p.block, next)
 }

@@ -5,7 +5,7 @@ ghost use Rattle.evaluator.specs.Figures.{placeLimit};
 ghost use Rattle.evaluator.specs.Spots.{innerSpot, movedSpot, downSpot, bodySpot};
 
 // The place of the expression, the block that its value goes to, the nesting left, how many calls may still be opened, how many left-side calls are
-// open, and how many objects a value may have: nobody reads that until the session has a limit of its own (2026-11). Eight bytes go in a register.
+// open, and how many objects a value may have. Eight bytes go in a register.
 pub struct Spot {
     pub at: u16,
     pub block: u16,

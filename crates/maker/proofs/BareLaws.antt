@@ -25,7 +25,8 @@ use Rattle.maker.specs.Laying.{valuesFrom, MadeIs}
 use Rattle.maker.specs.Adding.{codesOf, objectOf}
 use Rattle.maker.specs.Bares.{bareObject, Preset, Bares, LaidBares}
 use Rattle.maker.proofs.Makes.{made-here}
-use Rattle.maker.proofs.Beside.{bare-root, bare-codes, no-parts, each-none, beside-value}
+use Rattle.maker.proofs.Wheres.{each-none}
+use Rattle.maker.proofs.Beside.{bare-root, bare-codes, no-parts, beside-value}
 
 -- ---- the table: a test of the numbers below n, and what it tells of each
 abbrev pub allTo : (ℕ → Bool) → ℕ → Bool

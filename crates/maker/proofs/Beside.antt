@@ -1,262 +1,41 @@
--- Laws of a new object beside the objects of one block, or alone in a block.
-use Prim.Native.Nat.{ℕ, zero, suc, _+_, _-_, _*_, _%_, _<_, _≤_}
+-- A new object beside the objects of one block, or alone: the laws of `empty`, `append`, `add`, `make_beside`, `make_alone` and `make_bare`.
+-- Not here: how it is looked for (Finds), parts in several blocks (Tries, Hosts).
+use Prim.Native.Nat.{ℕ, zero, suc, _+_, _-_, _*_, _<_, _≤_}
 use native.Mathlib.Omega.{arith}
-use native.Mathlib.Decide.{decLt, ℕ-discrete}
+use native.Mathlib.Decide.{decLt}
 use mathlib.Core.Path.{_≡_, refl, sym, ap, ap₂, _∙_, subst}
-use mathlib.Core.Bool.{Bool, true, false, not, false≢true}
+use mathlib.Core.Bool.{true, false, false≢true}
 use mathlib.Core.List.{List, [], _∷_, _++_, map}
 use mathlib.Core.Option.{some, Option·none-ne-some}
-use lib.ListN.{length, getD, set, take, getElem?, length-map, length-set, length-take}
-use lib.Seq.{getD-set-same, getD-set-other, getD-take, ext-getD, length-take-le}
-use lib.Dec.{eqb}
-use borrow.Author.Tests.{eqb-true, eq-eqb, ne-eqb}
-use types.Run.{OneOf}
-use denote.Enum.Declared.{tagOf}
-use Rattle.cofj.specs.Values.{Ref, obj, mark, undet, Node, node, Graph, graph, nodeAt, refsAt, canon, make, eqNode, eqNats}
+use lib.ListN.{length, getD, set, take, getElem?, length-set}
+use lib.Seq.{getD-set-same, getD-set-other}
+use borrow.Author.Tests.{eqb-true}
+use Rattle.cofj.specs.Values.{Ref, obj, mark, undet, Node, node, Graph, graph, nodeAt, refsAt, canon, make}
 use Rattle.cofj.specs.Unfolding.{InRange, follow}
-use Rattle.cofj.proofs.Basics.{getD-map-lt, eqNode-true, eqNode-refl}
-use Rattle.canon.specs.Figures.{objectSize, headSize, codeCount, firstLeaf, undeterminedCode, firstMark, capacity, countAt, levelAt, blockSize, spare, threeBytes}
-use Rattle.canon.specs.Layout.{refOf, nodeIn, nodesIn, Packed, part, Distinct, Block, Inside, objectsIn, graphAt, countIn, levelIn, Outside, ended}
+use Rattle.canon.specs.Figures.{objectSize, headSize, codeCount, firstLeaf, undeterminedCode, firstMark, capacity, countAt, levelAt, blockSize, spare}
+use Rattle.canon.specs.Layout.{nodeIn, nodesIn, Packed, part, Distinct, Block, Inside, objectsIn, graphAt, countIn, levelIn, Outside, ended}
 use Rattle.canon.specs.Tables.{Carried}
 use Rattle.canon.specs.Numbers.{Levels}
-use Rattle.canon.proofs.Nodes.{field-low, code-low, ended-size, ended-below, ended-above, ended-count, ended-level, ended-reach, length-nodes, at-nodes, more-nodes, nodes-same, node-same, packed-same, eq-node, ref-object, ref-undet, ref-mark}
-use Rattle.canon.proofs.Walks.{four, four-at}
+use Rattle.canon.proofs.Nodes.{field-low, code-low, ended-size, ended-below, ended-above, ended-count, ended-level, ended-reach, length-nodes, at-nodes, more-nodes, nodes-same, node-same, packed-same}
 use Rattle.values.specs.declared.ValueRef.{ValueRef}
 use Rattle.values.specs.declared.ValueRef.the-variants.{Object, Mark, Undetermined}
-use Rattle.values.specs.Tests.{any}
 use Rattle.values.specs.Layout.{rawOf, Holds}
 use Rattle.values.specs.Operations.{Gives, Copied}
-use Rattle.values.proofs.Tests.{not-true, not-false, any-there, any-not, any-more}
+use Rattle.values.proofs.Tests.{any-not}
 use Rattle.values.proofs.Trees.{in-larger, leaf-same}
-use Rattle.values.proofs.Blocks.{held-inside, no-object, size-in}
+use Rattle.values.proofs.Blocks.{size-in}
 use Rattle.values.proofs.Copies.{block-held}
 use Rattle.values.proofs.Selecting.{unchanged, under}
-use Rattle.values.proofs.ValueRef as RefT
 use Rattle.maker.specs.Figures.{unusedCodes}
 use Rattle.maker.specs.Bares.{bareObject}
 use Rattle.maker.specs.declared.Slot.{Slot}
 use Rattle.maker.specs.declared.Made.the-variants.{Value}
 use Rattle.maker.specs.Laying.{valuesFrom, rawsFrom, PartsHeld, Makeable, MadeIs}
-use Rattle.maker.specs.Adding.{codesOf, objectOf, roots, RootObject, RootCodes, Missed, Found, Emptied, Appended, Added, isObject, blockOf, standsIn, partOf, allStand, someObject, firstBlock}
-use Rattle.maker.proofs.Codes.{object-class, object-count, object-code, object-length, object-whole, spare-codes, first-code, next-code, codes-packed, objectPut, object-put}
-use Rattle.maker.proofs.Makes.{none-slot, raws-whole, made-raw, made-here, made-brought}
+use Rattle.maker.specs.Adding.{codesOf, objectOf, roots, RootObject, RootCodes, Found, Emptied, Appended, Added, isObject, standsIn, partOf, allStand, someObject}
+use Rattle.maker.proofs.Codes.{objectPut, object-put}
+use Rattle.maker.proofs.Makes.{raws-whole, made-raw, made-here, made-brought}
 use Rattle.maker.proofs.Adding.{more, inner-more, distinct-more, Fit, AllFit, roots-low, top, make-found, make-new}
-
--- ---- the new object
-module _ (W : List ℕ) (r : ValueRef) where
-  pub code-object : (b i : ℕ) → Holds W r → r ≡ Object i b → refOf i ≡ rawOf W r .root
-  code-object b i h e = let ob : Inside W b i = held-inside W r b i h e in rw e (ref-object i (omega (arith, ob .low, ob .block .small)))
-
-  pub code-mark : (k : ℕ) → r ≡ Mark k → refOf (firstMark + k) ≡ rawOf W r .root
-  code-mark k e = rw e (ref-mark k)
-
-  pub code-undet : r ≡ Undetermined → refOf undeterminedCode ≡ rawOf W r .root
-  code-undet e = rw e ref-undet
-
--- the codes of the parts from i on, n in all
-pub record RootBegun (W : List ℕ) (ps : List Slot) (n i w : ℕ) : Type 0 where
-  pub done : (j : ℕ) → i + j < n → refOf (getD (codesOf w) j 0) ≡ rawOf W (partOf ps (i + j)) .root
-  pub spare : (j : ℕ) → n ≤ i + j → j < codeCount → getD (codesOf w) j 0 ≡ undeterminedCode
-
-pub root-none : (W : List ℕ) (ps : List Slot) (n : ℕ) → RootBegun W ps n n unusedCodes
-root-none W ps n = record { done = λ j l. absurd (omega arith); spare = λ j l h. spare-codes j h }
-
-pub root-held : (W : List ℕ) (ps : List Slot) (n i : ℕ) (v : ValueRef) → PartsHeld W ps n → 0 < i → i ≤ n → v ≡ partOf ps (i - 1) → Holds W v
-root-held W ps n i v held h le e = subst (Holds W) (sym e) (held .part (i - 1) (omega arith))
-
-pub root-more : (W : List ℕ) (ps : List Slot) (n i w : ℕ) (v : ValueRef) (x : ℕ) → RootBegun W ps n i w → 0 < i → i ≤ n → n ≤ codeCount → x < 256
-    → v ≡ partOf ps (i - 1) → refOf x ≡ rawOf W v .root → RootBegun W ps n (i - 1) (x + 256 * (w % threeBytes))
-root-more W ps n i w v x b h le few lx ev ex = record { done = done; spare = spare }
-  where
-    done : (j : ℕ) → i - 1 + j < n → refOf (getD (codesOf (x + 256 * (w % threeBytes))) j 0) ≡ rawOf W (partOf ps (i - 1 + j)) .root
-    done zero l = let e : i - 1 + 0 ≡ i - 1 = omega arith in rw e (ap refOf (first-code x w lx) ∙ ex ∙ ap (λ (u : ValueRef). rawOf W u .root) ev)
-    done (suc j) l = let e : i - 1 + suc j ≡ i + j = omega arith in rw e (ap refOf (next-code x w lx j (omega arith)) ∙ b .done j (omega arith))
-
-    spare : (j : ℕ) → n ≤ i - 1 + j → j < codeCount → getD (codesOf (x + 256 * (w % threeBytes))) j 0 ≡ undeterminedCode
-    spare zero l m = absurd (omega arith)
-    spare (suc j) l m = next-code x w lx j (omega arith) ∙ b .spare j (omega arith) (omega arith)
-
-root-refs : (W : List ℕ) (ps : List Slot) (n : ℕ) (T : List ℕ) → n ≤ codeCount → PartsHeld W ps n → ((j : ℕ) → j < n → refOf (getD T (2 + j) 0) ≡ rawOf W (partOf ps j) .root)
-    → take n (four T 0) ≡ roots (rawsFrom W ps 0 n)
-unfolding rawsFrom
-root-refs W ps n T few held code =
-    let lp : length (take n ps) ≡ n = length-take-le n ps (held .full) in
-    let lg : length (map (λ s. rawOf W (s .r)) (take n ps)) ≡ n = length-map (take n ps) (λ s. rawOf W (s .r)) ∙ lp in
-    let lt : length (take n (four T 0)) ≡ n = omega (arith, length-take n (four T 0)) in
-    ext-getD undet (take n (four T 0)) (roots (map (λ s. rawOf W (s .r)) (take n ps)))
-    (lt ∙ sym lg ∙ sym (length-map (map (λ s. rawOf W (s .r)) (take n ps)) (λ g. g .root)))
-    (λ j h. let h′ : j < n = omega arith in
-    getD-take n (four T 0) j undet h′ ∙ four-at T 0 j (omega arith) ∙ code j h′
-    ∙ ap (λ (s : Slot). rawOf W (s .r) .root) (sym (getD-take n ps j none-slot h′))
-    ∙ ap (λ (g : Graph). g .root) (sym (getD-map-lt (λ s. rawOf W (s .r)) (take n ps) j (graph undet []) none-slot (omega arith)))
-    ∙ sym (getD-map-lt (λ g. g .root) (map (λ s. rawOf W (s .r)) (take n ps)) j undet (graph undet []) (omega arith)))
-
-pub root-done : (W : List ℕ) (ps : List Slot) (n i w : ℕ) → RootBegun W ps n i w → i ≤ 0 → n ≤ codeCount → PartsHeld W ps n → RootCodes (rawsFrom W ps 0 n) n w
-unfolding nodeIn
-root-done W ps n i w b none few held = record {
-  object = λ c. record {
-    is = ap₂ node (object-class c n w) (ap (λ (k : ℕ). take k (four (objectOf c n w) 0)) (object-count c n w) ∙ root-refs W ps n (objectOf c n w) few held (code c));
-    packed = codes-packed c n w few (λ j l m. b .spare j (omega arith) m);
-  };
-}
-  where
-    code : (c j : ℕ) → j < n → refOf (getD (objectOf c n w) (2 + j) 0) ≡ rawOf W (partOf ps j) .root
-    code c j h = let e : i + j ≡ j = omega arith in ap refOf (object-code c n w j) ∙ rw e at (b .done j (omega arith))
-
-pub root-packed : (gs : List Graph) (c n w : ℕ) → RootCodes gs n w → Packed (objectOf c n w) 0
-root-packed gs c n w r = r .object c .packed
-
--- ---- looked for among the objects
-pub missed-none : (W : List ℕ) (b : ℕ) (T : List ℕ) → Missed W b T 0
-missed-none W b T = record { none = λ j h. absurd (omega arith) }
-
-module _ (W : List ℕ) (b t c n w k : ℕ) (bk : Block W b) (et : t ≡ countIn W b) (pk : Packed (objectOf c n w) 0) (m : Missed W b (objectOf c n w) k) where
-  module _ (h : k < t) (r : Bool) (er : r ≡ eqNats (part W (blockSize * b + objectSize * k) objectSize) (objectOf c n w)) where
-    test : eqNode (nodeIn W (blockSize * b + objectSize * k)) (nodeIn (objectOf c n w) 0) ≡ r
-    test =
-        eq-node W (objectOf c n w) (blockSize * b + objectSize * k) 0 (omega (arith, bk .room, bk .small)) (omega (arith, object-length c n w)) (bk .packed k (omega arith)) pk
-        ∙ ap (eqNats (part W (blockSize * b + objectSize * k) objectSize)) (object-whole c n w) ∙ sym er
-
-    pub missed-more : r ≡ false → Missed W b (objectOf c n w) (k + 1)
-    missed-more f = record { none = λ j l. go j l (ℕ-discrete j k) }
-      where
-        go : (j : ℕ) → j < k + 1 → Dec (j ≡ k) → nodeIn W (blockSize * b + objectSize * j) ≡ nodeIn (objectOf c n w) 0 → ⊥
-        go j l (yes z) e =
-            false≢true (sym f ∙ sym test ∙ ap (λ (x : Node). eqNode x (nodeIn (objectOf c n w) 0)) (ap (λ (i : ℕ). nodeIn W (blockSize * b + objectSize * i)) (sym z) ∙ e) ∙ eqNode-refl (nodeIn (objectOf c n w) 0))
-        go j l (no z) e = m .none j (omega (arith, z)) e
-
-    pub find-hit : r ≡ true → Found W b t (objectOf c n w) k
-    find-hit e = record { hit = λ _. eqNode-true _ _ (test ∙ e); miss = λ l. absurd (omega arith) }
-
-  pub find-miss : t ≤ k → k ≤ t → Found W b t (objectOf c n w) t
-  find-miss h l = record { hit = λ z. absurd (omega arith); miss = λ _. record { none = λ j q. m .none j (omega arith) } }
-
--- ---- the parts
-module _ (ps : List Slot) (n i : ℕ) (h : i < n) (v : ValueRef) (ev : v ≡ partOf ps i) where
-  pub object-there : (x k : ℕ) → v ≡ Object x k → true ≡ someObject ps n
-  unfolding someObject isObject
-  object-there x k e = sym (any-there (λ j. isObject (partOf ps j)) n i h (ap isObject (sym ev ∙ e)))
-
-  pub leaves-more : someObject ps i ≡ false → OneOf (1 ∷ 2 ∷ []) (tagOf RefT.the-type v) → someObject ps (i + 1) ≡ false
-  unfolding someObject isObject
-  leaves-more a l = any-more (λ j. isObject (partOf ps j)) i a (ap isObject (sym ev) ∙ no-object (λ u. isObject u ≡ false) (λ k. refl) refl v l)
-
-module _ (ps : List Slot) where
-  pub leaves-none : someObject ps 0 ≡ false
-  unfolding someObject any
-  leaves-none = refl
-
-  pub leaves-all : (n i : ℕ) → someObject ps i ≡ false → i ≤ n → n ≤ i → false ≡ someObject ps n
-  leaves-all n i a h l = let e : i ≡ n = omega arith in sym (rw e at a)
-
--- what a call has denied
-pub denied : (r a : Bool) → r ≡ a → not r ≡ true → a ≡ false
-denied r a e q = sym e ∙ not-true r q
-
--- ---- the first block other than 0
-module _ (v : ValueRef) where
-  pub block-leaf : OneOf (1 ∷ 2 ∷ []) (tagOf RefT.the-type v) → 0 ≡ blockOf v
-  unfolding blockOf
-  block-leaf = no-object (λ u. 0 ≡ blockOf u) (λ k. refl) refl v
-
-  pub block-object : (i b : ℕ) → v ≡ Object i b → b ≡ blockOf v
-  unfolding blockOf
-  block-object i b e = rw e
-
-module _ (ps : List Slot) where
-  pub first-none : firstBlock ps 0 ≡ 0
-  unfolding firstBlock
-  first-none = refl
-
-  first-next : (i : ℕ) → firstBlock ps i ≡ 0 → firstBlock ps (suc i) ≡ blockOf (partOf ps i)
-  unfolding firstBlock
-  first-next i e = rw (eq-eqb (firstBlock ps i) 0 e)
-
-  first-stays : (i : ℕ) → (firstBlock ps i ≡ 0 → ⊥) → firstBlock ps (suc i) ≡ firstBlock ps i
-  unfolding firstBlock
-  first-stays i d = rw (ne-eqb (firstBlock ps i) 0 d)
-
-  first-is : (n i : ℕ) → i < n → firstBlock ps i ≡ 0 → (blockOf (partOf ps i) ≡ 0 → ⊥) → firstBlock ps n ≡ blockOf (partOf ps i)
-  first-is zero i h e d = absurd (omega arith)
-  first-is (suc n) i h e d = go (λ l. first-is n i l e d) (ℕ-discrete i n)
-    where
-      go : (i < n → firstBlock ps n ≡ blockOf (partOf ps i)) → Dec (i ≡ n) → firstBlock ps (suc n) ≡ blockOf (partOf ps i)
-      go ih (yes z) = subst (λ (m : ℕ). firstBlock ps (suc m) ≡ blockOf (partOf ps i)) z (first-next i e)
-      go ih (no z) =
-          let q : firstBlock ps n ≡ blockOf (partOf ps i) = ih (omega (arith, z)) in
-          first-stays n (λ y. d (sym q ∙ y)) ∙ q
-
-  pub first-end : (n i : ℕ) → firstBlock ps i ≡ 0 → i ≤ n → n ≤ i → 0 ≡ firstBlock ps n
-  first-end n i a h l = let e : i ≡ n = omega arith in sym (rw e at a)
-
-  -- it holds objects
-  own-block : (W : List ℕ) (v : ValueRef) → Holds W v → (blockOf v ≡ 0 → ⊥) → Block W (blockOf v)
-  unfolding blockOf
-  own-block W (Object i b) h d = h .held .block
-  own-block W (Mark k) h d = absurd (d refl)
-  own-block W Undetermined h d = absurd (d refl)
-
-  module _ (W : List ℕ) (n : ℕ) (held : PartsHeld W ps n) where
-    first-at : (i : ℕ) → i ≤ n → (firstBlock ps i ≡ 0 → ⊥) → Block W (firstBlock ps i)
-    first-at zero l d = absurd (d first-none)
-    first-at (suc i) l d = go (first-at i (omega arith)) (ℕ-discrete (firstBlock ps i) 0)
-      where
-        go : ((firstBlock ps i ≡ 0 → ⊥) → Block W (firstBlock ps i)) → Dec (firstBlock ps i ≡ 0) → Block W (firstBlock ps (suc i))
-        go ih (yes e) = subst (Block W) (sym (first-next i e)) (own-block W (partOf ps i) (held .part i (omega arith)) (λ z. d (first-next i e ∙ z)))
-        go ih (no q) = subst (Block W) (sym (first-stays i q)) (ih q)
-
-    pub first-block : (b : ℕ) → b ≡ firstBlock ps n → (b ≡ 0 → ⊥) → Block W b
-    first-block b e d = subst (Block W) (sym e) (first-at n (omega arith) (λ z. d (e ∙ z)))
-
-module _ (ps : List Slot) (n i b : ℕ) (h : i < n) (a : firstBlock ps i ≡ 0) (v : ValueRef) (ev : v ≡ partOf ps i) (e : b ≡ blockOf v) where
-  part-block : b ≡ blockOf (partOf ps i)
-  part-block = e ∙ ap blockOf ev
-
-  pub first-found : (b ≡ 0 → ⊥) → b ≡ firstBlock ps n
-  first-found d = part-block ∙ sym (first-is ps n i h a (λ z. d (part-block ∙ z)))
-
-  pub first-more : b ≡ 0 → firstBlock ps (i + 1) ≡ 0
-  first-more z = let s : i + 1 ≡ suc i = omega arith in rw s (first-next ps i a ∙ sym part-block ∙ z)
-
--- ---- the parts in one block
-pub stands-here : (b : ℕ) (v : ValueRef) (x i : ℕ) → v ≡ Object i x → eqb x b ≡ standsIn b v
-unfolding standsIn
-stands-here b v x i e = rw e
-
-pub stands-mark : (b : ℕ) (v : ValueRef) (k : ℕ) → v ≡ Mark k → true ≡ standsIn b v
-unfolding standsIn
-stands-mark b v k e = rw e
-
-pub stands-undet : (b : ℕ) (v : ValueRef) → v ≡ Undetermined → true ≡ standsIn b v
-unfolding standsIn
-stands-undet b v e = rw e
-
-module _ (ps : List Slot) (n b : ℕ) where
-  abbrev apart : ℕ → Bool
-  apart i = not (standsIn b (partOf ps i))
-
-  pub each-none : allStand ps 0 b ≡ true
-  unfolding allStand any
-  each-none = refl
-
-  module _ (i : ℕ) (v : ValueRef) (r : Bool) (ev : v ≡ partOf ps i) (er : r ≡ standsIn b v) where
-    answer : apart i ≡ not r
-    answer = ap (λ (u : ValueRef). not (standsIn b u)) (sym ev) ∙ ap not (sym er)
-
-    pub each-more : allStand ps i b ≡ true → not r ≡ false → allStand ps (i + 1) b ≡ true
-    unfolding allStand
-    each-more a e = ap not (any-more apart i (not-true _ a) (answer ∙ e))
-
-    pub together-not : i < n → not r ≡ true → false ≡ allStand ps n b
-    unfolding allStand
-    together-not h e = sym (ap not (any-there apart n i h (answer ∙ e)))
-
-  pub together-all : (i : ℕ) → allStand ps i b ≡ true → i ≤ n → n ≤ i → true ≡ allStand ps n b
-  together-all i a h l = let e : i ≡ n = omega arith in sym (rw e at a)
-
-  stands-at : allStand ps n b ≡ true → (i : ℕ) → i < n → standsIn b (partOf ps i) ≡ true
-  unfolding allStand
-  stands-at a i h = not-false _ (any-not apart n i (not-true _ a) h)
+use Rattle.maker.proofs.Wheres.{leaves-none, stands-at}
 
 -- ---- the values of the parts, among the objects
 leaf-fit : (ns : List Node) (s : Ref) → InRange 0 s → Fit ns (graph s [])

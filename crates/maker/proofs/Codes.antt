@@ -133,10 +133,6 @@ module _ (W : List ℕ) (p c n w x : ℕ) (h : p + objectSize ≤ length W) (f :
       (λ e. let en : getD W (p + 1) 0 ≡ n = eqb-true _ _ e in eqNats-same _ _ (object-at W p x f h ∙ (λ i. objectOf (ec i) (en i) (ex i))))
       (λ e. eq-eqb _ _ (sym (object-count _ _ x) ∙ code-at _ _ 1 (sym (object-at W p x f h) ∙ eqNats-true _ _ e) ∙ object-count c n w))
 
--- an object of six bytes is what is read of it
-pub object-read : (T : List ℕ) (x : ℕ) → length T ≡ objectSize → Four T 2 x → T ≡ objectOf (getD T 0 0) (getD T 1 0) x
-object-read T x e f = sym (take-all objectSize T (omega arith)) ∙ object-at T 0 x f (omega arith)
-
 -- ---- the bytes written
 abbrev pub objectPut : List ℕ → ℕ → ℕ → ℕ → ℕ → List ℕ
 objectPut W p c n w = set (set (set (set (set (set W p c) (p + 1) n) (p + 2) (w % 256)) (p + 3) (w / 256 % 256)) (p + 4) (w / 65536 % 256)) (p + 5) (w / threeBytes)

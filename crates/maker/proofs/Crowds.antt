@@ -101,32 +101,12 @@ module _ (g : Graph) where
   pub in-same : (ns ms : List Node) (x y : ℕ) → In ns x g → Same ns (obj x) ms (obj y) → In ms y g
   in-same ns ms x y i e = record { path = i .path; tree = λ q. sym (e q) ∙ i .tree q }
 
-  pub in-tree : (h : Graph) (ns : List Node) (x : ℕ) → In ns x g → SameTree g h → In ns x h
-  in-tree h ns x i e = record { path = i .path; tree = λ q. i .tree q ∙ e (i .path ++ q) }
-
-  -- one field further
-  pub in-step : (ns : List Node) (x y f : ℕ) → In ns y g → getElem? (refsAt ns y) f ≡ some (obj x) → In ns x g
-  in-step ns x y f i e = record {
-    path = i .path ++ (f ∷ []);
-    tree = λ q.
-        sym (ap (λ (o : Option Ref). o >>= λ s. follow ns s q) e)
-        ∙ i .tree (f ∷ q)
-        ∙ sym (ap (follow (g .nodes) (g .root)) (append-assoc (i .path) (f ∷ []) q));
-  }
-
   -- one path after the other
   pub in-within : (ns ms : List Node) (x y : ℕ) → In ns x g → In ms y (graph (obj x) ns) → In ms y g
   in-within ns ms x y i j = record {
     path = i .path ++ j .path;
     tree = λ q. j .tree q ∙ i .tree (j .path ++ q) ∙ sym (ap (follow (g .nodes) (g .root)) (append-assoc (i .path) (j .path) q));
   }
-
--- an object in a value that stands in another
-pub in-part : (h g : Graph) (ns : List Node) (x : ℕ) → Within h g → In ns x h → In ns x g
-in-part h g ns x w i = record {
-  path = w .path ++ i .path;
-  tree = λ q. i .tree q ∙ w .tree (i .path ++ q) ∙ sym (ap (follow (g .nodes) (g .root)) (append-assoc (w .path) (i .path) q));
-}
 
 -- the same value, otherwise laid out
 pub within-same : (h k g : Graph) → SameTree h k → Within h g → Within k g

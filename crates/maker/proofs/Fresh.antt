@@ -34,10 +34,6 @@ module _ (ps ns : List Node) (t : ℕ) (inner : (y f : ℕ) (s : Ref) → y < t 
       go (mark k) h q = let d : some (object _ _) ≡ some (opened k) = q [] in absurd (let u : _≡_ {A = ℕ} 0 1 = cc in omega arith)
       go undet h q = let d : some (object _ _) ≡ some unknown = q [] in absurd (let u : _≡_ {A = ℕ} 0 1 = cc in omega arith)
 
--- an object that is one of the host's from t on is none of the first t
-pub fresh-coded : (ps ns : List Node) (t z k : ℕ) → Distinct ns → t ≤ k → k < length ns → Same ps (obj z) ns (obj k) → Fresh ps ns t z
-fresh-coded ps ns t z k d h l e = record { none = λ y u q. let w : k ≡ y = d .apart k y l (omega arith) (λ p. sym (e p) ∙ q p) in omega arith }
-
 -- ---- many objects added: the host ns becomes ms, object x of ps, which New says to be one of them, object `to x` of it
 module _ (ps ns ms : List Node)
     (inner : (i f : ℕ) (r : Ref) → getElem? (refsAt ns i) f ≡ some r → InRange (length ns) r)

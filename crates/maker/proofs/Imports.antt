@@ -22,7 +22,7 @@ use Rattle.maker.specs.Seeking.{Telling, SameNumber}
 use Rattle.maker.specs.Joining.{Joining, Joined}
 use Rattle.maker.proofs.Turns.{zero-at}
 use Rattle.maker.proofs.Crowds.{in-same, in-within, crowd-joined}
-use Rattle.maker.proofs.Merges.{grown-none}
+use Rattle.maker.proofs.Enters.{grown-none}
 
 not-true : (b : Bool) → not b ≡ true → b ≡ false
 not-true true e = absurd (false≢true e)
@@ -36,9 +36,6 @@ module _ (W : List ℕ) (src i host : ℕ) (T : List ℕ) where
   pub number-inside : Block W host → i < getD W (blockSize * host + countAt) 0 → Inside W host i
   unfolding countIn
   number-inside bk h = record { block = bk; low = h }
-
-  pub number-read : Block W host → blockSize * host + countAt < length W
-  number-read bk = omega (arith, bk .room)
 
   pub number-told : (T′ : List ℕ) (r : Bool) → Telling W src i host i T T′ r → SameNumber W src i host T T′ r
   number-told T′ r t = record { yes = λ e. t .yes e .each i i (t .here e); no = t .no }
@@ -99,9 +96,6 @@ module _ (W : List ℕ) (src i host : ℕ) (ib : Inside W src i) (bk : Block W h
       module _ (e : not r ≡ false) where
         here : (getD T′ i 0 ≡ 0) → ⊥
         here = j .told (not-false r e) i (subst (Decided T F) (rc .root .2) (s .above (rc .root .0) (omega arith) (rc .root .1)))
-
-        pub bring-read : i < length T′
-        bring-read = omega (arith, j .mapped (not-false r e) .table, ib .low, ib .block .small)
 
         pub bring-some : 1 ≤ getD T′ i 0
         bring-some = omega (arith, here)

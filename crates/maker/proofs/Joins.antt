@@ -1,303 +1,34 @@
--- Laws of the new objects of a part added to the host, rings too: the numbers that they get, their bytes, and the host then.
--- Who asks: join. Not here: which objects are new; what holds of the trees alone, whatever the bytes (Fresh).
+-- The host with the new objects of a part: one law for each return of `join`.
+-- Not here: the bytes (Additions).
 use Prim.Native.Nat.{ℕ, _+_, _-_, _*_, _%_, _<_, _≤_}
 use native.Mathlib.Omega.{arith}
-use native.Mathlib.Decide.{decLt, decLe, ℕ-discrete}
+use native.Mathlib.Decide.{decLt, ℕ-discrete}
 use mathlib.Core.Path.{_≡_, refl, sym, ap, _∙_, subst}
 use mathlib.Core.Bool.{true, false, cond, false≢true}
-use mathlib.Core.List.{List, [], _∷_}
+use mathlib.Core.List.{List, []}
 use mathlib.Core.Logic.{_⊎_, inl, inr, ⊎-elim}
 use mathlib.Core.Option.{some}
 use lib.Dec.{eqb}
-use lib.ListN.{length, getD, set, getElem?, length-set}
-use lib.Seq.{getD-set-same, getD-set-other}
-use borrow.Author.Tests.{lt-ltb, le-ltb, ne-eqb}
+use lib.ListN.{length, getD, getElem?}
+use borrow.Author.Tests.{ne-eqb}
 use Rattle.cofj.specs.Values.{Ref, obj, mark, undet, Node, graph, rename, renameNode, nodeAt, refsAt}
 use Rattle.cofj.specs.Unfolding.{object, opened, unknown, follow, Same, InRange, Whole}
 use Rattle.cofj.proofs.Basics.{getD-map-lt}
-use Rattle.canon.specs.Figures.{objectSize, headSize, codeCount, firstLeaf, undeterminedCode, firstMark, capacity, countAt, levelAt, blockSize}
-use Rattle.canon.specs.Layout.{refOf, codeOf, nodesIn, Packed, Distinct, countIn, levelIn, objectsIn, Block, Inside, Outside, ended}
-use Rattle.canon.specs.Tables.{turned, copied, Lifted}
-use Rattle.canon.specs.Numbers.{numberIn, Levels}
+use Rattle.canon.specs.Figures.{objectSize, codeCount, firstLeaf, undeterminedCode, firstMark, capacity, countAt, blockSize}
+use Rattle.canon.specs.Layout.{refOf, codeOf, nodesIn, Packed, Distinct, countIn, objectsIn, Block}
+use Rattle.canon.specs.Tables.{Lifted}
 use Rattle.canon.proofs.Nodes.{ref-object, ref-undet, ref-mark, at-some, length-nodes, at-nodes, node-same, packed-same, code-is, four-fields, code-low}
-use Rattle.canon.proofs.Nodes.{ended-size, ended-below, ended-above, ended-count, ended-level, ended-reach}
-use Rattle.canon.proofs.Lifts.{turn-object, turn-other, copy-plain, copy-turned, lift-none, lift-more}
+use Rattle.canon.proofs.Lifts.{turn-object, turn-other}
 use Rattle.canon.proofs.Turned.{turnRef, changed, lifted-nodes, lifted-packed, node-agree}
 use Rattle.values.proofs.Blocks.{size-in, inner-in}
-use Rattle.maker.specs.Figures.{notTold, tooMany}
+use Rattle.maker.specs.Figures.{notTold}
 use Rattle.maker.specs.Merging.{Grown, CodeAs}
-use Rattle.maker.specs.Sorting.{Fresh, Decided, codeAt, turnIn}
-use Rattle.maker.specs.Joining.{numbersOf, New, Given, Counted, Overfull, Fitted, Placing, Laid, Extended, Joining, Joined}
+use Rattle.maker.specs.Sorting.{Fresh, Decided, codeAt}
+use Rattle.maker.specs.Joining.{numbersOf, New, Counted, Fitted, Placing, Extended, Joining, Joined}
 use Rattle.maker.proofs.Fresh.{Told, Source, old-trees, new-trees, inner-many, distinct-many}
 use Rattle.maker.proofs.Turns.{leaf-low}
-use Rattle.maker.proofs.Merges.{grown-none, other-byte, other-block, other-inside, code-grown}
-
--- ---- a code turned
-module _ (T : List ℕ) (c : ℕ) where
-  -- as canon turns it
-  turn-is : (c < firstLeaf → c < length T) → turnIn T c ≡ turned (numbersOf T) c
-  unfolding turnIn turned numbersOf numberIn
-  turn-is h = go (decLt c firstLeaf)
-    where
-      go : Dec (c < firstLeaf) → turnIn T c ≡ turned (numbersOf T) c
-      go (yes l) = rw (lt-ltb c firstLeaf l) (sym (getD-map-lt (λ k. cond (eqb k 0) notTold (k - 1)) T c 0 0 (h l)))
-      go (no l) = rw (le-ltb c firstLeaf (omega (arith, l)))
-
--- ---- the numbers
-pub counted-none : (t : ℕ) (T F : List ℕ) → Counted 0 t T F T t
-counted-none t T F = record {
-  same = refl;
-  most = omega arith;
-  kept = λ x e. refl;
-  numbered = record { low = λ x h. absurd (omega arith); high = λ x h. absurd (omega arith); one = λ x y h. absurd (omega arith) };
-  from = λ k l h. absurd (omega arith);
-}
-
--- more numbers than there is room for: the objects that have those up to 32
-module _ (n t : ℕ) (T₀ F T : List ℕ) (m : ℕ) (ct : Counted n t T₀ F T m) where
-  number-of : (k : ℕ) → Dec (t < k + 1) → Dec (k + 1 ≤ m) → ℕ
-  number-of k (yes a) (yes b) = ct .from (k + 1) a b .source
-  number-of k (yes a) (no b) = 0
-  number-of k (no a) b = 0
-
-  -- object x has number k
-  abbrev Has : ℕ → ℕ → Type 0
-  Has k x = (x < n) × New F x × (getD T x 0 ≡ k + 1)
-
-  number-is : (k : ℕ) (a : Dec (t < k + 1)) (b : Dec (k + 1 ≤ m)) → t < k + 1 → k + 1 ≤ m → Has k (number-of k a b)
-  unfolding number-of
-  number-is k (yes a) (yes b) l h = let g = ct .from (k + 1) a b in (g .below, g .new, g .at)
-  number-is k (yes a) (no b) l h = absurd (b h)
-  number-is k (no a) b l h = absurd (a l)
-
-  counted-over : capacity < m → (n′ : ℕ) → n ≤ n′ → Overfull n′ t F
-  counted-over h n′ le = record {
-    from = λ k. number-of k (decLt t (k + 1)) (decLe (k + 1) m);
-    low = λ k a b. omega (arith, is k a b .0);
-    new = λ k a b. is k a b .1;
-    one = λ k l a b c d e. omega (arith, is k a b .2, is l c d .2, ap (λ (x : ℕ). getD T x 0) e);
-  }
-    where
-      is : (k : ℕ) → t ≤ k → k < tooMany → Has k (number-of k (decLt t (k + 1)) (decLe (k + 1) m))
-      is k a b = number-is k (decLt t (k + 1)) (decLe (k + 1) m) (omega arith) (omega arith)
-
-module _ (x t : ℕ) (T₀ F T : List ℕ) (m : ℕ) (ct : Counted x t T₀ F T m) where
-  counted-same : getD F x 0 ≡ 0 → Counted (x + 1) t T₀ F T m
-  counted-same z = record {
-    same = ct .same;
-    most = ct .most;
-    kept = ct .kept;
-    numbered = record {
-      low = λ y h n. ct .numbered .low y (less y h n (ℕ-discrete y x)) n;
-      high = λ y h n. ct .numbered .high y (less y h n (ℕ-discrete y x)) n;
-      one = λ y w h k n q. ct .numbered .one y w (less y h n (ℕ-discrete y x)) (less w k q (ℕ-discrete w x)) n q;
-    };
-    from = λ k l h. let g = ct .from k l h in record { source = g .source; below = omega (arith, g .below); new = g .new; at = g .at };
-  }
-    where
-      less : (y : ℕ) → y < x + 1 → New F y → Dec (y ≡ x) → y < x
-      less y h n (yes e) = absurd (n (ap (λ (i : ℕ). getD F i 0) e ∙ z))
-      less y h n (no d) = omega (arith, d)
-
-  counted-new : New F x → x < length T → Counted (x + 1) t T₀ F (set T x (m + 1)) (m + 1)
-  counted-new new room = record {
-    same = length-set T x (m + 1) ∙ ct .same;
-    most = omega (arith, ct .most);
-    kept = λ y e. other y (λ z. new (ap (λ (i : ℕ). getD F i 0) (sym z) ∙ e)) ∙ ct .kept y e;
-    numbered = record {
-      low = λ y h n. between y h n (ℕ-discrete y x) .0;
-      high = λ y h n. between y h n (ℕ-discrete y x) .1;
-      one = λ y w h k n q. apart y w h k n q (ℕ-discrete y x) (ℕ-discrete w x);
-    };
-    from = λ k l h. given k l h (ℕ-discrete k (m + 1));
-  }
-    where
-      other : (y : ℕ) → ((y ≡ x) → ⊥) → getD (set T x (m + 1)) y 0 ≡ getD T y 0
-      other y d = getD-set-other T x y (m + 1) 0 d
-
-      this : (y : ℕ) → y ≡ x → getD (set T x (m + 1)) y 0 ≡ m + 1
-      this y e = ap (λ (i : ℕ). getD (set T x (m + 1)) i 0) e ∙ getD-set-same T x (m + 1) 0 room
-
-      between : (y : ℕ) → y < x + 1 → New F y → Dec (y ≡ x) → (t < getD (set T x (m + 1)) y 0) × (getD (set T x (m + 1)) y 0 ≤ m + 1)
-      between y h n (yes e) = (omega (arith, this y e, ct .most), omega (arith, this y e))
-      between y h n (no d) =
-          (omega (arith, other y d, ct .numbered .low y (omega (arith, d)) n), omega (arith, other y d, ct .numbered .high y (omega (arith, d)) n))
-
-      apart : (y w : ℕ) → y < x + 1 → w < x + 1 → New F y → New F w → Dec (y ≡ x) → Dec (w ≡ x) → getD (set T x (m + 1)) y 0 ≡ getD (set T x (m + 1)) w 0 → y ≡ w
-      apart y w h k n q (yes a) (yes b) e = a ∙ sym b
-      apart y w h k n q (yes a) (no b) e = absurd (omega (arith, this y a, other w b, ct .numbered .high w (omega (arith, b)) q))
-      apart y w h k n q (no a) (yes b) e = absurd (omega (arith, this w b, other y a, ct .numbered .high y (omega (arith, a)) n))
-      apart y w h k n q (no a) (no b) e = ct .numbered .one y w (omega (arith, a)) (omega (arith, b)) n q (sym (other y a) ∙ e ∙ other w b)
-
-      given : (k : ℕ) → t < k → k ≤ m + 1 → Dec (k ≡ m + 1) → Given (x + 1) F (set T x (m + 1)) k
-      given k l h (yes e) = record { source = x; below = omega arith; new = new; at = this x refl ∙ sym e }
-      given k l h (no d) =
-          let g = ct .from k l (omega (arith, d)) in
-          record { source = g .source; below = omega (arith, g .below); new = g .new; at = other (g .source) (λ z. omega (arith, g .below)) ∙ g .at }
-
-  -- what the loop has
-  pub number-same : (T′ : List ℕ) (m′ : ℕ) → getD F x 0 ≡ 0 → T′ ≡ T → m′ ≡ m → Counted (x + 1) t T₀ F T′ m′
-  number-same T′ m′ z eT em = rw (eT, em) (counted-same z)
-
-  pub number-more : (T′ : List ℕ) (m′ n : ℕ) → ((getD F x 0 ≡ 0) → ⊥) → x < n → n ≤ length T₀ → T′ ≡ set T x (m + 1) → m′ ≡ m + 1 → Counted (x + 1) t T₀ F T′ m′
-  number-more T′ m′ n new h l eT em = rw (eT, em) (counted-new new (omega (arith, ct .same)))
-
-  pub number-end : (n : ℕ) → x ≤ n → n ≤ x → Fitted n t T₀ F T m
-  number-end n h k = let e : x ≡ n = omega arith in record { counted = λ _. rw e at ct; over = λ l. counted-over x t T₀ F T m ct l n h }
-
-  pub number-full : (n : ℕ) → ((getD F x 0 ≡ 0) → ⊥) → x < n → n ≤ length T₀ → capacity ≤ m → Fitted n t T₀ F T tooMany
-  number-full n new h l full = record {
-    counted = λ z. absurd (omega arith);
-    over = λ _. counted-over (x + 1) t T₀ F (set T x (m + 1)) (m + 1) (counted-new new (omega (arith, ct .same))) (omega arith) n (omega arith);
-  }
-
--- ---- one object
--- its codes are in reach of the table
-pub put-code : (W : List ℕ) (src x n : ℕ) → Inside W src x → n ≡ capacity → (k : ℕ) → 2 ≤ k → k < objectSize → getD W (blockSize * src + objectSize * x + k) 0 < firstLeaf → getD W (blockSize * src + objectSize * x + k) 0 < n
-unfolding objectsIn
-put-code W src x n ib long k l h c =
-    let z : blockSize * src + objectSize * x + k ≡ blockSize * src + objectSize * x + headSize + (k - 2) = omega arith in
-    let e : getD W (blockSize * src + objectSize * x + k) 0 < countIn W src =
-    rw z (code-low W (blockSize * src) (countIn W src) (ib .block .packed) x (ib .low) (ib .block .whole) (k - 2) (omega arith) (rw z at c)) in
-    omega (arith, ib .block .small)
-
-module _ (W : List ℕ) (src x host y : ℕ) (T : List ℕ) (ib : Inside W src x) (apart : (src ≡ host) → ⊥) (few : y < capacity) (room : blockSize * host + blockSize ≤ length W) (long : length T ≡ capacity) where
-  module _ (p q : ℕ) (ep : p ≡ blockSize * src + objectSize * x) (eq : q ≡ blockSize * host + objectSize * y) where
-    abbrev Begun : ℕ → List ℕ → Type 0
-    Begun k D = Lifted W p k (numbersOf T) W q D
-
-    -- what is read is as before
-    read : (k : ℕ) (D : List ℕ) → Begun k D → k ≤ objectSize → (j : ℕ) → j < objectSize → getD D (p + j) 0 ≡ getD W (p + j) 0
-    read k D b h j l = go (decLt src host)
-      where
-        go : Dec (src < host) → getD D (p + j) 0 ≡ getD W (p + j) 0
-        go (yes z) = b .below (p + j) (omega (arith, ib .low, ib .block .small))
-        go (no z) = b .above (p + j) (omega (arith, apart, z))
-
-    abbrev put : ℕ → ℕ → ℕ → ℕ → List ℕ
-    put a b c d = set (set (set (set (set (set W q (getD W p 0)) (q + 1) (getD (set W q (getD W p 0)) (p + 1) 0)) (q + 2) a) (q + 3) b) (q + 4) c) (q + 5) d
-
-    pub put-done : (a b c d : ℕ) → a ≡ turnIn T (getD W (p + 2) 0) → b ≡ turnIn T (getD W (p + 3) 0) → c ≡ turnIn T (getD W (p + 4) 0) → d ≡ turnIn T (getD W (p + 5) 0)
-        → Lifted W (blockSize * src + objectSize * x) objectSize (numbersOf T) W (blockSize * host + objectSize * y) (put a b c d)
-    put-done a b c d ea eb ec ed =
-        let N = numbersOf T in
-        let z : q + 0 ≡ q = omega arith in
-        let u : p + 0 ≡ p = omega arith in
-        let l : q + objectSize ≤ length W = omega arith in
-        let b1 : Begun 1 (set W q (getD W p 0)) =
-        rw z at (lift-more W p 0 N W q W (getD W p 0) objectSize (lift-none W p N W q) (omega arith) l (ap (λ (i : ℕ). getD W i 0) (sym u) ∙ copy-plain N (getD W (p + 0) 0) 0 (omega arith))) in
-        let b2 : Begun 2 _ = lift-more W p 1 N W q _ _ objectSize b1 (omega arith) l (read 1 _ b1 (omega arith) 1 (omega arith) ∙ copy-plain N (getD W (p + 1) 0) 1 (omega arith)) in
-        let b3 : Begun 3 _ = lift-more W p 2 N W q _ a objectSize b2 (omega arith) l (code 2 (omega arith) (omega arith) a ea) in
-        let b4 : Begun 4 _ = lift-more W p 3 N W q _ b objectSize b3 (omega arith) l (code 3 (omega arith) (omega arith) b eb) in
-        let b5 : Begun 5 _ = lift-more W p 4 N W q _ c objectSize b4 (omega arith) l (code 4 (omega arith) (omega arith) c ec) in
-        let b6 : Begun objectSize _ = lift-more W p 5 N W q _ d objectSize b5 (omega arith) l (code 5 (omega arith) (omega arith) d ed) in
-        subst (λ (i : ℕ). Lifted W i objectSize N W (blockSize * host + objectSize * y) (put a b c d)) ep (subst (λ (i : ℕ). Lifted W p objectSize N W i (put a b c d)) eq b6)
-      where
-        code : (k : ℕ) → 2 ≤ k → k < objectSize → (r : ℕ) → r ≡ turnIn T (getD W (p + k) 0) → r ≡ copied (numbersOf T) (k % objectSize) (getD W (p + k) 0)
-        code k h l r e =
-            let z : k % objectSize ≡ k = omega arith in
-            rw z (copy-turned (numbersOf T) (getD W (p + k) 0) k r h (e ∙ turn-is T (getD W (p + k) 0) (rw (← ep) at (put-code W src x (length T) ib long k h l))))
-
--- ---- all new objects
-pub laid-none : (W : List ℕ) (src host : ℕ) (T F : List ℕ) → Laid W src host T F 0 W
-laid-none W src host T F = record { same = refl; here = λ x k h. absurd (omega arith); below = λ p h. refl; above = λ p h. refl }
-
-module _ (W : List ℕ) (src host : ℕ) (T F : List ℕ) (pl : Placing W src host T F) where
-  module _ (x : ℕ) (D : List ℕ) (ld : Laid W src host T F x D) where
-    laid-outside : Outside host W D
-    laid-outside = record { same = ld .same; below = λ p l. ld .below p (omega arith); above = λ p l. ld .above p (omega arith) }
-
-    pub laid-end : x ≤ getD W (blockSize * src + countAt) 0 → getD W (blockSize * src + countAt) 0 ≤ x → Laid W src host T F (countIn W src) D
-    unfolding countIn
-    laid-end h l = let e : x ≡ getD W (blockSize * src + countAt) 0 = omega arith in rw e at ld
-
-    module _ (h : x < getD W (blockSize * src + countAt) 0) where
-      pub laid-inside : Inside D src x
-      unfolding countIn
-      laid-inside = other-inside host W D laid-outside src (pl .apart) x (record { block = pl .source; low = h })
-
-      pub laid-room : blockSize * host + blockSize ≤ length D
-      laid-room = omega (arith, ld .same, pl .target .room)
-
-      laid-same : getD F x 0 ≡ 0 → Laid W src host T F (x + 1) D
-      laid-same z = record { same = ld .same; here = λ y k l n. ld .here y k (less y l n (ℕ-discrete y x)) n; below = ld .below; above = ld .above }
-        where
-          less : (y : ℕ) → y < x + 1 → New F y → Dec (y ≡ x) → y < x
-          less y l n (yes e) = absurd (n (ap (λ (i : ℕ). getD F i 0) e ∙ z))
-          less y l n (no d) = omega (arith, d)
-
-      module _ (new : New F x) where
-        pub new-some : 1 ≤ getD T x 0
-        unfolding countIn
-        new-some = omega (arith, pl .numbered .low x h new)
-
-        pub new-few : getD T x 0 - 1 < capacity
-        unfolding countIn
-        new-few = omega (arith, pl .numbered .low x h new, pl .numbered .high x h new)
-
-        laid-new : (D2 : List ℕ) → Lifted D (blockSize * src + objectSize * x) objectSize (numbersOf T) D (blockSize * host + objectSize * (getD T x 0 - 1)) D2 → Laid W src host T F (x + 1) D2
-        unfolding countIn
-        laid-new D2 f = record {
-          same = f .same ∙ ld .same;
-          here = λ y k l n m. go y k l n m (ℕ-discrete y x);
-          below = λ p l. f .below p (omega (arith, pl .numbered .low x h new)) ∙ ld .below p l;
-          above = λ p l. f .above p (omega (arith, new-some, new-few)) ∙ ld .above p l;
-        }
-          where
-            -- two places
-            clear : (y k : ℕ) → y < x → New F y → k < objectSize → Dec (getD T y 0 < getD T x 0) → getD D2 (blockSize * host + objectSize * (getD T y 0 - 1) + k) 0 ≡ getD D (blockSize * host + objectSize * (getD T y 0 - 1) + k) 0
-            clear y k l n m (yes z) = f .below (blockSize * host + objectSize * (getD T y 0 - 1) + k) (omega (arith, pl .numbered .low y (omega arith) n))
-            clear y k l n m (no z) =
-                let d : (getD T y 0 ≡ getD T x 0) → ⊥ = λ e. let w : y ≡ x = pl .numbered .one y x (omega arith) h n new e in omega arith in
-                f .above (blockSize * host + objectSize * (getD T y 0 - 1) + k) (omega (arith, z, d, new-some))
-
-            go : (y k : ℕ) → y < x + 1 → New F y → k < objectSize → Dec (y ≡ x) → getD D2 (blockSize * host + objectSize * (getD T y 0 - 1) + k) 0 ≡ copied (numbersOf T) k (getD W (blockSize * src + objectSize * y + k) 0)
-            go y k l n m (yes e) =
-                let z : k % objectSize ≡ k = omega arith in
-                rw e (rw z at (f .here k m) ∙ ap (copied (numbersOf T) k) (other-byte host W D laid-outside src (pl .apart) (blockSize * src + objectSize * x + k) (omega arith) (omega (arith, pl .source .small))))
-            go y k l n m (no d) = clear y k (omega (arith, d)) n m (decLt (getD T y 0) (getD T x 0)) ∙ ld .here y k (omega (arith, d)) n m
-
-  -- what the loop has
-  pub laid-few : getD W (blockSize * src + countAt) 0 ≤ capacity
-  unfolding countIn
-  laid-few = pl .source .small
-
-  module _ (x : ℕ) (D : List ℕ) (ld : Laid W src host T F x D) (h : x < getD W (blockSize * src + countAt) 0) (D′ : List ℕ) where
-    pub laid-kept : getD F x 0 ≡ 0 → D′ ≡ D → Laid W src host T F (x + 1) D′
-    laid-kept z e = rw e (laid-same x D ld h z)
-
-    pub laid-more : ((getD F x 0 ≡ 0) → ⊥) → (D2 : List ℕ) → Lifted D (blockSize * src + objectSize * x) objectSize (numbersOf T) D (blockSize * host + objectSize * (getD T x 0 - 1)) D2 → D′ ≡ D2 → Laid W src host T F (x + 1) D′
-    laid-more new D2 f e = rw e (laid-new x D ld h new D2 f)
-
-  -- counted
-  module _ (m : ℕ) (tm : countIn W host ≤ m) (few : m ≤ capacity) (D : List ℕ) (ld : Laid W src host T F (countIn W src) D)
-      (k : ℕ) (lv : Levels D (blockSize * host + objectSize * getD W (blockSize * host + countAt) 0) (objectSize * (m - getD W (blockSize * host + countAt) 0)) k) (h : ℕ) (lh : getD W (blockSize * host + levelAt) 0 ≤ h) (kh : k ≤ h) where
-    long : blockSize * host + blockSize ≤ length D
-    long = omega (arith, ld .same, pl .target .room)
-
-    byte : (p : ℕ) → p < blockSize * host + countAt → getD (ended D host m h m) p 0 ≡ getD D p 0
-    byte = ended-below D host m h m long
-
-    level : (q : ℕ) → q < objectSize * m → Dec (q < objectSize * getD W (blockSize * host + countAt) 0) → getD D (blockSize * host + q) 0 < firstMark + h
-    unfolding countIn levelIn
-    level q l (yes z) = omega (arith, ld .below (blockSize * host + q) (omega arith), pl .target .level q z)
-    level q l (no z) =
-        let e : blockSize * host + q ≡ blockSize * host + objectSize * getD W (blockSize * host + countAt) 0 + (q - objectSize * getD W (blockSize * host + countAt) 0) = omega (arith, z) in
-        omega (arith, ap (λ (p : ℕ). getD D p 0) e, lv .below (q - objectSize * getD W (blockSize * host + countAt) 0) (omega (arith, z)))
-
-    pub extend-done : Extended W src host T F m (ended D host m h m)
-    extend-done = record {
-      count = ended-count D host m h m long;
-      reach = ended-reach D host m h m long;
-      level = λ q l. omega (arith, byte (blockSize * host + q) (omega arith), ended-level D host m h m long, level q l (decLt q (objectSize * getD W (blockSize * host + countAt) 0)));
-      here = λ x j l n i. byte _ (omega (arith, pl .numbered .low x l n, pl .numbered .high x l n)) ∙ ld .here x j l n i;
-      old = λ q l. byte _ (omega arith) ∙ ld .below _ (omega arith);
-      outside = record {
-        same = ended-size D host m h m long ∙ ld .same;
-        below = λ p l. byte p (omega arith) ∙ ld .below p (omega arith);
-        above = λ p l. ended-above D host m h m long p (omega arith) ∙ ld .above p (omega arith);
-      };
-    }
+use Rattle.maker.proofs.Enters.{grown-none, other-block}
+use Rattle.maker.proofs.Brings.{code-grown}
 
 -- ---- the host then
 -- what unfolds as an object is an object

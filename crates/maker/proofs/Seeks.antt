@@ -16,7 +16,8 @@ use Rattle.canon.specs.Tables.{Carried}
 use Rattle.canon.proofs.Nodes.{ref-object, code-ref, object-low, alike-no}
 use Rattle.values.specs.Stepping.{Paired, AllSame, InStep}
 use Rattle.values.proofs.Trees.{in-larger}
-use Rattle.values.proofs.Steps.{leaf-codes, same-alike, told-roots, told-kept, told-differ}
+use Rattle.values.proofs.Partners.{leaf-codes, same-alike}
+use Rattle.values.proofs.Steps.{told-roots, told-kept, told-differ}
 use Rattle.maker.specs.Merging.{Mapped}
 use Rattle.maker.specs.Sorting.{Fresh, Sorted}
 use Rattle.maker.specs.Seeking.{Telling, SoughtTo, Sought}

@@ -1,4 +1,4 @@
--- More objects than a value may have: 33 of which no two are the same, all in one value. What stands in a value.
+-- More objects than a block has room for: tooMany of which no two are the same, all in one value. What stands in a value.
 use Prim.Native.Nat.{ℕ, _<_}
 use mathlib.Core.Path.{_≡_}
 use mathlib.Core.List.{List, _++_}
@@ -21,7 +21,7 @@ pub record Within (h g : Graph) : Type 0 where
 abbrev pub BlockIn : List ℕ → ℕ → Graph → Type 0
 BlockIn W b g = (y : ℕ) → y < countIn W b → In (objectsIn W b) y g
 
--- 33 objects: object `at k` of the list `list k`, for each k
+-- so many objects: object `at k` of the list `list k`, for each k
 pub record Crowd (g : Graph) : Type 0 where
   pub list : ℕ → List Node
   pub at : ℕ → ℕ

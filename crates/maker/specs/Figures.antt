@@ -1,18 +1,19 @@
 -- The figures of making, each named once; src/lib.rt has the same for the code.
 -- Not here: those of a block (crate canon, Figures).
-use Prim.Native.Nat.{ℕ}
+use Prim.Native.Nat.{ℕ, _+_}
+use Rattle.canon.specs.Figures.{capacity}
 
 -- what bringing an object into a block answers where there is no room: no object of a block has this number, and no other code is it
 abbrev pub noRoom : ℕ
-noRoom = 32
+noRoom = capacity
 
 -- the number in the host of an object that is not told: the same
 abbrev pub notTold : ℕ
-notTold = 32
+notTold = capacity
 
 -- one object more than a block has room for
 abbrev pub tooMany : ℕ
-tooMany = 33
+tooMany = capacity + 1
 
 -- the objects of block 0: one without fields of each class from 0 on
 abbrev pub presetCount : ℕ

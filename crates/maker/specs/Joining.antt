@@ -17,7 +17,7 @@ use Rattle.maker.specs.Figures.{notTold, tooMany}
 use Rattle.maker.specs.Merging.{Grown, Mapped}
 use Rattle.maker.specs.Sorting.{Sorted, Settled, Decided}
 
--- the table of told objects as canon has one for turning codes: k for object k, 32 for one that is not told
+-- the table of told objects as canon has one for turning codes: k for object k, notTold for one that is not told
 unfoldable pub numbersOf : List ℕ → List ℕ
 numbersOf T = map (λ k. cond (eqb k 0) notTold (k - 1)) T
 
@@ -47,7 +47,7 @@ pub record Counted (n t : ℕ) (T F T′ : List ℕ) (m : ℕ) : Type 0 where
   pub numbered : Numbered n t F T′ m
   pub from : (k : ℕ) → t < k → k ≤ m → Given n F T′ k
 
--- more new objects than there is room for: those with the numbers from t to 32
+-- more new objects than there is room for: those with the numbers from t to capacity
 pub record Overfull (n t : ℕ) (F : List ℕ) : Type 0 where
   pub from : ℕ → ℕ
   pub low : (k : ℕ) → t ≤ k → k < tooMany → from k < n

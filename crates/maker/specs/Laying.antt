@@ -1,14 +1,14 @@
 -- A new object: its parts, what making asks, and what it answers.
 use Prim.Native.Nat.{ℕ, _+_, _*_, _≤_, _<_}
 use mathlib.Core.Path.{_≡_}
-use mathlib.Core.Bool.{cond}
+use mathlib.Core.Bool.{Bool, cond}
 use mathlib.Core.List.{List, [], _∷_, map}
 use mathlib.Core.Option.{Option, none, some}
 use lib.Dec.{leb}
 use lib.ListN.{length, getD, take, drop}
 use Rattle.cofj.specs.Values.{Graph}
 use Rattle.canon.specs.Figures.{codeCount, capacity, blockSize, spare}
-use Rattle.canon.specs.Layout.{Beneath}
+use Rattle.canon.specs.Layout.{Beneath, Outside}
 use Rattle.values.specs.declared.ValueRef.{ValueRef}
 use Rattle.values.specs.declared.ValueRef.the-variants.{Object}
 use Rattle.values.specs.Refs.{refIn}
@@ -48,9 +48,18 @@ abbrev pub madeRef : Made → Option ValueRef
 madeRef (Value r) = some r
 madeRef TooLarge = none
 
--- the value v, in block dst or below, unless it has more than 32 objects; what lies below block dst is as before
-pub record MadeIs (W : List ℕ) (v : Graph) (dst : ℕ) (W′ : List ℕ) (o : Made) : Type 0 where
+-- the value v, in block dst or below, unless it has more than `objects` objects; what lies below block dst is as before
+pub record MadeWithin (objects : ℕ) (W : List ℕ) (v : Graph) (dst : ℕ) (W′ : List ℕ) (o : Made) : Type 0 where
   pub held : AnswerHeld W′ (madeRef o)
-  pub is : answerIn W′ (madeRef o) ≡ cond (leb (length (v .nodes)) capacity) (some v) none
+  pub is : answerIn W′ (madeRef o) ≡ cond (leb (length (v .nodes)) objects) (some v) none
   pub place : AnswerLow (dst + 1) (madeRef o)
   pub beneath : Beneath dst W W′
+
+-- unless it has more than a block has room for
+abbrev pub MadeIs : List ℕ → Graph → ℕ → List ℕ → Made → Type 0
+MadeIs W v dst W′ o = MadeWithin capacity W v dst W′ o
+
+-- whether a value has at most `objects` objects; only the spare block has changed
+pub record FitsIn (W : List ℕ) (r : ValueRef) (objects : ℕ) (W′ : List ℕ) (b : Bool) : Type 0 where
+  pub is : b ≡ leb (length (valueOf W r .nodes)) objects
+  pub outside : Outside spare W W′

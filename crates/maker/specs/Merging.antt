@@ -42,7 +42,7 @@ pub record Standing (W : List ℕ) (host : ℕ) (T : List ℕ) (r : ℕ) : Type 
   pub low : r < countIn W host
   pub is : nodeAt (objectsIn W host) r ≡ nodeIn T 0
 
--- r is the number of the object in T, which was there or is added; 32 if the host is full and has it not
+-- r is the number of the object in T, which was there or is added; noRoom if the host is full and has it not
 pub record Entered (W : List ℕ) (host : ℕ) (T W′ : List ℕ) (r : ℕ) : Type 0 where
   pub grown : Grown host W W′
   pub few : r ≤ noRoom
@@ -70,7 +70,7 @@ pub record Mapped (W : List ℕ) (src host : ℕ) (M : List ℕ) : Type 0 where
   pub table : length M ≡ capacity
   pub each : (x y : ℕ) → getD M x 0 ≡ y + 1 → CodeAs W src x host y
 
--- object i of block src, with what it leads to, is in the host; r is its number there, or 32 where there was no room. A value g in which the host's objects and
+-- object i of block src, with what it leads to, is in the host; r is its number there, or noRoom. A value g in which the host's objects and
 -- object i stand has the objects of the grown host in it, or too many
 pub record Imported (W : List ℕ) (src i host : ℕ) (W′ : List ℕ) (r : ℕ) : Type 0 where
   pub grown : Grown host W W′
@@ -101,7 +101,7 @@ pub record Begun (W : List ℕ) (base host : ℕ) : Type 0 where
 abbrev pub AllWithin : List ℕ → List Slot → ℕ → Graph → Type 0
 AllWithin W ps n g = (i : ℕ) → i < n → Within (rawOf W (partOf ps i)) g
 
--- the number w has the codes of the parts from i on, n in all; the codes after them are 192
+-- the number w has the codes of the parts from i on, n in all; the codes after them are undetermined
 pub record RootBrought (W : List ℕ) (ps : List Slot) (n i : ℕ) (W′ : List ℕ) (host w : ℕ) : Type 0 where
   pub done : (j : ℕ) → i + j < n → As W (partOf ps (i + j)) W′ host (getD (codesOf w) j 0)
   pub spare : (j : ℕ) → n ≤ i + j → j < codeCount → getD (codesOf w) j 0 ≡ undeterminedCode

@@ -39,7 +39,7 @@ Decided T F x = ((getD T x 0 ≡ 0) → ⊥) ⊎ ((getD F x 0 ≡ 0) → ⊥)
 abbrev pub codeAt : List ℕ → ℕ → ℕ → ℕ → ℕ
 codeAt W src x f = getD W (blockSize * src + objectSize * x + headSize + f) 0
 
--- a code of the part in the host; 32 for an object that is not told
+-- a code of the part in the host; notTold for an object that is not told
 unfoldable pub turnIn : List ℕ → ℕ → ℕ
 turnIn T c = cond (ltb c firstLeaf) (numberIn T notTold c) c
 

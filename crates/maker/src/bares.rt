@@ -15,7 +15,7 @@ const U: u8 = UNDETERMINED;
 
 // The bytes of the block: object c is the object of class c without fields; then how many objects there are, and the level.
 #[rattlefmt::skip]
-pub const PRESET: [u8; REACH] = [
+pub(crate) const PRESET: [u8; REACH] = [
     0, 0, U, U, U, U, 1, 0, U, U, U, U, 2, 0, U, U, U, U, 3, 0, U, U, U, U,
     4, 0, U, U, U, U, 5, 0, U, U, U, U, 6, 0, U, U, U, U, 7, 0, U, U, U, U,
     8, 0, U, U, U, U, 9, 0, U, U, U, U, 10, 0, U, U, U, U, 11, 0, U, U, U, U,
@@ -28,7 +28,7 @@ pub const PRESET: [u8; REACH] = [
 ];
 
 // These bytes, right by one test of all of them.
-pub fn preset() -> [u8; REACH]
+pub(crate) fn preset() -> [u8; REACH]
     ensures { λ r. ⌜ Preset r ⌝ }
 {
     PRESET

@@ -18,7 +18,7 @@ ghost use Rattle.maker.specs.Adding.{objectOf, Missed};
 ghost use Rattle.maker.specs.Merging.{Fits, Entered, liesFrom, refersFrom};
 
 // A new object, which is not among the objects of block host: its number there, or NO_ROOM.
-pub fn enter_new(work: &mut [u8], host: u16, c: u8, n: u8, w: u32) -> u8
+pub(crate) fn enter_new(work: &mut [u8], host: u16, c: u8, n: u8, w: u32) -> u8
     requires { ⌜ Block (now work) host × Fits (now work) host (objectOf c n w) × Missed (now work) host (objectOf c n w) (countIn (now work) host) ⌝ }
     ensures { λ r. ⌜ Entered (now (work .entry)) host (objectOf c n w) (now (work .exit)) r ⌝ }
 {
@@ -32,7 +32,7 @@ pub fn enter_new(work: &mut [u8], host: u16, c: u8, n: u8, w: u32) -> u8
 }
 
 // The object, among the objects of block host: its number there, or NO_ROOM if it is new and the block is full.
-pub fn enter(work: &mut [u8], host: u16, c: u8, n: u8, w: u32) -> u8
+pub(crate) fn enter(work: &mut [u8], host: u16, c: u8, n: u8, w: u32) -> u8
     requires { ⌜ Block (now work) host × Fits (now work) host (objectOf c n w) ⌝ }
     ensures { λ r. ⌜ Entered (now (work .entry)) host (objectOf c n w) (now (work .exit)) r ⌝ }
 {
@@ -45,7 +45,7 @@ pub fn enter(work: &mut [u8], host: u16, c: u8, n: u8, w: u32) -> u8
 }
 
 // Whether a code is an object's, of number f or a higher one.
-pub fn lies_from(c: u8, f: u8) -> bool
+pub(crate) fn lies_from(c: u8, f: u8) -> bool
     ensures { λ r. ⌜ r ≡ liesFrom c f ⌝ }
 {
     if c < f {
@@ -55,7 +55,7 @@ pub fn lies_from(c: u8, f: u8) -> bool
 }
 
 // Whether one of the four codes of w is.
-pub fn refers_from(w: u32, f: u8) -> bool
+pub(crate) fn refers_from(w: u32, f: u8) -> bool
     ensures { λ r. ⌜ r ≡ refersFrom w f ⌝ }
 {
     if lies_from((w % BYTE) as u8, f) {
@@ -71,7 +71,7 @@ pub fn refers_from(w: u32, f: u8) -> bool
 }
 
 // The same as `enter`. An object that refers to one that no object of the block refers to is not in the block, and need not be looked for.
-pub fn enter_over(work: &mut [u8], host: u16, c: u8, n: u8, w: u32) -> u8
+pub(crate) fn enter_over(work: &mut [u8], host: u16, c: u8, n: u8, w: u32) -> u8
     requires { ⌜ Block (now work) host × Fits (now work) host (objectOf c n w) ⌝ }
     ensures { λ r. ⌜ Entered (now (work .entry)) host (objectOf c n w) (now (work .exit)) r ⌝ }
 {

@@ -1,5 +1,6 @@
-// A new object: how it is made, by what its parts are. Not here: each way.
+// A new object: how it is made, by what its parts are; and whether it is too large. Not here: each way.
 use crate::Made;
+use crate::limit::fits;
 use crate::merge::make_anew;
 use crate::merge::make_apart;
 use crate::merge::make_in;
@@ -22,14 +23,14 @@ ghost use mathlib.Core.Bool.{true, false};
 ghost use Prim.Native.Nat.{ℕ, _+_, _*_, _<_, _≤_};
 ghost use lib.ListN.{length};
 ghost use Rattle.cofj.specs.Values.{make};
-ghost use Rattle.canon.specs.Figures.{codeCount};
-ghost use Rattle.maker.specs.Laying.{partsOf, PartsHeld, Makeable, valuesFrom, MadeIs};
+ghost use Rattle.canon.specs.Figures.{capacity, codeCount};
+ghost use Rattle.maker.specs.Laying.{partsOf, PartsHeld, Makeable, valuesFrom, MadeIs, MadeWithin};
 ghost use Rattle.canon.specs.Layout.{Block};
 ghost use Rattle.maker.specs.Adding.{someObject, blockOf, firstBlock, standsIn, allStand};
 ghost use Rattle.maker.specs.Merging.{someIn};
 
 // A new object whose parts lie in block b, or are no objects.
-pub fn make_beside(work: &mut [u8], c: u8, parts: &[u32], n: u8, b: u16, dst: u16) -> Made
+pub(crate) fn make_beside(work: &mut [u8], c: u8, parts: &[u32], n: u8, b: u16, dst: u16) -> Made
     requires { ⌜ Makeable (now work) (partsOf (now parts)) n dst × Block (now work) b × (allStand (partsOf (now parts)) n b ≡ true) × (codeCount ≤ length (now parts)) ⌝ }
     ensures { λ o. ⌜ MadeIs (now (work .entry)) (make c (valuesFrom (now (work .entry)) (partsOf (now (parts .entry))) 0 n)) dst (now (work .exit)) o ⌝ }
 {
@@ -47,7 +48,7 @@ pub fn make_beside(work: &mut [u8], c: u8, parts: &[u32], n: u8, b: u16, dst: u1
 }
 
 // A new object in block `dst`, where no part lies: alone, or after what its parts lead to.
-pub fn make_fresh(work: &mut [u8], c: u8, parts: &[u32], n: u8, dst: u16) -> Made
+pub(crate) fn make_fresh(work: &mut [u8], c: u8, parts: &[u32], n: u8, dst: u16) -> Made
     requires { ⌜ Makeable (now work) (partsOf (now parts)) n dst × (someIn (partsOf (now parts)) n dst ≡ false) × (codeCount ≤ length (now parts)) ⌝ }
     ensures { λ o. ⌜ MadeIs (now (work .entry)) (make c (valuesFrom (now (work .entry)) (partsOf (now (parts .entry))) 0 n)) dst (now (work .exit)) o ⌝ }
 {
@@ -58,9 +59,9 @@ pub fn make_fresh(work: &mut [u8], c: u8, parts: &[u32], n: u8, dst: u16) -> Mad
     make_in(work, c, parts, n, dst, dst, dst)
 }
 
-// A new object of class c with the n first parts, in block `dst` or below, unless it has more than 32 objects.
+// A new object of class c with the n first parts, in block `dst` or below, unless it has more objects than a block has room for.
 // Block 0 is often full, and block `dst` is to be written: so the parts are brought to `dst` if one lies there or none lies above block 0.
-pub fn make(work: &mut [u8], c: u8, parts: &[u32], n: u8, dst: u16) -> Made
+pub(crate) fn make_object(work: &mut [u8], c: u8, parts: &[u32], n: u8, dst: u16) -> Made
     requires { ⌜ Makeable (now work) (partsOf (now parts)) n dst × (codeCount ≤ length (now parts)) ⌝ }
     ensures { λ o. ⌜ MadeIs (now (work .entry)) (make c (valuesFrom (now (work .entry)) (partsOf (now (parts .entry))) 0 n)) dst (now (work .exit)) o ⌝ }
 {
@@ -75,4 +76,19 @@ pub fn make(work: &mut [u8], c: u8, parts: &[u32], n: u8, dst: u16) -> Made
         return make_beside(work, c, parts, n, b, dst);
     }
     make_apart(work, c, parts, n, b, dst)
+}
+
+// The same with the run's limit: too large is what has more than `objects` objects, and what has more than a block has room for has more.
+pub fn make(work: &mut [u8], c: u8, parts: &[u32], n: u8, dst: u16, objects: u8) -> Made
+    requires { ⌜ Makeable (now work) (partsOf (now parts)) n dst × (codeCount ≤ length (now parts)) × (objects ≤ capacity) ⌝ }
+    ensures { λ o. ⌜ MadeWithin objects (now (work .entry)) (make c (valuesFrom (now (work .entry)) (partsOf (now (parts .entry))) 0 n)) dst (now (work .exit)) o ⌝ }
+{
+    let o = make_object(work, c, parts, n, dst);
+    let Made::Value(v) = o else {
+        return Made::TooLarge;
+    };
+    if fits(work, v, objects) {
+        return Made::Value(v);
+    }
+    Made::TooLarge
 }

@@ -36,13 +36,13 @@ ghost use Rattle.values.specs.declared.ValueRef.the-variants.{Object};
 ghost use Rattle.maker.specs.Merging.{Begun, TriedIs, PartImported, PartsBrought, someIn, largerOf, largestOf};
 
 // What trying a host answers: the value, or that there is no room for it.
-pub enum Tried {
+pub(crate) enum Tried {
     Here(ValueRef),
     NoRoom,
 }
 
 // Object i of block b, which has no fields, in block host: its number there, or NO_ROOM.
-pub fn import_bare(work: &mut [u8], b: u16, i: u8, host: u16) -> u8
+pub(crate) fn import_bare(work: &mut [u8], b: u16, i: u8, host: u16) -> u8
     requires { ⌜ Inside (now work) b i × Block (now work) host × ((b ≡ host) → ⊥) × (getD (now work) (blockSize * b + objectSize * i + 1) 0 ≡ 0) ⌝ }
     ensures { λ r. ⌜ PartImported (now (work .entry)) (Object i b) host (now (work .exit)) r ⌝ }
 {
@@ -53,7 +53,7 @@ pub fn import_bare(work: &mut [u8], b: u16, i: u8, host: u16) -> u8
 }
 
 // Object i of block b, in block host, whose first objects are those of block base: its number there, or NO_ROOM.
-pub fn import_object(work: &mut [u8], b: u16, i: u8, base: u16, host: u16) -> u8
+pub(crate) fn import_object(work: &mut [u8], b: u16, i: u8, base: u16, host: u16) -> u8
     requires { ⌜ Inside (now work) b i × Begun (now work) base host ⌝ }
     ensures { λ r. ⌜ PartImported (now (work .entry)) (Object i b) host (now (work .exit)) r ⌝ }
 {
@@ -70,7 +70,7 @@ pub fn import_object(work: &mut [u8], b: u16, i: u8, base: u16, host: u16) -> u8
 }
 
 // A value in block host: its code there, or NO_ROOM.
-pub fn import_part(work: &mut [u8], v: ValueRef, base: u16, host: u16) -> u8
+pub(crate) fn import_part(work: &mut [u8], v: ValueRef, base: u16, host: u16) -> u8
     requires { ⌜ Holds (now work) v × Begun (now work) base host ⌝ }
     ensures { λ r. ⌜ PartImported (now (work .entry)) v host (now (work .exit)) r ⌝ }
 {
@@ -82,7 +82,7 @@ pub fn import_part(work: &mut [u8], v: ValueRef, base: u16, host: u16) -> u8
 }
 
 // The codes of the n parts in block host. NO_CODES if there was no room for them: it is no code of the host, so no other answer has it as its first code.
-pub fn bring_parts(work: &mut [u8], parts: &[u32], n: u8, base: u16, host: u16) -> u32
+pub(crate) fn bring_parts(work: &mut [u8], parts: &[u32], n: u8, base: u16, host: u16) -> u32
     requires { ⌜ PartsHeld (now work) (partsOf (now parts)) n × (n ≤ codeCount) × Begun (now work) base host × (codeCount ≤ length (now parts)) ⌝ }
     ensures { λ w. ⌜ PartsBrought (now (work .entry)) (partsOf (now (parts .entry))) n host (now (work .exit)) w ⌝ }
 {
@@ -158,7 +158,7 @@ pub(crate) fn make_in(
 }
 
 // A new object whose parts are brought into a copy of block b, in block `dst`, where no part lies.
-pub fn make_copied(work: &mut [u8], c: u8, parts: &[u32], n: u8, b: u16, dst: u16) -> Made
+pub(crate) fn make_copied(work: &mut [u8], c: u8, parts: &[u32], n: u8, b: u16, dst: u16) -> Made
     requires { ⌜ Makeable (now work) (partsOf (now parts)) n dst × Block (now work) b × (b < dst) × (someIn (partsOf (now parts)) n dst ≡ false) × (codeCount ≤ length (now parts)) ⌝ }
     ensures { λ o. ⌜ MadeIs (now (work .entry)) (make c (valuesFrom (now (work .entry)) (partsOf (now (parts .entry))) 0 n)) dst (now (work .exit)) o ⌝ }
 {
@@ -167,7 +167,7 @@ pub fn make_copied(work: &mut [u8], c: u8, parts: &[u32], n: u8, b: u16, dst: u1
 }
 
 // A new object whose parts lie in several blocks, `first` one of them, none in `dst`: over the block with the most objects, where it may be written, or over a copy; anew if that block is full.
-pub fn make_apart(work: &mut [u8], c: u8, parts: &[u32], n: u8, first: u16, dst: u16) -> Made
+pub(crate) fn make_apart(work: &mut [u8], c: u8, parts: &[u32], n: u8, first: u16, dst: u16) -> Made
     requires { ⌜ Makeable (now work) (partsOf (now parts)) n dst × Block (now work) first × (someIn (partsOf (now parts)) n dst ≡ false) × (codeCount ≤ length (now parts)) ⌝ }
     ensures { λ o. ⌜ MadeIs (now (work .entry)) (make c (valuesFrom (now (work .entry)) (partsOf (now (parts .entry))) 0 n)) dst (now (work .exit)) o ⌝ }
 {

@@ -30,10 +30,10 @@ ghost use Rattle.canon.specs.Numbers.{Levels};
 ghost use Rattle.maker.specs.Adding.{objectOf, RootCodes, Found, Emptied, Appended, Added, someObject};
 
 // Four codes of fields that an object does not have: each is UNDETERMINED.
-pub const UNUSED: u32 = 3233857728;
+pub(crate) const UNUSED: u32 = 3233857728;
 
 // The code of a part: its object's.
-pub fn code_of(work: &[u8], r: ValueRef) -> u8
+pub(crate) fn code_of(work: &[u8], r: ValueRef) -> u8
     requires { ⌜ Holds (now work) r ⌝ }
     ensures { λ c. ⌜ refOf c ≡ rawOf (now (work .entry)) r .root ⌝ }
 {
@@ -45,7 +45,7 @@ pub fn code_of(work: &[u8], r: ValueRef) -> u8
 }
 
 // The codes of the n parts, and unused ones.
-pub fn root_codes(work: &[u8], parts: &[u32], n: u8) -> u32
+pub(crate) fn root_codes(work: &[u8], parts: &[u32], n: u8) -> u32
     requires { ⌜ PartsHeld (now work) (partsOf (now parts)) n × (n ≤ codeCount) × (codeCount ≤ length (now parts)) ⌝ }
     ensures { λ w. ⌜ RootCodes (rawsFrom (now (work .entry)) (partsOf (now (parts .entry))) 0 n) n w ⌝ }
 {
@@ -60,7 +60,7 @@ pub fn root_codes(work: &[u8], parts: &[u32], n: u8) -> u32
 }
 
 // Whether the object at place p is this one.
-pub fn is_object(work: &[u8], p: usize, c: u8, n: u8, w: u32) -> bool
+pub(crate) fn is_object(work: &[u8], p: usize, c: u8, n: u8, w: u32) -> bool
     requires { ⌜ p + objectSize ≤ length (now work) ⌝ }
     ensures { λ r. ⌜ r ≡ eqNats (part (now (work .entry)) p objectSize) (objectOf c n w) ⌝ }
 {
@@ -74,7 +74,7 @@ pub fn is_object(work: &[u8], p: usize, c: u8, n: u8, w: u32) -> bool
 }
 
 // The place of the object among the t objects of block b; t if it is not there.
-pub fn find(work: &[u8], b: u16, t: u8, c: u8, n: u8, w: u32) -> u8
+pub(crate) fn find(work: &[u8], b: u16, t: u8, c: u8, n: u8, w: u32) -> u8
     requires { ⌜ Block (now work) b × (t ≡ countIn (now work) b) × Packed (objectOf c n w) 0 ⌝ }
     ensures { λ k. ⌜ Found (now (work .entry)) b t (objectOf c n w) k ⌝ }
 {
@@ -89,7 +89,7 @@ pub fn find(work: &[u8], b: u16, t: u8, c: u8, n: u8, w: u32) -> u8
 }
 
 // A level for a byte more.
-pub fn raise_level(l: u8, c: u8) -> u8
+pub(crate) fn raise_level(l: u8, c: u8) -> u8
     ensures { λ m. ⌜ (l ≤ m) × (c < firstMark + m) ⌝ }
 {
     if c <= UNDETERMINED {
@@ -103,7 +103,7 @@ pub fn raise_level(l: u8, c: u8) -> u8
 }
 
 // A level for objects of this level and the new one.
-pub fn level_with(c: u8, n: u8, w: u32, l: u8) -> u8
+pub(crate) fn level_with(c: u8, n: u8, w: u32, l: u8) -> u8
     ensures { λ m. ⌜ Levels (objectOf c n w) 0 objectSize m × (l ≤ m) ⌝ }
 {
     let m0 = raise_level(l, c);
@@ -115,7 +115,7 @@ pub fn level_with(c: u8, n: u8, w: u32, l: u8) -> u8
 }
 
 // Block `dst` without objects.
-pub fn empty(work: &mut [u8], dst: u16)
+pub(crate) fn empty(work: &mut [u8], dst: u16)
     requires { ⌜ blockSize * dst + blockSize ≤ length (now work) ⌝ }
     ensures { λ _. ⌜ Emptied (now (work .entry)) dst (now (work .exit)) ⌝ }
 {
@@ -124,7 +124,7 @@ pub fn empty(work: &mut [u8], dst: u16)
 }
 
 // The object, after t objects of block `dst`, and the block's level. No object refers to the new one.
-pub fn append(work: &mut [u8], dst: u16, t: u8, c: u8, n: u8, w: u32, l: u8)
+pub(crate) fn append(work: &mut [u8], dst: u16, t: u8, c: u8, n: u8, w: u32, l: u8)
     requires { ⌜ (t < capacity) × (blockSize * dst + blockSize ≤ length (now work)) ⌝ }
     ensures { λ _. ⌜ Appended (now (work .entry)) dst t (objectOf c n w) l (now (work .exit)) ⌝ }
 {
@@ -141,7 +141,7 @@ pub fn append(work: &mut [u8], dst: u16, t: u8, c: u8, n: u8, w: u32, l: u8)
 }
 
 // The objects of block b and the new one, in block `dst`.
-pub fn add(work: &mut [u8], b: u16, c: u8, n: u8, w: u32, dst: u16)
+pub(crate) fn add(work: &mut [u8], b: u16, c: u8, n: u8, w: u32, dst: u16)
     requires { ⌜ Block (now work) b × (countIn (now work) b < capacity) × (blockSize * dst + blockSize ≤ length (now work)) ⌝ }
     ensures { λ _. ⌜ Added (now (work .entry)) b (countIn (now (work .entry)) b) (objectOf c n w) dst (now (work .exit)) ⌝ }
 {
@@ -152,7 +152,7 @@ pub fn add(work: &mut [u8], b: u16, c: u8, n: u8, w: u32, dst: u16)
 }
 
 // A new object whose parts are no objects.
-pub fn make_alone(work: &mut [u8], c: u8, parts: &[u32], n: u8, dst: u16) -> Made
+pub(crate) fn make_alone(work: &mut [u8], c: u8, parts: &[u32], n: u8, dst: u16) -> Made
     requires { ⌜ PartsHeld (now work) (partsOf (now parts)) n × (n ≤ codeCount) × (someObject (partsOf (now parts)) n ≡ false) × (blockSize * dst + blockSize ≤ length (now work)) × (codeCount ≤ length (now parts)) ⌝ }
     ensures { λ o. ⌜ MadeIs (now (work .entry)) (make c (valuesFrom (now (work .entry)) (partsOf (now (parts .entry))) 0 n)) dst (now (work .exit)) o ⌝ }
 {

@@ -15,7 +15,7 @@ ghost use Rattle.maker.specs.Adding.{partOf, someObject, blockOf, firstB
 ghost use Rattle.maker.specs.Merging.{someIn, largerOf, largestOf};
 
 // Part i of a new object, whose parts are these numbers.
-pub fn part_at(parts: &[u32], i: u8) -> ValueRef
+pub(crate) fn part_at(parts: &[u32], i: u8) -> ValueRef
     requires { ⌜ (i < codeCount) × (codeCount ≤ length (now parts)) ⌝ }
     ensures { λ v. ⌜ v ≡ partOf (partsOf (now (parts .entry))) i ⌝ }
 {
@@ -23,7 +23,7 @@ pub fn part_at(parts: &[u32], i: u8) -> ValueRef
 }
 
 // Whether one of the parts is an object.
-pub fn some_object(parts: &[u32], n: u8) -> bool
+pub(crate) fn some_object(parts: &[u32], n: u8) -> bool
     requires { ⌜ (n ≤ codeCount) × (codeCount ≤ length (now parts)) ⌝ }
     ensures { λ r. ⌜ r ≡ someObject (partsOf (now (parts .entry))) n ⌝ }
 {
@@ -39,7 +39,7 @@ pub fn some_object(parts: &[u32], n: u8) -> bool
 }
 
 // The block of a value that is an object; 0 for another.
-pub fn block_of(v: ValueRef) -> u16
+pub(crate) fn block_of(v: ValueRef) -> u16
     ensures { λ b. ⌜ b ≡ blockOf v ⌝ }
 {
     let ValueRef::Object(_, b) = v else {
@@ -49,7 +49,7 @@ pub fn block_of(v: ValueRef) -> u16
 }
 
 // The block of the first part that is an object of a block other than 0; 0 if there is none.
-pub fn first_block(parts: &[u32], n: u8) -> u16
+pub(crate) fn first_block(parts: &[u32], n: u8) -> u16
     requires { ⌜ (n ≤ codeCount) × (codeCount ≤ length (now parts)) ⌝ }
     ensures { λ b. ⌜ b ≡ firstBlock (partsOf (now (parts .entry))) n ⌝ }
 {
@@ -66,7 +66,7 @@ pub fn first_block(parts: &[u32], n: u8) -> u16
 }
 
 // Whether a part lies in block b, or is no object.
-pub fn stands(v: ValueRef, b: u16) -> bool
+pub(crate) fn stands(v: ValueRef, b: u16) -> bool
     ensures { λ r. ⌜ r ≡ standsIn b v ⌝ }
 {
     match v {
@@ -77,7 +77,7 @@ pub fn stands(v: ValueRef, b: u16) -> bool
 }
 
 // Whether each part lies in block b, or is no object.
-pub fn together(parts: &[u32], n: u8, b: u16) -> bool
+pub(crate) fn together(parts: &[u32], n: u8, b: u16) -> bool
     requires { ⌜ (n ≤ codeCount) × (codeCount ≤ length (now parts)) ⌝ }
     ensures { λ r. ⌜ r ≡ allStand (partsOf (now (parts .entry))) n b ⌝ }
 {
@@ -93,7 +93,7 @@ pub fn together(parts: &[u32], n: u8, b: u16) -> bool
 }
 
 // Whether v is an object of block d.
-pub fn lies_in(v: ValueRef, d: u16) -> bool
+pub(crate) fn lies_in(v: ValueRef, d: u16) -> bool
     ensures { λ r. ⌜ r ≡ liesIn d v ⌝ }
 {
     match v {
@@ -104,7 +104,7 @@ pub fn lies_in(v: ValueRef, d: u16) -> bool
 }
 
 // Whether one of the parts is an object of block d. Most often the last is.
-pub fn some_in(parts: &[u32], n: u8, d: u16) -> bool
+pub(crate) fn some_in(parts: &[u32], n: u8, d: u16) -> bool
     requires { ⌜ (n ≤ codeCount) × (codeCount ≤ length (now parts)) ⌝ }
     ensures { λ r. ⌜ r ≡ someIn (partsOf (now (parts .entry))) n d ⌝ }
 {
@@ -120,7 +120,7 @@ pub fn some_in(parts: &[u32], n: u8, d: u16) -> bool
 }
 
 // The block of v, if v is an object of a block other than 0 and that block has more objects than block b; else b.
-pub fn larger(work: &[u8], v: ValueRef, b: u16) -> u16
+pub(crate) fn larger(work: &[u8], v: ValueRef, b: u16) -> u16
     requires { ⌜ Holds (now work) v × Block (now work) b ⌝ }
     ensures { λ r. ⌜ r ≡ largerOf (now (work .entry)) v b ⌝ }
 {
@@ -137,7 +137,7 @@ pub fn larger(work: &[u8], v: ValueRef, b: u16) -> u16
 }
 
 // The block with the most objects, of block b and those of the parts but block 0.
-pub fn largest(work: &[u8], parts: &[u32], n: u8, b: u16) -> u16
+pub(crate) fn largest(work: &[u8], parts: &[u32], n: u8, b: u16) -> u16
     requires { ⌜ PartsHeld (now work) (partsOf (now parts)) n × (n ≤ codeCount) × Block (now work) b × (codeCount ≤ length (now parts)) ⌝ }
     ensures { λ r. ⌜ r ≡ largestOf (now (work .entry)) (partsOf (now (parts .entry))) n b ⌝ }
 {

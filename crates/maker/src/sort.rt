@@ -18,7 +18,7 @@ ghost use Rattle.canon.specs.Layout.{Block, Inside};
 ghost use Rattle.maker.specs.Sorting.{Sorting, Onward, Settling, ByFields, SortedFrom, Listed, turnIn, OpenIs, NewIs, LeadsIs, TurnedIs};
 
 // The codes of an object in the host, as one number, if all are told.
-pub enum Turned {
+pub(crate) enum Turned {
     All(u32),
     Open,
 }

@@ -11,8 +11,8 @@ use lib.ListN.{length, getElem?, length-map}
 use borrow.Author.Tests.{eqb-true}
 use Rattle.cofj.specs.Partial.{_>>=_}
 use Rattle.cofj.specs.Values.{Ref, obj, mark, undet, Node, refsAt, bind}
-use Rattle.cofj.specs.Unfolding.{object, opened, unknown, labelAt, child, follow, Same, InRange}
-use Rattle.cofj.proofs.Operations.{boundNode, boundNodes, followBound, bound-follow}
+use Rattle.cofj.specs.Unfolding.{object, opened, unknown, labelAt, child, follow, Same, InRange, followBound}
+use Rattle.cofj.proofs.Operations.{boundNode, boundNodes, bound-follow}
 use Rattle.canon.specs.Layout.{Distinct}
 
 -- ---- a mark bound

@@ -528,6 +528,6 @@ pub +call·eval-call+call·invoke+call·run-left+call·run-right+eval·eval+eval
     (λ c κs. search needs)
     (λ c. search needs)
     (λ c. search steps.new-stops)
-    (λ c κs. search steps.parts-ready)
+    (λ c κs. (search steps.parts-ready, search steps.new-limit))
     (λ c. search needs)
     (λ c. search steps.new-made))

@@ -11,7 +11,7 @@ returns : tie.Need-returns
 returns c = search laws.finish-bare
 
 make-requires : tie.Need-make-requires
-make-requires c κs = (search laws.finish-parts, search needs)
+make-requires c κs = (search laws.finish-parts, search needs, search laws.finish-limit)
 
 returns-2 : tie.Need-returns-2
 returns-2 c = search laws.finish-large

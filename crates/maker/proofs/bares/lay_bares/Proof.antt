@@ -1,3 +1,4 @@
+-- The proof of `bares::lay_bares`: object c of block 0 is the object of class c without fields, and there is no other. By the laws of BareLaws.
 use Rattle.maker.proofs.bares.lay_bares.Statement.{statement}
 use Rattle.maker.proofs.bares.lay_bares.Tie as tie
 use Rattle.maker.proofs.bares.lay_bares.Reads as reads

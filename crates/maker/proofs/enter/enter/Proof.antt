@@ -1,3 +1,4 @@
+-- The proof of `enter::enter`: the object, among the objects of block host: its number there, or NO_ROOM if it is new and the block is full. By the laws of Enters.
 use borrow.Author.Needs.{needs}
 use Rattle.maker.proofs.enter.enter.Statement.{statement}
 use Rattle.maker.proofs.enter.enter.Tie as tie
@@ -5,7 +6,7 @@ use Rattle.maker.proofs.enter.enter.Reads as reads
 use Rattle.maker.proofs.enter.enter.Lts as lts
 use Rattle.maker.proofs.enter.enter_new.Reads as enter-new-reads
 use Rattle.maker.proofs.over.find.Reads as find-reads
-use Rattle.maker.proofs.Merges as laws
+use Rattle.maker.proofs.Enters as laws
 
 find-requires : tie.Need-find-requires
 find-requires c κs = (search needs, search laws.enter-count, search needs)

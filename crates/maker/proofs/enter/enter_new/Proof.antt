@@ -1,3 +1,4 @@
+-- The proof of `enter::enter_new`: a new object, which is not among the objects of block host: its number there, or NO_ROOM. By the laws of Enters.
 use borrow.Author.Needs.{needs}
 use Rattle.maker.proofs.enter.enter_new.Statement.{statement}
 use Rattle.maker.proofs.enter.enter_new.Tie as tie
@@ -5,7 +6,7 @@ use Rattle.maker.proofs.enter.enter_new.Reads as reads
 use Rattle.maker.proofs.enter.enter_new.Lts as lts
 use Rattle.maker.proofs.over.append.Reads as append-reads
 use Rattle.maker.proofs.over.level_with.Reads as level-with-reads
-use Rattle.maker.proofs.Merges as laws
+use Rattle.maker.proofs.Enters as laws
 
 returns : tie.Need-returns
 returns c = search laws.enter-full

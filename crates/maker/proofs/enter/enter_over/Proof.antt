@@ -1,3 +1,4 @@
+-- The proof of `enter::enter_over`: the object among the objects of a block, not looked for where it can not be there. By the laws of Enters.
 use borrow.Author.Needs.{needs}
 use Rattle.maker.proofs.enter.enter_over.Statement.{statement}
 use Rattle.maker.proofs.enter.enter_over.Tie as tie
@@ -6,7 +7,7 @@ use Rattle.maker.proofs.enter.enter_over.Lts as lts
 use Rattle.maker.proofs.enter.enter.Reads as enter-reads
 use Rattle.maker.proofs.enter.enter_new.Reads as enter-new-reads
 use Rattle.maker.proofs.enter.refers_from.Reads as refers-from-reads
-use Rattle.maker.proofs.Merges as laws
+use Rattle.maker.proofs.Enters as laws
 
 enter-new-requires : tie.Need-enter-new-requires
 enter-new-requires c κs = (search needs, search needs, search laws.fresh-missed)

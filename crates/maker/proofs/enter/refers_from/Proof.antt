@@ -1,10 +1,11 @@
+-- The proof of `enter::refers_from`: whether one of four codes is an object's, of number f or a higher one. By the laws of Enters.
 use borrow.Author.Needs.{needs}
 use Rattle.maker.proofs.enter.refers_from.Statement.{statement}
 use Rattle.maker.proofs.enter.refers_from.Tie as tie
 use Rattle.maker.proofs.enter.refers_from.Reads as reads
 use Rattle.maker.proofs.enter.refers_from.Lts as lts
 use Rattle.maker.proofs.enter.lies_from.Reads as lies-from-reads
-use Rattle.maker.proofs.Merges as laws
+use Rattle.maker.proofs.Enters as laws
 
 returns : tie.Need-returns
 returns c = search laws.refers-first

@@ -1,3 +1,4 @@
+-- The proof of `join::extend`: the new objects in block host, which then has m objects. By the laws of Additions.
 use Rattle.maker.proofs.join.extend.Statement.{statement}
 use Rattle.maker.proofs.join.extend.Tie as tie
 use Rattle.maker.proofs.join.extend.Reads as reads
@@ -9,7 +10,7 @@ use borrow.Author.Needs.{needs}
 use native.Mathlib.Omega.{arith}
 use lib.ListN.{length-set}
 use Rattle.canon.specs.Layout.{countIn}
-use Rattle.maker.proofs.Joins as laws
+use Rattle.maker.proofs.Additions as laws
 
 cast-level-of : tie.Need-cast-level-of
 unfolding countIn

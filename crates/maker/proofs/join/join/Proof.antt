@@ -1,3 +1,4 @@
+-- The proof of `join::join`: the new objects of block src added to block host. By the laws of Joins.
 use Rattle.maker.proofs.join.join.Statement.{statement}
 use Rattle.maker.proofs.join.join.Tie as tie
 use Rattle.maker.proofs.join.join.Reads as reads

@@ -1,3 +1,4 @@
+-- The proof of `join::number_new`: numbers for the new ones of the first n objects, from t on in their order. By a loop in which n - x falls, and the laws of Numberings.
 use Rattle.maker.proofs.join.number_new.Statement.{statement}
 use Rattle.maker.proofs.join.number_new.Tie as tie
 use Rattle.maker.proofs.join.number_new.Reads as reads
@@ -6,7 +7,7 @@ use borrow.Author.Needs.{needs}
 use Prim.Native.Nat.{_≤_, _-_}
 use mathlib.Core.Logic.{⊎-elim}
 use Rattle.maker.specs.Joining.{Counted}
-use Rattle.maker.proofs.Joins as laws
+use Rattle.maker.proofs.Numberings as laws
 
 abbrev Inv-loop : tie.InvT-loop
 Inv-loop n t told₀ fresh next₀ x₀ told next x = (x ≤ n) × Counted x t told₀ fresh told next

@@ -1,3 +1,4 @@
+-- The proof of `join::put_new`: all new objects, each at the place that `told` has for it. By a loop in which n - x falls, and the laws of Additions.
 use Rattle.maker.proofs.join.put_new.Statement.{statement}
 use Rattle.maker.proofs.join.put_new.Tie as tie
 use Rattle.maker.proofs.join.put_new.Reads as reads
@@ -8,7 +9,7 @@ use Prim.Native.Nat.{_≤_, _-_}
 use mathlib.Core.Logic.{⊎-elim}
 use Rattle.canon.specs.Figures.{capacity}
 use Rattle.maker.specs.Joining.{Laid}
-use Rattle.maker.proofs.Joins as laws
+use Rattle.maker.proofs.Additions as laws
 
 abbrev Inv-loop : tie.InvT-loop
 Inv-loop work₀ src host told fresh n x₀ work x = (x ≤ n) × (n ≤ capacity) × Laid work₀ src host told fresh x work

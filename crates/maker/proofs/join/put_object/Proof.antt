@@ -1,3 +1,4 @@
+-- The proof of `join::put_object`: object x of block src, its codes turned, at the place of object y of block host. By the laws of Additions.
 use borrow.Author.Needs.{needs}
 use Rattle.maker.proofs.join.put_object.Statement.{statement}
 use Rattle.maker.proofs.join.put_object.Tie as tie
@@ -6,7 +7,7 @@ use Rattle.maker.proofs.join.put_object.Lts as lts
 use Rattle.maker.proofs.sort.turn.Reads as turn-reads
 use native.Mathlib.Omega.{arith}
 use lib.ListN.{length-set}
-use Rattle.maker.proofs.Joins as laws
+use Rattle.maker.proofs.Additions as laws
 
 turn-requires : tie.Need-turn-requires
 turn-requires c κs = let p = c .before .before .before .pre in laws.put-code _ _ _ _ (p .0) (p .4) 2 (omega arith) (omega arith)

@@ -1,47 +1,36 @@
+-- The proof of `make::make`: a new object, unless it has more objects than the run allows. By the laws of Limits, one for each return.
 use borrow.Author.Needs.{needs}
 use Rattle.maker.proofs.make.make.Statement.{statement}
 use Rattle.maker.proofs.make.make.Tie as tie
 use Rattle.maker.proofs.make.make.Reads as reads
 use Rattle.maker.proofs.make.make.Lts as lts
-use Rattle.maker.proofs.parts.first_block.Reads as first-block-reads
-use Rattle.maker.proofs.make.make_beside.Reads as make-beside-reads
-use Rattle.maker.proofs.make.make_fresh.Reads as make-fresh-reads
-use Rattle.maker.proofs.parts.together.Reads as together-reads
-use Rattle.maker.proofs.merge.make_apart.Reads as make-apart-reads
-use Rattle.maker.proofs.merge.make_in.Reads as make-in-reads
-use Rattle.maker.proofs.parts.some_in.Reads as some-in-reads
-use Rattle.values.proofs.Tests as tests
-use Rattle.maker.proofs.Beside as laws
-use Rattle.maker.proofs.Merges as merges
+use Rattle.maker.proofs.limit.fits.Reads as fits-reads
+use Rattle.maker.proofs.make.make_object.Reads as make-object-reads
+use Rattle.maker.proofs.Limits as laws
 
-make-in-requires : tie.Need-make-in-requires
-make-in-requires c κs = (search needs, search merges.some-begun, search needs, search needs)
+returns : tie.Need-returns
+returns c = search laws.limit-none
 
-make-fresh-requires : tie.Need-make-fresh-requires
-make-fresh-requires c κs = (search needs, search tests.told, search needs)
+fits-requires : tie.Need-fits-requires
+fits-requires c κs = (search laws.limit-held, search laws.limit-room)
 
-make-beside-requires : tie.Need-make-beside-requires
-make-beside-requires c κs = (search needs, search laws.first-block, search tests.told, search needs)
+returns-2 : tie.Need-returns-2
+returns-2 c = search laws.limit-yes
 
-make-apart-requires : tie.Need-make-apart-requires
-make-apart-requires c κs = (search needs, search laws.first-block, search tests.told, search needs)
+returns-3 : tie.Need-returns-3
+returns-3 c = search laws.limit-no
 
 pub make-spec : {M : Type 1} → statement M
 make-spec =
     tie.close
     (tie.spec
     (λ c κs. search needs)
-    make-in-requires
     (λ c. search needs)
     (λ c. search needs)
-    (λ c κs. search needs)
-    make-fresh-requires
     (λ c. search needs)
+    returns
+    fits-requires
     (λ c. search needs)
-    (λ c κs. search needs)
-    make-beside-requires
+    returns-2
     (λ c. search needs)
-    (λ c. search needs)
-    make-apart-requires
-    (λ c. search needs)
-    (λ c. search needs))
+    returns-3)

@@ -1,3 +1,4 @@
+-- The proof of `make::make_beside`: a new object whose parts lie in block b, or are no objects. By the laws of Finds, Beside, Hosts and values' Copies.
 use borrow.Author.Needs.{needs}
 use Rattle.maker.proofs.make.make_beside.Statement.{statement}
 use Rattle.maker.proofs.make.make_beside.Tie as tie
@@ -8,27 +9,28 @@ use Rattle.maker.proofs.over.add.Reads as add-reads
 use Rattle.maker.proofs.over.find.Reads as find-reads
 use Rattle.maker.proofs.over.root_codes.Reads as root-codes-reads
 use Rattle.values.proofs.value.bring.Reads as bring-reads
-use Rattle.maker.proofs.Beside as laws
+use Rattle.maker.proofs.Finds as finds
+use Rattle.maker.proofs.Beside as beside
 use Rattle.canon.specs.Layout.{countIn}
 use Rattle.values.proofs.Copies as copies
-use Rattle.maker.proofs.Merges as merges
+use Rattle.maker.proofs.Hosts as merges
 
 find-requires : tie.Need-find-requires
 unfolding countIn
-find-requires c κs = (search needs, search needs, search laws.root-packed)
+find-requires c κs = (search needs, search needs, search finds.root-packed)
 
 bring-requires : tie.Need-bring-requires
 bring-requires c κs = (search copies.block-held, search merges.makeable-room)
 
 returns : tie.Need-returns
-returns c = search laws.beside-found
+returns c = search beside.beside-found
 
 add-requires : tie.Need-add-requires
 unfolding countIn
 add-requires c κs = (search needs, search needs, search merges.makeable-room)
 
 returns-3 : tie.Need-returns-3
-returns-3 c = search laws.beside-new
+returns-3 c = search beside.beside-new
 
 pub make-beside-spec : {M : Type 1} → statement M
 make-beside-spec =

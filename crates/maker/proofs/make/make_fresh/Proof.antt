@@ -1,3 +1,4 @@
+-- The proof of `make::make_fresh`: a new object in block `dst`, where no part lies: alone, or after what its parts lead to. By the laws of Wheres and Hosts.
 use borrow.Author.Needs.{needs}
 use Rattle.maker.proofs.make.make_fresh.Statement.{statement}
 use Rattle.maker.proofs.make.make_fresh.Tie as tie
@@ -7,8 +8,8 @@ use Rattle.maker.proofs.parts.some_object.Reads as some-object-reads
 use Rattle.maker.proofs.merge.make_in.Reads as make-in-reads
 use Rattle.maker.proofs.over.empty.Reads as empty-reads
 use Rattle.maker.proofs.over.make_alone.Reads as make-alone-reads
-use Rattle.maker.proofs.Beside as tests
-use Rattle.maker.proofs.Merges as laws
+use Rattle.maker.proofs.Wheres as tests
+use Rattle.maker.proofs.Hosts as laws
 
 make-alone-requires : tie.Need-make-alone-requires
 make-alone-requires c κs = (search laws.makeable-held, search laws.makeable-few, search tests.denied, search laws.makeable-room, search needs)

@@ -1,3 +1,4 @@
+-- The proof of `merge::bring_parts`: the codes of the n parts in block host. By a loop in which i falls, and the laws of Brings.
 use borrow.Author.Needs.{needs}
 use Rattle.maker.proofs.merge.bring_parts.Statement.{statement}
 use Rattle.maker.proofs.merge.bring_parts.Tie as tie
@@ -10,7 +11,7 @@ use mathlib.Core.Path.{_≡_}
 use lib.ListN.{length}
 use Rattle.maker.specs.Laying.{partsOf}
 use Rattle.maker.specs.Merging.{Grown, RootBrought}
-use Rattle.maker.proofs.Merges as laws
+use Rattle.maker.proofs.Brings as laws
 
 abbrev Inv-loop : tie.InvT-loop
 Inv-loop work₀ parts n base host w₀ i₀ work w i = (i ≤ n) × (length work ≡ length work₀) × Grown host work₀ work × RootBrought work₀ (partsOf parts) n i work host w

@@ -1,3 +1,4 @@
+-- The proof of `merge::import_bare`: object i of block b, which has no fields, in block host: its number there, or NO_ROOM. By the laws of Brings.
 use borrow.Author.Needs.{needs}
 use Rattle.maker.proofs.merge.import_bare.Statement.{statement}
 use Rattle.maker.proofs.merge.import_bare.Tie as tie
@@ -5,7 +6,7 @@ use Rattle.maker.proofs.merge.import_bare.Reads as reads
 use Rattle.maker.proofs.merge.import_bare.Lts as lts
 use Rattle.canon.proofs.bytes.four_at.Reads as four-at-reads
 use Rattle.maker.proofs.enter.enter.Reads as enter-reads
-use Rattle.maker.proofs.Merges as laws
+use Rattle.maker.proofs.Brings as laws
 
 enter-requires : tie.Need-enter-requires
 enter-requires c κs = (search needs, search laws.bare-fits)

@@ -1,3 +1,4 @@
+-- The proof of `merge::import_object`: object i of block b, in block host, whose first objects are those of block base: its number there, or NO_ROOM. By the laws of Brings.
 use borrow.Author.Needs.{needs}
 use Rattle.maker.proofs.merge.import_object.Statement.{statement}
 use Rattle.maker.proofs.merge.import_object.Tie as tie
@@ -5,7 +6,7 @@ use Rattle.maker.proofs.merge.import_object.Reads as reads
 use Rattle.maker.proofs.merge.import_object.Lts as lts
 use Rattle.maker.proofs.part.import.Reads as import-reads
 use Rattle.maker.proofs.merge.import_bare.Reads as import-bare-reads
-use Rattle.maker.proofs.Merges as laws
+use Rattle.maker.proofs.Brings as laws
 
 returns : tie.Need-returns
 returns c = search laws.object-base

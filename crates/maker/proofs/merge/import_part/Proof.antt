@@ -1,3 +1,4 @@
+-- The proof of `merge::import_part`: a value in block host: its code there, or NO_ROOM. By the laws of Brings and values' Blocks.
 use borrow.Author.Needs.{needs}
 use Rattle.maker.proofs.merge.import_part.Statement.{statement}
 use Rattle.maker.proofs.merge.import_part.Tie as tie
@@ -6,7 +7,7 @@ use Rattle.maker.proofs.merge.import_part.Lts as lts
 use Rattle.maker.proofs.merge.import_object.Reads as import-object-reads
 use native.Mathlib.Omega.{arith}
 use Rattle.values.proofs.Blocks as blocks
-use Rattle.maker.proofs.Merges as laws
+use Rattle.maker.proofs.Brings as laws
 
 import-object-requires : tie.Need-import-object-requires
 import-object-requires c κs = (search blocks.held-inside, search needs)

@@ -1,3 +1,4 @@
+-- The proof of `merge::make_anew`: a new object in the spare block, or too large. By the laws of Hosts.
 use borrow.Author.Needs.{needs}
 use Rattle.maker.proofs.merge.make_anew.Statement.{statement}
 use Rattle.maker.proofs.merge.make_anew.Tie as tie
@@ -5,7 +6,7 @@ use Rattle.maker.proofs.merge.make_anew.Reads as reads
 use Rattle.maker.proofs.merge.make_anew.Lts as lts
 use Rattle.maker.proofs.merge.try_in.Reads as try-in-reads
 use Rattle.maker.proofs.over.empty.Reads as empty-reads
-use Rattle.maker.proofs.Merges as laws
+use Rattle.maker.proofs.Hosts as laws
 
 try-in-requires : tie.Need-try-in-requires
 try-in-requires c κs = (search laws.spare-held, search laws.makeable-few, search laws.spare-begun, search laws.spare-above, search laws.spare-dst, search needs)

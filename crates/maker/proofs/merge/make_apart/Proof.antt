@@ -1,3 +1,4 @@
+-- The proof of `merge::make_apart`: a new object whose parts lie in several blocks. By the laws of Hosts.
 use borrow.Author.Needs.{needs}
 use Rattle.maker.proofs.merge.make_apart.Statement.{statement}
 use Rattle.maker.proofs.merge.make_apart.Tie as tie
@@ -7,7 +8,7 @@ use Rattle.maker.proofs.parts.largest.Reads as largest-reads
 use Rattle.maker.proofs.merge.make_anew.Reads as make-anew-reads
 use Rattle.maker.proofs.merge.make_copied.Reads as make-copied-reads
 use Rattle.maker.proofs.merge.make_in.Reads as make-in-reads
-use Rattle.maker.proofs.Merges as laws
+use Rattle.maker.proofs.Hosts as laws
 
 slice-read-if1 : tie.Need-slice-read-if1
 slice-read-if1 c = search laws.largest-read

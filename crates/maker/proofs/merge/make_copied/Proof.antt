@@ -1,3 +1,4 @@
+-- The proof of `merge::make_copied`: a new object whose parts are brought into a copy of block b, in block `dst`, where no part lies. By the laws of Hosts.
 use borrow.Author.Needs.{needs}
 use Rattle.maker.proofs.merge.make_copied.Statement.{statement}
 use Rattle.maker.proofs.merge.make_copied.Tie as tie
@@ -5,7 +6,7 @@ use Rattle.maker.proofs.merge.make_copied.Reads as reads
 use Rattle.maker.proofs.merge.make_copied.Lts as lts
 use Rattle.maker.proofs.merge.make_in.Reads as make-in-reads
 use Rattle.values.proofs.value.copy_block.Reads as copy-block-reads
-use Rattle.maker.proofs.Merges as laws
+use Rattle.maker.proofs.Hosts as laws
 
 make-in-requires : tie.Need-make-in-requires
 make-in-requires c κs = (search laws.copied-makeable, search laws.copied-begun, search needs, search needs)

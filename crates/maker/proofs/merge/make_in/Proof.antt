@@ -1,3 +1,4 @@
+-- The proof of `merge::make_in`: a new object over parts brought into the host, or anew where that has no room. By the laws of Hosts.
 use borrow.Author.Needs.{needs}
 use Rattle.maker.proofs.merge.make_in.Statement.{statement}
 use Rattle.maker.proofs.merge.make_in.Tie as tie
@@ -5,7 +6,7 @@ use Rattle.maker.proofs.merge.make_in.Reads as reads
 use Rattle.maker.proofs.merge.make_in.Lts as lts
 use Rattle.maker.proofs.merge.make_anew.Reads as make-anew-reads
 use Rattle.maker.proofs.merge.try_in.Reads as try-in-reads
-use Rattle.maker.proofs.Merges as laws
+use Rattle.maker.proofs.Hosts as laws
 
 make-anew-requires : tie.Need-make-anew-requires
 make-anew-requires c κs = (search laws.tried-makeable, search needs)

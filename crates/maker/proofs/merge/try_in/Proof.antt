@@ -1,3 +1,4 @@
+-- The proof of `merge::try_in`: a new object whose parts are brought into block host, which lies at dst or above and begins with the objects of block base. By the laws of Tries.
 use borrow.Author.Needs.{needs}
 use Rattle.maker.proofs.merge.try_in.Statement.{statement}
 use Rattle.maker.proofs.merge.try_in.Tie as tie
@@ -6,7 +7,7 @@ use Rattle.maker.proofs.merge.try_in.Lts as lts
 use Rattle.maker.proofs.enter.enter_over.Reads as enter-over-reads
 use Rattle.maker.proofs.merge.bring_parts.Reads as bring-parts-reads
 use Rattle.values.proofs.value.bring.Reads as bring-reads
-use Rattle.maker.proofs.Merges as laws
+use Rattle.maker.proofs.Tries as laws
 
 returns : tie.Need-returns
 returns c = search laws.in-none

@@ -1,3 +1,4 @@
+-- The proof of `over::add`: the objects of block b and the new one, in block `dst`. By the laws of Beside.
 use borrow.Author.Needs.{needs}
 use Rattle.maker.proofs.over.add.Statement.{statement}
 use Rattle.maker.proofs.over.add.Tie as tie

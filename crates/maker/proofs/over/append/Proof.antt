@@ -1,3 +1,4 @@
+-- The proof of `over::append`: the object, after t objects of block `dst`, and the block's level. By the laws of Beside.
 use borrow.Author.Needs.{needs}
 use Rattle.maker.proofs.over.append.Statement.{statement}
 use Rattle.maker.proofs.over.append.Tie as tie

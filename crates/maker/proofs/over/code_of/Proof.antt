@@ -1,3 +1,4 @@
+-- The proof of `over::code_of`: the code of a part: its object's. By the laws of Makes and Finds.
 use borrow.Author.Needs.{needs}
 use Rattle.maker.proofs.over.code_of.Statement.{statement}
 use Rattle.maker.proofs.over.code_of.Tie as tie
@@ -5,7 +6,7 @@ use Rattle.maker.proofs.over.code_of.Reads as reads
 use Rattle.maker.proofs.over.code_of.Lts as lts
 use native.Mathlib.Omega.{arith}
 use Rattle.maker.proofs.Makes as lays
-use Rattle.maker.proofs.Beside as laws
+use Rattle.maker.proofs.Finds as laws
 
 add-result : tie.Need-add-result
 add-result c = omega (arith, lays.mark-small _ _ _ (c .before .before .before .pre) (c .before .r2 .given .1))

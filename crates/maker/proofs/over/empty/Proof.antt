@@ -1,3 +1,4 @@
+-- The proof of `over::empty`: block `dst` without objects. By the laws of Beside.
 use borrow.Author.Needs.{needs}
 use Rattle.maker.proofs.over.empty.Statement.{statement}
 use Rattle.maker.proofs.over.empty.Tie as tie

@@ -1,3 +1,4 @@
+-- The proof of `over::find`: the place of the object among the t objects of block b; t if it is not there. By a loop in which t - k falls, and the laws of Finds.
 use Rattle.maker.proofs.over.find.Statement.{statement}
 use Rattle.maker.proofs.over.find.Tie as tie
 use Rattle.maker.proofs.over.find.Reads as reads
@@ -6,7 +7,7 @@ use Rattle.maker.proofs.over.is_object.Reads as is-object-reads
 use borrow.Author.Needs.{needs}
 use Prim.Native.Nat.{_≤_, _-_}
 use Rattle.maker.specs.Adding.{objectOf, Missed}
-use Rattle.maker.proofs.Beside as laws
+use Rattle.maker.proofs.Finds as laws
 
 abbrev Inv-loop : tie.InvT-loop
 Inv-loop work b t c n w k₀ k = (k ≤ t) × Missed work b (objectOf c n w) k

@@ -1,3 +1,4 @@
+-- The proof of `over::is_object`: whether the object at place p is this one. By the laws of Codes.
 use borrow.Author.Needs.{needs}
 use Rattle.maker.proofs.over.is_object.Statement.{statement}
 use Rattle.maker.proofs.over.is_object.Tie as tie

@@ -1,3 +1,4 @@
+-- The proof of `over::level_with`: a level for objects of this level and the new one. By the laws of Codes.
 use borrow.Author.Needs.{needs}
 use Rattle.maker.proofs.over.level_with.Statement.{statement}
 use Rattle.maker.proofs.over.level_with.Tie as tie

@@ -1,3 +1,4 @@
+-- The proof of `over::root_codes`: the codes of the n parts, and unused ones. By a loop in which i falls, and the laws of Finds.
 use borrow.Author.Needs.{needs}
 use Rattle.maker.proofs.over.root_codes.Statement.{statement}
 use Rattle.maker.proofs.over.root_codes.Tie as tie
@@ -7,7 +8,7 @@ use Rattle.maker.proofs.over.code_of.Reads as code-of-reads
 use Rattle.maker.proofs.parts.part_at.Reads as part-at-reads
 use Prim.Native.Nat.{_≤_}
 use Rattle.maker.specs.Laying.{partsOf}
-use Rattle.maker.proofs.Beside as laws
+use Rattle.maker.proofs.Finds as laws
 
 abbrev Inv-loop : tie.InvT-loop
 Inv-loop work parts n w₀ i₀ w i = (i ≤ n) × laws.RootBegun work (partsOf parts) n i w

@@ -1,3 +1,4 @@
+-- The proof of `part::bring_new`: object i of block src, with what it leads to, in block host: its number there, or NO_ROOM. By the laws of Imports.
 use borrow.Author.Needs.{needs}
 use Rattle.maker.proofs.part.bring_new.Statement.{statement}
 use Rattle.maker.proofs.part.bring_new.Tie as tie

@@ -1,3 +1,4 @@
+-- The proof of `part::import`: an object of another block, of which nothing is known, in the host. By the laws of Imports and Turns.
 use borrow.Author.Needs.{needs}
 use mathlib.Core.Path.{refl}
 use Rattle.maker.proofs.part.import.Statement.{statement}

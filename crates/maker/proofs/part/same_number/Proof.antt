@@ -1,3 +1,4 @@
+-- The proof of `part::same_number`: whether object i of block src is object i of block host, as one that was built twice most often is. By the laws of Imports.
 use borrow.Author.Needs.{needs}
 use Rattle.maker.proofs.part.same_number.Statement.{statement}
 use Rattle.maker.proofs.part.same_number.Tie as tie

@@ -10,7 +10,7 @@ use Prim.Native.Nat.{_≤_, _-_}
 use mathlib.Core.Path.{_≡_}
 use Rattle.maker.specs.Laying.{partsOf}
 use Rattle.maker.specs.Adding.{firstBlock}
-use Rattle.maker.proofs.Beside as laws
+use Rattle.maker.proofs.Wheres as laws
 
 abbrev Inv-loop : tie.InvT-loop
 Inv-loop parts n i₀ i = (i ≤ n) × (firstBlock (partsOf parts) i ≡ 0)

@@ -1,9 +1,10 @@
+-- The proof of `parts::larger`: the block of v, if v is an object of a block other than 0 and that block has more objects than block b; else b. By the laws of Hosts.
 use borrow.Author.Needs.{needs}
 use Rattle.maker.proofs.parts.larger.Statement.{statement}
 use Rattle.maker.proofs.parts.larger.Tie as tie
 use Rattle.maker.proofs.parts.larger.Reads as reads
 use Rattle.maker.proofs.parts.larger.Lts as lts
-use Rattle.maker.proofs.Merges as laws
+use Rattle.maker.proofs.Hosts as laws
 
 returns : tie.Need-returns
 returns c = search laws.larger-leaf

@@ -1,3 +1,4 @@
+-- The proof of `parts::largest`: the block with the most objects, of block b and those of the parts but block 0. By a loop in which n - i falls, and the laws of Makes and Hosts.
 use Rattle.maker.proofs.parts.largest.Statement.{statement}
 use Rattle.maker.proofs.parts.largest.Tie as tie
 use Rattle.maker.proofs.parts.largest.Reads as reads
@@ -10,7 +11,7 @@ use Rattle.maker.specs.Laying.{partsOf}
 use mathlib.Core.Path.{_≡_}
 use Rattle.maker.specs.Merging.{largestOf}
 use Rattle.maker.proofs.Makes as lays
-use Rattle.maker.proofs.Merges as laws
+use Rattle.maker.proofs.Hosts as laws
 
 abbrev Inv-loop : tie.InvT-loop
 Inv-loop work parts n b d₀ i₀ d i = (i ≤ n) × (d ≡ largestOf work (partsOf parts) i b)

@@ -1,9 +1,10 @@
+-- The proof of `parts::lies_in`: whether v is an object of block d. By the laws of Hosts.
 use borrow.Author.Needs.{needs}
 use Rattle.maker.proofs.parts.lies_in.Statement.{statement}
 use Rattle.maker.proofs.parts.lies_in.Tie as tie
 use Rattle.maker.proofs.parts.lies_in.Reads as reads
 use Rattle.maker.proofs.parts.lies_in.Lts as lts
-use Rattle.maker.proofs.Merges as laws
+use Rattle.maker.proofs.Hosts as laws
 
 returns : tie.Need-returns
 returns c = search laws.lies-object

@@ -1,3 +1,4 @@
+-- The proof of `parts::part_at`: part i of a new object, whose parts are these numbers. By the laws of Makes.
 use borrow.Author.Needs.{needs}
 use Rattle.maker.proofs.parts.part_at.Statement.{statement}
 use Rattle.maker.proofs.parts.part_at.Tie as tie

@@ -1,3 +1,4 @@
+-- The proof of `parts::some_in`: whether one of the parts is an object of block d. By a loop in which i falls, and the laws of Hosts.
 use Rattle.maker.proofs.parts.some_in.Statement.{statement}
 use Rattle.maker.proofs.parts.some_in.Tie as tie
 use Rattle.maker.proofs.parts.some_in.Reads as reads
@@ -9,7 +10,7 @@ use Prim.Native.Nat.{_≤_}
 use Rattle.maker.specs.Laying.{partsOf}
 use mathlib.Core.Path.{_≡_, refl}
 use Rattle.maker.specs.Merging.{someIn}
-use Rattle.maker.proofs.Merges as laws
+use Rattle.maker.proofs.Hosts as laws
 
 abbrev Inv-loop : tie.InvT-loop
 Inv-loop parts n d i₀ i = (i ≤ n) × (someIn (partsOf parts) n d ≡ someIn (partsOf parts) i d)

@@ -10,7 +10,7 @@ use mathlib.Core.Path.{_≡_}
 use mathlib.Core.Bool.{false}
 use Rattle.maker.specs.Laying.{partsOf}
 use Rattle.maker.specs.Adding.{someObject}
-use Rattle.maker.proofs.Beside as laws
+use Rattle.maker.proofs.Wheres as laws
 
 abbrev Inv-loop : tie.InvT-loop
 Inv-loop parts n i₀ i = (i ≤ n) × (someObject (partsOf parts) i ≡ false)

@@ -1,9 +1,10 @@
+-- The proof of `parts::stands`: whether a part lies in block b, or is no object. By the laws of Wheres.
 use borrow.Author.Needs.{needs}
 use Rattle.maker.proofs.parts.stands.Statement.{statement}
 use Rattle.maker.proofs.parts.stands.Tie as tie
 use Rattle.maker.proofs.parts.stands.Reads as reads
 use Rattle.maker.proofs.parts.stands.Lts as lts
-use Rattle.maker.proofs.Beside as laws
+use Rattle.maker.proofs.Wheres as laws
 
 returns : tie.Need-returns
 returns c = search laws.stands-here

@@ -1,3 +1,4 @@
+-- The proof of `parts::together`: whether each part lies in block b, or is no object. By a loop in which n - i falls, and the laws of Wheres.
 use Rattle.maker.proofs.parts.together.Statement.{statement}
 use Rattle.maker.proofs.parts.together.Tie as tie
 use Rattle.maker.proofs.parts.together.Reads as reads
@@ -10,7 +11,7 @@ use Rattle.maker.specs.Laying.{partsOf}
 use mathlib.Core.Path.{_≡_}
 use mathlib.Core.Bool.{true}
 use Rattle.maker.specs.Adding.{allStand}
-use Rattle.maker.proofs.Beside as laws
+use Rattle.maker.proofs.Wheres as laws
 
 abbrev Inv-loop : tie.InvT-loop
 Inv-loop parts n b i₀ i = (i ≤ n) × (allStand (partsOf parts) i b ≡ true)

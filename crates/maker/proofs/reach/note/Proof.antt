@@ -1,3 +1,4 @@
+-- The proof of `reach::note`: a code met: its object is listed then. By the laws of Reaches.
 use borrow.Author.Needs.{needs}
 use Rattle.maker.proofs.reach.note.Statement.{statement}
 use Rattle.maker.proofs.reach.note.Tie as tie

@@ -1,3 +1,4 @@
+-- The proof of `reach::note_fields`: the codes of object x of block src met. By the laws of Reaches.
 use borrow.Author.Needs.{needs}
 use Rattle.maker.proofs.reach.note_fields.Statement.{statement}
 use Rattle.maker.proofs.reach.note_fields.Tie as tie

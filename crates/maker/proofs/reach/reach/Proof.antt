@@ -1,3 +1,4 @@
+-- The proof of `reach::reach`: lists object i of block src and what it leads to, nearest first. By a loop in which capacity - head falls, and the laws of Reaches.
 use Rattle.maker.proofs.reach.reach.Statement.{statement}
 use Rattle.maker.proofs.reach.reach.Tie as tie
 use Rattle.maker.proofs.reach.reach.Reads as reads

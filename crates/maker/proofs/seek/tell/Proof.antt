@@ -1,3 +1,4 @@
+-- The proof of `seek::tell`: whether an object of a part is one of the host, and what that tells of others. By the laws of Seeks.
 use borrow.Author.Needs.{needs}
 use Rattle.maker.proofs.seek.tell.Statement.{statement}
 use Rattle.maker.proofs.seek.tell.Tie as tie

@@ -1,3 +1,4 @@
+-- The proof of `sort::by_fields`: what its fields tell of an object. By the laws of Sorts.
 use borrow.Author.Needs.{needs}
 use Rattle.maker.proofs.sort.by_fields.Statement.{statement}
 use Rattle.maker.proofs.sort.by_fields.Tie as tie

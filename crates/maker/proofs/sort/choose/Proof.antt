@@ -1,3 +1,4 @@
+-- The proof of `sort::choose`: of the listed objects of which nothing is known, x one of them, one whose class is rare in the host. By a loop in which q falls, and the laws of Sorts.
 use Rattle.maker.proofs.sort.choose.Statement.{statement}
 use Rattle.maker.proofs.sort.choose.Tie as tie
 use Rattle.maker.proofs.sort.choose.Reads as reads

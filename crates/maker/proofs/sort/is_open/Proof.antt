@@ -1,9 +1,10 @@
+-- The proof of `sort::is_open`: whether nothing is known of object x. By the laws of SortCodes.
 use borrow.Author.Needs.{needs}
 use Rattle.maker.proofs.sort.is_open.Statement.{statement}
 use Rattle.maker.proofs.sort.is_open.Tie as tie
 use Rattle.maker.proofs.sort.is_open.Reads as reads
 use Rattle.maker.proofs.sort.is_open.Lts as lts
-use Rattle.maker.proofs.Sorts as laws
+use Rattle.maker.proofs.SortCodes as laws
 
 returns : tie.Need-returns
 returns c = search laws.open-told

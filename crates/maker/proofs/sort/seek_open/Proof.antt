@@ -1,3 +1,4 @@
+-- The proof of `sort::seek_open`: object x looked for in the host, if nothing is known of it. By the laws of Sorts.
 use borrow.Author.Needs.{needs}
 use Rattle.maker.proofs.sort.seek_open.Statement.{statement}
 use Rattle.maker.proofs.sort.seek_open.Tie as tie

@@ -1,3 +1,4 @@
+-- The proof of `sort::seek_rare`: one of a rare class looked for, and what follows from its being new. By the laws of Sorts.
 use borrow.Author.Needs.{needs}
 use Rattle.maker.proofs.sort.seek_rare.Statement.{statement}
 use Rattle.maker.proofs.sort.seek_rare.Tie as tie

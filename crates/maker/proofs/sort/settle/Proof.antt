@@ -1,3 +1,4 @@
+-- The proof of `sort::settle`: an object of the part decided. By the laws of Sorts.
 use borrow.Author.Needs.{needs}
 use Rattle.maker.proofs.sort.settle.Statement.{statement}
 use Rattle.maker.proofs.sort.settle.Tie as tie

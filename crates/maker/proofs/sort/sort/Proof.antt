@@ -1,3 +1,4 @@
+-- The proof of `sort::sort`: the listed objects sorted out, from the last to the first. By a loop in which q falls, and the laws of Sorts.
 use Rattle.maker.proofs.sort.sort.Statement.{statement}
 use Rattle.maker.proofs.sort.sort.Tie as tie
 use Rattle.maker.proofs.sort.sort.Reads as reads

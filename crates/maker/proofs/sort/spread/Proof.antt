@@ -1,3 +1,4 @@
+-- The proof of `sort::spread`: what leads to a new object marked, until there is nothing more to mark. By a loop in which m - k falls, and the laws of Sorts.
 use Rattle.maker.proofs.sort.spread.Statement.{statement}
 use Rattle.maker.proofs.sort.spread.Tie as tie
 use Rattle.maker.proofs.sort.spread.Reads as reads

@@ -1,3 +1,4 @@
+-- The proof of `sort::spread_once`: marks as new the listed objects that lead to a new one at once, from the last to the first. By a loop in which q falls, and the laws of Sorts.
 use Rattle.maker.proofs.sort.spread_once.Statement.{statement}
 use Rattle.maker.proofs.sort.spread_once.Tie as tie
 use Rattle.maker.proofs.sort.spread_once.Reads as reads

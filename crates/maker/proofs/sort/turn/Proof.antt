@@ -1,9 +1,10 @@
+-- The proof of `sort::turn`: a code of the part in the host; NOT_TOLD for an object that is not told. By the laws of SortCodes.
 use borrow.Author.Needs.{needs}
 use Rattle.maker.proofs.sort.turn.Statement.{statement}
 use Rattle.maker.proofs.sort.turn.Tie as tie
 use Rattle.maker.proofs.sort.turn.Reads as reads
 use Rattle.maker.proofs.sort.turn.Lts as lts
-use Rattle.maker.proofs.Sorts as laws
+use Rattle.maker.proofs.SortCodes as laws
 
 returns : tie.Need-returns
 returns c = search laws.turn-leaf

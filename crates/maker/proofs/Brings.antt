@@ -1,0 +1,315 @@
+-- Parts brought into the host: one law for each return of `import_bare`, `import_object`, `import_part` and `bring_parts`.
+-- Not here: an object entered (Enters), the new object over the parts (Tries).
+use Prim.Native.Nat.{ℕ, zero, suc, _+_, _-_, _*_, _%_, _<_, _≤_}
+use native.Mathlib.Omega.{arith}
+use native.Mathlib.Decide.{decLt, ℕ-discrete}
+use mathlib.Core.Path.{_≡_, refl, sym, ap, ap₂, _∙_, subst}
+use mathlib.Core.Bool.{cond}
+use lib.Dec.{leb}
+use mathlib.Core.List.{List, [], _∷_, map}
+use mathlib.Core.Logic.{_⊎_, ⊎-elim}
+use mathlib.Core.Option.{none, some}
+use lib.ListN.{length, getD, take}
+use Rattle.cofj.specs.Values.{Ref, obj, mark, undet, Node, Graph, make}
+use Rattle.cofj.specs.Unfolding.{follow, Same, InRange}
+use Rattle.cofj.proofs.Unique.{same-canon}
+use Rattle.canon.specs.Figures.{objectSize, headSize, codeCount, undeterminedCode, firstMark, markCount, capacity, blockSize, spare, threeBytes}
+use Rattle.canon.specs.Layout.{refOf, countIn, objectsIn, graphAt, Block, Inside, Beneath}
+use Rattle.canon.specs.Tables.{Four}
+use Rattle.canon.proofs.Nodes.{ref-object, ref-undet, ref-mark}
+use Rattle.values.specs.declared.ValueRef.{ValueRef}
+use Rattle.values.specs.declared.ValueRef.the-variants.{Object, Mark, Undetermined}
+use Rattle.values.specs.Layout.{valueOf, rawOf, Holds, HeldBy}
+use Rattle.values.proofs.Blocks.{size-in, whole-at}
+use Rattle.values.proofs.Trees.{in-larger, leaf-same}
+use Rattle.maker.specs.Figures.{noRoom, unusedCodes}
+use Rattle.maker.specs.declared.Slot.{Slot}
+use Rattle.maker.specs.declared.Made.{Made}
+use Rattle.maker.specs.Laying.{valuesFrom, PartsHeld, MadeIs}
+use Rattle.maker.specs.Adding.{codesOf, objectOf, Missed, partOf}
+use Rattle.maker.specs.Merging.{Grown, Fits, Entered, CodeAs, Imported, As, PartImported, Begun, AllWithin, RootBrought, PartsBrought}
+use Rattle.maker.specs.Sorting.{codeAt, TurnedAs}
+use Rattle.maker.specs.Crowds.{In, Within, BlockIn, Crowd}
+use Rattle.maker.proofs.Crowds.{in-same, within-same, crowd-joined}
+use Rattle.maker.proofs.Codes.{object-class, object-count, spare-codes, first-code, next-code, object-bytes}
+use Rattle.maker.proofs.Makes.{beneath-more}
+use Rattle.maker.proofs.Turns.{leaf-low, turned-fits, turned-same, turned-fresh}
+use Rattle.maker.proofs.Enters.{grown-more, grown-none, other-block, other-byte, other-inside}
+
+-- ---- the same codes in a block that has grown
+module _ (host : ℕ) (W W′ : List ℕ) (g : Grown host W W′) (src : ℕ) (apart : (src ≡ host) → ⊥) (sb : Block W src) where
+  pub code-grown : (c r : ℕ) → CodeAs W src c host r → CodeAs W′ src c host r
+  code-grown c r t = record {
+    low = in-larger (countIn W host) (countIn W′ host) (refOf r) (g .most) (t .low);
+    leaf = t .leaf;
+    same = λ p. ap (λ (x : List Node). follow x (refOf c) p) (other-block host W W′ (g .outside) src apart sb .0) ∙ t .same p ∙ g .trees (refOf r) (t .low) p;
+  }
+
+  -- an object turned
+  pub turned-grown : (i : ℕ) (B : List ℕ) → i < countIn W src → TurnedAs W src i host B → TurnedAs W′ src i host B
+  turned-grown i B h t = record {
+    cls = t .cls ∙ sym (byte (blockSize * src + objectSize * i) (omega arith) (omega (arith, sb .small)));
+    count = t .count ∙ sym (byte (blockSize * src + objectSize * i + 1) (omega arith) (omega (arith, sb .small)));
+    code = λ f l. subst (λ (c : ℕ). CodeAs W′ src c host (getD B (2 + f) 0)) (sym (byte (blockSize * src + objectSize * i + headSize + f) (omega arith) (omega (arith, sb .small)))) (code-grown _ _ (t .code f l));
+  }
+    where
+      byte : (p : ℕ) → blockSize * src ≤ p → p < blockSize * src + blockSize → getD W′ p 0 ≡ getD W p 0
+      byte = other-byte host W W′ (g .outside) src apart
+
+-- ---- a part
+module _ (W : List ℕ) (b i base host : ℕ) (ib : Inside W b i) (bg : Begun W base host) where
+  small-object : refOf i ≡ obj i
+  small-object = ref-object i (omega (arith, ib .low, ib .block .small))
+
+  pub object-base : b ≡ base → PartImported W (Object i b) host W i
+  object-base e =
+      let l : i < countIn W base = omega (arith, ib .low, ap (countIn W) e) in
+      record {
+        grown = grown-none host W (bg .target);
+        like = λ _. record {
+          low = subst (InRange (countIn W host)) (sym small-object) (omega (arith, bg .most));
+          same = λ p. ap (λ (x : ℕ). follow (objectsIn W x) (obj i) p) e ∙ bg .trees (obj i) l p ∙ ap (λ (x : Ref). follow (objectsIn W host) x p) (sym small-object);
+        };
+        stand = λ _ g old at. old;
+        over = λ z. absurd (omega (arith, ib .low, ib .block .small));
+      }
+
+  pub object-host : b ≡ host → PartImported W (Object i b) host W i
+  object-host e = record {
+    grown = grown-none host W (bg .target);
+    like = λ _. record {
+      low = subst (InRange (countIn W host)) (sym small-object) (omega (arith, ib .low, ap (countIn W) e));
+      same = λ p. ap (λ (x : ℕ). follow (objectsIn W x) (obj i) p) e ∙ ap (λ (x : Ref). follow (objectsIn W host) x p) (sym small-object);
+    };
+    stand = λ _ g old at. old;
+    over = λ z. absurd (omega (arith, ib .low, ib .block .small));
+  }
+
+  module _ (apart : (b ≡ host) → ⊥) where
+    pub object-other : (W′ : List ℕ) (r : ℕ) → Imported W b i host W′ r → PartImported W (Object i b) host W′ r
+    object-other W′ r im = record {
+      grown = im .grown;
+      like = λ d. record {
+        low = im .like d .low;
+        same = λ p.
+            ap (λ (x : Ref). follow (objectsIn W b) x p) (sym small-object)
+            ∙ ap (λ (x : List Node). follow x (refOf i) p) (sym (other-block host W W′ (im .grown .outside) b apart (ib .block) .0)) ∙ im .like d .same p;
+      };
+      stand = λ d g old at. im .stand d g old (record { path = at .path; tree = at .tree });
+      over = λ z g old at. im .over z g old (record { path = at .path; tree = at .tree });
+    }
+
+-- ---- an object without fields
+module _ (W : List ℕ) (b i host : ℕ) (ib : Inside W b i) (bk : Block W host) (apart : (b ≡ host) → ⊥) (bare : getD W (blockSize * b + objectSize * i + 1) 0 ≡ 0) (w : ℕ) (f : Four W (blockSize * b + objectSize * i + 2) w) where
+  abbrev bare-object : List ℕ
+  bare-object = objectOf (getD W (blockSize * b + objectSize * i) 0) 0 w
+
+  bare-code : (k : ℕ) → k < codeCount → (codeAt W b i k ≡ undeterminedCode) × (getD bare-object (2 + k) 0 ≡ undeterminedCode)
+  bare-code k l =
+      let z : blockSize * b + objectSize * i + (2 + k) ≡ blockSize * b + objectSize * i + headSize + k = omega arith in
+      let s : getD W (blockSize * b + objectSize * i + (2 + k)) 0 ≡ undeterminedCode = ib .block .packed i (ib .low) .spare (2 + k) (omega (arith, bare)) (omega arith) in
+      (rw z at s, sym (object-bytes W (blockSize * b + objectSize * i) w f (2 + k) (omega arith) ∙ ap (λ (m : ℕ). getD (objectOf (getD W (blockSize * b + objectSize * i) 0) m w) (2 + k) 0) bare) ∙ s)
+
+  bare-turned : TurnedAs W b i host bare-object
+  bare-turned = record {
+    cls = object-class _ 0 w;
+    count = object-count _ 0 w ∙ sym bare;
+    code = λ k l. rw (bare-code k l .0, bare-code k l .1) (record {
+      low = leaf-low (countIn W host) undeterminedCode (omega arith);
+      leaf = λ _. refl;
+      same = leaf-same (objectsIn W b) (objectsIn W host) (refOf undeterminedCode) (leaf-low 0 undeterminedCode (omega arith));
+    });
+  }
+
+  pub bare-fits : Fits W host (objectOf (getD W (blockSize * b + objectSize * i) 0) 0 w)
+  bare-fits = turned-fits W b i host bare-object ib bk bare-turned
+
+  begun : Begun W host host
+  begun = record { source = bk; target = bk; most = omega arith; trees = λ r l p. refl }
+
+  pub bare-imported : (W′ : List ℕ) (r : ℕ) → Entered W host (objectOf (getD W (blockSize * b + objectSize * i) 0) 0 w) W′ r → PartImported W (Object i b) host W′ r
+  bare-imported W′ r en = object-other W b i host host ib begun apart W′ r (record {
+    grown = en .grown;
+    like = like;
+    stand = λ d g old at y h. ⊎-elim (λ l. in-same g (objectsIn W host) (objectsIn W′ host) y y (old y l) (en .grown .trees (obj y) l)) (λ e. here d g at y e) (en .from y h);
+    over = λ z g old at. full z g old at;
+  })
+    where
+      like : ((r ≡ noRoom) → ⊥) → CodeAs W′ b i host r
+      like d =
+          turned-same W′ b i host bare-object (other-inside host W W′ (en .grown .outside) b apart i ib) (en .grown .block)
+          (turned-grown host W W′ (en .grown) b apart (ib .block) i bare-object (ib .low) bare-turned) r (en .standing d)
+
+      here : ((r ≡ noRoom) → ⊥) → (g : Graph) → In (objectsIn W b) i g → (y : ℕ) → y ≡ r → In (objectsIn W′ host) y g
+      here d g at y e = in-same g (objectsIn W b) (objectsIn W′ host) i y at (λ p.
+          ap (λ (x : List Node). follow x (obj i) p) (sym (other-block host W W′ (en .grown .outside) b apart (ib .block) .0))
+          ∙ ap (λ (x : Ref). follow (objectsIn W′ b) x p) (sym (ref-object i (omega (arith, ib .low, ib .block .small)))) ∙ like d .same p
+          ∙ ap (λ (x : Ref). follow (objectsIn W′ host) x p) (ref-object r (omega (arith, en .standing d .low, en .grown .block .small)) ∙ ap obj (sym e)))
+
+      -- the host is full, and does not have it
+      full : r ≡ noRoom → (g : Graph) → BlockIn W host g → In (objectsIn W b) i g → Crowd g
+      full z g old at =
+          let f = en .full z in
+          crowd-joined (objectsIn W b) (objectsIn W host) g (countIn W host) (size-in W host bk) (bk .distinct) old (λ _. i)
+          (λ k h l. turned-fresh W b i host bare-object ib bk bare-turned (subst (Missed W host bare-object) (sym (f .0)) (f .1)))
+          (λ k h l. at) (λ k l hk lk hl ll e. omega (arith, f .0))
+
+module _ (W : List ℕ) (v : ValueRef) (base host : ℕ) (h : Holds W v) (bg : Begun W base host) where
+  pub part-object : (b i : ℕ) (W′ : List ℕ) (r : ℕ) → v ≡ Object i b → PartImported W (Object i b) host W′ r → PartImported W v host W′ r
+  part-object b i W′ r e p = subst (λ (x : ValueRef). PartImported W x host W′ r) (sym e) p
+
+  pub part-small : (k : ℕ) → v ≡ Mark k → k < markCount
+  part-small k e = let z : k < markCount = subst (HeldBy W) e (h .held) in z
+
+  pub part-mark : (k : ℕ) → v ≡ Mark k → PartImported W v host W (firstMark + k)
+  part-mark k e = rw e (record {
+    grown = grown-none host W (bg .target);
+    like = λ _. record { low = leaf-low (countIn W host) (firstMark + k) (omega arith); same = λ p. leaf-same [] (objectsIn W host) (mark k) tt p ∙ ap (λ (x : Ref). follow (objectsIn W host) x p) (sym (ref-mark k)) };
+    stand = λ _ g old at. old;
+    over = λ z. absurd (omega arith);
+  })
+
+  pub part-undet : v ≡ Undetermined → PartImported W v host W undeterminedCode
+  part-undet e = rw e (record {
+    grown = grown-none host W (bg .target);
+    like = λ _. record { low = leaf-low (countIn W host) undeterminedCode (omega arith); same = λ p. leaf-same [] (objectsIn W host) undet tt p ∙ ap (λ (x : Ref). follow (objectsIn W host) x p) (sym ref-undet) };
+    stand = λ _ g old at. old;
+    over = λ z. absurd (omega arith);
+  })
+
+pub same-values : (W W′ : List ℕ) (n : ℕ) (ps : List Slot) → ((i : ℕ) → i < n → valueOf W′ (partOf ps i) ≡ valueOf W (partOf ps i)) → map (λ s. valueOf W′ (s .r)) (take n ps) ≡ map (λ s. valueOf W (s .r)) (take n ps)
+same-values W W′ zero ps h = refl
+same-values W W′ (suc n) [] h = refl
+same-values W W′ (suc n) (s ∷ ps) h = ap₂ {A = Graph} {B = List Graph} {C = List Graph} _∷_ (h 0 (omega arith)) (same-values W W′ n ps (λ i l. h (suc i) (omega arith)))
+
+-- ---- values in a block that has grown, and in the others
+module _ (host : ℕ) (W W′ : List ℕ) (g : Grown host W W′) where
+  pub part-held : (v : ValueRef) → Holds W v → Holds W′ v
+  part-held (Object i b) h = record { held = go (ℕ-discrete b host) }
+    where
+      go : Dec (b ≡ host) → Inside W′ b i
+      go (yes e) = subst (λ (x : ℕ). Inside W′ x i) (sym e) (record { block = g .block; low = omega (arith, h .held .low, ap (countIn W) e, g .most) })
+      go (no n) = other-inside host W W′ (g .outside) b n i (h .held)
+  part-held (Mark k) h = record { held = h .held }
+  part-held Undetermined h = record { held = tt }
+
+  part-tree : (v : ValueRef) → Holds W v → Same (rawOf W v .nodes) (rawOf W v .root) (rawOf W′ v .nodes) (rawOf W′ v .root)
+  part-tree (Object i b) h p = go (ℕ-discrete b host)
+    where
+      go : Dec (b ≡ host) → follow (objectsIn W b) (obj i) p ≡ follow (objectsIn W′ b) (obj i) p
+      go (yes e) =
+          ap (λ (x : ℕ). follow (objectsIn W x) (obj i) p) e ∙ g .trees (obj i) (omega (arith, h .held .low, ap (countIn W) e)) p
+          ∙ ap (λ (x : ℕ). follow (objectsIn W′ x) (obj i) p) (sym e)
+      go (no n) = ap (λ (x : List Node). follow x (obj i) p) (sym (other-block host W W′ (g .outside) b n (h .held .block) .0))
+  part-tree (Mark k) h p = refl
+  part-tree Undetermined h p = refl
+
+  part-value : (v : ValueRef) → Holds W v → valueOf W′ v ≡ valueOf W v
+  part-value (Object i b) h =
+      let h′ : Holds W′ (Object i b) = part-held (Object i b) h in
+      same-canon (graphAt W′ b i) (graphAt W b i) (whole-at W′ b (h′ .held .block) i (h′ .held .low)) (whole-at W b (h .held .block) i (h .held .low))
+      (λ p. sym (part-tree (Object i b) h p))
+  part-value (Mark k) h = refl
+  part-value Undetermined h = refl
+
+  pub parts-held : (ps : List Slot) (n : ℕ) → PartsHeld W ps n → PartsHeld W′ ps n
+  parts-held ps n h = record { full = h .full; part = λ i l. part-held (partOf ps i) (h .part i l) }
+
+  pub parts-values : (ps : List Slot) (n : ℕ) → PartsHeld W ps n → valuesFrom W′ ps 0 n ≡ valuesFrom W ps 0 n
+  unfolding valuesFrom
+  parts-values ps n h = same-values W W′ n ps (λ i l. part-value (partOf ps i) (h .part i l))
+
+  pub begun-grown : (base : ℕ) → Begun W base host → Begun W′ base host
+  begun-grown base bg = go (ℕ-discrete base host)
+    where
+      go : Dec (base ≡ host) → Begun W′ base host
+      go (yes e) = subst (λ (x : ℕ). Begun W′ x host) (sym e) (record { source = g .block; target = g .block; most = omega arith; trees = λ r l p. refl })
+      go (no n) =
+          let o = other-block host W W′ (g .outside) base n (bg .source) in
+          let same : countIn W′ base ≡ countIn W base = sym (size-in W′ base (o .1)) ∙ ap length (o .0) ∙ size-in W base (bg .source) in
+          record {
+            source = o .1;
+            target = g .block;
+            most = omega (arith, same, bg .most, g .most);
+            trees = λ r l p.
+                let l′ : InRange (countIn W base) r = subst (λ (m : ℕ). InRange m r) same l in
+                ap (λ (x : List Node). follow x r p) (o .0) ∙ bg .trees r l′ p ∙ g .trees r (in-larger (countIn W base) (countIn W host) r (bg .most) l′) p;
+          }
+
+  pub like-grown : (W₀ : List ℕ) (v : ValueRef) (r : ℕ) → As W₀ v W host r → As W₀ v W′ host r
+  like-grown W₀ v r a = record {
+    low = in-larger (countIn W host) (countIn W′ host) (refOf r) (g .most) (a .low);
+    same = λ p. a .same p ∙ g .trees (refOf r) (a .low) p;
+  }
+
+-- ---- the parts brought
+first-byte : (w : ℕ) → getD (codesOf w) 0 0 ≡ w % 256
+unfolding codesOf
+first-byte w = refl
+
+pub brought-none : (W : List ℕ) (ps : List Slot) (n host : ℕ) → RootBrought W ps n n W host unusedCodes
+brought-none W ps n host = record { done = λ j l. absurd (omega arith); spare = λ j l h. spare-codes j h; stand = λ g old at. old }
+
+module _ (W : List ℕ) (ps : List Slot) (n i : ℕ) (W1 : List ℕ) (host w : ℕ) (held : PartsHeld W ps n) (g : Grown host W W1) (b : RootBrought W ps n i W1 host w) (le : i ≤ n) where
+  pub brought-held : 0 < i → (v : ValueRef) → v ≡ partOf ps (i - 1) → Holds W1 v
+  brought-held h v e = part-held host W W1 g v (subst (Holds W) (sym e) (held .part (i - 1) (omega arith)))
+
+  pub brought-all : i ≤ 0 → PartsBrought W ps n host W1 w
+  brought-all h = let e : i ≡ 0 = omega arith in record { grown = g; done = λ _. subst (λ (k : ℕ). RootBrought W ps n k W1 host w) e b; over = λ z. absurd (not-full e z) }
+    where
+      not-full : i ≡ 0 → w % 256 ≡ noRoom → ⊥
+      not-full e z = go (decLt 0 n)
+        where
+          go : Dec (0 < n) → ⊥
+          go (yes l) =
+              let c : capacity < countIn W1 host = subst (InRange (countIn W1 host)) (ap refOf (first-byte w ∙ z) ∙ ref-object capacity (omega arith)) (b .done 0 (omega arith) .low) in
+              omega (arith, g .block .small)
+          go (no l) = let c : w % 256 ≡ undeterminedCode = sym (first-byte w) ∙ b .spare 0 (omega (arith, l)) (omega arith) in omega arith
+
+  module _ (h : 0 < i) (v : ValueRef) (e : v ≡ partOf ps (i - 1)) (W2 : List ℕ) (r : ℕ) (pi : PartImported W1 v host W2 r) where
+    pub brought-grown : Grown host W W2
+    brought-grown = grown-more host W W1 W2 g (pi .grown)
+
+    part-held-in : Holds W v
+    part-held-in = subst (Holds W) (sym e) (held .part (i - 1) (omega arith))
+
+    part-within : (x : Graph) → AllWithin W ps n x → Within (rawOf W1 v) x
+    part-within x ws = within-same (rawOf W v) (rawOf W1 v) x (part-tree host W W1 g v part-held-in) (subst (λ (u : ValueRef). Within (rawOf W u) x) (sym e) (ws (i - 1) (omega arith)))
+
+    pub brought-fails : r ≡ noRoom → PartsBrought W ps n host W2 noRoom
+    brought-fails z = record { grown = brought-grown; done = λ u. absurd (u refl); over = λ _ x old ws. pi .over z x (b .stand x old ws) (part-within x ws) }
+
+    pub brought-more : n ≤ codeCount → r < 256 → ((r ≡ noRoom) → ⊥) → RootBrought W ps n (i - 1) W2 host (r + 256 * (w % threeBytes))
+    brought-more few lr d = record { done = done; spare = spare; stand = λ x old ws. pi .stand d x (b .stand x old ws) (part-within x ws) }
+      where
+        now-like : As W v W2 host r
+        now-like = record {
+          low = pi .like d .low;
+          same = λ p. part-tree host W W1 g v part-held-in p ∙ pi .like d .same p;
+        }
+
+        done : (j : ℕ) → i - 1 + j < n → As W (partOf ps (i - 1 + j)) W2 host (getD (codesOf (r + 256 * (w % threeBytes))) j 0)
+        done zero l = let z : i - 1 + 0 ≡ i - 1 = omega arith in rw (z, first-code r w lr) (subst (λ (x : ValueRef). As W x W2 host r) e now-like)
+        done (suc j) l =
+            let z : i - 1 + suc j ≡ i + j = omega arith in
+            rw (z, next-code r w lr j (omega arith)) (like-grown host W1 W2 (pi .grown) W (partOf ps (i + j)) _ (b .done j (omega arith)))
+
+        spare : (j : ℕ) → n ≤ i - 1 + j → j < codeCount → getD (codesOf (r + 256 * (w % threeBytes))) j 0 ≡ undeterminedCode
+        spare zero l m = absurd (omega arith)
+        spare (suc j) l m = next-code r w lr j (omega arith) ∙ b .spare j (omega arith) (omega arith)
+
+pub brought-start : (W : List ℕ) (base host : ℕ) → Begun W base host → Grown host W W
+brought-start W base host bg = grown-none host W (bg .target)
+
+-- ---- the new object over them
+pub beneath-grown : (host dst : ℕ) (W W′ : List ℕ) → dst ≤ host → Grown host W W′ → Beneath dst W W′
+beneath-grown host dst W W′ h g = record { same = g .outside .same; below = λ p l. g .outside .below p (omega arith) }
+
+pub made-from : (W W1 : List ℕ) (c : ℕ) (ps : List Slot) (n dst : ℕ) (W2 : List ℕ) (o : Made) → Beneath dst W W1 → valuesFrom W1 ps 0 n ≡ valuesFrom W ps 0 n
+    → MadeIs W1 (make c (valuesFrom W1 ps 0 n)) dst W2 o → MadeIs W (make c (valuesFrom W ps 0 n)) dst W2 o
+made-from W W1 c ps n dst W2 o b e m = record {
+  held = m .held;
+  is = m .is ∙ ap (λ (v : Graph). cond (leb (length (v .nodes)) capacity) (some v) none) (ap (make c) e);
+  place = m .place;
+  beneath = beneath-more dst W W1 W2 b (m .beneath);
+}

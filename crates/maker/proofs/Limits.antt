@@ -1,0 +1,131 @@
+-- The limit on objects: one law for each return of `fits` and of `make`, and that an object without fields is within every limit.
+-- Not here: how an object is made (Beside, Tries, Hosts).
+use Prim.Native.Nat.{ℕ, zero, suc, _+_, _*_, _≤_, _<_}
+use native.Mathlib.Omega.{arith}
+use mathlib.Core.Path.{_≡_, refl, sym, ap, _∙_, subst}
+use mathlib.Core.Bool.{Bool, true, false, cond}
+use mathlib.Core.List.{List, [], _∷_}
+use mathlib.Core.Option.{some, none, Option·none-ne-some}
+use lib.Dec.{leb}
+use lib.ListN.{length, getD, getElem?}
+use borrow.Author.Tests.{le-leb, lt-leb, leb-true, leb-false, ne-eqb}
+use types.Run.{OneOf}
+use denote.Enum.Declared.{tagOf}
+use Rattle.cofj.specs.Values.{Ref, obj, node, Graph, graph, canon, refsAt, make, lay}
+use Rattle.cofj.specs.Unfolding.{Whole, InRange}
+use Rattle.cofj.proofs.Canon.{canon-length}
+use Rattle.canon.specs.Figures.{capacity, countAt, blockSize, spare}
+use Rattle.canon.specs.Layout.{countIn, objectsIn, graphAt, Outside, Beneath}
+use Rattle.values.specs.declared.ValueRef.{ValueRef}
+use Rattle.values.specs.declared.ValueRef.the-variants.{Object, Mark, Undetermined}
+use Rattle.values.specs.Layout.{valueOf, Holds, Low, liesIn}
+use Rattle.values.specs.Operations.{Moved}
+use Rattle.values.proofs.ValueRef as RefT
+use Rattle.values.proofs.Blocks.{no-object, size-in, whole-at}
+use Rattle.values.proofs.Kept.{kept}
+use Rattle.maker.specs.declared.Made.{Made}
+use Rattle.maker.specs.declared.Made.the-variants.{Value, TooLarge}
+use Rattle.maker.specs.declared.Slot.{Slot}
+use Rattle.maker.specs.Laying.{Makeable, MadeWithin, MadeIs, FitsIn}
+use Rattle.maker.proofs.Makes.{beneath-more}
+
+outside-none : (b : ℕ) (W : List ℕ) → Outside b W W
+outside-none b W = record { same = refl; below = λ p h. refl; above = λ p h. refl }
+
+-- ---- whether a value has at most so many objects
+module _ (W : List ℕ) (objects : ℕ) (v : ValueRef) where
+  pub fits-leaf : OneOf (1 ∷ 2 ∷ []) (tagOf RefT.the-type v) → FitsIn W v objects W true
+  fits-leaf h =
+      let e : true ≡ leb 0 objects = sym (le-leb 0 objects (omega arith)) in
+      no-object (λ x. FitsIn W x objects W true) (λ k. record { is = e; outside = outside-none spare W }) (record { is = e; outside = outside-none spare W }) v h
+
+  module _ (b i : ℕ) (e : v ≡ Object i b) where
+    pub count-read : Holds W v → blockSize * b + countAt < length W
+    count-read h = omega (arith, subst (Holds W) e h .held .block .room)
+
+    pub fits-block : Holds W v → getD W (blockSize * b + countAt) 0 ≤ objects → FitsIn W v objects W true
+    unfolding countIn
+    fits-block h l =
+        let ob = subst (Holds W) e h .held in
+        subst (λ (x : ValueRef). FitsIn W x objects W true) (sym e) (record {
+          is = sym (le-leb _ objects (omega (arith, canon-length (graphAt W b i) (whole-at W b (ob .block) i (ob .low)), size-in W b (ob .block))));
+          outside = outside-none spare W;
+        })
+
+    pub fits-counted : (W′ : List ℕ) (m : ℕ) → Moved W (graphAt W b i) spare W′ m → FitsIn W v objects W′ (leb m objects)
+    fits-counted W′ m mv = subst (λ (x : ValueRef). FitsIn W x objects W′ (leb m objects)) (sym e) (record { is = ap (λ (x : ℕ). leb x objects) (mv .count); outside = mv .outside })
+
+-- ---- what making answers
+-- the value that an answer stands for
+made-value : (v g : Graph) (b : Bool) → some v ≡ cond b (some g) none → v ≡ g
+made-value v g true e = let y : some v ≡ some g = e in cc
+made-value v g false e = absurd (Option·none-ne-some v (sym e))
+
+made-none : (g : Graph) (n : ℕ) → none ≡ cond (leb (length (g .nodes)) n) (some g) none → n < length (g .nodes)
+made-none g n e = go (leb (length (g .nodes)) n) refl e
+  where
+    go : (b : Bool) → leb (length (g .nodes)) n ≡ b → none ≡ cond b (some g) none → n < length (g .nodes)
+    go true q z = absurd (Option·none-ne-some g z)
+    go false q z = leb-false (length (g .nodes)) n q
+
+low-away : (d : ℕ) (r : ValueRef) → d < spare → Low (d + 1) r → liesIn spare r ≡ false
+unfolding liesIn
+low-away d (Object i b) h l = ne-eqb b spare (λ e. omega arith)
+low-away d (Mark k) h l = refl
+low-away d Undetermined h l = refl
+
+module _ (W : List ℕ) (ps : List Slot) (n dst : ℕ) (mk : Makeable W ps n dst) (v : Graph) (W1 : List ℕ) (o : Made) (md : MadeIs W v dst W1 o) where
+  module _ (objects : ℕ) (few : objects ≤ capacity) where
+    pub limit-none : o ≡ TooLarge → MadeWithin objects W v dst W1 TooLarge
+    limit-none e =
+        let k = subst (MadeIs W v dst W1) e md in
+        let l : objects < length (v .nodes) = omega (arith, made-none v capacity (k .is)) in
+        record { held = tt; is = rw (lt-leb (length (v .nodes)) objects l); place = tt; beneath = k .beneath }
+
+  module _ (r : ValueRef) (e : o ≡ Value r) where
+    answer : MadeIs W v dst W1 (Value r)
+    answer = subst (MadeIs W v dst W1) e md
+
+    pub limit-held : Holds W1 r
+    limit-held = answer .held
+
+    pub limit-room : blockSize * spare + blockSize ≤ length W1
+    limit-room = omega (arith, mk .room, md .beneath .same)
+
+    module _ (objects : ℕ) (W2 : List ℕ) (b : Bool) (f : FitsIn W1 r objects W2 b) where
+      same : valueOf W1 r ≡ v
+      same = made-value (valueOf W1 r) v (leb (length (v .nodes)) capacity) (answer .is)
+
+      told : b ≡ leb (length (v .nodes)) objects
+      told = f .is ∙ ap (λ (g : Graph). leb (length (g .nodes)) objects) same
+
+      still : Beneath dst W W2
+      still = beneath-more dst W W1 W2 (answer .beneath) (let u = mk .under in record { same = f .outside .same; below = λ p h. f .outside .below p (omega arith) })
+
+      pub limit-yes : b ≡ true → MadeWithin objects W v dst W2 (Value r)
+      limit-yes z =
+          let k = kept spare W1 W2 (f .outside) r (low-away dst r (mk .under) (answer .place)) (answer .held) in
+          record { held = k .held; is = rw (sym told ∙ z) (ap some (k .is ∙ same)); place = answer .place; beneath = still }
+
+      pub limit-no : b ≡ false → MadeWithin objects W v dst W2 TooLarge
+      limit-no z = record { held = tt; is = rw (sym told ∙ z); place = tt; beneath = still }
+
+-- ---- an object without fields
+bare-whole : (c : ℕ) → Whole (graph (obj 0) (node c [] ∷ []))
+bare-whole c = record { top = omega arith; inner = inner }
+  where
+    inner : (i f : ℕ) (r : Ref) → getElem? (refsAt (node c [] ∷ []) i) f ≡ some r → InRange 1 r
+    inner zero f r e = absurd (Option·none-ne-some r e)
+    inner (suc i) f r e = absurd (Option·none-ne-some r e)
+
+bare-one : (c : ℕ) → length (make c [] .nodes) ≤ 1
+unfolding make lay
+bare-one c = canon-length (graph (obj 0) (node c [] ∷ [])) (bare-whole c)
+
+pub bare-within : (objects : ℕ) → 0 < objects → (W : List ℕ) (c dst : ℕ) (W′ : List ℕ) (r : ValueRef) → MadeIs W (make c []) dst W′ (Value r) → MadeWithin objects W (make c []) dst W′ (Value r)
+bare-within objects pos W c dst W′ r m = record {
+  held = m .held;
+  is = rw (le-leb (length (make c [] .nodes)) objects (omega (arith, bare-one c))) (ap some (made-value (valueOf W′ r) (make c []) (leb (length (make c [] .nodes)) capacity) (m .is)));
+  place = m .place;
+  beneath = m .beneath;
+}

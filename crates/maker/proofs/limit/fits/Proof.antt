@@ -1,0 +1,39 @@
+-- The proof of `limit::fits`: whether a value has at most so many objects. By the laws of Limits, one for each return.
+use borrow.Author.Needs.{needs}
+use Rattle.maker.proofs.limit.fits.Statement.{statement}
+use Rattle.maker.proofs.limit.fits.Tie as tie
+use Rattle.maker.proofs.limit.fits.Reads as reads
+use Rattle.maker.proofs.limit.fits.Lts as lts
+use Rattle.values.proofs.value.move_out.Reads as move-out-reads
+use Rattle.values.proofs.Blocks as blocks
+use Rattle.maker.proofs.Limits as laws
+
+returns : tie.Need-returns
+returns c = search laws.fits-leaf
+
+slice-read-if1 : tie.Need-slice-read-if1
+slice-read-if1 c = search laws.count-read
+
+returns-2 : tie.Need-returns-2
+returns-2 c = search laws.fits-block
+
+move-out-requires : tie.Need-move-out-requires
+move-out-requires c κs = (search blocks.held-inside, search needs)
+
+returns-3 : tie.Need-returns-3
+returns-3 c = search laws.fits-counted
+
+pub fits-spec : {M : Type 1} → statement M
+fits-spec =
+    tie.close
+    (tie.spec
+    (λ c. search needs)
+    returns
+    (λ c. search needs)
+    (λ c. search needs)
+    (λ c. search needs)
+    slice-read-if1
+    returns-2
+    move-out-requires
+    (λ c. search needs)
+    returns-3)
