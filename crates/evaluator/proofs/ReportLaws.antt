@@ -13,6 +13,7 @@ use Rattle.cofj.proofs.Promises.{run-standard}
 use Rattle.values.specs.declared.ValueRef.{ValueRef}
 use Rattle.values.specs.Layout.{valueOf, Holds}
 use Rattle.values.specs.Reporting as values
+use Rattle.values.specs.Reporting.{digitChar}
 use Rattle.evaluator.specs.declared.Stop.{Stop}
 use Rattle.evaluator.specs.declared.Stop.the-variants.{Stuck, NoFuel, TooDeep, TooLarge}
 use Rattle.evaluator.specs.declared.Out.{Out}
@@ -32,7 +33,7 @@ five (x ∷ (y ∷ (z ∷ []))) a b c d e h = absurd (omega arith)
 five (x ∷ (y ∷ (z ∷ (v ∷ [])))) a b c d e h = absurd (omega arith)
 five (x ∷ (y ∷ (z ∷ (v ∷ (w ∷ R))))) a b c d e h = refl
 
-stop-text : (s : Stop) (n : ℕ) (R : List ℕ) → 48 ∷ 55 ∷ 48 ∷ (48 + stopNumber s) ∷ 10 ∷ drop 5 R ≡ over (reportOf (stopped (stopOf s) n)) R
+stop-text : (s : Stop) (n : ℕ) (R : List ℕ) → digitChar ∷ (digitChar + 7) ∷ digitChar ∷ (digitChar + stopNumber s) ∷ 10 ∷ drop 5 R ≡ over (reportOf (stopped (stopOf s) n)) R
 unfolding over
 stop-text Stuck n R = refl
 stop-text NoFuel n R = refl
@@ -45,12 +46,12 @@ stop-small NoFuel = omega arith
 stop-small TooDeep = omega arith
 stop-small TooLarge = omega arith
 
-pub stop-byte : (s : Stop) (k : ℕ) → k ≡ stopNumber s → 48 + k < 256
+pub stop-byte : (s : Stop) (k : ℕ) → k ≡ stopNumber s → digitChar + k < 256
 stop-byte s k e = omega (arith, stop-small s, e)
 
 pub stop-written : (s : Stop) (R : List ℕ) (k : ℕ) → reportSize ≤ length R → k ≡ stopNumber s
-    → StopReports s R (set (set (set (set (set R 0 48) 1 55) 2 48) 3 (48 + k)) 4 10)
-stop-written s R k h e = record { text = λ n. five R 48 55 48 (48 + k) 10 h ∙ rw e (stop-text s n R) }
+    → StopReports s R (set (set (set (set (set R 0 digitChar) 1 (digitChar + 7)) 2 digitChar) 3 (digitChar + k)) 4 10)
+stop-written s R k h e = record { text = λ n. five R digitChar (digitChar + 7) digitChar (digitChar + k) 10 h ∙ rw e (stop-text s n R) }
 
 stop-length : (s : Stop) (n : ℕ) → 5 ≡ length (reportOf (stopped (stopOf s) n))
 stop-length Stuck n = refl
