@@ -32,5 +32,7 @@ pub mod TypingRules
 pub mod CheckRules
 pub mod SideConditions
 pub mod RunningRules
+pub mod ReadCalls
+pub mod RunCalls
 pub mod Promises
 pub mod Cases

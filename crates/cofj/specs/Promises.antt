@@ -1,5 +1,5 @@
--- What is promised of the public calls, as statements of what a call returned. Proved in proofs/Promises of what the definitions give, and
--- in the crate engine (proofs/Promise) of what its functions return. Read this file first.
+-- What is promised of the public calls, as statements of what a call returned. Proved of what the definitions give (proofs/ReadCalls, RunCalls
+-- and Promises), and in the crate engine (proofs/Promise) of what its functions return. Read this file first.
 -- Demand 1: refusals number by number, of every call. Demand 2: the checker and the runs give what the rules give; texts and tables are
 -- each other's. Demand 3: equal reports exactly for the same end, and what an accepted program's report shows. Then values and reports.
 use Prim.Native.Nat.{ℕ, _≤_, _<_}
@@ -115,6 +115,8 @@ pub record Writes (o : Text) (buffer : List ℕ) (x : Wrote) : Type 0 where
   pub eight : o ≡ noText → x ≡ notWritten 8 buffer
   pub nine : (s : List ℕ) → o ≡ text s → length buffer < textSize → x ≡ notWritten 9 buffer
   pub writes : (s : List ℕ) → o ≡ text s → textSize ≤ length buffer → x ≡ written s buffer
+  -- the text fits, so that the buffer keeps its length
+  pub kept : length (x .buffer) ≡ length buffer
 
 -- ---- demand 1: runs
 -- the state refuses nothing

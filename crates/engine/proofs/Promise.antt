@@ -26,7 +26,10 @@ use Rattle.cofj.specs.Writing.{text}
 use Rattle.cofj.specs.Calls.{closeSession, checkCall, checked, Call, Ran, runCall, Wrote, Admitted, verdictLine, reportAdmitted, linerun}
 use Rattle.cofj.specs.Typing.{Checked}
 use Rattle.cofj.specs.Promises.{Program, Reads, REFUSAL-1, REFUSAL-2, REFUSAL-3, Checks, Closes, Writes, Refusals, Answers, Lengths, Follows, Demand3}
-use Rattle.cofj.proofs.Promises.{reads, reads-is, read-number, check-unread, checks, closes, wrote-writes, refusals, answers, lengths, follows, demand3, admit-unread}
+use Rattle.cofj.proofs.RoundTrip.{read-writes, written-length}
+use Rattle.cofj.proofs.ReadCalls.{reads, reads-is, read-number, check-unread, checks, closes, wrote-writes}
+use Rattle.cofj.proofs.RunCalls.{admit-unread, refusals, answers, lengths}
+use Rattle.cofj.proofs.Promises.{follows, demand3}
 use Rattle.lineform.specs.declared.lines.Decoded.{Decoded}
 use Rattle.lineform.specs.declared.frames.Framed.{Framed}
 use Rattle.lineform.specs.declared.lines.Ordered.{Ordered}
@@ -35,7 +38,7 @@ use Rattle.tables.specs.declared.read.Reading.{Reading}
 use Rattle.tables.specs.Readings.{noTable, theTable, answered, readingOf}
 use Rattle.tables.specs.Writings.{textIn, writingOf, holding}
 use Rattle.engine.specs.Numbers.{decodedNumber, framedNumber, orderedNumber}
-use Rattle.tables.proofs.Written.{into-text, text-into, eight-exactly}
+use Rattle.tables.proofs.Written.{reads-table, into-text, text-into, eight-exactly}
 
 -- what a run of the engine returned for a call: its answer and both buffers, as the contract has them
 pub record Returned (a : Call) (x : Ran) : Type 0 where
@@ -145,7 +148,7 @@ pub record WritesFrom (B buffer : List ℕ) (x : Wrote) : Type 0 where
 pub writes-of : (B buffer : List ℕ) (x : Wrote) → x ≡ writingOf B buffer → WritesFrom B buffer x
 unfolding writingOf
 writes-of B buffer x e = subst (WritesFrom B buffer) (sym e) (record {
-  writes = wrote-writes (textIn B) buffer;
+  writes = wrote-writes (textIn B) buffer λ s q. let h = reads-table s B (text-into s B q) in written-length (h .whole) s (read-writes s (h .whole) (h .reads));
   texts = λ s. (text-into s B, into-text s B);
   eight = eight-exactly B buffer;
 })

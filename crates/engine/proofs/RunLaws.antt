@@ -14,7 +14,8 @@ use Rattle.cofj.specs.Typing as language
 use Rattle.cofj.specs.Calls as calls
 use Rattle.cofj.specs.Calls.{Mode, checked, trial, withFuel, cleared, Ran, Admitted, declined, admitted, afterCheck, runAdmitted, runCall, checkCall}
 use Rattle.cofj.proofs.Readable.{read-formed}
-use Rattle.cofj.proofs.Promises.{check-unread, admit-unread, admit-read}
+use Rattle.cofj.proofs.ReadCalls.{check-unread}
+use Rattle.cofj.proofs.RunCalls.{admit-unread, admit-read}
 use Rattle.classes.specs.declared.chain.FieldType.{FieldType}
 use Rattle.classes.specs.Layout.{layout, Tabled}
 use Rattle.tables.specs.Readings.{readingOf, Into}

@@ -18,7 +18,7 @@ use Rattle.cofj.specs.Running.{Outcome, value, stopped, run}
 use Rattle.cofj.specs.Report.{reportOf}
 use Rattle.cofj.specs.Calls.{Mode, checked, trial, openSession, closeSession, linerun, zeros, Call, Ran, Admitted, declined, admitted, admit, ended, runAdmitted, runCall, reportAdmitted, checkText, checkCall}
 use Rattle.cofj.specs.Promises.{reportText, Lent}
-use Rattle.cofj.proofs.Promises.{refusals, by-text, ends-in}
+use Rattle.cofj.proofs.RunCalls.{refusals, by-text, ends-in}
 
 -- a call with buffers just long enough
 abbrev pub calling : Mode → String → ℕ → Call

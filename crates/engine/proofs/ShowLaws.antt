@@ -22,7 +22,8 @@ use Rattle.cofj.specs.Typing.{Checked, refused, accepted, check}
 use Rattle.cofj.specs.Running.{run}
 use Rattle.cofj.specs.Report.{reportOf}
 use Rattle.cofj.specs.Calls.{Mode, checked, openSession, over, zeros, checkText, checkCall, verdictOf, verdictLine, Ran, Admitted, declined, admitted, afterCheck, admitTable, admit, runAdmitted, runCall, reportAdmitted, linerun}
-use Rattle.cofj.proofs.Promises.{text-number, by-text, admit-unread, admit-read, run-fits}
+use Rattle.cofj.proofs.ReadCalls.{text-number}
+use Rattle.cofj.proofs.RunCalls.{by-text, admit-unread, admit-read, run-fits}
 use Rattle.lineform.specs.Writes.{wrote, putLine}
 use Rattle.lineform.proofs.WriteLaws.{line-end, line-stores}
 use Rattle.engine.specs.declared.show.Shown.{Shown}

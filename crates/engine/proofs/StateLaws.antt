@@ -12,15 +12,16 @@ use Rattle.cofj.specs.declared.Session.{Session}
 use Rattle.cofj.specs.declared.Answer.{Answer}
 use Rattle.cofj.specs.Limits.{reportSize, workSize}
 use Rattle.cofj.specs.Calls.{Mode, Call, closeSession, stateRefusal, Ran, admit, runAdmitted, runCall}
-use Rattle.cofj.proofs.Promises as promises
+use Rattle.cofj.proofs.ReadCalls.{closes}
+use Rattle.cofj.proofs.RunCalls.{by-state}
 use Rattle.engine.specs.Steps.{ran, noReport, numberBy, stateNumber}
 
 -- ---- closing
 pub close-again : (σ : Session) → not (σ .active) ≡ true → record { refusal = 11; session = σ } ≡ closeSession σ
-close-again σ e = sym (promises.closes σ .again (not-true (σ .active) e))
+close-again σ e = sym (closes σ .again (not-true (σ .active) e))
 
 pub close-first : (σ : Session) → not (σ .active) ≡ false → record { refusal = 0; session = record { active = false; fuel = 0 } } ≡ closeSession σ
-close-first σ e = sym (promises.closes σ .first (not-false (σ .active) e))
+close-first σ e = sym (closes σ .first (not-false (σ .active) e))
 
 -- ---- the number that the state refuses with
 module _ (active : Bool) (r w : ℕ) where
@@ -90,7 +91,7 @@ module _ (m : Mode) (s : List ℕ) (σ : Session) (R W : List ℕ) where
     pub state-refuses : (a : Answer) → (k ≡ 0 → ⊥) → a ≡ noReport k σ → ran a R W ≡ runCall call
     state-refuses a n q =
         ap (λ (x : Answer). ran x R W) q
-        ∙ sym (promises.by-state call (some k) (state-numbered call ∙ ap numbered (sym e) ∙ some-number k n))
+        ∙ sym (by-state call (some k) (state-numbered call ∙ ap numbered (sym e) ∙ some-number k n))
 
     pub state-admits : (x : Ran) → k ≡ 0 → x ≡ runAdmitted (admit m s) call → x ≡ runCall call
-    state-admits x z q = q ∙ sym (promises.by-state call none (state-numbered call ∙ ap numbered (sym e ∙ z)))
+    state-admits x z q = q ∙ sym (by-state call none (state-numbered call ∙ ap numbered (sym e ∙ z)))

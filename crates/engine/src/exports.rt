@@ -62,7 +62,8 @@ pub extern "C" fn line_run(
     report: &mut [u8],
     work: &mut [u8],
 ) -> Answer
-    ensures { λ r. ⌜ ran r (now (report .exit)) (now (work .exit)) ≡ runCall (record { mode = checked; text = now (text .entry); session = session; report = now (report .entry); work = now (work .entry) }) ⌝ }
+    ensures { λ r. ⌜ ran r (now (report .exit)) (now (work .exit))
+        ≡ runCall (record { mode = checked; text = now (text .entry); session = session; report = now (report .entry); work = now (work .entry) }) ⌝ }
 {
     checked_run(text, session, report, work)
 }
@@ -74,7 +75,8 @@ pub extern "C" fn line_trial(
     report: &mut [u8],
     work: &mut [u8],
 ) -> Answer
-    ensures { λ r. ⌜ ran r (now (report .exit)) (now (work .exit)) ≡ runCall (record { mode = trial; text = now (text .entry); session = session; report = now (report .entry); work = now (work .entry) }) ⌝ }
+    ensures { λ r. ⌜ ran r (now (report .exit)) (now (work .exit))
+        ≡ runCall (record { mode = trial; text = now (text .entry); session = session; report = now (report .entry); work = now (work .entry) }) ⌝ }
 {
     trial_run(text, session, report, work)
 }

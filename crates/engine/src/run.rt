@@ -64,7 +64,8 @@ fn check_and_run(t: &[u8; SIZE], session: Session, out: &mut [u8], work: &mut [u
 
 // A run of a text.
 fn run_text(mode: Mode, text: &[u8], session: Session, out: &mut [u8], work: &mut [u8]) -> Answer
-    ensures { λ r. ⌜ ran r (now (out .exit)) (now (work .exit)) ≡ runCall (record { mode = modeOf mode; text = now (text .entry); session = session; report = now (out .entry); work = now (work .entry) }) ⌝ }
+    ensures { λ r. ⌜ ran r (now (out .exit)) (now (work .exit))
+        ≡ runCall (record { mode = modeOf mode; text = now (text .entry); session = session; report = now (out .entry); work = now (work .entry) }) ⌝ }
 {
     let active = session.active;
     let k = state_refusal(active, out.len(), work.len());
@@ -84,14 +85,16 @@ fn run_text(mode: Mode, text: &[u8], session: Session, out: &mut [u8], work: &mu
 
 // The checked run of a text.
 pub fn checked_run(text: &[u8], session: Session, out: &mut [u8], work: &mut [u8]) -> Answer
-    ensures { λ r. ⌜ ran r (now (out .exit)) (now (work .exit)) ≡ runCall (record { mode = checked; text = now (text .entry); session = session; report = now (out .entry); work = now (work .entry) }) ⌝ }
+    ensures { λ r. ⌜ ran r (now (out .exit)) (now (work .exit))
+        ≡ runCall (record { mode = checked; text = now (text .entry); session = session; report = now (out .entry); work = now (work .entry) }) ⌝ }
 {
     run_text(Mode::Checked, text, session, out, work)
 }
 
 // The trial run of a text: no types are asked for.
 pub fn trial_run(text: &[u8], session: Session, out: &mut [u8], work: &mut [u8]) -> Answer
-    ensures { λ r. ⌜ ran r (now (out .exit)) (now (work .exit)) ≡ runCall (record { mode = trial; text = now (text .entry); session = session; report = now (out .entry); work = now (work .entry) }) ⌝ }
+    ensures { λ r. ⌜ ran r (now (out .exit)) (now (work .exit))
+        ≡ runCall (record { mode = trial; text = now (text .entry); session = session; report = now (out .entry); work = now (work .entry) }) ⌝ }
 {
     run_text(Mode::Trial, text, session, out, work)
 }

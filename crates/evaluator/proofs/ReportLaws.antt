@@ -9,7 +9,7 @@ use Rattle.cofj.specs.Values.{Graph}
 use Rattle.cofj.specs.Running.{Outcome, stopped}
 use Rattle.cofj.specs.Report.{reportOf}
 use Rattle.cofj.specs.Calls.{over}
-use Rattle.cofj.proofs.Promises.{run-standard}
+use Rattle.cofj.proofs.RunCalls.{run-standard}
 use Rattle.values.specs.declared.ValueRef.{ValueRef}
 use Rattle.values.specs.Layout.{valueOf, Holds}
 use Rattle.values.specs.Reporting as values
