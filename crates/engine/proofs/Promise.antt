@@ -1,11 +1,11 @@
--- The promises of this crate, read this first: the three demands, of what its functions return.
--- Their contracts say what they return by the language's definitions (of a run: `Returned`); what that is worth is proved of these (cofj's Promises).
+-- The promises of cofj's specs/Promises and of this crate's, proved of what its functions return.
+-- Their contracts say what they return by the language's definitions (of a run: `Returned`); what that is worth is proved of these in cofj.
 use Prim.Native.Nat.{ℕ, _+_, _≤_, _<_}
 use native.Mathlib.Omega.{arith}
 use mathlib.Core.Path.{_≡_, refl, sym, ap, ap₂, _∙_, subst}
 use mathlib.Core.Bool.{Bool, true, false, _&&_}
 use mathlib.Core.List.{List, [], _∷_, _++_, List·Memᴰ, List·Memᴰ·not-nil, List·Memᴰ·cases-cons}
-use mathlib.Core.Logic.{_↔_, _⊎_, inl, inr}
+use mathlib.Core.Logic.{_⊎_, inl, inr}
 use mathlib.Core.Option.{Option, none, some}
 use lib.Dec.{leb, ltb}
 use lib.ListN.{length, take}
@@ -22,10 +22,9 @@ use Rattle.cofj.specs.Frames.{TextFrame, frame, frames}
 use Rattle.cofj.specs.Tables as tables
 use Rattle.cofj.specs.Tables.{Raw, few}
 use Rattle.cofj.specs.Reading.{Answer, refusal, read, readText}
-use Rattle.cofj.specs.Writing.{text}
 use Rattle.cofj.specs.Calls.{closeSession, checkCall, checked, Call, Ran, runCall, Wrote, Admitted, verdictLine, reportAdmitted, linerun}
 use Rattle.cofj.specs.Typing.{Checked}
-use Rattle.cofj.specs.Promises.{Program, Reads, REFUSAL-1, REFUSAL-2, REFUSAL-3, Checks, Closes, Writes, Refusals, Answers, Lengths, Follows, Demand3}
+use Rattle.cofj.specs.Promises.{Program, Reads, REFUSAL-1, REFUSAL-2, REFUSAL-3, Checks, Closes, Refusals, Answers, Lengths, Follows, Demand3}
 use Rattle.cofj.proofs.RoundTrip.{read-writes, written-length}
 use Rattle.cofj.proofs.ReadCalls.{reads, reads-is, read-number, check-unread, checks, closes, wrote-writes}
 use Rattle.cofj.proofs.RunCalls.{admit-unread, refusals, answers, lengths}
@@ -35,14 +34,11 @@ use Rattle.lineform.specs.declared.frames.Framed.{Framed}
 use Rattle.lineform.specs.declared.lines.Ordered.{Ordered}
 use Rattle.lineform.specs.Answers.{decodedOf, framedOf, countsOf, orderOf}
 use Rattle.tables.specs.declared.read.Reading.{Reading}
-use Rattle.tables.specs.Readings.{noTable, theTable, answered, readingOf}
-use Rattle.tables.specs.Writings.{textIn, writingOf, holding}
+use Rattle.tables.specs.Readings.{answered, readingOf}
+use Rattle.tables.specs.Writings.{textIn, writingOf}
 use Rattle.engine.specs.Numbers.{decodedNumber, framedNumber, orderedNumber}
+use Rattle.engine.specs.Promises.{Returned, ReadsInto, WritesFrom}
 use Rattle.tables.proofs.Written.{reads-table, into-text, text-into, eight-exactly}
-
--- what a run of the engine returned for a call: its answer and both buffers, as the contract has them
-pub record Returned (a : Call) (x : Ran) : Type 0 where
-  pub is : x ≡ runCall a
 
 -- ---- demand 1
 module _ (a : Call) (x : Ran) (r : Returned a x) where
@@ -65,20 +61,7 @@ closes-of σ x e = subst (Closes σ) (sym e) (closes σ)
 pub checks-of : (s : List ℕ) (v : Verdict) → v ≡ checkCall s → Checks s v
 checks-of s v e = subst (Checks s) (sym e) (checks s)
 
--- reading: the table's bytes, or the number and zeros
-pub record ReadsInto (s : List ℕ) (x : Reading) : Type 0 where
-  pub refuses : (k : ℕ) → Reads s (refusal k) → x ≡ noTable k
-  pub table : (t : Table) → Reads s (read t) → x ≡ theTable t
-  -- 0 exactly for a text that has a table
-  pub zero : (x .refusal ≡ 0) ↔ ((t : Table) × Reads s (read t))
-  pub most : x .refusal ≤ 5
-  -- the answers of the steps, by document 01's numbers: the first that is not 0 is the call's
-  pub decoded : (o : Decoded) → o ≡ decodedOf (lines s) → (decodedNumber o ≡ 0 → ⊥) → x .refusal ≡ decodedNumber o
-  pub framed : (ls : List (List ℕ)) → lines s ≡ some ls → (l : List ℕ) → List·Memᴰ l ls → (o : Framed) → o ≡ framedOf (frame l) → (framedNumber o ≡ 0 → ⊥)
-      → x .refusal ≡ framedNumber o
-  pub ordered : (ls : List (List ℕ)) (fs : List TextFrame) → lines s ≡ some ls → frames ls ≡ some fs → (o : Ordered) → o ≡ orderOf (some fs) → (orderedNumber o ≡ 0 → ⊥)
-      → x .refusal ≡ orderedNumber o
-
+-- ---- reading
 -- a line without a frame: there are no frames
 no-frames : (ls : List (List ℕ)) (l : List ℕ) → List·Memᴰ l ls → frame l ≡ none → frames ls ≡ none
 unfolding frames
@@ -139,12 +122,7 @@ reads-into s =
 pub reads-of : (s : List ℕ) (x : Reading) → x ≡ readingOf s → ReadsInto s x
 reads-of s x e = subst (ReadsInto s) (sym e) (reads-into s)
 
--- the writer, of a table's bytes B: their text is the one that reads into them, and 8 is for exactly the bytes that have none
-pub record WritesFrom (B buffer : List ℕ) (x : Wrote) : Type 0 where
-  pub writes : Writes (textIn B) buffer x
-  pub texts : (s : List ℕ) → (textIn B ≡ text s) ↔ (readingOf s ≡ holding B)
-  pub eight : (x .answer .refusal ≡ 8) ↔ ((s : List ℕ) → readingOf s ≡ holding B → ⊥)
-
+-- ---- the writer
 pub writes-of : (B buffer : List ℕ) (x : Wrote) → x ≡ writingOf B buffer → WritesFrom B buffer x
 unfolding writingOf
 writes-of B buffer x e = subst (WritesFrom B buffer) (sym e) (record {

@@ -50,7 +50,7 @@ fn run_table(t: &[u8; SIZE], session: Session, out: &mut [u8], work: &mut [u8]) 
     }
 }
 
-// The same after the check of types.
+// Runs main of a table's bytes if its types are good, or answers 6 or 7.
 fn check_and_run(t: &[u8; SIZE], session: Session, out: &mut [u8], work: &mut [u8]) -> Answer
     requires { ⌜ (reportSize ≤ length (now out)) × (workSize ≤ length (now work)) ⌝ }
     ensures { λ r. ⌜ Runs checked (now (t .entry)) session (now (out .entry)) (now (work .entry)) (ran r (now (out .exit)) (now (work .exit))) ⌝ }
