@@ -7,8 +7,9 @@ use native.Mathlib.Omega.{arith}
 use native.Mathlib.Numerals.{sub-one, unary-clauses}
 use lib.ListN.{getD}
 use lib.Dec.{eqb}
-use borrow.Author.Tests.{eq-eqb, ne-eqb, lt-ltb, le-ltb, not-true, not-false}
+use borrow.Author.Tests.{eq-eqb, ne-eqb, lt-ltb, le-ltb, ltb-true, ltb-false, not-true, not-false}
 use Rattle.cofj.specs.Typing.{closedTag}
+use Rattle.lineform.specs.Signs.{thisSign, resSign, parameterSign, fieldSign, callSign, newSign, signSize, isVariable}
 use Rattle.classes.specs.declared.chain.FieldType.{FieldType}
 use Rattle.classes.specs.declared.chain.FieldFound.{FieldFound}
 use Rattle.classes.specs.declared.methods.Found.{Found}
@@ -39,24 +40,24 @@ step-in : (B : List ℕ) (left : ℕ) (s : Scope) (at : ℕ) → (left ≡ 0 →
 unfolding shapeAt
 step-in B left s at nz h = step B left s at nz ∙ rw (lt-ltb at tableSize h)
 
-var-is : (B : List ℕ) (one : Walk) (s : Scope) (b at : ℕ) → b < 0x43 → stepBy B one s (shapeOf b (byteIn B (at + 1)) (byteIn B (at + 2)) at) ≡ varBy B s b at
+var-is : (B : List ℕ) (one : Walk) (s : Scope) (b at : ℕ) → b < fieldSign → stepBy B one s (shapeOf b (byteIn B (at + 1)) (byteIn B (at + 2)) at) ≡ varBy B s b at
 unfolding varBy
 var-is B one s b at h =
-    rw (ne-eqb b 0x43 (λ z. omega arith), ne-eqb b 0x44 (λ z. omega arith), ne-eqb b 0x45 (λ z. omega arith)) (go (eqb b 0x40) (eqb b 0x41) (eqb b 0x42))
+    rw (ne-eqb b fieldSign (λ z. omega arith), ne-eqb b callSign (λ z. omega arith), ne-eqb b newSign (λ z. omega arith)) (go (eqb b thisSign) (eqb b resSign) (eqb b parameterSign) (at + signSize b))
   where
-    go : (x y z : Bool)
-        → stepBy B one s (pick x (shape.This (at + 1)) (pick y (shape.Result (at + 1)) (pick z (shape.Parameter (byteIn B (at + 1)) (at + 2)) shape.Nothing)))
-        ≡ pick x (thisOf B s (at + 1)) (pick y (resOf s (at + 1)) (pick z (paramVar B s (byteIn B (at + 1)) (at + 2)) No))
-    go true y z = refl
-    go false true z = refl
-    go false false true = refl
-    go false false false = refl
+    go : (x y z : Bool) (next : ℕ)
+        → stepBy B one s (pick x (shape.This next) (pick y (shape.Result next) (pick z (shape.Parameter (byteIn B (at + 1)) next) shape.Nothing)))
+        ≡ pick x (thisOf B s next) (pick y (resOf s next) (pick z (paramVar B s (byteIn B (at + 1)) next) No))
+    go true y z next = refl
+    go false true z next = refl
+    go false false true next = refl
+    go false false false next = refl
 
-parts-are : (B : List ℕ) (one : Walk) (s : Scope) (b at : ℕ) → 0x43 ≤ b
+parts-are : (B : List ℕ) (one : Walk) (s : Scope) (b at : ℕ) → fieldSign ≤ b
     → stepBy B one s (shapeOf b (byteIn B (at + 1)) (byteIn B (at + 2)) at) ≡ partsBy B one (s .main) b at
 unfolding partsBy
 parts-are B one s b at h =
-    rw (ne-eqb b 0x40 (λ z. omega arith), ne-eqb b 0x41 (λ z. omega arith), ne-eqb b 0x42 (λ z. omega arith)) (go (eqb b 0x43) (eqb b 0x44) (eqb b 0x45))
+    rw (ne-eqb b thisSign (λ z. omega arith), ne-eqb b resSign (λ z. omega arith), ne-eqb b parameterSign (λ z. omega arith)) (go (eqb b fieldSign) (eqb b callSign) (eqb b newSign) (at + signSize b))
   where
     k : ℕ
     k = byteIn B (at + 1)
@@ -64,13 +65,13 @@ parts-are B one s b at h =
     n : ℕ
     n = byteIn B (at + 2)
 
-    go : (x y z : Bool)
-        → stepBy B one s (pick x (shape.Field k (at + 2)) (pick y (shape.Call k n (at + 3)) (pick z (shape.New k n (at + 3)) shape.Nothing)))
-        ≡ pick x (fieldBy B one k (at + 2)) (pick y (callBy B one (s .main) k n (at + 3)) (pick z (newBy B one k n (at + 3)) No))
-    go true y z = refl
-    go false true z = refl
-    go false false true = refl
-    go false false false = refl
+    go : (x y z : Bool) (next : ℕ)
+        → stepBy B one s (pick x (shape.Field k next) (pick y (shape.Call k n next) (pick z (shape.New k n next) shape.Nothing)))
+        ≡ pick x (fieldBy B one k next) (pick y (callBy B one (s .main) k n next) (pick z (newBy B one k n next) No))
+    go true y z next = refl
+    go false true z next = refl
+    go false false true next = refl
+    go false false false next = refl
 
 module _ (B : List ℕ) (left : ℕ) (s : Scope) (at : ℕ) where
   pub at-zero : left ≡ 0 → No ≡ typeIn B left s at
@@ -82,53 +83,53 @@ module _ (B : List ℕ) (left : ℕ) (s : Scope) (at : ℕ) where
     unfolding shapeAt
     at-past h = rw (step B left s at nz, le-ltb at tableSize h)
 
-    module _ (h : at < tableSize) (r : Typed) where
-      pub at-var : getD B at 0 < 0x43 → r ≡ varBy B s (getD B at 0) at → r ≡ typeIn B left s at
-      at-var l p = rw (step-in B left s at nz h, var-is B (typeIn B (left - 1) s) s (getD B at 0) at l) p
+    module _ (h : at < tableSize) (r : Typed) (x : Bool) (ex : x ≡ isVariable (getD B at 0)) where
+      pub at-var : x ≡ true → r ≡ varBy B s (getD B at 0) at → r ≡ typeIn B left s at
+      at-var q p = rw (step-in B left s at nz h, var-is B (typeIn B (left - 1) s) s (getD B at 0) at (ltb-true (getD B at 0) fieldSign (sym ex ∙ q))) p
 
-      pub at-parts : 0x43 ≤ getD B at 0 → r ≡ partsBy B (typeIn B (left - 1) s) (s .main) (getD B at 0) at → r ≡ typeIn B left s at
-      at-parts l p = rw (step-in B left s at nz h, parts-are B (typeIn B (left - 1) s) s (getD B at 0) at l) p
+      pub at-parts : x ≡ false → r ≡ partsBy B (typeIn B (left - 1) s) (s .main) (getD B at 0) at → r ≡ typeIn B left s at
+      at-parts q p = rw (step-in B left s at nz h, parts-are B (typeIn B (left - 1) s) s (getD B at 0) at (ltb-false (getD B at 0) fieldSign (sym ex ∙ q))) p
 
 -- and a whole body: some nesting is left
 pub some-left : nestingLimit ≡ 0 → ⊥
 some-left z = omega arith
 
 -- an expression without parts
-module _ (B : List ℕ) (s : Scope) (b at : ℕ) (r : Typed) where
-  pub var-this : b ≡ 0x40 → r ≡ thisOf B s (at + 1) → r ≡ varBy B s b at
+module _ (B : List ℕ) (s : Scope) (b at : ℕ) (r : Typed) (next : ℕ) (en : next ≡ at + signSize b) where
+  pub var-this : b ≡ thisSign → r ≡ thisOf B s next → r ≡ varBy B s b at
   unfolding varBy
-  var-this e p = rw e p
+  var-this e p = rw (← en, e) p
 
-  pub var-res : b ≡ 0x41 → r ≡ resOf s (at + 1) → r ≡ varBy B s b at
+  pub var-res : b ≡ resSign → r ≡ resOf s next → r ≡ varBy B s b at
   unfolding varBy
-  var-res e p = rw e p
+  var-res e p = rw (← en, e) p
 
-  pub var-param : (k : ℕ) → b ≡ 0x42 → k ≡ byteIn B (at + 1) → r ≡ paramVar B s k (at + 2) → r ≡ varBy B s b at
+  pub var-param : (k : ℕ) → b ≡ parameterSign → k ≡ byteIn B (at + 1) → r ≡ paramVar B s k next → r ≡ varBy B s b at
   unfolding varBy
-  var-param k e q p = rw (e, ← q) p
+  var-param k e q p = rw (← en, e, ← q) p
 
-pub var-none : (B : List ℕ) (s : Scope) (b at : ℕ) → (b ≡ 0x40 → ⊥) → (b ≡ 0x41 → ⊥) → (b ≡ 0x42 → ⊥) → No ≡ varBy B s b at
+pub var-none : (B : List ℕ) (s : Scope) (b at : ℕ) → (b ≡ thisSign → ⊥) → (b ≡ resSign → ⊥) → (b ≡ parameterSign → ⊥) → No ≡ varBy B s b at
 unfolding varBy
-var-none B s b at x y z = rw (ne-eqb b 0x40 x, ne-eqb b 0x41 y, ne-eqb b 0x42 z)
+var-none B s b at x y z = rw (ne-eqb b thisSign x, ne-eqb b resSign y, ne-eqb b parameterSign z)
 
 -- an expression with parts
-module _ (B : List ℕ) (one : Walk) (top : Bool) (b at k : ℕ) (ek : k ≡ byteIn B (at + 1)) (r : Typed) where
-  pub parts-field : b ≡ 0x43 → r ≡ fieldBy B one k (at + 2) → r ≡ partsBy B one top b at
+module _ (B : List ℕ) (one : Walk) (top : Bool) (b at k : ℕ) (ek : k ≡ byteIn B (at + 1)) (r : Typed) (next : ℕ) (en : next ≡ at + signSize b) where
+  pub parts-field : b ≡ fieldSign → r ≡ fieldBy B one k next → r ≡ partsBy B one top b at
   unfolding partsBy
-  parts-field e p = rw (e, ← ek) p
+  parts-field e p = rw (← en, e, ← ek) p
 
-  module _ (n : ℕ) (en : n ≡ byteIn B (at + 2)) where
-    pub parts-call : b ≡ 0x44 → r ≡ callBy B one top k n (at + 3) → r ≡ partsBy B one top b at
+  module _ (n : ℕ) (em : n ≡ byteIn B (at + 2)) where
+    pub parts-call : b ≡ callSign → r ≡ callBy B one top k n next → r ≡ partsBy B one top b at
     unfolding partsBy
-    parts-call e p = rw (e, ← ek, ← en) p
+    parts-call e p = rw (← en, e, ← ek, ← em) p
 
-    pub parts-new : b ≡ 0x45 → r ≡ newBy B one k n (at + 3) → r ≡ partsBy B one top b at
+    pub parts-new : b ≡ newSign → r ≡ newBy B one k n next → r ≡ partsBy B one top b at
     unfolding partsBy
-    parts-new e p = rw (e, ← ek, ← en) p
+    parts-new e p = rw (← en, e, ← ek, ← em) p
 
-pub parts-none : (B : List ℕ) (one : Walk) (top : Bool) (b at : ℕ) → (b ≡ 0x43 → ⊥) → (b ≡ 0x44 → ⊥) → (b ≡ 0x45 → ⊥) → No ≡ partsBy B one top b at
+pub parts-none : (B : List ℕ) (one : Walk) (top : Bool) (b at : ℕ) → (b ≡ fieldSign → ⊥) → (b ≡ callSign → ⊥) → (b ≡ newSign → ⊥) → No ≡ partsBy B one top b at
 unfolding partsBy
-parts-none B one top b at x y z = rw (ne-eqb b 0x43 x, ne-eqb b 0x44 y, ne-eqb b 0x45 z)
+parts-none B one top b at x y z = rw (ne-eqb b fieldSign x, ne-eqb b callSign y, ne-eqb b newSign z)
 
 -- ---- a field: the expression at `at` has the type o
 module _ (B : List ℕ) (one : Walk) (f at : ℕ) (o : Typed) (eo : o ≡ one at) where

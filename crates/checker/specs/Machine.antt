@@ -6,6 +6,7 @@ use Prim.Native.Nat.{ℕ, zero, suc, _+_, _*_}
 use lib.ListN.{getD}
 use lib.Dec.{eqb}
 use Rattle.cofj.specs.Typing.{closedTag}
+use Rattle.lineform.specs.Signs.{thisSign, resSign, parameterSign, fieldSign, callSign, newSign, signSize}
 use Rattle.classes.specs.declared.chain.FieldType.{FieldType}
 use Rattle.classes.specs.declared.methods.Found.{Found}
 use Rattle.classes.specs.declared.methods.Found.the-variants as method
@@ -83,15 +84,15 @@ stepBy B one s shape.Nothing = No
 -- ---- the same by the first byte b: an expression without parts, and one with parts
 unfoldable pub varBy : List ℕ → Scope → ℕ → ℕ → Typed
 varBy B s b at =
-    pick (eqb b 0x40) (thisOf B s (at + 1))
-    (pick (eqb b 0x41) (resOf s (at + 1))
-    (pick (eqb b 0x42) (paramVar B s (byteIn B (at + 1)) (at + 2)) No))
+    pick (eqb b thisSign) (thisOf B s (at + signSize b))
+    (pick (eqb b resSign) (resOf s (at + signSize b))
+    (pick (eqb b parameterSign) (paramVar B s (byteIn B (at + 1)) (at + signSize b)) No))
 
 unfoldable pub partsBy : List ℕ → Walk → Bool → ℕ → ℕ → Typed
 partsBy B one top b at =
-    pick (eqb b 0x43) (fieldBy B one (byteIn B (at + 1)) (at + 2))
-    (pick (eqb b 0x44) (callBy B one top (byteIn B (at + 1)) (byteIn B (at + 2)) (at + 3))
-    (pick (eqb b 0x45) (newBy B one (byteIn B (at + 1)) (byteIn B (at + 2)) (at + 3)) No))
+    pick (eqb b fieldSign) (fieldBy B one (byteIn B (at + 1)) (at + signSize b))
+    (pick (eqb b callSign) (callBy B one top (byteIn B (at + 1)) (byteIn B (at + 2)) (at + signSize b))
+    (pick (eqb b newSign) (newBy B one (byteIn B (at + 1)) (byteIn B (at + 2)) (at + signSize b)) No))
 
 -- an expression nested at most `left` deep
 unfoldable pub typeIn : List ℕ → ℕ → Scope → Walk

@@ -15,6 +15,14 @@ use classes::chain::field_type;
 use classes::methods::Found;
 use classes::places::SIZE;
 use classes::shape::byte_at;
+use lineform::sign::CALL;
+use lineform::sign::FIELD;
+use lineform::sign::NEW;
+use lineform::sign::PARAMETER;
+use lineform::sign::RES;
+use lineform::sign::THIS;
+use lineform::sign::is_variable;
+use lineform::sign::past_sign;
 ghost use mathlib.Core.Path.{_≡_};
 ghost use mathlib.Core.Bool.{true, false};
 ghost use Prim.Native.Nat.{_<_};
@@ -39,7 +47,7 @@ pub fn type_expr(t: &[u8; SIZE], scope: Scope, at: usize, left: usize) -> Typed
         return Typed::No;
     }
     let b = t[at];
-    if b < 0x43 {
+    if is_variable(b) {
         return type_var(t, scope, b, at);
     }
     type_parts(t, scope, b, at, left - 1)
@@ -53,7 +61,7 @@ pub fn type_body(t: &[u8; SIZE], scope: Scope, at: usize) -> Typed
         return Typed::No;
     }
     let b = t[at];
-    if b < 0x43 {
+    if is_variable(b) {
         return type_var(t, scope, b, at);
     }
     type_parts(t, scope, b, at, PARTS_NESTING)
@@ -64,15 +72,15 @@ pub fn type_var(t: &[u8; SIZE], scope: Scope, b: u8, at: usize) -> Typed
     requires { ⌜ at < tableSize ⌝ }
     ensures { λ r. ⌜ r ≡ varBy (now (t .entry)) scope b at ⌝ }
 {
-    if b == 0x40 {
-        return this_type(t, scope, at + 1);
+    if b == THIS {
+        return this_type(t, scope, past_sign(b, at));
     }
-    if b == 0x41 {
-        return res_type(scope, at + 1);
+    if b == RES {
+        return res_type(scope, past_sign(b, at));
     }
-    if b == 0x42 {
+    if b == PARAMETER {
         let k = byte_at(t, at + 1);
-        return param_var(t, scope, k, at + 2);
+        return param_var(t, scope, k, past_sign(b, at));
     }
     Typed::No
 }
@@ -83,15 +91,15 @@ pub fn type_parts(t: &[u8; SIZE], scope: Scope, b: u8, at: usize, left: usize) -
     ensures { λ r. ⌜ r ≡ partsBy (now (t .entry)) (typeIn (now (t .entry)) left scope) (scope .main) b at ⌝ }
 {
     let k = byte_at(t, at + 1);
-    if b == 0x43 {
-        return type_field(t, scope, k, at + 2, left);
+    if b == FIELD {
+        return type_field(t, scope, k, past_sign(b, at), left);
     }
     let n = byte_at(t, at + 2);
-    if b == 0x44 {
-        return type_call(t, scope, k, n, at + 3, left);
+    if b == CALL {
+        return type_call(t, scope, k, n, past_sign(b, at), left);
     }
-    if b == 0x45 {
-        return type_new(t, scope, k, n, at + 3, left);
+    if b == NEW {
+        return type_new(t, scope, k, n, past_sign(b, at), left);
     }
     Typed::No
 }

@@ -69,25 +69,25 @@ module _ (S B : List ℕ) (at n : ℕ) where
         rw (lt-leb (length S) at h, z, ← ew, le-ltb (length S - (at + 1)) w l)
 
 -- ---- the whole table
-module _ (S C D : List ℕ) (n m a : ℕ) (d : Lines) (ed : walked d D ≡ linesPlaced (λ l i B′. methodPlaced l i n B′) S m a 0 C) where
-  pub rest-method : d ≡ Refused → placed false D ≡ restPlaced S n m a C
+module _ (S R C D : List ℕ) (n m a : ℕ) (d : Lines) (ed : walked d D ≡ linesPlaced (λ l i B′. methodPlaced l i (getD R i 0) n B′) S m a 0 C) where
+  pub rest-method : d ≡ Refused → placed false D ≡ restPlaced S R n m a C
   unfolding restPlaced
   rest-method e = rw (← ed, e)
 
   module _ (b : ℕ) (eb : d ≡ At b) (E : List ℕ) (g : Bool) (eg : placed g E ≡ lastPlaced S b n D) where
-    pub rest-main : not g ≡ true → placed false E ≡ restPlaced S n m a C
+    pub rest-main : not g ≡ true → placed false E ≡ restPlaced S R n m a C
     unfolding restPlaced
     rest-main e = rw (← ed, eb, ← eg, not-true g e)
 
-    pub rest-done : (U : List ℕ) → not g ≡ false → U ≡ set (set E 11 n) 12 m → placed true U ≡ restPlaced S n m a C
+    pub rest-done : (U : List ℕ) → not g ≡ false → U ≡ set (set E 11 n) 12 m → placed true U ≡ restPlaced S R n m a C
     unfolding restPlaced
     rest-done U e eU = rw (← ed, eb, ← eg, not-false g e, eU)
 
-module _ (S B C : List ℕ) (n m : ℕ) (c : Lines) (ec : walked c C ≡ linesPlaced (λ l k B′. classPlaced l k n B′) S n 0 1 B) where
-  pub table-class : c ≡ Refused → Built S n m B (placed false C)
+module _ (S R B C : List ℕ) (n m : ℕ) (c : Lines) (ec : walked c C ≡ linesPlaced (λ l k B′. classPlaced l k n B′) S n 0 1 B) where
+  pub table-class : c ≡ Refused → Built S R n m B (placed false C)
   unfolding tablePlaced
-  table-class e = built S n m B (placed false C) (rw (← ec, e))
+  table-class e = built S R n m B (placed false C) (rw (← ec, e))
 
-  pub table-rest : (a : ℕ) (g : Bool) (D : List ℕ) → c ≡ At a → placed g D ≡ restPlaced S n m a C → Built S n m B (placed g D)
+  pub table-rest : (a : ℕ) (g : Bool) (D : List ℕ) → c ≡ At a → placed g D ≡ restPlaced S R n m a C → Built S R n m B (placed g D)
   unfolding tablePlaced
-  table-rest a g D ea eg = built S n m B (placed g D) (rw (← ec, ea) eg)
+  table-rest a g D ea eg = built S R n m B (placed g D) (rw (← ec, ea) eg)

@@ -25,12 +25,13 @@ use Rattle.cofj.proofs.Partial.{guard-bind, taken}
 use Rattle.cofj.proofs.FrameRound.{pair, taken-as, given, same, type-forth, types-forth, expr-forth, lineOf, frame-back}
 use Rattle.lineform.specs.Packed.{packed, unpack, Sized, none as no-lines, also as and-line, Packed}
 use Rattle.lineform.proofs.PackedLaws.{unpack-packed}
-use Rattle.classes.specs.Layout.{layout}
+use Rattle.lineform.specs.Answers.{rightAt, rightsOf, Rights}
+use Rattle.classes.specs.Layout.{rightPlace, layout}
 use Rattle.classes.specs.Building.{tablePlaced}
 use Rattle.classes.specs.Overriding.{overridesOf}
 use Rattle.classes.specs.Placing.{Placed}
 use Rattle.classes.specs.Made.{Lined, Zeros, Makes, Built, Overrides}
-use Rattle.classes.proofs.ClassLines.{classLinesOf}
+use Rattle.classes.proofs.Lists.{index-below}
 use Rattle.classes.proofs.MethodLines.{Framed}
 use Rattle.classes.proofs.TableLines.{rawLines, Short, length-bodies, table-lines}
 use Rattle.classes.proofs.OnOverrides.{Shaped, overrides-on}
@@ -131,13 +132,46 @@ framed (d ∷ ds) a = (
 )
 
 -- what stands behind a text's packed lines, once refusals 1 to 3 are passed
-pub record Behind (S : List ℕ) (r : Raw) : Type 0 where
+pub record Behind (S R : List ℕ) (r : Raw) : Type 0 where
   pub lines : S ≡ packed (rawLines r)
   pub short : Short r
   pub methods : AllMethods ReadMethod (r .methods)
+  pub rights : (i : ℕ) (d : Method) → getElem? (r .methods) i ≡ some d → getD R i 0 ≡ rightPlace d
 
-pub behind : (S : List ℕ) (r : Raw) → Lined S r → Behind S r
-behind S r h =
+-- the places of right expressions, in order
+front-rights : (f : TextFrame) (r q : Raw) (xs : List ℕ) → inFront f r ≡ some q → xs ≡ map rightAt (r .methods) → rightsOf (f ∷ []) ++ xs ≡ map rightAt (q .methods)
+front-rights (classFrame c) r q xs e h = given (λ (x : Raw). xs ≡ map rightAt (x .methods)) _ q e h
+front-rights (methodFrame m) r q xs e h = go (r .classes) e
+  where
+    go : (cs : List ClassFrame) → _≡_ {A = Option Raw} (elim cs [ [] ↦ some (raw [] (m ∷ r .methods) (r .main)) | c ∷ ds ↦ none ]) (some q) → rightAt m ∷ xs ≡ map rightAt (q .methods)
+    go [] z = given (λ (x : Raw). rightAt m ∷ xs ≡ map rightAt (x .methods)) _ q z (ap (λ (ys : List ℕ). rightAt m ∷ ys) h)
+    go (c ∷ ds) z = absurd (Option·none-ne-some q z)
+front-rights (mainFrame x) r q xs e h = absurd (Option·none-ne-some q e)
+
+ordered-rights : (fs : List TextFrame) (r : Raw) → ordered fs ≡ some r → rightsOf fs ≡ map rightAt (r .methods)
+unfolding ordered
+ordered-rights [] r e = absurd (Option·none-ne-some r e)
+ordered-rights (classFrame c ∷ fs) r e = taken (ordered fs) r e λ q p e1. front-rights (classFrame c) q r (rightsOf fs) e1 (ordered-rights fs q p)
+ordered-rights (methodFrame m ∷ fs) r e = taken (ordered fs) r e λ q p e1. front-rights (methodFrame m) q r (rightsOf fs) e1 (ordered-rights fs q p)
+ordered-rights (mainFrame x ∷ []) r e = given (λ (q : Raw). [] ≡ map rightAt (q .methods)) _ r e refl
+ordered-rights (mainFrame x ∷ (f ∷ fs)) r e = absurd (Option·none-ne-some r e)
+
+nth-right : (ms : List Method) (i : ℕ) (d : Method) → getElem? ms i ≡ some d → (i < length (map rightAt ms)) × (getD (map rightAt ms) i 0 ≡ rightPlace d)
+unfolding rightPlace
+nth-right [] i d e = absurd (Option·none-ne-some d e)
+nth-right (m ∷ ms) zero d e = let q : m ≡ d = cc in (omega arith, ap rightAt q)
+nth-right (m ∷ ms) (suc i) d e = let h = nth-right ms i d e in (let l = h .0 in omega arith, h .1)
+
+rights-behind : (R : List ℕ) (fs : List TextFrame) (r : Raw) → Rights R fs → ordered fs ≡ some r → length (r .methods) ≤ methodCount
+    → (i : ℕ) (d : Method) → getElem? (r .methods) i ≡ some d → getD R i 0 ≡ rightPlace d
+rights-behind R fs r t e few i d q =
+    let o = ordered-rights fs r e in
+    let h = nth-right (r .methods) i d q in
+    let k = index-below (r .methods) i d q in
+    t .at i (subst (λ (xs : List ℕ). i < length xs) (sym o) (h .0)) (omega arith) ∙ ap (λ (xs : List ℕ). getD xs i 0) o ∙ h .1
+
+pub behind : (S R : List ℕ) (r : Raw) → Lined S R r → Behind S R r
+behind S R r h =
     let p = h .whole in
     let fs = h .found in
     let u : unpack S ≡ p .lines = ap unpack (p .is) ∙ unpack-packed (p .lines) in
@@ -153,13 +187,14 @@ behind S r h =
         main = i .main .short;
       };
       methods = i .methods;
+      rights = rights-behind R fs r (h .rights) (x .0) (x .2);
     }
 
 -- ---- the table of such lines: its bytes, and overriding
-pub built : (S : List ℕ) (n m : ℕ) (B : List ℕ) (p : Placed) → p ≡ tablePlaced S n m B → Built S n m B p
-built S n m B p e = record {
+pub built : (S R : List ℕ) (n m : ℕ) (B : List ℕ) (p : Placed) → p ≡ tablePlaced S R n m B → Built S R n m B p
+built S R n m B p e = record {
   is = e;
-  makes = λ r h en em z. let b = behind S r h in subst (Makes (table r)) (sym (e ∙ rw (en, em))) (table-lines r (b .short) S (b .lines) B z);
+  makes = λ r h en em z. let b = behind S R r h in subst (Makes (table r)) (sym (e ∙ rw (en, em))) (table-lines r (b .short) S R (b .lines) (b .rights) B z);
 }
 
 shaped : (n : ℕ) → n ≤ classCount → (ds : List Method) → methodsGood n ds ≡ true → AllMethods ReadMethod ds → AllMethods Shaped ds
@@ -177,8 +212,8 @@ shaped n h (m ∷ ms) e a =
       shaped n h ms (r .1) (a .1),
     )
 
-overrides-read : (S : List ℕ) (r : Raw) (t : Table) → Behind S r → table r ≡ some t → overridesOf (layout t) ≡ overridesGood t (t .methods)
-overrides-read S r t h e =
+overrides-read : (S R : List ℕ) (r : Raw) (t : Table) → Behind S R r → table r ≡ some t → overridesOf (layout t) ≡ overridesGood t (t .methods)
+overrides-read S R r t h e =
     let n = length (bodies (r .classes)) in
     let a = table-ruled r t e in
     let z = length-bodies (r .classes) in
@@ -190,5 +225,5 @@ overrides-read S r t h e =
 pub overrides-tested : (B : List ℕ) (b : Bool) → b ≡ overridesOf B → Overrides B b
 overrides-tested B b e = record {
   is = e;
-  says = λ S r t h q w. e ∙ ap overridesOf w ∙ overrides-read S r t (behind S r h) q;
+  says = λ S R r t h q w. e ∙ ap overridesOf w ∙ overrides-read S R r t (behind S R r h) q;
 }

@@ -8,10 +8,12 @@ use mathlib.Core.List.{List, [], _∷_}
 use lib.Dec.{eqb, leb, ltb}
 use lib.ListN.{length, getD, drop, length-drop, drop-of-length-le}
 use lib.Seq.{drop-cons, drop-drop, getD-drop}
-use borrow.Author.Tests.{eq-eqb, ne-eqb, lt-ltb, le-ltb, le-leb, lt-leb, eqb-true, eqb-false, ltb-false}
+use borrow.Author.Tests.{eq-eqb, ne-eqb, le-leb, lt-leb, eqb-true, eqb-false, ltb-false}
 use Rattle.cofj.specs.Typing.{closedTag}
-use Rattle.classes.specs.Machine.{Wide, pick}
-use Rattle.classes.specs.Placing.{goodTypes, newKnown, scan, namesAbove, noneAbove, past, headGood}
+use Rattle.lineform.specs.declared.sign.SignRow.{SignRow}
+use Rattle.lineform.specs.Signs.{newSign, InTable, signSize}
+use Rattle.classes.specs.Machine.{pick}
+use Rattle.classes.specs.Placing.{goodTypes, namesKnown, scan, namesAbove, noneAbove, headGood}
 
 -- ---- a byte at a place
 pub more : (s : List ℕ) (at : ℕ) → at < length s → drop at s ≡ getD s at 0 ∷ drop (at + 1) s
@@ -88,130 +90,33 @@ module _ (s : List ℕ) (at n : ℕ) where
     unfolding scan
     scan-end h = sym (e ∙ rw (no-more s at h))
 
-    module _ (h : at < length s) where
-      pub scan-one : getD s at 0 < 0x42 → X ≡ scan n 0 (drop (at + 1) s)
+    module _ (h : at < length s) (x : Bool) (ex : x ≡ namesKnown n (getD s at 0) (drop (at + 1) s)) where
+      pub scan-unknown : not x ≡ true → false ≡ X
       unfolding scan
-      scan-one l = e ∙ rw (more s at h, lt-ltb (getD s at 0) 0x42 l)
+      scan-unknown q = sym (e ∙ rw (more s at h, ← ex, not-true x q))
 
-      module _ (l2 : 0x42 ≤ getD s at 0) where
-        pub scan-two : getD s at 0 < 0x44 → X ≡ scan n 0 (drop (at + 2) s)
+      module _ (q : not x ≡ false) (g : SignRow) (t : InTable (getD s at 0) 0 g) where
+        step : X ≡ pick (eqb (g .size) 0) true (scan n (g .size - 1) (drop (at + 1) s))
         unfolding scan
-        scan-two l = e ∙ rw (more s at h, le-ltb (getD s at 0) 0x42 l2, lt-ltb (getD s at 0) 0x44 l) (skip 1 (at + 2) (omega arith))
+        step = let z : signSize (getD s at 0) ≡ g .size = ap (λ (y : SignRow). y .size) (sym (t .is)) in e ∙ rw (more s at h, ← ex, not-false x q, z)
 
-        module _ (l4 : 0x44 ≤ getD s at 0) where
-          pub scan-call : getD s at 0 ≡ 0x44 → X ≡ scan n 0 (drop (at + 3) s)
-          unfolding scan
-          scan-call l =
-              e ∙ rw (more s at h, le-ltb (getD s at 0) 0x42 l2, le-ltb (getD s at 0) 0x44 l4, eq-eqb (getD s at 0) 0x44 l) (skip 2 (at + 3) (omega arith))
+        pub scan-stop : g .size ≡ 0 → true ≡ X
+        scan-stop z = sym (step ∙ rw (eq-eqb (g .size) 0 z))
 
-          module _ (l5 : getD s at 0 ≡ 0x44 → ⊥) where
-            pub scan-short : length s ≤ at + 1 → true ≡ X
-            unfolding scan
-            scan-short k =
-                sym (e ∙ rw (more s at h, le-ltb (getD s at 0) 0x42 l2, le-ltb (getD s at 0) 0x44 l4, ne-eqb (getD s at 0) 0x44 l5, no-more s (at + 1) k))
+        pub scan-next : (g .size ≡ 0 → ⊥) → X ≡ scan n 0 (drop (at + g .size) s)
+        scan-next nz = step ∙ rw (ne-eqb (g .size) 0 nz) (skip (g .size - 1) (at + g .size) (omega arith))
 
-            module _ (h1 : at + 1 < length s) where
-              new-first : newKnown n (drop (at + 1) s) ≡ leb (getD s (at + 1) 0) n
-              new-first = rw (more s (at + 1) h1)
+-- the class that a sign names
+module _ (s : List ℕ) (at b n : ℕ) where
+  pub names-other : (b ≡ newSign → ⊥) → true ≡ namesKnown n b (drop (at + 1) s)
+  names-other q = rw (ne-eqb b newSign q)
 
-              pub scan-unknown : n < getD s (at + 1) 0 → false ≡ X
-              unfolding scan
-              scan-unknown k =
-                  sym (e ∙ rw (more s at h, le-ltb (getD s at 0) 0x42 l2, le-ltb (getD s at 0) 0x44 l4, ne-eqb (getD s at 0) 0x44 l5, new-first, lt-leb (getD s (at + 1) 0) n k))
+  module _ (e : b ≡ newSign) where
+    pub names-short : length s ≤ at + 1 → true ≡ namesKnown n b (drop (at + 1) s)
+    names-short l = rw (e, no-more s (at + 1) l)
 
-              pub scan-new : getD s (at + 1) 0 ≤ n → X ≡ scan n 0 (drop (at + 3) s)
-              unfolding scan
-              scan-new k =
-                  e ∙ rw (more s at h, le-ltb (getD s at 0) 0x42 l2, le-ltb (getD s at 0) 0x44 l4, ne-eqb (getD s at 0) 0x44 l5, new-first, le-leb (getD s (at + 1) 0) n k)
-                  (skip 2 (at + 3) (omega arith))
-
--- ---- where an expression ends
-past-skip : (m k : ℕ) (bs : List ℕ) → past m k bs ≡ k + past m 0 (drop k bs)
-unfolding past
-past-skip m zero bs = let e : past m 0 bs ≡ 0 + past m 0 bs = omega arith in e
-past-skip m (suc k) [] = let e : suc k ≡ suc k + 0 = omega arith in e
-past-skip m (suc k) (b ∷ bs) = let h = past-skip m k bs in omega arith
-
--- X is the place, which m expressions from `at` on still give
-module _ (s : List ℕ) (at m X : ℕ) (e : X ≡ at + past m 0 (drop at s)) where
-  pub past-none : m ≤ 0 → at ≡ X
-  unfolding past
-  past-none z = go m (drop at s) z e
-    where
-      go : (m : ℕ) (bs : List ℕ) → m ≤ 0 → X ≡ at + past m 0 bs → at ≡ X
-      go zero [] z e = omega arith
-      go zero (b ∷ bs) z e = omega arith
-      go (suc m) bs z e = absurd (omega arith)
-
-  pub past-end : length s ≤ at → at ≡ X
-  unfolding past
-  past-end h = let q : past m 0 (drop at s) ≡ 0 = rw (no-more s at h) in omega arith
-
-  module _ (p : 0 < m) (h : at < length s) where
-    -- the sign there: j more bytes, and then i expressions
-    sign : (i j t : ℕ) → ((n : ℕ) → m ≡ suc n → past (suc n) 0 (getD s at 0 ∷ drop (at + 1) s) ≡ suc (past i j (drop (at + 1) s))) → at + 1 + j ≡ t → X ≡ t + past i 0 (drop t s)
-    sign i j t f et =
-        let n : m ≡ suc (m - 1) = omega arith in
-        let q : past m 0 (drop at s) ≡ suc (past i j (drop (at + 1) s)) = rw (more s at h) (ap (λ (x : ℕ). past x 0 (getD s at 0 ∷ drop (at + 1) s)) n ∙ f (m - 1) n) in
-        let k : past i j (drop (at + 1) s) ≡ j + past i 0 (drop t s) = past-skip i j (drop (at + 1) s) ∙ ap (λ (x : List ℕ). j + past i 0 x) (drop-drop j (at + 1) s ∙ ap (λ (x : ℕ). drop x s) et) in
-        omega arith
-
-    pub past-one : getD s at 0 < 0x42 → X ≡ at + 1 + past (m - 1) 0 (drop (at + 1) s)
-    unfolding past
-    past-one l = sign (m - 1) 0 (at + 1) (λ n q. let w : n ≡ m - 1 = omega arith in rw (lt-ltb (getD s at 0) 0x42 l, w)) (omega arith)
-
-    module _ (l : 0x42 ≤ getD s at 0) where
-      pub past-param : getD s at 0 ≡ 0x42 → X ≡ at + 2 + past (m - 1) 0 (drop (at + 2) s)
-      unfolding past
-      past-param b = sign (m - 1) 1 (at + 2) (λ n q. let w : n ≡ m - 1 = omega arith in rw (b, w)) (omega arith)
-
-      pub past-field : getD s at 0 ≡ 0x43 → X ≡ at + 2 + past m 0 (drop (at + 2) s)
-      unfolding past
-      past-field b = sign m 1 (at + 2) (λ n q. rw (b, q)) (omega arith)
-
-      pub past-small : (v : ℕ) → getD s at 0 < 0x44 → Wide (getD s at 0 - 0x42) v → X ≡ at + 2 + past (m - 1 + v) 0 (drop (at + 2) s)
-      past-small v b ev = go (eqb (getD s at 0) 0x42) refl
-        where
-          with-parts : (i : ℕ) → i ≡ m - 1 + v → X ≡ at + 2 + past i 0 (drop (at + 2) s) → X ≡ at + 2 + past (m - 1 + v) 0 (drop (at + 2) s)
-          with-parts i w x = rw w at x
-
-          go : (z : Bool) → eqb (getD s at 0) 0x42 ≡ z → X ≡ at + 2 + past (m - 1 + v) 0 (drop (at + 2) s)
-          go true q = let c = eqb-true (getD s at 0) 0x42 q in let d = ev .same in with-parts (m - 1) (omega arith) (past-param c)
-          go false q = let c = eqb-false (getD s at 0) 0x42 q in let d = ev .same in with-parts m (omega arith) (past-field (omega arith))
-
-      module _ (n2 : 0x44 ≤ getD s at 0) where
-        many : (n : ℕ) → past (suc n) 0 (getD s at 0 ∷ drop (at + 1) s)
-            ≡ suc (pick (eqb (getD s at 0) 0x44) (past (suc (n + getD (drop (at + 1) s) 1 0)) 2 (drop (at + 1) s)) (past (n + getD (drop (at + 1) s) 1 0) 2 (drop (at + 1) s)))
-        unfolding past
-        many n = rw (le-ltb (getD s at 0) 0x42 l, ne-eqb (getD s at 0) 0x42 (λ e. omega arith), ne-eqb (getD s at 0) 0x43 (λ e. omega arith))
-
-        second : getD (drop (at + 1) s) 1 0 ≡ getD s (at + 2) 0
-        second = getD-drop (at + 1) s 1 0 ∙ ap (λ (k : ℕ). getD s k 0) (let w : at + 1 + 1 ≡ at + 2 = omega arith in w)
-
-        pub past-short : length s ≤ at + 2 → at + 3 ≡ X
-        unfolding past
-        past-short k =
-            let n : m ≡ suc (m - 1) = omega arith in
-            let q : past m 0 (drop at s) ≡ 3 = rw (more s at h) (ap (λ (x : ℕ). past x 0 (getD s at 0 ∷ drop (at + 1) s)) n ∙ many (m - 1) ∙ ap suc (go (eqb (getD s at 0) 0x44))) in
-            omega arith
-          where
-            two : (i : ℕ) → past i 2 (drop (at + 1) s) ≡ 2
-            two i = past-skip i 2 (drop (at + 1) s) ∙ rw (drop-drop 2 (at + 1) s, no-more s (at + 1 + 2) (omega arith))
-
-            go : (b : Bool) → pick b (past (suc (m - 1 + getD (drop (at + 1) s) 1 0)) 2 (drop (at + 1) s)) (past (m - 1 + getD (drop (at + 1) s) 1 0) 2 (drop (at + 1) s)) ≡ 2
-            go true = two (suc (m - 1 + getD (drop (at + 1) s) 1 0))
-            go false = two (m - 1 + getD (drop (at + 1) s) 1 0)
-
-        module _ (v : ℕ) (ev : Wide (getD s (at + 2) 0) v) where
-          pub past-call : getD s at 0 ≡ 0x44 → X ≡ at + 3 + past (m + v) 0 (drop (at + 3) s)
-          past-call b =
-              sign (m + v) 2 (at + 3)
-              (λ n q. let w : suc (n + getD s (at + 2) 0) ≡ m + v = omega (arith, ev .same) in many n ∙ rw (second, eq-eqb (getD s at 0) 0x44 b, w)) (omega arith)
-
-          pub past-new : (getD s at 0 ≡ 0x44 → ⊥) → X ≡ at + 3 + past (m - 1 + v) 0 (drop (at + 3) s)
-          past-new b =
-              sign (m - 1 + v) 2 (at + 3)
-              (λ n q. let w : n + getD s (at + 2) 0 ≡ m - 1 + v = omega (arith, ev .same) in many n ∙ rw (second, ne-eqb (getD s at 0) 0x44 b, w)) (omega arith)
+    pub names-is : at + 1 < length s → leb (getD s (at + 1) 0) n ≡ namesKnown n b (drop (at + 1) s)
+    names-is l = rw (e, more s (at + 1) l)
 
 -- ---- a quick test of all bytes
 module _ (n : ℕ) (s : List ℕ) (at : ℕ) where
@@ -299,25 +204,20 @@ quiet-scan : (n k : ℕ) (bs : List ℕ) → ((j : ℕ) → suc j < length bs �
 unfolding scan
 quiet-scan n k [] f = refl
 quiet-scan n (suc k) (b ∷ bs) f = quiet-scan n k bs (λ j l. f (suc j) (omega arith))
-quiet-scan n zero (b ∷ bs) f = low (ltb b 0x42) (ltb b 0x44) (eqb b 0x44) refl refl (λ k. quiet-scan n k bs (λ j l. f (suc j) (omega arith)))
+quiet-scan n zero (b ∷ bs) f = rw (names (eqb b newSign) refl bs f) (rest (eqb (signSize b) 0) (λ k. quiet-scan n k bs (λ j l. f (suc j) (omega arith))))
   where
-    new : (cs : List ℕ) → ((j : ℕ) → suc j < length (b ∷ cs) → namesAbove n (getD (b ∷ cs) j 0) (getD (b ∷ cs) (suc j) 0) ≡ false) → 0x45 ≤ b → newKnown n cs ≡ true
-    new [] g h = refl
-    new (c ∷ cs) g h = le-leb c n (at-most (ltb n c) refl)
+    names : (x : Bool) → eqb b newSign ≡ x → (cs : List ℕ) → ((j : ℕ) → suc j < length (b ∷ cs) → namesAbove n (getD (b ∷ cs) j 0) (getD (b ∷ cs) (suc j) 0) ≡ false) → namesKnown n b cs ≡ true
+    names false q cs g = rw q
+    names true q [] g = rw q
+    names true q (c ∷ cs) g = rw q (le-leb c n (at-most (ltb n c) refl))
       where
         at-most : (z : Bool) → ltb n c ≡ z → c ≤ n
-        at-most true q = absurd (false≢true (sym (g 0 (omega arith)) ∙ (let w : namesAbove n b c ≡ true = rw (le-leb 0x45 b h) q in w)))
-        at-most false q = ltb-false n c q
+        at-most true p = absurd (false≢true (sym (g 0 (omega arith)) ∙ (let w : namesAbove n b c ≡ true = rw q p in w)))
+        at-most false p = ltb-false n c p
 
-    low : (x y z : Bool) → ltb b 0x44 ≡ y → eqb b 0x44 ≡ z → ((k : ℕ) → scan n k bs ≡ true)
-        → pick x (scan n 0 bs) (pick y (scan n 1 bs) (pick z (scan n 2 bs) (newKnown n bs && scan n 2 bs))) ≡ true
-    low true y z ey ez g = g 0
-    low false true z ey ez g = g 1
-    low false false true ey ez g = g 2
-    low false false false ey ez g =
-        let h = ltb-false b 0x44 ey in
-        let m = eqb-false b 0x44 ez in
-        rw (new bs f (omega arith)) (g 2)
+    rest : (x : Bool) → ((k : ℕ) → scan n k bs ≡ true) → pick x true (scan n (signSize b - 1) bs) ≡ true
+    rest true g = refl
+    rest false g = g (signSize b - 1)
 
 pub above-scan : (n : ℕ) (s : List ℕ) (at : ℕ) (g : Bool) → at < length s → g ≡ noneAbove n s at (length s - (at + 1)) → g ≡ true → true ≡ scan n 0 (drop at s)
 above-scan n s at g h e t = sym (quiet-scan n 0 (drop at s) quiet)

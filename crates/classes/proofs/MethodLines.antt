@@ -7,7 +7,7 @@ use mathlib.Core.Bool.{Bool, true, false, _&&_, _||_, not, true≢false, false�
 use mathlib.Core.List.{List, [], _∷_, _++_, append-assoc, append-nil}
 use mathlib.Core.Option.{Option, none, some}
 use lib.Dec.{eqb, leb, ltb}
-use lib.ListN.{length, getD, drop, length-append}
+use lib.ListN.{length, getD, getElem?, drop, length-append}
 use lib.Seq.{drop-append-seam, getD-append-add}
 use borrow.Author.Tests.{eqb-true, eqb-false, eq-eqb, ne-eqb, le-leb, le-ltb}
 use Rattle.cofj.specs.Limits.{classCount, methodCount, lineSize}
@@ -18,13 +18,13 @@ use Rattle.cofj.specs.Writing.{codeOf, codesOf, typesBytes, methodLine, methodL
 use Rattle.cofj.specs.WellFormed.{AllMethods}
 use Rattle.cofj.proofs.Partial.{and-true}
 use Rattle.cofj.proofs.Passed.{methodRules, method-ruled}
+use Rattle.lineform.specs.Signs.{signRow}
 use Rattle.lineform.specs.Packed.{packed}
 use Rattle.classes.specs.declared.methods.Found.the-variants as found
-use Rattle.classes.specs.declared.place.Place.the-variants as place
 use Rattle.classes.specs.declared.build.Lines.the-variants.{At, Refused}
 use Rattle.classes.specs.Machine.{pick, numbered, ownOf}
 use Rattle.classes.specs.Layout.{indexFrom, rightPlace, filled}
-use Rattle.classes.specs.Placing.{goodTypes, scan, past, methodGood, Placed, placed, placeOf, rightIn, indexPut, methodPut, methodFree, methodPlaced}
+use Rattle.classes.specs.Placing.{scan, methodGood, Placed, placed, methodFree, methodPlaced}
 use Rattle.classes.specs.Building.{Walked, walked, onward, linesPlaced}
 use Rattle.classes.proofs.Zones.{length-types, filled-index}
 use Rattle.classes.proofs.FillingMethods.{isAt, method-filled}
@@ -50,7 +50,7 @@ and-nil false = refl
 
 -- ---- expressions one after another
 mutual
-  unfolding scan codeOf exprKnown
+  unfolding scan signRow codeOf exprKnown
 
   pub scan-code : (e : Expr) (n : ℕ) (r : List ℕ) → scan n 0 (codeOf e ++ r) ≡ exprKnown n e && scan n 0 r
   scan-code this n r = refl
@@ -102,48 +102,6 @@ pub record Framed (d : Method) : Type 0 where
   pub short : length (methodLine d) ≤ lineSize
   pub name : d .name < 256
 
--- ---- where an expression ends: m more follow it
-mutual
-  unfolding past codeOf
-
-  past-code : (e : Expr) (m : ℕ) (r : List ℕ) → past (suc m) 0 (codeOf e ++ r) ≡ length (codeOf e) + past m 0 r
-  past-code this m r = omega arith
-  past-code res m r = omega arith
-  past-code (param k) m r = omega arith
-  past-code (field f e) m r = let h = past-code e m r in omega arith
-  past-code (call n e es) m r =
-      let h = past-code e (m + count es) (codesOf es ++ r) in
-      let k = past-codes es m r in
-      let l = length-append (codeOf e) (codesOf es) in
-      let a = ap (λ (x : List ℕ). past (suc (m + count es)) 0 x) (append-assoc (codeOf e) (codesOf es) r) in
-      omega arith
-  past-code (new c es) m r = let h = past-codes es m r in omega arith
-
-  past-codes : (es : Exprs) (m : ℕ) (r : List ℕ) → past (m + count es) 0 (codesOf es ++ r) ≡ length (codesOf es) + past m 0 r
-  past-codes done m r = let e = ap (λ (x : ℕ). past x 0 r) (let w : m + 0 ≡ m = omega arith in w) in omega arith
-  past-codes (also e es) m r =
-      let h = past-code e (m + count es) (codesOf es ++ r) in
-      let k = past-codes es m r in
-      let l = length-append (codeOf e) (codesOf es) in
-      let a = ap (λ (x : List ℕ). past (suc (m + count es)) 0 x) (append-assoc (codeOf e) (codesOf es) r) in
-      let c = ap (λ (x : ℕ). past x 0 ((codeOf e ++ codesOf es) ++ r)) (let e : m + suc (count es) ≡ suc (m + count es) = omega arith in e) in
-      omega arith
-
-past-zero : (r : List ℕ) → past 0 0 r ≡ 0
-unfolding past
-past-zero [] = refl
-past-zero (b ∷ r) = refl
-
-pub right-is : (d : Method) → Framed d → rightIn (methodLine d) ≡ place.At (rightPlace d)
-unfolding rightIn rightPlace methodLine
-right-is d f =
-    let q = length-types (d .params) in
-    let a = length-append (typesBytes (d .params)) (codeOf (d .left) ++ codeOf (d .right)) in
-    let b = length-append (codeOf (d .left)) (codeOf (d .right)) in
-    let s = f .short in
-    let p : past 1 0 (codeOf (d .left) ++ codeOf (d .right)) ≡ length (codeOf (d .left)) = past-code (d .left) 0 (codeOf (d .right)) ∙ (let z = past-zero (codeOf (d .right)) in let w : length (codeOf (d .left)) + past 0 0 (codeOf (d .right)) ≡ length (codeOf (d .left)) = omega arith in w) in
-    rw (drop-types d, p, le-ltb 255 (8 + 2 * length (d .params) + length (codeOf (d .left))) (omega arith))
-
 -- ---- names that are taken
 eqb-sym : (a b : ℕ) → eqb a b ≡ eqb b a
 eqb-sym a b = go (eqb b a) refl
@@ -178,32 +136,32 @@ taken-index d k (y ∷ ms) e = go (eqb (d .owner) (y .owner) && eqb (d .name) (y
     go false q z ih = let r = ih z in (r .0, rw (same-sym y d, q) (r .1))
 
 -- ---- one more method
-module _ (n : ℕ) (bound : n ≤ classCount) (cs : List Class) (ms : List Method) (few : length ms < methodCount) (d : Method) (f : Framed d) where
+module _ (n : ℕ) (bound : n ≤ classCount) (cs : List Class) (ms : List Method) (few : length ms < methodCount) (d : Method) (f : Framed d) (b : ℕ) (eb : b ≡ rightPlace d) where
   abbrev B : List ℕ
   B = filled 0 0 cs ms []
 
   own-is : d .owner ≤ n → ownOf B (d .owner) (d .name) ≡ numbered (indexFrom 0 ms (d .owner) (d .name))
   own-is h = rw (le-ltb 32 (d .owner) (omega arith), filled-index 0 0 cs ms [] (d .owner) (d .name) (omega arith) (f .name))
 
-  pub method-bad : methodRules n d && not (hasName d ms) ≡ false → methodPlaced (methodLine d) (length ms) n B ≡ placed false B
+  pub method-bad : methodRules n d && not (hasName d ms) ≡ false → methodPlaced (methodLine d) (length ms) b n B ≡ placed false B
   unfolding methodPlaced methodLine
   method-bad e = rw (rules-are d n) (go (methodRules n d) refl (hasName d ms) refl e)
     where
       go : (x : Bool) → methodRules n d ≡ x → (y : Bool) → hasName d ms ≡ y → x && not y ≡ false
-          → pick x (methodFree (methodLine d) (length ms) B (ownOf B (d .owner) (d .name)) (rightIn (methodLine d))) (placed false B) ≡ placed false B
+          → pick x (methodFree (methodLine d) (length ms) b B (ownOf B (d .owner) (d .name))) (placed false B) ≡ placed false B
       go false p y q z = refl
       go true p false q z = absurd (true≢false z)
       go true p true q z =
           let t = taken-index d 0 ms q in
           rw (own-is (method-ruled n d p .owner), t .1, ne-eqb (suc (t .0)) 0 (λ w. omega arith))
 
-  pub method-good : methodRules n d && not (hasName d ms) ≡ true → methodPlaced (methodLine d) (length ms) n B ≡ placed true (filled 0 0 cs (ms ++ (d ∷ [])) [])
+  pub method-good : methodRules n d && not (hasName d ms) ≡ true → methodPlaced (methodLine d) (length ms) b n B ≡ placed true (filled 0 0 cs (ms ++ (d ∷ [])) [])
   unfolding methodPlaced methodLine
   method-good e =
       let a = and-true (methodRules n d) (not (hasName d ms)) e in
       let h = method-ruled n d (a .0) .owner in
       let z = free-index d 0 ms (not-is (hasName d ms) (a .1)) in
-      rw (rules-are d n, a .0, own-is h, z, right-is d f) (ap (λ (x : List ℕ). placed true x) (method-filled cs ms d few (omega arith) (f .name) (f .short) z))
+      rw (rules-are d n, a .0, own-is h, z, eb) (ap (λ (x : List ℕ). placed true x) (method-filled cs ms d few (omega arith) (f .name) (f .short) z))
     where
       not-is : (b : Bool) → not b ≡ true → b ≡ false
       not-is true w = absurd (false≢true w)
@@ -257,9 +215,10 @@ unfolding noneIn hasName
 none-nil [] = refl
 none-nil (m ∷ ms) = none-nil ms
 
-module _ (n : ℕ) (bound : n ≤ classCount) (cs : List Class) (S R : List ℕ) where
+-- Q says where the right expressions of the methods stand
+module _ (n : ℕ) (bound : n ≤ classCount) (cs : List Class) (S Q R : List ℕ) where
   abbrev put : List ℕ → ℕ → List ℕ → Placed
-  put l i B = methodPlaced l i n B
+  put l i B = methodPlaced l i (getD Q i 0) n B
 
   -- a line that is refused, and one that is placed
   module _ (l : List ℕ) (c at i : ℕ) (B : List ℕ) where
@@ -272,14 +231,14 @@ module _ (n : ℕ) (bound : n ≤ classCount) (cs : List Class) (S R : List ℕ)
     method-yes C st e = st ∙ rw e
 
   pub methods-walk : (ds : List Method) (P : List ℕ) (at i : ℕ) (ms all : List Method) → S ≡ P ++ (packed (methodLines ds) ++ R) → at ≡ length P → i ≡ length ms
-      → all ≡ ms ++ ds → length ms + length ds ≤ methodCount → AllMethods Framed ds
+      → all ≡ ms ++ ds → length ms + length ds ≤ methodCount → AllMethods Framed ds → ((j : ℕ) (d : Method) → getElem? ds j ≡ some d → getD Q (length ms + j) 0 ≡ rightPlace d)
       → Ends (nameRules n ms ds) (linesPlaced put S (length ds) at i (filled 0 0 cs ms [])) (at + length (packed (methodLines ds))) (filled 0 0 cs all [])
   unfolding packed methodLines methodsGood linesPlaced
-  methods-walk [] P at i ms all eS ea ei eall few fr = record {
+  methods-walk [] P at i ms all eS ea ei eall few fr qs = record {
     good = λ _. let q : at ≡ at + 0 = omega arith in ap₂ (λ (x : ℕ) (y : List Method). walked (At x) (filled 0 0 cs y [])) q (sym (eall ∙ append-nil ms));
     bad = λ e. absurd (true≢false (sym (none-nil ms) ∙ e));
   }
-  methods-walk (d ∷ ds) P at i ms all eS ea ei eall few fr =
+  methods-walk (d ∷ ds) P at i ms all eS ea ei eall few fr qs =
       let l = methodLine d in
       let X = packed (methodLines ds) ++ R in
       let e1 : S ≡ P ++ (length l ∷ (l ++ X)) = eS ∙ ap (λ (x : List ℕ). P ++ (length l ∷ x)) (append-assoc l (packed (methodLines ds)) R) in
@@ -289,8 +248,9 @@ module _ (n : ℕ) (bound : n ≤ classCount) (cs : List Class) (S R : List ℕ)
       let el = length-append l (packed (methodLines ds)) in
       let B = filled 0 0 cs ms [] in
       let st : linesPlaced put S (suc (length ds)) at (length ms) B ≡ onward (put l (length ms) B) (λ B′. linesPlaced put S (length ds) (at + 1 + length l) (length ms + 1) B′) = lines-step S P l X at e1 ea put (length ds) (length ms) B in
-      let ih = methods-walk ds (P ++ (length l ∷ l)) (at + 1 + length l) (length ms + 1) (ms ++ (d ∷ [])) all e2 (omega arith) (omega arith) (eall ∙ sym (append-assoc ms (d ∷ []) ds)) (omega arith) (fr .1) in
+      let ih = methods-walk ds (P ++ (length l ∷ l)) (at + 1 + length l) (length ms + 1) (ms ++ (d ∷ [])) all e2 (omega arith) (omega arith) (eall ∙ sym (append-assoc ms (d ∷ []) ds)) (omega arith) (fr .1) (λ j x w. ap (λ (k : ℕ). getD Q k 0) (let z : length (ms ++ (d ∷ [])) + j ≡ length ms + suc j = omega arith in z) ∙ qs (suc j) x w) in
+      let q0 : getD Q (length ms) 0 ≡ rightPlace d = ap (λ (k : ℕ). getD Q k 0) (let z : length ms ≡ length ms + 0 = omega arith in z) ∙ qs 0 d refl in
       rw ei
       (ends-step (methodRules n d && not (hasName d ms)) (rules-step n ms d ds)
-      (λ q. ap refused (method-no l (length ds) at (length ms) B st (method-bad n bound cs ms (omega arith) d (fr .0) q)))
-      (λ q. ends-moved (method-yes l (length ds) at (length ms) B (filled 0 0 cs (ms ++ (d ∷ [])) []) st (method-good n bound cs ms (omega arith) d (fr .0) q)) (omega arith) ih))
+      (λ q. ap refused (method-no l (length ds) at (length ms) B st (method-bad n bound cs ms (omega arith) d (fr .0) (getD Q (length ms) 0) q0 q)))
+      (λ q. ends-moved (method-yes l (length ds) at (length ms) B (filled 0 0 cs (ms ++ (d ∷ [])) []) st (method-good n bound cs ms (omega arith) d (fr .0) (getD Q (length ms) 0) q0 q)) (omega arith) ih))

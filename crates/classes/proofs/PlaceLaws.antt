@@ -1,21 +1,18 @@
 -- Laws of placing one line, in the form in which the needs of place cite them.
 use Prim.Native.Nat.{ℕ, _+_, _-_, _*_, _<_, _≤_}
-use native.Mathlib.Omega.{arith}
 use native.Mathlib.Numerals.{add-one}
 use mathlib.Core.Path.{_≡_, refl, sym, ap, _∙_}
 use mathlib.Core.Bool.{Bool, true, false, _&&_, not}
 use mathlib.Core.List.{List}
-use lib.Dec.{eqb, leb, ltb}
+use lib.Dec.{leb}
 use lib.ListN.{length, getD, drop, set}
 use lib.Seq.{sets}
 use borrow.Author.Tests.{eq-eqb, ne-eqb, lt-ltb, le-ltb, le-leb, lt-leb}
 use Rattle.cofj.specs.Typing.{closedTag}
 use Rattle.classes.specs.declared.methods.Found.{Found}
 use Rattle.classes.specs.declared.methods.Found.the-variants as found
-use Rattle.classes.specs.declared.place.Place.{Place}
-use Rattle.classes.specs.declared.place.Place.the-variants as place
-use Rattle.classes.specs.Machine.{pick, ownOf}
-use Rattle.classes.specs.Placing.{goodTypes, scan, past, headGood, methodGood, Placed, placed, above, classGood, classPut, classPlaced, placeOf, rightIn, rightKnown, indexPut, methodPut, methodFree, methodPlaced, mainPlaced}
+use Rattle.classes.specs.Machine.{Wide, pick, ownOf}
+use Rattle.classes.specs.Placing.{goodTypes, scan, headGood, methodGood, placed, above, classGood, classPut, classPlaced, indexPut, methodPut, methodFree, methodPlaced, mainPlaced}
 use Rattle.classes.proofs.LineLaws.{more, no-more, not-true, not-false}
 
 -- ---- a copy
@@ -80,25 +77,8 @@ module _ (l B : List ℕ) (k n : ℕ) where
                   good e = rw (classGood, le-leb 4 (length l) h, eq-eqb (getD l 1 0) k h1, lt-ltb (getD l 2 0) k h2, ← eg, not-false g h3, ← ea, le-leb a 4 h4, le-leb (getD l 3 0) 4 h5, le-leb (a + getD l 3 0) 4 e)
 
 -- ---- a method
-module _ (l : List ℕ) (n w : ℕ) (ew : w ≡ getD l 7 0) (g : Bool) (eg : g ≡ scan n 0 (drop (8 + 2 * w) l)) where
-  same-scan : g ≡ scan n 0 (drop (8 + 2 * getD l 7 0) l)
-  same-scan = rw (← ew) eg
-
-  pub right-not : not g ≡ true → place.Nothing ≡ rightKnown n l
-  unfolding rightKnown
-  right-not q = rw (← same-scan, not-true g q)
-
-  module _ (q : not g ≡ false) (b : ℕ) (eb : b ≡ 8 + 2 * w + past 1 0 (drop (8 + 2 * w) l)) where
-    same-place : b ≡ 8 + 2 * getD l 7 0 + past 1 0 (drop (8 + 2 * getD l 7 0) l)
-    same-place = rw (← ew) eb
-
-    pub right-far : 255 < b → place.Nothing ≡ rightKnown n l
-    unfolding rightKnown rightIn
-    right-far h = rw (← same-scan, not-false g q, ← same-place, lt-ltb 255 b h)
-
-    pub right-at : b ≤ 255 → place.At b ≡ rightKnown n l
-    unfolding rightKnown rightIn
-    right-at h = rw (← same-scan, not-false g q, ← same-place, le-ltb 255 b h)
+pub bodies-scanned : (l : List ℕ) (n w : ℕ) (g : Bool) → Wide (getD l 7 0) w → g ≡ scan n 0 (drop (8 + 2 * w) l) → g ≡ scan n 0 (drop (8 + 2 * getD l 7 0) l)
+bodies-scanned l n w g ew eg = rw (← (ew .same)) eg
 
 module _ (c m x : ℕ) (B : List ℕ) where
   pub index-off : 32 < c → B ≡ indexPut c m x B
@@ -128,50 +108,35 @@ good-both n l =
     both (leb 8 (length l)) (leb 1 (getD l 1 0)) (leb (getD l 1 0) n) (leb (getD l 3 0) n) (leb (getD l 5 0) n) (closedTag (getD l 4 0))
     (goodTypes n (getD l 7 0) (drop 8 l)) (scan n 0 (drop (8 + 2 * getD l 7 0) l))
 
-module _ (l B : List ℕ) (i n : ℕ) where
-  pub method-short : length l < 8 → placed false B ≡ methodPlaced l i n B
+module _ (l B : List ℕ) (i b n : ℕ) where
+  pub method-short : length l < 8 → placed false B ≡ methodPlaced l i b n B
   unfolding methodPlaced methodGood
   method-short h = let z : methodGood n l ≡ false = rw (methodGood, lt-leb 8 (length l) h) in rw z
 
   module _ (g : Bool) (eg : g ≡ headGood n l) where
-    pub method-refused : not g ≡ true → placed false B ≡ methodPlaced l i n B
+    pub method-refused : not g ≡ true → placed false B ≡ methodPlaced l i b n B
     unfolding methodPlaced
     method-refused e = rw (good-both n l, ← eg, not-true g e)
 
     module _ (h : not g ≡ false) (f : Found) (ef : f ≡ ownOf B (getD l 1 0) (getD l 2 0)) where
       -- by whether the classes are known
-      by : (x : Bool) → scan n 0 (drop (8 + 2 * getD l 7 0) l) ≡ x → methodPlaced l i n B ≡ pick x (methodFree l i B f (rightIn l)) (placed false B)
+      by : (x : Bool) → x ≡ scan n 0 (drop (8 + 2 * getD l 7 0) l) → methodPlaced l i b n B ≡ pick x (methodFree l i b B f) (placed false B)
       unfolding methodPlaced
-      by x e = rw (good-both n l, ← eg, not-false g h, e, ← ef)
+      by x e = rw (good-both n l, ← eg, not-false g h, ← e, ← ef)
 
-      pub method-twice : (j : ℕ) → f ≡ found.At j → placed false B ≡ methodPlaced l i n B
-      method-twice j e = go (scan n 0 (drop (8 + 2 * getD l 7 0) l)) refl
+      pub method-twice : (j : ℕ) → f ≡ found.At j → placed false B ≡ methodPlaced l i b n B
+      method-twice j e = sym (by (scan n 0 (drop (8 + 2 * getD l 7 0) l)) refl ∙ rw e (go (scan n 0 (drop (8 + 2 * getD l 7 0) l))))
         where
-          go : (x : Bool) → scan n 0 (drop (8 + 2 * getD l 7 0) l) ≡ x → placed false B ≡ methodPlaced l i n B
-          go true q = rw (by true q, e)
-          go false q = rw (by false q)
+          go : (x : Bool) → pick x (placed false B) (placed false B) ≡ placed false B
+          go true = refl
+          go false = refl
 
-      module _ (e : f ≡ found.Nothing) (p : Place) (ep : p ≡ rightKnown n l) where
-        pub method-nowhere : p ≡ place.Nothing → placed false B ≡ methodPlaced l i n B
-        unfolding rightKnown
-        method-nowhere z = go (scan n 0 (drop (8 + 2 * getD l 7 0) l)) refl (sym z ∙ ep)
-          where
-            go : (x : Bool) → scan n 0 (drop (8 + 2 * getD l 7 0) l) ≡ x
-                → place.Nothing ≡ pick (scan n 0 (drop (8 + 2 * getD l 7 0) l)) (rightIn l) place.Nothing → placed false B ≡ methodPlaced l i n B
-            go true q r = rw (by true q, e, ← (rw q at r))
-            go false q r = rw (by false q)
+      module _ (e : f ≡ found.Nothing) (k : Bool) (ek : k ≡ scan n 0 (drop (8 + 2 * getD l 7 0) l)) where
+        pub method-unknown : not k ≡ true → placed false B ≡ methodPlaced l i b n B
+        method-unknown z = sym (by k ek ∙ rw (not-true k z))
 
-        pub method-placed : (b : ℕ) (T U : List ℕ) → p ≡ place.At b → T ≡ indexPut (getD l 1 0) (getD l 2 0) (i + 1) B → U ≡ methodPut l i b T
-            → placed true U ≡ methodPlaced l i n B
-        unfolding rightKnown
-        method-placed b T U z eT eU =
-            go (scan n 0 (drop (8 + 2 * getD l 7 0) l)) refl (sym z ∙ ep) (ap (λ (x : List ℕ). placed true x) (eU ∙ ap (λ (x : List ℕ). methodPut l i b x) eT))
-          where
-            go : (x : Bool) → scan n 0 (drop (8 + 2 * getD l 7 0) l) ≡ x
-                → place.At b ≡ pick (scan n 0 (drop (8 + 2 * getD l 7 0) l)) (rightIn l) place.Nothing
-                → placed true U ≡ placed true (methodPut l i b (indexPut (getD l 1 0) (getD l 2 0) (i + 1) B)) → placed true U ≡ methodPlaced l i n B
-            go true q r w = rw (by true q, e, ← (rw q at r)) w
-            go false q r w = let k : place.At b ≡ place.Nothing = rw q at r in let y : _≡_ {A = ℕ} 0 1 = cc in absurd (omega arith)
+        pub method-placed : (T U : List ℕ) → not k ≡ false → T ≡ indexPut (getD l 1 0) (getD l 2 0) (i + 1) B → U ≡ methodPut l i b T → placed true U ≡ methodPlaced l i b n B
+        method-placed T U z eT eU = sym (by k ek ∙ rw (not-false k z, e) (sym (ap (λ (x : List ℕ). placed true x) (eU ∙ ap (λ (x : List ℕ). methodPut l i b x) eT))))
 
 -- ---- main
 module _ (l B : List ℕ) (n : ℕ) (g : Bool) (eg : g ≡ scan n 0 (drop 1 l)) where

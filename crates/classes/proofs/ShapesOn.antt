@@ -10,6 +10,7 @@ use lib.ListN.{length, getD, List·getD-eq-default}
 use borrow.Author.Tests.{ltb-false}
 use Rattle.cofj.specs.Syntax.{Expr, this, res, param, field, call, new, Exprs, count, Table}
 use Rattle.cofj.specs.Writing.{codeOf, codesOf}
+use Rattle.lineform.specs.Signs.{thisSign, resSign, parameterSign, fieldSign, callSign, newSign, signRow}
 use Rattle.classes.specs.Machine.{pick}
 use Rattle.classes.specs.Figures.{tableSize}
 use Rattle.classes.specs.Layout.{layout, Stands}
@@ -69,27 +70,27 @@ shapeFor (call m e es) at = shape.Call m (count es) (at + 3)
 shapeFor (new c es) at = shape.New c (count es) (at + 3)
 
 pub shape-on : (t : Table) (e : Expr) (at : ℕ) → Stands (layout t) at (codeOf e) → shapeAt (layout t) at ≡ shapeFor e at
-unfolding codeOf
-shape-on t this at st = one-byte t at 0x40 (λ z. omega arith) [] st
-shape-on t res at st = one-byte t at 0x41 (λ z. omega arith) [] st
-shape-on t (param k) at st = two-bytes t at 0x42 (λ z. omega arith) k [] st
-shape-on t (field f e) at st = two-bytes t at 0x43 (λ z. omega arith) f (codeOf e) st
-shape-on t (call m e es) at st = three-bytes t at 0x44 (λ z. omega arith) m (count es) (codeOf e ++ codesOf es) st
-shape-on t (new c es) at st = three-bytes t at 0x45 (λ z. omega arith) c (count es) (codesOf es) st
+unfolding codeOf signRow
+shape-on t this at st = one-byte t at thisSign (λ z. omega arith) [] st
+shape-on t res at st = one-byte t at resSign (λ z. omega arith) [] st
+shape-on t (param k) at st = two-bytes t at parameterSign (λ z. omega arith) k [] st
+shape-on t (field f e) at st = two-bytes t at fieldSign (λ z. omega arith) f (codeOf e) st
+shape-on t (call m e es) at st = three-bytes t at callSign (λ z. omega arith) m (count es) (codeOf e ++ codesOf es) st
+shape-on t (new c es) at st = three-bytes t at newSign (λ z. omega arith) c (count es) (codesOf es) st
 
 -- and where its parts stand
 module _ (t : Table) (at : ℕ) where
   pub field-part : (f : ℕ) (e : Expr) → Stands (layout t) at (codeOf (field f e)) → Stands (layout t) (at + 2) (codeOf e)
   unfolding codeOf
-  field-part f e st = stands-after (layout t) at (0x43 ∷ f ∷ []) (codeOf e) st
+  field-part f e st = stands-after (layout t) at (fieldSign ∷ f ∷ []) (codeOf e) st
 
   pub call-parts : (m : ℕ) (e : Expr) (es : Exprs) → Stands (layout t) at (codeOf (call m e es)) → Stands (layout t) (at + 3) (codeOf e ++ codesOf es)
   unfolding codeOf
-  call-parts m e es st = stands-after (layout t) at (0x44 ∷ m ∷ count es ∷ []) (codeOf e ++ codesOf es) st
+  call-parts m e es st = stands-after (layout t) at (callSign ∷ m ∷ count es ∷ []) (codeOf e ++ codesOf es) st
 
   pub new-parts : (c : ℕ) (es : Exprs) → Stands (layout t) at (codeOf (new c es)) → Stands (layout t) (at + 3) (codesOf es)
   unfolding codeOf
-  new-parts c es st = stands-after (layout t) at (0x45 ∷ c ∷ count es ∷ []) (codesOf es) st
+  new-parts c es st = stands-after (layout t) at (newSign ∷ c ∷ count es ∷ []) (codesOf es) st
 
 -- ---- back: the expression at `at` that has a shape, and the place after its first bytes
 abbrev pub Shaped : ℕ → Expr → Shape → Type 0

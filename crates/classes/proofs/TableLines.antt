@@ -7,7 +7,7 @@ use mathlib.Core.Bool.{Bool, true, false, _&&_, true≢false, false≢true}
 use mathlib.Core.List.{List, [], _∷_, _++_, append-assoc, append-nil}
 use mathlib.Core.Option.{Option, none, some, Option·none-ne-some}
 use lib.Dec.{eqb, leb, ltb}
-use lib.ListN.{length, getD, set, drop, replicate, length-append, length-set, length-replicate, getD-replicate, List·getD-eq-default}
+use lib.ListN.{length, getD, getElem?, set, drop, replicate, length-append, length-set, length-replicate, getD-replicate, List·getD-eq-default}
 use lib.Seq.{sets, length-sets, getD-set-same, getD-set-other}
 use borrow.Author.Tests.{eqb-true, eqb-false, ltb-true, ltb-false, lt-leb, le-ltb}
 use Rattle.cofj.specs.Limits.{classCount, methodCount, lineSize}
@@ -24,7 +24,7 @@ use Rattle.classes.specs.declared.build.Lines.{Lines}
 use Rattle.classes.specs.declared.build.Lines.the-variants.{At, Refused}
 use Rattle.classes.specs.Machine.{pick}
 use Rattle.classes.specs.Figures.{tableSize}
-use Rattle.classes.specs.Layout.{zeros, classRow, indexFrom, methodByte, longByte, filled, layout}
+use Rattle.classes.specs.Layout.{zeros, classRow, indexFrom, methodByte, longByte, rightPlace, filled, layout}
 use Rattle.classes.specs.Placing.{scan, Placed, placed, classPlaced, methodPlaced, mainPlaced}
 use Rattle.classes.specs.Building.{Walked, walked, lineAt, linesPlaced, lastPlaced, andThen, counted, restPlaced, tablePlaced}
 use Rattle.classes.specs.Made.{Zeros, answer, Makes}
@@ -203,7 +203,7 @@ pub record Short (r : Raw) : Type 0 where
   pub framed : AllMethods Framed (r .methods)
   pub main : suc (length (codeOf (r .main))) ≤ lineSize
 
-module _ (r : Raw) (s : Short r) (S : List ℕ) (e : S ≡ packed (rawLines r)) where
+module _ (r : Raw) (s : Short r) (S Q : List ℕ) (e : S ≡ packed (rawLines r)) (qs : (i : ℕ) (d : Method) → getElem? (r .methods) i ≡ some d → getD Q i 0 ≡ rightPlace d) where
   abbrev n : ℕ
   n = length (r .classes)
 
@@ -234,9 +234,10 @@ module _ (r : Raw) (s : Short r) (S : List ℕ) (e : S ≡ packed (rawLines r)) 
       ends-moved refl (let z : 0 + length P1 ≡ length P1 = omega arith in z)
       (classes-walk n S (P2 ++ last) (r .classes) [] 0 1 [] cs parts refl refl refl (λ k. zero-le) (let z = s .classes in omega arith))
 
-  method-part : Ends (nameRules n [] (r .methods)) (linesPlaced (λ l i B. methodPlaced l i n B) S m (length P1) 0 (filled 0 0 cs [] [])) (length P1 + length P2) (filled 0 0 cs (r .methods) [])
+  method-part : Ends (nameRules n [] (r .methods)) (linesPlaced (λ l i B. methodPlaced l i (getD Q i 0) n B) S m (length P1) 0 (filled 0 0 cs [] [])) (length P1 + length P2) (filled 0 0 cs (r .methods) [])
   method-part =
-      methods-walk n (s .classes) cs S last (r .methods) P1 (length P1) 0 [] (r .methods) parts refl refl refl (let z = s .methods in omega arith) (s .framed)
+      methods-walk n (s .classes) cs S Q last (r .methods) P1 (length P1) 0 [] (r .methods) parts refl refl refl (let z = s .methods in omega arith) (s .framed)
+      (λ j d w. ap (λ (k : ℕ). getD Q k 0) (let z : 0 + j ≡ j = omega arith in z) ∙ qs j d w)
 
   made-table : Table
   made-table = record { classes = cs; methods = r .methods; main = r .main }
@@ -271,11 +272,11 @@ module _ (r : Raw) (s : Short r) (S : List ℕ) (e : S ≡ packed (rawLines r)) 
     made = λ t w. let z : made-table ≡ t = cc in a ∙ ap (λ (x : Table). placed true (layout x)) z;
   }
 
-  past-classes : okClasses ≡ true → tablePlaced S n m start ≡ restPlaced S n m (length P1) (filled 0 0 cs [] [])
+  past-classes : okClasses ≡ true → tablePlaced S Q n m start ≡ restPlaced S Q n m (length P1) (filled 0 0 cs [] [])
   unfolding tablePlaced okClasses
   past-classes q = rw (class-part .good q)
 
-  past-methods : okMethods ≡ true → restPlaced S n m (length P1) (filled 0 0 cs [] []) ≡ counted n m (lastPlaced S (length P1 + length P2) n (filled 0 0 cs (r .methods) []))
+  past-methods : okMethods ≡ true → restPlaced S Q n m (length P1) (filled 0 0 cs [] []) ≡ counted n m (lastPlaced S (length P1 + length P2) n (filled 0 0 cs (r .methods) []))
   unfolding restPlaced okMethods
   past-methods q = rw (method-part .good (ap₂ _&&_ q (none-yet (r .methods))))
 
@@ -286,24 +287,24 @@ module _ (r : Raw) (s : Short r) (S : List ℕ) (e : S ≡ packed (rawLines r)) 
       last-is S (P1 ++ P2) mainLine (length P1 + length P2) n (filled 0 0 cs (r .methods) []) (parts ∙ sym (append-assoc P1 P2 last)) (sym a)
       ∙ main-is cs (r .methods) (r .main) (s .main) n
 
-  no-classes : okClasses ≡ false → answer (tablePlaced S n m start) ≡ false
+  no-classes : okClasses ≡ false → answer (tablePlaced S Q n m start) ≡ false
   unfolding tablePlaced okClasses
-  no-classes q = stops (linesPlaced (λ l k B. classPlaced l k n B) S n 0 1 start) (λ a B. restPlaced S n m a B) (class-part .bad q)
+  no-classes q = stops (linesPlaced (λ l k B. classPlaced l k n B) S n 0 1 start) (λ a B. restPlaced S Q n m a B) (class-part .bad q)
 
-  no-methods : okMethods ≡ false → answer (restPlaced S n m (length P1) (filled 0 0 cs [] [])) ≡ false
+  no-methods : okMethods ≡ false → answer (restPlaced S Q n m (length P1) (filled 0 0 cs [] [])) ≡ false
   unfolding restPlaced okMethods
   no-methods q =
-      stops (linesPlaced (λ l i B. methodPlaced l i n B) S m (length P1) 0 (filled 0 0 cs [] [])) (λ b B. counted n m (lastPlaced S b n B)) (method-part .bad (ap₂ _&&_ q (none-yet (r .methods))))
+      stops (linesPlaced (λ l i B. methodPlaced l i (getD Q i 0) n B) S m (length P1) 0 (filled 0 0 cs [] [])) (λ b B. counted n m (lastPlaced S b n B)) (method-part .bad (ap₂ _&&_ q (none-yet (r .methods))))
 
-  decide : (c : Bool) → okClasses ≡ c → (k : Bool) → okMethods ≡ k → (x : Bool) → okMain ≡ x → Makes (table r) (tablePlaced S n m start)
+  decide : (c : Bool) → okClasses ≡ c → (k : Bool) → okMethods ≡ k → (x : Bool) → okMain ≡ x → Makes (table r) (tablePlaced S Q n m start)
   decide false p k q x w = makes-none _ (table-is ∙ rw p) (no-classes p)
   decide true p false q x w = makes-none _ (table-is ∙ rw (p, q)) (ap answer (past-classes p) ∙ no-methods q)
   decide true p true q false w =
-      let z : tablePlaced S n m start ≡ placed false (filled 0 0 cs (r .methods) []) = past-classes p ∙ past-methods q ∙ rw (at-main, w) in
+      let z : tablePlaced S Q n m start ≡ placed false (filled 0 0 cs (r .methods) []) = past-classes p ∙ past-methods q ∙ rw (at-main, w) in
       makes-none _ (table-is ∙ rw (p, q, w)) (ap answer z)
   decide true p true q true w =
-      let z : tablePlaced S n m start ≡ placed true (set (set (filled 0 0 cs (r .methods) mainLine) 11 n) 12 m) = past-classes p ∙ past-methods q ∙ rw (at-main, w) in
+      let z : tablePlaced S Q n m start ≡ placed true (set (set (filled 0 0 cs (r .methods) mainLine) 11 n) 12 m) = past-classes p ∙ past-methods q ∙ rw (at-main, w) in
       makes-some _ (table-is ∙ rw (p, q, w)) (z ∙ ap (λ (x : List ℕ). placed true x) (counts-filled n m cs (r .methods) mainLine ∙ sym layout-is))
 
-  pub table-lines : (B : List ℕ) → Zeros B → Makes (table r) (tablePlaced S n m B)
+  pub table-lines : (B : List ℕ) → Zeros B → Makes (table r) (tablePlaced S Q n m B)
   table-lines B z = rw (zeros-filled B z) (decide okClasses refl okMethods refl okMain refl)

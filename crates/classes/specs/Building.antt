@@ -42,9 +42,9 @@ abbrev pub counted : ℕ → ℕ → Placed → Placed
 counted n m (placed false B) = placed false B
 counted n m (placed true B) = placed true (set (set B classCountAt n) methodCountAt m)
 
--- methods and main from `at` on, and the counts
-unfoldable pub restPlaced : List ℕ → ℕ → ℕ → ℕ → List ℕ → Placed
-restPlaced S n m at B = andThen (linesPlaced (λ l i B′. methodPlaced l i n B′) S m at 0 B) λ b B₂. counted n m (lastPlaced S b n B₂)
+-- methods and main from `at` on, and the counts; R says where the methods' right expressions stand
+unfoldable pub restPlaced : List ℕ → List ℕ → ℕ → ℕ → ℕ → List ℕ → Placed
+restPlaced S R n m at B = andThen (linesPlaced (λ l i B′. methodPlaced l i (getD R i 0) n B′) S m at 0 B) λ b B₂. counted n m (lastPlaced S b n B₂)
 
-unfoldable pub tablePlaced : List ℕ → ℕ → ℕ → List ℕ → Placed
-tablePlaced S n m B = andThen (linesPlaced (λ l k B′. classPlaced l k n B′) S n 0 1 B) λ a B₁. restPlaced S n m a B₁
+unfoldable pub tablePlaced : List ℕ → List ℕ → ℕ → ℕ → List ℕ → Placed
+tablePlaced S R n m B = andThen (linesPlaced (λ l k B′. classPlaced l k n B′) S n 0 1 B) λ a B₁. restPlaced S R n m a B₁

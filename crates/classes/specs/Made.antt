@@ -11,19 +11,21 @@ use Rattle.cofj.specs.Syntax.{Table}
 use Rattle.cofj.specs.Frames.{TextFrame, frames}
 use Rattle.cofj.specs.Tables.{Raw, ordered, few, table, overridesGood}
 use Rattle.lineform.specs.Packed.{Packed, unpack}
+use Rattle.lineform.specs.Answers.{Rights}
 use Rattle.classes.specs.Figures.{tableSize}
 use Rattle.classes.specs.Layout.{layout}
 use Rattle.classes.specs.Placing.{Placed, placed}
 use Rattle.classes.specs.Building.{tablePlaced}
 use Rattle.classes.specs.Overriding.{overridesOf}
 
--- S is packed lines whose frames are r: refusals 1 to 3 are passed
-pub record Lined (S : List ℕ) (r : Raw) : Type 0 where
+-- S is packed lines whose frames are r, and R says where the right expressions of their methods stand: refusals 1 to 3 are passed
+pub record Lined (S R : List ℕ) (r : Raw) : Type 0 where
   pub whole : Packed S
   pub bytes : (i : ℕ) → getD S i 0 < 256
   pub found : List TextFrame
   pub read : frames (unpack S) ≡ some found
   pub order : ordered found >>= few ≡ some r
+  pub rights : Rights R found
 
 -- a table's bytes before anything is written
 pub record Zeros (B : List ℕ) : Type 0 where
@@ -39,11 +41,11 @@ pub record Makes (o : Option Table) (p : Placed) : Type 0 where
   pub made : (t : Table) → o ≡ some t → p ≡ placed true (layout t)
 
 -- the answer and the bytes of `place_table`, byte by byte and in the language
-pub record Built (S : List ℕ) (n m : ℕ) (B : List ℕ) (p : Placed) : Type 0 where
-  pub is : p ≡ tablePlaced S n m B
-  pub makes : (r : Raw) → Lined S r → n ≡ length (r .classes) → m ≡ length (r .methods) → Zeros B → Makes (table r) p
+pub record Built (S R : List ℕ) (n m : ℕ) (B : List ℕ) (p : Placed) : Type 0 where
+  pub is : p ≡ tablePlaced S R n m B
+  pub makes : (r : Raw) → Lined S R r → n ≡ length (r .classes) → m ≡ length (r .methods) → Zeros B → Makes (table r) p
 
 -- the answer of `overrides`
 pub record Overrides (B : List ℕ) (b : Bool) : Type 0 where
   pub is : b ≡ overridesOf B
-  pub says : (S : List ℕ) (r : Raw) (t : Table) → Lined S r → table r ≡ some t → B ≡ layout t → b ≡ overridesGood t (t .methods)
+  pub says : (S R : List ℕ) (r : Raw) (t : Table) → Lined S R r → table r ≡ some t → B ≡ layout t → b ≡ overridesGood t (t .methods)

@@ -1,6 +1,6 @@
 -- What the functions that build a table make of a line's bytes and of the table's bytes, at the functions' own grain.
 -- Not here: that this is the language's `table` on the lines of a text (proofs/Building).
-use Prim.Native.Nat.{ℕ, zero, suc, _+_, _*_}
+use Prim.Native.Nat.{ℕ, zero, suc, _+_, _-_, _*_}
 use mathlib.Core.Bool.{Bool, true, false, not, _&&_}
 use mathlib.Core.Path.{_≡_}
 use mathlib.Core.List.{List, [], _∷_}
@@ -8,12 +8,11 @@ use lib.Dec.{eqb, leb, ltb}
 use lib.ListN.{length, getD, drop, set}
 use lib.Seq.{sets}
 use Rattle.cofj.specs.Typing.{closedTag}
-use Rattle.cofj.specs.Limits.{classCount, fieldCount, lineSize}
+use Rattle.cofj.specs.Limits.{classCount, fieldCount}
+use Rattle.lineform.specs.Signs.{newSign, signSize}
 use Rattle.classes.specs.Figures.{rowSize, longSize, indexAt, methodsAt, mainAt, lastByte}
 use Rattle.classes.specs.declared.methods.Found.{Found}
 use Rattle.classes.specs.declared.methods.Found.the-variants as found
-use Rattle.classes.specs.declared.place.Place.{Place}
-use Rattle.classes.specs.declared.place.Place.the-variants as place
 use Rattle.classes.specs.Machine.{pick, ownOf}
 
 -- the first k types of the bytes have classes up to n and closed tags
@@ -28,16 +27,19 @@ abbrev pub newKnown : ℕ → List ℕ → Bool
 newKnown n [] = true
 newKnown n (c ∷ bs) = leb c n
 
--- expressions one after another: the first number is how many bytes still belong to the last sign
+-- the sign b, with the bytes after it, names no class above n
+abbrev pub namesKnown : ℕ → ℕ → List ℕ → Bool
+namesKnown n b bs = pick (eqb b newSign) (newKnown n bs) true
+
+-- expressions one after another, up to a byte that is no sign: k is how many bytes still belong to the last sign
 unfoldable pub scan : ℕ → ℕ → List ℕ → Bool
 scan n k [] = true
 scan n (suc k) (b ∷ bs) = scan n k bs
-scan n zero (b ∷ bs) =
-    pick (ltb b 0x42) (scan n 0 bs) (pick (ltb b 0x44) (scan n 1 bs) (pick (eqb b 0x44) (scan n 2 bs) (newKnown n bs && scan n 2 bs)))
+scan n zero (b ∷ bs) = namesKnown n b bs && pick (eqb (signSize b) 0) true (scan n (signSize b - 1) bs)
 
--- the byte a may be the sign of a new object, and b after it is then a class above n
+-- the byte a may be the sign of a new object, with a class b after it above n
 abbrev pub namesAbove : ℕ → ℕ → ℕ → Bool
-namesAbove n a b = leb 0x45 a && ltb n b
+namesAbove n a b = eqb a newSign && ltb n b
 
 -- none of the first k bytes from `at` on does
 unfoldable pub noneAbove : ℕ → List ℕ → ℕ → ℕ → Bool
@@ -74,40 +76,19 @@ classPut l k B = sets (set (set B (rowSize * k) (getD l 2 0)) (rowSize * k + 1) 
 unfoldable pub classPlaced : List ℕ → ℕ → ℕ → List ℕ → Placed
 classPlaced l k n B = pick (classGood l k n B) (placed true (classPut l k B)) (placed false B)
 
-abbrev pub placeOf : ℕ → Place
-placeOf b = pick (ltb lineSize b) place.Nothing (place.At b)
-
--- how many bytes m expressions take, one after another: their signs, and what these hold, are counted. The second number is as in `scan`.
-unfoldable pub past : ℕ → ℕ → List ℕ → ℕ
-past m k [] = k
-past m (suc k) (b ∷ bs) = suc (past m k bs)
-past zero zero (b ∷ bs) = 0
-past (suc m) zero (b ∷ bs) =
-    suc (pick (ltb b 0x42) (past m 0 bs) (pick (eqb b 0x42) (past m 1 bs) (pick (eqb b 0x43) (past (suc m) 1 bs)
-    (pick (eqb b 0x44) (past (suc (m + getD bs 1 0)) 2 bs) (past (m + getD bs 1 0) 2 bs)))))
-
--- the left expression begins after the parameters' types, and the right one after it
-unfoldable pub rightIn : List ℕ → Place
-rightIn l = placeOf (8 + 2 * getD l 7 0 + past 1 0 (drop (8 + 2 * getD l 7 0) l))
-
--- the same where the classes that the expressions name are known
-unfoldable pub rightKnown : ℕ → List ℕ → Place
-rightKnown n l = pick (scan n 0 (drop (8 + 2 * getD l 7 0) l)) (rightIn l) place.Nothing
-
 abbrev pub indexPut : ℕ → ℕ → ℕ → List ℕ → List ℕ
 indexPut c m x B = pick (ltb classCount c) B (set B (indexAt + longSize * c + m) x)
 
 unfoldable pub methodPut : List ℕ → ℕ → ℕ → List ℕ → List ℕ
 methodPut l i right B = set (sets (set B (methodsAt + longSize * i) right) (methodsAt + longSize * i + 1) (drop 1 l)) (methodsAt + longSize * i + lastByte) (length l)
 
--- where the class has no such method, and the right expression stands at a place
-abbrev pub methodFree : List ℕ → ℕ → List ℕ → Found → Place → Placed
-methodFree l i B (found.At j) p = placed false B
-methodFree l i B found.Nothing place.Nothing = placed false B
-methodFree l i B found.Nothing (place.At b) = placed true (methodPut l i b (indexPut (getD l 1 0) (getD l 2 0) (i + 1) B))
+-- where the class has no such method; the right expression stands at b
+abbrev pub methodFree : List ℕ → ℕ → ℕ → List ℕ → Found → Placed
+methodFree l i b B (found.At j) = placed false B
+methodFree l i b B found.Nothing = placed true (methodPut l i b (indexPut (getD l 1 0) (getD l 2 0) (i + 1) B))
 
-unfoldable pub methodPlaced : List ℕ → ℕ → ℕ → List ℕ → Placed
-methodPlaced l i n B = pick (methodGood n l) (methodFree l i B (ownOf B (getD l 1 0) (getD l 2 0)) (rightIn l)) (placed false B)
+unfoldable pub methodPlaced : List ℕ → ℕ → ℕ → ℕ → List ℕ → Placed
+methodPlaced l i b n B = pick (methodGood n l) (methodFree l i b B (ownOf B (getD l 1 0) (getD l 2 0))) (placed false B)
 
 unfoldable pub mainPlaced : List ℕ → ℕ → List ℕ → Placed
 mainPlaced l n B = pick (scan n 0 (drop 1 l)) (placed true (set (sets B (mainAt + 1) (drop 1 l)) (mainAt + lastByte) (length l))) (placed false B)

@@ -1,8 +1,10 @@
 -- What stands at a place of an expression, at the code's grain. Past the end of a table stands nothing.
 use mathlib.Core.List.{List}
-use Prim.Native.Nat.{ℕ, _+_}
+use mathlib.Core.Bool.{Bool, false}
+use Prim.Native.Nat.{ℕ, _+_, _-_}
 use lib.ListN.{getD}
 use lib.Dec.{eqb, ltb}
+use Rattle.lineform.specs.Signs.{thisSign, resSign, parameterSign, fieldSign, callSign, newSign, signSize}
 use Rattle.classes.specs.Machine.{pick}
 use Rattle.classes.specs.Figures.{tableSize}
 use Rattle.classes.specs.declared.shape.Shape.{Shape}
@@ -12,16 +14,24 @@ use Rattle.classes.specs.declared.shape.Shape.the-variants.{This, Result
 abbrev pub byteIn : List ℕ → ℕ → ℕ
 byteIn B at = pick (ltb at tableSize) (getD B at 0) 0
 
+-- an expression whose first three bytes are b, k and n, with `next` the place after its sign and what belongs to it
+abbrev pub shapeBy : ℕ → ℕ → ℕ → ℕ → Shape
+shapeBy b k n next =
+    pick (eqb b thisSign) (This next)
+    (pick (eqb b resSign) (Result next)
+    (pick (eqb b parameterSign) (Parameter k next)
+    (pick (eqb b fieldSign) (Field k next)
+    (pick (eqb b callSign) (Call k n next)
+    (pick (eqb b newSign) (New k n next)
+    Nothing)))))
+
 -- an expression at `at` whose first three bytes are b, k and n
 abbrev pub shapeOf : ℕ → ℕ → ℕ → ℕ → Shape
-shapeOf b k n at =
-    pick (eqb b 0x40) (This (at + 1))
-    (pick (eqb b 0x41) (Result (at + 1))
-    (pick (eqb b 0x42) (Parameter k (at + 2))
-    (pick (eqb b 0x43) (Field k (at + 2))
-    (pick (eqb b 0x44) (Call k n (at + 3))
-    (pick (eqb b 0x45) (New k n (at + 3))
-    Nothing)))))
+shapeOf b k n at = shapeBy b k n (at + signSize b)
 
 unfoldable pub shapeAt : List ℕ → ℕ → Shape
 shapeAt B at = pick (ltb at tableSize) (shapeOf (getD B at 0) (byteIn B (at + 1)) (byteIn B (at + 2)) at) Nothing
+
+-- whether a field is selected at a place whose three bytes lie in the table
+unfoldable pub isField : List ℕ → ℕ → Bool
+isField B at = pick (ltb at (tableSize - 2)) (eqb (getD B at 0) fieldSign) false

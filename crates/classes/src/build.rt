@@ -7,9 +7,10 @@ use crate::places::CLASS_COUNT;
 use crate::places::METHOD_COUNT;
 use crate::places::SIZE;
 use crate::places::wide;
+use lineform::lines::RIGHTS;
 ghost use mathlib.Core.Path.{_≡_};
 ghost use Prim.Native.Nat.{ℕ, _≤_};
-ghost use lib.ListN.{set};
+ghost use lib.ListN.{getD, set};
 ghost use Rattle.cofj.specs.Limits.{classCount, methodCount};
 ghost use Rattle.classes.specs.Figures.{classCountAt, methodCountAt};
 ghost use Rattle.classes.specs.Placing.{placed, classPlaced, methodPlaced};
@@ -48,10 +49,17 @@ pub fn place_classes(s: &[u8], n: u8, t: &mut [u8; SIZE]) -> Lines
     Lines::At(at)
 }
 
-// The m lines from `from` on, as methods 0 to m - 1.
-pub fn place_methods(s: &[u8], from: usize, n: u8, m: u8, t: &mut [u8; SIZE]) -> Lines
+// The m lines from `from` on, as methods 0 to m - 1; `rights` says where their right expressions stand.
+pub fn place_methods(
+    s: &[u8],
+    rights: &[u8; RIGHTS],
+    from: usize,
+    n: u8,
+    m: u8,
+    t: &mut [u8; SIZE],
+) -> Lines
     requires { ⌜ m ≤ methodCount ⌝ }
-    ensures { λ r. ⌜ walked r (now (t .exit)) ≡ linesPlaced (λ l i B. methodPlaced l i n B) (now (s .entry)) m from 0 (now (t .entry)) ⌝ }
+    ensures { λ r. ⌜ walked r (now (t .exit)) ≡ linesPlaced (λ l i B. methodPlaced l i (getD (now (rights .entry)) i 0) n B) (now (s .entry)) m from 0 (now (t .entry)) ⌝ }
 {
     let mut at: usize = from;
     let mut i: u8 = 0;
@@ -65,7 +73,7 @@ pub fn place_methods(s: &[u8], from: usize, n: u8, m: u8, t: &mut [u8; SIZE]) ->
             return Lines::Refused;
         }
         let e = a + w;
-        if !place_method(&s[a..e], i, n, t) {
+        if !place_method(&s[a..e], i, rights, n, t) {
             return Lines::Refused;
         }
         at = e;
@@ -99,11 +107,18 @@ pub fn put_counts(n: u8, m: u8, t: &mut [u8; SIZE])
 }
 
 // The lines from `at` on, as m methods and main; then the counts.
-pub fn place_rest(s: &[u8], at: usize, n: u8, m: u8, t: &mut [u8; SIZE]) -> bool
+pub fn place_rest(
+    s: &[u8],
+    rights: &[u8; RIGHTS],
+    at: usize,
+    n: u8,
+    m: u8,
+    t: &mut [u8; SIZE],
+) -> bool
     requires { ⌜ m ≤ methodCount ⌝ }
-    ensures { λ r. ⌜ placed r (now (t .exit)) ≡ restPlaced (now (s .entry)) n m at (now (t .entry)) ⌝ }
+    ensures { λ r. ⌜ placed r (now (t .exit)) ≡ restPlaced (now (s .entry)) (now (rights .entry)) n m at (now (t .entry)) ⌝ }
 {
-    let d = place_methods(s, at, n, m, t);
+    let d = place_methods(s, rights, at, n, m, t);
     let Lines::At(b) = d else {
         return false;
     };
@@ -115,13 +130,13 @@ pub fn place_rest(s: &[u8], at: usize, n: u8, m: u8, t: &mut [u8; SIZE]) -> bool
 }
 
 // All lines of a text with n classes and m methods. The table's bytes are zero before.
-pub fn place_table(s: &[u8], n: u8, m: u8, t: &mut [u8; SIZE]) -> bool
+pub fn place_table(s: &[u8], rights: &[u8; RIGHTS], n: u8, m: u8, t: &mut [u8; SIZE]) -> bool
     requires { ⌜ (n ≤ classCount) × (m ≤ methodCount) ⌝ }
-    ensures { λ r. ⌜ Built (now (s .entry)) n m (now (t .entry)) (placed r (now (t .exit))) ⌝ }
+    ensures { λ r. ⌜ Built (now (s .entry)) (now (rights .entry)) n m (now (t .entry)) (placed r (now (t .exit))) ⌝ }
 {
     let c = place_classes(s, n, t);
     let Lines::At(a) = c else {
         return false;
     };
-    place_rest(s, a, n, m, t)
+    place_rest(s, rights, a, n, m, t)
 }

@@ -1,13 +1,13 @@
-// Tests of a line's bytes against the number of classes n: types that are known and closed, expressions whose classes are known; and where
-// an expression ends.
+// Tests of a line's bytes against the number of classes n: types that are known and closed, expressions whose classes are known.
 // Not here: that the line is a frame (lineform), which every line is that gets here.
-use crate::places::wide;
+use lineform::sign::NEW;
+use lineform::sign::sign_row;
 ghost use mathlib.Core.Path.{_≡_};
 ghost use Prim.Native.Nat.{ℕ, _≤_, _<_, _+_, _-_};
 ghost use lib.ListN.{length, drop};
 ghost use Rattle.cofj.specs.Limits.{lineSize};
 ghost use Rattle.cofj.specs.Typing.{closedTag};
-ghost use Rattle.classes.specs.Placing.{goodTypes, scan, namesAbove, noneAbove, past, headGood};
+ghost use Rattle.classes.specs.Placing.{goodTypes, namesKnown, scan, namesAbove, noneAbove, headGood};
 
 // How many bytes are tested at once.
 const BLOCK: usize = 16;
@@ -45,11 +45,11 @@ pub fn types_good(s: &[u8], at: usize, k: u8, n: u8) -> bool
     types_good(s, a + 1, k - 1, n)
 }
 
-// Whether the byte a may be the sign of a new object, and b after it is then a class that is not known.
+// Whether the byte a may be the sign of a new object, with a class b after it that is not known.
 fn names_above(a: u8, b: u8, n: u8) -> bool
     ensures { λ r. ⌜ r ≡ namesAbove n a b ⌝ }
 {
-    (0x45 <= a) & (n < b)
+    (a == NEW) & (n < b)
 }
 
 // Whether none of the bytes in a block from `at` on, signs or not, may name a class that is not known. The compiler takes them at once.
@@ -96,8 +96,22 @@ fn none_above(s: &[u8], at: usize, n: u8) -> bool
     rest_clear(s, p, n)
 }
 
-// Whether the expressions from `at` to the end name known classes only. Written one after another they are a row of signs: 40 and 41
-// alone, 42 and 43 with one byte, 44 and 45 with two, and what they hold follows.
+// Whether the sign b at `at` names no class that is not known: only a new object names one.
+fn names_known(s: &[u8], at: usize, b: u8, n: u8) -> bool
+    requires { ⌜ at < length (now s) ⌝ }
+    ensures { λ r. ⌜ r ≡ namesKnown n b (drop (at + 1) (now (s .entry))) ⌝ }
+{
+    if b != NEW {
+        return true;
+    }
+    let a = at + 1;
+    if s.len() <= a {
+        return true;
+    }
+    s[a] <= n
+}
+
+// Whether the expressions from `at` on name known classes only. Written one after another they are a row of signs (lineform's table).
 fn scan_known(s: &[u8], at: usize, n: u8) -> bool
     requires { ⌜ length (now s) ≤ lineSize ⌝ }
     ensures { λ r. ⌜ r ≡ scan n 0 (drop at (now (s .entry))) ⌝ }
@@ -105,26 +119,14 @@ fn scan_known(s: &[u8], at: usize, n: u8) -> bool
     let mut a: usize = at;
     while a < s.len() {
         let b = s[a];
-        if b < 0x42 {
-            a += 1;
-            continue;
-        }
-        if b < 0x44 {
-            a += 2;
-            continue;
-        }
-        if b == 0x44 {
-            a += 3;
-            continue;
-        }
-        let c = a + 1;
-        if s.len() <= c {
-            return true;
-        }
-        if n < s[c] {
+        if !names_known(s, a, b, n) {
             return false;
         }
-        a += 3;
+        let g = sign_row(b, 0);
+        if g.size == 0 {
+            return true;
+        }
+        a += g.size;
     }
     true
 }
@@ -141,42 +143,6 @@ pub fn all_known(s: &[u8], at: usize, n: u8) -> bool
         return true;
     }
     scan_known(s, at, n)
-}
-
-// Where the expression at `at` of a frame ends, by counting: k expressions are still to come from `a` on. Not tested: that it is an expression.
-pub fn skip_expr(s: &[u8], at: usize) -> usize
-    requires { ⌜ length (now s) ≤ lineSize ⌝ }
-    ensures { λ r. ⌜ r ≡ at + past 1 0 (drop at (now (s .entry))) ⌝ }
-{
-    let mut a: usize = at;
-    let mut k: usize = 1;
-    while 0 < k {
-        if s.len() <= a {
-            return a;
-        }
-        let b = s[a];
-        if b < 0x42 {
-            a += 1;
-            k -= 1;
-            continue;
-        }
-        if b < 0x44 {
-            a += 2;
-            k = k - 1 + wide(b - 0x42);
-            continue;
-        }
-        let c = a + 2;
-        if s.len() <= c {
-            return a + 3;
-        }
-        a += 3;
-        if b == 0x44 {
-            k = k + wide(s[c]);
-            continue;
-        }
-        k = k - 1 + wide(s[c]);
-    }
-    a
 }
 
 // A method's line without its name and its expressions: owner known and not Object, types known, first result and parameters closed.

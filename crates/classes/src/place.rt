@@ -3,7 +3,6 @@
 use crate::chain::field_total;
 use crate::known::all_known;
 use crate::known::head_good;
-use crate::known::skip_expr;
 use crate::known::types_good;
 use crate::methods::Found;
 use crate::methods::own_method;
@@ -17,19 +16,14 @@ use crate::places::METHODS;
 use crate::places::ROW;
 use crate::places::SIZE;
 use crate::places::wide;
+use lineform::lines::RIGHTS;
 ghost use mathlib.Core.Path.{_≡_};
 ghost use Prim.Native.Nat.{ℕ, _≤_, _<_, _+_, _*_};
-ghost use lib.ListN.{length, drop};
+ghost use lib.ListN.{length, getD, drop};
 ghost use lib.Seq.{sets};
 ghost use Rattle.cofj.specs.Limits.{classCount, methodCount, lineSize};
 ghost use Rattle.classes.specs.Figures.{tableSize};
-ghost use Rattle.classes.specs.Placing.{placed, classPlaced, rightKnown, indexPut, methodPut, methodPlaced, mainPlaced};
-
-// A byte's place in a line.
-pub enum Place {
-    At(u8),
-    Nothing,
-}
+ghost use Rattle.classes.specs.Placing.{scan, placed, classPlaced, indexPut, methodPut, methodPlaced, mainPlaced};
 
 // Writes the bytes of the line from `from` on into the table at `to`.
 pub fn copy(l: &[u8], from: usize, t: &mut [u8; SIZE], to: usize)
@@ -82,20 +76,12 @@ pub fn place_class(l: &[u8], k: u8, n: u8, t: &mut [u8; SIZE]) -> bool
     true
 }
 
-// Where the right expression of a method's line stands, if the classes that the expressions name are known.
-pub fn right_in(l: &[u8], n: u8) -> Place
+// Whether the expressions of a method's line name known classes only.
+fn bodies_known(l: &[u8], n: u8) -> bool
     requires { ⌜ (8 ≤ length (now l)) × (length (now l) ≤ lineSize) ⌝ }
-    ensures { λ r. ⌜ r ≡ rightKnown n (now (l .entry)) ⌝ }
+    ensures { λ r. ⌜ r ≡ scan n 0 (drop (8 + 2 * getD (now (l .entry)) 7 0) (now (l .entry))) ⌝ }
 {
-    let at = 8 + 2 * wide(l[7]);
-    if !all_known(l, at, n) {
-        return Place::Nothing;
-    }
-    let b = skip_expr(l, at);
-    if 255 < b {
-        return Place::Nothing;
-    }
-    Place::At(b as u8)
+    all_known(l, 8 + 2 * wide(l[7]), n)
 }
 
 // Sets the index of class c under the name m.
@@ -119,10 +105,10 @@ pub fn put_method(l: &[u8], i: u8, right: u8, t: &mut [u8; SIZE])
     t[b + LAST] = l.len() as u8;
 }
 
-// Method i: its line is good, and its class has no method of its name yet.
-pub fn place_method(l: &[u8], i: u8, n: u8, t: &mut [u8; SIZE]) -> bool
+// Method i, whose right expression stands where `rights` says: the line is good, and its class has no method of its name yet.
+pub fn place_method(l: &[u8], i: u8, rights: &[u8; RIGHTS], n: u8, t: &mut [u8; SIZE]) -> bool
     requires { ⌜ (length (now l) ≤ lineSize) × (i < methodCount) ⌝ }
-    ensures { λ r. ⌜ placed r (now (t .exit)) ≡ methodPlaced (now (l .entry)) i n (now (t .entry)) ⌝ }
+    ensures { λ r. ⌜ placed r (now (t .exit)) ≡ methodPlaced (now (l .entry)) i (getD (now (rights .entry)) i 0) n (now (t .entry)) ⌝ }
 {
     if l.len() < 8 {
         return false;
@@ -136,10 +122,10 @@ pub fn place_method(l: &[u8], i: u8, n: u8, t: &mut [u8; SIZE]) -> bool
     let Found::Nothing = f else {
         return false;
     };
-    let e = right_in(l, n);
-    let Place::At(b) = e else {
+    if !bodies_known(l, n) {
         return false;
-    };
+    }
+    let b = rights[i as usize];
     put_index(c, m, i + 1, t);
     put_method(l, i, b, t);
     true

@@ -1,9 +1,16 @@
 // What stands at a place of an expression in prefix form. Not here: its type.
 use crate::places::SIZE;
+use lineform::sign::CALL;
+use lineform::sign::FIELD;
+use lineform::sign::NEW;
+use lineform::sign::PARAMETER;
+use lineform::sign::RES;
+use lineform::sign::THIS;
+use lineform::sign::past_sign;
 ghost use mathlib.Core.Path.{_≡_};
 ghost use Prim.Native.Nat.{_<_};
 ghost use Rattle.classes.specs.Figures.{tableSize};
-ghost use Rattle.classes.specs.Shapes.{byteIn, shapeOf, shapeAt};
+ghost use Rattle.classes.specs.Shapes.{byteIn, shapeOf, shapeAt, isField};
 
 // An expression's first bytes, and the place after them.
 pub enum Shape {
@@ -31,30 +38,40 @@ pub fn shape_of(b: u8, k: u8, n: u8, at: usize) -> Shape
     requires { ⌜ at < tableSize ⌝ }
     ensures { λ r. ⌜ r ≡ shapeOf b k n at ⌝ }
 {
-    if b == 0x40 {
-        return Shape::This { next: at + 1 };
+    if b == THIS {
+        return Shape::This {
+            next: past_sign(b, at),
+        };
     }
-    if b == 0x41 {
-        return Shape::Result { next: at + 1 };
+    if b == RES {
+        return Shape::Result {
+            next: past_sign(b, at),
+        };
     }
-    if b == 0x42 {
-        return Shape::Parameter { k, next: at + 2 };
+    if b == PARAMETER {
+        return Shape::Parameter {
+            k,
+            next: past_sign(b, at),
+        };
     }
-    if b == 0x43 {
-        return Shape::Field { f: k, next: at + 2 };
+    if b == FIELD {
+        return Shape::Field {
+            f: k,
+            next: past_sign(b, at),
+        };
     }
-    if b == 0x44 {
+    if b == CALL {
         return Shape::Call {
             m: k,
             n,
-            next: at + 3,
+            next: past_sign(b, at),
         };
     }
-    if b == 0x45 {
+    if b == NEW {
         return Shape::New {
             c: k,
             n,
-            next: at + 3,
+            next: past_sign(b, at),
         };
     }
     Shape::Nothing
@@ -71,4 +88,14 @@ pub fn shape_at(t: &[u8; SIZE], at: usize) -> Shape
         return Shape::Nothing;
     }
     shape_of(t[at], byte_at(t, at + 1), byte_at(t, at + 2), at)
+}
+
+// Whether a field is selected at a place that has two more after it.
+pub fn is_field(t: &[u8; SIZE], at: usize) -> bool
+    ensures { λ r. ⌜ r ≡ isField (now (t .entry)) at ⌝ }
+{
+    if at < SIZE - 2 {
+        return t[at] == FIELD;
+    }
+    false
 }

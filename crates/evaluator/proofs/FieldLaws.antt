@@ -6,6 +6,7 @@ use mathlib.Core.Path.{_≡_, refl, sym, subst}
 use mathlib.Core.List.{List}
 use lib.ListN.{getD}
 use Rattle.classes.specs.Shapes.{shapeAt}
+use Rattle.classes.proofs.ShapeLaws.{field-low, field-shape}
 use Rattle.values.specs.declared.ValueRef.{ValueRef}
 use Rattle.values.specs.declared.refs.Selected.{Selected}
 use Rattle.values.specs.declared.refs.Selected.the-variants as selected
@@ -23,7 +24,6 @@ use Rattle.evaluator.specs.Chains.{Chain}
 use Rattle.evaluator.specs.Steps.{fuelOf, Runnable, PartRunnable, EvalStep, FieldStep}
 use Rattle.evaluator.proofs.Given.{given-older}
 use Rattle.evaluator.proofs.ListLaws.{field-halt, field-none, field-some}
-use Rattle.evaluator.proofs.ChainLaws.{field-low, field-shape}
 use Rattle.evaluator.proofs.StepLaws.{step-field}
 
 -- ---- one field

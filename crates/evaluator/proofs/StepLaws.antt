@@ -6,17 +6,17 @@ use mathlib.Core.Path.{_≡_, refl, sym, ap, _∙_, subst}
 use mathlib.Core.Bool.{Bool, true, false, cond}
 use mathlib.Core.List.{List, [], _∷_}
 use mathlib.Core.Option.{none, some, Option·none-ne-some}
-use lib.Dec.{eqb, ltb, leb}
+use lib.Dec.{leb}
 use lib.ListN.{length, getD}
-use borrow.Author.Tests.{lt-ltb, le-ltb, ltb-true, leb-true, leb-false}
+use borrow.Author.Tests.{lt-ltb, le-ltb, leb-true, leb-false}
 use Rattle.cofj.specs.Values.{Graph, make}
 use Rattle.cofj.specs.Running as language
 use Rattle.cofj.specs.Running.{value, stopped, sized}
-use Rattle.classes.specs.Machine.{pick}
-use Rattle.classes.specs.Figures.{tableSize, rowSize}
+use Rattle.classes.specs.Figures.{rowSize}
 use Rattle.classes.specs.declared.shape.Shape.{Shape}
 use Rattle.classes.specs.declared.shape.Shape.the-variants as shape
-use Rattle.classes.specs.Shapes.{byteIn, shapeAt, shapeOf}
+use Rattle.classes.specs.Shapes.{shapeAt}
+use Rattle.classes.proofs.ShapeLaws.{Next, shape-next}
 use Rattle.values.specs.declared.ValueRef.{ValueRef}
 use Rattle.values.specs.declared.ValueRef.the-variants.{Object}
 use Rattle.values.specs.Layout.{valueOf}
@@ -52,40 +52,10 @@ use Rattle.evaluator.proofs.FitLaws.{fit-inner, fit-list, list-fit}
 use Rattle.evaluator.proofs.EvalLaws.{eval-zero, eval-nothing, eval-this, eval-res, eval-param, eval-at-field, eval-at-call, eval-at-new}
 use Rattle.evaluator.proofs.ListLaws.{list-zero, new-other, new-many, new-is}
 
--- ---- the place after an expression's first bytes is a place of the table, or just past it
-abbrev Near : Shape → Type 0
-Near (shape.This next) = next < placeLimit
-Near (shape.Result next) = next < placeLimit
-Near (shape.Parameter k next) = next < placeLimit
-Near (shape.Field f next) = next < placeLimit
-Near (shape.Call m n next) = next < placeLimit
-Near (shape.New c n next) = next < placeLimit
-Near shape.Nothing = Unit {0}
-
-either : (b : Bool) (x y : Shape) → Near x → Near y → Near (pick b x y)
-either true x y a c = a
-either false x y a c = c
-
-near-of : (b k n at : ℕ) → at < 25616 → Near (shapeOf b k n at)
-near-of b k n at l =
-    either (eqb b 0x40) (shape.This (at + 1)) _ (let z : at + 1 < placeLimit = omega arith in z)
-    (either (eqb b 0x41) (shape.Result (at + 1)) _ (let z : at + 1 < placeLimit = omega arith in z)
-    (either (eqb b 0x42) (shape.Parameter k (at + 2)) _ (let z : at + 2 < placeLimit = omega arith in z)
-    (either (eqb b 0x43) (shape.Field k (at + 2)) _ (let z : at + 2 < placeLimit = omega arith in z)
-    (either (eqb b 0x44) (shape.Call k n (at + 3)) _ (let z : at + 3 < placeLimit = omega arith in z)
-    (either (eqb b 0x45) (shape.New k n (at + 3)) shape.Nothing (let z : at + 3 < placeLimit = omega arith in z) tt)))))
-
-near : (T : List ℕ) (at : ℕ) → Near (shapeAt T at)
-unfolding shapeAt
-near T at = go (ltb at tableSize) refl
-  where
-    go : (b : Bool) → ltb at tableSize ≡ b → Near (pick b (shapeOf (getD T at 0) (byteIn T (at + 1)) (byteIn T (at + 2)) at) shape.Nothing)
-    go true q = near-of (getD T at 0) (byteIn T (at + 1)) (byteIn T (at + 2)) at (ltb-true at tableSize q)
-    go false q = tt
-
+-- ---- the place after an expression's first bytes
 module _ (T : List ℕ) (at : ℕ) (s : Shape) (es : s ≡ shapeAt T at) where
-  ahead : (q : Shape) → s ≡ q → Near q
-  ahead q e = subst Near (sym es ∙ e) (near T at)
+  ahead : (q : Shape) → s ≡ q → Next (λ k. k < placeLimit) q
+  ahead q e = subst (Next (λ k. k < placeLimit)) (sym es ∙ e) (shape-next (λ k. k < placeLimit) T at (λ k l h. let z : at + k < placeLimit = omega arith in z))
 
   pub next-this : (next : ℕ) → s ≡ shape.This next → next < placeLimit
   next-this next e = ahead (shape.This next) e

@@ -8,7 +8,7 @@ use mathlib.Core.List.{List, [], _∷_}
 use mathlib.Core.Option.{Option, none, some}
 use lib.Dec.{eqb, leb, ltb}
 use lib.ListN.{length, drop, getD}
-use borrow.Author.Tests.{le-leb, lt-leb, le-ltb, lt-ltb, eq-eqb, ne-eqb, eqb-true, eqb-false, leb-true, leb-false, ltb-true, ltb-false}
+use borrow.Author.Tests.{le-leb, lt-leb, le-ltb, eq-eqb, ne-eqb, eqb-true, leb-true, leb-false, ltb-true, ltb-false}
 use Rattle.cofj.specs.Partial.{_>>=_}
 use Rattle.cofj.specs.Syntax.{Expr, field, call, new, done, also, ty}
 use Rattle.cofj.specs.Frames.{Got, Reader, got, type, types, exprsBy, fieldAfter, callAfter, newAfter, exprAfter, expr}
@@ -17,7 +17,9 @@ use Rattle.cofj.proofs.FrameRound.{expr-back, types-back}
 use Rattle.lineform.specs.declared.exprs.Sign.{Sign}
 use Rattle.lineform.specs.declared.exprs.ReadExpr.{ReadExpr}
 use Rattle.lineform.specs.declared.exprs.ReadExpr.the-variants.{Next, Refused}
-use Rattle.lineform.specs.Answers.{endOf, endIn, pick, after, noSign, partsAt, countedSign, longSign, signAt, endBy}
+use Rattle.lineform.specs.Signs.{thisSign, resSign, parameterSign, fieldSign, callSign, newSign, row, InTable}
+use Rattle.lineform.specs.Answers.{endOf, endIn, pick, after, noSign, signOf, signAt, endBy}
+use Rattle.lineform.proofs.SignLaws.{row-this, row-res, row-parameter, row-field, row-call, row-new, NoSign, which-sign, row-missing}
 use Rattle.lineform.proofs.Ends.{more, no-more, tail-at, Leaves, same-end, end-here, number-refused, number-next}
 
 pub expr-leaves : (s : List ℕ) (left at : ℕ) → Leaves s (expr left (drop at s))
@@ -31,18 +33,6 @@ empty : (left : ℕ) → expr left [] ≡ none
 unfolding expr
 empty zero = refl
 empty (suc left) = refl
-
--- one of the signs that need more bytes, alone
-alone : (one : Reader Expr) (b : ℕ) → 0x42 ≤ b → exprAfter one b [] ≡ none
-unfolding exprAfter fieldAfter callAfter newAfter
-alone one b h = rw (ne-eqb b 0x40 (λ e. omega arith), ne-eqb b 0x41 (λ e. omega arith), exprAfter) (go (eqb b 0x42) (eqb b 0x43) (eqb b 0x44) (eqb b 0x45))
-  where
-    go : (x y z w : Bool) → _≡_ {A = Option (Got Expr)} (cond x none (cond y none (cond z none (cond w none none)))) none
-    go true y z w = refl
-    go false true z w = refl
-    go false false true w = refl
-    go false false false true = refl
-    go false false false false = refl
 
 step : (s : List ℕ) (left at : ℕ) → 1 ≤ left → at < length s → expr left (drop at s) ≡ exprAfter (expr (left - 1)) (getD s at 0) (drop (at + 1) s)
 unfolding expr
@@ -83,245 +73,141 @@ list-none : (s : List ℕ) (left at : ℕ) → at ≤ length s → at ≡ endIn 
 unfolding exprsBy
 list-none s left at h = end-here s at h
 
-module _ (s : List ℕ) (left at : ℕ) where
-  pub at-end : length s ≤ at → length s + 1 ≡ endIn s (expr left (drop at s))
-  at-end h = rw (no-more s at h, empty left)
-
-  module _ (nz : 1 ≤ left) (h : at < length s) where
-    -- the first byte is none of an expression
-    no-sign : ((getD s at 0 ≡ 0x40) → ⊥) → ((getD s at 0 ≡ 0x41) → ⊥) → ((getD s at 0 ≡ 0x42) → ⊥) → ((getD s at 0 ≡ 0x43) → ⊥) → ((getD s at 0 ≡ 0x44) → ⊥)
-        → ((getD s at 0 ≡ 0x45) → ⊥) → length s + 1 ≡ endIn s (expr left (drop at s))
-    unfolding exprAfter
-    no-sign n0 n1 n2 n3 n4 n5 =
-        let e : exprAfter (expr (left - 1)) (getD s at 0) (drop (at + 1) s) ≡ none = rw (ne-eqb _ _ n0, ne-eqb _ _ n1, ne-eqb _ _ n2, ne-eqb _ _ n3, ne-eqb _ _ n4, ne-eqb _ _ n5, exprAfter) in
-        rw (step s left at nz h, e)
-
-    pub at-low : getD s at 0 < 0x42 → getD s at 0 < 0x40 → length s + 1 ≡ endIn s (expr left (drop at s))
-    at-low _ l = no-sign (λ e. omega arith) (λ e. omega arith) (λ e. omega arith) (λ e. omega arith) (λ e. omega arith) (λ e. omega arith)
-
-    pub at-leaf : getD s at 0 < 0x42 → 0x40 ≤ getD s at 0 → at + 1 ≡ endIn s (expr left (drop at s))
-    unfolding exprAfter
-    at-leaf l k = go (eqb (getD s at 0) 0x40) refl
-      where
-        go : (b : Bool) → eqb (getD s at 0) 0x40 ≡ b → at + 1 ≡ endIn s (expr left (drop at s))
-        go true q = rw (step s left at nz h, eqb-true (getD s at 0) 0x40 q) (end-here s (at + 1) (omega arith))
-        go false q =
-            let n = eqb-false (getD s at 0) 0x40 q in
-            let e : getD s at 0 ≡ 0x41 = omega arith in
-            rw (step s left at nz h, e) (end-here s (at + 1) (omega arith))
-
-    module _ (high : 0x42 ≤ getD s at 0) where
-      -- nothing follows the first byte
-      pub at-short : length s ≤ at + 1 → length s + 1 ≡ endIn s (expr left (drop at s))
-      at-short k =
-          let e : exprAfter (expr (left - 1)) (getD s at 0) [] ≡ none = alone (expr (left - 1)) (getD s at 0) high in
-          rw (step s left at nz h, no-more s (at + 1) k, e)
-
-      module _ (h1 : at + 1 < length s) where
-        pub at-param : getD s at 0 ≡ 0x42 → at + 1 + 1 ≡ endIn s (expr left (drop at s))
-        unfolding exprAfter
-        at-param b = rw (step s left at nz h, b, more s (at + 1) h1) (end-here s (at + 1 + 1) (omega arith))
-
-        pub at-field : (r : ℕ) → getD s at 0 ≡ 0x43 → r ≡ endIn s (exprsBy (expr (left - 1)) 1 (drop (at + 1 + 1) s)) → r ≡ endIn s (expr left (drop at s))
-        unfolding exprAfter
-        at-field r b e = rw (step s left at nz h, b, more s (at + 1) h1, e) (sym (one-part s (expr (left - 1)) (getD s (at + 1) 0) (drop (at + 1 + 1) s)))
-
-        pub at-high : 0x45 < getD s at 0 → length s + 1 ≡ endIn s (expr left (drop at s))
-        at-high l = no-sign (λ e. omega arith) (λ e. omega arith) (λ e. omega arith) (λ e. omega arith) (λ e. omega arith) (λ e. omega arith)
-
-        module _ (n2 : (getD s at 0 ≡ 0x42) → ⊥) (n3 : (getD s at 0 ≡ 0x43) → ⊥) (top : getD s at 0 ≤ 0x45) where
-          -- a call or a new object
-          which : (P : Type 0) → (getD s at 0 ≡ 0x44 → P) → (getD s at 0 ≡ 0x45 → P) → P
-          which P of-call of-new = go (eqb (getD s at 0) 0x44) refl
-            where
-              go : (b : Bool) → eqb (getD s at 0) 0x44 ≡ b → P
-              go true q = of-call (eqb-true (getD s at 0) 0x44 q)
-              go false q = let n = eqb-false (getD s at 0) 0x44 q in of-new (omega arith)
-
-          pub at-short2 : length s ≤ at + 1 + 1 → length s + 1 ≡ endIn s (expr left (drop at s))
-          unfolding exprAfter callAfter newAfter
-          at-short2 k =
-              which _ (λ b. rw (step s left at nz h, b, more s (at + 1) h1, no-more s (at + 1 + 1) k))
-              (λ b. rw (step s left at nz h, b, more s (at + 1) h1, no-more s (at + 1 + 1) k))
-
-          module _ (h2 : at + 1 + 1 < length s) (x : ℕ) (ex : x ≡ getD s (at + 1 + 1) 0 + (0x45 - getD s at 0)) where
-            pub at-over : 4 < x → length s + 1 ≡ endIn s (expr left (drop at s))
-            unfolding exprAfter callAfter newAfter
-            at-over k =
-                which _ (λ b. rw (step s left at nz h, b, more s (at + 1) h1, more s (at + 1 + 1) h2, lt-leb (getD s (at + 1 + 1) 0) 3 (omega arith)))
-                (λ b. rw (step s left at nz h, b, more s (at + 1) h1, more s (at + 1 + 1) h2, lt-leb (getD s (at + 1 + 1) 0) 4 (omega arith)))
-
-            pub at-parts : (r : ℕ) → x ≤ 4 → r ≡ endIn s (exprsBy (expr (left - 1)) (x) (drop (at + 1 + 1 + 1) s)) → r ≡ endIn s (expr left (drop at s))
-            unfolding exprAfter
-            at-parts r k e =
-                which _ (λ b.
-                let n : x ≡ suc (getD s (at + 1 + 1) 0) = omega arith in
-                rw (step s left at nz h, b, more s (at + 1) h1, more s (at + 1 + 1) h2, e, n)
-                (sym (call-parts s (expr (left - 1)) (getD s (at + 1) 0) (getD s (at + 1 + 1) 0) (drop (at + 1 + 1 + 1) s) (omega arith))))
-                (λ b.
-                let n : x ≡ getD s (at + 1 + 1) 0 = omega arith in
-                rw (step s left at nz h, b, more s (at + 1) h1, more s (at + 1 + 1) h2, e, n)
-                (sym (new-parts s (expr (left - 1)) (getD s (at + 1) 0) (getD s (at + 1 + 1) 0) (drop (at + 1 + 1 + 1) s) (omega arith))))
-
--- ---- signs: one law for each return
-pub counted-high : (s : List ℕ) (at b : ℕ) (g : Sign) → 0x45 < b → g ≡ noSign s → g ≡ countedSign s at b
-unfolding countedSign
-counted-high s at b g l e = rw (lt-ltb 0x45 b l) e
-
-module _ (s : List ℕ) (at b : ℕ) (top : b ≤ 0x45) where
-  counted-short : (g : Sign) → length s ≤ at + 1 + 1 → g ≡ noSign s → g ≡ countedSign s at b
-  unfolding countedSign
-  counted-short g k e = rw (le-ltb 0x45 b top, le-leb (length s) (at + 1 + 1) k) e
-
-  module _ (h : at + 1 + 1 < length s) (n : ℕ) (en : n ≡ getD s (at + 1 + 1) 0 + (0x45 - b)) where
-    pub counted-over : (g : Sign) → 4 < n → g ≡ noSign s → g ≡ countedSign s at b
-    unfolding countedSign
-    counted-over g k e = rw (le-ltb 0x45 b top, lt-leb (length s) (at + 1 + 1) h, ← en, lt-ltb 4 n k) e
-
-    pub counted-parts : n ≤ 4 → after (at + 1 + 1 + 1) n ≡ countedSign s at b
-    unfolding countedSign
-    counted-parts k = rw (le-ltb 0x45 b top, lt-leb (length s) (at + 1 + 1) h, ← en, le-ltb 4 n k)
-
-module _ (s : List ℕ) (at : ℕ) where
-  pub sign-end : (g : Sign) → length s ≤ at → g ≡ noSign s → g ≡ signAt s at
-  unfolding signAt
-  sign-end g h e = rw (le-leb (length s) at h) e
-
-  module _ (h : at < length s) where
-    pub sign-low : (g : Sign) → getD s at 0 < 0x42 → getD s at 0 < 0x40 → g ≡ noSign s → g ≡ signAt s at
-    unfolding signAt
-    sign-low g l k e = rw (lt-leb (length s) at h, lt-ltb (getD s at 0) 0x42 l, lt-ltb (getD s at 0) 0x40 k) e
-
-    pub sign-leaf : getD s at 0 < 0x42 → 0x40 ≤ getD s at 0 → after (at + 1) 0 ≡ signAt s at
-    unfolding signAt
-    sign-leaf l k = rw (lt-leb (length s) at h, lt-ltb (getD s at 0) 0x42 l, le-ltb (getD s at 0) 0x40 k)
-
-    module _ (l : 0x42 ≤ getD s at 0) where
-      long : signAt s at ≡ longSign s at (getD s at 0)
-      unfolding signAt
-      long = rw (lt-leb (length s) at h, le-ltb (getD s at 0) 0x42 l)
-
-      pub sign-short : (g : Sign) → length s ≤ at + 1 → g ≡ noSign s → g ≡ signAt s at
-      unfolding longSign
-      sign-short g k e = rw (long, le-leb (length s) (at + 1) k) e
-
-      module _ (h1 : at + 1 < length s) where
-        counted-one : 0x43 < getD s at 0 → signAt s at ≡ countedSign s at (getD s at 0)
-        unfolding longSign
-        counted-one k = rw (long, lt-leb (length s) (at + 1) h1, ne-eqb (getD s at 0) 0x42 (λ e. omega arith), ne-eqb (getD s at 0) 0x43 (λ e. omega arith))
-
-        pub sign-small : (p : ℕ) → getD s at 0 ≤ 0x43 → p ≡ getD s at 0 - 0x42 → after (at + 1 + 1) p ≡ signAt s at
-        unfolding longSign
-        sign-small p k e = sym (long ∙ rw (lt-leb (length s) (at + 1) h1) (param (eqb (getD s at 0) 0x42) refl))
-          where
-            one : (q : ℕ) → p ≡ q → after (at + 1 + 1) q ≡ after (at + 1 + 1) p
-            one q e = rw e
-
-            field : ((getD s at 0 ≡ 0x42) → ⊥) → (z : Bool) → eqb (getD s at 0) 0x43 ≡ z → pick z (after (at + 1 + 1) 1) (countedSign s at (getD s at 0)) ≡ after (at + 1 + 1) p
-            field n2 true q = let b = eqb-true (getD s at 0) 0x43 q in one 1 (omega arith)
-            field n2 false q = let n3 = eqb-false (getD s at 0) 0x43 q in absurd (omega arith)
-
-            param : (z : Bool) → eqb (getD s at 0) 0x42 ≡ z
-                → pick z (after (at + 1 + 1) 0) (pick (eqb (getD s at 0) 0x43) (after (at + 1 + 1) 1) (countedSign s at (getD s at 0))) ≡ after (at + 1 + 1) p
-            param true q = let b = eqb-true (getD s at 0) 0x42 q in one 0 (omega arith)
-            param false q = field (eqb-false (getD s at 0) 0x42 q) (eqb (getD s at 0) 0x43) refl
-
-        pub sign-cut : (g : Sign) → length s - 2 ≤ at → 0x43 < getD s at 0 → g ≡ noSign s → g ≡ signAt s at
-        sign-cut g c k e = high (ltb 0x45 (getD s at 0)) refl
-          where
-            high : (z : Bool) → ltb 0x45 (getD s at 0) ≡ z → g ≡ signAt s at
-            high true q = counted-high s at (getD s at 0) g (ltb-true 0x45 (getD s at 0) q) e ∙ sym (counted-one k)
-            high false q = counted-short s at (getD s at 0) (ltb-false 0x45 (getD s at 0) q) g (omega arith) e ∙ sym (counted-one k)
-
--- the same where three bytes are left
-module _ (s : List ℕ) (at w : ℕ) (ew : w ≡ length s - 2) (h : at < w) where
-  inside : at < length s
-  inside = omega arith
-
-  more-inside : at + 1 < length s
-  more-inside = omega arith
-
-  pub whole-low : (g : Sign) → getD s at 0 < 0x42 → getD s at 0 < 0x40 → g ≡ noSign s → g ≡ signAt s at
-  whole-low = sign-low s at inside
-
-  pub whole-leaf : getD s at 0 < 0x42 → 0x40 ≤ getD s at 0 → after (at + 1) 0 ≡ signAt s at
-  whole-leaf = sign-leaf s at inside
-
-  pub whole-small : (p : ℕ) → getD s at 0 ≤ 0x43 → 0x42 ≤ getD s at 0 → p ≡ getD s at 0 - 0x42 → after (at + 1 + 1) p ≡ signAt s at
-  whole-small p k l = sign-small s at inside l more-inside p k
-
-  pub whole-counted : (g : Sign) → 0x43 < getD s at 0 → g ≡ countedSign s at (getD s at 0) → g ≡ signAt s at
-  whole-counted g k e = e ∙ sym (counted-one s at inside (omega arith) more-inside k)
+at-end : (s : List ℕ) (left at : ℕ) → length s ≤ at → length s + 1 ≡ endIn s (expr left (drop at s))
+at-end s left at h = rw (no-more s at h, empty left)
 
 -- an expression ends where its sign says
 abbrev ends : List ℕ → ℕ → Sign → ℕ
 ends s left g = endBy s left (g .next) (g .parts)
 
-module _ (s : List ℕ) (left at : ℕ) (nz : 1 ≤ left) where
-  module _ (h : at < length s) (l : 0x42 ≤ getD s at 0) (h1 : at + 1 < length s) where
-    by-counted : ((getD s at 0 ≡ 0x42) → ⊥) → ((getD s at 0 ≡ 0x43) → ⊥) → ends s left (countedSign s at (getD s at 0)) ≡ endIn s (expr left (drop at s))
-    unfolding countedSign endBy
-    by-counted n2 n3 = high (ltb 0x45 (getD s at 0)) refl
-      where
-        parts : getD s at 0 ≤ 0x45 → at + 1 + 1 < length s → partsAt s at (getD s at 0) ≤ 4 → (z : Bool) → eqb (partsAt s at (getD s at 0)) 0 ≡ z
-            → pick z (at + 1 + 1 + 1) (endIn s (exprsBy (expr (left - 1)) (partsAt s at (getD s at 0)) (drop (at + 1 + 1 + 1) s))) ≡ endIn s (expr left (drop at s))
-        parts t h2 k true q =
-            at-parts s left at nz h l h1 n2 n3 t h2 (partsAt s at (getD s at 0)) refl (at + 1 + 1 + 1) k
-            (rw (eqb-true (partsAt s at (getD s at 0)) 0 q) (list-none s (left - 1) (at + 1 + 1 + 1) (omega arith)))
-        parts t h2 k false q =
-            at-parts s left at nz h l h1 n2 n3 t h2 (partsAt s at (getD s at 0)) refl (endIn s (exprsBy (expr (left - 1)) (partsAt s at (getD s at 0)) (drop (at + 1 + 1 + 1) s))) k refl
+parts-after : (s : List ℕ) (left next p : ℕ) → next ≤ length s → endBy s left next p ≡ endIn s (exprsBy (expr (left - 1)) p (drop next s))
+unfolding endBy
+parts-after s left next p h = go (eqb p 0) refl
+  where
+    go : (b : Bool) → eqb p 0 ≡ b → pick b next (endIn s (exprsBy (expr (left - 1)) p (drop next s))) ≡ endIn s (exprsBy (expr (left - 1)) p (drop next s))
+    go true q = rw (eqb-true p 0 q) (list-none s (left - 1) next h)
+    go false q = refl
 
-        over : getD s at 0 ≤ 0x45 → at + 1 + 1 < length s → (z : Bool) → ltb 4 (partsAt s at (getD s at 0)) ≡ z
-            → ends s left (pick z (noSign s) (after (at + 1 + 1 + 1) (partsAt s at (getD s at 0)))) ≡ endIn s (expr left (drop at s))
-        over t h2 true q = at-over s left at nz h l h1 n2 n3 t h2 (partsAt s at (getD s at 0)) refl (ltb-true 4 (partsAt s at (getD s at 0)) q)
-        over t h2 false q = parts t h2 (ltb-false 4 (partsAt s at (getD s at 0)) q) (eqb (partsAt s at (getD s at 0)) 0) refl
+-- ---- an expression, by its sign
+module _ (s : List ℕ) (left at : ℕ) (nz : 1 ≤ left) (h : at < length s) where
+  abbrev sign : ℕ
+  sign = getD s at 0
 
-        short : getD s at 0 ≤ 0x45 → (z : Bool) → leb (length s) (at + 1 + 1) ≡ z
-            → ends s left (pick z (noSign s) (pick (ltb 4 (partsAt s at (getD s at 0))) (noSign s) (after (at + 1 + 1 + 1) (partsAt s at (getD s at 0))))) ≡ endIn s (expr left (drop at s))
-        short t true q = at-short2 s left at nz h l h1 n2 n3 t (leb-true (length s) (at + 1 + 1) q)
-        short t false q = over t (leb-false (length s) (at + 1 + 1) q) (ltb 4 (partsAt s at (getD s at 0))) refl
+  abbrev number : ℕ
+  number = getD s (at + 2) 0
 
-        high : (z : Bool) → ltb 0x45 (getD s at 0) ≡ z
-            → ends s left (pick z (noSign s) (pick (leb (length s) (at + 1 + 1)) (noSign s) (pick (ltb 4 (partsAt s at (getD s at 0))) (noSign s) (after (at + 1 + 1 + 1) (partsAt s at (getD s at 0)))))) ≡ endIn s (expr left (drop at s))
-        high true q = at-high s left at nz h l h1 (ltb-true 0x45 (getD s at 0) q)
-        high false q = short (ltb-false 0x45 (getD s at 0) q) (leb (length s) (at + 1 + 1)) refl
+  abbrev end : ℕ
+  end = endIn s (expr left (drop at s))
 
-  by-long : (h : at < length s) (l : 0x42 ≤ getD s at 0) → ends s left (longSign s at (getD s at 0)) ≡ endIn s (expr left (drop at s))
-  unfolding longSign endBy
-  by-long h l = short (leb (length s) (at + 1)) refl
+  abbrev one : Reader Expr
+  one = expr (left - 1)
+
+  -- the two bytes after the sign
+  second : at + 1 < length s → drop (at + 1) s ≡ getD s (at + 1) 0 ∷ drop (at + 2) s
+  second h1 = more s (at + 1) h1 ∙ ap (λ (k : ℕ). getD s (at + 1) 0 ∷ drop k s) (let z : at + 1 + 1 ≡ at + 2 = omega arith in z)
+
+  third : at + 2 < length s → drop (at + 2) s ≡ number ∷ drop (at + 3) s
+  third h2 = more s (at + 2) h2 ∙ ap (λ (k : ℕ). number ∷ drop k s) (let z : at + 2 + 1 ≡ at + 3 = omega arith in z)
+
+  -- what a sign of k bytes with p expressions must say: bytes of it are missing, the expressions are too many, or they are read
+  record Told (k p : ℕ) : Type 0 where
+    missing : length s < at + k → length s + 1 ≡ end
+    many : at + k ≤ length s → 4 < p → length s + 1 ≡ end
+    read : at + k ≤ length s → p ≤ 4 → endIn s (exprsBy one p (drop (at + k) s)) ≡ end
+
+  told : (k p : ℕ) → InTable sign number (row k p) → (k ≡ 0 → ⊥) → Told k p → ends s left (signAt s at) ≡ end
+  unfolding signAt signOf endBy
+  told k p e nk w =
+      rw (lt-leb (length s) at h, ← (e .is), ne-eqb k 0 nk) (short (ltb (length s - at) k) refl)
     where
-      field-one : at + 1 < length s → ((getD s at 0 ≡ 0x42) → ⊥) → (z : Bool) → eqb (getD s at 0) 0x43 ≡ z
-          → ends s left (pick z (after (at + 1 + 1) 1) (countedSign s at (getD s at 0))) ≡ endIn s (expr left (drop at s))
-      field-one h1 n2 true q = at-field s left at nz h l h1 (endIn s (exprsBy (expr (left - 1)) 1 (drop (at + 1 + 1) s))) (eqb-true (getD s at 0) 0x43 q) refl
-      field-one h1 n2 false q = by-counted h l h1 n2 (eqb-false (getD s at 0) 0x43 q)
+      over : at + k ≤ length s → (z : Bool) → ltb 4 p ≡ z → ends s left (pick z (noSign s) (after (at + k) p)) ≡ end
+      over l true q = w .many l (ltb-true 4 p q)
+      over l false q = parts-after s left (at + k) p l ∙ w .read l (ltb-false 4 p q)
 
-      param-one : at + 1 < length s → (z : Bool) → eqb (getD s at 0) 0x42 ≡ z
-          → ends s left (pick z (after (at + 1 + 1) 0) (pick (eqb (getD s at 0) 0x43) (after (at + 1 + 1) 1) (countedSign s at (getD s at 0)))) ≡ endIn s (expr left (drop at s))
-      param-one h1 true q = at-param s left at nz h l h1 (eqb-true (getD s at 0) 0x42 q)
-      param-one h1 false q = field-one h1 (eqb-false (getD s at 0) 0x42 q) (eqb (getD s at 0) 0x43) refl
+      short : (z : Bool) → ltb (length s - at) k ≡ z → ends s left (pick z (noSign s) (pick (ltb 4 p) (noSign s) (after (at + k) p))) ≡ end
+      short true q = w .missing (let m = ltb-true (length s - at) k q in omega arith)
+      short false q = over (let m = ltb-false (length s - at) k q in omega arith) (ltb 4 p) refl
 
-      short : (z : Bool) → leb (length s) (at + 1) ≡ z
-          → ends s left (pick z (noSign s) (pick (eqb (getD s at 0) 0x42) (after (at + 1 + 1) 0) (pick (eqb (getD s at 0) 0x43) (after (at + 1 + 1) 1) (countedSign s at (getD s at 0))))) ≡ endIn s (expr left (drop at s))
-      short true q = at-short s left at nz h l (leb-true (length s) (at + 1) q)
-      short false q = param-one (leb-false (length s) (at + 1) q) (eqb (getD s at 0) 0x42) refl
+  -- this and res have nothing after them
+  this-told : sign ≡ thisSign → Told 1 0
+  unfolding exprAfter exprsBy
+  this-told e = record { missing = λ m. absurd (omega arith); many = λ l m. absurd (omega arith); read = λ l m. rw (step s left at nz h, e) }
 
-  pub sign-is : ends s left (signAt s at) ≡ endIn s (expr left (drop at s))
-  unfolding signAt endBy
-  sign-is = start (leb (length s) at) refl
+  res-told : sign ≡ resSign → Told 1 0
+  unfolding exprAfter exprsBy
+  res-told e = record { missing = λ m. absurd (omega arith); many = λ l m. absurd (omega arith); read = λ l m. rw (step s left at nz h, e) }
+
+  -- a parameter and a field have a byte
+  parameter-told : sign ≡ parameterSign → Told 2 0
+  unfolding exprAfter exprsBy
+  parameter-told e = record {
+    missing = λ m. rw (step s left at nz h, e, no-more s (at + 1) (let z : length s ≤ at + 1 = omega arith in z));
+    many = λ l m. absurd (omega arith);
+    read = λ l m. rw (step s left at nz h, e, second (let z : at + 1 < length s = omega arith in z));
+  }
+
+  field-told : sign ≡ fieldSign → Told 2 1
+  unfolding exprAfter fieldAfter
+  field-told e = record {
+    missing = λ m. rw (step s left at nz h, e, no-more s (at + 1) (let z : length s ≤ at + 1 = omega arith in z));
+    many = λ l m. absurd (omega arith);
+    read = λ l m. rw (step s left at nz h, e, second (let z : at + 1 < length s = omega arith in z)) (sym (one-part s one (getD s (at + 1) 0) (drop (at + 2) s)));
+  }
+
+  -- a call and a new object have two
+  cut : (f : Reader Expr) → f [] ≡ none → ((m : ℕ) → f (m ∷ []) ≡ none) → length s < at + 3 → f (drop (at + 1) s) ≡ none
+  cut f e0 e1 l = go (leb (length s) (at + 1)) refl
     where
-      low : at < length s → getD s at 0 < 0x42 → (z : Bool) → ltb (getD s at 0) 0x40 ≡ z → ends s left (pick z (noSign s) (after (at + 1) 0)) ≡ endIn s (expr left (drop at s))
-      low h l true q = at-low s left at nz h l (ltb-true (getD s at 0) 0x40 q)
-      low h l false q = at-leaf s left at nz h l (ltb-false (getD s at 0) 0x40 q)
+      go : (z : Bool) → leb (length s) (at + 1) ≡ z → f (drop (at + 1) s) ≡ none
+      go true q = rw (no-more s (at + 1) (leb-true (length s) (at + 1) q)) e0
+      go false q = rw (second (leb-false (length s) (at + 1) q), no-more s (at + 2) (let z : length s ≤ at + 2 = omega arith in z)) (e1 (getD s (at + 1) 0))
 
-      first : at < length s → (z : Bool) → ltb (getD s at 0) 0x42 ≡ z
-          → ends s left (pick z (pick (ltb (getD s at 0) 0x40) (noSign s) (after (at + 1) 0)) (longSign s at (getD s at 0))) ≡ endIn s (expr left (drop at s))
-      first h true q = low h (ltb-true (getD s at 0) 0x42 q) (ltb (getD s at 0) 0x40) refl
-      first h false q = by-long h (ltb-false (getD s at 0) 0x42 q)
+  call-told : sign ≡ callSign → Told 3 (1 + number)
+  unfolding exprAfter callAfter
+  call-told e = record {
+    missing = λ m. rw (step s left at nz h, e, cut (callAfter one) refl (λ k. refl) m);
+    many = λ l m. rw (step s left at nz h, e, second (let z : at + 1 < length s = omega arith in z), third (let z : at + 2 < length s = omega arith in z), lt-leb number 3 (let z : 3 < number = omega arith in z));
+    read = λ l m.
+        rw (step s left at nz h, e, second (let z : at + 1 < length s = omega arith in z), third (let z : at + 2 < length s = omega arith in z), (let z : 1 + number ≡ suc number = omega arith in z))
+        (sym (call-parts s one (getD s (at + 1) 0) number (drop (at + 3) s) (let z : number ≤ 3 = omega arith in z)));
+  }
 
-      start : (z : Bool) → leb (length s) at ≡ z
-          → ends s left (pick z (noSign s) (pick (ltb (getD s at 0) 0x42) (pick (ltb (getD s at 0) 0x40) (noSign s) (after (at + 1) 0)) (longSign s at (getD s at 0)))) ≡ endIn s (expr left (drop at s))
-      start true q = at-end s left at (leb-true (length s) at q)
-      start false q = first (leb-false (length s) at q) (ltb (getD s at 0) 0x42) refl
+  new-told : sign ≡ newSign → Told 3 number
+  unfolding exprAfter newAfter
+  new-told e = record {
+    missing = λ m. rw (step s left at nz h, e, cut (newAfter one) refl (λ k. refl) m);
+    many = λ l m. rw (step s left at nz h, e, second (let z : at + 1 < length s = omega arith in z), third (let z : at + 2 < length s = omega arith in z), lt-leb number 4 m);
+    read = λ l m.
+        rw (step s left at nz h, e, second (let z : at + 1 < length s = omega arith in z), third (let z : at + 2 < length s = omega arith in z))
+        (sym (new-parts s one (getD s (at + 1) 0) number (drop (at + 3) s) m));
+  }
+
+  none-told : NoSign sign → ends s left (signAt s at) ≡ end
+  unfolding signAt signOf endBy exprAfter
+  none-told m =
+      let e : exprAfter one sign (drop (at + 1) s) ≡ none =
+      rw (ne-eqb _ _ (m .this), ne-eqb _ _ (m .res), ne-eqb _ _ (m .parameter), ne-eqb _ _ (m .field), ne-eqb _ _ (m .call), ne-eqb _ _ (m .new), exprAfter)
+      in
+      rw (lt-leb (length s) at h, ← (row-missing sign number m .is), le-ltb (length s - at) 0 (let z : 0 ≤ length s - at = omega arith in z), step s left at nz h, e)
+
+  in-line : ends s left (signAt s at) ≡ end
+  in-line =
+      which-sign sign _
+      (λ e. told 1 0 (row-this sign number e) (λ z. omega arith) (this-told e))
+      (λ e. told 1 0 (row-res sign number e) (λ z. omega arith) (res-told e))
+      (λ e. told 2 0 (row-parameter sign number e) (λ z. omega arith) (parameter-told e))
+      (λ e. told 2 1 (row-field sign number e) (λ z. omega arith) (field-told e))
+      (λ e. told 3 (1 + number) (row-call sign number e) (λ z. omega arith) (call-told e))
+      (λ e. told 3 number (row-new sign number e) (λ z. omega arith) (new-told e))
+      none-told
+
+pub sign-is : (s : List ℕ) (left at : ℕ) → 1 ≤ left → ends s left (signAt s at) ≡ endIn s (expr left (drop at s))
+unfolding signAt endBy
+sign-is s left at nz = go (leb (length s) at) refl
+  where
+    go : (z : Bool) → leb (length s) at ≡ z → ends s left (signAt s at) ≡ endIn s (expr left (drop at s))
+    go true q = rw (le-leb (length s) at (leb-true (length s) at q)) (at-end s left at (leb-true (length s) at q))
+    go false q = in-line s left at nz (leb-false (length s) at q)
 
 -- ---- an expression with its sign: one law for each return
 module _ (s : List ℕ) (left next parts : ℕ) where

@@ -139,7 +139,7 @@ eight s h =
     (more s 4 (omega arith) ∙ ap (λ (l : List ℕ). getD s 4 0 ∷ l) (more s 5 (omega arith)
     ∙ ap (λ (l : List ℕ). getD s 5 0 ∷ l) (more s 6 (omega arith) ∙ ap (λ (l : List ℕ). getD s 6 0 ∷ l) (more s 7 h))))
 
-types-length : (us : List Ty) → length (typesBytes us) ≡ 2 * length us
+pub types-length : (us : List Ty) → length (typesBytes us) ≡ 2 * length us
 types-length [] = refl
 types-length (u ∷ us) = let e = types-length us in omega arith
 

@@ -1,7 +1,9 @@
 pub mod Ends
 pub mod HexLaws
+pub mod SignLaws
 pub mod ExprLaws
 pub mod FrameLaws
+pub mod NoteLaws
 pub mod PackedLaws
 pub mod DecodeLaws
 pub mod LineLaws

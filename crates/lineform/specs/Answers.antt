@@ -2,28 +2,31 @@
 use Prim.Native.Nat.{ℕ, zero, suc, _+_, _*_, _-_, _<_, _≤_}
 use mathlib.Core.Path.{_≡_}
 use mathlib.Core.Bool.{Bool, true, false, _&&_}
-use mathlib.Core.List.{List, _++_}
+use mathlib.Core.List.{List, [], _∷_, _++_}
 use mathlib.Core.Option.{Option, none, some}
 use lib.Dec.{eqb, leb, ltb}
 use lib.ListN.{length, getD, set, drop}
-use Rattle.cofj.specs.Limits.{lineSize, textSize}
+use Rattle.cofj.specs.Limits.{lineSize, textSize, methodCount}
 use Rattle.cofj.specs.Partial.{_>>=_}
+use Rattle.cofj.specs.Syntax.{Method}
 use Rattle.cofj.specs.Text.{within, digit, lines}
-use Rattle.cofj.specs.Frames.{Got, exprsBy, expr, TextFrame, classFrame, methodFrame, mainFrame}
+use Rattle.cofj.specs.Frames.{Got, exprsBy, expr, TextFrame, classFrame, methodFrame, mainFrame, frames}
 use Rattle.cofj.specs.Tables.{Raw, ordered, few}
 use Rattle.cofj.specs.Writing.{codeOf}
 use Rattle.lineform.specs.declared.exprs.ReadExpr.{ReadExpr}
 use Rattle.lineform.specs.declared.exprs.ReadExpr.the-variants.{Next, Refused}
 use Rattle.lineform.specs.declared.exprs.Sign.{Sign}
 use Rattle.lineform.specs.declared.frames.Kind.{Kind}
-use Rattle.lineform.specs.declared.frames.Kind.the-variants.{Class, Method, Main}
+use Rattle.lineform.specs.declared.frames.Kind.the-variants as kind
 use Rattle.lineform.specs.declared.frames.Framed.{Framed}
 use Rattle.lineform.specs.declared.frames.Framed.the-variants.{Good, Bad}
 use Rattle.lineform.specs.declared.lines.Decoded.{Decoded}
 use Rattle.lineform.specs.declared.lines.Decoded.the-variants.{Packed as Filled, Refused as NoLines}
 use Rattle.lineform.specs.declared.lines.Ordered.{Ordered}
 use Rattle.lineform.specs.declared.lines.Ordered.the-variants.{Counts, Refused as NoOrder}
-use Rattle.lineform.specs.Packed.{packed}
+use Rattle.lineform.specs.declared.sign.SignRow.{SignRow}
+use Rattle.lineform.specs.Signs.{signRow}
+use Rattle.lineform.specs.Packed.{packed, unpack}
 
 -- a digit's value, and a number that no three bytes come to
 abbrev pub valueOf : Option ℕ → ℕ
@@ -83,34 +86,30 @@ after next parts = record { next = next; parts = parts }
 abbrev pub noSign : List ℕ → Sign
 noSign s = after (length s + 1) 0
 
--- how many expressions a call or a new object with the sign b has; a call has its receiver besides
-abbrev pub partsAt : List ℕ → ℕ → ℕ → ℕ
-partsAt s at b = getD s (at + 1 + 1) 0 + (0x45 - b)
+-- by its row in the table; an expression has at most four parts
+unfoldable pub signOf : List ℕ → ℕ → SignRow → Sign
+signOf s at g = pick (eqb (g .size) 0) (noSign s) (pick (ltb 4 (g .parts)) (noSign s) (after (at + g .size) (g .parts)))
 
-unfoldable pub countedSign : List ℕ → ℕ → ℕ → Sign
-countedSign s at b =
-    pick (ltb 0x45 b) (noSign s) (pick (leb (length s) (at + 1 + 1)) (noSign s) (pick (ltb 4 (partsAt s at b)) (noSign s) (after (at + 1 + 1 + 1) (partsAt s at b))))
-
-unfoldable pub longSign : List ℕ → ℕ → ℕ → Sign
-unfolding countedSign
-longSign s at b =
-    pick (leb (length s) (at + 1)) (noSign s) (pick (eqb b 0x42) (after (at + 1 + 1) 0) (pick (eqb b 0x43) (after (at + 1 + 1) 1) (countedSign s at b)))
+abbrev pub rowAt : List ℕ → ℕ → SignRow
+rowAt s at = signRow (getD s at 0) (getD s (at + 2) 0)
 
 unfoldable pub signAt : List ℕ → ℕ → Sign
-unfolding longSign
-signAt s at =
-    pick (leb (length s) at) (noSign s)
-    (pick (ltb (getD s at 0) 0x42) (pick (ltb (getD s at 0) 0x40) (noSign s) (after (at + 1) 0)) (longSign s at (getD s at 0)))
+unfolding signOf
+signAt s at = pick (leb (length s) at) (noSign s) (pick (ltb (length s - at) (rowAt s at .size)) (noSign s) (signOf s at (rowAt s at)))
 
 -- where an expression ends whose sign tells these
 unfoldable pub endBy : List ℕ → ℕ → ℕ → ℕ → ℕ
 endBy s left next parts = pick (eqb parts 0) next (endIn s (exprsBy (expr (left - 1)) parts (drop next s)))
 
--- a method's kind has the place of its right expression in the line
+-- where the right expression of a method stands in its line
+abbrev pub rightAt : Method → ℕ
+rightAt d = 8 + 2 * length (d .params) + length (codeOf (d .left))
+
+-- a method's kind has that place
 abbrev pub kindOf : TextFrame → Kind
-kindOf (classFrame c) = Class
-kindOf (methodFrame d) = Method (8 + 2 * length (d .params) + length (codeOf (d .left)))
-kindOf (mainFrame e) = Main
+kindOf (classFrame c) = kind.Class
+kindOf (methodFrame d) = kind.Method (rightAt d)
+kindOf (mainFrame e) = kind.Main
 
 abbrev pub framedOf : Option TextFrame → Framed
 framedOf none = Bad
@@ -139,6 +138,39 @@ pub record Decodes (text out₀ out : List ℕ) (r : Decoded) : Type 0 where
 abbrev pub isSome : {A : Type 0} → Option A → Bool
 isSome none = false
 isSome (some a) = true
+
+-- ---- what is noted of the frames: where the right expressions of the methods stand
+pub data Noted : Type 0 where
+  noted : ℕ → List ℕ → Noted
+
+abbrev pub putRight : ℕ → ℕ → List ℕ → Noted
+putRight b m R = pick (leb methodCount m) (noted m R) (noted (m + 1) (set R m b))
+
+abbrev pub noteRight : Kind → ℕ → List ℕ → Noted
+noteRight kind.Class m R = noted m R
+noteRight (kind.Method b) m R = putRight b m R
+noteRight kind.Main m R = noted m R
+
+-- the place is a byte
+abbrev pub SmallKind : Kind → Type 0
+SmallKind kind.Class = Unit {0}
+SmallKind (kind.Method b) = b < 256
+SmallKind kind.Main = Unit {0}
+
+abbrev pub rightsOf : List TextFrame → List ℕ
+rightsOf [] = []
+rightsOf (classFrame c ∷ fs) = rightsOf fs
+rightsOf (methodFrame d ∷ fs) = rightAt d ∷ rightsOf fs
+rightsOf (mainFrame e ∷ fs) = rightsOf fs
+
+-- R has the places of the first methods
+pub record Rights (R : List ℕ) (fs : List TextFrame) : Type 0 where
+  pub at : (j : ℕ) → j < length (rightsOf fs) → j < methodCount → getD R j 0 ≡ getD (rightsOf fs) j 0
+
+-- the answer of `frames_good`, and what it notes
+pub record Framing (d : List ℕ) (g : Bool) (R : List ℕ) : Type 0 where
+  pub answer : g ≡ isSome (frames (unpack d))
+  pub rights : (fs : List TextFrame) → g ≡ true → frames (unpack d) ≡ some fs → Rights R fs
 
 -- the counts of classes and methods
 abbrev pub countsOf : Option Raw → Ordered

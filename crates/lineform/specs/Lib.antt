@@ -1,3 +1,4 @@
+pub mod Signs
 pub mod Packed
 pub mod Answers
 pub mod Writes

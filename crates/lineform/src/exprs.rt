@@ -4,7 +4,9 @@ ghost use mathlib.Core.Path.{_≡_};
 ghost use Prim.Native.Nat.{_≤_, _<_, _+_, _-_};
 ghost use lib.ListN.{length, drop};
 ghost use Rattle.cofj.specs.Frames.{expr, exprsBy, types};
-ghost use Rattle.lineform.specs.Answers.{endOf, endIn, noSign, countedSign, signAt, endBy};
+ghost use Rattle.lineform.specs.Signs.{signRow};
+ghost use Rattle.lineform.specs.Answers.{endOf, endIn, noSign, signOf, signAt, endBy};
+use crate::sign::sign_row;
 
 // Document 01's figures (cofj's Limits).
 pub const FIELD_COUNT: u8 = 4;
@@ -46,30 +48,21 @@ fn no_sign(s: &[u8]) -> Sign
     }
 }
 
-// The count that follows the sign of a call (44) or of a new object (45). A call has its receiver besides.
-fn counted(b: u8, n: u8) -> usize
-    requires { ⌜ b ≤ 0x45 ⌝ }
-    ensures { λ r. ⌜ r ≡ n + (0x45 - b) ⌝ }
+// The sign b at `at`, where n is the second byte after it, and what belongs to it stands in the line.
+fn sign_of(s: &[u8], at: usize, b: u8, n: u8) -> Sign
+    requires { ⌜ at + signRow b n .size ≤ length (now s) ⌝ }
+    ensures { λ r. ⌜ r ≡ signOf (now (s .entry)) at (signRow b n) ⌝ }
 {
-    (n as usize) + ((0x45 - b) as usize)
-}
-
-// The sign of a call or of a new object at `at`, which is b.
-fn counted_sign(s: &[u8], at: usize, b: u8) -> Sign
-    requires { ⌜ at + 1 + 1 < length (now s) ⌝ }
-    ensures { λ r. ⌜ r ≡ countedSign (now (s .entry)) at b ⌝ }
-{
-    if 0x45 < b {
+    let g = sign_row(b, n);
+    if g.size == 0 {
         return no_sign(s);
     }
-    let a2 = at + 1 + 1;
-    let n = counted(b, s[a2]);
-    if PART_COUNT < n {
+    if PART_COUNT < g.parts {
         return no_sign(s);
     }
     Sign {
-        next: a2 + 1,
-        parts: n,
+        next: at + g.size,
+        parts: g.parts,
     }
 }
 
@@ -83,7 +76,7 @@ fn whole_places(s: &[u8]) -> usize
     s.len() - 2
 }
 
-// The sign at `at`, which has at most one byte after it: none of those that take two.
+// The sign at `at`, which has at most one byte after it.
 fn last_sign(s: &[u8], at: usize) -> Sign
     requires { ⌜ length (now s) - 2 ≤ at ⌝ }
     ensures { λ r. ⌜ r ≡ signAt (now (s .entry)) at ⌝ }
@@ -92,23 +85,11 @@ fn last_sign(s: &[u8], at: usize) -> Sign
         return no_sign(s);
     }
     let b = s[at];
-    let a1 = at + 1;
-    if b < 0x42 {
-        if b < 0x40 {
-            return no_sign(s);
-        }
-        return Sign { next: a1, parts: 0 };
-    }
-    if s.len() <= a1 {
+    let g = sign_row(b, 0);
+    if s.len() - at < g.size {
         return no_sign(s);
     }
-    if 0x43 < b {
-        return no_sign(s);
-    }
-    Sign {
-        next: a1 + 1,
-        parts: wide(b - 0x42),
-    }
+    sign_of(s, at, b, 0)
 }
 
 // The sign at `at`.
@@ -118,23 +99,7 @@ pub fn sign_at(s: &[u8], at: usize) -> Sign
     if whole_places(s) <= at {
         return last_sign(s, at);
     }
-    let b = s[at];
-    if 0x43 < b {
-        return counted_sign(s, at, b);
-    }
-    if b < 0x42 {
-        if b < 0x40 {
-            return no_sign(s);
-        }
-        return Sign {
-            next: at + 1,
-            parts: 0,
-        };
-    }
-    Sign {
-        next: at + 1 + 1,
-        parts: wide(b - 0x42),
-    }
+    sign_of(s, at, s[at], s[at + 2])
 }
 
 // The place after the expression whose sign tells `next` and `parts`, nested at most `left` deep; one past the end of the line if there is none.

@@ -14,6 +14,7 @@ use crate::reader::AtPlace;
 use crate::reader::expr_at;
 use crate::reader::first_byte;
 
+// What a line is; of a method, where its right expression stands in the line.
 pub enum Kind {
     Class,
     Method(usize),

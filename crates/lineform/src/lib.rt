@@ -2,6 +2,7 @@
 // Not here: the rules of a class table, which compare frames with each other (refusals 4 and 5).
 pub mod digits; // the value of each character as a digit
 pub mod hex; // a byte of two digits
+pub mod sign; // the table of signs
 pub mod exprs; // types and expressions in a line, passed over
 pub mod reader; // a line with a place in it
 pub mod frames; // one line's frame

@@ -1,14 +1,16 @@
 // A text's lines, packed: each as its count of bytes and its bytes. Decoded (refusal 1), all framed (2), in order (3).
 // Not here: what a line says (frames).
 ghost use mathlib.Core.Path.{_≡_};
-ghost use Prim.Native.Nat.{_≤_, _+_, _-_, _/_};
+ghost use Prim.Native.Nat.{_<_, _≤_, _+_, _-_, _/_};
 ghost use lib.ListN.{length};
+ghost use Rattle.cofj.specs.Limits.{methodCount};
 ghost use Rattle.cofj.specs.Frames.{frames};
 ghost use Rattle.lineform.specs.Packed.{unpack, Packed, FramedLines};
-ghost use Rattle.lineform.specs.Answers.{Values, Roomy, Ahead, Puts, Decodable, Decodes, endsLine, isSome, orderOf};
+ghost use Rattle.lineform.specs.Answers.{Values, Roomy, Ahead, Puts, Decodable, Decodes, endsLine, noted, putRight, SmallKind, noteRight, Framing, orderOf};
 use crate::blocks::put_blocks;
 use crate::exprs::wide;
 use crate::frames::Framed;
+use crate::frames::Kind;
 use crate::frames::frame_kind;
 use crate::hex::pair;
 use crate::hex::values;
@@ -21,6 +23,9 @@ const LINE_SIZE: usize = 255;
 const CLASS_COUNT: usize = 32;
 
 const METHOD_COUNT: usize = 64;
+
+// how many right expressions are noted: one for each method that a text may have
+pub const RIGHTS: usize = METHOD_COUNT;
 
 pub const LF: u8 = 10;
 
@@ -139,19 +144,45 @@ fn decode_lines(text: &[u8], t: &[u16; 256], out: &mut [u8]) -> Decoded
     Decoded::Packed(o)
 }
 
-// Whether every line has a frame.
-pub fn frames_good(d: &[u8]) -> bool
-    requires { ⌜ Packed (now d) ⌝ }
-    ensures { λ r. ⌜ r ≡ isSome (frames (unpack (now (d .entry)))) ⌝ }
+// Notes that the right expression of method m stands at b of its line, if there is room. How many are noted then.
+fn put_right(b: usize, rights: &mut [u8; RIGHTS], m: usize) -> usize
+    requires { ⌜ b < 256 ⌝ }
+    ensures { λ r. ⌜ noted r (now (rights .exit)) ≡ putRight b m (now (rights .entry)) ⌝ }
+{
+    if RIGHTS <= m {
+        return m;
+    }
+    rights[m] = b as u8;
+    m + 1
+}
+
+// Notes the right expression of a line whose kind is k, if that is a method's. How many are noted then.
+fn note_right(k: Kind, rights: &mut [u8; RIGHTS], m: usize) -> usize
+    requires { ⌜ SmallKind k ⌝ }
+    ensures { λ r. ⌜ noted r (now (rights .exit)) ≡ noteRight k m (now (rights .entry)) ⌝ }
+{
+    match k {
+        Kind::Class => m,
+        Kind::Method(b) => put_right(b, rights, m),
+        Kind::Main => m,
+    }
+}
+
+// Whether every line has a frame. Notes where the right expression of each method stands in its line.
+pub fn frames_good(d: &[u8], rights: &mut [u8; RIGHTS]) -> bool
+    requires { ⌜ Packed (now d) × (length (now rights) ≡ methodCount) ⌝ }
+    ensures { λ r. ⌜ Framing (now (d .entry)) r (now (rights .exit)) ⌝ }
 {
     let mut i: usize = 0;
+    let mut m: usize = 0;
     while i < d.len() {
         let a = i + 1;
         let e = a + wide(d[i]);
         let f = frame_kind(&d[a..e]);
-        let Framed::Good(_k) = f else {
+        let Framed::Good(k) = f else {
             return false;
         };
+        m = note_right(k, rights, m);
         i = e;
     }
     true

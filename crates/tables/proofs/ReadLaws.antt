@@ -2,12 +2,11 @@
 use Prim.Native.Nat.{ℕ, zero, suc, _≤_, _<_}
 use native.Mathlib.Omega.{arith}
 use mathlib.Core.Path.{_≡_, refl, sym, ap, _∙_, subst}
-use mathlib.Core.Bool.{Bool, true, false, not, _&&_}
+use mathlib.Core.Bool.{Bool, true, false, not}
 use mathlib.Core.List.{List, [], _∷_, _++_}
 use mathlib.Core.Option.{Option, none, some, Option·none-ne-some}
-use lib.Dec.{leb}
 use lib.ListN.{length, getD, take, replicate}
-use borrow.Author.Tests.{not-true, not-false, leb-true}
+use borrow.Author.Tests.{not-true, not-false}
 use Rattle.cofj.specs.Limits.{classCount, methodCount}
 use Rattle.cofj.specs.Partial.{_>>=_, guard}
 use Rattle.cofj.specs.Syntax.{Table}
@@ -15,14 +14,14 @@ use Rattle.cofj.specs.Text.{lines, linesFrom}
 use Rattle.cofj.specs.Frames.{TextFrame, frames}
 use Rattle.cofj.specs.Tables.{Raw, ordered, few, table, overridden, overridesGood}
 use Rattle.cofj.specs.Reading.{Answer, refusal, read, _else_next_, readText}
-use Rattle.cofj.proofs.Partial.{opt-bind, guard-bind, and-true}
+use Rattle.cofj.proofs.Passed.{few-inv}
 use Rattle.cofj.proofs.TextRound.{Bytes, Lines, lines-bytes}
 use Rattle.lineform.specs.declared.lines.Decoded.{Decoded}
 use Rattle.lineform.specs.declared.lines.Decoded.the-variants.{Packed as Filled, Refused}
 use Rattle.lineform.specs.declared.lines.Ordered.{Ordered}
 use Rattle.lineform.specs.declared.lines.Ordered.the-variants.{Counts, Refused as NoOrder}
 use Rattle.lineform.specs.Packed.{packed, unpack, Packed, FramedLines}
-use Rattle.lineform.specs.Answers.{Roomy, Decodes, isSome, countsOf, orderOf}
+use Rattle.lineform.specs.Answers.{Roomy, Decodes, isSome, Framing, countsOf, orderOf}
 use Rattle.lineform.proofs.PackedLaws.{unpack-packed}
 use Rattle.lineform.proofs.Established.{decoded-lines, decoded-none, decoded-packed, good-framed}
 use Rattle.classes.specs.Layout.{layout}
@@ -100,7 +99,10 @@ module _ (text out₀ out : List ℕ) (d : Decoded) (w : ℕ) (h : Decodes text 
   of-lines k B q = subst (λ (r : Reading). Into r k B) (sym (reading-steps text ∙ ap afterLines (decoded-lines text out₀ out d w h e))) q
 
 -- ---- read_lines: refusals 2 and 3, or the counts
-module _ (S : List ℕ) (c : ByteLines S) (b : Bool) (eb : b ≡ isSome (frames (unpack S))) where
+module _ (S R : List ℕ) (c : ByteLines S) (b : Bool) (fr : Framing S b R) where
+  eb : b ≡ isSome (frames (unpack S))
+  eb = fr .answer
+
   pub no-frames : (B : List ℕ) → not b ≡ true → Into (afterFrames (frames (unpack S))) 2 B
   no-frames B f = into-refused (afterFrames (frames (unpack S))) 2 B (omega arith) (sym (go (frames (unpack S)) (sym eb ∙ not-true b f)))
     where
@@ -124,42 +126,35 @@ module _ (S : List ℕ) (c : ByteLines S) (b : Bool) (eb : b ≡ isSome (frames 
           go none y = ap afterOrder (sym y)
           go (some x) y = let k : o ≡ countsOf (some x) = counts (some x) y in let w : _≡_ {A = ℕ} 0 1 = cc in absurd (omega arith)
 
-      pub counted : (n m : ℕ) → o ≡ Counts n m → Counted S n m
+      pub counted : (n m : ℕ) → o ≡ Counts n m → Counted S R n m
       counted n m z = go (ordered (framed .found) >>= few) refl
         where
-          go : (p : Option Raw) → ordered (framed .found) >>= few ≡ p → Counted S n m
+          go : (p : Option Raw) → ordered (framed .found) >>= few ≡ p → Counted S R n m
           go none y = let k : o ≡ countsOf none = counts none y in let w : _≡_ {A = ℕ} 0 1 = cc in absurd (omega arith)
           go (some x) y =
               let k : o ≡ Counts (length (x .classes)) (length (x .methods)) = counts (some x) y in
               record {
                 raw = x;
-                lined = record { whole = c .whole; bytes = c .bytes; found = framed .found; read = framed .read; order = y };
+                lined = record { whole = c .whole; bytes = c .bytes; found = framed .found; read = framed .read; order = y; rights = fr .rights (framed .found) (not-false b f) (framed .read) };
                 classes = (let a : n ≡ length (x .classes) = cc in a);
                 methods = (let a : m ≡ length (x .methods) = cc in a);
               }
 
 -- ---- read_table: refusals 4 and 5, or the table
-module _ (S : List ℕ) (n m : ℕ) (c : Counted S n m) where
-  within : (n ≤ 32) × (m ≤ 64)
-  within =
-      let x = opt-bind (ordered (c .lined .found)) few (c .raw) (c .lined .order) in
-      let y = guard-bind (leb (length (x .0 .classes)) classCount && leb (length (x .0 .methods)) methodCount) (λ _. some (x .0)) (c .raw) (x .2) in
-      let q : x .0 ≡ c .raw = cc (y .1) in
-      let l = and-true (leb (length (x .0 .classes)) classCount) (leb (length (x .0 .methods)) methodCount) (y .0) in
-      let a = leb-true (length (x .0 .classes)) classCount (l .0) in
-      let b = leb-true (length (x .0 .methods)) methodCount (l .1) in
-      (subst (λ (k : ℕ). k ≤ 32) (ap (λ (k : Raw). length (k .classes)) q ∙ sym (c .classes)) a, subst (λ (k : ℕ). k ≤ 64) (ap (λ (k : Raw). length (k .methods)) q ∙ sym (c .methods)) b)
+module _ (S R : List ℕ) (n m : ℕ) (c : Counted S R n m) where
+  within : (length (c .raw .classes) ≤ classCount) × (length (c .raw .methods) ≤ methodCount)
+  within = let x = few-inv (ordered (c .lined .found)) (c .raw) (c .lined .order) in (x .1, x .2)
 
   pub few-classes : n ≤ 32
-  few-classes = within .0
+  few-classes = subst (λ (k : ℕ). k ≤ classCount) (sym (c .classes)) (within .0)
 
   pub few-methods : m ≤ 64
-  few-methods = within .1
+  few-methods = subst (λ (k : ℕ). k ≤ methodCount) (sym (c .methods)) (within .1)
 
   of-raw : afterTable (table (c .raw)) ≡ afterFrames (frames (unpack S))
   of-raw = sym (ap afterFrames (c .lined .read) ∙ ap afterOrder (c .lined .order))
 
-  module _ (Z B : List ℕ) (b : Bool) (built : Built S n m Z (placed b B)) (z : Zeros Z) where
+  module _ (Z B : List ℕ) (b : Bool) (built : Built S R n m Z (placed b B)) (z : Zeros Z) where
     pub no-table : not b ≡ true → Into (afterFrames (frames (unpack S))) 4 B
     no-table f = into-refused (afterFrames (frames (unpack S))) 4 B (omega arith) (sym (go (table (c .raw)) refl ∙ of-raw))
       where
@@ -189,7 +184,7 @@ module _ (S : List ℕ) (n m : ℕ) (c : Counted S n m) where
 
       module _ (g : Bool) (over : Overrides B g) where
         says : (t : Table) → table (c .raw) ≡ some t → B ≡ layout t → g ≡ overridesGood t (t .methods)
-        says t y l = over .says S (c .raw) t (c .lined) y l
+        says t y l = over .says S R (c .raw) t (c .lined) y l
 
         pub no-override : not g ≡ true → Into (afterFrames (frames (unpack S))) 5 B
         no-override h =

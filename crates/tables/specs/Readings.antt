@@ -66,9 +66,9 @@ pub record ByteLines (S : List ℕ) : Type 0 where
   pub whole : Packed S
   pub bytes : (i : ℕ) → getD S i 0 < 256
 
--- packed lines in order, with n classes and m methods
-pub record Counted (S : List ℕ) (n m : ℕ) : Type 0 where
+-- packed lines in order, with n classes and m methods, whose right expressions stand where R says
+pub record Counted (S R : List ℕ) (n m : ℕ) : Type 0 where
   pub raw : Raw
-  pub lined : Lined S raw
+  pub lined : Lined S R raw
   pub classes : n ≡ length (raw .classes)
   pub methods : m ≡ length (raw .methods)

@@ -6,6 +6,7 @@ use classes::overrides::overrides;
 use classes::places::SIZE;
 use lineform::lines::Decoded;
 use lineform::lines::Ordered;
+use lineform::lines::RIGHTS;
 use lineform::lines::decode;
 use lineform::lines::frames_good;
 use lineform::lines::order;
@@ -39,12 +40,12 @@ fn refused(k: u8) -> Reading
     }
 }
 
-// The table of packed lines in order, with n classes and m methods, in `bytes`: 0, or refusal 4 or 5.
-fn table_into(d: &[u8], n: u8, m: u8, bytes: &mut [u8; SIZE]) -> u8
-    requires { ⌜ Counted (now d) n m × Zeros (now bytes) ⌝ }
+// The table of packed lines in order, with n classes and m methods whose right expressions stand at `rights`, in `bytes`: 0, or refusal 4 or 5.
+fn table_into(d: &[u8], rights: &[u8; RIGHTS], n: u8, m: u8, bytes: &mut [u8; SIZE]) -> u8
+    requires { ⌜ Counted (now d) (now rights) n m × Zeros (now bytes) ⌝ }
     ensures { λ k. ⌜ Into (afterFrames (frames (unpack (now (d .entry))))) k (now (bytes .exit)) ⌝ }
 {
-    let good = place_table(d, n, m, bytes);
+    let good = place_table(d, rights, n, m, bytes);
     if !good {
         return 4;
     }
@@ -60,7 +61,8 @@ fn lines_into(d: &[u8], bytes: &mut [u8; SIZE]) -> u8
     requires { ⌜ ByteLines (now d) × Zeros (now bytes) ⌝ }
     ensures { λ k. ⌜ Into (afterFrames (frames (unpack (now (d .entry))))) k (now (bytes .exit)) ⌝ }
 {
-    let good = frames_good(d);
+    let mut rights = [0u8; RIGHTS];
+    let good = frames_good(d, &mut rights);
     if !good {
         return 2;
     }
@@ -68,7 +70,7 @@ fn lines_into(d: &[u8], bytes: &mut [u8; SIZE]) -> u8
     let Ordered::Counts(n, m) = o else {
         return 3;
     };
-    table_into(d, n, m, bytes)
+    table_into(d, &rights, n, m, bytes)
 }
 
 // The table of a text, in `bytes`, with room for its packed lines: 0, or its lowest refusal of 1 to 5.

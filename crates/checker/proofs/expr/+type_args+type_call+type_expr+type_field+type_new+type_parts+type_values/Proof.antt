@@ -32,6 +32,8 @@ use Rattle.checker.proofs.fits.result_type.Reads as result-type-reads
 use Rattle.checker.proofs.fits.value_fits.Reads as value-fits-reads
 use Rattle.checker.proofs.scope.found.Reads as found-reads
 use Rattle.classes.proofs.shape.byte_at.Reads as byte-at-reads
+use Rattle.lineform.proofs.sign.is_variable.Reads as is-variable-reads
+use Rattle.lineform.proofs.sign.past_sign.Reads as past-sign-reads
 use Rattle.classes.proofs.chain.field_total.Reads as field-total-reads
 use Rattle.classes.proofs.chain.field_type.Reads as field-type-reads
 use Rattle.checker.proofs.expr.+type_args+type_call+type_expr+type_field+type_new+type_parts+type_values.{statement}
@@ -114,7 +116,7 @@ abbrev type-call-claims : ℕ → type-call-lts.Claims
 type-call-claims t = (type-expr-below t, type-expr.Post, receiver-reads.Asked, receiver-reads.Learnt, type-args-below t, type-args.Post)
 
 abbrev type-expr-claims : ℕ → type-expr-lts.Claims
-type-expr-claims t = (type-var-reads.Asked, type-var-reads.Learnt, type-parts-below t, type-parts.Post)
+type-expr-claims t = (is-variable-reads.Asked, is-variable-reads.Learnt, type-var-reads.Asked, type-var-reads.Learnt, type-parts-below t, type-parts.Post)
 
 abbrev type-field-claims : ℕ → type-field-lts.Claims
 type-field-claims t = (type-expr-below t, type-expr.Post, field-type-reads.Asked, field-type-reads.Learnt, found-reads.Asked, found-reads.Learnt)
@@ -123,7 +125,7 @@ abbrev type-new-claims : ℕ → type-new-lts.Claims
 type-new-claims t = (field-total-reads.Asked, field-total-reads.Learnt, type-values-below t, type-values.Post)
 
 abbrev type-parts-claims : ℕ → type-parts-lts.Claims
-type-parts-claims t = (byte-at-reads.Asked, byte-at-reads.Learnt, type-field-below t, type-field.Post, type-call-below t, type-call.Post, type-new-below t, type-new.Post)
+type-parts-claims t = (byte-at-reads.Asked, byte-at-reads.Learnt, past-sign-reads.Asked, past-sign-reads.Learnt, type-field-below t, type-field.Post, type-call-below t, type-call.Post, type-new-below t, type-new.Post)
 
 abbrev type-values-claims : ℕ → type-values-lts.Claims
 type-values-claims t = (type-expr-below t, type-expr.Post, value-fits-reads.Asked, value-fits-reads.Learnt, stays-closed-reads.Asked, stays-closed-reads.Learnt)
@@ -172,6 +174,7 @@ pub +type-args+type-call+type-expr+type-field+type-new+type-parts+type-values-sp
     (λ c. search laws.at-past)
     (λ c. search needs)
     (λ c κs. search needs)
+    (λ c κs. search needs)
     (λ c. search laws.at-var)
     (λ c. search needs)
     (λ c κs. search needs)
@@ -193,15 +196,15 @@ pub +type-args+type-call+type-expr+type-field+type-new+type-parts+type-values-sp
     (λ t. type-parts-lts.spec (type-parts-claims t) (type-parts-at t) type-parts.Post
     (λ c. search needs)
     (λ c κs. search needs)
-    (λ c. search needs)
+    (λ c κs. search needs)
     (λ c κs. search needs)
     (λ c. search laws.parts-field)
     (λ c. search needs)
     (λ c κs. search needs)
-    (λ c. search needs)
+    (λ c κs. search needs)
     (λ c κs. search needs)
     (λ c. search laws.parts-call)
-    (λ c. search needs)
+    (λ c κs. search needs)
     (λ c κs. search needs)
     (λ c. search laws.parts-new)
     (λ c. search laws.parts-none))

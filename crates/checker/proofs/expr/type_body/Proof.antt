@@ -11,6 +11,7 @@ type-body-spec =
     (λ c. search (laws.at-past, laws.some-left))
     (λ c. search needs)
     (λ c κs. search needs)
+    (λ c κs. search needs)
     (λ c. search (laws.at-var, laws.some-left))
     (λ c κs. search needs)
     (λ c. search (laws.at-parts, laws.some-left)))

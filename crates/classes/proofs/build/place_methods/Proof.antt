@@ -6,6 +6,7 @@ use Rattle.classes.proofs.place.place_method.Reads as place-method-read
 use Rattle.classes.proofs.places.wide.Reads as wide-reads
 use borrow.Author.Needs.{needs}
 use mathlib.Core.Path.{_≡_}
+use lib.ListN.{getD}
 use Prim.Native.Nat.{_≤_, _-_, _+_}
 use native.Mathlib.Nat.{sub-zero}
 use Rattle.classes.specs.Placing.{methodPlaced}
@@ -13,10 +14,10 @@ use Rattle.classes.specs.Building.{linesPlaced}
 use Rattle.classes.proofs.BuildLaws as laws
 
 abbrev Inv-loop : tie.InvT-loop
-Inv-loop s from n m t₀ at₀ i₀ t at i = (i ≤ m) × (linesPlaced (λ l c B. methodPlaced l c n B) s m at₀ 0 t₀ ≡ linesPlaced (λ l c B. methodPlaced l c n B) s (m - i) at i t)
+Inv-loop s rights from n m t₀ at₀ i₀ t at i = (i ≤ m) × (linesPlaced (λ l c B. methodPlaced l c (getD rights c 0) n B) s m at₀ 0 t₀ ≡ linesPlaced (λ l c B. methodPlaced l c (getD rights c 0) n B) s (m - i) at i t)
 
 abbrev μ-loop : tie.MeasureT-loop
-μ-loop s from n m t₀ at₀ i₀ t at i = m - i
+μ-loop s rights from n m t₀ at₀ i₀ t at i = m - i
 
 loop-holds : tie.Need-loop-holds Inv-loop μ-loop
 loop-holds c = (search needs, rw sub-zero)

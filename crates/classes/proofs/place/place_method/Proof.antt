@@ -14,7 +14,7 @@ returns-3 : tie.Need-returns-3
 returns-3 c = search laws.method-twice
 
 returns-4 : tie.Need-returns-4
-returns-4 c = search laws.method-nowhere
+returns-4 c = search laws.method-unknown
 
 returns-5 : tie.Need-returns-5
 returns-5 c = search laws.method-placed
@@ -33,9 +33,8 @@ place-method-spec =
     (λ c. search needs)
     returns-3
     (λ c κs. search needs)
-    (λ c. search needs)
-    (λ c. search needs)
     returns-4
+    (λ c. search needs)
     (λ c. search needs)
     (λ c κs. search needs)
     (λ c κs. search needs)

@@ -8,16 +8,16 @@ pub shape-of-spec : {M : Type 1} → statement M
 shape-of-spec =
     tie.close
     (tie.spec
-    (λ c. search needs)
+    (λ c κs. search needs)
     (λ c. search laws.shape-this)
-    (λ c. search needs)
+    (λ c κs. search needs)
     (λ c. search laws.shape-result)
-    (λ c. search needs)
+    (λ c κs. search needs)
     (λ c. search laws.shape-parameter)
-    (λ c. search needs)
+    (λ c κs. search needs)
     (λ c. search laws.shape-field)
-    (λ c. search needs)
+    (λ c κs. search needs)
     (λ c. search laws.shape-call)
-    (λ c. search needs)
+    (λ c κs. search needs)
     (λ c. search laws.shape-new)
     (λ c. search laws.shape-none))

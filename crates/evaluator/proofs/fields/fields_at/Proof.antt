@@ -3,7 +3,7 @@ use Rattle.evaluator.proofs.fields.fields_at.Statement.{statement}
 use Rattle.evaluator.proofs.fields.fields_at.Tie as tie
 use Rattle.evaluator.proofs.fields.fields_at.Reads as reads
 use Rattle.evaluator.proofs.fields.fields_at.Lts as lts
-use Rattle.evaluator.proofs.fields.is_field.Reads as is-field-reads
+use Rattle.classes.proofs.shape.is_field.Reads as is-field-reads
 use borrow.Author.Needs.{needs}
 use Rattle.evaluator.proofs.ChainLaws as laws
 use Prim.Native.Nat.{_-_}

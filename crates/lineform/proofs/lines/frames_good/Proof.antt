@@ -1,4 +1,5 @@
--- `lines::frames_good` meets its contract. The loop keeps `Left` (LineLaws): the lines from i on have frames exactly when all do.
+-- `lines::frames_good` meets its contract. The loop keeps `Left` (LineLaws): the lines from i on have frames exactly when all do, and the
+-- right expressions of the methods passed are noted.
 use Rattle.lineform.proofs.lines.frames_good.Statement.{statement}
 use Rattle.lineform.proofs.lines.frames_good.Tie as tie
 use borrow.Author.Needs.{needs}
@@ -9,10 +10,10 @@ use Rattle.lineform.proofs.LineLaws as laws
 use Rattle.lineform.proofs.LineLaws.{Left}
 
 abbrev Inv-loop : tie.InvT-loop
-Inv-loop d i₀ i = (i ≤ length d) × Left d i
+Inv-loop d rights₀ i₀ m₀ rights i m = (i ≤ length d) × Left d i rights m
 
 abbrev μ-loop : tie.MeasureT-loop
-μ-loop d i₀ i = length d - i
+μ-loop d rights₀ i₀ m₀ rights i m = length d - i
 
 loop-holds : tie.Need-loop-holds Inv-loop μ-loop
 loop-holds c = (search needs, search laws.left-all)
@@ -25,6 +26,9 @@ part-frame-kind-end c = search laws.line-within
 
 returns : tie.Need-returns Inv-loop μ-loop
 returns c = search laws.bad-line
+
+note-right-requires : tie.Need-note-right-requires Inv-loop μ-loop
+note-right-requires c κs = search laws.small-kind
 
 loop-less : tie.Need-loop-less Inv-loop μ-loop
 loop-less c = search needs
@@ -53,6 +57,7 @@ frames-good-spec =
     (λ c. search needs)
     (λ c. search needs)
     returns
+    note-right-requires
     loop-less
     loop-again
     returns-2)

@@ -6,7 +6,12 @@ use Rattle.tables.proofs.read.lines_into.Lts as lts
 use Rattle.lineform.proofs.lines.frames_good.Reads as frames-good-reads
 use Rattle.lineform.proofs.lines.order.Reads as order-reads
 use Rattle.tables.proofs.read.table_into.Reads as table-into-reads
+use Prim.Native.Nat.{ℕ}
+use lib.ListN.{length-replicate}
 use Rattle.tables.proofs.ReadLaws as laws
+
+frames-good-requires : tie.Need-frames-good-requires
+frames-good-requires c κs = (search needs, length-replicate {A = ℕ} 64 0)
 
 returns : tie.Need-returns
 returns c = search laws.no-frames
@@ -24,7 +29,7 @@ pub lines-into-spec : {M : Type 1} → statement M
 lines-into-spec =
     tie.close
     (tie.spec
-    (λ c κs. search needs)
+    frames-good-requires
     returns
     order-requires
     (λ c. search needs)
