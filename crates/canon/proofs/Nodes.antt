@@ -14,7 +14,7 @@ use borrow.Author.Tests.{lt-ltb, le-ltb, eq-eqb, ne-eqb, eqb-true}
 use Rattle.cofj.specs.Values.{Ref, obj, mark, undet, Node, graph, nodeAt, refsAt, eqNats, eqNode}
 use Rattle.cofj.specs.Unfolding.{InRange, Whole}
 use Rattle.cofj.proofs.Basics.{eqNats-true, eqNode-true, eqNode-refl}
-use Rattle.canon.specs.Figures.{objectSize, headSize, codeCount, firstLeaf, undeterminedCode, firstMark, countAt, levelAt, reachAt, blockSize, spare, threeBytes}
+use Rattle.canon.specs.Figures.{objectSize, headSize, codeCount, firstLeaf, undeterminedCode, firstMark, countAt, levelAt, reachAt, blockSize, threeBytes}
 use Rattle.canon.specs.Layout.{refOf, codeOf, nodeIn, nodesIn, Packed, Alike, alikeAt, part, countIn, levelIn, reachIn, ended}
 use Rattle.canon.specs.Tables.{Four, Two}
 use Rattle.canon.proofs.Runs.{eqNats-same, tests-same}

@@ -5,9 +5,10 @@ use mathlib.Core.Path.{_≡_, refl, sym, ap, ap₂, _∙_}
 use mathlib.Core.List.{List, [], _∷_, map}
 use mathlib.Core.Option.{some}
 use lib.ListN.{getD, take, getElem?}
+use borrow.Author.Tests.{le-ltb}
 use Rattle.cofj.specs.Values.{Ref, obj, mark, undet, Node, node, rename, refsAt}
 use Rattle.cofj.specs.Unfolding.{InRange}
-use Rattle.canon.specs.Figures.{objectSize, firstLeaf, undeterminedCode, firstMark, spare}
+use Rattle.canon.specs.Figures.{objectSize, headSize, firstLeaf, undeterminedCode, firstMark}
 use Rattle.canon.specs.Layout.{refOf, codeOf, nodeIn, nodesIn, Packed}
 use Rattle.canon.specs.Tables.{turned, copied, Lifted}
 use Rattle.canon.proofs.Nodes.{code-ref, ref-object, ref-undet, ref-mark, AllPacked}
@@ -25,29 +26,36 @@ map-take f zero l = refl
 map-take f (suc n) [] = refl
 map-take f (suc n) (x ∷ l) = ap (λ (t : List Ref). f x ∷ t) (map-take f n l)
 
+-- an object whose codes stand for the references that f turns those of another to, by the codes
+pub node-changed : (S D : List ℕ) (from to : ℕ) (F : ℕ → ℕ) (f : Ref → Ref) → ((b : ℕ) → refOf (F b) ≡ f (refOf b)) → getD D to 0 ≡ getD S from 0 → getD D (to + 1) 0 ≡ getD S (from + 1) 0
+    → ((k : ℕ) → 2 ≤ k → k < objectSize → getD D (to + k) 0 ≡ F (getD S (from + k) 0)) → nodeIn D to ≡ changed f (nodeIn S from)
+unfolding nodeIn
+node-changed S D from to F f turn e0 e1 codes =
+    rw (
+      e0,
+      e1,
+      codes 2 (omega arith) (omega arith),
+      codes 3 (omega arith) (omega arith),
+      codes 4 (omega arith) (omega arith),
+      codes 5 (omega arith) (omega arith),
+      map-take,
+      turn (getD S (from + 2) 0),
+      turn (getD S (from + 3) 0),
+      turn (getD S (from + 4) 0),
+      turn (getD S (from + 5) 0),
+    )
+
 module _ (S D T : List ℕ) where
   abbrev Here : ℕ → ℕ → ℕ → Type 0
   Here from to n = (p : ℕ) → p < n → getD D (to + p) 0 ≡ copied T (p % objectSize) (getD S (from + p) 0)
 
   node-turned : (from to : ℕ) → Here from to objectSize → nodeIn D to ≡ changed (turnRef T) (nodeIn S from)
-  unfolding nodeIn copied
+  unfolding copied
   node-turned from to h =
       let za : to + 0 ≡ to = omega arith in
       let zb : from + 0 ≡ from = omega arith in
-      let e0 : getD D to 0 ≡ getD S from 0 = rw (za, zb) at (h 0 (omega arith)) in
-      rw (
-        e0,
-        h 1 (omega arith),
-        h 2 (omega arith),
-        h 3 (omega arith),
-        h 4 (omega arith),
-        h 5 (omega arith),
-        map-take,
-        code-ref (getD S (from + 2) 0),
-        code-ref (getD S (from + 3) 0),
-        code-ref (getD S (from + 4) 0),
-        code-ref (getD S (from + 5) 0),
-      )
+      node-changed S D from to (turned T) (turnRef T) (λ b. ap (λ (c : ℕ). refOf (turned T c)) (sym (code-ref b))) (rw (za, zb) at (h 0 (omega arith))) (h 1 (omega arith)) (λ k a l.
+      let e : k % objectSize ≡ k = omega arith in h k l ∙ rw (e, le-ltb k headSize a))
 
   later : (from to n : ℕ) → Here from to (objectSize * suc n) → Here (from + objectSize) (to + objectSize) (objectSize * n)
   later from to n h p l =

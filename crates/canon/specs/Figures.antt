@@ -58,8 +58,8 @@ blockCount = 280
 abbrev pub blocksSize : ℕ
 blocksSize = blockSize * blockCount
 
-abbrev pub spare : ℕ
-spare = blockCount - 1
+abbrev pub spareBlock : ℕ
+spareBlock = blockCount - 1
 
 -- ---- numbers of several bytes
 -- what a byte more is worth in a number of four bytes, the highest

@@ -8,7 +8,7 @@ use lib.Dec.{ltb, eqb}
 use lib.ListN.{length, getD, set, take, drop}
 use Rattle.cofj.specs.Values.{Ref, obj, mark, undet, Node, node, Graph, graph}
 use Rattle.cofj.specs.Unfolding.{Same, Whole}
-use Rattle.canon.specs.Figures.{objectSize, headSize, codeCount, firstLeaf, undeterminedCode, firstMark, capacity, countAt, levelAt, reachAt, blockSize, spare}
+use Rattle.canon.specs.Figures.{objectSize, headSize, codeCount, firstLeaf, undeterminedCode, firstMark, capacity, countAt, levelAt, reachAt, blockSize}
 
 -- the reference that a code stands for: every number is one
 unfoldable pub refOf : ℕ → Ref

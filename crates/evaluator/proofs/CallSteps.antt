@@ -156,7 +156,7 @@ module _ (T W : List ℕ) (f : Frame) (S : List ℕ) (p : Spot) (v : ValueRef) (
   module _ (q : Spot) (eq : q ≡ movedSpot p (p .at) (p .block + 1)) where
     pub args-run : ListRunnable W f S q n
     args-run = let a = run .based .above in subst (λ (y : Spot). ListRunnable W f S y n) (sym eq) (record {
-      based = record { bares = run .based .bares; above = omega arith };
+      based = record { fieldless = run .based .fieldless; above = omega arith };
       full = run .full;
       count = run .count;
       fits = fits.args-list W f S (p .opened) (p .nesting) (p .objects) (p .calls) (p .block) v n (run .fits);
@@ -358,7 +358,7 @@ module _ (W S : List ℕ) (v : ValueRef) (A : List ℕ) (n : ℕ) (p : Spot) (ru
   body-mark = let t = body-top in omega arith
 
   body-based : Based W (p .block + 4)
-  body-based = let a = run .based .above in record { bares = run .based .bares; above = omega arith }
+  body-based = let a = run .based .above in record { fieldless = run .based .fieldless; above = omega arith }
 
 -- ---- the right side
 module _ (T W S : List ℕ) (v : ValueRef) (A : List ℕ) (n i : ℕ) (p : Spot) (mark : ValueRef) (run : BodyRunnable W S v A n p) (given : MarkGiven mark)

@@ -15,7 +15,7 @@ use Rattle.canon.specs.Layout.{Outside}
 use Rattle.values.specs.Layout.{valueOf, Low}
 use Rattle.maker.specs.Laying.{valuesFrom, PartsHeld}
 use Rattle.values.proofs.Kept as values
-use Rattle.maker.proofs.BareLaws.{bares-kept}
+use Rattle.maker.proofs.FieldlessLaws.{fieldless-kept}
 use Rattle.values.proofs.Kept.{object-kept}
 use Rattle.evaluator.specs.declared.frame.Held.{Held}
 use Rattle.evaluator.specs.declared.frame.Held.the-variants.{Is, Absent}
@@ -102,7 +102,7 @@ module _ (W W′ : List ℕ) (sp : ℕ) (k : Kept sp W W′) where
 
 -- ---- block 0
 pub based-kept : (W W′ : List ℕ) (b b′ : ℕ) → Kept b W W′ → b ≤ b′ → Based W b → Based W′ b′
-based-kept W W′ b b′ k l h = let z = h .above in record { bares = bares-kept b W W′ k (h .above) (h .bares); above = omega arith }
+based-kept W W′ b b′ k l h = let z = h .above in record { fieldless = fieldless-kept b W W′ k (h .above) (h .fieldless); above = omega arith }
 
 -- ---- what lies below a block lies below the blocks above it
 module _ (W : List ℕ) (sp sp′ : ℕ) (l : sp ≤ sp′) where

@@ -1,5 +1,5 @@
 -- New objects that stand in block 0 from the start: the test, one law for each return of `is_preset`, and what it tells.
--- Not here: how they got there (crate maker, BareLaws).
+-- Not here: how they got there (crate maker, FieldlessLaws).
 use Prim.Native.Nat.{ℕ, _+_, _*_, _≤_, _<_}
 use mathlib.Core.Path.{_≡_, refl}
 use mathlib.Core.Bool.{Bool, true, false, false≢true}

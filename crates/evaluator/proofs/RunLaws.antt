@@ -11,7 +11,7 @@ use Rattle.cofj.specs.Limits.{nestingLimit}
 use Rattle.cofj.specs.Running.{runWithin, mainFrame}
 use Rattle.classes.proofs.Zones.{main-stands}
 use Rattle.maker.specs.Laying.{valuesFrom}
-use Rattle.maker.specs.Bares.{LaidBares}
+use Rattle.maker.specs.Fieldless.{LaidFieldless}
 use Rattle.evaluator.specs.Figures.{objectLimit, callLimit, fuelAt, traceSize, workRoom}
 use Rattle.evaluator.specs.declared.Out.{Out}
 use Rattle.evaluator.specs.declared.Done.{Done}
@@ -51,10 +51,10 @@ trace-none : (W S : List ℕ) → traceIn W S 0 ≡ []
 unfolding traceIn
 trace-none W S = refl
 
-module _ (W0 W : List ℕ) (lb : LaidBares W0 W) (f : Frame) (ef : f ≡ noVariables) (S : List ℕ) where
+module _ (W0 W : List ℕ) (lb : LaidFieldless W0 W) (f : Frame) (ef : f ≡ noVariables) (S : List ℕ) where
   pub main-runnable : workRoom ≤ length W0 → length S ≡ traceSize → Runnable W f S start
   main-runnable l full = subst (λ (g : Frame). Runnable W g S start) (sym ef) (record {
-    based = record { bares = lb .bares; above = omega arith };
+    based = record { fieldless = lb .fieldless; above = omega arith };
     full = full;
     count = omega arith;
     fits = record {

@@ -23,10 +23,10 @@ use Rattle.values.specs.Layout.{valueOf}
 use Rattle.values.specs.Refs.{refIn}
 use Rattle.maker.specs.declared.Made.{Made}
 use Rattle.maker.specs.declared.Made.the-variants as made
-use Rattle.canon.specs.Figures.{capacity, spare}
+use Rattle.canon.specs.Figures.{capacity, spareBlock}
 use Rattle.maker.specs.Laying.{valuesFrom, partsOf, Makeable, MadeIs, MadeWithin}
-use Rattle.maker.proofs.Limits.{bare-within}
-use Rattle.maker.proofs.BareLaws.{bare-made}
+use Rattle.maker.proofs.Limits.{fieldless-within}
+use Rattle.maker.proofs.FieldlessLaws.{fieldless-made}
 use Rattle.evaluator.specs.Figures.{placeLimit}
 use Rattle.evaluator.specs.declared.Stop.{Stop}
 use Rattle.evaluator.specs.declared.Stop.the-variants.{Stuck, TooLarge}
@@ -204,7 +204,7 @@ module _ (W : List ℕ) (c n : ℕ) (A : List ℕ) (objects dst next : ℕ) wher
   finish-parts h = let l = h .few in let u = h .under in record {
     held = parts-held W (dst + n) (partsOf A) n (h .older);
     few = l;
-    below = λ i i<. older-up W (dst + n) spare (omega arith) (slotAt (partsOf A) i) (h .older .part i i<) .low;
+    below = λ i i<. older-up W (dst + n) spareBlock (omega arith) (slotAt (partsOf A) i) (h .older .part i i<) .low;
     under = omega arith;
     room = h .room;
   }
@@ -235,11 +235,11 @@ module _ (W : List ℕ) (c n : ℕ) (A : List ℕ) (objects dst next : ℕ) wher
   pub finish-limit : Limited objects → objects ≤ capacity
   finish-limit h = h .room
 
-  pub finish-bare : n ≡ 0 → Limited objects → (W′ : List ℕ) (v : ValueRef) → MadeIs W (make c []) dst W′ (made.Value v) → FinishStep W c n A objects dst next W′ (done.Value v next)
+  pub finish-fieldless : n ≡ 0 → Limited objects → (W′ : List ℕ) (v : ValueRef) → MadeIs W (make c []) dst W′ (made.Value v) → FinishStep W c n A objects dst next W′ (done.Value v next)
   unfolding valuesFrom
-  finish-bare z h W′ v mk =
+  finish-fieldless z h W′ v mk =
       finish-value W′ (made.Value v) (subst (λ (gs : List Graph). MadeWithin objects W (make c gs) dst W′ (made.Value v)) (let e : [] ≡ valuesFrom W (partsOf A) 0 n = rw z in e)
-      (bare-within objects (h .some) W c dst W′ v mk)) v refl
+      (fieldless-within objects (h .some) W c dst W′ v mk)) v refl
 
 pub new-limit : (W : List ℕ) (f : Frame) (S : List ℕ) (p : Spot) → PartRunnable W f S p → Limited (p .objects)
 new-limit W f S p run = run .fits .limit
@@ -300,7 +300,7 @@ module _ (T W : List ℕ) (f : Frame) (S : List ℕ) (p : Spot) (c n : ℕ) (run
     new-preset =
         let h = preset-told .total ∙ sym (preset-told .none) in
         new-made (getD T (rowSize * c + 1) 0) refl h W S (0 ∷ 0 ∷ 0 ∷ 0 ∷ []) (walked.After (p .at)) none-walked (p .at) refl W (done.Value (Object c 0) (p .at))
-        (finish-bare W c n (0 ∷ 0 ∷ 0 ∷ 0 ∷ []) (p .objects) (p .block) (p .at) (preset-told .none) (run .fits .limit) W (Object c 0) (bare-made W (run .based .bares) c (p .block) (preset-told .low)))
+        (finish-fieldless W c n (0 ∷ 0 ∷ 0 ∷ 0 ∷ []) (p .objects) (p .block) (p .at) (preset-told .none) (run .fits .limit) W (Object c 0) (fieldless-made W (run .based .fieldless) c (p .block) (preset-told .low)))
 
 pub step-preset : (T W : List ℕ) (f : Frame) (S : List ℕ) (p : Spot) (s : Shape) → s ≡ shapeAt T (p .at) → Runnable W f S p → (p .nesting ≡ 0 → ⊥) → (c n next : ℕ) → s ≡ shape.New c n next
     → (b : Bool) → b ≡ isPreset T c n → b ≡ true → EvalStep T W f S p W S (done.Value (Object c 0) next)

@@ -1,5 +1,5 @@
 -- Which new objects stand in block 0 from the start.
--- Not here: that they do (crate maker, Bares).
+-- Not here: that they do (crate maker, Fieldless).
 use Prim.Native.Nat.{ℕ, _+_, _*_}
 use mathlib.Core.Bool.{Bool, false}
 use mathlib.Core.List.{List}

@@ -5,11 +5,11 @@ use Prim.Native.Nat.{ℕ, _+_, _-_, _*_, _≤_, _<_}
 use mathlib.Core.Path.{_≡_}
 use mathlib.Core.List.{List}
 use lib.ListN.{length, getD}
-use Rattle.canon.specs.Figures.{markCount, blockSize, spare}
+use Rattle.canon.specs.Figures.{markCount, blockSize, spareBlock}
 use Rattle.values.specs.declared.ValueRef.{ValueRef}
 use Rattle.values.specs.declared.ValueRef.the-variants.{Object, Mark, Undetermined}
 use Rattle.maker.specs.Laying.{partsOf}
-use Rattle.maker.specs.Bares.{Bares}
+use Rattle.maker.specs.Fieldless.{Fieldless}
 use Rattle.evaluator.specs.Figures.{callSize, fuelAt, traceSize, placeLimit}
 use Rattle.evaluator.specs.declared.Done.{Done}
 use Rattle.evaluator.specs.declared.Walked.{Walked}
@@ -34,7 +34,7 @@ pub record Traced (k : ℕ) (S S′ : List ℕ) : Type 0 where
 -- ---- what is asked
 -- block 0 has the objects without fields, and lies below block b
 pub record Based (W : List ℕ) (b : ℕ) : Type 0 where
-  pub bares : Bares W
+  pub fieldless : Fieldless W
   pub above : 0 < b
 
 pub record Runnable (W : List ℕ) (f : Frame) (S : List ℕ) (p : Spot) : Type 0 where
@@ -62,8 +62,8 @@ pub record PartsReady (W A : List ℕ) (n dst : ℕ) : Type 0 where
   pub older : PartsOlder W (dst + n) (partsOf A) n
   pub few : n ≤ 4
   pub full : length A ≡ 4
-  pub under : dst + 4 < spare
-  pub room : blockSize * spare + blockSize ≤ length W
+  pub under : dst + 4 < spareBlock
+  pub room : blockSize * spareBlock + blockSize ≤ length W
 
 -- the receiver v was evaluated
 pub record ArgsRunnable (W : List ℕ) (f : Frame) (S : List ℕ) (p : Spot) (v : ValueRef) (n : ℕ) : Type 0 where

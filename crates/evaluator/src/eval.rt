@@ -21,9 +21,9 @@ use classes::places::SIZE;
 use classes::shape::Shape;
 use classes::shape::shape_at;
 use maker::Made;
-use maker::bares::PRESETS;
+use maker::fieldless::PRESETS;
 use maker::make::make;
-use maker::over::make_bare;
+use maker::over::make_fieldless;
 use values::ValueRef;
 use values::refs::Selected;
 use values::refs::pack;
@@ -228,7 +228,7 @@ pub(crate) fn finish(
     ensures { λ o. ⌜ FinishStep (now (work .entry)) c n (now (vs .entry)) objects dst next (now (work .exit)) o ⌝ }
 {
     if n == 0 {
-        return Done::Value(make_bare(work, c, dst), next);
+        return Done::Value(make_fieldless(work, c, dst), next);
     }
     let m = make(work, c, &vs[..], n, dst, objects);
     let Made::Value(v) = m else {

@@ -12,7 +12,7 @@ use crate::trace::FUEL;
 use crate::trace::TRACE;
 use classes::places::MAIN;
 use classes::places::SIZE;
-use maker::bares::lay_bares;
+use maker::fieldless::lay_fieldless;
 ghost use mathlib.Core.Path.{_≡_};
 ghost use Prim.Native.Nat.{ℕ, _<_, _≤_};
 ghost use lib.ListN.{length};
@@ -39,7 +39,7 @@ pub(crate) fn run(t: &[u8; SIZE], work: &mut [u8], fuel: u16) -> Out
     requires { ⌜ workRoom ≤ length (now work) ⌝ }
     ensures { λ o. ⌜ Runs (now (t .entry)) (now (work .entry)) fuel (now (work .exit)) o ⌝ }
 {
-    lay_bares(work);
+    lay_fieldless(work);
     let mut tr = [0u32; TRACE];
     tr[FUEL] = fuel as u32;
     let fr = main_frame();

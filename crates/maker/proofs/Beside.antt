@@ -1,4 +1,4 @@
--- A new object beside the objects of one block, or alone: the laws of `empty`, `append`, `add`, `make_beside`, `make_alone` and `make_bare`.
+-- A new object beside the objects of one block, or alone: the laws of `empty`, `append`, `add`, `make_beside`, `make_alone` and `make_fieldless`.
 -- Not here: how it is looked for (Finds), parts in several blocks (Tries, Hosts).
 use Prim.Native.Nat.{ℕ, zero, suc, _+_, _-_, _*_, _<_, _≤_}
 use native.Mathlib.Omega.{arith}
@@ -12,7 +12,7 @@ use lib.Seq.{getD-set-same, getD-set-other}
 use borrow.Author.Tests.{eqb-true}
 use Rattle.cofj.specs.Values.{Ref, obj, mark, undet, Node, node, Graph, graph, nodeAt, refsAt, canon, make}
 use Rattle.cofj.specs.Unfolding.{InRange, follow}
-use Rattle.canon.specs.Figures.{objectSize, headSize, codeCount, firstLeaf, undeterminedCode, firstMark, capacity, countAt, levelAt, blockSize, spare}
+use Rattle.canon.specs.Figures.{objectSize, headSize, codeCount, firstLeaf, undeterminedCode, firstMark, capacity, countAt, levelAt, blockSize}
 use Rattle.canon.specs.Layout.{nodeIn, nodesIn, Packed, part, Distinct, Block, Inside, objectsIn, graphAt, countIn, levelIn, Outside, ended}
 use Rattle.canon.specs.Tables.{Carried}
 use Rattle.canon.specs.Numbers.{Levels}
@@ -27,7 +27,7 @@ use Rattle.values.proofs.Blocks.{size-in}
 use Rattle.values.proofs.Copies.{block-held}
 use Rattle.values.proofs.Selecting.{unchanged, under}
 use Rattle.maker.specs.Figures.{unusedCodes}
-use Rattle.maker.specs.Bares.{bareObject}
+use Rattle.maker.specs.Fieldless.{fieldlessObject}
 use Rattle.maker.specs.declared.Slot.{Slot}
 use Rattle.maker.specs.declared.Made.the-variants.{Value}
 use Rattle.maker.specs.Laying.{valuesFrom, rawsFrom, PartsHeld, Makeable, MadeIs}
@@ -274,11 +274,11 @@ module _ (W : List ℕ) (c : ℕ) (ps : List Slot) (n w : ℕ) (held : PartsHeld
         })
 
 -- ---- a new object without parts
-pub bare-root : (W : List ℕ) (c : ℕ) → RootObject c (rawsFrom W [] 0 0) (bareObject c)
+pub fieldless-root : (W : List ℕ) (c : ℕ) → RootObject c (rawsFrom W [] 0 0) (fieldlessObject c)
 unfolding rawsFrom nodeIn
-bare-root W c = record { is = refl; packed = record { count = omega arith; spare = spare } }
+fieldless-root W c = record { is = refl; packed = record { count = omega arith; spare = spare } }
   where
-    spare : (k : ℕ) → 2 ≤ k → k < objectSize → getD (bareObject c) (0 + k) 0 ≡ undeterminedCode
+    spare : (k : ℕ) → 2 ≤ k → k < objectSize → getD (fieldlessObject c) (0 + k) 0 ≡ undeterminedCode
     spare zero l m = absurd (omega arith)
     spare (suc zero) l m = absurd (omega arith)
     spare (suc (suc zero)) l m = refl
@@ -287,14 +287,14 @@ bare-root W c = record { is = refl; packed = record { count = omega arith; spare
     spare (suc (suc (suc (suc (suc zero))))) l m = refl
     spare (suc (suc (suc (suc (suc (suc k)))))) l m = absurd (omega arith)
 
-pub bare-codes : (W : List ℕ) → RootCodes (rawsFrom W [] 0 0) 0 unusedCodes
+pub fieldless-codes : (W : List ℕ) → RootCodes (rawsFrom W [] 0 0) 0 unusedCodes
 unfolding objectOf codesOf
-bare-codes W = record { object = λ c. bare-root W c }
+fieldless-codes W = record { object = λ c. fieldless-root W c }
 
 pub no-parts : (W : List ℕ) → PartsHeld W [] 0
 no-parts W = record { full = omega arith; part = λ i h. absurd (omega arith) }
 
-pub bare-new : (W : List ℕ) (c dst l : ℕ) (D : List ℕ) → Levels (objectOf c 0 unusedCodes) 0 objectSize l → blockSize * dst + blockSize ≤ length W → Appended W dst 0 (objectOf c 0 unusedCodes) l D
+pub fieldless-new : (W : List ℕ) (c dst l : ℕ) (D : List ℕ) → Levels (objectOf c 0 unusedCodes) 0 objectSize l → blockSize * dst + blockSize ≤ length W → Appended W dst 0 (objectOf c 0 unusedCodes) l D
     → MadeIs W (make c []) dst D (Value (Object 0 dst))
 unfolding valuesFrom
-bare-new W c = alone-new W c [] 0 unusedCodes (no-parts W) (bare-codes W) (leaves-none [])
+fieldless-new W c = alone-new W c [] 0 unusedCodes (no-parts W) (fieldless-codes W) (leaves-none [])

@@ -1,4 +1,4 @@
--- Parts brought into the host: one law for each return of `import_bare`, `import_object`, `import_part` and `bring_parts`.
+-- Parts brought into the host: one law for each return of `import_fieldless`, `import_object`, `import_part` and `bring_parts`.
 -- Not here: an object entered (Enters), the new object over the parts (Tries).
 use Prim.Native.Nat.{ℕ, zero, suc, _+_, _-_, _*_, _%_, _<_, _≤_}
 use native.Mathlib.Omega.{arith}
@@ -13,7 +13,7 @@ use lib.ListN.{length, getD, take}
 use Rattle.cofj.specs.Values.{Ref, obj, mark, undet, Node, Graph, make}
 use Rattle.cofj.specs.Unfolding.{follow, Same, InRange}
 use Rattle.cofj.proofs.Unique.{same-canon}
-use Rattle.canon.specs.Figures.{objectSize, headSize, codeCount, undeterminedCode, firstMark, markCount, capacity, blockSize, spare, threeBytes}
+use Rattle.canon.specs.Figures.{objectSize, headSize, codeCount, undeterminedCode, firstMark, markCount, capacity, blockSize, threeBytes}
 use Rattle.canon.specs.Layout.{refOf, countIn, objectsIn, graphAt, Block, Inside, Beneath}
 use Rattle.canon.specs.Tables.{Four}
 use Rattle.canon.proofs.Nodes.{ref-object, ref-undet, ref-mark}
@@ -100,35 +100,35 @@ module _ (W : List ℕ) (b i base host : ℕ) (ib : Inside W b i) (bg : Begun W 
     }
 
 -- ---- an object without fields
-module _ (W : List ℕ) (b i host : ℕ) (ib : Inside W b i) (bk : Block W host) (apart : (b ≡ host) → ⊥) (bare : getD W (blockSize * b + objectSize * i + 1) 0 ≡ 0) (w : ℕ) (f : Four W (blockSize * b + objectSize * i + 2) w) where
-  abbrev bare-object : List ℕ
-  bare-object = objectOf (getD W (blockSize * b + objectSize * i) 0) 0 w
+module _ (W : List ℕ) (b i host : ℕ) (ib : Inside W b i) (bk : Block W host) (apart : (b ≡ host) → ⊥) (fieldless : getD W (blockSize * b + objectSize * i + 1) 0 ≡ 0) (w : ℕ) (f : Four W (blockSize * b + objectSize * i + 2) w) where
+  abbrev fieldless-object : List ℕ
+  fieldless-object = objectOf (getD W (blockSize * b + objectSize * i) 0) 0 w
 
-  bare-code : (k : ℕ) → k < codeCount → (codeAt W b i k ≡ undeterminedCode) × (getD bare-object (2 + k) 0 ≡ undeterminedCode)
-  bare-code k l =
+  fieldless-code : (k : ℕ) → k < codeCount → (codeAt W b i k ≡ undeterminedCode) × (getD fieldless-object (2 + k) 0 ≡ undeterminedCode)
+  fieldless-code k l =
       let z : blockSize * b + objectSize * i + (2 + k) ≡ blockSize * b + objectSize * i + headSize + k = omega arith in
-      let s : getD W (blockSize * b + objectSize * i + (2 + k)) 0 ≡ undeterminedCode = ib .block .packed i (ib .low) .spare (2 + k) (omega (arith, bare)) (omega arith) in
-      (rw z at s, sym (object-bytes W (blockSize * b + objectSize * i) w f (2 + k) (omega arith) ∙ ap (λ (m : ℕ). getD (objectOf (getD W (blockSize * b + objectSize * i) 0) m w) (2 + k) 0) bare) ∙ s)
+      let s : getD W (blockSize * b + objectSize * i + (2 + k)) 0 ≡ undeterminedCode = ib .block .packed i (ib .low) .spare (2 + k) (omega (arith, fieldless)) (omega arith) in
+      (rw z at s, sym (object-bytes W (blockSize * b + objectSize * i) w f (2 + k) (omega arith) ∙ ap (λ (m : ℕ). getD (objectOf (getD W (blockSize * b + objectSize * i) 0) m w) (2 + k) 0) fieldless) ∙ s)
 
-  bare-turned : TurnedAs W b i host bare-object
-  bare-turned = record {
+  fieldless-turned : TurnedAs W b i host fieldless-object
+  fieldless-turned = record {
     cls = object-class _ 0 w;
-    count = object-count _ 0 w ∙ sym bare;
-    code = λ k l. rw (bare-code k l .0, bare-code k l .1) (record {
+    count = object-count _ 0 w ∙ sym fieldless;
+    code = λ k l. rw (fieldless-code k l .0, fieldless-code k l .1) (record {
       low = leaf-low (countIn W host) undeterminedCode (omega arith);
       leaf = λ _. refl;
       same = leaf-same (objectsIn W b) (objectsIn W host) (refOf undeterminedCode) (leaf-low 0 undeterminedCode (omega arith));
     });
   }
 
-  pub bare-fits : Fits W host (objectOf (getD W (blockSize * b + objectSize * i) 0) 0 w)
-  bare-fits = turned-fits W b i host bare-object ib bk bare-turned
+  pub fieldless-fits : Fits W host (objectOf (getD W (blockSize * b + objectSize * i) 0) 0 w)
+  fieldless-fits = turned-fits W b i host fieldless-object ib bk fieldless-turned
 
   begun : Begun W host host
   begun = record { source = bk; target = bk; most = omega arith; trees = λ r l p. refl }
 
-  pub bare-imported : (W′ : List ℕ) (r : ℕ) → Entered W host (objectOf (getD W (blockSize * b + objectSize * i) 0) 0 w) W′ r → PartImported W (Object i b) host W′ r
-  bare-imported W′ r en = object-other W b i host host ib begun apart W′ r (record {
+  pub fieldless-imported : (W′ : List ℕ) (r : ℕ) → Entered W host (objectOf (getD W (blockSize * b + objectSize * i) 0) 0 w) W′ r → PartImported W (Object i b) host W′ r
+  fieldless-imported W′ r en = object-other W b i host host ib begun apart W′ r (record {
     grown = en .grown;
     like = like;
     stand = λ d g old at y h. ⊎-elim (λ l. in-same g (objectsIn W host) (objectsIn W′ host) y y (old y l) (en .grown .trees (obj y) l)) (λ e. here d g at y e) (en .from y h);
@@ -137,8 +137,8 @@ module _ (W : List ℕ) (b i host : ℕ) (ib : Inside W b i) (bk : Block W host)
     where
       like : ((r ≡ noRoom) → ⊥) → CodeAs W′ b i host r
       like d =
-          turned-same W′ b i host bare-object (other-inside host W W′ (en .grown .outside) b apart i ib) (en .grown .block)
-          (turned-grown host W W′ (en .grown) b apart (ib .block) i bare-object (ib .low) bare-turned) r (en .standing d)
+          turned-same W′ b i host fieldless-object (other-inside host W W′ (en .grown .outside) b apart i ib) (en .grown .block)
+          (turned-grown host W W′ (en .grown) b apart (ib .block) i fieldless-object (ib .low) fieldless-turned) r (en .standing d)
 
       here : ((r ≡ noRoom) → ⊥) → (g : Graph) → In (objectsIn W b) i g → (y : ℕ) → y ≡ r → In (objectsIn W′ host) y g
       here d g at y e = in-same g (objectsIn W b) (objectsIn W′ host) i y at (λ p.
@@ -151,7 +151,7 @@ module _ (W : List ℕ) (b i host : ℕ) (ib : Inside W b i) (bk : Block W host)
       full z g old at =
           let f = en .full z in
           crowd-joined (objectsIn W b) (objectsIn W host) g (countIn W host) (size-in W host bk) (bk .distinct) old (λ _. i)
-          (λ k h l. turned-fresh W b i host bare-object ib bk bare-turned (subst (Missed W host bare-object) (sym (f .0)) (f .1)))
+          (λ k h l. turned-fresh W b i host fieldless-object ib bk fieldless-turned (subst (Missed W host fieldless-object) (sym (f .0)) (f .1)))
           (λ k h l. at) (λ k l hk lk hl ll e. omega (arith, f .0))
 
 module _ (W : List ℕ) (v : ValueRef) (base host : ℕ) (h : Holds W v) (bg : Begun W base host) where

@@ -11,7 +11,7 @@ use lib.Seq.{take-all}
 use borrow.Author.Tests.{eqb-true, eq-eqb}
 use Rattle.cofj.specs.Values.{eqNats}
 use Rattle.cofj.proofs.Basics.{eqNats-true}
-use Rattle.canon.specs.Figures.{objectSize, codeCount, undeterminedCode, firstMark, spare, threeBytes}
+use Rattle.canon.specs.Figures.{objectSize, codeCount, undeterminedCode, firstMark, threeBytes}
 use Rattle.canon.specs.Layout.{Packed, part}
 use Rattle.canon.specs.Tables.{Four, Carried}
 use Rattle.canon.specs.Numbers.{Levels}

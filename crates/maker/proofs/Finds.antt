@@ -10,7 +10,7 @@ use lib.ListN.{length, getD, take, length-map, length-take}
 use lib.Seq.{getD-take, ext-getD, length-take-le}
 use Rattle.cofj.specs.Values.{undet, Node, node, Graph, graph, eqNode, eqNats}
 use Rattle.cofj.proofs.Basics.{getD-map-lt, eqNode-true, eqNode-refl}
-use Rattle.canon.specs.Figures.{objectSize, codeCount, undeterminedCode, firstMark, blockSize, spare, threeBytes}
+use Rattle.canon.specs.Figures.{objectSize, codeCount, undeterminedCode, firstMark, blockSize, threeBytes}
 use Rattle.canon.specs.Layout.{refOf, nodeIn, Packed, part, Block, Inside, countIn}
 use Rattle.canon.proofs.Nodes.{eq-node, ref-object, ref-undet, ref-mark}
 use Rattle.canon.proofs.Walks.{four, four-at}

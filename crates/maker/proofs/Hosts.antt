@@ -14,7 +14,7 @@ use denote.Enum.Declared.{tagOf}
 use Rattle.cofj.specs.Values.{Node, make}
 use Rattle.cofj.specs.Unfolding.{follow, Whole}
 use Rattle.cofj.proofs.Operations.{make-whole}
-use Rattle.canon.specs.Figures.{codeCount, capacity, countAt, blockSize, spare}
+use Rattle.canon.specs.Figures.{codeCount, capacity, countAt, blockSize, spareBlock}
 use Rattle.canon.specs.Layout.{nodesIn, countIn, objectsIn, Block, Outside}
 use Rattle.values.specs.declared.ValueRef.{ValueRef}
 use Rattle.values.specs.declared.ValueRef.the-variants.{Object, Mark, Undetermined}
@@ -258,23 +258,23 @@ module _ (W : List ℕ) (dst : ℕ) (W1 : List ℕ) (em : Emptied W dst W1) (ps 
 
 -- the spare block emptied: no part lies there
 module _ (W : List ℕ) (ps : List Slot) (n dst : ℕ) (mk : Makeable W ps n dst) where
-  spare-away : (i : ℕ) → i < n → liesIn spare (partOf ps i) ≡ false
+  spare-away : (i : ℕ) → i < n → liesIn spareBlock (partOf ps i) ≡ false
   unfolding liesIn
   spare-away i h = go (partOf ps i) (mk .below i h)
     where
-      go : (v : ValueRef) → Low spare v → liesIn spare v ≡ false
-      go (Object k b) l = ne-eqb b spare (λ e. omega arith)
+      go : (v : ValueRef) → Low spareBlock v → liesIn spareBlock v ≡ false
+      go (Object k b) l = ne-eqb b spareBlock (λ e. omega arith)
       go (Mark k) l = refl
       go Undetermined l = refl
 
-  module _ (W1 : List ℕ) (em : Emptied W spare W1) where
-    pub spare-begun : Begun W1 spare spare
-    spare-begun = empty-begun W spare W1 (mk .room) em
+  module _ (W1 : List ℕ) (em : Emptied W spareBlock W1) where
+    pub spare-begun : Begun W1 spareBlock spareBlock
+    spare-begun = empty-begun W spareBlock W1 (mk .room) em
 
     pub spare-held : PartsHeld W1 ps n
-    spare-held = away-held W spare W1 (em .outside) ps n (mk .held) spare-away
+    spare-held = away-held W spareBlock W1 (em .outside) ps n (mk .held) spare-away
 
-    pub spare-above : dst ≤ spare
+    pub spare-above : dst ≤ spareBlock
     spare-above = omega (arith, mk .under)
 
     pub spare-dst : blockSize * dst + blockSize ≤ length W1
@@ -284,26 +284,26 @@ module _ (W : List ℕ) (ps : List Slot) (n dst : ℕ) (mk : Makeable W ps n dst
     spare-makeable = kept-makeable W ps n dst mk W1 (em .outside .same) spare-held
 
     pub spare-made : (c : ℕ) (W2 : List ℕ) (o : Made) → MadeIs W1 (make c (valuesFrom W1 ps 0 n)) dst W2 o → MadeIs W (make c (valuesFrom W ps 0 n)) dst W2 o
-    spare-made c = away-made W spare W1 (em .outside) ps n (mk .held) spare-away c dst (omega (arith, mk .under))
+    spare-made c = away-made W spareBlock W1 (em .outside) ps n (mk .held) spare-away c dst (omega (arith, mk .under))
 
     -- and tried
-    module _ (c : ℕ) (W2 : List ℕ) (o : Tried) (to : TriedIs W1 (make c (valuesFrom W1 ps 0 n)) spare dst W2 o) where
+    module _ (c : ℕ) (W2 : List ℕ) (o : Tried) (to : TriedIs W1 (make c (valuesFrom W1 ps 0 n)) spareBlock dst W2 o) where
       pub anew-here : (v : ValueRef) → o ≡ Here v → MadeIs W (make c (valuesFrom W ps 0 n)) dst W2 (Value v)
-      anew-here v e = spare-made c W2 (Value v) (tried-here W1 ps n dst spare-makeable spare spare-above c W2 o to v e)
+      anew-here v e = spare-made c W2 (Value v) (tried-here W1 ps n dst spare-makeable spareBlock spare-above c W2 o to v e)
 
       module _ (t : OneOf (1 ∷ []) (tagOf TriedT.the-type o)) where
         made-whole : Whole (make c (valuesFrom W1 ps 0 n))
         made-whole = subst Whole (sym (made-raw W1 c ps n spare-held)) (make-whole c (rawsFrom W1 ps 0 n) (raws-whole W1 c ps n spare-held))
 
         large : capacity < length (make c (valuesFrom W1 ps 0 n) .nodes)
-        large = crowd-large _ made-whole (too-small W1 _ spare dst W2 o to t (λ y h. absurd (omega (arith, em .count))))
+        large = crowd-large _ made-whole (too-small W1 _ spareBlock dst W2 o to t (λ y h. absurd (omega (arith, em .count))))
 
         pub anew-large : MadeIs W (make c (valuesFrom W ps 0 n)) dst W2 TooLarge
         anew-large = spare-made c W2 TooLarge (record {
           held = tt;
           is = rw (lt-leb (length (make c (valuesFrom W1 ps 0 n) .nodes)) capacity large);
           place = tt;
-          beneath = beneath-grown spare dst W1 W2 spare-above (no-room W1 _ spare dst W2 o to t);
+          beneath = beneath-grown spareBlock dst W1 W2 spare-above (no-room W1 _ spareBlock dst W2 o to t);
         })
 
 pub larger-read : (W : List ℕ) (v : ValueRef) (x i : ℕ) → Holds W v → v ≡ Object i x → blockSize * x + countAt < length W

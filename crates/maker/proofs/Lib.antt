@@ -11,7 +11,7 @@ pub mod Enters
 pub mod Brings
 pub mod Tries
 pub mod Hosts
-pub mod BareLaws
+pub mod FieldlessLaws
 pub mod Reaches
 pub mod Seeks
 pub mod SortCodes

@@ -14,7 +14,7 @@ use denote.Enum.Declared.{tagOf}
 use Rattle.cofj.specs.Values.{Ref, obj, node, Graph, graph, canon, refsAt, make, lay}
 use Rattle.cofj.specs.Unfolding.{Whole, InRange}
 use Rattle.cofj.proofs.Canon.{canon-length}
-use Rattle.canon.specs.Figures.{capacity, countAt, blockSize, spare}
+use Rattle.canon.specs.Figures.{capacity, countAt, blockSize, spareBlock}
 use Rattle.canon.specs.Layout.{countIn, objectsIn, graphAt, Outside, Beneath}
 use Rattle.values.specs.declared.ValueRef.{ValueRef}
 use Rattle.values.specs.declared.ValueRef.the-variants.{Object, Mark, Undetermined}
@@ -37,7 +37,7 @@ module _ (W : List ℕ) (objects : ℕ) (v : ValueRef) where
   pub fits-leaf : OneOf (1 ∷ 2 ∷ []) (tagOf RefT.the-type v) → FitsIn W v objects W true
   fits-leaf h =
       let e : true ≡ leb 0 objects = sym (le-leb 0 objects (omega arith)) in
-      no-object (λ x. FitsIn W x objects W true) (λ k. record { is = e; outside = outside-none spare W }) (record { is = e; outside = outside-none spare W }) v h
+      no-object (λ x. FitsIn W x objects W true) (λ k. record { is = e; outside = outside-none spareBlock W }) (record { is = e; outside = outside-none spareBlock W }) v h
 
   module _ (b i : ℕ) (e : v ≡ Object i b) where
     pub count-read : Holds W v → blockSize * b + countAt < length W
@@ -49,10 +49,10 @@ module _ (W : List ℕ) (objects : ℕ) (v : ValueRef) where
         let ob = subst (Holds W) e h .held in
         subst (λ (x : ValueRef). FitsIn W x objects W true) (sym e) (record {
           is = sym (le-leb _ objects (omega (arith, canon-length (graphAt W b i) (whole-at W b (ob .block) i (ob .low)), size-in W b (ob .block))));
-          outside = outside-none spare W;
+          outside = outside-none spareBlock W;
         })
 
-    pub fits-counted : (W′ : List ℕ) (m : ℕ) → Moved W (graphAt W b i) spare W′ m → FitsIn W v objects W′ (leb m objects)
+    pub fits-counted : (W′ : List ℕ) (m : ℕ) → Moved W (graphAt W b i) spareBlock W′ m → FitsIn W v objects W′ (leb m objects)
     fits-counted W′ m mv = subst (λ (x : ValueRef). FitsIn W x objects W′ (leb m objects)) (sym e) (record { is = ap (λ (x : ℕ). leb x objects) (mv .count); outside = mv .outside })
 
 -- ---- what making answers
@@ -68,9 +68,9 @@ made-none g n e = go (leb (length (g .nodes)) n) refl e
     go true q z = absurd (Option·none-ne-some g z)
     go false q z = leb-false (length (g .nodes)) n q
 
-low-away : (d : ℕ) (r : ValueRef) → d < spare → Low (d + 1) r → liesIn spare r ≡ false
+low-away : (d : ℕ) (r : ValueRef) → d < spareBlock → Low (d + 1) r → liesIn spareBlock r ≡ false
 unfolding liesIn
-low-away d (Object i b) h l = ne-eqb b spare (λ e. omega arith)
+low-away d (Object i b) h l = ne-eqb b spareBlock (λ e. omega arith)
 low-away d (Mark k) h l = refl
 low-away d Undetermined h l = refl
 
@@ -89,7 +89,7 @@ module _ (W : List ℕ) (ps : List Slot) (n dst : ℕ) (mk : Makeable W ps n dst
     pub limit-held : Holds W1 r
     limit-held = answer .held
 
-    pub limit-room : blockSize * spare + blockSize ≤ length W1
+    pub limit-room : blockSize * spareBlock + blockSize ≤ length W1
     limit-room = omega (arith, mk .room, md .beneath .same)
 
     module _ (objects : ℕ) (W2 : List ℕ) (b : Bool) (f : FitsIn W1 r objects W2 b) where
@@ -104,28 +104,28 @@ module _ (W : List ℕ) (ps : List Slot) (n dst : ℕ) (mk : Makeable W ps n dst
 
       pub limit-yes : b ≡ true → MadeWithin objects W v dst W2 (Value r)
       limit-yes z =
-          let k = kept spare W1 W2 (f .outside) r (low-away dst r (mk .under) (answer .place)) (answer .held) in
+          let k = kept spareBlock W1 W2 (f .outside) r (low-away dst r (mk .under) (answer .place)) (answer .held) in
           record { held = k .held; is = rw (sym told ∙ z) (ap some (k .is ∙ same)); place = answer .place; beneath = still }
 
       pub limit-no : b ≡ false → MadeWithin objects W v dst W2 TooLarge
       limit-no z = record { held = tt; is = rw (sym told ∙ z); place = tt; beneath = still }
 
 -- ---- an object without fields
-bare-whole : (c : ℕ) → Whole (graph (obj 0) (node c [] ∷ []))
-bare-whole c = record { top = omega arith; inner = inner }
+fieldless-whole : (c : ℕ) → Whole (graph (obj 0) (node c [] ∷ []))
+fieldless-whole c = record { top = omega arith; inner = inner }
   where
     inner : (i f : ℕ) (r : Ref) → getElem? (refsAt (node c [] ∷ []) i) f ≡ some r → InRange 1 r
     inner zero f r e = absurd (Option·none-ne-some r e)
     inner (suc i) f r e = absurd (Option·none-ne-some r e)
 
-bare-one : (c : ℕ) → length (make c [] .nodes) ≤ 1
+fieldless-one : (c : ℕ) → length (make c [] .nodes) ≤ 1
 unfolding make lay
-bare-one c = canon-length (graph (obj 0) (node c [] ∷ [])) (bare-whole c)
+fieldless-one c = canon-length (graph (obj 0) (node c [] ∷ [])) (fieldless-whole c)
 
-pub bare-within : (objects : ℕ) → 0 < objects → (W : List ℕ) (c dst : ℕ) (W′ : List ℕ) (r : ValueRef) → MadeIs W (make c []) dst W′ (Value r) → MadeWithin objects W (make c []) dst W′ (Value r)
-bare-within objects pos W c dst W′ r m = record {
+pub fieldless-within : (objects : ℕ) → 0 < objects → (W : List ℕ) (c dst : ℕ) (W′ : List ℕ) (r : ValueRef) → MadeIs W (make c []) dst W′ (Value r) → MadeWithin objects W (make c []) dst W′ (Value r)
+fieldless-within objects pos W c dst W′ r m = record {
   held = m .held;
-  is = rw (le-leb (length (make c [] .nodes)) objects (omega (arith, bare-one c))) (ap some (made-value (valueOf W′ r) (make c []) (leb (length (make c [] .nodes)) capacity) (m .is)));
+  is = rw (le-leb (length (make c [] .nodes)) objects (omega (arith, fieldless-one c))) (ap some (made-value (valueOf W′ r) (make c []) (leb (length (make c [] .nodes)) capacity) (m .is)));
   place = m .place;
   beneath = m .beneath;
 }

@@ -16,7 +16,7 @@ use Rattle.cofj.specs.Values.{Ref, obj, undet, Node, node, Graph, graph, nodeAt
 use Rattle.cofj.specs.Unfolding.{object, follow, Same, InRange, Whole}
 use Rattle.cofj.proofs.Basics.{getD-map-lt}
 use Rattle.cofj.proofs.Canon.{canon-same}
-use Rattle.canon.specs.Figures.{codeCount, undeterminedCode, capacity, blockSize, spare}
+use Rattle.canon.specs.Figures.{codeCount, undeterminedCode, capacity, blockSize}
 use Rattle.canon.specs.Layout.{refOf, nodeIn, countIn, objectsIn, graphAt, Block, Inside}
 use Rattle.canon.proofs.Nodes.{at-nodes}
 use Rattle.canon.proofs.Walks.{four, four-at}

@@ -12,7 +12,7 @@ use Rattle.cofj.specs.Partial.{_>>=_}
 use Rattle.cofj.specs.Values.{Ref, obj, mark, undet, Node, node, nodeAt, refsAt}
 use Rattle.cofj.specs.Unfolding.{object, follow, Same, InRange}
 use Rattle.cofj.proofs.Trees.{Pointwise, same-cls, same-count, same-child}
-use Rattle.canon.specs.Figures.{objectSize, headSize, codeCount, firstLeaf, undeterminedCode, firstMark, blockSize, spare}
+use Rattle.canon.specs.Figures.{objectSize, headSize, codeCount, firstLeaf, undeterminedCode, firstMark, blockSize}
 use Rattle.canon.specs.Layout.{refOf, codeOf, nodeIn, Packed, countIn, objectsIn, Block, Inside}
 use Rattle.canon.proofs.Nodes.{ref-object, ref-undet, ref-mark, some-at, at-some, length-nodes, at-nodes, code-is, count-is}
 use Rattle.canon.proofs.Walks.{four, four-at}

@@ -7,7 +7,7 @@ use mathlib.Core.Option.{Option, none, some}
 use lib.Dec.{leb}
 use lib.ListN.{length, getD, take, drop}
 use Rattle.cofj.specs.Values.{Graph}
-use Rattle.canon.specs.Figures.{codeCount, capacity, blockSize, spare}
+use Rattle.canon.specs.Figures.{codeCount, capacity, blockSize, spareBlock}
 use Rattle.canon.specs.Layout.{Beneath, Outside}
 use Rattle.values.specs.declared.ValueRef.{ValueRef}
 use Rattle.values.specs.declared.ValueRef.the-variants.{Object}
@@ -39,9 +39,9 @@ pub record PartsHeld (W : List ℕ) (ps : List Slot) (n : ℕ) : Type 0 where
 pub record Makeable (W : List ℕ) (ps : List Slot) (n dst : ℕ) : Type 0 where
   pub held : PartsHeld W ps n
   pub few : n ≤ codeCount
-  pub below : (i : ℕ) → i < n → Low spare (getD ps i (record { r = Object 0 0 }) .r)
-  pub under : dst < spare
-  pub room : blockSize * spare + blockSize ≤ length W
+  pub below : (i : ℕ) → i < n → Low spareBlock (getD ps i (record { r = Object 0 0 }) .r)
+  pub under : dst < spareBlock
+  pub room : blockSize * spareBlock + blockSize ≤ length W
 
 -- what making answers
 abbrev pub madeRef : Made → Option ValueRef
@@ -62,4 +62,4 @@ MadeIs W v dst W′ o = MadeWithin capacity W v dst W′ o
 -- whether a value has at most `objects` objects; only the spare block has changed
 pub record FitsIn (W : List ℕ) (r : ValueRef) (objects : ℕ) (W′ : List ℕ) (b : Bool) : Type 0 where
   pub is : b ≡ leb (length (valueOf W r .nodes)) objects
-  pub outside : Outside spare W W′
+  pub outside : Outside spareBlock W W′

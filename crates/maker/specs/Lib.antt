@@ -7,4 +7,4 @@ pub mod Sorting
 pub mod Reaching
 pub mod Seeking
 pub mod Joining
-pub mod Bares
+pub mod Fieldless

@@ -10,7 +10,7 @@ use lib.Dec.{ltb, eqb}
 use lib.ListN.{length, getD, getElem?}
 use Rattle.cofj.specs.Values.{Ref, Graph, nodeAt}
 use Rattle.cofj.specs.Unfolding.{Same, InRange}
-use Rattle.canon.specs.Figures.{codeCount, firstLeaf, undeterminedCode, capacity, spare, threeBytes}
+use Rattle.canon.specs.Figures.{codeCount, firstLeaf, undeterminedCode, capacity, threeBytes}
 use Rattle.canon.specs.Layout.{refOf, nodeIn, Packed, countIn, objectsIn, Block, Outside}
 use Rattle.values.specs.declared.ValueRef.{ValueRef}
 use Rattle.values.specs.declared.ValueRef.the-variants.{Object, Mark, Undetermined}

@@ -1,6 +1,6 @@
 // A new object over values, in a block of the work buffer.
-// Offered: `make::make` and `over::make_bare`, a new object with and without parts, with `Made` and `Slot`; `bares::lay_bares`, block 0 with the objects without
-// fields, and `bares::PRESETS`.
+// Offered: `make::make` and `over::make_fieldless`, a new object with and without parts, with `Made` and `Slot`; `fieldless::lay_fieldless`, block 0 with the objects without
+// fields, and `fieldless::PRESETS`.
 // Not here: what else is done with values (values), which objects are equal (canon), which blocks are free.
 pub(crate) mod parts; // the parts of a new object, and where they lie
 pub mod over; // a new object beside the objects of one block
@@ -13,7 +13,7 @@ pub(crate) mod part; // an object of another block in the host
 pub(crate) mod merge; // a new object over the objects of several blocks
 pub(crate) mod limit; // whether a value has at most so many objects
 pub mod make; // a new object
-pub mod bares; // block 0 with the objects without fields
+pub mod fieldless; // block 0 with the objects without fields
 
 use canon::layout::CAPACITY;
 
@@ -35,7 +35,7 @@ pub enum Made {
     TooLarge,
 }
 
-// A part of a new object.
+// A value reference as an element of an array: arrays have no enums for elements.
 pub struct Slot {
     pub r: values::ValueRef,
 }

@@ -42,7 +42,7 @@ pub(crate) enum Tried {
 }
 
 // Object i of block b, which has no fields, in block host: its number there, or NO_ROOM.
-pub(crate) fn import_bare(work: &mut [u8], b: u16, i: u8, host: u16) -> u8
+pub(crate) fn import_fieldless(work: &mut [u8], b: u16, i: u8, host: u16) -> u8
     requires { ⌜ Inside (now work) b i × Block (now work) host × ((b ≡ host) → ⊥) × (getD (now work) (blockSize * b + objectSize * i + 1) 0 ≡ 0) ⌝ }
     ensures { λ r. ⌜ PartImported (now (work .entry)) (Object i b) host (now (work .exit)) r ⌝ }
 {
@@ -64,7 +64,7 @@ pub(crate) fn import_object(work: &mut [u8], b: u16, i: u8, base: u16, host: u16
         return i;
     }
     if work[BLOCK * (b as usize) + OBJECT * (i as usize) + 1] == 0 {
-        return import_bare(work, b, i, host);
+        return import_fieldless(work, b, i, host);
     }
     import(work, b, i, host)
 }

@@ -163,7 +163,7 @@ pub(crate) fn make_alone(work: &mut [u8], c: u8, parts: &[u32], n: u8, dst: u16)
 }
 
 // A new object without parts, which never is too large.
-pub fn make_bare(work: &mut [u8], c: u8, dst: u16) -> ValueRef
+pub fn make_fieldless(work: &mut [u8], c: u8, dst: u16) -> ValueRef
     requires { ⌜ blockSize * dst + blockSize ≤ length (now work) ⌝ }
     ensures { λ r. ⌜ MadeIs (now (work .entry)) (make c []) dst (now (work .exit)) (Value r) ⌝ }
 {

@@ -14,7 +14,7 @@ use Rattle.cofj.proofs.Trees.{same-child, same-cls, same-count}
 use Rattle.cofj.proofs.Canon.{canon-length}
 use Rattle.cofj.proofs.Unique.{canon-canon}
 use Rattle.cofj.proofs.Operations.{boundNodes}
-use Rattle.canon.specs.Figures.{objectSize, headSize, codeCount, firstLeaf, undeterminedCode, wideSize, reachAt, blockSize, spare}
+use Rattle.canon.specs.Figures.{objectSize, headSize, codeCount, firstLeaf, undeterminedCode, wideSize, reachAt, blockSize}
 use Rattle.canon.specs.Layout.{codeOf, nodesIn, alikeAt, Distinct, Block, Inside, objectsIn, countIn, reachIn, ended}
 use Rattle.canon.specs.Tables.{Carried}
 use Rattle.canon.specs.Rounds.{Raw}

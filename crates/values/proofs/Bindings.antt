@@ -14,10 +14,11 @@ use borrow.Author.Tests.{le-ltb, eq-eqb, ne-eqb, eqb-true, eqb-false}
 use Rattle.cofj.specs.Values.{Ref, obj, mark, undet, Node, graph, refsAt, canon, bind, close}
 use Rattle.cofj.specs.Unfolding.{InRange, Whole}
 use Rattle.cofj.proofs.Operations.{boundNode, boundNodes, bound-whole}
-use Rattle.canon.specs.Figures.{objectSize, headSize, codeCount, firstLeaf, undeterminedCode, firstMark, capacity, objectsSize, countAt, blockSize, spare}
+use Rattle.canon.specs.Figures.{objectSize, headSize, codeCount, firstLeaf, undeterminedCode, firstMark, capacity, objectsSize, countAt, blockSize}
 use Rattle.canon.specs.Layout.{refOf, nodeIn, nodesIn, Packed, Block, Inside, objectsIn, graphAt, countIn}
 use Rattle.canon.specs.Numbers.{graphIn}
 use Rattle.canon.proofs.Nodes.{ref-object, ref-undet, ref-mark}
+use Rattle.canon.proofs.Turned.{node-changed}
 use Rattle.values.specs.declared.ValueRef.{ValueRef}
 use Rattle.values.specs.Tests.{any}
 use Rattle.values.specs.Operations.{Gives}
@@ -52,34 +53,17 @@ bound-ref x i c small = go (decLt c firstLeaf) (ℕ-discrete c undeterminedCode)
         let z : c ≡ firstMark + (c - firstMark) = omega (arith, h, d) in
         kept (mark (c - firstMark)) (ap refOf z ∙ ref-mark (c - firstMark)) e (bind-other x i (c - firstMark) (ne-eqb (c - firstMark) x (λ y. e (omega (arith, h, d)))))
 
-map-take : (f : Ref → Ref) (n : ℕ) (l : List Ref) → map f (take n l) ≡ take n (map f l)
-map-take f zero l = refl
-map-take f (suc n) [] = refl
-map-take f (suc n) (y ∷ l) = ap (λ (t : List Ref). f y ∷ t) (map-take f n l)
-
 module _ (S R : List ℕ) (x i : ℕ) (small : i < firstLeaf) where
   abbrev Here : ℕ → ℕ → Type 0
   Here from to = (f : ℕ) → f < objectSize → getD R (to + f) 0 ≡ boundByte (firstMark + x) i f (getD S (from + f) 0)
 
   node-bound : (from to : ℕ) → Here from to → nodeIn R to ≡ boundNode x i (nodeIn S from)
-  unfolding nodeIn boundByte
+  unfolding boundByte
   node-bound from to h =
       let za : to + 0 ≡ to = omega arith in
       let zb : from + 0 ≡ from = omega arith in
-      let e0 : getD R to 0 ≡ getD S from 0 = rw (za, zb) at (h 0 (omega arith)) in
-      rw (
-        e0,
-        h 1 (omega arith),
-        h 2 (omega arith),
-        h 3 (omega arith),
-        h 4 (omega arith),
-        h 5 (omega arith),
-        map-take,
-        bound-ref x i (getD S (from + 2) 0) small,
-        bound-ref x i (getD S (from + 3) 0) small,
-        bound-ref x i (getD S (from + 4) 0) small,
-        bound-ref x i (getD S (from + 5) 0) small,
-      )
+      node-changed S R from to (boundCode (firstMark + x) i) (bind x (obj i)) (λ b. bound-ref x i b small) (rw (za, zb) at (h 0 (omega arith))) (h 1 (omega arith))
+      (λ k a l. h k l ∙ rw (le-ltb k headSize a))
 
   packed-bound : (from to : ℕ) → Here from to → Packed S from → Packed R to
   unfolding boundByte

@@ -4,11 +4,11 @@ use Rattle.evaluator.proofs.eval.finish.Tie as tie
 use Rattle.evaluator.proofs.eval.finish.Reads as reads
 use Rattle.evaluator.proofs.eval.finish.Lts as lts
 use Rattle.maker.proofs.make.make.Reads as make-reads
-use Rattle.maker.proofs.over.make_bare.Reads as make-bare-reads
+use Rattle.maker.proofs.over.make_fieldless.Reads as make-fieldless-reads
 use Rattle.evaluator.proofs.StepLaws as laws
 
 returns : tie.Need-returns
-returns c = search laws.finish-bare
+returns c = search laws.finish-fieldless
 
 make-requires : tie.Need-make-requires
 make-requires c κs = (search laws.finish-parts, search needs, search laws.finish-limit)

@@ -6,7 +6,7 @@ use Rattle.evaluator.proofs.run.run.Lts as lts
 use Rattle.evaluator.proofs.eval.eval.Reads as eval-reads
 use Rattle.evaluator.proofs.frame.main_frame.Reads as main-frame-reads
 use Rattle.evaluator.proofs.run.out_of.Reads as out-of-reads
-use Rattle.maker.proofs.bares.lay_bares.Reads as lay-bares-reads
+use Rattle.maker.proofs.fieldless.lay_fieldless.Reads as lay-fieldless-reads
 use Rattle.evaluator.proofs.RunLaws as laws
 
 eval-requires : tie.Need-eval-requires

@@ -5,7 +5,7 @@ use canon::layout::UNDETERMINED;
 ghost use Prim.Native.Nat.{_≤_};
 ghost use lib.ListN.{length};
 ghost use Rattle.canon.specs.Figures.{blockSize};
-ghost use Rattle.maker.specs.Bares.{Preset, LaidBares};
+ghost use Rattle.maker.specs.Fieldless.{Preset, LaidFieldless};
 
 // how many classes, from 0 on, have their object without fields in block 0
 pub const PRESETS: u8 = 32;
@@ -35,9 +35,9 @@ pub(crate) fn preset() -> [u8; REACH]
 }
 
 // Object c of block 0 is the object of class c without fields, and there is no other.
-pub fn lay_bares(work: &mut [u8])
+pub fn lay_fieldless(work: &mut [u8])
     requires { ⌜ blockSize ≤ length (now work) ⌝ }
-    ensures { λ _. ⌜ LaidBares (now (work .entry)) (now (work .exit)) ⌝ }
+    ensures { λ _. ⌜ LaidFieldless (now (work .entry)) (now (work .exit)) ⌝ }
 {
     let table = preset();
     copy(&table, 0, work, 0, REACH);

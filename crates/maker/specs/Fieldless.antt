@@ -8,24 +8,24 @@ use Rattle.canon.specs.Layout.{Block, countIn, levelIn, Outside}
 use Rattle.maker.specs.Figures.{presetCount}
 
 -- the six bytes of the object of class c without fields
-abbrev pub bareObject : ℕ → List ℕ
-bareObject c = c ∷ 0 ∷ undeterminedCode ∷ undeterminedCode ∷ undeterminedCode ∷ undeterminedCode ∷ []
+abbrev pub fieldlessObject : ℕ → List ℕ
+fieldlessObject c = c ∷ 0 ∷ undeterminedCode ∷ undeterminedCode ∷ undeterminedCode ∷ undeterminedCode ∷ []
 
 -- the bytes of such a block
 pub record Preset (P : List ℕ) : Type 0 where
   pub long : length P ≡ reachAt
-  pub each : (c k : ℕ) → c < presetCount → k < objectSize → getD P (objectSize * c + k) 0 ≡ getD (bareObject c) k 0
+  pub each : (c k : ℕ) → c < presetCount → k < objectSize → getD P (objectSize * c + k) 0 ≡ getD (fieldlessObject c) k 0
   pub count : getD P countAt 0 ≡ presetCount
   pub level : getD P levelAt 0 ≡ 0
 
 -- object c of block 0 is the object of class c without fields
-pub record Bares (W : List ℕ) : Type 0 where
+pub record Fieldless (W : List ℕ) : Type 0 where
   pub block : Block W 0
   pub count : countIn W 0 ≡ presetCount
   pub level : levelIn W 0 ≡ 0
   pub cls : (c : ℕ) → c < presetCount → getD W (objectSize * c) 0 ≡ c
-  pub bare : (c : ℕ) → c < presetCount → getD W (objectSize * c + 1) 0 ≡ 0
+  pub fieldless : (c : ℕ) → c < presetCount → getD W (objectSize * c + 1) 0 ≡ 0
 
-pub record LaidBares (W W′ : List ℕ) : Type 0 where
-  pub bares : Bares W′
+pub record LaidFieldless (W W′ : List ℕ) : Type 0 where
+  pub fieldless : Fieldless W′
   pub outside : Outside 0 W W′
