@@ -94,7 +94,7 @@ fn put_word_bytes(w: &[u16; 256], m: usize, out: &mut [u8], to: usize)
 }
 
 // Writes the bytes of the blocks of digits from `from` on to `to` and further. The place after the blocks.
-pub fn put_blocks(text: &[u8], from: usize, out: &mut [u8], to: usize) -> usize
+pub(crate) fn put_blocks(text: &[u8], from: usize, out: &mut [u8], to: usize) -> usize
     requires { ⌜ Ahead (now text) (now out) from to ⌝ }
     ensures { λ r. ⌜ Puts (now (text .entry)) (now (out .entry)) (now (out .exit)) from to r (to + (r - from) / 2) ⌝ }
 {

@@ -1,7 +1,7 @@
 // What each character is worth as a digit: 0 to 15, and 768 for a character that is none, which no sum of three bytes reaches. Not here: what is made
 // of it (hex).
 #[rattlefmt::skip]
-pub const VALUES: [u16; 256] = [
+pub(crate) const VALUES: [u16; 256] = [
     768, 768, 768, 768, 768, 768, 768, 768, 768, 768, 768, 768, 768, 768, 768, 768, // 00
     768, 768, 768, 768, 768, 768, 768, 768, 768, 768, 768, 768, 768, 768, 768, 768, // 10
     768, 768, 768, 768, 768, 768, 768, 768, 768, 768, 768, 768, 768, 768, 768, 768, // 20

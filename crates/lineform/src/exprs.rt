@@ -9,31 +9,31 @@ ghost use Rattle.lineform.specs.Answers.{endOf, endIn, noSign, signOf, s
 use crate::sign::sign_row;
 
 // Document 01's figures (cofj's Limits).
-pub const FIELD_COUNT: u8 = 4;
+pub(crate) const FIELD_COUNT: u8 = 4;
 
-pub const PARAM_COUNT: u8 = 3;
+pub(crate) const PARAM_COUNT: u8 = 3;
 
 // The expressions in one: a new object's values, or a call's receiver and its arguments.
 const PART_COUNT: usize = 4;
 
-pub const NESTING_LIMIT: usize = 6;
+pub(crate) const NESTING_LIMIT: usize = 6;
 
-pub const LARGEST_TAG: u8 = 3;
+pub(crate) const LARGEST_TAG: u8 = 3;
 
-pub enum ReadExpr {
+pub(crate) enum ReadExpr {
     Next(usize),
     Refused,
 }
 
 // A byte as a number of bytes or items.
-pub fn wide(x: u8) -> usize
+pub(crate) fn wide(x: u8) -> usize
     ensures { λ r. ⌜ r ≡ x ⌝ }
 {
     x as usize
 }
 
 // An expression's sign and what belongs to it: the place after them, and how many expressions the expression has from there on.
-pub struct Sign {
+pub(crate) struct Sign {
     pub next: usize,
     pub parts: usize,
 }
@@ -93,7 +93,7 @@ fn last_sign(s: &[u8], at: usize) -> Sign
 }
 
 // The sign at `at`.
-pub fn sign_at(s: &[u8], at: usize) -> Sign
+pub(crate) fn sign_at(s: &[u8], at: usize) -> Sign
     ensures { λ r. ⌜ r ≡ signAt (now (s .entry)) at ⌝ }
 {
     if whole_places(s) <= at {
@@ -103,7 +103,7 @@ pub fn sign_at(s: &[u8], at: usize) -> Sign
 }
 
 // The place after the expression whose sign tells `next` and `parts`, nested at most `left` deep; one past the end of the line if there is none.
-pub fn read_expr(s: &[u8], next: usize, parts: usize, left: usize) -> usize
+pub(crate) fn read_expr(s: &[u8], next: usize, parts: usize, left: usize) -> usize
     requires { ⌜ 1 ≤ left ⌝ }
     ensures { λ r. ⌜ r ≡ endBy (now (s .entry)) left next parts ⌝ }
 {
@@ -114,7 +114,7 @@ pub fn read_expr(s: &[u8], next: usize, parts: usize, left: usize) -> usize
 }
 
 // The place after n expressions, one after the other. After a refusal the place is past the end, where the next one is refused too.
-pub fn read_list(s: &[u8], at: usize, n: usize, left: usize) -> usize
+pub(crate) fn read_list(s: &[u8], at: usize, n: usize, left: usize) -> usize
     requires { ⌜ 1 ≤ n ⌝ }
     ensures { λ r. ⌜ r ≡ endIn (now (s .entry)) (exprsBy (expr left) n (drop at (now (s .entry)))) ⌝ }
 {
@@ -136,7 +136,7 @@ pub fn read_list(s: &[u8], at: usize, n: usize, left: usize) -> usize
 }
 
 // n types, one after the other.
-pub fn types_end(s: &[u8], at: usize, n: usize) -> ReadExpr
+pub(crate) fn types_end(s: &[u8], at: usize, n: usize) -> ReadExpr
     requires { ⌜ at ≤ length (now s) ⌝ }
     ensures { λ r. ⌜ r ≡ endOf (now (s .entry)) (types n (drop at (now (s .entry)))) ⌝ }
 {

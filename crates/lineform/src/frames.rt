@@ -15,18 +15,18 @@ use crate::reader::expr_at;
 use crate::reader::first_byte;
 
 // What a line is; of a method, where its right expression stands in the line.
-pub enum Kind {
+pub(crate) enum Kind {
     Class,
     Method(usize),
     Main,
 }
 
-pub enum Framed {
+pub(crate) enum Framed {
     Good(Kind),
     Bad,
 }
 
-pub fn frame_kind(s: &[u8]) -> Framed
+pub(crate) fn frame_kind(s: &[u8]) -> Framed
     ensures { λ r. ⌜ r ≡ framedOf (frame (now (s .entry))) ⌝ }
 {
     let b = first_byte(s);
@@ -46,7 +46,7 @@ pub fn frame_kind(s: &[u8]) -> Framed
 }
 
 // Number, parent, count of own fields, their types.
-pub fn class_frame(s: &[u8]) -> Framed
+pub(crate) fn class_frame(s: &[u8]) -> Framed
     ensures { λ r. ⌜ r ≡ framedOf (classAfter (drop 1 (now (s .entry)))) ⌝ }
 {
     if s.len() <= 3 {
@@ -67,7 +67,7 @@ pub fn class_frame(s: &[u8]) -> Framed
 }
 
 // Owner, name, both result types, count of parameters, their types, both expressions.
-pub fn method_frame(s: &[u8]) -> Framed
+pub(crate) fn method_frame(s: &[u8]) -> Framed
     ensures { λ r. ⌜ r ≡ framedOf (methodAfter (drop 1 (now (s .entry)))) ⌝ }
 {
     if s.len() <= 7 {
@@ -101,7 +101,7 @@ pub fn method_frame(s: &[u8]) -> Framed
     Framed::Good(Kind::Method(b))
 }
 
-pub fn main_frame(s: &[u8]) -> Framed
+pub(crate) fn main_frame(s: &[u8]) -> Framed
     ensures { λ r. ⌜ r ≡ framedOf (mainAfter (drop 1 (now (s .entry)))) ⌝ }
 {
     let o = expr_at(s, 1);

@@ -5,7 +5,7 @@ ghost use Rattle.lineform.specs.Answers.{Values, valueOf, pairValue};
 use crate::digits::VALUES;
 
 // The values of all characters. Made once for a text: taking an entry of the constant would make all of it anew.
-pub fn values() -> [u16; 256]
+pub(crate) fn values() -> [u16; 256]
     ensures { λ r. ⌜ Values r ⌝ }
 {
     VALUES
@@ -20,7 +20,7 @@ fn value(t: &[u16; 256], c: u8) -> u16
 }
 
 // The byte of two digits, or a number from 768 on.
-pub fn pair(t: &[u16; 256], a: u8, b: u8) -> u16
+pub(crate) fn pair(t: &[u16; 256], a: u8, b: u8) -> u16
     requires { ⌜ Values (now t) ⌝ }
     ensures { λ r. ⌜ r ≡ pairValue a b ⌝ }
 {

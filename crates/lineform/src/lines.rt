@@ -27,7 +27,7 @@ const METHOD_COUNT: usize = 64;
 // how many right expressions are noted: one for each method that a text may have
 pub const RIGHTS: usize = METHOD_COUNT;
 
-pub const LF: u8 = 10;
+pub(crate) const LF: u8 = 10;
 
 // what no sum of three bytes reaches (digits)
 const NO_BYTE: u16 = 768;

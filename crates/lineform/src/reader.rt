@@ -11,19 +11,19 @@ use crate::exprs::ReadExpr;
 use crate::exprs::read_expr;
 use crate::exprs::sign_at;
 
-pub struct LineReader<'a> {
+pub(crate) struct LineReader<'a> {
     pub line: &'a [u8],
     pub at: usize,
 }
 
-pub enum AtPlace {
+pub(crate) enum AtPlace {
     Byte(u8),
     End,
 }
 
 // ---- slice and place
 
-pub fn byte_of(s: &[u8], at: usize) -> AtPlace
+pub(crate) fn byte_of(s: &[u8], at: usize) -> AtPlace
     ensures { λ r. ⌜ r ≡ byteOf (drop at (now (s .entry))) ⌝ }
 {
     if at < s.len() {
@@ -32,7 +32,7 @@ pub fn byte_of(s: &[u8], at: usize) -> AtPlace
     AtPlace::End
 }
 
-pub fn expr_end(s: &[u8], at: usize) -> ReadExpr
+pub(crate) fn expr_end(s: &[u8], at: usize) -> ReadExpr
     ensures { λ r. ⌜ r ≡ endOf (now (s .entry)) (expr nestingLimit (drop at (now (s .entry)))) ⌝ }
 {
     let g = sign_at(s, at);
@@ -45,26 +45,26 @@ pub fn expr_end(s: &[u8], at: usize) -> ReadExpr
 
 // ---- the reader
 
-pub fn start<'a>(line: &'a [u8]) -> LineReader<'a>
+pub(crate) fn start<'a>(line: &'a [u8]) -> LineReader<'a>
     ensures { λ r. ⌜ r ≡ readerAt (line .entry) 0 ⌝ }
 {
     LineReader { line, at: 0 }
 }
 
-pub fn byte<'a>(r: LineReader<'a>) -> AtPlace
+pub(crate) fn byte<'a>(r: LineReader<'a>) -> AtPlace
     ensures { λ o. ⌜ o ≡ byteOf (drop (r .entry .at) (now (r .entry .line))) ⌝ }
 {
     byte_of(r.line, r.at)
 }
 
-pub fn moved<'a>(r: LineReader<'a>, at: usize) -> LineReader<'a>
+pub(crate) fn moved<'a>(r: LineReader<'a>, at: usize) -> LineReader<'a>
     ensures { λ q. ⌜ q ≡ readerAt (r .entry .line) at ⌝ }
 {
     LineReader { line: r.line, at }
 }
 
 // Where the expression at the cursor ends.
-pub fn past_expr<'a>(r: LineReader<'a>) -> ReadExpr
+pub(crate) fn past_expr<'a>(r: LineReader<'a>) -> ReadExpr
     ensures { λ o. ⌜ o ≡ endOf (now (r .entry .line)) (expr nestingLimit (drop (r .entry .at) (now (r .entry .line)))) ⌝ }
 {
     expr_end(r.line, r.at)
@@ -73,14 +73,14 @@ pub fn past_expr<'a>(r: LineReader<'a>) -> ReadExpr
 // ---- for callers: plain parameters, so that they need no walk
 
 // The byte that says a line's kind.
-pub fn first_byte(s: &[u8]) -> AtPlace
+pub(crate) fn first_byte(s: &[u8]) -> AtPlace
     ensures { λ r. ⌜ r ≡ byteOf (now (s .entry)) ⌝ }
 {
     byte(start(s))
 }
 
 // Where the expression at a place of a line ends.
-pub fn expr_at(s: &[u8], at: usize) -> ReadExpr
+pub(crate) fn expr_at(s: &[u8], at: usize) -> ReadExpr
     ensures { λ r. ⌜ r ≡ endOf (now (s .entry)) (expr nestingLimit (drop at (now (s .entry)))) ⌝ }
 {
     past_expr(moved(start(s), at))

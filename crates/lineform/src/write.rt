@@ -9,7 +9,7 @@ ghost use Rattle.lineform.specs.Writes.{wrote, put, hexBytes, putLine};
 use crate::lines::LF;
 
 // A digit's character.
-pub fn char_of(d: u8) -> u8
+pub(crate) fn char_of(d: u8) -> u8
     requires { ⌜ d < 16 ⌝ }
     ensures { λ r. ⌜ r ≡ char d ⌝ }
 {
