@@ -18,13 +18,13 @@ ghost use Rattle.classes.specs.Building.{walked, linesPlaced, lastPlaced
 ghost use Rattle.classes.specs.Made.{Built};
 
 // Where the next line begins.
-pub enum Lines {
+pub(crate) enum Lines {
     At(usize),
     Refused,
 }
 
 // The first n lines, as classes 1 to n.
-pub fn place_classes(s: &[u8], n: u8, t: &mut [u8; SIZE]) -> Lines
+pub(crate) fn place_classes(s: &[u8], n: u8, t: &mut [u8; SIZE]) -> Lines
     requires { ⌜ n ≤ classCount ⌝ }
     ensures { λ r. ⌜ walked r (now (t .exit)) ≡ linesPlaced (λ l k B. classPlaced l k n B) (now (s .entry)) n 0 1 (now (t .entry)) ⌝ }
 {
@@ -50,7 +50,7 @@ pub fn place_classes(s: &[u8], n: u8, t: &mut [u8; SIZE]) -> Lines
 }
 
 // The m lines from `from` on, as methods 0 to m - 1; `rights` says where their right expressions stand.
-pub fn place_methods(
+pub(crate) fn place_methods(
     s: &[u8],
     rights: &[u8; RIGHTS],
     from: usize,
@@ -83,7 +83,7 @@ pub fn place_methods(
 }
 
 // The line at `at`, as main.
-pub fn place_last(s: &[u8], at: usize, n: u8, t: &mut [u8; SIZE]) -> bool
+pub(crate) fn place_last(s: &[u8], at: usize, n: u8, t: &mut [u8; SIZE]) -> bool
     ensures { λ r. ⌜ placed r (now (t .exit)) ≡ lastPlaced (now (s .entry)) at n (now (t .entry)) ⌝ }
 {
     if s.len() <= at {
@@ -99,7 +99,7 @@ pub fn place_last(s: &[u8], at: usize, n: u8, t: &mut [u8; SIZE]) -> bool
 }
 
 // Writes how many classes and methods there are.
-pub fn put_counts(n: u8, m: u8, t: &mut [u8; SIZE])
+pub(crate) fn put_counts(n: u8, m: u8, t: &mut [u8; SIZE])
     ensures { λ _. ⌜ now (t .exit) ≡ set (set (now (t .entry)) classCountAt n) methodCountAt m ⌝ }
 {
     t[CLASS_COUNT] = n;
@@ -107,7 +107,7 @@ pub fn put_counts(n: u8, m: u8, t: &mut [u8; SIZE])
 }
 
 // The lines from `at` on, as m methods and main; then the counts.
-pub fn place_rest(
+pub(crate) fn place_rest(
     s: &[u8],
     rights: &[u8; RIGHTS],
     at: usize,

@@ -20,7 +20,7 @@ pub enum FieldFound {
 }
 
 // The parent of class c.
-pub fn parent(t: &[u8; SIZE], c: u8) -> u8
+pub(crate) fn parent(t: &[u8; SIZE], c: u8) -> u8
     ensures { λ r. ⌜ r ≡ getD (now (t .entry)) (rowSize * c) 0 ⌝ }
 {
     t[ROW * (c as usize)]
@@ -48,7 +48,7 @@ pub fn field_total(t: &[u8; SIZE], c: u8) -> u8
 }
 
 // Where the type of own field j of class c stands, 0 if there is none.
-pub fn own_place(t: &[u8; SIZE], c: u8, j: u8) -> usize
+pub(crate) fn own_place(t: &[u8; SIZE], c: u8, j: u8) -> usize
     ensures { λ r. ⌜ Stored (now (t .entry)) r (ownField (now (t .entry)) c j) ⌝ }
 {
     let row = ROW * (c as usize);
@@ -59,7 +59,7 @@ pub fn own_place(t: &[u8; SIZE], c: u8, j: u8) -> usize
 }
 
 // Where the type of field f of class c stands, inherited ones first; 0 if there is none.
-pub fn field_place(t: &[u8; SIZE], c: u8, f: u8) -> usize
+pub(crate) fn field_place(t: &[u8; SIZE], c: u8, f: u8) -> usize
     ensures { λ r. ⌜ Stored (now (t .entry)) r (fieldOf (now (t .entry)) c f) ⌝ }
 {
     let p = t[ROW * (c as usize)];

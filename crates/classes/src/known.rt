@@ -13,7 +13,7 @@ ghost use Rattle.classes.specs.Placing.{goodTypes, namesKnown, scan, nam
 const BLOCK: usize = 16;
 
 // Tags 0 and 3 are closed.
-pub fn closed(g: u8) -> bool
+pub(crate) fn closed(g: u8) -> bool
     ensures { λ r. ⌜ r ≡ closedTag g ⌝ }
 {
     if g == 0 {
@@ -23,7 +23,7 @@ pub fn closed(g: u8) -> bool
 }
 
 // Whether the k types from `at` on have known classes and closed tags.
-pub fn types_good(s: &[u8], at: usize, k: u8, n: u8) -> bool
+pub(crate) fn types_good(s: &[u8], at: usize, k: u8, n: u8) -> bool
     ensures { λ r. ⌜ r ≡ goodTypes n k (drop at (now (s .entry))) ⌝ }
 {
     if k == 0 {
@@ -132,7 +132,7 @@ fn scan_known(s: &[u8], at: usize, n: u8) -> bool
 }
 
 // The same, by a quick test first.
-pub fn all_known(s: &[u8], at: usize, n: u8) -> bool
+pub(crate) fn all_known(s: &[u8], at: usize, n: u8) -> bool
     requires { ⌜ length (now s) ≤ lineSize ⌝ }
     ensures { λ r. ⌜ r ≡ scan n 0 (drop at (now (s .entry))) ⌝ }
 {
@@ -146,7 +146,7 @@ pub fn all_known(s: &[u8], at: usize, n: u8) -> bool
 }
 
 // A method's line without its name and its expressions: owner known and not Object, types known, first result and parameters closed.
-pub fn head_good(s: &[u8], n: u8) -> bool
+pub(crate) fn head_good(s: &[u8], n: u8) -> bool
     ensures { λ r. ⌜ r ≡ headGood n (now (s .entry)) ⌝ }
 {
     if s.len() < 8 {

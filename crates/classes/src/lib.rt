@@ -1,11 +1,13 @@
 // A program's class table in bytes (docs/TABLE.md) and what is asked of it: class fit, fields, methods and their parts.
+// Offered: `ClassTable`; the figures of `places`; of `chain` `fit`, `field_total` and `field_type`; of `methods` `lookup` and a method's parts; `build::place_table`;
+// `overrides::overrides`.
 // Not here: reading a text into it, types of expressions, runs.
 pub mod places; // the figures of the layout
 pub mod chain; // class fit and the fields of a class
 pub mod methods; // lookup, and the parts of a method
 pub mod shape; // what stands at a place of an expression
-pub mod known; // tests of a line against the number of classes
-pub mod place; // one line into the table
+pub(crate) mod known; // tests of a line against the number of classes
+pub(crate) mod place; // one line into the table
 pub mod build; // all lines into the table
 pub mod overrides; // methods that override have the same types
 

@@ -21,7 +21,7 @@ pub enum Found {
 }
 
 // What the index of class c says of the name m: a method's number and 1, or 0.
-pub fn own_number(t: &[u8; SIZE], c: u8, m: u8) -> u8
+pub(crate) fn own_number(t: &[u8; SIZE], c: u8, m: u8) -> u8
     ensures { λ r. ⌜ ownOf (now (t .entry)) c m ≡ numbered r ⌝ }
 {
     if CLASSES < c {
@@ -31,7 +31,7 @@ pub fn own_number(t: &[u8; SIZE], c: u8, m: u8) -> u8
 }
 
 // The method with the name m that class c itself declares.
-pub fn own_method(t: &[u8; SIZE], c: u8, m: u8) -> Found
+pub(crate) fn own_method(t: &[u8; SIZE], c: u8, m: u8) -> Found
     ensures { λ r. ⌜ r ≡ ownOf (now (t .entry)) c m ⌝ }
 {
     let x = own_number(t, c, m);
@@ -42,7 +42,7 @@ pub fn own_method(t: &[u8; SIZE], c: u8, m: u8) -> Found
 }
 
 // The same of class c or of the nearest class above it that has such a method.
-pub fn lookup_number(t: &[u8; SIZE], c: u8, m: u8) -> u8
+pub(crate) fn lookup_number(t: &[u8; SIZE], c: u8, m: u8) -> u8
     ensures { λ r. ⌜ lookupOf (now (t .entry)) c m ≡ numbered r ⌝ }
 {
     let x = own_number(t, c, m);
@@ -76,7 +76,7 @@ pub fn owner(t: &[u8; SIZE], i: u8) -> u8
     t[METHODS + LONG * ((i % 64) as usize) + 1]
 }
 
-pub fn name(t: &[u8; SIZE], i: u8) -> u8
+pub(crate) fn name(t: &[u8; SIZE], i: u8) -> u8
     ensures { λ r. ⌜ r ≡ getD (now (t .entry)) (rowOf i + 2) 0 ⌝ }
 {
     t[METHODS + LONG * ((i % 64) as usize) + 2]

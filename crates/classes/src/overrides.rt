@@ -17,7 +17,7 @@ ghost use Rattle.classes.specs.Overriding.{sameFrom, sameAs, sameAbove};
 ghost use Rattle.classes.specs.Made.{Overrides};
 
 // Whether the k bytes from a and from b on are the same.
-pub fn same_bytes(t: &[u8; SIZE], a: usize, b: usize, k: usize) -> bool
+pub(crate) fn same_bytes(t: &[u8; SIZE], a: usize, b: usize, k: usize) -> bool
     requires { ⌜ (a + k ≤ tableSize) × (b + k ≤ tableSize) ⌝ }
     ensures { λ r. ⌜ r ≡ sameFrom (now (t .entry)) a b k ⌝ }
 {
@@ -31,7 +31,7 @@ pub fn same_bytes(t: &[u8; SIZE], a: usize, b: usize, k: usize) -> bool
 }
 
 // Whether methods i and j have the same types: both results, the number of parameters and theirs, in one row of bytes.
-pub fn same_types(t: &[u8; SIZE], i: u8, j: u8) -> bool
+pub(crate) fn same_types(t: &[u8; SIZE], i: u8, j: u8) -> bool
     ensures { λ r. ⌜ r ≡ sameAs (now (t .entry)) i j ⌝ }
 {
     let a = METHODS + LONG * ((i % 64) as usize);
@@ -41,7 +41,7 @@ pub fn same_types(t: &[u8; SIZE], i: u8, j: u8) -> bool
 }
 
 // Whether method i has the types of the method of its name above its class, where there is one.
-pub fn same_above(t: &[u8; SIZE], i: u8) -> bool
+pub(crate) fn same_above(t: &[u8; SIZE], i: u8) -> bool
     ensures { λ r. ⌜ r ≡ sameAbove (now (t .entry)) i ⌝ }
 {
     let p = parent(t, owner(t, i));

@@ -26,7 +26,7 @@ ghost use Rattle.classes.specs.Figures.{tableSize};
 ghost use Rattle.classes.specs.Placing.{scan, placed, classPlaced, indexPut, methodPut, methodPlaced, mainPlaced};
 
 // Writes the bytes of the line from `from` on into the table at `to`.
-pub fn copy(l: &[u8], from: usize, t: &mut [u8; SIZE], to: usize)
+pub(crate) fn copy(l: &[u8], from: usize, t: &mut [u8; SIZE], to: usize)
     requires { ⌜ (length (now l) ≤ lineSize) × (to + length (now l) ≤ tableSize) ⌝ }
     ensures { λ _. ⌜ now (t .exit) ≡ sets (now (t .entry)) to (drop from (now (l .entry))) ⌝ }
 {
@@ -40,7 +40,7 @@ pub fn copy(l: &[u8], from: usize, t: &mut [u8; SIZE], to: usize)
 }
 
 // Class k of n: its number, its parent, its own fields' types, and how many fields it has in all.
-pub fn place_class(l: &[u8], k: u8, n: u8, t: &mut [u8; SIZE]) -> bool
+pub(crate) fn place_class(l: &[u8], k: u8, n: u8, t: &mut [u8; SIZE]) -> bool
     requires { ⌜ (length (now l) ≤ lineSize) × (k ≤ classCount) ⌝ }
     ensures { λ r. ⌜ placed r (now (t .exit)) ≡ classPlaced (now (l .entry)) k n (now (t .entry)) ⌝ }
 {
@@ -85,7 +85,7 @@ fn bodies_known(l: &[u8], n: u8) -> bool
 }
 
 // Sets the index of class c under the name m.
-pub fn put_index(c: u8, m: u8, x: u8, t: &mut [u8; SIZE])
+pub(crate) fn put_index(c: u8, m: u8, x: u8, t: &mut [u8; SIZE])
     ensures { λ _. ⌜ now (t .exit) ≡ indexPut c m x (now (t .entry)) ⌝ }
 {
     if CLASSES < c {
@@ -95,7 +95,7 @@ pub fn put_index(c: u8, m: u8, x: u8, t: &mut [u8; SIZE])
 }
 
 // Writes the row of method i.
-pub fn put_method(l: &[u8], i: u8, right: u8, t: &mut [u8; SIZE])
+pub(crate) fn put_method(l: &[u8], i: u8, right: u8, t: &mut [u8; SIZE])
     requires { ⌜ (length (now l) ≤ lineSize) × (i < methodCount) ⌝ }
     ensures { λ _. ⌜ now (t .exit) ≡ methodPut (now (l .entry)) i right (now (t .entry)) ⌝ }
 {
@@ -132,7 +132,7 @@ pub fn place_method(l: &[u8], i: u8, rights: &[u8; RIGHTS], n: u8, t: &mut [u8; 
 }
 
 // The line of main.
-pub fn place_main(l: &[u8], n: u8, t: &mut [u8; SIZE]) -> bool
+pub(crate) fn place_main(l: &[u8], n: u8, t: &mut [u8; SIZE]) -> bool
     requires { ⌜ length (now l) ≤ lineSize ⌝ }
     ensures { λ r. ⌜ placed r (now (t .exit)) ≡ mainPlaced (now (l .entry)) n (now (t .entry)) ⌝ }
 {

@@ -14,7 +14,7 @@ pub const CLASSES: u8 = 32;
 pub const FIELDS: u8 = 4;
 
 // the index of own methods: a row of 256 bytes for each class
-pub const INDEX: usize = 528;
+pub(crate) const INDEX: usize = 528;
 
 // the methods' rows, 256 bytes each
 pub const METHODS: usize = 8976;
@@ -34,7 +34,7 @@ pub const CLASS_COUNT: usize = 11;
 pub const METHOD_COUNT: usize = 12;
 
 // A byte as an index.
-pub fn wide(x: u8) -> usize
+pub(crate) fn wide(x: u8) -> usize
     ensures { λ r. ⌜ Wide x r ⌝ }
 {
     x as usize
