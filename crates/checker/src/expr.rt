@@ -37,7 +37,7 @@ ghost use Rattle.checker.specs.Machine.{typeIn, varBy, partsBy, fieldBy,
 const PARTS_NESTING: usize = 5;
 
 // The type of the expression at `at`, nested at most `left` deep.
-pub fn type_expr(t: &[u8; SIZE], scope: Scope, at: usize, left: usize) -> Typed
+pub(crate) fn type_expr(t: &[u8; SIZE], scope: Scope, at: usize, left: usize) -> Typed
     ensures { λ r. ⌜ r ≡ typeIn (now (t .entry)) left scope at ⌝ }
 {
     if left == 0 {
@@ -54,7 +54,7 @@ pub fn type_expr(t: &[u8; SIZE], scope: Scope, at: usize, left: usize) -> Typed
 }
 
 // The type of a body, or of main. It is type_expr for the whole nesting: with two callers the walk of the parts stays one function when compiled.
-pub fn type_body(t: &[u8; SIZE], scope: Scope, at: usize) -> Typed
+pub(crate) fn type_body(t: &[u8; SIZE], scope: Scope, at: usize) -> Typed
     ensures { λ r. ⌜ r ≡ typeIn (now (t .entry)) nestingLimit scope at ⌝ }
 {
     if SIZE <= at {
@@ -68,7 +68,7 @@ pub fn type_body(t: &[u8; SIZE], scope: Scope, at: usize) -> Typed
 }
 
 // The variable at `at`, whose first byte is b.
-pub fn type_var(t: &[u8; SIZE], scope: Scope, b: u8, at: usize) -> Typed
+pub(crate) fn type_var(t: &[u8; SIZE], scope: Scope, b: u8, at: usize) -> Typed
     requires { ⌜ at < tableSize ⌝ }
     ensures { λ r. ⌜ r ≡ varBy (now (t .entry)) scope b at ⌝ }
 {
@@ -86,7 +86,7 @@ pub fn type_var(t: &[u8; SIZE], scope: Scope, b: u8, at: usize) -> Typed
 }
 
 // The expression with parts at `at`, whose first byte is b. The parts are nested at most `left` deep.
-pub fn type_parts(t: &[u8; SIZE], scope: Scope, b: u8, at: usize, left: usize) -> Typed
+pub(crate) fn type_parts(t: &[u8; SIZE], scope: Scope, b: u8, at: usize, left: usize) -> Typed
     requires { ⌜ at < tableSize ⌝ }
     ensures { λ r. ⌜ r ≡ partsBy (now (t .entry)) (typeIn (now (t .entry)) left scope) (scope .main) b at ⌝ }
 {
@@ -105,7 +105,7 @@ pub fn type_parts(t: &[u8; SIZE], scope: Scope, b: u8, at: usize, left: usize) -
 }
 
 // Field f of the expression at `at`.
-pub fn type_field(t: &[u8; SIZE], scope: Scope, f: u8, at: usize, left: usize) -> Typed
+pub(crate) fn type_field(t: &[u8; SIZE], scope: Scope, f: u8, at: usize, left: usize) -> Typed
     ensures { λ r. ⌜ r ≡ fieldBy (now (t .entry)) (typeIn (now (t .entry)) left scope) f at ⌝ }
 {
     let o = type_expr(t, scope, at, left);
@@ -119,7 +119,7 @@ pub fn type_field(t: &[u8; SIZE], scope: Scope, f: u8, at: usize, left: usize) -
 }
 
 // Call of m with n arguments: the receiver at `at`, then the arguments.
-pub fn type_call(t: &[u8; SIZE], scope: Scope, m: u8, n: u8, at: usize, left: usize) -> Typed
+pub(crate) fn type_call(t: &[u8; SIZE], scope: Scope, m: u8, n: u8, at: usize, left: usize) -> Typed
     ensures { λ r. ⌜ r ≡ callBy (now (t .entry)) (typeIn (now (t .entry)) left scope) (scope .main) m n at ⌝ }
 {
     let o = type_expr(t, scope, at, left);
@@ -134,7 +134,7 @@ pub fn type_call(t: &[u8; SIZE], scope: Scope, m: u8, n: u8, at: usize, left: us
 }
 
 // The n arguments of a call of method i: each has a closed tag and fits its parameter.
-pub fn type_args(t: &[u8; SIZE], scope: Scope, i: u8, n: u8, at: usize, left: usize) -> Typed
+pub(crate) fn type_args(t: &[u8; SIZE], scope: Scope, i: u8, n: u8, at: usize, left: usize) -> Typed
     ensures { λ r. ⌜ r ≡ argsBy (now (t .entry)) (typeIn (now (t .entry)) left scope) (scope .main) i n at ⌝ }
 {
     let mut k: u8 = 0;
@@ -156,7 +156,7 @@ pub fn type_args(t: &[u8; SIZE], scope: Scope, i: u8, n: u8, at: usize, left: us
 }
 
 // A new object of class c with n values.
-pub fn type_new(t: &[u8; SIZE], scope: Scope, c: u8, n: u8, at: usize, left: usize) -> Typed
+pub(crate) fn type_new(t: &[u8; SIZE], scope: Scope, c: u8, n: u8, at: usize, left: usize) -> Typed
     ensures { λ r. ⌜ r ≡ newBy (now (t .entry)) (typeIn (now (t .entry)) left scope) c n at ⌝ }
 {
     if field_total(t, c) != n {
@@ -179,7 +179,14 @@ fn stays_closed(closed: bool, tag: u8) -> bool
 }
 
 // The n values of a new object of class c: each fits its field, an open tag read as 0. The object is open if a value is.
-pub fn type_values(t: &[u8; SIZE], scope: Scope, c: u8, n: u8, at: usize, left: usize) -> Typed
+pub(crate) fn type_values(
+    t: &[u8; SIZE],
+    scope: Scope,
+    c: u8,
+    n: u8,
+    at: usize,
+    left: usize,
+) -> Typed
     ensures { λ r. ⌜ r ≡ newThen c (listBy (now (t .entry)) (typeIn (now (t .entry)) left scope) (Fields c) 0 n true at) ⌝ }
 {
     let mut k: u8 = 0;

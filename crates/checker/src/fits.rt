@@ -16,14 +16,14 @@ ghost use Rattle.checker.specs.Items.{Fields};
 ghost use Rattle.checker.specs.Types.{fitsType, narrowTag, fitsFound, itemFits, argFits, receiverOf, resultOf};
 
 // Whether tag g is not larger than tag h.
-pub fn tag_fits(g: u8, h: u8) -> bool
+pub(crate) fn tag_fits(g: u8, h: u8) -> bool
     ensures { λ r. ⌜ r ≡ leb g h ⌝ }
 {
     g <= h
 }
 
 // Whether a type fits d: its class fits, and its tag is not larger.
-pub fn fits(t: &[u8; SIZE], class: u8, tag: u8, d: FieldType) -> bool
+pub(crate) fn fits(t: &[u8; SIZE], class: u8, tag: u8, d: FieldType) -> bool
     ensures { λ r. ⌜ r ≡ fitsType (now (t .entry)) class tag d ⌝ }
 {
     if !tag_fits(tag, d.tag) {
@@ -34,7 +34,7 @@ pub fn fits(t: &[u8; SIZE], class: u8, tag: u8, d: FieldType) -> bool
 }
 
 // Tags 0 and 3 are closed.
-pub fn closed_tag(g: u8) -> bool
+pub(crate) fn closed_tag(g: u8) -> bool
     ensures { λ r. ⌜ r ≡ closedTag g ⌝ }
 {
     if g == 0 {
@@ -44,7 +44,7 @@ pub fn closed_tag(g: u8) -> bool
 }
 
 // An open tag read as 0, for an item of a list.
-pub fn narrow(g: u8) -> u8
+pub(crate) fn narrow(g: u8) -> u8
     ensures { λ r. ⌜ r ≡ narrowTag g ⌝ }
 {
     if closed_tag(g) {
@@ -54,7 +54,7 @@ pub fn narrow(g: u8) -> u8
 }
 
 // 1 read as 0 and 2 as 3.
-pub fn close_tag(g: u8) -> u8
+pub(crate) fn close_tag(g: u8) -> u8
     ensures { λ r. ⌜ r ≡ closeTag g ⌝ }
 {
     if g == 1 {
@@ -78,7 +78,7 @@ fn item_fits(t: &[u8; SIZE], w: FieldFound, class: u8, tag: u8) -> bool
 }
 
 // Whether a value's type fits field k of class c.
-pub fn value_fits(t: &[u8; SIZE], c: u8, k: u8, class: u8, tag: u8) -> bool
+pub(crate) fn value_fits(t: &[u8; SIZE], c: u8, k: u8, class: u8, tag: u8) -> bool
     ensures { λ r. ⌜ r ≡ itemFits (now (t .entry)) (Fields c) k class tag ⌝ }
 {
     let w = field_type(t, c, k);
@@ -86,7 +86,7 @@ pub fn value_fits(t: &[u8; SIZE], c: u8, k: u8, class: u8, tag: u8) -> bool
 }
 
 // Whether an argument's type is closed and fits parameter k of method i.
-pub fn arg_fits(t: &[u8; SIZE], i: u8, k: u8, class: u8, tag: u8) -> bool
+pub(crate) fn arg_fits(t: &[u8; SIZE], i: u8, k: u8, class: u8, tag: u8) -> bool
     ensures { λ r. ⌜ r ≡ argFits (now (t .entry)) i k class tag ⌝ }
 {
     if !closed_tag(tag) {
@@ -107,7 +107,7 @@ pub fn receiver(t: &[u8; SIZE], class: u8, tag: u8, m: u8, n: u8) -> Found
 }
 
 // The type of a call of method i: the first result type in main, the second in a body.
-pub fn result_type(t: &[u8; SIZE], main: bool, i: u8) -> FieldType
+pub(crate) fn result_type(t: &[u8; SIZE], main: bool, i: u8) -> FieldType
     ensures { λ r. ⌜ r ≡ resultOf (now (t .entry)) main i ⌝ }
 {
     if main {

@@ -24,7 +24,7 @@ pub enum Checked {
 }
 
 // Whether a type fits the first result type of method i.
-pub fn first_fits(t: &[u8; SIZE], i: u8, class: u8, tag: u8) -> bool
+pub(crate) fn first_fits(t: &[u8; SIZE], i: u8, class: u8, tag: u8) -> bool
     ensures { λ r. ⌜ r ≡ fitsFirst (now (t .entry)) i class tag ⌝ }
 {
     let d = first(t, i);
@@ -32,7 +32,7 @@ pub fn first_fits(t: &[u8; SIZE], i: u8, class: u8, tag: u8) -> bool
 }
 
 // Whether a type fits the second result type of method i.
-pub fn second_fits(t: &[u8; SIZE], i: u8, class: u8, tag: u8) -> bool
+pub(crate) fn second_fits(t: &[u8; SIZE], i: u8, class: u8, tag: u8) -> bool
     ensures { λ r. ⌜ r ≡ fitsSecond (now (t .entry)) i class tag ⌝ }
 {
     let d = second(t, i);
@@ -40,7 +40,7 @@ pub fn second_fits(t: &[u8; SIZE], i: u8, class: u8, tag: u8) -> bool
 }
 
 // The four conditions of method i: class and tag are its left type, c and g its right one.
-pub fn results_fit(t: &[u8; SIZE], i: u8, class: u8, tag: u8, c: u8, g: u8) -> bool
+pub(crate) fn results_fit(t: &[u8; SIZE], i: u8, class: u8, tag: u8, c: u8, g: u8) -> bool
     ensures { λ r. ⌜ r ≡ resultsFit (now (t .entry)) i class tag c g ⌝ }
 {
     let closed = close_tag(tag);
@@ -58,7 +58,7 @@ pub fn results_fit(t: &[u8; SIZE], i: u8, class: u8, tag: u8, c: u8, g: u8) -> b
 }
 
 // Whether method i has a type, given its left one: res has its class on the right side.
-pub fn right_typed(t: &[u8; SIZE], i: u8, class: u8, tag: u8) -> bool
+pub(crate) fn right_typed(t: &[u8; SIZE], i: u8, class: u8, tag: u8) -> bool
     ensures { λ r. ⌜ r ≡ rightTyped (now (t .entry)) i class tag ⌝ }
 {
     let scope = Scope {
@@ -75,7 +75,7 @@ pub fn right_typed(t: &[u8; SIZE], i: u8, class: u8, tag: u8) -> bool
 }
 
 // Whether method i has a type.
-pub fn method_typed(t: &[u8; SIZE], i: u8) -> bool
+pub(crate) fn method_typed(t: &[u8; SIZE], i: u8) -> bool
     ensures { λ r. ⌜ r ≡ methodIn (now (t .entry)) i ⌝ }
 {
     let scope = Scope {
@@ -92,14 +92,14 @@ pub fn method_typed(t: &[u8; SIZE], i: u8) -> bool
 }
 
 // How many methods there are.
-pub fn method_count(t: &[u8; SIZE]) -> u8
+pub(crate) fn method_count(t: &[u8; SIZE]) -> u8
     ensures { λ r. ⌜ r ≡ getD (now (t .entry)) 12 0 ⌝ }
 {
     t[12]
 }
 
 // Whether every method has a type.
-pub fn methods_typed(t: &[u8; SIZE]) -> bool
+pub(crate) fn methods_typed(t: &[u8; SIZE]) -> bool
     ensures { λ r. ⌜ r ≡ methodsIn (now (t .entry)) ⌝ }
 {
     let n = method_count(t);

@@ -8,26 +8,26 @@ ghost use mathlib.Core.Path.{_≡_};
 ghost use Rattle.checker.specs.Types.{foundAt, thisOf, resOf, paramVar};
 
 // What an expression has: a type, by class and tag, and the place after it; or no type.
-pub enum Typed {
+pub(crate) enum Typed {
     Has(u8, u8, usize),
     No,
 }
 
 // The class of the left type, which res has on the right side.
-pub enum Res {
+pub(crate) enum Res {
     Absent,
     Class(u8),
 }
 
 // Where an expression stands: in main, or in a body of a method.
-pub struct Scope {
+pub(crate) struct Scope {
     pub main: bool,
     pub method: u8,
     pub res: Res,
 }
 
 // A type that was found or not, with the place after.
-pub fn found(w: FieldFound, next: usize) -> Typed
+pub(crate) fn found(w: FieldFound, next: usize) -> Typed
     ensures { λ r. ⌜ r ≡ foundAt w next ⌝ }
 {
     let FieldFound::Type(d) = w else {
@@ -37,7 +37,7 @@ pub fn found(w: FieldFound, next: usize) -> Typed
 }
 
 // The type of this: owner+.
-pub fn this_type(t: &[u8; SIZE], scope: Scope, next: usize) -> Typed
+pub(crate) fn this_type(t: &[u8; SIZE], scope: Scope, next: usize) -> Typed
     ensures { λ r. ⌜ r ≡ thisOf (now (t .entry)) scope next ⌝ }
 {
     if scope.main {
@@ -48,7 +48,7 @@ pub fn this_type(t: &[u8; SIZE], scope: Scope, next: usize) -> Typed
 }
 
 // The type of res: the class of the left type with tag 2.
-pub fn res_type(scope: Scope, next: usize) -> Typed
+pub(crate) fn res_type(scope: Scope, next: usize) -> Typed
     ensures { λ r. ⌜ r ≡ resOf scope next ⌝ }
 {
     let res = scope.res;
@@ -59,7 +59,7 @@ pub fn res_type(scope: Scope, next: usize) -> Typed
 }
 
 // The type of parameter k.
-pub fn param_var(t: &[u8; SIZE], scope: Scope, k: u8, next: usize) -> Typed
+pub(crate) fn param_var(t: &[u8; SIZE], scope: Scope, k: u8, next: usize) -> Typed
     ensures { λ r. ⌜ r ≡ paramVar (now (t .entry)) scope k next ⌝ }
 {
     if scope.main {

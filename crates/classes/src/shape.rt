@@ -24,7 +24,7 @@ pub enum Shape {
 }
 
 // The byte at a place, 0 past the end.
-pub fn byte_at(t: &[u8; SIZE], at: usize) -> u8
+pub(crate) fn byte_at(t: &[u8; SIZE], at: usize) -> u8
     ensures { λ r. ⌜ r ≡ byteIn (now (t .entry)) at ⌝ }
 {
     if at < SIZE {
@@ -34,7 +34,7 @@ pub fn byte_at(t: &[u8; SIZE], at: usize) -> u8
 }
 
 // What an expression at `at` is whose first three bytes are b, k and n.
-pub fn shape_of(b: u8, k: u8, n: u8, at: usize) -> Shape
+pub(crate) fn shape_of(b: u8, k: u8, n: u8, at: usize) -> Shape
     requires { ⌜ at < tableSize ⌝ }
     ensures { λ r. ⌜ r ≡ shapeOf b k n at ⌝ }
 {
