@@ -97,7 +97,7 @@ pub(crate) fn arg_fits(t: &[u8; SIZE], i: u8, k: u8, class: u8, tag: u8) -> bool
 }
 
 // The method m with n parameters that a receiver of this type has.
-pub fn receiver(t: &[u8; SIZE], class: u8, tag: u8, m: u8, n: u8) -> Found
+pub(crate) fn receiver(t: &[u8; SIZE], class: u8, tag: u8, m: u8, n: u8) -> Found
     ensures { λ r. ⌜ r ≡ receiverOf (now (t .entry)) class tag m n ⌝ }
 {
     if tag != 0 {

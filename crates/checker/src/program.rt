@@ -12,9 +12,11 @@ use classes::methods::left_place;
 use classes::methods::right_place;
 use classes::methods::second;
 use classes::places::MAIN;
+use classes::places::METHOD_COUNT_AT;
 use classes::places::SIZE;
 ghost use mathlib.Core.Path.{_≡_};
 ghost use lib.ListN.{getD};
+ghost use Rattle.classes.specs.Figures.{methodCountAt};
 ghost use Rattle.checker.specs.Program.{fitsFirst, fitsSecond, resultsFit, rightTyped, methodIn, methodsIn, checkOf};
 
 // Refused with 6 or 7, or accepted with main's type.
@@ -93,9 +95,9 @@ pub(crate) fn method_typed(t: &[u8; SIZE], i: u8) -> bool
 
 // How many methods there are.
 pub(crate) fn method_count(t: &[u8; SIZE]) -> u8
-    ensures { λ r. ⌜ r ≡ getD (now (t .entry)) 12 0 ⌝ }
+    ensures { λ r. ⌜ r ≡ getD (now (t .entry)) methodCountAt 0 ⌝ }
 {
-    t[12]
+    t[METHOD_COUNT_AT]
 }
 
 // Whether every method has a type.

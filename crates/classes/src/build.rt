@@ -3,8 +3,8 @@
 use crate::place::place_class;
 use crate::place::place_main;
 use crate::place::place_method;
-use crate::places::CLASS_COUNT;
-use crate::places::METHOD_COUNT;
+use crate::places::CLASS_COUNT_AT;
+use crate::places::METHOD_COUNT_AT;
 use crate::places::SIZE;
 use crate::places::wide;
 use lineform::lines::RIGHTS;
@@ -102,8 +102,8 @@ pub(crate) fn place_last(s: &[u8], at: usize, n: u8, t: &mut [u8; SIZE]) -> bool
 pub(crate) fn put_counts(n: u8, m: u8, t: &mut [u8; SIZE])
     ensures { λ _. ⌜ now (t .exit) ≡ set (set (now (t .entry)) classCountAt n) methodCountAt m ⌝ }
 {
-    t[CLASS_COUNT] = n;
-    t[METHOD_COUNT] = m;
+    t[CLASS_COUNT_AT] = n;
+    t[METHOD_COUNT_AT] = m;
 }
 
 // The lines from `at` on, as m methods and main; then the counts.

@@ -57,7 +57,7 @@ pub(crate) fn lookup_number(t: &[u8; SIZE], c: u8, m: u8) -> u8
 }
 
 // The method with the name m of class c or of the nearest class above it.
-pub fn lookup(t: &[u8; SIZE], c: u8, m: u8) -> Found
+pub(crate) fn lookup(t: &[u8; SIZE], c: u8, m: u8) -> Found
     ensures { λ r. ⌜ r ≡ lookupOf (now (t .entry)) c m ⌝ }
 {
     let x = lookup_number(t, c, m);
@@ -104,7 +104,7 @@ pub fn second(t: &[u8; SIZE], i: u8) -> FieldType
 }
 
 // How many parameters method i has.
-pub fn param_count(t: &[u8; SIZE], i: u8) -> u8
+pub(crate) fn param_count(t: &[u8; SIZE], i: u8) -> u8
     ensures { λ r. ⌜ r ≡ getD (now (t .entry)) (rowOf i + 7) 0 ⌝ }
 {
     t[METHODS + LONG * ((i % 64) as usize) + 7]

@@ -6,7 +6,7 @@ use crate::methods::lookup;
 use crate::methods::name;
 use crate::methods::owner;
 use crate::places::LONG;
-use crate::places::METHOD_COUNT;
+use crate::places::METHOD_COUNT_AT;
 use crate::places::METHODS;
 use crate::places::SIZE;
 use crate::places::wide;
@@ -56,7 +56,7 @@ pub(crate) fn same_above(t: &[u8; SIZE], i: u8) -> bool
 pub fn overrides(t: &[u8; SIZE]) -> bool
     ensures { λ r. ⌜ Overrides (now (t .entry)) r ⌝ }
 {
-    let n = wide(t[METHOD_COUNT]);
+    let n = wide(t[METHOD_COUNT_AT]);
     let mut i: usize = 0;
     while i < n {
         if !same_above(t, i as u8) {

@@ -28,10 +28,10 @@ pub const LONG: usize = 256;
 // the byte of a long row that has its line's length
 pub const LAST: usize = 255;
 
-// how many classes and methods there are, in the room of class 0
-pub const CLASS_COUNT: usize = 11;
+// where it says how many classes and methods there are, in the room of class 0
+pub const CLASS_COUNT_AT: usize = 11;
 
-pub const METHOD_COUNT: usize = 12;
+pub const METHOD_COUNT_AT: usize = 12;
 
 // A byte as an index.
 pub(crate) fn wide(x: u8) -> usize

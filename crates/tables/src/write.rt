@@ -2,13 +2,13 @@
 // Not here: what one line is in characters (lineform), what reading asks of a text (read).
 use crate::read::read;
 use classes::ClassTable;
-use classes::places::CLASS_COUNT;
+use classes::places::CLASS_COUNT_AT;
 use classes::places::CLASSES;
 use classes::places::FIELDS;
 use classes::places::LAST;
 use classes::places::LONG;
 use classes::places::MAIN;
-use classes::places::METHOD_COUNT;
+use classes::places::METHOD_COUNT_AT;
 use classes::places::METHODS;
 use classes::places::ROW;
 use cofj::Written;
@@ -121,8 +121,8 @@ fn put_lines(t: &[u8], out: &mut [u8]) -> usize
     requires { ⌜ (length (now t) ≡ tableSize) × (roomSize ≤ length (now out)) ⌝ }
     ensures { λ r. ⌜ wrote r (now (out .exit)) ≡ putText (now (out .entry)) 0 (linesIn (now (t .entry))) ⌝ }
 {
-    let n = capped(t[CLASS_COUNT], CLASSES);
-    let m = capped(t[METHOD_COUNT], MOST_METHODS);
+    let n = capped(t[CLASS_COUNT_AT], CLASSES);
+    let m = capped(t[METHOD_COUNT_AT], MOST_METHODS);
     let a = class_lines(t, n, out, 0);
     let b = method_lines(t, m, out, a);
     main_line(t, out, b)
