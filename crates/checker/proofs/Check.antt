@@ -24,10 +24,10 @@ use Rattle.checker.proofs.Programs.{formed-check}
 
 module _ (s : List ℕ) (t : Table) (reads : readText s ≡ read t) where
   -- an expression nested at most `left` deep, of known classes, whose bytes stand at `at`
-  pub type-on : (scope : Scope) (top : Bool) (g : Env) → Agree t scope top g → (left : ℕ) (e : Expr) (at : ℕ)
+  pub type-on : (scope : Scope) (inMain : Bool) (g : Env) → Agree t scope inMain g → (left : ℕ) (e : Expr) (at : ℕ)
       → Nested left e → exprKnown (length (t .classes)) e ≡ true → Stands (layout t) at (codeOf e)
-      → typeIn (layout t) left scope at ≡ typedAt (typeOf t top g e) (at + length (codeOf e))
-  type-on scope top g agree left e at nested known stands = types-on t (read-formed s t reads) scope top g agree left .types e at nested known stands
+      → typeIn (layout t) left scope at ≡ typedAt (typeOf t inMain g e) (at + length (codeOf e))
+  type-on scope inMain g agree left e at nested known stands = types-on t (read-formed s t reads) scope inMain g agree left .types e at nested known stands
 
   pub check-on : checkOf (layout t) ≡ answerOf (check t)
   check-on = formed-check t (read-formed s t reads)

@@ -43,10 +43,10 @@ use Rattle.checker.proofs.OnBytes.{within, param-on}
 use Rattle.checker.proofs.Lists.{listedAt, Finds, unfit, length-narrow, narrow-same, types-length, list-on}
 
 -- a scope of the code says what an environment of the language says
-pub record Agree (t : Table) (s : Scope) (top : Bool) (g : Env) : Type 0 where
-  pub main : s .main ≡ top
-  pub self : (next : ℕ) → thisOf (layout t) s next ≡ typedAt (g .self) next
-  pub result : (next : ℕ) → resOf s next ≡ typedAt (g .result) next
+pub record Agree (t : Table) (s : Scope) (inMain : Bool) (g : Env) : Type 0 where
+  pub main : s .main ≡ inMain
+  pub this : (next : ℕ) → thisOf (layout t) s next ≡ typedAt (g .this) next
+  pub res : (next : ℕ) → resOf s next ≡ typedAt (g .res) next
   pub param : (k next : ℕ) → paramVar (layout t) s k next ≡ typedAt (getElem? (g .params) k) next
   pub known : KnownEnv (length (t .classes)) g
 
@@ -72,27 +72,27 @@ module _ (t : Table) (wf : WellFormed t) where
       go false = refl
 
   -- ---- the arguments of a call of method i, which is d
-  module _ (i : ℕ) (d : Method) (l : i < methodCount) (e : getElem? (t .methods) i ≡ some d) (top : Bool) (end : ℕ) where
+  module _ (i : ℕ) (d : Method) (l : i < methodCount) (e : getElem? (t .methods) i ≡ some d) (inMain : Bool) (end : ℕ) where
     result-is : (b : Bool) → resultAt (resultOf (layout t) b i) end ≡ typedAt (some (cond b (d .first) (d .second))) end
     result-is true = ap (λ (u : FieldType). resultAt u end) (first-at t i d l e)
     result-is false = ap (λ (u : FieldType). resultAt u end) (second-at t i d l e)
 
-    args-is : (os : Option (List Ty)) → argsThen (layout t) top i (listedAt t os (d .params) true end)
-        ≡ typedAt (os >>= λ us. guard (allClosed us && allFit t us (d .params)) >>= λ _. some (cond top (d .first) (d .second))) end
+    args-is : (os : Option (List Ty)) → argsThen (layout t) inMain i (listedAt t os (d .params) true end)
+        ≡ typedAt (os >>= λ us. guard (allClosed us && allFit t us (d .params)) >>= λ _. some (cond inMain (d .first) (d .second))) end
     args-is none = refl
     args-is (some us) = go (allClosed us) refl
       where
-        fitting : (b : Bool) → argsThen (layout t) top i (pick b (Listed.Past true end) Listed.No)
-            ≡ typedAt (guard b >>= λ _. some (cond top (d .first) (d .second))) end
-        fitting true = result-is top
+        fitting : (b : Bool) → argsThen (layout t) inMain i (pick b (Listed.Past true end) Listed.No)
+            ≡ typedAt (guard b >>= λ _. some (cond inMain (d .first) (d .second))) end
+        fitting true = result-is inMain
         fitting false = refl
 
-        open-ended : (b : Bool) → argsThen (layout t) top i (pick b (Listed.Past false end) Listed.No) ≡ No
+        open-ended : (b : Bool) → argsThen (layout t) inMain i (pick b (Listed.Past false end) Listed.No) ≡ No
         open-ended true = refl
         open-ended false = refl
 
-        go : (b : Bool) → allClosed us ≡ b → argsThen (layout t) top i (pick (allFit t (map narrow us) (d .params)) (Listed.Past b end) Listed.No)
-            ≡ typedAt (guard (b && allFit t us (d .params)) >>= λ _. some (cond top (d .first) (d .second))) end
+        go : (b : Bool) → allClosed us ≡ b → argsThen (layout t) inMain i (pick (allFit t (map narrow us) (d .params)) (Listed.Past b end) Listed.No)
+            ≡ typedAt (guard (b && allFit t us (d .params)) >>= λ _. some (cond inMain (d .first) (d .second))) end
         go true q = rw (narrow-same us q) (fitting (allFit t us (d .params)))
         go false q = open-ended (allFit t (map narrow us) (d .params))
 
@@ -130,25 +130,25 @@ module _ (t : Table) (wf : WellFormed t) where
       go true = rw (unfit t us (fieldsOf (t .classes) c) h)
       go false = rw (unfit t (map narrow us) (fieldsOf (t .classes) c) (λ z. h (sym (length-narrow us) ∙ z)))
 
-  args-other : (top : Bool) (d : Method) (us : List Ty) → (length us ≡ length (d .params) → ⊥)
-      → (guard (allClosed us && allFit t us (d .params)) >>= λ _. some (cond top (d .first) (d .second))) ≡ none
-  args-other top d us h = rw (unfit t us (d .params) h) (go (allClosed us))
+  args-other : (inMain : Bool) (d : Method) (us : List Ty) → (length us ≡ length (d .params) → ⊥)
+      → (guard (allClosed us && allFit t us (d .params)) >>= λ _. some (cond inMain (d .first) (d .second))) ≡ none
+  args-other inMain d us h = rw (unfit t us (d .params) h) (go (allClosed us))
     where
-      go : (b : Bool) → (guard (b && false) >>= λ _. some (cond top (d .first) (d .second))) ≡ none
+      go : (b : Bool) → (guard (b && false) >>= λ _. some (cond inMain (d .first) (d .second))) ≡ none
       go true = refl
       go false = refl
 
 -- ---- one step: `one` finds the types of what is nested less deep
-module _ (t : Table) (wf : WellFormed t) (top : Bool) (g : Env) (kg : KnownEnv (length (t .classes)) g) (P : Expr → Type 0) (one : Walk) (ih : Finds t top g P one) where
+module _ (t : Table) (wf : WellFormed t) (inMain : Bool) (g : Env) (kg : KnownEnv (length (t .classes)) g) (P : Expr → Type 0) (one : Walk) (ih : Finds t inMain g P one) where
   -- the type of a call of m on a receiver of type u
   abbrev callOf : Option (List Ty) → Ty → ℕ → Option Ty
-  callOf os u m = os >>= λ us. callType t top u m us
+  callOf os u m = os >>= λ us. callType t inMain u m us
 
   -- the arguments es stand at a1; the method was found
   module _ (es : Exprs) (each : Each P es) (kn : exprsKnown (length (t .classes)) es ≡ true) (a1 : ℕ) (st : Stands (layout t) a1 (codesOf es)) where
     counted-is : (i : ℕ) (d : Method) → getElem? (t .methods) i ≡ some d
-        → calledBy (layout t) one top (count es) a1 (counted (layout t) (count es) (method.At i))
-        ≡ typedAt (typesOf t top g es >>= λ us. guard (allClosed us && allFit t us (d .params)) >>= λ _. some (cond top (d .first) (d .second))) (a1 + length (codesOf es))
+        → calledBy (layout t) one inMain (count es) a1 (counted (layout t) (count es) (method.At i))
+        ≡ typedAt (typesOf t inMain g es >>= λ us. guard (allClosed us && allFit t us (d .params)) >>= λ _. some (cond inMain (d .first) (d .second))) (a1 + length (codesOf es))
     unfolding argsBy
     counted-is i d e = rw (param-count-at t i d l e) (go (eqb (length (d .params)) (count es)) refl)
       where
@@ -156,73 +156,73 @@ module _ (t : Table) (wf : WellFormed t) (top : Bool) (g : Env) (kg : KnownEnv (
         l = let a = index-below (t .methods) i d e in let b = wf .count in omega arith
 
         go : (b : Bool) → eqb (length (d .params)) (count es) ≡ b
-            → calledBy (layout t) one top (count es) a1 (pick b (method.At i) method.Nothing)
-            ≡ typedAt (typesOf t top g es >>= λ us. guard (allClosed us && allFit t us (d .params)) >>= λ _. some (cond top (d .first) (d .second))) (a1 + length (codesOf es))
+            → calledBy (layout t) one inMain (count es) a1 (pick b (method.At i) method.Nothing)
+            ≡ typedAt (typesOf t inMain g es >>= λ us. guard (allClosed us && allFit t us (d .params)) >>= λ _. some (cond inMain (d .first) (d .second))) (a1 + length (codesOf es))
         go true q =
             let r = method-at (MethodFormed t) (t .methods) i d (wf .methods) e in
-            ap (argsThen (layout t) top i)
-            (list-on t wf top g kg P one ih (Parameters i) es (d .params) 0 a1 true
+            ap (argsThen (layout t) inMain i)
+            (list-on t wf inMain g kg P one ih (Parameters i) es (d .params) 0 a1 true
             (λ j. ap (λ (x : ℕ). paramOf (layout t) i x) (let z : 0 + j ≡ j = omega arith in z) ∙ param-on t i d l e (r .few) j)
             (sym (eqb-true (length (d .params)) (count es) q)) each kn st)
-            ∙ args-is t wf i d l e top (a1 + length (codesOf es)) (typesOf t top g es)
+            ∙ args-is t wf i d l e inMain (a1 + length (codesOf es)) (typesOf t inMain g es)
         go false q =
             ap (λ (o : Option Ty). typedAt o (a1 + length (codesOf es)))
-            (sym (none-after (typesOf t top g es) (λ us. guard (allClosed us && allFit t us (d .params)) >>= λ _. some (cond top (d .first) (d .second)))
-            (λ us z. args-other t wf top d us (λ y. eqb-false (length (d .params)) (count es) q (sym y ∙ types-length t top g es us z)))))
+            (sym (none-after (typesOf t inMain g es) (λ us. guard (allClosed us && allFit t us (d .params)) >>= λ _. some (cond inMain (d .first) (d .second)))
+            (λ us z. args-other t wf inMain d us (λ y. eqb-false (length (d .params)) (count es) q (sym y ∙ types-length t inMain g es us z)))))
 
     found-is : (f : Found) (x : Option Method) → lay.Finds (t .methods) f x
-        → calledBy (layout t) one top (count es) a1 (counted (layout t) (count es) f)
-        ≡ typedAt (typesOf t top g es >>= λ us. x >>= λ d. guard (allClosed us && allFit t us (d .params)) >>= λ _. some (cond top (d .first) (d .second))) (a1 + length (codesOf es))
+        → calledBy (layout t) one inMain (count es) a1 (counted (layout t) (count es) f)
+        ≡ typedAt (typesOf t inMain g es >>= λ us. x >>= λ d. guard (allClosed us && allFit t us (d .params)) >>= λ _. some (cond inMain (d .first) (d .second))) (a1 + length (codesOf es))
     found-is f x (lay.Finds.at {i} {d} e) = counted-is i d e
-    found-is f x lay.Finds.nothing = ap (λ (o : Option Ty). typedAt o (a1 + length (codesOf es))) (sym (none-after (typesOf t top g es) (λ us. none) (λ us z. refl)))
+    found-is f x lay.Finds.nothing = ap (λ (o : Option Ty). typedAt o (a1 + length (codesOf es))) (sym (none-after (typesOf t inMain g es) (λ us. none) (λ us z. refl)))
 
     called-is : (u : Ty) (m : ℕ) → m < 256 → u .cls ≤ length (t .classes)
-        → calledBy (layout t) one top (count es) a1 (receiverOf (layout t) (u .cls) (u .tag) m (count es)) ≡ typedAt (callOf (typesOf t top g es) u m) (a1 + length (codesOf es))
+        → calledBy (layout t) one inMain (count es) a1 (receiverOf (layout t) (u .cls) (u .tag) m (count es)) ≡ typedAt (callOf (typesOf t inMain g es) u m) (a1 + length (codesOf es))
     unfolding receiverOf methodWith callType
     called-is u m small h = go (eqb (u .tag) 0)
       where
-        go : (b : Bool) → calledBy (layout t) one top (count es) a1 (pick b (counted (layout t) (count es) (lookupOf (layout t) (u .cls) m)) method.Nothing)
-            ≡ typedAt (typesOf t top g es >>= λ us. guard b >>= λ _. lookup t (u .cls) m >>= λ d. guard (allClosed us && allFit t us (d .params)) >>= λ _. some (cond top (d .first) (d .second))) (a1 + length (codesOf es))
+        go : (b : Bool) → calledBy (layout t) one inMain (count es) a1 (pick b (counted (layout t) (count es) (lookupOf (layout t) (u .cls) m)) method.Nothing)
+            ≡ typedAt (typesOf t inMain g es >>= λ us. guard b >>= λ _. lookup t (u .cls) m >>= λ d. guard (allClosed us && allFit t us (d .params)) >>= λ _. some (cond inMain (d .first) (d .second))) (a1 + length (codesOf es))
         go true = found-is (lookupOf (layout t) (u .cls) m) (lookup t (u .cls) m) (lookup-on t wf m small (u .cls) (within t wf (u .cls) h))
-        go false = ap (λ (o : Option Ty). typedAt o (a1 + length (codesOf es))) (sym (none-after (typesOf t top g es) (λ us. none) (λ us z. refl)))
+        go false = ap (λ (o : Option Ty). typedAt o (a1 + length (codesOf es))) (sym (none-after (typesOf t inMain g es) (λ us. none) (λ us z. refl)))
 
     call-is : (o : Option Ty) (m : ℕ) → m < 256 → ((u : Ty) → o ≡ some u → u .cls ≤ length (t .classes))
-        → typed (typedAt o a1) (λ c h next. calledBy (layout t) one top (count es) next (receiverOf (layout t) c h m (count es)))
-        ≡ typedAt (o >>= λ u. callOf (typesOf t top g es) u m) (a1 + length (codesOf es))
+        → typed (typedAt o a1) (λ c h next. calledBy (layout t) one inMain (count es) next (receiverOf (layout t) c h m (count es)))
+        ≡ typedAt (o >>= λ u. callOf (typesOf t inMain g es) u m) (a1 + length (codesOf es))
     call-is none m small kn′ = refl
     call-is (some u) m small kn′ = called-is u m small (kn′ u refl)
 
-    object-is : (c : ℕ) → c ≤ length (t .classes) → newBy (layout t) one c (count es) a1 ≡ typedAt (typesOf t top g es >>= λ us. newType t c us) (a1 + length (codesOf es))
+    object-is : (c : ℕ) → c ≤ length (t .classes) → newBy (layout t) one c (count es) a1 ≡ typedAt (typesOf t inMain g es >>= λ us. newType t c us) (a1 + length (codesOf es))
     unfolding newBy
     object-is c h = rw (total-at t c (within t wf c h)) (go (eqb (length (fieldsOf (t .classes) c)) (count es)) refl)
       where
         go : (b : Bool) → eqb (length (fieldsOf (t .classes) c)) (count es) ≡ b
-            → pick b (newThen c (listBy (layout t) one (Fields c) 0 (count es) true a1)) No ≡ typedAt (typesOf t top g es >>= λ us. newType t c us) (a1 + length (codesOf es))
+            → pick b (newThen c (listBy (layout t) one (Fields c) 0 (count es) true a1)) No ≡ typedAt (typesOf t inMain g es >>= λ us. newType t c us) (a1 + length (codesOf es))
         go true q =
             ap (newThen c)
-            (list-on t wf top g kg P one ih (Fields c) es (fieldsOf (t .classes) c) 0 a1 true
+            (list-on t wf inMain g kg P one ih (Fields c) es (fieldsOf (t .classes) c) 0 a1 true
             (λ j. ap (λ (x : ℕ). fieldOf (layout t) c x) (let z : 0 + j ≡ j = omega arith in z) ∙ field-on t wf c j (within t wf c h))
             (sym (eqb-true (length (fieldsOf (t .classes) c)) (count es) q)) each kn st)
-            ∙ new-is t wf c (a1 + length (codesOf es)) (typesOf t top g es)
+            ∙ new-is t wf c (a1 + length (codesOf es)) (typesOf t inMain g es)
         go false q =
             ap (λ (o : Option Ty). typedAt o (a1 + length (codesOf es)))
-            (sym (none-after (typesOf t top g es) (λ us. newType t c us)
-            (λ us z. new-other t wf c us (λ y. eqb-false (length (fieldsOf (t .classes) c)) (count es) q (sym y ∙ types-length t top g es us z)))))
+            (sym (none-after (typesOf t inMain g es) (λ us. newType t c us)
+            (λ us z. new-other t wf c us (λ y. eqb-false (length (fieldsOf (t .classes) c)) (count es) q (sym y ∙ types-length t inMain g es us z)))))
 
   -- ---- an expression, by what stands at its place
-  module _ (s : Scope) (ag : Agree t s top g) where
+  module _ (s : Scope) (ag : Agree t s inMain g) where
     pub step-on : (e : Expr) (at : ℕ) → Parts P e → exprKnown (length (t .classes)) e ≡ true → Stands (layout t) at (codeOf e)
-        → stepBy (layout t) one s (shapeAt (layout t) at) ≡ typedAt (typeOf t top g e) (at + length (codeOf e))
+        → stepBy (layout t) one s (shapeAt (layout t) at) ≡ typedAt (typeOf t inMain g e) (at + length (codeOf e))
     unfolding codeOf typeOf exprKnown fieldBy callBy
-    step-on this at p kn st = ap (stepBy (layout t) one s) (shape-on t this at st) ∙ ag .self (at + 1)
-    step-on res at p kn st = ap (stepBy (layout t) one s) (shape-on t res at st) ∙ ag .result (at + 1)
+    step-on this at p kn st = ap (stepBy (layout t) one s) (shape-on t this at st) ∙ ag .this (at + 1)
+    step-on res at p kn st = ap (stepBy (layout t) one s) (shape-on t res at st) ∙ ag .res (at + 1)
     step-on (param k) at p kn st = ap (stepBy (layout t) one s) (shape-on t (param k) at st) ∙ ag .param k (at + 2)
     step-on (field f e) at p kn st =
         ap (stepBy (layout t) one s) (shape-on t (field f e) at st)
         ∙ ap (λ (o : Typed). typed o (λ c h to. pick (eqb h 0) (foundAt (fieldOf (layout t) c f) to) No))
         (ih .types e (at + 2) p kn (field-part t at f e st))
-        ∙ field-of t wf (typeOf t top g e) f (at + 2 + length (codeOf e)) (λ u z. typed-known t wf top g kg e u kn z)
-        ∙ ap (typedAt (typeOf t top g (field f e))) (let z : at + 2 + length (codeOf e) ≡ at + suc (suc (length (codeOf e))) = omega arith in z)
+        ∙ field-of t wf (typeOf t inMain g e) f (at + 2 + length (codeOf e)) (λ u z. typed-known t wf inMain g kg e u kn z)
+        ∙ ap (typedAt (typeOf t inMain g (field f e))) (let z : at + 2 + length (codeOf e) ≡ at + suc (suc (length (codeOf e))) = omega arith in z)
     step-on (call m e es) at p kn st =
         let k = and-true (exprKnown (length (t .classes)) e) (exprsKnown (length (t .classes)) es) kn in
         let n = count es in
@@ -231,21 +231,21 @@ module _ (t : Table) (wf : WellFormed t) (top : Bool) (g : Env) (kg : KnownEnv (
         let l = length-append (codeOf e) (codesOf es) in
         ap (stepBy (layout t) one s) (shape-on t (call m e es) at st)
         ∙ ap (λ (b : Bool). callBy (layout t) one b m n (at + 3)) (ag .main)
-        ∙ ap (λ (o : Typed). typed o (λ c h next. calledBy (layout t) one top n next (receiverOf (layout t) c h m n)))
+        ∙ ap (λ (o : Typed). typed o (λ c h next. calledBy (layout t) one inMain n next (receiverOf (layout t) c h m n)))
         (ih .types e (at + 3) (p .1) (k .0) (stands-front (layout t) (at + 3) (codeOf e) (codesOf es) after))
-        ∙ call-is es (p .2) (k .1) a1 (stands-after (layout t) (at + 3) (codeOf e) (codesOf es) after) (typeOf t top g e) m (p .0) (λ u z. typed-known t wf top g kg e u (k .0) z)
-        ∙ ap (typedAt (typeOf t top g (call m e es)))
+        ∙ call-is es (p .2) (k .1) a1 (stands-after (layout t) (at + 3) (codeOf e) (codesOf es) after) (typeOf t inMain g e) m (p .0) (λ u z. typed-known t wf inMain g kg e u (k .0) z)
+        ∙ ap (typedAt (typeOf t inMain g (call m e es)))
         (let z : a1 + length (codesOf es) ≡ at + suc (suc (suc (length (codeOf e ++ codesOf es)))) = omega arith in z)
     step-on (new c es) at p kn st =
         let k = and-true (leb c (length (t .classes))) (exprsKnown (length (t .classes)) es) kn in
         ap (stepBy (layout t) one s) (shape-on t (new c es) at st)
         ∙ object-is es p (k .1) (at + 3) (new-parts t at c es st) c (leb-true c (length (t .classes)) (k .0))
-        ∙ ap (typedAt (typeOf t top g (new c es))) (let z : at + 3 + length (codesOf es) ≡ at + suc (suc (suc (length (codesOf es)))) = omega arith in z)
+        ∙ ap (typedAt (typeOf t inMain g (new c es))) (let z : at + 3 + length (codesOf es) ≡ at + suc (suc (suc (length (codesOf es)))) = omega arith in z)
 
 -- where the bytes of an expression stand that is nested at most `left` deep, its type is found, and the place after it
-pub types-on : (t : Table) → WellFormed t → (s : Scope) (top : Bool) (g : Env) → Agree t s top g → (left : ℕ) → Finds t top g (Nested left) (typeIn (layout t) left s)
+pub types-on : (t : Table) → WellFormed t → (s : Scope) (inMain : Bool) (g : Env) → Agree t s inMain g → (left : ℕ) → Finds t inMain g (Nested left) (typeIn (layout t) left s)
 unfolding typeIn Nested
-types-on t wf s top g ag zero = record { types = λ e at p kn st. absurd p }
-types-on t wf s top g ag (suc left) = record {
-  types = λ e at p kn st. step-on t wf top g (ag .known) (Nested left) (typeIn (layout t) left s) (types-on t wf s top g ag left) s ag e at p kn st;
+types-on t wf s inMain g ag zero = record { types = λ e at p kn st. absurd p }
+types-on t wf s inMain g ag (suc left) = record {
+  types = λ e at p kn st. step-on t wf inMain g (ag .known) (Nested left) (typeIn (layout t) left s) (types-on t wf s inMain g ag left) s ag e at p kn st;
 }

@@ -51,15 +51,15 @@ module _ (t : Table) (wf : WellFormed t) where
       let a = guard-bind (eqb (u .tag) 0) (λ _. getElem? (fieldsOf (t .classes) (u .cls)) f) v e in
       known-at n (fieldsOf (t .classes) (u .cls)) f v (fields-known (u .cls) (u .cls)) (a .1)
 
-  call-known : (top : Bool) (u : Ty) (m : ℕ) (us : List Ty) (v : Ty) → callType t top u m us ≡ some v → v .cls ≤ n
+  call-known : (inMain : Bool) (u : Ty) (m : ℕ) (us : List Ty) (v : Ty) → callType t inMain u m us ≡ some v → v .cls ≤ n
   unfolding callType
-  call-known top u m us v e =
+  call-known inMain u m us v e =
       let a = guard-bind (eqb (u .tag) 0) _ v e in
       let b = opt-bind (lookup t (u .cls) m) _ v (a .1) in
       let d = b .0 in
-      let c = guard-bind (allClosed us && allFit t us (d .params)) (λ _. some (cond top (d .first) (d .second))) v (b .2) in
+      let c = guard-bind (allClosed us && allFit t us (d .params)) (λ _. some (cond inMain (d .first) (d .second))) v (b .2) in
       let r = lookup-found t wf (MethodFormed t) (wf .methods) (u .cls) m d (b .1) .0 in
-      subst (λ (w : Ty). w .cls ≤ n) (just _ v (c .1)) (pick-known top d r)
+      subst (λ (w : Ty). w .cls ≤ n) (just _ v (c .1)) (pick-known inMain d r)
     where
       pick-known : (b : Bool) (d : Method) → MethodFormed t d → cond b (d .first) (d .second) .cls ≤ n
       pick-known true d r = r .firstKnown
@@ -78,23 +78,23 @@ module _ (t : Table) (wf : WellFormed t) where
 
 -- ---- the variables have known classes
 pub record KnownEnv (n : ℕ) (g : Env) : Type 0 where
-  pub self : (u : Ty) → g .self ≡ some u → u .cls ≤ n
-  pub result : (u : Ty) → g .result ≡ some u → u .cls ≤ n
+  pub this : (u : Ty) → g .this ≡ some u → u .cls ≤ n
+  pub res : (u : Ty) → g .res ≡ some u → u .cls ≤ n
   pub params : allKnown n (g .params) ≡ true
 
-pub typed-known : (t : Table) → WellFormed t → (top : Bool) (g : Env) → KnownEnv (length (t .classes)) g → (e : Expr) (u : Ty)
-    → exprKnown (length (t .classes)) e ≡ true → typeOf t top g e ≡ some u → u .cls ≤ length (t .classes)
+pub typed-known : (t : Table) → WellFormed t → (inMain : Bool) (g : Env) → KnownEnv (length (t .classes)) g → (e : Expr) (u : Ty)
+    → exprKnown (length (t .classes)) e ≡ true → typeOf t inMain g e ≡ some u → u .cls ≤ length (t .classes)
 unfolding typeOf exprKnown
-typed-known t wf top g kg this u h e = kg .self u e
-typed-known t wf top g kg res u h e = kg .result u e
-typed-known t wf top g kg (param k) u h e = known-at (length (t .classes)) (g .params) k u (kg .params) e
-typed-known t wf top g kg (field f x) u h e =
-    let a = opt-bind (typeOf t top g x) _ u e in
+typed-known t wf inMain g kg this u h e = kg .this u e
+typed-known t wf inMain g kg res u h e = kg .res u e
+typed-known t wf inMain g kg (param k) u h e = known-at (length (t .classes)) (g .params) k u (kg .params) e
+typed-known t wf inMain g kg (field f x) u h e =
+    let a = opt-bind (typeOf t inMain g x) _ u e in
     field-known t wf (a .0) f u (a .2)
-typed-known t wf top g kg (call m x xs) u h e =
-    let a = opt-bind (typeOf t top g x) _ u e in
-    let b = opt-bind (typesOf t top g xs) _ u (a .2) in
-    call-known t wf top (a .0) m (b .0) u (b .2)
-typed-known t wf top g kg (new c xs) u h e =
-    let a = opt-bind (typesOf t top g xs) _ u e in
+typed-known t wf inMain g kg (call m x xs) u h e =
+    let a = opt-bind (typeOf t inMain g x) _ u e in
+    let b = opt-bind (typesOf t inMain g xs) _ u (a .2) in
+    call-known t wf inMain (a .0) m (b .0) u (b .2)
+typed-known t wf inMain g kg (new c xs) u h e =
+    let a = opt-bind (typesOf t inMain g xs) _ u e in
     new-known t wf c (a .0) u (leb-true c (length (t .classes)) (and-true (leb c (length (t .classes))) (exprsKnown (length (t .classes)) xs) h .0)) (a .2)

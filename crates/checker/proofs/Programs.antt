@@ -44,10 +44,10 @@ guarded false = refl
 
 -- the variables of main and of a body
 abbrev mainEnv : Env
-mainEnv = record { self = none; result = none; params = [] }
+mainEnv = record { this = none; res = none; params = [] }
 
 abbrev bodyEnv : Method → Option Ty → Env
-bodyEnv d r = record { self = some (ty (d .owner) 0); result = r; params = d .params }
+bodyEnv d r = record { this = some (ty (d .owner) 0); res = r; params = d .params }
 
 nowhere : {A : Type 0} (x : A) {B : Type 0} → _≡_ {A = Option A} none (some x) → B
 nowhere x e = absurd (Option·none-ne-some x e)
@@ -56,10 +56,10 @@ main-agree : (t : Table) → Agree t inMain true mainEnv
 unfolding allKnown
 main-agree t = record {
   main = refl;
-  self = λ next. refl;
-  result = λ next. refl;
+  this = λ next. refl;
+  res = λ next. refl;
   param = λ k next. refl;
-  known = record { self = λ u e. nowhere u e; result = λ u e. nowhere u e; params = refl };
+  known = record { this = λ u e. nowhere u e; res = λ u e. nowhere u e; params = refl };
 }
 
 four : (a b c d : Bool) → pick a (pick b (pick c d false) false) false ≡ a && b && c && d
@@ -88,21 +88,21 @@ module _ (t : Table) (wf : WellFormed t) (i : ℕ) (d : Method) (e : getElem? (t
   left-agree : Agree t (body i Absent) false (bodyEnv d none)
   left-agree = record {
     main = refl;
-    self = λ next. ap (λ (c : ℕ). Has c 0 next) (owner-at t i d row e);
-    result = λ next. refl;
+    this = λ next. ap (λ (c : ℕ). Has c 0 next) (owner-at t i d row e);
+    res = λ next. refl;
     param = param-typed;
-    known = record { self = self-known; result = λ u z. nowhere u z; params = formed .paramsKnown };
+    known = record { this = self-known; res = λ u z. nowhere u z; params = formed .paramsKnown };
   }
 
   right-agree : (c : ℕ) → c ≤ n → Agree t (body i (Class c)) false (bodyEnv d (some (ty c 2)))
   right-agree c h = record {
     main = refl;
-    self = λ next. ap (λ (x : ℕ). Has x 0 next) (owner-at t i d row e);
-    result = λ next. refl;
+    this = λ next. ap (λ (x : ℕ). Has x 0 next) (owner-at t i d row e);
+    res = λ next. refl;
     param = param-typed;
     known = record {
-      self = self-known;
-      result = λ u z. subst (λ (v : Ty). v .cls ≤ n) (just (ty c 2) u z) h;
+      this = self-known;
+      res = λ u z. subst (λ (v : Ty). v .cls ≤ n) (just (ty c 2) u z) h;
       params = formed .paramsKnown;
     };
   }

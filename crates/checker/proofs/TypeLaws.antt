@@ -87,11 +87,11 @@ module _ (B : List ℕ) (c g m n : ℕ) where
   unfolding receiverOf
   receiver-is f h e = rw h e
 
-module _ (B : List ℕ) (top : Bool) (i : ℕ) (r : FieldType) where
-  pub result-first : top ≡ true → r ≡ typeAt B (rowOf i + 3) → r ≡ resultOf B top i
+module _ (B : List ℕ) (inMain : Bool) (i : ℕ) (r : FieldType) where
+  pub result-first : inMain ≡ true → r ≡ typeAt B (rowOf i + 3) → r ≡ resultOf B inMain i
   result-first e q = rw e q
 
-  pub result-second : top ≡ false → r ≡ typeAt B (rowOf i + 5) → r ≡ resultOf B top i
+  pub result-second : inMain ≡ false → r ≡ typeAt B (rowOf i + 5) → r ≡ resultOf B inMain i
   result-second e q = rw e q
 
 -- ---- variables

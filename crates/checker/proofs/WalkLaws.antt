@@ -113,23 +113,23 @@ unfolding varBy
 var-none B s b at x y z = rw (ne-eqb b thisSign x, ne-eqb b resSign y, ne-eqb b parameterSign z)
 
 -- an expression with parts
-module _ (B : List ℕ) (one : Walk) (top : Bool) (b at k : ℕ) (ek : k ≡ byteIn B (at + 1)) (r : Typed) (next : ℕ) (en : next ≡ at + signSize b) where
-  pub parts-field : b ≡ fieldSign → r ≡ fieldBy B one k next → r ≡ partsBy B one top b at
+module _ (B : List ℕ) (one : Walk) (inMain : Bool) (b at k : ℕ) (ek : k ≡ byteIn B (at + 1)) (r : Typed) (next : ℕ) (en : next ≡ at + signSize b) where
+  pub parts-field : b ≡ fieldSign → r ≡ fieldBy B one k next → r ≡ partsBy B one inMain b at
   unfolding partsBy
   parts-field e p = rw (← en, e, ← ek) p
 
   module _ (n : ℕ) (em : n ≡ byteIn B (at + 2)) where
-    pub parts-call : b ≡ callSign → r ≡ callBy B one top k n next → r ≡ partsBy B one top b at
+    pub parts-call : b ≡ callSign → r ≡ callBy B one inMain k n next → r ≡ partsBy B one inMain b at
     unfolding partsBy
     parts-call e p = rw (← en, e, ← ek, ← em) p
 
-    pub parts-new : b ≡ newSign → r ≡ newBy B one k n next → r ≡ partsBy B one top b at
+    pub parts-new : b ≡ newSign → r ≡ newBy B one k n next → r ≡ partsBy B one inMain b at
     unfolding partsBy
     parts-new e p = rw (← en, e, ← ek, ← em) p
 
-pub parts-none : (B : List ℕ) (one : Walk) (top : Bool) (b at : ℕ) → (b ≡ fieldSign → ⊥) → (b ≡ callSign → ⊥) → (b ≡ newSign → ⊥) → No ≡ partsBy B one top b at
+pub parts-none : (B : List ℕ) (one : Walk) (inMain : Bool) (b at : ℕ) → (b ≡ fieldSign → ⊥) → (b ≡ callSign → ⊥) → (b ≡ newSign → ⊥) → No ≡ partsBy B one inMain b at
 unfolding partsBy
-parts-none B one top b at x y z = rw (ne-eqb b fieldSign x, ne-eqb b callSign y, ne-eqb b newSign z)
+parts-none B one inMain b at x y z = rw (ne-eqb b fieldSign x, ne-eqb b callSign y, ne-eqb b newSign z)
 
 -- ---- a field: the expression at `at` has the type o
 module _ (B : List ℕ) (one : Walk) (f at : ℕ) (o : Typed) (eo : o ≡ one at) where
@@ -147,17 +147,17 @@ module _ (B : List ℕ) (one : Walk) (f at : ℕ) (o : Typed) (eo : o ≡ one at
     field-is w r z p q = rw (← eo, e, eq-eqb g 0 z, ← p) q
 
 -- ---- a call: the receiver at `at` has the type o
-module _ (B : List ℕ) (one : Walk) (top : Bool) (m n at : ℕ) (o : Typed) (eo : o ≡ one at) where
-  pub call-no : o ≡ No → No ≡ callBy B one top m n at
+module _ (B : List ℕ) (one : Walk) (inMain : Bool) (m n at : ℕ) (o : Typed) (eo : o ≡ one at) where
+  pub call-no : o ≡ No → No ≡ callBy B one inMain m n at
   unfolding callBy
   call-no e = rw (← eo, e)
 
   module _ (c g next : ℕ) (e : o ≡ Has c g next) (f : Found) (ef : f ≡ receiverOf B c g m n) where
-    pub call-none : f ≡ method.Nothing → No ≡ callBy B one top m n at
+    pub call-none : f ≡ method.Nothing → No ≡ callBy B one inMain m n at
     unfolding callBy
     call-none q = rw (← eo, e, ← ef, q)
 
-    pub call-is : (i : ℕ) (r : Typed) → f ≡ method.At i → r ≡ argsBy B one top i n next → r ≡ callBy B one top m n at
+    pub call-is : (i : ℕ) (r : Typed) → f ≡ method.At i → r ≡ argsBy B one inMain i n next → r ≡ callBy B one inMain m n at
     unfolding callBy
     call-is i r q p = rw (← eo, e, ← ef, q) p
 
@@ -174,36 +174,36 @@ module _ (B : List ℕ) (one : Walk) (items : Items) (k n : ℕ) (closed : Bool)
   list-here h = ap of (let e : suc (n - (k + 1)) ≡ n - k = omega arith in e) ∙ w
 
 -- ---- arguments
-pub args-start : (B : List ℕ) (one : Walk) (top : Bool) (i n at : ℕ) → argsThen B top i (listBy B one (Parameters i) 0 (n - 0) true at) ≡ argsBy B one top i n at
+pub args-start : (B : List ℕ) (one : Walk) (inMain : Bool) (i n at : ℕ) → argsThen B inMain i (listBy B one (Parameters i) 0 (n - 0) true at) ≡ argsBy B one inMain i n at
 unfolding argsBy
-args-start B one top i n at = simp unary-clauses refl
+args-start B one inMain i n at = simp unary-clauses refl
 
 -- after one open tag there is no type
-args-open : (B : List ℕ) (one : Walk) (top : Bool) (i k n a : ℕ) → argsThen B top i (listBy B one (Parameters i) k n false a) ≡ No
+args-open : (B : List ℕ) (one : Walk) (inMain : Bool) (i k n a : ℕ) → argsThen B inMain i (listBy B one (Parameters i) k n false a) ≡ No
 unfolding listBy
-args-open B one top i k zero a = refl
-args-open B one top i k (suc n) a = go (one a) (args-open B one top i (k + 1) n)
+args-open B one inMain i k zero a = refl
+args-open B one inMain i k (suc n) a = go (one a) (args-open B one inMain i (k + 1) n)
   where
-    rest : (x y : Bool) (next : ℕ) → argsThen B top i (listBy B one (Parameters i) (k + 1) n false next) ≡ No
-        → argsThen B top i (pick x (listBy B one (Parameters i) (k + 1) n (pick y false false) next) list.No) ≡ No
+    rest : (x y : Bool) (next : ℕ) → argsThen B inMain i (listBy B one (Parameters i) (k + 1) n false next) ≡ No
+        → argsThen B inMain i (pick x (listBy B one (Parameters i) (k + 1) n (pick y false false) next) list.No) ≡ No
     rest true true next ih = ih
     rest true false next ih = ih
     rest false y next ih = refl
 
-    go : (o : Typed) → ((next : ℕ) → argsThen B top i (listBy B one (Parameters i) (k + 1) n false next) ≡ No)
-        → argsThen B top i
+    go : (o : Typed) → ((next : ℕ) → argsThen B inMain i (listBy B one (Parameters i) (k + 1) n false next) ≡ No)
+        → argsThen B inMain i
         (listed o (λ c g next. pick (itemFits B (Parameters i) k c g) (listBy B one (Parameters i) (k + 1) n (pick (closedTag g) false false) next) list.No))
         ≡ No
     go No ih = refl
     go (Has c g next) ih = rest (itemFits B (Parameters i) k c g) (closedTag g) next (ih next)
 
-module _ (B : List ℕ) (one : Walk) (top : Bool) (i k n a : ℕ) (X : Typed) (w : argsThen B top i (listBy B one (Parameters i) k (n - k) true a) ≡ X) where
-  pub args-end : (u : FieldType) → n ≤ k → u ≡ resultOf B top i → Has (u .class) (u .tag) a ≡ X
-  args-end u h eu = rw eu (list-end B one (Parameters i) k n true a (argsThen B top i) X w h)
+module _ (B : List ℕ) (one : Walk) (inMain : Bool) (i k n a : ℕ) (X : Typed) (w : argsThen B inMain i (listBy B one (Parameters i) k (n - k) true a) ≡ X) where
+  pub args-end : (u : FieldType) → n ≤ k → u ≡ resultOf B inMain i → Has (u .class) (u .tag) a ≡ X
+  args-end u h eu = rw eu (list-end B one (Parameters i) k n true a (argsThen B inMain i) X w h)
 
   module _ (h : k < n) (o : Typed) (eo : o ≡ one a) where
-    args-here : argsThen B top i (listBy B one (Parameters i) k (suc (n - (k + 1))) true a) ≡ X
-    args-here = list-here B one (Parameters i) k n true a (argsThen B top i) X w h
+    args-here : argsThen B inMain i (listBy B one (Parameters i) k (suc (n - (k + 1))) true a) ≡ X
+    args-here = list-here B one (Parameters i) k n true a (argsThen B inMain i) X w h
 
     pub args-no : o ≡ No → No ≡ X
     unfolding listBy
@@ -212,7 +212,7 @@ module _ (B : List ℕ) (one : Walk) (top : Bool) (i k n a : ℕ) (X : Typed) (w
     module _ (c g next : ℕ) (e : o ≡ Has c g next) (f : Bool) (ef : f ≡ argFits B i k c g) where
       -- what one argument gives, whose tag is closed or not (x) and whose type fits or not (y)
       abbrev one-more : Bool → Bool → Typed
-      one-more x y = argsThen B top i (pick y (listBy B one (Parameters i) (k + 1) (n - (k + 1)) (pick x true false) next) list.No)
+      one-more x y = argsThen B inMain i (pick y (listBy B one (Parameters i) (k + 1) (n - (k + 1)) (pick x true false) next) list.No)
 
       pub args-unfit : not f ≡ true → No ≡ X
       unfolding listBy argFits
@@ -220,10 +220,10 @@ module _ (B : List ℕ) (one : Walk) (top : Bool) (i k n a : ℕ) (X : Typed) (w
         where
           go : (x y : Bool) → pick x y false ≡ false → No ≡ one-more x y
           go x false e = refl
-          go false true e = sym (args-open B one top i (k + 1) (n - (k + 1)) next)
+          go false true e = sym (args-open B one inMain i (k + 1) (n - (k + 1)) next)
           go true true e = cc
 
-      pub args-next : not f ≡ false → argsThen B top i (listBy B one (Parameters i) (k + 1) (n - (k + 1)) true next) ≡ X
+      pub args-next : not f ≡ false → argsThen B inMain i (listBy B one (Parameters i) (k + 1) (n - (k + 1)) true next) ≡ X
       unfolding listBy argFits
       args-next q = rw (← args-here, ← eo, e) (go (closedTag g) (itemFits B (Parameters i) k c g) (sym ef ∙ not-false f q))
         where

@@ -51,18 +51,18 @@ resultAt u next = Has (u .class) (u .tag) next
 
 -- arguments have closed tags
 abbrev pub argsThen : List ℕ → Bool → ℕ → Listed → Typed
-argsThen B top i (list.Past closed next) = pick closed (resultAt (resultOf B top i) next) No
-argsThen B top i list.No = No
+argsThen B inMain i (list.Past closed next) = pick closed (resultAt (resultOf B inMain i) next) No
+argsThen B inMain i list.No = No
 
 unfoldable pub argsBy : List ℕ → Walk → Bool → ℕ → ℕ → ℕ → Typed
-argsBy B one top i n at = argsThen B top i (listBy B one (Parameters i) 0 n true at)
+argsBy B one inMain i n at = argsThen B inMain i (listBy B one (Parameters i) 0 n true at)
 
 abbrev pub calledBy : List ℕ → Walk → Bool → ℕ → ℕ → Found → Typed
-calledBy B one top n at (method.At i) = argsBy B one top i n at
-calledBy B one top n at method.Nothing = No
+calledBy B one inMain n at (method.At i) = argsBy B one inMain i n at
+calledBy B one inMain n at method.Nothing = No
 
 unfoldable pub callBy : List ℕ → Walk → Bool → ℕ → ℕ → ℕ → Typed
-callBy B one top m n at = typed (one at) (λ c g next. calledBy B one top n next (receiverOf B c g m n))
+callBy B one inMain m n at = typed (one at) (λ c g next. calledBy B one inMain n next (receiverOf B c g m n))
 
 -- an object is open if a value is
 abbrev pub newThen : ℕ → Listed → Typed
@@ -89,9 +89,9 @@ varBy B s b at =
     (pick (eqb b parameterSign) (paramVar B s (byteIn B (at + 1)) (at + signSize b)) No))
 
 unfoldable pub partsBy : List ℕ → Walk → Bool → ℕ → ℕ → Typed
-partsBy B one top b at =
+partsBy B one inMain b at =
     pick (eqb b fieldSign) (fieldBy B one (byteIn B (at + 1)) (at + signSize b))
-    (pick (eqb b callSign) (callBy B one top (byteIn B (at + 1)) (byteIn B (at + 2)) (at + signSize b))
+    (pick (eqb b callSign) (callBy B one inMain (byteIn B (at + 1)) (byteIn B (at + 2)) (at + signSize b))
     (pick (eqb b newSign) (newBy B one (byteIn B (at + 1)) (byteIn B (at + 2)) (at + signSize b)) No))
 
 -- an expression nested at most `left` deep

@@ -50,7 +50,7 @@ unfoldable pub receiverOf : List ℕ → ℕ → ℕ → ℕ → ℕ → Found
 receiverOf B c g m n = pick (eqb g 0) (methodWith B c m n) method.Nothing
 
 abbrev pub resultOf : List ℕ → Bool → ℕ → FieldType
-resultOf B top i = pick top (typeAt B (rowOf i + 3)) (typeAt B (rowOf i + 5))
+resultOf B inMain i = pick inMain (typeAt B (rowOf i + 3)) (typeAt B (rowOf i + 5))
 
 -- ---- variables
 abbrev pub foundAt : FieldFound → ℕ → Typed

@@ -14,10 +14,10 @@ use Rattle.cofj.proofs.Partial.{and-true, opt-bind, guard-true}
 -- ---- what the checker's `some` says
 -- the variables of a method's left side, and of its right side when the left has class c
 abbrev pub leftEnv : Method → Env
-leftEnv d = record { self = some (ty (d .owner) 0); result = none; params = d .params }
+leftEnv d = record { this = some (ty (d .owner) 0); res = none; params = d .params }
 
 abbrev pub rightEnv : Method → ℕ → Env
-rightEnv d c = record { self = some (ty (d .owner) 0); result = some (ty c 2); params = d .params }
+rightEnv d c = record { this = some (ty (d .owner) 0); res = some (ty c 2); params = d .params }
 
 unfoldable pub leftType : Table → Method → Option Ty
 leftType t d = typeOf t false (leftEnv d) (d .left)

@@ -114,14 +114,14 @@ module _ (objects : ℕ) (t : Table) where
 
     mutual
       expr-ends : (e : Expr) (n : ℕ) → Bodies k → Ends k fr os e n
-      expr-ends this n B = go (fr .self) refl
+      expr-ends this n B = go (fr .this) refl
         where
-          go : (v : Option Graph) → fr .self ≡ v → Ends k fr os this n
+          go : (v : Option Graph) → fr .this ≡ v → Ends k fr os this n
           go none q = (_, W-VAR-this q)
           go (some v) q = (_, VAR-this q)
-      expr-ends res n B = go (fr .result) refl
+      expr-ends res n B = go (fr .res) refl
         where
-          go : (v : Option Graph) → fr .result ≡ v → Ends k fr os res n
+          go : (v : Option Graph) → fr .res ≡ v → Ends k fr os res n
           go none q = (_, W-VAR-res q)
           go (some v) q = (_, VAR-res q)
       expr-ends (param x) n B = go (getElem? (fr .params) x) refl

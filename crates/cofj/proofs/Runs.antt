@@ -116,8 +116,8 @@ module _ (t : Table) (wf : WellFormed t) (objects : ℕ) where
   Gs k vs = AllIn (Good t objects k) vs
 
   pub record GoodFrame (k : ℕ) (fr : Frame) : Type 0 where
-    pub self : Opt (G k) (fr .self)
-    pub result : Opt (G k) (fr .result)
+    pub this : Opt (G k) (fr .this)
+    pub res : Opt (G k) (fr .res)
     pub params : Gs k (fr .params)
 
   -- ---- the operations
@@ -192,7 +192,7 @@ module _ (t : Table) (wf : WellFormed t) (objects : ℕ) where
 
   frame-more : (k : ℕ) (v : Graph) (vs : List Graph) → G k v → Gs k vs → GoodFrame (suc k) (frameOf v none vs)
   frame-more k v vs a b =
-      record { self = good-more t objects k v a; result = tt; params = all-weaken (G k) (G (suc k)) (good-more t objects k) vs b }
+      record { this = good-more t objects k v a; res = tt; params = all-weaken (G k) (G (suc k)) (good-more t objects k) vs b }
 
   good-invoke : (deeper : Option Deeper) → Opt GoodDeeper deeper → (os : List OpenCall) → Numbered os → (v : Graph) (m : ℕ) (vs : List Graph) (d : Method) (n : ℕ)
       → MethodFormed t d → G (length os) v → Gs (length os) vs → Out (G (length os)) (invoke deeper os v m vs d n)
@@ -207,7 +207,7 @@ module _ (t : Table) (wf : WellFormed t) (objects : ℕ) where
       ])
       go (some x) q =
           D (frameOf v (some (markOf x)) vs) os (d .right) n (kd .rightKnown)
-          (record { self = a; result = good-mark t objects (length os) x (open-below os v m vs x ns q); params = b }) ns
+          (record { this = a; res = good-mark t objects (length os) x (open-below os v m vs x ns q); params = b }) ns
       go none q =
           out-then (G (suc (length os))) (G (length os)) (λ u n′. value (close (length os) u) n′) (λ u n′ h. good-close (length os) u h)
           (body (frameOf v none vs) (opened os v m vs) (d .left) n)
@@ -230,8 +230,8 @@ module _ (t : Table) (wf : WellFormed t) (objects : ℕ) where
       unfolding eval exprKnown
 
       good-eval : (e : Expr) (n : ℕ) → exprKnown (length (t .classes)) e ≡ true → Out (G (length os)) (eval objects t deeper fr os e n)
-      good-eval this n k = out-or (G (length os)) (fr .self) n (h .self)
-      good-eval res n k = out-or (G (length os)) (fr .result) n (h .result)
+      good-eval this n k = out-or (G (length os)) (fr .this) n (h .this)
+      good-eval res n k = out-or (G (length os)) (fr .res) n (h .res)
       good-eval (param x) n k = out-or (G (length os)) (getElem? (fr .params) x) n (at-opt (G (length os)) (fr .params) (h .params) x)
       good-eval (field f e) n k =
           out-then (G (length os)) (G (length os)) _ (λ v n′ p. out-or (G (length os)) (select f v) n′ (good-select (length os) f v p)) (eval objects t deeper fr os e n) (good-eval e n k)
@@ -265,4 +265,4 @@ module _ (t : Table) (wf : WellFormed t) (objects : ℕ) where
 -- the value of a run: no left-side call is open at main
 pub good-run : (l : Limits) (t : Table) (n : ℕ) → WellFormed t → Out (Good t (l .objects) 0) (runWithin l t n)
 unfolding runWithin
-good-run l t n wf = good-evalTo t wf (l .objects) (l .depth) mainFrame [] (t .main) n (wf .mainKnown) (record { self = tt; result = tt; params = tt }) tt
+good-run l t n wf = good-evalTo t wf (l .objects) (l .depth) mainFrame [] (t .main) n (wf .mainKnown) (record { this = tt; res = tt; params = tt }) tt

@@ -48,8 +48,8 @@ out-known Q none n f a e p = absurd (Option·none-ne-some a e)
 out-known Q (some b) n f a e p = subst (λ x. Out Q (f x n)) (let y : a ≡ b = cc in y) p
 
 pub record FrameOk (t : Table) (σ : List ℕ) (g : Env) (fr : Frame) : Type 0 where
-  pub self : (u : Ty) → g .self ≡ some u → (v : Graph) × (fr .self ≡ some v) × Has t σ u v
-  pub result : (u : Ty) → g .result ≡ some u → (v : Graph) × (fr .result ≡ some v) × Has t σ u v
+  pub this : (u : Ty) → g .this ≡ some u → (v : Graph) × (fr .this ≡ some v) × Has t σ u v
+  pub res : (u : Ty) → g .res ≡ some u → (v : Graph) × (fr .res ≡ some v) × Has t σ u v
   pub params : Hold t σ (g .params) (fr .params)
 
 -- what is known of the evaluation of bodies
@@ -95,15 +95,15 @@ module _ (t : Table) (wf : WellFormed t) (ok : AllMethods (MethodOk t) (t .metho
       has-fits t wf [] (ty (m .u .cls) (closeTag (m .u .tag))) (d .first) (close 0 v) (m .first) (mf .first)
       (has-closed t wf (ty (m .u .cls) (raise (m .u .tag))) (closeTag (m .u .tag)) (close 0 v) (r .0) (r .1) (has-close t wf [] (m .u) v h))
 
-  closed : (top : Bool) (σ : List ℕ) → (top ≡ true → σ ≡ []) → (d : Method) → MethodFormed t d → (m : MethodOk t d) (v : Graph) → Has t (m .u .cls ∷ σ) (m .u) v
-      → Has t σ (cond top (d .first) (d .second)) (close (length σ) v)
+  closed : (inMain : Bool) (σ : List ℕ) → (inMain ≡ true → σ ≡ []) → (d : Method) → MethodFormed t d → (m : MethodOk t d) (v : Graph) → Has t (m .u .cls ∷ σ) (m .u) v
+      → Has t σ (cond inMain (d .first) (d .second)) (close (length σ) v)
   closed false σ z d mf m v h = close-second σ d mf m v h
   closed true [] z d mf m v h = close-first d mf m v h
   closed true (c ∷ σ) z d mf m v h = let y : c ∷ σ ≡ [] = z refl in absurd (let k : _≡_ {A = ℕ} 0 1 = cc in omega arith)
 
   -- in main no call is met again
-  again : (top : Bool) (σ : List ℕ) → (top ≡ true → σ ≡ []) → (x c : ℕ) → bound σ x ≡ some c → (d : Method) → MethodFormed t d → (m : MethodOk t d) (v : Graph)
-      → Has t σ (m .v) v → Has t σ (cond top (d .first) (d .second)) v
+  again : (inMain : Bool) (σ : List ℕ) → (inMain ≡ true → σ ≡ []) → (x c : ℕ) → bound σ x ≡ some c → (d : Method) → MethodFormed t d → (m : MethodOk t d) (v : Graph)
+      → Has t σ (m .v) v → Has t σ (cond inMain (d .first) (d .second)) v
   unfolding bound
   again false σ z x c e d mf m v h = has-fits t wf σ (m .v) (d .second) v (m .second) (mf .second) h
   again true σ z x c e d mf m v h = absurd (Option·none-ne-some c (sym (ap (λ (s : List ℕ). bound s x) (z refl)) ∙ e))
@@ -118,24 +118,24 @@ module _ (t : Table) (wf : WellFormed t) (ok : AllMethods (MethodOk t) (t .metho
       let e : u ≡ u′ = cc in
       sym (ap (λ (x : Ty). x .cls) e)
 
-  pub sound-invoke : (deeper : Option Deeper) → DeeperOk t deeper → (top : Bool) (os : List OpenCall) (σ : List ℕ) → Trace t os σ → (top ≡ true → σ ≡ [])
+  pub sound-invoke : (deeper : Option Deeper) → DeeperOk t deeper → (inMain : Bool) (os : List OpenCall) (σ : List ℕ) → Trace t os σ → (inMain ≡ true → σ ≡ [])
       → (v : Graph) (m c : ℕ) (vs : List Graph) (d : Method) (n : ℕ) → classOf v ≡ some c → lookup t c m ≡ some d → MethodFormed t d → MethodOk t d
-      → Has t σ (ty (d .owner) 0) v → Hold t σ (d .params) vs → Out (Has t σ (cond top (d .first) (d .second))) (invoke deeper os v m vs d n)
+      → Has t σ (ty (d .owner) 0) v → Hold t σ (d .params) vs → Out (Has t σ (cond inMain (d .first) (d .second))) (invoke deeper os v m vs d n)
   unfolding invoke leftType
-  sound-invoke deeper D top os σ tr z v m c vs d zero p q mf mo a b = tt
-  sound-invoke none D top os σ tr z v m c vs d (suc n) p q mf mo a b = tt
-  sound-invoke (some body) D top os σ tr z v m c vs d (suc n) p q mf mo a b = go (openMark os v m vs) refl
+  sound-invoke deeper D inMain os σ tr z v m c vs d zero p q mf mo a b = tt
+  sound-invoke none D inMain os σ tr z v m c vs d (suc n) p q mf mo a b = tt
+  sound-invoke (some body) D inMain os σ tr z v m c vs d (suc n) p q mf mo a b = go (openMark os v m vs) refl
     where
       meets : (x : ℕ) → (c′ : ℕ) × (bound σ x ≡ some c′) × Runs t v m c′
-          → Out (Has t σ (cond top (d .first) (d .second))) (body (frameOf v (some (markOf x)) vs) os (d .right) n)
+          → Out (Has t σ (cond inMain (d .first) (d .second))) (body (frameOf v (some (markOf x)) vs) os (d .right) n)
       meets x r =
           let e : mo .u .cls ≡ r .0 = r .2 c d (mo .u) p q (mo .left) in
-          out-map (Has t σ (mo .v)) (Has t σ (cond top (d .first) (d .second))) (λ w h. again top σ z x (r .0) (r .1) d mf mo w h)
+          out-map (Has t σ (mo .v)) (Has t σ (cond inMain (d .first) (d .second))) (λ w h. again inMain σ z x (r .0) (r .1) d mf mo w h)
           (body (frameOf v (some (markOf x)) vs) os (d .right) n)
           (D (frameOf v (some (markOf x)) vs) os σ (rightEnv d (mo .u .cls)) (d .right) n (mo .v)
           (record {
-            self = λ w y. (v, refl, subst (λ (k : Ty). Has t σ k v) (let s : ty (d .owner) 0 ≡ w = cc in s) a);
-            result = λ w y. (
+            this = λ w y. (v, refl, subst (λ (k : Ty). Has t σ k v) (let s : ty (d .owner) 0 ≡ w = cc in s) a);
+            res = λ w y. (
               markOf x,
               refl,
               subst (λ (k : Ty). Has t σ k (markOf x)) (let s : ty (mo .u .cls) 2 ≡ w = cc in s)
@@ -144,19 +144,19 @@ module _ (t : Table) (wf : WellFormed t) (ok : AllMethods (MethodOk t) (t .metho
             params = b;
           }) tr (mo .right))
 
-      go : (o : Option ℕ) → openMark os v m vs ≡ o → Out (Has t σ (cond top (d .first) (d .second))) (elim o as (λ _. Outcome Graph) [
+      go : (o : Option ℕ) → openMark os v m vs ≡ o → Out (Has t σ (cond inMain (d .first) (d .second))) (elim o as (λ _. Outcome Graph) [
         | some x ↦ body (frameOf v (some (markOf x)) vs) os (d .right) n
         | none ↦ body (frameOf v none vs) (opened os v m vs) (d .left) n then λ u n′. value (close (length os) u) n′
       ])
       go (some x) y = meets x (open-bound t os σ v m vs x tr y)
       go none y =
-          out-then (Has t (mo .u .cls ∷ σ) (mo .u)) (Has t σ (cond top (d .first) (d .second))) (λ u n′. value (close (length os) u) n′)
-          (λ u n′ h. subst (λ (k : ℕ). Has t σ (cond top (d .first) (d .second)) (close k u)) (sym (trace-length t os σ tr)) (closed top σ z d mf mo u h))
+          out-then (Has t (mo .u .cls ∷ σ) (mo .u)) (Has t σ (cond inMain (d .first) (d .second))) (λ u n′. value (close (length os) u) n′)
+          (λ u n′ h. subst (λ (k : ℕ). Has t σ (cond inMain (d .first) (d .second)) (close k u)) (sym (trace-length t os σ tr)) (closed inMain σ z d mf mo u h))
           (body (frameOf v none vs) (opened os v m vs) (d .left) n)
           (D (frameOf v none vs) (opened os v m vs) (mo .u .cls ∷ σ) (leftEnv d) (d .left) n (mo .u)
           (record {
-            self = λ w s. (v, refl, subst (λ (k : Ty). Has t (mo .u .cls ∷ σ) k v) (let s′ : ty (d .owner) 0 ≡ w = cc in s′) (has-more t wf (mo .u .cls) σ (ty (d .owner) 0) v a));
-            result = λ w s. absurd (Option·none-ne-some w s);
+            this = λ w s. (v, refl, subst (λ (k : Ty). Has t (mo .u .cls ∷ σ) k v) (let s′ : ty (d .owner) 0 ≡ w = cc in s′) (has-more t wf (mo .u .cls) σ (ty (d .owner) 0) v a));
+            res = λ w s. absurd (Option·none-ne-some w s);
             params = hold-more t wf (mo .u .cls) σ (d .params) vs b;
           }) (trace-length t os σ tr, runs v m c d (mo .u) p q (mo .left), tr) (mo .left))
 

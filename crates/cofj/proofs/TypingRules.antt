@@ -85,23 +85,23 @@ module _ (t : Table) (h : ParentsSmaller (t .classes)) where
   plus : (w : Ty) → w .tag ≡ 0 → w ≡ w .cls ⁺
   plus w e i = ty (w .cls) (e i)
 
-  module _ (top : Bool) (Γ : Env) where
-    field-sound : (f : ℕ) (e : Expr) (w u : Ty) → HasType t top Γ e w → fieldType t w f ≡ some u → HasType t top Γ (field f e) u
+  module _ (inMain : Bool) (Γ : Env) where
+    field-sound : (f : ℕ) (e : Expr) (w u : Ty) → HasType t inMain Γ e w → fieldType t w f ≡ some u → HasType t inMain Γ (field f e) u
     unfolding fieldType
     field-sound f e w u d q =
         let a = guard-bind (eqb (w .tag) 0) (λ _. getElem? (fieldsOf cs (w .cls)) f) u q in
-        T-FIELD (subst (HasType t top Γ e) (plus w (eqb-true (w .tag) 0 (a .0))) d) (a .1)
+        T-FIELD (subst (HasType t inMain Γ e) (plus w (eqb-true (w .tag) 0 (a .0))) d) (a .1)
 
-    call-sound : (m : ℕ) (e : Expr) (es : Exprs) (w u : Ty) (us : List Ty) → HasType t top Γ e w → HaveTypes t top Γ es us → callType t top w m us ≡ some u
-        → HasType t top Γ (call m e es) u
+    call-sound : (m : ℕ) (e : Expr) (es : Exprs) (w u : Ty) (us : List Ty) → HasType t inMain Γ e w → HaveTypes t inMain Γ es us → callType t inMain w m us ≡ some u
+        → HasType t inMain Γ (call m e es) u
     unfolding callType
     call-sound m e es w u us d ds q =
         let a = guard-bind (eqb (w .tag) 0) _ u q in
         let b = opt-bind (lookup t (w .cls) m) _ u (a .1) in
         let c = guard-bind (allClosed us && allFit t us (b .0 .params)) _ u (b .2) in
         let p = and-true (allClosed us) (allFit t us (b .0 .params)) (c .0) in
-        let y : some (cond top (b .0 .first) (b .0 .second)) ≡ some u = c .1 in
-        T-INVK (subst (HasType t top Γ e) (plus w (eqb-true (w .tag) 0 (a .0))) d) ds (b .1) (allClosed-sound us (p .0)) (allFit-sound us (b .0 .params) (p .1)) (let z : u ≡ cond top (b .0 .first) (b .0 .second) = cc in z)
+        let y : some (cond inMain (b .0 .first) (b .0 .second)) ≡ some u = c .1 in
+        T-INVK (subst (HasType t inMain Γ e) (plus w (eqb-true (w .tag) 0 (a .0))) d) ds (b .1) (allClosed-sound us (p .0)) (allFit-sound us (b .0 .params) (p .1)) (let z : u ≡ cond inMain (b .0 .first) (b .0 .second) = cc in z)
 
     -- what `newType` answers, when the test of its values gave b
     abbrev newBy : ℕ → List Ty → Bool → Option Ty
@@ -110,49 +110,49 @@ module _ (t : Table) (h : ParentsSmaller (t .classes)) where
       | false ↦ guard (allFit t (map narrow us) (fieldsOf cs c)) >>= λ _. some (c ⁺?)
     ]
 
-    new-sound : (c : ℕ) (es : Exprs) (u : Ty) (us : List Ty) → HaveTypes t top Γ es us → newType t c us ≡ some u → HasType t top Γ (new c es) u
+    new-sound : (c : ℕ) (es : Exprs) (u : Ty) (us : List Ty) → HaveTypes t inMain Γ es us → newType t c us ≡ some u → HasType t inMain Γ (new c es) u
     unfolding newType
     new-sound c es u us ds q = go (allClosed us) refl q
       where
-        go : (b : Bool) → allClosed us ≡ b → newBy c us b ≡ some u → HasType t top Γ (new c es) u
+        go : (b : Bool) → allClosed us ≡ b → newBy c us b ≡ some u → HasType t inMain Γ (new c es) u
         go true p z =
             let a = guard-bind (allFit t us (fieldsOf cs c)) (λ _. some (c ⁺)) u z in
             let y : some (c ⁺) ≡ some u = a .1 in
-            subst (HasType t top Γ (new c es)) (let x : c ⁺ ≡ u = cc in x) (T-NEW1 ds (allClosed-sound us p) (allFit-sound us (fieldsOf cs c) (a .0)))
+            subst (HasType t inMain Γ (new c es)) (let x : c ⁺ ≡ u = cc in x) (T-NEW1 ds (allClosed-sound us p) (allFit-sound us (fieldsOf cs c) (a .0)))
         go false p z =
             let a = guard-bind (allFit t (map narrow us) (fieldsOf cs c)) (λ _. some (c ⁺?)) u z in
             let y : some (c ⁺?) ≡ some u = a .1 in
-            subst (HasType t top Γ (new c es)) (let x : c ⁺? ≡ u = cc in x)
+            subst (HasType t inMain Γ (new c es)) (let x : c ⁺? ≡ u = cc in x)
             (T-NEW2 ds (λ k. false≢true (sym p ∙ allClosed-complete us k)) (allFit-sound (map narrow us) (fieldsOf cs c) (a .0)))
 
     mutual
       unfolding typeOf
 
-      pub typeOf-sound : (e : Expr) (u : Ty) → typeOf t top Γ e ≡ some u → HasType t top Γ e u
+      pub typeOf-sound : (e : Expr) (u : Ty) → typeOf t inMain Γ e ≡ some u → HasType t inMain Γ e u
       typeOf-sound this u q = T-VAR-this q
       typeOf-sound res u q = T-VAR-res q
       typeOf-sound (param k) u q = T-VAR-param q
       typeOf-sound (field f e) u q =
-          let a = opt-bind (typeOf t top Γ e) _ u q in
+          let a = opt-bind (typeOf t inMain Γ e) _ u q in
           field-sound f e (a .0) u (typeOf-sound e (a .0) (a .1)) (a .2)
       typeOf-sound (call m e es) u q =
-          let a = opt-bind (typeOf t top Γ e) _ u q in
-          let b = opt-bind (typesOf t top Γ es) _ u (a .2) in
+          let a = opt-bind (typeOf t inMain Γ e) _ u q in
+          let b = opt-bind (typesOf t inMain Γ es) _ u (a .2) in
           call-sound m e es (a .0) u (b .0) (typeOf-sound e (a .0) (a .1)) (typesOf-sound es (b .0) (b .1)) (b .2)
       typeOf-sound (new c es) u q =
-          let a = opt-bind (typesOf t top Γ es) _ u q in
+          let a = opt-bind (typesOf t inMain Γ es) _ u q in
           new-sound c es u (a .0) (typesOf-sound es (a .0) (a .1)) (a .2)
 
-      pub typesOf-sound : (es : Exprs) (us : List Ty) → typesOf t top Γ es ≡ some us → HaveTypes t top Γ es us
-      typesOf-sound done us q = let y : some [] ≡ some us = q in subst (HaveTypes t top Γ done) (let x : [] ≡ us = cc in x) T-NONE
+      pub typesOf-sound : (es : Exprs) (us : List Ty) → typesOf t inMain Γ es ≡ some us → HaveTypes t inMain Γ es us
+      typesOf-sound done us q = let y : some [] ≡ some us = q in subst (HaveTypes t inMain Γ done) (let x : [] ≡ us = cc in x) T-NONE
       typesOf-sound (also e es) us q =
-          let a = opt-bind (typeOf t top Γ e) _ us q in
-          let b = opt-bind (typesOf t top Γ es) _ us (a .2) in
+          let a = opt-bind (typeOf t inMain Γ e) _ us q in
+          let b = opt-bind (typesOf t inMain Γ es) _ us (a .2) in
           let y : some (a .0 ∷ b .0) ≡ some us = b .2 in
-          subst (HaveTypes t top Γ (also e es)) (let x : a .0 ∷ b .0 ≡ us = cc in x) (T-EACH (typeOf-sound e (a .0) (a .1)) (typesOf-sound es (b .0) (b .1)))
+          subst (HaveTypes t inMain Γ (also e es)) (let x : a .0 ∷ b .0 ≡ us = cc in x) (T-EACH (typeOf-sound e (a .0) (a .1)) (typesOf-sound es (b .0) (b .1)))
 
-    call-complete : (c m : ℕ) (us : List Ty) (d : Method) (u : Ty) → lookup t c m ≡ some d → AllClosed us → AllFit cs us (d .params) → u ≡ cond top (d .first) (d .second)
-        → callType t top (c ⁺) m us ≡ some u
+    call-complete : (c m : ℕ) (us : List Ty) (d : Method) (u : Ty) → lookup t c m ≡ some d → AllClosed us → AllFit cs us (d .params) → u ≡ cond inMain (d .first) (d .second)
+        → callType t inMain (c ⁺) m us ≡ some u
     unfolding callType
     call-complete c m us d u q k f z = rw (q, allClosed-complete us k, allFit-complete f, z)
 
@@ -168,9 +168,9 @@ module _ (t : Table) (h : ParentsSmaller (t .classes)) where
         go true p = absurd (k (allClosed-sound us p))
         go false p = rw (allFit-complete f)
 
-    pub typeOf-complete : {e : Expr} {u : Ty} → HasType t top Γ e u → typeOf t top Γ e ≡ some u
+    pub typeOf-complete : {e : Expr} {u : Ty} → HasType t inMain Γ e u → typeOf t inMain Γ e ≡ some u
     unfolding typeOf fieldType
-    typeOf-complete p = elim p as (λ e u _. typeOf t top Γ e ≡ some u) (λ es us _. typesOf t top Γ es ≡ some us) [
+    typeOf-complete p = elim p as (λ e u _. typeOf t inMain Γ e ≡ some u) (λ es us _. typesOf t inMain Γ es ≡ some us) [
       | T-VAR-this q ↦ q
       | T-VAR-res q ↦ q
       | T-VAR-param q ↦ q
@@ -182,13 +182,13 @@ module _ (t : Table) (h : ParentsSmaller (t .classes)) where
       | T-EACH (p → i) (ps → is) ↦ rw (i, is)
     ]
 
-    pub typesOf-complete : {es : Exprs} {us : List Ty} → HaveTypes t top Γ es us → typesOf t top Γ es ≡ some us
+    pub typesOf-complete : {es : Exprs} {us : List Ty} → HaveTypes t inMain Γ es us → typesOf t inMain Γ es ≡ some us
     unfolding typeOf
     typesOf-complete T-NONE = refl
     typesOf-complete (T-EACH p ps) = rw (typeOf-complete p, typesOf-complete ps)
 
     -- an expression has one type at most
-    pub type-unique : {e : Expr} {u w : Ty} → HasType t top Γ e u → HasType t top Γ e w → u ≡ w
+    pub type-unique : {e : Expr} {u w : Ty} → HasType t inMain Γ e u → HasType t inMain Γ e w → u ≡ w
     type-unique {e} {u} {w} p q = let y : some u ≡ some w = sym (typeOf-complete p) ∙ typeOf-complete q in cc
 
   -- ---- methods

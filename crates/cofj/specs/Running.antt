@@ -28,8 +28,8 @@ stopped l n then f = stopped l n
 
 -- 002's frame: this, res and the parameters, each where it has a value
 pub record Frame : Type 0 where
-  pub self : Option Graph
-  pub result : Option Graph
+  pub this : Option Graph
+  pub res : Option Graph
   pub params : List Graph
 
 -- an open left-side call and its mark; 002's call trace is a list of these, the newest first
@@ -74,7 +74,7 @@ target t v m n =
     ]
 
 abbrev pub frameOf : Graph → Option Graph → List Graph → Frame
-frameOf v r vs = record { self = some v; result = r; params = vs }
+frameOf v r vs = record { this = some v; res = r; params = vs }
 
 abbrev pub opened : List OpenCall → Graph → ℕ → List Graph → List OpenCall
 opened os v m vs = record { receiver = v; name = m; args = vs; label = length os } ∷ os
@@ -101,8 +101,8 @@ module _ (objects : ℕ) (t : Table) (deeper : Option Deeper) where
     unfolding invoke target make select sized fieldsTo
 
     pub eval : Frame → List OpenCall → Expr → ℕ → Outcome Graph
-    eval fr os this n = orStuck (fr .self) n
-    eval fr os res n = orStuck (fr .result) n
+    eval fr os this n = orStuck (fr .this) n
+    eval fr os res n = orStuck (fr .res) n
     eval fr os (param k) n = orStuck (getElem? (fr .params) k) n
     eval fr os (field f e) n = eval fr os e n then λ v n′. orStuck (select f v) n′
     eval fr os (call m e es) n =
@@ -128,7 +128,7 @@ evalTo objects (suc d) t fr os e n = eval objects t (some (λ fr′ os′ e′ n
 
 -- in main there are no variables
 abbrev pub mainFrame : Frame
-mainFrame = record { self = none; result = none; params = [] }
+mainFrame = record { this = none; res = none; params = [] }
 
 unfoldable pub runWithin : Limits → Table → ℕ → Outcome Graph
 unfolding evalTo

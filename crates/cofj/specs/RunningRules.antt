@@ -25,13 +25,13 @@ module _ (objects : ℕ) (t : Table) where
       -- A variable has its value in the frame: this,
       VAR-this :
           {k n : ℕ} {π : Frame} {σ : List OpenCall} {v : Graph}
-          → π .self ≡ some v
+          → π .this ≡ some v
           -- ---------------------------------
           → Evaluates k π σ this n (value v n)
       -- res,
       VAR-res :
           {k n : ℕ} {π : Frame} {σ : List OpenCall} {v : Graph}
-          → π .result ≡ some v
+          → π .res ≡ some v
           -- --------------------------------
           → Evaluates k π σ res n (value v n)
       -- a parameter.
@@ -172,13 +172,13 @@ module _ (objects : ℕ) (t : Table) where
       -- A variable that has no value is stuck: this,
       W-VAR-this :
           {k n : ℕ} {π : Frame} {σ : List OpenCall}
-          → π .self ≡ none
+          → π .this ≡ none
           -- ---------------------------------------
           → Evaluates k π σ this n (stopped stuck n)
       -- res,
       W-VAR-res :
           {k n : ℕ} {π : Frame} {σ : List OpenCall}
-          → π .result ≡ none
+          → π .res ≡ none
           -- --------------------------------------
           → Evaluates k π σ res n (stopped stuck n)
       -- a parameter.

@@ -11,8 +11,8 @@ use Rattle.cofj.specs.Classes.{fits, fieldsOf, lookup}
 
 -- the variables of a body: this, res (right side only), the parameters
 pub record Env : Type 0 where
-  pub self : Option Ty
-  pub result : Option Ty
+  pub this : Option Ty
+  pub res : Option Ty
   pub params : List Ty
 
 -- tags 0 and 3 are closed
@@ -44,11 +44,11 @@ module _ (t : Table) where
   fieldType u f = guard (eqb (u .tag) 0) >>= λ _. getElem? (fieldsOf (t .classes) (u .cls)) f
 
   unfoldable pub callType : Bool → Ty → ℕ → List Ty → Option Ty
-  callType top u m us =
+  callType inMain u m us =
       guard (eqb (u .tag) 0) >>= λ _.
       lookup t (u .cls) m >>= λ d.
       guard (allClosed us && allFit t us (d .params)) >>= λ _.
-      some (cond top (d .first) (d .second))
+      some (cond inMain (d .first) (d .second))
 
   unfoldable pub newType : ℕ → List Ty → Option Ty
   newType c us =
@@ -57,24 +57,24 @@ module _ (t : Table) where
         | false ↦ guard (allFit t (map narrow us) (fieldsOf (t .classes) c)) >>= λ _. some (ty c 1)
       ]
 
-  -- `top` says that the expression is main: a call has its method's first result type there, and the second in a body
+  -- `inMain` says that the expression is main: a call has its method's first result type there, and the second in a body
   unfoldable mutual
     pub typeOf : Bool → Env → Expr → Option Ty
-    typeOf top g this = g .self
-    typeOf top g res = g .result
-    typeOf top g (param k) = getElem? (g .params) k
-    typeOf top g (field f e) = typeOf top g e >>= λ u. fieldType u f
-    typeOf top g (call m e es) = typeOf top g e >>= λ u. typesOf top g es >>= λ us. callType top u m us
-    typeOf top g (new c es) = typesOf top g es >>= λ us. newType c us
+    typeOf inMain g this = g .this
+    typeOf inMain g res = g .res
+    typeOf inMain g (param k) = getElem? (g .params) k
+    typeOf inMain g (field f e) = typeOf inMain g e >>= λ u. fieldType u f
+    typeOf inMain g (call m e es) = typeOf inMain g e >>= λ u. typesOf inMain g es >>= λ us. callType inMain u m us
+    typeOf inMain g (new c es) = typesOf inMain g es >>= λ us. newType c us
 
     pub typesOf : Bool → Env → Exprs → Option (List Ty)
-    typesOf top g done = some []
-    typesOf top g (also e es) = typeOf top g e >>= λ u. typesOf top g es >>= λ us. some (u ∷ us)
+    typesOf inMain g done = some []
+    typesOf inMain g (also e es) = typeOf inMain g e >>= λ u. typesOf inMain g es >>= λ us. some (u ∷ us)
 
   unfoldable pub methodTyped : Method → Option (Unit {0})
   methodTyped d =
-      typeOf false (record { self = some (ty (d .owner) 0); result = none; params = d .params }) (d .left) >>= λ u.
-      typeOf false (record { self = some (ty (d .owner) 0); result = some (ty (u .cls) 2); params = d .params }) (d .right) >>= λ v.
+      typeOf false (record { this = some (ty (d .owner) 0); res = none; params = d .params }) (d .left) >>= λ u.
+      typeOf false (record { this = some (ty (d .owner) 0); res = some (ty (u .cls) 2); params = d .params }) (d .right) >>= λ v.
       guard (fits (t .classes) (ty (u .cls) (closeTag (u .tag))) (d .first)
       && fits (t .classes) v (d .second)
       && fits (t .classes) (d .first) (d .second)
@@ -85,7 +85,7 @@ module _ (t : Table) where
   methodsTyped (d ∷ ds) = methodTyped d >>= λ _. methodsTyped ds
 
   abbrev pub mainType : Option Ty
-  mainType = typeOf true (record { self = none; result = none; params = [] }) (t .main)
+  mainType = typeOf true (record { this = none; res = none; params = [] }) (t .main)
 
 -- refused with 6 or 7, or accepted with main's type
 pub data Checked : Type 0 where

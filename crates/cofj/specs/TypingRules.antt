@@ -61,20 +61,20 @@ pub data AllFit (cs : List Class) : List Ty → List Ty → Type 0 where
   fit-each : {u w : Ty} {us ws : List Ty} → Fits cs u w → AllFit cs us ws → AllFit cs (u ∷ us) (w ∷ ws)
 
 -- ---- expressions
-module _ (t : Table) (top : Bool) (Γ : Env) where
+module _ (t : Table) (inMain : Bool) (Γ : Env) where
   mutual
-    -- The paper's g; Γ ⊢ e : U, where g is + when `top` is true, that is, in main.
+    -- The paper's g; Γ ⊢ e : U, where g is + when `inMain` is true, that is, in main.
     pub data HasType : Expr → Ty → Type 0 where
       -- A variable has its declared type: this,
       T-VAR-this :
           {u : Ty}
-          → Γ .self ≡ some u
+          → Γ .this ≡ some u
           -- ---------------
           → HasType this u
       -- res,
       T-VAR-res :
           {u : Ty}
-          → Γ .result ≡ some u
+          → Γ .res ≡ some u
           -- -----------------
           → HasType res u
       -- a parameter.
@@ -100,7 +100,7 @@ module _ (t : Table) (top : Bool) (Γ : Env) where
           → lookup t c m ≡ some d
           → AllClosed us
           → AllFit (t .classes) us (d .params)
-          → u ≡ cond top (d .first) (d .second)
+          → u ≡ cond inMain (d .first) (d .second)
           -- ----------------------------------
           → HasType (call m e es) u
       -- The values are closed, as many as the fields, and fit them: the object is plus.
@@ -129,14 +129,14 @@ module _ (t : Table) (top : Bool) (Γ : Env) where
 -- ---- methods, classes, programs
 -- the variables of a method's left side, and of its right side, where res is known too: u is the left side's type
 abbrev pub leftVariables : Method → Env
-leftVariables d = record { self = some (d .owner ⁺); result = none; params = d .params }
+leftVariables d = record { this = some (d .owner ⁺); res = none; params = d .params }
 
 abbrev pub rightVariables : Method → Ty → Env
-rightVariables d u = record { self = some (d .owner ⁺); result = some (u .cls ⁻?); params = d .params }
+rightVariables d u = record { this = some (d .owner ⁺); res = some (u .cls ⁻?); params = d .params }
 
 -- in main there are no variables
 abbrev pub noVariables : Env
-noVariables = record { self = none; result = none; params = [] }
+noVariables = record { this = none; res = none; params = [] }
 
 -- The left side, closed, fits the first result type; the right side fits the second; the first fits the second.
 -- Document 01: and the left side itself fits the second. The owner's ok_override is refusal 5, before types are looked at.

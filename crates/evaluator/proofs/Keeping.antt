@@ -81,7 +81,7 @@ module _ (W W′ : List ℕ) (sp : ℕ) (k : Kept sp W W′) where
 
   pub frame-same : (f : Frame) → FrameHolds W sp f → frameIn W′ f ≡ frameIn W f
   unfolding frameIn
-  frame-same f h = λ i. record { self = held-same (f .this) (h .this) i; result = held-same (f .res) (h .res) i; params = values-kept (f .args) (f .n) (h .args) i }
+  frame-same f h = λ i. record { this = held-same (f .this) (h .this) i; res = held-same (f .res) (h .res) i; params = values-kept (f .args) (f .n) (h .args) i }
 
   -- ---- traces
   call-kept : (c : OpenCall) → CallOlder W sp c → CallOlder W′ sp c

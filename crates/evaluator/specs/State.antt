@@ -58,7 +58,7 @@ pub record FrameHolds (W : List ℕ) (sp : ℕ) (f : Frame) : Type 0 where
   pub few : f .n ≤ 4
 
 unfoldable pub frameIn : List ℕ → Frame → language.Frame
-frameIn W f = record { self = heldIn W (f .this); result = heldIn W (f .res); params = valuesFrom W (f .args) 0 (f .n) }
+frameIn W f = record { this = heldIn W (f .this); res = heldIn W (f .res); params = valuesFrom W (f .args) 0 (f .n) }
 
 -- what parameter k of n holds, v if there are so many
 unfoldable pub passedOf : ℕ → ℕ → ValueRef → Held
