@@ -1,14 +1,14 @@
 -- Laws of parting: no step sets two objects apart that D takes to one number, whatever D is that goes with the fields.
-use Prim.Native.Nat.{ℕ, zero, suc, _+_, _*_, _<_, _≤_}
+use Prim.Native.Nat.{ℕ, _+_, _*_, _<_, _≤_}
 use native.Mathlib.Omega.{arith}
 use native.Mathlib.Decide.{decLt, ℕ-discrete}
-use mathlib.Core.Path.{_≡_, refl, sym, ap, _∙_, subst}
+use mathlib.Core.Path.{_≡_, refl, sym, ap, _∙_}
 use mathlib.Core.List.{List}
-use lib.ListN.{length, getD, set, length-set}
+use lib.ListN.{length, getD, set}
 use lib.Seq.{getD-set-same, getD-set-other}
 use Rattle.canon.specs.Figures.{codeCount, rowSize, linkSize, targetAt, looksField}
-use Rattle.canon.specs.Links.{Last, Hung, Lists, AllLists}
-use Rattle.canon.specs.Parting.{Stood, Standing, Classes, Front, Brought, Into, Relabelled, LaidOut, Kept, Split, Goes, GoesByLooks, PartedLooks, PartedFields, Begun}
+use Rattle.canon.specs.Links.{Lists, AllLists}
+use Rattle.canon.specs.Parting.{Stood, Standing, Classes, Front, Brought, Into, Relabelled, LaidOut, Kept, Split, Goes, PartedLooks, PartedFields, Begun}
 use Rattle.canon.proofs.Backs.{split-back}
 use Rattle.canon.proofs.Splits.{split-parts}
 

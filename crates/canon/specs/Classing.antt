@@ -3,7 +3,7 @@ use Prim.Native.Nat.{ℕ, _+_, _*_, _≤_, _<_}
 use mathlib.Core.Path.{_≡_}
 use mathlib.Core.Bool.{Bool, true, false}
 use mathlib.Core.List.{List}
-use lib.ListN.{length, getD}
+use lib.ListN.{getD}
 use Rattle.cofj.specs.Values.{obj}
 use Rattle.cofj.specs.Unfolding.{Same}
 use Rattle.canon.specs.Figures.{objectSize, rowSize}

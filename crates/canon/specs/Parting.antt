@@ -5,7 +5,6 @@ use mathlib.Core.Path.{_≡_}
 use mathlib.Core.List.{List}
 use lib.ListN.{length, getD}
 use Rattle.canon.specs.Figures.{codeCount, rowSize, linkSize, noteAt, targetAt, looksField}
-use Rattle.canon.specs.Links.{Lists}
 
 -- object x put at place p
 pub record Stood (T : List ℕ) (x p : ℕ) (T′ : List ℕ) : Type 0 where

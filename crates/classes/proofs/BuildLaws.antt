@@ -1,7 +1,7 @@
 -- Laws of placing all lines, in the form in which the needs of build cite them.
-use Prim.Native.Nat.{ℕ, zero, suc, _+_, _-_, _<_, _≤_}
+use Prim.Native.Nat.{ℕ, suc, _+_, _-_, _<_, _≤_}
 use native.Mathlib.Omega.{arith}
-use mathlib.Core.Path.{_≡_, refl, sym, ap, _∙_}
+use mathlib.Core.Path.{_≡_, sym, ap, _∙_}
 use mathlib.Core.Bool.{Bool, true, false, not}
 use mathlib.Core.List.{List}
 use lib.ListN.{length, getD, take, drop, set}
@@ -9,7 +9,7 @@ use borrow.Author.Tests.{lt-ltb, le-ltb, le-leb, lt-leb}
 use Rattle.classes.specs.declared.build.Lines.{Lines}
 use Rattle.classes.specs.declared.build.Lines.the-variants.{At, Refused}
 use Rattle.classes.specs.Placing.{Placed, placed, classPlaced, methodPlaced, mainPlaced}
-use Rattle.classes.specs.Building.{Walked, walked, lineAt, onward, linesPlaced, lastPlaced, andThen, counted, restPlaced, tablePlaced}
+use Rattle.classes.specs.Building.{Walked, walked, lineAt, onward, linesPlaced, lastPlaced, restPlaced, tablePlaced}
 use Rattle.classes.specs.Made.{Built}
 use Rattle.classes.proofs.FromText.{built}
 use Rattle.classes.proofs.LineLaws.{not-true, not-false}

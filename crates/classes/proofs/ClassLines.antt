@@ -1,36 +1,32 @@
 -- The class lines of a text into a table: the language's rules of classes, and the rows.
 use Prim.Native.Nat.{ℕ, zero, suc, _+_, _-_, _*_, _<_, _≤_, zero-le}
-use native.Mathlib.Nat.{not-suc-le-zero}
 use native.Mathlib.Omega.{arith}
 use native.Mathlib.Numerals.{add-one}
-use mathlib.Core.Path.{_≡_, refl, sym, ap, ap₂, _∙_, subst}
+use mathlib.Core.Path.{_≡_, refl, sym, ap, ap₂, _∙_}
 use mathlib.Core.Bool.{Bool, true, false, _&&_, true≢false, false≢true}
-use mathlib.Core.List.{List, [], _∷_, _++_, append-assoc, append-nil, map}
-use mathlib.Core.Option.{Option, none, some}
+use mathlib.Core.List.{List, [], _∷_, _++_, append-assoc, append-nil}
 use lib.Dec.{eqb, leb, ltb}
-use lib.ListN.{length, getD, getElem?, take, drop, set, length-append}
+use lib.ListN.{length, getD, drop, length-append}
 use lib.Seq.{sets, getD-append-seam, take-append-seam, drop-append-add}
-use borrow.Author.Tests.{eqb-true, eqb-false, ltb-true, ltb-false, leb-true, leb-false, le-leb, lt-leb, le-ltb, lt-ltb}
+use borrow.Author.Tests.{eqb-true, eqb-false, ltb-true, ltb-false, leb-true, le-leb, lt-leb, le-ltb}
 use Rattle.cofj.specs.Limits.{classCount, fieldCount}
-use Rattle.cofj.specs.Syntax.{Ty, Class, Method}
-use Rattle.cofj.specs.Classes.{parentOf, parentOr0, classAt, ownOrNone, fieldsTo, fieldsOf}
+use Rattle.cofj.specs.Syntax.{Ty, Class}
+use Rattle.cofj.specs.Classes.{parentOf, fieldsTo, fieldsOf}
 use Rattle.cofj.specs.Typing.{closedTag, allClosed}
 use Rattle.cofj.specs.Frames.{ClassFrame}
-use Rattle.cofj.specs.Tables.{numbered, known, allKnown, classesGood, bodies}
+use Rattle.cofj.specs.Tables.{numbered, allKnown, classesGood, bodies}
 use Rattle.cofj.specs.Writing.{typesBytes, classLine}
 use Rattle.cofj.proofs.Chain.{ParentsSmaller}
 use Rattle.cofj.proofs.Partial.{and-true}
 use Rattle.lineform.specs.Packed.{packed}
-use Rattle.classes.specs.declared.build.Lines.{Lines}
 use Rattle.classes.specs.declared.build.Lines.the-variants.{At, Refused}
-use Rattle.classes.specs.Machine.{pick}
 use Rattle.classes.specs.Layout.{classRow, filled}
 use Rattle.classes.specs.Placing.{goodTypes, Placed, placed, above, classGood, classPut, classPlaced}
 use Rattle.classes.specs.Building.{Walked, walked, lineAt, onward, linesPlaced}
-use Rattle.classes.proofs.Lists.{at-front, at-seam, past}
+use Rattle.classes.proofs.Lists.{at-seam, past}
 use Rattle.classes.proofs.Zones.{filled-class}
-use Rattle.classes.proofs.Filling.{parent-old, own-old, fields-old, class-filled}
-use Rattle.classes.proofs.OnTables.{fields-object, fields-enough}
+use Rattle.classes.proofs.Filling.{parent-old, fields-old, class-filled}
+use Rattle.classes.proofs.OnTables.{fields-enough}
 
 -- ---- tests in a row
 pub swap : (a b c d : Bool) → (a && b) && (c && d) ≡ (a && c) && (b && d)

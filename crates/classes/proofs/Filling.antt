@@ -1,22 +1,20 @@
 -- A table that is being filled: what a class's row adds. Not here: a method's (FillingMethods).
-use Prim.Native.Nat.{ℕ, zero, suc, _+_, _-_, _*_, _/_, _%_, _<_, _≤_, zero-le}
+use Prim.Native.Nat.{ℕ, zero, suc, _+_, _-_, _*_, _/_, _%_, _<_, _≤_}
 use native.Mathlib.Nat.{not-suc-le-zero}
 use native.Mathlib.Omega.{arith}
-use mathlib.Core.Path.{_≡_, refl, sym, ap, ap₂, _∙_, subst}
+use mathlib.Core.Path.{_≡_, refl, sym, ap, ap₂, _∙_}
 use mathlib.Core.Bool.{Bool, true, false}
 use mathlib.Core.List.{List, [], _∷_, _++_}
-use mathlib.Core.Option.{Option, none, some}
 use lib.Dec.{eqb, ltb}
-use lib.ListN.{length, getD, getElem?, set, length-append, length-set, List·getD-eq-default}
+use lib.ListN.{length, getD, length-append, List·getD-eq-default}
 use lib.Seq.{sets, length-sets, ext-getD}
 use borrow.Author.Tests.{ltb-true, ltb-false, eqb-true, eqb-false}
 use Rattle.cofj.specs.Limits.{classCount, methodCount}
 use Rattle.cofj.specs.Syntax.{Ty, Class, Method}
-use Rattle.cofj.specs.Classes.{parentOf, parentOr0, classAt, ownOrNone, fieldsTo, fieldsOf}
-use Rattle.cofj.specs.Writing.{typesBytes}
+use Rattle.cofj.specs.Classes.{parentOf, parentOr0, classAt, ownOrNone, fieldsTo}
 use Rattle.cofj.proofs.Chain.{ParentsSmaller, parent-le}
 use Rattle.classes.specs.Figures.{tableSize, rowSize, longSize, indexAt, methodsAt, mainAt}
-use Rattle.classes.specs.Layout.{classRow, indexFrom, methodByte, longByte, filled}
+use Rattle.classes.specs.Layout.{classRow, filled}
 use Rattle.classes.proofs.Lists.{at-front, at-seam, past, sets-before, sets-after, sets-in}
 use Rattle.classes.proofs.Zones.{length-filled, filled-class, filled-index, filled-method, filled-main, length-types}
 use Rattle.classes.proofs.OnTables.{fields-object}

@@ -1,26 +1,25 @@
 -- A table that is being filled: what a method's row and its place in the index add.
-use Prim.Native.Nat.{ℕ, zero, suc, _+_, _-_, _*_, _<_, _≤_}
-use native.Mathlib.Nat.{not-suc-le-zero}
+use Prim.Native.Nat.{ℕ, suc, _+_, _*_, _<_, _≤_}
 use native.Mathlib.Omega.{arith}
-use mathlib.Core.Path.{_≡_, refl, sym, ap, ap₂, _∙_, subst}
+use mathlib.Core.Path.{_≡_, refl, sym, ap, _∙_, subst}
 use mathlib.Core.Bool.{Bool, true, false, _&&_}
 use mathlib.Core.List.{List, [], _∷_, _++_}
-use mathlib.Core.Option.{Option, none, some}
+use mathlib.Core.Option.{Option, some}
 use lib.Dec.{eqb, ltb}
-use lib.ListN.{length, getD, getElem?, set, drop, length-append, length-set, List·getD-eq-default}
+use lib.ListN.{length, getD, getElem?, set, length-append, length-set, List·getD-eq-default}
 use lib.Seq.{sets, length-sets, getD-set-same, getD-set-other}
-use borrow.Author.Tests.{ltb-true, ltb-false, eqb-true, eqb-false, eq-eqb, ne-eqb, le-ltb}
+use borrow.Author.Tests.{ltb-true, ltb-false, eqb-true, eqb-false, eq-eqb, le-ltb}
 use Rattle.cofj.specs.Limits.{classCount, methodCount, lineSize}
 use Rattle.cofj.specs.Syntax.{Class, Method}
 use Rattle.cofj.specs.Writing.{methodLine}
 use Rattle.cofj.proofs.Partial.{and-true}
 use Rattle.classes.specs.Machine.{pick}
-use Rattle.classes.specs.Figures.{rowSize, longSize}
-use Rattle.classes.specs.Layout.{classRow, indexFrom, rest, rightPlace, methodByte, longByte, filled}
+use Rattle.classes.specs.Figures.{longSize}
+use Rattle.classes.specs.Layout.{indexFrom, rest, rightPlace, methodByte, longByte, filled}
 use Rattle.classes.specs.Placing.{indexPut, methodPut}
 use Rattle.classes.proofs.Lists.{at-front, at-seam, past, sets-before, sets-after, sets-in}
 use Rattle.classes.proofs.Zones.{length-filled, filled-class, filled-index, filled-method, filled-main}
-use Rattle.classes.proofs.Filling.{Agree, agree}
+use Rattle.classes.proofs.Filling.{agree}
 
 -- whether d is the method x of class c
 abbrev pub isAt : Method → ℕ → ℕ → Bool

@@ -1,17 +1,16 @@
 -- The method lines of a text into a table: the language's rules of methods, the rows and the index.
-use Prim.Native.Nat.{ℕ, zero, suc, _+_, _-_, _*_, _<_, _≤_}
-use native.Mathlib.Nat.{not-suc-le-zero}
+use Prim.Native.Nat.{ℕ, suc, _+_, _*_, _<_, _≤_}
 use native.Mathlib.Omega.{arith}
-use mathlib.Core.Path.{_≡_, refl, sym, ap, ap₂, _∙_, subst}
+use mathlib.Core.Path.{_≡_, refl, sym, ap, ap₂, _∙_}
 use mathlib.Core.Bool.{Bool, true, false, _&&_, _||_, not, true≢false, false≢true}
 use mathlib.Core.List.{List, [], _∷_, _++_, append-assoc, append-nil}
-use mathlib.Core.Option.{Option, none, some}
-use lib.Dec.{eqb, leb, ltb}
+use mathlib.Core.Option.{some}
+use lib.Dec.{eqb, leb}
 use lib.ListN.{length, getD, getElem?, drop, length-append}
-use lib.Seq.{drop-append-seam, getD-append-add}
+use lib.Seq.{drop-append-seam}
 use borrow.Author.Tests.{eqb-true, eqb-false, eq-eqb, ne-eqb, le-leb, le-ltb}
 use Rattle.cofj.specs.Limits.{classCount, methodCount, lineSize}
-use Rattle.cofj.specs.Syntax.{Expr, this, res, param, field, call, new, Exprs, done, also, count, Ty, Class, Method}
+use Rattle.cofj.specs.Syntax.{Expr, this, res, param, field, call, new, Exprs, done, also, Class, Method}
 use Rattle.cofj.specs.Typing.{closedTag, allClosed}
 use Rattle.cofj.specs.Tables.{known, allKnown, exprKnown, exprsKnown, hasName, methodsGood}
 use Rattle.cofj.specs.Writing.{codeOf, codesOf, typesBytes, methodLine, methodLines}
@@ -20,12 +19,11 @@ use Rattle.cofj.proofs.Partial.{and-true}
 use Rattle.cofj.proofs.Passed.{methodRules, method-ruled}
 use Rattle.lineform.specs.Signs.{signRow}
 use Rattle.lineform.specs.Packed.{packed}
-use Rattle.classes.specs.declared.methods.Found.the-variants as found
 use Rattle.classes.specs.declared.build.Lines.the-variants.{At, Refused}
 use Rattle.classes.specs.Machine.{pick, numbered, ownOf}
 use Rattle.classes.specs.Layout.{indexFrom, rightPlace, filled}
 use Rattle.classes.specs.Placing.{scan, methodGood, Placed, placed, methodFree, methodPlaced}
-use Rattle.classes.specs.Building.{Walked, walked, onward, linesPlaced}
+use Rattle.classes.specs.Building.{walked, onward, linesPlaced}
 use Rattle.classes.proofs.Zones.{length-types, filled-index}
 use Rattle.classes.proofs.FillingMethods.{isAt, method-filled}
 use Rattle.classes.proofs.ClassLines.{swap, types-are, refused, Ends, ends-step, ends-moved, lines-step}

@@ -1,26 +1,24 @@
 -- On a table's bytes the test of overriding is the language's.
-use Prim.Native.Nat.{ℕ, zero, suc, _+_, _-_, _*_, _%_, _<_, _≤_}
-use native.Mathlib.Nat.{not-suc-le-zero}
+use Prim.Native.Nat.{ℕ, zero, suc, _+_, _*_, _%_, _<_, _≤_}
 use native.Mathlib.Omega.{arith}
 use mathlib.Core.Path.{_≡_, refl, sym, ap, ap₂, _∙_, subst}
-use mathlib.Core.Bool.{Bool, true, false, _&&_, true≢false}
+use mathlib.Core.Bool.{Bool, true, false, _&&_}
 use mathlib.Core.List.{List, [], _∷_, _++_}
-use mathlib.Core.Option.{Option, none, some, Option·none-ne-some}
+use mathlib.Core.Option.{Option, some, Option·none-ne-some}
 use lib.Dec.{eqb}
-use lib.ListN.{length, getD, getElem?}
-use borrow.Author.Tests.{eqb-true, eqb-false, eq-eqb, ne-eqb}
+use lib.ListN.{length, getElem?}
+use borrow.Author.Tests.{eqb-true, eqb-false}
 use Rattle.cofj.specs.Limits.{classCount, methodCount, paramCount, lineSize}
-use Rattle.cofj.specs.Syntax.{Ty, Class, Method, Table, eqTy, eqTys}
+use Rattle.cofj.specs.Syntax.{Ty, Method, Table, eqTy, eqTys}
 use Rattle.cofj.specs.Classes.{parentOf, lookup}
 use Rattle.cofj.specs.Tables.{sameTypes, overridesGood}
 use Rattle.cofj.specs.Writing.{codeOf, typesBytes, methodLine}
 use Rattle.cofj.specs.WellFormed.{AllMethods}
 use Rattle.cofj.proofs.Chain.{ParentsSmaller}
 use Rattle.classes.specs.declared.methods.Found.{Found}
-use Rattle.classes.specs.Machine.{up, lookupOf, rowOf}
-use Rattle.classes.specs.Layout.{layout, rest, Stands, Finds, at, nothing}
+use Rattle.classes.specs.Machine.{rowOf}
+use Rattle.classes.specs.Layout.{layout, Stands, Finds, at, nothing}
 use Rattle.classes.specs.Overriding.{sameFrom, sameAs, sameFound, sameAbove, overridesIn, overridesOf}
-use Rattle.classes.proofs.Lists.{past}
 use Rattle.classes.proofs.Zones.{parent-at, method-count-at, owner-at, name-at, param-count-at, line-stands, stands-moved, stands-front, stands-first, stands-rest}
 use Rattle.classes.proofs.MethodLines.{and-assoc}
 use Rattle.classes.proofs.OnTables.{Owned, lookup-of}

@@ -5,22 +5,21 @@ use native.Mathlib.Omega.{arith}
 use mathlib.Core.Path.{_≡_, refl, sym, ap, _∙_, subst}
 use mathlib.Core.Bool.{Bool, true, false, _&&_}
 use mathlib.Core.List.{List, [], _∷_, _++_}
-use mathlib.Core.Option.{Option, none, some, Option·none-ne-some}
+use mathlib.Core.Option.{Option, none, some}
 use lib.Dec.{eqb, leb, ltb}
-use lib.ListN.{length, getD, getElem?, length-append}
-use borrow.Author.Tests.{lt-ltb, le-ltb, le-leb, lt-leb, leb-true, leb-false, ltb-true, ltb-false, ne-eqb, eq-eqb}
-use Rattle.cofj.specs.Limits.{classCount, methodCount, fieldCount}
+use lib.ListN.{length, getElem?, length-append}
+use borrow.Author.Tests.{le-ltb, le-leb, lt-leb, leb-true, leb-false, ltb-true, ltb-false, ne-eqb}
+use Rattle.cofj.specs.Limits.{classCount, fieldCount}
 use Rattle.cofj.specs.Syntax.{Ty, Class, Method, Table}
 use Rattle.cofj.specs.Classes.{parentOf, classAt, ownOrNone, chainHas, classFits, fieldsTo, fieldsOf, methodOf, lookupTo, lookup}
 use Rattle.cofj.specs.WellFormed.{AllMethods, WellFormed, MethodFormed}
 use Rattle.cofj.proofs.Chain.{ParentsSmaller, parent-le}
 use Rattle.cofj.proofs.Climb.{found}
-use Rattle.classes.specs.declared.chain.FieldFound.{FieldFound}
 use Rattle.classes.specs.declared.chain.FieldFound.the-variants as field
 use Rattle.classes.specs.declared.methods.Found.{Found}
 use Rattle.classes.specs.declared.methods.Found.the-variants as found-as
 use Rattle.classes.specs.Machine.{pick, up, typeAt, fitsIn, fitsOf, ownField, fieldIn, fieldOf, numbered, ownOf, orElse, lookupIn, lookupOf}
-use Rattle.classes.specs.Layout.{layout, indexFrom, bytesOf, foundType, Finds, at, nothing}
+use Rattle.classes.specs.Layout.{layout, indexFrom, foundType, Finds, at, nothing}
 use Rattle.classes.proofs.Lists.{at-front, at-after, past, within}
 use Rattle.classes.proofs.Laws.{fits-zero}
 use Rattle.classes.proofs.Zones.{parent-at, total-at, own-count-at, own-type-at, index-zone}

@@ -1,36 +1,33 @@
 -- All lines of a text into a table: the language's `table` of the frames, and the table's bytes.
 use Prim.Native.Nat.{ℕ, zero, suc, _+_, _-_, _*_, _<_, _≤_, zero-le}
-use native.Mathlib.Nat.{not-suc-le-zero}
 use native.Mathlib.Omega.{arith}
-use mathlib.Core.Path.{_≡_, refl, sym, ap, ap₂, _∙_, subst}
-use mathlib.Core.Bool.{Bool, true, false, _&&_, true≢false, false≢true}
-use mathlib.Core.List.{List, [], _∷_, _++_, append-assoc, append-nil}
-use mathlib.Core.Option.{Option, none, some, Option·none-ne-some}
-use lib.Dec.{eqb, leb, ltb}
-use lib.ListN.{length, getD, getElem?, set, drop, replicate, length-append, length-set, length-replicate, getD-replicate, List·getD-eq-default}
+use mathlib.Core.Path.{_≡_, refl, sym, ap, ap₂, _∙_}
+use mathlib.Core.Bool.{Bool, true, false, _&&_, false≢true}
+use mathlib.Core.List.{List, [], _∷_, _++_, append-assoc}
+use mathlib.Core.Option.{none, some, Option·none-ne-some}
+use lib.Dec.{eqb, ltb}
+use lib.ListN.{length, getD, getElem?, set, replicate, length-append, length-set, length-replicate, getD-replicate, List·getD-eq-default}
 use lib.Seq.{sets, length-sets, getD-set-same, getD-set-other}
 use borrow.Author.Tests.{eqb-true, eqb-false, ltb-true, ltb-false, lt-leb, le-ltb}
 use Rattle.cofj.specs.Limits.{classCount, methodCount, lineSize}
 use Rattle.cofj.specs.Partial.{_>>=_, guard}
 use Rattle.cofj.specs.Syntax.{Expr, Class, Method, Table}
-use Rattle.cofj.specs.Classes.{fieldsTo}
 use Rattle.cofj.specs.Frames.{ClassFrame}
-use Rattle.cofj.specs.Tables.{Raw, numbered, classesGood, methodsGood, exprKnown, bodies, table}
+use Rattle.cofj.specs.Tables.{Raw, methodsGood, exprKnown, bodies, table}
 use Rattle.cofj.specs.Writing.{codeOf, methodLines}
 use Rattle.cofj.specs.WellFormed.{AllMethods}
 use Rattle.lineform.specs.Packed.{packed}
 use Rattle.lineform.proofs.PackedLaws.{packed-append}
-use Rattle.classes.specs.declared.build.Lines.{Lines}
 use Rattle.classes.specs.declared.build.Lines.the-variants.{At, Refused}
 use Rattle.classes.specs.Machine.{pick}
 use Rattle.classes.specs.Figures.{tableSize}
-use Rattle.classes.specs.Layout.{zeros, classRow, indexFrom, methodByte, longByte, rightPlace, filled, layout}
-use Rattle.classes.specs.Placing.{scan, Placed, placed, classPlaced, methodPlaced, mainPlaced}
-use Rattle.classes.specs.Building.{Walked, walked, lineAt, linesPlaced, lastPlaced, andThen, counted, restPlaced, tablePlaced}
+use Rattle.classes.specs.Layout.{zeros, classRow, indexFrom, longByte, rightPlace, filled, layout}
+use Rattle.classes.specs.Placing.{Placed, placed, classPlaced, methodPlaced, mainPlaced}
+use Rattle.classes.specs.Building.{Walked, walked, linesPlaced, lastPlaced, andThen, counted, restPlaced, tablePlaced}
 use Rattle.classes.specs.Made.{Zeros, answer, Makes}
 use Rattle.classes.proofs.Lists.{sets-before, sets-after, sets-in}
 use Rattle.classes.proofs.Zones.{length-filled, filled-class, filled-index, filled-method, filled-main}
-use Rattle.classes.proofs.Filling.{Agree, agree, row-past}
+use Rattle.classes.proofs.Filling.{agree, row-past}
 use Rattle.classes.proofs.ClassLines.{refused, Ends, ends-moved, classLinesOf, classRules, classes-walk, size-is, line-is}
 use Rattle.classes.proofs.MethodLines.{scan-whole, Framed, nameRules, none-yet, methods-walk}
 

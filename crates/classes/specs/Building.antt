@@ -1,6 +1,6 @@
 -- What the functions make of a text's packed lines S, one after another. Not here: one line (Placing).
 use Prim.Native.Nat.{ℕ, zero, suc, _+_, _-_}
-use mathlib.Core.Bool.{Bool, true, false}
+use mathlib.Core.Bool.{true, false}
 use mathlib.Core.List.{List}
 use lib.Dec.{leb, ltb}
 use lib.ListN.{length, getD, take, drop, set}

@@ -1,13 +1,13 @@
 -- The bytes of a class table (docs/TABLE.md). Not here: its figures (Figures); what the functions answer of them (Machine).
 use Prim.Native.Nat.{ℕ, zero, suc, _+_, _-_, _*_, _/_, _%_, _<_}
 use mathlib.Core.Path.{_≡_}
-use mathlib.Core.Bool.{Bool, true, false, _&&_}
+use mathlib.Core.Bool.{_&&_}
 use mathlib.Core.List.{List, [], _∷_, _++_}
 use mathlib.Core.Option.{Option, none, some}
 use lib.Dec.{eqb, ltb}
 use lib.ListN.{length, getD, getElem?}
-use Rattle.cofj.specs.Syntax.{Ty, Expr, Class, Method, Table}
-use Rattle.cofj.specs.Classes.{parentOf, classAt, ownOrNone, fieldsOf, fieldsTo}
+use Rattle.cofj.specs.Syntax.{Ty, Class, Method, Table}
+use Rattle.cofj.specs.Classes.{parentOf, classAt, ownOrNone, fieldsOf}
 use Rattle.cofj.specs.Writing.{codeOf, typesBytes, methodLine}
 use Rattle.cofj.specs.WellFormed.{WellFormed}
 use Rattle.classes.specs.declared.chain.FieldType.{FieldType}

@@ -1,13 +1,13 @@
 -- What the functions answer of overriding in a table's bytes B. Not here: that this is the language's rule (proofs/OnTables).
 use Prim.Native.Nat.{ℕ, zero, suc, _+_, _*_, _%_}
-use mathlib.Core.Bool.{Bool, true, false, _&&_}
+use mathlib.Core.Bool.{Bool, true, _&&_}
 use mathlib.Core.List.{List}
 use lib.Dec.{eqb}
 use lib.ListN.{getD}
 use Rattle.classes.specs.Figures.{methodCountAt}
 use Rattle.classes.specs.declared.methods.Found.{Found}
 use Rattle.classes.specs.declared.methods.Found.the-variants as found
-use Rattle.classes.specs.Machine.{up, lookupIn, lookupOf, rowOf}
+use Rattle.classes.specs.Machine.{up, lookupOf, rowOf}
 
 -- the k bytes from a and from b on are the same
 unfoldable pub sameFrom : List ℕ → ℕ → ℕ → ℕ → Bool

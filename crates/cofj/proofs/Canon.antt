@@ -10,7 +10,7 @@ use lib.Dec.{eqb, ltb}
 use lib.ListN.{length, getD, getElem?, length-map, List·getD-eq-default}
 use borrow.Author.Tests.{eqb-true, eq-eqb, ltb-true, ltb-false}
 use Rattle.cofj.specs.Partial.{_>>=_}
-use Rattle.cofj.specs.Values.{Ref, obj, mark, undet, Node, node, Graph, graph, rename, renameNode, nodeAt, refsAt, colours, isIn, placeIn, canon}
+use Rattle.cofj.specs.Values.{Ref, obj, mark, undet, Node, node, Graph, graph, rename, renameNode, nodeAt, refsAt, isIn, placeIn, canon}
 use Rattle.cofj.specs.Unfolding.{child, follow, SameTree, InRange, Whole}
 use Rattle.cofj.proofs.Basics.{at-map, getD-map-lt}
 use Rattle.cofj.proofs.Trees.{renamed-same}

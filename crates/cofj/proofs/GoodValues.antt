@@ -10,7 +10,7 @@ use lib.ListN.{length, getD, getElem?, length-map}
 use borrow.Author.Tests.{eqb-false}
 use Rattle.cofj.specs.Syntax.{count, Table}
 use Rattle.cofj.specs.Classes.{fieldsTo}
-use Rattle.cofj.specs.Values.{Ref, obj, mark, undet, Node, node, Graph, graph, rename, renameNode, nodeAt, canon, colours, visit, bind, undetermined, markOf}
+use Rattle.cofj.specs.Values.{Ref, obj, mark, undet, Node, node, Graph, rename, renameNode, nodeAt, canon, colours, visit, bind, undetermined, markOf}
 use Rattle.cofj.specs.Unfolding.{Whole, AllWhole}
 use Rattle.cofj.specs.Formed.{AllIn, MarkBelow, Formed, Good}
 use Rattle.cofj.proofs.Canon.{canon-whole, canon-length}

@@ -9,8 +9,8 @@ use lib.Dec.{eqb}
 use lib.ListN.{length, getElem?, length-map, length-append, List·getD-append, List·getD-map}
 use lib.Seq.{getD-append-add}
 use Rattle.cofj.specs.Partial.{_>>=_}
-use Rattle.cofj.specs.Values.{Ref, obj, mark, undet, Node, node, Graph, graph, rename, renameNode, nodeAt, refsAt, canon, select, selected, close, bind, make, lay, undetermined}
-use Rattle.cofj.specs.Unfolding.{Label, object, labelAt, child, follow, followBound, InRange, Whole, AllWhole}
+use Rattle.cofj.specs.Values.{Ref, obj, mark, undet, Node, node, Graph, graph, rename, renameNode, nodeAt, refsAt, canon, select, selected, close, bind, make, lay}
+use Rattle.cofj.specs.Unfolding.{object, labelAt, child, follow, followBound, InRange, Whole, AllWhole}
 use Rattle.cofj.proofs.Basics.{at-map}
 use Rattle.cofj.proofs.Trees.{renamed-same}
 use Rattle.cofj.proofs.Canon.{canon-same, canon-whole, rename-id, node-id}

@@ -1,6 +1,6 @@
 -- Reading, checking, closing and writing: what each call answers, number by number. Collected in specs/Promises.
 -- Not here: runs (RunCalls).
-use Prim.Native.Nat.{ℕ, _≤_, _<_}
+use Prim.Native.Nat.{ℕ, _≤_}
 use native.Mathlib.Omega.{arith}
 use mathlib.Core.Path.{_≡_, refl, sym, ap, _∙_}
 use mathlib.Core.Bool.{Bool, true, false, cond}

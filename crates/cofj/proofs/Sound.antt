@@ -13,7 +13,6 @@ use Rattle.cofj.specs.Partial.{_>>=_, guard}
 use Rattle.cofj.specs.Classes.{classFits, fieldsOf, lookup}
 use Rattle.cofj.specs.Typing.{Env, allClosed, allFit, narrow, fieldType, callType, newType, typeOf, typesOf, mainType}
 use Rattle.cofj.specs.Values.{Graph, select, make}
-use Rattle.cofj.specs.Unfolding.{object}
 use Rattle.cofj.specs.Running.{Outcome, value, stopped, Stop, Frame, OpenCall, orStuck, Deeper, classOf, target, invoke, sized, eval, evals, evalTo, mainFrame, runWithin}
 use Rattle.cofj.specs.WellFormed.{AllMethods, MethodFormed, WellFormed}
 use Rattle.cofj.specs.Soundness.{Ends, Sound}

@@ -8,7 +8,7 @@ use mathlib.Core.Option.{Option, none, some, Option·none-ne-some}
 use lib.Dec.{eqb, leb}
 use lib.ListN.{length}
 use borrow.Author.Tests.{eq-eqb, leb-true, le-leb}
-use Rattle.cofj.specs.Syntax.{Expr, call, Ty, ty, Method, Table}
+use Rattle.cofj.specs.Syntax.{Expr, Ty, ty, Method, Table}
 use Rattle.cofj.specs.Classes.{classFits, lookup}
 use Rattle.cofj.specs.Typing.{Env, closeTag, typeOf}
 use Rattle.cofj.specs.Values.{Ref, obj, mark, undet, Graph, nodeAt, refsAt, close, markOf}

@@ -7,9 +7,9 @@ use mathlib.Core.Option.{Option, some, Option·none-ne-some}
 use lib.Dec.{eqb}
 use lib.ListN.{length}
 use borrow.Author.Tests.{eqb-true}
-use Rattle.cofj.specs.Syntax.{call, Ty, Method, Table}
+use Rattle.cofj.specs.Syntax.{Ty, Method, Table}
 use Rattle.cofj.specs.Classes.{lookup}
-use Rattle.cofj.specs.Values.{mark, Node, Graph, graph, eqRef, eqNode, eqNodes, eqGraph, eqGraphs}
+use Rattle.cofj.specs.Values.{Node, Graph, graph, eqRef, eqNode, eqNodes, eqGraph, eqGraphs}
 use Rattle.cofj.specs.Running.{OpenCall, classOf, openMark}
 use Rattle.cofj.proofs.Basics.{both-true, eqRef-true, eqNode-true}
 use Rattle.cofj.proofs.Typed.{bound, bound-new, bound-more}

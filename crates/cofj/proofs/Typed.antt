@@ -9,8 +9,8 @@ use lib.Dec.{eqb}
 use lib.ListN.{length, getElem?}
 use borrow.Author.Tests.{eqb-true, eq-eqb, ne-eqb}
 use Rattle.cofj.specs.Syntax.{Ty, ty, Table}
-use Rattle.cofj.specs.Classes.{classFits, fits, fieldsOf}
-use Rattle.cofj.specs.Values.{mark, Graph, undetermined}
+use Rattle.cofj.specs.Classes.{classFits, fieldsOf}
+use Rattle.cofj.specs.Values.{Graph}
 use Rattle.cofj.specs.Unfolding.{Label, object, opened, unknown, follow, Whole}
 use Rattle.cofj.specs.WellFormed.{WellFormed}
 use Rattle.cofj.proofs.Chain.{fits-self}

@@ -20,9 +20,9 @@ use Rattle.cofj.specs.Frames.{TextFrame, frames}
 use Rattle.cofj.specs.Tables.{Raw, ordered, few, table, overridden}
 use Rattle.cofj.specs.Reading.{Answer, refusal, read, readText}
 use Rattle.cofj.specs.WellFormed.{AllMethods}
-use Rattle.cofj.specs.Typing.{Checked, refused, accepted, check}
+use Rattle.cofj.specs.Typing.{refused, accepted, check}
 use Rattle.cofj.specs.TypingRules.{HasType, noVariables, MethodTyped, ProgramTyped}
-use Rattle.cofj.specs.Values.{Ref, obj, Node, Graph, graph, canon, make, select, close, markOf, undetermined}
+use Rattle.cofj.specs.Values.{obj, Node, Graph, graph, canon, make, select, close, markOf, undetermined}
 use Rattle.cofj.specs.Unfolding.{object, follow, followBound, SameTree, Whole, AllWhole}
 use Rattle.cofj.specs.Running.{Outcome, OpenCall, openMark, run, runWithin}
 use Rattle.cofj.specs.RunningRules.{RunsTo}

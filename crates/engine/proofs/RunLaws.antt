@@ -1,15 +1,15 @@
 -- Laws of the check of a text, and of runs of a table's bytes and of a text.
 use Prim.Native.Nat.{ℕ, _≤_}
 use native.Mathlib.Omega.{arith}
-use mathlib.Core.Path.{_≡_, refl, sym, ap, _∙_, subst}
+use mathlib.Core.Path.{_≡_, refl, sym, ap, _∙_}
 use mathlib.Core.List.{List, _++_}
 use lib.ListN.{length, take, drop}
 use Rattle.cofj.specs.declared.Session.{Session}
 use Rattle.cofj.specs.declared.Answer as public
 use Rattle.cofj.specs.declared.Verdict.{Verdict}
 use Rattle.cofj.specs.Limits.{workSize}
-use Rattle.cofj.specs.Syntax.{Table, Ty}
-use Rattle.cofj.specs.Reading.{Answer, refusal, read, readText}
+use Rattle.cofj.specs.Syntax.{Table}
+use Rattle.cofj.specs.Reading.{Answer, refusal}
 use Rattle.cofj.specs.Typing as language
 use Rattle.cofj.specs.Calls as calls
 use Rattle.cofj.specs.Calls.{Mode, checked, trial, withFuel, cleared, Ran, Admitted, declined, admitted, afterCheck, runAdmitted, runCall, checkCall}
@@ -17,9 +17,9 @@ use Rattle.cofj.proofs.Readable.{read-formed}
 use Rattle.cofj.proofs.ReadCalls.{check-unread}
 use Rattle.cofj.proofs.RunCalls.{admit-unread, admit-read}
 use Rattle.classes.specs.declared.chain.FieldType.{FieldType}
-use Rattle.classes.specs.Layout.{layout, Tabled}
+use Rattle.classes.specs.Layout.{Tabled}
 use Rattle.tables.specs.Readings.{readingOf, Into}
-use Rattle.tables.proofs.Written.{TableOf, answer-table, answer-refusal}
+use Rattle.tables.proofs.Written.{answer-table, answer-refusal}
 use Rattle.checker.specs.declared.program.Checked.{Checked}
 use Rattle.checker.specs.declared.program.Checked.the-variants.{Main, Refused}
 use Rattle.checker.specs.Program.{checkOf}

@@ -1,11 +1,11 @@
 -- Document 01's shams, refuted: a function that meets the contract of a public call does not answer as the sham does.
 -- Each by a call that the sham would answer otherwise. The table of them, with the edits of the code, is docs/SHAMS.md.
-use Prim.Native.Nat.{ℕ, _-_, _≤_, _<_}
+use Prim.Native.Nat.{ℕ, _-_, _<_}
 use Prim.Native.String.{String}
 use native.Mathlib.Omega.{arith}
 use mathlib.Core.Path.{_≡_, refl, sym, ap, _∙_}
-use mathlib.Core.Bool.{true, false, false≢true}
-use mathlib.Core.List.{List, [], _∷_}
+use mathlib.Core.Bool.{false, false≢true}
+use mathlib.Core.List.{List, []}
 use lib.ListN.{length, getD, length-replicate}
 use Rattle.cofj.specs.declared.Session.{Session}
 use Rattle.cofj.specs.declared.Closing.{Closing}

@@ -1,13 +1,11 @@
 -- Laws of what `linerun` writes.
-use Prim.Native.Nat.{ℕ, zero, suc, _+_, _-_, _*_, _≤_}
+use Prim.Native.Nat.{ℕ, _+_, _-_, _*_, _≤_}
 use native.Mathlib.Omega.{arith}
-use mathlib.Core.Path.{_≡_, refl, sym, ap, ap₂, _∙_, subst}
+use mathlib.Core.Path.{_≡_, refl, sym, ap, ap₂, _∙_}
 use mathlib.Core.Bool.{Bool, true, false}
 use mathlib.Core.List.{List, [], _∷_, _++_, append-assoc, append-nil}
-use mathlib.Core.Option.{Option, none, some}
-use lib.Dec.{eqb}
 use lib.ListN.{length, take, drop, replicate, length-append, length-drop}
-use lib.Seq.{sets, sets-eq, take-at, drop-at, drop-drop, take-length, drop-length, length-take-le}
+use lib.Seq.{sets-eq, take-at, drop-at, drop-drop, take-length, drop-length, length-take-le}
 use borrow.Rule.Slice.PartMut.{midOf, putMid}
 use borrow.Author.Tests.{eq-eqb, ne-eqb}
 use Rattle.cofj.specs.declared.Session.{Session}
@@ -21,7 +19,7 @@ use Rattle.cofj.specs.Reading.{refusal, read, readText}
 use Rattle.cofj.specs.Typing.{Checked, refused, accepted, check}
 use Rattle.cofj.specs.Running.{run}
 use Rattle.cofj.specs.Report.{reportOf}
-use Rattle.cofj.specs.Calls.{Mode, checked, openSession, over, zeros, checkText, checkCall, verdictOf, verdictLine, Ran, Admitted, declined, admitted, afterCheck, admitTable, admit, runAdmitted, runCall, reportAdmitted, linerun}
+use Rattle.cofj.specs.Calls.{checked, openSession, over, zeros, checkText, checkCall, verdictOf, verdictLine, Ran, Admitted, declined, admitted, afterCheck, admit, runAdmitted, runCall, reportAdmitted, linerun}
 use Rattle.cofj.proofs.ReadCalls.{text-number}
 use Rattle.cofj.proofs.RunCalls.{by-text, admit-unread, admit-read, run-fits}
 use Rattle.lineform.specs.Writes.{wrote, putLine}
@@ -29,7 +27,7 @@ use Rattle.lineform.proofs.WriteLaws.{line-end, line-stores}
 use Rattle.engine.specs.declared.show.Shown.{Shown}
 use Rattle.engine.specs.Steps.{ran}
 use Rattle.engine.proofs.StateLaws.{call}
-use Rattle.engine.specs.Showing.{shownSize, verdictBytes, PutVerdict, reportFor, PutReport, shownOf, Shows}
+use Rattle.engine.specs.Showing.{shownSize, verdictBytes, PutVerdict, reportFor, PutReport, Shows}
 
 -- ---- the verdict line
 stored : (l d o : List ℕ) (r : ℕ) → wrote r o ≡ putLine d 0 l → length (hexLine l) ≤ length d → o ≡ over (hexLine l) d

@@ -6,7 +6,7 @@ use mathlib.Core.List.{List, [], _∷_}
 use lib.ListN.{length, set, drop}
 use Rattle.cofj.specs.Limits.{reportSize}
 use Rattle.cofj.specs.Values.{Graph}
-use Rattle.cofj.specs.Running.{Outcome, stopped}
+use Rattle.cofj.specs.Running.{stopped}
 use Rattle.cofj.specs.Report.{reportOf}
 use Rattle.cofj.specs.Calls.{over}
 use Rattle.cofj.proofs.RunCalls.{run-standard}
@@ -19,7 +19,6 @@ use Rattle.evaluator.specs.declared.Stop.the-variants.{Stuck, NoFuel, To
 use Rattle.evaluator.specs.declared.Out.{Out}
 use Rattle.evaluator.specs.declared.Out.the-variants.{Value, Halt}
 use Rattle.evaluator.specs.declared.report.Reported.{Reported}
-use Rattle.evaluator.specs.State.{Older}
 use Rattle.evaluator.specs.Answers.{stopOf, outIn, OutOlder}
 use Rattle.evaluator.specs.Main.{Runs}
 use Rattle.evaluator.specs.Reporting.{stopNumber, StopReports, OutcomeReports, RunReports}

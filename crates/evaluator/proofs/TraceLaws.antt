@@ -1,6 +1,6 @@
 -- What a step that leaves the first k open calls as they were leaves of their meaning: everything. Steps one after the other.
 -- Not here: what a change of the work bytes leaves (Keeping), a call more (BodyLaws).
-use Prim.Native.Nat.{ℕ, zero, suc, _+_, _-_, _*_, _%_, _≤_, _<_}
+use Prim.Native.Nat.{ℕ, zero, suc, _+_, _*_, _%_, _≤_, _<_}
 use native.Mathlib.Omega.{arith}
 use mathlib.Core.Path.{_≡_, refl, sym, ap, ap₂, _∙_, subst}
 use mathlib.Core.List.{List, [], _∷_}

@@ -1,6 +1,6 @@
 -- What the variables of a body and the open calls stand for in the work bytes W, and when they do.
 -- Not here: frames at rest (Resting), what evaluation answers (Answers).
-use Prim.Native.Nat.{ℕ, zero, suc, _+_, _-_, _*_, _%_, _≤_, _<_}
+use Prim.Native.Nat.{ℕ, zero, suc, _+_, _*_, _%_, _≤_, _<_}
 use mathlib.Core.Path.{_≡_}
 use mathlib.Core.Bool.{Bool, true, false, not}
 use mathlib.Core.List.{List, [], _∷_}

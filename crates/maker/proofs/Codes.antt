@@ -7,7 +7,6 @@ use mathlib.Core.Bool.{Bool, true, false}
 use mathlib.Core.List.{List, _∷_}
 use lib.Dec.{eqb}
 use lib.ListN.{length, getD, set}
-use lib.Seq.{take-all}
 use borrow.Author.Tests.{eqb-true, eq-eqb}
 use Rattle.cofj.specs.Values.{eqNats}
 use Rattle.cofj.proofs.Basics.{eqNats-true}

@@ -1,6 +1,6 @@
 -- An object entered into a block: found there or added, and what that leaves as it was; the laws of `enter`, `enter_new`, `enter_over`, `lies_from` and `refers_from`.
 -- Not here: the bytes of one more object (Beside), parts of other blocks (Brings).
-use Prim.Native.Nat.{ℕ, _+_, _-_, _*_, _/_, _%_, _<_, _≤_}
+use Prim.Native.Nat.{ℕ, _+_, _*_, _/_, _%_, _<_, _≤_}
 use native.Mathlib.Omega.{arith}
 use native.Mathlib.Decide.{decLt}
 use mathlib.Core.Path.{_≡_, refl, sym, ap, _∙_, subst}

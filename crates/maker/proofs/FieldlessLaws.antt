@@ -12,7 +12,7 @@ use lib.ListN.{length, getD, getElem?, List·getD-eq-default}
 use Rattle.cofj.specs.Values.{Ref, Node, node, nodeAt, refsAt, canon, make}
 use Rattle.cofj.proofs.Trees.{same-cls}
 use Rattle.canon.specs.Figures.{objectSize, headSize, firstMark, objectsSize, countAt, levelAt, reachAt, blockSize}
-use Rattle.canon.specs.Layout.{nodeIn, Block, objectsIn, graphAt, countIn, levelIn, Outside, Beneath}
+use Rattle.canon.specs.Layout.{nodeIn, Block, objectsIn, graphAt, countIn, levelIn, Beneath}
 use Rattle.canon.specs.Tables.{Carried}
 use Rattle.canon.proofs.Nodes.{length-nodes, at-nodes}
 use Rattle.values.specs.declared.ValueRef.the-variants.{Object}

@@ -1,11 +1,11 @@
 -- Objects of one list that are not among those of another, the host: whoever leads to such an object is one, and many of them can be added to the host at once,
 -- rings too, their fields turned. Who asks: merging a part into a host block. The law of one new object (Adding, distinct-more) has no source list.
 -- Not here: how it is found out that an object is not among them.
-use Prim.Native.Nat.{ℕ, _+_, _≤_, _<_}
+use Prim.Native.Nat.{ℕ, _≤_, _<_}
 use native.Mathlib.Omega.{arith}
 use native.Mathlib.Decide.{decLt}
 use mathlib.Core.Path.{_≡_, refl, sym, ap, ap₂, _∙_, subst}
-use mathlib.Core.List.{List, [], _∷_, map}
+use mathlib.Core.List.{List, [], _∷_}
 use mathlib.Core.Logic.{_⊎_, inl, inr, ⊎-elim}
 use mathlib.Core.Option.{Option, none, some, Option·none-ne-some}
 use lib.ListN.{length, getD, getElem?, length-map, List·getD-eq-default}

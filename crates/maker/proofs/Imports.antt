@@ -2,11 +2,11 @@
 -- Not here: what is known of single objects (Sorts), the bytes that are added (Joins).
 use Prim.Native.Nat.{ℕ, _+_, _-_, _*_, _≤_, _<_}
 use native.Mathlib.Omega.{arith}
-use mathlib.Core.Path.{_≡_, refl, sym, ap, _∙_, subst}
+use mathlib.Core.Path.{_≡_, refl, sym, _∙_, subst}
 use mathlib.Core.Bool.{Bool, true, false, not, false≢true}
 use mathlib.Core.List.{List}
 use mathlib.Core.Logic.{⊎-elim}
-use lib.ListN.{length, getD, replicate, length-replicate}
+use lib.ListN.{getD, replicate, length-replicate}
 use Rattle.cofj.specs.Values.{Graph, obj}
 use Rattle.cofj.specs.Unfolding.{InRange}
 use Rattle.canon.specs.Figures.{codeCount, firstLeaf, capacity, countAt, blockSize}
@@ -17,7 +17,7 @@ use Rattle.values.proofs.Blocks.{size-in}
 use Rattle.maker.specs.Figures.{noRoom}
 use Rattle.maker.specs.Crowds.{In, BlockIn, Crowd}
 use Rattle.maker.specs.Merging.{CodeAs, Mapped, Imported}
-use Rattle.maker.specs.Sorting.{Sorted, Decided, codeAt, Listed, Reached, Sorting, SortedFrom}
+use Rattle.maker.specs.Sorting.{Decided, codeAt, Listed, Reached, Sorting, SortedFrom}
 use Rattle.maker.specs.Seeking.{Telling, SameNumber}
 use Rattle.maker.specs.Joining.{Joining, Joined}
 use Rattle.maker.proofs.Turns.{zero-at}

@@ -8,14 +8,14 @@ use mathlib.Core.List.{List, [], _∷_}
 use mathlib.Core.Option.{some, none, Option·none-ne-some}
 use lib.Dec.{leb}
 use lib.ListN.{length, getD, getElem?}
-use borrow.Author.Tests.{le-leb, lt-leb, leb-true, leb-false, ne-eqb}
+use borrow.Author.Tests.{le-leb, lt-leb, leb-false, ne-eqb}
 use types.Run.{OneOf}
 use denote.Enum.Declared.{tagOf}
-use Rattle.cofj.specs.Values.{Ref, obj, node, Graph, graph, canon, refsAt, make, lay}
+use Rattle.cofj.specs.Values.{Ref, obj, node, Graph, graph, refsAt, make, lay}
 use Rattle.cofj.specs.Unfolding.{Whole, InRange}
 use Rattle.cofj.proofs.Canon.{canon-length}
 use Rattle.canon.specs.Figures.{capacity, countAt, blockSize, spareBlock}
-use Rattle.canon.specs.Layout.{countIn, objectsIn, graphAt, Outside, Beneath}
+use Rattle.canon.specs.Layout.{countIn, graphAt, Outside, Beneath}
 use Rattle.values.specs.declared.ValueRef.{ValueRef}
 use Rattle.values.specs.declared.ValueRef.the-variants.{Object, Mark, Undetermined}
 use Rattle.values.specs.Layout.{valueOf, Holds, Low, liesIn}

@@ -1,6 +1,6 @@
 -- Where the parts of a new object lie: the laws of `some_object`, `first_block`, `stands` and `together`.
 -- Not here: the host of several blocks (Hosts).
-use Prim.Native.Nat.{ℕ, zero, suc, _+_, _-_, _<_, _≤_}
+use Prim.Native.Nat.{ℕ, zero, suc, _+_, _<_, _≤_}
 use native.Mathlib.Omega.{arith}
 use native.Mathlib.Decide.{ℕ-discrete}
 use mathlib.Core.Path.{_≡_, refl, sym, ap, _∙_, subst}

@@ -5,14 +5,13 @@ use mathlib.Core.Path.{_≡_}
 use mathlib.Core.Bool.{Bool, true, false, cond}
 use mathlib.Core.List.{List, map}
 use mathlib.Core.Logic.{_⊎_}
-use lib.Dec.{ltb, eqb}
+use lib.Dec.{eqb}
 use lib.ListN.{length, getD}
 use Rattle.cofj.specs.Values.{obj}
 use Rattle.cofj.specs.Unfolding.{Same}
 use Rattle.canon.specs.Figures.{objectSize, firstMark, capacity, countAt, blockSize}
 use Rattle.canon.specs.Layout.{countIn, levelIn, reachIn, objectsIn, Block, Outside}
 use Rattle.canon.specs.Tables.{copied}
-use Rattle.canon.specs.Numbers.{numberIn}
 use Rattle.maker.specs.Figures.{notTold, tooMany}
 use Rattle.maker.specs.Merging.{Grown, Mapped}
 use Rattle.maker.specs.Sorting.{Sorted, Settled, Decided}

@@ -1,6 +1,6 @@
 -- Objects brought into one block, the host: the codes of a value that lies in another block, and of the parts of a new object.
 -- Not here: the bytes of a block with one more object (Adding).
-use Prim.Native.Nat.{ℕ, zero, suc, _+_, _*_, _/_, _%_, _≤_, _<_}
+use Prim.Native.Nat.{ℕ, zero, suc, _+_, _/_, _%_, _≤_, _<_}
 use mathlib.Core.Path.{_≡_}
 use mathlib.Core.Bool.{Bool, true, false, cond}
 use mathlib.Core.List.{List}

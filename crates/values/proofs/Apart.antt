@@ -1,6 +1,6 @@
 -- Objects told apart by a path, and objects that stay distinct where a mark is bound: the laws of `other_field`, `differ`, `unlike`, `stay_distinct`, and the block written.
 -- Not here: how they are bound (Bindings).
-use Prim.Native.Nat.{ℕ, _+_, _-_, _*_, _<_, _≤_}
+use Prim.Native.Nat.{ℕ, _+_, _*_, _<_, _≤_}
 use native.Mathlib.Omega.{arith}
 use native.Mathlib.Decide.{decLt, ℕ-discrete}
 use mathlib.Core.Path.{_≡_, sym, ap, _∙_, subst}

@@ -9,7 +9,7 @@ use lib.ListN.{length, getD, take, getElem?}
 use borrow.Author.Tests.{eqb-false}
 use types.Run.{OneOf}
 use denote.Enum.Declared.{tagOf}
-use Rattle.cofj.specs.Values.{Ref, obj, undet, Node, Graph, graph, rename, renameNode, refsAt, colours, canon}
+use Rattle.cofj.specs.Values.{Ref, obj, undet, Node, Graph, graph, renameNode, refsAt, colours, canon}
 use Rattle.cofj.specs.Unfolding.{InRange, Whole}
 use Rattle.cofj.specs.ReportForm.{upFrom}
 use Rattle.cofj.proofs.Canon.{node-id, canon-length}

@@ -1,6 +1,6 @@
 -- Marks bound to an object: the tree, and the objects that stay distinct where nobody refers to it.
 -- Not here: how the objects lie in bytes (Bindings).
-use Prim.Native.Nat.{ℕ, _-_, _<_}
+use Prim.Native.Nat.{ℕ, _<_}
 use native.Mathlib.Omega.{arith}
 use mathlib.Core.Path.{_≡_, refl, sym, ap, _∙_}
 use mathlib.Core.Bool.{Bool, true, false}

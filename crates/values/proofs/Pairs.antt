@@ -1,6 +1,6 @@
 -- Pairs of objects of two blocks, noted one by one: one law for each return of `step_code`, and how many objects are not paired.
 -- Not here: what the pairs say of trees (Partners, Steps).
-use Prim.Native.Nat.{ℕ, zero, suc, _+_, _-_, _<_, _≤_}
+use Prim.Native.Nat.{ℕ, zero, suc, _+_, _<_, _≤_}
 use native.Mathlib.Omega.{arith}
 use native.Mathlib.Decide.{ℕ-discrete}
 use mathlib.Core.Path.{_≡_, refl, sym, ap, ap₂, _∙_}

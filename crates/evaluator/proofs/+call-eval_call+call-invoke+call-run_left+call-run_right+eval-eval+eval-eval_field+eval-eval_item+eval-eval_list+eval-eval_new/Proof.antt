@@ -65,9 +65,7 @@ use Rattle.evaluator.proofs.+call-eval_call+call-invoke+call-run_left+c
 }
 use borrow.Author.Needs.{needs}
 use mathlib.Core.Path.{refl}
-use mathlib.Core.List.{[]}
-use Prim.Native.Nat.{_+_, _-_, _*_, _≤_}
-use native.Mathlib.Omega.{arith}
+use Prim.Native.Nat.{_-_}
 use Rattle.evaluator.specs.Resting.{frameOf}
 use Rattle.evaluator.proofs.StepLaws as steps
 use Rattle.evaluator.proofs.WalkLaws as walks

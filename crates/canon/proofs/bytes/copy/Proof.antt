@@ -1,8 +1,6 @@
 -- The proof of `bytes::copy`: n bytes of `from`, from place i on, to place j of `to`. By a loop in which n - k falls, and the laws of Runs.
 use Rattle.canon.proofs.bytes.copy.Statement.{statement}
 use Rattle.canon.proofs.bytes.copy.Tie as tie
-use Rattle.canon.proofs.bytes.copy.Reads as reads
-use Rattle.canon.proofs.bytes.copy.Lts as lts
 use borrow.Author.Needs.{needs}
 use mathlib.Core.Path.{_≡_}
 use Prim.Native.Nat.{_≤_, _-_}

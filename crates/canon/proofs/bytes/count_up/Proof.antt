@@ -1,8 +1,6 @@
 -- The proof of `bytes::count_up`: base, base + 1, .., n of them. By a loop in which n - i falls, and the laws of Runs.
 use Rattle.canon.proofs.bytes.count_up.Statement.{statement}
 use Rattle.canon.proofs.bytes.count_up.Tie as tie
-use Rattle.canon.proofs.bytes.count_up.Reads as reads
-use Rattle.canon.proofs.bytes.count_up.Lts as lts
 use borrow.Author.Needs.{needs}
 use mathlib.Core.Path.{_≡_, refl}
 use Prim.Native.Nat.{_≤_, _-_, _+_}

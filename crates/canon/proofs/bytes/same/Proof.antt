@@ -1,8 +1,6 @@
 -- The proof of `bytes::same`: whether the n bytes of a from i on are those of b from j on. By a loop in which n - k falls, and the laws of Runs.
 use Rattle.canon.proofs.bytes.same.Statement.{statement}
 use Rattle.canon.proofs.bytes.same.Tie as tie
-use Rattle.canon.proofs.bytes.same.Reads as reads
-use Rattle.canon.proofs.bytes.same.Lts as lts
 use borrow.Author.Needs.{needs}
 use mathlib.Core.Path.{_≡_}
 use Prim.Native.Nat.{_≤_, _-_, _+_}

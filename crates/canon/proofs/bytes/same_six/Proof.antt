@@ -2,10 +2,6 @@
 use borrow.Author.Needs.{needs}
 use Rattle.canon.proofs.bytes.same_six.Statement.{statement}
 use Rattle.canon.proofs.bytes.same_six.Tie as tie
-use Rattle.canon.proofs.bytes.same_six.Reads as reads
-use Rattle.canon.proofs.bytes.same_six.Lts as lts
-use Rattle.canon.proofs.bytes.four_at.Reads as four-at-reads
-use Rattle.canon.proofs.bytes.two_at.Reads as two-at-reads
 use Rattle.canon.proofs.Nodes as laws
 
 returns : tie.Need-returns

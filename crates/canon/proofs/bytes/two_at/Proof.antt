@@ -2,8 +2,6 @@
 use borrow.Author.Needs.{needs}
 use Rattle.canon.proofs.bytes.two_at.Statement.{statement}
 use Rattle.canon.proofs.bytes.two_at.Tie as tie
-use Rattle.canon.proofs.bytes.two_at.Reads as reads
-use Rattle.canon.proofs.bytes.two_at.Lts as lts
 use Prim.Native.Nat.{_+_}
 use native.Mathlib.Omega.{arith}
 use mathlib.Core.Path.{refl}

@@ -1,8 +1,6 @@
 -- The proof of `bytes::wipe`: m zeros. By a loop in which m - i falls, and the laws of Runs.
 use Rattle.canon.proofs.bytes.wipe.Statement.{statement}
 use Rattle.canon.proofs.bytes.wipe.Tie as tie
-use Rattle.canon.proofs.bytes.wipe.Reads as reads
-use Rattle.canon.proofs.bytes.wipe.Lts as lts
 use borrow.Author.Needs.{needs}
 use mathlib.Core.Path.{_≡_}
 use Prim.Native.Nat.{_≤_, _-_}

@@ -2,11 +2,6 @@
 use borrow.Author.Needs.{needs}
 use Rattle.canon.proofs.colours.colour.Statement.{statement}
 use Rattle.canon.proofs.colours.colour.Tie as tie
-use Rattle.canon.proofs.colours.colour.Reads as reads
-use Rattle.canon.proofs.colours.colour.Lts as lts
-use Rattle.canon.proofs.leads.part_own.Reads as part-own-reads
-use Rattle.canon.proofs.leads.steady.Reads as steady-reads
-use Rattle.canon.proofs.colours.settle_own.Reads as settle-own-reads
 use native.Mathlib.Omega.{arith}
 use Rattle.canon.proofs.Classing as laws
 

@@ -1,9 +1,6 @@
 -- The proof of `colours::place`: the first object that looks as object i does. By a loop in which i - j falls, and the laws of Places.
 use Rattle.canon.proofs.colours.place.Statement.{statement}
 use Rattle.canon.proofs.colours.place.Tie as tie
-use Rattle.canon.proofs.colours.place.Reads as reads
-use Rattle.canon.proofs.colours.place.Lts as lts
-use Rattle.canon.proofs.bytes.same.Reads as same-reads
 use borrow.Author.Needs.{needs}
 use mathlib.Core.Path.{_≡_}
 use Prim.Native.Nat.{_≤_, _-_, _+_, _*_}

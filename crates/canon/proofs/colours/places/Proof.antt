@@ -1,9 +1,6 @@
 -- The proof of `colours::places`: the places of the first n objects. By a loop in which n - i falls, and the laws of Runs.
 use Rattle.canon.proofs.colours.places.Statement.{statement}
 use Rattle.canon.proofs.colours.places.Tie as tie
-use Rattle.canon.proofs.colours.places.Reads as reads
-use Rattle.canon.proofs.colours.places.Lts as lts
-use Rattle.canon.proofs.colours.place.Reads as place-reads
 use borrow.Author.Needs.{needs}
 use mathlib.Core.Path.{_≡_}
 use Prim.Native.Nat.{_≤_, _-_}

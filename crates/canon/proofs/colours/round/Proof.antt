@@ -2,10 +2,6 @@
 use borrow.Author.Needs.{needs}
 use Rattle.canon.proofs.colours.round.Statement.{statement}
 use Rattle.canon.proofs.colours.round.Tie as tie
-use Rattle.canon.proofs.colours.round.Reads as reads
-use Rattle.canon.proofs.colours.round.Lts as lts
-use Rattle.canon.proofs.colours.places.Reads as places-reads
-use Rattle.canon.proofs.lift.lift.Reads as lift-reads
 use native.Mathlib.Omega.{arith}
 use Rattle.canon.proofs.Rounds as laws
 

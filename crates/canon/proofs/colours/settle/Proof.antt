@@ -1,11 +1,6 @@
 -- The proof of `colours::settle`: rounds until nothing changes, and the colours then. By a loop in which k falls, and the laws of Rounds.
 use Rattle.canon.proofs.colours.settle.Statement.{statement}
 use Rattle.canon.proofs.colours.settle.Tie as tie
-use Rattle.canon.proofs.colours.settle.Reads as reads
-use Rattle.canon.proofs.colours.settle.Lts as lts
-use Rattle.canon.proofs.bytes.copy.Reads as copy-reads
-use Rattle.canon.proofs.bytes.same.Reads as same-reads
-use Rattle.canon.proofs.colours.round.Reads as round-reads
 use borrow.Author.Needs.{needs}
 use mathlib.Core.Path.{_≡_}
 use Prim.Native.Nat.{_≤_}

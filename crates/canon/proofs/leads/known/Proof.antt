@@ -2,9 +2,6 @@
 use borrow.Author.Needs.{needs}
 use Rattle.canon.proofs.leads.known.Statement.{statement}
 use Rattle.canon.proofs.leads.known.Tie as tie
-use Rattle.canon.proofs.leads.known.Reads as reads
-use Rattle.canon.proofs.leads.known.Lts as lts
-use Rattle.canon.proofs.parting.class_of.Reads as class-of-reads
 use Rattle.canon.proofs.Firsts as laws
 
 returns : tie.Need-returns

@@ -1,16 +1,11 @@
 -- The proof of `leads::lead`: the first object of the class of each of n objects. By a loop in which n - i falls, and the laws of Firsts.
 use Rattle.canon.proofs.leads.lead.Statement.{statement}
 use Rattle.canon.proofs.leads.lead.Tie as tie
-use Rattle.canon.proofs.leads.lead.Reads as reads
-use Rattle.canon.proofs.leads.lead.Lts as lts
-use Rattle.canon.proofs.leads.known.Reads as known-reads
-use Rattle.canon.proofs.parting.cell.Reads as cell-reads
-use Rattle.canon.proofs.parting.class_of.Reads as class-of-reads
 use borrow.Author.Needs.{needs}
 use mathlib.Core.Path.{_≡_}
 use Prim.Native.Nat.{_≤_, _-_}
 use native.Mathlib.Omega.{arith}
-use lib.ListN.{length, length-set}
+use lib.ListN.{length}
 use Rattle.canon.proofs.Firsts as laws
 
 abbrev Inv-loop : tie.InvT-loop

@@ -1,13 +1,8 @@
 -- The proof of `leads::look_same`: whether objects i and j look alike by their colours. By a loop in which objectSize - k falls, and the laws of Looks.
 use Rattle.canon.proofs.leads.look_same.Statement.{statement}
 use Rattle.canon.proofs.leads.look_same.Tie as tie
-use Rattle.canon.proofs.leads.look_same.Reads as reads
-use Rattle.canon.proofs.leads.look_same.Lts as lts
-use Rattle.canon.proofs.lift.part_of.Reads as part-of-reads
 use borrow.Author.Needs.{needs}
-use mathlib.Core.Path.{_≡_}
 use Prim.Native.Nat.{_≤_, _-_}
-use native.Mathlib.Omega.{arith}
 use Rattle.canon.specs.Figures.{objectSize}
 use Rattle.canon.specs.Tables.{copied}
 use Rattle.canon.specs.Links.{AlikeTo}

@@ -2,14 +2,6 @@
 use borrow.Author.Needs.{needs}
 use Rattle.canon.proofs.leads.part.Statement.{statement}
 use Rattle.canon.proofs.leads.part.Tie as tie
-use Rattle.canon.proofs.leads.part.Reads as reads
-use Rattle.canon.proofs.leads.part.Lts as lts
-use Rattle.canon.proofs.leads.lead.Reads as lead-reads
-use Rattle.canon.proofs.links.link.Reads as link-reads
-use Rattle.canon.proofs.parting.begin.Reads as begin-reads
-use Rattle.canon.proofs.parting.part_fields.Reads as part-fields-reads
-use Rattle.canon.proofs.parting.part_looks.Reads as part-looks-reads
-use native.Mathlib.Omega.{arith}
 use Rattle.canon.proofs.Classing as laws
 
 link-requires : tie.Need-link-requires

@@ -1,13 +1,8 @@
 -- The proof of `leads::steady`: whether each of n objects looks as the one of its colour does. By a loop in which n - i falls, and the laws of Firsts.
 use Rattle.canon.proofs.leads.steady.Statement.{statement}
 use Rattle.canon.proofs.leads.steady.Tie as tie
-use Rattle.canon.proofs.leads.steady.Reads as reads
-use Rattle.canon.proofs.leads.steady.Lts as lts
-use Rattle.canon.proofs.leads.look_same.Reads as look-same-reads
 use borrow.Author.Needs.{needs}
-use mathlib.Core.Path.{_≡_}
 use Prim.Native.Nat.{_≤_, _-_}
-use native.Mathlib.Omega.{arith}
 use borrow.Author.Tests.{not-false}
 use Rattle.canon.specs.Classing.{Steady}
 use Rattle.canon.proofs.Firsts as laws

@@ -1,9 +1,6 @@
 -- The proof of `lift::lift`: p bytes of objects, from a place of `src` to a place of `dst`. By a loop in which p - q falls, and the laws of Lifts.
 use Rattle.canon.proofs.lift.lift.Statement.{statement}
 use Rattle.canon.proofs.lift.lift.Tie as tie
-use Rattle.canon.proofs.lift.lift.Reads as reads
-use Rattle.canon.proofs.lift.lift.Lts as lts
-use Rattle.canon.proofs.lift.part_of.Reads as part-of-reads
 use borrow.Author.Needs.{needs}
 use mathlib.Core.Path.{_≡_}
 use Prim.Native.Nat.{_≤_, _-_}

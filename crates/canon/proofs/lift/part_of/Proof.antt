@@ -2,9 +2,6 @@
 use borrow.Author.Needs.{needs}
 use Rattle.canon.proofs.lift.part_of.Statement.{statement}
 use Rattle.canon.proofs.lift.part_of.Tie as tie
-use Rattle.canon.proofs.lift.part_of.Reads as reads
-use Rattle.canon.proofs.lift.part_of.Lts as lts
-use Rattle.canon.proofs.lift.turn.Reads as turn-reads
 use Rattle.canon.proofs.Lifts as laws
 
 returns : tie.Need-returns

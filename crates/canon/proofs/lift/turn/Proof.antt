@@ -2,8 +2,6 @@
 use borrow.Author.Needs.{needs}
 use Rattle.canon.proofs.lift.turn.Statement.{statement}
 use Rattle.canon.proofs.lift.turn.Tie as tie
-use Rattle.canon.proofs.lift.turn.Reads as reads
-use Rattle.canon.proofs.lift.turn.Lts as lts
 use Rattle.canon.proofs.Lifts as laws
 
 returns : tie.Need-returns

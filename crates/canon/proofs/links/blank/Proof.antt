@@ -1,8 +1,6 @@
 -- The proof of `links::blank`: m zeros. By a loop in which m - i falls, and the laws of Hangs.
 use Rattle.canon.proofs.links.blank.Statement.{statement}
 use Rattle.canon.proofs.links.blank.Tie as tie
-use Rattle.canon.proofs.links.blank.Reads as reads
-use Rattle.canon.proofs.links.blank.Lts as lts
 use borrow.Author.Needs.{needs}
 use mathlib.Core.Path.{_≡_}
 use Prim.Native.Nat.{_≤_, _-_}

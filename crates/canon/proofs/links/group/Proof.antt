@@ -1,11 +1,6 @@
 -- The proof of `links::group`: hangs the rows up by their looks. By a loop in which n - x falls, and the laws of Looks.
 use Rattle.canon.proofs.links.group.Statement.{statement}
 use Rattle.canon.proofs.links.group.Tie as tie
-use Rattle.canon.proofs.links.group.Reads as reads
-use Rattle.canon.proofs.links.group.Lts as lts
-use Rattle.canon.proofs.links.hang.Reads as hang-reads
-use Rattle.canon.proofs.links.hash.Reads as hash-reads
-use Rattle.canon.proofs.links.like_before.Reads as like-before-reads
 use borrow.Author.Needs.{needs}
 use mathlib.Core.Path.{_≡_, _∙_, refl}
 use Prim.Native.Nat.{_≤_, _<_, _-_}

@@ -2,9 +2,6 @@
 use borrow.Author.Needs.{needs}
 use Rattle.canon.proofs.links.hang.Statement.{statement}
 use Rattle.canon.proofs.links.hang.Tie as tie
-use Rattle.canon.proofs.links.hang.Reads as reads
-use Rattle.canon.proofs.links.hang.Lts as lts
-use Rattle.canon.proofs.parting.last_into.Reads as last-into-reads
 use native.Mathlib.Omega.{arith}
 use lib.ListN.{length-set}
 use Rattle.canon.proofs.Hangs as laws

@@ -2,9 +2,6 @@
 use borrow.Author.Needs.{needs}
 use Rattle.canon.proofs.links.hash.Statement.{statement}
 use Rattle.canon.proofs.links.hash.Tie as tie
-use Rattle.canon.proofs.links.hash.Reads as reads
-use Rattle.canon.proofs.links.hash.Lts as lts
-use Rattle.canon.proofs.links.show.Reads as show-reads
 use Rattle.canon.proofs.Looks as laws
 
 returns : tie.Need-returns

@@ -1,14 +1,7 @@
 -- The proof of `links::like_before`: the first row of those that look as row x does, if one below x does, which are listed from `from` on; else x. By a loop in which z falls, and the laws of Looks.
 use Rattle.canon.proofs.links.like_before.Statement.{statement}
 use Rattle.canon.proofs.links.like_before.Tie as tie
-use Rattle.canon.proofs.links.like_before.Reads as reads
-use Rattle.canon.proofs.links.like_before.Lts as lts
-use Rattle.canon.proofs.links.look_alike.Reads as look-alike-reads
-use Rattle.canon.proofs.links.refers_to.Reads as refers-to-reads
-use Rattle.canon.proofs.parting.cell.Reads as cell-reads
 use borrow.Author.Needs.{needs}
-use mathlib.Core.Path.{_≡_}
-use Prim.Native.Nat.{_≤_}
 use native.Mathlib.Omega.{arith}
 use Rattle.canon.proofs.Looks as laws
 

@@ -2,11 +2,6 @@
 use borrow.Author.Needs.{needs}
 use Rattle.canon.proofs.links.link.Statement.{statement}
 use Rattle.canon.proofs.links.link.Tie as tie
-use Rattle.canon.proofs.links.link.Reads as reads
-use Rattle.canon.proofs.links.link.Lts as lts
-use Rattle.canon.proofs.links.blank.Reads as blank-reads
-use Rattle.canon.proofs.links.group.Reads as group-reads
-use Rattle.canon.proofs.links.refer.Reads as refer-reads
 use native.Mathlib.Omega.{arith}
 use Rattle.canon.proofs.Hangs as hangs
 use Rattle.canon.proofs.Refers as laws

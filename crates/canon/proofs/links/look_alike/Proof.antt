@@ -1,13 +1,8 @@
 -- The proof of `links::look_alike`: whether objects i and j look alike at first. By a loop in which objectSize - k falls, and the laws of Looks.
 use Rattle.canon.proofs.links.look_alike.Statement.{statement}
 use Rattle.canon.proofs.links.look_alike.Tie as tie
-use Rattle.canon.proofs.links.look_alike.Reads as reads
-use Rattle.canon.proofs.links.look_alike.Lts as lts
-use Rattle.canon.proofs.links.show.Reads as show-reads
 use borrow.Author.Needs.{needs}
-use mathlib.Core.Path.{_≡_}
 use Prim.Native.Nat.{_≤_, _-_}
-use native.Mathlib.Omega.{arith}
 use Rattle.canon.specs.Figures.{objectSize}
 use Rattle.canon.specs.Links.{shown, AlikeTo}
 use Rattle.canon.proofs.Looks as laws

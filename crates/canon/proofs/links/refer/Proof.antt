@@ -1,13 +1,9 @@
 -- The proof of `links::refer`: the rows hung up by all four fields. By a loop in which 4 - f falls, and the laws of Refers.
 use Rattle.canon.proofs.links.refer.Statement.{statement}
 use Rattle.canon.proofs.links.refer.Tie as tie
-use Rattle.canon.proofs.links.refer.Reads as reads
-use Rattle.canon.proofs.links.refer.Lts as lts
-use Rattle.canon.proofs.links.refer_field.Reads as refer-field-reads
 use borrow.Author.Needs.{needs}
 use mathlib.Core.Path.{_≡_, _∙_}
 use Prim.Native.Nat.{_≤_, _-_}
-use native.Mathlib.Omega.{arith}
 use lib.ListN.{length}
 use Rattle.canon.specs.Figures.{codeCount}
 use Rattle.canon.specs.Links.{Referred}

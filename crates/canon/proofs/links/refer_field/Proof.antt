@@ -1,10 +1,6 @@
 -- The proof of `links::refer_field`: hangs the rows up by field f. By a loop in which n - x falls, and the laws of Refers.
 use Rattle.canon.proofs.links.refer_field.Statement.{statement}
 use Rattle.canon.proofs.links.refer_field.Tie as tie
-use Rattle.canon.proofs.links.refer_field.Reads as reads
-use Rattle.canon.proofs.links.refer_field.Lts as lts
-use Rattle.canon.proofs.links.hang.Reads as hang-reads
-use Rattle.canon.proofs.links.target_row.Reads as target-row-reads
 use borrow.Author.Needs.{needs}
 use mathlib.Core.Path.{_≡_, _∙_}
 use Prim.Native.Nat.{_≤_, _<_, _-_}

@@ -1,9 +1,6 @@
 -- The proof of `links::show`: byte k of an object as it looks at first: all objects alike. By the laws of Looks.
 use Rattle.canon.proofs.links.show.Statement.{statement}
 use Rattle.canon.proofs.links.show.Tie as tie
-use Rattle.canon.proofs.links.show.Reads as reads
-use Rattle.canon.proofs.links.show.Lts as lts
-use borrow.Author.Needs.{needs}
 use Rattle.canon.proofs.Looks as laws
 
 returns : tie.Need-returns

@@ -2,8 +2,6 @@
 use borrow.Author.Needs.{needs}
 use Rattle.canon.proofs.links.target_row.Statement.{statement}
 use Rattle.canon.proofs.links.target_row.Tie as tie
-use Rattle.canon.proofs.links.target_row.Reads as reads
-use Rattle.canon.proofs.links.target_row.Lts as lts
 use Rattle.canon.proofs.Refers as laws
 
 returns : tie.Need-returns

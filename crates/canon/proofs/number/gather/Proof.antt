@@ -1,9 +1,6 @@
 -- The proof of `number::gather`: the objects that the order lists, renamed by the table, from a place of `dst` on. By a loop in which m - j falls, and the laws of Numbers.
 use Rattle.canon.proofs.number.gather.Statement.{statement}
 use Rattle.canon.proofs.number.gather.Tie as tie
-use Rattle.canon.proofs.number.gather.Reads as reads
-use Rattle.canon.proofs.number.gather.Lts as lts
-use Rattle.canon.proofs.lift.lift.Reads as lift-reads
 use borrow.Author.Needs.{needs}
 use mathlib.Core.Path.{_≡_}
 use Prim.Native.Nat.{_≤_, _-_}

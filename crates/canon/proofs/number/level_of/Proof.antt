@@ -1,8 +1,6 @@
 -- The proof of `number::level_of`: a level for the p bytes from a place on. By a loop in which p - q falls, and the laws of Numbers.
 use Rattle.canon.proofs.number.level_of.Statement.{statement}
 use Rattle.canon.proofs.number.level_of.Tie as tie
-use Rattle.canon.proofs.number.level_of.Reads as reads
-use Rattle.canon.proofs.number.level_of.Lts as lts
 use borrow.Author.Needs.{needs}
 use native.Mathlib.Omega.{arith}
 use mathlib.Core.Logic.{⊎-elim}

@@ -2,8 +2,6 @@
 use borrow.Author.Needs.{needs}
 use Rattle.canon.proofs.number.number_of.Statement.{statement}
 use Rattle.canon.proofs.number.number_of.Tie as tie
-use Rattle.canon.proofs.number.number_of.Reads as reads
-use Rattle.canon.proofs.number.number_of.Lts as lts
 use Rattle.canon.proofs.Numbers as laws
 
 returns : tie.Need-returns

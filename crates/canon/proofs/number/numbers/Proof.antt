@@ -1,9 +1,6 @@
 -- The proof of `number::numbers`: the number of each of n objects. By a loop in which n - i falls, and the laws of Runs.
 use Rattle.canon.proofs.number.numbers.Statement.{statement}
 use Rattle.canon.proofs.number.numbers.Tie as tie
-use Rattle.canon.proofs.number.numbers.Reads as reads
-use Rattle.canon.proofs.number.numbers.Lts as lts
-use Rattle.canon.proofs.number.number_of.Reads as number-of-reads
 use borrow.Author.Needs.{needs}
 use mathlib.Core.Path.{_≡_}
 use Prim.Native.Nat.{_≤_, _-_}

@@ -2,13 +2,6 @@
 use borrow.Author.Needs.{needs}
 use Rattle.canon.proofs.number.put.Statement.{statement}
 use Rattle.canon.proofs.number.put.Tie as tie
-use Rattle.canon.proofs.number.put.Reads as reads
-use Rattle.canon.proofs.number.put.Lts as lts
-use Rattle.canon.proofs.bytes.wipe.Reads as wipe-reads
-use Rattle.canon.proofs.number.gather.Reads as gather-reads
-use Rattle.canon.proofs.number.level_of.Reads as level-of-reads
-use Rattle.canon.proofs.number.numbers.Reads as numbers-reads
-use Rattle.canon.proofs.walk.visit.Reads as visit-reads
 use lib.ListN.{length-set}
 use native.Mathlib.Omega.{arith}
 use Rattle.canon.proofs.Walks as walks

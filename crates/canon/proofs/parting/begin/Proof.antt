@@ -1,10 +1,6 @@
 -- The proof of `parting::begin`: n objects in one class. By a loop in which n - x falls, and the laws of Parts.
 use Rattle.canon.proofs.parting.begin.Statement.{statement}
 use Rattle.canon.proofs.parting.begin.Tie as tie
-use Rattle.canon.proofs.parting.begin.Reads as reads
-use Rattle.canon.proofs.parting.begin.Lts as lts
-use Rattle.canon.proofs.parting.lay_out.Reads as lay-out-reads
-use Rattle.canon.proofs.parting.stand.Reads as stand-reads
 use borrow.Author.Needs.{needs}
 use mathlib.Core.Path.{_≡_, _∙_}
 use Prim.Native.Nat.{_≤_, _-_}

@@ -2,10 +2,6 @@
 use borrow.Author.Needs.{needs}
 use Rattle.canon.proofs.parting.bring.Statement.{statement}
 use Rattle.canon.proofs.parting.bring.Tie as tie
-use Rattle.canon.proofs.parting.bring.Reads as reads
-use Rattle.canon.proofs.parting.bring.Lts as lts
-use Rattle.canon.proofs.parting.cell.Reads as cell-reads
-use Rattle.canon.proofs.parting.stand.Reads as stand-reads
 use native.Mathlib.Omega.{arith}
 use lib.ListN.{length-set}
 use Rattle.canon.proofs.Fronts as fronts

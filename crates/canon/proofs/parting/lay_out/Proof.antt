@@ -2,8 +2,6 @@
 use borrow.Author.Needs.{needs}
 use Rattle.canon.proofs.parting.lay_out.Statement.{statement}
 use Rattle.canon.proofs.parting.lay_out.Tie as tie
-use Rattle.canon.proofs.parting.lay_out.Reads as reads
-use Rattle.canon.proofs.parting.lay_out.Lts as lts
 use native.Mathlib.Omega.{arith}
 use lib.ListN.{length-set}
 use Rattle.canon.proofs.Relabels as laws

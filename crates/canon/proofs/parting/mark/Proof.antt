@@ -2,12 +2,6 @@
 use borrow.Author.Needs.{needs}
 use Rattle.canon.proofs.parting.mark.Statement.{statement}
 use Rattle.canon.proofs.parting.mark.Tie as tie
-use Rattle.canon.proofs.parting.mark.Reads as reads
-use Rattle.canon.proofs.parting.mark.Lts as lts
-use Rattle.canon.proofs.parting.bring.Reads as bring-reads
-use Rattle.canon.proofs.parting.cell.Reads as cell-reads
-use Rattle.canon.proofs.parting.class_of.Reads as class-of-reads
-use native.Mathlib.Omega.{arith}
 use Rattle.canon.proofs.Fronts as fronts
 use Rattle.canon.proofs.Notes as laws
 

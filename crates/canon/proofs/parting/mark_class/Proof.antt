@@ -1,11 +1,6 @@
 -- The proof of `parting::mark_class`: brings all that refer to an object of class s by field f to the fronts of their classes. By a loop in which e - p falls, and the laws of Marks and Notes.
 use Rattle.canon.proofs.parting.mark_class.Statement.{statement}
 use Rattle.canon.proofs.parting.mark_class.Tie as tie
-use Rattle.canon.proofs.parting.mark_class.Reads as reads
-use Rattle.canon.proofs.parting.mark_class.Lts as lts
-use Rattle.canon.proofs.parting.cell.Reads as cell-reads
-use Rattle.canon.proofs.parting.mark_into.Reads as mark-into-reads
-use Rattle.canon.proofs.parting.note.Reads as note-reads
 use borrow.Author.Needs.{needs}
 use mathlib.Core.Path.{_≡_, _∙_}
 use Prim.Native.Nat.{_≤_, _-_, _*_, _+_}

@@ -1,11 +1,6 @@
 -- The proof of `parting::mark_into`: brings all that refer to object v by field f to the fronts of their classes. By a loop in which z falls, and the laws of Marks.
 use Rattle.canon.proofs.parting.mark_into.Statement.{statement}
 use Rattle.canon.proofs.parting.mark_into.Tie as tie
-use Rattle.canon.proofs.parting.mark_into.Reads as reads
-use Rattle.canon.proofs.parting.mark_into.Lts as lts
-use Rattle.canon.proofs.parting.last_into.Reads as last-into-reads
-use Rattle.canon.proofs.parting.mark.Reads as mark-reads
-use Rattle.canon.proofs.parting.one_before.Reads as one-before-reads
 use borrow.Author.Needs.{needs}
 use mathlib.Core.Path.{_≡_, _∙_}
 use Prim.Native.Nat.{_≤_}

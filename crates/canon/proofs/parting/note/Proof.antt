@@ -1,9 +1,6 @@
 -- The proof of `parting::note`: notes the objects of class s. By a loop in which e - p falls, and the laws of Notes.
 use Rattle.canon.proofs.parting.note.Statement.{statement}
 use Rattle.canon.proofs.parting.note.Tie as tie
-use Rattle.canon.proofs.parting.note.Reads as reads
-use Rattle.canon.proofs.parting.note.Lts as lts
-use Rattle.canon.proofs.parting.cell.Reads as cell-reads
 use borrow.Author.Needs.{needs}
 use mathlib.Core.Path.{_≡_}
 use Prim.Native.Nat.{_≤_, _-_, _*_, _+_}

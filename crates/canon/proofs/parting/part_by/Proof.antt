@@ -1,10 +1,6 @@
 -- The proof of `parting::part_by`: parts the classes by who refers into class s, by each field below w. By a loop in which w - f falls, and the laws of Parts.
 use Rattle.canon.proofs.parting.part_by.Statement.{statement}
 use Rattle.canon.proofs.parting.part_by.Tie as tie
-use Rattle.canon.proofs.parting.part_by.Reads as reads
-use Rattle.canon.proofs.parting.part_by.Lts as lts
-use Rattle.canon.proofs.parting.mark_class.Reads as mark-class-reads
-use Rattle.canon.proofs.parting.split_all.Reads as split-all-reads
 use borrow.Author.Needs.{needs}
 use mathlib.Core.Path.{_≡_, _∙_}
 use Prim.Native.Nat.{_≤_, _-_}

@@ -1,12 +1,9 @@
 -- The proof of `parting::part_fields`: parts the classes by who refers into them, the new ones too. By a loop in which n - s falls, and the laws of Parts.
 use Rattle.canon.proofs.parting.part_fields.Statement.{statement}
 use Rattle.canon.proofs.parting.part_fields.Tie as tie
-use Rattle.canon.proofs.parting.part_fields.Reads as reads
-use Rattle.canon.proofs.parting.part_fields.Lts as lts
-use Rattle.canon.proofs.parting.part_by.Reads as part-by-reads
 use borrow.Author.Needs.{needs}
 use mathlib.Core.Path.{_≡_, _∙_}
-use Prim.Native.Nat.{_≤_, _-_, _<_, _+_}
+use Prim.Native.Nat.{_≤_, _-_, _+_}
 use native.Mathlib.Omega.{arith}
 use lib.ListN.{length}
 use Rattle.canon.specs.Parting.{PartedFields}

@@ -1,14 +1,9 @@
 -- The proof of `parting::part_looks`: parts the classes by the first object that looks alike, which is field 4. By a loop in which n - v falls, and the laws of Parts.
 use Rattle.canon.proofs.parting.part_looks.Statement.{statement}
 use Rattle.canon.proofs.parting.part_looks.Tie as tie
-use Rattle.canon.proofs.parting.part_looks.Reads as reads
-use Rattle.canon.proofs.parting.part_looks.Lts as lts
-use Rattle.canon.proofs.parting.last_into.Reads as last-into-reads
-use Rattle.canon.proofs.parting.mark_into.Reads as mark-into-reads
-use Rattle.canon.proofs.parting.split_all.Reads as split-all-reads
 use borrow.Author.Needs.{needs}
 use mathlib.Core.Path.{_≡_, _∙_}
-use Prim.Native.Nat.{_≤_, _<_, _-_}
+use Prim.Native.Nat.{_<_, _-_}
 use native.Mathlib.Omega.{arith}
 use lib.ListN.{length}
 use Rattle.canon.specs.Parting.{PartedLooks}

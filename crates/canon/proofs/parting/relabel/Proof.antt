@@ -1,13 +1,9 @@
 -- The proof of `parting::relabel`: the objects at places a to e are of class m. By a loop in which e - p falls, and the laws of Relabels.
 use Rattle.canon.proofs.parting.relabel.Statement.{statement}
 use Rattle.canon.proofs.parting.relabel.Tie as tie
-use Rattle.canon.proofs.parting.relabel.Reads as reads
-use Rattle.canon.proofs.parting.relabel.Lts as lts
-use Rattle.canon.proofs.parting.cell.Reads as cell-reads
 use borrow.Author.Needs.{needs}
 use mathlib.Core.Path.{_≡_}
 use Prim.Native.Nat.{_≤_, _-_}
-use native.Mathlib.Omega.{arith}
 use lib.ListN.{length}
 use Rattle.canon.specs.Parting.{Relabelled}
 use Rattle.canon.proofs.Relabels as laws

@@ -2,11 +2,6 @@
 use borrow.Author.Needs.{needs}
 use Rattle.canon.proofs.parting.split.Statement.{statement}
 use Rattle.canon.proofs.parting.split.Tie as tie
-use Rattle.canon.proofs.parting.split.Reads as reads
-use Rattle.canon.proofs.parting.split.Lts as lts
-use Rattle.canon.proofs.parting.cell.Reads as cell-reads
-use Rattle.canon.proofs.parting.lay_out.Reads as lay-out-reads
-use Rattle.canon.proofs.parting.relabel.Reads as relabel-reads
 use native.Mathlib.Omega.{arith}
 use Rattle.canon.proofs.Parts as laws
 

@@ -1,10 +1,6 @@
 -- The proof of `parting::split_all`: the noted classes parted. By a loop in which k - i falls, and the laws of Backs and Parts.
 use Rattle.canon.proofs.parting.split_all.Statement.{statement}
 use Rattle.canon.proofs.parting.split_all.Tie as tie
-use Rattle.canon.proofs.parting.split_all.Reads as reads
-use Rattle.canon.proofs.parting.split_all.Lts as lts
-use Rattle.canon.proofs.parting.cell.Reads as cell-reads
-use Rattle.canon.proofs.parting.split.Reads as split-reads
 use borrow.Author.Needs.{needs}
 use mathlib.Core.Path.{_≡_, _∙_}
 use Prim.Native.Nat.{_≤_, _-_}

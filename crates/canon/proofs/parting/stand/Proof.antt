@@ -2,8 +2,6 @@
 use borrow.Author.Needs.{needs}
 use Rattle.canon.proofs.parting.stand.Statement.{statement}
 use Rattle.canon.proofs.parting.stand.Tie as tie
-use Rattle.canon.proofs.parting.stand.Reads as reads
-use Rattle.canon.proofs.parting.stand.Lts as lts
 use native.Mathlib.Omega.{arith}
 use lib.ListN.{length-set}
 use Rattle.canon.proofs.Notes as laws

@@ -1,9 +1,5 @@
 use Rattle.classes.proofs.build.place_classes.Statement.{statement}
 use Rattle.classes.proofs.build.place_classes.Tie as tie
-use Rattle.classes.proofs.build.place_classes.Reads as reads
-use Rattle.classes.proofs.build.place_classes.Lts as lts
-use Rattle.classes.proofs.place.place_class.Reads as place-class-reads
-use Rattle.classes.proofs.places.wide.Reads as wide-reads
 use borrow.Author.Needs.{needs}
 use mathlib.Core.Path.{_≡_}
 use Prim.Native.Nat.{_≤_, _-_, _+_}

@@ -1,10 +1,6 @@
 use borrow.Author.Needs.{needs}
 use Rattle.classes.proofs.build.place_last.Statement.{statement}
 use Rattle.classes.proofs.build.place_last.Tie as tie
-use Rattle.classes.proofs.build.place_last.Reads as reads
-use Rattle.classes.proofs.build.place_last.Lts as lts
-use Rattle.classes.proofs.place.place_main.Reads as place-main-reads
-use Rattle.classes.proofs.places.wide.Reads as wide-reads
 use Rattle.classes.proofs.BuildLaws as laws
 
 returns : tie.Need-returns

@@ -1,13 +1,9 @@
 use Rattle.classes.proofs.build.place_methods.Statement.{statement}
 use Rattle.classes.proofs.build.place_methods.Tie as tie
-use Rattle.classes.proofs.build.place_methods.Reads as reads
-use Rattle.classes.proofs.build.place_methods.Lts as lts
-use Rattle.classes.proofs.place.place_method.Reads as place-method-reads
-use Rattle.classes.proofs.places.wide.Reads as wide-reads
 use borrow.Author.Needs.{needs}
 use mathlib.Core.Path.{_≡_}
 use lib.ListN.{getD}
-use Prim.Native.Nat.{_≤_, _-_, _+_}
+use Prim.Native.Nat.{_≤_, _-_}
 use native.Mathlib.Nat.{sub-zero}
 use Rattle.classes.specs.Placing.{methodPlaced}
 use Rattle.classes.specs.Building.{linesPlaced}

@@ -1,11 +1,6 @@
 use borrow.Author.Needs.{needs}
 use Rattle.classes.proofs.build.place_rest.Statement.{statement}
 use Rattle.classes.proofs.build.place_rest.Tie as tie
-use Rattle.classes.proofs.build.place_rest.Reads as reads
-use Rattle.classes.proofs.build.place_rest.Lts as lts
-use Rattle.classes.proofs.build.place_last.Reads as place-last-reads
-use Rattle.classes.proofs.build.place_methods.Reads as place-methods-reads
-use Rattle.classes.proofs.build.put_counts.Reads as put-counts-reads
 use Rattle.classes.proofs.BuildLaws as laws
 
 returns : tie.Need-returns

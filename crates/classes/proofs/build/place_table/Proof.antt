@@ -1,10 +1,6 @@
 use borrow.Author.Needs.{needs}
 use Rattle.classes.proofs.build.place_table.Statement.{statement}
 use Rattle.classes.proofs.build.place_table.Tie as tie
-use Rattle.classes.proofs.build.place_table.Reads as reads
-use Rattle.classes.proofs.build.place_table.Lts as lts
-use Rattle.classes.proofs.build.place_classes.Reads as place-classes-reads
-use Rattle.classes.proofs.build.place_rest.Reads as place-rest-reads
 use Rattle.classes.proofs.BuildLaws as laws
 
 returns : tie.Need-returns

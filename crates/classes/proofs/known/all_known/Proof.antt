@@ -2,10 +2,6 @@
 use borrow.Author.Needs.{needs}
 use Rattle.classes.proofs.known.all_known.Statement.{statement}
 use Rattle.classes.proofs.known.all_known.Tie as tie
-use Rattle.classes.proofs.known.all_known.Reads as reads
-use Rattle.classes.proofs.known.all_known.Lts as lts
-use Rattle.classes.proofs.known.none_above.Reads as none-above-reads
-use Rattle.classes.proofs.known.scan_known.Reads as scan-known-reads
 use Rattle.classes.proofs.LineLaws as laws
 
 returns : tie.Need-returns

@@ -1,8 +1,5 @@
 use Rattle.classes.proofs.known.closed.Statement.{statement}
 use Rattle.classes.proofs.known.closed.Tie as tie
-use Rattle.classes.proofs.known.closed.Reads as reads
-use Rattle.classes.proofs.known.closed.Lts as lts
-use borrow.Author.Needs.{needs}
 use Rattle.classes.proofs.LineLaws as laws
 
 returns : tie.Need-returns

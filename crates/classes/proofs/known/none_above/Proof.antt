@@ -1,10 +1,6 @@
 -- `known::none_above` meets its contract: a law of LineLaws for each way on. The loop keeps that the blocks so far are clear.
 use Rattle.classes.proofs.known.none_above.Statement.{statement}
 use Rattle.classes.proofs.known.none_above.Tie as tie
-use Rattle.classes.proofs.known.none_above.Reads as reads
-use Rattle.classes.proofs.known.none_above.Lts as lts
-use Rattle.classes.proofs.known.block_clear.Reads as block-clear-reads
-use Rattle.classes.proofs.known.rest_clear.Reads as rest-clear-reads
 use borrow.Author.Needs.{needs}
 use Prim.Native.Nat.{_-_, _≤_, _<_}
 use mathlib.Core.Path.{_≡_}

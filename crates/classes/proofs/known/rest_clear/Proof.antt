@@ -1,9 +1,6 @@
 -- `known::rest_clear` meets its contract: a law of LineLaws for each way on. The loop keeps that the bytes so far are clear.
 use Rattle.classes.proofs.known.rest_clear.Statement.{statement}
 use Rattle.classes.proofs.known.rest_clear.Tie as tie
-use Rattle.classes.proofs.known.rest_clear.Reads as reads
-use Rattle.classes.proofs.known.rest_clear.Lts as lts
-use Rattle.classes.proofs.known.names_above.Reads as names-above-reads
 use borrow.Author.Needs.{needs}
 use Prim.Native.Nat.{_-_, _≤_, _<_}
 use mathlib.Core.Path.{_≡_}

@@ -1,8 +1,6 @@
 use borrow.Author.Needs.{needs}
 use Rattle.classes.proofs.methods.param_type.Statement.{statement}
 use Rattle.classes.proofs.methods.param_type.Tie as tie
-use Rattle.classes.proofs.methods.param_type.Reads as reads
-use Rattle.classes.proofs.methods.param_type.Lts as lts
 use Rattle.classes.proofs.Laws as laws
 
 returns : tie.Need-returns

@@ -1,9 +1,5 @@
 use Rattle.classes.proofs.overrides.overrides.Statement.{statement}
 use Rattle.classes.proofs.overrides.overrides.Tie as tie
-use Rattle.classes.proofs.overrides.overrides.Reads as reads
-use Rattle.classes.proofs.overrides.overrides.Lts as lts
-use Rattle.classes.proofs.overrides.same_above.Reads as same-above-reads
-use Rattle.classes.proofs.places.wide.Reads as wide-reads
 use borrow.Author.Needs.{needs}
 use mathlib.Core.Path.{_≡_}
 use Prim.Native.Nat.{_≤_, _-_, _<_}

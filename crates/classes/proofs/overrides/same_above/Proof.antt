@@ -1,13 +1,6 @@
 use borrow.Author.Needs.{needs}
 use Rattle.classes.proofs.overrides.same_above.Statement.{statement}
 use Rattle.classes.proofs.overrides.same_above.Tie as tie
-use Rattle.classes.proofs.overrides.same_above.Reads as reads
-use Rattle.classes.proofs.overrides.same_above.Lts as lts
-use Rattle.classes.proofs.chain.parent.Reads as parent-reads
-use Rattle.classes.proofs.methods.lookup.Reads as lookup-reads
-use Rattle.classes.proofs.methods.name.Reads as name-reads
-use Rattle.classes.proofs.methods.owner.Reads as owner-reads
-use Rattle.classes.proofs.overrides.same_types.Reads as same-types-reads
 use Rattle.classes.proofs.OverrideLaws as laws
 
 returns : tie.Need-returns

@@ -1,10 +1,6 @@
 use borrow.Author.Needs.{needs}
 use Rattle.classes.proofs.overrides.same_types.Statement.{statement}
 use Rattle.classes.proofs.overrides.same_types.Tie as tie
-use Rattle.classes.proofs.overrides.same_types.Reads as reads
-use Rattle.classes.proofs.overrides.same_types.Lts as lts
-use Rattle.classes.proofs.overrides.same_bytes.Reads as same-bytes-reads
-use Rattle.classes.proofs.places.wide.Reads as wide-reads
 use Rattle.classes.proofs.OverrideLaws as laws
 
 returns : tie.Need-returns

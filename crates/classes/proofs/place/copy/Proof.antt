@@ -1,7 +1,5 @@
 use Rattle.classes.proofs.place.copy.Statement.{statement}
 use Rattle.classes.proofs.place.copy.Tie as tie
-use Rattle.classes.proofs.place.copy.Reads as reads
-use Rattle.classes.proofs.place.copy.Lts as lts
 use borrow.Author.Needs.{needs}
 use mathlib.Core.Path.{_≡_, refl}
 use Prim.Native.Nat.{_≤_, _-_, _+_}

@@ -1,11 +1,6 @@
 use borrow.Author.Needs.{needs}
 use Rattle.classes.proofs.place.place_class.Statement.{statement}
 use Rattle.classes.proofs.place.place_class.Tie as tie
-use Rattle.classes.proofs.place.place_class.Reads as reads
-use Rattle.classes.proofs.place.place_class.Lts as lts
-use Rattle.classes.proofs.chain.field_total.Reads as field-total-reads
-use Rattle.classes.proofs.known.types_good.Reads as types-good-reads
-use Rattle.classes.proofs.place.copy.Reads as copy-reads
 use Rattle.classes.proofs.PlaceLaws as laws
 
 returns : tie.Need-returns

@@ -1,10 +1,6 @@
 use borrow.Author.Needs.{needs}
 use Rattle.classes.proofs.place.place_main.Statement.{statement}
 use Rattle.classes.proofs.place.place_main.Tie as tie
-use Rattle.classes.proofs.place.place_main.Reads as reads
-use Rattle.classes.proofs.place.place_main.Lts as lts
-use Rattle.classes.proofs.known.all_known.Reads as all-known-reads
-use Rattle.classes.proofs.place.copy.Reads as copy-reads
 use Rattle.classes.proofs.PlaceLaws as laws
 
 returns : tie.Need-returns

@@ -1,8 +1,6 @@
 use borrow.Author.Needs.{needs}
 use Rattle.classes.proofs.place.put_index.Statement.{statement}
 use Rattle.classes.proofs.place.put_index.Tie as tie
-use Rattle.classes.proofs.place.put_index.Reads as reads
-use Rattle.classes.proofs.place.put_index.Lts as lts
 use Rattle.classes.proofs.PlaceLaws as laws
 
 returns : tie.Need-returns

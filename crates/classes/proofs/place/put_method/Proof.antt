@@ -1,9 +1,6 @@
 use borrow.Author.Needs.{needs}
 use Rattle.classes.proofs.place.put_method.Statement.{statement}
 use Rattle.classes.proofs.place.put_method.Tie as tie
-use Rattle.classes.proofs.place.put_method.Reads as reads
-use Rattle.classes.proofs.place.put_method.Lts as lts
-use Rattle.classes.proofs.place.copy.Reads as copy-reads
 use Rattle.classes.proofs.PlaceLaws as laws
 
 returns : tie.Need-returns

@@ -1,9 +1,6 @@
 use borrow.Author.Needs.{needs}
 use Rattle.engine.proofs.check.check_table.Statement.{statement}
 use Rattle.engine.proofs.check.check_table.Tie as tie
-use Rattle.engine.proofs.check.check_table.Reads as reads
-use Rattle.engine.proofs.check.check_table.Lts as lts
-use Rattle.checker.proofs.program.check.Reads as check-reads
 use Rattle.engine.proofs.RunLaws as laws
 
 returns : tie.Need-returns

@@ -2,9 +2,6 @@ use borrow.Author.Needs.{needs}
 use Rattle.engine.proofs.check.check_text.Statement.{statement}
 use Rattle.engine.proofs.check.check_text.Tie as tie
 use Rattle.engine.proofs.check.check_text.Reads as reads
-use Rattle.engine.proofs.check.check_text.Lts as lts
-use Rattle.engine.proofs.check.check_table.Reads as check-table-reads
-use Rattle.tables.proofs.read.read_into.Reads as read-into-reads
 use Rattle.tables.proofs.ReadLaws as reads-laws
 use Rattle.engine.proofs.RunLaws as laws
 

@@ -1,11 +1,6 @@
 use borrow.Author.Needs.{needs}
 use Rattle.engine.proofs.run.check_and_run.Statement.{statement}
 use Rattle.engine.proofs.run.check_and_run.Tie as tie
-use Rattle.engine.proofs.run.check_and_run.Reads as reads
-use Rattle.engine.proofs.run.check_and_run.Lts as lts
-use Rattle.checker.proofs.program.check.Reads as check-reads
-use Rattle.engine.proofs.run.refuse.Reads as refuse-reads
-use Rattle.engine.proofs.run.run_table.Reads as run-table-reads
 use Rattle.engine.proofs.RunLaws as laws
 
 returns : tie.Need-returns

@@ -1,11 +1,6 @@
 use borrow.Author.Needs.{needs}
 use Rattle.engine.proofs.run.run_table.Statement.{statement}
 use Rattle.engine.proofs.run.run_table.Tie as tie
-use Rattle.engine.proofs.run.run_table.Reads as reads
-use Rattle.engine.proofs.run.run_table.Lts as lts
-use Rattle.engine.proofs.work.clear.Reads as clear-reads
-use Rattle.engine.proofs.session.with_fuel.Reads as with-fuel-reads
-use Rattle.evaluator.proofs.report.run_report.Reads as run-report-reads
 use Rattle.engine.proofs.WorkLaws as works
 use Rattle.engine.proofs.RunLaws as laws
 

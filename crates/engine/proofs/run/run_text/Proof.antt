@@ -2,12 +2,6 @@ use borrow.Author.Needs.{needs}
 use Rattle.engine.proofs.run.run_text.Statement.{statement}
 use Rattle.engine.proofs.run.run_text.Tie as tie
 use Rattle.engine.proofs.run.run_text.Reads as reads
-use Rattle.engine.proofs.run.run_text.Lts as lts
-use Rattle.engine.proofs.run.check_and_run.Reads as check-and-run-reads
-use Rattle.engine.proofs.run.refuse.Reads as refuse-reads
-use Rattle.engine.proofs.run.run_table.Reads as run-table-reads
-use Rattle.engine.proofs.session.state_refusal.Reads as state-refusal-reads
-use Rattle.tables.proofs.read.read_into.Reads as read-into-reads
 use Rattle.tables.proofs.ReadLaws as reads-laws
 use Rattle.engine.proofs.StateLaws as states
 use Rattle.engine.proofs.RunLaws as laws

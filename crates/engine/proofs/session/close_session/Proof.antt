@@ -1,8 +1,5 @@
 use Rattle.engine.proofs.session.close_session.Statement.{statement}
 use Rattle.engine.proofs.session.close_session.Tie as tie
-use Rattle.engine.proofs.session.close_session.Reads as reads
-use Rattle.engine.proofs.session.close_session.Lts as lts
-use borrow.Author.Needs.{needs}
 use Rattle.engine.proofs.StateLaws as laws
 
 returns : tie.Need-returns

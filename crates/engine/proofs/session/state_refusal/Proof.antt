@@ -1,8 +1,5 @@
 use Rattle.engine.proofs.session.state_refusal.Statement.{statement}
 use Rattle.engine.proofs.session.state_refusal.Tie as tie
-use Rattle.engine.proofs.session.state_refusal.Reads as reads
-use Rattle.engine.proofs.session.state_refusal.Lts as lts
-use borrow.Author.Needs.{needs}
 use Rattle.engine.proofs.StateLaws as laws
 
 returns : tie.Need-returns

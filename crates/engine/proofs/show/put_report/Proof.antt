@@ -1,10 +1,6 @@
 use borrow.Author.Needs.{needs}
 use Rattle.engine.proofs.show.put_report.Statement.{statement}
 use Rattle.engine.proofs.show.put_report.Tie as tie
-use Rattle.engine.proofs.show.put_report.Reads as reads
-use Rattle.engine.proofs.show.put_report.Lts as lts
-use Rattle.engine.proofs.run.checked_run.Reads as checked-run-reads
-use Rattle.engine.proofs.session.open_session.Reads as open-session-reads
 use Rattle.engine.proofs.ShowLaws as laws
 
 returns : tie.Need-returns

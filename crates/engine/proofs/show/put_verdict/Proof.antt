@@ -1,9 +1,6 @@
 use borrow.Author.Needs.{needs}
 use Rattle.engine.proofs.show.put_verdict.Statement.{statement}
 use Rattle.engine.proofs.show.put_verdict.Tie as tie
-use Rattle.engine.proofs.show.put_verdict.Reads as reads
-use Rattle.engine.proofs.show.put_verdict.Lts as lts
-use Rattle.lineform.proofs.write.put_line.Reads as put-line-reads
 use Rattle.engine.proofs.ShowLaws as laws
 
 returns : tie.Need-returns

@@ -1,11 +1,6 @@
 use borrow.Author.Needs.{needs}
 use Rattle.engine.proofs.show.show.Statement.{statement}
 use Rattle.engine.proofs.show.show.Tie as tie
-use Rattle.engine.proofs.show.show.Reads as reads
-use Rattle.engine.proofs.show.show.Lts as lts
-use Rattle.engine.proofs.check.check_text.Reads as check-text-reads
-use Rattle.engine.proofs.show.put_report.Reads as put-report-reads
-use Rattle.engine.proofs.show.put_verdict.Reads as put-verdict-reads
 use Rattle.engine.proofs.ShowLaws as laws
 
 returns : tie.Need-returns

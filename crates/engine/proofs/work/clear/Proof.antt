@@ -1,7 +1,5 @@
 use Rattle.engine.proofs.work.clear.Statement.{statement}
 use Rattle.engine.proofs.work.clear.Tie as tie
-use Rattle.engine.proofs.work.clear.Reads as reads
-use Rattle.engine.proofs.work.clear.Lts as lts
 use borrow.Author.Needs.{needs}
 use mathlib.Core.Path.{_≡_, refl}
 use mathlib.Core.List.{_++_}

@@ -2,10 +2,6 @@
 use borrow.Author.Needs.{needs}
 use Rattle.evaluator.proofs.call.left_spot.Statement.{statement}
 use Rattle.evaluator.proofs.call.left_spot.Tie as tie
-use Rattle.evaluator.proofs.call.left_spot.Reads as reads
-use Rattle.evaluator.proofs.call.left_spot.Lts as lts
-use Rattle.classes.proofs.methods.left_place.Reads as left-place-reads
-use Rattle.evaluator.proofs.spot.body.Reads as body-reads
 use Rattle.evaluator.proofs.CallSteps as laws
 
 returns : tie.Need-returns

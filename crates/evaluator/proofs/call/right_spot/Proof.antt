@@ -2,10 +2,6 @@
 use borrow.Author.Needs.{needs}
 use Rattle.evaluator.proofs.call.right_spot.Statement.{statement}
 use Rattle.evaluator.proofs.call.right_spot.Tie as tie
-use Rattle.evaluator.proofs.call.right_spot.Reads as reads
-use Rattle.evaluator.proofs.call.right_spot.Lts as lts
-use Rattle.classes.proofs.methods.right_place.Reads as right-place-reads
-use Rattle.evaluator.proofs.spot.body.Reads as body-reads
 use Rattle.evaluator.proofs.CallSteps as laws
 
 returns : tie.Need-returns

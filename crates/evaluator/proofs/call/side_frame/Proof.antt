@@ -2,10 +2,6 @@
 use borrow.Author.Needs.{needs}
 use Rattle.evaluator.proofs.call.side_frame.Statement.{statement}
 use Rattle.evaluator.proofs.call.side_frame.Tie as tie
-use Rattle.evaluator.proofs.call.side_frame.Reads as reads
-use Rattle.evaluator.proofs.call.side_frame.Lts as lts
-use Rattle.classes.proofs.methods.owner.Reads as owner-reads
-use Rattle.evaluator.proofs.frame.body_frame.Reads as body-frame-reads
 use Rattle.evaluator.proofs.CallSteps as laws
 
 returns : tie.Need-returns

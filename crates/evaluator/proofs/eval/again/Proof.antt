@@ -2,8 +2,6 @@
 use borrow.Author.Needs.{needs}
 use Rattle.evaluator.proofs.eval.again.Statement.{statement}
 use Rattle.evaluator.proofs.eval.again.Tie as tie
-use Rattle.evaluator.proofs.eval.again.Reads as reads
-use Rattle.evaluator.proofs.eval.again.Lts as lts
 use Rattle.evaluator.proofs.AnswerLaws as laws
 
 returns : tie.Need-returns

@@ -1,10 +1,6 @@
 use borrow.Author.Needs.{needs}
 use Rattle.evaluator.proofs.eval.finish.Statement.{statement}
 use Rattle.evaluator.proofs.eval.finish.Tie as tie
-use Rattle.evaluator.proofs.eval.finish.Reads as reads
-use Rattle.evaluator.proofs.eval.finish.Lts as lts
-use Rattle.maker.proofs.make.make.Reads as make-reads
-use Rattle.maker.proofs.over.make_fieldless.Reads as make-fieldless-reads
 use Rattle.evaluator.proofs.StepLaws as laws
 
 returns : tie.Need-returns

@@ -2,8 +2,6 @@
 use borrow.Author.Needs.{needs}
 use Rattle.evaluator.proofs.eval.halted.Statement.{statement}
 use Rattle.evaluator.proofs.eval.halted.Tie as tie
-use Rattle.evaluator.proofs.eval.halted.Reads as reads
-use Rattle.evaluator.proofs.eval.halted.Lts as lts
 use Rattle.evaluator.proofs.AnswerLaws as laws
 
 returns : tie.Need-returns

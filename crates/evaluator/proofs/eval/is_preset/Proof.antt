@@ -2,9 +2,6 @@
 use borrow.Author.Needs.{needs}
 use Rattle.evaluator.proofs.eval.is_preset.Statement.{statement}
 use Rattle.evaluator.proofs.eval.is_preset.Tie as tie
-use Rattle.evaluator.proofs.eval.is_preset.Reads as reads
-use Rattle.evaluator.proofs.eval.is_preset.Lts as lts
-use Rattle.classes.proofs.chain.field_total.Reads as field-total-reads
 use Rattle.evaluator.proofs.PresetLaws as laws
 
 returns : tie.Need-returns

@@ -2,8 +2,6 @@
 use borrow.Author.Needs.{needs}
 use Rattle.evaluator.proofs.eval.past.Statement.{statement}
 use Rattle.evaluator.proofs.eval.past.Tie as tie
-use Rattle.evaluator.proofs.eval.past.Reads as reads
-use Rattle.evaluator.proofs.eval.past.Lts as lts
 use Rattle.evaluator.proofs.AnswerLaws as laws
 
 returns : tie.Need-returns

@@ -2,8 +2,6 @@
 use borrow.Author.Needs.{needs}
 use Rattle.evaluator.proofs.eval.stopped.Statement.{statement}
 use Rattle.evaluator.proofs.eval.stopped.Tie as tie
-use Rattle.evaluator.proofs.eval.stopped.Reads as reads
-use Rattle.evaluator.proofs.eval.stopped.Lts as lts
 use Rattle.evaluator.proofs.AnswerLaws as laws
 
 returns : tie.Need-returns

@@ -1,9 +1,6 @@
 -- How many fields of fields begin at a place: so many do, at each turn of the loop.
 use Rattle.evaluator.proofs.fields.fields_at.Statement.{statement}
 use Rattle.evaluator.proofs.fields.fields_at.Tie as tie
-use Rattle.evaluator.proofs.fields.fields_at.Reads as reads
-use Rattle.evaluator.proofs.fields.fields_at.Lts as lts
-use Rattle.classes.proofs.shape.is_field.Reads as is-field-reads
 use borrow.Author.Needs.{needs}
 use Rattle.evaluator.proofs.ChainLaws as laws
 use Prim.Native.Nat.{_-_}

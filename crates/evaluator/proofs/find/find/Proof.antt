@@ -2,9 +2,6 @@
 use borrow.Author.Needs.{needs}
 use Rattle.evaluator.proofs.find.find.Statement.{statement}
 use Rattle.evaluator.proofs.find.find.Tie as tie
-use Rattle.evaluator.proofs.find.find.Reads as reads
-use Rattle.evaluator.proofs.find.find.Lts as lts
-use Rattle.classes.proofs.methods.method_with.Reads as method-with-reads
 use Rattle.evaluator.proofs.FindLaws as laws
 use native.Mathlib.Omega.{arith}
 

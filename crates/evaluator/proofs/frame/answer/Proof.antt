@@ -2,8 +2,6 @@
 use borrow.Author.Needs.{needs}
 use Rattle.evaluator.proofs.frame.answer.Statement.{statement}
 use Rattle.evaluator.proofs.frame.answer.Tie as tie
-use Rattle.evaluator.proofs.frame.answer.Reads as reads
-use Rattle.evaluator.proofs.frame.answer.Lts as lts
 use Rattle.evaluator.proofs.AnswerLaws as laws
 
 returns : tie.Need-returns

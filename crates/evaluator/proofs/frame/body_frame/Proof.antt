@@ -2,10 +2,6 @@
 use borrow.Author.Needs.{needs}
 use Rattle.evaluator.proofs.frame.body_frame.Statement.{statement}
 use Rattle.evaluator.proofs.frame.body_frame.Tie as tie
-use Rattle.evaluator.proofs.frame.body_frame.Reads as reads
-use Rattle.evaluator.proofs.frame.body_frame.Lts as lts
-use Rattle.evaluator.proofs.frame.rest.Reads as rest-reads
-use Rattle.values.proofs.refs.pack.Reads as pack-reads
 use Rattle.evaluator.proofs.RestLaws as laws
 
 returns : tie.Need-returns

@@ -2,10 +2,6 @@
 use borrow.Author.Needs.{needs}
 use Rattle.evaluator.proofs.frame.frame_of.Statement.{statement}
 use Rattle.evaluator.proofs.frame.frame_of.Tie as tie
-use Rattle.evaluator.proofs.frame.frame_of.Reads as reads
-use Rattle.evaluator.proofs.frame.frame_of.Lts as lts
-use Rattle.evaluator.proofs.frame.unrest.Reads as unrest-reads
-use Rattle.values.proofs.refs.unpack.Reads as unpack-reads
 use Rattle.evaluator.proofs.RestLaws as laws
 
 returns : tie.Need-returns

@@ -1,8 +1,6 @@
 -- The frame of main at rest.
 use Rattle.evaluator.proofs.frame.main_frame.Statement.{statement}
 use Rattle.evaluator.proofs.frame.main_frame.Tie as tie
-use Rattle.evaluator.proofs.frame.main_frame.Reads as reads
-use Rattle.evaluator.proofs.frame.main_frame.Lts as lts
 use Rattle.evaluator.proofs.RestLaws as laws
 
 returns : tie.Need-returns

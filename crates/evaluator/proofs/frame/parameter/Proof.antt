@@ -2,10 +2,6 @@
 use borrow.Author.Needs.{needs}
 use Rattle.evaluator.proofs.frame.parameter.Statement.{statement}
 use Rattle.evaluator.proofs.frame.parameter.Tie as tie
-use Rattle.evaluator.proofs.frame.parameter.Reads as reads
-use Rattle.evaluator.proofs.frame.parameter.Lts as lts
-use Rattle.evaluator.proofs.frame.frame_of.Reads as frame-of-reads
-use Rattle.evaluator.proofs.frame.passed.Reads as passed-reads
 use Rattle.evaluator.proofs.StateLaws as laws
 
 returns : tie.Need-returns

@@ -1,8 +1,6 @@
 -- What a parameter holds, by how many there are: a law for each case.
 use Rattle.evaluator.proofs.frame.passed.Statement.{statement}
 use Rattle.evaluator.proofs.frame.passed.Tie as tie
-use Rattle.evaluator.proofs.frame.passed.Reads as reads
-use Rattle.evaluator.proofs.frame.passed.Lts as lts
 use Rattle.evaluator.proofs.StateLaws as laws
 
 returns : tie.Need-returns

@@ -2,9 +2,6 @@
 use borrow.Author.Needs.{needs}
 use Rattle.evaluator.proofs.frame.rest.Statement.{statement}
 use Rattle.evaluator.proofs.frame.rest.Tie as tie
-use Rattle.evaluator.proofs.frame.rest.Reads as reads
-use Rattle.evaluator.proofs.frame.rest.Lts as lts
-use Rattle.values.proofs.refs.pack.Reads as pack-reads
 use Rattle.evaluator.proofs.RestLaws as laws
 
 returns : tie.Need-returns

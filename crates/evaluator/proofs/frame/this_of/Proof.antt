@@ -2,9 +2,6 @@
 use borrow.Author.Needs.{needs}
 use Rattle.evaluator.proofs.frame.this_of.Statement.{statement}
 use Rattle.evaluator.proofs.frame.this_of.Tie as tie
-use Rattle.evaluator.proofs.frame.this_of.Reads as reads
-use Rattle.evaluator.proofs.frame.this_of.Lts as lts
-use Rattle.evaluator.proofs.frame.frame_of.Reads as frame-of-reads
 use Rattle.evaluator.proofs.StateLaws as laws
 
 returns : tie.Need-returns

@@ -1,8 +1,6 @@
 -- What a variable holds whose number at rest is given: a law for each case.
 use Rattle.evaluator.proofs.frame.unrest.Statement.{statement}
 use Rattle.evaluator.proofs.frame.unrest.Tie as tie
-use Rattle.evaluator.proofs.frame.unrest.Reads as reads
-use Rattle.evaluator.proofs.frame.unrest.Lts as lts
 use Rattle.evaluator.proofs.RestLaws as laws
 
 returns : tie.Need-returns

@@ -2,8 +2,6 @@
 use borrow.Author.Needs.{needs}
 use Rattle.evaluator.proofs.met.apart.Statement.{statement}
 use Rattle.evaluator.proofs.met.apart.Tie as tie
-use Rattle.evaluator.proofs.met.apart.Reads as reads
-use Rattle.evaluator.proofs.met.apart.Lts as lts
 use Rattle.evaluator.proofs.StateLaws as laws
 
 returns : tie.Need-returns

@@ -1,10 +1,6 @@
 -- Arguments told apart: a law for the return inside the loop.
 use Rattle.evaluator.proofs.met.args_apart.Statement.{statement}
 use Rattle.evaluator.proofs.met.args_apart.Tie as tie
-use Rattle.evaluator.proofs.met.args_apart.Reads as reads
-use Rattle.evaluator.proofs.met.args_apart.Lts as lts
-use Rattle.evaluator.proofs.met.apart.Reads as apart-reads
-use Rattle.values.proofs.refs.unpack.Reads as unpack-reads
 use borrow.Author.Needs.{needs}
 use Rattle.evaluator.proofs.StateLaws as laws
 use Prim.Native.Nat.{_≤_, _-_}

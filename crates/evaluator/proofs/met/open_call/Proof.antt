@@ -2,12 +2,6 @@
 use Rattle.evaluator.specs.Figures.{callLimit}
 use Rattle.evaluator.proofs.met.open_call.Statement.{statement}
 use Rattle.evaluator.proofs.met.open_call.Tie as tie
-use Rattle.evaluator.proofs.met.open_call.Reads as reads
-use Rattle.evaluator.proofs.met.open_call.Lts as lts
-use Rattle.evaluator.proofs.met.other_call.Reads as other-call-reads
-use Rattle.evaluator.proofs.met.same_call.Reads as same-call-reads
-use Rattle.evaluator.proofs.trace.call_at.Reads as call-at-reads
-use Rattle.evaluator.proofs.trace.slots.Reads as slots-reads
 use borrow.Author.Needs.{needs}
 use Rattle.evaluator.proofs.StateLaws as laws
 use Rattle.evaluator.proofs.StateLaws.{Left}

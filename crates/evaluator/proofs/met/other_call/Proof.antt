@@ -2,11 +2,6 @@
 use borrow.Author.Needs.{needs}
 use Rattle.evaluator.proofs.met.other_call.Statement.{statement}
 use Rattle.evaluator.proofs.met.other_call.Tie as tie
-use Rattle.evaluator.proofs.met.other_call.Reads as reads
-use Rattle.evaluator.proofs.met.other_call.Lts as lts
-use Rattle.evaluator.proofs.met.apart.Reads as apart-reads
-use Rattle.evaluator.proofs.met.args_apart.Reads as args-apart-reads
-use Rattle.values.proofs.refs.unpack.Reads as unpack-reads
 use Rattle.evaluator.proofs.StateLaws as laws
 
 returns : tie.Need-returns

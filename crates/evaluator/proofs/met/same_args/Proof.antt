@@ -1,9 +1,6 @@
 -- Arguments compared: so far they are the same, at each turn of the loop.
 use Rattle.evaluator.proofs.met.same_args.Statement.{statement}
 use Rattle.evaluator.proofs.met.same_args.Tie as tie
-use Rattle.evaluator.proofs.met.same_args.Reads as reads
-use Rattle.evaluator.proofs.met.same_args.Lts as lts
-use Rattle.values.proofs.lockstep.equal.Reads as equal-reads
 use borrow.Author.Needs.{needs}
 use Rattle.evaluator.proofs.StateLaws as laws
 use Prim.Native.Nat.{_≤_, _-_}

@@ -2,10 +2,6 @@
 use borrow.Author.Needs.{needs}
 use Rattle.evaluator.proofs.met.same_call.Statement.{statement}
 use Rattle.evaluator.proofs.met.same_call.Tie as tie
-use Rattle.evaluator.proofs.met.same_call.Reads as reads
-use Rattle.evaluator.proofs.met.same_call.Lts as lts
-use Rattle.evaluator.proofs.met.same_args.Reads as same-args-reads
-use Rattle.values.proofs.lockstep.equal.Reads as equal-reads
 use Rattle.evaluator.proofs.StateLaws as laws
 
 returns : tie.Need-returns

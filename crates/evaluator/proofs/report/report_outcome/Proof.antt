@@ -2,10 +2,6 @@
 use borrow.Author.Needs.{needs}
 use Rattle.evaluator.proofs.report.report_outcome.Statement.{statement}
 use Rattle.evaluator.proofs.report.report_outcome.Tie as tie
-use Rattle.evaluator.proofs.report.report_outcome.Reads as reads
-use Rattle.evaluator.proofs.report.report_outcome.Lts as lts
-use Rattle.evaluator.proofs.report.report_stop.Reads as report-stop-reads
-use Rattle.values.proofs.report.report.Reads as report-reads
 use mathlib.Core.Path.{refl}
 use Rattle.evaluator.proofs.ReportLaws as laws
 

@@ -2,10 +2,6 @@
 use borrow.Author.Needs.{needs}
 use Rattle.evaluator.proofs.report.run_report.Statement.{statement}
 use Rattle.evaluator.proofs.report.run_report.Tie as tie
-use Rattle.evaluator.proofs.report.run_report.Reads as reads
-use Rattle.evaluator.proofs.report.run_report.Lts as lts
-use Rattle.evaluator.proofs.report.report_outcome.Reads as report-outcome-reads
-use Rattle.evaluator.proofs.run.run.Reads as run-reads
 use Rattle.evaluator.proofs.ReportLaws as laws
 
 returns : tie.Need-returns

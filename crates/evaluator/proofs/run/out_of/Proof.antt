@@ -2,8 +2,6 @@
 use borrow.Author.Needs.{needs}
 use Rattle.evaluator.proofs.run.out_of.Statement.{statement}
 use Rattle.evaluator.proofs.run.out_of.Tie as tie
-use Rattle.evaluator.proofs.run.out_of.Reads as reads
-use Rattle.evaluator.proofs.run.out_of.Lts as lts
 use Rattle.evaluator.proofs.AnswerLaws as laws
 
 returns : tie.Need-returns

@@ -2,9 +2,6 @@
 use borrow.Author.Needs.{needs}
 use Rattle.evaluator.proofs.trace.call_at.Statement.{statement}
 use Rattle.evaluator.proofs.trace.call_at.Tie as tie
-use Rattle.evaluator.proofs.trace.call_at.Reads as reads
-use Rattle.evaluator.proofs.trace.call_at.Lts as lts
-use Rattle.values.proofs.refs.unpack.Reads as unpack-reads
 use Rattle.evaluator.proofs.RestLaws as laws
 
 returns : tie.Need-returns

@@ -2,10 +2,6 @@
 use borrow.Author.Needs.{needs}
 use Rattle.evaluator.proofs.trace.push.Statement.{statement}
 use Rattle.evaluator.proofs.trace.push.Tie as tie
-use Rattle.evaluator.proofs.trace.push.Reads as reads
-use Rattle.evaluator.proofs.trace.push.Lts as lts
-use Rattle.evaluator.proofs.trace.put_call.Reads as put-call-reads
-use Rattle.evaluator.proofs.trace.slots.Reads as slots-reads
 use Rattle.evaluator.proofs.BodyLaws as laws
 
 returns : tie.Need-returns

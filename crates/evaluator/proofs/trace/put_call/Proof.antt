@@ -4,9 +4,6 @@ use mathlib.Core.Path.{sym, _∙_}
 use lib.ListN.{length-map}
 use Rattle.evaluator.proofs.trace.put_call.Statement.{statement}
 use Rattle.evaluator.proofs.trace.put_call.Tie as tie
-use Rattle.evaluator.proofs.trace.put_call.Reads as reads
-use Rattle.evaluator.proofs.trace.put_call.Lts as lts
-use Rattle.values.proofs.refs.pack.Reads as pack-reads
 use Rattle.evaluator.proofs.RestLaws as laws
 
 returns : tie.Need-returns

@@ -2,9 +2,6 @@
 use borrow.Author.Needs.{needs}
 use Rattle.evaluator.proofs.trace.slots.Statement.{statement}
 use Rattle.evaluator.proofs.trace.slots.Tie as tie
-use Rattle.evaluator.proofs.trace.slots.Reads as reads
-use Rattle.evaluator.proofs.trace.slots.Lts as lts
-use Rattle.values.proofs.refs.unpack.Reads as unpack-reads
 use Rattle.evaluator.proofs.RestLaws as laws
 
 returns : tie.Need-returns

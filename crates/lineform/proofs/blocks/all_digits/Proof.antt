@@ -1,9 +1,6 @@
 -- `blocks::all_digits` meets its contract: a law of BlockLaws for each way on. The loop keeps that the characters so far are digits.
 use Rattle.lineform.proofs.blocks.all_digits.Statement.{statement}
 use Rattle.lineform.proofs.blocks.all_digits.Tie as tie
-use Rattle.lineform.proofs.blocks.all_digits.Reads as reads
-use Rattle.lineform.proofs.blocks.all_digits.Lts as lts
-use Rattle.lineform.proofs.blocks.is_digit.Reads as is-digit-reads
 use borrow.Author.Needs.{needs}
 use borrow.Author.Needs.{needs}
 use Prim.Native.Nat.{_-_, _≤_}

@@ -1,10 +1,6 @@
 -- `blocks::is_digit` meets its contract: a law of BlockLaws.
 use Rattle.lineform.proofs.blocks.is_digit.Statement.{statement}
 use Rattle.lineform.proofs.blocks.is_digit.Tie as tie
-use Rattle.lineform.proofs.blocks.is_digit.Reads as reads
-use Rattle.lineform.proofs.blocks.is_digit.Lts as lts
-use borrow.Author.Needs.{needs}
-use borrow.Author.Needs.{needs}
 use Rattle.lineform.proofs.BlockLaws as laws
 
 returns : tie.Need-returns

@@ -1,9 +1,6 @@
 -- `blocks::past_blocks` meets its contract: a law of BlockLaws for each way on. The loop keeps `Blocks`.
 use Rattle.lineform.proofs.blocks.past_blocks.Statement.{statement}
 use Rattle.lineform.proofs.blocks.past_blocks.Tie as tie
-use Rattle.lineform.proofs.blocks.past_blocks.Reads as reads
-use Rattle.lineform.proofs.blocks.past_blocks.Lts as lts
-use Rattle.lineform.proofs.blocks.all_digits.Reads as all-digits-reads
 use borrow.Author.Needs.{needs}
 use Prim.Native.Nat.{_-_, _+_, _*_, _<_}
 use mathlib.Core.Path.{_≡_}

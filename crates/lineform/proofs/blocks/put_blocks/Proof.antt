@@ -2,11 +2,6 @@
 use borrow.Author.Needs.{needs}
 use Rattle.lineform.proofs.blocks.put_blocks.Statement.{statement}
 use Rattle.lineform.proofs.blocks.put_blocks.Tie as tie
-use Rattle.lineform.proofs.blocks.put_blocks.Reads as reads
-use Rattle.lineform.proofs.blocks.put_blocks.Lts as lts
-use Rattle.lineform.proofs.blocks.past_blocks.Reads as past-blocks-reads
-use Rattle.lineform.proofs.blocks.put_word_bytes.Reads as put-word-bytes-reads
-use Rattle.lineform.proofs.blocks.put_words.Reads as put-words-reads
 use Rattle.lineform.proofs.BlockLaws as laws
 
 returns : tie.Need-returns

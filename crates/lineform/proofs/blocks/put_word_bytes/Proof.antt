@@ -1,9 +1,6 @@
 -- `blocks::put_word_bytes` meets its contract: a law of BlockLaws for each way on. The loop keeps the bytes so far.
 use Rattle.lineform.proofs.blocks.put_word_bytes.Statement.{statement}
 use Rattle.lineform.proofs.blocks.put_word_bytes.Tie as tie
-use Rattle.lineform.proofs.blocks.put_word_bytes.Reads as reads
-use Rattle.lineform.proofs.blocks.put_word_bytes.Lts as lts
-use Rattle.lineform.proofs.blocks.word_byte.Reads as word-byte-reads
 use borrow.Author.Needs.{needs}
 use Prim.Native.Nat.{_-_, _≤_}
 use mathlib.Core.Path.{_≡_}

@@ -1,13 +1,9 @@
 -- `blocks::put_words` meets its contract: a law of BlockLaws for each way on. The loop keeps the words so far.
 use Rattle.lineform.proofs.blocks.put_words.Statement.{statement}
 use Rattle.lineform.proofs.blocks.put_words.Tie as tie
-use Rattle.lineform.proofs.blocks.put_words.Reads as reads
-use Rattle.lineform.proofs.blocks.put_words.Lts as lts
-use Rattle.lineform.proofs.blocks.word.Reads as word-reads
 use borrow.Author.Needs.{needs}
 use Prim.Native.Nat.{_-_, _≤_}
 use mathlib.Core.Path.{_≡_}
-use lib.ListN.{length, length-set}
 use Rattle.lineform.specs.Blocks.{wordsPut}
 use Rattle.lineform.proofs.BlockLaws as laws
 

@@ -2,8 +2,6 @@
 use borrow.Author.Needs.{needs}
 use Rattle.lineform.proofs.blocks.word_byte.Statement.{statement}
 use Rattle.lineform.proofs.blocks.word_byte.Tie as tie
-use Rattle.lineform.proofs.blocks.word_byte.Reads as reads
-use Rattle.lineform.proofs.blocks.word_byte.Lts as lts
 use Rattle.lineform.proofs.BlockLaws as laws
 
 sub-result : tie.Need-sub-result

@@ -3,9 +3,6 @@ use borrow.Author.Needs.{needs}
 use Rattle.lineform.proofs.hex.pair.Statement.{statement}
 use Rattle.lineform.proofs.hex.pair.Tie as tie
 use Rattle.lineform.proofs.HexLaws as laws
-use Rattle.lineform.proofs.hex.pair.Reads as reads
-use Rattle.lineform.proofs.hex.pair.Lts as lts
-use Rattle.lineform.proofs.hex.value.Reads as value-reads
 
 -- src/hex.rt:27:10
 value-requires : tie.Need-value-requires

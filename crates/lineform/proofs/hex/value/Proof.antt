@@ -3,8 +3,6 @@ use borrow.Author.Needs.{needs}
 use Rattle.lineform.proofs.hex.value.Statement.{statement}
 use Rattle.lineform.proofs.hex.value.Tie as tie
 use Rattle.lineform.proofs.HexLaws as laws
-use Rattle.lineform.proofs.hex.value.Reads as reads
-use Rattle.lineform.proofs.hex.value.Lts as lts
 
 -- src/hex.rt:19:5
 mul-result : tie.Need-mul-result

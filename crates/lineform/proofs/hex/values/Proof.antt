@@ -3,8 +3,6 @@ use Rattle.lineform.proofs.hex.values.Statement.{statement}
 use Rattle.lineform.proofs.hex.values.Tie as tie
 use mathlib.Core.Path.{refl}
 use Rattle.lineform.proofs.HexLaws as laws
-use Rattle.lineform.proofs.hex.values.Reads as reads
-use Rattle.lineform.proofs.hex.values.Lts as lts
 
 -- src/hex.rt:8:1
 returns : tie.Need-returns

@@ -2,10 +2,6 @@
 use borrow.Author.Needs.{needs}
 use Rattle.lineform.proofs.lines.decode.Statement.{statement}
 use Rattle.lineform.proofs.lines.decode.Tie as tie
-use Rattle.lineform.proofs.lines.decode.Reads as reads
-use Rattle.lineform.proofs.lines.decode.Lts as lts
-use Rattle.lineform.proofs.hex.values.Reads as values-reads
-use Rattle.lineform.proofs.lines.decode_lines.Reads as decode-lines-reads
 use Rattle.lineform.proofs.DecodeLaws as laws
 
 returns : tie.Need-returns

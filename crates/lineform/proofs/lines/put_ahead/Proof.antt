@@ -2,10 +2,6 @@
 use borrow.Author.Needs.{needs}
 use Rattle.lineform.proofs.lines.put_ahead.Statement.{statement}
 use Rattle.lineform.proofs.lines.put_ahead.Tie as tie
-use Rattle.lineform.proofs.lines.put_ahead.Reads as reads
-use Rattle.lineform.proofs.lines.put_ahead.Lts as lts
-use Rattle.lineform.proofs.blocks.put_blocks.Reads as put-blocks-reads
-use Rattle.lineform.proofs.lines.put_threes.Reads as put-threes-reads
 use Rattle.lineform.proofs.BlockLaws as laws
 
 returns : tie.Need-returns

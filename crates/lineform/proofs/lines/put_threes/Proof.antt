@@ -3,7 +3,6 @@ use Rattle.lineform.proofs.lines.put_threes.Statement.{statement}
 use Rattle.lineform.proofs.lines.put_threes.Tie as tie
 use borrow.Author.Needs.{needs}
 use Prim.Native.Nat.{_-_}
-use native.Mathlib.Omega.{arith}
 use lib.ListN.{length, length-set}
 use Rattle.lineform.specs.Answers.{Puts}
 use Rattle.lineform.proofs.HexLaws as hex

@@ -2,10 +2,6 @@
 use borrow.Author.Needs.{needs}
 use Rattle.maker.proofs.enter.enter.Statement.{statement}
 use Rattle.maker.proofs.enter.enter.Tie as tie
-use Rattle.maker.proofs.enter.enter.Reads as reads
-use Rattle.maker.proofs.enter.enter.Lts as lts
-use Rattle.maker.proofs.enter.enter_new.Reads as enter-new-reads
-use Rattle.maker.proofs.over.find.Reads as find-reads
 use Rattle.maker.proofs.Enters as laws
 
 find-requires : tie.Need-find-requires

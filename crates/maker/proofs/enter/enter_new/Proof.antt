@@ -2,10 +2,6 @@
 use borrow.Author.Needs.{needs}
 use Rattle.maker.proofs.enter.enter_new.Statement.{statement}
 use Rattle.maker.proofs.enter.enter_new.Tie as tie
-use Rattle.maker.proofs.enter.enter_new.Reads as reads
-use Rattle.maker.proofs.enter.enter_new.Lts as lts
-use Rattle.maker.proofs.over.append.Reads as append-reads
-use Rattle.maker.proofs.over.level_with.Reads as level-with-reads
 use Rattle.maker.proofs.Enters as laws
 
 returns : tie.Need-returns

@@ -2,11 +2,6 @@
 use borrow.Author.Needs.{needs}
 use Rattle.maker.proofs.enter.enter_over.Statement.{statement}
 use Rattle.maker.proofs.enter.enter_over.Tie as tie
-use Rattle.maker.proofs.enter.enter_over.Reads as reads
-use Rattle.maker.proofs.enter.enter_over.Lts as lts
-use Rattle.maker.proofs.enter.enter.Reads as enter-reads
-use Rattle.maker.proofs.enter.enter_new.Reads as enter-new-reads
-use Rattle.maker.proofs.enter.refers_from.Reads as refers-from-reads
 use Rattle.maker.proofs.Enters as laws
 
 enter-new-requires : tie.Need-enter-new-requires

@@ -1,8 +1,6 @@
 -- The proof of `enter::lies_from`: whether a code is an object's, of number f or a higher one. By the laws of Enters.
 use Rattle.maker.proofs.enter.lies_from.Statement.{statement}
 use Rattle.maker.proofs.enter.lies_from.Tie as tie
-use Rattle.maker.proofs.enter.lies_from.Reads as reads
-use Rattle.maker.proofs.enter.lies_from.Lts as lts
 use Rattle.maker.proofs.Enters as laws
 
 returns : tie.Need-returns

@@ -2,9 +2,6 @@
 use borrow.Author.Needs.{needs}
 use Rattle.maker.proofs.enter.refers_from.Statement.{statement}
 use Rattle.maker.proofs.enter.refers_from.Tie as tie
-use Rattle.maker.proofs.enter.refers_from.Reads as reads
-use Rattle.maker.proofs.enter.refers_from.Lts as lts
-use Rattle.maker.proofs.enter.lies_from.Reads as lies-from-reads
 use Rattle.maker.proofs.Enters as laws
 
 returns : tie.Need-returns

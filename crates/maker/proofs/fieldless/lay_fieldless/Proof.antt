@@ -1,10 +1,6 @@
 -- The proof of `fieldless::lay_fieldless`: object c of block 0 is the object of class c without fields, and there is no other. By the laws of FieldlessLaws.
 use Rattle.maker.proofs.fieldless.lay_fieldless.Statement.{statement}
 use Rattle.maker.proofs.fieldless.lay_fieldless.Tie as tie
-use Rattle.maker.proofs.fieldless.lay_fieldless.Reads as reads
-use Rattle.maker.proofs.fieldless.lay_fieldless.Lts as lts
-use Rattle.maker.proofs.fieldless.preset.Reads as preset-reads
-use Rattle.canon.proofs.bytes.copy.Reads as copy-reads
 use borrow.Author.Needs.{needs}
 use Rattle.maker.proofs.FieldlessLaws as laws
 

@@ -3,8 +3,6 @@ use Rattle.maker.proofs.fieldless.preset.Statement.{statement}
 use Rattle.maker.proofs.fieldless.preset.Tie as tie
 use mathlib.Core.Path.{refl}
 use Rattle.maker.proofs.FieldlessLaws as laws
-use Rattle.maker.proofs.fieldless.preset.Reads as reads
-use Rattle.maker.proofs.fieldless.preset.Lts as lts
 
 returns : tie.Need-returns
 returns c = laws.preset-is _ refl refl refl refl

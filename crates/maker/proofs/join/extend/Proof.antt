@@ -1,11 +1,6 @@
 -- The proof of `join::extend`: the new objects in block host, which then has m objects. By the laws of Additions.
 use Rattle.maker.proofs.join.extend.Statement.{statement}
 use Rattle.maker.proofs.join.extend.Tie as tie
-use Rattle.maker.proofs.join.extend.Reads as reads
-use Rattle.maker.proofs.join.extend.Lts as lts
-use Rattle.canon.proofs.number.level_of.Reads as level-of-reads
-use Rattle.maker.proofs.join.higher.Reads as higher-reads
-use Rattle.maker.proofs.join.put_new.Reads as put-new-reads
 use borrow.Author.Needs.{needs}
 use native.Mathlib.Omega.{arith}
 use lib.ListN.{length-set}

@@ -1,10 +1,6 @@
 -- The proof of `join::join`: the new objects of block src added to block host. By the laws of Joins.
 use Rattle.maker.proofs.join.join.Statement.{statement}
 use Rattle.maker.proofs.join.join.Tie as tie
-use Rattle.maker.proofs.join.join.Reads as reads
-use Rattle.maker.proofs.join.join.Lts as lts
-use Rattle.maker.proofs.join.extend.Reads as extend-reads
-use Rattle.maker.proofs.join.number_new.Reads as number-new-reads
 use borrow.Author.Needs.{needs}
 use Rattle.maker.proofs.Joins as laws
 use native.Mathlib.Omega.{arith}

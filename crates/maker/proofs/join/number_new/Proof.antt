@@ -1,8 +1,6 @@
 -- The proof of `join::number_new`: numbers for the new ones of the first n objects, from t on in their order. By a loop in which n - x falls, and the laws of Numberings.
 use Rattle.maker.proofs.join.number_new.Statement.{statement}
 use Rattle.maker.proofs.join.number_new.Tie as tie
-use Rattle.maker.proofs.join.number_new.Reads as reads
-use Rattle.maker.proofs.join.number_new.Lts as lts
 use borrow.Author.Needs.{needs}
 use Prim.Native.Nat.{_≤_, _-_}
 use mathlib.Core.Logic.{⊎-elim}

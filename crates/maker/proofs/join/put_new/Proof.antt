@@ -1,9 +1,6 @@
 -- The proof of `join::put_new`: all new objects, each at the place that `told` has for it. By a loop in which n - x falls, and the laws of Additions.
 use Rattle.maker.proofs.join.put_new.Statement.{statement}
 use Rattle.maker.proofs.join.put_new.Tie as tie
-use Rattle.maker.proofs.join.put_new.Reads as reads
-use Rattle.maker.proofs.join.put_new.Lts as lts
-use Rattle.maker.proofs.join.put_object.Reads as put-object-reads
 use borrow.Author.Needs.{needs}
 use Prim.Native.Nat.{_≤_, _-_}
 use mathlib.Core.Logic.{⊎-elim}

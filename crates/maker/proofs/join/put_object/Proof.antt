@@ -2,9 +2,6 @@
 use borrow.Author.Needs.{needs}
 use Rattle.maker.proofs.join.put_object.Statement.{statement}
 use Rattle.maker.proofs.join.put_object.Tie as tie
-use Rattle.maker.proofs.join.put_object.Reads as reads
-use Rattle.maker.proofs.join.put_object.Lts as lts
-use Rattle.maker.proofs.sort.turn.Reads as turn-reads
 use native.Mathlib.Omega.{arith}
 use lib.ListN.{length-set}
 use Rattle.maker.proofs.Additions as laws

@@ -2,9 +2,6 @@
 use borrow.Author.Needs.{needs}
 use Rattle.maker.proofs.limit.fits.Statement.{statement}
 use Rattle.maker.proofs.limit.fits.Tie as tie
-use Rattle.maker.proofs.limit.fits.Reads as reads
-use Rattle.maker.proofs.limit.fits.Lts as lts
-use Rattle.values.proofs.value.move_out.Reads as move-out-reads
 use Rattle.values.proofs.Blocks as blocks
 use Rattle.maker.proofs.Limits as laws
 

@@ -2,10 +2,6 @@
 use borrow.Author.Needs.{needs}
 use Rattle.maker.proofs.make.make.Statement.{statement}
 use Rattle.maker.proofs.make.make.Tie as tie
-use Rattle.maker.proofs.make.make.Reads as reads
-use Rattle.maker.proofs.make.make.Lts as lts
-use Rattle.maker.proofs.limit.fits.Reads as fits-reads
-use Rattle.maker.proofs.make.make_object.Reads as make-object-reads
 use Rattle.maker.proofs.Limits as laws
 
 returns : tie.Need-returns

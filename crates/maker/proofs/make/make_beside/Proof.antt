@@ -2,13 +2,6 @@
 use borrow.Author.Needs.{needs}
 use Rattle.maker.proofs.make.make_beside.Statement.{statement}
 use Rattle.maker.proofs.make.make_beside.Tie as tie
-use Rattle.maker.proofs.make.make_beside.Reads as reads
-use Rattle.maker.proofs.make.make_beside.Lts as lts
-use Rattle.maker.proofs.merge.make_anew.Reads as make-anew-reads
-use Rattle.maker.proofs.over.add.Reads as add-reads
-use Rattle.maker.proofs.over.find.Reads as find-reads
-use Rattle.maker.proofs.over.root_codes.Reads as root-codes-reads
-use Rattle.values.proofs.value.bring.Reads as bring-reads
 use Rattle.maker.proofs.Finds as finds
 use Rattle.maker.proofs.Beside as beside
 use Rattle.canon.specs.Layout.{countIn}

@@ -2,12 +2,6 @@
 use borrow.Author.Needs.{needs}
 use Rattle.maker.proofs.make.make_fresh.Statement.{statement}
 use Rattle.maker.proofs.make.make_fresh.Tie as tie
-use Rattle.maker.proofs.make.make_fresh.Reads as reads
-use Rattle.maker.proofs.make.make_fresh.Lts as lts
-use Rattle.maker.proofs.parts.some_object.Reads as some-object-reads
-use Rattle.maker.proofs.merge.make_in.Reads as make-in-reads
-use Rattle.maker.proofs.over.empty.Reads as empty-reads
-use Rattle.maker.proofs.over.make_alone.Reads as make-alone-reads
 use Rattle.maker.proofs.Wheres as tests
 use Rattle.maker.proofs.Hosts as laws
 

@@ -2,15 +2,6 @@
 use borrow.Author.Needs.{needs}
 use Rattle.maker.proofs.make.make_object.Statement.{statement}
 use Rattle.maker.proofs.make.make_object.Tie as tie
-use Rattle.maker.proofs.make.make_object.Reads as reads
-use Rattle.maker.proofs.make.make_object.Lts as lts
-use Rattle.maker.proofs.parts.first_block.Reads as first-block-reads
-use Rattle.maker.proofs.make.make_beside.Reads as make-beside-reads
-use Rattle.maker.proofs.make.make_fresh.Reads as make-fresh-reads
-use Rattle.maker.proofs.parts.together.Reads as together-reads
-use Rattle.maker.proofs.merge.make_apart.Reads as make-apart-reads
-use Rattle.maker.proofs.merge.make_in.Reads as make-in-reads
-use Rattle.maker.proofs.parts.some_in.Reads as some-in-reads
 use Rattle.values.proofs.Tests as tests
 use Rattle.maker.proofs.Wheres as laws
 use Rattle.maker.proofs.Hosts as merges

@@ -2,10 +2,6 @@
 use borrow.Author.Needs.{needs}
 use Rattle.maker.proofs.merge.bring_parts.Statement.{statement}
 use Rattle.maker.proofs.merge.bring_parts.Tie as tie
-use Rattle.maker.proofs.merge.bring_parts.Reads as reads
-use Rattle.maker.proofs.merge.bring_parts.Lts as lts
-use Rattle.maker.proofs.merge.import_part.Reads as import-part-reads
-use Rattle.maker.proofs.parts.part_at.Reads as part-at-reads
 use Prim.Native.Nat.{_≤_}
 use mathlib.Core.Path.{_≡_}
 use lib.ListN.{length}

@@ -2,10 +2,6 @@
 use borrow.Author.Needs.{needs}
 use Rattle.maker.proofs.merge.import_fieldless.Statement.{statement}
 use Rattle.maker.proofs.merge.import_fieldless.Tie as tie
-use Rattle.maker.proofs.merge.import_fieldless.Reads as reads
-use Rattle.maker.proofs.merge.import_fieldless.Lts as lts
-use Rattle.canon.proofs.bytes.four_at.Reads as four-at-reads
-use Rattle.maker.proofs.enter.enter.Reads as enter-reads
 use Rattle.maker.proofs.Brings as laws
 
 enter-requires : tie.Need-enter-requires

@@ -2,10 +2,6 @@
 use borrow.Author.Needs.{needs}
 use Rattle.maker.proofs.merge.import_object.Statement.{statement}
 use Rattle.maker.proofs.merge.import_object.Tie as tie
-use Rattle.maker.proofs.merge.import_object.Reads as reads
-use Rattle.maker.proofs.merge.import_object.Lts as lts
-use Rattle.maker.proofs.part.import.Reads as import-reads
-use Rattle.maker.proofs.merge.import_fieldless.Reads as import-fieldless-reads
 use Rattle.maker.proofs.Brings as laws
 
 returns : tie.Need-returns

@@ -2,9 +2,6 @@
 use borrow.Author.Needs.{needs}
 use Rattle.maker.proofs.merge.import_part.Statement.{statement}
 use Rattle.maker.proofs.merge.import_part.Tie as tie
-use Rattle.maker.proofs.merge.import_part.Reads as reads
-use Rattle.maker.proofs.merge.import_part.Lts as lts
-use Rattle.maker.proofs.merge.import_object.Reads as import-object-reads
 use native.Mathlib.Omega.{arith}
 use Rattle.values.proofs.Blocks as blocks
 use Rattle.maker.proofs.Brings as laws

@@ -2,10 +2,6 @@
 use borrow.Author.Needs.{needs}
 use Rattle.maker.proofs.merge.make_anew.Statement.{statement}
 use Rattle.maker.proofs.merge.make_anew.Tie as tie
-use Rattle.maker.proofs.merge.make_anew.Reads as reads
-use Rattle.maker.proofs.merge.make_anew.Lts as lts
-use Rattle.maker.proofs.merge.try_in.Reads as try-in-reads
-use Rattle.maker.proofs.over.empty.Reads as empty-reads
 use Rattle.maker.proofs.Hosts as laws
 
 try-in-requires : tie.Need-try-in-requires

@@ -2,12 +2,6 @@
 use borrow.Author.Needs.{needs}
 use Rattle.maker.proofs.merge.make_apart.Statement.{statement}
 use Rattle.maker.proofs.merge.make_apart.Tie as tie
-use Rattle.maker.proofs.merge.make_apart.Reads as reads
-use Rattle.maker.proofs.merge.make_apart.Lts as lts
-use Rattle.maker.proofs.parts.largest.Reads as largest-reads
-use Rattle.maker.proofs.merge.make_anew.Reads as make-anew-reads
-use Rattle.maker.proofs.merge.make_copied.Reads as make-copied-reads
-use Rattle.maker.proofs.merge.make_in.Reads as make-in-reads
 use Rattle.maker.proofs.Hosts as laws
 
 slice-read-if1 : tie.Need-slice-read-if1

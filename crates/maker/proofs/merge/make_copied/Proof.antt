@@ -2,10 +2,6 @@
 use borrow.Author.Needs.{needs}
 use Rattle.maker.proofs.merge.make_copied.Statement.{statement}
 use Rattle.maker.proofs.merge.make_copied.Tie as tie
-use Rattle.maker.proofs.merge.make_copied.Reads as reads
-use Rattle.maker.proofs.merge.make_copied.Lts as lts
-use Rattle.maker.proofs.merge.make_in.Reads as make-in-reads
-use Rattle.values.proofs.value.copy_block.Reads as copy-block-reads
 use Rattle.maker.proofs.Hosts as laws
 
 make-in-requires : tie.Need-make-in-requires

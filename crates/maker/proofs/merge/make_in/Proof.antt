@@ -2,10 +2,6 @@
 use borrow.Author.Needs.{needs}
 use Rattle.maker.proofs.merge.make_in.Statement.{statement}
 use Rattle.maker.proofs.merge.make_in.Tie as tie
-use Rattle.maker.proofs.merge.make_in.Reads as reads
-use Rattle.maker.proofs.merge.make_in.Lts as lts
-use Rattle.maker.proofs.merge.make_anew.Reads as make-anew-reads
-use Rattle.maker.proofs.merge.try_in.Reads as try-in-reads
 use Rattle.maker.proofs.Hosts as laws
 
 make-anew-requires : tie.Need-make-anew-requires

@@ -2,11 +2,6 @@
 use borrow.Author.Needs.{needs}
 use Rattle.maker.proofs.merge.try_in.Statement.{statement}
 use Rattle.maker.proofs.merge.try_in.Tie as tie
-use Rattle.maker.proofs.merge.try_in.Reads as reads
-use Rattle.maker.proofs.merge.try_in.Lts as lts
-use Rattle.maker.proofs.enter.enter_over.Reads as enter-over-reads
-use Rattle.maker.proofs.merge.bring_parts.Reads as bring-parts-reads
-use Rattle.values.proofs.value.bring.Reads as bring-reads
 use Rattle.maker.proofs.Tries as laws
 
 returns : tie.Need-returns

@@ -2,11 +2,6 @@
 use borrow.Author.Needs.{needs}
 use Rattle.maker.proofs.over.add.Statement.{statement}
 use Rattle.maker.proofs.over.add.Tie as tie
-use Rattle.maker.proofs.over.add.Reads as reads
-use Rattle.maker.proofs.over.add.Lts as lts
-use Rattle.maker.proofs.over.append.Reads as append-reads
-use Rattle.maker.proofs.over.level_with.Reads as level-with-reads
-use Rattle.values.proofs.value.copy_block.Reads as copy-block-reads
 use native.Mathlib.Omega.{arith}
 use Rattle.canon.specs.Layout.{countIn}
 use Rattle.maker.proofs.Beside as laws

@@ -2,8 +2,6 @@
 use borrow.Author.Needs.{needs}
 use Rattle.maker.proofs.over.append.Statement.{statement}
 use Rattle.maker.proofs.over.append.Tie as tie
-use Rattle.maker.proofs.over.append.Reads as reads
-use Rattle.maker.proofs.over.append.Lts as lts
 use native.Mathlib.Omega.{arith}
 use lib.ListN.{length-set}
 use Rattle.maker.proofs.Beside as laws

@@ -2,8 +2,6 @@
 use borrow.Author.Needs.{needs}
 use Rattle.maker.proofs.over.code_of.Statement.{statement}
 use Rattle.maker.proofs.over.code_of.Tie as tie
-use Rattle.maker.proofs.over.code_of.Reads as reads
-use Rattle.maker.proofs.over.code_of.Lts as lts
 use native.Mathlib.Omega.{arith}
 use Rattle.maker.proofs.Makes as lays
 use Rattle.maker.proofs.Finds as laws

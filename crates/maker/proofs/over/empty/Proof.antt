@@ -2,8 +2,6 @@
 use borrow.Author.Needs.{needs}
 use Rattle.maker.proofs.over.empty.Statement.{statement}
 use Rattle.maker.proofs.over.empty.Tie as tie
-use Rattle.maker.proofs.over.empty.Reads as reads
-use Rattle.maker.proofs.over.empty.Lts as lts
 use native.Mathlib.Omega.{arith}
 use lib.ListN.{length-set}
 use Rattle.maker.proofs.Beside as laws

@@ -1,9 +1,6 @@
 -- The proof of `over::find`: the place of the object among the t objects of block b; t if it is not there. By a loop in which t - k falls, and the laws of Finds.
 use Rattle.maker.proofs.over.find.Statement.{statement}
 use Rattle.maker.proofs.over.find.Tie as tie
-use Rattle.maker.proofs.over.find.Reads as reads
-use Rattle.maker.proofs.over.find.Lts as lts
-use Rattle.maker.proofs.over.is_object.Reads as is-object-reads
 use borrow.Author.Needs.{needs}
 use Prim.Native.Nat.{_≤_, _-_}
 use Rattle.maker.specs.Adding.{objectOf, Missed}

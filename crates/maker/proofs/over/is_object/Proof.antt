@@ -2,9 +2,6 @@
 use borrow.Author.Needs.{needs}
 use Rattle.maker.proofs.over.is_object.Statement.{statement}
 use Rattle.maker.proofs.over.is_object.Tie as tie
-use Rattle.maker.proofs.over.is_object.Reads as reads
-use Rattle.maker.proofs.over.is_object.Lts as lts
-use Rattle.canon.proofs.bytes.four_at.Reads as four-at-reads
 use Rattle.maker.proofs.Codes as laws
 
 returns : tie.Need-returns

@@ -2,9 +2,6 @@
 use borrow.Author.Needs.{needs}
 use Rattle.maker.proofs.over.level_with.Statement.{statement}
 use Rattle.maker.proofs.over.level_with.Tie as tie
-use Rattle.maker.proofs.over.level_with.Reads as reads
-use Rattle.maker.proofs.over.level_with.Lts as lts
-use Rattle.maker.proofs.over.raise_level.Reads as raise-level-reads
 use Rattle.maker.proofs.Codes as laws
 
 returns : tie.Need-returns

@@ -2,11 +2,6 @@
 use borrow.Author.Needs.{needs}
 use Rattle.maker.proofs.over.make_alone.Statement.{statement}
 use Rattle.maker.proofs.over.make_alone.Tie as tie
-use Rattle.maker.proofs.over.make_alone.Reads as reads
-use Rattle.maker.proofs.over.make_alone.Lts as lts
-use Rattle.maker.proofs.over.append.Reads as append-reads
-use Rattle.maker.proofs.over.level_with.Reads as level-with-reads
-use Rattle.maker.proofs.over.root_codes.Reads as root-codes-reads
 use Rattle.maker.proofs.Beside as laws
 
 returns : tie.Need-returns

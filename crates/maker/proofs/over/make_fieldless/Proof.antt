@@ -2,10 +2,6 @@
 use borrow.Author.Needs.{needs}
 use Rattle.maker.proofs.over.make_fieldless.Statement.{statement}
 use Rattle.maker.proofs.over.make_fieldless.Tie as tie
-use Rattle.maker.proofs.over.make_fieldless.Reads as reads
-use Rattle.maker.proofs.over.make_fieldless.Lts as lts
-use Rattle.maker.proofs.over.append.Reads as append-reads
-use Rattle.maker.proofs.over.level_with.Reads as level-with-reads
 use Rattle.maker.proofs.Beside as laws
 
 returns : tie.Need-returns

@@ -2,10 +2,6 @@
 use borrow.Author.Needs.{needs}
 use Rattle.maker.proofs.over.root_codes.Statement.{statement}
 use Rattle.maker.proofs.over.root_codes.Tie as tie
-use Rattle.maker.proofs.over.root_codes.Reads as reads
-use Rattle.maker.proofs.over.root_codes.Lts as lts
-use Rattle.maker.proofs.over.code_of.Reads as code-of-reads
-use Rattle.maker.proofs.parts.part_at.Reads as part-at-reads
 use Prim.Native.Nat.{_≤_}
 use Rattle.maker.specs.Laying.{partsOf}
 use Rattle.maker.proofs.Finds as laws

@@ -2,11 +2,6 @@
 use borrow.Author.Needs.{needs}
 use Rattle.maker.proofs.part.bring_new.Statement.{statement}
 use Rattle.maker.proofs.part.bring_new.Tie as tie
-use Rattle.maker.proofs.part.bring_new.Reads as reads
-use Rattle.maker.proofs.part.bring_new.Lts as lts
-use Rattle.maker.proofs.join.join.Reads as join-reads
-use Rattle.maker.proofs.reach.reach.Reads as reach-reads
-use Rattle.maker.proofs.sort.sort.Reads as sort-reads
 use Rattle.maker.proofs.Imports as laws
 
 sort-requires : tie.Need-sort-requires

@@ -3,10 +3,6 @@ use borrow.Author.Needs.{needs}
 use mathlib.Core.Path.{refl}
 use Rattle.maker.proofs.part.import.Statement.{statement}
 use Rattle.maker.proofs.part.import.Tie as tie
-use Rattle.maker.proofs.part.import.Reads as reads
-use Rattle.maker.proofs.part.import.Lts as lts
-use Rattle.maker.proofs.part.bring_new.Reads as bring-new-reads
-use Rattle.maker.proofs.part.same_number.Reads as same-number-reads
 use Rattle.maker.proofs.Imports as laws
 use Rattle.maker.proofs.Turns as tables
 use Rattle.canon.specs.Figures.{capacity}

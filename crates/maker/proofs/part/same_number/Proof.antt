@@ -2,10 +2,6 @@
 use borrow.Author.Needs.{needs}
 use Rattle.maker.proofs.part.same_number.Statement.{statement}
 use Rattle.maker.proofs.part.same_number.Tie as tie
-use Rattle.maker.proofs.part.same_number.Reads as reads
-use Rattle.maker.proofs.part.same_number.Lts as lts
-use Rattle.maker.proofs.seek.like.Reads as like-reads
-use Rattle.maker.proofs.seek.tell.Reads as tell-reads
 use Rattle.maker.proofs.Imports as laws
 
 returns : tie.Need-returns

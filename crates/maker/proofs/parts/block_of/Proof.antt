@@ -2,8 +2,6 @@
 use borrow.Author.Needs.{needs}
 use Rattle.maker.proofs.parts.block_of.Statement.{statement}
 use Rattle.maker.proofs.parts.block_of.Tie as tie
-use Rattle.maker.proofs.parts.block_of.Reads as reads
-use Rattle.maker.proofs.parts.block_of.Lts as lts
 use Rattle.maker.proofs.Wheres as laws
 
 returns : tie.Need-returns

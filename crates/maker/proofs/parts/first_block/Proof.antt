@@ -1,10 +1,6 @@
 -- The first block of a part: the parts before have none.
 use Rattle.maker.proofs.parts.first_block.Statement.{statement}
 use Rattle.maker.proofs.parts.first_block.Tie as tie
-use Rattle.maker.proofs.parts.first_block.Reads as reads
-use Rattle.maker.proofs.parts.first_block.Lts as lts
-use Rattle.maker.proofs.parts.part_at.Reads as part-at-reads
-use Rattle.maker.proofs.parts.block_of.Reads as block-of-reads
 use borrow.Author.Needs.{needs}
 use Prim.Native.Nat.{_≤_, _-_}
 use mathlib.Core.Path.{_≡_}

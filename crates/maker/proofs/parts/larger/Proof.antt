@@ -2,8 +2,6 @@
 use borrow.Author.Needs.{needs}
 use Rattle.maker.proofs.parts.larger.Statement.{statement}
 use Rattle.maker.proofs.parts.larger.Tie as tie
-use Rattle.maker.proofs.parts.larger.Reads as reads
-use Rattle.maker.proofs.parts.larger.Lts as lts
 use Rattle.maker.proofs.Hosts as laws
 
 returns : tie.Need-returns

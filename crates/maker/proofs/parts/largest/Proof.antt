@@ -1,10 +1,6 @@
 -- The proof of `parts::largest`: the block with the most objects, of block b and those of the parts but block 0. By a loop in which n - i falls, and the laws of Makes and Hosts.
 use Rattle.maker.proofs.parts.largest.Statement.{statement}
 use Rattle.maker.proofs.parts.largest.Tie as tie
-use Rattle.maker.proofs.parts.largest.Reads as reads
-use Rattle.maker.proofs.parts.largest.Lts as lts
-use Rattle.maker.proofs.parts.larger.Reads as larger-reads
-use Rattle.maker.proofs.parts.part_at.Reads as part-at-reads
 use borrow.Author.Needs.{needs}
 use Prim.Native.Nat.{_≤_, _-_}
 use Rattle.maker.specs.Laying.{partsOf}

@@ -2,8 +2,6 @@
 use borrow.Author.Needs.{needs}
 use Rattle.maker.proofs.parts.lies_in.Statement.{statement}
 use Rattle.maker.proofs.parts.lies_in.Tie as tie
-use Rattle.maker.proofs.parts.lies_in.Reads as reads
-use Rattle.maker.proofs.parts.lies_in.Lts as lts
 use Rattle.maker.proofs.Hosts as laws
 
 returns : tie.Need-returns

@@ -2,9 +2,6 @@
 use borrow.Author.Needs.{needs}
 use Rattle.maker.proofs.parts.part_at.Statement.{statement}
 use Rattle.maker.proofs.parts.part_at.Tie as tie
-use Rattle.maker.proofs.parts.part_at.Reads as reads
-use Rattle.maker.proofs.parts.part_at.Lts as lts
-use Rattle.values.proofs.refs.unpack.Reads as unpack-reads
 use Rattle.maker.proofs.Makes as laws
 
 returns : tie.Need-returns

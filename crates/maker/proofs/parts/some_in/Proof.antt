@@ -1,10 +1,6 @@
 -- The proof of `parts::some_in`: whether one of the parts is an object of block d. By a loop in which i falls, and the laws of Hosts.
 use Rattle.maker.proofs.parts.some_in.Statement.{statement}
 use Rattle.maker.proofs.parts.some_in.Tie as tie
-use Rattle.maker.proofs.parts.some_in.Reads as reads
-use Rattle.maker.proofs.parts.some_in.Lts as lts
-use Rattle.maker.proofs.parts.lies_in.Reads as lies-in-reads
-use Rattle.maker.proofs.parts.part_at.Reads as part-at-reads
 use borrow.Author.Needs.{needs}
 use Prim.Native.Nat.{_≤_}
 use Rattle.maker.specs.Laying.{partsOf}

@@ -1,9 +1,6 @@
 -- Whether a part is an object: the parts before are none.
 use Rattle.maker.proofs.parts.some_object.Statement.{statement}
 use Rattle.maker.proofs.parts.some_object.Tie as tie
-use Rattle.maker.proofs.parts.some_object.Reads as reads
-use Rattle.maker.proofs.parts.some_object.Lts as lts
-use Rattle.maker.proofs.parts.part_at.Reads as part-at-reads
 use borrow.Author.Needs.{needs}
 use Prim.Native.Nat.{_≤_, _-_}
 use mathlib.Core.Path.{_≡_}

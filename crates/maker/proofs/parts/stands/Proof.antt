@@ -2,8 +2,6 @@
 use borrow.Author.Needs.{needs}
 use Rattle.maker.proofs.parts.stands.Statement.{statement}
 use Rattle.maker.proofs.parts.stands.Tie as tie
-use Rattle.maker.proofs.parts.stands.Reads as reads
-use Rattle.maker.proofs.parts.stands.Lts as lts
 use Rattle.maker.proofs.Wheres as laws
 
 returns : tie.Need-returns

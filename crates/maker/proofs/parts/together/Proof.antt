@@ -1,10 +1,6 @@
 -- The proof of `parts::together`: whether each part lies in block b, or is no object. By a loop in which n - i falls, and the laws of Wheres.
 use Rattle.maker.proofs.parts.together.Statement.{statement}
 use Rattle.maker.proofs.parts.together.Tie as tie
-use Rattle.maker.proofs.parts.together.Reads as reads
-use Rattle.maker.proofs.parts.together.Lts as lts
-use Rattle.maker.proofs.parts.stands.Reads as stands-reads
-use Rattle.maker.proofs.parts.part_at.Reads as part-at-reads
 use borrow.Author.Needs.{needs}
 use Prim.Native.Nat.{_≤_, _-_}
 use Rattle.maker.specs.Laying.{partsOf}

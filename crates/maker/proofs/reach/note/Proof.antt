@@ -2,8 +2,6 @@
 use borrow.Author.Needs.{needs}
 use Rattle.maker.proofs.reach.note.Statement.{statement}
 use Rattle.maker.proofs.reach.note.Tie as tie
-use Rattle.maker.proofs.reach.note.Reads as reads
-use Rattle.maker.proofs.reach.note.Lts as lts
 use Rattle.maker.proofs.Reaches as laws
 
 returns : tie.Need-returns

@@ -2,9 +2,6 @@
 use borrow.Author.Needs.{needs}
 use Rattle.maker.proofs.reach.note_fields.Statement.{statement}
 use Rattle.maker.proofs.reach.note_fields.Tie as tie
-use Rattle.maker.proofs.reach.note_fields.Reads as reads
-use Rattle.maker.proofs.reach.note_fields.Lts as lts
-use Rattle.maker.proofs.reach.note.Reads as note-reads
 use native.Mathlib.Omega.{arith}
 use Rattle.maker.proofs.Reaches as laws
 

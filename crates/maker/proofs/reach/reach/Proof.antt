@@ -1,9 +1,6 @@
 -- The proof of `reach::reach`: lists object i of block src and what it leads to, nearest first. By a loop in which capacity - head falls, and the laws of Reaches.
 use Rattle.maker.proofs.reach.reach.Statement.{statement}
 use Rattle.maker.proofs.reach.reach.Tie as tie
-use Rattle.maker.proofs.reach.reach.Reads as reads
-use Rattle.maker.proofs.reach.reach.Lts as lts
-use Rattle.maker.proofs.reach.note_fields.Reads as note-fields-reads
 use borrow.Author.Needs.{needs}
 use Prim.Native.Nat.{_≤_, _-_}
 use mathlib.Core.Path.{_≡_}

@@ -1,10 +1,6 @@
 -- The proof of `seek::seek`: looks for object x, of which nothing is known yet, among the objects of the host: it is told then, or marked as new. By a loop in which t - y falls, and the laws of Seeks.
 use Rattle.maker.proofs.seek.seek.Statement.{statement}
 use Rattle.maker.proofs.seek.seek.Tie as tie
-use Rattle.maker.proofs.seek.seek.Reads as reads
-use Rattle.maker.proofs.seek.seek.Lts as lts
-use Rattle.maker.proofs.seek.like.Reads as like-reads
-use Rattle.maker.proofs.seek.tell.Reads as tell-reads
 use borrow.Author.Needs.{needs}
 use Prim.Native.Nat.{_≤_, _-_}
 use mathlib.Core.Path.{_≡_, ap}

@@ -2,10 +2,6 @@
 use borrow.Author.Needs.{needs}
 use Rattle.maker.proofs.seek.tell.Statement.{statement}
 use Rattle.maker.proofs.seek.tell.Tie as tie
-use Rattle.maker.proofs.seek.tell.Reads as reads
-use Rattle.maker.proofs.seek.tell.Lts as lts
-use Rattle.canon.proofs.bytes.copy.Reads as copy-reads
-use Rattle.values.proofs.lockstep.in_step.Reads as in-step-reads
 use Rattle.maker.proofs.Seeks as laws
 
 in-step-requires : tie.Need-in-step-requires

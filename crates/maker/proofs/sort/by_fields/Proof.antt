@@ -2,11 +2,6 @@
 use borrow.Author.Needs.{needs}
 use Rattle.maker.proofs.sort.by_fields.Statement.{statement}
 use Rattle.maker.proofs.sort.by_fields.Tie as tie
-use Rattle.maker.proofs.sort.by_fields.Reads as reads
-use Rattle.maker.proofs.sort.by_fields.Lts as lts
-use Rattle.maker.proofs.over.find.Reads as find-reads
-use Rattle.maker.proofs.sort.leads_new.Reads as leads-new-reads
-use Rattle.maker.proofs.sort.turn_fields.Reads as turn-fields-reads
 use Rattle.maker.proofs.Sorts as laws
 
 leads-new-requires : tie.Need-leads-new-requires

@@ -1,16 +1,10 @@
 -- The proof of `sort::choose`: of the listed objects of which nothing is known, x one of them, one whose class is rare in the host. By a loop in which q falls, and the laws of Sorts.
 use Rattle.maker.proofs.sort.choose.Statement.{statement}
 use Rattle.maker.proofs.sort.choose.Tie as tie
-use Rattle.maker.proofs.sort.choose.Reads as reads
-use Rattle.maker.proofs.sort.choose.Lts as lts
-use Rattle.maker.proofs.sort.count_classes.Reads as count-classes-reads
-use Rattle.maker.proofs.sort.is_open.Reads as is-open-reads
 use borrow.Author.Needs.{needs}
 use native.Mathlib.Omega.{arith}
 use Rattle.maker.proofs.Sorts as laws
 use Prim.Native.Nat.{_≤_, _-_}
-use mathlib.Core.Path.{_≡_}
-use lib.ListN.{length}
 use Rattle.maker.specs.Sorting.{Listed}
 
 abbrev Inv-loop : tie.InvT-loop

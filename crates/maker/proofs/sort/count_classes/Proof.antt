@@ -1,8 +1,6 @@
 -- The proof of `sort::count_classes`: how many objects of block host are of each class, modulo 64. By a loop in which t - y falls, and the laws of Sorts.
 use Rattle.maker.proofs.sort.count_classes.Statement.{statement}
 use Rattle.maker.proofs.sort.count_classes.Tie as tie
-use Rattle.maker.proofs.sort.count_classes.Reads as reads
-use Rattle.maker.proofs.sort.count_classes.Lts as lts
 use borrow.Author.Needs.{needs}
 use Rattle.maker.proofs.Sorts as laws
 use Prim.Native.Nat.{ℕ, _≤_, _-_}

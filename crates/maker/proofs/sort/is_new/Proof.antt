@@ -1,9 +1,6 @@
 -- The proof of `sort::is_new`: whether a code is that of an object marked as new. By the laws of SortCodes.
 use Rattle.maker.proofs.sort.is_new.Statement.{statement}
 use Rattle.maker.proofs.sort.is_new.Tie as tie
-use Rattle.maker.proofs.sort.is_new.Reads as reads
-use Rattle.maker.proofs.sort.is_new.Lts as lts
-use borrow.Author.Needs.{needs}
 use Rattle.maker.proofs.SortCodes as laws
 
 returns : tie.Need-returns

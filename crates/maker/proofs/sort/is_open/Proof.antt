@@ -2,8 +2,6 @@
 use borrow.Author.Needs.{needs}
 use Rattle.maker.proofs.sort.is_open.Statement.{statement}
 use Rattle.maker.proofs.sort.is_open.Tie as tie
-use Rattle.maker.proofs.sort.is_open.Reads as reads
-use Rattle.maker.proofs.sort.is_open.Lts as lts
 use Rattle.maker.proofs.SortCodes as laws
 
 returns : tie.Need-returns

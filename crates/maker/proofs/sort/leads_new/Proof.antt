@@ -1,9 +1,6 @@
 -- The proof of `sort::leads_new`: whether a field of an object is marked as new. By a loop in which 4 - k falls, and the laws of SortCodes.
 use Rattle.maker.proofs.sort.leads_new.Statement.{statement}
 use Rattle.maker.proofs.sort.leads_new.Tie as tie
-use Rattle.maker.proofs.sort.leads_new.Reads as reads
-use Rattle.maker.proofs.sort.leads_new.Lts as lts
-use Rattle.maker.proofs.sort.is_new.Reads as is-new-reads
 use borrow.Author.Needs.{needs}
 use Rattle.maker.proofs.SortCodes as laws
 use Prim.Native.Nat.{_≤_, _-_}

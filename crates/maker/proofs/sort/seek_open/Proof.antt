@@ -2,10 +2,6 @@
 use borrow.Author.Needs.{needs}
 use Rattle.maker.proofs.sort.seek_open.Statement.{statement}
 use Rattle.maker.proofs.sort.seek_open.Tie as tie
-use Rattle.maker.proofs.sort.seek_open.Reads as reads
-use Rattle.maker.proofs.sort.seek_open.Lts as lts
-use Rattle.maker.proofs.seek.seek.Reads as seek-reads
-use Rattle.maker.proofs.sort.is_open.Reads as is-open-reads
 use Rattle.maker.proofs.Sorts as laws
 
 is-open-requires : tie.Need-is-open-requires

@@ -2,11 +2,6 @@
 use borrow.Author.Needs.{needs}
 use Rattle.maker.proofs.sort.seek_rare.Statement.{statement}
 use Rattle.maker.proofs.sort.seek_rare.Tie as tie
-use Rattle.maker.proofs.sort.seek_rare.Reads as reads
-use Rattle.maker.proofs.sort.seek_rare.Lts as lts
-use Rattle.maker.proofs.sort.choose.Reads as choose-reads
-use Rattle.maker.proofs.sort.seek_open.Reads as seek-open-reads
-use Rattle.maker.proofs.sort.spread.Reads as spread-reads
 use Rattle.maker.proofs.Sorts as laws
 
 returns : tie.Need-returns

@@ -2,11 +2,6 @@
 use borrow.Author.Needs.{needs}
 use Rattle.maker.proofs.sort.settle.Statement.{statement}
 use Rattle.maker.proofs.sort.settle.Tie as tie
-use Rattle.maker.proofs.sort.settle.Reads as reads
-use Rattle.maker.proofs.sort.settle.Lts as lts
-use Rattle.maker.proofs.sort.by_fields.Reads as by-fields-reads
-use Rattle.maker.proofs.sort.seek_open.Reads as seek-open-reads
-use Rattle.maker.proofs.sort.seek_rare.Reads as seek-rare-reads
 use Rattle.maker.proofs.Sorts as laws
 
 returns : tie.Need-returns

@@ -1,10 +1,6 @@
 -- The proof of `sort::sort`: the listed objects sorted out, from the last to the first. By a loop in which q falls, and the laws of Sorts.
 use Rattle.maker.proofs.sort.sort.Statement.{statement}
 use Rattle.maker.proofs.sort.sort.Tie as tie
-use Rattle.maker.proofs.sort.sort.Reads as reads
-use Rattle.maker.proofs.sort.sort.Lts as lts
-use Rattle.maker.proofs.sort.is_open.Reads as is-open-reads
-use Rattle.maker.proofs.sort.settle.Reads as settle-reads
 use borrow.Author.Needs.{needs}
 use Rattle.maker.proofs.Sorts as laws
 use Prim.Native.Nat.{_≤_}

@@ -1,9 +1,6 @@
 -- The proof of `sort::spread`: what leads to a new object marked, until there is nothing more to mark. By a loop in which m - k falls, and the laws of Sorts.
 use Rattle.maker.proofs.sort.spread.Statement.{statement}
 use Rattle.maker.proofs.sort.spread.Tie as tie
-use Rattle.maker.proofs.sort.spread.Reads as reads
-use Rattle.maker.proofs.sort.spread.Lts as lts
-use Rattle.maker.proofs.sort.spread_once.Reads as spread-once-reads
 use borrow.Author.Needs.{needs}
 use Rattle.maker.proofs.Sorts as laws
 use Prim.Native.Nat.{_≤_, _-_}

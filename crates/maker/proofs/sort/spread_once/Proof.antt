@@ -1,10 +1,6 @@
 -- The proof of `sort::spread_once`: marks as new the listed objects that lead to a new one at once, from the last to the first. By a loop in which q falls, and the laws of Sorts.
 use Rattle.maker.proofs.sort.spread_once.Statement.{statement}
 use Rattle.maker.proofs.sort.spread_once.Tie as tie
-use Rattle.maker.proofs.sort.spread_once.Reads as reads
-use Rattle.maker.proofs.sort.spread_once.Lts as lts
-use Rattle.maker.proofs.sort.is_open.Reads as is-open-reads
-use Rattle.maker.proofs.sort.leads_new.Reads as leads-new-reads
 use borrow.Author.Needs.{needs}
 use Rattle.maker.proofs.Sorts as laws
 use Prim.Native.Nat.{_≤_}

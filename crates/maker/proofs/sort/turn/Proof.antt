@@ -2,8 +2,6 @@
 use borrow.Author.Needs.{needs}
 use Rattle.maker.proofs.sort.turn.Statement.{statement}
 use Rattle.maker.proofs.sort.turn.Tie as tie
-use Rattle.maker.proofs.sort.turn.Reads as reads
-use Rattle.maker.proofs.sort.turn.Lts as lts
 use Rattle.maker.proofs.SortCodes as laws
 
 returns : tie.Need-returns

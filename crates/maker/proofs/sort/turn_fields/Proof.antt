@@ -1,9 +1,6 @@
 -- The proof of `sort::turn_fields`: the codes of object x of block src in the host. By a loop in which k falls, and the laws of SortCodes.
 use Rattle.maker.proofs.sort.turn_fields.Statement.{statement}
 use Rattle.maker.proofs.sort.turn_fields.Tie as tie
-use Rattle.maker.proofs.sort.turn_fields.Reads as reads
-use Rattle.maker.proofs.sort.turn_fields.Lts as lts
-use Rattle.maker.proofs.sort.turn.Reads as turn-reads
 use borrow.Author.Needs.{needs}
 use Rattle.maker.proofs.SortCodes as laws
 use Prim.Native.Nat.{_≤_}

@@ -1,11 +1,6 @@
 use borrow.Author.Needs.{needs}
 use Rattle.tables.proofs.read.lines_into.Statement.{statement}
 use Rattle.tables.proofs.read.lines_into.Tie as tie
-use Rattle.tables.proofs.read.lines_into.Reads as reads
-use Rattle.tables.proofs.read.lines_into.Lts as lts
-use Rattle.lineform.proofs.lines.frames_good.Reads as frames-good-reads
-use Rattle.lineform.proofs.lines.order.Reads as order-reads
-use Rattle.tables.proofs.read.table_into.Reads as table-into-reads
 use Prim.Native.Nat.{ℕ}
 use lib.ListN.{length-replicate}
 use Rattle.tables.proofs.ReadLaws as laws

@@ -1,10 +1,6 @@
 use borrow.Author.Needs.{needs}
 use Rattle.tables.proofs.read.read.Statement.{statement}
 use Rattle.tables.proofs.read.read.Tie as tie
-use Rattle.tables.proofs.read.read.Reads as reads
-use Rattle.tables.proofs.read.read.Lts as lts
-use Rattle.tables.proofs.read.read_into.Reads as read-into-reads
-use Rattle.tables.proofs.read.refused.Reads as refused-reads
 use Rattle.tables.proofs.ReadLaws as laws
 use Rattle.tables.proofs.Written as written
 

@@ -1,11 +1,6 @@
 use borrow.Author.Needs.{needs}
 use Rattle.tables.proofs.read.read_into.Statement.{statement}
 use Rattle.tables.proofs.read.read_into.Tie as tie
-use Rattle.tables.proofs.read.read_into.Reads as reads
-use Rattle.tables.proofs.read.read_into.Lts as lts
-use Rattle.tables.proofs.read.text_into.Reads as text-into-reads
-use mathlib.Core.Path.{_≡_, refl}
-use lib.ListN.{length-replicate}
 use Rattle.tables.proofs.ReadLaws as laws
 
 text-into-requires : tie.Need-text-into-requires

@@ -1,7 +1,5 @@
 use Rattle.tables.proofs.read.refused.Statement.{statement}
 use Rattle.tables.proofs.read.refused.Tie as tie
-use Rattle.tables.proofs.read.refused.Reads as reads
-use Rattle.tables.proofs.read.refused.Lts as lts
 use Rattle.tables.proofs.ReadLaws as laws
 
 -- src/read.rt:23:1

@@ -1,10 +1,6 @@
 use borrow.Author.Needs.{needs}
 use Rattle.tables.proofs.read.table_into.Statement.{statement}
 use Rattle.tables.proofs.read.table_into.Tie as tie
-use Rattle.tables.proofs.read.table_into.Reads as reads
-use Rattle.tables.proofs.read.table_into.Lts as lts
-use Rattle.classes.proofs.build.place_table.Reads as place-table-reads
-use Rattle.classes.proofs.overrides.overrides.Reads as overrides-reads
 use Rattle.tables.proofs.ReadLaws as laws
 
 place-table-requires : tie.Need-place-table-requires

@@ -1,10 +1,6 @@
 use borrow.Author.Needs.{needs}
 use Rattle.tables.proofs.read.text_into.Statement.{statement}
 use Rattle.tables.proofs.read.text_into.Tie as tie
-use Rattle.tables.proofs.read.text_into.Reads as reads
-use Rattle.tables.proofs.read.text_into.Lts as lts
-use Rattle.lineform.proofs.lines.decode.Reads as decode-reads
-use Rattle.tables.proofs.read.lines_into.Reads as lines-into-reads
 use Rattle.tables.proofs.ReadLaws as laws
 use Rattle.lineform.proofs.Established.{decoded-room, decoded-count}
 

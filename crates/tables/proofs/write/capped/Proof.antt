@@ -1,7 +1,6 @@
 -- `write::capped` meets its contract: the byte, or the most.
 use Rattle.tables.proofs.write.capped.Statement.{statement}
 use Rattle.tables.proofs.write.capped.Tie as tie
-use borrow.Author.Needs.{needs}
 use Rattle.tables.proofs.WriteLaws as laws
 
 returns : tie.Need-returns

@@ -1,8 +1,6 @@
 -- The proof of `bind::bind_code`: a code, the code `hot` turned to object i. By the laws of Bindings.
 use Rattle.values.proofs.bind.bind_code.Statement.{statement}
 use Rattle.values.proofs.bind.bind_code.Tie as tie
-use Rattle.values.proofs.bind.bind_code.Reads as reads
-use Rattle.values.proofs.bind.bind_code.Lts as lts
 use Rattle.values.proofs.Bindings as laws
 
 returns : tie.Need-returns

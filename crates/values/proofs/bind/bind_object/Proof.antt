@@ -2,9 +2,6 @@
 use borrow.Author.Needs.{needs}
 use Rattle.values.proofs.bind.bind_object.Statement.{statement}
 use Rattle.values.proofs.bind.bind_object.Tie as tie
-use Rattle.values.proofs.bind.bind_object.Reads as reads
-use Rattle.values.proofs.bind.bind_object.Lts as lts
-use Rattle.values.proofs.bind.bind_code.Reads as bind-code-reads
 use native.Mathlib.Omega.{arith}
 use lib.ListN.{length-set}
 use Rattle.values.proofs.Bindings as laws

@@ -1,9 +1,6 @@
 -- The proof of `bind::bind_objects`: the objects of block b, with mark x bound to object i, to the front of `raw`. By a loop in which n - j falls, and the laws of Bindings.
 use Rattle.values.proofs.bind.bind_objects.Statement.{statement}
 use Rattle.values.proofs.bind.bind_objects.Tie as tie
-use Rattle.values.proofs.bind.bind_objects.Reads as reads
-use Rattle.values.proofs.bind.bind_objects.Lts as lts
-use Rattle.values.proofs.bind.bind_object.Reads as bind-object-reads
 use borrow.Author.Needs.{needs}
 use native.Mathlib.Omega.{arith}
 use mathlib.Core.Path.{_≡_, refl}

@@ -2,12 +2,6 @@
 use borrow.Author.Needs.{needs}
 use Rattle.values.proofs.bind.close_bound.Statement.{statement}
 use Rattle.values.proofs.bind.close_bound.Tie as tie
-use Rattle.values.proofs.bind.close_bound.Reads as reads
-use Rattle.values.proofs.bind.close_bound.Lts as lts
-use Rattle.values.proofs.bind.bind_objects.Reads as bind-objects-reads
-use Rattle.values.proofs.bind.put_distinct.Reads as put-distinct-reads
-use Rattle.values.proofs.bind.put_merged.Reads as put-merged-reads
-use Rattle.values.proofs.bind.stay_distinct.Reads as stay-distinct-reads
 use Rattle.values.proofs.Bindings as bindings
 use Rattle.values.proofs.Apart as apart
 

@@ -1,10 +1,6 @@
 -- The proof of `bind::differ`: true only if two objects unfold to different trees. By a loop in which left falls, and the laws of Apart.
 use Rattle.values.proofs.bind.differ.Statement.{statement}
 use Rattle.values.proofs.bind.differ.Tie as tie
-use Rattle.values.proofs.bind.differ.Reads as reads
-use Rattle.values.proofs.bind.differ.Lts as lts
-use Rattle.values.proofs.bind.other_field.Reads as other-field-reads
-use Rattle.values.proofs.lockstep.alike.Reads as alike-reads
 use borrow.Author.Needs.{needs}
 use Rattle.values.specs.Binding.{Leads}
 use Rattle.values.proofs.Apart as laws

@@ -1,8 +1,6 @@
 -- The proof of `bind::other_field`: the first field whose codes differ; NO_FIELD if there is none. By a loop in which 4 - f falls, and the laws of Apart.
 use Rattle.values.proofs.bind.other_field.Statement.{statement}
 use Rattle.values.proofs.bind.other_field.Tie as tie
-use Rattle.values.proofs.bind.other_field.Reads as reads
-use Rattle.values.proofs.bind.other_field.Lts as lts
 use borrow.Author.Needs.{needs}
 use Prim.Native.Nat.{_≤_, _-_}
 use Rattle.values.proofs.Apart as laws

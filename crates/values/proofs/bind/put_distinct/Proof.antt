@@ -2,10 +2,6 @@
 use borrow.Author.Needs.{needs}
 use Rattle.values.proofs.bind.put_distinct.Statement.{statement}
 use Rattle.values.proofs.bind.put_distinct.Tie as tie
-use Rattle.values.proofs.bind.put_distinct.Reads as reads
-use Rattle.values.proofs.bind.put_distinct.Lts as lts
-use Rattle.canon.proofs.bytes.copy.Reads as copy-reads
-use Rattle.canon.proofs.number.level_of.Reads as level-of-reads
 use native.Mathlib.Omega.{arith}
 use lib.ListN.{length-set}
 use Rattle.values.proofs.Apart as laws

@@ -2,10 +2,6 @@
 use borrow.Author.Needs.{needs}
 use Rattle.values.proofs.bind.put_merged.Statement.{statement}
 use Rattle.values.proofs.bind.put_merged.Tie as tie
-use Rattle.values.proofs.bind.put_merged.Reads as reads
-use Rattle.values.proofs.bind.put_merged.Lts as lts
-use Rattle.canon.proofs.colours.colour.Reads as colour-reads
-use Rattle.canon.proofs.number.put.Reads as put-reads
 use Rattle.values.proofs.Apart as laws
 
 colour-requires : tie.Need-colour-requires

@@ -2,8 +2,6 @@
 use borrow.Author.Needs.{needs}
 use Rattle.values.proofs.bind.refers.Statement.{statement}
 use Rattle.values.proofs.bind.refers.Tie as tie
-use Rattle.values.proofs.bind.refers.Reads as reads
-use Rattle.values.proofs.bind.refers.Lts as lts
 use Rattle.values.proofs.Bindings as laws
 
 returns : tie.Need-returns

@@ -2,10 +2,6 @@
 use borrow.Author.Needs.{needs}
 use Rattle.values.proofs.bind.stay_distinct.Statement.{statement}
 use Rattle.values.proofs.bind.stay_distinct.Tie as tie
-use Rattle.values.proofs.bind.stay_distinct.Reads as reads
-use Rattle.values.proofs.bind.stay_distinct.Lts as lts
-use Rattle.values.proofs.bind.unlike_others.Reads as unlike-others-reads
-use Rattle.values.proofs.bind.unreferred.Reads as unreferred-reads
 use native.Mathlib.Omega.{arith}
 use Rattle.values.proofs.Bindings as bindings
 use Rattle.values.proofs.Apart as apart

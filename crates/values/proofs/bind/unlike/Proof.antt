@@ -2,9 +2,6 @@
 use borrow.Author.Needs.{needs}
 use Rattle.values.proofs.bind.unlike.Statement.{statement}
 use Rattle.values.proofs.bind.unlike.Tie as tie
-use Rattle.values.proofs.bind.unlike.Reads as reads
-use Rattle.values.proofs.bind.unlike.Lts as lts
-use Rattle.values.proofs.bind.differ.Reads as differ-reads
 use Rattle.values.proofs.Apart as laws
 
 returns : tie.Need-returns

@@ -1,9 +1,6 @@
 -- The proof of `bind::unlike_others`: true only if object i of n unfolds to no other object's tree. By a loop in which n - k falls, and the laws of Apart.
 use Rattle.values.proofs.bind.unlike_others.Statement.{statement}
 use Rattle.values.proofs.bind.unlike_others.Tie as tie
-use Rattle.values.proofs.bind.unlike_others.Reads as reads
-use Rattle.values.proofs.bind.unlike_others.Lts as lts
-use Rattle.values.proofs.bind.unlike.Reads as unlike-reads
 use borrow.Author.Needs.{needs}
 use Prim.Native.Nat.{_≤_, _-_}
 use Rattle.values.specs.Binding.{UnlikeOthers}

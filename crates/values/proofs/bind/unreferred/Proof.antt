@@ -1,9 +1,6 @@
 -- The proof of `bind::unreferred`: whether none of the n objects of block b refers to object i. By a loop in which n - k falls, and the laws of Bindings.
 use Rattle.values.proofs.bind.unreferred.Statement.{statement}
 use Rattle.values.proofs.bind.unreferred.Tie as tie
-use Rattle.values.proofs.bind.unreferred.Reads as reads
-use Rattle.values.proofs.bind.unreferred.Lts as lts
-use Rattle.values.proofs.bind.refers.Reads as refers-reads
 use borrow.Author.Needs.{needs}
 use Prim.Native.Nat.{_≤_, _-_}
 use mathlib.Core.Path.{_≡_}

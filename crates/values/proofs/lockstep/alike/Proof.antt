@@ -2,8 +2,6 @@
 use borrow.Author.Needs.{needs}
 use Rattle.values.proofs.lockstep.alike.Statement.{statement}
 use Rattle.values.proofs.lockstep.alike.Tie as tie
-use Rattle.values.proofs.lockstep.alike.Reads as reads
-use Rattle.values.proofs.lockstep.alike.Lts as lts
 use Rattle.canon.proofs.Nodes as laws
 
 returns : tie.Need-returns

@@ -2,9 +2,6 @@
 use borrow.Author.Needs.{needs}
 use Rattle.values.proofs.lockstep.equal.Statement.{statement}
 use Rattle.values.proofs.lockstep.equal.Tie as tie
-use Rattle.values.proofs.lockstep.equal.Reads as reads
-use Rattle.values.proofs.lockstep.equal.Lts as lts
-use Rattle.values.proofs.lockstep.same_trees.Reads as same-trees-reads
 use Rattle.values.proofs.Blocks as blocks
 use Rattle.values.proofs.Steps as laws
 

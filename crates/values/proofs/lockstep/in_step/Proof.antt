@@ -1,9 +1,6 @@
 -- The proof of `lockstep::in_step`: the objects of the queue and their partners met. By a loop in which capacity - head falls, and the laws of Steps.
 use Rattle.values.proofs.lockstep.in_step.Statement.{statement}
 use Rattle.values.proofs.lockstep.in_step.Tie as tie
-use Rattle.values.proofs.lockstep.in_step.Reads as reads
-use Rattle.values.proofs.lockstep.in_step.Lts as lts
-use Rattle.values.proofs.lockstep.step_object.Reads as step-object-reads
 use borrow.Author.Needs.{needs}
 use native.Mathlib.Omega.{arith}
 use mathlib.Core.Path.{_≡_}

@@ -2,9 +2,6 @@
 use borrow.Author.Needs.{needs}
 use Rattle.values.proofs.lockstep.roots_in_step.Statement.{statement}
 use Rattle.values.proofs.lockstep.roots_in_step.Tie as tie
-use Rattle.values.proofs.lockstep.roots_in_step.Reads as reads
-use Rattle.values.proofs.lockstep.roots_in_step.Lts as lts
-use Rattle.values.proofs.lockstep.in_step.Reads as in-step-reads
 use Rattle.values.proofs.Steps as laws
 
 in-step-requires : tie.Need-in-step-requires

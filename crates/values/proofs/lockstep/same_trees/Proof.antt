@@ -2,10 +2,6 @@
 use borrow.Author.Needs.{needs}
 use Rattle.values.proofs.lockstep.same_trees.Statement.{statement}
 use Rattle.values.proofs.lockstep.same_trees.Tie as tie
-use Rattle.values.proofs.lockstep.same_trees.Reads as reads
-use Rattle.values.proofs.lockstep.same_trees.Lts as lts
-use Rattle.values.proofs.lockstep.alike.Reads as alike-reads
-use Rattle.values.proofs.lockstep.roots_in_step.Reads as roots-in-step-reads
 use Rattle.values.proofs.Blocks as blocks
 use Rattle.values.proofs.Steps as laws
 

@@ -2,8 +2,6 @@
 use borrow.Author.Needs.{needs}
 use Rattle.values.proofs.lockstep.step_code.Statement.{statement}
 use Rattle.values.proofs.lockstep.step_code.Tie as tie
-use Rattle.values.proofs.lockstep.step_code.Reads as reads
-use Rattle.values.proofs.lockstep.step_code.Lts as lts
 use Rattle.values.proofs.Pairs as laws
 
 returns : tie.Need-returns

@@ -1,9 +1,6 @@
 -- The proof of `lockstep::step_fields`: meets the fields of object x of block b and of its partner y of block c. By a loop in which n - k falls, and the laws of Partners.
 use Rattle.values.proofs.lockstep.step_fields.Statement.{statement}
 use Rattle.values.proofs.lockstep.step_fields.Tie as tie
-use Rattle.values.proofs.lockstep.step_fields.Reads as reads
-use Rattle.values.proofs.lockstep.step_fields.Lts as lts
-use Rattle.values.proofs.lockstep.step_code.Reads as step-code-reads
 use borrow.Author.Needs.{needs}
 use mathlib.Core.Path.{_≡_}
 use Prim.Native.Nat.{_≤_, _-_}

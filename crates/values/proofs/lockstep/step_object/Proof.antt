@@ -2,10 +2,6 @@
 use borrow.Author.Needs.{needs}
 use Rattle.values.proofs.lockstep.step_object.Statement.{statement}
 use Rattle.values.proofs.lockstep.step_object.Tie as tie
-use Rattle.values.proofs.lockstep.step_object.Reads as reads
-use Rattle.values.proofs.lockstep.step_object.Lts as lts
-use Rattle.values.proofs.lockstep.alike.Reads as alike-reads
-use Rattle.values.proofs.lockstep.step_fields.Reads as step-fields-reads
 use Rattle.canon.proofs.Nodes as nodes
 use Rattle.values.proofs.Blocks as blocks
 use Rattle.values.proofs.Partners as laws

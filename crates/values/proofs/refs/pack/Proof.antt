@@ -2,9 +2,6 @@
 use borrow.Author.Needs.{needs}
 use Rattle.values.proofs.refs.pack.Statement.{statement}
 use Rattle.values.proofs.refs.pack.Tie as tie
-use Rattle.values.proofs.refs.pack.Reads as reads
-use Rattle.values.proofs.refs.pack.Lts as lts
-use Rattle.values.proofs.refs.pack_other.Reads as pack-other-reads
 use Rattle.values.proofs.RefLaws as laws
 use native.Mathlib.Omega.{arith}
 

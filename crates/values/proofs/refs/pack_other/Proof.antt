@@ -2,8 +2,6 @@
 use borrow.Author.Needs.{needs}
 use Rattle.values.proofs.refs.pack_other.Statement.{statement}
 use Rattle.values.proofs.refs.pack_other.Tie as tie
-use Rattle.values.proofs.refs.pack_other.Reads as reads
-use Rattle.values.proofs.refs.pack_other.Lts as lts
 use Rattle.values.proofs.RefLaws as laws
 
 returns : tie.Need-returns

@@ -2,8 +2,6 @@
 use borrow.Author.Needs.{needs}
 use Rattle.values.proofs.refs.ref_of.Statement.{statement}
 use Rattle.values.proofs.refs.ref_of.Tie as tie
-use Rattle.values.proofs.refs.ref_of.Reads as reads
-use Rattle.values.proofs.refs.ref_of.Lts as lts
 use Rattle.values.proofs.RefLaws as laws
 
 returns : tie.Need-returns

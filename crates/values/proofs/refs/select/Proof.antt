@@ -2,9 +2,6 @@
 use borrow.Author.Needs.{needs}
 use Rattle.values.proofs.refs.select.Statement.{statement}
 use Rattle.values.proofs.refs.select.Tie as tie
-use Rattle.values.proofs.refs.select.Reads as reads
-use Rattle.values.proofs.refs.select.Lts as lts
-use Rattle.values.proofs.refs.ref_of.Reads as ref-of-reads
 use native.Mathlib.Omega.{arith}
 use Prim.Native.Nat.{_+_, _*_}
 use Rattle.values.proofs.Selecting as laws

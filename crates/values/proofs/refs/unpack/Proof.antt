@@ -2,8 +2,6 @@
 use borrow.Author.Needs.{needs}
 use Rattle.values.proofs.refs.unpack.Statement.{statement}
 use Rattle.values.proofs.refs.unpack.Tie as tie
-use Rattle.values.proofs.refs.unpack.Reads as reads
-use Rattle.values.proofs.refs.unpack.Lts as lts
 use Rattle.values.proofs.RefLaws as laws
 
 returns : tie.Need-returns

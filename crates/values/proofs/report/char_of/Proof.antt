@@ -2,8 +2,6 @@
 use borrow.Author.Needs.{needs}
 use Rattle.values.proofs.report.char_of.Statement.{statement}
 use Rattle.values.proofs.report.char_of.Tie as tie
-use Rattle.values.proofs.report.char_of.Reads as reads
-use Rattle.values.proofs.report.char_of.Lts as lts
 use Rattle.values.proofs.Reports as laws
 
 returns : tie.Need-returns

@@ -2,8 +2,6 @@
 use borrow.Author.Needs.{needs}
 use Rattle.values.proofs.report.line_byte.Statement.{statement}
 use Rattle.values.proofs.report.line_byte.Tie as tie
-use Rattle.values.proofs.report.line_byte.Reads as reads
-use Rattle.values.proofs.report.line_byte.Lts as lts
 use Rattle.values.proofs.Reports as laws
 
 returns : tie.Need-returns

@@ -2,9 +2,6 @@
 use borrow.Author.Needs.{needs}
 use Rattle.values.proofs.report.put_byte.Statement.{statement}
 use Rattle.values.proofs.report.put_byte.Tie as tie
-use Rattle.values.proofs.report.put_byte.Reads as reads
-use Rattle.values.proofs.report.put_byte.Lts as lts
-use Rattle.values.proofs.report.char_of.Reads as char-of-reads
 use native.Mathlib.Omega.{arith}
 use lib.ListN.{length-set}
 use Rattle.values.proofs.Reports as laws

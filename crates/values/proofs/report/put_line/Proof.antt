@@ -1,10 +1,6 @@
 -- The proof of `report::put_line`: the line of object j, at a place of `out`. By a loop in which n - k falls, and the laws of Reports.
 use Rattle.values.proofs.report.put_line.Statement.{statement}
 use Rattle.values.proofs.report.put_line.Tie as tie
-use Rattle.values.proofs.report.put_line.Reads as reads
-use Rattle.values.proofs.report.put_line.Lts as lts
-use Rattle.values.proofs.report.line_byte.Reads as line-byte-reads
-use Rattle.values.proofs.report.put_byte.Reads as put-byte-reads
 use borrow.Author.Needs.{needs}
 use mathlib.Core.Path.{_≡_}
 use Prim.Native.Nat.{_≤_, _-_, _+_}

@@ -1,9 +1,6 @@
 -- The proof of `report::put_lines`: the lines of the value in block b. By a loop in which n - j falls, and the laws of Reports.
 use Rattle.values.proofs.report.put_lines.Statement.{statement}
 use Rattle.values.proofs.report.put_lines.Tie as tie
-use Rattle.values.proofs.report.put_lines.Reads as reads
-use Rattle.values.proofs.report.put_lines.Lts as lts
-use Rattle.values.proofs.report.put_line.Reads as put-line-reads
 use borrow.Author.Needs.{needs}
 use mathlib.Core.Path.{_≡_, refl}
 use Prim.Native.Nat.{_≤_, _-_}

@@ -2,10 +2,6 @@
 use borrow.Author.Needs.{needs}
 use Rattle.values.proofs.report.report.Statement.{statement}
 use Rattle.values.proofs.report.report.Tie as tie
-use Rattle.values.proofs.report.report.Reads as reads
-use Rattle.values.proofs.report.report.Lts as lts
-use Rattle.values.proofs.report.put_lines.Reads as put-lines-reads
-use Rattle.values.proofs.value.move_out.Reads as move-out-reads
 use native.Mathlib.Omega.{arith}
 use mathlib.Core.Path.{refl}
 use lib.ListN.{length-set}

@@ -2,9 +2,6 @@
 use borrow.Author.Needs.{needs}
 use Rattle.values.proofs.value.bring.Statement.{statement}
 use Rattle.values.proofs.value.bring.Tie as tie
-use Rattle.values.proofs.value.bring.Reads as reads
-use Rattle.values.proofs.value.bring.Lts as lts
-use Rattle.values.proofs.value.copy_block.Reads as copy-block-reads
 use Rattle.values.proofs.Blocks as blocks
 use Rattle.values.proofs.Copies as copies
 use Rattle.values.proofs.Closing as laws

@@ -2,10 +2,6 @@
 use borrow.Author.Needs.{needs}
 use Rattle.values.proofs.value.close.Statement.{statement}
 use Rattle.values.proofs.value.close.Tie as tie
-use Rattle.values.proofs.value.close.Reads as reads
-use Rattle.values.proofs.value.close.Lts as lts
-use Rattle.values.proofs.bind.close_bound.Reads as close-bound-reads
-use Rattle.values.proofs.value.bring.Reads as bring-reads
 use native.Mathlib.Omega.{arith}
 use Rattle.values.proofs.Blocks as blocks
 use Rattle.values.proofs.Closing as laws

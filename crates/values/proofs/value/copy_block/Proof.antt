@@ -1,8 +1,6 @@
 -- The proof of `value::copy_block`: the objects of block b, to block `dst`, which may be b. By a loop in which p - q falls, and the laws of Copies.
 use Rattle.values.proofs.value.copy_block.Statement.{statement}
 use Rattle.values.proofs.value.copy_block.Tie as tie
-use Rattle.values.proofs.value.copy_block.Reads as reads
-use Rattle.values.proofs.value.copy_block.Lts as lts
 use borrow.Author.Needs.{needs}
 use mathlib.Core.Path.{_≡_, refl}
 use native.Mathlib.Omega.{arith}

@@ -2,10 +2,6 @@
 use borrow.Author.Needs.{needs}
 use Rattle.values.proofs.value.move_out.Statement.{statement}
 use Rattle.values.proofs.value.move_out.Tie as tie
-use Rattle.values.proofs.value.move_out.Reads as reads
-use Rattle.values.proofs.value.move_out.Lts as lts
-use Rattle.canon.proofs.number.put.Reads as put-reads
-use Rattle.values.proofs.value.take_up.Reads as take-up-reads
 use Rattle.values.proofs.Blocks as laws
 
 put-requires : tie.Need-put-requires

@@ -2,10 +2,6 @@
 use borrow.Author.Needs.{needs}
 use Rattle.values.proofs.value.take_up.Statement.{statement}
 use Rattle.values.proofs.value.take_up.Tie as tie
-use Rattle.values.proofs.value.take_up.Reads as reads
-use Rattle.values.proofs.value.take_up.Lts as lts
-use Rattle.canon.proofs.bytes.count_up.Reads as count-up-reads
-use Rattle.canon.proofs.bytes.copy.Reads as copy-reads
 use native.Mathlib.Omega.{arith}
 use Rattle.canon.specs.Layout.{countIn}
 use Rattle.values.proofs.Blocks as laws
