@@ -1,6 +1,6 @@
 // A program's class table in bytes (docs/TABLE.md) and what is asked of it: class fit, fields, methods and their parts.
 // Offered: `ClassTable`; the figures of `places`; of `chain` `fit`, `field_total` and `field_type`; of `methods` `method_with` and a method's parts;
-// `shape::shape_at` with `Shape`; `build::place_table`; `overrides::overrides`.
+// of `shape` `shape_at` with `Shape`, `is_field` and `byte_at`; `build::place_table`; `overrides::overrides`.
 // Not here: reading a text into it, types of expressions, runs.
 pub mod places; // the figures of the layout
 pub mod chain; // class fit and the fields of a class

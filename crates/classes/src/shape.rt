@@ -24,7 +24,7 @@ pub enum Shape {
 }
 
 // The byte at a place, 0 past the end.
-pub(crate) fn byte_at(t: &[u8; SIZE], at: usize) -> u8
+pub fn byte_at(t: &[u8; SIZE], at: usize) -> u8
     ensures { λ r. ⌜ r ≡ byteIn (now (t .entry)) at ⌝ }
 {
     if at < SIZE {
