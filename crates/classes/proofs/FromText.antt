@@ -1,36 +1,33 @@
 -- From packed lines that are frames in order (refusals 1 to 3 passed) to what the table's builder needs of them.
-use Prim.Native.Nat.{ℕ, zero, suc, _+_, _-_, _<_, _≤_, zero-le}
-use native.Mathlib.Nat.{not-suc-le-zero}
+use Prim.Native.Nat.{ℕ, zero, suc, _+_, _-_, _<_, _≤_}
 use native.Mathlib.Omega.{arith}
 use mathlib.Core.Path.{_≡_, refl, sym, ap, ap₂, _∙_, subst}
-use mathlib.Core.Bool.{Bool, true, false, _&&_, not}
+use mathlib.Core.Bool.{Bool, true, false}
 use mathlib.Core.List.{List, [], _∷_, _++_, map}
 use mathlib.Core.Option.{Option, none, some, Option·none-ne-some}
-use lib.Dec.{eqb, leb, ltb}
+use lib.Dec.{leb, ltb}
 use lib.ListN.{length, getD, getElem?, List·getD-append, List·getD-eq-default}
 use lib.Seq.{getD-append-add}
 use borrow.Author.Tests.{leb-true, ltb-true, ltb-false}
-use Rattle.cofj.specs.Limits.{classCount, methodCount, paramCount, lineSize, nestingLimit}
-use Rattle.cofj.specs.Partial.{_>>=_, guard}
-use Rattle.cofj.specs.Syntax.{Expr, Ty, Class, Method, Table}
-use Rattle.cofj.specs.Classes.{parentOf, parentOr0}
-use Rattle.cofj.specs.Frames.{Got, got, upTo, type, types, expr, ClassFrame, TextFrame, classFrame, methodFrame, mainFrame, frame, frames}
-use Rattle.cofj.specs.Tables.{Raw, raw, inFront, ordered, few, numbered, bodies, exprKnown, classesGood, hasName, methodsGood, table, overridesGood}
+use Rattle.cofj.specs.Limits.{classCount, methodCount, paramCount, lineSize}
+use Rattle.cofj.specs.Partial.{_>>=_}
+use Rattle.cofj.specs.Syntax.{Method, Table}
+use Rattle.cofj.specs.Frames.{Got, got, upTo, type, ClassFrame, TextFrame, classFrame, methodFrame, mainFrame, frame, frames}
+use Rattle.cofj.specs.Tables.{Raw, raw, inFront, ordered, few, bodies, methodsGood, table, overridesGood}
 use Rattle.cofj.specs.Writing.{codeOf, typesBytes, methodLine, methodLines}
 use Rattle.cofj.specs.WellFormed.{AllMethods}
 use Rattle.cofj.proofs.Readable.{parents-in}
 use Rattle.cofj.proofs.Passed.{methods-ruled, tableOf, table-ruled, few-inv}
-use Rattle.cofj.proofs.Chain.{ParentsSmaller}
 use Rattle.cofj.proofs.Partial.{guard-bind, taken}
-use Rattle.cofj.proofs.FrameRound.{pair, taken-as, given, same, type-forth, types-forth, expr-forth, lineOf, frame-back}
-use Rattle.lineform.specs.Packed.{packed, unpack, Sized, none as no-lines, also as and-line, Packed}
+use Rattle.cofj.proofs.FrameRound.{pair, taken-as, given, type-forth, lineOf, frame-back}
+use Rattle.lineform.specs.Packed.{packed, unpack, Sized, also as and-line}
 use Rattle.lineform.proofs.PackedLaws.{unpack-packed}
 use Rattle.lineform.specs.Answers.{rightAt, rightsOf, Rights}
 use Rattle.classes.specs.Layout.{rightPlace, layout}
 use Rattle.classes.specs.Building.{tablePlaced}
 use Rattle.classes.specs.Overriding.{overridesOf}
 use Rattle.classes.specs.Placing.{Placed}
-use Rattle.classes.specs.Made.{Lined, Zeros, Makes, Built, Overrides}
+use Rattle.classes.specs.Made.{Lined, Makes, Built, Overrides}
 use Rattle.classes.proofs.Lists.{index-below}
 use Rattle.classes.proofs.MethodLines.{Framed}
 use Rattle.classes.proofs.TableLines.{rawLines, Short, length-bodies, table-lines}
@@ -91,33 +88,35 @@ frames-read (l ∷ ls) fs e (and-line one short z) b =
 abbrev pub ReadMethod : Method → Type 0
 ReadMethod d = IsRead (methodFrame d)
 
-pub record InOrder (ls : List (List ℕ)) (r : Raw) : Type 0 where
-  pub lines : rawLines r ≡ ls
+pub record InOrder (fs : List TextFrame) (r : Raw) : Type 0 where
+  pub lines : rawLines r ≡ map lineOf fs
   pub methods : AllMethods ReadMethod (r .methods)
   pub main : IsRead (mainFrame (r .main))
+  pub rights : rightsOf fs ≡ map rightAt (r .methods)
 
-front-order : (f : TextFrame) (ls : List (List ℕ)) (r q : Raw) → inFront f r ≡ some q → IsRead f → InOrder ls r → InOrder (lineOf f ∷ ls) q
+front-order : (f : TextFrame) (fs : List TextFrame) (r q : Raw) → inFront f r ≡ some q → IsRead f → InOrder fs r → InOrder (f ∷ fs) q
 unfolding methodLines
-front-order (classFrame c) ls r q e h o =
-    given (InOrder (lineOf (classFrame c) ∷ ls)) _ q e (record { lines = ap (λ (x : List (List ℕ)). lineOf (classFrame c) ∷ x) (o .lines); methods = o .methods; main = o .main })
-front-order (methodFrame m) ls r q e h o = go (r .classes) refl e
+front-order (classFrame c) fs r q e h o =
+    given (InOrder (classFrame c ∷ fs)) _ q e (record { lines = ap (λ (x : List (List ℕ)). lineOf (classFrame c) ∷ x) (o .lines); methods = o .methods; main = o .main; rights = o .rights })
+front-order (methodFrame m) fs r q e h o = go (r .classes) refl e
   where
-    go : (cs : List ClassFrame) → r .classes ≡ cs → _≡_ {A = Option Raw} (elim cs [ [] ↦ some (raw [] (m ∷ r .methods) (r .main)) | c ∷ ds ↦ none ]) (some q) → InOrder (methodLine m ∷ ls) q
+    go : (cs : List ClassFrame) → r .classes ≡ cs → _≡_ {A = Option Raw} (elim cs [ [] ↦ some (raw [] (m ∷ r .methods) (r .main)) | c ∷ ds ↦ none ]) (some q) → InOrder (methodFrame m ∷ fs) q
     go [] p z =
-        given (InOrder (methodLine m ∷ ls)) _ q z (record {
+        given (InOrder (methodFrame m ∷ fs)) _ q z (record {
           lines = ap (λ (x : List (List ℕ)). methodLine m ∷ x) (ap (λ (cs : List ClassFrame). rawLines (raw cs (r .methods) (r .main))) (sym p) ∙ o .lines);
           methods = (h, o .methods);
           main = o .main;
+          rights = ap (λ (x : List ℕ). rightAt m ∷ x) (o .rights);
         })
     go (c ∷ ds) p z = absurd (Option·none-ne-some q z)
-front-order (mainFrame x) ls r q e h o = absurd (Option·none-ne-some q e)
+front-order (mainFrame x) fs r q e h o = absurd (Option·none-ne-some q e)
 
-in-order : (fs : List TextFrame) (r : Raw) → ordered fs ≡ some r → AllFrames IsRead fs → InOrder (map lineOf fs) r
+in-order : (fs : List TextFrame) (r : Raw) → ordered fs ≡ some r → AllFrames IsRead fs → InOrder fs r
 unfolding ordered methodLines
 in-order [] r e a = absurd (Option·none-ne-some r e)
-in-order (classFrame c ∷ fs) r e a = taken (ordered fs) r e λ q p e1. front-order (classFrame c) (map lineOf fs) q r e1 (a .0) (in-order fs q p (a .1))
-in-order (methodFrame m ∷ fs) r e a = taken (ordered fs) r e λ q p e1. front-order (methodFrame m) (map lineOf fs) q r e1 (a .0) (in-order fs q p (a .1))
-in-order (mainFrame x ∷ []) r e a = given (InOrder (lineOf (mainFrame x) ∷ [])) _ r e (record { lines = refl; methods = tt; main = a .0 })
+in-order (classFrame c ∷ fs) r e a = taken (ordered fs) r e λ q p e1. front-order (classFrame c) fs q r e1 (a .0) (in-order fs q p (a .1))
+in-order (methodFrame m ∷ fs) r e a = taken (ordered fs) r e λ q p e1. front-order (methodFrame m) fs q r e1 (a .0) (in-order fs q p (a .1))
+in-order (mainFrame x ∷ []) r e a = given (InOrder (mainFrame x ∷ [])) _ r e (record { lines = refl; methods = tt; main = a .0; rights = refl })
 in-order (mainFrame x ∷ (f ∷ fs)) r e a = absurd (Option·none-ne-some r e)
 
 framed : (ds : List Method) → AllMethods ReadMethod ds → AllMethods Framed ds
@@ -138,34 +137,15 @@ pub record Behind (S R : List ℕ) (r : Raw) : Type 0 where
   pub methods : AllMethods ReadMethod (r .methods)
   pub rights : (i : ℕ) (d : Method) → getElem? (r .methods) i ≡ some d → getD R i 0 ≡ rightPlace d
 
--- the places of right expressions, in order
-front-rights : (f : TextFrame) (r q : Raw) (xs : List ℕ) → inFront f r ≡ some q → xs ≡ map rightAt (r .methods) → rightsOf (f ∷ []) ++ xs ≡ map rightAt (q .methods)
-front-rights (classFrame c) r q xs e h = given (λ (x : Raw). xs ≡ map rightAt (x .methods)) _ q e h
-front-rights (methodFrame m) r q xs e h = go (r .classes) e
-  where
-    go : (cs : List ClassFrame) → _≡_ {A = Option Raw} (elim cs [ [] ↦ some (raw [] (m ∷ r .methods) (r .main)) | c ∷ ds ↦ none ]) (some q) → rightAt m ∷ xs ≡ map rightAt (q .methods)
-    go [] z = given (λ (x : Raw). rightAt m ∷ xs ≡ map rightAt (x .methods)) _ q z (ap (λ (ys : List ℕ). rightAt m ∷ ys) h)
-    go (c ∷ ds) z = absurd (Option·none-ne-some q z)
-front-rights (mainFrame x) r q xs e h = absurd (Option·none-ne-some q e)
-
-ordered-rights : (fs : List TextFrame) (r : Raw) → ordered fs ≡ some r → rightsOf fs ≡ map rightAt (r .methods)
-unfolding ordered
-ordered-rights [] r e = absurd (Option·none-ne-some r e)
-ordered-rights (classFrame c ∷ fs) r e = taken (ordered fs) r e λ q p e1. front-rights (classFrame c) q r (rightsOf fs) e1 (ordered-rights fs q p)
-ordered-rights (methodFrame m ∷ fs) r e = taken (ordered fs) r e λ q p e1. front-rights (methodFrame m) q r (rightsOf fs) e1 (ordered-rights fs q p)
-ordered-rights (mainFrame x ∷ []) r e = given (λ (q : Raw). [] ≡ map rightAt (q .methods)) _ r e refl
-ordered-rights (mainFrame x ∷ (f ∷ fs)) r e = absurd (Option·none-ne-some r e)
-
 nth-right : (ms : List Method) (i : ℕ) (d : Method) → getElem? ms i ≡ some d → (i < length (map rightAt ms)) × (getD (map rightAt ms) i 0 ≡ rightPlace d)
 unfolding rightPlace
 nth-right [] i d e = absurd (Option·none-ne-some d e)
 nth-right (m ∷ ms) zero d e = let q : m ≡ d = cc in (omega arith, ap rightAt q)
 nth-right (m ∷ ms) (suc i) d e = let h = nth-right ms i d e in (let l = h .0 in omega arith, h .1)
 
-rights-behind : (R : List ℕ) (fs : List TextFrame) (r : Raw) → Rights R fs → ordered fs ≡ some r → length (r .methods) ≤ methodCount
+rights-behind : (R : List ℕ) (fs : List TextFrame) (r : Raw) → Rights R fs → rightsOf fs ≡ map rightAt (r .methods) → length (r .methods) ≤ methodCount
     → (i : ℕ) (d : Method) → getElem? (r .methods) i ≡ some d → getD R i 0 ≡ rightPlace d
-rights-behind R fs r t e few i d q =
-    let o = ordered-rights fs r e in
+rights-behind R fs r t o few i d q =
     let h = nth-right (r .methods) i d q in
     let k = index-below (r .methods) i d q in
     t .at i (subst (λ (xs : List ℕ). i < length xs) (sym o) (h .0)) (omega arith) ∙ ap (λ (xs : List ℕ). getD xs i 0) o ∙ h .1
@@ -187,7 +167,7 @@ behind S R r h =
         main = i .main .short;
       };
       methods = i .methods;
-      rights = rights-behind R fs r (h .rights) (x .0) (x .2);
+      rights = rights-behind R fs r (h .rights) (i .rights) (x .2);
     }
 
 -- ---- the table of such lines: its bytes, and overriding

@@ -93,16 +93,16 @@ module _ (t : Table) (at : ℕ) where
   new-parts c es st = stands-after (layout t) at (newSign ∷ c ∷ count es ∷ []) (codesOf es) st
 
 -- ---- back: the expression at `at` that has a shape, and the place after its first bytes
-abbrev pub Shaped : ℕ → Expr → Shape → Type 0
-Shaped at e (shape.This next) = (e ≡ this) × (next ≡ at + 1)
-Shaped at e (shape.Result next) = (e ≡ res) × (next ≡ at + 1)
-Shaped at e (shape.Parameter k next) = (e ≡ param k) × (next ≡ at + 2)
-Shaped at e (shape.Field f next) = (x : Expr) × (e ≡ field f x) × (next ≡ at + 2)
-Shaped at e (shape.Call m n next) = (x : Expr) × (xs : Exprs) × (e ≡ call m x xs) × (count xs ≡ n) × (next ≡ at + 3)
-Shaped at e (shape.New c n next) = (xs : Exprs) × (e ≡ new c xs) × (count xs ≡ n) × (next ≡ at + 3)
-Shaped at e shape.Nothing = ⊥
+abbrev pub HasShape : ℕ → Expr → Shape → Type 0
+HasShape at e (shape.This next) = (e ≡ this) × (next ≡ at + 1)
+HasShape at e (shape.Result next) = (e ≡ res) × (next ≡ at + 1)
+HasShape at e (shape.Parameter k next) = (e ≡ param k) × (next ≡ at + 2)
+HasShape at e (shape.Field f next) = (x : Expr) × (e ≡ field f x) × (next ≡ at + 2)
+HasShape at e (shape.Call m n next) = (x : Expr) × (xs : Exprs) × (e ≡ call m x xs) × (count xs ≡ n) × (next ≡ at + 3)
+HasShape at e (shape.New c n next) = (xs : Exprs) × (e ≡ new c xs) × (count xs ≡ n) × (next ≡ at + 3)
+HasShape at e shape.Nothing = ⊥
 
-shape-own : (e : Expr) (at : ℕ) → Shaped at e (shapeFor e at)
+shape-own : (e : Expr) (at : ℕ) → HasShape at e (shapeFor e at)
 shape-own this at = (refl, refl)
 shape-own res at = (refl, refl)
 shape-own (param k) at = (refl, refl)
@@ -110,5 +110,5 @@ shape-own (field f e) at = (e, refl, refl)
 shape-own (call m e es) at = (e, es, refl, refl, refl)
 shape-own (new c es) at = (es, refl, refl, refl)
 
-pub shape-back : (e : Expr) (at : ℕ) (s : Shape) → shapeFor e at ≡ s → Shaped at e s
-shape-back e at s q = subst (Shaped at e) q (shape-own e at)
+pub shape-back : (e : Expr) (at : ℕ) (s : Shape) → shapeFor e at ≡ s → HasShape at e s
+shape-back e at s q = subst (HasShape at e) q (shape-own e at)

@@ -13,7 +13,7 @@ use Rattle.cofj.specs.Running.{Outcome, orStuck, eval}
 use Rattle.classes.specs.declared.shape.Shape.{Shape}
 use Rattle.classes.specs.declared.shape.Shape.the-variants as shape
 use Rattle.classes.specs.Shapes.{shapeAt}
-use Rattle.classes.proofs.ShapesOn.{Shaped}
+use Rattle.classes.proofs.ShapesOn.{HasShape}
 use Rattle.evaluator.specs.declared.Stop.the-variants.{Stuck}
 use Rattle.evaluator.specs.declared.Out.{Out}
 use Rattle.evaluator.specs.declared.Out.the-variants.{Halt}
@@ -49,7 +49,7 @@ module _ (T W : List ℕ) (f : Frame) (tr : List ℕ) (top at left objects d sp 
   Says W′ o t e = Shows W′ o (at + length (codeOf e)) (evalIn objects d t (frameIn W f) (traceIn W tr top) e fuel)
 
   module _ (s : Shape) (es : s ≡ shapeAt T at) where
-    stands-as : (t : Table) (e : Expr) (q : Shape) → Reads T left at t e → s ≡ q → Shaped at e q
+    stands-as : (t : Table) (e : Expr) (q : Shape) → Reads T left at t e → s ≡ q → HasShape at e q
     stands-as t e q r z = shape-read T left at t e r q (sym z ∙ es)
 
     pub eval-nothing : s ≡ shape.Nothing → Evaluates T W f tr top at left objects d sp fuel W (Halt Stuck fuel)
@@ -94,7 +94,7 @@ module _ (T W : List ℕ) (f : Frame) (tr : List ℕ) (top at left objects d sp 
       unfolding codeOf
       eval-at-field k z x = record { kept = x .kept; older = x .older; is = λ t e r. go t e r (stands-as t e (shape.Field k next) r z) }
         where
-          go : (t : Table) (e : Expr) → Reads T left at t e → Shaped at e (shape.Field k next) → Says W′ o t e
+          go : (t : Table) (e : Expr) → Reads T left at t e → HasShape at e (shape.Field k next) → Says W′ o t e
           go t e r w =
               let i = w .0 in
               let r′ = field-reads T left at t nz k i (subst (Reads T left at t) (w .1) r) in
@@ -106,7 +106,7 @@ module _ (T W : List ℕ) (f : Frame) (tr : List ℕ) (top at left objects d sp 
       pub eval-at-call : (m n : ℕ) → s ≡ shape.Call m n next → Calls T W f tr top next (left - 1) objects d sp fuel m n W′ o → Evaluates T W f tr top at left objects d sp fuel W′ o
       eval-at-call m n z x = record { kept = x .kept; older = x .older; is = λ t e r. go t e r (stands-as t e (shape.Call m n next) r z) }
         where
-          go : (t : Table) (e : Expr) → Reads T left at t e → Shaped at e (shape.Call m n next) → Says W′ o t e
+          go : (t : Table) (e : Expr) → Reads T left at t e → HasShape at e (shape.Call m n next) → Says W′ o t e
           go t e r w =
               let i = w .0 in
               let xs = w .1 in
@@ -122,7 +122,7 @@ module _ (T W : List ℕ) (f : Frame) (tr : List ℕ) (top at left objects d sp 
       unfolding codeOf
       eval-at-new c n z x = record { kept = x .kept; older = x .older; is = λ t e r. go t e r (stands-as t e (shape.New c n next) r z) }
         where
-          go : (t : Table) (e : Expr) → Reads T left at t e → Shaped at e (shape.New c n next) → Says W′ o t e
+          go : (t : Table) (e : Expr) → Reads T left at t e → HasShape at e (shape.New c n next) → Says W′ o t e
           go t e r w =
               let xs = w .0 in
               let r′ = subst (Reads T left at t) (w .1) r in

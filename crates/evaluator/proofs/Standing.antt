@@ -18,11 +18,11 @@ use Rattle.classes.specs.Layout.{layout, Stands}
 use Rattle.classes.proofs.Zones.{stands-front, stands-after}
 use Rattle.classes.specs.declared.shape.Shape.{Shape}
 use Rattle.classes.specs.Shapes.{shapeAt}
-use Rattle.classes.proofs.ShapesOn.{shape-on, field-part, call-parts, new-parts, Shaped, shape-back}
+use Rattle.classes.proofs.ShapesOn.{shape-on, field-part, call-parts, new-parts, HasShape, shape-back}
 use Rattle.evaluator.specs.Evaluation.{Reads, ReadsAll}
 
 -- which expression it is
-pub shape-read : (T : List ℕ) (left at : ℕ) (t : Table) (e : Expr) → Reads T left at t e → (s : Shape) → s ≡ shapeAt T at → Shaped at e s
+pub shape-read : (T : List ℕ) (left at : ℕ) (t : Table) (e : Expr) → Reads T left at t e → (s : Shape) → s ≡ shapeAt T at → HasShape at e s
 shape-read T left at t e r s q = shape-back e at s (sym (q ∙ ap (λ (B : List ℕ). shapeAt B at) (r .table .bytes) ∙ shape-on t e at (r .stands)))
 
 -- ---- nesting
