@@ -43,8 +43,11 @@ pub const FIRST_MARK: u8 = UNDETERMINED + 1;
 // the bytes of as many objects as a byte can number: room for all that a code can refer to
 pub const WIDE: usize = OBJECT * 256;
 
-// the last block, above all that evaluation uses: where parts are brought together
-pub const SPARE: u16 = 279;
+// how many blocks the work buffer has room for
+const BLOCKS: u16 = 280;
+
+// the last of them, above all that evaluation uses: where parts are brought together
+pub const SPARE: u16 = BLOCKS - 1;
 
 // what the second byte of a number is worth
 pub const BYTE: u32 = 256;

@@ -1,4 +1,5 @@
 // The order in which the colours are first met, depth first, and a table of their places in it. Not here: the objects renumbered in it.
+use crate::layout::CODES;
 use crate::layout::FIRST_LEAF;
 use crate::layout::HEAD;
 use crate::layout::OBJECT;
@@ -49,7 +50,7 @@ pub(crate) fn fields(
     requires { ⌜ Room (now nodes) (now cs) (now order) (now met) × Listed (now met) (take m (now order)) × (length (walkFields (now nodes) (now cs) k c f (take m (now order))) ≤ 255) ⌝ }
     ensures { λ t. ⌜ (take t (now (order .exit)) ≡ walkFields (now (nodes .entry)) (now (cs .entry)) k c f (take m (now (order .entry)))) × Listed (now (met .exit)) (take t (now (order .exit))) ⌝ }
 {
-    if 4 <= f {
+    if CODES <= f {
         return m;
     }
     let at = OBJECT * (c as usize);

@@ -16,6 +16,7 @@ use canon::layout::BYTE;
 use canon::layout::CAPACITY;
 use canon::layout::COUNT;
 use canon::layout::FIRST_MARK;
+use canon::layout::HEAD;
 use canon::layout::OBJECT;
 use canon::layout::SPARE;
 use canon::layout::THREE_BYTES;
@@ -48,7 +49,7 @@ pub(crate) fn import_fieldless(work: &mut [u8], b: u16, i: u8, host: u16) -> u8
 {
     let p = BLOCK * (b as usize) + OBJECT * (i as usize);
     let c = work[p];
-    let w = four_at(work, p + 2);
+    let w = four_at(work, p + HEAD);
     enter(work, host, c, 0, w)
 }
 

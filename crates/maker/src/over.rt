@@ -7,6 +7,7 @@ use canon::layout::BLOCK;
 use canon::layout::BYTE;
 use canon::layout::COUNT;
 use canon::layout::FIRST_MARK;
+use canon::layout::HEAD;
 use canon::layout::LEVEL;
 use canon::layout::OBJECT;
 use canon::layout::REACH;
@@ -64,7 +65,7 @@ pub(crate) fn is_object(work: &[u8], p: usize, c: u8, n: u8, w: u32) -> bool
     requires { ⌜ p + objectSize ≤ length (now work) ⌝ }
     ensures { λ r. ⌜ r ≡ eqNats (part (now (work .entry)) p objectSize) (objectOf c n w) ⌝ }
 {
-    if four_at(work, p + 2) != w {
+    if four_at(work, p + HEAD) != w {
         return false;
     }
     if work[p] != c {

@@ -6,8 +6,10 @@ use crate::over::find;
 use crate::seek::seek;
 use canon::layout::BLOCK;
 use canon::layout::BYTE;
+use canon::layout::CODES;
 use canon::layout::COUNT;
 use canon::layout::FIRST_LEAF;
+use canon::layout::HEAD;
 use canon::layout::OBJECT;
 use canon::layout::THREE_BYTES;
 ghost use mathlib.Core.Path.{_≡_};
@@ -50,9 +52,9 @@ pub(crate) fn leads_new(work: &[u8], src: u16, x: u8, fresh: &[u8]) -> bool
     requires { ⌜ Inside (now work) src x × (length (now fresh) ≡ capacity) ⌝ }
     ensures { λ r. ⌜ LeadsIs (now (work .entry)) src x (now (fresh .entry)) r ⌝ }
 {
-    let p = BLOCK * (src as usize) + OBJECT * (x as usize) + 2;
+    let p = BLOCK * (src as usize) + OBJECT * (x as usize) + HEAD;
     let mut k: u8 = 0;
-    while k < 4 {
+    while k < CODES {
         if is_new(work[p + k as usize], fresh) {
             return true;
         }
@@ -81,9 +83,9 @@ pub(crate) fn turn_fields(work: &[u8], src: u16, x: u8, told: &[u8]) -> Turned
     requires { ⌜ Inside (now work) src x × (length (now told) ≡ capacity) ⌝ }
     ensures { λ o. ⌜ TurnedIs (now (work .entry)) src x (now (told .entry)) o ⌝ }
 {
-    let p = BLOCK * (src as usize) + OBJECT * (x as usize) + 2;
+    let p = BLOCK * (src as usize) + OBJECT * (x as usize) + HEAD;
     let mut w: u32 = 0;
-    let mut k: u8 = 4;
+    let mut k = CODES;
     while 0 < k {
         k -= 1;
         let r = turn(told, work[p + k as usize]);

@@ -1,4 +1,4 @@
--- The objects of a block with a mark bound, in bytes: one law for each return of `bind_code`, `bind_object`, `bind_objects` and `refers`.
+-- The objects of a block with a mark bound, in bytes: one law for each return of `bind_code`, `bind_object`, `bind_objects`, `refers` and `unreferred`.
 -- Not here: what it does to trees (BoundTrees), which of them are equal then (Apart).
 use Prim.Native.Nat.{ℕ, zero, suc, _+_, _-_, _*_, _<_, _≤_}
 use native.Mathlib.Omega.{arith}

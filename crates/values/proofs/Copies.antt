@@ -12,7 +12,7 @@ use borrow.Author.Tests.{ne-eqb}
 use Rattle.cofj.specs.Values.{Ref, obj, mark, undet, Node, node, graph, rename, refsAt, nodeAt, canon, bind}
 use Rattle.cofj.specs.Unfolding.{Whole}
 use Rattle.cofj.proofs.Operations.{boundNodes}
-use Rattle.canon.specs.Figures.{objectSize, headSize, codeCount, firstLeaf, firstMark, capacity, countAt, levelAt, reachAt, blockSize}
+use Rattle.canon.specs.Figures.{objectSize, headSize, codeCount, firstMark, capacity, objectsSize, countAt, levelAt, reachAt, blockSize}
 use Rattle.canon.specs.Layout.{codeOf, nodeIn, nodesIn, Packed, Distinct, Block, Inside, objectsIn, countIn, levelIn, reachIn, ended}
 use Rattle.canon.specs.Tables.{Carried}
 use Rattle.canon.proofs.Nodes.{at-some, byteOf, packed-byte, packed-same, nodes-same, length-nodes, at-nodes, ended-size, ended-below, ended-above, ended-count, ended-level, ended-reach}
@@ -56,7 +56,7 @@ module _ (W : List ℕ) (b dst n l m p q : ℕ) (D : List ℕ) (bk : Block W b) 
     };
   }
     where
-      low : q < firstLeaf
+      low : q < objectsSize
       low = omega (arith, few, c .count, c .size)
 
       stays : Dec (b < dst) → getD D (blockSize * b + q) 0 ≡ getD W (blockSize * b + q) 0

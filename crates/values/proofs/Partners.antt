@@ -1,4 +1,4 @@
--- An object and its partner met field by field: one law for each return of `alike`, `step_fields` and `step_object`.
+-- An object and its partner met field by field: what a block's bytes say of its objects, and one law for each return of `step_fields` and `step_object`.
 -- Not here: one code (Pairs), the queue gone over (Steps).
 use Prim.Native.Nat.{ℕ, suc, _+_, _-_, _*_, _<_, _≤_}
 use native.Mathlib.Omega.{arith}
@@ -203,7 +203,7 @@ module _ (W : List ℕ) (b x c y : ℕ) (T₀ Q₀ : List ℕ) (t₀ : ℕ) wher
     fields = record { codes = λ f h. absurd (omega arith) };
   }
 
-  pub four : Pair W b x c y T₀ Q₀ t₀ → getD W (blockSize * b + objectSize * x + 1) 0 ≤ 4
+  pub four : Pair W b x c y T₀ Q₀ t₀ → getD W (blockSize * b + objectSize * x + 1) 0 ≤ codeCount
   four pr = pr .first .block .packed x (pr .first .low) .count
 
   module _ (T Q : List ℕ) (t k : ℕ) (so : FieldsSoFar W b x c y T₀ Q₀ t₀ T Q t k) where

@@ -1,4 +1,4 @@
--- The proof of `links::refer`: the rows hung up by all four fields. By a loop in which 4 - f falls, and the laws of Refers.
+-- The proof of `links::refer`: the rows hung up by all four fields. By a loop in which codeCount - f falls, and the laws of Refers.
 use Rattle.canon.proofs.links.refer.Statement.{statement}
 use Rattle.canon.proofs.links.refer.Tie as tie
 use borrow.Author.Needs.{needs}
@@ -13,7 +13,7 @@ abbrev Inv-loop : tie.InvT-loop
 Inv-loop raw n links₀ w₀ f₀ links w f = (length links ≡ length links₀) × (w ≤ codeCount) × (f ≤ codeCount) × Referred raw n f links₀ links
 
 abbrev μ-loop : tie.MeasureT-loop
-μ-loop raw n links₀ w₀ f₀ links w f = 4 - f
+μ-loop raw n links₀ w₀ f₀ links w f = codeCount - f
 
 loop-holds : tie.Need-loop-holds Inv-loop μ-loop
 loop-holds c = (search needs, search needs, search needs, laws.fields-none _ _ _)

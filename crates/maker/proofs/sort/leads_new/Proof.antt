@@ -1,4 +1,4 @@
--- The proof of `sort::leads_new`: whether a field of an object is marked as new. By a loop in which 4 - k falls, and the laws of SortCodes.
+-- The proof of `sort::leads_new`: whether a field of an object is marked as new. By a loop in which codeCount - k falls, and the laws of SortCodes.
 use Rattle.maker.proofs.sort.leads_new.Statement.{statement}
 use Rattle.maker.proofs.sort.leads_new.Tie as tie
 use borrow.Author.Needs.{needs}
@@ -10,7 +10,7 @@ abbrev Inv-loop : tie.InvT-loop
 Inv-loop work src x fresh p k₀ k = k ≤ codeCount
 
 abbrev μ-loop : tie.MeasureT-loop
-μ-loop work src x fresh p k₀ k = 4 - k
+μ-loop work src x fresh p k₀ k = codeCount - k
 
 is-new-requires : tie.Need-is-new-requires Inv-loop μ-loop
 is-new-requires c κs = search laws.code-small

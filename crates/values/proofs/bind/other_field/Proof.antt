@@ -1,4 +1,4 @@
--- The proof of `bind::other_field`: the first field whose codes differ; NO_FIELD if there is none. By a loop in which 4 - f falls, and the laws of Apart.
+-- The proof of `bind::other_field`: the first field whose codes differ; NO_FIELD if there is none. By a loop in which codeCount - f falls, and the laws of Apart.
 use Rattle.values.proofs.bind.other_field.Statement.{statement}
 use Rattle.values.proofs.bind.other_field.Tie as tie
 use borrow.Author.Needs.{needs}
@@ -10,7 +10,7 @@ abbrev Inv-loop : tie.InvT-loop
 Inv-loop raw x y f₀ f = f ≤ codeCount
 
 abbrev μ-loop : tie.MeasureT-loop
-μ-loop raw x y f₀ f = 4 - f
+μ-loop raw x y f₀ f = codeCount - f
 
 returns : tie.Need-returns Inv-loop μ-loop
 returns c = search laws.other-here

@@ -6,13 +6,13 @@ use mathlib.Core.Path.{_≡_, refl}
 use native.Mathlib.Omega.{arith}
 use Prim.Native.Nat.{_≤_, _-_}
 use lib.ListN.{length, length-set}
-use Rattle.canon.specs.Figures.{firstLeaf}
+use Rattle.canon.specs.Figures.{objectsSize}
 use Rattle.canon.specs.Layout.{countIn}
 use Rattle.values.proofs.Copies as laws
 use Rattle.values.proofs.Copies.{CopyLoop}
 
 abbrev Inv-loop : tie.InvT-loop
-Inv-loop work₀ b dst n l m p q₀ work q = (q ≤ p) × (p ≤ firstLeaf) × (length work ≡ length work₀) × CopyLoop work₀ b dst n l m p q work
+Inv-loop work₀ b dst n l m p q₀ work q = (q ≤ p) × (p ≤ objectsSize) × (length work ≡ length work₀) × CopyLoop work₀ b dst n l m p q work
 
 abbrev μ-loop : tie.MeasureT-loop
 μ-loop work₀ b dst n l m p q₀ work q = p - q
