@@ -15,13 +15,13 @@ use crate::reader::expr_at;
 use crate::reader::first_byte;
 
 // What a line is; of a method, where its right expression stands in the line.
-pub(crate) enum Kind {
+pub enum Kind {
     Class,
     Method(usize),
     Main,
 }
 
-pub(crate) enum Framed {
+pub enum Framed {
     Good(Kind),
     Bad,
 }
