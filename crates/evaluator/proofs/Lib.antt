@@ -17,6 +17,7 @@ pub mod StepLaws
 pub mod WalkLaws
 pub mod FieldLaws
 pub mod CallSteps
+pub mod SideSteps
 pub mod FallLaws
 pub mod RunLaws
 pub mod ReportLaws

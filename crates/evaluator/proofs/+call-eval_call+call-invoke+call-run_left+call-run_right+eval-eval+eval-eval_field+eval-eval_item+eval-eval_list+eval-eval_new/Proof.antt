@@ -1,6 +1,6 @@
 -- The proof of the cycle of evaluation, nine functions. At each call the number μ falls (FallLaws): a call that is opened takes one from the calls that may be
 -- opened, a part takes one from the nesting left, and otherwise the functions come in the order eval, eval_item, eval_field and eval_list, eval_new and eval_call.
--- Each return is a law of StepLaws, FieldLaws, WalkLaws or CallSteps.
+-- Each return is a law of StepLaws, FieldLaws, WalkLaws, CallSteps or SideSteps.
 use Prim.Native.Nat.{ℕ, _<_}
 use borrow.Fn.Kinds.{In}
 use borrow.Fn.PlainCycle.{Measures, is, falls, and}
@@ -71,6 +71,7 @@ use Rattle.evaluator.proofs.StepLaws as steps
 use Rattle.evaluator.proofs.WalkLaws as walks
 use Rattle.evaluator.proofs.FieldLaws as fields
 use Rattle.evaluator.proofs.CallSteps as calls
+use Rattle.evaluator.proofs.SideSteps as sides
 use Rattle.evaluator.proofs.FallLaws as fall
 use Rattle.evaluator.proofs.FallLaws.{μ, μ-call}
 
@@ -314,44 +315,44 @@ pub +call·eval-call+call·invoke+call·run-left+call·run-right+eval·eval+eval
     -- invoke
     (λ t. call·invoke-lts.spec (call·invoke-claims t) (call·invoke-at t) call·invoke.Post
     (λ c. search needs)
-    (λ c. search calls.invoke-stops)
+    (λ c. search sides.invoke-stops)
     (λ c. search needs)
     (λ c. search needs)
-    (λ c. search calls.invoke-sinks)
-    (λ c κs. (search calls.spent-calls, search calls.spent-held, search calls.spent-parts, search calls.call-few))
+    (λ c. search sides.invoke-sinks)
+    (λ c κs. (search sides.spent-calls, search sides.spent-held, search sides.spent-parts, search sides.call-few))
     (λ c. search needs)
-    (λ c κs. (search fall.invoke-side-falls, (search calls.spent-body, search calls.spent-mark)))
+    (λ c κs. (search fall.invoke-side-falls, (search sides.spent-body, search sides.spent-mark)))
     (λ c. search needs)
-    (λ c κs. (search fall.invoke-side-falls, search calls.spent-body))
+    (λ c κs. (search fall.invoke-side-falls, search sides.spent-body))
     (λ c. search needs)
-    (λ c. search calls.invoke-goes-right)
+    (λ c. search sides.invoke-goes-right)
     (λ c. search needs)
-    (λ c. search calls.invoke-goes-left))
+    (λ c. search sides.invoke-goes-left))
     -- run_left
     (λ t. call·run-left-lts.spec (call·run-left-claims t) (call·run-left-at t) call·run-left.Post
-    (λ c κs. (search calls.body-top, search calls.body-full))
+    (λ c κs. (search sides.body-top, search sides.body-full))
     (λ c κs. search needs)
-    (λ c κs. (search calls.body-deep, search calls.body-block, search calls.body-top))
-    (λ c κs. (search fall.side-eval-falls, search calls.left-run))
+    (λ c κs. (search sides.body-deep, search sides.body-block, search sides.body-top))
+    (λ c κs. (search fall.side-eval-falls, search sides.left-run))
     (λ c. search needs)
     (λ c. search needs)
     (λ c. search needs)
-    (λ c. search calls.left-stops)
-    (λ c κs. (search calls.left-there, search (needs, calls.body-mark), search calls.left-room))
+    (λ c. search sides.left-stops)
+    (λ c κs. (search sides.left-there, search (needs, sides.body-mark), search sides.left-room))
     (λ c. search needs)
-    (λ c. search calls.left-gives))
+    (λ c. search sides.left-gives))
     -- run_right
     (λ t. call·run-right-lts.spec (call·run-right-claims t) (call·run-right-at t) call·run-right.Post
     (λ c κs. search needs)
-    (λ c κs. (search calls.body-deep, search calls.body-block))
-    (λ c κs. (search fall.side-eval-falls, search calls.right-run))
+    (λ c κs. (search sides.body-deep, search sides.body-block))
+    (λ c κs. (search fall.side-eval-falls, search sides.right-run))
     (λ c. search needs)
     (λ c. search needs)
     (λ c. search needs)
-    (λ c. search calls.right-stops)
-    (λ c κs. (search calls.right-there, search calls.right-room))
+    (λ c. search sides.right-stops)
+    (λ c κs. (search sides.right-there, search sides.right-room))
     (λ c. search needs)
-    (λ c. search calls.right-gives))
+    (λ c. search sides.right-gives))
     -- eval
     (λ t. eval·eval-lts.spec (eval·eval-claims t) (eval·eval-at t) eval·eval.Post
     (λ c. search steps.step-zero)

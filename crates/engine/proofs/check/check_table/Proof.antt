@@ -1,3 +1,4 @@
+-- The verdict on a table: what the check answers, as class and tag or as a number.
 use borrow.Author.Needs.{needs}
 use Rattle.engine.proofs.check.check_table.Statement.{statement}
 use Rattle.engine.proofs.check.check_table.Tie as tie

@@ -1,3 +1,4 @@
+-- The verdict on a text: what reading refuses, or the verdict on its table.
 use borrow.Author.Needs.{needs}
 use Rattle.engine.proofs.check.check_text.Statement.{statement}
 use Rattle.engine.proofs.check.check_text.Tie as tie

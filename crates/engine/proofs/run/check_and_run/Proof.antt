@@ -1,3 +1,4 @@
+-- A run after the check: refused with its number, or the run of the table.
 use borrow.Author.Needs.{needs}
 use Rattle.engine.proofs.run.check_and_run.Statement.{statement}
 use Rattle.engine.proofs.run.check_and_run.Tie as tie

@@ -1,3 +1,4 @@
+-- The run of a table: the report is the evaluator's, and the first work bytes are zero after it.
 use borrow.Author.Needs.{needs}
 use Rattle.engine.proofs.run.run_table.Statement.{statement}
 use Rattle.engine.proofs.run.run_table.Tie as tie

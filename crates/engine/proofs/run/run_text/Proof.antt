@@ -1,3 +1,4 @@
+-- A run of a text: what the state refuses, then what reading refuses, then the mode decides whether types are checked.
 use borrow.Author.Needs.{needs}
 use Rattle.engine.proofs.run.run_text.Statement.{statement}
 use Rattle.engine.proofs.run.run_text.Tie as tie

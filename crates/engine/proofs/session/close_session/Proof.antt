@@ -1,3 +1,4 @@
+-- Closing: a closed session is refused, an open one has no fuel after it.
 use Rattle.engine.proofs.session.close_session.Statement.{statement}
 use Rattle.engine.proofs.session.close_session.Tie as tie
 use Rattle.engine.proofs.StateLaws as laws

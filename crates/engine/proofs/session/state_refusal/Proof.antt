@@ -1,3 +1,4 @@
+-- 11, 12 and 13, in this order.
 use Rattle.engine.proofs.session.state_refusal.Statement.{statement}
 use Rattle.engine.proofs.session.state_refusal.Tie as tie
 use Rattle.engine.proofs.StateLaws as laws

@@ -1,3 +1,4 @@
+-- The report that `linerun` writes: that of a checked run with its fuel.
 use borrow.Author.Needs.{needs}
 use Rattle.engine.proofs.show.put_report.Statement.{statement}
 use Rattle.engine.proofs.show.put_report.Tie as tie

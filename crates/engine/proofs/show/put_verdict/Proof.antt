@@ -1,3 +1,4 @@
+-- The verdict line: the number alone, or 00 with class and tag.
 use borrow.Author.Needs.{needs}
 use Rattle.engine.proofs.show.put_verdict.Statement.{statement}
 use Rattle.engine.proofs.show.put_verdict.Tie as tie

@@ -1,3 +1,4 @@
+-- What `linerun` writes: the verdict line, and after 00 the report.
 use borrow.Author.Needs.{needs}
 use Rattle.engine.proofs.show.show.Statement.{statement}
 use Rattle.engine.proofs.show.show.Tie as tie

@@ -1,3 +1,4 @@
+-- The loop that clears: so many bytes are zero, and the others as they were.
 use Rattle.engine.proofs.work.clear.Statement.{statement}
 use Rattle.engine.proofs.work.clear.Tie as tie
 use borrow.Author.Needs.{needs}

@@ -2,7 +2,7 @@
 use borrow.Author.Needs.{needs}
 use Rattle.evaluator.proofs.call.left_spot.Statement.{statement}
 use Rattle.evaluator.proofs.call.left_spot.Tie as tie
-use Rattle.evaluator.proofs.CallSteps as laws
+use Rattle.evaluator.proofs.SideSteps as laws
 
 returns : tie.Need-returns
 returns c = search laws.left-stands

@@ -1,3 +1,4 @@
+-- A new object of evaluated values: without fields, made within the limit, or too large.
 use borrow.Author.Needs.{needs}
 use Rattle.evaluator.proofs.eval.finish.Statement.{statement}
 use Rattle.evaluator.proofs.eval.finish.Tie as tie

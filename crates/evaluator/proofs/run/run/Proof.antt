@@ -1,3 +1,4 @@
+-- Main's run: block 0 is laid, no call is open, and main is evaluated at block 1.
 use borrow.Author.Needs.{needs}
 use Rattle.evaluator.proofs.run.run.Statement.{statement}
 use Rattle.evaluator.proofs.run.run.Tie as tie
