@@ -12,6 +12,7 @@ ghost use mathlib.Core.Path.{_≡_};
 ghost use Prim.Native.Nat.{ℕ, _+_, _*_, _<_, _≤_};
 ghost use lib.ListN.{length, take};
 ghost use Rattle.cofj.specs.Values.{refine, colours};
+ghost use Rattle.canon.specs.Figures.{capacity};
 ghost use Rattle.canon.specs.Layout.{nodesIn};
 ghost use Rattle.canon.specs.Tables.{Filled};
 ghost use Rattle.canon.specs.Rounds.{Looks, placeIs, Raw, Below, Scratch};
@@ -79,9 +80,9 @@ pub(crate) fn settle_own(raw: &[u8], n: u8, cs: &mut [u8])
     settle(raw, n, cs, &mut looks, &mut next);
 }
 
-// The colours of n objects, by parting. That rounds are ever needed after it was never seen; the test spares a proof that they are not.
+// The colours of the n objects of a block, by parting. That rounds are ever needed after it was never seen; the test spares a proof that they are not.
 pub fn colour(raw: &[u8], n: u8, cs: &mut [u8])
-    requires { ⌜ Raw (now raw) n × (256 ≤ length (now cs)) ⌝ }
+    requires { ⌜ Raw (now raw) n × (n ≤ capacity) × (256 ≤ length (now cs)) ⌝ }
     ensures { λ _. ⌜ take n (now (cs .exit)) ≡ colours (nodesIn (now (raw .entry)) 0 n) ⌝ }
 {
     part_own(raw, n, cs);

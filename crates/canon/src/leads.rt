@@ -1,7 +1,5 @@
 // The first object of each class that parting leaves, and the test that objects of one class look alike.
 // Not here: how they are parted (parting).
-use crate::layout::CAPACITY;
-use crate::layout::FIRST_LEAF;
 use crate::layout::OBJECT;
 use crate::layout::PER_OBJECT;
 use crate::lift::part_of;
@@ -25,10 +23,7 @@ ghost use Rattle.canon.specs.Parting.{Classes};
 ghost use Rattle.canon.specs.Classing.{KnownTest, Leads, SteadyTest, Coarse};
 
 // the rows of the tables for the objects of a block: one for each, and one for none
-const FEW: usize = PER_OBJECT + 1;
-
-// of those for as many objects as codes can name
-const MANY: usize = FIRST_LEAF as usize + 1;
+const ROWS: usize = PER_OBJECT + 1;
 
 // Whether object l is below i and of class d.
 pub(crate) fn known(t: &[u16], i: u16, d: u16, l: u16) -> bool
@@ -113,32 +108,12 @@ pub(crate) fn part(nodes: &[u8], n: u8, cs: &mut [u8], t: &mut [u16], links: &mu
     lead(t, rows, r, n, cs);
 }
 
-// The same, with tables of its own: for the objects of a block, and for more.
-pub(crate) fn part_few(nodes: &[u8], n: u8, cs: &mut [u8])
+// The same for the objects of a block, with tables of its own.
+pub(crate) fn part_own(nodes: &[u8], n: u8, cs: &mut [u8])
     requires { ⌜ Raw (now nodes) n × (n ≤ capacity) × (256 ≤ length (now cs)) ⌝ }
     ensures { λ _. ⌜ Coarse (now (nodes .entry)) n (now (cs .exit)) ⌝ }
 {
-    let mut t = [0u16; ROW * FEW];
-    let mut links = [0u16; LINKS * FEW];
+    let mut t = [0u16; ROW * ROWS];
+    let mut links = [0u16; LINKS * ROWS];
     part(nodes, n, cs, &mut t, &mut links);
-}
-
-pub(crate) fn part_many(nodes: &[u8], n: u8, cs: &mut [u8])
-    requires { ⌜ Raw (now nodes) n × (256 ≤ length (now cs)) ⌝ }
-    ensures { λ _. ⌜ Coarse (now (nodes .entry)) n (now (cs .exit)) ⌝ }
-{
-    let mut t = [0u16; ROW * MANY];
-    let mut links = [0u16; LINKS * MANY];
-    part(nodes, n, cs, &mut t, &mut links);
-}
-
-pub(crate) fn part_own(nodes: &[u8], n: u8, cs: &mut [u8])
-    requires { ⌜ Raw (now nodes) n × (256 ≤ length (now cs)) ⌝ }
-    ensures { λ _. ⌜ Coarse (now (nodes .entry)) n (now (cs .exit)) ⌝ }
-{
-    if CAPACITY < n {
-        part_many(nodes, n, cs);
-        return;
-    }
-    part_few(nodes, n, cs);
 }

@@ -14,7 +14,7 @@ use Rattle.cofj.proofs.Trees.{same-child, same-cls, same-count}
 use Rattle.cofj.proofs.Canon.{canon-length}
 use Rattle.cofj.proofs.Unique.{canon-canon}
 use Rattle.cofj.proofs.Operations.{boundNodes}
-use Rattle.canon.specs.Figures.{objectSize, headSize, codeCount, firstLeaf, undeterminedCode, wideSize, reachAt, blockSize}
+use Rattle.canon.specs.Figures.{objectSize, headSize, codeCount, firstLeaf, undeterminedCode, wideSize, capacity, reachAt, blockSize}
 use Rattle.canon.specs.Layout.{codeOf, nodesIn, alikeAt, Distinct, Block, Inside, objectsIn, countIn, reachIn, ended}
 use Rattle.canon.specs.Tables.{Carried}
 use Rattle.canon.specs.Rounds.{Raw}
@@ -204,6 +204,9 @@ distinct-yes R n r t e = t .yes e
 module _ (R : List ℕ) (n i : ℕ) (W : List ℕ) (dst : ℕ) (rd : Rooted R n i W dst) where
   whole-graph : Whole (graphIn R n i)
   whole-graph = record { top = omega (arith, length-nodes R 0 n, rd .inside); inner = rd .few .whole .inner }
+
+  pub rooted-small : n ≤ capacity
+  rooted-small = rd .few .small
 
   pub rooted-raw : wideSize ≤ length R → Raw R n
   rooted-raw h = record { few = omega (arith, rd .few .small); room = h; packed = rd .few .packed; whole = rd .few .whole }

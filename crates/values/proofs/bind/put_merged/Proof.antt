@@ -5,7 +5,7 @@ use Rattle.values.proofs.bind.put_merged.Tie as tie
 use Rattle.values.proofs.Apart as laws
 
 colour-requires : tie.Need-colour-requires
-colour-requires c κs = (search laws.rooted-raw, search needs)
+colour-requires c κs = (search laws.rooted-raw, search laws.rooted-small, search needs)
 
 put-requires : tie.Need-put-requires
 put-requires c κs = let co = c .before .before .before in laws.merge-ready _ _ _ _ _ (co .before .before .before .before .pre .0) (co .before .before .before .before .pre .1) _ (search needs) (co .colour .ensures)
