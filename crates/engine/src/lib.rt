@@ -1,4 +1,5 @@
 // The engine's public calls. Each has one contract, by the language's definition of the call, and asks nothing of its caller.
+// Offered: the seven calls of `exports`, for C and Rust; for `linerun` `show::show` with `Shown`.
 // Not here: what they are made of (tables, checker, evaluator), the program `linerun`.
 pub mod session; // opening and closing
 pub mod check; // the check of a text

@@ -1,3 +1,4 @@
+-- The proof of `build::place_classes`. The first n lines, as classes 1 to n. By the laws of BuildLaws.
 use Rattle.classes.proofs.build.place_classes.Statement.{statement}
 use Rattle.classes.proofs.build.place_classes.Tie as tie
 use borrow.Author.Needs.{needs}

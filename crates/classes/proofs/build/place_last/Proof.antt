@@ -1,3 +1,4 @@
+-- The proof of `build::place_last`. The line at `at`, as main. By the laws of BuildLaws.
 use borrow.Author.Needs.{needs}
 use Rattle.classes.proofs.build.place_last.Statement.{statement}
 use Rattle.classes.proofs.build.place_last.Tie as tie

@@ -1,3 +1,4 @@
+-- The proof of `build::place_methods`. The m lines from `from` on, as methods 0 to m - 1; `rights` says where their right expressions stand. By the laws of BuildLaws.
 use Rattle.classes.proofs.build.place_methods.Statement.{statement}
 use Rattle.classes.proofs.build.place_methods.Tie as tie
 use borrow.Author.Needs.{needs}

@@ -1,3 +1,4 @@
+-- The proof of `build::place_rest`. The lines from `at` on, as m methods and main; then the counts. By the laws of BuildLaws.
 use borrow.Author.Needs.{needs}
 use Rattle.classes.proofs.build.place_rest.Statement.{statement}
 use Rattle.classes.proofs.build.place_rest.Tie as tie

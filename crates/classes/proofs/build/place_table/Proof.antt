@@ -1,3 +1,4 @@
+-- The proof of `build::place_table`. All lines of a text with n classes and m methods. The table's bytes are zero before. By the laws of BuildLaws.
 use borrow.Author.Needs.{needs}
 use Rattle.classes.proofs.build.place_table.Statement.{statement}
 use Rattle.classes.proofs.build.place_table.Tie as tie

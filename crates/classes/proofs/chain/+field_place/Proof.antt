@@ -1,3 +1,4 @@
+-- The proof of `chain::field_place`. Where the type of a field stands, inherited ones first. The class falls: the parent is asked, and its number is smaller. By the laws of proofs/Laws.
 use Prim.Native.Nat.{ℕ, _<_}
 use borrow.Fn.Kinds.{In}
 use borrow.Fn.PlainCycle.{Measures, is, falls, and}

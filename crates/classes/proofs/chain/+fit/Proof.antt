@@ -1,3 +1,4 @@
+-- The proof of `chain::fit`. Whether a class is another or stands below it. The class falls: the parent is asked, and its number is smaller. By the laws of proofs/Laws.
 use Prim.Native.Nat.{ℕ, _<_}
 use borrow.Fn.Kinds.{In}
 use borrow.Fn.PlainCycle.{Measures, is, falls, and}

@@ -1,3 +1,4 @@
+-- The proof of `chain::field_type`. The type of field f of class c. By the laws of proofs/Laws.
 use borrow.Author.Needs.{needs}
 use Rattle.classes.proofs.chain.field_type.Statement.{statement}
 use Rattle.classes.proofs.chain.field_type.Tie as tie

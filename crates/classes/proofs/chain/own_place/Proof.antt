@@ -1,3 +1,4 @@
+-- The proof of `chain::own_place`. Where the type of own field j of class c stands, 0 if there is none. By the laws of proofs/Laws.
 use borrow.Author.Needs.{needs}
 use Rattle.classes.proofs.chain.own_place.Statement.{statement}
 use Rattle.classes.proofs.chain.own_place.Tie as tie

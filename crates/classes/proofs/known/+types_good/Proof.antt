@@ -1,3 +1,4 @@
+-- The proof of `known::types_good`. Types whose classes are known and whose tags are closed, one after the other. How many are left falls. By the laws of LineLaws.
 use Prim.Native.Nat.{ℕ, _<_}
 use borrow.Fn.Kinds.{In}
 use borrow.Fn.PlainCycle.{Measures, is, falls, and}

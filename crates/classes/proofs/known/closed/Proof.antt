@@ -1,3 +1,4 @@
+-- The proof of `known::closed`. Tags 0 and 3 are closed, and no other. By the laws of LineLaws.
 use Rattle.classes.proofs.known.closed.Statement.{statement}
 use Rattle.classes.proofs.known.closed.Tie as tie
 use Rattle.classes.proofs.LineLaws as laws

@@ -1,3 +1,4 @@
+-- The proof of `methods::lookup`. The method with the name m of class c or of the nearest class above it. By the laws of proofs/Laws.
 use borrow.Author.Needs.{needs}
 use Rattle.classes.proofs.methods.lookup.Statement.{statement}
 use Rattle.classes.proofs.methods.lookup.Tie as tie

@@ -1,3 +1,4 @@
+-- The proof of `methods::own_method`. The method with the name m that class c itself declares. By the laws of proofs/Laws.
 use borrow.Author.Needs.{needs}
 use Rattle.classes.proofs.methods.own_method.Statement.{statement}
 use Rattle.classes.proofs.methods.own_method.Tie as tie

@@ -1,3 +1,4 @@
+-- The proof of `methods::own_number`. What the index of class c says of the name m: a method's number and 1, or 0. By the laws of proofs/Laws.
 use borrow.Author.Needs.{needs}
 use Rattle.classes.proofs.methods.own_number.Statement.{statement}
 use Rattle.classes.proofs.methods.own_number.Tie as tie

@@ -1,3 +1,4 @@
+-- The proof of `methods::param_type`. The type of parameter k of method i. There are at most three. By the laws of proofs/Laws.
 use borrow.Author.Needs.{needs}
 use Rattle.classes.proofs.methods.param_type.Statement.{statement}
 use Rattle.classes.proofs.methods.param_type.Tie as tie

@@ -1,3 +1,4 @@
+-- The proof of `overrides::same_bytes`. Bytes compared, one after the other. How many are left falls. By the laws of OverrideLaws.
 use Prim.Native.Nat.{ℕ, _<_}
 use borrow.Fn.Kinds.{In}
 use borrow.Fn.PlainCycle.{Measures, is, falls, and}

@@ -1,3 +1,4 @@
+-- The proof of `overrides::overrides`. Whether all methods that override have the types of the method above. The loop has found none that differs. By the laws of OverrideLaws.
 use Rattle.classes.proofs.overrides.overrides.Statement.{statement}
 use Rattle.classes.proofs.overrides.overrides.Tie as tie
 use borrow.Author.Needs.{needs}

@@ -1,3 +1,4 @@
+-- The proof of `overrides::same_above`. Whether method i has the types of the method of its name above its class, where there is one. By the laws of OverrideLaws.
 use borrow.Author.Needs.{needs}
 use Rattle.classes.proofs.overrides.same_above.Statement.{statement}
 use Rattle.classes.proofs.overrides.same_above.Tie as tie

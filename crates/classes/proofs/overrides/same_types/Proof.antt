@@ -1,3 +1,4 @@
+-- The proof of `overrides::same_types`. Whether methods i and j have the same types: both results, the number of parameters and theirs, in one row of bytes. By the laws of OverrideLaws.
 use borrow.Author.Needs.{needs}
 use Rattle.classes.proofs.overrides.same_types.Statement.{statement}
 use Rattle.classes.proofs.overrides.same_types.Tie as tie

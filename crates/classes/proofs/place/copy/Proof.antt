@@ -1,3 +1,4 @@
+-- The proof of `place::copy`. The bytes of a line from a place on, written into the table: so many are written, the others are as they were. By the laws of PlaceLaws.
 use Rattle.classes.proofs.place.copy.Statement.{statement}
 use Rattle.classes.proofs.place.copy.Tie as tie
 use borrow.Author.Needs.{needs}

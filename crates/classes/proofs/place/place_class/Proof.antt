@@ -1,3 +1,4 @@
+-- The proof of `place::place_class`. Class k of n: its number, its parent, its own fields' types, and how many fields it has in all. By the laws of PlaceLaws.
 use borrow.Author.Needs.{needs}
 use Rattle.classes.proofs.place.place_class.Statement.{statement}
 use Rattle.classes.proofs.place.place_class.Tie as tie

@@ -1,3 +1,4 @@
+-- The proof of `place::place_main`. Main's line into its row. By the laws of PlaceLaws.
 use borrow.Author.Needs.{needs}
 use Rattle.classes.proofs.place.place_main.Statement.{statement}
 use Rattle.classes.proofs.place.place_main.Tie as tie

@@ -1,3 +1,4 @@
+-- The proof of `place::put_index`. Sets the index of class c under the name m. By the laws of PlaceLaws.
 use borrow.Author.Needs.{needs}
 use Rattle.classes.proofs.place.put_index.Statement.{statement}
 use Rattle.classes.proofs.place.put_index.Tie as tie

@@ -1,3 +1,4 @@
+-- The proof of `place::put_method`. Writes the row of method i. By the laws of PlaceLaws.
 use borrow.Author.Needs.{needs}
 use Rattle.classes.proofs.place.put_method.Statement.{statement}
 use Rattle.classes.proofs.place.put_method.Tie as tie

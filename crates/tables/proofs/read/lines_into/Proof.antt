@@ -1,3 +1,4 @@
+-- The proof of `read::lines_into`. The table of packed lines, in `bytes`: 0, or a refusal of 2 to 5. By the laws of ReadLaws.
 use borrow.Author.Needs.{needs}
 use Rattle.tables.proofs.read.lines_into.Statement.{statement}
 use Rattle.tables.proofs.read.lines_into.Tie as tie

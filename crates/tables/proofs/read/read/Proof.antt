@@ -1,3 +1,4 @@
+-- The proof of `read::read`. The table of a text, or its lowest refusal of 1 to 5. By the laws of ReadLaws.
 use borrow.Author.Needs.{needs}
 use Rattle.tables.proofs.read.read.Statement.{statement}
 use Rattle.tables.proofs.read.read.Tie as tie

@@ -1,3 +1,4 @@
+-- The proof of `read::read_into`. The table of a text, with room of its own: less for a short text. By the laws of ReadLaws.
 use borrow.Author.Needs.{needs}
 use Rattle.tables.proofs.read.read_into.Statement.{statement}
 use Rattle.tables.proofs.read.read_into.Tie as tie

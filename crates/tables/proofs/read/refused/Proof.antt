@@ -1,3 +1,4 @@
+-- The proof of `read::refused`. A refusal as an answer. By the laws of ReadLaws.
 use Rattle.tables.proofs.read.refused.Statement.{statement}
 use Rattle.tables.proofs.read.refused.Tie as tie
 use Rattle.tables.proofs.ReadLaws as laws

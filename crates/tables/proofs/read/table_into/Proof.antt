@@ -1,3 +1,4 @@
+-- The proof of `read::table_into`. The table of packed lines in order, with n classes and m methods whose right expressions stand at `rights`, in `bytes`: 0, or refusal 4 or 5. By the laws of ReadLaws.
 use borrow.Author.Needs.{needs}
 use Rattle.tables.proofs.read.table_into.Statement.{statement}
 use Rattle.tables.proofs.read.table_into.Tie as tie

@@ -1,3 +1,4 @@
+-- The proof of `read::text_into`. The table of a text, in `bytes`, with room for its packed lines: 0, or its lowest refusal of 1 to 5. By the laws of ReadLaws.
 use borrow.Author.Needs.{needs}
 use Rattle.tables.proofs.read.text_into.Statement.{statement}
 use Rattle.tables.proofs.read.text_into.Tie as tie
