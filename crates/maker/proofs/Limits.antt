@@ -8,26 +8,34 @@ use mathlib.Core.List.{List, [], _∷_}
 use mathlib.Core.Option.{some, none, Option·none-ne-some}
 use lib.Dec.{leb}
 use lib.ListN.{length, getD, getElem?}
-use borrow.Author.Tests.{le-leb, lt-leb, leb-false, ne-eqb}
+use borrow.Author.Tests.{le-leb, lt-leb, leb-false, ne-eqb, eqb-false}
 use types.Run.{OneOf}
 use denote.Enum.Declared.{tagOf}
-use Rattle.cofj.specs.Values.{Ref, obj, node, Graph, graph, refsAt, make, lay}
-use Rattle.cofj.specs.Unfolding.{Whole, InRange}
-use Rattle.cofj.proofs.Canon.{canon-length}
+use Rattle.cofj.specs.Values.{Ref, obj, node, Graph, graph, refsAt, make, lay, canon}
+use Rattle.cofj.specs.Unfolding.{follow, Whole, InRange}
+use Rattle.cofj.proofs.Canon.{canon-same, canon-whole, canon-length}
+use Rattle.cofj.proofs.Unique.{same-canon}
 use Rattle.canon.specs.Figures.{capacity, countAt, blockSize, spareBlock}
-use Rattle.canon.specs.Layout.{countIn, graphAt, Outside, Beneath}
+use Rattle.canon.specs.Layout.{refOf, countIn, objectsIn, graphAt, Block, Inside, Outside, Beneath}
+use Rattle.canon.proofs.Nodes.{ref-object}
 use Rattle.values.specs.declared.ValueRef.{ValueRef}
 use Rattle.values.specs.declared.ValueRef.the-variants.{Object, Mark, Undetermined}
 use Rattle.values.specs.Layout.{valueOf, Holds, Low, liesIn}
-use Rattle.values.specs.Operations.{Moved}
 use Rattle.values.proofs.ValueRef as RefT
 use Rattle.values.proofs.Blocks.{no-object, size-in, whole-at}
-use Rattle.values.proofs.Kept.{kept}
+use Rattle.values.proofs.Kept.{Kept, kept}
 use Rattle.maker.specs.declared.Made.{Made}
 use Rattle.maker.specs.declared.Made.the-variants.{Value, TooLarge}
 use Rattle.maker.specs.declared.Slot.{Slot}
+use Rattle.maker.specs.Figures.{noRoom}
 use Rattle.maker.specs.Laying.{Makeable, MadeWithin, MadeIs, FitsIn}
+use Rattle.maker.specs.Adding.{Emptied}
+use Rattle.maker.specs.Crowds.{In, BlockIn}
+use Rattle.maker.specs.Merging.{Imported}
 use Rattle.maker.proofs.Makes.{beneath-more}
+use Rattle.maker.proofs.Beside.{outside-more}
+use Rattle.maker.proofs.Crowds.{pigeon, Numbered, in-number, crowd-large, in-root}
+use Rattle.maker.proofs.Hosts.{empty-begun}
 
 outside-none : (b : ℕ) (W : List ℕ) → Outside b W W
 outside-none b W = record { same = refl; below = λ p h. refl; above = λ p h. refl }
@@ -52,8 +60,97 @@ module _ (W : List ℕ) (objects : ℕ) (v : ValueRef) where
           outside = outside-none spareBlock W;
         })
 
-    pub fits-counted : (W′ : List ℕ) (m : ℕ) → Moved W (graphAt W b i) spareBlock W′ m → FitsIn W v objects W′ (leb m objects)
-    fits-counted W′ m mv = subst (λ (x : ValueRef). FitsIn W x objects W′ (leb m objects)) (sym e) (record { is = ap (λ (x : ℕ). leb x objects) (mv .count); outside = mv .outside })
+    -- brought into the spare block, which was emptied
+    module _ (h : Holds W v) (away : liesIn spareBlock v ≡ false) (room : blockSize * spareBlock + blockSize ≤ length W) (W1 : List ℕ) (em : Emptied W spareBlock W1) where
+      still-there : Kept W W1 v
+      still-there = kept spareBlock W W1 (em .outside) v away h
+
+      pub spare-inside : Inside W1 b i
+      spare-inside = subst (Holds W1) e (still-there .held) .held
+
+      pub spare-empty : Block W1 spareBlock
+      spare-empty = empty-begun W spareBlock W1 room em .target
+
+      pub spare-other : b ≡ spareBlock → ⊥
+      unfolding liesIn
+      spare-other z = eqb-false b spareBlock (subst (λ (x : ValueRef). liesIn spareBlock x ≡ false) e away) z
+
+      abbrev value : Graph
+      value = canon (graphAt W1 b i)
+
+      value-is : value ≡ valueOf W v
+      value-is = ap (valueOf W1) (sym e) ∙ still-there .is
+
+      graph-whole : Whole (graphAt W1 b i)
+      graph-whole = whole-at W1 b (spare-inside .block) i (spare-inside .low)
+
+      value-whole : Whole value
+      value-whole = canon-whole (graphAt W1 b i) graph-whole
+
+      stands : In (objectsIn W1 b) i value
+      stands = in-root value (objectsIn W1 b) i (λ p. sym (canon-same (graphAt W1 b i) graph-whole p))
+
+      none-in : BlockIn W1 spareBlock value
+      none-in y l = absurd (omega (arith, em .count))
+
+      module _ (W2 : List ℕ) (r : ℕ) (im : Imported W1 b i spareBlock W2 r) where
+        away-still : Outside spareBlock W W2
+        away-still = outside-more spareBlock W W1 W2 (em .outside) (im .grown .outside)
+
+        answers : (x : Bool) → x ≡ leb (length (value .nodes)) objects → FitsIn W v objects W2 x
+        answers x z = record { is = z ∙ ap (λ (g : Graph). leb (length (g .nodes)) objects) value-is; outside = away-still }
+
+        pub fits-over : objects ≤ capacity → r ≡ noRoom → FitsIn W v objects W2 false
+        fits-over few z =
+            answers false (sym (lt-leb (length (value .nodes)) objects (omega (arith, crowd-large value value-whole (im .over z value none-in stands)))))
+
+        pub spare-length : length W2 ≡ length W
+        spare-length = away-still .same
+
+        pub spare-read : blockSize * spareBlock + countAt < length W2
+        spare-read = omega (arith, im .grown .block .room)
+
+        module _ (nr : r ≡ noRoom → ⊥) where
+          brought : BlockIn W2 spareBlock value
+          brought = im .stand nr value none-in stands
+
+          number : (k : ℕ) → k < countIn W2 spareBlock → Numbered (objectsIn W2 spareBlock) k value
+          number k l = in-number (objectsIn W2 spareBlock) k value value-whole (brought k l)
+
+          size : length (objectsIn W2 spareBlock) ≡ countIn W2 spareBlock
+          size = size-in W2 spareBlock (im .grown .block)
+
+          most : countIn W2 spareBlock ≤ length (value .nodes)
+          most =
+              pigeon (countIn W2 spareBlock) (length (value .nodes)) (λ k l. number k l .at) (λ k l. number k l .low)
+              (λ j k l u q. im .grown .block .distinct .apart j k (omega (arith, size)) (omega (arith, size))
+              (λ p. number j l .same p ∙ ap (λ (x : ℕ). follow (value .nodes) (obj x) p) q ∙ sym (number k u .same p)))
+
+          -- what is in the spare block is the value
+          abbrev there : Graph
+          there = graph (refOf r) (objectsIn W2 spareBlock)
+
+          there-whole : Whole there
+          there-whole = record { top = subst (λ (n : ℕ). InRange n (refOf r)) (sym size) (im .like nr .low); inner = im .grown .block .whole .inner }
+
+          after : Kept W1 W2 v
+          after = kept spareBlock W1 W2 (im .grown .outside) v away (still-there .held)
+
+          inside-after : Inside W2 b i
+          inside-after = subst (Holds W2) e (after .held) .held
+
+          value-there : value ≡ canon there
+          value-there =
+              sym (ap (valueOf W2) (sym e) ∙ after .is ∙ ap (valueOf W1) e)
+              ∙ same-canon (graphAt W2 b i) there (whole-at W2 b (inside-after .block) i (inside-after .low)) there-whole
+              (λ p. ap (λ (x : Ref). follow (objectsIn W2 b) x p) (sym (ref-object i (omega (arith, inside-after .low, inside-after .block .small)))) ∙ im .like nr .same p)
+
+          least : length (value .nodes) ≤ countIn W2 spareBlock
+          least = omega (arith, ap (λ (g : Graph). length (g .nodes)) value-there, canon-length there there-whole, size)
+
+          pub fits-counted : FitsIn W v objects W2 (leb (getD W2 (blockSize * spareBlock + countAt) 0) objects)
+          unfolding countIn
+          fits-counted = answers _ (ap (λ (n : ℕ). leb n objects) (let z : countIn W2 spareBlock ≡ length (value .nodes) = omega (arith, most, least) in z))
 
 -- ---- what making answers
 -- the value that an answer stands for
@@ -89,6 +186,9 @@ module _ (W : List ℕ) (ps : List Slot) (n dst : ℕ) (mk : Makeable W ps n dst
     pub limit-held : Holds W1 r
     limit-held = answer .held
 
+    pub limit-away : liesIn spareBlock r ≡ false
+    limit-away = low-away dst r (mk .under) (answer .place)
+
     pub limit-room : blockSize * spareBlock + blockSize ≤ length W1
     limit-room = omega (arith, mk .room, md .beneath .same)
 
@@ -104,7 +204,7 @@ module _ (W : List ℕ) (ps : List Slot) (n dst : ℕ) (mk : Makeable W ps n dst
 
       pub limit-yes : b ≡ true → MadeWithin objects W v dst W2 (Value r)
       limit-yes z =
-          let k = kept spareBlock W1 W2 (f .outside) r (low-away dst r (mk .under) (answer .place)) (answer .held) in
+          let k = kept spareBlock W1 W2 (f .outside) r limit-away (answer .held) in
           record { held = k .held; is = rw (sym told ∙ z) (ap some (k .is ∙ same)); place = answer .place; beneath = still }
 
       pub limit-no : b ≡ false → MadeWithin objects W v dst W2 TooLarge

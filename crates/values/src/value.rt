@@ -32,7 +32,7 @@ pub(crate) fn take_up(work: &[u8], b: u16, ids: &mut [u8], raw: &mut [u8]) -> u8
 }
 
 // The value at object i of block b, alone and numbered from its root, to block `dst`. Answers how many objects it has.
-pub fn move_out(work: &mut [u8], b: u16, i: u8, dst: u16) -> u8
+pub(crate) fn move_out(work: &mut [u8], b: u16, i: u8, dst: u16) -> u8
     requires { ⌜ Inside (now work) b i × (blockSize * dst + blockSize ≤ length (now work)) ⌝ }
     ensures { λ m. ⌜ Moved (now (work .entry)) (graphAt (now (work .entry)) b i) dst (now (work .exit)) m ⌝ }
 {

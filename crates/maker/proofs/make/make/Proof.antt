@@ -8,7 +8,7 @@ returns : tie.Need-returns
 returns c = search laws.limit-none
 
 fits-requires : tie.Need-fits-requires
-fits-requires c κs = (search laws.limit-held, search laws.limit-room)
+fits-requires c κs = (search laws.limit-held, search laws.limit-away, search laws.limit-room, search needs)
 
 returns-2 : tie.Need-returns-2
 returns-2 c = search laws.limit-yes
