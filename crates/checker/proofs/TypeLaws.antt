@@ -1,11 +1,12 @@
 -- specs/Types at each return of the code.
-use mathlib.Core.Path.{_≡_, sym, ap, _∙_}
+use mathlib.Core.Path.{_≡_, refl, sym, ap, _∙_}
 use mathlib.Core.Bool.{Bool, true, false, not}
 use mathlib.Core.List.{List}
-use Prim.Native.Nat.{ℕ, _+_}
+use Prim.Native.Nat.{ℕ, _+_, _≤_, _<_}
+use native.Mathlib.Omega.{arith}
 use lib.ListN.{getD}
 use lib.Dec.{eqb, leb}
-use borrow.Author.Tests.{eq-eqb, ne-eqb, not-true, not-false}
+use borrow.Author.Tests.{leb-true, leb-false, eq-eqb, ne-eqb, not-true, not-false}
 use Rattle.cofj.specs.Typing.{closedTag, closeTag}
 use Rattle.classes.specs.declared.chain.FieldType.{FieldType}
 use Rattle.classes.specs.declared.chain.FieldFound.{FieldFound}
@@ -22,6 +23,16 @@ use Rattle.checker.specs.declared.scope.Scope.{Scope}
 use Rattle.checker.specs.Types.{fitsType, narrowTag, fitsFound, itemFits, argFits, receiverOf, resultOf, foundAt, thisOf, resIn, paramVar}
 
 -- ---- tags
+-- a test is that of the order if it answers so where g is below h, is h, is above h: for a test that is worded by any comparisons of the two
+pub tag-order : (g h : ℕ) (r : Bool) → (g < h → g ≤ h → (g ≡ h → ⊥) → r ≡ true) → (g ≡ h → g ≤ h → h ≤ g → r ≡ true)
+  → (h < g → h ≤ g → (g ≡ h → ⊥) → r ≡ false) → r ≡ leb g h
+tag-order g h r below same above = told (leb g h) refl (leb h g) refl
+  where
+    told : (b : Bool) → leb g h ≡ b → (d : Bool) → leb h g ≡ d → r ≡ b
+    told false e d f = let p : h < g = leb-false g h e in above p (omega arith) (λ q. omega arith)
+    told true e false f = let p : g < h = leb-false h g f in below p (omega arith) (λ q. omega arith)
+    told true e true f = let p : g ≤ h = leb-true g h e in let q : h ≤ g = leb-true h g f in same (omega arith) p q
+
 module _ (g : ℕ) where
   pub tag-zero : g ≡ 0 → true ≡ closedTag g
   tag-zero e = rw (eq-eqb g 0 e)
