@@ -25,7 +25,7 @@ use Rattle.checker.specs.Types.{fitsType, narrowTag, fitsFound, itemFits
 -- ---- tags
 -- a test is that of the order if it answers so where g is below h, is h, is above h: for a test that is worded by any comparisons of the two
 pub tag-order : (g h : ℕ) (r : Bool) → (g < h → g ≤ h → (g ≡ h → ⊥) → r ≡ true) → (g ≡ h → g ≤ h → h ≤ g → r ≡ true)
-  → (h < g → h ≤ g → (g ≡ h → ⊥) → r ≡ false) → r ≡ leb g h
+    → (h < g → h ≤ g → (g ≡ h → ⊥) → r ≡ false) → r ≡ leb g h
 tag-order g h r below same above = told (leb g h) refl (leb h g) refl
   where
     told : (b : Bool) → leb g h ≡ b → (d : Bool) → leb h g ≡ d → r ≡ b
