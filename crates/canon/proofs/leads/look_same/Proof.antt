@@ -3,6 +3,7 @@ use Rattle.canon.proofs.leads.look_same.Statement.{statement}
 use Rattle.canon.proofs.leads.look_same.Tie as tie
 use borrow.Author.Needs.{needs}
 use Prim.Native.Nat.{_≤_, _-_}
+use native.Mathlib.Omega.{arith}
 use Rattle.canon.specs.Figures.{objectSize}
 use Rattle.canon.specs.Tables.{copied}
 use Rattle.canon.specs.Links.{AlikeTo}
@@ -23,7 +24,7 @@ returns c =
     let after-part-of = after-part-of2 .before .before in
     let turn = after-part-of .before .before in
     let head = turn .before in
-    laws.alike-not _ _ _ _ _ _ _ (head .loop .inv .1) (after-part-of .part-of .ensures) (after-part-of2 .part-of2 .ensures) (turn .loop-test .taken) (c .if1 .taken)
+    laws.alike-not _ _ _ _ _ _ _ (head .loop .inv .1) (after-part-of .part-of .ensures) (after-part-of2 .part-of2 .ensures) (omega (arith, turn .loop-test .taken)) (c .if1 .taken)
 
 loop-again : tie.Need-loop-again Inv-loop μ-loop
 loop-again c =
@@ -33,7 +34,7 @@ loop-again c =
     (search needs, laws.alike-more _ _ _ _ _ _ _ (head .loop .inv .1) (after-part-of .part-of .ensures) (after-part-of2 .part-of2 .ensures) (c .if1 .left))
 
 returns-2 : tie.Need-returns-2 Inv-loop μ-loop
-returns-2 c = laws.alike-all _ _ _ _ _ ((c .before) .loop .inv .1) (c .loop-test .left)
+returns-2 c = laws.alike-all _ _ _ _ _ ((c .before) .loop .inv .1) (omega (arith, c .loop-test .left))
 
 pub look-same-spec : {M : Type 1} → statement M
 look-same-spec =

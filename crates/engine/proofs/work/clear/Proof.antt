@@ -19,10 +19,10 @@ loop-holds : tie.Need-loop-holds Inv-loop μ-loop
 loop-holds c = (search needs, search needs, refl)
 
 loop-again : tie.Need-loop-again Inv-loop μ-loop
-loop-again c = (search needs, simp length-set (omega arith), search laws.clear-more)
+loop-again c = (search needs, simp length-set (omega arith), laws.clear-more _ _ _ (c .before .loop .inv .2) (omega arith) (omega arith))
 
 returns : tie.Need-returns Inv-loop μ-loop
-returns c = search laws.clear-done
+returns c = laws.clear-done _ _ (c .before .loop .i) (c .before .loop .inv .2) (omega arith) (omega arith)
 
 pub clear-spec : {M : Type 1} → statement M
 clear-spec =

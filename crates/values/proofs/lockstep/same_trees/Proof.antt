@@ -1,12 +1,13 @@
 -- The proof of `lockstep::same_trees`: whether object i of block b and object j of block c unfold to the same tree. By the laws of Blocks and Steps.
 use borrow.Author.Needs.{needs}
+use native.Mathlib.Omega.{arith}
 use Rattle.values.proofs.lockstep.same_trees.Statement.{statement}
 use Rattle.values.proofs.lockstep.same_trees.Tie as tie
 use Rattle.values.proofs.Blocks as blocks
 use Rattle.values.proofs.Steps as laws
 
 returns : tie.Need-returns
-returns c = search laws.one-block
+returns c = laws.one-block _ _ _ _ _ (search needs) (search needs) (omega arith)
 
 returns-3 : tie.Need-returns-3
 returns-3 c = search laws.roots-differ
