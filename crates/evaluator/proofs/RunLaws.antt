@@ -3,7 +3,10 @@
 use Prim.Native.Nat.{ℕ, _+_, _≤_, _<_}
 use native.Mathlib.Omega.{arith}
 use mathlib.Core.Path.{_≡_, refl, sym, _∙_, subst}
+use mathlib.Core.Bool.{true}
 use mathlib.Core.List.{List, []}
+use lib.Dec.{leb}
+use borrow.Author.Tests.{leb-true}
 use lib.ListN.{length, set, replicate, length-set, length-replicate}
 use lib.Seq.{getD-set-same}
 use Rattle.classes.specs.Figures.{mainAt}
@@ -25,9 +28,12 @@ use Rattle.evaluator.specs.Steps.{fuelOf, Runnable, EvalStep}
 use Rattle.evaluator.specs.Main.{Runs}
 use Rattle.evaluator.proofs.BodyLaws.{evalTo-is}
 
--- where main is evaluated
+-- where main is evaluated, with d calls that may be opened
+abbrev startWith : ℕ → Spot
+startWith d = record { at = mainAt + 1; block = 1; nesting = nestingLimit; calls = d; opened = 0; objects = objectLimit }
+
 abbrev start : Spot
-start = record { at = mainAt + 1; block = 1; nesting = nestingLimit; calls = callLimit; opened = 0; objects = objectLimit }
+start = startWith callLimit
 
 -- ---- the numbers that main begins with: the fuel, and no calls
 module _ (k fuel : ℕ) (ek : k ≡ traceSize) where
@@ -52,8 +58,8 @@ unfolding traceIn
 trace-none W S = refl
 
 module _ (W0 W : List ℕ) (lb : LaidFieldless W0 W) (f : Frame) (ef : f ≡ noVariables) (S : List ℕ) where
-  pub main-runnable : workRoom ≤ length W0 → length S ≡ traceSize → Runnable W f S start
-  main-runnable l full = subst (λ (g : Frame). Runnable W g S start) (sym ef) (record {
+  pub main-runnable : (d : ℕ) → leb d callLimit ≡ true → workRoom ≤ length W0 → length S ≡ traceSize → Runnable W f S (startWith d)
+  main-runnable d b l full = let few = leb-true d callLimit b in subst (λ (g : Frame). Runnable W g S (startWith d)) (sym ef) (record {
     based = record { fieldless = lb .fieldless; above = omega arith };
     full = full;
     count = omega arith;
@@ -67,13 +73,13 @@ module _ (W0 W : List ℕ) (lb : LaidFieldless W0 W) (f : Frame) (ef : f ≡ noV
     };
   })
 
-  module _ (fuel : ℕ) (es : fuelOf S ≡ fuel) (T W′ S′ : List ℕ) (o : Done) (ev : EvalStep T W f S start W′ S′ o) where
-    pub fuel-fits : fuel < 65536 → fuelOf S′ < 65536
-    fuel-fits l = let s = ev .trace .spent in omega arith
+  module _ (fuel : ℕ) (es : fuelOf S ≡ fuel) (T W′ S′ : List ℕ) (o : Done) where
+    pub fuel-fits : (d : ℕ) → EvalStep T W f S (startWith d) W′ S′ o → fuel < 65536 → fuelOf S′ < 65536
+    fuel-fits d ev l = let s = ev .trace .spent in omega arith
 
-    pub main-runs : (r : Out) → r ≡ outWith (fuelOf S′) o → Runs T W0 fuel W′ r
+    pub main-runs : EvalStep T W f S start W′ S′ o → (r : Out) → r ≡ outWith (fuelOf S′) o → Runs T W0 fuel W′ r
     unfolding runWithin
-    main-runs r er = subst (Runs T W0 fuel W′) (sym er) (
+    main-runs ev r er = subst (Runs T W0 fuel W′) (sym er) (
         let x = subst (λ (g : Frame). EvalStep T W g S start W′ S′ o) ef ev in
         record {
           same = x .runs .kept .same ∙ lb .outside .same;
