@@ -14,7 +14,7 @@ use Rattle.canon.proofs.Nodes.{code-low}
 use Rattle.canon.proofs.Nodes.{ended-size, ended-below, ended-above, ended-count, ended-level, ended-reach}
 use Rattle.canon.proofs.Lifts.{copy-plain, copy-turned, lift-none, lift-more}
 use Rattle.maker.specs.Sorting.{turnIn}
-use Rattle.maker.specs.Joining.{numbersOf, New, Placing, Laid, Extended}
+use Rattle.maker.specs.Joining.{numbersOf, New, NewAmong, Placing, Laid, Extended}
 use Rattle.maker.proofs.Enters.{other-byte, other-inside}
 use Rattle.maker.proofs.Numberings.{turn-is}
 
@@ -74,13 +74,18 @@ module _ (W : List ℕ) (src host : ℕ) (T F : List ℕ) (pl : Placing W src ho
     laid-outside : Outside host W D
     laid-outside = record { same = ld .same; below = λ p l. ld .below p (omega arith); above = λ p l. ld .above p (omega arith) }
 
-    pub laid-end : x ≤ getD W (blockSize * src + countAt) 0 → getD W (blockSize * src + countAt) 0 ≤ x → Laid W src host T F (countIn W src) D
-    unfolding countIn
-    laid-end h l = let e : x ≡ getD W (blockSize * src + countAt) 0 = omega arith in rw e at ld
+    pub laid-end : (n : ℕ) → x ≤ n → n ≤ x → Laid W src host T F n D
+    laid-end n h l = let e : x ≡ n = omega arith in rw e at ld
 
-    module _ (h : x < getD W (blockSize * src + countAt) 0) where
+    -- where all new ones are among the first
+    laid-all : NewAmong (countIn W src) F x → Laid W src host T F (countIn W src) D
+    laid-all na = record { same = ld .same; here = λ y k l w. ld .here y k (na .low y l w) w; below = ld .below; above = ld .above }
+
+    module _ (top : ℕ) (few : top ≤ countIn W src) (under : x < top) where
+      h : x < countIn W src
+      h = omega (arith, few, under)
+
       pub laid-inside : Inside D src x
-      unfolding countIn
       laid-inside = other-inside host W D laid-outside src (pl .apart) x (record { block = pl .source; low = h })
 
       pub laid-room : blockSize * host + blockSize ≤ length D
@@ -95,15 +100,12 @@ module _ (W : List ℕ) (src host : ℕ) (T F : List ℕ) (pl : Placing W src ho
 
       module _ (new : New F x) where
         pub new-some : 1 ≤ getD T x 0
-        unfolding countIn
         new-some = omega (arith, pl .numbered .low x h new)
 
         pub new-few : getD T x 0 - 1 < capacity
-        unfolding countIn
         new-few = omega (arith, pl .numbered .low x h new, pl .numbered .high x h new)
 
         laid-new : (D2 : List ℕ) → Lifted D (blockSize * src + objectSize * x) objectSize (numbersOf T) D (blockSize * host + objectSize * (getD T x 0 - 1)) D2 → Laid W src host T F (x + 1) D2
-        unfolding countIn
         laid-new D2 f = record {
           same = f .same ∙ ld .same;
           here = λ y k l n m. go y k l n m (ℕ-discrete y x);
@@ -125,19 +127,18 @@ module _ (W : List ℕ) (src host : ℕ) (T F : List ℕ) (pl : Placing W src ho
             go y k l n m (no d) = clear y k (omega (arith, d)) n m (decLt (getD T y 0) (getD T x 0)) ∙ ld .here y k (omega (arith, d)) n m
 
   -- what the loop has
-  pub laid-few : getD W (blockSize * src + countAt) 0 ≤ capacity
-  unfolding countIn
-  laid-few = pl .source .small
+  pub laid-few : (n : ℕ) → n ≤ countIn W src → n ≤ capacity
+  laid-few n few = omega (arith, pl .source .small)
 
-  module _ (x : ℕ) (D : List ℕ) (ld : Laid W src host T F x D) (h : x < getD W (blockSize * src + countAt) 0) (D′ : List ℕ) where
+  module _ (x : ℕ) (D : List ℕ) (ld : Laid W src host T F x D) (top : ℕ) (few : top ≤ countIn W src) (under : x < top) (D′ : List ℕ) where
     pub laid-kept : getD F x 0 ≡ 0 → D′ ≡ D → Laid W src host T F (x + 1) D′
-    laid-kept z e = rw e (laid-same x D ld h z)
+    laid-kept z e = rw e (laid-same x D ld top few under z)
 
     pub laid-more : ((getD F x 0 ≡ 0) → ⊥) → (D2 : List ℕ) → Lifted D (blockSize * src + objectSize * x) objectSize (numbersOf T) D (blockSize * host + objectSize * (getD T x 0 - 1)) D2 → D′ ≡ D2 → Laid W src host T F (x + 1) D′
-    laid-more new D2 f e = rw e (laid-new x D ld h new D2 f)
+    laid-more new D2 f e = rw e (laid-new x D ld top few under new D2 f)
 
   -- counted
-  module _ (m : ℕ) (tm : countIn W host ≤ m) (few : m ≤ capacity) (D : List ℕ) (ld : Laid W src host T F (countIn W src) D)
+  module _ (top : ℕ) (na : NewAmong (countIn W src) F top) (m : ℕ) (tm : countIn W host ≤ m) (few : m ≤ capacity) (D : List ℕ) (ld : Laid W src host T F top D)
       (k : ℕ) (lv : Levels D (blockSize * host + objectSize * getD W (blockSize * host + countAt) 0) (objectSize * (m - getD W (blockSize * host + countAt) 0)) k) (h : ℕ) (lh : getD W (blockSize * host + levelAt) 0 ≤ h) (kh : k ≤ h) where
     long : blockSize * host + blockSize ≤ length D
     long = omega (arith, ld .same, pl .target .room)
@@ -157,7 +158,7 @@ module _ (W : List ℕ) (src host : ℕ) (T F : List ℕ) (pl : Placing W src ho
       count = ended-count D host m h m long;
       reach = ended-reach D host m h m long;
       level = λ q l. omega (arith, byte (blockSize * host + q) (omega arith), ended-level D host m h m long, level q l (decLt q (objectSize * getD W (blockSize * host + countAt) 0)));
-      here = λ x j l n i. byte _ (omega (arith, pl .numbered .low x l n, pl .numbered .high x l n)) ∙ ld .here x j l n i;
+      here = λ x j l n i. byte _ (omega (arith, pl .numbered .low x l n, pl .numbered .high x l n)) ∙ laid-all _ D ld na .here x j l n i;
       old = λ q l. byte _ (omega arith) ∙ ld .below _ (omega arith);
       outside = record {
         same = ended-size D host m h m long ∙ ld .same;

@@ -24,8 +24,9 @@ use Rattle.values.proofs.Blocks.{size-in, inner-in}
 use Rattle.maker.specs.Figures.{notTold}
 use Rattle.maker.specs.Merging.{Grown, CodeAs}
 use Rattle.maker.specs.Sorting.{Fresh, Decided, codeAt}
-use Rattle.maker.specs.Joining.{numbersOf, New, Counted, Fitted, Placing, Extended, Joining, Joined}
+use Rattle.maker.specs.Joining.{numbersOf, New, NewAmong, Counted, Fitted, Placing, Extended, Joining, Joined}
 use Rattle.maker.proofs.Fresh.{Told, Source, old-trees, new-trees, inner-many, distinct-many}
+use Rattle.maker.proofs.Numberings.{fitted-all}
 use Rattle.maker.proofs.Turns.{leaf-low}
 use Rattle.maker.proofs.Enters.{grown-none, other-block}
 use Rattle.maker.proofs.Brings.{code-grown}
@@ -44,21 +45,23 @@ code-small ps ns z r q = go (decLt r firstLeaf)
     go (yes h) = h
     go (no h) = absurd (none (refOf r) (leaf-low 0 r (omega (arith, h))) q)
 
-module _ (W : List ℕ) (src host : ℕ) (T F : List ℕ) (jn : Joining W src host T F) where
-  pub join-full : (T′ : List ℕ) (m : ℕ) → Fitted (getD W (blockSize * src + countAt) 0) (getD W (blockSize * host + countAt) 0) T F T′ m → capacity < m → Joined W src host T F W T′ false
+module _ (W : List ℕ) (src host : ℕ) (T F : List ℕ) (jn : Joining W src host T F) (n : ℕ) (na : NewAmong (getD W (blockSize * src + countAt) 0) F n) where
+  all-fitted : (T′ : List ℕ) (m : ℕ) → Fitted n (getD W (blockSize * host + countAt) 0) T F T′ m → Fitted (countIn W src) (countIn W host) T F T′ m
   unfolding countIn
+  all-fitted T′ m = fitted-all (getD W (blockSize * src + countAt) 0) F n na (getD W (blockSize * host + countAt) 0) T T′ m
+
+  pub join-full : (T′ : List ℕ) (m : ℕ) → Fitted n (getD W (blockSize * host + countAt) 0) T F T′ m → capacity < m → Joined W src host T F W T′ false
   join-full T′ m ft h = record {
     grown = grown-none host W (jn .target);
     mapped = λ z. absurd (false≢true z);
     told = λ z. absurd (false≢true z);
     from = λ z. absurd (false≢true z);
-    over = λ _. ft .over h;
+    over = λ _. all-fitted T′ m ft .over h;
   }
 
-  module _ (T′ : List ℕ) (m : ℕ) (ft : Fitted (getD W (blockSize * src + countAt) 0) (getD W (blockSize * host + countAt) 0) T F T′ m) (few : m ≤ capacity) where
+  module _ (T′ : List ℕ) (m : ℕ) (ft : Fitted n (getD W (blockSize * host + countAt) 0) T F T′ m) (few : m ≤ capacity) where
     ct : Counted (countIn W src) (countIn W host) T F T′ m
-    unfolding countIn
-    ct = ft .counted few
+    ct = all-fitted T′ m ft .counted few
 
     table : length T′ ≡ capacity
     table = ct .same ∙ jn .sorted .mapped .table
@@ -73,8 +76,9 @@ module _ (W : List ℕ) (src host : ℕ) (T F : List ℕ) (jn : Joining W src ho
       numbered = record { low = ct .numbered .low; high = λ x h n. omega (arith, ct .numbered .high x h n); one = ct .numbered .one };
     }
 
-    pub join-ready : Placing W src host T′ F × (countIn W host ≤ m) × (m ≤ capacity)
-    join-ready = (join-placing, ct .most, few)
+    pub join-ready : Placing W src host T′ F × NewAmong (countIn W src) F n × (countIn W host ≤ m) × (m ≤ capacity)
+    unfolding countIn
+    join-ready = (join-placing, na, ct .most, few)
 
     low : (x : ℕ) → New F x → x < countIn W src
     low x n = jn .sorted .low x n

@@ -1,4 +1,4 @@
--- The new objects of a part numbered: one law for each return of `number_new`, and codes turned by the numbers.
+-- The new objects of a part numbered: the laws of `up_to_new` and `number_new`, and codes turned by the numbers.
 -- Not here: the objects written (Additions), the host then (Joins).
 use Prim.Native.Nat.{ℕ, _+_, _-_, _<_, _≤_}
 use native.Mathlib.Omega.{arith}
@@ -16,7 +16,7 @@ use Rattle.canon.specs.Tables.{turned}
 use Rattle.canon.specs.Numbers.{numberIn}
 use Rattle.maker.specs.Figures.{notTold, tooMany}
 use Rattle.maker.specs.Sorting.{turnIn}
-use Rattle.maker.specs.Joining.{numbersOf, New, Given, Counted, Overfull, Fitted}
+use Rattle.maker.specs.Joining.{numbersOf, New, NewAmong, Given, Counted, Overfull, Fitted}
 
 -- ---- a code turned
 module _ (T : List ℕ) (c : ℕ) where
@@ -28,6 +28,38 @@ module _ (T : List ℕ) (c : ℕ) where
       go : Dec (c < firstLeaf) → turnIn T c ≡ turned (numbersOf T) c
       go (yes l) = rw (lt-ltb c firstLeaf l) (sym (getD-map-lt (λ k. cond (eqb k 0) notTold (k - 1)) T c 0 0 (h l)))
       go (no l) = rw (le-ltb c firstLeaf (omega (arith, l)))
+
+-- ---- the last new one
+pub among-all : (n : ℕ) (F : List ℕ) → NewAmong n F n
+among-all n F = record { few = omega arith; low = λ x h w. h }
+
+module _ (n : ℕ) (F : List ℕ) (k : ℕ) (na : NewAmong n F k) where
+  pub among-less : 0 < k → getD F (k - 1) 0 ≡ 0 → NewAmong n F (k - 1)
+  among-less h z = record { few = omega (arith, na .few); low = λ x l w. less x w (na .low x l w) (ℕ-discrete x (k - 1)) }
+    where
+      less : (x : ℕ) → New F x → x < k → Dec (x ≡ k - 1) → x < k - 1
+      less x w l (yes e) = absurd (w (ap (λ (i : ℕ). getD F i 0) e ∙ z))
+      less x w l (no d) = omega (arith, d)
+
+  pub among-none : k ≤ 0 → NewAmong n F 0
+  among-none h = record { few = omega arith; low = λ x l w. omega (arith, na .low x l w) }
+
+  -- the numbers of the new ones among the first k are those of all
+  pub fitted-all : (t : ℕ) (T T′ : List ℕ) (m : ℕ) → Fitted k t T F T′ m → Fitted n t T F T′ m
+  fitted-all t T T′ m ft = record { counted = λ h. all (ft .counted h); over = λ h. let o = ft .over h in record { from = o .from; low = λ i a b. omega (arith, o .low i a b, na .few); new = o .new; one = o .one } }
+    where
+      all : Counted k t T F T′ m → Counted n t T F T′ m
+      all ct = record {
+        same = ct .same;
+        most = ct .most;
+        kept = ct .kept;
+        numbered = record {
+          low = λ x h w. ct .numbered .low x (na .low x h w) w;
+          high = λ x h w. ct .numbered .high x (na .low x h w) w;
+          one = λ x y h l w q. ct .numbered .one x y (na .low x h w) (na .low y l q) w q;
+        };
+        from = λ i l h. let g = ct .from i l h in record { source = g .source; below = omega (arith, g .below, na .few); new = g .new; at = g .at };
+      }
 
 -- ---- the numbers
 pub counted-none : (t : ℕ) (T F : List ℕ) → Counted 0 t T F T t

@@ -25,6 +25,11 @@ numbersOf T = map (λ k. cond (eqb k 0) notTold (k - 1)) T
 abbrev pub New : List ℕ → ℕ → Type 0
 New F x = (getD F x 0 ≡ 0) → ⊥
 
+-- the new ones of the first n objects are among the first k
+pub record NewAmong (n : ℕ) (F : List ℕ) (k : ℕ) : Type 0 where
+  pub few : k ≤ n
+  pub low : (x : ℕ) → x < n → New F x → x < k
+
 -- each new one of the first n objects has a number of its own, from t on and below m
 pub record Numbered (n t : ℕ) (F T : List ℕ) (m : ℕ) : Type 0 where
   pub low : (x : ℕ) → x < n → New F x → t < getD T x 0

@@ -15,7 +15,22 @@ ghost use lib.ListN.{length};
 ghost use Rattle.canon.specs.Figures.{objectSize, capacity, blockSize};
 ghost use Rattle.canon.specs.Layout.{Inside, countIn};
 ghost use Rattle.canon.specs.Tables.{Lifted};
-ghost use Rattle.maker.specs.Joining.{numbersOf, Fitted, Placing, Laid, Extended, Joining, Joined};
+ghost use Rattle.maker.specs.Joining.{numbersOf, NewAmong, Fitted, Placing, Laid, Extended, Joining, Joined};
+
+// How many of the first n objects there are up to the last new one. A part most often lies at the front of its block.
+pub(crate) fn up_to_new(n: u8, fresh: &[u8]) -> u8
+    requires { ⌜ n ≤ length (now fresh) ⌝ }
+    ensures { λ k. ⌜ NewAmong n (now (fresh .entry)) k ⌝ }
+{
+    let mut k = n;
+    while 0 < k {
+        if fresh[(k - 1) as usize] != 0 {
+            return k;
+        }
+        k -= 1;
+    }
+    0
+}
 
 // Numbers for the new ones of the first n objects, from t on in their order. Answers how many objects the host then has, TOO_MANY if there is no room.
 pub(crate) fn number_new(n: u8, t: u8, told: &mut [u8], fresh: &[u8]) -> u8
@@ -56,12 +71,11 @@ pub(crate) fn put_object(work: &mut [u8], src: u16, x: u8, host: u16, y: u8, tol
     work[q + 5] = d;
 }
 
-// All new objects, each at the place that `told` has for it.
-pub(crate) fn put_new(work: &mut [u8], src: u16, host: u16, told: &[u8], fresh: &[u8])
-    requires { ⌜ Placing (now work) src host (now told) (now fresh) ⌝ }
-    ensures { λ _. ⌜ Laid (now (work .entry)) src host (now (told .entry)) (now (fresh .entry)) (countIn (now (work .entry)) src) (now (work .exit)) ⌝ }
+// The new ones of the first n objects, each at the place that `told` has for it.
+pub(crate) fn put_new(work: &mut [u8], src: u16, host: u16, told: &[u8], fresh: &[u8], n: u8)
+    requires { ⌜ Placing (now work) src host (now told) (now fresh) × (n ≤ countIn (now work) src) ⌝ }
+    ensures { λ _. ⌜ Laid (now (work .entry)) src host (now (told .entry)) (now (fresh .entry)) n (now (work .exit)) ⌝ }
 {
-    let n = work[BLOCK * (src as usize) + COUNT];
     let mut x: u8 = 0;
     while x < n {
         if fresh[x as usize] != 0 {
@@ -81,14 +95,14 @@ pub(crate) fn higher(a: u8, b: u8) -> u8
     a
 }
 
-// The new objects in block host, which then has m objects.
-pub(crate) fn extend(work: &mut [u8], src: u16, host: u16, told: &[u8], fresh: &[u8], m: u8)
-    requires { ⌜ Placing (now work) src host (now told) (now fresh) × (countIn (now work) host ≤ m) × (m ≤ capacity) ⌝ }
+// The new objects, all among the first n, in block host, which then has m objects.
+pub(crate) fn extend(work: &mut [u8], src: u16, host: u16, told: &[u8], fresh: &[u8], n: u8, m: u8)
+    requires { ⌜ Placing (now work) src host (now told) (now fresh) × NewAmong (countIn (now work) src) (now fresh) n × (countIn (now work) host ≤ m) × (m ≤ capacity) ⌝ }
     ensures { λ _. ⌜ Extended (now (work .entry)) src host (now (told .entry)) (now (fresh .entry)) m (now (work .exit)) ⌝ }
 {
     let t = work[BLOCK * (host as usize) + COUNT];
     let l = work[BLOCK * (host as usize) + LEVEL];
-    put_new(work, src, host, told, fresh);
+    put_new(work, src, host, told, fresh, n);
     let k = level_of(
         work,
         BLOCK * (host as usize) + OBJECT * (t as usize),
@@ -106,7 +120,7 @@ pub(crate) fn join(work: &mut [u8], src: u16, host: u16, told: &mut [u8], fresh:
     ensures { λ r. ⌜ Joined (now (work .entry)) src host (now (told .entry)) (now (fresh .entry)) (now (work .exit)) (now (told .exit)) r ⌝ }
 {
     let t = work[BLOCK * (host as usize) + COUNT];
-    let n = work[BLOCK * (src as usize) + COUNT];
+    let n = up_to_new(work[BLOCK * (src as usize) + COUNT], fresh);
     let m = number_new(n, t, told, fresh);
     if CAPACITY < m {
         return false;
@@ -114,6 +128,6 @@ pub(crate) fn join(work: &mut [u8], src: u16, host: u16, told: &mut [u8], fresh:
     if m == t {
         return true;
     }
-    extend(work, src, host, told, fresh, m);
+    extend(work, src, host, told, fresh, n, m);
     true
 }

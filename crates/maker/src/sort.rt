@@ -97,6 +97,24 @@ pub(crate) fn turn_fields(work: &[u8], src: u16, x: u8, told: &[u8]) -> Turned
     Turned::All(w)
 }
 
+// Whether a field of object x of block src is another object that is not told.
+pub(crate) fn leads_on(work: &[u8], src: u16, x: u8, told: &[u8]) -> bool
+    requires { ⌜ Inside (now work) src x × (length (now told) ≡ capacity) ⌝ }
+{
+    let p = BLOCK * (src as usize) + OBJECT * (x as usize) + HEAD;
+    let mut k: u8 = 0;
+    while k < CODES {
+        let c = work[p + k as usize];
+        if c != x {
+            if turn(told, c) == NOT_TOLD {
+                return true;
+            }
+        }
+        k += 1;
+    }
+    false
+}
+
 // What its fields tell of object x: it is new if one of them is; if all are told, it is the host's object with these fields, or new if there is none. Answers
 // whether they tell.
 pub(crate) fn by_fields(
@@ -247,7 +265,7 @@ pub(crate) fn spread(
     }
 }
 
-// One of a rare class looked for, and what follows from its being new.
+// One of a rare class looked for, and what follows from its being new. Nothing if x leads to no other that is not told: none but x decides x then.
 pub(crate) fn seek_rare(
     work: &[u8],
     src: u16,
@@ -261,6 +279,9 @@ pub(crate) fn seek_rare(
     requires { ⌜ Sorting (now work) src host (now list) m (now told) (now fresh) × Listed (now list) m x ⌝ }
     ensures { λ _. ⌜ Onward (now (work .entry)) src host (now (list .entry)) m (now (told .entry)) (now (fresh .entry)) (now (told .exit)) (now (fresh .exit)) ⌝ }
 {
+    if !leads_on(work, src, x, told) {
+        return;
+    }
     let y = choose(work, src, x, host, list, m, told, fresh);
     seek_open(work, src, y, host, list, m, told, fresh);
     spread(work, src, host, list, m, told, fresh);

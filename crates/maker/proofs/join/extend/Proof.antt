@@ -40,7 +40,7 @@ returns : tie.Need-returns
 returns c =
     let pn = c .before .before .before .before .before in
     let pre = pn .before .before .before .before .before .before .before .pre in
-    laws.extend-done _ _ _ _ _ (pre .0) _ (pre .1) (pre .2) _ (pn .put-new .ensures) _ (c .before .level-of .ensures) _ (c .higher .ensures .0) (c .higher .ensures .1)
+    laws.extend-done _ _ _ _ _ (pre .0) _ (pre .1) _ (pre .2) (pre .3) _ (pn .put-new .ensures) _ (c .before .level-of .ensures) _ (c .higher .ensures .0) (c .higher .ensures .1)
 
 pub extend-spec : {M : Type 1} → statement M
 extend-spec =

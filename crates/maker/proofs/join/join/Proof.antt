@@ -6,6 +6,10 @@ use Rattle.maker.proofs.Joins as laws
 use native.Mathlib.Omega.{arith}
 use Rattle.canon.specs.Layout.{countIn}
 
+up-to-new-requires : tie.Need-up-to-new-requires
+unfolding countIn
+up-to-new-requires c κs = omega arith
+
 number-new-requires : tie.Need-number-new-requires
 unfolding countIn
 number-new-requires c κs = omega arith
@@ -20,7 +24,8 @@ extend-requires : tie.Need-extend-requires
 extend-requires c κs =
     let e = c .before .before .before in
     let nn = e .before .before .before in
-    laws.join-ready _ _ _ _ _ (nn .before .before .before .before .before .before .before .pre) _ _ (nn .number-new .ensures) (e .if1 .left)
+    let un = nn .before .before in
+    laws.join-ready _ _ _ _ _ (un .before .before .before .before .before .before .pre) _ (un .up-to-new .ensures) _ _ (nn .number-new .ensures) (e .if1 .left)
 
 returns-3 : tie.Need-returns-3
 returns-3 c = search laws.join-more
@@ -35,6 +40,7 @@ join-spec =
     (λ c. search needs)
     (λ c. search needs)
     (λ c. search needs)
+    up-to-new-requires
     number-new-requires
     (λ c. search needs)
     returns

@@ -1,4 +1,4 @@
--- The proof of `join::put_new`: all new objects, each at the place that `told` has for it. By a loop in which n - x falls, and the laws of Additions.
+-- The proof of `join::put_new`: the new ones of the first n objects, each at the place that `told` has for it. By a loop in which n - x falls, and the laws of Additions.
 use Rattle.maker.proofs.join.put_new.Statement.{statement}
 use Rattle.maker.proofs.join.put_new.Tie as tie
 use borrow.Author.Needs.{needs}
@@ -26,11 +26,11 @@ put-object-requires c κs = (search laws.laid-inside, search needs, search laws.
 loop-again : tie.Need-loop-again Inv-loop μ-loop
 loop-again c =
     let at = c .before .before .before in
-    let pre = at .before .before .before .before .before .pre in (
+    let pre = at .before .before .before .before .pre in (
       search needs,
       search needs,
-      ⊎-elim (λ w. laws.laid-more _ _ _ _ _ pre _ _ (at .loop .inv .2) (search needs) _ (w .0 .taken) _ (w .3 .ensures) (w .6))
-          (λ w. laws.laid-kept _ _ _ _ _ pre _ _ (at .loop .inv .2) (search needs) _ (w .0 .left) (w .1))
+      ⊎-elim (λ w. laws.laid-more _ _ _ _ _ (pre .0) _ _ (at .loop .inv .2) _ (pre .1) (search needs) _ (w .0 .taken) _ (w .3 .ensures) (w .6))
+          (λ w. laws.laid-kept _ _ _ _ _ (pre .0) _ _ (at .loop .inv .2) _ (pre .1) (search needs) _ (w .0 .left) (w .1))
           (c .if1 .came),
     )
 
@@ -43,9 +43,6 @@ put-new-spec =
     (tie.spec
     Inv-loop
     μ-loop
-    (λ c. search needs)
-    (λ c. search needs)
-    (λ c. search needs)
     loop-holds
     (λ c. search needs)
     (λ c. search needs)

@@ -4,16 +4,25 @@ use Rattle.maker.proofs.sort.seek_rare.Statement.{statement}
 use Rattle.maker.proofs.sort.seek_rare.Tie as tie
 use Rattle.maker.proofs.Sorts as laws
 
+leads-on-requires : tie.Need-leads-on-requires
+leads-on-requires c κs = (search laws.listed-inside, search laws.sorting-told)
+
 returns : tie.Need-returns
-returns c = search laws.rare-onward
+returns c = search laws.onward-none
+
+returns-2 : tie.Need-returns-2
+returns-2 c = search laws.rare-onward
 
 pub seek-rare-spec : {M : Type 1} → statement M
 seek-rare-spec =
     tie.close
     (tie.spec
+    leads-on-requires
+    (λ c. search needs)
+    returns
     (λ c κs. search needs)
     (λ c κs. search needs)
     (λ c κs. search needs)
     (λ c. search needs)
     (λ c. search needs)
-    returns)
+    returns-2)
