@@ -223,6 +223,12 @@ module _ (W : List ℕ) (src host : ℕ) (L : List ℕ) (m : ℕ) (T F : List �
 
 -- ---- one after another
 module _ (W : List ℕ) (src host : ℕ) (L : List ℕ) (m : ℕ) (T F T1 F1 : List ℕ) where
+  pub rare-told : (y : ℕ) → Settling W src host L m y T F T1 F1 → Onward W src host L m T F T1 F1
+  rare-told y s = s .onward
+
+  pub rare-marked : (y : ℕ) → Settling W src host L m y T F T1 F1 → Listed L m y → y < length F1
+  rare-marked y s = listed-marked W src host L m T1 F1 (s .onward .sorting) y
+
   pub rare-onward : (y : ℕ) → Settling W src host L m y T F T1 F1 → (F2 : List ℕ) → Onward W src host L m T1 F1 T1 F2 → Onward W src host L m T F T1 F2
   rare-onward y s F2 o = onward-more W src host L m T F T1 F1 T1 F2 (s .onward) o
 
@@ -277,6 +283,9 @@ module _ (W : List ℕ) (src host : ℕ) (L : List ℕ) (m : ℕ) (T F : List �
 
   pub choose-listed : Listed L m (getD L (q - 1) 0)
   choose-listed = choose-place
+
+  pub choose-fits : getD L (q - 1) 0 < 18446744073709551616
+  choose-fits = omega (arith, listed-small W src host L m T F s (getD L (q - 1) 0) choose-place)
 
   pub choose-mul : objectSize * getD L (q - 1) 0 < 18446744073709551616
   choose-mul = omega (arith, listed-small W src host L m T F s (getD L (q - 1) 0) choose-place)

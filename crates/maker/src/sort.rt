@@ -182,6 +182,33 @@ pub(crate) fn count_classes(work: &[u8], host: u16, count: &mut [u8])
     }
 }
 
+// Whether nothing is known of a listed object whose class is not that of x.
+pub(crate) fn varied(
+    work: &[u8],
+    src: u16,
+    x: u8,
+    host: u16,
+    list: &[u8],
+    m: u8,
+    told: &[u8],
+    fresh: &[u8],
+) -> bool
+    requires { ⌜ Sorting (now work) src host (now list) m (now told) (now fresh) × Listed (now list) m x ⌝ }
+{
+    let c = work[BLOCK * (src as usize) + OBJECT * (x as usize)];
+    let mut q = m;
+    while 0 < q {
+        q -= 1;
+        let y = list[q as usize];
+        if work[BLOCK * (src as usize) + OBJECT * (y as usize)] != c {
+            if is_open(y, told, fresh) {
+                return true;
+            }
+        }
+    }
+    false
+}
+
 // Of the listed objects of which nothing is known, x one of them, one whose class is rare in the host.
 pub(crate) fn choose(
     work: &[u8],
@@ -213,6 +240,26 @@ pub(crate) fn choose(
         }
     }
     best
+}
+
+// The same; x itself where all of them are of its class.
+pub(crate) fn pick(
+    work: &[u8],
+    src: u16,
+    x: u8,
+    host: u16,
+    list: &[u8],
+    m: u8,
+    told: &[u8],
+    fresh: &[u8],
+) -> u8
+    requires { ⌜ Sorting (now work) src host (now list) m (now told) (now fresh) × Listed (now list) m x ⌝ }
+    ensures { λ y. ⌜ Listed (now (list .entry)) m y ⌝ }
+{
+    if varied(work, src, x, host, list, m, told, fresh) {
+        return choose(work, src, x, host, list, m, told, fresh);
+    }
+    x
 }
 
 // Marks as new the listed objects that lead to a new one at once, from the last to the first. Answers whether there were any.
@@ -265,7 +312,28 @@ pub(crate) fn spread(
     }
 }
 
-// One of a rare class looked for, and what follows from its being new. Nothing if x leads to no other that is not told: none but x decides x then.
+// Object x looked for, and what follows from its being new.
+pub(crate) fn seek_whole(
+    work: &[u8],
+    src: u16,
+    x: u8,
+    host: u16,
+    list: &[u8],
+    m: u8,
+    told: &mut [u8],
+    fresh: &mut [u8],
+)
+    requires { ⌜ Sorting (now work) src host (now list) m (now told) (now fresh) × Listed (now list) m x ⌝ }
+    ensures { λ _. ⌜ Onward (now (work .entry)) src host (now (list .entry)) m (now (told .entry)) (now (fresh .entry)) (now (told .exit)) (now (fresh .exit)) ⌝ }
+{
+    seek_open(work, src, x, host, list, m, told, fresh);
+    if fresh[x as usize] == 0 {
+        return;
+    }
+    spread(work, src, host, list, m, told, fresh);
+}
+
+// One of a rare class looked for in this way. Nothing if x leads to no other that is not told: none but x decides x then.
 pub(crate) fn seek_rare(
     work: &[u8],
     src: u16,
@@ -282,9 +350,8 @@ pub(crate) fn seek_rare(
     if !leads_on(work, src, x, told) {
         return;
     }
-    let y = choose(work, src, x, host, list, m, told, fresh);
-    seek_open(work, src, y, host, list, m, told, fresh);
-    spread(work, src, host, list, m, told, fresh);
+    let y = pick(work, src, x, host, list, m, told, fresh);
+    seek_whole(work, src, y, host, list, m, told, fresh);
 }
 
 // Object x decided. Where its fields do not tell, it leads back to itself or to what does: looking for one of a rare class most often decides them all.

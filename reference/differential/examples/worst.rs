@@ -80,10 +80,34 @@ fn families() -> Vec<(Parts, Vec<u8>)> {
     }
     let loops = |parts: &Parts| parts.shape == Shape::Loops;
     all.retain(|parts| !loops(parts) || parts.objects <= 14);
+    all.extend(pairs());
     let texts = all
         .into_iter()
         .map(|parts| parts.text().map(|text| (parts, text)));
     texts.flatten().collect()
+}
+
+/// Chains of pairs: so many that copies of them, turned, are not too large together.
+fn pairs() -> Vec<Parts> {
+    let mut all = Vec::new();
+    for objects in [4, 6, 7, 8, 10] {
+        let room = 31 - 2 * objects;
+        for turn in [1, objects / 2, objects - 1] {
+            for beside in [0, room / 3, room / 2, room] {
+                for count in 2..=4 {
+                    all.push(Parts {
+                        shape: Shape::Pairs,
+                        word: Word::Odd,
+                        objects,
+                        turn,
+                        beside,
+                        count,
+                    });
+                }
+            }
+        }
+    }
+    all
 }
 
 /// Turns that give different words.

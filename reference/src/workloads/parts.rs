@@ -18,6 +18,8 @@ pub enum Shape {
     Chain,
     /// A chain whose objects lead to themselves too; at most 14 of them.
     Loops,
+    /// The same, each by way of another object.
+    Pairs,
 }
 
 /// Which of a part's objects are of the other of two classes.
@@ -159,7 +161,8 @@ impl Parts {
         match self.shape {
             Shape::Ring => row.ring(p, &letters, link),
             Shape::Chain => row.chain(p, &letters, END, link),
-            Shape::Loops => lay_loops(p, name, &letters),
+            Shape::Loops => lay_loops(p, name, &letters, loop_object),
+            Shape::Pairs => lay_loops(p, name, &letters, pair_object),
         }
     }
 
@@ -219,8 +222,20 @@ fn classes(parts: usize) -> Program {
     p
 }
 
+/// An object of this class over the next one and its own call.
+type Made = fn(u8, Expr, Expr) -> Expr;
+
+fn loop_object(class: u8, next: Expr, own: Expr) -> Expr {
+    new(class, [next, own.clone(), own, param(0)])
+}
+
+fn pair_object(class: u8, next: Expr, own: Expr) -> Expr {
+    let other = new(A, [new(END, []), own.clone(), own, param(0)]);
+    new(class, [next, other, param(0), param(0)])
+}
+
 /// One object a call: the next one's is open while it is made.
-fn lay_loops(p: &mut Program, name: u8, letters: &[u8]) {
+fn lay_loops(p: &mut Program, name: u8, letters: &[u8], object: Made) {
     let types = (plus(NODE), minus_open(NODE));
     for (place, &class) in (name..).zip(letters) {
         let made = |name| call(name, this(), [param(0)]);
@@ -228,7 +243,7 @@ fn lay_loops(p: &mut Program, name: u8, letters: &[u8]) {
             true => new(END, []),
             false => made(place + 1),
         };
-        let left = new(class, [next, made(place), made(place), param(0)]);
+        let left = object(class, next, made(place));
         p.method((HOLDER, place), types, &[minus(0)], (left, res()));
     }
 }

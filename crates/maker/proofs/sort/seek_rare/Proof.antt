@@ -1,4 +1,4 @@
--- The proof of `sort::seek_rare`: one of a rare class looked for, and what follows from its being new. By the laws of Sorts.
+-- The proof of `sort::seek_rare`: one of a rare class looked for, if x leads to another that is not told. By the laws of Sorts.
 use borrow.Author.Needs.{needs}
 use Rattle.maker.proofs.sort.seek_rare.Statement.{statement}
 use Rattle.maker.proofs.sort.seek_rare.Tie as tie
@@ -10,9 +10,6 @@ leads-on-requires c κs = (search laws.listed-inside, search laws.sorting-told)
 returns : tie.Need-returns
 returns c = search laws.onward-none
 
-returns-2 : tie.Need-returns-2
-returns-2 c = search laws.rare-onward
-
 pub seek-rare-spec : {M : Type 1} → statement M
 seek-rare-spec =
     tie.close
@@ -22,7 +19,6 @@ seek-rare-spec =
     returns
     (λ c κs. search needs)
     (λ c κs. search needs)
-    (λ c κs. search needs)
     (λ c. search needs)
     (λ c. search needs)
-    returns-2)
+    (λ c. search needs))
