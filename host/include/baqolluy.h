@@ -2,7 +2,7 @@
  * It declares the calls and their answers; what a text, a report and a refusal are is said in the README and in docs/.
  * host/src/lib.rs has the same declarations for Rust.
  * A call needs at most 192 KiB of stack: give a thread that calls no less.
- * What is lent to one call must not overlap: text, report and work are three places in memory apart. */
+ * What is lent to one call must not overlap: both texts, report and work are places in memory apart. */
 #ifndef BAQOLLUY_H
 #define BAQOLLUY_H
 
@@ -15,6 +15,7 @@ extern "C" {
 #endif
 
 #define LINE_TEXT_LENGTH 49567   /* longest text, and least length of a buffer to write one in */
+#define LINE_INPUT_LENGTH 4335   /* longest second text of a run; a longer one is no list of parts */
 #define LINE_REPORT_LENGTH 544   /* least length of a report buffer */
 #define LINE_WORK_LENGTH 65536   /* least length of a work buffer, and what a run leaves zeroed of it */
 #define LINE_TABLE_LENGTH 25616  /* the bytes of a class table: docs/TABLE.md */
@@ -33,7 +34,9 @@ enum line_refusal {
     LINE_SHORT_TEXT = 9,     /* a text buffer under LINE_TEXT_LENGTH */
     LINE_CLOSED = 11,        /* the session is closed */
     LINE_SHORT_REPORT = 12,  /* a report buffer under LINE_REPORT_LENGTH */
-    LINE_SHORT_WORK = 13     /* a work buffer under LINE_WORK_LENGTH */
+    LINE_SHORT_WORK = 13,    /* a work buffer under LINE_WORK_LENGTH */
+    LINE_BAD_INPUT = 14,     /* the second text: none where main needs one, one where main takes none, or no list of parts */
+    LINE_UNFIT_INPUT = 15    /* parts that do not fit the places that hold them, or more than 32 distinct ones */
 };
 
 typedef struct line_session {
@@ -108,13 +111,15 @@ line_written line_write(line_table table, uint8_t *buffer, size_t length);
 /* The type of a text's main. Refused: 1 to 7. */
 line_verdict line_check(const uint8_t *text, size_t length);
 
-/* Runs a text, types checked first. Refused: 11, 12, 13, then 1 to 7. */
-line_answer line_run(const uint8_t *text, size_t text_length, line_session session, uint8_t *report,
-                     size_t report_length, uint8_t *work, size_t work_length);
+/* Runs a text, types checked first. A main `04` is given the value whose parts the second text lists; a main `03` takes
+ * none. NULL with length 0 is no second text, and an empty one counts as none.
+ * Refused: 11, 12, 13, then 1 to 7, 14, 15. */
+line_answer line_run(const uint8_t *text, size_t text_length, const uint8_t *input, size_t input_length,
+                     line_session session, uint8_t *report, size_t report_length, uint8_t *work, size_t work_length);
 
-/* The same without the check of types. Refused: 11, 12, 13, then 1 to 5. */
-line_answer line_trial(const uint8_t *text, size_t text_length, line_session session, uint8_t *report,
-                       size_t report_length, uint8_t *work, size_t work_length);
+/* The same without the check of types. Refused: 11, 12, 13, then 1 to 5, 14, 15. */
+line_answer line_trial(const uint8_t *text, size_t text_length, const uint8_t *input, size_t input_length,
+                       line_session session, uint8_t *report, size_t report_length, uint8_t *work, size_t work_length);
 
 #ifdef __cplusplus
 }

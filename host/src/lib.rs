@@ -16,6 +16,8 @@ use std::mem::{offset_of, size_of};
 
 /// Longest text, and the least length of a buffer to write one in.
 pub const TEXT_LENGTH: usize = 49_567;
+/// Longest second text of a run; a longer one is no list of parts.
+pub const INPUT_LENGTH: usize = 4_335;
 /// Least length of a report buffer.
 pub const REPORT_LENGTH: usize = 544;
 /// Least length of a work buffer, and how much of it a run leaves zeroed.
@@ -51,6 +53,11 @@ pub mod refusal {
     pub const REPORT_BUFFER: u8 = 12;
     /// A work buffer under 65,536 bytes.
     pub const WORK_BUFFER: u8 = 13;
+    /// The second text: none where main needs one, one where main takes none, or no list of parts of the program's
+    /// classes.
+    pub const INPUT: u8 = 14;
+    /// Parts of the second text that do not fit the places that hold them, or more than 32 distinct ones.
+    pub const INPUT_FIT: u8 = 15;
 }
 
 /// A session: whether it is open, and the fuel that is left.
@@ -135,6 +142,8 @@ unsafe extern "C" {
     fn line_run(
         text: *const u8,
         text_length: usize,
+        input: *const u8,
+        input_length: usize,
         session: Session,
         report: *mut u8,
         report_length: usize,
@@ -144,6 +153,8 @@ unsafe extern "C" {
     fn line_trial(
         text: *const u8,
         text_length: usize,
+        input: *const u8,
+        input_length: usize,
         session: Session,
         report: *mut u8,
         report_length: usize,
@@ -182,17 +193,29 @@ pub fn check(text: &[u8]) -> Verdict {
 }
 
 /// Runs a text whose types are checked first. Refused with 11 if the session is closed, 12 if `report` has under 544
-/// bytes, 13 if `work` has under 65,536, in this order; then with the lowest of 1 to 7 that the text earns.
+/// bytes, 13 if `work` has under 65,536, in this order; then with the lowest of 1 to 7 that the text earns; then with 14
+/// or 15 for the second text.
+///
+/// The second text, `input`, lists the parts of the value that a main `04` is given, one line each; a main `03` takes
+/// none. An empty one counts as none.
 ///
 /// A refused run gives back the same session and length 0, and writes nothing. Any other writes its report at the
 /// front of `report`, zeroes the first 65,536 bytes of `work`, leaves the bytes after both, and gives the session back
 /// with the fuel that is left.
-pub fn run(text: &[u8], session: Session, report: &mut [u8], work: &mut [u8]) -> Answer {
+pub fn run(
+    text: &[u8],
+    input: &[u8],
+    session: Session,
+    report: &mut [u8],
+    work: &mut [u8],
+) -> Answer {
     // SAFETY: each pointer and length are those of one slice; the two that are written are lent for the call.
     unsafe {
         line_run(
             text.as_ptr(),
             text.len(),
+            input.as_ptr(),
+            input.len(),
             session,
             report.as_mut_ptr(),
             report.len(),
@@ -203,12 +226,20 @@ pub fn run(text: &[u8], session: Session, report: &mut [u8], work: &mut [u8]) ->
 }
 
 /// Runs a text without checking its types: as [`run`], but never refused with 6 or 7.
-pub fn trial(text: &[u8], session: Session, report: &mut [u8], work: &mut [u8]) -> Answer {
+pub fn trial(
+    text: &[u8],
+    input: &[u8],
+    session: Session,
+    report: &mut [u8],
+    work: &mut [u8],
+) -> Answer {
     // SAFETY: as in `run`.
     unsafe {
         line_trial(
             text.as_ptr(),
             text.len(),
+            input.as_ptr(),
+            input.len(),
             session,
             report.as_mut_ptr(),
             report.len(),

@@ -1,5 +1,5 @@
-/* Every call of baqolluy.h, with each refusal from the state, on case A of document 01. It prints the first line that
- * fails. It tests the header and how structs pass, not the language: that is done in reference/differential. */
+/* Every call of baqolluy.h, with each refusal from the state, on case A of document 01, and runs with a second text. It
+ * prints the first line that fails. It tests the header and how structs pass, not the language: that is done in reference/differential. */
 #include "baqolluy.h"
 #include <stdio.h>
 #include <string.h>
@@ -8,6 +8,9 @@ static const char text[] = "010100010003\n01020000\n02020101030103004402004041\n
                            "02020201000102004501014401004041\n03440100450200\n";
 static const uint8_t *const bytes = (const uint8_t *)text;
 static const size_t length = sizeof text - 1;
+/* main gives back what it is given: an object with a field of its own class, which may be undetermined */
+static const char giving[] = "010100010103\n0401004200\n";
+static const char ring[] = "0500010101\n0501010100\n";
 static uint8_t report[LINE_REPORT_LENGTH], work[LINE_WORK_LENGTH], written[LINE_TEXT_LENGTH];
 static line_reading reading;
 
@@ -38,19 +41,41 @@ static bool tables_and_types(void) {
 static bool runs(void) {
     line_session session = line_open(7);
     EXPECT(session.active && session.fuel == 7);
-    line_answer answer = line_run(bytes, length, session, report, sizeof report, work, sizeof work);
+    line_answer answer = line_run(bytes, length, NULL, 0, session, report, sizeof report, work, sizeof work);
     EXPECT(answer.refusal == LINE_ACCEPTED && answer.session.fuel == 4 && answer.length == 11);
     EXPECT(memcmp(report, "0500010100\n", 11) == 0);
-    answer = line_trial(bytes, length, line_open(2), report, sizeof report, work, sizeof work);
+    answer = line_trial(bytes, length, NULL, 0, line_open(2), report, sizeof report, work, sizeof work);
     EXPECT(answer.refusal == LINE_ACCEPTED && answer.session.fuel == 0 && answer.length == 5);
     EXPECT(memcmp(report, "0702\n", 5) == 0);
-    EXPECT(line_run(bytes, length, session, report, sizeof report - 1, work, 0).refusal == LINE_SHORT_REPORT);
-    EXPECT(line_trial(bytes, length, session, report, sizeof report, work, sizeof work - 1).refusal == LINE_SHORT_WORK);
+    EXPECT(line_run(bytes, length, NULL, 0, session, report, sizeof report - 1, work, 0).refusal == LINE_SHORT_REPORT);
+    EXPECT(line_trial(bytes, length, NULL, 0, session, report, sizeof report, work, sizeof work - 1).refusal == LINE_SHORT_WORK);
     line_closing closing = line_close(session);
     EXPECT(closing.refusal == LINE_ACCEPTED && !closing.session.active && closing.session.fuel == 0);
     EXPECT(line_close(closing.session).refusal == LINE_CLOSED);
-    EXPECT(line_run(bytes, length, closing.session, report, 0, work, 0).refusal == LINE_CLOSED);
+    EXPECT(line_run(bytes, length, NULL, 0, closing.session, report, 0, work, 0).refusal == LINE_CLOSED);
     return true;
 }
 
-int main(void) { return tables_and_types() && runs() ? 0 : 1; }
+static line_answer given(const char *input) {
+    return line_run((const uint8_t *)giving, sizeof giving - 1, (const uint8_t *)input, strlen(input), line_open(7),
+                    report, sizeof report, work, sizeof work);
+}
+
+static bool second_texts(void) {
+    line_answer answer = given(ring); /* two parts, one object */
+    EXPECT(answer.refusal == LINE_ACCEPTED && answer.session.fuel == 7 && answer.length == 11);
+    EXPECT(memcmp(report, "0500010100\n", 11) == 0);
+    EXPECT(given("05000101FF\n").length == 11 && memcmp(report, "05000101FF\n", 11) == 0);
+    EXPECT(given("0500000\n").refusal == LINE_BAD_INPUT);
+    EXPECT(given("05000000\n").refusal == LINE_UNFIT_INPUT);
+    EXPECT(given("").refusal == LINE_BAD_INPUT); /* an empty one counts as none */
+    answer = line_trial((const uint8_t *)giving, sizeof giving - 1, NULL, 0, line_open(7), report, sizeof report, work,
+                        sizeof work);
+    EXPECT(answer.refusal == LINE_BAD_INPUT && answer.session.fuel == 7 && answer.length == 0);
+    answer = line_trial(bytes, length, (const uint8_t *)ring, sizeof ring - 1, line_open(7), report, sizeof report,
+                        work, sizeof work);
+    EXPECT(answer.refusal == LINE_BAD_INPUT); /* a main 03 takes none */
+    return true;
+}
+
+int main(void) { return tables_and_types() && runs() && second_texts() ? 0 : 1; }

@@ -93,7 +93,16 @@ impl Program {
         Table {
             classes: self.classes.clone(),
             methods: self.methods.clone(),
+            input: None,
             main,
+        }
+    }
+
+    /// The same with an `04` main, whose parameter has this class.
+    pub fn batch_table(&self, class: u8, main: Expr) -> Table {
+        Table {
+            input: Some(plus(class)),
+            ..self.table(main)
         }
     }
 
@@ -101,5 +110,10 @@ impl Program {
     /// none: a program written here is meant to be one.
     pub fn text(&self, main: Expr) -> Vec<u8> {
         writing::text(&self.table(main)).expect("a table with a text")
+    }
+
+    /// The text with an `04` main.
+    pub fn batch_text(&self, class: u8, main: Expr) -> Vec<u8> {
+        writing::text(&self.batch_table(class, main)).expect("a table with a text")
     }
 }

@@ -2,12 +2,14 @@
 //! Here is the order of the refusals and which bytes of the lent buffers
 //! change; everything else is asked of the other files.
 
+use crate::batch;
 use crate::reading;
 use crate::refusals::{REPORT_LENGTH, Refusal, WORK_LENGTH};
 use crate::report::report;
 use crate::running;
 use crate::syntax::{Table, Type};
 use crate::typing;
+use crate::values::Value;
 
 #[derive(Clone, Copy, Debug, PartialEq, Eq)]
 pub struct Session {
@@ -55,8 +57,7 @@ pub fn check(text: &[u8]) -> Result<Type, Refusal> {
     typing::check(&reading::read(text)?)
 }
 
-/// Runs a text. A refused run writes nothing; any other writes the report at
-/// the front of its buffer and zeroes the first 65,536 work bytes.
+/// Runs a text without a second one.
 pub fn run(
     mode: Mode,
     text: &[u8],
@@ -64,14 +65,28 @@ pub fn run(
     report_buffer: &mut [u8],
     work: &mut [u8],
 ) -> Answer {
+    run_batch(mode, text, &[], session, report_buffer, work)
+}
+
+/// Runs a text on a second one; an empty one counts as none. A refused run
+/// writes nothing; any other writes the report at the front of its buffer and
+/// zeroes the first 65,536 work bytes.
+pub fn run_batch(
+    mode: Mode,
+    text: &[u8],
+    second: &[u8],
+    session: Session,
+    report_buffer: &mut [u8],
+    work: &mut [u8],
+) -> Answer {
     if let Some(refusal) = state_refusal(session, report_buffer, work) {
         return refused(refusal, session);
     }
-    let table = match admitted(mode, text) {
-        Ok(table) => table,
+    let (table, input) = match admitted(mode, text, second) {
+        Ok(admitted) => admitted,
         Err(refusal) => return refused(refusal, session),
     };
-    let (outcome, fuel) = running::run(&table, session.fuel);
+    let (outcome, fuel) = running::run_on(&table, input, session.fuel);
     let written = report(&outcome);
     report_buffer[..written.len()].copy_from_slice(&written);
     work[..WORK_LENGTH].fill(0);
@@ -103,11 +118,13 @@ pub(crate) fn state_refusal(session: Session, report: &[u8], work: &[u8]) -> Opt
     }
 }
 
-/// The table of a text this mode runs. A trial run never asks for types.
-fn admitted(mode: Mode, text: &[u8]) -> Result<Table, Refusal> {
+/// The table of a text this mode runs, and the value that main is given. A
+/// trial run never asks for types.
+fn admitted(mode: Mode, text: &[u8], second: &[u8]) -> Result<(Table, Option<Value>), Refusal> {
     let table = reading::read(text)?;
     if mode == Mode::Checked {
         typing::check(&table)?;
     }
-    Ok(table)
+    let input = batch::input(&table, second)?;
+    Ok((table, input))
 }

@@ -4,6 +4,11 @@
 
 use crate::syntax::{Method, Table, Type};
 
+/// Whether the table has a class of this number.
+pub fn known(table: &Table, class: u8) -> bool {
+    usize::from(class) <= table.classes.len()
+}
+
 fn parent(table: &Table, class: u8) -> u8 {
     table.classes[usize::from(class) - 1].parent
 }

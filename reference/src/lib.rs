@@ -6,6 +6,7 @@
 //! for speed and tested against the simple mode. It does not infer types, and it
 //! promises nothing by proof: its tests and the comparison are its only warrant.
 
+pub mod batch;
 pub mod builder;
 pub mod calls;
 pub mod classes;

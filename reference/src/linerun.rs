@@ -1,19 +1,44 @@
 //! What the program `linerun` writes, for any mode and fuel: the verdict line
 //! and, after it, the report. Reading standard input is left to `main.rs`.
 
+use crate::batch::SECOND_LENGTH;
 use crate::calls::{self, Mode};
-use crate::refusals::{REPORT_LENGTH, WORK_LENGTH};
+use crate::refusals::{REPORT_LENGTH, TEXT_LENGTH, WORK_LENGTH};
 use crate::text::push_line;
 
 /// The fuel `linerun` opens its session with.
 pub const FUEL: u16 = 1_000;
 
-/// The output for a text and the fuel left. A checked run has a verdict line
+/// So many characters of an input decide what is written: one more than the
+/// longest first text with the longest second one.
+pub const INPUT_LENGTH: usize = TEXT_LENGTH + SECOND_LENGTH + 1;
+
+/// The output for an input and the fuel left.
+pub fn output(mode: Mode, fuel: u16, input: &[u8]) -> (Vec<u8>, u16) {
+    let (text, second) = cut(input);
+    output_on(mode, fuel, text, second)
+}
+
+/// The two texts of an input: the second is all that follows the first line
+/// beginning `04`, whatever it looks like.
+pub fn cut(input: &[u8]) -> (&[u8], &[u8]) {
+    let mut end = 0;
+    for line in input.split_inclusive(|&byte| byte == b'\n') {
+        end += line.len();
+        if line.starts_with(b"04") {
+            break;
+        }
+    }
+    input.split_at(end)
+}
+
+/// The output for two texts and the fuel left. A checked run has a verdict line
 /// first; a trial run has one only when it is refused.
-pub fn output(mode: Mode, fuel: u16, text: &[u8]) -> (Vec<u8>, u16) {
+pub fn output_on(mode: Mode, fuel: u16, text: &[u8], second: &[u8]) -> (Vec<u8>, u16) {
     let mut report = vec![0; REPORT_LENGTH];
     let mut work = vec![0; WORK_LENGTH];
-    let answer = calls::run(mode, text, calls::open(fuel), &mut report, &mut work);
+    let session = calls::open(fuel);
+    let answer = calls::run_batch(mode, text, second, session, &mut report, &mut work);
     let mut output = Vec::new();
     if let Some(refusal) = answer.refusal {
         push_line(&mut output, &[0x08, refusal.number()]);

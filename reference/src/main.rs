@@ -1,18 +1,19 @@
 //! The commands: `run`, `stats`, `rows` and `emit`. Each reads its arguments
-//! or standard input and prints; the work is done in the library.
+//! or standard input and prints; the work is done in the library. What `emit`
+//! prints is an input of `run`, with its second text if it has one.
 
 use reference::calls::Mode;
 use reference::generator::random::Random;
-use reference::generator::{self, Kind, rows, stats};
+use reference::generator::{self, Kind, batch, rows, stats};
 use reference::linerun;
-use reference::refusals::TEXT_LENGTH;
 use std::io::{self, Read, Write};
 use std::process::ExitCode;
 
 const USAGE: &str = "usage: reference run < TEXT
        reference stats SEED COUNT
-       reference rows SEED COUNT
-       reference emit typed|plain|limits|illtyped|damaged|full|large|rings SEED";
+       reference rows SEED COUNT [batch]
+       reference emit typed|plain|limits|illtyped|damaged|full|large|rings SEED
+       reference emit batch fitting|rings|limits|illtyped|damaged|flawed SEED";
 
 fn main() -> ExitCode {
     let arguments: Vec<String> = std::env::args().skip(1).collect();
@@ -38,7 +39,22 @@ fn command(words: &[&str]) -> Option<io::Result<()>> {
             let table = stats::stats(seed.parse().ok()?, count.parse().ok()?);
             Some(io::stdout().write_all(table.as_bytes()))
         }
-        ["rows", seed, count] => Some(print_rows(seed.parse().ok()?, count.parse().ok()?)),
+        ["rows", seed, count] => Some(print_rows(
+            seed.parse().ok()?,
+            count.parse().ok()?,
+            rows::row,
+        )),
+        ["rows", seed, count, "batch"] => Some(print_rows(
+            seed.parse().ok()?,
+            count.parse().ok()?,
+            rows::batch_row,
+        )),
+        ["emit", "batch", kind, seed] => {
+            let mut random = Random::new(seed.parse().ok()?);
+            let batch = batch::draw(batch::Kind::named(kind)?, &mut random);
+            let both = [batch.text, batch.second].concat();
+            Some(io::stdout().write_all(&both))
+        }
         ["emit", kind, seed] => {
             let mut random = Random::new(seed.parse().ok()?);
             let text = generator::text(Kind::named(kind)?, &mut random);
@@ -48,21 +64,21 @@ fn command(words: &[&str]) -> Option<io::Result<()>> {
     }
 }
 
-fn print_rows(seed: u64, count: u64) -> io::Result<()> {
+fn print_rows(seed: u64, count: u64, row: fn(u64, u64) -> String) -> io::Result<()> {
     let mut output = io::BufWriter::new(io::stdout().lock());
     for number in 0..count {
-        output.write_all(rows::row(seed, number).as_bytes())?;
+        output.write_all(row(seed, number).as_bytes())?;
     }
     output.flush()
 }
 
 /// Document 01's `linerun`.
 fn run() -> io::Result<()> {
-    let mut text = Vec::new();
-    // One byte over the limit is enough to know the text is too long.
+    let mut input = Vec::new();
+    // What comes after that changes nothing.
     io::stdin()
-        .take(TEXT_LENGTH as u64 + 1)
-        .read_to_end(&mut text)?;
-    let (output, _) = linerun::output(Mode::Checked, linerun::FUEL, &text);
+        .take(linerun::INPUT_LENGTH as u64)
+        .read_to_end(&mut input)?;
+    let (output, _) = linerun::output(Mode::Checked, linerun::FUEL, &input);
     io::stdout().write_all(&output)
 }

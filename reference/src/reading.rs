@@ -3,8 +3,8 @@
 //! Each refusal is looked for over the whole text before the next one is, so
 //! a bad frame in the last line beats a bad order in the first two.
 
-use crate::classes;
-use crate::refusals::Refusal;
+use crate::classes::{self, known};
+use crate::refusals::{Refusal, TEXT_LENGTH};
 use crate::syntax::{
     Class, Expr, MAX_CLASSES, MAX_FIELDS, MAX_METHODS, MAX_NESTING, MAX_PARAMETERS, MINUS, Method,
     PLUS, Table, Type,
@@ -13,10 +13,13 @@ use crate::text;
 
 /// Reads a text into its table.
 pub fn read(text: &[u8]) -> Result<Table, Refusal> {
+    if text.len() > TEXT_LENGTH {
+        return Err(Refusal::LineForm);
+    }
     let lines = text::lines(text).ok_or(Refusal::LineForm)?;
     let frames: Option<Vec<Frame>> = lines.iter().map(|line| frame(line)).collect();
     let (numbers, table) = in_order(frames.ok_or(Refusal::Frame)?).ok_or(Refusal::Order)?;
-    if !classes_in_rule(&numbers, &table) || !methods_in_rule(&table) {
+    if !classes_in_rule(&numbers, &table) || !methods_in_rule(&table) || !main_in_rule(&table) {
         return Err(Refusal::Classes);
     }
     if !table.methods.iter().all(|method| overrides(&table, method)) {
@@ -29,7 +32,8 @@ enum Frame {
     /// A class still carries the number it claims; rule 4 checks it.
     Class(u8, Class),
     Method(Method),
-    Main(Expr),
+    /// The type is that of an `04` main.
+    Main(Option<Type>, Expr),
 }
 
 /// One line and how far it has been read. Running off its end, or meeting a
@@ -98,7 +102,8 @@ fn frame(line: &[u8]) -> Option<Frame> {
     let frame = match cursor.byte()? {
         0x01 => class_frame(&mut cursor)?,
         0x02 => method_frame(&mut cursor)?,
-        0x03 => Frame::Main(cursor.expr(MAX_NESTING)?),
+        0x03 => Frame::Main(None, cursor.expr(MAX_NESTING)?),
+        0x04 => Frame::Main(Some(cursor.type_()?), cursor.expr(MAX_NESTING)?),
         _ => return None,
     };
     (cursor.next == line.len()).then_some(frame)
@@ -141,16 +146,17 @@ fn in_order(frames: Vec<Frame>) -> Option<(Vec<u8>, Table)> {
             }
             Frame::Class(..) => return None,
             Frame::Method(method) => methods.push(method),
-            Frame::Main(expr) => main = Some(expr),
+            Frame::Main(input, expr) => main = Some((input, expr)),
         }
     }
     if classes.len() > MAX_CLASSES || methods.len() > MAX_METHODS {
         return None;
     }
-    let main = main?;
+    let (input, main) = main?;
     let table = Table {
         classes,
         methods,
+        input,
         main,
     };
     Some((numbers, table))
@@ -170,7 +176,7 @@ fn classes_in_rule(numbers: &[u8], table: &Table) -> bool {
         })
 }
 
-/// Rule 4 for the method frames and main.
+/// Rule 4 for the method frames.
 fn methods_in_rule(table: &Table) -> bool {
     let each = table.methods.iter().all(|method| {
         method.owner != 0
@@ -186,11 +192,15 @@ fn methods_in_rule(table: &Table) -> bool {
             .iter()
             .all(|other| (other.owner, other.name) != (method.owner, method.name))
     });
-    each && once && news_known(table, &table.main)
+    each && once
 }
 
-fn known(table: &Table, class: u8) -> bool {
-    usize::from(class) <= table.classes.len()
+/// Rule 4 for main; the type of an `04` frame has tag 00.
+fn main_in_rule(table: &Table) -> bool {
+    let input = table
+        .input
+        .is_none_or(|input| known(table, input.class) && input.tag == PLUS);
+    input && news_known(table, &table.main)
 }
 
 /// A known class under one of the two tags that fields, parameters and first

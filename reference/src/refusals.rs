@@ -1,5 +1,5 @@
 //! The numbered refusals, "from the input" and "from the state", and the
-//! lengths they test. Which call gives which is decided elsewhere.
+//! lengths they test; 14 and 15 are of the second text. Which call gives which is decided elsewhere.
 
 /// A refusal; the discriminant is document 01's number.
 #[derive(Clone, Copy, Debug, PartialEq, Eq, PartialOrd, Ord)]
@@ -16,6 +16,10 @@ pub enum Refusal {
     Closed = 11,
     ReportBuffer = 12,
     WorkBuffer = 13,
+    /// A second text that is missing, not asked for, or no list of parts.
+    Parts = 14,
+    /// Reached parts that do not fit where they are held, or too many.
+    Places = 15,
 }
 
 impl Refusal {

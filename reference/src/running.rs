@@ -28,13 +28,18 @@ pub struct Tally {
     pub open: u32,
 }
 
-/// Runs main and gives its outcome and the fuel left.
+/// Runs main without an input and gives its outcome and the fuel left.
 pub fn run(table: &Table, fuel: u16) -> (Outcome, u16) {
-    let (outcome, fuel, _) = run_with_tally(table, fuel);
+    run_on(table, None, fuel)
+}
+
+/// Runs main on its input, which is parameter 0.
+pub fn run_on(table: &Table, input: Option<Value>, fuel: u16) -> (Outcome, u16) {
+    let (outcome, fuel, _) = run_with_tally(table, input, fuel);
     (outcome, fuel)
 }
 
-pub fn run_with_tally(table: &Table, fuel: u16) -> (Outcome, u16, Tally) {
+pub fn run_with_tally(table: &Table, input: Option<Value>, fuel: u16) -> (Outcome, u16, Tally) {
     let mut run = Run {
         table,
         fuel,
@@ -43,11 +48,16 @@ pub fn run_with_tally(table: &Table, fuel: u16) -> (Outcome, u16, Tally) {
         trace: Vec::new(),
         tally: Tally::default(),
     };
-    let outcome = run.eval(&Frame::default(), &table.main);
+    let frame = Frame {
+        params: input.into_iter().collect(),
+        ..Frame::default()
+    };
+    let outcome = run.eval(&frame, &table.main);
     (outcome, run.fuel, run.tally)
 }
 
-/// The variables of a body; main has none, and only a right side has `res`.
+/// The variables of a body. Main has none but its input, and only a right side
+/// has `res`.
 #[derive(Default)]
 struct Frame {
     this: Option<Value>,

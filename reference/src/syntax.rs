@@ -53,6 +53,8 @@ pub enum Expr {
 pub struct Table {
     pub classes: Vec<Class>,
     pub methods: Vec<Method>,
+    /// The type of parameter 0 in an `04` main; an `03` main has none.
+    pub input: Option<Type>,
     pub main: Expr,
 }
 

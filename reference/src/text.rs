@@ -1,15 +1,10 @@
 //! The line form: upper-case hexadecimal, two digits a byte, LF after each
-//! line. This file knows nothing of frames.
-
-use crate::refusals::TEXT_LENGTH;
+//! line. This file knows nothing of frames, nor how long a text may be.
 
 pub const MAX_LINE_BYTES: usize = 255;
 
-/// The bytes of every line, or nothing when the text earns refusal 1.
+/// The bytes of every line, or nothing when the text has not the line form.
 pub fn lines(text: &[u8]) -> Option<Vec<Vec<u8>>> {
-    if text.len() > TEXT_LENGTH {
-        return None;
-    }
     // Every line is ended by an LF, so the last piece must end the text;
     // an empty text has no line to end and fails here too.
     let body = text.strip_suffix(b"\n")?;

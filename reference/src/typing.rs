@@ -27,12 +27,13 @@ pub struct Scope<'a> {
 }
 
 impl<'a> Scope<'a> {
+    /// Parameter 0 is all that a main may name, and only an `04` main.
     pub fn main(table: &'a Table) -> Self {
         Scope {
             table,
             this: None,
             res: None,
-            params: &[],
+            params: table.input.as_slice(),
             in_main: true,
         }
     }

@@ -3,7 +3,8 @@
 //!
 //! A graph is not kept in a canonical form. Two values are equal when their
 //! unfoldings are, which is found by following both graphs in step; numbering
-//! for a report is done in `report.rs`.
+//! for a report is done in `report.rs`. How a second text gives a graph is in
+//! `batch.rs`.
 
 /// Most distinct objects a value may hold.
 pub const MAX_OBJECTS: usize = 32;
@@ -94,8 +95,26 @@ impl Value {
         }
         objects.push(Object { class, fields });
         let root = Ref::Object(objects.len() - 1);
-        let value = merged(&objects, root);
-        (value.objects.len() <= MAX_OBJECTS).then_some(value)
+        Value::of_graph(&objects, root)
+    }
+
+    /// The value of a graph from a root, or nothing when it is too large.
+    /// Objects out of reach are dropped and equal ones shared, so that a graph
+    /// never grows beyond its distinct objects.
+    pub fn of_graph(objects: &[Object], root: Ref) -> Option<Value> {
+        let (kept, places) = distinct(objects, root)?;
+        let moved = |reference: &Ref| match *reference {
+            Ref::Object(place) => Ref::Object(places[place]),
+            other => other,
+        };
+        let object = |&place: &usize| Object {
+            class: objects[place].class,
+            fields: objects[place].fields.iter().map(moved).collect(),
+        };
+        Some(Value {
+            objects: kept.iter().map(object).collect(),
+            root: moved(&root),
+        })
     }
 
     /// The answer of the call with this mark: X = u.
@@ -116,7 +135,8 @@ impl Value {
 
     /// How many distinct objects are in the value; marks are leaves.
     pub fn size(&self) -> usize {
-        merged(&self.objects, self.root).objects.len()
+        let merged = Value::of_graph(&self.objects, self.root);
+        merged.expect("no value is too large").objects.len()
     }
 
     /// Whether the mark of an open call is in the value.
@@ -150,7 +170,7 @@ fn shifted(mut object: Object, shift: usize) -> Object {
 /// Follows two graphs in step. Pairs met before are taken as equal: only a
 /// difference reached by some path can part two unfoldings.
 fn same_unfolding(left: (&[Object], Ref), right: (&[Object], Ref)) -> bool {
-    let mut met: Vec<(usize, usize)> = Vec::new();
+    let mut met = vec![false; left.0.len() * right.0.len()];
     let mut todo = vec![(left.1, right.1)];
     while let Some(pair) = todo.pop() {
         let (Ref::Object(one), Ref::Object(two)) = pair else {
@@ -159,10 +179,9 @@ fn same_unfolding(left: (&[Object], Ref), right: (&[Object], Ref)) -> bool {
             }
             return false;
         };
-        if met.contains(&(one, two)) {
+        if std::mem::replace(&mut met[one * right.0.len() + two], true) {
             continue;
         }
-        met.push((one, two));
         let (one, two) = (&left.0[one], &right.0[two]);
         if one.class != two.class || one.fields.len() != two.fields.len() {
             return false;
@@ -172,40 +191,29 @@ fn same_unfolding(left: (&[Object], Ref), right: (&[Object], Ref)) -> bool {
     true
 }
 
-/// The same value with objects out of reach dropped and equal ones shared, so
-/// that a graph never grows beyond its distinct objects.
-fn merged(objects: &[Object], root: Ref) -> Value {
+/// The first of each object in reach that equals others, and at each place
+/// which of these it is. Nothing when there are more than 32.
+fn distinct(objects: &[Object], root: Ref) -> Option<(Vec<usize>, Vec<usize>)> {
     let mut kept: Vec<usize> = Vec::new();
     let mut places = vec![0; objects.len()];
     for place in reached(objects, root) {
-        let equal = kept.iter().position(|&other| {
-            same_unfolding((objects, Ref::Object(place)), (objects, Ref::Object(other)))
-        });
+        let here = Ref::Object(place);
+        let equal = kept
+            .iter()
+            .position(|&other| same_unfolding((objects, here), (objects, Ref::Object(other))));
         places[place] = equal.unwrap_or(kept.len());
         if equal.is_none() {
             kept.push(place);
         }
+        if kept.len() > MAX_OBJECTS {
+            return None;
+        }
     }
-    let moved = |reference: Ref| match reference {
-        Ref::Object(place) => Ref::Object(places[place]),
-        other => other,
-    };
-    let kept_objects = kept.iter().map(|&place| Object {
-        class: objects[place].class,
-        fields: objects[place]
-            .fields
-            .iter()
-            .map(|&field| moved(field))
-            .collect(),
-    });
-    Value {
-        objects: kept_objects.collect(),
-        root: moved(root),
-    }
+    Some((kept, places))
 }
 
 /// The places in reach of the root, in the order of the graph.
-fn reached(objects: &[Object], root: Ref) -> Vec<usize> {
+pub fn reached(objects: &[Object], root: Ref) -> Vec<usize> {
     let mut seen = vec![false; objects.len()];
     let mut todo = vec![root];
     while let Some(reference) = todo.pop() {

@@ -37,7 +37,7 @@ pub fn encode(table: &Table) -> Option<Vec<u8>> {
     for method in &table.methods {
         push_line(&mut text, &method_bytes(method)?);
     }
-    push_line(&mut text, &main_bytes(&table.main)?);
+    push_line(&mut text, &main_bytes(table.input, &table.main)?);
     Some(text)
 }
 
@@ -57,8 +57,11 @@ pub fn method_bytes(method: &Method) -> Option<Vec<u8>> {
     Some(bytes)
 }
 
-pub fn main_bytes(main: &Expr) -> Option<Vec<u8>> {
-    let mut bytes = vec![0x03];
+pub fn main_bytes(input: Option<Type>, main: &Expr) -> Option<Vec<u8>> {
+    let mut bytes = match input {
+        None => vec![0x03],
+        Some(input) => vec![0x04, input.class, input.tag],
+    };
     push_expr(&mut bytes, main, MAX_NESTING)?;
     Some(bytes)
 }

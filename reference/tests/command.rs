@@ -38,6 +38,34 @@ fn run_writes_verdict_and_report() {
 }
 
 #[test]
+fn run_cuts_its_input_after_the_first_line_beginning_04() {
+    let program = b"010100010003\n0401004200\n";
+    let with = |second: &[u8]| printed(&["run"], &[program, second].concat());
+    assert_eq!(with(b"05000101FF\n"), "08000100\n05000101FF\n");
+    assert_eq!(with(b""), "080E\n");
+    assert_eq!(with(b"05000000\n"), "080F\n");
+    // Input of any length: a second text is 14 however long it is, and so is
+    // one that is sound up to the last character that is read.
+    assert_eq!(with(&b"05000101FF\n".repeat(40_000)), "080E\n");
+    let sound = |number: usize| format!("05{number:02X}0101FF\n");
+    let most: String = (0..255).map(sound).collect();
+    assert_eq!(with(most.as_bytes()), "08000100\n05000101FF\n");
+    let long = format!("{most}{}", "\n".repeat(90_000));
+    assert_eq!(with(long.as_bytes()), "080E\n");
+    // The first text is 1 when it is too long, wherever its 04 line is.
+    let first = b"0340\n".repeat(20_000);
+    let both = [&first[..], b"0401004200\n05000000\n"].concat();
+    assert_eq!(printed(&["run"], &both), "0801\n");
+    // The longest first text with the longest second one.
+    let full = [&b"00".repeat(255)[..], b"\n"].concat().repeat(97);
+    let full = [&full[..49_567 - 11], b"0401004200\n"].concat();
+    let second = b"050002040000000F\n".repeat(255);
+    let both = [&full[..], &second].concat();
+    assert_eq!((full.len(), both.len()), (49_567, 53_902));
+    assert_eq!(printed(&["run"], &both), "0801\n");
+}
+
+#[test]
 fn rows_stats_and_emit_depend_on_the_seed_only() {
     let rows = printed(&["rows", "4", "20"], b"");
     assert_eq!(rows.lines().count(), 20);
@@ -54,8 +82,26 @@ fn rows_stats_and_emit_depend_on_the_seed_only() {
 }
 
 #[test]
+fn rows_and_emit_with_second_texts() {
+    let rows = printed(&["rows", "4", "20", "batch"], b"");
+    assert!(rows.lines().all(|row| row.split('\t').count() == 6));
+    assert_eq!(rows.lines().count(), 20);
+    assert_eq!(rows, printed(&["rows", "4", "20", "batch"], b""));
+    let kinds = [
+        ("fitting", ["0800"; 2]),
+        ("rings", ["0800"; 2]),
+        ("illtyped", ["0806", "0807"]),
+    ];
+    for (kind, verdicts) in kinds {
+        let input = printed(&["emit", "batch", kind, "9"], b"");
+        let output = printed(&["run"], input.as_bytes());
+        assert!(verdicts.iter().any(|verdict| output.starts_with(verdict)));
+    }
+}
+
+#[test]
 fn anything_else_is_no_command() {
-    let wrong: [&[&str]; 7] = [
+    let wrong: [&[&str]; 10] = [
         &[],
         &["walk"],
         &["run", "fast"],
@@ -63,6 +109,9 @@ fn anything_else_is_no_command() {
         &["rows", "one", "2"],
         &["emit", "huge", "1"],
         &["emit", "typed"],
+        &["emit", "batch", "typed", "1"],
+        &["emit", "batch", "rings"],
+        &["rows", "1", "2", "rings"],
     ];
     for words in wrong {
         let output = command(words, b"");

@@ -12,11 +12,17 @@ fn report_of(workload: &Workload) -> (String, usize) {
     };
     let (mut simple, mut quick) = (vec![0; REPORT_LENGTH], vec![0; REPORT_LENGTH]);
     let mut work = vec![0; WORK_LENGTH];
-    let (text, session) = (&workload.text, open(workload.fuel));
-    let answer = calls::run(mode, text, session, &mut simple, &mut work);
-    let other = fast::run(mode, text, session, &mut quick, &mut work);
+    let (text, second) = (&workload.text, &workload.second);
+    let session = open(workload.fuel);
+    let answer = calls::run_batch(mode, text, second, session, &mut simple, &mut work);
+    let other = fast::run_batch(mode, text, second, session, &mut quick, &mut work);
     assert_eq!((answer, &simple), (other, &quick), "{}", workload.name);
-    assert_eq!(answer.refusal, None, "{}", workload.name);
+    let refused = match workload.ending {
+        Ending::Refused(number) => Some(number),
+        _ => None,
+    };
+    let given = answer.refusal.map(|refusal| refusal.number());
+    assert_eq!(given, refused, "{}", workload.name);
     let report = String::from_utf8(simple[..answer.length].to_vec()).unwrap();
     (report, usize::from(workload.fuel - answer.session.fuel))
 }
@@ -31,25 +37,25 @@ fn assert_ends_as_it_says(workload: &Workload) {
             return;
         }
         Ending::Objects(count) => count,
-        Ending::OutOfFuel => 0,
+        Ending::OutOfFuel | Ending::Refused(_) => 0,
     };
     let (report, spent) = report_of(workload);
     let objects = report.lines().filter(|line| line.starts_with("05"));
     assert_eq!(objects.count(), expected, "{name}: {report}");
-    assert_eq!(report == "0702\n", expected == 0, "{name}: {report}");
+    let fuel_ran_out = workload.ending == Ending::OutOfFuel;
+    assert_eq!(report == "0702\n", fuel_ran_out, "{name}: {report}");
     assert_eq!(spent, workload.spends, "{name}");
 }
 
 #[test]
 fn every_row_ends_as_it_says() {
-    for workload in workloads::all() {
-        assert_ends_as_it_says(&workload);
-    }
+    workloads::all().iter().for_each(assert_ends_as_it_says);
 }
 
 #[test]
 fn names_are_not_used_twice() {
-    let mut names: Vec<String> = workloads::all().into_iter().map(|row| row.name).collect();
+    let rows = workloads::all().into_iter();
+    let mut names: Vec<String> = rows.map(|row| row.name).collect();
     let count = names.len();
     names.sort();
     names.dedup();

@@ -9,8 +9,7 @@ use borrow.Author.Tests.{not-true, not-false}
 use Rattle.cofj.specs.Limits.{nestingLimit}
 use Rattle.cofj.specs.Typing.{closeTag}
 use Rattle.classes.specs.declared.chain.FieldType.{FieldType}
-use Rattle.classes.specs.Machine.{pick, typeAt, rowOf, leftOf, rightOf}
-use Rattle.classes.specs.Figures.{mainAt}
+use Rattle.classes.specs.Machine.{pick, typeAt, rowOf, leftOf, rightOf, mainPlace}
 use Rattle.checker.specs.declared.scope.Typed.{Typed}
 use Rattle.checker.specs.declared.scope.Typed.the-variants.{Has, No}
 use Rattle.checker.specs.declared.scope.Res.the-variants.{Absent, Class}
@@ -115,11 +114,11 @@ module _ (B : List ℕ) (m : Bool) (em : m ≡ methodsIn B) where
   unfolding checkOf
   check-six q = rw (← em, not-true m q)
 
-  module _ (q : not m ≡ false) (o : Typed) (eo : o ≡ typeIn B nestingLimit inMain (mainAt + 1)) where
+  module _ (q : not m ≡ false) (at : ℕ) (ea : at ≡ mainPlace B) (o : Typed) (eo : o ≡ typeIn B nestingLimit inMain at) where
     pub check-seven : o ≡ No → Refused 7 ≡ checkOf B
     unfolding checkOf
-    check-seven e = rw (← em, not-false m q, ← eo, e)
+    check-seven e = rw (← em, not-false m q, ← ea, ← eo, e)
 
     pub check-main : (c g next : ℕ) → o ≡ Has c g next → Main (record { class = c; tag = g }) ≡ checkOf B
     unfolding checkOf
-    check-main c g next e = rw (← em, not-false m q, ← eo, e)
+    check-main c g next e = rw (← em, not-false m q, ← ea, ← eo, e)

@@ -1,31 +1,32 @@
 -- The check of a table's bytes is the language's check. Not here: that a table that was read is well formed (cofj, Readable).
-use Prim.Native.Nat.{ℕ, suc, _+_, _<_, _≤_}
+use Prim.Native.Nat.{ℕ, zero, suc, _+_, _<_, _≤_}
 use native.Mathlib.Omega.{arith}
 use mathlib.Core.Path.{_≡_, refl, ap, _∙_, subst}
 use mathlib.Core.Bool.{Bool, true, false, _&&_}
 use mathlib.Core.List.{List, [], _∷_}
 use mathlib.Core.Option.{Option, none, some, Option·none-ne-some}
 use lib.ListN.{length, getD, getElem?}
+use borrow.Author.Tests.{ne-eqb, le-leb}
 use Rattle.cofj.specs.Limits.{methodCount, nestingLimit}
-use Rattle.cofj.specs.Partial.{_>>=_, guard}
+use Rattle.cofj.specs.Partial.{_>>=_, guard, asList}
 use Rattle.cofj.specs.Syntax.{Ty, ty, Method, Table}
 use Rattle.cofj.specs.Classes.{fits}
 use Rattle.cofj.specs.Typing.{Env, closeTag, typeOf, methodTyped, methodsTyped, mainType, mainOr7, refused, check}
+use Rattle.cofj.specs.TypingRules.{mainVariables}
 use Rattle.cofj.specs.Tables.{allKnown}
 use Rattle.cofj.specs.WellFormed.{MethodFormed, WellFormed}
 use Rattle.cofj.specs.Writing.{codeOf}
 use Rattle.classes.specs.declared.chain.FieldType.{FieldType}
 use Rattle.classes.specs.declared.chain.FieldFound.{FieldFound}
-use Rattle.classes.specs.Machine.{pick, paramOf, rowOf, leftOf, rightOf}
-use Rattle.classes.specs.Figures.{mainAt}
-use Rattle.classes.specs.Layout.{layout}
+use Rattle.classes.specs.Machine.{pick, paramOf, rowOf, leftOf, rightOf, mainPlace}
+use Rattle.classes.specs.Layout.{layout, foundType}
 use Rattle.classes.proofs.Lists.{index-below, method-at}
-use Rattle.classes.proofs.Zones.{method-count-at, owner-at, first-at, second-at, left-stands, right-stands, main-stands}
+use Rattle.classes.proofs.Zones.{method-count-at, owner-at, first-at, second-at, left-stands, right-stands, main-stands, input-at}
 use Rattle.checker.specs.declared.scope.Typed.{Typed}
-use Rattle.checker.specs.declared.scope.Typed.the-variants.{Has}
+use Rattle.checker.specs.declared.scope.Typed.the-variants.{Has, No}
 use Rattle.checker.specs.declared.scope.Res.the-variants.{Absent, Class}
 use Rattle.checker.specs.declared.program.Checked.the-variants.{Refused}
-use Rattle.checker.specs.Types.{fitsType, foundAt}
+use Rattle.checker.specs.Types.{fitsType, foundAt, inputVar}
 use Rattle.checker.specs.Machine.{typeIn}
 use Rattle.checker.specs.Program.{body, inMain, fitsFirst, fitsSecond, resultsFit, holds, rightTyped, methodIn, methodsFrom, methodsIn, mainOf, checkOf}
 use Rattle.checker.specs.Answers.{typedAt, answerOf}
@@ -42,24 +43,38 @@ guarded : (b : Bool) → b ≡ there (guard b)
 guarded true = refl
 guarded false = refl
 
--- the variables of main and of a body
-abbrev mainEnv : Env
-mainEnv = record { this = none; res = none; params = [] }
-
+-- the variables of a body
 abbrev bodyEnv : Method → Option Ty → Env
 bodyEnv d r = record { this = some (ty (d .owner) 0); res = r; params = d .params }
 
 nowhere : {A : Type 0} (x : A) {B : Type 0} → _≡_ {A = Option A} none (some x) → B
 nowhere x e = absurd (Option·none-ne-some x e)
 
-main-agree : (t : Table) → Agree t inMain true mainEnv
+-- ---- the variables of main
+input-typed : (t : Table) (k next : ℕ) → inputVar (layout t) k next ≡ typedAt (getElem? (asList (t .input)) k) next
+input-typed t zero next = ap (λ (w : FieldFound). foundAt w next) (input-at t) ∙ go (t .input)
+  where
+    go : (i : Option Ty) → foundAt (foundType i) next ≡ typedAt (getElem? (asList i) 0) next
+    go none = refl
+    go (some u) = refl
+input-typed t (suc k) next = rw (ne-eqb (suc k) 0 (λ z. omega arith)) (go (t .input))
+  where
+    go : (i : Option Ty) → No ≡ typedAt (getElem? (asList i) (suc k)) next
+    go none = refl
+    go (some u) = refl
+
+input-known : (n : ℕ) (i : Option Ty) → ((u : Ty) → i ≡ some u → u .cls ≤ n) → allKnown n (asList i) ≡ true
 unfolding allKnown
-main-agree t = record {
+input-known n none h = refl
+input-known n (some u) h = rw (le-leb (u .cls) n (h u refl))
+
+main-agree : (t : Table) → WellFormed t → Agree t inMain true (mainVariables (t .input))
+main-agree t wf = record {
   main = refl;
   this = λ next. refl;
   res = λ next. refl;
-  param = λ k next. refl;
-  known = record { this = λ u e. nowhere u e; res = λ u e. nowhere u e; params = refl };
+  param = input-typed t;
+  known = record { this = λ u e. nowhere u e; res = λ u e. nowhere u e; params = input-known (length (t .classes)) (t .input) (wf .inputKnown) };
 }
 
 four : (a b c d : Bool) → pick a (pick b (pick c d false) false) false ≡ a && b && c && d
@@ -182,15 +197,15 @@ methods-on t wf (d ∷ ds) k h =
 pub formed-check : (t : Table) → WellFormed t → checkOf (layout t) ≡ answerOf (check t)
 unfolding checkOf check
 formed-check t wf =
-    (λ i. pick (methods i) (mainOf (main i)) (Refused 6)) ∙ go (methodsTyped t (t .methods)) (mainType t) (mainAt + 1 + length (codeOf (t .main)))
+    (λ i. pick (methods i) (mainOf (main i)) (Refused 6)) ∙ go (methodsTyped t (t .methods)) (mainType t) (mainPlace (layout t) + length (codeOf (t .main)))
   where
     methods : methodsIn (layout t) ≡ there (methodsTyped t (t .methods))
     methods =
         ap (λ (n : ℕ). methodsFrom (layout t) n 0) (method-count-at t)
         ∙ methods-on t wf (t .methods) 0 (λ j. ap (λ (x : ℕ). getElem? (t .methods) x) (let z : 0 + j ≡ j = omega arith in z))
 
-    main : typeIn (layout t) nestingLimit inMain (mainAt + 1) ≡ typedAt (mainType t) (mainAt + 1 + length (codeOf (t .main)))
-    main = types-on t wf inMain true mainEnv (main-agree t) nestingLimit .types (t .main) (mainAt + 1) (wf .mainNested) (wf .mainKnown) (main-stands t (wf .mainShort))
+    main : typeIn (layout t) nestingLimit inMain (mainPlace (layout t)) ≡ typedAt (mainType t) (mainPlace (layout t) + length (codeOf (t .main)))
+    main = types-on t wf inMain true (mainVariables (t .input)) (main-agree t wf) nestingLimit .types (t .main) (mainPlace (layout t)) (wf .mainNested) (wf .mainKnown) (main-stands t (wf .mainShort))
 
     go : (o : Option (Unit {0})) (m : Option Ty) (next : ℕ)
         → pick (there o) (mainOf (typedAt m next)) (Refused 6) ≡ answerOf (elim o [ none ↦ refused 6 | some u ↦ mainOr7 m ])

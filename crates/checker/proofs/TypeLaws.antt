@@ -13,14 +13,14 @@ use Rattle.classes.specs.declared.chain.FieldFound.{FieldFound}
 use Rattle.classes.specs.declared.chain.FieldFound.the-variants as field
 use Rattle.classes.specs.declared.methods.Found.{Found}
 use Rattle.classes.specs.declared.methods.Found.the-variants as method
-use Rattle.classes.specs.Machine.{pick, fitsOf, typeAt, fieldOf, paramOf, methodWith, rowOf}
+use Rattle.classes.specs.Machine.{pick, fitsOf, typeAt, fieldOf, paramOf, inputType, methodWith, rowOf}
 use Rattle.checker.specs.Items.{Fields}
 use Rattle.checker.specs.declared.scope.Typed.{Typed}
-use Rattle.checker.specs.declared.scope.Typed.the-variants.{Has}
+use Rattle.checker.specs.declared.scope.Typed.the-variants.{Has, No}
 use Rattle.checker.specs.declared.scope.Res.{Res}
 use Rattle.checker.specs.declared.scope.Res.the-variants.{Class}
 use Rattle.checker.specs.declared.scope.Scope.{Scope}
-use Rattle.checker.specs.Types.{fitsType, narrowTag, fitsFound, itemFits, argFits, receiverOf, resultOf, foundAt, thisOf, resIn, paramVar}
+use Rattle.checker.specs.Types.{fitsType, narrowTag, fitsFound, itemFits, argFits, receiverOf, resultOf, foundAt, thisOf, resIn, inputVar, paramVar}
 
 -- ---- tags
 -- a test is that of the order if it answers so where g is below h, is h, is above h: for a test that is worded by any comparisons of the two
@@ -113,8 +113,18 @@ module _ (B : List ℕ) (s : Scope) (next : ℕ) where
   pub this-body : (o : ℕ) → s .main ≡ false → o ≡ getD B (rowOf (s .method) + 1) 0 → Has o 0 next ≡ thisOf B s next
   this-body o e q = rw (e, q)
 
+  pub param-main : (k : ℕ) (r : Typed) → s .main ≡ true → r ≡ inputVar B k next → r ≡ paramVar B s k next
+  param-main k r e q = rw e q
+
   pub param-body : (k : ℕ) (w : FieldFound) (r : Typed) → s .main ≡ false → w ≡ paramOf B (s .method) k → r ≡ foundAt w next → r ≡ paramVar B s k next
   param-body k w r e p q = rw (e, ← p) q
+
+module _ (B : List ℕ) (k next : ℕ) where
+  pub input-other : (k ≡ 0 → ⊥) → No ≡ inputVar B k next
+  input-other h = rw (ne-eqb k 0 h)
+
+  pub input-is : (w : FieldFound) (r : Typed) → k ≡ 0 → w ≡ inputType B → r ≡ foundAt w next → r ≡ inputVar B k next
+  input-is w r h e q = rw (h, ← e) q
 
 pub res-class : (r : Res) (next c : ℕ) → r ≡ Class c → Has c 2 next ≡ resIn r next
 res-class r next c e = rw e

@@ -5,8 +5,7 @@ use Prim.Native.Nat.{ℕ, zero, suc, _+_}
 use lib.ListN.{getD}
 use Rattle.cofj.specs.Limits.{nestingLimit}
 use Rattle.cofj.specs.Typing.{closeTag}
-use Rattle.classes.specs.Machine.{pick, typeAt, rowOf, leftOf, rightOf}
-use Rattle.classes.specs.Figures.{mainAt}
+use Rattle.classes.specs.Machine.{pick, typeAt, rowOf, leftOf, rightOf, mainPlace}
 use Rattle.checker.specs.declared.scope.Typed.{Typed}
 use Rattle.checker.specs.declared.scope.Typed.the-variants.{Has, No}
 use Rattle.checker.specs.declared.scope.Res.{Res}
@@ -64,4 +63,4 @@ mainOf (Has c g next) = Main (record { class = c; tag = g })
 mainOf No = Refused 7
 
 unfoldable pub checkOf : List ℕ → Checked
-checkOf B = pick (methodsIn B) (mainOf (typeIn B nestingLimit inMain (mainAt + 1))) (Refused 6)
+checkOf B = pick (methodsIn B) (mainOf (typeIn B nestingLimit inMain (mainPlace B))) (Refused 6)

@@ -11,7 +11,7 @@ use Rattle.classes.specs.declared.chain.FieldFound.{FieldFound}
 use Rattle.classes.specs.declared.chain.FieldFound.the-variants as field
 use Rattle.classes.specs.declared.methods.Found.{Found}
 use Rattle.classes.specs.declared.methods.Found.the-variants as method
-use Rattle.classes.specs.Machine.{pick, fitsOf, typeAt, fieldOf, paramOf, methodWith, rowOf}
+use Rattle.classes.specs.Machine.{pick, fitsOf, typeAt, fieldOf, paramOf, inputType, methodWith, rowOf}
 use Rattle.checker.specs.Items.{Items}
 use Rattle.checker.specs.Items.{Parameters, Fields}
 use Rattle.checker.specs.declared.scope.Typed.{Typed}
@@ -67,5 +67,9 @@ resIn (Class c) next = Has c 2 next
 abbrev pub resOf : Scope → ℕ → Typed
 resOf s next = resIn (s .res) next
 
+-- in main parameter 0 has the input's type
+abbrev pub inputVar : List ℕ → ℕ → ℕ → Typed
+inputVar B k next = pick (eqb k 0) (foundAt (inputType B) next) No
+
 abbrev pub paramVar : List ℕ → Scope → ℕ → ℕ → Typed
-paramVar B s k next = pick (s .main) No (foundAt (paramOf B (s .method) k) next)
+paramVar B s k next = pick (s .main) (inputVar B k next) (foundAt (paramOf B (s .method) k) next)

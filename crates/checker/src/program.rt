@@ -9,9 +9,9 @@ use crate::scope::Typed;
 use classes::chain::FieldType;
 use classes::methods::first;
 use classes::methods::left_place;
+use classes::methods::main_place;
 use classes::methods::right_place;
 use classes::methods::second;
-use classes::places::MAIN;
 use classes::places::METHOD_COUNT_AT;
 use classes::places::SIZE;
 ghost use mathlib.Core.Path.{_≡_};
@@ -127,7 +127,8 @@ pub fn check(t: &[u8; SIZE]) -> Checked
         method: 0,
         res: Res::Absent,
     };
-    let o = type_body(t, scope, MAIN + 1);
+    let at = main_place(t);
+    let o = type_body(t, scope, at);
     let Typed::Has(class, tag, _) = o else {
         return Checked::Refused(7);
     };

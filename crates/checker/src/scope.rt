@@ -1,11 +1,12 @@
-// What an expression has, and its variables: none in main; this, the parameters and, on the right side, res in a body.
+// What an expression has, and its variables: in main parameter 0, if main takes an input; in a body this, the parameters and, on the right side, res.
 // Not here: the types of other expressions (expr).
 use classes::chain::FieldFound;
+use classes::methods::input_type;
 use classes::methods::owner;
 use classes::methods::param_type;
 use classes::places::SIZE;
 ghost use mathlib.Core.Path.{_≡_};
-ghost use Rattle.checker.specs.Types.{foundAt, thisOf, resOf, paramVar};
+ghost use Rattle.checker.specs.Types.{foundAt, thisOf, resOf, inputVar, paramVar};
 
 // What an expression has: a type, by class and tag, and the place after it; or no type.
 pub(crate) enum Typed {
@@ -58,12 +59,22 @@ pub(crate) fn res_type(scope: Scope, next: usize) -> Typed
     Typed::Has(c, 2, next)
 }
 
+// The type of parameter k in main: parameter 0 has the input's.
+fn input_var(t: &[u8; SIZE], k: u8, next: usize) -> Typed
+    ensures { λ r. ⌜ r ≡ inputVar (now (t .entry)) k next ⌝ }
+{
+    if k != 0 {
+        return Typed::No;
+    }
+    found(input_type(t), next)
+}
+
 // The type of parameter k.
 pub(crate) fn param_var(t: &[u8; SIZE], scope: Scope, k: u8, next: usize) -> Typed
     ensures { λ r. ⌜ r ≡ paramVar (now (t .entry)) scope k next ⌝ }
 {
     if scope.main {
-        return Typed::No;
+        return input_var(t, k, next);
     }
     let i = scope.method;
     found(param_type(t, i, k), next)

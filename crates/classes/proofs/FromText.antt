@@ -91,7 +91,7 @@ ReadMethod d = IsRead (methodFrame d)
 pub record InOrder (fs : List TextFrame) (r : Raw) : Type 0 where
   pub lines : rawLines r ≡ map lineOf fs
   pub methods : AllMethods ReadMethod (r .methods)
-  pub main : IsRead (mainFrame (r .main))
+  pub main : IsRead (mainFrame (r .input) (r .main))
   pub rights : rightsOf fs ≡ map rightAt (r .methods)
 
 front-order : (f : TextFrame) (fs : List TextFrame) (r q : Raw) → inFront f r ≡ some q → IsRead f → InOrder fs r → InOrder (f ∷ fs) q
@@ -100,24 +100,24 @@ front-order (classFrame c) fs r q e h o =
     given (InOrder (classFrame c ∷ fs)) _ q e (record { lines = ap (λ (x : List (List ℕ)). lineOf (classFrame c) ∷ x) (o .lines); methods = o .methods; main = o .main; rights = o .rights })
 front-order (methodFrame m) fs r q e h o = go (r .classes) refl e
   where
-    go : (cs : List ClassFrame) → r .classes ≡ cs → _≡_ {A = Option Raw} (elim cs [ [] ↦ some (raw [] (m ∷ r .methods) (r .main)) | c ∷ ds ↦ none ]) (some q) → InOrder (methodFrame m ∷ fs) q
+    go : (cs : List ClassFrame) → r .classes ≡ cs → _≡_ {A = Option Raw} (elim cs [ [] ↦ some (raw [] (m ∷ r .methods) (r .input) (r .main)) | c ∷ ds ↦ none ]) (some q) → InOrder (methodFrame m ∷ fs) q
     go [] p z =
         given (InOrder (methodFrame m ∷ fs)) _ q z (record {
-          lines = ap (λ (x : List (List ℕ)). methodLine m ∷ x) (ap (λ (cs : List ClassFrame). rawLines (raw cs (r .methods) (r .main))) (sym p) ∙ o .lines);
+          lines = ap (λ (x : List (List ℕ)). methodLine m ∷ x) (ap (λ (cs : List ClassFrame). rawLines (raw cs (r .methods) (r .input) (r .main))) (sym p) ∙ o .lines);
           methods = (h, o .methods);
           main = o .main;
           rights = ap (λ (x : List ℕ). rightAt m ∷ x) (o .rights);
         })
     go (c ∷ ds) p z = absurd (Option·none-ne-some q z)
-front-order (mainFrame x) fs r q e h o = absurd (Option·none-ne-some q e)
+front-order (mainFrame i x) fs r q e h o = absurd (Option·none-ne-some q e)
 
 in-order : (fs : List TextFrame) (r : Raw) → ordered fs ≡ some r → AllFrames IsRead fs → InOrder fs r
 unfolding ordered methodLines
 in-order [] r e a = absurd (Option·none-ne-some r e)
 in-order (classFrame c ∷ fs) r e a = taken (ordered fs) r e λ q p e1. front-order (classFrame c) fs q r e1 (a .0) (in-order fs q p (a .1))
 in-order (methodFrame m ∷ fs) r e a = taken (ordered fs) r e λ q p e1. front-order (methodFrame m) fs q r e1 (a .0) (in-order fs q p (a .1))
-in-order (mainFrame x ∷ []) r e a = given (InOrder (mainFrame x ∷ [])) _ r e (record { lines = refl; methods = tt; main = a .0; rights = refl })
-in-order (mainFrame x ∷ (f ∷ fs)) r e a = absurd (Option·none-ne-some r e)
+in-order (mainFrame i x ∷ []) r e a = given (InOrder (mainFrame i x ∷ [])) _ r e (record { lines = refl; methods = tt; main = a .0; rights = refl })
+in-order (mainFrame i x ∷ (f ∷ fs)) r e a = absurd (Option·none-ne-some r e)
 
 framed : (ds : List Method) → AllMethods ReadMethod ds → AllMethods Framed ds
 unfolding methodLine

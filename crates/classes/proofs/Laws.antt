@@ -11,7 +11,7 @@ use Rattle.classes.specs.declared.chain.FieldFound.{FieldFound}
 use Rattle.classes.specs.declared.chain.FieldFound.the-variants as field
 use Rattle.classes.specs.declared.methods.Found.{Found}
 use Rattle.classes.specs.declared.methods.Found.the-variants as found
-use Rattle.classes.specs.Machine.{Stored, pick, up, fitsIn, fitsOf, typeAt, ownField, fieldIn, fieldOf, numbered, ownOf, orElse, lookupIn, lookupOf, methodWith, rowOf, paramOf}
+use Rattle.classes.specs.Machine.{Stored, pick, up, fitsIn, fitsOf, typeAt, ownField, fieldIn, fieldOf, numbered, ownOf, orElse, lookupIn, lookupOf, methodWith, rowOf, paramOf, inputType}
 
 -- ---- class fit
 pub fits-zero : (B : List ℕ) (n d : ℕ) → fitsIn B n 0 d ≡ eqb 0 d
@@ -202,3 +202,11 @@ module _ (B : List ℕ) (c m n : ℕ) (f : Found) (ef : f ≡ lookupOf B c m) wh
     pub with-is : x ≡ n → found.At i ≡ methodWith B c m n
     unfolding methodWith
     with-is q = rw (← ef, e, ← ex, eq-eqb x n q)
+
+-- ---- the type of main's parameter
+module _ (B : List ℕ) where
+  pub input-none : getD B 25360 0 ≡ 0 → field.Nothing ≡ inputType B
+  input-none e = rw e
+
+  pub input-some : (getD B 25360 0 ≡ 0 → ⊥) → field.Type (typeAt B 25361) ≡ inputType B
+  input-some e = rw (ne-eqb (getD B 25360 0) 0 e)

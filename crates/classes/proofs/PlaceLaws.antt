@@ -1,10 +1,11 @@
 -- Laws of placing one line, in the form in which the needs of place cite them.
 use Prim.Native.Nat.{ℕ, _+_, _*_, _<_, _≤_}
+use native.Mathlib.Omega.{arith}
 use native.Mathlib.Numerals.{add-one}
 use mathlib.Core.Path.{_≡_, refl, sym, ap, _∙_}
 use mathlib.Core.Bool.{Bool, true, false, _&&_, not}
-use mathlib.Core.List.{List}
-use lib.Dec.{leb}
+use mathlib.Core.List.{List, [], _∷_}
+use lib.Dec.{eqb, leb}
 use lib.ListN.{length, getD, drop, set}
 use lib.Seq.{sets}
 use borrow.Author.Tests.{eq-eqb, ne-eqb, lt-ltb, le-ltb, le-leb, lt-leb}
@@ -12,7 +13,8 @@ use Rattle.cofj.specs.Typing.{closedTag}
 use Rattle.classes.specs.declared.methods.Found.{Found}
 use Rattle.classes.specs.declared.methods.Found.the-variants as found
 use Rattle.classes.specs.Machine.{Wide, pick, ownOf}
-use Rattle.classes.specs.Placing.{goodTypes, scan, headGood, methodGood, placed, above, classGood, classPut, classPlaced, indexPut, methodPut, methodFree, methodPlaced, mainPlaced}
+use Rattle.classes.specs.Placing.{goodTypes, scan, headGood, methodGood, placed, above, classGood, classPut, classPlaced, indexPut, methodPut, methodFree, methodPlaced, inputFits, mainPut, mainPlaced}
+use Rattle.classes.specs.Layout.{aheadOf}
 use Rattle.classes.proofs.LineLaws.{more, no-more, not-true, not-false}
 
 -- ---- a copy
@@ -139,11 +141,52 @@ module _ (l B : List ℕ) (i b n : ℕ) where
         method-placed T U z eT eU = sym (by k ek ∙ rw (not-false k z, e) (sym (ap (λ (x : List ℕ). placed true x) (eU ∙ ap (λ (x : List ℕ). methodPut l i b x) eT))))
 
 -- ---- main
-module _ (l B : List ℕ) (n : ℕ) (g : Bool) (eg : g ≡ scan n 0 (drop 1 l)) where
-  pub main-unknown : not g ≡ true → placed false B ≡ mainPlaced l n B
-  unfolding mainPlaced
-  main-unknown e = rw (← eg, not-true g e)
+pub no-ahead : (l : List ℕ) → length l ≡ 0 → 0 ≡ aheadOf l
+no-ahead [] e = refl
+no-ahead (b ∷ l) e = absurd (omega arith)
 
-  pub main-placed : (T : List ℕ) → not g ≡ false → T ≡ sets B 25361 (drop 1 l) → placed true (set T 25615 (length l)) ≡ mainPlaced l n B
+module _ (l : List ℕ) where
+  pub input-ahead : getD l 0 0 ≡ 4 → 2 ≡ aheadOf l
+  input-ahead e = rw e
+
+  pub plain-ahead : (getD l 0 0 ≡ 4 → ⊥) → 0 ≡ aheadOf l
+  plain-ahead e = rw (ne-eqb (getD l 0 0) 4 e)
+
+module _ (l : List ℕ) (k n : ℕ) where
+  pub input-none : k ≡ 0 → true ≡ inputFits n k l
+  unfolding inputFits
+  input-none e = rw e
+
+  module _ (z : k ≡ 0 → ⊥) where
+    pub input-short : length l < 3 → false ≡ inputFits n k l
+    unfolding inputFits
+    input-short h = rw (ne-eqb k 0 z, lt-leb 3 (length l) h)
+
+    module _ (h : 3 ≤ length l) where
+      pub input-unknown : n < getD l 1 0 → false ≡ inputFits n k l
+      unfolding inputFits
+      input-unknown e = rw (ne-eqb k 0 z, le-leb 3 (length l) h, lt-leb (getD l 1 0) n e)
+
+      pub input-tag : getD l 1 0 ≤ n → eqb (getD l 2 0) 0 ≡ inputFits n k l
+      unfolding inputFits
+      input-tag e = rw (ne-eqb k 0 z, le-leb 3 (length l) h, le-leb (getD l 1 0) n e)
+
+pub main-put : (l B T : List ℕ) (k : ℕ) → k ≡ aheadOf l → T ≡ sets (set B 25360 k) 25361 (drop 1 l) → set T 25615 (length l) ≡ mainPut l B
+unfolding mainPut
+main-put l B T k ek e = rw (← ek, e)
+
+module _ (l B : List ℕ) (n k : ℕ) (ek : k ≡ aheadOf l) (f : Bool) (ef : f ≡ inputFits n k l) where
+  pub main-input : not f ≡ true → placed false B ≡ mainPlaced l n B
   unfolding mainPlaced
-  main-placed T e eT = rw (← eg, not-false g e, eT)
+  main-input e = rw (← ek, ← ef, not-true f e)
+
+  module _ (h : not f ≡ false) (w : ℕ) (ew : Wide k w) (g : Bool) (eg : g ≡ scan n 0 (drop (1 + w) l)) where
+    by-known : mainPlaced l n B ≡ pick g (placed true (mainPut l B)) (placed false B)
+    unfolding mainPlaced
+    by-known = let z = ew .same in rw (← ek, ← ef, not-false f h, ← z, ← eg)
+
+    pub main-unknown : not g ≡ true → placed false B ≡ mainPlaced l n B
+    main-unknown e = sym (by-known ∙ rw (not-true g e))
+
+    pub main-placed : (T : List ℕ) → not g ≡ false → T ≡ mainPut l B → placed true T ≡ mainPlaced l n B
+    main-placed T e eT = sym (by-known ∙ rw (not-false g e, eT))

@@ -4,25 +4,25 @@ use native.Mathlib.Omega.{arith}
 use mathlib.Core.Path.{_≡_, refl, sym, ap, ap₂, _∙_}
 use mathlib.Core.Bool.{Bool, true, false, _&&_, false≢true}
 use mathlib.Core.List.{List, [], _∷_, _++_, append-assoc}
-use mathlib.Core.Option.{none, some, Option·none-ne-some}
+use mathlib.Core.Option.{Option, none, some, Option·none-ne-some}
 use lib.Dec.{eqb, ltb}
 use lib.ListN.{length, getD, getElem?, set, replicate, length-append, length-set, length-replicate, getD-replicate, List·getD-eq-default}
 use lib.Seq.{sets, length-sets, getD-set-same, getD-set-other}
-use borrow.Author.Tests.{eqb-true, eqb-false, ltb-true, ltb-false, lt-leb, le-ltb}
+use borrow.Author.Tests.{eqb-true, eqb-false, ltb-true, ltb-false, le-leb, lt-leb, le-ltb}
 use Rattle.cofj.specs.Limits.{classCount, methodCount, lineSize}
 use Rattle.cofj.specs.Partial.{_>>=_, guard}
-use Rattle.cofj.specs.Syntax.{Expr, Class, Method, Table}
+use Rattle.cofj.specs.Syntax.{Expr, Ty, Class, Method, Table}
 use Rattle.cofj.specs.Frames.{ClassFrame}
-use Rattle.cofj.specs.Tables.{Raw, methodsGood, exprKnown, bodies, table}
-use Rattle.cofj.specs.Writing.{codeOf, methodLines}
+use Rattle.cofj.specs.Tables.{Raw, methodsGood, inputGood, exprKnown, bodies, table}
+use Rattle.cofj.specs.Writing.{codeOf, methodLines, mainLine}
 use Rattle.cofj.specs.WellFormed.{AllMethods}
 use Rattle.lineform.specs.Packed.{packed}
 use Rattle.lineform.proofs.PackedLaws.{packed-append}
 use Rattle.classes.specs.declared.build.Lines.the-variants.{At, Refused}
 use Rattle.classes.specs.Machine.{pick}
 use Rattle.classes.specs.Figures.{tableSize}
-use Rattle.classes.specs.Layout.{zeros, classRow, indexFrom, longByte, rightPlace, filled, layout}
-use Rattle.classes.specs.Placing.{Placed, placed, classPlaced, methodPlaced, mainPlaced}
+use Rattle.classes.specs.Layout.{zeros, classRow, indexFrom, longByte, rightPlace, aheadOf, filled, layout}
+use Rattle.classes.specs.Placing.{Placed, placed, classPlaced, methodPlaced, inputFits, mainPut, mainPlaced}
 use Rattle.classes.specs.Building.{Walked, walked, linesPlaced, lastPlaced, andThen, counted, restPlaced, tablePlaced}
 use Rattle.classes.specs.Made.{Zeros, answer, Makes}
 use Rattle.classes.proofs.Lists.{sets-before, sets-after, sets-in}
@@ -68,58 +68,76 @@ zeros-filled B z = agree B (filled 0 0 [] [] []) (z .size) (length-filled 0 0 []
         go false i = getD-zeros 1 i
 
 -- ---- main
-module _ (cs : List Class) (ms : List Method) (e : Expr) (short : suc (length (codeOf e)) ≤ lineSize) where
+-- its line b and bs
+module _ (cs : List Class) (ms : List Method) (b : ℕ) (bs : List ℕ) (short : length (b ∷ bs) ≤ lineSize) where
+  abbrev ahead : ℕ
+  ahead = aheadOf (b ∷ bs)
+
   abbrev before : List ℕ
   before = filled 0 0 cs ms []
 
   abbrev after : List ℕ
-  after = filled 0 0 cs ms (3 ∷ codeOf e)
+  after = filled 0 0 cs ms (b ∷ bs)
+
+  abbrev begun : List ℕ
+  begun = set before 25360 ahead
 
   abbrev inner : List ℕ
-  inner = sets before 25361 (codeOf e)
+  inner = sets begun 25361 bs
 
   abbrev written : List ℕ
-  written = set inner 25615 (suc (length (codeOf e)))
+  written = set inner 25615 (suc (length bs))
 
-  under : (i : ℕ) → i < 25361 → getD written i 0 ≡ getD before i 0
-  under i h = getD-set-other inner 25615 i (suc (length (codeOf e))) 0 (λ w. omega arith) ∙ sets-before (codeOf e) before 25361 i h
+  begun-size : length begun ≡ tableSize
+  begun-size = length-set before 25360 ahead ∙ length-filled 0 0 cs ms []
 
-  main-byte : (j : ℕ) → j < 256 → getD written (25360 + j) 0 ≡ longByte 0 (3 ∷ codeOf e) j
-  main-byte zero h = under 25360 (omega arith) ∙ filled-main 0 0 cs ms [] 0 (omega arith)
-  main-byte (suc k) h = go (eqb (suc k) 255) refl (ltb k (length (codeOf e))) refl
+  begun-at : (i : ℕ) → i < 25361 → getD written i 0 ≡ getD begun i 0
+  begun-at i h = getD-set-other inner 25615 i (suc (length bs)) 0 (λ w. omega arith) ∙ sets-before bs begun 25361 i h
+
+  under : (i : ℕ) → i < 25360 → getD written i 0 ≡ getD before i 0
+  under i h = begun-at i (omega arith) ∙ getD-set-other before 25360 i ahead 0 (λ w. omega arith)
+
+  main-byte : (j : ℕ) → j < 256 → getD written (25360 + j) 0 ≡ longByte ahead (b ∷ bs) j
+  main-byte zero h = begun-at 25360 (omega arith) ∙ (let f = length-filled 0 0 cs ms [] in getD-set-same before 25360 ahead 0 (omega arith))
+  main-byte (suc k) h = go (eqb (suc k) 255) refl (ltb k (length bs)) refl
     where
-      go : (x : Bool) → eqb (suc k) 255 ≡ x → (y : Bool) → ltb k (length (codeOf e)) ≡ y → getD written (25360 + suc k) 0 ≡ pick x (suc (length (codeOf e))) (getD (codeOf e) k 0)
+      go : (x : Bool) → eqb (suc k) 255 ≡ x → (y : Bool) → ltb k (length bs) ≡ y → getD written (25360 + suc k) 0 ≡ pick x (suc (length bs)) (getD bs k 0)
       go true p y q =
           let w = eqb-true (suc k) 255 p in
           let i : 25360 + suc k ≡ 25615 = omega arith in
-          let f = length-sets before 25361 (codeOf e) ∙ length-filled 0 0 cs ms [] in
-          rw i (getD-set-same inner 25615 (suc (length (codeOf e))) 0 (omega arith))
+          let f = length-sets begun 25361 bs ∙ begun-size in
+          rw i (getD-set-same inner 25615 (suc (length bs)) 0 (omega arith))
       go false p true q =
           let w = eqb-false (suc k) 255 p in
           let i : 25360 + suc k ≡ 25361 + k = omega arith in
-          let f = length-filled 0 0 cs ms [] in
-          rw i (getD-set-other inner 25615 (25361 + k) (suc (length (codeOf e))) 0 (λ z. w (omega arith)) ∙ sets-in (codeOf e) before 25361 k (ltb-true k (length (codeOf e)) q) (omega arith))
+          let f = begun-size in
+          rw i (getD-set-other inner 25615 (25361 + k) (suc (length bs)) 0 (λ z. w (omega arith)) ∙ sets-in bs begun 25361 k (ltb-true k (length bs) q) (omega arith))
       go false p false q =
           let w = eqb-false (suc k) 255 p in
-          let g = ltb-false k (length (codeOf e)) q in
-          getD-set-other inner 25615 (25360 + suc k) (suc (length (codeOf e))) 0 (λ z. w (omega arith))
-          ∙ sets-after (codeOf e) before 25361 (25360 + suc k) (omega arith)
+          let g = ltb-false k (length bs) q in
+          getD-set-other inner 25615 (25360 + suc k) (suc (length bs)) 0 (λ z. w (omega arith))
+          ∙ sets-after bs begun 25361 (25360 + suc k) (omega arith)
+          ∙ getD-set-other before 25360 (25360 + suc k) ahead 0 (λ z. omega arith)
           ∙ filled-main 0 0 cs ms [] (suc k) h
           ∙ (let z : longByte 0 [] (suc k) ≡ 0 = rw p in z)
-          ∙ sym (List·getD-eq-default (codeOf e) 0 {n = k} g)
+          ∙ sym (List·getD-eq-default bs 0 {n = k} g)
 
-  main-filled : written ≡ after
+  main-filled : mainPut (b ∷ bs) before ≡ after
+  unfolding mainPut
   main-filled =
-      agree written after (length-set inner 25615 (suc (length (codeOf e))) ∙ length-sets before 25361 (codeOf e) ∙ length-filled 0 0 cs ms []) (length-filled 0 0 cs ms (3 ∷ codeOf e)) (record {
-        classes = λ c j h l. under (16 * c + j) (omega arith) ∙ filled-class 0 0 cs ms [] c j h l ∙ sym (filled-class 0 0 cs ms (3 ∷ codeOf e) c j h l);
-        index = λ c x h l. under (528 + 256 * c + x) (omega arith) ∙ filled-index 0 0 cs ms [] c x h l ∙ sym (filled-index 0 0 cs ms (3 ∷ codeOf e) c x h l);
-        methods = λ i j h l. under (8976 + 256 * i + j) (omega arith) ∙ filled-method 0 0 cs ms [] i j h l ∙ sym (filled-method 0 0 cs ms (3 ∷ codeOf e) i j h l);
-        main = λ j l. main-byte j l ∙ sym (filled-main 0 0 cs ms (3 ∷ codeOf e) j l);
+      agree written after (length-set inner 25615 (suc (length bs)) ∙ length-sets begun 25361 bs ∙ begun-size) (length-filled 0 0 cs ms (b ∷ bs)) (record {
+        classes = λ c j h l. under (16 * c + j) (omega arith) ∙ filled-class 0 0 cs ms [] c j h l ∙ sym (filled-class 0 0 cs ms (b ∷ bs) c j h l);
+        index = λ c x h l. under (528 + 256 * c + x) (omega arith) ∙ filled-index 0 0 cs ms [] c x h l ∙ sym (filled-index 0 0 cs ms (b ∷ bs) c x h l);
+        methods = λ i j h l. under (8976 + 256 * i + j) (omega arith) ∙ filled-method 0 0 cs ms [] i j h l ∙ sym (filled-method 0 0 cs ms (b ∷ bs) i j h l);
+        main = λ j l. main-byte j l ∙ sym (filled-main 0 0 cs ms (b ∷ bs) j l);
       })
 
-  pub main-is : (n : ℕ) → mainPlaced (3 ∷ codeOf e) n before ≡ pick (exprKnown n e) (placed true after) (placed false before)
-  unfolding mainPlaced
-  main-is n = rw (scan-whole e n, main-filled)
+module _ (cs : List Class) (ms : List Method) (e : Expr) (n : ℕ) where
+  pub main-is : (i : Option Ty) → length (mainLine i e) ≤ lineSize
+      → mainPlaced (mainLine i e) n (filled 0 0 cs ms []) ≡ pick (inputGood n i && exprKnown n e) (placed true (filled 0 0 cs ms (mainLine i e))) (placed false (filled 0 0 cs ms []))
+  unfolding mainPlaced inputFits
+  main-is none short = rw (scan-whole e n, main-filled cs ms 3 (codeOf e) short)
+  main-is (some u) short = rw (le-leb 3 (length (mainLine (some u) e)) (omega arith), scan-whole e n, main-filled cs ms 4 (u .cls ∷ u .tag ∷ codeOf e) short)
 
 -- ---- the counts
 counts-off : (n m k j : ℕ) → (j ≡ k → ⊥) → (j ≡ suc k → ⊥) → getD (zeros k ++ (0 ∷ 0 ∷ [])) j 0 ≡ getD (zeros k ++ (n ∷ m ∷ [])) j 0
@@ -183,11 +201,15 @@ last-is S P l at n B e h =
 -- ---- all lines
 -- the lines of frames in order
 abbrev pub rawLines : Raw → List (List ℕ)
-rawLines r = classLinesOf (r .classes) ++ (methodLines (r .methods) ++ ((3 ∷ codeOf (r .main)) ∷ []))
+rawLines r = classLinesOf (r .classes) ++ (methodLines (r .methods) ++ (mainLine (r .input) (r .main) ∷ []))
 
 pub length-bodies : (cs : List ClassFrame) → length (bodies cs) ≡ length cs
 length-bodies [] = refl
 length-bodies (c ∷ cs) = ap suc (length-bodies cs)
+
+and-last : (a b c : Bool) → a && b && c ≡ a && (b && c)
+and-last true b c = refl
+and-last false b c = refl
 
 stops : (w : Walked) (f : ℕ → List ℕ → Placed) → refused w ≡ true → answer (andThen w f) ≡ false
 stops (walked Refused B) f e = refl
@@ -198,7 +220,7 @@ pub record Short (r : Raw) : Type 0 where
   pub classes : length (r .classes) ≤ classCount
   pub methods : length (r .methods) ≤ methodCount
   pub framed : AllMethods Framed (r .methods)
-  pub main : suc (length (codeOf (r .main))) ≤ lineSize
+  pub main : length (mainLine (r .input) (r .main)) ≤ lineSize
 
 module _ (r : Raw) (s : Short r) (S Q : List ℕ) (e : S ≡ packed (rawLines r)) (qs : (i : ℕ) (d : Method) → getElem? (r .methods) i ≡ some d → getD Q i 0 ≡ rightPlace d) where
   abbrev n : ℕ
@@ -210,8 +232,8 @@ module _ (r : Raw) (s : Short r) (S Q : List ℕ) (e : S ≡ packed (rawLines r)
   abbrev cs : List Class
   cs = bodies (r .classes)
 
-  abbrev mainLine : List ℕ
-  mainLine = 3 ∷ codeOf (r .main)
+  abbrev line : List ℕ
+  line = mainLine (r .input) (r .main)
 
   abbrev P1 : List ℕ
   P1 = packed (classLinesOf (r .classes))
@@ -220,11 +242,11 @@ module _ (r : Raw) (s : Short r) (S Q : List ℕ) (e : S ≡ packed (rawLines r)
   P2 = packed (methodLines (r .methods))
 
   abbrev last : List ℕ
-  last = length mainLine ∷ (mainLine ++ [])
+  last = length line ∷ (line ++ [])
 
   parts : S ≡ P1 ++ (P2 ++ last)
   unfolding packed
-  parts = e ∙ packed-append (classLinesOf (r .classes)) (methodLines (r .methods) ++ (mainLine ∷ [])) ∙ ap (λ (x : List ℕ). P1 ++ x) (packed-append (methodLines (r .methods)) (mainLine ∷ []))
+  parts = e ∙ packed-append (classLinesOf (r .classes)) (methodLines (r .methods) ++ (line ∷ [])) ∙ ap (λ (x : List ℕ). P1 ++ x) (packed-append (methodLines (r .methods)) (line ∷ []))
 
   class-part : Ends (classRules n 1 cs (r .classes)) (linesPlaced (λ l k B. classPlaced l k n B) S n 0 1 (filled 0 0 [] [] [])) (length P1) (filled 0 0 cs [] [])
   class-part =
@@ -237,7 +259,7 @@ module _ (r : Raw) (s : Short r) (S Q : List ℕ) (e : S ≡ packed (rawLines r)
       (λ j d w. ap (λ (k : ℕ). getD Q k 0) (let z : 0 + j ≡ j = omega arith in z) ∙ qs j d w)
 
   made-table : Table
-  made-table = record { classes = cs; methods = r .methods; main = r .main }
+  made-table = record { classes = cs; methods = r .methods; input = r .input; main = r .main }
 
   -- the rules of the language, one after another
   okClasses : Bool
@@ -247,15 +269,15 @@ module _ (r : Raw) (s : Short r) (S Q : List ℕ) (e : S ≡ packed (rawLines r)
   okMethods = methodsGood n (r .methods)
 
   okMain : Bool
-  okMain = exprKnown n (r .main)
+  okMain = inputGood n (r .input) && exprKnown n (r .main)
 
   table-is : table r ≡ guard (okClasses && okMethods && okMain) >>= λ _. some made-table
   unfolding table okClasses okMethods okMain made-table
-  table-is = rw (length-bodies (r .classes))
+  table-is = rw (length-bodies (r .classes), and-last (okClasses && okMethods) (inputGood n (r .input)) (exprKnown n (r .main)))
 
-  layout-is : layout made-table ≡ filled n m cs (r .methods) mainLine
+  layout-is : layout made-table ≡ filled n m cs (r .methods) line
   unfolding layout made-table
-  layout-is = ap (λ (k : ℕ). filled k m cs (r .methods) mainLine) (length-bodies (r .classes))
+  layout-is = ap (λ (k : ℕ). filled k m cs (r .methods) line) (length-bodies (r .classes))
 
   abbrev start : List ℕ
   start = filled 0 0 [] [] []
@@ -277,12 +299,12 @@ module _ (r : Raw) (s : Short r) (S Q : List ℕ) (e : S ≡ packed (rawLines r)
   unfolding restPlaced okMethods
   past-methods q = rw (method-part .good (ap₂ _&&_ q (none-yet (r .methods))))
 
-  at-main : lastPlaced S (length P1 + length P2) n (filled 0 0 cs (r .methods) []) ≡ pick okMain (placed true (filled 0 0 cs (r .methods) mainLine)) (placed false (filled 0 0 cs (r .methods) []))
+  at-main : lastPlaced S (length P1 + length P2) n (filled 0 0 cs (r .methods) []) ≡ pick okMain (placed true (filled 0 0 cs (r .methods) line)) (placed false (filled 0 0 cs (r .methods) []))
   unfolding okMain
   at-main =
       let a = length-append P1 P2 in
-      last-is S (P1 ++ P2) mainLine (length P1 + length P2) n (filled 0 0 cs (r .methods) []) (parts ∙ sym (append-assoc P1 P2 last)) (sym a)
-      ∙ main-is cs (r .methods) (r .main) (s .main) n
+      last-is S (P1 ++ P2) line (length P1 + length P2) n (filled 0 0 cs (r .methods) []) (parts ∙ sym (append-assoc P1 P2 last)) (sym a)
+      ∙ main-is cs (r .methods) (r .main) n (r .input) (s .main)
 
   no-classes : okClasses ≡ false → answer (tablePlaced S Q n m start) ≡ false
   unfolding tablePlaced okClasses
@@ -300,8 +322,8 @@ module _ (r : Raw) (s : Short r) (S Q : List ℕ) (e : S ≡ packed (rawLines r)
       let z : tablePlaced S Q n m start ≡ placed false (filled 0 0 cs (r .methods) []) = past-classes p ∙ past-methods q ∙ rw (at-main, w) in
       makes-none _ (table-is ∙ rw (p, q, w)) (ap answer z)
   decide true p true q true w =
-      let z : tablePlaced S Q n m start ≡ placed true (set (set (filled 0 0 cs (r .methods) mainLine) 11 n) 12 m) = past-classes p ∙ past-methods q ∙ rw (at-main, w) in
-      makes-some _ (table-is ∙ rw (p, q, w)) (z ∙ ap (λ (x : List ℕ). placed true x) (counts-filled n m cs (r .methods) mainLine ∙ sym layout-is))
+      let z : tablePlaced S Q n m start ≡ placed true (set (set (filled 0 0 cs (r .methods) line) 11 n) 12 m) = past-classes p ∙ past-methods q ∙ rw (at-main, w) in
+      makes-some _ (table-is ∙ rw (p, q, w)) (z ∙ ap (λ (x : List ℕ). placed true x) (counts-filled n m cs (r .methods) line ∙ sym layout-is))
 
   pub table-lines : (B : List ℕ) → Zeros B → Makes (table r) (tablePlaced S Q n m B)
   table-lines B z = rw (zeros-filled B z) (decide okClasses refl okMethods refl okMain refl)

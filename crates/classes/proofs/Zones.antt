@@ -4,18 +4,20 @@ use native.Mathlib.Nat.{not-suc-le-zero}
 use native.Mathlib.Omega.{arith}
 use mathlib.Core.Path.{_≡_, refl, ap, _∙_, subst}
 use mathlib.Core.List.{List, [], _∷_, _++_, append-nil}
-use mathlib.Core.Option.{some, Option·none-ne-some}
+use mathlib.Core.Option.{Option, none, some, Option·none-ne-some}
+use lib.Dec.{eqb}
 use lib.ListN.{length, getD, getElem?, length-append, List·getD-append}
 use lib.Seq.{getD-append-add}
 use borrow.Author.Tests.{lt-ltb, le-ltb, ne-eqb}
 use Rattle.cofj.specs.Limits.{classCount, methodCount, lineSize}
-use Rattle.cofj.specs.Syntax.{Ty, Class, Method, Table}
+use Rattle.cofj.specs.Syntax.{Expr, Ty, Class, Method, Table}
 use Rattle.cofj.specs.Classes.{parentOf, classAt, ownOrNone, fieldsOf, fieldsTo}
-use Rattle.cofj.specs.Writing.{codeOf, typesBytes, methodLine}
+use Rattle.cofj.specs.Writing.{codeOf, typesBytes, methodLine, mainLine}
 use Rattle.classes.specs.declared.chain.FieldType.{FieldType}
-use Rattle.classes.specs.Machine.{typeAt, rowOf, leftOf, rightOf}
+use Rattle.classes.specs.declared.chain.FieldFound.the-variants as field
+use Rattle.classes.specs.Machine.{pick, typeAt, rowOf, leftOf, rightOf, mainPlace, inputType}
 use Rattle.classes.specs.Figures.{tableSize, rowSize, longSize, indexAt, methodsAt, mainAt}
-use Rattle.classes.specs.Layout.{classRow, indexFrom, rest, rightPlace, longByte, methodByte, byteOf, filled, tabulate, layout, bytesOf, Stands}
+use Rattle.classes.specs.Layout.{classRow, indexFrom, rest, rightPlace, longByte, methodByte, inputSize, aheadOf, byteOf, filled, tabulate, layout, bytesOf, foundType, Stands}
 
 -- ---- a list by its places
 length-tabulate : (n : ℕ) (f : ℕ → ℕ) → length (tabulate n f) ≡ n
@@ -63,12 +65,16 @@ module _ (n m : ℕ) (cs : List Class) (ms : List Method) (line : List ℕ) wher
       let r : (i - 8976) % 256 ≡ j = omega arith in
       getD-filled n m cs ms line i (omega arith) ∙ rw (le-ltb i 528 (omega arith), le-ltb i 8976 (omega arith), lt-ltb i 25360 (omega arith), q, r)
 
-  pub filled-main : (j : ℕ) → j < longSize → getD (filled n m cs ms line) (mainAt + j) 0 ≡ longByte 0 line j
+  pub filled-main : (j : ℕ) → j < longSize → getD (filled n m cs ms line) (mainAt + j) 0 ≡ longByte (aheadOf line) line j
   unfolding byteOf
   filled-main j l =
       let i = 25360 + j in
       let q : i - 25360 ≡ j = omega arith in
       getD-filled n m cs ms line i (omega arith) ∙ rw (le-ltb i 528 (omega arith), le-ltb i 8976 (omega arith), le-ltb i 25360 (omega arith), q)
+
+pub ahead-is : (i : Option Ty) (e : Expr) → aheadOf (mainLine i e) ≡ inputSize i
+ahead-is none e = refl
+ahead-is (some u) e = refl
 
 module _ (t : Table) where
   pub length-layout : length (layout t) ≡ tableSize
@@ -88,9 +94,9 @@ module _ (t : Table) where
   unfolding layout
   method-zone k j h l = filled-method _ _ _ _ _ k j h l
 
-  pub main-zone : (j : ℕ) → j < longSize → getD (layout t) (mainAt + j) 0 ≡ longByte 0 (3 ∷ codeOf (t .main)) j
+  pub main-zone : (j : ℕ) → j < longSize → getD (layout t) (mainAt + j) 0 ≡ longByte (inputSize (t .input)) (mainLine (t .input) (t .main)) j
   unfolding layout
-  main-zone j l = filled-main _ _ _ _ _ j l
+  main-zone j l = filled-main _ _ _ _ _ j l ∙ ap (λ (p : ℕ). longByte p (mainLine (t .input) (t .main)) j) (ahead-is (t .input) (t .main))
 
   -- ---- a class's parts
   pub parent-at : (c : ℕ) → c ≤ classCount → getD (layout t) (rowSize * c) 0 ≡ parentOf (t .classes) c
@@ -259,10 +265,37 @@ module _ (t : Table) (i : ℕ) (d : Method) (l : i < methodCount) (e : getElem? 
       same-type (param-byte (2 * k) (omega arith) ∙ w .0)
       (ap (λ (x : ℕ). getD (layout t) x 0) (let z : rowOf i + 8 + 2 * k + 1 ≡ rowOf i + 8 + (2 * k + 1) = omega arith in z) ∙ param-byte (2 * k + 1) (omega arith) ∙ w .1)
 
-pub main-stands : (t : Table) → suc (length (codeOf (t .main))) ≤ lineSize → Stands (layout t) (mainAt + 1) (codeOf (t .main))
-main-stands t short = record {
-  byte = λ k h.
-      ap (λ (x : ℕ). getD (layout t) x 0) (let q : mainAt + 1 + k ≡ mainAt + suc k = omega arith in q)
-      ∙ main-zone t (suc k) (omega arith)
-      ∙ rw (ne-eqb (suc k) 255 (λ z. omega arith));
-}
+-- ---- the parts of main
+module _ (t : Table) where
+  pub input-size-at : getD (layout t) mainAt 0 ≡ inputSize (t .input)
+  input-size-at = main-zone t 0 (omega arith)
+
+  -- the line's bytes after its first, where there are at most 255
+  module _ (short : length (mainLine (t .input) (t .main)) ≤ lineSize) where
+    pub main-line-stands : Stands (layout t) (mainAt + 1) (rest (mainLine (t .input) (t .main)))
+    main-line-stands = go (mainLine (t .input) (t .main)) refl
+      where
+        go : (l : List ℕ) → mainLine (t .input) (t .main) ≡ l → Stands (layout t) (mainAt + 1) (rest l)
+        go [] q = record { byte = λ k h. absurd (not-suc-le-zero h) }
+        go (b ∷ bs) q = record {
+          byte = λ k h.
+              let z = ap length q in
+              ap (λ (x : ℕ). getD (layout t) x 0) (let w : mainAt + 1 + k ≡ mainAt + suc k = omega arith in w)
+              ∙ main-zone t (suc k) (omega arith)
+              ∙ rw (ne-eqb (suc k) 255 (λ w. omega arith), q);
+        }
+
+    pub main-stands : Stands (layout t) (mainPlace (layout t)) (codeOf (t .main))
+    main-stands = rw input-size-at (go (t .input) main-line-stands)
+      where
+        go : (i : Option Ty) → Stands (layout t) (mainAt + 1) (rest (mainLine i (t .main))) → Stands (layout t) (mainAt + 1 + inputSize i) (codeOf (t .main))
+        go none s = s
+        go (some u) s = stands-after (layout t) (mainAt + 1) (u .cls ∷ u .tag ∷ []) (codeOf (t .main)) s
+
+  pub input-at : inputType (layout t) ≡ foundType (t .input)
+  input-at = rw input-size-at (go (t .input) (λ j l. main-zone t j l))
+    where
+      go : (i : Option Ty) → ((j : ℕ) → j < longSize → getD (layout t) (mainAt + j) 0 ≡ longByte (inputSize i) (mainLine i (t .main)) j)
+          → pick (eqb (inputSize i) 0) field.Nothing (field.Type (typeAt (layout t) (mainAt + 1))) ≡ foundType i
+      go none f = refl
+      go (some u) f = ap field.Type (same-type (f 1 (omega arith)) (f 2 (omega arith)))

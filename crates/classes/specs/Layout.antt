@@ -8,7 +8,7 @@ use lib.Dec.{eqb, ltb}
 use lib.ListN.{length, getD, getElem?}
 use Rattle.cofj.specs.Syntax.{Ty, Class, Method, Table}
 use Rattle.cofj.specs.Classes.{parentOf, classAt, ownOrNone, fieldsOf}
-use Rattle.cofj.specs.Writing.{codeOf, typesBytes, methodLine}
+use Rattle.cofj.specs.Writing.{codeOf, typesBytes, methodLine, mainLine}
 use Rattle.cofj.specs.WellFormed.{WellFormed}
 use Rattle.classes.specs.declared.chain.FieldType.{FieldType}
 use Rattle.classes.specs.declared.chain.FieldFound.{FieldFound}
@@ -51,13 +51,22 @@ abbrev pub methodByte : Option Method → ℕ → ℕ
 methodByte none j = 0
 methodByte (some d) j = longByte (rightPlace d) (methodLine d) j
 
+-- how many bytes stand between the first byte of main's line and its expression: the type of its parameter, if it has one
+abbrev pub inputSize : Option Ty → ℕ
+inputSize none = 0
+inputSize (some u) = 2
+
+-- the same of a line
+abbrev pub aheadOf : List ℕ → ℕ
+aheadOf l = pick (eqb (getD l 0 0) 4) 2 0
+
 -- ---- the bytes
 -- byte i, with the counts n and m, these classes, these methods, and this line of main
 unfoldable pub byteOf : ℕ → ℕ → List Class → List Method → List ℕ → ℕ → ℕ
 byteOf n m cs ms l i =
     pick (ltb i indexAt) (getD (classRow n m cs (i / rowSize)) (i % rowSize) 0)
     (pick (ltb i methodsAt) (indexFrom 0 ms ((i - indexAt) / longSize) ((i - indexAt) % longSize))
-    (pick (ltb i mainAt) (methodByte (getElem? ms ((i - methodsAt) / longSize)) ((i - methodsAt) % longSize)) (longByte 0 l (i - mainAt))))
+    (pick (ltb i mainAt) (methodByte (getElem? ms ((i - methodsAt) / longSize)) ((i - methodsAt) % longSize)) (longByte (aheadOf l) l (i - mainAt))))
 
 unfoldable pub tabulate : ℕ → (ℕ → ℕ) → List ℕ
 tabulate zero f = []
@@ -68,10 +77,10 @@ unfoldable pub filled : ℕ → ℕ → List Class → List Method → List ℕ 
 filled n m cs ms l = tabulate tableSize (byteOf n m cs ms l)
 
 abbrev pub byteAt : Table → ℕ → ℕ
-byteAt t i = byteOf (length (t .classes)) (length (t .methods)) (t .classes) (t .methods) (3 ∷ codeOf (t .main)) i
+byteAt t i = byteOf (length (t .classes)) (length (t .methods)) (t .classes) (t .methods) (mainLine (t .input) (t .main)) i
 
 unfoldable pub layout : Table → List ℕ
-layout t = filled (length (t .classes)) (length (t .methods)) (t .classes) (t .methods) (3 ∷ codeOf (t .main))
+layout t = filled (length (t .classes)) (length (t .methods)) (t .classes) (t .methods) (mainLine (t .input) (t .main))
 
 -- a type as two bytes
 abbrev pub bytesOf : Ty → FieldType

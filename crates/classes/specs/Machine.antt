@@ -7,7 +7,7 @@ use Prim.Native.Nat.{ℕ, zero, suc, _+_, _-_, _*_, _%_, _<_}
 use lib.ListN.{getD}
 use lib.Dec.{eqb, leb, ltb}
 use Rattle.cofj.specs.Limits.{classCount, methodCount}
-use Rattle.classes.specs.Figures.{rowSize, longSize, indexAt, methodsAt}
+use Rattle.classes.specs.Figures.{rowSize, longSize, indexAt, methodsAt, mainAt}
 use Rattle.classes.specs.declared.chain.FieldType.{FieldType}
 use Rattle.classes.specs.declared.chain.FieldFound.{FieldFound}
 use Rattle.classes.specs.declared.chain.FieldFound.the-variants as field
@@ -99,3 +99,10 @@ leftOf B i = rowOf i + 8 + 2 * getD B (rowOf i + 7) 0
 
 abbrev pub rightOf : List ℕ → ℕ → ℕ
 rightOf B i = rowOf i + getD B (rowOf i) 0
+
+-- ---- main's row
+abbrev pub mainPlace : List ℕ → ℕ
+mainPlace B = mainAt + 1 + getD B mainAt 0
+
+abbrev pub inputType : List ℕ → FieldFound
+inputType B = pick (eqb (getD B mainAt 0) 0) field.Nothing (field.Type (typeAt B (mainAt + 1)))

@@ -13,6 +13,7 @@ use Rattle.classes.specs.Figures.{rowSize, longSize, indexAt, methodsAt,
 use Rattle.classes.specs.declared.methods.Found.{Found}
 use Rattle.classes.specs.declared.methods.Found.the-variants as found
 use Rattle.classes.specs.Machine.{pick, ownOf}
+use Rattle.classes.specs.Layout.{aheadOf}
 
 -- the first k types of the bytes have classes up to n and closed tags
 unfoldable pub goodTypes : ℕ → ℕ → List ℕ → Bool
@@ -89,5 +90,12 @@ methodFree l i b B found.Nothing = placed true (methodPut l i b (indexPut (getD 
 unfoldable pub methodPlaced : List ℕ → ℕ → ℕ → ℕ → List ℕ → Placed
 methodPlaced l i b n B = pick (methodGood n l) (methodFree l i b B (ownOf B (getD l 1 0) (getD l 2 0))) (placed false B)
 
+-- the type of main's parameter, where k bytes stand in front of its expression: known, and tag 0
+unfoldable pub inputFits : ℕ → ℕ → List ℕ → Bool
+inputFits n k l = pick (eqb k 0) true (leb 3 (length l) && leb (getD l 1 0) n && eqb (getD l 2 0) 0)
+
+unfoldable pub mainPut : List ℕ → List ℕ → List ℕ
+mainPut l B = set (sets (set B mainAt (aheadOf l)) (mainAt + 1) (drop 1 l)) (mainAt + lastByte) (length l)
+
 unfoldable pub mainPlaced : List ℕ → ℕ → List ℕ → Placed
-mainPlaced l n B = pick (scan n 0 (drop 1 l)) (placed true (set (sets B (mainAt + 1) (drop 1 l)) (mainAt + lastByte) (length l))) (placed false B)
+mainPlaced l n B = pick (inputFits n (aheadOf l) l && scan n 0 (drop (1 + aheadOf l) l)) (placed true (mainPut l B)) (placed false B)

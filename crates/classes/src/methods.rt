@@ -1,10 +1,11 @@
-// Method lookup, and the parts of a method at their places in its row.
+// Method lookup, and the parts of a method and of main at their places in their rows.
 // Not here: class fit and fields (chain).
 use crate::chain::FieldFound;
 use crate::chain::FieldType;
 use crate::places::CLASSES;
 use crate::places::INDEX;
 use crate::places::LONG;
+use crate::places::MAIN;
 use crate::places::METHODS;
 use crate::places::ROW;
 use crate::places::SIZE;
@@ -12,7 +13,7 @@ use crate::places::wide;
 ghost use mathlib.Core.Path.{_≡_};
 ghost use Prim.Native.Nat.{ℕ, _+_, _*_, _<_};
 ghost use lib.ListN.{getD};
-ghost use Rattle.classes.specs.Machine.{numbered, ownOf, lookupOf, methodWith, rowOf, typeAt, paramOf, leftOf, rightOf};
+ghost use Rattle.classes.specs.Machine.{numbered, ownOf, lookupOf, methodWith, rowOf, typeAt, paramOf, leftOf, rightOf, mainPlace, inputType};
 
 // The number of a method, in file order.
 pub enum Found {
@@ -158,4 +159,27 @@ pub fn right_place(t: &[u8; SIZE], i: u8) -> usize
     let b = METHODS + LONG * ((i % 64) as usize);
     let n = t[b];
     b + wide(n)
+}
+
+// ---- the parts of main
+
+// Where main's expression stands.
+pub fn main_place(t: &[u8; SIZE]) -> usize
+    ensures { λ r. ⌜ (r ≡ mainPlace (now (t .entry))) × (r < 65536) ⌝ }
+{
+    let n = t[MAIN];
+    MAIN + 1 + wide(n)
+}
+
+// The type of main's parameter, if it has one.
+pub fn input_type(t: &[u8; SIZE]) -> FieldFound
+    ensures { λ r. ⌜ r ≡ inputType (now (t .entry)) ⌝ }
+{
+    if t[MAIN] == 0 {
+        return FieldFound::Nothing;
+    }
+    FieldFound::Type(FieldType {
+        class: t[MAIN + 1],
+        tag: t[MAIN + 2],
+    })
 }

@@ -23,7 +23,13 @@ ghost use lib.ListN.{length, getD, drop};
 ghost use lib.Seq.{sets};
 ghost use Rattle.cofj.specs.Limits.{classCount, methodCount, lineSize};
 ghost use Rattle.classes.specs.Figures.{tableSize};
-ghost use Rattle.classes.specs.Placing.{scan, placed, classPlaced, indexPut, methodPut, methodPlaced, mainPlaced};
+ghost use Rattle.classes.specs.Placing.{scan, placed, classPlaced, indexPut, methodPut, methodPlaced, inputFits, mainPut, mainPlaced};
+ghost use Rattle.classes.specs.Layout.{aheadOf};
+
+// The first byte of a line of main that has a parameter, and the bytes of its type.
+const INPUT: u8 = 4;
+
+const INPUT_SIZE: u8 = 2;
 
 // Writes the bytes of the line from `from` on into the table at `to`.
 pub(crate) fn copy(l: &[u8], from: usize, t: &mut [u8; SIZE], to: usize)
@@ -131,15 +137,57 @@ pub fn place_method(l: &[u8], i: u8, rights: &[u8; RIGHTS], n: u8, t: &mut [u8; 
     true
 }
 
+// How many bytes stand between the first byte of main's line and its expression: the type of its parameter, if it has one.
+fn input_size(l: &[u8]) -> u8
+    ensures { λ r. ⌜ r ≡ aheadOf (now (l .entry)) ⌝ }
+{
+    if l.len() == 0 {
+        return 0;
+    }
+    if l[0] == INPUT {
+        return INPUT_SIZE;
+    }
+    0
+}
+
+// Whether that type, where it has k bytes, is known and has tag 0.
+fn input_fits(l: &[u8], k: u8, n: u8) -> bool
+    ensures { λ r. ⌜ r ≡ inputFits n k (now (l .entry)) ⌝ }
+{
+    if k == 0 {
+        return true;
+    }
+    if l.len() < 3 {
+        return false;
+    }
+    if n < l[1] {
+        return false;
+    }
+    l[2] == 0
+}
+
+// Writes main's row; k bytes stand in front of the expression.
+fn put_main(l: &[u8], k: u8, t: &mut [u8; SIZE])
+    requires { ⌜ (length (now l) ≤ lineSize) × (k ≡ aheadOf (now l)) ⌝ }
+    ensures { λ _. ⌜ now (t .exit) ≡ mainPut (now (l .entry)) (now (t .entry)) ⌝ }
+{
+    t[MAIN] = k;
+    copy(l, 1, t, MAIN + 1);
+    t[MAIN + LAST] = l.len() as u8;
+}
+
 // The line of main.
 pub(crate) fn place_main(l: &[u8], n: u8, t: &mut [u8; SIZE]) -> bool
     requires { ⌜ length (now l) ≤ lineSize ⌝ }
     ensures { λ r. ⌜ placed r (now (t .exit)) ≡ mainPlaced (now (l .entry)) n (now (t .entry)) ⌝ }
 {
-    if !all_known(l, 1, n) {
+    let k = input_size(l);
+    if !input_fits(l, k, n) {
         return false;
     }
-    copy(l, 1, t, MAIN + 1);
-    t[MAIN + LAST] = l.len() as u8;
+    if !all_known(l, 1 + wide(k), n) {
+        return false;
+    }
+    put_main(l, k, t);
     true
 }

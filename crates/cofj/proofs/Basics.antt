@@ -4,7 +4,7 @@ use native.Mathlib.Nat.{not-suc-le-zero, le-of-suc-le-suc}
 use mathlib.Core.Path.{_≡_, refl, sym, ap, ap₂, _∙_}
 use mathlib.Core.Bool.{Bool, true, false, false≢true}
 use mathlib.Core.List.{List, [], _∷_, map}
-use mathlib.Core.Option.{some}
+use mathlib.Core.Option.{some, Option·none-ne-some}
 use lib.Dec.{eqb}
 use lib.ListN.{length, getD, getElem?}
 use borrow.Author.Tests.{eqb-true, eq-eqb}
@@ -21,6 +21,18 @@ module _ {A B : Type 0} where
   at-map f [] i = refl
   at-map f (x ∷ xs) zero = refl
   at-map f (x ∷ xs) (suc i) = at-map f xs i
+
+-- ---- items
+module _ {A : Type 0} where
+  pub at-lt : (xs : List A) (f : ℕ) (a : A) → getElem? xs f ≡ some a → f < length xs
+  at-lt [] f a e = absurd (Option·none-ne-some a e)
+  at-lt (x ∷ xs) zero a e = suc-le-suc zero-le
+  at-lt (x ∷ xs) (suc f) a e = suc-le-suc (at-lt xs f a e)
+
+  pub at-some : (xs : List A) (f : ℕ) → f < length xs → (a : A) × (getElem? xs f ≡ some a)
+  at-some [] f h = absurd (not-suc-le-zero h)
+  at-some (x ∷ xs) zero h = (x, refl)
+  at-some (x ∷ xs) (suc f) h = at-some xs f (le-of-suc-le-suc h)
 
 -- ---- the tests say equality
 pub eqRef-true : (r s : Ref) → eqRef r s ≡ true → r ≡ s

@@ -1,10 +1,11 @@
--- Every row of the table holds of the definitions, by computation.
+-- Every row of the table holds of the definitions, by computation; and what `linerun` writes for some input.
 use mathlib.Core.Path.{_≡_, refl, subst⁻¹}
 use mathlib.Core.Logic.{_⊎_, inl, inr}
 use mathlib.Core.List.{List, [], _∷_, List·Memᴰ, List·Memᴰ·cases-cons, List·Memᴰ·not-nil}
 use Rattle.cofj.specs.Values.{Graph, graph, node, obj, make, close, markOf}
 use Rattle.cofj.specs.Bytes.{bytes}
-use Rattle.cofj.specs.Rows.{Row, Holds, shown, rows, row-a, row-b, row-c, row-d, row-e, row-e-z, row-f, row-f-trial, row-g, row-i, row-j-16, row-j-17, row-h-32, row-h-33}
+use Rattle.cofj.specs.Calls.{linerun}
+use Rattle.cofj.specs.Rows.{Row, Holds, shown, rows, row-a, row-b, row-c, row-d, row-e, row-e-z, row-f, row-f-trial, row-g, row-i, row-j-16, row-j-17, row-h-32, row-h-33, row-ring-cut, row-ring, row-met, row-met-3, row-minus, row-plus, row-plus-trial, row-unreached, row-no-part, row-two-places, row-one-place, row-untyped-checked, row-untyped}
 
 abbrev pub AllHold : List Row → Type 0
 AllHold [] = Unit {0}
@@ -74,9 +75,100 @@ holds-h-33 : Holds row-h-33
 unfolding shown bytes
 holds-h-33 = refl
 
+holds-ring-cut : Holds row-ring-cut
+unfolding shown bytes
+holds-ring-cut = refl
+
+holds-ring : Holds row-ring
+unfolding shown bytes
+holds-ring = refl
+
+holds-met : Holds row-met
+unfolding shown bytes
+holds-met = refl
+
+holds-met-3 : Holds row-met-3
+unfolding shown bytes
+holds-met-3 = refl
+
+holds-minus : Holds row-minus
+unfolding shown bytes
+holds-minus = refl
+
+holds-plus : Holds row-plus
+unfolding shown bytes
+holds-plus = refl
+
+holds-plus-trial : Holds row-plus-trial
+unfolding shown bytes
+holds-plus-trial = refl
+
+holds-unreached : Holds row-unreached
+unfolding shown bytes
+holds-unreached = refl
+
+holds-no-part : Holds row-no-part
+unfolding shown bytes
+holds-no-part = refl
+
+holds-two-places : Holds row-two-places
+unfolding shown bytes
+holds-two-places = refl
+
+holds-one-place : Holds row-one-place
+unfolding shown bytes
+holds-one-place = refl
+
+holds-untyped-checked : Holds row-untyped-checked
+unfolding shown bytes
+holds-untyped-checked = refl
+
+holds-untyped : Holds row-untyped
+unfolding shown bytes
+holds-untyped = refl
+
 -- the theorem of the table
 pub all-rows : (r : Row) → List·Memᴰ r rows → Holds r
-all-rows = each rows (holds-a, (holds-b, (holds-c, (holds-d, (holds-e, (holds-e-z, (holds-f, (holds-f-trial, (holds-g, (holds-i, (holds-j-16, (holds-j-17, (holds-h-32, (holds-h-33, tt))))))))))))))
+all-rows = each rows (holds-a, (holds-b, (holds-c, (holds-d, (holds-e, (holds-e-z, (holds-f, (holds-f-trial, (holds-g, (holds-i, (holds-j-16, (holds-j-17, (holds-h-32, (holds-h-33, (holds-ring-cut, (holds-ring, (holds-met, (holds-met-3, (holds-minus, (holds-plus, (holds-plus-trial, (holds-unreached, (holds-no-part, (holds-two-places, (holds-one-place, (holds-untyped-checked, (holds-untyped, tt)))))))))))))))))))))))))))
+
+-- ---- `linerun`, which cuts its input in two
+-- both texts in one input
+shows-both : linerun (bytes "01010000\n010201010100\n010301010100\n04020043004200\n0500020101\n0501030102\n0502020103\n0503030100\n05040100\n") ≡ bytes "08000100\n0500030101\n0501020100\n"
+unfolding linerun bytes
+shows-both = refl
+
+-- all that follows the line is the second text, frames too
+shows-rest : linerun (bytes "0400004200\n03450000\n") ≡ bytes "080E\n"
+unfolding linerun bytes
+shows-rest = refl
+
+-- the line has no end
+shows-unended : linerun (bytes "0400004200") ≡ bytes "0801\n"
+unfolding linerun bytes
+shows-unended = refl
+
+-- main stands twice
+shows-second-main : linerun (bytes "03450000\n0400004200\n05000000\n") ≡ bytes "0803\n"
+unfolding linerun bytes
+shows-second-main = refl
+
+-- no line begins `04`: one text
+shows-no-line : linerun (bytes "03450000\n05000000\n") ≡ bytes "0802\n"
+unfolding linerun bytes
+shows-no-line = refl
+
+-- the type in the line has tag 03, 04, an unknown class
+shows-minus-type : linerun (bytes "0400034200\n05000000\n") ≡ bytes "0804\n"
+unfolding linerun bytes
+shows-minus-type = refl
+
+shows-no-tag : linerun (bytes "0400044200\n05000000\n") ≡ bytes "0802\n"
+unfolding linerun bytes
+shows-no-tag = refl
+
+shows-no-class : linerun (bytes "0401004200\n05000000\n") ≡ bytes "0804\n"
+unfolding linerun bytes
+shows-no-class = refl
 
 -- ---- case E as an equation of two values: X = new C(Y = new C(X)) and Z = new C(Z)
 pub ring-of-two : Graph

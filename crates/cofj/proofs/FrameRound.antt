@@ -11,8 +11,8 @@ use borrow.Author.Tests.{eqb-true}
 use Rattle.cofj.specs.Limits.{fieldCount, paramCount, nestingLimit}
 use Rattle.cofj.specs.Partial.{_>>=_}
 use Rattle.cofj.specs.Syntax.{Expr, this, res, param, field, call, new, Exprs, done, also, count, Ty}
-use Rattle.cofj.specs.Frames.{Got, Reader, got, byte, upTo, type, types, exprsBy, fieldAfter, callAfter, newAfter, exprAfter, expr, TextFrame, classFrame, methodFrame, mainFrame, whole, classAfter, methodAfter, mainAfter, frame}
-use Rattle.cofj.specs.Writing.{codeOf, codesOf, typesBytes, classLine, methodLine}
+use Rattle.cofj.specs.Frames.{Got, Reader, got, byte, upTo, type, types, exprsBy, fieldAfter, callAfter, newAfter, exprAfter, expr, TextFrame, classFrame, methodFrame, mainFrame, whole, classAfter, methodAfter, mainAfter, inputAfter, frame}
+use Rattle.cofj.specs.Writing.{codeOf, codesOf, typesBytes, classLine, methodLine, mainLine}
 use Rattle.cofj.proofs.Partial.{guard-bind, taken}
 
 -- an item and the bytes after it
@@ -202,7 +202,7 @@ mutual
 abbrev pub lineOf : TextFrame → List ℕ
 lineOf (classFrame c) = classLine (c .number) (c .body)
 lineOf (methodFrame d) = methodLine d
-lineOf (mainFrame e) = 3 ∷ codeOf e
+lineOf (mainFrame i e) = mainLine i e
 
 class-back : (bs : List ℕ) (f : TextFrame) → classAfter bs ≡ some f → lineOf f ≡ 1 ∷ bs
 unfolding classAfter
@@ -218,13 +218,24 @@ class-back (c ∷ p ∷ bs) f e =
     (ap₂ (λ (k : ℕ) (l : List ℕ). 1 ∷ c ∷ p ∷ k ∷ l) (b .1) (sym (append-nil (typesBytes own)) ∙ b .0)
     ∙ ap (λ (l : List ℕ). 1 ∷ c ∷ p ∷ l) (upto-back fieldCount bs n q))
 
-main-back : (bs : List ℕ) (f : TextFrame) → mainAfter bs ≡ some f → lineOf f ≡ 3 ∷ bs
+-- main's expression, whatever stands in front of it
+main-back : (i : Option Ty) (bs : List ℕ) (f : TextFrame) → mainAfter i bs ≡ some f → (main : Expr) × (f ≡ mainFrame i main) × (codeOf main ≡ bs)
 unfolding mainAfter
-main-back bs f e =
+main-back i bs f e =
     taken (expr nestingLimit bs) f e λ x q e1.
     taken (whole x) f e1 λ main w e2.
     let b = subst (λ (y : Got Expr). codeOf (y .item) ++ y .rest ≡ bs) (whole-back x main w) (expr-back nestingLimit bs x q) in
-    given (λ (y : TextFrame). lineOf y ≡ 3 ∷ bs) _ f e2 (ap (λ (l : List ℕ). 3 ∷ l) (sym (append-nil (codeOf main)) ∙ b))
+    (main, same (mainFrame i main) f e2, sym (append-nil (codeOf main)) ∙ b)
+
+plain-back : (bs : List ℕ) (f : TextFrame) → mainAfter none bs ≡ some f → lineOf f ≡ 3 ∷ bs
+plain-back bs f e = let m = main-back none bs f e in ap lineOf (m .1) ∙ ap (λ (l : List ℕ). 3 ∷ l) (m .2)
+
+input-back : (bs : List ℕ) (f : TextFrame) → inputAfter bs ≡ some f → lineOf f ≡ 4 ∷ bs
+unfolding inputAfter
+input-back bs f e =
+    taken (type bs) f e λ u q e1.
+    let m = main-back (some (u .item)) (u .rest) f e1 in
+    ap lineOf (m .1) ∙ ap (λ (l : List ℕ). 4 ∷ u .item .cls ∷ u .item .tag ∷ l) (m .2) ∙ ap (λ (l : List ℕ). 4 ∷ l) (type-back bs u q)
 
 method-back : (bs : List ℕ) (f : TextFrame) → methodAfter bs ≡ some f → lineOf f ≡ 2 ∷ bs
 unfolding methodAfter methodLine
@@ -252,7 +263,8 @@ frame-back [] f e = absurd (Option·none-ne-some f e)
 frame-back (k ∷ bs) f e =
     branch (eqb k 1) _ _ f e (λ q z. first 1 q (class-back bs f z)) λ e1.
     branch (eqb k 2) _ _ f e1 (λ q z. first 2 q (method-back bs f z)) λ e2.
-    branch (eqb k 3) _ _ f e2 (λ q z. first 3 q (main-back bs f z)) λ e3. absurd (Option·none-ne-some f e3)
+    branch (eqb k 3) _ _ f e2 (λ q z. first 3 q (plain-back bs f z)) λ e3.
+    branch (eqb k 4) _ _ f e3 (λ q z. first 4 q (input-back bs f z)) λ e4. absurd (Option·none-ne-some f e4)
   where
     first : (n : ℕ) → eqb k n ≡ true → lineOf f ≡ n ∷ bs → lineOf f ≡ k ∷ bs
     first n q p = p ∙ ap (λ (x : ℕ). x ∷ bs) (sym (eqb-true k n q))
@@ -282,6 +294,10 @@ frame-forth (methodFrame d) g e =
     let e5 = taken-as (expr nestingLimit body) _ g (pair (d .left) (codeOf (d .right))) e4 (expr-forth (d .left) nestingLimit (codeOf (d .right))) in
     let e6 = taken-as (expr nestingLimit (codeOf (d .right))) _ g (pair (d .right) []) e5 (expr-whole (d .right) nestingLimit) in
     same (methodFrame d) g e6
-frame-forth (mainFrame x) g e =
+frame-forth (mainFrame none x) g e =
     let e1 = taken-as (expr nestingLimit (codeOf x)) _ g (pair x []) e (expr-whole x nestingLimit) in
-    same (mainFrame x) g e1
+    same (mainFrame none x) g e1
+frame-forth (mainFrame (some u) x) g e =
+    let e1 = taken-as (type (u .cls ∷ u .tag ∷ codeOf x)) _ g (pair u (codeOf x)) e (type-forth u (codeOf x)) in
+    let e2 = taken-as (expr nestingLimit (codeOf x)) _ g (pair x []) e1 (expr-whole x nestingLimit) in
+    same (mainFrame (some u) x) g e2

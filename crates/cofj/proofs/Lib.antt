@@ -23,6 +23,9 @@ pub mod Reached
 pub mod TextRound
 pub mod ReportLines
 pub mod Reports
+pub mod Batch
+pub mod BatchFits
+pub mod BatchCases
 pub mod FrameRound
 pub mod ReadFrames
 pub mod Passed
@@ -32,7 +35,9 @@ pub mod TypingRules
 pub mod CheckRules
 pub mod SideConditions
 pub mod RunningRules
+pub mod Inputs
 pub mod ReadCalls
 pub mod RunCalls
+pub mod Linerun
 pub mod Promises
 pub mod Cases

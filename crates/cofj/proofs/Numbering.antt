@@ -24,7 +24,7 @@ unfolding upFrom
 length-upFrom k zero = refl
 length-upFrom k (suc n) = ap suc (length-upFrom (suc k) n)
 
-at-upFrom : (k n i : ℕ) → i < n → getD (upFrom k n) i 0 ≡ k + i
+pub at-upFrom : (k n i : ℕ) → i < n → getD (upFrom k n) i 0 ≡ k + i
 unfolding upFrom
 at-upFrom k zero i l = absurd (not-suc-le-zero l)
 at-upFrom k (suc n) zero l = omega arith

@@ -15,7 +15,7 @@ use Rattle.cofj.specs.Syntax.{Method, Table}
 use Rattle.cofj.specs.Typing.{closedTag, allClosed}
 use Rattle.cofj.specs.Text.{within, lines, linesFrom}
 use Rattle.cofj.specs.Frames.{TextFrame, frames}
-use Rattle.cofj.specs.Tables.{Raw, ordered, few, numbered, known, allKnown, exprKnown, classesGood, hasName, methodsGood, bodies, table, overridesGood, overridden}
+use Rattle.cofj.specs.Tables.{Raw, ordered, few, numbered, known, allKnown, exprKnown, classesGood, hasName, methodsGood, inputGood, bodies, table, overridesGood, overridden}
 use Rattle.cofj.specs.Reading.{Answer, refusal, read, _else_next_, readText}
 use Rattle.cofj.proofs.Partial.{and-true, opt-bind, guard-bind}
 use Rattle.cofj.proofs.TextRound.{within-true}
@@ -68,12 +68,13 @@ methods-ruled n d ds e =
 
 -- ---- frames in order that give a table
 abbrev pub tableOf : Raw → Table
-tableOf r = record { classes = bodies (r .classes); methods = r .methods; main = r .main }
+tableOf r = record { classes = bodies (r .classes); methods = r .methods; input = r .input; main = r .main }
 
 pub record Ruled (r : Raw) : Type 0 where
   pub numbers : numbered 1 (r .classes) ≡ true
   pub classes : classesGood (length (bodies (r .classes))) (bodies (r .classes)) (bodies (r .classes)) 1 ≡ true
   pub methods : methodsGood (length (bodies (r .classes))) (r .methods) ≡ true
+  pub input : inputGood (length (bodies (r .classes))) (r .input) ≡ true
   pub main : exprKnown (length (bodies (r .classes))) (r .main) ≡ true
 
 pub table-ruled : (r : Raw) (t : Table) → table r ≡ some t → Ruled r × (tableOf r ≡ t)
@@ -82,11 +83,12 @@ table-ruled r t e =
     let cs = bodies (r .classes) in
     let n = length cs in
     let a = guard-bind _ (λ _. some (tableOf r)) t e in
-    let a2 = and-true _ (exprKnown n (r .main)) (a .0) in
+    let a3 = and-true _ (exprKnown n (r .main)) (a .0) in
+    let a2 = and-true _ (inputGood n (r .input)) (a3 .0) in
     let a1 = and-true _ (methodsGood n (r .methods)) (a2 .0) in
     let a0 = and-true (numbered 1 (r .classes)) (classesGood n cs cs 1) (a1 .0) in
     let w : tableOf r ≡ t = cc (a .1) in
-    (record { numbers = a0 .0; classes = a0 .1; methods = a1 .1; main = a2 .1 }, w)
+    (record { numbers = a0 .0; classes = a0 .1; methods = a1 .1; input = a2 .1; main = a3 .1 }, w)
 
 -- ---- the text
 pub record Passed (s : List ℕ) (t : Table) : Type 0 where

@@ -1,30 +1,21 @@
--- From the invariant of type soundness to its statement: every place of a finished value, by paths.
+-- From the invariant of type soundness to its statement, every place of a finished value, by paths; and back, for the input of a run.
 use Prim.Native.Nat.{ℕ, zero, suc, _≤_, _<_}
 use native.Mathlib.Omega.{arith}
-use mathlib.Core.Path.{_≡_, refl, subst}
+use mathlib.Core.Path.{_≡_, refl, sym, ap, _∙_, subst}
 use mathlib.Core.Bool.{true}
-use mathlib.Core.List.{List, [], _∷_, _++_}
+use mathlib.Core.List.{List, [], _∷_, _++_, append-assoc, append-nil}
 use mathlib.Core.Option.{Option, none, some, Option·none-ne-some}
 use lib.ListN.{length, getElem?}
 use Rattle.cofj.specs.Syntax.{Ty, ty, Table}
 use Rattle.cofj.specs.Partial.{_>>=_}
 use Rattle.cofj.specs.Classes.{classFits, fieldsOf}
 use Rattle.cofj.specs.Values.{Ref, obj, mark, undet, Node, Graph, nodeAt, refsAt}
-use Rattle.cofj.specs.Unfolding.{Label, object, opened as marked, unknown, labelAt, child, follow}
+use Rattle.cofj.specs.Unfolding.{Label, object, opened as marked, unknown, labelAt, child, follow, Whole}
 use Rattle.cofj.specs.WellFormed.{WellFormed}
 use Rattle.cofj.specs.Soundness.{StandsAt, NotOpen, Sits}
+use Rattle.cofj.proofs.Basics.{at-lt, at-some}
 use Rattle.cofj.proofs.Climb.{field-tag}
-use Rattle.cofj.proofs.Typed.{tree, bound, under, OkAt, Typed, AllTyped, Has}
-
-at-lt : (xs : List Ref) (f : ℕ) (s : Ref) → getElem? xs f ≡ some s → f < length xs
-at-lt [] f s e = absurd (Option·none-ne-some s e)
-at-lt (x ∷ xs) zero s e = omega arith
-at-lt (x ∷ xs) (suc f) s e = omega (arith, at-lt xs f s e)
-
-at-some : (xs : List Ty) (f : ℕ) → f < length xs → (w : Ty) × (getElem? xs f ≡ some w)
-at-some [] f h = absurd (omega arith)
-at-some (x ∷ xs) zero h = (x, refl)
-at-some (x ∷ xs) (suc f) h = at-some xs f (omega arith)
+use Rattle.cofj.proofs.Typed.{Tree, tree, bound, under, OkAt, Typed, AllTyped, Has}
 
 module _ (t : Table) (wf : WellFormed t) where
   -- an allowed label at a place whose tag is 3 only where the declared one is
@@ -86,3 +77,28 @@ module _ (t : Table) (wf : WellFormed t) where
         places = λ p c n f w e z. places (v .nodes) p (v .root) u (h .typed) c n f w e z;
         closed = λ p. no-mark (v .nodes) p (v .root) u (h .typed);
       }
+
+  -- ---- and back
+  okay : (u w : Ty) → u .cls ≡ w .cls → (w .tag ≡ 3 → 3 ≤ u .tag) → (o : Option Label) → StandsAt t w o → OkAt t [] u o
+  okay u w p q none h = h
+  okay u w p q (some (object c n)) h = (subst (λ (d : ℕ). classFits (t .classes) c d ≡ true) (sym p) (h .0), h .1)
+  okay u w p q (some (marked k)) h = absurd h
+  okay u w p q (some unknown) h = q h
+
+  under-of : (g h : ℕ) → h ≡ 3 → 3 ≤ under g h
+  under-of zero h e = omega arith
+  under-of (suc g) h e = omega arith
+
+  -- what lies below a path is typed
+  typed-below : (x : Ty) (v : Graph) → Sits t x v → (n : ℕ) (p : List ℕ) (u w : Ty) → u .cls ≡ w .cls → (w .tag ≡ 3 → 3 ≤ u .tag) → StandsAt t w (tree v p)
+      → Typed t [] n u (λ q. tree v (p ++ q))
+  typed-below x v s zero p u w a b h = tt
+  typed-below x v s (suc n) p u w a b h = (
+    subst (λ (q : List ℕ). OkAt t [] u (tree v q)) (sym (append-nil p)) (okay u w a b (tree v p) h),
+    λ c k f y e z. subst (λ (T : Tree). Typed t [] n (ty (y .cls) (under (u .tag) (y .tag))) T) (λ i q. tree v (append-assoc p (f ∷ []) q i))
+        (typed-below x v s n (p ++ (f ∷ [])) (ty (y .cls) (under (u .tag) (y .tag))) y refl (under-of (u .tag) (y .tag))
+        (s .places p c k f y (ap (tree v) (sym (append-nil p)) ∙ e) z)),
+  )
+
+  pub has-sits : (u : Ty) (v : Graph) → Whole v → u .tag ≤ 3 → Sits t u v → Has t [] u v
+  has-sits u v w l s = record { whole = w; typed = λ n. typed-below u v s n [] u u refl (λ e. omega arith) (s .root); tag = l }

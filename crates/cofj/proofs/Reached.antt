@@ -11,15 +11,15 @@ use Rattle.cofj.specs.Syntax.{Ty, ty, Table}
 use Rattle.cofj.specs.Partial.{_>>=_}
 use Rattle.cofj.specs.Classes.{fieldsOf}
 use Rattle.cofj.specs.Values.{Ref, obj, mark, undet, Node, node, Graph, rename, renameNode, nodeAt, refsAt, colours, isIn, placeIn, visit, visitAll, canon}
-use Rattle.cofj.specs.Unfolding.{object, labelAt, child, follow, Whole}
+use Rattle.cofj.specs.Unfolding.{labelAt, follow, Whole, Reached, top, below}
 use Rattle.cofj.specs.Running.{Outcome, value, stopped, runWithin}
 use Rattle.cofj.specs.WellFormed.{WellFormed}
-use Rattle.cofj.specs.Soundness.{Stands, Lists, EndsListed, SoundListed}
+use Rattle.cofj.specs.Soundness.{Stands, Lists, EndsListed, Fed, unfed, fed, SoundListed}
 use Rattle.cofj.proofs.Basics.{at-map, getD-map-lt}
 use Rattle.cofj.proofs.Colours.{colour}
 use Rattle.cofj.proofs.Walk.{isIn-cases, Covered, walk, order, order-root, order-closed}
 use Rattle.cofj.proofs.Canon.{placeIn-spec, getD-isIn, number, listed}
-use Rattle.cofj.specs.Formed.{Good, Out as Has-value}
+use Rattle.cofj.specs.Formed.{Good, IfAny, Out as Has-value}
 use Rattle.cofj.proofs.Runs.{good-run}
 use Rattle.cofj.proofs.Climb.{field-tag}
 use Rattle.cofj.proofs.Typed.{under, OkAt, AllTyped, Has}
@@ -27,11 +27,6 @@ use Rattle.cofj.proofs.SoundCalls.{Out}
 use Rattle.cofj.proofs.CheckSays.{check-says}
 use Rattle.cofj.proofs.Sound.{has-run}
 use Rattle.cofj.proofs.Places.{onward, stands, under-3}
-
--- what child after child leads to
-pub data Reached (ns : List Node) (root : Ref) : Ref → Type 0 where
-  top : Reached ns root root
-  below : {r : Ref} (f : ℕ) (s : Ref) → Reached ns root r → child ns r f ≡ some s → Reached ns root s
 
 module _ (g : Graph) (w : Whole g) where
   -- the colours that are reached, from the first object of each
@@ -137,6 +132,13 @@ module _ (t : Table) (wf : WellFormed t) where
   ends-listed objects u (value v n) h q = lists u v h (subst AllReached (q .own) (canon-reached v (q .whole)))
   ends-listed objects u (stopped l n) h q = h
 
+-- an input that belongs to the table is a value as runs make them
+pub fed-good : (objects : ℕ) (t : Table) (i : Option Graph) → Fed objects t i → IfAny (Good t objects 0) i
+fed-good objects t i (unfed e) = tt
+fed-good objects t i (fed w v e s g) = g
+
 pub sound-listed : SoundListed
 unfolding SoundListed
-sound-listed l t u n wf e = let c = check-says t u e in ends-listed t wf (l .objects) u (runWithin l t n) (has-run t wf (c .0) l u n (c .1)) (good-run l t n wf)
+sound-listed l t i u n wf d e =
+    let c = check-says t u e in
+    ends-listed t wf (l .objects) u (runWithin l t i n) (has-run t wf (c .0) l i u n d (c .1)) (good-run l t i n wf (fed-good (l .objects) t i d))

@@ -11,7 +11,7 @@ use borrow.Author.Tests.{leb-true}
 use Rattle.cofj.specs.Limits.{lineSize, fieldCount, paramCount, nestingLimit}
 use Rattle.cofj.specs.Partial.{_>>=_}
 use Rattle.cofj.specs.Syntax.{Expr, param, Exprs, Ty, ty, Method}
-use Rattle.cofj.specs.Frames.{Got, Reader, got, byte, upTo, type, types, exprsBy, fieldAfter, callAfter, newAfter, exprAfter, expr, TextFrame, classFrame, methodFrame, mainFrame, whole, classAfter, methodAfter, mainAfter, frame, frames}
+use Rattle.cofj.specs.Frames.{Got, Reader, got, byte, upTo, type, types, exprsBy, fieldAfter, callAfter, newAfter, exprAfter, expr, TextFrame, classFrame, methodFrame, mainFrame, whole, classAfter, methodAfter, mainAfter, inputAfter, frame, frames}
 use Rattle.cofj.specs.Nesting.{Each, Parts, Nested}
 use Rattle.cofj.specs.Writing.{typesBytes}
 use Rattle.cofj.proofs.Partial.{guard-bind, taken}
@@ -103,7 +103,7 @@ pub record Body (d : Method) : Type 0 where
 abbrev pub Within : TextFrame → Type 0
 Within (classFrame c) = Unit {0}
 Within (methodFrame d) = Body d
-Within (mainFrame e) = Nested nestingLimit e
+Within (mainFrame i e) = Nested nestingLimit e
 
 whole-item : {A : Type 0} (g : Got A) (a : A) → whole g ≡ some a → g .item ≡ a
 whole-item {A} g a e = go (g .rest) e
@@ -121,9 +121,9 @@ class-within bs f e =
     taken (types (n .item) (n .rest)) f e3 λ ts _ e4.
     taken (whole ts) f e4 λ own _ e5. given Within _ f e5 tt
 
-main-within : (bs : List ℕ) (f : TextFrame) → mainAfter bs ≡ some f → Bytes bs → Within f
+main-within : (i : Option Ty) (bs : List ℕ) (f : TextFrame) → mainAfter i bs ≡ some f → Bytes bs → Within f
 unfolding mainAfter
-main-within bs f e h =
+main-within i bs f e h =
     taken (expr nestingLimit bs) f e λ x q e1.
     taken (whole x) f e1 λ main w e2.
     given Within _ f e2 (subst (Nested nestingLimit) (whole-item x main w) (expr-good nestingLimit bs x q h .0))
@@ -141,6 +141,10 @@ type-tag bs g e =
 
 type-bytes : (bs : List ℕ) (a : Got Ty) → type bs ≡ some a → Bytes bs → Bytes (a .rest)
 type-bytes bs a q h = subst Bytes (sym (type-back bs a q)) h .1 .1
+
+input-within : (bs : List ℕ) (f : TextFrame) → inputAfter bs ≡ some f → Bytes bs → Within f
+unfolding inputAfter
+input-within bs f e h = taken (type bs) f e λ u q e1. main-within (some (u .item)) (u .rest) f e1 (type-bytes bs u q h)
 
 up-to-bytes : (n : ℕ) (bs : List ℕ) (g : Got ℕ) → upTo n bs ≡ some g → Bytes bs → Bytes (g .rest)
 up-to-bytes n [] g e h = absurd (Option·none-ne-some g e)
@@ -178,7 +182,8 @@ frame-within [] f e h = absurd (Option·none-ne-some f e)
 frame-within (k ∷ bs) f e h =
     branch (eqb k 1) _ _ f e (λ z. class-within bs f z) λ e1.
     branch (eqb k 2) _ _ f e1 (λ z. method-within bs f z (h .1)) λ e2.
-    branch (eqb k 3) _ _ f e2 (λ z. main-within bs f z (h .1)) λ e3. absurd (Option·none-ne-some f e3)
+    branch (eqb k 3) _ _ f e2 (λ z. main-within none bs f z (h .1)) λ e3.
+    branch (eqb k 4) _ _ f e3 (λ z. input-within bs f z (h .1)) λ e4. absurd (Option·none-ne-some f e4)
 
 -- a frame's line is short
 abbrev pub Short : TextFrame → Type 0

@@ -14,10 +14,10 @@ use Rattle.cofj.specs.Syntax.{Ty, Class, Method, Table}
 use Rattle.cofj.specs.Classes.{parentOf, parentOr0, classAt, ownOrNone, fieldsOf, fieldsTo, lookup}
 use Rattle.cofj.specs.Typing.{closedTag, allClosed}
 use Rattle.cofj.specs.Frames.{ClassFrame, TextFrame, classFrame, methodFrame, mainFrame}
-use Rattle.cofj.specs.Tables.{Raw, raw, inFront, ordered, numbered, allKnown, classesGood, methodsGood, bodies, sameTypes, overridesGood}
+use Rattle.cofj.specs.Tables.{Raw, raw, inFront, ordered, numbered, known, allKnown, classesGood, methodsGood, inputGood, bodies, sameTypes, overridesGood}
 use Rattle.cofj.specs.Reading.{read, readText}
 use Rattle.cofj.specs.Nesting.{Nested}
-use Rattle.cofj.specs.Writing.{codeOf, methodLine}
+use Rattle.cofj.specs.Writing.{methodLine, mainLine}
 use Rattle.cofj.specs.WellFormed.{Tags, AllMethods, MethodFormed, WellFormed}
 use Rattle.cofj.proofs.Partial.{and-true, taken}
 use Rattle.cofj.proofs.FrameRound.{given}
@@ -105,24 +105,24 @@ abbrev Lined : Method → Type 0
 Lined d = Body d × (length (methodLine d) ≤ lineSize)
 
 abbrev Bodies : Raw → Type 0
-Bodies r = AllMethods Lined (r .methods) × Nested nestingLimit (r .main) × (suc (length (codeOf (r .main))) ≤ lineSize)
+Bodies r = AllMethods Lined (r .methods) × Nested nestingLimit (r .main) × (length (mainLine (r .input) (r .main)) ≤ lineSize)
 
 front-bodies : (f : TextFrame) (r q : Raw) → inFront f r ≡ some q → Short f → Bodies r → Bodies q
-front-bodies (classFrame c) r q e h k = given Bodies (raw (c ∷ r .classes) (r .methods) (r .main)) q e k
+front-bodies (classFrame c) r q e h k = given Bodies (raw (c ∷ r .classes) (r .methods) (r .input) (r .main)) q e k
 front-bodies (methodFrame m) r q e h k = go (r .classes) e
   where
-    go : (cs : List ClassFrame) → _≡_ {A = Option Raw} (elim cs [ [] ↦ some (raw [] (m ∷ r .methods) (r .main)) | c ∷ ds ↦ none ]) (some q) → Bodies q
-    go [] z = given Bodies (raw [] (m ∷ r .methods) (r .main)) q z ((h, k .0), k .1, k .2)
+    go : (cs : List ClassFrame) → _≡_ {A = Option Raw} (elim cs [ [] ↦ some (raw [] (m ∷ r .methods) (r .input) (r .main)) | c ∷ ds ↦ none ]) (some q) → Bodies q
+    go [] z = given Bodies (raw [] (m ∷ r .methods) (r .input) (r .main)) q z ((h, k .0), k .1, k .2)
     go (c ∷ ds) z = absurd (Option·none-ne-some q z)
-front-bodies (mainFrame x) r q e h k = absurd (Option·none-ne-some q e)
+front-bodies (mainFrame i x) r q e h k = absurd (Option·none-ne-some q e)
 
 ordered-bodies : (fs : List TextFrame) (r : Raw) → ordered fs ≡ some r → AllShort fs → Bodies r
 unfolding ordered
 ordered-bodies [] r e h = absurd (Option·none-ne-some r e)
 ordered-bodies (classFrame c ∷ fs) r e h = taken (ordered fs) r e λ q p e1. front-bodies (classFrame c) q r e1 (h .0) (ordered-bodies fs q p (h .1))
 ordered-bodies (methodFrame m ∷ fs) r e h = taken (ordered fs) r e λ q p e1. front-bodies (methodFrame m) q r e1 (h .0) (ordered-bodies fs q p (h .1))
-ordered-bodies (mainFrame x ∷ []) r e h = given Bodies (raw [] [] x) r e (tt, h .0 .0, h .0 .1)
-ordered-bodies (mainFrame x ∷ (f ∷ fs)) r e h = absurd (Option·none-ne-some r e)
+ordered-bodies (mainFrame i x ∷ []) r e h = given Bodies (raw [] [] i x) r e (tt, h .0 .0, h .0 .1)
+ordered-bodies (mainFrame i x ∷ (f ∷ fs)) r e h = absurd (Option·none-ne-some r e)
 
 -- ---- methods
 formed : (t : Table) (ms : List Method) → methodsGood (length (t .classes)) ms ≡ true → overridesGood t ms ≡ true → AllMethods Lined ms → AllMethods (MethodFormed t) ms
@@ -153,6 +153,13 @@ formed t (m ∷ ms) e o h =
       formed t ms (a .1) (b .1) (h .1),
     )
 
+-- ---- main's parameter
+input-in : (n : ℕ) (i : Option Ty) → inputGood n i ≡ true → (u : Ty) → i ≡ some u → (u .cls ≤ n) × (u .tag ≡ 0)
+input-in n none e u q = absurd (Option·none-ne-some u q)
+input-in n (some w) e u q =
+    let a = and-true (known n w) (eqb (w .tag) 0) e in
+    given (λ (x : Ty). (x .cls ≤ n) × (x .tag ≡ 0)) w u q (leb-true (w .cls) n (a .0), eqb-true (w .tag) 0 (a .1))
+
 -- ---- the reader
 table-formed : (r : Raw) → Ruled r → length (r .classes) ≤ classCount → length (r .methods) ≤ methodCount → overridesGood (tableOf r) (r .methods) ≡ true → Bodies r → WellFormed (tableOf r)
 table-formed r g fewClasses fewMethods o h =
@@ -164,6 +171,8 @@ table-formed r g fewClasses fewMethods o h =
       own = λ c. own c .0;
       ownKnown = λ c. own c .1;
       methods = formed (tableOf r) (r .methods) (g .methods) o (h .0);
+      inputKnown = λ u e. input-in n (r .input) (g .input) u e .0;
+      inputTag = λ u e. input-in n (r .input) (g .input) u e .1;
       mainKnown = g .main;
       mainNested = h .1;
       mainShort = h .2;

@@ -53,7 +53,7 @@ module _ (n : ℕ) (small : n ≤ 255) where
       (eq-eqb m (length (map refByte (d .refs))) (sym (length-map (d .refs) refByte))))
       ∙ ap (λ (o : Option (List Ref)). o >>= λ rs. some (node (d .cls) rs)) (refs-round (d .refs) h (p .closed))
 
-  objects-round : (ns : List Node) (k : ℕ) → AllIn Plain ns → AllIn (λ d. RefsIn n (d .refs)) ns → objectsFrom n k (objectLines k ns) ≡ some ns
+  pub objects-round : (ns : List Node) (k : ℕ) → AllIn Plain ns → AllIn (λ d. RefsIn n (d .refs)) ns → objectsFrom n k (objectLines k ns) ≡ some ns
   unfolding objectsFrom
   objects-round [] k p h = refl
   objects-round (d ∷ ds) k p h =
@@ -78,7 +78,7 @@ pub nodes-in : (n : ℕ) (ns : List Node) → ((i f : ℕ) (r : Ref) → getElem
 nodes-in n [] h = tt
 nodes-in n (d ∷ ds) h = (refs-in n (d .refs) (h 0), nodes-in n ds (λ i. h (suc i)))
 
-in-nodes : (n : ℕ) (ns : List Node) → AllIn (λ d. RefsIn n (d .refs)) ns → (i f : ℕ) (r : Ref) → getElem? (refsAt ns i) f ≡ some r → InRange n r
+pub in-nodes : (n : ℕ) (ns : List Node) → AllIn (λ d. RefsIn n (d .refs)) ns → (i f : ℕ) (r : Ref) → getElem? (refsAt ns i) f ≡ some r → InRange n r
 in-nodes n [] h i f r e = absurd (Option·none-ne-some r e)
 in-nodes n (d ∷ ds) h zero f r e = in-refs n (d .refs) (h .0) f r e
 in-nodes n (d ∷ ds) h (suc i) f r e = in-nodes n ds (h .1) i f r e
@@ -184,7 +184,7 @@ object-back n k (a ∷ b ∷ c ∷ m ∷ bs) d e =
       line = λ i. sym p i ∷ sym q i ∷ c ∷ s i ∷ h .2 i;
     })
 
-objects-back : (n k : ℕ) (ls : List (List ℕ)) (ns : List Node) → objectsFrom n k ls ≡ some ns
+pub objects-back : (n k : ℕ) (ls : List (List ℕ)) (ns : List Node) → objectsFrom n k ls ≡ some ns
     → AllIn Plain ns × AllIn (λ d. RefsIn n (d .refs)) ns × (objectLines k ns ≡ ls)
 unfolding objectsFrom
 objects-back n k [] ns e = subst (λ (x : List Node). AllIn Plain x × AllIn (λ d. RefsIn n (d .refs)) x × (objectLines k x ≡ [])) (let w : [] ≡ ns = cc in w) (tt, tt, refl)

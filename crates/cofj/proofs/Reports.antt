@@ -18,7 +18,7 @@ use Rattle.cofj.specs.WellFormed.{WellFormed}
 use Rattle.cofj.specs.Text.{hexLine, hexText, linesFrom}
 use Rattle.cofj.specs.Values.{Ref, obj, mark, undet, Node, node, Graph}
 use Rattle.cofj.specs.Unfolding.{InRange, Whole, follow}
-use Rattle.cofj.specs.Formed.{AllIn, Formed, Good, Out}
+use Rattle.cofj.specs.Formed.{AllIn, Formed, Good, IfAny, Out}
 use Rattle.cofj.specs.Running.{Outcome, value, stopped, Stop, stuck, noFuel, tooDeep, tooLarge, runWithin}
 use Rattle.cofj.specs.Report.{refByte, objectLine, objectLines, valueLines, stopByte, outcomeLines, reportOf, valueReport, SameEnd}
 use Rattle.cofj.specs.ReportForm.{agrees, allAgree, oneCount, linesValue, reported, Plain, Reportable}
@@ -31,7 +31,7 @@ use Rattle.cofj.proofs.Partial.{true-and, opt-bind}
 
 -- ---- the values of runs can be reported
 module _ (t : Table) (wf : WellFormed t) where
-  plain : (d : Node) → Formed t 0 d → Plain d
+  pub plain : (d : Node) → Formed t 0 d → Plain d
   plain d f =
       let a = f .known in
       let b = wf .classes in
@@ -86,7 +86,7 @@ module _ (n : ℕ) (small : n ≤ 255) where
   ref-bytes [] h = tt
   ref-bytes (r ∷ rs) h = (ref-byte r (h .0), ref-bytes rs (h .1))
 
-  object-lines : (ns : List Node) (k : ℕ) → k + length ns ≤ n → AllIn Plain ns → AllIn (λ d. RefsIn n (d .refs)) ns → Lines (objectLines k ns)
+  pub object-lines : (ns : List Node) (k : ℕ) → k + length ns ≤ n → AllIn Plain ns → AllIn (λ d. RefsIn n (d .refs)) ns → Lines (objectLines k ns)
   object-lines [] k l p h = tt
   object-lines (d ∷ ds) k l p h =
       let a = p .0 .known in
@@ -205,7 +205,7 @@ pub length-line : (l : List ℕ) → length (hexLine l) ≡ suc (2 * length l)
 length-line [] = refl
 length-line (b ∷ bs) = ap (λ (k : ℕ). suc (suc k)) (length-line bs) ∙ omega arith
 
-objects-length : (ns : List Node) (k : ℕ) → AllIn Plain ns → length (hexText (objectLines k ns)) ≤ 17 * length ns
+pub objects-length : (ns : List Node) (k : ℕ) → AllIn Plain ns → length (hexText (objectLines k ns)) ≤ 17 * length ns
 objects-length [] k p = omega arith
 objects-length (d ∷ ds) k p =
     let a = length-append (hexLine (objectLine k d)) (hexText (objectLines (suc k) ds)) in
@@ -229,8 +229,8 @@ module _ (objects : ℕ) (one : 1 ≤ objects) where
   report-length (stopped l n) h = omega arith
 
 -- what a run ends in can be reported
-pub run-reportable : (l : Limits) (t : Table) (n : ℕ) → WellFormed t → Out (Reportable (l .objects)) (runWithin l t n)
-run-reportable l t n wf = go (runWithin l t n) (good-run l t n wf)
+pub run-reportable : (l : Limits) (t : Table) (i : Option Graph) (n : ℕ) → WellFormed t → IfAny (Good t (l .objects) 0) i → Out (Reportable (l .objects)) (runWithin l t i n)
+run-reportable l t i n wf g = go (runWithin l t i n) (good-run l t i n wf g)
   where
     go : (o : Outcome Graph) → Out (Good t (l .objects) 0) o → Out (Reportable (l .objects)) o
     go (value v m) h = good-reportable t wf (l .objects) v h

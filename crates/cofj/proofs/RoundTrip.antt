@@ -12,12 +12,12 @@ use lib.ListN.{length}
 use borrow.Author.Tests.{eqb-true}
 use Rattle.cofj.specs.Limits.{textSize}
 use Rattle.cofj.specs.Partial.{_>>=_}
-use Rattle.cofj.specs.Syntax.{Expr, Class, Method, Table}
+use Rattle.cofj.specs.Syntax.{Expr, Ty, Class, Method, Table}
 use Rattle.cofj.specs.Text.{hexText}
 use Rattle.cofj.specs.Frames.{ClassFrame, TextFrame, classFrame, methodFrame, mainFrame, frame, frames}
 use Rattle.cofj.specs.Tables.{Raw, raw, inFront, ordered, numbered, bodies, table}
 use Rattle.cofj.specs.Reading.{Answer, refusal, read, readText}
-use Rattle.cofj.specs.Writing.{codeOf, classLine, classLines, methodLines, methodLine, tableLines, textOf, Text, noText, text, writeTable}
+use Rattle.cofj.specs.Writing.{mainLine, classLine, classLines, methodLines, methodLine, tableLines, textOf, Text, noText, text, writeTable}
 use Rattle.cofj.proofs.TextRound.{hex-lines, lines-hex}
 use Rattle.cofj.proofs.FrameRound.{given, same, taken-as, lineOf, frame-back, frame-forth}
 use Rattle.cofj.proofs.Partial.{and-true, taken}
@@ -42,7 +42,7 @@ frames-forth (f ∷ fs) gs e =
 
 -- ---- frames and their order
 framesOf : Raw → List TextFrame
-framesOf r = map classFrame (r .classes) ++ (map methodFrame (r .methods) ++ (mainFrame (r .main) ∷ []))
+framesOf r = map classFrame (r .classes) ++ (map methodFrame (r .methods) ++ (mainFrame (r .input) (r .main) ∷ []))
 
 front-back : (f : TextFrame) (r q : Raw) → inFront f r ≡ some q → framesOf q ≡ f ∷ framesOf r
 unfolding framesOf
@@ -50,13 +50,13 @@ front-back (classFrame c) r q e = given (λ (x : Raw). framesOf x ≡ classFrame
 front-back (methodFrame m) r q e = go (r .classes) refl e
   where
     go : (cs : List ClassFrame) → r .classes ≡ cs
-        → _≡_ {A = Option Raw} (elim cs [ [] ↦ some (raw [] (m ∷ r .methods) (r .main)) | c ∷ ds ↦ none ]) (some q)
+        → _≡_ {A = Option Raw} (elim cs [ [] ↦ some (raw [] (m ∷ r .methods) (r .input) (r .main)) | c ∷ ds ↦ none ]) (some q)
         → framesOf q ≡ methodFrame m ∷ framesOf r
     go [] p z =
         given (λ (x : Raw). framesOf x ≡ methodFrame m ∷ framesOf r) _ q z
-        (ap (λ (cs : List ClassFrame). methodFrame m ∷ framesOf (raw cs (r .methods) (r .main))) (sym p))
+        (ap (λ (cs : List ClassFrame). methodFrame m ∷ framesOf (raw cs (r .methods) (r .input) (r .main))) (sym p))
     go (c ∷ ds) p z = absurd (Option·none-ne-some q z)
-front-back (mainFrame x) r q e = absurd (Option·none-ne-some q e)
+front-back (mainFrame i x) r q e = absurd (Option·none-ne-some q e)
 
 ordered-back : (fs : List TextFrame) (r : Raw) → ordered fs ≡ some r → framesOf r ≡ fs
 unfolding ordered framesOf
@@ -65,18 +65,18 @@ ordered-back (classFrame c ∷ fs) r e =
     taken (ordered fs) r e λ q p e1. front-back (classFrame c) q r e1 ∙ ap (λ (l : List TextFrame). classFrame c ∷ l) (ordered-back fs q p)
 ordered-back (methodFrame m ∷ fs) r e =
     taken (ordered fs) r e λ q p e1. front-back (methodFrame m) q r e1 ∙ ap (λ (l : List TextFrame). methodFrame m ∷ l) (ordered-back fs q p)
-ordered-back (mainFrame x ∷ []) r e = given (λ (q : Raw). framesOf q ≡ mainFrame x ∷ []) _ r e refl
-ordered-back (mainFrame x ∷ (f ∷ fs)) r e = absurd (Option·none-ne-some r e)
+ordered-back (mainFrame i x ∷ []) r e = given (λ (q : Raw). framesOf q ≡ mainFrame i x ∷ []) _ r e refl
+ordered-back (mainFrame i x ∷ (f ∷ fs)) r e = absurd (Option·none-ne-some r e)
 
-methods-forth : (ms : List Method) (e : Expr) → ordered (map methodFrame ms ++ (mainFrame e ∷ [])) ≡ some (raw [] ms e)
+methods-forth : (ms : List Method) (i : Option Ty) (e : Expr) → ordered (map methodFrame ms ++ (mainFrame i e ∷ [])) ≡ some (raw [] ms i e)
 unfolding ordered
-methods-forth [] e = refl
-methods-forth (m ∷ ms) e = ap (λ (o : Option Raw). o >>= λ r. inFront (methodFrame m) r) (methods-forth ms e)
+methods-forth [] i e = refl
+methods-forth (m ∷ ms) i e = ap (λ (o : Option Raw). o >>= λ r. inFront (methodFrame m) r) (methods-forth ms i e)
 
-ordered-forth : (cs : List ClassFrame) (ms : List Method) (e : Expr) → ordered (framesOf (raw cs ms e)) ≡ some (raw cs ms e)
+ordered-forth : (cs : List ClassFrame) (ms : List Method) (i : Option Ty) (e : Expr) → ordered (framesOf (raw cs ms i e)) ≡ some (raw cs ms i e)
 unfolding ordered framesOf
-ordered-forth [] ms e = methods-forth ms e
-ordered-forth (c ∷ cs) ms e = ap (λ (o : Option Raw). o >>= λ r. inFront (classFrame c) r) (ordered-forth cs ms e)
+ordered-forth [] ms i e = methods-forth ms i e
+ordered-forth (c ∷ cs) ms i e = ap (λ (o : Option Raw). o >>= λ r. inFront (classFrame c) r) (ordered-forth cs ms i e)
 
 -- ---- frames in order and tables
 numberFrom : ℕ → List Class → List ClassFrame
@@ -84,7 +84,7 @@ numberFrom k [] = []
 numberFrom k (c ∷ cs) = record { number = k; body = c } ∷ numberFrom (suc k) cs
 
 rawOf : Table → Raw
-rawOf t = raw (numberFrom 1 (t .classes)) (t .methods) (t .main)
+rawOf t = raw (numberFrom 1 (t .classes)) (t .methods) (t .input) (t .main)
 
 numbered-back : (k : ℕ) (cs : List ClassFrame) → numbered k cs ≡ true → numberFrom k (bodies cs) ≡ cs
 unfolding numbered numberFrom
@@ -103,18 +103,18 @@ table-back : (r : Raw) (t : Table) → table r ≡ some t → rawOf t ≡ r
 unfolding rawOf
 table-back r t e =
     let a = table-ruled r t e in
-    ap rawOf (sym (a .1)) ∙ ap (λ (cs : List ClassFrame). raw cs (r .methods) (r .main)) (numbered-back 1 (r .classes) (a .0 .numbers))
+    ap rawOf (sym (a .1)) ∙ ap (λ (cs : List ClassFrame). raw cs (r .methods) (r .input) (r .main)) (numbered-back 1 (r .classes) (a .0 .numbers))
 
 table-forth : (t u : Table) → table (rawOf t) ≡ some u → u ≡ t
 unfolding rawOf
 table-forth t u e =
-    sym (table-ruled (rawOf t) u e .1) ∙ ap {B = Table} (λ (cs : List Class). record { classes = cs; methods = t .methods; main = t .main }) (bodies-number 1 (t .classes))
+    sym (table-ruled (rawOf t) u e .1) ∙ ap {B = Table} (λ (cs : List Class). record { classes = cs; methods = t .methods; input = t .input; main = t .main }) (bodies-number 1 (t .classes))
 
 -- the lines of a table are the lines of its frames
-method-lines : (ms : List Method) (e : Expr) → methodLines ms ++ ((3 ∷ codeOf e) ∷ []) ≡ map lineOf (map methodFrame ms ++ (mainFrame e ∷ []))
+method-lines : (ms : List Method) (i : Option Ty) (e : Expr) → methodLines ms ++ (mainLine i e ∷ []) ≡ map lineOf (map methodFrame ms ++ (mainFrame i e ∷ []))
 unfolding methodLines
-method-lines [] e = refl
-method-lines (m ∷ ms) e = ap (λ (ls : List (List ℕ)). methodLine m ∷ ls) (method-lines ms e)
+method-lines [] i e = refl
+method-lines (m ∷ ms) i e = ap (λ (ls : List (List ℕ)). methodLine m ∷ ls) (method-lines ms i e)
 
 class-lines : (k : ℕ) (cs : List Class) (ls : List (List ℕ)) (fs : List TextFrame) → ls ≡ map lineOf fs → classLines k cs ++ ls ≡ map lineOf (map classFrame (numberFrom k cs) ++ fs)
 unfolding numberFrom
@@ -123,7 +123,7 @@ class-lines k (c ∷ cs) ls fs e = ap (λ (l : List (List ℕ)). classLine k c �
 
 table-lines : (t : Table) → tableLines t ≡ map lineOf (framesOf (rawOf t))
 unfolding tableLines framesOf rawOf
-table-lines t = class-lines 1 (t .classes) _ _ (method-lines (t .methods) (t .main))
+table-lines t = class-lines 1 (t .classes) _ _ (method-lines (t .methods) (t .input) (t .main))
 
 -- ---- both ways
 -- text, table, text
@@ -142,7 +142,7 @@ read-write t u e =
     let p = passed (textOf t) u e in
     let l = lines-hex (tableLines t) (p .ls) (p .eachLine) ∙ table-lines t in
     let f = frames-forth (framesOf (rawOf t)) (p .fs) (subst (λ (ls : List (List ℕ)). frames ls ≡ some (p .fs)) l (p .toFrames)) in
-    let o : some (rawOf t) ≡ some (p .r) = sym (ordered-forth (rawOf t .classes) (t .methods) (t .main)) ∙ ap ordered (sym f) ∙ p .toRaw in
+    let o : some (rawOf t) ≡ some (p .r) = sym (ordered-forth (rawOf t .classes) (t .methods) (t .input) (t .main)) ∙ ap ordered (sym f) ∙ p .toRaw in
     table-forth t u (subst (λ (r : Raw). table r ≡ some u) (same (rawOf t) (p .r) o) (p .toTable))
 
 -- ---- the writer

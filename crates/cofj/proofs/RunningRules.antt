@@ -248,18 +248,18 @@ module _ (objects : ℕ) (t : Table) where
   eval-unique p q = sym (eval-complete p) ∙ eval-complete q
 
 -- ---- runs
-module _ (l : Limits) (t : Table) (n : ℕ) where
-  pub run-sound : RunsTo l t n (runWithin l t n)
+module _ (l : Limits) (t : Table) (i : Option Graph) (n : ℕ) where
+  pub run-sound : RunsTo l t i n (runWithin l t i n)
   unfolding runWithin
-  run-sound = PROG (eval-sound (l .objects) t (l .depth) mainFrame [] (t .main) n)
+  run-sound = PROG (eval-sound (l .objects) t (l .depth) (mainFrame i) [] (t .main) n)
 
-  pub run-complete : {o : Outcome Graph} → RunsTo l t n o → runWithin l t n ≡ o
+  pub run-complete : {o : Outcome Graph} → RunsTo l t i n o → runWithin l t i n ≡ o
   unfolding runWithin
   run-complete (PROG p) = eval-complete (l .objects) t p
 
-  pub run-unique : {o o′ : Outcome Graph} → RunsTo l t n o → RunsTo l t n o′ → o ≡ o′
+  pub run-unique : {o o′ : Outcome Graph} → RunsTo l t i n o → RunsTo l t i n o′ → o ≡ o′
   run-unique p q = sym (run-complete p) ∙ run-complete q
 
   -- every run ends
-  pub run-total : (o : Outcome Graph) × RunsTo l t n o
-  run-total = (runWithin l t n, run-sound)
+  pub run-total : (o : Outcome Graph) × RunsTo l t i n o
+  run-total = (runWithin l t i n, run-sound)

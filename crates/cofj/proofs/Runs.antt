@@ -10,13 +10,14 @@ use lib.Dec.{eqb, leb, ltb}
 use lib.ListN.{length, getElem?, length-map}
 use borrow.Author.Tests.{ltb-false, leb-true, eqb-true, eqb-false}
 use Rattle.cofj.specs.Limits.{Limits}
+use Rattle.cofj.specs.Partial.{asList}
 use Rattle.cofj.specs.Syntax.{Expr, this, res, param, field, call, new, Exprs, done, also, count, Method, Table}
 use Rattle.cofj.specs.Classes.{fieldsOf, lookup, lookupTo, methodOf, parentOf}
 use Rattle.cofj.specs.Tables.{exprKnown, exprsKnown}
 use Rattle.cofj.specs.Values.{Ref, obj, mark, undet, node, Graph, graph, renameNode, refsAt, canon, lay, select, selected, close, bind, make, undetermined, markOf, eqGraph, eqGraphs}
 use Rattle.cofj.specs.Running.{Outcome, value, stopped, Stop, _then_, Frame, OpenCall, orStuck, Deeper, classOf, target, frameOf, opened, openMark, invoke, sized, eval, evals, evalTo, mainFrame, runWithin}
 use Rattle.cofj.specs.Unfolding.{InRange}
-use Rattle.cofj.specs.Formed.{AllIn, MarkBelow, Formed, Good, Out}
+use Rattle.cofj.specs.Formed.{AllIn, MarkBelow, Formed, Good, IfAny, Out}
 use Rattle.cofj.specs.WellFormed.{AllMethods, MethodFormed, WellFormed}
 use Rattle.cofj.proofs.Unique.{canon-canon}
 use Rattle.cofj.proofs.Operations.{make-whole, laid, laid-whole, length-roots, at-ref, bound-whole, boundNode}
@@ -29,56 +30,52 @@ out-then : {A B : Type 0} (P : A → Type 0) (Q : B → Type 0) (f : A → ℕ �
 out-then P Q f h (value a n) p = h a n p
 out-then P Q f h (stopped l n) p = tt
 
-abbrev pub Opt : {A : Type 0} → (A → Type 0) → Option A → Type 0
-Opt P none = Unit {0}
-Opt P (some a) = P a
-
-out-or : {A : Type 0} (P : A → Type 0) (o : Option A) (n : ℕ) → Opt P o → Out P (orStuck o n)
+out-or : {A : Type 0} (P : A → Type 0) (o : Option A) (n : ℕ) → IfAny P o → Out P (orStuck o n)
 out-or P none n h = tt
 out-or P (some a) n h = h
 
-opt-more : {A : Type 0} (P Q : A → Type 0) → ((a : A) → P a → Q a) → (o : Option A) → Opt P o → Opt Q o
+opt-more : {A : Type 0} (P Q : A → Type 0) → ((a : A) → P a → Q a) → (o : Option A) → IfAny P o → IfAny Q o
 opt-more P Q h none p = tt
 opt-more P Q h (some a) p = h a p
 
-at-opt : {A : Type 0} (P : A → Type 0) (l : List A) → AllIn P l → (i : ℕ) → Opt P (getElem? l i)
+at-opt : {A : Type 0} (P : A → Type 0) (l : List A) → AllIn P l → (i : ℕ) → IfAny P (getElem? l i)
 at-opt P [] h i = tt
 at-opt P (x ∷ xs) h zero = h .0
 at-opt P (x ∷ xs) h (suc i) = at-opt P xs (h .1) i
 
 -- a method that is found is one of the table's
-own-found : (P : Method → Type 0) (ds : List Method) (c m : ℕ) → AllMethods P ds → Opt P (methodOf ds c m)
+own-found : (P : Method → Type 0) (ds : List Method) (c m : ℕ) → AllMethods P ds → IfAny P (methodOf ds c m)
 unfolding methodOf
 own-found P [] c m h = tt
 own-found P (d ∷ ds) c m h = go (eqb (d .owner) c && eqb (d .name) m) (own-found P ds c m (h .1))
   where
-    go : (b : Bool) → Opt P (methodOf ds c m) → Opt P (elim b as (λ _. Option Method) [ true ↦ some d | false ↦ methodOf ds c m ])
+    go : (b : Bool) → IfAny P (methodOf ds c m) → IfAny P (elim b as (λ _. Option Method) [ true ↦ some d | false ↦ methodOf ds c m ])
     go true ih = h .0
     go false ih = ih
 
-found : (P : Method → Type 0) (t : Table) → AllMethods P (t .methods) → (n c m : ℕ) → Opt P (lookupTo n t c m)
+found : (P : Method → Type 0) (t : Table) → AllMethods P (t .methods) → (n c m : ℕ) → IfAny P (lookupTo n t c m)
 unfolding lookupTo
 found P t h zero c m = tt
 found P t h (suc n) c m = go (methodOf (t .methods) c m) (own-found P (t .methods) c m h) (found P t h n (parentOf (t .classes) c) m)
   where
-    go : (o : Option Method) → Opt P o → Opt P (lookupTo n t (parentOf (t .classes) c) m)
-        → Opt P (elim o as (λ _. Option Method) [ none ↦ lookupTo n t (parentOf (t .classes) c) m | some d ↦ some d ])
+    go : (o : Option Method) → IfAny P o → IfAny P (lookupTo n t (parentOf (t .classes) c) m)
+        → IfAny P (elim o as (λ _. Option Method) [ none ↦ lookupTo n t (parentOf (t .classes) c) m | some d ↦ some d ])
     go none p ih = ih
     go (some d) p ih = p
 
-target-found : (P : Method → Type 0) (t : Table) → AllMethods P (t .methods) → (v : Graph) (m n : ℕ) → Opt P (target t v m n)
+target-found : (P : Method → Type 0) (t : Table) → AllMethods P (t .methods) → (v : Graph) (m n : ℕ) → IfAny P (target t v m n)
 unfolding target
 target-found P t h v m n = by-class (classOf v)
   where
-    by-count : (d : Method) → P d → (b : Bool) → Opt P (elim b as (λ _. Option Method) [ true ↦ some d | false ↦ none ])
+    by-count : (d : Method) → P d → (b : Bool) → IfAny P (elim b as (λ _. Option Method) [ true ↦ some d | false ↦ none ])
     by-count d p true = p
     by-count d p false = tt
 
-    by-method : (o : Option Method) → Opt P o → Opt P (elim o as (λ _. Option Method) [ none ↦ none | some d ↦ elim (eqb (length (d .params)) n) [ true ↦ some d | false ↦ none ] ])
+    by-method : (o : Option Method) → IfAny P o → IfAny P (elim o as (λ _. Option Method) [ none ↦ none | some d ↦ elim (eqb (length (d .params)) n) [ true ↦ some d | false ↦ none ] ])
     by-method none p = tt
     by-method (some d) p = by-count d p (eqb (length (d .params)) n)
 
-    by-class : (o : Option ℕ) → Opt P (elim o as (λ _. Option Method) [
+    by-class : (o : Option ℕ) → IfAny P (elim o as (λ _. Option Method) [
       | none ↦ none
       | some c ↦ elim (lookup t c m) [ none ↦ none | some d ↦ elim (eqb (length (d .params)) n) [ true ↦ some d | false ↦ none ] ]
     ])
@@ -116,23 +113,23 @@ module _ (t : Table) (wf : WellFormed t) (objects : ℕ) where
   Gs k vs = AllIn (Good t objects k) vs
 
   pub record GoodFrame (k : ℕ) (fr : Frame) : Type 0 where
-    pub this : Opt (G k) (fr .this)
-    pub res : Opt (G k) (fr .res)
+    pub this : IfAny (G k) (fr .this)
+    pub res : IfAny (G k) (fr .res)
     pub params : Gs k (fr .params)
 
   -- ---- the operations
-  good-select : (k f : ℕ) (v : Graph) → G k v → Opt (G k) (select f v)
+  good-select : (k f : ℕ) (v : Graph) → G k v → IfAny (G k) (select f v)
   unfolding select
   good-select k f v h = go (v .root)
     where
       at-marks : (i : ℕ) (r : Ref) → getElem? (refsAt (v .nodes) i) f ≡ some r → MarkBelow k r
       at-marks i r e = all-get (MarkBelow k) (refsAt (v .nodes) i) (all-at (Formed t k) (node 0 []) (formed-default t k) (v .nodes) (h .nodes) i .marks) f r e
 
-      found-at : (i : ℕ) (o : Option Ref) → getElem? (refsAt (v .nodes) i) f ≡ o → Opt (G k) (selected (v .nodes) o)
+      found-at : (i : ℕ) (o : Option Ref) → getElem? (refsAt (v .nodes) i) f ≡ o → IfAny (G k) (selected (v .nodes) o)
       found-at i none e = tt
       found-at i (some r) e = good-canon t objects k (graph r (v .nodes)) (at-ref v (h .whole) r (h .whole .inner i f r e)) (h .small) (at-marks i r e) (h .nodes)
 
-      go : (r : Ref) → Opt (G k) (elim r as (λ _. Option Graph) [ obj i ↦ selected (v .nodes) (getElem? (refsAt (v .nodes) i) f) | mark x ↦ none | undet ↦ none ])
+      go : (r : Ref) → IfAny (G k) (elim r as (λ _. Option Graph) [ obj i ↦ selected (v .nodes) (getElem? (refsAt (v .nodes) i) f) | mark x ↦ none | undet ↦ none ])
       go (obj i) = found-at i (getElem? (refsAt (v .nodes) i) f) refl
       go (mark x) = tt
       go undet = tt
@@ -194,7 +191,7 @@ module _ (t : Table) (wf : WellFormed t) (objects : ℕ) where
   frame-more k v vs a b =
       record { this = good-more t objects k v a; res = tt; params = all-weaken (G k) (G (suc k)) (good-more t objects k) vs b }
 
-  good-invoke : (deeper : Option Deeper) → Opt GoodDeeper deeper → (os : List OpenCall) → Numbered os → (v : Graph) (m : ℕ) (vs : List Graph) (d : Method) (n : ℕ)
+  good-invoke : (deeper : Option Deeper) → IfAny GoodDeeper deeper → (os : List OpenCall) → Numbered os → (v : Graph) (m : ℕ) (vs : List Graph) (d : Method) (n : ℕ)
       → MethodFormed t d → G (length os) v → Gs (length os) vs → Out (G (length os)) (invoke deeper os v m vs d n)
   unfolding invoke
   good-invoke deeper D os ns v m vs d zero kd a b = tt
@@ -217,7 +214,7 @@ module _ (t : Table) (wf : WellFormed t) (objects : ℕ) where
   abbrev Listed : ℕ → ℕ → List Graph → Type 0
   Listed k n vs = Gs k vs × (length vs ≡ n)
 
-  module _ (deeper : Option Deeper) (D : Opt GoodDeeper deeper) (os : List OpenCall) (ns : Numbered os) (fr : Frame) (h : GoodFrame (length os) fr) where
+  module _ (deeper : Option Deeper) (D : IfAny GoodDeeper deeper) (os : List OpenCall) (ns : Numbered os) (fr : Frame) (h : GoodFrame (length os) fr) where
     good-count : (c : ℕ) (es : Exprs) (n : ℕ) → c ≤ length (t .classes) → (b : Bool) → eqb (length (fieldsOf (t .classes) c)) (count es) ≡ b
         → Out (Listed (length os) (count es)) (evals objects t deeper fr os es n)
         → Out (G (length os)) (elim b as (λ _. Outcome Graph) [ true ↦ evals objects t deeper fr os es n then λ vs n′. sized objects (make c vs) n′ | false ↦ stopped Stop.stuck n ])
@@ -262,7 +259,14 @@ module _ (t : Table) (wf : WellFormed t) (objects : ℕ) where
   good-evalTo (suc d) fr os e n k h ns =
       good-eval (some (λ fr′ os′ e′ n′. evalTo objects d t fr′ os′ e′ n′)) (λ fr′ os′ e′ n′ k′ h′ ns′. good-evalTo d fr′ os′ e′ n′ k′ h′ ns′) os ns fr h e n k
 
+-- main's only parameter, if it has one
+input-all : {A : Type 0} (P : A → Type 0) (i : Option A) → IfAny P i → AllIn P (asList i)
+input-all P none h = tt
+input-all P (some a) h = (h, tt)
+
 -- the value of a run: no left-side call is open at main
-pub good-run : (l : Limits) (t : Table) (n : ℕ) → WellFormed t → Out (Good t (l .objects) 0) (runWithin l t n)
+pub good-run : (l : Limits) (t : Table) (i : Option Graph) (n : ℕ) → WellFormed t → IfAny (Good t (l .objects) 0) i → Out (Good t (l .objects) 0) (runWithin l t i n)
 unfolding runWithin
-good-run l t n wf = good-evalTo t wf (l .objects) (l .depth) mainFrame [] (t .main) n (wf .mainKnown) (record { this = tt; res = tt; params = tt }) tt
+good-run l t i n wf g =
+    good-evalTo t wf (l .objects) (l .depth) (mainFrame i) [] (t .main) n (wf .mainKnown)
+    (record { this = tt; res = tt; params = input-all (Good t (l .objects) 0) i g }) tt

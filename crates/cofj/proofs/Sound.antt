@@ -1,5 +1,6 @@
 -- Type soundness: an accepted program does not get stuck, and its value sits at main's type. Induction over the interpreter.
 use Prim.Native.Nat.{ℕ, zero, suc, zero-le}
+use native.Mathlib.Omega.{arith}
 use mathlib.Core.Path.{_≡_, refl, sym, ap, _∙_, subst}
 use mathlib.Core.Bool.{Bool, true, false, _&&_, cond, false≢true}
 use mathlib.Core.List.{List, [], _∷_, map}
@@ -9,13 +10,13 @@ use lib.ListN.{length, getElem?, length-map}
 use borrow.Author.Tests.{eqb-true, eq-eqb}
 use Rattle.cofj.specs.Limits.{Limits}
 use Rattle.cofj.specs.Syntax.{Expr, this, res, param, field, call, new, Exprs, done, also, count, Ty, ty, Method, Table}
-use Rattle.cofj.specs.Partial.{_>>=_, guard}
+use Rattle.cofj.specs.Partial.{_>>=_, guard, asList}
 use Rattle.cofj.specs.Classes.{classFits, fieldsOf, lookup}
 use Rattle.cofj.specs.Typing.{Env, allClosed, allFit, narrow, fieldType, callType, newType, typeOf, typesOf, mainType}
 use Rattle.cofj.specs.Values.{Graph, select, make}
 use Rattle.cofj.specs.Running.{Outcome, value, stopped, Stop, Frame, OpenCall, orStuck, Deeper, classOf, target, invoke, sized, eval, evals, evalTo, mainFrame, runWithin}
 use Rattle.cofj.specs.WellFormed.{AllMethods, MethodFormed, WellFormed}
-use Rattle.cofj.specs.Soundness.{Ends, Sound}
+use Rattle.cofj.specs.Soundness.{Ends, Fed, unfed, fed, Sound}
 use Rattle.cofj.proofs.Climb.{fields-tags, SameSig, lookup-fits, lookup-found}
 use Rattle.cofj.proofs.Typed.{Has, Hold}
 use Rattle.cofj.proofs.Keeps.{has-fits, hold-fits, fit-length, hold-get, has-object, has-own, has-new, has-new-open, has-select}
@@ -23,7 +24,7 @@ use Rattle.cofj.proofs.Partial.{and-true, true-and, opt-bind, guard-bin
 use Rattle.cofj.proofs.CheckSays.{MethodOk, check-says}
 use Rattle.cofj.proofs.Traces.{Trace}
 use Rattle.cofj.proofs.SoundCalls.{Out, out-then, out-or, out-known, FrameOk, DeeperOk, sound-invoke, class-of, target-is}
-use Rattle.cofj.proofs.Places.{sits}
+use Rattle.cofj.proofs.Places.{sits, has-sits}
 
 module _ (t : Table) (wf : WellFormed t) (ok : AllMethods (MethodOk t) (t .methods)) where
   -- a value of tag 0
@@ -198,12 +199,18 @@ module _ (t : Table) (wf : WellFormed t) (ok : AllMethods (MethodOk t) (t .metho
       sound-eval objects (some (λ fr′ os′ e′ n′. evalTo objects k t fr′ os′ e′ n′))
       (λ fr′ os′ σ′ g′ e′ n′ u′ h′ tr′ q′. sound-evalTo objects k false fr′ os′ σ′ g′ e′ n′ u′ h′ tr′ (λ x. absurd (false≢true x)) q′) e inMain g fr os σ n u h tr z q
 
+  -- main's parameter has its type
+  hold-input : (objects : ℕ) (i : Option Graph) → Fed objects t i → Hold t [] (asList (t .input)) (asList i)
+  hold-input objects i (unfed e) = subst (λ (o : Option Ty). Hold t [] (asList o) []) (sym e) tt
+  hold-input objects i (fed w v e s g) =
+      subst (λ (o : Option Ty). Hold t [] (asList o) (v ∷ [])) (sym e) (has-sits t wf w v (g .whole) (omega (arith, wf .inputTag w e)) s, tt)
+
   -- the value of a run has main's type, with no call open
-  pub has-run : (l : Limits) (u : Ty) (n : ℕ) → mainType t ≡ some u → Out (Has t [] u) (runWithin l t n)
+  pub has-run : (l : Limits) (i : Option Graph) (u : Ty) (n : ℕ) → Fed (l .objects) t i → mainType t ≡ some u → Out (Has t [] u) (runWithin l t i n)
   unfolding runWithin
-  has-run l u n q =
-      sound-evalTo (l .objects) (l .depth) true mainFrame [] [] (record { this = none; res = none; params = [] }) (t .main) n u
-      (record { this = λ w e. absurd (Option·none-ne-some w e); res = λ w e. absurd (Option·none-ne-some w e); params = tt }) tt (λ _. refl) q
+  has-run l i u n d q =
+      sound-evalTo (l .objects) (l .depth) true (mainFrame i) [] [] (record { this = none; res = none; params = asList (t .input) }) (t .main) n u
+      (record { this = λ w e. absurd (Option·none-ne-some w e); res = λ w e. absurd (Option·none-ne-some w e); params = hold-input (l .objects) i d }) tt (λ _. refl) q
 
 module _ (t : Table) (wf : WellFormed t) where
   ends : (u : Ty) (o : Outcome Graph) → Out (Has t [] u) o → Ends t u o
@@ -212,4 +219,4 @@ module _ (t : Table) (wf : WellFormed t) where
 
 pub sound : Sound
 unfolding Sound
-sound l t u n wf e = let c = check-says t u e in ends t wf u (runWithin l t n) (has-run t wf (c .0) l u n (c .1))
+sound l t i u n wf d e = let c = check-says t u e in ends t wf u (runWithin l t i n) (has-run t wf (c .0) l i u n d (c .1))

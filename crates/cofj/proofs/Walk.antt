@@ -72,7 +72,7 @@ unfolding unseen
 unseen-le zero s t h = zero-le
 unseen-le (suc n) s t h = omega (arith, bit-le (isIn n s) (isIn n t) (h n), unseen-le n s t h)
 
-unseen-lt : (n : ℕ) (s t : List ℕ) → Ext s t → (c : ℕ) → c < n → isIn c s ≡ false → isIn c t ≡ true → unseen n t < unseen n s
+pub unseen-lt : (n : ℕ) (s t : List ℕ) → Ext s t → (c : ℕ) → c < n → isIn c s ≡ false → isIn c t ≡ true → unseen n t < unseen n s
 unfolding unseen bit
 unseen-lt zero s t h c l p q = absurd (not-suc-le-zero l)
 unseen-lt (suc n) s t h c l p q = go (eqb c n) refl (λ l′. unseen-lt n s t h c l′ p q)

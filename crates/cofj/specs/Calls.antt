@@ -1,17 +1,17 @@
 -- Sessions and the public calls: what each answers, and every byte of the lent buffers after it.
 -- A refused call answers its number, the same session and length 0, and leaves the buffers as they were.
-use Prim.Native.Nat.{ℕ}
-use mathlib.Core.Bool.{true, false, not, cond}
+use Prim.Native.Nat.{ℕ, suc}
+use mathlib.Core.Bool.{Bool, true, false, _&&_, not, cond}
 use mathlib.Core.List.{List, [], _∷_, _++_}
 use mathlib.Core.Option.{Option, none, some}
-use lib.Dec.{ltb}
-use lib.ListN.{length, drop, replicate}
+use lib.Dec.{eqb, ltb}
+use lib.ListN.{length, take, drop, replicate}
 use Rattle.cofj.specs.declared.Session.{Session}
 use Rattle.cofj.specs.declared.Answer.{Answer}
 use Rattle.cofj.specs.declared.Closing.{Closing}
 use Rattle.cofj.specs.declared.Verdict.{Verdict}
 use Rattle.cofj.specs.declared.Written.{Written}
-use Rattle.cofj.specs.Limits.{textSize, reportSize, workSize, linerunFuel}
+use Rattle.cofj.specs.Limits.{standard, textSize, reportSize, workSize, linerunFuel}
 use Rattle.cofj.specs.Syntax.{Table}
 use Rattle.cofj.specs.Values.{Graph}
 use Rattle.cofj.specs.Text.{hexText}
@@ -20,6 +20,7 @@ use Rattle.cofj.specs.Writing.{Text, noText, text, writeTable}
 use Rattle.cofj.specs.Classes.{chainHas, fieldsTo, lookupTo, methodOf}
 use Rattle.cofj.specs.Typing.{Checked, refused, accepted, check, methodTyped, typeOf, fieldType, callType, newType}
 use Rattle.cofj.specs.Running.{Outcome, run}
+use Rattle.cofj.specs.Batch.{Input, refused as unfit, given, inputOf}
 use Rattle.cofj.specs.Report.{reportOf, fuelOf}
 
 -- ---- sessions
@@ -55,32 +56,55 @@ checkCall s = verdictOf (checkText s)
 pub data Mode : Type 0 where
   checked trial : Mode
 
+-- the table that a run evaluates and the input that it is given, or the refusal
 pub data Admitted : Type 0 where
   declined : ℕ → Admitted
-  admitted : Table → Admitted
+  admitted : Table → Option Graph → Admitted
 
-abbrev pub afterCheck : Table → Checked → Admitted
-afterCheck t (refused k) = declined k
-afterCheck t (accepted u) = admitted t
+-- an `03` main takes no second text; an empty one counts as none
+abbrev pub withoutInput : Table → List ℕ → Admitted
+withoutInput t [] = admitted t none
+withoutInput t (c ∷ s) = declined 14
 
-abbrev pub admitTable : Mode → Table → Admitted
-admitTable checked t = afterCheck t (check t)
-admitTable trial t = admitted t
+-- an `04` main is given the value that its second text lists
+abbrev pub withInput : Table → Input → Admitted
+withInput t (unfit k) = declined k
+withInput t (given v) = admitted t (some v)
 
--- the table that a run of this text evaluates, or the refusal: 1 to 7, a trial never 6 or 7
-unfoldable pub admit : Mode → List ℕ → Admitted
-unfolding readText check methodTyped typeOf fieldType callType newType chainHas fieldsTo lookupTo methodOf
-admit m s = elim (readText s) [ refusal k ↦ declined k | read t ↦ admitTable m t ]
+-- a table and the second text of its run: 14 and 15
+unfoldable pub feed : Table → List ℕ → Admitted
+unfolding inputOf
+feed t s = elim (t .input) [ none ↦ withoutInput t s | some u ↦ withInput t (inputOf (standard .objects) (t .classes) u s) ]
 
--- a call of a run: its input, its state and the buffers that it lends
+-- the input that is given, if any
+abbrev pub inputIn : Admitted → Option Graph
+inputIn (declined k) = none
+inputIn (admitted t i) = i
+
+abbrev pub afterCheck : Table → List ℕ → Checked → Admitted
+afterCheck t s (refused k) = declined k
+afterCheck t s (accepted u) = feed t s
+
+abbrev pub admitTable : Mode → Table → List ℕ → Admitted
+admitTable checked t s = afterCheck t s (check t)
+admitTable trial t s = feed t s
+
+-- the text of a program and the second text: 1 to 7, then 14 and 15; a trial never gives 6 or 7
+unfoldable pub admit : Mode → List ℕ → List ℕ → Admitted
+unfolding readText check methodTyped typeOf fieldType callType newType chainHas fieldsTo lookupTo methodOf feed
+admit m s i = elim (readText s) [ refusal k ↦ declined k | read t ↦ admitTable m t i ]
+
+-- a call of a run: its texts, its state and the buffers that it lends
 pub record Call : Type 0 where
   pub mode : Mode
   pub text : List ℕ
+  -- the second text
+  pub input : List ℕ
   pub session : Session
   pub report : List ℕ
   pub work : List ℕ
 
--- state refusals, before the text is looked at
+-- state refusals, before the texts are looked at
 unfoldable pub stateRefusal : Call → Option ℕ
 stateRefusal a =
     cond (not (a .session .active)) (some 11)
@@ -121,11 +145,11 @@ ended o a =
 
 abbrev pub runAdmitted : Admitted → Call → Ran
 runAdmitted (declined k) a = turnedAway k a
-runAdmitted (admitted t) a = ended (run t (a .session .fuel)) a
+runAdmitted (admitted t i) a = ended (run t i (a .session .fuel)) a
 
 abbrev pub runUnless : Option ℕ → Call → Ran
 runUnless (some k) a = turnedAway k a
-runUnless none a = runAdmitted (admit (a .mode) (a .text)) a
+runUnless none a = runAdmitted (admit (a .mode) (a .text) (a .input)) a
 
 -- the checked run and the trial run
 unfoldable pub runCall : Call → Ran
@@ -151,16 +175,54 @@ unfoldable pub writeCall : Table → List ℕ → Wrote
 unfolding writeTable over
 writeCall t buffer = wrote (writeTable t) buffer
 
--- ---- the program `linerun`: the verdict line, and after 00 the report
+-- ---- the program `linerun`: the verdict line, and after 00 the report. Its input is both texts: the first ends with the first line whose
+-- characters begin `04`, the second is all that follows, whatever it looks like; without such a line all is the first text
+-- these characters begin `04`
+abbrev pub begins04 : List ℕ → Bool
+begins04 [] = false
+begins04 (a ∷ []) = false
+begins04 (a ∷ b ∷ s) = eqb a 0x30 && eqb b 0x34
+
+-- how many characters there are up to and with the first LF, or in all
+unfoldable pub lineLength : List ℕ → ℕ
+lineLength [] = 0
+lineLength (c ∷ s) = suc (cond (eqb c 10) 0 (lineLength s))
+
+-- how many characters the first text has; `start` says that a line starts here
+unfoldable pub firstLength : Bool → List ℕ → ℕ
+unfolding lineLength
+firstLength start [] = 0
+firstLength start (c ∷ s) = elim (start && begins04 (c ∷ s)) [ true ↦ lineLength (c ∷ s) | false ↦ suc (firstLength (eqb c 10) s) ]
+
+abbrev pub firstText : List ℕ → List ℕ
+firstText s = take (firstLength true s) s
+
+abbrev pub secondText : List ℕ → List ℕ
+secondText s = drop (firstLength true s) s
+
+-- what is said of both texts: main's type, or the refusal that a checked run of them gives
+abbrev pub judgedBy : Checked → Admitted → Checked
+judgedBy c (declined k) = refused k
+judgedBy c (admitted t i) = c
+
+unfoldable pub judge : List ℕ → List ℕ → Checked
+unfolding checkText admit
+judge s i = judgedBy (checkText s) (admit checked s i)
+
 abbrev pub verdictLine : Checked → List ℕ
 verdictLine (refused k) = 8 ∷ k ∷ []
 verdictLine (accepted u) = 8 ∷ 0 ∷ u .cls ∷ u .tag ∷ []
 
--- the report of a run with so much fuel, where the text is admitted
+-- the report of a run with so much fuel, where the texts are admitted
 abbrev pub reportAdmitted : Admitted → ℕ → List ℕ
 reportAdmitted (declined k) n = []
-reportAdmitted (admitted t) n = reportOf (run t n)
+reportAdmitted (admitted t i) n = reportOf (run t i n)
+
+-- what is written for both texts
+unfoldable pub shownFor : List ℕ → List ℕ → List ℕ
+unfolding judge admit run
+shownFor s i = hexText (verdictLine (judge s i) ∷ []) ++ reportAdmitted (admit checked s i) linerunFuel
 
 unfoldable pub linerun : List ℕ → List ℕ
-unfolding checkText admit run
-linerun s = hexText (verdictLine (checkText s) ∷ []) ++ reportAdmitted (admit checked s) linerunFuel
+unfolding firstLength shownFor
+linerun s = shownFor (firstText s) (secondText s)

@@ -3,6 +3,7 @@
 use Prim.Native.Nat.{ℕ, _≤_, _<_}
 use mathlib.Core.Path.{_≡_}
 use mathlib.Core.List.{List, [], _∷_}
+use mathlib.Core.Option.{Option, none, some}
 use lib.ListN.{length}
 use Rattle.cofj.specs.Syntax.{Table}
 use Rattle.cofj.specs.Classes.{fieldsOf}
@@ -35,6 +36,11 @@ pub record Good (t : Table) (objects k : ℕ) (v : Graph) : Type 0 where
   pub small : length (v .nodes) ≤ objects
   pub root : MarkBelow k (v .root)
   pub nodes : AllIn (Formed t k) (v .nodes)
+
+-- what holds of an input, if there is one
+abbrev pub IfAny : {A : Type 0} → (A → Type 0) → Option A → Type 0
+IfAny P none = Unit {0}
+IfAny P (some a) = P a
 
 -- what holds of an outcome's value
 abbrev pub Out : {A : Type 0} → (A → Type 0) → Outcome A → Type 0

@@ -81,7 +81,8 @@ pub record ClassFrame : Type 0 where
 pub data TextFrame : Type 0 where
   classFrame : ClassFrame → TextFrame
   methodFrame : Method → TextFrame
-  mainFrame : Expr → TextFrame
+  -- main, with the type of its parameter if it has one
+  mainFrame : Option Ty → Expr → TextFrame
 
 abbrev pub whole : {A : Type 0} → Got A → Option A
 whole g = elim (g .rest) [ [] ↦ some (g .item) | b ∷ bs ↦ none ]
@@ -107,18 +108,25 @@ methodAfter bs =
       right = right;
     }))
 
-unfoldable pub mainAfter : List ℕ → Option TextFrame
+-- `03`, or `04` after its type
+unfoldable pub mainAfter : Option Ty → List ℕ → Option TextFrame
 unfolding expr
-mainAfter bs = expr nestingLimit bs >>= λ e. whole e >>= λ main. some (mainFrame main)
+mainAfter i bs = expr nestingLimit bs >>= λ e. whole e >>= λ main. some (mainFrame i main)
+
+-- `04`: the type of parameter 0, then as any main
+unfoldable pub inputAfter : List ℕ → Option TextFrame
+unfolding type mainAfter
+inputAfter bs = type bs >>= λ u. mainAfter (some (u .item)) (u .rest)
 
 unfoldable pub frame : List ℕ → Option TextFrame
-unfolding classAfter methodAfter mainAfter
+unfolding classAfter methodAfter mainAfter inputAfter
 frame bs =
     byte bs >>= λ k.
     cond (eqb (k .item) 1) (classAfter (k .rest))
     (cond (eqb (k .item) 2) (methodAfter (k .rest))
-    (cond (eqb (k .item) 3) (mainAfter (k .rest))
-    none))
+    (cond (eqb (k .item) 3) (mainAfter none (k .rest))
+    (cond (eqb (k .item) 4) (inputAfter (k .rest))
+    none)))
 
 unfoldable pub frames : List (List ℕ) → Option (List TextFrame)
 unfolding frame

@@ -26,6 +26,14 @@ paramCount = 3
 abbrev pub nestingLimit : ℕ
 nestingLimit = 6
 
+-- how many parts the second text of a run may list: the byte FF is none of them
+abbrev pub partCount : ℕ
+partCount = 255
+
+-- a second text: characters in all, 17 for each part; more are no list of parts
+abbrev pub inputSize : ℕ
+inputSize = 4335
+
 -- lent buffers: refusals 12 and 13
 abbrev pub reportSize : ℕ
 reportSize = 544
@@ -36,6 +44,10 @@ workSize = 65536
 -- the fuel that `linerun` opens with
 abbrev pub linerunFuel : ℕ
 linerunFuel = 1000
+
+-- so many characters of its input decide what `linerun` writes: both texts, and one character more
+abbrev pub linerunSize : ℕ
+linerunSize = 53903
 
 -- what a run may use besides its fuel: calls open at once, and distinct objects in a value
 pub record Limits : Type 0 where

@@ -1,13 +1,14 @@
 -- What is promised of the public calls, as statements of what a call returned. Proved of what the definitions give (proofs/ReadCalls, RunCalls
 -- and Promises), and in the crate engine (proofs/Promise) of what its functions return. Read this file first.
 -- Demand 1: refusals number by number, of every call. Demand 2: the checker and the runs give what the rules give; texts and tables are
--- each other's. Demand 3: equal reports exactly for the same end, and what an accepted program's report shows. Then values and reports.
+-- each other's. Demand 3: equal reports exactly for the same end, and what an accepted program's report shows; the same report however the
+-- second text is cut. Then values and reports.
 use Prim.Native.Nat.{ℕ, _≤_, _<_}
 use mathlib.Core.Path.{_≡_}
 use mathlib.Core.Bool.{true, false}
 use mathlib.Core.List.{List, [], _∷_, List·Memᴰ}
 use mathlib.Core.Logic.{_↔_}
-use mathlib.Core.Option.{none, some}
+use mathlib.Core.Option.{Option, none, some}
 use lib.ListN.{length, take, getElem?}
 use Rattle.cofj.specs.declared.Session.{Session}
 use Rattle.cofj.specs.declared.Closing.{Closing}
@@ -21,17 +22,18 @@ use Rattle.cofj.specs.Tables.{Raw, ordered, few, table, overridden}
 use Rattle.cofj.specs.Reading.{Answer, refusal, read, readText}
 use Rattle.cofj.specs.WellFormed.{AllMethods}
 use Rattle.cofj.specs.Typing.{refused, accepted, check}
-use Rattle.cofj.specs.TypingRules.{HasType, noVariables, MethodTyped, ProgramTyped}
+use Rattle.cofj.specs.TypingRules.{HasType, mainVariables, MethodTyped, ProgramTyped}
 use Rattle.cofj.specs.Values.{obj, Node, Graph, graph, canon, make, select, close, markOf, undetermined}
 use Rattle.cofj.specs.Unfolding.{object, follow, followBound, SameTree, Whole, AllWhole}
 use Rattle.cofj.specs.Running.{Outcome, OpenCall, openMark, run, runWithin}
 use Rattle.cofj.specs.RunningRules.{RunsTo}
 use Rattle.cofj.specs.Writing.{Text, noText, text, writeTable}
-use Rattle.cofj.specs.Formed.{Good, Out}
+use Rattle.cofj.specs.Formed.{Good, IfAny, Out}
 use Rattle.cofj.specs.Report.{reportOf, fuelOf, valueReport, SameEnd}
 use Rattle.cofj.specs.ReportForm.{reported, Reportable}
-use Rattle.cofj.specs.Soundness.{Ends, EndsListed}
-use Rattle.cofj.specs.Calls.{checked, trial, Call, Ran, closedSession, withFuel, turnedAway, ended, verdictOf, Wrote, notWritten, written}
+use Rattle.cofj.specs.Batch.{ListsParts, started, Fitting}
+use Rattle.cofj.specs.Soundness.{Ends, EndsListed, Fed}
+use Rattle.cofj.specs.Calls.{checked, trial, feed, inputIn, Call, Ran, closedSession, withFuel, turnedAway, ended, verdictOf, Wrote, notWritten, written}
 
 -- the report that a run wrote: as many bytes of the buffer as it answers
 abbrev pub reportText : Ran → List ℕ
@@ -98,7 +100,7 @@ pub record Checks (s : List ℕ) (v : Verdict) : Type 0 where
   pub six : (t : Table) → readText s ≡ read t → (v ≡ verdictOf (refused 6)) ↔ ((d : Method) × List·Memᴰ d (t .methods) × (MethodTyped t d → ⊥))
   -- 7: every method has one, and main has none
   pub seven : (t : Table) → readText s ≡ read t
-      → (v ≡ verdictOf (refused 7)) ↔ (AllMethods (MethodTyped t) (t .methods) × ((u : Ty) → HasType t true noVariables (t .main) u → ⊥))
+      → (v ≡ verdictOf (refused 7)) ↔ (AllMethods (MethodTyped t) (t .methods) × ((u : Ty) → HasType t true (mainVariables (t .input)) (t .main) u → ⊥))
   -- else the type that the rules give
   pub types : (t : Table) (u : Ty) → readText s ≡ read t → (v ≡ verdictOf (accepted u)) ↔ ProgramTyped t u
   -- 0 for an accepted program, and for no other text
@@ -125,6 +127,28 @@ pub record Lent (a : Call) : Type 0 where
   pub report : reportSize ≤ length (a .report)
   pub work : workSize ≤ length (a .work)
 
+-- the text is not refused: a checked run's has a type, a trial's is read
+pub data Ready (a : Call) (t : Table) : Type 0 where
+  typed : (u : Ty) → readText (a .text) ≡ read t → check t ≡ accepted u → Ready a t
+  tried : a .mode ≡ trial → readText (a .text) ≡ read t → Ready a t
+
+-- what a second text gives a run of the table
+pub data Feeds (t : Table) (s : List ℕ) : Option Graph → Type 0 where
+  -- An `03` main has no second text, and no input.
+  NOTHING :
+      t .input ≡ none
+      → s ≡ []
+      -- ---------------
+      → Feeds t s none
+  -- An `04` main has one that lists parts, which fit: their value.
+  PARTS :
+      {u : Ty} {ns : List Node}
+      → t .input ≡ some u
+      → ListsParts t s ns
+      → Fitting (standard .objects) (t .classes) u ns
+      -- --------------------------------------------
+      → Feeds t s (some (started ns))
+
 -- `turnedAway k` has the number, the session and both buffers as they were, and length 0
 pub record Refusals (a : Call) (x : Ran) : Type 0 where
   pub closed : a .session .active ≡ false → x ≡ turnedAway 11 a
@@ -134,14 +158,22 @@ pub record Refusals (a : Call) (x : Ran) : Type 0 where
   pub unread : (k : ℕ) → Lent a → readText (a .text) ≡ refusal k → x ≡ turnedAway k a
   -- 6 and 7, of a checked run only
   pub untyped : (t : Table) (k : ℕ) → Lent a → a .mode ≡ checked → readText (a .text) ≡ read t → check t ≡ refused k → x ≡ turnedAway k a
+  -- 14: an `04` main without a second text, an `03` main with one, a text that lists no parts of the program's classes
+  pub noInput : (t : Table) (u : Ty) → Lent a → Ready a t → t .input ≡ some u → a .input ≡ [] → x ≡ turnedAway 14 a
+  pub someInput : (t : Table) → Lent a → Ready a t → t .input ≡ none → 1 ≤ length (a .input) → x ≡ turnedAway 14 a
+  pub unlisted : (t : Table) (u : Ty) → Lent a → Ready a t → t .input ≡ some u → ((ns : List Node) → ListsParts t (a .input) ns → ⊥) → x ≡ turnedAway 14 a
+  -- 15: parts that do not fit, or too many
+  pub unfitting : (t : Table) (u : Ty) (ns : List Node) → Lent a → Ready a t → t .input ≡ some u → ListsParts t (a .input) ns
+      → (Fitting (standard .objects) (t .classes) u ns → ⊥) → x ≡ turnedAway 15 a
   -- every other call is accepted, and ends with a report
-  pub accepts : (t : Table) (u : Ty) → Lent a → readText (a .text) ≡ read t → check t ≡ accepted u → x ≡ ended (run t (a .session .fuel)) a
-  pub tries : (t : Table) → Lent a → a .mode ≡ trial → readText (a .text) ≡ read t → x ≡ ended (run t (a .session .fuel)) a
+  pub accepts : (t : Table) (u : Ty) (i : Option Graph) → Lent a → readText (a .text) ≡ read t → check t ≡ accepted u → Feeds t (a .input) i
+      → x ≡ ended (run t i (a .session .fuel)) a
+  pub tries : (t : Table) (i : Option Graph) → Lent a → a .mode ≡ trial → readText (a .text) ≡ read t → Feeds t (a .input) i → x ≡ ended (run t i (a .session .fuel)) a
 
 -- every call is refused with a number that is not 0, or ends with 0
 pub data Answers (a : Call) (x : Ran) : Type 0 where
-  refuses : (k : ℕ) → 1 ≤ k → k ≤ 13 → x ≡ turnedAway k a → Answers a x
-  runs : (t : Table) → Lent a → readText (a .text) ≡ read t → x ≡ ended (run t (a .session .fuel)) a → Answers a x
+  refuses : (k : ℕ) → 1 ≤ k → k ≤ 15 → x ≡ turnedAway k a → Answers a x
+  runs : (t : Table) (i : Option Graph) → Lent a → readText (a .text) ≡ read t → Feeds t (a .input) i → x ≡ ended (run t i (a .session .fuel)) a → Answers a x
 
 -- the report fits, and the buffers keep their lengths: of every call, refused or not, of a trial of an untyped program too
 pub record Lengths (a : Call) (x : Ran) : Type 0 where
@@ -159,21 +191,23 @@ pub record EndsIn (o : Outcome Graph) (a : Call) (x : Ran) : Type 0 where
 -- the calls, by the rules alone
 pub record Follows (a : Call) (x : Ran) : Type 0 where
   -- a checked run of a typed program, and a trial run of any, end in what the big-step rules give
-  pub typed : (t : Table) (u : Ty) (o : Outcome Graph) → Lent a → readText (a .text) ≡ read t → ProgramTyped t u → RunsTo standard t (a .session .fuel) o → EndsIn o a x
-  pub tried : (t : Table) (o : Outcome Graph) → Lent a → a .mode ≡ trial → readText (a .text) ≡ read t → RunsTo standard t (a .session .fuel) o → EndsIn o a x
+  pub typed : (t : Table) (u : Ty) (i : Option Graph) (o : Outcome Graph) → Lent a → readText (a .text) ≡ read t → ProgramTyped t u → Feeds t (a .input) i
+      → RunsTo standard t i (a .session .fuel) o → EndsIn o a x
+  pub tried : (t : Table) (i : Option Graph) (o : Outcome Graph) → Lent a → a .mode ≡ trial → readText (a .text) ≡ read t → Feeds t (a .input) i
+      → RunsTo standard t i (a .session .fuel) o → EndsIn o a x
   -- 6: a method has no type; 7: every method has one, and main has none
   pub six : (t : Table) (d : Method) → Lent a → a .mode ≡ checked → readText (a .text) ≡ read t → List·Memᴰ d (t .methods) → (MethodTyped t d → ⊥) → x ≡ turnedAway 6 a
   pub seven : (t : Table) → Lent a → a .mode ≡ checked → readText (a .text) ≡ read t → AllMethods (MethodTyped t) (t .methods)
-      → ((u : Ty) → HasType t true noVariables (t .main) u → ⊥) → x ≡ turnedAway 7 a
+      → ((u : Ty) → HasType t true (mainVariables (t .input)) (t .main) u → ⊥) → x ≡ turnedAway 7 a
 
 -- the definitions
 pub record Demand2 : Type 0 where
   -- a program that is read is accepted exactly when the typing rules give it a type, which is the one named
   pub checks : (s : List ℕ) (t : Table) (u : Ty) → readText s ≡ read t → (check t ≡ accepted u) ↔ ProgramTyped t u
   -- a run ends in what the big-step rules give, and in nothing else, within any limits
-  pub runs : (l : Limits) (t : Table) (n : ℕ) (o : Outcome Graph) → (runWithin l t n ≡ o) ↔ RunsTo l t n o
+  pub runs : (l : Limits) (t : Table) (i : Option Graph) (n : ℕ) (o : Outcome Graph) → (runWithin l t i n ≡ o) ↔ RunsTo l t i n o
   -- every run ends
-  pub total : (l : Limits) (t : Table) (n : ℕ) → (o : Outcome Graph) × RunsTo l t n o
+  pub total : (l : Limits) (t : Table) (i : Option Graph) (n : ℕ) → (o : Outcome Graph) × RunsTo l t i n o
   -- text to table to text, for every text that passes 1 to 5
   pub textRound : (s : List ℕ) (t : Table) → readText s ≡ read t → writeTable t ≡ text s
   -- table to text to table, for every table that is not refused
@@ -182,21 +216,46 @@ pub record Demand2 : Type 0 where
   pub refusedExactly : (t : Table) → (writeTable t ≡ noText) ↔ ((s : List ℕ) → readText s ≡ read t → ⊥)
 
 -- ---- demand 3
+-- what an accepted program is given by the call's second text, where that is not refused
+abbrev pub inputFor : (a : Call) → Program (a .text) → Option Graph
+inputFor a p = inputIn (feed (p .table) (a .input))
+
 -- what the rules give for an accepted program, its input and its session
 abbrev pub ending : (a : Call) → Program (a .text) → Outcome Graph
-ending a p = run (p .table) (a .session .fuel)
+ending a p = run (p .table) (inputFor a p) (a .session .fuel)
 
 pub record Kept (a : Call) (p : Program (a .text)) (x : Ran) : Type 0 where
+  -- what is given is what the second text lists, and fits its places
+  pub feeds : Feeds (p .table) (a .input) (inputFor a p)
+  pub fed : Fed (standard .objects) (p .table) (inputFor a p)
   pub endsIn : EndsIn (ending a p) a x
   -- never stuck; classes fit; undetermined only at tag 03; no mark: on the tree, and on the objects listed
   pub ends : Ends (p .table) (p .type) (ending a p)
   pub listed : EndsListed (p .table) (p .type) (ending a p)
 
--- for any two accepted programs, run any way, neither refused
+-- for any two accepted programs, with any second texts, run any way, neither refused
 pub record Demand3 (a b : Call) (p : Program (a .text)) (q : Program (b .text)) (x y : Ran) : Type 0 where
   pub reports : (reportText x ≡ reportText y) ↔ SameEnd (ending a p) (ending b q)
   pub first : Kept a p x
   pub second : Kept b q y
+
+-- two calls of one program text, with equal sessions, in any modes and buffers, whose second texts list parts that unfold to the same tree
+pub record Recuts (a b : Call) : Type 0 where
+  pub text : a .text ≡ b .text
+  pub session : a .session ≡ b .session
+  pub table : Table
+  pub reads : readText (a .text) ≡ read table
+  pub parts : List Node
+  pub others : List Node
+  pub lists : ListsParts table (a .input) parts
+  pub listsToo : ListsParts table (b .input) others
+  pub same : SameTree (graph (obj 0) parts) (graph (obj 0) others)
+
+-- neither refused: equal reports, and equal sessions after
+pub record Recut (x y : Ran) : Type 0 where
+  pub length : x .answer .length ≡ y .answer .length
+  pub report : reportText x ≡ reportText y
+  pub session : x .answer .session ≡ y .answer .session
 
 -- ---- values and reports
 -- an open call with this receiver, name and arguments
@@ -212,8 +271,8 @@ pub record Canonical : Type 0 where
   pub same : (g : Graph) → Whole g → SameTree (canon g) g
   -- the same tree exactly when the canonical forms are equal
   pub unique : (g h : Graph) → Whole g → Whole h → SameTree g h ↔ (canon g ≡ canon h)
-  -- every value of a run of a program that is read: canonical, closed, within the limit, made of its classes' objects
-  pub values : (l : Limits) (s : List ℕ) (t : Table) (n : ℕ) → readText s ≡ read t → Out (Good t (l .objects) 0) (runWithin l t n)
+  -- every value of a run of a program that is read, if its input is one: canonical, closed, within the limit, made of its classes' objects
+  pub values : (l : Limits) (s : List ℕ) (t : Table) (i : Option Graph) (n : ℕ) → readText s ≡ read t → IfAny (Good t (l .objects) 0) i → Out (Good t (l .objects) 0) (runWithin l t i n)
   -- the operations that the rules use, by the trees that they give.
   -- A new object: its class and count, and below field f the value of field f
   pub newObject : (c : ℕ) (gs : List Graph) → AllWhole gs → follow (make c gs .nodes) (make c gs .root) [] ≡ some (object c (length gs))
@@ -236,4 +295,5 @@ pub record Reports (objects : ℕ) : Type 0 where
   pub exact : (s : List ℕ) (v : Graph) → (reported objects s ≡ some v) ↔ (Reportable objects v × (valueReport v ≡ s))
   pub injective : (v w : Graph) → Reportable objects v → Reportable objects w → valueReport v ≡ valueReport w → v ≡ w
   -- the values of runs have a report
-  pub values : (l : Limits) (s : List ℕ) (t : Table) (n : ℕ) → l .objects ≡ objects → readText s ≡ read t → Out (Reportable objects) (runWithin l t n)
+  pub values : (l : Limits) (s : List ℕ) (t : Table) (i : Option Graph) (n : ℕ) → l .objects ≡ objects → readText s ≡ read t → IfAny (Good t objects 0) i
+      → Out (Reportable objects) (runWithin l t i n)

@@ -1,5 +1,5 @@
--- The cases A to J of document 01, as a table: checked or on trial, fuel, the text, what is written, and the fuel that is left.
--- What is written is the verdict line, for a checked run, and the report. Proved in proofs/Cases.
+-- The cases A to J of document 01, and some of request 2026-01 with a second text, as a table: checked or on trial, fuel, the text, the second
+-- text, what is written, and the fuel that is left. What is written is the verdict line, for a checked run, and the report. Proved in proofs/Cases.
 use Prim.Native.Nat.{ℕ}
 use Prim.Native.String.{String}
 use mathlib.Core.Path.{_≡_}
@@ -7,18 +7,24 @@ use mathlib.Core.List.{List, [], _∷_, _++_}
 use Rattle.cofj.specs.Text.{hexText}
 use Rattle.cofj.specs.Running.{run}
 use Rattle.cofj.specs.Report.{reportOf, fuelOf}
-use Rattle.cofj.specs.Calls.{Mode, checked, trial, Admitted, declined, admitted, admit, checkText, verdictLine}
+use Rattle.cofj.specs.Calls.{Mode, checked, trial, Admitted, declined, admitted, admit, judge, verdictLine}
 use Rattle.cofj.specs.Bytes.{bytes}
 
 pub record Row : Type 0 where
   pub mode : Mode
   pub fuel : ℕ
   pub text : String
+  pub input : String
   pub written : String
   pub left : ℕ
 
+-- with this second text
+abbrev pub rowWith : Mode → ℕ → String → String → String → ℕ → Row
+rowWith m n t i w k = record { mode = m; fuel = n; text = t; input = i; written = w; left = k }
+
+-- with none
 abbrev pub row : Mode → ℕ → String → String → ℕ → Row
-row m n t w k = record { mode = m; fuel = n; text = t; written = w; left = k }
+row m n t w k = rowWith m n t "" w k
 
 pub record Shown : Type 0 where
   pub written : List ℕ
@@ -29,22 +35,22 @@ abbrev pub declinedLine : Mode → ℕ → List ℕ
 declinedLine checked k = []
 declinedLine trial k = hexText ((8 ∷ k ∷ []) ∷ [])
 
-abbrev pub front : Mode → List ℕ → List ℕ
-front checked s = hexText (verdictLine (checkText s) ∷ [])
-front trial s = []
+abbrev pub front : Mode → List ℕ → List ℕ → List ℕ
+front checked s i = hexText (verdictLine (judge s i) ∷ [])
+front trial s i = []
 
 abbrev pub shownAfter : List ℕ → Mode → ℕ → Admitted → Shown
 shownAfter w m n (declined k) = record { written = w ++ declinedLine m k; left = n }
-shownAfter w m n (admitted t) = let o = run t n in record { written = w ++ reportOf o; left = fuelOf o }
+shownAfter w m n (admitted t i) = let o = run t i n in record { written = w ++ reportOf o; left = fuelOf o }
 
--- what a run of the text with this fuel writes and leaves
-unfoldable pub shown : Mode → ℕ → List ℕ → Shown
-unfolding checkText admit run
-shown m n s = shownAfter (front m s) m n (admit m s)
+-- what a run of the texts with this fuel writes and leaves
+unfoldable pub shown : Mode → ℕ → List ℕ → List ℕ → Shown
+unfolding judge admit run
+shown m n s i = shownAfter (front m s i) m n (admit m s i)
 
--- what the definitions give for the row's text is what the row says
+-- what the definitions give for the row's texts is what the row says
 abbrev pub Holds : Row → Type 0
-Holds r = shown (r .mode) (r .fuel) (bytes (r .text)) ≡ record { written = bytes (r .written); left = r .left }
+Holds r = shown (r .mode) (r .fuel) (bytes (r .text)) (bytes (r .input)) ≡ record { written = bytes (r .written); left = r .left }
 
 abbrev pub row-a : Row
 row-a = row checked 1000 "010100010003\n01020000\n02020101030103004402004041\n02020201000102004501014401004041\n03440100450200\n" "08000103\n0500010100\n" 997
@@ -88,5 +94,55 @@ row-h-32 = row checked 1000 "010100010003\n010200010003\n010300010003\n010400010
 abbrev pub row-h-33 : Row
 row-h-33 = row checked 1000 "010100010003\n010200010003\n010300010003\n010400010003\n010500010003\n01060000\n0206010000000001000345010145020145030145040145050142004501014200\n0206020000000001000345020145040145010145050145030142004501014200\n0206030000000001000345030145010145050145020145040142004501014200\n0206040000000001000344010140440201404403014042004501014200\n0206050000000001000344020140440101404403014042004501014200\n03440401450600440501450600450101450101450000\n" "08000000\n0704\n" 992
 
+-- ---- with a second text
+-- a ring of classes 2 and 3, cut as four parts, and one part that is not reached; main selects the field
+abbrev pub row-ring-cut : Row
+row-ring-cut = rowWith checked 1000 "01010000\n010201010100\n010301010100\n04020043004200\n" "0500020101\n0501030102\n0502020103\n0503030100\n05040100\n" "08000100\n0500030101\n0501020100\n" 1000
+
+-- the same ring, cut as two parts
+abbrev pub row-ring : Row
+row-ring = rowWith checked 1000 "01010000\n010201010100\n010301010100\n04020043004200\n" "0500020101\n0501030100\n" "08000100\n0500030101\n0501020100\n" 1000
+
+-- the ring that comes in equals the one that the program makes, so that the call is met again
+abbrev pub row-met : Row
+row-met = rowWith checked 4 "01010000\n010201010100\n01030000\n02030102000202004502014401004041\n02030201030103020100010044020240420142004201\n0401004402024503004200440100450300\n" "0500020101\n0501020102\n0502020100\n" "08000103\n0500020100\n" 0
+
+abbrev pub row-met-3 : Row
+row-met-3 = rowWith checked 3 "01010000\n010201010100\n01030000\n02030102000202004502014401004041\n02030201030103020100010044020240420142004201\n0401004402024503004200440100450300\n" "0500020101\n0501020102\n0502020100\n" "08000103\n0702\n" 0
+
+-- FF at a minus place, and at a plus place
+abbrev pub row-minus : Row
+row-minus = rowWith checked 1000 "010100010003\n0401004200\n" "05000101FF\n" "08000100\n05000101FF\n" 1000
+
+abbrev pub row-plus : Row
+row-plus = rowWith checked 1000 "010100010000\n0401004200\n" "05000101FF\n" "080F\n" 1000
+
+-- on trial too
+abbrev pub row-plus-trial : Row
+row-plus-trial = rowWith trial 1000 "010100010000\n0401004200\n" "05000101FF\n" "080F\n" 1000
+
+-- parts that are not reached need not fit
+abbrev pub row-unreached : Row
+row-unreached = rowWith checked 1000 "010100010000\n0401004200\n" "0500010100\n0501010102\n05020000\n" "08000100\n0500010100\n" 1000
+
+-- a field names no part
+abbrev pub row-no-part : Row
+row-no-part = rowWith checked 1000 "010100010000\n0401004200\n" "0500010101\n" "080E\n" 1000
+
+-- one part, held at two places: it must fit both
+abbrev pub row-two-places : Row
+row-two-places = rowWith checked 1000 "01010000\n01020100\n0103000201000200\n0403004200\n" "050003020101\n05010200\n" "08000300\n050003020101\n05010200\n" 1000
+
+abbrev pub row-one-place : Row
+row-one-place = rowWith checked 1000 "01010000\n01020100\n0103000201000200\n0403004200\n" "050003020101\n05010100\n" "080F\n" 1000
+
+-- an untyped main without the second text that it needs: 7 comes first, and on trial 14
+abbrev pub row-untyped-checked : Row
+row-untyped-checked = row checked 1000 "010100010103\n04010040\n" "0807\n" 1000
+
+abbrev pub row-untyped : Row
+row-untyped = rowWith trial 1000 "010100010103\n04010040\n" "" "080E\n" 1000
+
 abbrev pub rows : List Row
-rows = row-a ∷ row-b ∷ row-c ∷ row-d ∷ row-e ∷ row-e-z ∷ row-f ∷ row-f-trial ∷ row-g ∷ row-i ∷ row-j-16 ∷ row-j-17 ∷ row-h-32 ∷ row-h-33 ∷ []
+rows = row-a ∷ row-b ∷ row-c ∷ row-d ∷ row-e ∷ row-e-z ∷ row-f ∷ row-f-trial ∷ row-g ∷ row-i ∷ row-j-16 ∷ row-j-17 ∷ row-h-32 ∷ row-h-33
+    ∷ row-ring-cut ∷ row-ring ∷ row-met ∷ row-met-3 ∷ row-minus ∷ row-plus ∷ row-plus-trial ∷ row-unreached ∷ row-no-part ∷ row-two-places ∷ row-one-place ∷ row-untyped-checked ∷ row-untyped ∷ []

@@ -1,4 +1,4 @@
--- Running: what the big-step rules of 002 (figures 2 and 3), as document 01 changes them, give for a table and fuel.
+-- Running: what the big-step rules of 002 (figures 2 and 3), as document 01 changes them, give for a table, its input and fuel.
 -- Left to right; the first outcome that is no value is the outcome of the whole. The rules themselves stand in RunningRules.
 -- Differs from 002: fuel, depth and size; the count of a `new` is judged before its values, a call's receiver before its arguments.
 use Prim.Native.Nat.{ℕ, zero, suc}
@@ -8,6 +8,7 @@ use mathlib.Core.Option.{Option, none, some}
 use lib.Dec.{eqb, ltb}
 use lib.ListN.{length, getElem?}
 use Rattle.cofj.specs.Limits.{Limits, standard}
+use Rattle.cofj.specs.Partial.{asList}
 use Rattle.cofj.specs.Syntax.{Expr, this, res, param, field, call, new, Exprs, done, also, count, Method, Table}
 use Rattle.cofj.specs.Classes.{fieldsOf, lookup, lookupTo, methodOf, fieldsTo}
 use Rattle.cofj.specs.Values.{Graph, obj, mark, undet, make, select, close, eqGraph, eqGraphs, markOf, nodeAt}
@@ -126,15 +127,15 @@ unfolding eval
 evalTo objects zero t fr os e n = eval objects t none fr os e n
 evalTo objects (suc d) t fr os e n = eval objects t (some (λ fr′ os′ e′ n′. evalTo objects d t fr′ os′ e′ n′)) fr os e n
 
--- in main there are no variables
-abbrev pub mainFrame : Frame
-mainFrame = record { this = none; res = none; params = [] }
+-- in main parameter 0 is the input, if there is one, and nothing else has a value
+abbrev pub mainFrame : Option Graph → Frame
+mainFrame i = record { this = none; res = none; params = asList i }
 
-unfoldable pub runWithin : Limits → Table → ℕ → Outcome Graph
+unfoldable pub runWithin : Limits → Table → Option Graph → ℕ → Outcome Graph
 unfolding evalTo
-runWithin l t n = evalTo (l .objects) (l .depth) t mainFrame [] (t .main) n
+runWithin l t i n = evalTo (l .objects) (l .depth) t (mainFrame i) [] (t .main) n
 
 -- a run with document 01's limits
-unfoldable pub run : Table → ℕ → Outcome Graph
+unfoldable pub run : Table → Option Graph → ℕ → Outcome Graph
 unfolding runWithin
-run t n = runWithin standard t n
+run t i n = runWithin standard t i n

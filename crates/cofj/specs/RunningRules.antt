@@ -8,7 +8,7 @@
 use Prim.Native.Nat.{ℕ, zero, suc, _≤_, _<_}
 use mathlib.Core.Path.{_≡_}
 use mathlib.Core.List.{List, [], _∷_}
-use mathlib.Core.Option.{none, some}
+use mathlib.Core.Option.{Option, none, some}
 use lib.ListN.{length, getElem?}
 use Rattle.cofj.specs.Limits.{Limits}
 use Rattle.cofj.specs.Syntax.{Expr, this, res, param, field, call, new, Exprs, done, also, count, Method, Table}
@@ -244,9 +244,10 @@ module _ (objects : ℕ) (t : Table) where
           -- ---------------------------------------------
           → EvaluateAll k π σ (also e es) n (stopped s n₂)
 
--- Main is evaluated with no open call and in a frame without variables. Document 01: within the limits l, and begun with fuel n.
-pub data RunsTo (l : Limits) (t : Table) (n : ℕ) (o : Outcome Graph) : Type 0 where
+-- Main is evaluated with no open call and in a frame whose only variable is its input i, if there is one.
+-- Document 01: within the limits l, and begun with fuel n.
+pub data RunsTo (l : Limits) (t : Table) (i : Option Graph) (n : ℕ) (o : Outcome Graph) : Type 0 where
   PROG :
-      Evaluates (l .objects) t (l .depth) mainFrame [] (t .main) n o
-      -- -----------------------------------------------------------
-      → RunsTo l t n o
+      Evaluates (l .objects) t (l .depth) (mainFrame i) [] (t .main) n o
+      -- ---------------------------------------------------------------
+      → RunsTo l t i n o

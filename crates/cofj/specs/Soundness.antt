@@ -14,6 +14,7 @@ use Rattle.cofj.specs.Values.{Graph, Ref, nodeAt, refsAt}
 use Rattle.cofj.specs.Unfolding.{Label, object, opened, unknown, labelAt, follow}
 use Rattle.cofj.specs.Running.{Outcome, value, stopped, Stop, stuck, noFuel, tooDeep, tooLarge, runWithin}
 use Rattle.cofj.specs.Typing.{accepted, check}
+use Rattle.cofj.specs.Formed.{Good}
 use Rattle.cofj.specs.WellFormed.{WellFormed}
 
 -- what may stand at a place of type u in a finished value: an object whose class fits, with its class's fields; no mark; undetermined at tag 3 alone
@@ -63,9 +64,16 @@ abbrev pub EndsListed : Table → Ty → Outcome Graph → Type 0
 EndsListed t u (value v n) = Lists t u v
 EndsListed t u (stopped l n) = NotStuck l
 
--- an accepted program does not get stuck, and its value sits at main's type
+-- an input that belongs to the table: none for an `03` main; for an `04` main a value, as runs make them, that sits at its parameter's type
+pub data Fed (objects : ℕ) (t : Table) : Option Graph → Type 0 where
+  unfed : t .input ≡ none → Fed objects t none
+  fed : (w : Ty) (v : Graph) → t .input ≡ some w → Sits t w v → Good t objects 0 v → Fed objects t (some v)
+
+-- an accepted program with an input that belongs to it does not get stuck, and its value sits at main's type
 unfoldable pub Sound : Type 0
-Sound = (l : Limits) (t : Table) (u : Ty) (n : ℕ) → WellFormed t → check t ≡ accepted u → Ends t u (runWithin l t n)
+Sound =
+    (l : Limits) (t : Table) (i : Option Graph) (u : Ty) (n : ℕ) → WellFormed t → Fed (l .objects) t i → check t ≡ accepted u → Ends t u (runWithin l t i n)
 
 unfoldable pub SoundListed : Type 0
-SoundListed = (l : Limits) (t : Table) (u : Ty) (n : ℕ) → WellFormed t → check t ≡ accepted u → EndsListed t u (runWithin l t n)
+SoundListed =
+    (l : Limits) (t : Table) (i : Option Graph) (u : Ty) (n : ℕ) → WellFormed t → Fed (l .objects) t i → check t ≡ accepted u → EndsListed t u (runWithin l t i n)

@@ -2,6 +2,7 @@
 use Prim.Native.Nat.{ℕ, suc}
 use mathlib.Core.Bool.{Bool, true, false, _&&_}
 use mathlib.Core.List.{List, [], _∷_}
+use mathlib.Core.Option.{Option}
 use lib.Dec.{eqb}
 
 -- An expression, and a list of expressions (antt has no nested data: the list is a copy of `List`).
@@ -46,6 +47,8 @@ pub record Method : Type 0 where
 pub record Table : Type 0 where
   pub classes : List Class
   pub methods : List Method
+  -- the type of main's parameter 0; none for an `03` main
+  pub input : Option Ty
   pub main : Expr
 
 -- Boolean equality of types and of lists of types.

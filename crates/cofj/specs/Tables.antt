@@ -16,23 +16,24 @@ use Rattle.cofj.specs.Frames.{ClassFrame, TextFrame, classFrame, methodF
 pub record Raw : Type 0 where
   pub classes : List ClassFrame
   pub methods : List Method
+  pub input : Option Ty
   pub main : Expr
 
-abbrev pub raw : List ClassFrame → List Method → Expr → Raw
-raw cs ms e = record { classes = cs; methods = ms; main = e }
+abbrev pub raw : List ClassFrame → List Method → Option Ty → Expr → Raw
+raw cs ms i e = record { classes = cs; methods = ms; input = i; main = e }
 
 -- a frame in front of what follows it
 abbrev pub inFront : TextFrame → Raw → Option Raw
-inFront (classFrame c) r = some (raw (c ∷ r .classes) (r .methods) (r .main))
-inFront (methodFrame m) r = elim (r .classes) [ [] ↦ some (raw [] (m ∷ r .methods) (r .main)) | c ∷ cs ↦ none ]
-inFront (mainFrame e) r = none
+inFront (classFrame c) r = some (raw (c ∷ r .classes) (r .methods) (r .input) (r .main))
+inFront (methodFrame m) r = elim (r .classes) [ [] ↦ some (raw [] (m ∷ r .methods) (r .input) (r .main)) | c ∷ cs ↦ none ]
+inFront (mainFrame i e) r = none
 
 unfoldable pub ordered : List TextFrame → Option Raw
 ordered [] = none
 ordered (classFrame c ∷ fs) = ordered fs >>= λ r. inFront (classFrame c) r
 ordered (methodFrame m ∷ fs) = ordered fs >>= λ r. inFront (methodFrame m) r
-ordered (mainFrame e ∷ []) = some (raw [] [] e)
-ordered (mainFrame e ∷ (f ∷ fs)) = none
+ordered (mainFrame i e ∷ []) = some (raw [] [] i e)
+ordered (mainFrame i e ∷ (f ∷ fs)) = none
 
 abbrev pub few : Raw → Option Raw
 few r = guard (leb (length (r .classes)) classCount && leb (length (r .methods)) methodCount) >>= λ _. some r
@@ -84,6 +85,11 @@ methodsGood n (m ∷ ms) =
     within1 : ℕ → ℕ → Bool
     within1 k o = leb 1 o && leb o k
 
+-- the type of main's parameter, if it has one: a known class, and tag 0 alone
+abbrev pub inputGood : ℕ → Option Ty → Bool
+inputGood n none = true
+inputGood n (some u) = known n u && eqb (u .tag) 0
+
 abbrev pub bodies : List ClassFrame → List Class
 bodies [] = []
 bodies (c ∷ cs) = c .body ∷ bodies cs
@@ -93,8 +99,8 @@ unfolding numbered classesGood methodsGood exprKnown
 table r =
     let cs = bodies (r .classes) in
     let n = length cs in
-    guard (numbered 1 (r .classes) && classesGood n cs cs 1 && methodsGood n (r .methods) && exprKnown n (r .main)) >>= λ _.
-    some (record { classes = cs; methods = r .methods; main = r .main })
+    guard (numbered 1 (r .classes) && classesGood n cs cs 1 && methodsGood n (r .methods) && inputGood n (r .input) && exprKnown n (r .main)) >>= λ _.
+    some (record { classes = cs; methods = r .methods; input = r .input; main = r .main })
 
 -- ---- a method has the types of the one of its name above it: refusal 5
 abbrev pub sameTypes : Method → Option Method → Bool

@@ -6,7 +6,7 @@ use mathlib.Core.Option.{Option, none, some}
 use lib.Dec.{eqb}
 use lib.ListN.{getElem?}
 use Rattle.cofj.specs.Syntax.{Expr, this, res, param, field, call, new, Exprs, done, also, Ty, ty, Method, Table}
-use Rattle.cofj.specs.Partial.{_>>=_, guard}
+use Rattle.cofj.specs.Partial.{_>>=_, guard, asList}
 use Rattle.cofj.specs.Classes.{fits, fieldsOf, lookup}
 
 -- the variables of a body: this, res (right side only), the parameters
@@ -85,7 +85,7 @@ module _ (t : Table) where
   methodsTyped (d ∷ ds) = methodTyped d >>= λ _. methodsTyped ds
 
   abbrev pub mainType : Option Ty
-  mainType = typeOf true (record { this = none; res = none; params = [] }) (t .main)
+  mainType = typeOf true (record { this = none; res = none; params = asList (t .input) }) (t .main)
 
 -- refused with 6 or 7, or accepted with main's type
 pub data Checked : Type 0 where

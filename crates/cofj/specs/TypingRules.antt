@@ -7,8 +7,9 @@ use mathlib.Core.Path.{_≡_}
 use mathlib.Core.Bool.{Bool, true, false, cond}
 use mathlib.Core.Logic.{_⊎_}
 use mathlib.Core.List.{List, [], _∷_, map, List·Memᴰ}
-use mathlib.Core.Option.{none, some}
+use mathlib.Core.Option.{Option, none, some}
 use lib.ListN.{getElem?}
+use Rattle.cofj.specs.Partial.{asList}
 use Rattle.cofj.specs.Syntax.{Expr, this, res, param, field, call, new, Exprs, done, also, Ty, ty, Class, Method, Table}
 use Rattle.cofj.specs.Classes.{parentOf, fieldsOf, lookup}
 use Rattle.cofj.specs.Typing.{Env, narrow, closeTag, Checked, refused, accepted}
@@ -134,9 +135,9 @@ leftVariables d = record { this = some (d .owner ⁺); res = none; params = d .p
 abbrev pub rightVariables : Method → Ty → Env
 rightVariables d u = record { this = some (d .owner ⁺); res = some (u .cls ⁻?); params = d .params }
 
--- in main there are no variables
-abbrev pub noVariables : Env
-noVariables = record { this = none; res = none; params = [] }
+-- in main parameter 0 has the type of its input, if it takes one, and nothing else has a type
+abbrev pub mainVariables : Option Ty → Env
+mainVariables i = record { this = none; res = none; params = asList i }
 
 -- The left side, closed, fits the first result type; the right side fits the second; the first fits the second.
 -- Document 01: and the left side itself fits the second. The owner's ok_override is refusal 5, before types are looked at.
@@ -163,8 +164,8 @@ pub data ClassTyped (t : Table) (c : ℕ) : Type 0 where
 pub data ProgramTyped (t : Table) (u : Ty) : Type 0 where
   T-PROG :
       ((c : ℕ) → ClassTyped t c)
-      → HasType t true noVariables (t .main) u
-      -- -------------------------------------
+      → HasType t true (mainVariables (t .input)) (t .main) u
+      -- ----------------------------------------------------
       → ProgramTyped t u
 
 -- ---- what a check has to answer
@@ -179,8 +180,8 @@ pub data Judged (t : Table) : Checked → Type 0 where
   -- Every method has a type, and main has none.
   REFUSAL-7 :
       AllMethods (MethodTyped t) (t .methods)
-      → ((u : Ty) → HasType t true noVariables (t .main) u → ⊥)
-      -- ------------------------------------------------------
+      → ((u : Ty) → HasType t true (mainVariables (t .input)) (t .main) u → ⊥)
+      -- ---------------------------------------------------------------------
       → Judged t (refused 7)
   -- The program is typed: the answer is main's type.
   ACCEPTED :

@@ -54,3 +54,8 @@ pub record Whole (g : Graph) : Type 0 where
 abbrev pub AllWhole : List Graph → Type 0
 AllWhole [] = Unit {0}
 AllWhole (g ∷ gs) = Whole g × AllWhole gs
+
+-- what child after child leads to
+pub data Reached (ns : List Node) (root : Ref) : Ref → Type 0 where
+  top : Reached ns root root
+  below : {r : Ref} (f : ℕ) (s : Ref) → Reached ns root r → child ns r f ≡ some s → Reached ns root s

@@ -4,13 +4,14 @@ use Prim.Native.Nat.{ℕ, suc, _≤_}
 use mathlib.Core.Path.{_≡_}
 use mathlib.Core.Bool.{true}
 use mathlib.Core.List.{List, [], _∷_}
+use mathlib.Core.Option.{some}
 use lib.ListN.{length}
 use Rattle.cofj.specs.Limits.{classCount, methodCount, fieldCount, paramCount, lineSize, nestingLimit}
 use Rattle.cofj.specs.Syntax.{Ty, Method, Table}
 use Rattle.cofj.specs.Classes.{fieldsOf, classAt, ownOrNone, parentOf, lookup}
 use Rattle.cofj.specs.Tables.{sameTypes, allKnown, exprKnown}
 use Rattle.cofj.specs.Nesting.{Nested}
-use Rattle.cofj.specs.Writing.{codeOf, methodLine}
+use Rattle.cofj.specs.Writing.{methodLine, mainLine}
 
 abbrev pub Tags : List Ty → Type 0
 Tags [] = Unit {0}
@@ -45,9 +46,11 @@ pub record WellFormed (t : Table) : Type 0 where
   pub own : (c : ℕ) → Tags (ownOrNone (classAt (t .classes) c))
   pub ownKnown : (c : ℕ) → allKnown (length (t .classes)) (ownOrNone (classAt (t .classes) c)) ≡ true
   pub methods : AllMethods (MethodFormed t) (t .methods)
+  pub inputKnown : (u : Ty) → t .input ≡ some u → u .cls ≤ length (t .classes)
+  pub inputTag : (u : Ty) → t .input ≡ some u → u .tag ≡ 0
   pub mainKnown : exprKnown (length (t .classes)) (t .main) ≡ true
   pub mainNested : Nested nestingLimit (t .main)
-  pub mainShort : suc (length (codeOf (t .main))) ≤ lineSize
+  pub mainShort : length (mainLine (t .input) (t .main)) ≤ lineSize
   pub classes : length (t .classes) ≤ classCount
   pub count : length (t .methods) ≤ methodCount
   pub fields : (c : ℕ) → c ≤ length (t .classes) → length (fieldsOf (t .classes) c) ≤ fieldCount

@@ -1,6 +1,7 @@
 -- Writing: a table's text. Reading is its inverse, both ways (proofs/RoundTrip).
 use Prim.Native.Nat.{ℕ, suc}
 use mathlib.Core.List.{List, [], _∷_, _++_}
+use mathlib.Core.Option.{Option, none, some}
 use lib.ListN.{length}
 use Rattle.cofj.specs.Syntax.{Expr, this, res, param, field, call, new, Exprs, done, also, count, Ty, Class, Method, Table}
 use Rattle.cofj.specs.Text.{hexText}
@@ -34,6 +35,11 @@ methodLine d =
     2 ∷ d .owner ∷ d .name ∷ d .first .cls ∷ d .first .tag ∷ d .second .cls ∷ d .second .tag ∷ length (d .params)
     ∷ (typesBytes (d .params) ++ (codeOf (d .left) ++ codeOf (d .right)))
 
+-- `03`, or `04` with the type of parameter 0
+abbrev pub mainLine : Option Ty → Expr → List ℕ
+mainLine none e = 3 ∷ codeOf e
+mainLine (some u) e = 4 ∷ u .cls ∷ u .tag ∷ codeOf e
+
 -- classes are numbered in file order
 abbrev pub classLines : ℕ → List Class → List (List ℕ)
 classLines k [] = []
@@ -46,7 +52,7 @@ methodLines (d ∷ ds) = methodLine d ∷ methodLines ds
 
 unfoldable pub tableLines : Table → List (List ℕ)
 unfolding methodLines codeOf
-tableLines t = classLines 1 (t .classes) ++ (methodLines (t .methods) ++ ((3 ∷ codeOf (t .main)) ∷ []))
+tableLines t = classLines 1 (t .classes) ++ (methodLines (t .methods) ++ (mainLine (t .input) (t .main) ∷ []))
 
 -- the text of a table
 unfoldable pub textOf : Table → List ℕ

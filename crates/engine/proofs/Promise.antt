@@ -1,19 +1,13 @@
 -- The promises of cofj's specs/Promises and of this crate's, proved of what its functions return.
 -- Their contracts say what they return by the language's definitions (of a run: `Returned`); what that is worth is proved of these in cofj.
-use Prim.Native.Nat.{ℕ, _+_, _≤_, _<_}
+use Prim.Native.Nat.{ℕ, _≤_}
 use native.Mathlib.Omega.{arith}
-use mathlib.Core.Path.{_≡_, refl, sym, ap, ap₂, _∙_, subst}
-use mathlib.Core.Bool.{Bool, true, false, _&&_}
-use mathlib.Core.List.{List, [], _∷_, _++_, List·Memᴰ, List·Memᴰ·not-nil, List·Memᴰ·cases-cons}
+use mathlib.Core.Path.{_≡_, refl, sym, ap, _∙_, subst}
+use mathlib.Core.List.{List, [], _∷_, List·Memᴰ, List·Memᴰ·not-nil, List·Memᴰ·cases-cons}
 use mathlib.Core.Logic.{_⊎_, inl, inr}
 use mathlib.Core.Option.{Option, none, some}
-use lib.Dec.{leb, ltb}
-use lib.ListN.{length, take}
-use lib.Seq.{take-all, length-take-le}
-use borrow.Author.Tests.{lt-leb, ltb-true, ltb-false}
-use Rattle.cofj.specs.Limits.{textSize, linerunFuel}
-use Rattle.cofj.specs.Partial.{_>>=_, guard}
-use Rattle.cofj.specs.Text.{hexText, lines, linesFrom}
+use Rattle.cofj.specs.Partial.{_>>=_}
+use Rattle.cofj.specs.Text.{lines}
 use Rattle.cofj.specs.declared.Session.{Session}
 use Rattle.cofj.specs.declared.Closing.{Closing}
 use Rattle.cofj.specs.declared.Verdict.{Verdict}
@@ -22,13 +16,12 @@ use Rattle.cofj.specs.Frames.{TextFrame, frame, frames}
 use Rattle.cofj.specs.Tables as tables
 use Rattle.cofj.specs.Tables.{Raw, few}
 use Rattle.cofj.specs.Reading.{Answer, refusal, read, readText}
-use Rattle.cofj.specs.Calls.{closeSession, checkCall, checked, Call, Ran, runCall, Wrote, Admitted, verdictLine, reportAdmitted, linerun}
-use Rattle.cofj.specs.Typing.{Checked}
-use Rattle.cofj.specs.Promises.{Program, Reads, REFUSAL-1, REFUSAL-2, REFUSAL-3, Checks, Closes, Refusals, Answers, Lengths, Follows, Demand3}
+use Rattle.cofj.specs.Calls.{closeSession, checkCall, Call, Ran, runCall, Wrote}
+use Rattle.cofj.specs.Promises.{Program, Reads, REFUSAL-1, REFUSAL-2, REFUSAL-3, Checks, Closes, Refusals, Answers, Lengths, Follows, Demand3, Recuts, Recut}
 use Rattle.cofj.proofs.RoundTrip.{read-writes, written-length}
-use Rattle.cofj.proofs.ReadCalls.{reads, reads-is, read-number, check-unread, checks, closes, wrote-writes}
-use Rattle.cofj.proofs.RunCalls.{admit-unread, refusals, answers, lengths}
-use Rattle.cofj.proofs.Promises.{follows, demand3}
+use Rattle.cofj.proofs.ReadCalls.{reads, reads-is, read-number, checks, closes, wrote-writes}
+use Rattle.cofj.proofs.RunCalls.{refusals, answers, lengths}
+use Rattle.cofj.proofs.Promises.{follows, demand3, recuts}
 use Rattle.lineform.specs.declared.lines.Decoded.{Decoded}
 use Rattle.lineform.specs.declared.frames.Framed.{Framed}
 use Rattle.lineform.specs.declared.lines.Ordered.{Ordered}
@@ -138,33 +131,8 @@ demand3-of a b p q x y r s e f =
     let d = demand3 a b p q (sym (ap (λ (z : Ran). z .answer .refusal) (r .is)) ∙ e) (sym (ap (λ (z : Ran). z .answer .refusal) (s .is)) ∙ f) in
     subst (λ (z : Ran). Demand3 a b p q z y) (sym (r .is)) (subst (Demand3 a b p q (runCall a)) (sym (s .is)) d)
 
--- ---- `linerun` reads no more than one character over the longest text: what it writes is the same for the whole input
-no-lines : (s : List ℕ) → textSize < length s → lines s ≡ none
-unfolding lines
-no-lines s h = go (leb 1 (length s)) ∙ refl
-  where
-    out : (b : Bool) → b && leb (length s) textSize ≡ false
-    out true = lt-leb (length s) textSize h
-    out false = refl
-
-    go : (b : Bool) → (guard (b && leb (length s) textSize) >>= λ _. linesFrom s none []) ≡ none
-    go b = ap (λ (x : Bool). guard x >>= λ _. linesFrom s none []) (out b)
-
-long-read : (s : List ℕ) → textSize < length s → readText s ≡ refusal 1
-long-read s h = reads-is s (REFUSAL-1 (no-lines s h))
-
-unread-writes : (s : List ℕ) → readText s ≡ refusal 1 → linerun s ≡ hexText ((8 ∷ 1 ∷ []) ∷ []) ++ []
-unfolding linerun
-unread-writes s e =
-    ap₂ {C = List ℕ} _++_ (ap (λ (c : Checked). hexText (verdictLine c ∷ [])) (check-unread s 1 e))
-    (ap (λ (a : Admitted). reportAdmitted a linerunFuel) (admit-unread checked s 1 e))
-
-pub any-length : (s : List ℕ) → linerun (take (textSize + 1) s) ≡ linerun s
-any-length s = go (ltb textSize (length s)) refl
-  where
-    go : (b : Bool) → ltb textSize (length s) ≡ b → linerun (take (textSize + 1) s) ≡ linerun s
-    go true q =
-        let h = ltb-true textSize (length s) q in
-        let k : textSize < length (take (textSize + 1) s) = omega (arith, length-take-le (textSize + 1) s (omega arith)) in
-        unread-writes (take (textSize + 1) s) (long-read (take (textSize + 1) s) k) ∙ sym (unread-writes s (long-read s h))
-    go false q = ap linerun (take-all (textSize + 1) s (omega (arith, ltb-false textSize (length s) q)))
+-- ---- one tree, however the second text cuts it, of any two runs that were not refused
+pub recuts-of : (a b : Call) (x y : Ran) → Returned a x → Returned b y → Recuts a b → x .answer .refusal ≡ 0 → y .answer .refusal ≡ 0 → Recut x y
+recuts-of a b x y r s h e f =
+    let d = recuts a b h (sym (ap (λ (z : Ran). z .answer .refusal) (r .is)) ∙ e) (sym (ap (λ (z : Ran). z .answer .refusal) (s .is)) ∙ f) in
+    subst (λ (z : Ran). Recut z y) (sym (r .is)) (subst (Recut (runCall a)) (sym (s .is)) d)

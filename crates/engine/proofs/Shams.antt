@@ -1,4 +1,4 @@
--- Document 01's shams, refuted: a function that meets the contract of a public call does not answer as the sham does.
+-- The shams of document 01 and of request 2026-01, refuted: a function that meets the contract of a public call does not answer as the sham does.
 -- Each by a call that the sham would answer otherwise. The table of them, with the edits of the code, is docs/SHAMS.md.
 use Prim.Native.Nat.{ℕ, _-_, _<_}
 use Prim.Native.String.{String}
@@ -12,7 +12,7 @@ use Rattle.cofj.specs.declared.Closing.{Closing}
 use Rattle.cofj.specs.declared.Verdict.{Verdict}
 use Rattle.cofj.specs.Bytes.{bytes}
 use Rattle.cofj.specs.Limits.{reportSize, workSize}
-use Rattle.cofj.specs.Rows.{row-a, row-f, row-i}
+use Rattle.cofj.specs.Rows.{row-a, row-f, row-i, row-ring-cut, row-ring, row-untyped, row-plus-trial}
 use Rattle.cofj.specs.Values.{Graph}
 use Rattle.cofj.specs.Running.{Outcome, value, stopped, run}
 use Rattle.cofj.specs.Report.{reportOf}
@@ -20,9 +20,12 @@ use Rattle.cofj.specs.Calls.{Mode, checked, trial, openSession, closeSession, l
 use Rattle.cofj.specs.Promises.{reportText, Lent}
 use Rattle.cofj.proofs.RunCalls.{refusals, by-text, ends-in}
 
--- a call with buffers just long enough
+-- a call with buffers just long enough, with a second text and without
+abbrev pub callingWith : Mode → String → String → ℕ → Call
+callingWith m s i n = record { mode = m; text = bytes s; input = bytes i; session = openSession n; report = zeros reportSize; work = zeros workSize }
+
 abbrev pub calling : Mode → String → ℕ → Call
-calling m s n = record { mode = m; text = bytes s; session = openSession n; report = zeros reportSize; work = zeros workSize }
+calling m s n = callingWith m s "" n
 
 zeros-length : (n : ℕ) → length (zeros n) ≡ n
 unfolding zeros
@@ -30,14 +33,21 @@ zeros-length n = length-replicate n 0
 
 admitted-text : (x : Admitted) (a : Call) → reportText (runAdmitted x a) ≡ reportAdmitted x (a .session .fuel)
 admitted-text (declined k) a = refl
-admitted-text (admitted t) a = ends-in (run t (a .session .fuel)) a (ended (run t (a .session .fuel)) a) refl .report
+admitted-text (admitted t i) a = ends-in (run t i (a .session .fuel)) a (ended (run t i (a .session .fuel)) a) refl .report
 
-lent : (m : Mode) (s : String) (n : ℕ) → Lent (calling m s n)
-lent m s n = record { active = refl; report = omega (arith, zeros-length reportSize); work = omega (arith, zeros-length workSize) }
+lent : (m : Mode) (s i : String) (n : ℕ) → Lent (callingWith m s i n)
+lent m s i n = record { active = refl; report = omega (arith, zeros-length reportSize); work = omega (arith, zeros-length workSize) }
 
--- what such a call reports
-reports : (m : Mode) (s : String) (n : ℕ) → reportText (runCall (calling m s n)) ≡ reportAdmitted (admit m (bytes s)) n
-reports m s n = ap reportText (by-text (calling m s n) (admit m (bytes s)) (lent m s n) refl) ∙ admitted-text (admit m (bytes s)) (calling m s n)
+-- what both texts are admitted as
+abbrev admits : Mode → String → String → Admitted
+admits m s i = admit m (bytes s) (bytes i)
+
+-- what such a call answers, and reports
+ran-as : (m : Mode) (s i : String) (n : ℕ) → runCall (callingWith m s i n) ≡ runAdmitted (admits m s i) (callingWith m s i n)
+ran-as m s i n = by-text (callingWith m s i n) (admits m s i) (lent m s i n) refl
+
+reports : (m : Mode) (s i : String) (n : ℕ) → reportText (runCall (callingWith m s i n)) ≡ reportAdmitted (admits m s i) n
+reports m s i n = ap reportText (ran-as m s i n) ∙ admitted-text (admits m s i) (callingWith m s i n)
 
 -- ---- the calls
 -- case A
@@ -73,43 +83,52 @@ text-u = row-f .text
 
 -- a call whose report buffer is a byte too short
 abbrev short : String → Call
-short s = record { mode = checked; text = bytes s; session = openSession 0; report = zeros (reportSize - 1); work = zeros workSize }
+short s = record { mode = checked; text = bytes s; input = []; session = openSession 0; report = zeros (reportSize - 1); work = zeros workSize }
 
 checks-a : checkCall (bytes text-a) ≡ record { refusal = 0; class = 1; tag = 3 }
 unfolding checkText bytes
 checks-a = refl
 
-report-a : reportAdmitted (admit checked (bytes text-a)) 3 ≡ bytes "0500010100\n"
+report-a : reportAdmitted (admits checked text-a "") 3 ≡ bytes "0500010100\n"
 unfolding admit run bytes
 report-a = refl
 
-report-a-2 : reportAdmitted (admit checked (bytes text-a)) 2 ≡ bytes "0702\n"
+report-a-2 : reportAdmitted (admits checked text-a "") 2 ≡ bytes "0702\n"
 unfolding admit run bytes
 report-a-2 = refl
 
-report-i : reportAdmitted (admit checked (bytes text-i)) 3 ≡ bytes "0500030101\n0501050100\n"
+report-i : reportAdmitted (admits checked text-i "") 3 ≡ bytes "0500030101\n0501050100\n"
 unfolding admit run bytes
 report-i = refl
 
-report-p : reportAdmitted (admit checked (bytes text-p)) 1 ≡ bytes "050001020101\n05010000\n"
+report-p : reportAdmitted (admits checked text-p "") 1 ≡ bytes "050001020101\n05010000\n"
 unfolding admit run bytes
 report-p = refl
 
-report-q : reportAdmitted (admit checked (bytes text-q)) 1 ≡ bytes "050001020102\n05010000\n05020200\n"
+report-q : reportAdmitted (admits checked text-q "") 1 ≡ bytes "050001020102\n05010000\n05020200\n"
 unfolding admit run bytes
 report-q = refl
 
-report-o : reportAdmitted (admit checked (bytes text-o)) 0 ≡ bytes "05000000\n"
+report-o : reportAdmitted (admits checked text-o "") 0 ≡ bytes "05000000\n"
 unfolding admit run bytes
 report-o = refl
 
-report-f : reportAdmitted (admit checked (bytes text-f)) 3 ≡ bytes "05000100\n"
+report-f : reportAdmitted (admits checked text-f "") 3 ≡ bytes "05000100\n"
 unfolding admit run bytes
 report-f = refl
 
-report-m : reportAdmitted (admit checked (bytes text-m)) 3 ≡ bytes "0500030101\n0501030102\n05020200\n"
+report-m : reportAdmitted (admits checked text-m "") 3 ≡ bytes "0500030101\n0501030102\n05020200\n"
 unfolding admit run bytes
 report-m = refl
+
+-- example a of request 2026-01, a ring cut as four parts, and example b, the same ring cut as two
+report-cut : reportAdmitted (admits checked (row-ring-cut .text) (row-ring-cut .input)) 0 ≡ bytes "0500030101\n0501020100\n"
+unfolding admit run bytes
+report-cut = refl
+
+report-ring : reportAdmitted (admits checked (row-ring .text) (row-ring .input)) 0 ≡ bytes "0500030101\n0501020100\n"
+unfolding admit run bytes
+report-ring = refl
 
 -- ---- a checker that refuses every program
 pub refuses-all : (f : List ℕ → Verdict) → ((s : List ℕ) → f s ≡ checkCall s) → ((s : List ℕ) → f s .refusal ≡ 0 → ⊥) → ⊥
@@ -127,19 +146,22 @@ fixed r (stopped l n) = reportOf (stopped l n)
 
 abbrev pub fixedFor : List ℕ → Admitted → ℕ → List ℕ
 fixedFor r (declined k) n = []
-fixedFor r (admitted t) n = fixed r (run t n)
+fixedFor r (admitted t i) n = fixed r (run t i n)
 
-fixed-a : (r : List ℕ) → fixedFor r (admit checked (bytes text-a)) 3 ≡ r
+fixed-a : (r : List ℕ) → fixedFor r (admits checked text-a "") 3 ≡ r
 unfolding admit run bytes
 fixed-a r = refl
 
-fixed-i : (r : List ℕ) → fixedFor r (admit checked (bytes text-i)) 3 ≡ r
+fixed-i : (r : List ℕ) → fixedFor r (admits checked text-i "") 3 ≡ r
 unfolding admit run bytes
 fixed-i r = refl
 
 module _ (f : Call → Ran) (meets : (a : Call) → f a ≡ runCall a) where
-  says : (m : Mode) (s : String) (n : ℕ) (r : List ℕ) → reportAdmitted (admit m (bytes s)) n ≡ r → reportText (f (calling m s n)) ≡ r
-  says m s n r e = ap reportText (meets (calling m s n)) ∙ reports m s n ∙ e
+  says-with : (m : Mode) (s i : String) (n : ℕ) (r : List ℕ) → reportAdmitted (admits m s i) n ≡ r → reportText (f (callingWith m s i n)) ≡ r
+  says-with m s i n r e = ap reportText (meets (callingWith m s i n)) ∙ reports m s i n ∙ e
+
+  says : (m : Mode) (s : String) (n : ℕ) (r : List ℕ) → reportAdmitted (admits m s "") n ≡ r → reportText (f (calling m s n)) ≡ r
+  says m s n r e = says-with m s "" n r e
 
   -- every report is `0702`, or one fixed ring, or empty
   pub one-report : (r : List ℕ) → ((m : Mode) (s : String) (n : ℕ) → reportText (f (calling m s n)) ≡ r) → ⊥
@@ -149,7 +171,7 @@ module _ (f : Call → Ran) (meets : (a : Call) → f a ≡ runCall a) where
       (sym (says checked text-a 3 _ report-a) ∙ sham checked text-a 3 ∙ sym (sham checked text-i 3) ∙ says checked text-i 3 _ report-i)
 
   -- every value is one fixed ring, though every stop is reported as it should be
-  pub one-value : (r : List ℕ) → ((m : Mode) (s : String) (n : ℕ) → reportText (f (calling m s n)) ≡ fixedFor r (admit m (bytes s)) n) → ⊥
+  pub one-value : (r : List ℕ) → ((m : Mode) (s : String) (n : ℕ) → reportText (f (calling m s n)) ≡ fixedFor r (admits m s "") n) → ⊥
   unfolding bytes
   one-value r sham =
       apart 5 (bytes "0500010100\n") (bytes "0500030101\n0501050100\n") (λ z. omega arith)
@@ -189,7 +211,25 @@ module _ (f : Call → Ran) (meets : (a : Call) → f a ≡ runCall a) where
   pub trial-checks : f (calling trial text-u 9) .answer .refusal ≡ 6 → ⊥
   unfolding admit bytes
   trial-checks sham =
-      let e : f (calling trial text-u 9) .answer .refusal ≡ 0 = ap (λ (r : Ran). r .answer .refusal) (meets (calling trial text-u 9) ∙ by-text (calling trial text-u 9) (admit trial (bytes text-u)) (lent trial text-u 9) refl) in
+      let e : f (calling trial text-u 9) .answer .refusal ≡ 0 = ap (λ (r : Ran). r .answer .refusal) (meets (calling trial text-u 9) ∙ ran-as trial text-u "" 9) in
+      omega (arith, e, sham)
+
+  -- the parts of a second text are kept as they are cut: examples a and b differ
+  pub kept-as-cut : (reportText (f (callingWith checked (row-ring-cut .text) (row-ring-cut .input) 0)) ≡ reportText (f (callingWith checked (row-ring .text) (row-ring .input) 0)) → ⊥) → ⊥
+  kept-as-cut sham = sham (says-with checked (row-ring-cut .text) (row-ring-cut .input) 0 _ report-cut ∙ sym (says-with checked (row-ring .text) (row-ring .input) 0 _ report-ring))
+
+  -- 14 and 15 are for checked runs only: example i, on trial, and the second half of example d
+  pub trial-unfed : f (calling trial (row-untyped .text) 9) .answer .refusal ≡ 0 → ⊥
+  unfolding admit bytes
+  trial-unfed sham =
+      let e : f (calling trial (row-untyped .text) 9) .answer .refusal ≡ 14 = ap (λ (r : Ran). r .answer .refusal) (meets (calling trial (row-untyped .text) 9) ∙ ran-as trial (row-untyped .text) "" 9) in
+      omega (arith, e, sham)
+
+  pub trial-unfit : f (callingWith trial (row-plus-trial .text) (row-plus-trial .input) 9) .answer .refusal ≡ 0 → ⊥
+  unfolding admit bytes
+  trial-unfit sham =
+      let e : f (callingWith trial (row-plus-trial .text) (row-plus-trial .input) 9) .answer .refusal ≡ 15 =
+      ap (λ (r : Ran). r .answer .refusal) (meets (callingWith trial (row-plus-trial .text) (row-plus-trial .input) 9) ∙ ran-as trial (row-plus-trial .text) (row-plus-trial .input) 9) in
       omega (arith, e, sham)
 
   -- a report buffer of 543 bytes is taken

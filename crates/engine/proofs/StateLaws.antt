@@ -83,9 +83,9 @@ some-number : (k : ℕ) → (k ≡ 0 → ⊥) → numbered k ≡ some k
 some-number zero n = absurd (n refl)
 some-number (suc k) n = refl
 
-module _ (m : Mode) (s : List ℕ) (σ : Session) (R W : List ℕ) where
+module _ (m : Mode) (s i : List ℕ) (σ : Session) (R W : List ℕ) where
   abbrev pub call : Call
-  call = record { mode = m; text = s; session = σ; report = R; work = W }
+  call = record { mode = m; text = s; input = i; session = σ; report = R; work = W }
 
   module _ (k : ℕ) (e : k ≡ stateNumber (σ .active) (length R) (length W)) where
     pub state-refuses : (a : Answer) → (k ≡ 0 → ⊥) → a ≡ noReport k σ → ran a R W ≡ runCall call
@@ -93,5 +93,5 @@ module _ (m : Mode) (s : List ℕ) (σ : Session) (R W : List ℕ) where
         ap (λ (x : Answer). ran x R W) q
         ∙ sym (by-state call (some k) (state-numbered call ∙ ap numbered (sym e) ∙ some-number k n))
 
-    pub state-admits : (x : Ran) → k ≡ 0 → x ≡ runAdmitted (admit m s) call → x ≡ runCall call
+    pub state-admits : (x : Ran) → k ≡ 0 → x ≡ runAdmitted (admit m s i) call → x ≡ runCall call
     state-admits x z q = q ∙ sym (by-state call none (state-numbered call ∙ ap numbered (sym e ∙ z)))

@@ -4,7 +4,7 @@ use native.Mathlib.Omega.{arith}
 use mathlib.Core.Path.{_≡_, sym, _∙_}
 use mathlib.Core.List.{List, _++_}
 use lib.ListN.{length, set, take, drop, replicate}
-use lib.Seq.{drop-at, length-take-le}
+use lib.Seq.{drop-at, length-front, length-take-le}
 use borrow.Author.Fill.{fill-more}
 use Rattle.cofj.specs.Limits.{workSize}
 use Rattle.cofj.specs.Calls.{zeros, cleared}
@@ -26,6 +26,10 @@ front-count W h = sym (length-take-le workSize W h)
 
 pub front-room : (W : List ℕ) → workSize ≤ length W → workRoom ≤ length (take workSize W)
 front-room W h = omega (arith, length-take-le workSize W h)
+
+-- what stands there after a part of this length is put in front
+pub whole-room : (W X : List ℕ) → length X ≡ length (take workSize W) → workSize ≤ length W → workSize ≤ length (X ++ drop workSize W)
+whole-room W X e h = omega (arith, length-front W X workSize e)
 
 cleared-same : (W X : List ℕ) → drop workSize X ≡ drop workSize W → cleared X ≡ cleared W
 unfolding cleared

@@ -1,4 +1,5 @@
 pub mod Steps
+pub mod Feeding
 pub mod Numbers
 pub mod Promises
 pub mod Showing

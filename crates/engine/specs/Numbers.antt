@@ -1,5 +1,5 @@
 -- Document 01's number for each case of the answers that may refuse a text, 0 where nothing is refused. The promises use these (proofs/Promise).
--- Not here: 4 and 5, and 6 and 7, which the code answers as numbers; what a run stopped at (crate evaluator, Reporting).
+-- Not here: 4 and 5, 6 and 7, 14 and 15, which the code answers as numbers; what a run stopped at (crate evaluator, Reporting).
 use Prim.Native.Nat.{ℕ}
 use Rattle.lineform.specs.declared.lines.Decoded.{Decoded}
 use Rattle.lineform.specs.declared.lines.Decoded.the-variants as decoded

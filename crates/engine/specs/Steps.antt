@@ -9,8 +9,9 @@ use Rattle.cofj.specs.declared.Answer.{Answer}
 use Rattle.cofj.specs.Limits.{reportSize, workSize}
 use Rattle.cofj.specs.Syntax.{Table}
 use Rattle.cofj.specs.Calls as calls
-use Rattle.cofj.specs.Calls.{checked, trial, Ran, admitTable, runAdmitted}
+use Rattle.cofj.specs.Calls.{checked, trial, Ran, admitted, admitTable, runAdmitted}
 use Rattle.classes.specs.Layout.{Tabled}
+use Rattle.evaluator.specs.Main.{inputIn}
 use Rattle.engine.specs.declared.run.Mode.{Mode}
 use Rattle.engine.specs.declared.run.Mode.the-variants.{Checked, Trial}
 
@@ -36,6 +37,10 @@ numberBy true false false = 0
 unfoldable pub stateNumber : Bool → ℕ → ℕ → ℕ
 stateNumber active report work = numberBy active (ltb report reportSize) (ltb work workSize)
 
--- what a run of the table whose bytes T are gives in a mode, whatever its text was
-pub record Runs (m : calls.Mode) (T : List ℕ) (σ : Session) (R W : List ℕ) (x : Ran) : Type 0 where
-  pub is : (s : List ℕ) (t : Table) → Tabled T t → x ≡ runAdmitted (admitTable m t) (record { mode = m; text = s; session = σ; report = R; work = W })
+-- what a run of main of the table whose bytes T are gives, with the value in the block B if it is fed, whatever its mode and its texts were
+pub record RunsFed (T : List ℕ) (fed : Bool) (B : List ℕ) (σ : Session) (R W : List ℕ) (x : Ran) : Type 0 where
+  pub is : (m : calls.Mode) (s i : List ℕ) (t : Table) → Tabled T t → x ≡ runAdmitted (admitted t (inputIn fed B)) (record { mode = m; text = s; input = i; session = σ; report = R; work = W })
+
+-- what a run of the table gives in a mode with the second text i, whatever its text was
+pub record Runs (m : calls.Mode) (T i : List ℕ) (σ : Session) (R W : List ℕ) (x : Ran) : Type 0 where
+  pub is : (s : List ℕ) (t : Table) → Tabled T t → x ≡ runAdmitted (admitTable m t i) (record { mode = m; text = s; input = i; session = σ; report = R; work = W })

@@ -1,4 +1,4 @@
-// The public calls for C and Rust: slices are pointer and length, structs go by value.
+// The public calls for C and Rust: slices are pointer and length, structs go by value. `input` is the second text of a run.
 // Not here: what they do; each is a call of this crate or of tables.
 use crate::check::check_text;
 use crate::run::checked_run;
@@ -58,25 +58,27 @@ pub extern "C" fn line_check(text: &[u8]) -> Verdict
 #[no_mangle]
 pub extern "C" fn line_run(
     text: &[u8],
+    input: &[u8],
     session: Session,
     report: &mut [u8],
     work: &mut [u8],
 ) -> Answer
     ensures { λ r. ⌜ ran r (now (report .exit)) (now (work .exit))
-        ≡ runCall (record { mode = checked; text = now (text .entry); session = session; report = now (report .entry); work = now (work .entry) }) ⌝ }
+        ≡ runCall (record { mode = checked; text = now (text .entry); input = now (input .entry); session = session; report = now (report .entry); work = now (work .entry) }) ⌝ }
 {
-    checked_run(text, session, report, work)
+    checked_run(text, input, session, report, work)
 }
 
 #[no_mangle]
 pub extern "C" fn line_trial(
     text: &[u8],
+    input: &[u8],
     session: Session,
     report: &mut [u8],
     work: &mut [u8],
 ) -> Answer
     ensures { λ r. ⌜ ran r (now (report .exit)) (now (work .exit))
-        ≡ runCall (record { mode = trial; text = now (text .entry); session = session; report = now (report .entry); work = now (work .entry) }) ⌝ }
+        ≡ runCall (record { mode = trial; text = now (text .entry); input = now (input .entry); session = session; report = now (report .entry); work = now (work .entry) }) ⌝ }
 {
-    trial_run(text, session, report, work)
+    trial_run(text, input, session, report, work)
 }

@@ -19,6 +19,7 @@ pub mod FieldLaws
 pub mod CallSteps
 pub mod SideSteps
 pub mod FallLaws
+pub mod InputLaws
 pub mod RunLaws
 pub mod ReportLaws
 pub mod Promise

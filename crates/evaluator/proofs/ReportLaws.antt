@@ -2,6 +2,7 @@
 use Prim.Native.Nat.{ℕ, _+_, _<_, _≤_}
 use native.Mathlib.Omega.{arith}
 use mathlib.Core.Path.{_≡_, refl, _∙_, subst}
+use mathlib.Core.Bool.{Bool}
 use mathlib.Core.List.{List, [], _∷_}
 use lib.ListN.{length, set, drop}
 use Rattle.cofj.specs.Limits.{reportSize}
@@ -14,13 +15,14 @@ use Rattle.values.specs.declared.ValueRef.{ValueRef}
 use Rattle.values.specs.Layout.{valueOf, Holds}
 use Rattle.values.specs.Reporting as values
 use Rattle.values.specs.Reporting.{digitChar}
+use Rattle.evaluator.specs.Figures.{mainBlock}
 use Rattle.evaluator.specs.declared.Stop.{Stop}
 use Rattle.evaluator.specs.declared.Stop.the-variants.{Stuck, NoFuel, TooDeep, TooLarge}
 use Rattle.evaluator.specs.declared.Out.{Out}
 use Rattle.evaluator.specs.declared.Out.the-variants.{Value, Halt}
 use Rattle.evaluator.specs.declared.report.Reported.{Reported}
 use Rattle.evaluator.specs.Answers.{stopOf, outIn, OutOlder}
-use Rattle.evaluator.specs.Main.{Runs}
+use Rattle.evaluator.specs.Main.{inputIn, Runs}
 use Rattle.evaluator.specs.Reporting.{stopNumber, StopReports, OutcomeReports, RunReports}
 
 -- ---- a run that stopped
@@ -63,7 +65,7 @@ pub outcome-halt : (W : List ℕ) (o : Out) (s : Stop) (fuel : ℕ) (R R′ : Li
 outcome-halt W o s fuel R R′ e w = rw e (record { count = stop-length s fuel; left = refl; text = w .text fuel })
 
 -- ---- a run that ended in a value
-pub value-held : (W : List ℕ) (o : Out) (v : ValueRef) (at fuel : ℕ) → OutOlder W 2 o → o ≡ Value v at fuel → Holds W v
+pub value-held : (W : List ℕ) (o : Out) (v : ValueRef) (at fuel : ℕ) → OutOlder W (mainBlock + 1) o → o ≡ Value v at fuel → Holds W v
 value-held W o v at fuel h e = (rw e at h) .held
 
 pub value-length : (v : Graph) (R R′ : List ℕ) (t : ℕ) → values.Reported v R R′ t → t < 65536
@@ -75,9 +77,9 @@ unfolding over
 outcome-value W o v at fuel R R′ t e h = rw e (record { count = h .count; left = refl; text = h .text })
 
 -- ---- both
-pub run-reports : (T W W′ X : List ℕ) (fuel : ℕ) (R R′ : List ℕ) (o : Out) (r : Reported) → Runs T W fuel W′ o → OutcomeReports (outIn W′ o) R R′ r × (length X ≡ length W′)
-    → RunReports T fuel (length W) R (length X) R′ r
-run-reports T W W′ X fuel R R′ o r x w = record {
+pub run-reports : (T W W′ X : List ℕ) (fuel : ℕ) (fed : Bool) (B R R′ : List ℕ) (o : Out) (r : Reported) → Runs T W fuel fed B W′ o
+    → OutcomeReports (outIn W′ o) R R′ r × (length X ≡ length W′) → RunReports T fuel fed B (length W) R (length X) R′ r
+run-reports T W W′ X fuel fed B R R′ o r x w = record {
   same = w .1 ∙ x .same;
-  is = λ t h. subst (λ y. OutcomeReports y R R′ r) (x .is t h ∙ run-standard t fuel) (w .0);
+  is = λ t h. subst (λ y. OutcomeReports y R R′ r) (x .is t h ∙ run-standard t (inputIn fed B) fuel) (w .0);
 }

@@ -3,22 +3,24 @@
 use Prim.Native.Nat.{ℕ, _+_, _*_, _%_, _≤_, _<_}
 use native.Mathlib.Omega.{arith}
 use mathlib.Core.Path.{_≡_, refl, sym, ap, _∙_}
+use mathlib.Core.Bool.{Bool, true, false}
 use mathlib.Core.List.{List, [], _∷_}
 use lib.ListN.{length, getD, set, length-set}
 use lib.Seq.{getD-set-same, getD-set-other}
 use borrow.Author.Tests.{eq-eqb, ne-eqb}
+use Rattle.classes.specs.Machine.{pick}
 use Rattle.values.specs.declared.ValueRef.{ValueRef}
-use Rattle.values.specs.declared.ValueRef.the-variants.{Undetermined}
+use Rattle.values.specs.declared.ValueRef.the-variants.{Object, Undetermined}
 use Rattle.values.specs.Refs.{refIn}
 use Rattle.values.proofs.RefLaws.{undetermined-is}
 use Rattle.maker.specs.declared.Slot.{Slot}
-use Rattle.evaluator.specs.Figures.{callLimit, callSize, traceSize}
+use Rattle.evaluator.specs.Figures.{callLimit, callSize, traceSize, inputBlock}
 use Rattle.evaluator.specs.declared.frame.Held.{Held}
 use Rattle.evaluator.specs.declared.frame.Held.the-variants.{Is, Absent}
 use Rattle.evaluator.specs.declared.frame.Frame.{Frame}
 use Rattle.evaluator.specs.declared.trace.OpenCall.{OpenCall}
 use Rattle.evaluator.specs.State.{slotAt, slotsAt, callAt, CallPut}
-use Rattle.evaluator.specs.Resting.{heldOf, frameOf, bodyFrame, noVariables}
+use Rattle.evaluator.specs.Resting.{heldOf, frameOf, bodyFrame, mainFrame}
 
 -- ---- what a variable holds
 pub rest-absent : (h : Held) → h ≡ Absent → heldOf 3 ≡ h
@@ -51,11 +53,19 @@ module _ (A : List ℕ) (v : ValueRef) (res : Held) (n owner : ℕ) where
       let et : heldOf x ≡ Is v = held-is x v (ex .0) (ex .1) in
       λ i. record { this = et i; res = ey i; args = slotsAt A 0; n = en i; owner = eo i }
 
-pub main-frame : frameOf (3 ∷ 3 ∷ 2 ∷ 2 ∷ 2 ∷ 0 ∷ 0 ∷ []) ≡ noVariables
-unfolding frameOf slotsAt heldOf
-main-frame =
-    let u : refIn 2 ≡ Undetermined = undetermined-is in
-    λ i. record { this = Absent; res = Absent; args = record { r = u i } ∷ record { r = u i } ∷ record { r = u i } ∷ []; n = 0; owner = 0 }
+module _ (fed : Bool) (x : ℕ) (ex : (refIn x ≡ Object 0 inputBlock) × (x % 256 < 3)) where
+  main-frame : (n : ℕ) → n % 256 ≡ pick fed 1 0 → frameOf (3 ∷ 3 ∷ x ∷ 2 ∷ 2 ∷ n ∷ 0 ∷ []) ≡ mainFrame fed
+  unfolding frameOf slotsAt heldOf
+  main-frame n en =
+      let v : refIn x ≡ Object 0 inputBlock = ex .0 in
+      let u : refIn 2 ≡ Undetermined = undetermined-is in
+      λ i. record { this = Absent; res = Absent; args = record { r = v i } ∷ record { r = u i } ∷ record { r = u i } ∷ []; n = en i; owner = 0 }
+
+  pub main-fed : fed ≡ true → frameOf (3 ∷ 3 ∷ x ∷ 2 ∷ 2 ∷ 1 ∷ 0 ∷ []) ≡ mainFrame fed
+  main-fed e = main-frame 1 (rw e)
+
+  pub main-unfed : fed ≡ false → frameOf (3 ∷ 3 ∷ x ∷ 2 ∷ 2 ∷ 0 ∷ 0 ∷ []) ≡ mainFrame fed
+  main-unfed e = main-frame 0 (rw e)
 
 module _ (R : List ℕ) (this res : Held) (a b d : ValueRef) where
   pub frame-is : this ≡ heldOf (getD R 0 0) → res ≡ heldOf (getD R 1 0) → a ≡ refIn (getD R 2 0) → b ≡ refIn (getD R 3 0) → d ≡ refIn (getD R 4 0)

@@ -37,9 +37,16 @@ levelBlocks = 3
 abbrev pub openBlocks : ℕ
 openBlocks = 16
 
--- what main needs, which begins at block 1: 1 + openBlocks * callLimit + levelBlocks * nestingLimit. So no block from blockLimit - 1 on is touched
+-- the block of main's input, after the objects without fields, and the one that main begins at
+abbrev pub inputBlock : ℕ
+inputBlock = 1
+
+abbrev pub mainBlock : ℕ
+mainBlock = 2
+
+-- what main needs: mainBlock + openBlocks * callLimit + levelBlocks * nestingLimit. So no block from blockLimit - 1 on is touched
 abbrev pub blockLimit : ℕ
-blockLimit = 275
+blockLimit = 276
 
 -- the bytes that the work buffer has at least: these blocks', and those up to the spare one
 abbrev pub workRoom : ℕ

@@ -2,6 +2,7 @@
 -- Not here: the report of an outcome in the language (cofj's Report), of a value (crate values, Reporting).
 use Prim.Native.Nat.{ℕ}
 use mathlib.Core.Path.{_≡_}
+use mathlib.Core.Bool.{Bool}
 use mathlib.Core.List.{List}
 use lib.ListN.{length}
 use Rattle.cofj.specs.Syntax.{Table}
@@ -12,6 +13,7 @@ use Rattle.cofj.specs.Calls.{over}
 use Rattle.evaluator.specs.declared.Stop.{Stop}
 use Rattle.evaluator.specs.declared.report.Reported.{Reported}
 use Rattle.evaluator.specs.Answers.{stopOf}
+use Rattle.evaluator.specs.Main.{inputIn}
 use Rattle.classes.specs.Layout.{Tabled}
 
 -- document 01's number of what a run stopped at
@@ -28,7 +30,7 @@ pub record OutcomeReports (o : Outcome Graph) (R R′ : List ℕ) (r : Reported)
   pub left : r .fuel ≡ fuelOf o
   pub text : R′ ≡ over (reportOf o) R
 
--- main of the table whose bytes T are is run and reported; n and n′ are the lengths of the work buffer
-pub record RunReports (T : List ℕ) (fuel n : ℕ) (R : List ℕ) (n′ : ℕ) (R′ : List ℕ) (r : Reported) : Type 0 where
+-- main of the table whose bytes T are is run and reported, with the input in the block B if one is given; n and n′ are the lengths of the work buffer
+pub record RunReports (T : List ℕ) (fuel : ℕ) (fed : Bool) (B : List ℕ) (n : ℕ) (R : List ℕ) (n′ : ℕ) (R′ : List ℕ) (r : Reported) : Type 0 where
   pub same : n′ ≡ n
-  pub is : (t : Table) → Tabled T t → OutcomeReports (run t fuel) R R′ r
+  pub is : (t : Table) → Tabled T t → OutcomeReports (run t (inputIn fed B) fuel) R R′ r

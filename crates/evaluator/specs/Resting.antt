@@ -1,13 +1,15 @@
 -- Frames at rest: the frame that numbers stand for.
 -- Not here: the numbers of values (crate values, Refs), what a frame stands for (State).
 use Prim.Native.Nat.{ℕ, _%_}
+use mathlib.Core.Bool.{Bool}
 use mathlib.Core.List.{List, [], _∷_}
 use lib.Dec.{eqb}
 use lib.ListN.{getD}
 use Rattle.classes.specs.Machine.{pick}
 use Rattle.values.specs.declared.ValueRef.{ValueRef}
-use Rattle.values.specs.declared.ValueRef.the-variants.{Undetermined}
+use Rattle.values.specs.declared.ValueRef.the-variants.{Object, Undetermined}
 use Rattle.values.specs.Refs.{refIn}
+use Rattle.evaluator.specs.Figures.{inputBlock}
 use Rattle.evaluator.specs.declared.frame.Held.{Held}
 use Rattle.evaluator.specs.declared.frame.Held.the-variants.{Is, Absent}
 use Rattle.evaluator.specs.declared.frame.Frame.{Frame}
@@ -25,6 +27,6 @@ frameOf R = record { this = heldOf (getD R 0 0); res = heldOf (getD R 1 0); args
 abbrev pub bodyFrame : ValueRef → Held → List ℕ → ℕ → ℕ → Frame
 bodyFrame v res A n owner = record { this = Is v; res = res; args = slotsAt A 0; n = n; owner = owner }
 
--- the frame of main
-abbrev pub noVariables : Frame
-noVariables = record { this = Absent; res = Absent; args = record { r = Undetermined } ∷ record { r = Undetermined } ∷ record { r = Undetermined } ∷ []; n = 0; owner = 0 }
+-- the frame of main: parameter 0 is the input, if there is one, and nothing else has a value
+abbrev pub mainFrame : Bool → Frame
+mainFrame fed = record { this = Absent; res = Absent; args = record { r = Object 0 inputBlock } ∷ record { r = Undetermined } ∷ record { r = Undetermined } ∷ []; n = pick fed 1 0; owner = 0 }

@@ -2,6 +2,7 @@
 // Not here: the numbers of values (crate values, refs).
 use crate::Done;
 use crate::Stop;
+use crate::spot::INPUT_BLOCK;
 use maker::Slot;
 use values::ValueRef;
 use values::refs::pack;
@@ -12,7 +13,7 @@ ghost use Rattle.evaluator.specs.Figures.{placeLimit};
 ghost use Rattle.evaluator.specs.State.{passedOf, variableOf};
 ghost use Rattle.values.specs.Refs.{refIn};
 ghost use Rattle.evaluator.specs.Answers.{doneOf};
-ghost use Rattle.evaluator.specs.Resting.{heldOf, frameOf, bodyFrame, noVariables};
+ghost use Rattle.evaluator.specs.Resting.{heldOf, frameOf, bodyFrame, mainFrame};
 
 // What a variable holds, if anything.
 pub enum Held {
@@ -20,8 +21,8 @@ pub enum Held {
     Absent,
 }
 
-// The variables of a body: this, res and the first n arguments; and the class that owns the body, for 2026-01 (parameters
-// without `this`) and 2026-07 (open calls by owner) to read. In main there is no `this`, and the owner is 0.
+// The variables of a body: this, res and the first n arguments; and the class that owns the body, for 2026-07 (open calls by owner) to read.
+// In main there is no `this` and no `res`, the one parameter is the input, if there is one, and the owner is 0.
 pub struct Frame {
     pub this: Held,
     pub res: Held,
@@ -76,11 +77,16 @@ pub(crate) fn body_frame(v: ValueRef, res: Held, vs: &[u32; 4], n: u8, owner: u8
     ]
 }
 
-// The frame at rest of main.
-pub(crate) fn main_frame() -> [u32; FRAME]
-    ensures { λ r. ⌜ frameOf r ≡ noVariables ⌝ }
+// The frame at rest of main: the input, if there is one, stands in its block from object 0 on.
+pub(crate) fn main_frame(fed: bool) -> [u32; FRAME]
+    ensures { λ r. ⌜ frameOf r ≡ mainFrame fed ⌝ }
 {
-    [ABSENT, ABSENT, UNUSED, UNUSED, UNUSED, 0, 0]
+    let v = ValueRef::Object(0, INPUT_BLOCK);
+    let x = pack(v);
+    if fed {
+        return [ABSENT, ABSENT, x, UNUSED, UNUSED, 1, 0];
+    }
+    [ABSENT, ABSENT, x, UNUSED, UNUSED, 0, 0]
 }
 
 // The frame that rests in these numbers.

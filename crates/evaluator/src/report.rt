@@ -3,14 +3,16 @@
 use crate::Out;
 use crate::Stop;
 use crate::run::run;
+use canon::layout::BLOCK;
 use classes::places::SIZE;
 use values::report::report;
 ghost use mathlib.Core.Path.{_≡_};
-ghost use Prim.Native.Nat.{ℕ, _≤_};
+ghost use Prim.Native.Nat.{ℕ, _+_, _≤_};
 ghost use lib.ListN.{length};
 ghost use Rattle.cofj.specs.Limits.{reportSize};
-ghost use Rattle.evaluator.specs.Figures.{workRoom};
+ghost use Rattle.evaluator.specs.Figures.{mainBlock, workRoom};
 ghost use Rattle.evaluator.specs.Answers.{outIn, OutOlder};
+ghost use Rattle.evaluator.specs.Main.{Given};
 ghost use Rattle.evaluator.specs.Reporting.{stopNumber, StopReports, OutcomeReports, RunReports};
 
 // How many characters a report has, and the fuel that its run left.
@@ -46,7 +48,7 @@ fn report_stop(s: Stop, out: &mut [u8])
 
 // The report of an outcome, at the front of `out`.
 fn report_outcome(work: &mut [u8], o: Out, out: &mut [u8]) -> Reported
-    requires { ⌜ OutOlder (now work) 2 o × (reportSize ≤ length (now out)) ⌝ }
+    requires { ⌜ OutOlder (now work) (mainBlock + 1) o × (reportSize ≤ length (now out)) ⌝ }
     ensures { λ r. ⌜ OutcomeReports (outIn (now (work .entry)) o) (now (out .entry)) (now (out .exit)) r × (length (now (work .exit)) ≡ length (now (work .entry))) ⌝ }
 {
     match o {
@@ -64,11 +66,19 @@ fn report_outcome(work: &mut [u8], o: Out, out: &mut [u8]) -> Reported
     }
 }
 
-// Main of the table is run with this fuel, and its report written at the front of `out`. What is left in `work` is open.
-pub fn run_report(t: &[u8; SIZE], work: &mut [u8], fuel: u16, out: &mut [u8]) -> Reported
-    requires { ⌜ (workRoom ≤ length (now work)) × (reportSize ≤ length (now out)) ⌝ }
-    ensures { λ r. ⌜ RunReports (now (t .entry)) fuel (length (now (work .entry))) (now (out .entry)) (length (now (work .exit))) (now (out .exit)) r ⌝ }
+// Main of the table is run with this fuel, and with the value in `block` from object 0 on if it is fed, and its report written at the front of `out`.
+// What is left in `work` is open.
+pub fn run_report(
+    t: &[u8; SIZE],
+    work: &mut [u8],
+    fuel: u16,
+    fed: bool,
+    block: &[u8; BLOCK],
+    out: &mut [u8],
+) -> Reported
+    requires { ⌜ (workRoom ≤ length (now work)) × Given fed (now block) × (reportSize ≤ length (now out)) ⌝ }
+    ensures { λ r. ⌜ RunReports (now (t .entry)) fuel fed (now (block .entry)) (length (now (work .entry))) (now (out .entry)) (length (now (work .exit))) (now (out .exit)) r ⌝ }
 {
-    let o = run(t, work, fuel);
+    let o = run(t, work, fuel, fed, block);
     report_outcome(work, o, out)
 }

@@ -1,16 +1,20 @@
-// Running main: no variables, no open calls, the first block after the one with the objects without fields.
+// Running main: its input the only variable, no open calls, the first block after those with the objects without fields and with the input.
 // Not here: the report of its outcome (report).
 use crate::Done;
 use crate::Out;
 use crate::eval::eval;
 use crate::frame::main_frame;
 use crate::spot::DEPTH;
+use crate::spot::INPUT_BLOCK;
+use crate::spot::MAIN_BLOCK;
 use crate::spot::NESTING;
 use crate::spot::OBJECTS;
 use crate::spot::Spot;
 use crate::trace::FUEL;
 use crate::trace::TRACE;
-use classes::places::MAIN;
+use canon::bytes::copy;
+use canon::layout::BLOCK;
+use classes::methods::main_place;
 use classes::places::SIZE;
 use maker::fieldless::lay_fieldless;
 ghost use mathlib.Core.Path.{_≡_};
@@ -18,7 +22,7 @@ ghost use Prim.Native.Nat.{ℕ, _<_, _≤_};
 ghost use lib.ListN.{length};
 ghost use Rattle.evaluator.specs.Figures.{workRoom};
 ghost use Rattle.evaluator.specs.Answers.{outWith};
-ghost use Rattle.evaluator.specs.Main.{Runs};
+ghost use Rattle.evaluator.specs.Main.{Given, Laid, Runs};
 
 // What a run gives whose expression gave o, with this fuel left.
 pub(crate) fn out_of(o: Done, fuel: u16) -> Out
@@ -34,18 +38,30 @@ pub(crate) fn out_of(o: Done, fuel: u16) -> Out
     }
 }
 
-// The outcome of main with this fuel. The first block of the work buffer is for the objects without fields.
-pub(crate) fn run(t: &[u8; SIZE], work: &mut [u8], fuel: u16) -> Out
-    requires { ⌜ workRoom ≤ length (now work) ⌝ }
-    ensures { λ o. ⌜ Runs (now (t .entry)) (now (work .entry)) fuel (now (work .exit)) o ⌝ }
+// The blocks that main begins with: the objects without fields, and the input, if there is one, as it lies in `block`.
+pub(crate) fn lay(work: &mut [u8], fed: bool, block: &[u8; BLOCK])
+    requires { ⌜ (workRoom ≤ length (now work)) × Given fed (now block) ⌝ }
+    ensures { λ _. ⌜ Laid fed (now (block .entry)) (now (work .entry)) (now (work .exit)) ⌝ }
 {
     lay_fieldless(work);
+    if !fed {
+        return;
+    }
+    copy(&block[..], 0, work, BLOCK * (INPUT_BLOCK as usize), BLOCK);
+}
+
+// The outcome of main with this fuel and the input in `block`, if one is given.
+pub(crate) fn run(t: &[u8; SIZE], work: &mut [u8], fuel: u16, fed: bool, block: &[u8; BLOCK]) -> Out
+    requires { ⌜ (workRoom ≤ length (now work)) × Given fed (now block) ⌝ }
+    ensures { λ o. ⌜ Runs (now (t .entry)) (now (work .entry)) fuel fed (now (block .entry)) (now (work .exit)) o ⌝ }
+{
+    lay(work, fed, block);
     let mut tr = [0u32; TRACE];
     tr[FUEL] = fuel as u32;
-    let fr = main_frame();
+    let fr = main_frame(fed);
     let p = Spot {
-        at: MAIN as u16 + 1,
-        block: 1,
+        at: main_place(t) as u16,
+        block: MAIN_BLOCK,
         nesting: NESTING,
         calls: DEPTH,
         opened: 0,

@@ -24,6 +24,12 @@ pub const DEPTH: u8 = 16;
 // how many objects a value may have
 pub const OBJECTS: u8 = 32;
 
+// the block of main's input, after the objects without fields
+pub const INPUT_BLOCK: u16 = 1;
+
+// the block that main begins at
+pub const MAIN_BLOCK: u16 = 2;
+
 // how many blocks a call's receiver and arguments take
 pub const CALL_BLOCKS: u16 = 4;
 

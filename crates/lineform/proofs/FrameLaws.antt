@@ -4,13 +4,13 @@ use native.Mathlib.Omega.{arith}
 use mathlib.Core.Path.{_≡_, refl, sym, ap, _∙_}
 use mathlib.Core.Bool.{Bool, true, false}
 use mathlib.Core.List.{List, [], _∷_}
-use mathlib.Core.Option.{Option, none}
+use mathlib.Core.Option.{Option, none, some}
 use lib.Dec.{leb}
 use lib.ListN.{length, drop, getD}
 use borrow.Author.Tests.{le-leb, lt-leb, ne-eqb}
 use Rattle.cofj.specs.Partial.{_>>=_}
-use Rattle.cofj.specs.Syntax.{Ty, ty}
-use Rattle.cofj.specs.Frames.{Got, type, types, expr, classAfter, methodAfter, mainAfter, frame}
+use Rattle.cofj.specs.Syntax.{Expr, Ty, ty}
+use Rattle.cofj.specs.Frames.{Got, type, types, expr, mainFrame, whole, classAfter, methodAfter, mainAfter, inputAfter, frame}
 use Rattle.cofj.specs.Writing.{codeOf, typesBytes}
 use Rattle.cofj.proofs.FrameRound.{expr-back, types-back}
 use Rattle.lineform.specs.declared.exprs.ReadExpr.{ReadExpr}
@@ -47,14 +47,18 @@ module _ (f : AtPlace) where
         unfolding frame
         frame-method b e = e ∙ sym (ap (λ (x : List ℕ). framedOf (frame x)) (line-is s ef) ∙ rw b)
 
-        pub frame-main : k ≡ 3 → o ≡ framedOf (mainAfter (drop 1 s)) → o ≡ framedOf (frame s)
+        pub frame-main : k ≡ 3 → o ≡ framedOf (mainAfter none (drop 1 s)) → o ≡ framedOf (frame s)
         unfolding frame
         frame-main b e = e ∙ sym (ap (λ (x : List ℕ). framedOf (frame x)) (line-is s ef) ∙ rw b)
 
-      pub frame-unknown : ((k ≡ 1) → ⊥) → ((k ≡ 2) → ⊥) → ((k ≡ 3) → ⊥) → Bad ≡ framedOf (frame s)
+        pub frame-input : k ≡ 4 → o ≡ framedOf (inputAfter (drop 1 s)) → o ≡ framedOf (frame s)
+        unfolding frame
+        frame-input b e = e ∙ sym (ap (λ (x : List ℕ). framedOf (frame x)) (line-is s ef) ∙ rw b)
+
+      pub frame-unknown : ((k ≡ 1) → ⊥) → ((k ≡ 2) → ⊥) → ((k ≡ 3) → ⊥) → ((k ≡ 4) → ⊥) → Bad ≡ framedOf (frame s)
       unfolding frame
-      frame-unknown n1 n2 n3 =
-          let e : frame (k ∷ drop 1 s) ≡ none = rw (ne-eqb k 1 n1, ne-eqb k 2 n2, ne-eqb k 3 n3, frame, _>>=_) in
+      frame-unknown n1 n2 n3 n4 =
+          let e : frame (k ∷ drop 1 s) ≡ none = rw (ne-eqb k 1 n1, ne-eqb k 2 n2, ne-eqb k 3 n3, ne-eqb k 4 n4, frame, _>>=_) in
           sym (ap (λ (x : List ℕ). framedOf (frame x)) (line-is s ef) ∙ rw e)
 
 -- ---- a class
@@ -93,22 +97,55 @@ module _ (s : List ℕ) (h : 3 < length s) where
         rw (four s h, le-leb _ _ k, ← em, r .is, no-more s e l)
 
 -- ---- main
-module _ (s : List ℕ) (o : ReadExpr) (eo : o ≡ endOf s (expr 6 (drop 1 s))) where
-  pub main-refused : o ≡ Refused → Bad ≡ framedOf (mainAfter (drop 1 s))
+module _ (s : List ℕ) (at : ℕ) (o : ReadExpr) (eo : o ≡ endOf s (expr 6 (drop at s))) where
+  pub main-refused : o ≡ Refused → Bad ≡ framedOf (mainAfter none (drop at s))
   unfolding mainAfter
-  main-refused n = rw (read-none s (expr 6 (drop 1 s)) o eo n)
+  main-refused n = rw (read-none s (expr 6 (drop at s)) o eo n)
 
-  pub main-long : (e : ℕ) → o ≡ Next e → e < length s → Bad ≡ framedOf (mainAfter (drop 1 s))
+  pub main-long : (e : ℕ) → o ≡ Next e → e < length s → Bad ≡ framedOf (mainAfter none (drop at s))
   unfolding mainAfter
   main-long e n l =
-      let r = read-to s (expr 6 (drop 1 s)) o e (expr-leaves s 6 1) eo n in
+      let r = read-to s (expr 6 (drop at s)) o e (expr-leaves s 6 at) eo n in
       rw (r .is, more s e l)
 
-  pub main-good : (e : ℕ) → o ≡ Next e → length s ≤ e → Good Main ≡ framedOf (mainAfter (drop 1 s))
+  pub main-good : (e : ℕ) → o ≡ Next e → length s ≤ e → Good Main ≡ framedOf (mainAfter none (drop at s))
   unfolding mainAfter
   main-good e n l =
-      let r = read-to s (expr 6 (drop 1 s)) o e (expr-leaves s 6 1) eo n in
+      let r = read-to s (expr 6 (drop at s)) o e (expr-leaves s 6 at) eo n in
       rw (r .is, no-more s e l)
+
+-- ---- main after the type of its parameter
+pub input-short : (s : List ℕ) → length s ≤ 2 → Bad ≡ framedOf (inputAfter (drop 1 s))
+unfolding inputAfter
+input-short [] h = refl
+input-short (k ∷ []) h = refl
+input-short (k ∷ c ∷ []) h = refl
+input-short (k ∷ c ∷ g ∷ r) h = absurd (omega arith)
+
+-- a frame's kind does not tell the type
+same-kind : (u : Ty) (bs : List ℕ) → framedOf (mainAfter none bs) ≡ framedOf (mainAfter (some u) bs)
+unfolding mainAfter
+same-kind u bs = go (expr 6 bs)
+  where
+    ends : (e : Expr) (r : List ℕ) → framedOf (whole (record { item = e; rest = r }) >>= λ x. some (mainFrame none x)) ≡ framedOf (whole (record { item = e; rest = r }) >>= λ x. some (mainFrame (some u) x))
+    ends e [] = refl
+    ends e (b ∷ r) = refl
+
+    go : (o : Option (Got Expr)) → framedOf (o >>= λ g. whole g >>= λ x. some (mainFrame none x)) ≡ framedOf (o >>= λ g. whole g >>= λ x. some (mainFrame (some u) x))
+    go none = refl
+    go (some g) = ends (g .item) (g .rest)
+
+module _ (s : List ℕ) (h : 2 < length s) where
+  three : drop 1 s ≡ getD s 1 0 ∷ getD s 2 0 ∷ drop 3 s
+  three = more s 1 (omega arith) ∙ ap (λ (l : List ℕ). getD s 1 0 ∷ l) (more s 2 h)
+
+  pub input-tag : 3 < getD s 2 0 → Bad ≡ framedOf (inputAfter (drop 1 s))
+  unfolding inputAfter type
+  input-tag k = rw (three, lt-leb _ _ k)
+
+  pub input-main : getD s 2 0 ≤ 3 → (o : Framed) → o ≡ framedOf (mainAfter none (drop 3 s)) → o ≡ framedOf (inputAfter (drop 1 s))
+  unfolding inputAfter type
+  input-main k o e = rw (three, le-leb _ _ k) (e ∙ same-kind (ty (getD s 1 0) (getD s 2 0)) (drop 3 s))
 
 -- ---- a method
 -- a type with anything after it, where what follows is refused

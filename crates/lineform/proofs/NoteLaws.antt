@@ -56,7 +56,7 @@ rights-append : (fs gs : List TextFrame) → rightsOf (fs ++ gs) ≡ rightsOf fs
 rights-append [] gs = refl
 rights-append (classFrame c ∷ fs) gs = rights-append fs gs
 rights-append (methodFrame d ∷ fs) gs = ap (λ (x : List ℕ). rightAt d ∷ x) (rights-append fs gs)
-rights-append (mainFrame e ∷ fs) gs = rights-append fs gs
+rights-append (mainFrame i e ∷ fs) gs = rights-append fs gs
 
 abbrev number : Noted → ℕ
 number (noted m R) = m
@@ -126,8 +126,8 @@ pub notes-more : (R : List ℕ) (m : ℕ) (fs : List TextFrame) (f : TextFrame) 
 notes-more R m fs (classFrame c) R′ m′ t e =
     subst (λ (y : Noted). Notes (places y) (number y) (fs ++ (classFrame c ∷ []))) (sym e) (same-notes R m fs t (fs ++ (classFrame c ∷ [])) (rights-append fs (classFrame c ∷ []) ∙ append-nil (rightsOf fs)))
 notes-more R m fs (methodFrame d) R′ m′ t e = put-notes R m fs t (rightAt d) (fs ++ (methodFrame d ∷ [])) (rights-append fs (methodFrame d ∷ [])) R′ m′ e
-notes-more R m fs (mainFrame x) R′ m′ t e =
-    subst (λ (y : Noted). Notes (places y) (number y) (fs ++ (mainFrame x ∷ []))) (sym e) (same-notes R m fs t (fs ++ (mainFrame x ∷ [])) (rights-append fs (mainFrame x ∷ []) ∙ append-nil (rightsOf fs)))
+notes-more R m fs (mainFrame i x) R′ m′ t e =
+    subst (λ (y : Noted). Notes (places y) (number y) (fs ++ (mainFrame i x ∷ []))) (sym e) (same-notes R m fs t (fs ++ (mainFrame i x ∷ [])) (rights-append fs (mainFrame i x ∷ []) ∙ append-nil (rightsOf fs)))
 
 pub notes-rights : (R : List ℕ) (m : ℕ) (fs gs : List TextFrame) → Notes R m fs → fs ≡ gs → Rights R gs
 notes-rights R m fs gs t e = subst (Rights R) e (record { at = λ j l k. t .at j (go j l k (leb methodCount m) refl) })
@@ -146,4 +146,4 @@ kind-small (methodFrame d) l e h =
     let a = length-append (typesBytes (d .params)) (codeOf (d .left) ++ codeOf (d .right)) in
     let b = length-append (codeOf (d .left)) (codeOf (d .right)) in
     omega arith
-kind-small (mainFrame x) l e h = tt
+kind-small (mainFrame i x) l e h = tt

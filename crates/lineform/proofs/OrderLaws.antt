@@ -10,7 +10,7 @@ use lib.Dec.{leb}
 use lib.ListN.{length, getD, drop}
 use borrow.Author.Tests.{le-leb, lt-leb}
 use Rattle.cofj.specs.Partial.{_>>=_, guard}
-use Rattle.cofj.specs.Syntax.{Expr, Method}
+use Rattle.cofj.specs.Syntax.{Expr, Ty, Method}
 use Rattle.cofj.specs.Frames.{ClassFrame, TextFrame, classFrame, methodFrame, mainFrame, frame, frames}
 use Rattle.cofj.specs.Writing.{methodLine}
 use Rattle.cofj.specs.Tables.{Raw, raw, inFront, ordered, few}
@@ -55,29 +55,31 @@ late-class c (suc m) x (some r) h = refl
 
 front-method : (c m : ℕ) (x : Method) (o : Option Raw) → front c m (o >>= λ r. inFront (methodFrame x) r) ≡ front c (m + 1) o
 front-method c m x none = refl
-front-method c m x (some r) = rw add-one (go m (r .classes) (r .methods) (r .main))
+front-method c m x (some r) = rw add-one (go m (r .classes) (r .methods) (r .input) (r .main))
   where
-    go : (m : ℕ) (cs : List ClassFrame) (ms : List Method) (e : Expr) → front c m (inFront (methodFrame x) (raw cs ms e)) ≡ frontOf c (suc m) cs (length ms)
-    go zero [] ms e = ap₂ answer (let w : c + 0 ≡ c = omega arith in w) (let w : suc (length ms) ≡ 1 + length ms = omega arith in w)
-    go (suc m) [] ms e = ap (answer c) (let w : suc m + suc (length ms) ≡ suc (suc m) + length ms = omega arith in w)
-    go zero (y ∷ cs) ms e = refl
-    go (suc m) (y ∷ cs) ms e = refl
+    go : (m : ℕ) (cs : List ClassFrame) (ms : List Method) (i : Option Ty) (e : Expr) → front c m (inFront (methodFrame x) (raw cs ms i e)) ≡ frontOf c (suc m) cs (length ms)
+    go zero [] ms i e = ap₂ answer (let w : c + 0 ≡ c = omega arith in w) (let w : suc (length ms) ≡ 1 + length ms = omega arith in w)
+    go (suc m) [] ms i e = ap (answer c) (let w : suc m + suc (length ms) ≡ suc (suc m) + length ms = omega arith in w)
+    go zero (y ∷ cs) ms i e = refl
+    go (suc m) (y ∷ cs) ms i e = refl
 
-front-main : (c m : ℕ) (e : Expr) → front c m (some (raw [] [] e)) ≡ answer c m
-front-main c zero e = ap (λ (n : ℕ). answer n 0) (let w : c + 0 ≡ c = omega arith in w)
-front-main c (suc m) e = ap (answer c) (let w : suc m + 0 ≡ suc m = omega arith in w)
+front-main : (c m : ℕ) (i : Option Ty) (e : Expr) → front c m (some (raw [] [] i e)) ≡ answer c m
+front-main c zero i e = ap (λ (n : ℕ). answer n 0) (let w : c + 0 ≡ c = omega arith in w)
+front-main c (suc m) i e = ap (answer c) (let w : suc m + 0 ≡ suc m = omega arith in w)
 
 -- ---- a line's first byte and its frame
 abbrev mark : TextFrame → ℕ
 mark (classFrame c) = 1
 mark (methodFrame d) = 2
-mark (mainFrame e) = 3
+mark (mainFrame none e) = 3
+mark (mainFrame (some u) e) = 4
 
 mark-of : (f : TextFrame) → getD (lineOf f) 0 0 ≡ mark f
 unfolding methodLine
 mark-of (classFrame c) = refl
 mark-of (methodFrame d) = refl
-mark-of (mainFrame e) = refl
+mark-of (mainFrame none e) = refl
+mark-of (mainFrame (some u) e) = refl
 
 first : (l p r : List ℕ) (x : ℕ) → 1 ≤ length l → x ∷ r ≡ l ++ p → x ≡ getD l 0 0
 first [] p r x h e = absurd (omega arith)
@@ -144,7 +146,8 @@ module _ (d : List ℕ) (i c m n : ℕ) (r : Counting d i c m) (h : i < length d
         go : (f : TextFrame) → at-line .head ≡ f → getD d (i + 1) 0 ≡ mark f → Refused ≡ orderOf (frames (unpack d))
         go (classFrame x) e q = sym (gives-at (classFrame x) e ∙ late-class c m x (ordered (at-line .tail)) l)
         go (methodFrame x) e q = absurd (omega arith)
-        go (mainFrame x) e q = absurd (omega arith)
+        go (mainFrame none x) e q = absurd (omega arith)
+        go (mainFrame (some u) x) e q = absurd (omega arith)
 
     pub class-next : m ≤ 0 → Counting d (i + 1 + n) (c + 1) m
     unfolding ordered
@@ -159,7 +162,8 @@ module _ (d : List ℕ) (i c m n : ℕ) (r : Counting d i c m) (h : i < length d
             (gives-at (classFrame x) e ∙ ap (λ (k : ℕ). front c k (ordered (classFrame x ∷ at-line .tail))) ez ∙ front-class c x (ordered (at-line .tail))
             ∙ ap (λ (k : ℕ). front (c + 1) k (ordered (at-line .tail))) (sym ez))
         go (methodFrame x) e q = absurd (omega arith)
-        go (mainFrame x) e q = absurd (omega arith)
+        go (mainFrame none x) e q = absurd (omega arith)
+        go (mainFrame (some u) x) e q = absurd (omega arith)
 
   pub method-next : getD d (i + 1) 0 ≡ 2 → Counting d (i + 1 + n) c (m + 1)
   unfolding ordered
@@ -168,22 +172,23 @@ module _ (d : List ℕ) (i c m n : ℕ) (r : Counting d i c m) (h : i < length d
       go : (f : TextFrame) → at-line .head ≡ f → getD d (i + 1) 0 ≡ mark f → Counting d (i + 1 + n) c (m + 1)
       go (classFrame x) e q = absurd (omega arith)
       go (methodFrame x) e q = counted c (m + 1) (gives-at (methodFrame x) e ∙ front-method c m x (ordered (at-line .tail)))
-      go (mainFrame x) e q = absurd (omega arith)
+      go (mainFrame none x) e q = absurd (omega arith)
+      go (mainFrame (some u) x) e q = absurd (omega arith)
 
   module _ (n1 : (getD d (i + 1) 0 ≡ 1) → ⊥) (n2 : (getD d (i + 1) 0 ≡ 2) → ⊥) where
-    main-at : (x : Expr) × (at-line .head ≡ mainFrame x)
+    main-at : (u : Option Ty) × (x : Expr) × (at-line .head ≡ mainFrame u x)
     main-at = go (at-line .head) refl (at-line .marked)
       where
-        go : (f : TextFrame) → at-line .head ≡ f → getD d (i + 1) 0 ≡ mark f → (x : Expr) × (at-line .head ≡ mainFrame x)
+        go : (f : TextFrame) → at-line .head ≡ f → getD d (i + 1) 0 ≡ mark f → (u : Option Ty) × (x : Expr) × (at-line .head ≡ mainFrame u x)
         go (classFrame x) e q = absurd (n1 q)
         go (methodFrame x) e q = absurd (n2 q)
-        go (mainFrame x) e q = (x, e)
+        go (mainFrame u x) e q = (u, x, e)
 
     pub main-early : i + 1 + n < length d → Refused ≡ orderOf (frames (unpack d))
     unfolding ordered frames packed
-    main-early l = sym (gives-at (mainFrame (main-at .0)) (main-at .1) ∙ go (at-line .at .after) (at-line .tail) (at-line .read) (line-next d i n h en (r .here .lines) (at-line .at) .is))
+    main-early l = sym (gives-at (mainFrame (main-at .0) (main-at .1)) (main-at .2) ∙ go (at-line .at .after) (at-line .tail) (at-line .read) (line-next d i n h en (r .here .lines) (at-line .at) .is))
       where
-        go : (ls : List (List ℕ)) (fs : List TextFrame) → frames ls ≡ some fs → drop (i + 1 + n) d ≡ packed ls → front c m (ordered (mainFrame (main-at .0) ∷ fs)) ≡ Refused
+        go : (ls : List (List ℕ)) (fs : List TextFrame) → frames ls ≡ some fs → drop (i + 1 + n) d ≡ packed ls → front c m (ordered (mainFrame (main-at .0) (main-at .1) ∷ fs)) ≡ Refused
         go ls (f ∷ fs) e q = refl
         go [] [] e q = let w = more d (i + 1 + n) l in let z : _≡_ {A = ℕ} 0 1 = cc in absurd (omega arith)
         go (y ∷ ls) [] e q =
@@ -195,10 +200,10 @@ module _ (d : List ℕ) (i c m n : ℕ) (r : Counting d i c m) (h : i < length d
     module _ (l : length d ≤ i + 1 + n) where
       last : orderOf (frames (unpack d)) ≡ answer c m
       unfolding ordered frames
-      last = gives-at (mainFrame (main-at .0)) (main-at .1) ∙ go (at-line .tail) (ap frames (sym (at-end d (i + 1 + n) (at-line .at .after) (line-next d i n h en (r .here .lines) (at-line .at) .is) l)) ∙ at-line .read)
+      last = gives-at (mainFrame (main-at .0) (main-at .1)) (main-at .2) ∙ go (at-line .tail) (ap frames (sym (at-end d (i + 1 + n) (at-line .at .after) (line-next d i n h en (r .here .lines) (at-line .at) .is) l)) ∙ at-line .read)
         where
-          go : (fs : List TextFrame) → frames [] ≡ some fs → front c m (ordered (mainFrame (main-at .0) ∷ fs)) ≡ answer c m
-          go [] e = front-main c m (main-at .0)
+          go : (fs : List TextFrame) → frames [] ≡ some fs → front c m (ordered (mainFrame (main-at .0) (main-at .1) ∷ fs)) ≡ answer c m
+          go [] e = front-main c m (main-at .0) (main-at .1)
           go (f ∷ fs) e = let z : _≡_ {A = ℕ} 0 1 = cc in absurd (omega arith)
 
       pub many-classes : 32 < c → Refused ≡ orderOf (frames (unpack d))

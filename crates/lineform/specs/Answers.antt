@@ -109,7 +109,7 @@ rightAt d = 8 + 2 * length (d .params) + length (codeOf (d .left))
 abbrev pub kindOf : TextFrame → Kind
 kindOf (classFrame c) = kind.Class
 kindOf (methodFrame d) = kind.Method (rightAt d)
-kindOf (mainFrame e) = kind.Main
+kindOf (mainFrame i e) = kind.Main
 
 abbrev pub framedOf : Option TextFrame → Framed
 framedOf none = Bad
@@ -161,7 +161,7 @@ abbrev pub rightsOf : List TextFrame → List ℕ
 rightsOf [] = []
 rightsOf (classFrame c ∷ fs) = rightsOf fs
 rightsOf (methodFrame d ∷ fs) = rightAt d ∷ rightsOf fs
-rightsOf (mainFrame e ∷ fs) = rightsOf fs
+rightsOf (mainFrame i e ∷ fs) = rightsOf fs
 
 -- R has the places of the first methods
 pub record Rights (R : List ℕ) (fs : List TextFrame) : Type 0 where

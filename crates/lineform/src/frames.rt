@@ -2,7 +2,8 @@
 // Not here: the frames of a whole text (lines).
 ghost use mathlib.Core.Path.{_≡_};
 ghost use lib.ListN.{drop};
-ghost use Rattle.cofj.specs.Frames.{frame, classAfter, methodAfter, mainAfter};
+ghost use mathlib.Core.Option.{none};
+ghost use Rattle.cofj.specs.Frames.{frame, classAfter, methodAfter, mainAfter, inputAfter};
 ghost use Rattle.lineform.specs.Answers.{framedOf};
 use crate::exprs::FIELD_COUNT;
 use crate::exprs::LARGEST_TAG;
@@ -40,7 +41,10 @@ pub(crate) fn frame_kind(s: &[u8]) -> Framed
         return method_frame(s);
     }
     if k == 3 {
-        return main_frame(s);
+        return main_frame(s, 1);
+    }
+    if k == 4 {
+        return input_frame(s);
     }
     Framed::Bad
 }
@@ -101,10 +105,11 @@ pub(crate) fn method_frame(s: &[u8]) -> Framed
     Framed::Good(Kind::Method(b))
 }
 
-pub(crate) fn main_frame(s: &[u8]) -> Framed
-    ensures { λ r. ⌜ r ≡ framedOf (mainAfter (drop 1 (now (s .entry)))) ⌝ }
+// Main's expression from `at` on, to the end of the line.
+pub(crate) fn main_frame(s: &[u8], at: usize) -> Framed
+    ensures { λ r. ⌜ r ≡ framedOf (mainAfter none (drop at (now (s .entry)))) ⌝ }
 {
-    let o = expr_at(s, 1);
+    let o = expr_at(s, at);
     let ReadExpr::Next(e) = o else {
         return Framed::Bad;
     };
@@ -112,4 +117,17 @@ pub(crate) fn main_frame(s: &[u8]) -> Framed
         return Framed::Bad;
     }
     Framed::Good(Kind::Main)
+}
+
+// The type of main's parameter, then its expression.
+pub(crate) fn input_frame(s: &[u8]) -> Framed
+    ensures { λ r. ⌜ r ≡ framedOf (inputAfter (drop 1 (now (s .entry)))) ⌝ }
+{
+    if s.len() <= 2 {
+        return Framed::Bad;
+    }
+    if LARGEST_TAG < s[2] {
+        return Framed::Bad;
+    }
+    main_frame(s, 3)
 }

@@ -1,11 +1,11 @@
-// The program `linerun`: a text on standard input; its verdict line and, after 00, its report on standard output.
+// The program `linerun`: a text, and a second one after an `04` main, on standard input; the verdict line and, after 00, the report on standard output.
 // Not here: anything that decides what is written (engine's show).
 use engine::show::show;
 use libc::STDIN_FILENO;
 use libc::STDOUT_FILENO;
 
-// One character more than the longest text. A longer input is refused as this much of it is (engine's proofs/Promise, `any-length`).
-const ROOM: usize = 49568;
+// One character more than the longest texts. More of the input changes nothing (cofj's proofs/Linerun, `any-length`).
+const ROOM: usize = 53903;
 
 fn main() {
     let mut text = [0u8; ROOM];

@@ -3,19 +3,19 @@ use Prim.Native.Nat.{ℕ, zero, suc, _+_, _*_, _-_, _%_, _≤_, _<_}
 use native.Mathlib.Omega.{arith}
 use mathlib.Core.Path.{_≡_, refl, sym, ap, ap₂, _∙_, subst}
 use mathlib.Core.List.{List, [], _∷_, _++_, append-assoc}
-use mathlib.Core.Option.{Option, some, Option·none-ne-some}
+use mathlib.Core.Option.{Option, none, some, Option·none-ne-some}
 use lib.ListN.{length, getD, getElem?, take, drop, length-append, length-take, length-drop}
 use lib.Seq.{take-suc, take-length, ext-getD, getD-take, getD-drop}
 use borrow.Author.Tests.{le-ltb}
-use Rattle.cofj.specs.Syntax.{Class, Method, Table}
+use Rattle.cofj.specs.Syntax.{Expr, Ty, Class, Method, Table}
 use Rattle.cofj.specs.Classes.{parentOf, ownOrNone, parentOr0, fieldsTo}
 use Rattle.cofj.specs.WellFormed.{MethodFormed, WellFormed}
-use Rattle.cofj.specs.Writing.{codeOf, typesBytes, classLine, classLines, methodLine, methodLines, tableLines}
-use Rattle.classes.specs.Layout.{layout, rest, classRow, methodByte, Stands}
+use Rattle.cofj.specs.Writing.{typesBytes, classLine, classLines, methodLine, methodLines, mainLine, tableLines}
+use Rattle.classes.specs.Layout.{layout, rest, classRow, methodByte, inputSize, Stands}
 use Rattle.classes.specs.Machine.{rowOf}
 use Rattle.classes.proofs.Lists.{within as inside, method-at}
-use Rattle.classes.proofs.Zones.{class-zone, method-zone, main-zone, parent-at, class-count-at, method-count-at, length-layout, length-types, line-stands, main-stands, stands-moved}
-use Rattle.tables.specs.Writings.{cap, classIn, longIn, classesIn, methodsIn, mainIn, linesIn}
+use Rattle.classes.proofs.Zones.{class-zone, method-zone, main-zone, parent-at, class-count-at, method-count-at, length-layout, length-types, line-stands, input-size-at, main-line-stands, stands-moved}
+use Rattle.tables.specs.Writings.{cap, classIn, longIn, classesIn, methodsIn, mainFirst, mainIn, linesIn}
 
 cap-within : (x most : ℕ) → x ≤ most → cap x most ≡ x
 cap-within x most h = rw (le-ltb most x h)
@@ -91,8 +91,18 @@ method-in t i d h e l =
     let n = method-zone t i 255 h (omega arith) ∙ ap (λ (x : Option Method). methodByte x 255) e in
     ap (λ (x : List ℕ). 2 ∷ x) (long-in (layout t) (8976 + 256 * i) (rest (methodLine d)) n l s (omega (arith, length-layout t)))
 
-main-in : (t : Table) → suc (length (codeOf (t .main))) ≤ 255 → mainIn (layout t) ≡ 3 ∷ codeOf (t .main)
-main-in t l = ap (λ (x : List ℕ). 3 ∷ x) (long-in (layout t) 25360 (codeOf (t .main)) (main-zone t 255 (omega arith)) l (main-stands t l) (omega (arith, length-layout t)))
+-- main's line by its first byte and the rest
+main-first : (i : Option Ty) (e : Expr) → mainFirst (inputSize i) ∷ rest (mainLine i e) ≡ mainLine i e
+main-first none e = refl
+main-first (some u) e = refl
+
+main-in : (t : Table) → length (mainLine (t .input) (t .main)) ≤ 255 → mainIn (layout t) ≡ mainLine (t .input) (t .main)
+main-in t l =
+    let f = main-first (t .input) (t .main) in
+    let n = ap length f in
+    ap₂ {C = List ℕ} _∷_ (ap (λ (x : ℕ). mainFirst x) (input-size-at t))
+    (long-in (layout t) 25360 (rest (mainLine (t .input) (t .main))) (main-zone t 255 (omega arith) ∙ sym n) (omega arith) (main-line-stands t l) (omega (arith, length-layout t)))
+    ∙ f
 
 -- ---- all lines
 classes-take : (B : List ℕ) (ls : List (List ℕ)) → ((i : ℕ) → i < length ls → classIn B (suc i) ≡ getD ls i []) → (j : ℕ) → j ≤ length ls → classesIn B j ≡ take j ls
@@ -145,7 +155,7 @@ lines-in t w =
     ap₂ {C = List (List ℕ)} (λ x y. x ++ (y ∷ []))
     (ap₂ {C = List (List ℕ)} _++_ (ap (classesIn (layout t)) nc ∙ c) (ap (methodsIn (layout t)) nm ∙ m))
     (main-in t (w .mainShort))
-    ∙ append-assoc cs ms ((3 ∷ codeOf (t .main)) ∷ [])
+    ∙ append-assoc cs ms (mainLine (t .input) (t .main) ∷ [])
   where
     one-class : (i : ℕ) → i < length (t .classes) → classIn (layout t) (suc i) ≡ getD (classLines 1 (t .classes)) i []
     one-class i h =

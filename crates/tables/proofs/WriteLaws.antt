@@ -18,7 +18,7 @@ use Rattle.lineform.specs.Writes.{wrote, putLine, putText}
 use Rattle.lineform.proofs.WriteLaws.{line-end, text-none, text-line, text-text, text-end, text-size, text-more-length, text-append, text-front, text-whole}
 use Rattle.classes.proofs.Zones.{length-layout}
 use Rattle.classes.specs.Machine.{pick}
-use Rattle.tables.specs.Writings.{cap, Capped, After, classIn, longIn, classesIn, methodsIn, mainIn, linesIn, sameBytes, gives, readable, textIn, wroteTable, writingOf}
+use Rattle.tables.specs.Writings.{cap, Capped, After, classIn, longIn, classesIn, methodsIn, mainFirst, mainIn, linesIn, sameBytes, gives, readable, textIn, wroteTable, writingOf}
 use Rattle.tables.specs.declared.read.Reading.{Reading}
 use Rattle.tables.specs.Readings.{zeroTable, answered, readingOf}
 
@@ -103,11 +103,19 @@ pub methods-all : (B out o : List ℕ) (at i m w : ℕ) → i ≤ m → m ≤ i 
 methods-all B out o at i m w h l e = let q : i ≡ m = omega arith in rw q at e
 
 -- ---- main
-pub main-line-is : (B out o : List ℕ) (n at r : ℕ) → After (getD B 25615 0) n → wrote r o ≡ putLine out at (3 ∷ take (25361 + n - 25361) (drop 25361 B)) → wrote r o ≡ putLine out at (mainIn B)
-main-line-is B out o n at r c e =
+module _ (x : ℕ) where
+  pub first-plain : x ≡ 0 → 3 ≡ mainFirst x
+  first-plain e = rw e
+
+  pub first-input : (x ≡ 0 → ⊥) → 4 ≡ mainFirst x
+  first-input e = rw (ne-eqb x 0 e)
+
+pub main-line-is : (B out o : List ℕ) (n f at r : ℕ) → After (getD B 25615 0) n → f ≡ mainFirst (getD B 25360 0)
+    → wrote r o ≡ putLine out at (f ∷ take (25361 + n - 25361) (drop 25361 B)) → wrote r o ≡ putLine out at (mainIn B)
+main-line-is B out o n f at r c ef e =
     let q : 25361 + n - 25361 ≡ n = omega arith in
-    let e3 : wrote r o ≡ putLine out at (3 ∷ take n (drop 25361 B)) = rw q at e in
-    rw (← (c .same)) e3
+    let e3 : wrote r o ≡ putLine out at (f ∷ take n (drop 25361 B)) = rw q at e in
+    rw (← (c .same), ← ef) e3
 
 -- ---- the same bytes
 module _ (s t : List ℕ) (i : ℕ) where
@@ -144,7 +152,7 @@ lines-length B =
     let a = text-append (classesIn B n) (methodsIn B m) in
     let b = ap (λ (l : List ℕ). length l) a ∙ length-append (hexText (classesIn B n)) (hexText (methodsIn B m)) in
     omega
-    (arith, b, text-more-length (classesIn B n ++ methodsIn B m) (3 ∷ longIn B 25360), long-length B 25360, classes-length B n, methods-length B m, cap-small (getD B 11 0) 32, cap-small (getD B 12 0) 64)
+    (arith, b, text-more-length (classesIn B n ++ methodsIn B m) (mainIn B), long-length B 25360, classes-length B n, methods-length B m, cap-small (getD B 11 0) 32, cap-small (getD B 12 0) 64)
 
 module _ (B out o1 : List ℕ) (n m a : ℕ) (cn : Capped (getD B 11 0) 32 n) (cm : Capped (getD B 12 0) 64 m) (e1 : wrote a o1 ≡ putText out 0 (classesIn B n)) where
   pub methods-room : 34015 ≤ length out → a + 511 * m ≤ length o1

@@ -54,8 +54,12 @@ unfoldable pub methodsIn : List ℕ → ℕ → List (List ℕ)
 methodsIn B zero = []
 methodsIn B (suc i) = methodsIn B i ++ ((2 ∷ longIn B (methodsAt + longSize * i)) ∷ [])
 
+-- main's line begins with 3, or with 4 where bytes stand between it and the expression
+abbrev pub mainFirst : ℕ → ℕ
+mainFirst x = pick (eqb x 0) 3 4
+
 abbrev pub mainIn : List ℕ → List ℕ
-mainIn B = 3 ∷ longIn B mainAt
+mainIn B = mainFirst (getD B mainAt 0) ∷ longIn B mainAt
 
 unfoldable pub linesIn : List ℕ → List (List ℕ)
 linesIn B =

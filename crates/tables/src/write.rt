@@ -19,7 +19,7 @@ ghost use lib.ListN.{length};
 ghost use Rattle.cofj.specs.Limits.{classCount, methodCount};
 ghost use Rattle.classes.specs.Figures.{tableSize};
 ghost use Rattle.lineform.specs.Writes.{wrote, putLine, putText};
-ghost use Rattle.tables.specs.Writings.{roomSize, Capped, After, classIn, classesIn, methodsIn, mainIn, linesIn, sameBytes, readable, wroteTable, writingOf};
+ghost use Rattle.tables.specs.Writings.{roomSize, Capped, After, classIn, classesIn, methodsIn, mainFirst, mainIn, linesIn, sameBytes, readable, wroteTable, writingOf};
 
 // how many methods there are at most
 const MOST_METHODS: u8 = 64;
@@ -106,6 +106,16 @@ fn method_lines(t: &[u8], m: u8, out: &mut [u8], at: usize) -> usize
     w
 }
 
+// The first byte of main's line, whose row begins with x: the bytes between it and the expression.
+fn main_first(x: u8) -> u8
+    ensures { λ r. ⌜ r ≡ mainFirst x ⌝ }
+{
+    if x == 0 {
+        return 3;
+    }
+    4
+}
+
 // The line of main, and the place after it.
 fn main_line(t: &[u8], out: &mut [u8], at: usize) -> usize
     requires { ⌜ (length (now t) ≡ tableSize) × (at + 511 ≤ length (now out)) ⌝ }
@@ -113,7 +123,8 @@ fn main_line(t: &[u8], out: &mut [u8], at: usize) -> usize
 {
     let n = after_first(t[MAIN + LAST]);
     let e = MAIN + 1 + n;
-    put_line(3, &t[MAIN + 1..e], out, at)
+    let f = main_first(t[MAIN]);
+    put_line(f, &t[MAIN + 1..e], out, at)
 }
 
 // The candidate text, and its length.

@@ -77,7 +77,7 @@ fn shown(text: &[u8]) -> String {
 fn run_proved(text: &[u8]) -> (Ran, Duration) {
     let (mut report, mut work) = (vec![0; REPORT_LENGTH], vec![0; WORK_LENGTH]);
     let start = now();
-    let answer = baqolluy::trial(text, baqolluy::open(FUEL), &mut report, &mut work);
+    let answer = baqolluy::trial(text, b"", baqolluy::open(FUEL), &mut report, &mut work);
     let taken = now() - start;
     report.truncate(usize::from(answer.length));
     ((answer.refusal, answer.session.fuel, report), taken)

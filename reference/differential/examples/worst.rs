@@ -155,7 +155,7 @@ fn search(every: usize, fuel: u16) -> ExitCode {
 fn proved(text: &[u8], fuel: u16) -> (Ran, Duration) {
     let (mut report, mut work) = (vec![0; REPORT_LENGTH], vec![0; WORK_LENGTH]);
     let start = now();
-    let answer = baqolluy::run(text, baqolluy::open(fuel), &mut report, &mut work);
+    let answer = baqolluy::run(text, b"", baqolluy::open(fuel), &mut report, &mut work);
     let taken = now() - start;
     report.truncate(usize::from(answer.length));
     ((answer.refusal, answer.session.fuel, report), taken)

@@ -66,11 +66,22 @@ impl Bench {
         }
     }
 
-    /// One run in buffers of the given lengths, report and work, filled with junk.
+    /// One run without a second text, in buffers of the given lengths, report and work.
     pub fn run(
         &mut self,
         mode: Mode,
         text: &[u8],
+        session: Session,
+        lengths: (usize, usize),
+    ) -> Result<Ran<'_>, Difference> {
+        self.run_on(mode, (text, b""), session, lengths)
+    }
+
+    /// One run of both texts in buffers of the given lengths, report and work, filled with junk.
+    pub fn run_on(
+        &mut self,
+        mode: Mode,
+        (text, input): (&[u8], &[u8]),
         session: Session,
         (report, work): (usize, usize),
     ) -> Result<Ran<'_>, Difference> {
@@ -84,13 +95,15 @@ impl Bench {
         let (ours, theirs) = (&mut self.proved, &mut self.reference);
         let answer = proved(
             text,
+            input,
             session,
             &mut ours.report[..report],
             &mut ours.work[..work],
         );
-        let expected = calls::run(
+        let expected = calls::run_batch(
             mode,
             text,
+            input,
             reference_session(session),
             &mut theirs.report[..report],
             &mut theirs.work[..work],
@@ -98,22 +111,32 @@ impl Bench {
         let expected = as_answer(expected);
         if answer != expected || self.proved != self.reference {
             let call = format!("{mode:?} {session:?} report {report} work {work}");
-            return Err(self.difference(&call, text, answer, expected));
+            return Err(self.difference(&call, &[text, input].concat(), answer, expected));
         }
         let report = &self.proved.report[..usize::from(answer.length)];
         Ok(Ran { answer, report })
     }
 
-    /// A run in buffers that are long enough, by a random number of bytes too long.
+    /// A run without a second text in buffers that are long enough.
     pub fn run_anyhow(
         &mut self,
         mode: Mode,
         text: &[u8],
         session: Session,
     ) -> Result<Ran<'_>, Difference> {
+        self.run_on_anyhow(mode, (text, b""), session)
+    }
+
+    /// A run of both texts in buffers that are long enough, by a random number of bytes too long.
+    pub fn run_on_anyhow(
+        &mut self,
+        mode: Mode,
+        texts: (&[u8], &[u8]),
+        session: Session,
+    ) -> Result<Ran<'_>, Difference> {
         let report = REPORT_LENGTH + self.random.below(EXTRA + 1);
         let work = WORK_LENGTH + self.random.below(EXTRA + 1);
-        self.run(mode, text, session, (report, work))
+        self.run_on(mode, texts, session, (report, work))
     }
 
     /// The verdict on a text, and a run in each mode with each fuel.
@@ -123,11 +146,21 @@ impl Bench {
         fuels: &[u16],
         tally: &mut Tally,
     ) -> Result<(), Difference> {
+        self.program_on((text, b""), fuels, tally)
+    }
+
+    /// The same with a second text.
+    pub fn program_on(
+        &mut self,
+        texts: (&[u8], &[u8]),
+        fuels: &[u16],
+        tally: &mut Tally,
+    ) -> Result<(), Difference> {
         tally.program();
-        check(text)?;
+        check(texts.0)?;
         for mode in [Mode::Checked, Mode::Trial] {
             for &fuel in fuels {
-                let ran = self.run_anyhow(mode, text, baqolluy::open(fuel))?;
+                let ran = self.run_on_anyhow(mode, texts, baqolluy::open(fuel))?;
                 tally.run(mode, ran.answer.refusal, ran.report);
             }
         }
@@ -191,12 +224,17 @@ pub fn close(session: Session) -> Result<Closing, Difference> {
     ))
 }
 
-/// What `linerun` writes, and the fuel left: a checked run has a verdict line first, a trial run only if it is refused.
-/// Panics where the engines differ.
+/// What `linerun` writes for a text without a second one, and the fuel left.
 pub fn output(mode: Mode, fuel: u16, text: &[u8]) -> (String, u16) {
+    output_on(mode, fuel, text, b"")
+}
+
+/// What `linerun` writes for both texts, and the fuel left: a checked run has a verdict line first, a trial run only if
+/// it is refused. Panics where the engines differ.
+pub fn output_on(mode: Mode, fuel: u16, text: &[u8], input: &[u8]) -> (String, u16) {
     let mut bench = Bench::new(u64::from(fuel));
     let verdict = check(text).unwrap_or_else(|difference| panic!("{difference}"));
-    let ran = bench.run_anyhow(mode, text, baqolluy::open(fuel));
+    let ran = bench.run_on_anyhow(mode, (text, input), baqolluy::open(fuel));
     let ran = ran.unwrap_or_else(|difference| panic!("{difference}"));
     let line = match (ran.answer.refusal, mode) {
         (0, Mode::Checked) => format!("0800{:02X}{:02X}\n", verdict.class, verdict.tag),

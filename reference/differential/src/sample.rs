@@ -2,6 +2,7 @@
 
 use crate::compare::{Bench, Difference};
 use crate::tally::Tally;
+use reference::generator::batch::{self, Batch};
 use reference::generator::random::Random;
 use reference::generator::rings::Rings;
 use reference::generator::{Kind, text};
@@ -47,4 +48,12 @@ pub fn rings(seed: u64, number: u64) -> (Rings, [u16; 2]) {
     let mut random = Random::for_case(seed, number);
     let rings = Rings::draw(&mut random);
     (rings, [random.below(60) as u16, 1_000])
+}
+
+/// Program `number` of a seed's mixture on second texts, and two fuels for it.
+pub fn batch(seed: u64, number: u64) -> (Batch, [u16; 2]) {
+    let mut random = Random::for_case(seed, number);
+    let case = batch::case(&mut random);
+    let all = fuels(&mut random);
+    (case.batch, [case.fuel, all[random.below(all.len())]])
 }

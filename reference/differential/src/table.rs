@@ -12,6 +12,8 @@ const INDEX: usize = 528;
 const METHODS: usize = 8_976;
 const MAIN: usize = 25_360;
 const LONG: usize = 256;
+/// The bytes of the type that stands before an `04` main's expression.
+const INPUT: usize = 2;
 
 /// The bytes of a table that was read.
 pub fn layout(table: &Table) -> Vec<u8> {
@@ -30,7 +32,7 @@ pub fn layout(table: &Table) -> Vec<u8> {
         let index = INDEX + LONG * usize::from(method.owner) + usize::from(method.name);
         bytes[index] = small(number + 1);
         let line = method_bytes(method).expect("a table that was read has its lines");
-        let right = main_bytes(&method.right).expect("and its expressions");
+        let right = main_bytes(None, &method.right).expect("and its expressions");
         // The right expression ends the line, and `main_bytes` has one byte in front of it.
         put_long(
             &mut bytes,
@@ -39,8 +41,9 @@ pub fn layout(table: &Table) -> Vec<u8> {
             line.len() - (right.len() - 1),
         );
     }
-    let line = main_bytes(&table.main).expect("a table that was read has a main");
-    put_long(&mut bytes, MAIN, &line, 0);
+    let line = main_bytes(table.input, &table.main).expect("a table that was read has a main");
+    let ahead = if table.input.is_some() { INPUT } else { 0 };
+    put_long(&mut bytes, MAIN, &line, ahead);
     bytes
 }
 
@@ -69,7 +72,8 @@ fn lines(bytes: &[u8]) -> Option<Vec<u8>> {
     for number in 0..methods {
         push_line(&mut text, &long(bytes, METHODS + LONG * number, 0x02)?);
     }
-    push_line(&mut text, &long(bytes, MAIN, 0x03)?);
+    let first = if bytes[MAIN] == 0 { 0x03 } else { 0x04 };
+    push_line(&mut text, &long(bytes, MAIN, first)?);
     Some(text)
 }
 

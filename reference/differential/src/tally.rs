@@ -5,8 +5,8 @@ use std::fmt;
 
 /// Sorts of report: a value, undetermined, stuck, out of fuel, too deep, too large.
 pub const OUTCOMES: [&str; 6] = ["05", "06", "0701", "0702", "0703", "0704"];
-/// Refusals are numbered up to 13.
-const REFUSALS: usize = 14;
+/// Refusals are numbered up to 15.
+const REFUSALS: usize = 16;
 
 #[derive(Default)]
 struct Counts {

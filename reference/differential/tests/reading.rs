@@ -3,7 +3,7 @@
 use baqolluy::{TABLE_LENGTH, read};
 use differential::table::layout;
 use reference::generator::random::Random;
-use reference::generator::{Kind, text};
+use reference::generator::{Kind, batch, text};
 use reference::reading;
 
 /// Compares both readers on one text.
@@ -52,6 +52,15 @@ fn full_size_programs() {
     agree_on(Kind::Full, 4, 20);
 }
 
+#[test]
+fn programs_with_an_04_main() {
+    for kind in batch::Kind::ALL {
+        for number in 0..1_000 {
+            agree(&batch::draw(kind, &mut Random::for_case(6, number)).text);
+        }
+    }
+}
+
 /// Every prefix of a full-size text, and a character changed at every place of a short one.
 #[test]
 fn every_prefix_and_every_place() {
@@ -60,11 +69,14 @@ fn every_prefix_and_every_place() {
         agree(&full[..end]);
     }
     let short = text(Kind::Typed, &mut Random::for_case(5, 1));
-    for place in 0..short.len() {
-        for character in [b'0', b'4', b'F', b'a', b'G', b'\n', 0, 255] {
-            let mut changed = short.clone();
-            changed[place] = character;
-            agree(&changed);
+    let batch = batch::draw(batch::Kind::Fitting, &mut Random::for_case(5, 2));
+    for short in [short, batch.text] {
+        for place in 0..short.len() {
+            for character in [b'0', b'3', b'4', b'F', b'a', b'G', b'\n', 0, 255] {
+                let mut changed = short.clone();
+                changed[place] = character;
+                agree(&changed);
+            }
         }
     }
 }

@@ -74,7 +74,7 @@ fn bytes_that_stay() {
         for (report_length, work_length) in [(544, 65_536), (900, 70_000), (543, 65_536)] {
             let mut report = vec![0x5A; report_length];
             let mut work = vec![0xA5; work_length];
-            let answer = baqolluy::run(text, open(9), &mut report, &mut work);
+            let answer = baqolluy::run(text, b"", open(9), &mut report, &mut work);
             let wanted = expected(open(9), report_length, work_length, checked);
             assert_eq!(answer.refusal, wanted);
             let (length, zeroed) = if wanted == 0 { (11, 65_536) } else { (0, 0) };
@@ -92,7 +92,7 @@ fn bytes_that_stay() {
 fn very_long_buffers_and_texts() {
     let mut report = vec![0x5A; 65_536 + 5];
     let mut work = vec![0xA5; 2 * 65_536 + 5];
-    let answer = baqolluy::run(A, open(9), &mut report, &mut work);
+    let answer = baqolluy::run(A, b"", open(9), &mut report, &mut work);
     assert_eq!((answer.refusal, answer.length), (0, 11));
     assert!(report[11..].iter().all(|&byte| byte == 0x5A));
     assert!(work[..65_536].iter().all(|&byte| byte == 0));
@@ -102,7 +102,7 @@ fn very_long_buffers_and_texts() {
     assert_eq!(baqolluy::check(&text).refusal, 1);
     assert_eq!(baqolluy::read(&text).refusal, 1);
     for run in [baqolluy::run, baqolluy::trial] {
-        let answer = run(&text, open(9), &mut report, &mut work);
+        let answer = run(&text, b"", open(9), &mut report, &mut work);
         assert_eq!((answer.refusal, answer.session), (1, open(9)));
     }
 }

@@ -8,6 +8,7 @@ use reference::generator::random::Random;
 use reference::generator::{self, Kind};
 use reference::refusals::Refusal;
 use reference::syntax::Expr;
+use reference::workloads;
 use std::thread;
 
 const STACK: usize = 192 * 1024;
@@ -132,7 +133,7 @@ fn assert_ends(text: &[u8], report_start: &str, lines: usize, units: u16) {
         let mut report = vec![0xA5; REPORT_LENGTH];
         let mut work = vec![0xA5; WORK_LENGTH];
         let (lent, worked) = (&mut report[..], &mut work[..]);
-        let answer = in_thread(|| run(text, baqolluy::open(FUEL), lent, worked));
+        let answer = in_thread(|| run(text, b"", baqolluy::open(FUEL), lent, worked));
         let mut other_report = vec![0xA5; REPORT_LENGTH];
         let mut other_work = vec![0xA5; WORK_LENGTH];
         let session = calls::open(FUEL);
@@ -193,5 +194,25 @@ fn full_texts() {
     for number in 0..10 {
         let text = generator::text(Kind::Full, &mut Random::for_case(16, number));
         assert_read_and_written(&text);
+    }
+}
+
+/// Second texts of as many parts as there can be.
+#[test]
+fn full_second_texts() {
+    for row in workloads::batch() {
+        let (text, second) = (&row.text[..], &row.second[..]);
+        let (mut report, mut work) = (vec![0xA5; REPORT_LENGTH], vec![0xA5; WORK_LENGTH]);
+        let (lent, worked) = (&mut report[..], &mut work[..]);
+        let session = baqolluy::open(row.fuel);
+        let answer = in_thread(|| baqolluy::run(text, second, session, lent, worked));
+        let mut other_report = vec![0xA5; REPORT_LENGTH];
+        let mut other_work = vec![0xA5; WORK_LENGTH];
+        let (lent, worked) = (&mut other_report[..], &mut other_work[..]);
+        let session = calls::open(row.fuel);
+        let expected = calls::run_batch(Mode::Checked, text, second, session, lent, worked);
+        assert_eq!(expected.refusal.map_or(0, Refusal::number), answer.refusal);
+        assert_eq!(expected.length, usize::from(answer.length));
+        assert!(report == other_report && work == other_work, "{}", row.name);
     }
 }

@@ -4,7 +4,7 @@
 use baqolluy::{ClassTable, TABLE_LENGTH, Written, read, write};
 use differential::table;
 use reference::generator::random::Random;
-use reference::generator::{Kind, text};
+use reference::generator::{Kind, batch, text};
 
 const BUFFER: usize = 49_567;
 
@@ -27,12 +27,15 @@ fn assert_written(table: &ClassTable, text: &[u8]) {
 
 fn written_back(kind: Kind, seed: u64, count: u64) {
     for number in 0..count {
-        let text = text(kind, &mut Random::for_case(seed, number));
-        let ours = read(&text);
-        assert_eq!(ours.refusal, 0);
-        assert_written(&ours.table, &text);
-        assert_refused(&ours.table, BUFFER - 1, 9);
+        comes_back(&text(kind, &mut Random::for_case(seed, number)));
     }
+}
+
+fn comes_back(text: &[u8]) {
+    let ours = read(text);
+    assert_eq!(ours.refusal, 0);
+    assert_written(&ours.table, text);
+    assert_refused(&ours.table, BUFFER - 1, 9);
 }
 
 #[test]
@@ -44,6 +47,15 @@ fn typed_programs_come_back() {
 fn other_texts_come_back() {
     written_back(Kind::IllTyped, 12, 1_500);
     written_back(Kind::Full, 14, 10);
+}
+
+#[test]
+fn programs_with_an_04_main_come_back() {
+    for kind in [batch::Kind::Fitting, batch::Kind::IllTyped] {
+        for number in 0..1_000 {
+            comes_back(&batch::draw(kind, &mut Random::for_case(16, number)).text);
+        }
+    }
 }
 
 /// A byte or two changed, often one that is not 0, often to a small number.
@@ -68,7 +80,11 @@ fn changed_tables() {
     let (mut accepted, mut refused) = (0, 0);
     for number in 0..8_000 {
         let mut random = Random::for_case(15, number);
-        let before = read(&text(Kind::Plain, &mut random)).table;
+        let text = match random.below(3) {
+            0 => batch::draw(batch::Kind::Fitting, &mut random).text,
+            _ => text(Kind::Plain, &mut random),
+        };
+        let before = read(&text).table;
         let mut table = before;
         change(&mut random, &mut table);
         match table::text(&table.bytes) {

@@ -5,7 +5,8 @@ use super::program::{Method, NONE, Program};
 
 #[derive(Clone, Copy, Debug)]
 pub enum Op {
-    /// `this` is 0, then come the parameters, then `res` if there is one.
+    /// `this` is 0, then come the parameters, then `res` if there is one; in
+    /// main, parameter 0 is 0.
     Local(u8),
     Field(u8),
     /// Field of a local.
@@ -111,8 +112,11 @@ impl Body<'_> {
             }),
             0x42 => {
                 let place = self.byte();
-                let known = self.method.filter(|method| place < method.params);
-                self.local(known.map(|_| place + 1));
+                self.local(match self.method {
+                    Some(method) if place < method.params => Some(place + 1),
+                    None if place == 0 => self.program.input.map(|_| 0),
+                    _ => None,
+                });
             }
             0x43 => self.field(),
             0x44 => self.call(),

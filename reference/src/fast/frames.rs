@@ -10,7 +10,9 @@ pub struct Frames {
     /// Where each class frame has its number.
     pub classes: Vec<usize>,
     pub methods: Vec<Method>,
+    /// Where main's expression is, and where an `04` main has its type.
     pub main: Option<usize>,
+    pub input: Option<usize>,
     pub ordered: bool,
     pub highest_new: u8,
 }
@@ -43,6 +45,12 @@ pub fn frames(lines: &Lines) -> Option<Frames> {
             }
             0x03 => {
                 frames.main = Some(start + 1);
+                cursor.expr()?;
+            }
+            0x04 => {
+                frames.input = Some(start + 1);
+                frames.main = Some(start + 3);
+                cursor.type_()?;
                 cursor.expr()?;
             }
             _ => return None,

@@ -1,5 +1,5 @@
 //! The line form, decoded into one run of bytes: refusal 1. Frames are read
-//! elsewhere.
+//! elsewhere, and so is a second text, which uses the digits only.
 
 use crate::refusals::TEXT_LENGTH;
 use crate::text::MAX_LINE_BYTES;
@@ -52,7 +52,7 @@ fn digits(text: &[u8], bytes: &mut [u8]) -> usize {
     length
 }
 
-fn digit(character: u8) -> Option<u8> {
+pub fn digit(character: u8) -> Option<u8> {
     match character {
         b'0'..=b'9' => Some(character - b'0'),
         b'A'..=b'F' => Some(character - b'A' + 10),
@@ -61,7 +61,7 @@ fn digit(character: u8) -> Option<u8> {
 }
 
 /// Four bytes from eight digits at once, or nothing if one is no digit.
-fn decode(eight: [u8; 8]) -> Option<[u8; 4]> {
+pub fn decode(eight: [u8; 8]) -> Option<[u8; 4]> {
     const ONES: u64 = 0x0101_0101_0101_0101;
     let text = u64::from_le_bytes(eight);
     // Letters have bit 6, decimal digits have not.

@@ -10,9 +10,13 @@
 //! node for each `new` it evaluates.
 
 mod arena;
+mod batch;
 mod code;
+mod colours;
 mod frames;
+mod groups;
 mod lines;
+mod parts;
 mod program;
 mod reading;
 mod report;
@@ -24,6 +28,7 @@ mod typing;
 use crate::calls::{Answer, Mode, Session, refused, state_refusal};
 use crate::refusals::{Refusal, WORK_LENGTH};
 use crate::syntax::Type;
+use arena::{Arena, Id};
 use program::Program;
 
 /// Whether a text passes refusals 1 to 5.
@@ -36,7 +41,7 @@ pub fn check(text: &[u8]) -> Result<Type, Refusal> {
     typing::check(&reading::read(text)?)
 }
 
-/// Runs a text, as `calls::run` does, work buffer and all.
+/// Runs a text without a second one.
 pub fn run(
     mode: Mode,
     text: &[u8],
@@ -44,15 +49,31 @@ pub fn run(
     report_buffer: &mut [u8],
     work: &mut [u8],
 ) -> Answer {
+    run_batch(mode, text, &[], session, report_buffer, work)
+}
+
+/// Runs a text on a second one, as `calls::run_batch` does, work buffer and all.
+pub fn run_batch(
+    mode: Mode,
+    text: &[u8],
+    second: &[u8],
+    session: Session,
+    report_buffer: &mut [u8],
+    work: &mut [u8],
+) -> Answer {
     let admitted = match state_refusal(session, report_buffer, work) {
         Some(refusal) => Err(refusal),
-        None => admitted(mode, text),
+        None => admitted(mode, text, second),
     };
-    let program = match admitted {
-        Ok(program) => program,
+    let Admitted {
+        program,
+        arena,
+        input,
+    } = match admitted {
+        Ok(admitted) => admitted,
         Err(refusal) => return refused(refusal, session),
     };
-    let (outcome, arena, fuel) = running::run(&program, session.fuel);
+    let (outcome, arena, fuel) = running::run(&program, arena, input, session.fuel);
     let length = report::write(outcome, &arena, report_buffer);
     work[..WORK_LENGTH].fill(0);
     Answer {
@@ -62,10 +83,23 @@ pub fn run(
     }
 }
 
-fn admitted(mode: Mode, text: &[u8]) -> Result<Program, Refusal> {
+/// A program that may be run, and its input among the values.
+struct Admitted {
+    program: Program,
+    arena: Arena,
+    input: Option<Id>,
+}
+
+fn admitted(mode: Mode, text: &[u8], second: &[u8]) -> Result<Admitted, Refusal> {
     let program = reading::read(text)?;
     if mode == Mode::Checked {
         typing::check(&program)?;
     }
-    Ok(program)
+    let mut arena = Arena::new();
+    let input = batch::input(&program, second, &mut arena)?;
+    Ok(Admitted {
+        program,
+        arena,
+        input,
+    })
 }

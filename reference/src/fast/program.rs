@@ -35,10 +35,20 @@ pub struct Program {
     pub width: usize,
     /// The method of a class, its own or the nearest above it, by column.
     pub found: Vec<u8>,
+    /// The place of the type of an `04` main's parameter.
+    pub input: Option<usize>,
     pub main: usize,
 }
 
 impl Program {
+    /// Whether there is a class of this number.
+    #[inline]
+    pub fn knows(&self, class: u8) -> bool {
+        self.fits
+            .get(usize::from(class))
+            .is_some_and(|&fits| fits != 0)
+    }
+
     /// The type written at a place.
     #[inline]
     pub fn type_at(&self, place: usize) -> Type {

@@ -22,12 +22,14 @@ pub fn read(text: &[u8]) -> Result<Program, Refusal> {
         columns: [NONE; 256],
         width: 0,
         found: Vec::new(),
+        input: frames.input,
         main,
     };
     let highest = frames.classes.len() as u8;
     let in_rule = frames.highest_new <= highest
         && classes_in_rule(&mut program, &frames.classes)
         && methods_in_rule(&program, highest)
+        && input_in_rule(&program, highest)
         && own_methods(&mut program);
     if !in_rule {
         return Err(Refusal::Classes);
@@ -80,6 +82,14 @@ fn methods_in_rule(program: &Program, highest: u8) -> bool {
             && params
                 .into_iter()
                 .all(|place| closed(program.type_at(types + 5 + 2 * place), highest))
+    })
+}
+
+/// Rule 4 for the type of an `04` main.
+fn input_in_rule(program: &Program, highest: u8) -> bool {
+    program.input.is_none_or(|place| {
+        let type_ = program.type_at(place);
+        type_.class <= highest && type_.tag == PLUS
     })
 }
 

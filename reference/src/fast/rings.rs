@@ -5,13 +5,21 @@ use super::arena::{Arena, Id, Node, UNDETERMINED, hash, mark};
 use crate::values::MAX_OBJECTS;
 
 /// A field that leads to the node of the ring with the number that is added.
-const INSIDE: u32 = 1 << 31;
+pub const INSIDE: u32 = 1 << 31;
 
 /// Nodes of a ring under construction, the root first. Fields lead inside or
 /// to ids of the arena.
-struct Ring {
-    nodes: [(u8, u8, [u32; 4]); MAX_OBJECTS],
-    len: usize,
+pub struct Ring {
+    /// Class, count and fields.
+    pub nodes: [(u8, u8, [u32; 4]); MAX_OBJECTS],
+    pub len: usize,
+}
+
+impl Ring {
+    pub const EMPTY: Ring = Ring {
+        nodes: [(0, 0, [UNDETERMINED; 4]); MAX_OBJECTS],
+        len: 0,
+    };
 }
 
 impl Arena {
@@ -43,10 +51,8 @@ impl Arena {
     fn opened(&mut self, root: Id, place: usize) -> Ring {
         let base = self.next_stamp();
         let mut ids = [root; MAX_OBJECTS];
-        let mut ring = Ring {
-            nodes: [(0, 0, [UNDETERMINED; 4]); MAX_OBJECTS],
-            len: 1,
-        };
+        let mut ring = Ring::EMPTY;
+        ring.len = 1;
         self.node_mut(root).stamp = base;
         let mut next = 0;
         while next < ring.len {
@@ -139,7 +145,7 @@ impl Arena {
     }
 
     /// Adds a ring that the arena does not have, and gives its root.
-    fn added(&mut self, ring: &Ring) -> Id {
+    pub fn added(&mut self, ring: &Ring) -> Id {
         let first = self.nodes.len() as Id;
         let mut open = 0;
         for (place, &(class, count, mut fields)) in ring.nodes[..ring.len].iter().enumerate() {

@@ -6,13 +6,21 @@ use super::code::{Code, Op, Side};
 use super::program::{NONE, Program};
 use crate::running::{MAX_DEPTH, Stop};
 
-/// Runs main: its value or why there is none, the values, the fuel left.
-pub fn run(program: &Program, fuel: u16) -> (Result<Id, Stop>, Arena, u16) {
+/// Runs main on its input, if it has one, which is in the arena: its value or
+/// why there is none, the values, the fuel left.
+pub fn run(
+    program: &Program,
+    arena: Arena,
+    input: Option<Id>,
+    fuel: u16,
+) -> (Result<Id, Stop>, Arena, u16) {
+    let mut stack = Vec::with_capacity(256);
+    stack.extend(input);
     let mut run = Run {
         program,
         code: Code::new(program),
-        arena: Arena::new(),
-        stack: Vec::with_capacity(256),
+        arena,
+        stack,
         callers: [START; MAX_DEPTH],
         depth: 0,
         keys: [0; MAX_DEPTH],

@@ -15,8 +15,8 @@ pub fn check(program: &Program) -> Result<Type, Refusal> {
         next: program.main,
         this: None,
         res: None,
-        params: 0,
-        param_types: 0,
+        params: u8::from(program.input.is_some()),
+        param_types: program.input.unwrap_or(0),
         result: 0,
     };
     main.type_of().ok_or(Refusal::Main)

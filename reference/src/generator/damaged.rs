@@ -10,6 +10,11 @@ use crate::text::{self, push_line};
 use crate::writing;
 
 pub fn text(random: &mut Random) -> Vec<u8> {
+    text_like(random, typed::table)
+}
+
+/// The same, made of tables from this source.
+pub fn text_like(random: &mut Random, draw: fn(&mut Random) -> Table) -> Vec<u8> {
     let all = [
         Refusal::LineForm,
         Refusal::Frame,
@@ -19,7 +24,7 @@ pub fn text(random: &mut Random) -> Vec<u8> {
     ];
     let wanted = all[random.below(all.len())];
     loop {
-        let table = typed::table(random);
+        let table = draw(random);
         let damaged = match wanted {
             Refusal::LineForm => characters(random, &table),
             Refusal::Frame => frames(random, &table),

@@ -28,6 +28,7 @@ pub fn table(random: &mut Random) -> Table {
     Table {
         classes,
         methods,
+        input: None,
         main,
     }
 }

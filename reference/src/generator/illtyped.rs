@@ -11,13 +11,18 @@ use crate::writing;
 
 /// A text that earns 6 or 7, either as often as the other.
 pub fn text(random: &mut Random) -> Vec<u8> {
+    text_like(random, typed::table)
+}
+
+/// The same, made of tables from this source.
+pub fn text_like(random: &mut Random, draw: fn(&mut Random) -> Table) -> Vec<u8> {
     let wanted = if random.chance(50) {
         Refusal::Method
     } else {
         Refusal::Main
     };
     loop {
-        let mut table = typed::table(random);
+        let mut table = draw(random);
         for _ in 0..20 {
             change(random, &mut table, wanted);
             let Some(text) = writing::encode(&table) else {

@@ -36,6 +36,7 @@ fn draft(random: &mut Random) -> Table {
             fields: vec![ANY; MAX_FIELDS],
         }],
         methods: Vec::new(),
+        input: None,
         main: Expr::New(0, Vec::new()),
     };
     let mut mains = Vec::new();

@@ -1,7 +1,8 @@
 //! Seeded programs and texts for comparing engines: the kinds, and cases of a
 //! mode, a fuel and a text. What the cases give is counted in `stats.rs` and
-//! written down in `rows.rs`.
+//! written down in `rows.rs`; runs on a second text are drawn in `batch`.
 
+pub mod batch;
 mod damaged;
 mod exprs;
 mod full;
@@ -82,7 +83,7 @@ fn wished(random: &mut Random) -> Table {
     }
     for _ in 0..40 {
         let table = typed::table(random);
-        let (outcome, left, tally) = running::run_with_tally(&table, 1_000);
+        let (outcome, left, tally) = running::run_with_tally(&table, None, 1_000);
         let met = match &outcome {
             _ if wish < 12 => true,
             _ if wish < 20 => tally.open > 0,
@@ -131,11 +132,19 @@ fn fuel_for(text: &[u8], random: &mut Random) -> u16 {
     let Ok(table) = reading::read(text) else {
         return 1_000;
     };
+    let spent = || {
+        let (_, left) = running::run(&table, 1_000);
+        usize::from(1_000 - left)
+    };
+    fuel_near(spent, random)
+}
+
+/// The same for a run that spends so much.
+fn fuel_near(spent: impl FnOnce() -> usize, random: &mut Random) -> u16 {
     match random.below(100) {
         0..65 => 1_000,
         65..90 => {
-            let (_, left) = running::run(&table, 1_000);
-            let spent = usize::from(1_000 - left);
+            let spent = spent();
             random.between(spent.saturating_sub(1), spent + 1) as u16
         }
         _ => random.below(30) as u16,

@@ -12,19 +12,21 @@ use crate::refusals::{REPORT_LENGTH, WORK_LENGTH};
 use crate::syntax::{Expr, Table};
 use crate::writing;
 
-const BARE: u8 = 6;
-const HOLDER: u8 = 7;
-const PAIR: u8 = 8;
+pub(super) const BARE: u8 = 6;
+pub(super) const HOLDER: u8 = 7;
+pub(super) const PAIR: u8 = 8;
 const BOX: u8 = 9;
 
 const AROUND: u8 = 0xF0;
-const MIX: u8 = 0xF1;
+pub(super) const MIX: u8 = 0xF1;
 const UNDETERMINED: u8 = 0xF2;
 
-/// A program, and the parts that its main is over.
+/// A program, the parts that its main is over, and the graph of the first part
+/// with the object that it starts at.
 pub struct Rings {
-    program: Program,
-    parts: [Expr; 3],
+    pub(super) program: Program,
+    pub(super) parts: [Expr; 3],
+    pub(super) graph: (Vec<Node>, usize),
     main: Expr,
 }
 
@@ -92,9 +94,11 @@ fn attempt(random: &mut Random) -> Rings {
         1 => new(PAIR, [new(PAIR, [one, two]), three]),
         _ => call(MIX, new(HOLDER, []), [one, two, three]),
     };
+    let [graph, ..] = graphs;
     Rings {
         program: p,
         parts,
+        graph: (graph, starts[0]),
         main,
     }
 }

@@ -45,7 +45,7 @@ fn names(case: &Case) -> Vec<String> {
     {
         return refused(refusal);
     }
-    let (outcome, _, tally) = running::run_with_tally(&table, case.fuel);
+    let (outcome, _, tally) = running::run_with_tally(&table, None, case.fuel);
     let mut names = vec![verdict(0), format!("{mode}: {}", outcome_name(&outcome))];
     if tally.met > 0 {
         names.push(format!("{mode}: run, met a call again"));

@@ -26,6 +26,7 @@ fn draft(random: &mut Random) -> Option<Table> {
     let mut table = Table {
         classes: signatures::classes(random),
         methods: Vec::new(),
+        input: None,
         main: Expr::This,
     };
     let mut kinds = Vec::new();

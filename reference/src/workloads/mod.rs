@@ -3,8 +3,10 @@
 //! `tests/workloads.rs` sees that each ends as it says.
 //!
 //! Most rows come twice: light, where the work is done once, and heavy, where
-//! it is done again and again, so that evaluation outweighs reading.
+//! it is done again and again, so that evaluation outweighs reading. The last
+//! rows have a second text.
 
+mod batch;
 mod examples;
 mod laying;
 mod lists;
@@ -17,6 +19,7 @@ mod rings;
 use crate::calls::Mode;
 use crate::generator::random::Random;
 use crate::generator::{self, Kind};
+pub use batch::batch;
 pub use lists::{list_built, list_walked};
 use over_rings::{closing_each, list_of_rings, pair_of_rings, ring_twice};
 use parts::{Parts, Shape, Word};
@@ -37,6 +40,8 @@ pub enum Ending {
     OutOfFuel,
     /// No run: the text is accepted.
     Accepted,
+    /// No run: refused with this number.
+    Refused(u8),
 }
 
 #[derive(Clone, Debug)]
@@ -44,6 +49,8 @@ pub struct Workload {
     pub name: String,
     pub call: Call,
     pub text: Vec<u8>,
+    /// Empty in all rows but those of `batch`.
+    pub second: Vec<u8>,
     pub fuel: u16,
     /// Units the run spends.
     pub spends: usize,
@@ -63,6 +70,7 @@ impl Workload {
             name,
             call: Call::Run(Mode::Checked),
             text,
+            second: Vec::new(),
             fuel: u16::MAX,
             spends,
             ending: Ending::Objects(objects),
@@ -94,6 +102,7 @@ pub fn all() -> Vec<Workload> {
     all.extend(examples::all());
     all.extend(nested::all());
     all.extend(equal_objects());
+    all.extend(batch());
     all
 }
 
@@ -157,6 +166,7 @@ fn small_and_full() -> Vec<Workload> {
         name: name.to_string(),
         call,
         text: text.to_vec(),
+        second: Vec::new(),
         fuel: 0,
         spends: 0,
         ending,

@@ -93,6 +93,7 @@ impl Parts {
             name,
             call: Call::Run(Mode::Checked),
             text: self.text().expect("parts with few methods"),
+            second: Vec::new(),
             fuel,
             spends: usize::from(fuel),
             ending: Ending::OutOfFuel,

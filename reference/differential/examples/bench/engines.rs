@@ -53,6 +53,7 @@ impl Engine {
     /// Does what the workload asks, once.
     pub fn call(self, workload: &Workload, buffers: &mut Buffers) -> Answer {
         let text = &workload.text;
+        let input = &workload.second;
         let session = calls::open(workload.fuel);
         let Buffers { report, work } = buffers;
         match (self, workload.call) {
@@ -65,7 +66,7 @@ impl Engine {
                 }
             }
             (Engine::Proved, Call::Run(mode)) => {
-                let answer = proved::run(mode, text, workload.fuel, report, work);
+                let answer = proved::run(mode, text, input, workload.fuel, report, work);
                 Answer {
                     refusal: answer.refusal,
                     main: None,
@@ -75,9 +76,11 @@ impl Engine {
             }
             (Engine::Fast, Call::Check) => verdict(fast::check(text)),
             (Engine::Simple, Call::Check) => verdict(calls::check(text)),
-            (Engine::Fast, Call::Run(mode)) => answer(fast::run(mode, text, session, report, work)),
+            (Engine::Fast, Call::Run(mode)) => {
+                answer(fast::run_batch(mode, text, input, session, report, work))
+            }
             (Engine::Simple, Call::Run(mode)) => {
-                answer(calls::run(mode, text, session, report, work))
+                answer(calls::run_batch(mode, text, input, session, report, work))
             }
         }
     }

@@ -10,7 +10,7 @@ check-spec =
     (tie.spec
     (λ c κs. search needs)
     (λ c. search laws.check-six)
-    (λ c. search needs)
+    (λ c κs. search needs)
     (λ c κs. search needs)
     (λ c. search needs)
     (λ c. search needs)

@@ -5,4 +5,5 @@ use Rattle.checker.proofs.scope.param_var.Tie as tie
 use Rattle.checker.proofs.TypeLaws as laws
 
 pub param-var-spec : {M : Type 1} → statement M
-param-var-spec = tie.close (tie.spec (λ c. search needs) (λ c κs. search needs) (λ c κs. search needs) (λ c. search laws.param-body))
+param-var-spec =
+    tie.close (tie.spec (λ c κs. search needs) (λ c. search laws.param-main) (λ c κs. search needs) (λ c κs. search needs) (λ c. search laws.param-body))

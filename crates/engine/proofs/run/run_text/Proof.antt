@@ -17,10 +17,10 @@ returns-2 : tie.Need-returns-2
 returns-2 c = search laws.run-unread
 
 check-and-run-requires : tie.Need-check-and-run-requires
-check-and-run-requires c κs = (search states.lent-report, search states.lent-work)
+check-and-run-requires c κs = (search laws.some-table, search states.lent-report, search states.lent-work)
 
-run-table-requires : tie.Need-run-table-requires
-run-table-requires c κs = (search states.lent-report, search states.lent-work)
+feed-and-run-requires : tie.Need-feed-and-run-requires
+feed-and-run-requires c κs = (search laws.some-table, search states.lent-report, search states.lent-work)
 
 returns-3 : tie.Need-returns-3
 returns-3 c = search laws.run-checked
@@ -41,7 +41,7 @@ run-text-spec =
     (λ c. search needs)
     check-and-run-requires
     (λ c. search needs)
-    run-table-requires
+    feed-and-run-requires
     (λ c. search needs)
     (λ c. search needs)
     returns-3

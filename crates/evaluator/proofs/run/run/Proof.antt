@@ -1,17 +1,17 @@
--- Main's run: block 0 is laid, no call is open, and main is evaluated at block 1.
+-- Main's run: the blocks are laid, no call is open, and main is evaluated at its block.
 use borrow.Author.Needs.{needs}
 use Rattle.evaluator.proofs.run.run.Statement.{statement}
 use Rattle.evaluator.proofs.run.run.Tie as tie
 use Rattle.evaluator.proofs.RunLaws as laws
 
 eval-requires : tie.Need-eval-requires
-eval-requires c κs = search (laws.main-runnable, laws.begins-full)
+eval-requires c κs = search laws.main-runnable
 
 cast-out-of-2 : tie.Need-cast-out-of-2
-cast-out-of-2 c = search (laws.fuel-fits, laws.begins-fuel)
+cast-out-of-2 c = search laws.fuel-fits
 
 returns : tie.Need-returns
-returns c = search (laws.main-runs, laws.begins-fuel)
+returns c = search laws.main-runs
 
 pub run-spec : {M : Type 1} → statement M
 run-spec =

@@ -17,7 +17,10 @@ returns-4 : tie.Need-returns-4
 returns-4 c = search laws.frame-main
 
 returns-5 : tie.Need-returns-5
-returns-5 c = search laws.frame-unknown
+returns-5 c = search laws.frame-input
+
+returns-6 : tie.Need-returns-6
+returns-6 c = search laws.frame-unknown
 
 pub frame-kind-spec : {M : Type 1} → statement M
 frame-kind-spec =
@@ -33,4 +36,6 @@ frame-kind-spec =
     returns-3
     (λ c κs. search needs)
     returns-4
-    returns-5)
+    (λ c κs. search needs)
+    returns-5
+    returns-6)

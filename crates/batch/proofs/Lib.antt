@@ -1,0 +1,12 @@
+pub mod ReadFields
+pub mod ReadLine
+pub mod PartLines
+pub mod ReadLines
+pub mod ReadText
+pub mod Reaches
+pub mod Shades
+pub mod Listings
+pub mod Colourings
+pub mod Quotients
+pub mod Judges
+pub mod Gifts

@@ -1,0 +1,9 @@
+pub mod Figures
+pub mod Layout
+pub mod Reading
+pub mod Reaching
+pub mod Merging
+pub mod Colouring
+pub mod Laying
+pub mod Judging
+pub mod Inputs
