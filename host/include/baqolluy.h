@@ -1,7 +1,7 @@
 /* The proved engine of the line language, for C99 and C++. Link target/staticlib/libengine.a.
  * It declares the calls and their answers; what a text, a report and a refusal are is said in the README and in docs/.
  * host/src/lib.rs has the same declarations for Rust.
- * A call needs at most 192 KiB of stack: give a thread that calls no less.
+ * A call needs at most 224 KiB of stack: give a thread that calls no less.
  * What is lent to one call must not overlap: both texts, report and work are places in memory apart. */
 #ifndef BAQOLLUY_H
 #define BAQOLLUY_H
@@ -15,10 +15,14 @@ extern "C" {
 #endif
 
 #define LINE_TEXT_LENGTH 49567   /* longest text, and least length of a buffer to write one in */
-#define LINE_INPUT_LENGTH 4335   /* longest second text of a run; a longer one is no list of parts */
-#define LINE_REPORT_LENGTH 544   /* least length of a report buffer */
-#define LINE_WORK_LENGTH 65536   /* least length of a work buffer, and what a run leaves zeroed of it */
+#define LINE_INPUT_LENGTH 8382   /* longest second text of a run; a longer one is no list of parts */
+#define LINE_REPORT_LENGTH 1056  /* least length of a report buffer */
+#define LINE_WORK_LENGTH 163840  /* least length of a work buffer, and what a run leaves zeroed of it */
 #define LINE_TABLE_LENGTH 25616  /* the bytes of a class table: docs/TABLE.md */
+
+/* So many characters of what line_show is given decide its answer. */
+#define LINE_SHOWN_LENGTH (LINE_TEXT_LENGTH + LINE_INPUT_LENGTH + 1)
+#define LINE_VERDICT_LENGTH 9 /* longest verdict line, its LF included */
 
 /* The number in an answer's `refusal`. A refused call writes nothing in what it was lent. */
 enum line_refusal {
@@ -36,7 +40,7 @@ enum line_refusal {
     LINE_SHORT_REPORT = 12,  /* a report buffer under LINE_REPORT_LENGTH */
     LINE_SHORT_WORK = 13,    /* a work buffer under LINE_WORK_LENGTH */
     LINE_BAD_INPUT = 14,     /* the second text: none where main needs one, one where main takes none, or no list of parts */
-    LINE_UNFIT_INPUT = 15    /* parts that do not fit the places that hold them, or more than 32 distinct ones */
+    LINE_UNFIT_INPUT = 15    /* parts or numbers that do not fit the places that hold them, or more than 32 distinct parts */
 };
 
 typedef struct line_session {
@@ -66,6 +70,13 @@ typedef struct line_written {
     uint16_t length; /* of the text; 0 if refused */
 } line_written;
 
+typedef struct line_shown {
+    uint8_t refusal;
+    uint8_t verdict_length;               /* 0 if refused */
+    uint8_t verdict[LINE_VERDICT_LENGTH]; /* unused bytes are 0 */
+    uint16_t length;                      /* of the report; 0 if refused, or if the texts are */
+} line_shown;
+
 typedef struct line_table {
     uint8_t bytes[LINE_TABLE_LENGTH];
 } line_table;
@@ -91,6 +102,8 @@ LINE_ASSERT(sizeof(line_closing) == 6 && offsetof(line_closing, refusal) == 0 &&
 LINE_ASSERT(sizeof(line_verdict) == 3 && offsetof(line_verdict, refusal) == 0 &&
             offsetof(line_verdict, class_number) == 1 && offsetof(line_verdict, tag) == 2)
 LINE_ASSERT(sizeof(line_written) == 4 && offsetof(line_written, refusal) == 0 && offsetof(line_written, length) == 2)
+LINE_ASSERT(sizeof(line_shown) == 14 && offsetof(line_shown, refusal) == 0 && offsetof(line_shown, verdict_length) == 1 &&
+            offsetof(line_shown, verdict) == 2 && offsetof(line_shown, length) == 12)
 LINE_ASSERT(sizeof(line_table) == LINE_TABLE_LENGTH)
 LINE_ASSERT(sizeof(line_reading) == 1 + LINE_TABLE_LENGTH && offsetof(line_reading, refusal) == 0 &&
             offsetof(line_reading, table) == 1)
@@ -120,6 +133,12 @@ line_answer line_run(const uint8_t *text, size_t text_length, const uint8_t *inp
 /* The same without the check of types. Refused: 11, 12, 13, then 1 to 5, 14, 15. */
 line_answer line_trial(const uint8_t *text, size_t text_length, const uint8_t *input, size_t input_length,
                        line_session session, uint8_t *report, size_t report_length, uint8_t *work, size_t work_length);
+
+/* What the program `linerun` writes for an input: the verdict line by value and, after `0800`, the report of a checked run
+ * with fuel 1,000 at the front of the buffer. The second text is all that follows the first line beginning `04`.
+ * Refused: 12, 13. What the texts are refused for stands in the verdict line; then nothing is written. */
+line_shown line_show(const uint8_t *input, size_t input_length, uint8_t *report, size_t report_length, uint8_t *work,
+                     size_t work_length);
 
 #ifdef __cplusplus
 }

@@ -1,27 +1,33 @@
 //! The proved engine of the line language as safe Rust calls: read and write a class table, check a text, open and
-//! close a session, run a text checked or on trial.
+//! close a session, run a text checked or on trial, and show what the program `linerun` writes (src/bin/linerun.rs).
 //!
 //! What each call answers is proved in crates/engine; here slices and structs only pass across. Nothing is read from
 //! files, printed or kept: a session is a value that goes in and comes back.
 //!
-//! A call needs at most 192 KiB of stack: give a thread that calls no less.
+//! A call needs at most 224 KiB of stack: give a thread that calls no less.
 //!
 //! Every answer has a `refusal`, 0 when the call was accepted. A refused call writes nothing in what it was lent.
 //! The proofs assume that what is lent to one call does not overlap; here the borrow checker sees to it.
 //!
-//! Nothing checks these declarations against the Rattle source: host/include/baqolluy.h has the same, for C. Sizes and
-//! places of the structs are asserted in both.
+//! Nothing checks these declarations against the Rattle source: host/include/baqolluy.h has the same, for C. What the
+//! calls answer with is in `answers.rs`.
 
-use std::mem::{offset_of, size_of};
+mod answers;
+
+pub use answers::{Answer, ClassTable, Closing, Reading, Session, Shown, Verdict, Written};
 
 /// Longest text, and the least length of a buffer to write one in.
 pub const TEXT_LENGTH: usize = 49_567;
 /// Longest second text of a run; a longer one is no list of parts.
-pub const INPUT_LENGTH: usize = 4_335;
+pub const INPUT_LENGTH: usize = 8_382;
 /// Least length of a report buffer.
-pub const REPORT_LENGTH: usize = 544;
+pub const REPORT_LENGTH: usize = 1_056;
 /// Least length of a work buffer, and how much of it a run leaves zeroed.
-pub const WORK_LENGTH: usize = 65_536;
+pub const WORK_LENGTH: usize = 163_840;
+/// So many characters of what [`show`] is given decide its answer: both texts at their longest and one more.
+pub const SHOWN_LENGTH: usize = TEXT_LENGTH + INPUT_LENGTH + 1;
+/// Longest verdict line, its LF included.
+pub const VERDICT_LENGTH: usize = 9;
 /// The bytes of a class table, laid out as docs/TABLE.md says.
 pub const TABLE_LENGTH: usize = 25_616;
 
@@ -49,89 +55,16 @@ pub mod refusal {
     pub const TEXT_BUFFER: u8 = 9;
     /// The session is closed.
     pub const CLOSED: u8 = 11;
-    /// A report buffer under 544 bytes.
+    /// A report buffer under 1,056 bytes.
     pub const REPORT_BUFFER: u8 = 12;
-    /// A work buffer under 65,536 bytes.
+    /// A work buffer under 163,840 bytes.
     pub const WORK_BUFFER: u8 = 13;
     /// The second text: none where main needs one, one where main takes none, or no list of parts of the program's
     /// classes.
     pub const INPUT: u8 = 14;
-    /// Parts of the second text that do not fit the places that hold them, or more than 32 distinct ones.
+    /// Parts or numbers of the second text that do not fit the places that hold them, or more than 32 distinct parts.
     pub const INPUT_FIT: u8 = 15;
 }
-
-/// A session: whether it is open, and the fuel that is left.
-#[repr(C)]
-#[derive(Clone, Copy, Debug, PartialEq, Eq)]
-pub struct Session {
-    pub active: bool,
-    pub fuel: u16,
-}
-
-/// What a run answers: the session after it, and the length of its report.
-#[repr(C)]
-#[derive(Clone, Copy, Debug, PartialEq, Eq)]
-pub struct Answer {
-    pub refusal: u8,
-    pub session: Session,
-    pub length: u16,
-}
-
-/// What closing answers.
-#[repr(C)]
-#[derive(Clone, Copy, Debug, PartialEq, Eq)]
-pub struct Closing {
-    pub refusal: u8,
-    pub session: Session,
-}
-
-/// What a check answers: the class and the tag of main, both 0 if refused.
-#[repr(C)]
-#[derive(Clone, Copy, Debug, PartialEq, Eq)]
-pub struct Verdict {
-    pub refusal: u8,
-    pub class: u8,
-    pub tag: u8,
-}
-
-/// What writing answers: the length of the text, 0 if refused.
-#[repr(C)]
-#[derive(Clone, Copy, Debug, PartialEq, Eq)]
-pub struct Written {
-    pub refusal: u8,
-    pub length: u16,
-}
-
-/// A class table.
-#[repr(C)]
-#[derive(Clone, Copy, PartialEq, Eq)]
-pub struct ClassTable {
-    pub bytes: [u8; TABLE_LENGTH],
-}
-
-/// What reading answers: the table, all zeros if refused.
-#[repr(C)]
-pub struct Reading {
-    pub refusal: u8,
-    pub table: ClassTable,
-}
-
-// Sizes and places as the library has them.
-const _: () = {
-    assert!(size_of::<Session>() == 4);
-    assert!(offset_of!(Session, active) == 0 && offset_of!(Session, fuel) == 2);
-    assert!(size_of::<Answer>() == 8 && offset_of!(Answer, refusal) == 0);
-    assert!(offset_of!(Answer, session) == 2 && offset_of!(Answer, length) == 6);
-    assert!(size_of::<Closing>() == 6);
-    assert!(offset_of!(Closing, refusal) == 0 && offset_of!(Closing, session) == 2);
-    assert!(size_of::<Verdict>() == 3 && offset_of!(Verdict, refusal) == 0);
-    assert!(offset_of!(Verdict, class) == 1 && offset_of!(Verdict, tag) == 2);
-    assert!(size_of::<Written>() == 4);
-    assert!(offset_of!(Written, refusal) == 0 && offset_of!(Written, length) == 2);
-    assert!(size_of::<ClassTable>() == TABLE_LENGTH);
-    assert!(size_of::<Reading>() == 1 + TABLE_LENGTH);
-    assert!(offset_of!(Reading, refusal) == 0 && offset_of!(Reading, table) == 1);
-};
 
 unsafe extern "C" {
     safe fn line_open(fuel: u16) -> Session;
@@ -161,6 +94,14 @@ unsafe extern "C" {
         work: *mut u8,
         work_length: usize,
     ) -> Answer;
+    fn line_show(
+        input: *const u8,
+        input_length: usize,
+        report: *mut u8,
+        report_length: usize,
+        work: *mut u8,
+        work_length: usize,
+    ) -> Shown;
 }
 
 /// Opens a session with this fuel. It is never refused.
@@ -192,15 +133,15 @@ pub fn check(text: &[u8]) -> Verdict {
     unsafe { line_check(text.as_ptr(), text.len()) }
 }
 
-/// Runs a text whose types are checked first. Refused with 11 if the session is closed, 12 if `report` has under 544
-/// bytes, 13 if `work` has under 65,536, in this order; then with the lowest of 1 to 7 that the text earns; then with 14
+/// Runs a text whose types are checked first. Refused with 11 if the session is closed, 12 if `report` has under 1,056
+/// bytes, 13 if `work` has under 163,840, in this order; then with the lowest of 1 to 7 that the text earns; then with 14
 /// or 15 for the second text.
 ///
 /// The second text, `input`, lists the parts of the value that a main `04` is given, one line each; a main `03` takes
 /// none. An empty one counts as none.
 ///
 /// A refused run gives back the same session and length 0, and writes nothing. Any other writes its report at the
-/// front of `report`, zeroes the first 65,536 bytes of `work`, leaves the bytes after both, and gives the session back
+/// front of `report`, zeroes the first 163,840 bytes of `work`, leaves the bytes after both, and gives the session back
 /// with the fuel that is left.
 pub fn run(
     text: &[u8],
@@ -241,6 +182,26 @@ pub fn trial(
             input.as_ptr(),
             input.len(),
             session,
+            report.as_mut_ptr(),
+            report.len(),
+            work.as_mut_ptr(),
+            work.len(),
+        )
+    }
+}
+
+/// What `linerun` writes for an input: the verdict line by value, and after `0800` the report of a checked run with fuel
+/// 1,000 at the front of `report`. The two texts are cut here: the second is all that follows the first line beginning
+/// `04`. No more than [`SHOWN_LENGTH`] characters of the input count.
+///
+/// Refused with 12 if `report` has under 1,056 bytes, then with 13 if `work` has under 163,840; then nothing is written.
+/// What the texts are refused for stands in the verdict line, and nothing is written then either.
+pub fn show(input: &[u8], report: &mut [u8], work: &mut [u8]) -> Shown {
+    // SAFETY: each pointer and length are those of one slice; the two that are written are lent for the call.
+    unsafe {
+        line_show(
+            input.as_ptr(),
+            input.len(),
             report.as_mut_ptr(),
             report.len(),
             work.as_mut_ptr(),

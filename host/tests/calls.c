@@ -61,6 +61,41 @@ static line_answer given(const char *input) {
                     report, sizeof report, work, sizeof work);
 }
 
+/* an object with a number, which main gives back */
+static const char number[] = "01010002FE000103\n04010043004200\n05000102FE0102FF\n";
+
+static line_shown shown(const char *input) {
+    return line_show((const uint8_t *)input, strlen(input), report, sizeof report, work, sizeof work);
+}
+
+static bool is_verdict(line_shown answer, const char *line) {
+    static const uint8_t zeros[LINE_VERDICT_LENGTH];
+    size_t used = strlen(line);
+    return answer.refusal == LINE_ACCEPTED && answer.verdict_length == used && memcmp(answer.verdict, line, used) == 0 &&
+           memcmp(answer.verdict + used, zeros, LINE_VERDICT_LENGTH - used) == 0;
+}
+
+static bool outputs(void) {
+    line_shown answer = shown(text);
+    EXPECT(is_verdict(answer, "08000103\n") && answer.length == 11);
+    EXPECT(memcmp(report, "0500010100\n", 11) == 0);
+    answer = shown(number);
+    EXPECT(is_verdict(answer, "0800FE00\n") && answer.length == 7);
+    EXPECT(memcmp(report, "090102\n", 7) == 0);
+    memset(report, 0x5A, sizeof report);
+    memset(work, 0xA5, sizeof work);
+    EXPECT(is_verdict(shown(""), "0801\n") && shown("").length == 0);
+    EXPECT(is_verdict(shown(giving), "080E\n") && shown(giving).length == 0);
+    answer = line_show(bytes, length, report, sizeof report - 1, work, 0);
+    EXPECT(answer.refusal == LINE_SHORT_REPORT && answer.verdict_length == 0 && answer.verdict[0] == 0 &&
+           answer.length == 0);
+    answer = line_show(bytes, length, report, sizeof report, work, sizeof work - 1);
+    EXPECT(answer.refusal == LINE_SHORT_WORK && answer.verdict_length == 0 && answer.length == 0);
+    EXPECT(line_show(NULL, 0, report, sizeof report, work, sizeof work).verdict_length == 5);
+    EXPECT(report[0] == 0x5A && report[sizeof report - 1] == 0x5A && work[0] == 0xA5 && work[sizeof work - 1] == 0xA5);
+    return true;
+}
+
 static bool second_texts(void) {
     line_answer answer = given(ring); /* two parts, one object */
     EXPECT(answer.refusal == LINE_ACCEPTED && answer.session.fuel == 7 && answer.length == 11);
@@ -78,4 +113,4 @@ static bool second_texts(void) {
     return true;
 }
 
-int main(void) { return tables_and_types() && runs() && second_texts() ? 0 : 1; }
+int main(void) { return tables_and_types() && runs() && second_texts() && outputs() ? 0 : 1; }

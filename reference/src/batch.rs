@@ -4,14 +4,14 @@
 
 use crate::classes::{class_fits, fields, known};
 use crate::refusals::Refusal;
-use crate::syntax::{PLUS, Table, Type};
+use crate::syntax::{NUMBER, PLUS, Table, Type};
 use crate::text;
 use crate::values::{Object, Ref, Value, reached};
 
-/// Most lines of a second text.
-pub const MAX_PARTS: usize = 255;
-/// Longest second text: a part has at most 8 bytes, two digits a byte and an LF.
-pub const SECOND_LENGTH: usize = MAX_PARTS * 17;
+/// Most lines of a second text: `FE` and `FF` are numbers of no part.
+pub const MAX_PARTS: usize = 254;
+/// Longest second text: a part has at most 16 bytes, two digits a byte and an LF.
+pub const SECOND_LENGTH: usize = MAX_PARTS * 33;
 
 /// What a field holds in place of a part when it is undetermined.
 pub const NO_PART: u8 = 0xFF;
@@ -50,20 +50,27 @@ fn part(table: &Table, line: &[u8], place: usize, count: usize) -> Option<Object
     };
     let sound = usize::from(number) == place
         && known(table, class)
-        && usize::from(field_count) == fields(table, class).len()
-        && usize::from(field_count) == held.len();
-    let fields: Option<Vec<Ref>> = held.iter().map(|&byte| held_part(byte, count)).collect();
-    let fields = fields.filter(|_| sound)?;
-    Some(Object { class, fields })
+        && usize::from(field_count) == fields(table, class).len();
+    let fields = held_in(held, count)?;
+    let sound = sound && usize::from(field_count) == fields.len();
+    sound.then_some(Object { class, fields })
 }
 
-/// What a field's byte stands for where there are so many parts.
-fn held_part(byte: u8, count: usize) -> Option<Ref> {
-    if byte == NO_PART {
-        return Some(Ref::Undetermined);
+/// What the bytes of all fields stand for where there are so many parts: a
+/// part's number, `FF`, or `FE` with the two bytes of a number after it.
+fn held_in(bytes: &[u8], count: usize) -> Option<Vec<Ref>> {
+    let mut held = Vec::new();
+    let mut bytes = bytes.iter().copied();
+    while let Some(byte) = bytes.next() {
+        let place = usize::from(byte);
+        held.push(match byte {
+            NO_PART => Ref::Undetermined,
+            NUMBER => Ref::Number(u16::from_be_bytes([bytes.next()?, bytes.next()?])),
+            _ if place < count => Ref::Object(place),
+            _ => return None,
+        });
     }
-    let place = usize::from(byte);
-    (place < count).then_some(Ref::Object(place))
+    Some(held)
 }
 
 /// The value of the reached parts, if each fits where it is held and no more
@@ -86,6 +93,7 @@ fn value(table: &Table, type_: Type, parts: &[Object]) -> Option<Value> {
 fn fits(table: &Table, parts: &[Object], held: Ref, type_: Type) -> bool {
     match held {
         Ref::Object(place) => class_fits(table, parts[place].class, type_.class),
+        Ref::Number(_) => type_.class == NUMBER,
         Ref::Undetermined | Ref::Mark(_) => type_.tag != PLUS,
     }
 }

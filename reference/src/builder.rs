@@ -1,7 +1,7 @@
 //! A small assembler: programs written as Rust calls, turned into tables and
 //! texts. It checks nothing; the writer and the reader do.
 
-use crate::syntax::{Class, Expr, MINUS, MINUS_OPEN, Method, PLUS, PLUS_OPEN, Table, Type};
+use crate::syntax::{Class, Expr, MINUS, MINUS_OPEN, Method, NUMBER, PLUS, PLUS_OPEN, Table, Type};
 use crate::writing;
 
 pub fn plus(class: u8) -> Type {
@@ -26,6 +26,11 @@ pub fn minus(class: u8) -> Type {
     Type { class, tag: MINUS }
 }
 
+/// The type of a number.
+pub fn whole() -> Type {
+    plus(NUMBER)
+}
+
 pub fn this() -> Expr {
     Expr::This
 }
@@ -48,6 +53,22 @@ pub fn call<const N: usize>(name: u8, receiver: Expr, arguments: [Expr; N]) -> E
 
 pub fn new<const N: usize>(class: u8, values: [Expr; N]) -> Expr {
     Expr::New(class, values.into())
+}
+
+pub fn number(number: u16) -> Expr {
+    Expr::Number(number)
+}
+
+pub fn sum(left: Expr, right: Expr) -> Expr {
+    Expr::Sum(Box::new(left), Box::new(right))
+}
+
+pub fn difference(left: Expr, right: Expr) -> Expr {
+    Expr::Difference(Box::new(left), Box::new(right))
+}
+
+pub fn choose(number: Expr, first: Expr, second: Expr) -> Expr {
+    Expr::Choose(Box::new(number), Box::new(first), Box::new(second))
 }
 
 /// A program under construction.

@@ -70,7 +70,7 @@ pub fn run(
 
 /// Runs a text on a second one; an empty one counts as none. A refused run
 /// writes nothing; any other writes the report at the front of its buffer and
-/// zeroes the first 65,536 work bytes.
+/// zeroes the first 163,840 work bytes.
 pub fn run_batch(
     mode: Mode,
     text: &[u8],

@@ -1,21 +1,29 @@
 //! Questions to a class table: fit, fields and methods along the chain of
 //! parents. The table is one the reader has passed, so every parent has a
-//! smaller number and each chain ends at class 00.
+//! smaller number and each chain ends at class 00. `FE`, the class byte of
+//! numbers, is on no chain: it fits itself, and has no fields and no methods.
 
-use crate::syntax::{Method, Table, Type};
+use crate::syntax::{Method, NUMBER, Table, Type};
 
 /// Whether the table has a class of this number.
 pub fn known(table: &Table, class: u8) -> bool {
     usize::from(class) <= table.classes.len()
 }
 
-fn parent(table: &Table, class: u8) -> u8 {
-    table.classes[usize::from(class) - 1].parent
+/// Whether a field, a parameter or a result may have a type of this class.
+pub fn typed_class(table: &Table, class: u8) -> bool {
+    class == NUMBER || known(table, class)
+}
+
+/// The parent of a class; class 00 and `FE` have none.
+fn parent(table: &Table, class: u8) -> Option<u8> {
+    let place = usize::from(class).checked_sub(1)?;
+    table.classes.get(place).map(|class| class.parent)
 }
 
 /// Whether `class` is `above` or stands below it.
 pub fn class_fits(table: &Table, class: u8, above: u8) -> bool {
-    class == above || (class != 0 && class_fits(table, parent(table, class), above))
+    class == above || parent(table, class).is_some_and(|parent| class_fits(table, parent, above))
 }
 
 /// Whether a type fits another: its class fits and its tag is not larger.
@@ -25,22 +33,20 @@ pub fn fits(table: &Table, type_: Type, wanted: Type) -> bool {
 
 /// All fields of a class, inherited ones first.
 pub fn fields(table: &Table, class: u8) -> Vec<Type> {
-    if class == 0 {
+    let Some(parent) = parent(table, class) else {
         return Vec::new();
-    }
-    let mut all = fields(table, parent(table, class));
+    };
+    let mut all = fields(table, parent);
     all.extend(&table.classes[usize::from(class) - 1].fields);
     all
 }
 
 /// The method of a name in a class, or the nearest above it.
 pub fn method(table: &Table, class: u8, name: u8) -> Option<&Method> {
-    if class == 0 {
-        return None;
-    }
+    let parent = parent(table, class)?;
     let own = table
         .methods
         .iter()
         .find(|method| method.owner == class && method.name == name);
-    own.or_else(|| method(table, parent(table, class), name))
+    own.or_else(|| method(table, parent, name))
 }

@@ -3,7 +3,7 @@
 //! Each refusal is looked for over the whole text before the next one is, so
 //! a bad frame in the last line beats a bad order in the first two.
 
-use crate::classes::{self, known};
+use crate::classes::{self, known, typed_class};
 use crate::refusals::{Refusal, TEXT_LENGTH};
 use crate::syntax::{
     Class, Expr, MAX_CLASSES, MAX_FIELDS, MAX_METHODS, MAX_NESTING, MAX_PARAMETERS, MINUS, Method,
@@ -88,8 +88,22 @@ impl Cursor<'_> {
                 let count = self.count(MAX_FIELDS)?;
                 Some(Expr::New(class, self.exprs(count, room)?))
             }
+            0x46 => {
+                let bytes = [self.byte()?, self.byte()?];
+                Some(Expr::Number(u16::from_be_bytes(bytes)))
+            }
+            0x47 => Some(Expr::Sum(self.part(room)?, self.part(room)?)),
+            0x48 => Some(Expr::Difference(self.part(room)?, self.part(room)?)),
+            0x49 => {
+                let number = self.part(room)?;
+                Some(Expr::Choose(number, self.part(room)?, self.part(room)?))
+            }
             _ => None,
         }
+    }
+
+    fn part(&mut self, room: usize) -> Option<Box<Expr>> {
+        self.expr(room).map(Box::new)
     }
 
     fn exprs(&mut self, count: usize, room: usize) -> Option<Vec<Expr>> {
@@ -182,7 +196,7 @@ fn methods_in_rule(table: &Table) -> bool {
         method.owner != 0
             && known(table, method.owner)
             && closed(table, method.first)
-            && known(table, method.second.class)
+            && typed_class(table, method.second.class)
             && method.params.iter().all(|&param| closed(table, param))
             && news_known(table, &method.left)
             && news_known(table, &method.right)
@@ -203,10 +217,10 @@ fn main_in_rule(table: &Table) -> bool {
     input && news_known(table, &table.main)
 }
 
-/// A known class under one of the two tags that fields, parameters and first
-/// results may have.
+/// A known class, or `FE`, under one of the two tags that fields, parameters
+/// and first results may have.
 fn closed(table: &Table, type_: Type) -> bool {
-    known(table, type_.class) && (type_.tag == PLUS || type_.tag == MINUS)
+    typed_class(table, type_.class) && (type_.tag == PLUS || type_.tag == MINUS)
 }
 
 fn news_known(table: &Table, expr: &Expr) -> bool {

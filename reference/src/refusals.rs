@@ -30,7 +30,7 @@ impl Refusal {
 
 /// Longest text: 97 lines of 255 bytes, two digits a byte and an LF.
 pub const TEXT_LENGTH: usize = 49_567;
-/// Longest report: 32 lines of 8 bytes, two digits a byte and an LF.
-pub const REPORT_LENGTH: usize = 544;
+/// Longest report: 32 lines of 16 bytes, two digits a byte and an LF.
+pub const REPORT_LENGTH: usize = 1_056;
 /// The work buffer's length, and the length a run leaves zeroed.
-pub const WORK_LENGTH: usize = 65_536;
+pub const WORK_LENGTH: usize = 163_840;

@@ -1,6 +1,7 @@
 //! The report of an outcome: numbering by a walk from the root, and its lines.
 
 use crate::running::Outcome;
+use crate::syntax::NUMBER;
 use crate::text::push_line;
 use crate::values::{Ref, Value};
 
@@ -15,26 +16,38 @@ pub fn report(outcome: &Outcome) -> Vec<u8> {
 }
 
 fn push_value(text: &mut Vec<u8>, value: &Value) {
-    if value.root() == Ref::Undetermined {
-        return push_line(text, &[0x06]);
+    match value.root() {
+        Ref::Undetermined => return push_line(text, &[0x06]),
+        Ref::Number(number) => {
+            let [high, low] = number.to_be_bytes();
+            return push_line(text, &[0x09, high, low]);
+        }
+        Ref::Object(_) | Ref::Mark(_) => {}
     }
     let objects = in_order_met(value);
     for (number, &place) in objects.iter().enumerate() {
         let object = value.object(place);
         let mut line = vec![0x05, number as u8, object.class, object.fields.len() as u8];
         let fields = object.fields.iter();
-        line.extend(fields.map(|&field| field_byte(value, &objects, field)));
+        line.extend(fields.flat_map(|&field| field_bytes(value, &objects, field)));
         push_line(text, &line);
     }
 }
 
 /// A finished run leaves no open mark in its value; one that did is a fault
 /// of this engine and must not pass for undetermined.
-fn field_byte(value: &Value, objects: &[usize], field: Ref) -> u8 {
-    match number_of(value, objects, field) {
-        Some(number) => number as u8,
-        None if field == Ref::Undetermined => 0xFF,
-        None => panic!("an open mark in a finished value"),
+fn field_bytes(value: &Value, objects: &[usize], field: Ref) -> Vec<u8> {
+    match field {
+        Ref::Object(_) => {
+            let number = number_of(value, objects, field);
+            vec![number.expect("a field leads to an object met") as u8]
+        }
+        Ref::Undetermined => vec![0xFF],
+        Ref::Number(number) => {
+            let [high, low] = number.to_be_bytes();
+            vec![NUMBER, high, low]
+        }
+        Ref::Mark(_) => panic!("an open mark in a finished value"),
     }
 }
 

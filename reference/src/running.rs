@@ -3,7 +3,7 @@
 
 use crate::classes;
 use crate::syntax::{Expr, Method, Table};
-use crate::values::Value;
+use crate::values::{Ref, Value};
 
 /// Most calls open at one time, both sides counted.
 pub const MAX_DEPTH: usize = 16;
@@ -15,6 +15,8 @@ pub enum Stop {
     OutOfFuel = 2,
     TooDeep = 3,
     TooLarge = 4,
+    /// A sum above 65,535.
+    SumTooLarge = 5,
 }
 
 pub type Outcome = Result<Value, Stop>;
@@ -123,6 +125,36 @@ impl<'a> Run<'a> {
                 let values = self.eval_all(frame, values)?;
                 Value::new(*class, values).ok_or(Stop::TooLarge)
             }
+            Expr::Number(number) => Ok(Value::number(*number)),
+            Expr::Sum(left, right) => {
+                let (left, right) = self.operands(frame, left, right)?;
+                let sum = left.checked_add(right).ok_or(Stop::SumTooLarge)?;
+                Ok(Value::number(sum))
+            }
+            Expr::Difference(left, right) => {
+                let (left, right) = self.operands(frame, left, right)?;
+                Ok(Value::number(left.saturating_sub(right)))
+            }
+            Expr::Choose(number, first, second) => {
+                let taken = match self.operand(frame, number)? {
+                    0 => second,
+                    _ => first,
+                };
+                self.eval(frame, taken)
+            }
+        }
+    }
+
+    /// Both numbers, each tested before the next is evaluated.
+    fn operands(&mut self, frame: &Frame, left: &Expr, right: &Expr) -> Result<(u16, u16), Stop> {
+        let left = self.operand(frame, left)?;
+        Ok((left, self.operand(frame, right)?))
+    }
+
+    fn operand(&mut self, frame: &Frame, expr: &Expr) -> Result<u16, Stop> {
+        match self.eval(frame, expr)?.root() {
+            Ref::Number(number) => Ok(number),
+            Ref::Object(_) | Ref::Mark(_) | Ref::Undetermined => Err(Stop::Stuck),
         }
     }
 

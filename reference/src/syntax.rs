@@ -14,6 +14,9 @@ pub const MAX_FIELDS: usize = 4;
 pub const MAX_PARAMETERS: usize = 3;
 pub const MAX_NESTING: usize = 6;
 
+/// The class byte of whole numbers; it is no class of the table.
+pub const NUMBER: u8 = 0xFE;
+
 #[derive(Clone, Copy, Debug, PartialEq, Eq)]
 pub struct Type {
     pub class: u8,
@@ -47,6 +50,12 @@ pub enum Expr {
     Field(u8, Box<Expr>),
     Call(u8, Box<Expr>, Vec<Expr>),
     New(u8, Vec<Expr>),
+    Number(u16),
+    Sum(Box<Expr>, Box<Expr>),
+    /// 0 where it would be below 0.
+    Difference(Box<Expr>, Box<Expr>),
+    /// A number and two branches; the second is taken for 0.
+    Choose(Box<Expr>, Box<Expr>, Box<Expr>),
 }
 
 #[derive(Clone, Debug, PartialEq, Eq)]
@@ -62,7 +71,7 @@ impl Expr {
     /// The parts one level down, in the order they are written and evaluated.
     pub fn parts(&self) -> Vec<&Expr> {
         match self {
-            Expr::This | Expr::Res | Expr::Param(_) => Vec::new(),
+            Expr::This | Expr::Res | Expr::Param(_) | Expr::Number(_) => Vec::new(),
             Expr::Field(_, receiver) => vec![receiver],
             Expr::Call(_, receiver, arguments) => {
                 let mut parts: Vec<&Expr> = vec![receiver];
@@ -70,6 +79,24 @@ impl Expr {
                 parts
             }
             Expr::New(_, values) => values.iter().collect(),
+            Expr::Sum(left, right) | Expr::Difference(left, right) => vec![left, right],
+            Expr::Choose(number, first, second) => vec![number, first, second],
+        }
+    }
+
+    /// The same parts, to be changed.
+    pub fn parts_mut(&mut self) -> Vec<&mut Expr> {
+        match self {
+            Expr::This | Expr::Res | Expr::Param(_) | Expr::Number(_) => Vec::new(),
+            Expr::Field(_, receiver) => vec![receiver],
+            Expr::Call(_, receiver, arguments) => {
+                let mut parts: Vec<&mut Expr> = vec![receiver];
+                parts.extend(arguments);
+                parts
+            }
+            Expr::New(_, values) => values.iter_mut().collect(),
+            Expr::Sum(left, right) | Expr::Difference(left, right) => vec![left, right],
+            Expr::Choose(number, first, second) => vec![number, first, second],
         }
     }
 

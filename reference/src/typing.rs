@@ -3,7 +3,7 @@
 
 use crate::classes::{self, fits};
 use crate::refusals::Refusal;
-use crate::syntax::{Expr, MINUS, MINUS_OPEN, Method, PLUS, PLUS_OPEN, Table, Type};
+use crate::syntax::{Expr, MINUS, MINUS_OPEN, Method, NUMBER, PLUS, PLUS_OPEN, Table, Type};
 
 /// Checks every method, then main, and gives main's type.
 pub fn check(table: &Table) -> Result<Type, Refusal> {
@@ -109,6 +109,36 @@ pub fn type_of(scope: &Scope, expr: &Expr) -> Option<Type> {
         }
         Expr::Call(name, receiver, arguments) => call_type(scope, *name, receiver, arguments),
         Expr::New(class, values) => new_type(scope, *class, values),
+        Expr::Number(_) => Some(WHOLE),
+        Expr::Sum(left, right) | Expr::Difference(left, right) => {
+            operand(scope, left)?;
+            operand(scope, right)?;
+            Some(WHOLE)
+        }
+        Expr::Choose(number, first, second) => {
+            operand(scope, number)?;
+            wider(scope, type_of(scope, first)?, type_of(scope, second)?)
+        }
+    }
+}
+
+/// The type of a number.
+const WHOLE: Type = Type {
+    class: NUMBER,
+    tag: PLUS,
+};
+
+/// An operand is a number of tag 00.
+fn operand(scope: &Scope, expr: &Expr) -> Option<()> {
+    (type_of(scope, expr)? == WHOLE).then_some(())
+}
+
+/// The one of two types that the other fits.
+fn wider(scope: &Scope, one: Type, two: Type) -> Option<Type> {
+    if fits(scope.table, one, two) {
+        Some(two)
+    } else {
+        fits(scope.table, two, one).then_some(one)
     }
 }
 

@@ -1,5 +1,5 @@
 //! Values: a graph of objects with a root, in which a reference may be the
-//! mark of an open call or the undetermined value.
+//! mark of an open call, the undetermined value or a number.
 //!
 //! A graph is not kept in a canonical form. Two values are equal when their
 //! unfoldings are, which is found by following both graphs in step; numbering
@@ -16,6 +16,8 @@ pub enum Ref {
     /// The mark of an open call; each call has its own number in a run.
     Mark(u32),
     Undetermined,
+    /// A leaf that agrees only with the same number.
+    Number(u16),
 }
 
 #[derive(Clone, Debug)]
@@ -38,18 +40,21 @@ impl PartialEq for Value {
 }
 
 impl Value {
+    fn leaf(root: Ref) -> Value {
+        let objects = Vec::new();
+        Value { objects, root }
+    }
+
     pub fn mark(mark: u32) -> Value {
-        Value {
-            objects: Vec::new(),
-            root: Ref::Mark(mark),
-        }
+        Value::leaf(Ref::Mark(mark))
     }
 
     pub fn undetermined() -> Value {
-        Value {
-            objects: Vec::new(),
-            root: Ref::Undetermined,
-        }
+        Value::leaf(Ref::Undetermined)
+    }
+
+    pub fn number(number: u16) -> Value {
+        Value::leaf(Ref::Number(number))
     }
 
     pub fn root(&self) -> Ref {
@@ -60,11 +65,11 @@ impl Value {
         &self.objects[place]
     }
 
-    /// The class of an object; a mark and the undetermined value have none.
+    /// The class of an object; leaves have none, a number too.
     pub fn class(&self) -> Option<u8> {
         match self.root {
             Ref::Object(place) => Some(self.objects[place].class),
-            Ref::Mark(_) | Ref::Undetermined => None,
+            Ref::Mark(_) | Ref::Undetermined | Ref::Number(_) => None,
         }
     }
 

@@ -85,6 +85,13 @@ fn push_expr(bytes: &mut Vec<u8>, expr: &Expr, room: usize) -> Option<()> {
         Expr::New(class, values) => {
             bytes.extend([0x45, *class, u8::try_from(values.len()).ok()?]);
         }
+        Expr::Number(number) => {
+            let [high, low] = number.to_be_bytes();
+            bytes.extend([0x46, high, low]);
+        }
+        Expr::Sum(..) => bytes.push(0x47),
+        Expr::Difference(..) => bytes.push(0x48),
+        Expr::Choose(..) => bytes.push(0x49),
     }
     for part in expr.parts() {
         push_expr(bytes, part, room)?;

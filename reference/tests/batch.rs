@@ -139,10 +139,11 @@ fn ring(count: usize, class: impl Fn(usize) -> u8) -> String {
 }
 
 #[test]
-fn j_255_lines_and_one_more() {
-    let input = format!("{TWO_LETTERS}0401004200/{}", ring(255, |_| 2));
+fn j_254_lines_and_one_more() {
+    let input = format!("{TWO_LETTERS}0401004200/{}", ring(254, |_| 2));
     reports(1_000, &input, "08000100/", "0500020100/", 1_000);
-    refuses(&format!("{input}05FF0100/"), 14);
+    refuses(&format!("{input}05FE0100/"), 14);
+    refuses(&format!("{TWO_LETTERS}0401004200/{}", ring(255, |_| 2)), 14);
 }
 
 #[test]

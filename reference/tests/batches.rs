@@ -38,7 +38,7 @@ fn the_usual_mixture() {
         let count = outcomes.get(&format!("refusal {number}"));
         assert!(count.is_some_and(|&count| count > 5), "{outcomes:?}");
     }
-    for name in ["05", "06", "0701", "0702", "0703", "0704"] {
+    for name in ["05", "06", "09", "0701", "0702", "0703", "0704", "0705"] {
         let count = outcomes.get(name);
         assert!(count.is_some_and(|&count| count > 5), "{outcomes:?}");
     }
@@ -107,7 +107,7 @@ fn lines_and_objects_at_the_limits() {
     for number in 0..900 {
         let sized = limits::draw(&mut Random::for_case(205, number));
         let wanted = match (sized.lines, sized.objects) {
-            (256.., _) => 14,
+            (255.., _) => 14,
             (_, 33..) => 15,
             _ => 0,
         };
@@ -119,7 +119,7 @@ fn lines_and_objects_at_the_limits() {
         }
         *seen.entry((sized.lines, sized.objects)).or_default() += 1;
     }
-    for lines in 253..=256 {
+    for lines in 252..=255 {
         for objects in 31..=33 {
             assert!(seen[&(lines, objects)] > 5, "{seen:?}");
         }

@@ -38,7 +38,7 @@ fn refused_untouched(
     answer.refusal.expect("a refusal")
 }
 
-const BIG: (usize, usize) = (544, 65_536);
+const BIG: (usize, usize) = (1_056, 163_840);
 const CLOSED: Session = Session {
     open: false,
     fuel: 0,
@@ -47,7 +47,7 @@ const CLOSED: Session = Session {
 #[test]
 fn a_run_writes_its_report_and_zeroes_its_work() {
     for mode in [Mode::Checked, Mode::Trial] {
-        for (report, work) in [BIG, (545, 65_537), (2_000, 70_000)] {
+        for (report, work) in [BIG, (1_057, 163_841), (2_000, 170_000)] {
             let (answer, report, work) = run_in(mode, A, open(10), (report, work));
             let session = Session {
                 open: true,
@@ -61,8 +61,8 @@ fn a_run_writes_its_report_and_zeroes_its_work() {
             assert_eq!(answer, expected);
             assert_eq!(&report[..REPORT.len()], REPORT);
             assert!(report[REPORT.len()..].iter().all(|&byte| byte == 0x5A));
-            assert!(work[..65_536].iter().all(|&byte| byte == 0));
-            assert!(work[65_536..].iter().all(|&byte| byte == 0x5A));
+            assert!(work[..163_840].iter().all(|&byte| byte == 0));
+            assert!(work[163_840..].iter().all(|&byte| byte == 0x5A));
         }
     }
 }
@@ -74,9 +74,9 @@ fn state_refusals_come_in_order_and_before_the_text() {
             let refusal = |session, lengths| refused_untouched(mode, text, session, lengths);
             assert_eq!(refusal(CLOSED, (0, 0)), Closed);
             assert_eq!(refusal(CLOSED, BIG), Closed);
-            assert_eq!(refusal(open(5), (543, 0)), ReportBuffer);
-            assert_eq!(refusal(open(5), (0, 65_536)), ReportBuffer);
-            assert_eq!(refusal(open(5), (544, 65_535)), WorkBuffer);
+            assert_eq!(refusal(open(5), (1_055, 0)), ReportBuffer);
+            assert_eq!(refusal(open(5), (1_055, 163_840)), ReportBuffer);
+            assert_eq!(refusal(open(5), (1_056, 163_839)), WorkBuffer);
             assert_eq!(refusal(open(0), (9_999, 0)), WorkBuffer);
         }
     }

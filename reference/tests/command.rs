@@ -48,7 +48,7 @@ fn run_cuts_its_input_after_the_first_line_beginning_04() {
     // one that is sound up to the last character that is read.
     assert_eq!(with(&b"05000101FF\n".repeat(40_000)), "080E\n");
     let sound = |number: usize| format!("05{number:02X}0101FF\n");
-    let most: String = (0..255).map(sound).collect();
+    let most: String = (0..254).map(sound).collect();
     assert_eq!(with(most.as_bytes()), "08000100\n05000101FF\n");
     let long = format!("{most}{}", "\n".repeat(90_000));
     assert_eq!(with(long.as_bytes()), "080E\n");
@@ -59,9 +59,9 @@ fn run_cuts_its_input_after_the_first_line_beginning_04() {
     // The longest first text with the longest second one.
     let full = [&b"00".repeat(255)[..], b"\n"].concat().repeat(97);
     let full = [&full[..49_567 - 11], b"0401004200\n"].concat();
-    let second = b"050002040000000F\n".repeat(255);
+    let second = b"05000204FE0000FE0000FE0000FE000F\n".repeat(254);
     let both = [&full[..], &second].concat();
-    assert_eq!((full.len(), both.len()), (49_567, 53_902));
+    assert_eq!((full.len(), both.len()), (49_567, 57_949));
     assert_eq!(printed(&["run"], &both), "0801\n");
 }
 

@@ -14,7 +14,7 @@ use reference::generator::random::Random;
 use reference::reading::read;
 use reference::report::in_order_met;
 use reference::running::{Stop, run_on};
-use reference::syntax::{MINUS, Table, Type};
+use reference::syntax::{MINUS, NUMBER, Table, Type};
 use reference::typing;
 use reference::values::{Ref, Value};
 use reference::writing;
@@ -92,6 +92,7 @@ fn assert_allowed(table: &Table, value: &Value, place: Ref, type_: Type) {
         Ref::Object(object) => {
             assert!(class_fits(table, value.object(object).class, type_.class));
         }
+        Ref::Number(_) => assert_eq!(type_.class, NUMBER),
         Ref::Undetermined => assert_eq!(type_.tag, MINUS),
         Ref::Mark(_) => panic!("an open mark in a finished value"),
     }

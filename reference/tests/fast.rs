@@ -112,7 +112,7 @@ fn the_usual_mixture() {
     for refusal in 1..=7 {
         assert!(comparison.count(&format!("refusal {refusal}")) > 20);
     }
-    for outcome in ["05", "06", "0701", "0702", "0703", "0704"] {
+    for outcome in ["05", "06", "09", "0701", "0702", "0703", "0704", "0705"] {
         assert!(comparison.count(outcome) > 20, "{outcome}");
     }
 }
@@ -147,7 +147,7 @@ fn agree_on_tables(seed: u64, count: u64, draw: fn(&mut Random) -> Table) -> Com
 #[test]
 fn wild_programs() {
     let comparison = agree_on_tables(103, 12_000, programs::wild);
-    for outcome in ["05", "06", "0701", "0702", "0703", "0704"] {
+    for outcome in ["05", "06", "09", "0701", "0702", "0703", "0704", "0705"] {
         assert!(comparison.count(outcome) > 10, "{:?}", comparison.outcomes);
     }
 }
@@ -201,7 +201,12 @@ fn states_and_lengths() {
         open: false,
         fuel: 0,
     };
-    for (report, work) in [(543, 65_536), (544, 65_535), (544, 65_536), (600, 70_000)] {
+    for (report, work) in [
+        (1_055, 163_840),
+        (1_056, 163_839),
+        (1_056, 163_840),
+        (1_100, 170_000),
+    ] {
         let mut comparison = Comparison::in_buffers(report, work);
         for mode in [Mode::Checked, Mode::Trial] {
             comparison.agree(mode, closed, &text);

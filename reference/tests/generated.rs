@@ -10,7 +10,7 @@ use reference::generator::{Kind, rows, stats, text};
 use reference::reading::read;
 use reference::report::{in_order_met, report};
 use reference::running::{Stop, run};
-use reference::syntax::{MINUS, Table, Type};
+use reference::syntax::{MINUS, NUMBER, Table, Type};
 use reference::values::{Ref, Value};
 use reference::writing::write;
 
@@ -58,13 +58,14 @@ fn what_is_read_is_written_back() {
     }
 }
 
-/// A place holds what its type allows: an object of a class that fits, or the
-/// undetermined value exactly under tag 03.
+/// A place holds what its type allows: an object of a class that fits, a number
+/// where that is the class, or the undetermined value exactly under tag 03.
 fn assert_allowed(table: &Table, value: &Value, place: Ref, type_: Type) {
     match place {
         Ref::Object(object) => {
             assert!(class_fits(table, value.object(object).class, type_.class));
         }
+        Ref::Number(_) => assert_eq!(type_.class, NUMBER),
         Ref::Undetermined => assert_eq!(type_.tag, MINUS),
         Ref::Mark(_) => panic!("an open mark in a finished value"),
     }
@@ -72,7 +73,7 @@ fn assert_allowed(table: &Table, value: &Value, place: Ref, type_: Type) {
 
 #[test]
 fn accepted_programs_are_never_stuck_and_keep_their_types() {
-    let (mut values, mut undetermined) = (0, 0);
+    let (mut values, mut undetermined, mut numbers) = (0, 0, 0);
     for table in tables(31, 300) {
         let main = reference::typing::check(&table).unwrap();
         let (outcome, _) = run(&table, 1000);
@@ -86,11 +87,15 @@ fn accepted_programs_are_never_stuck_and_keep_their_types() {
             assert_eq!(types.len(), object.fields.len());
             for (&field, type_) in object.fields.iter().zip(types) {
                 undetermined += usize::from(field == Ref::Undetermined);
+                numbers += usize::from(matches!(field, Ref::Number(_)));
                 assert_allowed(&table, &value, field, type_);
             }
         }
     }
-    assert!(values > 150 && undetermined > 5, "{values} {undetermined}");
+    assert!(
+        values > 150 && undetermined > 5 && numbers > 30,
+        "{values} {undetermined} {numbers}"
+    );
 }
 
 #[test]
@@ -162,7 +167,7 @@ fn all_in_reach(value: &Value) -> Vec<usize> {
     found
 }
 
-/// A value over two classes and two marks, some of them closed on the way.
+/// A value over two classes, two marks and two numbers, some of them closed on the way.
 fn random_value(random: &mut Random) -> Value {
     let mut pool = vec![Value::mark(0), Value::mark(1), Value::undetermined()];
     for _ in 0..random.between(2, 9) {
@@ -173,9 +178,10 @@ fn random_value(random: &mut Random) -> Value {
             pool[place].clone()
         };
         let (one, two) = (taken(), taken());
-        let made = match random.below(5) {
+        let made = match random.below(6) {
             0 | 1 => Value::new(1, vec![one]),
             2 => Value::new(2, vec![one, two]),
+            5 => Value::new(2, vec![one, Value::number(random.below(2) as u16)]),
             closed => Some(one.closed(closed as u32 - 3)),
         };
         pool.extend(made);
@@ -221,19 +227,31 @@ fn assert_report_form(text: &str) {
             .collect();
         assert_eq!(bytes[..2], [5, number]);
         assert!(number < 32 && bytes[2] <= 0x20);
-        assert_eq!(bytes.len(), 4 + bytes[3]);
+        let fields = fields_of(&bytes[4..]);
+        assert_eq!(fields.len(), bytes[3]);
         assert_eq!(*counts.entry(bytes[2]).or_insert(bytes[3]), bytes[3]);
-        next.push(bytes[4..].to_vec());
+        next.push(fields);
     }
     let mut met = vec![];
     let mut todo = vec![0];
     while let Some(number) = todo.pop() {
-        if number != 0xFF && !met.contains(&number) {
+        if number < 0xFE && !met.contains(&number) {
             met.push(number);
             todo.extend(next[number].iter().rev());
         }
     }
     assert!(met.into_iter().eq(0..next.len()));
+}
+
+/// The first byte of each field; a number has two bytes after it.
+fn fields_of(bytes: &[usize]) -> Vec<usize> {
+    let mut fields = Vec::new();
+    let mut rest = bytes;
+    while let Some((&first, after)) = rest.split_first() {
+        fields.push(first);
+        rest = if first == 0xFE { &after[2..] } else { after };
+    }
+    fields
 }
 
 #[test]
@@ -255,7 +273,7 @@ fn every_verdict_and_outcome_occurs() {
     for number in 0..=7 {
         assert!(table.contains(&format!("checked: verdict {number:02}")));
     }
-    for outcome in ["value", "06", "0702", "0703", "0704"] {
+    for outcome in ["value", "06", "09", "0702", "0703", "0704", "0705"] {
         assert!(table.contains(&format!("checked: outcome {outcome}")));
     }
     assert!(table.contains("trial: outcome 0701"));

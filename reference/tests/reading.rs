@@ -85,14 +85,14 @@ fn refusal_2_first_bytes() {
         "04\n",
         "40\n",
         "FF450000\n",
-        "0346\n",
+        "034A\n",
         "033F\n",
         "0300\n",
     ] {
         refuses(text, Frame);
     }
-    refuses(&sound_with(2, "02010701030103010103460040"), Frame);
-    refuses(&sound_with(2, "02010701030103010103420046"), Frame);
+    refuses(&sound_with(2, "020107010301030101034A0040"), Frame);
+    refuses(&sound_with(2, "0201070103010301010342004A"), Frame);
 }
 
 #[test]

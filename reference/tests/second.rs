@@ -229,9 +229,9 @@ fn state_refusals_come_before_both_texts() {
                 answer.refusal
             };
             assert_eq!(refused(closed, 0, 0), Some(Closed));
-            assert_eq!(refused(closed, 544, 65_536), Some(Closed));
-            assert_eq!(refused(open(5), 543, 0), Some(ReportBuffer));
-            assert_eq!(refused(open(5), 544, 65_535), Some(WorkBuffer));
+            assert_eq!(refused(closed, 1_056, 163_840), Some(Closed));
+            assert_eq!(refused(open(5), 1_055, 0), Some(ReportBuffer));
+            assert_eq!(refused(open(5), 1_056, 163_839), Some(WorkBuffer));
         }
     }
 }
@@ -255,5 +255,5 @@ fn where_an_input_is_cut() {
         let wanted = (first.as_bytes(), second.as_bytes());
         assert_eq!(cut(input.as_bytes()), wanted);
     }
-    assert_eq!(INPUT_LENGTH, 53_903);
+    assert_eq!(INPUT_LENGTH, 57_950);
 }

@@ -37,9 +37,12 @@ fn assert_ends_as_it_says(workload: &Workload) {
             return;
         }
         Ending::Objects(count) => count,
-        Ending::OutOfFuel | Ending::Refused(_) => 0,
+        Ending::OutOfFuel | Ending::Refused(_) | Ending::Number(_) => 0,
     };
     let (report, spent) = report_of(workload);
+    if let Ending::Number(number) = workload.ending {
+        assert_eq!(report, format!("09{number:04X}\n"), "{name}");
+    }
     let objects = report.lines().filter(|line| line.starts_with("05"));
     assert_eq!(objects.count(), expected, "{name}: {report}");
     let fuel_ran_out = workload.ending == Ending::OutOfFuel;

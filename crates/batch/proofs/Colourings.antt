@@ -13,10 +13,10 @@ use Rattle.cofj.specs.Formed.{AllIn}
 use Rattle.cofj.specs.Batch.{PartReached, Apart}
 use Rattle.canon.specs.Figures.{capacity}
 use Rattle.canon.specs.Tables.{Carried}
-use Rattle.batch.specs.Figures.{noPart}
+use Rattle.canon.proofs.Zeros.{zero-at}
+use Rattle.batch.specs.Figures.{numberField}
 use Rattle.batch.specs.Reaching.{Listed, Reaches}
 use Rattle.batch.specs.Colouring.{tooMany, Alike, FirstAlike, Own, Coloured, RoundTo, RoundDone, ColouredTo, Colours}
-use Rattle.batch.proofs.Reaches.{zero-at}
 use Rattle.batch.proofs.Shades.{alike-self, alike-back, alike-then}
 use Rattle.batch.proofs.Listings.{led-byte, listed-reached, same-alike}
 
@@ -34,7 +34,7 @@ module _ (P L : List ℕ) (m : ℕ) (rc : Reaches P L m) where
   here : (q : ℕ) → q < m → Listed L m (getD L q 0)
   here q h = record { place = q; low = h; is = refl }
 
-  pub listed-byte : (x : ℕ) → Listed L m x → x < noPart
+  pub listed-byte : (x : ℕ) → Listed L m x → x < numberField
   listed-byte x o = led-byte P (rc .led x o)
 
   -- colours that agree on the listed parts, and leads that agree on the colours
@@ -76,7 +76,7 @@ module _ (P L : List ℕ) (m : ℕ) (rc : Reaches P L m) where
         pub round-read : i < length L
         round-read = omega (arith, rc .few, rc .long)
 
-        pub round-byte : getD L i 0 < noPart
+        pub round-byte : getD L i 0 < numberField
         round-byte = listed-byte _ (here i hi)
 
         pub round-own : Own C D k (getD L i 0)

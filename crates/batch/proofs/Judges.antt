@@ -8,11 +8,12 @@ use mathlib.Core.Option.{some}
 use lib.Dec.{eqb}
 use lib.ListN.{length, getD, getElem?}
 use borrow.Author.Tests.{eqb-true, eqb-false, not-true, not-false}
+use Rattle.cofj.specs.Limits.{numberClass}
 use Rattle.cofj.specs.Syntax.{Ty, ty, Table}
 use Rattle.cofj.specs.Classes.{classFits, fieldsOf}
-use Rattle.cofj.specs.Values.{Ref, obj, mark, undet, node, nodeAt, refsAt}
+use Rattle.cofj.specs.Values.{Ref, obj, leaf, mark, undet, num, node, nodeAt, refsAt}
 use Rattle.cofj.specs.Unfolding.{InRange}
-use Rattle.cofj.specs.Formed.{MarkBelow, Formed}
+use Rattle.cofj.specs.Formed.{RefBelow, Formed}
 use Rattle.cofj.specs.Batch.{holds, allHold, objectsHold}
 use Rattle.cofj.proofs.Basics.{at-some as there}
 use Rattle.cofj.proofs.Partial.{true-and}
@@ -23,10 +24,10 @@ use Rattle.classes.specs.declared.chain.FieldFound.{FieldFound}
 use Rattle.classes.specs.declared.chain.FieldFound.the-variants as field
 use Rattle.classes.specs.Machine.{fitsOf, fieldOf}
 use Rattle.classes.specs.Layout.{bytesOf, foundType, Tabled}
-use Rattle.classes.proofs.OnTables.{fit-on, field-on}
-use Rattle.canon.specs.Figures.{objectSize, headSize, codeCount, firstLeaf, undeterminedCode, capacity, blockSize, countAt}
-use Rattle.canon.specs.Layout.{refOf, codeOf, countIn, objectsIn, Block, Inside}
-use Rattle.canon.proofs.Nodes.{ref-object, ref-undet, length-nodes, class-is, count-is, code-is, four-fields, code-low, at-some}
+use Rattle.classes.proofs.OnTables.{class-known, fit-on, field-on}
+use Rattle.canon.specs.Figures.{objectSize, headSize, codeCount, firstLeaf, undeterminedCode, numberCode, firstMark, capacity, blockSize, countAt}
+use Rattle.canon.specs.Layout.{refOf, codeOf, numberBeside, countIn, objectsIn, Block, Inside}
+use Rattle.canon.proofs.Nodes.{ref-object, ref-undet, ref-number, length-nodes, class-is, count-is, code-is, four-fields, code-low, at-some}
 use Rattle.batch.specs.Judging.{Formable, Coded, HeldTest, FieldTest, ObjectTest, FieldsHeld, ValueTest, ObjectsHeld}
 
 -- ---- the block
@@ -43,10 +44,14 @@ objects-count W = length-nodes W (blockSize * 0) (countIn W 0)
 objects-few : (W : List ℕ) → Block W 0 → length (objectsIn W 0) ≤ capacity
 objects-few W b = let e = objects-count W in let s = b .small in omega arith
 
-pub held-leaf : (T W : List ℕ) (w : FieldType) (b : ℕ) → firstLeaf ≤ b → HeldTest T W w b (eqb (w .tag) 3)
-held-leaf T W w b l =
+pub held-number : (T W : List ℕ) (w : FieldType) (b : ℕ) → b ≡ numberCode → HeldTest T W w b (eqb (w .class) numberClass)
+held-number T W w b e =
+    record { is = λ t f m x. ap (holds (t .classes) (objectsIn W 0) (ty (w .class) (w .tag))) (sym (ap (λ (c : ℕ). refOf c x) e ∙ ref-number x)) }
+
+pub held-leaf : (T W : List ℕ) (w : FieldType) (b : ℕ) → ((b ≡ numberCode) → ⊥) → firstLeaf ≤ b → HeldTest T W w b (eqb (w .tag) 3)
+held-leaf T W w b d l =
     record {
-      is = λ t f m. ap (holds (t .classes) (objectsIn W 0) (ty (w .class) (w .tag))) (sym (ap refOf (let z : b ≡ undeterminedCode = omega arith in z) ∙ ref-undet));
+      is = λ t f m x. ap (holds (t .classes) (objectsIn W 0) (ty (w .class) (w .tag))) (sym (ap (λ (c : ℕ). refOf c x) (let z : b ≡ undeterminedCode = omega (arith, d) in z) ∙ ref-undet x));
     }
 
 -- an object of the block is of a class that has a row
@@ -54,7 +59,7 @@ known : (T W : List ℕ) (t : Table) → Formable T W t → (i : ℕ) → nodeAt
 known T W t f i = all-at (Formed t 0) (node 0 []) (formed-default t 0) (objectsIn W 0) (f .formed) i .known
 
 fit-table : (T : List ℕ) (t : Table) → Tabled T t → (c d : ℕ) → c ≤ length (t .classes) → fitsOf T c d ≡ classFits (t .classes) c d
-fit-table T t h c d l = ap (λ (B : List ℕ). fitsOf B c d) (h .bytes) ∙ fit-on t (h .formed) c d (let z = h .formed .classes in omega arith)
+fit-table T t h c d l = ap (λ (B : List ℕ). fitsOf B c d) (h .bytes) ∙ fit-on t (h .formed) c d (class-known t c l)
 
 module _ (W : List ℕ) (b : ℕ) (h : Coded W b) (low : b < firstLeaf) where
   -- an object's class can be read
@@ -68,33 +73,33 @@ module _ (W : List ℕ) (b : ℕ) (h : Coded W b) (low : b < firstLeaf) where
   pub held-object : (T : List ℕ) (w : FieldType) (c : ℕ) (r : Bool) → c ≡ getD W (objectSize * b) 0 → r ≡ fitsOf T c (w .class) → HeldTest T W w b r
   held-object T w c r e z =
       record {
-        is = λ t f m.
+        is = λ t f m y.
             z
             ∙ ap (λ (x : ℕ). fitsOf T x (w .class)) (e ∙ class-at W (h .block) b (h .object low))
             ∙ fit-table T t (f .table) (nodeAt (objectsIn W 0) b .cls) (w .class) (known T W t f b)
-            ∙ ap (holds (t .classes) (objectsIn W 0) (ty (w .class) (w .tag))) (sym (ref-object b low));
+            ∙ ap (holds (t .classes) (objectsIn W 0) (ty (w .class) (w .tag))) (sym (ref-object b y low));
       }
 
 -- ---- fields
-field-table : (T : List ℕ) (t : Table) → Tabled T t → (c f : ℕ) → c ≤ length (t .classes) → fieldOf T c f ≡ foundType (getElem? (fieldsOf (t .classes) c) f)
-field-table T t h c f l = ap (λ (B : List ℕ). fieldOf B c f) (h .bytes) ∙ field-on t (h .formed) c f (let z = h .formed .classes in omega arith)
+field-table : (T : List ℕ) (t : Table) → Tabled T t → (c f : ℕ) → fieldOf T c f ≡ foundType (getElem? (fieldsOf (t .classes) c) f)
+field-table T t h c f = ap (λ (B : List ℕ). fieldOf B c f) (h .bytes) ∙ field-on t (h .formed) c f
 
 module _ (T W : List ℕ) (class f b : ℕ) (x : FieldFound) (e : x ≡ fieldOf T class f) where
   pub field-none : x ≡ field.Nothing → FieldTest T W class f b false
   field-none n =
       record {
-        is = λ t h l m w q.
-            let z : field.Nothing ≡ field.Type (bytesOf w) = sym n ∙ e ∙ field-table T t (h .table) class f l ∙ ap foundType q in
-            absurd (let y : _≡_ {A = ℕ} 0 1 = cc in omega arith);
+        is = λ t h l m y w q.
+            let z : field.Nothing ≡ field.Type (bytesOf w) = sym n ∙ e ∙ field-table T t (h .table) class f ∙ ap foundType q in
+            absurd (let v : _≡_ {A = ℕ} 0 1 = cc in omega arith);
       }
 
   pub field-some : (d : FieldType) (r : Bool) → x ≡ field.Type d → HeldTest T W d b r → FieldTest T W class f b r
   field-some d r n k =
       record {
-        is = λ t h l m w q.
-            let z : field.Type d ≡ field.Type (bytesOf w) = sym n ∙ e ∙ field-table T t (h .table) class f l ∙ ap foundType q in
-            let y : d ≡ bytesOf w = cc in
-            k .is t h m ∙ ap (λ (v : FieldType). holds (t .classes) (objectsIn W 0) (ty (v .class) (v .tag)) (refOf b)) y;
+        is = λ t h l m y w q.
+            let z : field.Type d ≡ field.Type (bytesOf w) = sym n ∙ e ∙ field-table T t (h .table) class f ∙ ap foundType q in
+            let u : d ≡ bytesOf w = cc in
+            k .is t h m y ∙ ap (λ (v : FieldType). holds (t .classes) (objectsIn W 0) (ty (v .class) (v .tag)) (refOf b y)) u;
       }
 
 -- ---- an object's fields
@@ -108,7 +113,7 @@ module _ (W : List ℕ) (i : ℕ) (o : Inside W 0 i) where
   unfolding objectsIn
   four = four-fields W (blockSize * 0) (countIn W 0) (o .block .packed) i (o .low)
 
-  code-at : (f : ℕ) → f < codeCount → getD W (objectSize * i + headSize + f) 0 ≡ codeOf (getD (refsAt (objectsIn W 0) i) f undet)
+  code-at : (f : ℕ) → f < codeCount → getD W (objectSize * i + headSize + f) 0 ≡ codeOf (getD (refsAt (objectsIn W 0) i) f (leaf undet))
   unfolding objectsIn
   code-at f l =
       ap (λ (p : ℕ). getD W p 0) (let z : objectSize * i + headSize + f ≡ blockSize * 0 + objectSize * i + headSize + f = omega arith in z)
@@ -128,11 +133,12 @@ module _ (W : List ℕ) (i : ℕ) (o : Inside W 0 i) where
       let z : objectSize * i + headSize + f ≡ blockSize * 0 + objectSize * i + headSize + f = omega arith in
       record { block = o .block; object = rw z (code-low W (blockSize * 0) (countIn W 0) (o .block .packed) i (o .low) (o .block .whole) f k) }
 
--- a reference that is no mark is what its code stands for
-ref-coded : (n : ℕ) (r : Ref) → n ≤ capacity → InRange n r → MarkBelow 0 r → (refOf (codeOf r) ≡ r) × (codeOf r ≤ undeterminedCode)
-ref-coded n (obj i) s h m = (ref-object i (omega arith), omega arith)
-ref-coded n (mark k) s h m = absurd (omega arith)
-ref-coded n undet s h m = (ref-undet, omega arith)
+-- a reference that is no mark is what its code and its number stand for
+ref-coded : (n : ℕ) (r : Ref) → n ≤ capacity → InRange n r → RefBelow 0 r → (refOf (codeOf r) (numberBeside r) ≡ r) × (codeOf r < firstMark)
+ref-coded n (obj i) s h m = (ref-object i 0 (omega arith), omega arith)
+ref-coded n (leaf (mark k)) s h m = absurd (omega arith)
+ref-coded n (leaf undet) s h m = (ref-undet 0, omega arith)
+ref-coded n (leaf (num x)) s h m = (ref-number x, omega arith)
 
 module _ (T W : List ℕ) (i : ℕ) (o : Inside W 0 i) where
   -- what the test of field f says of what it holds
@@ -145,10 +151,10 @@ module _ (T W : List ℕ) (i : ℕ) (o : Inside W 0 i) where
         let e : getD W (objectSize * i + headSize + f) 0 ≡ codeOf r = code-at W i o f (let z = a .1 in omega arith) ∙ ap codeOf (a .0) in
         let c = class-at W (o .block) i (o .low) in
         let n : length (objectsIn W 0) ≤ capacity = objects-few W (o .block) in
-        let y = ref-coded (length (objectsIn W 0)) r n (o .block .whole .inner i f r q) (all-get (MarkBelow 0) (refsAt (objectsIn W 0) i) (all-at (Formed t 0) (node 0 []) (formed-default t 0) (objectsIn W 0) (h .formed) i .marks) f r q) in
-        k .is t h (subst (λ (x : ℕ). x ≤ length (t .classes)) (sym c) (known T W t h i)) (subst (λ (x : ℕ). x ≤ undeterminedCode) (sym e) (y .1)) w
+        let y = ref-coded (length (objectsIn W 0)) r n (o .block .whole .inner i f r q) (all-get (RefBelow 0) (refsAt (objectsIn W 0) i) (all-at (Formed t 0) (node 0 []) (formed-default t 0) (objectsIn W 0) (h .formed) i .leaves) f r q) in
+        k .is t h (subst (λ (x : ℕ). x ≤ length (t .classes)) (sym c) (known T W t h i)) (subst (λ (x : ℕ). x < firstMark) (sym e) (y .1)) (numberBeside r) w
         (subst (λ (x : ℕ). getElem? (fieldsOf (t .classes) x) f ≡ some w) (sym c) p)
-        ∙ ap (holds (t .classes) (objectsIn W 0) w) (ap refOf e ∙ y .0)
+        ∙ ap (holds (t .classes) (objectsIn W 0) w) (ap (λ (x : ℕ). refOf x (numberBeside r)) e ∙ y .0)
 
   pub fields-none : FieldsHeld T W i 0
   fields-none = record { at = λ t h f w r l. absurd (omega arith) }

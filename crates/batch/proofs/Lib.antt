@@ -1,3 +1,5 @@
+pub mod PutFields
+pub mod ReadField
 pub mod ReadFields
 pub mod ReadLine
 pub mod PartLines
@@ -7,6 +9,7 @@ pub mod Reaches
 pub mod Shades
 pub mod Listings
 pub mod Colourings
+pub mod Layings
 pub mod Quotients
 pub mod Judges
-pub mod Gifts
+pub mod InputLaws

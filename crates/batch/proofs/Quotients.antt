@@ -1,80 +1,41 @@
 -- Laws of the parts that lead colours, laid as objects: these unfold as the parts do.
-use Prim.Native.Nat.{ℕ, zero, suc, _+_, _*_, _<_, _≤_}
+use Prim.Native.Nat.{ℕ, _+_, _*_, _-_, _/_, _%_, _<_, _≤_}
 use native.Mathlib.Omega.{arith}
-use native.Mathlib.Decide.{decLt, ℕ-discrete}
+use native.Mathlib.Decide.{decLt}
 use mathlib.Core.Path.{_≡_, refl, sym, ap, ap₂, _∙_, subst}
-use mathlib.Core.List.{List, [], _∷_, map}
+use mathlib.Core.List.{List, [], map}
 use mathlib.Core.Option.{some, Option·none-ne-some}
-use lib.ListN.{length, getD, getElem?, set, take, length-set, length-map, length-take, List·getD-eq-default}
-use lib.Seq.{getD-set-same, getD-set-other, getD-take, ext-getD}
-use Rattle.cofj.specs.Values.{Ref, obj, mark, undet, Node, node, graph, rename, renameNode, colourOf, nodeAt, refsAt}
+use lib.ListN.{length, getD, getElem?, take, length-map, length-take, List·getD-eq-default}
+use lib.Seq.{getD-take, ext-getD}
+use Rattle.cofj.specs.Values.{Ref, obj, leaf, mark, undet, num, Node, node, graph, rename, renameNode, colourOf, nodeAt, refsAt}
 use Rattle.cofj.specs.Unfolding.{child, SameTree, InRange, Whole}
-use Rattle.cofj.specs.Formed.{AllIn, MarkBelow}
-use Rattle.cofj.specs.Report.{refByte}
+use Rattle.cofj.specs.Formed.{AllIn, RefBelow}
 use Rattle.cofj.proofs.Partial.{opt-bind}
 use Rattle.cofj.proofs.Basics.{getD-map-lt, at-map}
 use Rattle.cofj.proofs.Trees.{renamed-same}
 use Rattle.cofj.proofs.Canon.{node-id}
 use Rattle.cofj.proofs.GoodValues.{all-at, all-get}
-use Rattle.canon.specs.Figures.{objectSize, undeterminedCode, wideSize}
-use Rattle.canon.specs.Layout.{refOf, nodeIn, nodesIn, Packed}
+use Rattle.canon.specs.Figures.{objectSize, codeCount, undeterminedCode, numberCode, wideSize}
+use Rattle.canon.specs.Layout.{refOf, numberBeside, numberAt, refIn, four, nodeIn, nodesIn, Packed}
 use Rattle.canon.specs.Numbers.{graphIn}
-use Rattle.canon.proofs.Nodes.{ref-object, ref-undet, some-at, length-nodes, at-nodes}
-use Rattle.batch.specs.Figures.{partSize, headSize, fieldRoom, noPart}
-use Rattle.batch.specs.Layout.{fieldByte, Lies}
+use Rattle.canon.proofs.Lifts.{copy-plain, copy-rest, copy-turned}
+use Rattle.canon.proofs.Nodes.{ref-object, ref-undet, ref-number, some-at, four-at, length-nodes, at-nodes}
+use Rattle.batch.specs.Figures.{partSize, headSize, fieldRoom, numbersAt, numberField, noPart}
+use Rattle.batch.specs.Layout.{heldByte, Lies}
 use Rattle.batch.specs.Reaching.{Listed, Reaches}
 use Rattle.batch.specs.Merging.{Quotient, Merged}
-use Rattle.batch.specs.Colouring.{tooMany, shadeIn, Coloured, Settled, Colours}
-use Rattle.batch.specs.Laying.{PartLaid, Laid}
-use Rattle.batch.proofs.Shades.{shade-head, shade-none, shade-part}
-use Rattle.batch.proofs.Listings.{ref-at, listed-low, listed-ref}
+use Rattle.batch.specs.Colouring.{tooMany, lookIn, shadeIn, Coloured, Settled, Colours}
+use Rattle.batch.specs.Laying.{Laid}
+use Rattle.batch.proofs.Shades.{look-part, look-number, look-none}
+use Rattle.batch.proofs.Listings.{held, held-lies, listed-low, listed-ref}
 
--- ---- laid
-module _ (P C : List ℕ) where
-  pub part-none : (p : ℕ) (R : List ℕ) (c : ℕ) → PartLaid P C p R c 0 R
-  part-none p R c = record { same = refl; here = λ f h. absurd (omega arith); below = λ q h. refl }
-
-  pub part-more : (p : ℕ) (R₀ : List ℕ) (c j : ℕ) (R : List ℕ) (v : ℕ) → PartLaid P C p R₀ c j R → v ≡ shadeIn C j (getD P (partSize * p + j) 0) → objectSize * c + j < length R
-      → PartLaid P C p R₀ c (j + 1) (set R (objectSize * c + j) v)
-  part-more p R₀ c j R v so e h = record {
-    same = length-set R (objectSize * c + j) v ∙ so .same;
-    here = λ f l. go f l (ℕ-discrete f j);
-    below = λ q l. getD-set-other R (objectSize * c + j) q v 0 (λ z. omega arith) ∙ so .below q l;
-  }
-    where
-      go : (f : ℕ) → f < j + 1 → Dec (f ≡ j) → getD (set R (objectSize * c + j) v) (objectSize * c + f) 0 ≡ shadeIn C f (getD P (partSize * p + f) 0)
-      go f l (yes z) = rw z (getD-set-same R (objectSize * c + j) v 0 h ∙ e)
-      go f l (no z) = getD-set-other R (objectSize * c + j) (objectSize * c + f) v 0 (λ q. z (omega arith)) ∙ so .here f (omega (arith, z))
-
-  pub part-done : (p : ℕ) (R₀ : List ℕ) (c j : ℕ) (R : List ℕ) → PartLaid P C p R₀ c j R → objectSize ≤ j → PartLaid P C p R₀ c objectSize R
-  part-done p R₀ c j R so h = record { same = so .same; here = λ f l. so .here f (omega arith); below = so .below }
-
-  module _ (D R₀ : List ℕ) where
-    pub leads-none : Laid P C D 0 R₀ R₀
-    leads-none = record { same = refl; here = λ c f h. absurd (omega arith) }
-
-    pub leads-more : (c : ℕ) (R R′ : List ℕ) → Laid P C D c R₀ R → PartLaid P C (getD D c 0) R c objectSize R′ → Laid P C D (c + 1) R₀ R′
-    leads-more c R R′ so pl = record { same = pl .same ∙ so .same; here = λ d f l h. go d f l h (ℕ-discrete d c) }
-      where
-        go : (d f : ℕ) → d < c + 1 → f < objectSize → Dec (d ≡ c) → getD R′ (objectSize * d + f) 0 ≡ shadeIn C f (getD P (partSize * getD D d 0 + f) 0)
-        go d f l h (yes z) = rw z (pl .here f h)
-        go d f l h (no z) = let n : d < c = omega (arith, z) in pl .below (objectSize * d + f) (omega arith) ∙ so .here d f n h
-
-    pub leads-done : (c k : ℕ) (R : List ℕ) → Laid P C D c R₀ R → k ≤ c → Laid P C D k R₀ R
-    leads-done c k R so h = record { same = so .same; here = λ d f l. so .here d f (omega arith) }
-
--- ---- four codes, of which as many count as there are references
-take-four : (n : ℕ) (a b c d : Ref) (rs : List Ref) → n ≡ length rs → length rs ≤ 4 → ((f : ℕ) → f < length rs → getD (a ∷ b ∷ c ∷ d ∷ []) f undet ≡ getD rs f undet) → take n (a ∷ b ∷ c ∷ d ∷ []) ≡ rs
-take-four n a b c d rs e h g =
-    ext-getD undet (take n (a ∷ b ∷ c ∷ d ∷ [])) rs (omega (arith, length-take n (a ∷ b ∷ c ∷ d ∷ [])))
-    (λ f l. let l′ : f < length rs = omega (arith, length-take n (a ∷ b ∷ c ∷ d ∷ [])) in getD-take n (a ∷ b ∷ c ∷ d ∷ []) f undet (omega arith) ∙ g f l′)
-
-at-four : (S : List ℕ) (at f : ℕ) → f < 4 → getD (refOf (getD S (at + 2) 0) ∷ refOf (getD S (at + 3) 0) ∷ refOf (getD S (at + 4) 0) ∷ refOf (getD S (at + 5) 0) ∷ []) f undet ≡ refOf (getD S (at + suc (suc f)) 0)
-at-four S at zero h = refl
-at-four S at (suc zero) h = refl
-at-four S at (suc (suc zero)) h = refl
-at-four S at (suc (suc (suc zero))) h = refl
-at-four S at (suc (suc (suc (suc f)))) h = absurd (omega arith)
+-- ---- four references, of which as many count as there are
+take-four : (S : List ℕ) (at n : ℕ) (rs : List Ref) → n ≡ length rs → length rs ≤ codeCount → ((f : ℕ) → f < length rs → refIn S at f ≡ getD rs f (leaf undet)) → take n (four S at) ≡ rs
+take-four S at n rs e h g =
+    ext-getD (leaf undet) (take n (four S at)) rs (omega (arith, length-take n (four S at)))
+    (λ f l.
+    let l′ : f < length rs = omega (arith, length-take n (four S at)) in
+    getD-take n (four S at) f (leaf undet) (omega arith) ∙ four-at S at f (omega arith) ∙ g f l′)
 
 -- ---- what is laid
 module _ (P L : List ℕ) (m : ℕ) (rc : Reaches P L m) (C D : List ℕ) (k : ℕ) (st : Settled P L m C D k) (R₀ R : List ℕ) (la : Laid P C D k R₀ R) (ns : List Node) (ly : Lies P ns) where
@@ -97,46 +58,84 @@ module _ (P L : List ℕ) (m : ℕ) (rc : Reaches P L m) (C D : List ℕ) (k : �
         let zc : objectSize * c + 0 ≡ objectSize * c = omega arith in
         let zx : partSize * x + 0 ≡ partSize * x = omega arith in
         let u : getD R (objectSize * c) 0 ≡ shadeIn C 0 (getD P (partSize * x) 0) = rw (zc, zx) at (look x c o e 0 (omega arith)) in
-        u ∙ sym (shade-head C 0 _ (omega arith)) ∙ ly .class x lx
+        u ∙ sym (copy-plain (lookIn C) _ 0 (omega arith)) ∙ ly .class x lx
 
     count : getD R (objectSize * c + 1) 0 ≡ length (refsAt ns x)
-    count = look x c o e 1 (omega arith) ∙ sym (shade-head C 1 _ (omega arith)) ∙ ly .count x lx
+    count = look x c o e 1 (omega arith) ∙ sym (copy-plain (lookIn C) _ 1 (omega arith)) ∙ ly .count x lx
 
-    code : (f : ℕ) → f < fieldRoom → getD R (objectSize * c + suc (suc f)) 0 ≡ shadeIn C (suc (suc f)) (fieldByte P x f)
-    code f h = let z : partSize * x + suc (suc f) ≡ partSize * x + headSize + f = omega arith in look x c o e (suc (suc f)) (omega arith) ∙ rw z
+    -- a field's code is that of what it holds, as it looks, and its number is beside it
+    code : (f : ℕ) → f < fieldRoom → getD R (objectSize * c + headSize + f) 0 ≡ lookIn C (heldByte (held P ns ly x f))
+    code f h =
+        let zc : objectSize * c + headSize + f ≡ objectSize * c + (headSize + f) = omega arith in
+        let zx : partSize * x + (headSize + f) ≡ partSize * x + headSize + f = omega arith in
+        rw zc
+        (look x c o e (headSize + f) (omega arith) ∙ sym (copy-turned (lookIn C) _ (headSize + f) _ (omega arith) (omega arith) refl)
+        ∙ ap (lookIn C) (ap (λ (k : ℕ). getD P k 0) zx ∙ held-lies P ns ly x f lx h .byte))
 
-    -- a field's code is of what it holds, coloured
-    held : (f : ℕ) (r : Ref) → getElem? (refsAt ns x) f ≡ some r → refOf (shadeIn C (suc (suc f)) (refByte r)) ≡ rename (colourOf C) r
-    held f (obj i) a =
-        ap refOf (sym (shade-part C (suc (suc f)) i (omega arith) (λ z. omega (arith, ly .few, ly .whole .inner x f (obj i) a))))
-        ∙ ref-object (getD C i 0) (omega (arith, low i (listed-ref P ns ly L m rc x f i o a), co .few))
-    held f (mark y) a =
-        let h : y < 0 = all-get (MarkBelow 0) (refsAt ns x) (all-at (λ (n : Node). AllIn (MarkBelow 0) (n .refs)) (node 0 []) tt ns (ly .closed) x) f (mark y) a in
+    rest : (j : ℕ) → numbersAt ≤ j → j < objectSize → getD R (objectSize * c + j) 0 ≡ getD P (partSize * x + j) 0
+    rest j a h = look x c o e j h ∙ sym (copy-rest (lookIn C) _ j a)
+
+    low-digit : (f : ℕ) → f < fieldRoom → getD R (objectSize * c + numbersAt + 2 * f) 0 ≡ numberBeside (held P ns ly x f) % 256
+    low-digit f h =
+        let zc : objectSize * c + numbersAt + 2 * f ≡ objectSize * c + (numbersAt + 2 * f) = omega arith in
+        let zx : partSize * x + (numbersAt + 2 * f) ≡ partSize * x + numbersAt + 2 * f = omega arith in
+        rw zc (rest (numbersAt + 2 * f) (omega arith) (omega arith) ∙ ap (λ (k : ℕ). getD P k 0) zx ∙ held-lies P ns ly x f lx h .low)
+
+    high-digit : (f : ℕ) → f < fieldRoom → getD R (objectSize * c + numbersAt + 2 * f + 1) 0 ≡ numberBeside (held P ns ly x f) / 256
+    high-digit f h =
+        let zc : objectSize * c + numbersAt + 2 * f + 1 ≡ objectSize * c + (numbersAt + 2 * f + 1) = omega arith in
+        let zx : partSize * x + (numbersAt + 2 * f + 1) ≡ partSize * x + numbersAt + 2 * f + 1 = omega arith in
+        rw zc (rest (numbersAt + 2 * f + 1) (omega arith) (omega arith) ∙ ap (λ (k : ℕ). getD P k 0) zx ∙ held-lies P ns ly x f lx h .high)
+
+    number : (f : ℕ) → f < fieldRoom → numberAt R (objectSize * c + numbersAt + 2 * f) ≡ numberBeside (held P ns ly x f)
+    number f h = omega (arith, low-digit f h, high-digit f h)
+
+    -- so the field is what it holds, coloured
+    turned : (f : ℕ) (r : Ref) → getElem? (refsAt ns x) f ≡ some r → refOf (lookIn C (heldByte r)) (numberBeside r) ≡ rename (colourOf C) r
+    turned f (obj i) a =
+        ap (λ (b : ℕ). refOf b 0) (sym (look-part C i (omega (arith, ly .few, ly .whole .inner x f (obj i) a))))
+        ∙ ref-object (getD C i 0) 0 (omega (arith, low i (listed-ref P ns ly L m rc x f i o a), co .few))
+    turned f (leaf (mark y)) a =
+        let h : y < 0 = all-get (RefBelow 0) (refsAt ns x) (all-at (λ (n : Node). AllIn (RefBelow 0) (n .refs)) (node 0 []) tt ns (ly .closed) x) f (leaf (mark y)) a in
         absurd (omega arith)
-    held f undet a = ap refOf (sym (shade-none C (suc (suc f)) noPart (omega arith) refl)) ∙ ref-undet
+    turned f (leaf undet) a = ap (λ (b : ℕ). refOf b 0) (sym (look-none C noPart (omega arith) (λ z. omega arith))) ∙ ref-undet 0
+    turned f (leaf (num y)) a = ap (λ (b : ℕ). refOf b y) (sym (look-number C numberField refl)) ∙ ref-number y
 
     object-is : nodeIn R (objectSize * c) ≡ renameNode (colourOf C) (nodeAt ns x)
-    unfolding nodeIn
+    unfolding nodeIn refIn
     object-is =
         ap₂ node class
-        (take-four _ _ _ _ _ (map (rename (colourOf C)) (refsAt ns x)) (count ∙ sym n) (omega (arith, n, ly .low x lx))
+        (take-four R (objectSize * c) _ (map (rename (colourOf C)) (refsAt ns x)) (count ∙ sym n) (omega (arith, n, ly .low x lx))
         (λ f h.
         let l : f < length (refsAt ns x) = omega (arith, n) in
-        let g : f < 4 = omega (arith, ly .low x lx) in
-        at-four R (objectSize * c) f g ∙ ap refOf (code f g ∙ ap (shadeIn C (suc (suc f))) (ref-at P ns ly x f lx l))
-        ∙ held f (getD (refsAt ns x) f undet) (some-at (refsAt ns x) f l)
-        ∙ sym (getD-map-lt (rename (colourOf C)) (refsAt ns x) f undet undet l)))
+        let g : f < fieldRoom = omega (arith, ly .low x lx) in
+        ap₂ refOf (code f g) (number f g)
+        ∙ turned f (held P ns ly x f) (some-at (refsAt ns x) f l)
+        ∙ sym (getD-map-lt (rename (colourOf C)) (refsAt ns x) f (leaf undet) (leaf undet) l)))
       where
         n : length (map (rename (colourOf C)) (refsAt ns x)) ≡ length (refsAt ns x)
         n = length-map (refsAt ns x) (rename (colourOf C))
 
     packed : Packed R (objectSize * c)
-    packed = record { count = rw count (ly .low x lx); spare = λ j a b. spare j (rw count at a) b }
+    packed = record {
+      count = rw count (ly .low x lx);
+      spare = λ j a b. spare j (rw count at a) b;
+      plain = λ f h d. number f h ∙ plain f h (held P ns ly x f) refl d;
+      low = λ f h. omega (arith, low-digit f h);
+      blank = λ j a h. rest j (omega arith) h ∙ ly .blank x j lx a h;
+    }
       where
-        spare : (j : ℕ) → 2 + length (refsAt ns x) ≤ j → j < objectSize → getD R (objectSize * c + j) 0 ≡ undeterminedCode
-        spare zero a b = absurd (omega arith)
-        spare (suc zero) a b = absurd (omega arith)
-        spare (suc (suc f)) a b = code f (omega arith) ∙ sym (shade-none C (suc (suc f)) _ (omega arith) (ly .spare x f lx (omega arith) (omega arith)))
+        spare : (j : ℕ) → headSize + length (refsAt ns x) ≤ j → j < numbersAt → getD R (objectSize * c + j) 0 ≡ undeterminedCode
+        spare j a b =
+            let z : objectSize * c + j ≡ objectSize * c + headSize + (j - headSize) = omega arith in
+            let e : held P ns ly x (j - headSize) ≡ leaf undet = List·getD-eq-default (refsAt ns x) (leaf undet) {n = j - headSize} (omega arith) in
+            rw z (code (j - headSize) (omega arith) ∙ ap (λ (r : Ref). lookIn C (heldByte r)) e ∙ sym (look-none C noPart (omega arith) (λ y. omega arith)))
+
+        plain : (f : ℕ) → f < fieldRoom → (r : Ref) → held P ns ly x f ≡ r → ((getD R (objectSize * c + headSize + f) 0 ≡ numberCode) → ⊥) → numberBeside r ≡ 0
+        plain f h (obj i) e d = refl
+        plain f h (leaf (mark k)) e d = refl
+        plain f h (leaf undet) e d = refl
+        plain f h (leaf (num k)) e d = absurd (d (code f h ∙ ap (λ (r : Ref). lookIn C (heldByte r)) e ∙ sym (look-number C numberField refl)))
 
   object-at : (x c : ℕ) → Listed L m x → c ≡ getD C x 0 → nodeAt (nodesIn R 0 k) c ≡ renameNode (colourOf C) (nodeAt ns x)
   object-at x c o e =
@@ -146,13 +145,12 @@ module _ (P L : List ℕ) (m : ℕ) (rc : Reaches P L m) (C D : List ℕ) (k : �
   lead-at : (c : ℕ) → c < k → nodeAt (nodesIn R 0 k) c ≡ renameNode (colourOf C) (nodeAt ns (getD D c 0))
   lead-at c h = object-at (getD D c 0) c (co .leads c h) (sym (co .own c h))
 
-  whole : Whole (graph undet (nodesIn R 0 k))
+  whole : Whole (graph (leaf undet) (nodesIn R 0 k))
   whole = record { top = tt; inner = λ i f r e. go i f r e (decLt i k) }
     where
       coloured : (x f : ℕ) → Listed L m x → (s : Ref) → getElem? (refsAt ns x) f ≡ some s → InRange (length (nodesIn R 0 k)) (rename (colourOf C) s)
       coloured x f o (obj i) e = rw (length-nodes R 0 k) (low i (listed-ref P ns ly L m rc x f i o e))
-      coloured x f o (mark y) e = tt
-      coloured x f o undet e = tt
+      coloured x f o (leaf l) e = tt
 
       go : (i f : ℕ) (r : Ref) → getElem? (refsAt (nodesIn R 0 k) i) f ≡ some r → Dec (i < k) → InRange (length (nodesIn R 0 k)) r
       go i f r e (yes h) =
@@ -165,15 +163,12 @@ module _ (P L : List ℕ) (m : ℕ) (rc : Reaches P L m) (C D : List ℕ) (k : �
 
   abbrev Met : Ref → Type 0
   Met (obj i) = Listed L m i
-  Met (mark y) = Unit {0}
-  Met undet = Unit {0}
+  Met (leaf l) = Unit {0}
 
   met-child : (r : Ref) → Met r → (f : ℕ) (s : Ref) → child ns r f ≡ some s → Met s
   met-child (obj i) o f (obj j) e = listed-ref P ns ly L m rc i f j o e
-  met-child (obj i) o f (mark y) e = tt
-  met-child (obj i) o f undet e = tt
-  met-child (mark y) o f s e = absurd (Option·none-ne-some s e)
-  met-child undet o f s e = absurd (Option·none-ne-some s e)
+  met-child (obj i) o f (leaf l) e = tt
+  met-child (leaf l) o f s e = absurd (Option·none-ne-some s e)
 
   tree : SameTree (graphIn R k 0) (graph (obj 0) ns)
   tree path =

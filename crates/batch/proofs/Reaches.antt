@@ -1,52 +1,16 @@
 -- Laws of the parts that part 0 leads to, listed. The room in the list is by counting what is not listed yet.
 -- Not here: what the lists say of parts that are known by their lines (Listings).
-use Prim.Native.Nat.{ℕ, zero, suc, _+_, _*_, _<_, _≤_}
+use Prim.Native.Nat.{ℕ, _+_, _*_, _<_, _≤_}
 use native.Mathlib.Omega.{arith}
 use native.Mathlib.Decide.{decLt, ℕ-discrete}
-use mathlib.Core.Path.{_≡_, refl, sym, ap, ap₂, _∙_, subst}
-use mathlib.Core.Bool.{Bool, true, false, cond}
+use mathlib.Core.Path.{_≡_, refl, sym, ap, _∙_, subst}
 use mathlib.Core.List.{List}
-use lib.Dec.{eqb}
 use lib.ListN.{length, getD, set, replicate, length-set, length-replicate}
 use lib.Seq.{getD-set-same, getD-set-other}
-use borrow.Author.Tests.{eq-eqb, ne-eqb}
-use Rattle.batch.specs.Figures.{partSize, headSize, fieldRoom, noPart}
+use Rattle.canon.proofs.Zeros.{zero-at, zeros-few, zeros-put}
+use Rattle.batch.specs.Figures.{partSize, headSize, fieldRoom, numberField}
 use Rattle.batch.specs.Layout.{fieldByte}
-use Rattle.batch.specs.Reaching.{Listed, FieldOf, Led, first, next, zeros, Noted, Met, FieldsMet, ReachedTo, Reaches}
-
--- ---- how many are 0
-pub zeros-few : (k : ℕ) (S : List ℕ) → zeros k S ≤ k
-unfolding zeros
-zeros-few zero S = omega arith
-zeros-few (suc k) S = go (eqb (getD S k 0) 0) (zeros-few k S)
-  where
-    go : (b : Bool) → zeros k S ≤ k → cond b 1 0 + zeros k S ≤ suc k
-    go true h = omega arith
-    go false h = omega arith
-
-zeros-other : (k x v : ℕ) (S : List ℕ) → k ≤ x → zeros k (set S x v) ≡ zeros k S
-unfolding zeros
-zeros-other zero x v S h = refl
-zeros-other (suc k) x v S h =
-    ap₂ {A = ℕ} {B = ℕ} {C = ℕ} (λ p q. cond (eqb p 0) 1 0 + q) (getD-set-other S x k v 0 (λ z. omega arith)) (zeros-other k x v S (omega arith))
-
-pub zeros-put : (k x : ℕ) (S : List ℕ) → x < k → x < length S → getD S x 0 ≡ 0 → suc (zeros k (set S x 1)) ≡ zeros k S
-unfolding zeros
-zeros-put zero x S h l e = absurd (omega arith)
-zeros-put (suc k) x S h l e = go (ℕ-discrete k x) (λ h′. zeros-put k x S h′ l e)
-  where
-    go : Dec (k ≡ x) → (x < k → suc (zeros k (set S x 1)) ≡ zeros k S)
-        → suc (cond (eqb (getD (set S x 1) k 0) 0) 1 0 + zeros k (set S x 1)) ≡ cond (eqb (getD S k 0) 0) 1 0 + zeros k S
-    go (yes z) ih =
-        let o : getD S k 0 ≡ 0 = ap (λ (i : ℕ). getD S i 0) z ∙ e in
-        let p : getD (set S x 1) k 0 ≡ 1 = ap (λ (i : ℕ). getD (set S x 1) i 0) z ∙ getD-set-same S x 1 0 l in
-        rw (eq-eqb (getD S k 0) 0 o, ne-eqb (getD (set S x 1) k 0) 0 (λ q. omega arith), zeros-other k x 1 S (omega arith)) (omega arith)
-    go (no z) ih = rw (getD-set-other S x k 1 0 z) (omega (arith, ih (omega (arith, z))))
-
-pub zero-at : (k x : ℕ) → _≡_ {A = ℕ} (getD (replicate k 0) x 0) 0
-zero-at zero x = refl
-zero-at (suc k) zero = refl
-zero-at (suc k) (suc x) = zero-at k x
+use Rattle.batch.specs.Reaching.{Listed, FieldOf, Led, first, next, Noted, Met, FieldsMet, ReachedTo, Reaches}
 
 -- what is listed stays so while the list grows
 listed-kept : (L L′ : List ℕ) (t r x : ℕ) → t ≤ r → ((q : ℕ) → q < t → getD L′ q 0 ≡ getD L q 0) → Listed L t x → Listed L′ r x
@@ -54,18 +18,18 @@ listed-kept L L′ t r x h front o = record { place = o .place; low = omega (ari
 
 -- ---- a byte met
 module _ (S L : List ℕ) (t b : ℕ) (nd : Noted S L t) where
-  unchanged : (b < noPart → Listed L t b) → Met L t b S L t
+  unchanged : (b < numberField → Listed L t b) → Met L t b S L t
   unchanged h = record { noted = nd; more = omega arith; front = λ q l. refl; new = λ q a l. absurd (omega arith); part = λ l. absurd (omega arith); here = h }
 
-  pub met-none : b ≡ noPart → Met L t b S L t
-  met-none e = unchanged (λ l. absurd (omega arith))
+  pub met-none : numberField ≤ b → Met L t b S L t
+  met-none h = unchanged (λ l. absurd (omega arith))
 
   pub met-known : ((getD S b 0 ≡ 0) → ⊥) → Met L t b S L t
   met-known d = unchanged (λ _. nd .listed b d)
 
-  module _ (h : b < noPart) (e : getD S b 0 ≡ 0) where
-    pub met-few : t < noPart
-    met-few = omega (arith, nd .free, zeros-put noPart b S h (omega (arith, nd .seen)) e)
+  module _ (h : b < numberField) (e : getD S b 0 ≡ 0) where
+    pub met-few : t < numberField
+    met-few = omega (arith, nd .free, zeros-put numberField b 1 S h (omega (arith, nd .seen)) e (omega arith))
 
     end : getD (set L t b) t 0 ≡ b
     end = getD-set-same L t b 0 (omega (arith, met-few, nd .list))
@@ -75,7 +39,7 @@ module _ (S L : List ℕ) (t b : ℕ) (nd : Noted S L t) where
       noted = record {
         seen = length-set S b 1 ∙ nd .seen;
         list = length-set L t b ∙ nd .list;
-        free = omega (arith, nd .free, zeros-put noPart b S h (omega (arith, nd .seen)) e);
+        free = omega (arith, nd .free, zeros-put numberField b 1 S h (omega (arith, nd .seen)) e (omega arith));
         listed = λ x d. listed x d (ℕ-discrete x b);
       };
       more = omega arith;
@@ -110,7 +74,7 @@ module _ (P : List ℕ) (p : ℕ) (L₀ : List ℕ) (t : ℕ) where
       byte : getD P i 0 ≡ fieldByte P p k
       byte = ap (λ (j : ℕ). getD P j 0) e
 
-      heres : (f : ℕ) → f < k + 1 → fieldByte P p f < noPart → Dec (f ≡ k) → Listed L′ r′ (fieldByte P p f)
+      heres : (f : ℕ) → f < k + 1 → fieldByte P p f < numberField → Dec (f ≡ k) → Listed L′ r′ (fieldByte P p f)
       heres f l b (yes z) =
           let u : getD P i 0 ≡ fieldByte P p f = byte ∙ ap (fieldByte P p) (sym z) in
           subst (Listed L′ r′) u (m .here (rw u b))
@@ -149,7 +113,7 @@ module _ (P : List ℕ) where
   }
     where
       nothing : Noted (replicate k 0) L 0
-      nothing = record { seen = length-replicate k 0 ∙ ek; list = ll; free = omega (arith, zeros-few noPart (replicate k 0)); listed = λ x d. absurd (d (zero-at k x)) }
+      nothing = record { seen = length-replicate k 0 ∙ ek; list = ll; free = omega (arith, zeros-few numberField (replicate k 0)); listed = λ x d. absurd (d (zero-at k x)) }
 
       m : Met L 0 0 (set (replicate k 0) 0 1) (set L 0 0) 1
       m = met-new (replicate k 0) L 0 0 nothing (omega arith) (zero-at k 0)
@@ -160,7 +124,7 @@ module _ (P : List ℕ) where
       head-read = omega (arith, so .noted .list, so .noted .free)
 
       module _ (S2 L2 : List ℕ) (r : ℕ) (o : FieldsMet P (getD L h 0) 4 L t S2 L2 r) where
-        pub reach-few : r ≤ noPart
+        pub reach-few : r ≤ numberField
         reach-few = omega (arith, o .noted .free)
 
         pub reach-more : ReachedTo P S2 L2 r (h + 1)
@@ -176,7 +140,7 @@ module _ (P : List ℕ) where
             kept : (y : ℕ) → Listed L t y → Listed L2 r y
             kept y = listed-kept L L2 t r y (o .more) (o .front)
 
-            closed : (q f : ℕ) → q < h + 1 → f < fieldRoom → fieldByte P (getD L q 0) f < noPart → Dec (q ≡ h) → Listed L2 r (fieldByte P (getD L q 0) f)
+            closed : (q f : ℕ) → q < h + 1 → f < fieldRoom → fieldByte P (getD L q 0) f < numberField → Dec (q ≡ h) → Listed L2 r (fieldByte P (getD L q 0) f)
             closed q f l b c (yes z) = rw z (o .here f b (rw z at c))
             closed q f l b c (no z) = kept _ (so .closed q f (omega (arith, z)) b c)
 

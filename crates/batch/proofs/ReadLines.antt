@@ -14,18 +14,20 @@ use Rattle.cofj.specs.Limits.{partCount}
 use Rattle.cofj.specs.Partial.{_>>=_, guard}
 use Rattle.cofj.specs.Text.{within}
 use Rattle.cofj.specs.Syntax.{Class, Table}
-use Rattle.cofj.specs.Values.{Ref, Node, node, nodeAt, refsAt}
+use Rattle.cofj.specs.Values.{Ref, leaf, undet, Node, node, nodeAt, refsAt}
 use Rattle.cofj.specs.Unfolding.{InRange}
-use Rattle.cofj.specs.Formed.{AllIn, MarkBelow}
+use Rattle.cofj.specs.Formed.{AllIn, RefBelow}
+use Rattle.cofj.proofs.Basics.{at-lt}
 use Rattle.cofj.proofs.TextRound.{within-true, true-within}
 use Rattle.lineform.specs.Packed.{unpack, Packed}
 use Rattle.lineform.proofs.LineLaws.{Rest, LineAt, line-at, line-within, line-part, line-next, rest-all, unpack-all, at-end}
+use Rattle.canon.proofs.Nodes.{some-at}
 use Rattle.classes.specs.Layout.{Tabled}
 use Rattle.batch.specs.declared.lines.Parts.the-variants.{Listed, Refused}
-use Rattle.batch.specs.Figures.{partSize, headSize}
+use Rattle.batch.specs.Figures.{partSize}
 use Rattle.batch.specs.Layout.{Lies}
 use Rattle.batch.specs.Reading.{partOf, PartLies, PartRead, LineAnswered, LineRead, lineCount, partsIn, Answered, LinesRead}
-use Rattle.batch.proofs.ReadLine.{at-lt}
+use Rattle.batch.proofs.PutFields.{field-kept}
 use Rattle.batch.proofs.PartLines.{partsFrom, parts-in, none-listed}
 
 -- ---- counting
@@ -87,10 +89,13 @@ lies-still n P P′ k i o s h l = record {
   class = s (partSize * i) (omega arith) ∙ l .class;
   count = s (partSize * i + 1) (omega arith) ∙ l .count;
   low = l .low;
-  inner = l .inner;
-  closed = l .closed;
-  field = λ f r e. let z = at-lt (o .refs) f r e in let y = l .low in s (partSize * i + headSize + f) (omega arith) ∙ l .field f r e;
-  spare = λ f a b. s (partSize * i + headSize + f) (omega arith) ∙ l .spare f a b;
+  field = λ f r e.
+      let z = at-lt (o .refs) f r e in
+      let y = l .low in
+      let w = l .field f r e in
+      record { inner = w .inner; below = w .below; lies = field-kept P P′ (partSize * i) f _ _ (λ j a b. s j (omega arith)) (omega arith) (w .lies) };
+  spare = λ f a b. field-kept P P′ (partSize * i) f _ _ (λ j c d. s j (omega arith)) b (l .spare f a b);
+  blank = λ j a b. s (partSize * i + j) (omega arith) ∙ l .blank j a b;
 }
 
 line-true : (p : Option Node) (k n : ℕ) (P₀ P : List ℕ) (r : Bool) → LineAnswered p k n P₀ P r → not r ≡ false → (o : Node) × (p ≡ some o) × PartRead n P₀ k o P
@@ -183,16 +188,17 @@ parts-lie P ns one few h = record {
   some-part = one;
   few = few;
   whole = record { top = omega arith; inner = λ i. inner i (decLt i (length ns)) };
-  closed = all-in (λ o. AllIn (MarkBelow 0) (o .refs)) (node 0 []) ns (λ i l. h i l .closed);
+  closed = all-in (λ o. AllIn (RefBelow 0) (o .refs)) (node 0 []) ns (λ i l. all-in (RefBelow 0) (leaf undet) (refsAt ns i) (λ f m. h i l .field f _ (some-at (refsAt ns i) f m) .below));
   class = λ i l. h i l .class;
   count = λ i l. h i l .count;
   low = λ i l. h i l .low;
-  field = λ i f r l. h i l .field f r;
+  field = λ i f r l e. h i l .field f r e .lies;
   spare = λ i f l. h i l .spare f;
+  blank = λ i j l. h i l .blank j;
 }
   where
     inner : (i : ℕ) → Dec (i < length ns) → (f : ℕ) (r : Ref) → getElem? (refsAt ns i) f ≡ some r → InRange (length ns) r
-    inner i (yes l) f r e = h i l .inner f r e
+    inner i (yes l) f r e = h i l .field f r e .inner
     inner i (no l) f r e =
         let past : refsAt ns i ≡ [] = ap (λ (o : Node). o .refs) (List·getD-eq-default ns (node 0 []) (omega (arith, l))) in
         absurd (Option·none-ne-some r (sym (ap (λ (rs : List Ref). getElem? rs f) past) ∙ e))

@@ -4,29 +4,30 @@ use Prim.Native.Nat.{ℕ, _+_, _*_, _<_, _≤_}
 use native.Mathlib.Omega.{arith}
 use native.Mathlib.Decide.{decLt, ℕ-discrete}
 use mathlib.Core.Path.{_≡_, refl, sym, _∙_, subst}
-use mathlib.Core.Bool.{Bool, true, false, false≢true, true≢false}
+use mathlib.Core.Bool.{Bool, true, false, not, false≢true, true≢false}
 use mathlib.Core.List.{List}
 use lib.ListN.{getD}
-use borrow.Author.Tests.{lt-ltb, le-ltb, eq-eqb, ne-eqb}
-use Rattle.canon.specs.Figures.{objectSize, undeterminedCode}
-use Rattle.canon.specs.Links.{AlikeTo}
-use Rattle.canon.proofs.Looks.{alike-not, alike-all}
-use Rattle.batch.specs.Figures.{headSize, noPart}
-use Rattle.batch.specs.Colouring.{shadeIn, Alike, Alikeness, FirstAlike, Own}
+use borrow.Author.Tests.{lt-ltb, le-ltb, eq-eqb, ne-eqb, not-true}
+use Rattle.canon.specs.Figures.{objectSize, undeterminedCode, numberCode}
+use Rattle.canon.specs.Tables.{Plain, PlainTest}
+use Rattle.canon.specs.Links.{AlikeTo, AlikeTest}
+use Rattle.canon.proofs.Looks.{plain-not, codes-not, codes-all}
+use Rattle.batch.specs.Figures.{headSize, numbersAt, numberField}
+use Rattle.batch.specs.Colouring.{lookIn, shadeIn, Alike, Alikeness, FirstAlike, Own}
 
 -- ---- a byte as it looks
-module _ (C : List ℕ) (j b : ℕ) where
-  pub shade-head : j < headSize → b ≡ shadeIn C j b
-  unfolding shadeIn
-  shade-head h = rw (lt-ltb j headSize h)
+module _ (C : List ℕ) (b : ℕ) where
+  pub look-part : b < numberField → getD C b 0 ≡ lookIn C b
+  unfolding lookIn
+  look-part h = rw (lt-ltb b numberField h)
 
-  pub shade-none : headSize ≤ j → b ≡ noPart → undeterminedCode ≡ shadeIn C j b
-  unfolding shadeIn
-  shade-none h e = rw (le-ltb j headSize h, eq-eqb b noPart e)
+  pub look-number : b ≡ numberField → numberCode ≡ lookIn C b
+  unfolding lookIn
+  look-number e = rw (le-ltb b numberField (omega arith), eq-eqb b numberField e)
 
-  pub shade-part : headSize ≤ j → ((b ≡ noPart) → ⊥) → getD C b 0 ≡ shadeIn C j b
-  unfolding shadeIn
-  shade-part h d = rw (le-ltb j headSize h, ne-eqb b noPart d)
+  pub look-none : numberField ≤ b → ((b ≡ numberField) → ⊥) → undeterminedCode ≡ lookIn C b
+  unfolding lookIn
+  look-none h d = rw (le-ltb b numberField h, ne-eqb b numberField d)
 
 -- ---- the test
 module _ (P C : List ℕ) where
@@ -43,12 +44,19 @@ module _ (P C : List ℕ) where
     pub test-apart : ((getD C p 0 ≡ getD C q 0) → ⊥) → Alikeness P C p q false
     test-apart d = record { yes = λ z. absurd (false≢true z); not = λ _ w. d (w .colour) }
 
-    pub test-not : (j a b : ℕ) → AlikeTo (shadeIn C) P p q j → a ≡ shadeIn C j (getD P (objectSize * p + j) 0) → b ≡ shadeIn C j (getD P (objectSize * q + j) 0) → j < objectSize → ((a ≡ b) → ⊥)
-        → Alikeness P C p q false
-    test-not j a b t ea eb h d = record { yes = λ z. absurd (false≢true z); not = λ _ w. alike-not (shadeIn C) P p q j a b t ea eb h d .not refl (w .looks) }
+    -- by the test of their looks
+    by-looks : AlikeTest (shadeIn C) P p q false → Alikeness P C p q false
+    by-looks t = record { yes = λ z. absurd (false≢true z); not = λ _ w. t .not refl (w .looks) }
 
-    pub test-all : getD C p 0 ≡ getD C q 0 → (j : ℕ) → AlikeTo (shadeIn C) P p q j → objectSize ≤ j → Alikeness P C p q true
-    test-all e j t h = record { yes = λ _. record { colour = e; looks = alike-all (shadeIn C) P p q j t h .yes refl }; not = λ z. absurd (true≢false z) }
+    pub test-plain : (r : Bool) → PlainTest P (objectSize * p) (objectSize * q) r → not r ≡ true → Alikeness P C p q false
+    test-plain r t e = by-looks (plain-not (lookIn C) P p q r t (not-true r e))
+
+    pub test-not : (j a b : ℕ) → AlikeTo (shadeIn C) P p q j → headSize ≤ j → j < numbersAt → a ≡ lookIn C (getD P (objectSize * p + j) 0) → b ≡ lookIn C (getD P (objectSize * q + j) 0)
+        → ((a ≡ b) → ⊥) → Alikeness P C p q false
+    test-not j a b t l h ea eb d = by-looks (codes-not (lookIn C) P p q j a b t l h ea eb d)
+
+    pub test-all : getD C p 0 ≡ getD C q 0 → Plain P (objectSize * p) (objectSize * q) → (j : ℕ) → AlikeTo (shadeIn C) P p q j → numbersAt ≤ j → Alikeness P C p q true
+    test-all e s j t h = record { yes = λ _. record { colour = e; looks = codes-all (lookIn C) P p q s j t h .yes refl }; not = λ z. absurd (true≢false z) }
 
 -- ---- the first colour whose leading part is alike part p
 module _ (P C D : List ℕ) (p : ℕ) where

@@ -8,9 +8,10 @@ use lib.Dec.{eqb, ltb}
 use lib.ListN.{length, getD}
 use Rattle.cofj.specs.Values.{obj, Node}
 use Rattle.cofj.specs.Unfolding.{Same}
-use Rattle.canon.specs.Figures.{objectSize, undeterminedCode, capacity}
+use Rattle.canon.specs.Figures.{objectSize, undeterminedCode, numberCode, capacity}
+use Rattle.canon.specs.Tables.{onCodes}
 use Rattle.canon.specs.Links.{AlikeTo}
-use Rattle.batch.specs.Figures.{headSize, noPart, wideSize}
+use Rattle.batch.specs.Figures.{numberField, wideSize, byteCount}
 use Rattle.batch.specs.Layout.{Lies}
 use Rattle.batch.specs.Reaching.{Listed}
 use Rattle.batch.specs.Merging.{Many}
@@ -19,9 +20,13 @@ use Rattle.batch.specs.Merging.{Many}
 abbrev pub tooMany : ℕ
 tooMany = suc capacity
 
--- byte j of a part as it looks: of its head itself, of a field the colour of what it holds
-unfoldable pub shadeIn : List ℕ → ℕ → ℕ → ℕ
-shadeIn C j b = cond (ltb j headSize) b (cond (eqb b noPart) undeterminedCode (getD C b 0))
+-- a field's byte as it looks: the colour of the part that it holds, a number, or undetermined
+unfoldable pub lookIn : List ℕ → ℕ → ℕ
+lookIn C b = cond (ltb b numberField) (getD C b 0) (cond (eqb b numberField) numberCode undeterminedCode)
+
+-- byte j of a part as it looks: a field's so, any other itself
+abbrev pub shadeIn : List ℕ → ℕ → ℕ → ℕ
+shadeIn C = onCodes (lookIn C)
 
 -- parts p and q have one colour, and look alike; and whether they do
 pub record Alike (P C : List ℕ) (p q : ℕ) : Type 0 where
@@ -42,7 +47,7 @@ pub record FirstAlike (P C D : List ℕ) (c top p r : ℕ) : Type 0 where
 -- room for all of it
 pub record Room (P C D : List ℕ) : Type 0 where
   pub parts : wideSize ≤ length P
-  pub colours : length C ≡ 256
+  pub colours : length C ≡ byteCount
   pub leads : length D ≡ capacity
 
 -- part p is of one of the first k colours, and the part that leads one has it

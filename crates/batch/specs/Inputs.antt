@@ -7,7 +7,8 @@ use lib.ListN.{length}
 use Rattle.cofj.specs.Syntax.{ty, Table}
 use Rattle.cofj.specs.Values.{Node}
 use Rattle.cofj.specs.Formed.{AllIn, Formed}
-use Rattle.cofj.specs.Batch.{Input as Gift, refused as unfit, given, started, fitting, inputOf}
+use Rattle.cofj.specs.Batch as language
+use Rattle.cofj.specs.Batch.{given, started, fitting, inputOf}
 use Rattle.classes.specs.Layout.{Tabled}
 use Rattle.canon.specs.Figures.{capacity, blockSize}
 use Rattle.canon.specs.Rounds.{Raw}
@@ -38,8 +39,8 @@ pub record Objects (R : List ℕ) (k : ℕ) (W : List ℕ) : Type 0 where
   pub block : blockSize ≤ length W
 
 -- the answer for what is given, and the block that has it
-abbrev pub Answered : Gift → List ℕ → Input → Type 0
-Answered (unfit k) W r = r ≡ Refused k
+abbrev pub Answered : language.Input → List ℕ → Input → Type 0
+Answered (language.refused k) W r = r ≡ Refused k
 Answered (given v) W r = (r ≡ Given) × Has W 0 v
 
 -- of the parts in P, which are of the table's classes

@@ -13,7 +13,7 @@ use Rattle.cofj.specs.Formed.{AllIn, Formed}
 use Rattle.cofj.specs.Batch.{holds, allHold, objectsHold}
 use Rattle.classes.specs.Layout.{Tabled}
 use Rattle.classes.specs.declared.chain.FieldType.{FieldType}
-use Rattle.canon.specs.Figures.{firstLeaf, undeterminedCode}
+use Rattle.canon.specs.Figures.{firstLeaf, firstMark}
 use Rattle.canon.specs.Layout.{refOf, countIn, objectsIn, Block}
 
 -- the objects are of the table's classes, with their fields, and hold no mark
@@ -21,19 +21,19 @@ pub record Formable (T W : List ℕ) (t : Table) : Type 0 where
   pub table : Tabled T t
   pub formed : AllIn (Formed t 0) (objectsIn W 0)
 
--- the code b is that of one of the objects, or of undetermined
+-- the code b is that of one of the objects, or of a leaf
 pub record Coded (W : List ℕ) (b : ℕ) : Type 0 where
   pub block : Block W 0
   pub object : b < firstLeaf → b < countIn W 0
 
--- a place of type w and the code b
+-- a place of type w and the code b, which is no mark's, whatever number stands beside it
 pub record HeldTest (T W : List ℕ) (w : FieldType) (b : ℕ) (r : Bool) : Type 0 where
-  pub is : (t : Table) → Formable T W t → b ≤ undeterminedCode → r ≡ holds (t .classes) (objectsIn W 0) (ty (w .class) (w .tag)) (refOf b)
+  pub is : (t : Table) → Formable T W t → b < firstMark → (x : ℕ) → r ≡ holds (t .classes) (objectsIn W 0) (ty (w .class) (w .tag)) (refOf b x)
 
 -- field f of a class and the code b
 pub record FieldTest (T W : List ℕ) (class f b : ℕ) (r : Bool) : Type 0 where
-  pub is : (t : Table) → Formable T W t → class ≤ length (t .classes) → b ≤ undeterminedCode
-      → (w : Ty) → getElem? (fieldsOf (t .classes) class) f ≡ some w → r ≡ holds (t .classes) (objectsIn W 0) w (refOf b)
+  pub is : (t : Table) → Formable T W t → class ≤ length (t .classes) → b < firstMark → (x : ℕ)
+      → (w : Ty) → getElem? (fieldsOf (t .classes) class) f ≡ some w → r ≡ holds (t .classes) (objectsIn W 0) w (refOf b x)
 
 -- the fields of object i
 pub record ObjectTest (T W : List ℕ) (i : ℕ) (r : Bool) : Type 0 where

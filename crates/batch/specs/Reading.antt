@@ -3,26 +3,27 @@
 use Prim.Native.Nat.{ℕ, _+_, _*_, _<_, _≤_}
 use mathlib.Core.Path.{_≡_}
 use mathlib.Core.Bool.{Bool, true, false}
-use mathlib.Core.List.{List}
+use mathlib.Core.List.{List, _++_}
 use mathlib.Core.Option.{Option, none, some}
 use lib.ListN.{length, getD, getElem?, drop}
 use Rattle.cofj.specs.Limits.{partCount}
 use Rattle.cofj.specs.Partial.{_>>=_, guard}
 use Rattle.cofj.specs.Text.{within}
 use Rattle.cofj.specs.Syntax.{Class, Table}
+use Rattle.cofj.specs.Frames.{got}
 use Rattle.cofj.specs.Values.{Ref, Node}
 use Rattle.cofj.specs.Unfolding.{InRange}
-use Rattle.cofj.specs.Formed.{AllIn, MarkBelow}
-use Rattle.cofj.specs.Report.{refByte}
-use Rattle.cofj.specs.ReportForm.{refOf, refsOf, objectOf, objectsFrom}
+use Rattle.cofj.specs.Formed.{RefBelow}
+use Rattle.cofj.specs.ReportForm.{refOf, refAt, refsOf, objectOf, objectsFrom}
 use Rattle.cofj.specs.Batch.{partGood, partsGood, partsOf}
 use Rattle.lineform.specs.Packed.{unpack}
 use Rattle.lineform.specs.Answers.{isSome}
+use Rattle.canon.specs.Layout.{numberBeside}
 use Rattle.classes.specs.Layout.{Tabled}
 use Rattle.batch.specs.declared.lines.Parts.{Parts}
 use Rattle.batch.specs.declared.lines.Parts.the-variants.{Listed, Refused}
-use Rattle.batch.specs.Figures.{partSize, headSize, fieldRoom, noPart}
-use Rattle.batch.specs.Layout.{fieldByte, Lies}
+use Rattle.batch.specs.Figures.{partSize, headSize, fieldRoom, blankAt, noPart}
+use Rattle.batch.specs.Layout.{heldByte, FieldLies, Lies}
 
 -- ---- a line's fields
 -- the bytes of a line before its fields
@@ -33,16 +34,41 @@ frontSize = 4
 unfoldable pub fieldGood : ℕ → ℕ → Bool
 fieldGood n b = isSome (refOf n b)
 
--- the first f fields of the line l, past its end such as hold no part, are good and lie in P for the part at `at`; what lies below is that of P₀
-pub record Filled (l : List ℕ) (n : ℕ) (P₀ : List ℕ) (at : ℕ) (P : List ℕ) (f : ℕ) : Type 0 where
-  pub good : (j : ℕ) → j < f → fieldGood n (getD l (frontSize + j) noPart) ≡ true
-  pub put : (j : ℕ) → j < f → getD P (at + headSize + j) 0 ≡ getD l (frontSize + j) noPart
+-- field f of the part at a place holds r, which is one of n parts, none, or a number
+pub record Entered (n : ℕ) (P : List ℕ) (at f : ℕ) (r : Ref) : Type 0 where
+  pub inner : InRange n r
+  pub below : RefBelow 0 r
+  pub lies : FieldLies P at f (heldByte r) (numberBeside r)
+
+-- the field of the line l at q is put as field f, and the next begins at r; the fields before it and all that lies below are P₀'s
+pub record FieldTaken (l : List ℕ) (q n : ℕ) (P₀ : List ℕ) (at f : ℕ) (P : List ℕ) (r : ℕ) : Type 0 where
+  pub ref : Ref
+  pub is : refAt n (drop q l) ≡ got ref (drop r l)
+  pub more : q < r
+  pub within : r ≤ length l
+  pub entered : Entered n P at f ref
+  pub fields : (g b x : ℕ) → g < f → FieldLies P₀ at g b x → FieldLies P at g b x
+  pub below : (j : ℕ) → j < at + headSize → getD P j 0 ≡ getD P₀ j 0
+
+-- the answer of `read_field`
+pub record FieldRead (l : List ℕ) (q n : ℕ) (P₀ : List ℕ) (at f : ℕ) (P : List ℕ) (r : ℕ) : Type 0 where
+  pub bad : r ≡ 0 → refAt n (drop q l) ≡ none
+  pub good : ((r ≡ 0) → ⊥) → FieldTaken l q n P₀ at f P r
+
+-- so are the first f fields of the line, and the next begins at q
+pub record FieldsTaken (l : List ℕ) (n : ℕ) (P₀ : List ℕ) (at : ℕ) (P : List ℕ) (f q : ℕ) : Type 0 where
+  pub refs : List Ref
+  pub count : length refs ≡ f
+  pub is : (m : ℕ) → refsOf n (f + m) (drop frontSize l) ≡ refsOf n m (drop q l) >>= λ g. got (refs ++ g .item) (g .rest)
+  pub more : frontSize ≤ q
+  pub within : q ≤ length l
+  pub entered : (g : ℕ) (r : Ref) → getElem? refs g ≡ some r → Entered n P at g r
   pub below : (j : ℕ) → j < at + headSize → getD P j 0 ≡ getD P₀ j 0
 
 -- the answer of `read_fields`
-pub record FieldsRead (l : List ℕ) (n : ℕ) (P₀ : List ℕ) (at : ℕ) (P : List ℕ) (r : Bool) : Type 0 where
-  pub bad : r ≡ false → refsOf n (drop frontSize l) ≡ none
-  pub good : r ≡ true → Filled l n P₀ at P fieldRoom
+pub record FieldsRead (l : List ℕ) (m n : ℕ) (P₀ : List ℕ) (at : ℕ) (P : List ℕ) (r : ℕ) : Type 0 where
+  pub bad : r ≡ 0 → refsOf n m (drop frontSize l) ≡ none
+  pub good : ((r ≡ 0) → ⊥) → FieldsTaken l n P₀ at P m r
 
 -- ---- a line
 -- line k of n, as a part of a known class and with its fields
@@ -54,10 +80,9 @@ pub record PartLies (n : ℕ) (P : List ℕ) (k : ℕ) (o : Node) : Type 0 where
   pub class : getD P (partSize * k) 0 ≡ o .cls
   pub count : getD P (partSize * k + 1) 0 ≡ length (o .refs)
   pub low : length (o .refs) ≤ fieldRoom
-  pub inner : (f : ℕ) (r : Ref) → getElem? (o .refs) f ≡ some r → InRange n r
-  pub closed : AllIn (MarkBelow 0) (o .refs)
-  pub field : (f : ℕ) (r : Ref) → getElem? (o .refs) f ≡ some r → fieldByte P k f ≡ refByte r
-  pub spare : (f : ℕ) → length (o .refs) ≤ f → f < fieldRoom → fieldByte P k f ≡ noPart
+  pub field : (f : ℕ) (r : Ref) → getElem? (o .refs) f ≡ some r → Entered n P (partSize * k) f r
+  pub spare : (f : ℕ) → length (o .refs) ≤ f → f < fieldRoom → FieldLies P (partSize * k) f noPart 0
+  pub blank : (j : ℕ) → blankAt ≤ j → j < partSize → getD P (partSize * k + j) 0 ≡ 0
 
 -- it lies there, and the parts before it stay
 pub record PartRead (n : ℕ) (P₀ : List ℕ) (k : ℕ) (o : Node) (P : List ℕ) : Type 0 where

@@ -3,48 +3,55 @@
 // value has as many objects. So there are at most as many rounds as objects, and each asks most parts once.
 // Not here: the objects of a block, which are parted by lists of who refers to whom (canon).
 use crate::layout::HEAD;
-use crate::layout::NO_PART;
+use crate::layout::NUMBER_FIELD;
+use crate::layout::NUMBERS;
 use crate::layout::PART;
+use crate::layout::PER_BYTE;
 use canon::bytes::copy;
+use canon::bytes::same_plain;
 use canon::layout::CAPACITY;
+use canon::layout::NUMBER;
 use canon::layout::UNDETERMINED;
 ghost use mathlib.Core.Path.{_≡_};
 ghost use Prim.Native.Nat.{_≤_};
 ghost use lib.ListN.{length};
 ghost use Rattle.canon.specs.Figures.{capacity};
-ghost use Rattle.batch.specs.Figures.{wideSize};
+ghost use Rattle.batch.specs.Figures.{wideSize, byteCount};
 ghost use Rattle.batch.specs.Reaching.{Reaches};
-ghost use Rattle.batch.specs.Colouring.{shadeIn, Alikeness, FirstAlike, Room, Own, Coloured, RoundDone, Colours};
+ghost use Rattle.batch.specs.Colouring.{lookIn, Alikeness, FirstAlike, Room, Own, Coloured, RoundDone, Colours};
 
 // one colour more than a block has room for
 pub(crate) const TOO_MANY: u8 = CAPACITY + 1;
 
-// Byte j of a part as it looks, where it is b: of the head itself, of a field the colour of what it holds, or undetermined.
-pub(crate) fn shade(cs: &[u8], j: usize, b: u8) -> u8
-    requires { ⌜ length (now cs) ≡ 256 ⌝ }
-    ensures { λ r. ⌜ r ≡ shadeIn (now (cs .entry)) j b ⌝ }
+// A field's byte as it looks: the colour of the part that it holds, a number, or undetermined.
+pub(crate) fn shade(cs: &[u8], b: u8) -> u8
+    requires { ⌜ length (now cs) ≡ byteCount ⌝ }
+    ensures { λ r. ⌜ r ≡ lookIn (now (cs .entry)) b ⌝ }
 {
-    if j < HEAD {
-        return b;
+    if b < NUMBER_FIELD {
+        return cs[b as usize];
     }
-    if b == NO_PART {
-        return UNDETERMINED;
+    if b == NUMBER_FIELD {
+        return NUMBER;
     }
-    cs[b as usize]
+    UNDETERMINED
 }
 
 // Whether parts p and q are alike: of one colour, and look alike.
 pub(crate) fn alike(parts: &[u8], cs: &[u8], p: u8, q: u8) -> bool
-    requires { ⌜ (wideSize ≤ length (now parts)) × (length (now cs) ≡ 256) ⌝ }
+    requires { ⌜ (wideSize ≤ length (now parts)) × (length (now cs) ≡ byteCount) ⌝ }
     ensures { λ r. ⌜ Alikeness (now (parts .entry)) (now (cs .entry)) p q r ⌝ }
 {
     if cs[p as usize] != cs[q as usize] {
         return false;
     }
-    let mut j: usize = 0;
-    while j < PART {
-        let a = shade(cs, j, parts[PART * (p as usize) + j]);
-        let b = shade(cs, j, parts[PART * (q as usize) + j]);
+    if !same_plain(parts, PART * (p as usize), PART * (q as usize)) {
+        return false;
+    }
+    let mut j = HEAD;
+    while j < NUMBERS {
+        let a = shade(cs, parts[PART * (p as usize) + j]);
+        let b = shade(cs, parts[PART * (q as usize) + j]);
         if a != b {
             return false;
         }
@@ -90,7 +97,7 @@ pub(crate) fn round(
     next: &mut [u8],
     lead: &mut [u8],
 ) -> u8
-    requires { ⌜ Room (now parts) (now cs) (now lead) × (length (now next) ≡ 256) × Reaches (now parts) (now list) m × Coloured (now parts) (now list) m (now cs) (now lead) k ⌝ }
+    requires { ⌜ Room (now parts) (now cs) (now lead) × (length (now next) ≡ byteCount) × Reaches (now parts) (now list) m × Coloured (now parts) (now list) m (now cs) (now lead) k ⌝ }
     ensures { λ r. ⌜ RoundDone (now (parts .entry)) (now (list .entry)) m (now (cs .entry)) k (now (next .exit)) (now (lead .exit)) r ⌝ }
 {
     let mut top = k;
@@ -116,8 +123,8 @@ pub(crate) fn colour(parts: &[u8], list: &[u8], m: u8, cs: &mut [u8], lead: &mut
     requires { ⌜ Room (now parts) (now cs) (now lead) × Reaches (now parts) (now list) m ⌝ }
     ensures { λ r. ⌜ Colours (now (parts .entry)) (now (list .entry)) m (now (cs .exit)) (now (lead .exit)) r ⌝ }
 {
-    let mut next = [0u8; 256];
-    copy(&next, 0, cs, 0, 256);
+    let mut next = [0u8; PER_BYTE];
+    copy(&next, 0, cs, 0, PER_BYTE);
     lead[0] = 0;
     let mut k: u8 = 1;
     while k < TOO_MANY {
@@ -125,7 +132,7 @@ pub(crate) fn colour(parts: &[u8], list: &[u8], m: u8, cs: &mut [u8], lead: &mut
         if top == k {
             return k;
         }
-        copy(&next, 0, cs, 0, 256);
+        copy(&next, 0, cs, 0, PER_BYTE);
         k = top;
     }
     k

@@ -2,6 +2,7 @@
 // Not here: its steps (lines, merge, judge), which main is given one (engine).
 use crate::colours::TOO_MANY;
 use crate::judge::value_fits;
+use crate::layout::PER_BYTE;
 use crate::layout::WIDE;
 use crate::lines::Parts;
 use crate::lines::read_parts;
@@ -10,10 +11,8 @@ use canon::colours::colour;
 use canon::layout::WIDE as OBJECTS_WIDE;
 use canon::number::put;
 use classes::places::SIZE;
-ghost use mathlib.Core.Path.{_≡_};
 ghost use Prim.Native.Nat.{_≤_};
 ghost use lib.ListN.{length};
-ghost use Rattle.canon.specs.Figures.{capacity, blockSize};
 ghost use Rattle.canon.specs.Numbers.{Placed};
 ghost use Rattle.batch.specs.Figures.{wideSize};
 ghost use Rattle.batch.specs.Inputs.{SomeTable, SomeParts, Room, Objects, PartsGiven, TextGiven};
@@ -29,7 +28,7 @@ fn lay(raw: &[u8], k: u8, block: &mut [u8]) -> u8
     requires { ⌜ Objects (now raw) k (now block) ⌝ }
     ensures { λ n. ⌜ Placed (now (raw .entry)) k 0 (now (block .entry)) 0 (now (block .exit)) n ⌝ }
 {
-    let mut cs = [0u8; 256];
+    let mut cs = [0u8; PER_BYTE];
     colour(raw, k, &mut cs);
     put(raw, k, &cs, 0, block, 0)
 }

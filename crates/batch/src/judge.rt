@@ -3,25 +3,28 @@
 use canon::layout::COUNT;
 use canon::layout::FIRST_LEAF;
 use canon::layout::HEAD;
+use canon::layout::NUMBER;
 use canon::layout::OBJECT;
 use classes::chain::FieldFound;
 use classes::chain::FieldType;
 use classes::chain::field_type;
 use classes::chain::fit;
+use classes::places::NUMBER_CLASS;
 use classes::places::SIZE;
-ghost use mathlib.Core.Path.{_≡_};
-ghost use Prim.Native.Nat.{_<_};
-ghost use Rattle.canon.specs.Layout.{countIn, Block, Inside};
+ghost use Rattle.canon.specs.Layout.{Inside};
 ghost use Rattle.batch.specs.Judging.{Coded, HeldTest, FieldTest, ObjectTest, ValueTest};
 
 // the tag of a place that may hold the undetermined value
 const MINUS: u8 = 3;
 
-// Whether a place of type w may hold what the code b stands for: an object whose class fits, or undetermined.
+// Whether a place of type w may hold what the code b stands for: an object whose class fits, a number, or undetermined.
 pub(crate) fn held(block: &[u8], t: &[u8; SIZE], w: FieldType, b: u8) -> bool
     requires { ⌜ Coded (now block) b ⌝ }
     ensures { λ r. ⌜ HeldTest (now (t .entry)) (now (block .entry)) w b r ⌝ }
 {
+    if b == NUMBER {
+        return w.class == NUMBER_CLASS;
+    }
     if FIRST_LEAF <= b {
         return w.tag == MINUS;
     }

@@ -1,17 +1,29 @@
-// How parts lie in bytes: as their lines list them, class, number of fields, and four fields, FF for one that is not there or holds no part.
-// specs/Figures has the same for the specifications. Not here: objects of a block (canon).
+// How parts lie in bytes: as objects do (canon), but a field's byte is the number of the part that it holds, FE for a number, and FF for one that is not there
+// or holds neither. specs/Figures has the same for the specifications. Not here: objects of a block (canon).
 
 // the bytes of a part
-pub(crate) const PART: usize = 6;
+pub(crate) const PART: usize = 16;
 
 // of them its class and how many fields it has
 pub(crate) const HEAD: usize = 2;
 
-// and its fields, a byte each
-pub(crate) const FIELDS: usize = 4;
+// its fields, a byte each
+pub(crate) const FIELDS: u8 = 4;
 
-// the byte of a field that holds no part
+// where its numbers begin: for each field two bytes, the low one first
+pub(crate) const NUMBERS: usize = HEAD + FIELDS as usize;
+
+// where its two blank bytes stand
+pub(crate) const BLANK: usize = 14;
+
+// the byte of a field that holds a number; every lower one is a part's
+pub(crate) const NUMBER_FIELD: u8 = 254;
+
+// the byte of a field that holds neither
 pub(crate) const NO_PART: u8 = 255;
 
-// the bytes of as many parts as a byte can number
-pub(crate) const WIDE: usize = PART * 256;
+// as many as a byte can number: the length of a table with a byte for each part
+pub(crate) const PER_BYTE: usize = 256;
+
+// the bytes of so many parts
+pub(crate) const WIDE: usize = PART * PER_BYTE;

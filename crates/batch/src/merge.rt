@@ -3,27 +3,32 @@
 use crate::colours::TOO_MANY;
 use crate::colours::colour;
 use crate::colours::shade;
+use crate::layout::HEAD;
+use crate::layout::NUMBERS;
 use crate::layout::PART;
+use crate::layout::PER_BYTE;
 use crate::reach::reach;
+use canon::bytes::copy;
 use canon::layout::OBJECT;
 use canon::layout::PER_OBJECT;
 ghost use mathlib.Core.Path.{_≡_};
 ghost use Prim.Native.Nat.{_≤_};
 ghost use lib.ListN.{length};
 ghost use Rattle.canon.specs.Figures.{capacity, wideSize as objectsRoom, objectSize};
-ghost use Rattle.batch.specs.Figures.{wideSize};
+ghost use Rattle.batch.specs.Figures.{wideSize, byteCount};
 ghost use Rattle.batch.specs.Colouring.{Room};
 ghost use Rattle.batch.specs.Laying.{PartLaid, Laid};
 ghost use Rattle.batch.specs.Merging.{Merged};
 
 // Part p as object c.
 pub(crate) fn lay_part(parts: &[u8], cs: &[u8], p: u8, raw: &mut [u8], c: u8)
-    requires { ⌜ (wideSize ≤ length (now parts)) × (length (now cs) ≡ 256) × (objectsRoom ≤ length (now raw)) ⌝ }
+    requires { ⌜ (wideSize ≤ length (now parts)) × (length (now cs) ≡ byteCount) × (objectsRoom ≤ length (now raw)) ⌝ }
     ensures { λ _. ⌜ PartLaid (now (parts .entry)) (now (cs .entry)) p (now (raw .entry)) c objectSize (now (raw .exit)) ⌝ }
 {
-    let mut j: usize = 0;
-    while j < PART {
-        raw[OBJECT * (c as usize) + j] = shade(cs, j, parts[PART * (p as usize) + j]);
+    copy(parts, PART * (p as usize), raw, OBJECT * (c as usize), PART);
+    let mut j = HEAD;
+    while j < NUMBERS {
+        raw[OBJECT * (c as usize) + j] = shade(cs, parts[PART * (p as usize) + j]);
         j += 1;
     }
 }
@@ -45,9 +50,9 @@ pub(crate) fn merge(parts: &[u8], raw: &mut [u8]) -> u8
     requires { ⌜ (wideSize ≤ length (now parts)) × (objectsRoom ≤ length (now raw)) ⌝ }
     ensures { λ k. ⌜ Merged (now (parts .entry)) (now (raw .exit)) k ⌝ }
 {
-    let mut list = [0u8; 256];
+    let mut list = [0u8; PER_BYTE];
     let m = reach(parts, &mut list);
-    let mut cs = [0u8; 256];
+    let mut cs = [0u8; PER_BYTE];
     let mut lead = [0u8; PER_OBJECT];
     let k = colour(parts, &list, m, &mut cs, &mut lead);
     if k == TOO_MANY {

@@ -1,53 +1,35 @@
 -- Laws of colours by classes: what parting leaves is coarse, and what is coarse and steady are the colours. Not here: the first of each class (Firsts).
 use Prim.Native.Nat.{ℕ, zero, suc, _+_, _-_, _*_, _<_, _≤_}
 use native.Mathlib.Omega.{arith}
-use native.Mathlib.Decide.{ℕ-discrete}
+use native.Mathlib.Decide.{decLt, ℕ-discrete}
 use mathlib.Core.Path.{_≡_, refl, sym, ap, _∙_, subst}
 use mathlib.Core.List.{List, [], _∷_}
 use mathlib.Core.Option.{some}
 use lib.ListN.{length, getD, take, getElem?, List·getD-map, length-map}
 use lib.Seq.{getD-take, length-take-le}
-use Rattle.cofj.specs.Values.{Ref, obj, mark, undet, Node, node, Graph, graph, rename, renameNode, nodeAt, refsAt, colourOf, colours}
+use Rattle.cofj.specs.Values.{Ref, obj, leaf, undet, Node, Graph, graph, rename, renameNode, nodeAt, refsAt, colourOf, colours}
 use Rattle.cofj.specs.Unfolding.{InRange}
 use Rattle.cofj.proofs.Colours.{colour, colour-full, colour-look}
-use Rattle.canon.specs.Figures.{objectSize, headSize, codeCount, firstLeaf, linkSize, targetAt, looksField}
-use Rattle.canon.specs.Layout.{refOf, codeOf, nodeIn, nodesIn}
-use Rattle.canon.specs.Tables.{turned, copied}
+use Rattle.canon.specs.Figures.{objectSize, headSize, codeCount, numbersAt, firstLeaf, linkSize, targetAt, looksField}
+use Rattle.canon.specs.Layout.{codeOf, nodeIn, nodesIn, Packed}
 use Rattle.canon.specs.Rounds.{Raw}
-use Rattle.canon.specs.Links.{shown, AlikeTo, targetOf, Codes, Linked}
+use Rattle.canon.specs.Links.{looked, shown, AlikeTo, targetOf, Codes, Linked}
 use Rattle.canon.specs.Parting.{Kept, Begun, Goes, GoesByLooks, PartedLooks, PartedFields}
 use Rattle.canon.specs.Classing.{Leads, Steady, Coarse}
-use Rattle.canon.proofs.Nodes.{byteOf, packed-byte, field-low, length-nodes, at-nodes, code-ref}
-use Rattle.canon.proofs.Turned.{turnRef, changed, map-take, turn-rename, node-agree}
+use Rattle.canon.proofs.Nodes.{byteOf, packed-byte, slot-code, field-low, length-nodes, at-nodes}
+use Rattle.canon.proofs.Lifts.{copy-turned}
+use Rattle.canon.proofs.Turned.{turnRef, changed, turn-rename, node-agree}
 use Rattle.canon.proofs.Colouring.{looks-colours}
 use Rattle.canon.proofs.Looks.{show-object}
 use Rattle.canon.proofs.Refers.{target-object, target-leaf}
-
--- ---- a node turned, by its bytes
-turned-node : (T S : List ℕ) (at : ℕ) → changed (turnRef T) (nodeIn S at)
-    ≡ node (getD S at 0) (take (getD S (at + 1) 0) (refOf (turned T (getD S (at + 2) 0)) ∷ refOf (turned T (getD S (at + 3) 0)) ∷ refOf (turned T (getD S (at + 4) 0)) ∷ refOf (turned T (getD S (at + 5) 0)) ∷ []))
-unfolding nodeIn
-turned-node T S at = rw (map-take, code-ref (getD S (at + 2) 0), code-ref (getD S (at + 3) 0), code-ref (getD S (at + 4) 0), code-ref (getD S (at + 5) 0))
-
-alike-turned : (N C : List ℕ) (i j : ℕ) → AlikeTo (copied C) N i j objectSize → changed (turnRef C) (nodeIn N (objectSize * i)) ≡ changed (turnRef C) (nodeIn N (objectSize * j))
-unfolding copied
-alike-turned N C i j t =
-    let zi : objectSize * i + 0 ≡ objectSize * i = omega arith in
-    let zj : objectSize * j + 0 ≡ objectSize * j = omega arith in
-    let e0 : getD N (objectSize * i) 0 ≡ getD N (objectSize * j) 0 = rw (zi, zj) at (t .all 0 (omega arith)) in
-    let e1 : getD N (objectSize * i + 1) 0 ≡ getD N (objectSize * j + 1) 0 = t .all 1 (omega arith) in
-    let e2 : turned C (getD N (objectSize * i + 2) 0) ≡ turned C (getD N (objectSize * j + 2) 0) = t .all 2 (omega arith) in
-    let e3 : turned C (getD N (objectSize * i + 3) 0) ≡ turned C (getD N (objectSize * j + 3) 0) = t .all 3 (omega arith) in
-    let e4 : turned C (getD N (objectSize * i + 4) 0) ≡ turned C (getD N (objectSize * j + 4) 0) = t .all 4 (omega arith) in
-    let e5 : turned C (getD N (objectSize * i + 5) 0) ≡ turned C (getD N (objectSize * j + 5) 0) = t .all 5 (omega arith) in
-    turned-node C N (objectSize * i) ∙ rw (e0, e1, e2, e3, e4, e5) (sym (turned-node C N (objectSize * j)))
+use Rattle.canon.proofs.Alikes.{alike-turned, leaf-code, byte-rename}
 
 module _ (N : List ℕ) (n : ℕ) (raw : Raw N n) where
   abbrev ns : List Node
   ns = nodesIn N 0 n
 
   abbrev g : Graph
-  g = graph undet ns
+  g = graph (leaf undet) ns
 
   size : length ns ≡ n
   size = length-nodes N 0 n
@@ -72,11 +54,14 @@ module _ (N : List ℕ) (n : ℕ) (raw : Raw N n) where
         (turn-rename C n col (raw .few) (λ j l. sym (col-is j l)) (λ j l. omega (arith, col-is j l, c .low j l, raw .few))) (nodeAt ns i) (inner i))
         ∙ ap (changed (turnRef C)) (node-is i h)
 
+    first-packed : (i : ℕ) → i < n → Packed N (objectSize * getD C i 0)
+    first-packed i h = raw .packed (getD C i 0) (omega (arith, c .low i h))
+
     look-same : (i j : ℕ) → i < n → j < n → col i ≡ col j → renameNode col (nodeAt ns i) ≡ renameNode col (nodeAt ns j)
     look-same i j h l e =
-        look-is i h ∙ alike-turned N C i (getD C i 0) (s .alike i h)
+        look-is i h ∙ alike-turned N C i (getD C i 0) (raw .packed i h) (first-packed i h) (s .alike i h)
         ∙ ap (λ (x : ℕ). changed (turnRef C) (nodeIn N (objectSize * x))) (sym (col-is i h) ∙ e ∙ col-is j l)
-        ∙ sym (look-is j l ∙ alike-turned N C j (getD C j 0) (s .alike j l))
+        ∙ sym (look-is j l ∙ alike-turned N C j (getD C j 0) (raw .packed j l) (first-packed j l) (s .alike j l))
 
     pub steady-colours : take n C ≡ colours ns
     steady-colours =
@@ -103,16 +88,11 @@ module _ (N : List ℕ) (n : ℕ) (raw : Raw N n) where
 
   codes-of : (r s : Ref) → InRange n r → InRange n s → rename hue r ≡ rename hue s → Codes2 (codeOf r) (codeOf s)
   codes-of (obj a) (obj b) p q e = objects p q (cc)
-  codes-of (obj a) (mark k) p q e = absurd (let z : _≡_ {A = ℕ} 0 1 = cc in omega arith)
-  codes-of (obj a) undet p q e = absurd (let z : _≡_ {A = ℕ} 0 1 = cc in omega arith)
-  codes-of (mark k) (obj b) p q e = absurd (let z : _≡_ {A = ℕ} 0 1 = cc in omega arith)
-  codes-of (mark k) (mark l) p q e = leaves (omega arith) (let z : k ≡ l = cc in omega arith)
-  codes-of (mark k) undet p q e = absurd (let z : _≡_ {A = ℕ} 0 1 = cc in omega arith)
-  codes-of undet (obj b) p q e = absurd (let z : _≡_ {A = ℕ} 0 1 = cc in omega arith)
-  codes-of undet (mark l) p q e = absurd (let z : _≡_ {A = ℕ} 0 1 = cc in omega arith)
-  codes-of undet undet p q e = leaves (omega arith) refl
+  codes-of (obj a) (leaf l) p q e = absurd (let z : _≡_ {A = ℕ} 0 1 = cc in omega arith)
+  codes-of (leaf l) (obj b) p q e = absurd (let z : _≡_ {A = ℕ} 0 1 = cc in omega arith)
+  codes-of (leaf l) (leaf m) p q e = leaves (leaf-code l) (ap codeOf e)
 
-  at-in : (rs : List Ref) → ((k : ℕ) (r : Ref) → getElem? rs k ≡ some r → InRange n r) → (f : ℕ) → InRange n (getD rs f undet)
+  at-in : (rs : List Ref) → ((k : ℕ) (r : Ref) → getElem? rs k ≡ some r → InRange n r) → (f : ℕ) → InRange n (getD rs f (leaf undet))
   at-in [] h f = tt
   at-in (r ∷ rs) h zero = h 0 r refl
   at-in (r ∷ rs) h (suc f) = at-in rs (λ k. h (suc k)) f
@@ -134,24 +114,41 @@ module _ (N : List ℕ) (n : ℕ) (raw : Raw N n) where
         byte i hi 1 (omega arith) ∙ sym (length-map (refsAt ns i) (rename hue)) ∙ ap (λ (y : Node). length (y .refs)) look ∙ length-map (refsAt ns j) (rename hue)
         ∙ sym (byte j hj 1 (omega arith))
 
-    code-is : (f : ℕ) → f < codeCount → Codes2 (getD N (objectSize * i + suc (suc f)) 0) (getD N (objectSize * j + suc (suc f)) 0)
-    unfolding byteOf
+    code-is : (f : ℕ) → f < codeCount → Codes2 (getD N (objectSize * i + headSize + f) 0) (getD N (objectSize * j + headSize + f) 0)
     code-is f h =
-        rw (byte i hi (suc (suc f)) (omega arith), byte j hj (suc (suc f)) (omega arith))
-        (codes-of (getD (refsAt ns i) f undet) (getD (refsAt ns j) f undet) (at-in (refsAt ns i) (inner i) f) (at-in (refsAt ns j) (inner j) f)
-        (sym (List·getD-map (rename hue) (refsAt ns i) f undet) ∙ ap (λ (y : Node). getD (y .refs) f undet) look ∙ List·getD-map (rename hue) (refsAt ns j) f undet))
+        rw (code i hi, code j hj)
+        (codes-of (getD (refsAt ns i) f (leaf undet)) (getD (refsAt ns j) f (leaf undet)) (at-in (refsAt ns i) (inner i) f) (at-in (refsAt ns j) (inner j) f)
+        (sym (List·getD-map (rename hue) (refsAt ns i) f (leaf undet)) ∙ ap (λ (y : Node). getD (y .refs) f (leaf undet)) look ∙ List·getD-map (rename hue) (refsAt ns j) f (leaf undet)))
+      where
+        code : (x : ℕ) → x < n → getD N (objectSize * x + headSize + f) 0 ≡ codeOf (getD (refsAt ns x) f (leaf undet))
+        code x l = sym (slot-code N (objectSize * x) (raw .packed x l) f h) ∙ ap (λ (y : Node). codeOf (getD (y .refs) f (leaf undet))) (sym (node-is x l))
 
-    shown-same : (k a b : ℕ) → 2 ≤ k → Codes2 a b → shown k a ≡ shown k b
-    shown-same k a b h (objects p q z) = sym (show-object k a h (omega (arith, raw .few))) ∙ show-object k b h (omega (arith, raw .few))
-    shown-same k a b h (leaves p z) = ap (shown k) z
+    rest-is : (k : ℕ) → numbersAt ≤ k → k < objectSize → getD N (objectSize * i + k) 0 ≡ getD N (objectSize * j + k) 0
+    rest-is k a h =
+        byte i hi k h ∙ sym (byte-rename hue (nodeAt ns i) k a) ∙ ap (λ (y : Node). byteOf y k) look ∙ byte-rename hue (nodeAt ns j) k a ∙ sym (byte j hj k h)
+
+    looked-same : (a b : ℕ) → Codes2 a b → looked a ≡ looked b
+    looked-same a b (objects p q z) = sym (show-object a (omega (arith, raw .few))) ∙ show-object b (omega (arith, raw .few))
+    looked-same a b (leaves p z) = ap looked z
 
     pub hue-alike : AlikeTo shown N i j objectSize
-    hue-alike = record { all = λ f h. go f h }
+    hue-alike = record { all = λ f h. go f h (decLt f headSize) (decLt f numbersAt) }
       where
-        go : (f : ℕ) → f < objectSize → shown f (getD N (objectSize * i + f) 0) ≡ shown f (getD N (objectSize * j + f) 0)
-        go zero h = ap (shown 0) class-is
-        go (suc zero) h = ap (shown 1) count-is
-        go (suc (suc f)) h = shown-same (suc (suc f)) _ _ (omega arith) (code-is f (omega arith))
+        head-is : (k : ℕ) → k < headSize → getD N (objectSize * i + k) 0 ≡ getD N (objectSize * j + k) 0
+        head-is zero h = class-is
+        head-is (suc zero) h = count-is
+        head-is (suc (suc k)) h = absurd (omega arith)
+
+        shown-code : (k : ℕ) → headSize ≤ k → k < numbersAt → looked (getD N (objectSize * i + k) 0) ≡ looked (getD N (objectSize * j + k) 0)
+        shown-code k a h =
+            let zi : objectSize * i + headSize + (k - headSize) ≡ objectSize * i + k = omega arith in
+            let zj : objectSize * j + headSize + (k - headSize) ≡ objectSize * j + k = omega arith in
+            rw (zi, zj) at (looked-same _ _ (code-is (k - headSize) (omega arith)))
+
+        go : (f : ℕ) → f < objectSize → Dec (f < headSize) → Dec (f < numbersAt) → shown f (getD N (objectSize * i + f) 0) ≡ shown f (getD N (objectSize * j + f) 0)
+        go f h (yes a) b = ap (shown f) (head-is f a)
+        go f h (no a) (yes b) = let l : headSize ≤ f = omega (arith, a) in sym (copy-turned looked _ f _ l b refl) ∙ shown-code f l b ∙ copy-turned looked _ f _ l b refl
+        go f h (no a) (no b) = ap (shown f) (rest-is f (omega (arith, b)) h)
 
   -- a row's object
   row-low : (x : ℕ) → 0 < x → x < n + 1 → x - 1 < n
@@ -205,9 +202,7 @@ module _ (N : List ℕ) (n : ℕ) (raw : Raw N n) where
                 let b : 0 < y = omega (arith, q) in
                 let tx : getD K (linkSize * x + targetAt + f) 0 ≡ targetOf (getD N (objectSize * (x - 1) + headSize + f) 0) = k .targets f hf x a hx in
                 let ty : getD K (linkSize * y + targetAt + f) 0 ≡ targetOf (getD N (objectSize * (y - 1) + headSize + f) 0) = k .targets f hf y b hy in
-                let zx : objectSize * (x - 1) + suc (suc f) ≡ objectSize * (x - 1) + headSize + f = omega arith in
-                let zy : objectSize * (y - 1) + suc (suc f) ≡ objectSize * (y - 1) + headSize + f = omega arith in
-                let c = rw (zx, zy) at (code-is (x - 1) (y - 1) (row-low x a hx) (row-low y b hy) (let z : suc (hue (x - 1)) ≡ suc (hue (y - 1)) = sym (row-suc x a) ∙ e ∙ row-suc y b in omega arith) f hf) in
+                let c = code-is (x - 1) (y - 1) (row-low x a hx) (row-low y b hy) (let z : suc (hue (x - 1)) ≡ suc (hue (y - 1)) = sym (row-suc x a) ∙ e ∙ row-suc y b in omega arith) f hf in
                 let w = targets _ _ c (rw tx at l) in
                 (rw ty (w .0), rw (tx, ty) (w .1))
 

@@ -6,7 +6,7 @@ use mathlib.Core.List.{List}
 use lib.ListN.{length, getD}
 use lib.Seq.{ext-getD}
 use mathlib.Core.Option.{some}
-use Rattle.cofj.specs.Values.{Ref, obj, mark, undet, Graph, renameNode, nodeAt, colourOf, colours, canon}
+use Rattle.cofj.specs.Values.{Ref, obj, leaf, Graph, renameNode, nodeAt, colourOf, colours, canon}
 use Rattle.cofj.specs.Unfolding.{child, Same, InRange, Whole}
 use Rattle.cofj.proofs.Trees.{renamed-same}
 use Rattle.cofj.specs.ReportForm.{upFrom}
@@ -53,8 +53,7 @@ module _ (g : Graph) (w : Whole g) (cs : List ℕ) (size : length cs ≡ length 
     (full : (i j : ℕ) → i < length (g .nodes) → j < length (g .nodes) → Same (g .nodes) (obj i) (g .nodes) (obj j) → colourOf cs i ≡ colourOf cs j) where
   child-in : (r : Ref) → InRange (length (g .nodes)) r → (k : ℕ) (q : Ref) → child (g .nodes) r k ≡ some q → InRange (length (g .nodes)) q
   child-in (obj i) p k q e = w .inner i k q e
-  child-in (mark x) p k q e = absurd (let z : _≡_ {A = ℕ} 0 1 = cc in omega arith)
-  child-in undet p k q e = absurd (let z : _≡_ {A = ℕ} 0 1 = cc in omega arith)
+  child-in (leaf l) p k q e = absurd (let z : _≡_ {A = ℕ} 0 1 = cc in omega arith)
 
   pub looks-colours : cs ≡ colours (g .nodes)
   looks-colours =

@@ -1,11 +1,17 @@
 pub mod Runs
+pub mod Zeros
+pub mod Codes
+pub mod Ends
 pub mod Nodes
+pub mod Digits
 pub mod Lifts
 pub mod Places
 pub mod Turned
 pub mod Rounds
 pub mod Walks
 pub mod Colouring
+pub mod Gathers
+pub mod Levels
 pub mod Numbers
 pub mod Hangs
 pub mod Looks
@@ -18,4 +24,5 @@ pub mod Backs
 pub mod Splits
 pub mod Parts
 pub mod Firsts
+pub mod Alikes
 pub mod Classing

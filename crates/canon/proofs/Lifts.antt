@@ -7,8 +7,8 @@ use mathlib.Core.List.{List}
 use lib.ListN.{length, getD, set, length-set}
 use lib.Seq.{getD-set-same, getD-set-other}
 use borrow.Author.Tests.{lt-ltb, le-ltb}
-use Rattle.canon.specs.Figures.{objectSize, firstLeaf}
-use Rattle.canon.specs.Tables.{turned, copied, Lifted}
+use Rattle.canon.specs.Figures.{objectSize, headSize, numbersAt, firstLeaf}
+use Rattle.canon.specs.Tables.{turned, onCodes, copied, Lifted}
 
 module _ (T : List ℕ) (b : ℕ) where
   pub turn-object : b < firstLeaf → getD T b 0 ≡ turned T b
@@ -19,13 +19,19 @@ module _ (T : List ℕ) (b : ℕ) where
   unfolding turned
   turn-other h = rw (le-ltb _ _ h)
 
-  pub copy-plain : (k : ℕ) → k < 2 → b ≡ copied T k b
-  unfolding copied
-  copy-plain k h = rw (lt-ltb _ _ h)
+-- byte k of an object with its codes read by G: in the head, after the codes, a code
+module _ (G : ℕ → ℕ) (b k : ℕ) where
+  pub copy-plain : k < headSize → b ≡ onCodes G k b
+  unfolding onCodes
+  copy-plain h = rw (lt-ltb _ _ h)
 
-  pub copy-turned : (k x : ℕ) → 2 ≤ k → x ≡ turned T b → x ≡ copied T k b
-  unfolding copied
-  copy-turned k x h e = rw (le-ltb _ _ h) e
+  pub copy-rest : numbersAt ≤ k → b ≡ onCodes G k b
+  unfolding onCodes
+  copy-rest h = rw (le-ltb k headSize (omega arith), le-ltb _ _ h)
+
+  pub copy-turned : (x : ℕ) → headSize ≤ k → k < numbersAt → x ≡ G b → x ≡ onCodes G k b
+  unfolding onCodes
+  copy-turned x h l e = rw (le-ltb _ _ h, lt-ltb _ _ l) e
 
 pub lift-none : (S : List ℕ) (from : ℕ) (T D : List ℕ) (to : ℕ) → Lifted S from 0 T D to D
 lift-none S from T D to = record { same = refl; here = λ q h. absurd (omega arith); below = λ q h. refl; above = λ q h. refl }

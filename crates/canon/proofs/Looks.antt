@@ -2,29 +2,27 @@
 use Prim.Native.Nat.{ℕ, _+_, _-_, _*_, _%_, _<_, _≤_}
 use native.Mathlib.Omega.{arith}
 use native.Mathlib.Decide.{decLt, ℕ-discrete}
-use mathlib.Core.Path.{_≡_, sym, ap, _∙_, subst}
+use mathlib.Core.Path.{_≡_, refl, sym, ap, _∙_, subst}
 use mathlib.Core.Bool.{Bool, true, false, false≢true, true≢false}
 use mathlib.Core.List.{List}
 use lib.ListN.{length, getD, set}
 use lib.Seq.{getD-set-same, getD-set-other}
 use borrow.Author.Tests.{lt-ltb, le-ltb}
-use Rattle.canon.specs.Figures.{objectSize, headSize, codeCount, firstLeaf, rowSize, linkSize, noteAt, targetAt, looksField, hashCount}
-use Rattle.canon.specs.Links.{Last, Hung, Zeros, shown, AlikeTo, AlikeTest, hashOf, Codes, SameField, HungOn, Chained, Grouped, Sought, LikeBefore, GroupedAll}
+use Rattle.canon.specs.Figures.{objectSize, headSize, codeCount, numbersAt, firstLeaf, rowSize, linkSize, noteAt, targetAt, looksField, hashCount, hashedBy}
+use Rattle.canon.specs.Tables.{fourAt, Eight, Plain, PlainTest, onCodes}
+use Rattle.canon.specs.Links.{Last, Hung, Zeros, looked, shown, AlikeTo, AlikeTest, hashPlain, hashOf, Codes, SameField, HungOn, Chained, Grouped, Sought, LikeBefore, GroupedAll}
+use Rattle.canon.proofs.Lifts.{copy-plain, copy-rest, copy-turned}
 use Rattle.canon.proofs.Hangs.{field-refl, field-then}
 
 -- ---- looks
-module _ (k b : ℕ) where
-  pub show-plain : k < 2 → b ≡ shown k b
-  unfolding shown
-  show-plain h = rw (lt-ltb k headSize h)
+module _ (b : ℕ) where
+  pub show-object : b < firstLeaf → 0 ≡ looked b
+  unfolding looked
+  show-object l = rw (lt-ltb b firstLeaf l)
 
-  pub show-object : 2 ≤ k → b < firstLeaf → 0 ≡ shown k b
-  unfolding shown
-  show-object h l = rw (le-ltb k headSize h, lt-ltb b firstLeaf l)
-
-  pub show-leaf : 2 ≤ k → firstLeaf ≤ b → b ≡ shown k b
-  unfolding shown
-  show-leaf h l = rw (le-ltb k headSize h, le-ltb b firstLeaf l)
+  pub show-leaf : firstLeaf ≤ b → b ≡ looked b
+  unfolding looked
+  show-leaf l = rw (le-ltb b firstLeaf l)
 
 module _ (F : ℕ → ℕ → ℕ) (N : List ℕ) (i j : ℕ) where
   pub alike-none : AlikeTo F N i j 0
@@ -44,14 +42,63 @@ module _ (F : ℕ → ℕ → ℕ) (N : List ℕ) (i j : ℕ) where
   pub alike-all : (k : ℕ) → AlikeTo F N i j k → objectSize ≤ k → AlikeTest F N i j true
   alike-all k t h = record { yes = λ _. record { all = λ f l. t .all f (omega arith) }; not = λ z. absurd (true≢false z) }
 
+-- with the codes read by G, where the other bytes are compared first
+module _ (G : ℕ → ℕ) (N : List ℕ) (i j : ℕ) where
+  pub plain-not : (r : Bool) → PlainTest N (objectSize * i) (objectSize * j) r → r ≡ false → AlikeTest (onCodes G) N i j false
+  plain-not r t e = record {
+    yes = λ z. absurd (false≢true z);
+    not = λ _ w. t .not e (record {
+      head = λ k l. copy-plain G _ k l ∙ w .all k (omega arith) ∙ sym (copy-plain G _ k l);
+      rest = λ k a l. copy-rest G _ k a ∙ w .all k l ∙ sym (copy-rest G _ k a);
+    });
+  }
+
+  module _ (p : Plain N (objectSize * i) (objectSize * j)) where
+    pub codes-none : AlikeTo (onCodes G) N i j headSize
+    codes-none = record { all = λ f h. sym (copy-plain G _ f h) ∙ p .head f h ∙ copy-plain G _ f h }
+
+    pub codes-all : (k : ℕ) → AlikeTo (onCodes G) N i j k → numbersAt ≤ k → AlikeTest (onCodes G) N i j true
+    codes-all k t h = alike-all (onCodes G) N i j objectSize (record { all = λ f l. go f l (decLt f k) }) (omega arith)
+      where
+        go : (f : ℕ) → f < objectSize → Dec (f < k) → onCodes G f (getD N (objectSize * i + f) 0) ≡ onCodes G f (getD N (objectSize * j + f) 0)
+        go f l (yes m) = t .all f m
+        go f l (no m) = let a : numbersAt ≤ f = omega (arith, m) in sym (copy-rest G _ f a) ∙ p .rest f a l ∙ copy-rest G _ f a
+
+  module _ (k a b : ℕ) (t : AlikeTo (onCodes G) N i j k) (low : headSize ≤ k) (h : k < numbersAt) (ea : a ≡ G (getD N (objectSize * i + k) 0)) (eb : b ≡ G (getD N (objectSize * j + k) 0)) where
+    pub codes-more : a ≡ b → AlikeTo (onCodes G) N i j (k + 1)
+    codes-more e = alike-more (onCodes G) N i j k a b t (copy-turned G _ k a low h ea) (copy-turned G _ k b low h eb) e
+
+    pub codes-not : ((a ≡ b) → ⊥) → AlikeTest (onCodes G) N i j false
+    codes-not d = alike-not (onCodes G) N i j k a b t (copy-turned G _ k a low h ea) (copy-turned G _ k b low h eb) (omega arith) d
+
 module _ (N : List ℕ) (i j : ℕ) where
   pub alike-hash : AlikeTo shown N i j objectSize → hashOf N i ≡ hashOf N j
-  unfolding hashOf
+  unfolding hashOf hashPlain
   alike-hash t =
       let zi : objectSize * i + 0 ≡ objectSize * i = omega arith in
       let zj : objectSize * j + 0 ≡ objectSize * j = omega arith in
-      let e0 : shown 0 (getD N (objectSize * i) 0) ≡ shown 0 (getD N (objectSize * j) 0) = rw (zi, zj) at (t .all 0 (omega arith)) in
-      rw (e0, t .all 2 (omega arith), t .all 3 (omega arith), t .all 4 (omega arith), t .all 5 (omega arith))
+      let e0 : getD N (objectSize * i) 0 ≡ getD N (objectSize * j) 0 = rw (zi, zj) at (copy-plain looked _ 0 (omega arith) ∙ t .all 0 (omega arith) ∙ sym (copy-plain looked _ 0 (omega arith))) in
+      rw (e0, code 2 (omega arith) (omega arith), code 3 (omega arith) (omega arith), code 4 (omega arith) (omega arith), code 5 (omega arith) (omega arith), fours numbersAt (omega arith) (omega arith), last)
+    where
+      code : (k : ℕ) → headSize ≤ k → k < numbersAt → looked (getD N (objectSize * i + k) 0) ≡ looked (getD N (objectSize * j + k) 0)
+      code k a b = copy-turned looked _ k _ a b refl ∙ t .all k (omega arith) ∙ sym (copy-turned looked _ k _ a b refl)
+
+      rest : (k : ℕ) → numbersAt ≤ k → k < objectSize → getD N (objectSize * i + k) 0 ≡ getD N (objectSize * j + k) 0
+      rest k a b = copy-rest looked _ k a ∙ t .all k b ∙ sym (copy-rest looked _ k a)
+
+      fours : (k : ℕ) → numbersAt ≤ k → k + 4 ≤ objectSize → fourAt N (objectSize * i + k) ≡ fourAt N (objectSize * j + k)
+      fours k a b =
+          let next : (m : ℕ) → m < 4 → getD N (objectSize * i + k + m) 0 ≡ getD N (objectSize * j + k + m) 0 = λ m l.
+          let zi : objectSize * i + k + m ≡ objectSize * i + (k + m) = omega arith in
+          let zj : objectSize * j + k + m ≡ objectSize * j + (k + m) = omega arith in
+          rw (zi, zj) (rest (k + m) (omega arith) (omega arith)) in
+          rw (rest k a (omega arith), next 1 (omega arith), next 2 (omega arith), next 3 (omega arith))
+
+      last : fourAt N (objectSize * i + numbersAt + 4) ≡ fourAt N (objectSize * j + numbersAt + 4)
+      last =
+          let zi : objectSize * i + numbersAt + 4 ≡ objectSize * i + (numbersAt + 4) = omega arith in
+          let zj : objectSize * j + numbersAt + 4 ≡ objectSize * j + (numbersAt + 4) = omega arith in
+          rw (zi, zj) (fours (numbersAt + 4) (omega arith) (omega arith))
 
   pub alike-back : AlikeTo shown N i j objectSize → AlikeTo shown N j i objectSize
   alike-back t = record { all = λ f h. sym (t .all f h) }
@@ -59,8 +106,12 @@ module _ (N : List ℕ) (i j : ℕ) where
 pub alike-then : (N : List ℕ) (i j k : ℕ) → AlikeTo shown N i j objectSize → AlikeTo shown N j k objectSize → AlikeTo shown N i k objectSize
 alike-then N i j k a b = record { all = λ f h. a .all f h ∙ b .all f h }
 
-pub hash-is : (N : List ℕ) (i a b c d e : ℕ) → a ≡ shown 0 (getD N (objectSize * i) 0) → b ≡ shown 2 (getD N (objectSize * i + 2) 0) → c ≡ shown 3 (getD N (objectSize * i + 3) 0) → d ≡ shown 4 (getD N (objectSize * i + 4) 0)
-    → e ≡ shown 5 (getD N (objectSize * i + 5) 0) → (a + 7 * b + 13 * c + 29 * d + 5 * e) % hashCount ≡ hashOf N i
+pub plain-is : (N : List ℕ) (p x : ℕ) → Eight N (p + numbersAt) x → getD N p 0 % hashCount + x % hashedBy ≡ hashPlain N p
+unfolding hashPlain
+plain-is N p x e = rw (e .is, e .first .is, e .last .is)
+
+pub hash-is : (N : List ℕ) (i a b c d e : ℕ) → a ≡ looked (getD N (objectSize * i + 2) 0) → b ≡ looked (getD N (objectSize * i + 3) 0) → c ≡ looked (getD N (objectSize * i + 4) 0)
+    → d ≡ looked (getD N (objectSize * i + 5) 0) → e ≡ hashPlain N (objectSize * i) → (7 * a + 13 * b + 29 * c + 5 * d + e) % hashCount ≡ hashOf N i
 unfolding hashOf
 hash-is N i a b c d e ea eb ec ed ee = rw (ea, eb, ec, ed, ee)
 

@@ -6,7 +6,7 @@ use mathlib.Core.Path.{_≡_, refl, _∙_}
 use mathlib.Core.List.{List}
 use lib.ListN.{length, getD, set, length-set}
 use lib.Seq.{getD-set-same, getD-set-other}
-use Rattle.canon.specs.Figures.{objectSize, rowSize, noteAt}
+use Rattle.canon.specs.Figures.{rowSize, noteAt}
 use Rattle.canon.specs.Parting.{Stood, Like, Standing, Classes, Front, Found, Brought, SameNotes, Noted}
 
 -- ---- an object at a place
@@ -47,9 +47,9 @@ module _ (T T′ : List ℕ) (k : Like T T′) where
   pub front-like : (x : ℕ) → Front T′ x → Front T x
   front-like x f = record { at = rw (k .cls x, k .place x, k .mid (getD T (rowSize * x) 0)) at (f .at) }
 
-like-set : (T : List ℕ) (i v : ℕ) → ((x k : ℕ) → k < objectSize → (rowSize * x + k ≡ i) → ⊥) → Like T (set T i v)
+like-set : (T : List ℕ) (i v : ℕ) → ((x k : ℕ) → k < noteAt → (rowSize * x + k ≡ i) → ⊥) → Like T (set T i v)
 like-set T i v d =
-    let go : (x k : ℕ) → k < objectSize → getD (set T i v) (rowSize * x + k) 0 ≡ getD T (rowSize * x + k) 0 = λ x k h. getD-set-other T i (rowSize * x + k) v 0 (d x k h) in
+    let go : (x k : ℕ) → k < noteAt → getD (set T i v) (rowSize * x + k) 0 ≡ getD T (rowSize * x + k) 0 = λ x k h. getD-set-other T i (rowSize * x + k) v 0 (d x k h) in
     record {
       same = length-set T i v;
       cls = λ x. getD-set-other T i (rowSize * x) v 0 (λ z. d x 0 (omega arith) (omega arith));

@@ -1,7 +1,6 @@
 -- Laws of numbering the objects.
-use Prim.Native.Nat.{ℕ, zero, suc, _+_, _-_, _*_, _%_, _<_, _≤_}
+use Prim.Native.Nat.{ℕ, zero, suc, _+_, _-_, _*_, _<_, _≤_}
 use native.Mathlib.Omega.{arith}
-use native.Mathlib.Decide.{ℕ-discrete}
 use mathlib.Core.Path.{_≡_, refl, sym, ap, ap₂, _∙_, subst}
 use mathlib.Core.Bool.{Bool, true, false, cond, true≢false}
 use mathlib.Core.List.{List, [], _∷_, _++_}
@@ -10,7 +9,7 @@ use lib.Dec.{eqb}
 use lib.ListN.{length, getD, take, getElem?, length-map}
 use lib.Seq.{length-take-le, getD-take}
 use borrow.Author.Tests.{eq-eqb, ne-eqb}
-use Rattle.cofj.specs.Values.{Ref, obj, mark, undet, Node, node, Graph, graph, rename, renameNode, nodeAt, refsAt, colourOf, colours, isIn, placeIn, visit, visitAll, canon}
+use Rattle.cofj.specs.Values.{Ref, obj, leaf, undet, Node, node, Graph, graph, rename, renameNode, nodeAt, refsAt, colourOf, colours, isIn, placeIn, visit, visitAll, canon}
 use Rattle.cofj.specs.Unfolding.{InRange, Whole}
 use Rattle.cofj.proofs.Basics.{getD-map-lt}
 use Rattle.cofj.proofs.Colours.{colour, colour-low}
@@ -18,34 +17,15 @@ use Rattle.cofj.proofs.Walk.{order, order-length, order-kept, order-root, Cover
 use Rattle.cofj.proofs.Canon.{number, listed, canon-is, canon-whole, getD-isIn, placeIn-spec}
 use Rattle.cofj.proofs.Unique.{canon-canon}
 use Rattle.cofj.proofs.Numbering.{canonical-root}
-use Rattle.canon.specs.Figures.{objectSize, firstLeaf, firstMark, capacity, blockSize}
-use Rattle.canon.specs.Layout.{nodeIn, nodesIn, Packed, Distinct, Block, graphAt, objectsIn, countIn, ended}
-use Rattle.canon.specs.Tables.{Filled, copied, Lifted}
+use Rattle.canon.specs.Figures.{objectSize, headSize, firstLeaf, capacity, blockSize}
+use Rattle.canon.specs.Layout.{nodeIn, nodesIn, Distinct, Block, graphAt, objectsIn, countIn, ended}
+use Rattle.canon.specs.Tables.{Filled}
 use Rattle.canon.specs.Walking.{walkRef, markIn, Listed}
 use Rattle.canon.specs.Numbers.{numberIn, Gathered, Levels, Ready, Placed, graphIn}
 use Rattle.canon.proofs.Colouring.{value-distinct}
 use Rattle.canon.proofs.Nodes.{at-nodes, length-nodes, ref-object, AllPacked, code-low, ended-size, ended-below, ended-above, ended-count, ended-level, ended-reach}
-use Rattle.canon.proofs.Turned.{turnRef, changed, lifted-nodes, lifted-packed, turn-rename, node-agree}
-
--- ---- gathering
-pub gather-none : (N O T D : List ℕ) (to : ℕ) → Gathered N O 0 T D to D
-gather-none N O T D to = record { same = refl; here = λ j k h. absurd (omega arith); below = λ q h. refl; above = λ q h. refl }
-
-pub gather-more : (N O T D₀ : List ℕ) (to : ℕ) (D D2 : List ℕ) (j : ℕ) → Gathered N O j T D₀ to D → Lifted N (objectSize * getD O j 0) objectSize T D (to + objectSize * j) D2
-    → Gathered N O (j + 1) T D₀ to D2
-gather-more N O T D₀ to D D2 j g f = record {
-  same = f .same ∙ g .same;
-  here = λ i k h l. go i k h l (ℕ-discrete i j);
-  below = λ q h. f .below q (omega arith) ∙ g .below q h;
-  above = λ q h. f .above q (omega arith) ∙ g .above q (omega arith);
-}
-  where
-    go : (i k : ℕ) → i < j + 1 → k < objectSize → Dec (i ≡ j) → getD D2 (to + objectSize * i + k) 0 ≡ copied T k (getD N (objectSize * getD O i 0 + k) 0)
-    go i k h l (yes e) = let z : k % objectSize ≡ k = omega arith in rw e (rw z at (f .here k l))
-    go i k h l (no e) = f .below (to + objectSize * i + k) (omega (arith, e)) ∙ g .here i k (omega (arith, e)) l
-
-pub gather-done : (N O T D₀ : List ℕ) (to : ℕ) (D : List ℕ) (j m : ℕ) → Gathered N O j T D₀ to D → j ≤ m → m ≤ j → Gathered N O m T D₀ to D
-gather-done N O T D₀ to D j m g h k = let e : j ≡ m = omega arith in rw e at g
+use Rattle.canon.proofs.Turned.{turnRef, changed, turn-rename, node-agree}
+use Rattle.canon.proofs.Gathers.{gathered-node, gathered-packed}
 
 -- ---- the walk over the bytes is the walk over the graph
 module _ (N C : List ℕ) (n : ℕ) (few : n ≤ firstLeaf) (w : (i k : ℕ) (r : Ref) → getElem? (refsAt (nodesIn N 0 n) i) k ≡ some r → InRange n r)
@@ -62,8 +42,7 @@ module _ (N C : List ℕ) (n : ℕ) (few : n ≤ firstLeaf) (w : (i k : ℕ) (r 
   visit-same : (k : ℕ) (r : Ref) (s : List ℕ) → InRange n r → visit (nodesIn N 0 256) C k r s ≡ visit (nodesIn N 0 n) (take n C) k r s
   unfolding visit
   visit-same zero r s h = refl
-  visit-same (suc k) (mark x) s h = refl
-  visit-same (suc k) undet s h = refl
+  visit-same (suc k) (leaf l) s h = refl
   visit-same (suc k) (obj i) s h =
       go (isIn (getD C i 0) s) (all-same (λ r t. visit (nodesIn N 0 256) C k r t) (λ r t. visit (nodesIn N 0 n) (take n C) k r t) (λ r t p. visit-same k r t p)
       (refsAt (nodesIn N 0 n) (getD C i 0)) (w (getD C i 0)) (s ++ (getD C i 0 ∷ [])))
@@ -76,28 +55,7 @@ module _ (N C : List ℕ) (n : ℕ) (few : n ≤ firstLeaf) (w : (i k : ℕ) (r 
       go true e = refl
       go false e = ap (λ (x : Node). visitAll (λ r t. visit (nodesIn N 0 256) C k r t) (x .refs) (s ++ (getD C i 0 ∷ []))) (node-at (getD C i 0) (low i h)) ∙ e
 
--- ---- what is gathered
-module _ (N O : List ℕ) (m : ℕ) (T D₀ : List ℕ) (to : ℕ) (D : List ℕ) (g : Gathered N O m T D₀ to D) where
-  one : (j : ℕ) → j < m → Lifted N (objectSize * getD O j 0) objectSize T D (to + objectSize * j) D
-  one j h = record {
-    same = refl;
-    here = λ q l. let z : q % objectSize ≡ q = omega arith in rw z (g .here j q h l);
-    below = λ q l. refl;
-    above = λ q l. refl;
-  }
-
-  gathered-node : (j : ℕ) → j < m → nodeIn D (to + objectSize * j) ≡ changed (turnRef T) (nodeIn N (objectSize * getD O j 0))
-  unfolding nodesIn
-  gathered-node j h =
-      let e : nodeIn D (to + objectSize * j) ∷ [] ≡ changed (turnRef T) (nodeIn N (objectSize * getD O j 0)) ∷ [] = lifted-nodes N (objectSize * getD O j 0) T D (to + objectSize * j) D 1 (one j h) in
-      cc
-
-  gathered-packed : (j : ℕ) → j < m → Packed N (objectSize * getD O j 0) → Packed D (to + objectSize * j)
-  gathered-packed j h pk =
-      let z : to + objectSize * j + objectSize * 0 ≡ to + objectSize * j = omega arith in
-      rw z at (lifted-packed N (objectSize * getD O j 0) T D (to + objectSize * j) D 1 (one j h)
-      (λ i l. let y : objectSize * getD O j 0 + objectSize * i ≡ objectSize * getD O j 0 = omega arith in rw y pk) 0 (omega arith))
-
+-- ---- numbers by the table
 place-le : (c : ℕ) (s : List ℕ) → placeIn c s ≤ length s
 unfolding placeIn
 place-le c [] = omega arith
@@ -163,7 +121,7 @@ module _ (N : List ℕ) (n : ℕ) (C : List ℕ) (root : ℕ) (W : List ℕ) (ds
   unfolding walkRef
   walk-is =
       let e : n + 1 ≡ suc (length (nodesIn N 0 n)) = rw (length-nodes N 0 n) (omega arith) in
-      ap (λ (r : Ref). visit (nodesIn N 0 256) C (n + 1) r []) (ref-object root (omega (arith, rd .inside, rd .raw .few)))
+      ap (λ (r : Ref). visit (nodesIn N 0 256) C (n + 1) r []) (ref-object root 0 (omega (arith, rd .inside, rd .raw .few)))
       ∙ visit-same N C n (rd .raw .few) inner low (n + 1) (obj root) [] (rd .inside)
       ∙ ap₂ {A = List ℕ} {B = ℕ} (λ cs k. visit (nodesIn N 0 n) cs k (obj root) []) (rd .coloured) e
 
@@ -197,7 +155,7 @@ module _ (N : List ℕ) (n : ℕ) (C : List ℕ) (root : ℕ) (W : List ℕ) (ds
     }
 
     module _ (M : List ℕ) (lm : Listed M (take m O)) (T : List ℕ) (fm : Filled (λ i. numberIn M m (getD C i 0)) n T) (D : List ℕ) (g : Gathered N O m T W (blockSize * dst) D) (few : m ≤ capacity)
-        (l : ℕ) (lv : Levels D (blockSize * dst) (objectSize * m) l) where
+        (l : ℕ) (lv : Levels D (blockSize * dst) m l) where
       abbrev E : List ℕ
       E = ended D dst m l m
 
@@ -229,7 +187,7 @@ module _ (N : List ℕ) (n : ℕ) (C : List ℕ) (root : ℕ) (W : List ℕ) (ds
           let c : getD O j 0 < n = listed-low j h in
           let ec : getD O j 0 ≡ getD (order (graphIn N n root) wg) j 0 = sym (getD-take m O j 0 h) ∙ ap (λ (l : List ℕ). getD l j 0) order-is in
           let z : 0 + objectSize * getD O j 0 ≡ objectSize * getD O j 0 = omega arith in
-          gathered-node N O m T E (blockSize * dst) E g′ j h
+          gathered-node N O m T E (blockSize * dst) E g′ j h (rd .raw .packed (getD O j 0) c)
           ∙ ap (λ (p : ℕ). changed (turnRef T) (nodeIn N p)) (sym z)
           ∙ ap (changed (turnRef T)) (sym (at-nodes N 0 n (getD O j 0) c))
           ∙ node-agree (turnRef T) (rename (number (graphIn N n root) wg)) (InRange n)
@@ -256,7 +214,7 @@ module _ (N : List ℕ) (n : ℕ) (C : List ℕ) (root : ℕ) (W : List ℕ) (ds
       filled-is : 1 ≤ m
       filled-is = omega (arith, order-some (graphIn N n root) wg root refl, counted, canon-count)
 
-      whole-is : Whole (graph undet (objectsIn E dst))
+      whole-is : Whole (graph (leaf undet) (objectsIn E dst))
       whole-is =
           let w = subst Whole (sym block-is) (canon-whole (graphIn N n root) wg) in
           record { top = tt; inner = w .inner }
@@ -272,7 +230,7 @@ module _ (N : List ℕ) (n : ℕ) (C : List ℕ) (root : ℕ) (W : List ℕ) (ds
         packed = packed-is;
         whole = whole-is;
         distinct = subst (λ (v : Graph). Distinct (v .nodes)) (sym block-is) (value-distinct (canon (graphIn N n root)) (canon-whole (graphIn N n root) wg) (canon-canon (graphIn N n root) wg));
-        level = λ q h. rw (ended-below D dst m l m room (blockSize * dst + q) (omega (arith, count-is)), ended-level D dst m l m room) (lv .below q (omega (arith, count-is)));
+        level = λ i f h k. rw (ended-below D dst m l m room (blockSize * dst + objectSize * i + headSize + f) (omega (arith, count-is)), ended-level D dst m l m room) (lv .below i f (omega (arith, count-is)) k);
         reach = λ i f h k c. omega (arith, count-is, ended-reach D dst m l m room, code-low E (blockSize * dst) (countIn E dst) packed-is i h whole-is f k c);
       }
 
@@ -286,18 +244,3 @@ module _ (N : List ℕ) (n : ℕ) (C : List ℕ) (root : ℕ) (W : List ℕ) (ds
         };
         has = λ l. record { inside = record { block = block-ok; low = rw count-is filled-is }; is = block-is };
       }
-
--- ---- a level
-pub level-none : (W : List ℕ) (at : ℕ) (l : ℕ) → Levels W at 0 l
-level-none W at l = record { below = λ q h. absurd (omega arith) }
-
-module _ (W : List ℕ) (at q l : ℕ) (lv : Levels W at q l) where
-  pub level-more : (m : ℕ) → l ≤ m → getD W (at + q) 0 < firstMark + m → Levels W at (q + 1) m
-  level-more m h c = record { below = λ p k. go p k (ℕ-discrete p q) }
-    where
-      go : (p : ℕ) → p < q + 1 → Dec (p ≡ q) → getD W (at + p) 0 < firstMark + m
-      go p k (yes e) = rw e c
-      go p k (no e) = omega (arith, lv .below p (omega (arith, e)))
-
-  pub level-done : (p : ℕ) → q ≤ p → p ≤ q → Levels W at p l
-  level-done p h k = let e : q ≡ p = omega arith in rw e at lv

@@ -8,7 +8,7 @@ use mathlib.Core.List.{List, [], map}
 use mathlib.Core.Option.{some}
 use lib.ListN.{length, getD, take, getElem?, List·getD-map}
 use lib.Seq.{length-take-le, getD-take, ext-getD}
-use Rattle.cofj.specs.Values.{Ref, obj, undet, Node, node, Graph, graph, rename, renameNode, nodeAt, refsAt, colourOf, placeOf, refine, refineTo, colours, eqNats}
+use Rattle.cofj.specs.Values.{Ref, obj, leaf, undet, Node, node, Graph, graph, rename, renameNode, nodeAt, refsAt, colourOf, placeOf, refine, refineTo, colours, eqNats}
 use Rattle.cofj.specs.Unfolding.{Same, InRange}
 use Rattle.cofj.proofs.Basics.{eqNats-true}
 use Rattle.cofj.proofs.Trees.{same-look}
@@ -19,7 +19,7 @@ use Rattle.canon.specs.Tables.{Filled, Carried, Lifted}
 use Rattle.canon.specs.Rounds.{Looks, placeIs, Raw, Below}
 use Rattle.canon.specs.Classing.{Coarse}
 use Rattle.canon.proofs.Colouring.{colours-are, looks-colours}
-use Rattle.canon.proofs.Nodes.{length-nodes, at-nodes}
+use Rattle.canon.proofs.Nodes.{AllPacked, length-nodes, at-nodes}
 use Rattle.canon.proofs.Turned.{turnRef, lifted-nodes, lifted-packed, turn-rename, nodes-agree}
 
 -- a table's front, by its items
@@ -29,11 +29,14 @@ front-is A l n e h f =
     (λ i k. let k′ : i < n = omega (arith, length-take-le n A h) in getD-take n A i 0 k′ ∙ f i k′)
 
 module _ (N C L₀ L : List ℕ) (n : ℕ) (raw : Raw N n) (f : Lifted N 0 (objectSize * n) C L₀ 0 L) where
+  packed-at : AllPacked N 0 n
+  packed-at j k = let e : 0 + objectSize * j ≡ objectSize * j = omega arith in rw e (raw .packed j k)
+
   pub looks-ok : wideSize ≤ length L₀ → Looks L n
   looks-ok h = record {
     few = raw .few;
     room = omega (arith, f .same);
-    packed = λ i l. let e : objectSize * i ≡ 0 + objectSize * i = omega arith in rw e (lifted-packed N 0 C L₀ 0 L n f (λ j k. let ej : 0 + objectSize * j ≡ objectSize * j = omega arith in rw ej (raw .packed j k)) i l);
+    packed = λ i l. let e : objectSize * i ≡ 0 + objectSize * i = omega arith in rw e (lifted-packed N 0 C L₀ 0 L n f packed-at i l);
   }
 
   inner : (i k : ℕ) (r : Ref) → getElem? (refsAt (nodesIn N 0 n) i) k ≡ some r → InRange n r
@@ -41,7 +44,7 @@ module _ (N C L₀ L : List ℕ) (n : ℕ) (raw : Raw N n) (f : Lifted N 0 (obje
 
   looks-are : Below n C → nodesIn L 0 n ≡ map (renameNode (colourOf (take n C))) (nodesIn N 0 n)
   looks-are b =
-      lifted-nodes N 0 C L₀ 0 L n f
+      lifted-nodes N 0 C L₀ 0 L n f packed-at
       ∙ nodes-agree (turnRef C) (rename (colourOf (take n C))) (InRange n)
       (turn-rename C n (colourOf (take n C)) (raw .few) (λ i h. sym (getD-take n C i 0 h))
       (λ i h. rw (getD-take n C i 0 h) (omega (arith, b .low i h, raw .few))))
@@ -84,7 +87,7 @@ module _ (N : List ℕ) (n : ℕ) (raw : Raw N n) where
   ns = nodesIn N 0 n
 
   abbrev g : Graph
-  g = graph undet ns
+  g = graph (leaf undet) ns
 
   size : length ns ≡ n
   size = length-nodes N 0 n

@@ -1,7 +1,7 @@
 -- Laws of the walk.
 use Prim.Native.Nat.{ℕ, zero, suc, _+_, _-_, _*_, _<_, _≤_}
 use native.Mathlib.Omega.{arith}
-use native.Mathlib.Decide.{ℕ-discrete}
+use native.Mathlib.Decide.{decLt, ℕ-discrete}
 use native.Mathlib.Numerals.{add-one}
 use mathlib.Core.Path.{_≡_, refl, sym, ap, _∙_}
 use mathlib.Core.Bool.{Bool, true, false, cond, true≢false}
@@ -10,12 +10,12 @@ use lib.Dec.{eqb}
 use lib.ListN.{length, getD, set, take, length-append, length-take, length-set, drop-of-length-le}
 use lib.Seq.{drop-cons, getD-take, getD-set-same, getD-set-other, length-take-le, take-suc-set}
 use borrow.Author.Tests.{eq-eqb, ne-eqb}
-use Rattle.cofj.specs.Values.{Ref, obj, mark, undet, Node, refsAt, colourOf, isIn, placeIn, visit, visitAll}
-use Rattle.canon.specs.Figures.{objectSize, headSize, codeCount, firstLeaf, undeterminedCode, firstMark}
-use Rattle.canon.specs.Layout.{refOf, nodeIn, nodesIn}
+use Rattle.cofj.specs.Values.{Ref, obj, leaf, undet, Node, refsAt, colourOf, isIn, placeIn, visit, visitAll}
+use Rattle.canon.specs.Figures.{objectSize, headSize, codeCount, numbersAt, firstLeaf}
+use Rattle.canon.specs.Layout.{leafFrom, refOf, numberAt, refIn, four, nodeIn, nodesIn}
 use Rattle.canon.specs.Walking.{walkRef, walkFields, markIn, Listed}
 use Rattle.canon.specs.Tables.{Filled}
-use Rattle.canon.proofs.Nodes.{ref-object, ref-undet, ref-mark, at-nodes}
+use Rattle.canon.proofs.Nodes.{ref-object, ref-leaf, four-at, at-nodes}
 
 -- ---- what is met stays
 all-grows : (f : Ref → List ℕ → List ℕ) → ((r : Ref) (s : List ℕ) → length s ≤ length (f r s)) → (rs : List Ref) (s : List ℕ) → length s ≤ length (visitAll f rs s)
@@ -26,8 +26,7 @@ all-grows f h (r ∷ rs) s = omega (arith, h r s, all-grows f h rs (f r s))
 grows : (ns : List Node) (cs : List ℕ) (k : ℕ) (r : Ref) (s : List ℕ) → length s ≤ length (visit ns cs k r s)
 unfolding visit
 grows ns cs zero r s = omega arith
-grows ns cs (suc k) (mark x) s = omega arith
-grows ns cs (suc k) undet s = omega arith
+grows ns cs (suc k) (leaf l) s = omega arith
 grows ns cs (suc k) (obj i) s =
     go (isIn (colourOf cs i) s) (all-grows (λ r t. visit ns cs k r t) (λ r t. grows ns cs k r t) (refsAt ns (colourOf cs i)) (s ++ (colourOf cs i ∷ [])))
   where
@@ -111,18 +110,18 @@ no-visit : (ns : List Node) (cs : List ℕ) (k : ℕ) (r : Ref) (s : List ℕ) �
 unfolding visit
 no-visit ns cs zero r s h = refl
 no-visit ns cs (suc k) (obj i) s h = absurd (h i refl)
-no-visit ns cs (suc k) (mark x) s h = refl
-no-visit ns cs (suc k) undet s h = refl
+no-visit ns cs (suc k) (leaf l) s h = refl
 
-no-object : (r : ℕ) → firstLeaf ≤ r → (i : ℕ) → refOf r ≡ obj i → ⊥
-no-object r h i e = go (ℕ-discrete r undeterminedCode)
+no-object : (r x : ℕ) → firstLeaf ≤ r → (i : ℕ) → refOf r x ≡ obj i → ⊥
+no-object r x h i e = let y : leaf (leafFrom r x) ≡ obj i = sym (ref-leaf r x h) ∙ e in let q : _≡_ {A = ℕ} 0 1 = cc in omega arith
+
+-- whatever number is beside it
+visit-code : (ns : List Node) (cs : List ℕ) (k r x : ℕ) (s : List ℕ) → visit ns cs k (refOf r x) s ≡ visit ns cs k (refOf r 0) s
+visit-code ns cs k r x s = go (decLt r firstLeaf)
   where
-    go : Dec (r ≡ undeterminedCode) → ⊥
-    go (yes z) = let y : undet ≡ obj i = sym ref-undet ∙ ap refOf (sym z) ∙ e in let q : _≡_ {A = ℕ} 0 1 = cc in omega arith
-    go (no z) =
-        let zz : firstMark + (r - firstMark) ≡ r = omega (arith, z) in
-        let y : mark (r - firstMark) ≡ obj i = sym (ref-mark (r - firstMark)) ∙ ap refOf zz ∙ e in
-        let q : _≡_ {A = ℕ} 0 1 = cc in omega arith
+    go : Dec (r < firstLeaf) → visit ns cs k (refOf r x) s ≡ visit ns cs k (refOf r 0) s
+    go (yes h) = ap (λ (y : Ref). visit ns cs k y s) (ref-object r x h ∙ sym (ref-object r 0 h))
+    go (no h) = let l : firstLeaf ≤ r = omega (arith, h) in no-visit ns cs k (refOf r x) s (no-object r x l) ∙ sym (no-visit ns cs k (refOf r 0) s (no-object r 0 l))
 
 module _ (N C O : List ℕ) (k r m : ℕ) where
   pub visit-zero : k ≡ 0 → take m O ≡ walkRef N C k r (take m O)
@@ -131,7 +130,7 @@ module _ (N C O : List ℕ) (k r m : ℕ) where
 
   pub visit-none : firstLeaf ≤ r → take m O ≡ walkRef N C k r (take m O)
   unfolding walkRef
-  visit-none h = sym (no-visit (nodesIn N 0 256) C k (refOf r) (take m O) (no-object r h))
+  visit-none h = sym (no-visit (nodesIn N 0 256) C k (refOf r 0) (take m O) (no-object r 0 h))
 
   module _ (nz : (k ≡ 0) → ⊥) (obj-r : r < firstLeaf) (T : List ℕ) (low : getD C r 0 < 256) (lt : Listed T (take m O)) where
     step : (b : Bool) → isIn (getD C r 0) (take m O) ≡ b → walkRef N C k r (take m O)
@@ -139,7 +138,7 @@ module _ (N C O : List ℕ) (k r m : ℕ) where
     unfolding walkRef visit walkFields
     step b eb =
         let ek : k ≡ suc (k - 1) = omega (arith, nz) in
-        ap (λ (x : Ref). visit (nodesIn N 0 256) C k x (take m O)) (ref-object r obj-r)
+        ap (λ (x : Ref). visit (nodesIn N 0 256) C k x (take m O)) (ref-object r 0 obj-r)
         ∙ ap (λ (x : ℕ). visit (nodesIn N 0 256) C x (obj r) (take m O)) ek
         ∙ ap (λ (x : Bool). elim x as (λ _. List ℕ) [ true ↦ take m O | false ↦ visitAll (λ y t. visit (nodesIn N 0 256) C (k - 1) y t) (refsAt (nodesIn N 0 256) (getD C r 0)) (take m O ++ (getD C r 0 ∷ [])) ]) eb
 
@@ -166,20 +165,9 @@ module _ (N C O : List ℕ) (k r m : ℕ) where
           omega (arith, new-small l)
 
 -- ---- the fields
-refs-are : (N : List ℕ) (c : ℕ) → suc c ≤ 256 → refsAt (nodesIn N 0 256) c
-    ≡ take (getD N (objectSize * c + 1) 0) (refOf (getD N (objectSize * c + 2) 0) ∷ refOf (getD N (objectSize * c + 3) 0) ∷ refOf (getD N (objectSize * c + 4) 0) ∷ refOf (getD N (objectSize * c + 5) 0) ∷ [])
+refs-are : (N : List ℕ) (c : ℕ) → suc c ≤ 256 → refsAt (nodesIn N 0 256) c ≡ take (getD N (objectSize * c + 1) 0) (four N (objectSize * c))
 unfolding nodeIn
 refs-are N c h = let e : 0 + objectSize * c ≡ objectSize * c = omega arith in ap (λ (x : Node). x .refs) (at-nodes N 0 256 c h ∙ ap (nodeIn N) e)
-
-abbrev pub four : List ℕ → ℕ → List Ref
-four N c = refOf (getD N (objectSize * c + 2) 0) ∷ refOf (getD N (objectSize * c + 3) 0) ∷ refOf (getD N (objectSize * c + 4) 0) ∷ refOf (getD N (objectSize * c + 5) 0) ∷ []
-
-pub four-at : (N : List ℕ) (c f : ℕ) → f < codeCount → getD (four N c) f undet ≡ refOf (getD N (objectSize * c + headSize + f) 0)
-four-at N c zero h = let e : objectSize * c + headSize + 0 ≡ objectSize * c + 2 = omega arith in rw e
-four-at N c (suc zero) h = let e : objectSize * c + headSize + 1 ≡ objectSize * c + 3 = omega arith in rw e
-four-at N c (suc (suc zero)) h = let e : objectSize * c + headSize + 2 ≡ objectSize * c + 4 = omega arith in rw e
-four-at N c (suc (suc (suc zero))) h = let e : objectSize * c + headSize + 3 ≡ objectSize * c + 5 = omega arith in rw e
-four-at N c (suc (suc (suc (suc f)))) h = absurd (omega arith)
 
 module _ (N C : List ℕ) (k c f : ℕ) (s : List ℕ) (small : suc c ≤ 256) where
   over : length (refsAt (nodesIn N 0 256) c) ≤ f → s ≡ walkFields N C k c f s
@@ -187,20 +175,20 @@ module _ (N C : List ℕ) (k c f : ℕ) (s : List ℕ) (small : suc c ≤ 256) w
   over h = sym (ap (λ (l : List Ref). visitAll (λ r t. visit (nodesIn N 0 256) C k r t) l s) (drop-of-length-le (refsAt (nodesIn N 0 256) c) {i = f} h))
 
   pub fields-end : codeCount ≤ f → s ≡ walkFields N C k c f s
-  fields-end h = over (omega (arith, ap length (refs-are N c small), length-take (getD N (objectSize * c + 1) 0) (four N c)))
+  fields-end h = over (omega (arith, ap length (refs-are N c small), length-take (getD N (objectSize * c + 1) 0) (four N (objectSize * c))))
 
   pub fields-out : getD N (objectSize * c + 1) 0 ≤ f → s ≡ walkFields N C k c f s
-  fields-out h = over (omega (arith, ap length (refs-are N c small), length-take (getD N (objectSize * c + 1) 0) (four N c)))
+  fields-out h = over (omega (arith, ap length (refs-are N c small), length-take (getD N (objectSize * c + 1) 0) (four N (objectSize * c))))
 
   module _ (h4 : f < codeCount) (hc : f < getD N (objectSize * c + 1) 0) where
     pub fields-step : walkFields N C k c f s ≡ walkFields N C k c (f + 1) (walkRef N C k (getD N (objectSize * c + headSize + f) 0) s)
-    unfolding walkFields visitAll walkRef
+    unfolding walkFields visitAll walkRef refIn
     fields-step =
-        let l : f < length (refsAt (nodesIn N 0 256) c) = omega (arith, ap length (refs-are N c small), length-take (getD N (objectSize * c + 1) 0) (four N c)) in
-        let e : getD (refsAt (nodesIn N 0 256) c) f undet ≡ refOf (getD N (objectSize * c + headSize + f) 0) =
-        ap (λ (x : List Ref). getD x f undet) (refs-are N c small) ∙ getD-take (getD N (objectSize * c + 1) 0) (four N c) f undet hc ∙ four-at N c f h4 in
-        ap (λ (x : List Ref). visitAll (λ r t. visit (nodesIn N 0 256) C k r t) x s) (drop-cons (refsAt (nodesIn N 0 256) c) f undet l)
-        ∙ rw (e, add-one f)
+        let l : f < length (refsAt (nodesIn N 0 256) c) = omega (arith, ap length (refs-are N c small), length-take (getD N (objectSize * c + 1) 0) (four N (objectSize * c))) in
+        let e : getD (refsAt (nodesIn N 0 256) c) f (leaf undet) ≡ refIn N (objectSize * c) f =
+        ap (λ (x : List Ref). getD x f (leaf undet)) (refs-are N c small) ∙ getD-take (getD N (objectSize * c + 1) 0) (four N (objectSize * c)) f (leaf undet) hc ∙ four-at N (objectSize * c) f h4 in
+        ap (λ (x : List Ref). visitAll (λ r t. visit (nodesIn N 0 256) C k r t) x s) (drop-cons (refsAt (nodesIn N 0 256) c) f (leaf undet) l)
+        ∙ rw (e, ← visit-code (nodesIn N 0 256) C k (getD N (objectSize * c + headSize + f) 0) (numberAt N (objectSize * c + numbersAt + 2 * f)) s, add-one f)
 
     pub first-small : length (walkFields N C k c f s) ≤ 255 → length (walkRef N C k (getD N (objectSize * c + headSize + f) 0) s) ≤ 255
     first-small l = omega (arith, rw fields-step at l, fields-grow N C k c (f + 1) (walkRef N C k (getD N (objectSize * c + headSize + f) 0) s))

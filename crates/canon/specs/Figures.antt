@@ -3,9 +3,9 @@
 use Prim.Native.Nat.{ℕ, _+_, _-_, _*_}
 
 -- ---- objects
--- the bytes of an object: its head, which is its class and how many fields it has, and its codes, one byte each
+-- the bytes of an object: its head, which is its class and how many fields it has; its codes, one byte each; for each code a number, two bytes, the low one first; two blank bytes
 abbrev pub objectSize : ℕ
-objectSize = 6
+objectSize = 16
 
 abbrev pub headSize : ℕ
 headSize = 2
@@ -13,18 +13,27 @@ headSize = 2
 abbrev pub codeCount : ℕ
 codeCount = 4
 
--- the first code that is no object's; the codes of undetermined and of the first mark; how many marks have codes
+abbrev pub numbersAt : ℕ
+numbersAt = headSize + codeCount
+
+abbrev pub blankAt : ℕ
+blankAt = 14
+
+-- the first code that is no object's; the codes of undetermined, of a number and of the first mark; how many marks have codes
 abbrev pub firstLeaf : ℕ
 firstLeaf = 192
 
 abbrev pub undeterminedCode : ℕ
 undeterminedCode = 192
 
+abbrev pub numberCode : ℕ
+numberCode = undeterminedCode + 1
+
 abbrev pub firstMark : ℕ
-firstMark = undeterminedCode + 1
+firstMark = numberCode + 1
 
 abbrev pub markCount : ℕ
-markCount = 63
+markCount = 62
 
 -- the bytes of as many objects as a byte can number: room for all that a code can refer to
 abbrev pub wideSize : ℕ
@@ -49,11 +58,11 @@ abbrev pub reachAt : ℕ
 reachAt = countAt + 2
 
 abbrev pub blockSize : ℕ
-blockSize = 234
+blockSize = 544
 
 -- how many blocks there are and their bytes; the last is spare: it lies above all that evaluation uses, and parts are brought together there
 abbrev pub blockCount : ℕ
-blockCount = 280
+blockCount = 301
 
 abbrev pub blocksSize : ℕ
 blocksSize = blockSize * blockCount
@@ -62,9 +71,12 @@ abbrev pub spareBlock : ℕ
 spareBlock = blockCount - 1
 
 -- ---- numbers of several bytes
--- what a byte more is worth in a number of four bytes, the highest
+-- what the fourth byte is worth, and the fifth
 abbrev pub threeBytes : ℕ
 threeBytes = 16777216
+
+abbrev pub fourBytes : ℕ
+fourBytes = 4294967296
 
 -- ---- parting's tables
 -- the numbers of a row, and which of them is the first note (Parting says what the others are)
@@ -91,3 +103,7 @@ looksField = 4
 
 abbrev pub hashCount : ℕ
 hashCount = 32
+
+-- what an object's numbers are divided by for its hash
+abbrev pub hashedBy : ℕ
+hashedBy = 31

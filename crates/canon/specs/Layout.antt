@@ -6,35 +6,59 @@ use mathlib.Core.Bool.{Bool, false, cond}
 use mathlib.Core.List.{List, [], _∷_}
 use lib.Dec.{ltb, eqb}
 use lib.ListN.{length, getD, set, take, drop}
-use Rattle.cofj.specs.Values.{Ref, obj, mark, undet, Node, node, Graph, graph}
+use Rattle.cofj.specs.Values.{Leaf, mark, undet, num, Ref, obj, leaf, Node, node, Graph, graph}
 use Rattle.cofj.specs.Unfolding.{Same, Whole}
-use Rattle.canon.specs.Figures.{objectSize, headSize, codeCount, firstLeaf, undeterminedCode, firstMark, capacity, countAt, levelAt, reachAt, blockSize}
+use Rattle.canon.specs.Figures.{objectSize, headSize, codeCount, numbersAt, blankAt, firstLeaf, undeterminedCode, numberCode, firstMark, capacity, countAt, levelAt, reachAt, blockSize}
 
--- the reference that a code stands for: every number is one
-unfoldable pub refOf : ℕ → Ref
-refOf b = cond (ltb b firstLeaf) (obj b) (cond (eqb b undeterminedCode) undet (mark (b - firstMark)))
+-- the leaf that a code stands for, with the number beside it, if it is no object's; every code is one
+unfoldable pub leafFrom : ℕ → ℕ → Leaf
+leafFrom b x = cond (eqb b undeterminedCode) undet (cond (eqb b numberCode) (num x) (mark (b - firstMark)))
+
+-- the reference
+unfoldable pub refOf : ℕ → ℕ → Ref
+refOf b x = cond (ltb b firstLeaf) (obj b) (leaf (leafFrom b x))
 
 abbrev pub codeOf : Ref → ℕ
 codeOf (obj i) = i
-codeOf undet = undeterminedCode
-codeOf (mark k) = firstMark + k
+codeOf (leaf (mark k)) = firstMark + k
+codeOf (leaf undet) = undeterminedCode
+codeOf (leaf (num n)) = numberCode
 
--- the object at a place: class, number of fields, four codes
+-- the number beside the code
+abbrev pub numberBeside : Ref → ℕ
+numberBeside (obj i) = 0
+numberBeside (leaf (mark k)) = 0
+numberBeside (leaf undet) = 0
+numberBeside (leaf (num n)) = n
+
+-- a number of two bytes, the low one first
+abbrev pub numberAt : List ℕ → ℕ → ℕ
+numberAt S p = getD S p 0 + 256 * getD S (p + 1) 0
+
+-- field f of the object at a place
+unfoldable pub refIn : List ℕ → ℕ → ℕ → Ref
+refIn S at f = refOf (getD S (at + headSize + f) 0) (numberAt S (at + numbersAt + 2 * f))
+
+-- all four codes, used or not
+abbrev pub four : List ℕ → ℕ → List Ref
+four S at = refIn S at 0 ∷ refIn S at 1 ∷ refIn S at 2 ∷ refIn S at 3 ∷ []
+
+-- the object: class, and as many fields as it has
 unfoldable pub nodeIn : List ℕ → ℕ → Node
-nodeIn S at =
-    node (getD S at 0)
-    (take (getD S (at + 1) 0)
-    (refOf (getD S (at + 2) 0) ∷ refOf (getD S (at + 3) 0) ∷ refOf (getD S (at + 4) 0) ∷ refOf (getD S (at + 5) 0) ∷ []))
+nodeIn S at = node (getD S at 0) (take (getD S (at + 1) 0) (four S at))
 
 -- n objects from a place on
 unfoldable pub nodesIn : List ℕ → ℕ → ℕ → List Node
 nodesIn S at zero = []
 nodesIn S at (suc n) = nodeIn S at ∷ nodesIn S (at + objectSize) n
 
--- at most four fields, and the codes of the others undetermined
+-- at most four fields, and the codes of the others undetermined; a number only beside its code, of two bytes; nothing after the numbers
 pub record Packed (S : List ℕ) (at : ℕ) : Type 0 where
   pub count : getD S (at + 1) 0 ≤ codeCount
-  pub spare : (k : ℕ) → 2 + getD S (at + 1) 0 ≤ k → k < objectSize → getD S (at + k) 0 ≡ undeterminedCode
+  pub spare : (k : ℕ) → headSize + getD S (at + 1) 0 ≤ k → k < numbersAt → getD S (at + k) 0 ≡ undeterminedCode
+  pub plain : (f : ℕ) → f < codeCount → ((getD S (at + headSize + f) 0 ≡ numberCode) → ⊥) → numberAt S (at + numbersAt + 2 * f) ≡ 0
+  pub low : (f : ℕ) → f < codeCount → getD S (at + numbersAt + 2 * f) 0 < 256
+  pub blank : (k : ℕ) → blankAt ≤ k → k < objectSize → getD S (at + k) 0 ≡ 0
 
 -- the objects at two places have one class and as many fields
 pub record Alike (S : List ℕ) (p q : ℕ) : Type 0 where
@@ -53,7 +77,7 @@ part S at n = take n (drop at S)
 unfoldable pub countIn : List ℕ → ℕ → ℕ
 countIn W b = getD W (blockSize * b + countAt) 0
 
--- no byte of these objects is firstMark + the level or more: so every mark in them is below the level
+-- no code of these objects is firstMark + the level or more: so every mark in them is below the level
 unfoldable pub levelIn : List ℕ → ℕ → ℕ
 levelIn W b = getD W (blockSize * b + levelAt) 0
 
@@ -81,9 +105,9 @@ pub record Block (W : List ℕ) (b : ℕ) : Type 0 where
   pub room : blockSize * b + blockSize ≤ length W
   pub small : countIn W b ≤ capacity
   pub packed : (i : ℕ) → i < countIn W b → Packed W (blockSize * b + objectSize * i)
-  pub whole : Whole (graph undet (objectsIn W b))
+  pub whole : Whole (graph (leaf undet) (objectsIn W b))
   pub distinct : Distinct (objectsIn W b)
-  pub level : (q : ℕ) → q < objectSize * countIn W b → getD W (blockSize * b + q) 0 < firstMark + levelIn W b
+  pub level : (i f : ℕ) → i < countIn W b → f < codeCount → getD W (blockSize * b + objectSize * i + headSize + f) 0 < firstMark + levelIn W b
   pub reach : (i f : ℕ) → i < countIn W b → f < codeCount → getD W (blockSize * b + objectSize * i + headSize + f) 0 < firstLeaf → getD W (blockSize * b + objectSize * i + headSize + f) 0 < reachIn W b
 
 -- and object i is one of them

@@ -6,7 +6,8 @@ use mathlib.Core.Bool.{Bool, true, false, cond}
 use mathlib.Core.List.{List}
 use lib.Dec.{ltb}
 use lib.ListN.{length, getD}
-use Rattle.canon.specs.Figures.{objectSize, headSize, codeCount, firstLeaf, rowSize, linkSize, noteAt, beforeAt, targetAt, looksField, hashCount}
+use Rattle.canon.specs.Tables.{fourAt, onCodes}
+use Rattle.canon.specs.Figures.{objectSize, headSize, codeCount, numbersAt, firstLeaf, fourBytes, rowSize, linkSize, noteAt, beforeAt, targetAt, looksField, hashCount, hashedBy}
 
 -- h is the last below b that E takes to v, 0 if there is none
 pub record Last (E : ℕ → ℕ) (v b h : ℕ) : Type 0 where
@@ -34,9 +35,12 @@ pub record AllLists (n : ℕ) (K : List ℕ) : Type 0 where
 pub record Zeros (m : ℕ) (A : List ℕ) : Type 0 where
   pub at : (i : ℕ) → i < m → getD A i 0 ≡ 0
 
--- byte k of an object as it looks at first: all objects alike
-unfoldable pub shown : ℕ → ℕ → ℕ
-shown k b = cond (ltb k headSize) b (cond (ltb b firstLeaf) 0 b)
+-- a code as it looks at first, all objects alike, and byte k of an object
+unfoldable pub looked : ℕ → ℕ
+looked b = cond (ltb b firstLeaf) 0 b
+
+abbrev pub shown : ℕ → ℕ → ℕ
+shown = onCodes looked
 
 -- objects i and j look alike in their first k bytes, each shown by F, and whether they do in all
 pub record AlikeTo (F : ℕ → ℕ → ℕ) (N : List ℕ) (i j k : ℕ) : Type 0 where
@@ -46,11 +50,14 @@ pub record AlikeTest (F : ℕ → ℕ → ℕ) (N : List ℕ) (i j : ℕ) (r : B
   pub yes : r ≡ true → AlikeTo F N i j objectSize
   pub not : r ≡ false → AlikeTo F N i j objectSize → ⊥
 
--- a number that tells most looks apart
+-- a number that tells most looks apart: of the object's class and its numbers, and of its codes too
+unfoldable pub hashPlain : List ℕ → ℕ → ℕ
+hashPlain N p = getD N p 0 % hashCount + (fourAt N (p + numbersAt) + fourBytes * fourAt N (p + numbersAt + 4)) % hashedBy
+
 unfoldable pub hashOf : List ℕ → ℕ → ℕ
 hashOf N i =
-    (shown 0 (getD N (objectSize * i) 0) + 7 * shown 2 (getD N (objectSize * i + 2) 0) + 13 * shown 3 (getD N (objectSize * i + 3) 0) + 29 * shown 4 (getD N (objectSize * i + 4) 0)
-    + 5 * shown 5 (getD N (objectSize * i + 5) 0)) % hashCount
+    (7 * looked (getD N (objectSize * i + 2) 0) + 13 * looked (getD N (objectSize * i + 3) 0) + 29 * looked (getD N (objectSize * i + 4) 0) + 5 * looked (getD N (objectSize * i + 5) 0)
+    + hashPlain N (objectSize * i)) % hashCount
 
 -- what a code refers to
 unfoldable pub targetOf : ℕ → ℕ

@@ -6,7 +6,7 @@ use mathlib.Core.List.{List}
 use lib.Dec.{eqb}
 use lib.ListN.{length, getD, take}
 use Rattle.cofj.specs.Values.{Graph, graph, obj, colours, canon}
-use Rattle.canon.specs.Figures.{objectSize, firstMark, capacity, blockSize}
+use Rattle.canon.specs.Figures.{objectSize, headSize, codeCount, firstMark, capacity, blockSize}
 use Rattle.canon.specs.Layout.{nodesIn, Inside, graphAt, Outside}
 use Rattle.canon.specs.Tables.{copied}
 use Rattle.canon.specs.Rounds.{Raw}
@@ -22,9 +22,14 @@ pub record Gathered (N O : List ℕ) (m : ℕ) (T D₀ : List ℕ) (to : ℕ) (D
   pub below : (q : ℕ) → q < to → getD D q 0 ≡ getD D₀ q 0
   pub above : (q : ℕ) → to + objectSize * m ≤ q → getD D q 0 ≡ getD D₀ q 0
 
--- none of the p bytes from a place on is firstMark + l or more
-pub record Levels (W : List ℕ) (at p l : ℕ) : Type 0 where
-  pub below : (q : ℕ) → q < p → getD W (at + q) 0 < firstMark + l
+-- r is not below m, nor below a code of the object at place p
+pub record Above (W : List ℕ) (p m r : ℕ) : Type 0 where
+  pub more : m ≤ r
+  pub codes : (f : ℕ) → f < codeCount → getD W (p + headSize + f) 0 ≤ r
+
+-- none of the codes of the n objects from a place on is firstMark + l or more
+pub record Levels (W : List ℕ) (at n l : ℕ) : Type 0 where
+  pub below : (i f : ℕ) → i < n → f < codeCount → getD W (at + objectSize * i + headSize + f) 0 < firstMark + l
 
 -- n objects with their colours, a root, and room for the block
 pub record Ready (N : List ℕ) (n : ℕ) (C : List ℕ) (root : ℕ) (W : List ℕ) (dst : ℕ) : Type 0 where

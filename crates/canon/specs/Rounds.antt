@@ -2,7 +2,7 @@
 use Prim.Native.Nat.{ℕ, _*_, _≤_, _<_}
 use mathlib.Core.List.{List}
 use lib.ListN.{length, getD}
-use Rattle.cofj.specs.Values.{placeOf, graph, undet}
+use Rattle.cofj.specs.Values.{placeOf, graph, leaf, undet}
 use Rattle.cofj.specs.Unfolding.{Whole}
 use Rattle.canon.specs.Figures.{objectSize, firstLeaf, wideSize}
 use Rattle.canon.specs.Layout.{nodeIn, nodesIn, Packed}
@@ -22,7 +22,7 @@ pub record Raw (N : List ℕ) (n : ℕ) : Type 0 where
   pub few : n ≤ firstLeaf
   pub room : wideSize ≤ length N
   pub packed : (i : ℕ) → i < n → Packed N (objectSize * i)
-  pub whole : Whole (graph undet (nodesIn N 0 n))
+  pub whole : Whole (graph (leaf undet) (nodesIn N 0 n))
 
 -- the first n of a table are below n
 pub record Below (n : ℕ) (C : List ℕ) : Type 0 where

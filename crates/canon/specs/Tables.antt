@@ -1,19 +1,27 @@
 -- Bytes that a function of their place gives, runs of bytes copied, and objects copied with their codes turned.
-use Prim.Native.Nat.{ℕ, _+_, _*_, _%_, _≤_, _<_}
+use Prim.Native.Nat.{ℕ, zero, suc, _+_, _*_, _%_, _≤_, _<_}
 use mathlib.Core.Path.{_≡_}
-use mathlib.Core.Bool.{cond}
+use mathlib.Core.Bool.{Bool, true, false, cond}
 use mathlib.Core.List.{List}
-use lib.Dec.{ltb}
+use lib.Dec.{eqb, ltb}
 use lib.ListN.{length, getD}
-use Rattle.canon.specs.Figures.{objectSize, headSize, firstLeaf, threeBytes}
+use Rattle.canon.specs.Figures.{objectSize, headSize, numbersAt, firstLeaf, threeBytes, fourBytes}
 
 -- the first n bytes are F 0, F 1, ..
 pub record Filled (F : ℕ → ℕ) (n : ℕ) (A : List ℕ) : Type 0 where
   pub at : (i : ℕ) → i < n → getD A i 0 ≡ F i
 
--- four bytes, and two, as one number
+-- how many of the first k bytes are 0
+unfoldable pub zeroCount : ℕ → List ℕ → ℕ
+zeroCount zero S = 0
+zeroCount (suc k) S = cond (eqb (getD S k 0) 0) 1 0 + zeroCount k S
+
+-- four bytes, two, and eight as one number
+abbrev pub fourAt : List ℕ → ℕ → ℕ
+fourAt S p = getD S p 0 + 256 * getD S (p + 1) 0 + 65536 * getD S (p + 2) 0 + threeBytes * getD S (p + 3) 0
+
 pub record Four (S : List ℕ) (p r : ℕ) : Type 0 where
-  pub is : r ≡ getD S p 0 + 256 * getD S (p + 1) 0 + 65536 * getD S (p + 2) 0 + threeBytes * getD S (p + 3) 0
+  pub is : r ≡ fourAt S p
   pub low0 : getD S p 0 < 256
   pub low1 : getD S (p + 1) 0 < 256
   pub low2 : getD S (p + 2) 0 < 256
@@ -23,6 +31,22 @@ pub record Two (S : List ℕ) (p r : ℕ) : Type 0 where
   pub is : r ≡ getD S p 0 + 256 * getD S (p + 1) 0
   pub low0 : getD S p 0 < 256
   pub low1 : getD S (p + 1) 0 < 256
+
+pub record Eight (S : List ℕ) (p r : ℕ) : Type 0 where
+  pub low : ℕ
+  pub high : ℕ
+  pub first : Four S p low
+  pub last : Four S (p + 4) high
+  pub is : r ≡ low + fourBytes * high
+
+-- two objects have the same bytes where no codes stand, and whether they have
+pub record Plain (S : List ℕ) (p q : ℕ) : Type 0 where
+  pub head : (k : ℕ) → k < headSize → getD S (p + k) 0 ≡ getD S (q + k) 0
+  pub rest : (k : ℕ) → numbersAt ≤ k → k < objectSize → getD S (p + k) 0 ≡ getD S (q + k) 0
+
+pub record PlainTest (S : List ℕ) (p q : ℕ) (r : Bool) : Type 0 where
+  pub yes : r ≡ true → Plain S p q
+  pub not : r ≡ false → Plain S p q → ⊥
 
 -- n bytes of S from a place on, at a place of D; the others are D₀'s
 pub record Carried (S : List ℕ) (from : ℕ) (D₀ : List ℕ) (to n : ℕ) (D : List ℕ) : Type 0 where
@@ -35,9 +59,13 @@ pub record Carried (S : List ℕ) (from : ℕ) (D₀ : List ℕ) (to n : ℕ) (D
 unfoldable pub turned : List ℕ → ℕ → ℕ
 turned T b = cond (ltb b firstLeaf) (getD T b 0) b
 
--- byte k of an object, its codes turned
-unfoldable pub copied : List ℕ → ℕ → ℕ → ℕ
-copied T k b = cond (ltb k headSize) b (turned T b)
+-- byte k of an object with its codes read by G
+unfoldable pub onCodes : (ℕ → ℕ) → ℕ → ℕ → ℕ
+onCodes G k b = cond (ltb k headSize) b (cond (ltb k numbersAt) (G b) b)
+
+-- with its codes turned
+abbrev pub copied : List ℕ → ℕ → ℕ → ℕ
+copied T = onCodes (turned T)
 
 -- p bytes of objects copied from a place of S to a place of D; the others are D₀'s
 pub record Lifted (S : List ℕ) (from p : ℕ) (T D₀ : List ℕ) (to : ℕ) (D : List ℕ) : Type 0 where

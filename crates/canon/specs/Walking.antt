@@ -8,9 +8,9 @@ use Rattle.cofj.specs.Values.{isIn, placeIn, visit, visitAll, refsAt}
 use Rattle.canon.specs.Figures.{wideSize}
 use Rattle.canon.specs.Layout.{refOf, nodesIn}
 
--- the order after a code, and after the fields of object c from field f on
+-- the order after a code, whatever number is beside it, and after the fields of object c from field f on
 unfoldable pub walkRef : List ℕ → List ℕ → ℕ → ℕ → List ℕ → List ℕ
-walkRef N C k r s = visit (nodesIn N 0 256) C k (refOf r) s
+walkRef N C k r s = visit (nodesIn N 0 256) C k (refOf r 0) s
 
 unfoldable pub walkFields : List ℕ → List ℕ → ℕ → ℕ → ℕ → List ℕ → List ℕ
 walkFields N C k c f s = visitAll (λ r t. visit (nodesIn N 0 256) C k r t) (drop f (refsAt (nodesIn N 0 256) c)) s

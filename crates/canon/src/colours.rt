@@ -2,7 +2,7 @@
 // Not here: how objects are parted (parting, leads); a new object over one value, which needs no colours (crate maker, over).
 use crate::bytes::copy;
 use crate::bytes::same;
-use crate::bytes::same_six;
+use crate::bytes::same_object;
 use crate::layout::OBJECT;
 use crate::layout::WIDE;
 use crate::leads::part_own;
@@ -25,7 +25,7 @@ pub(crate) fn place(looks: &[u8], i: u8, n: u8) -> u8
 {
     let mut j: u8 = 0;
     while j < i {
-        if same_six(looks, OBJECT * (i as usize), looks, OBJECT * (j as usize)) {
+        if same_object(looks, OBJECT * (i as usize), looks, OBJECT * (j as usize)) {
             return j;
         }
         j += 1;

@@ -2,13 +2,16 @@
 // Not here: what stands in the bytes (specs/Layout), the figures of parting's tables (parting).
 
 // the bytes of an object
-pub const OBJECT: usize = 6;
+pub const OBJECT: usize = 16;
 
 // of them its head: its class, and how many fields it has
 pub const HEAD: usize = 2;
 
-// and its codes, a byte each
+// its codes, a byte each
 pub const CODES: u8 = 4;
+
+// where its numbers begin: for each code two bytes, the low one first; two blank bytes follow them
+pub const NUMBERS: usize = HEAD + CODES as usize;
 
 // how many objects a block has room for
 pub const CAPACITY: u8 = 32;
@@ -29,7 +32,7 @@ pub const LEVEL: usize = COUNT + 1;
 pub const REACH: usize = COUNT + 2;
 
 // the bytes of a block
-pub const BLOCK: usize = 234;
+pub const BLOCK: usize = 544;
 
 // the first code that is no object's
 pub const FIRST_LEAF: u8 = 192;
@@ -37,14 +40,17 @@ pub const FIRST_LEAF: u8 = 192;
 // the code of undetermined
 pub const UNDETERMINED: u8 = 192;
 
+// the code of a number, which stands among the object's numbers
+pub const NUMBER: u8 = UNDETERMINED + 1;
+
 // the code of the first mark
-pub const FIRST_MARK: u8 = UNDETERMINED + 1;
+pub const FIRST_MARK: u8 = NUMBER + 1;
 
 // the bytes of as many objects as a byte can number: room for all that a code can refer to
 pub const WIDE: usize = OBJECT * 256;
 
 // how many blocks the work buffer has room for
-const BLOCKS: u16 = 280;
+const BLOCKS: u16 = 301;
 
 // the last of them, above all that evaluation uses: where parts are brought together
 pub const SPARE: u16 = BLOCKS - 1;
@@ -57,3 +63,6 @@ pub const TWO_BYTES: u32 = 65536;
 
 // the fourth
 pub const THREE_BYTES: u32 = 16777216;
+
+// the fifth
+pub const FOUR_BYTES: u64 = 4294967296;

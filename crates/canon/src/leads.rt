@@ -1,8 +1,11 @@
 // The first object of each class that parting leaves, and the test that objects of one class look alike.
 // Not here: how they are parted (parting).
+use crate::bytes::same_plain;
+use crate::layout::HEAD;
+use crate::layout::NUMBERS;
 use crate::layout::OBJECT;
 use crate::layout::PER_OBJECT;
-use crate::lift::part_of;
+use crate::lift::turn;
 use crate::links::link;
 use crate::parting::LINKS;
 use crate::parting::NOTE;
@@ -64,10 +67,13 @@ pub(crate) fn look_same(nodes: &[u8], cs: &[u8], i: u8, j: u8) -> bool
     requires { ⌜ (wideSize ≤ length (now nodes)) × (256 ≤ length (now cs)) ⌝ }
     ensures { λ r. ⌜ AlikeTest (copied (now (cs .entry))) (now (nodes .entry)) i j r ⌝ }
 {
-    let mut k: usize = 0;
-    while k < OBJECT {
-        let a = part_of(cs, k, nodes[OBJECT * (i as usize) + k]);
-        let b = part_of(cs, k, nodes[OBJECT * (j as usize) + k]);
+    if !same_plain(nodes, OBJECT * (i as usize), OBJECT * (j as usize)) {
+        return false;
+    }
+    let mut k: usize = HEAD;
+    while k < NUMBERS {
+        let a = turn(cs, nodes[OBJECT * (i as usize) + k]);
+        let b = turn(cs, nodes[OBJECT * (j as usize) + k]);
         if a != b {
             return false;
         }

@@ -1,6 +1,7 @@
 // Objects copied, with their codes turned. Not here: which table turns them.
 use crate::layout::FIRST_LEAF;
 use crate::layout::HEAD;
+use crate::layout::NUMBERS;
 use crate::layout::OBJECT;
 ghost use mathlib.Core.Path.{_≡_};
 ghost use Prim.Native.Nat.{ℕ, _+_, _<_, _≤_};
@@ -24,6 +25,9 @@ pub(crate) fn part_of(table: &[u8], k: usize, b: u8) -> u8
     ensures { λ r. ⌜ r ≡ copied (now (table .entry)) k b ⌝ }
 {
     if k < HEAD {
+        return b;
+    }
+    if NUMBERS <= k {
         return b;
     }
     turn(table, b)

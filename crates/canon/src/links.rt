@@ -1,7 +1,10 @@
 // Who refers to whom by which field, in lists: numbers are rows, an object's number and one, and 0 is none. Field 4 leads to the first object that looks alike.
 // Not here: what is done with them (parting).
+use crate::bytes::eight_at;
+use crate::bytes::same_plain;
 use crate::layout::FIRST_LEAF;
 use crate::layout::HEAD;
+use crate::layout::NUMBERS;
 use crate::layout::OBJECT;
 use crate::parting::BEFORE;
 use crate::parting::LINKS;
@@ -15,10 +18,13 @@ ghost use mathlib.Core.Path.{_≡_};
 ghost use Prim.Native.Nat.{ℕ, _+_, _-_, _*_, _<_, _≤_};
 ghost use lib.ListN.{length, getD};
 ghost use Rattle.canon.specs.Figures.{objectSize, headSize, codeCount, rowSize, linkSize, targetAt, looksField, hashCount};
-ghost use Rattle.canon.specs.Links.{Zeros, Hung, shown, AlikeTest, hashOf, targetOf, Codes, HungOn, Sought, LikeBefore, GroupedAll, ReferredTo, Referred, Unhung, Linked};
+ghost use Rattle.canon.specs.Links.{Zeros, Hung, looked, shown, AlikeTest, hashPlain, hashOf, targetOf, Codes, HungOn, Sought, LikeBefore, GroupedAll, ReferredTo, Referred, Unhung, Linked};
 
 // how many hashes there are
-const HASHES: u16 = 32;
+const HASHES: u8 = 32;
+
+// what an object's numbers are divided by for its hash
+const HASHED: u64 = 31;
 
 // the same as the length of a table with a number for each
 const LASTS: usize = HASHES as usize;
@@ -35,13 +41,10 @@ pub(crate) fn blank(to: &mut [u16], m: usize)
     }
 }
 
-// Byte k of an object as it looks at first: all objects alike.
-pub(crate) fn show(k: usize, b: u8) -> u8
-    ensures { λ r. ⌜ r ≡ shown k b ⌝ }
+// A code as it looks at first: all objects alike.
+pub(crate) fn show(b: u8) -> u8
+    ensures { λ r. ⌜ r ≡ looked b ⌝ }
 {
-    if k < HEAD {
-        return b;
-    }
     if b < FIRST_LEAF {
         return 0;
     }
@@ -53,10 +56,13 @@ pub(crate) fn look_alike(raw: &[u8], i: u16, j: u16) -> bool
     requires { ⌜ (objectSize * i + objectSize ≤ length (now raw)) × (objectSize * j + objectSize ≤ length (now raw)) ⌝ }
     ensures { λ r. ⌜ AlikeTest shown (now (raw .entry)) i j r ⌝ }
 {
-    let mut k: usize = 0;
-    while k < OBJECT {
-        let a = show(k, raw[OBJECT * (i as usize) + k]);
-        let b = show(k, raw[OBJECT * (j as usize) + k]);
+    if !same_plain(raw, OBJECT * (i as usize), OBJECT * (j as usize)) {
+        return false;
+    }
+    let mut k: usize = HEAD;
+    while k < NUMBERS {
+        let a = show(raw[OBJECT * (i as usize) + k]);
+        let b = show(raw[OBJECT * (j as usize) + k]);
         if a != b {
             return false;
         }
@@ -65,17 +71,27 @@ pub(crate) fn look_alike(raw: &[u8], i: u16, j: u16) -> bool
     true
 }
 
+// A number for its class and its fields' numbers.
+pub(crate) fn hash_plain(raw: &[u8], i: u16) -> u8
+    requires { ⌜ objectSize * i + objectSize ≤ length (now raw) ⌝ }
+    ensures { λ r. ⌜ r ≡ hashPlain (now (raw .entry)) (objectSize * i) ⌝ }
+{
+    let x = eight_at(raw, OBJECT * (i as usize) + NUMBERS);
+    raw[OBJECT * (i as usize)] % HASHES + (x % HASHED) as u8
+}
+
 // A number that tells most looks apart.
 pub(crate) fn hash(raw: &[u8], i: u16) -> u16
     requires { ⌜ objectSize * i + objectSize ≤ length (now raw) ⌝ }
     ensures { λ r. ⌜ r ≡ hashOf (now (raw .entry)) i ⌝ }
 {
-    let a = show(0, raw[OBJECT * (i as usize)]);
-    let b = show(2, raw[OBJECT * (i as usize) + 2]);
-    let c = show(3, raw[OBJECT * (i as usize) + 3]);
-    let d = show(4, raw[OBJECT * (i as usize) + 4]);
-    let e = show(5, raw[OBJECT * (i as usize) + 5]);
-    ((a as u16) + 7 * (b as u16) + 13 * (c as u16) + 29 * (d as u16) + 5 * (e as u16)) % HASHES
+    let a = show(raw[OBJECT * (i as usize) + 2]);
+    let b = show(raw[OBJECT * (i as usize) + 3]);
+    let c = show(raw[OBJECT * (i as usize) + 4]);
+    let d = show(raw[OBJECT * (i as usize) + 5]);
+    let e = hash_plain(raw, i);
+    (7 * (a as u16) + 13 * (b as u16) + 29 * (c as u16) + 5 * (d as u16) + (e as u16))
+        % (HASHES as u16)
 }
 
 // Row x refers to row v by field f.

@@ -1,14 +1,15 @@
 -- Errors that document 01 says this trade has made, refuted of the definitions: an answer that the error would change, and what it is.
 -- The must-fail edits make the same errors in the code. Figure 6 of 002 lets C- fit C-?; the left type is compared with the second
--- result type as it is; in a body a call has the second result type.
+-- result type as it is; in a body a call has the second result type. Document 02: a number fits no class of the table.
 use Prim.Native.Nat.{ℕ, _+_}
 use mathlib.Core.Path.{_≡_, refl, sym, ap, _∙_}
 use mathlib.Core.Bool.{true, false}
 use mathlib.Core.List.{List}
 use lib.ListN.{getD}
+use Rattle.cofj.specs.Limits.{numberClass}
 use Rattle.cofj.specs.Typing.{closeTag}
 use Rattle.classes.specs.declared.chain.FieldType.{FieldType}
-use Rattle.classes.specs.Machine.{pick, typeAt, rowOf}
+use Rattle.classes.specs.Machine.{pick, up, fitsIn, typeAt, rowOf}
 use Rattle.classes.proofs.Laws.{fit-same}
 use Rattle.checker.specs.Types.{fitsType, resultOf}
 use Rattle.checker.specs.Program.{fitsFirst, fitsSecond, resultsFit}
@@ -48,3 +49,8 @@ module _ (B : List ℕ) (i c : ℕ) (ef : typeAt B (rowOf i + 3) ≡ type c 0) (
 -- the type of a call in a body
 pub second-in-bodies : (B : List ℕ) (i : ℕ) → resultOf B false i ≡ typeAt B (rowOf i + 5)
 second-in-bodies B i = refl
+
+-- a number does not fit Object, whatever stands in the bytes: numbers have no row there
+pub number-no-object : (B : List ℕ) → fitsType B numberClass 0 (type 0 0) ≡ false
+unfolding fitsIn up
+number-no-object B = refl

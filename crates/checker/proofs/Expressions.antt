@@ -1,5 +1,5 @@
 -- The type of an expression in the bytes of a table is the language's. Not here: methods and main (Programs).
-use Prim.Native.Nat.{ℕ, zero, suc, _+_, _<_, _≤_}
+use Prim.Native.Nat.{ℕ, zero, suc, _+_, _<_}
 use native.Mathlib.Omega.{arith}
 use mathlib.Core.Path.{_≡_, refl, sym, ap, _∙_}
 use mathlib.Core.Bool.{Bool, true, false, _&&_, cond}
@@ -7,10 +7,10 @@ use mathlib.Core.List.{List, _++_, map}
 use mathlib.Core.Option.{Option, none, some}
 use lib.Dec.{eqb, leb}
 use lib.ListN.{length, getElem?, length-append}
-use borrow.Author.Tests.{eqb-true, eqb-false, leb-true}
+use borrow.Author.Tests.{eqb-true, eqb-false}
 use Rattle.cofj.specs.Limits.{methodCount}
 use Rattle.cofj.specs.Partial.{_>>=_, guard}
-use Rattle.cofj.specs.Syntax.{Expr, this, res, param, field, call, new, Exprs, count, Ty, ty, Method, Table}
+use Rattle.cofj.specs.Syntax.{Expr, this, res, param, field, call, new, literal, combine, choose, Exprs, count, Ty, ty, Method, Table}
 use Rattle.cofj.specs.Classes.{fieldsOf, lookup}
 use Rattle.cofj.specs.Typing.{Env, allClosed, narrow, allFit, fieldType, callType, newType, typeOf, typesOf}
 use Rattle.cofj.specs.Tables.{exprKnown, exprsKnown}
@@ -23,12 +23,12 @@ use Rattle.classes.specs.declared.chain.FieldFound.{FieldFound}
 use Rattle.classes.specs.declared.methods.Found.{Found}
 use Rattle.classes.specs.declared.methods.Found.the-variants as method
 use Rattle.classes.specs.Machine.{pick, fieldOf, paramOf, lookupOf, counted, methodWith}
-use Rattle.classes.specs.Layout.{layout, Stands, foundType}
+use Rattle.classes.specs.Layout.{layout, Stands}
 use Rattle.classes.specs.Layout as lay
-use Rattle.classes.proofs.Zones.{stands-front, stands-after, total-at, param-count-at, first-at, second-at}
+use Rattle.classes.proofs.Zones.{stands-front, stands-after, param-count-at, first-at, second-at}
 use Rattle.classes.proofs.Lists.{index-below, method-at}
-use Rattle.classes.proofs.OnTables.{field-on, lookup-on}
-use Rattle.classes.proofs.ShapesOn.{shape-on, field-part, call-parts, new-parts}
+use Rattle.classes.proofs.OnTables.{field-on, total-on, lookup-on}
+use Rattle.classes.proofs.ShapesOn.{shape-on, field-part, call-parts, new-parts, combine-parts, choose-parts}
 use Rattle.checker.specs.Items.{Parameters, Fields}
 use Rattle.checker.specs.declared.scope.Typed.{Typed}
 use Rattle.checker.specs.declared.scope.Typed.the-variants.{No}
@@ -38,8 +38,9 @@ use Rattle.classes.specs.Shapes.{shapeAt}
 use Rattle.checker.specs.Types.{foundAt, thisOf, resOf, paramVar, receiverOf, resultOf}
 use Rattle.checker.specs.Machine.{Walk, typed, listBy, fieldBy, resultAt, argsThen, argsBy, calledBy, callBy, newThen, newBy, stepBy, typeIn}
 use Rattle.checker.specs.Answers.{typedAt}
-use Rattle.checker.proofs.Known.{KnownEnv, typed-known}
-use Rattle.checker.proofs.OnBytes.{within, param-on}
+use Rattle.checker.proofs.Known.{KnownEnv}
+use Rattle.checker.proofs.OnBytes.{param-on}
+use Rattle.checker.proofs.NumbersOn.{found-typed, none-after, combine-on, choose-on}
 use Rattle.checker.proofs.Lists.{listedAt, Finds, unfit, length-narrow, narrow-same, types-length, list-on}
 
 -- a scope of the code says what an environment of the language says
@@ -50,25 +51,15 @@ pub record Agree (t : Table) (s : Scope) (inMain : Bool) (g : Env) : Type 0 wher
   pub param : (k next : ℕ) → paramVar (layout t) s k next ≡ typedAt (getElem? (g .params) k) next
   pub known : KnownEnv (length (t .classes)) g
 
-pub found-typed : (o : Option Ty) (next : ℕ) → foundAt (foundType o) next ≡ typedAt o next
-found-typed none next = refl
-found-typed (some u) next = refl
-
--- nothing comes of an answer that is followed by none
-none-after : {A : Type 0} (o : Option A) (f : A → Option Ty) → ((a : A) → o ≡ some a → f a ≡ none) → o >>= f ≡ none
-none-after none f h = refl
-none-after (some a) f h = h a refl
-
 module _ (t : Table) (wf : WellFormed t) where
   -- ---- a field of a receiver
-  field-of : (o : Option Ty) (f next : ℕ) → ((u : Ty) → o ≡ some u → u .cls ≤ length (t .classes))
-      → typed (typedAt o next) (λ c g to. pick (eqb g 0) (foundAt (fieldOf (layout t) c f) to) No) ≡ typedAt (o >>= λ u. fieldType t u f) next
+  field-of : (o : Option Ty) (f next : ℕ) → typed (typedAt o next) (λ c g to. pick (eqb g 0) (foundAt (fieldOf (layout t) c f) to) No) ≡ typedAt (o >>= λ u. fieldType t u f) next
   unfolding fieldType
-  field-of none f next kn = refl
-  field-of (some u) f next kn = go (eqb (u .tag) 0)
+  field-of none f next = refl
+  field-of (some u) f next = go (eqb (u .tag) 0)
     where
       go : (b : Bool) → pick b (foundAt (fieldOf (layout t) (u .cls) f) next) No ≡ typedAt (guard b >>= λ _. getElem? (fieldsOf (t .classes) (u .cls)) f) next
-      go true = ap (λ (x : FieldFound). foundAt x next) (field-on t wf (u .cls) f (within t wf (u .cls) (kn u refl))) ∙ found-typed (getElem? (fieldsOf (t .classes) (u .cls)) f) next
+      go true = ap (λ (x : FieldFound). foundAt x next) (field-on t wf (u .cls) f) ∙ found-typed (getElem? (fieldsOf (t .classes) (u .cls)) f) next
       go false = refl
 
   -- ---- the arguments of a call of method i, which is d
@@ -176,32 +167,30 @@ module _ (t : Table) (wf : WellFormed t) (inMain : Bool) (g : Env) (kg : KnownEn
     found-is f x (lay.Finds.at {i} {d} e) = counted-is i d e
     found-is f x lay.Finds.nothing = ap (λ (o : Option Ty). typedAt o (a1 + length (codesOf es))) (sym (none-after (typesOf t inMain g es) (λ us. none) (λ us z. refl)))
 
-    called-is : (u : Ty) (m : ℕ) → m < 256 → u .cls ≤ length (t .classes)
-        → calledBy (layout t) one inMain (count es) a1 (receiverOf (layout t) (u .cls) (u .tag) m (count es)) ≡ typedAt (callOf (typesOf t inMain g es) u m) (a1 + length (codesOf es))
+    called-is : (u : Ty) (m : ℕ) → m < 256 → calledBy (layout t) one inMain (count es) a1 (receiverOf (layout t) (u .cls) (u .tag) m (count es)) ≡ typedAt (callOf (typesOf t inMain g es) u m) (a1 + length (codesOf es))
     unfolding receiverOf methodWith callType
-    called-is u m small h = go (eqb (u .tag) 0)
+    called-is u m small = go (eqb (u .tag) 0)
       where
         go : (b : Bool) → calledBy (layout t) one inMain (count es) a1 (pick b (counted (layout t) (count es) (lookupOf (layout t) (u .cls) m)) method.Nothing)
             ≡ typedAt (typesOf t inMain g es >>= λ us. guard b >>= λ _. lookup t (u .cls) m >>= λ d. guard (allClosed us && allFit t us (d .params)) >>= λ _. some (cond inMain (d .first) (d .second))) (a1 + length (codesOf es))
-        go true = found-is (lookupOf (layout t) (u .cls) m) (lookup t (u .cls) m) (lookup-on t wf m small (u .cls) (within t wf (u .cls) h))
+        go true = found-is (lookupOf (layout t) (u .cls) m) (lookup t (u .cls) m) (lookup-on t wf m small (u .cls))
         go false = ap (λ (o : Option Ty). typedAt o (a1 + length (codesOf es))) (sym (none-after (typesOf t inMain g es) (λ us. none) (λ us z. refl)))
 
-    call-is : (o : Option Ty) (m : ℕ) → m < 256 → ((u : Ty) → o ≡ some u → u .cls ≤ length (t .classes))
-        → typed (typedAt o a1) (λ c h next. calledBy (layout t) one inMain (count es) next (receiverOf (layout t) c h m (count es)))
+    call-is : (o : Option Ty) (m : ℕ) → m < 256 → typed (typedAt o a1) (λ c h next. calledBy (layout t) one inMain (count es) next (receiverOf (layout t) c h m (count es)))
         ≡ typedAt (o >>= λ u. callOf (typesOf t inMain g es) u m) (a1 + length (codesOf es))
-    call-is none m small kn′ = refl
-    call-is (some u) m small kn′ = called-is u m small (kn′ u refl)
+    call-is none m small = refl
+    call-is (some u) m small = called-is u m small
 
-    object-is : (c : ℕ) → c ≤ length (t .classes) → newBy (layout t) one c (count es) a1 ≡ typedAt (typesOf t inMain g es >>= λ us. newType t c us) (a1 + length (codesOf es))
+    object-is : (c : ℕ) → newBy (layout t) one c (count es) a1 ≡ typedAt (typesOf t inMain g es >>= λ us. newType t c us) (a1 + length (codesOf es))
     unfolding newBy
-    object-is c h = rw (total-at t c (within t wf c h)) (go (eqb (length (fieldsOf (t .classes) c)) (count es)) refl)
+    object-is c = rw (total-on t wf c) (go (eqb (length (fieldsOf (t .classes) c)) (count es)) refl)
       where
         go : (b : Bool) → eqb (length (fieldsOf (t .classes) c)) (count es) ≡ b
             → pick b (newThen c (listBy (layout t) one (Fields c) 0 (count es) true a1)) No ≡ typedAt (typesOf t inMain g es >>= λ us. newType t c us) (a1 + length (codesOf es))
         go true q =
             ap (newThen c)
             (list-on t wf inMain g kg P one ih (Fields c) es (fieldsOf (t .classes) c) 0 a1 true
-            (λ j. ap (λ (x : ℕ). fieldOf (layout t) c x) (let z : 0 + j ≡ j = omega arith in z) ∙ field-on t wf c j (within t wf c h))
+            (λ j. ap (λ (x : ℕ). fieldOf (layout t) c x) (let z : 0 + j ≡ j = omega arith in z) ∙ field-on t wf c j)
             (sym (eqb-true (length (fieldsOf (t .classes) c)) (count es) q)) each kn st)
             ∙ new-is t wf c (a1 + length (codesOf es)) (typesOf t inMain g es)
         go false q =
@@ -221,7 +210,7 @@ module _ (t : Table) (wf : WellFormed t) (inMain : Bool) (g : Env) (kg : KnownEn
         ap (stepBy (layout t) one s) (shape-on t (field f e) at st)
         ∙ ap (λ (o : Typed). typed o (λ c h to. pick (eqb h 0) (foundAt (fieldOf (layout t) c f) to) No))
         (ih .types e (at + 2) p kn (field-part t at f e st))
-        ∙ field-of t wf (typeOf t inMain g e) f (at + 2 + length (codeOf e)) (λ u z. typed-known t wf inMain g kg e u kn z)
+        ∙ field-of t wf (typeOf t inMain g e) f (at + 2 + length (codeOf e))
         ∙ ap (typedAt (typeOf t inMain g (field f e))) (let z : at + 2 + length (codeOf e) ≡ at + suc (suc (length (codeOf e))) = omega arith in z)
     step-on (call m e es) at p kn st =
         let k = and-true (exprKnown (length (t .classes)) e) (exprsKnown (length (t .classes)) es) kn in
@@ -233,14 +222,24 @@ module _ (t : Table) (wf : WellFormed t) (inMain : Bool) (g : Env) (kg : KnownEn
         ∙ ap (λ (b : Bool). callBy (layout t) one b m n (at + 3)) (ag .main)
         ∙ ap (λ (o : Typed). typed o (λ c h next. calledBy (layout t) one inMain n next (receiverOf (layout t) c h m n)))
         (ih .types e (at + 3) (p .1) (k .0) (stands-front (layout t) (at + 3) (codeOf e) (codesOf es) after))
-        ∙ call-is es (p .2) (k .1) a1 (stands-after (layout t) (at + 3) (codeOf e) (codesOf es) after) (typeOf t inMain g e) m (p .0) (λ u z. typed-known t wf inMain g kg e u (k .0) z)
+        ∙ call-is es (p .2) (k .1) a1 (stands-after (layout t) (at + 3) (codeOf e) (codesOf es) after) (typeOf t inMain g e) m (p .0)
         ∙ ap (typedAt (typeOf t inMain g (call m e es)))
         (let z : a1 + length (codesOf es) ≡ at + suc (suc (suc (length (codeOf e ++ codesOf es)))) = omega arith in z)
     step-on (new c es) at p kn st =
         let k = and-true (leb c (length (t .classes))) (exprsKnown (length (t .classes)) es) kn in
         ap (stepBy (layout t) one s) (shape-on t (new c es) at st)
-        ∙ object-is es p (k .1) (at + 3) (new-parts t at c es st) c (leb-true c (length (t .classes)) (k .0))
+        ∙ object-is es p (k .1) (at + 3) (new-parts t at c es st) c
         ∙ ap (typedAt (typeOf t inMain g (new c es))) (let z : at + 3 + length (codesOf es) ≡ at + suc (suc (suc (length (codesOf es)))) = omega arith in z)
+    step-on (literal n) at p kn st = ap (stepBy (layout t) one s) (shape-on t (literal n) at st)
+    step-on (combine o x y) at p kn st =
+        ap (stepBy (layout t) one s) (shape-on t (combine o x y) at st)
+        ∙ combine-on t wf inMain g P one ih x y (at + 1) p (and-true (exprKnown (length (t .classes)) x) (exprKnown (length (t .classes)) y) kn) (combine-parts t at o x y st)
+        ∙ ap (typedAt (typeOf t inMain g (combine o x y))) (let z : at + 1 + length (codeOf x ++ codeOf y) ≡ at + suc (length (codeOf x ++ codeOf y)) = omega arith in z)
+    step-on (choose x y z) at p kn st =
+        ap (stepBy (layout t) one s) (shape-on t (choose x y z) at st)
+        ∙ choose-on t wf inMain g P one ih kg x y z (at + 1) p kn (choose-parts t at x y z st)
+        ∙ ap (typedAt (typeOf t inMain g (choose x y z)))
+        (let e : at + 1 + length (codeOf x ++ (codeOf y ++ codeOf z)) ≡ at + suc (length (codeOf x ++ (codeOf y ++ codeOf z))) = omega arith in e)
 
 -- where the bytes of an expression stand that is nested at most `left` deep, its type is found, and the place after it
 pub types-on : (t : Table) → WellFormed t → (s : Scope) (inMain : Bool) (g : Env) → Agree t s inMain g → (left : ℕ) → Finds t inMain g (Nested left) (typeIn (layout t) left s)

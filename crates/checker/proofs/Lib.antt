@@ -1,9 +1,12 @@
 pub mod TypeLaws
+pub mod StepLaws
 pub mod WalkLaws
+pub mod NumberLaws
 pub mod ProgramLaws
 pub mod Known
 pub mod OnBytes
 pub mod Lists
+pub mod NumbersOn
 pub mod Expressions
 pub mod Programs
 pub mod Check

@@ -1,5 +1,5 @@
 -- The list walk on the bytes of a table: what it gives of the types of its expressions. Not here: calls and objects (Expressions).
-use Prim.Native.Nat.{ℕ, suc, _+_, _≤_}
+use Prim.Native.Nat.{ℕ, suc, _+_}
 use native.Mathlib.Omega.{arith}
 use mathlib.Core.Path.{_≡_, refl, ap, _∙_}
 use mathlib.Core.Bool.{Bool, true, false, _&&_, cond, false≢true}
@@ -10,12 +10,11 @@ use Rattle.cofj.specs.Partial.{_>>=_}
 use Rattle.cofj.specs.Syntax.{Expr, Exprs, done, also, count, Ty, ty, Table}
 use Rattle.cofj.specs.Classes.{fits}
 use Rattle.cofj.specs.Typing.{Env, closedTag, allClosed, narrow, allFit, typeOf, typesOf}
-use Rattle.cofj.specs.Tables.{exprKnown, exprsKnown}
+use Rattle.cofj.specs.Tables.{known, exprKnown, exprsKnown}
 use Rattle.cofj.specs.Writing.{codeOf, codesOf}
 use Rattle.cofj.specs.Nesting.{Each}
 use Rattle.cofj.specs.WellFormed.{WellFormed}
-use Rattle.cofj.proofs.Partial.{and-true}
-use Rattle.cofj.proofs.Partial.{opt-bind}
+use Rattle.cofj.proofs.Partial.{and-true, opt-bind}
 use Rattle.classes.specs.declared.chain.FieldFound.the-variants as field
 use Rattle.classes.specs.Machine.{pick}
 use Rattle.classes.specs.Layout.{layout, Stands, bytesOf, foundType}
@@ -82,7 +81,7 @@ regroup false false c = refl
 
 module _ (t : Table) (wf : WellFormed t) (items : Items) (k : ℕ) (v : Ty) (vs : List Ty) (closed : Bool) (end : ℕ) (rest : Bool → ℕ → Listed)
     (w : wantedOf (layout t) items k ≡ field.Type (bytesOf v)) where
-  fits-item : (u : Ty) → u .cls ≤ length (t .classes) → itemFits (layout t) items k (u .cls) (u .tag) ≡ fits (t .classes) (narrow u) v
+  fits-item : (u : Ty) → known (length (t .classes)) u ≡ true → itemFits (layout t) items k (u .cls) (u .tag) ≡ fits (t .classes) (narrow u) v
   unfolding itemFits
   fits-item u h = ap (fitsFound (layout t) (u .cls) (narrowTag (u .tag))) w ∙ fits-on t wf (narrow u) v h
 
@@ -93,7 +92,7 @@ module _ (t : Table) (wf : WellFormed t) (items : Items) (k : ℕ) (v : Ty) (vs 
   put-front u true e (some us) = rw (← e, regroup closed (closedTag (u .tag)) (allClosed us))
   put-front u false e (some us) = rw (← e)
 
-  front-on : (o : Option Ty) (os : Option (List Ty)) (next : ℕ) → ((u : Ty) → o ≡ some u → u .cls ≤ length (t .classes))
+  front-on : (o : Option Ty) (os : Option (List Ty)) (next : ℕ) → ((u : Ty) → o ≡ some u → known (length (t .classes)) u ≡ true)
       → ((b : Bool) → rest b next ≡ listedAt t os vs b end)
       → listed (typedAt o next) (λ c g to. pick (itemFits (layout t) items k c g) (rest (pick (closedTag g) closed false) to) list.No)
       ≡ listedAt t (o >>= λ u. os >>= λ us. some (u ∷ us)) (v ∷ vs) closed end

@@ -8,9 +8,10 @@ use mathlib.Core.Option.{some}
 use lib.Dec.{leb, ltb}
 use lib.ListN.{length, getElem?}
 use borrow.Author.Tests.{ltb-true, leb-true, leb-false}
-use Rattle.cofj.specs.Limits.{classCount, methodCount, paramCount}
+use Rattle.cofj.specs.Limits.{methodCount, paramCount}
 use Rattle.cofj.specs.Syntax.{Ty, Method, Table}
 use Rattle.cofj.specs.Classes.{fits, classFits}
+use Rattle.cofj.specs.Tables.{known}
 use Rattle.cofj.specs.WellFormed.{WellFormed}
 use Rattle.classes.specs.declared.chain.FieldFound.the-variants as field
 use Rattle.classes.specs.Machine.{pick, typeAt, paramOf, rowOf}
@@ -22,11 +23,8 @@ use Rattle.checker.specs.Types.{fitsType}
 
 -- ---- type fit
 module _ (t : Table) (wf : WellFormed t) where
-  pub within : (c : ℕ) → c ≤ length (t .classes) → c ≤ classCount
-  within c h = let l = wf .classes in omega arith
-
-  pub fits-on : (u v : Ty) → u .cls ≤ length (t .classes) → fitsType (layout t) (u .cls) (u .tag) (bytesOf v) ≡ fits (t .classes) u v
-  fits-on u v h = rw (fit-on t wf (u .cls) (v .cls) (within (u .cls) h)) (both (leb (u .tag) (v .tag)) (classFits (t .classes) (u .cls) (v .cls)))
+  pub fits-on : (u v : Ty) → known (length (t .classes)) u ≡ true → fitsType (layout t) (u .cls) (u .tag) (bytesOf v) ≡ fits (t .classes) u v
+  fits-on u v h = rw (fit-on t wf (u .cls) (v .cls) h) (both (leb (u .tag) (v .tag)) (classFits (t .classes) (u .cls) (v .cls)))
     where
       both : (b c : Bool) → pick b c false ≡ c && b
       both true true = refl

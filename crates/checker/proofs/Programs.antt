@@ -6,14 +6,14 @@ use mathlib.Core.Bool.{Bool, true, false, _&&_}
 use mathlib.Core.List.{List, [], _∷_}
 use mathlib.Core.Option.{Option, none, some, Option·none-ne-some}
 use lib.ListN.{length, getD, getElem?}
-use borrow.Author.Tests.{ne-eqb, le-leb}
+use borrow.Author.Tests.{ne-eqb}
 use Rattle.cofj.specs.Limits.{methodCount, nestingLimit}
 use Rattle.cofj.specs.Partial.{_>>=_, guard, asList}
 use Rattle.cofj.specs.Syntax.{Ty, ty, Method, Table}
 use Rattle.cofj.specs.Classes.{fits}
 use Rattle.cofj.specs.Typing.{Env, closeTag, typeOf, methodTyped, methodsTyped, mainType, mainOr7, refused, check}
 use Rattle.cofj.specs.TypingRules.{mainVariables}
-use Rattle.cofj.specs.Tables.{allKnown}
+use Rattle.cofj.specs.Tables.{known, allKnown}
 use Rattle.cofj.specs.WellFormed.{MethodFormed, WellFormed}
 use Rattle.cofj.specs.Writing.{codeOf}
 use Rattle.classes.specs.declared.chain.FieldType.{FieldType}
@@ -30,9 +30,10 @@ use Rattle.checker.specs.Types.{fitsType, foundAt, inputVar}
 use Rattle.checker.specs.Machine.{typeIn}
 use Rattle.checker.specs.Program.{body, inMain, fitsFirst, fitsSecond, resultsFit, holds, rightTyped, methodIn, methodsFrom, methodsIn, mainOf, checkOf}
 use Rattle.checker.specs.Answers.{typedAt, answerOf}
-use Rattle.checker.proofs.Known.{just, typed-known}
+use Rattle.checker.proofs.Known.{just, class-known, typed-known}
 use Rattle.checker.proofs.OnBytes.{fits-on, param-on}
-use Rattle.checker.proofs.Expressions.{Agree, found-typed, types-on}
+use Rattle.checker.proofs.NumbersOn.{found-typed}
+use Rattle.checker.proofs.Expressions.{Agree, types-on}
 
 -- whether an answer is there
 abbrev there : Option (Unit {0}) → Bool
@@ -66,7 +67,7 @@ input-typed t (suc k) next = rw (ne-eqb (suc k) 0 (λ z. omega arith)) (go (t .i
 input-known : (n : ℕ) (i : Option Ty) → ((u : Ty) → i ≡ some u → u .cls ≤ n) → allKnown n (asList i) ≡ true
 unfolding allKnown
 input-known n none h = refl
-input-known n (some u) h = rw (le-leb (u .cls) n (h u refl))
+input-known n (some u) h = rw (class-known n (u .cls) (h u refl))
 
 main-agree : (t : Table) → WellFormed t → Agree t inMain true (mainVariables (t .input))
 main-agree t wf = record {
@@ -94,8 +95,8 @@ module _ (t : Table) (wf : WellFormed t) (i : ℕ) (d : Method) (e : getElem? (t
   row : i < methodCount
   row = let a = index-below (t .methods) i d e in let b = wf .count in omega arith
 
-  self-known : (u : Ty) → some (ty (d .owner) 0) ≡ some u → u .cls ≤ n
-  self-known u z = subst (λ (v : Ty). v .cls ≤ n) (just (ty (d .owner) 0) u z) (formed .ownerKnown)
+  self-known : (u : Ty) → some (ty (d .owner) 0) ≡ some u → known n u ≡ true
+  self-known u z = subst (λ (v : Ty). known n v ≡ true) (just (ty (d .owner) 0) u z) (class-known n (d .owner) (formed .ownerKnown))
 
   param-typed : (k next : ℕ) → foundAt (paramOf (layout t) i k) next ≡ typedAt (getElem? (d .params) k) next
   param-typed k next = ap (λ (w : FieldFound). foundAt w next) (param-on t i d row e (formed .few) k) ∙ found-typed (getElem? (d .params) k) next
@@ -109,7 +110,7 @@ module _ (t : Table) (wf : WellFormed t) (i : ℕ) (d : Method) (e : getElem? (t
     known = record { this = self-known; res = λ u z. nowhere u z; params = formed .paramsKnown };
   }
 
-  right-agree : (c : ℕ) → c ≤ n → Agree t (body i (Class c)) false (bodyEnv d (some (ty c 2)))
+  right-agree : (c : ℕ) → known n (ty c 2) ≡ true → Agree t (body i (Class c)) false (bodyEnv d (some (ty c 2)))
   right-agree c h = record {
     main = refl;
     this = λ next. ap (λ (x : ℕ). Has x 0 next) (owner-at t i d row e);
@@ -117,17 +118,17 @@ module _ (t : Table) (wf : WellFormed t) (i : ℕ) (d : Method) (e : getElem? (t
     param = param-typed;
     known = record {
       this = self-known;
-      res = λ u z. subst (λ (v : Ty). v .cls ≤ n) (just (ty c 2) u z) h;
+      res = λ u z. subst (λ (v : Ty). known n v ≡ true) (just (ty c 2) u z) h;
       params = formed .paramsKnown;
     };
   }
 
   -- the four conditions
-  first-fits : (u : Ty) → u .cls ≤ n → fitsFirst (layout t) i (u .cls) (u .tag) ≡ fits (t .classes) u (d .first)
+  first-fits : (u : Ty) → known n u ≡ true → fitsFirst (layout t) i (u .cls) (u .tag) ≡ fits (t .classes) u (d .first)
   unfolding fitsFirst
   first-fits u h = ap (λ (x : FieldType). fitsType (layout t) (u .cls) (u .tag) x) (first-at t i d row e) ∙ fits-on t wf u (d .first) h
 
-  second-fits : (u : Ty) → u .cls ≤ n → fitsSecond (layout t) i (u .cls) (u .tag) ≡ fits (t .classes) u (d .second)
+  second-fits : (u : Ty) → known n u ≡ true → fitsSecond (layout t) i (u .cls) (u .tag) ≡ fits (t .classes) u (d .second)
   unfolding fitsSecond
   second-fits u h = ap (λ (x : FieldType). fitsType (layout t) (u .cls) (u .tag) x) (second-at t i d row e) ∙ fits-on t wf u (d .second) h
 
@@ -141,14 +142,14 @@ module _ (t : Table) (wf : WellFormed t) (i : ℕ) (d : Method) (e : getElem? (t
       && fits (t .classes) (d .first) (d .second)
       && fits (t .classes) u (d .second)
 
-  results-on : (u v : Ty) → u .cls ≤ n → v .cls ≤ n → resultsFit (layout t) i (u .cls) (u .tag) (v .cls) (v .tag) ≡ conditions u v
+  results-on : (u v : Ty) → known n u ≡ true → known n v ≡ true → resultsFit (layout t) i (u .cls) (u .tag) (v .cls) (v .tag) ≡ conditions u v
   unfolding resultsFit
   results-on u v h k =
       (λ j. pick (first-fits (ty (u .cls) (closeTag (u .tag))) h j) (pick (second-fits v k j) (pick (both-fit j) (second-fits u h j) false) false) false)
       ∙ four (fits (t .classes) (ty (u .cls) (closeTag (u .tag))) (d .first)) (fits (t .classes) v (d .second)) (fits (t .classes) (d .first) (d .second)) (fits (t .classes) u (d .second))
 
   -- the right side, given the left type
-  right-on : (u : Ty) → u .cls ≤ n → rightTyped (layout t) i (u .cls) (u .tag)
+  right-on : (u : Ty) → known n u ≡ true → rightTyped (layout t) i (u .cls) (u .tag)
       ≡ there (typeOf t false (bodyEnv d (some (ty (u .cls) 2))) (d .right) >>= λ v. guard (conditions u v))
   unfolding rightTyped
   right-on u h =
@@ -158,7 +159,7 @@ module _ (t : Table) (wf : WellFormed t) (i : ℕ) (d : Method) (e : getElem? (t
       (types-on t wf (body i (Class (u .cls))) false g ag nestingLimit .types (d .right) (rightOf (layout t) i) (formed .rightNested) (formed .rightKnown) (right-stands t i d row e (formed .short)))
       ∙ go (typeOf t false g (d .right)) (rightOf (layout t) i + length (codeOf (d .right))) (λ v z. typed-known t wf false g (ag .known) (d .right) v (formed .rightKnown) z)
     where
-      go : (o : Option Ty) (next : ℕ) → ((v : Ty) → o ≡ some v → v .cls ≤ n)
+      go : (o : Option Ty) (next : ℕ) → ((v : Ty) → o ≡ some v → known n v ≡ true)
           → holds (typedAt o next) (λ c k. resultsFit (layout t) i (u .cls) (u .tag) c k) ≡ there (o >>= λ v. guard (conditions u v))
       go none next kn = refl
       go (some v) next kn = results-on u v h (kn v refl) ∙ guarded (conditions u v)
@@ -171,7 +172,7 @@ module _ (t : Table) (wf : WellFormed t) (i : ℕ) (d : Method) (e : getElem? (t
       (types-on t wf (body i Absent) false g left-agree nestingLimit .types (d .left) (leftOf (layout t) i) (formed .leftNested) (formed .leftKnown) (left-stands t i d row e (formed .short)))
       ∙ go (typeOf t false g (d .left)) (leftOf (layout t) i + length (codeOf (d .left))) (λ u z. typed-known t wf false g (left-agree .known) (d .left) u (formed .leftKnown) z)
     where
-      go : (o : Option Ty) (next : ℕ) → ((u : Ty) → o ≡ some u → u .cls ≤ n)
+      go : (o : Option Ty) (next : ℕ) → ((u : Ty) → o ≡ some u → known n u ≡ true)
           → holds (typedAt o next) (λ c k. rightTyped (layout t) i c k)
           ≡ there (o >>= λ u. typeOf t false (bodyEnv d (some (ty (u .cls) 2))) (d .right) >>= λ v. guard (conditions u v))
       go none next kn = refl

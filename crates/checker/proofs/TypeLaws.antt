@@ -7,6 +7,7 @@ use native.Mathlib.Omega.{arith}
 use lib.ListN.{getD}
 use lib.Dec.{eqb, leb}
 use borrow.Author.Tests.{leb-true, leb-false, eq-eqb, ne-eqb, not-true, not-false}
+use Rattle.cofj.specs.Limits.{numberClass}
 use Rattle.cofj.specs.Typing.{closedTag, closeTag}
 use Rattle.classes.specs.declared.chain.FieldType.{FieldType}
 use Rattle.classes.specs.declared.chain.FieldFound.{FieldFound}
@@ -20,7 +21,7 @@ use Rattle.checker.specs.declared.scope.Typed.the-variants.{Has, No}
 use Rattle.checker.specs.declared.scope.Res.{Res}
 use Rattle.checker.specs.declared.scope.Res.the-variants.{Class}
 use Rattle.checker.specs.declared.scope.Scope.{Scope}
-use Rattle.checker.specs.Types.{fitsType, narrowTag, fitsFound, itemFits, argFits, receiverOf, resultOf, foundAt, thisOf, resIn, inputVar, paramVar}
+use Rattle.checker.specs.Types.{fitsType, isNumber, widerOf, narrowTag, fitsFound, itemFits, argFits, receiverOf, resultOf, foundAt, thisOf, resIn, inputVar, paramVar}
 
 -- ---- tags
 -- a test is that of the order if it answers so where g is below h, is h, is above h: for a test that is worded by any comparisons of the two
@@ -63,6 +64,30 @@ module _ (B : List ℕ) (c g : ℕ) (d : FieldType) where
 
     pub fits-class : (r : Bool) → not b ≡ false → r ≡ fitsOf B c (d .class) → r ≡ fitsType B c g d
     fits-class r q e = rw (← eb, not-false b q) e
+
+-- ---- numbers, and the wider of two types
+module _ (c g : ℕ) where
+  pub number-other : (c ≡ numberClass → ⊥) → false ≡ isNumber c g
+  unfolding isNumber
+  number-other n = rw (ne-eqb c numberClass n)
+
+  pub number-tag : c ≡ numberClass → eqb g 0 ≡ isNumber c g
+  unfolding isNumber
+  number-tag e = rw (eq-eqb c numberClass e)
+
+module _ (B : List ℕ) (u v : FieldType) (x : Bool) (ex : x ≡ fitsType B (u .class) (u .tag) v) where
+  pub wider-second : x ≡ true → field.Type v ≡ widerOf B u v
+  unfolding widerOf
+  wider-second q = rw (← ex, q)
+
+  module _ (qx : x ≡ false) (y : Bool) (ey : y ≡ fitsType B (v .class) (v .tag) u) where
+    pub wider-first : y ≡ true → field.Type u ≡ widerOf B u v
+    unfolding widerOf
+    wider-first q = rw (← ex, qx, ← ey, q)
+
+    pub wider-none : y ≡ false → field.Nothing ≡ widerOf B u v
+    unfolding widerOf
+    wider-none q = rw (← ex, qx, ← ey, q)
 
 -- ---- the items of a list
 module _ (B : List ℕ) (c g : ℕ) (w : FieldFound) where

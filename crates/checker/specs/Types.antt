@@ -1,10 +1,11 @@
 -- Type fit, what calls and lists ask, and the types of variables, on a table's bytes B, at the code's grain.
 -- Not here: the walk of an expression (Machine), and that these are the language's rules (proofs/).
-use mathlib.Core.Bool.{Bool, false, cond}
+use mathlib.Core.Bool.{Bool, false, cond, _&&_}
 use mathlib.Core.List.{List}
 use Prim.Native.Nat.{ℕ, _+_}
 use lib.ListN.{getD}
 use lib.Dec.{eqb, leb}
+use Rattle.cofj.specs.Limits.{numberClass}
 use Rattle.cofj.specs.Typing.{closedTag}
 use Rattle.classes.specs.declared.chain.FieldType.{FieldType}
 use Rattle.classes.specs.declared.chain.FieldFound.{FieldFound}
@@ -23,6 +24,14 @@ use Rattle.checker.specs.declared.scope.Scope.{Scope}
 -- the type of class c and tag g fits d
 abbrev pub fitsType : List ℕ → ℕ → ℕ → FieldType → Bool
 fitsType B c g d = pick (leb g (d .tag)) (fitsOf B c (d .class)) false
+
+-- the type of a number, of tag 0
+unfoldable pub isNumber : ℕ → ℕ → Bool
+isNumber c g = eqb c numberClass && eqb g 0
+
+-- the wider of two types, where one fits the other
+unfoldable pub widerOf : List ℕ → FieldType → FieldType → FieldFound
+widerOf B u v = pick (fitsType B (u .class) (u .tag) v) (field.Type v) (pick (fitsType B (v .class) (v .tag) u) (field.Type u) field.Nothing)
 
 -- an open tag read as 0
 abbrev pub narrowTag : ℕ → ℕ

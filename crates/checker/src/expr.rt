@@ -1,9 +1,10 @@
 // The type of an expression: it calls the walks over its parts, which call it back, while the nesting left falls.
-// Not here: what a call or a new object asks of a type (fits), methods and main (program).
+// Not here: expressions of numbers (numbers), what a call or a new object asks of a type (fits), methods and main (program).
 use crate::fits::arg_fits;
 use crate::fits::receiver;
 use crate::fits::result_type;
 use crate::fits::value_fits;
+use crate::numbers::by_sign;
 use crate::scope::Scope;
 use crate::scope::Typed;
 use crate::scope::found;
@@ -101,7 +102,7 @@ pub(crate) fn type_parts(t: &[u8; SIZE], scope: Scope, b: u8, at: usize, left: u
     if b == NEW {
         return type_new(t, scope, k, n, past_sign(b, at), left);
     }
-    Typed::No
+    by_sign(t, scope, b, at, left)
 }
 
 // Field f of the expression at `at`.

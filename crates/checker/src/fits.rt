@@ -8,12 +8,13 @@ use classes::methods::first;
 use classes::methods::method_with;
 use classes::methods::param_type;
 use classes::methods::second;
+use classes::places::NUMBER_CLASS;
 use classes::places::SIZE;
 ghost use mathlib.Core.Path.{_≡_};
 ghost use lib.Dec.{leb};
 ghost use Rattle.cofj.specs.Typing.{closedTag, closeTag};
 ghost use Rattle.checker.specs.Items.{Fields};
-ghost use Rattle.checker.specs.Types.{fitsType, narrowTag, fitsFound, itemFits, argFits, receiverOf, resultOf};
+ghost use Rattle.checker.specs.Types.{fitsType, isNumber, widerOf, narrowTag, fitsFound, itemFits, argFits, receiverOf, resultOf};
 
 // Whether tag g is not larger than tag h.
 pub(crate) fn tag_fits(g: u8, h: u8) -> bool
@@ -31,6 +32,29 @@ pub(crate) fn fits(t: &[u8; SIZE], class: u8, tag: u8, d: FieldType) -> bool
     }
     let c = d.class;
     fit(t, class, c)
+}
+
+// Whether a type is that of a number, of tag 0.
+pub(crate) fn is_number(class: u8, tag: u8) -> bool
+    ensures { λ r. ⌜ r ≡ isNumber class tag ⌝ }
+{
+    if class != NUMBER_CLASS {
+        return false;
+    }
+    tag == 0
+}
+
+// The wider of two types, where one fits the other.
+pub(crate) fn wider(t: &[u8; SIZE], u: FieldType, v: FieldType) -> FieldFound
+    ensures { λ r. ⌜ r ≡ widerOf (now (t .entry)) u v ⌝ }
+{
+    if fits(t, u.class, u.tag, v) {
+        return FieldFound::Type(v);
+    }
+    if fits(t, v.class, v.tag, u) {
+        return FieldFound::Type(u);
+    }
+    FieldFound::Nothing
 }
 
 // Tags 0 and 3 are closed.

@@ -4,4 +4,5 @@
 pub(crate) mod fits; // type fit, tags, and what a call or a list asks of a type
 pub(crate) mod scope; // the variables of a body
 pub(crate) mod expr; // an expression and its list walk
+pub(crate) mod numbers; // literals, sums, differences and choices
 pub mod program; // methods and main: the check

@@ -14,7 +14,7 @@ use Rattle.cofj.specs.Syntax.{Ty, Class}
 use Rattle.cofj.specs.Classes.{parentOf, fieldsTo, fieldsOf}
 use Rattle.cofj.specs.Typing.{closedTag, allClosed}
 use Rattle.cofj.specs.Frames.{ClassFrame}
-use Rattle.cofj.specs.Tables.{numbered, allKnown, classesGood, bodies}
+use Rattle.cofj.specs.Tables.{numbered, known, allKnown, classesGood, bodies}
 use Rattle.cofj.specs.Writing.{typesBytes, classLine}
 use Rattle.cofj.proofs.Chain.{ParentsSmaller}
 use Rattle.cofj.proofs.Partial.{and-true}
@@ -24,6 +24,7 @@ use Rattle.classes.specs.Layout.{classRow, filled}
 use Rattle.classes.specs.Placing.{goodTypes, Placed, placed, above, classGood, classPut, classPlaced}
 use Rattle.classes.specs.Building.{Walked, walked, lineAt, onward, linesPlaced}
 use Rattle.classes.proofs.Lists.{at-seam, past}
+use Rattle.classes.proofs.Laws.{total-row}
 use Rattle.classes.proofs.Zones.{filled-class}
 use Rattle.classes.proofs.Filling.{parent-old, fields-old, class-filled}
 use Rattle.classes.proofs.OnTables.{fields-enough}
@@ -44,7 +45,7 @@ pub types-are : (n : ℕ) (us : List Ty) (r : List ℕ) → goodTypes n (length 
 unfolding goodTypes allKnown
 types-are n [] r = refl
 types-are n (u ∷ us) r =
-    ap (λ (b : Bool). leb (u .cls) n && closedTag (u .tag) && b) (types-are n us r) ∙ swap (leb (u .cls) n) (closedTag (u .tag)) (allKnown n us) (allClosed us)
+    ap (λ (b : Bool). known n u && closedTag (u .tag) && b) (types-are n us r) ∙ swap (known n u) (closedTag (u .tag)) (allKnown n us) (allClosed us)
 
 -- ---- lines one after another: what all of them give, for a test that they pass
 abbrev pub refused : Walked → Bool
@@ -106,7 +107,7 @@ module _ (n : ℕ) (cs : List Class) (s : ParentsSmaller cs) (few : length cs < 
 
   above-is : c .parent < k → above l B ≡ length (fieldsOf cs (c .parent))
   unfolding fieldsTo
-  above-is p = filled-class 0 0 cs [] [] (c .parent) 1 (omega arith) (omega arith) ∙ go (c .parent)
+  above-is p = sym (total-row B (c .parent) (omega arith)) ∙ filled-class 0 0 cs [] [] (c .parent) 1 (omega arith) (omega arith) ∙ go (c .parent)
     where
       go : (q : ℕ) → getD (classRow 0 0 cs q) 1 0 ≡ length (fieldsOf cs q)
       go zero = refl

@@ -19,7 +19,10 @@ use Rattle.cofj.specs.WellFormed.{AllMethods}
 use Rattle.cofj.proofs.Readable.{parents-in}
 use Rattle.cofj.proofs.Passed.{methods-ruled, tableOf, table-ruled, few-inv}
 use Rattle.cofj.proofs.Partial.{guard-bind, taken}
-use Rattle.cofj.proofs.FrameRound.{pair, taken-as, given, type-forth, lineOf, frame-back}
+use Rattle.cofj.proofs.TextRound.{Bytes}
+use Rattle.cofj.proofs.Steps.{pair, taken-as, given}
+use Rattle.cofj.proofs.ExprRound.{type-forth}
+use Rattle.cofj.proofs.FrameRound.{lineOf, frame-back}
 use Rattle.lineform.specs.Packed.{packed, unpack, Sized, also as and-line}
 use Rattle.lineform.proofs.PackedLaws.{unpack-packed}
 use Rattle.lineform.specs.Answers.{rightAt, rightsOf, Rights}
@@ -57,13 +60,17 @@ pub record IsRead (f : TextFrame) : Type 0 where
   pub short : length (lineOf f) ≤ lineSize
   pub small : (k : ℕ) → getD (lineOf f) k 0 < 256
 
+all-bytes : (l : List ℕ) → ((k : ℕ) → getD l k 0 < 256) → Bytes l
+all-bytes [] h = tt
+all-bytes (b ∷ bs) h = (h 0, all-bytes bs (λ k. h (suc k)))
+
 frames-read : (ls : List (List ℕ)) (fs : List TextFrame) → frames ls ≡ some fs → Sized ls → ((i : ℕ) → getD (packed ls) i 0 < 256) → (map lineOf fs ≡ ls) × AllFrames IsRead fs
 unfolding frames packed
 frames-read [] fs e z b = given (λ (x : List TextFrame). (map lineOf x ≡ []) × AllFrames IsRead x) _ fs e (refl, tt)
 frames-read (l ∷ ls) fs e (and-line one short z) b =
     taken (frame l) fs e λ f q e1.
     taken (frames ls) fs e1 λ gs r e2.
-    let p = frame-back l f q in
+    let p = frame-back l f q (all-bytes l (in-line b)) in
     let ih = frames-read ls gs r z (λ i. subst (λ (x : ℕ). x < 256) (getD-append-add l (packed ls) i 0) (b (suc (length l + i)))) in
     given (λ (x : List TextFrame). (map lineOf x ≡ l ∷ ls) × AllFrames IsRead x) _ fs e2 (
       ap₂ {C = List (List ℕ)} _∷_ p (ih .0),

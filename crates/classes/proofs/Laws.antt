@@ -1,17 +1,37 @@
 -- The definitions of specs/Machine at each return of the code, and along the chain of parents.
-use mathlib.Core.Path.{_≡_, refl, sym, _∙_}
+use mathlib.Core.Path.{_≡_, refl, sym, ap, _∙_}
 use mathlib.Core.Bool.{Bool, true, false}
 use mathlib.Core.List.{List}
 use Prim.Native.Nat.{ℕ, zero, suc, _+_, _-_, _*_, _<_, _≤_}
 use native.Mathlib.Omega.{arith}
 use lib.ListN.{getD}
 use lib.Dec.{eqb, leb, ltb}
-use borrow.Author.Tests.{eq-eqb, ne-eqb, lt-ltb, le-ltb, le-leb, lt-leb, leb-false}
+use borrow.Author.Tests.{eqb-true, eqb-false, eq-eqb, ne-eqb, lt-ltb, le-ltb, le-leb, lt-leb, leb-false}
+use Rattle.cofj.specs.Limits.{classCount}
+use Rattle.classes.specs.Figures.{rowSize}
 use Rattle.classes.specs.declared.chain.FieldFound.{FieldFound}
 use Rattle.classes.specs.declared.chain.FieldFound.the-variants as field
 use Rattle.classes.specs.declared.methods.Found.{Found}
 use Rattle.classes.specs.declared.methods.Found.the-variants as found
-use Rattle.classes.specs.Machine.{Stored, pick, up, fitsIn, fitsOf, typeAt, ownField, fieldIn, fieldOf, numbered, ownOf, orElse, lookupIn, lookupOf, methodWith, rowOf, paramOf, inputType}
+use Rattle.classes.specs.Machine.{Stored, pick, up, totalOf, fitsIn, fitsOf, typeAt, ownField, fieldIn, fieldOf, numbered, ownOf, orElse, lookupIn, lookupOf, methodWith, rowOf, paramOf, inputType}
+
+-- ---- a class's row
+module _ (B : List ℕ) (c : ℕ) where
+  pub parent-past : classCount < c → c ≡ up B c
+  unfolding up
+  parent-past h = rw (lt-ltb classCount c h)
+
+  pub parent-row : c ≤ classCount → getD B (rowSize * c) 0 ≡ up B c
+  unfolding up
+  parent-row h = rw (le-ltb classCount c h)
+
+  pub total-past : classCount < c → 0 ≡ totalOf B c
+  unfolding totalOf
+  total-past h = rw (lt-ltb classCount c h)
+
+  pub total-row : c ≤ classCount → getD B (rowSize * c + 1) 0 ≡ totalOf B c
+  unfolding totalOf
+  total-row h = rw (le-ltb classCount c h)
 
 -- ---- class fit
 pub fits-zero : (B : List ℕ) (n d : ℕ) → fitsIn B n 0 d ≡ eqb 0 d
@@ -54,11 +74,19 @@ module _ (B : List ℕ) (c d : ℕ) where
   fits-stop zero ne l = ne-eqb c d ne
   fits-stop (suc n) ne l = rw (ne-eqb c d ne, le-leb c (up B c) l)
 
-  pub fit-top : (c ≡ d → ⊥) → c ≤ up B c → false ≡ fitsOf B c d
-  fit-top ne l = sym (fits-stop c ne l)
+  pub fit-top : (p : ℕ) → p ≡ up B c → (c ≡ d → ⊥) → c ≤ p → false ≡ fitsOf B c d
+  fit-top p ep ne l = sym (fits-stop c ne (omega arith))
 
-  pub fit-up : (r : Bool) → (c ≡ d → ⊥) → up B c < c → r ≡ fitsOf B (up B c) d → r ≡ fitsOf B c d
-  fit-up r ne l e = e ∙ sym (fits-step c refl ne l)
+  -- a class byte without a row fits only itself
+  pub fit-past : classCount < c → fitsOf B c d ≡ eqb c d
+  fit-past h = go (eqb c d) refl
+    where
+      go : (b : Bool) → eqb c d ≡ b → fitsOf B c d ≡ b
+      go true q = sym (fit-same (eqb-true c d q))
+      go false q = sym (fit-top c (parent-past B c h) (eqb-false c d q) (omega arith))
+
+  pub fit-up : (r : Bool) (p : ℕ) → p ≡ up B c → (c ≡ d → ⊥) → p < c → r ≡ fitsOf B p d → r ≡ fitsOf B c d
+  fit-up r p ep ne l e = e ∙ ap (λ (x : ℕ). fitsOf B x d) ep ∙ sym (fits-step c refl ne (omega arith))
 
 -- ---- fields
 fields-enough : (B : List ℕ) (n m c f : ℕ) → c ≤ n → c ≤ m → fieldIn B n c f ≡ fieldIn B m c f
@@ -69,7 +97,7 @@ fields-enough B (suc n) zero c f h k = rw (le-leb c (up B c) (omega arith))
 fields-enough B (suc n) (suc m) c f h k = go (leb c (up B c)) refl (fields-enough B n m (up B c) f)
   where
     rest : FieldFound → FieldFound
-    rest x = pick (ltb f (getD B (16 * up B c + 1) 0)) x (ownField B c (f - getD B (16 * up B c + 1) 0))
+    rest x = pick (ltb f (totalOf B (up B c))) x (ownField B c (f - totalOf B (up B c)))
 
     go : (b : Bool) → leb c (up B c) ≡ b → (up B c ≤ n → up B c ≤ m → fieldIn B n (up B c) f ≡ fieldIn B m (up B c) f)
         → pick b field.Nothing (rest (fieldIn B n (up B c) f)) ≡ pick b field.Nothing (rest (fieldIn B m (up B c) f))
@@ -82,26 +110,34 @@ module _ (B : List ℕ) (c f : ℕ) where
   field-stop zero l = refl
   field-stop (suc n) l = rw (le-leb c (up B c) l)
 
-  field-below : (n : ℕ) → n ≡ c → up B c < c → f < getD B (16 * up B c + 1) 0 → fieldIn B n c f ≡ fieldOf B (up B c) f
+  field-below : (n : ℕ) → n ≡ c → up B c < c → f < totalOf B (up B c) → fieldIn B n c f ≡ fieldOf B (up B c) f
   unfolding fieldIn
   field-below zero e l h = absurd (omega arith)
   field-below (suc n) e l h =
-      rw (lt-leb c (up B c) l, lt-ltb f (getD B (16 * up B c + 1) 0) h) (fields-enough B n (up B c) (up B c) f (omega arith) (omega arith))
+      rw (lt-leb c (up B c) l, lt-ltb f (totalOf B (up B c)) h) (fields-enough B n (up B c) (up B c) f (omega arith) (omega arith))
 
-  field-here : (n : ℕ) → n ≡ c → up B c < c → getD B (16 * up B c + 1) 0 ≤ f → fieldIn B n c f ≡ ownField B c (f - getD B (16 * up B c + 1) 0)
+  field-here : (n : ℕ) → n ≡ c → up B c < c → totalOf B (up B c) ≤ f → fieldIn B n c f ≡ ownField B c (f - totalOf B (up B c))
   unfolding fieldIn
   field-here zero e l h = absurd (omega arith)
-  field-here (suc n) e l h = rw (lt-leb c (up B c) l, le-ltb f (getD B (16 * up B c + 1) 0) h)
+  field-here (suc n) e l h = rw (lt-leb c (up B c) l, le-ltb f (totalOf B (up B c)) h)
 
-  pub field-none : c ≤ up B c → Stored B 0 (fieldOf B c f)
-  field-none l = record { same = field-stop c l; low = omega arith }
+  -- and has no fields
+  pub field-past : classCount < c → fieldOf B c f ≡ field.Nothing
+  field-past h = field-stop c (let e = parent-past B c h in omega arith)
 
-  module _ (k : ℕ) (ek : k ≡ getD B (16 * up B c + 1) 0) (l : up B c < c) (r : ℕ) where
-    pub field-up : f < k → Stored B r (fieldOf B (up B c) f) → Stored B r (fieldOf B c f)
-    field-up h e = rw (field-below c refl l (omega arith)) e
+  module _ (p : ℕ) (ep : p ≡ up B c) where
+    pub field-none : c ≤ p → Stored B 0 (fieldOf B c f)
+    field-none l = record { same = field-stop c (omega arith); low = omega arith }
 
-    pub field-own : k ≤ f → Stored B r (ownField B c (f - k)) → Stored B r (fieldOf B c f)
-    field-own h e = rw (field-here c refl l (omega arith), ← ek) e
+    module _ (k : ℕ) (ek : k ≡ totalOf B p) (l : p < c) (r : ℕ) where
+      total : k ≡ totalOf B (up B c)
+      total = ek ∙ ap (totalOf B) ep
+
+      pub field-up : f < k → Stored B r (fieldOf B p f) → Stored B r (fieldOf B c f)
+      field-up h e = let t = total in rw (field-below c refl (omega arith) (omega arith), ← ep) e
+
+      pub field-own : k ≤ f → Stored B r (ownField B c (f - k)) → Stored B r (fieldOf B c f)
+      field-own h e = let t = total in rw (field-here c refl (omega arith) (omega arith), ← total) e
 
 module _ (B : List ℕ) (c j : ℕ) where
   pub own-past : getD B (16 * c + 2) 0 ≤ j → Stored B 0 (ownField B c j)
@@ -171,11 +207,16 @@ module _ (B : List ℕ) (c m x : ℕ) (ex : ownOf B c m ≡ numbered x) where
   pub lookup-here : (x ≡ 0 → ⊥) → lookupOf B c m ≡ numbered x
   lookup-here e = lookup-is c e
 
-  pub lookup-top : x ≡ 0 → c ≤ up B c → lookupOf B c m ≡ numbered 0
-  lookup-top e l = lookup-stop c e l
+  module _ (p : ℕ) (ep : p ≡ up B c) where
+    pub lookup-top : x ≡ 0 → c ≤ p → lookupOf B c m ≡ numbered 0
+    lookup-top e l = lookup-stop c e (omega arith)
 
-  pub lookup-above : (r : ℕ) → x ≡ 0 → up B c < c → lookupOf B (up B c) m ≡ numbered r → lookupOf B c m ≡ numbered r
-  lookup-above r e l er = lookup-on c refl e l ∙ er
+    pub lookup-above : (r : ℕ) → x ≡ 0 → p < c → lookupOf B p m ≡ numbered r → lookupOf B c m ≡ numbered r
+    lookup-above r e l er = lookup-on c refl e (omega arith) ∙ ap (λ (y : ℕ). lookupOf B y m) (sym ep) ∙ er
+
+-- a class byte without a row has none
+pub lookup-past : (B : List ℕ) (c m : ℕ) → classCount < c → lookupOf B c m ≡ found.Nothing
+lookup-past B c m h = lookup-stop B c m 0 (index-past B c m h) c refl (let e = parent-past B c h in omega arith)
 
 -- ---- parameters
 module _ (B : List ℕ) (i k : ℕ) where

@@ -6,6 +6,7 @@ pub mod PlaceLaws
 pub mod Zones
 pub mod OnTables
 pub mod ShapesOn
+pub mod SkipLaws
 pub mod OnOverrides
 pub mod Filling
 pub mod FillingMethods

@@ -9,11 +9,12 @@ use lib.Dec.{eqb, leb, ltb}
 use lib.ListN.{length, getD, drop, length-drop, drop-of-length-le}
 use lib.Seq.{drop-cons, drop-drop, getD-drop}
 use borrow.Author.Tests.{eq-eqb, ne-eqb, le-leb, lt-leb, eqb-true, eqb-false, ltb-false}
+use Rattle.cofj.specs.Limits.{numberClass}
 use Rattle.cofj.specs.Typing.{closedTag}
 use Rattle.lineform.specs.declared.sign.SignRow.{SignRow}
 use Rattle.lineform.specs.Signs.{newSign, InTable, signSize}
 use Rattle.classes.specs.Machine.{pick}
-use Rattle.classes.specs.Placing.{goodTypes, namesKnown, scan, namesAbove, noneAbove, headGood}
+use Rattle.classes.specs.Placing.{knownClass, goodTypes, namesKnown, scan, namesAbove, noneAbove, headGood}
 
 -- ---- a byte at a place
 pub more : (s : List ℕ) (at : ℕ) → at < length s → drop at s ≡ getD s at 0 ∷ drop (at + 1) s
@@ -39,6 +40,14 @@ module _ (g : ℕ) where
   pub closed-three : (g ≡ 0 → ⊥) → eqb g 3 ≡ closedTag g
   closed-three e = rw (ne-eqb g 0 e)
 
+-- ---- classes that a type may have
+module _ (c n : ℕ) where
+  pub class-listed : c ≤ n → true ≡ knownClass n c
+  class-listed h = rw (le-leb c n h)
+
+  pub class-number : n < c → eqb c numberClass ≡ knownClass n c
+  class-number h = rw (lt-leb c n h)
+
 -- ---- types
 types-step : (n k : ℕ) (bs : List ℕ) → ((k ≡ 0) → ⊥) → goodTypes n k bs ≡ goodTypes n (suc (k - 1)) bs
 types-step n zero bs nz = absurd (nz refl)
@@ -60,18 +69,19 @@ module _ (s : List ℕ) (at k n : ℕ) where
       types-short l = rw (types-step n k (drop at s) nz, more s at h, no-more s (at + 1) l)
 
       module _ (h1 : at + 1 < length s) where
-        pub types-unknown : n < getD s at 0 → false ≡ goodTypes n k (drop at s)
-        unfolding goodTypes
-        types-unknown l = rw (types-step n k (drop at s) nz, more s at h, more s (at + 1) h1, lt-leb (getD s at 0) n l)
-
-        module _ (l : getD s at 0 ≤ n) (c : Bool) (ec : c ≡ closedTag (getD s (at + 1) 0)) where
-          pub types-open : not c ≡ true → false ≡ goodTypes n k (drop at s)
+        module _ (x : Bool) (ex : x ≡ knownClass n (getD s at 0)) where
+          pub types-unknown : not x ≡ true → false ≡ goodTypes n k (drop at s)
           unfolding goodTypes
-          types-open e = rw (types-step n k (drop at s) nz, more s at h, more s (at + 1) h1, le-leb (getD s at 0) n l, ← ec, not-true c e)
+          types-unknown l = rw (types-step n k (drop at s) nz, more s at h, more s (at + 1) h1, ← ex, not-true x l)
 
-          pub types-next : (r : Bool) → not c ≡ false → r ≡ goodTypes n (k - 1) (drop (at + 1 + 1) s) → r ≡ goodTypes n k (drop at s)
-          unfolding goodTypes
-          types-next r e er = rw (types-step n k (drop at s) nz, more s at h, more s (at + 1) h1, le-leb (getD s at 0) n l, ← ec, not-false c e) er
+          module _ (l : not x ≡ false) (c : Bool) (ec : c ≡ closedTag (getD s (at + 1) 0)) where
+            pub types-open : not c ≡ true → false ≡ goodTypes n k (drop at s)
+            unfolding goodTypes
+            types-open e = rw (types-step n k (drop at s) nz, more s at h, more s (at + 1) h1, ← ex, not-false x l, ← ec, not-true c e)
+
+            pub types-next : (r : Bool) → not c ≡ false → r ≡ goodTypes n (k - 1) (drop (at + 1 + 1) s) → r ≡ goodTypes n k (drop at s)
+            unfolding goodTypes
+            types-next r e er = rw (types-step n k (drop at s) nz, more s at h, more s (at + 1) h1, ← ex, not-false x l, ← ec, not-false c e) er
 
 -- ---- expressions one after another
 pub scan-skip : (n k : ℕ) (bs : List ℕ) → scan n k bs ≡ scan n 0 (drop k bs)
@@ -251,22 +261,23 @@ module _ (s : List ℕ) (n : ℕ) where
       method-owner l = rw (le-leb 8 (length s) h, one, lt-leb (getD s 1 0) n l)
 
       module _ (h2 : getD s 1 0 ≤ n) where
-        pub method-first : n < getD s 3 0 → false ≡ headGood n s
-        unfolding headGood
-        method-first l = rw (le-leb 8 (length s) h, one, le-leb (getD s 1 0) n h2, lt-leb (getD s 3 0) n l)
-
-        module _ (h3 : getD s 3 0 ≤ n) where
-          pub method-second : n < getD s 5 0 → false ≡ headGood n s
+        module _ (x : Bool) (ex : x ≡ knownClass n (getD s 3 0)) where
+          pub method-first : not x ≡ true → false ≡ headGood n s
           unfolding headGood
-          method-second l = rw (le-leb 8 (length s) h, one, le-leb (getD s 1 0) n h2, le-leb (getD s 3 0) n h3, lt-leb (getD s 5 0) n l)
+          method-first l = rw (le-leb 8 (length s) h, one, le-leb (getD s 1 0) n h2, ← ex, not-true x l)
 
-          module _ (h5 : getD s 5 0 ≤ n) (c : Bool) (ec : c ≡ closedTag (getD s 4 0)) where
-            pub method-open : not c ≡ true → false ≡ headGood n s
+          module _ (h3 : not x ≡ false) (y : Bool) (ey : y ≡ knownClass n (getD s 5 0)) where
+            pub method-second : not y ≡ true → false ≡ headGood n s
             unfolding headGood
-            method-open e =
-                rw (le-leb 8 (length s) h, one, le-leb (getD s 1 0) n h2, le-leb (getD s 3 0) n h3, le-leb (getD s 5 0) n h5, ← ec, not-true c e)
+            method-second l = rw (le-leb 8 (length s) h, one, le-leb (getD s 1 0) n h2, ← ex, not-false x h3, ← ey, not-true y l)
 
-            pub method-params : (g : Bool) → not c ≡ false → g ≡ goodTypes n (getD s 7 0) (drop 8 s) → g ≡ headGood n s
-            unfolding headGood
-            method-params g e eg =
-                rw (le-leb 8 (length s) h, one, le-leb (getD s 1 0) n h2, le-leb (getD s 3 0) n h3, le-leb (getD s 5 0) n h5, ← ec, not-false c e) eg
+            module _ (h5 : not y ≡ false) (c : Bool) (ec : c ≡ closedTag (getD s 4 0)) where
+              pub method-open : not c ≡ true → false ≡ headGood n s
+              unfolding headGood
+              method-open e =
+                  rw (le-leb 8 (length s) h, one, le-leb (getD s 1 0) n h2, ← ex, not-false x h3, ← ey, not-false y h5, ← ec, not-true c e)
+
+              pub method-params : (g : Bool) → not c ≡ false → g ≡ goodTypes n (getD s 7 0) (drop 8 s) → g ≡ headGood n s
+              unfolding headGood
+              method-params g e eg =
+                  rw (le-leb 8 (length s) h, one, le-leb (getD s 1 0) n h2, ← ex, not-false x h3, ← ey, not-false y h5, ← ec, not-false c e) eg

@@ -10,10 +10,10 @@ use lib.ListN.{length, getD, getElem?, drop, length-append}
 use lib.Seq.{drop-append-seam}
 use borrow.Author.Tests.{eqb-true, eqb-false, eq-eqb, ne-eqb, le-leb, le-ltb}
 use Rattle.cofj.specs.Limits.{classCount, methodCount, lineSize}
-use Rattle.cofj.specs.Syntax.{Expr, this, res, param, field, call, new, Exprs, done, also, Class, Method}
+use Rattle.cofj.specs.Syntax.{Operation, sum, difference, Expr, this, res, param, field, call, new, literal, combine, choose, Exprs, done, also, Class, Method}
 use Rattle.cofj.specs.Typing.{closedTag, allClosed}
 use Rattle.cofj.specs.Tables.{known, allKnown, exprKnown, exprsKnown, hasName, methodsGood}
-use Rattle.cofj.specs.Writing.{codeOf, codesOf, typesBytes, methodLine, methodLines}
+use Rattle.cofj.specs.Writing.{operationSign, codeOf, codesOf, typesBytes, methodLine, methodLines}
 use Rattle.cofj.specs.WellFormed.{AllMethods}
 use Rattle.cofj.proofs.Partial.{and-true}
 use Rattle.cofj.proofs.Passed.{methodRules, method-ruled}
@@ -47,6 +47,17 @@ and-nil true = refl
 and-nil false = refl
 
 -- ---- expressions one after another
+-- bytes that pass the scan as k says, and bytes after them that pass it as l says
+scan-then : (n : ℕ) (xs ys r : List ℕ) (k l : Bool) → ((q : List ℕ) → scan n 0 (xs ++ q) ≡ k && scan n 0 q) → ((q : List ℕ) → scan n 0 (ys ++ q) ≡ l && scan n 0 q)
+    → scan n 0 ((xs ++ ys) ++ r) ≡ (k && l) && scan n 0 r
+scan-then n xs ys r k l f g =
+    ap (λ (x : List ℕ). scan n 0 x) (append-assoc xs ys r) ∙ f (ys ++ r) ∙ ap (λ (b : Bool). k && b) (g r) ∙ sym (and-assoc k l (scan n 0 r))
+
+scan-operation : (o : Operation) (n : ℕ) (r : List ℕ) → scan n 0 (operationSign o ∷ r) ≡ scan n 0 r
+unfolding scan signRow
+scan-operation sum n r = refl
+scan-operation difference n r = refl
+
 mutual
   unfolding scan signRow codeOf exprKnown
 
@@ -55,20 +66,20 @@ mutual
   scan-code res n r = refl
   scan-code (param k) n r = refl
   scan-code (field f e) n r = scan-code e n r
-  scan-code (call m e es) n r =
-      ap (λ (x : List ℕ). scan n 0 x) (append-assoc (codeOf e) (codesOf es) r)
-      ∙ scan-code e n (codesOf es ++ r)
-      ∙ ap (λ (b : Bool). exprKnown n e && b) (scan-codes es n r)
-      ∙ sym (and-assoc (exprKnown n e) (exprsKnown n es) (scan n 0 r))
+  scan-code (call m e es) n r = scan-then n (codeOf e) (codesOf es) r (exprKnown n e) (exprsKnown n es) (λ q. scan-code e n q) (λ q. scan-codes es n q)
   scan-code (new c es) n r = ap (λ (b : Bool). leb c n && b) (scan-codes es n r) ∙ sym (and-assoc (leb c n) (exprsKnown n es) (scan n 0 r))
+  scan-code (literal k) n r = refl
+  scan-code (combine o a b) n r =
+      scan-operation o n (codeOf a ++ codeOf b ++ r)
+      ∙ scan-then n (codeOf a) (codeOf b) r (exprKnown n a) (exprKnown n b) (λ q. scan-code a n q) (λ q. scan-code b n q)
+  scan-code (choose c a b) n r =
+      scan-then n (codeOf c) (codeOf a ++ codeOf b) r (exprKnown n c) (exprKnown n a && exprKnown n b) (λ q. scan-code c n q)
+      (λ q. scan-then n (codeOf a) (codeOf b) q (exprKnown n a) (exprKnown n b) (λ p. scan-code a n p) (λ p. scan-code b n p))
+      ∙ ap (λ (x : Bool). x && scan n 0 r) (sym (and-assoc (exprKnown n c) (exprKnown n a) (exprKnown n b)))
 
   scan-codes : (es : Exprs) (n : ℕ) (r : List ℕ) → scan n 0 (codesOf es ++ r) ≡ exprsKnown n es && scan n 0 r
   scan-codes done n r = refl
-  scan-codes (also e es) n r =
-      ap (λ (x : List ℕ). scan n 0 x) (append-assoc (codeOf e) (codesOf es) r)
-      ∙ scan-code e n (codesOf es ++ r)
-      ∙ ap (λ (b : Bool). exprKnown n e && b) (scan-codes es n r)
-      ∙ sym (and-assoc (exprKnown n e) (exprsKnown n es) (scan n 0 r))
+  scan-codes (also e es) n r = scan-then n (codeOf e) (codesOf es) r (exprKnown n e) (exprsKnown n es) (λ q. scan-code e n q) (λ q. scan-codes es n q)
 
 pub scan-whole : (e : Expr) (n : ℕ) → scan n 0 (codeOf e) ≡ exprKnown n e
 unfolding scan

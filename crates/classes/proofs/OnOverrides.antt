@@ -21,6 +21,7 @@ use Rattle.classes.specs.Layout.{layout, Stands, Finds, at, nothing}
 use Rattle.classes.specs.Overriding.{sameFrom, sameAs, sameFound, sameAbove, overridesIn, overridesOf}
 use Rattle.classes.proofs.Zones.{parent-at, method-count-at, owner-at, name-at, param-count-at, line-stands, stands-moved, stands-front, stands-first, stands-rest}
 use Rattle.classes.proofs.MethodLines.{and-assoc}
+use Rattle.classes.proofs.Laws.{parent-row}
 use Rattle.classes.proofs.OnTables.{Owned, lookup-of}
 
 -- ---- bytes that stand at two places
@@ -160,7 +161,7 @@ module _ (t : Table) (parents : ParentsSmaller (t .classes)) (shaped : AllMethod
       let s = shaped-at (t .methods) shaped i d e in
       let l = within-list (t .methods) i d e in
       let p = parent-small (d .owner) (s .owner) in
-      rw (owner-at t i d (omega arith) e, name-at t i d (omega arith) e, parent-at t (d .owner) (s .owner))
+      rw (owner-at t i d (omega arith) e, name-at t i d (omega arith) e, sym (parent-row B (d .owner) (s .owner)) ∙ parent-at t (d .owner) (s .owner))
       (same-found i d e _ _ (lookup-of t parents (shaped-owned (t .methods) shaped) (d .name) (s .name) (parentOf (t .classes) (d .owner)) p))
     where
       parent-small : (c : ℕ) → c ≤ classCount → parentOf (t .classes) c ≤ classCount

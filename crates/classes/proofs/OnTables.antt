@@ -3,36 +3,47 @@ use Prim.Native.Nat.{ℕ, zero, suc, _+_, _-_, _*_, _<_, _≤_}
 use native.Mathlib.Nat.{not-suc-le-zero}
 use native.Mathlib.Omega.{arith}
 use mathlib.Core.Path.{_≡_, refl, sym, ap, _∙_, subst}
-use mathlib.Core.Bool.{Bool, true, false, _&&_}
+use mathlib.Core.Bool.{Bool, true, false, _&&_, _||_}
 use mathlib.Core.List.{List, [], _∷_, _++_}
-use mathlib.Core.Option.{Option, none, some}
+use mathlib.Core.Option.{Option, none, some, Option·none-ne-some}
 use lib.Dec.{eqb, leb, ltb}
 use lib.ListN.{length, getElem?, length-append}
-use borrow.Author.Tests.{le-ltb, le-leb, lt-leb, leb-true, leb-false, ltb-true, ltb-false, ne-eqb}
-use Rattle.cofj.specs.Limits.{classCount, fieldCount}
+use borrow.Author.Tests.{le-ltb, le-leb, lt-leb, eqb-true, leb-true, leb-false, ltb-true, ltb-false, ne-eqb}
+use Rattle.cofj.specs.Limits.{classCount, fieldCount, numberClass}
 use Rattle.cofj.specs.Syntax.{Ty, Class, Method, Table}
-use Rattle.cofj.specs.Classes.{parentOf, classAt, ownOrNone, chainHas, classFits, fieldsTo, fieldsOf, methodOf, lookupTo, lookup}
+use Rattle.cofj.specs.Classes.{parentOr0, parentOf, classAt, ownOrNone, chainHas, classFits, fieldsTo, fieldsOf, methodOf, lookupTo, lookup}
 use Rattle.cofj.specs.WellFormed.{AllMethods, WellFormed, MethodFormed}
-use Rattle.cofj.proofs.Chain.{ParentsSmaller, parent-le}
-use Rattle.cofj.proofs.Climb.{found}
+use Rattle.cofj.proofs.Chain.{ParentsSmaller, parent-le, past-fits}
+use Rattle.cofj.proofs.Climb.{found, fields-past, lookup-past as past-lookup}
 use Rattle.classes.specs.declared.chain.FieldFound.the-variants as field
 use Rattle.classes.specs.declared.methods.Found.{Found}
 use Rattle.classes.specs.declared.methods.Found.the-variants as found-as
-use Rattle.classes.specs.Machine.{pick, up, typeAt, fitsIn, fitsOf, ownField, fieldIn, fieldOf, numbered, ownOf, orElse, lookupIn, lookupOf}
+use Rattle.classes.specs.Machine.{pick, up, totalOf, typeAt, fitsIn, fitsOf, ownField, fieldIn, fieldOf, numbered, ownOf, orElse, lookupIn, lookupOf}
 use Rattle.classes.specs.Layout.{layout, indexFrom, foundType, Finds, at, nothing}
 use Rattle.classes.proofs.Lists.{at-front, at-after, past, within}
-use Rattle.classes.proofs.Laws.{fits-zero}
+use Rattle.classes.proofs.Laws.{parent-row, total-past, total-row, fits-zero, fit-past, field-past, lookup-past}
 use Rattle.classes.proofs.Zones.{parent-at, total-at, own-count-at, own-type-at, index-zone}
 
 -- ---- Object, in the language
 chain-object : (cs : List Class) (n d : ℕ) → chainHas n cs 0 d ≡ eqb 0 d
 unfolding chainHas
 chain-object cs zero d = refl
-chain-object cs (suc n) d = go (eqb 0 d) (chain-object cs n d)
+chain-object cs (suc n) d = go (eqb 0 d)
   where
-    go : (b : Bool) → chainHas n cs 0 d ≡ b → _≡_ {A = Bool} (elim b [ true ↦ true | false ↦ chainHas n cs 0 d ]) b
-    go true e = refl
-    go false e = e
+    go : (b : Bool) → _≡_ {A = Bool} (elim b [ true ↦ true | false ↦ false ]) b
+    go true = refl
+    go false = refl
+
+-- a class of the table, and then its parent
+chain-step : (cs : List Class) (n k d : ℕ) (x : Class) → classAt cs (suc k) ≡ some x → chainHas (suc n) cs (suc k) d ≡ pick (eqb (suc k) d) true (chainHas n cs (parentOf cs (suc k)) d)
+unfolding chainHas
+chain-step cs n k d x e = go (eqb (suc k) d) (classAt cs (suc k)) e
+  where
+    go : (b : Bool) (o : Option Class) → o ≡ some x
+        → _≡_ {A = Bool} (elim b [ true ↦ true | false ↦ elim o [ none ↦ false | some y ↦ chainHas n cs (y .parent) d ] ]) (pick b true (chainHas n cs (parentOr0 o) d))
+    go true o q = refl
+    go false none q = absurd (Option·none-ne-some x q)
+    go false (some y) q = refl
 
 pub fields-object : (cs : List Class) (n : ℕ) → fieldsTo n cs 0 ≡ []
 unfolding fieldsTo
@@ -46,29 +57,44 @@ fields-enough cs s (suc n) zero c p q = let e : c ≡ 0 = omega arith in rw e (f
 fields-enough cs s (suc n) (suc m) c p q =
     ap (λ (l : List Ty). l ++ ownOrNone (classAt cs c)) (fields-enough cs s n m (parentOf cs c) (parent-le cs s c n p) (parent-le cs s c m q))
 
+-- a class of the table, or the class byte of numbers
+abbrev pub Known : Table → ℕ → Type 0
+Known t c = (leb c (length (t .classes)) || eqb c numberClass) ≡ true
+
+pub class-known : (t : Table) (c : ℕ) → c ≤ length (t .classes) → Known t c
+class-known t c h = rw (le-leb c (length (t .classes)) h)
+
 module _ (t : Table) (parents : ParentsSmaller (t .classes)) where
   -- the parent of class k + 1 in bytes
   up-is : (k : ℕ) → suc k ≤ classCount → up (layout t) (suc k) ≡ parentOf (t .classes) (suc k)
-  up-is k h = parent-at t (suc k) h
+  up-is k h = sym (parent-row (layout t) (suc k) h) ∙ parent-at t (suc k) h
 
   -- ---- class fit
-  fit-in : (n c d : ℕ) → c ≤ classCount → fitsIn (layout t) n c d ≡ chainHas n (t .classes) c d
-  unfolding fitsIn chainHas
-  fit-in zero c d h = refl
-  fit-in (suc n) zero d h = fits-zero (layout t) (suc n) d ∙ sym (chain-object (t .classes) (suc n) d)
-  fit-in (suc n) (suc k) d h =
-      rw (up-is k h, lt-leb (suc k) (parentOf (t .classes) (suc k)) (let p = parents k in omega arith))
-      (go (eqb (suc k) d) (fit-in n (parentOf (t .classes) (suc k)) d (let p = parents k in omega arith)))
-    where
-      go : (b : Bool) {x y : Bool} → x ≡ y → pick b true x ≡ (elim b as (λ _. Bool) [ true ↦ true | false ↦ y ])
-      go true e = refl
-      go false e = e
+  module _ (few : length (t .classes) ≤ classCount) where
+    fit-in : (n c d : ℕ) → c ≤ length (t .classes) → fitsIn (layout t) n c d ≡ chainHas n (t .classes) c d
+    unfolding fitsIn chainHas
+    fit-in zero c d h = refl
+    fit-in (suc n) zero d h = fits-zero (layout t) (suc n) d ∙ sym (chain-object (t .classes) (suc n) d)
+    fit-in (suc n) (suc k) d h =
+        let w = within (t .classes) k (omega arith) in
+        let p = parents k in
+        rw (up-is k (omega arith), lt-leb (suc k) (parentOf (t .classes) (suc k)) (omega arith))
+        (ap (λ (x : Bool). pick (eqb (suc k) d) true x) (fit-in n (parentOf (t .classes) (suc k)) d (omega arith)) ∙ sym (chain-step (t .classes) n k d (w .0) (w .1)))
 
 module _ (t : Table) (wf : WellFormed t) where
-  pub fit-on : (c d : ℕ) → c ≤ classCount → fitsOf (layout t) c d ≡ classFits (t .classes) c d
-  fit-on c d h = fit-in t (wf .parents) c c d h
+  pub fit-on : (c d : ℕ) → Known t c → fitsOf (layout t) c d ≡ classFits (t .classes) c d
+  fit-on c d h = go (leb c (length (t .classes))) refl h
+    where
+      go : (b : Bool) → leb c (length (t .classes)) ≡ b → b || eqb c numberClass ≡ true → fitsOf (layout t) c d ≡ classFits (t .classes) c d
+      go true q z = fit-in t (wf .parents) (wf .classes) c c d (leb-true c (length (t .classes)) q)
+      go false q z =
+          let e = eqb-true c numberClass z in
+          fit-past (layout t) c d (omega arith) ∙ sym (past-fits (t .classes) c d (leb-false c (length (t .classes)) q))
 
   -- ---- fields
+  total-row-at : (c : ℕ) → c ≤ classCount → totalOf (layout t) c ≡ length (fieldsOf (t .classes) c)
+  total-row-at c h = sym (total-row (layout t) c h) ∙ total-at t c h
+
   own-few : (c : ℕ) → length (ownOrNone (classAt (t .classes) c)) ≤ fieldCount
   unfolding fieldsTo
   own-few zero = omega arith
@@ -107,7 +133,7 @@ module _ (t : Table) (wf : WellFormed t) where
   field-in (suc n) (suc k) f l h =
       let p = wf .parents k in
       let q = parentOf (t .classes) (suc k) in
-      rw (up-is t (wf .parents) k h, lt-leb (suc k) q (omega arith), total-at t q (omega arith), fields-enough (t .classes) (wf .parents) q n q (omega arith) (omega arith))
+      rw (up-is t (wf .parents) k h, lt-leb (suc k) q (omega arith), total-row-at q (omega arith), fields-enough (t .classes) (wf .parents) q n q (omega arith) (omega arith))
       (go (ltb f (length (fieldsTo n (t .classes) q))) refl (field-in n q f (omega arith) (omega arith)))
     where
       above : List Ty
@@ -121,8 +147,25 @@ module _ (t : Table) (wf : WellFormed t) where
       go true e ih = rw (at-front above own f (ltb-true f (length above) e)) ih
       go false e ih = rw (at-after above own f (ltb-false f (length above) e)) (own-field (suc k) (f - length above) h)
 
-  pub field-on : (c f : ℕ) → c ≤ classCount → fieldOf (layout t) c f ≡ foundType (getElem? (fieldsOf (t .classes) c) f)
-  field-on c f h = field-in c c f (omega arith) h
+  -- a class byte past the rows has no fields
+  none-past : (c : ℕ) → classCount < c → fieldsOf (t .classes) c ≡ []
+  none-past c h = let l = wf .classes in fields-past (t .classes) (wf .parents) c (omega arith)
+
+  pub total-on : (c : ℕ) → totalOf (layout t) c ≡ length (fieldsOf (t .classes) c)
+  total-on c = go (leb c classCount) refl
+    where
+      go : (b : Bool) → leb c classCount ≡ b → totalOf (layout t) c ≡ length (fieldsOf (t .classes) c)
+      go true q = total-row-at c (leb-true c classCount q)
+      go false q = let h = leb-false c classCount q in sym (total-past (layout t) c h) ∙ ap length (sym (none-past c h))
+
+  pub field-on : (c f : ℕ) → fieldOf (layout t) c f ≡ foundType (getElem? (fieldsOf (t .classes) c) f)
+  field-on c f = go (leb c classCount) refl
+    where
+      go : (b : Bool) → leb c classCount ≡ b → fieldOf (layout t) c f ≡ foundType (getElem? (fieldsOf (t .classes) c) f)
+      go true q = field-in c c f (omega arith) (leb-true c classCount q)
+      go false q =
+          let h = leb-false c classCount q in
+          field-past (layout t) c f h ∙ ap (λ (us : List Ty). foundType (getElem? us f)) (sym (none-past c h))
 
 -- ---- methods
 -- what the index says of a list of methods that stands in all of them from number k on
@@ -193,5 +236,12 @@ owned-of : (P : Method → Type 0) (ds : List Method) → ((d : Method) → P d 
 owned-of P [] h a = tt
 owned-of P (d ∷ ds) h a = (h d (a .0), owned-of P ds h (a .1))
 
-pub lookup-on : (t : Table) → WellFormed t → (m : ℕ) → m < 256 → (c : ℕ) → c ≤ classCount → Finds (t .methods) (lookupOf (layout t) c m) (lookup t c m)
-lookup-on t wf m small c h = lookup-of t (wf .parents) (owned-of (MethodFormed t) (t .methods) (λ d f. f .owned) (wf .methods)) m small c h
+pub lookup-on : (t : Table) → WellFormed t → (m : ℕ) → m < 256 → (c : ℕ) → Finds (t .methods) (lookupOf (layout t) c m) (lookup t c m)
+lookup-on t wf m small c = go (leb c classCount) refl
+  where
+    go : (b : Bool) → leb c classCount ≡ b → Finds (t .methods) (lookupOf (layout t) c m) (lookup t c m)
+    go true q = lookup-of t (wf .parents) (owned-of (MethodFormed t) (t .methods) (λ d f. f .owned) (wf .methods)) m small c (leb-true c classCount q)
+    go false q =
+        let h = leb-false c classCount q in
+        let l = wf .classes in
+        rw (lookup-past (layout t) c m h, past-lookup t wf c m (omega arith)) nothing

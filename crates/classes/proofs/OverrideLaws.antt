@@ -10,7 +10,7 @@ use lib.ListN.{getD}
 use borrow.Author.Tests.{eq-eqb, ne-eqb}
 use Rattle.classes.specs.declared.methods.Found.{Found}
 use Rattle.classes.specs.declared.methods.Found.the-variants as found
-use Rattle.classes.specs.Machine.{lookupOf, rowOf}
+use Rattle.classes.specs.Machine.{up, lookupOf, rowOf}
 use Rattle.classes.specs.Overriding.{sameFrom, sameAs, sameFound, sameAbove, overridesIn, overridesOf}
 use Rattle.classes.specs.Made.{Overrides}
 use Rattle.classes.proofs.FromText.{overrides-tested}
@@ -39,7 +39,7 @@ pub same-as : (B : List ℕ) (i j w : ℕ) (r : Bool) → w ≡ getD B (8976 + 2
 unfolding sameAs
 same-as B i j w r ew er = rw (← ew) er
 
-module _ (B : List ℕ) (i o p m : ℕ) (f : Found) (eo : o ≡ getD B (rowOf i + 1) 0) (ep : p ≡ getD B (16 * o) 0) (em : m ≡ getD B (rowOf i + 2) 0)
+module _ (B : List ℕ) (i o p m : ℕ) (f : Found) (eo : o ≡ getD B (rowOf i + 1) 0) (ep : p ≡ up B o) (em : m ≡ getD B (rowOf i + 2) 0)
     (ef : f ≡ lookupOf B p m) where
   found-is : sameAbove B i ≡ sameFound B i f
   unfolding sameAbove

@@ -13,7 +13,7 @@ use Rattle.cofj.specs.Typing.{closedTag}
 use Rattle.classes.specs.declared.methods.Found.{Found}
 use Rattle.classes.specs.declared.methods.Found.the-variants as found
 use Rattle.classes.specs.Machine.{Wide, pick, ownOf}
-use Rattle.classes.specs.Placing.{goodTypes, scan, headGood, methodGood, placed, above, classGood, classPut, classPlaced, indexPut, methodPut, methodFree, methodPlaced, inputFits, mainPut, mainPlaced}
+use Rattle.classes.specs.Placing.{knownClass, goodTypes, scan, headGood, methodGood, placed, above, classGood, classPut, classPlaced, indexPut, methodPut, methodFree, methodPlaced, inputFits, mainPut, mainPlaced}
 use Rattle.classes.specs.Layout.{aheadOf}
 use Rattle.classes.proofs.LineLaws.{more, no-more, not-true, not-false}
 
@@ -107,7 +107,7 @@ both true true true true true true g s = refl
 good-both : (n : ℕ) (l : List ℕ) → methodGood n l ≡ headGood n l && scan n 0 (drop (8 + 2 * getD l 7 0) l)
 unfolding methodGood headGood
 good-both n l =
-    both (leb 8 (length l)) (leb 1 (getD l 1 0)) (leb (getD l 1 0) n) (leb (getD l 3 0) n) (leb (getD l 5 0) n) (closedTag (getD l 4 0))
+    both (leb 8 (length l)) (leb 1 (getD l 1 0)) (leb (getD l 1 0) n) (knownClass n (getD l 3 0)) (knownClass n (getD l 5 0)) (closedTag (getD l 4 0))
     (goodTypes n (getD l 7 0) (drop 8 l)) (scan n 0 (drop (8 + 2 * getD l 7 0) l))
 
 module _ (l B : List ℕ) (i b n : ℕ) where

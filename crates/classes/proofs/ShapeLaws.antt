@@ -7,12 +7,13 @@ use native.Mathlib.Omega.{arith}
 use lib.ListN.{getD}
 use lib.Dec.{eqb, ltb}
 use borrow.Author.Tests.{ne-eqb, lt-ltb, le-ltb, eqb-true, ltb-true}
-use Rattle.lineform.specs.Signs.{thisSign, resSign, parameterSign, fieldSign, callSign, newSign, signRow, signSize}
+use Rattle.lineform.specs.Signs.{thisSign, resSign, parameterSign, fieldSign, callSign, newSign, numberSign, sumSign, differenceSign, chooseSign, signRow, signSize}
 use Rattle.lineform.proofs.SignLaws.{size-short}
 use Rattle.classes.specs.Machine.{pick}
 use Rattle.classes.specs.Figures.{tableSize}
+use Rattle.classes.specs.declared.shape.Operation.the-variants.{Sum, Difference}
 use Rattle.classes.specs.declared.shape.Shape.{Shape}
-use Rattle.classes.specs.declared.shape.Shape.the-variants.{This, Result, Parameter, Field, Call, New, Nothing}
+use Rattle.classes.specs.declared.shape.Shape.the-variants.{This, Result, Parameter, Field, Call, New, Number, Combine, Choose, Nothing}
 use Rattle.classes.specs.Shapes.{byteIn, shapeBy, shapeOf, shapeAt, isField}
 
 module _ (B : List ℕ) (at : ℕ) where
@@ -42,8 +43,21 @@ module _ (b k n at next : ℕ) (en : next ≡ at + signSize b) where
   pub shape-new : b ≡ newSign → New k n next ≡ shapeOf b k n at
   shape-new e = rw (en, e)
 
-pub shape-none : (b k n at : ℕ) → (b ≡ thisSign → ⊥) → (b ≡ resSign → ⊥) → (b ≡ parameterSign → ⊥) → (b ≡ fieldSign → ⊥) → (b ≡ callSign → ⊥) → (b ≡ newSign → ⊥) → Nothing ≡ shapeOf b k n at
-shape-none b k n at p q r s t u = rw (ne-eqb _ _ p, ne-eqb _ _ q, ne-eqb _ _ r, ne-eqb _ _ s, ne-eqb _ _ t, ne-eqb _ _ u)
+  pub shape-number : b ≡ numberSign → Number k n next ≡ shapeOf b k n at
+  shape-number e = rw (en, e)
+
+  pub shape-sum : b ≡ sumSign → Combine Sum next ≡ shapeOf b k n at
+  shape-sum e = rw (en, e)
+
+  pub shape-difference : b ≡ differenceSign → Combine Difference next ≡ shapeOf b k n at
+  shape-difference e = rw (en, e)
+
+  pub shape-choose : b ≡ chooseSign → Choose next ≡ shapeOf b k n at
+  shape-choose e = rw (en, e)
+
+pub shape-none : (b k n at : ℕ) → (b ≡ thisSign → ⊥) → (b ≡ resSign → ⊥) → (b ≡ parameterSign → ⊥) → (b ≡ fieldSign → ⊥) → (b ≡ callSign → ⊥) → (b ≡ newSign → ⊥) → (b ≡ numberSign → ⊥) → (b ≡ sumSign → ⊥) → (b ≡ differenceSign → ⊥) → (b ≡ chooseSign → ⊥) → Nothing ≡ shapeOf b k n at
+shape-none b k n at p q r s t u v w x y =
+    rw (ne-eqb _ _ p, ne-eqb _ _ q, ne-eqb _ _ r, ne-eqb _ _ s, ne-eqb _ _ t, ne-eqb _ _ u, ne-eqb _ _ v, ne-eqb _ _ w, ne-eqb _ _ x, ne-eqb _ _ y)
 
 -- ---- by the place
 module _ (B : List ℕ) (at : ℕ) where
@@ -68,6 +82,9 @@ Next P (Parameter k next) = P next
 Next P (Field f next) = P next
 Next P (Call m n next) = P next
 Next P (New c n next) = P next
+Next P (Number k n next) = P next
+Next P (Combine o next) = P next
+Next P (Choose next) = P next
 Next P Nothing = Unit {0}
 
 module _ (P : ℕ → Type 0) where
@@ -82,7 +99,11 @@ module _ (P : ℕ → Type 0) where
       (either (eqb b parameterSign) (Parameter k next) _ p
       (either (eqb b fieldSign) (Field k next) _ p
       (either (eqb b callSign) (Call k n next) _ p
-      (either (eqb b newSign) (New k n next) Nothing p tt)))))
+      (either (eqb b newSign) (New k n next) _ p
+      (either (eqb b numberSign) (Number k n next) _ p
+      (either (eqb b sumSign) (Combine Sum next) _ p
+      (either (eqb b differenceSign) (Combine Difference next) _ p
+      (either (eqb b chooseSign) (Choose next) Nothing p tt)))))))))
 
   pub shape-next : (B : List ℕ) (at : ℕ) → ((k : ℕ) → at < tableSize → k ≤ 3 → P (at + k)) → Next P (shapeAt B at)
   unfolding shapeAt

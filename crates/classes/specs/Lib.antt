@@ -2,6 +2,7 @@ pub mod Figures
 pub mod Machine
 pub mod Layout
 pub mod Shapes
+pub mod Skipping
 pub mod Placing
 pub mod Building
 pub mod Overriding

@@ -23,9 +23,12 @@ abbrev pub pick : {A : Type 0} → Bool → A → A → A
 pick true a b = a
 pick false a b = b
 
--- the parent of class c
-abbrev pub up : List ℕ → ℕ → ℕ
-up B c = getD B (rowSize * c) 0
+-- the parent of class c, and how many fields it has in all; a class byte that has no row is its own parent and has none
+unfoldable pub up : List ℕ → ℕ → ℕ
+up B c = pick (ltb classCount c) c (getD B (rowSize * c) 0)
+
+unfoldable pub totalOf : List ℕ → ℕ → ℕ
+totalOf B c = pick (ltb classCount c) 0 (getD B (rowSize * c + 1) 0)
 
 -- d is c or stands above c, at most n steps up
 unfoldable pub fitsIn : List ℕ → ℕ → ℕ → ℕ → Bool
@@ -53,7 +56,7 @@ unfoldable pub fieldIn : List ℕ → ℕ → ℕ → ℕ → FieldFound
 fieldIn B zero c f = field.Nothing
 fieldIn B (suc n) c f =
     pick (leb c (up B c)) field.Nothing
-    (pick (ltb f (getD B (rowSize * up B c + 1) 0)) (fieldIn B n (up B c) f) (ownField B c (f - getD B (rowSize * up B c + 1) 0)))
+    (pick (ltb f (totalOf B (up B c))) (fieldIn B n (up B c) f) (ownField B c (f - totalOf B (up B c))))
 
 abbrev pub fieldOf : List ℕ → ℕ → ℕ → FieldFound
 fieldOf B c f = fieldIn B c c f

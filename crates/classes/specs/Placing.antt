@@ -1,26 +1,30 @@
 -- What the functions that build a table make of a line's bytes and of the table's bytes, at the functions' own grain.
 -- Not here: that this is the language's `table` on the lines of a text (proofs/Building).
 use Prim.Native.Nat.{ℕ, zero, suc, _+_, _-_, _*_}
-use mathlib.Core.Bool.{Bool, true, false, not, _&&_}
+use mathlib.Core.Bool.{Bool, true, false, not, _&&_, _||_}
 use mathlib.Core.List.{List, [], _∷_}
 use lib.Dec.{eqb, leb, ltb}
 use lib.ListN.{length, getD, drop, set}
 use lib.Seq.{sets}
 use Rattle.cofj.specs.Typing.{closedTag}
-use Rattle.cofj.specs.Limits.{classCount, fieldCount}
+use Rattle.cofj.specs.Limits.{classCount, fieldCount, numberClass}
 use Rattle.lineform.specs.Signs.{newSign, signSize}
 use Rattle.classes.specs.Figures.{rowSize, longSize, indexAt, methodsAt, mainAt, lastByte}
 use Rattle.classes.specs.declared.methods.Found.{Found}
 use Rattle.classes.specs.declared.methods.Found.the-variants as found
-use Rattle.classes.specs.Machine.{pick, ownOf}
+use Rattle.classes.specs.Machine.{pick, totalOf, ownOf}
 use Rattle.classes.specs.Layout.{aheadOf}
 
--- the first k types of the bytes have classes up to n and closed tags
+-- a class up to n, or the class byte of numbers
+abbrev pub knownClass : ℕ → ℕ → Bool
+knownClass n c = leb c n || eqb c numberClass
+
+-- the first k types of the bytes have known classes and closed tags
 unfoldable pub goodTypes : ℕ → ℕ → List ℕ → Bool
 goodTypes n zero bs = true
 goodTypes n (suc k) [] = false
 goodTypes n (suc k) (c ∷ []) = false
-goodTypes n (suc k) (c ∷ (g ∷ bs)) = leb c n && closedTag g && goodTypes n k bs
+goodTypes n (suc k) (c ∷ (g ∷ bs)) = knownClass n c && closedTag g && goodTypes n k bs
 
 -- the class that a new object names
 abbrev pub newKnown : ℕ → List ℕ → Bool
@@ -49,12 +53,12 @@ noneAbove n s at (suc k) = noneAbove n s at k && not (namesAbove n (getD s (at +
 -- a method's line without its expressions
 unfoldable pub headGood : ℕ → List ℕ → Bool
 headGood n l =
-    leb 8 (length l) && leb 1 (getD l 1 0) && leb (getD l 1 0) n && leb (getD l 3 0) n && leb (getD l 5 0) n && closedTag (getD l 4 0)
+    leb 8 (length l) && leb 1 (getD l 1 0) && leb (getD l 1 0) n && knownClass n (getD l 3 0) && knownClass n (getD l 5 0) && closedTag (getD l 4 0)
     && goodTypes n (getD l 7 0) (drop 8 l)
 
 unfoldable pub methodGood : ℕ → List ℕ → Bool
 methodGood n l =
-    leb 8 (length l) && leb 1 (getD l 1 0) && leb (getD l 1 0) n && leb (getD l 3 0) n && leb (getD l 5 0) n && closedTag (getD l 4 0)
+    leb 8 (length l) && leb 1 (getD l 1 0) && leb (getD l 1 0) n && knownClass n (getD l 3 0) && knownClass n (getD l 5 0) && closedTag (getD l 4 0)
     && goodTypes n (getD l 7 0) (drop 8 l) && scan n 0 (drop (8 + 2 * getD l 7 0) l)
 
 -- ---- one line into the table: the answer, and the table's bytes after it
@@ -63,7 +67,7 @@ pub data Placed : Type 0 where
 
 -- all fields of a class whose parent is p
 abbrev pub above : List ℕ → List ℕ → ℕ
-above l B = getD B (rowSize * getD l 2 0 + 1) 0
+above l B = totalOf B (getD l 2 0)
 
 unfoldable pub classGood : List ℕ → ℕ → ℕ → List ℕ → Bool
 classGood l k n B =

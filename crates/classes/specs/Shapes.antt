@@ -4,11 +4,19 @@ use mathlib.Core.Bool.{Bool, false}
 use Prim.Native.Nat.{ℕ, _+_, _-_}
 use lib.ListN.{getD}
 use lib.Dec.{eqb, ltb}
-use Rattle.lineform.specs.Signs.{thisSign, resSign, parameterSign, fieldSign, callSign, newSign, signSize}
+use Rattle.cofj.specs.Syntax as cofj
+use Rattle.lineform.specs.Signs.{thisSign, resSign, parameterSign, fieldSign, callSign, newSign, numberSign, sumSign, differenceSign, chooseSign, signSize}
 use Rattle.classes.specs.Machine.{pick}
 use Rattle.classes.specs.Figures.{tableSize}
+use Rattle.classes.specs.declared.shape.Operation.{Operation}
+use Rattle.classes.specs.declared.shape.Operation.the-variants.{Sum, Difference}
 use Rattle.classes.specs.declared.shape.Shape.{Shape}
-use Rattle.classes.specs.declared.shape.Shape.the-variants.{This, Result, Parameter, Field, Call, New, Nothing}
+use Rattle.classes.specs.declared.shape.Shape.the-variants.{This, Result, Parameter, Field, Call, New, Number, Combine, Choose, Nothing}
+
+-- what is done with two numbers, in the language
+abbrev pub operationOf : Operation → cofj.Operation
+operationOf Sum = cofj.sum
+operationOf Difference = cofj.difference
 
 -- the byte at a place, 0 past the end
 abbrev pub byteIn : List ℕ → ℕ → ℕ
@@ -23,7 +31,11 @@ shapeBy b k n next =
     (pick (eqb b fieldSign) (Field k next)
     (pick (eqb b callSign) (Call k n next)
     (pick (eqb b newSign) (New k n next)
-    Nothing)))))
+    (pick (eqb b numberSign) (Number k n next)
+    (pick (eqb b sumSign) (Combine Sum next)
+    (pick (eqb b differenceSign) (Combine Difference next)
+    (pick (eqb b chooseSign) (Choose next)
+    Nothing)))))))))
 
 -- an expression at `at` whose first three bytes are b, k and n
 abbrev pub shapeOf : ℕ → ℕ → ℕ → ℕ → Shape

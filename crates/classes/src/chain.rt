@@ -1,12 +1,11 @@
 // Class fit and the fields of a class: each goes to the parent, whose number is smaller.
-// A parent that is not smaller ends the chain: no table that is read has one (proofs/OnTables).
+// A parent that is not smaller ends the chain: no class of a table that is read has one (proofs/OnTables). A class byte that has no row, as that of
+// numbers, is its own parent and has no fields.
+use crate::places::CLASSES;
 use crate::places::ROW;
 use crate::places::SIZE;
 ghost use mathlib.Core.Path.{_≡_};
-ghost use Prim.Native.Nat.{ℕ, _+_, _*_};
-ghost use lib.ListN.{getD};
-ghost use Rattle.classes.specs.Figures.{rowSize};
-ghost use Rattle.classes.specs.Machine.{Stored, fitsOf, fieldOf, ownField};
+ghost use Rattle.classes.specs.Machine.{Stored, up, totalOf, fitsOf, fieldOf, ownField};
 
 // A type: a class number and a tag.
 pub struct FieldType {
@@ -21,8 +20,11 @@ pub enum FieldFound {
 
 // The parent of class c.
 pub(crate) fn parent(t: &[u8; SIZE], c: u8) -> u8
-    ensures { λ r. ⌜ r ≡ getD (now (t .entry)) (rowSize * c) 0 ⌝ }
+    ensures { λ r. ⌜ r ≡ up (now (t .entry)) c ⌝ }
 {
+    if CLASSES < c {
+        return c;
+    }
     t[ROW * (c as usize)]
 }
 
@@ -33,7 +35,7 @@ pub fn fit(t: &[u8; SIZE], c: u8, d: u8) -> bool
     if c == d {
         return true;
     }
-    let p = t[ROW * (c as usize)];
+    let p = parent(t, c);
     if c <= p {
         return false;
     }
@@ -42,8 +44,11 @@ pub fn fit(t: &[u8; SIZE], c: u8, d: u8) -> bool
 
 // The number of all fields of class c, inherited ones included.
 pub fn field_total(t: &[u8; SIZE], c: u8) -> u8
-    ensures { λ r. ⌜ r ≡ getD (now (t .entry)) (rowSize * c + 1) 0 ⌝ }
+    ensures { λ r. ⌜ r ≡ totalOf (now (t .entry)) c ⌝ }
 {
+    if CLASSES < c {
+        return 0;
+    }
     t[ROW * (c as usize) + 1]
 }
 
@@ -62,7 +67,7 @@ pub(crate) fn own_place(t: &[u8; SIZE], c: u8, j: u8) -> usize
 pub(crate) fn field_place(t: &[u8; SIZE], c: u8, f: u8) -> usize
     ensures { λ r. ⌜ Stored (now (t .entry)) r (fieldOf (now (t .entry)) c f) ⌝ }
 {
-    let p = t[ROW * (c as usize)];
+    let p = parent(t, c);
     if c <= p {
         return 0;
     }

@@ -1,13 +1,15 @@
-// Tests of a line's bytes against the number of classes n: types that are known and closed, expressions whose classes are known.
+// Tests of a line's bytes against the number of classes n: types that are known and closed, expressions whose classes are known. A number's class is
+// known where the type of a field, a parameter or a result stands.
 // Not here: that the line is a frame (lineform), which every line is that gets here.
+use crate::places::NUMBER_CLASS;
 use lineform::sign::NEW;
 use lineform::sign::sign_row;
 ghost use mathlib.Core.Path.{_≡_};
-ghost use Prim.Native.Nat.{ℕ, _≤_, _<_, _+_, _-_};
+ghost use Prim.Native.Nat.{_≤_, _<_, _+_, _-_};
 ghost use lib.ListN.{length, drop};
 ghost use Rattle.cofj.specs.Limits.{lineSize};
 ghost use Rattle.cofj.specs.Typing.{closedTag};
-ghost use Rattle.classes.specs.Placing.{goodTypes, namesKnown, scan, namesAbove, noneAbove, headGood};
+ghost use Rattle.classes.specs.Placing.{knownClass, goodTypes, namesKnown, scan, namesAbove, noneAbove, headGood};
 
 // How many bytes are tested at once.
 const BLOCK: usize = 16;
@@ -20,6 +22,16 @@ pub(crate) fn closed(g: u8) -> bool
         return true;
     }
     g == 3
+}
+
+// Whether c is one of the n classes, or the class byte of numbers.
+fn class_known(c: u8, n: u8) -> bool
+    ensures { λ r. ⌜ r ≡ knownClass n c ⌝ }
+{
+    if c <= n {
+        return true;
+    }
+    c == NUMBER_CLASS
 }
 
 // Whether the k types from `at` on have known classes and closed tags.
@@ -36,7 +48,7 @@ pub(crate) fn types_good(s: &[u8], at: usize, k: u8, n: u8) -> bool
     if s.len() <= a {
         return false;
     }
-    if n < s[at] {
+    if !class_known(s[at], n) {
         return false;
     }
     if !closed(s[a]) {
@@ -158,10 +170,10 @@ pub(crate) fn head_good(s: &[u8], n: u8) -> bool
     if n < s[1] {
         return false;
     }
-    if n < s[3] {
+    if !class_known(s[3], n) {
         return false;
     }
-    if n < s[5] {
+    if !class_known(s[5], n) {
         return false;
     }
     if !closed(s[4]) {

@@ -2,16 +2,16 @@
 // Not here: class fit and fields (chain).
 use crate::chain::FieldFound;
 use crate::chain::FieldType;
+use crate::chain::parent;
 use crate::places::CLASSES;
 use crate::places::INDEX;
 use crate::places::LONG;
 use crate::places::MAIN;
 use crate::places::METHODS;
-use crate::places::ROW;
 use crate::places::SIZE;
 use crate::places::wide;
 ghost use mathlib.Core.Path.{_≡_};
-ghost use Prim.Native.Nat.{ℕ, _+_, _*_, _<_};
+ghost use Prim.Native.Nat.{_+_, _*_, _<_};
 ghost use lib.ListN.{getD};
 ghost use Rattle.classes.specs.Machine.{numbered, ownOf, lookupOf, methodWith, rowOf, typeAt, paramOf, leftOf, rightOf, mainPlace, inputType};
 
@@ -50,7 +50,7 @@ pub(crate) fn lookup_number(t: &[u8; SIZE], c: u8, m: u8) -> u8
     if x != 0 {
         return x;
     }
-    let p = t[ROW * (c as usize)];
+    let p = parent(t, c);
     if c <= p {
         return 0;
     }

@@ -112,7 +112,13 @@ pub(crate) fn put_method(l: &[u8], i: u8, right: u8, t: &mut [u8; SIZE])
 }
 
 // Method i, whose right expression stands where `rights` says: the line is good, and its class has no method of its name yet.
-pub fn place_method(l: &[u8], i: u8, rights: &[u8; RIGHTS], n: u8, t: &mut [u8; SIZE]) -> bool
+pub(crate) fn place_method(
+    l: &[u8],
+    i: u8,
+    rights: &[u8; RIGHTS],
+    n: u8,
+    t: &mut [u8; SIZE],
+) -> bool
     requires { ⌜ (length (now l) ≤ lineSize) × (i < methodCount) ⌝ }
     ensures { λ r. ⌜ placed r (now (t .exit)) ≡ methodPlaced (now (l .entry)) i (getD (now (rights .entry)) i 0) n (now (t .entry)) ⌝ }
 {

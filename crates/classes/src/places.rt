@@ -10,6 +10,9 @@ pub const ROW: usize = 16;
 // the last class number that has a row
 pub const CLASSES: u8 = 32;
 
+// the class byte of numbers, which has no row
+pub const NUMBER_CLASS: u8 = 0xFE;
+
 // how many fields a class may have
 pub const FIELDS: u8 = 4;
 

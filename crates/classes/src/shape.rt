@@ -1,10 +1,14 @@
 // What stands at a place of an expression in prefix form. Not here: its type.
 use crate::places::SIZE;
 use lineform::sign::CALL;
+use lineform::sign::CHOOSE;
+use lineform::sign::DIFFERENCE;
 use lineform::sign::FIELD;
 use lineform::sign::NEW;
+use lineform::sign::NUMBER;
 use lineform::sign::PARAMETER;
 use lineform::sign::RES;
+use lineform::sign::SUM;
 use lineform::sign::THIS;
 use lineform::sign::past_sign;
 ghost use mathlib.Core.Path.{_≡_};
@@ -12,7 +16,14 @@ ghost use Prim.Native.Nat.{_<_};
 ghost use Rattle.classes.specs.Figures.{tableSize};
 ghost use Rattle.classes.specs.Shapes.{byteIn, shapeOf, shapeAt, isField};
 
-// An expression's first bytes, and the place after them.
+// What is done with two numbers.
+pub enum Operation {
+    Sum,
+    Difference,
+}
+
+// An expression's first bytes, and the place after them. A number's two stand as they are: put together here, they would be too much for the compiler to take
+// this into the evaluator.
 pub enum Shape {
     This { next: usize },
     Result { next: usize },
@@ -20,6 +31,9 @@ pub enum Shape {
     Field { f: u8, next: usize },
     Call { m: u8, n: u8, next: usize },
     New { c: u8, n: u8, next: usize },
+    Number { k: u8, n: u8, next: usize },
+    Combine { o: Operation, next: usize },
+    Choose { next: usize },
     Nothing,
 }
 
@@ -71,6 +85,30 @@ pub(crate) fn shape_of(b: u8, k: u8, n: u8, at: usize) -> Shape
         return Shape::New {
             c: k,
             n,
+            next: past_sign(b, at),
+        };
+    }
+    if b == NUMBER {
+        return Shape::Number {
+            k,
+            n,
+            next: past_sign(b, at),
+        };
+    }
+    if b == SUM {
+        return Shape::Combine {
+            o: Operation::Sum,
+            next: past_sign(b, at),
+        };
+    }
+    if b == DIFFERENCE {
+        return Shape::Combine {
+            o: Operation::Difference,
+            next: past_sign(b, at),
+        };
+    }
+    if b == CHOOSE {
+        return Shape::Choose {
             next: past_sign(b, at),
         };
     }

@@ -9,7 +9,7 @@ use lib.Dec.{eqb}
 use lib.ListN.{length, getD, getElem?}
 use borrow.Author.Tests.{eqb-true, eq-eqb}
 use Rattle.cofj.specs.Partial.{_>>=_}
-use Rattle.cofj.specs.Values.{Ref, obj, mark, undet, Node, node, eqRef, eqRefs, eqNode, eqNats, placeOf}
+use Rattle.cofj.specs.Values.{Ref, obj, leaf, Leaf, mark, undet, num, Node, node, eqLeaf, eqRef, eqRefs, eqNode, eqNats, placeOf}
 
 module _ {A B : Type 0} where
   pub getD-map-lt : (f : A → B) (l : List A) (i : ℕ) (e : B) (d : A) → i < length l → getD (map f l) i e ≡ f (getD l i d)
@@ -35,21 +35,31 @@ module _ {A : Type 0} where
   at-some (x ∷ xs) (suc f) h = at-some xs f (le-of-suc-le-suc h)
 
 -- ---- the tests say equality
+pub eqLeaf-true : (l m : Leaf) → eqLeaf l m ≡ true → l ≡ m
+eqLeaf-true (mark i) (mark j) h = ap mark (eqb-true i j h)
+eqLeaf-true (mark i) undet h = absurd (false≢true h)
+eqLeaf-true (mark i) (num j) h = absurd (false≢true h)
+eqLeaf-true undet (mark j) h = absurd (false≢true h)
+eqLeaf-true undet undet h = refl
+eqLeaf-true undet (num j) h = absurd (false≢true h)
+eqLeaf-true (num i) (mark j) h = absurd (false≢true h)
+eqLeaf-true (num i) undet h = absurd (false≢true h)
+eqLeaf-true (num i) (num j) h = ap num (eqb-true i j h)
+
+pub eqLeaf-refl : (l : Leaf) → eqLeaf l l ≡ true
+eqLeaf-refl (mark i) = eq-eqb i i refl
+eqLeaf-refl undet = refl
+eqLeaf-refl (num i) = eq-eqb i i refl
+
 pub eqRef-true : (r s : Ref) → eqRef r s ≡ true → r ≡ s
 eqRef-true (obj i) (obj j) h = ap obj (eqb-true i j h)
-eqRef-true (obj i) (mark j) h = absurd (false≢true h)
-eqRef-true (obj i) undet h = absurd (false≢true h)
-eqRef-true (mark i) (obj j) h = absurd (false≢true h)
-eqRef-true (mark i) (mark j) h = ap mark (eqb-true i j h)
-eqRef-true (mark i) undet h = absurd (false≢true h)
-eqRef-true undet (obj j) h = absurd (false≢true h)
-eqRef-true undet (mark j) h = absurd (false≢true h)
-eqRef-true undet undet h = refl
+eqRef-true (obj i) (leaf m) h = absurd (false≢true h)
+eqRef-true (leaf l) (obj j) h = absurd (false≢true h)
+eqRef-true (leaf l) (leaf m) h = ap leaf (eqLeaf-true l m h)
 
 pub eqRef-refl : (r : Ref) → eqRef r r ≡ true
 eqRef-refl (obj i) = eq-eqb i i refl
-eqRef-refl (mark i) = eq-eqb i i refl
-eqRef-refl undet = refl
+eqRef-refl (leaf l) = eqLeaf-refl l
 
 -- the test of two tests in a row
 pub both-true : (b x : Bool) → (elim b as (λ _. Bool) [ true ↦ x | false ↦ false ]) ≡ true → (b ≡ true) × (x ≡ true)

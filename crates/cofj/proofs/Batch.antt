@@ -9,12 +9,12 @@ use mathlib.Core.Option.{Option, none, some, Option·none-ne-some}
 use lib.Dec.{eqb, leb}
 use lib.ListN.{length, getElem?}
 use borrow.Author.Tests.{eqb-true, eq-eqb, leb-true, le-leb}
-use Rattle.cofj.specs.Limits.{partCount}
+use Rattle.cofj.specs.Limits.{partCount, numberClass}
 use Rattle.cofj.specs.Partial.{_>>=_, guard}
 use Rattle.cofj.specs.Text.{within, linesFrom, hexText}
 use Rattle.cofj.specs.Syntax.{Ty, ty, Class, Table}
 use Rattle.cofj.specs.Classes.{fieldsOf}
-use Rattle.cofj.specs.Values.{Ref, obj, mark, undet, Node, node, Graph, graph, nodeAt, refsAt}
+use Rattle.cofj.specs.Values.{Ref, obj, leaf, mark, undet, num, Node, node, Graph, graph, nodeAt, refsAt}
 use Rattle.cofj.specs.Unfolding.{object, follow, SameTree, InRange, Whole}
 use Rattle.cofj.specs.Formed.{AllIn, Formed, Good}
 use Rattle.cofj.specs.Report.{objectLines}
@@ -23,14 +23,16 @@ use Rattle.cofj.specs.WellFormed.{WellFormed}
 use Rattle.cofj.specs.Batch.{partGood, partsGood, partsOf, holds, allHold, objectsHold, valueFits, Input, refused, given, started, fitting, inputOf, ListsParts}
 use Rattle.cofj.proofs.Partial.{and-true, true-and, opt-bind, guard-bind}
 use Rattle.cofj.proofs.Basics.{at-lt, at-some}
-use Rattle.cofj.proofs.TextRound.{within-true, true-within, hex-lines, lines-written}
-use Rattle.cofj.proofs.ReportLines.{RefsIn, length-lines, nodes-in, in-nodes, objects-round, objects-back}
+use Rattle.cofj.proofs.Chain.{fits-self}
+use Rattle.cofj.proofs.TextRound.{within-true, true-within, hex-lines, lines-written, read-bytes}
+use Rattle.cofj.proofs.ReportFields.{RefsIn}
+use Rattle.cofj.proofs.ReportLines.{length-lines, nodes-in, in-nodes, objects-round, objects-back}
 use Rattle.cofj.proofs.Reports.{plain, object-lines}
 use Rattle.cofj.proofs.Canon.{canon-whole}
 use Rattle.cofj.proofs.Unique.{same-canon, canon-canon}
-use Rattle.cofj.proofs.GoodValues.{all-at, all-weaken, formed-default, canon-formed, canon-mark}
+use Rattle.cofj.proofs.GoodValues.{all-at, all-weaken, formed-default, canon-formed, canon-root}
 use Rattle.cofj.proofs.Typed.{under, Typed, Has}
-use Rattle.cofj.proofs.Keeps.{undet-typed}
+use Rattle.cofj.proofs.Keeps.{leaf-typed}
 
 -- ---- 14
 module _ (t : Table) where
@@ -40,7 +42,7 @@ module _ (t : Table) where
       record {
         known = leb-true (n .cls) (length (t .classes)) (a .0);
         count = eqb-true (length (n .refs)) (length (fieldsOf (t .classes) (n .cls))) (a .1);
-        marks = p .closed;
+        leaves = p .closed;
       }
 
   parts-formed : (ns : List Node) → AllIn Plain ns → partsGood (t .classes) ns ≡ true → AllIn (Formed t 0) ns
@@ -67,7 +69,7 @@ module _ (t : Table) where
       let b = guard-bind (within 1 partCount (length ls)) (λ _. objectsFrom (length ls) 0 ls >>= λ ms. guard (partsGood (t .classes) ms) >>= λ _. some ms) ns (a .2) in
       let c = opt-bind (objectsFrom (length ls) 0 ls) (λ ms. guard (partsGood (t .classes) ms) >>= λ _. some ms) ns (b .1) in
       let d = guard-bind (partsGood (t .classes) (c .0)) (λ _. some (c .0)) ns (c .2) in
-      let o = objects-back (length ls) 0 ls (c .0) (c .1) in
+      let o = objects-back (length ls) 0 ls (c .0) (read-bytes s ls (a .1)) (c .1) in
       let n : length (c .0) ≡ length ls = sym (length-lines 0 (c .0)) ∙ ap length (o .2) in
       let l = within-true 1 partCount (length ls) (b .0) in
       let y : some (c .0) ≡ some ns = d .1 in
@@ -179,12 +181,16 @@ module _ (t : Table) (wf : WellFormed t) (v : Graph) (whole : Whole v) (formed :
   held-typed : (n : ℕ) (w : Ty) (g : ℕ) (r : Ref) → w .tag ≤ g → InRange (length (v .nodes)) r → holds (t .classes) (v .nodes) w r ≡ true
       → Typed t [] n (ty (w .cls) g) (follow (v .nodes) r)
   held-typed zero w g r l q h = tt
-  held-typed (suc n) w g (mark k) l q h = absurd (false≢true h)
-  held-typed (suc n) w g undet l q h = undet-typed t wf (suc n) [] (ty (w .cls) g) (v .nodes) (let z = eqb-true (w .tag) 3 h in omega arith)
-  held-typed (suc n) w g (obj i) l q h = ((h, count), λ c k f x e z. field c k f x e z (held-typed n))
+  held-typed (suc n) w g (leaf (mark k)) l q h = absurd (false≢true h)
+  held-typed (suc n) w g (leaf (num k)) l q h = leaf-typed t wf (suc n) [] (ty (w .cls) g) (v .nodes) (num k) (fits-self (t .classes) numberClass (w .cls) (sym (eqb-true (w .cls) numberClass h)))
+  held-typed (suc n) w g (leaf undet) l q h = leaf-typed t wf (suc n) [] (ty (w .cls) g) (v .nodes) undet (let z = eqb-true (w .tag) 3 h in omega arith)
+  held-typed (suc n) w g (obj i) l q h = ((h, count, formed-at .known), λ c k f x e z. field c k f x e z (held-typed n))
     where
+      formed-at : Formed t 0 (nodeAt (v .nodes) i)
+      formed-at = all-at (Formed t 0) (node 0 []) (formed-default t 0) (v .nodes) formed i
+
       count : length (refsAt (v .nodes) i) ≡ length (fieldsOf (t .classes) (nodeAt (v .nodes) i .cls))
-      count = all-at (Formed t 0) (node 0 []) (formed-default t 0) (v .nodes) formed i .count
+      count = formed-at .count
 
       field : (c k f : ℕ) (x : Ty) → follow (v .nodes) (obj i) [] ≡ some (object c k) → getElem? (fieldsOf (t .classes) c) f ≡ some x
           → ((w′ : Ty) (g′ : ℕ) (r′ : Ref) → w′ .tag ≤ g′ → InRange (length (v .nodes)) r′ → holds (t .classes) (v .nodes) w′ r′ ≡ true → Typed t [] n (ty (w′ .cls) g′) (follow (v .nodes) r′))
@@ -212,7 +218,7 @@ module _ (t : Table) (wf : WellFormed t) (objects : ℕ) (u : Ty) (s : List ℕ)
         whole = canon-whole x (l .inside);
         own = canon-canon x (l .inside);
         small = fits-parts objects (t .classes) u (started (g .nodes)) (g .fits) .0;
-        root = canon-mark t 0 x tt;
+        root = canon-root t 0 x tt;
         nodes = canon-formed t 0 x (l .parts);
       })
 

@@ -1,11 +1,11 @@
--- Second texts and what they give, computed: the examples of request 2026-01 as far as the text alone decides them. Not here: whole runs (Cases).
+-- Second texts and what they give, computed: the examples of requests 2026-01 and 2026-02 as far as the text alone decides them. Not here: whole runs (Cases).
 use Prim.Native.Nat.{ℕ}
 use Prim.Native.String.{String}
 use mathlib.Core.Path.{_≡_, refl}
 use mathlib.Core.List.{List, [], _∷_}
-use Rattle.cofj.specs.Limits.{standard}
+use Rattle.cofj.specs.Limits.{standard, numberClass}
 use Rattle.cofj.specs.Syntax.{Ty, ty, Class}
-use Rattle.cofj.specs.Values.{obj, undet, node, graph}
+use Rattle.cofj.specs.Values.{obj, leaf, undet, num, node, graph}
 use Rattle.cofj.specs.Bytes.{bytes}
 use Rattle.cofj.specs.Batch.{Input, refused, given, inputOf}
 
@@ -32,7 +32,7 @@ unfolding inputOf bytes
 cut-in-two = refl
 
 -- ---- FF at a minus place and at a plus place
-minus-place : gives (class 0 (ty 0 3 ∷ []) ∷ []) 1 "05000101FF\n" ≡ given (graph (obj 0) (node 1 (undet ∷ []) ∷ []))
+minus-place : gives (class 0 (ty 0 3 ∷ []) ∷ []) 1 "05000101FF\n" ≡ given (graph (obj 0) (node 1 (leaf undet ∷ []) ∷ []))
 unfolding inputOf bytes
 minus-place = refl
 
@@ -97,3 +97,46 @@ root-fits = refl
 root-above : gives pairs 2 "05000100\n" ≡ refused 15
 unfolding inputOf bytes
 root-above = refl
+
+-- ---- numbers: a field of class FE and a minus place; one without its two bytes; FF, a part at the place of a number; a number elsewhere
+abbrev tallies : List Class
+tallies = class 0 (ty numberClass 0 ∷ ty 1 3 ∷ []) ∷ []
+
+a-number : gives tallies 1 "05000102FE0102FF\n" ≡ given (graph (obj 0) (node 1 (leaf (num 0x0102) ∷ leaf undet ∷ []) ∷ []))
+unfolding inputOf bytes
+a-number = refl
+
+cut-short : gives tallies 1 "05000102FE01FF\n" ≡ refused 14
+unfolding inputOf bytes
+cut-short = refl
+
+no-number : gives tallies 1 "05000102FFFF\n" ≡ refused 15
+unfolding inputOf bytes
+no-number = refl
+
+part-for-number : gives tallies 1 "0500010200FF\n" ≡ refused 15
+unfolding inputOf bytes
+part-for-number = refl
+
+number-for-part : gives tallies 1 "05000102FE0001FE0002\n" ≡ refused 15
+unfolding inputOf bytes
+number-for-part = refl
+
+-- FE as the class of a part
+number-part : gives tallies 1 "0500FE00\n" ≡ refused 14
+unfolding inputOf bytes
+number-part = refl
+
+-- parts that hold different numbers are different
+abbrev doubles : List Class
+doubles = class 0 (ty numberClass 0 ∷ []) ∷ class 0 (ty 1 0 ∷ ty 1 0 ∷ []) ∷ []
+
+equal-numbers : gives doubles 2 "050002020102\n05010101FE0005\n05020101FE0005\n"
+    ≡ given (graph (obj 0) (node 2 (obj 1 ∷ obj 1 ∷ []) ∷ node 1 (leaf (num 5) ∷ []) ∷ []))
+unfolding inputOf bytes
+equal-numbers = refl
+
+other-numbers : gives doubles 2 "050002020102\n05010101FE0005\n05020101FE0006\n"
+    ≡ given (graph (obj 0) (node 2 (obj 1 ∷ obj 2 ∷ []) ∷ node 1 (leaf (num 5) ∷ []) ∷ node 1 (leaf (num 6) ∷ []) ∷ []))
+unfolding inputOf bytes
+other-numbers = refl

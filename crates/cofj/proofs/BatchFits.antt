@@ -9,15 +9,16 @@ use mathlib.Core.Option.{Option, none, some, Option·none-ne-some}
 use lib.Dec.{eqb, leb}
 use lib.ListN.{length, getElem?}
 use borrow.Author.Tests.{eqb-true, eq-eqb, ne-eqb, le-leb}
+use Rattle.cofj.specs.Limits.{numberClass}
 use Rattle.cofj.specs.Partial.{_>>=_}
 use Rattle.cofj.specs.Syntax.{Ty, Class, Table}
 use Rattle.cofj.specs.Classes.{classFits, fieldsOf}
-use Rattle.cofj.specs.Values.{Ref, obj, mark, undet, Node, node, Graph, graph, nodeAt, refsAt, colours, colourOf, isIn}
-use Rattle.cofj.specs.Unfolding.{object, opened, unknown, labelAt, child, follow, Same, InRange, Whole, Reached, top, below}
-use Rattle.cofj.specs.Formed.{AllIn, MarkBelow, Formed}
+use Rattle.cofj.specs.Values.{Ref, obj, leaf, Leaf, mark, undet, num, Node, node, Graph, graph, nodeAt, refsAt, colours, colourOf, isIn}
+use Rattle.cofj.specs.Unfolding.{object, atLeaf, labelAt, child, follow, Same, InRange, Whole, Reached, top, below}
+use Rattle.cofj.specs.Formed.{AllIn, RefBelow, Formed}
 use Rattle.cofj.specs.ReportForm.{upFrom}
 use Rattle.cofj.specs.WellFormed.{WellFormed}
-use Rattle.cofj.specs.Batch.{partsOf, holds, objectsHold, valueFits, Input, refused, given, started, inputOf, ListsParts, PartReached, Apart, Fitting, Gives}
+use Rattle.cofj.specs.Batch.{partsOf, leafHeld, holds, objectsHold, valueFits, Input, refused, given, started, inputOf, ListsParts, PartReached, Apart, Fitting, Gives}
 use Rattle.cofj.proofs.Basics.{eqNats-true}
 use Rattle.cofj.proofs.Partial.{true-and}
 use Rattle.cofj.proofs.Trees.{same-child, same-cls}
@@ -79,18 +80,11 @@ reached-same ns ms root root′ h r (below {r = q} f s d e) =
 
 same-object : (ns ms : List Node) (i : ℕ) (r : Ref) → Same ns (obj i) ms r → (j : ℕ) × (r ≡ obj j)
 same-object ns ms i (obj j) h = (j, refl)
-same-object ns ms i (mark k) h = let e : some (object (nodeAt ns i .cls) (length (refsAt ns i))) ≡ some (opened k) = h [] in absurd (let z : _≡_ {A = ℕ} 0 1 = cc in omega arith)
-same-object ns ms i undet h = let e : some (object (nodeAt ns i .cls) (length (refsAt ns i))) ≡ some unknown = h [] in absurd (let z : _≡_ {A = ℕ} 0 1 = cc in omega arith)
+same-object ns ms i (leaf l) h = let e : some (object (nodeAt ns i .cls) (length (refsAt ns i))) ≡ some (atLeaf l) = h [] in absurd (let z : _≡_ {A = ℕ} 0 1 = cc in omega arith)
 
-same-undet : (ns ms : List Node) (r : Ref) → Same ns undet ms r → r ≡ undet
-same-undet ns ms (obj j) h = let e : some unknown ≡ some (object (nodeAt ms j .cls) (length (refsAt ms j))) = h [] in absurd (let z : _≡_ {A = ℕ} 0 1 = cc in omega arith)
-same-undet ns ms (mark k) h = let e : some unknown ≡ some (opened k) = h [] in absurd (let z : _≡_ {A = ℕ} 0 1 = cc in omega arith)
-same-undet ns ms undet h = refl
-
-same-mark : (ns ms : List Node) (k : ℕ) (r : Ref) → Same ns (mark k) ms r → r ≡ mark k
-same-mark ns ms k (obj j) h = let e : some (opened k) ≡ some (object (nodeAt ms j .cls) (length (refsAt ms j))) = h [] in absurd (let z : _≡_ {A = ℕ} 0 1 = cc in omega arith)
-same-mark ns ms k (mark l) h = let e : some (opened k) ≡ some (opened l) = h [] in cc
-same-mark ns ms k undet h = let e : some (opened k) ≡ some unknown = h [] in absurd (let z : _≡_ {A = ℕ} 0 1 = cc in omega arith)
+same-leaf : (ns ms : List Node) (l : Leaf) (r : Ref) → Same ns (leaf l) ms r → r ≡ leaf l
+same-leaf ns ms l (obj j) h = let e : some (atLeaf l) ≡ some (object (nodeAt ms j .cls) (length (refsAt ms j))) = h [] in absurd (let z : _≡_ {A = ℕ} 0 1 = cc in omega arith)
+same-leaf ns ms l (leaf m) h = let e : some (atLeaf l) ≡ some (atLeaf m) = h [] in cc
 
 same-back : (ns ms : List Node) (r s : Ref) → Same ns r ms s → Same ms s ns r
 same-back ns ms r s h p = sym (h p)
@@ -101,8 +95,7 @@ same-via ns ms ls r s q h k p = h p ∙ k p
 reached-in : (g : Graph) → Whole g → (r : Ref) → Reached (g .nodes) (g .root) r → InRange (length (g .nodes)) r
 reached-in g w r top = w .top
 reached-in g w r (below {r = obj i} f s d e) = w .inner i f r e
-reached-in g w r (below {r = mark k} f s d e) = absurd (Option·none-ne-some r e)
-reached-in g w r (below {r = undet} f s d e) = absurd (Option·none-ne-some r e)
+reached-in g w r (below {r = leaf l} f s d e) = absurd (Option·none-ne-some r e)
 
 -- objects with one class and the same fields unfold to the same tree
 node-same : (ns : List Node) (i j : ℕ) → nodeAt ns i ≡ nodeAt ns j → Same ns (obj i) ns (obj j)
@@ -245,18 +238,23 @@ module _ (ns : List Node) (w : Whole (graph (obj 0) ns)) where
           subst (λ (c : ℕ). classFits cs c (w′ .cls) ≡ true) (sym (same-cls ns (v .nodes) j (b .0) (subst (Same ns (obj j) (v .nodes)) (b .1) h)))
           (subst (λ (x : Ref). holds cs (v .nodes) w′ x ≡ true) (b .1) q)
 
+      -- a leaf that a place of a part holds, the same place of the object holds
+      leaf-held : (i f : ℕ) (w′ : Ty) (l : Leaf) → PartReached ns i → getElem? (fieldsOf cs (nodeAt ns i .cls)) f ≡ some w′ → getElem? (refsAt ns i) f ≡ some (leaf l) → leafHeld w′ l ≡ true
+      leaf-held i f w′ l h p q =
+          let a = held i f w′ (leaf l) h p q in subst (λ (x : Ref). holds cs (v .nodes) w′ x ≡ true) (same-leaf ns (v .nodes) l (a .0) (a .1)) (a .2)
+
       fits-fitting : Fitting objects cs u ns
       fits-fitting =
           record {
             root = class-held 0 u (v .root) unfolds (fits-parts objects cs u v e .1);
             held = λ i f j w′ h p q. let a = held i f w′ (obj j) h p q in class-held j w′ (a .0) (a .1) (a .2);
-            undetermined = λ i f w′ h p q. let a = held i f w′ undet h p q in
-                eqb-true (w′ .tag) 3 (subst (λ (x : Ref). holds cs (v .nodes) w′ x ≡ true) (same-undet ns (v .nodes) (a .0) (a .1)) (a .2));
+            undetermined = λ i f w′ h p q. eqb-true (w′ .tag) 3 (leaf-held i f w′ undet h p q);
+            number = λ i f x w′ h p q. eqb-true (w′ .cls) numberClass (leaf-held i f w′ (num x) h p q);
             few = λ is h a. let m = apart-few is h a in let n = fits-parts objects cs u v e .0 in omega arith;
           }
 
     -- the parts as written fit, and hold no mark: so does the value
-    module _ (closed : (i f x : ℕ) → getElem? (refsAt ns i) f ≡ some (mark x) → ⊥) (h : Fitting objects cs u ns) where
+    module _ (closed : (i f x : ℕ) → getElem? (refsAt ns i) f ≡ some (leaf (mark x)) → ⊥) (h : Fitting objects cs u ns) where
       held-object : (k f : ℕ) (w′ : Ty) (s : Ref) → k < length (v .nodes) → getElem? (fieldsOf cs (nodeAt (v .nodes) k .cls)) f ≡ some w′ → getElem? (refsAt (v .nodes) k) f ≡ some s
           → holds cs (v .nodes) w′ s ≡ true
       held-object k f w′ s l p q = go s (field-back i k (o .2) f s q)
@@ -275,8 +273,12 @@ module _ (ns : List Node) (w : Whole (graph (obj 0) ns)) where
               let b = same-object (v .nodes) ns l′ (a .0) (a .2) in
               subst (λ (c : ℕ). classFits cs c (w′ .cls) ≡ true) (sym (same-cls (v .nodes) ns l′ (b .0) (subst (Same (v .nodes) (obj l′) ns) (b .1) (a .2))))
               (h .held i f (b .0) w′ (o .1) typed (a .1 ∙ ap {B = Option Ref} some (b .1)))
-          go (mark x) a = absurd (closed i f x (a .1 ∙ ap {B = Option Ref} some (same-mark (v .nodes) ns x (a .0) (a .2))))
-          go undet a = eq-eqb (w′ .tag) 3 (h .undetermined i f w′ (o .1) typed (a .1 ∙ ap {B = Option Ref} some (same-undet (v .nodes) ns (a .0) (a .2))))
+          go (leaf l′) a = at-leaf l′ (a .1 ∙ ap {B = Option Ref} some (same-leaf (v .nodes) ns l′ (a .0) (a .2)))
+            where
+              at-leaf : (l′ : Leaf) → getElem? (refsAt ns i) f ≡ some (leaf l′) → leafHeld w′ l′ ≡ true
+              at-leaf (mark x) e = absurd (closed i f x e)
+              at-leaf undet e = eq-eqb (w′ .tag) 3 (h .undetermined i f w′ (o .1) typed e)
+              at-leaf (num x) e = eq-eqb (w′ .cls) numberClass (h .number i f x w′ (o .1) typed e)
 
       root-held : holds cs (v .nodes) u (v .root) ≡ true
       root-held =
@@ -296,9 +298,9 @@ module _ (ns : List Node) (w : Whole (graph (obj 0) ns)) where
 
 -- ---- the answers
 module _ (t : Table) (wf : WellFormed t) (objects : ℕ) (u : Ty) (s : List ℕ) where
-  lists-closed : (ns : List Node) → ListsParts t s ns → (i f x : ℕ) → getElem? (refsAt ns i) f ≡ some (mark x) → ⊥
+  lists-closed : (ns : List Node) → ListsParts t s ns → (i f x : ℕ) → getElem? (refsAt ns i) f ≡ some (leaf (mark x)) → ⊥
   lists-closed ns h i f x e =
-      let y : x < 0 = all-get (MarkBelow 0) (refsAt ns i) (all-at (Formed t 0) (node 0 []) (formed-default t 0) ns (h .parts) i .marks) f (mark x) e in
+      let y : x < 0 = all-get (RefBelow 0) (refsAt ns i) (all-at (Formed t 0) (node 0 []) (formed-default t 0) ns (h .parts) i .leaves) f (leaf (mark x)) e in
       omega arith
 
   -- what the text gives, by the test of 15

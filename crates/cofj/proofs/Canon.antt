@@ -10,7 +10,7 @@ use lib.Dec.{eqb, ltb}
 use lib.ListN.{length, getD, getElem?, length-map, List·getD-eq-default}
 use borrow.Author.Tests.{eqb-true, eq-eqb, ltb-true, ltb-false}
 use Rattle.cofj.specs.Partial.{_>>=_}
-use Rattle.cofj.specs.Values.{Ref, obj, mark, undet, Node, node, Graph, graph, rename, renameNode, nodeAt, refsAt, isIn, placeIn, canon}
+use Rattle.cofj.specs.Values.{Ref, obj, leaf, Node, node, Graph, graph, rename, renameNode, nodeAt, refsAt, isIn, placeIn, canon}
 use Rattle.cofj.specs.Unfolding.{child, follow, SameTree, InRange, Whole}
 use Rattle.cofj.proofs.Basics.{at-map, getD-map-lt}
 use Rattle.cofj.proofs.Trees.{renamed-same}
@@ -42,13 +42,11 @@ getD-isIn (d ∷ s) (suc i) h = go (eqb (getD s i 0) d) (getD-isIn s i (le-of-su
 -- ---- renamings
 pub rename-id : (r : Ref) → rename (λ i. i) r ≡ r
 rename-id (obj i) = refl
-rename-id (mark k) = refl
-rename-id undet = refl
+rename-id (leaf k) = refl
 
 rename-rename : (f h : ℕ → ℕ) (r : Ref) → rename h (rename f r) ≡ rename (λ i. h (f i)) r
 rename-rename f h (obj i) = refl
-rename-rename f h (mark k) = refl
-rename-rename f h undet = refl
+rename-rename f h (leaf k) = refl
 
 map-rename-id : (rs : List Ref) → map (rename (λ i. i)) rs ≡ rs
 map-rename-id [] = refl
@@ -85,22 +83,16 @@ module _ (g : Graph) (w : Whole g) where
 
   covered-colour : (r s : Ref) → rename (colour g w) r ≡ rename (colour g w) s → Covered g w (order g w) r → Covered g w (order g w) s
   covered-colour (obj i) (obj j) e p = subst (λ (c : ℕ). isIn c (order g w) ≡ true) (let z : colour g w i ≡ colour g w j = cc in z) p
-  covered-colour (obj i) (mark k) e p = tt
-  covered-colour (obj i) undet e p = tt
-  covered-colour (mark k) (obj j) e p = let z : _≡_ {A = ℕ} 0 1 = cc in absurd (omega arith)
-  covered-colour (mark k) (mark l) e p = tt
-  covered-colour (mark k) undet e p = tt
-  covered-colour undet (obj j) e p = let z : _≡_ {A = ℕ} 0 1 = cc in absurd (omega arith)
-  covered-colour undet (mark l) e p = tt
-  covered-colour undet undet e p = tt
+  covered-colour (obj i) (leaf k) e p = tt
+  covered-colour (leaf k) (obj j) e p = let z : _≡_ {A = ℕ} 0 1 = cc in absurd (omega arith)
+  covered-colour (leaf k) (leaf l) e p = tt
 
   abbrev pub Met : Ref → Type 0
   Met r = Covered g w (order g w) r × InRange (length (g .nodes)) r
 
   -- the fields of an object that is met are met
   met-child : (r : Ref) → Met r → (k : ℕ) (r′ : Ref) → child (g .nodes) r k ≡ some r′ → Met r′
-  met-child (mark l) p k r′ e = absurd (Option·none-ne-some r′ e)
-  met-child undet p k r′ e = absurd (Option·none-ne-some r′ e)
+  met-child (leaf l) p k r′ e = absurd (Option·none-ne-some r′ e)
   met-child (obj i) p k r′ e = (go (getElem? (refsAt (g .nodes) (colour g w i)) k) refl, w .inner i k r′ e)
     where
       c : ℕ
@@ -142,8 +134,7 @@ module _ (g : Graph) (w : Whole g) where
 
   in-listed : (r : Ref) → Covered g w (order g w) r → InRange (length listed) (rename number r)
   in-listed (obj i) p = subst (λ (n : ℕ). number i < n) (sym (length-map (order g w) _)) (placeIn-spec (colour g w i) (order g w) p .0)
-  in-listed (mark k) p = tt
-  in-listed undet p = tt
+  in-listed (leaf k) p = tt
 
   listed-inner : (i f : ℕ) (r : Ref) → getElem? (refsAt listed i) f ≡ some r → InRange (length listed) r
   listed-inner i f r e = go (ltb i (length (order g w))) refl

@@ -1,5 +1,5 @@
 -- Class fit is transitive; a class below has the fields and the methods, with the same types, of the class that it fits.
-use Prim.Native.Nat.{ℕ, zero, suc, _≤_}
+use Prim.Native.Nat.{ℕ, zero, suc, _≤_, _<_}
 use native.Mathlib.Nat.{not-suc-le-zero}
 use native.Mathlib.Omega.{arith}
 use mathlib.Core.Path.{_≡_, refl, sym, ap, _∙_, subst}
@@ -7,13 +7,13 @@ use mathlib.Core.Bool.{Bool, true, false, _&&_, false≢true}
 use mathlib.Core.List.{List, [], _∷_, _++_}
 use mathlib.Core.Option.{Option, none, some, Option·none-ne-some}
 use lib.Dec.{eqb}
-use lib.ListN.{getElem?}
+use lib.ListN.{length, getElem?}
 use borrow.Author.Tests.{eqb-true, eqb-false}
 use Rattle.cofj.specs.Syntax.{Ty, ty, Class, Method, Table, eqTy, eqTys}
-use Rattle.cofj.specs.Classes.{classFits, chainHas, parentOf, classAt, ownOrNone, fieldsTo, fieldsOf, methodOf, lookupTo, lookup}
+use Rattle.cofj.specs.Classes.{classFits, chainHas, parentOr0, parentOf, classAt, ownOrNone, fieldsTo, fieldsOf, methodOf, lookupTo, lookup}
 use Rattle.cofj.specs.Tables.{sameTypes}
 use Rattle.cofj.specs.WellFormed.{Tags, AllMethods, MethodFormed, WellFormed}
-use Rattle.cofj.proofs.Chain.{ParentsSmaller, parent-le, fits-self, fits-parent}
+use Rattle.cofj.proofs.Chain.{ParentsSmaller, parent-le, class-past, fits-self, fits-above}
 use Rattle.cofj.proofs.Partial.{and-true}
 
 -- ---- tests in a row
@@ -31,34 +31,37 @@ eqTys-true (a ∷ xs) (b ∷ ys) h =
     λ i. eqTy-true a b (p .0) i ∷ eqTys-true xs ys (p .1) i
 
 -- ---- induction up the chain: what holds of d, and of a class when it holds of its parent, holds of every class that fits d
-module _ (cs : List Class) (h : ParentsSmaller cs) (d : ℕ) (P : ℕ → Type 0) (base : P d) (step : (k : ℕ) → P (parentOf cs (suc k)) → P (suc k)) where
-  step′ : (c : ℕ) → P (parentOf cs c) → P c
-  step′ zero p = p
-  step′ (suc k) p = step k p
+module _ (cs : List Class) (h : ParentsSmaller cs) (d : ℕ) (P : ℕ → Type 0) (base : P d)
+    (step : (k : ℕ) (x : Class) → classAt cs (suc k) ≡ some x → P (parentOf cs (suc k)) → P (suc k)) where
+  step′ : (c : ℕ) (x : Class) → classAt cs c ≡ some x → P (parentOf cs c) → P c
+  step′ zero x q p = p
+  step′ (suc k) x q p = step k x q p
 
   climbTo : (n c : ℕ) → c ≤ n → chainHas n cs c d ≡ true → P c
   unfolding chainHas
   climbTo zero c l e = subst P (sym (eqb-true c d e)) base
-  climbTo (suc n) c l e = go (eqb c d) refl e (climbTo n (parentOf cs c) (parent-le cs h c n l))
+  climbTo (suc n) c l e = go (eqb c d) (classAt cs c) refl refl e (climbTo n (parentOf cs c) (parent-le cs h c n l))
     where
-      go : (b : Bool) → eqb c d ≡ b → (elim b as (λ _. Bool) [ true ↦ true | false ↦ chainHas n cs (parentOf cs c) d ]) ≡ true
+      go : (b : Bool) (o : Option Class) → eqb c d ≡ b → classAt cs c ≡ o
+          → (elim b as (λ _. Bool) [ true ↦ true | false ↦ elim o as (λ _. Bool) [ none ↦ false | some k ↦ chainHas n cs (k .parent) d ] ]) ≡ true
           → (chainHas n cs (parentOf cs c) d ≡ true → P (parentOf cs c)) → P c
-      go true q z ih = subst P (sym (eqb-true c d q)) base
-      go false q z ih = step′ c (ih z)
+      go true o q r z ih = subst P (sym (eqb-true c d q)) base
+      go false none q r z ih = absurd (false≢true z)
+      go false (some x) q r z ih = step′ c x r (ih (ap (λ (o : Option Class). chainHas n cs (parentOr0 o) d) r ∙ z))
 
   pub climb : (c : ℕ) → classFits cs c d ≡ true → P c
   climb c e = climbTo c c (omega arith) e
 
 module _ (cs : List Class) (h : ParentsSmaller cs) where
-  pub fits-up : (k e : ℕ) → classFits cs (parentOf cs (suc k)) e ≡ true → classFits cs (suc k) e ≡ true
-  fits-up k e z = go (eqb (suc k) e) refl
+  pub fits-up : (k e : ℕ) (x : Class) → classAt cs (suc k) ≡ some x → classFits cs (parentOf cs (suc k)) e ≡ true → classFits cs (suc k) e ≡ true
+  fits-up k e x r z = go (eqb (suc k) e) refl
     where
       go : (b : Bool) → eqb (suc k) e ≡ b → classFits cs (suc k) e ≡ true
       go true q = fits-self cs (suc k) e (eqb-true (suc k) e q)
-      go false q = fits-parent cs h (suc k) e (λ y. omega arith) (eqb-false (suc k) e q) ∙ z
+      go false q = fits-above cs h k e x r (eqb-false (suc k) e q) ∙ z
 
   pub fits-trans : (c d e : ℕ) → classFits cs c d ≡ true → classFits cs d e ≡ true → classFits cs c e ≡ true
-  fits-trans c d e p q = climb cs h d (λ x. classFits cs x e ≡ true) q (λ k z. fits-up k e z) c p
+  fits-trans c d e p q = climb cs h d (λ x. classFits cs x e ≡ true) q (λ k x r z. fits-up k e x r z) c p
 
   -- ---- fields
   fields-object : (n : ℕ) → fieldsTo n cs 0 ≡ []
@@ -88,7 +91,13 @@ module _ (cs : List Class) (h : ParentsSmaller cs) where
   pub fits-fields : (c d f : ℕ) (w : Ty) → classFits cs c d ≡ true → getElem? (fieldsOf cs d) f ≡ some w → getElem? (fieldsOf cs c) f ≡ some w
   fits-fields c d f w p e =
       climb cs h d (λ x. getElem? (fieldsOf cs x) f ≡ some w) e
-      (λ k z. ap (λ (l : List Ty). getElem? l f) (fields-parent k) ∙ at-left (fieldsOf cs (parentOf cs (suc k))) _ f w z) c p
+      (λ k x q z. ap (λ (l : List Ty). getElem? l f) (fields-parent k) ∙ at-left (fieldsOf cs (parentOf cs (suc k))) _ f w z) c p
+
+  -- a class byte past the table has none
+  pub fields-past : (c : ℕ) → length cs < c → fieldsOf cs c ≡ []
+  unfolding fieldsTo
+  fields-past zero l = refl
+  fields-past (suc k) l = rw (class-past cs (suc k) l, fieldsTo, fields-object k)
 
   tags-append : (xs ys : List Ty) → Tags xs → Tags ys → Tags (xs ++ ys)
   tags-append [] ys a b = b
@@ -153,10 +162,25 @@ module _ (t : Table) (wf : WellFormed t) where
           let f = found (MethodFormed t) (t .methods) (wf .methods) 0 m d q in
           absurd (omega (arith, f .0 .owned, f .1))
 
+  none-past : (c m : ℕ) → length (t .classes) < c → methodOf (t .methods) c m ≡ none
+  none-past c m l = go (methodOf (t .methods) c m) refl
+    where
+      go : (o : Option Method) → methodOf (t .methods) c m ≡ o → o ≡ none
+      go none q = refl
+      go (some d) q =
+          let f = found (MethodFormed t) (t .methods) (wf .methods) c m d q in
+          absurd (omega (arith, f .0 .ownerKnown, f .1))
+
   lookup-object : (n m : ℕ) → lookupTo n t 0 m ≡ none
   unfolding lookupTo
   lookup-object zero m = refl
   lookup-object (suc n) m = rw (none-at-0 m, lookupTo) (lookup-object n m)
+
+  -- nor has a class byte past the table
+  pub lookup-past : (c m : ℕ) → length (t .classes) < c → lookup t c m ≡ none
+  unfolding lookupTo
+  lookup-past zero m l = refl
+  lookup-past (suc k) m l = rw (none-past (suc k) m l, lookupTo, class-past (t .classes) (suc k) l) (lookup-object k m)
 
   lookup-fuel : (n k c m : ℕ) → c ≤ n → c ≤ k → lookupTo n t c m ≡ lookupTo k t c m
   unfolding lookupTo
@@ -193,7 +217,7 @@ module _ (t : Table) (wf : WellFormed t) where
   lookup-fits c c′ m e p z =
       climb (t .classes) (wf .parents) c (λ x. (d : Method) × (lookup t x m ≡ some d) × SameSig d e)
       (e, z, record { first = refl; second = refl; params = refl })
-      (λ k ih. let up = lookup-up k m (ih .0) (ih .1) in (up .0, up .1, trans-sig (up .0) (ih .0) e (up .2) (ih .2))) c′ p
+      (λ k x q ih. let up = lookup-up k m (ih .0) (ih .1) in (up .0, up .1, trans-sig (up .0) (ih .0) e (up .2) (ih .2))) c′ p
 
   -- the method found is one of the table, and its owner is the class or above it
   foundTo : (P : Method → Type 0) → AllMethods P (t .methods) → (n c m : ℕ) (d : Method) → lookupTo n t c m ≡ some d → P d × (classFits (t .classes) c (d .owner) ≡ true)
@@ -201,14 +225,16 @@ module _ (t : Table) (wf : WellFormed t) where
   foundTo P a zero c m d e = absurd (Option·none-ne-some d e)
   foundTo P a (suc n) c m d e = go (methodOf (t .methods) c m) refl e (foundTo P a n (parentOf (t .classes) c) m d)
     where
-      up : (x : ℕ) → classFits (t .classes) (parentOf (t .classes) x) (d .owner) ≡ true → classFits (t .classes) x (d .owner) ≡ true
-      up zero z = z
-      up (suc k) z = fits-up (t .classes) (wf .parents) k (d .owner) z
+      up : (c : ℕ) (o : Option Class) → classAt (t .classes) c ≡ o → lookupTo n t (parentOf (t .classes) c) m ≡ some d
+          → classFits (t .classes) (parentOf (t .classes) c) (d .owner) ≡ true → classFits (t .classes) c (d .owner) ≡ true
+      up zero o q e z = z
+      up (suc k) none q e z = absurd (Option·none-ne-some d (sym (lookup-object n m) ∙ ap (λ (x : ℕ). lookupTo n t x m) (sym (ap parentOr0 q)) ∙ e))
+      up (suc k) (some x) q e z = fits-up (t .classes) (wf .parents) k (d .owner) x q z
 
       go : (o : Option Method) → methodOf (t .methods) c m ≡ o → (elim o as (λ _. Option Method) [ none ↦ lookupTo n t (parentOf (t .classes) c) m | some x ↦ some x ]) ≡ some d
           → (lookupTo n t (parentOf (t .classes) c) m ≡ some d → P d × (classFits (t .classes) (parentOf (t .classes) c) (d .owner) ≡ true))
           → P d × (classFits (t .classes) c (d .owner) ≡ true)
-      go none q z ih = let r = ih z in (r .0, up c (r .1))
+      go none q z ih = let r = ih z in (r .0, up c (classAt (t .classes) c) refl z (r .1))
       go (some x) q z ih =
           let y : methodOf (t .methods) c m ≡ some d = q ∙ z in
           let f = found P (t .methods) a c m d y in

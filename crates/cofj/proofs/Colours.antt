@@ -9,7 +9,7 @@ use mathlib.Core.Option.{some}
 use lib.Dec.{eqb}
 use lib.ListN.{length, getD, getElem?, length-map, List·getD-map}
 use borrow.Author.Tests.{eqb-true, eqb-false}
-use Rattle.cofj.specs.Values.{Ref, obj, mark, undet, Node, node, Graph, rename, renameNode, nodeAt, refsAt, colourOf, refine, refineTo, colours, placeOf, eqNats}
+use Rattle.cofj.specs.Values.{Ref, obj, leaf, Node, node, Graph, rename, renameNode, nodeAt, refsAt, colourOf, refine, refineTo, colours, placeOf, eqNats}
 use Rattle.cofj.specs.Unfolding.{child, Same, InRange, Whole}
 use Rattle.cofj.proofs.Basics.{getD-map-lt, placeOf-spec, eqNats-true}
 use Rattle.cofj.proofs.Trees.{renamed-same, same-look}
@@ -59,14 +59,9 @@ module _ (ns : List Node) (cs : List ℕ) where
 module _ (n : ℕ) (a b : ℕ → ℕ) (coarser : (i j : ℕ) → i < n → j < n → a i ≡ a j → b i ≡ b j) where
   ref-coarser : (r s : Ref) → InRange n r → InRange n s → rename a r ≡ rename a s → rename b r ≡ rename b s
   ref-coarser (obj i) (obj j) p q e = ap obj (coarser i j p q (cc))
-  ref-coarser (obj i) (mark k) p q e = cc
-  ref-coarser (obj i) undet p q e = cc
-  ref-coarser (mark k) (obj j) p q e = cc
-  ref-coarser (mark k) (mark l) p q e = cc
-  ref-coarser (mark k) undet p q e = cc
-  ref-coarser undet (obj j) p q e = cc
-  ref-coarser undet (mark l) p q e = cc
-  ref-coarser undet undet p q e = refl
+  ref-coarser (obj i) (leaf k) p q e = cc
+  ref-coarser (leaf k) (obj j) p q e = cc
+  ref-coarser (leaf k) (leaf l) p q e = cc
 
   pub refs-coarser : (rs ss : List Ref) → ((f : ℕ) (r : Ref) → getElem? rs f ≡ some r → InRange n r) → ((f : ℕ) (r : Ref) → getElem? ss f ≡ some r → InRange n r)
       → map (rename a) rs ≡ map (rename a) ss → map (rename b) rs ≡ map (rename b) ss
@@ -206,8 +201,7 @@ module _ (g : Graph) (w : Whole g) where
 
   in-range-child : (r : Ref) → InRange (length (g .nodes)) r → (k : ℕ) (r′ : Ref) → child (g .nodes) r k ≡ some r′ → InRange (length (g .nodes)) r′
   in-range-child (obj i) p k r′ e = w .inner i k r′ e
-  in-range-child (mark l) p k r′ e = let z : _≡_ {A = ℕ} 0 1 = cc in absurd (omega arith)
-  in-range-child undet p k r′ e = let z : _≡_ {A = ℕ} 0 1 = cc in absurd (omega arith)
+  in-range-child (leaf l) p k r′ e = let z : _≡_ {A = ℕ} 0 1 = cc in absurd (omega arith)
 
   pub colour-same : (i j : ℕ) → i < length (g .nodes) → j < length (g .nodes) → colour i ≡ colour j → Same (g .nodes) (obj i) (g .nodes) (obj j)
   colour-same i j h h′ e p =

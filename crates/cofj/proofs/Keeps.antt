@@ -8,38 +8,33 @@ use mathlib.Core.Option.{Option, none, some, Option·none-ne-some, Option·some-
 use lib.Dec.{eqb, leb}
 use lib.ListN.{length, getElem?, length-map}
 use borrow.Author.Tests.{eqb-false, leb-true}
-use Rattle.cofj.specs.Syntax.{Ty, ty, Table}
+use Rattle.cofj.specs.Limits.{numberClass}
+use Rattle.cofj.specs.Syntax.{Ty, ty, Method, Table}
 use Rattle.cofj.specs.Partial.{_>>=_}
-use Rattle.cofj.specs.Classes.{classFits, fits, fieldsOf}
-use Rattle.cofj.specs.Typing.{closedTag, allFit, narrow}
-use Rattle.cofj.specs.Values.{Ref, obj, mark, undet, Node, Graph, graph, refsAt, canon, select, selected, make, undetermined, markOf}
-use Rattle.cofj.specs.Unfolding.{Label, object, opened, unknown, follow, Whole, InRange, AllWhole}
+use Rattle.cofj.specs.Classes.{classFits, fits, fieldsOf, lookup}
+use Rattle.cofj.specs.Typing.{closedTag, allFit, narrow, numberType}
+use Rattle.cofj.specs.Values.{Ref, obj, leaf, Leaf, mark, undet, num, Node, Graph, graph, refsAt, canon, select, selected, make, leafOf, leafNumber, numberIn}
+use Rattle.cofj.specs.Unfolding.{Label, object, atLeaf, follow, Whole, AllWhole}
 use Rattle.cofj.specs.WellFormed.{WellFormed, Tags}
 use Rattle.cofj.proofs.Chain.{fits-self}
 use Rattle.cofj.proofs.Climb.{fits-fields, field-tag}
+use Rattle.cofj.proofs.Numbers.{number-above, number-below, number-fields, number-lookup}
 use Rattle.cofj.proofs.Canon.{canon-whole}
 use Rattle.cofj.proofs.Operations.{make-top, make-field, make-whole, select-tree, at-ref}
-use Rattle.cofj.proofs.Typed.{tree, under, Ok, OkAt, Typed, AllTyped, Has, Hold, typed-fits, typed-more, typed-closed}
+use Rattle.cofj.proofs.Typed.{tree, under, OkLeaf, OkAt, Typed, AllTyped, Has, Hold, typed-fits, typed-more, typed-closed}
 use Rattle.cofj.proofs.Partial.{and-true}
 
 -- ---- leaves
-pub leaf-whole : (r : Ref) → InRange 0 r → Whole (graph r [])
-leaf-whole r h = record { top = h; inner = λ i f s e. absurd (Option·none-ne-some s e) }
+pub leaf-whole : (l : Leaf) → Whole (leafOf l)
+leaf-whole l = record { top = tt; inner = λ i f s e. absurd (Option·none-ne-some s e) }
 
 module _ (t : Table) (wf : WellFormed t) where
-  pub mark-typed : (n : ℕ) (σ : List ℕ) (u : Ty) (ns : List Node) (k : ℕ) → Ok t σ u (opened k) → Typed t σ n u (follow ns (mark k))
-  mark-typed zero σ u ns k h = tt
-  mark-typed (suc n) σ u ns k h = (h, λ c j f w e z. let y : some (opened k) ≡ some (object c j) = e in absurd (let q : _≡_ {A = ℕ} 0 1 = cc in omega arith))
+  pub leaf-typed : (n : ℕ) (σ : List ℕ) (u : Ty) (ns : List Node) (l : Leaf) → OkLeaf t σ u l → Typed t σ n u (follow ns (leaf l))
+  leaf-typed zero σ u ns l h = tt
+  leaf-typed (suc n) σ u ns l h = (h, λ c j f w e z. let y : some (atLeaf l) ≡ some (object c j) = e in absurd (let q : _≡_ {A = ℕ} 0 1 = cc in omega arith))
 
-  pub undet-typed : (n : ℕ) (σ : List ℕ) (u : Ty) (ns : List Node) → 3 ≤ u .tag → Typed t σ n u (follow ns undet)
-  undet-typed zero σ u ns h = tt
-  undet-typed (suc n) σ u ns h = (h, λ c j f w e z. let y : some unknown ≡ some (object c j) = e in absurd (let q : _≡_ {A = ℕ} 0 1 = cc in omega arith))
-
-  pub has-mark : (σ : List ℕ) (u : Ty) (k : ℕ) → u .tag ≤ 3 → Ok t σ u (opened k) → Has t σ u (markOf k)
-  has-mark σ u k g h = record { whole = leaf-whole (mark k) tt; typed = λ n. mark-typed n σ u [] k h; tag = g }
-
-  pub has-undet : (σ : List ℕ) (u : Ty) → u .tag ≡ 3 → Has t σ u undetermined
-  has-undet σ u h = record { whole = leaf-whole undet tt; typed = λ n. undet-typed n σ u [] (omega arith); tag = omega arith }
+  pub has-leaf : (σ : List ℕ) (u : Ty) (l : Leaf) → u .tag ≤ 3 → OkLeaf t σ u l → Has t σ u (leafOf l)
+  has-leaf σ u l g h = record { whole = leaf-whole l; typed = λ n. leaf-typed n σ u [] l h; tag = g }
 
   -- ---- weakening of values
   pub has-fits : (σ : List ℕ) (u u′ : Ty) (v : Graph) → fits (t .classes) u u′ ≡ true → u′ .tag ≤ 3 → Has t σ u v → Has t σ u′ v
@@ -94,22 +89,43 @@ module _ (t : Table) (wf : WellFormed t) where
   hold-get σ (u ∷ us) (v ∷ vs) h zero w e = (v, refl, subst (λ (x : Ty). Has t σ x v) (let y : u ≡ w = cc in y) (h .0))
   hold-get σ (u ∷ us) (v ∷ vs) h (suc f) w e = hold-get σ us vs (h .1) f w e
 
-  -- ---- the root of a value of tag 0 or 1
-  object-at : (σ : List ℕ) (u : Ty) → u .tag ≤ 1 → (o : Option Label) → OkAt t σ u o → (c : ℕ) × (k : ℕ) × (o ≡ some (object c k)) × (classFits (t .classes) c (u .cls) ≡ true)
-  object-at σ u g none h = absurd h
-  object-at σ u g (some (object c k)) h = (c, k, refl, h .0)
-  object-at σ u g (some (opened k)) h = absurd (omega (arith, h .3))
-  object-at σ u g (some unknown) h = absurd (omega arith)
+  -- ---- the root of a value of tag 0 or 1: an object, or a number where the class is that of numbers
+  object-at : (σ : List ℕ) (u : Ty) → u .tag ≤ 1 → (u .cls ≡ numberClass → ⊥) → (o : Option Label) → OkAt t σ u o
+      → (c : ℕ) × (k : ℕ) × (o ≡ some (object c k)) × (classFits (t .classes) c (u .cls) ≡ true)
+  object-at σ u g x none h = absurd h
+  object-at σ u g x (some (object c k)) h = (c, k, refl, h .0)
+  object-at σ u g x (some (atLeaf (mark k))) h = absurd (omega (arith, h .3))
+  object-at σ u g x (some (atLeaf undet)) h = absurd (omega arith)
+  object-at σ u g x (some (atLeaf (num n))) h = absurd (x (number-above t wf (u .cls) h))
 
-  pub has-object : (σ : List ℕ) (u : Ty) (v : Graph) → u .tag ≤ 1 → Has t σ u v → (c : ℕ) × (k : ℕ) × (tree v [] ≡ some (object c k)) × (classFits (t .classes) c (u .cls) ≡ true)
-  has-object σ u v g h = object-at σ u g (tree v []) (h .typed 1 .0)
+  pub has-object : (σ : List ℕ) (u : Ty) (v : Graph) → u .tag ≤ 1 → (u .cls ≡ numberClass → ⊥) → Has t σ u v
+      → (c : ℕ) × (k : ℕ) × (tree v [] ≡ some (object c k)) × (classFits (t .classes) c (u .cls) ≡ true)
+  has-object σ u v g x h = object-at σ u g x (tree v []) (h .typed 1 .0)
+
+  -- a class with a field or a method is not that of numbers
+  pub has-fields : (c f : ℕ) (w : Ty) → getElem? (fieldsOf (t .classes) c) f ≡ some w → c ≡ numberClass → ⊥
+  has-fields c f w e z =
+      absurd (Option·none-ne-some w (sym (ap (λ (l : List Ty). getElem? l f) (ap (fieldsOf (t .classes)) z ∙ number-fields t wf)) ∙ e))
+
+  pub has-methods : (c m : ℕ) (d : Method) → lookup t c m ≡ some d → c ≡ numberClass → ⊥
+  has-methods c m d e z = absurd (Option·none-ne-some d (sym (ap (λ (k : ℕ). lookup t k m) z ∙ number-lookup t wf m) ∙ e))
+
+  -- a value of the type of numbers is one
+  pub has-number : (σ : List ℕ) (v : Graph) → Has t σ numberType v → (n : ℕ) × (numberIn v ≡ some n)
+  has-number σ v h = go (v .root) (h .typed 1 .0)
+    where
+      go : (r : Ref) → OkAt t σ numberType (follow (v .nodes) r []) → (n : ℕ) × ((elim r as (λ _. Option ℕ) [ obj i ↦ none | leaf l ↦ leafNumber l ]) ≡ some n)
+      go (obj i) ok = let z = number-below t wf _ (ok .0) in absurd (omega (arith, ok .2, wf .classes))
+      go (leaf (mark k)) ok = absurd (omega (arith, ok .3))
+      go (leaf undet) ok = absurd (omega arith)
+      go (leaf (num n)) ok = (n, refl)
 
   -- an object has its own class for a type
   pub has-own : (σ : List ℕ) (u : Ty) (v : Graph) (c k : ℕ) → tree v [] ≡ some (object c k) → Has t σ u v → Has t σ (ty c (u .tag)) v
   has-own σ u v c k e h = record { whole = h .whole; typed = go; tag = h .tag }
     where
       count : OkAt t σ u (some (object c k)) → OkAt t σ (ty c (u .tag)) (some (object c k))
-      count x = (fits-self (t .classes) c c refl, x .1)
+      count x = (fits-self (t .classes) c c refl, x .1, x .2)
 
       go : (n : ℕ) → Typed t σ n (ty c (u .tag)) (tree v)
       go zero = tt
@@ -117,11 +133,11 @@ module _ (t : Table) (wf : WellFormed t) where
           (subst (OkAt t σ (ty c (u .tag))) (sym e) (count (subst (OkAt t σ u) e (h .typed 1 .0))), h .typed (suc n) .1)
 
   -- ---- new
-  make-typed : (σ : List ℕ) (c g : ℕ) (vs : List Graph) → AllWhole vs → length vs ≡ length (fieldsOf (t .classes) c)
+  make-typed : (σ : List ℕ) (c g : ℕ) → c ≤ length (t .classes) → (vs : List Graph) → AllWhole vs → length vs ≡ length (fieldsOf (t .classes) c)
       → ((f : ℕ) (w : Ty) → getElem? (fieldsOf (t .classes) c) f ≡ some w → (v : Graph) × (getElem? vs f ≡ some v) × AllTyped t σ (ty (w .cls) (under g (w .tag))) (tree v))
       → AllTyped t σ (ty c g) (tree (make c vs))
-  make-typed σ c g vs a l h zero = tt
-  make-typed σ c g vs a l h (suc n) = (subst (OkAt t σ (ty c g)) (sym (make-top c vs a)) (fits-self (t .classes) c c refl, l), below)
+  make-typed σ c g kn vs a l h zero = tt
+  make-typed σ c g kn vs a l h (suc n) = (subst (OkAt t σ (ty c g)) (sym (make-top c vs a)) (fits-self (t .classes) c c refl, l, kn), below)
     where
       below : (c′ k f : ℕ) (w : Ty) → tree (make c vs) [] ≡ some (object c′ k) → getElem? (fieldsOf (t .classes) c′) f ≡ some w
           → Typed t σ n (ty (w .cls) (under g (w .tag))) (λ p. tree (make c vs) (f ∷ p))
@@ -132,13 +148,13 @@ module _ (t : Table) (wf : WellFormed t) where
           subst (Typed t σ n (ty (w .cls) (under g (w .tag))))
           (sym (fun-ext (λ p. make-field c vs a f p ∙ ap (λ (o : Option Graph). o >>= (λ v. tree v p)) (r .1)))) (r .2 n)
 
-  pub has-new : (σ : List ℕ) (c : ℕ) (us : List Ty) (vs : List Graph) → Hold t σ us vs → allFit t us (fieldsOf (t .classes) c) ≡ true
+  pub has-new : (σ : List ℕ) (c : ℕ) → c ≤ length (t .classes) → (us : List Ty) (vs : List Graph) → Hold t σ us vs → allFit t us (fieldsOf (t .classes) c) ≡ true
       → Tags (fieldsOf (t .classes) c) → Has t σ (ty c 0) (make c vs)
-  has-new σ c us vs h p g =
+  has-new σ c kn us vs h p g =
       let k = hold-fits σ us (fieldsOf (t .classes) c) vs p g h in
       record {
         whole = make-whole c vs (hold-whole σ us vs h);
-        typed = make-typed σ c 0 vs (hold-whole σ us vs h) (sym (hold-length σ (fieldsOf (t .classes) c) vs k))
+        typed = make-typed σ c 0 kn vs (hold-whole σ us vs h) (sym (hold-length σ (fieldsOf (t .classes) c) vs k))
             (λ f w e. let r = hold-get σ (fieldsOf (t .classes) c) vs k f w e in (r .0, r .1, r .2 .typed));
         tag = zero-le;
       }
@@ -173,12 +189,12 @@ module _ (t : Table) (wf : WellFormed t) where
   hold-open σ (u ∷ us) (x ∷ ws) (v ∷ vs) h p (suc f) w e =
       hold-open σ us ws vs (h .1) (and-true (fits (t .classes) (narrow u) x) (allFit t (map narrow us) ws) p .1) f w e
 
-  pub has-new-open : (σ : List ℕ) (c : ℕ) (us : List Ty) (vs : List Graph) → Hold t σ us vs → allFit t (map narrow us) (fieldsOf (t .classes) c) ≡ true
+  pub has-new-open : (σ : List ℕ) (c : ℕ) → c ≤ length (t .classes) → (us : List Ty) (vs : List Graph) → Hold t σ us vs → allFit t (map narrow us) (fieldsOf (t .classes) c) ≡ true
       → Has t σ (ty c 1) (make c vs)
-  has-new-open σ c us vs h p =
+  has-new-open σ c kn us vs h p =
       record {
         whole = make-whole c vs (hold-whole σ us vs h);
-        typed = make-typed σ c 1 vs (hold-whole σ us vs h)
+        typed = make-typed σ c 1 kn vs (hold-whole σ us vs h)
             (sym (hold-length σ us vs h) ∙ sym (length-map us narrow) ∙ fit-length (map narrow us) (fieldsOf (t .classes) c) p)
             (hold-open σ us (fieldsOf (t .classes) c) vs h p);
         tag = omega arith;
@@ -193,11 +209,10 @@ module _ (t : Table) (wf : WellFormed t) where
       found none z = refl
       found (some s) z = absurd (Option·some-ne-none _ z)
 
-      go : (r : Ref) → _≡_ {A = Option Graph} (elim r [ obj i ↦ selected (v .nodes) (getElem? (refsAt (v .nodes) i) f) | mark k ↦ none | undet ↦ none ]) none
+      go : (r : Ref) → _≡_ {A = Option Graph} (elim r [ obj i ↦ selected (v .nodes) (getElem? (refsAt (v .nodes) i) f) | leaf l ↦ none ]) none
           → follow (v .nodes) r (f ∷ []) ≡ none
       go (obj i) z = found (getElem? (refsAt (v .nodes) i) f) z
-      go (mark k) z = refl
-      go undet z = refl
+      go (leaf l) z = refl
 
   select-whole : (f : ℕ) (v v′ : Graph) → Whole v → select f v ≡ some v′ → Whole v′
   unfolding select
@@ -207,10 +222,9 @@ module _ (t : Table) (wf : WellFormed t) where
       found i none q z = absurd (Option·none-ne-some v′ z)
       found i (some r) q z = subst Whole (let y : canon (graph r (v .nodes)) ≡ v′ = cc in y) (canon-whole (graph r (v .nodes)) (at-ref v h r (h .inner i f r q)))
 
-      go : (r : Ref) → (elim r as (λ _. Option Graph) [ obj i ↦ selected (v .nodes) (getElem? (refsAt (v .nodes) i) f) | mark k ↦ none | undet ↦ none ]) ≡ some v′ → Whole v′
+      go : (r : Ref) → (elim r as (λ _. Option Graph) [ obj i ↦ selected (v .nodes) (getElem? (refsAt (v .nodes) i) f) | leaf l ↦ none ]) ≡ some v′ → Whole v′
       go (obj i) z = found i (getElem? (refsAt (v .nodes) i) f) refl z
-      go (mark k) z = absurd (Option·none-ne-some v′ z)
-      go undet z = absurd (Option·none-ne-some v′ z)
+      go (leaf l) z = absurd (Option·none-ne-some v′ z)
 
   pub has-select : (σ : List ℕ) (c f : ℕ) (w : Ty) (v : Graph) → Has t σ (ty c 0) v → getElem? (fieldsOf (t .classes) c) f ≡ some w
       → (v′ : Graph) × (select f v ≡ some v′) × Has t σ w v′
@@ -218,7 +232,7 @@ module _ (t : Table) (wf : WellFormed t) where
     where
       below : (n : ℕ) → Typed t σ n w (λ p. tree v (f ∷ p))
       below n =
-          let o = has-object σ (ty c 0) v zero-le h in
+          let o = has-object σ (ty c 0) v zero-le (has-fields c f w e) h in
           h .typed (suc n) .1 (o .0) (o .1) f w (o .2) (fits-fields (t .classes) (wf .parents) (o .0) c f w (o .3) e)
 
       go : (o : Option Graph) → select f v ≡ o → (v′ : Graph) × (o ≡ some v′) × Has t σ w v′

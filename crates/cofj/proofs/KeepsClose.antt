@@ -11,14 +11,14 @@ use borrow.Author.Tests.{eqb-true, eqb-false}
 use Rattle.cofj.specs.Syntax.{Ty, ty, Table}
 use Rattle.cofj.specs.Partial.{_>>=_}
 use Rattle.cofj.specs.Classes.{classFits, fieldsOf}
-use Rattle.cofj.specs.Values.{Ref, obj, mark, undet, Node, Graph, graph, close, bind, undetermined, markOf}
-use Rattle.cofj.specs.Unfolding.{object, opened, labelAt, child, follow, Whole, followBound}
+use Rattle.cofj.specs.Values.{Ref, obj, leaf, Leaf, mark, undet, num, Node, Graph, graph, close, bindLeaf, bind}
+use Rattle.cofj.specs.Unfolding.{object, labelAt, child, follow, Whole, followBound}
 use Rattle.cofj.specs.WellFormed.{WellFormed}
 use Rattle.cofj.proofs.Chain.{fits-self}
 use Rattle.cofj.proofs.Canon.{canon-whole}
 use Rattle.cofj.proofs.Operations.{close-tree, bound-whole}
-use Rattle.cofj.proofs.Keeps.{leaf-whole, mark-typed, undet-typed}
-use Rattle.cofj.proofs.Typed.{tree, bound, under, Ok, OkAt, Typed, AllTyped, Has, bound-old, bound-new, typed-fits}
+use Rattle.cofj.proofs.Keeps.{leaf-whole, leaf-typed}
+use Rattle.cofj.proofs.Typed.{tree, bound, under, OkLeaf, OkAt, Typed, AllTyped, Has, bound-old, bound-new, typed-fits}
 
 module _ (t : Table) (wf : WellFormed t) where
   -- below an object the tags 1, 2 and 3 say the same
@@ -31,19 +31,15 @@ bound-as : (x : ℕ) (u : Ref) (ns : List Node) (r s : Ref) → bind x u r ≡ b
 bound-as x u ns r s e [] = ap (λ (z : Ref). some (labelAt ns z)) e
 bound-as x u ns r s e (f ∷ p) = ap (λ (z : Ref). child ns z f >>= λ y. followBound x u ns y p) e
 
-bound-mark : (x : ℕ) (u : Ref) (ns : List Node) (k : ℕ) → bind x u (mark k) ≡ mark k → (p : List ℕ) → followBound x u ns (mark k) p ≡ follow ns (mark k) p
-bound-mark x u ns k e [] = ap (λ (z : Ref). some (labelAt ns z)) e
-bound-mark x u ns k e (f ∷ p) = ap (λ (z : Ref). child ns z f >>= λ y. followBound x u ns y p) e
+bound-leaf : (x : ℕ) (u : Ref) (ns : List Node) (l : Leaf) → bindLeaf x u l ≡ leaf l → (p : List ℕ) → followBound x u ns (leaf l) p ≡ follow ns (leaf l) p
+bound-leaf x u ns l e [] = ap (λ (z : Ref). some (labelAt ns z)) e
+bound-leaf x u ns l e (f ∷ p) = ap (λ (z : Ref). child ns z f >>= λ y. followBound x u ns y p) e
 
-bound-undet : (x : ℕ) (u : Ref) (ns : List Node) (p : List ℕ) → followBound x u ns undet p ≡ follow ns undet p
-bound-undet x u ns [] = refl
-bound-undet x u ns (f ∷ p) = refl
+bind-is : (x k : ℕ) (u : Ref) → eqb k x ≡ true → bindLeaf x u (mark k) ≡ u
+bind-is x k u e = rw (e, bindLeaf)
 
-bind-is : (x k : ℕ) (u : Ref) → eqb k x ≡ true → bind x u (mark k) ≡ u
-bind-is x k u e = rw (e, bind)
-
-bind-not : (x k : ℕ) (u : Ref) → eqb k x ≡ false → bind x u (mark k) ≡ mark k
-bind-not x k u e = rw (e, bind)
+bind-not : (x k : ℕ) (u : Ref) → eqb k x ≡ false → bindLeaf x u (mark k) ≡ leaf (mark k)
+bind-not x k u e = rw (e, bindLeaf)
 
 -- the newest mark bound to the root, an object of a type of its bound
 module _ (t : Table) (wf : WellFormed t) (σ : List ℕ) (c g : ℕ) (small : g ≤ 1) (ns : List Node) (i : ℕ) (A : AllTyped t (c ∷ σ) (ty c g) (follow ns (obj i))) where
@@ -63,21 +59,23 @@ module _ (t : Table) (wf : WellFormed t) (σ : List ℕ) (c g : ℕ) (small : g 
   pub bound-typed : (n : ℕ) (r : Ref) (w : Ty) → AllTyped t (c ∷ σ) w (follow ns r) → Typed t σ n w (followBound (length σ) (obj i) ns r)
   bound-typed zero r w h = tt
   bound-typed (suc n) (obj j) w h = at-object n (bound-typed n) j w h
-  bound-typed (suc n) (mark k) w h = go (eqb k (length σ)) refl (h 1 .0) (at-object n (bound-typed n) i w)
+  bound-typed (suc n) (leaf (mark k)) w h = go (eqb k (length σ)) refl (h 1 .0) (at-object n (bound-typed n) i w)
     where
-      go : (b : Bool) → eqb k (length σ) ≡ b → Ok t (c ∷ σ) w (opened k)
+      go : (b : Bool) → eqb k (length σ) ≡ b → OkLeaf t (c ∷ σ) w (mark k)
           → (AllTyped t (c ∷ σ) w (follow ns (obj i)) → Typed t σ (suc n) w (followBound (length σ) (obj i) ns (obj i)))
-          → Typed t σ (suc n) w (followBound (length σ) (obj i) ns (mark k))
+          → Typed t σ (suc n) w (followBound (length σ) (obj i) ns (leaf (mark k)))
       go true q ok ih =
           let e : some c ≡ some (ok .0) = sym (bound-new c σ) ∙ ap (bound (c ∷ σ)) (sym (eqb-true k (length σ) q)) ∙ ok .1 in
           let d : ok .0 ≡ c = cc in
-          subst (Typed t σ (suc n) w) (fun-ext (λ p. bound-as (length σ) (obj i) ns (obj i) (mark k) (sym (bind-is (length σ) k (obj i) q)) p))
+          subst (Typed t σ (suc n) w) (fun-ext (λ p. bound-as (length σ) (obj i) ns (obj i) (leaf (mark k)) (sym (bind-is (length σ) k (obj i) q)) p))
           (ih (λ m. typed-fits t wf m (c ∷ σ) (ty c g) w (follow ns (obj i)) (subst (λ (x : ℕ). classFits (t .classes) x (w .cls) ≡ true) d (ok .2)) (omega (arith, ok .3)) (A m)))
       go false q ok ih =
-          subst (Typed t σ (suc n) w) (sym (fun-ext (λ p. bound-mark (length σ) (obj i) ns k (bind-not (length σ) k (obj i) q) p)))
-          (mark-typed t wf (suc n) σ w ns k (ok .0, sym (bound-old c σ k (ok .0) (eqb-false k (length σ) q)) ∙ ok .1, ok .2, ok .3))
-  bound-typed (suc n) undet w h =
-      subst (Typed t σ (suc n) w) (sym (fun-ext (λ p. bound-undet (length σ) (obj i) ns p))) (undet-typed t wf (suc n) σ w ns (h 1 .0))
+          subst (Typed t σ (suc n) w) (sym (fun-ext (λ p. bound-leaf (length σ) (obj i) ns (mark k) (bind-not (length σ) k (obj i) q) p)))
+          (leaf-typed t wf (suc n) σ w ns (mark k) (ok .0, sym (bound-old c σ k (ok .0) (eqb-false k (length σ) q)) ∙ ok .1, ok .2, ok .3))
+  bound-typed (suc n) (leaf undet) w h =
+      subst (Typed t σ (suc n) w) (sym (fun-ext (λ p. bound-leaf (length σ) (obj i) ns undet refl p))) (leaf-typed t wf (suc n) σ w ns undet (h 1 .0))
+  bound-typed (suc n) (leaf (num x)) w h =
+      subst (Typed t σ (suc n) w) (sym (fun-ext (λ p. bound-leaf (length σ) (obj i) ns (num x) refl p))) (leaf-typed t wf (suc n) σ w ns (num x) (h 1 .0))
 
 -- a tag after X = u: 2 and 3 may be undetermined
 abbrev pub raise : ℕ → ℕ
@@ -89,12 +87,13 @@ module _ (t : Table) (wf : WellFormed t) where
   close-whole : (x : ℕ) (r : Ref) (ns : List Node) → Whole (graph r ns) → Whole (close x (graph r ns))
   unfolding close
   close-whole x (obj i) ns h = canon-whole _ (bound-whole (graph (obj i) ns) h x i (h .top))
-  close-whole x (mark k) ns h = go (eqb k x)
+  close-whole x (leaf (mark k)) ns h = go (eqb k x)
     where
-      go : (b : Bool) → Whole (elim b as (λ _. Graph) [ true ↦ undetermined | false ↦ markOf k ])
-      go true = leaf-whole undet tt
-      go false = leaf-whole (mark k) tt
-  close-whole x undet ns h = leaf-whole undet tt
+      go : (b : Bool) → Whole (graph (elim b as (λ _. Ref) [ true ↦ leaf undet | false ↦ leaf (mark k) ]) [])
+      go true = leaf-whole undet
+      go false = leaf-whole (mark k)
+  close-whole x (leaf undet) ns h = leaf-whole undet
+  close-whole x (leaf (num n)) ns h = leaf-whole (num n)
 
   -- the root is an object
   close-object : (σ : List ℕ) (c g : ℕ) (ns : List Node) (i : ℕ) → g ≤ 3 → Has t (c ∷ σ) (ty c g) (graph (obj i) ns)
@@ -126,18 +125,19 @@ module _ (t : Table) (wf : WellFormed t) where
       → AllTyped t σ (ty c (raise g)) (tree (close (length σ) (graph r ns)))
   unfolding close
   close-typed σ c g (obj i) ns l h n = close-object σ c g ns i l h n
-  close-typed σ c g (mark k) ns l h n = go (eqb k (length σ)) refl (h .typed 1 .0)
+  close-typed σ c g (leaf (mark k)) ns l h n = go (eqb k (length σ)) refl (h .typed 1 .0)
     where
-      go : (b : Bool) → eqb k (length σ) ≡ b → Ok t (c ∷ σ) (ty c g) (opened k)
-          → Typed t σ n (ty c (raise g)) (tree (elim b as (λ _. Graph) [ true ↦ undetermined | false ↦ markOf k ]))
-      go true q ok = undet-typed t wf n σ (ty c (raise g)) [] (let e = raise-2 g (ok .3) in omega arith)
+      go : (b : Bool) → eqb k (length σ) ≡ b → OkLeaf t (c ∷ σ) (ty c g) (mark k)
+          → Typed t σ n (ty c (raise g)) (tree (graph (elim b as (λ _. Ref) [ true ↦ leaf undet | false ↦ leaf (mark k) ]) []))
+      go true q ok = leaf-typed t wf n σ (ty c (raise g)) [] undet (let e = raise-2 g (ok .3) in omega arith)
       go false q ok =
-          mark-typed t wf n σ (ty c (raise g)) [] k
+          leaf-typed t wf n σ (ty c (raise g)) [] (mark k)
           (ok .0, sym (bound-old c σ k (ok .0) (eqb-false k (length σ) q)) ∙ ok .1, ok .2, let e = raise-2 g (ok .3) in omega arith)
-  close-typed σ c g undet ns l h n =
+  close-typed σ c g (leaf undet) ns l h n =
       let ok : 3 ≤ g = h .typed 1 .0 in
       let e = raise-2 g (omega arith) in
-      undet-typed t wf n σ (ty c (raise g)) [] (omega arith)
+      leaf-typed t wf n σ (ty c (raise g)) [] undet (omega arith)
+  close-typed σ c g (leaf (num x)) ns l h n = leaf-typed t wf n σ (ty c (raise g)) [] (num x) (h .typed 1 .0)
 
   pub has-close : (σ : List ℕ) (u : Ty) (v : Graph) → Has t (u .cls ∷ σ) u v → Has t σ (ty (u .cls) (raise (u .tag))) (close (length σ) v)
   has-close σ u v h =

@@ -1,5 +1,5 @@
 -- What `linerun` writes depends on the first characters of its input alone, `linerunSize` of them: a longer first text is refused with 1, a
--- longer second one with 14. Where the input is cut first, then what is written.
+-- longer second one with 14. Where the input is cut first, then what is written; last that the call `line_show` gives it, in any buffers that are long enough.
 use Prim.Native.Nat.{ℕ, zero, suc, _+_, _-_, _≤_, _<_, min}
 use native.Mathlib.Omega.{arith}
 use mathlib.Core.Path.{_≡_, refl, sym, ap, ap₂, _∙_}
@@ -8,9 +8,9 @@ use mathlib.Core.List.{List, [], _∷_, _++_}
 use mathlib.Core.Option.{Option, none, some}
 use lib.Dec.{eqb, leb, ltb}
 use lib.ListN.{length, take, drop, length-take}
-use lib.Seq.{take-all, take-nil, length-take-le}
+use lib.Seq.{take-all, take-nil, take-append-seam, length-take-le}
 use borrow.Author.Tests.{ltb-true, ltb-false, lt-leb}
-use Rattle.cofj.specs.Limits.{textSize, inputSize, linerunFuel, linerunSize}
+use Rattle.cofj.specs.Limits.{textSize, inputSize, reportSize, workSize, linerunFuel, linerunSize}
 use Rattle.cofj.specs.Partial.{_>>=_, guard}
 use Rattle.cofj.specs.Text.{hexText, lines, linesFrom}
 use Rattle.cofj.specs.Syntax.{Ty, Table}
@@ -19,16 +19,19 @@ use Rattle.cofj.specs.Reading.{Answer, refusal, read, readText}
 use Rattle.cofj.specs.Typing.{Checked, refused, accepted, check}
 use Rattle.cofj.specs.WellFormed.{WellFormed}
 use Rattle.cofj.specs.Formed.{Formed}
+use Rattle.cofj.specs.Running.{run}
+use Rattle.cofj.specs.Report.{reportOf}
 use Rattle.cofj.specs.ReportForm.{Plain}
 use Rattle.cofj.specs.Batch.{ListsParts}
-use Rattle.cofj.specs.Calls.{checked, Admitted, declined, feed, afterCheck, admit, checkText, begins04, lineLength, firstLength, firstText, secondText, judgedBy, judge, verdictLine, reportAdmitted, shownFor, linerun}
-use Rattle.cofj.specs.Promises.{REFUSAL-1}
+use Rattle.cofj.specs.Calls.{checked, Admitted, declined, admitted, feed, afterCheck, admit, checkText, stateRefusal, over, runAdmitted, zeros}
+use Rattle.cofj.specs.Show.{begins04, lineLength, firstLength, firstText, secondText, judgedBy, judge, verdictLine, reportAdmitted, shownFor, linerun, verdictSize, shownCall, Presented, notShown, presented, verdictText, showUnless, writtenAfter, showTexts, showCall}
+use Rattle.cofj.specs.Promises.{REFUSAL-1, Lent, Shows}
 use Rattle.cofj.proofs.GoodValues.{all-weaken}
 use Rattle.cofj.proofs.Readable.{read-formed}
 use Rattle.cofj.proofs.Reports.{plain, objects-length}
 use Rattle.cofj.proofs.Inputs.{feed-some, feed-unlisted}
 use Rattle.cofj.proofs.ReadCalls.{reads-is}
-use Rattle.cofj.proofs.RunCalls.{admit-unread, admit-read}
+use Rattle.cofj.proofs.RunCalls.{admit-unread, admit-read, state-report, state-work, state-none, by-text}
 
 -- ---- where the input is cut
 line-take : (k : ℕ) (s : List ℕ) → lineLength (take k s) ≡ min k (lineLength s)
@@ -182,3 +185,48 @@ module _ (s : List ℕ) (k : ℕ) (big : textSize + inputSize < k) where
 
 pub any-length : (s : List ℕ) → linerun (take linerunSize s) ≡ linerun s
 any-length s = cut-off s linerunSize (omega arith)
+
+-- ---- the call
+module _ (s i report work : List ℕ) where
+  by-state : (o : Option ℕ) → stateRefusal (shownCall s i report work) ≡ o → showTexts s i report work ≡ showUnless o (shownCall s i report work)
+  unfolding showTexts
+  by-state o e = ap (λ (x : Option ℕ). showUnless x (shownCall s i report work)) e
+
+  -- 12 and 13
+  pub show-report : length report < reportSize → showTexts s i report work ≡ notShown 12 report work
+  show-report l = by-state (some 12) (state-report (shownCall s i report work) refl l)
+
+  pub show-work : reportSize ≤ length report → length work < workSize → showTexts s i report work ≡ notShown 13 report work
+  show-work l m = by-state (some 13) (state-work (shownCall s i report work) refl l m)
+
+  -- else what the checked run gives, behind the verdict line
+  module _ (l : reportSize ≤ length report) (m : workSize ≤ length work) where
+    lent : Lent (shownCall s i report work)
+    lent = record { active = refl; report = l; work = m }
+
+    pub show-lent : showTexts s i report work ≡ presented (verdictText s i) (runAdmitted (admit checked s i) (shownCall s i report work))
+    show-lent = by-state none (state-none (shownCall s i report work) lent) ∙ ap (presented (verdictText s i)) (by-text (shownCall s i report work) _ lent refl)
+
+    -- the report's characters, by what the run is admitted with
+    report-shown : (x : Admitted) → take (runAdmitted x (shownCall s i report work) .answer .length) (runAdmitted x (shownCall s i report work) .report) ≡ reportAdmitted x linerunFuel
+    unfolding over
+    report-shown (declined k) = refl
+    report-shown (admitted t v) = take-append-seam (reportOf (run t v linerunFuel)) (drop (length (reportOf (run t v linerunFuel))) report)
+
+    texts-written : writtenAfter (showTexts s i report work) ≡ shownFor s i
+    unfolding shownFor
+    texts-written =
+        ap writtenAfter show-lent
+        ∙ ap₂ {C = List ℕ} _++_ (take-append-seam (verdictText s i) (zeros (verdictSize - length (verdictText s i)))) (report-shown (admit checked s i))
+
+-- what is promised of the call
+pub shows : (s report work : List ℕ) → Shows s report work (showCall s report work)
+unfolding linerun showCall
+shows s report work =
+    record {
+      shortReport = show-report (firstText s) (secondText s) report work;
+      shortWork = show-work (firstText s) (secondText s) report work;
+      writes = texts-written (firstText s) (secondText s) report work;
+      buffers = λ l m. let e = by-state (firstText s) (secondText s) report work none (state-none (shownCall (firstText s) (secondText s) report work) (record { active = refl; report = l; work = m })) in
+          (ap (λ (x : Presented). x .report) e, ap (λ (x : Presented). x .work) e);
+    }

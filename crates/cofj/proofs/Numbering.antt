@@ -10,7 +10,7 @@ use mathlib.Core.Option.{some}
 use lib.Dec.{eqb}
 use lib.ListN.{length, getD, getElem?, length-map}
 use borrow.Author.Tests.{eq-eqb, ne-eqb}
-use Rattle.cofj.specs.Values.{Ref, obj, mark, undet, Node, node, Graph, graph, rename, renameNode, nodeAt, refsAt, colourOf, colours, isIn, placeIn, visit, visitAll, canonBy, canon, eqNats}
+use Rattle.cofj.specs.Values.{Ref, obj, leaf, Node, node, Graph, graph, rename, renameNode, nodeAt, refsAt, colourOf, colours, isIn, placeIn, visit, visitAll, canonBy, canon, eqNats}
 use Rattle.cofj.specs.Unfolding.{follow, Same, InRange, Whole}
 use Rattle.cofj.specs.ReportForm.{upFrom, noTwoEqual, inOrder}
 use Rattle.cofj.proofs.Basics.{eqNats-true, true-both}
@@ -64,8 +64,7 @@ all-head f h (r ∷ rs) x s = let a = h r x s in let b = all-head f h rs x (a .0
 visit-head : (ns : List Node) (cs : List ℕ) (k : ℕ) (r : Ref) (x : ℕ) (s : List ℕ) → (t : List ℕ) × (visit ns cs k r (x ∷ s) ≡ x ∷ t)
 unfolding visit
 visit-head ns cs zero r x s = (s, refl)
-visit-head ns cs (suc k) (mark y) x s = (s, refl)
-visit-head ns cs (suc k) undet x s = (s, refl)
+visit-head ns cs (suc k) (leaf y) x s = (s, refl)
 visit-head ns cs (suc k) (obj i) x s =
     go (isIn (colourOf cs i) (x ∷ s)) (all-head (λ r t. visit ns cs k r t) (λ r y t. visit-head ns cs k r y t) (refsAt ns (colourOf cs i)) x (s ++ (colourOf cs i ∷ [])))
   where
@@ -142,14 +141,12 @@ module _ (g : Graph) (w : Whole g) (own : canon g ≡ g) where
     where
       go : (r : Ref) → g .root ≡ r → order g w ≡ []
       go (obj i) e = absurd (no-object i e)
-      go (mark x) e = ap (λ (r : Ref). visit (g .nodes) (colours (g .nodes)) (suc (length (g .nodes))) r []) e
-      go undet e = ap (λ (r : Ref). visit (g .nodes) (colours (g .nodes)) (suc (length (g .nodes))) r []) e
+      go (leaf x) e = ap (λ (r : Ref). visit (g .nodes) (colours (g .nodes)) (suc (length (g .nodes))) r []) e
 
 -- ---- from numbered to canonical
 rename-own : (n : ℕ) (f : ℕ → ℕ) → ((i : ℕ) → i < n → f i ≡ i) → (r : Ref) → InRange n r → rename f r ≡ r
 rename-own n f h (obj i) l = ap obj (h i l)
-rename-own n f h (mark x) l = refl
-rename-own n f h undet l = refl
+rename-own n f h (leaf x) l = refl
 
 refs-own : (n : ℕ) (f : ℕ → ℕ) → ((i : ℕ) → i < n → f i ≡ i) → (rs : List Ref) → ((k : ℕ) (r : Ref) → getElem? rs k ≡ some r → InRange n r) → map (rename f) rs ≡ rs
 refs-own n f h [] w = refl

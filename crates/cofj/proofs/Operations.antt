@@ -9,7 +9,7 @@ use lib.Dec.{eqb}
 use lib.ListN.{length, getElem?, length-map, length-append, List·getD-append, List·getD-map}
 use lib.Seq.{getD-append-add}
 use Rattle.cofj.specs.Partial.{_>>=_}
-use Rattle.cofj.specs.Values.{Ref, obj, mark, undet, Node, node, Graph, graph, rename, renameNode, nodeAt, refsAt, canon, select, selected, close, bind, make, lay}
+use Rattle.cofj.specs.Values.{Ref, obj, leaf, Leaf, mark, undet, num, Node, node, Graph, graph, rename, renameNode, nodeAt, refsAt, canon, select, selected, close, bindLeaf, bind, make, lay}
 use Rattle.cofj.specs.Unfolding.{object, labelAt, child, follow, followBound, InRange, Whole, AllWhole}
 use Rattle.cofj.proofs.Basics.{at-map}
 use Rattle.cofj.proofs.Trees.{renamed-same}
@@ -30,11 +30,10 @@ select-tree g w f v e p = go (g .root) e
         let y : canon (graph s (g .nodes)) ≡ v = cc in
         sym (ap (λ (k : Graph). follow (k .nodes) (k .root) p) y) ∙ canon-same (graph s (g .nodes)) (at-ref g w s (w .inner i f s q)) p
 
-    go : (r : Ref) → (elim r as (λ _. Option Graph) [ obj i ↦ selected (g .nodes) (getElem? (refsAt (g .nodes) i) f) | mark k ↦ none | undet ↦ none ]) ≡ some v
+    go : (r : Ref) → (elim r as (λ _. Option Graph) [ obj i ↦ selected (g .nodes) (getElem? (refsAt (g .nodes) i) f) | leaf l ↦ none ]) ≡ some v
         → follow (v .nodes) (v .root) p ≡ follow (g .nodes) r (f ∷ p)
     go (obj i) z = found (getElem? (refsAt (g .nodes) i) f) i refl z
-    go (mark k) z = absurd (Option·none-ne-some v z)
-    go undet z = absurd (Option·none-ne-some v z)
+    go (leaf k) z = absurd (Option·none-ne-some v z)
 
 -- ---- X = u: a mark x met on the way or at the end stands for u
 abbrev pub boundNode : ℕ → ℕ → Node → Node
@@ -46,18 +45,16 @@ boundNodes x i ns = map (boundNode x i) ns
 bound-at : (x i : ℕ) (ns : List Node) (j : ℕ) → nodeAt (boundNodes x i ns) j ≡ boundNode x i (nodeAt ns j)
 bound-at x i ns j = List·getD-map (boundNode x i) ns j (node 0 [])
 
--- a reference that is bound already: an object, another mark, or undetermined
+-- a reference that is bound already: an object, or a leaf that is not the mark
 bound-label : (x i : ℕ) (ns : List Node) (r : Ref) → labelAt (boundNodes x i ns) r ≡ labelAt ns r
 bound-label x i ns (obj j) =
     ap₂ object (ap (λ (n : Node). n .cls) (bound-at x i ns j))
     (ap (λ (n : Node). length (n .refs)) (bound-at x i ns j) ∙ length-map (refsAt ns j) (bind x (obj i)))
-bound-label x i ns (mark k) = refl
-bound-label x i ns undet = refl
+bound-label x i ns (leaf k) = refl
 
 bound-child : (x i : ℕ) (ns : List Node) (r : Ref) (f : ℕ) → child (boundNodes x i ns) r f ≡ child ns r f >>= (λ s. some (bind x (obj i) s))
 bound-child x i ns (obj j) f = ap (λ (n : Node). getElem? (n .refs) f) (bound-at x i ns j) ∙ at-map (bind x (obj i)) (refsAt ns j) f
-bound-child x i ns (mark k) f = refl
-bound-child x i ns undet f = refl
+bound-child x i ns (leaf k) f = refl
 
 pub bound-follow : (x i : ℕ) (ns : List Node) (p : List ℕ) (r : Ref) → follow (boundNodes x i ns) (bind x (obj i) r) p ≡ followBound x (obj i) ns r p
 bound-follow x i ns [] r = ap some (bound-label x i ns (bind x (obj i) r))
@@ -70,14 +67,18 @@ bound-follow x i ns (f ∷ p) r =
     go none ih = refl
     go (some s) ih = ih s
 
-in-bound : (n x i : ℕ) → i < n → (s : Ref) → InRange n s → InRange n (bind x (obj i) s)
-in-bound n x i h (obj j) p = p
-in-bound n x i h (mark k) p = go (eqb k x)
+leaf-bound : (n x i : ℕ) → i < n → (l : Leaf) → InRange n (bindLeaf x (obj i) l)
+leaf-bound n x i h (mark k) = go (eqb k x)
   where
-    go : (b : Bool) → InRange n (elim b as (λ _. Ref) [ true ↦ obj i | false ↦ mark k ])
+    go : (b : Bool) → InRange n (elim b as (λ _. Ref) [ true ↦ obj i | false ↦ leaf (mark k) ])
     go true = h
     go false = tt
-in-bound n x i h undet p = tt
+leaf-bound n x i h undet = tt
+leaf-bound n x i h (num k) = tt
+
+in-bound : (n x i : ℕ) → i < n → (s : Ref) → InRange n s → InRange n (bind x (obj i) s)
+in-bound n x i h (obj j) p = p
+in-bound n x i h (leaf l) p = leaf-bound n x i h l
 
 pub bound-whole : (g : Graph) → Whole g → (x i : ℕ) → i < length (g .nodes) → Whole (graph (obj i) (boundNodes x i (g .nodes)))
 bound-whole g w x i h =
@@ -100,13 +101,11 @@ close-tree x i ns w p =
 -- ---- a new object
 more : (n m : ℕ) (r : Ref) → n ≤ m → InRange n r → InRange m r
 more n m (obj i) h p = omega arith
-more n m (mark k) h p = tt
-more n m undet h p = tt
+more n m (leaf k) h p = tt
 
 shift-range : (n m : ℕ) (r : Ref) → InRange m r → InRange (n + m) (rename (λ i. n + i) r)
 shift-range n m (obj i) p = omega arith
-shift-range n m (mark k) p = tt
-shift-range n m undet p = tt
+shift-range n m (leaf k) p = tt
 
 abbrev moved : ℕ → List Node → List Node
 moved n ns = map (renameNode (λ i. n + i)) ns
@@ -159,8 +158,7 @@ moved-same g w pre post n e p =
   where
     inside : (r : Ref) → InRange (length (g .nodes)) r → (k : ℕ) (r′ : Ref) → child (g .nodes) r k ≡ some r′ → InRange (length (g .nodes)) r′
     inside (obj i) q k r′ z = w .inner i k r′ z
-    inside (mark l) q k r′ z = absurd (Option·none-ne-some r′ z)
-    inside undet q k r′ z = absurd (Option·none-ne-some r′ z)
+    inside (leaf l) q k r′ z = absurd (Option·none-ne-some r′ z)
 
     looks : (i j : ℕ) → i < length (g .nodes) → Unit {0} → n + i ≡ j
         → renameNode (λ k. n + k) (nodeAt (g .nodes) i) ≡ renameNode (λ k. k) (nodeAt (pre ++ (moved n (g .nodes) ++ post)) j)

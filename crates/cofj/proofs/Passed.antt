@@ -29,8 +29,8 @@ methodRules n d =
 pub record MethodRuled (n : ℕ) (d : Method) : Type 0 where
   pub owned : 1 ≤ d .owner
   pub owner : d .owner ≤ n
-  pub first : d .first .cls ≤ n
-  pub second : d .second .cls ≤ n
+  pub first : known n (d .first) ≡ true
+  pub second : known n (d .second) ≡ true
   pub closed : closedTag (d .first .tag) ≡ true
   pub params : allKnown n (d .params) ≡ true
   pub closedParams : allClosed (d .params) ≡ true
@@ -50,8 +50,8 @@ method-ruled n d e =
     record {
       owned = leb-true 1 (d .owner) (a0 .0);
       owner = leb-true (d .owner) n (a0 .1);
-      first = leb-true (d .first .cls) n (a1 .1);
-      second = leb-true (d .second .cls) n (a2 .1);
+      first = a1 .1;
+      second = a2 .1;
       closed = a3 .1;
       params = a4 .1;
       closedParams = a5 .1;

@@ -6,15 +6,20 @@ use mathlib.Core.Bool.{true}
 use mathlib.Core.List.{List, [], _∷_, _++_, append-assoc, append-nil}
 use mathlib.Core.Option.{Option, none, some, Option·none-ne-some}
 use lib.ListN.{length, getElem?}
+use Rattle.cofj.specs.Limits.{numberClass}
 use Rattle.cofj.specs.Syntax.{Ty, ty, Table}
 use Rattle.cofj.specs.Partial.{_>>=_}
 use Rattle.cofj.specs.Classes.{classFits, fieldsOf}
-use Rattle.cofj.specs.Values.{Ref, obj, mark, undet, Node, Graph, nodeAt, refsAt}
-use Rattle.cofj.specs.Unfolding.{Label, object, opened as marked, unknown, labelAt, child, follow, Whole}
+use Rattle.cofj.specs.Values.{Ref, obj, leaf, mark, undet, num, Node, node, Graph, nodeAt, refsAt}
+use Rattle.cofj.specs.Unfolding.{Label, object, atLeaf, labelAt, child, follow}
+use Rattle.cofj.specs.Formed.{AllIn, Formed, Good}
 use Rattle.cofj.specs.WellFormed.{WellFormed}
 use Rattle.cofj.specs.Soundness.{StandsAt, NotOpen, Sits}
 use Rattle.cofj.proofs.Basics.{at-lt, at-some}
+use Rattle.cofj.proofs.Chain.{fits-self}
 use Rattle.cofj.proofs.Climb.{field-tag}
+use Rattle.cofj.proofs.Numbers.{number-above}
+use Rattle.cofj.proofs.GoodValues.{all-at, formed-default}
 use Rattle.cofj.proofs.Typed.{Tree, tree, bound, under, OkAt, Typed, AllTyped, Has}
 
 module _ (t : Table) (wf : WellFormed t) where
@@ -23,8 +28,9 @@ module _ (t : Table) (wf : WellFormed t) where
   unfolding bound
   stands u w p q none h = h
   stands u w p q (some (object c n)) h = (subst (λ (d : ℕ). classFits (t .classes) c d ≡ true) p (h .0), h .1)
-  stands u w p q (some (marked k)) h = absurd (Option·none-ne-some (h .0) (h .1))
-  stands u w p q (some unknown) h = q h
+  stands u w p q (some (atLeaf (mark k))) h = absurd (Option·none-ne-some (h .0) (h .1))
+  stands u w p q (some (atLeaf undet)) h = q h
+  stands u w p q (some (atLeaf (num n))) h = sym p ∙ number-above t wf (u .cls) h
 
   pub under-3 : (g h : ℕ) → h ≤ 3 → 3 ≤ under g h → h ≡ 3
   under-3 zero h l p = omega arith
@@ -34,8 +40,9 @@ module _ (t : Table) (wf : WellFormed t) where
   unfolding bound
   not-open u none h = tt
   not-open u (some (object c n)) h = tt
-  not-open u (some (marked k)) h = absurd (Option·none-ne-some (h .0) (h .1))
-  not-open u (some unknown) h = tt
+  not-open u (some (atLeaf (mark k))) h = absurd (Option·none-ne-some (h .0) (h .1))
+  not-open u (some (atLeaf undet)) h = tt
+  not-open u (some (atLeaf (num n))) h = tt
 
   -- a field that can be followed is declared, and what is below it is typed
   pub onward : (ns : List Node) (r : Ref) (u : Ty) → AllTyped t [] u (follow ns r) → (f : ℕ) (s : Ref) → child ns r f ≡ some s → (w : Ty) × AllTyped t [] w (follow ns s)
@@ -46,8 +53,7 @@ module _ (t : Table) (wf : WellFormed t) where
         λ n. subst (λ (o : Option Ref). Typed t [] n (ty (w .0 .cls) (under (u .tag) (w .0 .tag))) (λ p. o >>= λ y. follow ns y p)) e
             (h (suc n) .1 (nodeAt ns i .cls) (length (refsAt ns i)) f (w .0) refl (w .1)),
       )
-  onward ns (mark k) u h f s e = absurd (Option·none-ne-some s e)
-  onward ns undet u h f s e = absurd (Option·none-ne-some s e)
+  onward ns (leaf l) u h f s e = absurd (Option·none-ne-some s e)
 
   no-mark : (ns : List Node) (p : List ℕ) (r : Ref) (u : Ty) → AllTyped t [] u (follow ns r) → NotOpen (follow ns r p)
   no-mark ns [] r u h = not-open u (some (labelAt ns r)) (h 1 .0)
@@ -79,26 +85,45 @@ module _ (t : Table) (wf : WellFormed t) where
       }
 
   -- ---- and back
-  okay : (u w : Ty) → u .cls ≡ w .cls → (w .tag ≡ 3 → 3 ≤ u .tag) → (o : Option Label) → StandsAt t w o → OkAt t [] u o
-  okay u w p q none h = h
-  okay u w p q (some (object c n)) h = (subst (λ (d : ℕ). classFits (t .classes) c d ≡ true) (sym p) (h .0), h .1)
-  okay u w p q (some (marked k)) h = absurd h
-  okay u w p q (some unknown) h = q h
+  -- an object that is met is one of the table's
+  abbrev Known : Option Label → Type 0
+  Known o = (c n : ℕ) → o ≡ some (object c n) → c ≤ length (t .classes)
+
+  known-label : (ns : List Node) → AllIn (Formed t 0) ns → (r : Ref) → Known (some (labelAt ns r))
+  known-label ns h (obj i) c n e =
+      let y : nodeAt ns i .cls ≡ c = cc in
+      subst (λ (d : ℕ). d ≤ length (t .classes)) y (all-at (Formed t 0) (node 0 []) (formed-default t 0) ns h i .known)
+  known-label ns h (leaf l) c n e = absurd (let q : _≡_ {A = ℕ} 0 1 = cc in omega arith)
+
+  known-at : (ns : List Node) → AllIn (Formed t 0) ns → (p : List ℕ) (r : Ref) → Known (follow ns r p)
+  known-at ns h [] r c n e = known-label ns h r c n e
+  known-at ns h (f ∷ p) r c n e = go (child ns r f) e (λ s. known-at ns h p s c n)
+    where
+      go : (o : Option Ref) → o >>= (λ s. follow ns s p) ≡ some (object c n) → ((s : Ref) → follow ns s p ≡ some (object c n) → c ≤ length (t .classes)) → c ≤ length (t .classes)
+      go none e ih = absurd (Option·none-ne-some (object c n) e)
+      go (some s) e ih = ih s e
+
+  okay : (u w : Ty) → u .cls ≡ w .cls → (w .tag ≡ 3 → 3 ≤ u .tag) → (o : Option Label) → Known o → StandsAt t w o → OkAt t [] u o
+  okay u w p q none k h = h
+  okay u w p q (some (object c n)) k h = (subst (λ (d : ℕ). classFits (t .classes) c d ≡ true) (sym p) (h .0), h .1, k c n refl)
+  okay u w p q (some (atLeaf (mark x))) k h = absurd h
+  okay u w p q (some (atLeaf undet)) k h = q h
+  okay u w p q (some (atLeaf (num n))) k h = fits-self (t .classes) numberClass (u .cls) (sym (p ∙ h))
 
   under-of : (g h : ℕ) → h ≡ 3 → 3 ≤ under g h
   under-of zero h e = omega arith
   under-of (suc g) h e = omega arith
 
   -- what lies below a path is typed
-  typed-below : (x : Ty) (v : Graph) → Sits t x v → (n : ℕ) (p : List ℕ) (u w : Ty) → u .cls ≡ w .cls → (w .tag ≡ 3 → 3 ≤ u .tag) → StandsAt t w (tree v p)
+  typed-below : (x : Ty) (v : Graph) → AllIn (Formed t 0) (v .nodes) → Sits t x v → (n : ℕ) (p : List ℕ) (u w : Ty) → u .cls ≡ w .cls → (w .tag ≡ 3 → 3 ≤ u .tag) → StandsAt t w (tree v p)
       → Typed t [] n u (λ q. tree v (p ++ q))
-  typed-below x v s zero p u w a b h = tt
-  typed-below x v s (suc n) p u w a b h = (
-    subst (λ (q : List ℕ). OkAt t [] u (tree v q)) (sym (append-nil p)) (okay u w a b (tree v p) h),
+  typed-below x v g s zero p u w a b h = tt
+  typed-below x v g s (suc n) p u w a b h = (
+    subst (λ (q : List ℕ). OkAt t [] u (tree v q)) (sym (append-nil p)) (okay u w a b (tree v p) (known-at (v .nodes) g p (v .root)) h),
     λ c k f y e z. subst (λ (T : Tree). Typed t [] n (ty (y .cls) (under (u .tag) (y .tag))) T) (λ i q. tree v (append-assoc p (f ∷ []) q i))
-        (typed-below x v s n (p ++ (f ∷ [])) (ty (y .cls) (under (u .tag) (y .tag))) y refl (under-of (u .tag) (y .tag))
+        (typed-below x v g s n (p ++ (f ∷ [])) (ty (y .cls) (under (u .tag) (y .tag))) y refl (under-of (u .tag) (y .tag))
         (s .places p c k f y (ap (tree v) (sym (append-nil p)) ∙ e) z)),
   )
 
-  pub has-sits : (u : Ty) (v : Graph) → Whole v → u .tag ≤ 3 → Sits t u v → Has t [] u v
-  has-sits u v w l s = record { whole = w; typed = λ n. typed-below u v s n [] u u refl (λ e. omega arith) (s .root); tag = l }
+  pub has-sits : (objects : ℕ) (u : Ty) (v : Graph) → Good t objects 0 v → u .tag ≤ 3 → Sits t u v → Has t [] u v
+  has-sits objects u v g l s = record { whole = g .whole; typed = λ n. typed-below u v (g .nodes) s n [] u u refl (λ e. omega arith) (s .root); tag = l }

@@ -4,15 +4,15 @@ use Prim.Native.Nat.{ℕ, _≤_}
 use native.Mathlib.Omega.{arith}
 use mathlib.Core.Path.{_≡_, refl, sym, ap, _∙_, subst}
 use mathlib.Core.Bool.{Bool, true, false, cond}
-use mathlib.Core.List.{List}
+use mathlib.Core.List.{List, []}
 use mathlib.Core.Option.{Option, some}
 use lib.Dec.{eqb}
 use lib.ListN.{length}
 use borrow.Author.Tests.{eq-eqb, ne-eqb}
-use Rattle.cofj.specs.Limits.{standard}
+use Rattle.cofj.specs.Limits.{standard, partCount}
 use Rattle.cofj.specs.Syntax.{Table}
 use Rattle.cofj.specs.TypingRules.{REFUSAL-6, REFUSAL-7}
-use Rattle.cofj.specs.Values.{Graph, close, markOf, undetermined}
+use Rattle.cofj.specs.Values.{Ref, leaf, mark, undet, Graph, graph, close, markOf, undetermined, numberOf}
 use Rattle.cofj.specs.Running.{Outcome, run, runWithin}
 use Rattle.cofj.specs.Reading.{read, readText}
 use Rattle.cofj.specs.Soundness.{Ends, EndsListed, Sound, SoundListed}
@@ -145,15 +145,19 @@ recuts a b h e f =
 -- X = u where u is a mark
 close-mark : (x k : ℕ) (b : Bool) → eqb k x ≡ b → close x (markOf k) ≡ cond b undetermined (markOf k)
 unfolding close
-close-mark x k b e = ap (λ (y : Bool). elim y as (λ _. Graph) [ true ↦ undetermined | false ↦ markOf k ]) e ∙ go b
+close-mark x k b e = ap (λ (y : Bool). graph (elim y as (λ _. Ref) [ true ↦ leaf undet | false ↦ leaf (mark k) ]) []) e ∙ go b
   where
-    go : (y : Bool) → (elim y as (λ _. Graph) [ true ↦ undetermined | false ↦ markOf k ]) ≡ cond y undetermined (markOf k)
+    go : (y : Bool) → graph (elim y as (λ _. Ref) [ true ↦ leaf undet | false ↦ leaf (mark k) ]) [] ≡ cond y undetermined (markOf k)
     go true = refl
     go false = refl
 
 close-undetermined : (x : ℕ) → close x undetermined ≡ undetermined
 unfolding close
 close-undetermined x = refl
+
+close-number : (x n : ℕ) → close x (numberOf n) ≡ numberOf n
+unfolding close
+close-number x n = refl
 
 pub canonical : Canonical
 canonical =
@@ -168,12 +172,13 @@ canonical =
       closesItself = λ x. close-mark x x true (eq-eqb x x refl);
       closesOther = λ x k h. close-mark x k false (ne-eqb k x h);
       closesNothing = close-undetermined;
+      closesNumber = close-number;
       metAgain = open-some;
       metFirst = open-none;
     }
 
--- for every limit whose numbers stay below FF
-pub reports : (objects : ℕ) → objects ≤ 255 → Reports objects
+-- for every limit whose numbers stay below FE
+pub reports : (objects : ℕ) → objects ≤ partCount → Reports objects
 reports objects small =
     record {
       exact = λ s v. (report-back objects s v, λ h. subst (λ (x : List ℕ). reported objects x ≡ some v) (h .1) (report-round objects small v (h .0)));

@@ -10,7 +10,7 @@ use lib.ListN.{length, getD, getElem?, length-map}
 use Rattle.cofj.specs.Syntax.{Ty, ty, Table}
 use Rattle.cofj.specs.Partial.{_>>=_}
 use Rattle.cofj.specs.Classes.{fieldsOf}
-use Rattle.cofj.specs.Values.{Ref, obj, mark, undet, Node, node, Graph, rename, renameNode, nodeAt, refsAt, colours, isIn, placeIn, visit, visitAll, canon}
+use Rattle.cofj.specs.Values.{Ref, obj, leaf, Node, node, Graph, rename, renameNode, nodeAt, refsAt, colours, isIn, placeIn, visit, visitAll, canon}
 use Rattle.cofj.specs.Unfolding.{labelAt, follow, Whole, Reached, top, below}
 use Rattle.cofj.specs.Running.{Outcome, value, stopped, runWithin}
 use Rattle.cofj.specs.WellFormed.{WellFormed}
@@ -49,8 +49,7 @@ module _ (g : Graph) (w : Whole g) where
   visit-coloured : (k : ℕ) (r : Ref) (s : List ℕ) → RefColoured r → AllColoured s → AllColoured (visit (g .nodes) (colours (g .nodes)) k r s)
   unfolding visit
   visit-coloured zero r s h a = a
-  visit-coloured (suc k) (mark x) s h a = a
-  visit-coloured (suc k) undet s h a = a
+  visit-coloured (suc k) (leaf l) s h a = a
   visit-coloured (suc k) (obj i) s h a = go (isIn (colour g w i) s) (all-coloured k (visit-coloured k) (refsAt (g .nodes) (colour g w i)) (s ++ (colour g w i ∷ [])))
     where
       more : AllColoured (s ++ (colour g w i ∷ []))

@@ -1,32 +1,26 @@
 -- What reading makes sure of in a line: its numbers are bytes, its tags are tags, and its expressions are nested within the limit.
 -- Not here: tables (Readable).
 use Prim.Native.Nat.{ℕ, zero, suc, _≤_}
+use native.Mathlib.Omega.{arith}
 use mathlib.Core.Path.{_≡_, sym, subst}
-use mathlib.Core.Bool.{Bool, true, false, cond}
-use mathlib.Core.List.{List, [], _∷_, _++_}
+use mathlib.Core.List.{List, [], _∷_}
 use mathlib.Core.Option.{Option, none, some, Option·none-ne-some}
 use lib.Dec.{eqb, leb}
 use lib.ListN.{length}
 use borrow.Author.Tests.{leb-true}
 use Rattle.cofj.specs.Limits.{lineSize, fieldCount, paramCount, nestingLimit}
 use Rattle.cofj.specs.Partial.{_>>=_}
-use Rattle.cofj.specs.Syntax.{Expr, param, Exprs, Ty, ty, Method}
-use Rattle.cofj.specs.Frames.{Got, Reader, got, byte, upTo, type, types, exprsBy, fieldAfter, callAfter, newAfter, exprAfter, expr, TextFrame, classFrame, methodFrame, mainFrame, whole, classAfter, methodAfter, mainAfter, inputAfter, frame, frames}
+use Rattle.cofj.specs.Syntax.{Operation, sum, difference, Expr, param, literal, Exprs, Ty, ty, Method}
+use Rattle.cofj.specs.Frames.{Got, Reader, got, byte, upTo, type, types, twoBytes, exprsBy, fieldAfter, callAfter, newAfter, combineAfter, chooseAfter, exprAfter, expr, TextFrame, classFrame, methodFrame, mainFrame, whole, classAfter, methodAfter, mainAfter, inputAfter, frame, frames}
 use Rattle.cofj.specs.Nesting.{Each, Parts, Nested}
 use Rattle.cofj.specs.Writing.{typesBytes}
 use Rattle.cofj.proofs.Partial.{guard-bind, taken}
 use Rattle.cofj.proofs.TextRound.{Bytes, Lines}
-use Rattle.cofj.proofs.FrameRound.{pair, given, same, taken-as, type-back, types-back, lineOf, frame-back}
+use Rattle.cofj.proofs.Steps.{pair, given, same, taken-as, branch, bytes-after}
+use Rattle.cofj.proofs.ExprRound.{type-back, types-back}
+use Rattle.cofj.proofs.FrameRound.{lineOf, frame-length}
 
 -- ---- steps of a reader
-bytes-after : (xs ys : List ℕ) → Bytes (xs ++ ys) → Bytes ys
-bytes-after [] ys h = h
-bytes-after (x ∷ xs) ys h = bytes-after xs ys (h .1)
-
-branch : {B C : Type 0} (t : Bool) (o p : Option B) (b : B) → cond t o p ≡ some b → (o ≡ some b → C) → (p ≡ some b → C) → C
-branch true o p b e yea nay = yea e
-branch false o p b e yea nay = nay e
-
 up-to : (n k : ℕ) (bs : List ℕ) (g : Got ℕ) → upTo n (k ∷ bs) ≡ some g → (g ≡ pair k bs) × (k ≤ n)
 up-to n k bs g e =
     let a = guard-bind (leb k n) (λ _. got k bs) g e in
@@ -77,15 +71,45 @@ module _ (one : Reader Expr) (P : Expr → Type 0) (ih : (bs : List ℕ) (g : Go
   param-good [] g e h = absurd (Option·none-ne-some g e)
   param-good (k ∷ bs) g e h = given (Good (Parts P)) _ g e (tt, h .1)
 
+  literal-good : (bs : List ℕ) (g : Got Expr) → twoBytes bs >>= (λ n. got (literal (n .item)) (n .rest)) ≡ some g → Bytes bs → Good (Parts P) g
+  unfolding twoBytes
+  literal-good [] g e h = absurd (Option·none-ne-some g e)
+  literal-good (a ∷ []) g e h = absurd (Option·none-ne-some g e)
+  literal-good (a ∷ b ∷ bs) g e h = given (Good (Parts P)) _ g e (let l = h .0 in let k = h .1 .0 in omega arith, h .1 .1)
+
+  combine-good : (o : Operation) (bs : List ℕ) (g : Got Expr) → combineAfter one o bs ≡ some g → Bytes bs → Good (Parts P) g
+  unfolding combineAfter
+  combine-good o bs g e h =
+      taken (one bs) g e λ x q e1.
+      taken (one (x .rest)) g e1 λ y r e2.
+      let a = ih bs x q h in
+      let b = ih (x .rest) y r (a .1) in
+      given (Good (Parts P)) _ g e2 ((a .0, b .0), b .1)
+
+  choose-good : (bs : List ℕ) (g : Got Expr) → chooseAfter one bs ≡ some g → Bytes bs → Good (Parts P) g
+  unfolding chooseAfter
+  choose-good bs g e h =
+      taken (one bs) g e λ x q e1.
+      taken (one (x .rest)) g e1 λ y r e2.
+      taken (one (y .rest)) g e2 λ z p e3.
+      let a = ih bs x q h in
+      let b = ih (x .rest) y r (a .1) in
+      let c = ih (y .rest) z p (b .1) in
+      given (Good (Parts P)) _ g e3 ((a .0, b .0, c .0), c .1)
+
   after-good : (b : ℕ) (bs : List ℕ) (g : Got Expr) → exprAfter one b bs ≡ some g → Bytes bs → Good (Parts P) g
   unfolding exprAfter
   after-good b bs g e h =
-      branch (eqb b 0x40) _ _ g e (λ z. given (Good (Parts P)) _ g z (tt, h)) λ e1.
-      branch (eqb b 0x41) _ _ g e1 (λ z. given (Good (Parts P)) _ g z (tt, h)) λ e2.
-      branch (eqb b 0x42) _ _ g e2 (λ z. param-good bs g z h) λ e3.
-      branch (eqb b 0x43) _ _ g e3 (λ z. field-good bs g z h) λ e4.
-      branch (eqb b 0x44) _ _ g e4 (λ z. call-good bs g z h) λ e5.
-      branch (eqb b 0x45) _ _ g e5 (λ z. new-good bs g z h) λ e6. absurd (Option·none-ne-some g e6)
+      branch (eqb b 0x40) _ _ g e (λ _ z. given (Good (Parts P)) _ g z (tt, h)) λ e1.
+      branch (eqb b 0x41) _ _ g e1 (λ _ z. given (Good (Parts P)) _ g z (tt, h)) λ e2.
+      branch (eqb b 0x42) _ _ g e2 (λ _ z. param-good bs g z h) λ e3.
+      branch (eqb b 0x43) _ _ g e3 (λ _ z. field-good bs g z h) λ e4.
+      branch (eqb b 0x44) _ _ g e4 (λ _ z. call-good bs g z h) λ e5.
+      branch (eqb b 0x45) _ _ g e5 (λ _ z. new-good bs g z h) λ e6.
+      branch (eqb b 0x46) _ _ g e6 (λ _ z. literal-good bs g z h) λ e7.
+      branch (eqb b 0x47) _ _ g e7 (λ _ z. combine-good sum bs g z h) λ e8.
+      branch (eqb b 0x48) _ _ g e8 (λ _ z. combine-good difference bs g z h) λ e9.
+      branch (eqb b 0x49) _ _ g e9 (λ _ z. choose-good bs g z h) λ e10. absurd (Option·none-ne-some g e10)
 
 expr-good : (n : ℕ) (bs : List ℕ) (g : Got Expr) → expr n bs ≡ some g → Bytes bs → Good (Nested n) g
 unfolding expr Nested
@@ -180,10 +204,10 @@ pub frame-within : (l : List ℕ) (f : TextFrame) → frame l ≡ some f → Byt
 unfolding frame
 frame-within [] f e h = absurd (Option·none-ne-some f e)
 frame-within (k ∷ bs) f e h =
-    branch (eqb k 1) _ _ f e (λ z. class-within bs f z) λ e1.
-    branch (eqb k 2) _ _ f e1 (λ z. method-within bs f z (h .1)) λ e2.
-    branch (eqb k 3) _ _ f e2 (λ z. main-within none bs f z (h .1)) λ e3.
-    branch (eqb k 4) _ _ f e3 (λ z. input-within bs f z (h .1)) λ e4. absurd (Option·none-ne-some f e4)
+    branch (eqb k 1) _ _ f e (λ _ z. class-within bs f z) λ e1.
+    branch (eqb k 2) _ _ f e1 (λ _ z. method-within bs f z (h .1)) λ e2.
+    branch (eqb k 3) _ _ f e2 (λ _ z. main-within none bs f z (h .1)) λ e3.
+    branch (eqb k 4) _ _ f e3 (λ _ z. input-within bs f z (h .1)) λ e4. absurd (Option·none-ne-some f e4)
 
 -- a frame's line is short
 abbrev pub Short : TextFrame → Type 0
@@ -200,4 +224,4 @@ frames-within (l ∷ ls) fs e h =
     taken (frame l) fs e λ f q e1.
     taken (frames ls) fs e1 λ gs r e2.
     given AllShort _ fs e2
-    ((frame-within l f q (h .2), subst (λ (k : List ℕ). length k ≤ lineSize) (sym (frame-back l f q)) (h .1)), frames-within ls gs r (h .3))
+    ((frame-within l f q (h .2), subst (λ (k : ℕ). k ≤ lineSize) (sym (frame-length l f q)) (h .1)), frames-within ls gs r (h .3))

@@ -14,13 +14,13 @@ use Rattle.cofj.specs.Syntax.{Ty, Class, Method, Table}
 use Rattle.cofj.specs.Classes.{parentOf, parentOr0, classAt, ownOrNone, fieldsOf, fieldsTo, lookup}
 use Rattle.cofj.specs.Typing.{closedTag, allClosed}
 use Rattle.cofj.specs.Frames.{ClassFrame, TextFrame, classFrame, methodFrame, mainFrame}
-use Rattle.cofj.specs.Tables.{Raw, raw, inFront, ordered, numbered, known, allKnown, classesGood, methodsGood, inputGood, bodies, sameTypes, overridesGood}
+use Rattle.cofj.specs.Tables.{Raw, raw, inFront, ordered, numbered, allKnown, classesGood, methodsGood, inputGood, bodies, sameTypes, overridesGood}
 use Rattle.cofj.specs.Reading.{read, readText}
 use Rattle.cofj.specs.Nesting.{Nested}
 use Rattle.cofj.specs.Writing.{methodLine, mainLine}
 use Rattle.cofj.specs.WellFormed.{Tags, AllMethods, MethodFormed, WellFormed}
 use Rattle.cofj.proofs.Partial.{and-true, taken}
-use Rattle.cofj.proofs.FrameRound.{given}
+use Rattle.cofj.proofs.Steps.{given}
 use Rattle.cofj.proofs.TextRound.{lines-bytes}
 use Rattle.cofj.proofs.ReadFrames.{Body, Short, AllShort, frames-within}
 use Rattle.cofj.proofs.Passed.{methods-ruled, tableOf, Ruled, table-ruled, passed}
@@ -157,7 +157,7 @@ formed t (m ∷ ms) e o h =
 input-in : (n : ℕ) (i : Option Ty) → inputGood n i ≡ true → (u : Ty) → i ≡ some u → (u .cls ≤ n) × (u .tag ≡ 0)
 input-in n none e u q = absurd (Option·none-ne-some u q)
 input-in n (some w) e u q =
-    let a = and-true (known n w) (eqb (w .tag) 0) e in
+    let a = and-true (leb (w .cls) n) (eqb (w .tag) 0) e in
     given (λ (x : Ty). (x .cls ≤ n) × (x .tag ≡ 0)) w u q (leb-true (w .cls) n (a .0), eqb-true (w .tag) 0 (a .1))
 
 -- ---- the reader

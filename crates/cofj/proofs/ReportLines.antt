@@ -1,57 +1,40 @@
--- Lines of a report and the value that they list: each gives the other. Not here: their characters (Reports).
-use Prim.Native.Nat.{ℕ, zero, suc, _≤_, _<_, zero-le}
+-- Lines of a report and the value that they list: each gives the other. Not here: the fields of a line (ReportFields), characters (Reports).
+use Prim.Native.Nat.{ℕ, zero, suc, _+_, _*_, _/_, _%_, _≤_, _<_, zero-le}
 use native.Mathlib.Nat.{not-suc-le-zero}
 use native.Mathlib.Omega.{arith}
 use mathlib.Core.Path.{_≡_, refl, sym, ap, ap₂, _∙_, subst}
-use mathlib.Core.Bool.{Bool, true, false, _&&_}
-use mathlib.Core.List.{List, [], _∷_, map}
+use mathlib.Core.Bool.{Bool, true, _&&_}
+use mathlib.Core.List.{List, [], _∷_, append-nil}
 use mathlib.Core.Option.{Option, none, some, Option·none-ne-some}
-use lib.Dec.{eqb, leb, ltb}
-use lib.ListN.{length, getElem?, length-map}
-use borrow.Author.Tests.{eqb-true, eq-eqb, leb-true, le-leb, ltb-true, lt-ltb}
-use Rattle.cofj.specs.Limits.{classCount, fieldCount}
+use lib.Dec.{eqb, leb}
+use lib.ListN.{length, getElem?}
+use borrow.Author.Tests.{eqb-true, eq-eqb, leb-true, le-leb}
+use Rattle.cofj.specs.Limits.{classCount, fieldCount, partCount}
 use Rattle.cofj.specs.Partial.{_>>=_, guard}
-use Rattle.cofj.specs.Values.{Ref, obj, mark, undet, Node, node, Graph, graph, refsAt, undetermined, eqNats, canon}
+use Rattle.cofj.specs.Frames.{Got, whole}
+use Rattle.cofj.specs.Values.{Ref, obj, leaf, Leaf, mark, undet, num, Node, node, Graph, graph, leafOf, refsAt, canon}
 use Rattle.cofj.specs.Unfolding.{InRange, Whole}
-use Rattle.cofj.specs.Formed.{AllIn, MarkBelow}
-use Rattle.cofj.specs.Report.{refByte, objectLine, objectLines, valueLines}
-use Rattle.cofj.specs.ReportForm.{refOf, refsOf, objectOf, objectsFrom, objectsGood, objectsValue, linesValue, noTwoEqual, inOrder, oneCount, Plain, Reportable}
-use Rattle.cofj.proofs.Basics.{eqNats-true}
+use Rattle.cofj.specs.Formed.{AllIn, LeafBelow, RefBelow}
+use Rattle.cofj.specs.Report.{fieldBytes, objectLine, objectLines, leafLine, valueLines}
+use Rattle.cofj.specs.ReportForm.{refsOf, objectOf, objectsFrom, objectsGood, objectsValue, leafIn, linesValue, noTwoEqual, inOrder, oneCount, Plain, Reportable}
+use Rattle.cofj.proofs.Steps.{whole-back}
+use Rattle.cofj.proofs.ReportFields.{RefsIn, refs-round, ReadRefs, refs-back}
+use Rattle.cofj.proofs.TextRound.{Bytes, Lines}
 use Rattle.cofj.proofs.Numbering.{canonical-distinct, canonical-order, canonical-root, canonical-empty, numbered-canonical}
 use Rattle.cofj.proofs.Partial.{and-true, true-and, opt-bind, guard-bind}
 
--- every reference of a node is in range
-abbrev pub RefsIn : ℕ → List Ref → Type 0
-RefsIn n rs = AllIn (InRange n) rs
-
 -- ---- from a value to its lines and back
-module _ (n : ℕ) (small : n ≤ 255) where
-  ref-round : (r : Ref) → InRange n r → MarkBelow 0 r → refOf n (refByte r) ≡ some r
-  ref-round (obj i) h m = rw (lt-ltb i n h, refOf)
-  ref-round (mark x) h m = absurd (not-suc-le-zero m)
-  ref-round undet h m = go (ltb 255 n) refl
-    where
-      go : (b : Bool) → ltb 255 n ≡ b → _≡_ {A = Option Ref} (elim b [ true ↦ some (obj 255) | false ↦ elim (eqb 255 0xFF) [ true ↦ some undet | false ↦ none ] ]) (some undet)
-      go true e = let z = ltb-true 255 n e in absurd (omega arith)
-      go false e = refl
-
-  refs-round : (rs : List Ref) → RefsIn n rs → AllIn (MarkBelow 0) rs → refsOf n (map refByte rs) ≡ some rs
-  unfolding refsOf
-  refs-round [] h m = refl
-  refs-round (r ∷ rs) h m =
-      ap (λ (o : Option Ref). o >>= λ x. refsOf n (map refByte rs) >>= λ xs. some (x ∷ xs)) (ref-round r (h .0) (m .0))
-      ∙ ap (λ (o : Option (List Ref)). o >>= λ xs. some (r ∷ xs)) (refs-round rs (h .1) (m .1))
-
+module _ (n : ℕ) (small : n ≤ partCount) where
   object-round : (k : ℕ) (d : Node) → Plain d → RefsIn n (d .refs) → objectOf n k (objectLine k d) ≡ some d
   object-round k d p h =
       let m = length (d .refs) in
-      ap (λ (b : Bool). guard b >>= λ _. refsOf n (map refByte (d .refs)) >>= λ rs. some (node (d .cls) rs))
-      (true-and (eqb 5 5 && eqb k k && leb (d .cls) classCount && leb m fieldCount) (eqb m (length (map refByte (d .refs))))
+      let rest : Option (Got (List Ref)) → Option Node = λ o. o >>= λ g. whole g >>= λ rs. some (node (d .cls) rs) in
+      ap (λ (b : Bool). guard b >>= λ _. rest (refsOf n m (fieldBytes (d .refs))))
       (true-and (eqb 5 5 && eqb k k && leb (d .cls) classCount) (leb m fieldCount)
       (true-and (eqb 5 5 && eqb k k) (leb (d .cls) classCount) (eq-eqb k k refl) (le-leb (d .cls) classCount (p .known)))
       (le-leb m fieldCount (p .few)))
-      (eq-eqb m (length (map refByte (d .refs))) (sym (length-map (d .refs) refByte))))
-      ∙ ap (λ (o : Option (List Ref)). o >>= λ rs. some (node (d .cls) rs)) (refs-round (d .refs) h (p .closed))
+      ∙ ap (λ (l : List ℕ). rest (refsOf n m l)) (sym (append-nil (fieldBytes (d .refs))))
+      ∙ ap rest (refs-round n small (d .refs) [] h (p .closed))
 
   pub objects-round : (ns : List Node) (k : ℕ) → AllIn Plain ns → AllIn (λ d. RefsIn n (d .refs)) ns → objectsFrom n k (objectLines k ns) ≡ some ns
   unfolding objectsFrom
@@ -83,17 +66,13 @@ in-nodes n [] h i f r e = absurd (Option·none-ne-some r e)
 in-nodes n (d ∷ ds) h zero f r e = in-refs n (d .refs) (h .0) f r e
 in-nodes n (d ∷ ds) h (suc i) f r e = in-nodes n ds (h .1) i f r e
 
--- an object's line is not the line 06
-not-undetermined : (k : ℕ) (d : Node) → eqNats (objectLine k d) (6 ∷ []) ≡ false
-unfolding eqNats
-not-undetermined k d = refl
-
+-- an object's line tells no leaf: it has four bytes at least
 objects-line : (objects : ℕ) (ns : List Node) → 1 ≤ length ns → linesValue objects (objectLines 0 ns) ≡ objectsValue objects (objectLines 0 ns)
 objects-line objects [] l = absurd (not-suc-le-zero l)
-objects-line objects (d ∷ []) l = rw (not-undetermined 0 d, linesValue)
+objects-line objects (d ∷ []) l = refl
 objects-line objects (d ∷ e ∷ ds) l = refl
 
-module _ (objects : ℕ) (small : objects ≤ 255) where
+module _ (objects : ℕ) (small : objects ≤ partCount) where
   good-objects : (v : Graph) → Reportable objects v → (i : ℕ) → v .root ≡ obj i → objectsGood objects (v .nodes) ≡ true
   unfolding objectsGood
   good-objects v h i e =
@@ -103,10 +82,6 @@ module _ (objects : ℕ) (small : objects ≤ 255) where
       (true-and _ (oneCount (v .nodes))
       (true-and (leb 1 (length (v .nodes))) (leb (length (v .nodes)) objects) (le-leb 1 (length (v .nodes)) (omega arith)) (le-leb (length (v .nodes)) objects (h .small))) (h .counts))
       (canonical-distinct v (h .whole) (h .own))) (canonical-order v (h .whole) (h .own) i e)
-
-  is-undetermined : linesValue objects ((6 ∷ []) ∷ []) ≡ some undetermined
-  unfolding eqNats
-  is-undetermined = refl
 
   pub lines-round : (v : Graph) → Reportable objects v → linesValue objects (valueLines v) ≡ some v
   lines-round v h = go (v .root) refl (h .root)
@@ -123,87 +98,68 @@ module _ (objects : ℕ) (small : objects ≤ 255) where
           ∙ ap (λ (b : Bool). guard b >>= λ _. some (graph (obj 0) (v .nodes))) (good-objects v h i e)
           ∙ ap (λ (r : Ref). some (graph r (v .nodes))) (ap obj (sym (canonical-root v (h .whole) (h .own) i e)) ∙ sym e)
 
-      go : (r : Ref) → v .root ≡ r → MarkBelow 0 r
-          → linesValue objects (elim r as (λ _. List (List ℕ)) [ obj i ↦ objectLines 0 (v .nodes) | mark k ↦ (6 ∷ []) ∷ [] | undet ↦ (6 ∷ []) ∷ [] ]) ≡ some v
+      -- the line of a leaf tells it
+      told : (l : Leaf) → LeafBelow 0 l → linesValue objects (leafLine l ∷ []) ≡ some (leafOf l)
+      told (mark k) m = absurd (not-suc-le-zero m)
+      told undet m = refl
+      told (num n) m = ap (λ (k : ℕ). some (leafOf (num k))) (let z : 256 * (n / 256) + n % 256 ≡ n = omega arith in z)
+
+      go : (r : Ref) → v .root ≡ r → RefBelow 0 r → linesValue objects (elim r as (λ _. List (List ℕ)) [ obj i ↦ objectLines 0 (v .nodes) | leaf l ↦ leafLine l ∷ [] ]) ≡ some v
       go (obj i) e m = at-object i e
-      go (mark k) e m = absurd (not-suc-le-zero m)
-      go undet e m = is-undetermined ∙ ap₂ (λ (r : Ref) (ns : List Node). some (graph r ns)) (sym e)
-          (sym (canonical-empty v (h .whole) (h .own) (λ i q. let z : undet ≡ obj i = sym e ∙ q in absurd (let y : _≡_ {A = ℕ} 0 1 = cc in omega arith))))
+      go (leaf l) e m = told l m ∙ ap₂ (λ (r : Ref) (ns : List Node). some (graph r ns)) (sym e)
+          (sym (canonical-empty v (h .whole) (h .own) (λ i q. let z : leaf l ≡ obj i = sym e ∙ q in absurd (let y : _≡_ {A = ℕ} 0 1 = cc in omega arith))))
 
 -- ---- from lines to the value and back
-ref-back : (n b : ℕ) (r : Ref) → refOf n b ≡ some r → InRange n r × MarkBelow 0 r × (refByte r ≡ b)
-ref-back n b r e = go (ltb b n) refl (eqb b 0xFF) refl e
-  where
-    go : (x : Bool) → ltb b n ≡ x → (y : Bool) → eqb b 0xFF ≡ y → _≡_ {A = Option Ref} (elim x [ true ↦ some (obj b) | false ↦ elim y [ true ↦ some undet | false ↦ none ] ]) (some r)
-        → InRange n r × MarkBelow 0 r × (refByte r ≡ b)
-    go true p y q z = subst (λ (s : Ref). InRange n s × MarkBelow 0 s × (refByte s ≡ b)) (let w : obj b ≡ r = cc in w) (ltb-true b n p, tt, refl)
-    go false p true q z = subst (λ (s : Ref). InRange n s × MarkBelow 0 s × (refByte s ≡ b)) (let w : undet ≡ r = cc in w) (tt, tt, sym (eqb-true b 0xFF q))
-    go false p false q z = absurd (Option·none-ne-some r z)
-
-abbrev pub Read : ℕ → List Ref → List ℕ → Type 0
-Read n rs bs = RefsIn n rs × AllIn (MarkBelow 0) rs × (map refByte rs ≡ bs)
-
-refs-back : (n : ℕ) (bs : List ℕ) (rs : List Ref) → refsOf n bs ≡ some rs → Read n rs bs
-unfolding refsOf
-refs-back n [] rs e = subst (λ (s : List Ref). Read n s []) (let w : [] ≡ rs = cc in w) (tt, tt, refl)
-refs-back n (b ∷ bs) rs e =
-    let a = opt-bind (refOf n b) _ rs e in
-    let c = opt-bind (refsOf n bs) _ rs (a .2) in
-    let h = ref-back n b (a .0) (a .1) in
-    let hs = refs-back n bs (c .0) (c .1) in
-    let y : some (a .0 ∷ c .0) ≡ some rs = c .2 in
-    subst (λ (s : List Ref). Read n s (b ∷ bs)) (let w : a .0 ∷ c .0 ≡ rs = cc in w) ((h .0, hs .0), (h .1, hs .1), ap₂ {C = List ℕ} _∷_ (h .2) (hs .2))
-
 pub record Back (n k : ℕ) (d : Node) (l : List ℕ) : Type 0 where
   pub plain : Plain d
   pub refs : RefsIn n (d .refs)
   pub line : objectLine k d ≡ l
 
-object-back : (n k : ℕ) (l : List ℕ) (d : Node) → objectOf n k l ≡ some d → Back n k d l
-object-back n k [] d e = absurd (Option·none-ne-some d e)
-object-back n k (a ∷ []) d e = absurd (Option·none-ne-some d e)
-object-back n k (a ∷ b ∷ []) d e = absurd (Option·none-ne-some d e)
-object-back n k (a ∷ b ∷ c ∷ []) d e = absurd (Option·none-ne-some d e)
-object-back n k (a ∷ b ∷ c ∷ m ∷ bs) d e =
-    let g = guard-bind (eqb a 5 && eqb b k && leb c classCount && leb m fieldCount && eqb m (length bs)) _ d e in
-    let g4 = and-true (eqb a 5 && eqb b k && leb c classCount && leb m fieldCount) (eqb m (length bs)) (g .0) in
-    let g3 = and-true (eqb a 5 && eqb b k && leb c classCount) (leb m fieldCount) (g4 .0) in
+object-back : (n k : ℕ) (l : List ℕ) (d : Node) → Bytes l → objectOf n k l ≡ some d → Back n k d l
+object-back n k [] d h e = absurd (Option·none-ne-some d e)
+object-back n k (a ∷ []) d h e = absurd (Option·none-ne-some d e)
+object-back n k (a ∷ b ∷ []) d h e = absurd (Option·none-ne-some d e)
+object-back n k (a ∷ b ∷ c ∷ []) d h e = absurd (Option·none-ne-some d e)
+object-back n k (a ∷ b ∷ c ∷ m ∷ bs) d h e =
+    let g = guard-bind (eqb a 5 && eqb b k && leb c classCount && leb m fieldCount) _ d e in
+    let g3 = and-true (eqb a 5 && eqb b k && leb c classCount) (leb m fieldCount) (g .0) in
     let g2 = and-true (eqb a 5 && eqb b k) (leb c classCount) (g3 .0) in
     let g1 = and-true (eqb a 5) (eqb b k) (g2 .0) in
-    let x = opt-bind (refsOf n bs) _ d (g .1) in
-    let h = refs-back n bs (x .0) (x .1) in
-    let y : some (node c (x .0)) ≡ some d = x .2 in
+    let x = opt-bind (refsOf n m bs) _ d (g .1) in
+    let y = opt-bind (whole (x .0)) _ d (x .2) in
+    let r = subst (ReadRefs n m bs) (whole-back (x .0) (y .0) (y .1)) (refs-back n m bs (x .0) (h .1 .1 .1 .1) (x .1)) in
+    let z : some (node c (y .0)) ≡ some d = y .2 in
     let p = eqb-true a 5 (g1 .0) in
     let q = eqb-true b k (g1 .1) in
-    let s : length (x .0) ≡ m = sym (length-map (x .0) refByte) ∙ ap length (h .2) ∙ sym (eqb-true m (length bs) (g4 .1)) in
+    let l : fieldBytes (y .0) ≡ bs = sym (append-nil (fieldBytes (y .0))) ∙ r .line in
     let f = leb-true m fieldCount (g3 .1) in
-    subst (λ (o : Node). Back n k o (a ∷ b ∷ c ∷ m ∷ bs)) (let w : node c (x .0) ≡ d = cc in w)
+    subst (λ (o : Node). Back n k o (a ∷ b ∷ c ∷ m ∷ bs)) (let w : node c (y .0) ≡ d = cc in w)
     (record {
-      plain = record { known = leb-true c classCount (g2 .1); few = subst (λ (j : ℕ). j ≤ fieldCount) (sym s) f; closed = h .1 };
-      refs = h .0;
-      line = λ i. sym p i ∷ sym q i ∷ c ∷ s i ∷ h .2 i;
+      plain = record { known = leb-true c classCount (g2 .1); few = subst (λ (j : ℕ). j ≤ fieldCount) (sym (r .count)) f; closed = r .below };
+      refs = r .ranged;
+      line = λ i. sym p i ∷ sym q i ∷ c ∷ r .count i ∷ l i;
     })
 
-pub objects-back : (n k : ℕ) (ls : List (List ℕ)) (ns : List Node) → objectsFrom n k ls ≡ some ns
+pub objects-back : (n k : ℕ) (ls : List (List ℕ)) (ns : List Node) → Lines ls → objectsFrom n k ls ≡ some ns
     → AllIn Plain ns × AllIn (λ d. RefsIn n (d .refs)) ns × (objectLines k ns ≡ ls)
 unfolding objectsFrom
-objects-back n k [] ns e = subst (λ (x : List Node). AllIn Plain x × AllIn (λ d. RefsIn n (d .refs)) x × (objectLines k x ≡ [])) (let w : [] ≡ ns = cc in w) (tt, tt, refl)
-objects-back n k (l ∷ ls) ns e =
+objects-back n k [] ns h e = subst (λ (x : List Node). AllIn Plain x × AllIn (λ d. RefsIn n (d .refs)) x × (objectLines k x ≡ [])) (let w : [] ≡ ns = cc in w) (tt, tt, refl)
+objects-back n k (l ∷ ls) ns w e =
     let a = opt-bind (objectOf n k l) _ ns e in
     let b = opt-bind (objectsFrom n (suc k) ls) _ ns (a .2) in
-    let h = object-back n k l (a .0) (a .1) in
-    let hs = objects-back n (suc k) ls (b .0) (b .1) in
+    let h = object-back n k l (a .0) (w .2) (a .1) in
+    let hs = objects-back n (suc k) ls (b .0) (w .3) (b .1) in
     let y : some (a .0 ∷ b .0) ≡ some ns = b .2 in
-    subst (λ (x : List Node). AllIn Plain x × AllIn (λ d. RefsIn n (d .refs)) x × (objectLines k x ≡ l ∷ ls)) (let w : a .0 ∷ b .0 ≡ ns = cc in w)
+    subst (λ (x : List Node). AllIn Plain x × AllIn (λ d. RefsIn n (d .refs)) x × (objectLines k x ≡ l ∷ ls)) (let z : a .0 ∷ b .0 ≡ ns = cc in z)
     ((h .plain, hs .0), (h .refs, hs .1), ap₂ {C = List (List ℕ)} _∷_ (h .line) (hs .2))
 
 module _ (objects : ℕ) where
-  objects-value : (ls : List (List ℕ)) (v : Graph) → objectsValue objects ls ≡ some v → Reportable objects v × (valueLines v ≡ ls)
+  objects-value : (ls : List (List ℕ)) (v : Graph) → Lines ls → objectsValue objects ls ≡ some v → Reportable objects v × (valueLines v ≡ ls)
   unfolding objectsGood
-  objects-value ls v e =
+  objects-value ls v h e =
       let a = opt-bind (objectsFrom (length ls) 0 ls) _ v e in
       let g = guard-bind (objectsGood objects (a .0)) (λ _. some (graph (obj 0) (a .0))) v (a .2) in
-      let b = objects-back (length ls) 0 ls (a .0) (a .1) in
+      let b = objects-back (length ls) 0 ls (a .0) h (a .1) in
       let ns = a .0 in
       let g4 = and-true _ (inOrder ns) (g .0) in
       let g3 = and-true _ (noTwoEqual ns) (g4 .0) in
@@ -225,19 +181,38 @@ module _ (objects : ℕ) where
         b .2,
       )
 
-  reportable-undetermined : Reportable objects undetermined
+  reportable-leaf : (l : Leaf) → LeafBelow 0 l → Reportable objects (leafOf l)
   unfolding canon oneCount
-  reportable-undetermined =
-      record { whole = record { top = tt; inner = λ i f r e. absurd (Option·none-ne-some r e) }; own = refl; small = zero-le; root = tt; nodes = tt; counts = refl }
+  reportable-leaf l h =
+      record { whole = record { top = tt; inner = λ i f r e. absurd (Option·none-ne-some r e) }; own = refl; small = zero-le; root = h; nodes = tt; counts = refl }
 
-  pub lines-back : (ls : List (List ℕ)) (v : Graph) → linesValue objects ls ≡ some v → Reportable objects v × (valueLines v ≡ ls)
-  lines-back [] v e = absurd (Option·none-ne-some v e)
-  lines-back (l ∷ []) v e = go (eqNats l (6 ∷ [])) refl e
+  -- a line that tells a leaf is the leaf's line
+  leaf-back : (l : List ℕ) (x : Leaf) → Bytes l → leafIn l ≡ some x → LeafBelow 0 x × (leafLine x ≡ l)
+  leaf-back [] x h e = absurd (Option·none-ne-some x e)
+  leaf-back (a ∷ []) x h e =
+      let g = guard-bind (eqb a 6) _ x e in
+      subst (λ (y : Leaf). LeafBelow 0 y × (leafLine y ≡ a ∷ [])) (let z : some undet ≡ some x = g .1 in let w : undet ≡ x = cc in w)
+      (tt, ap (λ (b : ℕ). b ∷ []) (sym (eqb-true a 6 (g .0))))
+  leaf-back (a ∷ b ∷ []) x h e = absurd (Option·none-ne-some x e)
+  leaf-back (a ∷ b ∷ c ∷ []) x h e =
+      let g = guard-bind (eqb a 9) _ x e in
+      let p = h .1 .0 in
+      let q = h .1 .1 .0 in
+      let nine = sym (eqb-true a 9 (g .0)) in
+      let high : (256 * b + c) / 256 ≡ b = omega arith in
+      let low : (256 * b + c) % 256 ≡ c = omega arith in
+      subst (λ (y : Leaf). LeafBelow 0 y × (leafLine y ≡ a ∷ b ∷ c ∷ [])) (let z : some (num (256 * b + c)) ≡ some x = g .1 in let w : num (256 * b + c) ≡ x = cc in w)
+      (omega arith, λ i. nine i ∷ high i ∷ low i ∷ [])
+  leaf-back (a ∷ b ∷ c ∷ d ∷ bs) x h e = absurd (Option·none-ne-some x e)
+
+  pub lines-back : (ls : List (List ℕ)) (v : Graph) → Lines ls → linesValue objects ls ≡ some v → Reportable objects v × (valueLines v ≡ ls)
+  lines-back [] v h e = absurd (Option·none-ne-some v e)
+  lines-back (l ∷ []) v h e = go (leafIn l) refl e
     where
-      go : (b : Bool) → eqNats l (6 ∷ []) ≡ b → _≡_ {A = Option Graph} (elim b [ true ↦ some undetermined | false ↦ objectsValue objects (l ∷ []) ]) (some v)
+      go : (o : Option Leaf) → leafIn l ≡ o → _≡_ {A = Option Graph} (elim o [ some x ↦ some (leafOf x) | none ↦ objectsValue objects (l ∷ []) ]) (some v)
           → Reportable objects v × (valueLines v ≡ l ∷ [])
-      go true p z =
-          subst (λ (x : Graph). Reportable objects x × (valueLines x ≡ l ∷ [])) (let w : undetermined ≡ v = cc in w)
-          (reportable-undetermined, ap (λ (x : List ℕ). x ∷ []) (sym (eqNats-true l (6 ∷ []) p)))
-      go false p z = objects-value (l ∷ []) v z
-  lines-back (l ∷ m ∷ ls) v e = objects-value (l ∷ m ∷ ls) v e
+      go (some x) p z =
+          let b = leaf-back l x (h .2) p in
+          subst (λ (g : Graph). Reportable objects g × (valueLines g ≡ l ∷ [])) (let w : leafOf x ≡ v = cc in w) (reportable-leaf x (b .0), ap (λ (y : List ℕ). y ∷ []) (b .1))
+      go none p z = objects-value (l ∷ []) v h z
+  lines-back (l ∷ m ∷ ls) v h e = objects-value (l ∷ m ∷ ls) v h e

@@ -18,19 +18,20 @@ use Rattle.cofj.specs.Frames.{ClassFrame, TextFrame, classFrame, methodF
 use Rattle.cofj.specs.Tables.{Raw, raw, inFront, ordered, numbered, bodies, table}
 use Rattle.cofj.specs.Reading.{Answer, refusal, read, readText}
 use Rattle.cofj.specs.Writing.{mainLine, classLine, classLines, methodLines, methodLine, tableLines, textOf, Text, noText, text, writeTable}
-use Rattle.cofj.proofs.TextRound.{hex-lines, lines-hex}
-use Rattle.cofj.proofs.FrameRound.{given, same, taken-as, lineOf, frame-back, frame-forth}
+use Rattle.cofj.proofs.TextRound.{Lines, hex-lines, lines-hex, lines-bytes}
+use Rattle.cofj.proofs.Steps.{given, same, taken-as}
+use Rattle.cofj.proofs.FrameRound.{lineOf, frame-back, frame-forth}
 use Rattle.cofj.proofs.Partial.{and-true, taken}
 use Rattle.cofj.proofs.Passed.{table-ruled, passed}
 
 -- ---- lines and frames
-frames-back : (ls : List (List ℕ)) (fs : List TextFrame) → frames ls ≡ some fs → map lineOf fs ≡ ls
+frames-back : (ls : List (List ℕ)) (fs : List TextFrame) → frames ls ≡ some fs → Lines ls → map lineOf fs ≡ ls
 unfolding frames
-frames-back [] fs e = given (λ (x : List TextFrame). map lineOf x ≡ []) _ fs e refl
-frames-back (l ∷ ls) fs e =
+frames-back [] fs e h = given (λ (x : List TextFrame). map lineOf x ≡ []) _ fs e refl
+frames-back (l ∷ ls) fs e h =
     taken (frame l) fs e λ f q e1.
     taken (frames ls) fs e1 λ gs r e2.
-    given (λ (x : List TextFrame). map lineOf x ≡ l ∷ ls) _ fs e2 (ap₂ {C = List (List ℕ)} _∷_ (frame-back l f q) (frames-back ls gs r))
+    given (λ (x : List TextFrame). map lineOf x ≡ l ∷ ls) _ fs e2 (ap₂ {C = List (List ℕ)} _∷_ (frame-back l f q (h .2)) (frames-back ls gs r (h .3)))
 
 frames-forth : (fs gs : List TextFrame) → frames (map lineOf fs) ≡ some gs → gs ≡ fs
 unfolding frames
@@ -132,7 +133,7 @@ unfolding textOf
 write-read s t e =
     let p = passed s t e in
     let r : framesOf (rawOf t) ≡ p .fs = ap framesOf (table-back (p .r) t (p .toTable)) ∙ ordered-back (p .fs) (p .r) (p .toRaw) in
-    ap hexText (table-lines t ∙ ap (map lineOf) r ∙ frames-back (p .ls) (p .fs) (p .toFrames))
+    ap hexText (table-lines t ∙ ap (map lineOf) r ∙ frames-back (p .ls) (p .fs) (p .toFrames) (lines-bytes s (p .ls) (p .toLines)))
     ∙ hex-lines s (p .ls) (p .eachLine)
 
 -- table, text, table

@@ -42,15 +42,15 @@ module _ (a : Call) where
   unfolding stateRefusal
   state-closed e = λ i. stateBy (e i) (ltb (length (a .report)) reportSize) (ltb (length (a .work)) workSize)
 
-  state-report : a .session .active ≡ true → length (a .report) < reportSize → stateRefusal a ≡ some 12
+  pub state-report : a .session .active ≡ true → length (a .report) < reportSize → stateRefusal a ≡ some 12
   unfolding stateRefusal
   state-report e l = let p = lt-ltb (length (a .report)) reportSize l in λ i. stateBy (e i) (p i) (ltb (length (a .work)) workSize)
 
-  state-work : a .session .active ≡ true → reportSize ≤ length (a .report) → length (a .work) < workSize → stateRefusal a ≡ some 13
+  pub state-work : a .session .active ≡ true → reportSize ≤ length (a .report) → length (a .work) < workSize → stateRefusal a ≡ some 13
   unfolding stateRefusal
   state-work e l m = let p = le-ltb (length (a .report)) reportSize l in let q = lt-ltb (length (a .work)) workSize m in λ i. stateBy (e i) (p i) (q i)
 
-  state-none : Lent a → stateRefusal a ≡ none
+  pub state-none : Lent a → stateRefusal a ≡ none
   unfolding stateRefusal
   state-none l =
       let e = l .active in

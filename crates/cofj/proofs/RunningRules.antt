@@ -1,22 +1,23 @@
--- The interpreter computes the big-step rules (specs/RunningRules). First, from the rules alone: every expression has an outcome (-total).
--- Then what follows by the rules is the interpreter's outcome (-complete). The two together: its outcome follows by the rules (-sound), and
--- there is no other (-unique). Last, the same of runs. Nothing is asked of the table. Not here: what the side conditions say (SideConditions).
-use Prim.Native.Nat.{ℕ, zero, suc, _≤_, _<_}
+-- The interpreter computes the big-step rules (specs/RunningRules). What follows by the rules is the interpreter's outcome (-complete). Since every
+-- expression has an outcome by the rules (RunTotal), its outcome follows by them (-sound), and there is no other (-unique). Last, the same of runs. Nothing is asked of the table. Not here: what the side conditions say (SideConditions).
+use Prim.Native.Nat.{ℕ, zero, suc, _+_, _≤_, _<_}
+use native.Mathlib.Omega.{arith}
 use mathlib.Core.Path.{_≡_, refl, sym, ap, _∙_, subst}
 use mathlib.Core.Bool.{Bool, true, false}
 use mathlib.Core.List.{List, []}
 use mathlib.Core.Option.{Option, none, some}
 use lib.Dec.{eqb, ltb}
-use lib.ListN.{length, getElem?}
-use borrow.Author.Tests.{eqb-true, eqb-false, eq-eqb, ne-eqb, ltb-true, ltb-false, lt-ltb, le-ltb}
-use Rattle.cofj.specs.Limits.{Limits}
-use Rattle.cofj.specs.Syntax.{Expr, this, res, param, field, call, new, Exprs, done, also, count, Method, Table}
-use Rattle.cofj.specs.Classes.{fieldsOf, lookup}
-use Rattle.cofj.specs.Values.{Graph, make, select, close, markOf}
-use Rattle.cofj.specs.Running.{tooDeep, tooLarge, Outcome, value, stopped, _then_, Frame, OpenCall, openMark, classOf, Deeper, frameOf, opened, invoke, sized, eval, evals, evalTo, mainFrame, runWithin}
-use Rattle.cofj.specs.RunningRules.{Evaluates, VAR-this, VAR-res, VAR-param, FIELD, INVK, COREC, NEW, W-FIELD-object, W-FIELD-lacks, W-INVK-object, W-INVK-lacks, W-INVK-count, W-INVK2, W-NEW, PROP-field, PROP-receiver, PROP-arguments, PROP-new, W-VAR-this, W-VAR-res, W-VAR-param, OUT-OF-FUEL, TOO-DEEP, TOO-LARGE, EvaluateAll, NONE, EACH, PROP-head, PROP-tail, RunsTo, PROG}
+use lib.ListN.{length}
+use borrow.Author.Tests.{eq-eqb, ne-eqb, lt-ltb, le-ltb}
+use Rattle.cofj.specs.Limits.{Limits, numberCount}
+use Rattle.cofj.specs.Syntax.{sum, Expr, new, Exprs, count, Method, Table}
+use Rattle.cofj.specs.Classes.{fieldsOf}
+use Rattle.cofj.specs.Values.{Graph, make, close, markOf, numberOf}
+use Rattle.cofj.specs.Running.{tooDeep, tooLarge, overflow, Outcome, value, stopped, _then_, Frame, OpenCall, openMark, Deeper, frameOf, opened, invoke, sized, reckon, eval, evals, evalTo, mainFrame, runWithin}
+use Rattle.cofj.specs.RunningRules.{Evaluates, VAR-this, VAR-res, VAR-param, FIELD, INVK, COREC, NEW, W-FIELD-object, W-FIELD-lacks, W-INVK-object, W-INVK-lacks, W-INVK-count, W-INVK2, W-NEW, PROP-field, PROP-receiver, PROP-arguments, PROP-new, W-VAR-this, W-VAR-res, W-VAR-param, OUT-OF-FUEL, TOO-DEEP, TOO-LARGE, NUMBER, SUM, DIFFERENCE, OVERFLOW, W-COMBINE-first, W-COMBINE-second, CHOOSE-first, CHOOSE-second, W-CHOOSE, PROP-first, PROP-second, PROP-choose, EvaluateAll, NONE, EACH, PROP-head, PROP-tail, RunsTo, PROG}
 use Rattle.cofj.proofs.SideConditions.{target-object, target-lacks, target-count, select-none}
 use Rattle.cofj.proofs.SoundCalls.{target-is}
+use Rattle.cofj.proofs.RunTotal.{eval-total, evals-total}
 
 if-true : (b : Bool) (x y : Outcome Graph) → b ≡ true → (elim b as (λ _. Outcome Graph) [ true ↦ x | false ↦ y ]) ≡ x
 if-true b x y e = rw e
@@ -25,128 +26,6 @@ if-false : (b : Bool) (x y : Outcome Graph) → b ≡ false → (elim b as (λ _
 if-false b x y e = rw e
 
 module _ (objects : ℕ) (t : Table) where
-  -- ---- every expression has an outcome by the rules; the depth is the outer recursion, the expression the inner one
-  abbrev pub Ends : ℕ → Frame → List OpenCall → Expr → ℕ → Type 0
-  Ends k fr os e n = (o : Outcome Graph) × Evaluates objects t k fr os e n o
-
-  abbrev pub EndAll : ℕ → Frame → List OpenCall → Exprs → ℕ → Type 0
-  EndAll k fr os es n = (o : Outcome (List Graph)) × EvaluateAll objects t k fr os es n o
-
-  -- bodies end, where k more calls may be opened
-  abbrev Bodies : ℕ → Type 0
-  Bodies zero = Unit {0}
-  Bodies (suc k) = (fr : Frame) (os : List OpenCall) (e : Expr) (n : ℕ) → Ends k fr os e n
-
-  module _ (fr : Frame) (os : List OpenCall) (m : ℕ) (e : Expr) (es : Exprs) (n : ℕ) where
-    -- a call: its receiver, method and arguments are known
-    redex-ends : (k : ℕ) → Bodies k → (v : Graph) (n₁ c : ℕ) (d : Method) (vs : List Graph) (n₂ : ℕ) → Evaluates objects t k fr os e n (value v n₁)
-        → classOf v ≡ some c → lookup t c m ≡ some d → length (d .params) ≡ count es → EvaluateAll objects t k fr os es n₁ (value vs n₂) → Ends k fr os (call m e es) n
-    redex-ends k B v n₁ c d vs zero p q r l ps = (_, OUT-OF-FUEL p q r l ps)
-    redex-ends zero B v n₁ c d vs (suc n₂) p q r l ps = (_, TOO-DEEP p q r l ps)
-    redex-ends (suc k) B v n₁ c d vs (suc n₂) p q r l ps = by-mark (openMark os v m vs) refl
-      where
-        by-left : openMark os v m vs ≡ none → Ends k (frameOf v none vs) (opened os v m vs) (d .left) n₂ → Ends (suc k) fr os (call m e es) n
-        by-left z (value u n₃, b) = (_, INVK p q r l ps z b)
-        by-left z (stopped s n₃, b) = (_, W-INVK2 p q r l ps z b)
-
-        by-mark : (o : Option ℕ) → openMark os v m vs ≡ o → Ends (suc k) fr os (call m e es) n
-        by-mark none z = by-left z (B (frameOf v none vs) (opened os v m vs) (d .left) n₂)
-        by-mark (some x) z = (_, COREC p q r l ps z (B (frameOf v (some (markOf x)) vs) os (d .right) n₂ .1))
-
-    module _ (k : ℕ) (B : Bodies k) where
-      -- its receiver is known
-      receiver-ends : (v : Graph) (n₁ : ℕ) → Evaluates objects t k fr os e n (value v n₁) → EndAll k fr os es n₁ → Ends k fr os (call m e es) n
-      receiver-ends v n₁ p a = by-class (classOf v) refl
-        where
-          by-arguments : (c : ℕ) (d : Method) → classOf v ≡ some c → lookup t c m ≡ some d → length (d .params) ≡ count es → EndAll k fr os es n₁ → Ends k fr os (call m e es) n
-          by-arguments c d q r l (value vs n₂, ps) = redex-ends k B v n₁ c d vs n₂ p q r l ps
-          by-arguments c d q r l (stopped s n₂, ps) = (_, PROP-arguments p q r l ps)
-
-          by-count : (c : ℕ) (d : Method) → classOf v ≡ some c → lookup t c m ≡ some d → (b : Bool) → eqb (length (d .params)) (count es) ≡ b → Ends k fr os (call m e es) n
-          by-count c d q r true l = by-arguments c d q r (eqb-true (length (d .params)) (count es) l) a
-          by-count c d q r false l = (_, W-INVK-count p q r (eqb-false (length (d .params)) (count es) l))
-
-          by-method : (c : ℕ) → classOf v ≡ some c → (d : Option Method) → lookup t c m ≡ d → Ends k fr os (call m e es) n
-          by-method c q none r = (_, W-INVK-lacks p q r)
-          by-method c q (some d) r = by-count c d q r (eqb (length (d .params)) (count es)) refl
-
-          by-class : (c : Option ℕ) → classOf v ≡ c → Ends k fr os (call m e es) n
-          by-class none q = (_, W-INVK-object p q)
-          by-class (some c) q = by-method c q (lookup t c m) refl
-
-      call-ends : Ends k fr os e n → ((n₁ : ℕ) → EndAll k fr os es n₁) → Ends k fr os (call m e es) n
-      call-ends (value v n₁, p) a = receiver-ends v n₁ p (a n₁)
-      call-ends (stopped s n₁, p) a = (_, PROP-receiver p)
-
-  module _ (k : ℕ) (fr : Frame) (os : List OpenCall) where
-    field-ends : (f : ℕ) (e : Expr) (n : ℕ) → Ends k fr os e n → Ends k fr os (field f e) n
-    field-ends f e n (stopped s n₁, p) = (_, PROP-field p)
-    field-ends f e n (value v n₁, p) = go (select f v) refl (classOf v) refl
-      where
-        go : (o : Option Graph) → select f v ≡ o → (c : Option ℕ) → classOf v ≡ c → Ends k fr os (field f e) n
-        go (some u) q c r = (_, FIELD p q)
-        go none q none r = (_, W-FIELD-object p r)
-        go none q (some c) r = (_, W-FIELD-lacks p r q)
-
-    new-ends : (c : ℕ) (es : Exprs) (n : ℕ) → EndAll k fr os es n → Ends k fr os (new c es) n
-    new-ends c es n a = by-count (eqb (length (fieldsOf (t .classes) c)) (count es)) refl
-      where
-        by-size : (vs : List Graph) (n₁ : ℕ) → length (fieldsOf (t .classes) c) ≡ count es → EvaluateAll objects t k fr os es n (value vs n₁)
-            → (b : Bool) → ltb objects (length (make c vs .nodes)) ≡ b → Ends k fr os (new c es) n
-        by-size vs n₁ q ps true z = (_, TOO-LARGE q ps (ltb-true objects (length (make c vs .nodes)) z))
-        by-size vs n₁ q ps false z = (_, NEW q ps (ltb-false objects (length (make c vs .nodes)) z))
-
-        by-values : length (fieldsOf (t .classes) c) ≡ count es → EndAll k fr os es n → Ends k fr os (new c es) n
-        by-values q (value vs n₁, ps) = by-size vs n₁ q ps (ltb objects (length (make c vs .nodes))) refl
-        by-values q (stopped s n₁, ps) = (_, PROP-new q ps)
-
-        by-count : (b : Bool) → eqb (length (fieldsOf (t .classes) c)) (count es) ≡ b → Ends k fr os (new c es) n
-        by-count true q = by-values (eqb-true (length (fieldsOf (t .classes) c)) (count es) q) a
-        by-count false q = (_, W-NEW (eqb-false (length (fieldsOf (t .classes) c)) (count es) q))
-
-    item-ends : (e : Expr) (es : Exprs) (n : ℕ) → Ends k fr os e n → ((n₁ : ℕ) → EndAll k fr os es n₁) → EndAll k fr os (also e es) n
-    item-ends e es n (stopped s n₁, p) a = (_, PROP-head p)
-    item-ends e es n (value v n₁, p) a = go (a n₁)
-      where
-        go : EndAll k fr os es n₁ → EndAll k fr os (also e es) n
-        go (value vs n₂, ps) = (_, EACH p ps)
-        go (stopped s n₂, ps) = (_, PROP-tail p ps)
-
-    mutual
-      expr-ends : (e : Expr) (n : ℕ) → Bodies k → Ends k fr os e n
-      expr-ends this n B = go (fr .this) refl
-        where
-          go : (v : Option Graph) → fr .this ≡ v → Ends k fr os this n
-          go none q = (_, W-VAR-this q)
-          go (some v) q = (_, VAR-this q)
-      expr-ends res n B = go (fr .res) refl
-        where
-          go : (v : Option Graph) → fr .res ≡ v → Ends k fr os res n
-          go none q = (_, W-VAR-res q)
-          go (some v) q = (_, VAR-res q)
-      expr-ends (param x) n B = go (getElem? (fr .params) x) refl
-        where
-          go : (v : Option Graph) → getElem? (fr .params) x ≡ v → Ends k fr os (param x) n
-          go none q = (_, W-VAR-param q)
-          go (some v) q = (_, VAR-param q)
-      expr-ends (field f e) n B = field-ends f e n (expr-ends e n B)
-      expr-ends (call m e es) n B = call-ends fr os m e es n k B (expr-ends e n B) (λ n₁. exprs-end es n₁ B)
-      expr-ends (new c es) n B = new-ends c es n (exprs-end es n B)
-
-      exprs-end : (es : Exprs) (n : ℕ) → Bodies k → EndAll k fr os es n
-      exprs-end done n B = (_, NONE)
-      exprs-end (also e es) n B = item-ends e es n (expr-ends e n B) (λ n₁. exprs-end es n₁ B)
-
-  bodies-end : (k : ℕ) → Bodies k
-  bodies-end zero = tt
-  bodies-end (suc k) = λ fr os e n. expr-ends k fr os e n (bodies-end k)
-
-  pub eval-total : (k : ℕ) (fr : Frame) (os : List OpenCall) (e : Expr) (n : ℕ) → Ends k fr os e n
-  eval-total k fr os e n = expr-ends k fr os e n (bodies-end k)
-
-  pub evals-total : (k : ℕ) (fr : Frame) (os : List OpenCall) (es : Exprs) (n : ℕ) → EndAll k fr os es n
-  evals-total k fr os es n = exprs-end k fr os es n (bodies-end k)
-
   -- ---- what follows by the rules is the interpreter's outcome
   -- the evaluation of bodies, where k more calls may be opened
   abbrev pub bodies : ℕ → Option Deeper
@@ -188,8 +67,16 @@ module _ (objects : ℕ) (t : Table) where
   unfolding sized
   large g n l = if-true (ltb objects (length (g .nodes))) _ _ (lt-ltb objects (length (g .nodes)) l)
 
+  fits-sum : (x y n : ℕ) → x + y < numberCount → reckon sum x y n ≡ value (numberOf (x + y)) n
+  unfolding reckon
+  fits-sum x y n l = if-true (ltb (x + y) numberCount) _ _ (lt-ltb (x + y) numberCount l)
+
+  overflows : (x y n : ℕ) → numberCount ≤ x + y → reckon sum x y n ≡ stopped overflow n
+  unfolding reckon
+  overflows x y n l = if-false (ltb (x + y) numberCount) _ _ (le-ltb (x + y) numberCount l)
+
   eval-outcome : {k : ℕ} {fr : Frame} {os : List OpenCall} {e : Expr} {n : ℕ} {o : Outcome Graph} → Evaluates objects t k fr os e n o → eval objects t (bodies k) fr os e n ≡ o
-  unfolding eval invoke
+  unfolding eval invoke reckon
   eval-outcome p = elim p as (λ k fr os e n o _. eval objects t (bodies k) fr os e n ≡ o) (λ k fr os es n o _. evals objects t (bodies k) fr os es n ≡ o) [
     | VAR-this q ↦ rw q
     | VAR-res q ↦ rw q
@@ -219,6 +106,18 @@ module _ (objects : ℕ) (t : Table) where
     | TOO-DEEP {n₂ = n₂} {m = m} {σ = os} {es = es} {v = v} {vs = vs} {d = d} (p → i) q r s (ps → is) ↦
         rw (i, target-is t v m (count es) _ _ q r s, is) (too-deep os v m vs d n₂)
     | TOO-LARGE {k = k} {n = n} {n₁ = n₁} {c = c} {π = fr} {σ = os} {es = es} {vs = vs} q (ps → is) l ↦ new-runs k fr os c es n _ q is ∙ large (make c vs) n₁ l
+    | NUMBER ↦ refl
+    | SUM {n₂ = n₂} {x = x} {y = y} (p → i) q (ps → j) r l ↦ rw (i, q, j, r) (fits-sum x y n₂ l)
+    | DIFFERENCE (p → i) q (ps → j) r ↦ rw (i, q, j, r)
+    | OVERFLOW {n₂ = n₂} {x = x} {y = y} (p → i) q (ps → j) r l ↦ rw (i, q, j, r) (overflows x y n₂ l)
+    | W-COMBINE-first (p → i) q ↦ rw (i, q)
+    | W-COMBINE-second (p → i) q (ps → j) r ↦ rw (i, q, j, r)
+    | CHOOSE-first {x = x} (p → i) q (b → j) ↦ rw (i, q) (if-false (eqb (suc x) 0) _ _ (ne-eqb (suc x) 0 (λ z. omega arith)) ∙ j)
+    | CHOOSE-second (p → i) q (b → j) ↦ rw (i, q) j
+    | W-CHOOSE (p → i) q ↦ rw (i, q)
+    | PROP-first (p → i) ↦ rw i
+    | PROP-second (p → i) q (ps → j) ↦ rw (i, q, j)
+    | PROP-choose (p → i) ↦ rw i
     | NONE ↦ refl
     | EACH (p → i) (ps → is) ↦ rw (i, is)
     | PROP-head (p → i) ↦ rw i
@@ -238,10 +137,10 @@ module _ (objects : ℕ) (t : Table) where
 
   -- ---- the interpreter's outcome follows by the rules
   pub eval-sound : (k : ℕ) (fr : Frame) (os : List OpenCall) (e : Expr) (n : ℕ) → Evaluates objects t k fr os e n (evalTo objects k t fr os e n)
-  eval-sound k fr os e n = let r = eval-total k fr os e n in subst (Evaluates objects t k fr os e n) (sym (eval-complete (r .1))) (r .1)
+  eval-sound k fr os e n = let r = eval-total objects t k fr os e n in subst (Evaluates objects t k fr os e n) (sym (eval-complete (r .1))) (r .1)
 
   pub evals-sound : (k : ℕ) (fr : Frame) (os : List OpenCall) (es : Exprs) (n : ℕ) → EvaluateAll objects t k fr os es n (evals objects t (bodies k) fr os es n)
-  evals-sound k fr os es n = let r = evals-total k fr os es n in subst (EvaluateAll objects t k fr os es n) (sym (evals-complete (r .1))) (r .1)
+  evals-sound k fr os es n = let r = evals-total objects t k fr os es n in subst (EvaluateAll objects t k fr os es n) (sym (evals-complete (r .1))) (r .1)
 
   -- an expression has one outcome
   pub eval-unique : {k : ℕ} {fr : Frame} {os : List OpenCall} {e : Expr} {n : ℕ} {o o′ : Outcome Graph} → Evaluates objects t k fr os e n o → Evaluates objects t k fr os e n o′ → o ≡ o′

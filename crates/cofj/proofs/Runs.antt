@@ -1,42 +1,27 @@
 -- Every value of a run is canonical, whole, within the limit, made of its classes' objects, and without a mark at main:
 -- one induction over the interpreter. Not here: types (Sound).
-use Prim.Native.Nat.{ℕ, zero, suc, _+_, _≤_, _<_}
+use Prim.Native.Nat.{ℕ, zero, suc, _≤_, _<_}
 use native.Mathlib.Omega.{arith}
 use mathlib.Core.Path.{_≡_, refl, sym, ap, _∙_}
 use mathlib.Core.Bool.{Bool, true, false, _&&_}
-use mathlib.Core.List.{List, [], _∷_, map}
+use mathlib.Core.List.{List, [], _∷_}
 use mathlib.Core.Option.{Option, none, some, Option·none-ne-some}
-use lib.Dec.{eqb, leb, ltb}
-use lib.ListN.{length, getElem?, length-map}
-use borrow.Author.Tests.{ltb-false, leb-true, eqb-true, eqb-false}
-use Rattle.cofj.specs.Limits.{Limits}
+use lib.Dec.{eqb, leb}
+use lib.ListN.{length, getElem?}
+use borrow.Author.Tests.{leb-true, eqb-true}
+use Rattle.cofj.specs.Limits.{Limits, numberCount, nestingLimit}
 use Rattle.cofj.specs.Partial.{asList}
-use Rattle.cofj.specs.Syntax.{Expr, this, res, param, field, call, new, Exprs, done, also, count, Method, Table}
+use Rattle.cofj.specs.Syntax.{Expr, this, res, param, field, call, new, literal, combine, choose, Exprs, done, also, count, Method, Table}
 use Rattle.cofj.specs.Classes.{fieldsOf, lookup, lookupTo, methodOf, parentOf}
 use Rattle.cofj.specs.Tables.{exprKnown, exprsKnown}
-use Rattle.cofj.specs.Values.{Ref, obj, mark, undet, node, Graph, graph, renameNode, refsAt, canon, lay, select, selected, close, bind, make, undetermined, markOf, eqGraph, eqGraphs}
+use Rattle.cofj.specs.Values.{mark, num, Graph, select, close, make, markOf, eqGraph, eqGraphs}
 use Rattle.cofj.specs.Running.{Outcome, value, stopped, Stop, _then_, Frame, OpenCall, orStuck, Deeper, classOf, target, frameOf, opened, openMark, invoke, sized, eval, evals, evalTo, mainFrame, runWithin}
-use Rattle.cofj.specs.Unfolding.{InRange}
-use Rattle.cofj.specs.Formed.{AllIn, MarkBelow, Formed, Good, IfAny, Out}
+use Rattle.cofj.specs.Formed.{AllIn, Good, IfAny, Out}
+use Rattle.cofj.specs.Nesting.{Each, Nested}
 use Rattle.cofj.specs.WellFormed.{AllMethods, MethodFormed, WellFormed}
-use Rattle.cofj.proofs.Unique.{canon-canon}
-use Rattle.cofj.proofs.Operations.{make-whole, laid, laid-whole, length-roots, at-ref, bound-whole, boundNode}
 use Rattle.cofj.proofs.Partial.{and-true}
-use Rattle.cofj.proofs.GoodValues.{all-map, all-append, all-at, all-get, all-weaken, mark-rename, formed-rename, formed-default, formed-bind, canon-formed, canon-mark, all-whole, good-canon, good-mark, good-undetermined, good-more}
-
--- ---- outcomes
-out-then : {A B : Type 0} (P : A → Type 0) (Q : B → Type 0) (f : A → ℕ → Outcome B) → ((a : A) (n : ℕ) → P a → Out Q (f a n))
-    → (o : Outcome A) → Out P o → Out Q (o then f)
-out-then P Q f h (value a n) p = h a n p
-out-then P Q f h (stopped l n) p = tt
-
-out-or : {A : Type 0} (P : A → Type 0) (o : Option A) (n : ℕ) → IfAny P o → Out P (orStuck o n)
-out-or P none n h = tt
-out-or P (some a) n h = h
-
-opt-more : {A : Type 0} (P Q : A → Type 0) → ((a : A) → P a → Q a) → (o : Option A) → IfAny P o → IfAny Q o
-opt-more P Q h none p = tt
-opt-more P Q h (some a) p = h a p
+use Rattle.cofj.proofs.GoodOperations.{out-then, out-or, good-select, good-close, good-new, good-operand, good-reckon, good-branch}
+use Rattle.cofj.proofs.GoodValues.{all-weaken, good-leaf, good-more}
 
 at-opt : {A : Type 0} (P : A → Type 0) (l : List A) → AllIn P l → (i : ℕ) → IfAny P (getElem? l i)
 at-opt P [] h i = tt
@@ -82,6 +67,40 @@ target-found P t h v m n = by-class (classOf v)
     by-class none = tt
     by-class (some c) = by-method (lookup t c m) (found P t h c c m)
 
+-- ---- the numbers that a body writes have two bytes
+abbrev mutual
+  pub Bounded : Expr → Type 0
+  Bounded this = Unit {0}
+  Bounded res = Unit {0}
+  Bounded (param k) = Unit {0}
+  Bounded (field f e) = Bounded e
+  Bounded (call m e es) = Bounded e × AllBounded es
+  Bounded (new c es) = AllBounded es
+  Bounded (literal n) = n < numberCount
+  Bounded (combine o a b) = Bounded a × Bounded b
+  Bounded (choose c a b) = Bounded c × Bounded a × Bounded b
+
+  pub AllBounded : Exprs → Type 0
+  AllBounded done = Unit {0}
+  AllBounded (also e es) = Bounded e × AllBounded es
+
+each-bounded : (P : Expr → Type 0) → ((e : Expr) → P e → Bounded e) → (es : Exprs) → Each P es → AllBounded es
+each-bounded P f done h = tt
+each-bounded P f (also e es) h = (f e (h .0), each-bounded P f es (h .1))
+
+nested-bounded : (k : ℕ) (e : Expr) → Nested k e → Bounded e
+unfolding Nested
+nested-bounded zero e h = absurd h
+nested-bounded (suc k) this h = tt
+nested-bounded (suc k) res h = tt
+nested-bounded (suc k) (param x) h = tt
+nested-bounded (suc k) (field f e) h = nested-bounded k e h
+nested-bounded (suc k) (call m e es) h = (nested-bounded k e (h .1), each-bounded (Nested k) (nested-bounded k) es (h .2))
+nested-bounded (suc k) (new c es) h = each-bounded (Nested k) (nested-bounded k) es h
+nested-bounded (suc k) (literal n) h = h
+nested-bounded (suc k) (combine o a b) h = (nested-bounded k a (h .0), nested-bounded k b (h .1))
+nested-bounded (suc k) (choose c a b) h = (nested-bounded k c (h .0), nested-bounded k a (h .1), nested-bounded k b (h .2))
+
 -- ---- the marks of open calls
 -- a call's mark is the number of calls before it
 abbrev pub Numbered : List OpenCall → Type 0
@@ -117,74 +136,9 @@ module _ (t : Table) (wf : WellFormed t) (objects : ℕ) where
     pub res : IfAny (G k) (fr .res)
     pub params : Gs k (fr .params)
 
-  -- ---- the operations
-  good-select : (k f : ℕ) (v : Graph) → G k v → IfAny (G k) (select f v)
-  unfolding select
-  good-select k f v h = go (v .root)
-    where
-      at-marks : (i : ℕ) (r : Ref) → getElem? (refsAt (v .nodes) i) f ≡ some r → MarkBelow k r
-      at-marks i r e = all-get (MarkBelow k) (refsAt (v .nodes) i) (all-at (Formed t k) (node 0 []) (formed-default t k) (v .nodes) (h .nodes) i .marks) f r e
-
-      found-at : (i : ℕ) (o : Option Ref) → getElem? (refsAt (v .nodes) i) f ≡ o → IfAny (G k) (selected (v .nodes) o)
-      found-at i none e = tt
-      found-at i (some r) e = good-canon t objects k (graph r (v .nodes)) (at-ref v (h .whole) r (h .whole .inner i f r e)) (h .small) (at-marks i r e) (h .nodes)
-
-      go : (r : Ref) → IfAny (G k) (elim r as (λ _. Option Graph) [ obj i ↦ selected (v .nodes) (getElem? (refsAt (v .nodes) i) f) | mark x ↦ none | undet ↦ none ])
-      go (obj i) = found-at i (getElem? (refsAt (v .nodes) i) f) refl
-      go (mark x) = tt
-      go undet = tt
-
-  good-close : (k : ℕ) (v : Graph) → G (suc k) v → G k (close k v)
-  unfolding close
-  good-close k v h = go (v .root) (h .whole .top) (h .root)
-    where
-      pick : (x : ℕ) → x < suc k → (b : Bool) → eqb x k ≡ b → G k (elim b as (λ _. Graph) [ true ↦ undetermined | false ↦ markOf x ])
-      pick x l true e = good-undetermined t objects k
-      pick x l false e = let z = eqb-false x k e in good-mark t objects k x (omega arith)
-
-      go : (r : Ref) → InRange (length (v .nodes)) r → MarkBelow (suc k) r
-          → G k (elim r as (λ _. Graph) [
-            | obj i ↦ canon (graph (obj i) (map (λ n. node (n .cls) (map (bind k (obj i)) (n .refs))) (v .nodes)))
-            | mark x ↦ elim (eqb x k) as (λ _. Graph) [ true ↦ undetermined | false ↦ markOf x ]
-            | undet ↦ undetermined
-          ])
-      go (obj i) p m =
-          good-canon t objects k (graph (obj i) (map (boundNode k i) (v .nodes))) (bound-whole v (h .whole) k i p)
-          (omega (arith, h .small, length-map (v .nodes) (boundNode k i))) tt
-          (all-map (Formed t (suc k)) (Formed t k) (boundNode k i) (formed-bind t k i) (v .nodes) (h .nodes))
-      go (mark x) p m = pick x m (eqb x k) refl
-      go undet p m = good-undetermined t objects k
-
-  -- the objects of the values, laid side by side
-  lay-formed : (k : ℕ) (vs : List Graph) (n : ℕ) → Gs k vs → AllIn (MarkBelow k) (lay n vs .roots) × AllIn (Formed t k) (lay n vs .all)
-  unfolding lay
-  lay-formed k [] n h = (tt, tt)
-  lay-formed k (v ∷ vs) n h =
-      let rest = lay-formed k vs (n + length (v .nodes)) (h .1) in (
-        (mark-rename k _ (v .root) (h .0 .root), rest .0),
-        all-append (Formed t k) (map (renameNode (λ i. n + i)) (v .nodes)) (lay (n + length (v .nodes)) vs .all)
-            (all-map (Formed t k) (Formed t k) (renameNode (λ i. n + i)) (formed-rename t k _) (v .nodes) (h .0 .nodes)) (rest .1),
-      )
-
-  good-new : (k c : ℕ) (vs : List Graph) (n : ℕ) → c ≤ length (t .classes) → length vs ≡ length (fieldsOf (t .classes) c) → Gs k vs → Out (G k) (sized objects (make c vs) n)
-  unfolding sized make
-  good-new k c vs n kn e h = go (ltb objects (length (make c vs .nodes))) refl
-    where
-      go : (b : Bool) → ltb objects (length (make c vs .nodes)) ≡ b → Out (G k) (elim b as (λ _. Outcome Graph) [ true ↦ stopped Stop.tooLarge n | false ↦ value (make c vs) n ])
-      go true q = tt
-      go false q =
-          let f = lay-formed k vs 1 h in
-          record {
-            whole = make-whole c vs (all-whole t objects k vs h);
-            own = canon-canon (laid c vs) (laid-whole c vs (all-whole t objects k vs h));
-            small = ltb-false objects (length (make c vs .nodes)) q;
-            root = canon-mark t k (laid c vs) tt;
-            nodes = canon-formed t k (laid c vs) (record { known = kn; count = length-roots vs 1 ∙ e; marks = f .0 }, f .1);
-          }
-
   -- ---- the interpreter
   abbrev pub GoodDeeper : Deeper → Type 0
-  GoodDeeper deeper = (fr : Frame) (os : List OpenCall) (e : Expr) (n : ℕ) → exprKnown (length (t .classes)) e ≡ true → GoodFrame (length os) fr → Numbered os
+  GoodDeeper deeper = (fr : Frame) (os : List OpenCall) (e : Expr) (n : ℕ) → exprKnown (length (t .classes)) e ≡ true → Bounded e → GoodFrame (length os) fr → Numbered os
       → Out (G (length os)) (deeper fr os e n)
 
   frame-more : (k : ℕ) (v : Graph) (vs : List Graph) → G k v → Gs k vs → GoodFrame (suc k) (frameOf v none vs)
@@ -203,12 +157,12 @@ module _ (t : Table) (wf : WellFormed t) (objects : ℕ) where
         | none ↦ body (frameOf v none vs) (opened os v m vs) (d .left) n then λ u n′. value (close (length os) u) n′
       ])
       go (some x) q =
-          D (frameOf v (some (markOf x)) vs) os (d .right) n (kd .rightKnown)
-          (record { this = a; res = good-mark t objects (length os) x (open-below os v m vs x ns q); params = b }) ns
+          D (frameOf v (some (markOf x)) vs) os (d .right) n (kd .rightKnown) (nested-bounded nestingLimit (d .right) (kd .rightNested))
+          (record { this = a; res = good-leaf t objects (length os) (mark x) (open-below os v m vs x ns q); params = b }) ns
       go none q =
-          out-then (G (suc (length os))) (G (length os)) (λ u n′. value (close (length os) u) n′) (λ u n′ h. good-close (length os) u h)
+          out-then (G (suc (length os))) (G (length os)) (λ u n′. value (close (length os) u) n′) (λ u n′ h. good-close t wf objects (length os) u h)
           (body (frameOf v none vs) (opened os v m vs) (d .left) n)
-          (D (frameOf v none vs) (opened os v m vs) (d .left) n (kd .leftKnown) (frame-more (length os) v vs a b) (refl, ns))
+          (D (frameOf v none vs) (opened os v m vs) (d .left) n (kd .leftKnown) (nested-bounded nestingLimit (d .left) (kd .leftNested)) (frame-more (length os) v vs a b) (refl, ns))
 
   -- values of a list, and how many
   abbrev Listed : ℕ → ℕ → List Graph → Type 0
@@ -220,44 +174,54 @@ module _ (t : Table) (wf : WellFormed t) (objects : ℕ) where
         → Out (G (length os)) (elim b as (λ _. Outcome Graph) [ true ↦ evals objects t deeper fr os es n then λ vs n′. sized objects (make c vs) n′ | false ↦ stopped Stop.stuck n ])
     good-count c es n l true q p =
         out-then (Listed (length os) (count es)) (G (length os)) (λ vs n′. sized objects (make c vs) n′)
-        (λ vs n′ r. good-new (length os) c vs n′ l (r .1 ∙ sym (eqb-true (length (fieldsOf (t .classes) c)) (count es) q)) (r .0)) (evals objects t deeper fr os es n) p
+        (λ vs n′ r. good-new t wf objects (length os) c vs n′ l (r .1 ∙ sym (eqb-true (length (fieldsOf (t .classes) c)) (count es) q)) (r .0)) (evals objects t deeper fr os es n) p
     good-count c es n l false q p = tt
 
     mutual
       unfolding eval exprKnown
 
-      good-eval : (e : Expr) (n : ℕ) → exprKnown (length (t .classes)) e ≡ true → Out (G (length os)) (eval objects t deeper fr os e n)
-      good-eval this n k = out-or (G (length os)) (fr .this) n (h .this)
-      good-eval res n k = out-or (G (length os)) (fr .res) n (h .res)
-      good-eval (param x) n k = out-or (G (length os)) (getElem? (fr .params) x) n (at-opt (G (length os)) (fr .params) (h .params) x)
-      good-eval (field f e) n k =
-          out-then (G (length os)) (G (length os)) _ (λ v n′ p. out-or (G (length os)) (select f v) n′ (good-select (length os) f v p)) (eval objects t deeper fr os e n) (good-eval e n k)
-      good-eval (call m e es) n k =
+      good-eval : (e : Expr) (n : ℕ) → exprKnown (length (t .classes)) e ≡ true → Bounded e → Out (G (length os)) (eval objects t deeper fr os e n)
+      good-eval this n k b = out-or (G (length os)) (fr .this) n (h .this)
+      good-eval res n k b = out-or (G (length os)) (fr .res) n (h .res)
+      good-eval (param x) n k b = out-or (G (length os)) (getElem? (fr .params) x) n (at-opt (G (length os)) (fr .params) (h .params) x)
+      good-eval (field f e) n k b =
+          out-then (G (length os)) (G (length os)) _ (λ v n′ p. out-or (G (length os)) (select f v) n′ (good-select t wf objects (length os) f v p)) (eval objects t deeper fr os e n) (good-eval e n k b)
+      good-eval (call m e es) n k b =
           let ks = and-true (exprKnown (length (t .classes)) e) (exprsKnown (length (t .classes)) es) k in
           out-then (G (length os)) (G (length os)) _
           (λ v n′ p. out-then (MethodFormed t) (G (length os)) _
           (λ d n″ kd. out-then (Listed (length os) (count es)) (G (length os)) _ (λ vs n‴ q. good-invoke deeper D os ns v m vs d n‴ kd p (q .0))
-          (evals objects t deeper fr os es n″) (good-evals es n″ (ks .1)))
+          (evals objects t deeper fr os es n″) (good-evals es n″ (ks .1) (b .1)))
           (orStuck (target t v m (count es)) n′) (out-or (MethodFormed t) (target t v m (count es)) n′ (target-found (MethodFormed t) t (wf .methods) v m (count es))))
-          (eval objects t deeper fr os e n) (good-eval e n (ks .0))
-      good-eval (new c es) n k =
+          (eval objects t deeper fr os e n) (good-eval e n (ks .0) (b .0))
+      good-eval (new c es) n k b =
           let ks = and-true (leb c (length (t .classes))) (exprsKnown (length (t .classes)) es) k in
-          good-count c es n (leb-true c (length (t .classes)) (ks .0)) (eqb (length (fieldsOf (t .classes) c)) (count es)) refl (good-evals es n (ks .1))
+          good-count c es n (leb-true c (length (t .classes)) (ks .0)) (eqb (length (fieldsOf (t .classes) c)) (count es)) refl (good-evals es n (ks .1) b)
+      good-eval (literal x) n k b = good-leaf t objects (length os) (num x) b
+      good-eval (combine o x y) n k b =
+          let ks = and-true (exprKnown (length (t .classes)) x) (exprKnown (length (t .classes)) y) k in
+          good-operand t wf objects (length os) (eval objects t deeper fr os x n) (good-eval x n (ks .0) (b .0)) _
+          (λ p n′ l. good-operand t wf objects (length os) (eval objects t deeper fr os y n′) (good-eval y n′ (ks .1) (b .1)) _ (λ q n″ l′. good-reckon t wf objects (length os) o p q n″ l))
+      good-eval (choose c x y) n k b =
+          let ks = and-true (exprKnown (length (t .classes)) c && exprKnown (length (t .classes)) x) (exprKnown (length (t .classes)) y) k in
+          let js = and-true (exprKnown (length (t .classes)) c) (exprKnown (length (t .classes)) x) (ks .0) in
+          good-operand t wf objects (length os) (eval objects t deeper fr os c n) (good-eval c n (js .0) (b .0)) _
+          (λ p n′ l. good-branch t wf objects (length os) (eqb p 0) _ _ (good-eval y n′ (ks .1) (b .2)) (good-eval x n′ (js .1) (b .1)))
 
-      good-evals : (es : Exprs) (n : ℕ) → exprsKnown (length (t .classes)) es ≡ true → Out (Listed (length os) (count es)) (evals objects t deeper fr os es n)
-      good-evals done n k = (tt, refl)
-      good-evals (also e es) n k =
+      good-evals : (es : Exprs) (n : ℕ) → exprsKnown (length (t .classes)) es ≡ true → AllBounded es → Out (Listed (length os) (count es)) (evals objects t deeper fr os es n)
+      good-evals done n k b = (tt, refl)
+      good-evals (also e es) n k b =
           let ks = and-true (exprKnown (length (t .classes)) e) (exprsKnown (length (t .classes)) es) k in
           out-then (G (length os)) (Listed (length os) (suc (count es))) _
           (λ v n′ p. out-then (Listed (length os) (count es)) (Listed (length os) (suc (count es))) _ (λ vs n″ q. ((p, q .0), ap suc (q .1)))
-          (evals objects t deeper fr os es n′) (good-evals es n′ (ks .1)))
-          (eval objects t deeper fr os e n) (good-eval e n (ks .0))
+          (evals objects t deeper fr os es n′) (good-evals es n′ (ks .1) (b .1)))
+          (eval objects t deeper fr os e n) (good-eval e n (ks .0) (b .0))
 
   good-evalTo : (d : ℕ) → GoodDeeper (evalTo objects d t)
   unfolding evalTo
-  good-evalTo zero fr os e n k h ns = good-eval none tt os ns fr h e n k
-  good-evalTo (suc d) fr os e n k h ns =
-      good-eval (some (λ fr′ os′ e′ n′. evalTo objects d t fr′ os′ e′ n′)) (λ fr′ os′ e′ n′ k′ h′ ns′. good-evalTo d fr′ os′ e′ n′ k′ h′ ns′) os ns fr h e n k
+  good-evalTo zero fr os e n k b h ns = good-eval none tt os ns fr h e n k b
+  good-evalTo (suc d) fr os e n k b h ns =
+      good-eval (some (λ fr′ os′ e′ n′. evalTo objects d t fr′ os′ e′ n′)) (λ fr′ os′ e′ n′ k′ b′ h′ ns′. good-evalTo d fr′ os′ e′ n′ k′ b′ h′ ns′) os ns fr h e n k b
 
 -- main's only parameter, if it has one
 input-all : {A : Type 0} (P : A → Type 0) (i : Option A) → IfAny P i → AllIn P (asList i)
@@ -268,5 +232,5 @@ input-all P (some a) h = (h, tt)
 pub good-run : (l : Limits) (t : Table) (i : Option Graph) (n : ℕ) → WellFormed t → IfAny (Good t (l .objects) 0) i → Out (Good t (l .objects) 0) (runWithin l t i n)
 unfolding runWithin
 good-run l t i n wf g =
-    good-evalTo t wf (l .objects) (l .depth) (mainFrame i) [] (t .main) n (wf .mainKnown)
+    good-evalTo t wf (l .objects) (l .depth) (mainFrame i) [] (t .main) n (wf .mainKnown) (nested-bounded nestingLimit (t .main) (wf .mainNested))
     (record { this = tt; res = tt; params = input-all (Good t (l .objects) 0) i g }) tt

@@ -11,7 +11,7 @@ use lib.ListN.{length, getElem?}
 use borrow.Author.Tests.{eqb-true, eq-eqb, ne-eqb}
 use Rattle.cofj.specs.Syntax.{Method, Table}
 use Rattle.cofj.specs.Classes.{lookup}
-use Rattle.cofj.specs.Values.{Graph, Node, Ref, obj, mark, undet, nodeAt, refsAt, selected, select, eqRef, eqNode, eqNodes, eqGraph, eqGraphs}
+use Rattle.cofj.specs.Values.{Graph, Node, Ref, obj, leaf, nodeAt, refsAt, selected, select, eqRef, eqNode, eqNodes, eqGraph, eqGraphs}
 use Rattle.cofj.specs.Running.{OpenCall, openMark, classOf, target}
 use Rattle.cofj.specs.Promises.{Equals, OpenUnder}
 use Rattle.cofj.proofs.Basics.{both-true, true-both, eqRef-refl, eqNode-refl}
@@ -36,11 +36,10 @@ pub select-none : (f : ℕ) (v : Graph) → classOf v ≡ none → select f v �
 unfolding select
 select-none f v q = go (v .root) q
   where
-    go : (r : Ref) → _≡_ {A = Option ℕ} (elim r [ obj i ↦ some (nodeAt (v .nodes) i .cls) | mark x ↦ none | undet ↦ none ]) none
-        → _≡_ {A = Option Graph} (elim r [ obj i ↦ selected (v .nodes) (getElem? (refsAt (v .nodes) i) f) | mark x ↦ none | undet ↦ none ]) none
+    go : (r : Ref) → _≡_ {A = Option ℕ} (elim r [ obj i ↦ some (nodeAt (v .nodes) i .cls) | leaf l ↦ none ]) none
+        → _≡_ {A = Option Graph} (elim r [ obj i ↦ selected (v .nodes) (getElem? (refsAt (v .nodes) i) f) | leaf l ↦ none ]) none
     go (obj i) z = absurd (Option·none-ne-some (nodeAt (v .nodes) i .cls) (sym z))
-    go (mark x) z = refl
-    go undet z = refl
+    go (leaf l) z = refl
 
 -- ---- dom(σ): the open call that a call equals
 eqNodes-refl : (ns : List Node) → eqNodes ns ns ≡ true

@@ -10,15 +10,16 @@ use lib.ListN.{length}
 use borrow.Author.Tests.{eq-eqb, leb-true, le-leb}
 use Rattle.cofj.specs.Syntax.{Expr, Ty, ty, Method, Table}
 use Rattle.cofj.specs.Classes.{classFits, lookup}
+use Rattle.cofj.specs.Tables.{exprKnown}
 use Rattle.cofj.specs.Typing.{Env, closeTag, typeOf}
-use Rattle.cofj.specs.Values.{Ref, obj, mark, undet, Graph, nodeAt, refsAt, close, markOf}
-use Rattle.cofj.specs.Unfolding.{object, opened as marked, unknown, labelAt}
+use Rattle.cofj.specs.Values.{Ref, obj, leaf, mark, Graph, nodeAt, refsAt, close, markOf}
+use Rattle.cofj.specs.Unfolding.{object, atLeaf, labelAt}
 use Rattle.cofj.specs.Running.{Outcome, value, stopped, _then_, Frame, OpenCall, orStuck, Deeper, classOf, target, frameOf, opened, openMark, invoke}
 use Rattle.cofj.specs.WellFormed.{AllMethods, MethodFormed, WellFormed}
 use Rattle.cofj.specs.Soundness.{NotStuck}
 use Rattle.cofj.proofs.Chain.{fits-self}
 use Rattle.cofj.proofs.Typed.{tree, bound, Has, Hold}
-use Rattle.cofj.proofs.Keeps.{has-mark, has-fits, has-more, hold-more, has-closed}
+use Rattle.cofj.proofs.Keeps.{has-leaf, has-fits, has-more, hold-more, has-closed}
 use Rattle.cofj.proofs.KeepsClose.{raise, has-close}
 use Rattle.cofj.proofs.Partial.{and-true, true-and}
 use Rattle.cofj.proofs.CheckSays.{leftEnv, rightEnv, leftType, MethodOk}
@@ -54,7 +55,7 @@ pub record FrameOk (t : Table) (σ : List ℕ) (g : Env) (fr : Frame) : Type 0 w
 
 -- what is known of the evaluation of bodies
 abbrev pub BodyOk : Table → Deeper → Type 0
-BodyOk t deeper = (fr : Frame) (os : List OpenCall) (σ : List ℕ) (g : Env) (e : Expr) (n : ℕ) (u : Ty) → FrameOk t σ g fr → Trace t os σ → typeOf t false g e ≡ some u
+BodyOk t deeper = (fr : Frame) (os : List OpenCall) (σ : List ℕ) (g : Env) (e : Expr) (n : ℕ) (u : Ty) → FrameOk t σ g fr → Trace t os σ → exprKnown (length (t .classes)) e ≡ true → typeOf t false g e ≡ some u
     → Out (Has t σ u) (deeper fr os e n)
 
 -- if one more call may be opened
@@ -139,10 +140,10 @@ module _ (t : Table) (wf : WellFormed t) (ok : AllMethods (MethodOk t) (t .metho
               markOf x,
               refl,
               subst (λ (k : Ty). Has t σ k (markOf x)) (let s : ty (mo .u .cls) 2 ≡ w = cc in s)
-                  (has-mark t wf σ (ty (mo .u .cls) 2) x (omega arith) (mo .u .cls, r .1 ∙ ap {B = Option ℕ} some (sym e), fits-self (t .classes) (mo .u .cls) (mo .u .cls) refl, omega arith)),
+                  (has-leaf t wf σ (ty (mo .u .cls) 2) (mark x) (omega arith) (mo .u .cls, r .1 ∙ ap {B = Option ℕ} some (sym e), fits-self (t .classes) (mo .u .cls) (mo .u .cls) refl, omega arith)),
             );
             params = b;
-          }) tr (mo .right))
+          }) tr (mf .rightKnown) (mo .right))
 
       go : (o : Option ℕ) → openMark os v m vs ≡ o → Out (Has t σ (cond inMain (d .first) (d .second))) (elim o as (λ _. Outcome Graph) [
         | some x ↦ body (frameOf v (some (markOf x)) vs) os (d .right) n
@@ -158,17 +159,16 @@ module _ (t : Table) (wf : WellFormed t) (ok : AllMethods (MethodOk t) (t .metho
             this = λ w s. (v, refl, subst (λ (k : Ty). Has t (mo .u .cls ∷ σ) k v) (let s′ : ty (d .owner) 0 ≡ w = cc in s′) (has-more t wf (mo .u .cls) σ (ty (d .owner) 0) v a));
             res = λ w s. absurd (Option·none-ne-some w s);
             params = hold-more t wf (mo .u .cls) σ (d .params) vs b;
-          }) (trace-length t os σ tr, runs v m c d (mo .u) p q (mo .left), tr) (mo .left))
+          }) (trace-length t os σ tr, runs v m c d (mo .u) p q (mo .left), tr) (mf .leftKnown) (mo .left))
 
 -- ---- receivers
 pub class-of : (v : Graph) (c k : ℕ) → tree v [] ≡ some (object c k) → classOf v ≡ some c
 class-of v c k e = go (v .root) e
   where
     go : (r : Ref) → some (labelAt (v .nodes) r) ≡ some (object c k)
-        → _≡_ {A = Option ℕ} (elim r [ obj i ↦ some (nodeAt (v .nodes) i .cls) | mark x ↦ none | undet ↦ none ]) (some c)
+        → _≡_ {A = Option ℕ} (elim r [ obj i ↦ some (nodeAt (v .nodes) i .cls) | leaf l ↦ none ]) (some c)
     go (obj i) z = let y : some (object (nodeAt (v .nodes) i .cls) (length (refsAt (v .nodes) i))) ≡ some (object c k) = z in cc
-    go (mark x) z = let y : some (marked x) ≡ some (object c k) = z in cc
-    go undet z = let y : some unknown ≡ some (object c k) = z in cc
+    go (leaf l) z = let y : some (atLeaf l) ≡ some (object c k) = z in cc
 
 pub target-is : (t : Table) (v : Graph) (m n c : ℕ) (d : Method) → classOf v ≡ some c → lookup t c m ≡ some d → length (d .params) ≡ n → target t v m n ≡ some d
 unfolding target

@@ -253,6 +253,9 @@ lines-from (c ∷ cs) (some k) bs ls e w h = go (eqb c 10) e (λ d z l. lines-fr
         let a = opt-bind (digit c) (λ d. linesFrom cs none ((16 * k + d) ∷ bs)) ls z in
         onward (a .0) (a .2) (digit-small c (a .0) (a .1))
 
+pub read-bytes : (s : List ℕ) (ls : List (List ℕ)) → linesFrom s none [] ≡ some ls → Lines ls
+read-bytes s ls e = lines-from s none [] ls e tt tt
+
 pub lines-bytes : (s : List ℕ) (ls : List (List ℕ)) → lines s ≡ some ls → Lines ls
 unfolding lines
-lines-bytes s ls e = lines-from s none [] ls (guard-bind (within 1 textSize (length s)) (λ _. linesFrom s none []) ls e .1) tt tt
+lines-bytes s ls e = read-bytes s ls (guard-bind (within 1 textSize (length s)) (λ _. linesFrom s none []) ls e .1)

@@ -6,8 +6,8 @@ use mathlib.Core.List.{List, [], _∷_, map}
 use mathlib.Core.Option.{Option, none, some}
 use lib.ListN.{length, getElem?, length-map}
 use Rattle.cofj.specs.Partial.{_>>=_}
-use Rattle.cofj.specs.Values.{Ref, obj, mark, undet, Node, node, Graph, rename, renameNode, nodeAt, refsAt}
-use Rattle.cofj.specs.Unfolding.{object, opened, unknown, labelAt, child, follow, Same, InRange, Whole}
+use Rattle.cofj.specs.Values.{Ref, obj, leaf, Node, node, Graph, rename, renameNode, nodeAt, refsAt}
+use Rattle.cofj.specs.Unfolding.{object, atLeaf, labelAt, child, follow, Same, InRange, Whole}
 use Rattle.cofj.proofs.Basics.{at-map}
 
 -- ---- lists of references, item by item
@@ -47,14 +47,9 @@ module _ (ns ms : List Node) where
   pub same-rename : (n m : ℕ) (f g : ℕ → ℕ) → ((i j : ℕ) → i < n → j < m → Same ns (obj i) ms (obj j) → f i ≡ g j)
       → (r s : Ref) → InRange n r → InRange m s → Same ns r ms s → rename f r ≡ rename g s
   same-rename n m f g h (obj i) (obj j) a b e = ap obj (h i j a b e)
-  same-rename n m f g h (obj i) (mark k) a b e = let z : some (object _ _) ≡ some (opened k) = e [] in cc
-  same-rename n m f g h (obj i) undet a b e = let z : some (object _ _) ≡ some unknown = e [] in cc
-  same-rename n m f g h (mark k) (obj j) a b e = let z : some (opened k) ≡ some (object _ _) = e [] in cc
-  same-rename n m f g h (mark k) (mark l) a b e = let z : some (opened k) ≡ some (opened l) = e [] in cc
-  same-rename n m f g h (mark k) undet a b e = let z : some (opened k) ≡ some unknown = e [] in cc
-  same-rename n m f g h undet (obj j) a b e = let z : some unknown ≡ some (object _ _) = e [] in cc
-  same-rename n m f g h undet (mark l) a b e = let z : some unknown ≡ some (opened l) = e [] in cc
-  same-rename n m f g h undet undet a b e = refl
+  same-rename n m f g h (obj i) (leaf l) a b e = let z : some (object _ _) ≡ some (atLeaf l) = e [] in cc
+  same-rename n m f g h (leaf k) (obj j) a b e = let z : some (atLeaf k) ≡ some (object _ _) = e [] in cc
+  same-rename n m f g h (leaf k) (leaf l) a b e = let z : some (atLeaf k) ≡ some (atLeaf l) = e [] in cc
 
 -- ---- two graphs with a renaming of each under which they look the same unfold to the same trees
 module _ (ns ms : List Node) (f g : ℕ → ℕ) (P Q : Ref → Type 0)
@@ -68,14 +63,9 @@ module _ (ns ms : List Node) (f g : ℕ → ℕ) (P Q : Ref → Type 0)
       let t = st i j p q c in
       ap₂ object (ap (λ (n : Node). n .cls) t)
       (sym (length-map (refsAt ns i) (rename f)) ∙ ap (λ (n : Node). length (n .refs)) t ∙ length-map (refsAt ms j) (rename g))
-  here (obj i) (mark k) p q e = cc
-  here (obj i) undet p q e = cc
-  here (mark k) (obj j) p q e = cc
-  here (mark k) (mark l) p q e = cc
-  here (mark k) undet p q e = cc
-  here undet (obj j) p q e = cc
-  here undet (mark l) p q e = cc
-  here undet undet p q e = refl
+  here (obj i) (leaf l) p q e = cc
+  here (leaf k) (obj j) p q e = cc
+  here (leaf k) (leaf l) p q e = cc
 
   -- the field k, renamed
   below : (r s : Ref) → P r → Q s → rename f r ≡ rename g s → (k : ℕ)
@@ -83,14 +73,9 @@ module _ (ns ms : List Node) (f g : ℕ → ℕ) (P Q : Ref → Type 0)
   below (obj i) (obj j) p q e k =
       let c : f i ≡ g j = cc in
       sym (at-map (rename f) (refsAt ns i) k) ∙ ap (λ (n : Node). getElem? (n .refs) k) (st i j p q c) ∙ at-map (rename g) (refsAt ms j) k
-  below (obj i) (mark l) p q e k = cc
-  below (obj i) undet p q e k = cc
-  below (mark k′) (obj j) p q e k = cc
-  below (mark k′) (mark l) p q e k = refl
-  below (mark k′) undet p q e k = refl
-  below undet (obj j) p q e k = cc
-  below undet (mark l) p q e k = refl
-  below undet undet p q e k = refl
+  below (obj i) (leaf l) p q e k = cc
+  below (leaf k′) (obj j) p q e k = cc
+  below (leaf k′) (leaf l) p q e k = refl
 
   pub renamed-same : (path : List ℕ) (r s : Ref) → P r → Q s → rename f r ≡ rename g s → follow ns r path ≡ follow ms s path
   renamed-same [] r s p q e = ap some (here r s p q e)

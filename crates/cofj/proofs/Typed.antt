@@ -8,10 +8,11 @@ use mathlib.Core.Option.{Option, none, some, Option·none-ne-some}
 use lib.Dec.{eqb}
 use lib.ListN.{length, getElem?}
 use borrow.Author.Tests.{eqb-true, eq-eqb, ne-eqb}
+use Rattle.cofj.specs.Limits.{numberClass}
 use Rattle.cofj.specs.Syntax.{Ty, ty, Table}
 use Rattle.cofj.specs.Classes.{classFits, fieldsOf}
-use Rattle.cofj.specs.Values.{Graph}
-use Rattle.cofj.specs.Unfolding.{Label, object, opened, unknown, follow, Whole}
+use Rattle.cofj.specs.Values.{Leaf, mark, undet, num, Graph}
+use Rattle.cofj.specs.Unfolding.{Label, object, atLeaf, follow, Whole}
 use Rattle.cofj.specs.WellFormed.{WellFormed}
 use Rattle.cofj.proofs.Chain.{fits-self}
 use Rattle.cofj.proofs.Climb.{fits-trans}
@@ -33,11 +34,15 @@ abbrev pub under : ℕ → ℕ → ℕ
 under zero h = h
 under (suc g) h = max 2 h
 
--- tag 0, 1: an object; 2: an object or a mark; 3: an object, a mark or undetermined. Its class, or its bound, fits.
+-- tag 0, 1: an object or a number; 2: a mark too; 3: undetermined too. Its class, or its bound, fits; an object's is one of the table.
+abbrev pub OkLeaf : Table → List ℕ → Ty → Leaf → Type 0
+OkLeaf t σ u (mark k) = (c : ℕ) × (bound σ k ≡ some c) × (classFits (t .classes) c (u .cls) ≡ true) × (2 ≤ u .tag)
+OkLeaf t σ u undet = 3 ≤ u .tag
+OkLeaf t σ u (num n) = classFits (t .classes) numberClass (u .cls) ≡ true
+
 abbrev pub Ok : Table → List ℕ → Ty → Label → Type 0
-Ok t σ u (object c n) = (classFits (t .classes) c (u .cls) ≡ true) × (n ≡ length (fieldsOf (t .classes) c))
-Ok t σ u (opened k) = (c : ℕ) × (bound σ k ≡ some c) × (classFits (t .classes) c (u .cls) ≡ true) × (2 ≤ u .tag)
-Ok t σ u unknown = 3 ≤ u .tag
+Ok t σ u (object c n) = (classFits (t .classes) c (u .cls) ≡ true) × (n ≡ length (fieldsOf (t .classes) c)) × (c ≤ length (t .classes))
+Ok t σ u (atLeaf l) = OkLeaf t σ u l
 
 abbrev pub OkAt : Table → List ℕ → Ty → Option Label → Type 0
 OkAt t σ u none = ⊥
@@ -98,9 +103,10 @@ module _ (t : Table) (wf : WellFormed t) where
   -- a larger type
   pub ok-fits : (σ : List ℕ) (u u′ : Ty) → classFits (t .classes) (u .cls) (u′ .cls) ≡ true → u .tag ≤ u′ .tag → (o : Option Label) → OkAt t σ u o → OkAt t σ u′ o
   ok-fits σ u u′ p q none h = h
-  ok-fits σ u u′ p q (some (object c n)) h = (fits-trans (t .classes) (wf .parents) c (u .cls) (u′ .cls) (h .0) p, h .1)
-  ok-fits σ u u′ p q (some (opened k)) h = (h .0, h .1, fits-trans (t .classes) (wf .parents) (h .0) (u .cls) (u′ .cls) (h .2) p, omega (arith, h .3))
-  ok-fits σ u u′ p q (some unknown) h = omega arith
+  ok-fits σ u u′ p q (some (object c n)) h = (fits-trans (t .classes) (wf .parents) c (u .cls) (u′ .cls) (h .0) p, h .1, h .2)
+  ok-fits σ u u′ p q (some (atLeaf (mark k))) h = (h .0, h .1, fits-trans (t .classes) (wf .parents) (h .0) (u .cls) (u′ .cls) (h .2) p, omega (arith, h .3))
+  ok-fits σ u u′ p q (some (atLeaf undet)) h = omega arith
+  ok-fits σ u u′ p q (some (atLeaf (num n))) h = fits-trans (t .classes) (wf .parents) numberClass (u .cls) (u′ .cls) h p
 
   pub typed-fits : (n : ℕ) (σ : List ℕ) (u u′ : Ty) (T : Tree) → classFits (t .classes) (u .cls) (u′ .cls) ≡ true → u .tag ≤ u′ .tag → Typed t σ n u T → Typed t σ n u′ T
   typed-fits zero σ u u′ T p q h = tt
@@ -113,8 +119,9 @@ module _ (t : Table) (wf : WellFormed t) where
   ok-more : (x : ℕ) (σ : List ℕ) (u : Ty) (o : Option Label) → OkAt t σ u o → OkAt t (x ∷ σ) u o
   ok-more x σ u none h = h
   ok-more x σ u (some (object c n)) h = h
-  ok-more x σ u (some (opened k)) h = (h .0, bound-more x σ k (h .0) (h .1), h .2, h .3)
-  ok-more x σ u (some unknown) h = h
+  ok-more x σ u (some (atLeaf (mark k))) h = (h .0, bound-more x σ k (h .0) (h .1), h .2, h .3)
+  ok-more x σ u (some (atLeaf undet)) h = h
+  ok-more x σ u (some (atLeaf (num n))) h = h
 
   pub typed-more : (n x : ℕ) (σ : List ℕ) (u : Ty) (T : Tree) → Typed t σ n u T → Typed t (x ∷ σ) n u T
   typed-more zero x σ u T h = tt
@@ -124,9 +131,10 @@ module _ (t : Table) (wf : WellFormed t) where
   ok-closed : (u u′ : Ty) → u .cls ≡ u′ .cls → (3 ≤ u .tag → 3 ≤ u′ .tag) → (o : Option Label) → OkAt t [] u o → OkAt t [] u′ o
   unfolding bound
   ok-closed u u′ p q none h = h
-  ok-closed u u′ p q (some (object c n)) h = (subst (λ (d : ℕ). classFits (t .classes) c d ≡ true) p (h .0), h .1)
-  ok-closed u u′ p q (some (opened k)) h = absurd (Option·none-ne-some (h .0) (h .1))
-  ok-closed u u′ p q (some unknown) h = q h
+  ok-closed u u′ p q (some (object c n)) h = (subst (λ (d : ℕ). classFits (t .classes) c d ≡ true) p (h .0), h .1, h .2)
+  ok-closed u u′ p q (some (atLeaf (mark k))) h = absurd (Option·none-ne-some (h .0) (h .1))
+  ok-closed u u′ p q (some (atLeaf undet)) h = q h
+  ok-closed u u′ p q (some (atLeaf (num n))) h = subst (λ (d : ℕ). classFits (t .classes) numberClass d ≡ true) p h
 
   under-closed : (g g′ h : ℕ) → 3 ≤ under g h → 3 ≤ under g′ h
   under-closed zero zero h p = p

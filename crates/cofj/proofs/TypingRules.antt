@@ -6,17 +6,17 @@ use mathlib.Core.Path.{_≡_, refl, sym, ap, _∙_, subst}
 use mathlib.Core.Bool.{Bool, true, false, _&&_, _||_, cond, false≢true}
 use mathlib.Core.Logic.{_⊎_, inl, inr}
 use mathlib.Core.List.{List, [], _∷_, map}
-use mathlib.Core.Option.{Option, some}
+use mathlib.Core.Option.{Option, some, Option·none-ne-some}
 use lib.Dec.{eqb, leb}
 use lib.ListN.{getElem?}
 use borrow.Author.Tests.{eqb-true, leb-true, le-leb}
-use Rattle.cofj.specs.Syntax.{Expr, this, res, param, field, call, new, Exprs, done, also, Ty, ty, Class, Method, Table}
+use Rattle.cofj.specs.Syntax.{Operation, Expr, this, res, param, field, call, new, literal, combine, choose, Exprs, done, also, Ty, ty, eqTy, Class, Method, Table}
 use Rattle.cofj.specs.Partial.{_>>=_, guard}
-use Rattle.cofj.specs.Classes.{classFits, fits, parentOf, fieldsOf, lookup}
-use Rattle.cofj.specs.Typing.{Env, closedTag, allClosed, allFit, narrow, fieldType, callType, newType, typeOf, typesOf, methodTyped}
-use Rattle.cofj.specs.TypingRules.{_⁺, _⁺?, _⁻?, _⁻, AllClosed, closing, SubClass, same, above, Fits, AllFit, fit-none, fit-each, HasType, T-VAR-this, T-VAR-res, T-VAR-param, T-FIELD, T-INVK, T-NEW1, T-NEW2, HaveTypes, T-NONE, T-EACH, leftVariables, rightVariables, MethodTyped, T-MDEC}
+use Rattle.cofj.specs.Classes.{classFits, fits, classAt, parentOr0, fieldsOf, lookup}
+use Rattle.cofj.specs.Typing.{Env, closedTag, allClosed, allFit, narrow, numberType, fieldType, callType, newType, combineType, wider, chooseType, typeOf, typesOf, methodTyped}
+use Rattle.cofj.specs.TypingRules.{_⁺, _⁺?, _⁻?, _⁻, AllClosed, closing, SubClass, same, above, Fits, AllFit, fit-none, fit-each, HasType, T-VAR-this, T-VAR-res, T-VAR-param, T-FIELD, T-INVK, T-NEW1, T-NEW2, T-NUMBER, T-COMBINE, T-CHOOSE-second, T-CHOOSE-first, HaveTypes, T-NONE, T-EACH, leftVariables, rightVariables, MethodTyped, T-MDEC}
 use Rattle.cofj.proofs.Chain.{ParentsSmaller, fits-self}
-use Rattle.cofj.proofs.Climb.{climb, fits-up}
+use Rattle.cofj.proofs.Climb.{eqTy-true, climb, fits-up}
 use Rattle.cofj.proofs.CheckSays.{method-ok}
 use Rattle.cofj.proofs.Partial.{and-true, true-and, opt-bind, guard-bind}
 
@@ -53,15 +53,15 @@ module _ (t : Table) (h : ParentsSmaller (t .classes)) where
   cs = t .classes
 
   pub class-sound : (c d : ℕ) → classFits cs c d ≡ true → SubClass cs c d
-  class-sound c d e = climb cs h d (λ x. SubClass cs x d) same (λ k s. above s) c e
+  class-sound c d e = climb cs h d (λ x. SubClass cs x d) same (λ k x q s. above q (subst (λ (y : ℕ). SubClass cs y d) (ap parentOr0 q) s)) c e
 
-  class-above : (c d : ℕ) → classFits cs (parentOf cs c) d ≡ true → classFits cs c d ≡ true
-  class-above zero d e = e
-  class-above (suc k) d e = fits-up cs h k d e
+  class-above : (c d : ℕ) (k : Class) → classAt cs c ≡ some k → classFits cs (k .parent) d ≡ true → classFits cs c d ≡ true
+  class-above zero d k q e = absurd (Option·none-ne-some k q)
+  class-above (suc n) d k q e = fits-up cs h n d k q (ap (λ (o : Option Class). classFits cs (parentOr0 o) d) q ∙ e)
 
   pub class-complete : {c d : ℕ} → SubClass cs c d → classFits cs c d ≡ true
   class-complete (same {c = c}) = fits-self cs c c refl
-  class-complete (above {c = c} {d = d} s) = class-above c d (class-complete s)
+  class-complete (above {c = c} {d = d} {k = k} q s) = class-above c d k q (class-complete s)
 
   pub fits-sound : (u w : Ty) → fits cs u w ≡ true → Fits cs u w
   fits-sound u w e =
@@ -125,6 +125,38 @@ module _ (t : Table) (h : ParentsSmaller (t .classes)) where
             subst (HasType t inMain Γ (new c es)) (let x : c ⁺? ≡ u = cc in x)
             (T-NEW2 ds (λ k. false≢true (sym p ∙ allClosed-complete us k)) (allFit-sound (map narrow us) (fieldsOf cs c) (a .0)))
 
+    -- what `wider` answers, when the test that the first fits the second gave b
+    abbrev widerBy : Ty → Ty → Bool → Option Ty
+    widerBy u v b = elim b [ true ↦ some v | false ↦ guard (fits cs v u) >>= λ _. some u ]
+
+    combine-sound : (o : Operation) (a b : Expr) (x y u : Ty) → HasType t inMain Γ a x → HasType t inMain Γ b y → combineType t x y ≡ some u → HasType t inMain Γ (combine o a b) u
+    unfolding combineType
+    combine-sound o a b x y u d e q =
+        let g = guard-bind (eqTy x numberType && eqTy y numberType) (λ _. some numberType) u q in
+        let p = and-true (eqTy x numberType) (eqTy y numberType) (g .0) in
+        let z : some numberType ≡ some u = g .1 in
+        subst (HasType t inMain Γ (combine o a b)) (let w : numberType ≡ u = cc in w)
+        (T-COMBINE (subst (HasType t inMain Γ a) (eqTy-true x numberType (p .0)) d) (subst (HasType t inMain Γ b) (eqTy-true y numberType (p .1)) e))
+
+    choose-sound : (c a b : Expr) (w x y u : Ty) → HasType t inMain Γ c w → HasType t inMain Γ a x → HasType t inMain Γ b y → chooseType t w x y ≡ some u
+        → HasType t inMain Γ (choose c a b) u
+    unfolding chooseType wider
+    choose-sound c a b w x y u d e f q = go (fits cs x y) refl (g .1)
+      where
+        g : (eqTy w numberType ≡ true) × (wider t x y ≡ some u)
+        g = guard-bind (eqTy w numberType) (λ _. wider t x y) u q
+
+        asked : HasType t inMain Γ c numberType
+        asked = subst (HasType t inMain Γ c) (eqTy-true w numberType (g .0)) d
+
+        go : (k : Bool) → fits cs x y ≡ k → widerBy x y k ≡ some u → HasType t inMain Γ (choose c a b) u
+        go true p z = let v : some y ≡ some u = z in subst (HasType t inMain Γ (choose c a b)) (let i : y ≡ u = cc in i) (T-CHOOSE-second asked e f (fits-sound x y p))
+        go false p z =
+            let r = guard-bind (fits cs y x) (λ _. some x) u z in
+            let v : some x ≡ some u = r .1 in
+            subst (HasType t inMain Γ (choose c a b)) (let i : x ≡ u = cc in i)
+            (T-CHOOSE-first asked e f (λ k. false≢true (sym p ∙ fits-complete x y k)) (fits-sound y x (r .0)))
+
     mutual
       unfolding typeOf
 
@@ -142,6 +174,16 @@ module _ (t : Table) (h : ParentsSmaller (t .classes)) where
       typeOf-sound (new c es) u q =
           let a = opt-bind (typesOf t inMain Γ es) _ u q in
           new-sound c es u (a .0) (typesOf-sound es (a .0) (a .1)) (a .2)
+      typeOf-sound (literal n) u q = let y : some numberType ≡ some u = q in subst (HasType t inMain Γ (literal n)) (let x : numberType ≡ u = cc in x) T-NUMBER
+      typeOf-sound (combine o x y) u q =
+          let a = opt-bind (typeOf t inMain Γ x) _ u q in
+          let b = opt-bind (typeOf t inMain Γ y) _ u (a .2) in
+          combine-sound o x y (a .0) (b .0) u (typeOf-sound x (a .0) (a .1)) (typeOf-sound y (b .0) (b .1)) (b .2)
+      typeOf-sound (choose x y z) u q =
+          let a = opt-bind (typeOf t inMain Γ x) _ u q in
+          let b = opt-bind (typeOf t inMain Γ y) _ u (a .2) in
+          let c = opt-bind (typeOf t inMain Γ z) _ u (b .2) in
+          choose-sound x y z (a .0) (b .0) (c .0) u (typeOf-sound x (a .0) (a .1)) (typeOf-sound y (b .0) (b .1)) (typeOf-sound z (c .0) (c .1)) (c .2)
 
       pub typesOf-sound : (es : Exprs) (us : List Ty) → typesOf t inMain Γ es ≡ some us → HaveTypes t inMain Γ es us
       typesOf-sound done us q = let y : some [] ≡ some us = q in subst (HaveTypes t inMain Γ done) (let x : [] ≡ us = cc in x) T-NONE
@@ -168,8 +210,20 @@ module _ (t : Table) (h : ParentsSmaller (t .classes)) where
         go true p = absurd (k (allClosed-sound us p))
         go false p = rw (allFit-complete f)
 
+    choose-second : (u v : Ty) → Fits cs u v → chooseType t numberType u v ≡ some v
+    unfolding chooseType wider
+    choose-second u v f = rw (fits-complete u v f, wider)
+
+    choose-first : (u v : Ty) → (Fits cs u v → ⊥) → Fits cs v u → chooseType t numberType u v ≡ some u
+    unfolding chooseType wider
+    choose-first u v k f = go (fits cs u v) refl
+      where
+        go : (b : Bool) → fits cs u v ≡ b → widerBy u v b ≡ some u
+        go true p = absurd (k (fits-sound u v p))
+        go false p = rw (fits-complete v u f)
+
     pub typeOf-complete : {e : Expr} {u : Ty} → HasType t inMain Γ e u → typeOf t inMain Γ e ≡ some u
-    unfolding typeOf fieldType
+    unfolding typeOf fieldType combineType
     typeOf-complete p = elim p as (λ e u _. typeOf t inMain Γ e ≡ some u) (λ es us _. typesOf t inMain Γ es ≡ some us) [
       | T-VAR-this q ↦ q
       | T-VAR-res q ↦ q
@@ -178,6 +232,10 @@ module _ (t : Table) (h : ParentsSmaller (t .classes)) where
       | T-INVK {m = m} {c = c} {us = us} {d = d} {u = u} (p → i) (ps → is) q k f z ↦ rw (i, is) (call-complete c m us d u q k f z)
       | T-NEW1 {c = c} {us = us} (ps → is) k f ↦ rw is (new1-complete c us k f)
       | T-NEW2 {c = c} {us = us} (ps → is) k f ↦ rw is (new2-complete c us k f)
+      | T-NUMBER ↦ refl
+      | T-COMBINE (p → i) (q → j) ↦ rw (i, j)
+      | T-CHOOSE-second {u = u} {v = v} (p → i) (q → j) (r → k) f ↦ rw (i, j, k) (choose-second u v f)
+      | T-CHOOSE-first {u = u} {v = v} (p → i) (q → j) (r → k) n f ↦ rw (i, j, k) (choose-first u v n f)
       | T-NONE ↦ refl
       | T-EACH (p → i) (ps → is) ↦ rw (i, is)
     ]

@@ -9,8 +9,8 @@ use mathlib.Core.Option.{some}
 use lib.Dec.{eqb}
 use lib.ListN.{length}
 use borrow.Author.Tests.{eqb-true, eqb-false, eq-eqb, ne-eqb}
-use Rattle.cofj.specs.Values.{Ref, obj, mark, undet, Node, Graph, graph, refsAt, colours, isIn, placeIn, visit, visitAll, canon}
-use Rattle.cofj.specs.Unfolding.{object, opened, unknown, follow, Same, SameTree, InRange, Whole}
+use Rattle.cofj.specs.Values.{Ref, obj, leaf, Node, Graph, graph, refsAt, colours, isIn, placeIn, visit, visitAll, canon}
+use Rattle.cofj.specs.Unfolding.{object, atLeaf, follow, Same, SameTree, InRange, Whole}
 use Rattle.cofj.proofs.Trees.{Pointwise, same-refs, same-look, same-rename}
 use Rattle.cofj.proofs.Colours.{colour, colour-low, colour-first, colour-full, colour-same}
 use Rattle.cofj.proofs.Walk.{Kept, walk, visited, unseen, unseen-top, unseen-le, enter-kept, enter-less, order, start}
@@ -125,14 +125,9 @@ module _ (g h : Graph) (wg : Whole g) (wh : Whole h) where
   unfolding visit
   sim zero k′ r s cs ds p m a b l l′ = absurd (not-suc-le-zero l)
   sim (suc k) zero r s cs ds p m a b l l′ = absurd (not-suc-le-zero l′)
-  sim (suc k) (suc k′) (obj i) (mark y) cs ds p m a b l l′ = let z : some (object _ _) ≡ some (opened y) = p .0 [] in absurd (let q : _≡_ {A = ℕ} 0 1 = cc in omega arith)
-  sim (suc k) (suc k′) (obj i) undet cs ds p m a b l l′ = let z : some (object _ _) ≡ some unknown = p .0 [] in absurd (let q : _≡_ {A = ℕ} 0 1 = cc in omega arith)
-  sim (suc k) (suc k′) (mark x) (obj j) cs ds p m a b l l′ = let z : some (opened x) ≡ some (object _ _) = p .0 [] in absurd (let q : _≡_ {A = ℕ} 0 1 = cc in omega arith)
-  sim (suc k) (suc k′) (mark x) (mark y) cs ds p m a b l l′ = m
-  sim (suc k) (suc k′) (mark x) undet cs ds p m a b l l′ = m
-  sim (suc k) (suc k′) undet (obj j) cs ds p m a b l l′ = let z : some unknown ≡ some (object _ _) = p .0 [] in absurd (let q : _≡_ {A = ℕ} 0 1 = cc in omega arith)
-  sim (suc k) (suc k′) undet (mark y) cs ds p m a b l l′ = m
-  sim (suc k) (suc k′) undet undet cs ds p m a b l l′ = m
+  sim (suc k) (suc k′) (obj i) (leaf y) cs ds p m a b l l′ = let z : some (object _ _) ≡ some (atLeaf y) = p .0 [] in absurd (let q : _≡_ {A = ℕ} 0 1 = cc in omega arith)
+  sim (suc k) (suc k′) (leaf x) (obj j) cs ds p m a b l l′ = let z : some (atLeaf x) ≡ some (object _ _) = p .0 [] in absurd (let q : _≡_ {A = ℕ} 0 1 = cc in omega arith)
+  sim (suc k) (suc k′) (leaf x) (leaf y) cs ds p m a b l l′ = m
   sim (suc k) (suc k′) (obj i) (obj j) cs ds p m a b l l′ =
       go (isIn (colour g wg i) cs) (isIn (colour h wh j) ds) refl refl (same-isIn i j (p .1) (p .2) (p .0) cs ds m)
       (sim-all k k′ (sim k k′) (refsAt (g .nodes) (colour g wg i)) (refsAt (h .nodes) (colour h wh j)))

@@ -10,7 +10,7 @@ use mathlib.Core.Option.{some, Option·none-ne-some}
 use lib.Dec.{eqb}
 use lib.ListN.{length, getElem?, length-append}
 use borrow.Author.Tests.{eqb-true, eqb-false, eq-eqb}
-use Rattle.cofj.specs.Values.{Ref, obj, mark, undet, Graph, refsAt, colours, isIn, visit, visitAll}
+use Rattle.cofj.specs.Values.{Ref, obj, leaf, Graph, refsAt, colours, isIn, visit, visitAll}
 use Rattle.cofj.specs.Unfolding.{InRange, Whole}
 use Rattle.cofj.proofs.Colours.{colour, colour-low, colour-first}
 
@@ -107,13 +107,11 @@ module _ (g : Graph) (w : Whole g) where
   -- the reference's colour is met, if it is an object
   abbrev pub Covered : List ℕ → Ref → Type 0
   Covered s (obj i) = isIn (colour g w i) s ≡ true
-  Covered s (mark k) = Unit {0}
-  Covered s undet = Unit {0}
+  Covered s (leaf k) = Unit {0}
 
   covered-ext : (s t : List ℕ) → Ext s t → (r : Ref) → Covered s r → Covered t r
   covered-ext s t h (obj i) p = h (colour g w i) p
-  covered-ext s t h (mark k) p = tt
-  covered-ext s t h undet p = tt
+  covered-ext s t h (leaf k) p = tt
 
   -- every number met is a colour
   abbrev pub Kept : List ℕ → Type 0
@@ -203,8 +201,7 @@ module _ (g : Graph) (w : Whole g) where
   pub visited : (k : ℕ) → Step k
   unfolding visit
   visited zero r s ir kp l = absurd (not-suc-le-zero l)
-  visited (suc k) (mark x) s ir kp l = (stay s kp, tt)
-  visited (suc k) undet s ir kp l = (stay s kp, tt)
+  visited (suc k) (leaf x) s ir kp l = (stay s kp, tt)
   visited (suc k) (obj i) s ir kp l = go (isIn (colour g w i) s) refl (all-visited k (visited k) (refsAt (g .nodes) (colour g w i)) (s ++ (colour g w i ∷ [])) (w .inner (colour g w i)))
     where
       c : ℕ

@@ -1,4 +1,4 @@
--- The second text of a run (request 2026-01): the parts of the value that an `04` main is given, one line each. What it gives: the value of
+-- The second text of a run (requests 2026-01, 2026-02): the parts of the value that an `04` main is given, one line each. What it gives: the value of
 -- what is reached from part 0, or refusal 14 (the text is no such list) or 15 (what is reached does not fit, or is too large).
 -- The refusals as the request says them, of the parts as written, stand below; proofs/Batch proves that they are these.
 -- Not here: which main is given one, and when a call is refused (Calls).
@@ -10,12 +10,12 @@ use mathlib.Core.Logic.{_↔_}
 use mathlib.Core.Option.{Option, none, some}
 use lib.Dec.{eqb, leb}
 use lib.ListN.{length, getElem?}
-use Rattle.cofj.specs.Limits.{partCount}
+use Rattle.cofj.specs.Limits.{partCount, numberClass}
 use Rattle.cofj.specs.Partial.{_>>=_, guard}
 use Rattle.cofj.specs.Text.{within, linesFrom, hexText}
 use Rattle.cofj.specs.Syntax.{Ty, Class, Table}
 use Rattle.cofj.specs.Classes.{classFits, chainHas, fieldsOf, fieldsTo}
-use Rattle.cofj.specs.Values.{Ref, obj, mark, undet, Node, Graph, graph, nodeAt, refsAt, canon}
+use Rattle.cofj.specs.Values.{Ref, obj, leaf, Leaf, mark, undet, num, Node, Graph, graph, nodeAt, refsAt, canon}
 use Rattle.cofj.specs.Unfolding.{Same, Whole, Reached}
 use Rattle.cofj.specs.Formed.{AllIn, Formed}
 use Rattle.cofj.specs.Report.{objectLines}
@@ -41,11 +41,15 @@ partsOf cs s =
     guard (partsGood cs ns) >>= λ _. some ns
 
 -- ---- 15, judged on the value
--- what a place of this type may hold, of these objects
+-- what a place of this type may hold, of these objects; a number has the class of numbers and tag 0
+abbrev pub leafHeld : Ty → Leaf → Bool
+leafHeld w (mark k) = false
+leafHeld w undet = eqb (w .tag) 3
+leafHeld w (num n) = eqb (w .cls) numberClass
+
 abbrev pub holds : List Class → List Node → Ty → Ref → Bool
 holds cs ns w (obj i) = classFits cs (nodeAt ns i .cls) (w .cls)
-holds cs ns w (mark k) = false
-holds cs ns w undet = eqb (w .tag) 3
+holds cs ns w (leaf l) = leafHeld w l
 
 -- each field at its type
 unfoldable pub allHold : List Class → List Node → List Ty → List Ref → Bool
@@ -81,7 +85,7 @@ unfolding partsOf valueFits canon
 inputOf objects cs u s = elim (partsOf cs s) [ none ↦ refused 14 | some ns ↦ fitting objects cs u (started ns) ]
 
 -- ---- the request's words, of the parts as written
--- what 14 asks: the text is the lines of these parts, numbered from 00, each of a known class and with its fields, which hold parts of the list or FF
+-- what 14 asks: the text is the lines of these parts, numbered from 00, each of a known class and with its fields, which hold parts of the list, FF or numbers
 pub record ListsParts (t : Table) (s : List ℕ) (ns : List Node) : Type 0 where
   pub some-part : 1 ≤ length ns
   pub few : length ns ≤ partCount
@@ -98,12 +102,15 @@ abbrev pub Apart : List Node → List ℕ → Type 0
 Apart ns [] = Unit {0}
 Apart ns (i ∷ is) = AllIn (λ j. Same ns (obj i) ns (obj j) → ⊥) is × Apart ns is
 
--- what 15 asks: a reached part fits every place that holds it, only a minus place holds FF, and there are not too many distinct ones
+-- what 15 asks: a reached part fits every place that holds it, only a minus place holds FF, only a place of class FE a number, and there are not too
+-- many distinct ones
 pub record Fitting (objects : ℕ) (cs : List Class) (u : Ty) (ns : List Node) : Type 0 where
   pub root : classFits cs (nodeAt ns 0 .cls) (u .cls) ≡ true
   pub held : (i f j : ℕ) (w : Ty) → PartReached ns i → getElem? (fieldsOf cs (nodeAt ns i .cls)) f ≡ some w → getElem? (refsAt ns i) f ≡ some (obj j)
       → classFits cs (nodeAt ns j .cls) (w .cls) ≡ true
-  pub undetermined : (i f : ℕ) (w : Ty) → PartReached ns i → getElem? (fieldsOf cs (nodeAt ns i .cls)) f ≡ some w → getElem? (refsAt ns i) f ≡ some undet → w .tag ≡ 3
+  pub undetermined : (i f : ℕ) (w : Ty) → PartReached ns i → getElem? (fieldsOf cs (nodeAt ns i .cls)) f ≡ some w → getElem? (refsAt ns i) f ≡ some (leaf undet) → w .tag ≡ 3
+  pub number : (i f x : ℕ) (w : Ty) → PartReached ns i → getElem? (fieldsOf cs (nodeAt ns i .cls)) f ≡ some w → getElem? (refsAt ns i) f ≡ some (leaf (num x))
+      → w .cls ≡ numberClass
   pub few : (is : List ℕ) → AllIn (PartReached ns) is → Apart ns is → length is ≤ objects
 
 -- what a text gives, by these words

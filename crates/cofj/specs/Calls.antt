@@ -1,24 +1,23 @@
 -- Sessions and the public calls: what each answers, and every byte of the lent buffers after it.
 -- A refused call answers its number, the same session and length 0, and leaves the buffers as they were.
-use Prim.Native.Nat.{ℕ, suc}
-use mathlib.Core.Bool.{Bool, true, false, _&&_, not, cond}
+use Prim.Native.Nat.{ℕ}
+use mathlib.Core.Bool.{true, false, not, cond}
 use mathlib.Core.List.{List, [], _∷_, _++_}
 use mathlib.Core.Option.{Option, none, some}
-use lib.Dec.{eqb, ltb}
-use lib.ListN.{length, take, drop, replicate}
+use lib.Dec.{ltb}
+use lib.ListN.{length, drop, replicate}
 use Rattle.cofj.specs.declared.Session.{Session}
 use Rattle.cofj.specs.declared.Answer.{Answer}
 use Rattle.cofj.specs.declared.Closing.{Closing}
 use Rattle.cofj.specs.declared.Verdict.{Verdict}
 use Rattle.cofj.specs.declared.Written.{Written}
-use Rattle.cofj.specs.Limits.{standard, textSize, reportSize, workSize, linerunFuel}
+use Rattle.cofj.specs.Limits.{standard, textSize, reportSize, workSize}
 use Rattle.cofj.specs.Syntax.{Table}
 use Rattle.cofj.specs.Values.{Graph}
-use Rattle.cofj.specs.Text.{hexText}
 use Rattle.cofj.specs.Reading.{refusal, read, readText}
 use Rattle.cofj.specs.Writing.{Text, noText, text, writeTable}
 use Rattle.cofj.specs.Classes.{chainHas, fieldsTo, lookupTo, methodOf}
-use Rattle.cofj.specs.Typing.{Checked, refused, accepted, check, methodTyped, typeOf, fieldType, callType, newType}
+use Rattle.cofj.specs.Typing.{Checked, refused, accepted, check, methodTyped, typeOf, fieldType, callType, newType, combineType, chooseType}
 use Rattle.cofj.specs.Running.{Outcome, run}
 use Rattle.cofj.specs.Batch.{Input, refused as unfit, given, inputOf}
 use Rattle.cofj.specs.Report.{reportOf, fuelOf}
@@ -41,7 +40,7 @@ closeSession σ = cond (σ .active) (record { refusal = 0; session = closedSessi
 
 -- ---- the check of a text: 1 to 7, or main's class and tag
 unfoldable pub checkText : List ℕ → Checked
-unfolding readText check methodTyped typeOf fieldType callType newType chainHas fieldsTo lookupTo methodOf
+unfolding readText check methodTyped typeOf fieldType callType newType combineType chooseType chainHas fieldsTo lookupTo methodOf
 checkText s = elim (readText s) [ refusal k ↦ refused k | read t ↦ check t ]
 
 abbrev pub verdictOf : Checked → Verdict
@@ -91,7 +90,7 @@ admitTable trial t s = feed t s
 
 -- the text of a program and the second text: 1 to 7, then 14 and 15; a trial never gives 6 or 7
 unfoldable pub admit : Mode → List ℕ → List ℕ → Admitted
-unfolding readText check methodTyped typeOf fieldType callType newType chainHas fieldsTo lookupTo methodOf feed
+unfolding readText check methodTyped typeOf fieldType callType newType combineType chooseType chainHas fieldsTo lookupTo methodOf feed
 admit m s i = elim (readText s) [ refusal k ↦ declined k | read t ↦ admitTable m t i ]
 
 -- a call of a run: its texts, its state and the buffers that it lends
@@ -174,55 +173,3 @@ wrote (text s) buffer = elim (ltb (length buffer) textSize) [ true ↦ notWritte
 unfoldable pub writeCall : Table → List ℕ → Wrote
 unfolding writeTable over
 writeCall t buffer = wrote (writeTable t) buffer
-
--- ---- the program `linerun`: the verdict line, and after 00 the report. Its input is both texts: the first ends with the first line whose
--- characters begin `04`, the second is all that follows, whatever it looks like; without such a line all is the first text
--- these characters begin `04`
-abbrev pub begins04 : List ℕ → Bool
-begins04 [] = false
-begins04 (a ∷ []) = false
-begins04 (a ∷ b ∷ s) = eqb a 0x30 && eqb b 0x34
-
--- how many characters there are up to and with the first LF, or in all
-unfoldable pub lineLength : List ℕ → ℕ
-lineLength [] = 0
-lineLength (c ∷ s) = suc (cond (eqb c 10) 0 (lineLength s))
-
--- how many characters the first text has; `start` says that a line starts here
-unfoldable pub firstLength : Bool → List ℕ → ℕ
-unfolding lineLength
-firstLength start [] = 0
-firstLength start (c ∷ s) = elim (start && begins04 (c ∷ s)) [ true ↦ lineLength (c ∷ s) | false ↦ suc (firstLength (eqb c 10) s) ]
-
-abbrev pub firstText : List ℕ → List ℕ
-firstText s = take (firstLength true s) s
-
-abbrev pub secondText : List ℕ → List ℕ
-secondText s = drop (firstLength true s) s
-
--- what is said of both texts: main's type, or the refusal that a checked run of them gives
-abbrev pub judgedBy : Checked → Admitted → Checked
-judgedBy c (declined k) = refused k
-judgedBy c (admitted t i) = c
-
-unfoldable pub judge : List ℕ → List ℕ → Checked
-unfolding checkText admit
-judge s i = judgedBy (checkText s) (admit checked s i)
-
-abbrev pub verdictLine : Checked → List ℕ
-verdictLine (refused k) = 8 ∷ k ∷ []
-verdictLine (accepted u) = 8 ∷ 0 ∷ u .cls ∷ u .tag ∷ []
-
--- the report of a run with so much fuel, where the texts are admitted
-abbrev pub reportAdmitted : Admitted → ℕ → List ℕ
-reportAdmitted (declined k) n = []
-reportAdmitted (admitted t i) n = reportOf (run t i n)
-
--- what is written for both texts
-unfoldable pub shownFor : List ℕ → List ℕ → List ℕ
-unfolding judge admit run
-shownFor s i = hexText (verdictLine (judge s i) ∷ []) ++ reportAdmitted (admit checked s i) linerunFuel
-
-unfoldable pub linerun : List ℕ → List ℕ
-unfolding firstLength shownFor
-linerun s = shownFor (firstText s) (secondText s)

@@ -1,13 +1,13 @@
 -- From a line's bytes to its frame: refusal 2 is a line that has none (unknown first byte, a tag, count or nesting over its limit,
 -- too short or too long). Not here: the order of frames and the rules of a class table (Tables).
-use Prim.Native.Nat.{ℕ, zero, suc}
+use Prim.Native.Nat.{ℕ, zero, suc, _+_, _*_}
 use mathlib.Core.Bool.{cond}
 use mathlib.Core.List.{List, [], _∷_}
 use mathlib.Core.Option.{Option, none, some}
 use lib.Dec.{eqb, leb}
 use Rattle.cofj.specs.Limits.{fieldCount, paramCount, nestingLimit}
 use Rattle.cofj.specs.Partial.{_>>=_, guard}
-use Rattle.cofj.specs.Syntax.{Expr, this, res, param, field, call, new, Exprs, done, also, Ty, ty, Class, Method}
+use Rattle.cofj.specs.Syntax.{Operation, sum, difference, Expr, this, res, param, field, call, new, literal, combine, choose, Exprs, done, also, Ty, ty, Class, Method}
 
 -- what a reader of bytes gives: the item and the bytes after it
 pub record Got (A : Type 0) : Type 0 where
@@ -37,6 +37,10 @@ unfolding type
 types zero bs = got [] bs
 types (suc n) bs = type bs >>= λ t. types n (t .rest) >>= λ ts. got (t .item ∷ ts .item) (ts .rest)
 
+-- a number of two bytes, high first
+unfoldable pub twoBytes : Reader ℕ
+twoBytes bs = byte bs >>= λ high. byte (high .rest) >>= λ low. got (256 * high .item + low .item) (low .rest)
+
 unfoldable pub exprsBy : Reader Expr → ℕ → Reader Exprs
 exprsBy one zero bs = got done bs
 exprsBy one (suc n) bs = one bs >>= λ e. exprsBy one n (e .rest) >>= λ es. got (also (e .item) (es .item)) (es .rest)
@@ -56,8 +60,14 @@ module _ (one : Reader Expr) where
   unfolding exprsBy
   newAfter bs = byte bs >>= λ c. upTo fieldCount (c .rest) >>= λ n. exprsBy one (n .item) (n .rest) >>= λ es. got (new (c .item) (es .item)) (es .rest)
 
+  unfoldable pub combineAfter : Operation → Reader Expr
+  combineAfter o bs = one bs >>= λ a. one (a .rest) >>= λ b. got (combine o (a .item) (b .item)) (b .rest)
+
+  unfoldable pub chooseAfter : Reader Expr
+  chooseAfter bs = one bs >>= λ c. one (c .rest) >>= λ a. one (a .rest) >>= λ b. got (choose (c .item) (a .item) (b .item)) (b .rest)
+
   unfoldable pub exprAfter : ℕ → Reader Expr
-  unfolding fieldAfter callAfter newAfter
+  unfolding fieldAfter callAfter newAfter twoBytes combineAfter chooseAfter
   exprAfter b bs =
       cond (eqb b 0x40) (got this bs)
       (cond (eqb b 0x41) (got res bs)
@@ -65,7 +75,11 @@ module _ (one : Reader Expr) where
       (cond (eqb b 0x43) (fieldAfter bs)
       (cond (eqb b 0x44) (callAfter bs)
       (cond (eqb b 0x45) (newAfter bs)
-      none)))))
+      (cond (eqb b 0x46) (twoBytes bs >>= λ n. got (literal (n .item)) (n .rest))
+      (cond (eqb b 0x47) (combineAfter sum bs)
+      (cond (eqb b 0x48) (combineAfter difference bs)
+      (cond (eqb b 0x49) (chooseAfter bs)
+      none)))))))))
 
 -- an expression nested at most n deep
 unfoldable pub expr : ℕ → Reader Expr

@@ -3,7 +3,7 @@
 --   the text and its table: Limits, Text, Syntax, Classes, Frames, Tables, Reading, Writing;
 --   types: TypingRules, with Env and the tags from Typing;
 --   values and runs: Values, Unfolding, RunningRules, with Outcome, Frame and openMark from Running;
---   the calls: Report, Batch for the second text of a run, Calls; then Soundness and Promises.
+--   the calls: Report, Batch for the second text of a run, Calls, Show; then Soundness and Promises.
 -- Skip at first: Partial and Bytes (helpers), the functions of Typing and Running (proved to compute the rules), Formed and WellFormed (what
 -- proofs need of values and tables), ReportForm (which texts are reports), Rows (the cases A to J).
 pub mod Limits
@@ -28,6 +28,7 @@ pub mod Formed
 pub mod ReportForm
 pub mod Batch
 pub mod Calls
+pub mod Show
 pub mod Soundness
 pub mod Promises
 pub mod Bytes

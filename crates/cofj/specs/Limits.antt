@@ -26,20 +26,27 @@ paramCount = 3
 abbrev pub nestingLimit : ℕ
 nestingLimit = 6
 
--- how many parts the second text of a run may list: the byte FF is none of them
-abbrev pub partCount : ℕ
-partCount = 255
+-- numbers: how many there are, from 0 on, and the class byte of their type
+abbrev pub numberCount : ℕ
+numberCount = 65536
 
--- a second text: characters in all, 17 for each part; more are no list of parts
+abbrev pub numberClass : ℕ
+numberClass = 0xFE
+
+-- how many parts the second text of a run may list: the bytes FE and FF are none of them
+abbrev pub partCount : ℕ
+partCount = 254
+
+-- a second text: characters in all, 33 for each part; more are no list of parts
 abbrev pub inputSize : ℕ
-inputSize = 4335
+inputSize = 8382
 
 -- lent buffers: refusals 12 and 13
 abbrev pub reportSize : ℕ
-reportSize = 544
+reportSize = 1056
 
 abbrev pub workSize : ℕ
-workSize = 65536
+workSize = 163840
 
 -- the fuel that `linerun` opens with
 abbrev pub linerunFuel : ℕ
@@ -47,7 +54,7 @@ linerunFuel = 1000
 
 -- so many characters of its input decide what `linerun` writes: both texts, and one character more
 abbrev pub linerunSize : ℕ
-linerunSize = 53903
+linerunSize = 57950
 
 -- what a run may use besides its fuel: calls open at once, and distinct objects in a value
 pub record Limits : Type 0 where

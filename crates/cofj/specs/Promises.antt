@@ -23,7 +23,7 @@ use Rattle.cofj.specs.Reading.{Answer, refusal, read, readText}
 use Rattle.cofj.specs.WellFormed.{AllMethods}
 use Rattle.cofj.specs.Typing.{refused, accepted, check}
 use Rattle.cofj.specs.TypingRules.{HasType, mainVariables, MethodTyped, ProgramTyped}
-use Rattle.cofj.specs.Values.{obj, Node, Graph, graph, canon, make, select, close, markOf, undetermined}
+use Rattle.cofj.specs.Values.{obj, Node, Graph, graph, canon, make, select, close, markOf, undetermined, numberOf}
 use Rattle.cofj.specs.Unfolding.{object, follow, followBound, SameTree, Whole, AllWhole}
 use Rattle.cofj.specs.Running.{Outcome, OpenCall, openMark, run, runWithin}
 use Rattle.cofj.specs.RunningRules.{RunsTo}
@@ -33,7 +33,8 @@ use Rattle.cofj.specs.Report.{reportOf, fuelOf, valueReport, SameEnd}
 use Rattle.cofj.specs.ReportForm.{reported, Reportable}
 use Rattle.cofj.specs.Batch.{ListsParts, started, Fitting}
 use Rattle.cofj.specs.Soundness.{Ends, EndsListed, Fed}
-use Rattle.cofj.specs.Calls.{checked, trial, feed, inputIn, Call, Ran, closedSession, withFuel, turnedAway, ended, verdictOf, Wrote, notWritten, written}
+use Rattle.cofj.specs.Calls.{checked, trial, feed, inputIn, Call, Ran, closedSession, withFuel, turnedAway, ended, verdictOf, Wrote, notWritten, written, runCall}
+use Rattle.cofj.specs.Show.{firstText, secondText, shownCall, Presented, notShown, writtenAfter, linerun}
 
 -- the report that a run wrote: as many bytes of the buffer as it answers
 abbrev pub reportText : Ran → List ℕ
@@ -119,6 +120,15 @@ pub record Writes (o : Text) (buffer : List ℕ) (x : Wrote) : Type 0 where
   pub writes : (s : List ℕ) → o ≡ text s → textSize ≤ length buffer → x ≡ written s buffer
   -- the text fits, so that the buffer keeps its length
   pub kept : length (x .buffer) ≡ length buffer
+
+-- ---- demand 1: the call of `linerun`. 12 and 13; else what a host writes after it is what the definition of the program gives, and the buffers are as
+-- the checked run leaves them
+pub record Shows (s report work : List ℕ) (x : Presented) : Type 0 where
+  pub shortReport : length report < reportSize → x ≡ notShown 12 report work
+  pub shortWork : reportSize ≤ length report → length work < workSize → x ≡ notShown 13 report work
+  pub writes : reportSize ≤ length report → workSize ≤ length work → writtenAfter x ≡ linerun s
+  pub buffers : reportSize ≤ length report → workSize ≤ length work
+      → (x .report ≡ runCall (shownCall (firstText s) (secondText s) report work) .report) × (x .work ≡ runCall (shownCall (firstText s) (secondText s) report work) .work)
 
 -- ---- demand 1: runs
 -- the state refuses nothing
@@ -286,6 +296,7 @@ pub record Canonical : Type 0 where
   pub closesItself : (x : ℕ) → close x (markOf x) ≡ undetermined
   pub closesOther : (x k : ℕ) → (k ≡ x → ⊥) → close x (markOf k) ≡ markOf k
   pub closesNothing : (x : ℕ) → close x undetermined ≡ undetermined
+  pub closesNumber : (x n : ℕ) → close x (numberOf n) ≡ numberOf n
   -- a call is met again exactly when an open one has this receiver, name and arguments
   pub metAgain : (v : Graph) (m : ℕ) (vs : List Graph) (os : List OpenCall) (x : ℕ) → openMark os v m vs ≡ some x → OpenUnder v m vs os x
   pub metFirst : (v : Graph) (m : ℕ) (vs : List Graph) (os : List OpenCall) → openMark os v m vs ≡ none → (o : OpenCall) → List·Memᴰ o os → Equals v m vs o → ⊥

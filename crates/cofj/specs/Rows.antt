@@ -1,4 +1,4 @@
--- The cases A to J of document 01, and some of request 2026-01 with a second text, as a table: checked or on trial, fuel, the text, the second
+-- The cases A to J of document 01, some of request 2026-01 with a second text and of request 2026-02 with numbers, as a table: checked or on trial, fuel, the text, the second
 -- text, what is written, and the fuel that is left. What is written is the verdict line, for a checked run, and the report. Proved in proofs/Cases.
 use Prim.Native.Nat.{ℕ}
 use Prim.Native.String.{String}
@@ -7,7 +7,8 @@ use mathlib.Core.List.{List, [], _∷_, _++_}
 use Rattle.cofj.specs.Text.{hexText}
 use Rattle.cofj.specs.Running.{run}
 use Rattle.cofj.specs.Report.{reportOf, fuelOf}
-use Rattle.cofj.specs.Calls.{Mode, checked, trial, Admitted, declined, admitted, admit, judge, verdictLine}
+use Rattle.cofj.specs.Calls.{Mode, checked, trial, Admitted, declined, admitted, admit}
+use Rattle.cofj.specs.Show.{judge, verdictLine}
 use Rattle.cofj.specs.Bytes.{bytes}
 
 pub record Row : Type 0 where
@@ -143,6 +144,91 @@ row-untyped-checked = row checked 1000 "010100010103\n04010040\n" "0807\n" 1000
 abbrev pub row-untyped : Row
 row-untyped = rowWith trial 1000 "010100010103\n04010040\n" "" "080E\n" 1000
 
+-- ---- numbers
+-- a number
+abbrev pub row-number : Row
+row-number = row checked 1000 "0346002A\n" "0800FE00\n09002A\n" 1000
+
+-- whose bytes look like a sign and a class
+abbrev pub row-number-bytes : Row
+row-number-bytes = row checked 1000 "034645FF\n" "0800FE00\n0945FF\n" 1000
+
+-- a sum, and one above the largest number
+abbrev pub row-sum : Row
+row-sum = row checked 1000 "03474600FF460001\n" "0800FE00\n090100\n" 1000
+
+abbrev pub row-overflow : Row
+row-overflow = row checked 1000 "034746FFFF460001\n" "0800FE00\n0705\n" 1000
+
+-- a difference that would be below 0
+abbrev pub row-difference : Row
+row-difference = row checked 1000 "0348460003460005\n" "0800FE00\n090000\n" 1000
+
+-- two objects with equal numbers are one, with different ones two
+abbrev pub row-equal-numbers : Row
+row-equal-numbers = row checked 1000 "01010001FE00\n0102000200000000\n03450202450101460005450101460005\n" "08000200\n050002020101\n05010101FE0005\n" 1000
+
+abbrev pub row-other-numbers : Row
+row-other-numbers = row checked 1000 "01010001FE00\n0102000200000000\n03450202450101460005450101460006\n" "08000200\n050002020102\n05010101FE0005\n05020101FE0006\n" 1000
+
+-- 4 + 3 + 2 + 1
+abbrev pub row-count : Row
+row-count = row checked 30 "01010000\n020101FE00FE0001FE0049420047420044010140484200460001460000460000\n03440101450100460004\n" "0800FE00\n09000A\n" 25
+
+-- a ring 0, 1, 0, 1: calls met again by equal numbers
+abbrev pub row-ring-of-numbers : Row
+row-ring-of-numbers = row checked 10 "01010000\n01020002FE000203\n0201010200020201FE0045020242004401014048460001420041\n03440101450100460000\n" "08000200\n05000202FE000001\n05010202FE000100\n" 7
+
+-- the type is the wider of the branches, and only the taken one is run
+abbrev pub row-choose-first : Row
+row-choose-first = row checked 1000 "01010000\n01020100\n0349460001450100450200\n" "08000100\n05000100\n" 1000
+
+abbrev pub row-choose-second : Row
+row-choose-second = row checked 1000 "01010000\n01020100\n0349460000450100450200\n" "08000100\n05000200\n" 1000
+
+abbrev pub row-choose-neither : Row
+row-choose-neither = row checked 1000 "01010000\n01020000\n0349460001450100450200\n" "0807\n" 1000
+
+-- a number is no object, on trial it is stored as one
+abbrev pub row-no-object : Row
+row-no-object = row checked 1000 "010100010000\n03450101460005\n" "0807\n" 1000
+
+abbrev pub row-no-object-trial : Row
+row-no-object-trial = row trial 1000 "010100010000\n03450101460005\n" "05000101FE0005\n" 1000
+
+-- a sum is judged after both operands
+abbrev pub row-sum-first : Row
+row-sum-first = row checked 1 "01010000\n020101FE00FE000046FFFF460000\n0347440100450100440100450100\n" "0800FE00\n0702\n" 0
+
+abbrev pub row-sum-both : Row
+row-sum-both = row checked 2 "01010000\n020101FE00FE000046FFFF460000\n0347440100450100440100450100\n" "0800FE00\n0705\n" 0
+
+-- class FE is below no class, whatever the table has
+abbrev pub row-thirteen : Row
+row-thirteen = row checked 1000 "01010000\n01020000\n01030000\n01040000\n01050000\n01060000\n01070000\n01080000\n01090000\n010A0000\n010B0000\n010C0000\n010D0000\n010E00010100\n020DD00D000D00004040\n03450E01460005\n" "0807\n" 1000
+
+-- a number in a second text; one without its bytes; FF, a part at its place; a number at the place of a part; a part of class FE
+abbrev pub row-given-number : Row
+row-given-number = rowWith checked 1000 "01010002FE000103\n04010043004200\n" "05000102FE0102FF\n" "0800FE00\n090102\n" 1000
+
+abbrev pub row-given-cut : Row
+row-given-cut = rowWith checked 1000 "01010002FE000103\n04010043004200\n" "05000102FE01FF\n" "080E\n" 1000
+
+abbrev pub row-given-none : Row
+row-given-none = rowWith checked 1000 "01010002FE000103\n04010043004200\n" "05000102FFFF\n" "080F\n" 1000
+
+abbrev pub row-given-part : Row
+row-given-part = rowWith checked 1000 "01010002FE000103\n04010043004200\n" "0500010200FF\n" "080F\n" 1000
+
+abbrev pub row-given-two : Row
+row-given-two = rowWith checked 1000 "01010002FE000103\n04010043004200\n" "05000102FE0001FE0002\n" "080F\n" 1000
+
+abbrev pub row-given-class : Row
+row-given-class = rowWith checked 1000 "01010002FE000103\n04010043004200\n" "0500FE00\n" "080E\n" 1000
+
 abbrev pub rows : List Row
 rows = row-a ∷ row-b ∷ row-c ∷ row-d ∷ row-e ∷ row-e-z ∷ row-f ∷ row-f-trial ∷ row-g ∷ row-i ∷ row-j-16 ∷ row-j-17 ∷ row-h-32 ∷ row-h-33
-    ∷ row-ring-cut ∷ row-ring ∷ row-met ∷ row-met-3 ∷ row-minus ∷ row-plus ∷ row-plus-trial ∷ row-unreached ∷ row-no-part ∷ row-two-places ∷ row-one-place ∷ row-untyped-checked ∷ row-untyped ∷ []
+    ∷ row-ring-cut ∷ row-ring ∷ row-met ∷ row-met-3 ∷ row-minus ∷ row-plus ∷ row-plus-trial ∷ row-unreached ∷ row-no-part ∷ row-two-places ∷ row-one-place ∷ row-untyped-checked ∷ row-untyped
+    ∷ row-number ∷ row-number-bytes ∷ row-sum ∷ row-overflow ∷ row-difference ∷ row-equal-numbers ∷ row-other-numbers ∷ row-count
+    ∷ row-ring-of-numbers ∷ row-choose-first ∷ row-choose-second ∷ row-choose-neither ∷ row-no-object ∷ row-no-object-trial ∷ row-sum-first ∷ row-sum-both
+    ∷ row-thirteen ∷ row-given-number ∷ row-given-cut ∷ row-given-none ∷ row-given-part ∷ row-given-two ∷ row-given-class ∷ []

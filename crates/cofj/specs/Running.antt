@@ -1,21 +1,21 @@
 -- Running: what the big-step rules of 002 (figures 2 and 3), as document 01 changes them, give for a table, its input and fuel.
 -- Left to right; the first outcome that is no value is the outcome of the whole. The rules themselves stand in RunningRules.
--- Differs from 002: fuel, depth and size; the count of a `new` is judged before its values, a call's receiver before its arguments.
-use Prim.Native.Nat.{ℕ, zero, suc}
+-- Differs from 002: fuel, depth and size; numbers; the count of a `new` is judged before its values, a call's receiver before its arguments.
+use Prim.Native.Nat.{ℕ, zero, suc, _+_, _-_}
 use mathlib.Core.Bool.{true, false}
 use mathlib.Core.List.{List, [], _∷_}
 use mathlib.Core.Option.{Option, none, some}
 use lib.Dec.{eqb, ltb}
 use lib.ListN.{length, getElem?}
-use Rattle.cofj.specs.Limits.{Limits, standard}
+use Rattle.cofj.specs.Limits.{Limits, standard, numberCount}
 use Rattle.cofj.specs.Partial.{asList}
-use Rattle.cofj.specs.Syntax.{Expr, this, res, param, field, call, new, Exprs, done, also, count, Method, Table}
+use Rattle.cofj.specs.Syntax.{Operation, sum, difference, Expr, this, res, param, field, call, new, literal, combine, choose, Exprs, done, also, count, Method, Table}
 use Rattle.cofj.specs.Classes.{fieldsOf, lookup, lookupTo, methodOf, fieldsTo}
-use Rattle.cofj.specs.Values.{Graph, obj, mark, undet, make, select, close, eqGraph, eqGraphs, markOf, nodeAt}
+use Rattle.cofj.specs.Values.{Graph, obj, leaf, make, select, close, eqGraph, eqGraphs, markOf, numberOf, numberIn, nodeAt}
 
 -- why a run ends without a value
 pub data Stop : Type 0 where
-  stuck noFuel tooDeep tooLarge : Stop
+  stuck noFuel tooDeep tooLarge overflow : Stop
 
 -- what evaluation gives: a value or what it stopped at, and the fuel that is left
 pub data Outcome (A : Type 0) : Type 0 where
@@ -59,7 +59,7 @@ openMark (o ∷ os) v m vs =
 
 -- the class of an object
 abbrev pub classOf : Graph → Option ℕ
-classOf g = elim (g .root) [ obj i ↦ some (nodeAt (g .nodes) i .cls) | mark k ↦ none | undet ↦ none ]
+classOf g = elim (g .root) [ obj i ↦ some (nodeAt (g .nodes) i .cls) | leaf l ↦ none ]
 
 -- Evaluation of the bodies of calls: the frame, the open left-side calls, the expression, the fuel.
 abbrev pub Deeper : Type 0
@@ -96,10 +96,15 @@ invoke (some body) os v m vs d (suc n) =
 unfoldable pub sized : ℕ → Graph → ℕ → Outcome Graph
 sized objects g n = elim (ltb objects (length (g .nodes))) [ true ↦ stopped tooLarge n | false ↦ value g n ]
 
+-- two numbers put together: a sum above the largest number stops the run, a difference below 0 is 0
+unfoldable pub reckon : Operation → ℕ → ℕ → ℕ → Outcome Graph
+reckon sum x y n = elim (ltb (x + y) numberCount) [ true ↦ value (numberOf (x + y)) n | false ↦ stopped overflow n ]
+reckon difference x y n = value (numberOf (x - y)) n
+
 -- `deeper` evaluates the bodies of calls, if one more call may be opened
 module _ (objects : ℕ) (t : Table) (deeper : Option Deeper) where
   unfoldable mutual
-    unfolding invoke target make select sized fieldsTo
+    unfolding invoke target make select sized reckon fieldsTo
 
     pub eval : Frame → List OpenCall → Expr → ℕ → Outcome Graph
     eval fr os this n = orStuck (fr .this) n
@@ -116,6 +121,17 @@ module _ (objects : ℕ) (t : Table) (deeper : Option Deeper) where
           | true ↦ evals fr os es n then λ vs n′. sized objects (make c vs) n′
           | false ↦ stopped stuck n
         ]
+    eval fr os (literal k) n = value (numberOf k) n
+    eval fr os (combine o a b) n =
+        eval fr os a n then λ v n′.
+        orStuck (numberIn v) n′ then λ x n″.
+        eval fr os b n″ then λ w n‴.
+        orStuck (numberIn w) n‴ then λ y n⁗.
+        reckon o x y n⁗
+    eval fr os (choose c a b) n =
+        eval fr os c n then λ v n′.
+        orStuck (numberIn v) n′ then λ x n″.
+        elim (eqb x 0) [ true ↦ eval fr os b n″ | false ↦ eval fr os a n″ ]
 
     pub evals : Frame → List OpenCall → Exprs → ℕ → Outcome (List Graph)
     evals fr os done n = value [] n

@@ -1,20 +1,22 @@
 -- The big-step rules of 002 (figures 2 and 3) as document 01 changes them: what a run of a program MEANS.
 -- A constructor is a rule under the paper's name: its premises and side conditions, a line, its conclusion. The comment above says the
--- rule, and after "Document 01:" what differs from 002. The fuel in every judgement, and the rules of the last section, are document 01's.
+-- rule, and after "Document 01:" what differs from 002. The fuel in every judgement, and the rules of the last two sections, are document 01's
+-- and, of numbers, document 02's.
 -- The paper's side conditions: v = X̄ = new C(_) is `classOf v ≡ some c`, and `≡ none` where v is not guarded; mbody(C, m) is `lookup`;
--- σ(v.m(v̄)) = X is `openMark σ v m vs ≡ some x`, and `≡ none` where the call is not in dom(σ); v.f unfolded is `select f v`; X = u is `close x u`.
+-- σ(v.m(v̄)) = X is `openMark σ v m vs ≡ some x`, and `≡ none` where the call is not in dom(σ); v.f unfolded is `select f v`; X = u is `close x u`. `numberIn v` is the
+-- number that v is, `none` where it is none: an object, a mark, undetermined.
 -- The paper's w is any outcome without a value, `stopped`: what its own rules find wrong is `stuck`.
 -- Not here: the interpreter, which computes these rules (Running; proofs/RunningRules proves it), and the values (Values).
-use Prim.Native.Nat.{ℕ, zero, suc, _≤_, _<_}
+use Prim.Native.Nat.{ℕ, zero, suc, _+_, _-_, _≤_, _<_}
 use mathlib.Core.Path.{_≡_}
 use mathlib.Core.List.{List, [], _∷_}
 use mathlib.Core.Option.{Option, none, some}
 use lib.ListN.{length, getElem?}
-use Rattle.cofj.specs.Limits.{Limits}
-use Rattle.cofj.specs.Syntax.{Expr, this, res, param, field, call, new, Exprs, done, also, count, Method, Table}
+use Rattle.cofj.specs.Limits.{Limits, numberCount}
+use Rattle.cofj.specs.Syntax.{Operation, sum, difference, Expr, this, res, param, field, call, new, literal, combine, choose, Exprs, done, also, count, Method, Table}
 use Rattle.cofj.specs.Classes.{fieldsOf, lookup}
-use Rattle.cofj.specs.Values.{Graph, make, select, close, markOf}
-use Rattle.cofj.specs.Running.{Stop, stuck, noFuel, tooDeep, tooLarge, Outcome, value, stopped, Frame, OpenCall, openMark, classOf, frameOf, opened, mainFrame}
+use Rattle.cofj.specs.Values.{Graph, make, select, close, markOf, numberOf, numberIn}
+use Rattle.cofj.specs.Running.{Stop, stuck, noFuel, tooDeep, tooLarge, overflow, Outcome, value, stopped, Frame, OpenCall, openMark, classOf, frameOf, opened, mainFrame}
 
 module _ (objects : ℕ) (t : Table) where
   mutual
@@ -215,6 +217,99 @@ module _ (objects : ℕ) (t : Table) where
           → objects < length (make c vs .nodes)
           -- -------------------------------------------------
           → Evaluates k π σ (new c es) n (stopped tooLarge n₁)
+      -- ---- document 02's numbers. No fuel is spent
+      NUMBER :
+          {k n x : ℕ} {π : Frame} {σ : List OpenCall}
+          -- ------------------------------------------------
+          → Evaluates k π σ (literal x) n (value (numberOf x) n)
+      -- Two numbers, from left to right: their sum, if it is a number,
+      SUM :
+          {k n n₁ n₂ x y : ℕ} {π : Frame} {σ : List OpenCall} {a b : Expr} {v w : Graph}
+          → Evaluates k π σ a n (value v n₁)
+          → numberIn v ≡ some x
+          → Evaluates k π σ b n₁ (value w n₂)
+          → numberIn w ≡ some y
+          → x + y < numberCount
+          -- -----------------------------------------------------------
+          → Evaluates k π σ (combine sum a b) n (value (numberOf (x + y)) n₂)
+      -- or their difference, 0 if it would be below 0 (so `_-_` is on natural numbers).
+      DIFFERENCE :
+          {k n n₁ n₂ x y : ℕ} {π : Frame} {σ : List OpenCall} {a b : Expr} {v w : Graph}
+          → Evaluates k π σ a n (value v n₁)
+          → numberIn v ≡ some x
+          → Evaluates k π σ b n₁ (value w n₂)
+          → numberIn w ≡ some y
+          -- ------------------------------------------------------------------
+          → Evaluates k π σ (combine difference a b) n (value (numberOf (x - y)) n₂)
+      -- The sum is above the largest number: judged after both operands.
+      OVERFLOW :
+          {k n n₁ n₂ x y : ℕ} {π : Frame} {σ : List OpenCall} {a b : Expr} {v w : Graph}
+          → Evaluates k π σ a n (value v n₁)
+          → numberIn v ≡ some x
+          → Evaluates k π σ b n₁ (value w n₂)
+          → numberIn w ≡ some y
+          → numberCount ≤ x + y
+          -- ---------------------------------------------------
+          → Evaluates k π σ (combine sum a b) n (stopped overflow n₂)
+      -- An operand that is no number: the first, before the second is evaluated,
+      W-COMBINE-first :
+          {k n n₁ : ℕ} {π : Frame} {σ : List OpenCall} {o : Operation} {a b : Expr} {v : Graph}
+          → Evaluates k π σ a n (value v n₁)
+          → numberIn v ≡ none
+          -- ----------------------------------------------
+          → Evaluates k π σ (combine o a b) n (stopped stuck n₁)
+      -- or the second.
+      W-COMBINE-second :
+          {k n n₁ n₂ x : ℕ} {π : Frame} {σ : List OpenCall} {o : Operation} {a b : Expr} {v w : Graph}
+          → Evaluates k π σ a n (value v n₁)
+          → numberIn v ≡ some x
+          → Evaluates k π σ b n₁ (value w n₂)
+          → numberIn w ≡ none
+          -- ----------------------------------------------
+          → Evaluates k π σ (combine o a b) n (stopped stuck n₂)
+      -- A number that is not 0 chooses the first branch, which alone is evaluated; its outcome is the whole's.
+      CHOOSE-first :
+          {k n n₁ x : ℕ} {π : Frame} {σ : List OpenCall} {c a b : Expr} {v : Graph} {o : Outcome Graph}
+          → Evaluates k π σ c n (value v n₁)
+          → numberIn v ≡ some (suc x)
+          → Evaluates k π σ a n₁ o
+          -- -----------------------------------
+          → Evaluates k π σ (choose c a b) n o
+      -- 0 chooses the second.
+      CHOOSE-second :
+          {k n n₁ : ℕ} {π : Frame} {σ : List OpenCall} {c a b : Expr} {v : Graph} {o : Outcome Graph}
+          → Evaluates k π σ c n (value v n₁)
+          → numberIn v ≡ some zero
+          → Evaluates k π σ b n₁ o
+          -- -----------------------------------
+          → Evaluates k π σ (choose c a b) n o
+      -- What is to choose is no number: stuck, before a branch is evaluated.
+      W-CHOOSE :
+          {k n n₁ : ℕ} {π : Frame} {σ : List OpenCall} {c a b : Expr} {v : Graph}
+          → Evaluates k π σ c n (value v n₁)
+          → numberIn v ≡ none
+          -- -----------------------------------------------
+          → Evaluates k π σ (choose c a b) n (stopped stuck n₁)
+      -- PROP: the first operand stops,
+      PROP-first :
+          {k n n₁ : ℕ} {π : Frame} {σ : List OpenCall} {o : Operation} {a b : Expr} {s : Stop}
+          → Evaluates k π σ a n (stopped s n₁)
+          -- ------------------------------------------
+          → Evaluates k π σ (combine o a b) n (stopped s n₁)
+      -- the second,
+      PROP-second :
+          {k n n₁ n₂ x : ℕ} {π : Frame} {σ : List OpenCall} {o : Operation} {a b : Expr} {v : Graph} {s : Stop}
+          → Evaluates k π σ a n (value v n₁)
+          → numberIn v ≡ some x
+          → Evaluates k π σ b n₁ (stopped s n₂)
+          -- ------------------------------------------
+          → Evaluates k π σ (combine o a b) n (stopped s n₂)
+      -- or what is to choose.
+      PROP-choose :
+          {k n n₁ : ℕ} {π : Frame} {σ : List OpenCall} {c a b : Expr} {s : Stop}
+          → Evaluates k π σ c n (stopped s n₁)
+          -- -------------------------------------------
+          → Evaluates k π σ (choose c a b) n (stopped s n₁)
 
     -- The paper's bar over e, σ, π ⇓ v, from left to right: the values of a list, or what its first item without a value stopped at.
     pub data EvaluateAll : ℕ → Frame → List OpenCall → Exprs → ℕ → Outcome (List Graph) → Type 0 where

@@ -7,31 +7,40 @@ use mathlib.Core.Bool.{true}
 use mathlib.Core.List.{List, [], _∷_, _++_}
 use mathlib.Core.Option.{Option, none, some}
 use lib.ListN.{length, getElem?}
-use Rattle.cofj.specs.Limits.{Limits}
+use Rattle.cofj.specs.Limits.{Limits, numberClass}
 use Rattle.cofj.specs.Syntax.{Ty, Table}
 use Rattle.cofj.specs.Classes.{classFits, fieldsOf}
-use Rattle.cofj.specs.Values.{Graph, Ref, nodeAt, refsAt}
-use Rattle.cofj.specs.Unfolding.{Label, object, opened, unknown, labelAt, follow}
-use Rattle.cofj.specs.Running.{Outcome, value, stopped, Stop, stuck, noFuel, tooDeep, tooLarge, runWithin}
+use Rattle.cofj.specs.Values.{Graph, Ref, Leaf, mark, undet, num, nodeAt, refsAt}
+use Rattle.cofj.specs.Unfolding.{Label, object, atLeaf, labelAt, follow}
+use Rattle.cofj.specs.Running.{Outcome, value, stopped, Stop, stuck, noFuel, tooDeep, tooLarge, overflow, runWithin}
 use Rattle.cofj.specs.Typing.{accepted, check}
 use Rattle.cofj.specs.Formed.{Good}
 use Rattle.cofj.specs.WellFormed.{WellFormed}
 
--- what may stand at a place of type u in a finished value: an object whose class fits, with its class's fields; no mark; undetermined at tag 3 alone
+-- what may stand at a place of type u in a finished value: an object whose class fits, with its class's fields; no mark; undetermined at tag 3
+-- alone; a number where the class is that of numbers
+abbrev pub LeafStands : Ty → Leaf → Type 0
+LeafStands u (mark k) = ⊥
+LeafStands u undet = u .tag ≡ 3
+LeafStands u (num n) = u .cls ≡ numberClass
+
 abbrev pub Stands : Table → Ty → Label → Type 0
 Stands t u (object c n) = (classFits (t .classes) c (u .cls) ≡ true) × (n ≡ length (fieldsOf (t .classes) c))
-Stands t u (opened k) = ⊥
-Stands t u unknown = u .tag ≡ 3
+Stands t u (atLeaf l) = LeafStands u l
 
 abbrev pub StandsAt : Table → Ty → Option Label → Type 0
 StandsAt t u none = ⊥
 StandsAt t u (some l) = Stands t u l
 
+abbrev pub NoMark : Leaf → Type 0
+NoMark (mark k) = ⊥
+NoMark undet = Unit {0}
+NoMark (num n) = Unit {0}
+
 abbrev pub NotOpen : Option Label → Type 0
 NotOpen none = Unit {0}
 NotOpen (some (object c n)) = Unit {0}
-NotOpen (some (opened k)) = ⊥
-NotOpen (some unknown) = Unit {0}
+NotOpen (some (atLeaf l)) = NoMark l
 
 -- the value at type u
 pub record Sits (t : Table) (u : Ty) (v : Graph) : Type 0 where
@@ -48,6 +57,7 @@ NotStuck stuck = ⊥
 NotStuck noFuel = Unit {0}
 NotStuck tooDeep = Unit {0}
 NotStuck tooLarge = Unit {0}
+NotStuck overflow = Unit {0}
 
 abbrev pub Ends : Table → Ty → Outcome Graph → Type 0
 Ends t u (value v n) = Sits t u v

@@ -5,6 +5,10 @@ use mathlib.Core.List.{List, [], _∷_}
 use mathlib.Core.Option.{Option}
 use lib.Dec.{eqb}
 
+-- What is done with two numbers.
+pub data Operation : Type 0 where
+  sum difference : Operation
+
 -- An expression, and a list of expressions (antt has no nested data: the list is a copy of `List`).
 mutual
   pub data Expr : Type 0 where
@@ -13,6 +17,10 @@ mutual
     field : ℕ → Expr → Expr
     call : ℕ → Expr → Exprs → Expr
     new : ℕ → Exprs → Expr
+    literal : ℕ → Expr
+    combine : Operation → Expr → Expr → Expr
+    -- a number, the branch for any but 0, the branch for 0
+    choose : Expr → Expr → Expr → Expr
 
   pub data Exprs : Type 0 where
     done : Exprs

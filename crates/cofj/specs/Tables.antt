@@ -5,9 +5,9 @@ use mathlib.Core.List.{List, [], _∷_}
 use mathlib.Core.Option.{Option, none, some}
 use lib.Dec.{eqb, leb, ltb}
 use lib.ListN.{length}
-use Rattle.cofj.specs.Limits.{classCount, methodCount, fieldCount}
+use Rattle.cofj.specs.Limits.{classCount, methodCount, fieldCount, numberClass}
 use Rattle.cofj.specs.Partial.{_>>=_, guard}
-use Rattle.cofj.specs.Syntax.{Expr, this, res, param, field, call, new, Exprs, done, also, Ty, Class, Method, Table, eqTy, eqTys}
+use Rattle.cofj.specs.Syntax.{Expr, this, res, param, field, call, new, literal, combine, choose, Exprs, done, also, Ty, Class, Method, Table, eqTy, eqTys}
 use Rattle.cofj.specs.Classes.{fieldsOf, fieldsTo, lookup, lookupTo, methodOf, parentOf}
 use Rattle.cofj.specs.Typing.{closedTag, allClosed}
 use Rattle.cofj.specs.Frames.{ClassFrame, TextFrame, classFrame, methodFrame, mainFrame}
@@ -44,9 +44,9 @@ unfoldable pub numbered : ℕ → List ClassFrame → Bool
 numbered k [] = true
 numbered k (c ∷ cs) = eqb (c .number) k && ltb (c .body .parent) k && numbered (suc k) cs
 
--- a type with a known class, of n, and one with a closed tag besides
+-- a field, a parameter or a result has one of n classes, or is a number
 abbrev pub known : ℕ → Ty → Bool
-known n u = leb (u .cls) n
+known n u = leb (u .cls) n || eqb (u .cls) numberClass
 
 unfoldable pub allKnown : ℕ → List Ty → Bool
 allKnown n [] = true
@@ -60,6 +60,9 @@ unfoldable mutual
   exprKnown n (field f e) = exprKnown n e
   exprKnown n (call m e es) = exprKnown n e && exprsKnown n es
   exprKnown n (new c es) = leb c n && exprsKnown n es
+  exprKnown n (literal k) = true
+  exprKnown n (combine o a b) = exprKnown n a && exprKnown n b
+  exprKnown n (choose c a b) = exprKnown n c && exprKnown n a && exprKnown n b
 
   pub exprsKnown : ℕ → Exprs → Bool
   exprsKnown n done = true
@@ -85,10 +88,10 @@ methodsGood n (m ∷ ms) =
     within1 : ℕ → ℕ → Bool
     within1 k o = leb 1 o && leb o k
 
--- the type of main's parameter, if it has one: a known class, and tag 0 alone
+-- the type of main's parameter, if it has one: a class of the table, no number, and tag 0 alone
 abbrev pub inputGood : ℕ → Option Ty → Bool
 inputGood n none = true
-inputGood n (some u) = known n u && eqb (u .tag) 0
+inputGood n (some u) = leb (u .cls) n && eqb (u .tag) 0
 
 abbrev pub bodies : List ClassFrame → List Class
 bodies [] = []

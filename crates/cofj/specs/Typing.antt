@@ -5,7 +5,8 @@ use mathlib.Core.List.{List, [], _∷_, map}
 use mathlib.Core.Option.{Option, none, some}
 use lib.Dec.{eqb}
 use lib.ListN.{getElem?}
-use Rattle.cofj.specs.Syntax.{Expr, this, res, param, field, call, new, Exprs, done, also, Ty, ty, Method, Table}
+use Rattle.cofj.specs.Limits.{numberClass}
+use Rattle.cofj.specs.Syntax.{Expr, this, res, param, field, call, new, literal, combine, choose, Exprs, done, also, Ty, ty, eqTy, Method, Table}
 use Rattle.cofj.specs.Partial.{_>>=_, guard, asList}
 use Rattle.cofj.specs.Classes.{fits, fieldsOf, lookup}
 
@@ -39,6 +40,10 @@ narrow u = ty (u .cls) (cond (closedTag (u .tag)) (u .tag) 0)
 abbrev pub closeTag : ℕ → ℕ
 closeTag g = cond (eqb g 1) 0 (cond (eqb g 2) 3 g)
 
+-- the type of a number, which an operand must have: tag 0 and no other
+abbrev pub numberType : Ty
+numberType = ty numberClass 0
+
 module _ (t : Table) where
   unfoldable pub fieldType : Ty → ℕ → Option Ty
   fieldType u f = guard (eqb (u .tag) 0) >>= λ _. getElem? (fieldsOf (t .classes) (u .cls)) f
@@ -57,6 +62,17 @@ module _ (t : Table) where
         | false ↦ guard (allFit t (map narrow us) (fieldsOf (t .classes) c)) >>= λ _. some (ty c 1)
       ]
 
+  unfoldable pub combineType : Ty → Ty → Option Ty
+  combineType u v = guard (eqTy u numberType && eqTy v numberType) >>= λ _. some numberType
+
+  -- the wider of two types, where one fits the other
+  unfoldable pub wider : Ty → Ty → Option Ty
+  wider u v = elim (fits (t .classes) u v) [ true ↦ some v | false ↦ guard (fits (t .classes) v u) >>= λ _. some u ]
+
+  unfoldable pub chooseType : Ty → Ty → Ty → Option Ty
+  unfolding wider
+  chooseType c u v = guard (eqTy c numberType) >>= λ _. wider u v
+
   -- `inMain` says that the expression is main: a call has its method's first result type there, and the second in a body
   unfoldable mutual
     pub typeOf : Bool → Env → Expr → Option Ty
@@ -66,6 +82,9 @@ module _ (t : Table) where
     typeOf inMain g (field f e) = typeOf inMain g e >>= λ u. fieldType u f
     typeOf inMain g (call m e es) = typeOf inMain g e >>= λ u. typesOf inMain g es >>= λ us. callType inMain u m us
     typeOf inMain g (new c es) = typesOf inMain g es >>= λ us. newType c us
+    typeOf inMain g (literal n) = some numberType
+    typeOf inMain g (combine o a b) = typeOf inMain g a >>= λ u. typeOf inMain g b >>= λ v. combineType u v
+    typeOf inMain g (choose c a b) = typeOf inMain g c >>= λ w. typeOf inMain g a >>= λ u. typeOf inMain g b >>= λ v. chooseType w u v
 
     pub typesOf : Bool → Env → Exprs → Option (List Ty)
     typesOf inMain g done = some []

@@ -10,9 +10,9 @@ use mathlib.Core.List.{List, [], _∷_, map, List·Memᴰ}
 use mathlib.Core.Option.{Option, none, some}
 use lib.ListN.{getElem?}
 use Rattle.cofj.specs.Partial.{asList}
-use Rattle.cofj.specs.Syntax.{Expr, this, res, param, field, call, new, Exprs, done, also, Ty, ty, Class, Method, Table}
-use Rattle.cofj.specs.Classes.{parentOf, fieldsOf, lookup}
-use Rattle.cofj.specs.Typing.{Env, narrow, closeTag, Checked, refused, accepted}
+use Rattle.cofj.specs.Syntax.{Operation, Expr, this, res, param, field, call, new, literal, combine, choose, Exprs, done, also, Ty, ty, Class, Method, Table}
+use Rattle.cofj.specs.Classes.{classAt, fieldsOf, lookup}
+use Rattle.cofj.specs.Typing.{Env, narrow, closeTag, numberType, Checked, refused, accepted}
 use Rattle.cofj.specs.WellFormed.{AllMethods}
 
 infix 90 _⁺
@@ -45,10 +45,11 @@ abbrev pub closing : Ty → Ty
 closing u = ty (u .cls) (closeTag (u .tag))
 
 -- ---- subtyping
--- Class c fits d when d is c or stands above c on the chain of parents.
+-- Class c fits d when d is c or stands above c on the chain of parents. Document 02: the class byte of numbers is no class of the table, so it
+-- fits only itself.
 pub data SubClass (cs : List Class) : ℕ → ℕ → Type 0 where
   same : {c : ℕ} → SubClass cs c c
-  above : {c d : ℕ} → SubClass cs (parentOf cs c) d → SubClass cs c d
+  above : {c d : ℕ} {k : Class} → classAt cs c ≡ some k → SubClass cs (k .parent) d → SubClass cs c d
 
 -- A type fits another when its class fits and its tag is not larger.
 -- Document 01: this is the chain C⁺ ≤ C⁺? ≤ C⁻? ≤ C⁻ in the text of section 4; figure 6 prints another order, which isn't used.
@@ -121,6 +122,37 @@ module _ (t : Table) (inMain : Bool) (Γ : Env) where
           → AllFit (t .classes) (map narrow us) (fieldsOf (t .classes) c)
           -- ------------------------------------------------------------
           → HasType (new c es) (c ⁺?)
+      -- ---- document 02's numbers
+      T-NUMBER :
+          {n : ℕ}
+          -- ---------------------------
+          → HasType (literal n) numberType
+      -- A sum or a difference: both operands are numbers, of tag 00.
+      T-COMBINE :
+          {o : Operation} {a b : Expr}
+          → HasType a numberType
+          → HasType b numberType
+          -- ------------------------------
+          → HasType (combine o a b) numberType
+      -- What is asked is a number, of tag 00, and the branches' types fit one way: the wider is the type. The first fits the second,
+      T-CHOOSE-second :
+          {c a b : Expr} {u v : Ty}
+          → HasType c numberType
+          → HasType a u
+          → HasType b v
+          → Fits (t .classes) u v
+          -- -----------------------
+          → HasType (choose c a b) v
+      -- or only the second fits the first.
+      T-CHOOSE-first :
+          {c a b : Expr} {u v : Ty}
+          → HasType c numberType
+          → HasType a u
+          → HasType b v
+          → (Fits (t .classes) u v → ⊥)
+          → Fits (t .classes) v u
+          -- -----------------------
+          → HasType (choose c a b) u
 
     -- The paper's g; Γ ⊢ e : U with a bar over e and U: the types of a list, item by item.
     pub data HaveTypes : Exprs → List Ty → Type 0 where

@@ -5,23 +5,22 @@ use mathlib.Core.List.{List, [], _∷_}
 use mathlib.Core.Option.{Option, none, some}
 use lib.ListN.{length, getElem?}
 use Rattle.cofj.specs.Partial.{_>>=_}
-use Rattle.cofj.specs.Values.{Ref, obj, mark, undet, Node, Graph, nodeAt, refsAt, bind}
+use Rattle.cofj.specs.Values.{Ref, obj, leaf, Leaf, Node, Graph, nodeAt, refsAt, bind}
 
 -- what stands at the end of a path
 pub data Label : Type 0 where
+  -- an object of this class, with so many fields
   object : ℕ → ℕ → Label
-  opened : ℕ → Label
-  unknown : Label
+  -- a leaf agrees only with the same mark, undetermined, the same number
+  atLeaf : Leaf → Label
 
 abbrev pub labelAt : List Node → Ref → Label
 labelAt ns (obj i) = object (nodeAt ns i .cls) (length (refsAt ns i))
-labelAt ns (mark k) = opened k
-labelAt ns undet = unknown
+labelAt ns (leaf l) = atLeaf l
 
 abbrev pub child : List Node → Ref → ℕ → Option Ref
 child ns (obj i) f = getElem? (refsAt ns i) f
-child ns (mark k) f = none
-child ns undet f = none
+child ns (leaf l) f = none
 
 -- the end of a list of field numbers, none where it cannot be followed
 abbrev pub follow : List Node → Ref → List ℕ → Option Label
@@ -43,8 +42,7 @@ followBound x u ns r (f ∷ p) = child ns (bind x u r) f >>= λ s. followBound x
 -- an object's number is below n
 abbrev pub InRange : ℕ → Ref → Type 0
 InRange n (obj i) = i < n
-InRange n (mark k) = Unit {0}
-InRange n undet = Unit {0}
+InRange n (leaf l) = Unit {0}
 
 -- every reference is in range
 pub record Whole (g : Graph) : Type 0 where

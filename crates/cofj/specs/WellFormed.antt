@@ -9,7 +9,7 @@ use lib.ListN.{length}
 use Rattle.cofj.specs.Limits.{classCount, methodCount, fieldCount, paramCount, lineSize, nestingLimit}
 use Rattle.cofj.specs.Syntax.{Ty, Method, Table}
 use Rattle.cofj.specs.Classes.{fieldsOf, classAt, ownOrNone, parentOf, lookup}
-use Rattle.cofj.specs.Tables.{sameTypes, allKnown, exprKnown}
+use Rattle.cofj.specs.Tables.{sameTypes, known, allKnown, exprKnown}
 use Rattle.cofj.specs.Nesting.{Nested}
 use Rattle.cofj.specs.Writing.{methodLine, mainLine}
 
@@ -28,10 +28,10 @@ pub record MethodFormed (t : Table) (d : Method) : Type 0 where
   pub second : d .second .tag ≤ 3
   pub params : Tags (d .params)
   pub same : sameTypes d (lookup t (parentOf (t .classes) (d .owner)) (d .name)) ≡ true
-  -- every class is one of the table
+  -- every class is one of the table, or numbers' where a type stands
   pub ownerKnown : d .owner ≤ length (t .classes)
-  pub firstKnown : d .first .cls ≤ length (t .classes)
-  pub secondKnown : d .second .cls ≤ length (t .classes)
+  pub firstKnown : known (length (t .classes)) (d .first) ≡ true
+  pub secondKnown : known (length (t .classes)) (d .second) ≡ true
   pub paramsKnown : allKnown (length (t .classes)) (d .params) ≡ true
   pub leftKnown : exprKnown (length (t .classes)) (d .left) ≡ true
   pub rightKnown : exprKnown (length (t .classes)) (d .right) ≡ true

@@ -1,11 +1,19 @@
 -- Writing: a table's text. Reading is its inverse, both ways (proofs/RoundTrip).
-use Prim.Native.Nat.{ℕ, suc}
+use Prim.Native.Nat.{ℕ, suc, _/_, _%_}
 use mathlib.Core.List.{List, [], _∷_, _++_}
 use mathlib.Core.Option.{Option, none, some}
 use lib.ListN.{length}
-use Rattle.cofj.specs.Syntax.{Expr, this, res, param, field, call, new, Exprs, done, also, count, Ty, Class, Method, Table}
+use Rattle.cofj.specs.Syntax.{Operation, sum, difference, Expr, this, res, param, field, call, new, literal, combine, choose, Exprs, done, also, count, Ty, Class, Method, Table}
 use Rattle.cofj.specs.Text.{hexText}
 use Rattle.cofj.specs.Reading.{refusal, read, readText}
+
+-- a number as two bytes, high first
+abbrev pub numberBytes : ℕ → List ℕ
+numberBytes n = n / 256 ∷ n % 256 ∷ []
+
+abbrev pub operationSign : Operation → ℕ
+operationSign sum = 0x47
+operationSign difference = 0x48
 
 -- an expression in prefix form
 unfoldable mutual
@@ -16,6 +24,9 @@ unfoldable mutual
   codeOf (field f e) = 0x43 ∷ f ∷ codeOf e
   codeOf (call m e es) = 0x44 ∷ m ∷ count es ∷ (codeOf e ++ codesOf es)
   codeOf (new c es) = 0x45 ∷ c ∷ count es ∷ codesOf es
+  codeOf (literal n) = 0x46 ∷ numberBytes n
+  codeOf (combine o a b) = operationSign o ∷ (codeOf a ++ codeOf b)
+  codeOf (choose c a b) = 0x49 ∷ (codeOf c ++ (codeOf a ++ codeOf b))
 
   pub codesOf : Exprs → List ℕ
   codesOf done = []

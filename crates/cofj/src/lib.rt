@@ -36,3 +36,12 @@ pub struct Written {
     pub refusal: u8,
     pub length: u16,
 }
+
+// What `line_show` answers: 0 and the verdict line, its characters and how many they are, and the report's length; or the refusal's number and zeros.
+#[repr(C)]
+pub struct Shown {
+    pub refusal: u8,
+    pub verdict_length: u8,
+    pub verdict: [u8; 9],
+    pub length: u16,
+}

@@ -6,3 +6,4 @@ pub mod CutLaws
 pub mod ShowLaws
 pub mod Promise
 pub mod Shams
+pub mod NumberShams

@@ -17,10 +17,12 @@ use Rattle.cofj.specs.Tables as tables
 use Rattle.cofj.specs.Tables.{Raw, few}
 use Rattle.cofj.specs.Reading.{Answer, refusal, read, readText}
 use Rattle.cofj.specs.Calls.{closeSession, checkCall, Call, Ran, runCall, Wrote}
-use Rattle.cofj.specs.Promises.{Program, Reads, REFUSAL-1, REFUSAL-2, REFUSAL-3, Checks, Closes, Refusals, Answers, Lengths, Follows, Demand3, Recuts, Recut}
+use Rattle.cofj.specs.Show.{Presented, showCall}
+use Rattle.cofj.specs.Promises.{Program, Reads, REFUSAL-1, REFUSAL-2, REFUSAL-3, Checks, Closes, Shows, Refusals, Answers, Lengths, Follows, Demand3, Recuts, Recut}
 use Rattle.cofj.proofs.RoundTrip.{read-writes, written-length}
 use Rattle.cofj.proofs.ReadCalls.{reads, reads-is, read-number, checks, closes, wrote-writes}
 use Rattle.cofj.proofs.RunCalls.{refusals, answers, lengths}
+use Rattle.cofj.proofs.Linerun.{shows}
 use Rattle.cofj.proofs.Promises.{follows, demand3, recuts}
 use Rattle.lineform.specs.declared.lines.Decoded.{Decoded}
 use Rattle.lineform.specs.declared.frames.Framed.{Framed}
@@ -50,6 +52,9 @@ module _ (a : Call) (x : Ran) (r : Returned a x) where
 
 pub closes-of : (σ : Session) (x : Closing) → x ≡ closeSession σ → Closes σ x
 closes-of σ x e = subst (Closes σ) (sym e) (closes σ)
+
+pub shows-of : (s report work : List ℕ) (x : Presented) → x ≡ showCall s report work → Shows s report work x
+shows-of s report work x e = subst (Shows s report work) (sym e) (shows s report work)
 
 pub checks-of : (s : List ℕ) (v : Verdict) → v ≡ checkCall s → Checks s v
 checks-of s v e = subst (Checks s) (sym e) (checks s)

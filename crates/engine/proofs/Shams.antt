@@ -16,7 +16,8 @@ use Rattle.cofj.specs.Rows.{row-a, row-f, row-i, row-ring-cut, row-ring, row-un
 use Rattle.cofj.specs.Values.{Graph}
 use Rattle.cofj.specs.Running.{Outcome, value, stopped, run}
 use Rattle.cofj.specs.Report.{reportOf}
-use Rattle.cofj.specs.Calls.{Mode, checked, trial, openSession, closeSession, linerun, zeros, Call, Ran, Admitted, declined, admitted, admit, ended, runAdmitted, runCall, reportAdmitted, checkText, checkCall}
+use Rattle.cofj.specs.Calls.{Mode, checked, trial, openSession, closeSession, zeros, Call, Ran, Admitted, declined, admitted, admit, ended, runAdmitted, runCall, checkText, checkCall}
+use Rattle.cofj.specs.Show.{reportAdmitted, linerun}
 use Rattle.cofj.specs.Promises.{reportText, Lent}
 use Rattle.cofj.proofs.RunCalls.{refusals, by-text, ends-in}
 
@@ -39,11 +40,11 @@ lent : (m : Mode) (s i : String) (n : ℕ) → Lent (callingWith m s i n)
 lent m s i n = record { active = refl; report = omega (arith, zeros-length reportSize); work = omega (arith, zeros-length workSize) }
 
 -- what both texts are admitted as
-abbrev admits : Mode → String → String → Admitted
+abbrev pub admits : Mode → String → String → Admitted
 admits m s i = admit m (bytes s) (bytes i)
 
 -- what such a call answers, and reports
-ran-as : (m : Mode) (s i : String) (n : ℕ) → runCall (callingWith m s i n) ≡ runAdmitted (admits m s i) (callingWith m s i n)
+pub ran-as : (m : Mode) (s i : String) (n : ℕ) → runCall (callingWith m s i n) ≡ runAdmitted (admits m s i) (callingWith m s i n)
 ran-as m s i n = by-text (callingWith m s i n) (admits m s i) (lent m s i n) refl
 
 reports : (m : Mode) (s i : String) (n : ℕ) → reportText (runCall (callingWith m s i n)) ≡ reportAdmitted (admits m s i) n
@@ -136,7 +137,7 @@ refuses-all f meets sham = sham (bytes text-a) (ap (λ (v : Verdict). v .refusal
 
 -- ---- runs
 -- texts that differ in the character at a place are not equal
-apart : (k : ℕ) (s t : List ℕ) → (getD s k 0 ≡ getD t k 0 → ⊥) → s ≡ t → ⊥
+pub apart : (k : ℕ) (s t : List ℕ) → (getD s k 0 ≡ getD t k 0 → ⊥) → s ≡ t → ⊥
 apart k s t n e = n (ap (λ (x : List ℕ). getD x k 0) e)
 
 -- the report of every stop as it should be, and the text r for every value
@@ -160,7 +161,7 @@ module _ (f : Call → Ran) (meets : (a : Call) → f a ≡ runCall a) where
   says-with : (m : Mode) (s i : String) (n : ℕ) (r : List ℕ) → reportAdmitted (admits m s i) n ≡ r → reportText (f (callingWith m s i n)) ≡ r
   says-with m s i n r e = ap reportText (meets (callingWith m s i n)) ∙ reports m s i n ∙ e
 
-  says : (m : Mode) (s : String) (n : ℕ) (r : List ℕ) → reportAdmitted (admits m s "") n ≡ r → reportText (f (calling m s n)) ≡ r
+  pub says : (m : Mode) (s : String) (n : ℕ) (r : List ℕ) → reportAdmitted (admits m s "") n ≡ r → reportText (f (calling m s n)) ≡ r
   says m s n r e = says-with m s "" n r e
 
   -- every report is `0702`, or one fixed ring, or empty
@@ -232,7 +233,7 @@ module _ (f : Call → Ran) (meets : (a : Call) → f a ≡ runCall a) where
       ap (λ (r : Ran). r .answer .refusal) (meets (callingWith trial (row-plus-trial .text) (row-plus-trial .input) 9) ∙ ran-as trial (row-plus-trial .text) (row-plus-trial .input) 9) in
       omega (arith, e, sham)
 
-  -- a report buffer of 543 bytes is taken
+  -- a report buffer one byte too short is taken
   pub short-report : f (short text-o) .answer .refusal ≡ 0 → ⊥
   short-report sham =
       let h : length (zeros (reportSize - 1)) < reportSize = let l = zeros-length (reportSize - 1) in omega arith in
@@ -263,6 +264,13 @@ module _ (f : Session → Closing) (meets : (σ : Session) → f σ ≡ closeSes
   closed-with-fuel sham = let e : f (openSession 3) .session .fuel ≡ 0 = ap (λ (c : Closing). c .session .fuel) (meets (openSession 3)) in omega (arith, e, sham)
 
 -- ---- `linerun`
+-- the verdict is the check's alone: a program that is accepted, with a second text that it does not take
+pub verdict-of-the-check : (f : List ℕ → List ℕ) → ((s : List ℕ) → f s ≡ linerun s) → getD (f (bytes "0400004200\n03450000\n")) 3 0 ≡ getD (bytes "0800") 3 0 → ⊥
+unfolding linerun bytes
+verdict-of-the-check f meets sham =
+    let e : getD (f (bytes "0400004200\n03450000\n")) 3 0 ≡ getD (bytes "080E") 3 0 = ap (λ (s : List ℕ). getD s 3 0) (meets (bytes "0400004200\n03450000\n")) in
+    omega (arith, e, sham)
+
 -- a verdict line of another kind
 pub other-verdict : (f : List ℕ → List ℕ) → ((s : List ℕ) → f s ≡ linerun s) → getD (f []) 1 0 ≡ getD (bytes "09") 1 0 → ⊥
 unfolding linerun bytes

@@ -43,11 +43,11 @@ module _ (active : Bool) (r w : ℕ) where
     state-none h k = let p = not-false active c in let q = le-ltb r reportSize h in let z = le-ltb w workSize k in sym (λ i. numberBy (p i) (q i) (z i))
 
 -- ---- and the language's refusal
-abbrev numbered : ℕ → Option ℕ
+abbrev pub numbered : ℕ → Option ℕ
 numbered zero = none
 numbered (suc k) = some (suc k)
 
-state-numbered : (a : Call) → stateRefusal a ≡ numbered (stateNumber (a .session .active) (length (a .report)) (length (a .work)))
+pub state-numbered : (a : Call) → stateRefusal a ≡ numbered (stateNumber (a .session .active) (length (a .report)) (length (a .work)))
 unfolding stateRefusal stateNumber
 state-numbered a = go (a .session .active) (ltb (length (a .report)) reportSize) (ltb (length (a .work)) workSize)
   where

@@ -30,7 +30,7 @@ fn check_table(t: &[u8; SIZE]) -> Verdict
 }
 
 // The verdict on a text.
-pub fn check_text(text: &[u8]) -> Verdict
+pub(crate) fn check_text(text: &[u8]) -> Verdict
     ensures { λ r. ⌜ r ≡ checkCall (now (text .entry)) ⌝ }
 {
     let mut bytes = [0u8; SIZE];

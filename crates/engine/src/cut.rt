@@ -4,7 +4,7 @@ ghost use mathlib.Core.Path.{_≡_};
 ghost use mathlib.Core.Bool.{true};
 ghost use Prim.Native.Nat.{_+_, _≤_};
 ghost use lib.ListN.{length, drop};
-ghost use Rattle.cofj.specs.Calls.{begins04, lineLength, firstLength};
+ghost use Rattle.cofj.specs.Show.{begins04, lineLength, firstLength};
 
 // Whether the characters from a place on begin `04`.
 fn begins(text: &[u8], at: usize) -> bool

@@ -1,14 +1,17 @@
-// The public calls for C and Rust: slices are pointer and length, structs go by value. `input` is the second text of a run.
+// The public calls for C and Rust: slices are pointer and length, structs go by value. `input` is the second text of a run, and for `line_show`
+// all that `linerun` reads.
 // Not here: what they do; each is a call of this crate or of tables.
 use crate::check::check_text;
 use crate::run::checked_run;
 use crate::run::trial_run;
 use crate::session::close_session;
 use crate::session::open_session;
+use crate::show::show;
 use classes::ClassTable;
 use cofj::Answer;
 use cofj::Closing;
 use cofj::Session;
+use cofj::Shown;
 use cofj::Verdict;
 use cofj::Written;
 use tables::read::Reading;
@@ -18,7 +21,9 @@ ghost use mathlib.Core.Path.{_≡_};
 ghost use Rattle.cofj.specs.Calls.{openSession, closeSession, checkCall, checked, trial, runCall};
 ghost use Rattle.tables.specs.Readings.{readingOf};
 ghost use Rattle.tables.specs.Writings.{wroteTable, writingOf};
+ghost use Rattle.cofj.specs.Show.{showCall};
 ghost use Rattle.engine.specs.Steps.{ran};
+ghost use Rattle.engine.specs.Showing.{showing};
 
 #[no_mangle]
 pub extern "C" fn line_open(fuel: u16) -> Session
@@ -81,4 +86,11 @@ pub extern "C" fn line_trial(
         ≡ runCall (record { mode = trial; text = now (text .entry); input = now (input .entry); session = session; report = now (report .entry); work = now (work .entry) }) ⌝ }
 {
     trial_run(text, input, session, report, work)
+}
+
+#[no_mangle]
+pub extern "C" fn line_show(input: &[u8], report: &mut [u8], work: &mut [u8]) -> Shown
+    ensures { λ r. ⌜ showing r (now (report .exit)) (now (work .exit)) ≡ showCall (now (input .entry)) (now (report .entry)) (now (work .entry)) ⌝ }
+{
+    show(input, report, work)
 }

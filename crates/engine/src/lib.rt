@@ -1,11 +1,11 @@
 // The engine's public calls. Each has one contract, by the language's definition of the call, and asks nothing of its caller.
-// Offered: the seven calls of `exports`, for C and Rust; for `linerun` `show::show` with `Shown`.
-// Not here: what they are made of (tables, checker, batch, evaluator), the program `linerun`.
-pub mod session; // opening and closing
-pub mod check; // the check of a text
+// Offered: the eight calls of `exports`, for C and Rust.
+// Not here: what they are made of (tables, checker, batch, evaluator), the program `linerun` (host/).
+pub(crate) mod session; // opening and closing
+pub(crate) mod check; // the check of a text
 mod work; // the work buffer cleared
 mod feed; // what a second text gives main
-pub mod run; // the checked run and the trial run
+pub(crate) mod run; // the checked run and the trial run
 mod cut; // where the input of `linerun` is cut
-pub mod show; // what `linerun` writes for its input
-pub mod exports; // the same calls for C and Rust
+pub(crate) mod show; // what `linerun` writes for its input
+pub mod exports; // the calls

@@ -40,7 +40,7 @@ fn refuse(refusal: u8, session: Session) -> Answer
     }
 }
 
-// Runs main of a table's bytes, with the value in `block` if it is fed, in the first 65,536 work bytes, which are zero after, and writes the report.
+// Runs main of a table's bytes, with the value in `block` if it is fed, in the first work bytes, which are zero after, and writes the report.
 fn run_table(
     t: &[u8; SIZE],
     session: Session,
@@ -129,7 +129,7 @@ fn run_text(
 }
 
 // The checked run of a text, with the second text `input`; an empty one counts as none.
-pub fn checked_run(
+pub(crate) fn checked_run(
     text: &[u8],
     input: &[u8],
     session: Session,
@@ -143,7 +143,7 @@ pub fn checked_run(
 }
 
 // The trial run: no types are asked for.
-pub fn trial_run(
+pub(crate) fn trial_run(
     text: &[u8],
     input: &[u8],
     session: Session,

@@ -7,19 +7,19 @@ ghost use Rattle.cofj.specs.Calls.{openSession, withFuel, closeSession};
 ghost use Rattle.engine.specs.Steps.{stateNumber};
 
 // How many bytes a report buffer has at least, and a work buffer.
-pub const REPORT: usize = 544;
+pub(crate) const REPORT: usize = 1056;
 
-pub const WORK: usize = 65536;
+pub(crate) const WORK: usize = 163840;
 
 // A session with this fuel.
-pub fn open_session(fuel: u16) -> Session
+pub(crate) fn open_session(fuel: u16) -> Session
     ensures { λ r. ⌜ r ≡ openSession fuel ⌝ }
 {
     Session { active: true, fuel }
 }
 
 // The session with this fuel left.
-pub fn with_fuel(session: Session, fuel: u16) -> Session
+pub(crate) fn with_fuel(session: Session, fuel: u16) -> Session
     ensures { λ r. ⌜ r ≡ withFuel session fuel ⌝ }
 {
     let mut left = session;
@@ -28,7 +28,7 @@ pub fn with_fuel(session: Session, fuel: u16) -> Session
 }
 
 // A closed session has no fuel; closing it again is 11.
-pub fn close_session(session: Session) -> Closing
+pub(crate) fn close_session(session: Session) -> Closing
     ensures { λ r. ⌜ r ≡ closeSession session ⌝ }
 {
     let active = session.active;
@@ -48,7 +48,7 @@ pub fn close_session(session: Session) -> Closing
 }
 
 // What the state refuses before the text is looked at: 11, 12, 13, or 0 for nothing.
-pub fn state_refusal(active: bool, report: usize, work: usize) -> u8
+pub(crate) fn state_refusal(active: bool, report: usize, work: usize) -> u8
     ensures { λ r. ⌜ r ≡ stateNumber active report work ⌝ }
 {
     if !active {

@@ -7,8 +7,8 @@ ghost use lib.ListN.{length};
 ghost use Rattle.cofj.specs.Limits.{workSize};
 ghost use Rattle.cofj.specs.Calls.{cleared};
 
-// The first 65,536 bytes become zero, the others stay.
-pub fn clear(work: &mut [u8])
+// The first bytes, as many as a run is lent, become zero, the others stay.
+pub(crate) fn clear(work: &mut [u8])
     requires { ⌜ workSize ≤ length (now work) ⌝ }
     ensures { λ _. ⌜ now (work .exit) ≡ cleared (now (work .entry)) ⌝ }
 {

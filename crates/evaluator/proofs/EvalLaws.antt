@@ -1,32 +1,35 @@
 -- An expression, by what stands at its place, as the language has it: one law for each return of `eval`.
 -- Not here: fields, lists and new objects (ListLaws), calls (CallLaws), what the functions do (StepLaws).
-use Prim.Native.Nat.{ℕ, suc, _+_, _-_}
+use Prim.Native.Nat.{ℕ, suc, _+_, _-_, _*_, _<_}
 use native.Mathlib.Omega.{arith}
 use mathlib.Core.Path.{_≡_, refl, sym, ap, _∙_, subst}
 use mathlib.Core.List.{List}
 use mathlib.Core.Option.{Option}
 use lib.ListN.{length, getElem?}
-use Rattle.cofj.specs.Syntax.{Expr, call, Table}
+use Rattle.cofj.specs.Limits.{numberCount}
+use Rattle.cofj.specs.Syntax.{Expr, call, combine, choose, Table}
 use Rattle.cofj.specs.Writing.{codeOf, codesOf}
 use Rattle.cofj.specs.Values.{Graph}
 use Rattle.cofj.specs.Running.{Outcome, orStuck, eval}
 use Rattle.classes.specs.declared.shape.Shape.{Shape}
 use Rattle.classes.specs.declared.shape.Shape.the-variants as shape
-use Rattle.classes.specs.Shapes.{shapeAt}
+use Rattle.classes.specs.declared.shape.Operation.{Operation}
+use Rattle.classes.specs.Shapes.{shapeAt, operationOf}
 use Rattle.classes.proofs.ShapesOn.{HasShape}
 use Rattle.evaluator.specs.declared.Stop.the-variants.{Stuck}
 use Rattle.evaluator.specs.declared.Out.{Out}
-use Rattle.evaluator.specs.declared.Out.the-variants.{Halt}
+use Rattle.values.specs.declared.ValueRef.the-variants.{Number}
+use Rattle.evaluator.specs.declared.Out.the-variants.{Value, Halt}
 use Rattle.evaluator.specs.declared.frame.Held.{Held}
 use Rattle.evaluator.specs.declared.frame.Held.the-variants.{Is, Absent}
 use Rattle.evaluator.specs.declared.frame.Frame.{Frame}
 use Rattle.evaluator.specs.State.{HeldOlder, heldIn, frameIn, traceIn, variableOf}
 use Rattle.evaluator.specs.Answers.{outOf, OutOlder, Shows}
-use Rattle.evaluator.specs.Evaluation.{Reads, ReadsAll, evalIn, Fits, Evaluates, Fields, News}
+use Rattle.evaluator.specs.Evaluation.{Reads, ReadsAll, evalIn, Fits, Evaluates, Fields, News, Combines, Chooses}
 use Rattle.evaluator.specs.Calling.{Calls}
 use Rattle.evaluator.proofs.Keeping.{kept-none, older-up}
-use Rattle.evaluator.proofs.Standing.{shape-read, nested-none, field-reads, name-small, receiver-reads, args-read, call-end, class-known, values-read}
-use Rattle.evaluator.proofs.StateLaws.{variable-held, variable-in}
+use Rattle.evaluator.proofs.Standing.{shape-read, nested-none, field-reads, name-small, receiver-reads, args-read, call-end, class-known, values-read, operand-reads, other-reads, combine-end, number-reads, branch-reads, zero-reads, choose-end}
+use Rattle.evaluator.proofs.VariableLaws.{variable-held, variable-in}
 
 shows-at : (W : List ℕ) (o : Out) (p q : ℕ) (x : Outcome Graph) → p ≡ q → Shows W o p x → Shows W o q x
 shows-at W o p q x e s = subst (λ (z : ℕ). Shows W o z x) e s
@@ -88,7 +91,18 @@ module _ (T W : List ℕ) (f : Frame) (tr : List ℕ) (top at left objects d sp 
             (shows-at W _ next (at + 2) _ (w .1) (held-shows W (variableOf f k) next fuel (getElem? (frameIn W f .params) k) (variable-in W sp f k (fit .frame))));
       })
 
-    -- ---- fields, calls, objects
+    -- ---- numbers
+    pub eval-number : (k n next : ℕ) → 256 * k + n < numberCount → s ≡ shape.Number k n next → Evaluates T W f tr top at left objects d sp fuel W (Value (Number (256 * k + n)) next fuel)
+    unfolding codeOf eval
+    eval-number k n next l z = record {
+      kept = kept-none sp W;
+      older = record { held = record { held = l }; low = tt };
+      is = λ t e r.
+          let w = stands-as t e (shape.Number k n next) r z in
+          subst (Says W (Value (Number (256 * k + n)) next fuel) t) (sym (w .0)) (shows-at W _ next (at + 3) _ (w .1) (record { is = refl; next = refl }));
+    }
+
+    -- ---- fields, calls, objects, sums and differences, choices
     module _ (nz : left ≡ 0 → ⊥) (next : ℕ) (W′ : List ℕ) (o : Out) where
       pub eval-at-field : (k : ℕ) → s ≡ shape.Field k next → Fields T W f tr top next (left - 1) objects d sp fuel k W′ o → Evaluates T W f tr top at left objects d sp fuel W′ o
       unfolding codeOf
@@ -130,3 +144,35 @@ module _ (T W : List ℕ) (f : Frame) (tr : List ℕ) (top at left objects d sp 
               subst (Says W′ o t) (sym (w .1))
               (shows-at W′ o (next + length (codesOf xs)) (at + suc (suc (suc (length (codesOf xs))))) _ (omega arith)
               (x .is t xs (subst (λ (p : ℕ). ReadsAll T (left - 1) p t xs) (sym en) (values-read T left at t nz c xs r′)) (w .2) (class-known T left at t nz c xs r′)))
+
+      pub eval-at-combine : (x : Operation) → s ≡ shape.Combine x next → Combines T W f tr top next (left - 1) objects d sp fuel x W′ o → Evaluates T W f tr top at left objects d sp fuel W′ o
+      eval-at-combine x z y = record { kept = y .kept; older = y .older; is = λ t e r. go t e r (stands-as t e (shape.Combine x next) r z) }
+        where
+          go : (t : Table) (e : Expr) → Reads T left at t e → HasShape at e (shape.Combine x next) → Says W′ o t e
+          go t e r w =
+              let a = w .0 in
+              let b = w .1 in
+              let r′ = subst (Reads T left at t) (w .2) r in
+              let en = w .3 in
+              subst (Says W′ o t) (sym (w .2))
+              (shows-at W′ o (next + length (codeOf a) + length (codeOf b)) (at + length (codeOf (combine (operationOf x) a b))) _ (omega (arith, combine-end T left at t nz (operationOf x) a b r′))
+              (y .is t a b
+              (subst (λ (p : ℕ). Reads T (left - 1) p t a) (sym en) (operand-reads T left at t nz (operationOf x) a b r′))
+              (subst (λ (p : ℕ). Reads T (left - 1) (p + length (codeOf a)) t b) (sym en) (other-reads T left at t nz (operationOf x) a b r′))))
+
+      pub eval-at-choose : s ≡ shape.Choose next → Chooses T W f tr top next (left - 1) objects d sp fuel W′ o → Evaluates T W f tr top at left objects d sp fuel W′ o
+      eval-at-choose z y = record { kept = y .kept; older = y .older; is = λ t e r. go t e r (stands-as t e (shape.Choose next) r z) }
+        where
+          go : (t : Table) (e : Expr) → Reads T left at t e → HasShape at e (shape.Choose next) → Says W′ o t e
+          go t e r w =
+              let c = w .0 in
+              let a = w .1 in
+              let b = w .2 in
+              let r′ = subst (Reads T left at t) (w .3) r in
+              let en = w .4 in
+              subst (Says W′ o t) (sym (w .3))
+              (shows-at W′ o (next + length (codeOf c) + length (codeOf a) + length (codeOf b)) (at + length (codeOf (choose c a b))) _ (omega (arith, choose-end T left at t nz c a b r′))
+              (y .is t c a b
+              (subst (λ (p : ℕ). Reads T (left - 1) p t c) (sym en) (number-reads T left at t nz c a b r′))
+              (subst (λ (p : ℕ). Reads T (left - 1) (p + length (codeOf c)) t a) (sym en) (branch-reads T left at t nz c a b r′))
+              (subst (λ (p : ℕ). Reads T (left - 1) (p + length (codeOf c) + length (codeOf a)) t b) (sym en) (zero-reads T left at t nz c a b r′))))

@@ -1,6 +1,6 @@
 -- The method that a call names, found in a table's bytes: one law for each return of `find`.
--- Not here: the call itself (CallLaws).
-use Prim.Native.Nat.{ℕ, zero, suc, _+_, _*_, _≤_, _<_}
+-- Not here: the call itself (CallLaws, InvokeLaws).
+use Prim.Native.Nat.{ℕ, _+_, _*_, _≤_, _<_}
 use native.Mathlib.Omega.{arith}
 use mathlib.Core.Path.{_≡_, refl, sym, ap, _∙_, subst}
 use mathlib.Core.Bool.{Bool, true, false}
@@ -8,15 +8,14 @@ use mathlib.Core.List.{List, [], _∷_}
 use mathlib.Core.Option.{Option, none, some, Option·none-ne-some}
 use lib.Dec.{eqb}
 use lib.ListN.{length, getD}
-use borrow.Author.Tests.{ne-eqb}
 use types.Run.{OneOf}
 use denote.Enum.Declared.{tagOf}
-use Rattle.cofj.specs.Limits.{classCount, methodCount}
-use Rattle.cofj.specs.Syntax.{Class, Method, Table}
-use Rattle.cofj.specs.Classes.{parentOf, parentOr0, methodOf, lookupTo, lookup}
-use Rattle.cofj.specs.Values.{Node, Ref, canon, mark, nodeAt, obj, refsAt, undet}
+use Rattle.cofj.specs.Limits.{methodCount}
+use Rattle.cofj.specs.Syntax.{Method, Table}
+use Rattle.cofj.specs.Classes.{lookup}
+use Rattle.cofj.specs.Values.{Node, Ref, canon, leaf, nodeAt, obj, refsAt}
 use Rattle.cofj.specs.Running.{classOf, target}
-use Rattle.cofj.specs.WellFormed.{AllMethods, MethodFormed, WellFormed}
+use Rattle.cofj.specs.WellFormed.{MethodFormed}
 use Rattle.cofj.proofs.SideConditions.{target-object, target-lacks, target-count}
 use Rattle.classes.specs.declared.methods.Found.{Found}
 use Rattle.classes.specs.declared.methods.Found.the-variants as found
@@ -36,36 +35,6 @@ use Rattle.cofj.proofs.Canon.{canon-same}
 use Rattle.cofj.specs.Unfolding.{object, labelAt}
 use Rattle.canon.proofs.Nodes.{at-nodes}
 use Rattle.evaluator.specs.Calling.{FewIf, FindsTarget}
-use Rattle.evaluator.proofs.StateLaws.{get-past}
-
--- ---- classes past the table have no methods
-own-past : (t : Table) (c m : ℕ) (ds : List Method) → AllMethods (MethodFormed t) ds → length (t .classes) < c → methodOf ds c m ≡ none
-unfolding methodOf
-own-past t c m [] h l = refl
-own-past t c m (d ∷ ds) h l =
-    rw (ne-eqb (d .owner) c (λ e. let o = h .0 .ownerKnown in omega arith), methodOf) (own-past t c m ds (h .1) l)
-
-own-object : (t : Table) (m : ℕ) (ds : List Method) → AllMethods (MethodFormed t) ds → methodOf ds 0 m ≡ none
-unfolding methodOf
-own-object t m [] h = refl
-own-object t m (d ∷ ds) h = rw (ne-eqb (d .owner) 0 (λ e. let o = h .0 .owned in omega arith), methodOf) (own-object t m ds (h .1))
-
-parent-past : (cs : List Class) (c : ℕ) → length cs < c → parentOf cs c ≡ 0
-parent-past cs zero h = absurd (omega arith)
-parent-past cs (suc k) h = ap parentOr0 (get-past cs k (omega arith))
-
-module _ (t : Table) (wf : WellFormed t) (m : ℕ) where
-  lookup-object : (n : ℕ) → lookupTo n t 0 m ≡ none
-  unfolding lookupTo
-  lookup-object zero = refl
-  lookup-object (suc n) = rw (own-object t m (t .methods) (wf .methods), lookupTo) (lookup-object n)
-
-  lookup-past : (c : ℕ) → classCount < c → lookup t c m ≡ none
-  unfolding lookupTo
-  lookup-past zero h = absurd (omega arith)
-  lookup-past (suc k) h =
-      let l : length (t .classes) < suc k = (let q = wf .classes in omega arith) in
-      rw (own-past t (suc k) m (t .methods) (wf .methods) l, lookupTo, parent-past (t .classes) (suc k) l) (lookup-object k)
 
 -- ---- the class of an object
 object-in : (W : List ℕ) (v : ValueRef) (b i : ℕ) → Holds W v → v ≡ Object i b → Inside W b i
@@ -85,10 +54,9 @@ class-in W b i ob =
     ns = canon (graphAt W b i) .nodes
 
     go : (r : Ref) → labelAt ns r ≡ object (nodeAt (objectsIn W b) i .cls) (length (refsAt (objectsIn W b) i))
-        → (elim r as (λ _. Option ℕ) [ obj j ↦ some (nodeAt ns j .cls) | mark k ↦ none | undet ↦ none ]) ≡ some (nodeAt (objectsIn W b) i .cls)
+        → (elim r as (λ _. Option ℕ) [ obj j ↦ some (nodeAt ns j .cls) | leaf l ↦ none ]) ≡ some (nodeAt (objectsIn W b) i .cls)
     go (obj j) e = ap some (let z : nodeAt ns j .cls ≡ nodeAt (objectsIn W b) i .cls = cc in z)
-    go (mark k) e = absurd (let q : _≡_ {A = ℕ} 0 1 = cc in omega arith)
-    go undet e = absurd (let q : _≡_ {A = ℕ} 0 1 = cc in omega arith)
+    go (leaf l) e = absurd (let q : _≡_ {A = ℕ} 0 1 = cc in omega arith)
 
 pub object-room : (W : List ℕ) (v : ValueRef) (b i : ℕ) → Holds W v → v ≡ Object i b → blockSize * b + objectSize * i + objectSize ≤ length W
 object-room W v b i h e = inside-room W b i (object-in W v b i h e)
@@ -98,61 +66,54 @@ none-found t none e = Finds.nothing
 none-found t (some d) e = absurd (Option·none-ne-some d (sym e))
 
 module _ (T W : List ℕ) (v : ValueRef) (m n : ℕ) where
-  pub find-none : OneOf (1 ∷ 2 ∷ []) (tagOf RefT.the-type v) → FindsTarget T W v m n found.Nothing
+  pub find-none : OneOf (1 ∷ 2 ∷ 3 ∷ []) (tagOf RefT.the-type v) → FindsTarget T W v m n found.Nothing
   find-none h = record { few = tt; is = λ t tb s. none-found t (target t (valueOf W v) m n) (target-object t (valueOf W v) m n no-class) }
     where
       no-class : classOf (valueOf W v) ≡ none
-      no-class = no-object (λ (r : ValueRef). classOf (valueOf W r) ≡ none) (λ k. refl) refl v h
+      no-class = no-object (λ (r : ValueRef). classOf (valueOf W r) ≡ none) (λ k. refl) (λ k. refl) refl v h
 
   module _ (hv : Holds W v) (b j : ℕ) (ev : v ≡ Object j b) where
     class-is : classOf (valueOf W v) ≡ some (classAt W b j)
     class-is = ap (λ (r : ValueRef). classOf (valueOf W r)) ev ∙ class-in W b j (object-in W v b j hv ev)
 
-    pub find-past : 32 < classAt W b j → FindsTarget T W v m n found.Nothing
-    find-past h = record {
+    counted-is : (t : Table) → Tabled T t → (f : Found) (x : Option Method) → Finds (t .methods) f x → lookup t (classAt W b j) m ≡ x
+        → Finds (t .methods) (counted T n f) (target t (valueOf W v) m n)
+    unfolding target
+    counted-is t tb f x (Finds.at {i} {d} e) q =
+        let l : i < methodCount = (let a = index-below (t .methods) i d e in let c = tb .formed .count in omega arith) in
+        rw (tb .bytes, param-count-at t i d l e, class-is, target, q) (go (eqb (length (d .params)) n))
+      where
+        go : (y : Bool) → Finds (t .methods) (pick y (found.At i) found.Nothing) (elim y as (λ _. Option Method) [ true ↦ some d | false ↦ none ])
+        go true = Finds.at e
+        go false = Finds.nothing
+    counted-is t tb f x Finds.nothing q = none-found t (target t (valueOf W v) m n) (target-lacks t (valueOf W v) m n (classAt W b j) class-is q)
+
+    found-is : (t : Table) → Tabled T t → m < 256 → Finds (t .methods) (methodWith T (classAt W b j) m n) (target t (valueOf W v) m n)
+    unfolding methodWith
+    found-is t tb s =
+        counted-is t tb (lookupOf T (classAt W b j) m) (lookup t (classAt W b j) m)
+        (subst (λ (B : List ℕ). Finds (t .methods) (lookupOf B (classAt W b j) m) (lookup t (classAt W b j) m)) (sym (tb .bytes))
+        (lookup-on t (tb .formed) m s (classAt W b j))) refl
+
+    many-is : (t : Table) → Tabled T t → 3 < n → (f : Found) (x : Option Method) → Finds (t .methods) f x → lookup t (classAt W b j) m ≡ x → target t (valueOf W v) m n ≡ none
+    many-is t tb h f x (Finds.at {i} {d} e) q =
+        let few = method-at (MethodFormed t) (t .methods) i d (tb .formed .methods) e .few in
+        target-count t (valueOf W v) m n (classAt W b j) d class-is q (λ z. omega arith)
+    many-is t tb h f x Finds.nothing q = target-lacks t (valueOf W v) m n (classAt W b j) class-is q
+
+    pub find-many : 3 < n → FindsTarget T W v m n found.Nothing
+    find-many h = record {
       few = tt;
-      is = λ t tb s. none-found t (target t (valueOf W v) m n) (target-lacks t (valueOf W v) m n (classAt W b j) class-is (lookup-past t (tb .formed) m (classAt W b j) h));
+      is = λ t tb s. none-found t (target t (valueOf W v) m n)
+          (many-is t tb h (lookupOf (layout t) (classAt W b j) m) (lookup t (classAt W b j) m) (lookup-on t (tb .formed) m s (classAt W b j)) refl);
     }
 
-    module _ (known : classAt W b j ≤ 32) where
-      counted-is : (t : Table) → Tabled T t → (f : Found) (x : Option Method) → Finds (t .methods) f x → lookup t (classAt W b j) m ≡ x
-          → Finds (t .methods) (counted T n f) (target t (valueOf W v) m n)
-      unfolding target
-      counted-is t tb f x (Finds.at {i} {d} e) q =
-          let l : i < methodCount = (let a = index-below (t .methods) i d e in let c = tb .formed .count in omega arith) in
-          rw (tb .bytes, param-count-at t i d l e, class-is, target, q) (go (eqb (length (d .params)) n))
-        where
-          go : (y : Bool) → Finds (t .methods) (pick y (found.At i) found.Nothing) (elim y as (λ _. Option Method) [ true ↦ some d | false ↦ none ])
-          go true = Finds.at e
-          go false = Finds.nothing
-      counted-is t tb f x Finds.nothing q = none-found t (target t (valueOf W v) m n) (target-lacks t (valueOf W v) m n (classAt W b j) class-is q)
-
-      found-is : (t : Table) → Tabled T t → m < 256 → Finds (t .methods) (methodWith T (classAt W b j) m n) (target t (valueOf W v) m n)
-      unfolding methodWith
-      found-is t tb s =
-          counted-is t tb (lookupOf T (classAt W b j) m) (lookup t (classAt W b j) m)
-          (subst (λ (B : List ℕ). Finds (t .methods) (lookupOf B (classAt W b j) m) (lookup t (classAt W b j) m)) (sym (tb .bytes))
-          (lookup-on t (tb .formed) m s (classAt W b j) known)) refl
-
-      many-is : (t : Table) → Tabled T t → 3 < n → (f : Found) (x : Option Method) → Finds (t .methods) f x → lookup t (classAt W b j) m ≡ x → target t (valueOf W v) m n ≡ none
-      many-is t tb h f x (Finds.at {i} {d} e) q =
-          let few = method-at (MethodFormed t) (t .methods) i d (tb .formed .methods) e .few in
-          target-count t (valueOf W v) m n (classAt W b j) d class-is q (λ z. omega arith)
-      many-is t tb h f x Finds.nothing q = target-lacks t (valueOf W v) m n (classAt W b j) class-is q
-
-      pub find-many : 3 < n → FindsTarget T W v m n found.Nothing
-      find-many h = record {
-        few = tt;
-        is = λ t tb s. none-found t (target t (valueOf W v) m n)
-            (many-is t tb h (lookupOf (layout t) (classAt W b j) m) (lookup t (classAt W b j) m) (lookup-on t (tb .formed) m s (classAt W b j) known) refl);
-      }
-
-      pub find-is : (f : Found) → n ≤ 3 → f ≡ methodWith T (classAt W b j) m n → FindsTarget T W v m n f
-      find-is f h e = record {
-        few = few-if f;
-        is = λ t tb s. subst (λ (x : Found). Finds (t .methods) x (target t (valueOf W v) m n)) (sym e) (found-is t tb s);
-      }
-        where
-          few-if : (x : Found) → FewIf n x
-          few-if (found.At i) = h
-          few-if found.Nothing = tt
+    pub find-is : (f : Found) → n ≤ 3 → f ≡ methodWith T (classAt W b j) m n → FindsTarget T W v m n f
+    find-is f h e = record {
+      few = few-if f;
+      is = λ t tb s. subst (λ (x : Found). Finds (t .methods) x (target t (valueOf W v) m n)) (sym e) (found-is t tb s);
+    }
+      where
+        few-if : (x : Found) → FewIf n x
+        few-if (found.At i) = h
+        few-if found.Nothing = tt

@@ -32,10 +32,10 @@ use Rattle.evaluator.specs.Evaluation.{Fits, ListFits, Evaluates, Lists}
 use Rattle.evaluator.proofs.Keeping.{kept-down, older-kept, older-up, parts-up, frame-kept, frame-up, trace-kept, trace-up, parts-held}
 use Rattle.evaluator.specs.Resting.{bodyFrame}
 use Rattle.evaluator.specs.Steps.{markIn, MarkGiven}
-use Rattle.evaluator.proofs.StateLaws.{by-tests}
+use Rattle.evaluator.proofs.MeetLaws.{by-tests}
 use Rattle.evaluator.proofs.BodyLaws.{put-holds}
 use Rattle.evaluator.proofs.Given.{given-older, all-older}
-use Rattle.evaluator.proofs.CallLaws.{met-mark, met-some}
+use Rattle.evaluator.proofs.InvokeLaws.{met-mark, met-some}
 
 -- ---- one level in
 module _ (W : List ℕ) (f : Frame) (tr : List ℕ) (top left objects d sp : ℕ) where

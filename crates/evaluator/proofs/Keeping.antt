@@ -9,7 +9,7 @@ use lib.ListN.{length, take}
 use Rattle.cofj.specs.Values.{Graph}
 use Rattle.cofj.specs.Running as language
 use Rattle.values.specs.declared.ValueRef.{ValueRef}
-use Rattle.values.specs.declared.ValueRef.the-variants.{Object, Mark, Undetermined}
+use Rattle.values.specs.declared.ValueRef.the-variants.{Object, Mark, Number, Undetermined}
 use Rattle.maker.specs.declared.Slot.{Slot}
 use Rattle.canon.specs.Layout.{Outside}
 use Rattle.values.specs.Layout.{valueOf, Low}
@@ -52,11 +52,13 @@ module _ (W W′ : List ℕ) (sp : ℕ) (k : Kept sp W W′) where
   pub value-kept : (r : ValueRef) → Older W sp r → valueOf W′ r ≡ valueOf W r
   value-kept (Object i b) o = object-stays i b o .is
   value-kept (Mark x) o = refl
+  value-kept (Number n) o = refl
   value-kept Undetermined o = refl
 
   pub older-kept : (r : ValueRef) → Older W sp r → Older W′ sp r
   older-kept (Object i b) o = record { held = object-stays i b o .held; low = o .low }
   older-kept (Mark x) o = record { held = record { held = o .held .held }; low = tt }
+  older-kept (Number n) o = record { held = record { held = o .held .held }; low = tt }
   older-kept Undetermined o = record { held = record { held = tt }; low = tt }
 
   -- ---- lists
@@ -109,6 +111,7 @@ module _ (W : List ℕ) (sp sp′ : ℕ) (l : sp ≤ sp′) where
   low-up : (r : ValueRef) → Low sp r → Low sp′ r
   low-up (Object i b) h = omega arith
   low-up (Mark x) h = tt
+  low-up (Number n) h = tt
   low-up Undetermined h = tt
 
   pub older-up : (r : ValueRef) → Older W sp r → Older W sp′ r

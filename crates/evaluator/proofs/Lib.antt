@@ -1,5 +1,8 @@
 pub mod Keeping
-pub mod StateLaws
+pub mod VariableLaws
+pub mod SameLaws
+pub mod ApartLaws
+pub mod MeetLaws
 pub mod RestLaws
 pub mod AnswerLaws
 pub mod FindLaws
@@ -11,11 +14,16 @@ pub mod Standing
 pub mod BodyLaws
 pub mod EvalLaws
 pub mod ListLaws
+pub mod OperandLaws
+pub mod NumberLaws
 pub mod CallLaws
+pub mod InvokeLaws
 pub mod FitLaws
 pub mod StepLaws
+pub mod NewSteps
 pub mod WalkLaws
 pub mod FieldLaws
+pub mod NumberSteps
 pub mod CallSteps
 pub mod SideSteps
 pub mod FallLaws

@@ -1,15 +1,15 @@
 -- Fields, lists and new objects, as the language has them: one law for each return of the code.
--- Not here: what the functions do (StepLaws).
-use Prim.Native.Nat.{ℕ, zero, suc, _+_, _-_, _*_, _≤_, _<_}
+-- Not here: what the functions do (FieldLaws, WalkLaws, NewSteps).
+use Prim.Native.Nat.{ℕ, zero, suc, _+_, _-_, _≤_, _<_}
 use native.Mathlib.Omega.{arith}
 use mathlib.Core.Path.{_≡_, refl, sym, ap, _∙_, subst}
 use mathlib.Core.Bool.{Bool, true, false}
 use mathlib.Core.List.{List, _∷_}
 use mathlib.Core.Option.{Option, none, some}
 use lib.Dec.{eqb}
-use lib.ListN.{length, getD}
+use lib.ListN.{length}
 use borrow.Author.Tests.{eq-eqb, ne-eqb}
-use Rattle.classes.specs.Figures.{rowSize}
+use Rattle.classes.specs.Machine.{totalOf}
 use Rattle.classes.specs.Layout.{Tabled}
 use Rattle.cofj.specs.Syntax.{Expr, field, new, Exprs, done, also, count, Table}
 use Rattle.cofj.specs.Classes.{fieldsOf}
@@ -17,7 +17,7 @@ use Rattle.cofj.specs.Writing.{codesOf}
 use Rattle.cofj.specs.Values.{Graph, select, make}
 use Rattle.cofj.specs.Running as language
 use Rattle.cofj.specs.Running.{Outcome, value, stopped, _then_, orStuck, eval, evals, sized}
-use Rattle.classes.proofs.Zones.{total-at}
+use Rattle.classes.proofs.OnTables.{total-on}
 use Rattle.values.specs.declared.ValueRef.{ValueRef}
 use Rattle.values.specs.Layout.{valueOf, Low}
 use Rattle.values.specs.declared.refs.Selected.{Selected}
@@ -193,17 +193,16 @@ unfolding eval
 new-by objects d t p os c es fuel b q =
     ap (λ (x : Bool). elim x as (λ _. Outcome Graph) [ true ↦ evalsIn objects d t p os es fuel then λ vs m. sized objects (make c vs) m | false ↦ stopped language.stuck fuel ]) q
 
-module _ (T W : List ℕ) (f : Frame) (tr : List ℕ) (top at left objects d sp fuel c n x : ℕ) (ex : x ≡ getD T (rowSize * c + 1) 0) where
-  total : (t : Table) → Tabled T t → c ≤ length (t .classes) → x ≡ length (fieldsOf (t .classes) c)
-  total t tb h =
-      ex ∙ ap (λ (B : List ℕ). getD B (rowSize * c + 1) 0) (tb .bytes) ∙ total-at t c (let l = tb .formed .classes in omega arith)
+module _ (T W : List ℕ) (f : Frame) (tr : List ℕ) (top at left objects d sp fuel c n x : ℕ) (ex : x ≡ totalOf T c) where
+  total : (t : Table) → Tabled T t → x ≡ length (fieldsOf (t .classes) c)
+  total t tb = ex ∙ ap (λ (B : List ℕ). totalOf B c) (tb .bytes) ∙ total-on t (tb .formed) c
 
   pub new-other : (x ≡ n → ⊥) → News T W f tr top at left objects d sp fuel c n W (Halt Stuck fuel)
   new-other h = record {
     kept = kept-none sp W;
     older = tt;
     is = λ t es r k l. record {
-      is = sym (new-by objects d t (frameIn W f) (traceIn W tr top) c es fuel false (ne-eqb (length (fieldsOf (t .classes) c)) (count es) (λ z. h (total t (r .table) l ∙ z ∙ k))));
+      is = sym (new-by objects d t (frameIn W f) (traceIn W tr top) c es fuel false (ne-eqb (length (fieldsOf (t .classes) c)) (count es) (λ z. h (total t (r .table) ∙ z ∙ k))));
       next = tt;
     };
   }
@@ -212,7 +211,7 @@ module _ (T W : List ℕ) (f : Frame) (tr : List ℕ) (top at left objects d sp 
   new-many h m = record {
     kept = kept-none sp W;
     older = tt;
-    is = λ t es r k l. absurd (let b = r .table .formed .fields c l in let z = total t (r .table) l in omega arith);
+    is = λ t es r k l. absurd (let b = r .table .formed .fields c l in let z = total t (r .table) in omega arith);
   }
 
   pub new-is : x ≡ n → (W1 : List ℕ) (y : Listed) (W2 : List ℕ) (o : Out) → Lists T W f tr top at left objects d sp fuel n W1 y → Finishes W1 c y n objects sp W2 o
@@ -222,7 +221,7 @@ module _ (T W : List ℕ) (f : Frame) (tr : List ℕ) (top at left objects d sp 
     older = fi .older;
     is = λ t es r k l. let z = li .is t es r k in record {
       is = fi .is ∙ going-on (listIn W1 n y) (evalsIn objects d t (frameIn W f) (traceIn W tr top) es fuel) (λ vs m. sized objects (make c vs) m) (z .is)
-          ∙ sym (new-by objects d t (frameIn W f) (traceIn W tr top) c es fuel true (eq-eqb (length (fieldsOf (t .classes) c)) (count es) (sym (total t (r .table) l) ∙ h ∙ sym k)));
+          ∙ sym (new-by objects d t (frameIn W f) (traceIn W tr top) c es fuel true (eq-eqb (length (fieldsOf (t .classes) c)) (count es) (sym (total t (r .table)) ∙ h ∙ sym k)));
       next = fi .next (at + length (codesOf es)) (z .next);
     };
   }

@@ -17,7 +17,7 @@ use Rattle.values.specs.Reporting as values
 use Rattle.values.specs.Reporting.{digitChar}
 use Rattle.evaluator.specs.Figures.{mainBlock}
 use Rattle.evaluator.specs.declared.Stop.{Stop}
-use Rattle.evaluator.specs.declared.Stop.the-variants.{Stuck, NoFuel, TooDeep, TooLarge}
+use Rattle.evaluator.specs.declared.Stop.the-variants.{Stuck, NoFuel, TooDeep, TooLarge, Overflow}
 use Rattle.evaluator.specs.declared.Out.{Out}
 use Rattle.evaluator.specs.declared.Out.the-variants.{Value, Halt}
 use Rattle.evaluator.specs.declared.report.Reported.{Reported}
@@ -40,12 +40,14 @@ stop-text Stuck n R = refl
 stop-text NoFuel n R = refl
 stop-text TooDeep n R = refl
 stop-text TooLarge n R = refl
+stop-text Overflow n R = refl
 
-stop-small : (s : Stop) → stopNumber s ≤ 4
+stop-small : (s : Stop) → stopNumber s ≤ 5
 stop-small Stuck = omega arith
 stop-small NoFuel = omega arith
 stop-small TooDeep = omega arith
 stop-small TooLarge = omega arith
+stop-small Overflow = omega arith
 
 pub stop-byte : (s : Stop) (k : ℕ) → k ≡ stopNumber s → digitChar + k < 256
 stop-byte s k e = omega (arith, stop-small s, e)
@@ -59,6 +61,7 @@ stop-length Stuck n = refl
 stop-length NoFuel n = refl
 stop-length TooDeep n = refl
 stop-length TooLarge n = refl
+stop-length Overflow n = refl
 
 pub outcome-halt : (W : List ℕ) (o : Out) (s : Stop) (fuel : ℕ) (R R′ : List ℕ) → o ≡ Halt s fuel → StopReports s R R′
     → OutcomeReports (outIn W o) R R′ (record { length = 5; fuel = fuel })

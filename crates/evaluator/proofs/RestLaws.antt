@@ -1,5 +1,5 @@
 -- Frames and open calls at rest: one law for each return of `rest`, `unrest`, `body_frame`, `main_frame`, `frame_of`, `slots`, `call_at` and `put_call`.
--- Not here: what frames and calls stand for (StateLaws).
+-- Not here: what frames and calls stand for (VariableLaws, MeetLaws).
 use Prim.Native.Nat.{ℕ, _+_, _*_, _%_, _≤_, _<_}
 use native.Mathlib.Omega.{arith}
 use mathlib.Core.Path.{_≡_, refl, sym, ap, _∙_}
@@ -14,7 +14,7 @@ use Rattle.values.specs.declared.ValueRef.the-variants.{Object, Undetermined}
 use Rattle.values.specs.Refs.{refIn}
 use Rattle.values.proofs.RefLaws.{undetermined-is}
 use Rattle.maker.specs.declared.Slot.{Slot}
-use Rattle.evaluator.specs.Figures.{callLimit, callSize, traceSize, inputBlock}
+use Rattle.evaluator.specs.Figures.{callLimit, callSize, traceSize, inputBlock, absent}
 use Rattle.evaluator.specs.declared.frame.Held.{Held}
 use Rattle.evaluator.specs.declared.frame.Held.the-variants.{Is, Absent}
 use Rattle.evaluator.specs.declared.frame.Frame.{Frame}
@@ -23,28 +23,28 @@ use Rattle.evaluator.specs.State.{slotAt, slotsAt, callAt, CallPut}
 use Rattle.evaluator.specs.Resting.{heldOf, frameOf, bodyFrame, mainFrame}
 
 -- ---- what a variable holds
-pub rest-absent : (h : Held) → h ≡ Absent → heldOf 3 ≡ h
+pub rest-absent : (h : Held) → h ≡ Absent → heldOf absent ≡ h
 unfolding heldOf
 rest-absent h e = sym e
 
-held-is : (x : ℕ) (v : ValueRef) → refIn x ≡ v → x % 256 < 3 → heldOf x ≡ Is v
+held-is : (x : ℕ) (v : ValueRef) → refIn x ≡ v → x % 256 < 4 → heldOf x ≡ Is v
 unfolding heldOf
-held-is x v e l = rw (ne-eqb x 3 (λ z. omega arith)) (ap Is e)
+held-is x v e l = rw (ne-eqb x absent (λ z. omega arith)) (ap Is e)
 
-pub rest-is : (h : Held) (v : ValueRef) (x : ℕ) → h ≡ Is v → (refIn x ≡ v) × (x % 256 < 3) → heldOf x ≡ h
+pub rest-is : (h : Held) (v : ValueRef) (x : ℕ) → h ≡ Is v → (refIn x ≡ v) × (x % 256 < 4) → heldOf x ≡ h
 rest-is h v x eh p = held-is x v (p .0) (p .1) ∙ sym eh
 
-pub unrest-absent : (x : ℕ) → x ≡ 3 → Absent ≡ heldOf x
+pub unrest-absent : (x : ℕ) → x ≡ absent → Absent ≡ heldOf x
 unfolding heldOf
-unrest-absent x e = rw (eq-eqb x 3 e)
+unrest-absent x e = rw (eq-eqb x absent e)
 
-pub unrest-is : (x : ℕ) (v : ValueRef) → (x ≡ 3 → ⊥) → v ≡ refIn x → Is v ≡ heldOf x
+pub unrest-is : (x : ℕ) (v : ValueRef) → (x ≡ absent → ⊥) → v ≡ refIn x → Is v ≡ heldOf x
 unfolding heldOf
-unrest-is x v n e = rw (ne-eqb x 3 n) (ap Is e)
+unrest-is x v n e = rw (ne-eqb x absent n) (ap Is e)
 
 -- ---- frames
 module _ (A : List ℕ) (v : ValueRef) (res : Held) (n owner : ℕ) where
-  pub body-frame : n < 256 → owner < 256 → (x y : ℕ) → (refIn x ≡ v) × (x % 256 < 3) → heldOf y ≡ res
+  pub body-frame : n < 256 → owner < 256 → (x y : ℕ) → (refIn x ≡ v) × (x % 256 < 4) → heldOf y ≡ res
       → frameOf (x ∷ y ∷ getD A 0 0 ∷ getD A 1 0 ∷ getD A 2 0 ∷ n ∷ owner ∷ []) ≡ bodyFrame v res A n owner
   unfolding frameOf slotsAt
   body-frame ln lo x y ex ey =
@@ -53,18 +53,18 @@ module _ (A : List ℕ) (v : ValueRef) (res : Held) (n owner : ℕ) where
       let et : heldOf x ≡ Is v = held-is x v (ex .0) (ex .1) in
       λ i. record { this = et i; res = ey i; args = slotsAt A 0; n = en i; owner = eo i }
 
-module _ (fed : Bool) (x : ℕ) (ex : (refIn x ≡ Object 0 inputBlock) × (x % 256 < 3)) where
-  main-frame : (n : ℕ) → n % 256 ≡ pick fed 1 0 → frameOf (3 ∷ 3 ∷ x ∷ 2 ∷ 2 ∷ n ∷ 0 ∷ []) ≡ mainFrame fed
+module _ (fed : Bool) (x : ℕ) (ex : (refIn x ≡ Object 0 inputBlock) × (x % 256 < 4)) where
+  main-frame : (n : ℕ) → n % 256 ≡ pick fed 1 0 → frameOf (absent ∷ absent ∷ x ∷ 2 ∷ 2 ∷ n ∷ 0 ∷ []) ≡ mainFrame fed
   unfolding frameOf slotsAt heldOf
   main-frame n en =
       let v : refIn x ≡ Object 0 inputBlock = ex .0 in
       let u : refIn 2 ≡ Undetermined = undetermined-is in
       λ i. record { this = Absent; res = Absent; args = record { r = v i } ∷ record { r = u i } ∷ record { r = u i } ∷ []; n = en i; owner = 0 }
 
-  pub main-fed : fed ≡ true → frameOf (3 ∷ 3 ∷ x ∷ 2 ∷ 2 ∷ 1 ∷ 0 ∷ []) ≡ mainFrame fed
+  pub main-fed : fed ≡ true → frameOf (absent ∷ absent ∷ x ∷ 2 ∷ 2 ∷ 1 ∷ 0 ∷ []) ≡ mainFrame fed
   main-fed e = main-frame 1 (rw e)
 
-  pub main-unfed : fed ≡ false → frameOf (3 ∷ 3 ∷ x ∷ 2 ∷ 2 ∷ 0 ∷ 0 ∷ []) ≡ mainFrame fed
+  pub main-unfed : fed ≡ false → frameOf (absent ∷ absent ∷ x ∷ 2 ∷ 2 ∷ 0 ∷ 0 ∷ []) ≡ mainFrame fed
   main-unfed e = main-frame 0 (rw e)
 
 module _ (R : List ℕ) (this res : Held) (a b d : ValueRef) where
@@ -195,8 +195,8 @@ module _ (S : List ℕ) (k : ℕ) (o : OpenCall) (x0 x1 x2 x3 x4 : ℕ) where
   after = put7 S (callSize * k) (o .name) (o .n) x0 x1 x2 x3 x4
 
   module _ (lk : k < callLimit) (full : length S ≡ traceSize) (three : length (o .args) ≡ 3) (ln : o .name < 256) (lc : o .n < 256)
-      (p0 : (refIn x0 ≡ o .receiver) × (x0 % 256 < 3)) (p1 : (refIn x1 ≡ slotAt (o .args) 0) × (x1 % 256 < 3)) (p2 : (refIn x2 ≡ slotAt (o .args) 1) × (x2 % 256 < 3))
-      (p3 : (refIn x3 ≡ slotAt (o .args) 2) × (x3 % 256 < 3)) (p4 : (refIn x4 ≡ o .gives) × (x4 % 256 < 3)) where
+      (p0 : (refIn x0 ≡ o .receiver) × (x0 % 256 < 4)) (p1 : (refIn x1 ≡ slotAt (o .args) 0) × (x1 % 256 < 4)) (p2 : (refIn x2 ≡ slotAt (o .args) 1) × (x2 % 256 < 4))
+      (p3 : (refIn x3 ≡ slotAt (o .args) 2) × (x3 % 256 < 4)) (p4 : (refIn x4 ≡ o .gives) × (x4 % 256 < 4)) where
     call-here : callAt after k ≡ o
     call-here =
         let room : callSize * k + 7 ≤ length S = omega arith in

@@ -35,7 +35,7 @@ use Rattle.evaluator.proofs.Keeping.{parts-held}
 use Rattle.evaluator.proofs.Given.{given-older}
 use Rattle.evaluator.proofs.TraceLaws.{traced-none, traced-then, traced-down, fuel-set, traced-fuel, calls-on, invokes-on}
 use Rattle.evaluator.proofs.BodyLaws.{put-traced, right-halt, right-value, left-halt, left-value}
-use Rattle.evaluator.proofs.CallLaws.{invoke-fuel, invoke-deep, invoke-right, invoke-left}
+use Rattle.evaluator.proofs.InvokeLaws.{invoke-fuel, invoke-deep, invoke-right, invoke-left}
 use Rattle.evaluator.proofs.FitLaws as fits
 
 -- ---- a method called (invoke)

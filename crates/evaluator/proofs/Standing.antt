@@ -4,12 +4,12 @@ use Prim.Native.Nat.{ℕ, zero, suc, _+_, _-_, _≤_, _<_}
 use native.Mathlib.Omega.{arith}
 use native.Mathlib.Numerals.{sub-one}
 use mathlib.Core.Path.{_≡_, refl, sym, ap, _∙_}
-use mathlib.Core.Bool.{true}
+use mathlib.Core.Bool.{true, _&&_}
 use mathlib.Core.List.{List, _++_}
 use lib.Dec.{leb}
 use lib.ListN.{length, length-append}
 use borrow.Author.Tests.{leb-true}
-use Rattle.cofj.specs.Syntax.{Expr, field, call, new, Exprs, also, Table}
+use Rattle.cofj.specs.Syntax.{Operation, Expr, field, call, new, combine, choose, Exprs, also, Table}
 use Rattle.cofj.specs.Tables.{exprKnown, exprsKnown}
 use Rattle.cofj.specs.Writing.{codeOf, codesOf}
 use Rattle.cofj.specs.Nesting.{Parts, Nested}
@@ -18,7 +18,7 @@ use Rattle.classes.specs.Layout.{layout, Stands}
 use Rattle.classes.proofs.Zones.{stands-front, stands-after}
 use Rattle.classes.specs.declared.shape.Shape.{Shape}
 use Rattle.classes.specs.Shapes.{shapeAt}
-use Rattle.classes.proofs.ShapesOn.{shape-on, field-part, call-parts, new-parts, HasShape, shape-back}
+use Rattle.classes.proofs.ShapesOn.{shape-on, field-part, call-parts, new-parts, combine-parts, choose-parts, HasShape, shape-back}
 use Rattle.evaluator.specs.Evaluation.{Reads, ReadsAll}
 
 -- which expression it is
@@ -93,6 +93,76 @@ module _ (T : List ℕ) (left at : ℕ) (t : Table) (nz : left ≡ 0 → ⊥) wh
       known = new-known .1;
       stands = new-parts t at c es (r .stands);
     }
+
+  module _ (o : Operation) (a b : Expr) (r : Reads T left at t (combine o a b)) where
+    operands-stand : Stands (layout t) (at + 1) (codeOf a ++ codeOf b)
+    operands-stand = combine-parts t at o a b (r .stands)
+
+    operands-known : (exprKnown (length (t .classes)) a ≡ true) × (exprKnown (length (t .classes)) b ≡ true)
+    unfolding exprKnown
+    operands-known = and-true (exprKnown (length (t .classes)) a) (exprKnown (length (t .classes)) b) (r .known)
+
+    pub operand-reads : Reads T (left - 1) (at + 1) t a
+    operand-reads = record {
+      table = r .table;
+      nested = nested-parts left (combine o a b) nz (r .nested) .0;
+      known = operands-known .0;
+      stands = stands-front (layout t) (at + 1) (codeOf a) (codeOf b) operands-stand;
+    }
+
+    pub other-reads : Reads T (left - 1) (at + 1 + length (codeOf a)) t b
+    other-reads = record {
+      table = r .table;
+      nested = nested-parts left (combine o a b) nz (r .nested) .1;
+      known = operands-known .1;
+      stands = stands-after (layout t) (at + 1) (codeOf a) (codeOf b) operands-stand;
+    }
+
+    pub combine-end : at + 1 + length (codeOf a) + length (codeOf b) ≡ at + length (codeOf (combine o a b))
+    unfolding codeOf
+    combine-end = omega (arith, length-append (codeOf a) (codeOf b))
+
+  module _ (c a b : Expr) (r : Reads T left at t (choose c a b)) where
+    choice-stands : Stands (layout t) (at + 1) (codeOf c ++ (codeOf a ++ codeOf b))
+    choice-stands = choose-parts t at c a b (r .stands)
+
+    branches-stand : Stands (layout t) (at + 1 + length (codeOf c)) (codeOf a ++ codeOf b)
+    branches-stand = stands-after (layout t) (at + 1) (codeOf c) (codeOf a ++ codeOf b) choice-stands
+
+    zero-known : (exprKnown (length (t .classes)) c && exprKnown (length (t .classes)) a ≡ true) × (exprKnown (length (t .classes)) b ≡ true)
+    unfolding exprKnown
+    zero-known = and-true (exprKnown (length (t .classes)) c && exprKnown (length (t .classes)) a) (exprKnown (length (t .classes)) b) (r .known)
+
+    choice-known : (exprKnown (length (t .classes)) c ≡ true) × (exprKnown (length (t .classes)) a ≡ true)
+    choice-known = and-true (exprKnown (length (t .classes)) c) (exprKnown (length (t .classes)) a) (zero-known .0)
+
+    pub number-reads : Reads T (left - 1) (at + 1) t c
+    number-reads = record {
+      table = r .table;
+      nested = nested-parts left (choose c a b) nz (r .nested) .0;
+      known = choice-known .0;
+      stands = stands-front (layout t) (at + 1) (codeOf c) (codeOf a ++ codeOf b) choice-stands;
+    }
+
+    pub branch-reads : Reads T (left - 1) (at + 1 + length (codeOf c)) t a
+    branch-reads = record {
+      table = r .table;
+      nested = nested-parts left (choose c a b) nz (r .nested) .1;
+      known = choice-known .1;
+      stands = stands-front (layout t) (at + 1 + length (codeOf c)) (codeOf a) (codeOf b) branches-stand;
+    }
+
+    pub zero-reads : Reads T (left - 1) (at + 1 + length (codeOf c) + length (codeOf a)) t b
+    zero-reads = record {
+      table = r .table;
+      nested = nested-parts left (choose c a b) nz (r .nested) .2;
+      known = zero-known .1;
+      stands = stands-after (layout t) (at + 1 + length (codeOf c)) (codeOf a) (codeOf b) branches-stand;
+    }
+
+    pub choose-end : at + 1 + length (codeOf c) + length (codeOf a) + length (codeOf b) ≡ at + length (codeOf (choose c a b))
+    unfolding codeOf
+    choose-end = omega (arith, length-append (codeOf c) (codeOf a ++ codeOf b), length-append (codeOf a) (codeOf b))
 
 -- ---- the first of a list, and the others
 module _ (T : List ℕ) (left at : ℕ) (t : Table) (e : Expr) (es : Exprs) (r : ReadsAll T left at t (also e es)) where

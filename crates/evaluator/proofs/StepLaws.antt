@@ -1,56 +1,35 @@
 -- Expressions, calls apart: what the functions ask of one another, and one law for each of their returns.
--- Not here: what they mean (EvalLaws, ListLaws), fields of fields (ChainLaws), calls (CallSteps).
+-- Not here: what they mean (EvalLaws), new objects (NewSteps), fields of fields (FieldLaws), lists (WalkLaws), numbers (NumberSteps), calls (CallSteps).
 use Prim.Native.Nat.{ℕ, _+_, _-_, _*_, _≤_, _<_}
 use native.Mathlib.Omega.{arith}
 use mathlib.Core.Path.{_≡_, refl, sym, ap, _∙_, subst}
-use mathlib.Core.Bool.{Bool, true, false, cond}
 use mathlib.Core.List.{List, [], _∷_}
-use mathlib.Core.Option.{none, some, Option·none-ne-some}
-use lib.Dec.{leb}
-use lib.ListN.{length, getD}
-use borrow.Author.Tests.{lt-ltb, le-ltb, leb-true, leb-false}
-use Rattle.cofj.specs.Values.{Graph, make}
-use Rattle.cofj.specs.Running as language
-use Rattle.cofj.specs.Running.{value, stopped, sized}
-use Rattle.classes.specs.Figures.{rowSize}
+use types.Run.{OneOf, miss}
+use denote.Enum.Declared.{tagOf}
+use Rattle.cofj.specs.Limits.{numberCount}
+use Rattle.classes.specs.declared.shape.Operation.{Operation}
 use Rattle.classes.specs.declared.shape.Shape.{Shape}
 use Rattle.classes.specs.declared.shape.Shape.the-variants as shape
+use Rattle.classes.proofs.shape.Shape as ShapeT
 use Rattle.classes.specs.Shapes.{shapeAt}
 use Rattle.classes.proofs.ShapeLaws.{Next, shape-next}
-use Rattle.values.specs.declared.ValueRef.{ValueRef}
-use Rattle.values.specs.declared.ValueRef.the-variants.{Object}
-use Rattle.values.specs.Layout.{valueOf}
-use Rattle.values.specs.Refs.{refIn}
-use Rattle.maker.specs.declared.Made.{Made}
-use Rattle.maker.specs.declared.Made.the-variants as made
-use Rattle.canon.specs.Figures.{capacity, spareBlock}
-use Rattle.maker.specs.Laying.{valuesFrom, partsOf, Makeable, MadeIs, MadeWithin}
-use Rattle.maker.proofs.Limits.{fieldless-within}
-use Rattle.maker.proofs.FieldlessLaws.{fieldless-made}
 use Rattle.evaluator.specs.Figures.{placeLimit}
-use Rattle.evaluator.specs.declared.Stop.{Stop}
-use Rattle.evaluator.specs.declared.Stop.the-variants.{Stuck, TooLarge}
+use Rattle.evaluator.specs.declared.Stop.the-variants.{Stuck}
 use Rattle.evaluator.specs.declared.Done.{Done}
 use Rattle.evaluator.specs.declared.Done.the-variants as done
-use Rattle.evaluator.specs.declared.Walked.{Walked}
-use Rattle.evaluator.specs.declared.Walked.the-variants as walked
 use Rattle.evaluator.specs.declared.Out.the-variants.{Halt}
 use Rattle.evaluator.specs.declared.frame.Held.{Held}
 use Rattle.evaluator.specs.declared.frame.Held.the-variants.{Is, Absent}
 use Rattle.evaluator.specs.declared.frame.Frame.{Frame}
 use Rattle.evaluator.specs.declared.spot.Spot.{Spot}
-use Rattle.evaluator.specs.State.{slotAt, variableOf}
-use Rattle.evaluator.specs.Answers.{Stops, outWith, listFrom, haltsAs, doneOf, outOf}
+use Rattle.evaluator.specs.State.{variableOf}
+use Rattle.evaluator.specs.Answers.{outWith, doneOf, outOf, numberAt}
 use Rattle.evaluator.specs.Spots.{innerSpot}
-use Rattle.evaluator.specs.Preset.{isPreset}
-use Rattle.evaluator.specs.Evaluation.{Fits, Limited}
-use Rattle.evaluator.specs.Steps.{fuelOf, Runnable, PartRunnable, ListRunnable, PartsReady, EvalStep, FieldStep, ListStep, FinishStep, NewStep, CallStep}
-use Rattle.evaluator.proofs.Keeping.{kept-none, older-up, parts-held}
-use Rattle.evaluator.proofs.PresetLaws.{Told, told}
+use Rattle.evaluator.specs.Evaluation.{Fits}
+use Rattle.evaluator.specs.Steps.{fuelOf, Runnable, NumberShape, NumberRunnable, PartRunnable, ListRunnable, EvalStep, FieldStep, NewStep, CombineStep, ChooseStep, CallStep}
 use Rattle.evaluator.proofs.TraceLaws.{traced-none}
 use Rattle.evaluator.proofs.FitLaws.{fit-inner, fit-list, list-fit}
-use Rattle.evaluator.proofs.EvalLaws.{eval-zero, eval-nothing, eval-this, eval-res, eval-param, eval-at-field, eval-at-call, eval-at-new}
-use Rattle.evaluator.proofs.ListLaws.{list-zero, new-other, new-many, new-is}
+use Rattle.evaluator.proofs.EvalLaws.{eval-zero, eval-nothing, eval-this, eval-res, eval-param, eval-number, eval-at-field, eval-at-call, eval-at-new, eval-at-combine, eval-at-choose}
 
 -- ---- the place after an expression's first bytes
 module _ (T : List ℕ) (at : ℕ) (s : Shape) (es : s ≡ shapeAt T at) where
@@ -75,6 +54,15 @@ module _ (T : List ℕ) (at : ℕ) (s : Shape) (es : s ≡ shapeAt T at) where
   pub next-new : (c n next : ℕ) → s ≡ shape.New c n next → next < placeLimit
   next-new c n next e = ahead (shape.New c n next) e
 
+  pub next-number : (k n next : ℕ) → s ≡ shape.Number k n next → next < placeLimit
+  next-number k n next e = ahead (shape.Number k n next) e
+
+  pub next-combine : (x : Operation) (next : ℕ) → s ≡ shape.Combine x next → next < placeLimit
+  next-combine x next e = ahead (shape.Combine x next) e
+
+  pub next-choose : (next : ℕ) → s ≡ shape.Choose next → next < placeLimit
+  next-choose next e = ahead (shape.Choose next) e
+
   pub new-fits : (c n next : ℕ) → s ≡ shape.New c n next → next < 65536
   new-fits c n next e = let l = next-new c n next e in omega arith
 
@@ -98,6 +86,12 @@ module _ (W : List ℕ) (f : Frame) (S : List ℕ) (p : Spot) where
 
     pub part-new : (c n : ℕ) → s ≡ shape.New c n next → PartRunnable W f S q
     part-new c n z = run-part run nz next (next-new T (p .at) s es c n next z) q eq
+
+    pub part-combine : (x : Operation) → s ≡ shape.Combine x next → PartRunnable W f S q
+    part-combine x z = run-part run nz next (next-combine T (p .at) s es x next z) q eq
+
+    pub part-choose : s ≡ shape.Choose next → PartRunnable W f S q
+    part-choose z = run-part run nz next (next-choose T (p .at) s es next z) q eq
 
   pub run-inner : PartRunnable W f S p → Runnable W f S p
   run-inner run = record {
@@ -134,7 +128,7 @@ module _ (T W : List ℕ) (f : Frame) (S : List ℕ) (p : Spot) where
   step-zero z = record { trace = traced-none (p .opened) S; runs = eval-zero T W f S (p .opened) (p .at) (p .nesting) (p .objects) (p .calls) (p .block) (fuelOf S) z }
 
   module _ (s : Shape) (es : s ≡ shapeAt T (p .at)) where
-    pub step-nothing : s ≡ shape.Nothing → EvalStep T W f S p W S (done.Halt Stuck)
+    step-nothing : s ≡ shape.Nothing → EvalStep T W f S p W S (done.Halt Stuck)
     step-nothing z = record { trace = traced-none (p .opened) S; runs = eval-nothing T W f S (p .opened) (p .at) (p .nesting) (p .objects) (p .calls) (p .block) (fuelOf S) s es z }
 
     module _ (run : Runnable W f S p) (next : ℕ) (h : Held) (o : Done) (eo : o ≡ doneOf h next) where
@@ -159,6 +153,12 @@ module _ (T W : List ℕ) (f : Frame) (S : List ℕ) (p : Spot) where
         runs = eval-param T W f S (p .opened) (p .at) (p .nesting) (p .objects) (p .calls) (p .block) (fuelOf S) s es (run .fits) next (outWith (fuelOf S) o) k z (answered (variableOf f k) e);
       }
 
+    pub step-number : (k n next : ℕ) (o : Done) → (o ≡ numberAt (256 * k + n) next) × (256 * k + n < numberCount) → s ≡ shape.Number k n next → EvalStep T W f S p W S o
+    step-number k n next o e z = subst (EvalStep T W f S p W S) (sym (e .0)) (record {
+      trace = traced-none (p .opened) S;
+      runs = eval-number T W f S (p .opened) (p .at) (p .nesting) (p .objects) (p .calls) (p .block) (fuelOf S) s es k n next (e .1) z;
+    })
+
     -- what a part of it gave is handed on
     module _ (nz : p .nesting ≡ 0 → ⊥) (next : ℕ) (q : Spot) (eq : q ≡ innerSpot p next) (W′ S′ : List ℕ) (x o : Done) (eo : o ≡ x) where
       pub step-field : (k : ℕ) → s ≡ shape.Field k next → FieldStep T W f S q k W′ S′ x → EvalStep T W f S p W′ S′ o
@@ -176,134 +176,47 @@ module _ (T W : List ℕ) (f : Frame) (S : List ℕ) (p : Spot) where
           let u = subst (λ (r : Spot). NewStep T W f S r c n W′ S′ x) eq y in
           record { trace = u .trace; runs = eval-at-new T W f S (p .opened) (p .at) (p .nesting) (p .objects) (p .calls) (p .block) (fuelOf S) s es nz next W′ (outWith (fuelOf S′) x) c n z (u .runs) })
 
+      pub step-combine : (y : Operation) → s ≡ shape.Combine y next → CombineStep T W f S q y W′ S′ x → EvalStep T W f S p W′ S′ o
+      step-combine y z w = subst (EvalStep T W f S p W′ S′) (sym eo) (
+          let u = subst (λ (r : Spot). CombineStep T W f S r y W′ S′ x) eq w in
+          record { trace = u .trace; runs = eval-at-combine T W f S (p .opened) (p .at) (p .nesting) (p .objects) (p .calls) (p .block) (fuelOf S) s es nz next W′ (outWith (fuelOf S′) x) y z (u .runs) })
+
+      pub step-choose : s ≡ shape.Choose next → ChooseStep T W f S q W′ S′ x → EvalStep T W f S p W′ S′ o
+      step-choose z w = subst (EvalStep T W f S p W′ S′) (sym eo) (
+          let u = subst (λ (r : Spot). ChooseStep T W f S r W′ S′ x) eq w in
+          record { trace = u .trace; runs = eval-at-choose T W f S (p .opened) (p .at) (p .nesting) (p .objects) (p .calls) (p .block) (fuelOf S) s es nz next W′ (outWith (fuelOf S′) x) z (u .runs) })
+
   pub step-again : (W′ S′ : List ℕ) (x o : Done) → o ≡ x → EvalStep T W f S p W′ S′ x → EvalStep T W f S p W′ S′ o
   step-again W′ S′ x o eo y = subst (EvalStep T W f S p W′ S′) (sym eo) y
 
--- ---- a new object
-sized-none : (objects : ℕ) (g : Graph) (fuel : ℕ) → cond (leb (length (g .nodes)) objects) (some g) none ≡ none → sized objects g fuel ≡ stopped language.tooLarge fuel
-unfolding sized
-sized-none objects g fuel h = go (leb (length (g .nodes)) objects) refl h
-  where
-    go : (b : Bool) → leb (length (g .nodes)) objects ≡ b → cond b (some g) none ≡ none → sized objects g fuel ≡ stopped language.tooLarge fuel
-    go true q z = absurd (Option·none-ne-some g (sym z))
-    go false q z = rw (lt-ltb objects (length (g .nodes)) (leb-false (length (g .nodes)) objects q), sized)
+-- ---- what is left to `eval_number`
+number-shape : (s : Shape) → OneOf (6 ∷ 7 ∷ 8 ∷ 9 ∷ []) (tagOf ShapeT.the-type s) → NumberShape s
+number-shape (shape.This next) h = miss (6 ∷ 7 ∷ 8 ∷ 9 ∷ []) 0 tt h
+number-shape (shape.Result next) h = miss (6 ∷ 7 ∷ 8 ∷ 9 ∷ []) 1 tt h
+number-shape (shape.Parameter k next) h = miss (6 ∷ 7 ∷ 8 ∷ 9 ∷ []) 2 tt h
+number-shape (shape.Field f next) h = miss (6 ∷ 7 ∷ 8 ∷ 9 ∷ []) 3 tt h
+number-shape (shape.Call m n next) h = miss (6 ∷ 7 ∷ 8 ∷ 9 ∷ []) 4 tt h
+number-shape (shape.New c n next) h = miss (6 ∷ 7 ∷ 8 ∷ 9 ∷ []) 5 tt h
+number-shape (shape.Number k n next) h = tt
+number-shape (shape.Combine o next) h = tt
+number-shape (shape.Choose next) h = tt
+number-shape shape.Nothing h = tt
 
-sized-some : (objects : ℕ) (g v : Graph) (fuel : ℕ) → cond (leb (length (g .nodes)) objects) (some g) none ≡ some v → sized objects g fuel ≡ value v fuel
-unfolding sized
-sized-some objects g v fuel h = go (leb (length (g .nodes)) objects) refl h
-  where
-    go : (b : Bool) → leb (length (g .nodes)) objects ≡ b → cond b (some g) none ≡ some v → sized objects g fuel ≡ value v fuel
-    go true q z =
-        let y : some g ≡ some v = z in
-        let w : g ≡ v = cc in
-        rw (le-ltb objects (length (g .nodes)) (leb-true (length (g .nodes)) objects q), sized) (ap (λ (x : Graph). value x fuel) w)
-    go false q z = absurd (Option·none-ne-some v z)
+nothing-left : (s : Shape) → NumberShape s → OneOf (0 ∷ 1 ∷ 2 ∷ 3 ∷ 4 ∷ 5 ∷ 9 ∷ []) (tagOf ShapeT.the-type s) → s ≡ shape.Nothing
+nothing-left (shape.This next) r h = absurd r
+nothing-left (shape.Result next) r h = absurd r
+nothing-left (shape.Parameter k next) r h = absurd r
+nothing-left (shape.Field f next) r h = absurd r
+nothing-left (shape.Call m n next) r h = absurd r
+nothing-left (shape.New c n next) r h = absurd r
+nothing-left (shape.Number k n next) r h = absurd (miss (0 ∷ 1 ∷ 2 ∷ 3 ∷ 4 ∷ 5 ∷ 9 ∷ []) 6 tt h)
+nothing-left (shape.Combine o next) r h = absurd (miss (0 ∷ 1 ∷ 2 ∷ 3 ∷ 4 ∷ 5 ∷ 9 ∷ []) 7 tt h)
+nothing-left (shape.Choose next) r h = absurd (miss (0 ∷ 1 ∷ 2 ∷ 3 ∷ 4 ∷ 5 ∷ 9 ∷ []) 8 tt h)
+nothing-left shape.Nothing r h = refl
 
-module _ (W : List ℕ) (c n : ℕ) (A : List ℕ) (objects dst next : ℕ) where
-  pub finish-parts : PartsReady W A n dst → Makeable W (partsOf A) n dst
-  finish-parts h = let l = h .few in let u = h .under in record {
-    held = parts-held W (dst + n) (partsOf A) n (h .older);
-    few = l;
-    below = λ i i<. older-up W (dst + n) spareBlock (omega arith) (slotAt (partsOf A) i) (h .older .part i i<) .low;
-    under = omega arith;
-    room = h .room;
-  }
+module _ (T W : List ℕ) (f : Frame) (S : List ℕ) (p : Spot) (s : Shape) where
+  pub number-asked : Runnable W f S p → (p .nesting ≡ 0 → ⊥) → s ≡ shapeAt T (p .at) → OneOf (6 ∷ 7 ∷ 8 ∷ 9 ∷ []) (tagOf ShapeT.the-type s) → NumberRunnable T W f S p s
+  number-asked run nz es h = record { run = run; deep = nz; stands = es; rare = number-shape s h }
 
-  module _ (W′ : List ℕ) (m : Made) (mk : MadeWithin objects W (make c (valuesFrom W (partsOf A) 0 n)) dst W′ m) where
-    pub finish-large : m ≡ made.TooLarge → FinishStep W c n A objects dst next W′ (done.Halt TooLarge)
-    unfolding partsOf
-    finish-large e = let k = subst (MadeWithin objects W (make c (valuesFrom W (partsOf A) 0 n)) dst W′) e mk in record {
-      runs = λ fuel. record {
-        kept = k .beneath;
-        older = tt;
-        is = sym (sized-none objects (make c (valuesFrom W (partsOf A) 0 n)) fuel (sym (k .is)));
-        next = λ p h. tt;
-      };
-    }
-
-    pub finish-value : (v : ValueRef) → m ≡ made.Value v → FinishStep W c n A objects dst next W′ (done.Value v next)
-    unfolding partsOf
-    finish-value v e = let k = subst (MadeWithin objects W (make c (valuesFrom W (partsOf A) 0 n)) dst W′) e mk in record {
-      runs = λ fuel. record {
-        kept = k .beneath;
-        older = record { held = k .held; low = k .place };
-        is = sym (sized-some objects (make c (valuesFrom W (partsOf A) 0 n)) (valueOf W′ v) fuel (sym (k .is)));
-        next = λ p h. h;
-      };
-    }
-
-  pub finish-limit : Limited objects → objects ≤ capacity
-  finish-limit h = h .room
-
-  pub finish-fieldless : n ≡ 0 → Limited objects → (W′ : List ℕ) (v : ValueRef) → MadeIs W (make c []) dst W′ (made.Value v) → FinishStep W c n A objects dst next W′ (done.Value v next)
-  unfolding valuesFrom
-  finish-fieldless z h W′ v mk =
-      finish-value W′ (made.Value v) (subst (λ (gs : List Graph). MadeWithin objects W (make c gs) dst W′ (made.Value v)) (let e : [] ≡ valuesFrom W (partsOf A) 0 n = rw z in e)
-      (fieldless-within objects (h .some) W c dst W′ v mk)) v refl
-
-pub new-limit : (W : List ℕ) (f : Frame) (S : List ℕ) (p : Spot) → PartRunnable W f S p → Limited (p .objects)
-new-limit W f S p run = run .fits .limit
-
-module _ (T W : List ℕ) (f : Frame) (S : List ℕ) (p : Spot) (c n : ℕ) (run : PartRunnable W f S p) where
-  module _ (x : ℕ) (ex : x ≡ getD T (rowSize * c + 1) 0) where
-    pub new-unlike : (x ≡ n → ⊥) → NewStep T W f S p c n W S (done.Halt Stuck)
-    new-unlike h = record { trace = traced-none (p .opened) S; runs = new-other T W f S (p .opened) (p .at) (p .nesting) (p .objects) (p .calls) (p .block) (fuelOf S) c n x ex h }
-
-    module _ (h : x ≡ n) where
-      pub new-over : 4 < n → NewStep T W f S p c n W S (done.Halt Stuck)
-      new-over m = record { trace = traced-none (p .opened) S; runs = new-many T W f S (p .opened) (p .at) (p .nesting) (p .objects) (p .calls) (p .block) (fuelOf S) c n x ex h m }
-
-      module _ (W1 S1 A : List ℕ) (w : Walked) (li : ListStep T W f S p n W1 S1 A w) where
-        pub new-stops : (s : Stop) (o : Done) → w ≡ walked.Halt s → o ≡ haltsAs w → NewStep T W f S p c n W1 S1 o
-        new-stops s o ew eo =
-            let l = subst (ListStep T W f S p n W1 S1 A) ew li in
-            subst (NewStep T W f S p c n W1 S1) (sym (eo ∙ ap haltsAs ew)) (record {
-              trace = l .trace;
-              runs = new-is T W f S (p .opened) (p .at) (p .nesting) (p .objects) (p .calls) (p .block) (fuelOf S) c n x ex h W1 (Stops s (fuelOf S1)) W1 (Halt s (fuelOf S1)) (l .runs)
-                  (record { kept = kept-none (p .block) W1; older = tt; is = refl; next = λ q k. tt });
-            })
-
-        module _ (next : ℕ) (ew : w ≡ walked.After next) where
-          walk-after : ListStep T W f S p n W1 S1 A (walked.After next)
-          walk-after = subst (ListStep T W f S p n W1 S1 A) ew li
-
-          pub parts-ready : n ≤ 4 → PartsReady W1 A n (p .block)
-          unfolding partsOf
-          parts-ready l = let r = run .fits .room in record {
-            older = walk-after .runs .older;
-            few = l;
-            full = walk-after .full;
-            under = omega arith;
-            room = omega (arith, run .fits .long, li .runs .kept .same);
-          }
-
-          pub new-made : (W2 : List ℕ) (o : Done) → FinishStep W1 c n A (p .objects) (p .block) next W2 o → NewStep T W f S p c n W2 S1 o
-          new-made W2 o fi = record {
-            trace = li .trace;
-            runs = new-is T W f S (p .opened) (p .at) (p .nesting) (p .objects) (p .calls) (p .block) (fuelOf S) c n x ex h W1 (listFrom (fuelOf S1) A 0 (walked.After next)) W2 (outWith (fuelOf S1) o) (walk-after .runs) (fi .runs (fuelOf S1));
-          }
-
-  -- one that stands in block 0
-  module _ (b : Bool) (eb : b ≡ isPreset T c n) (is : b ≡ true) where
-    preset-told : Told T c n
-    preset-told = told T c n (sym eb ∙ is)
-
-    -- no values were evaluated
-    none-walked : ListStep T W f S p n W S (0 ∷ 0 ∷ 0 ∷ 0 ∷ []) (walked.After (p .at))
-    none-walked = record {
-      trace = traced-none (p .opened) S;
-      full = refl;
-      runs = list-zero T W f S (p .opened) (p .at) (p .nesting) (p .objects) (p .calls) (p .block) (fuelOf S) n (refIn 0) (refIn 0) (refIn 0) (refIn 0) (preset-told .none);
-    }
-
-    pub new-preset : NewStep T W f S p c n W S (done.Value (Object c 0) (p .at))
-    new-preset =
-        let h = preset-told .total ∙ sym (preset-told .none) in
-        new-made (getD T (rowSize * c + 1) 0) refl h W S (0 ∷ 0 ∷ 0 ∷ 0 ∷ []) (walked.After (p .at)) none-walked (p .at) refl W (done.Value (Object c 0) (p .at))
-        (finish-fieldless W c n (0 ∷ 0 ∷ 0 ∷ 0 ∷ []) (p .objects) (p .block) (p .at) (preset-told .none) (run .fits .limit) W (Object c 0) (fieldless-made W (run .based .fieldless) c (p .block) (preset-told .low)))
-
-pub step-preset : (T W : List ℕ) (f : Frame) (S : List ℕ) (p : Spot) (s : Shape) → s ≡ shapeAt T (p .at) → Runnable W f S p → (p .nesting ≡ 0 → ⊥) → (c n next : ℕ) → s ≡ shape.New c n next
-    → (b : Bool) → b ≡ isPreset T c n → b ≡ true → EvalStep T W f S p W S (done.Value (Object c 0) next)
-step-preset T W f S p s es run nz c n next z b eb is =
-    step-new T W f S p s es nz next (innerSpot p next) refl W S (done.Value (Object c 0) next) (done.Value (Object c 0) next) refl c n z
-    (new-preset T W f S (innerSpot p next) c n (run-part W f S p run nz next (next-new T (p .at) s es c n next z) (innerSpot p next) refl) b eb is)
+  pub number-nothing : NumberRunnable T W f S p s → OneOf (0 ∷ 1 ∷ 2 ∷ 3 ∷ 4 ∷ 5 ∷ 9 ∷ []) (tagOf ShapeT.the-type s) → EvalStep T W f S p W S (done.Halt Stuck)
+  number-nothing run h = step-nothing T W f S p s (run .stands) (nothing-left s (run .rare) h)

@@ -19,7 +19,7 @@ use Rattle.evaluator.specs.declared.frame.Frame.{Frame}
 use Rattle.evaluator.specs.declared.trace.OpenCall.{OpenCall}
 use Rattle.evaluator.specs.State.{slotsAt, callAt, CallOlder, TraceHolds, callIn, frameIn, traceIn}
 use Rattle.evaluator.specs.Answers.{Listed}
-use Rattle.evaluator.specs.Evaluation.{evalsIn, deeper, Fits, Lists}
+use Rattle.evaluator.specs.Evaluation.{evalIn, evalsIn, deeper, Fits, Evaluates, Lists}
 use Rattle.evaluator.specs.Calling.{CallsWith, Invokes}
 use Rattle.evaluator.specs.Steps.{fuelOf, Traced}
 
@@ -88,6 +88,13 @@ module _ (k : ℕ) (S S1 : List ℕ) (st : Traced k S S1) where
   fits-on W f left objects d sp h = record { frame = h .frame; trace = calls-on W sp (h .trace); calls = h .calls; limit = h .limit; room = h .room; long = h .long }
 
   -- ---- the same trace, the same meaning
+  pub evaluates-on : (T W : List ℕ) (f : Frame) (at left objects d sp fuel : ℕ) (W′ : List ℕ) (o : Out) → Evaluates T W f S1 k at left objects d sp fuel W′ o → Evaluates T W f S k at left objects d sp fuel W′ o
+  evaluates-on T W f at left objects d sp fuel W′ o x = let et = trace-on W in record {
+    kept = x .kept;
+    older = x .older;
+    is = λ t e r. let z = x .is t e r in record { is = z .is ∙ (λ i. evalIn objects d t (frameIn W f) (et i) e fuel); next = z .next };
+  }
+
   pub lists-on : (T W : List ℕ) (f : Frame) (at left objects d sp fuel n : ℕ) (W′ : List ℕ) (l : Listed) → Lists T W f S1 k at left objects d sp fuel n W′ l → Lists T W f S k at left objects d sp fuel n W′ l
   lists-on T W f at left objects d sp fuel n W′ l x = let et = trace-on W in record {
     kept = x .kept;

@@ -11,7 +11,7 @@ use lib.Seq.{getD-set-same, getD-set-other}
 use borrow.Author.Tests.{eqb-false}
 use Rattle.classes.specs.Machine.{pick}
 use Rattle.values.specs.declared.ValueRef.{ValueRef}
-use Rattle.values.specs.declared.ValueRef.the-variants.{Object, Mark, Undetermined}
+use Rattle.values.specs.declared.ValueRef.the-variants.{Object, Mark, Number, Undetermined}
 use Rattle.values.specs.Layout.{Low}
 use Rattle.values.specs.Refs.{refIn}
 use Rattle.evaluator.specs.declared.Stop.{Stop}
@@ -47,6 +47,7 @@ past-after b (Object i x) l = go (eqb x b) refl
     go true q = record { from = omega arith; to = omega arith; low = l }
     go false q = record { from = omega arith; to = omega arith; low = omega (arith, eqb-false x b q) }
 past-after b (Mark k) l = record { from = omega arith; to = omega arith; low = tt }
+past-after b (Number n) l = record { from = omega arith; to = omega arith; low = tt }
 past-after b Undetermined l = record { from = omega arith; to = omega arith; low = tt }
 
 -- ---- the walk has come to spot q and item i: whatever the rest gives from there on, the whole gives

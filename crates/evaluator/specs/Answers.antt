@@ -1,23 +1,32 @@
 -- What the code answers, of an expression and of a list, as the language's outcomes; a new object put in a block.
 -- Not here: what evaluation answers of an expression (Evaluation), of a call (Calling) and of main (Main).
-use Prim.Native.Nat.{ℕ, _+_}
+use Prim.Native.Nat.{ℕ, _+_, _-_}
 use mathlib.Core.Path.{_≡_}
+use mathlib.Core.Bool.{cond}
 use mathlib.Core.List.{List, [], _∷_}
+use lib.Dec.{ltb}
 use lib.ListN.{getD}
+use Rattle.cofj.specs.Limits.{numberCount}
 use Rattle.cofj.specs.Values.{Graph, make}
 use Rattle.cofj.specs.Running as language
 use Rattle.cofj.specs.Running.{Outcome, value, stopped, _then_}
+use Rattle.classes.specs.Skipping.{skipOf}
+use Rattle.classes.specs.declared.shape.Operation.{Operation}
+use Rattle.classes.specs.declared.shape.Operation.the-variants.{Sum, Difference}
 use Rattle.values.specs.declared.ValueRef.{ValueRef}
+use Rattle.values.specs.declared.ValueRef.the-variants.{Object, Mark, Number, Undetermined}
 use Rattle.maker.specs.declared.Slot.{Slot}
 use Rattle.values.specs.Layout.{valueOf}
 use Rattle.values.specs.Refs.{refIn}
 use Rattle.maker.specs.Laying.{valuesFrom}
 use Rattle.evaluator.specs.declared.Stop.{Stop}
-use Rattle.evaluator.specs.declared.Stop.the-variants.{Stuck, NoFuel, TooDeep, TooLarge}
+use Rattle.evaluator.specs.declared.Stop.the-variants.{Stuck, NoFuel, TooDeep, TooLarge, Overflow}
 use Rattle.evaluator.specs.declared.Out.{Out}
 use Rattle.evaluator.specs.declared.Out.the-variants.{Value, Halt}
 use Rattle.evaluator.specs.declared.Done.{Done}
 use Rattle.evaluator.specs.declared.Done.the-variants as done
+use Rattle.evaluator.specs.declared.Operand.{Operand}
+use Rattle.evaluator.specs.declared.Operand.the-variants as operand
 use Rattle.evaluator.specs.declared.Walked.{Walked}
 use Rattle.evaluator.specs.declared.Walked.the-variants as walked
 use Rattle.evaluator.specs.declared.frame.Held.{Held}
@@ -35,6 +44,7 @@ stopOf Stuck = language.stuck
 stopOf NoFuel = language.noFuel
 stopOf TooDeep = language.tooDeep
 stopOf TooLarge = language.tooLarge
+stopOf Overflow = language.overflow
 
 abbrev pub outIn : List ℕ → Out → Outcome Graph
 outIn W (Value v at fuel) = value (valueOf W v) fuel
@@ -104,6 +114,43 @@ doneOf Absent next = done.Halt Stuck
 abbrev pub outOf : Held → ℕ → ℕ → Out
 outOf (Is r) next fuel = Value r next fuel
 outOf Absent next fuel = Halt Stuck fuel
+
+-- ---- numbers
+abbrev pub numberAt : ℕ → ℕ → Done
+numberAt n next = done.Value (Number n) next
+
+-- an answer as an operand: stuck if it is no number
+abbrev pub operandOf : Done → Operand
+operandOf (done.Value (Object i b) at) = operand.Halt Stuck
+operandOf (done.Value (Mark k) at) = operand.Halt Stuck
+operandOf (done.Value (Number n) at) = operand.Number n at
+operandOf (done.Value Undetermined at) = operand.Halt Stuck
+operandOf (done.Halt s) = operand.Halt s
+
+-- what an operand stopped at
+abbrev pub refusedAs : Operand → Done
+refusedAs (operand.Number n at) = done.Halt Stuck
+refusedAs (operand.Halt s) = done.Halt s
+
+-- the number of an operand, as an outcome
+abbrev pub numberWith : ℕ → Operand → Outcome ℕ
+numberWith fuel (operand.Number n at) = value n fuel
+numberWith fuel (operand.Halt s) = stopped (stopOf s) fuel
+
+-- two numbers put together; `next` is the place after
+unfoldable pub reckoned : Operation → ℕ → ℕ → ℕ → Done
+reckoned Sum x y next = cond (ltb (x + y) numberCount) (numberAt (x + y) next) (done.Halt Overflow)
+reckoned Difference x y next = numberAt (x - y) next
+
+-- a number and an operand put together
+abbrev pub combined : Operation → ℕ → Operand → Done
+combined o x (operand.Number y next) = reckoned o x y next
+combined o x (operand.Halt s) = done.Halt s
+
+-- an answer with the place after the expression that follows it in the table's bytes T
+abbrev pub passedOver : List ℕ → Done → Done
+passedOver T (done.Value v at) = done.Value v (skipOf T at)
+passedOver T (done.Halt s) = done.Halt s
 
 -- ---- values put in block sp
 -- a new object of class k with the values of a list, unless it has more than so many objects

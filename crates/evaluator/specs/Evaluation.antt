@@ -6,7 +6,7 @@ use mathlib.Core.Bool.{true}
 use mathlib.Core.List.{List}
 use mathlib.Core.Option.{Option, none, some}
 use lib.ListN.{length}
-use Rattle.cofj.specs.Syntax.{Expr, field, new, Exprs, count, Table}
+use Rattle.cofj.specs.Syntax.{Expr, field, new, combine, choose, Exprs, count, Table}
 use Rattle.cofj.specs.Tables.{exprKnown, exprsKnown}
 use Rattle.cofj.specs.Writing.{codeOf, codesOf}
 use Rattle.cofj.specs.Nesting.{Each, Nested}
@@ -14,6 +14,8 @@ use Rattle.cofj.specs.Values.{Graph}
 use Rattle.cofj.specs.Running as language
 use Rattle.cofj.specs.Running.{Outcome, Deeper}
 use Rattle.classes.specs.Layout.{layout, Stands, Tabled}
+use Rattle.classes.specs.declared.shape.Operation.{Operation}
+use Rattle.classes.specs.Shapes.{operationOf}
 use Rattle.canon.specs.Figures.{capacity}
 use Rattle.evaluator.specs.Figures.{callLimit, levelBlocks, openBlocks, blockLimit, workRoom}
 use Rattle.evaluator.specs.declared.Out.{Out}
@@ -95,3 +97,17 @@ pub record News (T W : List ℕ) (f : Frame) (tr : List ℕ) (top at left object
   pub older : OutOlder W′ (sp + 1) o
   pub is : (t : Table) (es : Exprs) → ReadsAll T left at t es → count es ≡ n → c ≤ length (t .classes)
       → Shows W′ o (at + length (codesOf es)) (evalIn objects d t (frameIn W f) (traceIn W tr top) (new c es) fuel)
+
+-- the two expressions at `at`, put together
+pub record Combines (T W : List ℕ) (f : Frame) (tr : List ℕ) (top at left objects d sp fuel : ℕ) (x : Operation) (W′ : List ℕ) (o : Out) : Type 0 where
+  pub kept : Kept sp W W′
+  pub older : OutOlder W′ (sp + 1) o
+  pub is : (t : Table) (a b : Expr) → Reads T left at t a → Reads T left (at + length (codeOf a)) t b
+      → Shows W′ o (at + length (codeOf a) + length (codeOf b)) (evalIn objects d t (frameIn W f) (traceIn W tr top) (combine (operationOf x) a b) fuel)
+
+-- the choice at `at`: a number and two branches
+pub record Chooses (T W : List ℕ) (f : Frame) (tr : List ℕ) (top at left objects d sp fuel : ℕ) (W′ : List ℕ) (o : Out) : Type 0 where
+  pub kept : Kept sp W W′
+  pub older : OutOlder W′ (sp + 1) o
+  pub is : (t : Table) (c a b : Expr) → Reads T left at t c → Reads T left (at + length (codeOf c)) t a → Reads T left (at + length (codeOf c) + length (codeOf a)) t b
+      → Shows W′ o (at + length (codeOf c) + length (codeOf a) + length (codeOf b)) (evalIn objects d t (frameIn W f) (traceIn W tr top) (choose c a b) fuel)

@@ -25,12 +25,16 @@ fuelAt = 128
 abbrev pub traceSize : ℕ
 traceSize = 129
 
+-- at rest, a variable that holds nothing: no value has this number
+abbrev pub absent : ℕ
+absent = 4
+
 -- every place of a table, and what follows its last expression, lies below
 abbrev pub placeLimit : ℕ
 placeLimit = 26000
 
 -- the blocks of a level, and of a call that may still be opened: up to 3 parts are pending a level while the next is evaluated, and 4 when a body is run, from the
--- last level but one
+-- last level but one. An operand that is a number lies in no block, so sums, differences and choices need none
 abbrev pub levelBlocks : ℕ
 levelBlocks = 3
 

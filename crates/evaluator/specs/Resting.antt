@@ -9,15 +9,15 @@ use Rattle.classes.specs.Machine.{pick}
 use Rattle.values.specs.declared.ValueRef.{ValueRef}
 use Rattle.values.specs.declared.ValueRef.the-variants.{Object, Undetermined}
 use Rattle.values.specs.Refs.{refIn}
-use Rattle.evaluator.specs.Figures.{inputBlock}
+use Rattle.evaluator.specs.Figures.{inputBlock, absent}
 use Rattle.evaluator.specs.declared.frame.Held.{Held}
 use Rattle.evaluator.specs.declared.frame.Held.the-variants.{Is, Absent}
 use Rattle.evaluator.specs.declared.frame.Frame.{Frame}
 use Rattle.evaluator.specs.State.{slotsAt}
 
--- what a variable holds whose number is x; 3 is no value's number
+-- what a variable holds whose number is x
 unfoldable pub heldOf : ℕ → Held
-heldOf x = pick (eqb x 3) Absent (Is (refIn x))
+heldOf x = pick (eqb x absent) Absent (Is (refIn x))
 
 -- seven numbers: this, res, three arguments, how many there are, the owner
 unfoldable pub frameOf : List ℕ → Frame

@@ -5,7 +5,7 @@ use lib.Dec.{eqb}
 use Rattle.cofj.specs.Limits.{nestingLimit}
 use Rattle.classes.specs.Machine.{pick}
 use Rattle.values.specs.declared.ValueRef.{ValueRef}
-use Rattle.values.specs.declared.ValueRef.the-variants.{Object, Mark, Undetermined}
+use Rattle.values.specs.declared.ValueRef.the-variants.{Object, Mark, Number, Undetermined}
 use Rattle.evaluator.specs.declared.spot.Spot.{Spot}
 
 -- one level in, at another place
@@ -28,4 +28,5 @@ bodySpot p at opened = record { at = at; block = p .block + 4; nesting = nesting
 abbrev pub pastOf : ℕ → ValueRef → ℕ
 pastOf b (Object i c) = pick (eqb c b) (b + 1) b
 pastOf b (Mark k) = b
+pastOf b (Number n) = b
 pastOf b Undetermined = b

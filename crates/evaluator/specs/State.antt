@@ -11,7 +11,7 @@ use Rattle.cofj.specs.Values.{Graph, eqGraph, eqGraphs}
 use Rattle.cofj.specs.Running as language
 use Rattle.classes.specs.Machine.{pick}
 use Rattle.values.specs.declared.ValueRef.{ValueRef}
-use Rattle.values.specs.declared.ValueRef.the-variants.{Object, Mark, Undetermined}
+use Rattle.values.specs.declared.ValueRef.the-variants.{Object, Mark, Number, Undetermined}
 use Rattle.maker.specs.declared.Slot.{Slot}
 use Rattle.canon.specs.Layout.{Beneath}
 use Rattle.values.specs.Layout.{valueOf, Holds, Low}
@@ -117,12 +117,17 @@ traceIn W S zero = []
 traceIn W S (suc k) = callIn W k (callAt S k) ∷ traceIn W S k
 
 -- ---- a call met again
--- two objects of one block that are not one
+-- two objects of one block that are not one, or two numbers that are not one
 abbrev pub apartOf : ValueRef → ValueRef → Bool
 apartOf (Object i b) (Object j c) = pick (eqb b c) (not (eqb i j)) false
 apartOf (Object i b) (Mark k) = false
+apartOf (Object i b) (Number y) = false
 apartOf (Object i b) Undetermined = false
 apartOf (Mark k) w = false
+apartOf (Number x) (Object j c) = false
+apartOf (Number x) (Mark k) = false
+apartOf (Number x) (Number y) = not (eqb x y)
+apartOf (Number x) Undetermined = false
 apartOf Undetermined w = false
 
 -- one of the first n of two lists is apart
@@ -133,6 +138,10 @@ pub record SomeApart (ps qs : List Slot) (n : ℕ) : Type 0 where
 
 pub record ApartTest (ps qs : List Slot) (n : ℕ) (r : Bool) : Type 0 where
   pub told : r ≡ true → SomeApart ps qs n
+
+-- true only if a receiver is apart from another
+pub record ReceiverTest (v w : ValueRef) (r : Bool) : Type 0 where
+  pub told : r ≡ true → apartOf v w ≡ true
 
 -- why call i is not the call of m on v with the n arguments A
 pub data Other (S : List ℕ) (i : ℕ) (v : ValueRef) (m : ℕ) (A : List ℕ) (n : ℕ) : Type 0 where

@@ -6,8 +6,12 @@ use mathlib.Core.Path.{_≡_}
 use mathlib.Core.List.{List}
 use lib.ListN.{length, getD}
 use Rattle.canon.specs.Figures.{markCount, blockSize, spareBlock}
+use Rattle.classes.specs.declared.shape.Operation.{Operation}
+use Rattle.classes.specs.declared.shape.Shape.{Shape}
+use Rattle.classes.specs.declared.shape.Shape.the-variants as shape
+use Rattle.classes.specs.Shapes.{shapeAt}
 use Rattle.values.specs.declared.ValueRef.{ValueRef}
-use Rattle.values.specs.declared.ValueRef.the-variants.{Object, Mark, Undetermined}
+use Rattle.values.specs.declared.ValueRef.the-variants.{Object, Mark, Number, Undetermined}
 use Rattle.maker.specs.Laying.{partsOf}
 use Rattle.maker.specs.Fieldless.{Fieldless}
 use Rattle.evaluator.specs.Figures.{callSize, fuelAt, traceSize, placeLimit}
@@ -18,7 +22,7 @@ use Rattle.evaluator.specs.declared.frame.Frame.{Frame}
 use Rattle.evaluator.specs.declared.spot.Spot.{Spot}
 use Rattle.evaluator.specs.State.{slotsAt, PartsOlder}
 use Rattle.evaluator.specs.Answers.{outWith, listFrom, Finishes}
-use Rattle.evaluator.specs.Evaluation.{Fits, ListFits, Evaluates, Fields, Lists, News}
+use Rattle.evaluator.specs.Evaluation.{Fits, ListFits, Evaluates, Fields, Lists, News, Combines, Chooses}
 use Rattle.evaluator.specs.Calling.{Calls, ArgsFit, CallsWith, CallFits, Invokes, BodyFits, RunsRight, RunsLeft}
 
 -- the fuel left, after the calls
@@ -42,6 +46,25 @@ pub record Runnable (W : List ℕ) (f : Frame) (S : List ℕ) (p : Spot) : Type 
   pub full : length S ≡ traceSize
   pub count : f .n ≤ 3
   pub fits : Fits W f S (p .opened) (p .nesting) (p .objects) (p .calls) (p .block)
+
+-- what stands at a spot that `eval` leaves to `eval_number`
+abbrev pub NumberShape : Shape → Type 0
+NumberShape (shape.This next) = ⊥
+NumberShape (shape.Result next) = ⊥
+NumberShape (shape.Parameter k next) = ⊥
+NumberShape (shape.Field f next) = ⊥
+NumberShape (shape.Call m n next) = ⊥
+NumberShape (shape.New c n next) = ⊥
+NumberShape (shape.Number k n next) = Unit {0}
+NumberShape (shape.Combine o next) = Unit {0}
+NumberShape (shape.Choose next) = Unit {0}
+NumberShape shape.Nothing = Unit {0}
+
+pub record NumberRunnable (T W : List ℕ) (f : Frame) (S : List ℕ) (p : Spot) (s : Shape) : Type 0 where
+  pub run : Runnable W f S p
+  pub deep : p .nesting ≡ 0 → ⊥
+  pub stands : s ≡ shapeAt T (p .at)
+  pub rare : NumberShape s
 
 -- one level in
 pub record PartRunnable (W : List ℕ) (f : Frame) (S : List ℕ) (p : Spot) : Type 0 where
@@ -88,6 +111,7 @@ pub record BodyRunnable (W S : List ℕ) (v : ValueRef) (A : List ℕ) (n : ℕ)
 abbrev pub markIn : ValueRef → ℕ
 markIn (Object i b) = 0
 markIn (Mark k) = k
+markIn (Number n) = 0
 markIn Undetermined = 0
 
 pub record MarkGiven (r : ValueRef) : Type 0 where
@@ -115,6 +139,14 @@ pub record FinishStep (W : List ℕ) (c n : ℕ) (A : List ℕ) (objects dst nex
 pub record NewStep (T W : List ℕ) (f : Frame) (S : List ℕ) (p : Spot) (c n : ℕ) (W′ S′ : List ℕ) (o : Done) : Type 0 where
   pub trace : Traced (p .opened) S S′
   pub runs : News T W f S (p .opened) (p .at) (p .nesting) (p .objects) (p .calls) (p .block) (fuelOf S) c n W′ (outWith (fuelOf S′) o)
+
+pub record CombineStep (T W : List ℕ) (f : Frame) (S : List ℕ) (p : Spot) (x : Operation) (W′ S′ : List ℕ) (o : Done) : Type 0 where
+  pub trace : Traced (p .opened) S S′
+  pub runs : Combines T W f S (p .opened) (p .at) (p .nesting) (p .objects) (p .calls) (p .block) (fuelOf S) x W′ (outWith (fuelOf S′) o)
+
+pub record ChooseStep (T W : List ℕ) (f : Frame) (S : List ℕ) (p : Spot) (W′ S′ : List ℕ) (o : Done) : Type 0 where
+  pub trace : Traced (p .opened) S S′
+  pub runs : Chooses T W f S (p .opened) (p .at) (p .nesting) (p .objects) (p .calls) (p .block) (fuelOf S) W′ (outWith (fuelOf S′) o)
 
 pub record CallStep (T W : List ℕ) (f : Frame) (S : List ℕ) (p : Spot) (m n : ℕ) (W′ S′ : List ℕ) (o : Done) : Type 0 where
   pub trace : Traced (p .opened) S S′

@@ -28,7 +28,7 @@ use values::ValueRef;
 use values::value::bring;
 use values::value::close;
 ghost use mathlib.Core.Path.{_≡_};
-ghost use Prim.Native.Nat.{ℕ, _+_, _*_, _<_, _≤_};
+ghost use Prim.Native.Nat.{_+_, _<_};
 ghost use lib.ListN.{getD};
 ghost use Rattle.classes.specs.Machine.{rowOf, leftOf, rightOf};
 ghost use Rattle.evaluator.specs.Figures.{callLimit};

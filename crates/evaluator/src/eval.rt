@@ -11,6 +11,8 @@ use crate::frame::answer;
 use crate::frame::parameter;
 use crate::frame::res_of;
 use crate::frame::this_of;
+use crate::number::eval_number;
+use crate::number::literal;
 use crate::spot::Spot;
 use crate::spot::down;
 use crate::spot::inner;
@@ -29,7 +31,7 @@ use values::refs::Selected;
 use values::refs::pack;
 use values::refs::select;
 ghost use mathlib.Core.Path.{_≡_};
-ghost use Prim.Native.Nat.{ℕ, _+_, _*_, _<_, _≤_};
+ghost use Prim.Native.Nat.{_+_, _*_, _<_};
 ghost use lib.ListN.{length};
 ghost use Rattle.evaluator.specs.Answers.{stopsAs, haltsAs};
 ghost use Rattle.evaluator.specs.Evaluation.{Limited};
@@ -61,7 +63,7 @@ pub(crate) fn again(o: Done) -> Done
     }
 }
 
-// The expression at a spot.
+// The expression at a spot. What is made of numbers, in a function of its own: that costs calls less.
 pub(crate) fn eval(
     t: &[u8; SIZE],
     work: &mut [u8],
@@ -83,11 +85,11 @@ pub(crate) fn eval(
         Shape::Field { f: k, next } => again(eval_field(t, work, tr, fr, inner(p, next), k)),
         Shape::Call { m, n, next } => again(eval_call(t, work, tr, fr, inner(p, next), m, n)),
         Shape::New { c, n, next } => again(eval_new(t, work, tr, fr, inner(p, next), c, n)),
-        Shape::Nothing => Done::Halt(Stop::Stuck),
+        _ => again(eval_number(t, work, tr, fr, p, s)),
     }
 }
 
-// The same for an item of a list: variables, fields and new objects, which most are, at once. With one caller, which the compiler takes it into, it
+// The same for an item of a list: variables, numbers, fields and new objects, which most are, at once. With one caller, which the compiler takes it into, it
 // saves a quarter to three tenths of building a list (docs/SPEED.md).
 pub(crate) fn eval_item(
     t: &[u8; SIZE],
@@ -106,6 +108,7 @@ pub(crate) fn eval_item(
     match s {
         Shape::This { next } => answer(this_of(fr), next),
         Shape::Parameter { k, next } => answer(parameter(fr, k), next),
+        Shape::Number { k, n, next } => literal(k, n, next),
         Shape::Field { f: k, next } => again(eval_field(t, work, tr, fr, inner(p, next), k)),
         Shape::New { c, n, next } => {
             if is_preset(t, c, n) {

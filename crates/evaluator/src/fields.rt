@@ -1,7 +1,7 @@
 // Fields of fields: how many begin at a place. Not here: what they are selected of (eval).
 use classes::places::SIZE;
 use classes::shape::is_field;
-ghost use Prim.Native.Nat.{ℕ, _<_};
+ghost use Prim.Native.Nat.{_<_};
 ghost use Rattle.evaluator.specs.Chains.{Chain};
 
 // How many fields of fields begin at `at`, within the nesting left.

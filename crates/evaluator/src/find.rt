@@ -3,13 +3,12 @@ use canon::layout::BLOCK;
 use canon::layout::OBJECT;
 use classes::methods::Found;
 use classes::methods::method_with;
-use classes::places::CLASSES;
 use classes::places::SIZE;
 use values::ValueRef;
 ghost use Rattle.values.specs.Layout.{Holds};
 ghost use Rattle.evaluator.specs.Calling.{FindsTarget};
 
-// The method m with n parameters of the class of v, if v is an object that has it. No class has a number above 32.
+// The method m with n parameters of the class of v, if v is an object that has it. Classes without a row have no methods.
 pub(crate) fn find(t: &[u8; SIZE], work: &[u8], v: ValueRef, m: u8, n: u8) -> Found
     requires { ⌜ Holds (now work) v ⌝ }
     ensures { λ r. ⌜ FindsTarget (now (t .entry)) (now (work .entry)) v m n r ⌝ }
@@ -18,9 +17,6 @@ pub(crate) fn find(t: &[u8; SIZE], work: &[u8], v: ValueRef, m: u8, n: u8) -> Fo
         return Found::Nothing;
     };
     let c = work[BLOCK * (b as usize) + OBJECT * (i as usize)];
-    if CLASSES < c {
-        return Found::Nothing;
-    }
     if 3 < n {
         return Found::Nothing;
     }

@@ -8,7 +8,7 @@ use values::ValueRef;
 use values::refs::pack;
 use values::refs::unpack;
 ghost use mathlib.Core.Path.{_≡_};
-ghost use Prim.Native.Nat.{ℕ, _≤_, _<_};
+ghost use Prim.Native.Nat.{_≤_, _<_};
 ghost use Rattle.evaluator.specs.Figures.{placeLimit};
 ghost use Rattle.evaluator.specs.State.{passedOf, variableOf};
 ghost use Rattle.values.specs.Refs.{refIn};
@@ -35,7 +35,7 @@ pub struct Frame {
 pub const FRAME: usize = 7;
 
 // at rest, a variable that holds nothing: no value has this number
-pub const ABSENT: u32 = 3;
+pub const ABSENT: u32 = 4;
 
 // at rest, the undetermined value
 pub const UNUSED: u32 = 2;

@@ -8,6 +8,7 @@ pub mod met; // a call met again
 pub mod find; // the method that a call names
 pub mod fields; // fields of fields
 pub mod eval; // running an expression
+pub mod number; // running a sum, a difference, a choice
 pub mod call; // running a call
 pub mod run; // running main
 pub mod report; // running main and reporting it: what other crates ask for
@@ -18,11 +19,18 @@ pub enum Stop {
     NoFuel,
     TooDeep,
     TooLarge,
+    Overflow,
 }
 
 // What an expression gives: a value and the place after the expression, or what the run stopped at.
 pub enum Done {
     Value(values::ValueRef, u16),
+    Halt(Stop),
+}
+
+// What an operand gives: its number and the place after the expression, or what the run stopped at.
+pub enum Operand {
+    Number(u16, u16),
     Halt(Stop),
 }
 

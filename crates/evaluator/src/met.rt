@@ -12,22 +12,29 @@ use values::ValueRef;
 use values::lockstep::equal;
 use values::refs::unpack;
 ghost use mathlib.Core.Path.{_≡_};
-ghost use Prim.Native.Nat.{ℕ, _+_, _*_, _<_, _≤_};
-ghost use lib.ListN.{length};
+ghost use Prim.Native.Nat.{_+_, _*_, _<_, _≤_};
 ghost use Rattle.cofj.specs.Values.{eqGraphs};
 ghost use Rattle.cofj.specs.Running.{openMark};
+ghost use Rattle.values.specs.declared.ValueRef.the-variants.{Object, Number};
 ghost use Rattle.values.specs.Layout.{Holds, valueOf};
 ghost use Rattle.maker.specs.Laying.{PartsHeld, valuesFrom};
 ghost use Rattle.evaluator.specs.Figures.{callLimit, callSize, argsAt};
-ghost use Rattle.evaluator.specs.State.{apartOf, ApartTest, OtherTest, slotsAt, CallHolds, CallsHold, callIn, sameOf, traceIn, metOf};
+ghost use Rattle.evaluator.specs.State.{apartOf, ApartTest, ReceiverTest, OtherTest, slotsAt, CallHolds, CallsHold, callIn, sameOf, traceIn, metOf};
 
-// Whether two values are different objects of one block: it costs no comparison of objects.
-pub(crate) fn apart(v: ValueRef, w: ValueRef) -> bool
-    ensures { λ r. ⌜ r ≡ apartOf v w ⌝ }
+// Whether a value is a number other than x.
+fn other_number(x: u16, w: ValueRef) -> bool
+    ensures { λ r. ⌜ r ≡ apartOf (Number x) w ⌝ }
 {
-    let ValueRef::Object(i, b) = v else {
+    let ValueRef::Number(y) = w else {
         return false;
     };
+    x != y
+}
+
+// Whether a value is an object of block b other than object i.
+fn other_object(i: u8, b: u16, w: ValueRef) -> bool
+    ensures { λ r. ⌜ r ≡ apartOf (Object i b) w ⌝ }
+{
     let ValueRef::Object(j, c) = w else {
         return false;
     };
@@ -35,6 +42,28 @@ pub(crate) fn apart(v: ValueRef, w: ValueRef) -> bool
         return false;
     }
     i != j
+}
+
+// Whether two values are different objects of one block, or different numbers: it costs no comparison of objects.
+pub(crate) fn apart(v: ValueRef, w: ValueRef) -> bool
+    ensures { λ r. ⌜ r ≡ apartOf v w ⌝ }
+{
+    match v {
+        ValueRef::Object(i, b) => other_object(i, b, w),
+        ValueRef::Mark(_) => false,
+        ValueRef::Number(x) => other_number(x, w),
+        ValueRef::Undetermined => false,
+    }
+}
+
+// True only if two values are apart, told of objects alone: the receivers of calls are objects, and looking for numbers too costs a call up to a fifth.
+fn objects_apart(v: ValueRef, w: ValueRef) -> bool
+    ensures { λ r. ⌜ ReceiverTest v w r ⌝ }
+{
+    let ValueRef::Object(i, b) = v else {
+        return false;
+    };
+    other_object(i, b, w)
 }
 
 // Whether the first n arguments are the same.
@@ -110,7 +139,7 @@ pub(crate) fn other_call(tr: &[u32; TRACE], i: u8, v: ValueRef, m: u8, vs: &[u32
     if (tr[at + 1] % 256) as u8 != n {
         return true;
     }
-    if apart(unpack(tr[at + 2]), v) {
+    if objects_apart(unpack(tr[at + 2]), v) {
         return true;
     }
     args_apart(tr, i, vs, n)

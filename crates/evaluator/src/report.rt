@@ -7,7 +7,7 @@ use canon::layout::BLOCK;
 use classes::places::SIZE;
 use values::report::report;
 ghost use mathlib.Core.Path.{_≡_};
-ghost use Prim.Native.Nat.{ℕ, _+_, _≤_};
+ghost use Prim.Native.Nat.{_+_, _≤_};
 ghost use lib.ListN.{length};
 ghost use Rattle.cofj.specs.Limits.{reportSize};
 ghost use Rattle.evaluator.specs.Figures.{mainBlock, workRoom};
@@ -30,6 +30,7 @@ fn stop_number(s: Stop) -> u8
         Stop::NoFuel => 2,
         Stop::TooDeep => 3,
         Stop::TooLarge => 4,
+        Stop::Overflow => 5,
     }
 }
 

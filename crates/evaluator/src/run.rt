@@ -18,7 +18,7 @@ use classes::methods::main_place;
 use classes::places::SIZE;
 use maker::fieldless::lay_fieldless;
 ghost use mathlib.Core.Path.{_≡_};
-ghost use Prim.Native.Nat.{ℕ, _<_, _≤_};
+ghost use Prim.Native.Nat.{_≤_};
 ghost use lib.ListN.{length};
 ghost use Rattle.evaluator.specs.Figures.{workRoom};
 ghost use Rattle.evaluator.specs.Answers.{outWith};

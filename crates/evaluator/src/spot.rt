@@ -1,6 +1,6 @@
 // Where an evaluation stands. Not here: what it is evaluated with (frame, trace).
 ghost use mathlib.Core.Path.{_≡_};
-ghost use Prim.Native.Nat.{ℕ, _+_, _<_, _≤_};
+ghost use Prim.Native.Nat.{_+_, _<_, _≤_};
 ghost use Rattle.evaluator.specs.Figures.{placeLimit};
 ghost use Rattle.evaluator.specs.Spots.{innerSpot, movedSpot, downSpot, bodySpot};
 

@@ -5,7 +5,7 @@ use values::ValueRef;
 use values::refs::pack;
 use values::refs::unpack;
 ghost use mathlib.Core.Path.{_≡_};
-ghost use Prim.Native.Nat.{ℕ, _<_};
+ghost use Prim.Native.Nat.{_<_};
 ghost use lib.ListN.{length};
 ghost use Rattle.evaluator.specs.Figures.{callLimit, traceSize};
 ghost use Rattle.evaluator.specs.State.{callAt, slotsAt, sideCall, CallPut};

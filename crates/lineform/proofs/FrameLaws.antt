@@ -12,7 +12,7 @@ use Rattle.cofj.specs.Partial.{_>>=_}
 use Rattle.cofj.specs.Syntax.{Expr, Ty, ty}
 use Rattle.cofj.specs.Frames.{Got, type, types, expr, mainFrame, whole, classAfter, methodAfter, mainAfter, inputAfter, frame}
 use Rattle.cofj.specs.Writing.{codeOf, typesBytes}
-use Rattle.cofj.proofs.FrameRound.{expr-back, types-back}
+use Rattle.cofj.proofs.ExprRound.{expr-spelt, types-back}
 use Rattle.lineform.specs.declared.exprs.ReadExpr.{ReadExpr}
 use Rattle.lineform.specs.declared.exprs.ReadExpr.the-variants.{Next, Refused}
 use Rattle.lineform.specs.declared.frames.Kind.the-variants.{Class, Method as MethodKind, Main}
@@ -230,7 +230,8 @@ module _ (s : List ℕ) (h : 7 < length s) where
                 let x = read-to s (expr 6 (drop a s)) o1 b (expr-leaves s 6 a) eo1 eb in
                 let y = read-to s (expr 6 (drop b s)) o2 e (expr-leaves s 6 b) eo2 ee in
                 let pa : a ≡ 8 + length (typesBytes (r .item)) = between s 8 a (typesBytes (r .item)) h (r .within) (types-back m (drop 8 s) _ (r .is) .0) in
-                let pb : b ≡ a + length (codeOf (x .item)) = between s a b (codeOf (x .item)) (r .within) (x .within) (expr-back 6 (drop a s) _ (x .is)) in
+                let left = expr-spelt 6 (drop a s) _ (x .is) in
+                let pb : b ≡ a + length (left .front) = between s a b (left .front) (r .within) (x .within) (left .split) in
                 let pt = types-length (r .item) in
-                let p : b ≡ 8 + 2 * length (r .item) + length (codeOf (x .item)) = omega arith in
+                let p : b ≡ 8 + 2 * length (r .item) + length (codeOf (x .item)) = omega (arith, left .size) in
                 rw (eight s h, le-leb _ _ t, le-leb _ _ u, le-leb _ _ k, ← em, r .is, x .is, y .is, no-more s e l) (ap (λ (z : ℕ). Good (MethodKind z)) p)

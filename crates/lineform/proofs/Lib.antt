@@ -1,6 +1,7 @@
 pub mod Ends
 pub mod HexLaws
 pub mod SignLaws
+pub mod SignEnds
 pub mod ExprLaws
 pub mod FrameLaws
 pub mod NoteLaws

@@ -13,7 +13,7 @@ use borrow.Author.Tests.{leb-true, leb-false, le-leb, lt-leb}
 use Rattle.cofj.specs.Limits.{methodCount, lineSize}
 use Rattle.cofj.specs.Frames.{TextFrame, classFrame, methodFrame, mainFrame, frame}
 use Rattle.cofj.specs.Writing.{codeOf, typesBytes, methodLine}
-use Rattle.cofj.proofs.FrameRound.{frame-back}
+use Rattle.cofj.proofs.FrameRound.{frame-length}
 use Rattle.lineform.specs.declared.frames.Kind.{Kind}
 use Rattle.lineform.specs.declared.frames.Kind.the-variants as kind
 use Rattle.lineform.specs.Answers.{rightAt, kindOf, Noted, noted, putRight, noteRight, SmallKind, rightsOf, Rights}
@@ -141,7 +141,7 @@ pub kind-small : (f : TextFrame) (l : List ℕ) → frame l ≡ some f → lengt
 unfolding methodLine
 kind-small (classFrame c) l e h = tt
 kind-small (methodFrame d) l e h =
-    let k = ap length (frame-back l (methodFrame d) e) in
+    let k = frame-length l (methodFrame d) e in
     let t = types-length (d .params) in
     let a = length-append (typesBytes (d .params)) (codeOf (d .left) ++ codeOf (d .right)) in
     let b = length-append (codeOf (d .left)) (codeOf (d .right)) in

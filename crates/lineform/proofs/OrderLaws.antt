@@ -5,17 +5,17 @@ use native.Mathlib.Numerals.{add-one}
 use mathlib.Core.Path.{_≡_, refl, sym, ap, ap₂, _∙_}
 use mathlib.Core.Bool.{Bool, true, false, _&&_}
 use mathlib.Core.List.{List, [], _∷_, _++_}
-use mathlib.Core.Option.{Option, none, some}
-use lib.Dec.{leb}
+use mathlib.Core.Option.{Option, none, some, Option·none-ne-some}
+use lib.Dec.{eqb, leb}
 use lib.ListN.{length, getD, drop}
-use borrow.Author.Tests.{le-leb, lt-leb}
+use borrow.Author.Tests.{eqb-true, le-leb, lt-leb}
+use Rattle.cofj.specs.Limits.{fieldCount, paramCount, nestingLimit}
 use Rattle.cofj.specs.Partial.{_>>=_, guard}
 use Rattle.cofj.specs.Syntax.{Expr, Ty, Method}
-use Rattle.cofj.specs.Frames.{ClassFrame, TextFrame, classFrame, methodFrame, mainFrame, frame, frames}
-use Rattle.cofj.specs.Writing.{methodLine}
+use Rattle.cofj.specs.Frames.{byte, upTo, type, types, expr, ClassFrame, TextFrame, classFrame, methodFrame, mainFrame, whole, classAfter, methodAfter, mainAfter, inputAfter, frame, frames}
 use Rattle.cofj.specs.Tables.{Raw, raw, inFront, ordered, few}
-use Rattle.cofj.proofs.Partial.{opt-bind}
-use Rattle.cofj.proofs.FrameRound.{lineOf, frame-back}
+use Rattle.cofj.proofs.Partial.{opt-bind, taken}
+use Rattle.cofj.proofs.Steps.{given, branch}
 use Rattle.lineform.specs.declared.lines.Ordered.{Ordered}
 use Rattle.lineform.specs.declared.lines.Ordered.the-variants.{Counts, Refused}
 use Rattle.lineform.specs.Packed.{packed, unpack, FramedLines}
@@ -74,12 +74,47 @@ mark (methodFrame d) = 2
 mark (mainFrame none e) = 3
 mark (mainFrame (some u) e) = 4
 
-mark-of : (f : TextFrame) → getD (lineOf f) 0 0 ≡ mark f
-unfolding methodLine
-mark-of (classFrame c) = refl
-mark-of (methodFrame d) = refl
-mark-of (mainFrame none e) = refl
-mark-of (mainFrame (some u) e) = refl
+abbrev Marked : ℕ → TextFrame → Type 0
+Marked k f = k ≡ mark f
+
+class-mark : (bs : List ℕ) (f : TextFrame) → classAfter bs ≡ some f → Marked 1 f
+unfolding classAfter
+class-mark bs f e =
+    taken (byte bs) f e λ c _ e1.
+    taken (byte (c .rest)) f e1 λ p _ e2.
+    taken (upTo fieldCount (p .rest)) f e2 λ n _ e3.
+    taken (types (n .item) (n .rest)) f e3 λ ts _ e4.
+    taken (whole ts) f e4 λ own _ e5. given (Marked 1) _ f e5 refl
+
+method-mark : (bs : List ℕ) (f : TextFrame) → methodAfter bs ≡ some f → Marked 2 f
+unfolding methodAfter
+method-mark bs f e =
+    taken (byte bs) f e λ o _ e1.
+    taken (byte (o .rest)) f e1 λ m _ e2.
+    taken (type (m .rest)) f e2 λ a _ e3.
+    taken (type (a .rest)) f e3 λ b _ e4.
+    taken (upTo paramCount (b .rest)) f e4 λ n _ e5.
+    taken (types (n .item) (n .rest)) f e5 λ ts _ e6.
+    taken (expr nestingLimit (ts .rest)) f e6 λ l _ e7.
+    taken (expr nestingLimit (l .rest)) f e7 λ r _ e8.
+    taken (whole r) f e8 λ right _ e9. given (Marked 2) _ f e9 refl
+
+main-mark : (i : Option Ty) (bs : List ℕ) (f : TextFrame) (k : ℕ) → ((e : Expr) → Marked k (mainFrame i e)) → mainAfter i bs ≡ some f → Marked k f
+unfolding mainAfter
+main-mark i bs f k m e = taken (expr nestingLimit bs) f e λ x _ e1. taken (whole x) f e1 λ main _ e2. given (Marked k) _ f e2 (m main)
+
+input-mark : (bs : List ℕ) (f : TextFrame) → inputAfter bs ≡ some f → Marked 4 f
+unfolding inputAfter
+input-mark bs f e = taken (type bs) f e λ u _ e1. main-mark (some (u .item)) (u .rest) f 4 (λ x. refl) e1
+
+frame-mark : (l : List ℕ) (f : TextFrame) → frame l ≡ some f → Marked (getD l 0 0) f
+unfolding frame
+frame-mark [] f e = absurd (Option·none-ne-some f e)
+frame-mark (k ∷ bs) f e =
+    branch (eqb k 1) _ _ f e (λ q z. eqb-true k 1 q ∙ class-mark bs f z) λ e1.
+    branch (eqb k 2) _ _ f e1 (λ q z. eqb-true k 2 q ∙ method-mark bs f z) λ e2.
+    branch (eqb k 3) _ _ f e2 (λ q z. eqb-true k 3 q ∙ main-mark none bs f 3 (λ x. refl) z) λ e3.
+    branch (eqb k 4) _ _ f e3 (λ q z. eqb-true k 4 q ∙ input-mark bs f z) λ e4. absurd (Option·none-ne-some f e4)
 
 first : (l p r : List ℕ) (x : ℕ) → 1 ≤ length l → x ∷ r ≡ l ++ p → x ≡ getD l 0 0
 first [] p r x h e = absurd (omega arith)
@@ -123,7 +158,7 @@ frame-at d i r found e h h1 =
       head = x .0;
       tail = y .0;
       split = (let w : found ≡ x .0 ∷ y .0 = cc (y .2) in w);
-      marked = z ∙ ap (λ (l : List ℕ). getD l 0 0) (sym (frame-back (a .line) (x .0) (x .1))) ∙ mark-of (x .0);
+      marked = z ∙ frame-mark (a .line) (x .0) (x .1);
       read = y .1;
     }
 

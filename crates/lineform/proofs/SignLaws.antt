@@ -9,38 +9,59 @@ use lib.ListN.{length, getD, List·getD-eq-default}
 use borrow.Author.Tests.{eq-eqb, ne-eqb, le-leb, lt-leb, le-ltb, lt-ltb}
 use Rattle.lineform.specs.declared.exprs.Sign.{Sign}
 use Rattle.lineform.specs.declared.sign.SignRow.{SignRow}
-use Rattle.lineform.specs.Signs.{thisSign, resSign, parameterSign, fieldSign, callSign, newSign, row, signRow, InTable, signSize}
+use Rattle.lineform.specs.Signs.{thisSign, resSign, parameterSign, fieldSign, callSign, newSign, numberSign, sumSign, differenceSign, chooseSign, row, signRow, InTable, signSize}
 use Rattle.lineform.specs.Answers.{after, noSign, signOf, rowAt, signAt}
 
 -- ---- the rows
 module _ (b n : ℕ) where
   pub row-this : b ≡ thisSign → InTable b n (row 1 0)
   unfolding signRow
-  row-this e = record { is = rw e; short = omega arith }
+  row-this e = record { is = rw e; short = omega arith; few = omega arith }
 
   pub row-res : b ≡ resSign → InTable b n (row 1 0)
   unfolding signRow
-  row-res e = record { is = rw e; short = omega arith }
+  row-res e = record { is = rw e; short = omega arith; few = omega arith }
 
   pub row-parameter : b ≡ parameterSign → InTable b n (row 2 0)
   unfolding signRow
-  row-parameter e = record { is = rw e; short = omega arith }
+  row-parameter e = record { is = rw e; short = omega arith; few = omega arith }
 
   pub row-field : b ≡ fieldSign → InTable b n (row 2 1)
   unfolding signRow
-  row-field e = record { is = rw e; short = omega arith }
+  row-field e = record { is = rw e; short = omega arith; few = omega arith }
 
   pub row-call : b ≡ callSign → InTable b n (row 3 (1 + n))
   unfolding signRow
-  row-call e = record { is = rw e; short = omega arith }
+  row-call e = record { is = rw e; short = omega arith; few = omega arith }
 
   pub row-new : b ≡ newSign → InTable b n (row 3 n)
   unfolding signRow
-  row-new e = record { is = rw e; short = omega arith }
+  row-new e = record { is = rw e; short = omega arith; few = omega arith }
 
-  pub row-none : (b ≡ thisSign → ⊥) → (b ≡ resSign → ⊥) → (b ≡ parameterSign → ⊥) → (b ≡ fieldSign → ⊥) → (b ≡ callSign → ⊥) → (b ≡ newSign → ⊥) → InTable b n (row 0 0)
+  pub row-number : b ≡ numberSign → InTable b n (row 3 0)
   unfolding signRow
-  row-none p q r s t u = record { is = rw (ne-eqb _ _ p, ne-eqb _ _ q, ne-eqb _ _ r, ne-eqb _ _ s, ne-eqb _ _ t, ne-eqb _ _ u); short = omega arith }
+  row-number e = record { is = rw e; short = omega arith; few = omega arith }
+
+  pub row-sum : b ≡ sumSign → InTable b n (row 1 2)
+  unfolding signRow
+  row-sum e = record { is = rw e; short = omega arith; few = omega arith }
+
+  pub row-difference : b ≡ differenceSign → InTable b n (row 1 2)
+  unfolding signRow
+  row-difference e = record { is = rw e; short = omega arith; few = omega arith }
+
+  pub row-choose : b ≡ chooseSign → InTable b n (row 1 3)
+  unfolding signRow
+  row-choose e = record { is = rw e; short = omega arith; few = omega arith }
+
+  pub row-none : (b ≡ thisSign → ⊥) → (b ≡ resSign → ⊥) → (b ≡ parameterSign → ⊥) → (b ≡ fieldSign → ⊥) → (b ≡ callSign → ⊥) → (b ≡ newSign → ⊥) → (b ≡ numberSign → ⊥) → (b ≡ sumSign → ⊥) → (b ≡ differenceSign → ⊥) → (b ≡ chooseSign → ⊥) → InTable b n (row 0 0)
+  unfolding signRow
+  row-none p q r s t u v w x y =
+      record {
+        is = rw (ne-eqb _ _ p, ne-eqb _ _ q, ne-eqb _ _ r, ne-eqb _ _ s, ne-eqb _ _ t, ne-eqb _ _ u, ne-eqb _ _ v, ne-eqb _ _ w, ne-eqb _ _ x, ne-eqb _ _ y);
+        short = omega arith;
+        few = omega arith;
+      }
 
 -- ---- which sign a byte is
 pub record NoSign (b : ℕ) : Type 0 where
@@ -50,6 +71,10 @@ pub record NoSign (b : ℕ) : Type 0 where
   pub field : b ≡ fieldSign → ⊥
   pub call : b ≡ callSign → ⊥
   pub new : b ≡ newSign → ⊥
+  pub number : b ≡ numberSign → ⊥
+  pub sum : b ≡ sumSign → ⊥
+  pub difference : b ≡ differenceSign → ⊥
+  pub choose : b ≡ chooseSign → ⊥
 
 whether : (b k : ℕ) (P : Type 0) → (b ≡ k → P) → ((b ≡ k → ⊥) → P) → P
 whether b k P yea nay = go (ℕ-discrete b k)
@@ -58,18 +83,22 @@ whether b k P yea nay = go (ℕ-discrete b k)
     go (yes q) = yea q
     go (no q) = nay q
 
-pub which-sign : (b : ℕ) (P : Type 0) → (b ≡ thisSign → P) → (b ≡ resSign → P) → (b ≡ parameterSign → P) → (b ≡ fieldSign → P) → (b ≡ callSign → P) → (b ≡ newSign → P) → (NoSign b → P) → P
-which-sign b P t r p f c n none =
+pub which-sign : (b : ℕ) (P : Type 0) → (b ≡ thisSign → P) → (b ≡ resSign → P) → (b ≡ parameterSign → P) → (b ≡ fieldSign → P) → (b ≡ callSign → P) → (b ≡ newSign → P) → (b ≡ numberSign → P) → (b ≡ sumSign → P) → (b ≡ differenceSign → P) → (b ≡ chooseSign → P) → (NoSign b → P) → P
+which-sign b P t r p f c n l s d h none =
     whether b thisSign P t λ n0.
     whether b resSign P r λ n1.
     whether b parameterSign P p λ n2.
     whether b fieldSign P f λ n3.
     whether b callSign P c λ n4.
     whether b newSign P n λ n5.
-    none (record { this = n0; res = n1; parameter = n2; field = n3; call = n4; new = n5 })
+    whether b numberSign P l λ n6.
+    whether b sumSign P s λ n7.
+    whether b differenceSign P d λ n8.
+    whether b chooseSign P h λ n9.
+    none (record { this = n0; res = n1; parameter = n2; field = n3; call = n4; new = n5; number = n6; sum = n7; difference = n8; choose = n9 })
 
 pub row-missing : (b n : ℕ) → NoSign b → InTable b n (row 0 0)
-row-missing b n m = row-none b n (m .this) (m .res) (m .parameter) (m .field) (m .call) (m .new)
+row-missing b n m = row-none b n (m .this) (m .res) (m .parameter) (m .field) (m .call) (m .new) (m .number) (m .sum) (m .difference) (m .choose)
 
 short-of : {b n : ℕ} {r : SignRow} → InTable b n r → signRow b n .size ≤ 3
 short-of t = subst (λ (x : SignRow). x .size ≤ 3) (t .is) (t .short)
@@ -83,6 +112,10 @@ size-short b n =
     (λ e. short-of (row-field b n e))
     (λ e. short-of (row-call b n e))
     (λ e. short-of (row-new b n e))
+    (λ e. short-of (row-number b n e))
+    (λ e. short-of (row-sum b n e))
+    (λ e. short-of (row-difference b n e))
+    (λ e. short-of (row-choose b n e))
     (λ m. short-of (row-missing b n m))
 
 -- the place after a sign

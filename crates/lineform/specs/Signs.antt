@@ -24,6 +24,18 @@ callSign = 0x44
 abbrev pub newSign : ℕ
 newSign = 0x45
 
+abbrev pub numberSign : ℕ
+numberSign = 0x46
+
+abbrev pub sumSign : ℕ
+sumSign = 0x47
+
+abbrev pub differenceSign : ℕ
+differenceSign = 0x48
+
+abbrev pub chooseSign : ℕ
+chooseSign = 0x49
+
 abbrev pub row : ℕ → ℕ → SignRow
 row size parts = record { size = size; parts = parts }
 
@@ -36,12 +48,17 @@ signRow b n =
     (cond (eqb b fieldSign) (row 2 1)
     (cond (eqb b callSign) (row 3 (1 + n))
     (cond (eqb b newSign) (row 3 n)
-    (row 0 0))))))
+    (cond (eqb b numberSign) (row 3 0)
+    (cond (eqb b sumSign) (row 1 2)
+    (cond (eqb b differenceSign) (row 1 2)
+    (cond (eqb b chooseSign) (row 1 3)
+    (row 0 0))))))))))
 
--- r is that row; no sign takes more than three bytes
+-- r is that row; no sign takes more than three bytes, and its expressions are few
 pub record InTable (b n : ℕ) (r : SignRow) : Type 0 where
   pub is : r ≡ signRow b n
   pub short : r .size ≤ 3
+  pub few : r .parts ≤ 3 + n
 
 abbrev pub signSize : ℕ → ℕ
 signSize b = signRow b 0 .size

@@ -16,13 +16,21 @@ pub const CALL: u8 = 0x44;
 
 pub const NEW: u8 = 0x45;
 
+pub const NUMBER: u8 = 0x46;
+
+pub const SUM: u8 = 0x47;
+
+pub const DIFFERENCE: u8 = 0x48;
+
+pub const CHOOSE: u8 = 0x49;
+
 // A row of the table. A byte that is no sign takes no bytes.
 pub struct SignRow {
     pub size: usize,
     pub parts: usize,
 }
 
-// The row of b, where n is the count that a sign of three bytes has. A call has its receiver besides.
+// The row of b, where n is the second byte after it, the count that a call and a new object have. A call has its receiver besides.
 pub fn sign_row(b: u8, n: u8) -> SignRow
     ensures { λ r. ⌜ InTable b n r ⌝ }
 {
@@ -45,6 +53,18 @@ pub fn sign_row(b: u8, n: u8) -> SignRow
     if b == NEW {
         let parts = n as usize;
         return SignRow { size: 3, parts };
+    }
+    if b == NUMBER {
+        return SignRow { size: 3, parts: 0 };
+    }
+    if b == SUM {
+        return SignRow { size: 1, parts: 2 };
+    }
+    if b == DIFFERENCE {
+        return SignRow { size: 1, parts: 2 };
+    }
+    if b == CHOOSE {
+        return SignRow { size: 1, parts: 3 };
     }
     SignRow { size: 0, parts: 0 }
 }

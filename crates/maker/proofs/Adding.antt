@@ -8,7 +8,7 @@ use mathlib.Core.Option.{Option, none, some, Option·none-ne-some}
 use lib.ListN.{length, getElem?, length-map, length-append, List·getD-append, List·getD-eq-default}
 use lib.Seq.{getD-append-add}
 use Rattle.cofj.specs.Partial.{_>>=_}
-use Rattle.cofj.specs.Values.{Ref, obj, mark, undet, Node, node, Graph, graph, renameNode, nodeAt, refsAt, canon, make}
+use Rattle.cofj.specs.Values.{Ref, obj, leaf, Node, node, Graph, graph, renameNode, nodeAt, refsAt, canon, make}
 use Rattle.cofj.specs.Unfolding.{object, child, follow, Same, InRange, AllWhole}
 use Rattle.cofj.proofs.Trees.{renamed-same, same-cls, same-count, same-child, same-rename}
 use Rattle.cofj.proofs.Canon.{rename-id}
@@ -61,8 +61,7 @@ module _ (top : Node) (ns : List Node)
   -- ---- trees
   inside : (r : Ref) → InRange (length ns) r → (k : ℕ) (r′ : Ref) → child ns r k ≡ some r′ → InRange (length ns) r′
   inside (obj i) q k r′ z = inner i k r′ z
-  inside (mark l) q k r′ z = absurd (Option·none-ne-some r′ z)
-  inside undet q k r′ z = absurd (Option·none-ne-some r′ z)
+  inside (leaf l) q k r′ z = absurd (Option·none-ne-some r′ z)
 
   pub old-tree : (r : Ref) → InRange (length ns) r → (p : List ℕ) → follow (more ns top) r p ≡ follow ns r p
   old-tree r h p =

@@ -5,22 +5,24 @@ use native.Mathlib.Omega.{arith}
 use native.Mathlib.Decide.{decLt, ℕ-discrete}
 use mathlib.Core.Path.{_≡_, refl, sym, ap, _∙_, subst}
 use mathlib.Core.List.{List}
-use lib.ListN.{length, getD, set}
-use Rattle.canon.specs.Figures.{objectSize, headSize, firstLeaf, firstMark, capacity, countAt, levelAt, blockSize}
-use Rattle.canon.specs.Layout.{countIn, levelIn, objectsIn, Inside, Outside, ended}
-use Rattle.canon.specs.Tables.{copied, Lifted}
+use lib.ListN.{length, getD}
+use Rattle.canon.specs.Figures.{objectSize, headSize, codeCount, numbersAt, firstLeaf, firstMark, capacity, countAt, levelAt, blockSize, threeBytes}
+use Rattle.canon.specs.Layout.{Packed, countIn, levelIn, objectsIn, Inside, Outside, ended}
+use Rattle.canon.specs.Tables.{Eight, Carried, turned, copied, Lifted}
 use Rattle.canon.specs.Numbers.{Levels}
-use Rattle.canon.proofs.Nodes.{code-low}
-use Rattle.canon.proofs.Nodes.{ended-size, ended-below, ended-above, ended-count, ended-level, ended-reach}
-use Rattle.canon.proofs.Lifts.{copy-plain, copy-turned, lift-none, lift-more}
+use Rattle.canon.proofs.Nodes.{code-low, ended-size, ended-below, ended-above, ended-count, ended-level, ended-reach}
+use Rattle.canon.proofs.Lifts.{copy-plain, copy-rest, copy-turned}
+use Rattle.maker.specs.Adding.{objectOf}
 use Rattle.maker.specs.Sorting.{turnIn}
 use Rattle.maker.specs.Joining.{numbersOf, New, NewAmong, Placing, Laid, Extended}
+use Rattle.maker.proofs.Codes.{object-class, object-count, object-code, codes-join}
+use Rattle.maker.proofs.Bytes.{object-rest}
 use Rattle.maker.proofs.Enters.{other-byte, other-inside}
 use Rattle.maker.proofs.Numberings.{turn-is}
 
 -- ---- one object
 -- its codes are in reach of the table
-pub put-code : (W : List ℕ) (src x n : ℕ) → Inside W src x → n ≡ capacity → (k : ℕ) → 2 ≤ k → k < objectSize → getD W (blockSize * src + objectSize * x + k) 0 < firstLeaf → getD W (blockSize * src + objectSize * x + k) 0 < n
+pub put-code : (W : List ℕ) (src x n : ℕ) → Inside W src x → n ≡ capacity → (k : ℕ) → 2 ≤ k → k < numbersAt → getD W (blockSize * src + objectSize * x + k) 0 < firstLeaf → getD W (blockSize * src + objectSize * x + k) 0 < n
 unfolding objectsIn
 put-code W src x n ib long k l h c =
     let z : blockSize * src + objectSize * x + k ≡ blockSize * src + objectSize * x + headSize + (k - 2) = omega arith in
@@ -28,42 +30,40 @@ put-code W src x n ib long k l h c =
     rw z (code-low W (blockSize * src) (countIn W src) (ib .block .packed) x (ib .low) (ib .block .whole) (k - 2) (omega arith) (rw z at c)) in
     omega (arith, ib .block .small)
 
-module _ (W : List ℕ) (src x host y : ℕ) (T : List ℕ) (ib : Inside W src x) (apart : (src ≡ host) → ⊥) (few : y < capacity) (room : blockSize * host + blockSize ≤ length W) (long : length T ≡ capacity) where
-  module _ (p q : ℕ) (ep : p ≡ blockSize * src + objectSize * x) (eq : q ≡ blockSize * host + objectSize * y) where
-    abbrev Begun : ℕ → List ℕ → Type 0
-    Begun k D = Lifted W p k (numbersOf T) W q D
+module _ (W : List ℕ) (src x host y : ℕ) (T : List ℕ) (ib : Inside W src x) (long : length T ≡ capacity) (p q : ℕ) (ep : p ≡ blockSize * src + objectSize * x) (eq : q ≡ blockSize * host + objectSize * y) where
+  pub put-done : (a b c d w : ℕ) → a ≡ turnIn T (getD W (p + 2) 0) → b ≡ turnIn T (getD W (p + 3) 0) → c ≡ turnIn T (getD W (p + 4) 0) → d ≡ turnIn T (getD W (p + 5) 0)
+      → a < 256 → b < 256 → c < 256 → w ≡ a + 256 * b + 65536 * c + threeBytes * d → (v : ℕ) → Eight W (p + numbersAt) v → (D : List ℕ) → Carried (objectOf (getD W p 0) (getD W (p + 1) 0) w v) 0 W q objectSize D
+      → Lifted W (blockSize * src + objectSize * x) objectSize (numbersOf T) W (blockSize * host + objectSize * y) D
+  put-done a b c d w ea eb ec ed la lb lc ew v g D put =
+      subst (λ (i : ℕ). Lifted W i objectSize (numbersOf T) W (blockSize * host + objectSize * y) D) ep (subst (λ (i : ℕ). Lifted W p objectSize (numbersOf T) W i D) eq
+      (record { same = put .same; here = here; below = put .below; above = put .above }))
+    where
+      code : (k : ℕ) → 2 ≤ k → k < numbersAt → (r : ℕ) → r ≡ turnIn T (getD W (p + k) 0) → r ≡ copied (numbersOf T) k (getD W (p + k) 0)
+      code k h l r e = copy-turned (turned (numbersOf T)) (getD W (p + k) 0) k r h l (e ∙ turn-is T (getD W (p + k) 0) (rw (← ep) at (put-code W src x (length T) ib long k h l)))
 
-    -- what is read is as before
-    read : (k : ℕ) (D : List ℕ) → Begun k D → k ≤ objectSize → (j : ℕ) → j < objectSize → getD D (p + j) 0 ≡ getD W (p + j) 0
-    read k D b h j l = go (decLt src host)
-      where
-        go : Dec (src < host) → getD D (p + j) 0 ≡ getD W (p + j) 0
-        go (yes z) = b .below (p + j) (omega (arith, ib .low, ib .block .small))
-        go (no z) = b .above (p + j) (omega (arith, apart, z))
+      byte : (k : ℕ) → k < objectSize → Dec (k < 1) → Dec (k < 2) → Dec (k < numbersAt) → getD (objectOf (getD W p 0) (getD W (p + 1) 0) w v) k 0 ≡ copied (numbersOf T) k (getD W (p + k) 0)
+      byte k h (yes l) m n =
+          let z : k ≡ 0 = omega arith in
+          let u : p + 0 ≡ p = omega arith in
+          rw (z, u) (object-class (getD W p 0) (getD W (p + 1) 0) w v ∙ copy-plain (turned (numbersOf T)) (getD W p 0) 0 (omega arith))
+      byte k h (no l) (yes m) n =
+          let z : k ≡ 1 = omega (arith, l) in
+          rw z (object-count (getD W p 0) (getD W (p + 1) 0) w v ∙ copy-plain (turned (numbersOf T)) (getD W (p + 1) 0) 1 (omega arith))
+      byte k h (no l) (no m) (yes n) =
+          let z : 2 + (k - 2) ≡ k = omega (arith, m) in
+          subst (λ (i : ℕ). getD (objectOf (getD W p 0) (getD W (p + 1) 0) w v) i 0 ≡ copied (numbersOf T) i (getD W (p + i) 0)) z
+          (object-code (getD W p 0) (getD W (p + 1) 0) w v (k - 2) (omega (arith, m))
+          ∙ codes-join a b c d w la lb lc ew (λ j r. r ≡ copied (numbersOf T) (2 + j) (getD W (p + (2 + j)) 0))
+          (code 2 (omega arith) (omega arith) a ea) (code 3 (omega arith) (omega arith) b eb) (code 4 (omega arith) (omega arith) c ec) (code 5 (omega arith) (omega arith) d ed) (k - 2) (omega (arith, m)))
+      byte k h (no l) (no m) (no n) =
+          object-rest W p v g (subst (Packed W) (sym ep) (ib .block .packed x (ib .low))) (getD W p 0) (getD W (p + 1) 0) w k (omega (arith, n)) h
+          ∙ copy-rest (turned (numbersOf T)) (getD W (p + k) 0) k (omega (arith, n))
 
-    abbrev put : ℕ → ℕ → ℕ → ℕ → List ℕ
-    put a b c d = set (set (set (set (set (set W q (getD W p 0)) (q + 1) (getD (set W q (getD W p 0)) (p + 1) 0)) (q + 2) a) (q + 3) b) (q + 4) c) (q + 5) d
-
-    pub put-done : (a b c d : ℕ) → a ≡ turnIn T (getD W (p + 2) 0) → b ≡ turnIn T (getD W (p + 3) 0) → c ≡ turnIn T (getD W (p + 4) 0) → d ≡ turnIn T (getD W (p + 5) 0)
-        → Lifted W (blockSize * src + objectSize * x) objectSize (numbersOf T) W (blockSize * host + objectSize * y) (put a b c d)
-    put-done a b c d ea eb ec ed =
-        let N = numbersOf T in
-        let z : q + 0 ≡ q = omega arith in
-        let u : p + 0 ≡ p = omega arith in
-        let l : q + objectSize ≤ length W = omega arith in
-        let b1 : Begun 1 (set W q (getD W p 0)) =
-        rw z at (lift-more W p 0 N W q W (getD W p 0) objectSize (lift-none W p N W q) (omega arith) l (ap (λ (i : ℕ). getD W i 0) (sym u) ∙ copy-plain N (getD W (p + 0) 0) 0 (omega arith))) in
-        let b2 : Begun 2 _ = lift-more W p 1 N W q _ _ objectSize b1 (omega arith) l (read 1 _ b1 (omega arith) 1 (omega arith) ∙ copy-plain N (getD W (p + 1) 0) 1 (omega arith)) in
-        let b3 : Begun 3 _ = lift-more W p 2 N W q _ a objectSize b2 (omega arith) l (code 2 (omega arith) (omega arith) a ea) in
-        let b4 : Begun 4 _ = lift-more W p 3 N W q _ b objectSize b3 (omega arith) l (code 3 (omega arith) (omega arith) b eb) in
-        let b5 : Begun 5 _ = lift-more W p 4 N W q _ c objectSize b4 (omega arith) l (code 4 (omega arith) (omega arith) c ec) in
-        let b6 : Begun objectSize _ = lift-more W p 5 N W q _ d objectSize b5 (omega arith) l (code 5 (omega arith) (omega arith) d ed) in
-        subst (λ (i : ℕ). Lifted W i objectSize N W (blockSize * host + objectSize * y) (put a b c d)) ep (subst (λ (i : ℕ). Lifted W p objectSize N W i (put a b c d)) eq b6)
-      where
-        code : (k : ℕ) → 2 ≤ k → k < objectSize → (r : ℕ) → r ≡ turnIn T (getD W (p + k) 0) → r ≡ copied (numbersOf T) (k % objectSize) (getD W (p + k) 0)
-        code k h l r e =
-            let z : k % objectSize ≡ k = omega arith in
-            rw z (copy-turned (numbersOf T) (getD W (p + k) 0) k r h (e ∙ turn-is T (getD W (p + k) 0) (rw (← ep) at (put-code W src x (length T) ib long k h l))))
+      here : (k : ℕ) → k < objectSize → getD D (q + k) 0 ≡ copied (numbersOf T) (k % objectSize) (getD W (p + k) 0)
+      here k h =
+          let z : k % objectSize ≡ k = omega arith in
+          let u : 0 + k ≡ k = omega arith in
+          rw z (rw u at (put .here k h) ∙ byte k h (decLt k 1) (decLt k 2) (decLt k numbersAt))
 
 -- ---- all new objects
 pub laid-none : (W : List ℕ) (src host : ℕ) (T F : List ℕ) → Laid W src host T F 0 W
@@ -139,25 +139,25 @@ module _ (W : List ℕ) (src host : ℕ) (T F : List ℕ) (pl : Placing W src ho
 
   -- counted
   module _ (top : ℕ) (na : NewAmong (countIn W src) F top) (m : ℕ) (tm : countIn W host ≤ m) (few : m ≤ capacity) (D : List ℕ) (ld : Laid W src host T F top D)
-      (k : ℕ) (lv : Levels D (blockSize * host + objectSize * getD W (blockSize * host + countAt) 0) (objectSize * (m - getD W (blockSize * host + countAt) 0)) k) (h : ℕ) (lh : getD W (blockSize * host + levelAt) 0 ≤ h) (kh : k ≤ h) where
+      (k : ℕ) (lv : Levels D (blockSize * host + objectSize * getD W (blockSize * host + countAt) 0) (m - getD W (blockSize * host + countAt) 0) k) (h : ℕ) (lh : getD W (blockSize * host + levelAt) 0 ≤ h) (kh : k ≤ h) where
     long : blockSize * host + blockSize ≤ length D
     long = omega (arith, ld .same, pl .target .room)
 
     byte : (p : ℕ) → p < blockSize * host + countAt → getD (ended D host m h m) p 0 ≡ getD D p 0
     byte = ended-below D host m h m long
 
-    level : (q : ℕ) → q < objectSize * m → Dec (q < objectSize * getD W (blockSize * host + countAt) 0) → getD D (blockSize * host + q) 0 < firstMark + h
+    level : (i f : ℕ) → i < m → f < codeCount → Dec (i < getD W (blockSize * host + countAt) 0) → getD D (blockSize * host + objectSize * i + headSize + f) 0 < firstMark + h
     unfolding countIn levelIn
-    level q l (yes z) = omega (arith, ld .below (blockSize * host + q) (omega arith), pl .target .level q z)
-    level q l (no z) =
-        let e : blockSize * host + q ≡ blockSize * host + objectSize * getD W (blockSize * host + countAt) 0 + (q - objectSize * getD W (blockSize * host + countAt) 0) = omega (arith, z) in
-        omega (arith, ap (λ (p : ℕ). getD D p 0) e, lv .below (q - objectSize * getD W (blockSize * host + countAt) 0) (omega (arith, z)))
+    level i f l u (yes z) = omega (arith, ld .below (blockSize * host + objectSize * i + headSize + f) (omega arith), pl .target .level i f z u)
+    level i f l u (no z) =
+        let e : blockSize * host + objectSize * i + headSize + f ≡ blockSize * host + objectSize * getD W (blockSize * host + countAt) 0 + objectSize * (i - getD W (blockSize * host + countAt) 0) + headSize + f = omega (arith, z) in
+        omega (arith, ap (λ (p : ℕ). getD D p 0) e, lv .below (i - getD W (blockSize * host + countAt) 0) f (omega (arith, z)) u)
 
     pub extend-done : Extended W src host T F m (ended D host m h m)
     extend-done = record {
       count = ended-count D host m h m long;
       reach = ended-reach D host m h m long;
-      level = λ q l. omega (arith, byte (blockSize * host + q) (omega arith), ended-level D host m h m long, level q l (decLt q (objectSize * getD W (blockSize * host + countAt) 0)));
+      level = λ i f l u. omega (arith, byte (blockSize * host + objectSize * i + headSize + f) (omega arith), ended-level D host m h m long, level i f l u (decLt i (getD W (blockSize * host + countAt) 0)));
       here = λ x j l n i. byte _ (omega (arith, pl .numbered .low x l n, pl .numbered .high x l n)) ∙ laid-all _ D ld na .here x j l n i;
       old = λ q l. byte _ (omega arith) ∙ ld .below _ (omega arith);
       outside = record {

@@ -1,5 +1,5 @@
--- Parts brought into the host: one law for each return of `import_fieldless`, `import_object`, `import_part` and `bring_parts`.
--- Not here: an object entered (Enters), the new object over the parts (Tries).
+-- Parts brought into the host: values in a block that has grown, and one law for each return of `bring_parts`.
+-- Not here: one part (Imported), the new object over the parts (Tries).
 use Prim.Native.Nat.{ℕ, zero, suc, _+_, _-_, _*_, _%_, _<_, _≤_}
 use native.Mathlib.Omega.{arith}
 use native.Mathlib.Decide.{decLt, ℕ-discrete}
@@ -7,176 +7,32 @@ use mathlib.Core.Path.{_≡_, refl, sym, ap, ap₂, _∙_, subst}
 use mathlib.Core.Bool.{cond}
 use lib.Dec.{leb}
 use mathlib.Core.List.{List, [], _∷_, map}
-use mathlib.Core.Logic.{⊎-elim}
 use mathlib.Core.Option.{none, some}
 use lib.ListN.{length, getD, take}
-use Rattle.cofj.specs.Values.{Ref, obj, mark, undet, Node, Graph, make}
+use Rattle.cofj.specs.Values.{obj, Node, Graph, make}
 use Rattle.cofj.specs.Unfolding.{follow, Same, InRange}
 use Rattle.cofj.proofs.Unique.{same-canon}
-use Rattle.canon.specs.Figures.{objectSize, headSize, codeCount, undeterminedCode, firstMark, markCount, capacity, blockSize, threeBytes}
-use Rattle.canon.specs.Layout.{refOf, countIn, objectsIn, graphAt, Block, Inside, Beneath}
-use Rattle.canon.specs.Tables.{Four}
-use Rattle.canon.proofs.Nodes.{ref-object, ref-undet, ref-mark}
+use Rattle.canon.specs.Figures.{codeCount, undeterminedCode, capacity, threeBytes}
+use Rattle.canon.specs.Layout.{refOf, countIn, objectsIn, graphAt, Inside, Beneath}
+use Rattle.canon.proofs.Nodes.{ref-object}
 use Rattle.values.specs.declared.ValueRef.{ValueRef}
-use Rattle.values.specs.declared.ValueRef.the-variants.{Object, Mark, Undetermined}
-use Rattle.values.specs.Layout.{valueOf, rawOf, Holds, HeldBy}
+use Rattle.values.specs.declared.ValueRef.the-variants.{Object, Mark, Number, Undetermined}
+use Rattle.values.specs.Layout.{valueOf, rawOf, Holds}
 use Rattle.values.proofs.Blocks.{size-in, whole-at}
-use Rattle.values.proofs.Trees.{in-larger, leaf-same}
+use Rattle.values.proofs.Trees.{in-larger}
 use Rattle.maker.specs.Figures.{noRoom, unusedCodes}
 use Rattle.maker.specs.declared.Slot.{Slot}
 use Rattle.maker.specs.declared.Made.{Made}
 use Rattle.maker.specs.Laying.{valuesFrom, PartsHeld, MadeIs}
-use Rattle.maker.specs.Adding.{codesOf, objectOf, Missed, partOf}
-use Rattle.maker.specs.Merging.{Grown, Fits, Entered, CodeAs, Imported, As, PartImported, Begun, AllWithin, RootBrought, PartsBrought}
-use Rattle.maker.specs.Sorting.{codeAt, TurnedAs}
-use Rattle.maker.specs.Crowds.{In, Within, BlockIn, Crowd}
-use Rattle.maker.proofs.Crowds.{in-same, within-same, crowd-joined}
-use Rattle.maker.proofs.Codes.{object-class, object-count, spare-codes, first-code, next-code, object-bytes}
+use Rattle.maker.specs.Adding.{codesOf, besideOf, partOf}
+use Rattle.maker.specs.Merging.{Grown, As, PartImported, Begun, AllWithin, RootBrought, PartsBrought}
+use Rattle.maker.specs.Crowds.{Within}
+use Rattle.maker.proofs.Crowds.{within-same}
+use Rattle.maker.proofs.Codes.{spare-codes, first-code, next-code}
 use Rattle.maker.proofs.Makes.{beneath-more}
-use Rattle.maker.proofs.Turns.{leaf-low, turned-fits, turned-same, turned-fresh}
-use Rattle.maker.proofs.Enters.{grown-more, grown-none, other-block, other-byte, other-inside}
+use Rattle.maker.proofs.Enters.{grown-more, grown-none, other-block, other-inside}
 
--- ---- the same codes in a block that has grown
-module _ (host : ℕ) (W W′ : List ℕ) (g : Grown host W W′) (src : ℕ) (apart : (src ≡ host) → ⊥) (sb : Block W src) where
-  pub code-grown : (c r : ℕ) → CodeAs W src c host r → CodeAs W′ src c host r
-  code-grown c r t = record {
-    low = in-larger (countIn W host) (countIn W′ host) (refOf r) (g .most) (t .low);
-    leaf = t .leaf;
-    same = λ p. ap (λ (x : List Node). follow x (refOf c) p) (other-block host W W′ (g .outside) src apart sb .0) ∙ t .same p ∙ g .trees (refOf r) (t .low) p;
-  }
-
-  -- an object turned
-  pub turned-grown : (i : ℕ) (B : List ℕ) → i < countIn W src → TurnedAs W src i host B → TurnedAs W′ src i host B
-  turned-grown i B h t = record {
-    cls = t .cls ∙ sym (byte (blockSize * src + objectSize * i) (omega arith) (omega (arith, sb .small)));
-    count = t .count ∙ sym (byte (blockSize * src + objectSize * i + 1) (omega arith) (omega (arith, sb .small)));
-    code = λ f l. subst (λ (c : ℕ). CodeAs W′ src c host (getD B (2 + f) 0)) (sym (byte (blockSize * src + objectSize * i + headSize + f) (omega arith) (omega (arith, sb .small)))) (code-grown _ _ (t .code f l));
-  }
-    where
-      byte : (p : ℕ) → blockSize * src ≤ p → p < blockSize * src + blockSize → getD W′ p 0 ≡ getD W p 0
-      byte = other-byte host W W′ (g .outside) src apart
-
--- ---- a part
-module _ (W : List ℕ) (b i base host : ℕ) (ib : Inside W b i) (bg : Begun W base host) where
-  small-object : refOf i ≡ obj i
-  small-object = ref-object i (omega (arith, ib .low, ib .block .small))
-
-  pub object-base : b ≡ base → PartImported W (Object i b) host W i
-  object-base e =
-      let l : i < countIn W base = omega (arith, ib .low, ap (countIn W) e) in
-      record {
-        grown = grown-none host W (bg .target);
-        like = λ _. record {
-          low = subst (InRange (countIn W host)) (sym small-object) (omega (arith, bg .most));
-          same = λ p. ap (λ (x : ℕ). follow (objectsIn W x) (obj i) p) e ∙ bg .trees (obj i) l p ∙ ap (λ (x : Ref). follow (objectsIn W host) x p) (sym small-object);
-        };
-        stand = λ _ g old at. old;
-        over = λ z. absurd (omega (arith, ib .low, ib .block .small));
-      }
-
-  pub object-host : b ≡ host → PartImported W (Object i b) host W i
-  object-host e = record {
-    grown = grown-none host W (bg .target);
-    like = λ _. record {
-      low = subst (InRange (countIn W host)) (sym small-object) (omega (arith, ib .low, ap (countIn W) e));
-      same = λ p. ap (λ (x : ℕ). follow (objectsIn W x) (obj i) p) e ∙ ap (λ (x : Ref). follow (objectsIn W host) x p) (sym small-object);
-    };
-    stand = λ _ g old at. old;
-    over = λ z. absurd (omega (arith, ib .low, ib .block .small));
-  }
-
-  module _ (apart : (b ≡ host) → ⊥) where
-    pub object-other : (W′ : List ℕ) (r : ℕ) → Imported W b i host W′ r → PartImported W (Object i b) host W′ r
-    object-other W′ r im = record {
-      grown = im .grown;
-      like = λ d. record {
-        low = im .like d .low;
-        same = λ p.
-            ap (λ (x : Ref). follow (objectsIn W b) x p) (sym small-object)
-            ∙ ap (λ (x : List Node). follow x (refOf i) p) (sym (other-block host W W′ (im .grown .outside) b apart (ib .block) .0)) ∙ im .like d .same p;
-      };
-      stand = λ d g old at. im .stand d g old (record { path = at .path; tree = at .tree });
-      over = λ z g old at. im .over z g old (record { path = at .path; tree = at .tree });
-    }
-
--- ---- an object without fields
-module _ (W : List ℕ) (b i host : ℕ) (ib : Inside W b i) (bk : Block W host) (apart : (b ≡ host) → ⊥) (fieldless : getD W (blockSize * b + objectSize * i + 1) 0 ≡ 0) (w : ℕ) (f : Four W (blockSize * b + objectSize * i + 2) w) where
-  abbrev fieldless-object : List ℕ
-  fieldless-object = objectOf (getD W (blockSize * b + objectSize * i) 0) 0 w
-
-  fieldless-code : (k : ℕ) → k < codeCount → (codeAt W b i k ≡ undeterminedCode) × (getD fieldless-object (2 + k) 0 ≡ undeterminedCode)
-  fieldless-code k l =
-      let z : blockSize * b + objectSize * i + (2 + k) ≡ blockSize * b + objectSize * i + headSize + k = omega arith in
-      let s : getD W (blockSize * b + objectSize * i + (2 + k)) 0 ≡ undeterminedCode = ib .block .packed i (ib .low) .spare (2 + k) (omega (arith, fieldless)) (omega arith) in
-      (rw z at s, sym (object-bytes W (blockSize * b + objectSize * i) w f (2 + k) (omega arith) ∙ ap (λ (m : ℕ). getD (objectOf (getD W (blockSize * b + objectSize * i) 0) m w) (2 + k) 0) fieldless) ∙ s)
-
-  fieldless-turned : TurnedAs W b i host fieldless-object
-  fieldless-turned = record {
-    cls = object-class _ 0 w;
-    count = object-count _ 0 w ∙ sym fieldless;
-    code = λ k l. rw (fieldless-code k l .0, fieldless-code k l .1) (record {
-      low = leaf-low (countIn W host) undeterminedCode (omega arith);
-      leaf = λ _. refl;
-      same = leaf-same (objectsIn W b) (objectsIn W host) (refOf undeterminedCode) (leaf-low 0 undeterminedCode (omega arith));
-    });
-  }
-
-  pub fieldless-fits : Fits W host (objectOf (getD W (blockSize * b + objectSize * i) 0) 0 w)
-  fieldless-fits = turned-fits W b i host fieldless-object ib bk fieldless-turned
-
-  begun : Begun W host host
-  begun = record { source = bk; target = bk; most = omega arith; trees = λ r l p. refl }
-
-  pub fieldless-imported : (W′ : List ℕ) (r : ℕ) → Entered W host (objectOf (getD W (blockSize * b + objectSize * i) 0) 0 w) W′ r → PartImported W (Object i b) host W′ r
-  fieldless-imported W′ r en = object-other W b i host host ib begun apart W′ r (record {
-    grown = en .grown;
-    like = like;
-    stand = λ d g old at y h. ⊎-elim (λ l. in-same g (objectsIn W host) (objectsIn W′ host) y y (old y l) (en .grown .trees (obj y) l)) (λ e. here d g at y e) (en .from y h);
-    over = λ z g old at. full z g old at;
-  })
-    where
-      like : ((r ≡ noRoom) → ⊥) → CodeAs W′ b i host r
-      like d =
-          turned-same W′ b i host fieldless-object (other-inside host W W′ (en .grown .outside) b apart i ib) (en .grown .block)
-          (turned-grown host W W′ (en .grown) b apart (ib .block) i fieldless-object (ib .low) fieldless-turned) r (en .standing d)
-
-      here : ((r ≡ noRoom) → ⊥) → (g : Graph) → In (objectsIn W b) i g → (y : ℕ) → y ≡ r → In (objectsIn W′ host) y g
-      here d g at y e = in-same g (objectsIn W b) (objectsIn W′ host) i y at (λ p.
-          ap (λ (x : List Node). follow x (obj i) p) (sym (other-block host W W′ (en .grown .outside) b apart (ib .block) .0))
-          ∙ ap (λ (x : Ref). follow (objectsIn W′ b) x p) (sym (ref-object i (omega (arith, ib .low, ib .block .small)))) ∙ like d .same p
-          ∙ ap (λ (x : Ref). follow (objectsIn W′ host) x p) (ref-object r (omega (arith, en .standing d .low, en .grown .block .small)) ∙ ap obj (sym e)))
-
-      -- the host is full, and does not have it
-      full : r ≡ noRoom → (g : Graph) → BlockIn W host g → In (objectsIn W b) i g → Crowd g
-      full z g old at =
-          let f = en .full z in
-          crowd-joined (objectsIn W b) (objectsIn W host) g (countIn W host) (size-in W host bk) (bk .distinct) old (λ _. i)
-          (λ k h l. turned-fresh W b i host fieldless-object ib bk fieldless-turned (subst (Missed W host fieldless-object) (sym (f .0)) (f .1)))
-          (λ k h l. at) (λ k l hk lk hl ll e. omega (arith, f .0))
-
-module _ (W : List ℕ) (v : ValueRef) (base host : ℕ) (h : Holds W v) (bg : Begun W base host) where
-  pub part-object : (b i : ℕ) (W′ : List ℕ) (r : ℕ) → v ≡ Object i b → PartImported W (Object i b) host W′ r → PartImported W v host W′ r
-  part-object b i W′ r e p = subst (λ (x : ValueRef). PartImported W x host W′ r) (sym e) p
-
-  pub part-small : (k : ℕ) → v ≡ Mark k → k < markCount
-  part-small k e = let z : k < markCount = subst (HeldBy W) e (h .held) in z
-
-  pub part-mark : (k : ℕ) → v ≡ Mark k → PartImported W v host W (firstMark + k)
-  part-mark k e = rw e (record {
-    grown = grown-none host W (bg .target);
-    like = λ _. record { low = leaf-low (countIn W host) (firstMark + k) (omega arith); same = λ p. leaf-same [] (objectsIn W host) (mark k) tt p ∙ ap (λ (x : Ref). follow (objectsIn W host) x p) (sym (ref-mark k)) };
-    stand = λ _ g old at. old;
-    over = λ z. absurd (omega arith);
-  })
-
-  pub part-undet : v ≡ Undetermined → PartImported W v host W undeterminedCode
-  part-undet e = rw e (record {
-    grown = grown-none host W (bg .target);
-    like = λ _. record { low = leaf-low (countIn W host) undeterminedCode (omega arith); same = λ p. leaf-same [] (objectsIn W host) undet tt p ∙ ap (λ (x : Ref). follow (objectsIn W host) x p) (sym ref-undet) };
-    stand = λ _ g old at. old;
-    over = λ z. absurd (omega arith);
-  })
-
+-- ---- their values
 pub same-values : (W W′ : List ℕ) (n : ℕ) (ps : List Slot) → ((i : ℕ) → i < n → valueOf W′ (partOf ps i) ≡ valueOf W (partOf ps i)) → map (λ s. valueOf W′ (s .r)) (take n ps) ≡ map (λ s. valueOf W (s .r)) (take n ps)
 same-values W W′ zero ps h = refl
 same-values W W′ (suc n) [] h = refl
@@ -191,6 +47,7 @@ module _ (host : ℕ) (W W′ : List ℕ) (g : Grown host W W′) where
       go (yes e) = subst (λ (x : ℕ). Inside W′ x i) (sym e) (record { block = g .block; low = omega (arith, h .held .low, ap (countIn W) e, g .most) })
       go (no n) = other-inside host W W′ (g .outside) b n i (h .held)
   part-held (Mark k) h = record { held = h .held }
+  part-held (Number x) h = record { held = h .held }
   part-held Undetermined h = record { held = tt }
 
   part-tree : (v : ValueRef) → Holds W v → Same (rawOf W v .nodes) (rawOf W v .root) (rawOf W′ v .nodes) (rawOf W′ v .root)
@@ -202,6 +59,7 @@ module _ (host : ℕ) (W W′ : List ℕ) (g : Grown host W W′) where
           ∙ ap (λ (x : ℕ). follow (objectsIn W′ x) (obj i) p) (sym e)
       go (no n) = ap (λ (x : List Node). follow x (obj i) p) (sym (other-block host W W′ (g .outside) b n (h .held .block) .0))
   part-tree (Mark k) h p = refl
+  part-tree (Number x) h p = refl
   part-tree Undetermined h p = refl
 
   part-value : (v : ValueRef) → Holds W v → valueOf W′ v ≡ valueOf W v
@@ -210,6 +68,7 @@ module _ (host : ℕ) (W W′ : List ℕ) (g : Grown host W W′) where
       same-canon (graphAt W′ b i) (graphAt W b i) (whole-at W′ b (h′ .held .block) i (h′ .held .low)) (whole-at W b (h .held .block) i (h .held .low))
       (λ p. sym (part-tree (Object i b) h p))
   part-value (Mark k) h = refl
+  part-value (Number x) h = refl
   part-value Undetermined h = refl
 
   pub parts-held : (ps : List Slot) (n : ℕ) → PartsHeld W ps n → PartsHeld W′ ps n
@@ -238,8 +97,9 @@ module _ (host : ℕ) (W W′ : List ℕ) (g : Grown host W W′) where
 
   pub like-grown : (W₀ : List ℕ) (v : ValueRef) (r : ℕ) → As W₀ v W host r → As W₀ v W′ host r
   like-grown W₀ v r a = record {
-    low = in-larger (countIn W host) (countIn W′ host) (refOf r) (g .most) (a .low);
-    same = λ p. a .same p ∙ g .trees (refOf r) (a .low) p;
+    low = in-larger (countIn W host) (countIn W′ host) (refOf r (besideOf v)) (g .most) (a .low);
+    plain = a .plain;
+    same = λ p. a .same p ∙ g .trees (refOf r (besideOf v)) (a .low) p;
   }
 
 -- ---- the parts brought
@@ -262,7 +122,7 @@ module _ (W : List ℕ) (ps : List Slot) (n i : ℕ) (W1 : List ℕ) (host w : �
         where
           go : Dec (0 < n) → ⊥
           go (yes l) =
-              let c : capacity < countIn W1 host = subst (InRange (countIn W1 host)) (ap refOf (first-byte w ∙ z) ∙ ref-object capacity (omega arith)) (b .done 0 (omega arith) .low) in
+              let c : capacity < countIn W1 host = subst (InRange (countIn W1 host)) (ap (λ (c : ℕ). refOf c (besideOf (partOf ps (i + 0)))) (first-byte w ∙ z) ∙ ref-object capacity (besideOf (partOf ps (i + 0))) (omega arith)) (b .done 0 (omega arith) .low) in
               omega (arith, g .block .small)
           go (no l) = let c : w % 256 ≡ undeterminedCode = sym (first-byte w) ∙ b .spare 0 (omega (arith, l)) (omega arith) in omega arith
 
@@ -285,6 +145,7 @@ module _ (W : List ℕ) (ps : List Slot) (n i : ℕ) (W1 : List ℕ) (host w : �
         now-like : As W v W2 host r
         now-like = record {
           low = pi .like d .low;
+          plain = pi .like d .plain;
           same = λ p. part-tree host W W1 g v part-held-in p ∙ pi .like d .same p;
         }
 

@@ -9,8 +9,8 @@ use mathlib.Core.List.{List, [], _∷_, _++_, append-assoc}
 use mathlib.Core.Option.{Option, none, some, Option·none-ne-some}
 use lib.ListN.{length, getD, getElem?}
 use Rattle.cofj.specs.Partial.{_>>=_}
-use Rattle.cofj.specs.Values.{Ref, obj, mark, undet, Node, Graph, graph, nodeAt, refsAt, make}
-use Rattle.cofj.specs.Unfolding.{object, opened, unknown, child, follow, Same, SameTree, InRange, Whole, AllWhole}
+use Rattle.cofj.specs.Values.{Ref, obj, leaf, Node, Graph, graph, nodeAt, refsAt, make}
+use Rattle.cofj.specs.Unfolding.{object, atLeaf, child, follow, Same, SameTree, InRange, Whole, AllWhole}
 use Rattle.cofj.proofs.Operations.{make-field}
 use Rattle.canon.specs.Figures.{capacity}
 use Rattle.canon.specs.Layout.{Distinct}
@@ -65,13 +65,11 @@ module _ (ns : List Node) (x : ℕ) (g : Graph) (w : Whole g) where
   -- the reference at the end of the path
   end-at : (r : Ref) → InRange (length (g .nodes)) r → ((q : List ℕ) → follow ns (obj x) q ≡ follow (g .nodes) r q) → Numbered ns x g
   end-at (obj i) h e = record { at = i; low = h; same = e }
-  end-at (mark k) h e = let z : some (object _ _) ≡ some (opened k) = e [] in absurd (let u : _≡_ {A = ℕ} 0 1 = cc in omega arith)
-  end-at undet h e = let z : some (object _ _) ≡ some unknown = e [] in absurd (let u : _≡_ {A = ℕ} 0 1 = cc in omega arith)
+  end-at (leaf l) h e = let z : some (object _ _) ≡ some (atLeaf l) = e [] in absurd (let u : _≡_ {A = ℕ} 0 1 = cc in omega arith)
 
   child-low : (r : Ref) (f : ℕ) (s : Ref) → child (g .nodes) r f ≡ some s → InRange (length (g .nodes)) s
   child-low (obj i) f s e = w .inner i f s e
-  child-low (mark k) f s e = absurd (Option·none-ne-some s e)
-  child-low undet f s e = absurd (Option·none-ne-some s e)
+  child-low (leaf l) f s e = absurd (Option·none-ne-some s e)
 
   along : (p : List ℕ) (r : Ref) → InRange (length (g .nodes)) r → ((q : List ℕ) → follow ns (obj x) q ≡ follow (g .nodes) r (p ++ q)) → Numbered ns x g
   along [] r h e = end-at r h e

@@ -15,13 +15,12 @@ use Rattle.cofj.specs.Values.{Ref, Node, nodeAt, refsAt}
 use Rattle.cofj.specs.Unfolding.{object, follow, Same, InRange}
 use Rattle.canon.specs.Figures.{objectSize, headSize, codeCount, firstLeaf, capacity, countAt, levelAt, reachAt, blockSize, threeBytes}
 use Rattle.canon.specs.Layout.{nodeIn, nodesIn, countIn, levelIn, reachIn, objectsIn, Block, Inside, Outside}
-use Rattle.canon.specs.Numbers.{Levels}
 use Rattle.canon.proofs.Nodes.{byteOf, packed-byte, length-nodes, at-nodes}
 use Rattle.values.proofs.Trees.{in-larger}
 use Rattle.values.proofs.Copies.{block-moves}
 use Rattle.values.proofs.Selecting.{unchanged}
 use Rattle.maker.specs.Figures.{noRoom}
-use Rattle.maker.specs.Adding.{codesOf, objectOf, Missed, Found, Appended, Added}
+use Rattle.maker.specs.Adding.{codesOf, objectOf, CodesLevel, Missed, Found, Appended, Added}
 use Rattle.maker.specs.Merging.{Grown, Fits, Entered, liesFrom, refersFrom}
 use Rattle.maker.proofs.Codes.{object-code}
 use Rattle.maker.proofs.Adding.{more, old-tree, at-new}
@@ -90,8 +89,13 @@ module _ (W : List ℕ) (host : ℕ) (T : List ℕ) (bk : Block W host) (ft : Fi
     unfolding countIn
     enter-missed ge = fd .miss ge
 
-  module _ (ms : Missed W host T (countIn W host)) (h : getD W (blockSize * host + countAt) 0 < capacity) (l : ℕ) (D : List ℕ) (lv : Levels T 0 objectSize l) (le : getD W (blockSize * host + levelAt) 0 ≤ l)
-      (a : Appended W host (getD W (blockSize * host + countAt) 0) T l D) where
+-- added
+module _ (W : List ℕ) (host c n w v : ℕ) (bk : Block W host) (ft : Fits W host (objectOf c n w v)) where
+  abbrev T : List ℕ
+  T = objectOf c n w v
+
+  module _ (ms : Missed W host (objectOf c n w v) (countIn W host)) (h : getD W (blockSize * host + countAt) 0 < capacity) (l : ℕ) (D : List ℕ) (lv : CodesLevel w l) (le : getD W (blockSize * host + levelAt) 0 ≤ l)
+      (a : Appended W host (getD W (blockSize * host + countAt) 0) (objectOf c n w v) l D) where
     abbrev t : ℕ
     t = getD W (blockSize * host + countAt) 0
 
@@ -114,7 +118,7 @@ module _ (W : List ℕ) (host : ℕ) (T : List ℕ) (bk : Block W host) (ft : Fi
 
     added : Added W host t T host D
     unfolding countIn
-    added = add-here W host T host t l bk refl lv le D refl a
+    added = add-here W host c n w v host t l bk refl lv le D refl a
 
     are : objectsIn D host ≡ more ns (nodeIn T 0)
     unfolding countIn objectsIn
@@ -130,7 +134,7 @@ module _ (W : List ℕ) (host : ℕ) (T : List ℕ) (bk : Block W host) (ft : Fi
         sym (old-tree (nodeIn T 0) ns inner above r (subst (λ (m : ℕ). InRange m r) (sym (length-nodes W (blockSize * host) t)) q) p)
         ∙ ap (λ (x : List Node). follow x r p) (sym are)
 
-    pub enter-new : Entered W host T D t
+    pub enter-new : Entered W host (objectOf c n w v) D (getD W (blockSize * host + countAt) 0)
     unfolding countIn
     enter-new = record {
       grown = record { outside = a .outside; block = grown-block; most = omega (arith, a .count); trees = kept-trees };
@@ -206,10 +210,10 @@ module _ (w f : ℕ) where
       go false ea false eb true ec q = at 2 (omega arith) ec
       go false ea false eb false ec q = at 3 (omega arith) q
 
-pub fresh-missed : (W : List ℕ) (host c n w : ℕ) → Block W host → Fits W host (objectOf c n w) → (b : Bool) → b ≡ refersFrom w (getD W (blockSize * host + reachAt) 0) → b ≡ true
-    → Missed W host (objectOf c n w) (countIn W host)
+pub fresh-missed : (W : List ℕ) (host c n w v : ℕ) → Block W host → Fits W host (objectOf c n w v) → (b : Bool) → b ≡ refersFrom w (getD W (blockSize * host + reachAt) 0) → b ≡ true
+    → Missed W host (objectOf c n w v) (countIn W host)
 unfolding reachIn
-fresh-missed W host c n w bk ft b eb h = record { none = none }
+fresh-missed W host c n w v bk ft b eb h = record { none = none }
   where
     fr : From w (getD W (blockSize * host + reachAt) 0)
     fr = refers-from w (getD W (blockSize * host + reachAt) 0) (sym eb ∙ h)
@@ -217,12 +221,11 @@ fresh-missed W host c n w bk ft b eb h = record { none = none }
     k : ℕ
     k = 2 + fr .place
 
-    none : (j : ℕ) → j < countIn W host → nodeIn W (blockSize * host + objectSize * j) ≡ nodeIn (objectOf c n w) 0 → ⊥
+    none : (j : ℕ) → j < countIn W host → nodeIn W (blockSize * host + objectSize * j) ≡ nodeIn (objectOf c n w v) 0 → ⊥
     none j l e =
-        let there : getD W (blockSize * host + objectSize * j + k) 0 ≡ byteOf (nodeIn W (blockSize * host + objectSize * j)) k = packed-byte W (blockSize * host + objectSize * j) (bk .packed j l) k (omega (arith, fr .low)) in
-        let here : getD (objectOf c n w) (0 + k) 0 ≡ byteOf (nodeIn (objectOf c n w) 0) k = packed-byte (objectOf c n w) 0 (ft .packed) k (omega (arith, fr .low)) in
         let z : blockSize * host + objectSize * j + headSize + fr .place ≡ blockSize * host + objectSize * j + k = omega arith in
         let y : 0 + k ≡ 2 + fr .place = omega arith in
         let same : getD W (blockSize * host + objectSize * j + headSize + fr .place) 0 ≡ getD (codesOf w) (fr .place) 0 =
-        ap (λ (x : ℕ). getD W x 0) z ∙ there ∙ ap (λ (x : Node). byteOf x k) e ∙ sym here ∙ ap (λ (x : ℕ). getD (objectOf c n w) x 0) y ∙ object-code c n w (fr .place) in
+        ap (λ (x : ℕ). getD W x 0) z ∙ packed-byte W (blockSize * host + objectSize * j) (bk .packed j l) k (omega (arith, fr .low)) ∙ ap (λ (x : Node). byteOf x k) e
+        ∙ sym (packed-byte (objectOf c n w v) 0 (ft .packed) k (omega (arith, fr .low))) ∙ ap (λ (x : ℕ). getD (objectOf c n w v) x 0) y ∙ object-code c n w v (fr .place) (fr .low) in
         absurd (omega (arith, fr .high, same, bk .reach j (fr .place) l (fr .low) (omega (arith, fr .object, same))))

@@ -1,5 +1,5 @@
 -- Laws of block 0 with one object without fields of each class.
-use Prim.Native.Nat.{ℕ, zero, suc, _+_, _-_, _*_, _/_, _%_, _≤_, _<_}
+use Prim.Native.Nat.{ℕ, zero, suc, _+_, _*_, _/_, _%_, _≤_, _<_}
 use native.Mathlib.Omega.{arith}
 use native.Mathlib.Decide.{decLt, ℕ-discrete}
 use mathlib.Core.Path.{_≡_, refl, sym, ap, _∙_, subst}
@@ -11,10 +11,10 @@ use borrow.Author.Tests.{eqb-true}
 use lib.ListN.{length, getD, getElem?, List·getD-eq-default}
 use Rattle.cofj.specs.Values.{Ref, Node, node, nodeAt, refsAt, canon, make}
 use Rattle.cofj.proofs.Trees.{same-cls}
-use Rattle.canon.specs.Figures.{objectSize, headSize, firstMark, objectsSize, countAt, levelAt, reachAt, blockSize}
+use Rattle.canon.specs.Figures.{objectSize, headSize, codeCount, undeterminedCode, objectsSize, countAt, levelAt, reachAt, blockSize}
 use Rattle.canon.specs.Layout.{nodeIn, Block, objectsIn, graphAt, countIn, levelIn, Beneath}
 use Rattle.canon.specs.Tables.{Carried}
-use Rattle.canon.proofs.Nodes.{length-nodes, at-nodes}
+use Rattle.canon.proofs.Nodes.{length-nodes, at-nodes, packed-same}
 use Rattle.values.specs.declared.ValueRef.the-variants.{Object}
 use Rattle.values.specs.Layout.{Holds}
 use Rattle.values.proofs.Kept.{object-kept}
@@ -26,7 +26,8 @@ use Rattle.maker.specs.Adding.{codesOf, objectOf}
 use Rattle.maker.specs.Fieldless.{fieldlessObject, Preset, Fieldless, LaidFieldless}
 use Rattle.maker.proofs.Makes.{made-here}
 use Rattle.maker.proofs.Wheres.{each-none}
-use Rattle.maker.proofs.Beside.{fieldless-root, fieldless-codes, no-parts, beside-value}
+use Rattle.maker.proofs.Finds.{root-none, numbers-none}
+use Rattle.maker.proofs.Beside.{fieldless-packed, no-parts, beside-value}
 
 -- ---- the table: a test of the numbers below n, and what it tells of each
 abbrev pub allTo : (ℕ → Bool) → ℕ → Bool
@@ -76,37 +77,27 @@ module _ (D : List ℕ) (room : blockSize ≤ length D) (ec : countIn D 0 ≡ pr
       go (yes h) = ap (λ (x : Node). x .refs) (node-fieldless i h)
       go (no h) = ap (λ (x : Node). x .refs) (List·getD-eq-default (objectsIn D 0) (node 0 []) {n = i} (omega (arith, h, ec, length-nodes D (blockSize * 0) (countIn D 0))))
 
-  fieldless-byte : (j k : ℕ) → j < presetCount → k < objectSize → getD (fieldlessObject j) k 0 < firstMark
-  fieldless-byte j k h l = go (ℕ-discrete k 0) (decLt k 2)
-    where
-      go : Dec (k ≡ 0) → Dec (k < 2) → getD (fieldlessObject j) k 0 < firstMark
-      go (yes e) d = rw e (omega arith)
-      go (no n) (yes q) = let e : k ≡ 1 = omega (arith, n) in rw e (omega arith)
-      go (no n) (no q) = let z : 0 + k ≡ k = omega arith in omega (arith, rw z at (fieldless-root D j .packed .spare k (omega (arith, q)) l))
+  -- each code is undetermined
+  fieldless-code : (j f : ℕ) → j < presetCount → f < codeCount → getD D (blockSize * 0 + objectSize * j + headSize + f) 0 ≡ undeterminedCode
+  fieldless-code j f h l =
+      let z : blockSize * 0 + objectSize * j + headSize + f ≡ blockSize * 0 + objectSize * j + (2 + f) = omega arith in
+      let y : 0 + (2 + f) ≡ 2 + f = omega arith in
+      rw z (each j h (2 + f) (omega arith) ∙ rw y at (fieldless-packed j .spare (2 + f) (omega arith) (omega arith)))
 
   fieldless-block : Block D 0
   unfolding objectsIn
   fieldless-block = record {
     room = omega arith;
     small = omega (arith, ec);
-    packed = λ i h. let l : i < presetCount = omega (arith, ec) in record {
-      count = omega (arith, no-fields i l);
-      spare = λ k a b. let z : 0 + k ≡ k = omega arith in each i l k b ∙ rw z at (fieldless-root D i .packed .spare k (omega (arith, no-fields i l)) b);
-    };
+    packed = λ i h. packed-same D (fieldlessObject i) (blockSize * 0 + objectSize * i) 0 (λ k b. let z : 0 + k ≡ k = omega arith in rw z (each i (omega (arith, ec)) k b)) (fieldless-packed i);
     whole = record { top = tt; inner = λ i f r e. absurd (Option·none-ne-some r (sym (ap (λ (rs : List Ref). getElem? rs f) (fieldless-refs i)) ∙ e)) };
     distinct = record {
       apart = λ i j h l e.
           let n : length (objectsIn D 0) ≡ presetCount = length-nodes D (blockSize * 0) (countIn D 0) ∙ ec in
           ap (λ (x : Node). x .cls) (sym (node-fieldless i (omega arith))) ∙ same-cls (objectsIn D 0) (objectsIn D 0) i j e ∙ ap (λ (x : Node). x .cls) (node-fieldless j (omega arith));
     };
-    level = λ q h.
-        let z : blockSize * 0 + q ≡ blockSize * 0 + objectSize * (q / objectSize) + (q - objectSize * (q / objectSize)) = omega arith in
-        omega (arith, ap (λ (p : ℕ). getD D p 0) z, each (q / objectSize) (omega (arith, ec)) (q - objectSize * (q / objectSize)) (omega arith), fieldless-byte (q / objectSize) (q - objectSize * (q / objectSize)) (omega (arith, ec)) (omega arith));
-    reach = λ i f h l c.
-        let m : i < presetCount = omega (arith, ec) in
-        let z : blockSize * 0 + objectSize * i + headSize + f ≡ blockSize * 0 + objectSize * i + (2 + f) = omega arith in
-        let y : 0 + (2 + f) ≡ 2 + f = omega arith in
-        absurd (omega (arith, ap (λ (p : ℕ). getD D p 0) z, each i m (2 + f) (omega arith), rw y at (fieldless-root D i .packed .spare (2 + f) (omega arith) (omega arith))));
+    level = λ i f h l. omega (arith, fieldless-code i f (omega (arith, ec)) l);
+    reach = λ i f h l c. absurd (omega (arith, fieldless-code i f (omega (arith, ec)) l));
   }
 
 pub fieldless-laid : (W P D : List ℕ) → Preset P → Carried P 0 W 0 reachAt D → blockSize ≤ length W → LaidFieldless W D
@@ -153,7 +144,7 @@ module _ (W : List ℕ) (b : Fieldless W) where
     fieldless-value : make c [] ≡ canon (graphAt W 0 c)
     unfolding valuesFrom countIn objectOf codesOf
     fieldless-value =
-        beside-value W c [] 0 unusedCodes (no-parts W) (fieldless-codes W) 0 (b .block) (each-none [] 0 0) c
+        beside-value W c [] 0 unusedCodes (no-parts W) (root-none W [] 0) 0 (numbers-none [] 0) (omega arith) 0 (b .block) (each-none [] 0 0) c
         (record { hit = λ _. fieldless-node c h; miss = λ l. absurd (omega (arith, b .count)) }) (omega (arith, b .count))
 
     pub fieldless-made : MadeIs W (make c []) dst W (Value (Object c 0))

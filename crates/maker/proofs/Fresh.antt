@@ -10,8 +10,8 @@ use mathlib.Core.Logic.{_⊎_, inl, inr, ⊎-elim}
 use mathlib.Core.Option.{Option, none, some, Option·none-ne-some}
 use lib.ListN.{length, getD, getElem?, length-map, List·getD-eq-default}
 use Rattle.cofj.specs.Partial.{_>>=_}
-use Rattle.cofj.specs.Values.{Ref, obj, mark, undet, Node, node, rename, renameNode, nodeAt, refsAt}
-use Rattle.cofj.specs.Unfolding.{object, opened, unknown, child, follow, Same, InRange}
+use Rattle.cofj.specs.Values.{Ref, obj, leaf, undet, Node, node, rename, renameNode, nodeAt, refsAt}
+use Rattle.cofj.specs.Unfolding.{object, atLeaf, child, follow, Same, InRange}
 use Rattle.cofj.proofs.Basics.{at-map}
 use Rattle.cofj.proofs.Trees.{renamed-same, same-child, same-count}
 use Rattle.canon.specs.Layout.{Distinct}
@@ -24,15 +24,14 @@ module _ (ps ns : List Node) (t : ℕ) (inner : (y f : ℕ) (s : Ref) → y < t 
   pub fresh-up : (x f z : ℕ) → getElem? (refsAt ps x) f ≡ some (obj z) → Fresh ps ns t z → Fresh ps ns t x
   fresh-up x f z e n = record {
     none = λ y h q.
-        let s : Ref = getD (refsAt ns y) f undet in
+        let s : Ref = getD (refsAt ns y) f (leaf undet) in
         let there : getElem? (refsAt ns y) f ≡ some s = some-at (refsAt ns y) f (omega (arith, at-some (refsAt ps x) f (obj z) e .1, same-count ps ns x y q)) in
         go s (inner y f s h there) (same-child ps ns (obj x) (obj y) q f (obj z) s e there);
   }
     where
       go : (s : Ref) → InRange t s → Same ps (obj z) ns s → ⊥
       go (obj w) h q = n .none w h q
-      go (mark k) h q = let d : some (object _ _) ≡ some (opened k) = q [] in absurd (let u : _≡_ {A = ℕ} 0 1 = cc in omega arith)
-      go undet h q = let d : some (object _ _) ≡ some unknown = q [] in absurd (let u : _≡_ {A = ℕ} 0 1 = cc in omega arith)
+      go (leaf l) h q = let d : some (object _ _) ≡ some (atLeaf l) = q [] in absurd (let u : _≡_ {A = ℕ} 0 1 = cc in omega arith)
 
 -- ---- many objects added: the host ns becomes ms, object x of ps, which New says to be one of them, object `to x` of it
 module _ (ps ns ms : List Node)
@@ -56,8 +55,7 @@ module _ (ps ns ms : List Node)
   module _ (fields : (x f z : ℕ) → New x → getElem? (refsAt ps x) f ≡ some (obj z) → New z ⊎ Told z) where
     inside : (r : Ref) → InRange (length ns) r → (k : ℕ) (r′ : Ref) → child ns r k ≡ some r′ → InRange (length ns) r′
     inside (obj i) q k r′ z = inner i k r′ z
-    inside (mark l) q k r′ z = absurd (Option·none-ne-some r′ z)
-    inside undet q k r′ z = absurd (Option·none-ne-some r′ z)
+    inside (leaf l) q k r′ z = absurd (Option·none-ne-some r′ z)
 
     -- what was there unfolds as before
     pub old-trees : (r : Ref) → InRange (length ns) r → (p : List ℕ) → follow ms r p ≡ follow ns r p
@@ -81,8 +79,7 @@ module _ (ps ns ms : List Node)
       where
         ref : (r : Ref) → getElem? (refsAt ps z) f ≡ some r → follow ps r p ≡ follow ms (rename to r) p
         ref (obj y) e = ih y (fields z f y n e)
-        ref (mark k) e = leaf-same ps ms (mark k) tt p
-        ref undet e = leaf-same ps ms undet tt p
+        ref (leaf l) e = leaf-same ps ms (leaf l) tt p
 
         go : (o : Option Ref) → getElem? (refsAt ps z) f ≡ o → o >>= (λ s. follow ps s p) ≡ (o >>= (λ s. some (rename to s))) >>= (λ s. follow ms s p)
         go none e = refl
@@ -98,8 +95,7 @@ module _ (ps ns ms : List Node)
       where
         back : (x : ℕ) → New x → (q : Ref) → getElem? (refsAt ps x) f ≡ some q → InRange (length ms) (rename to q)
         back x n (obj z) u = ⊎-elim (λ m. small z m) (λ w. omega (arith, w .low)) (fields x f z n u)
-        back x n (mark k) u = tt
-        back x n undet u = tt
+        back x n (leaf l) u = tt
 
         pick : (x : ℕ) → New x → (o : Option Ref) → getElem? (refsAt ps x) f ≡ o → o >>= (λ q. some (rename to q)) ≡ some r → InRange (length ms) r
         pick x n none u v = absurd (Option·none-ne-some r v)

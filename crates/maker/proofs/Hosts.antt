@@ -17,7 +17,7 @@ use Rattle.cofj.proofs.Operations.{make-whole}
 use Rattle.canon.specs.Figures.{codeCount, capacity, countAt, blockSize, spareBlock}
 use Rattle.canon.specs.Layout.{nodesIn, countIn, objectsIn, Block, Outside}
 use Rattle.values.specs.declared.ValueRef.{ValueRef}
-use Rattle.values.specs.declared.ValueRef.the-variants.{Object, Mark, Undetermined}
+use Rattle.values.specs.declared.ValueRef.the-variants.{Object, Mark, Number, Undetermined}
 use Rattle.values.specs.Layout.{Holds, Low, liesIn}
 use Rattle.values.specs.Tests.{any}
 use Rattle.values.specs.Operations.{Copied}
@@ -51,6 +51,10 @@ pub lies-mark : (d : ℕ) (v : ValueRef) (k : ℕ) → v ≡ Mark k → false �
 unfolding liesIn
 lies-mark d v k e = rw e
 
+pub lies-number : (d : ℕ) (v : ValueRef) (x : ℕ) → v ≡ Number x → false ≡ liesIn d v
+unfolding liesIn
+lies-number d v x e = rw e
+
 pub lies-undet : (d : ℕ) (v : ValueRef) → v ≡ Undetermined → false ≡ liesIn d v
 unfolding liesIn
 lies-undet d v e = rw e
@@ -59,6 +63,7 @@ lies-block : (W : List ℕ) (d : ℕ) (v : ValueRef) → Holds W v → liesIn d 
 unfolding liesIn
 lies-block W d (Object i x) h e = subst (Block W) (eqb-true x d e) (h .held .block)
 lies-block W d (Mark k) h e = absurd (false≢true e)
+lies-block W d (Number x) h e = absurd (false≢true e)
 lies-block W d Undetermined h e = absurd (false≢true e)
 
 module _ (ps : List Slot) (n d : ℕ) where
@@ -106,9 +111,9 @@ module _ (W : List ℕ) (ps : List Slot) (n d : ℕ) (held : PartsHeld W ps n) w
 
 -- ---- the block with the most objects
 module _ (W : List ℕ) (v : ValueRef) (b : ℕ) where
-  pub larger-leaf : OneOf (1 ∷ 2 ∷ []) (tagOf RefT.the-type v) → b ≡ largerOf W v b
+  pub larger-leaf : OneOf (1 ∷ 2 ∷ 3 ∷ []) (tagOf RefT.the-type v) → b ≡ largerOf W v b
   unfolding largerOf
-  larger-leaf = no-object (λ x. b ≡ largerOf W x b) (λ k. refl) refl v
+  larger-leaf = no-object (λ x. b ≡ largerOf W x b) (λ k. refl) (λ n. refl) refl v
 
   module _ (x i : ℕ) (e : v ≡ Object i x) where
     pub larger-zero : x ≡ 0 → b ≡ largerOf W v b
@@ -132,6 +137,7 @@ larger-block W (Object i x) b h bk = go (eqb x 0) (ltb (countIn W b) (countIn W 
     go false true = h .held .block
     go false false = bk
 larger-block W (Mark k) b h bk = bk
+larger-block W (Number x) b h bk = bk
 larger-block W Undetermined b h bk = bk
 
 module _ (W : List ℕ) (ps : List Slot) (n b : ℕ) where
@@ -240,7 +246,7 @@ module _ (W : List ℕ) (b : ℕ) (W1 : List ℕ) (room : blockSize * b + blockS
     packed = λ i h. absurd (omega (arith, em .count));
     whole = rw none-there (record { top = tt; inner = λ i f r e. absurd (Option·none-ne-some r e) });
     distinct = rw none-there (record { apart = λ i j h. absurd (omega arith) });
-    level = λ q h. absurd (omega (arith, em .count));
+    level = λ i f h. absurd (omega (arith, em .count));
     reach = λ i f h l c. absurd (omega (arith, em .count));
   })
 
@@ -265,6 +271,7 @@ module _ (W : List ℕ) (ps : List Slot) (n dst : ℕ) (mk : Makeable W ps n dst
       go : (v : ValueRef) → Low spareBlock v → liesIn spareBlock v ≡ false
       go (Object k b) l = ne-eqb b spareBlock (λ e. omega arith)
       go (Mark k) l = refl
+      go (Number x) l = refl
       go Undetermined l = refl
 
   module _ (W1 : List ℕ) (em : Emptied W spareBlock W1) where

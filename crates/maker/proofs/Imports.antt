@@ -20,7 +20,7 @@ use Rattle.maker.specs.Merging.{CodeAs, Mapped, Imported}
 use Rattle.maker.specs.Sorting.{Decided, codeAt, Listed, Reached, Sorting, SortedFrom}
 use Rattle.maker.specs.Seeking.{Telling, SameNumber}
 use Rattle.maker.specs.Joining.{Joining, Joined}
-use Rattle.maker.proofs.Turns.{zero-at}
+use Rattle.canon.proofs.Zeros.{zero-at}
 use Rattle.maker.proofs.Crowds.{in-same, in-within, crowd-joined}
 use Rattle.maker.proofs.Enters.{grown-none}
 
@@ -46,7 +46,7 @@ mapped-none W src host k e = record { table = length-replicate k 0 ∙ e; each =
 
 -- no object of a block has the number 32
 no-room : (W : List ℕ) (src i host r : ℕ) → Block W host → CodeAs W src i host r → r ≡ noRoom → ⊥
-no-room W src i host r bk c e = let z : r < countIn W host = subst (InRange (countIn W host)) (ref-object r (omega arith)) (c .low) in omega (arith, bk .small)
+no-room W src i host r bk c e = let z : r < countIn W host = subst (InRange (countIn W host)) (ref-object r 0 (omega arith)) (c .low 0) in omega (arith, bk .small)
 
 -- ---- sorted out and joined
 module _ (W : List ℕ) (src i host : ℕ) (ib : Inside W src i) (bk : Block W host) (apart : (src ≡ host) → ⊥) (L : List ℕ) (m : ℕ) (rc : Reached W src i L m) where

@@ -11,15 +11,15 @@ use mathlib.Core.Option.{some}
 use lib.Dec.{eqb}
 use lib.ListN.{length, getD, getElem?}
 use borrow.Author.Tests.{ne-eqb}
-use Rattle.cofj.specs.Values.{Ref, obj, mark, undet, Node, graph, rename, renameNode, nodeAt, refsAt}
-use Rattle.cofj.specs.Unfolding.{object, opened, unknown, follow, Same, InRange, Whole}
+use Rattle.cofj.specs.Values.{Ref, obj, leaf, undet, Node, graph, rename, renameNode, nodeAt, refsAt}
+use Rattle.cofj.specs.Unfolding.{object, atLeaf, follow, Same, InRange, Whole}
 use Rattle.cofj.proofs.Basics.{getD-map-lt}
-use Rattle.canon.specs.Figures.{objectSize, codeCount, firstLeaf, undeterminedCode, firstMark, capacity, countAt, blockSize}
+use Rattle.canon.specs.Figures.{objectSize, codeCount, firstLeaf, capacity, countAt, blockSize}
 use Rattle.canon.specs.Layout.{refOf, codeOf, nodesIn, Packed, Distinct, countIn, objectsIn, Block}
 use Rattle.canon.specs.Tables.{Lifted}
-use Rattle.canon.proofs.Nodes.{ref-object, ref-undet, ref-mark, at-some, length-nodes, at-nodes, node-same, packed-same, code-is, four-fields, code-low}
-use Rattle.canon.proofs.Lifts.{turn-object, turn-other}
-use Rattle.canon.proofs.Turned.{turnRef, changed, lifted-nodes, lifted-packed, node-agree}
+use Rattle.canon.proofs.Nodes.{AllPacked, ref-object, at-some, length-nodes, at-nodes, node-same, packed-same, code-is, four-fields, code-low}
+use Rattle.canon.proofs.Lifts.{turn-object}
+use Rattle.canon.proofs.Turned.{turnRef, changed, lifted-nodes, lifted-packed, turn-rename, node-agree}
 use Rattle.values.proofs.Blocks.{size-in, inner-in}
 use Rattle.maker.specs.Figures.{notTold}
 use Rattle.maker.specs.Merging.{Grown, CodeAs}
@@ -29,21 +29,20 @@ use Rattle.maker.proofs.Fresh.{Told, Source, old-trees, new-trees, inne
 use Rattle.maker.proofs.Numberings.{fitted-all}
 use Rattle.maker.proofs.Turns.{leaf-low}
 use Rattle.maker.proofs.Enters.{grown-none, other-block}
-use Rattle.maker.proofs.Brings.{code-grown}
+use Rattle.maker.proofs.Imported.{code-grown}
 
 -- ---- the host then
 -- what unfolds as an object is an object
-code-small : (ps ns : List Node) (z r : ℕ) → Same ps (obj z) ns (refOf r) → r < firstLeaf
+code-small : (ps ns : List Node) (z r : ℕ) → Same ps (obj z) ns (refOf r 0) → r < firstLeaf
 code-small ps ns z r q = go (decLt r firstLeaf)
   where
     none : (s : Ref) → InRange 0 s → Same ps (obj z) ns s → ⊥
     none (obj i) h q = absurd (omega arith)
-    none (mark k) h q = let d : some (object _ _) ≡ some (opened k) = q [] in absurd (let u : _≡_ {A = ℕ} 0 1 = cc in omega arith)
-    none undet h q = let d : some (object _ _) ≡ some unknown = q [] in absurd (let u : _≡_ {A = ℕ} 0 1 = cc in omega arith)
+    none (leaf l) h q = let d : some (object _ _) ≡ some (atLeaf l) = q [] in absurd (let u : _≡_ {A = ℕ} 0 1 = cc in omega arith)
 
     go : Dec (r < firstLeaf) → r < firstLeaf
     go (yes h) = h
-    go (no h) = absurd (none (refOf r) (leaf-low 0 r (omega (arith, h))) q)
+    go (no h) = absurd (none (refOf r 0) (leaf-low 0 r 0 (omega (arith, h))) q)
 
 module _ (W : List ℕ) (src host : ℕ) (T F : List ℕ) (jn : Joining W src host T F) (n : ℕ) (na : NewAmong (getD W (blockSize * src + countAt) 0) F n) where
   all-fitted : (T′ : List ℕ) (m : ℕ) → Fitted n (getD W (blockSize * host + countAt) 0) T F T′ m → Fitted (countIn W src) (countIn W host) T F T′ m
@@ -150,6 +149,10 @@ module _ (W : List ℕ) (src host : ℕ) (T F : List ℕ) (jn : Joining W src ho
       lifted : (x : ℕ) → New F x → Lifted W (blockSize * src + objectSize * x) objectSize (numbersOf T′) W′ (blockSize * host + objectSize * to x) W′
       lifted x n = record { same = refl; here = λ q h. let z : q % objectSize ≡ q = omega arith in rw z (ex .here x q (low x n) n h); below = λ q h. refl; above = λ q h. refl }
 
+      -- its bytes before
+      source-packed : (x : ℕ) → New F x → AllPacked W (blockSize * src + objectSize * x) 1
+      source-packed x n j l = let e : blockSize * src + objectSize * x + objectSize * j ≡ blockSize * src + objectSize * x = omega arith in rw e (jn .source .packed x (low x n))
+
       -- what a new object refers to
       field-decided : (x f z : ℕ) → New F x → getElem? (refsAt ps x) f ≡ some (obj z) → (z < countIn W src) × Decided T F z
       unfolding objectsIn
@@ -169,9 +172,9 @@ module _ (W : List ℕ) (src host : ℕ) (T F : List ℕ) (jn : Joining W src ho
       old-here z h e d =
           let some : (getD T′ z 0 ≡ 0) → ⊥ = told-some z d in
           let c : CodeAs W src z host (to z) = jn .sorted .mapped .each z (to z) (omega (arith, some, ct .kept z e)) in
-          let s : Same ps (obj z) ns (refOf (to z)) = subst (λ (r : Ref). Same ps r ns (refOf (to z))) (ref-object z (omega (arith, jn .source .small))) (c .same) in
-          let r : refOf (to z) ≡ obj (to z) = ref-object (to z) (code-small ps ns z (to z) s) in
-          record { low = subst (InRange (countIn W host)) r (c .low); same = subst (λ (q : Ref). Same ps (obj z) ns q) r s }
+          let s : Same ps (obj z) ns (refOf (to z) 0) = subst (λ (r : Ref). Same ps r ns (refOf (to z) 0)) (ref-object z 0 (omega (arith, jn .source .small))) (c .same 0) in
+          let r : refOf (to z) 0 ≡ obj (to z) = ref-object (to z) 0 (code-small ps ns z (to z) s) in
+          record { low = subst (InRange (countIn W host)) r (c .low 0); same = subst (λ (q : Ref). Same ps (obj z) ns q) r s }
 
       to-low : (z : ℕ) → z < countIn W src → Decided T F z → to z < m
       to-low z h d = go (ℕ-discrete (getD F z 0) 0)
@@ -190,15 +193,14 @@ module _ (W : List ℕ) (src host : ℕ) (T F : List ℕ) (jn : Joining W src ho
           let d = h z refl in
           let l : z < length T′ = omega (arith, d .0, jn .source .small, table) in
           let e : getD (numbersOf T′) z 0 ≡ to z = getD-map-lt (λ k. cond (eqb k 0) notTold (k - 1)) T′ z 0 0 l ∙ rw (ne-eqb (getD T′ z 0) 0 (told-some z (d .1))) in
-          ap refOf (sym (turn-object (numbersOf T′) z (omega (arith, table))) ∙ e) ∙ ref-object (to z) (omega (arith, to-low z (d .0) (d .1)))
-      turns (mark k) h = ap refOf (sym (turn-other (numbersOf T′) (firstMark + k) (omega arith))) ∙ ref-mark k
-      turns undet h = ap refOf (sym (turn-other (numbersOf T′) undeterminedCode (omega arith))) ∙ ref-undet
+          ap (λ (c : ℕ). refOf c 0) (sym (turn-object (numbersOf T′) z (omega (arith, table))) ∙ e) ∙ ref-object (to z) 0 (omega (arith, to-low z (d .0) (d .1)))
+      turns (leaf l) h = turn-rename (numbersOf T′) 0 to (omega arith) (λ i q. absurd (omega arith)) (λ i q. absurd (omega arith)) (leaf l) tt
 
       is : (x : ℕ) → New F x → nodeAt ms (to x) ≡ renameNode to (nodeAt ps x)
       unfolding objectsIn nodesIn
       is x n =
           at-nodes W′ (blockSize * host) (countIn W′ host) (to x) (omega (arith, ex .count, size-new, small x n))
-          ∙ ap (λ (l : List Node). nodeAt l 0) (lifted-nodes W (blockSize * src + objectSize * x) (numbersOf T′) W′ (blockSize * host + objectSize * to x) W′ 1 (lifted x n))
+          ∙ ap (λ (l : List Node). nodeAt l 0) (lifted-nodes W (blockSize * src + objectSize * x) (numbersOf T′) W′ (blockSize * host + objectSize * to x) W′ 1 (lifted x n) (source-packed x n))
           ∙ ap (changed (turnRef (numbersOf T′))) (sym (at-nodes W (blockSize * src) (countIn W src) x (low x n)))
           ∙ node-agree (turnRef (numbersOf T′)) (rename to) Turns (λ r t. t) (nodeAt ps x) (λ f r e. turns r (λ z q. field-decided x f z n (e ∙ ap some q)))
 
@@ -223,7 +225,7 @@ module _ (W : List ℕ) (src host : ℕ) (T F : List ℕ) (jn : Joining W src ho
           (λ x n. subst (λ (k : ℕ). Fresh ps ns k x) (sym size-old) (jn .sorted .fresh x n))
           (λ x y n q e. jn .source .distinct .apart x y (omega (arith, low x n, size-in W src (jn .source))) (omega (arith, low y q, size-in W src (jn .source))) e) source
 
-      whole : Whole (graph undet ms)
+      whole : Whole (graph (leaf undet) ms)
       whole = record { top = tt; inner = inner-many ps ns ms inner most old to (New F) small is fields source }
 
       packed : (i : ℕ) → i < countIn W′ host → Packed W′ (blockSize * host + objectSize * i)
@@ -232,8 +234,7 @@ module _ (W : List ℕ) (src host : ℕ) (T F : List ℕ) (jn : Joining W src ho
           new : (x : ℕ) → New F x → Packed W′ (blockSize * host + objectSize * to x)
           new x n =
               let z : blockSize * host + objectSize * to x + objectSize * 0 ≡ blockSize * host + objectSize * to x = omega arith in
-              rw z at (lifted-packed W (blockSize * src + objectSize * x) (numbersOf T′) W′ (blockSize * host + objectSize * to x) W′ 1 (lifted x n) (λ j l.
-              let e : blockSize * src + objectSize * x + objectSize * j ≡ blockSize * src + objectSize * x = omega arith in rw e (jn .source .packed x (low x n))) 0 (omega arith))
+              rw z at (lifted-packed W (blockSize * src + objectSize * x) (numbersOf T′) W′ (blockSize * host + objectSize * to x) W′ 1 (lifted x n) (source-packed x n) 0 (omega arith))
 
           go : Dec (i < countIn W host) → Packed W′ (blockSize * host + objectSize * i)
           go (yes l) = packed-same W′ W (blockSize * host + objectSize * i) (blockSize * host + objectSize * i) (λ k g. old-byte i k l g) (jn .target .packed i l)
@@ -249,7 +250,7 @@ module _ (W : List ℕ) (src host : ℕ) (T F : List ℕ) (jn : Joining W src ho
         packed = packed;
         whole = whole;
         distinct = distinct;
-        level = λ q h. ex .level q (omega (arith, ex .count));
+        level = λ i f h. ex .level i f (omega (arith, ex .count));
         reach = λ i f h l c. omega (arith, ex .reach, ex .count, code-low W′ (blockSize * host) (countIn W′ host) packed i h whole f l c);
       }
 
@@ -264,15 +265,15 @@ module _ (W : List ℕ) (src host : ℕ) (T F : List ℕ) (jn : Joining W src ho
       new-code : (x y : ℕ) → getD T′ x 0 ≡ y + 1 → New F x → CodeAs W′ src x host y
       new-code x y e n =
           let z : to x ≡ y = omega arith in
-          let ey : refOf y ≡ obj y = ref-object y (omega (arith, small x n, size-new)) in
-          let ex′ : refOf x ≡ obj x = ref-object x (omega (arith, low x n, jn .source .small)) in
+          let ey : (k : ℕ) → refOf y k ≡ obj y = λ k. ref-object y k (omega (arith, small x n, size-new)) in
+          let ex′ : (k : ℕ) → refOf x k ≡ obj x = λ k. ref-object x k (omega (arith, low x n, jn .source .small)) in
           record {
-            low = subst (InRange (countIn W′ host)) (sym ey) (omega (arith, small x n, size-new, ex .count));
+            low = λ k. subst (InRange (countIn W′ host)) (sym (ey k)) (omega (arith, small x n, size-new, ex .count));
             leaf = λ q. absurd (omega (arith, low x n, jn .source .small));
-            same = λ p.
-                ap (λ (l : List Node). follow l (refOf x) p) (other-block host W W′ (ex .outside) src (jn .apart) (jn .source) .0)
-                ∙ ap (λ (r : Ref). follow ps r p) ex′ ∙ new-trees ps ns ms inner most old to (New F) small is fields p x (inl n)
-                ∙ ap (λ (r : Ref). follow ms r p) (ap obj z ∙ sym ey);
+            same = λ k p.
+                ap (λ (l : List Node). follow l (refOf x k) p) (other-block host W W′ (ex .outside) src (jn .apart) (jn .source) .0)
+                ∙ ap (λ (r : Ref). follow ps r p) (ex′ k) ∙ new-trees ps ns ms inner most old to (New F) small is fields p x (inl n)
+                ∙ ap (λ (r : Ref). follow ms r p) (ap obj z ∙ sym (ey k));
           }
 
       pub join-more : Joined W src host T F W′ T′ true

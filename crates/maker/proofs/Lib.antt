@@ -1,6 +1,7 @@
 pub mod Adding
 pub mod Makes
 pub mod Codes
+pub mod Bytes
 pub mod Finds
 pub mod Wheres
 pub mod Beside
@@ -8,6 +9,7 @@ pub mod Fresh
 pub mod Crowds
 pub mod Turns
 pub mod Enters
+pub mod Imported
 pub mod Brings
 pub mod Tries
 pub mod Hosts

@@ -19,7 +19,7 @@ use Rattle.canon.specs.Figures.{capacity, countAt, blockSize, spareBlock}
 use Rattle.canon.specs.Layout.{refOf, countIn, objectsIn, graphAt, Block, Inside, Outside, Beneath}
 use Rattle.canon.proofs.Nodes.{ref-object}
 use Rattle.values.specs.declared.ValueRef.{ValueRef}
-use Rattle.values.specs.declared.ValueRef.the-variants.{Object, Mark, Undetermined}
+use Rattle.values.specs.declared.ValueRef.the-variants.{Object, Mark, Number, Undetermined}
 use Rattle.values.specs.Layout.{valueOf, Holds, Low, liesIn}
 use Rattle.values.proofs.ValueRef as RefT
 use Rattle.values.proofs.Blocks.{no-object, size-in, whole-at}
@@ -42,10 +42,10 @@ outside-none b W = record { same = refl; below = λ p h. refl; above = λ p h. r
 
 -- ---- whether a value has at most so many objects
 module _ (W : List ℕ) (objects : ℕ) (v : ValueRef) where
-  pub fits-leaf : OneOf (1 ∷ 2 ∷ []) (tagOf RefT.the-type v) → FitsIn W v objects W true
+  pub fits-leaf : OneOf (1 ∷ 2 ∷ 3 ∷ []) (tagOf RefT.the-type v) → FitsIn W v objects W true
   fits-leaf h =
       let e : true ≡ leb 0 objects = sym (le-leb 0 objects (omega arith)) in
-      no-object (λ x. FitsIn W x objects W true) (λ k. record { is = e; outside = outside-none spareBlock W }) (record { is = e; outside = outside-none spareBlock W }) v h
+      no-object (λ x. FitsIn W x objects W true) (λ k. record { is = e; outside = outside-none spareBlock W }) (λ n. record { is = e; outside = outside-none spareBlock W }) (record { is = e; outside = outside-none spareBlock W }) v h
 
   module _ (b i : ℕ) (e : v ≡ Object i b) where
     pub count-read : Holds W v → blockSize * b + countAt < length W
@@ -128,10 +128,10 @@ module _ (W : List ℕ) (objects : ℕ) (v : ValueRef) where
 
           -- what is in the spare block is the value
           abbrev there : Graph
-          there = graph (refOf r) (objectsIn W2 spareBlock)
+          there = graph (refOf r 0) (objectsIn W2 spareBlock)
 
           there-whole : Whole there
-          there-whole = record { top = subst (λ (n : ℕ). InRange n (refOf r)) (sym size) (im .like nr .low); inner = im .grown .block .whole .inner }
+          there-whole = record { top = subst (λ (n : ℕ). InRange n (refOf r 0)) (sym size) (im .like nr .low 0); inner = im .grown .block .whole .inner }
 
           after : Kept W1 W2 v
           after = kept spareBlock W1 W2 (im .grown .outside) v away (still-there .held)
@@ -143,7 +143,7 @@ module _ (W : List ℕ) (objects : ℕ) (v : ValueRef) where
           value-there =
               sym (ap (valueOf W2) (sym e) ∙ after .is ∙ ap (valueOf W1) e)
               ∙ same-canon (graphAt W2 b i) there (whole-at W2 b (inside-after .block) i (inside-after .low)) there-whole
-              (λ p. ap (λ (x : Ref). follow (objectsIn W2 b) x p) (sym (ref-object i (omega (arith, inside-after .low, inside-after .block .small)))) ∙ im .like nr .same p)
+              (λ p. ap (λ (x : Ref). follow (objectsIn W2 b) x p) (sym (ref-object i 0 (omega (arith, inside-after .low, inside-after .block .small)))) ∙ im .like nr .same 0 p)
 
           least : length (value .nodes) ≤ countIn W2 spareBlock
           least = omega (arith, ap (λ (g : Graph). length (g .nodes)) value-there, canon-length there there-whole, size)
@@ -169,6 +169,7 @@ low-away : (d : ℕ) (r : ValueRef) → d < spareBlock → Low (d + 1) r → lie
 unfolding liesIn
 low-away d (Object i b) h l = ne-eqb b spareBlock (λ e. omega arith)
 low-away d (Mark k) h l = refl
+low-away d (Number x) h l = refl
 low-away d Undetermined h l = refl
 
 module _ (W : List ℕ) (ps : List Slot) (n dst : ℕ) (mk : Makeable W ps n dst) (v : Graph) (W1 : List ℕ) (o : Made) (md : MadeIs W v dst W1 o) where

@@ -12,7 +12,7 @@ use Rattle.cofj.specs.Unfolding.{SameTree, Whole, AllWhole}
 use Rattle.cofj.proofs.Canon.{canon-same, canon-whole, canon-length}
 use Rattle.canon.specs.Figures.{codeCount, markCount, capacity}
 use Rattle.values.specs.declared.ValueRef.{ValueRef}
-use Rattle.values.specs.declared.ValueRef.the-variants.{Object, Mark, Undetermined}
+use Rattle.values.specs.declared.ValueRef.the-variants.{Object, Mark, Number, Undetermined}
 use Rattle.maker.specs.declared.Slot.{Slot}
 use Rattle.maker.specs.declared.Made.the-variants.{Value}
 use Rattle.canon.specs.Layout.{Inside, graphAt, Beneath}
@@ -53,16 +53,19 @@ parts-length W ps n h = length-map (take n ps) (λ s. rawOf W (s .r)) ∙ length
 pub raw-whole : (W : List ℕ) (r : ValueRef) → Holds W r → Whole (rawOf W r)
 raw-whole W (Object i b) h = whole-at W b (h .held .block) i (h .held .low)
 raw-whole W (Mark k) h = record { top = tt; inner = λ i f r e. absurd (Option·none-ne-some r e) }
+raw-whole W (Number x) h = record { top = tt; inner = λ i f r e. absurd (Option·none-ne-some r e) }
 raw-whole W Undetermined h = record { top = tt; inner = λ i f r e. absurd (Option·none-ne-some r e) }
 
 value-whole : (W : List ℕ) (r : ValueRef) → Holds W r → Whole (valueOf W r)
 value-whole W (Object i b) h = canon-whole (graphAt W b i) (raw-whole W (Object i b) h)
 value-whole W (Mark k) h = raw-whole W (Mark k) h
+value-whole W (Number x) h = raw-whole W (Number x) h
 value-whole W Undetermined h = raw-whole W Undetermined h
 
 value-tree : (W : List ℕ) (r : ValueRef) → Holds W r → SameTree (valueOf W r) (rawOf W r)
 value-tree W (Object i b) h = canon-same (graphAt W b i) (raw-whole W (Object i b) h)
 value-tree W (Mark k) h = λ p. refl
+value-tree W (Number x) h = λ p. refl
 value-tree W Undetermined h = λ p. refl
 
 -- each part by itself

@@ -14,12 +14,11 @@ use Rattle.cofj.specs.Unfolding.{follow}
 use Rattle.canon.specs.Figures.{objectSize, headSize, codeCount, firstLeaf, capacity, blockSize}
 use Rattle.canon.specs.Layout.{countIn, objectsIn, graphAt, Inside}
 use Rattle.canon.proofs.Nodes.{code-low}
-use Rattle.values.proofs.Pairs.{unpaired-put}
-use Rattle.values.proofs.Steps.{unpaired-few}
+use Rattle.canon.proofs.Zeros.{zero-at, zeros-put, zeros-few}
 use Rattle.maker.specs.Sorting.{codeAt, Listed, Reached}
 use Rattle.maker.specs.Reaching.{Noted, Met, FieldOf, FieldsMet, ReachedTo}
 use Rattle.maker.specs.Crowds.{In}
-use Rattle.maker.proofs.Turns.{zero-at, field-ref}
+use Rattle.maker.proofs.Turns.{field-ref}
 
 -- ---- a path leads to a listed object
 led-root : (ns : List Node) (i : ℕ) → In ns i (graph (obj i) ns)
@@ -55,7 +54,7 @@ module _ (S L : List ℕ) (t c : ℕ) (nd : Noted S L t) where
 
     module _ (e : getD S c 0 ≡ 0) where
       pub met-few : t < capacity
-      met-few = omega (arith, nd .free, unpaired-put capacity c 0 S (lc h) met-entry e)
+      met-few = omega (arith, nd .free, zeros-put capacity c 1 S (lc h) met-entry e (omega arith))
 
       pub met-room : t < length L
       met-room = omega (arith, met-few, nd .list)
@@ -68,7 +67,7 @@ module _ (S L : List ℕ) (t c : ℕ) (nd : Noted S L t) where
         noted = record {
           seen = length-set S c 1 ∙ nd .seen;
           list = length-set L t c ∙ nd .list;
-          free = omega (arith, nd .free, unpaired-put capacity c 0 S (lc h) met-entry e);
+          free = omega (arith, nd .free, zeros-put capacity c 1 S (lc h) met-entry e (omega arith));
           listed = λ x d. listed x d (ℕ-discrete x c);
         };
         more = omega arith;
@@ -157,7 +156,7 @@ module _ (W : List ℕ) (src i : ℕ) where
         small = omega (arith, ib .low, ib .block .small)
 
         nothing : Noted (replicate k 0) L 0
-        nothing = record { seen = length-replicate k 0 ∙ ek; list = ll; free = omega (arith, unpaired-few capacity (replicate k 0)); listed = λ x d. absurd (d (zero-at k x)) }
+        nothing = record { seen = length-replicate k 0 ∙ ek; list = ll; free = omega (arith, zeros-few capacity (replicate k 0)); listed = λ x d. absurd (d (zero-at k x)) }
 
         m : Met L 0 i (set (replicate k 0) i 1) (set L 0 i) 1
         m = met-new (replicate k 0) L 0 i nothing (λ _. small) (omega (arith, small)) (zero-at k i)

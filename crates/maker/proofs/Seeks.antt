@@ -11,12 +11,12 @@ use lib.Seq.{getD-set-same, getD-set-other, ext-getD}
 use Rattle.cofj.specs.Values.{Ref, obj}
 use Rattle.cofj.specs.Unfolding.{follow, Same, InRange}
 use Rattle.canon.specs.Figures.{objectSize, firstLeaf, capacity, countAt, blockSize}
-use Rattle.canon.specs.Layout.{refOf, alikeAt, countIn, objectsIn, Block, Inside}
+use Rattle.canon.specs.Layout.{refOf, codeOf, alikeAt, countIn, objectsIn, Block, Inside}
 use Rattle.canon.specs.Tables.{Carried}
 use Rattle.canon.proofs.Nodes.{ref-object, code-ref, object-low, alike-no}
 use Rattle.values.specs.Stepping.{Paired, AllSame, InStep}
 use Rattle.values.proofs.Trees.{in-larger}
-use Rattle.values.proofs.Partners.{leaf-codes, same-alike}
+use Rattle.values.proofs.Partners.{leaf-refs, same-alike}
 use Rattle.values.proofs.Steps.{told-roots, told-kept, told-differ}
 use Rattle.maker.specs.Merging.{Mapped}
 use Rattle.maker.specs.Sorting.{Fresh, Sorted}
@@ -54,20 +54,20 @@ module _ (W : List ℕ) (src host : ℕ) (bh : Block W host) (T : List ℕ) wher
               arith,
               h,
               from-low,
-              code-ref k,
-              code-ref z,
-              leaf-codes (objectsIn W host) (objectsIn W src) (refOf k) (refOf z) (in-larger (countIn W host) firstLeaf (refOf k) (omega (arith, bh .small)) (mp .each z k e .low))
-                  (λ p. sym (mp .each z k e .same p)) (omega (arith, h, code-ref k)),
+              code-ref k 0,
+              code-ref z 0,
+              ap codeOf (leaf-refs (objectsIn W host) (objectsIn W src) (refOf k 0) (refOf z 0) (in-larger (countIn W host) firstLeaf (refOf k 0) (omega (arith, bh .small)) (mp .each z k e .low 0))
+                  (λ p. sym (mp .each z k e .same 0 p)) (omega (arith, h, code-ref k 0))),
             ))
 
     told-low : k < countIn W host
-    told-low = omega (arith, code-ref k, object-low (countIn W host) (refOf k) (mp .each z k e .low) (omega (arith, to-object, code-ref k)))
+    told-low = omega (arith, code-ref k 0, object-low (countIn W host) (refOf k 0) (mp .each z k e .low 0) (omega (arith, to-object, code-ref k 0)))
 
     told-tree : Same (objectsIn W src) (obj z) (objectsIn W host) (obj k)
     told-tree p =
-        ap (λ (r : Ref). follow (objectsIn W src) r p) (sym (ref-object z (omega (arith, from-low))))
-        ∙ mp .each z k e .same p
-        ∙ ap (λ (r : Ref). follow (objectsIn W host) r p) (ref-object k to-object)
+        ap (λ (r : Ref). follow (objectsIn W src) r p) (sym (ref-object z 0 (omega (arith, from-low))))
+        ∙ mp .each z k e .same 0 p
+        ∙ ap (λ (r : Ref). follow (objectsIn W host) r p) (ref-object k 0 to-object)
 
   mapped-told : length T ≡ capacity → ((z k : ℕ) → getD T z 0 ≡ k + 1 → k < countIn W host) → AllSame W src host T → Mapped W src host T
   mapped-told l within al = record {
@@ -75,11 +75,11 @@ module _ (W : List ℕ) (src host : ℕ) (bh : Block W host) (T : List ℕ) wher
     each = λ z k e.
         let from : z < capacity = table-low T z k l e in
         let to : k < countIn W host = within z k e in
-        let there : refOf k ≡ obj k = ref-object k (omega (arith, bh .small)) in
+        let there : (x : ℕ) → refOf k x ≡ obj k = λ x. ref-object k x (omega (arith, bh .small)) in
         record {
-          low = subst (InRange (countIn W host)) (sym there) to;
+          low = λ x. subst (InRange (countIn W host)) (sym (there x)) to;
           leaf = λ h. absurd (omega arith);
-          same = λ p. ap (λ (r : Ref). follow (objectsIn W src) r p) (ref-object z (omega arith)) ∙ al .same z k e p ∙ ap (λ (r : Ref). follow (objectsIn W host) r p) (sym there);
+          same = λ x p. ap (λ (r : Ref). follow (objectsIn W src) r p) (ref-object z x (omega arith)) ∙ al .same z k e p ∙ ap (λ (r : Ref). follow (objectsIn W host) r p) (sym (there x));
         };
   }
 

@@ -10,8 +10,9 @@ use mathlib.Core.Logic.{inl, inr}
 use lib.Dec.{eqb}
 use lib.ListN.{length, getD}
 use borrow.Author.Tests.{lt-ltb, le-ltb, eq-eqb, eqb-true}
-use Rattle.canon.specs.Figures.{objectSize, headSize, codeCount, firstLeaf, capacity, blockSize, threeBytes}
+use Rattle.canon.specs.Figures.{objectSize, headSize, codeCount, numbersAt, firstLeaf, capacity, blockSize, threeBytes}
 use Rattle.canon.specs.Layout.{refOf, countIn, objectsIn, Inside}
+use Rattle.canon.specs.Tables.{Eight}
 use Rattle.canon.proofs.Numbers.{number-met, number-not}
 use Rattle.canon.proofs.Nodes.{code-low}
 use Rattle.values.proofs.Trees.{leaf-same}
@@ -20,6 +21,7 @@ use Rattle.maker.specs.Adding.{codesOf, objectOf}
 use Rattle.maker.specs.Merging.{CodeAs, Mapped}
 use Rattle.maker.specs.Sorting.{codeAt, turnIn, TurnedAs, OpenIs, NewIs, LeadsIs, CodesTurned}
 use Rattle.maker.proofs.Codes.{object-class, object-count, object-code, first-code, next-code}
+use Rattle.maker.proofs.Bytes.{object-rest}
 use Rattle.maker.proofs.Turns.{leaf-low}
 
 -- ---- whether something is known of an object
@@ -83,18 +85,20 @@ module _ (W : List ℕ) (src host : ℕ) (T : List ℕ) (mp : Mapped W src host 
       go (yes h) (no n) = rw (← turn-told T c h n) (mp .each c (getD T c 0 - 1) (omega (arith, n)))
       go (no h) z =
           rw (← turn-leaf T c (omega (arith, h))) (record {
-            low = leaf-low (countIn W host) c (omega (arith, h));
+            low = λ y. leaf-low (countIn W host) c y (omega (arith, h));
             leaf = λ _. refl;
-            same = leaf-same (objectsIn W src) (objectsIn W host) (refOf c) (leaf-low 0 c (omega (arith, h)));
+            same = λ y. leaf-same (objectsIn W src) (objectsIn W host) (refOf c y) (leaf-low 0 c y (omega (arith, h)));
           })
 
-  pub turned-by : (x w : ℕ) → CodesTurned W src x T 0 w → TurnedAs W src x host (objectOf (getD W (blockSize * src + objectSize * x) 0) (getD W (blockSize * src + objectSize * x + 1) 0) w)
-  turned-by x w t = record {
-    cls = object-class _ _ w;
-    count = object-count _ _ w;
+  pub turned-by : (x w v : ℕ) → Inside W src x → CodesTurned W src x T 0 w → Eight W (blockSize * src + objectSize * x + numbersAt) v
+      → TurnedAs W src x host (objectOf (getD W (blockSize * src + objectSize * x) 0) (getD W (blockSize * src + objectSize * x + 1) 0) w v)
+  turned-by x w v ib t g = record {
+    cls = object-class _ _ w v;
+    count = object-count _ _ w v;
     code = λ f h.
         let z : 0 + f ≡ f = omega arith in
-        subst (CodeAs W src (codeAt W src x f) host) (sym (object-code _ _ w f ∙ rw z at (t .code f (omega arith)))) (turn-code (codeAt W src x f) (rw z at (t .told f (omega arith))));
+        subst (CodeAs W src (codeAt W src x f) host) (sym (object-code _ _ w v f h ∙ rw z at (t .code f (omega arith)))) (turn-code (codeAt W src x f) (rw z at (t .told f (omega arith))));
+    rest = λ k l h. object-rest W (blockSize * src + objectSize * x) v g (ib .block .packed x (ib .low)) _ _ w k l h;
   }
 
 -- the codes one after another, from the last to the first

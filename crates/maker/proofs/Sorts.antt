@@ -8,12 +8,13 @@ use mathlib.Core.Bool.{Bool, true, false, false≢true}
 use mathlib.Core.List.{List}
 use mathlib.Core.Logic.{inl, inr}
 use mathlib.Core.Option.{some}
-use lib.ListN.{length, getD, set, getElem?, replicate, length-set}
+use lib.ListN.{length, getD, set, getElem?, length-set}
 use lib.Seq.{getD-set-same, getD-set-other}
 use Rattle.cofj.specs.Values.{Ref, refsAt}
 use Rattle.cofj.specs.Unfolding.{InRange}
-use Rattle.canon.specs.Figures.{objectSize, capacity, countAt, blockSize}
+use Rattle.canon.specs.Figures.{objectSize, numbersAt, capacity, countAt, blockSize}
 use Rattle.canon.specs.Layout.{Packed, countIn, objectsIn, Block, Inside}
+use Rattle.canon.specs.Tables.{Eight}
 use Rattle.canon.proofs.Nodes.{length-nodes, at-nodes}
 use Rattle.maker.specs.Adding.{objectOf, Found}
 use Rattle.maker.specs.Merging.{CodeAs}
@@ -22,7 +23,7 @@ use Rattle.maker.specs.declared.sort.Turned.{Turned}
 use Rattle.maker.specs.declared.sort.Turned.the-variants.{All}
 use Rattle.maker.specs.Seeking.{Sought}
 use Rattle.maker.proofs.Fresh.{fresh-up}
-use Rattle.maker.proofs.Turns.{zero-at, field-ref, turned-packed, turned-same, turned-fresh}
+use Rattle.maker.proofs.Turns.{field-ref, turned-packed, turned-same, turned-fresh}
 use Rattle.maker.proofs.SortCodes.{turned-by}
 
 -- ---- more is known
@@ -79,6 +80,9 @@ module _ (W : List ℕ) (src host : ℕ) (L : List ℕ) (m : ℕ) (T F : List �
 
     pub listed-room-1 : blockSize * src + objectSize * x + 1 < length W
     listed-room-1 = omega (arith, listed-small, s .ground .source .room)
+
+    pub listed-numbers : blockSize * src + objectSize * x + numbersAt + 8 ≤ length W
+    listed-numbers = omega (arith, listed-small, s .ground .source .room)
 
     pub listed-told : x < length T
     listed-told = omega (arith, listed-small, s .sorted .mapped .table)
@@ -182,27 +186,28 @@ module _ (W : List ℕ) (src host : ℕ) (L : List ℕ) (m : ℕ) (T F : List �
       tu : CodesTurned W src x T 0 w
       tu = subst (TurnedIs W src x T) eo to
 
-      abbrev turned : List ℕ
-      turned = objectOf (getD W (blockSize * src + objectSize * x) 0) (getD W (blockSize * src + objectSize * x + 1) 0) w
+      module _ (v : ℕ) (g : Eight W (blockSize * src + objectSize * x + numbersAt) v) where
+        abbrev turned : List ℕ
+        turned = objectOf (getD W (blockSize * src + objectSize * x) 0) (getD W (blockSize * src + objectSize * x + 1) 0) w v
 
-      turned-as : TurnedAs W src x host turned
-      turned-as = turned-by W src host T (s .sorted .mapped) x w tu
+        turned-as : TurnedAs W src x host turned
+        turned-as = turned-by W src host T (s .sorted .mapped) x w v listed-inside tu g
 
-      pub fields-packed : Packed (objectOf (getD W (blockSize * src + objectSize * x) 0) (getD W (blockSize * src + objectSize * x + 1) 0) w) 0
-      fields-packed = turned-packed W src x host turned listed-inside (s .ground .target) turned-as
+        pub fields-packed : Packed (objectOf (getD W (blockSize * src + objectSize * x) 0) (getD W (blockSize * src + objectSize * x + 1) 0) w v) 0
+        fields-packed = turned-packed W src x host turned listed-inside (s .ground .target) turned-as
 
-      module _ (k : ℕ) (fd : Found W host (getD W (blockSize * host + countAt) 0) turned k) where
-        pub fields-found : k < getD W (blockSize * host + countAt) 0 → ByFields W src host L m x T F (set T x (k + 1)) F true
-        unfolding countIn objectsIn
-        fields-found h =
-            let ca : CodeAs W src x host k =
-            turned-same W src x host turned listed-inside (s .ground .target) turned-as k
-            (record { low = h; is = at-nodes W (blockSize * host) (getD W (blockSize * host + countAt) 0) k h ∙ fd .hit h }) in
-            record { onward = tell-one k ca; here = λ _. tell-here k ca }
+        module _ (k : ℕ) (fd : Found W host (getD W (blockSize * host + countAt) 0) turned k) where
+          pub fields-found : k < getD W (blockSize * host + countAt) 0 → ByFields W src host L m x T F (set T x (k + 1)) F true
+          unfolding countIn objectsIn
+          fields-found h =
+              let ca : CodeAs W src x host k =
+              turned-same W src x host turned listed-inside (s .ground .target) turned-as k
+              (record { low = h; is = at-nodes W (blockSize * host) (getD W (blockSize * host + countAt) 0) k h ∙ fd .hit h }) in
+              record { onward = tell-one k ca; here = λ _. tell-here k ca }
 
-        pub fields-missed : getD W (blockSize * host + countAt) 0 ≤ k → ByFields W src host L m x T F T (set F x 1) true
-        unfolding countIn
-        fields-missed h = record { onward = mark-new (turned-fresh W src x host turned listed-inside (s .ground .target) turned-as (fd .miss h)); here = λ _. mark-here }
+          pub fields-missed : getD W (blockSize * host + countAt) 0 ≤ k → ByFields W src host L m x T F T (set F x 1) true
+          unfolding countIn
+          fields-missed h = record { onward = mark-new (turned-fresh W src x host turned listed-inside (s .ground .target) turned-as (fd .miss h)); here = λ _. mark-here }
 
     -- ---- looked for
     pub settling-none : (b : Bool) → OpenIs T F x b → b ≡ false → Settling W src host L m x T F T F
@@ -271,9 +276,6 @@ module _ (W : List ℕ) (src host : ℕ) (L : List ℕ) (m : ℕ) (T F0 F : List
       (lead-onward W src host L m T F (o .sorting) (getD L (q - 1) 0) at-place b l e)
 
 -- ---- choosing
-pub zeros : (n k : ℕ) → _≡_ {A = ℕ} (getD (replicate n 0) k 0) 0
-zeros n k = zero-at n k
-
 module _ (W : List ℕ) (src host : ℕ) (L : List ℕ) (m : ℕ) (T F : List ℕ) (s : Sorting W src host L m T F) (q : ℕ) (h : 0 < q) (le : q ≤ m) where
   pub choose-list : q - 1 < length L
   choose-list = omega (arith, s .ground .few, s .ground .long)

@@ -12,14 +12,13 @@ use Rattle.cofj.specs.Partial.{_>>=_}
 use borrow.Author.Tests.{eqb-false}
 use types.Run.{OneOf}
 use denote.Enum.Declared.{tagOf}
-use Rattle.cofj.specs.Values.{Ref, obj, undet, Node, node, Graph, graph, nodeAt, canon, make}
+use Rattle.cofj.specs.Values.{Ref, obj, leaf, undet, Node, node, Graph, graph, nodeAt, canon, make}
 use Rattle.cofj.specs.Unfolding.{object, follow, Same, InRange, Whole}
 use Rattle.cofj.proofs.Basics.{getD-map-lt}
 use Rattle.cofj.proofs.Canon.{canon-same}
 use Rattle.canon.specs.Figures.{codeCount, undeterminedCode, capacity, blockSize}
-use Rattle.canon.specs.Layout.{refOf, nodeIn, countIn, objectsIn, graphAt, Block, Inside}
-use Rattle.canon.proofs.Nodes.{at-nodes}
-use Rattle.canon.proofs.Walks.{four, four-at}
+use Rattle.canon.specs.Layout.{refOf, refIn, four, nodeIn, countIn, objectsIn, graphAt, Block, Inside}
+use Rattle.canon.proofs.Nodes.{four-at, at-nodes}
 use Rattle.values.specs.declared.ValueRef.{ValueRef}
 use Rattle.values.specs.declared.ValueRef.the-variants.{Object}
 use Rattle.values.specs.Layout.{rawOf, Holds}
@@ -33,11 +32,12 @@ use Rattle.maker.specs.declared.merge.Tried.{Tried}
 use Rattle.maker.specs.declared.merge.Tried.the-variants.{Here, NoRoom}
 use Rattle.maker.proofs.merge.Tried as TriedT
 use Rattle.maker.specs.Laying.{valuesFrom, rawsFrom, PartsHeld, MadeIs}
-use Rattle.maker.specs.Adding.{objectOf, partOf}
+use Rattle.maker.specs.Adding.{codesOf, pairsOf, objectOf, besideOf, RootNumbers, partOf}
 use Rattle.maker.specs.Merging.{Grown, Fits, Standing, Entered, TriedIs, As, AllWithin, RootBrought, PartsBrought}
 use Rattle.maker.specs.Crowds.{Within, BlockIn, Crowd}
 use Rattle.maker.proofs.Crowds.{within-field, crowd-topped}
-use Rattle.maker.proofs.Codes.{object-class, object-count, object-code, codes-packed}
+use Rattle.maker.proofs.Codes.{object-class, object-count, object-ref, codes-packed}
+use Rattle.maker.proofs.Finds.{numbers-plain}
 use Rattle.maker.proofs.Makes.{raws-whole, made-raw, parts-length, made-brought}
 use Rattle.maker.proofs.Adding.{more, size-more, inner-more, at-new, follow-new}
 use Rattle.maker.proofs.Turns.{leaf-low, low-refs}
@@ -78,7 +78,7 @@ like-follow ms (r ∷ rs) (g ∷ gs) a zero p = a .0 p
 like-follow ms (r ∷ rs) (g ∷ gs) a (suc f) p = like-follow ms rs gs (a .1) f p
 
 like-all : (W : List ℕ) (ms : List Node) (n : ℕ) (rs : List Ref) (ps : List Slot) → n ≤ length rs → n ≤ length ps
-    → ((i : ℕ) → i < n → Same ms (getD rs i undet) (rawOf W (partOf ps i) .nodes) (rawOf W (partOf ps i) .root)) → AllLike ms (take n rs) (map (λ s. rawOf W (s .r)) (take n ps))
+    → ((i : ℕ) → i < n → Same ms (getD rs i (leaf undet)) (rawOf W (partOf ps i) .nodes) (rawOf W (partOf ps i) .root)) → AllLike ms (take n rs) (map (λ s. rawOf W (s .r)) (take n ps))
 like-all W ms zero rs ps a b h = tt
 like-all W ms (suc n) [] ps a b h = absurd (omega arith)
 like-all W ms (suc n) (r ∷ rs) [] a b h = absurd (omega arith)
@@ -89,45 +89,51 @@ module _ (W : List ℕ) (c : ℕ) (ps : List Slot) (n host dst : ℕ) (held : Pa
   made = make c (valuesFrom W ps 0 n)
 
   -- the parts stand in the new object
-  raw-at : (i : ℕ) → i < n → getD (rawsFrom W ps 0 n) i (graph undet []) ≡ rawOf W (partOf ps i)
+  raw-at : (i : ℕ) → i < n → getD (rawsFrom W ps 0 n) i (graph (leaf undet) []) ≡ rawOf W (partOf ps i)
   unfolding rawsFrom
   raw-at i l =
-      getD-map-lt (λ s. rawOf W (s .r)) (take n ps) i (graph undet []) (record { r = Object 0 0 }) (omega (arith, length-take n ps, held .full))
+      getD-map-lt (λ s. rawOf W (s .r)) (take n ps) i (graph (leaf undet) []) (record { r = Object 0 0 }) (omega (arith, length-take n ps, held .full))
       ∙ ap (λ (s : Slot). rawOf W (s .r)) (getD-take n ps i (record { r = Object 0 0 }) l)
 
   all-within : AllWithin W ps n made
   all-within i l =
       subst (Within (rawOf W (partOf ps i))) (sym (made-raw W c ps n held))
       (subst (λ (h : Graph). Within h (make c (rawsFrom W ps 0 n))) (raw-at i l)
-      (within-field c (rawsFrom W ps 0 n) (raws-whole W c ps n held) (graph undet []) i (omega (arith, parts-length W ps n held))))
+      (within-field c (rawsFrom W ps 0 n) (raws-whole W c ps n held) (graph (leaf undet) []) i (omega (arith, parts-length W ps n held))))
 
   pub in-none : w % 256 ≡ noRoom → TriedIs W (make c (valuesFrom W ps 0 n)) host dst W1 NoRoom
   in-none z = tried-none W made host dst W1 (br .grown) (λ old. br .over z made old all-within)
 
-  module _ (ew : (w % 256 ≡ noRoom) → ⊥) where
+  module _ (ew : (w % 256 ≡ noRoom) → ⊥) (v : ℕ) (rn : RootNumbers ps n 0 v) where
     rb : RootBrought W ps n 0 W1 host w
     rb = br .done ew
 
     abbrev root-object : List ℕ
-    root-object = objectOf c n w
+    root-object = objectOf c n w v
 
-    like-code : (j : ℕ) → j < n → As W (partOf ps j) W1 host (getD root-object (2 + j) 0)
-    like-code j h = let e : 0 + j ≡ j = omega arith in rw (object-code c n w j) (rw e at (rb .done j (omega arith)))
+    like-code : (j : ℕ) → j < n → As W (partOf ps j) W1 host (getD (codesOf w) j 0)
+    like-code j h = let e : 0 + j ≡ j = omega arith in rw e at (rb .done j (omega arith))
+
+    -- a field: the code of a part, and its number
+    field-is : (j : ℕ) → j < n → refIn root-object 0 j ≡ refOf (getD (codesOf w) j 0) (besideOf (partOf ps j))
+    field-is j h =
+        let e : 0 + j ≡ j = omega arith in
+        object-ref c n w v j (omega arith) ∙ ap (refOf (getD (codesOf w) j 0)) (rw e at (rn .done j (omega arith)))
 
     pub in-block : Block W1 host
     in-block = br .grown .block
 
-    pub in-fits : Fits W1 host (objectOf c n w)
+    pub in-fits : Fits W1 host (objectOf c n w v)
     in-fits = record {
-      packed = codes-packed c n w few (λ j l m. rb .spare j (omega arith) m);
+      packed = codes-packed c n w v few (λ j l m. rb .spare j (omega arith) m) (numbers-plain ps n v rn (λ j. getD (codesOf w) j 0) (λ j l. like-code j l .plain));
       low = low-refs root-object (countIn W1 host) (λ j l. go j l (decLt j n));
     }
       where
-        go : (j : ℕ) → j < codeCount → Dec (j < n) → InRange (countIn W1 host) (refOf (getD root-object (2 + j) 0))
-        go j l (yes h) = like-code j h .low
-        go j l (no h) = rw (object-code c n w j, rb .spare j (omega (arith, h)) l) (leaf-low (countIn W1 host) undeterminedCode (omega arith))
+        go : (j : ℕ) → j < codeCount → Dec (j < n) → InRange (countIn W1 host) (refIn root-object 0 j)
+        go j l (yes h) = rw (field-is j h) (like-code j h .low)
+        go j l (no h) = rw (object-ref c n w v j l, rb .spare j (omega (arith, h)) l) (leaf-low (countIn W1 host) undeterminedCode (getD (pairsOf v) j 0) (omega arith))
 
-    module _ (W2 : List ℕ) (r : ℕ) (en : Entered W1 host (objectOf c n w) W2 r) where
+    module _ (W2 : List ℕ) (r : ℕ) (en : Entered W1 host (objectOf c n w v) W2 r) where
       both : Grown host W W2
       both = grown-more host W W1 W2 (br .grown) (en .grown)
 
@@ -151,7 +157,7 @@ module _ (W : List ℕ) (c : ℕ) (ps : List Slot) (n host dst : ℕ) (held : Pa
 
         top-is : new-node ≡ node c (take n (four root-object 0))
         unfolding nodeIn
-        top-is = ap₂ {A = ℕ} {B = ℕ} (λ x y. node x (take y (four root-object 0))) (object-class c n w) (object-count c n w)
+        top-is = ap₂ {A = ℕ} {B = ℕ} (λ x y. node x (take y (four root-object 0))) (object-class c n w v) (object-count c n w v)
 
         whole-more : Whole (graph (obj (length hosted)) (more hosted new-node))
         whole-more = record { top = omega (arith, size-more new-node hosted (in-block .whole .inner) hosted-low); inner = inner-more new-node hosted (in-block .whole .inner) hosted-low }
@@ -159,7 +165,7 @@ module _ (W : List ℕ) (c : ℕ) (ps : List Slot) (n host dst : ℕ) (held : Pa
         like-now : AllLike hosted (take n (four root-object 0)) (rawsFrom W ps 0 n)
         unfolding rawsFrom
         like-now = like-all W hosted n (four root-object 0) ps few (held .full) (λ i l p.
-            ap (λ (x : Ref). follow hosted x p) (four-at root-object 0 i (omega arith)) ∙ sym (like-code i l .same p))
+            ap (λ (x : Ref). follow hosted x p) (four-at root-object 0 i (omega arith) ∙ field-is i l) ∙ sym (like-code i l .same p))
 
         value-more : made ≡ canon (graph (obj (length hosted)) (more hosted new-node))
         value-more =
@@ -198,13 +204,13 @@ module _ (W : List ℕ) (c : ℕ) (ps : List Slot) (n host dst : ℕ) (held : Pa
 
         node-is : nodeAt (objectsIn W2 host) r ≡ node c (take n (four root-object 0))
         unfolding nodeIn
-        node-is = st .is ∙ ap₂ {A = ℕ} {B = ℕ} (λ x y. node x (take y (four root-object 0))) (object-class c n w) (object-count c n w)
+        node-is = st .is ∙ ap₂ {A = ℕ} {B = ℕ} (λ x y. node x (take y (four root-object 0))) (object-class c n w v) (object-count c n w v)
 
         like : AllLike (objectsIn W2 host) (take n (four root-object 0)) (rawsFrom W ps 0 n)
         unfolding rawsFrom
         like = like-all W (objectsIn W2 host) n (four root-object 0) ps few (held .full) (λ i l p.
-            ap (λ (x : Ref). follow (objectsIn W2 host) x p) (four-at root-object 0 i (omega arith))
-            ∙ sym (like-grown host W1 W2 (en .grown) W (partOf ps i) (getD root-object (2 + i) 0) (like-code i l) .same p))
+            ap (λ (x : Ref). follow (objectsIn W2 host) x p) (four-at root-object 0 i (omega arith) ∙ field-is i l)
+            ∙ sym (like-grown host W1 W2 (en .grown) W (partOf ps i) (getD (codesOf w) i 0) (like-code i l) .same p))
 
         value : make c (valuesFrom W ps 0 n) ≡ canon (graphAt W2 host r)
         value =

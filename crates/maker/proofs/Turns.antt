@@ -2,40 +2,27 @@
 -- Not here: which codes they are (Sorts), objects added (Merges, Joins).
 use Prim.Native.Nat.{ℕ, zero, suc, _+_, _-_, _*_, _<_, _≤_}
 use native.Mathlib.Omega.{arith}
-use native.Mathlib.Decide.{decLt, ℕ-discrete}
+use native.Mathlib.Decide.{decLt}
 use mathlib.Core.Path.{_≡_, refl, sym, ap, ap₂, _∙_, subst}
 use mathlib.Core.List.{List, [], _∷_}
 use mathlib.Core.Option.{some, Option·none-ne-some}
-use lib.ListN.{length, getD, take, getElem?, replicate, length-take, length-replicate, getD-replicate, List·getD-eq-default}
+use lib.ListN.{length, getD, take, getElem?, length-take, List·getD-eq-default}
 use lib.Seq.{getD-take}
 use Rattle.cofj.specs.Partial.{_>>=_}
-use Rattle.cofj.specs.Values.{Ref, obj, mark, undet, Node, node, nodeAt, refsAt}
+use Rattle.cofj.specs.Values.{Ref, obj, leaf, mark, undet, num, Node, node, nodeAt, refsAt}
 use Rattle.cofj.specs.Unfolding.{object, follow, Same, InRange}
 use Rattle.cofj.proofs.Trees.{Pointwise, same-cls, same-count, same-child}
-use Rattle.canon.specs.Figures.{objectSize, headSize, codeCount, firstLeaf, undeterminedCode, firstMark, blockSize}
-use Rattle.canon.specs.Layout.{refOf, codeOf, nodeIn, Packed, countIn, objectsIn, Block, Inside}
-use Rattle.canon.proofs.Nodes.{ref-object, ref-undet, ref-mark, some-at, at-some, length-nodes, at-nodes, code-is, count-is}
-use Rattle.canon.proofs.Walks.{four, four-at}
+use Rattle.canon.specs.Figures.{objectSize, headSize, codeCount, numbersAt, firstLeaf, undeterminedCode, blockSize}
+use Rattle.canon.specs.Layout.{refOf, codeOf, numberAt, refIn, four, nodeIn, Packed, countIn, objectsIn, Block, Inside}
+use Rattle.canon.proofs.Nodes.{ref-object, ref-leaf, some-at, at-some, four-at, length-nodes, at-nodes, code-is, count-is}
 use Rattle.maker.specs.Adding.{Missed}
 use Rattle.maker.specs.Merging.{Fits, Standing, CodeAs}
 use Rattle.maker.specs.Sorting.{Fresh, codeAt, TurnedAs}
 use Rattle.maker.proofs.Adding.{refs-equal}
 
--- ---- an empty table
-pub zero-at : (k x : ℕ) → _≡_ {A = ℕ} (getD (replicate k 0) x 0) 0
-zero-at k x = go (decLt x k)
-  where
-    go : Dec (x < k) → _≡_ {A = ℕ} (getD (replicate k 0) x 0) 0
-    go (yes l) = getD-replicate k x 0 0 l
-    go (no l) = List·getD-eq-default (replicate k 0) 0 {n = x} (omega (arith, l, length-replicate {A = ℕ} k 0))
-
 -- ---- codes that are no objects
-pub leaf-low : (n c : ℕ) → firstLeaf ≤ c → InRange n (refOf c)
-leaf-low n c h = go (ℕ-discrete c undeterminedCode)
-  where
-    go : Dec (c ≡ undeterminedCode) → InRange n (refOf c)
-    go (yes e) = subst (InRange n) (sym (ap refOf e ∙ ref-undet)) tt
-    go (no d) = let z : c ≡ firstMark + (c - firstMark) = omega (arith, d) in subst (InRange n) (sym (ap refOf z ∙ ref-mark (c - firstMark))) tt
+pub leaf-low : (n c x : ℕ) → firstLeaf ≤ c → InRange n (refOf c x)
+leaf-low n c x h = subst (InRange n) (sym (ref-leaf c x h)) tt
 
 -- ---- an object with the same codes unfolds to the same tree
 refs-follow : (ns ms : List Node) (rs ss : List Ref) → Pointwise (λ r s. Same ns r ms s) rs ss → (f : ℕ) (p : List ℕ) → getElem? rs f >>= (λ s. follow ns s p) ≡ getElem? ss f >>= (λ s. follow ms s p)
@@ -79,13 +66,13 @@ four-all P a b c d pa pb pc pd (suc (suc zero)) r e = subst P (let z : c ≡ r =
 four-all P a b c d pa pb pc pd (suc (suc (suc zero))) r e = subst P (let z : d ≡ r = cc in z) pd
 four-all P a b c d pa pb pc pd (suc (suc (suc (suc f)))) r e = absurd (Option·none-ne-some r e)
 
-pub low-refs : (T : List ℕ) (n : ℕ) → ((j : ℕ) → j < codeCount → InRange n (refOf (getD T (2 + j) 0))) → (f : ℕ) (r : Ref) → getElem? (nodeIn T 0 .refs) f ≡ some r → InRange n r
+pub low-refs : (T : List ℕ) (n : ℕ) → ((j : ℕ) → j < codeCount → InRange n (refIn T 0 j)) → (f : ℕ) (r : Ref) → getElem? (nodeIn T 0 .refs) f ≡ some r → InRange n r
 unfolding nodeIn
 low-refs T n h = take-all (InRange n) (getD T 1 0) _ (four-all (InRange n) _ _ _ _ (h 0 (omega arith)) (h 1 (omega arith)) (h 2 (omega arith)) (h 3 (omega arith)))
 
 -- ---- the codes of an object, as references
 module _ (W : List ℕ) (src x : ℕ) (ib : Inside W src x) where
-  code-of-ref : (f : ℕ) → f < codeCount → codeAt W src x f ≡ codeOf (getD (refsAt (objectsIn W src) x) f undet)
+  code-of-ref : (f : ℕ) → f < codeCount → codeAt W src x f ≡ codeOf (getD (refsAt (objectsIn W src) x) f (leaf undet))
   unfolding objectsIn
   code-of-ref f h = code-is W (blockSize * src) (countIn W src) (ib .block .packed) x (ib .low) f h
 
@@ -99,72 +86,88 @@ module _ (W : List ℕ) (src x : ℕ) (ib : Inside W src x) where
     where
       is : (r : Ref) → codeOf r < firstLeaf → r ≡ obj (codeOf r)
       is (obj i) u = refl
-      is (mark k) u = absurd (omega arith)
-      is undet u = absurd (omega arith)
+      is (leaf (mark k)) u = absurd (omega arith)
+      is (leaf undet) u = absurd (omega arith)
+      is (leaf (num n)) u = absurd (omega arith)
 
       go : Dec (f < length (refsAt (objectsIn W src) x)) → getElem? (refsAt (objectsIn W src) x) f ≡ some (obj (codeAt W src x f))
       go (yes u) =
           some-at (refsAt (objectsIn W src) x) f u
-          ∙ ap some (is (getD (refsAt (objectsIn W src) x) f undet) (omega (arith, code-of-ref f h)) ∙ ap obj (sym (code-of-ref f h)))
+          ∙ ap some (is (getD (refsAt (objectsIn W src) x) f (leaf undet)) (omega (arith, code-of-ref f h)) ∙ ap obj (sym (code-of-ref f h)))
       go (no u) =
-          let z : codeAt W src x f ≡ undeterminedCode = code-of-ref f h ∙ ap codeOf (List·getD-eq-default (refsAt (objectsIn W src) x) undet {n = f} (omega (arith, u))) in
+          let z : codeAt W src x f ≡ undeterminedCode = code-of-ref f h ∙ ap codeOf (List·getD-eq-default (refsAt (objectsIn W src) x) (leaf undet) {n = f} (omega (arith, u))) in
           absurd (omega arith)
 
-  node-of : nodeAt (objectsIn W src) x ≡ node (getD W (blockSize * src + objectSize * x) 0) (take (getD W (blockSize * src + objectSize * x + 1) 0) (refOf (codeAt W src x 0) ∷ refOf (codeAt W src x 1) ∷ refOf (codeAt W src x 2) ∷ refOf (codeAt W src x 3) ∷ []))
+  node-of : nodeAt (objectsIn W src) x ≡ node (getD W (blockSize * src + objectSize * x) 0) (take (getD W (blockSize * src + objectSize * x + 1) 0) (four W (blockSize * src + objectSize * x)))
   unfolding objectsIn nodeIn
-  node-of =
-      let z0 : blockSize * src + objectSize * x + headSize + 0 ≡ blockSize * src + objectSize * x + 2 = omega arith in
-      let z1 : blockSize * src + objectSize * x + headSize + 1 ≡ blockSize * src + objectSize * x + 3 = omega arith in
-      let z2 : blockSize * src + objectSize * x + headSize + 2 ≡ blockSize * src + objectSize * x + 4 = omega arith in
-      let z3 : blockSize * src + objectSize * x + headSize + 3 ≡ blockSize * src + objectSize * x + 5 = omega arith in
-      at-nodes W (blockSize * src) (countIn W src) x (ib .low) ∙ rw (z0, z1, z2, z3)
+  node-of = at-nodes W (blockSize * src) (countIn W src) x (ib .low)
 
-  ref-of : (f : ℕ) (r : Ref) → f < codeCount → getElem? (refsAt (objectsIn W src) x) f ≡ some r → r ≡ refOf (codeAt W src x f)
+  ref-of : (f : ℕ) (r : Ref) → f < codeCount → getElem? (refsAt (objectsIn W src) x) f ≡ some r → r ≡ refIn W (blockSize * src + objectSize * x) f
   ref-of f r h e =
       let l : f < getD W (blockSize * src + objectSize * x + 1) 0 = omega (arith, at-some (refsAt (objectsIn W src) x) f r e .1, count-of) in
       sym (at-some (refsAt (objectsIn W src) x) f r e .0)
-      ∙ ap (λ (n : Node). getD (n .refs) f undet) node-of
-      ∙ getD-take (getD W (blockSize * src + objectSize * x + 1) 0) (refOf (codeAt W src x 0) ∷ refOf (codeAt W src x 1) ∷ refOf (codeAt W src x 2) ∷ refOf (codeAt W src x 3) ∷ []) f undet l ∙ pick f h
-    where
-      pick : (g : ℕ) → g < codeCount → getD (refOf (codeAt W src x 0) ∷ refOf (codeAt W src x 1) ∷ refOf (codeAt W src x 2) ∷ refOf (codeAt W src x 3) ∷ []) g undet ≡ refOf (codeAt W src x g)
-      pick zero u = refl
-      pick (suc zero) u = refl
-      pick (suc (suc zero)) u = refl
-      pick (suc (suc (suc zero))) u = refl
-      pick (suc (suc (suc (suc g)))) u = absurd (omega arith)
+      ∙ ap (λ (n : Node). getD (n .refs) f (leaf undet)) node-of
+      ∙ getD-take (getD W (blockSize * src + objectSize * x + 1) 0) (four W (blockSize * src + objectSize * x)) f (leaf undet) l ∙ four-at W (blockSize * src + objectSize * x) f h
 
 -- ---- an object turned
 module _ (W : List ℕ) (src x host : ℕ) (B : List ℕ) (ib : Inside W src x) (bk : Block W host) (tu : TurnedAs W src x host B) where
+  -- the numbers beside the codes are the same
+  beside : (f : ℕ) → f < codeCount → numberAt B (0 + numbersAt + 2 * f) ≡ numberAt W (blockSize * src + objectSize * x + numbersAt + 2 * f)
+  beside f h =
+      let za : 0 + numbersAt + 2 * f ≡ numbersAt + 2 * f = omega arith in
+      let zb : blockSize * src + objectSize * x + numbersAt + 2 * f ≡ blockSize * src + objectSize * x + (numbersAt + 2 * f) = omega arith in
+      let zc : numbersAt + 2 * f + 1 ≡ numbersAt + (2 * f + 1) = omega arith in
+      let zd : blockSize * src + objectSize * x + (numbersAt + 2 * f) + 1 ≡ blockSize * src + objectSize * x + (numbersAt + (2 * f + 1)) = omega arith in
+      rw (za, zb, zc, zd) (ap₂ {A = ℕ} {B = ℕ} (λ a b. a + 256 * b) (tu .rest (numbersAt + 2 * f) (omega arith) (omega arith)) (tu .rest (numbersAt + (2 * f + 1)) (omega arith) (omega arith)))
+
   pub turned-packed : Packed B 0
-  turned-packed = record { count = omega (arith, tu .count, ib .block .packed x (ib .low) .count); spare = spare }
+  turned-packed = record {
+    count = omega (arith, tu .count, pk .count);
+    spare = spare;
+    plain = λ f h d. beside f h ∙ pk .plain f h (λ e. d (tu .code f h .leaf (omega arith) ∙ e));
+    low = λ f h.
+        let za : 0 + numbersAt + 2 * f ≡ numbersAt + 2 * f = omega arith in
+        let zb : blockSize * src + objectSize * x + numbersAt + 2 * f ≡ blockSize * src + objectSize * x + (numbersAt + 2 * f) = omega arith in
+        omega (arith, ap (λ (q : ℕ). getD B q 0) za, tu .rest (numbersAt + 2 * f) (omega arith) (omega arith), ap (λ (q : ℕ). getD W q 0) zb, pk .low f h);
+    blank = λ k l m. let z : 0 + k ≡ k = omega arith in rw z (tu .rest k (omega arith) m ∙ pk .blank k l m);
+  }
     where
-      spare : (k : ℕ) → 2 + getD B (0 + 1) 0 ≤ k → k < objectSize → getD B (0 + k) 0 ≡ undeterminedCode
+      pk : Packed W (blockSize * src + objectSize * x)
+      pk = ib .block .packed x (ib .low)
+
+      spare : (k : ℕ) → 2 + getD B (0 + 1) 0 ≤ k → k < numbersAt → getD B (0 + k) 0 ≡ undeterminedCode
       spare k l m =
           let z : 2 + (k - 2) ≡ k = omega arith in
           let y : 0 + k ≡ k = omega arith in
           let v : blockSize * src + objectSize * x + headSize + (k - 2) ≡ blockSize * src + objectSize * x + k = omega arith in
-          let s : codeAt W src x (k - 2) ≡ undeterminedCode = ap (λ (q : ℕ). getD W q 0) v ∙ ib .block .packed x (ib .low) .spare k (omega (arith, tu .count)) m in
+          let s : codeAt W src x (k - 2) ≡ undeterminedCode = ap (λ (q : ℕ). getD W q 0) v ∙ pk .spare k (omega (arith, tu .count)) m in
           ap (λ (q : ℕ). getD B q 0) (y ∙ sym z) ∙ tu .code (k - 2) (omega arith) .leaf (omega arith) ∙ s
 
   pub turned-fits : Fits W host B
-  turned-fits = record { packed = turned-packed; low = low-refs B (countIn W host) (λ j l. tu .code j l .low) }
+  unfolding refIn
+  turned-fits = record { packed = turned-packed; low = low-refs B (countIn W host) (λ j l. tu .code j l .low _) }
+
+  -- its fields in the host
+  ref-same : (f : ℕ) → f < codeCount → Same (objectsIn W src) (refIn W (blockSize * src + objectSize * x) f) (objectsIn W host) (refIn B 0 f)
+  unfolding refIn
+  ref-same f h p = tu .code f h .same _ p ∙ ap (λ (y : ℕ). follow (objectsIn W host) (refOf (getD B (2 + f) 0) y) p) (sym (beside f h))
 
   -- the host has it
   pub turned-same : (r : ℕ) → Standing W host B r → CodeAs W src x host r
   unfolding nodeIn objectsIn
   turned-same r st =
-      let ro : refOf r ≡ obj r = ref-object r (omega (arith, st .low, bk .small)) in
-      let xo : refOf x ≡ obj x = ref-object x (omega (arith, ib .low, ib .block .small)) in
+      let ro : (y : ℕ) → refOf r y ≡ obj r = λ y. ref-object r y (omega (arith, st .low, bk .small)) in
+      let xo : (y : ℕ) → refOf x y ≡ obj x = λ y. ref-object x y (omega (arith, ib .low, ib .block .small)) in
       record {
-        low = subst (InRange (countIn W host)) (sym ro) (st .low);
+        low = λ y. subst (InRange (countIn W host)) (sym (ro y)) (st .low);
         leaf = λ l. absurd (omega (arith, ib .low, ib .block .small));
-        same = λ p. ap (λ (q : Ref). follow (objectsIn W src) q p) xo
+        same = λ y p. ap (λ (q : Ref). follow (objectsIn W src) q p) (xo y)
             ∙ object-tree (objectsIn W src) (objectsIn W host) x r (getD B 0 0) _ _
-            (node-of W src x ib ∙ ap₂ {A = ℕ} {B = ℕ} (λ c n. node c (take n (refOf (codeAt W src x 0) ∷ refOf (codeAt W src x 1) ∷ refOf (codeAt W src x 2) ∷ refOf (codeAt W src x 3) ∷ []))) (sym (tu .cls)) (sym (tu .count)))
+            (node-of W src x ib ∙ ap₂ {A = ℕ} {B = ℕ} (λ c n. node c (take n (four W (blockSize * src + objectSize * x)))) (sym (tu .cls)) (sym (tu .count)))
             (st .is)
             (refs-take (λ q s. Same (objectsIn W src) q (objectsIn W host) s) (getD B 1 0) _ _
-            (tu .code 0 (omega arith) .same, (tu .code 1 (omega arith) .same, (tu .code 2 (omega arith) .same, (tu .code 3 (omega arith) .same, tt))))) p
-            ∙ ap (λ (q : Ref). follow (objectsIn W host) q p) (sym ro);
+            (ref-same 0 (omega arith), (ref-same 1 (omega arith), (ref-same 2 (omega arith), (ref-same 3 (omega arith), tt))))) p
+            ∙ ap (λ (q : Ref). follow (objectsIn W host) q p) (sym (ro y));
       }
 
   -- the host has it not
@@ -185,20 +188,19 @@ module _ (W : List ℕ) (src x host : ℕ) (B : List ℕ) (ib : Inside W src x) 
   unfolding nodeIn
   fields = omega (arith, count-low, length-take (getD B 1 0) (four B 0))
 
-  ref-turned : (f : ℕ) (r : Ref) → getElem? (nodeIn B 0 .refs) f ≡ some r → (f < getD B 1 0) × (r ≡ refOf (getD B (2 + f) 0))
+  ref-turned : (f : ℕ) (r : Ref) → getElem? (nodeIn B 0 .refs) f ≡ some r → (f < getD B 1 0) × (r ≡ refIn B 0 f)
   unfolding nodeIn
   ref-turned f r e =
       let l : f < getD B 1 0 = omega (arith, at-some (take (getD B 1 0) (four B 0)) f r e .1, count-low, length-take (getD B 1 0) (four B 0)) in
-      let z : objectSize * 0 + headSize + f ≡ 2 + f = omega arith in
-      (l, sym (at-some (take (getD B 1 0) (four B 0)) f r e .0) ∙ getD-take (getD B 1 0) (four B 0) f undet l ∙ four-at B 0 f (omega (arith, count-low)) ∙ ap (λ (q : ℕ). refOf (getD B q 0)) z)
+      (l, sym (at-some (take (getD B 1 0) (four B 0)) f r e .0) ∙ getD-take (getD B 1 0) (four B 0) f (leaf undet) l ∙ four-at B 0 f (omega (arith, count-low)))
 
   module _ (y : ℕ) (l : y < countIn W host) (e : Same ps (obj x) ns (obj y)) where
     child : (f : ℕ) (r s : Ref) → getElem? (nodeIn B 0 .refs) f ≡ some r → getElem? (refsAt ns y) f ≡ some s → Same ns r ns s
     child f r s er es p =
         let h : f < codeCount = omega (arith, ref-turned f r er .0, count-low) in
-        let q : Ref = getD (refsAt ps x) f undet in
+        let q : Ref = getD (refsAt ps x) f (leaf undet) in
         let eq : getElem? (refsAt ps x) f ≡ some q = some-at (refsAt ps x) f (omega (arith, ref-turned f r er .0, tu .count, count-of W src x ib)) in
-        ap (λ (u : Ref). follow ns u p) (ref-turned f r er .1) ∙ sym (tu .code f h .same p) ∙ ap (λ (u : Ref). follow ps u p) (sym (ref-of W src x ib f q h eq))
+        ap (λ (u : Ref). follow ns u p) (ref-turned f r er .1) ∙ sym (ref-same f h p) ∙ ap (λ (u : Ref). follow ps u p) (sym (ref-of W src x ib f q h eq))
         ∙ same-child ps ns (obj x) (obj y) e f q s eq es p
 
     refs : refsAt ns y ≡ nodeIn B 0 .refs

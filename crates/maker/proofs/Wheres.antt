@@ -12,7 +12,7 @@ use types.Run.{OneOf}
 use denote.Enum.Declared.{tagOf}
 use Rattle.canon.specs.Layout.{part, Block}
 use Rattle.values.specs.declared.ValueRef.{ValueRef}
-use Rattle.values.specs.declared.ValueRef.the-variants.{Object, Mark, Undetermined}
+use Rattle.values.specs.declared.ValueRef.the-variants.{Object, Mark, Number, Undetermined}
 use Rattle.values.specs.Tests.{any}
 use Rattle.values.specs.Layout.{Holds}
 use Rattle.values.proofs.Tests.{not-true, not-false, any-there, any-not, any-more}
@@ -28,9 +28,9 @@ module _ (ps : List Slot) (n i : ℕ) (h : i < n) (v : ValueRef) (ev : v ≡ par
   unfolding someObject isObject
   object-there x k e = sym (any-there (λ j. isObject (partOf ps j)) n i h (ap isObject (sym ev ∙ e)))
 
-  pub leaves-more : someObject ps i ≡ false → OneOf (1 ∷ 2 ∷ []) (tagOf RefT.the-type v) → someObject ps (i + 1) ≡ false
+  pub leaves-more : someObject ps i ≡ false → OneOf (1 ∷ 2 ∷ 3 ∷ []) (tagOf RefT.the-type v) → someObject ps (i + 1) ≡ false
   unfolding someObject isObject
-  leaves-more a l = any-more (λ j. isObject (partOf ps j)) i a (ap isObject (sym ev) ∙ no-object (λ u. isObject u ≡ false) (λ k. refl) refl v l)
+  leaves-more a l = any-more (λ j. isObject (partOf ps j)) i a (ap isObject (sym ev) ∙ no-object (λ u. isObject u ≡ false) (λ k. refl) (λ x. refl) refl v l)
 
 module _ (ps : List Slot) where
   pub leaves-none : someObject ps 0 ≡ false
@@ -46,9 +46,9 @@ denied r a e q = sym e ∙ not-true r q
 
 -- ---- the first block other than 0
 module _ (v : ValueRef) where
-  pub block-leaf : OneOf (1 ∷ 2 ∷ []) (tagOf RefT.the-type v) → 0 ≡ blockOf v
+  pub block-leaf : OneOf (1 ∷ 2 ∷ 3 ∷ []) (tagOf RefT.the-type v) → 0 ≡ blockOf v
   unfolding blockOf
-  block-leaf = no-object (λ u. 0 ≡ blockOf u) (λ k. refl) refl v
+  block-leaf = no-object (λ u. 0 ≡ blockOf u) (λ k. refl) (λ x. refl) refl v
 
   pub block-object : (i b : ℕ) → v ≡ Object i b → b ≡ blockOf v
   unfolding blockOf
@@ -85,6 +85,7 @@ module _ (ps : List Slot) where
   unfolding blockOf
   own-block W (Object i b) h d = h .held .block
   own-block W (Mark k) h d = absurd (d refl)
+  own-block W (Number x) h d = absurd (d refl)
   own-block W Undetermined h d = absurd (d refl)
 
   module _ (W : List ℕ) (n : ℕ) (held : PartsHeld W ps n) where
@@ -117,6 +118,10 @@ stands-here b v x i e = rw e
 pub stands-mark : (b : ℕ) (v : ValueRef) (k : ℕ) → v ≡ Mark k → true ≡ standsIn b v
 unfolding standsIn
 stands-mark b v k e = rw e
+
+pub stands-number : (b : ℕ) (v : ValueRef) (x : ℕ) → v ≡ Number x → true ≡ standsIn b v
+unfolding standsIn
+stands-number b v x e = rw e
 
 pub stands-undet : (b : ℕ) (v : ValueRef) → v ≡ Undetermined → true ≡ standsIn b v
 unfolding standsIn

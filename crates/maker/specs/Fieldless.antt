@@ -7,9 +7,9 @@ use Rattle.canon.specs.Figures.{objectSize, undeterminedCode, countAt, levelAt,
 use Rattle.canon.specs.Layout.{Block, countIn, levelIn, Outside}
 use Rattle.maker.specs.Figures.{presetCount}
 
--- the six bytes of the object of class c without fields
+-- the sixteen bytes of the object of class c without fields
 abbrev pub fieldlessObject : ℕ → List ℕ
-fieldlessObject c = c ∷ 0 ∷ undeterminedCode ∷ undeterminedCode ∷ undeterminedCode ∷ undeterminedCode ∷ []
+fieldlessObject c = c ∷ 0 ∷ undeterminedCode ∷ undeterminedCode ∷ undeterminedCode ∷ undeterminedCode ∷ 0 ∷ 0 ∷ 0 ∷ 0 ∷ 0 ∷ 0 ∷ 0 ∷ 0 ∷ 0 ∷ 0 ∷ []
 
 -- the bytes of such a block
 pub record Preset (P : List ℕ) : Type 0 where

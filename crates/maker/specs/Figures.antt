@@ -22,3 +22,7 @@ presetCount = 32
 -- the four codes of fields that an object does not have, as one number: each is undetermined
 abbrev pub unusedCodes : ℕ
 unusedCodes = 3233857728
+
+-- what the number of the fourth field is worth among the numbers of an object, two bytes each, as one number
+abbrev pub threePairs : ℕ
+threePairs = 281474976710656

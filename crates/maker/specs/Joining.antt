@@ -9,7 +9,7 @@ use lib.Dec.{eqb}
 use lib.ListN.{length, getD}
 use Rattle.cofj.specs.Values.{obj}
 use Rattle.cofj.specs.Unfolding.{Same}
-use Rattle.canon.specs.Figures.{objectSize, firstMark, capacity, countAt, blockSize}
+use Rattle.canon.specs.Figures.{objectSize, headSize, codeCount, firstMark, capacity, countAt, blockSize}
 use Rattle.canon.specs.Layout.{countIn, levelIn, reachIn, objectsIn, Block, Outside}
 use Rattle.canon.specs.Tables.{copied}
 use Rattle.maker.specs.Figures.{notTold, tooMany}
@@ -83,7 +83,7 @@ pub record Laid (W : List ℕ) (src host : ℕ) (T F : List ℕ) (n : ℕ) (W′
 pub record Extended (W : List ℕ) (src host : ℕ) (T F : List ℕ) (m : ℕ) (W′ : List ℕ) : Type 0 where
   pub count : countIn W′ host ≡ m
   pub reach : reachIn W′ host ≡ m
-  pub level : (q : ℕ) → q < objectSize * m → getD W′ (blockSize * host + q) 0 < firstMark + levelIn W′ host
+  pub level : (i f : ℕ) → i < m → f < codeCount → getD W′ (blockSize * host + objectSize * i + headSize + f) 0 < firstMark + levelIn W′ host
   pub here : (x k : ℕ) → x < countIn W src → New F x → k < objectSize → getD W′ (blockSize * host + objectSize * (getD T x 0 - 1) + k) 0 ≡ copied (numbersOf T) k (getD W (blockSize * src + objectSize * x + k) 0)
   pub old : (q : ℕ) → q < objectSize * countIn W host → getD W′ (blockSize * host + q) 0 ≡ getD W (blockSize * host + q) 0
   pub outside : Outside host W W′

@@ -10,10 +10,10 @@ use lib.Dec.{ltb, eqb}
 use lib.ListN.{length, getD, getElem?}
 use Rattle.cofj.specs.Values.{Ref, Graph, nodeAt}
 use Rattle.cofj.specs.Unfolding.{Same, InRange}
-use Rattle.canon.specs.Figures.{codeCount, firstLeaf, undeterminedCode, capacity, threeBytes}
+use Rattle.canon.specs.Figures.{codeCount, firstLeaf, undeterminedCode, numberCode, capacity, threeBytes}
 use Rattle.canon.specs.Layout.{refOf, nodeIn, Packed, countIn, objectsIn, Block, Outside}
 use Rattle.values.specs.declared.ValueRef.{ValueRef}
-use Rattle.values.specs.declared.ValueRef.the-variants.{Object, Mark, Undetermined}
+use Rattle.values.specs.declared.ValueRef.the-variants.{Object, Mark, Number, Undetermined}
 use Rattle.values.specs.Tests.{any}
 use Rattle.values.specs.Layout.{rawOf, liesIn}
 use Rattle.maker.specs.Figures.{noRoom}
@@ -22,7 +22,7 @@ use Rattle.maker.specs.declared.Made.the-variants.{Value}
 use Rattle.maker.specs.declared.merge.Tried.{Tried}
 use Rattle.maker.specs.declared.merge.Tried.the-variants.{Here, NoRoom}
 use Rattle.maker.specs.Laying.{MadeIs}
-use Rattle.maker.specs.Adding.{codesOf, partOf, Missed}
+use Rattle.maker.specs.Adding.{codesOf, partOf, besideOf, Missed}
 use Rattle.maker.specs.Crowds.{In, Within, BlockIn, Crowd}
 
 -- block host has grown: what was in it unfolds as before, and the other blocks are as before
@@ -59,11 +59,11 @@ refersFrom w f =
     cond (liesFrom (w % 256) f) true (cond (liesFrom (w / 256 % 256) f) true (cond (liesFrom (w / 65536 % 256) f) true (liesFrom (w / threeBytes) f)))
 
 -- ---- a code of another block
--- the code r of block host unfolds as the code c of block src
+-- the code r of block host unfolds as the code c of block src, whatever number is beside both
 pub record CodeAs (W : List ℕ) (src c host r : ℕ) : Type 0 where
-  pub low : InRange (countIn W host) (refOf r)
+  pub low : (x : ℕ) → InRange (countIn W host) (refOf r x)
   pub leaf : firstLeaf ≤ c → r ≡ c
-  pub same : Same (objectsIn W src) (refOf c) (objectsIn W host) (refOf r)
+  pub same : (x : ℕ) → Same (objectsIn W src) (refOf c x) (objectsIn W host) (refOf r x)
 
 -- the table has k + 1 for an object that unfolds as object k of the host
 pub record Mapped (W : List ℕ) (src host : ℕ) (M : List ℕ) : Type 0 where
@@ -79,10 +79,11 @@ pub record Imported (W : List ℕ) (src i host : ℕ) (W′ : List ℕ) (r : ℕ
   pub over : r ≡ noRoom → (g : Graph) → BlockIn W host g → In (objectsIn W src) i g → Crowd g
 
 -- ---- the parts
--- the code r of block host unfolds as the value of v in the bytes W
+-- the code r of block host, with v's number beside it, unfolds as the value of v in the bytes W
 pub record As (W : List ℕ) (v : ValueRef) (W′ : List ℕ) (host r : ℕ) : Type 0 where
-  pub low : InRange (countIn W′ host) (refOf r)
-  pub same : Same (rawOf W v .nodes) (rawOf W v .root) (objectsIn W′ host) (refOf r)
+  pub low : InRange (countIn W′ host) (refOf r (besideOf v))
+  pub plain : ((r ≡ numberCode) → ⊥) → besideOf v ≡ 0
+  pub same : Same (rawOf W v .nodes) (rawOf W v .root) (objectsIn W′ host) (refOf r (besideOf v))
 
 pub record PartImported (W : List ℕ) (v : ValueRef) (host : ℕ) (W′ : List ℕ) (r : ℕ) : Type 0 where
   pub grown : Grown host W W′
@@ -128,6 +129,7 @@ someIn ps n d = any (λ i. liesIn d (partOf ps i)) n
 unfoldable pub largerOf : List ℕ → ValueRef → ℕ → ℕ
 largerOf W (Object i x) b = cond (eqb x 0) b (cond (ltb (countIn W b) (countIn W x)) x b)
 largerOf W (Mark k) b = b
+largerOf W (Number x) b = b
 largerOf W Undetermined b = b
 
 -- the block with the most objects, of block b and those of the first n parts but block 0

@@ -6,7 +6,7 @@ use mathlib.Core.List.{List}
 use lib.ListN.{length, getD}
 use Rattle.canon.specs.Figures.{codeCount, firstLeaf, capacity}
 use Rattle.canon.specs.Layout.{countIn, objectsIn, graphAt, Inside}
-use Rattle.values.specs.Stepping.{unpaired}
+use Rattle.canon.specs.Tables.{zeroCount}
 use Rattle.maker.specs.Sorting.{codeAt, Listed}
 use Rattle.maker.specs.Crowds.{In}
 
@@ -14,7 +14,7 @@ use Rattle.maker.specs.Crowds.{In}
 pub record Noted (S L : List ℕ) (t : ℕ) : Type 0 where
   pub seen : length S ≡ capacity
   pub list : length L ≡ capacity
-  pub free : t + unpaired capacity S ≤ capacity
+  pub free : t + zeroCount capacity S ≤ capacity
   pub listed : (x : ℕ) → ((getD S x 0 ≡ 0) → ⊥) → Listed L t x
 
 -- the code c met: the list of t objects in L₀ has r in L, with no other new one than c

@@ -9,7 +9,7 @@ use lib.Dec.{ltb}
 use lib.ListN.{length, getD}
 use Rattle.cofj.specs.Values.{Node, obj}
 use Rattle.cofj.specs.Unfolding.{Same}
-use Rattle.canon.specs.Figures.{objectSize, headSize, codeCount, firstLeaf, capacity, blockSize}
+use Rattle.canon.specs.Figures.{objectSize, headSize, codeCount, numbersAt, firstLeaf, capacity, blockSize}
 use Rattle.canon.specs.Layout.{countIn, objectsIn, graphAt, Block}
 use Rattle.canon.specs.Numbers.{numberIn}
 use Rattle.maker.specs.Figures.{notTold}
@@ -43,11 +43,12 @@ codeAt W src x f = getD W (blockSize * src + objectSize * x + headSize + f) 0
 unfoldable pub turnIn : List ℕ → ℕ → ℕ
 turnIn T c = cond (ltb c firstLeaf) (numberIn T notTold c) c
 
--- B has the six bytes of object x of block src, its codes turned to codes of block host
+-- B has the bytes of object x of block src, its codes turned to codes of block host
 pub record TurnedAs (W : List ℕ) (src x host : ℕ) (B : List ℕ) : Type 0 where
   pub cls : getD B 0 0 ≡ getD W (blockSize * src + objectSize * x) 0
   pub count : getD B 1 0 ≡ getD W (blockSize * src + objectSize * x + 1) 0
   pub code : (f : ℕ) → f < codeCount → CodeAs W src (codeAt W src x f) host (getD B (2 + f) 0)
+  pub rest : (k : ℕ) → numbersAt ≤ k → k < objectSize → getD B k 0 ≡ getD W (blockSize * src + objectSize * x + k) 0
 
 -- whatever a new object refers to is decided
 pub record Settled (W : List ℕ) (src : ℕ) (T F : List ℕ) : Type 0 where

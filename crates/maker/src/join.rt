@@ -1,16 +1,22 @@
 // The new objects of a part, which lies in block src, added to the host, rings too.
 // `told` has k + 1 for an object of the part that is object k of the host, `fresh` has not 0 for a new one. Not here: which objects are new.
 use crate::TOO_MANY;
+use crate::object::lay;
 use crate::sort::turn;
+use canon::bytes::eight_at;
 use canon::layout::BLOCK;
+use canon::layout::BYTE;
 use canon::layout::CAPACITY;
 use canon::layout::COUNT;
 use canon::layout::LEVEL;
+use canon::layout::NUMBERS;
 use canon::layout::OBJECT;
 use canon::layout::REACH;
+use canon::layout::THREE_BYTES;
+use canon::layout::TWO_BYTES;
 use canon::number::level_of;
 ghost use mathlib.Core.Path.{_≡_};
-ghost use Prim.Native.Nat.{ℕ, _+_, _*_, _<_, _≤_};
+ghost use Prim.Native.Nat.{_+_, _*_, _<_, _≤_};
 ghost use lib.ListN.{length};
 ghost use Rattle.canon.specs.Figures.{objectSize, capacity, blockSize};
 ghost use Rattle.canon.specs.Layout.{Inside, countIn};
@@ -63,12 +69,11 @@ pub(crate) fn put_object(work: &mut [u8], src: u16, x: u8, host: u16, y: u8, tol
     let b = turn(told, work[p + 3]);
     let c = turn(told, work[p + 4]);
     let d = turn(told, work[p + 5]);
-    work[q] = work[p];
-    work[q + 1] = work[p + 1];
-    work[q + 2] = a;
-    work[q + 3] = b;
-    work[q + 4] = c;
-    work[q + 5] = d;
+    let w = (a as u32) + BYTE * (b as u32) + TWO_BYTES * (c as u32) + THREE_BYTES * (d as u32);
+    let v = eight_at(work, p + NUMBERS);
+    let class = work[p];
+    let count = work[p + 1];
+    lay(work, q, class, count, w, v);
 }
 
 // The new ones of the first n objects, each at the place that `told` has for it.
@@ -103,11 +108,7 @@ pub(crate) fn extend(work: &mut [u8], src: u16, host: u16, told: &[u8], fresh: &
     let t = work[BLOCK * (host as usize) + COUNT];
     let l = work[BLOCK * (host as usize) + LEVEL];
     put_new(work, src, host, told, fresh, n);
-    let k = level_of(
-        work,
-        BLOCK * (host as usize) + OBJECT * (t as usize),
-        OBJECT * ((m - t) as usize),
-    );
+    let k = level_of(work, BLOCK * (host as usize) + OBJECT * (t as usize), m - t);
     let h = higher(l, k);
     work[BLOCK * (host as usize) + COUNT] = m;
     work[BLOCK * (host as usize) + LEVEL] = h;

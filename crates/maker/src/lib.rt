@@ -3,6 +3,7 @@
 // fields, and `fieldless::PRESETS`.
 // Not here: what else is done with values (values), which objects are equal (canon), which blocks are free.
 pub(crate) mod parts; // the parts of a new object, and where they lie
+pub(crate) mod object; // a new object as numbers, and its bytes
 pub mod over; // a new object beside the objects of one block
 pub(crate) mod enter; // an object among the objects of a block
 pub(crate) mod reach; // what an object of a block leads to

@@ -4,11 +4,12 @@ use crate::limit::fits;
 use crate::merge::make_anew;
 use crate::merge::make_apart;
 use crate::merge::make_in;
+use crate::object::root_codes;
+use crate::object::root_numbers;
 use crate::over::add;
 use crate::over::empty;
 use crate::over::find;
 use crate::over::make_alone;
-use crate::over::root_codes;
 use crate::parts::first_block;
 use crate::parts::some_in;
 use crate::parts::some_object;
@@ -20,13 +21,13 @@ use values::ValueRef;
 use values::value::bring;
 ghost use mathlib.Core.Path.{_≡_};
 ghost use mathlib.Core.Bool.{true, false};
-ghost use Prim.Native.Nat.{ℕ, _+_, _*_, _<_, _≤_};
+ghost use Prim.Native.Nat.{_+_, _*_, _<_, _≤_};
 ghost use lib.ListN.{length};
 ghost use Rattle.cofj.specs.Values.{make};
 ghost use Rattle.canon.specs.Figures.{capacity, codeCount};
-ghost use Rattle.maker.specs.Laying.{partsOf, PartsHeld, Makeable, valuesFrom, MadeIs, MadeWithin};
+ghost use Rattle.maker.specs.Laying.{partsOf, Makeable, valuesFrom, MadeIs, MadeWithin};
 ghost use Rattle.canon.specs.Layout.{Block};
-ghost use Rattle.maker.specs.Adding.{someObject, blockOf, firstBlock, standsIn, allStand};
+ghost use Rattle.maker.specs.Adding.{allStand};
 ghost use Rattle.maker.specs.Merging.{someIn};
 
 // A new object whose parts lie in block b, or are no objects.
@@ -35,15 +36,16 @@ pub(crate) fn make_beside(work: &mut [u8], c: u8, parts: &[u32], n: u8, b: u16, 
     ensures { λ o. ⌜ MadeIs (now (work .entry)) (make c (valuesFrom (now (work .entry)) (partsOf (now (parts .entry))) 0 n)) dst (now (work .exit)) o ⌝ }
 {
     let w = root_codes(work, parts, n);
+    let v = root_numbers(parts, n);
     let t = work[BLOCK * (b as usize) + COUNT];
-    let k = find(work, b, t, c, n, w);
+    let k = find(work, b, t, c, n, w, v);
     if k < t {
         return Made::Value(bring(work, ValueRef::Object(k, b), dst));
     }
     if CAPACITY <= t {
         return make_anew(work, c, parts, n, dst);
     }
-    add(work, b, c, n, w, dst);
+    add(work, b, c, n, w, v, dst);
     Made::Value(ValueRef::Object(t, dst))
 }
 

@@ -5,18 +5,18 @@ use crate::NO_CODES;
 use crate::NO_ROOM;
 use crate::enter::enter;
 use crate::enter::enter_over;
-use crate::over::UNUSED;
+use crate::object::UNUSED;
+use crate::object::root_numbers;
 use crate::over::empty;
 use crate::part::import;
 use crate::parts::largest;
 use crate::parts::part_at;
-use canon::bytes::four_at;
 use canon::layout::BLOCK;
 use canon::layout::BYTE;
 use canon::layout::CAPACITY;
 use canon::layout::COUNT;
 use canon::layout::FIRST_MARK;
-use canon::layout::HEAD;
+use canon::layout::NUMBER;
 use canon::layout::OBJECT;
 use canon::layout::SPARE;
 use canon::layout::THREE_BYTES;
@@ -26,15 +26,15 @@ use values::value::bring;
 use values::value::copy_block;
 ghost use mathlib.Core.Path.{_≡_};
 ghost use mathlib.Core.Bool.{false};
-ghost use Prim.Native.Nat.{ℕ, _+_, _*_, _<_, _≤_};
+ghost use Prim.Native.Nat.{_+_, _*_, _<_, _≤_};
 ghost use lib.ListN.{length, getD};
 ghost use Rattle.cofj.specs.Values.{make};
 ghost use Rattle.canon.specs.Figures.{objectSize, codeCount, blockSize};
 ghost use Rattle.maker.specs.Laying.{partsOf, PartsHeld, Makeable, valuesFrom, MadeIs};
 ghost use Rattle.canon.specs.Layout.{Block, Inside};
-ghost use Rattle.values.specs.Layout.{Holds, liesIn};
+ghost use Rattle.values.specs.Layout.{Holds};
 ghost use Rattle.values.specs.declared.ValueRef.the-variants.{Object};
-ghost use Rattle.maker.specs.Merging.{Begun, TriedIs, PartImported, PartsBrought, someIn, largerOf, largestOf};
+ghost use Rattle.maker.specs.Merging.{Begun, TriedIs, PartImported, PartsBrought, someIn};
 
 // What trying a host answers: the value, or that there is no room for it.
 pub(crate) enum Tried {
@@ -47,10 +47,8 @@ pub(crate) fn import_fieldless(work: &mut [u8], b: u16, i: u8, host: u16) -> u8
     requires { ⌜ Inside (now work) b i × Block (now work) host × ((b ≡ host) → ⊥) × (getD (now work) (blockSize * b + objectSize * i + 1) 0 ≡ 0) ⌝ }
     ensures { λ r. ⌜ PartImported (now (work .entry)) (Object i b) host (now (work .exit)) r ⌝ }
 {
-    let p = BLOCK * (b as usize) + OBJECT * (i as usize);
-    let c = work[p];
-    let w = four_at(work, p + HEAD);
-    enter(work, host, c, 0, w)
+    let c = work[BLOCK * (b as usize) + OBJECT * (i as usize)];
+    enter(work, host, c, 0, UNUSED, 0)
 }
 
 // Object i of block b, in block host, whose first objects are those of block base: its number there, or NO_ROOM.
@@ -78,6 +76,7 @@ pub(crate) fn import_part(work: &mut [u8], v: ValueRef, base: u16, host: u16) ->
     match v {
         ValueRef::Object(i, b) => import_object(work, b, i, base, host),
         ValueRef::Mark(k) => FIRST_MARK + k,
+        ValueRef::Number(_) => NUMBER,
         ValueRef::Undetermined => UNDETERMINED,
     }
 }
@@ -118,7 +117,8 @@ pub(crate) fn try_in(
     if w % BYTE == NO_CODES {
         return Tried::NoRoom;
     }
-    let r = enter_over(work, host, c, n, w);
+    let v = root_numbers(parts, n);
+    let r = enter_over(work, host, c, n, w, v);
     if r == NO_ROOM {
         return Tried::NoRoom;
     }

@@ -10,7 +10,7 @@ use canon::layout::BLOCK;
 use canon::layout::COUNT;
 use canon::layout::PER_OBJECT;
 ghost use mathlib.Core.Path.{_≡_};
-ghost use Prim.Native.Nat.{ℕ, _+_, _*_, _<_, _≤_};
+ghost use Prim.Native.Nat.{_+_, _*_};
 ghost use lib.ListN.{getD};
 ghost use Rattle.canon.specs.Layout.{Block, Inside};
 ghost use Rattle.maker.specs.Merging.{Mapped, Imported};

@@ -5,7 +5,7 @@ use values::ValueRef;
 use values::refs::unpack;
 ghost use mathlib.Core.Path.{_≡_};
 ghost use mathlib.Core.Bool.{false};
-ghost use Prim.Native.Nat.{ℕ, _+_, _*_, _<_, _≤_};
+ghost use Prim.Native.Nat.{_+_, _*_, _<_, _≤_};
 ghost use lib.ListN.{length};
 ghost use Rattle.canon.specs.Figures.{codeCount};
 ghost use Rattle.canon.specs.Layout.{Block};
@@ -72,6 +72,7 @@ pub(crate) fn stands(v: ValueRef, b: u16) -> bool
     match v {
         ValueRef::Object(_, x) => x == b,
         ValueRef::Mark(_) => true,
+        ValueRef::Number(_) => true,
         ValueRef::Undetermined => true,
     }
 }
@@ -99,6 +100,7 @@ pub(crate) fn lies_in(v: ValueRef, d: u16) -> bool
     match v {
         ValueRef::Object(_, x) => x == d,
         ValueRef::Mark(_) => false,
+        ValueRef::Number(_) => false,
         ValueRef::Undetermined => false,
     }
 }

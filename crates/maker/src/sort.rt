@@ -4,16 +4,18 @@
 use crate::NOT_TOLD;
 use crate::over::find;
 use crate::seek::seek;
+use canon::bytes::eight_at;
 use canon::layout::BLOCK;
 use canon::layout::BYTE;
 use canon::layout::CODES;
 use canon::layout::COUNT;
 use canon::layout::FIRST_LEAF;
 use canon::layout::HEAD;
+use canon::layout::NUMBERS;
 use canon::layout::OBJECT;
 use canon::layout::THREE_BYTES;
 ghost use mathlib.Core.Path.{_≡_};
-ghost use Prim.Native.Nat.{ℕ, _+_, _*_, _<_, _≤_};
+ghost use Prim.Native.Nat.{ℕ, _+_, _*_, _<_};
 ghost use lib.ListN.{length, getD};
 ghost use Rattle.canon.specs.Figures.{firstLeaf, capacity};
 ghost use Rattle.canon.specs.Layout.{Block, Inside};
@@ -140,7 +142,8 @@ pub(crate) fn by_fields(
     };
     let p = BLOCK * (src as usize) + OBJECT * (x as usize);
     let t = work[BLOCK * (host as usize) + COUNT];
-    let k = find(work, host, t, work[p], work[p + 1], w);
+    let v = eight_at(work, p + NUMBERS);
+    let k = find(work, host, t, work[p], work[p + 1], w, v);
     if k < t {
         told[x as usize] = k + 1;
         return true;

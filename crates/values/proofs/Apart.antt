@@ -1,5 +1,5 @@
--- Objects told apart by a path, and objects that stay distinct where a mark is bound: the laws of `other_field`, `differ`, `unlike`, `stay_distinct`, and the block written.
--- Not here: how they are bound (Bindings).
+-- Objects told apart by a path, and objects that stay distinct where a mark is bound: the laws of `other_field`, `differ`, `unlike`, `stay_distinct`.
+-- Not here: how they are bound (Bindings), the block written (Puts).
 use Prim.Native.Nat.{ℕ, _+_, _*_, _<_, _≤_}
 use native.Mathlib.Omega.{arith}
 use native.Mathlib.Decide.{decLt, ℕ-discrete}
@@ -7,33 +7,29 @@ use mathlib.Core.Path.{_≡_, sym, ap, _∙_, subst}
 use mathlib.Core.Bool.{Bool, true, false, not, false≢true}
 use mathlib.Core.List.{List, []}
 use mathlib.Core.Option.{some, Option·none-ne-some}
-use lib.ListN.{length, getD, take, getElem?, List·getD-eq-default}
-use Rattle.cofj.specs.Values.{Ref, obj, undet, Node, node, graph, nodeAt, refsAt, colours, canon}
-use Rattle.cofj.specs.Unfolding.{follow, Same, InRange, Whole}
+use lib.ListN.{length, getD, getElem?, List·getD-eq-default}
+use Rattle.cofj.specs.Values.{Ref, obj, leaf, undet, Node, node, nodeAt, refsAt}
+use Rattle.cofj.specs.Unfolding.{follow, Same, InRange}
 use Rattle.cofj.proofs.Trees.{same-child, same-cls, same-count}
-use Rattle.cofj.proofs.Canon.{canon-length}
-use Rattle.cofj.proofs.Unique.{canon-canon}
 use Rattle.cofj.proofs.Operations.{boundNodes}
-use Rattle.canon.specs.Figures.{objectSize, headSize, codeCount, firstLeaf, undeterminedCode, wideSize, capacity, reachAt, blockSize}
-use Rattle.canon.specs.Layout.{codeOf, nodesIn, alikeAt, Distinct, Block, Inside, objectsIn, countIn, reachIn, ended}
-use Rattle.canon.specs.Tables.{Carried}
-use Rattle.canon.specs.Rounds.{Raw}
-use Rattle.canon.specs.Numbers.{Levels, Ready, Placed, Has, graphIn}
-use Rattle.canon.proofs.Nodes.{some-at, at-some, packed-same, nodes-same, length-nodes, AllPacked, class-is, count-is, code-is, four-fields, code-low, object-low, alike-yes, alike-no, ended-size, ended-below, ended-above, ended-count, ended-level, ended-reach}
-use Rattle.values.specs.declared.ValueRef.the-variants.{Object}
-use Rattle.values.specs.Operations.{Gives}
-use Rattle.values.specs.Binding.{Bound, Few, noneRefer, OtherField, Leads, DifferTest, UnlikeTest, UnlikeOthers, OthersTest, DistinctTest, Rooted}
+use Rattle.canon.specs.Figures.{objectSize, headSize, codeCount, numbersAt, firstLeaf, reachAt, blockSize}
+use Rattle.canon.specs.Layout.{codeOf, numberBeside, numberAt, nodesIn, alikeAt, Distinct, Block, Inside, objectsIn, countIn, reachIn}
+use Rattle.canon.proofs.Nodes.{some-at, at-some, length-nodes, AllPacked, class-is, count-is, code-is, number-is, four-fields, object-low, alike-yes, alike-no}
+use Rattle.values.specs.Binding.{Bound, Few, noneRefer, OtherField, Leads, DifferTest, UnlikeTest, UnlikeOthers, OthersTest, DistinctTest}
 use Rattle.values.proofs.Tests.{not-true, not-false}
-use Rattle.values.proofs.Partners.{leaf-codes, is-object}
+use Rattle.values.proofs.Objects.{leaf-refs, is-object}
 use Rattle.values.proofs.Blocks.{size-in}
 use Rattle.values.proofs.Trees.{in-larger}
 use Rattle.values.proofs.BoundTrees.{distinct-bound}
-use Rattle.values.proofs.Bindings.{free-code, objects-are}
+use Rattle.values.proofs.Bindings.{objects-are}
+use Rattle.values.proofs.Referring.{free-code}
 
--- ---- two objects side by side
 module _ (R : List ℕ) (x y : ℕ) where
-  pub other-here : (f : ℕ) → ((getD R (objectSize * x + headSize + f) 0 ≡ getD R (objectSize * y + headSize + f) 0) → ⊥) → OtherField R x y f
-  other-here f h = record { other = λ _. h }
+  pub other-code : (f : ℕ) → ((getD R (objectSize * x + headSize + f) 0 ≡ getD R (objectSize * y + headSize + f) 0) → ⊥) → OtherField R x y f
+  other-code f h = record { other = λ _ e _. h e }
+
+  pub other-number : (f m n : ℕ) → m ≡ numberAt R (objectSize * x + numbersAt + 2 * f) → n ≡ numberAt R (objectSize * y + numbersAt + 2 * f) → ((m ≡ n) → ⊥) → OtherField R x y f
+  other-number f m n em en h = record { other = λ _ _ e. h (em ∙ e ∙ sym en) }
 
   pub other-none : OtherField R x y 4
   other-none = record { other = λ h. absurd (omega arith) }
@@ -58,14 +54,18 @@ module _ (R : List ℕ) (n i k : ℕ) where
     count-at : (x : ℕ) → x < n → getD R (objectSize * x + 1) 0 ≡ length (refsAt ns x)
     count-at x h = let z : 0 + objectSize * x ≡ objectSize * x = omega arith in rw z at (count-is R 0 n packed x h)
 
-    code-at : (x : ℕ) → x < n → (f : ℕ) → f < codeCount → getD R (objectSize * x + headSize + f) 0 ≡ codeOf (getD (refsAt ns x) f undet)
+    code-at : (x : ℕ) → x < n → (f : ℕ) → f < codeCount → getD R (objectSize * x + headSize + f) 0 ≡ codeOf (getD (refsAt ns x) f (leaf undet))
     code-at x h f l = let z : 0 + objectSize * x ≡ objectSize * x = omega arith in rw z at (code-is R 0 n packed x h f l)
 
-    range-at : (x f : ℕ) → f < length (refsAt ns x) → InRange n (getD (refsAt ns x) f undet)
-    range-at x f h = subst (λ (l : ℕ). InRange l (getD (refsAt ns x) f undet)) (length-nodes R 0 n) (fw .whole .inner x f _ (some-at (refsAt ns x) f h))
+    number-at : (x : ℕ) → x < n → (f : ℕ) → f < codeCount → numberAt R (objectSize * x + numbersAt + 2 * f) ≡ numberBeside (getD (refsAt ns x) f (leaf undet))
+    number-at x h f l = let z : 0 + objectSize * x ≡ objectSize * x = omega arith in rw z at (number-is R 0 n packed x h f l)
 
-    spare-at : (x : ℕ) → x < n → (f : ℕ) → f < codeCount → getD R (objectSize * x + 1) 0 ≤ f → getD R (objectSize * x + headSize + f) 0 ≡ undeterminedCode
-    spare-at x h f l m = let z : objectSize * x + headSize + f ≡ objectSize * x + (2 + f) = omega arith in rw z (fw .packed x h .spare (2 + f) (omega arith) (omega arith))
+    range-at : (x f : ℕ) → f < length (refsAt ns x) → InRange n (getD (refsAt ns x) f (leaf undet))
+    range-at x f h = subst (λ (l : ℕ). InRange l (getD (refsAt ns x) f (leaf undet))) (length-nodes R 0 n) (fw .whole .inner x f _ (some-at (refsAt ns x) f h))
+
+    -- a field that there is not
+    spare-ref : (x : ℕ) → x < n → (f : ℕ) → getD R (objectSize * x + 1) 0 ≤ f → getD (refsAt ns x) f (leaf undet) ≡ leaf undet
+    spare-ref x h f m = List·getD-eq-default (refsAt ns x) (leaf undet) {n = f} (omega (arith, count-at x h))
 
     module _ (x y : ℕ) (ld : Leads R n i k x y) where
       pub differ-unlike : (r : Bool) → r ≡ alikeAt R (objectSize * x) (objectSize * y) → not r ≡ true → DifferTest R n i k true
@@ -86,18 +86,22 @@ module _ (R : List ℕ) (n i k : ℕ) where
         en : getD R (objectSize * x + 1) 0 ≡ getD R (objectSize * y + 1) 0
         en = alike-yes R (objectSize * x) (objectSize * y) u t (not-false u zu) .count
 
+        -- they are not the same field
+        not-same : getD (refsAt ns x) f (leaf undet) ≡ getD (refsAt ns y) f (leaf undet) → ⊥
+        not-same e = o .other hf (code-at x (ld .first) f hf ∙ ap codeOf e ∙ sym (code-at y (ld .second) f hf)) (number-at x (ld .first) f hf ∙ ap numberBeside e ∙ sym (number-at y (ld .second) f hf))
+
         field-low : f < getD R (objectSize * x + 1) 0
         field-low = go (decLt f (getD R (objectSize * x + 1) 0))
           where
             go : Dec (f < getD R (objectSize * x + 1) 0) → f < getD R (objectSize * x + 1) 0
             go (yes h) = h
-            go (no h) = absurd (o .other hf (spare-at x (ld .first) f hf (omega (arith, h)) ∙ sym (spare-at y (ld .second) f hf (omega (arith, h, en)))))
+            go (no h) = absurd (not-same (spare-ref x (ld .first) f (omega (arith, h)) ∙ sym (spare-ref y (ld .second) f (omega (arith, h, en)))))
 
         abbrev r : Ref
-        r = getD (refsAt ns x) f undet
+        r = getD (refsAt ns x) f (leaf undet)
 
         abbrev s : Ref
-        s = getD (refsAt ns y) f undet
+        s = getD (refsAt ns y) f (leaf undet)
 
         low-x : f < length (refsAt ns x)
         low-x = omega (arith, field-low, count-at x (ld .first))
@@ -115,10 +119,10 @@ module _ (R : List ℕ) (n i k : ℕ) where
         children e = same-child ns ns (obj x) (obj y) (ld .leads e) f r s (some-at (refsAt ns x) f low-x) (some-at (refsAt ns y) f low-y)
 
         pub differ-first : firstLeaf ≤ a → DifferTest R n i k true
-        differ-first h = record { yes = λ _ e. o .other hf (ea ∙ leaf-codes ns ns r s (in-larger n firstLeaf r (omega (arith, fw .small)) (range-at x f low-x)) (children e) (omega (arith, ea)) ∙ sym ec) }
+        differ-first h = record { yes = λ _ e. not-same (leaf-refs ns ns r s (in-larger n firstLeaf r (omega (arith, fw .small)) (range-at x f low-x)) (children e) (omega (arith, ea))) }
 
         pub differ-second : firstLeaf ≤ c → DifferTest R n i k true
-        differ-second h = record { yes = λ _ e. o .other hf (ea ∙ sym (leaf-codes ns ns s r (in-larger n firstLeaf s (omega (arith, fw .small)) (range-at y f low-y)) (λ p. sym (children e p)) (omega (arith, ec))) ∙ sym ec) }
+        differ-second h = record { yes = λ _ e. not-same (sym (leaf-refs ns ns s r (in-larger n firstLeaf s (omega (arith, fw .small)) (range-at y f low-y)) (λ p. sym (children e p)) (omega (arith, ec)))) }
 
         pub differ-step : a < firstLeaf → c < firstLeaf → Leads R n i k a c
         differ-step ha hc =
@@ -130,7 +134,6 @@ module _ (R : List ℕ) (n i k : ℕ) where
               leads = λ e p. ap (λ (q : Ref). follow ns q p) (ap obj ea ∙ sym (is-object r la)) ∙ children e p ∙ ap (λ (q : Ref). follow ns q p) (is-object s lc ∙ ap obj (sym ec));
             }
 
--- ---- one object and all others
 module _ (R : List ℕ) (n i : ℕ) where
   pub unlike-same : (k : ℕ) → k ≡ i → UnlikeTest R n i k true
   unlike-same k e = record { yes = λ _ _. e }
@@ -154,8 +157,6 @@ module _ (R : List ℕ) (n i : ℕ) where
   pub others-all : (k : ℕ) → UnlikeOthers R n i k → k ≤ n → n ≤ k → OthersTest R n i true
   others-all k o h l = let e : k ≡ n = omega arith in record { yes = λ _. rw e at o }
 
--- ---- the objects stay distinct
--- no object of the block refers to object i
 abbrev Free : List ℕ → ℕ → ℕ → Type 0
 Free W b i = (j : ℕ) → j < countIn W b → (f : ℕ) → f < codeCount → getD W (blockSize * b + objectSize * j + headSize + f) 0 ≡ i → ⊥
 
@@ -199,81 +200,3 @@ distinct-not R n = record { yes = λ z. absurd (false≢true z) }
 
 pub distinct-yes : (R : List ℕ) (n : ℕ) (r : Bool) → DistinctTest R n r → r ≡ true → Distinct (nodesIn R 0 n)
 distinct-yes R n r t e = t .yes e
-
--- ---- the objects written to a block as they are
-module _ (R : List ℕ) (n i : ℕ) (W : List ℕ) (dst : ℕ) (rd : Rooted R n i W dst) where
-  whole-graph : Whole (graphIn R n i)
-  whole-graph = record { top = omega (arith, length-nodes R 0 n, rd .inside); inner = rd .few .whole .inner }
-
-  pub rooted-small : n ≤ capacity
-  rooted-small = rd .few .small
-
-  pub rooted-raw : wideSize ≤ length R → Raw R n
-  rooted-raw h = record { few = omega (arith, rd .few .small); room = h; packed = rd .few .packed; whole = rd .few .whole }
-
-  module _ (d : Distinct (nodesIn R 0 n)) (D : List ℕ) (w : Carried R 0 W (blockSize * dst) (objectSize * n) D) (l : ℕ) (lv : Levels R 0 (objectSize * n) l) where
-    abbrev E : List ℕ
-    E = ended D dst n l n
-
-    wide : blockSize * dst + blockSize ≤ length D
-    wide = omega (arith, w .same, rd .room)
-
-    same-size : length E ≡ length W
-    same-size = ended-size D dst n l n wide ∙ w .same
-
-    written : (p : ℕ) → p < objectSize * n → getD E (blockSize * dst + p) 0 ≡ getD R p 0
-    written p h = ended-below D dst n l n wide (blockSize * dst + p) (omega (arith, rd .few .small)) ∙ w .here p h ∙ ap (λ (k : ℕ). getD R k 0) (let z : 0 + p ≡ p = omega arith in z)
-
-    size-is : countIn E dst ≡ n
-    size-is = ended-count D dst n l n wide
-
-    objects-same : objectsIn E dst ≡ nodesIn R 0 n
-    unfolding objectsIn
-    objects-same = ap (nodesIn E (blockSize * dst)) size-is ∙ nodes-same E R n (blockSize * dst) 0 (λ p h. let z : 0 + p ≡ p = omega arith in rw z (written p h))
-
-    packed-is : AllPacked E (blockSize * dst) (countIn E dst)
-    packed-is j h =
-        packed-same E R (blockSize * dst + objectSize * j) (objectSize * j)
-        (λ f g. let z : blockSize * dst + objectSize * j + f ≡ blockSize * dst + (objectSize * j + f) = omega arith in rw z (written (objectSize * j + f) (omega (arith, size-is))))
-        (rd .few .packed j (omega (arith, size-is)))
-
-    whole-is : Whole (graph undet (objectsIn E dst))
-    whole-is = subst (λ (ns : List Node). Whole (graph undet ns)) (sym objects-same) (rd .few .whole)
-
-    block-is : Block E dst
-    unfolding objectsIn
-    block-is = record {
-      room = omega (arith, same-size, rd .room);
-      small = rw size-is (rd .few .small);
-      packed = packed-is;
-      whole = whole-is;
-      distinct = subst Distinct (sym objects-same) d;
-      level = λ q h. let z : 0 + q ≡ q = omega arith in rw (written q (omega (arith, size-is)), ended-level D dst n l n wide) (rw z at (lv .below q (omega (arith, size-is))));
-      reach = λ j f h k c. omega (arith, size-is, ended-reach D dst n l n wide, code-low E (blockSize * dst) (countIn E dst) packed-is j h whole-is f k c);
-    }
-
-    pub put-distinct : Gives W dst E (Object i dst) (canon (graphIn R n i))
-    put-distinct = record {
-      held = record { held = record { block = block-is; low = rw size-is (rd .inside) } };
-      is = ap (λ (ns : List Node). canon (graph (obj i) ns)) objects-same;
-      place = omega arith;
-      outside = record {
-        same = same-size;
-        below = λ p h. ended-below D dst n l n wide p (omega arith) ∙ w .below p h;
-        above = λ p h. ended-above D dst n l n wide p (omega arith) ∙ w .above p (omega (arith, rd .few .small));
-      };
-    }
-
-  -- merged and numbered
-  pub merge-ready : wideSize ≤ length R → (C : List ℕ) → 256 ≤ length C → take n C ≡ colours (nodesIn R 0 n) → Ready R n C i W dst
-  merge-ready w C h e = record { raw = rooted-raw w; long = h; coloured = e; inside = rd .inside; room = rd .room }
-
-  pub put-merged : (W′ : List ℕ) (m : ℕ) → Placed R n i W dst W′ m → Gives W dst W′ (Object 0 dst) (canon (graphIn R n i))
-  put-merged W′ m p =
-      let h : Has W′ dst (canon (graphIn R n i)) = p .has (omega (arith, p .count, canon-length (graphIn R n i) whole-graph, length-nodes R 0 n, rd .few .small)) in
-      record {
-        held = record { held = h .inside };
-        is = ap canon (h .is) ∙ canon-canon (graphIn R n i) whole-graph;
-        place = omega arith;
-        outside = p .outside;
-      }

@@ -1,34 +1,31 @@
--- The objects of a block with a mark bound, in bytes: one law for each return of `bind_code`, `bind_object`, `bind_objects`, `refers` and `unreferred`.
--- Not here: what it does to trees (BoundTrees), which of them are equal then (Apart).
-use Prim.Native.Nat.{ℕ, zero, suc, _+_, _-_, _*_, _<_, _≤_}
+-- The objects of a block with a mark bound, in bytes: one law for each return of `bind_code`, `bind_object`, `bind_all` and `bind_objects`.
+-- Not here: what it does to trees (BoundTrees), which of them are equal then (Apart), who refers to whom (Referring).
+use Prim.Native.Nat.{ℕ, zero, suc, _+_, _-_, _*_, _%_, _<_, _≤_}
 use native.Mathlib.Omega.{arith}
 use native.Mathlib.Decide.{decLt, ℕ-discrete}
 use mathlib.Core.Path.{_≡_, refl, sym, ap, ap₂, _∙_, subst}
-use mathlib.Core.Bool.{Bool, true, false, not}
 use mathlib.Core.List.{List, _∷_}
 use mathlib.Core.Option.{some}
-use lib.Dec.{eqb}
 use lib.ListN.{length, getD, set, getElem?, length-set}
 use lib.Seq.{getD-set-same, getD-set-other}
-use borrow.Author.Tests.{le-ltb, eq-eqb, ne-eqb, eqb-true, eqb-false}
-use Rattle.cofj.specs.Values.{Ref, obj, mark, undet, Node, graph, refsAt, canon, bind, close}
+use borrow.Author.Tests.{eq-eqb, ne-eqb}
+use Rattle.cofj.specs.Values.{Ref, obj, leaf, mark, undet, num, Node, graph, refsAt, canon, bind, close}
 use Rattle.cofj.specs.Unfolding.{InRange, Whole}
 use Rattle.cofj.proofs.Operations.{boundNode, boundNodes, bound-whole}
-use Rattle.canon.specs.Figures.{objectSize, headSize, codeCount, firstLeaf, undeterminedCode, firstMark, capacity, objectsSize, countAt, blockSize}
+use Rattle.canon.specs.Figures.{objectSize, headSize, codeCount, numbersAt, firstLeaf, undeterminedCode, numberCode, firstMark, capacity, objectsSize, countAt, blockSize}
 use Rattle.canon.specs.Layout.{refOf, nodeIn, nodesIn, Packed, Block, Inside, objectsIn, graphAt, countIn}
 use Rattle.canon.specs.Numbers.{graphIn}
-use Rattle.canon.proofs.Nodes.{ref-object, ref-undet, ref-mark}
-use Rattle.canon.proofs.Turned.{node-changed}
+use Rattle.canon.specs.Tables.{Carried}
+use Rattle.canon.proofs.Nodes.{Code, isObject, isUndet, isNumber, isMark, code-view, ref-object, ref-undet, ref-number, ref-mark}
+use Rattle.canon.proofs.Lifts.{copy-plain, copy-rest, copy-turned}
+use Rattle.canon.proofs.Turned.{node-changed, packed-changed}
 use Rattle.values.specs.declared.ValueRef.{ValueRef}
-use Rattle.values.specs.Tests.{any}
 use Rattle.values.specs.Operations.{Gives}
-use Rattle.values.specs.Binding.{boundCode, boundByte, ObjectBound, ObjectsBound, Bound, Few, refersTo, noneRefer, Rooted}
-use Rattle.values.proofs.Tests.{not-true, any-there, any-not, any-more, any-none}
+use Rattle.values.specs.Binding.{boundCode, boundByte, ObjectBound, AllBound, Bound, Few, Rooted}
 use Rattle.values.proofs.Blocks.{size-in, whole-at}
 use Rattle.values.proofs.Trees.{close-canon}
 use Rattle.values.proofs.BoundTrees.{bind-other, bind-this}
 
--- ---- codes and objects bound
 module _ (hot i c : ℕ) where
   pub code-bound : c ≡ hot → i ≡ boundCode hot i c
   unfolding boundCode
@@ -38,97 +35,130 @@ module _ (hot i c : ℕ) where
   unfolding boundCode
   code-kept h = rw (ne-eqb c hot h)
 
-bound-ref : (x i c : ℕ) → i < firstLeaf → refOf (boundCode (firstMark + x) i c) ≡ bind x (obj i) (refOf c)
-bound-ref x i c small = go (decLt c firstLeaf) (ℕ-discrete c undeterminedCode) (ℕ-discrete c (firstMark + x))
+bound-ref : (x i c n : ℕ) → i < firstLeaf → refOf (boundCode (firstMark + x) i c) n ≡ bind x (obj i) (refOf c n)
+bound-ref x i c n small = go (code-view c)
   where
-    kept : (r : Ref) → refOf c ≡ r → ((c ≡ firstMark + x) → ⊥) → bind x (obj i) r ≡ r → refOf (boundCode (firstMark + x) i c) ≡ bind x (obj i) (refOf c)
-    kept r e h b = ap refOf (sym (code-kept (firstMark + x) i c h)) ∙ e ∙ sym b ∙ ap (bind x (obj i)) (sym e)
+    kept : (r : Ref) → refOf c n ≡ r → ((c ≡ firstMark + x) → ⊥) → bind x (obj i) r ≡ r → refOf (boundCode (firstMark + x) i c) n ≡ bind x (obj i) (refOf c n)
+    kept r e h b = ap (λ (d : ℕ). refOf d n) (sym (code-kept (firstMark + x) i c h)) ∙ e ∙ sym b ∙ ap (bind x (obj i)) (sym e)
 
-    go : Dec (c < firstLeaf) → Dec (c ≡ undeterminedCode) → Dec (c ≡ firstMark + x) → refOf (boundCode (firstMark + x) i c) ≡ bind x (obj i) (refOf c)
-    go (yes h) d e = kept (obj c) (ref-object c h) (λ z. omega arith) refl
-    go (no h) (yes d) e = kept undet (ap refOf d ∙ ref-undet) (λ z. omega arith) refl
-    go (no h) (no d) (yes e) =
-        ap refOf (sym (code-bound (firstMark + x) i c e)) ∙ ref-object i small ∙ sym (bind-this x i x (eq-eqb x x refl)) ∙ ap (bind x (obj i)) (sym (ap refOf e ∙ ref-mark x))
-    go (no h) (no d) (no e) =
-        let z : c ≡ firstMark + (c - firstMark) = omega (arith, h, d) in
-        kept (mark (c - firstMark)) (ap refOf z ∙ ref-mark (c - firstMark)) e (bind-other x i (c - firstMark) (ne-eqb (c - firstMark) x (λ y. e (omega (arith, h, d)))))
+    marked : (k : ℕ) → c ≡ firstMark + k → Dec (k ≡ x) → refOf (boundCode (firstMark + x) i c) n ≡ bind x (obj i) (refOf c n)
+    marked k e (yes z) =
+        ap (λ (d : ℕ). refOf d n) (sym (code-bound (firstMark + x) i c (e ∙ ap (λ (d : ℕ). firstMark + d) z))) ∙ ref-object i n small ∙ sym (bind-this x i k (eq-eqb k x z))
+        ∙ ap (bind x (obj i)) (sym (ap (λ (d : ℕ). refOf d n) e ∙ ref-mark k n))
+    marked k e (no z) = kept (leaf (mark k)) (ap (λ (d : ℕ). refOf d n) e ∙ ref-mark k n) (λ y. z (omega arith)) (bind-other x i k (ne-eqb k x z))
+
+    go : Code c → refOf (boundCode (firstMark + x) i c) n ≡ bind x (obj i) (refOf c n)
+    go (isObject h) = kept (obj c) (ref-object c n h) (λ z. omega arith) refl
+    go (isUndet e) = kept (leaf undet) (ap (λ (d : ℕ). refOf d n) e ∙ ref-undet n) (λ z. omega arith) refl
+    go (isNumber e) = kept (leaf (num n)) (ap (λ (d : ℕ). refOf d n) e ∙ ref-number n) (λ z. omega arith) refl
+    go (isMark k e) = marked k e (ℕ-discrete k x)
 
 module _ (S R : List ℕ) (x i : ℕ) (small : i < firstLeaf) where
   abbrev Here : ℕ → ℕ → Type 0
   Here from to = (f : ℕ) → f < objectSize → getD R (to + f) 0 ≡ boundByte (firstMark + x) i f (getD S (from + f) 0)
 
-  node-bound : (from to : ℕ) → Here from to → nodeIn R to ≡ boundNode x i (nodeIn S from)
-  unfolding boundByte
-  node-bound from to h =
-      let za : to + 0 ≡ to = omega arith in
-      let zb : from + 0 ≡ from = omega arith in
-      node-changed S R from to (boundCode (firstMark + x) i) (bind x (obj i)) (λ b. bound-ref x i b small) (rw (za, zb) at (h 0 (omega arith))) (h 1 (omega arith))
-      (λ k a l. h k l ∙ rw (le-ltb k headSize a))
+  -- the same for a byte's place in its object
+  placed : (from to : ℕ) → Here from to → (p : ℕ) → p < objectSize → getD R (to + p) 0 ≡ boundByte (firstMark + x) i (p % objectSize) (getD S (from + p) 0)
+  placed from to h p l = let e : p % objectSize ≡ p = omega arith in rw e (h p l)
+
+  node-bound : (from to : ℕ) → Here from to → Packed S from → nodeIn R to ≡ boundNode x i (nodeIn S from)
+  node-bound from to h pk = node-changed S R (boundCode (firstMark + x) i) from to (placed from to h) (bind x (obj i)) pk (λ b n _. bound-ref x i b n small)
 
   packed-bound : (from to : ℕ) → Here from to → Packed S from → Packed R to
-  unfolding boundByte
-  packed-bound from to h pk = record { count = rw (h 1 (omega arith)) (pk .count); spare = λ k a l. spare k a l }
-    where
-      spare : (k : ℕ) → 2 + getD R (to + 1) 0 ≤ k → k < objectSize → getD R (to + k) 0 ≡ undeterminedCode
-      spare k a l =
-          let e1 : getD R (to + 1) 0 ≡ getD S (from + 1) 0 = h 1 (omega arith) in
-          let es : getD S (from + k) 0 ≡ undeterminedCode = pk .spare k (omega arith) l in
-          h k l ∙ rw (le-ltb k headSize (omega arith)) (sym (code-kept (firstMark + x) i (getD S (from + k) 0) (λ z. omega arith)) ∙ es)
+  packed-bound from to h =
+      packed-changed S R (boundCode (firstMark + x) i) from to (placed from to h)
+      (sym (code-kept (firstMark + x) i undeterminedCode (λ z. omega arith))) (sym (code-kept (firstMark + x) i numberCode (λ z. omega arith)))
 
-  nodes-bound : (n from to : ℕ) → ((j : ℕ) → j < n → Here (from + objectSize * j) (to + objectSize * j)) → nodesIn R to n ≡ boundNodes x i (nodesIn S from n)
+  nodes-bound : (n from to : ℕ) → ((j : ℕ) → j < n → Here (from + objectSize * j) (to + objectSize * j)) → ((j : ℕ) → j < n → Packed S (from + objectSize * j)) → nodesIn R to n ≡ boundNodes x i (nodesIn S from n)
   unfolding nodesIn
-  nodes-bound zero from to h = refl
-  nodes-bound (suc n) from to h =
+  nodes-bound zero from to h pk = refl
+  nodes-bound (suc n) from to h pk =
       let za : to + objectSize * 0 ≡ to = omega arith in
       let zb : from + objectSize * 0 ≡ from = omega arith in
-      ap₂ {C = List Node} _∷_ (node-bound from to (rw (za, zb) at (h 0 (omega arith))))
+      ap₂ {C = List Node} _∷_ (node-bound from to (rw (za, zb) at (h 0 (omega arith))) (rw zb at (pk 0 (omega arith))))
       (nodes-bound n (from + objectSize) (to + objectSize) (λ j l.
       let ea : to + objectSize + objectSize * j ≡ to + objectSize * suc j = omega arith in
       let eb : from + objectSize + objectSize * j ≡ from + objectSize * suc j = omega arith in
-      rw (ea, eb) (h (suc j) (omega arith))))
+      rw (ea, eb) (h (suc j) (omega arith))) (λ j l.
+      let eb : from + objectSize + objectSize * j ≡ from + objectSize * suc j = omega arith in
+      rw eb (pk (suc j) (omega arith))))
 
--- ---- an object written byte by byte
-module _ (W : List ℕ) (p hot i : ℕ) (R₀ : List ℕ) (q : ℕ) where
-  byte-next : (k v : ℕ) (R : List ℕ) → ObjectBound W p hot i R₀ q k R → q + k < length R₀ → v ≡ boundByte hot i k (getD W (p + k) 0) → ObjectBound W p hot i R₀ q (k + 1) (set R (q + k) v)
-  byte-next k v R o room e = record {
-    same = length-set R (q + k) v ∙ o .same;
+module _ (R₀ : List ℕ) (p hot i : ℕ) where
+  -- the first k codes of the object at place p
+  record CodesBound (k : ℕ) (R : List ℕ) : Type 0 where
+    same : length R ≡ length R₀
+    here : (f : ℕ) → f < k → getD R (p + (headSize + f)) 0 ≡ boundCode hot i (getD R₀ (p + (headSize + f)) 0)
+    below : (y : ℕ) → y < p + headSize → getD R y 0 ≡ getD R₀ y 0
+    above : (y : ℕ) → p + headSize + k ≤ y → getD R y 0 ≡ getD R₀ y 0
+
+  code-next : (k v : ℕ) (R : List ℕ) → CodesBound k R → p + (headSize + k) < length R₀ → v ≡ boundCode hot i (getD R (p + (headSize + k)) 0) → CodesBound (k + 1) (set R (p + (headSize + k)) v)
+  code-next k v R o room e = record {
+    same = length-set R (p + (headSize + k)) v ∙ o .same;
     here = λ f h. go f h (ℕ-discrete f k);
-    below = λ y h. getD-set-other R (q + k) y v 0 (λ z. omega arith) ∙ o .below y h;
+    below = λ y h. getD-set-other R (p + (headSize + k)) y v 0 (λ z. omega arith) ∙ o .below y h;
+    above = λ y h. getD-set-other R (p + (headSize + k)) y v 0 (λ z. omega arith) ∙ o .above y (omega arith);
   }
     where
-      go : (f : ℕ) → f < k + 1 → Dec (f ≡ k) → getD (set R (q + k) v) (q + f) 0 ≡ boundByte hot i f (getD W (p + f) 0)
-      go f h (yes z) = rw z (getD-set-same R (q + k) v 0 (omega (arith, o .same)) ∙ e)
-      go f h (no z) = getD-set-other R (q + k) (q + f) v 0 (λ y. z (omega arith)) ∙ o .here f (omega (arith, z))
+      go : (f : ℕ) → f < k + 1 → Dec (f ≡ k) → getD (set R (p + (headSize + k)) v) (p + (headSize + f)) 0 ≡ boundCode hot i (getD R₀ (p + (headSize + f)) 0)
+      go f h (yes z) = rw z (getD-set-same R (p + (headSize + k)) v 0 (omega (arith, o .same)) ∙ e ∙ ap (boundCode hot i) (o .above (p + (headSize + k)) (omega arith)))
+      go f h (no z) = getD-set-other R (p + (headSize + k)) (p + (headSize + f)) v 0 (λ y. z (omega arith)) ∙ o .here f (omega (arith, z))
 
-  pub object-bound : q + objectSize ≤ length R₀ → (v2 v3 v4 v5 : ℕ) → v2 ≡ boundCode hot i (getD W (p + 2) 0) → v3 ≡ boundCode hot i (getD W (p + 3) 0)
-      → v4 ≡ boundCode hot i (getD W (p + 4) 0) → v5 ≡ boundCode hot i (getD W (p + 5) 0)
-      → ObjectBound W p hot i R₀ q objectSize (set (set (set (set (set (set R₀ q (getD W p 0)) (q + 1) (getD W (p + 1) 0)) (q + 2) v2) (q + 3) v3) (q + 4) v4) (q + 5) v5)
-  unfolding boundByte
+  all-codes : (R : List ℕ) → CodesBound codeCount R → ObjectBound R₀ p hot i R
+  all-codes R o = record {
+    same = o .same;
+    here = λ f h. go f h (decLt f headSize) (decLt f numbersAt);
+    below = λ y h. o .below y (omega arith);
+    above = λ y h. o .above y (omega arith);
+  }
+    where
+      go : (f : ℕ) → f < objectSize → Dec (f < headSize) → Dec (f < numbersAt) → getD R (p + f) 0 ≡ boundByte hot i f (getD R₀ (p + f) 0)
+      go f h (yes l) m = o .below (p + f) (omega arith) ∙ copy-plain (boundCode hot i) (getD R₀ (p + f) 0) f l
+      go f h (no l) (yes m) =
+          let e : headSize + (f - headSize) ≡ f = omega (arith, l) in
+          copy-turned (boundCode hot i) (getD R₀ (p + f) 0) f (getD R (p + f) 0) (omega (arith, l)) m (rw e at (o .here (f - headSize) (omega (arith, l))))
+      go f h (no l) (no m) = o .above (p + f) (omega (arith, m)) ∙ copy-rest (boundCode hot i) (getD R₀ (p + f) 0) f (omega (arith, m))
+
+  pub object-bound : p + objectSize ≤ length R₀ → (v2 v3 v4 v5 : ℕ) → v2 ≡ boundCode hot i (getD R₀ (p + 2) 0) → v3 ≡ boundCode hot i (getD (set R₀ (p + 2) v2) (p + 3) 0)
+      → v4 ≡ boundCode hot i (getD (set (set R₀ (p + 2) v2) (p + 3) v3) (p + 4) 0) → v5 ≡ boundCode hot i (getD (set (set (set R₀ (p + 2) v2) (p + 3) v3) (p + 4) v4) (p + 5) 0)
+      → ObjectBound R₀ p hot i (set (set (set (set R₀ (p + 2) v2) (p + 3) v3) (p + 4) v4) (p + 5) v5)
   object-bound room v2 v3 v4 v5 e2 e3 e4 e5 =
-      let o0 : ObjectBound W p hot i R₀ q 0 R₀ = record { same = refl; here = λ f h. absurd (omega arith); below = λ y h. refl } in
-      let zq : q + 0 ≡ q = omega arith in
-      let zp : p + 0 ≡ p = omega arith in
-      let o1 : ObjectBound W p hot i R₀ q 1 (set R₀ q (getD W p 0)) = rw zq at (byte-next 0 (getD W p 0) R₀ o0 (omega arith) (rw zp)) in
-      let o2 = byte-next 1 (getD W (p + 1) 0) _ o1 (omega arith) refl in
-      let o3 = byte-next 2 v2 _ o2 (omega arith) e2 in
-      let o4 = byte-next 3 v3 _ o3 (omega arith) e3 in
-      let o5 = byte-next 4 v4 _ o4 (omega arith) e4 in
-      byte-next 5 v5 _ o5 (omega arith) e5
+      let o0 : CodesBound 0 R₀ = record { same = refl; here = λ f h. absurd (omega arith); below = λ y h. refl; above = λ y h. refl } in
+      let o1 = code-next 0 v2 R₀ o0 (omega arith) e2 in
+      let o2 = code-next 1 v3 _ o1 (omega arith) e3 in
+      let o3 = code-next 2 v4 _ o2 (omega arith) e4 in
+      all-codes _ (code-next 3 v5 _ o3 (omega arith) e5)
 
--- ---- the objects of a block
-pub bound-none : (W : List ℕ) (b hot i : ℕ) (R : List ℕ) → ObjectsBound W b hot i 0 R
-bound-none W b hot i R = record { here = λ j f h. absurd (omega arith) }
+module _ (R₀ : List ℕ) (hot i : ℕ) where
+  pub bound-none : AllBound R₀ 0 hot i R₀
+  bound-none = record { same = refl; here = λ j f h. absurd (omega arith); above = λ y h. refl }
 
-pub bound-more : (W : List ℕ) (b hot i j : ℕ) (R R2 : List ℕ) → ObjectsBound W b hot i j R → ObjectBound W (blockSize * b + objectSize * j) hot i R (objectSize * j) objectSize R2 → ObjectsBound W b hot i (j + 1) R2
-bound-more W b hot i j R R2 o n = record { here = λ k f h l. go k f h l (ℕ-discrete k j) }
-  where
-    go : (k f : ℕ) → k < j + 1 → f < objectSize → Dec (k ≡ j) → getD R2 (objectSize * k + f) 0 ≡ boundByte hot i f (getD W (blockSize * b + objectSize * k + f) 0)
-    go k f h l (yes z) = rw z (n .here f l)
-    go k f h l (no z) = n .below (objectSize * k + f) (omega (arith, z)) ∙ o .here k f (omega (arith, z)) l
+  pub bound-more : (j : ℕ) (R R2 : List ℕ) → AllBound R₀ j hot i R → ObjectBound R (objectSize * j) hot i R2 → AllBound R₀ (j + 1) hot i R2
+  bound-more j R R2 o n = record {
+    same = n .same ∙ o .same;
+    here = λ k f h l. go k f h l (ℕ-discrete k j);
+    above = λ y h. n .above y (omega arith) ∙ o .above y (omega arith);
+  }
+    where
+      go : (k f : ℕ) → k < j + 1 → f < objectSize → Dec (k ≡ j) → getD R2 (objectSize * k + f) 0 ≡ boundByte hot i f (getD R₀ (objectSize * k + f) 0)
+      go k f h l (yes z) = rw z (n .here f l ∙ ap (boundByte hot i f) (o .above (objectSize * j + f) (omega arith)))
+      go k f h l (no z) = n .below (objectSize * k + f) (omega (arith, z)) ∙ o .here k f (omega (arith, z)) l
 
-pub bound-all : (W : List ℕ) (b x i n j : ℕ) (R : List ℕ) → n ≡ getD W (blockSize * b + countAt) 0 → ObjectsBound W b (firstMark + x) i j R → j ≤ n → n ≤ j → objectsSize ≤ length R → Bound W b x i R n
+  pub bound-done : (j n : ℕ) (R : List ℕ) → AllBound R₀ j hot i R → j ≤ n → n ≤ j → AllBound R₀ n hot i R
+  bound-done j n R o h k = let z : j ≡ n = omega arith in rw z at o
+
+pub bound-all : (W : List ℕ) (b x i : ℕ) (R₀ R₁ R : List ℕ) → Carried W (blockSize * b) R₀ 0 (objectSize * getD W (blockSize * b + countAt) 0) R₁ → AllBound R₁ (getD W (blockSize * b + countAt) 0) (firstMark + x) i R
+    → objectsSize ≤ length R₀ → Bound W b x i R (getD W (blockSize * b + countAt) 0)
 unfolding countIn
-bound-all W b x i n j R e o h k l = let z : j ≡ n = omega arith in record { count = e; objects = rw z at o; room = l }
+bound-all W b x i R₀ R₁ R c o l = record {
+  count = refl;
+  objects = record {
+    here = λ j f h k.
+        let z : 0 + (objectSize * j + f) ≡ objectSize * j + f = omega arith in
+        let y : blockSize * b + objectSize * j + f ≡ blockSize * b + (objectSize * j + f) = omega arith in
+        o .here j f h k ∙ ap (boundByte (firstMark + x) i f) (rw y (rw z at (c .here (objectSize * j + f) (omega arith))));
+  };
+  room = omega (arith, o .same, c .same);
+}
 
 module _ (W : List ℕ) (b i : ℕ) (ob : Inside W b i) where
   bk : Block W b
@@ -152,6 +182,7 @@ module _ (W : List ℕ) (b i : ℕ) (ob : Inside W b i) where
     unfolding objectsIn
     objects-are =
         nodes-bound W R x i (omega (arith, ob .low, bk .small)) n (blockSize * b) 0 (λ j h f l. let z : 0 + objectSize * j ≡ objectSize * j = omega arith in rw z (here-at j h f l))
+        (λ j h. bk .packed j (omega (arith, bd .count)))
         ∙ ap (λ (k : ℕ). boundNodes x i (nodesIn W (blockSize * b) k)) (bd .count)
 
     whole-bound : Whole (graph (obj i) (boundNodes x i (objectsIn W b)))
@@ -183,67 +214,3 @@ module _ (W : List ℕ) (b i : ℕ) (ob : Inside W b i) where
       place = g .place;
       outside = g .outside;
     }
-
--- ---- whether an object refers to another
-module _ (W : List ℕ) (p i : ℕ) where
-  abbrev is : ℕ → Bool
-  is f = eqb (getD W (p + 2 + f) 0) i
-
-  refer-at : (f a : ℕ) → f < codeCount → p + 2 + f ≡ a → getD W a 0 ≡ i → true ≡ refersTo W p i
-  unfolding refersTo
-  refer-at f a h z e = sym (any-there is 4 f h (eq-eqb _ _ (ap (λ (k : ℕ). getD W k 0) z ∙ e)))
-
-  pub refer-first : getD W (p + 2) 0 ≡ i → true ≡ refersTo W p i
-  refer-first = refer-at 0 (p + 2) (omega arith) (omega arith)
-
-  pub refer-second : getD W (p + 3) 0 ≡ i → true ≡ refersTo W p i
-  refer-second = refer-at 1 (p + 3) (omega arith) (omega arith)
-
-  pub refer-third : getD W (p + 4) 0 ≡ i → true ≡ refersTo W p i
-  refer-third = refer-at 2 (p + 4) (omega arith) (omega arith)
-
-  pub refer-last : ((getD W (p + 2) 0 ≡ i) → ⊥) → ((getD W (p + 3) 0 ≡ i) → ⊥) → ((getD W (p + 4) 0 ≡ i) → ⊥) → eqb (getD W (p + 5) 0) i ≡ refersTo W p i
-  unfolding refersTo
-  refer-last h2 h3 h4 = go (eqb (getD W (p + 5) 0) i) refl
-    where
-      at : (f a : ℕ) → p + 2 + f ≡ a → ((getD W a 0 ≡ i) → ⊥) → is f ≡ false
-      at f a e h = ne-eqb _ _ (λ q. h (ap (λ (k : ℕ). getD W k 0) (sym e) ∙ q))
-
-      codes : eqb (getD W (p + 5) 0) i ≡ false → (f : ℕ) → f < codeCount → is f ≡ false
-      codes z zero h = at 0 (p + 2) (omega arith) h2
-      codes z (suc zero) h = at 1 (p + 3) (omega arith) h3
-      codes z (suc (suc zero)) h = at 2 (p + 4) (omega arith) h4
-      codes z (suc (suc (suc zero))) h = at 3 (p + 5) (omega arith) (eqb-false _ _ z)
-      codes z (suc (suc (suc (suc f)))) h = absurd (omega arith)
-
-      go : (r : Bool) → eqb (getD W (p + 5) 0) i ≡ r → r ≡ refersTo W p i
-      go true z = refer-at 3 (p + 5) (omega arith) (omega arith) (eqb-true _ _ z)
-      go false z = sym (any-none is 4 (codes z))
-
-  refer-not : refersTo W p i ≡ false → (f : ℕ) → f < codeCount → getD W (p + 2 + f) 0 ≡ i → ⊥
-  unfolding refersTo
-  refer-not z f h = eqb-false _ _ (any-not is 4 f z h)
-
-module _ (W : List ℕ) (b i : ℕ) where
-  abbrev refers : ℕ → Bool
-  refers k = refersTo W (blockSize * b + objectSize * k) i
-
-  pub free-none : noneRefer W b 0 i ≡ true
-  unfolding noneRefer any
-  free-none = refl
-
-  module _ (k : ℕ) (r : Bool) (er : r ≡ refersTo W (blockSize * b + objectSize * k) i) where
-    pub free-more : noneRefer W b k i ≡ true → r ≡ false → noneRefer W b (k + 1) i ≡ true
-    unfolding noneRefer
-    free-more u e = ap not (any-more refers k (not-true _ u) (sym er ∙ e))
-
-    pub free-not : (n : ℕ) → k < n → r ≡ true → false ≡ noneRefer W b n i
-    unfolding noneRefer
-    free-not n h e = sym (ap not (any-there refers n k h (sym er ∙ e)))
-
-  pub free-all : (k n : ℕ) → noneRefer W b k i ≡ true → k ≤ n → n ≤ k → true ≡ noneRefer W b n i
-  free-all k n u h l = let e : k ≡ n = omega arith in sym (rw e at u)
-
-  pub free-code : (n : ℕ) → noneRefer W b n i ≡ true → (j : ℕ) → j < n → (f : ℕ) → f < codeCount → getD W (blockSize * b + objectSize * j + headSize + f) 0 ≡ i → ⊥
-  unfolding noneRefer
-  free-code n u j h = refer-not W (blockSize * b + objectSize * j) i (any-not refers n j (not-true _ u) h)

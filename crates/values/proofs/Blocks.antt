@@ -2,14 +2,12 @@
 use Prim.Native.Nat.{ℕ, _+_, _*_, _<_, _≤_}
 use native.Mathlib.Omega.{arith}
 use mathlib.Core.Path.{_≡_, refl, sym, ap, ap₂, _∙_, subst}
-use mathlib.Core.Logic.{⊎-elim}
 use mathlib.Core.List.{List, [], _∷_, map}
 use mathlib.Core.Option.{some}
 use lib.ListN.{length, getD, take, getElem?}
-use borrow.Author.Tests.{eqb-false}
-use types.Run.{OneOf}
+use types.Run.{OneOf, miss}
 use denote.Enum.Declared.{tagOf}
-use Rattle.cofj.specs.Values.{Ref, obj, undet, Node, Graph, graph, renameNode, refsAt, colours, canon}
+use Rattle.cofj.specs.Values.{Ref, obj, leaf, undet, Node, Graph, graph, renameNode, refsAt, colours, canon}
 use Rattle.cofj.specs.Unfolding.{InRange, Whole}
 use Rattle.cofj.specs.ReportForm.{upFrom}
 use Rattle.cofj.proofs.Canon.{node-id, canon-length}
@@ -22,7 +20,7 @@ use Rattle.canon.proofs.Nodes.{length-nodes, nodes-same, packed-same}
 use Rattle.canon.proofs.Colouring.{length-up, at-up, distinct-colours}
 use Rattle.canon.proofs.Rounds.{front-is}
 use Rattle.values.specs.declared.ValueRef.{ValueRef}
-use Rattle.values.specs.declared.ValueRef.the-variants.{Object, Mark, Undetermined}
+use Rattle.values.specs.declared.ValueRef.the-variants.{Object, Mark, Number, Undetermined}
 use Rattle.values.specs.Layout.{Holds, HeldBy}
 use Rattle.values.specs.Operations.{Taken, Moved}
 use Rattle.values.proofs.ValueRef as RefT
@@ -42,11 +40,30 @@ module _ (W : List ℕ) (r : ValueRef) (b i : ℕ) (h : Holds W r) (e : r ≡ Ob
 pub inside-room : (W : List ℕ) (b i : ℕ) → Inside W b i → blockSize * b + objectSize * i + objectSize ≤ length W
 inside-room W b i ob = omega (arith, ob .block .room, ob .block .small, ob .low)
 
--- a reference that stands for none is a mark or undetermined
-pub no-object : (P : ValueRef → Type 0) → ((k : ℕ) → P (Mark k)) → P Undetermined → (r : ValueRef) → OneOf (1 ∷ 2 ∷ []) (tagOf RefT.the-type r) → P r
-no-object P m u (Object i b) h = ⊎-elim (λ e. absurd (eqb-false 0 1 refl e)) (λ e. absurd (eqb-false 0 2 refl e)) h
-no-object P m u (Mark k) h = m k
-no-object P m u Undetermined h = u
+-- a reference that is of one of three variants
+pub no-object : (P : ValueRef → Type 0) → ((k : ℕ) → P (Mark k)) → ((n : ℕ) → P (Number n)) → P Undetermined → (r : ValueRef) → OneOf (1 ∷ 2 ∷ 3 ∷ []) (tagOf RefT.the-type r) → P r
+no-object P m n u (Object i b) h = absurd (miss (1 ∷ 2 ∷ 3 ∷ []) 0 tt h)
+no-object P m n u (Mark k) h = m k
+no-object P m n u (Number x) h = n x
+no-object P m n u Undetermined h = u
+
+pub no-mark : (P : ValueRef → Type 0) → ((i b : ℕ) → P (Object i b)) → ((n : ℕ) → P (Number n)) → P Undetermined → (r : ValueRef) → OneOf (0 ∷ 2 ∷ 3 ∷ []) (tagOf RefT.the-type r) → P r
+no-mark P o n u (Object i b) h = o i b
+no-mark P o n u (Mark k) h = absurd (miss (0 ∷ 2 ∷ 3 ∷ []) 1 tt h)
+no-mark P o n u (Number x) h = n x
+no-mark P o n u Undetermined h = u
+
+pub no-number : (P : ValueRef → Type 0) → ((i b : ℕ) → P (Object i b)) → ((k : ℕ) → P (Mark k)) → P Undetermined → (r : ValueRef) → OneOf (0 ∷ 1 ∷ 3 ∷ []) (tagOf RefT.the-type r) → P r
+no-number P o m u (Object i b) h = o i b
+no-number P o m u (Mark k) h = m k
+no-number P o m u (Number x) h = absurd (miss (0 ∷ 1 ∷ 3 ∷ []) 2 tt h)
+no-number P o m u Undetermined h = u
+
+pub no-undetermined : (P : ValueRef → Type 0) → ((i b : ℕ) → P (Object i b)) → ((k : ℕ) → P (Mark k)) → ((n : ℕ) → P (Number n)) → (r : ValueRef) → OneOf (0 ∷ 1 ∷ 2 ∷ []) (tagOf RefT.the-type r) → P r
+no-undetermined P o m n (Object i b) h = o i b
+no-undetermined P o m n (Mark k) h = m k
+no-undetermined P o m n (Number x) h = n x
+no-undetermined P o m n Undetermined h = absurd (miss (0 ∷ 1 ∷ 2 ∷ []) 3 tt h)
 
 -- ---- taken up
 pub taken : (W : List ℕ) (b : ℕ) (I R₀ R : List ℕ) → Filled (λ i. 0 + i) (getD W (blockSize * b + countAt) 0) I → Carried W (blockSize * b) R₀ 0 (objectSize * getD W (blockSize * b + countAt) 0) R
@@ -75,7 +92,7 @@ module _ (W : List ℕ) (b : ℕ) (bk : Block W b) where
       let el : length ns ≡ n = ap length en ∙ size-in ∙ sym e in
       front-is I (upFrom 0 n) n (length-up 0 n) (omega (arith, bk .small)) (λ i h. f .at i h ∙ sym (at-up 0 n i h))
       ∙ ap (upFrom 0) (sym el ∙ ap length en)
-      ∙ sym (distinct-colours (graph undet (objectsIn W b)) (bk .whole) (bk .distinct))
+      ∙ sym (distinct-colours (graph (leaf undet) (objectsIn W b)) (bk .whole) (bk .distinct))
       ∙ ap colours (sym en)
 
   -- copied as they are
@@ -84,7 +101,7 @@ module _ (W : List ℕ) (b : ℕ) (bk : Block W b) where
     unfolding objectsIn
     copied-nodes = nodes-same R W n 0 (blockSize * b) (λ p l. tk .copy .here p l) ∙ ap (nodesIn W (blockSize * b)) (tk .count)
 
-    whole-copied : Whole (graph undet (nodesIn R 0 n))
+    whole-copied : Whole (graph (leaf undet) (nodesIn R 0 n))
     whole-copied = record { top = tt; inner = λ i k r e. subst (λ (ns : List Node). InRange (length ns) r) (sym copied-nodes) (bk .whole .inner i k r (subst (λ (ns : List Node). getElem? (refsAt ns i) k ≡ some r) copied-nodes e)) }
 
     raw-copied : wideSize ≤ length R₀ → Raw R n

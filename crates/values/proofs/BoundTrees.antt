@@ -5,23 +5,34 @@ use native.Mathlib.Omega.{arith}
 use mathlib.Core.Path.{_≡_, refl, sym, ap, _∙_}
 use mathlib.Core.Bool.{Bool, true, false}
 use mathlib.Core.List.{List, [], _∷_}
+use mathlib.Core.Logic.{_⊎_, inl, inr}
 use mathlib.Core.Option.{Option, none, some, Option·none-ne-some}
 use lib.Dec.{eqb}
 use lib.ListN.{length, getElem?, length-map}
 use borrow.Author.Tests.{eqb-true}
 use Rattle.cofj.specs.Partial.{_>>=_}
-use Rattle.cofj.specs.Values.{Ref, obj, mark, undet, Node, refsAt, bind}
-use Rattle.cofj.specs.Unfolding.{object, opened, unknown, labelAt, child, follow, Same, InRange, followBound}
+use Rattle.cofj.specs.Values.{Ref, obj, leaf, Leaf, mark, undet, num, Node, refsAt, bindLeaf, bind}
+use Rattle.cofj.specs.Unfolding.{object, atLeaf, labelAt, child, follow, Same, InRange, followBound}
 use Rattle.cofj.proofs.Operations.{boundNode, boundNodes, bound-follow}
 use Rattle.canon.specs.Layout.{Distinct}
 
--- ---- a mark bound
-module _ (x i k : ℕ) where
-  pub bind-this : eqb k x ≡ true → bind x (obj i) (mark k) ≡ obj i
-  bind-this q = ap (λ (t : Bool). elim t as (λ _. Ref) [ true ↦ obj i | false ↦ mark k ]) q
+-- ---- a leaf bound
+module _ (x i : ℕ) where
+  pub bind-this : (k : ℕ) → eqb k x ≡ true → bind x (obj i) (leaf (mark k)) ≡ obj i
+  bind-this k q = ap (λ (t : Bool). elim t as (λ _. Ref) [ true ↦ obj i | false ↦ leaf (mark k) ]) q
 
-  pub bind-other : eqb k x ≡ false → bind x (obj i) (mark k) ≡ mark k
-  bind-other q = ap (λ (t : Bool). elim t as (λ _. Ref) [ true ↦ obj i | false ↦ mark k ]) q
+  pub bind-other : (k : ℕ) → eqb k x ≡ false → bind x (obj i) (leaf (mark k)) ≡ leaf (mark k)
+  bind-other k q = ap (λ (t : Bool). elim t as (λ _. Ref) [ true ↦ obj i | false ↦ leaf (mark k) ]) q
+
+  -- the mark itself is the object, any other leaf stays
+  bind-leaf : (l : Leaf) → ((l ≡ mark x) × (bindLeaf x (obj i) l ≡ obj i)) ⊎ (bindLeaf x (obj i) l ≡ leaf l)
+  bind-leaf (mark k) = go (eqb k x) refl
+    where
+      go : (t : Bool) → eqb k x ≡ t → ((mark k ≡ mark x) × (bindLeaf x (obj i) (mark k) ≡ obj i)) ⊎ (bindLeaf x (obj i) (mark k) ≡ leaf (mark k))
+      go true q = inl (ap mark (eqb-true k x q), bind-this k q)
+      go false q = inr (bind-other k q)
+  bind-leaf undet = inr refl
+  bind-leaf (num n) = inr refl
 
 -- ---- objects that are distinct stay so if nobody refers to the one that the mark is bound to, and no other becomes equal to it
 module _ (ns : List Node) (x i : ℕ)
@@ -44,39 +55,26 @@ module _ (ns : List Node) (x i : ℕ)
   same-bound r s z [] = ap (λ (y : Ref). some (labelAt ns y)) z
   same-bound r s z (f ∷ p) = ap (λ (y : Ref). child ns y f >>= (λ a. followBound x (obj i) ns a p)) z
 
-  label-this : (k : ℕ) → eqb k x ≡ true → some (labelAt ns (bind x (obj i) (mark k))) ≡ some (labelAt ns (obj i))
-  label-this k q = ap (λ (y : Ref). some (labelAt ns y)) (bind-this x i k q)
+  label : (l : Leaf) (r : Ref) → bindLeaf x (obj i) l ≡ r → some (labelAt ns (bindLeaf x (obj i) l)) ≡ some (labelAt ns r)
+  label l r q = ap (λ (y : Ref). some (labelAt ns y)) q
 
-  label-other : (k : ℕ) → eqb k x ≡ false → some (labelAt ns (bind x (obj i) (mark k))) ≡ some (opened k)
-  label-other k q = ap (λ (y : Ref). some (labelAt ns y)) (bind-other x i k q)
-
-  mark-object : (k a : ℕ) → Field (obj a) → Alike (mark k) (obj a) → ⊥
-  mark-object k a h e = go (eqb k x) refl
+  leaf-object : (l : Leaf) (a : ℕ) → Field (obj a) → Alike (leaf l) (obj a) → ⊥
+  leaf-object l a h e = go (bind-leaf x i l)
     where
-      go : (t : Bool) → eqb k x ≡ t → ⊥
-      go true q =
+      go : ((l ≡ mark x) × (bindLeaf x (obj i) l ≡ obj i)) ⊎ (bindLeaf x (obj i) l ≡ leaf l) → ⊥
+      go (inl q) =
           h .other (ap obj (only a (h .low)
-          (λ p. bound-follow x i ns p (obj i) ∙ sym (same-bound (mark k) (obj i) (bind-this x i k q) p) ∙ e .tree p ∙ sym (bound-follow x i ns p (obj a)))))
-      go false q = let z : some (opened k) ≡ some (object _ _) = sym (label-other k q) ∙ e .tree [] in let y : _≡_ {A = ℕ} 0 1 = cc in omega arith
+          (λ p. bound-follow x i ns p (obj i) ∙ sym (same-bound (leaf l) (obj i) (q .1) p) ∙ e .tree p ∙ sym (bound-follow x i ns p (obj a)))))
+      go (inr q) = let z : some (atLeaf l) ≡ some (object _ _) = sym (label l (leaf l) q) ∙ e .tree [] in let y : _≡_ {A = ℕ} 0 1 = cc in omega arith
 
-  mark-mark : (k l : ℕ) → Alike (mark k) (mark l) → mark k ≡ mark l
-  mark-mark k l e = go (eqb k x) (eqb l x) refl refl
+  leaf-leaf : (l m : Leaf) → Alike (leaf l) (leaf m) → leaf l ≡ leaf m
+  leaf-leaf l m e = go (bind-leaf x i l) (bind-leaf x i m)
     where
-      go : (t u : Bool) → eqb k x ≡ t → eqb l x ≡ u → mark k ≡ mark l
-      go true true q w = ap mark (eqb-true k x q ∙ sym (eqb-true l x w))
-      go true false q w = let z : some (object _ _) ≡ some (opened l) = sym (label-this k q) ∙ e .tree [] ∙ label-other l w in cc
-      go false true q w = let z : some (opened k) ≡ some (object _ _) = sym (label-other k q) ∙ e .tree [] ∙ label-this l w in cc
-      go false false q w = let z : some (opened k) ≡ some (opened l) = sym (label-other k q) ∙ e .tree [] ∙ label-other l w in cc
-
-  mark-undet : (k : ℕ) → Alike (mark k) undet → ⊥
-  mark-undet k e = go (eqb k x) refl
-    where
-      go : (t : Bool) → eqb k x ≡ t → ⊥
-      go true q = let z : some (object _ _) ≡ some unknown = sym (label-this k q) ∙ e .tree [] in let y : _≡_ {A = ℕ} 0 1 = cc in omega arith
-      go false q = let z : some (opened k) ≡ some unknown = sym (label-other k q) ∙ e .tree [] in let y : _≡_ {A = ℕ} 0 1 = cc in omega arith
-
-  undet-object : (a : ℕ) → Alike undet (obj a) → ⊥
-  undet-object a e = let z : some unknown ≡ some (object _ _) = e .tree [] in let y : _≡_ {A = ℕ} 0 1 = cc in omega arith
+      go : ((l ≡ mark x) × (bindLeaf x (obj i) l ≡ obj i)) ⊎ (bindLeaf x (obj i) l ≡ leaf l) → ((m ≡ mark x) × (bindLeaf x (obj i) m ≡ obj i)) ⊎ (bindLeaf x (obj i) m ≡ leaf m) → leaf l ≡ leaf m
+      go (inl q) (inl w) = ap leaf (q .0 ∙ sym (w .0))
+      go (inl q) (inr w) = let z : some (object _ _) ≡ some (atLeaf m) = sym (label l (obj i) (q .1)) ∙ e .tree [] ∙ label m (leaf m) w in cc
+      go (inr q) (inl w) = let z : some (atLeaf l) ≡ some (object _ _) = sym (label l (leaf l) q) ∙ e .tree [] ∙ label m (obj i) (w .1) in cc
+      go (inr q) (inr w) = let z : some (atLeaf l) ≡ some (atLeaf m) = sym (label l (leaf l) q) ∙ e .tree [] ∙ label m (leaf m) w in cc
 
   -- two objects, and a field of each
   below : (a b : ℕ) → Alike (obj a) (obj b) → (f : ℕ) (p : List ℕ) → ((r s : Ref) → Field r → Field s → Alike r s → follow ns r p ≡ follow ns s p)
@@ -96,14 +94,9 @@ module _ (ns : List Node) (x i : ℕ)
 
   fields-by : (p : List ℕ) → ((a b : ℕ) → Alike (obj a) (obj b) → follow ns (obj a) p ≡ follow ns (obj b) p) → (r s : Ref) → Field r → Field s → Alike r s → follow ns r p ≡ follow ns s p
   fields-by p both (obj a) (obj b) hr hs e = both a b e
-  fields-by p both (obj a) (mark k) hr hs e = absurd (mark-object k a hr (turn (obj a) (mark k) e))
-  fields-by p both (obj a) undet hr hs e = absurd (undet-object a (turn (obj a) undet e))
-  fields-by p both (mark k) (obj b) hr hs e = absurd (mark-object k b hs e)
-  fields-by p both (mark k) (mark l) hr hs e = ap (λ (y : Ref). follow ns y p) (mark-mark k l e)
-  fields-by p both (mark k) undet hr hs e = absurd (mark-undet k e)
-  fields-by p both undet (obj b) hr hs e = absurd (undet-object b e)
-  fields-by p both undet (mark l) hr hs e = absurd (mark-undet l (turn undet (mark l) e))
-  fields-by p both undet undet hr hs e = refl
+  fields-by p both (obj a) (leaf k) hr hs e = absurd (leaf-object k a hr (turn (obj a) (leaf k) e))
+  fields-by p both (leaf k) (obj b) hr hs e = absurd (leaf-object k b hs e)
+  fields-by p both (leaf k) (leaf l) hr hs e = ap (λ (y : Ref). follow ns y p) (leaf-leaf k l e)
 
   fields : (p : List ℕ) (r s : Ref) → Field r → Field s → Alike r s → follow ns r p ≡ follow ns s p
   fields [] r s hr hs e = fields-by [] (λ a b q. q .tree []) r s hr hs e

@@ -2,16 +2,18 @@
 use Prim.Native.Nat.{ℕ, _+_, _*_, _≤_}
 use native.Mathlib.Omega.{arith}
 use mathlib.Core.Path.{_≡_, refl, sym, ap, _∙_}
+use mathlib.Core.Bool.{Bool, true, false}
 use mathlib.Core.List.{List, [], _∷_}
+use lib.Dec.{eqb}
 use lib.ListN.{getD}
 use borrow.Author.Tests.{eq-eqb, ne-eqb}
 use types.Run.{OneOf}
 use denote.Enum.Declared.{tagOf}
-use Rattle.cofj.specs.Values.{obj, Node, graph, canon, close}
+use Rattle.cofj.specs.Values.{Ref, obj, leaf, mark, undet, Node, graph, canon, close, markOf}
 use Rattle.canon.specs.Figures.{levelAt, blockSize}
 use Rattle.canon.specs.Layout.{Inside, objectsIn, graphAt, levelIn}
 use Rattle.values.specs.declared.ValueRef.{ValueRef}
-use Rattle.values.specs.declared.ValueRef.the-variants.{Object, Mark, Undetermined}
+use Rattle.values.specs.declared.ValueRef.the-variants.{Object, Mark, Number, Undetermined}
 use Rattle.values.specs.Layout.{valueOf, Holds, Low}
 use Rattle.values.specs.Operations.{Gives}
 use Rattle.values.proofs.ValueRef as RefT
@@ -25,8 +27,8 @@ module _ (W : List ℕ) (v : ValueRef) (dst : ℕ) (h : Holds W v) where
   stays : (u : ValueRef) → v ≡ u → Low (dst + 1) u → Gives W dst W u (valueOf W v)
   stays u e l = record { held = rw e at h; is = ap (valueOf W) (sym e); place = l; outside = unchanged dst W }
 
-  pub bring-leaf : OneOf (1 ∷ 2 ∷ []) (tagOf RefT.the-type v) → Gives W dst W v (valueOf W v)
-  bring-leaf o = stays v refl (no-object (Low (dst + 1)) (λ k. tt) tt v o)
+  pub bring-leaf : OneOf (1 ∷ 2 ∷ 3 ∷ []) (tagOf RefT.the-type v) → Gives W dst W v (valueOf W v)
+  bring-leaf o = stays v refl (no-object (Low (dst + 1)) (λ k. tt) (λ n. tt) tt v o)
 
   pub bring-here : (b i : ℕ) → v ≡ Object i b → b ≤ dst → Gives W dst W (Object i b) (valueOf W v)
   bring-here b i e l = stays (Object i b) e (omega arith)
@@ -47,13 +49,21 @@ module _ (W : List ℕ) (v : ValueRef) (dst : ℕ) (h : Holds W v) where
       close-bound g = rw e g
 
     -- ---- a leaf closed
+    bound : (k : ℕ) (t : Bool) → eqb k x ≡ t → close x (markOf k) ≡ graph (elim t as (λ _. Ref) [ true ↦ leaf undet | false ↦ leaf (mark k) ]) []
+    unfolding close
+    bound k t q = ap (λ (u : Bool). graph (elim u as (λ _. Ref) [ true ↦ leaf undet | false ↦ leaf (mark k) ]) []) q
+
     pub close-this : (k : ℕ) → v ≡ Mark k → k ≡ x → Gives W dst W Undetermined (close x (valueOf W v))
     unfolding close
-    close-this k e q = record { held = record { held = tt }; is = rw (e, eq-eqb k x q, close); place = tt; outside = unchanged dst W }
+    close-this k e q = record { held = record { held = tt }; is = rw e (sym (bound k true (eq-eqb k x q))); place = tt; outside = unchanged dst W }
 
     pub close-other : (k : ℕ) → v ≡ Mark k → (k ≡ x → ⊥) → Gives W dst W (Mark k) (close x (valueOf W v))
     unfolding close
-    close-other k e n = closes W (Mark k) (stays (Mark k) e tt) (rw (e, ne-eqb k x n, close))
+    close-other k e n = closes W (Mark k) (stays (Mark k) e tt) (rw e (sym (bound k false (ne-eqb k x n))))
+
+    pub close-number : (n : ℕ) → v ≡ Number n → Gives W dst W v (close x (valueOf W v))
+    unfolding close
+    close-number n e = closes W v (stays v refl (rw e tt)) (rw e)
 
     pub close-undetermined : v ≡ Undetermined → Gives W dst W v (close x (valueOf W v))
     unfolding close

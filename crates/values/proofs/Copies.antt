@@ -1,5 +1,5 @@
 -- Laws of a block copied as it is, of a value brought down, and of objects in which a mark does not occur.
-use Prim.Native.Nat.{ℕ, suc, _+_, _*_, _<_, _≤_}
+use Prim.Native.Nat.{ℕ, _+_, _*_, _<_, _≤_}
 use native.Mathlib.Omega.{arith}
 use native.Mathlib.Decide.{decLt, ℕ-discrete}
 use mathlib.Core.Path.{_≡_, refl, sym, ap, _∙_, subst}
@@ -9,13 +9,13 @@ use mathlib.Core.Option.{some, Option·none-ne-some}
 use lib.ListN.{length, getD, set, getElem?, length-set, List·getD-eq-default}
 use lib.Seq.{getD-set-same, getD-set-other}
 use borrow.Author.Tests.{ne-eqb}
-use Rattle.cofj.specs.Values.{Ref, obj, mark, undet, Node, node, graph, rename, refsAt, nodeAt, canon, bind}
+use Rattle.cofj.specs.Values.{Ref, obj, leaf, mark, undet, num, Node, node, graph, rename, refsAt, nodeAt, canon, bind}
 use Rattle.cofj.specs.Unfolding.{Whole}
 use Rattle.cofj.proofs.Operations.{boundNodes}
-use Rattle.canon.specs.Figures.{objectSize, headSize, codeCount, firstMark, capacity, objectsSize, countAt, levelAt, reachAt, blockSize}
-use Rattle.canon.specs.Layout.{codeOf, nodeIn, nodesIn, Packed, Distinct, Block, Inside, objectsIn, countIn, levelIn, reachIn, ended}
+use Rattle.canon.specs.Figures.{objectSize, headSize, codeCount, capacity, objectsSize, countAt, levelAt, reachAt, blockSize}
+use Rattle.canon.specs.Layout.{codeOf, nodesIn, Distinct, Block, Inside, objectsIn, countIn, levelIn, reachIn, ended}
 use Rattle.canon.specs.Tables.{Carried}
-use Rattle.canon.proofs.Nodes.{at-some, byteOf, packed-byte, packed-same, nodes-same, length-nodes, at-nodes, ended-size, ended-below, ended-above, ended-count, ended-level, ended-reach}
+use Rattle.canon.proofs.Nodes.{at-some, packed-same, nodes-same, length-nodes, code-is, four-fields, ended-size, ended-below, ended-above, ended-count, ended-level, ended-reach}
 use Rattle.canon.proofs.Turned.{nodes-agree}
 use Rattle.values.specs.declared.ValueRef.{ValueRef}
 use Rattle.values.specs.declared.ValueRef.the-variants.{Object}
@@ -101,9 +101,12 @@ block-moves W W′ b d en el er here room bk =
             let ea : blockSize * d + objectSize * i + f ≡ blockSize * d + (objectSize * i + f) = omega arith in
             let eb : blockSize * b + objectSize * i + f ≡ blockSize * b + (objectSize * i + f) = omega arith in
             rw (ea, eb) (here (objectSize * i + f) (omega arith))) (bk .packed i k);
-        whole = subst (λ (ns : List Node). Whole (graph undet ns)) (sym same) (bk .whole);
+        whole = subst (λ (ns : List Node). Whole (graph (leaf undet) ns)) (sym same) (bk .whole);
         distinct = subst Distinct (sym same) (bk .distinct);
-        level = λ q h. rw (here q (omega (arith, en)), el) (bk .level q (omega (arith, en)));
+        level = λ i f h k.
+            let ea : blockSize * d + objectSize * i + headSize + f ≡ blockSize * d + (objectSize * i + headSize + f) = omega arith in
+            let eb : blockSize * b + objectSize * i + headSize + f ≡ blockSize * b + (objectSize * i + headSize + f) = omega arith in
+            rw (ea, here (objectSize * i + headSize + f) (omega (arith, en)), el) (rw eb at (bk .level i f (omega (arith, en)) k));
         reach = λ i f h k.
             let ea : blockSize * d + objectSize * i + headSize + f ≡ blockSize * d + (objectSize * i + headSize + f) = omega arith in
             let eb : blockSize * b + objectSize * i + headSize + f ≡ blockSize * b + (objectSize * i + headSize + f) = omega arith in
@@ -129,36 +132,31 @@ unfolding countIn
 block-held W b i bk h = record { held = record { block = bk; low = h } }
 
 -- ---- a mark that does not occur
-bind-other : (x j : ℕ) (r : Ref) → ((r ≡ mark x) → ⊥) → bind x (obj j) r ≡ rename (λ i. i) r
+bind-other : (x j : ℕ) (r : Ref) → ((r ≡ leaf (mark x)) → ⊥) → bind x (obj j) r ≡ rename (λ i. i) r
 bind-other x j (obj i) h = refl
-bind-other x j (mark k) h = ap (λ (t : Bool). elim t as (λ _. Ref) [ true ↦ obj j | false ↦ mark k ]) (ne-eqb k x (λ z. h (ap mark z)))
-bind-other x j undet h = refl
+bind-other x j (leaf (mark k)) h = ap (λ (t : Bool). elim t as (λ _. Ref) [ true ↦ obj j | false ↦ leaf (mark k) ]) (ne-eqb k x (λ z. h (ap (λ (i : ℕ). leaf (mark i)) z)))
+bind-other x j (leaf undet) h = refl
+bind-other x j (leaf (num n)) h = refl
 
 module _ (W : List ℕ) (b x j : ℕ) (bk : Block W b) (low : levelIn W b ≤ x) where
-  ref-other : (i : ℕ) → i < getD W (blockSize * b + countAt) 0 → (k : ℕ) (r : Ref) → getElem? (nodeIn W (blockSize * b + objectSize * i) .refs) k ≡ some r → (r ≡ mark x) → ⊥
-  unfolding byteOf countIn
-  ref-other i h k r e z =
-      let p = at-some (nodeIn W (blockSize * b + objectSize * i) .refs) k r e in
-      let pk : Packed W (blockSize * b + objectSize * i) = bk .packed i h in
-      let l : getD W (blockSize * b + objectSize * i + 1) 0 ≡ length (nodeIn W (blockSize * b + objectSize * i) .refs) = packed-byte W (blockSize * b + objectSize * i) pk 1 (omega arith) in
-      let small : k < codeCount = omega (arith, p .1, pk .count) in
-      let c : getD W (blockSize * b + objectSize * i + (2 + k)) 0 ≡ firstMark + x = go k small (p .0) in
-      omega (arith, low, bk .level (objectSize * i + (2 + k)) (omega arith), ap (λ (y : ℕ). getD W y 0) (let q : blockSize * b + (objectSize * i + (2 + k)) ≡ blockSize * b + objectSize * i + (2 + k) = omega arith in q) ∙ c)
-    where
-      go : (k : ℕ) → k < codeCount → getD (nodeIn W (blockSize * b + objectSize * i) .refs) k undet ≡ r → getD W (blockSize * b + objectSize * i + (2 + k)) 0 ≡ firstMark + x
-      go k s d =
-          ap (λ (y : ℕ). getD W (blockSize * b + objectSize * i + y) 0) (let q : 2 + k ≡ suc (suc k) = omega arith in q)
-          ∙ packed-byte W (blockSize * b + objectSize * i) (bk .packed i h) (suc (suc k)) (omega arith) ∙ ap codeOf (d ∙ z)
+  abbrev ns : List Node
+  ns = nodesIn W (blockSize * b) (countIn W b)
 
-  inner-other : (i k : ℕ) (r : Ref) → getElem? (refsAt (nodesIn W (blockSize * b) (getD W (blockSize * b + countAt) 0)) i) k ≡ some r → (r ≡ mark x) → ⊥
-  inner-other i k r e = go (decLt i (getD W (blockSize * b + countAt) 0))
+  ref-other : (i : ℕ) → i < countIn W b → (k : ℕ) (r : Ref) → getElem? (refsAt ns i) k ≡ some r → (r ≡ leaf (mark x)) → ⊥
+  ref-other i h k r e z =
+      let p = at-some (refsAt ns i) k r e in
+      let l : k < codeCount = omega (arith, p .1, four-fields W (blockSize * b) (countIn W b) (bk .packed) i h) in
+      omega (arith, low, bk .level i k h l, code-is W (blockSize * b) (countIn W b) (bk .packed) i h k l ∙ ap codeOf (p .0 ∙ z))
+
+  inner-other : (i k : ℕ) (r : Ref) → getElem? (refsAt ns i) k ≡ some r → (r ≡ leaf (mark x)) → ⊥
+  inner-other i k r e = go (decLt i (countIn W b))
     where
-      go : Dec (i < getD W (blockSize * b + countAt) 0) → (r ≡ mark x) → ⊥
-      go (yes h) = ref-other i h k r (sym (ap (λ (y : Node). getElem? (y .refs) k) (at-nodes W (blockSize * b) (getD W (blockSize * b + countAt) 0) i h)) ∙ e)
+      go : Dec (i < countIn W b) → (r ≡ leaf (mark x)) → ⊥
+      go (yes h) = ref-other i h k r e
       go (no h) =
-          let d : nodeAt (nodesIn W (blockSize * b) (getD W (blockSize * b + countAt) 0)) i ≡ node 0 [] = List·getD-eq-default (nodesIn W (blockSize * b) (getD W (blockSize * b + countAt) 0)) (node 0 []) {n = i} (omega (arith, h, length-nodes W (blockSize * b) (getD W (blockSize * b + countAt) 0))) in
+          let d : nodeAt ns i ≡ node 0 [] = List·getD-eq-default ns (node 0 []) {n = i} (omega (arith, h, length-nodes W (blockSize * b) (countIn W b))) in
           absurd (Option·none-ne-some r (sym (ap (λ (y : Node). getElem? (y .refs) k) d) ∙ e))
 
   pub unbound : boundNodes x j (objectsIn W b) ≡ objectsIn W b
-  unfolding objectsIn countIn
-  unbound = nodes-agree (bind x (obj j)) (rename (λ i. i)) (λ r. (r ≡ mark x) → ⊥) (bind-other x j) (nodesIn W (blockSize * b) (getD W (blockSize * b + countAt) 0)) inner-other ∙ nodes-id _
+  unfolding objectsIn
+  unbound = nodes-agree (bind x (obj j)) (rename (λ i. i)) (λ r. (r ≡ leaf (mark x)) → ⊥) (bind-other x j) ns inner-other ∙ nodes-id _

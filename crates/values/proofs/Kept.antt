@@ -11,7 +11,7 @@ use Rattle.cofj.specs.Values.{Node, graph, obj, canon}
 use Rattle.canon.specs.Figures.{countAt, levelAt, reachAt, blockSize}
 use Rattle.canon.specs.Layout.{Block, objectsIn, countIn, levelIn, reachIn, Outside}
 use Rattle.values.specs.declared.ValueRef.{ValueRef}
-use Rattle.values.specs.declared.ValueRef.the-variants.{Object, Mark, Undetermined}
+use Rattle.values.specs.declared.ValueRef.the-variants.{Object, Mark, Number, Undetermined}
 use Rattle.values.specs.Layout.{valueOf, Holds, liesIn}
 use Rattle.values.proofs.Copies.{block-moves}
 
@@ -46,4 +46,5 @@ kept d W W′ o (Object i b) n h = object-kept W W′ b (o .same) (λ p l m. go 
     go p l m (yes q) = o .below p (omega arith)
     go p l m (no q) = o .above p (omega (arith, q, eqb-false b d n))
 kept d W W′ o (Mark k) n h = record { held = record { held = h .held }; is = refl }
+kept d W W′ o (Number x) n h = record { held = record { held = h .held }; is = refl }
 kept d W W′ o Undetermined n h = record { held = record { held = tt }; is = refl }

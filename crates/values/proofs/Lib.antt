@@ -1,7 +1,9 @@
 pub mod Tests
 pub mod Trees
 pub mod Pairs
+pub mod Objects
 pub mod Partners
+pub mod Queues
 pub mod Steps
 pub mod Blocks
 pub mod Selecting
@@ -9,7 +11,10 @@ pub mod RefLaws
 pub mod Copies
 pub mod BoundTrees
 pub mod Bindings
+pub mod Referring
 pub mod Apart
+pub mod Puts
 pub mod Closing
+pub mod Writes
 pub mod Reports
 pub mod Kept

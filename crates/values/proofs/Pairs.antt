@@ -1,13 +1,11 @@
--- Pairs of objects of two blocks, noted one by one: one law for each return of `step_code`, and how many objects are not paired.
+-- Pairs of objects of two blocks, noted one by one: one law for each return of `step_code`.
 -- Not here: what the pairs say of trees (Partners, Steps).
-use Prim.Native.Nat.{ℕ, zero, suc, _+_, _<_, _≤_}
+use Prim.Native.Nat.{ℕ, _+_, _<_, _≤_}
 use native.Mathlib.Omega.{arith}
 use native.Mathlib.Decide.{ℕ-discrete}
-use mathlib.Core.Path.{_≡_, refl, sym, ap, ap₂, _∙_}
-use mathlib.Core.Bool.{cond}
+use mathlib.Core.Path.{_≡_, sym, ap, _∙_}
 use mathlib.Core.List.{List}
 use mathlib.Core.Logic.{_⊎_, inl, inr, ⊎-elim}
-use lib.Dec.{eqb}
 use lib.ListN.{length, getD, set, length-set}
 use lib.Seq.{getD-set-same, getD-set-other}
 use borrow.Author.Tests.{lt-ltb, le-ltb, eq-eqb, ne-eqb}
@@ -15,34 +13,39 @@ use Rattle.cofj.specs.Values.{obj}
 use Rattle.cofj.specs.Unfolding.{Same}
 use Rattle.canon.specs.Figures.{firstLeaf, capacity}
 use Rattle.canon.specs.Layout.{countIn, objectsIn}
-use Rattle.values.specs.Stepping.{after, stepCode, CodeFits, unpaired, Paired}
+use Rattle.canon.proofs.Zeros.{zeros-put}
+use Rattle.values.specs.Stepping.{after, stepCode, CodeFits, Paired}
 
 -- ---- one code
-module _ (T Q : List ℕ) (t a b : ℕ) where
-  pub code-equal : firstLeaf ≤ a → a ≡ b → after t T Q ≡ stepCode T Q t a b
+module _ (T Q : List ℕ) (t a m b n : ℕ) where
+  pub code-equal : firstLeaf ≤ a → a ≡ b → m ≡ n → after t T Q ≡ stepCode T Q t a m b n
   unfolding stepCode
-  code-equal h e = rw (le-ltb a firstLeaf h, eq-eqb a b e)
+  code-equal h e z = rw (le-ltb a firstLeaf h, eq-eqb a b e, eq-eqb m n z)
 
-  pub code-other : firstLeaf ≤ a → ((a ≡ b) → ⊥) → after 0 T Q ≡ stepCode T Q t a b
+  pub code-number : firstLeaf ≤ a → a ≡ b → ((m ≡ n) → ⊥) → after 0 T Q ≡ stepCode T Q t a m b n
+  unfolding stepCode
+  code-number h e d = rw (le-ltb a firstLeaf h, eq-eqb a b e, ne-eqb m n d)
+
+  pub code-other : firstLeaf ≤ a → ((a ≡ b) → ⊥) → after 0 T Q ≡ stepCode T Q t a m b n
   unfolding stepCode
   code-other h d = rw (le-ltb a firstLeaf h, ne-eqb a b d)
 
   module _ (ha : a < firstLeaf) where
-    pub code-second : firstLeaf ≤ b → after 0 T Q ≡ stepCode T Q t a b
+    pub code-second : firstLeaf ≤ b → after 0 T Q ≡ stepCode T Q t a m b n
     unfolding stepCode
     code-second h = rw (lt-ltb a firstLeaf ha, le-ltb b firstLeaf h)
 
     module _ (hb : b < firstLeaf) where
-      pub code-new : getD T a 0 ≡ 0 → after (t + 1) (set T a (b + 1)) (set Q t a) ≡ stepCode T Q t a b
+      pub code-new : getD T a 0 ≡ 0 → after (t + 1) (set T a (b + 1)) (set Q t a) ≡ stepCode T Q t a m b n
       unfolding stepCode
       code-new e = rw (lt-ltb a firstLeaf ha, lt-ltb b firstLeaf hb, eq-eqb (getD T a 0) 0 e)
 
       module _ (d : (getD T a 0 ≡ 0) → ⊥) where
-        pub code-known : getD T a 0 ≡ b + 1 → after t T Q ≡ stepCode T Q t a b
+        pub code-known : getD T a 0 ≡ b + 1 → after t T Q ≡ stepCode T Q t a m b n
         unfolding stepCode
         code-known e = rw (lt-ltb a firstLeaf ha, lt-ltb b firstLeaf hb, ne-eqb (getD T a 0) 0 d, eq-eqb (getD T a 0) (b + 1) e)
 
-        pub code-taken : ((getD T a 0 ≡ b + 1) → ⊥) → after 0 T Q ≡ stepCode T Q t a b
+        pub code-taken : ((getD T a 0 ≡ b + 1) → ⊥) → after 0 T Q ≡ stepCode T Q t a m b n
         unfolding stepCode
         code-taken e = rw (lt-ltb a firstLeaf ha, lt-ltb b firstLeaf hb, ne-eqb (getD T a 0) 0 d, ne-eqb (getD T a 0) (b + 1) e)
 
@@ -53,33 +56,13 @@ module _ (T Q : List ℕ) (t a b : ℕ) where
     pub code-room : getD T a 0 ≡ 0 → t < length Q
     code-room e = f .room h e
 
--- ---- how many objects are not paired
-unpaired-other : (k x v : ℕ) (T : List ℕ) → k ≤ x → unpaired k (set T x v) ≡ unpaired k T
-unfolding unpaired
-unpaired-other zero x v T h = refl
-unpaired-other (suc k) x v T h =
-    ap₂ {A = ℕ} {B = ℕ} {C = ℕ} (λ p q. cond (eqb p 0) 1 0 + q) (getD-set-other T x k v 0 (λ z. omega arith)) (unpaired-other k x v T (omega arith))
-
-pub unpaired-put : (k x v : ℕ) (T : List ℕ) → x < k → x < length T → getD T x 0 ≡ 0 → suc (unpaired k (set T x (v + 1))) ≡ unpaired k T
-unfolding unpaired
-unpaired-put zero x v T h l e = absurd (omega arith)
-unpaired-put (suc k) x v T h l e = go (ℕ-discrete k x) (λ h′. unpaired-put k x v T h′ l e)
-  where
-    go : Dec (k ≡ x) → (x < k → suc (unpaired k (set T x (v + 1))) ≡ unpaired k T)
-        → suc (cond (eqb (getD (set T x (v + 1)) k 0) 0) 1 0 + unpaired k (set T x (v + 1))) ≡ cond (eqb (getD T k 0) 0) 1 0 + unpaired k T
-    go (yes z) ih =
-        let a : getD (set T x (v + 1)) k 0 ≡ v + 1 = ap (λ (i : ℕ). getD (set T x (v + 1)) i 0) z ∙ getD-set-same T x (v + 1) 0 l in
-        let o : getD T k 0 ≡ 0 = ap (λ (i : ℕ). getD T i 0) z ∙ e in
-        rw (eq-eqb (getD T k 0) 0 o, ne-eqb (getD (set T x (v + 1)) k 0) 0 (λ q. omega arith), unpaired-other k x (v + 1) T (omega arith)) (omega arith)
-    go (no z) ih = rw (getD-set-other T x k (v + 1) 0 z, ← ih (omega (arith, z))) (omega arith)
-
 -- ---- a pair added
 module _ (W : List ℕ) (f g : ℕ) (T Q : List ℕ) (t a b : ℕ) (pd : Paired W f g T Q t) (few : countIn W f ≤ capacity) (ha : a < countIn W f) (hb : b < countIn W g) (e : getD T a 0 ≡ 0) where
   pub put : getD (set T a (b + 1)) a 0 ≡ b + 1
   put = getD-set-same T a (b + 1) 0 (omega (arith, pd .table))
 
   room-left : t < capacity
-  room-left = omega (arith, pd .free, unpaired-put capacity a b T (omega arith) (omega (arith, pd .table)) e)
+  room-left = omega (arith, pd .free, zeros-put capacity a (b + 1) T (omega arith) (omega (arith, pd .table)) e (omega arith))
 
   end : getD (set Q t a) t 0 ≡ a
   end = getD-set-same Q t a 0 (omega (arith, room-left, pd .queue))
@@ -88,7 +71,7 @@ module _ (W : List ℕ) (f g : ℕ) (T Q : List ℕ) (t a b : ℕ) (pd : Paired 
   pair-new = record {
     table = length-set T a (b + 1) ∙ pd .table;
     queue = length-set Q t a ∙ pd .queue;
-    free = omega (arith, pd .free, unpaired-put capacity a b T (omega arith) (omega (arith, pd .table)) e);
+    free = omega (arith, pd .free, zeros-put capacity a (b + 1) T (omega arith) (omega (arith, pd .table)) e (omega arith));
     low = λ q h. low q h (ℕ-discrete q t);
     there = λ q h. there q h (ℕ-discrete q t);
     listed = λ x y z. listed x y z (ℕ-discrete x a);

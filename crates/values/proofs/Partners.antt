@@ -1,100 +1,27 @@
--- An object and its partner met field by field: what a block's bytes say of its objects, and one law for each return of `step_fields` and `step_object`.
--- Not here: one code (Pairs), the queue gone over (Steps).
-use Prim.Native.Nat.{ℕ, suc, _+_, _-_, _*_, _<_, _≤_}
+-- An object and its partner met field by field: one law for each return of `step_fields` and `step_object`.
+-- Not here: what bytes say of objects and references (Objects), one code (Pairs), the queue gone over (Queues).
+use Prim.Native.Nat.{ℕ, _+_, _-_, _*_, _<_, _≤_}
 use native.Mathlib.Omega.{arith}
 use native.Mathlib.Decide.{decLt, ℕ-discrete}
-use mathlib.Core.Path.{_≡_, refl, sym, ap, ap₂, _∙_, subst}
+use mathlib.Core.Path.{_≡_, refl, sym, ap, _∙_, subst}
 use mathlib.Core.Bool.{Bool, false}
 use mathlib.Core.List.{List, []}
 use mathlib.Core.Option.{some}
 use lib.ListN.{length, getD, set}
 use lib.Seq.{getD-set-other}
-use Rattle.cofj.specs.Values.{Ref, obj, mark, undet, Node, nodeAt, refsAt}
-use Rattle.cofj.specs.Unfolding.{object, opened, unknown, follow, Same, InRange, Whole}
-use Rattle.cofj.proofs.Trees.{same-child, same-cls, same-count}
-use Rattle.canon.specs.Figures.{objectSize, headSize, codeCount, firstLeaf, capacity, blockSize}
-use Rattle.canon.specs.Layout.{codeOf, Alike, alikeAt, countIn, objectsIn, graphAt, Block, Inside}
-use Rattle.canon.proofs.Nodes.{some-at, byteOf, packed-byte, length-nodes, at-nodes, alike-no}
-use Rattle.canon.proofs.Nodes.{object-low}
+use Rattle.cofj.specs.Values.{Ref, obj, leaf, undet, refsAt}
+use Rattle.cofj.specs.Unfolding.{follow, Same, InRange}
+use Rattle.cofj.proofs.Trees.{same-child}
+use Rattle.canon.specs.Figures.{objectSize, headSize, codeCount, numbersAt, firstLeaf, capacity, blockSize}
+use Rattle.canon.specs.Layout.{codeOf, numberBeside, numberAt, Alike, alikeAt, countIn, objectsIn, Block, Inside}
+use Rattle.canon.proofs.Nodes as nodes
+use Rattle.canon.proofs.Nodes.{some-at, alike-no, object-low}
+use Rattle.canon.proofs.Zeros.{zeros-put}
 use Rattle.values.specs.Stepping.{After, after, stepCode, CodeFits, Paired, AllSame, Grown, Linked, Pair, FieldsSoFar, ObjectStep}
 use Rattle.values.proofs.Trees.{in-larger}
-use Rattle.values.proofs.Pairs.{put, code-equal, code-known, code-new, code-other, code-second, code-taken, pair-new, pairs-stay, unpaired-put}
-
--- ---- an object of a block, by its bytes
-module _ (W : List ℕ) (b : ℕ) (bk : Block W b) where
-  pub size : length (objectsIn W b) ≡ countIn W b
-  unfolding objectsIn
-  size = length-nodes W (blockSize * b) (countIn W b)
-
-  pub whole-at : (i : ℕ) → i < countIn W b → Whole (graphAt W b i)
-  whole-at i h = record { top = omega (arith, size); inner = bk .whole .inner }
-
-  module _ (x : ℕ) (hx : x < countIn W b) where
-    byte : (k : ℕ) → k < objectSize → getD W (blockSize * b + objectSize * x + k) 0 ≡ byteOf (nodeAt (objectsIn W b) x) k
-    unfolding objectsIn
-    byte k h = packed-byte W (blockSize * b + objectSize * x) (bk .packed x hx) k h ∙ ap (λ (o : Node). byteOf o k) (sym (at-nodes W (blockSize * b) (countIn W b) x hx))
-
-    pub cls-is : getD W (blockSize * b + objectSize * x) 0 ≡ nodeAt (objectsIn W b) x .cls
-    unfolding byteOf
-    cls-is = let z : blockSize * b + objectSize * x + 0 ≡ blockSize * b + objectSize * x = omega arith in rw z at (byte 0 (omega arith))
-
-    pub count-is : getD W (blockSize * b + objectSize * x + 1) 0 ≡ length (refsAt (objectsIn W b) x)
-    unfolding byteOf
-    count-is = byte 1 (omega arith)
-
-    pub code-is : (f : ℕ) → f < codeCount → getD W (blockSize * b + objectSize * x + headSize + f) 0 ≡ codeOf (getD (refsAt (objectsIn W b) x) f undet)
-    unfolding byteOf
-    code-is f h = let z : blockSize * b + objectSize * x + headSize + f ≡ blockSize * b + objectSize * x + (suc (suc f)) = omega arith in rw z (byte (suc (suc f)) (omega arith))
-
-    pub in-range : (f : ℕ) → f < getD W (blockSize * b + objectSize * x + 1) 0 → InRange (countIn W b) (getD (refsAt (objectsIn W b) x) f undet)
-    in-range f h =
-        subst (λ (l : ℕ). InRange l (getD (refsAt (objectsIn W b) x) f undet)) size
-        (bk .whole .inner x f _ (some-at (refsAt (objectsIn W b) x) f (omega (arith, count-is))))
-
--- ---- two objects look alike
-module _ (W : List ℕ) (b x : ℕ) (ib : Inside W b x) where
-  pub count-read : blockSize * b + objectSize * x + 1 < length W
-  count-read = omega (arith, ib .block .room, ib .block .small, ib .low)
-
-  code-read : (k : ℕ) → k < getD W (blockSize * b + objectSize * x + 1) 0 → blockSize * b + objectSize * x + headSize + k < length W
-  code-read k h = omega (arith, ib .block .room, ib .block .small, ib .low, ib .block .packed x (ib .low) .count)
-
-module _ (W : List ℕ) (b x c y : ℕ) where
-  module _ (ib : Inside W b x) (ic : Inside W c y) where
-    pub same-alike : Same (objectsIn W b) (obj x) (objectsIn W c) (obj y) → Alike W (blockSize * b + objectSize * x) (blockSize * c + objectSize * y)
-    same-alike s = record {
-      cls = cls-is W b (ib .block) x (ib .low) ∙ same-cls (objectsIn W b) (objectsIn W c) x y s ∙ sym (cls-is W c (ic .block) y (ic .low));
-      count = count-is W b (ib .block) x (ib .low) ∙ same-count (objectsIn W b) (objectsIn W c) x y s ∙ sym (count-is W c (ic .block) y (ic .low));
-    }
-
--- ---- what two references with one tree say of their codes, and the other way round
-pub leaf-codes : (ns ms : List Node) (r s : Ref) → InRange firstLeaf r → Same ns r ms s → firstLeaf ≤ codeOf r → codeOf r ≡ codeOf s
-leaf-codes ns ms (obj i) s hr e h = absurd (omega arith)
-leaf-codes ns ms (mark k) (obj j) hr e h = let z : some (opened k) ≡ some (object _ _) = e [] in cc
-leaf-codes ns ms (mark k) (mark l) hr e h = let z : some (opened k) ≡ some (opened l) = e [] in let q : k ≡ l = cc in omega arith
-leaf-codes ns ms (mark k) undet hr e h = let z : some (opened k) ≡ some unknown = e [] in cc
-leaf-codes ns ms undet (obj j) hr e h = let z : some unknown ≡ some (object _ _) = e [] in cc
-leaf-codes ns ms undet (mark l) hr e h = let z : some unknown ≡ some (opened l) = e [] in cc
-leaf-codes ns ms undet undet hr e h = refl
-
-pub codes-leaf : (r s : Ref) → InRange firstLeaf r → InRange firstLeaf s → firstLeaf ≤ codeOf r → codeOf r ≡ codeOf s → r ≡ s
-codes-leaf (obj i) s hr hs h e = absurd (omega arith)
-codes-leaf (mark k) (obj j) hr hs h e = absurd (omega arith)
-codes-leaf (mark k) (mark l) hr hs h e = ap mark (omega arith)
-codes-leaf (mark k) undet hr hs h e = absurd (omega arith)
-codes-leaf undet (obj j) hr hs h e = absurd (omega arith)
-codes-leaf undet (mark l) hr hs h e = absurd (omega arith)
-codes-leaf undet undet hr hs h e = refl
-
-pub leaf-range : (r : Ref) → InRange firstLeaf r → firstLeaf ≤ codeOf r → InRange 0 r
-leaf-range (obj i) h k = absurd (omega arith)
-leaf-range (mark i) h k = tt
-leaf-range undet h k = tt
-
-pub is-object : (r : Ref) → codeOf r < firstLeaf → r ≡ obj (codeOf r)
-is-object (obj i) h = refl
-is-object (mark k) h = absurd (omega arith)
-is-object undet h = absurd (omega arith)
+use Rattle.values.proofs.Pairs.{put, code-equal, code-known, code-new, code-number, code-other, code-second, code-taken, pair-new, pairs-stay}
+pub use Rattle.values.proofs.Objects.{leaf-refs, same-alike}
+use Rattle.values.proofs.Objects.{size, count-is, code-is, number-is, in-range, count-read, code-read, number-read, is-object}
 
 -- ---- a code of one object met with a code of its partner
 module _ (W : List ℕ) (b c : ℕ) (T₀ Q₀ : List ℕ) (t₀ : ℕ) where
@@ -102,13 +29,16 @@ module _ (W : List ℕ) (b c : ℕ) (T₀ Q₀ : List ℕ) (t₀ : ℕ) where
     differ : o .tail ≡ 0 → AllSame W b c T₀ → ⊥
     grown : ((o .tail ≡ 0) → ⊥) → Grown W b c T₀ Q₀ t₀ (o .table) (o .queue) (o .tail)
     paired : ((o .tail ≡ 0) → ⊥) → Paired W b c (o .table) (o .queue) (o .tail)
-    linked : ((o .tail ≡ 0) → ⊥) → Linked (o .table) (codeOf r) (codeOf s)
+    linked : ((o .tail ≡ 0) → ⊥) → Linked (o .table) (codeOf r) (numberBeside r) (codeOf s) (numberBeside s)
     further : ((o .tail ≡ 0) → ⊥) → (x y : ℕ) → getD T x 0 ≡ y + 1 → getD (o .table) x 0 ≡ y + 1
 
   module _ (bb : Block W b) (bc : Block W c) (T Q : List ℕ) (t : ℕ) (g : Grown W b c T₀ Q₀ t₀ T Q t) (pd : Paired W b c T Q t) (pos : 0 < t)
       (r s : Ref) (hr : InRange (countIn W b) r) (hs : InRange (countIn W c) s) (ch : AllSame W b c T₀ → Same (objectsIn W b) r (objectsIn W c) s) where
+    abbrev step : After
+    step = stepCode T Q t (codeOf r) (numberBeside r) (codeOf s) (numberBeside s)
+
     -- nothing is added
-    same-again : Linked T (codeOf r) (codeOf s) → Stepped T r s (after t T Q)
+    same-again : Linked T (codeOf r) (numberBeside r) (codeOf s) (numberBeside s) → Stepped T r s (after t T Q)
     same-again l = record { differ = λ z. absurd (omega arith); grown = λ _. g; paired = λ _. pd; linked = λ _. l; further = λ _ x y q. q }
 
     fails : (AllSame W b c T₀ → ⊥) → Stepped T r s (after 0 T Q)
@@ -140,7 +70,7 @@ module _ (W : List ℕ) (b c : ℕ) (T₀ Q₀ : List ℕ) (t₀ : ℕ) where
           keeps = λ al. record { same = λ x y q. same al x y q (ℕ-discrete x (codeOf r)) };
         };
         paired = λ _. pair-new W b c T Q t (codeOf r) (codeOf s) pd (bb .small) la lb e;
-        linked = λ _. record { leaf = λ h. absurd (omega arith); pair = λ _. put W b c T Q t (codeOf r) (codeOf s) pd (bb .small) la lb e };
+        linked = λ _. record { leaf = λ h. absurd (omega arith); number = λ h. absurd (omega arith); pair = λ _. put W b c T Q t (codeOf r) (codeOf s) pd (bb .small) la lb e };
         further = λ _. stays;
       }
         where
@@ -160,28 +90,38 @@ module _ (W : List ℕ) (b c : ℕ) (T₀ Q₀ : List ℕ) (t₀ : ℕ) where
               subst (λ (k : ℕ). Same (objectsIn W b) (obj x) (objectsIn W c) (obj k)) u (subst (λ (k : ℕ). Same (objectsIn W b) (obj k) (objectsIn W c) (obj (codeOf s))) (sym z) (twins al))
           same al x y q (no z) = g .keeps al .same x y (sym (getD-set-other T (codeOf r) x (codeOf s + 1) 0 z) ∙ q)
 
-      objects-step : Stepped T r s (stepCode T Q t (codeOf r) (codeOf s))
+      objects-step : Stepped T r s step
       objects-step = go (ℕ-discrete (getD T (codeOf r) 0) 0) (ℕ-discrete (getD T (codeOf r) 0) (codeOf s + 1))
         where
-          go : Dec (getD T (codeOf r) 0 ≡ 0) → Dec (getD T (codeOf r) 0 ≡ codeOf s + 1) → Stepped T r s (stepCode T Q t (codeOf r) (codeOf s))
-          go (yes e) d = subst (Stepped T r s) (code-new T Q t (codeOf r) (codeOf s) ha hb e) (new-pair e)
-          go (no n) (yes e) = subst (Stepped T r s) (code-known T Q t (codeOf r) (codeOf s) ha hb n e) (same-again (record { leaf = λ h. absurd (omega arith); pair = λ _. e }))
+          go : Dec (getD T (codeOf r) 0 ≡ 0) → Dec (getD T (codeOf r) 0 ≡ codeOf s + 1) → Stepped T r s step
+          go (yes e) d = subst (Stepped T r s) (code-new T Q t (codeOf r) (numberBeside r) (codeOf s) (numberBeside s) ha hb e) (new-pair e)
+          go (no n) (yes e) =
+              subst (Stepped T r s) (code-known T Q t (codeOf r) (numberBeside r) (codeOf s) (numberBeside s) ha hb n e)
+              (same-again (record { leaf = λ h. absurd (omega arith); number = λ h. absurd (omega arith); pair = λ _. e }))
           go (no n) (no d) =
-              subst (Stepped T r s) (code-taken T Q t (codeOf r) (codeOf s) ha hb n d)
+              subst (Stepped T r s) (code-taken T Q t (codeOf r) (numberBeside r) (codeOf s) (numberBeside s) ha hb n d)
               (fails (λ al. let z : getD T (codeOf r) 0 ≡ (getD T (codeOf r) 0 - 1) + 1 = omega (arith, n) in d (z ∙ ap (λ (k : ℕ). k + 1) (sym (other-partner (getD T (codeOf r) 0 - 1) z al)))))
 
-    code-step : Stepped T r s (stepCode T Q t (codeOf r) (codeOf s))
-    code-step = go (decLt (codeOf r) firstLeaf) (decLt (codeOf s) firstLeaf) (ℕ-discrete (codeOf r) (codeOf s))
+    code-step : Stepped T r s step
+    code-step = go (decLt (codeOf r) firstLeaf) (decLt (codeOf s) firstLeaf) (ℕ-discrete (codeOf r) (codeOf s)) (ℕ-discrete (numberBeside r) (numberBeside s))
       where
-        go : Dec (codeOf r < firstLeaf) → Dec (codeOf s < firstLeaf) → Dec (codeOf r ≡ codeOf s) → Stepped T r s (stepCode T Q t (codeOf r) (codeOf s))
-        go (yes ha) (yes hb) d = objects-step ha hb
-        go (yes ha) (no hb) d =
-            subst (Stepped T r s) (code-second T Q t (codeOf r) (codeOf s) ha (omega (arith, hb)))
-            (fails (λ al. omega (arith, hb, leaf-codes (objectsIn W c) (objectsIn W b) s r s-coded (λ p. sym (ch al p)) (omega (arith, hb)))))
-        go (no ha) hb (yes e) = subst (Stepped T r s) (code-equal T Q t (codeOf r) (codeOf s) (omega (arith, ha)) e) (same-again (record { leaf = λ _. e; pair = λ h. absurd (ha h) }))
-        go (no ha) hb (no d) =
-            subst (Stepped T r s) (code-other T Q t (codeOf r) (codeOf s) (omega (arith, ha)) d)
-            (fails (λ al. d (leaf-codes (objectsIn W b) (objectsIn W c) r s r-coded (ch al) (omega (arith, ha)))))
+        same-refs : ((codeOf r < firstLeaf) → ⊥) → AllSame W b c T₀ → r ≡ s
+        same-refs ha al = leaf-refs (objectsIn W b) (objectsIn W c) r s r-coded (ch al) (omega (arith, ha))
+
+        go : Dec (codeOf r < firstLeaf) → Dec (codeOf s < firstLeaf) → Dec (codeOf r ≡ codeOf s) → Dec (numberBeside r ≡ numberBeside s) → Stepped T r s step
+        go (yes ha) (yes hb) d e = objects-step ha hb
+        go (yes ha) (no hb) d e =
+            subst (Stepped T r s) (code-second T Q t (codeOf r) (numberBeside r) (codeOf s) (numberBeside s) ha (omega (arith, hb)))
+            (fails (λ al. omega (arith, hb, ap codeOf (leaf-refs (objectsIn W c) (objectsIn W b) s r s-coded (λ p. sym (ch al p)) (omega (arith, hb))))))
+        go (no ha) hb (yes d) (yes e) =
+            subst (Stepped T r s) (code-equal T Q t (codeOf r) (numberBeside r) (codeOf s) (numberBeside s) (omega (arith, ha)) d e)
+            (same-again (record { leaf = λ _. d; number = λ _. e; pair = λ h. absurd (ha h) }))
+        go (no ha) hb (yes d) (no e) =
+            subst (Stepped T r s) (code-number T Q t (codeOf r) (numberBeside r) (codeOf s) (numberBeside s) (omega (arith, ha)) d e)
+            (fails (λ al. e (ap numberBeside (same-refs ha al))))
+        go (no ha) hb (no d) e =
+            subst (Stepped T r s) (code-other T Q t (codeOf r) (numberBeside r) (codeOf s) (numberBeside s) (omega (arith, ha)) d)
+            (fails (λ al. d (ap codeOf (same-refs ha al))))
 
 -- ---- one object and its partner
 module _ (W : List ℕ) (b x c y : ℕ) (T₀ Q₀ : List ℕ) (t₀ : ℕ) where
@@ -226,11 +166,17 @@ module _ (W : List ℕ) (b x c y : ℕ) (T₀ Q₀ : List ℕ) (t₀ : ℕ) wher
       pub second-read : blockSize * c + objectSize * y + headSize + k < length W
       second-read = code-read W c y ic k (omega (arith, en))
 
+      pub first-number : blockSize * b + objectSize * x + numbersAt + 2 * k + 2 ≤ length W
+      first-number = number-read W b x ib k hk
+
+      pub second-number : blockSize * c + objectSize * y + numbersAt + 2 * k + 2 ≤ length W
+      second-number = number-read W c y ic k (omega (arith, en))
+
       abbrev r : Ref
-      r = getD (refsAt (objectsIn W b) x) k undet
+      r = getD (refsAt (objectsIn W b) x) k (leaf undet)
 
       abbrev s : Ref
-      s = getD (refsAt (objectsIn W c) y) k undet
+      s = getD (refsAt (objectsIn W c) y) k (leaf undet)
 
       hr : InRange (countIn W b) r
       hr = in-range W b (ib .block) x (ib .low) k hk
@@ -265,27 +211,38 @@ module _ (W : List ℕ) (b x c y : ℕ) (T₀ Q₀ : List ℕ) (t₀ : ℕ) wher
                 low h,
                 so .paired .table,
                 ib .block .small,
-                unpaired-put capacity (getD W (blockSize * b + objectSize * x + headSize + k) 0) 0 T (omega (arith, low h, ib .block .small)) (omega (arith, low h, so .paired .table, ib .block .small)) e,
+                zeros-put capacity (getD W (blockSize * b + objectSize * x + headSize + k) 0) 1 T (omega (arith, low h, ib .block .small)) (omega (arith, low h, so .paired .table, ib .block .small)) e (omega arith),
               )
 
-      module _ (T2 Q2 : List ℕ) (u : ℕ) (e : after u T2 Q2 ≡ stepCode T Q t (getD W (blockSize * b + objectSize * x + headSize + k) 0) (getD W (blockSize * c + objectSize * y + headSize + k) 0)) where
+      module _ (T2 Q2 : List ℕ) (u m n : ℕ) (em : m ≡ numberAt W (blockSize * b + objectSize * x + numbersAt + 2 * k)) (ey : n ≡ numberAt W (blockSize * c + objectSize * y + numbersAt + 2 * k))
+          (e : after u T2 Q2 ≡ stepCode T Q t (getD W (blockSize * b + objectSize * x + headSize + k) 0) m (getD W (blockSize * c + objectSize * y + headSize + k) 0) n) where
+        fr : m ≡ numberBeside r
+        fr = em ∙ number-is W b (ib .block) x (ib .low) k (omega (arith, four (so .start)))
+
+        fs : n ≡ numberBeside s
+        fs = ey ∙ number-is W c (ic .block) y (ic .low) k (omega (arith, four (so .start)))
+
         this-step : Stepped W b c T₀ Q₀ t₀ T r s (after u T2 Q2)
         this-step =
-            subst (Stepped W b c T₀ Q₀ t₀ T r s) (ap₂ (stepCode T Q t) (sym er) (sym es) ∙ sym e)
+            subst (Stepped W b c T₀ Q₀ t₀ T r s) (sym (rw (er, es, fr, fs) at e))
             (code-step W b c T₀ Q₀ t₀ (ib .block) (ic .block) T Q t (so .grown) (so .paired) some-paired r s hr hs children)
 
         pub fields-differ : u ≡ 0 → ObjectStep W b x c y T₀ Q₀ t₀ T2 Q2 0
         fields-differ z = stop (this-step .differ z) T2 Q2
 
+        -- field f of the two is linked
+        abbrev At : ℕ → Type 0
+        At f = Linked T2 (getD W (blockSize * b + objectSize * x + headSize + f) 0) (numberAt W (blockSize * b + objectSize * x + numbersAt + 2 * f)) (getD W (blockSize * c + objectSize * y + headSize + f) 0) (numberAt W (blockSize * c + objectSize * y + numbersAt + 2 * f))
+
         pub fields-more : ((u ≡ 0) → ⊥) → FieldsSoFar W b x c y T₀ Q₀ t₀ T2 Q2 u (k + 1)
         fields-more z = record { start = so .start; alike = so .alike; grown = this-step .grown z; paired = this-step .paired z; fields = record { codes = λ f h. go f h (ℕ-discrete f k) } }
           where
-            here : Linked T2 (getD W (blockSize * b + objectSize * x + headSize + k) 0) (getD W (blockSize * c + objectSize * y + headSize + k) 0)
-            here = rw (er, es) (this-step .linked z)
+            here : At k
+            here = rw (← em, ← ey, er, es, fr, fs) (this-step .linked z)
 
-            go : (f : ℕ) → f < k + 1 → Dec (f ≡ k) → Linked T2 (getD W (blockSize * b + objectSize * x + headSize + f) 0) (getD W (blockSize * c + objectSize * y + headSize + f) 0)
+            go : (f : ℕ) → f < k + 1 → Dec (f ≡ k) → At f
             go f h (yes q) = rw q here
-            go f h (no q) = let l = so .fields .codes f (omega (arith, q)) in record { leaf = l .leaf; pair = λ i. this-step .further z _ _ (l .pair i) }
+            go f h (no q) = let l = so .fields .codes f (omega (arith, q)) in record { leaf = l .leaf; number = l .number; pair = λ i. this-step .further z _ _ (l .pair i) }
 
     pub fields-done : getD W (blockSize * b + objectSize * x + 1) 0 ≤ k → ObjectStep W b x c y T₀ Q₀ t₀ T Q t
     fields-done h = record {

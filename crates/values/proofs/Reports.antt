@@ -1,192 +1,139 @@
--- Laws of writing a report.
-use Prim.Native.Nat.{ℕ, zero, suc, _+_, _-_, _*_, _/_, _%_, _<_, _≤_}
+-- Laws of writing a report: fields, lines, a value. Not here: bytes written as characters (Writes).
+use Prim.Native.Nat.{ℕ, suc, _+_, _*_, _/_, _%_, _<_, _≤_}
 use native.Mathlib.Omega.{arith}
-use native.Mathlib.Decide.{ℕ-discrete}
 use native.Mathlib.Numerals.{add-one}
 use mathlib.Core.Path.{_≡_, refl, sym, ap, ap₂, _∙_, subst}
 use mathlib.Core.List.{List, [], _∷_, _++_, append-assoc, append-nil}
-use lib.ListN.{length, getD, set, take, drop, length-set, length-take, length-map, take-append-drop}
-use lib.Seq.{take-suc, take-suc-set, drop-set-lt, drop-drop, length-take-le, take-length, getD-take}
-use borrow.Author.Tests.{le-leb, lt-leb}
-use types.Run.{OneOf}
-use denote.Enum.Declared.{tagOf}
-use Rattle.cofj.specs.Limits.{reportSize}
-use Rattle.cofj.specs.Values.{undet, Node, node, Graph, nodeAt}
+use lib.ListN.{length, getD, set, take, drop, length-take}
+use lib.Seq.{take-suc, length-take-le, take-length, getD-take}
+use Rattle.cofj.specs.Limits.{numberClass, reportSize}
+use Rattle.cofj.specs.Values.{Ref, leaf, Leaf, undet, num, Node, node, Graph, nodeAt, leafOf, undetermined, numberOf}
 use Rattle.cofj.specs.Text.{char, hexLine, hexText}
-use Rattle.cofj.specs.Report.{refByte, objectLine, objectLines}
-use Rattle.cofj.proofs.Basics.{getD-map-lt}
-use Rattle.canon.specs.Figures.{objectSize, firstLeaf, undeterminedCode, firstMark, blockSize}
-use Rattle.canon.specs.Layout.{refOf, nodeIn, nodesIn, Packed, Block, objectsIn, graphAt, countIn}
-use Rattle.canon.proofs.Nodes.{at-nodes, length-nodes, packed-byte, byteOf, ref-object, ref-undet, ref-mark}
+use Rattle.cofj.specs.Report.{refBytes, fieldBytes, objectLine, objectLines, leafLine}
+use Rattle.canon.specs.Figures.{objectSize, headSize, codeCount, numbersAt, firstLeaf, numberCode, blockSize}
+use Rattle.canon.specs.Layout.{refOf, refIn, four, nodeIn, nodesIn, Packed, Block, objectsIn, graphAt, countIn}
+use Rattle.canon.proofs.Nodes.{Code, isObject, isUndet, isNumber, isMark, code-view, at-nodes, length-nodes, packed-byte, byteOf, four-at, ref-object, ref-undet, ref-number, ref-mark}
 use Rattle.values.specs.declared.ValueRef.{ValueRef}
-use Rattle.values.specs.declared.ValueRef.the-variants.{Object}
+use Rattle.values.specs.declared.ValueRef.the-variants.{Object, Mark, Number, Undetermined}
 use Rattle.values.specs.Layout.{valueOf}
 use Rattle.values.specs.Operations.{Moved}
-use Rattle.values.specs.Reporting.{digitChar, letterChar, lineSize, Front, lineIn, Line, Reported}
-use Rattle.values.proofs.ValueRef as RefT
-use Rattle.values.proofs.Blocks.{no-object}
+use Rattle.values.specs.Reporting.{headText, fieldsText, lineSize, Front, digits, Written, headIn, lineIn, Line, Reported}
+use Rattle.values.proofs.Writes.{digits-line, front-none, front-put, front-then, front-whole, written-more, written-none, written-one, written-then}
 
--- ---- the front of a buffer
-pub front-none : (d : List ℕ) → Front d d 0 []
-front-none d = record { same = refl; front = refl; rest = refl }
+-- ---- a field
+module _ (W : List ℕ) (at f : ℕ) (d e : List ℕ) (to : ℕ) where
+  -- its code, and the bytes of the number beside it
+  abbrev c : ℕ
+  c = getD W (at + headSize + f) 0
 
-front-start : (d : List ℕ) (j : ℕ) → Front d d j (take j d)
-front-start d j = record { same = refl; front = refl; rest = refl }
+  abbrev low : ℕ
+  low = getD W (at + numbersAt + 2 * f) 0
 
--- what stands after j, from what stands after an earlier place
-rest-later : (d e : List ℕ) (i j : ℕ) → i ≤ j → drop i d ≡ drop i e → drop j d ≡ drop j e
-rest-later d e i j h q =
-    let z : i + (j - i) ≡ j = omega arith in
-    rw (← z) (sym (drop-drop (j - i) i d) ∙ ap (drop (j - i)) q ∙ drop-drop (j - i) i e)
+  abbrev high : ℕ
+  high = getD W (at + numbersAt + 2 * f + 1) 0
 
-front-put : (d₀ d : List ℕ) (j : ℕ) (p : List ℕ) (a : ℕ) → Front d₀ d j p → j < length d → Front d₀ (set d j a) (j + 1) (p ++ (a ∷ []))
-front-put d₀ d j p a f h = record {
-  same = length-set d j a ∙ f .same;
-  front = rw (add-one j, take-suc-set d j a h, f .front);
-  rest = rw (add-one j) (drop-set-lt (suc j) d j a (omega arith) ∙ rest-later d d₀ j (suc j) (omega arith) (f .rest));
-}
+  number-bytes : Packed W at → f < codeCount → c ≡ numberCode → refBytes (refIn W at f) ≡ numberClass ∷ high ∷ low ∷ []
+  unfolding refIn
+  number-bytes pk h z =
+      let eh : (low + 256 * high) / 256 ≡ high = omega (arith, pk .low f h) in
+      let el : (low + 256 * high) % 256 ≡ low = omega (arith, pk .low f h) in
+      ap refBytes (ap (λ (b : ℕ). refOf b (low + 256 * high)) z ∙ ref-number (low + 256 * high)) ∙ ap₂ (λ (a b : ℕ). numberClass ∷ a ∷ b ∷ []) eh el
 
-front-then : (d₀ d e : List ℕ) (i j : ℕ) (p q : List ℕ) → Front d₀ d i p → Front d e j (take i d ++ q) → i ≤ j → Front d₀ e j (p ++ q)
-front-then d₀ d e i j p q f g h = record {
-  same = g .same ∙ f .same;
-  front = g .front ∙ ap (λ (l : List ℕ). l ++ q) (f .front);
-  rest = g .rest ∙ rest-later d d₀ i j h (f .rest);
-}
+  pub field-number : Packed W at → f < codeCount → c ≡ numberCode → (d1 d2 : List ℕ) → Front d d1 (to + 2) (take to d ++ (char (numberClass / 16) ∷ char (numberClass % 16) ∷ []))
+      → Front d1 d2 (to + 2 + 2) (take (to + 2) d1 ++ (char (high / 16) ∷ char (high % 16) ∷ [])) → Front d2 e (to + 4 + 2) (take (to + 4) d2 ++ (char (low / 16) ∷ char (low % 16) ∷ []))
+      → Written (refBytes (refIn W at f)) d to e (to + 6)
+  field-number pk h z d1 d2 g1 g2 g3 =
+      let w1 = written-one d d1 to numberClass g1 in
+      let w2 = written-more _ d d1 d2 to (to + 2) high (to + 2) w1 g2 refl in
+      let w3 = written-more _ d d2 e to (to + 2 + 2) low (to + 4) w2 g3 (omega arith) in
+      let y : to + 4 + 2 ≡ to + 6 = omega arith in
+      rw (number-bytes pk h z) (rw y at w3)
 
-front-whole : (d₀ d : List ℕ) (j : ℕ) (p : List ℕ) → Front d₀ d j p → d ≡ p ++ drop j d₀
-front-whole d₀ d j p f = rw (← (f .front), ← (f .rest), take-append-drop)
+  pub field-object : c < firstLeaf → Front d e (to + 2) (take to d ++ (char (c / 16) ∷ char (c % 16) ∷ [])) → Written (refBytes (refIn W at f)) d to e (to + 2)
+  unfolding refIn
+  field-object h g = rw (ref-object c (low + 256 * high) h) (written-one d e to c g)
 
--- ---- digits
-pub char-low : (d : ℕ) → d ≤ 9 → d + digitChar ≡ char d
-char-low d h = rw (le-leb d 9 h)
+  leaf-bytes : (c ≡ numberCode → ⊥) → firstLeaf ≤ c → refBytes (refIn W at f) ≡ 255 ∷ []
+  unfolding refIn
+  leaf-bytes n h = go (code-view c)
+    where
+      go : Code c → refBytes (refOf c (low + 256 * high)) ≡ 255 ∷ []
+      go (isObject l) = absurd (omega arith)
+      go (isUndet z) = ap (λ (b : ℕ). refBytes (refOf b (low + 256 * high))) z ∙ ap refBytes (ref-undet (low + 256 * high))
+      go (isNumber z) = absurd (n z)
+      go (isMark k z) = ap (λ (b : ℕ). refBytes (refOf b (low + 256 * high))) z ∙ ap refBytes (ref-mark k (low + 256 * high))
 
-pub char-high : (d : ℕ) → 9 < d → d + letterChar ≡ char d
-char-high d h = rw (lt-leb d 9 h)
+  pub field-leaf : (c ≡ numberCode → ⊥) → firstLeaf ≤ c → Front d e (to + 2) (take to d ++ (char (255 / 16) ∷ char (255 % 16) ∷ [])) → Written (refBytes (refIn W at f)) d to e (to + 2)
+  field-leaf n h g = rw (leaf-bytes n h) (written-one d e to 255 g)
 
-pub put-two : (d : List ℕ) (at b x y : ℕ) → at + 2 ≤ length d → x ≡ char (b / 16) → y ≡ char (b % 16)
-    → Front d (set (set d at x) (at + 1) y) (at + 2) (take at d ++ (char (b / 16) ∷ char (b % 16) ∷ []))
-put-two d at b x y h ex ey =
-    let f : Front d (set d at x) (at + 1) (take at d ++ (x ∷ [])) = front-put d d at (take at d) x (front-start d at) (omega arith) in
-    let g : Front d (set (set d at x) (at + 1) y) (at + 1 + 1) ((take at d ++ (x ∷ [])) ++ (y ∷ [])) = front-put d (set d at x) (at + 1) (take at d ++ (x ∷ [])) y f (omega (arith, length-set d at x)) in
-    let e : at + 1 + 1 ≡ at + 2 = omega arith in
-    rw (← ex, ← ey) (rw (e, append-assoc) at g)
+-- ---- the fields of an object
+-- the first f of them are written, up to t
+pub record FieldsTo (W : List ℕ) (at : ℕ) (d₀ : List ℕ) (to f : ℕ) (d : List ℕ) (t : ℕ) : Type 0 where
+  pub written : Written (fieldBytes (take f (nodeIn W at .refs))) d₀ to d t
 
--- the characters of bytes, without the line's end
-unfoldable pub digits : List ℕ → List ℕ
-digits [] = []
-digits (b ∷ bs) = char (b / 16) ∷ char (b % 16) ∷ digits bs
+pub fields-none : (W : List ℕ) (at : ℕ) (d : List ℕ) (to : ℕ) → FieldsTo W at d to 0 d to
+fields-none W at d to = record { written = written-none d to }
 
-digits-more : (l : List ℕ) (b : ℕ) → digits (l ++ (b ∷ [])) ≡ digits l ++ (char (b / 16) ∷ char (b % 16) ∷ [])
-unfolding digits
-digits-more [] b = refl
-digits-more (x ∷ l) b = ap (λ (t : List ℕ). char (x / 16) ∷ char (x % 16) ∷ t) (digits-more l b)
+fields-more : (rs : List Ref) (r : Ref) → fieldBytes (rs ++ (r ∷ [])) ≡ fieldBytes rs ++ refBytes r
+fields-more [] r = append-nil (refBytes r)
+fields-more (x ∷ rs) r = ap (λ (t : List ℕ). refBytes x ++ t) (fields-more rs r) ∙ sym (append-assoc (refBytes x) (fieldBytes rs) (refBytes r))
 
-digits-line : (l : List ℕ) → hexLine l ≡ digits l ++ (10 ∷ [])
-unfolding digits
-digits-line [] = refl
-digits-line (x ∷ l) = ap (λ (t : List ℕ). char (x / 16) ∷ char (x % 16) ∷ t) (digits-line l)
-
--- the first k bytes of a line are written
-pub record Begun (l d₀ : List ℕ) (to k : ℕ) (d : List ℕ) : Type 0 where
-  pub text : Front d₀ d (to + 2 * k) (take to d₀ ++ digits (take k l))
-
-pub line-none : (l d : List ℕ) (to : ℕ) → Begun l d to 0 d
-unfolding digits
-line-none l d to = record { text = let e : to + 2 * 0 ≡ to = omega arith in rw (e, append-nil (take to d)) (front-start d to) }
-
--- ---- an object's line
-four-any : (S : List ℕ) (at f : ℕ) → f < 4
-    → getD (refOf (getD S (at + 2) 0) ∷ refOf (getD S (at + 3) 0) ∷ refOf (getD S (at + 4) 0) ∷ refOf (getD S (at + 5) 0) ∷ []) f undet ≡ refOf (getD S (at + (2 + f)) 0)
-four-any S at zero h = refl
-four-any S at (suc zero) h = refl
-four-any S at (suc (suc zero)) h = refl
-four-any S at (suc (suc (suc zero))) h = refl
-four-any S at (suc (suc (suc (suc f)))) h = absurd (omega arith)
-
-leaf-byte : (c : ℕ) → firstLeaf ≤ c → refByte (refOf c) ≡ 255
-leaf-byte c h = go (ℕ-discrete c undeterminedCode)
-  where
-    go : Dec (c ≡ undeterminedCode) → refByte (refOf c) ≡ 255
-    go (yes e) = ap (λ (x : ℕ). refByte (refOf x)) e ∙ ap refByte ref-undet
-    go (no n) = let z : c ≡ firstMark + (c - firstMark) = omega (arith, n) in ap (λ (x : ℕ). refByte (refOf x)) z ∙ ap refByte (ref-mark (c - firstMark))
-
-module _ (W : List ℕ) (at j : ℕ) (pk : Packed W at) where
+module _ (W : List ℕ) (at : ℕ) (pk : Packed W at) where
   count-refs : length (nodeIn W at .refs) ≡ getD W (at + 1) 0
   unfolding byteOf
   count-refs = sym (packed-byte W at pk 1 (omega arith))
 
-  pub line-length : length (lineIn W at j) ≡ 4 + getD W (at + 1) 0
-  unfolding lineIn
-  line-length = omega (arith, length-map (nodeIn W at .refs) refByte, count-refs)
-
-  pub byte-five : (k : ℕ) → k ≡ 0 → 5 ≡ getD (lineIn W at j) k 0
-  unfolding lineIn
-  byte-five k e = rw e
-
-  pub byte-number : (k : ℕ) → k ≡ 1 → j ≡ getD (lineIn W at j) k 0
-  unfolding lineIn
-  byte-number k e = rw e
-
-  byte-at : (k : ℕ) → k < 2 → getD W (at + k) 0 ≡ getD (lineIn W at j) (2 + k) 0
-  unfolding lineIn byteOf
-  byte-at zero h = packed-byte W at pk 0 (omega arith)
-  byte-at (suc zero) h = packed-byte W at pk 1 (omega arith)
-  byte-at (suc (suc k)) h = absurd (omega arith)
-
-  pub byte-plain : (k : ℕ) → ((k ≡ 0) → ⊥) → ((k ≡ 1) → ⊥) → k < 4 → getD W (at + k - 2) 0 ≡ getD (lineIn W at j) k 0
-  byte-plain k a b h =
-      let e : at + k - 2 ≡ at + (k - 2) = omega (arith, a, b) in
-      let z : 2 + (k - 2) ≡ k = omega (arith, a, b) in
-      rw e (byte-at (k - 2) (omega arith) ∙ ap (λ (q : ℕ). getD (lineIn W at j) q 0) z)
-
-  field-ref : (f : ℕ) → f < getD W (at + 1) 0 → getD (nodeIn W at .refs) f undet ≡ refOf (getD W (at + (2 + f)) 0)
+  field-ref : (f : ℕ) → f < getD W (at + 1) 0 → getD (nodeIn W at .refs) f (leaf undet) ≡ refIn W at f
   unfolding nodeIn
-  field-ref f h = getD-take (getD W (at + 1) 0) _ f undet h ∙ four-any W at f (omega (arith, pk .count))
+  field-ref f h = getD-take (getD W (at + 1) 0) (four W at) f (leaf undet) h ∙ four-at W at f (omega (arith, pk .count))
 
-  field-byte : (f : ℕ) → f < getD W (at + 1) 0 → getD (lineIn W at j) (suc (suc (suc (suc f)))) 0 ≡ refByte (refOf (getD W (at + (2 + f)) 0))
-  unfolding lineIn
-  field-byte f h = getD-map-lt refByte (nodeIn W at .refs) f 0 undet (omega (arith, count-refs)) ∙ ap refByte (field-ref f h)
+  pub fields-four : getD W (at + 1) 0 ≤ codeCount
+  fields-four = pk .count
 
-  code-byte : (k : ℕ) → 4 ≤ k → k < 4 + getD W (at + 1) 0 → getD (lineIn W at j) k 0 ≡ refByte (refOf (getD W (at + k - 2) 0))
-  code-byte k a h =
-      let e : at + (2 + (k - 4)) ≡ at + k - 2 = omega arith in
-      let z : suc (suc (suc (suc (k - 4)))) ≡ k = omega arith in
-      ap (λ (q : ℕ). getD (lineIn W at j) q 0) (sym z) ∙ field-byte (k - 4) (omega arith) ∙ ap (λ (q : ℕ). refByte (refOf (getD W q 0))) e
+  module _ (d₀ : List ℕ) (to f : ℕ) (d : List ℕ) (t : ℕ) (so : FieldsTo W at d₀ to f d t) where
+    pub fields-next : (e : List ℕ) (u n : ℕ) → f < n → n ≡ getD W (at + 1) 0 → Written (refBytes (refIn W at f)) d t e u → FieldsTo W at d₀ to (f + 1) e u
+    fields-next e u n h en g =
+        let l : f < getD W (at + 1) 0 = omega arith in
+        let z : fieldBytes (take (f + 1) (nodeIn W at .refs)) ≡ fieldBytes (take f (nodeIn W at .refs)) ++ refBytes (refIn W at f) =
+        rw (add-one f, take-suc (nodeIn W at .refs) f (leaf undet) (omega (arith, count-refs)), field-ref f l) (fields-more (take f (nodeIn W at .refs)) (refIn W at f)) in
+        record { written = rw z (written-then (fieldBytes (take f (nodeIn W at .refs))) (refBytes (refIn W at f)) d₀ d e to t u (so .written) g) }
 
-  module _ (k : ℕ) (a : 4 ≤ k) (h : k < 4 + getD W (at + 1) 0) where
-    pub byte-object : getD W (at + k - 2) 0 < firstLeaf → getD W (at + k - 2) 0 ≡ getD (lineIn W at j) k 0
-    byte-object l = sym (code-byte k a h ∙ ap refByte (ref-object (getD W (at + k - 2) 0) l))
-
-    pub byte-leaf : firstLeaf ≤ getD W (at + k - 2) 0 → 255 ≡ getD (lineIn W at j) k 0
-    byte-leaf l = sym (code-byte k a h ∙ leaf-byte (getD W (at + k - 2) 0) l)
+    pub fields-done : (n : ℕ) → f ≤ n → n ≤ f → n ≡ getD W (at + 1) 0 → Written (fieldBytes (nodeIn W at .refs)) d₀ to d t
+    fields-done n h k en =
+        let ef : f ≡ length (nodeIn W at .refs) = omega (arith, count-refs) in
+        let z : take f (nodeIn W at .refs) ≡ nodeIn W at .refs = ap (λ (q : ℕ). take q (nodeIn W at .refs)) ef ∙ take-length (nodeIn W at .refs) in
+        rw z at (so .written)
 
 -- ---- a line
-module _ (l d₀ : List ℕ) (to k : ℕ) (d : List ℕ) (f : Begun l d₀ to k d) where
-  pub line-more : (e : List ℕ) (b n : ℕ) → Front d e (to + 2 * k + 2) (take (to + 2 * k) d ++ (char (b / 16) ∷ char (b % 16) ∷ [])) → b ≡ getD l k 0 → k < n → n ≡ length l → Begun l d₀ to (k + 1) e
-  line-more e b n g eb h en =
-      let z : to + 2 * (k + 1) ≡ to + 2 * k + 2 = omega arith in
-      let t : take to d₀ ++ digits (take (k + 1) l) ≡ (take to d₀ ++ digits (take k l)) ++ (char (b / 16) ∷ char (b % 16) ∷ []) =
-      rw (add-one k, take-suc l k 0 (omega arith), ← eb, digits-more (take k l) b) (sym (append-assoc (take to d₀) (digits (take k l)) (char (b / 16) ∷ char (b % 16) ∷ []))) in
-      record { text = rw (z, t) (front-then d₀ d e (to + 2 * k) (to + 2 * k + 2) (take to d₀ ++ digits (take k l)) (char (b / 16) ∷ char (b % 16) ∷ []) (f .text) g (omega arith)) }
+pub head-written : (W : List ℕ) (at j : ℕ) (d d1 d2 d3 e : List ℕ) (to : ℕ) → Front d d1 (to + 2) (take to d ++ (char (5 / 16) ∷ char (5 % 16) ∷ []))
+    → Front d1 d2 (to + 2 + 2) (take (to + 2) d1 ++ (char (j / 16) ∷ char (j % 16) ∷ [])) → Front d2 d3 (to + 4 + 2) (take (to + 4) d2 ++ (char (getD W at 0 / 16) ∷ char (getD W at 0 % 16) ∷ []))
+    → Front d3 e (to + 6 + 2) (take (to + 6) d3 ++ (char (getD W (at + 1) 0 / 16) ∷ char (getD W (at + 1) 0 % 16) ∷ [])) → Written (headIn W at j) d to e (to + headText)
+unfolding headIn
+head-written W at j d d1 d2 d3 e to g1 g2 g3 g4 =
+    let w1 = written-one d d1 to 5 g1 in
+    let w2 = written-more _ d d1 d2 to (to + 2) j (to + 2) w1 g2 refl in
+    let w3 = written-more _ d d2 d3 to (to + 2 + 2) (getD W at 0) (to + 4) w2 g3 (omega arith) in
+    let w4 = written-more _ d d3 e to (to + 4 + 2) (getD W (at + 1) 0) (to + 6) w3 g4 (omega arith) in
+    let y : to + 6 + 2 ≡ to + 8 = omega arith in
+    rw y at w4
 
-  pub line-done : (n : ℕ) → k ≤ n → n ≤ k → n ≡ length l → n ≤ 8 → to + lineSize ≤ length d₀ → Line l d₀ to (set d (to + 2 * n) 10) (to + 2 * n + 1)
-  line-done n h h′ en few room =
-      let ek : k ≡ n = omega arith in
-      let et : take n l ≡ l = ap (λ (q : ℕ). take q l) en ∙ take-length l in
-      let g : Front d₀ d (to + 2 * n) (take to d₀ ++ digits l) = rw (et) at (rw ek at (f .text)) in
-      let z : (take to d₀ ++ digits l) ++ (10 ∷ []) ≡ take to d₀ ++ hexLine l = append-assoc (take to d₀) (digits l) (10 ∷ []) ∙ ap (λ (q : List ℕ). take to d₀ ++ q) (sym (digits-line l)) in
-      record {
-        up = omega arith;
-        top = omega arith;
-        text = rw z at (front-put d₀ d (to + 2 * n) (take to d₀ ++ digits l) 10 g (omega (arith, g .same)));
-      }
+line-is : (W : List ℕ) (at j : ℕ) → Packed W at → headIn W at j ++ fieldBytes (nodeIn W at .refs) ≡ lineIn W at j
+unfolding headIn lineIn nodeIn
+line-is W at j pk = ap (λ (n : ℕ). 5 ∷ j ∷ getD W at 0 ∷ n ∷ fieldBytes (nodeIn W at .refs)) (sym (count-refs W at pk))
 
-module _ (W : List ℕ) (at j : ℕ) (pk : Packed W at) (d₀ : List ℕ) (to k : ℕ) (d : List ℕ) (f : Begun (lineIn W at j) d₀ to k d) (n : ℕ) (en : n ≡ 4 + getD W (at + 1) 0) where
-  pub line-step : (e : List ℕ) (b : ℕ) → k < n → b ≡ getD (lineIn W at j) k 0 → Front d e (to + 2 * k + 2) (take (to + 2 * k) d ++ (char (b / 16) ∷ char (b % 16) ∷ [])) → Begun (lineIn W at j) d₀ to (k + 1) e
-  line-step e b h eb g = line-more (lineIn W at j) d₀ to k d f e b n g eb h (en ∙ sym (line-length W at j pk))
+-- the line's end
+ended-line : (l d₀ d : List ℕ) (to t : ℕ) → Written l d₀ to d t → t < length d₀ → Front d₀ (set d t 10) (t + 1) (take to d₀ ++ hexLine l)
+ended-line l d₀ d to t w h =
+    let z : (take to d₀ ++ digits l) ++ (10 ∷ []) ≡ take to d₀ ++ hexLine l = append-assoc (take to d₀) (digits l) (10 ∷ []) ∙ ap (λ (q : List ℕ). take to d₀ ++ q) (sym (digits-line l)) in
+    rw z at (front-put d₀ d t (take to d₀ ++ digits l) 10 (w .text) (omega (arith, w .text .same)))
 
-  pub line-end : k ≤ n → n ≤ k → to + lineSize ≤ length d₀ → Line (lineIn W at j) d₀ to (set d (to + 2 * n) 10) (to + 2 * n + 1)
-  line-end h h′ room = line-done (lineIn W at j) d₀ to k d f n h h′ (en ∙ sym (line-length W at j pk)) (omega (arith, pk .count)) room
+pub line-written : (W : List ℕ) (at j : ℕ) (d₀ d1 d : List ℕ) (to t : ℕ) → Packed W at → to + lineSize ≤ length d₀ → Written (headIn W at j) d₀ to d1 (to + headText)
+    → Written (fieldBytes (nodeIn W at .refs)) d1 (to + headText) d t → t ≤ to + headText + fieldsText → Line (lineIn W at j) d₀ to (set d t 10) (t + 1)
+line-written W at j d₀ d1 d to t pk room g w h = record {
+  up = omega (arith, w .end);
+  top = omega arith;
+  text = ended-line (lineIn W at j) d₀ d to t (rw (line-is W at j pk) at (written-then (headIn W at j) (fieldBytes (nodeIn W at .refs)) d₀ d1 d to (to + headText) t g w)) (omega arith);
+}
 
 -- ---- the lines
 lines-more : (k : ℕ) (ns : List Node) (x : Node) → objectLines k (ns ++ (x ∷ [])) ≡ objectLines k ns ++ (objectLine (k + length ns) x ∷ [])
@@ -252,21 +199,37 @@ module _ (W : List ℕ) (b : ℕ) (bk : Block W b) where
       }
 
 -- ---- no object
--- the line 06 at the front of d
-abbrev sixLine : List ℕ → List ℕ
-sixLine d = set (set (set d 0 digitChar) 1 (digitChar + 6)) 2 10
+leaf-reported : (l : Leaf) (d₀ d : List ℕ) (t : ℕ) → Written (leafLine l) d₀ 0 d t → reportSize ≤ length d₀ → t < reportSize → Reported (leafOf l) d₀ (set d t 10) (t + 1)
+leaf-reported l d₀ d t w room h =
+    let f : Front d₀ (set d t 10) (t + 1) (hexLine (leafLine l)) = ended-line (leafLine l) d₀ d 0 t w (omega arith) in
+    let g : Front d₀ (set d t 10) (t + 1) (hexText (leafLine l ∷ [])) = rw (append-nil (hexLine (leafLine l))) f in
+    let c : t + 1 ≡ length (hexText (leafLine l ∷ [])) = omega (arith, ap length (g .front), length-take (t + 1) (set d t 10), g .same) in
+    record {
+      fits = omega arith;
+      count = c;
+      text = front-whole d₀ (set d t 10) (t + 1) (hexText (leafLine l ∷ [])) g ∙ ap (λ (q : ℕ). hexText (leafLine l ∷ []) ++ drop q d₀) c;
+    }
 
-six-text : (d : List ℕ) → reportSize ≤ length d → sixLine d ≡ digitChar ∷ (digitChar + 6) ∷ 10 ∷ drop 3 d
-six-text [] h = absurd (omega arith)
-six-text (a ∷ []) h = absurd (omega arith)
-six-text (a ∷ (b ∷ [])) h = absurd (omega arith)
-six-text (a ∷ (b ∷ (c ∷ d))) h = refl
+pub six-reported : (d₀ d : List ℕ) → reportSize ≤ length d₀ → Front d₀ d (0 + 2) (take 0 d₀ ++ (char (6 / 16) ∷ char (6 % 16) ∷ [])) → Reported undetermined d₀ (set d 2 10) 3
+six-reported d₀ d room g = leaf-reported undet d₀ d 2 (written-one d₀ d 0 6 g) room (omega arith)
 
-pub report-none : (W : List ℕ) (r : ValueRef) (d : List ℕ) → OneOf (1 ∷ 2 ∷ []) (tagOf RefT.the-type r) → reportSize ≤ length d → Reported (valueOf W r) d (sixLine d) 3
-report-none W r d h l =
-    no-object (λ x. Reported (valueOf W x) d (sixLine d) 3)
-    (λ k. record { fits = omega arith; count = refl; text = six-text d l })
-    (record { fits = omega arith; count = refl; text = six-text d l }) r h
+pub number-reported : (n : ℕ) (d₀ d1 d2 d : List ℕ) → reportSize ≤ length d₀ → Front d₀ d1 (0 + 2) (take 0 d₀ ++ (char (9 / 16) ∷ char (9 % 16) ∷ []))
+    → Front d1 d2 (2 + 2) (take 2 d1 ++ (char (n / 256 / 16) ∷ char (n / 256 % 16) ∷ [])) → Front d2 d (4 + 2) (take 4 d2 ++ (char (n % 256 / 16) ∷ char (n % 256 % 16) ∷ [])) → Reported (numberOf n) d₀ (set d 6 10) 7
+number-reported n d₀ d1 d2 d room g1 g2 g3 =
+    let w1 = written-one d₀ d1 0 9 g1 in
+    let w2 = written-more _ d₀ d1 d2 0 2 (n / 256) 2 w1 g2 refl in
+    let w3 = written-more _ d₀ d2 d 0 4 (n % 256) 4 w2 g3 refl in
+    leaf-reported (num n) d₀ d 6 w3 room (omega arith)
+
+module _ (W : List ℕ) (r : ValueRef) (d₀ d : List ℕ) (t : ℕ) where
+  pub report-mark : (k : ℕ) → r ≡ Mark k → Reported undetermined d₀ d t → Reported (valueOf W r) d₀ d t
+  report-mark k e h = rw e (record { fits = h .fits; count = h .count; text = h .text })
+
+  pub report-number : (n : ℕ) → r ≡ Number n → Reported (numberOf n) d₀ d t → Reported (valueOf W r) d₀ d t
+  report-number n e h = rw e h
+
+  pub report-undetermined : r ≡ Undetermined → Reported undetermined d₀ d t → Reported (valueOf W r) d₀ d t
+  report-undetermined e h = rw e h
 
 -- ---- an object, alone in its block
 pub report-one : (W : List ℕ) (r : ValueRef) (b i : ℕ) (W′ d₀ d : List ℕ) (t n : ℕ) → r ≡ Object i b → Moved W (graphAt W b i) b W′ n → Reported (graphAt W′ b 0) d₀ d t

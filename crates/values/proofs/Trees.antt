@@ -8,8 +8,8 @@ use mathlib.Core.Option.{Option, none, some, Option·none-ne-some}
 use lib.Dec.{eqb}
 use lib.ListN.{length, getElem?}
 use Rattle.cofj.specs.Partial.{_>>=_}
-use Rattle.cofj.specs.Values.{Ref, obj, mark, undet, Node, Graph, graph, refsAt, canon, select, selected, bind, close, make}
-use Rattle.cofj.specs.Unfolding.{object, opened, unknown, child, follow, Same, SameTree, InRange, Whole, followBound, AllWhole}
+use Rattle.cofj.specs.Values.{Ref, obj, leaf, Leaf, mark, undet, num, Node, Graph, graph, refsAt, canon, select, selected, bindLeaf, bind, close, make}
+use Rattle.cofj.specs.Unfolding.{object, atLeaf, child, follow, Same, SameTree, InRange, Whole, followBound, AllWhole}
 use Rattle.cofj.proofs.Trees.{same-child}
 use Rattle.cofj.proofs.Canon.{number, canon-is, canon-same, canon-whole}
 use Rattle.cofj.proofs.Unique.{same-canon, canon-canon}
@@ -18,31 +18,26 @@ use Rattle.cofj.proofs.Operations.{at-ref, boundNodes, bound-follow, bound-whol
 
 child-in : (g : Graph) → Whole g → (r : Ref) (f : ℕ) (s : Ref) → child (g .nodes) r f ≡ some s → InRange (length (g .nodes)) s
 child-in g w (obj i) f s e = w .inner i f s e
-child-in g w (mark k) f s e = absurd (Option·none-ne-some s e)
-child-in g w undet f s e = absurd (Option·none-ne-some s e)
+child-in g w (leaf l) f s e = absurd (Option·none-ne-some s e)
 
 -- ---- references that lead to no object
 pub in-larger : (n m : ℕ) (r : Ref) → n ≤ m → InRange n r → InRange m r
 in-larger n m (obj i) h l = omega arith
-in-larger n m (mark k) h l = tt
-in-larger n m undet h l = tt
+in-larger n m (leaf k) h l = tt
 
 -- one that is in range of no objects unfolds to itself, whatever the objects are
 pub leaf-same : (ns ms : List Node) (r : Ref) → InRange 0 r → Same ns r ms r
 leaf-same ns ms (obj i) h p = absurd (omega arith)
-leaf-same ns ms (mark k) h [] = refl
-leaf-same ns ms (mark k) h (f ∷ p) = refl
-leaf-same ns ms undet h [] = refl
-leaf-same ns ms undet h (f ∷ p) = refl
+leaf-same ns ms (leaf l) h [] = refl
+leaf-same ns ms (leaf l) h (f ∷ p) = refl
 
 -- ---- a field
 abbrev pick : List Node → ℕ → Ref → Option Graph
-pick ns f r = elim r as (λ _. Option Graph) [ obj i ↦ selected ns (getElem? (refsAt ns i) f) | mark k ↦ none | undet ↦ none ]
+pick ns f r = elim r as (λ _. Option Graph) [ obj i ↦ selected ns (getElem? (refsAt ns i) f) | leaf l ↦ none ]
 
 pick-child : (ns : List Node) (f : ℕ) (r : Ref) → pick ns f r ≡ selected ns (child ns r f)
 pick-child ns f (obj i) = refl
-pick-child ns f (mark k) = refl
-pick-child ns f undet = refl
+pick-child ns f (leaf l) = refl
 
 pub same-select : (g h : Graph) → Whole g → Whole h → SameTree g h → (f : ℕ) → select f g ≡ select f h
 unfolding select
@@ -65,20 +60,23 @@ select-canon g w = same-select (canon g) g (canon-whole g w) w (canon-same g w)
 
 -- ---- X = u
 module _ (x i j : ℕ) (ns ms : List Node) (root : Same ns (obj i) ms (obj j)) where
+  leaf-bound : (l : Leaf) → Same ns (bindLeaf x (obj i) l) ms (bindLeaf x (obj j) l)
+  leaf-bound (mark k) = go (eqb k x)
+    where
+      go : (t : Bool) → Same ns (elim t as (λ _. Ref) [ true ↦ obj i | false ↦ leaf (mark k) ]) ms (elim t as (λ _. Ref) [ true ↦ obj j | false ↦ leaf (mark k) ])
+      go true = root
+      go false = leaf-same ns ms (leaf (mark k)) tt
+  leaf-bound undet = leaf-same ns ms (leaf undet) tt
+  leaf-bound (num n) = leaf-same ns ms (leaf (num n)) tt
+
   bind-same : (r s : Ref) → Same ns r ms s → Same ns (bind x (obj i) r) ms (bind x (obj j) s)
   bind-same (obj a) (obj b) e = e
-  bind-same (obj a) (mark k) e = let z : some (object _ _) ≡ some (opened k) = e [] in absurd (let q : _≡_ {A = ℕ} 0 1 = cc in omega arith)
-  bind-same (obj a) undet e = let z : some (object _ _) ≡ some unknown = e [] in absurd (let q : _≡_ {A = ℕ} 0 1 = cc in omega arith)
-  bind-same (mark k) (obj b) e = let z : some (opened k) ≡ some (object _ _) = e [] in absurd (let q : _≡_ {A = ℕ} 0 1 = cc in omega arith)
-  bind-same (mark k) (mark l) e = let z : some (opened k) ≡ some (opened l) = e [] in let q : k ≡ l = cc in subst (λ (m : ℕ). Same ns (bind x (obj i) (mark k)) ms (bind x (obj j) (mark m))) q (go (eqb k x))
-    where
-      go : (t : Bool) → Same ns (elim t as (λ _. Ref) [ true ↦ obj i | false ↦ mark k ]) ms (elim t as (λ _. Ref) [ true ↦ obj j | false ↦ mark k ])
-      go true = root
-      go false = leaf-same ns ms (mark k) tt
-  bind-same (mark k) undet e = let z : some (opened k) ≡ some unknown = e [] in absurd (let q : _≡_ {A = ℕ} 0 1 = cc in omega arith)
-  bind-same undet (obj b) e = let z : some unknown ≡ some (object _ _) = e [] in absurd (let q : _≡_ {A = ℕ} 0 1 = cc in omega arith)
-  bind-same undet (mark l) e = let z : some unknown ≡ some (opened l) = e [] in absurd (let q : _≡_ {A = ℕ} 0 1 = cc in omega arith)
-  bind-same undet undet e = e
+  bind-same (obj a) (leaf l) e = let z : some (object _ _) ≡ some (atLeaf l) = e [] in absurd (let q : _≡_ {A = ℕ} 0 1 = cc in omega arith)
+  bind-same (leaf k) (obj b) e = let z : some (atLeaf k) ≡ some (object _ _) = e [] in absurd (let q : _≡_ {A = ℕ} 0 1 = cc in omega arith)
+  bind-same (leaf k) (leaf l) e =
+      let z : some (atLeaf k) ≡ some (atLeaf l) = e [] in
+      let q : k ≡ l = cc in
+      subst (λ (m : Leaf). Same ns (bindLeaf x (obj i) k) ms (bindLeaf x (obj j) m)) q (leaf-bound k)
 
   bound-same : (p : List ℕ) (r s : Ref) → Same ns r ms s → followBound x (obj i) ns r p ≡ followBound x (obj j) ms s p
   bound-same [] r s e = bind-same r s e []

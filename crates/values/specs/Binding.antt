@@ -4,12 +4,13 @@ use Prim.Native.Nat.{ℕ, _+_, _*_, _≤_, _<_}
 use mathlib.Core.Path.{_≡_}
 use mathlib.Core.Bool.{Bool, true, not, cond}
 use mathlib.Core.List.{List}
-use lib.Dec.{eqb, ltb}
+use lib.Dec.{eqb}
 use lib.ListN.{length, getD}
-use Rattle.cofj.specs.Values.{obj, undet, graph}
+use Rattle.cofj.specs.Values.{obj, leaf, undet, graph}
 use Rattle.cofj.specs.Unfolding.{Same, Whole}
-use Rattle.canon.specs.Figures.{objectSize, headSize, codeCount, firstMark, capacity, objectsSize, blockSize}
-use Rattle.canon.specs.Layout.{nodesIn, countIn, Packed, Distinct}
+use Rattle.canon.specs.Figures.{objectSize, headSize, codeCount, numbersAt, firstMark, capacity, objectsSize, blockSize}
+use Rattle.canon.specs.Layout.{numberAt, nodesIn, countIn, Packed, Distinct}
+use Rattle.canon.specs.Tables.{onCodes}
 use Rattle.values.specs.Tests.{any}
 
 -- a code bound: the code `hot` is turned to object i
@@ -17,14 +18,21 @@ unfoldable pub boundCode : ℕ → ℕ → ℕ → ℕ
 boundCode hot i c = cond (eqb c hot) i c
 
 -- byte k of an object, its codes bound
-unfoldable pub boundByte : ℕ → ℕ → ℕ → ℕ → ℕ
-boundByte hot i k c = cond (ltb k headSize) c (boundCode hot i c)
+abbrev pub boundByte : ℕ → ℕ → ℕ → ℕ → ℕ
+boundByte hot i = onCodes (boundCode hot i)
 
--- the first k bytes of the object at a place of W, bound, at a place of R; the bytes below are R₀'s
-pub record ObjectBound (W : List ℕ) (p hot i : ℕ) (R₀ : List ℕ) (q k : ℕ) (R : List ℕ) : Type 0 where
+-- the object at a place of R₀ bound; the other bytes are R₀'s
+pub record ObjectBound (R₀ : List ℕ) (p hot i : ℕ) (R : List ℕ) : Type 0 where
   pub same : length R ≡ length R₀
-  pub here : (f : ℕ) → f < k → getD R (q + f) 0 ≡ boundByte hot i f (getD W (p + f) 0)
-  pub below : (y : ℕ) → y < q → getD R y 0 ≡ getD R₀ y 0
+  pub here : (f : ℕ) → f < objectSize → getD R (p + f) 0 ≡ boundByte hot i f (getD R₀ (p + f) 0)
+  pub below : (y : ℕ) → y < p → getD R y 0 ≡ getD R₀ y 0
+  pub above : (y : ℕ) → p + objectSize ≤ y → getD R y 0 ≡ getD R₀ y 0
+
+-- the first n objects of R₀ bound; the other bytes are R₀'s
+pub record AllBound (R₀ : List ℕ) (n hot i : ℕ) (R : List ℕ) : Type 0 where
+  pub same : length R ≡ length R₀
+  pub here : (j f : ℕ) → j < n → f < objectSize → getD R (objectSize * j + f) 0 ≡ boundByte hot i f (getD R₀ (objectSize * j + f) 0)
+  pub above : (y : ℕ) → objectSize * n ≤ y → getD R y 0 ≡ getD R₀ y 0
 
 -- the first n objects of block b, bound, at the front of R
 pub record ObjectsBound (W : List ℕ) (b hot i n : ℕ) (R : List ℕ) : Type 0 where
@@ -41,7 +49,7 @@ pub record Few (R : List ℕ) (n : ℕ) : Type 0 where
   pub small : n ≤ capacity
   pub room : objectsSize ≤ length R
   pub packed : (i : ℕ) → i < n → Packed R (objectSize * i)
-  pub whole : Whole (graph undet (nodesIn R 0 n))
+  pub whole : Whole (graph (leaf undet) (nodesIn R 0 n))
 
 -- whether one of the four codes of the object at a place is i
 unfoldable pub refersTo : List ℕ → ℕ → ℕ → Bool
@@ -51,9 +59,10 @@ refersTo W p i = any (λ f. eqb (getD W (p + 2 + f) 0) i) 4
 unfoldable pub noneRefer : List ℕ → ℕ → ℕ → ℕ → Bool
 noneRefer W b n i = not (any (λ k. refersTo W (blockSize * b + objectSize * k) i) n)
 
--- f is a field whose codes differ, or 4
+-- f is a field whose codes or numbers differ, or 4
 pub record OtherField (R : List ℕ) (x y f : ℕ) : Type 0 where
-  pub other : f < codeCount → getD R (objectSize * x + headSize + f) 0 ≡ getD R (objectSize * y + headSize + f) 0 → ⊥
+  pub other : f < codeCount → getD R (objectSize * x + headSize + f) 0 ≡ getD R (objectSize * y + headSize + f) 0
+      → numberAt R (objectSize * x + numbersAt + 2 * f) ≡ numberAt R (objectSize * y + numbersAt + 2 * f) → ⊥
 
 -- objects i and k of n unfold to the same tree only if x and y do
 pub record Leads (R : List ℕ) (n i k x y : ℕ) : Type 0 where

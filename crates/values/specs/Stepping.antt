@@ -1,6 +1,6 @@
 -- Objects of two blocks compared in step: a table of pairs, and a queue of the first block's objects that are paired.
 -- Not here: objects of one block, of which no two are the same.
-use Prim.Native.Nat.{ℕ, zero, suc, _+_, _*_, _≤_, _<_}
+use Prim.Native.Nat.{ℕ, _+_, _*_, _≤_, _<_}
 use mathlib.Core.Path.{_≡_}
 use mathlib.Core.Bool.{Bool, true, false, cond}
 use mathlib.Core.List.{List}
@@ -9,8 +9,9 @@ use lib.Dec.{eqb, ltb}
 use lib.ListN.{length, getD, set}
 use Rattle.cofj.specs.Values.{obj}
 use Rattle.cofj.specs.Unfolding.{Same}
-use Rattle.canon.specs.Figures.{objectSize, headSize, firstLeaf, capacity, blockSize}
-use Rattle.canon.specs.Layout.{Alike, countIn, objectsIn, Block, Inside}
+use Rattle.canon.specs.Figures.{objectSize, headSize, numbersAt, firstLeaf, capacity, blockSize}
+use Rattle.canon.specs.Tables.{zeroCount}
+use Rattle.canon.specs.Layout.{numberAt, Alike, countIn, objectsIn, Block, Inside}
 
 -- the length of the queue (0 where two things differ), the table and the queue
 pub record After : Type 0 where
@@ -21,14 +22,14 @@ pub record After : Type 0 where
 abbrev pub after : ℕ → List ℕ → List ℕ → After
 after t T Q = record { tail = t; table = T; queue = Q }
 
--- a code of the first block met with one of the second: objects are paired, unless the first has a partner already
-unfoldable pub stepCode : List ℕ → List ℕ → ℕ → ℕ → ℕ → After
-stepCode T Q t a b =
+-- a code of the first block and the number beside it met with those of the second: objects are paired, unless the first has a partner already
+unfoldable pub stepCode : List ℕ → List ℕ → ℕ → ℕ → ℕ → ℕ → ℕ → After
+stepCode T Q t a m b n =
     cond (ltb a firstLeaf)
     (cond (ltb b firstLeaf)
     (cond (eqb (getD T a 0) 0) (after (t + 1) (set T a (b + 1)) (set Q t a)) (cond (eqb (getD T a 0) (b + 1)) (after t T Q) (after 0 T Q)))
     (after 0 T Q))
-    (cond (eqb a b) (after t T Q) (after 0 T Q))
+    (cond (eqb a b) (cond (eqb m n) (after t T Q) (after 0 T Q)) (after 0 T Q))
 
 -- room for a new pair
 pub record CodeFits (T Q : List ℕ) (t a : ℕ) : Type 0 where
@@ -36,17 +37,12 @@ pub record CodeFits (T Q : List ℕ) (t a : ℕ) : Type 0 where
   pub room : a < firstLeaf → getD T a 0 ≡ 0 → t < length Q
   pub few : t ≤ capacity
 
--- how many of the first k objects are not paired
-unfoldable pub unpaired : ℕ → List ℕ → ℕ
-unpaired zero T = 0
-unpaired (suc k) T = cond (eqb (getD T k 0) 0) 1 0 + unpaired k T
-
 -- object x of block b is paired with object y of block c where the table has y + 1 for x; the queue lists the paired objects, but those that are known to unfold to
 -- their partners' trees: they need not be gone over. Comparing begins with none such, merging with those that have codes
 pub record Paired (W : List ℕ) (b c : ℕ) (T Q : List ℕ) (t : ℕ) : Type 0 where
   pub table : length T ≡ capacity
   pub queue : length Q ≡ capacity
-  pub free : t + unpaired capacity T ≤ capacity
+  pub free : t + zeroCount capacity T ≤ capacity
   pub low : (q : ℕ) → q < t → getD Q q 0 < countIn W b
   pub there : (q : ℕ) → q < t → (getD T (getD Q q 0) 0 ≡ 0) → ⊥
   pub listed : (x y : ℕ) → getD T x 0 ≡ y + 1 → ((q : ℕ) × (q < t) × (getD Q q 0 ≡ x)) ⊎ Same (objectsIn W b) (obj x) (objectsIn W c) (obj y)
@@ -63,14 +59,16 @@ pub record Grown (W : List ℕ) (b c : ℕ) (T₀ Q₀ : List ℕ) (t₀ : ℕ) 
   pub front : (q : ℕ) → q < t₀ → getD Q q 0 ≡ getD Q₀ q 0
   pub keeps : AllSame W b c T₀ → AllSame W b c T
 
--- equal codes, or objects that are paired
-pub record Linked (T : List ℕ) (a b : ℕ) : Type 0 where
+-- equal codes and numbers, or objects that are paired
+pub record Linked (T : List ℕ) (a m b n : ℕ) : Type 0 where
   pub leaf : firstLeaf ≤ a → a ≡ b
+  pub number : firstLeaf ≤ a → m ≡ n
   pub pair : a < firstLeaf → getD T a 0 ≡ b + 1
 
 -- the first k fields of object x of block b are linked with those of object y of block c
 pub record LinkedTo (W : List ℕ) (b x c y : ℕ) (T : List ℕ) (k : ℕ) : Type 0 where
-  pub codes : (f : ℕ) → f < k → Linked T (getD W (blockSize * b + objectSize * x + headSize + f) 0) (getD W (blockSize * c + objectSize * y + headSize + f) 0)
+  pub codes : (f : ℕ) → f < k → Linked T (getD W (blockSize * b + objectSize * x + headSize + f) 0) (numberAt W (blockSize * b + objectSize * x + numbersAt + 2 * f))
+      (getD W (blockSize * c + objectSize * y + headSize + f) 0) (numberAt W (blockSize * c + objectSize * y + numbersAt + 2 * f))
 
 -- object x of block b and object y of block c are a pair of the table
 pub record Pair (W : List ℕ) (b x c y : ℕ) (T Q : List ℕ) (t : ℕ) : Type 0 where

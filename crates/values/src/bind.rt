@@ -2,6 +2,7 @@
 // Not here: values in which the mark does not occur (value); how equal objects are found and merged (crate canon, colours and number).
 use crate::ValueRef;
 use crate::lockstep::alike;
+use crate::refs::number_at;
 use canon::bytes::copy;
 use canon::colours::colour;
 use canon::layout::BLOCK;
@@ -11,6 +12,7 @@ use canon::layout::FIRST_LEAF;
 use canon::layout::FIRST_MARK;
 use canon::layout::HEAD;
 use canon::layout::LEVEL;
+use canon::layout::NUMBERS;
 use canon::layout::OBJECT;
 use canon::layout::OBJECTS;
 use canon::layout::REACH;
@@ -18,14 +20,14 @@ use canon::layout::WIDE;
 use canon::number::level_of;
 use canon::number::put;
 ghost use mathlib.Core.Path.{_≡_};
-ghost use Prim.Native.Nat.{ℕ, _+_, _*_, _<_, _≤_};
+ghost use Prim.Native.Nat.{_+_, _*_, _<_, _≤_};
 ghost use lib.ListN.{length};
 ghost use Rattle.cofj.specs.Values.{canon};
 ghost use Rattle.canon.specs.Figures.{objectSize, markCount, wideSize, capacity, objectsSize, blockSize};
 ghost use Rattle.canon.specs.Layout.{Inside, nodesIn, graphAt, Distinct};
 ghost use Rattle.canon.specs.Numbers.{graphIn};
 ghost use Rattle.values.specs.Operations.{Gives, closeOf};
-ghost use Rattle.values.specs.Binding.{boundCode, ObjectBound, Bound, Few, refersTo, noneRefer, OtherField, DifferTest, UnlikeTest, OthersTest, DistinctTest, Rooted};
+ghost use Rattle.values.specs.Binding.{boundCode, ObjectBound, AllBound, Bound, Few, refersTo, noneRefer, OtherField, DifferTest, UnlikeTest, OthersTest, DistinctTest, Rooted};
 
 // how far a path is followed that may tell two objects apart: it decides the time only
 const STEPS: u8 = 64;
@@ -43,17 +45,27 @@ pub(crate) fn bind_code(hot: u8, i: u8, c: u8) -> u8
     c
 }
 
-// The object at place p of `work`, to place q of `raw`.
-pub(crate) fn bind_object(work: &[u8], p: usize, hot: u8, i: u8, raw: &mut [u8], q: usize)
-    requires { ⌜ (p + objectSize ≤ length (now work)) × (q + objectSize ≤ length (now raw)) ⌝ }
-    ensures { λ _. ⌜ ObjectBound (now (work .entry)) p hot i (now (raw .entry)) q objectSize (now (raw .exit)) ⌝ }
+// The codes of the object at a place.
+pub(crate) fn bind_object(raw: &mut [u8], p: usize, hot: u8, i: u8)
+    requires { ⌜ p + objectSize ≤ length (now raw) ⌝ }
+    ensures { λ _. ⌜ ObjectBound (now (raw .entry)) p hot i (now (raw .exit)) ⌝ }
 {
-    raw[q] = work[p];
-    raw[q + 1] = work[p + 1];
-    raw[q + 2] = bind_code(hot, i, work[p + 2]);
-    raw[q + 3] = bind_code(hot, i, work[p + 3]);
-    raw[q + 4] = bind_code(hot, i, work[p + 4]);
-    raw[q + 5] = bind_code(hot, i, work[p + 5]);
+    raw[p + 2] = bind_code(hot, i, raw[p + 2]);
+    raw[p + 3] = bind_code(hot, i, raw[p + 3]);
+    raw[p + 4] = bind_code(hot, i, raw[p + 4]);
+    raw[p + 5] = bind_code(hot, i, raw[p + 5]);
+}
+
+// The codes of n objects from the start on.
+pub(crate) fn bind_all(raw: &mut [u8], n: u8, hot: u8, i: u8)
+    requires { ⌜ objectSize * n ≤ length (now raw) ⌝ }
+    ensures { λ _. ⌜ AllBound (now (raw .entry)) n hot i (now (raw .exit)) ⌝ }
+{
+    let mut j: u8 = 0;
+    while j < n {
+        bind_object(raw, OBJECT * (j as usize), hot, i);
+        j += 1;
+    }
 }
 
 // The objects of block b, with mark x bound to object i, to the front of `raw`. Answers how many they are.
@@ -62,18 +74,8 @@ pub(crate) fn bind_objects(work: &[u8], b: u16, x: u8, i: u8, raw: &mut [u8]) ->
     ensures { λ n. ⌜ Bound (now (work .entry)) b x i (now (raw .exit)) n ⌝ }
 {
     let n = work[BLOCK * (b as usize) + COUNT];
-    let mut j: u8 = 0;
-    while j < n {
-        bind_object(
-            work,
-            BLOCK * (b as usize) + OBJECT * (j as usize),
-            FIRST_MARK + x,
-            i,
-            raw,
-            OBJECT * (j as usize),
-        );
-        j += 1;
-    }
+    copy(work, BLOCK * (b as usize), raw, 0, OBJECT * (n as usize));
+    bind_all(raw, n, FIRST_MARK + x, i);
     n
 }
 
@@ -109,7 +111,7 @@ pub(crate) fn unreferred(work: &[u8], b: u16, n: u8, i: u8) -> bool
     true
 }
 
-// The first field whose codes differ; NO_FIELD if there is none.
+// The first field whose codes or numbers differ; NO_FIELD if there is none.
 pub(crate) fn other_field(raw: &[u8], x: u8, y: u8) -> u8
     requires { ⌜ (objectSize * x + objectSize ≤ length (now raw)) × (objectSize * y + objectSize ≤ length (now raw)) ⌝ }
     ensures { λ f. ⌜ OtherField (now (raw .entry)) x y f ⌝ }
@@ -118,6 +120,11 @@ pub(crate) fn other_field(raw: &[u8], x: u8, y: u8) -> u8
     while f < CODES {
         if raw[OBJECT * (x as usize) + HEAD + f as usize]
             != raw[OBJECT * (y as usize) + HEAD + f as usize]
+        {
+            return f;
+        }
+        if number_at(raw, OBJECT * (x as usize) + NUMBERS + 2 * (f as usize))
+            != number_at(raw, OBJECT * (y as usize) + NUMBERS + 2 * (f as usize))
         {
             return f;
         }
@@ -203,7 +210,7 @@ pub(crate) fn put_distinct(raw: &[u8], n: u8, i: u8, work: &mut [u8], dst: u16) 
     ensures { λ o. ⌜ Gives (now (work .entry)) dst (now (work .exit)) o (canon (graphIn (now (raw .entry)) n i)) ⌝ }
 {
     copy(raw, 0, work, BLOCK * (dst as usize), OBJECT * (n as usize));
-    let l = level_of(raw, 0, OBJECT * (n as usize));
+    let l = level_of(raw, 0, n);
     work[BLOCK * (dst as usize) + COUNT] = n;
     work[BLOCK * (dst as usize) + LEVEL] = l;
     work[BLOCK * (dst as usize) + REACH] = n;

@@ -1,12 +1,14 @@
 // Values compared: two objects of two blocks, and what they lead to, in step. Not here: equal objects of one block, which there are none of.
 use crate::ValueRef;
+use crate::refs::number_at;
 use canon::layout::BLOCK;
 use canon::layout::FIRST_LEAF;
 use canon::layout::HEAD;
+use canon::layout::NUMBERS;
 use canon::layout::OBJECT;
 use canon::layout::PER_OBJECT;
 ghost use mathlib.Core.Path.{_≡_};
-ghost use Prim.Native.Nat.{ℕ, _+_, _*_, _≤_};
+ghost use Prim.Native.Nat.{_+_, _*_, _≤_};
 ghost use lib.ListN.{length};
 ghost use Rattle.cofj.specs.Values.{eqGraph, canon};
 ghost use Rattle.canon.specs.Figures.{objectSize, blockSize};
@@ -17,17 +19,28 @@ ghost use Rattle.values.specs.Stepping.{after, stepCode, CodeFits, Paire
 // the answer that two things differ: a queue has one object at least
 const DIFFERENT: u8 = 0;
 
-// Meets two codes: they are equal, or objects that are partners or can become so. `partner` has y + 1 for an object with the partner y, 0 for one
-// without; `queue` lists the objects that have one, `tail` of them. Answers how many there are then, DIFFERENT if the codes differ.
-pub(crate) fn step_code(partner: &mut [u8], queue: &mut [u8], tail: u8, first: u8, second: u8) -> u8
+// Meets two codes with the numbers beside them: they are equal, or objects that are partners or can become so. `partner` has y + 1 for an object with the partner y, 0 for one
+// without; `queue` lists the objects that have one, `tail` of them. Answers how many there are then, DIFFERENT if they differ.
+pub(crate) fn step_code(
+    partner: &mut [u8],
+    queue: &mut [u8],
+    tail: u8,
+    first: u8,
+    m: u16,
+    second: u8,
+    n: u16,
+) -> u8
     requires { ⌜ CodeFits (now partner) (now queue) tail first ⌝ }
-    ensures { λ r. ⌜ after r (now (partner .exit)) (now (queue .exit)) ≡ stepCode (now (partner .entry)) (now (queue .entry)) tail first second ⌝ }
+    ensures { λ r. ⌜ after r (now (partner .exit)) (now (queue .exit)) ≡ stepCode (now (partner .entry)) (now (queue .entry)) tail first m second n ⌝ }
 {
     if FIRST_LEAF <= first {
-        if first == second {
-            return tail;
+        if first != second {
+            return DIFFERENT;
         }
-        return DIFFERENT;
+        if m != n {
+            return DIFFERENT;
+        }
+        return tail;
     }
     if FIRST_LEAF <= second {
         return DIFFERENT;
@@ -71,13 +84,15 @@ pub(crate) fn step_fields(
 {
     let p = BLOCK * (b as usize) + OBJECT * (x as usize);
     let q = BLOCK * (c as usize) + OBJECT * (y as usize);
-    let n = work[p + 1];
+    let count = work[p + 1];
     let mut t = tail;
     let mut k: u8 = 0;
-    while k < n {
+    while k < count {
         let first = work[p + HEAD + k as usize];
+        let m = number_at(work, p + NUMBERS + 2 * (k as usize));
         let second = work[q + HEAD + k as usize];
-        let r = step_code(partner, queue, t, first, second);
+        let n = number_at(work, q + NUMBERS + 2 * (k as usize));
+        let r = step_code(partner, queue, t, first, m, second, n);
         if r == DIFFERENT {
             return DIFFERENT;
         }
@@ -168,20 +183,29 @@ pub fn equal(work: &[u8], a: ValueRef, b: ValueRef) -> bool
     ensures { λ r. ⌜ r ≡ eqGraph (valueOf (now (work .entry)) a) (valueOf (now (work .entry)) b) ⌝ }
 {
     match a {
-        ValueRef::Object(i, x) => match b {
-            ValueRef::Object(j, y) => same_trees(work, x, i, y, j),
-            ValueRef::Mark(_) => false,
-            ValueRef::Undetermined => false,
-        },
-        ValueRef::Mark(k) => match b {
-            ValueRef::Object(_, _) => false,
-            ValueRef::Mark(l) => k == l,
-            ValueRef::Undetermined => false,
-        },
-        ValueRef::Undetermined => match b {
-            ValueRef::Object(_, _) => false,
-            ValueRef::Mark(_) => false,
-            ValueRef::Undetermined => true,
-        },
+        ValueRef::Object(i, x) => {
+            let ValueRef::Object(j, y) = b else {
+                return false;
+            };
+            same_trees(work, x, i, y, j)
+        }
+        ValueRef::Mark(k) => {
+            let ValueRef::Mark(l) = b else {
+                return false;
+            };
+            k == l
+        }
+        ValueRef::Number(m) => {
+            let ValueRef::Number(n) = b else {
+                return false;
+            };
+            m == n
+        }
+        ValueRef::Undetermined => {
+            let ValueRef::Undetermined = b else {
+                return false;
+            };
+            true
+        }
     }
 }

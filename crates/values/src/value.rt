@@ -10,7 +10,7 @@ use canon::layout::OBJECT;
 use canon::layout::REACH;
 use canon::layout::WIDE;
 use canon::number::put;
-ghost use Prim.Native.Nat.{ℕ, _+_, _*_, _<_, _≤_};
+ghost use Prim.Native.Nat.{_+_, _*_, _<_, _≤_};
 ghost use lib.ListN.{length};
 ghost use Rattle.canon.specs.Figures.{markCount, wideSize, blockSize};
 ghost use Rattle.canon.specs.Layout.{Block, Inside, graphAt};
@@ -94,6 +94,7 @@ pub fn close(work: &mut [u8], x: u8, v: ValueRef, dst: u16) -> ValueRef
             }
             v
         }
+        ValueRef::Number(_) => v,
         ValueRef::Undetermined => v,
     }
 }

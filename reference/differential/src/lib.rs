@@ -3,6 +3,7 @@
 
 pub mod compare;
 pub mod sample;
+pub mod show;
 pub mod table;
 pub mod tally;
 pub mod timing;

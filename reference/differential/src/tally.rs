@@ -3,8 +3,8 @@
 use reference::calls::Mode;
 use std::fmt;
 
-/// Sorts of report: a value, undetermined, stuck, out of fuel, too deep, too large.
-pub const OUTCOMES: [&str; 6] = ["05", "06", "0701", "0702", "0703", "0704"];
+/// Sorts of report: a value, undetermined, a number, stuck, out of fuel, too deep, too large, a sum too large.
+pub const OUTCOMES: [&str; 8] = ["05", "06", "09", "0701", "0702", "0703", "0704", "0705"];
 /// Refusals are numbered up to 15.
 const REFUSALS: usize = 16;
 

@@ -146,10 +146,11 @@ fn ring(count: usize, class: impl Fn(usize) -> u8) -> String {
 }
 
 #[test]
-fn j_255_lines_and_one_more() {
-    let input = format!("{TWO_LETTERS}0401004200/{}", ring(255, |_| 2));
+fn j_254_lines_and_one_more() {
+    let input = format!("{TWO_LETTERS}0401004200/{}", ring(254, |_| 2));
     reports(1_000, &input, "08000100/", "0500020100/", 1_000);
-    refuses(&format!("{input}05FF0100/"), 14);
+    refuses(&format!("{input}05FE0100/"), 14);
+    refuses(&format!("{TWO_LETTERS}0401004200/{}", ring(255, |_| 2)), 14);
 }
 
 #[test]
@@ -214,13 +215,13 @@ fn state_refusals_come_before_both_texts() {
     ] {
         for mode in MODES {
             for (session, report, work, wanted) in [
-                (open(7), 544, 65_536, earned),
-                (open(0), 900, 65_600, earned),
-                (open(7), 544, 65_535, 13),
-                (open(7), 543, 65_535, 12),
+                (open(7), 1_056, 163_840, earned),
+                (open(0), 1_100, 163_900, earned),
+                (open(7), 1_056, 163_839, 13),
+                (open(7), 1_055, 163_839, 12),
                 (open(7), 0, 0, 12),
                 (closed, 0, 0, 11),
-                (closed, 544, 65_536, 11),
+                (closed, 1_056, 163_840, 11),
             ] {
                 let ran = bench.run_on(mode, (text, input), session, (report, work));
                 let answer = ran
@@ -243,11 +244,11 @@ fn bytes_that_stay() {
         (b"05000000\n", 15),
     ] {
         for run in [baqolluy::run, baqolluy::trial] {
-            let mut report = vec![0x5A; 900];
-            let mut work = vec![0xA5; 70_000];
+            let mut report = vec![0x5A; 1_500];
+            let mut work = vec![0xA5; 170_000];
             let answer = run(program, input, open(9), &mut report, &mut work);
             assert_eq!((answer.refusal, answer.session), (refusal, open(9)));
-            let (length, zeroed) = if refusal == 0 { (11, 65_536) } else { (0, 0) };
+            let (length, zeroed) = if refusal == 0 { (11, 163_840) } else { (0, 0) };
             assert_eq!(usize::from(answer.length), length);
             assert_eq!(&report[..length], &b"0500010100\n"[..length]);
             assert!(report[length..].iter().all(|&byte| byte == 0x5A));

@@ -6,7 +6,7 @@ use reference::classes::fits;
 use reference::generator::random::Random;
 use reference::generator::{Kind, text};
 use reference::reading::read;
-use reference::syntax::{MINUS, MINUS_OPEN, Method, PLUS, PLUS_OPEN, Table, Type};
+use reference::syntax::{MINUS, MINUS_OPEN, Method, NUMBER, PLUS, PLUS_OPEN, Table, Type};
 use reference::typing::sides;
 use reference::writing::encode;
 
@@ -30,7 +30,10 @@ fn change(random: &mut Random, table: &mut Table) {
     if random.chance(70) {
         changed.tag = random.below(4) as u8;
     } else {
-        changed.class = random.below(known) as u8;
+        changed.class = match random.below(5) {
+            0 => NUMBER,
+            _ => random.below(known) as u8,
+        };
     }
 }
 

@@ -29,14 +29,14 @@ fn assert_accepted(tally: &Tally) {
     }
 }
 
-const LIMITS: [&str; 3] = ["0702", "0703", "0704"];
+const LIMITS: [&str; 4] = ["0702", "0703", "0704", "0705"];
 
 #[test]
 fn typed_programs() {
     let tally = compared(Kind::Typed, 101, 7_000);
     assert_accepted(&tally);
     for mode in [Checked, Trial] {
-        assert_ended(&tally, mode, &["05", "06"], 2_000);
+        assert_ended(&tally, mode, &["05", "06", "09"], 2_000);
         assert_ended(&tally, mode, &LIMITS, 500);
     }
 }
@@ -46,7 +46,7 @@ fn plain_programs() {
     let tally = compared(Kind::Plain, 102, 12_000);
     assert_accepted(&tally);
     for mode in [Checked, Trial] {
-        assert_ended(&tally, mode, &["05", "06"], 2_000);
+        assert_ended(&tally, mode, &["05", "06", "09"], 2_000);
         assert_ended(&tally, mode, &LIMITS, 500);
     }
 }
@@ -57,7 +57,8 @@ fn programs_at_a_limit() {
     assert_accepted(&tally);
     for mode in [Checked, Trial] {
         assert_ended(&tally, mode, &["05"], 2_000);
-        assert_ended(&tally, mode, &LIMITS, 500);
+        assert_ended(&tally, mode, &["09"], 500);
+        assert_ended(&tally, mode, &LIMITS, 400);
     }
 }
 
@@ -68,7 +69,7 @@ fn ill_typed_programs() {
     assert!(tally.refused(Checked, 6) > 7 * 14_000 && tally.refused(Checked, 7) > 7 * 14_000);
     assert_eq!(tally.refused(Checked, 0), 0);
     assert_eq!(tally.refused(Trial, 0), 7 * 30_000);
-    assert_ended(&tally, Trial, &["05", "06", "0701"], 2_000);
+    assert_ended(&tally, Trial, &["05", "06", "09", "0701"], 2_000);
     assert_ended(&tally, Trial, &LIMITS, 500);
 }
 

@@ -30,8 +30,8 @@ const TEXTS: [(&[u8], u8, u8); 7] = [
 fn expected(session: Session, report: usize, work: usize, earned: u8) -> u8 {
     match (session.active, report, work) {
         (false, _, _) => 11,
-        (_, ..=543, _) => 12,
-        (_, _, ..=65_535) => 13,
+        (_, ..=1_055, _) => 12,
+        (_, _, ..=163_839) => 13,
         _ => earned,
     }
 }
@@ -47,8 +47,8 @@ fn state_refusals_come_in_order_and_before_the_text() {
     for (text, checked, trial) in TEXTS {
         for (mode, earned) in [(Mode::Checked, checked), (Mode::Trial, trial)] {
             for session in [open(0), open(7), open(65_535), CLOSED, odd] {
-                for report in [0, 1, 543, 544, 545] {
-                    for work in [0, 1, 65_535, 65_536, 65_537] {
+                for report in [0, 1, 1_055, 1_056, 1_057] {
+                    for work in [0, 1, 163_839, 163_840, 163_841] {
                         let wanted = expected(session, report, work, earned);
                         let ran = bench.run(mode, text, session, (report, work));
                         let ran = ran.unwrap_or_else(|difference| panic!("{difference}"));
@@ -71,13 +71,13 @@ fn state_refusals_come_in_order_and_before_the_text() {
 #[test]
 fn bytes_that_stay() {
     for (text, checked, _) in TEXTS {
-        for (report_length, work_length) in [(544, 65_536), (900, 70_000), (543, 65_536)] {
+        for (report_length, work_length) in [(1_056, 163_840), (1_500, 170_000), (1_055, 163_840)] {
             let mut report = vec![0x5A; report_length];
             let mut work = vec![0xA5; work_length];
             let answer = baqolluy::run(text, b"", open(9), &mut report, &mut work);
             let wanted = expected(open(9), report_length, work_length, checked);
             assert_eq!(answer.refusal, wanted);
-            let (length, zeroed) = if wanted == 0 { (11, 65_536) } else { (0, 0) };
+            let (length, zeroed) = if wanted == 0 { (11, 163_840) } else { (0, 0) };
             assert_eq!(usize::from(answer.length), length);
             assert_eq!(&report[..length], &b"0500010100\n"[..length]);
             assert!(report[length..].iter().all(|&byte| byte == 0x5A));
@@ -91,12 +91,15 @@ fn bytes_that_stay() {
 #[test]
 fn very_long_buffers_and_texts() {
     let mut report = vec![0x5A; 65_536 + 5];
-    let mut work = vec![0xA5; 2 * 65_536 + 5];
+    let mut work = vec![0xA5; 3 * 65_536 + 5];
     let answer = baqolluy::run(A, b"", open(9), &mut report, &mut work);
     assert_eq!((answer.refusal, answer.length), (0, 11));
     assert!(report[11..].iter().all(|&byte| byte == 0x5A));
-    assert!(work[..65_536].iter().all(|&byte| byte == 0));
-    assert!(work[65_536..].iter().all(|&byte| byte == 0xA5));
+    assert!(work[..163_840].iter().all(|&byte| byte == 0));
+    assert!(work[163_840..].iter().all(|&byte| byte == 0xA5));
+    // A work buffer that is too short, and long enough without its 16th bit.
+    let answer = baqolluy::run(A, b"", open(9), &mut report, &mut work[..2 * 65_536 + 5]);
+    assert_eq!(answer.refusal, 13);
     let mut text = A.to_vec();
     text.resize(65_536 + A.len(), b'\n');
     assert_eq!(baqolluy::check(&text).refusal, 1);

@@ -2,16 +2,19 @@
 //! thread with no more than that. Of an engine that needs more the thread overflows, and the test ends at once.
 
 use baqolluy::{REPORT_LENGTH, TEXT_LENGTH, WORK_LENGTH};
-use reference::builder::{Program, call, minus, minus_open, new, param, plus, res, this};
+use reference::builder::{
+    Program, call, choose, minus, minus_open, new, number, param, plus, res, sum, this, whole,
+};
 use reference::calls::{self, Mode};
 use reference::generator::random::Random;
 use reference::generator::{self, Kind};
+use reference::linerun;
 use reference::refusals::Refusal;
 use reference::syntax::Expr;
 use reference::workloads;
 use std::thread;
 
-const STACK: usize = 192 * 1024;
+const STACK: usize = 224 * 1024;
 const FUEL: u16 = 1_000;
 
 const NODE: u8 = 1;
@@ -148,6 +151,18 @@ fn assert_ends(text: &[u8], report_start: &str, lines: usize, units: u16) {
         assert!(shown.starts_with(report_start), "{shown}");
         assert_eq!(shown.lines().count(), lines);
     }
+    assert_shown(text);
+}
+
+/// The same as `linerun` shows it.
+fn assert_shown(input: &[u8]) {
+    let (mut report, mut work) = (vec![0xA5; REPORT_LENGTH], vec![0xA5; WORK_LENGTH]);
+    let (lent, worked) = (&mut report[..], &mut work[..]);
+    let shown = in_thread(|| baqolluy::show(input, lent, worked));
+    let verdict = &shown.verdict[..usize::from(shown.verdict_length)];
+    let given = [verdict, &report[..usize::from(shown.length)]].concat();
+    let (expected, _) = linerun::output(Mode::Checked, FUEL, input);
+    assert_eq!(given, expected);
 }
 
 /// Check, reading and writing of a text.
@@ -178,6 +193,33 @@ fn sixteen_open_calls_and_a_walk() {
 fn sixteen_open_calls_and_a_value() {
     let text = deep(16, Around::Objects, of_the_ring());
     assert_ends(&text, "0500", 32, spent(16, Around::Objects));
+}
+
+/// Sums and choices around each call that is open, 6 deep: so many of them wait for an operand at one time.
+#[test]
+fn sixteen_open_calls_inside_sums() {
+    let mut p = Program::start();
+    let holder = p.class(0, &[]);
+    let around = |inner: Expr| {
+        let added = (0..3).fold(inner, |inner, _| sum(number(1), inner));
+        choose(added, number(3), number(4))
+    };
+    let types = (whole(), whole());
+    for place in (1..=16).rev() {
+        let inner = match place {
+            16 => number(1),
+            _ => call(DEEP + place + 1, this(), []),
+        };
+        p.method(
+            (holder, DEEP + place),
+            types,
+            &[],
+            (around(inner), number(0)),
+        );
+    }
+    let text = p.text(around(call(DEEP + 1, new(holder, []), [])));
+    assert_ends(&text, "090003", 1, 16);
+    assert_read_and_written(&text);
 }
 
 /// That 16 calls are open above: one more is too deep.
@@ -214,5 +256,6 @@ fn full_second_texts() {
         assert_eq!(expected.refusal.map_or(0, Refusal::number), answer.refusal);
         assert_eq!(expected.length, usize::from(answer.length));
         assert!(report == other_report && work == other_work, "{}", row.name);
+        assert_shown(&[text, second].concat());
     }
 }

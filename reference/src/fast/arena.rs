@@ -8,6 +8,8 @@ use super::slots::Slots;
 use crate::values::MAX_OBJECTS;
 
 pub type Id = u32;
+/// The ids of numbers: 65,536 from this one on. They have no nodes of their own.
+const NUMBERS: Id = 1 << 30;
 /// What an object's fields are padded with, too.
 pub const UNDETERMINED: Id = 0;
 /// The class of what is no object: the one after the highest.
@@ -18,6 +20,18 @@ const MARKS: u32 = 16;
 /// are used again: once a call is closed, no value has its mark.
 pub fn mark(place: usize) -> Id {
     place as Id + 1
+}
+
+/// The id of a number.
+#[inline]
+pub fn number_id(number: u16) -> Id {
+    NUMBERS + Id::from(number)
+}
+
+/// The number that a value is, if it is one.
+#[inline]
+pub fn number(id: Id) -> Option<u16> {
+    (id >= NUMBERS).then_some(id as u16)
 }
 
 #[derive(Clone, Copy)]
@@ -79,14 +93,16 @@ impl Arena {
         }
     }
 
+    /// The node of a value; a number has that of the undetermined value, since
+    /// both are leaves without a mark.
     #[inline]
     pub fn node(&self, id: Id) -> &Node {
-        &self.nodes[id as usize]
+        &self.nodes[place(id)]
     }
 
     #[inline]
     pub fn node_mut(&mut self, id: Id) -> &mut Node {
-        &mut self.nodes[id as usize]
+        &mut self.nodes[place(id)]
     }
 
     /// A stamp no node has, nor any of the 63 after it.
@@ -178,6 +194,11 @@ impl Arena {
         self.todo = todo;
         count
     }
+}
+
+#[inline]
+fn place(id: Id) -> usize {
+    if id < NUMBERS { id as usize } else { 0 }
 }
 
 /// The upper half is what the tables use.

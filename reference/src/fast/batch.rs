@@ -1,14 +1,14 @@
 //! The input of an `04` main: what the second text earns, and its value in the
 //! arena. Lines are read in `parts.rs`, equal parts are found in `colours.rs`.
 
-use super::arena::{Arena, Id, UNDETERMINED};
-use super::colours::{Colours, NO_COLOUR};
+use super::arena::{Arena, Id, NO_CLASS, UNDETERMINED, number_id};
+use super::colours::{Colours, FIRST_NUMBER, NO_COLOUR};
 use super::parts::{Parts, parts};
 use super::program::Program;
 use super::rings::{INSIDE, Ring};
 use crate::batch::{MAX_PARTS, NO_PART};
 use crate::refusals::Refusal;
-use crate::syntax::{PLUS, Type};
+use crate::syntax::{NUMBER, PLUS, Type};
 use crate::values::MAX_OBJECTS;
 
 /// The value that main is given, or refusal 14 or 15.
@@ -62,6 +62,12 @@ fn reached(program: &Program, type_: Type, parts: &Parts) -> Option<Reached> {
                 }
                 continue;
             }
+            if field == NUMBER {
+                if type_.class != NO_CLASS {
+                    return None;
+                }
+                continue;
+            }
             let place = usize::from(field);
             if !fits(parts.parts[place].class, type_.class) {
                 return None;
@@ -96,7 +102,7 @@ impl Colours {
                 self.add_ring(arena, &reach, place, &mut ids);
             } else {
                 let node = &self.nodes[place];
-                let values = node.fields.map(|field| id(&ids, field));
+                let values = node.fields.map(|field| self.id(&ids, field));
                 let made = arena.make(node.class, &values[..usize::from(node.count)]);
                 ids[place] = made.expect("32 objects at most");
             }
@@ -108,7 +114,7 @@ impl Colours {
     fn reach(&self) -> [u32; MAX_OBJECTS] {
         let mut reach = [0; MAX_OBJECTS];
         for (bits, node) in reach.iter_mut().zip(&self.nodes[..self.len]) {
-            for &field in node.fields.iter().filter(|&&field| field != NO_COLOUR) {
+            for &field in node.fields.iter().filter(|&&field| field < NO_COLOUR) {
                 *bits |= 1 << field;
             }
         }
@@ -140,7 +146,7 @@ impl Colours {
         }
         for (node, other) in ring.nodes.iter_mut().zip((0..self.len).filter(inside)) {
             let coloured = &self.nodes[other];
-            let fields = coloured.fields.map(|field| id(ids, field));
+            let fields = coloured.fields.map(|field| self.id(ids, field));
             *node = (coloured.class, coloured.count, fields);
         }
         let first = arena.added(&ring);
@@ -148,11 +154,12 @@ impl Colours {
             ids[other] = ids[other] - INSIDE + first;
         }
     }
-}
 
-fn id(ids: &[Id; MAX_OBJECTS], colour: u8) -> Id {
-    if colour == NO_COLOUR {
-        return UNDETERMINED;
+    fn id(&self, ids: &[Id; MAX_OBJECTS], colour: u8) -> Id {
+        match colour {
+            NO_COLOUR => UNDETERMINED,
+            FIRST_NUMBER.. => number_id(self.numbers[usize::from(colour - FIRST_NUMBER)]),
+            _ => ids[usize::from(colour)],
+        }
     }
-    ids[usize::from(colour)]
 }

@@ -17,6 +17,16 @@ pub enum Op {
     Call(u8, u8),
     /// Class and count, which are the class's.
     New(u8, u8),
+    Number(u16),
+    /// Whether what is on top is a number; the next operand comes after it.
+    Operand,
+    /// Of two operands, the first of which is a number.
+    Sum,
+    Difference,
+    /// Takes a number; goes on after so many ops if it is 0.
+    IfZero(u16),
+    /// Goes on after so many ops.
+    Skip(u16),
     Stuck,
     Return,
 }
@@ -120,8 +130,44 @@ impl Body<'_> {
             }
             0x43 => self.field(),
             0x44 => self.call(),
-            _ => self.new_object(),
+            0x45 => self.new_object(),
+            0x46 => {
+                let number = u16::from_be_bytes([self.byte(), self.byte()]);
+                self.ops.push(Op::Number(number));
+            }
+            0x47 => self.operation(Op::Sum),
+            0x48 => self.operation(Op::Difference),
+            _ => self.choose(),
         }
+    }
+
+    fn sign(&self) -> u8 {
+        self.program.bytes[self.next]
+    }
+
+    /// Two operands and what is done with them. The first is asked whether it
+    /// is a number before the second is evaluated, where that is not plain.
+    fn operation(&mut self, op: Op) {
+        let plain = matches!(self.sign(), 0x46..=0x48);
+        self.expr();
+        if !plain {
+            self.ops.push(Op::Operand);
+        }
+        self.expr();
+        self.ops.push(op);
+    }
+
+    /// The number, then both branches, of which one is left out.
+    fn choose(&mut self) {
+        self.expr();
+        let asked = self.ops.len();
+        self.ops.push(Op::IfZero(0));
+        self.expr();
+        let between = self.ops.len();
+        self.ops.push(Op::Skip(0));
+        self.expr();
+        self.ops[asked] = Op::IfZero((between - asked) as u16);
+        self.ops[between] = Op::Skip((self.ops.len() - between - 1) as u16);
     }
 
     fn local(&mut self, place: Option<u8>) {
@@ -130,8 +176,11 @@ impl Body<'_> {
 
     fn field(&mut self) {
         let field = self.byte();
+        let variable = matches!(self.sign(), 0x40..=0x42);
         self.expr();
-        if let Some(Op::Local(place)) = self.ops.last().copied() {
+        if let Some(Op::Local(place)) = self.ops.last().copied()
+            && variable
+        {
             self.ops.pop();
             self.ops.push(Op::LocalField(place, field));
         } else {
@@ -140,7 +189,8 @@ impl Body<'_> {
     }
 
     /// The receiver is asked for the method before the arguments are
-    /// evaluated; where they are variables nobody can tell, and it is left out.
+    /// evaluated; where they are variables or numbers nobody can tell, and it is
+    /// left out.
     fn call(&mut self) {
         let column = self.program.columns[usize::from(self.byte())];
         let count = self.byte();
@@ -152,7 +202,7 @@ impl Body<'_> {
         for _ in 0..count {
             self.expr();
         }
-        let plain = |op: &Op| matches!(op, Op::Local(_));
+        let plain = |op: &Op| matches!(op, Op::Local(_) | Op::Number(_));
         if !self.ops[asked..].iter().all(plain) {
             self.ops.insert(asked, Op::Find(column, count));
         }

@@ -3,12 +3,17 @@
 //! field that has just changed its colour are looked at again.
 
 use super::groups::{Group, Groups};
+use super::numbers::Numbers;
 use super::parts::{Part, Parts};
 use crate::batch::MAX_PARTS;
+use crate::syntax::NUMBER;
 use crate::values::MAX_OBJECTS;
 
-/// The colour of what is no part.
+/// The colour of what is undetermined, and the colours of numbers.
 pub const NO_COLOUR: u8 = 63;
+pub const FIRST_NUMBER: u8 = 64;
+/// A part's field has one byte.
+const BYTES: usize = 256;
 const COLOURS: usize = MAX_OBJECTS + 1;
 /// In place of a number of an edge.
 const END: u16 = u16::MAX;
@@ -18,6 +23,8 @@ pub struct Colours {
     pub nodes: [Part; MAX_OBJECTS],
     pub len: usize,
     pub root: u8,
+    /// By colour, from `FIRST_NUMBER` on.
+    pub numbers: [u16; Numbers::MOST],
 }
 
 impl Colours {
@@ -37,15 +44,18 @@ impl Colours {
             class: 0,
             count: 0,
             fields: [NO_COLOUR; 4],
+            numbers: [0; 4],
+            numbered: false,
         };
         let mut colours = Colours {
             nodes: [nothing; MAX_OBJECTS],
             len: split.len,
             root: split.colours[0],
+            numbers: split.numbers.list,
         };
         for &number in reached {
             let part = parts.parts[usize::from(number)];
-            let fields = part.fields.map(|field| split.colours[usize::from(field)]);
+            let fields = std::array::from_fn(|field| split.field_colour(number, field));
             let colour = split.colours[usize::from(number)];
             colours.nodes[usize::from(colour)] = Part { fields, ..part };
         }
@@ -96,13 +106,16 @@ impl List {
 /// Colours being split.
 struct Split<'a> {
     parts: &'a Parts,
-    /// By number of a part; what is no part has a colour too.
-    colours: [u8; MAX_PARTS + 1],
+    /// By a part's number; `FF` has a colour too.
+    colours: [u8; BYTES],
+    /// The colours of numbers held in fields.
+    of_numbers: [[u8; 4]; MAX_PARTS],
+    numbers: Numbers,
     /// Parts of each colour.
     sizes: [u8; COLOURS],
     len: usize,
     /// The edges that lead to a part, as lists: edge 4 p + k is field k of p.
-    heads: [u16; MAX_PARTS + 1],
+    heads: [u16; BYTES],
     others: [u16; 4 * MAX_PARTS],
     /// For one round: the groups, and the group of each part looked at.
     groups: Groups,
@@ -114,10 +127,12 @@ impl Split<'_> {
     fn by_class<'a>(parts: &'a Parts, reached: &[u8]) -> Option<Split<'a>> {
         let mut split = Split {
             parts,
-            colours: [NO_COLOUR; MAX_PARTS + 1],
+            colours: [NO_COLOUR; BYTES],
+            of_numbers: [[NO_COLOUR; 4]; MAX_PARTS],
+            numbers: Numbers::new(),
             sizes: [0; COLOURS],
             len: 0,
-            heads: [END; MAX_PARTS + 1],
+            heads: [END; BYTES],
             others: [END; 4 * MAX_PARTS],
             groups: Groups::new(),
             group_of: [0; MAX_PARTS],
@@ -133,6 +148,11 @@ impl Split<'_> {
             split.colours[place] = *colour;
             split.sizes[usize::from(*colour)] += 1;
             for (edge, &field) in (4 * place..).zip(part.fields()) {
+                if field == NUMBER {
+                    let number = split.numbers.enter(part.numbers[edge % 4])?;
+                    split.of_numbers[place][edge % 4] = FIRST_NUMBER + number;
+                    continue;
+                }
                 let head = &mut split.heads[usize::from(field)];
                 split.others[edge] = *head;
                 *head = edge as u16;
@@ -169,12 +189,28 @@ impl Split<'_> {
     }
 
     /// What a part looks like: its colour and those of its fields.
-    fn look(&self, number: u8) -> u32 {
-        let own = u32::from(self.colours[usize::from(number)]);
-        let fields = self.parts.parts[usize::from(number)].fields;
-        fields.iter().fold(own, |look, &field| {
-            look << 6 | u32::from(self.colours[usize::from(field)])
+    #[inline]
+    fn look(&self, number: u8) -> u64 {
+        let own = u64::from(self.colours[usize::from(number)]);
+        let part = &self.parts.parts[usize::from(number)];
+        if part.numbered {
+            return (0..4).fold(own, |look, field| {
+                look << 8 | u64::from(self.field_colour(number, field))
+            });
+        }
+        part.fields.iter().fold(own, |look, &field| {
+            look << 8 | u64::from(self.colours[usize::from(field)])
         })
+    }
+
+    /// The colour of what a field of a part holds.
+    #[inline]
+    fn field_colour(&self, number: u8, field: usize) -> u8 {
+        let place = usize::from(number);
+        match self.parts.parts[place].fields[field] {
+            NUMBER => self.of_numbers[place][field],
+            held => self.colours[usize::from(held)],
+        }
     }
 
     /// A new colour for each group. Where none of a colour is left out, its

@@ -155,6 +155,12 @@ impl Cursor<'_> {
                 self.highest_new = self.highest_new.max(self.byte()?);
                 self.count(MAX_FIELDS)
             }
+            0x46 => {
+                self.byte()?;
+                self.byte().map(|_| 0)
+            }
+            0x47 | 0x48 => Some(2),
+            0x49 => Some(3),
             _ => None,
         }
     }

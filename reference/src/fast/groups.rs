@@ -13,7 +13,7 @@ pub struct Groups {
 
 #[derive(Clone, Copy, Default)]
 pub struct Group {
-    look: u32,
+    look: u64,
     slot: u8,
     pub size: u8,
     /// The colour that all of it had, and the one that it gets.
@@ -45,8 +45,8 @@ impl Groups {
 
     /// The group of a part; nothing when there are more than 32 of them.
     #[inline]
-    pub fn enter(&mut self, look: u32, colour: u8) -> Option<u8> {
-        let mut slot = (look.wrapping_mul(0x9E37_79B9) >> 25) as usize;
+    pub fn enter(&mut self, look: u64, colour: u8) -> Option<u8> {
+        let mut slot = (look.wrapping_mul(0x9E37_79B9_7F4A_7C15) >> 57) as usize;
         loop {
             let number = usize::from(self.slots[slot]);
             if number == 0 {

@@ -16,6 +16,7 @@ mod colours;
 mod frames;
 mod groups;
 mod lines;
+mod numbers;
 mod parts;
 mod program;
 mod reading;

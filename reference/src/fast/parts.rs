@@ -3,13 +3,18 @@
 use super::lines::{decode, digit};
 use super::program::Program;
 use crate::batch::{MAX_PARTS, NO_PART};
+use crate::syntax::NUMBER;
 
 #[derive(Clone, Copy)]
 pub struct Part {
     pub class: u8,
     pub count: u8,
-    /// Numbers of parts; where there is none, `NO_PART`.
+    /// Numbers of parts; where there is none, `NO_PART`, or `NUMBER` where a
+    /// whole number is held.
     pub fields: [u8; 4],
+    pub numbers: [u16; 4],
+    /// Whether there is any.
+    pub numbered: bool,
 }
 
 impl Part {
@@ -30,6 +35,8 @@ pub fn parts(program: &Program, text: &[u8]) -> Option<Parts> {
         class: 0,
         count: 0,
         fields: [NO_PART; 4],
+        numbers: [0; 4],
+        numbered: false,
     };
     let mut all = Parts {
         parts: [part; MAX_PARTS],
@@ -48,15 +55,27 @@ pub fn parts(program: &Program, text: &[u8]) -> Option<Parts> {
         let part = all.parts.get_mut(all.len)?;
         (part.class, part.count) = (class, count);
         rest = after;
-        for field in &mut part.fields[..usize::from(count)] {
-            let (&[high, low], after) = rest.split_first_chunk::<2>()?;
-            *field = digit(high)? << 4 | digit(low)?;
-            // So many parts it takes to have this one; `NO_PART` takes none.
-            needed = needed.max(field.wrapping_add(1));
-            rest = after;
+        for place in 0..usize::from(count) {
+            let field = byte(&mut rest)?;
+            part.fields[place] = field;
+            if field == NUMBER {
+                part.numbered = true;
+                part.numbers[place] = u16::from_be_bytes([byte(&mut rest)?, byte(&mut rest)?]);
+            } else {
+                // So many parts it takes to have this one; `NO_PART` takes none.
+                needed = needed.max(field.wrapping_add(1));
+            }
         }
         rest = rest.strip_prefix(b"\n")?;
         all.len += 1;
     }
     (rest.is_empty() && usize::from(needed) <= all.len).then_some(all)
+}
+
+/// The byte of the next two digits.
+#[inline]
+fn byte(text: &mut &[u8]) -> Option<u8> {
+    let (&[high, low], after) = text.split_first_chunk::<2>()?;
+    *text = after;
+    Some(digit(high)? << 4 | digit(low)?)
 }

@@ -2,11 +2,12 @@
 //! are looked up, never searched. Expressions stay in the bytes of the text.
 
 use super::arena::NO_CLASS;
-use crate::syntax::{MAX_CLASSES, Type};
+use crate::syntax::{MAX_CLASSES, NUMBER, Type};
 
 /// In place of a method or a name that is not there.
 pub const NONE: u8 = 0xFF;
-/// The classes with Object, and one without anything after them.
+/// The classes with Object, and one without anything after them, which is also
+/// the class of numbers: it fits itself only.
 pub const ROWS: usize = MAX_CLASSES + 2;
 const _: () = assert!(NO_CLASS as usize == ROWS - 1);
 
@@ -44,18 +45,19 @@ impl Program {
     /// Whether there is a class of this number.
     #[inline]
     pub fn knows(&self, class: u8) -> bool {
-        self.fits
-            .get(usize::from(class))
-            .is_some_and(|&fits| fits != 0)
+        class < NO_CLASS && self.fits[usize::from(class)] != 0
     }
 
-    /// The type written at a place.
+    /// The type written at a place of a program that passed rule 4; `FE` is
+    /// read as the class without anything.
     #[inline]
     pub fn type_at(&self, place: usize) -> Type {
-        Type {
-            class: self.bytes[place],
-            tag: self.bytes[place + 1],
-        }
+        let class = match self.bytes[place] {
+            NUMBER => NO_CLASS,
+            class => class,
+        };
+        let tag = self.bytes[place + 1];
+        Type { class, tag }
     }
 
     /// The method of a class in a column, or `NONE`.

@@ -1,11 +1,12 @@
 //! The reader: refusals 1 to 5, and the tables that rules 4 and 5 are tested on
 //! while they are filled. The form and order of frames is in `frames.rs`.
 
+use super::arena::NO_CLASS;
 use super::frames::frames;
 use super::lines::lines;
 use super::program::{NONE, Program, ROWS};
 use crate::refusals::Refusal;
-use crate::syntax::{MAX_FIELDS, MINUS, PLUS, Type};
+use crate::syntax::{MAX_FIELDS, MINUS, NUMBER, PLUS, Type};
 
 pub fn read(text: &[u8]) -> Result<Program, Refusal> {
     let lines = lines(text).ok_or(Refusal::LineForm)?;
@@ -40,14 +41,22 @@ pub fn read(text: &[u8]) -> Result<Program, Refusal> {
     Ok(program)
 }
 
-/// A known class under a tag that fields, parameters and first results have.
-fn closed(type_: Type, highest: u8) -> bool {
-    type_.class <= highest && (type_.tag == PLUS || type_.tag == MINUS)
+/// A class that the type of a field, a parameter or a result may have.
+fn typed_class(class: u8, highest: u8) -> bool {
+    class <= highest || class == NUMBER
+}
+
+/// Such a class at this place, under a tag that fields, parameters and first
+/// results have.
+fn closed(program: &Program, place: usize, highest: u8) -> bool {
+    let tag = program.bytes[place + 1];
+    typed_class(program.bytes[place], highest) && (tag == PLUS || tag == MINUS)
 }
 
 /// Rule 4 for the class frames; fills the tables of fields and fits.
 fn classes_in_rule(program: &mut Program, classes: &[usize]) -> bool {
     program.fits[0] = 1;
+    program.fits[usize::from(NO_CLASS)] = 1 << NO_CLASS;
     for (place, &frame) in classes.iter().enumerate() {
         let class = place + 1;
         let parent = usize::from(program.bytes[frame + 1]);
@@ -58,11 +67,11 @@ fn classes_in_rule(program: &mut Program, classes: &[usize]) -> bool {
         program.fields[class] = program.fields[parent];
         let mut count = usize::from(program.counts[parent]);
         for own in 0..usize::from(program.bytes[frame + 2]) {
-            let type_ = program.type_at(frame + 3 + 2 * own);
-            if count == MAX_FIELDS || !closed(type_, classes.len() as u8) {
+            let type_ = frame + 3 + 2 * own;
+            if count == MAX_FIELDS || !closed(program, type_, classes.len() as u8) {
                 return false;
             }
-            program.fields[class][count] = type_;
+            program.fields[class][count] = program.type_at(type_);
             count += 1;
         }
         program.counts[class] = count as u8;
@@ -77,20 +86,19 @@ fn methods_in_rule(program: &Program, highest: u8) -> bool {
         let params = 0..usize::from(method.params);
         method.owner != 0
             && method.owner <= highest
-            && closed(program.type_at(types), highest)
-            && program.bytes[types + 2] <= highest
+            && closed(program, types, highest)
+            && typed_class(program.bytes[types + 2], highest)
             && params
                 .into_iter()
-                .all(|place| closed(program.type_at(types + 5 + 2 * place), highest))
+                .all(|place| closed(program, types + 5 + 2 * place, highest))
     })
 }
 
 /// Rule 4 for the type of an `04` main.
 fn input_in_rule(program: &Program, highest: u8) -> bool {
-    program.input.is_none_or(|place| {
-        let type_ = program.type_at(place);
-        type_.class <= highest && type_.tag == PLUS
-    })
+    program
+        .input
+        .is_none_or(|place| program.bytes[place] <= highest && program.bytes[place + 1] == PLUS)
 }
 
 /// Enters each method under its owner; false when a name comes twice there.

@@ -1,7 +1,8 @@
 //! The report of an outcome, written at the front of the lent buffer.
 
-use super::arena::{Arena, Id, NO_CLASS, UNDETERMINED};
+use super::arena::{Arena, Id, NO_CLASS, UNDETERMINED, number};
 use crate::running::Stop;
+use crate::syntax::NUMBER;
 use crate::values::MAX_OBJECTS;
 
 /// Writes the report and gives its length.
@@ -10,7 +11,13 @@ pub fn write(outcome: Result<Id, Stop>, arena: &Arena, buffer: &mut [u8]) -> usi
     match outcome {
         Err(stop) => lines.push(&[0x07, stop as u8]),
         Ok(UNDETERMINED) => lines.push(&[0x06]),
-        Ok(root) => push_objects(&mut lines, arena, root),
+        Ok(root) => match number(root) {
+            Some(number) => {
+                let [high, low] = number.to_be_bytes();
+                lines.push(&[0x09, high, low]);
+            }
+            None => push_objects(&mut lines, arena, root),
+        },
     }
     lines.length
 }
@@ -28,16 +35,28 @@ fn push_objects(lines: &mut Lines, arena: &Arena, root: Id) {
     }
     for (number, &id) in met.iter().enumerate() {
         let node = arena.node(id);
-        let mut line = [0x05, number as u8, node.class, node.count, 0, 0, 0, 0];
-        let count = usize::from(node.count);
-        for (byte, field) in line[4..].iter_mut().zip(&node.fields[..count]) {
-            let number = met.iter().position(|other| other == field);
-            *byte = number.map_or(0xFF, |number| number as u8);
-            // A mark left open would be a fault of this engine.
-            assert!(number.is_some() || *field == UNDETERMINED);
+        let mut line = [0; 16];
+        line[..4].copy_from_slice(&[0x05, number as u8, node.class, node.count]);
+        let mut length = 4;
+        for &field in &node.fields[..usize::from(node.count)] {
+            length += put_field(&mut line[length..], &met, field);
         }
-        lines.push(&line[..4 + count]);
+        lines.push(&line[..length]);
     }
+}
+
+/// The bytes of a field, and how many there are.
+fn put_field(line: &mut [u8], met: &[Id], field: Id) -> usize {
+    if let Some(number) = number(field) {
+        let [high, low] = number.to_be_bytes();
+        line[..3].copy_from_slice(&[NUMBER, high, low]);
+        return 3;
+    }
+    let number = met.iter().position(|&other| other == field);
+    // A mark left open would be a fault of this engine.
+    assert!(number.is_some() || field == UNDETERMINED);
+    line[0] = number.map_or(0xFF, |number| number as u8);
+    1
 }
 
 struct Lines<'a> {

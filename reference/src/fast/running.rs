@@ -1,7 +1,7 @@
 //! Evaluation of postfix code over ids. Receiver and arguments are left on
 //! the stack where they were evaluated: they are the locals of the body.
 
-use super::arena::{Arena, Id, mark};
+use super::arena::{Arena, Id, mark, number, number_id};
 use super::code::{Code, Op, Side};
 use super::program::{NONE, Program};
 use crate::running::{MAX_DEPTH, Stop};
@@ -95,6 +95,27 @@ impl Run<'_> {
                 }
                 Op::Call(column, count) => self.call(column, count)?,
                 Op::New(class, count) => self.new_object(class, count)?,
+                Op::Number(number) => self.stack.push(number_id(number)),
+                Op::Operand => {
+                    let top = self.stack[self.stack.len() - 1];
+                    number(top).ok_or(Stop::Stuck)?;
+                }
+                Op::Sum => {
+                    let (left, right) = self.operands()?;
+                    let sum = left.checked_add(right).ok_or(Stop::SumTooLarge)?;
+                    self.stack.push(number_id(sum));
+                }
+                Op::Difference => {
+                    let (left, right) = self.operands()?;
+                    self.stack.push(number_id(left.saturating_sub(right)));
+                }
+                Op::IfZero(ops) => {
+                    let chosen = number(self.pop()).ok_or(Stop::Stuck)?;
+                    if chosen == 0 {
+                        self.next += usize::from(ops);
+                    }
+                }
+                Op::Skip(ops) => self.next += usize::from(ops),
                 Op::Stuck => return Err(Stop::Stuck),
                 Op::Return => {
                     if let Some(value) = self.answer() {
@@ -108,6 +129,13 @@ impl Run<'_> {
     #[inline]
     fn pop(&mut self) -> Id {
         self.stack.pop().expect("code leaves what it takes")
+    }
+
+    #[inline]
+    fn operands(&mut self) -> Result<(u16, u16), Stop> {
+        let right = number(self.pop()).ok_or(Stop::Stuck)?;
+        let left = number(self.pop()).ok_or(Stop::Stuck)?;
+        Ok((left, right))
     }
 
     #[inline]

@@ -1,8 +1,9 @@
 //! The typing rules over the bytes: refusals 6 and 7, or the type of main.
 
+use super::arena::NO_CLASS;
 use super::program::{Method, NONE, Program};
 use crate::refusals::Refusal;
-use crate::syntax::{MINUS, MINUS_OPEN, PLUS, PLUS_OPEN, Type};
+use crate::syntax::{MINUS, MINUS_OPEN, NUMBER, PLUS, PLUS_OPEN, Type};
 
 /// Checks every method, then main, and gives main's type.
 pub fn check(program: &Program) -> Result<Type, Refusal> {
@@ -19,8 +20,21 @@ pub fn check(program: &Program) -> Result<Type, Refusal> {
         param_types: program.input.unwrap_or(0),
         result: 0,
     };
-    main.type_of().ok_or(Refusal::Main)
+    let type_ = main.type_of().ok_or(Refusal::Main)?;
+    Ok(match type_.class {
+        NO_CLASS => Type {
+            class: NUMBER,
+            ..type_
+        },
+        _ => type_,
+    })
 }
+
+/// The type of a number.
+const WHOLE: Type = Type {
+    class: NO_CLASS,
+    tag: PLUS,
+};
 
 fn method_typed(program: &Program, method: &Method) -> Option<bool> {
     let mut scope = Scope {
@@ -99,8 +113,34 @@ impl Scope<'_> {
                 (field < count).then(|| self.program.fields[class][usize::from(field)])
             }
             0x44 => self.call(),
-            _ => self.new_object(),
+            0x45 => self.new_object(),
+            0x46 => {
+                self.next += 2;
+                Some(WHOLE)
+            }
+            0x47 | 0x48 => {
+                self.operand()?;
+                self.operand()?;
+                Some(WHOLE)
+            }
+            _ => self.choose(),
         }
+    }
+
+    /// A number of tag 00.
+    fn operand(&mut self) -> Option<()> {
+        (self.type_of()? == WHOLE).then_some(())
+    }
+
+    /// The wider of the two branches' types.
+    fn choose(&mut self) -> Option<Type> {
+        self.operand()?;
+        let first = self.type_of()?;
+        let second = self.type_of()?;
+        if self.program.fits(first, second) {
+            return Some(second);
+        }
+        self.program.fits(second, first).then_some(first)
     }
 
     /// The class of a receiver, which must have tag 00.

@@ -5,7 +5,9 @@ use super::random::Random;
 use super::{illtyped, typed};
 use crate::reading;
 use crate::refusals::Refusal;
-use crate::syntax::{Class, MAX_CLASSES, MAX_METHODS, Method, Table, Type};
+use crate::syntax::{
+    Class, Expr, MAX_CLASSES, MAX_METHODS, MAX_NESTING, Method, NUMBER, Table, Type,
+};
 use crate::text::{self, push_line};
 use crate::writing;
 
@@ -77,7 +79,7 @@ fn frames(random: &mut Random, table: &Table) -> Option<Vec<u8>> {
     let chosen = random.below(frames.len());
     let frame = &mut frames[chosen];
     let place = random.below(frame.len());
-    match random.below(6) {
+    match random.below(8) {
         0 => frame[0] = *random.pick(&[0x00, 0x04, 0x40, 0xFF])?,
         1 if frame.len() > 1 => frame.truncate(place.max(1)),
         2 => frame.push(random.byte()),
@@ -86,9 +88,37 @@ fn frames(random: &mut Random, table: &Table) -> Option<Vec<u8>> {
         4 => frame
             .splice(place..place, [0x43, 0x00].repeat(6))
             .for_each(drop),
+        5 => *frames.last_mut()? = number_main(random),
+        // One more sign where a part is, which takes what follows.
+        6 => frame.insert(place, *random.pick(&[0x46, 0x47, 0x48, 0x49, 0x4A])?),
         _ => frame[place] = random.byte(),
     }
     Some(joined(&frames))
+}
+
+/// A main of numbers that is one level too deep or cut short.
+fn number_main(random: &mut Random) -> Vec<u8> {
+    let mut main = vec![0x03];
+    let levels = random.between(1, MAX_NESTING);
+    push_number(random, &mut main, levels);
+    if levels < MAX_NESTING {
+        main.truncate(random.between(2, main.len() - 1));
+    }
+    main
+}
+
+/// An expression of numbers, so many levels over the last ones.
+fn push_number(random: &mut Random, bytes: &mut Vec<u8>, levels: usize) {
+    if levels == 0 {
+        return bytes.extend([0x46, random.byte(), random.byte()]);
+    }
+    let sign = 0x47 + random.below(3) as u8;
+    let parts = if sign == 0x49 { 3 } else { 2 };
+    bytes.push(sign);
+    let deep = random.below(parts);
+    for part in 0..parts {
+        push_number(random, bytes, if part == deep { levels - 1 } else { 0 });
+    }
 }
 
 fn order(random: &mut Random, table: &Table) -> Option<Vec<u8>> {
@@ -123,8 +153,10 @@ fn rules(random: &mut Random, mut table: Table) -> Option<Vec<u8>> {
     let forbidden = *random.pick(&[1, 2])?;
     let class = random.below(table.classes.len());
     let method = random.below(table.methods.len());
-    match random.below(10) {
+    match random.below(12) {
         0 => table.classes[class].parent = random.between(class + 1, 255) as u8,
+        10 => table.classes[class].parent = NUMBER,
+        11 => new_of_numbers(random, &mut table.main),
         1 => table.classes[class].fields.push(Type {
             class: unknown,
             tag: 0,
@@ -157,8 +189,10 @@ fn renumbered(random: &mut Random, table: &Table) -> Option<Vec<u8>> {
 }
 
 fn method_rules(random: &mut Random, method: &mut Method, unknown: u8, forbidden: u8) {
-    match random.below(7) {
+    match random.below(9) {
         0 => method.owner = 0,
+        7 => method.owner = NUMBER,
+        8 => new_of_numbers(random, &mut method.right),
         1 => method.owner = unknown,
         2 => method.first.class = unknown,
         3 => method.second.class = unknown,
@@ -171,6 +205,16 @@ fn method_rules(random: &mut Random, method: &mut Method, unknown: u8, forbidden
         // An unknown class in some expression.
         _ => illtyped::change_expr(random, usize::from(unknown), &mut method.left),
     }
+}
+
+/// Some part becomes an object of the class of numbers.
+fn new_of_numbers(random: &mut Random, expr: &mut Expr) {
+    let mut parts = expr.parts_mut();
+    if !parts.is_empty() && random.chance(60) {
+        let place = random.below(parts.len());
+        return new_of_numbers(random, parts.swap_remove(place));
+    }
+    *expr = Expr::New(NUMBER, Vec::new());
 }
 
 /// A method below another of its name, with one of its types changed.

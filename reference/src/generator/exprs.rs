@@ -2,10 +2,11 @@
 //! expression that has such a type. The typing rules are followed backwards
 //! here and confirmed by the checker afterwards.
 
+use super::numbers;
 use super::random::Random;
 use crate::classes::{class_fits, fields};
-use crate::syntax::{Expr, MINUS, Method, PLUS, Type};
-use crate::typing::Scope;
+use crate::syntax::{Expr, MINUS, Method, NUMBER, PLUS, Type};
+use crate::typing::{Scope, type_of};
 
 /// What is wanted: a class at or below this one, a tag of this set (bit t for
 /// tag t). Every set used has tag 00 in it.
@@ -51,6 +52,8 @@ pub struct Maker<'a> {
     pub random: &'a mut Random,
     /// Attempts left; a class that cannot be built must not cost for ever.
     pub budget: usize,
+    /// Whether numbers and branches over them are drawn where nothing asks.
+    pub numbers: bool,
 }
 
 impl<'a> Maker<'a> {
@@ -59,6 +62,7 @@ impl<'a> Maker<'a> {
             scope,
             random,
             budget: 400,
+            numbers: false,
         }
     }
 
@@ -72,6 +76,8 @@ impl<'a> Maker<'a> {
             self.budget = self.budget.checked_sub(1)?;
             let made = match self.random.below(100) {
                 _ if room == 0 => return None,
+                0..50 if want.class == NUMBER => self.whole(room),
+                0..12 if self.numbers => self.choice(want, room),
                 0..35 => self.variable(want),
                 35..70 => self.object(want, room),
                 70..90 => self.call(want, room),
@@ -81,7 +87,41 @@ impl<'a> Maker<'a> {
                 return made;
             }
         }
+        if want.class == NUMBER {
+            return Some(numbers::literal(self.random));
+        }
         self.variable(want).or_else(|| self.object(want, room))
+    }
+
+    /// A number: written down, a sum or a difference.
+    fn whole(&mut self, room: usize) -> Option<Expr> {
+        let sort = self.random.below(10);
+        if room == 1 || sort < 4 {
+            return Some(numbers::literal(self.random));
+        }
+        let left = Box::new(self.operand(room - 1)?);
+        let right = Box::new(self.operand(room - 1)?);
+        Some(match sort {
+            4..7 => Expr::Sum(left, right),
+            _ => Expr::Difference(left, right),
+        })
+    }
+
+    /// A number of tag 00.
+    fn operand(&mut self, room: usize) -> Option<Expr> {
+        let (class, tags) = (NUMBER, ONLY_PLUS);
+        self.make(Want { class, tags }, room)
+    }
+
+    /// One of two expressions of the wanted type, by a number. Their types may
+    /// have nothing to do with each other: then there is none.
+    pub fn choice(&mut self, want: Want, room: usize) -> Option<Expr> {
+        let room = room.checked_sub(1)?;
+        let number = Box::new(self.operand(room.min(2))?);
+        let first = Box::new(self.make(want, room)?);
+        let second = Box::new(self.make(want, room)?);
+        let made = Expr::Choose(number, first, second);
+        type_of(&self.scope, &made).map(|_| made)
     }
 
     pub fn variable(&mut self, want: Want) -> Option<Expr> {
@@ -167,9 +207,18 @@ impl<'a> Maker<'a> {
         Some(Expr::Call(method.name, Box::new(receiver), arguments?))
     }
 
-    /// Mostly a variable: calls are met again only when arguments come back.
+    /// Mostly a variable: calls are met again only when arguments come back. A
+    /// number is often one of two that take turns.
     fn argument(&mut self, param: Type, room: usize) -> Option<Expr> {
         let want = closed_want(param);
+        if param.class == NUMBER
+            && room > 1
+            && self.random.chance(30)
+            && let Some(variable) = self.variable(want)
+            && type_of(&self.scope, &variable).is_some_and(|type_| type_.tag == PLUS)
+        {
+            return Some(numbers::turned(self.random, variable));
+        }
         if room > 0 && self.random.chance(75) {
             let variable = self.variable(want);
             if variable.is_some() {

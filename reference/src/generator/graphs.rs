@@ -3,7 +3,8 @@
 
 use super::random::Random;
 
-/// Every NODE leads to one in field 0; a FORK has one field more, a WIDE three.
+/// Every NODE leads to one in field 0; a FORK has one field more, a WIDE three,
+/// the last of them a number.
 pub const NODE: u8 = 1;
 pub const A: u8 = 2;
 pub const B: u8 = 3;
@@ -19,6 +20,7 @@ pub enum To {
     Object(usize),
     Bare,
     Undetermined,
+    Number(u16),
 }
 
 #[derive(Clone)]
@@ -66,6 +68,7 @@ fn random_graph(random: &mut Random) -> Vec<Node> {
         let mut fields = vec![To::Object(next)];
         while fields.len() < count(class) {
             fields.push(match random.below(6) {
+                _ if fields.len() == 3 => To::Number(random.below(2) as u16),
                 0 => To::Bare,
                 1 => To::Undetermined,
                 _ => To::Object(random.below(size)),
@@ -111,6 +114,7 @@ fn changed(random: &mut Random, mut graph: Vec<Node>) -> Vec<Node> {
     match node.class {
         A => node.class = B,
         B => node.class = A,
+        WIDE if random.chance(50) => node.fields[3] = To::Number(2),
         _ => node.fields[1] = To::Bare,
     }
     graph

@@ -2,10 +2,10 @@
 //! changed, in a method for refusal 6 or in main for refusal 7.
 
 use super::random::Random;
-use super::typed;
+use super::{numbers, typed};
 use crate::reading;
 use crate::refusals::Refusal;
-use crate::syntax::{Expr, MAX_FIELDS, MAX_PARAMETERS, Method, Table};
+use crate::syntax::{Expr, MAX_FIELDS, MAX_PARAMETERS, Method, NUMBER, Table};
 use crate::typing;
 use crate::writing;
 
@@ -52,14 +52,23 @@ fn change(random: &mut Random, table: &mut Table, wanted: Refusal) {
     }
 }
 
+/// A class of the table or that of numbers.
+fn any_class(random: &mut Random, count: usize) -> u8 {
+    if random.chance(25) {
+        return NUMBER;
+    }
+    random.below(count + 1) as u8
+}
+
 fn change_types(random: &mut Random, count: usize, method: &mut Method) {
-    match random.below(4) {
+    match random.below(5) {
         0 => method.first.tag = 3 - method.first.tag.min(3),
         1 => method.second.tag = random.below(4) as u8,
-        2 => method.first.class = random.below(count + 1) as u8,
+        2 => method.first.class = any_class(random, count),
+        3 => method.second.class = any_class(random, count),
         _ => {
             if let Some(param) = method.params.first_mut() {
-                param.class = random.below(count + 1) as u8;
+                param.class = any_class(random, count);
             }
         }
     }
@@ -67,33 +76,17 @@ fn change_types(random: &mut Random, count: usize, method: &mut Method) {
 
 /// Changes the expression or, as often as not, one of its parts.
 pub fn change_expr(random: &mut Random, count: usize, expr: &mut Expr) {
-    let part = match expr {
-        Expr::Field(_, receiver) => Some(&mut **receiver),
-        Expr::Call(_, receiver, arguments) => {
-            let place = random.below(arguments.len() + 1);
-            Some(if place == 0 {
-                &mut **receiver
-            } else {
-                &mut arguments[place - 1]
-            })
-        }
-        Expr::New(_, values) if !values.is_empty() => {
-            let place = random.below(values.len());
-            Some(&mut values[place])
-        }
-        _ => None,
-    };
-    if let Some(part) = part
-        && random.chance(60)
-    {
-        return change_expr(random, count, part);
+    let mut parts = expr.parts_mut();
+    if !parts.is_empty() && random.chance(60) {
+        let place = random.below(parts.len());
+        return change_expr(random, count, parts.swap_remove(place));
     }
     change_here(random, count, expr);
 }
 
 fn change_here(random: &mut Random, count: usize, expr: &mut Expr) {
     let class = random.below(count + 1) as u8;
-    match random.below(8) {
+    match random.below(11) {
         0 => *expr = Expr::This,
         1 => *expr = Expr::Res,
         2 => *expr = Expr::Param(*random.pick(&[0, 0, 1, 2, 3, 255]).unwrap_or(&0)),
@@ -101,6 +94,28 @@ fn change_here(random: &mut Random, count: usize, expr: &mut Expr) {
         4 => {
             let field = random.below(5) as u8;
             *expr = Expr::Field(field, Box::new(expr.clone()));
+        }
+        5 => *expr = numbers::literal(random),
+        6 => {
+            let other = Box::new(numbers::literal(random));
+            let here = Box::new(expr.clone());
+            *expr = match random.below(3) {
+                0 => Expr::Sum(here, other),
+                1 => Expr::Difference(other, here),
+                _ => Expr::Sum(here.clone(), here),
+            };
+        }
+        7 => {
+            let number = Box::new(match random.chance(70) {
+                true => numbers::literal(random),
+                false => expr.clone(),
+            });
+            let here = Box::new(expr.clone());
+            let other = Box::new(match random.chance(70) {
+                true => Expr::New(class, Vec::new()),
+                false => Expr::Res,
+            });
+            *expr = Expr::Choose(number, here, other);
         }
         _ => change_parts(random, class, expr),
     }

@@ -6,9 +6,9 @@ use super::random::Random;
 use super::typed;
 use crate::classes::{class_fits, fields};
 use crate::syntax::{
-    Class, Expr, MAX_CLASSES, MAX_FIELDS, MAX_METHODS, MAX_NESTING, MINUS, Table, Type,
+    Class, Expr, MAX_CLASSES, MAX_FIELDS, MAX_METHODS, MAX_NESTING, MINUS, NUMBER, Table, Type,
 };
-use crate::typing;
+use crate::typing::{self, Scope};
 use crate::writing;
 
 /// The first class: it holds the answers of several mains.
@@ -50,7 +50,7 @@ fn draft(random: &mut Random) -> Table {
         mains.push(join(&mut table, part));
     }
     add_classes_below(random, &mut table);
-    table.main = main_over(random, mains);
+    table.main = main_over(random, &table, mains);
     use_classes_below(random, &mut table);
     for _ in 0..TRIES {
         let mut changed = table.clone();
@@ -70,7 +70,10 @@ fn draft(random: &mut Random) -> Table {
 /// Adds the classes and methods of a program, renumbered, and gives its main.
 fn join(table: &mut Table, part: Table) -> Expr {
     let before = table.classes.len() as u8;
-    let moved = |class: u8| if class == 0 { 0 } else { class + before };
+    let moved = |class: u8| match class {
+        0 | NUMBER => class,
+        _ => class + before,
+    };
     let retype = |type_: &mut Type| type_.class = moved(type_.class);
     for mut class in part.classes {
         class.parent = moved(class.parent);
@@ -99,14 +102,8 @@ fn join(table: &mut Table, part: Table) -> Expr {
 
 /// Does something to an expression and to all its parts, these first.
 fn each(expr: &mut Expr, change: &mut impl FnMut(&mut Expr)) {
-    match expr {
-        Expr::This | Expr::Res | Expr::Param(_) => {}
-        Expr::Field(_, receiver) => each(receiver, change),
-        Expr::Call(_, receiver, arguments) => {
-            each(receiver, change);
-            arguments.iter_mut().for_each(|part| each(part, change));
-        }
-        Expr::New(_, values) => values.iter_mut().for_each(|part| each(part, change)),
+    for part in expr.parts_mut() {
+        each(part, change);
     }
     change(expr);
 }
@@ -152,14 +149,18 @@ fn use_classes_below(random: &mut Random, table: &mut Table) {
     each(&mut table.main, &mut lower);
 }
 
-/// One main, or several in a box.
-fn main_over(random: &mut Random, mut mains: Vec<Expr>) -> Expr {
+/// One main, or several in a box, where numbers do not fit.
+fn main_over(random: &mut Random, table: &Table, mut mains: Vec<Expr>) -> Expr {
     let place = random.below(mains.len());
     if random.chance(40) {
         return mains.swap_remove(place);
     }
     mains.rotate_left(place);
-    mains.retain(|main| main.nests_within(MAX_NESTING - 1));
+    let scope = Scope::main(table);
+    mains.retain(|main| {
+        let type_ = typing::type_of(&scope, main);
+        main.nests_within(MAX_NESTING - 1) && type_.is_some_and(|type_| type_.class != NUMBER)
+    });
     mains.resize(MAX_FIELDS, Expr::New(0, Vec::new()));
     Expr::New(BOX, mains)
 }
@@ -171,7 +172,9 @@ fn widen(random: &mut Random, table: &mut Table, place: usize) {
     let above: Vec<u8> = all
         .filter(|&class| class_fits(table, method.second.class, class))
         .collect();
-    let class = above[random.below(above.len())];
+    let Some(&class) = random.pick(&above) else {
+        return;
+    };
     for other in &mut table.methods {
         if (other.name, other.second) == (method.name, method.second) {
             other.second.class = class;

@@ -1,14 +1,18 @@
 //! Programs that end just inside or just outside a limit: calls open at one
-//! time, objects in a value, nesting. All of them are accepted.
+//! time, objects in a value, nesting, sums. All of them are accepted.
 
 use super::random::Random;
-use crate::builder::{Program, call, minus_open, new, param, plus, res, this};
+use crate::builder::{
+    Program, call, choose, difference, minus_open, new, number, param, plus, res, sum, this, whole,
+};
 use crate::syntax::{Expr, Table};
 
 pub fn table(random: &mut Random) -> Table {
-    match random.below(3) {
+    match random.below(5) {
         0 => chain(random),
         1 => ring(random),
+        2 => counted(random),
+        3 => added(random),
         _ => nested(random),
     }
 }
@@ -68,4 +72,47 @@ fn nested(random: &mut Random) -> Table {
         seed
     };
     p.table(call(2, new(h, []), [laid]))
+}
+
+/// A list of 13 to 17 numbers, counted down by as many calls and one more, two
+/// objects laid by each.
+fn counted(random: &mut Random) -> Table {
+    let mut p = Program::start();
+    let l = p.class(0, &[]);
+    let c = p.class(l, &[plus(l), whole()]);
+    let h = p.class(0, &[]);
+    let again = call(1, this(), [difference(param(0), number(1))]);
+    let other = match random.below(3) {
+        0 => number(random.below(3) as u16),
+        1 => sum(param(0), param(0)),
+        _ => param(0),
+    };
+    let laid = new(c, [new(c, [again, param(0)]), other]);
+    let left = choose(param(0), laid, new(l, []));
+    p.method((h, 1), (plus(l), plus(l)), &[whole()], (left, new(l, [])));
+    let start = number(random.between(13, 17) as u16);
+    p.table(call(1, new(h, []), [start]))
+}
+
+/// Sums of up to six levels that reach 65,535, or just do not.
+fn added(random: &mut Random) -> Table {
+    let wanted = 65_535 + random.below(3);
+    let levels = random.between(1, 5);
+    let mut left = wanted;
+    let mut expr: Option<Expr> = None;
+    for level in 0..=levels {
+        let part = match level {
+            _ if level == levels => left.min(65_535),
+            _ => random.below(left.min(30_000)),
+        };
+        left -= part;
+        let part = number(part as u16);
+        expr = Some(match expr {
+            None => part,
+            Some(before) if random.chance(50) => sum(before, part),
+            Some(before) => sum(part, before),
+        });
+    }
+    let p = Program::start();
+    p.table(expr.unwrap_or(number(0)))
 }

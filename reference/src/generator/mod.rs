@@ -3,6 +3,7 @@
 //! written down in `rows.rs`; runs on a second text are drawn in `batch`.
 
 pub mod batch;
+mod counting;
 mod damaged;
 mod exprs;
 mod full;
@@ -10,6 +11,7 @@ mod graphs;
 mod illtyped;
 mod large;
 mod limits;
+mod numbers;
 pub mod random;
 pub mod rings;
 pub mod rows;
@@ -19,8 +21,9 @@ mod typed;
 
 use crate::calls::Mode;
 use crate::reading;
-use crate::running;
+use crate::running::{self, Stop};
 use crate::syntax::Table;
+use crate::values::Ref;
 use crate::writing;
 use random::Random;
 
@@ -89,9 +92,12 @@ fn wished(random: &mut Random) -> Table {
             _ if wish < 20 => tally.open > 0,
             Ok(value) if wish < 53 => stats::is_cyclic(value),
             Ok(value) if wish < 57 => stats::is_partly_undetermined(value),
-            Ok(value) if wish < 60 => value.class().is_none(),
+            Ok(value) if wish < 60 => value.root() == Ref::Undetermined,
+            Ok(value) if wish < 65 => matches!(value.root(), Ref::Number(_)),
+            Ok(value) if wish < 73 => stats::holds_numbers(value),
+            Err(Stop::SumTooLarge) => (73..79).contains(&wish),
             Ok(value) => value.size() != 1 && left < 998,
-            Err(_) => wish >= 60,
+            Err(_) => wish >= 79,
         };
         if met {
             return table;

@@ -5,7 +5,9 @@
 
 use super::graphs::{A, B, FORK, NODE, Node, To, random_graphs};
 use super::random::Random;
-use crate::builder::{Program, call, field, minus, minus_open, new, param, plus, res, this};
+use crate::builder::{
+    Program, call, field, minus, minus_open, new, number, param, plus, res, this, whole,
+};
 use crate::calls::{Mode, open};
 use crate::fast;
 use crate::refusals::{REPORT_LENGTH, WORK_LENGTH};
@@ -110,7 +112,7 @@ fn classes() -> Program {
     p.class(NODE, &[]);
     p.class(NODE, &[]);
     p.class(NODE, &[any]);
-    p.class(NODE, &[any, any, any]);
+    p.class(NODE, &[any, any, whole()]);
     p.class(0, &[]);
     p.class(0, &[]);
     p.class(0, &[any, any]);
@@ -168,6 +170,7 @@ impl Draw<'_> {
                 }
                 To::Bare => new(BARE, []),
                 To::Undetermined => call(UNDETERMINED, this(), []),
+                To::Number(held) => number(held),
             });
         }
         Expr::New(self.graph[place].class, values)

@@ -60,6 +60,9 @@ fn names(case: &Case) -> Vec<String> {
         if is_cyclic(value) {
             names.push(format!("{mode}: value, cyclic"));
         }
+        if holds_numbers(value) {
+            names.push(format!("{mode}: value, number in a field"));
+        }
         if is_partly_undetermined(value) {
             names.push(format!("{mode}: value, undetermined in a field"));
         }
@@ -70,7 +73,8 @@ fn names(case: &Case) -> Vec<String> {
 fn outcome_name(outcome: &Outcome) -> String {
     match outcome {
         Err(stop) => format!("outcome 07{:02X}", *stop as u8),
-        Ok(value) if value.class().is_none() => "outcome 06".to_string(),
+        Ok(value) if value.root() == Ref::Undetermined => "outcome 06".to_string(),
+        Ok(value) if value.class().is_none() => "outcome 09".to_string(),
         Ok(_) => "outcome value".to_string(),
     }
 }
@@ -117,4 +121,12 @@ pub fn is_partly_undetermined(value: &Value) -> bool {
     in_order_met(value)
         .iter()
         .any(|&place| value.object(place).fields.contains(&Ref::Undetermined))
+}
+
+/// Whether some field of a finished value holds a number.
+pub fn holds_numbers(value: &Value) -> bool {
+    let number = |field: &Ref| matches!(field, Ref::Number(_));
+    in_order_met(value)
+        .iter()
+        .any(|&place| value.object(place).fields.iter().any(number))
 }

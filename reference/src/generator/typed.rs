@@ -2,11 +2,12 @@
 //! main. Whatever the checker does not accept is thrown away, so only the
 //! shares depend on the care taken here.
 
+use super::counting::counting;
 use super::exprs::{ALL_TAGS, Maker, ONLY_PLUS, Want};
 use super::random::Random;
-use super::signatures::{self, Kind};
+use super::signatures::{self, Draft, Kind};
 use crate::classes::{class_fits, fields};
-use crate::syntax::{Expr, MAX_NESTING, MINUS, MINUS_OPEN, Method, PLUS, Table};
+use crate::syntax::{Expr, MAX_NESTING, MINUS, MINUS_OPEN, Method, NUMBER, PLUS, Table};
 use crate::typing::{self, Scope};
 use crate::writing;
 
@@ -22,33 +23,42 @@ pub fn table(random: &mut Random) -> Table {
     }
 }
 
+/// How many of a hundred programs use numbers.
+const NUMBERS: usize = 55;
+
 fn draft(random: &mut Random) -> Option<Table> {
+    let numbers = random.chance(NUMBERS);
     let mut table = Table {
-        classes: signatures::classes(random),
+        classes: signatures::classes(random, numbers),
         methods: Vec::new(),
         input: None,
         main: Expr::This,
     };
     let mut kinds = Vec::new();
     for name in 1..=random.between(1, 5) as u8 {
-        let kind = signatures::kind(random);
-        let method = signatures::method(random, &table, name, kind)?;
+        let kind = signatures::kind(random, numbers);
+        let draft = Draft {
+            name,
+            kind,
+            numbers,
+        };
+        let method = signatures::method(random, &table, draft)?;
         table.methods.push(method);
         kinds.push(kind);
     }
     signatures::add_overrides(random, &mut table, &mut kinds);
     let sketch = table.clone();
     for (method, &kind) in table.methods.iter_mut().zip(&kinds) {
-        fill_body(random, &sketch, &kinds, method, kind)?;
+        fill_body(random, &sketch, (&kinds, numbers), method, kind)?;
     }
-    table.main = draft_main(random, &sketch)?;
+    table.main = draft_main(random, &sketch, numbers)?;
     Some(table)
 }
 
 fn fill_body(
     random: &mut Random,
     sketch: &Table,
-    kinds: &[Kind],
+    (kinds, numbers): (&[Kind], bool),
     method: &mut Method,
     kind: Kind,
 ) -> Option<()> {
@@ -56,15 +66,18 @@ fn fill_body(
     let params = method.params.clone();
     let scope = || Scope::body(sketch, method.owner, &params);
     let mut maker = Maker::new(scope(), random);
+    maker.numbers = numbers;
     let left = match kind {
         Kind::Ring if maker.random.chance(85) => ring(&mut maker, kinds, method, room)?,
         Kind::Growing => growing(&mut maker, method)?,
+        Kind::Counting => counting(&mut maker, method, room.max(4))?,
         // A call of itself with nothing round it: undetermined with res.
         Kind::Minus if maker.random.chance(30) => maker.call_of(method, room)?,
         Kind::Minus if maker.random.chance(60) => passing(&mut maker, method, room)?,
         _ => maker.make(left_want(method), room)?,
     };
     let mut maker = Maker::new(scope(), random);
+    maker.numbers = numbers;
     let left_type = typing::type_of(&maker.scope, &left)?;
     maker.scope.res = Some(typing::res_type(left_type));
     let right = right_side(&mut maker, method, room)?;
@@ -74,7 +87,7 @@ fn fill_body(
 }
 
 /// The left side settles to the first result and itself fits the second.
-fn left_want(method: &Method) -> Want {
+pub fn left_want(method: &Method) -> Want {
     let tags = match (method.first.tag, method.second.tag) {
         (PLUS, PLUS) => ONLY_PLUS,
         (PLUS, _) => 0b0011,
@@ -209,9 +222,14 @@ fn growing(maker: &mut Maker, method: &Method) -> Option<Expr> {
     Some(Expr::Call(method.name, receiver, vec![grown]))
 }
 
-fn draft_main(random: &mut Random, sketch: &Table) -> Option<Expr> {
+fn draft_main(random: &mut Random, sketch: &Table, numbers: bool) -> Option<Expr> {
     let room = random.between(3, MAX_NESTING);
     let mut maker = Maker::new(Scope::main(sketch), random);
+    maker.numbers = numbers;
+    if numbers && maker.random.chance(12) {
+        let (class, tags) = (NUMBER, ALL_TAGS);
+        return maker.make(Want { class, tags }, room);
+    }
     if maker.random.chance(80) {
         let method = maker.random.pick(&sketch.methods)?;
         return maker.call_of(method, room);

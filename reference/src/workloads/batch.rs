@@ -1,6 +1,7 @@
 //! Runs on a second text, whose value main gives back: as many distinct parts
 //! as there may be, many parts that are equal, parts that need long paths to be
-//! told apart, and texts that are refused as late as can be.
+//! told apart, and texts that are refused as late as can be. Parts of numbers
+//! are in `tallies.rs`.
 
 use super::{Call, Ending, Workload};
 use crate::batch::MAX_PARTS;
@@ -9,7 +10,7 @@ use crate::calls::Mode;
 use crate::generator::batch::parts::text;
 use crate::values::{MAX_OBJECTS, Object, Ref};
 
-const BASE: u8 = 1;
+pub const BASE: u8 = 1;
 /// A common part and an odd one; the wide ones lead to the next by four fields.
 const COMMON: u8 = 2;
 const ODD: u8 = 3;
@@ -19,7 +20,7 @@ const ODD_WIDE: u8 = 5;
 /// Every row that has a second text.
 pub fn batch() -> Vec<Workload> {
     let thin = (COMMON, ODD);
-    let full = MAX_PARTS - 1;
+    let full = MAX_PARTS;
     let objects = Ending::Objects;
     let ring = |count, period| text(&parts(count, period, thin));
     let wide = text(&parts(full, 31, (WIDE, ODD_WIDE)));
@@ -29,13 +30,13 @@ pub fn batch() -> Vec<Workload> {
         row("batch, 254 parts, period 31", ring(full, 31), objects(31)),
         row("batch, 254 wide, period 31", wide, objects(31)),
         row(
-            "batch, 255 parts, refused 15",
+            "batch, 254 parts, refused 15",
             too_many(),
             Ending::Refused(15),
         ),
         row(
             "batch, 14 at the last line",
-            flawed(full),
+            flawed(full - 1),
             Ending::Refused(14),
         ),
     ]
@@ -50,6 +51,11 @@ fn row(name: &str, second: Vec<u8>, ending: Ending) -> Workload {
     p.class(BASE, &[base]);
     p.class(BASE, &[base; 4]);
     p.class(BASE, &[base; 4]);
+    row_of(p, name, second, ending)
+}
+
+/// The same over these classes.
+pub fn row_of(p: Program, name: &str, second: Vec<u8>, ending: Ending) -> Workload {
     Workload {
         name: name.to_string(),
         call: Call::Run(Mode::Checked),

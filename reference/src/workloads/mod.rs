@@ -4,7 +4,7 @@
 //!
 //! Most rows come twice: light, where the work is done once, and heavy, where
 //! it is done again and again, so that evaluation outweighs reading. The last
-//! rows have a second text.
+//! rows have a second text, or are those of numbers.
 
 mod batch;
 mod examples;
@@ -15,6 +15,7 @@ mod over_rings;
 pub mod parts;
 mod repeat;
 mod rings;
+mod tallies;
 
 use crate::calls::Mode;
 use crate::generator::random::Random;
@@ -37,6 +38,8 @@ pub enum Call {
 pub enum Ending {
     /// A value of so many distinct objects.
     Objects(usize),
+    /// This number.
+    Number(u16),
     OutOfFuel,
     /// No run: the text is accepted.
     Accepted,
@@ -49,7 +52,7 @@ pub struct Workload {
     pub name: String,
     pub call: Call,
     pub text: Vec<u8>,
-    /// Empty in all rows but those of `batch`.
+    /// Empty in all rows but those named `batch`.
     pub second: Vec<u8>,
     pub fuel: u16,
     /// Units the run spends.
@@ -103,6 +106,7 @@ pub fn all() -> Vec<Workload> {
     all.extend(nested::all());
     all.extend(equal_objects());
     all.extend(batch());
+    all.extend(tallies::all());
     all
 }
 

@@ -46,7 +46,9 @@ impl Draw<'_> {
             _ if room <= 1 => self.leaf(),
             0..25 => self.leaf(),
             25..35 => field(self.random.below(3) as u8, self.expr(room - 1)),
-            35..65 => self.call(room),
+            35..45 => self.whole(room),
+            45..52 => self.choice(room),
+            52..72 => self.call(room),
             _ => self.object(room),
         }
     }
@@ -56,8 +58,34 @@ impl Draw<'_> {
             0..2 if self.right => res(),
             0..5 if self.params > 0 => param(self.random.below(self.params) as u8),
             5..8 => this(),
+            8 => self.small(),
             _ => object(pick(self.random, &[1, HOLDER]), vec![]),
         }
+    }
+
+    fn small(&mut self) -> Expr {
+        number(*self.random.pick(&[0, 0, 1, 1, 2, 40_000]).expect("some"))
+    }
+
+    /// Mostly over numbers; else stuck, before the other operand or after it.
+    fn whole(&mut self, room: usize) -> Expr {
+        let mut operand = || match self.random.below(10) {
+            0..6 => self.small(),
+            _ => self.expr(room - 1),
+        };
+        let (left, right) = (operand(), operand());
+        match self.random.below(2) {
+            0 => sum(left, right),
+            _ => difference(left, right),
+        }
+    }
+
+    fn choice(&mut self, room: usize) -> Expr {
+        let by = match self.random.below(10) {
+            0..7 => self.small(),
+            _ => self.expr(room - 1),
+        };
+        choose(by, self.expr(room - 1), self.expr(room - 1))
     }
 
     fn call(&mut self, room: usize) -> Expr {

@@ -6,7 +6,7 @@ use reference::workloads::{self, Workload};
 
 pub fn print() {
     println!("CPU time of one call: medians of up to {SAMPLES} samples, the engines in turn.");
-    println!("Each run zeroes the first 65,536 bytes of its work buffer itself, in all engines,");
+    println!("Each run zeroes the first 163,840 bytes of its work buffer itself, in all engines,");
     println!("and that is in the times; no buffer is cleared in between. Fuel is what is spent.\n");
     print_rows("");
     print_fuel();

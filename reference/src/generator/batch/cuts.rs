@@ -1,6 +1,7 @@
 //! The same value cut in another way: parts split into several, parts added
 //! that nothing reaches, all but the root in another order.
 
+use super::super::numbers;
 use super::super::random::Random;
 use crate::batch::MAX_PARTS;
 use crate::classes::fields;
@@ -58,8 +59,9 @@ pub fn add_unreached(random: &mut Random, table: &Table, parts: &mut Vec<Object>
     let all = parts.len() + count;
     for _ in 0..count {
         let class = random.below(table.classes.len() + 1) as u8;
-        let held = |_| match random.below(all + 1) {
+        let held = |_| match random.below(all + 2) {
             place if place < all => Ref::Object(place),
+            place if place == all => Ref::Number(numbers::draw(random)),
             _ => Ref::Undetermined,
         };
         let fields = fields(table, class).into_iter().map(held).collect();

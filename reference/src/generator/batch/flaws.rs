@@ -7,7 +7,7 @@ use super::cuts::{add_unreached, cut};
 use super::parts::line;
 use super::{Batch, misfits, sound, written};
 use crate::batch::{MAX_PARTS, NO_PART};
-use crate::syntax::{Expr, Table};
+use crate::syntax::{Expr, NUMBER, Table};
 use crate::text::push_line;
 use crate::values::Object;
 
@@ -25,15 +25,17 @@ pub enum Flaw {
     FieldCount,
     Number,
     NoSuchPart,
+    CutNumber,
     // These earn 15.
     Root,
     Held,
+    HeldNumber,
     Plus,
     ManyObjects,
 }
 
 impl Flaw {
-    pub const ALL: [Flaw; 15] = [
+    pub const ALL: [Flaw; 17] = [
         Flaw::Missing,
         Flaw::NotAsked,
         Flaw::LineForm,
@@ -45,8 +47,10 @@ impl Flaw {
         Flaw::FieldCount,
         Flaw::Number,
         Flaw::NoSuchPart,
+        Flaw::CutNumber,
         Flaw::Root,
         Flaw::Held,
+        Flaw::HeldNumber,
         Flaw::Plus,
         Flaw::ManyObjects,
     ];
@@ -54,7 +58,7 @@ impl Flaw {
     /// The refusal that it earns.
     pub fn number(self) -> u8 {
         match self {
-            Flaw::Root | Flaw::Held | Flaw::Plus | Flaw::ManyObjects => 15,
+            Flaw::Root | Flaw::Held | Flaw::HeldNumber | Flaw::Plus | Flaw::ManyObjects => 15,
             _ => 14,
         }
     }
@@ -119,7 +123,7 @@ impl Flaw {
             }
             Flaw::FieldCount => {
                 // The line is as long as its count says, but its class is not.
-                let other = (line.len() - 4 + random.between(1, 4)) % 5;
+                let other = (usize::from(line[3]) + random.between(1, 4)) % 5;
                 line[3] = other as u8;
                 line.resize(4 + other, NO_PART);
             }
@@ -135,13 +139,31 @@ impl Flaw {
                 }
                 let missing = random.between(count, MAX_PARTS - 1);
                 let field = *random.pick(&[count, missing, MAX_PARTS - 1])?;
-                let place = random.between(4, line.len() - 1);
+                let place = *random.pick(&starts(line))?;
                 line[place] = field as u8;
+            }
+            Flaw::CutNumber => {
+                // The last field is a number that lacks one byte or both.
+                let last = *starts(line).last()?;
+                line.truncate(last);
+                line.push(NUMBER);
+                line.extend((0..random.below(2)).map(|_| random.byte()));
             }
             _ => {}
         }
         Some(())
     }
+}
+
+/// Where in a line each field starts.
+fn starts(line: &[u8]) -> Vec<usize> {
+    let mut places = Vec::new();
+    let mut next = 4;
+    while next < line.len() {
+        places.push(next);
+        next += if line[next] == NUMBER { 3 } else { 1 };
+    }
+    places
 }
 
 /// Damage after which a text is not of the line form.

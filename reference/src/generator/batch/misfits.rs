@@ -1,6 +1,7 @@
-//! Parts that earn 15: a sound value with a part that does not fit its place, a
-//! plus place without a part, or one object too many.
+//! Parts that earn 15: a sound value with a part or a number that does not fit
+//! its place, a plus place without anything, or one object too many.
 
+use super::super::numbers;
 use super::super::random::Random;
 use super::cuts::cut;
 use super::flaws::Flaw;
@@ -8,7 +9,7 @@ use super::parts::{graph, text};
 use super::{Batch, written};
 use crate::batch::MAX_PARTS;
 use crate::classes::{class_fits, fields};
-use crate::syntax::{Expr, MINUS, PLUS, Table, Type};
+use crate::syntax::{Expr, MINUS, NUMBER, PLUS, Table, Type};
 use crate::values::{MAX_OBJECTS, Object, Ref, reached};
 
 /// Two texts with this flaw, if the table and the parts have room for it.
@@ -30,6 +31,11 @@ pub fn batch(
             let added = single(random, &table, other)?;
             parts.extend(added.into_iter().map(|part| shifted(part, shift)));
             parts[place].fields[field] = Ref::Object(shift);
+        }
+        Flaw::HeldNumber => {
+            let object = |type_: Type| type_.class != NUMBER;
+            let (place, field, _) = held(random, &table, &parts, object)?;
+            parts[place].fields[field] = Ref::Number(numbers::draw(random));
         }
         Flaw::Plus => {
             let (place, field, _) = held(random, &table, &parts, |type_| type_.tag == PLUS)?;

@@ -1,10 +1,11 @@
 //! Parts of a value that fits its places, drawn for the classes of a table, and
 //! their text. They are cut again in `cuts.rs`.
 
+use super::super::numbers;
 use super::super::random::Random;
 use crate::batch::NO_PART;
 use crate::classes::{class_fits, fields};
-use crate::syntax::{MINUS, Table, Type};
+use crate::syntax::{MINUS, NUMBER, Table, Type};
 use crate::text::push_line;
 use crate::values::{Object, Ref};
 
@@ -21,10 +22,16 @@ pub fn text(parts: &[Object]) -> Vec<u8> {
 pub fn line(number: usize, part: &Object) -> Vec<u8> {
     let count = part.fields.len() as u8;
     let mut line = vec![0x05, number as u8, part.class, count];
-    line.extend(part.fields.iter().map(|&field| match field {
-        Ref::Object(place) => place as u8,
-        Ref::Undetermined | Ref::Mark(_) => NO_PART,
-    }));
+    for &field in &part.fields {
+        match field {
+            Ref::Object(place) => line.push(place as u8),
+            Ref::Undetermined | Ref::Mark(_) => line.push(NO_PART),
+            Ref::Number(number) => {
+                let [high, low] = number.to_be_bytes();
+                line.extend([NUMBER, high, low]);
+            }
+        }
+    }
     line
 }
 
@@ -89,6 +96,9 @@ impl Draw<'_> {
     fn held(&mut self, type_: Type) -> Ref {
         if type_.tag == MINUS && self.random.chance(25) {
             return Ref::Undetermined;
+        }
+        if type_.class == NUMBER {
+            return Ref::Number(numbers::draw(self.random));
         }
         let places = 0..self.parts.len();
         let fits = |&place: &usize| class_fits(self.table, self.parts[place].class, type_.class);

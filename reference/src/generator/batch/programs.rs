@@ -7,7 +7,7 @@ use super::super::{damaged, illtyped, large, typed};
 use super::written;
 use crate::classes::fields;
 use crate::reading;
-use crate::syntax::{Expr, MAX_NESTING, MINUS, PLUS, Table, Type};
+use crate::syntax::{Expr, MAX_NESTING, MINUS, NUMBER, PLUS, Table, Type};
 use crate::text::{self, push_line};
 use crate::typing::{self, Scope};
 use crate::writing;
@@ -41,7 +41,7 @@ pub fn table(random: &mut Random) -> Table {
 fn input_class(random: &mut Random, table: &Table) -> u8 {
     let method = &table.methods[random.below(table.methods.len())];
     match (random.below(10), random.pick(&method.params)) {
-        (0..4, Some(param)) => param.class,
+        (0..4, Some(param)) if param.class != NUMBER => param.class,
         (4..7, _) => method.owner,
         _ => random.below(table.classes.len() + 1) as u8,
     }
@@ -66,7 +66,11 @@ fn main(random: &mut Random, table: &Table) -> Option<Expr> {
         return maker.call_of(method, room);
     }
     let tags = ALL_TAGS;
-    let class = maker.random.below(table.classes.len() + 1) as u8;
+    maker.numbers = maker.random.chance(30);
+    let class = match maker.numbers && maker.random.chance(40) {
+        true => NUMBER,
+        false => maker.random.below(table.classes.len() + 1) as u8,
+    };
     maker.make(Want { class, tags }, room)
 }
 
@@ -122,7 +126,7 @@ fn other_main(random: &mut Random, mut table: Table) -> Option<Vec<u8>> {
     match random.below(6) {
         0 => input.tag = random.between(1, usize::from(MINUS)) as u8,
         1 => input.tag = *random.pick(&[4, 5, 0x40, 0xFF])?,
-        2 => input.class = *random.pick(&[unknown, unknown + 1, 0x21, 0xFF])?,
+        2 => input.class = *random.pick(&[unknown, unknown + 1, 0x21, NUMBER, 0xFF])?,
         sort => {
             let mut frames = text::lines(&sound)?;
             let main = match sort {

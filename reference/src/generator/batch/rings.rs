@@ -66,6 +66,7 @@ fn parts(graph: &[Node], start: usize) -> Vec<Object> {
         To::Object(place) => Ref::Object(moved(place)),
         To::Bare => Ref::Object(graph.len()),
         To::Undetermined => Ref::Undetermined,
+        To::Number(number) => Ref::Number(number),
     };
     let part = |place: usize| Object {
         class: graph[moved(place)].class,

@@ -1,8 +1,8 @@
--- `input::parts_input` meets its contract: a law of Gifts at each return, and for what `lay` and `value_fits` ask.
+-- `input::parts_input` meets its contract: a law of InputLaws at each return, and for what `lay` and `value_fits` ask.
 use borrow.Author.Needs.{needs}
 use Rattle.batch.proofs.input.parts_input.Statement.{statement}
 use Rattle.batch.proofs.input.parts_input.Tie as tie
-use Rattle.batch.proofs.Gifts as laws
+use Rattle.batch.proofs.InputLaws as laws
 
 returns : tie.Need-returns
 returns c = search laws.many-given

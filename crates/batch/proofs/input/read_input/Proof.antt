@@ -1,8 +1,8 @@
--- `input::read_input` meets its contract: a law of Gifts at each return, and for what `parts_input` asks.
+-- `input::read_input` meets its contract: a law of InputLaws at each return, and for what `parts_input` asks.
 use borrow.Author.Needs.{needs}
 use Rattle.batch.proofs.input.read_input.Statement.{statement}
 use Rattle.batch.proofs.input.read_input.Tie as tie
-use Rattle.batch.proofs.Gifts as laws
+use Rattle.batch.proofs.InputLaws as laws
 
 returns : tie.Need-returns
 returns c = search laws.not-listed

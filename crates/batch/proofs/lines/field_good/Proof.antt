@@ -1,7 +1,7 @@
--- The proof of `lines::field_good`: one of the parts, or that the field holds none, by the laws of ReadFields.
+-- The proof of `lines::field_good`: one of the parts, or that the field holds none, by the laws of ReadField.
 use Rattle.batch.proofs.lines.field_good.Statement.{statement}
 use Rattle.batch.proofs.lines.field_good.Tie as tie
-use Rattle.batch.proofs.ReadFields as laws
+use Rattle.batch.proofs.ReadField as laws
 
 returns : tie.Need-returns
 returns c = search laws.field-part

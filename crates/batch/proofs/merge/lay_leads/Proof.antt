@@ -1,4 +1,4 @@
--- The proof of `merge::lay_leads`: the parts that lead the k colours, as objects. By a loop in which k - c falls, and the laws of Quotients.
+-- The proof of `merge::lay_leads`: the parts that lead the k colours, as objects. By a loop in which k - c falls, and the laws of Layings.
 use Rattle.batch.proofs.merge.lay_leads.Statement.{statement}
 use Rattle.batch.proofs.merge.lay_leads.Tie as tie
 use borrow.Author.Needs.{needs}
@@ -6,7 +6,7 @@ use Prim.Native.Nat.{_≤_, _-_}
 use mathlib.Core.Path.{_≡_}
 use lib.ListN.{length}
 use Rattle.batch.specs.Laying.{Laid}
-use Rattle.batch.proofs.Quotients as laws
+use Rattle.batch.proofs.Layings as laws
 
 abbrev Inv-loop : tie.InvT-loop
 Inv-loop parts cs lead k raw₀ c₀ raw c = (c ≤ k) × (length raw ≡ length raw₀) × Laid parts cs lead c raw₀ raw

@@ -8,12 +8,16 @@ returns : tie.Need-returns
 returns c = search laws.copy-plain
 
 returns-2 : tie.Need-returns-2
-returns-2 c = search laws.copy-turned
+returns-2 c = search laws.copy-rest
+
+returns-3 : tie.Need-returns-3
+returns-3 c = search laws.copy-turned
 
 pub part-of-spec : {M : Type 1} → statement M
 part-of-spec =
     tie.close
     (tie.spec
     returns
+    returns-2
     (λ c κs. search needs)
-    returns-2)
+    returns-3)

@@ -5,12 +5,7 @@ use Rattle.canon.proofs.links.hash.Tie as tie
 use Rattle.canon.proofs.Looks as laws
 
 returns : tie.Need-returns
-returns c =
-    let after-show4 = c .before .before in
-    let after-show3 = after-show4 .before .before in
-    let after-show2 = after-show3 .before .before in
-    let after-show = after-show2 .before .before in
-    laws.hash-is _ _ _ _ _ _ _ (after-show .show .ensures) (after-show2 .show2 .ensures) (after-show3 .show3 .ensures) (after-show4 .show4 .ensures) (c .show5 .ensures)
+returns c = search laws.hash-is
 
 pub hash-spec : {M : Type 1} → statement M
 hash-spec =
@@ -18,9 +13,6 @@ hash-spec =
     (tie.spec
     (λ c. search needs)
     (λ c. search needs)
-    (λ c κs. search needs)
-    (λ c. search needs)
-    (λ c. search needs)
     (λ c. search needs)
     (λ c κs. search needs)
     (λ c. search needs)
@@ -35,6 +27,9 @@ hash-spec =
     (λ c. search needs)
     (λ c. search needs)
     (λ c κs. search needs)
+    (λ c κs. search needs)
+    (λ c. search needs)
+    (λ c. search needs)
     (λ c. search needs)
     (λ c. search needs)
     (λ c. search needs)

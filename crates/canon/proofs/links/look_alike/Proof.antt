@@ -1,38 +1,41 @@
--- The proof of `links::look_alike`: whether objects i and j look alike at first. By a loop in which objectSize - k falls, and the laws of Looks.
+-- The proof of `links::look_alike`: whether objects i and j look alike at first. By a loop in which numbersAt - k falls, and the laws of Looks.
 use Rattle.canon.proofs.links.look_alike.Statement.{statement}
 use Rattle.canon.proofs.links.look_alike.Tie as tie
 use borrow.Author.Needs.{needs}
-use Prim.Native.Nat.{_≤_, _-_}
-use Rattle.canon.specs.Figures.{objectSize}
-use Rattle.canon.specs.Links.{shown, AlikeTo}
+use Prim.Native.Nat.{_≤_, _*_, _-_}
+use borrow.Author.Tests.{not-true, not-false}
+use Rattle.canon.specs.Figures.{objectSize, headSize, numbersAt}
+use Rattle.canon.specs.Tables.{Plain}
+use Rattle.canon.specs.Links.{looked, shown, AlikeTo}
 use Rattle.canon.proofs.Looks as laws
 
 abbrev Inv-loop : tie.InvT-loop
-Inv-loop raw i j k₀ k = (k ≤ objectSize) × AlikeTo shown raw i j k
+Inv-loop raw i j k₀ k = (headSize ≤ k) × (k ≤ numbersAt) × Plain raw (objectSize * i) (objectSize * j) × AlikeTo shown raw i j k
 
 abbrev μ-loop : tie.MeasureT-loop
-μ-loop raw i j k₀ k = objectSize - k
-
-loop-holds : tie.Need-loop-holds Inv-loop μ-loop
-loop-holds c = (search needs, laws.alike-none _ _ _ _)
+μ-loop raw i j k₀ k = numbersAt - k
 
 returns : tie.Need-returns Inv-loop μ-loop
-returns c =
-    let after-show2 = c .before in
-    let after-show = after-show2 .before .before in
-    let turn = after-show .before .before in
-    let head = turn .before in
-    laws.alike-not _ _ _ _ _ _ _ (head .loop .inv .1) (after-show .show .ensures) (after-show2 .show2 .ensures) (turn .loop-test .taken) (c .if1 .taken)
+returns c = laws.plain-not _ _ _ _ _ (c .before .same-plain .ensures) (not-true _ (c .if1 .taken))
+
+loop-holds : tie.Need-loop-holds Inv-loop μ-loop
+loop-holds c =
+    let p = c .before .same-plain .ensures .yes (not-false _ (c .if1 .left)) in
+    (search needs, search needs, p, laws.codes-none looked _ _ _ p)
+
+returns-2 : tie.Need-returns-2 Inv-loop μ-loop
+returns-2 c = search laws.codes-not
 
 loop-again : tie.Need-loop-again Inv-loop μ-loop
 loop-again c =
     let after-show2 = c .before in
     let after-show = after-show2 .before .before in
-    let head = after-show .before .before .before in
-    (search needs, laws.alike-more _ _ _ _ _ _ _ (head .loop .inv .1) (after-show .show .ensures) (after-show2 .show2 .ensures) (c .if1 .left))
+    let turn = after-show .before .before in
+    let head = turn .before in
+    (search needs, search needs, head .loop .inv .2, laws.codes-more _ _ _ _ _ _ _ (head .loop .inv .3) (head .loop .inv .0) (turn .loop-test .taken) (after-show .show .ensures) (after-show2 .show2 .ensures) (c .if2 .left))
 
-returns-2 : tie.Need-returns-2 Inv-loop μ-loop
-returns-2 c = laws.alike-all _ _ _ _ _ ((c .before) .loop .inv .1) (c .loop-test .left)
+returns-3 : tie.Need-returns-3 Inv-loop μ-loop
+returns-3 c = search laws.codes-all
 
 pub look-alike-spec : {M : Type 1} → statement M
 look-alike-spec =
@@ -40,6 +43,10 @@ look-alike-spec =
     (tie.spec
     Inv-loop
     μ-loop
+    (λ c. search needs)
+    (λ c. search needs)
+    (λ c κs. search needs)
+    returns
     loop-holds
     (λ c. search needs)
     (λ c. search needs)
@@ -49,8 +56,8 @@ look-alike-spec =
     (λ c. search needs)
     (λ c. search needs)
     (λ c κs. search needs)
-    returns
+    returns-2
     (λ c. search needs)
     (λ c. search needs)
     loop-again
-    returns-2)
+    returns-3)

@@ -1,29 +1,24 @@
--- The proof of `number::level_of`: a level for the p bytes from a place on. By a loop in which p - q falls, and the laws of Numbers.
+-- The proof of `number::level_of`: a level for the n objects from a place on. By a loop in which n - i falls, and the laws of Levels.
+use borrow.Author.Needs.{needs}
 use Rattle.canon.proofs.number.level_of.Statement.{statement}
 use Rattle.canon.proofs.number.level_of.Tie as tie
-use borrow.Author.Needs.{needs}
 use native.Mathlib.Omega.{arith}
-use mathlib.Core.Logic.{⊎-elim}
 use Prim.Native.Nat.{_≤_, _-_}
-use Rattle.canon.specs.Figures.{undeterminedCode}
+use Rattle.canon.specs.Figures.{numberCode}
 use Rattle.canon.specs.Numbers.{Levels}
-use Rattle.canon.proofs.Numbers as laws
+use Rattle.canon.proofs.Levels as laws
 
 abbrev Inv-loop : tie.InvT-loop
-Inv-loop work at p m₀ q₀ m q = (q ≤ p) × (undeterminedCode ≤ m) × Levels work at q (m - undeterminedCode)
+Inv-loop work at n m₀ i₀ m i = (i ≤ n) × (numberCode ≤ m) × Levels work at i (m - numberCode)
 
 abbrev μ-loop : tie.MeasureT-loop
-μ-loop work at p m₀ q₀ m q = p - q
+μ-loop work at n m₀ i₀ m i = n - i
 
 loop-holds : tie.Need-loop-holds Inv-loop μ-loop
 loop-holds c = (search needs, search needs, laws.level-none _ _ _)
 
 loop-again : tie.Need-loop-again Inv-loop μ-loop
-loop-again c = (
-  search needs,
-  ⊎-elim (λ w. omega arith) (λ w. omega arith) (c .if1 .came),
-  laws.level-more _ _ _ _ (c .before .before .before .loop .inv .2) _ (⊎-elim (λ w. omega arith) (λ w. omega arith) (c .if1 .came)) (⊎-elim (λ w. omega arith) (λ w. omega arith) (c .if1 .came)),
-)
+loop-again c = (search needs, omega (arith, c .highest .ensures .more), search laws.level-more)
 
 returns : tie.Need-returns Inv-loop μ-loop
 returns c = search laws.level-done
@@ -37,6 +32,8 @@ level-of-spec =
     loop-holds
     (λ c. search needs)
     (λ c. search needs)
+    (λ c. search needs)
+    (λ c κs. search needs)
     (λ c. search needs)
     (λ c. search needs)
     loop-again

@@ -1,8 +1,8 @@
--- `expr::type_body` meets its contract: a law of WalkLaws at each return.
+-- `expr::type_body` meets its contract: a law of StepLaws at each return.
 use borrow.Author.Needs.{needs}
 use Rattle.checker.proofs.expr.type_body.Statement.{statement}
 use Rattle.checker.proofs.expr.type_body.Tie as tie
-use Rattle.checker.proofs.WalkLaws as laws
+use Rattle.checker.proofs.StepLaws as laws
 
 pub type-body-spec : {M : Type 1} → statement M
 type-body-spec =

@@ -1,8 +1,8 @@
--- `expr::type_var` meets its contract: a law of WalkLaws at each return.
+-- `expr::type_var` meets its contract: a law of StepLaws at each return.
 use borrow.Author.Needs.{needs}
 use Rattle.checker.proofs.expr.type_var.Statement.{statement}
 use Rattle.checker.proofs.expr.type_var.Tie as tie
-use Rattle.checker.proofs.WalkLaws as laws
+use Rattle.checker.proofs.StepLaws as laws
 
 pub type-var-spec : {M : Type 1} → statement M
 type-var-spec =

@@ -5,6 +5,7 @@ use borrow.Fn.PlainCycle.{Measures, is, falls, and}
 use Rattle.classes.proofs.chain.field_place.Reads as field-place
 use Rattle.classes.proofs.chain.field_place.Kinds as field-place-kinds
 use Rattle.classes.proofs.chain.+field_place.Lts-field_place as field-place-lts
+use Rattle.classes.proofs.chain.parent.Reads as parent-reads
 use Rattle.classes.proofs.chain.field_total.Reads as field-total-reads
 use Rattle.classes.proofs.chain.own_place.Reads as own-place-reads
 use Rattle.classes.proofs.chain.+field_place.{statement}
@@ -24,7 +25,7 @@ field-place-below t =
     and 1 field-place-kinds.ps (falls 1 field-place-kinds.ps _<_ μ-field-place t) field-place.Pre
 
 abbrev field-place-claims : ℕ → field-place-lts.Claims
-field-place-claims t = (field-total-reads.Asked, field-total-reads.Learnt, field-place-below t, field-place.Post, own-place-reads.Asked, own-place-reads.Learnt)
+field-place-claims t = (parent-reads.Asked, parent-reads.Learnt, field-total-reads.Asked, field-total-reads.Learnt, field-place-below t, field-place.Post, own-place-reads.Asked, own-place-reads.Learnt)
 
 field-place-returns : (t : ℕ) → field-place-lts.Need-returns (field-place-claims t) (field-place-at t) field-place.Post
 field-place-returns t c = search laws.field-none
@@ -39,8 +40,7 @@ pub +field-place-spec : {M : Type 1} → statement M
 +field-place-spec =
     close μ-field-place
     (λ t. field-place-lts.spec (field-place-claims t) (field-place-at t) field-place.Post
-    (λ c. search needs)
-    (λ c. search needs)
+    (λ c κs. search needs)
     (field-place-returns t)
     (λ c κs. search needs)
     (λ c κs. search needs)

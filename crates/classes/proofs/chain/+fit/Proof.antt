@@ -5,6 +5,7 @@ use borrow.Fn.PlainCycle.{Measures, is, falls, and}
 use Rattle.classes.proofs.chain.fit.Reads as fit
 use Rattle.classes.proofs.chain.fit.Kinds as fit-kinds
 use Rattle.classes.proofs.chain.+fit.Lts-fit as fit-lts
+use Rattle.classes.proofs.chain.parent.Reads as parent-reads
 use Rattle.classes.proofs.chain.+fit.{statement}
 use Rattle.classes.proofs.chain.+fit.Tie.{close}
 use borrow.Author.Needs.{needs}
@@ -20,7 +21,7 @@ abbrev fit-below : ℕ → In 1 fit-kinds.ps
 fit-below t = and 1 fit-kinds.ps (falls 1 fit-kinds.ps _<_ μ-fit t) fit.Pre
 
 abbrev fit-claims : ℕ → fit-lts.Claims
-fit-claims t = (fit-below t, fit.Post)
+fit-claims t = (parent-reads.Asked, parent-reads.Learnt, fit-below t, fit.Post)
 
 fit-returns : (t : ℕ) → fit-lts.Need-returns (fit-claims t) (fit-at t) fit.Post
 fit-returns t c = search laws.fit-same
@@ -36,8 +37,7 @@ pub +fit-spec : {M : Type 1} → statement M
     close μ-fit
     (λ t. fit-lts.spec (fit-claims t) (fit-at t) fit.Post
     (fit-returns t)
-    (λ c. search needs)
-    (λ c. search needs)
+    (λ c κs. search needs)
     (fit-returns-2 t)
     (λ c κs. search needs)
     (fit-returns-3 t))

@@ -5,6 +5,7 @@ use borrow.Fn.PlainCycle.{Measures, is, falls, and}
 use Rattle.classes.proofs.known.types_good.Reads as types-good
 use Rattle.classes.proofs.known.types_good.Kinds as types-good-kinds
 use Rattle.classes.proofs.known.+types_good.Lts-types_good as types-good-lts
+use Rattle.classes.proofs.known.class_known.Reads as class-known-reads
 use Rattle.classes.proofs.known.closed.Reads as closed-reads
 use Rattle.classes.proofs.known.+types_good.{statement}
 use Rattle.classes.proofs.known.+types_good.Tie.{close}
@@ -23,7 +24,7 @@ types-good-below t =
     and 1 types-good-kinds.ps (falls 1 types-good-kinds.ps _<_ μ-types-good t) types-good.Pre
 
 abbrev types-good-claims : ℕ → types-good-lts.Claims
-types-good-claims t = (closed-reads.Asked, closed-reads.Learnt, types-good-below t, types-good.Post)
+types-good-claims t = (class-known-reads.Asked, class-known-reads.Learnt, closed-reads.Asked, closed-reads.Learnt, types-good-below t, types-good.Post)
 
 types-good-returns : (t : ℕ) → types-good-lts.Need-returns (types-good-claims t) (types-good-at t) types-good.Post
 types-good-returns t c = search laws.types-done
@@ -52,6 +53,7 @@ pub +types-good-spec : {M : Type 1} → statement M
     (λ c. search needs)
     (types-good-returns-3 t)
     (λ c. search needs)
+    (λ c κs. search needs)
     (types-good-returns-4 t)
     (λ c. search needs)
     (λ c κs. search needs)

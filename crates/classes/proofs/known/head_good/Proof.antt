@@ -35,8 +35,10 @@ head-good-spec =
     (λ c. search needs)
     returns-3
     (λ c. search needs)
+    (λ c κs. search needs)
     returns-4
     (λ c. search needs)
+    (λ c κs. search needs)
     returns-5
     (λ c. search needs)
     (λ c κs. search needs)

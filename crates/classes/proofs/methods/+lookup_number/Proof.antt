@@ -6,6 +6,7 @@ use Rattle.classes.proofs.methods.lookup_number.Reads as lookup-number
 use Rattle.classes.proofs.methods.lookup_number.Kinds as lookup-number-kinds
 use Rattle.classes.proofs.methods.+lookup_number.Lts-lookup_number as lookup-number-lts
 use Rattle.classes.proofs.methods.own_number.Reads as own-number-reads
+use Rattle.classes.proofs.chain.parent.Reads as parent-reads
 use Rattle.classes.proofs.methods.+lookup_number.{statement}
 use Rattle.classes.proofs.methods.+lookup_number.Tie.{close}
 use borrow.Author.Needs.{needs}
@@ -27,7 +28,7 @@ lookup-number-below t =
     lookup-number.Pre
 
 abbrev lookup-number-claims : ℕ → lookup-number-lts.Claims
-lookup-number-claims t = (own-number-reads.Asked, own-number-reads.Learnt, lookup-number-below t, lookup-number.Post)
+lookup-number-claims t = (own-number-reads.Asked, own-number-reads.Learnt, parent-reads.Asked, parent-reads.Learnt, lookup-number-below t, lookup-number.Post)
 
 lookup-number-returns : (t : ℕ) → lookup-number-lts.Need-returns (lookup-number-claims t) (lookup-number-at t) lookup-number.Post
 lookup-number-returns t c = search laws.lookup-here
@@ -44,8 +45,7 @@ pub +lookup-number-spec : {M : Type 1} → statement M
     (λ t. lookup-number-lts.spec (lookup-number-claims t) (lookup-number-at t) lookup-number.Post
     (λ c κs. search needs)
     (lookup-number-returns t)
-    (λ c. search needs)
-    (λ c. search needs)
+    (λ c κs. search needs)
     (lookup-number-returns-2 t)
     (λ c κs. search needs)
     (lookup-number-returns-3 t))

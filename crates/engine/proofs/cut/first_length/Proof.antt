@@ -6,7 +6,7 @@ use mathlib.Core.Path.{_≡_}
 use mathlib.Core.Bool.{true}
 use Prim.Native.Nat.{_≤_, _+_, _-_}
 use lib.ListN.{length, drop}
-use Rattle.cofj.specs.Calls.{firstLength}
+use Rattle.cofj.specs.Show.{firstLength}
 use Rattle.engine.proofs.CutLaws as laws
 
 abbrev Inv-loop : tie.InvT-loop

@@ -5,7 +5,7 @@ use borrow.Author.Needs.{needs}
 use mathlib.Core.Path.{_≡_, refl}
 use Prim.Native.Nat.{_≤_, _+_, _-_}
 use lib.ListN.{length, drop}
-use Rattle.cofj.specs.Calls.{lineLength}
+use Rattle.cofj.specs.Show.{lineLength}
 use Rattle.engine.proofs.CutLaws as laws
 
 abbrev Inv-loop : tie.InvT-loop

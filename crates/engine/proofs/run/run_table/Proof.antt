@@ -7,7 +7,7 @@ use Rattle.engine.proofs.WorkLaws as works
 use Rattle.engine.proofs.RunLaws as laws
 
 slice-aggregate-run-report : tie.Need-slice-aggregate-run-report
-slice-aggregate-run-report c = search works.front-count
+slice-aggregate-run-report c = let start = c .before .before .before in works.front-count (start .args .work .now) (start .pre .2)
 
 run-report-requires : tie.Need-run-report-requires
 run-report-requires c κs = let start = c .before .before .before .before in (works.front-room (start .args .work .now) (start .pre .2), search needs, search needs)
@@ -25,6 +25,9 @@ returns c =
     let start = run .before .before .before .before .before in
     laws.table-ran _ _ _ _ _ _ _ _ (run .run-report .last .1 .0) _ _ (start .pre .2) (run .run-report .ensures) (clear .clear .ensures) (c .with-fuel .ensures)
 
+same-length : tie.Need-same-length
+same-length c = c .before .before .before .before .before .before .out .given
+
 same-length-2 : tie.Need-same-length-2
 same-length-2 c = c .before .before .work2 .given ∙ c .before .before .before .before .before .before .before .before .work .given .1
 
@@ -37,6 +40,6 @@ run-table-spec =
     run-report-requires
     clear-requires
     (λ c. search needs)
-    (λ c. search needs)
+    same-length
     same-length-2
     returns)

@@ -1,4 +1,4 @@
--- What `linerun` writes: what is written for the two texts that its input is cut into.
+-- What `linerun` shows: what is shown for the two texts that its input is cut into.
 use borrow.Author.Needs.{needs}
 use Rattle.engine.proofs.show.show.Statement.{statement}
 use Rattle.engine.proofs.show.show.Tie as tie
@@ -15,7 +15,7 @@ part-show-texts-start : tie.Need-part-show-texts-start
 part-show-texts-start c = search cuts.cut-low
 
 returns : tie.Need-returns
-returns c = search laws.shows
+returns c = search laws.shown-cut
 
 pub show-spec : {M : Type 1} → statement M
 show-spec =
@@ -27,4 +27,6 @@ show-spec =
     part-show-texts-start
     (λ c. search needs)
     (λ c κs. search needs)
+    (λ c. search needs)
+    (λ c. search needs)
     returns)

@@ -7,13 +7,14 @@ use mathlib.Core.List.{_++_}
 use Prim.Native.Nat.{_≤_, _-_}
 use native.Mathlib.Omega.{arith}
 use lib.ListN.{length, drop, replicate, length-set}
+use Rattle.cofj.specs.Limits.{workSize}
 use Rattle.engine.proofs.WorkLaws as laws
 
 abbrev Inv-loop : tie.InvT-loop
-Inv-loop work₀ i₀ work i = (i ≤ 65536) × (length work ≡ length work₀) × (work ≡ replicate i 0 ++ drop i work₀)
+Inv-loop work₀ i₀ work i = (i ≤ workSize) × (length work ≡ length work₀) × (work ≡ replicate i 0 ++ drop i work₀)
 
 abbrev μ-loop : tie.MeasureT-loop
-μ-loop work₀ i₀ work i = 65536 - i
+μ-loop work₀ i₀ work i = workSize - i
 
 loop-holds : tie.Need-loop-holds Inv-loop μ-loop
 loop-holds c = (search needs, search needs, refl)

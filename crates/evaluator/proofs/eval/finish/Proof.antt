@@ -2,7 +2,7 @@
 use borrow.Author.Needs.{needs}
 use Rattle.evaluator.proofs.eval.finish.Statement.{statement}
 use Rattle.evaluator.proofs.eval.finish.Tie as tie
-use Rattle.evaluator.proofs.StepLaws as laws
+use Rattle.evaluator.proofs.NewSteps as laws
 
 returns : tie.Need-returns
 returns c = search laws.finish-fieldless

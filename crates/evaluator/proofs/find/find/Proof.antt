@@ -12,13 +12,10 @@ shared-slice-read-c : tie.Need-shared-slice-read-c
 shared-slice-read-c c = omega (arith, laws.object-room _ _ _ _ (c .before .before .before .before .before .pre) (c .before .before .v .given .1))
 
 returns-2 : tie.Need-returns-2
-returns-2 c = search laws.find-past
+returns-2 c = search laws.find-many
 
 returns-3 : tie.Need-returns-3
-returns-3 c = search laws.find-many
-
-returns-4 : tie.Need-returns-4
-returns-4 c = search laws.find-is
+returns-3 c = search laws.find-is
 
 pub find-spec : {M : Type 1} → statement M
 find-spec =
@@ -33,6 +30,5 @@ find-spec =
     (λ c. search needs)
     shared-slice-read-c
     returns-2
-    returns-3
     (λ c κs. search needs)
-    returns-4)
+    returns-3)

@@ -1,7 +1,7 @@
 -- What a parameter holds, by how many there are: a law for each case.
 use Rattle.evaluator.proofs.frame.passed.Statement.{statement}
 use Rattle.evaluator.proofs.frame.passed.Tie as tie
-use Rattle.evaluator.proofs.StateLaws as laws
+use Rattle.evaluator.proofs.VariableLaws as laws
 
 returns : tie.Need-returns
 returns c = search laws.passed-none

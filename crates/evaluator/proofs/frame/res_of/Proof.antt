@@ -2,7 +2,7 @@
 use borrow.Author.Needs.{needs}
 use Rattle.evaluator.proofs.frame.res_of.Statement.{statement}
 use Rattle.evaluator.proofs.frame.res_of.Tie as tie
-use Rattle.evaluator.proofs.StateLaws as laws
+use Rattle.evaluator.proofs.VariableLaws as laws
 
 returns : tie.Need-returns
 returns c = search laws.res-is

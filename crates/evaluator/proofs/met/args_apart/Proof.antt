@@ -2,7 +2,7 @@
 use Rattle.evaluator.proofs.met.args_apart.Statement.{statement}
 use Rattle.evaluator.proofs.met.args_apart.Tie as tie
 use borrow.Author.Needs.{needs}
-use Rattle.evaluator.proofs.StateLaws as laws
+use Rattle.evaluator.proofs.ApartLaws as laws
 use Prim.Native.Nat.{_≤_, _-_}
 
 abbrev Inv-loop : tie.InvT-loop

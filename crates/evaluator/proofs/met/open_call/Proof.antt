@@ -3,8 +3,8 @@ use Rattle.evaluator.specs.Figures.{callLimit}
 use Rattle.evaluator.proofs.met.open_call.Statement.{statement}
 use Rattle.evaluator.proofs.met.open_call.Tie as tie
 use borrow.Author.Needs.{needs}
-use Rattle.evaluator.proofs.StateLaws as laws
-use Rattle.evaluator.proofs.StateLaws.{Left}
+use Rattle.evaluator.proofs.MeetLaws as laws
+use Rattle.evaluator.proofs.MeetLaws.{Left}
 use Rattle.evaluator.specs.State.{slotsAt}
 use Prim.Native.Nat.{_≤_}
 use mathlib.Core.Logic.{⊎-elim}

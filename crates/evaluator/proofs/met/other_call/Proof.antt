@@ -2,7 +2,7 @@
 use borrow.Author.Needs.{needs}
 use Rattle.evaluator.proofs.met.other_call.Statement.{statement}
 use Rattle.evaluator.proofs.met.other_call.Tie as tie
-use Rattle.evaluator.proofs.StateLaws as laws
+use Rattle.evaluator.proofs.ApartLaws as laws
 
 returns : tie.Need-returns
 returns c = search laws.other-name

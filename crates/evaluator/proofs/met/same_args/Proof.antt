@@ -2,9 +2,9 @@
 use Rattle.evaluator.proofs.met.same_args.Statement.{statement}
 use Rattle.evaluator.proofs.met.same_args.Tie as tie
 use borrow.Author.Needs.{needs}
-use Rattle.evaluator.proofs.StateLaws as laws
+use Rattle.evaluator.proofs.SameLaws as laws
 use Prim.Native.Nat.{_≤_, _-_}
-use Rattle.evaluator.proofs.StateLaws.{Comparing}
+use Rattle.evaluator.proofs.SameLaws.{Comparing}
 
 abbrev Inv-loop : tie.InvT-loop
 Inv-loop work n a b i₀ i = (i ≤ n) × Comparing work a b i n

@@ -15,4 +15,8 @@ sign-row-spec =
     (λ c. search needs)
     (λ c. search laws.row-call)
     (λ c. search laws.row-new)
+    (λ c. search laws.row-number)
+    (λ c. search laws.row-sum)
+    (λ c. search laws.row-difference)
+    (λ c. search laws.row-choose)
     (λ c. search laws.row-none))

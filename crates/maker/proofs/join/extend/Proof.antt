@@ -1,7 +1,7 @@
 -- The proof of `join::extend`: the new objects in block host, which then has m objects. By the laws of Additions.
+use borrow.Author.Needs.{needs}
 use Rattle.maker.proofs.join.extend.Statement.{statement}
 use Rattle.maker.proofs.join.extend.Tie as tie
-use borrow.Author.Needs.{needs}
 use native.Mathlib.Omega.{arith}
 use lib.ListN.{length-set}
 use Rattle.canon.specs.Layout.{countIn}
@@ -58,8 +58,6 @@ extend-spec =
     mul-level-of-2
     add-level-of
     sub-level-of
-    (λ c. search needs)
-    (λ c. search needs)
     level-of-requires
     (λ c κs. search needs)
     (λ c. search needs)

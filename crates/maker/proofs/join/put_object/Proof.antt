@@ -3,7 +3,6 @@ use borrow.Author.Needs.{needs}
 use Rattle.maker.proofs.join.put_object.Statement.{statement}
 use Rattle.maker.proofs.join.put_object.Tie as tie
 use native.Mathlib.Omega.{arith}
-use lib.ListN.{length-set}
 use Rattle.maker.proofs.Additions as laws
 
 turn-requires : tie.Need-turn-requires
@@ -17,27 +16,6 @@ turn-requires-3 c κs = let p = c .before .before .before .before .before .befor
 
 turn-requires-4 : tie.Need-turn-requires-4
 turn-requires-4 c κs = let p = c .before .before .before .before .before .before .before .before .before .pre in laws.put-code _ _ _ _ (p .0) (p .4) 5 (omega arith) (omega arith)
-
-slice-read-work-2 : tie.Need-slice-read-work-2
-slice-read-work-2 c = simp length-set (omega arith)
-
-slice-write-work-2 : tie.Need-slice-write-work-2
-slice-write-work-2 c = simp length-set (omega arith)
-
-slice-write-work-3 : tie.Need-slice-write-work-3
-slice-write-work-3 c = simp length-set (omega arith)
-
-slice-write-work-4 : tie.Need-slice-write-work-4
-slice-write-work-4 c = simp length-set (omega arith)
-
-slice-write-work-5 : tie.Need-slice-write-work-5
-slice-write-work-5 c = simp length-set (omega arith)
-
-slice-write-work-6 : tie.Need-slice-write-work-6
-slice-write-work-6 c = simp length-set (omega arith)
-
-same-length : tie.Need-same-length
-same-length c = simp length-set (omega arith)
 
 returns : tie.Need-returns
 returns c = search laws.put-done
@@ -67,16 +45,18 @@ put-object-spec =
     (λ c. search needs)
     (λ c. search needs)
     (λ c. search needs)
-    slice-read-work-2
     (λ c. search needs)
-    slice-write-work-2
     (λ c. search needs)
-    slice-write-work-3
     (λ c. search needs)
-    slice-write-work-4
     (λ c. search needs)
-    slice-write-work-5
     (λ c. search needs)
-    slice-write-work-6
-    same-length
+    (λ c. search needs)
+    (λ c. search needs)
+    (λ c. search needs)
+    (λ c κs. search needs)
+    (λ c. search needs)
+    (λ c. search needs)
+    (λ c. search needs)
+    (λ c κs. search needs)
+    (λ c. search needs)
     returns)

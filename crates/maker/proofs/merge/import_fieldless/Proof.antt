@@ -1,8 +1,8 @@
--- The proof of `merge::import_fieldless`: object i of block b, which has no fields, in block host: its number there, or NO_ROOM. By the laws of Brings.
-use borrow.Author.Needs.{needs}
+-- The proof of `merge::import_fieldless`: object i of block b, which has no fields, in block host: its number there, or NO_ROOM. By the laws of Imported.
 use Rattle.maker.proofs.merge.import_fieldless.Statement.{statement}
 use Rattle.maker.proofs.merge.import_fieldless.Tie as tie
-use Rattle.maker.proofs.Brings as laws
+use borrow.Author.Needs.{needs}
+use Rattle.maker.proofs.Imported as laws
 
 enter-requires : tie.Need-enter-requires
 enter-requires c κs = (search needs, search laws.fieldless-fits)
@@ -18,8 +18,6 @@ import-fieldless-spec =
     (λ c. search needs)
     (λ c. search needs)
     (λ c. search needs)
-    (λ c. search needs)
-    (λ c κs. search needs)
     enter-requires
     (λ c. search needs)
     returns)

@@ -1,8 +1,8 @@
--- The proof of `merge::import_object`: object i of block b, in block host, whose first objects are those of block base: its number there, or NO_ROOM. By the laws of Brings.
+-- The proof of `merge::import_object`: object i of block b, in block host, whose first objects are those of block base: its number there, or NO_ROOM. By the laws of Imported.
 use borrow.Author.Needs.{needs}
 use Rattle.maker.proofs.merge.import_object.Statement.{statement}
 use Rattle.maker.proofs.merge.import_object.Tie as tie
-use Rattle.maker.proofs.Brings as laws
+use Rattle.maker.proofs.Imported as laws
 
 returns : tie.Need-returns
 returns c = search laws.object-base

@@ -17,11 +17,12 @@ bring-requires : tie.Need-bring-requires
 bring-requires c κs =
     let e2 = c .before in
     let en = e2 .before .before .before in
-    let e1 = en .before .before in
+    let rn = en .before .before in
+    let e1 = rn .before in
     let bp = e1 .before .before .before in
     let st = bp .before .before .before .before in (
-      laws.in-holds _ _ _ _ _ _ (st .pre .0) (st .pre .1) (st .pre .3) _ _ (bp .bring-parts .ensures) (e1 .if1 .left) _ _ (en .enter-over .ensures) (e2 .if2 .left),
-      laws.in-room _ _ _ _ _ _ (st .pre .0) (st .pre .1) (st .pre .3) _ _ (bp .bring-parts .ensures) (e1 .if1 .left) _ _ (en .enter-over .ensures) (st .pre .4),
+      laws.in-holds _ _ _ _ _ _ (st .pre .0) (st .pre .1) (st .pre .3) _ _ (bp .bring-parts .ensures) (e1 .if1 .left) _ (rn .root-numbers .ensures) _ _ (en .enter-over .ensures) (e2 .if2 .left),
+      laws.in-room _ _ _ _ _ _ (st .pre .0) (st .pre .1) (st .pre .3) _ _ (bp .bring-parts .ensures) (e1 .if1 .left) _ (rn .root-numbers .ensures) _ _ (en .enter-over .ensures) (st .pre .4),
     )
 
 returns-3 : tie.Need-returns-3
@@ -34,6 +35,7 @@ try-in-spec =
     (λ c κs. search needs)
     (λ c. search needs)
     returns
+    (λ c κs. search needs)
     enter-over-requires
     (λ c. search needs)
     returns-2

@@ -7,13 +7,16 @@ use Rattle.maker.specs.Adding.{objectOf, Missed}
 use Rattle.maker.proofs.Finds as laws
 
 abbrev Inv-loop : tie.InvT-loop
-Inv-loop work b t c n w k₀ k = (k ≤ t) × Missed work b (objectOf c n w) k
+Inv-loop work b t c n w v k₀ k = (k ≤ t) × Missed work b (objectOf c n w v) k
 
 abbrev μ-loop : tie.MeasureT-loop
-μ-loop work b t c n w k₀ k = t - k
+μ-loop work b t c n w v k₀ k = t - k
 
 loop-holds : tie.Need-loop-holds Inv-loop μ-loop
 loop-holds c = (search needs, laws.missed-none _ _ _)
+
+is-object-requires : tie.Need-is-object-requires Inv-loop μ-loop
+is-object-requires c κs = (search needs, search laws.find-packed)
 
 returns : tie.Need-returns Inv-loop μ-loop
 returns c = search laws.find-hit
@@ -35,7 +38,7 @@ find-spec =
     (λ c. search needs)
     (λ c. search needs)
     (λ c. search needs)
-    (λ c κs. search needs)
+    is-object-requires
     returns
     (λ c. search needs)
     (λ c. search needs)

@@ -12,6 +12,5 @@ make-fieldless-spec =
     tie.close
     (tie.spec
     (λ c κs. search needs)
-    (λ c κs. search needs)
     (λ c. search needs)
     returns)

@@ -1,14 +1,14 @@
--- The proof of `part::import`: an object of another block, of which nothing is known, in the host. By the laws of Imports and Turns.
+-- The proof of `part::import`: an object of another block, of which nothing is known, in the host. By the laws of Imports.
 use borrow.Author.Needs.{needs}
 use mathlib.Core.Path.{refl}
 use Rattle.maker.proofs.part.import.Statement.{statement}
 use Rattle.maker.proofs.part.import.Tie as tie
 use Rattle.maker.proofs.Imports as laws
-use Rattle.maker.proofs.Turns as tables
+use Rattle.canon.proofs.Zeros.{zero-at}
 use Rattle.canon.specs.Figures.{capacity}
 
 same-number-requires : tie.Need-same-number-requires
-same-number-requires c κs = (search needs, search needs, search laws.mapped-none, tables.zero-at capacity (c .before .before .before .args .i))
+same-number-requires c κs = (search needs, search needs, search laws.mapped-none, zero-at capacity (c .before .before .before .args .i))
 
 returns : tie.Need-returns
 returns c = search laws.import-same

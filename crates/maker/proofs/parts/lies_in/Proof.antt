@@ -11,7 +11,10 @@ returns-2 : tie.Need-returns-2
 returns-2 c = search laws.lies-mark
 
 returns-3 : tie.Need-returns-3
-returns-3 c = search laws.lies-undet
+returns-3 c = search laws.lies-number
+
+returns-4 : tie.Need-returns-4
+returns-4 c = search laws.lies-undet
 
 pub lies-in-spec : {M : Type 1} → statement M
 lies-in-spec =
@@ -20,6 +23,8 @@ lies-in-spec =
     (λ c. search needs)
     (λ c. search needs)
     (λ c. search needs)
+    (λ c. search needs)
     returns
     returns-2
-    returns-3)
+    returns-3
+    returns-4)

@@ -11,7 +11,10 @@ returns-2 : tie.Need-returns-2
 returns-2 c = search laws.stands-mark
 
 returns-3 : tie.Need-returns-3
-returns-3 c = search laws.stands-undet
+returns-3 c = search laws.stands-number
+
+returns-4 : tie.Need-returns-4
+returns-4 c = search laws.stands-undet
 
 pub stands-spec : {M : Type 1} → statement M
 stands-spec =
@@ -20,6 +23,8 @@ stands-spec =
     (λ c. search needs)
     (λ c. search needs)
     (λ c. search needs)
+    (λ c. search needs)
     returns
     returns-2
-    returns-3)
+    returns-3
+    returns-4)

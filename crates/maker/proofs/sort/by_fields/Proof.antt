@@ -19,6 +19,9 @@ turn-fields-requires c κs = (search laws.listed-inside, search laws.sorting-tol
 returns-2 : tie.Need-returns-2
 returns-2 c = search laws.fields-silent
 
+eight-at-requires : tie.Need-eight-at-requires
+eight-at-requires c κs = search laws.listed-numbers
+
 shared-slice-read-find : tie.Need-shared-slice-read-find
 shared-slice-read-find c = search laws.listed-room
 
@@ -63,6 +66,8 @@ by-fields-spec =
     (λ c. search needs)
     (λ c. search needs)
     (λ c. search needs)
+    (λ c. search needs)
+    eight-at-requires
     shared-slice-read-find
     (λ c. search needs)
     shared-slice-read-find-2

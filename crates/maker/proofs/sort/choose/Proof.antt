@@ -2,6 +2,7 @@
 use Rattle.maker.proofs.sort.choose.Statement.{statement}
 use Rattle.maker.proofs.sort.choose.Tie as tie
 use borrow.Author.Needs.{needs}
+use Rattle.canon.proofs.Zeros.{zero-at}
 use native.Mathlib.Omega.{arith}
 use Rattle.maker.proofs.Sorts as laws
 use Prim.Native.Nat.{_≤_, _-_}
@@ -14,7 +15,7 @@ abbrev μ-loop : tie.MeasureT-loop
 μ-loop work src x host list m told fresh count best₀ few₀ q₀ best few q = q
 
 count-classes-requires : tie.Need-count-classes-requires Inv-loop μ-loop
-count-classes-requires c κs = (search laws.sorting-host, search needs, laws.zeros 64)
+count-classes-requires c κs = (search laws.sorting-host, search needs, zero-at 64)
 
 shared-slice-read-y : tie.Need-shared-slice-read-y Inv-loop μ-loop
 shared-slice-read-y c = search laws.choose-list

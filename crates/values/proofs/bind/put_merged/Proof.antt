@@ -1,8 +1,8 @@
--- The proof of `bind::put_merged`: the value at object i of n, to block `dst`, equal objects merged and numbered from there. By the laws of Apart.
+-- The proof of `bind::put_merged`: the value at object i of n, to block `dst`, equal objects merged and numbered from there. By the laws of Puts.
 use borrow.Author.Needs.{needs}
 use Rattle.values.proofs.bind.put_merged.Statement.{statement}
 use Rattle.values.proofs.bind.put_merged.Tie as tie
-use Rattle.values.proofs.Apart as laws
+use Rattle.values.proofs.Puts as laws
 
 colour-requires : tie.Need-colour-requires
 colour-requires c κs = (search laws.rooted-raw, search laws.rooted-small, search needs)

@@ -1,8 +1,8 @@
--- The proof of `bind::refers`: whether the object at place p refers to object i. By the laws of Bindings.
+-- The proof of `bind::refers`: whether the object at place p refers to object i. By the laws of Referring.
 use borrow.Author.Needs.{needs}
 use Rattle.values.proofs.bind.refers.Statement.{statement}
 use Rattle.values.proofs.bind.refers.Tie as tie
-use Rattle.values.proofs.Bindings as laws
+use Rattle.values.proofs.Referring as laws
 
 returns : tie.Need-returns
 returns c = search laws.refer-first

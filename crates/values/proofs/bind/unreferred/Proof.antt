@@ -1,4 +1,4 @@
--- The proof of `bind::unreferred`: whether none of the n objects of block b refers to object i. By a loop in which n - k falls, and the laws of Bindings.
+-- The proof of `bind::unreferred`: whether none of the n objects of block b refers to object i. By a loop in which n - k falls, and the laws of Referring.
 use Rattle.values.proofs.bind.unreferred.Statement.{statement}
 use Rattle.values.proofs.bind.unreferred.Tie as tie
 use borrow.Author.Needs.{needs}
@@ -6,7 +6,7 @@ use Prim.Native.Nat.{_≤_, _-_}
 use mathlib.Core.Path.{_≡_}
 use mathlib.Core.Bool.{true}
 use Rattle.values.specs.Binding.{noneRefer}
-use Rattle.values.proofs.Bindings as laws
+use Rattle.values.proofs.Referring as laws
 
 abbrev Inv-loop : tie.InvT-loop
 Inv-loop work b n i k₀ k = (k ≤ n) × (noneRefer work b k i ≡ true)

@@ -1,4 +1,4 @@
--- The proof of `lockstep::in_step`: the objects of the queue and their partners met. By a loop in which capacity - head falls, and the laws of Steps.
+-- The proof of `lockstep::in_step`: the objects of the queue and their partners met. By a loop in which capacity - head falls, and the laws of Queues.
 use Rattle.values.proofs.lockstep.in_step.Statement.{statement}
 use Rattle.values.proofs.lockstep.in_step.Tie as tie
 use borrow.Author.Needs.{needs}
@@ -8,7 +8,7 @@ use Prim.Native.Nat.{_≤_, _-_}
 use lib.ListN.{length}
 use Rattle.canon.specs.Figures.{capacity}
 use Rattle.values.specs.Stepping.{PairsSoFar}
-use Rattle.values.proofs.Steps as laws
+use Rattle.values.proofs.Queues as laws
 
 abbrev Inv-loop : tie.InvT-loop
 Inv-loop work b c partner₀ queue₀ head₀ tail₀ partner queue head tail = (tail ≤ capacity) × (length partner ≡ length partner₀) × (length queue ≡ length queue₀) × PairsSoFar work b c partner₀ queue₀ partner queue tail head

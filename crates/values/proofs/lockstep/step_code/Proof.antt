@@ -5,13 +5,16 @@ use Rattle.values.proofs.lockstep.step_code.Tie as tie
 use Rattle.values.proofs.Pairs as laws
 
 returns : tie.Need-returns
-returns c = search laws.code-equal
+returns c = search laws.code-other
 
 returns-2 : tie.Need-returns-2
-returns-2 c = search laws.code-other
+returns-2 c = search laws.code-number
 
 returns-3 : tie.Need-returns-3
-returns-3 c = search laws.code-second
+returns-3 c = search laws.code-equal
+
+returns-4 : tie.Need-returns-4
+returns-4 c = search laws.code-second
 
 slice-read-known : tie.Need-slice-read-known
 slice-read-known c = search laws.code-entry
@@ -22,14 +25,14 @@ slice-write-partner c = search laws.code-entry
 slice-write-queue : tie.Need-slice-write-queue
 slice-write-queue c = search laws.code-room
 
-returns-4 : tie.Need-returns-4
-returns-4 c = search laws.code-new
-
 returns-5 : tie.Need-returns-5
-returns-5 c = search laws.code-known
+returns-5 c = search laws.code-new
 
 returns-6 : tie.Need-returns-6
-returns-6 c = search laws.code-taken
+returns-6 c = search laws.code-known
+
+returns-7 : tie.Need-returns-7
+returns-7 c = search laws.code-taken
 
 pub step-code-spec : {M : Type 1} → statement M
 step-code-spec =
@@ -38,6 +41,7 @@ step-code-spec =
     returns
     returns-2
     returns-3
+    returns-4
     slice-read-known
     (λ c. search needs)
     slice-write-partner
@@ -45,7 +49,7 @@ step-code-spec =
     (λ c. search needs)
     (λ c. search needs)
     (λ c. search needs)
-    returns-4
-    (λ c. search needs)
     returns-5
-    returns-6)
+    (λ c. search needs)
+    returns-6
+    returns-7)

@@ -12,7 +12,10 @@ returns-2 : tie.Need-returns-2
 returns-2 c = (search laws.pack-mark, search needs)
 
 returns-3 : tie.Need-returns-3
-returns-3 c = (search laws.pack-none, search needs)
+returns-3 c = (search laws.pack-number, search needs)
+
+returns-4 : tie.Need-returns-4
+returns-4 c = (search laws.pack-none, search needs)
 
 pub pack-spec : {M : Type 1} → statement M
 pack-spec =
@@ -27,6 +30,8 @@ pack-spec =
     (λ c. search needs)
     (λ c. search needs)
     (λ c. search needs)
+    (λ c. search needs)
     returns
     returns-2
-    returns-3)
+    returns-3
+    returns-4)

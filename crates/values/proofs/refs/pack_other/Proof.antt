@@ -11,7 +11,10 @@ returns-2 : tie.Need-returns-2
 returns-2 c = search laws.other-mark
 
 returns-3 : tie.Need-returns-3
-returns-3 c = search laws.other-undetermined
+returns-3 c = search laws.other-number
+
+returns-4 : tie.Need-returns-4
+returns-4 c = search laws.other-undetermined
 
 pub pack-other-spec : {M : Type 1} → statement M
 pack-other-spec =
@@ -23,6 +26,11 @@ pack-other-spec =
     (λ c. search needs)
     (λ c. search needs)
     (λ c. search needs)
+    (λ c. search needs)
+    (λ c. search needs)
+    (λ c. search needs)
+    (λ c. search needs)
     returns
     returns-2
-    returns-3)
+    returns-3
+    returns-4)

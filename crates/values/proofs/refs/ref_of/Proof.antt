@@ -11,7 +11,10 @@ returns-2 : tie.Need-returns-2
 returns-2 c = search laws.from-undetermined
 
 returns-3 : tie.Need-returns-3
-returns-3 c = search laws.from-mark
+returns-3 c = search laws.from-number
+
+returns-4 : tie.Need-returns-4
+returns-4 c = search laws.from-mark
 
 pub ref-of-spec : {M : Type 1} → statement M
 ref-of-spec =
@@ -19,5 +22,6 @@ ref-of-spec =
     (tie.spec
     returns
     returns-2
+    returns-3
     (λ c. search needs)
-    returns-3)
+    returns-4)

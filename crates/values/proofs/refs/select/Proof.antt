@@ -3,9 +3,7 @@ use borrow.Author.Needs.{needs}
 use Rattle.values.proofs.refs.select.Statement.{statement}
 use Rattle.values.proofs.refs.select.Tie as tie
 use native.Mathlib.Omega.{arith}
-use Prim.Native.Nat.{_+_, _*_}
 use Rattle.values.proofs.Selecting as laws
-use Rattle.canon.specs.Figures.{objectSize, blockSize}
 
 returns : tie.Need-returns
 returns c = search laws.select-leaf
@@ -16,11 +14,14 @@ shared-slice-read-if1 c = let e = c .before .before in let s = e .before .before
 returns-2 : tie.Need-returns-2
 returns-2 c = search laws.select-past
 
+number-at-requires : tie.Need-number-at-requires
+number-at-requires c κs = search laws.select-number
+
 shared-slice-read-ref-of : tie.Need-shared-slice-read-ref-of
-shared-slice-read-ref-of c = let e = c .before .before .before .before in let s = e .before .before .before in omega (arith, laws.select-room _ _ (s .args .f) _ _ (s .pre) (e .v .given .1), laws.select-count _ _ (s .args .f) _ _ (s .pre) (e .v .given .1))
+shared-slice-read-ref-of c = search laws.select-read
 
 returns-3 : tie.Need-returns-3
-returns-3 c = let e = c .before .before .before .before .before in let o = e .v .given in let s = e .before .before .before in laws.select-code _ _ (s .args .f) _ _ (s .pre) (o .1) (c .before .before .if1 .left) (omega (arith, c .before .shared-slice-known3 .given (blockSize * o .0 .1 .0 + objectSize * o .0 .0 + 2 + s .args .f))) _ (c .ref-of .ensures)
+returns-3 c = let e = c .before .before .before .before .before .before in let s = e .before .before .before in laws.select-code _ _ (s .args .f) _ _ (s .pre) (e .v .given .1) (c .before .before .before .if1 .left) (λ k. omega (arith, c .before .shared-slice-known3 .given k)) _ (c .before .before .number-at .ensures) _ (c .ref-of .ensures)
 
 pub select-spec : {M : Type 1} → statement M
 select-spec =
@@ -36,6 +37,10 @@ select-spec =
     (λ c. search needs)
     shared-slice-read-if1
     returns-2
+    (λ c. search needs)
+    (λ c. search needs)
+    (λ c. search needs)
+    number-at-requires
     (λ c. search needs)
     (λ c. search needs)
     shared-slice-read-ref-of

@@ -1,8 +1,8 @@
--- The proof of `report::char_of`: the character of a digit. By the laws of Reports.
+-- The proof of `report::char_of`: the character of a digit. By the laws of Writes.
 use borrow.Author.Needs.{needs}
 use Rattle.values.proofs.report.char_of.Statement.{statement}
 use Rattle.values.proofs.report.char_of.Tie as tie
-use Rattle.values.proofs.Reports as laws
+use Rattle.values.proofs.Writes as laws
 
 returns : tie.Need-returns
 returns c = search laws.char-low

@@ -1,10 +1,10 @@
--- The proof of `report::put_byte`: a byte as two digits, at a place of `out`. By the laws of Reports.
+-- The proof of `report::put_byte`: a byte as two digits, at a place of `out`. By the laws of Writes.
 use borrow.Author.Needs.{needs}
 use Rattle.values.proofs.report.put_byte.Statement.{statement}
 use Rattle.values.proofs.report.put_byte.Tie as tie
 use native.Mathlib.Omega.{arith}
 use lib.ListN.{length-set}
-use Rattle.values.proofs.Reports as laws
+use Rattle.values.proofs.Writes as laws
 
 slice-write-out-2 : tie.Need-slice-write-out-2
 slice-write-out-2 c = simp length-set (omega arith)

@@ -28,7 +28,10 @@ returns-4 : tie.Need-returns-4
 returns-4 c = search laws.close-other
 
 returns-5 : tie.Need-returns-5
-returns-5 c = search laws.close-undetermined
+returns-5 c = search laws.close-number
+
+returns-6 : tie.Need-returns-6
+returns-6 c = search laws.close-undetermined
 
 pub close-spec : {M : Type 1} → statement M
 close-spec =
@@ -47,6 +50,8 @@ close-spec =
     returns-2
     (λ c. search needs)
     (λ c. search needs)
+    (λ c. search needs)
     returns-3
     returns-4
-    returns-5)
+    returns-5
+    returns-6)
