@@ -6,10 +6,10 @@ use mathlib.Core.Path.{_≡_, refl, _∙_}
 use mathlib.Core.List.{List, []}
 use lib.ListN.{length, getD, set, length-set}
 use lib.Seq.{getD-set-same, getD-set-other}
-use Rattle.canon.specs.Figures.{objectSize}
+use Rattle.canon.specs.Figures.{objectSize, headSize, numbersAt}
 use Rattle.canon.specs.Tables.{Carried}
 use Rattle.canon.proofs.Lifts.{copy-plain, copy-rest, copy-turned}
-use Rattle.batch.specs.Figures.{partSize, headSize, numbersAt}
+use Rattle.batch.specs.Figures.{partSize}
 use Rattle.batch.specs.Colouring.{lookIn, shadeIn}
 use Rattle.batch.specs.Laying.{PartLaid, Laid}
 

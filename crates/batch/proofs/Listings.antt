@@ -10,11 +10,11 @@ use Rattle.cofj.specs.Values.{Ref, obj, leaf, Leaf, mark, undet, num, Node, ref
 use Rattle.cofj.specs.Unfolding.{object, atLeaf, Same, top, below}
 use Rattle.cofj.specs.Batch.{PartReached}
 use Rattle.cofj.proofs.Trees.{same-child, same-cls, same-count}
-use Rattle.canon.specs.Figures.{objectSize}
+use Rattle.canon.specs.Figures.{objectSize, headSize, numbersAt, blankAt}
 use Rattle.canon.specs.Layout.{numberBeside}
 use Rattle.canon.proofs.Lifts.{copy-turned}
 use Rattle.canon.proofs.Nodes.{some-at, at-some}
-use Rattle.batch.specs.Figures.{partSize, headSize, fieldRoom, numbersAt, blankAt, numberField}
+use Rattle.batch.specs.Figures.{partSize, fieldRoom, numberField}
 use Rattle.batch.specs.Layout.{heldByte, fieldByte, FieldLies, Lies}
 use Rattle.batch.specs.Reaching.{Listed, Led, first, next, Reaches}
 use Rattle.batch.specs.Colouring.{lookIn, shadeIn, Alike}

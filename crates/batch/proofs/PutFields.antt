@@ -6,7 +6,8 @@ use mathlib.Core.Path.{_≡_, refl, _∙_}
 use mathlib.Core.List.{List}
 use lib.ListN.{length, getD, set, length-set}
 use lib.Seq.{getD-set-same, getD-set-other}
-use Rattle.batch.specs.Figures.{partSize, headSize, fieldRoom, numbersAt, blankAt, noPart}
+use Rattle.canon.specs.Figures.{headSize, numbersAt, blankAt}
+use Rattle.batch.specs.Figures.{partSize, fieldRoom, noPart}
 use Rattle.batch.specs.Layout.{FieldLies, FieldPut, SparedTo, Spared}
 
 -- a field stays where its bytes stay

@@ -15,12 +15,12 @@ use Rattle.cofj.proofs.Basics.{getD-map-lt, at-map}
 use Rattle.cofj.proofs.Trees.{renamed-same}
 use Rattle.cofj.proofs.Canon.{node-id}
 use Rattle.cofj.proofs.GoodValues.{all-at, all-get}
-use Rattle.canon.specs.Figures.{objectSize, codeCount, undeterminedCode, numberCode, wideSize}
+use Rattle.canon.specs.Figures.{objectSize, codeCount, undeterminedCode, numberCode, wideSize, headSize, numbersAt}
 use Rattle.canon.specs.Layout.{refOf, numberBeside, numberAt, refIn, four, nodeIn, nodesIn, Packed}
 use Rattle.canon.specs.Numbers.{graphIn}
 use Rattle.canon.proofs.Lifts.{copy-plain, copy-rest, copy-turned}
 use Rattle.canon.proofs.Nodes.{ref-object, ref-undet, ref-number, some-at, four-at, length-nodes, at-nodes}
-use Rattle.batch.specs.Figures.{partSize, headSize, fieldRoom, numbersAt, numberField, noPart}
+use Rattle.batch.specs.Figures.{partSize, fieldRoom, numberField, noPart}
 use Rattle.batch.specs.Layout.{heldByte, Lies}
 use Rattle.batch.specs.Reaching.{Listed, Reaches}
 use Rattle.batch.specs.Merging.{Quotient, Merged}

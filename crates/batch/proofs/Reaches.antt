@@ -8,7 +8,8 @@ use mathlib.Core.List.{List}
 use lib.ListN.{length, getD, set, replicate, length-set, length-replicate}
 use lib.Seq.{getD-set-same, getD-set-other}
 use Rattle.canon.proofs.Zeros.{zero-at, zeros-few, zeros-put}
-use Rattle.batch.specs.Figures.{partSize, headSize, fieldRoom, numberField}
+use Rattle.canon.specs.Figures.{headSize}
+use Rattle.batch.specs.Figures.{partSize, fieldRoom, numberField}
 use Rattle.batch.specs.Layout.{fieldByte}
 use Rattle.batch.specs.Reaching.{Listed, FieldOf, Led, first, next, Noted, Met, FieldsMet, ReachedTo, Reaches}
 

@@ -29,7 +29,8 @@ use Rattle.classes.specs.Machine.{totalOf}
 use Rattle.classes.specs.Layout.{Tabled}
 use Rattle.classes.proofs.OnTables.{total-on}
 use Rattle.classes.proofs.Zones.{class-count-at}
-use Rattle.batch.specs.Figures.{partSize, headSize, fieldRoom, wideSize}
+use Rattle.canon.specs.Figures.{headSize}
+use Rattle.batch.specs.Figures.{partSize, fieldRoom, wideSize}
 use Rattle.batch.specs.Layout.{Spared}
 use Rattle.batch.specs.Reading.{frontSize, FieldsTaken, FieldsRead, partOf, PartRead, LineRead}
 use Rattle.batch.proofs.ReadFields.{refs-count}

@@ -8,11 +8,11 @@ use mathlib.Core.Bool.{Bool, true, false, not, false≢true, true≢false}
 use mathlib.Core.List.{List}
 use lib.ListN.{getD}
 use borrow.Author.Tests.{lt-ltb, le-ltb, eq-eqb, ne-eqb, not-true}
-use Rattle.canon.specs.Figures.{objectSize, undeterminedCode, numberCode}
+use Rattle.canon.specs.Figures.{objectSize, undeterminedCode, numberCode, headSize, numbersAt}
 use Rattle.canon.specs.Tables.{Plain, PlainTest}
 use Rattle.canon.specs.Links.{AlikeTo, AlikeTest}
 use Rattle.canon.proofs.Looks.{plain-not, codes-not, codes-all}
-use Rattle.batch.specs.Figures.{headSize, numbersAt, numberField}
+use Rattle.batch.specs.Figures.{numberField}
 use Rattle.batch.specs.Colouring.{lookIn, shadeIn, Alike, Alikeness, FirstAlike, Own}
 
 -- ---- a byte as it looks

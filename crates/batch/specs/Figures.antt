@@ -1,21 +1,13 @@
 -- The figures of parts in bytes, each named once; src/layout.rt has the same for the code. Not here: document 02's figures (the language's Limits).
-use Prim.Native.Nat.{ℕ, _+_, _*_}
+use Prim.Native.Nat.{ℕ, _*_}
+use Rattle.canon.specs.Figures.{objectSize, codeCount}
 
--- the bytes of a part: its class, how many fields it has, four fields, one byte each, for each a number, two bytes, the low one first; two blank bytes
+-- the bytes of a part and how many fields it has room for: as of an object, and headSize, numbersAt and blankAt are canon's
 abbrev pub partSize : ℕ
-partSize = 16
-
-abbrev pub headSize : ℕ
-headSize = 2
+partSize = objectSize
 
 abbrev pub fieldRoom : ℕ
-fieldRoom = 4
-
-abbrev pub numbersAt : ℕ
-numbersAt = headSize + fieldRoom
-
-abbrev pub blankAt : ℕ
-blankAt = 14
+fieldRoom = codeCount
 
 -- the byte of a field that holds a number, and every lower one is a part's; of one that holds neither
 abbrev pub numberField : ℕ

@@ -3,8 +3,8 @@ use Prim.Native.Nat.{ℕ, _+_, _*_, _≤_, _<_}
 use mathlib.Core.Path.{_≡_}
 use mathlib.Core.List.{List}
 use lib.ListN.{length, getD}
-use Rattle.canon.specs.Figures.{objectSize}
-use Rattle.batch.specs.Figures.{partSize, numbersAt}
+use Rattle.canon.specs.Figures.{objectSize, numbersAt}
+use Rattle.batch.specs.Figures.{partSize}
 use Rattle.batch.specs.Colouring.{shadeIn}
 
 -- the first j bytes of part p, as they look, are those of object c in R, and so are its numbers; the objects before it are R₀'s

@@ -9,7 +9,8 @@ use Rattle.cofj.specs.Values.{Ref, obj, leaf, mark, undet, num, Node, graph, no
 use Rattle.cofj.specs.Unfolding.{Whole}
 use Rattle.cofj.specs.Formed.{AllIn, RefBelow}
 use Rattle.canon.specs.Layout.{numberBeside}
-use Rattle.batch.specs.Figures.{partSize, headSize, fieldRoom, numbersAt, blankAt, numberField, noPart}
+use Rattle.canon.specs.Figures.{headSize, numbersAt, blankAt}
+use Rattle.batch.specs.Figures.{partSize, fieldRoom, numberField, noPart}
 
 -- the byte of a field that holds this
 abbrev pub heldByte : Ref → ℕ

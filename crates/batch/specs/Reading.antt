@@ -22,7 +22,8 @@ use Rattle.canon.specs.Layout.{numberBeside}
 use Rattle.classes.specs.Layout.{Tabled}
 use Rattle.batch.specs.declared.lines.Parts.{Parts}
 use Rattle.batch.specs.declared.lines.Parts.the-variants.{Listed, Refused}
-use Rattle.batch.specs.Figures.{partSize, headSize, fieldRoom, blankAt, noPart}
+use Rattle.canon.specs.Figures.{headSize, blankAt}
+use Rattle.batch.specs.Figures.{partSize, fieldRoom, noPart}
 use Rattle.batch.specs.Layout.{heldByte, FieldLies, Lies}
 
 -- ---- a line's fields

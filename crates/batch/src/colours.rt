@@ -2,15 +2,15 @@
 // the parts that do not look as it does get colours after the last. A round without a new colour ends it, and so does a colour more than a block has room for: no
 // value has as many objects. So there are at most as many rounds as objects, and each asks most parts once.
 // Not here: the objects of a block, which are parted by lists of who refers to whom (canon).
-use crate::layout::HEAD;
 use crate::layout::NUMBER_FIELD;
-use crate::layout::NUMBERS;
 use crate::layout::PART;
 use crate::layout::PER_BYTE;
 use canon::bytes::copy;
 use canon::bytes::same_plain;
 use canon::layout::CAPACITY;
+use canon::layout::HEAD;
 use canon::layout::NUMBER;
+use canon::layout::NUMBERS;
 use canon::layout::UNDETERMINED;
 ghost use mathlib.Core.Path.{_≡_};
 ghost use Prim.Native.Nat.{_≤_};

@@ -1,17 +1,14 @@
 // How parts lie in bytes: as objects do (canon), but a field's byte is the number of the part that it holds, FE for a number, and FF for one that is not there
 // or holds neither. specs/Figures has the same for the specifications. Not here: objects of a block (canon).
 
-// the bytes of a part
-pub(crate) const PART: usize = 16;
+use canon::layout::CODES;
+use canon::layout::OBJECT;
 
-// of them its class and how many fields it has
-pub(crate) const HEAD: usize = 2;
+// the bytes of a part: HEAD and NUMBERS, where its fields and its numbers begin, are canon's
+pub(crate) const PART: usize = OBJECT;
 
 // its fields, a byte each
-pub(crate) const FIELDS: u8 = 4;
-
-// where its numbers begin: for each field two bytes, the low one first
-pub(crate) const NUMBERS: usize = HEAD + FIELDS as usize;
+pub(crate) const FIELDS: u8 = CODES;
 
 // where its two blank bytes stand
 pub(crate) const BLANK: usize = 14;

@@ -1,11 +1,11 @@
 // A text's lines, read into parts: refusal 14. Not here: which of the parts are reached, and whether they fit (judge).
 use crate::layout::BLANK;
 use crate::layout::FIELDS;
-use crate::layout::HEAD;
 use crate::layout::NO_PART;
 use crate::layout::NUMBER_FIELD;
-use crate::layout::NUMBERS;
 use crate::layout::PART;
+use canon::layout::HEAD;
+use canon::layout::NUMBERS;
 use classes::chain::field_total;
 use classes::places::CLASS_COUNT_AT;
 use classes::places::SIZE;

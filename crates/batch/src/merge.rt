@@ -3,12 +3,12 @@
 use crate::colours::TOO_MANY;
 use crate::colours::colour;
 use crate::colours::shade;
-use crate::layout::HEAD;
-use crate::layout::NUMBERS;
 use crate::layout::PART;
 use crate::layout::PER_BYTE;
 use crate::reach::reach;
 use canon::bytes::copy;
+use canon::layout::HEAD;
+use canon::layout::NUMBERS;
 use canon::layout::OBJECT;
 use canon::layout::PER_OBJECT;
 ghost use mathlib.Core.Path.{_≡_};

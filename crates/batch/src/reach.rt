@@ -1,8 +1,8 @@
 // The parts that part 0 leads to, listed. Not here: which of them unfold to the same tree (colours).
-use crate::layout::HEAD;
 use crate::layout::NUMBER_FIELD;
 use crate::layout::PART;
 use crate::layout::PER_BYTE;
+use canon::layout::HEAD;
 ghost use mathlib.Core.Path.{_≡_};
 ghost use Prim.Native.Nat.{_≤_};
 ghost use lib.ListN.{length};

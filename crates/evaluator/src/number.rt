@@ -26,14 +26,17 @@ ghost use Rattle.evaluator.specs.Resting.{frameOf};
 ghost use Rattle.evaluator.specs.Steps.{PartRunnable, NumberRunnable, EvalStep, CombineStep, ChooseStep};
 
 // the largest number
-pub const LARGEST: u32 = 65535;
+const LARGEST: u32 = 65535;
+
+// what a number's high byte is worth
+const HIGH: u16 = 256;
 
 // The number of two bytes, high first, as an answer.
 pub(crate) fn literal(k: u8, n: u8, next: usize) -> Done
     requires { ⌜ next < placeLimit ⌝ }
     ensures { λ o. ⌜ (o ≡ numberAt (256 * k + n) next) × (256 * k + n < numberCount) ⌝ }
 {
-    let v = ValueRef::Number(256 * (k as u16) + (n as u16));
+    let v = ValueRef::Number(HIGH * (k as u16) + (n as u16));
     Done::Value(v, next as u16)
 }
 

@@ -1,12 +1,14 @@
 // References to values: at rest as numbers, of a code of a block, selected from. Not here: where the numbers stand, values moved and closed (value).
 use crate::ValueRef;
 use canon::layout::BLOCK;
+use canon::layout::BYTE;
 use canon::layout::FIRST_LEAF;
 use canon::layout::FIRST_MARK;
 use canon::layout::HEAD;
 use canon::layout::NUMBER;
 use canon::layout::NUMBERS;
 use canon::layout::OBJECT;
+use canon::layout::TWO_BYTES;
 use canon::layout::UNDETERMINED;
 ghost use mathlib.Core.Path.{_≡_};
 ghost use Prim.Native.Nat.{_+_, _<_, _≤_, _%_};
@@ -28,8 +30,8 @@ pub(crate) fn pack_other(v: ValueRef) -> u32
 {
     match v {
         ValueRef::Object(_, _) => 2,
-        ValueRef::Mark(k) => 1 + 256 * (k as u32),
-        ValueRef::Number(n) => 3 + 65536 * (n as u32),
+        ValueRef::Mark(k) => 1 + BYTE * (k as u32),
+        ValueRef::Number(n) => 3 + TWO_BYTES * (n as u32),
         ValueRef::Undetermined => 2,
     }
 }
@@ -41,7 +43,7 @@ pub fn pack(v: ValueRef) -> u32
 {
     let x = pack_other(v);
     match v {
-        ValueRef::Object(i, b) => 256 * (i as u32) + 65536 * (b as u32),
+        ValueRef::Object(i, b) => BYTE * (i as u32) + TWO_BYTES * (b as u32),
         ValueRef::Mark(_) => x,
         ValueRef::Number(_) => x,
         ValueRef::Undetermined => x,
@@ -66,9 +68,9 @@ pub(crate) fn unpack_other(k: u32, i: u8, b: u16) -> ValueRef
 pub fn unpack(x: u32) -> ValueRef
     ensures { λ v. ⌜ v ≡ refIn x ⌝ }
 {
-    let k = x % 256;
-    let i = (x / 256 % 256) as u8;
-    let b = (x / 65536) as u16;
+    let k = x % BYTE;
+    let i = (x / BYTE % BYTE) as u8;
+    let b = (x / TWO_BYTES) as u16;
     let v = unpack_other(k, i, b);
     if k == 0 {
         return ValueRef::Object(i, b);
@@ -77,7 +79,7 @@ pub fn unpack(x: u32) -> ValueRef
 }
 
 // Two bytes, the low one first, as a number.
-pub fn number_at(work: &[u8], p: usize) -> u16
+pub(crate) fn number_at(work: &[u8], p: usize) -> u16
     requires { ⌜ p + 2 ≤ length (now work) ⌝ }
     ensures { λ r. ⌜ r ≡ numberAt (now (work .entry)) p ⌝ }
 {

@@ -32,6 +32,12 @@ const HEAD_TEXT: usize = 8;
 // what stands before a number in a field
 const NUMBER_CLASS: u8 = 0xFE;
 
+// the byte of a field that is undetermined
+const NO_OBJECT: u8 = 255;
+
+// what a number's high byte is worth
+const HIGH: u16 = 256;
+
 // The character of a digit.
 pub(crate) fn char_of(d: u8) -> u8
     requires { ⌜ d < 16 ⌝ }
@@ -68,7 +74,7 @@ pub(crate) fn put_field(work: &[u8], at: usize, f: u8, out: &mut [u8], to: usize
         put_byte(out, to, c);
         return to + 2;
     }
-    put_byte(out, to, 255);
+    put_byte(out, to, NO_OBJECT);
     to + 2
 }
 
@@ -146,8 +152,8 @@ pub(crate) fn put_number(n: u16, out: &mut [u8]) -> usize
     ensures { λ t. ⌜ Reported (numberOf n) (now (out .entry)) (now (out .exit)) t ⌝ }
 {
     put_byte(out, 0, 9);
-    put_byte(out, 2, (n / 256) as u8);
-    put_byte(out, 4, (n % 256) as u8);
+    put_byte(out, 2, (n / HIGH) as u8);
+    put_byte(out, 4, (n % HIGH) as u8);
     out[6] = b'\n';
     7
 }

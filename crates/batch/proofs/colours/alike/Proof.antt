@@ -4,11 +4,10 @@ use Rattle.batch.proofs.colours.alike.Tie as tie
 use borrow.Author.Needs.{needs}
 use Prim.Native.Nat.{_≤_, _*_, _-_}
 use borrow.Author.Tests.{not-false}
-use Rattle.canon.specs.Figures.{objectSize}
+use Rattle.canon.specs.Figures.{objectSize, headSize, numbersAt}
 use Rattle.canon.specs.Tables.{Plain}
 use Rattle.canon.specs.Links.{AlikeTo}
 use Rattle.canon.proofs.Looks.{codes-none, codes-more}
-use Rattle.batch.specs.Figures.{headSize, numbersAt}
 use Rattle.batch.specs.Colouring.{lookIn, shadeIn}
 use Rattle.batch.proofs.Shades as laws
 

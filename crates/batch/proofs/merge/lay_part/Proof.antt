@@ -6,7 +6,7 @@ use mathlib.Core.Path.{_≡_}
 use Prim.Native.Nat.{_≤_, _-_}
 use native.Mathlib.Omega.{arith}
 use lib.ListN.{length, length-set}
-use Rattle.batch.specs.Figures.{headSize, numbersAt}
+use Rattle.canon.specs.Figures.{headSize, numbersAt}
 use Rattle.batch.specs.Laying.{PartLaid}
 use Rattle.batch.proofs.Layings as laws
 

@@ -3,6 +3,7 @@ use Rattle.canon.proofs.leads.look_same.Statement.{statement}
 use Rattle.canon.proofs.leads.look_same.Tie as tie
 use borrow.Author.Needs.{needs}
 use Prim.Native.Nat.{_≤_, _*_, _-_}
+use native.Mathlib.Omega.{arith}
 use borrow.Author.Tests.{not-true, not-false}
 use Rattle.canon.specs.Figures.{objectSize, headSize, numbersAt}
 use Rattle.canon.specs.Tables.{Plain, turned, copied}
@@ -24,7 +25,12 @@ loop-holds c =
     (search needs, search needs, p, laws.codes-none (turned _) _ _ _ p)
 
 returns-2 : tie.Need-returns-2 Inv-loop μ-loop
-returns-2 c = search laws.codes-not
+returns-2 c =
+    let after-turn2 = c .before in
+    let after-turn = after-turn2 .before .before in
+    let turn = after-turn .before .before in
+    let head = turn .before in
+    laws.codes-not _ _ _ _ _ _ _ (head .loop .inv .3) (head .loop .inv .0) (omega (arith, turn .loop-test .taken)) (after-turn .turn .ensures) (after-turn2 .turn2 .ensures) (c .if2 .taken)
 
 loop-again : tie.Need-loop-again Inv-loop μ-loop
 loop-again c =
@@ -32,10 +38,10 @@ loop-again c =
     let after-turn = after-turn2 .before .before in
     let turn = after-turn .before .before in
     let head = turn .before in
-    (search needs, search needs, head .loop .inv .2, laws.codes-more _ _ _ _ _ _ _ (head .loop .inv .3) (head .loop .inv .0) (turn .loop-test .taken) (after-turn .turn .ensures) (after-turn2 .turn2 .ensures) (c .if2 .left))
+    (search needs, search needs, head .loop .inv .2, laws.codes-more _ _ _ _ _ _ _ (head .loop .inv .3) (head .loop .inv .0) (omega (arith, turn .loop-test .taken)) (after-turn .turn .ensures) (after-turn2 .turn2 .ensures) (c .if2 .left))
 
 returns-3 : tie.Need-returns-3 Inv-loop μ-loop
-returns-3 c = search laws.codes-all
+returns-3 c = laws.codes-all _ _ _ _ (c .before .loop .inv .2) _ (c .before .loop .inv .3) (omega (arith, c .loop-test .left))
 
 pub look-same-spec : {M : Type 1} → statement M
 look-same-spec =
