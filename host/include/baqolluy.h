@@ -86,6 +86,12 @@ typedef struct line_reading {
     line_table table; /* zeros if refused */
 } line_reading;
 
+typedef struct line_finding {
+    bool found;
+    uint8_t owner;  /* the class that has the method itself; 0 if there is none */
+    uint8_t method; /* its number in the text, from 0; 0 if there is none */
+} line_finding;
+
 /* Sizes and places as the library has them: from C11 and C++11 on, a compiler that lays these structs out otherwise
  * stops here. */
 #if defined(__cplusplus) && __cplusplus >= 201103L
@@ -107,6 +113,8 @@ LINE_ASSERT(sizeof(line_shown) == 14 && offsetof(line_shown, refusal) == 0 && of
 LINE_ASSERT(sizeof(line_table) == LINE_TABLE_LENGTH)
 LINE_ASSERT(sizeof(line_reading) == 1 + LINE_TABLE_LENGTH && offsetof(line_reading, refusal) == 0 &&
             offsetof(line_reading, table) == 1)
+LINE_ASSERT(sizeof(line_finding) == 3 && offsetof(line_finding, found) == 0 && offsetof(line_finding, owner) == 1 &&
+            offsetof(line_finding, method) == 2)
 #undef LINE_ASSERT
 
 /* Opens a session. Never refused. */
@@ -120,6 +128,10 @@ line_reading line_read(const uint8_t *text, size_t length);
 
 /* Writes a table's text at the front of the buffer. Refused: 8, then 9. */
 line_written line_write(line_table table, uint8_t *buffer, size_t length);
+
+/* Where the method of a name is found from a class: in the class itself, or in the nearest class above it that has one. Any
+ * class and name may be asked for. Never refused; of a table that no text reads into, it is what the table's index says. */
+line_finding line_find(const line_table *table, uint8_t class_number, uint8_t name);
 
 /* The type of a text's main. Refused: 1 to 7. */
 line_verdict line_check(const uint8_t *text, size_t length);

@@ -71,6 +71,32 @@ pub struct Reading {
     pub table: ClassTable,
 }
 
+/// A method that was found: the class that has it itself, and its number in the text, from 0.
+#[derive(Clone, Copy, Debug, PartialEq, Eq)]
+pub struct Found {
+    pub owner: u8,
+    pub method: u8,
+}
+
+/// What finding answers in the library: both numbers are 0 where nothing is found. Rust programs are given an `Option`.
+#[repr(C)]
+pub(crate) struct Finding {
+    found: bool,
+    owner: u8,
+    method: u8,
+}
+
+impl From<Finding> for Option<Found> {
+    fn from(finding: Finding) -> Option<Found> {
+        let Finding {
+            found,
+            owner,
+            method,
+        } = finding;
+        found.then_some(Found { owner, method })
+    }
+}
+
 // Sizes and places as the library has them.
 const _: () = {
     assert!(size_of::<Session>() == 4);
@@ -89,4 +115,6 @@ const _: () = {
     assert!(size_of::<ClassTable>() == TABLE_LENGTH);
     assert!(size_of::<Reading>() == 1 + TABLE_LENGTH);
     assert!(offset_of!(Reading, refusal) == 0 && offset_of!(Reading, table) == 1);
+    assert!(size_of::<Finding>() == 3 && offset_of!(Finding, found) == 0);
+    assert!(offset_of!(Finding, owner) == 1 && offset_of!(Finding, method) == 2);
 };

@@ -1,12 +1,14 @@
-//! The proved engine of the line language as safe Rust calls: read and write a class table, check a text, open and
-//! close a session, run a text checked or on trial, and show what the program `linerun` writes (src/bin/linerun.rs).
+//! The proved engine of the line language as safe Rust calls: read and write a class table, find which class a method
+//! comes from, check a text, open and close a session, run a text checked or on trial, and show what the program `linerun`
+//! writes (src/bin/linerun.rs).
 //!
 //! What each call answers is proved in crates/engine; here slices and structs only pass across. Nothing is read from
 //! files, printed or kept: a session is a value that goes in and comes back.
 //!
 //! A call needs at most 224 KiB of stack: give a thread that calls no less.
 //!
-//! Every answer has a `refusal`, 0 when the call was accepted. A refused call writes nothing in what it was lent.
+//! Every answer but those of `open` and `find`, which refuse nothing, has a `refusal`, 0 when the call was accepted. A
+//! refused call writes nothing in what it was lent.
 //! The proofs assume that what is lent to one call does not overlap; here the borrow checker sees to it.
 //!
 //! Nothing checks these declarations against the Rattle source: host/include/baqolluy.h has the same, for C. What the
@@ -14,7 +16,8 @@
 
 mod answers;
 
-pub use answers::{Answer, ClassTable, Closing, Reading, Session, Shown, Verdict, Written};
+use answers::Finding;
+pub use answers::{Answer, ClassTable, Closing, Found, Reading, Session, Shown, Verdict, Written};
 
 /// Longest text, and the least length of a buffer to write one in.
 pub const TEXT_LENGTH: usize = 49_567;
@@ -71,6 +74,7 @@ unsafe extern "C" {
     safe fn line_close(session: Session) -> Closing;
     fn line_read(text: *const u8, length: usize) -> Reading;
     fn line_write(table: ClassTable, buffer: *mut u8, length: usize) -> Written;
+    safe fn line_find(table: &ClassTable, class: u8, name: u8) -> Finding;
     fn line_check(text: *const u8, length: usize) -> Verdict;
     fn line_run(
         text: *const u8,
@@ -125,6 +129,13 @@ pub fn read(text: &[u8]) -> Reading {
 pub fn write(table: &ClassTable, buffer: &mut [u8]) -> Written {
     // SAFETY: pointer and length are those of one slice, lent for the call.
     unsafe { line_write(*table, buffer.as_mut_ptr(), buffer.len()) }
+}
+
+/// Where the method of a name is found from a class: in the class itself, or in the nearest class above it that has one;
+/// `None` where none has. Any class and name may be asked for, and it is never refused. Of a table that no text reads into
+/// it is what the table's index says, by docs/TABLE.md.
+pub fn find(table: &ClassTable, class: u8, name: u8) -> Option<Found> {
+    line_find(table, class, name).into()
 }
 
 /// Checks a text and gives the type of its main. Refused with the lowest of 1 to 7 that it earns.

@@ -56,6 +56,33 @@ static bool runs(void) {
     return true;
 }
 
+/* three classes, each below the one before; names 1 and 2, of which the last class has 1 anew */
+static const char chain[] = "01010000\n01020100\n01030200\n02010101000100004040\n"
+                            "02020201000100004040\n02030101000100004040\n03450000\n";
+
+static bool is_found(uint8_t class_number, uint8_t name, uint8_t owner, uint8_t method) {
+    line_finding answer = line_find(&reading.table, class_number, name);
+    return answer.found && answer.owner == owner && answer.method == method;
+}
+
+static bool is_nowhere(uint8_t class_number, uint8_t name) {
+    line_finding answer = line_find(&reading.table, class_number, name);
+    return !answer.found && answer.owner == 0 && answer.method == 0;
+}
+
+static bool owners(void) {
+    reading = line_read((const uint8_t *)chain, sizeof chain - 1);
+    EXPECT(reading.refusal == LINE_ACCEPTED);
+    EXPECT(is_found(1, 1, 1, 0) && is_found(2, 1, 1, 0) && is_found(3, 1, 3, 2));
+    EXPECT(is_found(2, 2, 2, 1) && is_found(3, 2, 2, 1));
+    EXPECT(is_nowhere(1, 2) && is_nowhere(0, 1) && is_nowhere(33, 1) && is_nowhere(254, 1) && is_nowhere(1, 3));
+    reading.table.bytes[528 + 256 * 3 + 1] = 0; /* the index no longer has class 3's own: docs/TABLE.md */
+    EXPECT(is_found(3, 1, 1, 0));
+    reading.table.bytes[16 * 2] = 2; /* no smaller parent: the search ends at class 2 */
+    EXPECT(is_nowhere(3, 1) && is_found(3, 2, 2, 1));
+    return true;
+}
+
 static line_answer given(const char *input) {
     return line_run((const uint8_t *)giving, sizeof giving - 1, (const uint8_t *)input, strlen(input), line_open(7),
                     report, sizeof report, work, sizeof work);
@@ -113,4 +140,4 @@ static bool second_texts(void) {
     return true;
 }
 
-int main(void) { return tables_and_types() && runs() && second_texts() && outputs() ? 0 : 1; }
+int main(void) { return tables_and_types() && owners() && runs() && second_texts() && outputs() ? 0 : 1; }

@@ -41,12 +41,27 @@ pub fn fields(table: &Table, class: u8) -> Vec<Type> {
     all
 }
 
-/// The method of a name in a class, or the nearest above it.
-pub fn method(table: &Table, class: u8, name: u8) -> Option<&Method> {
+/// A method and where it was found: the class that owns it, and its number in
+/// the text, from 0.
+#[derive(Clone, Copy, Debug, PartialEq, Eq)]
+pub struct Found<'a> {
+    pub owner: u8,
+    pub number: usize,
+    pub method: &'a Method,
+}
+
+/// The method of a name from a class: of the class itself, or of the nearest
+/// above it that has one. Whoever looks for a method asks here.
+pub fn find(table: &Table, class: u8, name: u8) -> Option<Found<'_>> {
     let parent = parent(table, class)?;
-    let own = table
-        .methods
-        .iter()
-        .find(|method| method.owner == class && method.name == name);
-    own.or_else(|| method(table, parent, name))
+    let mut methods = table.methods.iter().enumerate();
+    let own = methods.find(|(_, method)| method.owner == class && method.name == name);
+    match own {
+        Some((number, method)) => Some(Found {
+            owner: class,
+            number,
+            method,
+        }),
+        None => find(table, parent, name),
+    }
 }

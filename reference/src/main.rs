@@ -12,7 +12,7 @@ use std::process::ExitCode;
 const USAGE: &str = "usage: reference run < TEXT
        reference stats SEED COUNT
        reference rows SEED COUNT [batch]
-       reference emit typed|plain|limits|illtyped|damaged|full|large|rings SEED
+       reference emit typed|plain|limits|illtyped|damaged|full|large|rings|chains|overrides SEED
        reference emit batch fitting|rings|limits|illtyped|damaged|flawed SEED";
 
 fn main() -> ExitCode {

@@ -235,11 +235,9 @@ fn news_known(table: &Table, expr: &Expr) -> bool {
 /// there is one, has the same types.
 fn overrides(table: &Table, method: &Method) -> bool {
     let parent = table.classes[usize::from(method.owner) - 1].parent;
-    match classes::method(table, parent, method.name) {
-        Some(above) => {
-            (above.first, above.second) == (method.first, method.second)
-                && above.params == method.params
-        }
-        None => true,
-    }
+    classes::find(table, parent, method.name).is_none_or(|found| {
+        let above = found.method;
+        (above.first, above.second) == (method.first, method.second)
+            && above.params == method.params
+    })
 }

@@ -1,8 +1,8 @@
 //! Evaluation: from a table and fuel to an outcome and the fuel left.
 //! Types are not looked at; a checked run has looked before.
 
-use crate::classes;
-use crate::syntax::{Expr, Method, Table};
+use crate::classes::{self, Found};
+use crate::syntax::{Expr, Table};
 use crate::values::{Ref, Value};
 
 /// Most calls open at one time, both sides counted.
@@ -28,6 +28,8 @@ pub struct Tally {
     pub met: u32,
     /// Calls with an open mark somewhere in receiver or arguments.
     pub open: u32,
+    /// Calls of a method that a class above the receiver's owns.
+    pub inherited: u32,
 }
 
 /// Runs main without an input and gives its outcome and the fuel left.
@@ -108,14 +110,14 @@ impl<'a> Run<'a> {
             }
             Expr::Call(name, receiver, arguments) => {
                 let receiver = self.eval(frame, receiver)?;
-                let method = self.method(&receiver, *name, arguments.len())?;
+                let found = self.find(&receiver, *name, arguments.len())?;
                 let arguments = self.eval_all(frame, arguments)?;
                 let redex = Redex {
                     receiver,
                     name: *name,
                     arguments,
                 };
-                self.call(method, redex)
+                self.call(found, redex)
             }
             Expr::New(class, values) => {
                 // The count is tested first: a bad value is never reached.
@@ -163,14 +165,14 @@ impl<'a> Run<'a> {
         exprs.iter().map(|expr| self.eval(frame, expr)).collect()
     }
 
-    fn method(&self, receiver: &Value, name: u8, count: usize) -> Result<&'a Method, Stop> {
+    fn find(&self, receiver: &Value, name: u8, count: usize) -> Result<Found<'a>, Stop> {
         let class = receiver.class().ok_or(Stop::Stuck)?;
-        classes::method(self.table, class, name)
-            .filter(|method| method.params.len() == count)
+        classes::find(self.table, class, name)
+            .filter(|found| found.method.params.len() == count)
             .ok_or(Stop::Stuck)
     }
 
-    fn call(&mut self, method: &Method, redex: Redex) -> Outcome {
+    fn call(&mut self, found: Found, redex: Redex) -> Outcome {
         // The unit is spent before the depth is tested.
         self.fuel = self.fuel.checked_sub(1).ok_or(Stop::OutOfFuel)?;
         if self.depth == MAX_DEPTH {
@@ -183,16 +185,17 @@ impl<'a> Run<'a> {
             params: redex.arguments.clone(),
         };
         self.tally.open += u32::from(redex.is_open());
+        self.tally.inherited += u32::from(redex.receiver.class() != Some(found.owner));
         let met = self.trace.iter().find(|(open, _)| *open == redex);
         let answer = if let Some(&(_, mark)) = met {
             self.tally.met += 1;
             frame.res = Some(Value::mark(mark));
-            self.eval(&frame, &method.right)?
+            self.eval(&frame, &found.method.right)?
         } else {
             let mark = self.marks;
             self.marks += 1;
             self.trace.push((redex, mark));
-            let answer = self.eval(&frame, &method.left)?;
+            let answer = self.eval(&frame, &found.method.left)?;
             self.trace.pop();
             answer.closed(mark)
         };

@@ -154,7 +154,7 @@ fn types_of(scope: &Scope, exprs: &[Expr]) -> Option<Vec<Type>> {
 
 fn call_type(scope: &Scope, name: u8, receiver: &Expr, arguments: &[Expr]) -> Option<Type> {
     let class = receiver_class(scope, receiver)?;
-    let method = classes::method(scope.table, class, name)?;
+    let method = classes::find(scope.table, class, name)?.method;
     let given = types_of(scope, arguments)?;
     let agree = given.len() == method.params.len()
         && given

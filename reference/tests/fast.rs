@@ -120,8 +120,15 @@ fn the_usual_mixture() {
 #[test]
 fn every_kind_in_both_modes() {
     let mut comparison = Comparison::new();
-    let kinds = [Kind::Typed, Kind::IllTyped, Kind::Damaged, Kind::Full];
-    for (kind, count) in kinds.into_iter().zip([500, 700, 3_000, 10]) {
+    let kinds = [
+        (Kind::Typed, 500),
+        (Kind::IllTyped, 700),
+        (Kind::Damaged, 3_000),
+        (Kind::Full, 10),
+        (Kind::Chains, 1_000),
+        (Kind::Overrides, 1_000),
+    ];
+    for (kind, count) in kinds {
         for number in 0..count {
             let mut random = Random::for_case(102, number);
             let text = text(kind, &mut random);

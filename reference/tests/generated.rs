@@ -25,9 +25,13 @@ fn tables(seed: u64, count: u64) -> impl Iterator<Item = Table> {
 
 #[test]
 fn the_kinds_are_what_they_say() {
-    let accepted = [Kind::Typed, Kind::Plain, Kind::Limits, Kind::Rings];
-    for text in accepted.into_iter().flat_map(|kind| texts(kind, 11, 100)) {
+    let small = [Kind::Typed, Kind::Plain, Kind::Limits];
+    let accepted = small.into_iter().chain([Kind::Rings, Kind::Chains]);
+    for text in accepted.flat_map(|kind| texts(kind, 11, 100)) {
         assert!(check(&text).is_ok());
+    }
+    for text in texts(Kind::Overrides, 11, 100) {
+        assert_eq!(read(&text).unwrap_err().number(), 5);
     }
     for text in texts(Kind::Large, 11, 100) {
         assert!(check(&text).is_ok());

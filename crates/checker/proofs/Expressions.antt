@@ -11,7 +11,9 @@ use borrow.Author.Tests.{eqb-true, eqb-false}
 use Rattle.cofj.specs.Limits.{methodCount}
 use Rattle.cofj.specs.Partial.{_>>=_, guard}
 use Rattle.cofj.specs.Syntax.{Expr, this, res, param, field, call, new, literal, combine, choose, Exprs, count, Ty, ty, Method, Table}
-use Rattle.cofj.specs.Classes.{fieldsOf, lookup}
+use Rattle.cofj.specs.Classes.{fieldsOf}
+use Rattle.cofj.specs.Lookup as language
+use Rattle.cofj.specs.Lookup.{lookup}
 use Rattle.cofj.specs.Typing.{Env, allClosed, narrow, allFit, fieldType, callType, newType, typeOf, typesOf}
 use Rattle.cofj.specs.Tables.{exprKnown, exprsKnown}
 use Rattle.cofj.specs.Writing.{codeOf, codesOf}
@@ -137,17 +139,17 @@ module _ (t : Table) (wf : WellFormed t) (inMain : Bool) (g : Env) (kg : KnownEn
 
   -- the arguments es stand at a1; the method was found
   module _ (es : Exprs) (each : Each P es) (kn : exprsKnown (length (t .classes)) es ≡ true) (a1 : ℕ) (st : Stands (layout t) a1 (codesOf es)) where
-    counted-is : (i : ℕ) (d : Method) → getElem? (t .methods) i ≡ some d
-        → calledBy (layout t) one inMain (count es) a1 (counted (layout t) (count es) (method.At i))
+    counted-is : (o i : ℕ) (d : Method) → getElem? (t .methods) i ≡ some d
+        → calledBy (layout t) one inMain (count es) a1 (counted (layout t) (count es) (method.At (record { owner = o; number = i })))
         ≡ typedAt (typesOf t inMain g es >>= λ us. guard (allClosed us && allFit t us (d .params)) >>= λ _. some (cond inMain (d .first) (d .second))) (a1 + length (codesOf es))
     unfolding argsBy
-    counted-is i d e = rw (param-count-at t i d l e) (go (eqb (length (d .params)) (count es)) refl)
+    counted-is o i d e = rw (param-count-at t i d l e) (go (eqb (length (d .params)) (count es)) refl)
       where
         l : i < methodCount
         l = let a = index-below (t .methods) i d e in let b = wf .count in omega arith
 
         go : (b : Bool) → eqb (length (d .params)) (count es) ≡ b
-            → calledBy (layout t) one inMain (count es) a1 (pick b (method.At i) method.Nothing)
+            → calledBy (layout t) one inMain (count es) a1 (pick b (method.At (record { owner = o; number = i })) method.Nothing)
             ≡ typedAt (typesOf t inMain g es >>= λ us. guard (allClosed us && allFit t us (d .params)) >>= λ _. some (cond inMain (d .first) (d .second))) (a1 + length (codesOf es))
         go true q =
             let r = method-at (MethodFormed t) (t .methods) i d (wf .methods) e in
@@ -161,10 +163,10 @@ module _ (t : Table) (wf : WellFormed t) (inMain : Bool) (g : Env) (kg : KnownEn
             (sym (none-after (typesOf t inMain g es) (λ us. guard (allClosed us && allFit t us (d .params)) >>= λ _. some (cond inMain (d .first) (d .second)))
             (λ us z. args-other t wf inMain d us (λ y. eqb-false (length (d .params)) (count es) q (sym y ∙ types-length t inMain g es us z)))))
 
-    found-is : (f : Found) (x : Option Method) → lay.Finds (t .methods) f x
+    found-is : (f : Found) (x : Option language.Found) → lay.Finds (t .methods) f x
         → calledBy (layout t) one inMain (count es) a1 (counted (layout t) (count es) f)
-        ≡ typedAt (typesOf t inMain g es >>= λ us. x >>= λ d. guard (allClosed us && allFit t us (d .params)) >>= λ _. some (cond inMain (d .first) (d .second))) (a1 + length (codesOf es))
-    found-is f x (lay.Finds.at {i} {d} e) = counted-is i d e
+        ≡ typedAt (typesOf t inMain g es >>= λ us. x >>= λ h. guard (allClosed us && allFit t us (h .body .params)) >>= λ _. some (cond inMain (h .body .first) (h .body .second))) (a1 + length (codesOf es))
+    found-is f x (lay.Finds.at {o} {i} {d} e) = counted-is o i d e
     found-is f x lay.Finds.nothing = ap (λ (o : Option Ty). typedAt o (a1 + length (codesOf es))) (sym (none-after (typesOf t inMain g es) (λ us. none) (λ us z. refl)))
 
     called-is : (u : Ty) (m : ℕ) → m < 256 → calledBy (layout t) one inMain (count es) a1 (receiverOf (layout t) (u .cls) (u .tag) m (count es)) ≡ typedAt (callOf (typesOf t inMain g es) u m) (a1 + length (codesOf es))
@@ -172,7 +174,7 @@ module _ (t : Table) (wf : WellFormed t) (inMain : Bool) (g : Env) (kg : KnownEn
     called-is u m small = go (eqb (u .tag) 0)
       where
         go : (b : Bool) → calledBy (layout t) one inMain (count es) a1 (pick b (counted (layout t) (count es) (lookupOf (layout t) (u .cls) m)) method.Nothing)
-            ≡ typedAt (typesOf t inMain g es >>= λ us. guard b >>= λ _. lookup t (u .cls) m >>= λ d. guard (allClosed us && allFit t us (d .params)) >>= λ _. some (cond inMain (d .first) (d .second))) (a1 + length (codesOf es))
+            ≡ typedAt (typesOf t inMain g es >>= λ us. guard b >>= λ _. lookup t (u .cls) m >>= λ h. guard (allClosed us && allFit t us (h .body .params)) >>= λ _. some (cond inMain (h .body .first) (h .body .second))) (a1 + length (codesOf es))
         go true = found-is (lookupOf (layout t) (u .cls) m) (lookup t (u .cls) m) (lookup-on t wf m small (u .cls))
         go false = ap (λ (o : Option Ty). typedAt o (a1 + length (codesOf es))) (sym (none-after (typesOf t inMain g es) (λ us. none) (λ us z. refl)))
 

@@ -10,12 +10,13 @@ use borrow.Author.Tests.{leb-true, le-leb}
 use Rattle.cofj.specs.Limits.{numberClass}
 use Rattle.cofj.specs.Partial.{_>>=_, guard}
 use Rattle.cofj.specs.Syntax.{Expr, this, res, param, field, call, new, literal, combine, choose, Ty, ty, eqTy, Method, Table}
-use Rattle.cofj.specs.Classes.{fits, parentOf, classAt, ownOrNone, fieldsTo, fieldsOf, lookup}
+use Rattle.cofj.specs.Classes.{fits, parentOf, classAt, ownOrNone, fieldsTo, fieldsOf}
+use Rattle.cofj.specs.Lookup.{lookup}
 use Rattle.cofj.specs.Typing.{Env, allClosed, narrow, allFit, numberType, fieldType, callType, newType, combineType, wider, chooseType, typeOf, typesOf}
 use Rattle.cofj.specs.Tables.{known, allKnown, exprKnown, exprsKnown}
 use Rattle.cofj.specs.WellFormed.{WellFormed, MethodFormed}
 use Rattle.cofj.proofs.Partial.{and-true, true-and, opt-bind, guard-bind}
-use Rattle.cofj.proofs.Climb.{lookup-found}
+use Rattle.cofj.proofs.Lookup.{lookup-found}
 
 -- ---- lists of types
 -- a class of the table
@@ -61,9 +62,9 @@ module _ (t : Table) (wf : WellFormed t) where
   call-known inMain u m us v e =
       let a = guard-bind (eqb (u .tag) 0) _ v e in
       let b = opt-bind (lookup t (u .cls) m) _ v (a .1) in
-      let d = b .0 in
+      let d = b .0 .body in
       let c = guard-bind (allClosed us && allFit t us (d .params)) (λ _. some (cond inMain (d .first) (d .second))) v (b .2) in
-      let r = lookup-found t wf (MethodFormed t) (wf .methods) (u .cls) m d (b .1) .0 in
+      let r = lookup-found t wf (MethodFormed t) (wf .methods) (u .cls) m (b .0) (b .1) .0 in
       subst (λ (w : Ty). known n w ≡ true) (just _ v (c .1)) (pick-known inMain d r)
     where
       pick-known : (b : Bool) (d : Method) → MethodFormed t d → known n (cond b (d .first) (d .second)) ≡ true

@@ -10,7 +10,6 @@ use lib.ListN.{length, getD, getElem?, List·getD-append, List·getD-eq-default}
 use lib.Seq.{getD-append-add}
 use borrow.Author.Tests.{leb-true, ltb-true, ltb-false}
 use Rattle.cofj.specs.Limits.{classCount, methodCount, paramCount, lineSize}
-use Rattle.cofj.specs.Partial.{_>>=_}
 use Rattle.cofj.specs.Syntax.{Method, Table}
 use Rattle.cofj.specs.Frames.{Got, got, upTo, type, ClassFrame, TextFrame, classFrame, methodFrame, mainFrame, frame, frames}
 use Rattle.cofj.specs.Tables.{Raw, raw, inFront, ordered, few, bodies, methodsGood, table, overridesGood}

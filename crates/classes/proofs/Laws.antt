@@ -11,6 +11,7 @@ use Rattle.cofj.specs.Limits.{classCount}
 use Rattle.classes.specs.Figures.{rowSize}
 use Rattle.classes.specs.declared.chain.FieldFound.{FieldFound}
 use Rattle.classes.specs.declared.chain.FieldFound.the-variants as field
+use Rattle.classes.specs.declared.methods.Body.{Body}
 use Rattle.classes.specs.declared.methods.Found.{Found}
 use Rattle.classes.specs.declared.methods.Found.the-variants as found
 use Rattle.classes.specs.Machine.{Stored, pick, up, totalOf, fitsIn, fitsOf, typeAt, ownField, fieldIn, fieldOf, numbered, ownOf, orElse, lookupIn, lookupOf, methodWith, rowOf, paramOf, inputType}
@@ -155,32 +156,26 @@ module _ (B : List ℕ) (at : ℕ) (w : FieldFound) (e : Stored B at w) where
 
 -- ---- methods
 module _ (B : List ℕ) (c m : ℕ) where
-  pub index-past : 32 < c → ownOf B c m ≡ numbered 0
+  pub index-past : 32 < c → ownOf B c m ≡ numbered c 0
   index-past h = rw (lt-ltb 32 c h)
 
-  pub index-at : c ≤ 32 → ownOf B c m ≡ numbered (getD B (528 + 256 * c + m) 0)
+  pub index-at : c ≤ 32 → ownOf B c m ≡ numbered c (getD B (528 + 256 * c + m) 0)
   index-at h = rw (le-ltb 32 c h)
 
-module _ (x : ℕ) (f : Found) (e : f ≡ numbered x) where
-  pub number-none : x ≡ 0 → found.Nothing ≡ f
-  number-none z = rw (e, eq-eqb x 0 z)
-
-  pub number-at : (x ≡ 0 → ⊥) → found.At (x - 1) ≡ f
-  number-at n = rw (e, ne-eqb x 0 n)
+-- where nothing is above, the class itself is all
+pub lookup-stop : (B : List ℕ) (n c m : ℕ) → c ≤ up B c → lookupIn B n c m ≡ ownOf B c m
+unfolding lookupIn
+lookup-stop B zero c m l = refl
+lookup-stop B (suc n) c m l = rw (le-leb c (up B c) l) (go (ownOf B c m))
+  where
+    go : (o : Found) → orElse o found.Nothing ≡ o
+    go (found.At b) = refl
+    go found.Nothing = refl
 
 lookup-enough : (B : List ℕ) (n k c m : ℕ) → c ≤ n → c ≤ k → lookupIn B n c m ≡ lookupIn B k c m
 unfolding lookupIn
-lookup-enough B zero zero c m h l = refl
-lookup-enough B zero (suc k) c m h l = rw (le-leb c (up B c) (omega arith)) (go (ownOf B c m))
-  where
-    go : (o : Found) → o ≡ orElse o found.Nothing
-    go (found.At i) = refl
-    go found.Nothing = refl
-lookup-enough B (suc n) zero c m h l = rw (le-leb c (up B c) (omega arith)) (go (ownOf B c m))
-  where
-    go : (o : Found) → orElse o found.Nothing ≡ o
-    go (found.At i) = refl
-    go found.Nothing = refl
+lookup-enough B zero k c m h l = sym (lookup-stop B k c m (omega arith))
+lookup-enough B (suc n) zero c m h l = lookup-stop B (suc n) c m (omega arith)
 lookup-enough B (suc n) (suc k) c m h l = go (leb c (up B c)) refl (lookup-enough B n k (up B c) m)
   where
     go : (b : Bool) → leb c (up B c) ≡ b → (up B c ≤ n → up B c ≤ k → lookupIn B n (up B c) m ≡ lookupIn B k (up B c) m)
@@ -188,35 +183,39 @@ lookup-enough B (suc n) (suc k) c m h l = go (leb c (up B c)) refl (lookup-enoug
     go true q ih = refl
     go false q ih = let z = leb-false c (up B c) q in rw (ih (omega arith) (omega arith))
 
-module _ (B : List ℕ) (c m x : ℕ) (ex : ownOf B c m ≡ numbered x) where
-  lookup-is : (n : ℕ) → (x ≡ 0 → ⊥) → lookupIn B n c m ≡ numbered x
+-- the class in which the search stops
+module _ (B : List ℕ) (c m x : ℕ) (ex : ownOf B c m ≡ numbered c x) where
+  lookup-is : (n : ℕ) → (x ≡ 0 → ⊥) → lookupIn B n c m ≡ ownOf B c m
   unfolding lookupIn
-  lookup-is zero e = ex
+  lookup-is zero e = refl
   lookup-is (suc n) e = rw (ex, ne-eqb x 0 e)
-
-  lookup-stop : (n : ℕ) → x ≡ 0 → c ≤ up B c → lookupIn B n c m ≡ found.Nothing
-  unfolding lookupIn
-  lookup-stop zero e l = ex ∙ rw (eq-eqb x 0 e)
-  lookup-stop (suc n) e l = rw (ex, eq-eqb x 0 e, le-leb c (up B c) l)
 
   lookup-on : (n : ℕ) → n ≡ c → x ≡ 0 → up B c < c → lookupIn B n c m ≡ lookupOf B (up B c) m
   unfolding lookupIn
   lookup-on zero e q l = absurd (omega arith)
   lookup-on (suc n) e q l = rw (ex, eq-eqb x 0 q, lt-leb c (up B c) l) (lookup-enough B n (up B c) (up B c) m (omega arith) (omega arith))
 
-  pub lookup-here : (x ≡ 0 → ⊥) → lookupOf B c m ≡ numbered x
-  lookup-here e = lookup-is c e
+  pub nearest-here : (x ≡ 0 → ⊥) → lookupOf B c m ≡ ownOf B c m
+  nearest-here e = lookup-is c e
 
   module _ (p : ℕ) (ep : p ≡ up B c) where
-    pub lookup-top : x ≡ 0 → c ≤ p → lookupOf B c m ≡ numbered 0
-    lookup-top e l = lookup-stop c e (omega arith)
+    pub nearest-top : c ≤ p → lookupOf B c m ≡ ownOf B c m
+    nearest-top l = lookup-stop B c c m (omega arith)
 
-    pub lookup-above : (r : ℕ) → x ≡ 0 → p < c → lookupOf B p m ≡ numbered r → lookupOf B c m ≡ numbered r
-    lookup-above r e l er = lookup-on c refl e (omega arith) ∙ ap (λ (y : ℕ). lookupOf B y m) (sym ep) ∙ er
+    pub nearest-above : (r : ℕ) → x ≡ 0 → p < c → lookupOf B p m ≡ ownOf B r m → lookupOf B c m ≡ ownOf B r m
+    nearest-above r e l er = lookup-on c refl e (omega arith) ∙ ap (λ (y : ℕ). lookupOf B y m) (sym ep) ∙ er
+
+-- what its index says is the answer
+module _ (B : List ℕ) (c m o x : ℕ) (eo : lookupOf B c m ≡ ownOf B o m) (ex : ownOf B o m ≡ numbered o x) where
+  pub lookup-none : x ≡ 0 → found.Nothing ≡ lookupOf B c m
+  lookup-none z = rw (eo, ex, eq-eqb x 0 z)
+
+  pub lookup-at : (x ≡ 0 → ⊥) → found.At (record { owner = o; number = x - 1 }) ≡ lookupOf B c m
+  lookup-at n = rw (eo, ex, ne-eqb x 0 n)
 
 -- a class byte without a row has none
 pub lookup-past : (B : List ℕ) (c m : ℕ) → classCount < c → lookupOf B c m ≡ found.Nothing
-lookup-past B c m h = lookup-stop B c m 0 (index-past B c m h) c refl (let e = parent-past B c h in omega arith)
+lookup-past B c m h = lookup-stop B c c m (let e = parent-past B c h in omega arith) ∙ index-past B c m h
 
 -- ---- parameters
 module _ (B : List ℕ) (i k : ℕ) where
@@ -235,12 +234,12 @@ module _ (B : List ℕ) (c m n : ℕ) (f : Found) (ef : f ≡ lookupOf B c m) wh
   unfolding methodWith
   with-none e = rw (← ef, e)
 
-  module _ (i x : ℕ) (e : f ≡ found.At i) (ex : x ≡ getD B (rowOf i + 7) 0) where
+  module _ (b : Body) (x : ℕ) (e : f ≡ found.At b) (ex : x ≡ getD B (rowOf (b .number) + 7) 0) where
     pub with-other : (x ≡ n → ⊥) → found.Nothing ≡ methodWith B c m n
     unfolding methodWith
     with-other q = rw (← ef, e, ← ex, ne-eqb x n q)
 
-    pub with-is : x ≡ n → found.At i ≡ methodWith B c m n
+    pub with-is : x ≡ n → found.At b ≡ methodWith B c m n
     unfolding methodWith
     with-is q = rw (← ef, e, ← ex, eq-eqb x n q)
 

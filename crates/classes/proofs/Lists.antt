@@ -3,12 +3,18 @@ use Prim.Native.Nat.{ℕ, zero, suc, _+_, _-_, _<_, _≤_}
 use native.Mathlib.Nat.{not-suc-le-zero}
 use native.Mathlib.Omega.{arith}
 use mathlib.Core.Path.{_≡_, refl, ap, _∙_, subst}
+use mathlib.Core.Bool.{Bool, true, false, _&&_}
 use mathlib.Core.List.{List, [], _∷_, _++_}
-use mathlib.Core.Option.{none, some, Option·none-ne-some}
+use mathlib.Core.Option.{Option, none, some, Option·none-ne-some}
+use lib.Dec.{eqb}
 use lib.ListN.{length, getD, getElem?, set, length-set}
 use lib.Seq.{sets, getD-set-same, getD-set-other}
 use Rattle.cofj.specs.Syntax.{Method}
+use Rattle.cofj.specs.Lookup.{methodOf}
+use Rattle.cofj.specs.Finding.{placeOf}
 use Rattle.cofj.specs.WellFormed.{AllMethods}
+use Rattle.classes.specs.Machine.{pick}
+use Rattle.classes.specs.Layout.{indexFrom}
 
 -- ---- what stands at a place
 module _ {A : Type 0} where
@@ -46,6 +52,24 @@ pub method-at : (P : Method → Type 0) (ds : List Method) (i : ℕ) (d : Method
 method-at P [] i d h e = absurd (Option·none-ne-some d e)
 method-at P (x ∷ ds) zero d h e = let q : x ≡ d = cc in subst P q (h .0)
 method-at P (x ∷ ds) (suc i) d h e = method-at P ds i d (h .1) e
+
+-- ---- the place of a method, by its owner and name
+-- the index of a list of methods, whose first has the number k, is the place of the method that the language finds
+pub index-is : (k : ℕ) (ds : List Method) (c m : ℕ) → indexFrom k ds c m ≡ elim (methodOf ds c m) as (λ _. ℕ) [ none ↦ 0 | some d ↦ suc (k + placeOf ds c m) ]
+unfolding indexFrom methodOf placeOf
+index-is k [] c m = refl
+index-is k (d ∷ ds) c m = go (eqb (d .owner) c && eqb (d .name) m) (index-is (suc k) ds c m)
+  where
+    next : (o : Option Method) (p : ℕ) → _≡_ {A = ℕ} (elim o [ none ↦ 0 | some e ↦ suc (suc k + p) ]) (elim o [ none ↦ 0 | some e ↦ suc (k + suc p) ])
+    next none p = refl
+    next (some e) p = omega arith
+
+    go : (b : Bool) → indexFrom (suc k) ds c m ≡ elim (methodOf ds c m) as (λ _. ℕ) [ none ↦ 0 | some e ↦ suc (suc k + placeOf ds c m) ]
+        → pick b (suc k) (indexFrom (suc k) ds c m)
+        ≡ elim (elim b as (λ _. Option Method) [ true ↦ some d | false ↦ methodOf ds c m ]) as (λ _. ℕ)
+        [ none ↦ 0 | some e ↦ suc (k + elim b as (λ _. ℕ) [ true ↦ 0 | false ↦ suc (placeOf ds c m) ]) ]
+    go true ih = omega arith
+    go false ih = ih ∙ next (methodOf ds c m) (placeOf ds c m)
 
 -- ---- a run of stores
 pub sets-before : (xs B : List ℕ) (at i : ℕ) → i < at → getD (sets B at xs) i 0 ≡ getD B i 0

@@ -1,5 +1,5 @@
 -- The method lines of a text into a table: the language's rules of methods, the rows and the index.
-use Prim.Native.Nat.{ℕ, suc, _+_, _*_, _<_, _≤_, _-_}
+use Prim.Native.Nat.{ℕ, suc, _+_, _*_, _<_, _≤_}
 use native.Mathlib.Omega.{arith}
 use mathlib.Core.Path.{_≡_, refl, sym, ap, ap₂, _∙_}
 use mathlib.Core.Bool.{Bool, true, false, _&&_, _||_, not, true≢false, false≢true}
@@ -15,7 +15,7 @@ use Rattle.cofj.specs.Typing.{closedTag, allClosed}
 use Rattle.cofj.specs.Tables.{known, allKnown, exprKnown, exprsKnown, hasName, methodsGood}
 use Rattle.cofj.specs.Writing.{operationSign, codeOf, codesOf, typesBytes, methodLine, methodLines}
 use Rattle.cofj.specs.WellFormed.{AllMethods}
-use Rattle.cofj.proofs.Partial.{and-true}
+use Rattle.cofj.proofs.Partial.{and-true, or-false}
 use Rattle.cofj.proofs.Passed.{methodRules, method-ruled}
 use Rattle.lineform.specs.Signs.{signRow}
 use Rattle.lineform.specs.Packed.{packed}
@@ -122,10 +122,6 @@ eqb-sym a b = go (eqb b a) refl
 same-sym : (y d : Method) → isAt y (d .owner) (d .name) ≡ eqb (d .owner) (y .owner) && eqb (d .name) (y .name)
 same-sym y d = ap₂ _&&_ (eqb-sym (y .owner) (d .owner)) (eqb-sym (y .name) (d .name))
 
-or-false : (a b : Bool) → a || b ≡ false → (a ≡ false) × (b ≡ false)
-or-false true b e = absurd (true≢false e)
-or-false false b e = (refl, e)
-
 free-index : (d : Method) (k : ℕ) (ms : List Method) → hasName d ms ≡ false → indexFrom k ms (d .owner) (d .name) ≡ 0
 unfolding hasName indexFrom
 free-index d k [] e = refl
@@ -149,7 +145,7 @@ module _ (n : ℕ) (bound : n ≤ classCount) (cs : List Class) (ms : List Metho
   abbrev B : List ℕ
   B = filled 0 0 cs ms []
 
-  own-is : d .owner ≤ n → ownOf B (d .owner) (d .name) ≡ numbered (indexFrom 0 ms (d .owner) (d .name))
+  own-is : d .owner ≤ n → ownOf B (d .owner) (d .name) ≡ numbered (d .owner) (indexFrom 0 ms (d .owner) (d .name))
   own-is h = rw (le-ltb 32 (d .owner) (omega arith), filled-index 0 0 cs ms [] (d .owner) (d .name) (omega arith) (f .name))
 
   pub method-bad : methodRules n d && not (hasName d ms) ≡ false → methodPlaced (methodLine d) (length ms) b n B ≡ placed false B

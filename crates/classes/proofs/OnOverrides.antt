@@ -1,28 +1,31 @@
 -- On a table's bytes the test of overriding is the language's.
 use Prim.Native.Nat.{ℕ, zero, suc, _+_, _*_, _%_, _<_, _≤_}
 use native.Mathlib.Omega.{arith}
-use mathlib.Core.Path.{_≡_, refl, sym, ap, ap₂, _∙_, subst}
+use mathlib.Core.Path.{_≡_, refl, sym, ap, ap₂, _∙_}
 use mathlib.Core.Bool.{Bool, true, false, _&&_}
 use mathlib.Core.List.{List, [], _∷_, _++_}
-use mathlib.Core.Option.{Option, some, Option·none-ne-some}
+use mathlib.Core.Option.{Option, some}
 use lib.Dec.{eqb}
 use lib.ListN.{length, getElem?}
 use borrow.Author.Tests.{eqb-true, eqb-false}
 use Rattle.cofj.specs.Limits.{classCount, methodCount, paramCount, lineSize}
 use Rattle.cofj.specs.Syntax.{Ty, Method, Table, eqTy, eqTys}
-use Rattle.cofj.specs.Classes.{parentOf, lookup}
+use Rattle.cofj.specs.Classes.{parentOf}
+use Rattle.cofj.specs.Lookup as language
 use Rattle.cofj.specs.Tables.{sameTypes, overridesGood}
 use Rattle.cofj.specs.Writing.{codeOf, typesBytes, methodLine}
 use Rattle.cofj.specs.WellFormed.{AllMethods}
 use Rattle.cofj.proofs.Chain.{ParentsSmaller}
+use Rattle.cofj.proofs.Lookup.{owned-of}
 use Rattle.classes.specs.declared.methods.Found.{Found}
 use Rattle.classes.specs.Machine.{rowOf}
 use Rattle.classes.specs.Layout.{layout, Stands, Finds, at, nothing}
 use Rattle.classes.specs.Overriding.{sameFrom, sameAs, sameFound, sameAbove, overridesIn, overridesOf}
+use Rattle.classes.proofs.Lists.{index-below, method-at}
 use Rattle.classes.proofs.Zones.{parent-at, method-count-at, owner-at, name-at, param-count-at, line-stands, stands-moved, stands-front, stands-first, stands-rest}
 use Rattle.classes.proofs.MethodLines.{and-assoc}
 use Rattle.classes.proofs.Laws.{parent-row}
-use Rattle.classes.proofs.OnTables.{Owned, lookup-of}
+use Rattle.classes.proofs.OnTables.{lookup-of}
 
 -- ---- bytes that stand at two places
 same-first : (B : List ℕ) (a b x y k : ℕ) (xs ys : List ℕ) → Stands B a (x ∷ xs) → Stands B b (y ∷ ys) → sameFrom B a b (suc k) ≡ eqb x y && sameFrom B (a + 1) (b + 1) k
@@ -64,20 +67,6 @@ pub record Shaped (d : Method) : Type 0 where
   pub params : length (d .params) ≤ paramCount
   pub short : length (methodLine d) ≤ lineSize
 
-shaped-owned : (ds : List Method) → AllMethods Shaped ds → AllMethods Owned ds
-shaped-owned [] a = tt
-shaped-owned (d ∷ ds) a = (a .0 .owned, shaped-owned ds (a .1))
-
-shaped-at : (ds : List Method) → AllMethods Shaped ds → (i : ℕ) (d : Method) → getElem? ds i ≡ some d → Shaped d
-shaped-at [] a i d e = absurd (Option·none-ne-some d e)
-shaped-at (x ∷ ds) a zero d e = subst Shaped (let z : x ≡ d = cc in z) (a .0)
-shaped-at (x ∷ ds) a (suc i) d e = shaped-at ds (a .1) i d e
-
-within-list : (ds : List Method) (i : ℕ) (d : Method) → getElem? ds i ≡ some d → i < length ds
-within-list [] i d e = absurd (Option·none-ne-some d e)
-within-list (x ∷ ds) zero d e = omega arith
-within-list (x ∷ ds) (suc i) d e = let h = within-list ds i d e in omega arith
-
 module _ (t : Table) (parents : ParentsSmaller (t .classes)) (shaped : AllMethods Shaped (t .methods)) (few : length (t .methods) ≤ methodCount) where
   abbrev B : List ℕ
   B = layout t
@@ -90,8 +79,8 @@ module _ (t : Table) (parents : ParentsSmaller (t .classes)) (shaped : AllMethod
       → Stands B (rowOf i + 3) (d .first .cls ∷ d .first .tag ∷ d .second .cls ∷ d .second .tag ∷ length (d .params) ∷ types d)
   unfolding methodLine
   types-stand i d e =
-      let l = within-list (t .methods) i d e in
-      let s = line-stands t i d (omega arith) e (shaped-at (t .methods) shaped i d e .short) in
+      let l = index-below (t .methods) i d e in
+      let s = line-stands t i d (omega arith) e (method-at Shaped (t .methods) i d shaped e .short) in
       let a = stands-rest B (rowOf i + 1) (d .owner) _ s in
       let b = stands-rest B (rowOf i + 1 + 1) (d .name) _ a in
       stands-moved B _ _ _ (let z : rowOf i + 1 + 1 + 1 ≡ rowOf i + 3 = omega arith in z) b
@@ -133,11 +122,11 @@ module _ (t : Table) (parents : ParentsSmaller (t .classes)) (shaped : AllMethod
       regroup true false e3 e4 z = refl
       regroup true true e3 e4 z = sym (and-assoc e3 e4 z)
 
-  same-methods : (i j : ℕ) (d d′ : Method) → getElem? (t .methods) i ≡ some d → getElem? (t .methods) j ≡ some d′ → sameAs B i j ≡ sameTypes d (some d′)
+  same-methods : (i j o : ℕ) (d d′ : Method) → getElem? (t .methods) i ≡ some d → getElem? (t .methods) j ≡ some d′ → sameAs B i j ≡ sameTypes d (some (language.foundIn o d′))
   unfolding sameAs
-  same-methods i j d d′ e e′ =
-      let l = within-list (t .methods) i d e in
-      let s = shaped-at (t .methods) shaped i d e in
+  same-methods i j o d d′ e e′ =
+      let l = index-below (t .methods) i d e in
+      let s = method-at Shaped (t .methods) i d shaped e in
       let h = s .params in
       let z : 5 + 2 * (length (d .params) % 4) ≡ suc (suc (suc (suc (suc (2 * length (d .params)))))) = omega arith in
       let p = types-stand i d e in
@@ -151,18 +140,18 @@ module _ (t : Table) (parents : ParentsSmaller (t .classes)) (shaped : AllMethod
       after a c w =
           stands-rest B (a + 1 + 1 + 1 + 1) _ _ (stands-rest B (a + 1 + 1 + 1) _ _ (stands-rest B (a + 1 + 1) _ _ (stands-rest B (a + 1) _ _ (stands-rest B a _ _ w))))
 
-  same-found : (i : ℕ) (d : Method) → getElem? (t .methods) i ≡ some d → (r : Found) (o : Option Method) → Finds (t .methods) r o → sameFound B i r ≡ sameTypes d o
-  same-found i d e r o (at {i = j} {d = d′} e′) = same-methods i j d d′ e e′
+  same-found : (i : ℕ) (d : Method) → getElem? (t .methods) i ≡ some d → (r : Found) (o : Option language.Found) → Finds (t .methods) r o → sameFound B i r ≡ sameTypes d o
+  same-found i d e r o (at {o = a} {i = j} {d = d′} e′) = same-methods i j a d d′ e e′
   same-found i d e r o nothing = refl
 
-  above-is : (i : ℕ) (d : Method) → getElem? (t .methods) i ≡ some d → sameAbove B i ≡ sameTypes d (lookup t (parentOf (t .classes) (d .owner)) (d .name))
+  above-is : (i : ℕ) (d : Method) → getElem? (t .methods) i ≡ some d → sameAbove B i ≡ sameTypes d (language.lookup t (parentOf (t .classes) (d .owner)) (d .name))
   unfolding sameAbove
   above-is i d e =
-      let s = shaped-at (t .methods) shaped i d e in
-      let l = within-list (t .methods) i d e in
+      let s = method-at Shaped (t .methods) i d shaped e in
+      let l = index-below (t .methods) i d e in
       let p = parent-small (d .owner) (s .owner) in
       rw (owner-at t i d (omega arith) e, name-at t i d (omega arith) e, sym (parent-row B (d .owner) (s .owner)) ∙ parent-at t (d .owner) (s .owner))
-      (same-found i d e _ _ (lookup-of t parents (shaped-owned (t .methods) shaped) (d .name) (s .name) (parentOf (t .classes) (d .owner)) p))
+      (same-found i d e _ _ (lookup-of t parents (owned-of Shaped (t .methods) (λ d h. h .owned) shaped) (d .name) (s .name) (parentOf (t .classes) (d .owner)) p))
     where
       parent-small : (c : ℕ) → c ≤ classCount → parentOf (t .classes) c ≤ classCount
       parent-small zero h = h

@@ -3,26 +3,32 @@ use Prim.Native.Nat.{ℕ, zero, suc, _+_, _-_, _*_, _<_, _≤_}
 use native.Mathlib.Nat.{not-suc-le-zero}
 use native.Mathlib.Omega.{arith}
 use mathlib.Core.Path.{_≡_, refl, sym, ap, _∙_, subst}
-use mathlib.Core.Bool.{Bool, true, false, _&&_, _||_}
+use mathlib.Core.Bool.{Bool, true, false, _||_}
 use mathlib.Core.List.{List, [], _∷_, _++_}
 use mathlib.Core.Option.{Option, none, some, Option·none-ne-some}
 use lib.Dec.{eqb, leb, ltb}
-use lib.ListN.{length, getElem?, length-append}
+use lib.ListN.{length, getD, getElem?, length-append}
 use borrow.Author.Tests.{le-ltb, le-leb, lt-leb, eqb-true, leb-true, leb-false, ltb-true, ltb-false, ne-eqb}
 use Rattle.cofj.specs.Limits.{classCount, fieldCount, numberClass}
 use Rattle.cofj.specs.Syntax.{Ty, Class, Method, Table}
-use Rattle.cofj.specs.Classes.{parentOr0, parentOf, classAt, ownOrNone, chainHas, classFits, fieldsTo, fieldsOf, methodOf, lookupTo, lookup}
+use Rattle.cofj.specs.Classes.{parentOr0, parentOf, classAt, ownOrNone, chainHas, classFits, fieldsTo, fieldsOf}
+use Rattle.cofj.specs.Lookup as language
+use Rattle.cofj.specs.Lookup.{foundIn, methodOf, lookupTo, lookup}
+use Rattle.cofj.specs.Finding.{placeOf}
 use Rattle.cofj.specs.WellFormed.{AllMethods, WellFormed, MethodFormed}
 use Rattle.cofj.proofs.Chain.{ParentsSmaller, parent-le, past-fits}
-use Rattle.cofj.proofs.Climb.{found, fields-past, lookup-past as past-lookup}
+use Rattle.cofj.proofs.Climb.{fields-past}
+use Rattle.cofj.proofs.Findings.{place-at}
+use Rattle.cofj.proofs.Lookup.{own, found-own, Owned, owned-of, none-at-0, lookup-object, lookup-past as past-lookup}
 use Rattle.classes.specs.declared.chain.FieldFound.the-variants as field
+use Rattle.classes.specs.declared.methods.Body.{Body}
 use Rattle.classes.specs.declared.methods.Found.{Found}
 use Rattle.classes.specs.declared.methods.Found.the-variants as found-as
-use Rattle.classes.specs.Machine.{pick, up, totalOf, typeAt, fitsIn, fitsOf, ownField, fieldIn, fieldOf, numbered, ownOf, orElse, lookupIn, lookupOf}
-use Rattle.classes.specs.Layout.{layout, indexFrom, foundType, Finds, at, nothing}
-use Rattle.classes.proofs.Lists.{at-front, at-after, past, within}
-use Rattle.classes.proofs.Laws.{parent-row, total-past, total-row, fits-zero, fit-past, field-past, lookup-past}
-use Rattle.classes.proofs.Zones.{parent-at, total-at, own-count-at, own-type-at, index-zone}
+use Rattle.classes.specs.Machine.{pick, up, totalOf, typeAt, fitsIn, fitsOf, ownField, fieldIn, fieldOf, numbered, ownOf, orElse, lookupIn, lookupOf, rowOf}
+use Rattle.classes.specs.Layout.{layout, foundType, Finds, at, nothing}
+use Rattle.classes.proofs.Lists.{at-front, at-after, past, within, index-below, index-is}
+use Rattle.classes.proofs.Laws.{parent-row, total-past, total-row, fits-zero, fit-past, field-past, lookup-stop, lookup-past}
+use Rattle.classes.proofs.Zones.{parent-at, total-at, own-count-at, own-type-at, index-zone, owner-at}
 
 -- ---- Object, in the language
 chain-object : (cs : List Class) (n d : ℕ) → chainHas n cs 0 d ≡ eqb 0 d
@@ -168,80 +174,87 @@ module _ (t : Table) (wf : WellFormed t) where
           field-past (layout t) c f h ∙ ap (λ (us : List Ty). foundType (getElem? us f)) (sym (none-past c h))
 
 -- ---- methods
--- what the index says of a list of methods that stands in all of them from number k on
-index-finds : (all : List Method) (k : ℕ) (ds : List Method) (c m : ℕ) → ((i : ℕ) → getElem? all (k + i) ≡ getElem? ds i)
-    → Finds all (numbered (indexFrom k ds c m)) (methodOf ds c m)
-unfolding indexFrom methodOf
-index-finds all k [] c m h = nothing
-index-finds all k (d ∷ ds) c m h =
-    go (eqb (d .owner) c && eqb (d .name) m)
-    (index-finds all (suc k) ds c m (λ i. ap (λ (x : ℕ). getElem? all x) (let q : suc k + i ≡ k + suc i = omega arith in q) ∙ h (suc i)))
-  where
-    here : getElem? all k ≡ some d
-    here = ap (λ (x : ℕ). getElem? all x) (let q : k ≡ k + 0 = omega arith in q) ∙ h 0
+-- where in the bytes the answer of a lookup for the name m stands
+abbrev pub foundAs : Table → ℕ → Option language.Found → Found
+foundAs t m none = found-as.Nothing
+foundAs t m (some f) = found-as.At (record { owner = f .owner; number = placeOf (t .methods) (f .owner) m })
 
-    hit : numbered (suc k) ≡ found-as.At k
-    hit = let q : suc k - 1 ≡ k = omega arith in rw (ne-eqb (suc k) 0 (λ z. omega arith), q)
+-- a method that class c has itself
+abbrev ownIn : ℕ → Option Method → Option language.Found
+ownIn c none = none
+ownIn c (some d) = some (foundIn c d)
 
-    go : (b : Bool) → Finds all (numbered (indexFrom (suc k) ds c m)) (methodOf ds c m)
-        → Finds all (numbered (pick b (suc k) (indexFrom (suc k) ds c m))) (elim b as (λ _. Option Method) [ true ↦ some d | false ↦ methodOf ds c m ])
-    go true ih = rw hit (at here)
-    go false ih = ih
-
--- one after the other
-finds-else : (ds : List Method) {a b : Found} {x y : Option Method} → Finds ds a x → Finds ds b y
-    → Finds ds (orElse a b) (elim x as (λ _. Option Method) [ none ↦ y | some d ↦ some d ])
-finds-else ds (at e) g = at e
-finds-else ds nothing g = g
-
--- a method belongs to a class, not to Object
-abbrev pub Owned : Method → Type 0
-Owned d = 1 ≤ d .owner
-
-module _ (t : Table) (parents : ParentsSmaller (t .classes)) (owned : AllMethods Owned (t .methods)) where
-  none-at-0 : (m : ℕ) → methodOf (t .methods) 0 m ≡ none
-  none-at-0 m = go (methodOf (t .methods) 0 m) refl
+module _ (t : Table) (parents : ParentsSmaller (t .classes)) (owned : AllMethods Owned (t .methods)) (m : ℕ) (small : m < 256) where
+  own-as : (c : ℕ) → c ≤ classCount → ownOf (layout t) c m ≡ foundAs t m (ownIn c (methodOf (t .methods) c m))
+  own-as c h = rw (le-ltb 32 c h, index-zone t c m h small, index-is 0 (t .methods) c m) (go (methodOf (t .methods) c m))
     where
-      go : (o : Option Method) → methodOf (t .methods) 0 m ≡ o → o ≡ none
-      go none q = refl
-      go (some d) q = let f = found Owned (t .methods) owned 0 m d q in absurd (omega (arith, f .0, f .1))
+      go : (o : Option Method) → numbered c (elim o as (λ _. ℕ) [ none ↦ 0 | some d ↦ suc (0 + placeOf (t .methods) c m) ]) ≡ foundAs t m (ownIn c o)
+      go none = refl
+      go (some d) = let p = placeOf (t .methods) c m in let q : suc (0 + p) - 1 ≡ p = omega arith in rw (ne-eqb (suc (0 + p)) 0 (λ z. omega arith), q)
 
-  lookup-object : (n m : ℕ) → lookupTo n t 0 m ≡ none
-  unfolding lookupTo
-  lookup-object zero m = refl
-  lookup-object (suc n) m = rw (none-at-0 m, lookupTo) (lookup-object n m)
+  -- Object has none
+  object-as : (n : ℕ) → lookupIn (layout t) n 0 m ≡ foundAs t m (lookupTo n t 0 m)
+  object-as n =
+      lookup-stop (layout t) n 0 m (omega arith)
+      ∙ own-as 0 (omega arith)
+      ∙ rw (none-at-0 t owned m, lookup-object t owned n m)
 
-  module _ (m : ℕ) (small : m < 256) where
-    own-finds : (c : ℕ) → c ≤ classCount → Finds (t .methods) (ownOf (layout t) c m) (methodOf (t .methods) c m)
-    own-finds c h =
-        rw (le-ltb 32 c h, index-zone t c m h small)
-        (index-finds (t .methods) 0 (t .methods) c m (λ i. ap (λ (x : ℕ). getElem? (t .methods) x) (let q : 0 + i ≡ i = omega arith in q)))
+  lookup-as : (n c : ℕ) → c ≤ n → c ≤ classCount → lookupIn (layout t) n c m ≡ foundAs t m (lookupTo n t c m)
+  unfolding lookupIn lookupTo
+  lookup-as zero c l h = let e : c ≡ 0 = omega arith in rw e (object-as 0)
+  lookup-as (suc n) zero l h = object-as (suc n)
+  lookup-as (suc n) (suc k) l h =
+      let p = parents k in
+      rw (own-as (suc k) h, up-is t parents k h, lt-leb (suc k) (parentOf (t .classes) (suc k)) (omega arith))
+      (go (methodOf (t .methods) (suc k) m) (lookup-as n (parentOf (t .classes) (suc k)) (omega arith) (omega arith)))
+    where
+      go : (o : Option Method) → lookupIn (layout t) n (parentOf (t .classes) (suc k)) m ≡ foundAs t m (lookupTo n t (parentOf (t .classes) (suc k)) m)
+          → orElse (foundAs t m (ownIn (suc k) o)) (lookupIn (layout t) n (parentOf (t .classes) (suc k)) m)
+          ≡ foundAs t m (elim o as (λ _. Option language.Found) [ none ↦ lookupTo n t (parentOf (t .classes) (suc k)) m | some d ↦ some (foundIn (suc k) d) ])
+      go none ih = ih
+      go (some d) ih = refl
 
-    lookup-in : (n c : ℕ) → c ≤ n → c ≤ classCount → Finds (t .methods) (lookupIn (layout t) n c m) (lookupTo n t c m)
-    unfolding lookupIn lookupTo
-    lookup-in zero c l h =
-        let e : c ≡ 0 = omega arith in
-        subst (λ (o : Option Method). Finds (t .methods) (ownOf (layout t) c m) o) (rw e (none-at-0 m)) (own-finds c h)
-    lookup-in (suc n) zero l h =
-        finds-else (t .methods) (own-finds 0 h) (rw (le-leb 0 (up (layout t) 0) (omega arith), lookup-object n m) nothing)
-    lookup-in (suc n) (suc k) l h =
-        let p = parents k in
-        finds-else (t .methods) (own-finds (suc k) h)
-        (rw (up-is t parents k h, lt-leb (suc k) (parentOf (t .classes) (suc k)) (omega arith)) (lookup-in n (parentOf (t .classes) (suc k)) (omega arith) (omega arith)))
-
-    pub lookup-of : (c : ℕ) → c ≤ classCount → Finds (t .methods) (lookupOf (layout t) c m) (lookup t c m)
-    lookup-of c h = lookup-in c c (omega arith) h
-
-owned-of : (P : Method → Type 0) (ds : List Method) → ((d : Method) → P d → Owned d) → AllMethods P ds → AllMethods Owned ds
-owned-of P [] h a = tt
-owned-of P (d ∷ ds) h a = (h d (a .0), owned-of P ds h (a .1))
-
-pub lookup-on : (t : Table) → WellFormed t → (m : ℕ) → m < 256 → (c : ℕ) → Finds (t .methods) (lookupOf (layout t) c m) (lookup t c m)
-lookup-on t wf m small c = go (leb c classCount) refl
+-- the same as a relation
+finds-as : (t : Table) (c m : ℕ) → Finds (t .methods) (foundAs t m (lookup t c m)) (lookup t c m)
+finds-as t c m = go (lookup t c m) refl
   where
-    go : (b : Bool) → leb c classCount ≡ b → Finds (t .methods) (lookupOf (layout t) c m) (lookup t c m)
-    go true q = lookup-of t (wf .parents) (owned-of (MethodFormed t) (t .methods) (λ d f. f .owned) (wf .methods)) m small c (leb-true c classCount q)
-    go false q =
-        let h = leb-false c classCount q in
-        let l = wf .classes in
-        rw (lookup-past (layout t) c m h, past-lookup t wf c m (omega arith)) nothing
+    go : (o : Option language.Found) → lookup t c m ≡ o → Finds (t .methods) (foundAs t m o) o
+    go none q = nothing
+    go (some f) q = at (place-at (t .methods) (f .owner) m (f .body) (found-own t c c m f q))
+
+pub lookup-of : (t : Table) → ParentsSmaller (t .classes) → AllMethods Owned (t .methods) → (m : ℕ) → m < 256 → (c : ℕ) → c ≤ classCount
+    → Finds (t .methods) (lookupOf (layout t) c m) (lookup t c m)
+lookup-of t parents owned m small c h = rw (lookup-as t parents owned m small c c (omega arith) h) (finds-as t c m)
+
+-- ---- a table that was read
+module _ (t : Table) (wf : WellFormed t) (m : ℕ) (small : m < 256) (c : ℕ) where
+  pub found-on : lookupOf (layout t) c m ≡ foundAs t m (lookup t c m)
+  found-on = go (leb c classCount) refl
+    where
+      go : (b : Bool) → leb c classCount ≡ b → lookupOf (layout t) c m ≡ foundAs t m (lookup t c m)
+      go true q =
+          lookup-as t (wf .parents) (owned-of (MethodFormed t) (t .methods) (λ d f. f .owned) (wf .methods)) m small c c (omega arith) (leb-true c classCount q)
+      go false q =
+          let h = leb-false c classCount q in
+          let l = wf .classes in
+          rw (lookup-past (layout t) c m h, past-lookup t wf c m (omega arith))
+
+  pub lookup-on : Finds (t .methods) (lookupOf (layout t) c m) (lookup t c m)
+  lookup-on = rw found-on (finds-as t c m)
+
+  -- the class where the search stops is the owner that the method's row names
+  pub row-owner : (b : Body) → lookupOf (layout t) c m ≡ found-as.At b → getD (layout t) (rowOf (b .number) + 1) 0 ≡ b .owner
+  row-owner b e = subst Named (sym found-on ∙ e) (go (lookup t c m) refl)
+    where
+      Named : Found → Type 0
+      Named (found-as.At x) = getD (layout t) (rowOf (x .number) + 1) 0 ≡ x .owner
+      Named found-as.Nothing = Unit {0}
+
+      go : (o : Option language.Found) → lookup t c m ≡ o → Named (foundAs t m o)
+      go none q = tt
+      go (some f) q =
+          let d = found-own t c c m f q in
+          let p = place-at (t .methods) (f .owner) m (f .body) d in
+          let l = index-below (t .methods) (placeOf (t .methods) (f .owner) m) (f .body) p in
+          let k = wf .count in
+          owner-at t (placeOf (t .methods) (f .owner) m) (f .body) (omega arith) p ∙ own (MethodFormed t) (t .methods) (wf .methods) (f .owner) m (f .body) d .1

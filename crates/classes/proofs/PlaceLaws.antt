@@ -10,9 +10,7 @@ use lib.ListN.{length, getD, drop, set}
 use lib.Seq.{sets}
 use borrow.Author.Tests.{eq-eqb, ne-eqb, lt-ltb, le-ltb, le-leb, lt-leb}
 use Rattle.cofj.specs.Typing.{closedTag}
-use Rattle.classes.specs.declared.methods.Found.{Found}
-use Rattle.classes.specs.declared.methods.Found.the-variants as found
-use Rattle.classes.specs.Machine.{Wide, pick, ownOf}
+use Rattle.classes.specs.Machine.{Wide, pick, numbered, ownOf}
 use Rattle.classes.specs.Placing.{knownClass, goodTypes, scan, headGood, methodGood, placed, above, classGood, classPut, classPlaced, indexPut, methodPut, methodFree, methodPlaced, inputFits, mainPut, mainPlaced}
 use Rattle.classes.specs.Layout.{aheadOf}
 use Rattle.classes.proofs.LineLaws.{more, no-more, not-true, not-false}
@@ -120,25 +118,25 @@ module _ (l B : List ℕ) (i b n : ℕ) where
     unfolding methodPlaced
     method-refused e = rw (good-both n l, ← eg, not-true g e)
 
-    module _ (h : not g ≡ false) (f : Found) (ef : f ≡ ownOf B (getD l 1 0) (getD l 2 0)) where
+    module _ (h : not g ≡ false) (x : ℕ) (ex : ownOf B (getD l 1 0) (getD l 2 0) ≡ numbered (getD l 1 0) x) where
       -- by whether the classes are known
-      by : (x : Bool) → x ≡ scan n 0 (drop (8 + 2 * getD l 7 0) l) → methodPlaced l i b n B ≡ pick x (methodFree l i b B f) (placed false B)
+      by : (k : Bool) → k ≡ scan n 0 (drop (8 + 2 * getD l 7 0) l) → methodPlaced l i b n B ≡ pick k (methodFree l i b B (numbered (getD l 1 0) x)) (placed false B)
       unfolding methodPlaced
-      by x e = rw (good-both n l, ← eg, not-false g h, ← e, ← ef)
+      by k e = rw (good-both n l, ← eg, not-false g h, ← e, ex)
 
-      pub method-twice : (j : ℕ) → f ≡ found.At j → placed false B ≡ methodPlaced l i b n B
-      method-twice j e = sym (by (scan n 0 (drop (8 + 2 * getD l 7 0) l)) refl ∙ rw e (go (scan n 0 (drop (8 + 2 * getD l 7 0) l))))
+      pub method-twice : (x ≡ 0 → ⊥) → placed false B ≡ methodPlaced l i b n B
+      method-twice e = sym (by (scan n 0 (drop (8 + 2 * getD l 7 0) l)) refl ∙ rw (ne-eqb x 0 e) (go (scan n 0 (drop (8 + 2 * getD l 7 0) l))))
         where
-          go : (x : Bool) → pick x (placed false B) (placed false B) ≡ placed false B
+          go : (k : Bool) → pick k (placed false B) (placed false B) ≡ placed false B
           go true = refl
           go false = refl
 
-      module _ (e : f ≡ found.Nothing) (k : Bool) (ek : k ≡ scan n 0 (drop (8 + 2 * getD l 7 0) l)) where
+      module _ (e : x ≡ 0) (k : Bool) (ek : k ≡ scan n 0 (drop (8 + 2 * getD l 7 0) l)) where
         pub method-unknown : not k ≡ true → placed false B ≡ methodPlaced l i b n B
         method-unknown z = sym (by k ek ∙ rw (not-true k z))
 
         pub method-placed : (T U : List ℕ) → not k ≡ false → T ≡ indexPut (getD l 1 0) (getD l 2 0) (i + 1) B → U ≡ methodPut l i b T → placed true U ≡ methodPlaced l i b n B
-        method-placed T U z eT eU = sym (by k ek ∙ rw (not-false k z, e) (sym (ap (λ (x : List ℕ). placed true x) (eU ∙ ap (λ (x : List ℕ). methodPut l i b x) eT))))
+        method-placed T U z eT eU = sym (by k ek ∙ rw (not-false k z, eq-eqb x 0 e) (sym (ap (λ (y : List ℕ). placed true y) (eU ∙ ap (λ (y : List ℕ). methodPut l i b y) eT))))
 
 -- ---- main
 pub no-ahead : (l : List ℕ) → length l ≡ 0 → 0 ≡ aheadOf l

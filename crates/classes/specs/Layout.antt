@@ -8,6 +8,7 @@ use lib.Dec.{eqb, ltb}
 use lib.ListN.{length, getD, getElem?}
 use Rattle.cofj.specs.Syntax.{Ty, Class, Method, Table}
 use Rattle.cofj.specs.Classes.{parentOf, classAt, ownOrNone, fieldsOf}
+use Rattle.cofj.specs.Lookup as language
 use Rattle.cofj.specs.Writing.{codeOf, typesBytes, methodLine, mainLine}
 use Rattle.cofj.specs.WellFormed.{WellFormed}
 use Rattle.classes.specs.declared.chain.FieldType.{FieldType}
@@ -96,8 +97,8 @@ pub record Tabled (T : List ℕ) (t : Table) : Type 0 where
   pub bytes : T ≡ layout t
 
 -- ---- what a lookup finds, in bytes and in the language
-pub data Finds (ds : List Method) : Found → Option Method → Type 0 where
-  at : {i : ℕ} {d : Method} → getElem? ds i ≡ some d → Finds ds (found.At i) (some d)
+pub data Finds (ds : List Method) : Found → Option language.Found → Type 0 where
+  at : {o i : ℕ} {d : Method} → getElem? ds i ≡ some d → Finds ds (found.At (record { owner = o; number = i })) (some (language.foundIn o d))
   nothing : Finds ds found.Nothing none
 
 abbrev pub foundType : Option Ty → FieldFound

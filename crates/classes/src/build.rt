@@ -9,7 +9,7 @@ use crate::places::SIZE;
 use crate::places::wide;
 use lineform::lines::RIGHTS;
 ghost use mathlib.Core.Path.{_≡_};
-ghost use Prim.Native.Nat.{ℕ, _≤_};
+ghost use Prim.Native.Nat.{_≤_};
 ghost use lib.ListN.{getD, set};
 ghost use Rattle.cofj.specs.Limits.{classCount, methodCount};
 ghost use Rattle.classes.specs.Figures.{classCountAt, methodCountAt};

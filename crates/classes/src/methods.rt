@@ -1,4 +1,4 @@
-// Method lookup, and the parts of a method and of main at their places in their rows.
+// Where a method is found, and the parts of a method and of main at their places in their rows.
 // Not here: class fit and fields (chain).
 use crate::chain::FieldFound;
 use crate::chain::FieldType;
@@ -15,15 +15,21 @@ ghost use Prim.Native.Nat.{_+_, _*_, _<_};
 ghost use lib.ListN.{getD};
 ghost use Rattle.classes.specs.Machine.{numbered, ownOf, lookupOf, methodWith, rowOf, typeAt, paramOf, leftOf, rightOf, mainPlace, inputType};
 
-// The number of a method, in file order.
+// A method that was found: the class in which the search stopped, which owns it, and its number in file order.
+pub struct Body {
+    pub owner: u8,
+    pub number: u8,
+}
+
+// What a search answers.
 pub enum Found {
-    At(u8),
+    At(Body),
     Nothing,
 }
 
 // What the index of class c says of the name m: a method's number and 1, or 0.
 pub(crate) fn own_number(t: &[u8; SIZE], c: u8, m: u8) -> u8
-    ensures { λ r. ⌜ ownOf (now (t .entry)) c m ≡ numbered r ⌝ }
+    ensures { λ r. ⌜ ownOf (now (t .entry)) c m ≡ numbered c r ⌝ }
 {
     if CLASSES < c {
         return 0;
@@ -31,41 +37,33 @@ pub(crate) fn own_number(t: &[u8; SIZE], c: u8, m: u8) -> u8
     t[INDEX + LONG * (c as usize) + (m as usize)]
 }
 
-// The method with the name m that class c itself declares.
-pub(crate) fn own_method(t: &[u8; SIZE], c: u8, m: u8) -> Found
-    ensures { λ r. ⌜ r ≡ ownOf (now (t .entry)) c m ⌝ }
+// Class c or the nearest class above it that has a method m itself; where none has, the last class of the chain.
+pub(crate) fn nearest(t: &[u8; SIZE], c: u8, m: u8) -> u8
+    ensures { λ r. ⌜ lookupOf (now (t .entry)) c m ≡ ownOf (now (t .entry)) r m ⌝ }
 {
-    let x = own_number(t, c, m);
-    if x == 0 {
-        return Found::Nothing;
-    }
-    Found::At(x - 1)
-}
-
-// The same of class c or of the nearest class above it that has such a method.
-pub(crate) fn lookup_number(t: &[u8; SIZE], c: u8, m: u8) -> u8
-    ensures { λ r. ⌜ lookupOf (now (t .entry)) c m ≡ numbered r ⌝ }
-{
-    let x = own_number(t, c, m);
-    if x != 0 {
-        return x;
+    if own_number(t, c, m) != 0 {
+        return c;
     }
     let p = parent(t, c);
     if c <= p {
-        return 0;
+        return c;
     }
-    lookup_number(t, p, m)
+    nearest(t, p, m)
 }
 
-// The method with the name m of class c or of the nearest class above it.
-pub(crate) fn lookup(t: &[u8; SIZE], c: u8, m: u8) -> Found
+// The method m of class c or of the nearest class above it. Its owner is the class where the search stopped, whatever its row says.
+pub fn lookup(t: &[u8; SIZE], c: u8, m: u8) -> Found
     ensures { λ r. ⌜ r ≡ lookupOf (now (t .entry)) c m ⌝ }
 {
-    let x = lookup_number(t, c, m);
+    let owner = nearest(t, c, m);
+    let x = own_number(t, owner, m);
     if x == 0 {
         return Found::Nothing;
     }
-    Found::At(x - 1)
+    Found::At(Body {
+        owner,
+        number: x - 1,
+    })
 }
 
 // ---- the parts of method i: its row begins at METHODS + LONG * i, a number past the rows taken around
@@ -111,18 +109,18 @@ pub(crate) fn param_count(t: &[u8; SIZE], i: u8) -> u8
     t[METHODS + LONG * ((i % 64) as usize) + 7]
 }
 
-// The method with the name m and n parameters that class c has, its own or the nearest above.
+// The same, if it has n parameters.
 pub fn method_with(t: &[u8; SIZE], c: u8, m: u8, n: u8) -> Found
     ensures { λ r. ⌜ r ≡ methodWith (now (t .entry)) c m n ⌝ }
 {
     let f = lookup(t, c, m);
-    let Found::At(i) = f else {
+    let Found::At(found) = f else {
         return Found::Nothing;
     };
-    if param_count(t, i) != n {
+    if param_count(t, found.number) != n {
         return Found::Nothing;
     }
-    Found::At(i)
+    Found::At(found)
 }
 
 // The type of parameter k of method i. There are at most three.

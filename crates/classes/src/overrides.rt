@@ -11,7 +11,7 @@ use crate::places::METHODS;
 use crate::places::SIZE;
 use crate::places::wide;
 ghost use mathlib.Core.Path.{_≡_};
-ghost use Prim.Native.Nat.{ℕ, _≤_, _+_};
+ghost use Prim.Native.Nat.{_≤_, _+_};
 ghost use Rattle.classes.specs.Figures.{tableSize};
 ghost use Rattle.classes.specs.Overriding.{sameFrom, sameAs, sameAbove};
 ghost use Rattle.classes.specs.Made.{Overrides};
@@ -46,10 +46,10 @@ pub(crate) fn same_above(t: &[u8; SIZE], i: u8) -> bool
 {
     let p = parent(t, owner(t, i));
     let f = lookup(t, p, name(t, i));
-    let Found::At(j) = f else {
+    let Found::At(above) = f else {
         return true;
     };
-    same_types(t, i, j)
+    same_types(t, i, above.number)
 }
 
 // Whether all methods do.

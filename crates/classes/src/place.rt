@@ -4,8 +4,7 @@ use crate::chain::field_total;
 use crate::known::all_known;
 use crate::known::head_good;
 use crate::known::types_good;
-use crate::methods::Found;
-use crate::methods::own_method;
+use crate::methods::own_number;
 use crate::places::CLASSES;
 use crate::places::FIELDS;
 use crate::places::INDEX;
@@ -18,7 +17,7 @@ use crate::places::SIZE;
 use crate::places::wide;
 use lineform::lines::RIGHTS;
 ghost use mathlib.Core.Path.{_≡_};
-ghost use Prim.Native.Nat.{ℕ, _≤_, _<_, _+_, _*_};
+ghost use Prim.Native.Nat.{_≤_, _<_, _+_, _*_};
 ghost use lib.ListN.{length, getD, drop};
 ghost use lib.Seq.{sets};
 ghost use Rattle.cofj.specs.Limits.{classCount, methodCount, lineSize};
@@ -130,10 +129,9 @@ pub(crate) fn place_method(
     }
     let c = l[1];
     let m = l[2];
-    let f = own_method(t, c, m);
-    let Found::Nothing = f else {
+    if own_number(t, c, m) != 0 {
         return false;
-    };
+    }
     if !bodies_known(l, n) {
         return false;
     }

@@ -1,227 +1,27 @@
 -- Every row of the table holds of the definitions, by computation; and what `linerun` writes for some input.
 use mathlib.Core.Path.{_≡_, refl, subst⁻¹}
 use mathlib.Core.Logic.{_⊎_, inl, inr}
-use mathlib.Core.List.{List, [], _∷_, List·Memᴰ, List·Memᴰ·cases-cons, List·Memᴰ·not-nil}
+use mathlib.Core.List.{List, [], _∷_, map, List·Memᴰ, List·Memᴰ·cases-cons, List·Memᴰ·not-nil}
 use Rattle.cofj.specs.Values.{Graph, graph, node, obj, make, close, markOf}
 use Rattle.cofj.specs.Bytes.{bytes}
 use Rattle.cofj.specs.Show.{linerun}
-use Rattle.cofj.specs.Rows.{Row, Holds, shown, rows, row-a, row-b, row-c, row-d, row-e, row-e-z, row-f, row-f-trial, row-g, row-i, row-j-16, row-j-17, row-h-32, row-h-33, row-ring-cut, row-ring, row-met, row-met-3, row-minus, row-plus, row-plus-trial, row-unreached, row-no-part, row-two-places, row-one-place, row-untyped-checked, row-untyped, row-number, row-number-bytes, row-sum, row-overflow, row-difference, row-equal-numbers, row-other-numbers, row-count, row-ring-of-numbers, row-choose-first, row-choose-second, row-choose-neither, row-no-object, row-no-object-trial, row-sum-first, row-sum-both, row-thirteen, row-given-number, row-given-cut, row-given-none, row-given-part, row-given-two, row-given-class}
+use Rattle.cofj.specs.Rows.{Row, shown, given, said, Holds, rows}
 
-abbrev pub AllHold : List Row → Type 0
-AllHold [] = Unit {0}
-AllHold (r ∷ rs) = Holds r × AllHold rs
-
-pub each : (rs : List Row) → AllHold rs → (r : Row) → List·Memᴰ r rs → Holds r
-each [] h r m = absurd (List·Memᴰ·not-nil m)
-each (x ∷ xs) h r m = go (List·Memᴰ·cases-cons m) (each xs (h .1) r)
+each : (rs : List Row) → map given rs ≡ map said rs → (r : Row) → List·Memᴰ r rs → Holds r
+each [] e r m = absurd (List·Memᴰ·not-nil m)
+each (x ∷ xs) e r m = go (List·Memᴰ·cases-cons m) (each xs (let z : map given xs ≡ map said xs = cc in z) r)
   where
     go : (r ≡ x) ⊎ List·Memᴰ r xs → (List·Memᴰ r xs → Holds r) → Holds r
-    go (inl e) ih = subst⁻¹ Holds e (h .0)
-    go (inr t) ih = ih t
+    go (inl q) ih = subst⁻¹ Holds q (let z : given x ≡ said x = cc in z)
+    go (inr n) ih = ih n
 
-holds-a : Holds row-a
+all-given : map given rows ≡ map said rows
 unfolding shown bytes
-holds-a = refl
-
-holds-b : Holds row-b
-unfolding shown bytes
-holds-b = refl
-
-holds-c : Holds row-c
-unfolding shown bytes
-holds-c = refl
-
-holds-d : Holds row-d
-unfolding shown bytes
-holds-d = refl
-
-holds-e : Holds row-e
-unfolding shown bytes
-holds-e = refl
-
-holds-e-z : Holds row-e-z
-unfolding shown bytes
-holds-e-z = refl
-
-holds-f : Holds row-f
-unfolding shown bytes
-holds-f = refl
-
-holds-f-trial : Holds row-f-trial
-unfolding shown bytes
-holds-f-trial = refl
-
-holds-g : Holds row-g
-unfolding shown bytes
-holds-g = refl
-
-holds-i : Holds row-i
-unfolding shown bytes
-holds-i = refl
-
-holds-j-16 : Holds row-j-16
-unfolding shown bytes
-holds-j-16 = refl
-
-holds-j-17 : Holds row-j-17
-unfolding shown bytes
-holds-j-17 = refl
-
-holds-h-32 : Holds row-h-32
-unfolding shown bytes
-holds-h-32 = refl
-
-holds-h-33 : Holds row-h-33
-unfolding shown bytes
-holds-h-33 = refl
-
-holds-ring-cut : Holds row-ring-cut
-unfolding shown bytes
-holds-ring-cut = refl
-
-holds-ring : Holds row-ring
-unfolding shown bytes
-holds-ring = refl
-
-holds-met : Holds row-met
-unfolding shown bytes
-holds-met = refl
-
-holds-met-3 : Holds row-met-3
-unfolding shown bytes
-holds-met-3 = refl
-
-holds-minus : Holds row-minus
-unfolding shown bytes
-holds-minus = refl
-
-holds-plus : Holds row-plus
-unfolding shown bytes
-holds-plus = refl
-
-holds-plus-trial : Holds row-plus-trial
-unfolding shown bytes
-holds-plus-trial = refl
-
-holds-unreached : Holds row-unreached
-unfolding shown bytes
-holds-unreached = refl
-
-holds-no-part : Holds row-no-part
-unfolding shown bytes
-holds-no-part = refl
-
-holds-two-places : Holds row-two-places
-unfolding shown bytes
-holds-two-places = refl
-
-holds-one-place : Holds row-one-place
-unfolding shown bytes
-holds-one-place = refl
-
-holds-untyped-checked : Holds row-untyped-checked
-unfolding shown bytes
-holds-untyped-checked = refl
-
-holds-untyped : Holds row-untyped
-unfolding shown bytes
-holds-untyped = refl
-
-holds-number : Holds row-number
-unfolding shown bytes
-holds-number = refl
-
-holds-number-bytes : Holds row-number-bytes
-unfolding shown bytes
-holds-number-bytes = refl
-
-holds-sum : Holds row-sum
-unfolding shown bytes
-holds-sum = refl
-
-holds-overflow : Holds row-overflow
-unfolding shown bytes
-holds-overflow = refl
-
-holds-difference : Holds row-difference
-unfolding shown bytes
-holds-difference = refl
-
-holds-equal-numbers : Holds row-equal-numbers
-unfolding shown bytes
-holds-equal-numbers = refl
-
-holds-other-numbers : Holds row-other-numbers
-unfolding shown bytes
-holds-other-numbers = refl
-
-holds-count : Holds row-count
-unfolding shown bytes
-holds-count = refl
-
-holds-ring-of-numbers : Holds row-ring-of-numbers
-unfolding shown bytes
-holds-ring-of-numbers = refl
-
-holds-choose-first : Holds row-choose-first
-unfolding shown bytes
-holds-choose-first = refl
-
-holds-choose-second : Holds row-choose-second
-unfolding shown bytes
-holds-choose-second = refl
-
-holds-choose-neither : Holds row-choose-neither
-unfolding shown bytes
-holds-choose-neither = refl
-
-holds-no-object : Holds row-no-object
-unfolding shown bytes
-holds-no-object = refl
-
-holds-no-object-trial : Holds row-no-object-trial
-unfolding shown bytes
-holds-no-object-trial = refl
-
-holds-sum-first : Holds row-sum-first
-unfolding shown bytes
-holds-sum-first = refl
-
-holds-sum-both : Holds row-sum-both
-unfolding shown bytes
-holds-sum-both = refl
-
-holds-thirteen : Holds row-thirteen
-unfolding shown bytes
-holds-thirteen = refl
-
-holds-given-number : Holds row-given-number
-unfolding shown bytes
-holds-given-number = refl
-
-holds-given-cut : Holds row-given-cut
-unfolding shown bytes
-holds-given-cut = refl
-
-holds-given-none : Holds row-given-none
-unfolding shown bytes
-holds-given-none = refl
-
-holds-given-part : Holds row-given-part
-unfolding shown bytes
-holds-given-part = refl
-
-holds-given-two : Holds row-given-two
-unfolding shown bytes
-holds-given-two = refl
-
-holds-given-class : Holds row-given-class
-unfolding shown bytes
-holds-given-class = refl
+all-given = refl
 
 -- the theorem of the table
 pub all-rows : (r : Row) → List·Memᴰ r rows → Holds r
-all-rows = each rows (holds-a, (holds-b, (holds-c, (holds-d, (holds-e, (holds-e-z, (holds-f, (holds-f-trial, (holds-g, (holds-i, (holds-j-16, (holds-j-17, (holds-h-32, (holds-h-33, (holds-ring-cut, (holds-ring, (holds-met, (holds-met-3, (holds-minus, (holds-plus, (holds-plus-trial, (holds-unreached, (holds-no-part, (holds-two-places, (holds-one-place, (holds-untyped-checked, (holds-untyped, (holds-number, (holds-number-bytes, (holds-sum, (holds-overflow, (holds-difference, (holds-equal-numbers, (holds-other-numbers, (holds-count, (holds-ring-of-numbers, (holds-choose-first, (holds-choose-second, (holds-choose-neither, (holds-no-object, (holds-no-object-trial, (holds-sum-first, (holds-sum-both, (holds-thirteen, (holds-given-number, (holds-given-cut, (holds-given-none, (holds-given-part, (holds-given-two, (holds-given-class, tt))))))))))))))))))))))))))))))))))))))))))))))))))
+all-rows = each rows all-given
 
 -- ---- `linerun`, which cuts its input in two
 -- both texts in one input

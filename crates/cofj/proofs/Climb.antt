@@ -1,18 +1,20 @@
--- Class fit is transitive; a class below has the fields and the methods, with the same types, of the class that it fits.
+-- Class fit is an order: transitive, downward in the class numbers, and of two classes above one, one is above the other. A class below has the fields of
+-- the class that it fits. Not here: methods (Lookup).
 use Prim.Native.Nat.{ℕ, zero, suc, _≤_, _<_}
 use native.Mathlib.Nat.{not-suc-le-zero}
 use native.Mathlib.Omega.{arith}
+use native.Mathlib.Decide.{ℕ-discrete}
 use mathlib.Core.Path.{_≡_, refl, sym, ap, _∙_, subst}
-use mathlib.Core.Bool.{Bool, true, false, _&&_, false≢true}
+use mathlib.Core.Bool.{Bool, true, false, false≢true}
 use mathlib.Core.List.{List, [], _∷_, _++_}
 use mathlib.Core.Option.{Option, none, some, Option·none-ne-some}
+use mathlib.Core.Logic.{_⊎_, inl, inr}
 use lib.Dec.{eqb}
 use lib.ListN.{length, getElem?}
-use borrow.Author.Tests.{eqb-true, eqb-false}
-use Rattle.cofj.specs.Syntax.{Ty, ty, Class, Method, Table, eqTy, eqTys}
-use Rattle.cofj.specs.Classes.{classFits, chainHas, parentOr0, parentOf, classAt, ownOrNone, fieldsTo, fieldsOf, methodOf, lookupTo, lookup}
-use Rattle.cofj.specs.Tables.{sameTypes}
-use Rattle.cofj.specs.WellFormed.{Tags, AllMethods, MethodFormed, WellFormed}
+use borrow.Author.Tests.{eqb-true, eqb-false, ne-eqb}
+use Rattle.cofj.specs.Syntax.{Ty, ty, Class, Table, eqTy, eqTys}
+use Rattle.cofj.specs.Classes.{classFits, chainHas, parentOr0, parentOf, classAt, ownOrNone, fieldsTo, fieldsOf}
+use Rattle.cofj.specs.WellFormed.{Tags, WellFormed}
 use Rattle.cofj.proofs.Chain.{ParentsSmaller, parent-le, class-past, fits-self, fits-above}
 use Rattle.cofj.proofs.Partial.{and-true}
 
@@ -62,6 +64,36 @@ module _ (cs : List Class) (h : ParentsSmaller cs) where
 
   pub fits-trans : (c d e : ℕ) → classFits cs c d ≡ true → classFits cs d e ≡ true → classFits cs c e ≡ true
   fits-trans c d e p q = climb cs h d (λ x. classFits cs x e ≡ true) q (λ k x r z. fits-up k e x r z) c p
+
+  -- what stands above a class is that class or stands above its parent
+  pub fits-on : (k e : ℕ) → (suc k ≡ e → ⊥) → classFits cs (suc k) e ≡ true → (x : Class) × (classAt cs (suc k) ≡ some x) × (classFits cs (parentOf cs (suc k)) e ≡ true)
+  unfolding chainHas
+  fits-on k e n z = go (classAt cs (suc k)) refl
+    where
+      go : (o : Option Class) → classAt cs (suc k) ≡ o → (x : Class) × (classAt cs (suc k) ≡ some x) × (classFits cs (parentOf cs (suc k)) e ≡ true)
+      go none q = absurd (false≢true (rw (ne-eqb (suc k) e n, chainHas, q) at z))
+      go (some x) q = (x, q, sym (fits-above cs h k e x q n) ∙ z)
+
+  pub fits-or : (c e : ℕ) → classFits cs c e ≡ true → (c ≡ e) ⊎ (classFits cs (parentOf cs c) e ≡ true)
+  fits-or zero e z = inr z
+  fits-or (suc k) e z = go (ℕ-discrete (suc k) e)
+    where
+      go : Dec (suc k ≡ e) → (suc k ≡ e) ⊎ (classFits cs (parentOf cs (suc k)) e ≡ true)
+      go (yes q) = inl q
+      go (no n) = inr (fits-on k e n z .2)
+
+  pub fits-le : (c d : ℕ) → classFits cs c d ≡ true → d ≤ c
+  fits-le c d z = climb cs h d (λ x. d ≤ x) (omega arith) (λ k x q l. omega (arith, h k)) c z
+
+  pub fits-linear : (c d e : ℕ) → classFits cs c d ≡ true → classFits cs c e ≡ true → (classFits cs d e ≡ true) ⊎ (classFits cs e d ≡ true)
+  fits-linear c d e p q =
+      climb cs h d (λ x. (classFits cs x d ≡ true) × (classFits cs x e ≡ true → (classFits cs d e ≡ true) ⊎ (classFits cs e d ≡ true)))
+      (fits-self cs d d refl, λ z. inl z) (λ k x r ih. (fits-up k d x r (ih .0), λ z. go k (fits-up k d x r (ih .0)) (ih .1) z (ℕ-discrete (suc k) e))) c p .1 q
+    where
+      go : (k : ℕ) → classFits cs (suc k) d ≡ true → (classFits cs (parentOf cs (suc k)) e ≡ true → (classFits cs d e ≡ true) ⊎ (classFits cs e d ≡ true))
+          → classFits cs (suc k) e ≡ true → Dec (suc k ≡ e) → (classFits cs d e ≡ true) ⊎ (classFits cs e d ≡ true)
+      go k up ih z (yes a) = inr (subst (λ (y : ℕ). classFits cs y d ≡ true) a up)
+      go k up ih z (no n) = ih (fits-on k e n z .2)
 
   -- ---- fields
   fields-object : (n : ℕ) → fieldsTo n cs 0 ≡ []
@@ -113,132 +145,6 @@ tag-at [] a f w e = absurd (Option·none-ne-some w e)
 tag-at (x ∷ xs) a zero w e = subst (λ (y : Ty). y .tag ≤ 3) (let z : x ≡ w = cc in z) (a .0)
 tag-at (x ∷ xs) a (suc f) w e = tag-at xs (a .1) f w e
 
--- ---- methods
--- the method found in a class is one of the list, with that owner and name
-pub found : (P : Method → Type 0) (ds : List Method) → AllMethods P ds → (c m : ℕ) (d : Method) → methodOf ds c m ≡ some d
-    → P d × (d .owner ≡ c) × (d .name ≡ m)
-unfolding methodOf
-found P [] a c m d e = absurd (Option·none-ne-some d e)
-found P (x ∷ ds) a c m d e = go (eqb (x .owner) c && eqb (x .name) m) refl e (found P ds (a .1) c m d)
-  where
-    go : (b : Bool) → eqb (x .owner) c && eqb (x .name) m ≡ b → (elim b as (λ _. Option Method) [ true ↦ some x | false ↦ methodOf ds c m ]) ≡ some d
-        → (methodOf ds c m ≡ some d → P d × (d .owner ≡ c) × (d .name ≡ m)) → P d × (d .owner ≡ c) × (d .name ≡ m)
-    go true q z ih =
-        let y : x ≡ d = cc in
-        let p = and-true (eqb (x .owner) c) (eqb (x .name) m) q in
-        subst (λ (k : Method). P k × (k .owner ≡ c) × (k .name ≡ m)) y (a .0, eqb-true (x .owner) c (p .0), eqb-true (x .name) m (p .1))
-    go false q z ih = ih z
-
--- two methods with the same types
-pub record SameSig (d e : Method) : Type 0 where
-  pub first : d .first ≡ e .first
-  pub second : d .second ≡ e .second
-  pub params : d .params ≡ e .params
-
-same-sig : (d e : Method) → sameTypes d (some e) ≡ true → SameSig d e
-same-sig d e h =
-    let p = and-true (eqTy (d .first) (e .first) && eqTy (d .second) (e .second)) (eqTys (d .params) (e .params)) h in
-    let q = and-true (eqTy (d .first) (e .first)) (eqTy (d .second) (e .second)) (p .0) in
-    record {
-      first = eqTy-true (d .first) (e .first) (q .0);
-      second = eqTy-true (d .second) (e .second) (q .1);
-      params = eqTys-true (d .params) (e .params) (p .1);
-    }
-
-trans-sig : (d e f : Method) → SameSig d e → SameSig e f → SameSig d f
-trans-sig d e f p q = record { first = p .first ∙ q .first; second = p .second ∙ q .second; params = p .params ∙ q .params }
-
 module _ (t : Table) (wf : WellFormed t) where
   pub field-tag : (c f : ℕ) (w : Ty) → getElem? (fieldsOf (t .classes) c) f ≡ some w → w .tag ≤ 3
   field-tag c f w e = tag-at (fieldsOf (t .classes) c) (fields-tags (t .classes) (wf .parents) (wf .own) c c) f w e
-
-  -- Object has no method
-  none-at-0 : (m : ℕ) → methodOf (t .methods) 0 m ≡ none
-  none-at-0 m = go (methodOf (t .methods) 0 m) refl
-    where
-      go : (o : Option Method) → methodOf (t .methods) 0 m ≡ o → o ≡ none
-      go none q = refl
-      go (some d) q =
-          let f = found (MethodFormed t) (t .methods) (wf .methods) 0 m d q in
-          absurd (omega (arith, f .0 .owned, f .1))
-
-  none-past : (c m : ℕ) → length (t .classes) < c → methodOf (t .methods) c m ≡ none
-  none-past c m l = go (methodOf (t .methods) c m) refl
-    where
-      go : (o : Option Method) → methodOf (t .methods) c m ≡ o → o ≡ none
-      go none q = refl
-      go (some d) q =
-          let f = found (MethodFormed t) (t .methods) (wf .methods) c m d q in
-          absurd (omega (arith, f .0 .ownerKnown, f .1))
-
-  lookup-object : (n m : ℕ) → lookupTo n t 0 m ≡ none
-  unfolding lookupTo
-  lookup-object zero m = refl
-  lookup-object (suc n) m = rw (none-at-0 m, lookupTo) (lookup-object n m)
-
-  -- nor has a class byte past the table
-  pub lookup-past : (c m : ℕ) → length (t .classes) < c → lookup t c m ≡ none
-  unfolding lookupTo
-  lookup-past zero m l = refl
-  lookup-past (suc k) m l = rw (none-past (suc k) m l, lookupTo, class-past (t .classes) (suc k) l) (lookup-object k m)
-
-  lookup-fuel : (n k c m : ℕ) → c ≤ n → c ≤ k → lookupTo n t c m ≡ lookupTo k t c m
-  unfolding lookupTo
-  lookup-fuel zero k zero m p q = sym (lookup-object k m)
-  lookup-fuel zero k (suc c) m p q = absurd (not-suc-le-zero p)
-  lookup-fuel (suc n) zero zero m p q = lookup-object (suc n) m
-  lookup-fuel (suc n) zero (suc c) m p q = absurd (not-suc-le-zero q)
-  lookup-fuel (suc n) (suc k) c m p q =
-      go (methodOf (t .methods) c m) (lookup-fuel n k (parentOf (t .classes) c) m (parent-le (t .classes) (wf .parents) c n p) (parent-le (t .classes) (wf .parents) c k q))
-    where
-      go : (o : Option Method) → lookupTo n t (parentOf (t .classes) c) m ≡ lookupTo k t (parentOf (t .classes) c) m
-          → _≡_ {A = Option Method} (elim o [ none ↦ lookupTo n t (parentOf (t .classes) c) m | some d ↦ some d ])
-          (elim o [ none ↦ lookupTo k t (parentOf (t .classes) c) m | some d ↦ some d ])
-      go none z = z
-      go (some d) z = refl
-
-  -- what is found at a parent is found at the class, or overridden there with the same types
-  lookup-up : (k m : ℕ) (e : Method) → lookup t (parentOf (t .classes) (suc k)) m ≡ some e → (d : Method) × (lookup t (suc k) m ≡ some d) × SameSig d e
-  unfolding lookupTo
-  lookup-up k m e z = go (methodOf (t .methods) (suc k) m) refl
-    where
-      go : (o : Option Method) → methodOf (t .methods) (suc k) m ≡ o
-          → (d : Method) × ((elim o as (λ _. Option Method) [ none ↦ lookupTo k t (parentOf (t .classes) (suc k)) m | some x ↦ some x ]) ≡ some d) × SameSig d e
-      go none q =
-          (e, lookup-fuel k (parentOf (t .classes) (suc k)) (parentOf (t .classes) (suc k)) m (wf .parents k) (omega arith) ∙ z, record { first = refl; second = refl; params = refl })
-      go (some d) q =
-          let f = found (MethodFormed t) (t .methods) (wf .methods) (suc k) m d q in
-          let y : lookup t (parentOf (t .classes) (d .owner)) (d .name) ≡ some e =
-          ap (λ (x : ℕ). lookup t (parentOf (t .classes) x) (d .name)) (f .1) ∙ ap (λ (x : ℕ). lookup t (parentOf (t .classes) (suc k)) x) (f .2) ∙ z in
-          (d, refl, same-sig d e (sym (ap (λ (x : Option Method). sameTypes d x) y) ∙ f .0 .same))
-
-  -- a class that fits c has c's methods, with the same types
-  pub lookup-fits : (c c′ m : ℕ) (e : Method) → classFits (t .classes) c′ c ≡ true → lookup t c m ≡ some e → (d : Method) × (lookup t c′ m ≡ some d) × SameSig d e
-  lookup-fits c c′ m e p z =
-      climb (t .classes) (wf .parents) c (λ x. (d : Method) × (lookup t x m ≡ some d) × SameSig d e)
-      (e, z, record { first = refl; second = refl; params = refl })
-      (λ k x q ih. let up = lookup-up k m (ih .0) (ih .1) in (up .0, up .1, trans-sig (up .0) (ih .0) e (up .2) (ih .2))) c′ p
-
-  -- the method found is one of the table, and its owner is the class or above it
-  foundTo : (P : Method → Type 0) → AllMethods P (t .methods) → (n c m : ℕ) (d : Method) → lookupTo n t c m ≡ some d → P d × (classFits (t .classes) c (d .owner) ≡ true)
-  unfolding lookupTo
-  foundTo P a zero c m d e = absurd (Option·none-ne-some d e)
-  foundTo P a (suc n) c m d e = go (methodOf (t .methods) c m) refl e (foundTo P a n (parentOf (t .classes) c) m d)
-    where
-      up : (c : ℕ) (o : Option Class) → classAt (t .classes) c ≡ o → lookupTo n t (parentOf (t .classes) c) m ≡ some d
-          → classFits (t .classes) (parentOf (t .classes) c) (d .owner) ≡ true → classFits (t .classes) c (d .owner) ≡ true
-      up zero o q e z = z
-      up (suc k) none q e z = absurd (Option·none-ne-some d (sym (lookup-object n m) ∙ ap (λ (x : ℕ). lookupTo n t x m) (sym (ap parentOr0 q)) ∙ e))
-      up (suc k) (some x) q e z = fits-up (t .classes) (wf .parents) k (d .owner) x q z
-
-      go : (o : Option Method) → methodOf (t .methods) c m ≡ o → (elim o as (λ _. Option Method) [ none ↦ lookupTo n t (parentOf (t .classes) c) m | some x ↦ some x ]) ≡ some d
-          → (lookupTo n t (parentOf (t .classes) c) m ≡ some d → P d × (classFits (t .classes) (parentOf (t .classes) c) (d .owner) ≡ true))
-          → P d × (classFits (t .classes) c (d .owner) ≡ true)
-      go none q z ih = let r = ih z in (r .0, up c (classAt (t .classes) c) refl z (r .1))
-      go (some x) q z ih =
-          let y : methodOf (t .methods) c m ≡ some d = q ∙ z in
-          let f = found P (t .methods) a c m d y in
-          (f .0, fits-self (t .classes) c (d .owner) (sym (f .1)))
-
-  pub lookup-found : (P : Method → Type 0) → AllMethods P (t .methods) → (c m : ℕ) (d : Method) → lookup t c m ≡ some d → P d × (classFits (t .classes) c (d .owner) ≡ true)
-  lookup-found P a c m d e = foundTo P a c c m d e

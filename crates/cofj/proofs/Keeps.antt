@@ -2,16 +2,17 @@
 use Prim.Native.Nat.{ℕ, zero, suc, _≤_, zero-le, max}
 use native.Mathlib.Omega.{arith}
 use mathlib.Core.Path.{_≡_, refl, sym, ap, _∙_, subst, fun-ext}
-use mathlib.Core.Bool.{Bool, true, false, _||_, cond, true≢false, false≢true}
+use mathlib.Core.Bool.{Bool, true, false, cond, false≢true}
 use mathlib.Core.List.{List, [], _∷_, map}
 use mathlib.Core.Option.{Option, none, some, Option·none-ne-some, Option·some-ne-none}
 use lib.Dec.{eqb, leb}
 use lib.ListN.{length, getElem?, length-map}
 use borrow.Author.Tests.{eqb-false, leb-true}
 use Rattle.cofj.specs.Limits.{numberClass}
-use Rattle.cofj.specs.Syntax.{Ty, ty, Method, Table}
+use Rattle.cofj.specs.Syntax.{Ty, ty, Table}
 use Rattle.cofj.specs.Partial.{_>>=_}
-use Rattle.cofj.specs.Classes.{classFits, fits, fieldsOf, lookup}
+use Rattle.cofj.specs.Classes.{classFits, fits, fieldsOf}
+use Rattle.cofj.specs.Lookup.{Found, lookup}
 use Rattle.cofj.specs.Typing.{closedTag, allFit, narrow, numberType}
 use Rattle.cofj.specs.Values.{Ref, obj, leaf, Leaf, mark, undet, num, Node, Graph, graph, refsAt, canon, select, selected, make, leafOf, leafNumber, numberIn}
 use Rattle.cofj.specs.Unfolding.{Label, object, atLeaf, follow, Whole, AllWhole}
@@ -22,7 +23,7 @@ use Rattle.cofj.proofs.Numbers.{number-above, number-below, number-fiel
 use Rattle.cofj.proofs.Canon.{canon-whole}
 use Rattle.cofj.proofs.Operations.{make-top, make-field, make-whole, select-tree, at-ref}
 use Rattle.cofj.proofs.Typed.{tree, under, OkLeaf, OkAt, Typed, AllTyped, Has, Hold, typed-fits, typed-more, typed-closed}
-use Rattle.cofj.proofs.Partial.{and-true}
+use Rattle.cofj.proofs.Partial.{and-true, or-false}
 
 -- ---- leaves
 pub leaf-whole : (l : Leaf) → Whole (leafOf l)
@@ -107,8 +108,8 @@ module _ (t : Table) (wf : WellFormed t) where
   has-fields c f w e z =
       absurd (Option·none-ne-some w (sym (ap (λ (l : List Ty). getElem? l f) (ap (fieldsOf (t .classes)) z ∙ number-fields t wf)) ∙ e))
 
-  pub has-methods : (c m : ℕ) (d : Method) → lookup t c m ≡ some d → c ≡ numberClass → ⊥
-  has-methods c m d e z = absurd (Option·none-ne-some d (sym (ap (λ (k : ℕ). lookup t k m) z ∙ number-lookup t wf m) ∙ e))
+  pub has-methods : (c m : ℕ) (f : Found) → lookup t c m ≡ some f → c ≡ numberClass → ⊥
+  has-methods c m f e z = absurd (Option·none-ne-some f (sym (ap (λ (k : ℕ). lookup t k m) z ∙ number-lookup t wf m) ∙ e))
 
   -- a value of the type of numbers is one
   pub has-number : (σ : List ℕ) (v : Graph) → Has t σ numberType v → (n : ℕ) × (numberIn v ≡ some n)
@@ -159,17 +160,13 @@ module _ (t : Table) (wf : WellFormed t) where
         tag = zero-le;
       }
 
-  or-false : (a b : Bool) → a || b ≡ false → b ≡ false
-  or-false true b h = absurd (true≢false h)
-  or-false false b h = h
-
   -- an open tag is at most 2
   narrow-le : (g h : ℕ) → g ≤ 3 → leb (cond (closedTag g) g 0) h ≡ true → g ≤ max 2 h
   narrow-le g h l = go (closedTag g) refl
     where
       go : (b : Bool) → closedTag g ≡ b → leb (cond b g 0) h ≡ true → g ≤ max 2 h
       go true q e = omega (arith, leb-true g h e)
-      go false q e = let ne = eqb-false g 3 (or-false (eqb g 0) (eqb g 3) q) in omega arith
+      go false q e = let ne = eqb-false g 3 (or-false (eqb g 0) (eqb g 3) q .1) in omega arith
 
   hold-open : (σ : List ℕ) (us ws : List Ty) (vs : List Graph) → Hold t σ us vs → allFit t (map narrow us) ws ≡ true → (f : ℕ) (w : Ty) → getElem? ws f ≡ some w
       → (v : Graph) × (getElem? vs f ≡ some v) × AllTyped t σ (ty (w .cls) (max 2 (w .tag))) (tree v)

@@ -9,9 +9,10 @@ pub mod Numbering
 pub mod Operations
 pub mod GoodValues
 pub mod GoodOperations
-pub mod Runs
 pub mod Chain
 pub mod Climb
+pub mod Lookup
+pub mod Runs
 pub mod Numbers
 pub mod Typed
 pub mod Keeps
@@ -46,5 +47,6 @@ pub mod Inputs
 pub mod ReadCalls
 pub mod RunCalls
 pub mod Linerun
+pub mod Findings
 pub mod Promises
 pub mod Cases

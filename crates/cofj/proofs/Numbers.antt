@@ -10,10 +10,12 @@ use lib.ListN.{length}
 use borrow.Author.Tests.{eqb-true, leb-true, leb-false}
 use Rattle.cofj.specs.Limits.{numberClass}
 use Rattle.cofj.specs.Syntax.{Table}
-use Rattle.cofj.specs.Classes.{classFits, fieldsOf, lookup}
+use Rattle.cofj.specs.Classes.{classFits, fieldsOf}
+use Rattle.cofj.specs.Lookup.{lookup}
 use Rattle.cofj.specs.WellFormed.{WellFormed}
 use Rattle.cofj.proofs.Chain.{past-fits, fits-past}
-use Rattle.cofj.proofs.Climb.{fields-past, lookup-past}
+use Rattle.cofj.proofs.Climb.{fields-past}
+use Rattle.cofj.proofs.Lookup.{lookup-past}
 
 module _ (t : Table) (wf : WellFormed t) where
   few : length (t .classes) < numberClass

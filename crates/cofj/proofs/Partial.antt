@@ -1,12 +1,16 @@
--- Taking answers apart: what a chain of `>>=` and tests gave, step by step. Laws of specs/Partial and of `&&`.
+-- Taking answers apart: what a chain of `>>=` and tests gave, step by step. Laws of specs/Partial and of `&&` and `||`.
 use mathlib.Core.Path.{_≡_, refl}
-use mathlib.Core.Bool.{Bool, true, false, _&&_, false≢true}
+use mathlib.Core.Bool.{Bool, true, false, _&&_, _||_, true≢false, false≢true}
 use mathlib.Core.Option.{Option, none, some, Option·none-ne-some}
 use Rattle.cofj.specs.Partial.{_>>=_, guard}
 
 pub and-true : (a b : Bool) → a && b ≡ true → (a ≡ true) × (b ≡ true)
 and-true true b h = (refl, h)
 and-true false b h = absurd (false≢true h)
+
+pub or-false : (a b : Bool) → a || b ≡ false → (a ≡ false) × (b ≡ false)
+or-false true b e = absurd (true≢false e)
+or-false false b e = (refl, e)
 
 pub true-and : (a b : Bool) → a ≡ true → b ≡ true → a && b ≡ true
 true-and true b p q = q

@@ -3,7 +3,7 @@
 use Prim.Native.Nat.{ℕ, _≤_}
 use native.Mathlib.Omega.{arith}
 use mathlib.Core.Path.{_≡_, refl, ap, _∙_, subst}
-use mathlib.Core.Bool.{Bool, true, _&&_, not}
+use mathlib.Core.Bool.{Bool, true, false, _&&_, not, false≢true}
 use mathlib.Core.List.{List, [], _∷_}
 use mathlib.Core.Option.{Option, none, some}
 use lib.Dec.{leb}
@@ -65,6 +65,15 @@ unfolding methodsGood
 methods-ruled n d ds e =
     let a = and-true _ (methodsGood n ds) e in
     (method-ruled n d (and-true (methodRules n d) (not (hasName d ds)) (a .0) .0), a .1)
+
+-- none of the others has its owner and name
+pub names-apart : (n : ℕ) (d : Method) (ds : List Method) → methodsGood n (d ∷ ds) ≡ true → hasName d ds ≡ false
+unfolding methodsGood
+names-apart n d ds e = go (hasName d ds) (and-true (methodRules n d) (not (hasName d ds)) (and-true _ (methodsGood n ds) e .0) .1)
+  where
+    go : (b : Bool) → not b ≡ true → b ≡ false
+    go true z = absurd (false≢true z)
+    go false z = refl
 
 -- ---- frames in order that give a table
 abbrev pub tableOf : Raw → Table

@@ -11,7 +11,8 @@ use lib.ListN.{length, getElem?}
 use borrow.Author.Tests.{eqb-true, leb-true, ltb-true}
 use Rattle.cofj.specs.Limits.{classCount, methodCount, fieldCount, lineSize, nestingLimit}
 use Rattle.cofj.specs.Syntax.{Ty, Class, Method, Table}
-use Rattle.cofj.specs.Classes.{parentOf, parentOr0, classAt, ownOrNone, fieldsOf, fieldsTo, lookup}
+use Rattle.cofj.specs.Classes.{parentOf, parentOr0, classAt, ownOrNone, fieldsOf, fieldsTo}
+use Rattle.cofj.specs.Lookup.{lookup}
 use Rattle.cofj.specs.Typing.{closedTag, allClosed}
 use Rattle.cofj.specs.Frames.{ClassFrame, TextFrame, classFrame, methodFrame, mainFrame}
 use Rattle.cofj.specs.Tables.{Raw, raw, inFront, ordered, numbered, allKnown, classesGood, methodsGood, inputGood, bodies, sameTypes, overridesGood}

@@ -3,14 +3,15 @@
 use Prim.Native.Nat.{ℕ, zero, suc, _+_}
 use mathlib.Core.Path.{_≡_, refl}
 use mathlib.Core.Bool.{Bool, true, false}
-use mathlib.Core.List.{List, []}
+use mathlib.Core.List.{List}
 use mathlib.Core.Option.{Option, none, some}
 use lib.Dec.{eqb, ltb}
 use lib.ListN.{length, getElem?}
 use borrow.Author.Tests.{eqb-true, eqb-false, ltb-true, ltb-false}
 use Rattle.cofj.specs.Limits.{numberCount}
 use Rattle.cofj.specs.Syntax.{Operation, sum, difference, Expr, this, res, param, field, call, new, literal, combine, choose, Exprs, done, also, count, Method, Table}
-use Rattle.cofj.specs.Classes.{fieldsOf, lookup}
+use Rattle.cofj.specs.Classes.{fieldsOf}
+use Rattle.cofj.specs.Lookup.{Found, foundIn, lookup}
 use Rattle.cofj.specs.Values.{Graph, make, select, markOf, numberIn}
 use Rattle.cofj.specs.Running.{Outcome, value, stopped, Frame, OpenCall, openMark, classOf, frameOf, opened}
 use Rattle.cofj.specs.RunningRules.{Evaluates, VAR-this, VAR-res, VAR-param, FIELD, INVK, COREC, NEW, W-FIELD-object, W-FIELD-lacks, W-INVK-object, W-INVK-lacks, W-INVK-count, W-INVK2, W-NEW, PROP-field, PROP-receiver, PROP-arguments, PROP-new, W-VAR-this, W-VAR-res, W-VAR-param, OUT-OF-FUEL, TOO-DEEP, TOO-LARGE, NUMBER, SUM, DIFFERENCE, OVERFLOW, W-COMBINE-first, W-COMBINE-second, CHOOSE-first, CHOOSE-second, W-CHOOSE, PROP-first, PROP-second, PROP-choose, EvaluateAll, NONE, EACH, PROP-head, PROP-tail}
@@ -29,11 +30,11 @@ module _ (objects : ℕ) (t : Table) where
 
   module _ (fr : Frame) (os : List OpenCall) (m : ℕ) (e : Expr) (es : Exprs) (n : ℕ) where
     -- a call: its receiver, method and arguments are known
-    redex-ends : (k : ℕ) → Bodies k → (v : Graph) (n₁ c : ℕ) (d : Method) (vs : List Graph) (n₂ : ℕ) → Evaluates objects t k fr os e n (value v n₁)
-        → classOf v ≡ some c → lookup t c m ≡ some d → length (d .params) ≡ count es → EvaluateAll objects t k fr os es n₁ (value vs n₂) → Ends k fr os (call m e es) n
-    redex-ends k B v n₁ c d vs zero p q r l ps = (_, OUT-OF-FUEL p q r l ps)
-    redex-ends zero B v n₁ c d vs (suc n₂) p q r l ps = (_, TOO-DEEP p q r l ps)
-    redex-ends (suc k) B v n₁ c d vs (suc n₂) p q r l ps = by-mark (openMark os v m vs) refl
+    redex-ends : (k : ℕ) → Bodies k → (v : Graph) (n₁ c o : ℕ) (d : Method) (vs : List Graph) (n₂ : ℕ) → Evaluates objects t k fr os e n (value v n₁)
+        → classOf v ≡ some c → lookup t c m ≡ some (foundIn o d) → length (d .params) ≡ count es → EvaluateAll objects t k fr os es n₁ (value vs n₂) → Ends k fr os (call m e es) n
+    redex-ends k B v n₁ c o d vs zero p q r l ps = (_, OUT-OF-FUEL p q r l ps)
+    redex-ends zero B v n₁ c o d vs (suc n₂) p q r l ps = (_, TOO-DEEP p q r l ps)
+    redex-ends (suc k) B v n₁ c o d vs (suc n₂) p q r l ps = by-mark (openMark os v m vs) refl
       where
         by-left : openMark os v m vs ≡ none → Ends k (frameOf v none vs) (opened os v m vs) (d .left) n₂ → Ends (suc k) fr os (call m e es) n
         by-left z (value u n₃, b) = (_, INVK p q r l ps z b)
@@ -48,17 +49,17 @@ module _ (objects : ℕ) (t : Table) where
       receiver-ends : (v : Graph) (n₁ : ℕ) → Evaluates objects t k fr os e n (value v n₁) → EndAll k fr os es n₁ → Ends k fr os (call m e es) n
       receiver-ends v n₁ p a = by-class (classOf v) refl
         where
-          by-arguments : (c : ℕ) (d : Method) → classOf v ≡ some c → lookup t c m ≡ some d → length (d .params) ≡ count es → EndAll k fr os es n₁ → Ends k fr os (call m e es) n
-          by-arguments c d q r l (value vs n₂, ps) = redex-ends k B v n₁ c d vs n₂ p q r l ps
-          by-arguments c d q r l (stopped s n₂, ps) = (_, PROP-arguments p q r l ps)
+          by-arguments : (c o : ℕ) (d : Method) → classOf v ≡ some c → lookup t c m ≡ some (foundIn o d) → length (d .params) ≡ count es → EndAll k fr os es n₁ → Ends k fr os (call m e es) n
+          by-arguments c o d q r l (value vs n₂, ps) = redex-ends k B v n₁ c o d vs n₂ p q r l ps
+          by-arguments c o d q r l (stopped s n₂, ps) = (_, PROP-arguments p q r l ps)
 
-          by-count : (c : ℕ) (d : Method) → classOf v ≡ some c → lookup t c m ≡ some d → (b : Bool) → eqb (length (d .params)) (count es) ≡ b → Ends k fr os (call m e es) n
-          by-count c d q r true l = by-arguments c d q r (eqb-true (length (d .params)) (count es) l) a
-          by-count c d q r false l = (_, W-INVK-count p q r (eqb-false (length (d .params)) (count es) l))
+          by-count : (c o : ℕ) (d : Method) → classOf v ≡ some c → lookup t c m ≡ some (foundIn o d) → (b : Bool) → eqb (length (d .params)) (count es) ≡ b → Ends k fr os (call m e es) n
+          by-count c o d q r true l = by-arguments c o d q r (eqb-true (length (d .params)) (count es) l) a
+          by-count c o d q r false l = (_, W-INVK-count p q r (eqb-false (length (d .params)) (count es) l))
 
-          by-method : (c : ℕ) → classOf v ≡ some c → (d : Option Method) → lookup t c m ≡ d → Ends k fr os (call m e es) n
+          by-method : (c : ℕ) → classOf v ≡ some c → (f : Option Found) → lookup t c m ≡ f → Ends k fr os (call m e es) n
           by-method c q none r = (_, W-INVK-lacks p q r)
-          by-method c q (some d) r = by-count c d q r (eqb (length (d .params)) (count es)) refl
+          by-method c q (some f) r = by-count c (f .owner) (f .body) q r (eqb (length (f .body .params)) (count es)) refl
 
           by-class : (c : Option ℕ) → classOf v ≡ c → Ends k fr os (call m e es) n
           by-class none q = (_, W-INVK-object p q)

@@ -12,7 +12,8 @@ use borrow.Author.Tests.{leb-true, eqb-true}
 use Rattle.cofj.specs.Limits.{Limits, numberCount, nestingLimit}
 use Rattle.cofj.specs.Partial.{asList}
 use Rattle.cofj.specs.Syntax.{Expr, this, res, param, field, call, new, literal, combine, choose, Exprs, done, also, count, Method, Table}
-use Rattle.cofj.specs.Classes.{fieldsOf, lookup, lookupTo, methodOf, parentOf}
+use Rattle.cofj.specs.Classes.{fieldsOf}
+use Rattle.cofj.specs.Lookup.{Found, lookup}
 use Rattle.cofj.specs.Tables.{exprKnown, exprsKnown}
 use Rattle.cofj.specs.Values.{mark, num, Graph, select, close, make, markOf, eqGraph, eqGraphs}
 use Rattle.cofj.specs.Running.{Outcome, value, stopped, Stop, _then_, Frame, OpenCall, orStuck, Deeper, classOf, target, frameOf, opened, openMark, invoke, sized, eval, evals, evalTo, mainFrame, runWithin}
@@ -20,6 +21,7 @@ use Rattle.cofj.specs.Formed.{AllIn, Good, IfAny, Out}
 use Rattle.cofj.specs.Nesting.{Each, Nested}
 use Rattle.cofj.specs.WellFormed.{AllMethods, MethodFormed, WellFormed}
 use Rattle.cofj.proofs.Partial.{and-true}
+use Rattle.cofj.proofs.Lookup.{own, found-own}
 use Rattle.cofj.proofs.GoodOperations.{out-then, out-or, good-select, good-close, good-new, good-operand, good-reckon, good-branch}
 use Rattle.cofj.proofs.GoodValues.{all-weaken, good-leaf, good-more}
 
@@ -29,43 +31,34 @@ at-opt P (x ∷ xs) h zero = h .0
 at-opt P (x ∷ xs) h (suc i) = at-opt P xs (h .1) i
 
 -- a method that is found is one of the table's
-own-found : (P : Method → Type 0) (ds : List Method) (c m : ℕ) → AllMethods P ds → IfAny P (methodOf ds c m)
-unfolding methodOf
-own-found P [] c m h = tt
-own-found P (d ∷ ds) c m h = go (eqb (d .owner) c && eqb (d .name) m) (own-found P ds c m (h .1))
+found : (P : Method → Type 0) (t : Table) → AllMethods P (t .methods) → (c m : ℕ) → IfAny (λ f. P (f .body)) (lookup t c m)
+found P t h c m = go (lookup t c m) refl
   where
-    go : (b : Bool) → IfAny P (methodOf ds c m) → IfAny P (elim b as (λ _. Option Method) [ true ↦ some d | false ↦ methodOf ds c m ])
-    go true ih = h .0
-    go false ih = ih
+    go : (o : Option Found) → lookup t c m ≡ o → IfAny (λ f. P (f .body)) o
+    go none q = tt
+    go (some f) q = own P (t .methods) h (f .owner) m (f .body) (found-own t c c m f q) .0
 
-found : (P : Method → Type 0) (t : Table) → AllMethods P (t .methods) → (n c m : ℕ) → IfAny P (lookupTo n t c m)
-unfolding lookupTo
-found P t h zero c m = tt
-found P t h (suc n) c m = go (methodOf (t .methods) c m) (own-found P (t .methods) c m h) (found P t h n (parentOf (t .classes) c) m)
-  where
-    go : (o : Option Method) → IfAny P o → IfAny P (lookupTo n t (parentOf (t .classes) c) m)
-        → IfAny P (elim o as (λ _. Option Method) [ none ↦ lookupTo n t (parentOf (t .classes) c) m | some d ↦ some d ])
-    go none p ih = ih
-    go (some d) p ih = p
-
-target-found : (P : Method → Type 0) (t : Table) → AllMethods P (t .methods) → (v : Graph) (m n : ℕ) → IfAny P (target t v m n)
+target-found : (P : Method → Type 0) (t : Table) → AllMethods P (t .methods) → (v : Graph) (m n : ℕ) → IfAny (λ f. P (f .body)) (target t v m n)
 unfolding target
 target-found P t h v m n = by-class (classOf v)
   where
-    by-count : (d : Method) → P d → (b : Bool) → IfAny P (elim b as (λ _. Option Method) [ true ↦ some d | false ↦ none ])
-    by-count d p true = p
-    by-count d p false = tt
+    Q : Found → Type 0
+    Q f = P (f .body)
 
-    by-method : (o : Option Method) → IfAny P o → IfAny P (elim o as (λ _. Option Method) [ none ↦ none | some d ↦ elim (eqb (length (d .params)) n) [ true ↦ some d | false ↦ none ] ])
+    by-count : (f : Found) → Q f → (b : Bool) → IfAny Q (elim b as (λ _. Option Found) [ true ↦ some f | false ↦ none ])
+    by-count f p true = p
+    by-count f p false = tt
+
+    by-method : (o : Option Found) → IfAny Q o → IfAny Q (elim o as (λ _. Option Found) [ none ↦ none | some f ↦ elim (eqb (length (f .body .params)) n) [ true ↦ some f | false ↦ none ] ])
     by-method none p = tt
-    by-method (some d) p = by-count d p (eqb (length (d .params)) n)
+    by-method (some f) p = by-count f p (eqb (length (f .body .params)) n)
 
-    by-class : (o : Option ℕ) → IfAny P (elim o as (λ _. Option Method) [
+    by-class : (o : Option ℕ) → IfAny Q (elim o as (λ _. Option Found) [
       | none ↦ none
-      | some c ↦ elim (lookup t c m) [ none ↦ none | some d ↦ elim (eqb (length (d .params)) n) [ true ↦ some d | false ↦ none ] ]
+      | some c ↦ elim (lookup t c m) [ none ↦ none | some f ↦ elim (eqb (length (f .body .params)) n) [ true ↦ some f | false ↦ none ] ]
     ])
     by-class none = tt
-    by-class (some c) = by-method (lookup t c m) (found P t h c c m)
+    by-class (some c) = by-method (lookup t c m) (found P t h c m)
 
 -- ---- the numbers that a body writes have two bytes
 abbrev mutual
@@ -189,10 +182,10 @@ module _ (t : Table) (wf : WellFormed t) (objects : ℕ) where
       good-eval (call m e es) n k b =
           let ks = and-true (exprKnown (length (t .classes)) e) (exprsKnown (length (t .classes)) es) k in
           out-then (G (length os)) (G (length os)) _
-          (λ v n′ p. out-then (MethodFormed t) (G (length os)) _
-          (λ d n″ kd. out-then (Listed (length os) (count es)) (G (length os)) _ (λ vs n‴ q. good-invoke deeper D os ns v m vs d n‴ kd p (q .0))
+          (λ v n′ p. out-then (λ f. MethodFormed t (f .body)) (G (length os)) _
+          (λ f n″ kd. out-then (Listed (length os) (count es)) (G (length os)) _ (λ vs n‴ q. good-invoke deeper D os ns v m vs (f .body) n‴ kd p (q .0))
           (evals objects t deeper fr os es n″) (good-evals es n″ (ks .1) (b .1)))
-          (orStuck (target t v m (count es)) n′) (out-or (MethodFormed t) (target t v m (count es)) n′ (target-found (MethodFormed t) t (wf .methods) v m (count es))))
+          (orStuck (target t v m (count es)) n′) (out-or (λ f. MethodFormed t (f .body)) (target t v m (count es)) n′ (target-found (MethodFormed t) t (wf .methods) v m (count es))))
           (eval objects t deeper fr os e n) (good-eval e n (ks .0) (b .0))
       good-eval (new c es) n k b =
           let ks = and-true (leb c (length (t .classes))) (exprsKnown (length (t .classes)) es) k in

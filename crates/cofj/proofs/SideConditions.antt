@@ -9,8 +9,8 @@ use mathlib.Core.Option.{Option, none, some, Option·none-ne-some}
 use lib.Dec.{eqb}
 use lib.ListN.{length, getElem?}
 use borrow.Author.Tests.{eqb-true, eq-eqb, ne-eqb}
-use Rattle.cofj.specs.Syntax.{Method, Table}
-use Rattle.cofj.specs.Classes.{lookup}
+use Rattle.cofj.specs.Syntax.{Table}
+use Rattle.cofj.specs.Lookup.{Found, lookup}
 use Rattle.cofj.specs.Values.{Graph, Node, Ref, obj, leaf, nodeAt, refsAt, selected, select, eqRef, eqNode, eqNodes, eqGraph, eqGraphs}
 use Rattle.cofj.specs.Running.{OpenCall, openMark, classOf, target}
 use Rattle.cofj.specs.Promises.{Equals, OpenUnder}
@@ -27,9 +27,9 @@ module _ (t : Table) (v : Graph) (m n : ℕ) where
   unfolding target
   target-lacks c p q = rw (p, target, q)
 
-  pub target-count : (c : ℕ) (d : Method) → classOf v ≡ some c → lookup t c m ≡ some d → (length (d .params) ≡ n → ⊥) → target t v m n ≡ none
+  pub target-count : (c : ℕ) (f : Found) → classOf v ≡ some c → lookup t c m ≡ some f → (length (f .body .params) ≡ n → ⊥) → target t v m n ≡ none
   unfolding target
-  target-count c d p q r = rw (p, target, q, ne-eqb (length (d .params)) n r)
+  target-count c f p q r = rw (p, target, q, ne-eqb (length (f .body .params)) n r)
 
 -- ---- guarded: no object has no field
 pub select-none : (f : ℕ) (v : Graph) → classOf v ≡ none → select f v ≡ none

@@ -12,7 +12,8 @@ use borrow.Author.Tests.{eqb-true, eq-eqb, leb-true}
 use Rattle.cofj.specs.Limits.{Limits, numberCount, numberClass}
 use Rattle.cofj.specs.Syntax.{Operation, sum, difference, Expr, this, res, param, field, call, new, literal, combine, choose, Exprs, done, also, count, Ty, ty, eqTy, Method, Table}
 use Rattle.cofj.specs.Partial.{_>>=_, asList}
-use Rattle.cofj.specs.Classes.{classFits, fieldsOf, lookup}
+use Rattle.cofj.specs.Classes.{classFits, fieldsOf}
+use Rattle.cofj.specs.Lookup.{Found, lookup}
 use Rattle.cofj.specs.Tables.{exprKnown, exprsKnown}
 use Rattle.cofj.specs.Typing.{Env, allFit, narrow, fieldType, callType, newType, numberType, combineType, chooseType, typeOf, typesOf, mainType}
 use Rattle.cofj.specs.Values.{num, Graph, select, make, numberOf, numberIn}
@@ -20,7 +21,8 @@ use Rattle.cofj.specs.Running.{Outcome, value, stopped, Stop, _then_, Fr
 use Rattle.cofj.specs.WellFormed.{AllMethods, MethodFormed, WellFormed}
 use Rattle.cofj.specs.Soundness.{Ends, Fed, unfed, fed, Sound}
 use Rattle.cofj.proofs.Chain.{fits-self}
-use Rattle.cofj.proofs.Climb.{eqTy-true, fields-tags, field-tag, SameSig, lookup-fits, lookup-found}
+use Rattle.cofj.proofs.Climb.{eqTy-true, fields-tags, field-tag}
+use Rattle.cofj.proofs.Lookup.{SameSig, lookup-fits, lookup-found}
 use Rattle.cofj.proofs.Typed.{Has, Hold}
 use Rattle.cofj.proofs.Keeps.{has-leaf, has-fits, hold-fits, fit-length, hold-get, has-object, has-methods, has-number, has-own, has-new, has-new-open, has-select}
 use Rattle.cofj.proofs.Partial.{and-true, true-and, opt-bind, guard-bind}
@@ -59,33 +61,33 @@ module _ (t : Table) (wf : WellFormed t) (ok : AllMethods (MethodOk t) (t .metho
   -- the receiver is an object, and runs a method with the types that the checker found
   pub record Receives (σ : List ℕ) (inMain : Bool) (v : Graph) (m : ℕ) (us : List Ty) (w : Ty) : Type 0 where
     pub c : ℕ
-    pub d : Method
+    pub f : Found
     pub cls : classOf v ≡ some c
-    pub has : lookup t c m ≡ some d
-    pub formed : MethodFormed t d
-    pub okay : MethodOk t d
-    pub this : Has t σ (ty (d .owner) 0) v
-    pub fit : allFit t us (d .params) ≡ true
-    pub gives : cond inMain (d .first) (d .second) ≡ w
+    pub has : lookup t c m ≡ some f
+    pub formed : MethodFormed t (f .body)
+    pub okay : MethodOk t (f .body)
+    pub this : Has t σ (ty (f .body .owner) 0) v
+    pub fit : allFit t us (f .body .params) ≡ true
+    pub gives : cond inMain (f .body .first) (f .body .second) ≡ w
 
   receives : (σ : List ℕ) (inMain : Bool) (u : Ty) (v : Graph) (m : ℕ) (us : List Ty) (w : Ty) → callType t inMain u m us ≡ some w → Has t σ u v → Receives σ inMain v m us w
   receives σ inMain u v m us w e h =
       let k = call-ok t inMain u m us w e in
       let h0 = at-0 σ u v (k .zero) h in
-      let o = has-object t wf σ (ty (u .cls) 0) v zero-le (has-methods t wf (u .cls) m (k .d) (k .has)) h0 in
-      let l = lookup-fits t wf (u .cls) (o .0) m (k .d) (o .3) (k .has) in
+      let o = has-object t wf σ (ty (u .cls) 0) v zero-le (has-methods t wf (u .cls) m (k .f) (k .has)) h0 in
+      let l = lookup-fits t wf (u .cls) (o .0) m (k .f) (o .3) (k .has) in
       let f = lookup-found t wf (MethodFormed t) (wf .methods) (o .0) m (l .0) (l .1) in
       let g = lookup-found t wf (MethodOk t) ok (o .0) m (l .0) (l .1) in
       record {
         c = o .0;
-        d = l .0;
+        f = l .0;
         cls = class-of v (o .0) (o .1) (o .2);
         has = l .1;
         formed = f .0;
         okay = g .0;
-        this = has-fits t wf σ (ty (o .0) 0) (ty (l .0 .owner) 0) v (true-and (classFits (t .classes) (o .0) (l .0 .owner)) _ (f .1) refl) zero-le (has-own t wf σ (ty (u .cls) 0) v (o .0) (o .1) (o .2) h0);
+        this = has-fits t wf σ (ty (o .0) 0) (ty (l .0 .body .owner) 0) v (true-and (classFits (t .classes) (o .0) (l .0 .body .owner)) _ (f .1) refl) zero-le (has-own t wf σ (ty (u .cls) 0) v (o .0) (o .1) (o .2) h0);
         fit = subst (λ (ps : List Ty). allFit t us ps ≡ true) (sym (l .2 .params)) (k .fit);
-        gives = same-result inMain (l .0) (k .d) (l .2) ∙ k .gives;
+        gives = same-result inMain (l .0 .body) (k .f .body) (l .2) ∙ k .gives;
       }
 
   types-count : (inMain : Bool) (g : Env) (es : Exprs) (us : List Ty) → typesOf t inMain g es ≡ some us → length us ≡ count es
@@ -146,7 +148,7 @@ module _ (t : Table) (wf : WellFormed t) (ok : AllMethods (MethodOk t) (t .metho
       let a = opt-bind (typeOf t inMain g e) (λ w. typesOf t inMain g es >>= λ us. callType t inMain w m us) u q in
       let b = opt-bind (typesOf t inMain g es) (λ us. callType t inMain (a .0) m us) u (a .2) in
       let k = call-ok t inMain (a .0) m (b .0) u (b .2) in
-      subst (λ (w : Ty). w .tag ≤ 3) (k .gives) (result-tag inMain (k .d) (lookup-found t wf (MethodFormed t) (wf .methods) (a .0 .cls) m (k .d) (k .has) .0))
+      subst (λ (w : Ty). w .tag ≤ 3) (k .gives) (result-tag inMain (k .f .body) (lookup-found t wf (MethodFormed t) (wf .methods) (a .0 .cls) m (k .f) (k .has) .0))
   type-tag (new c es) inMain g fr σ h u q = let a = opt-bind (typesOf t inMain g es) (λ us. newType t c us) u q in new-tag c (a .0) u (a .2)
   type-tag (literal n) inMain g fr σ h u q = let y : some numberType ≡ some u = q in subst (λ (w : Ty). w .tag ≤ 3) (let x : numberType ≡ u = cc in x) (omega arith)
   type-tag (combine o x y) inMain g fr σ h u q =
@@ -184,12 +186,12 @@ module _ (t : Table) (wf : WellFormed t) (ok : AllMethods (MethodOk t) (t .metho
           out-then (Has t σ (a .0)) (Has t σ u) _
           (λ v n′ p.
           let r = receives σ inMain (a .0) v m (b .0) u (b .2) p in
-          out-known (Has t σ u) (target t v m (count es)) n′ _ (r .d)
-          (target-is t v m (count es) (r .c) (r .d) (r .cls) (r .has) (sym (fit-length t wf (b .0) (r .d .params) (r .fit)) ∙ types-count inMain g es (b .0) (b .1)))
+          out-known (Has t σ u) (target t v m (count es)) n′ _ (r .f)
+          (target-is t v m (count es) (r .c) (r .f) (r .cls) (r .has) (sym (fit-length t wf (b .0) (r .f .body .params) (r .fit)) ∙ types-count inMain g es (b .0) (b .1)))
           (out-then (Hold t σ (b .0)) (Has t σ u) _
-          (λ vs n‴ k. subst (λ (w : Ty). Out (Has t σ w) (invoke deeper os v m vs (r .d) n‴)) (r .gives)
-          (sound-invoke t wf ok deeper D inMain os σ tr z v m (r .c) vs (r .d) n‴ (r .cls) (r .has) (r .formed) (r .okay) (r .this)
-          (hold-fits t wf σ (b .0) (r .d .params) vs (r .fit) (r .formed .params) k)))
+          (λ vs n‴ k. subst (λ (w : Ty). Out (Has t σ w) (invoke deeper os v m vs (r .f .body) n‴)) (r .gives)
+          (sound-invoke t wf ok deeper D inMain os σ tr z v m (r .c) (r .f .owner) vs (r .f .body) n‴ (r .cls) (r .has) (r .formed) (r .okay) (r .this)
+          (hold-fits t wf σ (b .0) (r .f .body .params) vs (r .fit) (r .formed .params) k)))
           (evals objects t deeper fr os es n′) (sound-evals es inMain g fr os σ n′ (b .0) h tr z (ks .1) (b .1))))
           (eval objects t deeper fr os e n) (sound-eval e inMain g fr os σ n (a .0) h tr z (ks .0) (a .1))
       sound-eval (new c es) inMain g fr os σ n u h tr z kn q =

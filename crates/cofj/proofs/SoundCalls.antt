@@ -9,7 +9,8 @@ use lib.Dec.{eqb, leb}
 use lib.ListN.{length}
 use borrow.Author.Tests.{eq-eqb, leb-true, le-leb}
 use Rattle.cofj.specs.Syntax.{Expr, Ty, ty, Method, Table}
-use Rattle.cofj.specs.Classes.{classFits, lookup}
+use Rattle.cofj.specs.Classes.{classFits}
+use Rattle.cofj.specs.Lookup.{Found, foundIn, lookup}
 use Rattle.cofj.specs.Tables.{exprKnown}
 use Rattle.cofj.specs.Typing.{Env, closeTag, typeOf}
 use Rattle.cofj.specs.Values.{Ref, obj, leaf, mark, Graph, nodeAt, refsAt, close, markOf}
@@ -110,27 +111,28 @@ module _ (t : Table) (wf : WellFormed t) (ok : AllMethods (MethodOk t) (t .metho
   again true σ z x c e d mf m v h = absurd (Option·none-ne-some c (sym (ap (λ (s : List ℕ). bound s x) (z refl)) ∙ e))
 
   -- the open call of v and m runs a body of the bound's class
-  runs : (v : Graph) (m c : ℕ) (d : Method) (u : Ty) → classOf v ≡ some c → lookup t c m ≡ some d → leftType t d ≡ some u → Runs t v m (u .cls)
-  runs v m c d u p q r c′ d′ u′ p′ q′ r′ =
+  runs : (v : Graph) (m c o : ℕ) (d : Method) (u : Ty) → classOf v ≡ some c → lookup t c m ≡ some (foundIn o d) → leftType t d ≡ some u → Runs t v m (u .cls)
+  runs v m c o d u p q r c′ o′ d′ u′ p′ q′ r′ =
       let a : c ≡ c′ = cc in
-      let q″ : lookup t c m ≡ some d′ = ap (λ (x : ℕ). lookup t x m) a ∙ q′ in
-      let b : d ≡ d′ = cc in
+      let q″ : lookup t c m ≡ some (foundIn o′ d′) = ap (λ (x : ℕ). lookup t x m) a ∙ q′ in
+      let f : foundIn o d ≡ foundIn o′ d′ = cc in
+      let b : d ≡ d′ = ap (λ (x : Found). x .body) f in
       let r″ : leftType t d ≡ some u′ = ap (leftType t) b ∙ r′ in
       let e : u ≡ u′ = cc in
       sym (ap (λ (x : Ty). x .cls) e)
 
   pub sound-invoke : (deeper : Option Deeper) → DeeperOk t deeper → (inMain : Bool) (os : List OpenCall) (σ : List ℕ) → Trace t os σ → (inMain ≡ true → σ ≡ [])
-      → (v : Graph) (m c : ℕ) (vs : List Graph) (d : Method) (n : ℕ) → classOf v ≡ some c → lookup t c m ≡ some d → MethodFormed t d → MethodOk t d
+      → (v : Graph) (m c o : ℕ) (vs : List Graph) (d : Method) (n : ℕ) → classOf v ≡ some c → lookup t c m ≡ some (foundIn o d) → MethodFormed t d → MethodOk t d
       → Has t σ (ty (d .owner) 0) v → Hold t σ (d .params) vs → Out (Has t σ (cond inMain (d .first) (d .second))) (invoke deeper os v m vs d n)
   unfolding invoke leftType
-  sound-invoke deeper D inMain os σ tr z v m c vs d zero p q mf mo a b = tt
-  sound-invoke none D inMain os σ tr z v m c vs d (suc n) p q mf mo a b = tt
-  sound-invoke (some body) D inMain os σ tr z v m c vs d (suc n) p q mf mo a b = go (openMark os v m vs) refl
+  sound-invoke deeper D inMain os σ tr z v m c o vs d zero p q mf mo a b = tt
+  sound-invoke none D inMain os σ tr z v m c o vs d (suc n) p q mf mo a b = tt
+  sound-invoke (some body) D inMain os σ tr z v m c o vs d (suc n) p q mf mo a b = go (openMark os v m vs) refl
     where
       meets : (x : ℕ) → (c′ : ℕ) × (bound σ x ≡ some c′) × Runs t v m c′
           → Out (Has t σ (cond inMain (d .first) (d .second))) (body (frameOf v (some (markOf x)) vs) os (d .right) n)
       meets x r =
-          let e : mo .u .cls ≡ r .0 = r .2 c d (mo .u) p q (mo .left) in
+          let e : mo .u .cls ≡ r .0 = r .2 c o d (mo .u) p q (mo .left) in
           out-map (Has t σ (mo .v)) (Has t σ (cond inMain (d .first) (d .second))) (λ w h. again inMain σ z x (r .0) (r .1) d mf mo w h)
           (body (frameOf v (some (markOf x)) vs) os (d .right) n)
           (D (frameOf v (some (markOf x)) vs) os σ (rightEnv d (mo .u .cls)) (d .right) n (mo .v)
@@ -159,7 +161,7 @@ module _ (t : Table) (wf : WellFormed t) (ok : AllMethods (MethodOk t) (t .metho
             this = λ w s. (v, refl, subst (λ (k : Ty). Has t (mo .u .cls ∷ σ) k v) (let s′ : ty (d .owner) 0 ≡ w = cc in s′) (has-more t wf (mo .u .cls) σ (ty (d .owner) 0) v a));
             res = λ w s. absurd (Option·none-ne-some w s);
             params = hold-more t wf (mo .u .cls) σ (d .params) vs b;
-          }) (trace-length t os σ tr, runs v m c d (mo .u) p q (mo .left), tr) (mf .leftKnown) (mo .left))
+          }) (trace-length t os σ tr, runs v m c o d (mo .u) p q (mo .left), tr) (mf .leftKnown) (mo .left))
 
 -- ---- receivers
 pub class-of : (v : Graph) (c k : ℕ) → tree v [] ≡ some (object c k) → classOf v ≡ some c
@@ -170,15 +172,15 @@ class-of v c k e = go (v .root) e
     go (obj i) z = let y : some (object (nodeAt (v .nodes) i .cls) (length (refsAt (v .nodes) i))) ≡ some (object c k) = z in cc
     go (leaf l) z = let y : some (atLeaf l) ≡ some (object c k) = z in cc
 
-pub target-is : (t : Table) (v : Graph) (m n c : ℕ) (d : Method) → classOf v ≡ some c → lookup t c m ≡ some d → length (d .params) ≡ n → target t v m n ≡ some d
+pub target-is : (t : Table) (v : Graph) (m n c : ℕ) (f : Found) → classOf v ≡ some c → lookup t c m ≡ some f → length (f .body .params) ≡ n → target t v m n ≡ some f
 unfolding target
-target-is t v m n c d p q r = ap by-class p ∙ ap by-method q ∙ ap by-count (eq-eqb (length (d .params)) n r)
+target-is t v m n c f p q r = ap by-class p ∙ ap by-method q ∙ ap by-count (eq-eqb (length (f .body .params)) n r)
   where
-    by-count : Bool → Option Method
-    by-count b = elim b [ true ↦ some d | false ↦ none ]
+    by-count : Bool → Option Found
+    by-count b = elim b [ true ↦ some f | false ↦ none ]
 
-    by-method : Option Method → Option Method
-    by-method o = elim o [ none ↦ none | some x ↦ elim (eqb (length (x .params)) n) [ true ↦ some x | false ↦ none ] ]
+    by-method : Option Found → Option Found
+    by-method o = elim o [ none ↦ none | some x ↦ elim (eqb (length (x .body .params)) n) [ true ↦ some x | false ↦ none ] ]
 
-    by-class : Option ℕ → Option Method
+    by-class : Option ℕ → Option Found
     by-class o = elim o [ none ↦ none | some x ↦ by-method (lookup t x m) ]

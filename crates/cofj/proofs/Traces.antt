@@ -8,7 +8,7 @@ use lib.Dec.{eqb}
 use lib.ListN.{length}
 use borrow.Author.Tests.{eqb-true}
 use Rattle.cofj.specs.Syntax.{Ty, Method, Table}
-use Rattle.cofj.specs.Classes.{lookup}
+use Rattle.cofj.specs.Lookup.{foundIn, lookup}
 use Rattle.cofj.specs.Values.{Node, Graph, graph, eqRef, eqNode, eqNodes, eqGraph, eqGraphs}
 use Rattle.cofj.specs.Running.{OpenCall, classOf, openMark}
 use Rattle.cofj.proofs.Basics.{both-true, eqRef-true, eqNode-true}
@@ -33,7 +33,7 @@ eqGraph-true g h e =
 
 -- c is the class of the left type of the method that a call of m on v runs
 abbrev pub Runs : Table → Graph → ℕ → ℕ → Type 0
-Runs t v m c = (c′ : ℕ) (d : Method) (u : Ty) → classOf v ≡ some c′ → lookup t c′ m ≡ some d → leftType t d ≡ some u → u .cls ≡ c
+Runs t v m c = (c′ o : ℕ) (d : Method) (u : Ty) → classOf v ≡ some c′ → lookup t c′ m ≡ some (foundIn o d) → leftType t d ≡ some u → u .cls ≡ c
 
 -- the open calls have their numbers for marks, and the bounds of these are right
 abbrev pub Trace : Table → List OpenCall → List ℕ → Type 0

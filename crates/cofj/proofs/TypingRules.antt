@@ -12,7 +12,8 @@ use lib.ListN.{getElem?}
 use borrow.Author.Tests.{eqb-true, leb-true, le-leb}
 use Rattle.cofj.specs.Syntax.{Operation, Expr, this, res, param, field, call, new, literal, combine, choose, Exprs, done, also, Ty, ty, eqTy, Class, Method, Table}
 use Rattle.cofj.specs.Partial.{_>>=_, guard}
-use Rattle.cofj.specs.Classes.{classFits, fits, classAt, parentOr0, fieldsOf, lookup}
+use Rattle.cofj.specs.Classes.{classFits, fits, classAt, parentOr0, fieldsOf}
+use Rattle.cofj.specs.Lookup.{foundIn, lookup}
 use Rattle.cofj.specs.Typing.{Env, closedTag, allClosed, allFit, narrow, numberType, fieldType, callType, newType, combineType, wider, chooseType, typeOf, typesOf, methodTyped}
 use Rattle.cofj.specs.TypingRules.{_⁺, _⁺?, _⁻?, _⁻, AllClosed, closing, SubClass, same, above, Fits, AllFit, fit-none, fit-each, HasType, T-VAR-this, T-VAR-res, T-VAR-param, T-FIELD, T-INVK, T-NEW1, T-NEW2, T-NUMBER, T-COMBINE, T-CHOOSE-second, T-CHOOSE-first, HaveTypes, T-NONE, T-EACH, leftVariables, rightVariables, MethodTyped, T-MDEC}
 use Rattle.cofj.proofs.Chain.{ParentsSmaller, fits-self}
@@ -98,10 +99,10 @@ module _ (t : Table) (h : ParentsSmaller (t .classes)) where
     call-sound m e es w u us d ds q =
         let a = guard-bind (eqb (w .tag) 0) _ u q in
         let b = opt-bind (lookup t (w .cls) m) _ u (a .1) in
-        let c = guard-bind (allClosed us && allFit t us (b .0 .params)) _ u (b .2) in
-        let p = and-true (allClosed us) (allFit t us (b .0 .params)) (c .0) in
-        let y : some (cond inMain (b .0 .first) (b .0 .second)) ≡ some u = c .1 in
-        T-INVK (subst (HasType t inMain Γ e) (plus w (eqb-true (w .tag) 0 (a .0))) d) ds (b .1) (allClosed-sound us (p .0)) (allFit-sound us (b .0 .params) (p .1)) (let z : u ≡ cond inMain (b .0 .first) (b .0 .second) = cc in z)
+        let c = guard-bind (allClosed us && allFit t us (b .0 .body .params)) _ u (b .2) in
+        let p = and-true (allClosed us) (allFit t us (b .0 .body .params)) (c .0) in
+        let y : some (cond inMain (b .0 .body .first) (b .0 .body .second)) ≡ some u = c .1 in
+        T-INVK (subst (HasType t inMain Γ e) (plus w (eqb-true (w .tag) 0 (a .0))) d) ds (b .1) (allClosed-sound us (p .0)) (allFit-sound us (b .0 .body .params) (p .1)) (let z : u ≡ cond inMain (b .0 .body .first) (b .0 .body .second) = cc in z)
 
     -- what `newType` answers, when the test of its values gave b
     abbrev newBy : ℕ → List Ty → Bool → Option Ty
@@ -193,10 +194,10 @@ module _ (t : Table) (h : ParentsSmaller (t .classes)) where
           let y : some (a .0 ∷ b .0) ≡ some us = b .2 in
           subst (HaveTypes t inMain Γ (also e es)) (let x : a .0 ∷ b .0 ≡ us = cc in x) (T-EACH (typeOf-sound e (a .0) (a .1)) (typesOf-sound es (b .0) (b .1)))
 
-    call-complete : (c m : ℕ) (us : List Ty) (d : Method) (u : Ty) → lookup t c m ≡ some d → AllClosed us → AllFit cs us (d .params) → u ≡ cond inMain (d .first) (d .second)
+    call-complete : (c m o : ℕ) (us : List Ty) (d : Method) (u : Ty) → lookup t c m ≡ some (foundIn o d) → AllClosed us → AllFit cs us (d .params) → u ≡ cond inMain (d .first) (d .second)
         → callType t inMain (c ⁺) m us ≡ some u
     unfolding callType
-    call-complete c m us d u q k f z = rw (q, allClosed-complete us k, allFit-complete f, z)
+    call-complete c m o us d u q k f z = rw (q, allClosed-complete us k, allFit-complete f, z)
 
     new1-complete : (c : ℕ) (us : List Ty) → AllClosed us → AllFit cs us (fieldsOf cs c) → newType t c us ≡ some (c ⁺)
     unfolding newType
@@ -229,7 +230,7 @@ module _ (t : Table) (h : ParentsSmaller (t .classes)) where
       | T-VAR-res q ↦ q
       | T-VAR-param q ↦ q
       | T-FIELD (d → i) q ↦ rw i q
-      | T-INVK {m = m} {c = c} {us = us} {d = d} {u = u} (p → i) (ps → is) q k f z ↦ rw (i, is) (call-complete c m us d u q k f z)
+      | T-INVK {m = m} {c = c} {c′ = o} {us = us} {d = d} {u = u} (p → i) (ps → is) q k f z ↦ rw (i, is) (call-complete c m o us d u q k f z)
       | T-NEW1 {c = c} {us = us} (ps → is) k f ↦ rw is (new1-complete c us k f)
       | T-NEW2 {c = c} {us = us} (ps → is) k f ↦ rw is (new2-complete c us k f)
       | T-NUMBER ↦ refl

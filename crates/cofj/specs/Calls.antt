@@ -16,7 +16,8 @@ use Rattle.cofj.specs.Syntax.{Table}
 use Rattle.cofj.specs.Values.{Graph}
 use Rattle.cofj.specs.Reading.{refusal, read, readText}
 use Rattle.cofj.specs.Writing.{Text, noText, text, writeTable}
-use Rattle.cofj.specs.Classes.{chainHas, fieldsTo, lookupTo, methodOf}
+use Rattle.cofj.specs.Classes.{chainHas, fieldsTo}
+use Rattle.cofj.specs.Lookup.{lookupTo, methodOf}
 use Rattle.cofj.specs.Typing.{Checked, refused, accepted, check, methodTyped, typeOf, fieldType, callType, newType, combineType, chooseType}
 use Rattle.cofj.specs.Running.{Outcome, run}
 use Rattle.cofj.specs.Batch.{Input, refused as unfit, given, inputOf}

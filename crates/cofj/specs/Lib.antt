@@ -1,9 +1,9 @@
 -- The language: every definition that a reader must believe. What is promised of it stands in Promises, to be read first and again last.
 -- To believe the definitions, read in this order, each file from the ones before it:
---   the text and its table: Limits, Text, Syntax, Classes, Frames, Tables, Reading, Writing;
+--   the text and its table: Limits, Text, Syntax, Classes, Lookup, Frames, Tables, Reading, Writing;
 --   types: TypingRules, with Env and the tags from Typing;
 --   values and runs: Values, Unfolding, RunningRules, with Outcome, Frame and openMark from Running;
---   the calls: Report, Batch for the second text of a run, Calls, Show; then Soundness and Promises.
+--   the calls: Report, Batch for the second text of a run, Calls, Show, Finding; then Soundness and Promises.
 -- Skip at first: Partial and Bytes (helpers), the functions of Typing and Running (proved to compute the rules), Formed and WellFormed (what
 -- proofs need of values and tables), ReportForm (which texts are reports), Rows (the cases A to J).
 pub mod Limits
@@ -11,6 +11,7 @@ pub mod Partial
 pub mod Text
 pub mod Syntax
 pub mod Classes
+pub mod Lookup
 pub mod Frames
 pub mod Tables
 pub mod Reading
@@ -29,6 +30,7 @@ pub mod ReportForm
 pub mod Batch
 pub mod Calls
 pub mod Show
+pub mod Finding
 pub mod Soundness
 pub mod Promises
 pub mod Bytes

@@ -12,11 +12,13 @@ use mathlib.Core.Option.{Option, none, some}
 use lib.ListN.{length, take, getElem?}
 use Rattle.cofj.specs.declared.Session.{Session}
 use Rattle.cofj.specs.declared.Closing.{Closing}
+use Rattle.cofj.specs.declared.Finding.{Finding}
 use Rattle.cofj.specs.declared.Verdict.{Verdict}
 use Rattle.cofj.specs.Limits.{Limits, standard, textSize, reportSize, workSize}
 use Rattle.cofj.specs.Partial.{_>>=_}
 use Rattle.cofj.specs.Text.{lines}
 use Rattle.cofj.specs.Syntax.{Ty, Method, Table}
+use Rattle.cofj.specs.Lookup.{Found, Nearest, Nowhere}
 use Rattle.cofj.specs.Frames.{TextFrame, frames}
 use Rattle.cofj.specs.Tables.{Raw, ordered, few, table, overridden}
 use Rattle.cofj.specs.Reading.{Answer, refusal, read, readText}
@@ -34,6 +36,7 @@ use Rattle.cofj.specs.ReportForm.{reported, Reportable}
 use Rattle.cofj.specs.Batch.{ListsParts, started, Fitting}
 use Rattle.cofj.specs.Soundness.{Ends, EndsListed, Fed}
 use Rattle.cofj.specs.Calls.{checked, trial, feed, inputIn, Call, Ran, closedSession, withFuel, turnedAway, ended, verdictOf, Wrote, notWritten, written, runCall}
+use Rattle.cofj.specs.Finding.{nothingFound, foundAt}
 use Rattle.cofj.specs.Show.{firstText, secondText, shownCall, Presented, notShown, writtenAfter, linerun}
 
 -- the report that a run wrote: as many bytes of the buffer as it answers
@@ -129,6 +132,22 @@ pub record Shows (s report work : List ℕ) (x : Presented) : Type 0 where
   pub writes : reportSize ≤ length report → workSize ≤ length work → writtenAfter x ≡ linerun s
   pub buffers : reportSize ≤ length report → workSize ≤ length work
       → (x .report ≡ runCall (shownCall (firstText s) (secondText s) report work) .report) × (x .work ≡ runCall (shownCall (firstText s) (secondText s) report work) .work)
+
+-- ---- demand 1: where a method is found, asked of a table that is read, for any class byte c and name m. One of two:
+pub data Finds (t : Table) (c m : ℕ) : Finding → Type 0 where
+  -- The nearest class from c up that declares m owns it, and its frame is number k among the methods'; no other has this owner and name.
+  FOUND :
+      {f : Found} {k : ℕ}
+      → Nearest t c m f
+      → getElem? (t .methods) k ≡ some (f .body)
+      → ((j : ℕ) (d : Method) → getElem? (t .methods) j ≡ some d → d .owner ≡ f .owner → d .name ≡ m → j ≡ k)
+      -- -----------------------------------------------------------------------------------------------
+      → Finds t c m (foundAt (f .owner) k)
+  -- No class from c up declares m.
+  NOWHERE :
+      Nowhere t c m
+      -- -----------------------
+      → Finds t c m nothingFound
 
 -- ---- demand 1: runs
 -- the state refuses nothing

@@ -1,4 +1,4 @@
--- The cases A to J of document 01, some of request 2026-01 with a second text and of request 2026-02 with numbers, as a table: checked or on trial, fuel, the text, the second
+-- The cases A to J of document 01, some of request 2026-01 with a second text, of 2026-02 with numbers and of 2026-03 with inherited methods, as a table: checked or on trial, fuel, the text, the second
 -- text, what is written, and the fuel that is left. What is written is the verdict line, for a checked run, and the report. Proved in proofs/Cases.
 use Prim.Native.Nat.{ℕ}
 use Prim.Native.String.{String}
@@ -49,9 +49,15 @@ unfoldable pub shown : Mode → ℕ → List ℕ → List ℕ → Shown
 unfolding judge admit run
 shown m n s i = shownAfter (front m s i) m n (admit m s i)
 
--- what the definitions give for the row's texts is what the row says
+-- what the definitions give for a row's texts, and what it says
+abbrev pub given : Row → Shown
+given r = shown (r .mode) (r .fuel) (bytes (r .text)) (bytes (r .input))
+
+abbrev pub said : Row → Shown
+said r = record { written = bytes (r .written); left = r .left }
+
 abbrev pub Holds : Row → Type 0
-Holds r = shown (r .mode) (r .fuel) (bytes (r .text)) (bytes (r .input)) ≡ record { written = bytes (r .written); left = r .left }
+Holds r = given r ≡ said r
 
 abbrev pub row-a : Row
 row-a = row checked 1000 "010100010003\n01020000\n02020101030103004402004041\n02020201000102004501014401004041\n03440100450200\n" "08000103\n0500010100\n" 997
@@ -226,9 +232,20 @@ row-given-two = rowWith checked 1000 "01010002FE000103\n04010043004200\n" "05000
 abbrev pub row-given-class : Row
 row-given-class = rowWith checked 1000 "01010002FE000103\n04010043004200\n" "0500FE00\n" "080E\n" 1000
 
+-- methods are found in the class or the nearest above it: the method 2 of class 2, called on a class 3 and on a class 2, calls the method 1 of class 3 and of class 1
+abbrev pub row-nearest : Row
+row-nearest = row checked 1000 "01010000\n01020100\n01030200\n01040000\n01050000\n01060000\n0201010000000000450400450400\n020202000000000044010040450500\n0203010000000000450600450600\n03440200450300\n" "08000000\n05000600\n" 998
+
+abbrev pub row-nearest-above : Row
+row-nearest-above = row checked 1000 "01010000\n01020100\n01030200\n01040000\n01050000\n01060000\n0201010000000000450400450400\n020202000000000044010040450500\n0203010000000000450600450600\n03440200450200\n" "08000000\n05000400\n" 998
+
+-- an override two classes below
+abbrev pub row-override-gap : Row
+row-override-gap = row checked 1000 "01010000\n01020100\n01030200\n02010101000100004040\n02030101000103004040\n03450000\n" "0805\n" 1000
+
 abbrev pub rows : List Row
 rows = row-a ∷ row-b ∷ row-c ∷ row-d ∷ row-e ∷ row-e-z ∷ row-f ∷ row-f-trial ∷ row-g ∷ row-i ∷ row-j-16 ∷ row-j-17 ∷ row-h-32 ∷ row-h-33
     ∷ row-ring-cut ∷ row-ring ∷ row-met ∷ row-met-3 ∷ row-minus ∷ row-plus ∷ row-plus-trial ∷ row-unreached ∷ row-no-part ∷ row-two-places ∷ row-one-place ∷ row-untyped-checked ∷ row-untyped
     ∷ row-number ∷ row-number-bytes ∷ row-sum ∷ row-overflow ∷ row-difference ∷ row-equal-numbers ∷ row-other-numbers ∷ row-count
     ∷ row-ring-of-numbers ∷ row-choose-first ∷ row-choose-second ∷ row-choose-neither ∷ row-no-object ∷ row-no-object-trial ∷ row-sum-first ∷ row-sum-both
-    ∷ row-thirteen ∷ row-given-number ∷ row-given-cut ∷ row-given-none ∷ row-given-part ∷ row-given-two ∷ row-given-class ∷ []
+    ∷ row-thirteen ∷ row-given-number ∷ row-given-cut ∷ row-given-none ∷ row-given-part ∷ row-given-two ∷ row-given-class ∷ row-nearest ∷ row-nearest-above ∷ row-override-gap ∷ []

@@ -10,7 +10,8 @@ use lib.ListN.{length, getElem?}
 use Rattle.cofj.specs.Limits.{Limits, standard, numberCount}
 use Rattle.cofj.specs.Partial.{asList}
 use Rattle.cofj.specs.Syntax.{Operation, sum, difference, Expr, this, res, param, field, call, new, literal, combine, choose, Exprs, done, also, count, Method, Table}
-use Rattle.cofj.specs.Classes.{fieldsOf, lookup, lookupTo, methodOf, fieldsTo}
+use Rattle.cofj.specs.Classes.{fieldsOf, fieldsTo}
+use Rattle.cofj.specs.Lookup.{Found, lookup, lookupTo, methodOf}
 use Rattle.cofj.specs.Values.{Graph, obj, leaf, make, select, close, eqGraph, eqGraphs, markOf, numberOf, numberIn, nodeAt}
 
 -- why a run ends without a value
@@ -65,13 +66,13 @@ classOf g = elim (g .root) [ obj i ↦ some (nodeAt (g .nodes) i .cls) | leaf l 
 abbrev pub Deeper : Type 0
 Deeper = Frame → List OpenCall → Expr → ℕ → Outcome Graph
 
--- the method that a call names, if the receiver is an object, has it, and the counts agree
-unfoldable pub target : Table → Graph → ℕ → ℕ → Option Method
+-- the method that a call names and where it was found, if the receiver is an object, has it, and the counts agree
+unfoldable pub target : Table → Graph → ℕ → ℕ → Option Found
 unfolding lookupTo methodOf
 target t v m n =
     elim (classOf v) [
       | none ↦ none
-      | some c ↦ elim (lookup t c m) [ none ↦ none | some d ↦ elim (eqb (length (d .params)) n) [ true ↦ some d | false ↦ none ] ]
+      | some c ↦ elim (lookup t c m) [ none ↦ none | some f ↦ elim (eqb (length (f .body .params)) n) [ true ↦ some f | false ↦ none ] ]
     ]
 
 abbrev pub frameOf : Graph → Option Graph → List Graph → Frame
@@ -113,9 +114,9 @@ module _ (objects : ℕ) (t : Table) (deeper : Option Deeper) where
     eval fr os (field f e) n = eval fr os e n then λ v n′. orStuck (select f v) n′
     eval fr os (call m e es) n =
         eval fr os e n then λ v n′.
-        orStuck (target t v m (count es)) n′ then λ d n″.
+        orStuck (target t v m (count es)) n′ then λ f n″.
         evals fr os es n″ then λ vs n‴.
-        invoke deeper os v m vs d n‴
+        invoke deeper os v m vs (f .body) n‴
     eval fr os (new c es) n =
         elim (eqb (length (fieldsOf (t .classes) c)) (count es)) [
           | true ↦ evals fr os es n then λ vs n′. sized objects (make c vs) n′

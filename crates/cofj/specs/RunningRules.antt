@@ -2,7 +2,7 @@
 -- A constructor is a rule under the paper's name: its premises and side conditions, a line, its conclusion. The comment above says the
 -- rule, and after "Document 01:" what differs from 002. The fuel in every judgement, and the rules of the last two sections, are document 01's
 -- and, of numbers, document 02's.
--- The paper's side conditions: v = X̄ = new C(_) is `classOf v ≡ some c`, and `≡ none` where v is not guarded; mbody(C, m) is `lookup`;
+-- The paper's side conditions: v = X̄ = new C(_) is `classOf v ≡ some c`, and `≡ none` where v is not guarded; mbody(C, m) is `lookup`, with the class c′ that owns the body d;
 -- σ(v.m(v̄)) = X is `openMark σ v m vs ≡ some x`, and `≡ none` where the call is not in dom(σ); v.f unfolded is `select f v`; X = u is `close x u`. `numberIn v` is the
 -- number that v is, `none` where it is none: an object, a mark, undetermined.
 -- The paper's w is any outcome without a value, `stopped`: what its own rules find wrong is `stuck`.
@@ -14,7 +14,8 @@ use mathlib.Core.Option.{Option, none, some}
 use lib.ListN.{length, getElem?}
 use Rattle.cofj.specs.Limits.{Limits, numberCount}
 use Rattle.cofj.specs.Syntax.{Operation, sum, difference, Expr, this, res, param, field, call, new, literal, combine, choose, Exprs, done, also, count, Method, Table}
-use Rattle.cofj.specs.Classes.{fieldsOf, lookup}
+use Rattle.cofj.specs.Classes.{fieldsOf}
+use Rattle.cofj.specs.Lookup.{foundIn, lookup}
 use Rattle.cofj.specs.Values.{Graph, make, select, close, markOf, numberOf, numberIn}
 use Rattle.cofj.specs.Running.{Stop, stuck, noFuel, tooDeep, tooLarge, overflow, Outcome, value, stopped, Frame, OpenCall, openMark, classOf, frameOf, opened, mainFrame}
 
@@ -52,10 +53,10 @@ module _ (objects : ℕ) (t : Table) where
       -- A call that is not open: the left side runs with it open under a fresh mark X, the length of σ; its value u becomes X = u.
       -- Document 01: one unit of fuel is spent, suc n₂ becomes n₂, and the body may open one call less, k of suc k.
       INVK :
-          {k n n₁ n₂ n₃ m c : ℕ} {π : Frame} {σ : List OpenCall} {e : Expr} {es : Exprs} {v u : Graph} {vs : List Graph} {d : Method}
+          {k n n₁ n₂ n₃ m c c′ : ℕ} {π : Frame} {σ : List OpenCall} {e : Expr} {es : Exprs} {v u : Graph} {vs : List Graph} {d : Method}
           → Evaluates (suc k) π σ e n (value v n₁)
           → classOf v ≡ some c
-          → lookup t c m ≡ some d
+          → lookup t c m ≡ some (foundIn c′ d)
           → length (d .params) ≡ count es
           → EvaluateAll (suc k) π σ es n₁ (value vs (suc n₂))
           → openMark σ v m vs ≡ none
@@ -65,10 +66,10 @@ module _ (objects : ℕ) (t : Table) where
       -- A call that is open under the mark x: the right side runs with x for res, and its outcome is the call's.
       -- Document 01: it spends its unit and counts as open while it runs, like any other.
       COREC :
-          {k n n₁ n₂ m c x : ℕ} {π : Frame} {σ : List OpenCall} {e : Expr} {es : Exprs} {v : Graph} {vs : List Graph} {d : Method} {o : Outcome Graph}
+          {k n n₁ n₂ m c c′ x : ℕ} {π : Frame} {σ : List OpenCall} {e : Expr} {es : Exprs} {v : Graph} {vs : List Graph} {d : Method} {o : Outcome Graph}
           → Evaluates (suc k) π σ e n (value v n₁)
           → classOf v ≡ some c
-          → lookup t c m ≡ some d
+          → lookup t c m ≡ some (foundIn c′ d)
           → length (d .params) ≡ count es
           → EvaluateAll (suc k) π σ es n₁ (value vs (suc n₂))
           → openMark σ v m vs ≡ some x
@@ -116,19 +117,19 @@ module _ (objects : ℕ) (t : Table) where
           → Evaluates k π σ (call m e es) n (stopped stuck n₁)
       -- or the method has another number of parameters.
       W-INVK-count :
-          {k n n₁ m c : ℕ} {π : Frame} {σ : List OpenCall} {e : Expr} {es : Exprs} {v : Graph} {d : Method}
+          {k n n₁ m c c′ : ℕ} {π : Frame} {σ : List OpenCall} {e : Expr} {es : Exprs} {v : Graph} {d : Method}
           → Evaluates k π σ e n (value v n₁)
           → classOf v ≡ some c
-          → lookup t c m ≡ some d
+          → lookup t c m ≡ some (foundIn c′ d)
           → (length (d .params) ≡ count es → ⊥)
           -- -------------------------------------------------
           → Evaluates k π σ (call m e es) n (stopped stuck n₁)
       -- The left side has no value u for X = u: it stops, and the call with it.
       W-INVK2 :
-          {k n n₁ n₂ n₃ m c : ℕ} {π : Frame} {σ : List OpenCall} {e : Expr} {es : Exprs} {v : Graph} {vs : List Graph} {d : Method} {s : Stop}
+          {k n n₁ n₂ n₃ m c c′ : ℕ} {π : Frame} {σ : List OpenCall} {e : Expr} {es : Exprs} {v : Graph} {vs : List Graph} {d : Method} {s : Stop}
           → Evaluates (suc k) π σ e n (value v n₁)
           → classOf v ≡ some c
-          → lookup t c m ≡ some d
+          → lookup t c m ≡ some (foundIn c′ d)
           → length (d .params) ≡ count es
           → EvaluateAll (suc k) π σ es n₁ (value vs (suc n₂))
           → openMark σ v m vs ≡ none
@@ -155,10 +156,10 @@ module _ (objects : ℕ) (t : Table) where
           → Evaluates k π σ (call m e es) n (stopped s n₁)
       -- a call's arguments (document 01: W-INVK is judged before they are evaluated),
       PROP-arguments :
-          {k n n₁ n₂ m c : ℕ} {π : Frame} {σ : List OpenCall} {e : Expr} {es : Exprs} {v : Graph} {d : Method} {s : Stop}
+          {k n n₁ n₂ m c c′ : ℕ} {π : Frame} {σ : List OpenCall} {e : Expr} {es : Exprs} {v : Graph} {d : Method} {s : Stop}
           → Evaluates k π σ e n (value v n₁)
           → classOf v ≡ some c
-          → lookup t c m ≡ some d
+          → lookup t c m ≡ some (foundIn c′ d)
           → length (d .params) ≡ count es
           → EvaluateAll k π σ es n₁ (stopped s n₂)
           -- ---------------------------------------------
@@ -191,20 +192,20 @@ module _ (objects : ℕ) (t : Table) where
           → Evaluates k π σ (param x) n (stopped stuck n)
       -- The call is known, open or not, and no fuel is left.
       OUT-OF-FUEL :
-          {k n n₁ m c : ℕ} {π : Frame} {σ : List OpenCall} {e : Expr} {es : Exprs} {v : Graph} {vs : List Graph} {d : Method}
+          {k n n₁ m c c′ : ℕ} {π : Frame} {σ : List OpenCall} {e : Expr} {es : Exprs} {v : Graph} {vs : List Graph} {d : Method}
           → Evaluates k π σ e n (value v n₁)
           → classOf v ≡ some c
-          → lookup t c m ≡ some d
+          → lookup t c m ≡ some (foundIn c′ d)
           → length (d .params) ≡ count es
           → EvaluateAll k π σ es n₁ (value vs zero)
           -- ----------------------------------------------------
           → Evaluates k π σ (call m e es) n (stopped noFuel zero)
       -- The call is known, open or not, its unit is spent, and no more call may be opened.
       TOO-DEEP :
-          {n n₁ n₂ m c : ℕ} {π : Frame} {σ : List OpenCall} {e : Expr} {es : Exprs} {v : Graph} {vs : List Graph} {d : Method}
+          {n n₁ n₂ m c c′ : ℕ} {π : Frame} {σ : List OpenCall} {e : Expr} {es : Exprs} {v : Graph} {vs : List Graph} {d : Method}
           → Evaluates zero π σ e n (value v n₁)
           → classOf v ≡ some c
-          → lookup t c m ≡ some d
+          → lookup t c m ≡ some (foundIn c′ d)
           → length (d .params) ≡ count es
           → EvaluateAll zero π σ es n₁ (value vs (suc n₂))
           -- ------------------------------------------------------

@@ -8,7 +8,8 @@ use lib.ListN.{length}
 use Rattle.cofj.specs.Limits.{classCount, methodCount, fieldCount, numberClass}
 use Rattle.cofj.specs.Partial.{_>>=_, guard}
 use Rattle.cofj.specs.Syntax.{Expr, this, res, param, field, call, new, literal, combine, choose, Exprs, done, also, Ty, Class, Method, Table, eqTy, eqTys}
-use Rattle.cofj.specs.Classes.{fieldsOf, fieldsTo, lookup, lookupTo, methodOf, parentOf}
+use Rattle.cofj.specs.Classes.{fieldsOf, fieldsTo, parentOf}
+use Rattle.cofj.specs.Lookup.{Found, lookup, lookupTo, methodOf}
 use Rattle.cofj.specs.Typing.{closedTag, allClosed}
 use Rattle.cofj.specs.Frames.{ClassFrame, TextFrame, classFrame, methodFrame, mainFrame}
 
@@ -106,9 +107,9 @@ table r =
     some (record { classes = cs; methods = r .methods; input = r .input; main = r .main })
 
 -- ---- a method has the types of the one of its name above it: refusal 5
-abbrev pub sameTypes : Method → Option Method → Bool
+abbrev pub sameTypes : Method → Option Found → Bool
 sameTypes m none = true
-sameTypes m (some d) = eqTy (m .first) (d .first) && eqTy (m .second) (d .second) && eqTys (m .params) (d .params)
+sameTypes m (some f) = eqTy (m .first) (f .body .first) && eqTy (m .second) (f .body .second) && eqTys (m .params) (f .body .params)
 
 unfoldable pub overridesGood : Table → List Method → Bool
 unfolding lookupTo methodOf

@@ -8,7 +8,8 @@ use lib.ListN.{getElem?}
 use Rattle.cofj.specs.Limits.{numberClass}
 use Rattle.cofj.specs.Syntax.{Expr, this, res, param, field, call, new, literal, combine, choose, Exprs, done, also, Ty, ty, eqTy, Method, Table}
 use Rattle.cofj.specs.Partial.{_>>=_, guard, asList}
-use Rattle.cofj.specs.Classes.{fits, fieldsOf, lookup}
+use Rattle.cofj.specs.Classes.{fits, fieldsOf}
+use Rattle.cofj.specs.Lookup.{lookup}
 
 -- the variables of a body: this, res (right side only), the parameters
 pub record Env : Type 0 where
@@ -51,9 +52,9 @@ module _ (t : Table) where
   unfoldable pub callType : Bool → Ty → ℕ → List Ty → Option Ty
   callType inMain u m us =
       guard (eqb (u .tag) 0) >>= λ _.
-      lookup t (u .cls) m >>= λ d.
-      guard (allClosed us && allFit t us (d .params)) >>= λ _.
-      some (cond inMain (d .first) (d .second))
+      lookup t (u .cls) m >>= λ f.
+      guard (allClosed us && allFit t us (f .body .params)) >>= λ _.
+      some (cond inMain (f .body .first) (f .body .second))
 
   unfoldable pub newType : ℕ → List Ty → Option Ty
   newType c us =

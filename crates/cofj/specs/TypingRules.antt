@@ -11,7 +11,8 @@ use mathlib.Core.Option.{Option, none, some}
 use lib.ListN.{getElem?}
 use Rattle.cofj.specs.Partial.{asList}
 use Rattle.cofj.specs.Syntax.{Operation, Expr, this, res, param, field, call, new, literal, combine, choose, Exprs, done, also, Ty, ty, Class, Method, Table}
-use Rattle.cofj.specs.Classes.{classAt, fieldsOf, lookup}
+use Rattle.cofj.specs.Classes.{classAt, fieldsOf}
+use Rattle.cofj.specs.Lookup.{foundIn, lookup}
 use Rattle.cofj.specs.Typing.{Env, narrow, closeTag, numberType, Checked, refused, accepted}
 use Rattle.cofj.specs.WellFormed.{AllMethods}
 
@@ -96,10 +97,10 @@ module _ (t : Table) (inMain : Bool) (Γ : Env) where
       -- The type is the first result type in main and the second in a body.
       -- Document 01: says of the arguments in words, tags 00 and 03 only, what 002 says by the letter T′.
       T-INVK :
-          {m c : ℕ} {e : Expr} {es : Exprs} {us : List Ty} {d : Method} {u : Ty}
+          {m c c′ : ℕ} {e : Expr} {es : Exprs} {us : List Ty} {d : Method} {u : Ty}
           → HasType e (c ⁺)
           → HaveTypes es us
-          → lookup t c m ≡ some d
+          → lookup t c m ≡ some (foundIn c′ d)
           → AllClosed us
           → AllFit (t .classes) us (d .params)
           → u ≡ cond inMain (d .first) (d .second)

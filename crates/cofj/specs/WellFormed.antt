@@ -8,7 +8,8 @@ use mathlib.Core.Option.{some}
 use lib.ListN.{length}
 use Rattle.cofj.specs.Limits.{classCount, methodCount, fieldCount, paramCount, lineSize, nestingLimit}
 use Rattle.cofj.specs.Syntax.{Ty, Method, Table}
-use Rattle.cofj.specs.Classes.{fieldsOf, classAt, ownOrNone, parentOf, lookup}
+use Rattle.cofj.specs.Classes.{fieldsOf, classAt, ownOrNone, parentOf}
+use Rattle.cofj.specs.Lookup.{lookup}
 use Rattle.cofj.specs.Tables.{sameTypes, known, allKnown, exprKnown}
 use Rattle.cofj.specs.Nesting.{Nested}
 use Rattle.cofj.specs.Writing.{methodLine, mainLine}

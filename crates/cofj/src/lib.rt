@@ -45,3 +45,11 @@ pub struct Shown {
     pub verdict: [u8; 9],
     pub length: u16,
 }
+
+// Where a method is found: whether it is, the class that owns it and its number in file order; zeros where it is not.
+#[repr(C)]
+pub struct Finding {
+    pub found: bool,
+    pub owner: u8,
+    pub method: u8,
+}

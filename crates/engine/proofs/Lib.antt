@@ -4,6 +4,8 @@ pub mod FeedLaws
 pub mod RunLaws
 pub mod CutLaws
 pub mod ShowLaws
+pub mod FindLaws
 pub mod Promise
 pub mod Shams
 pub mod NumberShams
+pub mod FindShams

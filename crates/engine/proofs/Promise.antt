@@ -1,16 +1,18 @@
 -- The promises of cofj's specs/Promises and of this crate's, proved of what its functions return.
 -- Their contracts say what they return by the language's definitions (of a run: `Returned`); what that is worth is proved of these in cofj.
-use Prim.Native.Nat.{ℕ, _≤_}
+use Prim.Native.Nat.{ℕ, _+_, _≤_}
 use native.Mathlib.Omega.{arith}
 use mathlib.Core.Path.{_≡_, refl, sym, ap, _∙_, subst}
 use mathlib.Core.List.{List, [], _∷_, List·Memᴰ, List·Memᴰ·not-nil, List·Memᴰ·cases-cons}
 use mathlib.Core.Logic.{_⊎_, inl, inr}
 use mathlib.Core.Option.{Option, none, some}
+use lib.ListN.{getD}
 use Rattle.cofj.specs.Partial.{_>>=_}
 use Rattle.cofj.specs.Text.{lines}
 use Rattle.cofj.specs.declared.Session.{Session}
 use Rattle.cofj.specs.declared.Closing.{Closing}
 use Rattle.cofj.specs.declared.Verdict.{Verdict}
+use Rattle.cofj.specs.declared.Finding.{Finding}
 use Rattle.cofj.specs.Syntax.{Table}
 use Rattle.cofj.specs.Frames.{TextFrame, frame, frames}
 use Rattle.cofj.specs.Tables as tables
@@ -18,22 +20,28 @@ use Rattle.cofj.specs.Tables.{Raw, few}
 use Rattle.cofj.specs.Reading.{Answer, refusal, read, readText}
 use Rattle.cofj.specs.Calls.{closeSession, checkCall, Call, Ran, runCall, Wrote}
 use Rattle.cofj.specs.Show.{Presented, showCall}
-use Rattle.cofj.specs.Promises.{Program, Reads, REFUSAL-1, REFUSAL-2, REFUSAL-3, Checks, Closes, Shows, Refusals, Answers, Lengths, Follows, Demand3, Recuts, Recut}
+use Rattle.cofj.specs.Promises.{Program, Reads, REFUSAL-1, REFUSAL-2, REFUSAL-3, Checks, Closes, Shows, Finds, Refusals, Answers, Lengths, Follows, Demand3, Recuts, Recut}
 use Rattle.cofj.proofs.RoundTrip.{read-writes, written-length}
 use Rattle.cofj.proofs.ReadCalls.{reads, reads-is, read-number, checks, closes, wrote-writes}
 use Rattle.cofj.proofs.RunCalls.{refusals, answers, lengths}
+use Rattle.cofj.proofs.Readable.{read-formed}
 use Rattle.cofj.proofs.Linerun.{shows}
+use Rattle.cofj.proofs.Findings.{finds}
 use Rattle.cofj.proofs.Promises.{follows, demand3, recuts}
 use Rattle.lineform.specs.declared.lines.Decoded.{Decoded}
 use Rattle.lineform.specs.declared.frames.Framed.{Framed}
 use Rattle.lineform.specs.declared.lines.Ordered.{Ordered}
 use Rattle.lineform.specs.Answers.{decodedOf, framedOf, countsOf, orderOf}
+use Rattle.classes.specs.Machine.{lookupOf, rowOf}
+use Rattle.classes.specs.Layout.{layout}
 use Rattle.tables.specs.declared.read.Reading.{Reading}
 use Rattle.tables.specs.Readings.{answered, readingOf}
 use Rattle.tables.specs.Writings.{textIn, writingOf}
 use Rattle.engine.specs.Numbers.{decodedNumber, framedNumber, orderedNumber}
-use Rattle.engine.specs.Promises.{Returned, ReadsInto, WritesFrom}
+use Rattle.engine.specs.Finding.{findingIn}
+use Rattle.engine.specs.Promises.{Returned, ReadsInto, WritesFrom, FindsIn}
 use Rattle.tables.proofs.Written.{reads-table, into-text, text-into, eight-exactly}
+use Rattle.engine.proofs.FindLaws.{finding-on, row-on}
 
 -- ---- demand 1
 module _ (a : Call) (x : Ran) (r : Returned a x) where
@@ -128,6 +136,17 @@ writes-of B buffer x e = subst (WritesFrom B buffer) (sym e) (record {
   texts = λ s. (text-into s B, into-text s B);
   eight = eight-exactly B buffer;
 })
+
+-- ---- where a method is found
+pub finds-of : (B : List ℕ) (c m : ℕ) (x : Finding) → x ≡ findingIn (lookupOf B c m) → FindsIn B c m x
+finds-of B c m x e = record {
+  any = e;
+  table = λ s t h q l. subst (Finds t c m) (sym (e ∙ ap (λ (A : List ℕ). findingIn (lookupOf A c m)) q ∙ finding-on t (read-formed s t (reads-is s h)) c m l)) (finds s t (reads-is s h) c m);
+  row = λ s t h q l z.
+      let p : x ≡ findingIn (lookupOf (layout t) c m) = e ∙ ap (λ (A : List ℕ). findingIn (lookupOf A c m)) q in
+      let w = row-on t (read-formed s t (reads-is s h)) c m l (sym (ap (λ (y : Finding). y .found) p) ∙ z) in
+      ap (λ (A : List ℕ). getD A (rowOf (x .method) + 1) 0) q ∙ ap (λ (y : Finding). getD (layout t) (rowOf (y .method) + 1) 0) p ∙ w ∙ sym (ap (λ (y : Finding). y .owner) p);
+}
 
 -- ---- demand 3, of any two runs that were not refused, of accepted programs
 pub demand3-of : (a b : Call) (p : Program (a .text)) (q : Program (b .text)) (x y : Ran) → Returned a x → Returned b y → x .answer .refusal ≡ 0 → y .answer .refusal ≡ 0

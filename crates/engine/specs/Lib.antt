@@ -1,5 +1,6 @@
 pub mod Steps
 pub mod Feeding
 pub mod Numbers
-pub mod Promises
 pub mod Showing
+pub mod Finding
+pub mod Promises

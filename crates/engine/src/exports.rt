@@ -1,15 +1,19 @@
-// The public calls for C and Rust: slices are pointer and length, structs go by value. `input` is the second text of a run, and for `line_show`
+// The public calls for C and Rust: slices are pointer and length, structs go by value. `line_find` is
+// lent its table, a pointer to the table's bytes. `input` is the second text of a run, and for `line_show`
 // all that `linerun` reads.
 // Not here: what they do; each is a call of this crate or of tables.
 use crate::check::check_text;
+use crate::find::find_method;
 use crate::run::checked_run;
 use crate::run::trial_run;
 use crate::session::close_session;
 use crate::session::open_session;
 use crate::show::show;
 use classes::ClassTable;
+use classes::places::SIZE;
 use cofj::Answer;
 use cofj::Closing;
+use cofj::Finding;
 use cofj::Session;
 use cofj::Shown;
 use cofj::Verdict;
@@ -19,9 +23,11 @@ use tables::read::read;
 use tables::write::write;
 ghost use mathlib.Core.Path.{_≡_};
 ghost use Rattle.cofj.specs.Calls.{openSession, closeSession, checkCall, checked, trial, runCall};
+ghost use Rattle.classes.specs.Machine.{lookupOf};
 ghost use Rattle.tables.specs.Readings.{readingOf};
 ghost use Rattle.tables.specs.Writings.{wroteTable, writingOf};
 ghost use Rattle.cofj.specs.Show.{showCall};
+ghost use Rattle.engine.specs.Finding.{findingIn};
 ghost use Rattle.engine.specs.Steps.{ran};
 ghost use Rattle.engine.specs.Showing.{showing};
 
@@ -51,6 +57,13 @@ pub extern "C" fn line_write(table: ClassTable, buffer: &mut [u8]) -> Written
     ensures { λ r. ⌜ wroteTable r (now (buffer .exit)) ≡ writingOf (table .bytes) (now (buffer .entry)) ⌝ }
 {
     write(table, buffer)
+}
+
+#[no_mangle]
+pub extern "C" fn line_find(table: &[u8; SIZE], class: u8, name: u8) -> Finding
+    ensures { λ r. ⌜ r ≡ findingIn (lookupOf (now (table .entry)) class name) ⌝ }
+{
+    find_method(table, class, name)
 }
 
 #[no_mangle]

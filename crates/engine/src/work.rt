@@ -1,7 +1,7 @@
 // The work buffer cleared after a run.
 // Not here: what a run does in it (evaluator).
 use crate::session::WORK;
-ghost use Prim.Native.Nat.{ℕ, _≤_};
+ghost use Prim.Native.Nat.{_≤_};
 ghost use mathlib.Core.Path.{_≡_};
 ghost use lib.ListN.{length};
 ghost use Rattle.cofj.specs.Limits.{workSize};

@@ -1,16 +1,19 @@
 -- Calls up to their arguments, as the language has them: one law for each return of the code.
 -- Not here: the call itself (InvokeLaws), what the functions ask of one another (CallSteps).
-use Prim.Native.Nat.{ℕ, suc, _+_, _<_}
+use Prim.Native.Nat.{ℕ, _+_, _<_}
 use native.Mathlib.Omega.{arith}
 use mathlib.Core.Path.{_≡_, refl, sym, ap, _∙_, subst}
 use mathlib.Core.List.{List, []}
 use mathlib.Core.Option.{Option, none, some}
 use lib.ListN.{length, getElem?}
 use Rattle.cofj.specs.Syntax.{Expr, call, Exprs, count, Method, Table}
+use Rattle.cofj.specs.Lookup as lookup
+use Rattle.cofj.specs.Lookup.{foundIn}
 use Rattle.cofj.specs.Writing.{codeOf, codesOf}
 use Rattle.cofj.specs.Values.{Graph}
 use Rattle.cofj.specs.Running as language
 use Rattle.cofj.specs.Running.{Outcome, value, stopped, _then_, orStuck, eval, target, invoke}
+use Rattle.classes.specs.declared.methods.Body.{Body}
 use Rattle.classes.specs.declared.methods.Found.{Found}
 use Rattle.classes.specs.declared.methods.Found.the-variants as found
 use Rattle.classes.specs.Layout.{Finds}
@@ -33,30 +36,34 @@ use Rattle.evaluator.proofs.ListLaws.{list-zero}
 use Rattle.evaluator.proofs.Given.{going-on, halted, given, given-next, all-halted, all-given, all-next}
 
 -- ---- what a lookup finds
-abbrev index : Found → ℕ
-index (found.At i) = suc i
-index found.Nothing = 0
+abbrev present : Found → ℕ
+present (found.At b) = 1
+present found.Nothing = 0
 
-abbrev place : Found → ℕ
-place (found.At i) = i
-place found.Nothing = 0
+abbrev place : Found → Body
+place (found.At b) = b
+place found.Nothing = record { owner = 0; number = 0 }
 
-record MethodFound (ds : List Method) (i : ℕ) (x : Option Method) : Type 0 where
+record MethodFound (ds : List Method) (b : Body) (x : Option lookup.Found) : Type 0 where
   method : Method
-  here : getElem? ds i ≡ some method
-  is : x ≡ some method
+  here : getElem? ds (b .number) ≡ some method
+  is : x ≡ some (foundIn (b .owner) method)
 
-finds-at : (ds : List Method) (f : Found) (x : Option Method) → Finds ds f x → (i : ℕ) → f ≡ found.At i → MethodFound ds i x
-finds-at ds f x (Finds.at {i = j} {d = d} e) i q = record { method = d; here = subst (λ (z : ℕ). getElem? ds z ≡ some d) (ap place q) e; is = refl }
-finds-at ds f x Finds.nothing i q = absurd (let z : 0 ≡ suc i = ap index q in omega arith)
+finds-at : (ds : List Method) (f : Found) (x : Option lookup.Found) → Finds ds f x → (b : Body) → f ≡ found.At b → MethodFound ds b x
+finds-at ds f x (Finds.at {d = d} e) b q = record {
+  method = d;
+  here = subst (λ (z : Body). getElem? ds (z .number) ≡ some d) (ap place q) e;
+  is = ap (λ (z : Body). some (foundIn (z .owner) d)) (ap place q);
+}
+finds-at ds f x Finds.nothing b q = absurd (let z : 0 ≡ 1 = ap present q in omega arith)
 
-finds-none : (ds : List Method) (f : Found) (x : Option Method) → Finds ds f x → f ≡ found.Nothing → x ≡ none
-finds-none ds f x (Finds.at {i = j} {d = d} e) q = absurd (let z : suc j ≡ 0 = ap index q in omega arith)
+finds-none : (ds : List Method) (f : Found) (x : Option lookup.Found) → Finds ds f x → f ≡ found.Nothing → x ≡ none
+finds-none ds f x (Finds.at e) q = absurd (let z : 1 ≡ 0 = ap present q in omega arith)
 finds-none ds f x Finds.nothing q = refl
 
 -- ---- a call, its receiver known
-abbrev chosen : ℕ → ℕ → Table → language.Frame → List language.OpenCall → ℕ → Exprs → Graph → Option Method → ℕ → Outcome Graph
-chosen objects d t p os m es v x n = orStuck x n then λ k n″. (evalsIn objects d t p os es n″ then λ vs n‴. invoke (deeper objects d t) os v m vs k n‴)
+abbrev chosen : ℕ → ℕ → Table → language.Frame → List language.OpenCall → ℕ → Exprs → Graph → Option lookup.Found → ℕ → Outcome Graph
+chosen objects d t p os m es v x n = orStuck x n then λ k n″. (evalsIn objects d t p os es n″ then λ vs n‴. invoke (deeper objects d t) os v m vs (k .body) n‴)
 
 call-step : (objects d : ℕ) (t : Table) (p : language.Frame) (os : List language.OpenCall) (m : ℕ) (e : Expr) (es : Exprs) (fuel : ℕ) (y : Outcome Graph) → y ≡ evalIn objects d t p os e fuel
     → (y then λ v n′. chosen objects d t p os m es v (target t v m (count es)) n′) ≡ evalIn objects d t p os (call m e es) fuel
@@ -79,10 +86,10 @@ module _ (T W : List ℕ) (f : Frame) (tr : List ℕ) (top at left objects d sp 
     })
 
     module _ (v : ValueRef) (at1 fuel1 : ℕ) (eo : o ≡ Value v at1 fuel1) (w : Found) (fi : FindsTarget T W1 v m n w) where
-      target-is : (t : Table) (e : Expr) (es : Exprs) → Reads T left at t e → count es ≡ n → (x : Option Method) → target t (valueOf W1 v) m n ≡ x
+      target-is : (t : Table) (e : Expr) (es : Exprs) → Reads T left at t e → count es ≡ n → (x : Option lookup.Found) → target t (valueOf W1 v) m n ≡ x
           → chosen objects d t (frameIn W f) (traceIn W tr top) m es (valueOf W1 v) x fuel1 ≡ evalIn objects d t (frameIn W f) (traceIn W tr top) (call m e es) fuel
       target-is t e es r c x q =
-          ap (λ (y : Option Method). chosen objects d t (frameIn W f) (traceIn W tr top) m es (valueOf W1 v) y fuel1) (sym q ∙ ap (target t (valueOf W1 v) m) (sym c))
+          ap (λ (y : Option lookup.Found). chosen objects d t (frameIn W f) (traceIn W tr top) m es (valueOf W1 v) y fuel1) (sym q ∙ ap (target t (valueOf W1 v) m) (sym c))
           ∙ call-step objects d t (frameIn W f) (traceIn W tr top) m e es fuel (value (valueOf W1 v) fuel1) (given T W f tr top at left objects d sp fuel W1 o ev v at1 fuel1 eo t e r)
 
       pub call-none : w ≡ found.Nothing → Calls T W f tr top at left objects d sp fuel m n W1 (Halt Stuck fuel1)
@@ -95,15 +102,15 @@ module _ (T W : List ℕ) (f : Frame) (tr : List ℕ) (top at left objects d sp 
         };
       }
 
-      pub call-is : (i : ℕ) (W2 : List ℕ) (x : Out) → Fits W f tr top (left + 1) objects d sp → w ≡ found.At i → CallsWith T W1 f tr top at1 left objects d sp fuel1 v m n i W2 x
+      pub call-is : (b : Body) (W2 : List ℕ) (x : Out) → Fits W f tr top (left + 1) objects d sp → w ≡ found.At b → CallsWith T W1 f tr top at1 left objects d sp fuel1 v m n (b .number) W2 x
           → Calls T W f tr top at left objects d sp fuel m n W2 x
-      call-is i W2 x fit ew cw = record { kept = kept-then sp sp W W1 W2 (omega arith) (ev .kept) (cw .kept); older = cw .older; is = shows }
+      call-is b W2 x fit ew cw = record { kept = kept-then sp sp W W1 W2 (omega arith) (ev .kept) (cw .kept); older = cw .older; is = shows }
         where
           shows : (t : Table) (e : Expr) (es : Exprs) → m < 256 → Reads T left at t e → ReadsAll T left (at + length (codeOf e)) t es → count es ≡ n
               → Shows W2 x (at + length (codeOf e) + length (codesOf es)) (evalIn objects d t (frameIn W f) (traceIn W tr top) (call m e es) fuel)
           shows t e es small r rs c =
               let a1 = given-next T W f tr top at left objects d sp fuel W1 o ev v at1 fuel1 eo t e r in
-              let k = finds-at (t .methods) w (target t (valueOf W1 v) m n) (fi .is t (r .table) small) i ew in
+              let k = finds-at (t .methods) w (target t (valueOf W1 v) m n) (fi .is t (r .table) small) b ew in
               let z = cw .is t es (k .method) (subst (λ (p : ℕ). ReadsAll T left p t es) (sym a1) rs) c (k .here) in
               let ef = frame-same W W1 sp (ev .kept) f (fit .frame) in
               let et = trace-same W W1 sp (ev .kept) tr top (fit .trace) in
@@ -111,7 +118,7 @@ module _ (T W : List ℕ) (f : Frame) (tr : List ℕ) (top at left objects d sp 
               ≡ (evalsIn objects d t (frameIn W f) (traceIn W tr top) es fuel1 then λ vs n′. invoke (deeper objects d t) (traceIn W tr top) (valueOf W1 v) m vs (k .method) n′)
               = (λ j. evalsIn objects d t (ef j) (et j) es fuel1 then λ vs n′. invoke (deeper objects d t) (et j) (valueOf W1 v) m vs (k .method) n′) in
               subst (λ (p : ℕ). Shows W2 x (p + length (codesOf es)) (evalIn objects d t (frameIn W f) (traceIn W tr top) (call m e es) fuel)) a1
-              (record { is = z .is ∙ same ∙ target-is t e es r c (some (k .method)) (k .is); next = z .next })
+              (record { is = z .is ∙ same ∙ target-is t e es r c (some (foundIn (b .owner) (k .method))) (k .is); next = z .next })
 
 -- ---- the arguments
 module _ (T W : List ℕ) (f : Frame) (tr : List ℕ) (top at left objects d sp fuel : ℕ) (v : ValueRef) (m n i : ℕ) (fit : ArgsFit W f tr top left objects d sp v n) (W1 : List ℕ) (l : Listed)

@@ -11,8 +11,9 @@ use lib.ListN.{length, getD}
 use types.Run.{OneOf}
 use denote.Enum.Declared.{tagOf}
 use Rattle.cofj.specs.Limits.{methodCount}
-use Rattle.cofj.specs.Syntax.{Method, Table}
-use Rattle.cofj.specs.Classes.{lookup}
+use Rattle.cofj.specs.Syntax.{Table}
+use Rattle.cofj.specs.Lookup as language
+use Rattle.cofj.specs.Lookup.{foundIn, lookup}
 use Rattle.cofj.specs.Values.{Node, Ref, canon, leaf, nodeAt, obj, refsAt}
 use Rattle.cofj.specs.Running.{classOf, target}
 use Rattle.cofj.specs.WellFormed.{MethodFormed}
@@ -61,9 +62,9 @@ class-in W b i ob =
 pub object-room : (W : List ℕ) (v : ValueRef) (b i : ℕ) → Holds W v → v ≡ Object i b → blockSize * b + objectSize * i + objectSize ≤ length W
 object-room W v b i h e = inside-room W b i (object-in W v b i h e)
 
-none-found : (t : Table) (x : Option Method) → x ≡ none → Finds (t .methods) found.Nothing x
+none-found : (t : Table) (x : Option language.Found) → x ≡ none → Finds (t .methods) found.Nothing x
 none-found t none e = Finds.nothing
-none-found t (some d) e = absurd (Option·none-ne-some d (sym e))
+none-found t (some y) e = absurd (Option·none-ne-some y (sym e))
 
 module _ (T W : List ℕ) (v : ValueRef) (m n : ℕ) where
   pub find-none : OneOf (1 ∷ 2 ∷ 3 ∷ []) (tagOf RefT.the-type v) → FindsTarget T W v m n found.Nothing
@@ -76,14 +77,14 @@ module _ (T W : List ℕ) (v : ValueRef) (m n : ℕ) where
     class-is : classOf (valueOf W v) ≡ some (classAt W b j)
     class-is = ap (λ (r : ValueRef). classOf (valueOf W r)) ev ∙ class-in W b j (object-in W v b j hv ev)
 
-    counted-is : (t : Table) → Tabled T t → (f : Found) (x : Option Method) → Finds (t .methods) f x → lookup t (classAt W b j) m ≡ x
+    counted-is : (t : Table) → Tabled T t → (f : Found) (x : Option language.Found) → Finds (t .methods) f x → lookup t (classAt W b j) m ≡ x
         → Finds (t .methods) (counted T n f) (target t (valueOf W v) m n)
     unfolding target
-    counted-is t tb f x (Finds.at {i} {d} e) q =
+    counted-is t tb f x (Finds.at {o} {i} {d} e) q =
         let l : i < methodCount = (let a = index-below (t .methods) i d e in let c = tb .formed .count in omega arith) in
         rw (tb .bytes, param-count-at t i d l e, class-is, target, q) (go (eqb (length (d .params)) n))
       where
-        go : (y : Bool) → Finds (t .methods) (pick y (found.At i) found.Nothing) (elim y as (λ _. Option Method) [ true ↦ some d | false ↦ none ])
+        go : (y : Bool) → Finds (t .methods) (pick y (found.At (record { owner = o; number = i })) found.Nothing) (elim y as (λ _. Option language.Found) [ true ↦ some (foundIn o d) | false ↦ none ])
         go true = Finds.at e
         go false = Finds.nothing
     counted-is t tb f x Finds.nothing q = none-found t (target t (valueOf W v) m n) (target-lacks t (valueOf W v) m n (classAt W b j) class-is q)
@@ -95,10 +96,10 @@ module _ (T W : List ℕ) (v : ValueRef) (m n : ℕ) where
         (subst (λ (B : List ℕ). Finds (t .methods) (lookupOf B (classAt W b j) m) (lookup t (classAt W b j) m)) (sym (tb .bytes))
         (lookup-on t (tb .formed) m s (classAt W b j))) refl
 
-    many-is : (t : Table) → Tabled T t → 3 < n → (f : Found) (x : Option Method) → Finds (t .methods) f x → lookup t (classAt W b j) m ≡ x → target t (valueOf W v) m n ≡ none
-    many-is t tb h f x (Finds.at {i} {d} e) q =
+    many-is : (t : Table) → Tabled T t → 3 < n → (f : Found) (x : Option language.Found) → Finds (t .methods) f x → lookup t (classAt W b j) m ≡ x → target t (valueOf W v) m n ≡ none
+    many-is t tb h f x (Finds.at {o} {i} {d} e) q =
         let few = method-at (MethodFormed t) (t .methods) i d (tb .formed .methods) e .few in
-        target-count t (valueOf W v) m n (classAt W b j) d class-is q (λ z. omega arith)
+        target-count t (valueOf W v) m n (classAt W b j) (foundIn o d) class-is q (λ z. omega arith)
     many-is t tb h f x Finds.nothing q = target-lacks t (valueOf W v) m n (classAt W b j) class-is q
 
     pub find-many : 3 < n → FindsTarget T W v m n found.Nothing
@@ -115,5 +116,5 @@ module _ (T W : List ℕ) (v : ValueRef) (m n : ℕ) where
     }
       where
         few-if : (x : Found) → FewIf n x
-        few-if (found.At i) = h
+        few-if (found.At k) = h
         few-if found.Nothing = tt

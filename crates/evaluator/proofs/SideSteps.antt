@@ -228,13 +228,10 @@ module _ (T W S : List ℕ) (v : ValueRef) (A : List ℕ) (n i m : ℕ) (p : Spo
             (ap (outWith (fuelOf S2)) eo) g;
       }
 
--- ---- where the sides stand and what they are evaluated with (right_spot, left_spot, side_frame)
+-- ---- where the sides stand (right_spot, left_spot)
 module _ (T : List ℕ) (i : ℕ) (p : Spot) (at : ℕ) (q : Spot) where
   pub right-stands : (at ≡ rightOf T i) × (at < 65536) → q ≡ bodySpot p at (p .opened) → q ≡ bodySpot p (rightOf T i) (p .opened)
   right-stands e eq = eq ∙ ap (λ (a : ℕ). bodySpot p a (p .opened)) (e .0)
 
   pub left-stands : (at ≡ leftOf T i) × (at < 65536) → q ≡ bodySpot p at (p .opened + 1) → q ≡ bodySpot p (leftOf T i) (p .opened + 1)
   left-stands e eq = eq ∙ ap (λ (a : ℕ). bodySpot p a (p .opened + 1)) (e .0)
-
-pub frame-owned : (v : ValueRef) (res : Held) (A : List ℕ) (n x y : ℕ) (f : Frame) → x ≡ y → f ≡ bodyFrame v res A n x → f ≡ bodyFrame v res A n y
-frame-owned v res A n x y f e ef = ef ∙ ap (bodyFrame v res A n) e

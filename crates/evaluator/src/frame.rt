@@ -21,7 +21,7 @@ pub enum Held {
     Absent,
 }
 
-// The variables of a body: this, res and the first n arguments; and the class that owns the body, for 2026-07 (open calls by owner) to read.
+// The variables of a body: this, res and the first n arguments; and the class that owns the body, as the search answered it, for 2026-07 (open calls by owner) to read.
 // In main there is no `this` and no `res`, the one parameter is the input, if there is one, and the owner is 0.
 pub struct Frame {
     pub this: Held,

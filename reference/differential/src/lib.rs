@@ -2,6 +2,7 @@
 //! The proved calls themselves are in host/; what single programs must give is said in the tests.
 
 pub mod compare;
+pub mod finds;
 pub mod sample;
 pub mod show;
 pub mod table;

@@ -29,7 +29,9 @@ pub fn kind(kind: Kind, seed: u64, count: u64) -> Result<Tally, Difference> {
 pub fn mixed(seed: u64, number: u64) -> (Vec<u8>, [u16; 2]) {
     let mut random = Random::for_case(seed, number);
     let kind = match random.below(1_000) {
-        0..400 => Kind::Plain,
+        0..350 => Kind::Plain,
+        350..390 => Kind::Chains,
+        390..400 => Kind::Overrides,
         400..450 => Kind::Typed,
         450..480 => Kind::Limits,
         480..738 => Kind::IllTyped,
@@ -41,6 +43,19 @@ pub fn mixed(seed: u64, number: u64) -> (Vec<u8>, [u16; 2]) {
     let all = fuels(&mut random);
     let fuel = |random: &mut Random| all[random.below(all.len())];
     (text, [fuel(&mut random), fuel(&mut random)])
+}
+
+/// Text `number` of a seed that passes 1 to 5, for where its methods are found: chains of classes most often.
+pub fn table(seed: u64, number: u64) -> Vec<u8> {
+    let mut random = Random::for_case(seed, number);
+    let kind = match random.below(100) {
+        0..50 => Kind::Chains,
+        50..75 => Kind::Plain,
+        75..85 => Kind::IllTyped,
+        85..90 => Kind::Large,
+        _ => return batch::draw(batch::Kind::Fitting, &mut random).text,
+    };
+    text(kind, &mut random)
 }
 
 /// Program `number` of a seed's rings, and two fuels: one under which some stop half-way, and one that most end with.

@@ -1,17 +1,20 @@
-//! The bytes of a class table, laid out from the reference engine's table by docs/TABLE.md, and the text of such bytes.
+//! The bytes of a class table by docs/TABLE.md: laid out from the reference engine's table, the text of such bytes, and where a
+//! method is found in any bytes.
 
-use baqolluy::TABLE_LENGTH;
+use baqolluy::{Found, TABLE_LENGTH};
 use reference::classes;
 use reference::reading;
 use reference::syntax::{MAX_CLASSES, MAX_FIELDS, MAX_METHODS, Table, Type};
 use reference::text::push_line;
 use reference::writing::{main_bytes, method_bytes};
 
-const ROW: usize = 16;
-const INDEX: usize = 528;
-const METHODS: usize = 8_976;
+/// Class rows begin at 0.
+pub const ROW: usize = 16;
+pub const INDEX: usize = 528;
+pub const METHODS: usize = 8_976;
 const MAIN: usize = 25_360;
-const LONG: usize = 256;
+/// The bytes of a method's row, of main's, and of a class's part of the index.
+pub const LONG: usize = 256;
 /// The bytes of the type that stands before an `04` main's expression.
 const INPUT: usize = 2;
 
@@ -52,6 +55,24 @@ pub fn text(bytes: &[u8]) -> Option<Vec<u8>> {
     let text = lines(bytes)?;
     let table = reading::read(&text).ok()?;
     (layout(&table) == bytes).then_some(text)
+}
+
+/// Where the index of any bytes has a method, from a class to parents with smaller numbers. A class above 32 has no row.
+pub fn find(bytes: &[u8], class: u8, name: u8) -> Option<Found> {
+    let mut class = usize::from(class);
+    while class <= MAX_CLASSES {
+        let entry = bytes[INDEX + LONG * class + usize::from(name)];
+        if let Some(method) = entry.checked_sub(1) {
+            let owner = small(class);
+            return Some(Found { owner, method });
+        }
+        let parent = usize::from(bytes[ROW * class]);
+        if parent >= class {
+            return None;
+        }
+        class = parent;
+    }
+    None
 }
 
 fn lines(bytes: &[u8]) -> Option<Vec<u8>> {

@@ -91,6 +91,21 @@ fn damaged_texts() {
     }
 }
 
+/// Methods from far up, declared again with classes between; and such ones with other types, which are refused.
+#[test]
+fn methods_up_chains_of_classes() {
+    let tally = compared(Kind::Chains, 108, 5_000);
+    assert_accepted(&tally);
+    for mode in [Checked, Trial] {
+        assert_ended(&tally, mode, &["05", "0702"], 5_000);
+        assert_ended(&tally, mode, &["0703"], 100);
+    }
+    let refused = compared(Kind::Overrides, 109, 5_000);
+    for mode in [Checked, Trial] {
+        assert_eq!(refused.refused(mode, 5), 7 * refused.programs);
+    }
+}
+
 /// Graphs that lie apart, put together: equal objects in several of them, some too large together.
 #[test]
 fn rings_put_together() {

@@ -231,6 +231,23 @@ fn one_call_more() {
     }
 }
 
+/// A method that is looked for through as many classes as there can be, by a run and by itself.
+#[test]
+fn the_longest_search() {
+    let mut p = Program::start();
+    for above in 0..32 {
+        p.class(above, &[]);
+    }
+    let types = (plus(1), plus(1));
+    p.method((1, SAME), types, &[], (this(), this()));
+    let text = p.text(call(SAME, new(32, []), []));
+    assert_ends(&text, "05002000", 1, 1);
+    assert_read_and_written(&text);
+    let reading = Box::new(baqolluy::read(&text));
+    let found = in_thread(|| baqolluy::find(&reading.table, 32, SAME));
+    assert_eq!(found.map(|found| found.owner), Some(1));
+}
+
 #[test]
 fn full_texts() {
     for number in 0..10 {

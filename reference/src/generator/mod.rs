@@ -3,6 +3,7 @@
 //! written down in `rows.rs`; runs on a second text are drawn in `batch`.
 
 pub mod batch;
+mod chains;
 mod counting;
 mod damaged;
 mod exprs;
@@ -45,6 +46,10 @@ pub enum Kind {
     Large,
     /// Accepted, and full of rings that are put together.
     Rings,
+    /// Accepted, with methods that are found far up chains of classes.
+    Chains,
+    /// Refused 5: such a method, declared again with other types.
+    Overrides,
 }
 
 impl Kind {
@@ -58,6 +63,8 @@ impl Kind {
             "full" => Some(Kind::Full),
             "large" => Some(Kind::Large),
             "rings" => Some(Kind::Rings),
+            "chains" => Some(Kind::Chains),
+            "overrides" => Some(Kind::Overrides),
             _ => None,
         }
     }
@@ -74,6 +81,8 @@ pub fn text(kind: Kind, random: &mut Random) -> Vec<u8> {
         Kind::Full => written(&full::table(random)),
         Kind::Large => written(&large::table(random)),
         Kind::Rings => rings::Rings::draw(random).text(),
+        Kind::Chains => written(&chains::table(random)),
+        Kind::Overrides => chains::refused(random),
     }
 }
 
@@ -121,7 +130,9 @@ pub struct Case {
 /// A case of the usual mixture.
 pub fn case(random: &mut Random) -> Case {
     let (kind, mode) = match random.below(100) {
-        0..60 => (Kind::Typed, Mode::Checked),
+        0..53 => (Kind::Typed, Mode::Checked),
+        53..58 => (Kind::Chains, Mode::Checked),
+        58..60 => (Kind::Overrides, Mode::Checked),
         60..64 => (Kind::Typed, Mode::Trial),
         64..74 => (Kind::IllTyped, Mode::Checked),
         74..84 => (Kind::IllTyped, Mode::Trial),

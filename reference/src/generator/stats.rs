@@ -53,6 +53,9 @@ fn names(case: &Case) -> Vec<String> {
     if tally.open > 0 {
         names.push(format!("{mode}: run, open value in a call"));
     }
+    if tally.inherited > 0 {
+        names.push(format!("{mode}: run, inherited method"));
+    }
     if let Ok(value) = &outcome {
         let shape = if is_cyclic(value) { "cyclic" } else { "tree" };
         let size = bucket(in_order_met(value).len());

@@ -4,9 +4,10 @@
 //!
 //! Most rows come twice: light, where the work is done once, and heavy, where
 //! it is done again and again, so that evaluation outweighs reading. The last
-//! rows have a second text, or are those of numbers.
+//! rows have a second text, or are those of numbers or of chains of classes.
 
 mod batch;
+mod chains;
 mod examples;
 mod laying;
 mod lists;
@@ -107,6 +108,7 @@ pub fn all() -> Vec<Workload> {
     all.extend(equal_objects());
     all.extend(batch());
     all.extend(tallies::all());
+    all.extend(chains::all());
     all
 }
 

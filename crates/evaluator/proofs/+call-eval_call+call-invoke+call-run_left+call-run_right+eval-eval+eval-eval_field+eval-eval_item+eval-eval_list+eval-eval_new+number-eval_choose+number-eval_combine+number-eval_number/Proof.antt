@@ -45,7 +45,6 @@ use Rattle.classes.proofs.skip.skip_expr.Reads as skip-expr-reads
 use Rattle.classes.proofs.chain.field_total.Reads as field-total-reads
 use Rattle.evaluator.proofs.call.left_spot.Reads as left-spot-reads
 use Rattle.evaluator.proofs.call.right_spot.Reads as right-spot-reads
-use Rattle.evaluator.proofs.call.side_frame.Reads as side-frame-reads
 use Rattle.evaluator.proofs.eval.again.Reads as again-reads
 use Rattle.evaluator.proofs.eval.finish.Reads as finish-reads
 use Rattle.evaluator.proofs.eval.halted.Reads as halted-reads
@@ -55,6 +54,7 @@ use Rattle.evaluator.proofs.eval.stopped.Reads as stopped-reads
 use Rattle.evaluator.proofs.fields.fields_at.Reads as fields-at-reads
 use Rattle.evaluator.proofs.find.find.Reads as find-reads
 use Rattle.evaluator.proofs.frame.answer.Reads as answer-reads
+use Rattle.evaluator.proofs.frame.body_frame.Reads as body-frame-reads
 use Rattle.evaluator.proofs.frame.parameter.Reads as parameter-reads
 use Rattle.evaluator.proofs.frame.res_of.Reads as res-of-reads
 use Rattle.evaluator.proofs.frame.this_of.Reads as this-of-reads
@@ -208,10 +208,10 @@ abbrev call·invoke-claims : ℕ → call·invoke-lts.Claims
 call·invoke-claims t = (open-call-reads.Asked, open-call-reads.Learnt, call·run-right-below t, call·run-right.Post, call·run-left-below t, call·run-left.Post)
 
 abbrev call·run-left-claims : ℕ → call·run-left-lts.Claims
-call·run-left-claims t = (push-reads.Asked, push-reads.Learnt, side-frame-reads.Asked, side-frame-reads.Learnt, left-spot-reads.Asked, left-spot-reads.Learnt, eval·eval-below t, eval·eval.Post, close-reads.Asked, close-reads.Learnt)
+call·run-left-claims t = (push-reads.Asked, push-reads.Learnt, body-frame-reads.Asked, body-frame-reads.Learnt, left-spot-reads.Asked, left-spot-reads.Learnt, eval·eval-below t, eval·eval.Post, close-reads.Asked, close-reads.Learnt)
 
 abbrev call·run-right-claims : ℕ → call·run-right-lts.Claims
-call·run-right-claims t = (side-frame-reads.Asked, side-frame-reads.Learnt, right-spot-reads.Asked, right-spot-reads.Learnt, eval·eval-below t, eval·eval.Post, bring-reads.Asked, bring-reads.Learnt)
+call·run-right-claims t = (body-frame-reads.Asked, body-frame-reads.Learnt, right-spot-reads.Asked, right-spot-reads.Learnt, eval·eval-below t, eval·eval.Post, bring-reads.Asked, bring-reads.Learnt)
 
 abbrev eval·eval-claims : ℕ → eval·eval-lts.Claims
 eval·eval-claims t = (shape-at-reads.Asked, shape-at-reads.Learnt, this-of-reads.Asked, this-of-reads.Learnt, answer-reads.Asked, answer-reads.Learnt, res-of-reads.Asked, res-of-reads.Learnt, parameter-reads.Asked, parameter-reads.Learnt, inner-reads.Asked, inner-reads.Learnt, eval·eval-field-below t, eval·eval-field.Post, again-reads.Asked, again-reads.Learnt, call·eval-call-below t, call·eval-call.Post, eval·eval-new-below t, eval·eval-new.Post, number·eval-number-below t, number·eval-number.Post)
@@ -279,7 +279,10 @@ pub +call·eval-call+call·invoke+call·run-left+call·run-right+eval·eval+eval
           (then2 .if2 .taken) _ _ (c .moved .ensures),
     ))
     (λ c κs. search needs)
-    (λ c. search needs)
+    (λ c. let at-invoke = c .before .before .before in
+    let at-w = at-invoke .before .before .before .before .before .before .before in
+    let at-eval = at-w .before .before .before .before .before .before .before .before .before in
+    calls.bare-length _ _ _ _ _ _ _ _ (at-eval .eval .ensures) _ _ _ _ _ _ _ _ _ (at-invoke .invoke .ensures))
     (λ c. let at-invoke = c .before .before .before in
     let at-moved = at-invoke .before in
     let then2 = at-moved .before .before .before .before in

@@ -29,8 +29,6 @@ place-method-spec =
     (λ c. search needs)
     (λ c. search needs)
     (λ c κs. search needs)
-    (λ c. search needs)
-    (λ c. search needs)
     returns-3
     (λ c κs. search needs)
     returns-4
