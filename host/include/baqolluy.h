@@ -89,7 +89,7 @@ typedef struct line_reading {
 typedef struct line_finding {
     bool found;
     uint8_t owner;  /* the class that has the method itself; 0 if there is none */
-    uint8_t method; /* its number in the text, from 0; 0 if there is none */
+    uint8_t method; /* its number among the text's methods, from 0; 0 if there is none */
 } line_finding;
 
 /* Sizes and places as the library has them: from C11 and C++11 on, a compiler that lays these structs out otherwise

@@ -71,7 +71,7 @@ pub struct Reading {
     pub table: ClassTable,
 }
 
-/// A method that was found: the class that has it itself, and its number in the text, from 0.
+/// A method that was found: the class that has it itself, and its number among the text's methods, from 0.
 #[derive(Clone, Copy, Debug, PartialEq, Eq)]
 pub struct Found {
     pub owner: u8,

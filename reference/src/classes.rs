@@ -41,8 +41,8 @@ pub fn fields(table: &Table, class: u8) -> Vec<Type> {
     all
 }
 
-/// A method and where it was found: the class that owns it, and its number in
-/// the text, from 0.
+/// A method and where it was found: the class that owns it, and its number among
+/// the text's methods, from 0.
 #[derive(Clone, Copy, Debug, PartialEq, Eq)]
 pub struct Found<'a> {
     pub owner: u8,

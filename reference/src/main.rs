@@ -11,7 +11,7 @@ use std::process::ExitCode;
 
 const USAGE: &str = "usage: reference run < TEXT
        reference stats SEED COUNT
-       reference rows SEED COUNT [batch]
+       reference rows SEED COUNT [batch|find]
        reference emit typed|plain|limits|illtyped|damaged|full|large|rings|chains|overrides SEED
        reference emit batch fitting|rings|limits|illtyped|damaged|flawed SEED";
 
@@ -48,6 +48,11 @@ fn command(words: &[&str]) -> Option<io::Result<()>> {
             seed.parse().ok()?,
             count.parse().ok()?,
             rows::batch_row,
+        )),
+        ["rows", seed, count, "find"] => Some(print_rows(
+            seed.parse().ok()?,
+            count.parse().ok()?,
+            rows::find_row,
         )),
         ["emit", "batch", kind, seed] => {
             let mut random = Random::new(seed.parse().ok()?);

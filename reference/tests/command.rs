@@ -1,5 +1,7 @@
 //! The binary: document 01's `linerun` as `run`, and the other commands.
 
+use reference::classes::find;
+use reference::reading::read;
 use std::io::Write;
 use std::process::{Command, Output, Stdio};
 
@@ -100,8 +102,35 @@ fn rows_and_emit_with_second_texts() {
 }
 
 #[test]
+fn rows_of_searches_for_methods() {
+    let rows = printed(&["rows", "4", "300", "find"], b"");
+    assert_eq!(rows.lines().count(), 300);
+    assert_eq!(rows, printed(&["rows", "4", "300", "find"], b""));
+    assert_ne!(rows, printed(&["rows", "5", "300", "find"], b""));
+    let (mut found, mut inherited) = (0, 0);
+    for row in rows.lines() {
+        let fields: Vec<&str> = row.split('\t').collect();
+        let [class, name, text, answer] = fields[..] else {
+            panic!("{row}");
+        };
+        let table = read(text.replace("\\n", "\n").as_bytes()).unwrap();
+        let expected = find(&table, class.parse().unwrap(), name.parse().unwrap());
+        let Some(method) = expected else {
+            assert_eq!(answer, "none", "{row}");
+            continue;
+        };
+        let place = format!("{} {}", method.owner, method.number);
+        assert_eq!(answer, place, "{row}");
+        found += 1;
+        inherited += usize::from(method.owner.to_string() != class);
+    }
+    assert!((180..220).contains(&found), "{found}");
+    assert!(inherited > 80, "{inherited}");
+}
+
+#[test]
 fn anything_else_is_no_command() {
-    let wrong: [&[&str]; 10] = [
+    let wrong: [&[&str]; 11] = [
         &[],
         &["walk"],
         &["run", "fast"],
@@ -112,6 +141,7 @@ fn anything_else_is_no_command() {
         &["emit", "batch", "typed", "1"],
         &["emit", "batch", "rings"],
         &["rows", "1", "2", "rings"],
+        &["rows", "1", "find"],
     ];
     for words in wrong {
         let output = command(words, b"");

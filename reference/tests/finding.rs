@@ -44,7 +44,8 @@ fn the_owner_is_the_nearest_class_that_has_the_name() {
 }
 
 /// Class 2's method 2 calls method 1 on this: class 1's for an object of class 2,
-/// class 3's for one of class 3. Each body makes an object of its own class.
+/// class 3's for one of class 3. The bodies of method 1 make objects of classes 4
+/// and 6, so that a report tells which ran.
 const DISPATCH: &str = "01010000/01020100/01030200/01040000/01050000/01060000/\
                         0201010000000000450400450400/020202000000000044010040450500/\
                         0203010000000000450600450600/";

@@ -140,7 +140,7 @@ module _ (t : Table) (wf : WellFormed t) (inMain : Bool) (g : Env) (kg : KnownEn
   -- the arguments es stand at a1; the method was found
   module _ (es : Exprs) (each : Each P es) (kn : exprsKnown (length (t .classes)) es ≡ true) (a1 : ℕ) (st : Stands (layout t) a1 (codesOf es)) where
     counted-is : (o i : ℕ) (d : Method) → getElem? (t .methods) i ≡ some d
-        → calledBy (layout t) one inMain (count es) a1 (counted (layout t) (count es) (method.At (record { owner = o; number = i })))
+        → calledBy (layout t) one inMain (count es) a1 (counted (layout t) (count es) (method.At o i))
         ≡ typedAt (typesOf t inMain g es >>= λ us. guard (allClosed us && allFit t us (d .params)) >>= λ _. some (cond inMain (d .first) (d .second))) (a1 + length (codesOf es))
     unfolding argsBy
     counted-is o i d e = rw (param-count-at t i d l e) (go (eqb (length (d .params)) (count es)) refl)
@@ -149,7 +149,7 @@ module _ (t : Table) (wf : WellFormed t) (inMain : Bool) (g : Env) (kg : KnownEn
         l = let a = index-below (t .methods) i d e in let b = wf .count in omega arith
 
         go : (b : Bool) → eqb (length (d .params)) (count es) ≡ b
-            → calledBy (layout t) one inMain (count es) a1 (pick b (method.At (record { owner = o; number = i })) method.Nothing)
+            → calledBy (layout t) one inMain (count es) a1 (pick b (method.At o i) method.Nothing)
             ≡ typedAt (typesOf t inMain g es >>= λ us. guard (allClosed us && allFit t us (d .params)) >>= λ _. some (cond inMain (d .first) (d .second))) (a1 + length (codesOf es))
         go true q =
             let r = method-at (MethodFormed t) (t .methods) i d (wf .methods) e in

@@ -9,7 +9,6 @@ use borrow.Author.Tests.{eq-eqb, ne-eqb, not-true, not-false}
 use Rattle.cofj.specs.Typing.{closedTag}
 use Rattle.classes.specs.declared.chain.FieldType.{FieldType}
 use Rattle.classes.specs.declared.chain.FieldFound.{FieldFound}
-use Rattle.classes.specs.declared.methods.Body.{Body}
 use Rattle.classes.specs.declared.methods.Found.{Found}
 use Rattle.classes.specs.declared.methods.Found.the-variants as method
 use Rattle.classes.specs.Machine.{pick, fieldOf, totalOf}
@@ -47,9 +46,9 @@ module _ (B : List ℕ) (one : Walk) (inMain : Bool) (m n at : ℕ) (o : Typed) 
     unfolding callBy
     call-none q = rw (← eo, e, ← ef, q)
 
-    pub call-is : (b : Body) (r : Typed) → f ≡ method.At b → r ≡ argsBy B one inMain (b .number) n next → r ≡ callBy B one inMain m n at
+    pub call-is : (own i : ℕ) (r : Typed) → f ≡ method.At own i → r ≡ argsBy B one inMain i n next → r ≡ callBy B one inMain m n at
     unfolding callBy
-    call-is b r q p = rw (← eo, e, ← ef, q) p
+    call-is own i r q p = rw (← eo, e, ← ef, q) p
 
 -- ---- a list, of which f makes X: the expressions from k on still give it
 module _ (B : List ℕ) (one : Walk) (items : Items) (k n : ℕ) (closed : Bool) (a : ℕ) (f : Listed → Typed) (X : Typed) (w : f (listBy B one items k (n - k) closed a) ≡ X) where

@@ -58,7 +58,7 @@ unfoldable pub argsBy : List ℕ → Walk → Bool → ℕ → ℕ → ℕ → T
 argsBy B one inMain i n at = argsThen B inMain i (listBy B one (Parameters i) 0 n true at)
 
 abbrev pub calledBy : List ℕ → Walk → Bool → ℕ → ℕ → Found → Typed
-calledBy B one inMain n at (method.At b) = argsBy B one inMain (b .number) n at
+calledBy B one inMain n at (method.At o i) = argsBy B one inMain i n at
 calledBy B one inMain n at method.Nothing = No
 
 unfoldable pub callBy : List ℕ → Walk → Bool → ℕ → ℕ → ℕ → Typed

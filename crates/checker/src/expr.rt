@@ -128,10 +128,10 @@ pub(crate) fn type_call(t: &[u8; SIZE], scope: Scope, m: u8, n: u8, at: usize, l
         return Typed::No;
     };
     let f = receiver(t, class, tag, m, n);
-    let Found::At(found) = f else {
+    let Found::At(_, i) = f else {
         return Typed::No;
     };
-    type_args(t, scope, found.number, n, next, left)
+    type_args(t, scope, i, n, next, left)
 }
 
 // The n arguments of a call of method i: each has a closed tag and fits its parameter.

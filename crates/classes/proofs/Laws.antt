@@ -11,7 +11,6 @@ use Rattle.cofj.specs.Limits.{classCount}
 use Rattle.classes.specs.Figures.{rowSize}
 use Rattle.classes.specs.declared.chain.FieldFound.{FieldFound}
 use Rattle.classes.specs.declared.chain.FieldFound.the-variants as field
-use Rattle.classes.specs.declared.methods.Body.{Body}
 use Rattle.classes.specs.declared.methods.Found.{Found}
 use Rattle.classes.specs.declared.methods.Found.the-variants as found
 use Rattle.classes.specs.Machine.{Stored, pick, up, totalOf, fitsIn, fitsOf, typeAt, ownField, fieldIn, fieldOf, numbered, ownOf, orElse, lookupIn, lookupOf, methodWith, rowOf, paramOf, inputType}
@@ -169,7 +168,7 @@ lookup-stop B zero c m l = refl
 lookup-stop B (suc n) c m l = rw (le-leb c (up B c) l) (go (ownOf B c m))
   where
     go : (o : Found) → orElse o found.Nothing ≡ o
-    go (found.At b) = refl
+    go (found.At o i) = refl
     go found.Nothing = refl
 
 lookup-enough : (B : List ℕ) (n k c m : ℕ) → c ≤ n → c ≤ k → lookupIn B n c m ≡ lookupIn B k c m
@@ -210,7 +209,7 @@ module _ (B : List ℕ) (c m o x : ℕ) (eo : lookupOf B c m ≡ ownOf B o m) (e
   pub lookup-none : x ≡ 0 → found.Nothing ≡ lookupOf B c m
   lookup-none z = rw (eo, ex, eq-eqb x 0 z)
 
-  pub lookup-at : (x ≡ 0 → ⊥) → found.At (record { owner = o; number = x - 1 }) ≡ lookupOf B c m
+  pub lookup-at : (x ≡ 0 → ⊥) → found.At o (x - 1) ≡ lookupOf B c m
   lookup-at n = rw (eo, ex, ne-eqb x 0 n)
 
 -- a class byte without a row has none
@@ -234,12 +233,12 @@ module _ (B : List ℕ) (c m n : ℕ) (f : Found) (ef : f ≡ lookupOf B c m) wh
   unfolding methodWith
   with-none e = rw (← ef, e)
 
-  module _ (b : Body) (x : ℕ) (e : f ≡ found.At b) (ex : x ≡ getD B (rowOf (b .number) + 7) 0) where
+  module _ (o i x : ℕ) (e : f ≡ found.At o i) (ex : x ≡ getD B (rowOf i + 7) 0) where
     pub with-other : (x ≡ n → ⊥) → found.Nothing ≡ methodWith B c m n
     unfolding methodWith
     with-other q = rw (← ef, e, ← ex, ne-eqb x n q)
 
-    pub with-is : x ≡ n → found.At b ≡ methodWith B c m n
+    pub with-is : x ≡ n → found.At o i ≡ methodWith B c m n
     unfolding methodWith
     with-is q = rw (← ef, e, ← ex, eq-eqb x n q)
 

@@ -1,4 +1,4 @@
--- Places in lists, and runs of stores.
+-- Places in lists, of methods by their owner and name too, and runs of stores.
 use Prim.Native.Nat.{ℕ, zero, suc, _+_, _-_, _<_, _≤_}
 use native.Mathlib.Nat.{not-suc-le-zero}
 use native.Mathlib.Omega.{arith}

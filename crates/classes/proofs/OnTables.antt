@@ -19,11 +19,10 @@ use Rattle.cofj.specs.WellFormed.{AllMethods, WellFormed, MethodFormed}
 use Rattle.cofj.proofs.Chain.{ParentsSmaller, parent-le, past-fits}
 use Rattle.cofj.proofs.Climb.{fields-past}
 use Rattle.cofj.proofs.Findings.{place-at}
-use Rattle.cofj.proofs.Lookup.{own, found-own, Owned, owned-of, none-at-0, lookup-object, lookup-past as past-lookup}
+use Rattle.cofj.proofs.Lookup.{own, found-own, Owned, owned, none-at-0, lookup-object, lookup-past as past-lookup}
 use Rattle.classes.specs.declared.chain.FieldFound.the-variants as field
-use Rattle.classes.specs.declared.methods.Body.{Body}
 use Rattle.classes.specs.declared.methods.Found.{Found}
-use Rattle.classes.specs.declared.methods.Found.the-variants as found-as
+use Rattle.classes.specs.declared.methods.Found.the-variants as answer
 use Rattle.classes.specs.Machine.{pick, up, totalOf, typeAt, fitsIn, fitsOf, ownField, fieldIn, fieldOf, numbered, ownOf, orElse, lookupIn, lookupOf, rowOf}
 use Rattle.classes.specs.Layout.{layout, foundType, Finds, at, nothing}
 use Rattle.classes.proofs.Lists.{at-front, at-after, past, within, index-below, index-is}
@@ -174,10 +173,10 @@ module _ (t : Table) (wf : WellFormed t) where
           field-past (layout t) c f h ∙ ap (λ (us : List Ty). foundType (getElem? us f)) (sym (none-past c h))
 
 -- ---- methods
--- where in the bytes the answer of a lookup for the name m stands
+-- the byte search's answer for what the language's search for the name m finds
 abbrev pub foundAs : Table → ℕ → Option language.Found → Found
-foundAs t m none = found-as.Nothing
-foundAs t m (some f) = found-as.At (record { owner = f .owner; number = placeOf (t .methods) (f .owner) m })
+foundAs t m none = answer.Nothing
+foundAs t m (some f) = answer.At (f .owner) (placeOf (t .methods) (f .owner) m)
 
 -- a method that class c has itself
 abbrev ownIn : ℕ → Option Method → Option language.Found
@@ -233,7 +232,7 @@ module _ (t : Table) (wf : WellFormed t) (m : ℕ) (small : m < 256) (c : ℕ) w
     where
       go : (b : Bool) → leb c classCount ≡ b → lookupOf (layout t) c m ≡ foundAs t m (lookup t c m)
       go true q =
-          lookup-as t (wf .parents) (owned-of (MethodFormed t) (t .methods) (λ d f. f .owned) (wf .methods)) m small c c (omega arith) (leb-true c classCount q)
+          lookup-as t (wf .parents) (owned t wf) m small c c (omega arith) (leb-true c classCount q)
       go false q =
           let h = leb-false c classCount q in
           let l = wf .classes in
@@ -243,12 +242,12 @@ module _ (t : Table) (wf : WellFormed t) (m : ℕ) (small : m < 256) (c : ℕ) w
   lookup-on = rw found-on (finds-as t c m)
 
   -- the class where the search stops is the owner that the method's row names
-  pub row-owner : (b : Body) → lookupOf (layout t) c m ≡ found-as.At b → getD (layout t) (rowOf (b .number) + 1) 0 ≡ b .owner
-  row-owner b e = subst Named (sym found-on ∙ e) (go (lookup t c m) refl)
+  pub row-owner : (o i : ℕ) → lookupOf (layout t) c m ≡ answer.At o i → getD (layout t) (rowOf i + 1) 0 ≡ o
+  row-owner o i e = subst Named (sym found-on ∙ e) (go (lookup t c m) refl)
     where
       Named : Found → Type 0
-      Named (found-as.At x) = getD (layout t) (rowOf (x .number) + 1) 0 ≡ x .owner
-      Named found-as.Nothing = Unit {0}
+      Named (answer.At x y) = getD (layout t) (rowOf y + 1) 0 ≡ x
+      Named answer.Nothing = Unit {0}
 
       go : (o : Option language.Found) → lookup t c m ≡ o → Named (foundAs t m o)
       go none q = tt

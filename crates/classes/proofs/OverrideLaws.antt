@@ -8,7 +8,6 @@ use mathlib.Core.Bool.{Bool, true, false, _&&_, not}
 use mathlib.Core.List.{List}
 use lib.ListN.{getD}
 use borrow.Author.Tests.{eq-eqb, ne-eqb}
-use Rattle.classes.specs.declared.methods.Body.{Body}
 use Rattle.classes.specs.declared.methods.Found.{Found}
 use Rattle.classes.specs.declared.methods.Found.the-variants as found
 use Rattle.classes.specs.Machine.{up, lookupOf, rowOf}
@@ -49,8 +48,8 @@ module _ (B : List ℕ) (i o p m : ℕ) (f : Found) (eo : o ≡ getD B (rowOf i 
   pub above-none : f ≡ found.Nothing → true ≡ sameAbove B i
   above-none e = sym (found-is ∙ rw e)
 
-  pub above-same : (b : Body) (r : Bool) → f ≡ found.At b → r ≡ sameAs B i (b .number) → r ≡ sameAbove B i
-  above-same b r e er = er ∙ sym (found-is ∙ rw e)
+  pub above-same : (k j : ℕ) (r : Bool) → f ≡ found.At k j → r ≡ sameAs B i j → r ≡ sameAbove B i
+  above-same k j r e er = er ∙ sym (found-is ∙ rw e)
 
 pub all-begin : (B : List ℕ) (n : ℕ) → n ≡ getD B 12 0 → overridesOf B ≡ overridesIn B (n - 0) 0
 all-begin B n e = rw (sub-zero, e)

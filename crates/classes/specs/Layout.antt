@@ -98,7 +98,7 @@ pub record Tabled (T : List ℕ) (t : Table) : Type 0 where
 
 -- ---- what a lookup finds, in bytes and in the language
 pub data Finds (ds : List Method) : Found → Option language.Found → Type 0 where
-  at : {o i : ℕ} {d : Method} → getElem? ds i ≡ some d → Finds ds (found.At (record { owner = o; number = i })) (some (language.foundIn o d))
+  at : {o i : ℕ} {d : Method} → getElem? ds i ≡ some d → Finds ds (found.At o i) (some (language.foundIn o d))
   nothing : Finds ds found.Nothing none
 
 abbrev pub foundType : Option Ty → FieldFound

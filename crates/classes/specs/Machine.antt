@@ -63,14 +63,14 @@ fieldOf B c f = fieldIn B c c f
 
 -- what a byte of the index says of class c
 abbrev pub numbered : ℕ → ℕ → Found
-numbered c x = pick (eqb x 0) found.Nothing (found.At (record { owner = c; number = x - 1 }))
+numbered c x = pick (eqb x 0) found.Nothing (found.At c (x - 1))
 
 -- the method m of class c itself
 abbrev pub ownOf : List ℕ → ℕ → ℕ → Found
 ownOf B c m = pick (ltb classCount c) found.Nothing (numbered c (getD B (indexAt + longSize * c + m) 0))
 
 abbrev pub orElse : Found → Found → Found
-orElse (found.At b) g = found.At b
+orElse (found.At o i) g = found.At o i
 orElse found.Nothing g = g
 
 -- the method m of class c or of the nearest class above it, at most n steps up: the owner is the class in which the search stops, not what the method's row names
@@ -87,7 +87,7 @@ rowOf i = methodsAt + longSize * (i % methodCount)
 
 -- a method that was found, if it has n parameters
 abbrev pub counted : List ℕ → ℕ → Found → Found
-counted B n (found.At b) = pick (eqb (getD B (rowOf (b .number) + 7) 0) n) (found.At b) found.Nothing
+counted B n (found.At o i) = pick (eqb (getD B (rowOf i + 7) 0) n) (found.At o i) found.Nothing
 counted B n found.Nothing = found.Nothing
 
 -- the method m with n parameters that class c has, its own or the nearest above

@@ -19,7 +19,7 @@ unfoldable pub sameAs : List ℕ → ℕ → ℕ → Bool
 sameAs B i j = sameFrom B (rowOf i + 3) (rowOf j + 3) (5 + 2 * (getD B (rowOf i + 7) 0 % 4))
 
 abbrev pub sameFound : List ℕ → ℕ → Found → Bool
-sameFound B i (found.At b) = sameAs B i (b .number)
+sameFound B i (found.At o j) = sameAs B i j
 sameFound B i found.Nothing = true
 
 -- method i and the method of its name above its class

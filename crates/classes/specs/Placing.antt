@@ -88,7 +88,7 @@ methodPut l i right B = set (sets (set B (methodsAt + longSize * i) right) (meth
 
 -- where the class has no such method; the right expression stands at b
 abbrev pub methodFree : List ℕ → ℕ → ℕ → List ℕ → Found → Placed
-methodFree l i b B (found.At a) = placed false B
+methodFree l i b B (found.At o j) = placed false B
 methodFree l i b B found.Nothing = placed true (methodPut l i b (indexPut (getD l 1 0) (getD l 2 0) (i + 1) B))
 
 unfoldable pub methodPlaced : List ℕ → ℕ → ℕ → ℕ → List ℕ → Placed

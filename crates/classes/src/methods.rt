@@ -15,15 +15,9 @@ ghost use Prim.Native.Nat.{_+_, _*_, _<_};
 ghost use lib.ListN.{getD};
 ghost use Rattle.classes.specs.Machine.{numbered, ownOf, lookupOf, methodWith, rowOf, typeAt, paramOf, leftOf, rightOf, mainPlace, inputType};
 
-// A method that was found: the class in which the search stopped, which owns it, and its number in file order.
-pub struct Body {
-    pub owner: u8,
-    pub number: u8,
-}
-
-// What a search answers.
+// What a search for a method answers: the class in which it stopped, which owns the method, and the method's number in file order; or nothing.
 pub enum Found {
-    At(Body),
+    At(u8, u8),
     Nothing,
 }
 
@@ -60,10 +54,7 @@ pub fn lookup(t: &[u8; SIZE], c: u8, m: u8) -> Found
     if x == 0 {
         return Found::Nothing;
     }
-    Found::At(Body {
-        owner,
-        number: x - 1,
-    })
+    Found::At(owner, x - 1)
 }
 
 // ---- the parts of method i: its row begins at METHODS + LONG * i, a number past the rows taken around
@@ -109,18 +100,18 @@ pub(crate) fn param_count(t: &[u8; SIZE], i: u8) -> u8
     t[METHODS + LONG * ((i % 64) as usize) + 7]
 }
 
-// The same, if it has n parameters.
+// What `lookup` finds, if it has n parameters.
 pub fn method_with(t: &[u8; SIZE], c: u8, m: u8, n: u8) -> Found
     ensures { λ r. ⌜ r ≡ methodWith (now (t .entry)) c m n ⌝ }
 {
     let f = lookup(t, c, m);
-    let Found::At(found) = f else {
+    let Found::At(owner, i) = f else {
         return Found::Nothing;
     };
-    if param_count(t, found.number) != n {
+    if param_count(t, i) != n {
         return Found::Nothing;
     }
-    Found::At(found)
+    Found::At(owner, i)
 }
 
 // The type of parameter k of method i. There are at most three.

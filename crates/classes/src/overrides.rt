@@ -46,10 +46,10 @@ pub(crate) fn same_above(t: &[u8; SIZE], i: u8) -> bool
 {
     let p = parent(t, owner(t, i));
     let f = lookup(t, p, name(t, i));
-    let Found::At(above) = f else {
+    let Found::At(_, j) = f else {
         return true;
     };
-    same_types(t, i, above.number)
+    same_types(t, i, j)
 }
 
 // Whether all methods do.

@@ -5,23 +5,23 @@ use mathlib.Core.List.{List, [], _∷_, map, List·Memᴰ, List·Memᴰ·cases-c
 use Rattle.cofj.specs.Values.{Graph, graph, node, obj, make, close, markOf}
 use Rattle.cofj.specs.Bytes.{bytes}
 use Rattle.cofj.specs.Show.{linerun}
-use Rattle.cofj.specs.Rows.{Row, shown, given, said, Holds, rows}
+use Rattle.cofj.specs.Rows.{Row, shown, computed, said, Holds, rows}
 
-each : (rs : List Row) → map given rs ≡ map said rs → (r : Row) → List·Memᴰ r rs → Holds r
+each : (rs : List Row) → map computed rs ≡ map said rs → (r : Row) → List·Memᴰ r rs → Holds r
 each [] e r m = absurd (List·Memᴰ·not-nil m)
-each (x ∷ xs) e r m = go (List·Memᴰ·cases-cons m) (each xs (let z : map given xs ≡ map said xs = cc in z) r)
+each (x ∷ xs) e r m = go (List·Memᴰ·cases-cons m) (each xs (let z : map computed xs ≡ map said xs = cc in z) r)
   where
     go : (r ≡ x) ⊎ List·Memᴰ r xs → (List·Memᴰ r xs → Holds r) → Holds r
-    go (inl q) ih = subst⁻¹ Holds q (let z : given x ≡ said x = cc in z)
+    go (inl q) ih = subst⁻¹ Holds q (let z : computed x ≡ said x = cc in z)
     go (inr n) ih = ih n
 
-all-given : map given rows ≡ map said rows
+all-computed : map computed rows ≡ map said rows
 unfolding shown bytes
-all-given = refl
+all-computed = refl
 
 -- the theorem of the table
 pub all-rows : (r : Row) → List·Memᴰ r rows → Holds r
-all-rows = each rows all-given
+all-rows = each rows all-computed
 
 -- ---- `linerun`, which cuts its input in two
 -- both texts in one input

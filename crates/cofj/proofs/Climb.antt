@@ -65,26 +65,29 @@ module _ (cs : List Class) (h : ParentsSmaller cs) where
   pub fits-trans : (c d e : ℕ) → classFits cs c d ≡ true → classFits cs d e ≡ true → classFits cs c e ≡ true
   fits-trans c d e p q = climb cs h d (λ x. classFits cs x e ≡ true) q (λ k x r z. fits-up k e x r z) c p
 
-  -- what stands above a class is that class or stands above its parent
-  pub fits-on : (k e : ℕ) → (suc k ≡ e → ⊥) → classFits cs (suc k) e ≡ true → (x : Class) × (classAt cs (suc k) ≡ some x) × (classFits cs (parentOf cs (suc k)) e ≡ true)
+  -- another class above one stands above its parent
+  fits-further : (k e : ℕ) → (suc k ≡ e → ⊥) → classFits cs (suc k) e ≡ true → (x : Class) × (classAt cs (suc k) ≡ some x) × (classFits cs (parentOf cs (suc k)) e ≡ true)
   unfolding chainHas
-  fits-on k e n z = go (classAt cs (suc k)) refl
+  fits-further k e n z = go (classAt cs (suc k)) refl
     where
       go : (o : Option Class) → classAt cs (suc k) ≡ o → (x : Class) × (classAt cs (suc k) ≡ some x) × (classFits cs (parentOf cs (suc k)) e ≡ true)
       go none q = absurd (false≢true (rw (ne-eqb (suc k) e n, chainHas, q) at z))
       go (some x) q = (x, q, sym (fits-above cs h k e x q n) ∙ z)
 
+  -- what stands above a class is that class or stands above its parent
   pub fits-or : (c e : ℕ) → classFits cs c e ≡ true → (c ≡ e) ⊎ (classFits cs (parentOf cs c) e ≡ true)
   fits-or zero e z = inr z
   fits-or (suc k) e z = go (ℕ-discrete (suc k) e)
     where
       go : Dec (suc k ≡ e) → (suc k ≡ e) ⊎ (classFits cs (parentOf cs (suc k)) e ≡ true)
       go (yes q) = inl q
-      go (no n) = inr (fits-on k e n z .2)
+      go (no n) = inr (fits-further k e n z .2)
 
+  -- and has no larger number
   pub fits-le : (c d : ℕ) → classFits cs c d ≡ true → d ≤ c
   fits-le c d z = climb cs h d (λ x. d ≤ x) (omega arith) (λ k x q l. omega (arith, h k)) c z
 
+  -- of two classes above one, one stands above the other: there is one nearest class (Lookup)
   pub fits-linear : (c d e : ℕ) → classFits cs c d ≡ true → classFits cs c e ≡ true → (classFits cs d e ≡ true) ⊎ (classFits cs e d ≡ true)
   fits-linear c d e p q =
       climb cs h d (λ x. (classFits cs x d ≡ true) × (classFits cs x e ≡ true → (classFits cs d e ≡ true) ⊎ (classFits cs e d ≡ true)))
@@ -93,7 +96,7 @@ module _ (cs : List Class) (h : ParentsSmaller cs) where
       go : (k : ℕ) → classFits cs (suc k) d ≡ true → (classFits cs (parentOf cs (suc k)) e ≡ true → (classFits cs d e ≡ true) ⊎ (classFits cs e d ≡ true))
           → classFits cs (suc k) e ≡ true → Dec (suc k ≡ e) → (classFits cs d e ≡ true) ⊎ (classFits cs e d ≡ true)
       go k up ih z (yes a) = inr (subst (λ (y : ℕ). classFits cs y d ≡ true) a up)
-      go k up ih z (no n) = ih (fits-on k e n z .2)
+      go k up ih z (no n) = ih (fits-further k e n z .2)
 
   -- ---- fields
   fields-object : (n : ℕ) → fieldsTo n cs 0 ≡ []

@@ -1,4 +1,4 @@
--- What a host is answered that asks where a method is found (specs/Finding): the promise `Finds`, of every table that is read, and examples.
+-- What a host is answered that asks where a method is found (specs/Finding): the promise `FindsMethod`, of every table that is read, and examples.
 -- Not here: the search itself (Lookup), the call on a table's bytes (crate engine).
 use Prim.Native.Nat.{ℕ, zero, suc}
 use mathlib.Core.Path.{_≡_, refl, sym, ap, _∙_, subst}
@@ -14,7 +14,7 @@ use Rattle.cofj.specs.Lookup.{Found, methodOf, lookup}
 use Rattle.cofj.specs.Tables.{hasName, methodsGood}
 use Rattle.cofj.specs.Reading.{Answer, refusal, read, readText}
 use Rattle.cofj.specs.Finding.{placeOf, nothingFound, foundAt, findingOf, findCall}
-use Rattle.cofj.specs.Promises.{Finds, FOUND, NOWHERE}
+use Rattle.cofj.specs.Promises.{FindsMethod, FOUND, NOWHERE}
 use Rattle.cofj.specs.Bytes.{bytes}
 use Rattle.cofj.proofs.Lookup.{lookup-exact}
 use Rattle.cofj.proofs.Partial.{or-false}
@@ -52,7 +52,7 @@ one-place n (x ∷ ds) g zero d e =
 one-place n (x ∷ ds) g (suc k) d e = rw (lacks x ds (names-apart n x ds g) k d e, placeOf) (ap suc (one-place n ds (methods-ruled n x ds g .1) k d e))
 
 -- ---- the promise
-pub finds : (s : List ℕ) (t : Table) → readText s ≡ read t → (c m : ℕ) → Finds t c m (findCall t c m)
+pub finds : (s : List ℕ) (t : Table) → readText s ≡ read t → (c m : ℕ) → FindsMethod t c m (findCall t c m)
 unfolding findCall
 finds s t e c m = go (lookup t c m) refl
   where
@@ -62,7 +62,7 @@ finds s t e c m = go (lookup t c m) refl
         let g = table-ruled (p .r) t (p .toTable) in
         one-place _ (t .methods) (subst (λ (x : Table). methodsGood (length (x .classes)) (x .methods) ≡ true) (g .1) (g .0 .methods))
 
-    go : (o : Option Found) → lookup t c m ≡ o → Finds t c m (findingOf t m o)
+    go : (o : Option Found) → lookup t c m ≡ o → FindsMethod t c m (findingOf t m o)
     go none q = NOWHERE (lookup-exact t (read-formed s t e) c m none .0 q)
     go (some f) q =
         let h = lookup-exact t (read-formed s t e) c m (some f) .0 q in

@@ -48,6 +48,10 @@ found-own t (suc n) c m f e = go (methodOf (t .methods) c m) refl e (found-own t
     go none q z ih = ih z
     go (some d) q z ih = let y : foundIn c d ≡ f = cc in subst (λ (g : Found). Declares t (g .owner) m (g .body)) y q
 
+-- so it is one of the table's
+pub found-in : (P : Method → Type 0) (t : Table) → AllMethods P (t .methods) → (c m : ℕ) (f : Found) → lookup t c m ≡ some f → P (f .body)
+found-in P t a c m f e = own P (t .methods) a (f .owner) m (f .body) (found-own t c c m f e) .0
+
 -- a method belongs to a class, not to Object
 abbrev pub Owned : Method → Type 0
 Owned d = 1 ≤ d .owner
@@ -97,7 +101,7 @@ sig-trans : (d e f : Method) → SameSig d e → SameSig e f → SameSig d f
 sig-trans d e f p q = record { first = p .first ∙ q .first; second = p .second ∙ q .second; params = p .params ∙ q .params }
 
 module _ (t : Table) (wf : WellFormed t) where
-  owned : AllMethods Owned (t .methods)
+  pub owned : AllMethods Owned (t .methods)
   owned = owned-of (MethodFormed t) (t .methods) (λ d f. f .owned) (wf .methods)
 
   -- a class byte past the table has no method
@@ -157,7 +161,7 @@ module _ (t : Table) (wf : WellFormed t) where
       go none q ih = up c (classAt (t .classes) c) refl q (lookupTo n t (parentOf (t .classes) c) m) refl ih
       go (some d) q ih = here c m d q
 
-  pub lookup-stands : (c m : ℕ) → StandsFor t c m (lookup t c m)
+  lookup-stands : (c m : ℕ) → StandsFor t c m (lookup t c m)
   lookup-stands c m = stands-to c c m (omega arith)
 
   -- there is one nearest class
@@ -186,7 +190,7 @@ module _ (t : Table) (wf : WellFormed t) where
   pub lookup-found : (P : Method → Type 0) → AllMethods P (t .methods) → (c m : ℕ) (f : Found) → lookup t c m ≡ some f → P (f .body) × (classFits (t .classes) c (f .body .owner) ≡ true)
   lookup-found P a c m f e =
       let h : Nearest t c m f = lookup-exact c m (some f) .0 e in
-      (own P (t .methods) a (f .owner) m (f .body) (h .declares) .0, subst (λ (o : ℕ). classFits (t .classes) c o ≡ true) (sym (h .named)) (h .above))
+      (found-in P t a c m f e, subst (λ (o : ℕ). classFits (t .classes) c o ≡ true) (sym (h .named)) (h .above))
 
   -- ---- overriding
   lookup-fuel : (n k c m : ℕ) → c ≤ n → c ≤ k → lookupTo n t c m ≡ lookupTo k t c m

@@ -21,7 +21,7 @@ use Rattle.cofj.specs.Formed.{AllIn, Good, IfAny, Out}
 use Rattle.cofj.specs.Nesting.{Each, Nested}
 use Rattle.cofj.specs.WellFormed.{AllMethods, MethodFormed, WellFormed}
 use Rattle.cofj.proofs.Partial.{and-true}
-use Rattle.cofj.proofs.Lookup.{own, found-own}
+use Rattle.cofj.proofs.Lookup.{found-in}
 use Rattle.cofj.proofs.GoodOperations.{out-then, out-or, good-select, good-close, good-new, good-operand, good-reckon, good-branch}
 use Rattle.cofj.proofs.GoodValues.{all-weaken, good-leaf, good-more}
 
@@ -36,7 +36,7 @@ found P t h c m = go (lookup t c m) refl
   where
     go : (o : Option Found) → lookup t c m ≡ o → IfAny (λ f. P (f .body)) o
     go none q = tt
-    go (some f) q = own P (t .methods) h (f .owner) m (f .body) (found-own t c c m f q) .0
+    go (some f) q = found-in P t h c m f q
 
 target-found : (P : Method → Type 0) (t : Table) → AllMethods P (t .methods) → (v : Graph) (m n : ℕ) → IfAny (λ f. P (f .body)) (target t v m n)
 unfolding target

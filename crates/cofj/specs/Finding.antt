@@ -1,6 +1,6 @@
 -- What a host is answered that asks where a method is found (the wiring list): of a table that is read, for any class byte and name, the owner and the
 -- method's number in file order, or nothing.
--- Not here: the search (Lookup); the same of any bytes (crate classes, Machine).
+-- Not here: the search (Lookup); the same of any bytes (crate engine, Finding).
 use Prim.Native.Nat.{ℕ, suc}
 use mathlib.Core.Bool.{true, false, _&&_}
 use mathlib.Core.List.{List, [], _∷_}

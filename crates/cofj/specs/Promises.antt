@@ -134,7 +134,7 @@ pub record Shows (s report work : List ℕ) (x : Presented) : Type 0 where
       → (x .report ≡ runCall (shownCall (firstText s) (secondText s) report work) .report) × (x .work ≡ runCall (shownCall (firstText s) (secondText s) report work) .work)
 
 -- ---- demand 1: where a method is found, asked of a table that is read, for any class byte c and name m. One of two:
-pub data Finds (t : Table) (c m : ℕ) : Finding → Type 0 where
+pub data FindsMethod (t : Table) (c m : ℕ) : Finding → Type 0 where
   -- The nearest class from c up that declares m owns it, and its frame is number k among the methods'; no other has this owner and name.
   FOUND :
       {f : Found} {k : ℕ}
@@ -142,12 +142,12 @@ pub data Finds (t : Table) (c m : ℕ) : Finding → Type 0 where
       → getElem? (t .methods) k ≡ some (f .body)
       → ((j : ℕ) (d : Method) → getElem? (t .methods) j ≡ some d → d .owner ≡ f .owner → d .name ≡ m → j ≡ k)
       -- -----------------------------------------------------------------------------------------------
-      → Finds t c m (foundAt (f .owner) k)
+      → FindsMethod t c m (foundAt (f .owner) k)
   -- No class from c up declares m.
   NOWHERE :
       Nowhere t c m
       -- -----------------------
-      → Finds t c m nothingFound
+      → FindsMethod t c m nothingFound
 
 -- ---- demand 1: runs
 -- the state refuses nothing

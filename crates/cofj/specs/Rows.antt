@@ -50,14 +50,14 @@ unfolding judge admit run
 shown m n s i = shownAfter (front m s i) m n (admit m s i)
 
 -- what the definitions give for a row's texts, and what it says
-abbrev pub given : Row → Shown
-given r = shown (r .mode) (r .fuel) (bytes (r .text)) (bytes (r .input))
+abbrev pub computed : Row → Shown
+computed r = shown (r .mode) (r .fuel) (bytes (r .text)) (bytes (r .input))
 
 abbrev pub said : Row → Shown
 said r = record { written = bytes (r .written); left = r .left }
 
 abbrev pub Holds : Row → Type 0
-Holds r = given r ≡ said r
+Holds r = computed r ≡ said r
 
 abbrev pub row-a : Row
 row-a = row checked 1000 "010100010003\n01020000\n02020101030103004402004041\n02020201000102004501014401004041\n03440100450200\n" "08000103\n0500010100\n" 997

@@ -93,7 +93,7 @@ module _ (t : Table) (inMain : Bool) (Γ : Env) where
           → getElem? (fieldsOf (t .classes) c) f ≡ some u
           -- --------------------------------------------
           → HasType (field f e) u
-      -- The receiver is plus and has the method; the arguments are closed, as many as the parameters, and fit them.
+      -- The receiver is plus and has the method, which class c′ owns; the arguments are closed, as many as the parameters, and fit them.
       -- The type is the first result type in main and the second in a body.
       -- Document 01: says of the arguments in words, tags 00 and 03 only, what 002 says by the letter T′.
       T-INVK :

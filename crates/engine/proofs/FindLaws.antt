@@ -2,7 +2,7 @@
 -- Not here: the search on bytes (crate classes), its meaning (cofj's Lookup).
 use Prim.Native.Nat.{ℕ, _+_, _<_}
 use mathlib.Core.Path.{_≡_, refl, sym, ap, _∙_}
-use mathlib.Core.Bool.{true, false, false≢true}
+use mathlib.Core.Bool.{true, false≢true}
 use mathlib.Core.List.{List}
 use mathlib.Core.Option.{Option, none, some}
 use lib.ListN.{getD}
@@ -10,7 +10,6 @@ use Rattle.cofj.specs.Syntax.{Table}
 use Rattle.cofj.specs.Lookup as language
 use Rattle.cofj.specs.Finding.{nothingFound, foundAt, findingOf, findCall}
 use Rattle.cofj.specs.WellFormed.{WellFormed}
-use Rattle.classes.specs.declared.methods.Body.{Body}
 use Rattle.classes.specs.declared.methods.Found.{Found}
 use Rattle.classes.specs.declared.methods.Found.the-variants as found
 use Rattle.classes.specs.Machine.{lookupOf, rowOf}
@@ -22,8 +21,8 @@ module _ (B : List ℕ) (c m : ℕ) (f : Found) (ef : f ≡ lookupOf B c m) wher
   pub finds-none : f ≡ found.Nothing → nothingFound ≡ findingIn (lookupOf B c m)
   finds-none e = ap findingIn (sym e ∙ ef)
 
-  pub finds-at : (b : Body) → f ≡ found.At b → foundAt (b .owner) (b .number) ≡ findingIn (lookupOf B c m)
-  finds-at b e = ap findingIn (sym e ∙ ef)
+  pub finds-at : (o i : ℕ) → f ≡ found.At o i → foundAt o i ≡ findingIn (lookupOf B c m)
+  finds-at o i e = ap findingIn (sym e ∙ ef)
 
 module _ (t : Table) (wf : WellFormed t) (c m : ℕ) (small : m < 256) where
   -- the language's answer
@@ -40,5 +39,5 @@ module _ (t : Table) (wf : WellFormed t) (c m : ℕ) (small : m < 256) where
   row-on h = go (lookupOf (layout t) c m) refl h
     where
       go : (f : Found) → lookupOf (layout t) c m ≡ f → findingIn f .found ≡ true → getD (layout t) (rowOf (findingIn f .method) + 1) 0 ≡ findingIn f .owner
-      go (found.At b) q z = row-owner t wf m small c b q
+      go (found.At o i) q z = row-owner t wf m small c o i q
       go found.Nothing q z = absurd (false≢true z)

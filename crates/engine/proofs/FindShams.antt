@@ -3,7 +3,7 @@
 use Prim.Native.Nat.{ℕ, _<_}
 use native.Mathlib.Omega.{arith}
 use mathlib.Core.Path.{_≡_, refl, sym, ap, _∙_}
-use mathlib.Core.Bool.{true, false, false≢true}
+use mathlib.Core.Bool.{true, false≢true}
 use mathlib.Core.List.{List, []}
 use mathlib.Core.Option.{none}
 use Rattle.cofj.specs.declared.Finding.{Finding}
@@ -18,11 +18,11 @@ use Rattle.engine.specs.Finding.{findingIn}
 use Rattle.engine.proofs.FindLaws.{finding-on}
 
 -- class 1 has the method 1, class 2 below it has none
-text : List ℕ
+pub text : List ℕ
 unfolding bytes
 text = bytes "01010000\n01020100\n02010101000100004040\n03450000\n"
 
-tableIn : Answer → Table
+pub tableIn : Answer → Table
 tableIn (refusal k) = record { classes = []; methods = []; input = none; main = this }
 tableIn (read t) = t
 
@@ -39,7 +39,7 @@ unfolding readText text tableIn findCall
 absent = refl
 
 module _ (f : List ℕ → ℕ → ℕ → Finding) (meets : (B : List ℕ) (c m : ℕ) → f B c m ≡ findingIn (lookupOf B c m)) where
-  abbrev B : List ℕ
+  abbrev pub B : List ℕ
   B = layout (tableIn (readText text))
 
   answers : (c m : ℕ) → m < 256 → f B c m ≡ findCall (tableIn (readText text)) c m
@@ -52,6 +52,6 @@ module _ (f : List ℕ → ℕ → ℕ → Finding) (meets : (B : List ℕ) (c m
       let o : f B 2 1 .owner ≡ 1 = ap (λ (x : Finding). x .owner) e in
       omega (arith, o, sham B 2 1 (ap (λ (x : Finding). x .found) e))
 
-  -- nothing is answered as a method that is found, number 0 of class 0
-  pub nothing-as-zeros : ((A : List ℕ) (c m : ℕ) → f A c m .found ≡ true) → ⊥
-  nothing-as-zeros sham = false≢true (sym (ap (λ (x : Finding). x .found) (answers 2 2 (omega arith) ∙ absent)) ∙ sham B 2 2)
+  -- nothing is answered as method 0 of class 0
+  pub nothing-as-zeros : f B 2 2 ≡ foundAt 0 0 → ⊥
+  nothing-as-zeros sham = false≢true (ap (λ (x : Finding). x .found) (sym (answers 2 2 (omega arith) ∙ absent) ∙ sham))

@@ -20,7 +20,7 @@ use Rattle.cofj.specs.Tables.{Raw, few}
 use Rattle.cofj.specs.Reading.{Answer, refusal, read, readText}
 use Rattle.cofj.specs.Calls.{closeSession, checkCall, Call, Ran, runCall, Wrote}
 use Rattle.cofj.specs.Show.{Presented, showCall}
-use Rattle.cofj.specs.Promises.{Program, Reads, REFUSAL-1, REFUSAL-2, REFUSAL-3, Checks, Closes, Shows, Finds, Refusals, Answers, Lengths, Follows, Demand3, Recuts, Recut}
+use Rattle.cofj.specs.Promises.{Program, Reads, REFUSAL-1, REFUSAL-2, REFUSAL-3, Checks, Closes, Shows, FindsMethod, Refusals, Answers, Lengths, Follows, Demand3, Recuts, Recut}
 use Rattle.cofj.proofs.RoundTrip.{read-writes, written-length}
 use Rattle.cofj.proofs.ReadCalls.{reads, reads-is, read-number, checks, closes, wrote-writes}
 use Rattle.cofj.proofs.RunCalls.{refusals, answers, lengths}
@@ -141,7 +141,7 @@ writes-of B buffer x e = subst (WritesFrom B buffer) (sym e) (record {
 pub finds-of : (B : List ℕ) (c m : ℕ) (x : Finding) → x ≡ findingIn (lookupOf B c m) → FindsIn B c m x
 finds-of B c m x e = record {
   any = e;
-  table = λ s t h q l. subst (Finds t c m) (sym (e ∙ ap (λ (A : List ℕ). findingIn (lookupOf A c m)) q ∙ finding-on t (read-formed s t (reads-is s h)) c m l)) (finds s t (reads-is s h) c m);
+  table = λ s t h q l. subst (FindsMethod t c m) (sym (e ∙ ap (λ (A : List ℕ). findingIn (lookupOf A c m)) q ∙ finding-on t (read-formed s t (reads-is s h)) c m l)) (finds s t (reads-is s h) c m);
   row = λ s t h q l z.
       let p : x ≡ findingIn (lookupOf (layout t) c m) = e ∙ ap (λ (A : List ℕ). findingIn (lookupOf A c m)) q in
       let w = row-on t (read-formed s t (reads-is s h)) c m l (sym (ap (λ (y : Finding). y .found) p) ∙ z) in

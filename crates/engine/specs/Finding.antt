@@ -6,5 +6,5 @@ use Rattle.classes.specs.declared.methods.Found.{Found}
 use Rattle.classes.specs.declared.methods.Found.the-variants as found
 
 abbrev pub findingIn : Found → Finding
-findingIn (found.At b) = foundAt (b .owner) (b .number)
+findingIn (found.At o i) = foundAt o i
 findingIn found.Nothing = nothingFound

@@ -15,7 +15,7 @@ use Rattle.cofj.specs.Frames.{TextFrame, frame, frames}
 use Rattle.cofj.specs.Reading.{refusal, read}
 use Rattle.cofj.specs.Writing.{text}
 use Rattle.cofj.specs.Calls.{Call, Ran, runCall, Wrote}
-use Rattle.cofj.specs.Promises.{Reads, Writes, Finds}
+use Rattle.cofj.specs.Promises.{Reads, Writes, FindsMethod}
 use Rattle.lineform.specs.declared.lines.Decoded.{Decoded}
 use Rattle.lineform.specs.declared.frames.Framed.{Framed}
 use Rattle.lineform.specs.declared.lines.Ordered.{Ordered}
@@ -57,6 +57,6 @@ pub record FindsIn (B : List ℕ) (c m : ℕ) (x : Finding) : Type 0 where
   -- of any bytes: what the search of their index finds; the owner is the class in which it stops
   pub any : x ≡ findingIn (lookupOf B c m)
   -- of the bytes that a text reads into: what the language says of its table
-  pub table : (s : List ℕ) (t : Table) → Reads s (read t) → B ≡ layout t → m < 256 → Finds t c m x
+  pub table : (s : List ℕ) (t : Table) → Reads s (read t) → B ≡ layout t → m < 256 → FindsMethod t c m x
   -- and the method's row names the same owner
   pub row : (s : List ℕ) (t : Table) → Reads s (read t) → B ≡ layout t → m < 256 → x .found ≡ true → getD B (rowOf (x .method) + 1) 0 ≡ x .owner

@@ -1,6 +1,5 @@
-// The public calls for C and Rust: slices are pointer and length, structs go by value. `line_find` is
-// lent its table, a pointer to the table's bytes. `input` is the second text of a run, and for `line_show`
-// all that `linerun` reads.
+// The public calls for C and Rust: slices are pointer and length, structs go by value; `line_find` is lent its table, a pointer to its bytes.
+// `input` is the second text of a run, and for `line_show` all that `linerun` reads.
 // Not here: what they do; each is a call of this crate or of tables.
 use crate::check::check_text;
 use crate::find::find_method;

@@ -13,7 +13,7 @@ pub(crate) fn find_method(table: &[u8; SIZE], class: u8, name: u8) -> Finding
     ensures { λ r. ⌜ r ≡ findingIn (lookupOf (now (table .entry)) class name) ⌝ }
 {
     let f = lookup(table, class, name);
-    let Found::At(found) = f else {
+    let Found::At(owner, method) = f else {
         return Finding {
             found: false,
             owner: 0,
@@ -22,7 +22,7 @@ pub(crate) fn find_method(table: &[u8; SIZE], class: u8, name: u8) -> Finding
     };
     Finding {
         found: true,
-        owner: found.owner,
-        method: found.number,
+        owner,
+        method,
     }
 }

@@ -13,7 +13,6 @@ use Rattle.cofj.specs.Writing.{codeOf, codesOf}
 use Rattle.cofj.specs.Values.{Graph}
 use Rattle.cofj.specs.Running as language
 use Rattle.cofj.specs.Running.{Outcome, value, stopped, _then_, orStuck, eval, target, invoke}
-use Rattle.classes.specs.declared.methods.Body.{Body}
 use Rattle.classes.specs.declared.methods.Found.{Found}
 use Rattle.classes.specs.declared.methods.Found.the-variants as found
 use Rattle.classes.specs.Layout.{Finds}
@@ -37,25 +36,29 @@ use Rattle.evaluator.proofs.Given.{going-on, halted, given, given-next,
 
 -- ---- what a lookup finds
 abbrev present : Found → ℕ
-present (found.At b) = 1
+present (found.At o i) = 1
 present found.Nothing = 0
 
-abbrev place : Found → Body
-place (found.At b) = b
-place found.Nothing = record { owner = 0; number = 0 }
+abbrev ownerIn : Found → ℕ
+ownerIn (found.At o i) = o
+ownerIn found.Nothing = 0
 
-record MethodFound (ds : List Method) (b : Body) (x : Option lookup.Found) : Type 0 where
+abbrev numberIn : Found → ℕ
+numberIn (found.At o i) = i
+numberIn found.Nothing = 0
+
+record MethodFound (ds : List Method) (o i : ℕ) (x : Option lookup.Found) : Type 0 where
   method : Method
-  here : getElem? ds (b .number) ≡ some method
-  is : x ≡ some (foundIn (b .owner) method)
+  here : getElem? ds i ≡ some method
+  is : x ≡ some (foundIn o method)
 
-finds-at : (ds : List Method) (f : Found) (x : Option lookup.Found) → Finds ds f x → (b : Body) → f ≡ found.At b → MethodFound ds b x
-finds-at ds f x (Finds.at {d = d} e) b q = record {
+finds-at : (ds : List Method) (f : Found) (x : Option lookup.Found) → Finds ds f x → (o i : ℕ) → f ≡ found.At o i → MethodFound ds o i x
+finds-at ds f x (Finds.at {d = d} e) o i q = record {
   method = d;
-  here = subst (λ (z : Body). getElem? ds (z .number) ≡ some d) (ap place q) e;
-  is = ap (λ (z : Body). some (foundIn (z .owner) d)) (ap place q);
+  here = subst (λ (z : ℕ). getElem? ds z ≡ some d) (ap numberIn q) e;
+  is = ap (λ (z : ℕ). some (foundIn z d)) (ap ownerIn q);
 }
-finds-at ds f x Finds.nothing b q = absurd (let z : 0 ≡ 1 = ap present q in omega arith)
+finds-at ds f x Finds.nothing o i q = absurd (let z : 0 ≡ 1 = ap present q in omega arith)
 
 finds-none : (ds : List Method) (f : Found) (x : Option lookup.Found) → Finds ds f x → f ≡ found.Nothing → x ≡ none
 finds-none ds f x (Finds.at e) q = absurd (let z : 1 ≡ 0 = ap present q in omega arith)
@@ -102,15 +105,15 @@ module _ (T W : List ℕ) (f : Frame) (tr : List ℕ) (top at left objects d sp 
         };
       }
 
-      pub call-is : (b : Body) (W2 : List ℕ) (x : Out) → Fits W f tr top (left + 1) objects d sp → w ≡ found.At b → CallsWith T W1 f tr top at1 left objects d sp fuel1 v m n (b .number) W2 x
+      pub call-is : (own i : ℕ) (W2 : List ℕ) (x : Out) → Fits W f tr top (left + 1) objects d sp → w ≡ found.At own i → CallsWith T W1 f tr top at1 left objects d sp fuel1 v m n i W2 x
           → Calls T W f tr top at left objects d sp fuel m n W2 x
-      call-is b W2 x fit ew cw = record { kept = kept-then sp sp W W1 W2 (omega arith) (ev .kept) (cw .kept); older = cw .older; is = shows }
+      call-is own i W2 x fit ew cw = record { kept = kept-then sp sp W W1 W2 (omega arith) (ev .kept) (cw .kept); older = cw .older; is = shows }
         where
           shows : (t : Table) (e : Expr) (es : Exprs) → m < 256 → Reads T left at t e → ReadsAll T left (at + length (codeOf e)) t es → count es ≡ n
               → Shows W2 x (at + length (codeOf e) + length (codesOf es)) (evalIn objects d t (frameIn W f) (traceIn W tr top) (call m e es) fuel)
           shows t e es small r rs c =
               let a1 = given-next T W f tr top at left objects d sp fuel W1 o ev v at1 fuel1 eo t e r in
-              let k = finds-at (t .methods) w (target t (valueOf W1 v) m n) (fi .is t (r .table) small) b ew in
+              let k = finds-at (t .methods) w (target t (valueOf W1 v) m n) (fi .is t (r .table) small) own i ew in
               let z = cw .is t es (k .method) (subst (λ (p : ℕ). ReadsAll T left p t es) (sym a1) rs) c (k .here) in
               let ef = frame-same W W1 sp (ev .kept) f (fit .frame) in
               let et = trace-same W W1 sp (ev .kept) tr top (fit .trace) in
@@ -118,7 +121,7 @@ module _ (T W : List ℕ) (f : Frame) (tr : List ℕ) (top at left objects d sp 
               ≡ (evalsIn objects d t (frameIn W f) (traceIn W tr top) es fuel1 then λ vs n′. invoke (deeper objects d t) (traceIn W tr top) (valueOf W1 v) m vs (k .method) n′)
               = (λ j. evalsIn objects d t (ef j) (et j) es fuel1 then λ vs n′. invoke (deeper objects d t) (et j) (valueOf W1 v) m vs (k .method) n′) in
               subst (λ (p : ℕ). Shows W2 x (p + length (codesOf es)) (evalIn objects d t (frameIn W f) (traceIn W tr top) (call m e es) fuel)) a1
-              (record { is = z .is ∙ same ∙ target-is t e es r c (some (foundIn (b .owner) (k .method))) (k .is); next = z .next })
+              (record { is = z .is ∙ same ∙ target-is t e es r c (some (foundIn own (k .method))) (k .is); next = z .next })
 
 -- ---- the arguments
 module _ (T W : List ℕ) (f : Frame) (tr : List ℕ) (top at left objects d sp fuel : ℕ) (v : ValueRef) (m n i : ℕ) (fit : ArgsFit W f tr top left objects d sp v n) (W1 : List ℕ) (l : Listed)

@@ -5,7 +5,6 @@ use native.Mathlib.Omega.{arith}
 use mathlib.Core.Path.{_≡_, refl, sym, ap, _∙_, subst}
 use mathlib.Core.List.{List, map}
 use lib.ListN.{length, getD, take}
-use Rattle.classes.specs.declared.methods.Body.{Body}
 use Rattle.classes.specs.declared.methods.Found.{Found}
 use Rattle.classes.specs.declared.methods.Found.the-variants as found
 use Rattle.values.specs.declared.ValueRef.{ValueRef}
@@ -79,15 +78,15 @@ module _ (T W : List ℕ) (f : Frame) (S : List ℕ) (p : Spot) (run : PartRunna
             runs = call-none T W f S (p .opened) (p .at) (p .nesting) (p .objects) (p .calls) (p .block) (fuelOf S) m n W1 (outWith (fuelOf S1) o) (ev .runs) v at (fuelOf S1) value-is w fi ew;
           }
 
-          module _ (nz : p .nesting ≡ 0 → ⊥) (b : Body) (ew : w ≡ found.At b) where
+          module _ (nz : p .nesting ≡ 0 → ⊥) (own i : ℕ) (ew : w ≡ found.At own i) where
             args-fit : ArgsFit W1 f S (p .opened) (p .nesting) (p .objects) (p .calls) (p .block) v n
             args-fit =
-                fits.args-fit T W f S (p .opened) (p .at) (p .nesting) (p .objects) (p .calls) (p .block) (fuelOf S) W1 (outWith (fuelOf S1) o) (ev .runs) v at (fuelOf S1) m n w b (run .fits) nz value-is fi ew
+                fits.args-fit T W f S (p .opened) (p .at) (p .nesting) (p .objects) (p .calls) (p .block) (fuelOf S) W1 (outWith (fuelOf S1) o) (ev .runs) v at (fuelOf S1) m n w own i (run .fits) nz value-is fi ew
 
-            call-by : (W2 : List ℕ) (x : Out) → CallsWith T W1 f S (p .opened) at (p .nesting) (p .objects) (p .calls) (p .block) (fuelOf S1) v m n (b .number) W2 x
+            call-by : (W2 : List ℕ) (x : Out) → CallsWith T W1 f S (p .opened) at (p .nesting) (p .objects) (p .calls) (p .block) (fuelOf S1) v m n i W2 x
                 → Calls T W f S (p .opened) (p .at) (p .nesting) (p .objects) (p .calls) (p .block) (fuelOf S) m n W2 x
             call-by W2 x cw =
-                call-is T W f S (p .opened) (p .at) (p .nesting) (p .objects) (p .calls) (p .block) (fuelOf S) m n W1 (outWith (fuelOf S1) o) (ev .runs) v at (fuelOf S1) value-is w fi b W2 x (run .fits) ew cw
+                call-is T W f S (p .opened) (p .at) (p .nesting) (p .objects) (p .calls) (p .block) (fuelOf S) m n W1 (outWith (fuelOf S1) o) (ev .runs) v at (fuelOf S1) value-is w fi own i W2 x (run .fits) ew cw
 
             -- the call goes on at q
             module _ (q : Spot) (eq : q ≡ movedSpot p at (p .block)) where
@@ -104,13 +103,13 @@ module _ (T W : List ℕ) (f : Frame) (S : List ℕ) (p : Spot) (run : PartRunna
                 };
               })
 
-              pub call-goes-on : (W2 S2 : List ℕ) (x : Done) → ArgsStep T W1 f S1 q v m n (b .number) W2 S2 x → (r : Done) → r ≡ x → CallStep T W f S p m n W2 S2 r
+              pub call-goes-on : (W2 S2 : List ℕ) (x : Done) → ArgsStep T W1 f S1 q v m n i W2 S2 x → (r : Done) → r ≡ x → CallStep T W f S p m n W2 S2 r
               call-goes-on W2 S2 x st r er =
-                  let y : ArgsStep T W1 f S1 (movedSpot p at (p .block)) v m n (b .number) W2 S2 x = subst (λ (z : Spot). ArgsStep T W1 f S1 z v m n (b .number) W2 S2 x) eq st in
+                  let y : ArgsStep T W1 f S1 (movedSpot p at (p .block)) v m n i W2 S2 x = subst (λ (z : Spot). ArgsStep T W1 f S1 z v m n i W2 S2 x) eq st in
                   subst (CallStep T W f S p m n W2 S2) (sym er) (record {
                     trace = traced-then (p .opened) S S1 S2 (ev .trace) (y .trace);
                     runs = call-by W2 (outWith (fuelOf S2) x)
-                        (calls-with-on (p .opened) S S1 (ev .trace) T W1 f at (p .nesting) (p .objects) (p .calls) (p .block) (fuelOf S1) v m n (b .number) W2 (outWith (fuelOf S2) x) (y .runs));
+                        (calls-with-on (p .opened) S S1 (ev .trace) T W1 f at (p .nesting) (p .objects) (p .calls) (p .block) (fuelOf S1) v m n i W2 (outWith (fuelOf S2) x) (y .runs));
                   })
 
 -- ---- its arguments (eval_call)
@@ -216,37 +215,37 @@ module _ (T W : List ℕ) (f : Frame) (S : List ℕ) (p : Spot) (run : PartRunna
   call-block = let r = run .fits .room in omega arith
 
   module _ (m n : ℕ) (W1 S1 : List ℕ) (o : Done) (ev : EvalStep T W f S p W1 S1 o) (v : ValueRef) (at : ℕ) (eo : o ≡ done.Value v at)
-      (w : Found) (fi : FindsTarget T W1 v m n w) (nz : p .nesting ≡ 0 → ⊥) (b : Body) (ew : w ≡ found.At b) where
+      (w : Found) (fi : FindsTarget T W1 v m n w) (nz : p .nesting ≡ 0 → ⊥) (own i : ℕ) (ew : w ≡ found.At own i) where
     abbrev here : Spot
     here = movedSpot p at (p .block)
 
     asked : ArgsRunnable W1 f S1 here v n
-    asked = args-asked T W f S p run m n W1 S1 o ev v at eo w fi nz b ew here refl
+    asked = args-asked T W f S p run m n W1 S1 o ev v at eo w fi nz own i ew here refl
 
-    goes-on : (W2 S2 : List ℕ) (x : Done) → ArgsStep T W1 f S1 here v m n (b .number) W2 S2 x → CallStep T W f S p m n W2 S2 x
-    goes-on W2 S2 x st = call-goes-on T W f S p run m n W1 S1 o ev v at eo w fi nz b ew here refl W2 S2 x st x refl
+    goes-on : (W2 S2 : List ℕ) (x : Done) → ArgsStep T W1 f S1 here v m n i W2 S2 x → CallStep T W f S p m n W2 S2 x
+    goes-on W2 S2 x st = call-goes-on T W f S p run m n W1 S1 o ev v at eo w fi nz own i ew here refl W2 S2 x st x refl
 
     -- without arguments
     module _ (z : n ≡ 0) (A : List ℕ) (q : Spot) (eq : q ≡ here) where
       pub bare-asked : CallRunnable W1 S1 v A n q
-      bare-asked = subst (CallRunnable W1 S1 v A n) (sym eq) (direct-run T W1 f S1 here v m n (b .number) asked z A)
+      bare-asked = subst (CallRunnable W1 S1 v A n) (sym eq) (direct-run T W1 f S1 here v m n i asked z A)
 
-      pub bare-done : (W2 S2 : List ℕ) (r : Done) → InvokeStep T W1 S1 v A n (b .number) m q W2 S2 r → (x : Done) → x ≡ r → CallStep T W f S p m n W2 S2 x
+      pub bare-done : (W2 S2 : List ℕ) (r : Done) → InvokeStep T W1 S1 v A n i m q W2 S2 r → (x : Done) → x ≡ r → CallStep T W f S p m n W2 S2 x
       bare-done W2 S2 r inv x ex =
-          goes-on W2 S2 x (direct-is T W1 f S1 here v m n (b .number) asked z A W2 S2 r (subst (λ (y : Spot). InvokeStep T W1 S1 v A n (b .number) m y W2 S2 r) eq inv) x ex)
+          goes-on W2 S2 x (direct-is T W1 f S1 here v m n i asked z A W2 S2 r (subst (λ (y : Spot). InvokeStep T W1 S1 v A n i m y W2 S2 r) eq inv) x ex)
 
     -- with arguments
     module _ (q : Spot) (eq : q ≡ movedSpot p at (p .block + 1)) where
       pub list-asked : ListRunnable W1 f S1 q n
-      list-asked = args-run T W1 f S1 here v m n (b .number) asked q eq
+      list-asked = args-run T W1 f S1 here v m n i asked q eq
 
       module _ (W2 S2 A : List ℕ) (l : Walked) (ls : ListStep T W1 f S1 q n W2 S2 A l) where
         pub list-stops : (s : Stop) → l ≡ walked.Halt s → (x : Done) → x ≡ haltsAs l → CallStep T W f S p m n W2 S2 x
-        list-stops s el x ex = goes-on W2 S2 x (args-stop T W1 f S1 here v m n (b .number) asked q eq W2 S2 A l ls s el x ex)
+        list-stops s el x ex = goes-on W2 S2 x (args-stop T W1 f S1 here v m n i asked q eq W2 S2 A l ls s el x ex)
 
         module _ (next : ℕ) (el : l ≡ walked.After next) (q2 : Spot) (eq2 : q2 ≡ movedSpot p next (p .block)) where
           pub call-asked : CallRunnable W2 S2 v A n q2
-          call-asked = call-run T W1 f S1 here v m n (b .number) asked q eq W2 S2 A l ls next el q2 eq2
+          call-asked = call-run T W1 f S1 here v m n i asked q eq W2 S2 A l ls next el q2 eq2
 
-          pub call-done : (W3 S3 : List ℕ) (r : Done) → InvokeStep T W2 S2 v A n (b .number) m q2 W3 S3 r → (x : Done) → x ≡ r → CallStep T W f S p m n W3 S3 x
-          call-done W3 S3 r inv x ex = goes-on W3 S3 x (args-go-on T W1 f S1 here v m n (b .number) asked q eq W2 S2 A l ls next el q2 eq2 W3 S3 r inv x ex)
+          pub call-done : (W3 S3 : List ℕ) (r : Done) → InvokeStep T W2 S2 v A n i m q2 W3 S3 r → (x : Done) → x ≡ r → CallStep T W f S p m n W3 S3 x
+          call-done W3 S3 r inv x ex = goes-on W3 S3 x (args-go-on T W1 f S1 here v m n i asked q eq W2 S2 A l ls next el q2 eq2 W3 S3 r inv x ex)

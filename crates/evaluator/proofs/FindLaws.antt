@@ -84,7 +84,7 @@ module _ (T W : List ℕ) (v : ValueRef) (m n : ℕ) where
         let l : i < methodCount = (let a = index-below (t .methods) i d e in let c = tb .formed .count in omega arith) in
         rw (tb .bytes, param-count-at t i d l e, class-is, target, q) (go (eqb (length (d .params)) n))
       where
-        go : (y : Bool) → Finds (t .methods) (pick y (found.At (record { owner = o; number = i })) found.Nothing) (elim y as (λ _. Option language.Found) [ true ↦ some (foundIn o d) | false ↦ none ])
+        go : (y : Bool) → Finds (t .methods) (pick y (found.At o i) found.Nothing) (elim y as (λ _. Option language.Found) [ true ↦ some (foundIn o d) | false ↦ none ])
         go true = Finds.at e
         go false = Finds.nothing
     counted-is t tb f x Finds.nothing q = none-found t (target t (valueOf W v) m n) (target-lacks t (valueOf W v) m n (classAt W b j) class-is q)
@@ -116,5 +116,5 @@ module _ (T W : List ℕ) (v : ValueRef) (m n : ℕ) where
     }
       where
         few-if : (x : Found) → FewIf n x
-        few-if (found.At k) = h
+        few-if (found.At o i) = h
         few-if found.Nothing = tt

@@ -12,7 +12,6 @@ use lib.ListN.{length, getD, take}
 use lib.Seq.{getD-take}
 use Rattle.cofj.specs.Values.{Graph}
 use Rattle.cofj.specs.Running.{openMark}
-use Rattle.classes.specs.declared.methods.Body.{Body}
 use Rattle.classes.specs.declared.methods.Found.{Found}
 use Rattle.classes.specs.declared.methods.Found.the-variants as found
 use Rattle.values.specs.declared.ValueRef.{ValueRef}
@@ -79,9 +78,9 @@ module _ (T W : List ℕ) (f : Frame) (tr : List ℕ) (top at left objects d sp 
         long = omega (arith, h .long, ev .kept .same);
       }
 
-  pub args-fit : (v : ValueRef) (at1 fuel1 m n : ℕ) (w : Found) (b : Body) → Fits W f tr top (left + 1) objects d sp → (left ≡ 0 → ⊥) → o ≡ Value v at1 fuel1
-      → FindsTarget T W1 v m n w → w ≡ found.At b → ArgsFit W1 f tr top left objects d sp v n
-  args-fit v at1 fuel1 m n w b h nz eo fi ew =
+  pub args-fit : (v : ValueRef) (at1 fuel1 m n : ℕ) (w : Found) (own i : ℕ) → Fits W f tr top (left + 1) objects d sp → (left ≡ 0 → ⊥) → o ≡ Value v at1 fuel1
+      → FindsTarget T W1 v m n w → w ≡ found.At own i → ArgsFit W1 f tr top left objects d sp v n
+  args-fit v at1 fuel1 m n w own i h nz eo fi ew =
       let r = h .room in
       record {
         fits = record {

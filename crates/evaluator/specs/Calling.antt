@@ -26,7 +26,7 @@ use Rattle.evaluator.specs.Evaluation.{Reads, ReadsAll, deeper, evalIn, 
 
 -- ---- the method
 abbrev pub FewIf : ℕ → Found → Type 0
-FewIf n (found.At b) = n ≤ 3
+FewIf n (found.At o i) = n ≤ 3
 FewIf n found.Nothing = Unit {0}
 
 -- the method that a call of m with n arguments on v names

@@ -19,7 +19,6 @@ use crate::spot::moved;
 use crate::trace::FUEL;
 use crate::trace::TRACE;
 use crate::trace::push;
-use classes::methods::Body;
 use classes::methods::Found;
 use classes::methods::left_place;
 use classes::methods::right_place;
@@ -57,22 +56,22 @@ pub(crate) fn eval_call(
         return o;
     };
     let w = find(t, work, v, m, n);
-    let Found::At(found) = w else {
+    let Found::At(owner, i) = w else {
         return Done::Halt(Stop::Stuck);
     };
     if n == 0 {
         let vs = [0u32; 4];
-        return again(invoke(t, work, tr, v, &vs, n, found, m, moved(p, at, p.block)));
+        return again(invoke(t, work, tr, v, &vs, n, i, owner, m, moved(p, at, p.block)));
     }
     let mut vs = [0u32; 4];
     let l = eval_list(t, work, tr, fr, moved(p, at, p.block + 1), n, &mut vs);
     let Walked::After(next) = l else {
         return halted(l);
     };
-    again(invoke(t, work, tr, v, &vs, n, found, m, moved(p, next, p.block)))
+    again(invoke(t, work, tr, v, &vs, n, i, owner, m, moved(p, next, p.block)))
 }
 
-// The method that was found, which has the name m, called on v with the n arguments at rest in vs; the spot is after the call.
+// Method i, which has the name m and this owner, called on v with the n arguments at rest in vs; the spot is after the call.
 pub(crate) fn invoke(
     t: &[u8; SIZE],
     work: &mut [u8],
@@ -80,12 +79,13 @@ pub(crate) fn invoke(
     v: ValueRef,
     vs: &[u32; 4],
     n: u8,
-    found: Body,
+    i: u8,
+    owner: u8,
     m: u8,
     p: Spot,
 ) -> Done
     requires { ⌜ CallRunnable (now work) (now tr) v (now vs) n p ⌝ }
-    ensures { λ o. ⌜ InvokeStep (now (t .entry)) (now (work .entry)) (now (tr .entry)) v (now (vs .entry)) n (found .number) m p (now (work .exit)) (now (tr .exit)) o ⌝ }
+    ensures { λ o. ⌜ InvokeStep (now (t .entry)) (now (work .entry)) (now (tr .entry)) v (now (vs .entry)) n i m p (now (work .exit)) (now (tr .exit)) o ⌝ }
 {
     let fuel = tr[FUEL];
     if fuel == 0 {
@@ -97,8 +97,8 @@ pub(crate) fn invoke(
     }
     let h = open_call(work, tr, p.opened, v, m, vs, n);
     match h {
-        Held::Is(mark) => run_right(t, work, tr, v, vs, n, found, p, mark),
-        Held::Absent => run_left(t, work, tr, v, vs, n, found, m, p),
+        Held::Is(mark) => run_right(t, work, tr, v, vs, n, i, owner, p, mark),
+        Held::Absent => run_left(t, work, tr, v, vs, n, i, owner, m, p),
     }
 }
 
@@ -118,7 +118,7 @@ pub(crate) fn left_spot(t: &[u8; SIZE], i: u8, p: Spot) -> Spot
     body(p, left_place(t, i), p.opened + 1)
 }
 
-// The right side of the method that was found, with res the mark of the open call.
+// The right side of method i, which this class owns, with res the mark of the open call.
 pub(crate) fn run_right(
     t: &[u8; SIZE],
     work: &mut [u8],
@@ -126,22 +126,23 @@ pub(crate) fn run_right(
     v: ValueRef,
     vs: &[u32; 4],
     n: u8,
-    found: Body,
+    i: u8,
+    owner: u8,
     p: Spot,
     mark: ValueRef,
 ) -> Done
     requires { ⌜ BodyRunnable (now work) (now tr) v (now vs) n p × MarkGiven mark ⌝ }
-    ensures { λ o. ⌜ RightStep (now (t .entry)) (now (work .entry)) (now (tr .entry)) v (now (vs .entry)) n (found .number) p mark (now (work .exit)) (now (tr .exit)) o ⌝ }
+    ensures { λ o. ⌜ RightStep (now (t .entry)) (now (work .entry)) (now (tr .entry)) v (now (vs .entry)) n i p mark (now (work .exit)) (now (tr .exit)) o ⌝ }
 {
-    let fr = body_frame(v, Held::Is(mark), vs, n, found.owner);
-    let o = eval(t, work, tr, &fr, right_spot(t, found.number, p));
+    let fr = body_frame(v, Held::Is(mark), vs, n, owner);
+    let o = eval(t, work, tr, &fr, right_spot(t, i, p));
     let Done::Value(u, _) = o else {
         return o;
     };
     Done::Value(bring(work, u, p.block), p.at)
 }
 
-// The left side of the method that was found, which has the name m, under a fresh mark.
+// The left side of method i, which this class owns and which has the name m, under a fresh mark.
 pub(crate) fn run_left(
     t: &[u8; SIZE],
     work: &mut [u8],
@@ -149,17 +150,18 @@ pub(crate) fn run_left(
     v: ValueRef,
     vs: &[u32; 4],
     n: u8,
-    found: Body,
+    i: u8,
+    owner: u8,
     m: u8,
     p: Spot,
 ) -> Done
     requires { ⌜ BodyRunnable (now work) (now tr) v (now vs) n p ⌝ }
-    ensures { λ o. ⌜ LeftStep (now (t .entry)) (now (work .entry)) (now (tr .entry)) v (now (vs .entry)) n (found .number) m p (now (work .exit)) (now (tr .exit)) o ⌝ }
+    ensures { λ o. ⌜ LeftStep (now (t .entry)) (now (work .entry)) (now (tr .entry)) v (now (vs .entry)) n i m p (now (work .exit)) (now (tr .exit)) o ⌝ }
 {
     let k = p.opened;
     push(tr, k, v, m, vs, n);
-    let fr = body_frame(v, Held::Absent, vs, n, found.owner);
-    let o = eval(t, work, tr, &fr, left_spot(t, found.number, p));
+    let fr = body_frame(v, Held::Absent, vs, n, owner);
+    let o = eval(t, work, tr, &fr, left_spot(t, i, p));
     let Done::Value(u, _) = o else {
         return o;
     };

@@ -224,6 +224,11 @@ pub fn close(session: Session) -> Result<Closing, Difference> {
     ))
 }
 
+/// A text as the tests write it, with `/` for LF.
+pub fn slashed(lines: &str) -> String {
+    lines.replace('/', "\n")
+}
+
 /// What `linerun` writes for a text without a second one, and the fuel left.
 pub fn output(mode: Mode, fuel: u16, text: &[u8]) -> (String, u16) {
     output_on(mode, fuel, text, b"")

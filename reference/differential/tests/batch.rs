@@ -4,7 +4,7 @@
 //! `/` stands for LF.
 
 use baqolluy::{REPORT_LENGTH, Session, WORK_LENGTH, open};
-use differential::compare::{Bench, output_on};
+use differential::compare::{Bench, output_on, slashed};
 use differential::tally::Tally;
 use reference::calls::Mode;
 use reference::generator::batch::cuts::cut;
@@ -14,10 +14,6 @@ use reference::linerun;
 use reference::writing;
 
 const MODES: [Mode; 2] = [Mode::Checked, Mode::Trial];
-
-fn slashed(text: &str) -> String {
-    text.replace('/', "\n")
-}
 
 /// A run of an input as `linerun` cuts it, and the fuel left.
 fn ran(mode: Mode, fuel: u16, input: &str) -> (String, u16) {

@@ -1,8 +1,8 @@
 //! Where methods are found, through the static library: three texts whole, generated tables against the reference engine, and
-//! tables that no text reads into against a search in their bytes.
+//! random and damaged tables against a search in their bytes.
 
 use baqolluy::{ClassTable, Found, TABLE_LENGTH, find, read};
-use differential::compare::{Difference, output};
+use differential::compare::{Difference, output, slashed};
 use differential::finds::{self, Finds};
 use differential::sample;
 use differential::table::{INDEX, LONG, METHODS, ROW};
@@ -10,12 +10,8 @@ use reference::calls::Mode;
 use reference::generator::random::Random;
 use reference::syntax::{MAX_CLASSES, MAX_METHODS};
 
-fn slashed(lines: &str) -> Vec<u8> {
-    lines.replace('/', "\n").into_bytes()
-}
-
 fn table(lines: &str) -> ClassTable {
-    let reading = read(&slashed(lines));
+    let reading = read(slashed(lines).as_bytes());
     assert_eq!(reading.refusal, 0);
     reading.table
 }
@@ -36,12 +32,12 @@ fn the_owner_is_the_nearest_class_that_has_the_name() {
     for (class, name) in [(1, 2), (0, 1), (33, 1), (254, 1), (255, 1), (1, 3)] {
         assert_eq!(find(&table, class, name), None, "{class} {name}");
     }
-    let all = finds::text(&slashed(CHAIN)).unwrap();
+    let all = finds::text(slashed(CHAIN).as_bytes()).unwrap();
     assert_eq!((all.found, all.inherited), (5, 2));
 }
 
-/// Class 2's method 2 calls method 1 on this: class 1's for an object of class 2, class 3's for one of class 3. Each body
-/// makes an object of a class of its own.
+/// Class 2's method 2 calls method 1 on this: class 1's for an object of class 2, class 3's for one of class 3. The
+/// bodies of method 1 make objects of classes 4 and 6, so that a report tells which ran.
 const DISPATCH: &str = "01010000/01020100/01030200/01040000/01050000/01060000/\
                         0201010000000000450400450400/020202000000000044010040450500/\
                         0203010000000000450600450600/";
@@ -53,9 +49,10 @@ fn a_run_calls_what_is_found_from_the_objects_class() {
         ("03440200450200/", "05000400\n"),
     ] {
         let text = slashed(&format!("{DISPATCH}{main}"));
-        let checked = output(Mode::Checked, 1_000, &text);
+        let checked = output(Mode::Checked, 1_000, text.as_bytes());
         assert_eq!(checked, (format!("08000000\n{report}"), 998));
-        assert_eq!(output(Mode::Trial, 1_000, &text), (report.to_string(), 998));
+        let trial = output(Mode::Trial, 1_000, text.as_bytes());
+        assert_eq!(trial, (report.to_string(), 998));
     }
 }
 
@@ -63,11 +60,12 @@ fn a_run_calls_what_is_found_from_the_objects_class() {
 #[test]
 fn an_override_is_held_against_the_nearest_above_it() {
     let gap = "01010000/01020100/01030200/02010101000100004040/02030101000103004040/03450000/";
+    let text = slashed(gap);
     assert_eq!(
-        output(Mode::Checked, 1_000, &slashed(gap)),
+        output(Mode::Checked, 1_000, text.as_bytes()),
         ("0805\n".to_string(), 1_000)
     );
-    assert_eq!(read(&slashed(gap)).refusal, 5);
+    assert_eq!(read(text.as_bytes()).refusal, 5);
 }
 
 /// The sum of what was found, each table having been compared.

@@ -4,14 +4,10 @@
 //! stands for LF.
 
 use baqolluy::{Session, open};
-use differential::compare::output_on;
+use differential::compare::{output_on, slashed};
 use differential::show;
 use reference::calls::Mode;
 use reference::linerun;
-
-fn slashed(text: &str) -> String {
-    text.replace('/', "\n")
-}
 
 fn ran(mode: Mode, fuel: u16, input: &str) -> (String, u16) {
     let input = slashed(input);

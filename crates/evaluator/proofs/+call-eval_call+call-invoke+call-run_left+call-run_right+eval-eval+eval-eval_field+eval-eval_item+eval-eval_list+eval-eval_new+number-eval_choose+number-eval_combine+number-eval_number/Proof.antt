@@ -97,13 +97,13 @@ abbrev μ-call·eval-call : Measures 4 call·eval-call-kinds.ps ℕ
 μ-call·eval-call κs a = μ (a .1 .1 .1 .1 .0) 4
 
 abbrev μ-call·invoke : Measures 4 call·invoke-kinds.ps ℕ
-μ-call·invoke κs a = μ-call (a .1 .1 .1 .1 .1 .1 .1 .1 .0) 2
+μ-call·invoke κs a = μ-call (a .1 .1 .1 .1 .1 .1 .1 .1 .1 .0) 2
 
 abbrev μ-call·run-left : Measures 4 call·run-left-kinds.ps ℕ
-μ-call·run-left κs a = μ-call (a .1 .1 .1 .1 .1 .1 .1 .1 .0) 1
+μ-call·run-left κs a = μ-call (a .1 .1 .1 .1 .1 .1 .1 .1 .1 .0) 1
 
 abbrev μ-call·run-right : Measures 4 call·run-right-kinds.ps ℕ
-μ-call·run-right κs a = μ-call (a .1 .1 .1 .1 .1 .1 .1 .0) 1
+μ-call·run-right κs a = μ-call (a .1 .1 .1 .1 .1 .1 .1 .1 .0) 1
 
 abbrev μ-eval·eval : Measures 4 eval·eval-kinds.ps ℕ
 μ-eval·eval κs a = μ (a .1 .1 .1 .1 .0) 1
@@ -275,7 +275,7 @@ pub +call·eval-call+call·invoke+call·run-left+call·run-right+eval·eval+eval
     let start = else1 .before .before .before in (
       search fall.call-invoke-falls,
       calls.bare-asked _ _ _ _ _ (start .pre .1) _ _ _ _ _ (at-eval .eval .ensures) _ _ (at-o .o .given .1)
-          _ (at-find .find .ensures) (else1 .if1 .left) _ (at-w .w .given .1)
+          _ (at-find .find .ensures) (else1 .if1 .left) _ _ (at-w .w .given .1)
           (then2 .if2 .taken) _ _ (c .moved .ensures),
     ))
     (λ c κs. search needs)
@@ -293,7 +293,7 @@ pub +call·eval-call+call·invoke+call·run-left+call·run-right+eval·eval+eval
     let else1 = at-eval .before .before .before in
     let start = else1 .before .before .before in
     calls.bare-done _ _ _ _ _ (start .pre .1) _ _ _ _ _ (at-eval .eval .ensures) _ _ (at-o .o .given .1)
-    _ (at-find .find .ensures) (else1 .if1 .left) _ (at-w .w .given .1)
+    _ (at-find .find .ensures) (else1 .if1 .left) _ _ (at-w .w .given .1)
     (then2 .if2 .taken) _ _ (at-moved .moved .ensures) _ _ _ (at-invoke .invoke .ensures) _ (c .again .ensures))
     (λ c. search calls.call-block)
     (λ c κs. search needs)
@@ -307,7 +307,7 @@ pub +call·eval-call+call·invoke+call·run-left+call·run-right+eval·eval+eval
       search fall.call-list-falls,
       (
         calls.list-asked _ _ _ _ _ (start .pre .1) _ _ _ _ _ (at-eval .eval .ensures) _ _ (at-o .o .given .1)
-            _ (at-find .find .ensures) (else1 .if1 .left) _ (at-w .w .given .1)
+            _ (at-find .find .ensures) (else1 .if1 .left) _ _ (at-w .w .given .1)
             _ (at-moved .moved2 .ensures),
         search needs,
       ),
@@ -329,7 +329,7 @@ pub +call·eval-call+call·invoke+call·run-left+call·run-right+eval·eval+eval
     let else1 = at-eval .before .before .before in
     let start = else1 .before .before .before in
     calls.list-stops _ _ _ _ _ (start .pre .1) _ _ _ _ _ (at-eval .eval .ensures) _ _ (at-o .o .given .1)
-    _ (at-find .find .ensures) (else1 .if1 .left) _ (at-w .w .given .1)
+    _ (at-find .find .ensures) (else1 .if1 .left) _ _ (at-w .w .given .1)
     _ (at-moved .moved2 .ensures) _ _ _ _ (at-list .eval-list .ensures) _ (at-told .enum-told3 .given .1) _ (c .halted .ensures))
     (λ c κs. search needs)
     (λ c κs. let at-l = c .before .before .before .before .before in
@@ -343,7 +343,7 @@ pub +call·eval-call+call·invoke+call·run-left+call·run-right+eval·eval+eval
     let start = else1 .before .before .before in (
       search fall.call-invoke-falls,
       calls.call-asked _ _ _ _ _ (start .pre .1) _ _ _ _ _ (at-eval .eval .ensures) _ _ (at-o .o .given .1)
-          _ (at-find .find .ensures) (else1 .if1 .left) _ (at-w .w .given .1)
+          _ (at-find .find .ensures) (else1 .if1 .left) _ _ (at-w .w .given .1)
           _ (at-moved .moved2 .ensures) _ _ _ _ (at-list .eval-list .ensures) _ (at-l .l .given .1) _ (c .moved3 .ensures),
     ))
     (λ c κs. search needs)
@@ -366,7 +366,7 @@ pub +call·eval-call+call·invoke+call·run-left+call·run-right+eval·eval+eval
     let else1 = at-eval .before .before .before in
     let start = else1 .before .before .before in
     calls.call-done _ _ _ _ _ (start .pre .1) _ _ _ _ _ (at-eval .eval .ensures) _ _ (at-o .o .given .1)
-    _ (at-find .find .ensures) (else1 .if1 .left) _ (at-w .w .given .1)
+    _ (at-find .find .ensures) (else1 .if1 .left) _ _ (at-w .w .given .1)
     _ (at-moved .moved2 .ensures) _ _ _ _ (at-list .eval-list .ensures) _ (at-l .l .given .1) _ (at-moved3 .moved3 .ensures)
     _ _ _ (at-invoke .invoke2 .ensures) _ (c .again2 .ensures)))
     -- invoke
