@@ -1,6 +1,6 @@
 -- An expression, by what stands at its place, as the language has it: one law for each return of `eval`.
 -- Not here: fields, lists and new objects (ListLaws), calls (CallLaws), what the functions do (StepLaws).
-use Prim.Native.Nat.{ℕ, suc, _+_, _-_, _*_, _<_}
+use Prim.Native.Nat.{ℕ, suc, _+_, _-_, _<_}
 use native.Mathlib.Omega.{arith}
 use mathlib.Core.Path.{_≡_, refl, sym, ap, _∙_, subst}
 use mathlib.Core.List.{List}
@@ -24,7 +24,7 @@ use Rattle.evaluator.specs.declared.frame.Held.{Held}
 use Rattle.evaluator.specs.declared.frame.Held.the-variants.{Is, Absent}
 use Rattle.evaluator.specs.declared.frame.Frame.{Frame}
 use Rattle.evaluator.specs.State.{HeldOlder, heldIn, frameIn, traceIn, variableOf}
-use Rattle.evaluator.specs.Answers.{outOf, OutOlder, Shows}
+use Rattle.evaluator.specs.Answers.{twoBytes, outOf, OutOlder, Shows}
 use Rattle.evaluator.specs.Evaluation.{Reads, ReadsAll, evalIn, Fits, Evaluates, Fields, News, Combines, Chooses}
 use Rattle.evaluator.specs.Calling.{Calls}
 use Rattle.evaluator.proofs.Keeping.{kept-none, older-up}
@@ -92,14 +92,14 @@ module _ (T W : List ℕ) (f : Frame) (tr : List ℕ) (top at left objects d sp 
       })
 
     -- ---- numbers
-    pub eval-number : (k n next : ℕ) → 256 * k + n < numberCount → s ≡ shape.Number k n next → Evaluates T W f tr top at left objects d sp fuel W (Value (Number (256 * k + n)) next fuel)
+    pub eval-number : (k n next : ℕ) → twoBytes k n < numberCount → s ≡ shape.Number k n next → Evaluates T W f tr top at left objects d sp fuel W (Value (Number (twoBytes k n)) next fuel)
     unfolding codeOf eval
     eval-number k n next l z = record {
       kept = kept-none sp W;
       older = record { held = record { held = l }; low = tt };
       is = λ t e r.
           let w = stands-as t e (shape.Number k n next) r z in
-          subst (Says W (Value (Number (256 * k + n)) next fuel) t) (sym (w .0)) (shows-at W _ next (at + 3) _ (w .1) (record { is = refl; next = refl }));
+          subst (Says W (Value (Number (twoBytes k n)) next fuel) t) (sym (w .0)) (shows-at W _ next (at + 3) _ (w .1) (record { is = refl; next = refl }));
     }
 
     -- ---- fields, calls, objects, sums and differences, choices

@@ -1,6 +1,6 @@
 -- Expressions, calls apart: what the functions ask of one another, and one law for each of their returns.
 -- Not here: what they mean (EvalLaws), new objects (NewSteps), fields of fields (FieldLaws), lists (WalkLaws), numbers (NumberSteps), calls (CallSteps).
-use Prim.Native.Nat.{ℕ, _+_, _-_, _*_, _≤_, _<_}
+use Prim.Native.Nat.{ℕ, _+_, _-_, _≤_, _<_}
 use native.Mathlib.Omega.{arith}
 use mathlib.Core.Path.{_≡_, refl, sym, ap, _∙_, subst}
 use mathlib.Core.List.{List, [], _∷_}
@@ -23,7 +23,7 @@ use Rattle.evaluator.specs.declared.frame.Held.the-variants.{Is, Absent}
 use Rattle.evaluator.specs.declared.frame.Frame.{Frame}
 use Rattle.evaluator.specs.declared.spot.Spot.{Spot}
 use Rattle.evaluator.specs.State.{variableOf}
-use Rattle.evaluator.specs.Answers.{outWith, doneOf, outOf, numberAt}
+use Rattle.evaluator.specs.Answers.{outWith, doneOf, outOf, twoBytes, numberAt}
 use Rattle.evaluator.specs.Spots.{innerSpot}
 use Rattle.evaluator.specs.Evaluation.{Fits}
 use Rattle.evaluator.specs.Steps.{fuelOf, Runnable, NumberShape, NumberRunnable, PartRunnable, ListRunnable, EvalStep, FieldStep, NewStep, CombineStep, ChooseStep, CallStep}
@@ -153,7 +153,7 @@ module _ (T W : List ℕ) (f : Frame) (S : List ℕ) (p : Spot) where
         runs = eval-param T W f S (p .opened) (p .at) (p .nesting) (p .objects) (p .calls) (p .block) (fuelOf S) s es (run .fits) next (outWith (fuelOf S) o) k z (answered (variableOf f k) e);
       }
 
-    pub step-number : (k n next : ℕ) (o : Done) → (o ≡ numberAt (256 * k + n) next) × (256 * k + n < numberCount) → s ≡ shape.Number k n next → EvalStep T W f S p W S o
+    pub step-number : (k n next : ℕ) (o : Done) → (o ≡ numberAt (twoBytes k n) next) × (twoBytes k n < numberCount) → s ≡ shape.Number k n next → EvalStep T W f S p W S o
     step-number k n next o e z = subst (EvalStep T W f S p W S) (sym (e .0)) (record {
       trace = traced-none (p .opened) S;
       runs = eval-number T W f S (p .opened) (p .at) (p .nesting) (p .objects) (p .calls) (p .block) (fuelOf S) s es k n next (e .1) z;

@@ -1,6 +1,6 @@
 -- What the code answers, of an expression and of a list, as the language's outcomes; a new object put in a block.
 -- Not here: what evaluation answers of an expression (Evaluation), of a call (Calling) and of main (Main).
-use Prim.Native.Nat.{ℕ, _+_, _-_}
+use Prim.Native.Nat.{ℕ, _+_, _*_, _-_}
 use mathlib.Core.Path.{_≡_}
 use mathlib.Core.Bool.{cond}
 use mathlib.Core.List.{List, [], _∷_}
@@ -116,6 +116,10 @@ outOf (Is r) next fuel = Value r next fuel
 outOf Absent next fuel = Halt Stuck fuel
 
 -- ---- numbers
+-- the number of two bytes, the high one first
+abbrev pub twoBytes : ℕ → ℕ → ℕ
+twoBytes k n = 256 * k + n
+
 abbrev pub numberAt : ℕ → ℕ → Done
 numberAt n next = done.Value (Number n) next
 

@@ -16,11 +16,12 @@ use classes::shape::Operation;
 use classes::shape::Shape;
 use classes::skip::skip_expr;
 use values::ValueRef;
+use values::refs::HIGH;
 ghost use mathlib.Core.Path.{_≡_};
-ghost use Prim.Native.Nat.{_+_, _*_, _<_};
+ghost use Prim.Native.Nat.{_<_};
 ghost use Rattle.cofj.specs.Limits.{numberCount};
 ghost use Rattle.evaluator.specs.Figures.{placeLimit};
-ghost use Rattle.evaluator.specs.Answers.{numberAt, operandOf, refusedAs, reckoned, combined, passedOver};
+ghost use Rattle.evaluator.specs.Answers.{twoBytes, numberAt, operandOf, refusedAs, reckoned, combined, passedOver};
 ghost use Rattle.classes.specs.declared.shape.Operation.the-variants.{Sum, Difference};
 ghost use Rattle.evaluator.specs.Resting.{frameOf};
 ghost use Rattle.evaluator.specs.Steps.{PartRunnable, NumberRunnable, EvalStep, CombineStep, ChooseStep};
@@ -28,13 +29,10 @@ ghost use Rattle.evaluator.specs.Steps.{PartRunnable, NumberRunnable, Ev
 // the largest number
 const LARGEST: u32 = 65535;
 
-// what a number's high byte is worth
-const HIGH: u16 = 256;
-
 // The number of two bytes, high first, as an answer.
 pub(crate) fn literal(k: u8, n: u8, next: usize) -> Done
     requires { ⌜ next < placeLimit ⌝ }
-    ensures { λ o. ⌜ (o ≡ numberAt (256 * k + n) next) × (256 * k + n < numberCount) ⌝ }
+    ensures { λ o. ⌜ (o ≡ numberAt (twoBytes k n) next) × (twoBytes k n < numberCount) ⌝ }
 {
     let v = ValueRef::Number(HIGH * (k as u16) + (n as u16));
     Done::Value(v, next as u16)

@@ -15,10 +15,14 @@ refFrom b c n = cond (ltb c firstLeaf) (Object c b) (cond (eqb c undeterminedCod
 unfoldable pub otherFrom : ℕ → ℕ → ℕ → ValueRef
 otherFrom k i b = cond (eqb k 1) (Mark i) (cond (eqb k 3) (Number b) Undetermined)
 
+-- which of the four the value is that a number stands for: its lowest byte
+abbrev pub kindIn : ℕ → ℕ
+kindIn x = x % 256
+
 -- the value that a number stands for
 unfoldable pub refIn : ℕ → ValueRef
 unfolding otherFrom
-refIn x = cond (eqb (x % 256) 0) (Object (x / 256 % 256) (x / 65536)) (otherFrom (x % 256) (x / 256 % 256) (x / 65536))
+refIn x = cond (eqb (kindIn x) 0) (Object (x / 256 % 256) (x / 65536)) (otherFrom (kindIn x) (x / 256 % 256) (x / 65536))
 
 -- x is the number of a value that is no object
 abbrev pub OtherIn : ValueRef → ℕ → Type 0
@@ -29,4 +33,4 @@ OtherIn Undetermined x = refIn x ≡ Undetermined
 
 pub record OtherPacked (v : ValueRef) (x : ℕ) : Type 0 where
   pub is : OtherIn v x
-  pub small : x % 256 < 4
+  pub small : kindIn x < 4

@@ -11,12 +11,15 @@ use canon::layout::OBJECT;
 use canon::layout::TWO_BYTES;
 use canon::layout::UNDETERMINED;
 ghost use mathlib.Core.Path.{_≡_};
-ghost use Prim.Native.Nat.{_+_, _<_, _≤_, _%_};
+ghost use Prim.Native.Nat.{_+_, _<_, _≤_};
 ghost use lib.ListN.{length};
 ghost use Rattle.canon.specs.Layout.{numberAt};
 ghost use Rattle.values.specs.Layout.{Holds};
-ghost use Rattle.values.specs.Refs.{refFrom, otherFrom, refIn, OtherPacked};
+ghost use Rattle.values.specs.Refs.{refFrom, otherFrom, kindIn, refIn, OtherPacked};
 ghost use Rattle.values.specs.Operations.{Chosen};
+
+// what a number's high byte is worth
+pub const HIGH: u16 = 256;
 
 // What selecting a field answers.
 pub enum Selected {
@@ -39,7 +42,7 @@ pub(crate) fn pack_other(v: ValueRef) -> u32
 // The number of a value at rest: which of the four it is, in the lowest byte, then what it holds. No other functions but `pack_other`, `unpack` and `unpack_other` know it.
 // One choice after the other, each between two numbers: the compiler makes no branches of them.
 pub fn pack(v: ValueRef) -> u32
-    ensures { λ x. ⌜ (refIn x ≡ v) × (x % 256 < 4) ⌝ }
+    ensures { λ x. ⌜ (refIn x ≡ v) × (kindIn x < 4) ⌝ }
 {
     let x = pack_other(v);
     match v {
@@ -83,7 +86,7 @@ pub(crate) fn number_at(work: &[u8], p: usize) -> u16
     requires { ⌜ p + 2 ≤ length (now work) ⌝ }
     ensures { λ r. ⌜ r ≡ numberAt (now (work .entry)) p ⌝ }
 {
-    (work[p] as u16) + 256 * (work[p + 1] as u16)
+    (work[p] as u16) + HIGH * (work[p + 1] as u16)
 }
 
 // The value of a code in block b, with the number beside it.

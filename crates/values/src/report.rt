@@ -1,5 +1,6 @@
 // The report of a value: a line of hexadecimal for each object. Not here: the report of a run that stops.
 use crate::ValueRef;
+use crate::refs::HIGH;
 use crate::value::move_out;
 use canon::layout::BLOCK;
 use canon::layout::COUNT;
@@ -34,9 +35,6 @@ const NUMBER_CLASS: u8 = 0xFE;
 
 // the byte of a field that is undetermined
 const NO_OBJECT: u8 = 255;
-
-// what a number's high byte is worth
-const HIGH: u16 = 256;
 
 // The character of a digit.
 pub(crate) fn char_of(d: u8) -> u8
