@@ -1,7 +1,7 @@
 /* The proved engine of the line language, for C99 and C++. Link target/staticlib/libengine.a.
  * It declares the calls and their answers; what a text, a report and a refusal are is said in the README and in docs/.
  * host/src/lib.rs has the same declarations for Rust.
- * A call needs at most 224 KiB of stack: give a thread that calls no less.
+ * A call needs at most 192 KiB of stack: give a thread that calls no less.
  * What is lent to one call must not overlap: both texts, report and work are places in memory apart. */
 #ifndef BAQOLLUY_H
 #define BAQOLLUY_H

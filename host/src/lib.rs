@@ -5,7 +5,7 @@
 //! What each call answers is proved in crates/engine; here slices and structs only pass across. Nothing is read from
 //! files, printed or kept: a session is a value that goes in and comes back.
 //!
-//! A call needs at most 224 KiB of stack: give a thread that calls no less.
+//! A call needs at most 192 KiB of stack: give a thread that calls no less.
 //!
 //! Every answer but those of `open` and `find`, which refuse nothing, has a `refusal`, 0 when the call was accepted. A
 //! refused call writes nothing in what it was lent.

@@ -13,7 +13,7 @@ const USAGE: &str = "usage: reference run < TEXT
        reference stats SEED COUNT
        reference rows SEED COUNT [batch|find]
        reference emit typed|plain|limits|illtyped|damaged|full|large|rings|chains|overrides SEED
-       reference emit batch fitting|rings|limits|illtyped|damaged|flawed SEED";
+       reference emit batch fitting|rings|pairs|limits|illtyped|damaged|flawed SEED";
 
 fn main() -> ExitCode {
     let arguments: Vec<String> = std::env::args().skip(1).collect();

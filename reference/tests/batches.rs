@@ -75,6 +75,7 @@ fn the_kinds_are_what_they_say() {
         for mode in MODES {
             assert_eq!(refusal(Kind::Fitting, mode), 0);
             assert_eq!(refusal(Kind::Rings, mode), 0);
+            assert_eq!(refusal(Kind::Pairs, mode), 0);
             assert!((1..=5).contains(&refusal(Kind::Damaged, mode)));
             assert!([14, 15].contains(&refusal(Kind::Flawed, mode)));
         }

@@ -92,6 +92,7 @@ fn rows_and_emit_with_second_texts() {
     let kinds = [
         ("fitting", ["0800"; 2]),
         ("rings", ["0800"; 2]),
+        ("pairs", ["0800"; 2]),
         ("illtyped", ["0806", "0807"]),
     ];
     for (kind, verdicts) in kinds {

@@ -70,7 +70,7 @@ module _ (P R : List ℕ) (k : ℕ) (m : Merged P R k) (e : (k ≡ suc capacity)
   pub objects-ready : (objects : ℕ) (W : List ℕ) → SomeParts P → Room objects W → Objects R k W
   objects-ready objects W p r =
       let q = m .few (p .nodes) (p .lie) few in
-      record { raw = q .raw; some-object = q .some-object; few = few; block = r .block }
+      record { raw = q .raw; some-object = q .some-object; block = r .block }
 
   -- the objects' value is that of the parts
   merged-value : (ns : List Node) → Lies P ns → canon (graphIn R k 0) ≡ started ns
@@ -79,7 +79,7 @@ module _ (P R : List ℕ) (k : ℕ) (m : Merged P R k) (e : (k ≡ suc capacity)
       let w : Whole (graphIn R k 0) = record { top = subst (λ (n : ℕ). 0 < n) (sym (length-nodes R 0 k)) (q .some-object); inner = q .raw .whole .inner } in
       same-canon (graphIn R k 0) (graph (obj 0) ns) w (l .whole) (q .tree)
 
-  module _ (T W₀ W : List ℕ) (class objects n : ℕ) (r : Room objects W₀) (p : Placed R k 0 W₀ 0 W n) where
+  module _ (T W₀ W : List ℕ) (class objects n : ℕ) (r : Room objects W₀) (p : Placed (graphIn R k 0) W₀ 0 W n) where
     -- how many objects it has
     counts : (ns : List Node) → Lies P ns → n ≡ length (started ns .nodes)
     counts ns l = p .count ∙ ap (λ (v : Graph). length (v .nodes)) (merged-value ns l)
@@ -92,7 +92,7 @@ module _ (P R : List ℕ) (k : ℕ) (m : Merged P R k) (e : (k ≡ suc capacity)
 
     module _ (g : n ≤ objects) where
       has : Has W 0 (canon (graphIn R k 0))
-      has = p .has (let s = r .few in omega arith)
+      has = p .has
 
       pub laid-inside : Inside W 0 0
       laid-inside = has .inside

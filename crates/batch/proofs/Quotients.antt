@@ -15,7 +15,7 @@ use Rattle.cofj.proofs.Basics.{getD-map-lt, at-map}
 use Rattle.cofj.proofs.Trees.{renamed-same}
 use Rattle.cofj.proofs.Canon.{node-id}
 use Rattle.cofj.proofs.GoodValues.{all-at, all-get}
-use Rattle.canon.specs.Figures.{objectSize, codeCount, undeterminedCode, numberCode, wideSize, headSize, numbersAt}
+use Rattle.canon.specs.Figures.{objectSize, codeCount, undeterminedCode, numberCode, objectsSize, headSize, numbersAt}
 use Rattle.canon.specs.Layout.{refOf, numberBeside, numberAt, refIn, four, nodeIn, nodesIn, Packed}
 use Rattle.canon.specs.Numbers.{graphIn}
 use Rattle.canon.proofs.Lifts.{copy-plain, copy-rest, copy-turned}
@@ -179,12 +179,12 @@ module _ (P L : List ℕ) (m : ℕ) (rc : Reaches P L m) (C D : List ℕ) (k : �
       first : getD C 0 0 ≡ 0
       first = ap (λ (x : ℕ). getD C x 0) (sym (co .first)) ∙ co .own 0 (co .some-colour)
 
-  pub quotient : wideSize ≤ length R → Quotient ns R k
+  pub quotient : objectsSize ≤ length R → Quotient ns R k
   quotient room = record {
     some-object = co .some-colour;
     raw = record {
-      few = omega (arith, co .few);
-      room = room;
+      few = co .few;
+      room = omega (arith, co .few);
       packed = λ c h. packed (getD D c 0) c (co .leads c h) (sym (co .own c h));
       whole = whole;
     };
@@ -196,7 +196,7 @@ module _ (P L : List ℕ) (m : ℕ) (C D : List ℕ) (k : ℕ) (cs : Colours P L
   pub merged-many : (R : List ℕ) → k ≡ tooMany → Merged P R k
   merged-many R e = record { least = cs .most; many = λ ns ly z. cs .many z ns ly; few = λ ns ly h. absurd (omega arith) }
 
-  pub merged-few : (R₀ R : List ℕ) → Reaches P L m → ((k ≡ tooMany) → ⊥) → Laid P C D k R₀ R → wideSize ≤ length R₀ → Merged P R k
+  pub merged-few : (R₀ R : List ℕ) → Reaches P L m → ((k ≡ tooMany) → ⊥) → Laid P C D k R₀ R → objectsSize ≤ length R₀ → Merged P R k
   merged-few R₀ R rc d la room = record {
     least = cs .most;
     many = λ ns ly z. absurd (d z);

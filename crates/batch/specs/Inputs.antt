@@ -11,7 +11,7 @@ use Rattle.cofj.specs.Batch as language
 use Rattle.cofj.specs.Batch.{given, started, fitting, inputOf}
 use Rattle.classes.specs.Layout.{Tabled}
 use Rattle.canon.specs.Figures.{capacity, blockSize}
-use Rattle.canon.specs.Rounds.{Raw}
+use Rattle.canon.specs.Layout.{Raw}
 use Rattle.canon.specs.Numbers.{Has}
 use Rattle.batch.specs.declared.input.Input.{Input}
 use Rattle.batch.specs.declared.input.Input.the-variants.{Given, Refused}
@@ -35,7 +35,6 @@ pub record Room (objects : ℕ) (W : List ℕ) : Type 0 where
 pub record Objects (R : List ℕ) (k : ℕ) (W : List ℕ) : Type 0 where
   pub raw : Raw R k
   pub some-object : 1 ≤ k
-  pub few : k ≤ capacity
   pub block : blockSize ≤ length W
 
 -- the answer for what is given, and the block that has it

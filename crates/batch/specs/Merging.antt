@@ -8,7 +8,7 @@ use Rattle.cofj.specs.Unfolding.{SameTree}
 use Rattle.cofj.specs.Formed.{AllIn}
 use Rattle.cofj.specs.Batch.{PartReached, Apart}
 use Rattle.canon.specs.Figures.{capacity}
-use Rattle.canon.specs.Rounds.{Raw}
+use Rattle.canon.specs.Layout.{Raw}
 use Rattle.canon.specs.Numbers.{graphIn}
 use Rattle.batch.specs.Layout.{Lies}
 

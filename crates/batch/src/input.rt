@@ -2,18 +2,18 @@
 // Not here: its steps (lines, merge, judge), which main is given one (engine).
 use crate::colours::TOO_MANY;
 use crate::judge::value_fits;
-use crate::layout::PER_BYTE;
 use crate::layout::WIDE;
 use crate::lines::Parts;
 use crate::lines::read_parts;
 use crate::merge::merge;
 use canon::colours::colour;
-use canon::layout::WIDE as OBJECTS_WIDE;
+use canon::layout::OBJECTS;
+use canon::layout::PER_OBJECT;
 use canon::number::put;
 use classes::places::SIZE;
 ghost use Prim.Native.Nat.{_≤_};
 ghost use lib.ListN.{length};
-ghost use Rattle.canon.specs.Numbers.{Placed};
+ghost use Rattle.canon.specs.Numbers.{graphIn, Placed};
 ghost use Rattle.batch.specs.Figures.{wideSize};
 ghost use Rattle.batch.specs.Inputs.{SomeTable, SomeParts, Room, Objects, PartsGiven, TextGiven};
 
@@ -26,9 +26,9 @@ pub enum Input {
 // The value of k objects, from the first on, in block 0. Answers how many objects it has.
 fn lay(raw: &[u8], k: u8, block: &mut [u8]) -> u8
     requires { ⌜ Objects (now raw) k (now block) ⌝ }
-    ensures { λ n. ⌜ Placed (now (raw .entry)) k 0 (now (block .entry)) 0 (now (block .exit)) n ⌝ }
+    ensures { λ n. ⌜ Placed (graphIn (now (raw .entry)) k 0) (now (block .entry)) 0 (now (block .exit)) n ⌝ }
 {
-    let mut cs = [0u8; PER_BYTE];
+    let mut cs = [0u8; PER_OBJECT];
     colour(raw, k, &mut cs);
     put(raw, k, &cs, 0, block, 0)
 }
@@ -38,7 +38,7 @@ fn parts_input(parts: &[u8], t: &[u8; SIZE], class: u8, objects: u8, block: &mut
     requires { ⌜ (wideSize ≤ length (now parts)) × SomeParts (now parts) × Room objects (now block) ⌝ }
     ensures { λ r. ⌜ PartsGiven (now (t .entry)) (now (parts .entry)) class objects (now (block .exit)) r ⌝ }
 {
-    let mut raw = [0u8; OBJECTS_WIDE];
+    let mut raw = [0u8; OBJECTS];
     let k = merge(parts, &mut raw);
     if k == TOO_MANY {
         return Input::Refused(15);

@@ -12,9 +12,9 @@ use canon::layout::NUMBERS;
 use canon::layout::OBJECT;
 use canon::layout::PER_OBJECT;
 ghost use mathlib.Core.Path.{_≡_};
-ghost use Prim.Native.Nat.{_≤_};
+ghost use Prim.Native.Nat.{_+_, _*_, _≤_};
 ghost use lib.ListN.{length};
-ghost use Rattle.canon.specs.Figures.{capacity, wideSize as objectsRoom, objectSize};
+ghost use Rattle.canon.specs.Figures.{capacity, objectsSize, objectSize};
 ghost use Rattle.batch.specs.Figures.{wideSize, byteCount};
 ghost use Rattle.batch.specs.Colouring.{Room};
 ghost use Rattle.batch.specs.Laying.{PartLaid, Laid};
@@ -22,7 +22,7 @@ ghost use Rattle.batch.specs.Merging.{Merged};
 
 // Part p as object c.
 pub(crate) fn lay_part(parts: &[u8], cs: &[u8], p: u8, raw: &mut [u8], c: u8)
-    requires { ⌜ (wideSize ≤ length (now parts)) × (length (now cs) ≡ byteCount) × (objectsRoom ≤ length (now raw)) ⌝ }
+    requires { ⌜ (wideSize ≤ length (now parts)) × (length (now cs) ≡ byteCount) × (objectSize * c + objectSize ≤ length (now raw)) ⌝ }
     ensures { λ _. ⌜ PartLaid (now (parts .entry)) (now (cs .entry)) p (now (raw .entry)) c objectSize (now (raw .exit)) ⌝ }
 {
     copy(parts, PART * (p as usize), raw, OBJECT * (c as usize), PART);
@@ -35,7 +35,7 @@ pub(crate) fn lay_part(parts: &[u8], cs: &[u8], p: u8, raw: &mut [u8], c: u8)
 
 // The parts that lead the k colours, as objects.
 pub(crate) fn lay_leads(parts: &[u8], cs: &[u8], lead: &[u8], k: u8, raw: &mut [u8])
-    requires { ⌜ Room (now parts) (now cs) (now lead) × (k ≤ capacity) × (objectsRoom ≤ length (now raw)) ⌝ }
+    requires { ⌜ Room (now parts) (now cs) (now lead) × (k ≤ capacity) × (objectsSize ≤ length (now raw)) ⌝ }
     ensures { λ _. ⌜ Laid (now (parts .entry)) (now (cs .entry)) (now (lead .entry)) k (now (raw .entry)) (now (raw .exit)) ⌝ }
 {
     let mut c: u8 = 0;
@@ -47,7 +47,7 @@ pub(crate) fn lay_leads(parts: &[u8], cs: &[u8], lead: &[u8], k: u8, raw: &mut [
 
 // The objects of the parts that are reached, equal ones merged, part 0 as object 0. How many they are; one more than a block has room for stands for any more.
 pub(crate) fn merge(parts: &[u8], raw: &mut [u8]) -> u8
-    requires { ⌜ (wideSize ≤ length (now parts)) × (objectsRoom ≤ length (now raw)) ⌝ }
+    requires { ⌜ (wideSize ≤ length (now parts)) × (objectsSize ≤ length (now raw)) ⌝ }
     ensures { λ k. ⌜ Merged (now (parts .entry)) (now (raw .exit)) k ⌝ }
 {
     let mut list = [0u8; PER_BYTE];

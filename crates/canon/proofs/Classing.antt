@@ -11,9 +11,8 @@ use Rattle.cofj.specs.Values.{Ref, obj, leaf, undet, Node, Graph, graph, rename
 use Rattle.cofj.specs.Unfolding.{InRange}
 use Rattle.cofj.proofs.Colours.{colour, colour-full, colour-look}
 use Rattle.canon.specs.Figures.{objectSize, headSize, codeCount, numbersAt, firstLeaf, linkSize, targetAt, looksField}
-use Rattle.canon.specs.Layout.{codeOf, nodeIn, nodesIn, Packed}
-use Rattle.canon.specs.Rounds.{Raw}
-use Rattle.canon.specs.Links.{looked, shown, AlikeTo, targetOf, Codes, Linked}
+use Rattle.canon.specs.Layout.{codeOf, nodeIn, nodesIn, Packed, Raw, Codes}
+use Rattle.canon.specs.Links.{looked, shown, AlikeTo, targetOf, Linked}
 use Rattle.canon.specs.Parting.{Kept, Begun, Goes, GoesByLooks, PartedLooks, PartedFields}
 use Rattle.canon.specs.Classing.{Leads, Steady, Coarse}
 use Rattle.canon.proofs.Nodes.{byteOf, packed-byte, slot-code, field-low, length-nodes, at-nodes}
@@ -41,7 +40,7 @@ module _ (N : List ℕ) (n : ℕ) (raw : Raw N n) where
   node-is i h = at-nodes N 0 n i h ∙ ap (nodeIn N) (let z : 0 + objectSize * i ≡ objectSize * i = omega arith in z)
 
   -- ---- coarse and steady: the colours
-  module _ (C : List ℕ) (long : 256 ≤ length C) (c : Coarse N n C) (s : Steady N n C) where
+  module _ (C : List ℕ) (long : n ≤ length C) (c : Coarse N n C) (s : Steady N n C) where
     abbrev col : ℕ → ℕ
     col = colourOf (take n C)
 
@@ -51,7 +50,7 @@ module _ (N : List ℕ) (n : ℕ) (raw : Raw N n) where
     look-is : (i : ℕ) → i < n → renameNode col (nodeAt ns i) ≡ changed (turnRef C) (nodeIn N (objectSize * i))
     look-is i h =
         sym (node-agree (turnRef C) (rename col) (InRange n)
-        (turn-rename C n col (raw .few) (λ j l. sym (col-is j l)) (λ j l. omega (arith, col-is j l, c .low j l, raw .few))) (nodeAt ns i) (inner i))
+        (turn-rename C n col (omega (arith, raw .few)) (λ j l. sym (col-is j l)) (λ j l. omega (arith, col-is j l, c .low j l, raw .few))) (nodeAt ns i) (inner i))
         ∙ ap (changed (turnRef C)) (node-is i h)
 
     first-packed : (i : ℕ) → i < n → Packed N (objectSize * getD C i 0)
@@ -225,8 +224,12 @@ module _ (N : List ℕ) (n : ℕ) (raw : Raw N n) where
               row-suc (i + 1) (omega arith) ∙ ap (λ (u : ℕ). suc (hue u)) zi ∙ ap suc e ∙ sym (row-suc (j + 1) (omega arith) ∙ ap (λ (u : ℕ). suc (hue u)) zj)
 
   -- ---- the codes of a graph are its objects'
-  pub raw-codes : Codes N (n + 1)
+  pub raw-codes : Codes N n
   raw-codes = record {
-    room = omega (arith, raw .room, raw .few);
+    few = raw .few;
+    room = raw .room;
     low = λ i f h l u. omega (arith, field-low N (objectSize * i) (raw .packed i (omega arith)) n (λ k r e. inner i k r (ap (λ (x : Node). getElem? (x .refs) k) (node-is i (omega arith)) ∙ e)) f l u);
   }
+
+  pub row-codes : Codes N (n + 1 - 1)
+  row-codes = let e : n ≡ n + 1 - 1 = omega arith in subst (Codes N) e raw-codes

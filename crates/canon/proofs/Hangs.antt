@@ -7,7 +7,8 @@ use mathlib.Core.List.{List}
 use lib.ListN.{length, getD, set, length-set}
 use lib.Seq.{getD-set-same, getD-set-other}
 use Rattle.canon.specs.Figures.{linkSize, beforeAt, targetAt}
-use Rattle.canon.specs.Links.{Last, Hung, Zeros, SameField, HungOn}
+use Rattle.canon.specs.Tables.{Zeros}
+use Rattle.canon.specs.Links.{Last, Hung, SameField, HungOn}
 
 last-same : (E F : ℕ → ℕ) (v b h : ℕ) → ((z : ℕ) → 0 < z → z < b → F z ≡ E z) → Last E v b h → Last F v b h
 last-same E F v b h s l = record {
@@ -154,8 +155,8 @@ module _ (n f x v : ℕ) (K : List ℕ) (k : Hung n f x K) (hf : f < 5) (hx : 0 
     }
 
 -- ---- nothing hung up yet
-pub blank-hung : (n f : ℕ) (K : List ℕ) → Zeros (linkSize * n) K → linkSize * n ≤ length K → 0 < n → f < 5 → Hung n f 1 K
-blank-hung n f K z room pos hf = record {
+pub zeros-hung : (n f : ℕ) (K : List ℕ) → Zeros (linkSize * n) K → linkSize * n ≤ length K → 0 < n → f < 5 → Hung n f 1 K
+zeros-hung n f K z room pos hf = record {
   room = room;
   null = λ x e. z .at (linkSize * x + targetAt + f) (omega arith);
   low = λ x p q. absurd (omega arith);
@@ -180,16 +181,3 @@ field-refl g K = record { size = refl; head = λ x. refl; next = λ x. refl; tar
 
 pub field-then : (g : ℕ) (K K1 K2 : List ℕ) → SameField g K K1 → SameField g K1 K2 → SameField g K K2
 field-then g K K1 K2 a b = record { size = b .size ∙ a .size; head = λ x. b .head x ∙ a .head x; next = λ x. b .next x ∙ a .next x; target = λ x. b .target x ∙ a .target x }
-
-pub zeros-none : (A : List ℕ) → Zeros 0 A
-zeros-none A = record { at = λ i h. absurd (omega arith) }
-
-pub zeros-more : (A : List ℕ) (i m : ℕ) → Zeros i A → i < m → m ≤ length A → Zeros (i + 1) (set A i 0)
-zeros-more A i m z h l = record { at = λ j k. go j k (ℕ-discrete j i) }
-  where
-    go : (j : ℕ) → j < i + 1 → Dec (j ≡ i) → getD (set A i 0) j 0 ≡ 0
-    go j k (yes e) = rw e (getD-set-same A i 0 0 (omega arith))
-    go j k (no e) = getD-set-other A i j 0 0 e ∙ z .at j (omega (arith, e))
-
-pub zeros-done : (A : List ℕ) (i m : ℕ) → Zeros i A → m ≤ i → Zeros m A
-zeros-done A i m z h = record { at = λ j k. z .at j (omega arith) }

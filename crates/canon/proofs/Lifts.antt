@@ -1,5 +1,5 @@
 -- Laws of copying objects.
-use Prim.Native.Nat.{ℕ, _+_, _%_, _<_, _≤_}
+use Prim.Native.Nat.{ℕ, _+_, _-_, _*_, _/_, _%_, _<_, _≤_}
 use native.Mathlib.Omega.{arith}
 use native.Mathlib.Decide.{ℕ-discrete}
 use mathlib.Core.Path.{_≡_, refl, _∙_}
@@ -8,7 +8,8 @@ use lib.ListN.{length, getD, set, length-set}
 use lib.Seq.{getD-set-same, getD-set-other}
 use borrow.Author.Tests.{lt-ltb, le-ltb}
 use Rattle.canon.specs.Figures.{objectSize, headSize, numbersAt, firstLeaf}
-use Rattle.canon.specs.Tables.{turned, onCodes, copied, Lifted}
+use Rattle.canon.specs.Tables.{turned, onCodes, copied, Turnable, Lifted}
+use Rattle.canon.specs.Layout.{Codes}
 
 module _ (T : List ℕ) (b : ℕ) where
   pub turn-object : b < firstLeaf → getD T b 0 ≡ turned T b
@@ -53,3 +54,21 @@ lift-more S from q T D₀ to D x p f h room e = record {
 pub lift-done : (S : List ℕ) (from q : ℕ) (T D₀ : List ℕ) (to : ℕ) (D : List ℕ) (p : ℕ)
     → Lifted S from q T D₀ to D → q ≤ p → p ≤ q → Lifted S from p T D₀ to D
 lift-done S from q T D₀ to D p f h k = let e : q ≡ p = omega arith in rw e at f
+
+-- ---- a table with an entry for each of n objects has one for each code of theirs
+module _ (N T : List ℕ) (n : ℕ) (c : Codes N n) (h : n ≤ length T) where
+  pub turnable : (i : ℕ) → i < n → Turnable N (objectSize * i) objectSize T
+  turnable i l = record {
+    room = omega (arith, c .room);
+    low = λ q k a b e.
+        let z : objectSize * i + headSize + (q - headSize) ≡ objectSize * i + q = omega arith in
+        omega (arith, rw z at (c .low i (q - headSize) l (omega arith) (rw z e)));
+  }
+
+  pub all-turnable : Turnable N 0 (objectSize * n) T
+  all-turnable = record {
+    room = omega (arith, c .room);
+    low = λ q k a b e.
+        let z : objectSize * (q / objectSize) + headSize + (q % objectSize - headSize) ≡ 0 + q = omega arith in
+        omega (arith, rw z at (c .low (q / objectSize) (q % objectSize - headSize) (omega arith) (omega arith) (rw z e)));
+  }

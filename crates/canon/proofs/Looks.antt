@@ -9,8 +9,9 @@ use lib.ListN.{length, getD, set}
 use lib.Seq.{getD-set-same, getD-set-other}
 use borrow.Author.Tests.{lt-ltb, le-ltb}
 use Rattle.canon.specs.Figures.{objectSize, headSize, codeCount, numbersAt, firstLeaf, rowSize, linkSize, noteAt, targetAt, looksField, hashCount, hashedBy}
-use Rattle.canon.specs.Tables.{fourAt, Eight, Plain, PlainTest, onCodes}
-use Rattle.canon.specs.Links.{Last, Hung, Zeros, looked, shown, AlikeTo, AlikeTest, hashPlain, hashOf, Codes, SameField, HungOn, Chained, Grouped, Sought, LikeBefore, GroupedAll}
+use Rattle.canon.specs.Layout.{Codes}
+use Rattle.canon.specs.Tables.{Zeros, fourAt, Eight, Plain, PlainTest, onCodes}
+use Rattle.canon.specs.Links.{Last, Hung, looked, shown, AlikeTo, AlikeTest, hashPlain, hashOf, SameField, HungOn, Chained, Grouped, Sought, LikeBefore, GroupedAll}
 use Rattle.canon.proofs.Lifts.{copy-plain, copy-rest, copy-turned}
 use Rattle.canon.proofs.Hangs.{field-refl, field-then}
 
@@ -25,9 +26,6 @@ module _ (b : ℕ) where
   show-leaf l = rw (le-ltb b firstLeaf l)
 
 module _ (F : ℕ → ℕ → ℕ) (N : List ℕ) (i j : ℕ) where
-  pub alike-none : AlikeTo F N i j 0
-  alike-none = record { all = λ f h. absurd (omega arith) }
-
   module _ (k a b : ℕ) (t : AlikeTo F N i j k) (ea : a ≡ F k (getD N (objectSize * i + k) 0)) (eb : b ≡ F k (getD N (objectSize * j + k) 0)) where
     pub alike-more : a ≡ b → AlikeTo F N i j (k + 1)
     alike-more e = record { all = λ f h. go f h (ℕ-discrete f k) }
@@ -226,7 +224,7 @@ rest-refl K = record { each = λ g h. field-refl g K }
 pub rest-more : (n x r : ℕ) (K K1 K2 : List ℕ) → Rest K K1 → HungOn n 4 x r K1 K2 → Rest K K2
 rest-more n x r K K1 K2 a h = record { each = λ g l. field-then g K K1 K2 (a .each g l) (h .others g (omega arith) (λ z. omega arith)) }
 
-pub group-sought : (N T K H : List ℕ) (n x h : ℕ) → Codes N n → Hung n looksField x K → 0 < x → x < n → rowSize * n ≤ length T → Chained N x H T → Grouped N x K → h ≡ hashOf N (x - 1) → Sought N T K n x h (getD H h 0)
+pub group-sought : (N T K H : List ℕ) (n x h : ℕ) → Codes N (n - 1) → Hung n looksField x K → 0 < x → x < n → rowSize * n ≤ length T → Chained N x H T → Grouped N x K → h ≡ hashOf N (x - 1) → Sought N T K n x h (getD H h 0)
 group-sought N T K H n x h c k pos hx room ch g e = record {
   codes = c;
   roomT = room;

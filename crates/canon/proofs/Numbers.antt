@@ -1,15 +1,15 @@
 -- Laws of numbering the objects.
-use Prim.Native.Nat.{ℕ, zero, suc, _+_, _-_, _*_, _<_, _≤_}
+use Prim.Native.Nat.{ℕ, suc, _+_, _-_, _*_, _<_, _≤_}
 use native.Mathlib.Omega.{arith}
 use mathlib.Core.Path.{_≡_, refl, sym, ap, ap₂, _∙_, subst}
 use mathlib.Core.Bool.{Bool, true, false, cond, true≢false}
-use mathlib.Core.List.{List, [], _∷_, _++_}
+use mathlib.Core.List.{List, [], _∷_}
 use mathlib.Core.Option.{some}
 use lib.Dec.{eqb}
 use lib.ListN.{length, getD, take, getElem?, length-map}
 use lib.Seq.{length-take-le, getD-take}
 use borrow.Author.Tests.{eq-eqb, ne-eqb}
-use Rattle.cofj.specs.Values.{Ref, obj, leaf, undet, Node, node, Graph, graph, rename, renameNode, nodeAt, refsAt, colourOf, colours, isIn, placeIn, visit, visitAll, canon}
+use Rattle.cofj.specs.Values.{Ref, obj, leaf, undet, Node, node, Graph, graph, rename, renameNode, nodeAt, refsAt, colourOf, colours, isIn, placeIn, visit, canon}
 use Rattle.cofj.specs.Unfolding.{InRange, Whole}
 use Rattle.cofj.proofs.Basics.{getD-map-lt}
 use Rattle.cofj.proofs.Colours.{colour, colour-low}
@@ -18,42 +18,17 @@ use Rattle.cofj.proofs.Canon.{number, listed, canon-is, canon-whole, getD-isIn,
 use Rattle.cofj.proofs.Unique.{canon-canon}
 use Rattle.cofj.proofs.Numbering.{canonical-root}
 use Rattle.canon.specs.Figures.{objectSize, headSize, firstLeaf, capacity, blockSize}
-use Rattle.canon.specs.Layout.{nodeIn, nodesIn, Distinct, Block, graphAt, objectsIn, countIn, ended}
+use Rattle.canon.specs.Layout.{nodeIn, nodesIn, Codes, Distinct, Block, graphAt, objectsIn, countIn, ended}
 use Rattle.canon.specs.Tables.{Filled}
-use Rattle.canon.specs.Walking.{walkRef, markIn, Listed}
-use Rattle.canon.specs.Numbers.{numberIn, Gathered, Levels, Ready, Placed, graphIn}
+use Rattle.canon.specs.Rounds.{Below}
+use Rattle.canon.specs.Walking.{walkRef, markIn, Listed, Walkable}
+use Rattle.canon.specs.Numbers.{numberIn, Gatherable, Gathered, Levels, Ready, Placed, graphIn}
 use Rattle.canon.proofs.Colouring.{value-distinct}
 use Rattle.canon.proofs.Nodes.{at-nodes, length-nodes, ref-object, AllPacked, code-low, ended-size, ended-below, ended-above, ended-count, ended-level, ended-reach}
 use Rattle.canon.proofs.Turned.{turnRef, changed, turn-rename, node-agree}
+use Rattle.canon.proofs.Lifts.{turnable}
+use Rattle.canon.proofs.Classing.{raw-codes}
 use Rattle.canon.proofs.Gathers.{gathered-node, gathered-packed}
-
--- ---- the walk over the bytes is the walk over the graph
-module _ (N C : List ℕ) (n : ℕ) (few : n ≤ firstLeaf) (w : (i k : ℕ) (r : Ref) → getElem? (refsAt (nodesIn N 0 n) i) k ≡ some r → InRange n r)
-    (low : (i : ℕ) → i < n → getD C i 0 < n) where
-  node-at : (c : ℕ) → c < n → nodeAt (nodesIn N 0 256) c ≡ nodeAt (nodesIn N 0 n) c
-  node-at c h = at-nodes N 0 256 c (omega arith) ∙ sym (at-nodes N 0 n c h)
-
-  all-same : (f g : Ref → List ℕ → List ℕ) → ((r : Ref) (s : List ℕ) → InRange n r → f r s ≡ g r s) → (rs : List Ref)
-      → ((k : ℕ) (r : Ref) → getElem? rs k ≡ some r → InRange n r) → (s : List ℕ) → visitAll f rs s ≡ visitAll g rs s
-  unfolding visitAll
-  all-same f g e [] h s = refl
-  all-same f g e (r ∷ rs) h s = ap (visitAll f rs) (e r s (h 0 r refl)) ∙ all-same f g e rs (λ k. h (suc k)) (g r s)
-
-  visit-same : (k : ℕ) (r : Ref) (s : List ℕ) → InRange n r → visit (nodesIn N 0 256) C k r s ≡ visit (nodesIn N 0 n) (take n C) k r s
-  unfolding visit
-  visit-same zero r s h = refl
-  visit-same (suc k) (leaf l) s h = refl
-  visit-same (suc k) (obj i) s h =
-      go (isIn (getD C i 0) s) (all-same (λ r t. visit (nodesIn N 0 256) C k r t) (λ r t. visit (nodesIn N 0 n) (take n C) k r t) (λ r t p. visit-same k r t p)
-      (refsAt (nodesIn N 0 n) (getD C i 0)) (w (getD C i 0)) (s ++ (getD C i 0 ∷ [])))
-      ∙ ap (λ (c : ℕ). elim (isIn c s) as (λ _. List ℕ) [ true ↦ s | false ↦ visitAll (λ r t. visit (nodesIn N 0 n) (take n C) k r t) (refsAt (nodesIn N 0 n) c) (s ++ (c ∷ [])) ]) (sym (getD-take n C i 0 h))
-    where
-      go : (b : Bool) → visitAll (λ r t. visit (nodesIn N 0 256) C k r t) (refsAt (nodesIn N 0 n) (getD C i 0)) (s ++ (getD C i 0 ∷ []))
-          ≡ visitAll (λ r t. visit (nodesIn N 0 n) (take n C) k r t) (refsAt (nodesIn N 0 n) (getD C i 0)) (s ++ (getD C i 0 ∷ []))
-          → _≡_ {A = List ℕ} (elim b [ true ↦ s | false ↦ visitAll (λ r t. visit (nodesIn N 0 256) C k r t) (refsAt (nodesIn N 0 256) (getD C i 0)) (s ++ (getD C i 0 ∷ [])) ])
-          (elim b [ true ↦ s | false ↦ visitAll (λ r t. visit (nodesIn N 0 n) (take n C) k r t) (refsAt (nodesIn N 0 n) (getD C i 0)) (s ++ (getD C i 0 ∷ [])) ])
-      go true e = refl
-      go false e = ap (λ (x : Node). visitAll (λ r t. visit (nodesIn N 0 256) C k r t) (x .refs) (s ++ (getD C i 0 ∷ []))) (node-at (getD C i 0) (low i h)) ∙ e
 
 -- ---- numbers by the table
 place-le : (c : ℕ) (s : List ℕ) → placeIn c s ≤ length s
@@ -76,13 +51,13 @@ place-out c (d ∷ s) h = go (eqb c d) h (place-out c s)
     go false e ih = ap suc (ih e)
 
 -- the table tells the place
-number-in : (M s : List ℕ) (m c : ℕ) → Listed M s → length s ≡ m → c < 256 → numberIn M m c ≡ placeIn c s
+number-in : (n : ℕ) (M O : List ℕ) (m c : ℕ) → Listed n M O m → length (take m O) ≡ m → c < n → numberIn M m c ≡ placeIn c (take m O)
 unfolding numberIn markIn
-number-in M s m c l e h = ap (λ (p : ℕ). cond (eqb p 0) m (p - 1)) (l .entry c h) ∙ go (isIn c s) refl
+number-in n M O m c l e h = ap (λ (p : ℕ). cond (eqb p 0) m (p - 1)) (l .entry c h) ∙ go (isIn c (take m O)) refl
   where
-    go : (b : Bool) → isIn c s ≡ b → cond (eqb (cond b (placeIn c s + 1) 0) 0) m (cond b (placeIn c s + 1) 0 - 1) ≡ placeIn c s
-    go true q = rw (ne-eqb (placeIn c s + 1) 0 (λ z. omega arith)) (omega arith)
-    go false q = sym e ∙ sym (place-out c s q)
+    go : (b : Bool) → isIn c (take m O) ≡ b → cond (eqb (cond b (placeIn c (take m O) + 1) 0) 0) m (cond b (placeIn c (take m O) + 1) 0 - 1) ≡ placeIn c (take m O)
+    go true q = rw (ne-eqb (placeIn c (take m O) + 1) 0 (λ z. omega arith)) (omega arith)
+    go false q = sym e ∙ sym (place-out c (take m O) q)
 
 pub number-met : (T : List ℕ) (m c : ℕ) → ((getD T c 0 ≡ 0) → ⊥) → getD T c 0 - 1 ≡ numberIn T m c
 unfolding numberIn
@@ -117,23 +92,46 @@ module _ (N : List ℕ) (n : ℕ) (C : List ℕ) (root : ℕ) (W : List ℕ) (ds
   low i h = omega (arith, colour-is i h, colour-low (graphIn N n root) wg i (subst (λ (k : ℕ). i < k) (sym (length-nodes N 0 n)) h))
 
   -- the order over the bytes is the graph's
-  walk-is : walkRef N C (n + 1) root [] ≡ order (graphIn N n root) wg
+  front-size : length (take n C) ≡ n
+  front-size = length-take-le n C (rd .long)
+
+  pub front-count : n ≡ length (take n C)
+  front-count = sym front-size
+
+  walk-is : walkRef N (take n C) (n + 1) root [] ≡ order (graphIn N n root) wg
   unfolding walkRef
   walk-is =
       let e : n + 1 ≡ suc (length (nodesIn N 0 n)) = rw (length-nodes N 0 n) (omega arith) in
-      ap (λ (r : Ref). visit (nodesIn N 0 256) C (n + 1) r []) (ref-object root 0 (omega (arith, rd .inside, rd .raw .few)))
-      ∙ visit-same N C n (rd .raw .few) inner low (n + 1) (obj root) [] (rd .inside)
+      ap (λ (r : Ref). visit (nodesIn N 0 (length (take n C))) (take n C) (n + 1) r []) (ref-object root 0 (omega (arith, rd .inside, rd .raw .few)))
+      ∙ ap (λ (k : ℕ). visit (nodesIn N 0 k) (take n C) (n + 1) (obj root) []) front-size
       ∙ ap₂ {A = List ℕ} {B = ℕ} (λ cs k. visit (nodesIn N 0 n) cs k (obj root) []) (rd .coloured) e
 
-  pub walk-small : length (walkRef N C (n + 1) root []) ≤ 255
-  walk-small = rw walk-is (omega (arith, order-length (graphIn N n root) wg, length-nodes N 0 n, rd .raw .few))
+  pub walk-small : length (walkRef N (take n C) (n + 1) root []) ≤ length (take n C)
+  walk-small = rw walk-is (omega (arith, order-length (graphIn N n root) wg, length-nodes N 0 n, front-size))
+
+  pub walk-root : root < length (take n C)
+  walk-root = omega (arith, front-size, rd .inside)
+
+  pub colours-below : Below n C
+  colours-below = record { room = rd .long; low = low }
+
+  pub walkable : (O T : List ℕ) → capacity ≤ length O → capacity ≤ length T → Walkable N (take n C) O T
+  walkable O T ho ht = record {
+    codes = subst (Codes N) (sym front-size) (raw-codes N n (rd .raw));
+    colours = record { room = omega arith; low = λ i h. rw (getD-take n C i 0 (omega (arith, front-size)), front-size) (low i (omega (arith, front-size))) };
+    order = omega (arith, front-size, rd .raw .few);
+    met = omega (arith, front-size, rd .raw .few);
+  }
 
   canon-count : length (canon (graphIn N n root) .nodes) ≡ length (order (graphIn N n root) wg)
   canon-count = ap (λ (h : Graph). length (h .nodes)) (canon-is (graphIn N n root) wg) ∙ length-map (order (graphIn N n root) wg) _
 
-  module _ (O : List ℕ) (m : ℕ) (eo : take m O ≡ walkRef N C (n + 1) root []) (long : 256 ≤ length O) (small : suc m ≤ 256) where
+  module _ (O : List ℕ) (m : ℕ) (eo : take m O ≡ walkRef N (take n C) (n + 1) root []) (few : m ≤ length (take n C)) (long : capacity ≤ length O) where
+    fits : m ≤ length O
+    fits = omega (arith, front-size, rd .raw .few)
+
     size : length (take m O) ≡ m
-    size = length-take-le m O (omega arith)
+    size = length-take-le m O fits
 
     order-is : take m O ≡ order (graphIn N n root) wg
     order-is = eo ∙ walk-is
@@ -147,14 +145,16 @@ module _ (N : List ℕ) (n : ℕ) (C : List ℕ) (root : ℕ) (W : List ℕ) (ds
         let i : isIn (getD (order (graphIn N n root) wg) j 0) (order (graphIn N n root) wg) ≡ true = getD-isIn (order (graphIn N n root) wg) j (omega (arith, counted, canon-count)) in
         omega (arith, order-kept (graphIn N n root) wg _ i .0, length-nodes N 0 n)
 
-    pub put-large : capacity < m → Placed N n root W dst W m
-    put-large h = record {
-      count = counted;
-      outside = record { same = refl; below = λ p l. refl; above = λ p l. refl };
-      has = λ l. absurd (omega arith);
-    }
+    pub gatherable : (T : List ℕ) → capacity ≤ length T → Gatherable N O m T
+    gatherable T h = record { order = fits; each = λ j l. turnable N T n (raw-codes N n (rd .raw)) (omega (arith, rd .raw .few)) (getD O j 0) (listed-low j l) }
 
-    module _ (M : List ℕ) (lm : Listed M (take m O)) (T : List ℕ) (fm : Filled (λ i. numberIn M m (getD C i 0)) n T) (D : List ℕ) (g : Gathered N O m T W (blockSize * dst) D) (few : m ≤ capacity)
+    small : m ≤ capacity
+    small = omega (arith, front-size, rd .raw .few)
+
+    pub put-room : blockSize * dst + objectSize * m ≤ length W
+    put-room = omega (arith, small, rd .room)
+
+    module _ (M : List ℕ) (lm : Listed (length (take n C)) M O m) (T : List ℕ) (fm : Filled (λ i. numberIn M m (getD C i 0)) n T) (D : List ℕ) (g : Gathered N O m T W (blockSize * dst) D)
         (l : ℕ) (lv : Levels D (blockSize * dst) m l) where
       abbrev E : List ℕ
       E = ended D dst m l m
@@ -166,18 +166,18 @@ module _ (N : List ℕ) (n : ℕ) (C : List ℕ) (root : ℕ) (W : List ℕ) (ds
       same-size = ended-size D dst m l m room ∙ g .same
 
       ft : Filled (λ i. placeIn (getD C i 0) (take m O)) n T
-      ft = record { at = λ i h. fm .at i h ∙ number-in M (take m O) m (getD C i 0) lm size (omega (arith, low i h, rd .raw .few)) }
+      ft = record { at = λ i h. fm .at i h ∙ number-in n M O m (getD C i 0) (subst (λ (k : ℕ). Listed k M O m) front-size lm) size (low i h) }
 
       number-is : (i : ℕ) → i < n → getD T i 0 ≡ number (graphIn N n root) wg i
       number-is i h = ft .at i h ∙ ap₂ placeIn (colour-is i h) order-is
 
       number-small : (i : ℕ) → i < n → number (graphIn N n root) wg i < firstLeaf
-      number-small i h = omega (arith, place-le (colourOf (colours (nodesIn N 0 n)) i) (order (graphIn N n root) wg), counted, canon-count)
+      number-small i h = omega (arith, small, place-le (colourOf (colours (nodesIn N 0 n)) i) (order (graphIn N n root) wg), counted, canon-count)
 
       g′ : Gathered N O m T E (blockSize * dst) E
       g′ = record {
         same = refl;
-        here = λ j k h c. ended-below D dst m l m room (blockSize * dst + objectSize * j + k) (omega arith) ∙ g .here j k h c;
+        here = λ j k h c. ended-below D dst m l m room (blockSize * dst + objectSize * j + k) (omega (arith, small)) ∙ g .here j k h c;
         below = λ q h. refl;
         above = λ q h. refl;
       }
@@ -191,7 +191,7 @@ module _ (N : List ℕ) (n : ℕ) (C : List ℕ) (root : ℕ) (W : List ℕ) (ds
           ∙ ap (λ (p : ℕ). changed (turnRef T) (nodeIn N p)) (sym z)
           ∙ ap (changed (turnRef T)) (sym (at-nodes N 0 n (getD O j 0) c))
           ∙ node-agree (turnRef T) (rename (number (graphIn N n root) wg)) (InRange n)
-          (turn-rename T n (number (graphIn N n root) wg) (rd .raw .few) number-is number-small) (nodeAt (nodesIn N 0 n) (getD O j 0)) (inner (getD O j 0))
+          (turn-rename T n (number (graphIn N n root) wg) (omega (arith, rd .raw .few)) number-is number-small) (nodeAt (nodesIn N 0 n) (getD O j 0)) (inner (getD O j 0))
           ∙ ap (λ (q : ℕ). renameNode (number (graphIn N n root) wg) (nodeAt (nodesIn N 0 n) q)) ec
           ∙ sym (getD-map-lt (λ q. renameNode (number (graphIn N n root) wg) (nodeAt (nodesIn N 0 n) q)) (order (graphIn N n root) wg) j (node 0 []) 0 (omega (arith, counted, canon-count)))
 
@@ -226,21 +226,21 @@ module _ (N : List ℕ) (n : ℕ) (C : List ℕ) (root : ℕ) (W : List ℕ) (ds
       unfolding objectsIn
       block-ok = record {
         room = omega (arith, same-size, rd .room);
-        small = rw count-is few;
+        small = rw count-is small;
         packed = packed-is;
         whole = whole-is;
         distinct = subst (λ (v : Graph). Distinct (v .nodes)) (sym block-is) (value-distinct (canon (graphIn N n root)) (canon-whole (graphIn N n root) wg) (canon-canon (graphIn N n root) wg));
-        level = λ i f h k. rw (ended-below D dst m l m room (blockSize * dst + objectSize * i + headSize + f) (omega (arith, count-is)), ended-level D dst m l m room) (lv .below i f (omega (arith, count-is)) k);
+        level = λ i f h k. rw (ended-below D dst m l m room (blockSize * dst + objectSize * i + headSize + f) (omega (arith, count-is, small)), ended-level D dst m l m room) (lv .below i f (omega (arith, count-is)) k);
         reach = λ i f h k c. omega (arith, count-is, ended-reach D dst m l m room, code-low E (blockSize * dst) (countIn E dst) packed-is i h whole-is f k c);
       }
 
-      pub put-done : Placed N n root W dst E m
+      pub put-done : Placed (graphIn N n root) W dst E m
       put-done = record {
         count = counted;
         outside = record {
           same = same-size;
           below = λ p h. ended-below D dst m l m room p (omega arith) ∙ g .below p h;
-          above = λ p h. ended-above D dst m l m room p (omega arith) ∙ g .above p (omega arith);
+          above = λ p h. ended-above D dst m l m room p (omega arith) ∙ g .above p (omega (arith, small));
         };
-        has = λ l. record { inside = record { block = block-ok; low = rw count-is filled-is }; is = block-is };
+        has = record { inside = record { block = block-ok; low = rw count-is filled-is }; is = block-is };
       }

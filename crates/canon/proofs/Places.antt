@@ -21,7 +21,7 @@ module _ (L : List ℕ) (n i j : ℕ) (lk : Looks L n) (hi : i < n)
       rw (e, e6)
 
   test : j < n → eqNode (nodeIn L (objectSize * i)) (nodeIn L (objectSize * j)) ≡ eqNats (part L (objectSize * i) objectSize) (part L (objectSize * j) objectSize)
-  test h = eq-node L L (objectSize * i) (objectSize * j) (omega (arith, lk .few, lk .room)) (omega (arith, lk .few, lk .room)) (lk .packed i hi) (lk .packed j h)
+  test h = eq-node L L (objectSize * i) (objectSize * j) (omega (arith, lk .room)) (omega (arith, lk .room)) (lk .packed i hi) (lk .packed j h)
 
   pub place-found : (r : Bool) → j < i → r ≡ eqNats (part L (objectSize * i) objectSize) (part L (objectSize * j) objectSize) → r ≡ true → j ≡ placeIs L n i
   unfolding placeOf

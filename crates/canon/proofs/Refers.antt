@@ -7,7 +7,8 @@ use mathlib.Core.List.{List}
 use lib.ListN.{getD}
 use borrow.Author.Tests.{lt-ltb, le-ltb}
 use Rattle.canon.specs.Figures.{objectSize, headSize, codeCount, firstLeaf, linkSize, targetAt}
-use Rattle.canon.specs.Links.{Hung, targetOf, Codes, SameField, HungOn, GroupedAll, ReferredTo, Referred, Unhung, Linked}
+use Rattle.canon.specs.Layout.{Codes}
+use Rattle.canon.specs.Links.{Hung, targetOf, SameField, HungOn, GroupedAll, ReferredTo, Referred, Unhung, Linked}
 use Rattle.canon.proofs.Hangs.{hung-same, field-refl, field-then}
 
 -- ---- by a field
@@ -20,11 +21,11 @@ module _ (b : ℕ) where
   unfolding targetOf
   target-leaf h = rw (le-ltb b firstLeaf h)
 
-pub target-low : (N : List ℕ) (n i f v : ℕ) → Codes N n → 0 < n → i + 1 < n → f < codeCount → v ≡ targetOf (getD N (objectSize * i + headSize + f) 0) → v < n
+pub target-low : (N : List ℕ) (n i f v : ℕ) → Codes N (n - 1) → 0 < n → i + 1 < n → f < codeCount → v ≡ targetOf (getD N (objectSize * i + headSize + f) 0) → v < n
 target-low N n i f v c pos h hf e = go (decLt (getD N (objectSize * i + headSize + f) 0) firstLeaf)
   where
     go : Dec (getD N (objectSize * i + headSize + f) 0 < firstLeaf) → v < n
-    go (yes l) = omega (arith, c .low i f h hf l, target-object (getD N (objectSize * i + headSize + f) 0) l)
+    go (yes l) = omega (arith, c .low i f (omega arith) hf l, target-object (getD N (objectSize * i + headSize + f) 0) l)
     go (no l) = omega (arith, target-leaf (getD N (objectSize * i + headSize + f) 0) (omega (arith, l)))
 
 pub refer-start : (N : List ℕ) (n f : ℕ) (K : List ℕ) → Hung n f 1 K → ReferredTo N n f 1 K K

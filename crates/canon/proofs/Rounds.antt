@@ -13,10 +13,10 @@ use Rattle.cofj.specs.Unfolding.{Same, InRange}
 use Rattle.cofj.proofs.Basics.{eqNats-true}
 use Rattle.cofj.proofs.Trees.{same-look}
 use Rattle.cofj.proofs.Colours.{look, next, next-at, next-low, next-looks, next-same, look-next, length-refine, refs-coarser, colour-same}
-use Rattle.canon.specs.Figures.{objectSize, firstLeaf, wideSize}
-use Rattle.canon.specs.Layout.{nodeIn, nodesIn, part}
+use Rattle.canon.specs.Figures.{objectSize, capacity}
+use Rattle.canon.specs.Layout.{nodeIn, nodesIn, part, Raw}
 use Rattle.canon.specs.Tables.{Filled, Carried, Lifted}
-use Rattle.canon.specs.Rounds.{Looks, placeIs, Raw, Below}
+use Rattle.canon.specs.Rounds.{Looks, placeIs, Below}
 use Rattle.canon.specs.Classing.{Coarse}
 use Rattle.canon.proofs.Colouring.{colours-are, looks-colours}
 use Rattle.canon.proofs.Nodes.{AllPacked, length-nodes, at-nodes}
@@ -32,9 +32,8 @@ module _ (N C L₀ L : List ℕ) (n : ℕ) (raw : Raw N n) (f : Lifted N 0 (obje
   packed-at : AllPacked N 0 n
   packed-at j k = let e : 0 + objectSize * j ≡ objectSize * j = omega arith in rw e (raw .packed j k)
 
-  pub looks-ok : wideSize ≤ length L₀ → Looks L n
+  pub looks-ok : objectSize * n ≤ length L₀ → Looks L n
   looks-ok h = record {
-    few = raw .few;
     room = omega (arith, f .same);
     packed = λ i l. let e : objectSize * i ≡ 0 + objectSize * i = omega arith in rw e (lifted-packed N 0 C L₀ 0 L n f packed-at i l);
   }
@@ -46,11 +45,11 @@ module _ (N C L₀ L : List ℕ) (n : ℕ) (raw : Raw N n) (f : Lifted N 0 (obje
   looks-are b =
       lifted-nodes N 0 C L₀ 0 L n f packed-at
       ∙ nodes-agree (turnRef C) (rename (colourOf (take n C))) (InRange n)
-      (turn-rename C n (colourOf (take n C)) (raw .few) (λ i h. sym (getD-take n C i 0 h))
+      (turn-rename C n (colourOf (take n C)) (omega (arith, raw .few)) (λ i h. sym (getD-take n C i 0 h))
       (λ i h. rw (getD-take n C i 0 h) (omega (arith, b .low i h, raw .few))))
       (nodesIn N 0 n) inner
 
-  pub round-done : (X : List ℕ) → Below n C → Filled (λ i. placeIs L n i) n X → 256 ≤ length X → take n X ≡ refine (nodesIn N 0 n) (take n C)
+  pub round-done : (X : List ℕ) → Below n C → Filled (λ i. placeIs L n i) n X → n ≤ length X → take n X ≡ refine (nodesIn N 0 n) (take n C)
   unfolding placeIs
   round-done X b g room =
       front-is X (refine (nodesIn N 0 n) (take n C)) n (length-refine (nodesIn N 0 n) (take n C) ∙ length-nodes N 0 n) (omega (arith, raw .few))
@@ -72,7 +71,7 @@ unfolding refineTo
 still-to ns cs zero e = refl
 still-to ns cs (suc k) e = turn-step ns cs k true e
 
-pub square-fits : (n : ℕ) → n ≤ firstLeaf → n * n ≤ 36864
+pub square-fits : (n : ℕ) → n ≤ capacity → n * n ≤ capacity * capacity
 square-fits n h = mul-le-mul h h
 
 -- a table that k rounds more of the rounds from zeros cannot be finer than
@@ -92,7 +91,7 @@ module _ (N : List ℕ) (n : ℕ) (raw : Raw N n) where
   size : length ns ≡ n
   size = length-nodes N 0 n
 
-  pub coarse-below : (C : List ℕ) → Coarse N n C → 256 ≤ length C → Below n C
+  pub coarse-below : (C : List ℕ) → Coarse N n C → n ≤ length C → Below n C
   coarse-below C c h = record { room = h; low = λ i l. omega (arith, c .low i l) }
 
   pub going-start : (C : List ℕ) → Coarse N n C → Going N n (n * n + 1) C
@@ -102,7 +101,7 @@ module _ (N : List ℕ) (n : ℕ) (raw : Raw N n) where
       let z : (i : ℕ) → colourOf (map (λ _. 0) ns) i ≡ 0 = λ i. List·getD-map (λ _. 0) ns i (node 0 []) in
       record { coarse = c; other = map (λ _. 0) ns; left = ap (λ (k : ℕ). refineTo k ns (map (λ _. 0) ns)) (sym e); finer = λ i j h l q. z i ∙ sym (z j) }
 
-  module _ (C : List ℕ) (long : 256 ≤ length C) where
+  module _ (C : List ℕ) (long : n ≤ length C) where
     abbrev cs : List ℕ
     cs = take n C
 
@@ -190,7 +189,7 @@ module _ (N : List ℕ) (n : ℕ) (raw : Raw N n) where
         (full-of (w .coarse))
 
   -- what is copied back
-  pub copied-is : (C X C2 : List ℕ) → Carried X 0 C 0 n C2 → 256 ≤ length C2 → 256 ≤ length X → take n X ≡ refine ns (take n C) → take n C2 ≡ refine ns (take n C)
+  pub copied-is : (C X C2 : List ℕ) → Carried X 0 C 0 n C2 → n ≤ length C2 → n ≤ length X → take n X ≡ refine ns (take n C) → take n C2 ≡ refine ns (take n C)
   copied-is C X C2 f long longX e =
       front-is C2 (take n X) n (length-take-le n X (omega (arith, raw .few))) (omega (arith, raw .few))
       (λ i l. let z : 0 + i ≡ i = omega arith in (rw z at (f .here i l)) ∙ sym (getD-take n X i 0 l))

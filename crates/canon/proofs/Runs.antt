@@ -91,12 +91,9 @@ filled-more F A p x f h e = record { at = λ i l. go i l (ℕ-discrete i p) }
     go i l (yes q) = rw q (getD-set-same A p x 0 h ∙ e)
     go i l (no q) = getD-set-other A p i x 0 q ∙ f .at i (omega (arith, q))
 
-pub filled-step : (F : ℕ → ℕ) (A₀ A : List ℕ) (n p x : ℕ) → Filled F p A → p < n → suc n ≤ 256 → length A ≡ length A₀ → 256 ≤ length A₀ → x ≡ F p
+pub filled-step : (F : ℕ → ℕ) (A₀ A : List ℕ) (n p x : ℕ) → Filled F p A → p < n → length A ≡ length A₀ → n ≤ length A₀ → x ≡ F p
     → Filled F (p + 1) (set A p x)
-filled-step F A₀ A n p x f h s l k e = filled-more F A p x f (omega arith) e
+filled-step F A₀ A n p x f h l k e = filled-more F A p x f (omega arith) e
 
 pub filled-done : (F : ℕ → ℕ) (A : List ℕ) (p n : ℕ) → Filled F p A → n ≤ p → Filled F n A
 filled-done F A p n f h = record { at = λ i l. f .at i (omega arith) }
-
-pub filled-zero : (A₀ A : List ℕ) (p m : ℕ) → Filled (λ _. 0) p A → p < m → length A ≡ length A₀ → m ≤ length A₀ → Filled (λ _. 0) (p + 1) (set A p 0)
-filled-zero A₀ A p m f h l k = filled-more (λ _. 0) A p 0 f (omega arith) refl

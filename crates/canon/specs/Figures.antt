@@ -35,10 +35,6 @@ firstMark = numberCode + 1
 abbrev pub markCount : ℕ
 markCount = 62
 
--- the bytes of as many objects as a byte can number: room for all that a code can refer to
-abbrev pub wideSize : ℕ
-wideSize = objectSize * 256
-
 -- ---- blocks
 -- how many objects a block has room for, and their bytes; how many a value may have is the run's limit, which is not above it
 abbrev pub capacity : ℕ

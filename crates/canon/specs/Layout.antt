@@ -60,6 +60,19 @@ pub record Packed (S : List ℕ) (at : ℕ) : Type 0 where
   pub low : (f : ℕ) → f < codeCount → getD S (at + numbersAt + 2 * f) 0 < 256
   pub blank : (k : ℕ) → blankAt ≤ k → k < objectSize → getD S (at + k) 0 ≡ 0
 
+-- n objects from the start on, no more than a block has room for, which refer to one another
+pub record Raw (N : List ℕ) (n : ℕ) : Type 0 where
+  pub few : n ≤ capacity
+  pub room : objectSize * n ≤ length N
+  pub packed : (i : ℕ) → i < n → Packed N (objectSize * i)
+  pub whole : Whole (graph (leaf undet) (nodesIn N 0 n))
+
+-- n objects from the start on whose codes name no other object than these
+pub record Codes (N : List ℕ) (n : ℕ) : Type 0 where
+  pub few : n ≤ capacity
+  pub room : objectSize * n ≤ length N
+  pub low : (i f : ℕ) → i < n → f < codeCount → getD N (objectSize * i + headSize + f) 0 < firstLeaf → getD N (objectSize * i + headSize + f) 0 < n
+
 -- the objects at two places have one class and as many fields
 pub record Alike (S : List ℕ) (p q : ℕ) : Type 0 where
   pub cls : getD S p 0 ≡ getD S q 0

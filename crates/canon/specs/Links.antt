@@ -7,6 +7,7 @@ use mathlib.Core.List.{List}
 use lib.Dec.{ltb}
 use lib.ListN.{length, getD}
 use Rattle.canon.specs.Tables.{fourAt, onCodes}
+use Rattle.canon.specs.Layout.{Codes}
 use Rattle.canon.specs.Figures.{objectSize, headSize, codeCount, numbersAt, firstLeaf, fourBytes, rowSize, linkSize, noteAt, beforeAt, targetAt, looksField, hashCount, hashedBy}
 
 -- h is the last below b that E takes to v, 0 if there is none
@@ -32,9 +33,6 @@ pub record AllLists (n : ℕ) (K : List ℕ) : Type 0 where
   pub each : (f : ℕ) → f < codeCount → Lists n f K
 
 -- ---- the lists made
-pub record Zeros (m : ℕ) (A : List ℕ) : Type 0 where
-  pub at : (i : ℕ) → i < m → getD A i 0 ≡ 0
-
 -- a code as it looks at first, all objects alike, and byte k of an object
 unfoldable pub looked : ℕ → ℕ
 looked b = cond (ltb b firstLeaf) 0 b
@@ -63,11 +61,6 @@ hashOf N i =
 unfoldable pub targetOf : ℕ → ℕ
 targetOf b = cond (ltb b firstLeaf) (b + 1) 0
 
--- the objects of rows 1 to n - 1, whose codes are of such rows
-pub record Codes (N : List ℕ) (n : ℕ) : Type 0 where
-  pub room : objectSize * n ≤ length N + objectSize
-  pub low : (i f : ℕ) → i + 1 < n → f < codeCount → getD N (objectSize * i + headSize + f) 0 < firstLeaf → getD N (objectSize * i + headSize + f) 0 + 1 < n
-
 -- the numbers of field g are as before
 pub record SameField (g : ℕ) (K K′ : List ℕ) : Type 0 where
   pub size : length K′ ≡ length K
@@ -94,7 +87,7 @@ pub record Grouped (N : List ℕ) (x : ℕ) (K : List ℕ) : Type 0 where
 
 -- what is needed to look for it: the list of those with x's hash begins at `from`
 pub record Sought (N T K : List ℕ) (n x h from : ℕ) : Type 0 where
-  pub codes : Codes N n
+  pub codes : Codes N (n - 1)
   pub roomT : rowSize * n ≤ length T
   pub roomK : linkSize * n ≤ length K
   pub pos : 0 < x

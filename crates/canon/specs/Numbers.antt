@@ -6,14 +6,18 @@ use mathlib.Core.List.{List}
 use lib.Dec.{eqb}
 use lib.ListN.{length, getD, take}
 use Rattle.cofj.specs.Values.{Graph, graph, obj, colours, canon}
-use Rattle.canon.specs.Figures.{objectSize, headSize, codeCount, firstMark, capacity, blockSize}
-use Rattle.canon.specs.Layout.{nodesIn, Inside, graphAt, Outside}
-use Rattle.canon.specs.Tables.{copied}
-use Rattle.canon.specs.Rounds.{Raw}
+use Rattle.canon.specs.Figures.{objectSize, headSize, codeCount, firstMark, blockSize}
+use Rattle.canon.specs.Layout.{nodesIn, Raw, Inside, graphAt, Outside}
+use Rattle.canon.specs.Tables.{copied, Turnable}
 
 -- an object's number by the table of its colour's place, and m for a colour that is not in it
 unfoldable pub numberIn : List ℕ → ℕ → ℕ → ℕ
 numberIn T m c = cond (eqb (getD T c 0) 0) m (getD T c 0 - 1)
+
+-- m objects of N, as O lists them, whose codes T can turn
+pub record Gatherable (N O : List ℕ) (m : ℕ) (T : List ℕ) : Type 0 where
+  pub order : m ≤ length O
+  pub each : (j : ℕ) → j < m → Turnable N (objectSize * getD O j 0) objectSize T
 
 -- objects of N, as O lists them, renamed by T, from a place of D on; the other bytes are D₀'s
 pub record Gathered (N O : List ℕ) (m : ℕ) (T D₀ : List ℕ) (to : ℕ) (D : List ℕ) : Type 0 where
@@ -34,7 +38,7 @@ pub record Levels (W : List ℕ) (at n l : ℕ) : Type 0 where
 -- n objects with their colours, a root, and room for the block
 pub record Ready (N : List ℕ) (n : ℕ) (C : List ℕ) (root : ℕ) (W : List ℕ) (dst : ℕ) : Type 0 where
   pub raw : Raw N n
-  pub long : 256 ≤ length C
+  pub long : n ≤ length C
   pub coloured : take n C ≡ colours (nodesIn N 0 n)
   pub inside : root < n
   pub room : blockSize * dst + blockSize ≤ length W
@@ -47,8 +51,8 @@ pub record Has (W : List ℕ) (b : ℕ) (v : Graph) : Type 0 where
   pub inside : Inside W b 0
   pub is : graphAt W b 0 ≡ v
 
--- the value's objects are counted; if a block has room for them they are in the block, and nothing else has changed
-pub record Placed (N : List ℕ) (n root : ℕ) (W : List ℕ) (dst : ℕ) (W′ : List ℕ) (r : ℕ) : Type 0 where
-  pub count : r ≡ length (canon (graphIn N n root) .nodes)
+-- the value of the graph g is in block dst, from its first object on, and has r objects; nothing else has changed
+pub record Placed (g : Graph) (W : List ℕ) (dst : ℕ) (W′ : List ℕ) (r : ℕ) : Type 0 where
+  pub count : r ≡ length (canon g .nodes)
+  pub has : Has W′ dst (canon g)
   pub outside : Outside dst W W′
-  pub has : r ≤ capacity → Has W′ dst (canon (graphIn N n root))

@@ -2,34 +2,20 @@
 use Prim.Native.Nat.{ℕ, _*_, _≤_, _<_}
 use mathlib.Core.List.{List}
 use lib.ListN.{length, getD}
-use Rattle.cofj.specs.Values.{placeOf, graph, leaf, undet}
-use Rattle.cofj.specs.Unfolding.{Whole}
-use Rattle.canon.specs.Figures.{objectSize, firstLeaf, wideSize}
+use Rattle.cofj.specs.Values.{placeOf}
+use Rattle.canon.specs.Figures.{objectSize}
 use Rattle.canon.specs.Layout.{nodeIn, nodesIn, Packed}
 
 -- n objects from the start on
 pub record Looks (L : List ℕ) (n : ℕ) : Type 0 where
-  pub few : n ≤ firstLeaf
-  pub room : wideSize ≤ length L
+  pub room : objectSize * n ≤ length L
   pub packed : (i : ℕ) → i < n → Packed L (objectSize * i)
 
 -- the first of n objects that is as object i
 unfoldable pub placeIs : List ℕ → ℕ → ℕ → ℕ
 placeIs L n i = placeOf (nodeIn L (objectSize * i)) (nodesIn L 0 n)
 
--- n objects from the start on, which refer to one another
-pub record Raw (N : List ℕ) (n : ℕ) : Type 0 where
-  pub few : n ≤ firstLeaf
-  pub room : wideSize ≤ length N
-  pub packed : (i : ℕ) → i < n → Packed N (objectSize * i)
-  pub whole : Whole (graph (leaf undet) (nodesIn N 0 n))
-
 -- the first n of a table are below n
 pub record Below (n : ℕ) (C : List ℕ) : Type 0 where
-  pub room : 256 ≤ length C
+  pub room : n ≤ length C
   pub low : (i : ℕ) → i < n → getD C i 0 < n
-
--- room for the looks, and for the next colours
-pub record Scratch (L X : List ℕ) : Type 0 where
-  pub looks : wideSize ≤ length L
-  pub next : 256 ≤ length X

@@ -11,6 +11,10 @@ use Rattle.canon.specs.Figures.{objectSize, headSize, numbersAt, firstLe
 pub record Filled (F : ℕ → ℕ) (n : ℕ) (A : List ℕ) : Type 0 where
   pub at : (i : ℕ) → i < n → getD A i 0 ≡ F i
 
+-- the first n bytes are 0
+abbrev pub Zeros : ℕ → List ℕ → Type 0
+Zeros = Filled (λ i. 0)
+
 -- how many of the first k bytes are 0
 unfoldable pub zeroCount : ℕ → List ℕ → ℕ
 zeroCount zero S = 0
@@ -66,6 +70,11 @@ onCodes G k b = cond (ltb k headSize) b (cond (ltb k numbersAt) (G b) b)
 -- with its codes turned
 abbrev pub copied : List ℕ → ℕ → ℕ → ℕ
 copied T = onCodes (turned T)
+
+-- p bytes of objects from a place of S on, and an entry of the table for every object that their codes name
+pub record Turnable (S : List ℕ) (from p : ℕ) (T : List ℕ) : Type 0 where
+  pub room : from + p ≤ length S
+  pub low : (q : ℕ) → q < p → headSize ≤ q % objectSize → q % objectSize < numbersAt → getD S (from + q) 0 < firstLeaf → getD S (from + q) 0 < length T
 
 -- p bytes of objects copied from a place of S to a place of D; the others are D₀'s
 pub record Lifted (S : List ℕ) (from p : ℕ) (T D₀ : List ℕ) (to : ℕ) (D : List ℕ) : Type 0 where

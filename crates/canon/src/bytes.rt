@@ -5,10 +5,10 @@ use crate::layout::NUMBERS;
 use crate::layout::THREE_BYTES;
 use crate::layout::TWO_BYTES;
 ghost use mathlib.Core.Path.{_≡_};
-ghost use Prim.Native.Nat.{ℕ, _+_, _<_, _≤_};
+ghost use Prim.Native.Nat.{_+_, _<_, _≤_};
 ghost use lib.ListN.{length};
 ghost use Rattle.cofj.specs.Values.{eqNats};
-ghost use Rattle.canon.specs.Figures.{objectSize, firstLeaf};
+ghost use Rattle.canon.specs.Figures.{objectSize};
 ghost use Rattle.canon.specs.Layout.{part};
 ghost use Rattle.canon.specs.Tables.{Filled, Two, Four, Eight, PlainTest, Carried};
 
@@ -91,26 +91,14 @@ pub fn copy(from: &[u8], i: usize, to: &mut [u8], j: usize, n: usize)
     }
 }
 
-// base, base + 1, .., n of them.
-pub fn count_up(base: u8, n: u8, to: &mut [u8])
-    requires { ⌜ (base + n ≤ firstLeaf) × (256 ≤ length (now to)) ⌝ }
-    ensures { λ _. ⌜ Filled (λ i. base + i) n (now (to .exit)) ⌝ }
+// 0, 1, .., n of them.
+pub fn count_up(n: u8, to: &mut [u8])
+    requires { ⌜ n ≤ length (now to) ⌝ }
+    ensures { λ _. ⌜ Filled (λ i. i) n (now (to .exit)) ⌝ }
 {
     let mut i: u8 = 0;
     while i < n {
-        to[i as usize] = base + i;
-        i += 1;
-    }
-}
-
-// m zeros.
-pub(crate) fn wipe(to: &mut [u8], m: usize)
-    requires { ⌜ m ≤ length (now to) ⌝ }
-    ensures { λ _. ⌜ Filled (λ i. 0) m (now (to .exit)) ⌝ }
-{
-    let mut i: usize = 0;
-    while i < m {
-        to[i] = 0;
+        to[i as usize] = i;
         i += 1;
     }
 }

@@ -46,9 +46,6 @@ pub const NUMBER: u8 = UNDETERMINED + 1;
 // the code of the first mark
 pub const FIRST_MARK: u8 = NUMBER + 1;
 
-// the bytes of as many objects as a byte can number: room for all that a code can refer to
-pub const WIDE: usize = OBJECT * 256;
-
 // how many blocks the work buffer has room for
 const BLOCKS: u16 = 301;
 

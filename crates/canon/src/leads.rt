@@ -15,12 +15,12 @@ use crate::parting::cell;
 use crate::parting::class_of;
 use crate::parting::part_fields;
 use crate::parting::part_looks;
-ghost use mathlib.Core.Path.{_≡_};
-ghost use Prim.Native.Nat.{ℕ, _+_, _*_, _<_, _≤_};
-ghost use lib.ListN.{length, getD};
-ghost use Rattle.canon.specs.Figures.{wideSize, capacity, rowSize, linkSize};
-ghost use Rattle.canon.specs.Tables.{copied};
-ghost use Rattle.canon.specs.Rounds.{Raw};
+ghost use Prim.Native.Nat.{_+_, _*_, _<_, _≤_};
+ghost use lib.ListN.{length};
+ghost use Rattle.canon.specs.Figures.{objectSize, rowSize};
+ghost use Rattle.canon.specs.Tables.{copied, Turnable};
+ghost use Rattle.canon.specs.Rounds.{Below};
+ghost use Rattle.canon.specs.Layout.{Raw, Codes};
 ghost use Rattle.canon.specs.Links.{AlikeTest};
 ghost use Rattle.canon.specs.Parting.{Classes};
 ghost use Rattle.canon.specs.Classing.{KnownTest, Leads, SteadyTest, Coarse};
@@ -29,7 +29,7 @@ ghost use Rattle.canon.specs.Classing.{KnownTest, Leads, SteadyTest, Coa
 const ROWS: usize = PER_OBJECT + 1;
 
 // Whether object l is below i and of class d.
-pub(crate) fn known(t: &[u16], i: u16, d: u16, l: u16) -> bool
+pub(crate) fn known(t: &[u8], i: u8, d: u8, l: u8) -> bool
     requires { ⌜ rowSize * i + rowSize ≤ length (now t) ⌝ }
     ensures { λ r. ⌜ KnownTest (now (t .entry)) i d l r ⌝ }
 {
@@ -43,20 +43,20 @@ pub(crate) fn known(t: &[u16], i: u16, d: u16, l: u16) -> bool
 }
 
 // The first object of the class of each of n objects.
-pub(crate) fn lead(t: &mut [u16], rows: u16, m: u16, n: u8, cs: &mut [u8])
-    requires { ⌜ Classes rows m (now t) × (rows ≡ n + 1) × (256 ≤ length (now cs)) ⌝ }
+pub(crate) fn lead(t: &mut [u8], m: u8, n: u8, cs: &mut [u8])
+    requires { ⌜ Classes (n + 1) m (now t) × (n ≤ length (now cs)) ⌝ }
     ensures { λ _. ⌜ Leads (now (t .entry)) n (now (cs .exit)) ⌝ }
 {
     let mut i: u8 = 0;
     while i < n {
         let j = i;
         i += 1;
-        let d = class_of(t, i as u16);
+        let d = class_of(t, i);
         let l = cell(t, d, NOTE);
-        if known(t, j as u16, d, l) {
-            cs[j as usize] = l as u8;
+        if known(t, j, d, l) {
+            cs[j as usize] = l;
         } else {
-            t[ROW * (d as usize) + NOTE] = j as u16;
+            t[ROW * (d as usize) + NOTE] = j;
             cs[j as usize] = j;
         }
     }
@@ -64,7 +64,7 @@ pub(crate) fn lead(t: &mut [u16], rows: u16, m: u16, n: u8, cs: &mut [u8])
 
 // Whether objects i and j look alike by their colours.
 pub(crate) fn look_same(nodes: &[u8], cs: &[u8], i: u8, j: u8) -> bool
-    requires { ⌜ (wideSize ≤ length (now nodes)) × (256 ≤ length (now cs)) ⌝ }
+    requires { ⌜ Turnable (now nodes) (objectSize * i) objectSize (now cs) × Turnable (now nodes) (objectSize * j) objectSize (now cs) ⌝ }
     ensures { λ r. ⌜ AlikeTest (copied (now (cs .entry))) (now (nodes .entry)) i j r ⌝ }
 {
     if !same_plain(nodes, OBJECT * (i as usize), OBJECT * (j as usize)) {
@@ -84,7 +84,7 @@ pub(crate) fn look_same(nodes: &[u8], cs: &[u8], i: u8, j: u8) -> bool
 
 // Whether each of n objects looks as the one of its colour does.
 pub(crate) fn steady(nodes: &[u8], n: u8, cs: &[u8]) -> bool
-    requires { ⌜ (wideSize ≤ length (now nodes)) × (256 ≤ length (now cs)) ⌝ }
+    requires { ⌜ Codes (now nodes) n × Below n (now cs) ⌝ }
     ensures { λ r. ⌜ SteadyTest (now (nodes .entry)) n (now (cs .entry)) r ⌝ }
 {
     let mut i: u8 = 0;
@@ -102,24 +102,16 @@ pub(crate) fn steady(nodes: &[u8], n: u8, cs: &[u8]) -> bool
 }
 
 // Colours of n objects that no two equal ones differ in: the first object of each class.
-pub(crate) fn part(nodes: &[u8], n: u8, cs: &mut [u8], t: &mut [u16], links: &mut [u16])
-    requires { ⌜ Raw (now nodes) n × (256 ≤ length (now cs)) × (rowSize * n + rowSize ≤ length (now t)) × (linkSize * n + linkSize ≤ length (now links)) ⌝ }
+pub(crate) fn part(nodes: &[u8], n: u8, cs: &mut [u8])
+    requires { ⌜ Raw (now nodes) n × (n ≤ length (now cs)) ⌝ }
     ensures { λ _. ⌜ Coarse (now (nodes .entry)) n (now (cs .exit)) ⌝ }
 {
-    let rows = n as u16 + 1;
-    let w = link(nodes, rows, t, links);
-    begin(t, rows);
-    let m = part_looks(t, rows, links);
-    let r = part_fields(t, rows, m, links, w);
-    lead(t, rows, r, n, cs);
-}
-
-// The same for the objects of a block, with tables of its own.
-pub(crate) fn part_own(nodes: &[u8], n: u8, cs: &mut [u8])
-    requires { ⌜ Raw (now nodes) n × (n ≤ capacity) × (256 ≤ length (now cs)) ⌝ }
-    ensures { λ _. ⌜ Coarse (now (nodes .entry)) n (now (cs .exit)) ⌝ }
-{
-    let mut t = [0u16; ROW * ROWS];
-    let mut links = [0u16; LINKS * ROWS];
-    part(nodes, n, cs, &mut t, &mut links);
+    let rows = n + 1;
+    let mut t = [0u8; ROW * ROWS];
+    let mut links = [0u8; LINKS * ROWS];
+    let w = link(nodes, rows, &mut t, &mut links);
+    begin(&mut t, rows);
+    let m = part_looks(&mut t, rows, &links);
+    let r = part_fields(&mut t, rows, m, &links, w);
+    lead(&mut t, r, n, cs);
 }

@@ -1,4 +1,5 @@
-// Who refers to whom by which field, in lists: numbers are rows, an object's number and one, and 0 is none. Field 4 leads to the first object that looks alike.
+// Who refers to whom by which field, in lists: numbers are rows, an object's number and one, and 0 is none; n counts rows, so there are n - 1 objects.
+// Field 4 leads to the first object that looks alike.
 // Not here: what is done with them (parting).
 use crate::bytes::eight_at;
 use crate::bytes::same_plain;
@@ -15,10 +16,12 @@ use crate::parting::TARGET;
 use crate::parting::cell;
 use crate::parting::last_into;
 ghost use mathlib.Core.Path.{_≡_};
-ghost use Prim.Native.Nat.{ℕ, _+_, _-_, _*_, _<_, _≤_};
+ghost use Prim.Native.Nat.{_+_, _-_, _*_, _<_, _≤_};
 ghost use lib.ListN.{length, getD};
-ghost use Rattle.canon.specs.Figures.{objectSize, headSize, codeCount, rowSize, linkSize, targetAt, looksField, hashCount};
-ghost use Rattle.canon.specs.Links.{Zeros, Hung, looked, shown, AlikeTest, hashPlain, hashOf, targetOf, Codes, HungOn, Sought, LikeBefore, GroupedAll, ReferredTo, Referred, Unhung, Linked};
+ghost use Rattle.canon.specs.Figures.{objectSize, headSize, codeCount, firstLeaf, capacity, rowSize, linkSize, targetAt, looksField, hashCount};
+ghost use Rattle.canon.specs.Tables.{Zeros};
+ghost use Rattle.canon.specs.Layout.{Codes};
+ghost use Rattle.canon.specs.Links.{Hung, looked, shown, AlikeTest, hashPlain, hashOf, targetOf, HungOn, Sought, LikeBefore, GroupedAll, ReferredTo, Referred, Unhung, Linked};
 
 // how many hashes there are
 const HASHES: u8 = 32;
@@ -28,18 +31,6 @@ const HASHED: u64 = 31;
 
 // the same as the length of a table with a number for each
 const LASTS: usize = HASHES as usize;
-
-// m zeros.
-pub(crate) fn blank(to: &mut [u16], m: usize)
-    requires { ⌜ m ≤ length (now to) ⌝ }
-    ensures { λ _. ⌜ Zeros m (now (to .exit)) ⌝ }
-{
-    let mut i: usize = 0;
-    while i < m {
-        to[i] = 0;
-        i += 1;
-    }
-}
 
 // A code as it looks at first: all objects alike.
 pub(crate) fn show(b: u8) -> u8
@@ -52,7 +43,7 @@ pub(crate) fn show(b: u8) -> u8
 }
 
 // Whether objects i and j look alike at first.
-pub(crate) fn look_alike(raw: &[u8], i: u16, j: u16) -> bool
+pub(crate) fn look_alike(raw: &[u8], i: u8, j: u8) -> bool
     requires { ⌜ (objectSize * i + objectSize ≤ length (now raw)) × (objectSize * j + objectSize ≤ length (now raw)) ⌝ }
     ensures { λ r. ⌜ AlikeTest shown (now (raw .entry)) i j r ⌝ }
 {
@@ -72,7 +63,7 @@ pub(crate) fn look_alike(raw: &[u8], i: u16, j: u16) -> bool
 }
 
 // A number for its class and its fields' numbers.
-pub(crate) fn hash_plain(raw: &[u8], i: u16) -> u8
+pub(crate) fn hash_plain(raw: &[u8], i: u8) -> u8
     requires { ⌜ objectSize * i + objectSize ≤ length (now raw) ⌝ }
     ensures { λ r. ⌜ r ≡ hashPlain (now (raw .entry)) (objectSize * i) ⌝ }
 {
@@ -81,7 +72,7 @@ pub(crate) fn hash_plain(raw: &[u8], i: u16) -> u8
 }
 
 // A number that tells most looks apart.
-pub(crate) fn hash(raw: &[u8], i: u16) -> u16
+pub(crate) fn hash(raw: &[u8], i: u8) -> u16
     requires { ⌜ objectSize * i + objectSize ≤ length (now raw) ⌝ }
     ensures { λ r. ⌜ r ≡ hashOf (now (raw .entry)) i ⌝ }
 {
@@ -95,7 +86,7 @@ pub(crate) fn hash(raw: &[u8], i: u16) -> u16
 }
 
 // Row x refers to row v by field f.
-pub(crate) fn hang(links: &mut [u16], n: u16, f: u16, x: u16, v: u16)
+pub(crate) fn hang(links: &mut [u8], n: u8, f: u8, x: u8, v: u8)
     requires { ⌜ Hung n f x (now links) × (f < 5) × (0 < x) × (x < n) × (v < n) ⌝ }
     ensures { λ _. ⌜ HungOn n f x v (now (links .entry)) (now (links .exit)) ⌝ }
 {
@@ -109,7 +100,7 @@ pub(crate) fn hang(links: &mut [u16], n: u16, f: u16, x: u16, v: u16)
 }
 
 // What row x refers to by field f.
-pub(crate) fn refers_to(links: &[u16], f: u16, x: u16) -> u16
+pub(crate) fn refers_to(links: &[u8], f: u8, x: u8) -> u8
     requires { ⌜ (linkSize * x + linkSize ≤ length (now links)) × (f < 5) ⌝ }
     ensures { λ r. ⌜ r ≡ getD (now (links .entry)) (linkSize * x + targetAt + f) 0 ⌝ }
 {
@@ -117,15 +108,7 @@ pub(crate) fn refers_to(links: &[u16], f: u16, x: u16) -> u16
 }
 
 // The first row of those that look as row x does, if one below x does, which are listed from `from` on; else x.
-pub(crate) fn like_before(
-    raw: &[u8],
-    t: &[u16],
-    links: &[u16],
-    n: u16,
-    x: u16,
-    h: u16,
-    from: u16,
-) -> u16
+pub(crate) fn like_before(raw: &[u8], t: &[u8], links: &[u8], n: u8, x: u8, h: u16, from: u8) -> u8
     requires { ⌜ Sought (now raw) (now t) (now links) n x h from ⌝ }
     ensures { λ r. ⌜ LikeBefore (now (raw .entry)) n x (now (links .entry)) r ⌝ }
 {
@@ -140,11 +123,11 @@ pub(crate) fn like_before(
 }
 
 // Hangs the rows up by their looks.
-pub(crate) fn group(raw: &[u8], n: u16, t: &mut [u16], links: &mut [u16], last: &mut [u16])
-    requires { ⌜ Codes (now raw) n × Hung n looksField 1 (now links) × (0 < n) × (rowSize * n ≤ length (now t)) × Zeros hashCount (now last) × (hashCount ≤ length (now last)) ⌝ }
+pub(crate) fn group(raw: &[u8], n: u8, t: &mut [u8], links: &mut [u8], last: &mut [u8])
+    requires { ⌜ Codes (now raw) (n - 1) × Hung n looksField 1 (now links) × (0 < n) × (rowSize * n ≤ length (now t)) × Zeros hashCount (now last) × (hashCount ≤ length (now last)) ⌝ }
     ensures { λ _. ⌜ GroupedAll (now (raw .entry)) n (now (links .entry)) (now (links .exit)) ⌝ }
 {
-    let mut x: u16 = 1;
+    let mut x: u8 = 1;
     while x < n {
         let h = hash(raw, x - 1);
         let l = last[h as usize];
@@ -157,24 +140,24 @@ pub(crate) fn group(raw: &[u8], n: u16, t: &mut [u16], links: &mut [u16], last: 
 }
 
 // The row that field f of object i leads to; 0 if it leads to none.
-pub(crate) fn target_row(raw: &[u8], i: u16, f: u16) -> u16
-    requires { ⌜ (objectSize * i + objectSize ≤ length (now raw)) × (f < codeCount) ⌝ }
+pub(crate) fn target_row(raw: &[u8], i: u8, f: u8) -> u8
+    requires { ⌜ (objectSize * i + objectSize ≤ length (now raw)) × (f < codeCount) × (getD (now raw) (objectSize * i + headSize + f) 0 < firstLeaf → getD (now raw) (objectSize * i + headSize + f) 0 < capacity) ⌝ }
     ensures { λ r. ⌜ r ≡ targetOf (getD (now (raw .entry)) (objectSize * i + headSize + f) 0) ⌝ }
 {
     let b = raw[OBJECT * (i as usize) + HEAD + f as usize];
     if b < FIRST_LEAF {
-        return b as u16 + 1;
+        return b + 1;
     }
     0
 }
 
 // Hangs the rows up by field f. Answers whether one leads to an object.
-pub(crate) fn refer_field(raw: &[u8], n: u16, f: u16, links: &mut [u16]) -> bool
-    requires { ⌜ Codes (now raw) n × (0 < n) × (f < codeCount) × Hung n f 1 (now links) ⌝ }
+pub(crate) fn refer_field(raw: &[u8], n: u8, f: u8, links: &mut [u8]) -> bool
+    requires { ⌜ Codes (now raw) (n - 1) × (0 < n) × (f < codeCount) × Hung n f 1 (now links) ⌝ }
     ensures { λ _. ⌜ ReferredTo (now (raw .entry)) n f n (now (links .entry)) (now (links .exit)) ⌝ }
 {
     let mut some = false;
-    let mut x: u16 = 1;
+    let mut x: u8 = 1;
     while x < n {
         let v = target_row(raw, x - 1, f);
         hang(links, n, f, x, v);
@@ -187,12 +170,12 @@ pub(crate) fn refer_field(raw: &[u8], n: u16, f: u16, links: &mut [u16]) -> bool
 }
 
 // The same for all four fields. Answers how many of them are to be looked at.
-pub(crate) fn refer(raw: &[u8], n: u16, links: &mut [u16]) -> u16
-    requires { ⌜ Codes (now raw) n × (0 < n) × Unhung n (now links) ⌝ }
+pub(crate) fn refer(raw: &[u8], n: u8, links: &mut [u8]) -> u8
+    requires { ⌜ Codes (now raw) (n - 1) × (0 < n) × Unhung n (now links) ⌝ }
     ensures { λ w. ⌜ Referred (now (raw .entry)) n 4 (now (links .entry)) (now (links .exit)) × (w ≤ codeCount) ⌝ }
 {
-    let mut w: u16 = 0;
-    let mut f: u16 = 0;
+    let mut w: u8 = 0;
+    let mut f: u8 = 0;
     while f < LOOKS {
         let g = f;
         f += 1;
@@ -203,14 +186,12 @@ pub(crate) fn refer(raw: &[u8], n: u16, links: &mut [u16]) -> u16
     w
 }
 
-// All of it.
-pub(crate) fn link(raw: &[u8], n: u16, t: &mut [u16], links: &mut [u16]) -> u16
-    requires { ⌜ Codes (now raw) n × (0 < n) × (rowSize * n ≤ length (now t)) × (linkSize * n ≤ length (now links)) ⌝ }
+// All of it, in `links`, which is zeros at first.
+pub(crate) fn link(raw: &[u8], n: u8, t: &mut [u8], links: &mut [u8]) -> u8
+    requires { ⌜ Codes (now raw) (n - 1) × (0 < n) × (rowSize * n ≤ length (now t)) × (linkSize * n ≤ length (now links)) × Zeros (linkSize * n) (now links) ⌝ }
     ensures { λ w. ⌜ Linked (now (raw .entry)) n (now (links .exit)) × (w ≤ codeCount) ⌝ }
 {
-    let mut last = [0u16; LASTS];
-    blank(&mut last, LASTS);
-    blank(links, LINKS * (n as usize));
+    let mut last = [0u8; LASTS];
     group(raw, n, t, links, &mut last);
     refer(raw, n, links)
 }

@@ -1,27 +1,27 @@
 // The objects of a graph, merged by colour and numbered in the order met, in a block: its value.
 // Not here: the colours (colours), the order (walk).
 use crate::bytes::copy;
-use crate::bytes::wipe;
 use crate::layout::BLOCK;
-use crate::layout::CAPACITY;
 use crate::layout::COUNT;
 use crate::layout::HEAD;
 use crate::layout::LEVEL;
 use crate::layout::NUMBER;
 use crate::layout::OBJECT;
+use crate::layout::PER_OBJECT;
 use crate::layout::REACH;
 use crate::lift::lift;
 use crate::walk::visit;
 ghost use mathlib.Core.Path.{_≡_};
-ghost use Prim.Native.Nat.{ℕ, _+_, _*_, _<_, _≤_};
+ghost use Prim.Native.Nat.{_+_, _*_, _<_, _≤_};
 ghost use lib.ListN.{length, getD};
-ghost use Rattle.canon.specs.Figures.{objectSize, wideSize};
+ghost use Rattle.canon.specs.Figures.{objectSize};
 ghost use Rattle.canon.specs.Tables.{Filled};
-ghost use Rattle.canon.specs.Numbers.{numberIn, Gathered, Above, Levels, Ready, Placed};
+ghost use Rattle.canon.specs.Rounds.{Below};
+ghost use Rattle.canon.specs.Numbers.{numberIn, Gatherable, Gathered, Above, Levels, Ready, graphIn, Placed};
 
 // The number of an object of colour c: the colour's place in the order, which the table tells; m if it is not met.
 pub(crate) fn number_of(met: &[u8], c: u8, m: u8) -> u8
-    requires { ⌜ 256 ≤ length (now met) ⌝ }
+    requires { ⌜ c < length (now met) ⌝ }
     ensures { λ r. ⌜ r ≡ numberIn (now (met .entry)) m c ⌝ }
 {
     let p = met[c as usize];
@@ -33,7 +33,7 @@ pub(crate) fn number_of(met: &[u8], c: u8, m: u8) -> u8
 
 // The number of each of n objects.
 pub(crate) fn numbers(cs: &[u8], n: u8, met: &[u8], m: u8, to: &mut [u8])
-    requires { ⌜ (256 ≤ length (now cs)) × (256 ≤ length (now met)) × (256 ≤ length (now to)) ⌝ }
+    requires { ⌜ Below n (now cs) × (n ≤ length (now met)) × (n ≤ length (now to)) ⌝ }
     ensures { λ _. ⌜ Filled (λ i. numberIn (now (met .entry)) m (getD (now (cs .entry)) i 0)) n (now (to .exit)) ⌝ }
 {
     let mut i: u8 = 0;
@@ -45,7 +45,7 @@ pub(crate) fn numbers(cs: &[u8], n: u8, met: &[u8], m: u8, to: &mut [u8])
 
 // The objects that the order lists, renamed by the table, from a place of `dst` on. Each is made apart: so the machine moves the bytes that stay at once.
 pub(crate) fn gather(nodes: &[u8], order: &[u8], m: u8, table: &[u8], dst: &mut [u8], to: usize)
-    requires { ⌜ (wideSize ≤ length (now nodes)) × (256 ≤ length (now order)) × (256 ≤ length (now table)) × (to + objectSize * m ≤ length (now dst)) ⌝ }
+    requires { ⌜ Gatherable (now nodes) (now order) m (now table) × (to + objectSize * m ≤ length (now dst)) ⌝ }
     ensures { λ _. ⌜ Gathered (now (nodes .entry)) (now (order .entry)) m (now (table .entry)) (now (dst .entry)) to (now (dst .exit)) ⌝ }
 {
     let mut object = [0u8; OBJECT];
@@ -93,24 +93,27 @@ pub fn level_of(work: &[u8], at: usize, n: u8) -> u8
     m - NUMBER
 }
 
-// Writes the value of n objects with their colours, from the root on, to block `dst`, unless it has more objects than a block has room for.
-// Answers with the number of its objects.
+// Writes the value of n objects with their colours, from the root on, to block `dst`. Answers with the number of its objects.
 pub fn put(nodes: &[u8], n: u8, cs: &[u8], root: u8, work: &mut [u8], dst: u16) -> u8
     requires { ⌜ Ready (now nodes) n (now cs) root (now work) dst ⌝ }
-    ensures { λ r. ⌜ Placed (now (nodes .entry)) n root (now (work .entry)) dst (now (work .exit)) r ⌝ }
+    ensures { λ r. ⌜ Placed (graphIn (now (nodes .entry)) n root) (now (work .entry)) dst (now (work .exit)) r ⌝ }
 {
     let at = BLOCK * (dst as usize);
     let count = at + COUNT;
     let level = at + LEVEL;
     let reach = at + REACH;
-    let mut order = [0u8; 256];
-    let mut met = [0u8; 256];
-    wipe(&mut met, 256);
-    let m = visit(nodes, cs, n + 1, root, &mut order, &mut met, 0);
-    if CAPACITY < m {
-        return m;
-    }
-    let mut table = [0u8; 256];
+    let mut order = [0u8; PER_OBJECT];
+    let mut met = [0u8; PER_OBJECT];
+    let m = visit(
+        nodes,
+        &cs[..n as usize],
+        n + 1,
+        root,
+        &mut order,
+        &mut met,
+        0,
+    );
+    let mut table = [0u8; PER_OBJECT];
     numbers(cs, n, &met, m, &mut table);
     gather(nodes, &order, m, &table, work, at);
     let l = level_of(work, at, m);

@@ -4,9 +4,10 @@ use crate::layout::FIRST_LEAF;
 use crate::layout::HEAD;
 use crate::layout::OBJECT;
 ghost use mathlib.Core.Path.{_≡_};
-ghost use Prim.Native.Nat.{ℕ, _+_, _*_, _<_, _≤_};
+ghost use Prim.Native.Nat.{_+_, _*_, _<_, _≤_};
 ghost use lib.ListN.{length, take};
-ghost use Rattle.canon.specs.Walking.{Room, Listed, walkRef, walkFields};
+ghost use Rattle.canon.specs.Figures.{firstLeaf};
+ghost use Rattle.canon.specs.Walking.{Walkable, Listed, walkRef, walkFields};
 
 // Meets the object that the code r stands for, if it is new, and then its fields.
 pub(crate) fn visit(
@@ -18,8 +19,8 @@ pub(crate) fn visit(
     met: &mut [u8],
     m: u8,
 ) -> u8
-    requires { ⌜ Room (now nodes) (now cs) (now order) (now met) × Listed (now met) (take m (now order)) × (length (walkRef (now nodes) (now cs) k r (take m (now order))) ≤ 255) ⌝ }
-    ensures { λ t. ⌜ (take t (now (order .exit)) ≡ walkRef (now (nodes .entry)) (now (cs .entry)) k r (take m (now (order .entry)))) × Listed (now (met .exit)) (take t (now (order .exit))) ⌝ }
+    requires { ⌜ Walkable (now nodes) (now cs) (now order) (now met) × Listed (length (now cs)) (now met) (now order) m × (r < firstLeaf → r < length (now cs)) × (length (walkRef (now nodes) (now cs) k r (take m (now order))) ≤ length (now cs)) ⌝ }
+    ensures { λ t. ⌜ (take t (now (order .exit)) ≡ walkRef (now (nodes .entry)) (now (cs .entry)) k r (take m (now (order .entry)))) × Listed (length (now (cs .entry))) (now (met .exit)) (now (order .exit)) t ⌝ }
 {
     if k == 0 {
         return m;
@@ -47,8 +48,8 @@ pub(crate) fn fields(
     met: &mut [u8],
     m: u8,
 ) -> u8
-    requires { ⌜ Room (now nodes) (now cs) (now order) (now met) × Listed (now met) (take m (now order)) × (length (walkFields (now nodes) (now cs) k c f (take m (now order))) ≤ 255) ⌝ }
-    ensures { λ t. ⌜ (take t (now (order .exit)) ≡ walkFields (now (nodes .entry)) (now (cs .entry)) k c f (take m (now (order .entry)))) × Listed (now (met .exit)) (take t (now (order .exit))) ⌝ }
+    requires { ⌜ Walkable (now nodes) (now cs) (now order) (now met) × Listed (length (now cs)) (now met) (now order) m × (c < length (now cs)) × (length (walkFields (now nodes) (now cs) k c f (take m (now order))) ≤ length (now cs)) ⌝ }
+    ensures { λ t. ⌜ (take t (now (order .exit)) ≡ walkFields (now (nodes .entry)) (now (cs .entry)) k c f (take m (now (order .entry)))) × Listed (length (now (cs .entry))) (now (met .exit)) (now (order .exit)) t ⌝ }
 {
     if CODES <= f {
         return m;

@@ -5,7 +5,8 @@ use mathlib.Core.List.{List, [], _∷_, map, List·Memᴰ, List·Memᴰ·cases-c
 use Rattle.cofj.specs.Values.{Graph, graph, node, obj, make, close, markOf}
 use Rattle.cofj.specs.Bytes.{bytes}
 use Rattle.cofj.specs.Show.{linerun}
-use Rattle.cofj.specs.Rows.{Row, shown, computed, said, Holds, rows}
+use Rattle.cofj.specs.Rows.{Row, shown, computed, said, Holds}
+use Rattle.cofj.specs.RequestRows.{rows}
 
 each : (rs : List Row) → map computed rs ≡ map said rs → (r : Row) → List·Memᴰ r rs → Holds r
 each [] e r m = absurd (List·Memᴰ·not-nil m)

@@ -5,7 +5,7 @@
 --   values and runs: Values, Unfolding, RunningRules, with Outcome, Frame and openMark from Running;
 --   the calls: Report, Batch for the second text of a run, Calls, Show, Finding; then Soundness and Promises.
 -- Skip at first: Partial and Bytes (helpers), the functions of Typing and Running (proved to compute the rules), Formed and WellFormed (what
--- proofs need of values and tables), ReportForm (which texts are reports), Rows (the cases A to J).
+-- proofs need of values and tables), ReportForm (which texts are reports), Rows (the cases A to J), RequestRows (examples of document 02's requests).
 pub mod Limits
 pub mod Partial
 pub mod Text
@@ -35,3 +35,4 @@ pub mod Soundness
 pub mod Promises
 pub mod Bytes
 pub mod Rows
+pub mod RequestRows

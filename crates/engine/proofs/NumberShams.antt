@@ -1,10 +1,10 @@
 -- The shams of request 2026-02, refuted: a function that meets the contract of a run does not treat numbers as the sham does.
--- Each by a call that the sham would answer otherwise (as Shams; the calls are those of cofj's Rows). The table of them is docs/SHAMS.md.
+-- Each by a call that the sham would answer otherwise (as Shams; the calls are those of cofj's RequestRows). The table of them is docs/SHAMS.md.
 use Prim.Native.String.{String}
 use native.Mathlib.Omega.{arith}
 use mathlib.Core.Path.{_≡_, refl, sym, ap, _∙_}
 use Rattle.cofj.specs.Bytes.{bytes}
-use Rattle.cofj.specs.Rows.{row-overflow, row-equal-numbers, row-other-numbers, row-choose-second, row-no-object, row-thirteen}
+use Rattle.cofj.specs.RequestRows.{row-overflow, row-equal-numbers, row-other-numbers, row-choose-second, row-no-object, row-thirteen}
 use Rattle.cofj.specs.Running.{run}
 use Rattle.cofj.specs.Calls.{checked, Call, Ran, admit, runCall}
 use Rattle.cofj.specs.Show.{reportAdmitted}

@@ -12,7 +12,8 @@ use Rattle.cofj.specs.declared.Closing.{Closing}
 use Rattle.cofj.specs.declared.Verdict.{Verdict}
 use Rattle.cofj.specs.Bytes.{bytes}
 use Rattle.cofj.specs.Limits.{reportSize, workSize}
-use Rattle.cofj.specs.Rows.{row-a, row-f, row-i, row-ring-cut, row-ring, row-untyped, row-plus-trial}
+use Rattle.cofj.specs.Rows.{row-a, row-f, row-i}
+use Rattle.cofj.specs.RequestRows.{row-ring-cut, row-ring, row-untyped, row-plus-trial}
 use Rattle.cofj.specs.Values.{Graph}
 use Rattle.cofj.specs.Running.{Outcome, value, stopped, run}
 use Rattle.cofj.specs.Report.{reportOf}

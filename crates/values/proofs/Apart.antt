@@ -13,9 +13,9 @@ use Rattle.cofj.specs.Unfolding.{follow, Same, InRange}
 use Rattle.cofj.proofs.Trees.{same-child, same-cls, same-count}
 use Rattle.cofj.proofs.Operations.{boundNodes}
 use Rattle.canon.specs.Figures.{objectSize, headSize, codeCount, numbersAt, firstLeaf, reachAt, blockSize}
-use Rattle.canon.specs.Layout.{codeOf, numberBeside, numberAt, nodesIn, alikeAt, Distinct, Block, Inside, objectsIn, countIn, reachIn}
+use Rattle.canon.specs.Layout.{codeOf, numberBeside, numberAt, nodesIn, alikeAt, Distinct, Block, Inside, objectsIn, countIn, reachIn, Raw}
 use Rattle.canon.proofs.Nodes.{some-at, at-some, length-nodes, AllPacked, class-is, count-is, code-is, number-is, four-fields, object-low, alike-yes, alike-no}
-use Rattle.values.specs.Binding.{Bound, Few, noneRefer, OtherField, Leads, DifferTest, UnlikeTest, UnlikeOthers, OthersTest, DistinctTest}
+use Rattle.values.specs.Binding.{Bound, noneRefer, OtherField, Leads, DifferTest, UnlikeTest, UnlikeOthers, OthersTest, DistinctTest}
 use Rattle.values.proofs.Tests.{not-true, not-false}
 use Rattle.values.proofs.Objects.{leaf-refs, is-object}
 use Rattle.values.proofs.Blocks.{size-in}
@@ -41,9 +41,9 @@ module _ (R : List ℕ) (n i k : ℕ) where
   pub differ-not : DifferTest R n i k false
   differ-not = record { yes = λ z. absurd (false≢true z) }
 
-  module _ (fw : Few R n) where
+  module _ (raw : Raw R n) where
     packed : AllPacked R 0 n
-    packed j h = let z : 0 + objectSize * j ≡ objectSize * j = omega arith in rw z (fw .packed j h)
+    packed j h = let z : 0 + objectSize * j ≡ objectSize * j = omega arith in rw z (raw .packed j h)
 
     abbrev ns : List Node
     ns = nodesIn R 0 n
@@ -61,7 +61,7 @@ module _ (R : List ℕ) (n i k : ℕ) where
     number-at x h f l = let z : 0 + objectSize * x ≡ objectSize * x = omega arith in rw z at (number-is R 0 n packed x h f l)
 
     range-at : (x f : ℕ) → f < length (refsAt ns x) → InRange n (getD (refsAt ns x) f (leaf undet))
-    range-at x f h = subst (λ (l : ℕ). InRange l (getD (refsAt ns x) f (leaf undet))) (length-nodes R 0 n) (fw .whole .inner x f _ (some-at (refsAt ns x) f h))
+    range-at x f h = subst (λ (l : ℕ). InRange l (getD (refsAt ns x) f (leaf undet))) (length-nodes R 0 n) (raw .whole .inner x f _ (some-at (refsAt ns x) f h))
 
     -- a field that there is not
     spare-ref : (x : ℕ) → x < n → (f : ℕ) → getD R (objectSize * x + 1) 0 ≤ f → getD (refsAt ns x) f (leaf undet) ≡ leaf undet
@@ -119,10 +119,10 @@ module _ (R : List ℕ) (n i k : ℕ) where
         children e = same-child ns ns (obj x) (obj y) (ld .leads e) f r s (some-at (refsAt ns x) f low-x) (some-at (refsAt ns y) f low-y)
 
         pub differ-first : firstLeaf ≤ a → DifferTest R n i k true
-        differ-first h = record { yes = λ _ e. not-same (leaf-refs ns ns r s (in-larger n firstLeaf r (omega (arith, fw .small)) (range-at x f low-x)) (children e) (omega (arith, ea))) }
+        differ-first h = record { yes = λ _ e. not-same (leaf-refs ns ns r s (in-larger n firstLeaf r (omega (arith, raw .few)) (range-at x f low-x)) (children e) (omega (arith, ea))) }
 
         pub differ-second : firstLeaf ≤ c → DifferTest R n i k true
-        differ-second h = record { yes = λ _ e. not-same (sym (leaf-refs ns ns s r (in-larger n firstLeaf s (omega (arith, fw .small)) (range-at y f low-y)) (λ p. sym (children e p)) (omega (arith, ec)))) }
+        differ-second h = record { yes = λ _ e. not-same (sym (leaf-refs ns ns s r (in-larger n firstLeaf s (omega (arith, raw .few)) (range-at y f low-y)) (λ p. sym (children e p)) (omega (arith, ec)))) }
 
         pub differ-step : a < firstLeaf → c < firstLeaf → Leads R n i k a c
         differ-step ha hc =

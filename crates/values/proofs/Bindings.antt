@@ -13,7 +13,7 @@ use Rattle.cofj.specs.Values.{Ref, obj, leaf, mark, undet, num, Node, graph, re
 use Rattle.cofj.specs.Unfolding.{InRange, Whole}
 use Rattle.cofj.proofs.Operations.{boundNode, boundNodes, bound-whole}
 use Rattle.canon.specs.Figures.{objectSize, headSize, codeCount, numbersAt, firstLeaf, undeterminedCode, numberCode, firstMark, capacity, objectsSize, countAt, blockSize}
-use Rattle.canon.specs.Layout.{refOf, nodeIn, nodesIn, Packed, Block, Inside, objectsIn, graphAt, countIn}
+use Rattle.canon.specs.Layout.{refOf, nodeIn, nodesIn, Packed, Block, Inside, objectsIn, graphAt, countIn, Raw}
 use Rattle.canon.specs.Numbers.{graphIn}
 use Rattle.canon.specs.Tables.{Carried}
 use Rattle.canon.proofs.Nodes.{Code, isObject, isUndet, isNumber, isMark, code-view, ref-object, ref-undet, ref-number, ref-mark}
@@ -21,7 +21,7 @@ use Rattle.canon.proofs.Lifts.{copy-plain, copy-rest, copy-turned}
 use Rattle.canon.proofs.Turned.{node-changed, packed-changed}
 use Rattle.values.specs.declared.ValueRef.{ValueRef}
 use Rattle.values.specs.Operations.{Gives}
-use Rattle.values.specs.Binding.{boundCode, boundByte, ObjectBound, AllBound, Bound, Few, Rooted}
+use Rattle.values.specs.Binding.{boundCode, boundByte, ObjectBound, AllBound, Bound, Rooted}
 use Rattle.values.proofs.Blocks.{size-in, whole-at}
 use Rattle.values.proofs.Trees.{close-canon}
 use Rattle.values.proofs.BoundTrees.{bind-other, bind-this}
@@ -167,10 +167,6 @@ module _ (W : List ℕ) (b i : ℕ) (ob : Inside W b i) where
   pub block-room : blockSize * b + blockSize ≤ length W
   block-room = bk .room
 
-  pub few-objects : getD W (blockSize * b + countAt) 0 ≤ capacity
-  unfolding countIn
-  few-objects = bk .small
-
   size : length (objectsIn W b) ≡ countIn W b
   size = size-in W b bk
 
@@ -191,10 +187,10 @@ module _ (W : List ℕ) (b i : ℕ) (ob : Inside W b i) where
     pub bound-small : n ≤ capacity
     bound-small = omega (arith, bd .count, bk .small)
 
-    pub bound-few : Few R n
-    bound-few = record {
-      small = bound-small;
-      room = bd .room;
+    pub bound-raw : Raw R n
+    bound-raw = record {
+      few = bound-small;
+      room = omega (arith, bd .count, bk .small, bd .room);
       packed = λ j h. packed-bound W R x i (omega (arith, ob .low, bk .small)) (blockSize * b + objectSize * j) (objectSize * j) (here-at j h) (bk .packed j (omega (arith, bd .count)));
       whole = record { top = tt; inner = λ j k r e. subst (λ (ns : List Node). InRange (length ns) r) (sym objects-are) (whole-bound .inner j k r (subst (λ (ns : List Node). getElem? (refsAt ns j) k ≡ some r) objects-are e)) };
     }
@@ -203,7 +199,7 @@ module _ (W : List ℕ) (b i : ℕ) (ob : Inside W b i) where
     root-low = omega (arith, bd .count, ob .low)
 
     pub bound-rooted : (dst : ℕ) → blockSize * dst + blockSize ≤ length W → Rooted R n i W dst
-    bound-rooted dst room = record { few = bound-few; inside = root-low; room = room }
+    bound-rooted dst room = record { raw = bound-raw; inside = root-low; room = room }
 
     -- what the objects bound stand for
     pub closed : (dst : ℕ) (W′ : List ℕ) (o : ValueRef) → Gives W dst W′ o (canon (graphIn R n i)) → Gives W dst W′ o (close x (canon (graphAt W b i)))

@@ -7,22 +7,21 @@ use mathlib.Core.Option.{some}
 use lib.ListN.{length, getD, take, getElem?}
 use types.Run.{OneOf, miss}
 use denote.Enum.Declared.{tagOf}
-use Rattle.cofj.specs.Values.{Ref, obj, leaf, undet, Node, Graph, graph, renameNode, refsAt, colours, canon}
+use Rattle.cofj.specs.Values.{Ref, obj, leaf, undet, Node, Graph, graph, renameNode, refsAt, colours}
 use Rattle.cofj.specs.Unfolding.{InRange, Whole}
 use Rattle.cofj.specs.ReportForm.{upFrom}
-use Rattle.cofj.proofs.Canon.{node-id, canon-length}
-use Rattle.canon.specs.Figures.{objectSize, wideSize, capacity, countAt, blockSize}
-use Rattle.canon.specs.Layout.{nodesIn, Block, Inside, objectsIn, graphAt, countIn}
+use Rattle.cofj.proofs.Canon.{node-id}
+use Rattle.canon.specs.Figures.{objectSize, objectsSize, capacity, countAt, blockSize}
+use Rattle.canon.specs.Layout.{nodesIn, Block, Inside, objectsIn, graphAt, countIn, Raw}
 use Rattle.canon.specs.Tables.{Filled, Carried}
-use Rattle.canon.specs.Rounds.{Raw}
-use Rattle.canon.specs.Numbers.{Ready, Placed, Has, graphIn}
+use Rattle.canon.specs.Numbers.{Ready, Placed, graphIn}
 use Rattle.canon.proofs.Nodes.{length-nodes, nodes-same, packed-same}
 use Rattle.canon.proofs.Colouring.{length-up, at-up, distinct-colours}
 use Rattle.canon.proofs.Rounds.{front-is}
 use Rattle.values.specs.declared.ValueRef.{ValueRef}
 use Rattle.values.specs.declared.ValueRef.the-variants.{Object, Mark, Number, Undetermined}
 use Rattle.values.specs.Layout.{Holds, HeldBy}
-use Rattle.values.specs.Operations.{Taken, Moved}
+use Rattle.values.specs.Operations.{Taken}
 use Rattle.values.proofs.ValueRef as RefT
 
 -- ---- a reference that stands for an object
@@ -66,7 +65,7 @@ no-undetermined P o m n (Number x) h = n x
 no-undetermined P o m n Undetermined h = absurd (miss (0 ∷ 1 ∷ 2 ∷ []) 3 tt h)
 
 -- ---- taken up
-pub taken : (W : List ℕ) (b : ℕ) (I R₀ R : List ℕ) → Filled (λ i. 0 + i) (getD W (blockSize * b + countAt) 0) I → Carried W (blockSize * b) R₀ 0 (objectSize * getD W (blockSize * b + countAt) 0) R
+pub taken : (W : List ℕ) (b : ℕ) (I R₀ R : List ℕ) → Filled (λ i. i) (getD W (blockSize * b + countAt) 0) I → Carried W (blockSize * b) R₀ 0 (objectSize * getD W (blockSize * b + countAt) 0) R
     → Taken W b I R₀ R (getD W (blockSize * b + countAt) 0)
 unfolding countIn
 taken W b I R₀ R f l = record { count = refl; ids = f; copy = l }
@@ -87,10 +86,10 @@ module _ (W : List ℕ) (b : ℕ) (bk : Block W b) where
   whole-at i h = record { top = subst (λ (l : ℕ). i < l) (sym size-in) h; inner = bk .whole .inner }
 
   -- a block's objects have themselves for colours
-  pub own-colours : (ns : List Node) (n : ℕ) (I : List ℕ) → ns ≡ objectsIn W b → n ≡ countIn W b → Filled (λ i. 0 + i) n I → 256 ≤ length I → take n I ≡ colours ns
+  pub own-colours : (ns : List Node) (n : ℕ) (I : List ℕ) → ns ≡ objectsIn W b → n ≡ countIn W b → Filled (λ i. i) n I → n ≤ length I → take n I ≡ colours ns
   own-colours ns n I en e f long =
       let el : length ns ≡ n = ap length en ∙ size-in ∙ sym e in
-      front-is I (upFrom 0 n) n (length-up 0 n) (omega (arith, bk .small)) (λ i h. f .at i h ∙ sym (at-up 0 n i h))
+      front-is I (upFrom 0 n) n (length-up 0 n) long (λ i h. omega (arith, f .at i h, at-up 0 n i h))
       ∙ ap (upFrom 0) (sym el ∙ ap length en)
       ∙ sym (distinct-colours (graph (leaf undet) (objectsIn W b)) (bk .whole) (bk .distinct))
       ∙ ap colours (sym en)
@@ -104,10 +103,10 @@ module _ (W : List ℕ) (b : ℕ) (bk : Block W b) where
     whole-copied : Whole (graph (leaf undet) (nodesIn R 0 n))
     whole-copied = record { top = tt; inner = λ i k r e. subst (λ (ns : List Node). InRange (length ns) r) (sym copied-nodes) (bk .whole .inner i k r (subst (λ (ns : List Node). getElem? (refsAt ns i) k ≡ some r) copied-nodes e)) }
 
-    raw-copied : wideSize ≤ length R₀ → Raw R n
+    raw-copied : objectsSize ≤ length R₀ → Raw R n
     raw-copied room = record {
       few = omega (arith, tk .count, bk .small);
-      room = omega (arith, tk .copy .same);
+      room = omega (arith, tk .copy .same, tk .count, bk .small);
       packed = λ i h.
           packed-same R W (objectSize * i) (blockSize * b + objectSize * i) (λ f g.
           let ea : objectSize * i + f ≡ 0 + (objectSize * i + f) = omega arith in
@@ -117,24 +116,20 @@ module _ (W : List ℕ) (b : ℕ) (bk : Block W b) where
       whole = whole-copied;
     }
 
-    pub move-ready : (c dst : ℕ) → wideSize ≤ length R₀ → 256 ≤ length I → c < countIn W b → blockSize * dst + blockSize ≤ length W → Ready R n I c W dst
+    pub move-ready : (c dst : ℕ) → objectsSize ≤ length R₀ → capacity ≤ length I → c < countIn W b → blockSize * dst + blockSize ≤ length W → Ready R n I c W dst
     move-ready c dst lr li hc room = record {
       raw = raw-copied lr;
-      long = li;
-      coloured = own-colours (nodesIn R 0 n) n I copied-nodes (tk .count) (tk .ids) li;
+      long = fits;
+      coloured = own-colours (nodesIn R 0 n) n I copied-nodes (tk .count) (tk .ids) fits;
       inside = omega (arith, tk .count);
       room = room;
     }
+      where
+        fits : n ≤ length I
+        fits = omega (arith, tk .count, bk .small)
 
-    graph-copied : (c : ℕ) → graphIn R n c ≡ graphAt W b c
-    graph-copied c = ap (graph (obj c)) copied-nodes
+    pub moved : (c dst m : ℕ) (W′ : List ℕ) → Placed (graphIn R n c) W dst W′ m → Placed (graphAt W b c) W dst W′ m
+    moved c dst m W′ p = subst (λ (g : Graph). Placed g W dst W′ m) (ap (graph (obj c)) copied-nodes) p
 
-    pub moved : (c dst m : ℕ) (W′ : List ℕ) → c < countIn W b → Placed R n c W dst W′ m → Moved W (graphAt W b c) dst W′ m
-    moved c dst m W′ hc p =
-        let e : canon (graphIn R n c) ≡ canon (graphAt W b c) = ap canon (graph-copied c) in
-        let few : m ≤ capacity = omega (arith, p .count, ap (λ (g : Graph). length (g .nodes)) e, canon-length (graphAt W b c) (whole-at c hc), size-in, bk .small) in
-        let h : Has W′ dst (canon (graphIn R n c)) = p .has few in
-        record { count = p .count ∙ ap (λ (g : Graph). length (g .nodes)) e; has = record { inside = h .inside; is = h .is ∙ e }; outside = p .outside }
-
-pub moved-out : (W : List ℕ) (b i : ℕ) (I R₀ R : List ℕ) (n dst m : ℕ) (W′ : List ℕ) → Inside W b i → Taken W b I R₀ R n → Placed R n i W dst W′ m → Moved W (graphAt W b i) dst W′ m
-moved-out W b i I R₀ R n dst m W′ ob tk p = moved W b (ob .block) I R₀ R n tk i dst m W′ (ob .low) p
+pub moved-out : (W : List ℕ) (b i : ℕ) (I R₀ R : List ℕ) (n dst m : ℕ) (W′ : List ℕ) → Inside W b i → Taken W b I R₀ R n → Placed (graphIn R n i) W dst W′ m → Placed (graphAt W b i) W dst W′ m
+moved-out W b i I R₀ R n dst m W′ ob tk p = moved W b (ob .block) I R₀ R n tk i dst m W′ p

@@ -49,12 +49,9 @@ module _ (T Q : List ℕ) (t a m b n : ℕ) where
         unfolding stepCode
         code-taken e = rw (lt-ltb a firstLeaf ha, lt-ltb b firstLeaf hb, ne-eqb (getD T a 0) 0 d, ne-eqb (getD T a 0) (b + 1) e)
 
-  module _ (f : CodeFits T Q t a) (h : a < firstLeaf) where
+  module _ (f : CodeFits T Q t a b) (h : a < firstLeaf) where
     pub code-entry : a < length T
     code-entry = f .entry h
-
-    pub code-room : getD T a 0 ≡ 0 → t < length Q
-    code-room e = f .room h e
 
 -- ---- a pair added
 module _ (W : List ℕ) (f g : ℕ) (T Q : List ℕ) (t a b : ℕ) (pd : Paired W f g T Q t) (few : countIn W f ≤ capacity) (ha : a < countIn W f) (hb : b < countIn W g) (e : getD T a 0 ≡ 0) where

@@ -196,11 +196,14 @@ module _ (W : List ℕ) (b x c y : ℕ) (T₀ Q₀ : List ℕ) (t₀ : ℕ) wher
           (some-at (refsAt (objectsIn W b) x) k (omega (arith, count-is W b (ib .block) x (ib .low))))
           (some-at (refsAt (objectsIn W c) y) k (omega (arith, en, count-is W c (ic .block) y (ic .low))))
 
-      pub code-fits : CodeFits T Q t (getD W (blockSize * b + objectSize * x + headSize + k) 0)
-      code-fits = record { entry = λ h. omega (arith, low h, so .paired .table, ib .block .small); room = room; few = omega (arith, so .paired .free) }
+      pub code-fits : CodeFits T Q t (getD W (blockSize * b + objectSize * x + headSize + k) 0) (getD W (blockSize * c + objectSize * y + headSize + k) 0)
+      code-fits = record { entry = λ h. omega (arith, low h, so .paired .table, ib .block .small); room = room; few = omega (arith, so .paired .free); mark = λ h. omega (arith, second-low h, ic .block .small) }
         where
           low : getD W (blockSize * b + objectSize * x + headSize + k) 0 < firstLeaf → getD W (blockSize * b + objectSize * x + headSize + k) 0 < countIn W b
           low h = rw er (object-low (countIn W b) r hr (rw er at h))
+
+          second-low : getD W (blockSize * c + objectSize * y + headSize + k) 0 < firstLeaf → getD W (blockSize * c + objectSize * y + headSize + k) 0 < countIn W c
+          second-low h = rw es (object-low (countIn W c) s hs (rw es at h))
 
           room : getD W (blockSize * b + objectSize * x + headSize + k) 0 < firstLeaf → getD T (getD W (blockSize * b + objectSize * x + headSize + k) 0) 0 ≡ 0 → t < length Q
           room h e =

@@ -16,7 +16,7 @@ use Rattle.canon.proofs.Nodes.{Code, isObject, isUndet, isNumber, isMark, code-
 use Rattle.values.specs.declared.ValueRef.{ValueRef}
 use Rattle.values.specs.declared.ValueRef.the-variants.{Object, Mark, Number, Undetermined}
 use Rattle.values.specs.Layout.{valueOf}
-use Rattle.values.specs.Operations.{Moved}
+use Rattle.canon.specs.Numbers.{Placed}
 use Rattle.values.specs.Reporting.{headText, fieldsText, lineSize, Front, digits, Written, headIn, lineIn, Line, Reported}
 use Rattle.values.proofs.Writes.{digits-line, front-none, front-put, front-then, front-whole, written-more, written-none, written-one, written-then}
 
@@ -232,9 +232,9 @@ module _ (W : List ℕ) (r : ValueRef) (d₀ d : List ℕ) (t : ℕ) where
   report-undetermined e h = rw e h
 
 -- ---- an object, alone in its block
-pub report-one : (W : List ℕ) (r : ValueRef) (b i : ℕ) (W′ d₀ d : List ℕ) (t n : ℕ) → r ≡ Object i b → Moved W (graphAt W b i) b W′ n → Reported (graphAt W′ b 0) d₀ d t
+pub report-one : (W : List ℕ) (r : ValueRef) (b i : ℕ) (W′ d₀ d : List ℕ) (t n : ℕ) → r ≡ Object i b → Placed (graphAt W b i) W b W′ n → Reported (graphAt W′ b 0) d₀ d t
     → Reported (valueOf W r) d₀ d t × (length W′ ≡ length W)
 report-one W r b i W′ d₀ d t n e m h = (subst (λ (v : Graph). Reported v d₀ d t) (m .has .is ∙ ap (valueOf W) (sym e)) h, m .outside .same)
 
-pub report-block : (W : List ℕ) (g : Graph) (b : ℕ) (W′ : List ℕ) (n : ℕ) → Moved W g b W′ n → Block W′ b
+pub report-block : (W : List ℕ) (g : Graph) (b : ℕ) (W′ : List ℕ) (n : ℕ) → Placed g W b W′ n → Block W′ b
 report-block W g b W′ n m = m .has .inside .block

@@ -6,10 +6,10 @@ use mathlib.Core.Bool.{Bool, true, not, cond}
 use mathlib.Core.List.{List}
 use lib.Dec.{eqb}
 use lib.ListN.{length, getD}
-use Rattle.cofj.specs.Values.{obj, leaf, undet, graph}
-use Rattle.cofj.specs.Unfolding.{Same, Whole}
-use Rattle.canon.specs.Figures.{objectSize, headSize, codeCount, numbersAt, firstMark, capacity, objectsSize, blockSize}
-use Rattle.canon.specs.Layout.{numberAt, nodesIn, countIn, Packed, Distinct}
+use Rattle.cofj.specs.Values.{obj}
+use Rattle.cofj.specs.Unfolding.{Same}
+use Rattle.canon.specs.Figures.{objectSize, headSize, codeCount, numbersAt, firstMark, objectsSize, blockSize}
+use Rattle.canon.specs.Layout.{numberAt, nodesIn, countIn, Distinct, Raw}
 use Rattle.canon.specs.Tables.{onCodes}
 use Rattle.values.specs.Tests.{any}
 
@@ -43,13 +43,6 @@ pub record Bound (W : List ℕ) (b x i : ℕ) (R : List ℕ) (n : ℕ) : Type 0 
   pub count : n ≡ countIn W b
   pub objects : ObjectsBound W b (firstMark + x) i n R
   pub room : objectsSize ≤ length R
-
--- n objects from the start on, no more than a block has, which refer to one another
-pub record Few (R : List ℕ) (n : ℕ) : Type 0 where
-  pub small : n ≤ capacity
-  pub room : objectsSize ≤ length R
-  pub packed : (i : ℕ) → i < n → Packed R (objectSize * i)
-  pub whole : Whole (graph (leaf undet) (nodesIn R 0 n))
 
 -- whether one of the four codes of the object at a place is i
 unfoldable pub refersTo : List ℕ → ℕ → ℕ → Bool
@@ -90,6 +83,6 @@ pub record DistinctTest (R : List ℕ) (n : ℕ) (r : Bool) : Type 0 where
 
 -- n objects, one of them the root, and room for their block
 pub record Rooted (R : List ℕ) (n i : ℕ) (W : List ℕ) (dst : ℕ) : Type 0 where
-  pub few : Few R n
+  pub raw : Raw R n
   pub inside : i < n
   pub room : blockSize * dst + blockSize ≤ length W

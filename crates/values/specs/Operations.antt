@@ -3,12 +3,11 @@ use Prim.Native.Nat.{ℕ, _+_, _*_, _<_}
 use mathlib.Core.Path.{_≡_}
 use mathlib.Core.List.{List}
 use mathlib.Core.Option.{Option, none, some}
-use lib.ListN.{length, getD}
-use Rattle.cofj.specs.Values.{Graph, canon, select, close}
+use lib.ListN.{getD}
+use Rattle.cofj.specs.Values.{Graph, select, close}
 use Rattle.canon.specs.Figures.{objectSize, blockSize}
 use Rattle.canon.specs.Layout.{countIn, levelIn, reachIn, Outside}
 use Rattle.canon.specs.Tables.{Filled, Carried}
-use Rattle.canon.specs.Numbers.{Has}
 use Rattle.values.specs.declared.ValueRef.{ValueRef}
 use Rattle.values.specs.declared.refs.Selected.{Selected}
 use Rattle.values.specs.declared.refs.Selected.the-variants.{Value, Nothing}
@@ -17,7 +16,7 @@ use Rattle.values.specs.Layout.{valueOf, Holds, Low}
 -- the objects of block b, copied
 pub record Taken (W : List ℕ) (b : ℕ) (I R₀ R : List ℕ) (n : ℕ) : Type 0 where
   pub count : n ≡ countIn W b
-  pub ids : Filled (λ i. 0 + i) n I
+  pub ids : Filled (λ i. i) n I
   pub copy : Carried W (blockSize * b) R₀ 0 (objectSize * n) R
 
 -- a reference stands for the value v in the bytes after, in block dst or below, and only block dst has changed
@@ -25,12 +24,6 @@ pub record Gives (W : List ℕ) (dst : ℕ) (W′ : List ℕ) (r : ValueRef) (v 
   pub held : Holds W′ r
   pub is : valueOf W′ r ≡ v
   pub place : Low (dst + 1) r
-  pub outside : Outside dst W W′
-
--- the value of the graph g is in block dst, from its first object on, and has m objects
-pub record Moved (W : List ℕ) (g : Graph) (dst : ℕ) (W′ : List ℕ) (m : ℕ) : Type 0 where
-  pub count : m ≡ length (canon g .nodes)
-  pub has : Has W′ dst (canon g)
   pub outside : Outside dst W W′
 
 -- block dst holds the objects of block b

@@ -31,11 +31,12 @@ stepCode T Q t a m b n =
     (after 0 T Q))
     (cond (eqb a b) (cond (eqb m n) (after t T Q) (after 0 T Q)) (after 0 T Q))
 
--- room for a new pair
-pub record CodeFits (T Q : List ℕ) (t a : ℕ) : Type 0 where
+-- room for a new pair of a and b, and a byte for its mark: the objects of a block are few
+pub record CodeFits (T Q : List ℕ) (t a b : ℕ) : Type 0 where
   pub entry : a < firstLeaf → a < length T
   pub room : a < firstLeaf → getD T a 0 ≡ 0 → t < length Q
   pub few : t ≤ capacity
+  pub mark : b < firstLeaf → b + 1 ≤ capacity
 
 -- object x of block b is paired with object y of block c where the table has y + 1 for x; the queue lists the paired objects, but those that are known to unfold to
 -- their partners' trees: they need not be gone over. Comparing begins with none such, merging with those that have codes

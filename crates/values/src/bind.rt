@@ -15,19 +15,19 @@ use canon::layout::LEVEL;
 use canon::layout::NUMBERS;
 use canon::layout::OBJECT;
 use canon::layout::OBJECTS;
+use canon::layout::PER_OBJECT;
 use canon::layout::REACH;
-use canon::layout::WIDE;
 use canon::number::level_of;
 use canon::number::put;
 ghost use mathlib.Core.Path.{_≡_};
 ghost use Prim.Native.Nat.{_+_, _*_, _<_, _≤_};
 ghost use lib.ListN.{length};
 ghost use Rattle.cofj.specs.Values.{canon};
-ghost use Rattle.canon.specs.Figures.{objectSize, markCount, wideSize, capacity, objectsSize, blockSize};
-ghost use Rattle.canon.specs.Layout.{Inside, nodesIn, graphAt, Distinct};
+ghost use Rattle.canon.specs.Figures.{objectSize, markCount, capacity, objectsSize, blockSize};
+ghost use Rattle.canon.specs.Layout.{Inside, nodesIn, graphAt, Distinct, Raw};
 ghost use Rattle.canon.specs.Numbers.{graphIn};
 ghost use Rattle.values.specs.Operations.{Gives, closeOf};
-ghost use Rattle.values.specs.Binding.{boundCode, ObjectBound, AllBound, Bound, Few, refersTo, noneRefer, OtherField, DifferTest, UnlikeTest, OthersTest, DistinctTest, Rooted};
+ghost use Rattle.values.specs.Binding.{boundCode, ObjectBound, AllBound, Bound, refersTo, noneRefer, OtherField, DifferTest, UnlikeTest, OthersTest, DistinctTest, Rooted};
 
 // how far a path is followed that may tell two objects apart: it decides the time only
 const STEPS: u8 = 64;
@@ -135,7 +135,7 @@ pub(crate) fn other_field(raw: &[u8], x: u8, y: u8) -> u8
 
 // True only if objects i and k of n unfold to different trees: one path is followed, STEPS steps at most.
 pub(crate) fn differ(raw: &[u8], n: u8, i: u8, k: u8) -> bool
-    requires { ⌜ Few (now raw) n × (i < n) × (k < n) ⌝ }
+    requires { ⌜ Raw (now raw) n × (i < n) × (k < n) ⌝ }
     ensures { λ r. ⌜ DifferTest (now (raw .entry)) n i k r ⌝ }
 {
     let mut x: u8 = i;
@@ -166,7 +166,7 @@ pub(crate) fn differ(raw: &[u8], n: u8, i: u8, k: u8) -> bool
 
 // True only if object k of n is object i itself or unfolds to another tree.
 pub(crate) fn unlike(raw: &[u8], n: u8, i: u8, k: u8) -> bool
-    requires { ⌜ Few (now raw) n × (i < n) × (k < n) ⌝ }
+    requires { ⌜ Raw (now raw) n × (i < n) × (k < n) ⌝ }
     ensures { λ r. ⌜ UnlikeTest (now (raw .entry)) n i k r ⌝ }
 {
     if k == i {
@@ -177,7 +177,7 @@ pub(crate) fn unlike(raw: &[u8], n: u8, i: u8, k: u8) -> bool
 
 // True only if object i of n unfolds to no other object's tree.
 pub(crate) fn unlike_others(raw: &[u8], n: u8, i: u8) -> bool
-    requires { ⌜ Few (now raw) n × (i < n) ⌝ }
+    requires { ⌜ Raw (now raw) n × (i < n) ⌝ }
     ensures { λ r. ⌜ OthersTest (now (raw .entry)) n i r ⌝ }
 {
     let mut k: u8 = 0;
@@ -219,16 +219,16 @@ pub(crate) fn put_distinct(raw: &[u8], n: u8, i: u8, work: &mut [u8], dst: u16) 
 
 // The value at object i of n, to block `dst`, equal objects merged and numbered from there.
 pub(crate) fn put_merged(raw: &[u8], n: u8, i: u8, work: &mut [u8], dst: u16) -> ValueRef
-    requires { ⌜ Rooted (now raw) n i (now work) dst × (wideSize ≤ length (now raw)) ⌝ }
+    requires { ⌜ Rooted (now raw) n i (now work) dst ⌝ }
     ensures { λ o. ⌜ Gives (now (work .entry)) dst (now (work .exit)) o (canon (graphIn (now (raw .entry)) n i)) ⌝ }
 {
-    let mut ids = [0u8; 256];
+    let mut ids = [0u8; PER_OBJECT];
     colour(raw, n, &mut ids);
     put(raw, n, &ids, i, work, dst);
     ValueRef::Object(0, dst)
 }
 
-// X = u for object i of block b, to block `dst`. Few bytes have room for the objects of a block; colours ask for more.
+// X = u for object i of block b, to block `dst`.
 pub(crate) fn close_bound(work: &mut [u8], x: u8, b: u16, i: u8, dst: u16) -> ValueRef
     requires { ⌜ Inside (now work) b i × (x < markCount) × (blockSize * dst + blockSize ≤ length (now work)) ⌝ }
     ensures { λ o. ⌜ Gives (now (work .entry)) dst (now (work .exit)) o (closeOf x (canon (graphAt (now (work .entry)) b i))) ⌝ }
@@ -238,7 +238,5 @@ pub(crate) fn close_bound(work: &mut [u8], x: u8, b: u16, i: u8, dst: u16) -> Va
     if stay_distinct(work, b, x, i, &raw, n) {
         return put_distinct(&raw, n, i, work, dst);
     }
-    let mut wide = [0u8; WIDE];
-    let m = bind_objects(work, b, x, i, &mut wide);
-    put_merged(&wide, m, i, work, dst)
+    put_merged(&raw, n, i, work, dst)
 }

@@ -30,7 +30,7 @@ pub(crate) fn step_code(
     second: u8,
     n: u16,
 ) -> u8
-    requires { ⌜ CodeFits (now partner) (now queue) tail first ⌝ }
+    requires { ⌜ CodeFits (now partner) (now queue) tail first second ⌝ }
     ensures { λ r. ⌜ after r (now (partner .exit)) (now (queue .exit)) ≡ stepCode (now (partner .entry)) (now (queue .entry)) tail first m second n ⌝ }
 {
     if FIRST_LEAF <= first {

@@ -7,26 +7,28 @@ use canon::layout::BLOCK;
 use canon::layout::COUNT;
 use canon::layout::LEVEL;
 use canon::layout::OBJECT;
+use canon::layout::OBJECTS;
+use canon::layout::PER_OBJECT;
 use canon::layout::REACH;
-use canon::layout::WIDE;
 use canon::number::put;
 ghost use Prim.Native.Nat.{_+_, _*_, _<_, _≤_};
 ghost use lib.ListN.{length};
-ghost use Rattle.canon.specs.Figures.{markCount, wideSize, blockSize};
+ghost use Rattle.canon.specs.Figures.{markCount, capacity, objectsSize, blockSize};
 ghost use Rattle.canon.specs.Layout.{Block, Inside, graphAt};
+ghost use Rattle.canon.specs.Numbers.{Placed};
 ghost use Rattle.values.specs.Layout.{Holds, valueOf};
-ghost use Rattle.values.specs.Operations.{Taken, Moved, Copied, Gives, closeOf};
+ghost use Rattle.values.specs.Operations.{Taken, Copied, Gives, closeOf};
 
 // Copies the objects of block b to the front of `raw`, and answers how many they are.
 // `ids` becomes 0, 1, .. for each of them.
 pub(crate) fn take_up(work: &[u8], b: u16, ids: &mut [u8], raw: &mut [u8]) -> u8
-    requires { ⌜ Block (now work) b × (256 ≤ length (now ids)) × (wideSize ≤ length (now raw)) ⌝ }
+    requires { ⌜ Block (now work) b × (capacity ≤ length (now ids)) × (objectsSize ≤ length (now raw)) ⌝ }
     ensures { λ n. ⌜ Taken (now (work .entry)) b (now (ids .exit)) (now (raw .entry)) (now (raw .exit)) n ⌝ }
 {
     let at = BLOCK * (b as usize);
     let n = work[at + COUNT];
     let p = OBJECT * (n as usize);
-    count_up(0, n, ids);
+    count_up(n, ids);
     copy(work, at, raw, 0, p);
     n
 }
@@ -34,10 +36,10 @@ pub(crate) fn take_up(work: &[u8], b: u16, ids: &mut [u8], raw: &mut [u8]) -> u8
 // The value at object i of block b, alone and numbered from its root, to block `dst`. Answers how many objects it has.
 pub(crate) fn move_out(work: &mut [u8], b: u16, i: u8, dst: u16) -> u8
     requires { ⌜ Inside (now work) b i × (blockSize * dst + blockSize ≤ length (now work)) ⌝ }
-    ensures { λ m. ⌜ Moved (now (work .entry)) (graphAt (now (work .entry)) b i) dst (now (work .exit)) m ⌝ }
+    ensures { λ m. ⌜ Placed (graphAt (now (work .entry)) b i) (now (work .entry)) dst (now (work .exit)) m ⌝ }
 {
-    let mut ids = [0u8; 256];
-    let mut raw = [0u8; WIDE];
+    let mut ids = [0u8; PER_OBJECT];
+    let mut raw = [0u8; OBJECTS];
     let n = take_up(work, b, &mut ids, &mut raw);
     put(&raw, n, &ids, i, work, dst)
 }

@@ -14,7 +14,7 @@ use reference::syntax::Expr;
 use reference::workloads;
 use std::thread;
 
-const STACK: usize = 224 * 1024;
+const STACK: usize = 192 * 1024;
 const FUEL: u16 = 1_000;
 
 const NODE: u8 = 1;

@@ -17,7 +17,7 @@ const ODD: u8 = 3;
 const WIDE: u8 = 4;
 const ODD_WIDE: u8 = 5;
 
-/// Every row that has a second text.
+/// Rows of second texts without numbers: main gives back its parameter, and two are refused.
 pub fn batch() -> Vec<Workload> {
     let thin = (COMMON, ODD);
     let full = MAX_PARTS;

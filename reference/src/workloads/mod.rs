@@ -4,10 +4,12 @@
 //!
 //! Most rows come twice: light, where the work is done once, and heavy, where
 //! it is done again and again, so that evaluation outweighs reading. The last
-//! rows have a second text, or are those of numbers or of chains of classes.
+//! rows have a second text, or are those of numbers, of chains of classes or of
+//! values that are compared.
 
 mod batch;
 mod chains;
+mod compared;
 mod examples;
 mod laying;
 mod lists;
@@ -53,7 +55,7 @@ pub struct Workload {
     pub name: String,
     pub call: Call,
     pub text: Vec<u8>,
-    /// Empty in all rows but those named `batch`.
+    /// Empty in all rows but those named `batch` and those of `compared.rs`.
     pub second: Vec<u8>,
     pub fuel: u16,
     /// Units the run spends.
@@ -109,6 +111,7 @@ pub fn all() -> Vec<Workload> {
     all.extend(batch());
     all.extend(tallies::all());
     all.extend(chains::all());
+    all.extend(compared::all());
     all
 }
 

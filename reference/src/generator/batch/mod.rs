@@ -1,11 +1,12 @@
 //! Programs with an `04` main and their second texts: accepted ones, graphs cut
-//! at random, texts that earn 14 or 15, sizes at the limits. What has one text
-//! only is drawn elsewhere.
+//! at random, values that are compared, texts that earn 14 or 15, sizes at the
+//! limits. What has one text only is drawn elsewhere.
 
 pub mod cuts;
 pub mod flaws;
 pub mod limits;
 mod misfits;
+pub mod pairs;
 pub mod parts;
 mod programs;
 mod rings;
@@ -28,6 +29,8 @@ pub enum Kind {
     Fitting,
     /// Accepted: a ring that came in meets rings that are made.
     Rings,
+    /// Accepted: two values are compared, alike but for one place or wholly.
+    Pairs,
     /// As many lines and distinct objects as there may be, or one more.
     Limits,
     /// Refused 6 or 7, the second text sound.
@@ -39,9 +42,10 @@ pub enum Kind {
 }
 
 impl Kind {
-    pub const ALL: [Kind; 6] = [
+    pub const ALL: [Kind; 7] = [
         Kind::Fitting,
         Kind::Rings,
+        Kind::Pairs,
         Kind::Limits,
         Kind::IllTyped,
         Kind::Damaged,
@@ -52,6 +56,7 @@ impl Kind {
         match name {
             "fitting" => Some(Kind::Fitting),
             "rings" => Some(Kind::Rings),
+            "pairs" => Some(Kind::Pairs),
             "limits" => Some(Kind::Limits),
             "illtyped" => Some(Kind::IllTyped),
             "damaged" => Some(Kind::Damaged),
@@ -73,6 +78,7 @@ pub fn draw(kind: Kind, random: &mut Random) -> Batch {
     match kind {
         Kind::Fitting => fitting(random),
         Kind::Rings => rings::draw(random),
+        Kind::Pairs => pairs::draw(random).batch,
         Kind::Limits => limits::draw(random).batch,
         Kind::IllTyped => {
             let text = programs::ill_typed(random);
@@ -149,7 +155,8 @@ pub struct Case {
 pub fn case(random: &mut Random) -> Case {
     let kind = match random.below(100) {
         0..40 => Kind::Fitting,
-        40..55 => Kind::Rings,
+        40..50 => Kind::Rings,
+        50..55 => Kind::Pairs,
         55..60 => Kind::Limits,
         60..70 => Kind::IllTyped,
         70..75 => Kind::Damaged,

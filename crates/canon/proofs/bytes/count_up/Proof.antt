@@ -1,19 +1,19 @@
--- The proof of `bytes::count_up`: base, base + 1, .., n of them. By a loop in which n - i falls, and the laws of Runs.
+-- The proof of `bytes::count_up`: 0, 1, .., n of them. By a loop in which n - i falls, and the laws of Runs.
 use Rattle.canon.proofs.bytes.count_up.Statement.{statement}
 use Rattle.canon.proofs.bytes.count_up.Tie as tie
 use borrow.Author.Needs.{needs}
 use mathlib.Core.Path.{_≡_, refl}
-use Prim.Native.Nat.{_≤_, _-_, _+_}
+use Prim.Native.Nat.{_≤_, _-_}
 use native.Mathlib.Omega.{arith}
 use lib.ListN.{length, length-set}
 use Rattle.canon.specs.Tables.{Filled}
 use Rattle.canon.proofs.Runs as laws
 
 abbrev Inv-loop : tie.InvT-loop
-Inv-loop base n to₀ i₀ to i = (i ≤ n) × (length to ≡ length to₀) × Filled (λ q. base + q) i to
+Inv-loop n to₀ i₀ to i = (i ≤ n) × (length to ≡ length to₀) × Filled (λ q. q) i to
 
 abbrev μ-loop : tie.MeasureT-loop
-μ-loop base n to₀ i₀ to i = n - i
+μ-loop n to₀ i₀ to i = n - i
 
 loop-holds : tie.Need-loop-holds Inv-loop μ-loop
 loop-holds c = (search needs, search needs, laws.filled-none _ _)
@@ -31,7 +31,6 @@ count-up-spec =
     Inv-loop
     μ-loop
     loop-holds
-    (λ c. search needs)
     (λ c. search needs)
     (λ c. search needs)
     (λ c. search needs)

@@ -3,7 +3,12 @@ use borrow.Author.Needs.{needs}
 use Rattle.canon.proofs.colours.round.Statement.{statement}
 use Rattle.canon.proofs.colours.round.Tie as tie
 use native.Mathlib.Omega.{arith}
+use Rattle.canon.proofs.Lifts as lifts
+use Rattle.canon.proofs.Classing as classing
 use Rattle.canon.proofs.Rounds as laws
+
+lift-requires : tie.Need-lift-requires
+lift-requires c κs = let start = c .before .before .before .before .before in (lifts.all-turnable _ _ _ (classing.raw-codes _ _ (start .pre .0)) (start .pre .1 .room), search needs)
 
 places-requires : tie.Need-places-requires
 places-requires c κs = (search laws.looks-ok, search needs)
@@ -20,7 +25,7 @@ round-spec =
     tie.close
     (tie.spec
     (λ c. search needs)
-    (λ c κs. search needs)
+    lift-requires
     places-requires
     (λ c. search needs)
     (λ c. search needs)

@@ -9,10 +9,10 @@ use lib.ListN.{length}
 use Rattle.canon.proofs.Firsts as laws
 
 abbrev Inv-loop : tie.InvT-loop
-Inv-loop t₀ rows m n cs₀ i₀ t cs i = (length t ≡ length t₀) × (length cs ≡ length cs₀) × (i ≤ n) × laws.Led t₀ t i cs
+Inv-loop t₀ m n cs₀ i₀ t cs i = (length t ≡ length t₀) × (length cs ≡ length cs₀) × (i ≤ n) × laws.Led t₀ t i cs
 
 abbrev μ-loop : tie.MeasureT-loop
-μ-loop t₀ rows m n cs₀ i₀ t cs i = n - i
+μ-loop t₀ m n cs₀ i₀ t cs i = n - i
 
 loop-holds : tie.Need-loop-holds Inv-loop μ-loop
 loop-holds c = (search needs, search needs, search needs, laws.lead-none _ _)
@@ -68,18 +68,13 @@ lead-spec =
     μ-loop
     loop-holds
     (λ c. search needs)
-    (λ c. search needs)
     class-of-requires
     cell-requires
-    (λ c. search needs)
     known-requires
     cast-cs
     (λ c. search needs)
     (λ c. search needs)
-    (λ c. search needs)
     loop-again
-    (λ c. search needs)
-    (λ c. search needs)
     (λ c. search needs)
     (λ c. search needs)
     (λ c. search needs)

@@ -24,6 +24,20 @@ loop-holds c =
     let p = c .before .same-plain .ensures .yes (not-false _ (c .if1 .left)) in
     (search needs, search needs, p, laws.codes-none (turned _) _ _ _ p)
 
+turn-requires : tie.Need-turn-requires Inv-loop μ-loop
+turn-requires c κs =
+    let turn = c .before in
+    let head = turn .before in
+    let start = head .before .before .before .before .before in
+    λ e. start .pre .0 .low (head .loop .k) (omega (arith, turn .loop-test .taken)) (omega (arith, head .loop .inv .0, turn .loop-test .taken)) (omega (arith, turn .loop-test .taken)) e
+
+turn-requires-2 : tie.Need-turn-requires-2 Inv-loop μ-loop
+turn-requires-2 c κs =
+    let turn = c .before .before .before in
+    let head = turn .before in
+    let start = head .before .before .before .before .before in
+    λ e. start .pre .1 .low (head .loop .k) (omega (arith, turn .loop-test .taken)) (omega (arith, head .loop .inv .0, turn .loop-test .taken)) (omega (arith, turn .loop-test .taken)) e
+
 returns-2 : tie.Need-returns-2 Inv-loop μ-loop
 returns-2 c =
     let after-turn2 = c .before in
@@ -57,11 +71,11 @@ look-same-spec =
     (λ c. search needs)
     (λ c. search needs)
     (λ c. search needs)
-    (λ c κs. search needs)
+    turn-requires
     (λ c. search needs)
     (λ c. search needs)
     (λ c. search needs)
-    (λ c κs. search needs)
+    turn-requires-2
     returns-2
     (λ c. search needs)
     (λ c. search needs)

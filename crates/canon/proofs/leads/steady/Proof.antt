@@ -5,6 +5,7 @@ use borrow.Author.Needs.{needs}
 use Prim.Native.Nat.{_≤_, _-_}
 use borrow.Author.Tests.{not-false}
 use Rattle.canon.specs.Classing.{Steady}
+use Rattle.canon.proofs.Lifts as lifts
 use Rattle.canon.proofs.Firsts as laws
 
 abbrev Inv-loop : tie.InvT-loop
@@ -15,6 +16,13 @@ abbrev μ-loop : tie.MeasureT-loop
 
 loop-holds : tie.Need-loop-holds Inv-loop μ-loop
 loop-holds c = (search needs, laws.steady-none _ _)
+
+look-same-requires : tie.Need-look-same-requires Inv-loop μ-loop
+look-same-requires c κs =
+    let turn = c .before .before in
+    let start = turn .before .before .before .before in
+    let low = start .pre .1 .low _ (turn .loop-test .taken) in
+    (lifts.turnable _ _ _ (start .pre .0) (start .pre .1 .room) _ (turn .loop-test .taken), lifts.turnable _ _ _ (start .pre .0) (start .pre .1 .room) _ low)
 
 returns : tie.Need-returns Inv-loop μ-loop
 returns c = laws.steady-not _ _ _
@@ -41,7 +49,7 @@ steady-spec =
     (λ c. search needs)
     (λ c. search needs)
     (λ c. search needs)
-    (λ c κs. search needs)
+    look-same-requires
     returns
     (λ c. search needs)
     loop-again

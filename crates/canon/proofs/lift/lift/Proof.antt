@@ -18,6 +18,9 @@ abbrev μ-loop : tie.MeasureT-loop
 loop-holds : tie.Need-loop-holds Inv-loop μ-loop
 loop-holds c = (search needs, search needs, laws.lift-none _ _ _ _ _)
 
+part-of-requires : tie.Need-part-of-requires Inv-loop μ-loop
+part-of-requires c κs = (c .before .before .before .before .before .before) .pre .0 .low _ (c .before .loop-test .taken)
+
 loop-again : tie.Need-loop-again Inv-loop μ-loop
 loop-again c = (search needs, simp length-set (omega arith), search laws.lift-more)
 
@@ -33,7 +36,7 @@ lift-spec =
     loop-holds
     (λ c. search needs)
     (λ c. search needs)
-    (λ c κs. search needs)
+    part-of-requires
     (λ c. search needs)
     (λ c. search needs)
     (λ c. search needs)

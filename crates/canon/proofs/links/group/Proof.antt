@@ -68,12 +68,9 @@ group-spec =
     (λ c. search needs)
     hash-requires
     (λ c. search needs)
-    (λ c. search needs)
     slice-read-l
     like-before-requires
     hang-requires
-    (λ c. search needs)
-    (λ c. search needs)
     (λ c. search needs)
     (λ c. search needs)
     (λ c. search needs)

@@ -35,15 +35,12 @@ hang-spec =
     (λ c. search needs)
     (λ c. search needs)
     (λ c. search needs)
-    (λ c. search needs)
     returns
     last-into-requires
     (λ c. search needs)
     (λ c. search needs)
     (λ c. search needs)
-    (λ c. search needs)
     slice-write-links-2
-    (λ c. search needs)
     (λ c. search needs)
     (λ c. search needs)
     slice-write-links-3

@@ -19,7 +19,10 @@ loop-holds : tie.Need-loop-holds Inv-loop μ-loop
 loop-holds c = (search needs, search needs, search needs, laws.refer-start _ _ _ _ ((c .before .before) .pre .3))
 
 target-row-requires : tie.Need-target-row-requires Inv-loop μ-loop
-target-row-requires c κs = (omega (arith, (c .before .before .before .before) .pre .0 .room), search needs)
+target-row-requires c κs =
+    let start = c .before .before .before .before in
+    let codes = start .pre .0 in
+    (omega (arith, codes .room), search needs, λ e. omega (arith, codes .few, codes .low _ _ (omega arith) (start .pre .2) e))
 
 hang-requires : tie.Need-hang-requires Inv-loop μ-loop
 hang-requires c κs =

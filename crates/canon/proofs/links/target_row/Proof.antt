@@ -2,7 +2,12 @@
 use borrow.Author.Needs.{needs}
 use Rattle.canon.proofs.links.target_row.Statement.{statement}
 use Rattle.canon.proofs.links.target_row.Tie as tie
+use native.Mathlib.Omega.{arith}
 use Rattle.canon.proofs.Refers as laws
+
+-- a row's number is a byte, since a block has so few objects
+add-result : tie.Need-add-result
+add-result c = omega (arith, (c .before .before) .pre .2 (c .if1 .taken))
 
 returns : tie.Need-returns
 returns c = search laws.target-object
@@ -18,7 +23,6 @@ target-row-spec =
     (λ c. search needs)
     (λ c. search needs)
     (λ c. search needs)
-    (λ c. search needs)
-    (λ c. search needs)
+    add-result
     returns
     returns-2)

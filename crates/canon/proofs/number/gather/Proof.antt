@@ -26,7 +26,7 @@ mul-lift : tie.Need-mul-lift Inv-loop μ-loop
 mul-lift c = omega (arith, c .shared-slice-known4 .given (c .before .before .loop .j))
 
 lift-requires : tie.Need-lift-requires Inv-loop μ-loop
-lift-requires c κs = omega (arith, c .before .shared-slice-known4 .given (c .before .before .before .loop .j))
+lift-requires c κs = ((c .before .before .before .before .before .before .before .before) .pre .0 .each _ (c .before .before .loop-test .taken), search needs)
 
 loop-again : tie.Need-loop-again Inv-loop μ-loop
 loop-again c = (search needs, search needs, search needs, search laws.gather-more)

@@ -19,6 +19,9 @@ abbrev μ-loop : tie.MeasureT-loop
 loop-holds : tie.Need-loop-holds Inv-loop μ-loop
 loop-holds c = (search needs, search needs, laws.filled-none _ _)
 
+number-of-requires : tie.Need-number-of-requires Inv-loop μ-loop
+number-of-requires c κs = let turn = c .before in let start = turn .before .before .before .before .before in omega (arith, start .pre .0 .low _ (turn .loop-test .taken))
+
 loop-again : tie.Need-loop-again Inv-loop μ-loop
 loop-again c = (search needs, simp length-set (omega arith), search laws.filled-step)
 
@@ -34,7 +37,7 @@ numbers-spec =
     loop-holds
     (λ c. search needs)
     (λ c. search needs)
-    (λ c κs. search needs)
+    number-of-requires
     (λ c. search needs)
     (λ c. search needs)
     (λ c. search needs)

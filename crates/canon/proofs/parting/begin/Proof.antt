@@ -47,7 +47,6 @@ begin-spec =
     (λ c. search needs)
     (λ c. search needs)
     (λ c. search needs)
-    (λ c. search needs)
     stand-requires
     (λ c. search needs)
     (λ c. search needs)

@@ -42,7 +42,6 @@ bring-spec =
     add-t
     (λ c. search needs)
     (λ c. search needs)
-    (λ c. search needs)
     slice-write-t
     same-length
     returns)

@@ -24,10 +24,7 @@ lay-out-spec =
     (λ c. search needs)
     (λ c. search needs)
     (λ c. search needs)
-    (λ c. search needs)
-    (λ c. search needs)
     slice-write-t-2
-    (λ c. search needs)
     (λ c. search needs)
     (λ c. search needs)
     slice-write-t-3

@@ -60,7 +60,6 @@ note-spec =
     (λ c. search needs)
     (λ c. search needs)
     (λ c. search needs)
-    (λ c. search needs)
     slice-write-t
     (λ c. search needs)
     (λ c. search needs)

@@ -36,7 +36,6 @@ relabel-spec =
     (λ c κs. search needs)
     (λ c. search needs)
     (λ c. search needs)
-    (λ c. search needs)
     slice-write-t
     (λ c. search needs)
     (λ c. search needs)

@@ -21,8 +21,6 @@ stand-spec =
     (λ c. search needs)
     (λ c. search needs)
     (λ c. search needs)
-    (λ c. search needs)
-    (λ c. search needs)
     slice-write-t-2
     (λ c. search needs)
     returns)

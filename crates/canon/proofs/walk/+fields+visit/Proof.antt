@@ -47,7 +47,11 @@ fields-returns-2 : (t : ℕ) → fields-lts.Need-returns-2 (fields-claims t) (fi
 fields-returns-2 t c = (search laws.fields-out, search needs)
 
 fields-visit-requires : (t : ℕ) → fields-lts.Need-visit-requires (fields-claims t) (fields-at t) fields.Post
-fields-visit-requires t c κs = (search needs, (search needs, search needs, search laws.first-small))
+fields-visit-requires t c κs =
+    let e2 = c .before .before .before in
+    let e1 = e2 .before .before in
+    let st = e1 .before .before .before .before .before in
+    (search needs, (search needs, search needs, st .pre .1 .0 .codes .low _ _ (st .pre .1 .2) (e1 .if1 .left), search laws.first-small))
 
 fields-fields-requires : (t : ℕ) → fields-lts.Need-fields-requires (fields-claims t) (fields-at t) fields.Post
 fields-fields-requires t c κs =
@@ -55,7 +59,8 @@ fields-fields-requires t c κs =
     let e2 = v .before .before .before .before in
     let e1 = e2 .before .before in
     let st = e1 .before .before .before .before .before in
-    (omega arith, (record { nodes = omega arith; colours = omega arith; order = omega arith; met = omega arith }, v .visit .ensures .1, laws.rest-small _ _ _ _ _ _ (omega (arith, st .fits .c)) (e1 .if1 .left) (e2 .if2 .left) _ (v .visit .ensures .0) (st .pre .1 .2)))
+    let room = st .pre .1 .0 in
+    (omega arith, (record { codes = room .codes; colours = room .colours; order = omega (arith, room .order); met = omega (arith, room .met) }, v .visit .ensures .1, st .pre .1 .2, laws.rest-small _ _ _ _ _ _ (st .pre .1 .2) (e1 .if1 .left) (e2 .if2 .left) _ (v .visit .ensures .0) (st .pre .1 .3)))
 
 fields-returns-3 : (t : ℕ) → fields-lts.Need-returns-3 (fields-claims t) (fields-at t) fields.Post
 fields-returns-3 t c = (search laws.fields-more, search needs)
@@ -66,56 +71,71 @@ visit-returns t c = (search laws.visit-zero, search needs)
 visit-returns-2 : (t : ℕ) → visit-lts.Need-returns-2 (visit-claims t) (visit-at t) visit.Post
 visit-returns-2 t c = (search laws.visit-none, search needs)
 
+visit-shared-slice-read-c : (t : ℕ) → visit-lts.Need-shared-slice-read-c (visit-claims t) (visit-at t) visit.Post
+visit-shared-slice-read-c t c = (c .before .before .before .before .before .before .before) .pre .1 .2 (c .before .if2 .left)
+
 visit-cast-if3 : (t : ℕ) → visit-lts.Need-cast-if3 (visit-claims t) (visit-at t) visit.Post
 visit-cast-if3 t c = omega (arith, c .shared-slice-known3 .given (c .before .before .before .before .before .before .before .args .r))
 
 visit-slice-read-if3 : (t : ℕ) → visit-lts.Need-slice-read-if3 (visit-claims t) (visit-at t) visit.Post
-visit-slice-read-if3 t c = omega (arith, c .before .shared-slice-known3 .given (c .before .before .before .before .before .before .before .before .args .r))
+visit-slice-read-if3 t c =
+    let object = c .before .before in
+    let steps = object .before in
+    let start = steps .before .before .before .before .before in
+    omega (arith, start .pre .1 .0 .met, laws.colour-low _ _ _ _ _ (start .args .m) (steps .if1 .left) (object .if2 .left) _ (start .pre .1))
 
 visit-cast-met : (t : ℕ) → visit-lts.Need-cast-met (visit-claims t) (visit-at t) visit.Post
 visit-cast-met t c = omega (arith, c .before .before .shared-slice-known3 .given (c .before .before .before .before .before .before .before .before .before .args .r))
 
 visit-slice-write-met : (t : ℕ) → visit-lts.Need-slice-write-met (visit-claims t) (visit-at t) visit.Post
-visit-slice-write-met t c = omega (arith, c .before .before .shared-slice-known3 .given (c .before .before .before .before .before .before .before .before .before .args .r))
+visit-slice-write-met t c =
+    let object = c .before .before .before in
+    let steps = object .before in
+    let start = steps .before .before .before .before .before in
+    omega (arith, start .pre .1 .0 .met, laws.colour-low _ _ _ _ _ (start .args .m) (steps .if1 .left) (object .if2 .left) _ (start .pre .1))
 
 visit-returns-3 : (t : ℕ) → visit-lts.Need-returns-3 (visit-claims t) (visit-at t) visit.Post
 visit-returns-3 t c =
-    let s3 = c .before .before in
-    let e2 = s3 .before in
-    let e1 = e2 .before in
-    let st = e1 .before .before .before .before .before in
-    (laws.visit-seen _ _ _ _ _ (st .args .m) (e1 .if1 .left) (e2 .if2 .left) _ (omega (arith, s3 .shared-slice-known3 .given (st .args .r))) (st .pre .1 .1) (c .if3 .taken), st .pre .1 .1)
+    let object = c .before .before .before in
+    let steps = object .before in
+    let start = steps .before .before .before .before .before in
+    (laws.visit-seen _ _ _ _ _ (start .args .m) (steps .if1 .left) (object .if2 .left) _ (start .pre .1) (c .if3 .taken), start .pre .1 .1)
+
+visit-slice-write-order : (t : ℕ) → visit-lts.Need-slice-write-order (visit-claims t) (visit-at t) visit.Post
+visit-slice-write-order t c =
+    let object = c .before .before .before in
+    let steps = object .before in
+    let start = steps .before .before .before .before .before in
+    omega (arith, start .pre .1 .0 .order, laws.new-fits _ _ _ _ _ (start .args .m) (steps .if1 .left) (object .if2 .left) _ (start .pre .1) (c .if3 .left))
 
 visit-add-met : (t : ℕ) → visit-lts.Need-add-met (visit-claims t) (visit-at t) visit.Post
 visit-add-met t c =
-    let s3 = c .before .before in
-    let e2 = s3 .before in
-    let e1 = e2 .before in
-    let st = e1 .before .before .before .before .before in
-    omega (arith, laws.new-fits _ _ _ _ _ (st .args .m) (e1 .if1 .left) (e2 .if2 .left) _ (omega (arith, s3 .shared-slice-known3 .given (st .args .r))) (st .pre .1 .1) (st .pre .1 .0 .order) (omega (arith, st .fits .m)) (c .if3 .left) (st .pre .1 .2))
+    let object = c .before .before .before in
+    let steps = object .before in
+    let start = steps .before .before .before .before .before in
+    omega (arith, start .pre .1 .0 .codes .few, laws.new-fits _ _ _ _ _ (start .args .m) (steps .if1 .left) (object .if2 .left) _ (start .pre .1) (c .if3 .left))
 
 visit-add-fields : (t : ℕ) → visit-lts.Need-add-fields (visit-claims t) (visit-at t) visit.Post
 visit-add-fields t c =
-    let e3 = c .before .before in
-    let s3 = e3 .before .before in
-    let e2 = s3 .before in
-    let e1 = e2 .before in
-    let st = e1 .before .before .before .before .before in
-    omega (arith, laws.new-fits _ _ _ _ _ (st .args .m) (e1 .if1 .left) (e2 .if2 .left) _ (omega (arith, s3 .shared-slice-known3 .given (st .args .r))) (st .pre .1 .1) (st .pre .1 .0 .order) (omega (arith, st .fits .m)) (e3 .if3 .left) (st .pre .1 .2))
+    let new = c .before .before in
+    let object = new .before .before .before in
+    let steps = object .before in
+    let start = steps .before .before .before .before .before in
+    omega (arith, start .pre .1 .0 .codes .few, laws.new-fits _ _ _ _ _ (start .args .m) (steps .if1 .left) (object .if2 .left) _ (start .pre .1) (new .if3 .left))
 
 visit-fields-requires : (t : ℕ) → visit-lts.Need-fields-requires (visit-claims t) (visit-at t) visit.Post
 visit-fields-requires t c κs =
-    let e3 = c .before .before in
-    let s3 = e3 .before .before in
-    let e2 = s3 .before in
-    let e1 = e2 .before in
-    let st = e1 .before .before .before .before .before in
-    let low = s3 .shared-slice-known3 .given (st .args .r) in (
+    let new = c .before .before in
+    let object = new .before .before .before in
+    let steps = object .before in
+    let start = steps .before .before .before .before .before in
+    let room = start .pre .1 .0 in (
       omega arith,
       (
-        record { nodes = omega arith; colours = omega arith; order = simp length-set (omega arith); met = simp length-set (omega arith) },
-        laws.new-listed _ _ _ (st .args .m) (omega (arith, low)) (st .pre .1 .1) (st .pre .1 .0 .order) (omega (arith, st .fits .m)) (e3 .if3 .left) (st .pre .1 .0 .met),
-        laws.new-small _ _ _ _ _ (st .args .m) (e1 .if1 .left) (e2 .if2 .left) _ (omega (arith, low)) (st .pre .1 .1) (st .pre .1 .0 .order) (omega (arith, st .fits .m)) (e3 .if3 .left) (st .pre .1 .2),
+        record { codes = room .codes; colours = room .colours; order = simp length-set (room .order); met = simp length-set (room .met) },
+        laws.new-listed _ _ _ _ _ (start .args .m) (steps .if1 .left) (object .if2 .left) _ (start .pre .1) (new .if3 .left),
+        laws.colour-low _ _ _ _ _ (start .args .m) (steps .if1 .left) (object .if2 .left) _ (start .pre .1),
+        laws.new-small _ _ _ _ _ (start .args .m) (steps .if1 .left) (object .if2 .left) _ (start .pre .1) (new .if3 .left),
       ),
     )
 
@@ -127,14 +147,13 @@ visit-same-length-2 t c = omega (arith, simp length-set at (c .before .before .b
 
 visit-returns-4 : (t : ℕ) → visit-lts.Need-returns-4 (visit-claims t) (visit-at t) visit.Post
 visit-returns-4 t c =
-    let f = c .before .before .before .before in
-    let e3 = f .before .before .before in
-    let s3 = e3 .before .before in
-    let e2 = s3 .before in
-    let e1 = e2 .before in
-    let st = e1 .before .before .before .before .before in (
-      laws.visit-new _ _ _ _ _ (st .args .m) (e1 .if1 .left) (e2 .if2 .left) _ (omega (arith, s3 .shared-slice-known3 .given (st .args .r))) (st .pre .1 .1) (st .pre .1 .0 .order) (omega (arith, st .fits .m)) (e3 .if3 .left) _ (f .fields .ensures .0),
-      f .fields .ensures .1,
+    let after-fields = c .before .before .before .before in
+    let new = after-fields .before .before .before in
+    let object = new .before .before .before in
+    let steps = object .before in
+    let start = steps .before .before .before .before .before in (
+      laws.visit-new _ _ _ _ _ (start .args .m) (steps .if1 .left) (object .if2 .left) _ (start .pre .1) (new .if3 .left) _ (after-fields .fields .ensures .0),
+      after-fields .fields .ensures .1,
     )
 
 pub +fields+visit-spec : {M : Type 1} → statement M
@@ -158,11 +177,11 @@ pub +fields+visit-spec : {M : Type 1} → statement M
     (λ t. visit-lts.spec (visit-claims t) (visit-at t) visit.Post
     (visit-returns t)
     (visit-returns-2 t)
-    (λ c. search needs)
+    (visit-shared-slice-read-c t)
     (visit-cast-if3 t)
     (visit-slice-read-if3 t)
     (visit-returns-3 t)
-    (λ c. search needs)
+    (visit-slice-write-order t)
     (visit-add-met t)
     (visit-cast-met t)
     (visit-slice-write-met t)

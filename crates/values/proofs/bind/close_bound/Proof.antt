@@ -6,13 +6,20 @@ use Rattle.values.proofs.Bindings as bindings
 use Rattle.values.proofs.Apart as apart
 
 put-distinct-requires : tie.Need-put-distinct-requires
-put-distinct-requires c κs = let t = c .before .before in let bo = t .before .before .before .before .before in let st = bo .before .before .before .before in (bindings.bound-rooted _ _ _ (st .pre .0) _ _ _ (bo .bind-objects .ensures) _ (st .pre .2), apart.distinct-yes _ _ _ (t .before .stay-distinct .ensures) (t .if1 .taken))
+put-distinct-requires c κs =
+    let apart-test = c .before .before in
+    let bound = apart-test .before .before .before .before .before in
+    let start = bound .before .before .before .before in
+    (bindings.bound-rooted _ _ _ (start .pre .0) _ _ _ (bound .bind-objects .ensures) _ (start .pre .2), apart.distinct-yes _ _ _ (apart-test .before .stay-distinct .ensures) (apart-test .if1 .taken))
 
 returns : tie.Need-returns
 returns c = search bindings.closed
 
 put-merged-requires : tie.Need-put-merged-requires
-put-merged-requires c κs = let bo = c .before .before .before in let st = bo .before .before .before .before .before .before .before .before .before .before .before .before in (bindings.bound-rooted _ _ _ (st .pre .0) _ _ _ (bo .bind-objects2 .ensures) _ (st .pre .2), search needs)
+put-merged-requires c κs =
+    let bound = c .before .before .before .before .before .before .before in
+    let start = bound .before .before .before .before in
+    bindings.bound-rooted _ _ _ (start .pre .0) _ _ _ (bound .bind-objects .ensures) _ (start .pre .2)
 
 returns-2 : tie.Need-returns-2
 returns-2 c = search bindings.closed
@@ -29,8 +36,6 @@ close-bound-spec =
     put-distinct-requires
     (λ c. search needs)
     returns
-    (λ c. search needs)
-    (λ c κs. search needs)
     (λ c. search needs)
     put-merged-requires
     (λ c. search needs)

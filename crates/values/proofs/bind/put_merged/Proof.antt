@@ -2,13 +2,14 @@
 use borrow.Author.Needs.{needs}
 use Rattle.values.proofs.bind.put_merged.Statement.{statement}
 use Rattle.values.proofs.bind.put_merged.Tie as tie
+use native.Mathlib.Omega.{arith}
 use Rattle.values.proofs.Puts as laws
 
 colour-requires : tie.Need-colour-requires
-colour-requires c κs = (search laws.rooted-raw, search laws.rooted-small, search needs)
+colour-requires c κs = let start = c .before .before .before in (start .pre .raw, omega (arith, start .pre .raw .few))
 
 put-requires : tie.Need-put-requires
-put-requires c κs = let co = c .before .before .before in laws.merge-ready _ _ _ _ _ (co .before .before .before .before .pre .0) (co .before .before .before .before .pre .1) _ (search needs) (co .colour .ensures)
+put-requires c κs = let co = c .before .before .before in let start = co .before .before .before .before in laws.merge-ready _ _ _ _ _ (start .pre) _ (omega (arith, start .pre .raw .few)) (co .colour .ensures)
 
 returns : tie.Need-returns
 returns c = search laws.put-merged

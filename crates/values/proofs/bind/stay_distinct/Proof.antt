@@ -13,7 +13,7 @@ shared-slice-read-if1 : tie.Need-shared-slice-read-if1
 shared-slice-read-if1 c = omega (arith, bindings.block-room _ _ _ (c .before .before .before .pre .0))
 
 unlike-others-requires : tie.Need-unlike-others-requires
-unlike-others-requires c κs = (search bindings.bound-few, search bindings.root-low)
+unlike-others-requires c κs = (search bindings.bound-raw, search bindings.root-low)
 
 returns : tie.Need-returns
 returns c = search apart.stays-beyond
@@ -22,7 +22,7 @@ unreferred-requires : tie.Need-unreferred-requires
 unreferred-requires c κs = (search bindings.block-room, search bindings.bound-small)
 
 unlike-others-requires-2 : tie.Need-unlike-others-requires-2
-unlike-others-requires-2 c κs = (search bindings.bound-few, search bindings.root-low)
+unlike-others-requires-2 c κs = (search bindings.bound-raw, search bindings.root-low)
 
 returns-2 : tie.Need-returns-2
 returns-2 c = search apart.stays-distinct

@@ -1,5 +1,4 @@
 -- The value of a number that is no object's: a law for each case.
-use borrow.Author.Needs.{needs}
 use Rattle.values.proofs.refs.unpack_other.Statement.{statement}
 use Rattle.values.proofs.refs.unpack_other.Tie as tie
 use Rattle.values.proofs.RefLaws as laws
