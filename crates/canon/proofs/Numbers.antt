@@ -19,8 +19,7 @@ use Rattle.cofj.proofs.Unique.{canon-canon}
 use Rattle.cofj.proofs.Numbering.{canonical-root}
 use Rattle.canon.specs.Figures.{objectSize, headSize, firstLeaf, capacity, blockSize}
 use Rattle.canon.specs.Layout.{nodeIn, nodesIn, Codes, Distinct, Block, graphAt, objectsIn, countIn, ended}
-use Rattle.canon.specs.Tables.{Filled}
-use Rattle.canon.specs.Rounds.{Below}
+use Rattle.canon.specs.Tables.{Filled, Below}
 use Rattle.canon.specs.Walking.{walkRef, markIn, Listed, Walkable}
 use Rattle.canon.specs.Numbers.{numberIn, Gatherable, Gathered, Levels, Ready, Placed, graphIn}
 use Rattle.canon.proofs.Colouring.{value-distinct}
@@ -51,7 +50,7 @@ place-out c (d ∷ s) h = go (eqb c d) h (place-out c s)
     go false e ih = ap suc (ih e)
 
 -- the table tells the place
-number-in : (n : ℕ) (M O : List ℕ) (m c : ℕ) → Listed n M O m → length (take m O) ≡ m → c < n → numberIn M m c ≡ placeIn c (take m O)
+number-in : (n : ℕ) (M O : List ℕ) (m c : ℕ) → Listed n O M m → length (take m O) ≡ m → c < n → numberIn M m c ≡ placeIn c (take m O)
 unfolding numberIn markIn
 number-in n M O m c l e h = ap (λ (p : ℕ). cond (eqb p 0) m (p - 1)) (l .entry c h) ∙ go (isIn c (take m O)) refl
   where
@@ -154,7 +153,7 @@ module _ (N : List ℕ) (n : ℕ) (C : List ℕ) (root : ℕ) (W : List ℕ) (ds
     pub put-room : blockSize * dst + objectSize * m ≤ length W
     put-room = omega (arith, small, rd .room)
 
-    module _ (M : List ℕ) (lm : Listed (length (take n C)) M O m) (T : List ℕ) (fm : Filled (λ i. numberIn M m (getD C i 0)) n T) (D : List ℕ) (g : Gathered N O m T W (blockSize * dst) D)
+    module _ (M : List ℕ) (lm : Listed (length (take n C)) O M m) (T : List ℕ) (fm : Filled (λ i. numberIn M m (getD C i 0)) n T) (D : List ℕ) (g : Gathered N O m T W (blockSize * dst) D)
         (l : ℕ) (lv : Levels D (blockSize * dst) m l) where
       abbrev E : List ℕ
       E = ended D dst m l m
@@ -166,7 +165,7 @@ module _ (N : List ℕ) (n : ℕ) (C : List ℕ) (root : ℕ) (W : List ℕ) (ds
       same-size = ended-size D dst m l m room ∙ g .same
 
       ft : Filled (λ i. placeIn (getD C i 0) (take m O)) n T
-      ft = record { at = λ i h. fm .at i h ∙ number-in n M O m (getD C i 0) (subst (λ (k : ℕ). Listed k M O m) front-size lm) size (low i h) }
+      ft = record { at = λ i h. fm .at i h ∙ number-in n M O m (getD C i 0) (subst (λ (k : ℕ). Listed k O M m) front-size lm) size (low i h) }
 
       number-is : (i : ℕ) → i < n → getD T i 0 ≡ number (graphIn N n root) wg i
       number-is i h = ft .at i h ∙ ap₂ placeIn (colour-is i h) order-is

@@ -15,8 +15,8 @@ use Rattle.cofj.proofs.Trees.{same-look}
 use Rattle.cofj.proofs.Colours.{look, next, next-at, next-low, next-looks, next-same, look-next, length-refine, refs-coarser, colour-same}
 use Rattle.canon.specs.Figures.{objectSize, capacity}
 use Rattle.canon.specs.Layout.{nodeIn, nodesIn, part, Raw}
-use Rattle.canon.specs.Tables.{Filled, Carried, Lifted}
-use Rattle.canon.specs.Rounds.{Looks, placeIs, Below}
+use Rattle.canon.specs.Tables.{Filled, Carried, Lifted, Below}
+use Rattle.canon.specs.Rounds.{Looks, placeIs}
 use Rattle.canon.specs.Classing.{Coarse}
 use Rattle.canon.proofs.Colouring.{colours-are, looks-colours}
 use Rattle.canon.proofs.Nodes.{AllPacked, length-nodes, at-nodes}

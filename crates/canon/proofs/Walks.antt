@@ -40,7 +40,7 @@ unfolding walkFields
 fields-grow N C k c f s = all-grows (λ r t. visit (nodesIn N 0 (length C)) C k r t) (λ r t. grows (nodesIn N 0 (length C)) C k r t) _ s
 
 -- ---- the table of what is met
-pub listed-none : (n k : ℕ) (O : List ℕ) → Listed n (replicate k 0) O 0
+pub listed-none : (n k : ℕ) (O : List ℕ) → Listed n O (replicate k 0) 0
 unfolding markIn isIn
 listed-none n k O = record { few = omega arith; entry = λ c h. zero-at k c }
 
@@ -100,7 +100,7 @@ entry-more n T s c m l e z h room d k = go d k (ℕ-discrete d c)
     go d k (yes q) = rw q (getD-set-same T c (m + 1) 0 (omega arith) ∙ ap (λ (x : ℕ). x + 1) (sym e) ∙ sym (in-last c s (mark-out c s (sym (l c h) ∙ z))))
     go d k (no q) = getD-set-other T c d (m + 1) 0 q ∙ l d k ∙ sym (in-more c d s q)
 
-put-listed : (n : ℕ) (T O : List ℕ) (c m : ℕ) → c < n → Listed n T O m → m + 1 ≤ n → n ≤ length O → getD T c 0 ≡ 0 → n ≤ length T → Listed n (set T c (m + 1)) (set O m c) (m + 1)
+put-listed : (n : ℕ) (T O : List ℕ) (c m : ℕ) → c < n → Listed n O T m → m + 1 ≤ n → n ≤ length O → getD T c 0 ≡ 0 → n ≤ length T → Listed n (set O m c) (set T c (m + 1)) (m + 1)
 put-listed n T O c m low lt small room h long =
     let e : take (m + 1) (set O m c) ≡ take m O ++ (c ∷ []) = rw (add-one m) (take-suc-set O m c (omega arith)) in
     record { few = small; entry = rw e (entry-more n T (take m O) c m (lt .entry) (length-take-le m O (omega arith)) h low long) }
@@ -133,7 +133,7 @@ module _ (N C O : List ℕ) (k r m : ℕ) where
   visit-none h = sym (no-visit (nodesIn N 0 (length C)) C k (refOf r 0) (take m O) (no-object r 0 h))
 
   module _ (nz : (k ≡ 0) → ⊥) (obj-r : r < firstLeaf) (T : List ℕ)
-      (pre : Walkable N C O T × Listed (length C) T O m × (r < firstLeaf → r < length C) × (length (walkRef N C k r (take m O)) ≤ length C)) where
+      (pre : Walkable N C O T × Listed (length C) O T m × (r < firstLeaf → r < length C) × (length (walkRef N C k r (take m O)) ≤ length C)) where
     pub colour-low : getD C r 0 < length C
     colour-low = pre .0 .colours .low r (pre .2 obj-r)
 
@@ -169,7 +169,7 @@ module _ (N C O : List ℕ) (k r m : ℕ) where
       pub new-small : length (walkFields N C (k - 1) (getD C r 0) 0 (take (m + 1) (set O m (getD C r 0)))) ≤ length C
       new-small = rw (← visit-same) (pre .3)
 
-      pub new-listed : Listed (length C) (set T (getD C r 0) (m + 1)) (set O m (getD C r 0)) (m + 1)
+      pub new-listed : Listed (length C) (set O m (getD C r 0)) (set T (getD C r 0) (m + 1)) (m + 1)
       new-listed = put-listed (length C) T O (getD C r 0) m colour-low (pre .1) new-fits (pre .0 .order) h (pre .0 .met)
 
 -- ---- the fields

@@ -1,4 +1,4 @@
--- A table of zeros, and how many of the first bytes of a table are 0: asked for where a table notes what is met (values, maker, batch).
+-- A table of zeros, and how many of the first bytes of a table are 0: asked for where a table begins empty, or notes what is met (canon, values, maker, batch).
 use Prim.Native.Nat.{ℕ, zero, suc, _+_, _<_, _≤_}
 use native.Mathlib.Omega.{arith}
 use native.Mathlib.Decide.{ℕ-discrete}

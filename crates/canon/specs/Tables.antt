@@ -11,6 +11,11 @@ use Rattle.canon.specs.Figures.{objectSize, headSize, numbersAt, firstLe
 pub record Filled (F : ℕ → ℕ) (n : ℕ) (A : List ℕ) : Type 0 where
   pub at : (i : ℕ) → i < n → getD A i 0 ≡ F i
 
+-- they are below n
+pub record Below (n : ℕ) (A : List ℕ) : Type 0 where
+  pub room : n ≤ length A
+  pub low : (i : ℕ) → i < n → getD A i 0 < n
+
 -- the first n bytes are 0
 abbrev pub Zeros : ℕ → List ℕ → Type 0
 Zeros = Filled (λ i. 0)

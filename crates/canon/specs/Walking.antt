@@ -6,7 +6,7 @@ use mathlib.Core.List.{List}
 use lib.ListN.{length, getD, take, drop}
 use Rattle.cofj.specs.Values.{isIn, placeIn, visit, visitAll, refsAt}
 use Rattle.canon.specs.Layout.{refOf, nodesIn, Codes}
-use Rattle.canon.specs.Rounds.{Below}
+use Rattle.canon.specs.Tables.{Below}
 
 -- the order after a code, whatever number is beside it, and after the fields of object c from field f on
 unfoldable pub walkRef : List ℕ → List ℕ → ℕ → ℕ → List ℕ → List ℕ
@@ -21,7 +21,7 @@ unfolding isIn placeIn
 markIn c s = cond (isIn c s) (placeIn c s + 1) 0
 
 -- the order has m of the colours of n objects, and the table their places
-pub record Listed (n : ℕ) (T O : List ℕ) (m : ℕ) : Type 0 where
+pub record Listed (n : ℕ) (O T : List ℕ) (m : ℕ) : Type 0 where
   pub few : m ≤ n
   pub entry : (c : ℕ) → c < n → getD T c 0 ≡ markIn c (take m O)
 

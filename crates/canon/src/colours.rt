@@ -15,8 +15,8 @@ ghost use lib.ListN.{length, take};
 ghost use Rattle.cofj.specs.Values.{refine, colours};
 ghost use Rattle.canon.specs.Figures.{objectSize};
 ghost use Rattle.canon.specs.Layout.{nodesIn, Raw};
-ghost use Rattle.canon.specs.Tables.{Filled};
-ghost use Rattle.canon.specs.Rounds.{Looks, placeIs, Below};
+ghost use Rattle.canon.specs.Tables.{Filled, Below};
+ghost use Rattle.canon.specs.Rounds.{Looks, placeIs};
 ghost use Rattle.canon.specs.Classing.{Coarse};
 
 // The first object that looks as object i does.

@@ -1,4 +1,4 @@
-// The first object of each class that parting leaves, and the test that objects of one class look alike.
+// Objects parted, with the tables for it: the first object of each class that is left, and the test that objects of one class look alike.
 // Not here: how they are parted (parting).
 use crate::bytes::same_plain;
 use crate::layout::HEAD;
@@ -18,8 +18,7 @@ use crate::parting::part_looks;
 ghost use Prim.Native.Nat.{_+_, _*_, _<_, _≤_};
 ghost use lib.ListN.{length};
 ghost use Rattle.canon.specs.Figures.{objectSize, rowSize};
-ghost use Rattle.canon.specs.Tables.{copied, Turnable};
-ghost use Rattle.canon.specs.Rounds.{Below};
+ghost use Rattle.canon.specs.Tables.{copied, Turnable, Below};
 ghost use Rattle.canon.specs.Layout.{Raw, Codes};
 ghost use Rattle.canon.specs.Links.{AlikeTest};
 ghost use Rattle.canon.specs.Parting.{Classes};

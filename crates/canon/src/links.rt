@@ -26,11 +26,11 @@ ghost use Rattle.canon.specs.Links.{Hung, looked, shown, AlikeTest, hash
 // how many hashes there are
 const HASHES: u8 = 32;
 
+// the same as the length of a table with a byte for each
+const LASTS: usize = HASHES as usize;
+
 // what an object's numbers are divided by for its hash
 const HASHED: u64 = 31;
-
-// the same as the length of a table with a number for each
-const LASTS: usize = HASHES as usize;
 
 // A code as it looks at first: all objects alike.
 pub(crate) fn show(b: u8) -> u8

@@ -15,8 +15,7 @@ ghost use mathlib.Core.Path.{_≡_};
 ghost use Prim.Native.Nat.{_+_, _*_, _<_, _≤_};
 ghost use lib.ListN.{length, getD};
 ghost use Rattle.canon.specs.Figures.{objectSize};
-ghost use Rattle.canon.specs.Tables.{Filled};
-ghost use Rattle.canon.specs.Rounds.{Below};
+ghost use Rattle.canon.specs.Tables.{Filled, Below};
 ghost use Rattle.canon.specs.Numbers.{numberIn, Gatherable, Gathered, Above, Levels, Ready, graphIn, Placed};
 
 // The number of an object of colour c: the colour's place in the order, which the table tells; m if it is not met.

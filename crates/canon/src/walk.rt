@@ -19,8 +19,8 @@ pub(crate) fn visit(
     met: &mut [u8],
     m: u8,
 ) -> u8
-    requires { ⌜ Walkable (now nodes) (now cs) (now order) (now met) × Listed (length (now cs)) (now met) (now order) m × (r < firstLeaf → r < length (now cs)) × (length (walkRef (now nodes) (now cs) k r (take m (now order))) ≤ length (now cs)) ⌝ }
-    ensures { λ t. ⌜ (take t (now (order .exit)) ≡ walkRef (now (nodes .entry)) (now (cs .entry)) k r (take m (now (order .entry)))) × Listed (length (now (cs .entry))) (now (met .exit)) (now (order .exit)) t ⌝ }
+    requires { ⌜ Walkable (now nodes) (now cs) (now order) (now met) × Listed (length (now cs)) (now order) (now met) m × (r < firstLeaf → r < length (now cs)) × (length (walkRef (now nodes) (now cs) k r (take m (now order))) ≤ length (now cs)) ⌝ }
+    ensures { λ t. ⌜ (take t (now (order .exit)) ≡ walkRef (now (nodes .entry)) (now (cs .entry)) k r (take m (now (order .entry)))) × Listed (length (now (cs .entry))) (now (order .exit)) (now (met .exit)) t ⌝ }
 {
     if k == 0 {
         return m;
@@ -48,8 +48,8 @@ pub(crate) fn fields(
     met: &mut [u8],
     m: u8,
 ) -> u8
-    requires { ⌜ Walkable (now nodes) (now cs) (now order) (now met) × Listed (length (now cs)) (now met) (now order) m × (c < length (now cs)) × (length (walkFields (now nodes) (now cs) k c f (take m (now order))) ≤ length (now cs)) ⌝ }
-    ensures { λ t. ⌜ (take t (now (order .exit)) ≡ walkFields (now (nodes .entry)) (now (cs .entry)) k c f (take m (now (order .entry)))) × Listed (length (now (cs .entry))) (now (met .exit)) (now (order .exit)) t ⌝ }
+    requires { ⌜ Walkable (now nodes) (now cs) (now order) (now met) × Listed (length (now cs)) (now order) (now met) m × (c < length (now cs)) × (length (walkFields (now nodes) (now cs) k c f (take m (now order))) ≤ length (now cs)) ⌝ }
+    ensures { λ t. ⌜ (take t (now (order .exit)) ≡ walkFields (now (nodes .entry)) (now (cs .entry)) k c f (take m (now (order .entry)))) × Listed (length (now (cs .entry))) (now (order .exit)) (now (met .exit)) t ⌝ }
 {
     if CODES <= f {
         return m;

@@ -1,4 +1,4 @@
--- The proof of `number::put`: the value of n objects with their colours, written to a block if it fits. By the laws of Walks and Numbers.
+-- The proof of `number::put`: the value of n objects with their colours, written to a block. By the laws of Walks and Numbers.
 use borrow.Author.Needs.{needs}
 use Rattle.canon.proofs.number.put.Statement.{statement}
 use Rattle.canon.proofs.number.put.Tie as tie

@@ -48,19 +48,27 @@ fields-returns-2 t c = (search laws.fields-out, search needs)
 
 fields-visit-requires : (t : ℕ) → fields-lts.Need-visit-requires (fields-claims t) (fields-at t) fields.Post
 fields-visit-requires t c κs =
-    let e2 = c .before .before .before in
-    let e1 = e2 .before .before in
-    let st = e1 .before .before .before .before .before in
-    (search needs, (search needs, search needs, st .pre .1 .0 .codes .low _ _ (st .pre .1 .2) (e1 .if1 .left), search laws.first-small))
+    let field = c .before .before .before in
+    let code = field .before .before in
+    let start = code .before .before .before .before .before in
+    (search needs, (search needs, search needs, start .pre .1 .0 .codes .low _ _ (start .pre .1 .2) (code .if1 .left), search laws.first-small))
 
 fields-fields-requires : (t : ℕ) → fields-lts.Need-fields-requires (fields-claims t) (fields-at t) fields.Post
 fields-fields-requires t c κs =
-    let v = c .before .before .before .before .before .before in
-    let e2 = v .before .before .before .before in
-    let e1 = e2 .before .before in
-    let st = e1 .before .before .before .before .before in
-    let room = st .pre .1 .0 in
-    (omega arith, (record { codes = room .codes; colours = room .colours; order = omega (arith, room .order); met = omega (arith, room .met) }, v .visit .ensures .1, st .pre .1 .2, laws.rest-small _ _ _ _ _ _ (st .pre .1 .2) (e1 .if1 .left) (e2 .if2 .left) _ (v .visit .ensures .0) (st .pre .1 .3)))
+    let after-visit = c .before .before .before .before .before .before in
+    let field = after-visit .before .before .before .before in
+    let code = field .before .before in
+    let start = code .before .before .before .before .before in
+    let room = start .pre .1 .0 in
+    let inside = start .pre .1 .2 in (
+      omega arith,
+      (
+        record { codes = room .codes; colours = room .colours; order = omega (arith, room .order); met = omega (arith, room .met) },
+        after-visit .visit .ensures .1,
+        inside,
+        laws.rest-small _ _ _ _ _ _ inside (code .if1 .left) (field .if2 .left) _ (after-visit .visit .ensures .0) (start .pre .1 .3),
+      ),
+    )
 
 fields-returns-3 : (t : ℕ) → fields-lts.Need-returns-3 (fields-claims t) (fields-at t) fields.Post
 fields-returns-3 t c = (search laws.fields-more, search needs)
@@ -72,10 +80,13 @@ visit-returns-2 : (t : ℕ) → visit-lts.Need-returns-2 (visit-claims t) (visit
 visit-returns-2 t c = (search laws.visit-none, search needs)
 
 visit-shared-slice-read-c : (t : ℕ) → visit-lts.Need-shared-slice-read-c (visit-claims t) (visit-at t) visit.Post
-visit-shared-slice-read-c t c = (c .before .before .before .before .before .before .before) .pre .1 .2 (c .before .if2 .left)
+visit-shared-slice-read-c t c =
+    let object = c .before in
+    let start = object .before .before .before .before .before .before in
+    start .pre .1 .2 (object .if2 .left)
 
 visit-cast-if3 : (t : ℕ) → visit-lts.Need-cast-if3 (visit-claims t) (visit-at t) visit.Post
-visit-cast-if3 t c = omega (arith, c .shared-slice-known3 .given (c .before .before .before .before .before .before .before .args .r))
+visit-cast-if3 t c = let start = c .before .before .before .before .before .before .before in omega (arith, c .shared-slice-known3 .given (start .args .r))
 
 visit-slice-read-if3 : (t : ℕ) → visit-lts.Need-slice-read-if3 (visit-claims t) (visit-at t) visit.Post
 visit-slice-read-if3 t c =
@@ -85,7 +96,10 @@ visit-slice-read-if3 t c =
     omega (arith, start .pre .1 .0 .met, laws.colour-low _ _ _ _ _ (start .args .m) (steps .if1 .left) (object .if2 .left) _ (start .pre .1))
 
 visit-cast-met : (t : ℕ) → visit-lts.Need-cast-met (visit-claims t) (visit-at t) visit.Post
-visit-cast-met t c = omega (arith, c .before .before .shared-slice-known3 .given (c .before .before .before .before .before .before .before .before .before .args .r))
+visit-cast-met t c =
+    let read = c .before .before in
+    let start = read .before .before .before .before .before .before .before in
+    omega (arith, read .shared-slice-known3 .given (start .args .r))
 
 visit-slice-write-met : (t : ℕ) → visit-lts.Need-slice-write-met (visit-claims t) (visit-at t) visit.Post
 visit-slice-write-met t c =
