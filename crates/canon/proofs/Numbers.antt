@@ -91,11 +91,8 @@ module _ (N : List ℕ) (n : ℕ) (C : List ℕ) (root : ℕ) (W : List ℕ) (ds
   low i h = omega (arith, colour-is i h, colour-low (graphIn N n root) wg i (subst (λ (k : ℕ). i < k) (sym (length-nodes N 0 n)) h))
 
   -- the order over the bytes is the graph's
-  front-size : length (take n C) ≡ n
+  pub front-size : length (take n C) ≡ n
   front-size = length-take-le n C (rd .long)
-
-  pub front-count : n ≡ length (take n C)
-  front-count = sym front-size
 
   walk-is : walkRef N (take n C) (n + 1) root [] ≡ order (graphIn N n root) wg
   unfolding walkRef

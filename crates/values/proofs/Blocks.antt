@@ -128,8 +128,5 @@ module _ (W : List ℕ) (b : ℕ) (bk : Block W b) where
         fits : n ≤ length I
         fits = omega (arith, tk .count, bk .small)
 
-    pub moved : (c dst m : ℕ) (W′ : List ℕ) → Placed (graphIn R n c) W dst W′ m → Placed (graphAt W b c) W dst W′ m
-    moved c dst m W′ p = subst (λ (g : Graph). Placed g W dst W′ m) (ap (graph (obj c)) copied-nodes) p
-
-pub moved-out : (W : List ℕ) (b i : ℕ) (I R₀ R : List ℕ) (n dst m : ℕ) (W′ : List ℕ) → Inside W b i → Taken W b I R₀ R n → Placed (graphIn R n i) W dst W′ m → Placed (graphAt W b i) W dst W′ m
-moved-out W b i I R₀ R n dst m W′ ob tk p = moved W b (ob .block) I R₀ R n tk i dst m W′ p
+    pub moved-out : (c dst m : ℕ) (W′ : List ℕ) → Placed (graphIn R n c) W dst W′ m → Placed (graphAt W b c) W dst W′ m
+    moved-out c dst m W′ p = subst (λ (g : Graph). Placed g W dst W′ m) (ap (graph (obj c)) copied-nodes) p

@@ -2,6 +2,7 @@
 use borrow.Author.Needs.{needs}
 use Rattle.canon.proofs.number.put.Statement.{statement}
 use Rattle.canon.proofs.number.put.Tie as tie
+use mathlib.Core.Path.{sym}
 use lib.ListN.{length-set}
 use native.Mathlib.Omega.{arith}
 use Rattle.canon.specs.Figures.{capacity}
@@ -9,7 +10,7 @@ use Rattle.canon.proofs.Walks as walks
 use Rattle.canon.proofs.Numbers as laws
 
 slice-aggregate-visit : tie.Need-slice-aggregate-visit
-slice-aggregate-visit c = laws.front-count _ _ _ _ _ _ ((c .before .before .before .before) .pre)
+slice-aggregate-visit c = sym (laws.front-size _ _ _ _ _ _ ((c .before .before .before .before) .pre))
 
 visit-requires : tie.Need-visit-requires
 visit-requires c κs =
