@@ -16,7 +16,7 @@ use Rattle.cofj.proofs.ExprRound.{expr_spelt, types_back}
 use Rattle.lineform.specs.declared.exprs.Sign.{Sign}
 use Rattle.lineform.specs.declared.exprs.ReadExpr.{ReadExpr}
 use Rattle.lineform.specs.declared.exprs.ReadExpr.TheVariants.{Next, Refused}
-use Rattle.lineform.specs.Answers.{end_of, end_in, after, sign_at, end_by}
+use Rattle.lineform.specs.Answers.{end_of, end_in, sign_at, end_by}
 use Rattle.lineform.proofs.Ends.{more, no_more, tail_at, Leaves, same_end, end_here, number_refused, number_next}
 use Rattle.lineform.proofs.SignEnds.{empty, item_end, ends, sign_is}
 

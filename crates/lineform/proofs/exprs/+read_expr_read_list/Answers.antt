@@ -1,0 +1,26 @@
+-- The cycle of `exprs::read_expr` meets its contracts: a law of ExprLaws for each return. The nesting limit falls. The loop of `read_list` keeps
+-- where the walk over the expressions that are left ends.
+use borrow.Author.Rules.{rules}
+use Rattle.lineform.proofs.ExprLaws as laws
+use Rattle.lineform.proofs.exprs.+read_expr_read_list.Goals as goal
+
+pub read_expr-returns-then-parts-eq0 : goal.read_expr-returns-then-parts-eq0
+read_expr-returns-then-parts-eq0 t c = search laws.by_none
+
+pub read_expr-returns : goal.read_expr-returns
+read_expr-returns t c = search laws.by_parts
+
+pub read_list-returns-then-left-eq0 : goal.read_list-returns-then-left-eq0
+read_list-returns-then-left-eq0 t c = search laws.list_deep
+
+pub read_list-loop-k-init : goal.read_list-loop-k-init
+read_list-loop-k-init t c = (search rules, search laws.list_starts)
+
+pub read_list-loop-k-preserved-then-g-eq0 : goal.read_list-loop-k-preserved-then-g-eq0
+read_list-loop-k-preserved-then-g-eq0 t c = (search rules, search laws.list_leaf)
+
+pub read_list-loop-k-preserved : goal.read_list-loop-k-preserved
+read_list-loop-k-preserved t c = (search rules, search laws.list_next)
+
+pub read_list-returns : goal.read_list-returns
+read_list-returns t c = search laws.list_ends
