@@ -2,6 +2,8 @@
 // Offered: the figures of `layout`; of `bytes` `copy`, `count_up`, `four_at`, `eight_at` and `same_plain`; `colours::colour`, the colours of objects; of `number` `put`, a value in a block, and
 // `level_of`.
 // Not here: values (values), a new object (maker).
+#![tactic(auto)]
+
 pub mod layout; // the figures of blocks, objects and codes
 pub mod bytes; // runs of bytes compared; tables filled
 pub(crate) mod lift; // objects copied, with their codes turned

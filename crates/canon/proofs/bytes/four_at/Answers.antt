@@ -1,0 +1,38 @@
+-- The proof of `bytes::four_at`: four bytes as one number. By arithmetic.
+use Prim.Native.Nat.{◌+◌}
+use native.Mathlib.Omega.{arith}
+use mathlib.Core.Path.{refl}
+use Rattle.canon.proofs.bytes.four_at.Goals as goal
+
+pub overflow_cast-result : goal.overflow_cast-result
+overflow_cast-result c = omega (arith, c.type_inv.a c.args.p)
+
+pub overflow_cast-result-2 : goal.overflow_cast-result-2
+overflow_cast-result-2 c = omega (arith, c.type_inv.a (c.args.p + 1))
+
+pub overflow_mul-result : goal.overflow_mul-result
+overflow_mul-result c = omega (arith, c.type_inv.a (c.args.p + 1))
+
+pub overflow_add-result-2 : goal.overflow_add-result-2
+overflow_add-result-2 c = omega (arith, c.type_inv.a c.args.p, c.type_inv.a (c.args.p + 1))
+
+pub overflow_cast-result-3 : goal.overflow_cast-result-3
+overflow_cast-result-3 c = omega (arith, c.type_inv.a (c.args.p + 2))
+
+pub overflow_mul-result-2 : goal.overflow_mul-result-2
+overflow_mul-result-2 c = omega (arith, c.type_inv.a (c.args.p + 2))
+
+pub overflow_add-result-4 : goal.overflow_add-result-4
+overflow_add-result-4 c = omega (arith, c.type_inv.a c.args.p, c.type_inv.a (c.args.p + 1), c.type_inv.a (c.args.p + 2))
+
+pub overflow_cast-result-4 : goal.overflow_cast-result-4
+overflow_cast-result-4 c = omega (arith, c.type_inv.a (c.args.p + 3))
+
+pub overflow_mul-result-3 : goal.overflow_mul-result-3
+overflow_mul-result-3 c = omega (arith, c.type_inv.a (c.args.p + 3))
+
+pub overflow_add-result-6 : goal.overflow_add-result-6
+overflow_add-result-6 c = omega (arith, c.type_inv.a c.args.p, c.type_inv.a (c.args.p + 1), c.type_inv.a (c.args.p + 2), c.type_inv.a (c.args.p + 3))
+
+pub returns : goal.returns
+returns c = record { is = refl; low0 = omega (arith, c.type_inv.a c.args.p); low1 = omega (arith, c.type_inv.a (c.args.p + 1)); low2 = omega (arith, c.type_inv.a (c.args.p + 2)); low3 = omega (arith, c.type_inv.a (c.args.p + 3)) }
