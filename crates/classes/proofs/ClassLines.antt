@@ -2,7 +2,7 @@
 use Prim.Native.Nat.{ℕ, zero, suc, ◌+◌, ◌-◌, ◌*◌, ◌<◌, ◌≤◌, zero-le}
 use native.Mathlib.Omega.{arith}
 use native.Mathlib.Numerals.{add-one}
-use mathlib.Core.Path.{◌≡◌, refl, sym, ap, ap₂, ◌∙◌}
+use mathlib.Core.Path.{◌≡◌, refl, sym, ap, ap₂, ◌∙◌, subst}
 use mathlib.Core.Bool.{Bool, true, false, ◌&&◌, true≢false, false≢true}
 use mathlib.Core.List.{List, [], ◌∷◌, ◌++◌, append_assoc, append-nil}
 use lib.Dec.{eqb, leb, ltb}
@@ -256,6 +256,8 @@ module _ (n : ℕ) (S R : List ℕ) where
       let m = length-append cs (f.body ∷ []) in
       let ep = length-append P (length l ∷ l) in
       let ec : cs ++ (f.body ∷ bodies fs) ≡ (cs ++ (f.body ∷ [])) ++ bodies fs = sym (append_assoc cs (f.body ∷ []) (bodies fs)) in
-      rw (eall, ek)
+      subst
+      (λ (a : List Class). Ends (class_rules n k a (f ∷ fs)) (lines_placed put S (length (f ∷ fs)) at k (filled 0 0 cs [] [])) (at + length (packed (class_lines_of (f ∷ fs)))) (filled 0 0 a [] []))
+      (sym eall) (rw ek
       (class_step f fs at cs (λ c y B. lines_step S P l X at e1 ea put c y B) s (omega arith)
-      (λ s'. classes_walk fs (P ++ (length l ∷ l)) (at + 1 + length l) (suc (length cs) + 1) (cs ++ (f.body ∷ [])) (cs ++ (f.body ∷ bodies fs)) e2 (omega arith) (omega arith) ec s' (omega arith)))
+      (λ s'. classes_walk fs (P ++ (length l ∷ l)) (at + 1 + length l) (suc (length cs) + 1) (cs ++ (f.body ∷ [])) (cs ++ (f.body ∷ bodies fs)) e2 (omega arith) (omega arith) ec s' (omega arith))))

@@ -2,6 +2,8 @@
 // Offered: `ClassTable`; the figures of `places`; of `chain` `fit`, `field_total` and `field_type`; of `methods` `lookup`, `method_with` and a method's parts;
 // of `shape` `shape_at` with `Shape`, `is_field` and `byte_at`; `skip::skip_expr`; `build::place_table`; `overrides::overrides`.
 // Not here: reading a text into it, types of expressions, runs.
+#![tactic(auto)]
+
 pub mod places; // the figures of the layout
 pub mod chain; // class fit and the fields of a class
 pub mod methods; // where a method is found, and its parts

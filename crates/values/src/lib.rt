@@ -2,6 +2,8 @@
 // Offered: `ValueRef`; of `refs` `pack`, `unpack`, `select` with `Selected`, and `HIGH`; of `lockstep` `equal`, `alike` and `in_step`; of `value` `bring`, `close` and
 // `copy_block`; `report::report`.
 // Not here: objects in bytes and which of them are equal (canon), a new object (maker); which blocks are free: the caller names the block that a result goes to.
+#![tactic(auto)]
+
 pub mod refs; // references: at rest as numbers, of a code, selected from
 pub mod lockstep; // values compared
 pub(crate) mod bind; // a mark bound to an object

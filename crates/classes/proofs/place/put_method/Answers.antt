@@ -1,0 +1,6 @@
+-- The proof of `place::put_method`. Writes the row of method i. By the laws of PlaceLaws.
+use Rattle.classes.proofs.PlaceLaws as laws
+use Rattle.classes.proofs.place.put_method.Goals as goal
+
+pub returns : goal.returns
+returns c = search laws.method_put_lem
