@@ -1,7 +1,6 @@
 -- Answers handed on or turned into others, and the block after a value: one law for each return of `answer`, `again`, `out_of`, `stopped`, `halted`, `past`,
 -- `operand`, `refused`, `sum`, `difference`, `reckon`, `combine` and `pass_over`.
 -- Not here: what answers stand for (StepLaws, NumberLaws).
-use denote.Ref.{Bor}
 use Prim.Native.Nat.{ℕ, ◌+◌, ◌-◌, ◌<◌, ◌≤◌}
 use native.Mathlib.Omega.{arith}
 use mathlib.Core.Path.{◌≡◌, refl, sym, ap, ◌∙◌}
@@ -69,7 +68,7 @@ halted_halt w s e = rw e
 
 -- ---- the block after a value
 module _ (b : ℕ) (v : ValueRef) where
-  pub past_leaf : OneOf (1 ∷ 2 ∷ 3 ∷ []) (tag_of Bor.the_type v) → b ≡ past_of b v
+  pub past_leaf : ((i b : ℕ) → v ≡ Object i b → ⊥) → b ≡ past_of b v
   past_leaf h = no_object (λ (r : ValueRef). b ≡ past_of b r) (λ k. refl) (λ n. refl) refl v h
 
   module _ (i c : ℕ) (e : v ≡ Object i c) where
@@ -82,7 +81,7 @@ module _ (b : ℕ) (v : ValueRef) where
 -- ---- numbers
 module _ (o : Done) where
   module _ (v : ValueRef) (at : ℕ) (e : o ≡ Value v at) where
-    pub operand_other : OneOf (0 ∷ 1 ∷ 3 ∷ []) (tag_of Bor.the_type v) → operand.Halt Stuck ≡ operand_of o
+    pub operand_other : ((x : ℕ) → v ≡ Number x → ⊥) → operand.Halt Stuck ≡ operand_of o
     operand_other h = rw e (no_number (λ (r : ValueRef). operand.Halt Stuck ≡ operand_of (Value r at)) (λ i b. refl) (λ k. refl) refl v h)
 
     pub operand_number : (n : ℕ) → v ≡ Number n → operand.Number n at ≡ operand_of o

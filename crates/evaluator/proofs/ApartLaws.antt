@@ -1,6 +1,5 @@
 -- Values, arguments and open calls told apart before they are compared: one law for each return of `apart` and its parts, `args_apart` and `other_call`.
 -- Not here: calls compared (SameLaws).
-use denote.Ref.{Bor}
 use Prim.Native.Nat.{ℕ, zero, suc, ◌+◌, ◌*◌, ◌≤◌, ◌<◌, ◌%◌}
 use native.Mathlib.Omega.{arith}
 use native.Mathlib.Decide.{ℕ_discrete}
@@ -30,7 +29,7 @@ use Rattle.evaluator.proofs.SameLaws.{lists_differ, call_name, by_args, call_cou
 -- ---- values told apart
 module _ (w : ValueRef) where
   module _ (i b : ℕ) where
-    pub apart_leaf : OneOf (1 ∷ 2 ∷ 3 ∷ []) (tag_of Bor.the_type w) → false ≡ apart_of (Object i b) w
+    pub apart_leaf : ((i b : ℕ) → w ≡ Object i b → ⊥) → false ≡ apart_of (Object i b) w
     apart_leaf h = no_object (λ (r : ValueRef). false ≡ apart_of (Object i b) r) (λ k. refl) (λ n. refl) refl w h
 
     module _ (j c : ℕ) (ew : w ≡ Object j c) where
@@ -41,7 +40,7 @@ module _ (w : ValueRef) where
       apart_by h = rw (ew, eq-eqb b c h)
 
   module _ (x : ℕ) where
-    pub apart_none_other : OneOf (0 ∷ 1 ∷ 3 ∷ []) (tag_of Bor.the_type w) → false ≡ apart_of (Number x) w
+    pub apart_none_other : ((x : ℕ) → w ≡ Number x → ⊥) → false ≡ apart_of (Number x) w
     apart_none_other h = no_number (λ (r : ValueRef). false ≡ apart_of (Number x) r) (λ i b. refl) (λ k. refl) refl w h
 
     pub apart_number : (y : ℕ) → w ≡ Number y → not (eqb x y) ≡ apart_of (Number x) w

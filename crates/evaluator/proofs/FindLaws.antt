@@ -1,6 +1,5 @@
 -- The method that a call names, found in a table's bytes: one law for each return of `find`.
 -- Not here: the call itself (CallLaws, InvokeLaws).
-use denote.Ref.{Bor}
 use Prim.Native.Nat.{ℕ, ◌+◌, ◌*◌, ◌≤◌, ◌<◌}
 use native.Mathlib.Omega.{arith}
 use mathlib.Core.Path.{◌≡◌, refl, sym, ap, ◌∙◌, subst}
@@ -68,7 +67,7 @@ none_found t none e = Finds.nothing
 none_found t (some y) e = absurd (none-ne-some y (sym e))
 
 module _ (T W : List ℕ) (v : ValueRef) (m n : ℕ) where
-  pub find_none : OneOf (1 ∷ 2 ∷ 3 ∷ []) (tag_of Bor.the_type v) → FindsTarget T W v m n found.Nothing
+  pub find_none : ((i b : ℕ) → v ≡ Object i b → ⊥) → FindsTarget T W v m n found.Nothing
   find_none h = record { few = tt; is = λ t tb s. none_found t (target t (value_of W v) m n) (target_object t (value_of W v) m n no_class) }
     where
       no_class : class_of (value_of W v) ≡ none

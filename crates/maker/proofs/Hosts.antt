@@ -1,6 +1,5 @@
 -- Which block is the host, and what making asks once a block is written: the laws of `some_in`, `larger`, `largest`, and of each way to make.
 -- Not here: what trying a host answers (Tries).
-use denote.Ref.{Bor}
 use Prim.Native.Nat.{ℕ, zero, suc, ◌+◌, ◌-◌, ◌*◌, ◌<◌, ◌≤◌}
 use native.Mathlib.Omega.{arith}
 use mathlib.Core.Path.{◌≡◌, refl, sym, ap, ap₂, ◌∙◌, subst}
@@ -112,7 +111,7 @@ module _ (W : List ℕ) (ps : List Slot) (n d : ℕ) (held : PartsHeld W ps n) w
 
 -- ---- the block with the most objects
 module _ (W : List ℕ) (v : ValueRef) (b : ℕ) where
-  pub larger_leaf : OneOf (1 ∷ 2 ∷ 3 ∷ []) (tag_of Bor.the_type v) → b ≡ larger_of W v b
+  pub larger_leaf : ((i b : ℕ) → v ≡ Object i b → ⊥) → b ≡ larger_of W v b
   unfolding larger_of
   larger_leaf = no_object (λ x. b ≡ larger_of W x b) (λ k. refl) (λ n. refl) refl v
 

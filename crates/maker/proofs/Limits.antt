@@ -1,6 +1,5 @@
 -- The limit on objects: one law for each return of `fits` and of `make`, and that an object without fields is within every limit.
 -- Not here: how an object is made (Beside, Tries, Hosts).
-use denote.Ref.{Bor}
 use Prim.Native.Nat.{ℕ, zero, suc, ◌+◌, ◌*◌, ◌≤◌, ◌<◌}
 use native.Mathlib.Omega.{arith}
 use mathlib.Core.Path.{◌≡◌, refl, sym, ap, ◌∙◌, subst}
@@ -43,7 +42,7 @@ outside_none b W = record { same = refl; below = λ p h. refl; above = λ p h. r
 
 -- ---- whether a value has at most so many objects
 module _ (W : List ℕ) (objects : ℕ) (v : ValueRef) where
-  pub fits_leaf : OneOf (1 ∷ 2 ∷ 3 ∷ []) (tag_of Bor.the_type v) → FitsIn W v objects W true
+  pub fits_leaf : ((i b : ℕ) → v ≡ Object i b → ⊥) → FitsIn W v objects W true
   fits_leaf h =
       let e : true ≡ leb 0 objects = sym (le-leb 0 objects (omega arith)) in
       no_object (λ x. FitsIn W x objects W true) (λ k. record { is = e; outside = outside_none spare_block W }) (λ n. record { is = e; outside = outside_none spare_block W }) (record { is = e; outside = outside_none spare_block W }) v h

@@ -1,6 +1,5 @@
 -- Where the parts of a new object lie: the laws of `some_object`, `first_block`, `stands` and `together`.
 -- Not here: the host of several blocks (Hosts).
-use denote.Ref.{Bor}
 use Prim.Native.Nat.{ℕ, zero, suc, ◌+◌, ◌<◌, ◌≤◌}
 use native.Mathlib.Omega.{arith}
 use native.Mathlib.Decide.{ℕ_discrete}
@@ -29,7 +28,7 @@ module _ (ps : List Slot) (n i : ℕ) (h : i < n) (v : ValueRef) (ev : v ≡ par
   unfolding some_object is_object
   object_there x k e = sym (any_there (λ j. is_object (part_of ps j)) n i h (ap is_object (sym ev ∙ e)))
 
-  pub leaves_more : some_object ps i ≡ false → OneOf (1 ∷ 2 ∷ 3 ∷ []) (tag_of Bor.the_type v) → some_object ps (i + 1) ≡ false
+  pub leaves_more : some_object ps i ≡ false → ((i b : ℕ) → v ≡ Object i b → ⊥) → some_object ps (i + 1) ≡ false
   unfolding some_object is_object
   leaves_more a l = any_more (λ j. is_object (part_of ps j)) i a (ap is_object (sym ev) ∙ no_object (λ u. is_object u ≡ false) (λ k. refl) (λ x. refl) refl v l)
 
@@ -47,7 +46,7 @@ denied r a e q = sym e ∙ not_true r q
 
 -- ---- the first block other than 0
 module _ (v : ValueRef) where
-  pub block_leaf : OneOf (1 ∷ 2 ∷ 3 ∷ []) (tag_of Bor.the_type v) → 0 ≡ block_of v
+  pub block_leaf : ((i b : ℕ) → v ≡ Object i b → ⊥) → 0 ≡ block_of v
   unfolding block_of
   block_leaf = no_object (λ u. 0 ≡ block_of u) (λ k. refl) (λ x. refl) refl v
 

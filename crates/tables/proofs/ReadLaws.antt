@@ -4,29 +4,29 @@ use native.Mathlib.Omega.{arith}
 use mathlib.Core.Path.{◌≡◌, refl, sym, ap, ◌∙◌, subst}
 use mathlib.Core.Bool.{Bool, true, false, not}
 use mathlib.Core.List.{List, [], ◌∷◌, ◌++◌}
-use mathlib.Core.Option.{Option, none, some, none-ne-some}
+use mathlib.Core.Option.{Option, none, some}
 use lib.ListN.{length, get_or, take, replicate}
 use borrow.Author.Tests.{not-true, not-false}
 use Rattle.cofj.specs.Limits.{class_count, method_count}
 use Rattle.cofj.specs.Partial.{◌>>=◌, guard}
 use Rattle.cofj.specs.Syntax.{Table}
-use Rattle.cofj.specs.Text.{lines, lines_from}
+use Rattle.cofj.specs.Text.{lines}
 use Rattle.cofj.specs.Frames.{TextFrame, frames}
 use Rattle.cofj.specs.Tables.{Raw, ordered, few, table, overridden, overrides_good}
-use Rattle.cofj.specs.Reading.{Answer, refusal, read, ◌else◌next◌, read_text}
+use Rattle.cofj.specs.Reading.{read, ◌else◌next◌, read_text}
 use Rattle.cofj.proofs.Passed.{few_inv}
 use Rattle.cofj.proofs.TextRound.{Bytes, Lines, lines-bytes}
 use Rattle.lineform.specs.declared.lines.Decoded.{Decoded}
 use Rattle.lineform.specs.declared.lines.Decoded.TheVariants.{Packed as Filled, Refused}
 use Rattle.lineform.specs.declared.lines.Ordered.{Ordered}
 use Rattle.lineform.specs.declared.lines.Ordered.TheVariants.{Counts, Refused as NoOrder}
-use Rattle.lineform.specs.Packed.{packed, unpack, Packed, FramedLines}
+use Rattle.lineform.specs.Packed.{packed, unpack, FramedLines}
 use Rattle.lineform.specs.Answers.{Roomy, Decodes, is_some, Framing, counts_of, order_of}
 use Rattle.lineform.proofs.PackedLaws.{unpack-packed}
 use Rattle.lineform.proofs.Established.{decoded_lines, decoded_none, decoded_packed, good_framed}
 use Rattle.classes.specs.Layout.{layout}
 use Rattle.classes.specs.Placing.{Placed, placed}
-use Rattle.classes.specs.Made.{Lined, Zeros, Built, Overrides, answer}
+use Rattle.classes.specs.Made.{Zeros, Built, Overrides, answer}
 use Rattle.classes.proofs.TableLines.{zeros_new}
 use Rattle.tables.specs.declared.read.Reading.{Reading}
 use Rattle.tables.specs.Readings.{zero_table, no_table, the_table, after_overriding, after_table, after_order, after_frames, after_lines, answered, reading_of, Into, ByteLines, Counted}

@@ -1,13 +1,10 @@
 -- Laws of blocks: held by a reference, taken up, moved.
-use denote.Ref.{Bor}
 use Prim.Native.Nat.{ℕ, ◌+◌, ◌*◌, ◌<◌, ◌≤◌}
 use native.Mathlib.Omega.{arith}
 use mathlib.Core.Path.{◌≡◌, refl, sym, ap, ap₂, ◌∙◌, subst}
 use mathlib.Core.List.{List, [], ◌∷◌, map}
 use mathlib.Core.Option.{some}
 use lib.ListN.{length, get_or, take, get_elem?}
-use types.Run.{OneOf, miss}
-use denote.Enum.Declared.{tag_of}
 use Rattle.cofj.specs.Values.{Ref, obj, leaf, undet, Node, Graph, graph, rename_node, refs_at, colours}
 use Rattle.cofj.specs.Unfolding.{InRange, Whole}
 use Rattle.cofj.specs.ReportForm.{up_from}
@@ -23,7 +20,6 @@ use Rattle.values.specs.declared.ValueRef.{ValueRef}
 use Rattle.values.specs.declared.ValueRef.TheVariants.{Object, Mark, Number, Undetermined}
 use Rattle.values.specs.Layout.{Holds, HeldBy}
 use Rattle.values.specs.Operations.{Taken}
-use Rattle.values.specs.contracts.ValueRef as RefT
 
 -- ---- a reference that stands for an object
 module _ (W : List ℕ) (r : ValueRef) (b i : ℕ) (h : Holds W r) (e : r ≡ Object i b) where
@@ -41,29 +37,29 @@ pub inside_room : (W : List ℕ) (b i : ℕ) → Inside W b i → block_size * b
 inside_room W b i ob = omega (arith, ob.block.room, ob.block.small, ob.low)
 
 -- a reference that is of one of three variants
-pub no_object : (P : ValueRef → Type 0) → ((k : ℕ) → P (Mark k)) → ((n : ℕ) → P (Number n)) → P Undetermined → (r : ValueRef) → OneOf (1 ∷ 2 ∷ 3 ∷ []) (tag_of Bor.the_type r) → P r
-no_object P m n u (Object i b) h = absurd (miss (1 ∷ 2 ∷ 3 ∷ []) 0 tt h)
+pub no_object : (P : ValueRef → Type 0) → ((k : ℕ) → P (Mark k)) → ((n : ℕ) → P (Number n)) → P Undetermined → (r : ValueRef) → ((i b : ℕ) → r ≡ Object i b → ⊥) → P r
+no_object P m n u (Object i b) h = absurd (h i b refl)
 no_object P m n u (Mark k) h = m k
 no_object P m n u (Number x) h = n x
 no_object P m n u Undetermined h = u
 
-pub no_mark : (P : ValueRef → Type 0) → ((i b : ℕ) → P (Object i b)) → ((n : ℕ) → P (Number n)) → P Undetermined → (r : ValueRef) → OneOf (0 ∷ 2 ∷ 3 ∷ []) (tag_of Bor.the_type r) → P r
+pub no_mark : (P : ValueRef → Type 0) → ((i b : ℕ) → P (Object i b)) → ((n : ℕ) → P (Number n)) → P Undetermined → (r : ValueRef) → ((k : ℕ) → r ≡ Mark k → ⊥) → P r
 no_mark P o n u (Object i b) h = o i b
-no_mark P o n u (Mark k) h = absurd (miss (0 ∷ 2 ∷ 3 ∷ []) 1 tt h)
+no_mark P o n u (Mark k) h = absurd (h k refl)
 no_mark P o n u (Number x) h = n x
 no_mark P o n u Undetermined h = u
 
-pub no_number : (P : ValueRef → Type 0) → ((i b : ℕ) → P (Object i b)) → ((k : ℕ) → P (Mark k)) → P Undetermined → (r : ValueRef) → OneOf (0 ∷ 1 ∷ 3 ∷ []) (tag_of Bor.the_type r) → P r
+pub no_number : (P : ValueRef → Type 0) → ((i b : ℕ) → P (Object i b)) → ((k : ℕ) → P (Mark k)) → P Undetermined → (r : ValueRef) → ((x : ℕ) → r ≡ Number x → ⊥) → P r
 no_number P o m u (Object i b) h = o i b
 no_number P o m u (Mark k) h = m k
-no_number P o m u (Number x) h = absurd (miss (0 ∷ 1 ∷ 3 ∷ []) 2 tt h)
+no_number P o m u (Number x) h = absurd (h x refl)
 no_number P o m u Undetermined h = u
 
-pub no_undetermined : (P : ValueRef → Type 0) → ((i b : ℕ) → P (Object i b)) → ((k : ℕ) → P (Mark k)) → ((n : ℕ) → P (Number n)) → (r : ValueRef) → OneOf (0 ∷ 1 ∷ 2 ∷ []) (tag_of Bor.the_type r) → P r
+pub no_undetermined : (P : ValueRef → Type 0) → ((i b : ℕ) → P (Object i b)) → ((k : ℕ) → P (Mark k)) → ((n : ℕ) → P (Number n)) → (r : ValueRef) → (r ≡ Undetermined → ⊥) → P r
 no_undetermined P o m n (Object i b) h = o i b
 no_undetermined P o m n (Mark k) h = m k
 no_undetermined P o m n (Number x) h = n x
-no_undetermined P o m n Undetermined h = absurd (miss (0 ∷ 1 ∷ 2 ∷ []) 3 tt h)
+no_undetermined P o m n Undetermined h = absurd (h refl)
 
 -- ---- taken up
 pub taken : (W : List ℕ) (b : ℕ) (I R₀ R : List ℕ) → Filled (λ i. i) (get_or W (block_size * b + count_at) 0) I → Carried W (block_size * b) R₀ 0 (object_size * get_or W (block_size * b + count_at) 0) R

@@ -1,15 +1,12 @@
 -- Laws of values brought down and closed: one for each return of `bring` and `close`. Not here: the block copied (Copies), the mark bound (Bindings).
-use denote.Ref.{Bor}
 use Prim.Native.Nat.{ℕ, ◌+◌, ◌*◌, ◌≤◌}
 use native.Mathlib.Omega.{arith}
 use mathlib.Core.Path.{◌≡◌, refl, sym, ap, ◌∙◌}
 use mathlib.Core.Bool.{Bool, true, false}
-use mathlib.Core.List.{List, [], ◌∷◌}
+use mathlib.Core.List.{List, []}
 use lib.Dec.{eqb}
 use lib.ListN.{get_or}
 use borrow.Author.Tests.{eq-eqb, ne_eqb}
-use types.Run.{OneOf}
-use denote.Enum.Declared.{tag_of}
 use Rattle.cofj.specs.Values.{Ref, obj, leaf, mark, undet, Node, graph, canon, close, mark_of}
 use Rattle.canon.specs.Figures.{level_at, block_size}
 use Rattle.canon.specs.Layout.{Inside, objects_in, graph_at, level_in}
@@ -17,7 +14,6 @@ use Rattle.values.specs.declared.ValueRef.{ValueRef}
 use Rattle.values.specs.declared.ValueRef.TheVariants.{Object, Mark, Number, Undetermined}
 use Rattle.values.specs.Layout.{value_of, Holds, Low}
 use Rattle.values.specs.Operations.{Gives}
-use Rattle.values.specs.contracts.ValueRef as RefT
 use Rattle.values.proofs.Blocks.{held_inside, no_object, whole_at}
 use Rattle.values.proofs.Trees.{close-canon}
 use Rattle.values.proofs.Copies.{unbound}
@@ -28,7 +24,7 @@ module _ (W : List ℕ) (v : ValueRef) (dst : ℕ) (h : Holds W v) where
   stays : (u : ValueRef) → v ≡ u → Low (dst + 1) u → Gives W dst W u (value_of W v)
   stays u e l = record { held = rw e at h; is = ap (value_of W) (sym e); place = l; outside = unchanged dst W }
 
-  pub bring_leaf : OneOf (1 ∷ 2 ∷ 3 ∷ []) (tag_of Bor.the_type v) → Gives W dst W v (value_of W v)
+  pub bring_leaf : ((i b : ℕ) → v ≡ Object i b → ⊥) → Gives W dst W v (value_of W v)
   bring_leaf o = stays v refl (no_object (Low (dst + 1)) (λ k. tt) (λ n. tt) tt v o)
 
   pub bring_here : (b i : ℕ) → v ≡ Object i b → b ≤ dst → Gives W dst W (Object i b) (value_of W v)

@@ -5,8 +5,7 @@ use native.Mathlib.Omega.{arith}
 use native.Mathlib.Decide.{dec_lt, ℕ_discrete}
 use mathlib.Core.Path.{◌≡◌, refl, sym, ap, ◌∙◌, subst}
 use mathlib.Core.Bool.{Bool, false}
-use mathlib.Core.List.{List, []}
-use mathlib.Core.Option.{some}
+use mathlib.Core.List.{List}
 use lib.ListN.{length, get_or, set}
 use lib.Seq.{get_or-set_other}
 use Rattle.cofj.specs.Values.{Ref, obj, leaf, undet, refs_at}
@@ -14,7 +13,6 @@ use Rattle.cofj.specs.Unfolding.{follow, Same, InRange}
 use Rattle.cofj.proofs.Trees.{same_child}
 use Rattle.canon.specs.Figures.{object_size, head_size, code_count, numbers_at, first_leaf, capacity, block_size}
 use Rattle.canon.specs.Layout.{code_of, number_beside, number_at, Alike, alike_at, count_in, objects_in, Block, Inside}
-use Rattle.canon.proofs.Nodes as nodes
 use Rattle.canon.proofs.Nodes.{some_at, alike_no, object_low}
 use Rattle.canon.proofs.Zeros.{zeros-put}
 use Rattle.values.specs.Stepping.{After, after, step_code, CodeFits, Paired, AllSame, Grown, Linked, Pair, FieldsSoFar, ObjectStep}

@@ -15,7 +15,6 @@ use Rattle.cofj.specs.Unfolding.{object, follow, Same, InRange}
 use Rattle.canon.specs.Figures.{object_size, code_count, first_leaf, capacity, block_size}
 use Rattle.canon.specs.Layout.{code_of, number_beside, count_in, objects_in, Block}
 use Rattle.values.specs.Stepping.{Paired, Linked, Pair, Closed, PairsSoFar, ObjectStep, InStep}
-use Rattle.values.specs.contracts.ValueRef as RefT
 use Rattle.values.proofs.Trees.{in_larger, leaf_same}
 use Rattle.values.proofs.Objects.{cls_is, code_is, codes_refs, count_is, in_range, is_object_lem, leaf_range, number_is}
 

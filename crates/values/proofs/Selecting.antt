@@ -1,5 +1,4 @@
 -- Laws of selecting a field: one for each return of `select`. Not here: the value of a code (RefLaws).
-use denote.Ref.{Bor}
 use Prim.Native.Nat.{ℕ, zero, suc, ◌+◌, ◌*◌, ◌<◌, ◌≤◌}
 use native.Mathlib.Omega.{arith}
 use mathlib.Core.Path.{◌≡◌, refl, sym, ap, ◌∙◌}
@@ -7,8 +6,6 @@ use mathlib.Core.List.{List, [], ◌∷◌}
 use mathlib.Core.Option.{none, some}
 use lib.ListN.{length, get_or, take, get_elem?, length-take}
 use lib.Seq.{get_or-take}
-use types.Run.{OneOf}
-use denote.Enum.Declared.{tag_of}
 use Rattle.cofj.specs.Values.{Ref, leaf, undet, Node, graph, refs_at, canon, select, selected}
 use Rattle.cofj.specs.Limits.{number_count}
 use Rattle.cofj.specs.Unfolding.{Whole}
@@ -21,7 +18,6 @@ use Rattle.values.specs.declared.refs.Selected.TheVariants.{Value, Nothing}
 use Rattle.values.specs.Layout.{Holds}
 use Rattle.values.specs.Refs.{ref_from}
 use Rattle.values.specs.Operations.{Chosen}
-use Rattle.values.specs.contracts.ValueRef as RefT
 use Rattle.values.proofs.Blocks.{held_inside, inside_room, no_object, inner_in, whole_at}
 use Rattle.values.proofs.Trees.{select-canon}
 use Rattle.values.proofs.RefLaws.{from_low, from_held, from_value}
@@ -90,7 +86,7 @@ module _ (W : List ℕ) (b i f : ℕ) (ob : Inside W b i) where
 
 -- ---- by what a value is
 module _ (W : List ℕ) (v : ValueRef) (f : ℕ) where
-  pub select_leaf : OneOf (1 ∷ 2 ∷ 3 ∷ []) (tag_of Bor.the_type v) → Chosen W v f Nothing
+  pub select_leaf : ((i b : ℕ) → v ≡ Object i b → ⊥) → Chosen W v f Nothing
   unfolding select
   select_leaf = no_object (λ u. Chosen W u f Nothing) (λ k. record { held = tt; is = refl; place = λ sp q. tt }) (λ n. record { held = tt; is = refl; place = λ sp q. tt }) (record { held = tt; is = refl; place = λ sp q. tt }) v
 

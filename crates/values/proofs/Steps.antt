@@ -1,6 +1,5 @@
 -- Where comparing begins, and what it answers: one law for each return of `roots_in_step`, `same_trees` and `equal`.
 -- Not here: the queue gone over (Queues).
-use denote.Ref.{Bor}
 use Prim.Native.Nat.{ℕ, ◌+◌, ◌*◌, ◌<◌}
 use native.Mathlib.Omega.{arith}
 use native.Mathlib.Decide.{ℕ_discrete}
@@ -12,8 +11,6 @@ use lib.Dec.{eqb}
 use lib.ListN.{length, get_or, set, replicate, length-replicate}
 use lib.Seq.{get_or-set_other}
 use borrow.Author.Tests.{eq-eqb, ne_eqb}
-use types.Run.{OneOf}
-use denote.Enum.Declared.{tag_of}
 use Rattle.cofj.specs.Values.{obj, Node, Graph, canon, eq_ref, eq_node, eq_nodes, eq_graph, mark_of, number_of, undetermined}
 use Rattle.cofj.specs.Unfolding.{follow, Same}
 use Rattle.cofj.proofs.Basics.{true_both, eq_ref_refl, eq_node_refl}
@@ -27,7 +24,6 @@ use Rattle.values.specs.declared.ValueRef.{ValueRef}
 use Rattle.values.specs.declared.ValueRef.TheVariants.{Object, Mark, Number, Undetermined}
 use Rattle.values.specs.Layout.{value_of}
 use Rattle.values.specs.Stepping.{Paired, AllSame, InStep}
-use Rattle.values.specs.contracts.ValueRef as RefT
 use Rattle.values.proofs.Blocks.{no_object, no_mark, no_number, no_undetermined}
 use Rattle.values.proofs.Pairs.{put, pair_new, pairs_stay}
 use Rattle.values.proofs.Objects.{size, same_alike, whole_at}
@@ -136,19 +132,19 @@ module _ (W : List ℕ) (a b : ValueRef) where
   pub equal_objects : (x i y j : ℕ) (r : Bool) → a ≡ Object i x → b ≡ Object j y → r ≡ eq_graph (canon (graph_at W x i)) (canon (graph_at W y j)) → r ≡ eq_graph (value_of W a) (value_of W b)
   equal_objects x i y j r ea eb e = rw (ea, eb) e
 
-  pub object_other : (x i : ℕ) → a ≡ Object i x → OneOf (1 ∷ 2 ∷ 3 ∷ []) (tag_of Bor.the_type b) → false ≡ eq_graph (value_of W a) (value_of W b)
+  pub object_other : (x i : ℕ) → a ≡ Object i x → ((j y : ℕ) → b ≡ Object j y → ⊥) → false ≡ eq_graph (value_of W a) (value_of W b)
   unfolding eq_graph canon
   object_other x i ea = rw ea (no_object (λ u. false ≡ eq_graph (canon (graph_at W x i)) (value_of W u)) (λ k. refl) (λ n. refl) refl b)
 
-  pub mark_other : (k : ℕ) → a ≡ Mark k → OneOf (0 ∷ 2 ∷ 3 ∷ []) (tag_of Bor.the_type b) → false ≡ eq_graph (value_of W a) (value_of W b)
+  pub mark_other : (k : ℕ) → a ≡ Mark k → ((k : ℕ) → b ≡ Mark k → ⊥) → false ≡ eq_graph (value_of W a) (value_of W b)
   unfolding eq_graph canon
   mark_other k ea = rw ea (no_mark (λ u. false ≡ eq_graph (mark_of k) (value_of W u)) (λ i x. refl) (λ n. refl) refl b)
 
-  pub number_other : (n : ℕ) → a ≡ Number n → OneOf (0 ∷ 1 ∷ 3 ∷ []) (tag_of Bor.the_type b) → false ≡ eq_graph (value_of W a) (value_of W b)
+  pub number_other : (n : ℕ) → a ≡ Number n → ((x : ℕ) → b ≡ Number x → ⊥) → false ≡ eq_graph (value_of W a) (value_of W b)
   unfolding eq_graph canon
   number_other n ea = rw ea (no_number (λ u. false ≡ eq_graph (number_of n) (value_of W u)) (λ i x. refl) (λ k. refl) refl b)
 
-  pub undetermined_other : a ≡ Undetermined → OneOf (0 ∷ 1 ∷ 2 ∷ []) (tag_of Bor.the_type b) → false ≡ eq_graph (value_of W a) (value_of W b)
+  pub undetermined_other : a ≡ Undetermined → (b ≡ Undetermined → ⊥) → false ≡ eq_graph (value_of W a) (value_of W b)
   unfolding eq_graph canon
   undetermined_other ea = rw ea (no_undetermined (λ u. false ≡ eq_graph undetermined (value_of W u)) (λ i x. refl) (λ k. refl) (λ n. refl) b)
 

@@ -11,7 +11,7 @@ pub mod value; // values closed, moved
 pub mod report; // the report of a value
 
 // A value: an object's number and the block where it lies, the mark of an open call, a number, or undetermined.
-#[derive(Drop)]
+#[derive(Clone, Copy)]
 pub enum ValueRef {
     Object(u8, u16),
     Mark(u8),
