@@ -214,10 +214,12 @@ def turn(proof):
             e = re.match(r"\S+ κs a =\s*(.*)", eq, re.S)
             measures[name[2:]] = e.group(1) if e else eq
             continue
-        if re.search(r"-(at|below)\s*$|-claims$|_at$", name) and re.search(r"kinds\.ps|lts\.Claims|→ In ", m.group(2)):
+        if re.search(r"[-_](at|below)\s*$|-claims$", name) and re.search(r"kinds\.ps|lts\.Claims|→ In ", m.group(2)):
             continue
-        if name.startswith("invariant-") or name.startswith("decreases-"):
-            invariants.append((name, "\n".join(code[1:]), notes))
+        loop = re.match(r"(?:tie|[\w:\-+]+-lts)\.((?:invariant|decreases)-\S+)$", m.group(2).strip())
+        if loop:
+            owner = m.group(2).split(".")[0].replace("-lts", "")
+            invariants.append((name, loop.group(1), "" if owner == "tie" else flat(owner), "\n".join(code[1:]), notes))
             continue
         sig = code[0]
         k = 1
@@ -270,7 +272,8 @@ def turn(proof):
             todo.append((rec, args[3:], "t ", rec.d.get("stem", "")))
     for rec, args, tvar, stem in todo:
         needs = rec.d["needs"]
-        args = [a for a in args if not re.match(r"\(?(invariant|decreases)-", a)]
+        loops = {i[0] for i in invariants}
+        args = [a for a in args if re.sub(r"^\((\S+) t\)$", r"\1", a) not in loops]
         if len(args) != len(needs):
             notes_left.append("%d answers for %d goals" % (len(args), len(needs)))
             args = []
@@ -299,10 +302,12 @@ def turn(proof):
                 notes_left.append(new + ": " + n)
     # invariants
     inv_lines = []
-    for name, eq, notes in invariants:
-        kind, loop = name.split("-", 1)
+    for name, of, owner, eq, notes in invariants:
+        kind, loop = of.split("-", 1)
         hit = None
         for rec, _, _, stem in todo:
+            if owner and not flat(stem.rstrip("-")).endswith(owner):
+                continue
             for (old, new), variables in rec.d["loops"]:
                 if flat(old) == flat(loop) or flat(stem + old) == flat(loop):
                     hit = (stem + new, variables, rec.d["changed"][rec.d["loops"].index([[old, new], variables])])
@@ -322,12 +327,17 @@ def turn(proof):
     for fn, m in measures.items():
         function = flat(fn.split("::")[-1])
         module = rel.split("/")[0] if not rel.startswith("+") else fn.split("::")[0]
+        for _, _, _, stem in todo:
+            if "::" in stem and flat(stem.rstrip("-").split("::")[-1]) == function:
+                module = stem.split("::")[0]
         params = own_params(module, function)
         def arg(mm):
             k = mm.group(0).count(".1")
             return "l." + params[k] if k < len(params) else mm.group(0)
         m2 = re.sub(r"\ba(?:\.1)*\.0", arg, m)
-        rec_name = [r for r in recs]
+        for _, _, _, stem in todo:
+            if stem and flat(stem.rstrip("-").split("::")[-1]) == function:
+                function = stem.rstrip("-")
         inv_lines.append("abbrev pub decreases-%s : goal.decreases-%s\ndecreases-%s l = %s" % (function, function, function, m2))
     target = os.path.dirname(proof)
     module_path = "Rattle.%s.proofs.%s" % (crate, rel.replace("/", "."))

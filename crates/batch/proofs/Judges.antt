@@ -159,7 +159,7 @@ module _ (T W : List ℕ) (i : ℕ) (o : Inside W 0 i) where
   pub fields_none : FieldsHeld T W i 0
   fields_none = record { at = λ t h f w r l. absurd (omega arith) }
 
-  pub fields_more : (f : ℕ) (b : Bool) → FieldsHeld T W i f → FieldTest T W (get_or W (object_size * i) 0) f (get_or W (object_size * i + head_size + f) 0) b → not b ≡ false → FieldsHeld T W i (f + 1)
+  pub fields_more : (f : ℕ) (b : Bool) → FieldsHeld T W i f → FieldTest T W (get_or W (object_size * i) 0) f (get_or W (object_size * i + head_size + f) 0) b → b ≡ true → FieldsHeld T W i (f + 1)
   fields_more f b h k e =
       record { at = λ t m g w r l p q. go t m g w r p q (eqb g f) refl l }
     where
@@ -167,7 +167,7 @@ module _ (T W : List ℕ) (i : ℕ) (o : Inside W 0 i) where
           → (x : Bool) → eqb g f ≡ x → g < f + 1 → holds t.classes (objects_in W 0) w r ≡ true
       go t m g w r p q true z l =
           let y = eqb-true g f z in
-          sym (field_says t m f b k w r (subst (λ (j : ℕ). get_elem? (fields_of t.classes (node_at (objects_in W 0) i).cls) j ≡ some w) y p) (subst (λ (j : ℕ). get_elem? (refs_at (objects_in W 0) i) j ≡ some r) y q)) ∙ not-false b e
+          sym (field_says t m f b k w r (subst (λ (j : ℕ). get_elem? (fields_of t.classes (node_at (objects_in W 0) i).cls) j ≡ some w) y p) (subst (λ (j : ℕ). get_elem? (refs_at (objects_in W 0) i) j ≡ some r) y q)) ∙ e
       go t m g w r p q false z l = let y = eqb-false g f z in h.at t m g w r (omega arith) p q
 
   pub object_not : (f : ℕ) (b : Bool) → f < get_or W (object_size * i + 1) 0 → FieldTest T W (get_or W (object_size * i) 0) f (get_or W (object_size * i + head_size + f) 0) b → not b ≡ true → ObjectTest T W i false

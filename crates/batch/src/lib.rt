@@ -2,6 +2,8 @@
 // hold them (15).
 // Offered: `input::read_input`, with `Input`.
 // Not here: which main is given a value (engine), what a line is (lineform), classes and their fields (classes), a block's canonical order (canon).
+#![tactic(auto)]
+
 pub(crate) mod layout; // how parts lie in bytes
 pub(crate) mod lines; // a text's lines, read into parts
 pub(crate) mod reach; // the parts that part 0 leads to

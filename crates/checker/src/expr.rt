@@ -21,7 +21,7 @@ use lineform::sign::{CALL, FIELD, NEW, PARAMETER, RES, THIS, is_variable, past_s
 const PARTS_NESTING: usize = 5;
 
 // The type of the expression at `at`, nested at most `left` deep.
-#[cycle(type_args_type_call_type_expr_type_field_type_new_type_parts_type_values_branches_by_sign_choose_combine_operand)]
+#[cycle(typing)]
 pub(crate) fn type_expr(t: &[u8; SIZE], scope: Scope, at: usize, left: usize) -> Typed
     ensures { result ≡ type_in t.now left scope at }
 {
@@ -71,7 +71,7 @@ pub(crate) fn type_var(t: &[u8; SIZE], scope: Scope, b: u8, at: usize) -> Typed
 }
 
 // The expression with parts at `at`, whose first byte is b. The parts are nested at most `left` deep.
-#[cycle(type_args_type_call_type_expr_type_field_type_new_type_parts_type_values_branches_by_sign_choose_combine_operand)]
+#[cycle(typing)]
 pub(crate) fn type_parts(t: &[u8; SIZE], scope: Scope, b: u8, at: usize, left: usize) -> Typed
     requires { at < table_size }
     ensures { result ≡ parts_by t.now (type_in t.now left scope) scope.main b at }
@@ -91,7 +91,7 @@ pub(crate) fn type_parts(t: &[u8; SIZE], scope: Scope, b: u8, at: usize, left: u
 }
 
 // Field f of the expression at `at`.
-#[cycle(type_args_type_call_type_expr_type_field_type_new_type_parts_type_values_branches_by_sign_choose_combine_operand)]
+#[cycle(typing)]
 pub(crate) fn type_field(t: &[u8; SIZE], scope: Scope, f: u8, at: usize, left: usize) -> Typed
     ensures { result ≡ field_by t.now (type_in t.now left scope) f at }
 {
@@ -106,7 +106,7 @@ pub(crate) fn type_field(t: &[u8; SIZE], scope: Scope, f: u8, at: usize, left: u
 }
 
 // Call of m with n arguments: the receiver at `at`, then the arguments.
-#[cycle(type_args_type_call_type_expr_type_field_type_new_type_parts_type_values_branches_by_sign_choose_combine_operand)]
+#[cycle(typing)]
 pub(crate) fn type_call(t: &[u8; SIZE], scope: Scope, m: u8, n: u8, at: usize, left: usize) -> Typed
     ensures { result ≡ call_by t.now (type_in t.now left scope) scope.main m n at }
 {
@@ -122,7 +122,7 @@ pub(crate) fn type_call(t: &[u8; SIZE], scope: Scope, m: u8, n: u8, at: usize, l
 }
 
 // The n arguments of a call of method i: each has a closed tag and fits its parameter.
-#[cycle(type_args_type_call_type_expr_type_field_type_new_type_parts_type_values_branches_by_sign_choose_combine_operand)]
+#[cycle(typing)]
 pub(crate) fn type_args(t: &[u8; SIZE], scope: Scope, i: u8, n: u8, at: usize, left: usize) -> Typed
     ensures { result ≡ args_by t.now (type_in t.now left scope) scope.main i n at }
 {
@@ -145,7 +145,7 @@ pub(crate) fn type_args(t: &[u8; SIZE], scope: Scope, i: u8, n: u8, at: usize, l
 }
 
 // A new object of class c with n values.
-#[cycle(type_args_type_call_type_expr_type_field_type_new_type_parts_type_values_branches_by_sign_choose_combine_operand)]
+#[cycle(typing)]
 pub(crate) fn type_new(t: &[u8; SIZE], scope: Scope, c: u8, n: u8, at: usize, left: usize) -> Typed
     ensures { result ≡ new_by t.now (type_in t.now left scope) c n at }
 {
@@ -169,7 +169,7 @@ fn stays_closed(closed: bool, tag: u8) -> bool
 }
 
 // The n values of a new object of class c: each fits its field, an open tag read as 0. The object is open if a value is.
-#[cycle(type_args_type_call_type_expr_type_field_type_new_type_parts_type_values_branches_by_sign_choose_combine_operand)]
+#[cycle(typing)]
 pub(crate) fn type_values(
     t: &[u8; SIZE],
     scope: Scope,

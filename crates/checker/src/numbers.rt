@@ -11,7 +11,7 @@ use classes::places::{NUMBER_CLASS, SIZE};
 use lineform::sign::{CHOOSE, DIFFERENCE, NUMBER, SUM, past_sign};
 
 // The expression of numbers at `at`, whose first byte is b.
-#[cycle(type_args_type_call_type_expr_type_field_type_new_type_parts_type_values_branches_by_sign_choose_combine_operand)]
+#[cycle(typing)]
 pub(crate) fn by_sign(t: &[u8; SIZE], scope: Scope, b: u8, at: usize, left: usize) -> Typed
     requires { at < table_size }
     ensures { result ≡ numbers_by t.now (type_in t.now left scope) b at }
@@ -32,7 +32,7 @@ pub(crate) fn by_sign(t: &[u8; SIZE], scope: Scope, b: u8, at: usize, left: usiz
 }
 
 // The operand at `at`: a number, of tag 0.
-#[cycle(type_args_type_call_type_expr_type_field_type_new_type_parts_type_values_branches_by_sign_choose_combine_operand)]
+#[cycle(typing)]
 pub(crate) fn operand(t: &[u8; SIZE], scope: Scope, at: usize, left: usize) -> Typed
     ensures { result ≡ operand_by (type_in t.now left scope) at }
 {
@@ -47,7 +47,7 @@ pub(crate) fn operand(t: &[u8; SIZE], scope: Scope, at: usize, left: usize) -> T
 }
 
 // The two operands of a sum or a difference.
-#[cycle(type_args_type_call_type_expr_type_field_type_new_type_parts_type_values_branches_by_sign_choose_combine_operand)]
+#[cycle(typing)]
 pub(crate) fn combine(t: &[u8; SIZE], scope: Scope, at: usize, left: usize) -> Typed
     ensures { result ≡ combine_by (type_in t.now left scope) at }
 {
@@ -59,7 +59,7 @@ pub(crate) fn combine(t: &[u8; SIZE], scope: Scope, at: usize, left: usize) -> T
 }
 
 // A choice: what is asked at `at`, then the branches.
-#[cycle(type_args_type_call_type_expr_type_field_type_new_type_parts_type_values_branches_by_sign_choose_combine_operand)]
+#[cycle(typing)]
 pub(crate) fn choose(t: &[u8; SIZE], scope: Scope, at: usize, left: usize) -> Typed
     ensures { result ≡ choose_by t.now (type_in t.now left scope) at }
 {
@@ -71,7 +71,7 @@ pub(crate) fn choose(t: &[u8; SIZE], scope: Scope, at: usize, left: usize) -> Ty
 }
 
 // Two branches: their types fit one way, and the wider is the type.
-#[cycle(type_args_type_call_type_expr_type_field_type_new_type_parts_type_values_branches_by_sign_choose_combine_operand)]
+#[cycle(typing)]
 pub(crate) fn branches(t: &[u8; SIZE], scope: Scope, at: usize, left: usize) -> Typed
     ensures { result ≡ branches_by t.now (type_in t.now left scope) at }
 {

@@ -15,14 +15,14 @@ pub(crate) enum Typed {
 }
 
 // The class of the left type, which res has on the right side.
-#[derive(Drop)]
+#[derive(Clone, Copy)]
 pub(crate) enum Res {
     Absent,
     Class(u8),
 }
 
 // Where an expression stands: in main, or in a body of a method.
-#[derive(Drop)]
+#[derive(Clone, Copy)]
 pub(crate) struct Scope {
     pub main: bool,
     pub method: u8,

@@ -7,7 +7,7 @@ ghost use Rattle.classes.specs.Machine.{Stored, up, total_of, fits_of, field_of,
 use crate::places::{CLASSES, ROW, SIZE};
 
 // A type: a class number and a tag.
-#[derive(Drop)]
+#[derive(Clone, Copy)]
 pub struct FieldType {
     pub class: u8,
     pub tag: u8,

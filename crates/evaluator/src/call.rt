@@ -22,7 +22,7 @@ use values::value::{bring, close};
 
 // The call of m with n arguments: the receiver at a spot, then the arguments, if there are any. In one function, since the compiler leaves one for the arguments
 // outside, which costs calls with arguments a seventh (docs/SPEED.md).
-#[cycle(eval_call_invoke_run_left_run_right_eval_eval_field_eval_item_eval_list_eval_new_eval_choose_eval_combine_eval_number)]
+#[cycle(evaluation)]
 pub(crate) fn eval_call(
     t: &[u8; SIZE],
     work: &mut [u8],
@@ -59,7 +59,7 @@ pub(crate) fn eval_call(
 }
 
 // Method i, which has the name m and this owner, called on v with the n arguments at rest in vs; the spot is after the call.
-#[cycle(eval_call_invoke_run_left_run_right_eval_eval_field_eval_item_eval_list_eval_new_eval_choose_eval_combine_eval_number)]
+#[cycle(evaluation)]
 pub(crate) fn invoke(
     t: &[u8; SIZE],
     work: &mut [u8],
@@ -107,7 +107,7 @@ pub(crate) fn left_spot(t: &[u8; SIZE], i: u8, p: Spot) -> Spot
 }
 
 // The right side of method i, which this class owns, with res the mark of the open call.
-#[cycle(eval_call_invoke_run_left_run_right_eval_eval_field_eval_item_eval_list_eval_new_eval_choose_eval_combine_eval_number)]
+#[cycle(evaluation)]
 pub(crate) fn run_right(
     t: &[u8; SIZE],
     work: &mut [u8],
@@ -132,7 +132,7 @@ pub(crate) fn run_right(
 }
 
 // The left side of method i, which this class owns and which has the name m, under a fresh mark.
-#[cycle(eval_call_invoke_run_left_run_right_eval_eval_field_eval_item_eval_list_eval_new_eval_choose_eval_combine_eval_number)]
+#[cycle(evaluation)]
 pub(crate) fn run_left(
     t: &[u8; SIZE],
     work: &mut [u8],

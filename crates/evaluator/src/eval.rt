@@ -50,7 +50,7 @@ pub(crate) fn again(o: Done) -> Done
 }
 
 // The expression at a spot. What is made of numbers, in a function of its own: that costs calls less.
-#[cycle(eval_call_invoke_run_left_run_right_eval_eval_field_eval_item_eval_list_eval_new_eval_choose_eval_combine_eval_number)]
+#[cycle(evaluation)]
 pub(crate) fn eval(
     t: &[u8; SIZE],
     work: &mut [u8],
@@ -78,7 +78,7 @@ pub(crate) fn eval(
 
 // The same for an item of a list: variables, numbers, fields and new objects, which most are, at once. With one caller, which the compiler takes it into, it
 // saves a quarter to three tenths of building a list (docs/SPEED.md).
-#[cycle(eval_call_invoke_run_left_run_right_eval_eval_field_eval_item_eval_list_eval_new_eval_choose_eval_combine_eval_number)]
+#[cycle(evaluation)]
 pub(crate) fn eval_item(
     t: &[u8; SIZE],
     work: &mut [u8],
@@ -110,7 +110,7 @@ pub(crate) fn eval_item(
 }
 
 // Field k of the expression at a spot. Where that is a field too, the fields are selected one after another, from the innermost out.
-#[cycle(eval_call_invoke_run_left_run_right_eval_eval_field_eval_item_eval_list_eval_new_eval_choose_eval_combine_eval_number)]
+#[cycle(evaluation)]
 pub(crate) fn eval_field(
     t: &[u8; SIZE],
     work: &mut [u8],
@@ -180,7 +180,7 @@ pub(crate) fn halted(w: Walked) -> Done
 }
 
 // The n expressions at a spot, each at the block after that of the one before; their values, at rest, to the front of vs.
-#[cycle(eval_call_invoke_run_left_run_right_eval_eval_field_eval_item_eval_list_eval_new_eval_choose_eval_combine_eval_number)]
+#[cycle(evaluation)]
 pub(crate) fn eval_list(
     t: &[u8; SIZE],
     work: &mut [u8],
@@ -231,7 +231,7 @@ pub(crate) fn finish(
 }
 
 // A new object of class c with the values of the n expressions at a spot.
-#[cycle(eval_call_invoke_run_left_run_right_eval_eval_field_eval_item_eval_list_eval_new_eval_choose_eval_combine_eval_number)]
+#[cycle(evaluation)]
 pub(crate) fn eval_new(
     t: &[u8; SIZE],
     work: &mut [u8],

@@ -1,6 +1,8 @@
 // Running a program from its class table's bytes, with values in blocks of the work buffer.
 // Offered: `report::run_report`, a run of main and its report, with `Reported`.
 // Not here: the table (classes), what is done with values (values, maker), what a call answers (engine).
+#![tactic(auto)]
+
 pub mod frame; // frames: what the variables of a body hold
 pub mod spot; // where an evaluation stands
 pub mod trace; // the open calls and the fuel left

@@ -103,7 +103,7 @@ pub(crate) fn combine(o: Operation, x: u16, second: Done) -> Done
 }
 
 // The sum or difference of the two expressions at a spot.
-#[cycle(eval_call_invoke_run_left_run_right_eval_eval_field_eval_item_eval_list_eval_new_eval_choose_eval_combine_eval_number)]
+#[cycle(evaluation)]
 pub(crate) fn eval_combine(
     t: &[u8; SIZE],
     work: &mut [u8],
@@ -133,7 +133,7 @@ pub(crate) fn pass_over(t: &[u8; SIZE], o: Done) -> Done
 }
 
 // The choice at a spot: a number, the branch for any but 0, the branch for 0. The other branch is passed over.
-#[cycle(eval_call_invoke_run_left_run_right_eval_eval_field_eval_item_eval_list_eval_new_eval_choose_eval_combine_eval_number)]
+#[cycle(evaluation)]
 pub(crate) fn eval_choose(
     t: &[u8; SIZE],
     work: &mut [u8],
@@ -156,7 +156,7 @@ pub(crate) fn eval_choose(
 }
 
 // The expression at a spot, where s stands: made of numbers, or none that is known.
-#[cycle(eval_call_invoke_run_left_run_right_eval_eval_field_eval_item_eval_list_eval_new_eval_choose_eval_combine_eval_number)]
+#[cycle(evaluation)]
 pub(crate) fn eval_number(
     t: &[u8; SIZE],
     work: &mut [u8],

@@ -5,7 +5,7 @@ ghost use Rattle.evaluator.specs.Spots.{inner_spot, moved_spot, down_spot, body_
 
 // The place of the expression, the block that its value goes to, the nesting left, how many calls may still be opened, how many left-side calls are
 // open, and how many objects a value may have. Eight bytes go in a register.
-#[derive(Drop)]
+#[derive(Clone, Copy)]
 pub struct Spot {
     pub at: u16,
     pub block: u16,

@@ -9,7 +9,7 @@ use values::ValueRef;
 use values::refs::{pack, unpack};
 
 // An open call: its receiver, its name, its first n arguments, and what meeting it again gives.
-#[derive(Drop)]
+#[derive(Clone, Copy)]
 pub struct OpenCall {
     pub receiver: ValueRef,
     pub name: u8,

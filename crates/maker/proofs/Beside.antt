@@ -13,7 +13,7 @@ use borrow.Author.Tests.{eqb-true}
 use Rattle.cofj.specs.Values.{Ref, obj, leaf, mark, undet, num, Node, node, Graph, graph, node_at, refs_at, canon, make}
 use Rattle.cofj.specs.Unfolding.{InRange, follow}
 use Rattle.canon.specs.Figures.{object_size, head_size, code_count, first_leaf, first_mark, capacity, count_at, level_at, block_size}
-use Rattle.canon.specs.Layout.{node_in, nodes_in, Packed, part, Distinct, Block, Inside, objects_in, graph_at, count_in, level_in, Outside, ended}
+use Rattle.canon.specs.Layout.{node_in, nodes_in, Packed, Distinct, Block, Inside, objects_in, graph_at, count_in, level_in, Outside, ended}
 use Rattle.canon.specs.Tables.{Carried}
 use Rattle.canon.proofs.Nodes.{field_low, code_low, ended_size, ended_below, ended-above, ended-count, ended_level, ended_reach, length_nodes, at_nodes, more_nodes, nodes_same, node_same, packed_same}
 use Rattle.values.specs.declared.ValueRef.{ValueRef}
@@ -34,7 +34,7 @@ use Rattle.maker.specs.Adding.{codes_of, object_of, roots, RootObject, RootCodes
 use Rattle.maker.proofs.Codes.{object_code, unused_level}
 use Rattle.maker.proofs.Finds.{root_none, numbers_none, root_packed, root_object}
 use Rattle.maker.proofs.Makes.{raws_whole, made_raw, made_here, made_brought}
-use Rattle.maker.proofs.Adding.{more, inner_more, distinct_more, Fit, AllFit, roots_low, top, make_found, make_new}
+use Rattle.maker.proofs.Adding.{more, inner_more, distinct_more, Fit, AllFit, roots_low, make_found, make_new}
 use Rattle.maker.proofs.Wheres.{leaves_none, stands_at}
 
 -- ---- the values of the parts, among the objects

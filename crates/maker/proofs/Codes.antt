@@ -4,7 +4,6 @@ use Prim.Native.Nat.{ℕ, zero, suc, ◌+◌, ◌-◌, ◌*◌, ◌/◌, ◌%◌
 use native.Mathlib.Omega.{arith}
 use native.Mathlib.Decide.{dec_lt}
 use mathlib.Core.Path.{◌≡◌, refl, ap, ap₂, ◌∙◌, subst}
-use mathlib.Core.List.{[]}
 use lib.ListN.{length, get_or}
 use Rattle.canon.specs.Figures.{object_size, code_count, numbers_at, undetermined_code, number_code, first_mark, three_bytes, four_bytes}
 use Rattle.canon.specs.Layout.{number_at, ref_of, ref_in, Packed, part}

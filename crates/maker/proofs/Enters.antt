@@ -8,11 +8,11 @@ use mathlib.Core.Bool.{Bool, true, false, cond, false≢true}
 use lib.Dec.{ltb}
 use mathlib.Core.List.{List}
 use mathlib.Core.Logic.{◌⊎◌, inl, inr}
-use mathlib.Core.Option.{none, some}
+use mathlib.Core.Option.{some}
 use lib.ListN.{length, get_or, get_elem?}
 use borrow.Author.Tests.{lt-ltb, le-ltb, ltb-true}
 use Rattle.cofj.specs.Values.{Ref, Node, node_at, refs_at}
-use Rattle.cofj.specs.Unfolding.{object, follow, Same, InRange}
+use Rattle.cofj.specs.Unfolding.{follow, Same, InRange}
 use Rattle.canon.specs.Figures.{object_size, head_size, code_count, first_leaf, capacity, count_at, level_at, reach_at, block_size, three_bytes}
 use Rattle.canon.specs.Layout.{node_in, nodes_in, count_in, level_in, reach_in, objects_in, Block, Inside, Outside}
 use Rattle.canon.proofs.Nodes.{byte_of, packed_byte, length_nodes, at_nodes}

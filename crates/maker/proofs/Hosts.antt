@@ -21,11 +21,9 @@ use Rattle.values.specs.declared.ValueRef.TheVariants.{Object, Mark, Number, Und
 use Rattle.values.specs.Layout.{Holds, Low, lies_in}
 use Rattle.values.specs.Tests.{any}
 use Rattle.values.specs.Operations.{Copied}
-use Rattle.values.specs.contracts.ValueRef as RefT
 use Rattle.values.proofs.Tests.{any_there, any_not}
 use Rattle.values.proofs.Blocks.{held_room, no_object, size_in}
 use Rattle.values.proofs.Copies.{block_moves}
-use Rattle.values.proofs.Selecting.{under}
 use Rattle.values.proofs.Kept.{Kept, kept}
 use Rattle.maker.specs.declared.Slot.{Slot}
 use Rattle.maker.specs.declared.Made.{Made}

@@ -3,7 +3,7 @@
 use Prim.Native.Nat.{ℕ, ◌+◌, ◌-◌, ◌*◌, ◌≤◌, ◌<◌}
 use native.Mathlib.Omega.{arith}
 use mathlib.Core.Path.{◌≡◌, refl, sym, ◌∙◌, subst}
-use mathlib.Core.Bool.{Bool, true, false, not, false≢true}
+use mathlib.Core.Bool.{Bool, true, false, false≢true}
 use mathlib.Core.List.{List}
 use mathlib.Core.Logic.{⊎_elim}
 use lib.ListN.{get_or, replicate, length-replicate}
@@ -12,7 +12,6 @@ use Rattle.cofj.specs.Unfolding.{InRange}
 use Rattle.canon.specs.Figures.{code_count, first_leaf, capacity, count_at, block_size}
 use Rattle.canon.specs.Layout.{count_in, objects_in, graph_at, Block, Inside}
 use Rattle.canon.proofs.Nodes.{ref_object}
-use Rattle.values.proofs.Tests.{not_false}
 use Rattle.values.proofs.Blocks.{size_in}
 use Rattle.maker.specs.Figures.{no_room}
 use Rattle.maker.specs.Crowds.{In, BlockIn, Crowd}
@@ -23,10 +22,6 @@ use Rattle.maker.specs.Joining.{Joining, Joined}
 use Rattle.canon.proofs.Zeros.{zero_at}
 use Rattle.maker.proofs.Crowds.{in_same, in_within, crowd_joined}
 use Rattle.maker.proofs.Enters.{grown_none}
-
-not_true : (b : Bool) → not b ≡ true → b ≡ false
-not_true true e = absurd (false≢true e)
-not_true false e = refl
 
 -- ---- the same number
 module _ (W : List ℕ) (src i host : ℕ) (T : List ℕ) where
@@ -90,22 +85,22 @@ module _ (W : List ℕ) (src i host : ℕ) (ib : Inside W src i) (bk : Block W h
           (λ k l hk lk hl ll z. o.one k l hk lk hl ll
           (ib.block.distinct.apart (o.from k) (o.from l) (omega (arith, o.low k hk lk, size_in W src ib.block)) (omega (arith, o.low l hl ll, size_in W src ib.block)) z))
 
-      pub bring_full : not r ≡ true → Imported W src i host W' no_room
-      bring_full e = record { grown = j.grown; like = λ d. absurd (d refl); stand = λ d. absurd (d refl); over = λ _. too_many (not_true r e) }
+      pub bring_full : r ≡ false → Imported W src i host W' no_room
+      bring_full e = record { grown = j.grown; like = λ d. absurd (d refl); stand = λ d. absurd (d refl); over = λ _. too_many e }
 
-      module _ (e : not r ≡ false) where
+      module _ (e : r ≡ true) where
         here : (get_or T' i 0 ≡ 0) → ⊥
-        here = j.told (not_false r e) i (subst (Decided T F) rc.root.2 (s.above rc.root.0 (omega arith) rc.root.1))
+        here = j.told e i (subst (Decided T F) rc.root.2 (s.above rc.root.0 (omega arith) rc.root.1))
 
         pub bring_some : 1 ≤ get_or T' i 0
         bring_some = omega (arith, here)
 
         is : CodeAs W' src i host (get_or T' i 0 - 1)
-        is = (j.mapped (not_false r e)).each i (get_or T' i 0 - 1) (omega (arith, here))
+        is = (j.mapped e).each i (get_or T' i 0 - 1) (omega (arith, here))
 
         stand : (g : Graph) → BlockIn W host g → In (objects_in W src) i g → BlockIn W' host g
         stand g old at y h = ⊎_elim (λ l. in_same g (objects_in W host) (objects_in W' host) y y (old y l) (j.grown.trees (obj y) l))
-            (λ n. in_same g (objects_in W src) (objects_in W' host) n.0 y (led g at n.0 n.1) n.2) (j.from (not_false r e) y h)
+            (λ n. in_same g (objects_in W src) (objects_in W' host) n.0 y (led g at n.0 n.1) n.2) (j.from e y h)
 
         pub bring_done : Imported W src i host W' (get_or T' i 0 - 1)
         bring_done = record { grown = j.grown; like = λ _. is; stand = λ _. stand; over = λ z. absurd (no_room_lem W' src i host (get_or T' i 0 - 1) j.grown.block is z) }

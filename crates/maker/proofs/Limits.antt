@@ -9,8 +9,6 @@ use mathlib.Core.Option.{some, none, none-ne-some}
 use lib.Dec.{leb}
 use lib.ListN.{length, get_or, get_elem?}
 use borrow.Author.Tests.{le-leb, lt-leb, leb-false, ne_eqb, eqb-false}
-use types.Run.{OneOf}
-use denote.Enum.Declared.{tag_of}
 use Rattle.cofj.specs.Values.{Ref, obj, node, Graph, graph, refs_at, make, lay, canon}
 use Rattle.cofj.specs.Unfolding.{follow, Whole, InRange}
 use Rattle.cofj.proofs.Canon.{canon_same, canon-whole, canon-length}
@@ -21,7 +19,6 @@ use Rattle.canon.proofs.Nodes.{ref_object}
 use Rattle.values.specs.declared.ValueRef.{ValueRef}
 use Rattle.values.specs.declared.ValueRef.TheVariants.{Object, Mark, Number, Undetermined}
 use Rattle.values.specs.Layout.{value_of, Holds, Low, lies_in}
-use Rattle.values.specs.contracts.ValueRef as RefT
 use Rattle.values.proofs.Blocks.{no_object, size_in, whole_at}
 use Rattle.values.proofs.Kept.{Kept, kept}
 use Rattle.maker.specs.declared.Made.{Made}

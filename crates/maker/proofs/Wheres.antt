@@ -5,19 +5,16 @@ use native.Mathlib.Omega.{arith}
 use native.Mathlib.Decide.{ℕ_discrete}
 use mathlib.Core.Path.{◌≡◌, refl, sym, ap, ◌∙◌, subst}
 use mathlib.Core.Bool.{Bool, true, false, not}
-use mathlib.Core.List.{List, [], ◌∷◌}
+use mathlib.Core.List.{List}
 use lib.Dec.{eqb}
 use borrow.Author.Tests.{eq-eqb, ne_eqb}
-use types.Run.{OneOf}
-use denote.Enum.Declared.{tag_of}
-use Rattle.canon.specs.Layout.{part, Block}
+use Rattle.canon.specs.Layout.{Block}
 use Rattle.values.specs.declared.ValueRef.{ValueRef}
 use Rattle.values.specs.declared.ValueRef.TheVariants.{Object, Mark, Number, Undetermined}
 use Rattle.values.specs.Tests.{any}
 use Rattle.values.specs.Layout.{Holds}
 use Rattle.values.proofs.Tests.{not_true, not_false, any_there, any_not, any_more}
 use Rattle.values.proofs.Blocks.{no_object}
-use Rattle.values.specs.contracts.ValueRef as RefT
 use Rattle.maker.specs.declared.Slot.{Slot}
 use Rattle.maker.specs.Laying.{PartsHeld}
 use Rattle.maker.specs.Adding.{is_object, block_of, stands_in, part_of, all_stand, some_object, first_block}

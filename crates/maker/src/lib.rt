@@ -2,6 +2,8 @@
 // Offered: `make::make` and `over::make_fieldless`, a new object with and without parts, with `Made` and `Slot`; `fieldless::lay_fieldless`, block 0 with the objects without
 // fields, and `fieldless::PRESETS`.
 // Not here: what else is done with values (values), which objects are equal (canon), which blocks are free.
+#![tactic(auto)]
+
 pub(crate) mod parts; // the parts of a new object, and where they lie
 pub(crate) mod object; // a new object as numbers, and its bytes
 pub mod over; // a new object beside the objects of one block
@@ -38,7 +40,7 @@ pub enum Made {
 }
 
 // A value reference as an element of an array: arrays have no enums for elements.
-#[derive(Drop)]
+#[derive(Clone, Copy)]
 pub struct Slot {
     pub r: values::ValueRef,
 }

@@ -1,0 +1,20 @@
+-- The proof of `join::number_new`: numbers for the new ones of the first n objects, from t on in their order. By a loop in which n - x falls, and the laws of Numberings.
+use borrow.Author.Rules.{rules}
+use Rattle.maker.proofs.Numberings as laws
+use Rattle.maker.proofs.join.number_new.Goals as goal
+use Rattle.maker.proofs.join.number_new.Goals.{then-fresh-x-ne0+else-next-ge-CAPACITY, else-fresh-x-ne0}
+
+pub loop-x-init : goal.loop-x-init
+loop-x-init c = (search rules, laws.counted_none _ _ _)
+
+pub returns-then-next-ge-CAPACITY : goal.returns-then-next-ge-CAPACITY
+returns-then-next-ge-CAPACITY c = search laws.number_full
+
+pub loop-x-preserved : goal.loop-x-preserved
+loop-x-preserved c = (
+  search rules,
+  elim c.if-fresh-x-ne0.branch [ then-fresh-x-ne0+else-next-ge-CAPACITY w ↦ search laws.number_more | else-fresh-x-ne0 w ↦ search laws.number_same ],
+)
+
+pub returns : goal.returns
+returns c = search laws.number_end

@@ -1,0 +1,16 @@
+-- The proof of `make::make`: a new object, unless it has more objects than the run allows. By the laws of Limits, one for each return.
+use borrow.Author.Rules.{rules}
+use Rattle.maker.proofs.Limits as laws
+use Rattle.maker.proofs.make.make.Goals as goal
+
+pub returns-in_default : goal.returns-in_default
+returns-in_default c = search laws.limit_none
+
+pub fits-requires : goal.fits-requires
+fits-requires c = (search laws.limit_held, search laws.limit_away, search laws.limit_room, search rules)
+
+pub returns-then-fits : goal.returns-then-fits
+returns-then-fits c = search laws.limit_yes
+
+pub returns : goal.returns
+returns c = search laws.limit_no

@@ -1,0 +1,25 @@
+-- The proof of `make::make_beside`: a new object whose parts lie in block b, or are no objects. By the laws of Finds, Beside, Hosts and values' Copies.
+use borrow.Author.Rules.{rules}
+use Rattle.maker.proofs.Finds as finds
+use Rattle.maker.proofs.Beside as beside
+use Rattle.canon.specs.Layout.{count_in}
+use Rattle.values.proofs.Copies as copies
+use Rattle.maker.proofs.Hosts as merges
+use Rattle.maker.proofs.make.make_beside.Goals as goal
+
+pub find-k-requires : goal.find-k-requires
+unfolding count_in
+find-k-requires c = (search rules, search rules, search finds.root_packed)
+
+pub bring-requires : goal.bring-requires
+bring-requires c = (search copies.block_held, search merges.makeable_room)
+
+pub returns-then-k-t : goal.returns-then-k-t
+returns-then-k-t c = search beside.beside_found
+
+pub add-requires : goal.add-requires
+unfolding count_in
+add-requires c = (search rules, search rules, search merges.makeable_room)
+
+pub returns : goal.returns
+returns c = search beside.beside_new

@@ -1,0 +1,19 @@
+-- The proof of `merge::bring_parts`: the codes of the n parts in block host. By a loop in which i falls, and the laws of Brings.
+use borrow.Author.Rules.{rules}
+use Rattle.maker.proofs.Brings as laws
+use Rattle.maker.proofs.merge.bring_parts.Goals as goal
+
+pub loop-i-init : goal.loop-i-init
+loop-i-init c = (search rules, search rules, search laws.brought_start, laws.brought_none _ _ _ _)
+
+pub import_part-r-requires : goal.import_part-r-requires
+import_part-r-requires c = (search laws.brought_held, search laws.begun_grown)
+
+pub returns-then-r-eq-NO_ROOM : goal.returns-then-r-eq-NO_ROOM
+returns-then-r-eq-NO_ROOM c = search laws.brought_fails
+
+pub loop-i-preserved : goal.loop-i-preserved
+loop-i-preserved c = (search rules, search rules, search laws.brought_grown, search laws.brought_more)
+
+pub returns : goal.returns
+returns c = search laws.brought_all

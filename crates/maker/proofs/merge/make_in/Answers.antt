@@ -1,0 +1,13 @@
+-- The proof of `merge::make_in`: a new object over parts brought into the host, or anew where that has no room. By the laws of Hosts.
+use borrow.Author.Rules.{rules}
+use Rattle.maker.proofs.Hosts as laws
+use Rattle.maker.proofs.merge.make_in.Goals as goal
+
+pub make_anew-requires : goal.make_anew-requires
+make_anew-requires c = (search laws.tried_makeable, search rules)
+
+pub returns-in_default : goal.returns-in_default
+returns-in_default c = search laws.tried_made
+
+pub returns : goal.returns
+returns c = search laws.tried_here

@@ -1,0 +1,16 @@
+-- The first block of a part: the parts before have none.
+use borrow.Author.Rules.{rules}
+use Rattle.maker.proofs.Wheres as laws
+use Rattle.maker.proofs.parts.first_block.Goals as goal
+
+pub loop-i-init : goal.loop-i-init
+loop-i-init c = (search rules, laws.first_none _)
+
+pub returns-then-b-ne0 : goal.returns-then-b-ne0
+returns-then-b-ne0 c = search laws.first_found
+
+pub loop-i-preserved : goal.loop-i-preserved
+loop-i-preserved c = (search rules, search laws.first_more)
+
+pub returns : goal.returns
+returns c = search laws.first_end
