@@ -4,17 +4,14 @@
 use Prim.Native.Nat.{ℕ, ◌+◌, ◌-◌, ◌<◌, ◌≤◌}
 use native.Mathlib.Omega.{arith}
 use mathlib.Core.Path.{◌≡◌, refl, sym, ap, ◌∙◌}
-use mathlib.Core.List.{List, [], ◌∷◌}
+use mathlib.Core.List.{List}
 use borrow.Author.Tests.{eq-eqb, ne_eqb, lt-ltb, le-ltb}
-use types.Run.{OneOf}
-use denote.Enum.Declared.{tag_of}
 use Rattle.cofj.specs.Limits.{number_count}
 use Rattle.classes.specs.Skipping.{Skipped}
 use Rattle.classes.specs.declared.shape.Operation.{Operation}
 use Rattle.classes.specs.declared.shape.Operation.TheVariants.{Sum, Difference}
 use Rattle.values.specs.declared.ValueRef.{ValueRef}
 use Rattle.values.specs.declared.ValueRef.TheVariants.{Object, Number}
-use Rattle.values.specs.contracts.ValueRef as RefT
 use Rattle.values.proofs.Blocks.{no_object, no_number}
 use Rattle.evaluator.specs.declared.Stop.{Stop}
 use Rattle.evaluator.specs.declared.Stop.TheVariants.{Stuck, Overflow}

@@ -15,7 +15,7 @@ use Rattle.maker.specs.Laying.{values_from}
 use Rattle.evaluator.specs.declared.Stop.{Stop}
 use Rattle.evaluator.specs.declared.Stop.TheVariants.{Stuck}
 use Rattle.evaluator.specs.declared.Out.{Out}
-use Rattle.evaluator.specs.declared.Out.TheVariants.{Value, Halt}
+use Rattle.evaluator.specs.declared.Out.TheVariants.{Value}
 use Rattle.evaluator.specs.declared.Done.{Done}
 use Rattle.evaluator.specs.declared.Done.TheVariants as done
 use Rattle.evaluator.specs.declared.Walked.{Walked}

@@ -4,12 +4,10 @@ use Prim.Native.Nat.{ℕ, ◌+◌, ◌*◌, ◌≤◌, ◌<◌}
 use native.Mathlib.Omega.{arith}
 use mathlib.Core.Path.{◌≡◌, refl, sym, ap, ◌∙◌, subst}
 use mathlib.Core.Bool.{Bool, true, false}
-use mathlib.Core.List.{List, [], ◌∷◌}
+use mathlib.Core.List.{List, []}
 use mathlib.Core.Option.{Option, none, some, none-ne-some}
 use lib.Dec.{eqb}
 use lib.ListN.{length, get_or}
-use types.Run.{OneOf}
-use denote.Enum.Declared.{tag_of}
 use Rattle.cofj.specs.Limits.{method_count}
 use Rattle.cofj.specs.Syntax.{Table}
 use Rattle.cofj.specs.Lookup as language
@@ -27,7 +25,6 @@ use Rattle.classes.proofs.Zones.{param_count_at}
 use Rattle.classes.proofs.OnTables.{lookup_on}
 use Rattle.values.specs.declared.ValueRef.{ValueRef}
 use Rattle.values.specs.declared.ValueRef.TheVariants.{Object}
-use Rattle.values.specs.contracts.ValueRef as RefT
 use Rattle.canon.specs.Figures.{block_size, object_size}
 use Rattle.canon.specs.Layout.{node_in, count_in, objects_in, graph_at, Inside}
 use Rattle.values.specs.Layout.{HeldBy, value_of, Holds}

@@ -18,12 +18,10 @@ use Rattle.classes.specs.declared.shape.Operation.TheVariants.{Sum, Difference}
 use Rattle.classes.specs.Shapes.{operation_of}
 use Rattle.values.specs.declared.ValueRef.TheVariants.{Object, Mark, Number, Undetermined}
 use Rattle.evaluator.specs.declared.Stop.TheVariants.{Overflow}
-use Rattle.evaluator.specs.declared.Out.TheVariants.{Value, Halt}
 use Rattle.evaluator.specs.declared.Done.{Done}
 use Rattle.evaluator.specs.declared.Done.TheVariants as done
 use Rattle.evaluator.specs.declared.Operand.{Operand}
 use Rattle.evaluator.specs.declared.Operand.TheVariants as operand
-use Rattle.evaluator.specs.declared.frame.Frame.{Frame}
 use Rattle.evaluator.specs.Answers.{out_in, out_with, OutOlder, NextIs, number_at, operand_of, number_with, reckoned}
 use Rattle.evaluator.specs.Evaluation.{eval_in}
 

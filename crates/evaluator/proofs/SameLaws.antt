@@ -13,7 +13,6 @@ use borrow.Author.Tests.{eq-eqb, ne_eqb, not-true, not-false}
 use Rattle.cofj.specs.Values.{Graph, eq_graph, eq_graphs}
 use Rattle.classes.specs.Machine.{pick}
 use Rattle.values.specs.declared.ValueRef.{ValueRef}
-use Rattle.values.specs.declared.ValueRef.TheVariants.{Object}
 use Rattle.values.specs.Layout.{value_of, Holds}
 use Rattle.maker.specs.declared.Slot.{Slot}
 use Rattle.maker.specs.Laying.{values_from, PartsHeld}
@@ -63,8 +62,8 @@ module _ (W : List ℕ) (ps qs : List Slot) (i n : ℕ) (c : Comparing W ps qs i
     pub args_differ : not r ≡ true → false ≡ eq_graphs (values_from W ps 0 n) (values_from W qs 0 n)
     args_differ z = differ z ∙ c.rest
 
-    pub args_more : not r ≡ false → Comparing W ps qs (i + 1) n
-    args_more z = record { rest = more z ∙ c.rest }
+    pub args_more : r ≡ true → Comparing W ps qs (i + 1) n
+    args_more z = record { rest = more (ap not z) ∙ c.rest }
 
 -- lists of values one of which differs
 module _ (W : List ℕ) (ps qs : List Slot) (n k : ℕ) (a : PartsHeld W ps n) (b : PartsHeld W qs n) (l : k < n) (ne : false ≡ eq_graph (value_of W (slot_at ps k)) (value_of W (slot_at qs k))) where

@@ -17,7 +17,7 @@ use Rattle.maker.specs.Laying.{values_from, PartsHeld}
 use Rattle.evaluator.specs.Figures.{call_limit, fuel_at, trace_size}
 use Rattle.evaluator.specs.declared.Stop.{Stop}
 use Rattle.evaluator.specs.declared.Stop.TheVariants.{NoFuel, TooDeep}
-use Rattle.evaluator.specs.declared.Out.TheVariants.{Value, Halt}
+use Rattle.evaluator.specs.declared.Out.TheVariants.{Halt}
 use Rattle.evaluator.specs.declared.Done.{Done}
 use Rattle.evaluator.specs.declared.Done.TheVariants as done
 use Rattle.evaluator.specs.declared.spot.Spot.{Spot}

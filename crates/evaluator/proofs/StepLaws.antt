@@ -17,7 +17,6 @@ use Rattle.evaluator.specs.Figures.{place_limit}
 use Rattle.evaluator.specs.declared.Stop.TheVariants.{Stuck}
 use Rattle.evaluator.specs.declared.Done.{Done}
 use Rattle.evaluator.specs.declared.Done.TheVariants as done
-use Rattle.evaluator.specs.declared.Out.TheVariants.{Halt}
 use Rattle.evaluator.specs.declared.frame.Held.{Held}
 use Rattle.evaluator.specs.declared.frame.Held.TheVariants.{Is, Absent}
 use Rattle.evaluator.specs.declared.frame.Frame.{Frame}
@@ -202,21 +201,22 @@ number_shape_lem (shape.Combine o next) h = tt
 number_shape_lem (shape.Choose next) h = tt
 number_shape_lem shape.Nothing h = tt
 
-nothing_left : (s : Shape) → NumberShape s → OneOf (0 ∷ 1 ∷ 2 ∷ 3 ∷ 4 ∷ 5 ∷ 9 ∷ []) (tag_of ShapeT.the_type s) → s ≡ shape.Nothing
-nothing_left (shape.This next) r h = absurd r
-nothing_left (shape.Result next) r h = absurd r
-nothing_left (shape.Parameter k next) r h = absurd r
-nothing_left (shape.Field f next) r h = absurd r
-nothing_left (shape.Call m n next) r h = absurd r
-nothing_left (shape.New c n next) r h = absurd r
-nothing_left (shape.Number k n next) r h = absurd (miss (0 ∷ 1 ∷ 2 ∷ 3 ∷ 4 ∷ 5 ∷ 9 ∷ []) 6 tt h)
-nothing_left (shape.Combine o next) r h = absurd (miss (0 ∷ 1 ∷ 2 ∷ 3 ∷ 4 ∷ 5 ∷ 9 ∷ []) 7 tt h)
-nothing_left (shape.Choose next) r h = absurd (miss (0 ∷ 1 ∷ 2 ∷ 3 ∷ 4 ∷ 5 ∷ 9 ∷ []) 8 tt h)
-nothing_left shape.Nothing r h = refl
+nothing_left : (s : Shape) → NumberShape s → ((k n next : ℕ) → s ≡ shape.Number k n next → ⊥) → ((o : Operation) (next : ℕ) → s ≡ shape.Combine o next → ⊥) → ((next : ℕ) → s ≡ shape.Choose next → ⊥) → s ≡ shape.Nothing
+nothing_left (shape.This next) r number combine choose = absurd r
+nothing_left (shape.Result next) r number combine choose = absurd r
+nothing_left (shape.Parameter k next) r number combine choose = absurd r
+nothing_left (shape.Field f next) r number combine choose = absurd r
+nothing_left (shape.Call m n next) r number combine choose = absurd r
+nothing_left (shape.New c n next) r number combine choose = absurd r
+nothing_left (shape.Number k n next) r number combine choose = absurd (number k n next refl)
+nothing_left (shape.Combine o next) r number combine choose = absurd (combine o next refl)
+nothing_left (shape.Choose next) r number combine choose = absurd (choose next refl)
+nothing_left shape.Nothing r number combine choose = refl
 
 module _ (T W : List ℕ) (f : Frame) (S : List ℕ) (p : Spot) (s : Shape) where
   pub number_asked : Runnable W f S p → (p.nesting ≡ 0 → ⊥) → s ≡ shape_at T p.at → OneOf (6 ∷ 7 ∷ 8 ∷ 9 ∷ []) (tag_of ShapeT.the_type s) → NumberRunnable T W f S p s
   number_asked run nz es h = record { run = run; deep = nz; stands = es; rare = number_shape_lem s h }
 
-  pub number_nothing : NumberRunnable T W f S p s → OneOf (0 ∷ 1 ∷ 2 ∷ 3 ∷ 4 ∷ 5 ∷ 9 ∷ []) (tag_of ShapeT.the_type s) → EvalStep T W f S p W S (done.Halt Stuck)
-  number_nothing run h = step_nothing T W f S p s run.stands (nothing_left s run.rare h)
+  pub number_nothing : NumberRunnable T W f S p s → ((k n next : ℕ) → s ≡ shape.Number k n next → ⊥) → ((o : Operation) (next : ℕ) → s ≡ shape.Combine o next → ⊥)
+      → ((next : ℕ) → s ≡ shape.Choose next → ⊥) → EvalStep T W f S p W S (done.Halt Stuck)
+  number_nothing run number combine choose = step_nothing T W f S p s run.stands (nothing_left s run.rare number combine choose)

@@ -1,7 +1,6 @@
 -- The proof of the cycle of evaluation, twelve functions. At each call the number μ falls (FallLaws): a call that is opened takes one from the calls that may be
 -- opened, a part takes one from the nesting left, and otherwise the functions come in the order eval_number, eval, eval_item, eval_field and eval_list, the others.
 -- Each return is a law of StepLaws, NewSteps, FieldLaws, WalkLaws, NumberSteps, CallSteps or SideSteps.
-use Prim.Native.Nat.{ℕ, ◌<◌}
 use Prim.Native.Nat.{◌-◌}
 use Rattle.evaluator.specs.Resting.{frame_of}
 use Rattle.evaluator.proofs.WalkLaws as walks
@@ -54,5 +53,5 @@ decreases-number::eval_choose l = μ l.p 4
 abbrev pub decreases-number::eval_combine : goal.decreases-number::eval_combine
 decreases-number::eval_combine l = μ l.p 4
 
-abbrev pub decreases-eval_number_lem : goal.decreases-eval_number_lem
-decreases-eval_number_lem l = μ a.1.1.1.1.0 0
+abbrev pub decreases-number::eval_number : goal.decreases-number::eval_number
+decreases-number::eval_number l = μ l.p 0

@@ -1,6 +1,5 @@
 -- How many fields of fields begin at a place: so many do, at each turn of the loop.
 use Rattle.evaluator.proofs.ChainLaws as laws
-use Prim.Native.Nat.{◌-◌}
 use Rattle.evaluator.proofs.fields.fields_at.Goals as goal
 
 pub loop-d-init : goal.loop-d-init

@@ -7,7 +7,7 @@ pub returns-in_default : goal.returns-in_default
 returns-in_default c = search laws.find_none
 
 pub bounds-work-b : goal.bounds-work-b
-bounds-work-b c = omega (arith, laws.object_room _ _ _ _ c.requires c.v-1.given.1)
+bounds-work-b c = omega (arith, laws.object_room _ _ _ _ c.requires c.in-Object.is)
 
 pub returns-then-n-gt3 : goal.returns-then-n-gt3
 returns-then-n-gt3 c = search laws.find_many

@@ -1,6 +1,5 @@
 -- Arguments told apart: a law for the return inside the loop.
 use Rattle.evaluator.proofs.ApartLaws as laws
-use Prim.Native.Nat.{◌≤◌, ◌-◌}
 use Rattle.evaluator.proofs.met.args_apart.Goals as goal
 
 pub returns-then-apart : goal.returns-then-apart

@@ -1,9 +1,8 @@
 -- The trace searched for a call: the calls left, at each turn of the loop.
 use borrow.Author.Rules.{rules}
 use Rattle.evaluator.proofs.MeetLaws as laws
-use Prim.Native.Nat.{◌≤◌}
-use mathlib.Core.Logic.{⊎_elim}
 use Rattle.evaluator.proofs.met.open_call.Goals as goal
+use Rattle.evaluator.proofs.met.open_call.Goals.{then-not-other_call+else-same_call, else-not-other_call}
 
 pub loop-j-init : goal.loop-j-init
 loop-j-init c = (search laws.few_calls, search laws.left_all)
@@ -15,7 +14,7 @@ pub returns-then-same_call : goal.returns-then-same_call
 returns-then-same_call c = search laws.left_found
 
 pub loop-j-preserved : goal.loop-j-preserved
-loop-j-preserved c = (search rules, ⊎_elim (λ x. search laws.left_more) (λ y. search laws.left_other) c.if-not-other_call.branch)
+loop-j-preserved c = (search rules, elim c.if-not-other_call.branch [ then-not-other_call+else-same_call w ↦ search laws.left_more | else-not-other_call w ↦ search laws.left_other ])
 
 pub returns : goal.returns
 returns c = search laws.left_none

@@ -1,7 +1,6 @@
 -- Arguments compared: so far they are the same, at each turn of the loop.
 use borrow.Author.Rules.{rules}
 use Rattle.evaluator.proofs.SameLaws as laws
-use Prim.Native.Nat.{◌≤◌, ◌-◌}
 use Rattle.evaluator.proofs.met.same_args.Goals as goal
 
 pub loop-i-init : goal.loop-i-init
