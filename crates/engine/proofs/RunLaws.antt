@@ -10,7 +10,6 @@ use Rattle.cofj.specs.declared.Answer as public
 use Rattle.cofj.specs.declared.Verdict.{Verdict}
 use Rattle.cofj.specs.Limits.{work_size}
 use Rattle.cofj.specs.Syntax.{Table}
-use Rattle.cofj.specs.Reading.{Answer, refusal}
 use Rattle.cofj.specs.Typing as language
 use Rattle.cofj.specs.Calls as calls
 use Rattle.cofj.specs.Calls.{Mode, checked, trial, with_fuel, cleared, Ran, Admitted, declined, admitted, feed, after_check, run_admitted, run_call, check_call}

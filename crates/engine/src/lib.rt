@@ -1,6 +1,8 @@
 // The engine's public calls. Each has one contract, by the language's definition of the call, and asks nothing of its caller.
 // Offered: the nine calls of `exports`, for C and Rust.
 // Not here: what they are made of (tables, checker, batch, evaluator), the program `linerun` (host/).
+#![tactic(auto)]
+
 pub(crate) mod session; // opening and closing
 pub(crate) mod check; // the check of a text
 mod work; // the work buffer cleared
