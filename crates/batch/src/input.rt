@@ -16,7 +16,7 @@ use canon::number::put;
 use classes::places::SIZE;
 
 // What a text gives a main: its value stands in the block, or the call is refused with this number.
-#[derive(Drop)]
+#[derive(Clone, Copy)]
 pub enum Input {
     Given,
     Refused(u8),

@@ -30,7 +30,7 @@ const ROOM: usize = 5592;
 const NO_FIELD: usize = 0;
 
 // What reading a text answers: how many parts it lists, or that it is no list of parts.
-#[derive(Drop)]
+#[derive(Clone, Copy)]
 pub(crate) enum Parts {
     Listed(u8),
     Refused,

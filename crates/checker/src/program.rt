@@ -12,7 +12,7 @@ use classes::methods::{first, left_place, main_place, right_place, second};
 use classes::places::{METHOD_COUNT_AT, SIZE};
 
 // Refused with 6 or 7, or accepted with main's type.
-#[derive(Drop)]
+#[derive(Clone, Copy)]
 pub enum Checked {
     Main(FieldType),
     Refused(u8),

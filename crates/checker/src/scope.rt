@@ -8,7 +8,7 @@ use classes::methods::{input_type, owner, param_type};
 use classes::places::SIZE;
 
 // What an expression has: a type, by class and tag, and the place after it; or no type.
-#[derive(Drop)]
+#[derive(Clone, Copy)]
 pub(crate) enum Typed {
     Has(u8, u8, usize),
     No,

@@ -12,7 +12,7 @@ use crate::places::{CLASS_COUNT_AT, METHOD_COUNT_AT, SIZE, wide};
 use lineform::lines::RIGHTS;
 
 // Where the next line begins.
-#[derive(Drop)]
+#[derive(Clone, Copy)]
 pub(crate) enum Lines {
     At(usize),
     Refused,

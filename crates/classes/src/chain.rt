@@ -13,7 +13,7 @@ pub struct FieldType {
     pub tag: u8,
 }
 
-#[derive(Drop)]
+#[derive(Clone, Copy)]
 pub enum FieldFound {
     Type(FieldType),
     Nothing,

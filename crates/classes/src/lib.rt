@@ -18,7 +18,7 @@ use crate::places::SIZE;
 
 // The bytes of a class table. Lend them: nothing is copied.
 #[repr(C)]
-#[derive(Drop)]
+#[derive(Clone, Copy)]
 pub struct ClassTable {
     pub bytes: [u8; SIZE],
 }

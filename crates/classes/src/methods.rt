@@ -7,7 +7,7 @@ use crate::chain::{FieldFound, FieldType, parent};
 use crate::places::{CLASSES, INDEX, LONG, MAIN, METHODS, SIZE, wide};
 
 // What a search for a method answers: the class in which it stopped, which owns the method, and the method's number in file order; or nothing.
-#[derive(Drop)]
+#[derive(Clone, Copy)]
 pub enum Found {
     At(u8, u8),
     Nothing,

@@ -9,7 +9,7 @@ use lineform::sign::{
 };
 
 // What is done with two numbers.
-#[derive(Drop)]
+#[derive(Clone, Copy)]
 pub enum Operation {
     Sum,
     Difference,
@@ -17,7 +17,7 @@ pub enum Operation {
 
 // An expression's first bytes, and the place after them. A number's two stand as they are: put together here, they would be too much for the compiler to take
 // this into the evaluator.
-#[derive(Drop)]
+#[derive(Clone, Copy)]
 pub enum Shape {
     This { next: usize },
     Result { next: usize },

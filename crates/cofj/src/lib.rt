@@ -2,7 +2,7 @@
 
 // A session: open or closed, and the fuel that is left.
 #[repr(C)]
-#[derive(Drop)]
+#[derive(Clone, Copy)]
 pub struct Session {
     pub active: bool,
     pub fuel: u16,
@@ -10,7 +10,7 @@ pub struct Session {
 
 // What a run answers: 0 or the refusal's number, the session, and the report's length.
 #[repr(C)]
-#[derive(Drop)]
+#[derive(Clone, Copy)]
 pub struct Answer {
     pub refusal: u8,
     pub session: Session,
@@ -19,7 +19,7 @@ pub struct Answer {
 
 // What closing answers.
 #[repr(C)]
-#[derive(Drop)]
+#[derive(Clone, Copy)]
 pub struct Closing {
     pub refusal: u8,
     pub session: Session,
@@ -27,7 +27,7 @@ pub struct Closing {
 
 // What a check answers: 0 and main's class and tag, or the refusal's number and zeros.
 #[repr(C)]
-#[derive(Drop)]
+#[derive(Clone, Copy)]
 pub struct Verdict {
     pub refusal: u8,
     pub class: u8,
@@ -36,7 +36,7 @@ pub struct Verdict {
 
 // What the writer answers: 0 and the text's length, or the refusal's number and 0.
 #[repr(C)]
-#[derive(Drop)]
+#[derive(Clone, Copy)]
 pub struct Written {
     pub refusal: u8,
     pub length: u16,
@@ -44,7 +44,7 @@ pub struct Written {
 
 // What `line_show` answers: 0 and the verdict line, its characters and how many they are, and the report's length; or the refusal's number and zeros.
 #[repr(C)]
-#[derive(Drop)]
+#[derive(Clone, Copy)]
 pub struct Shown {
     pub refusal: u8,
     pub verdict_length: u8,
@@ -54,7 +54,7 @@ pub struct Shown {
 
 // Where a method is found: whether it is, the class that owns it and its number in file order; zeros where it is not.
 #[repr(C)]
-#[derive(Drop)]
+#[derive(Clone, Copy)]
 pub struct Finding {
     pub found: bool,
     pub owner: u8,

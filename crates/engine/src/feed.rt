@@ -14,7 +14,7 @@ use classes::places::SIZE;
 const OBJECTS: u8 = 32;
 
 // What main is fed: nothing, the value that stands in the block, or the call is refused with this number.
-#[derive(Drop)]
+#[derive(Clone, Copy)]
 pub(crate) enum Fed {
     Nothing,
     Value,

@@ -18,7 +18,7 @@ use evaluator::report::run_report;
 use tables::read::read_into;
 
 // Whether types are checked first.
-#[derive(Drop)]
+#[derive(Clone, Copy)]
 enum Mode {
     Checked,
     Trial,

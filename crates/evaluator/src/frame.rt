@@ -14,7 +14,7 @@ use values::ValueRef;
 use values::refs::{pack, unpack};
 
 // What a variable holds, if anything.
-#[derive(Drop)]
+#[derive(Clone, Copy)]
 pub enum Held {
     Is(ValueRef),
     Absent,
@@ -22,7 +22,7 @@ pub enum Held {
 
 // The variables of a body: this, res and the first n arguments; and the class that owns the body, as the search answered it, for 2026-07 (open calls by owner) to read.
 // In main there is no `this` and no `res`, the one parameter is the input, if there is one, and the owner is 0.
-#[derive(Drop)]
+#[derive(Clone, Copy)]
 pub struct Frame {
     pub this: Held,
     pub res: Held,

@@ -16,7 +16,7 @@ pub mod run; // running main
 pub mod report; // running main and reporting it: what other crates ask for
 
 // Why a run ends without a value.
-#[derive(Drop)]
+#[derive(Clone, Copy)]
 pub enum Stop {
     Stuck,
     NoFuel,
@@ -26,28 +26,28 @@ pub enum Stop {
 }
 
 // What an expression gives: a value and the place after the expression, or what the run stopped at.
-#[derive(Drop)]
+#[derive(Clone, Copy)]
 pub enum Done {
     Value(values::ValueRef, u16),
     Halt(Stop),
 }
 
 // What an operand gives: its number and the place after the expression, or what the run stopped at.
-#[derive(Drop)]
+#[derive(Clone, Copy)]
 pub enum Operand {
     Number(u16, u16),
     Halt(Stop),
 }
 
 // What the walk of a list gives: the place after the list, its values being lent; or what the run stopped at.
-#[derive(Drop)]
+#[derive(Clone, Copy)]
 pub enum Walked {
     After(u16),
     Halt(Stop),
 }
 
 // What a run gives: a value, the place after its expression and the fuel left; or what it stopped at and the fuel left.
-#[derive(Drop)]
+#[derive(Clone, Copy)]
 pub enum Out {
     Value {
         v: values::ValueRef,

@@ -14,7 +14,7 @@ use classes::places::SIZE;
 use values::report::report;
 
 // How many characters a report has, and the fuel that its run left.
-#[derive(Drop)]
+#[derive(Clone, Copy)]
 pub struct Reported {
     pub length: u16,
     pub fuel: u16,

@@ -19,7 +19,7 @@ pub(crate) const NESTING_LIMIT: usize = 6;
 
 pub(crate) const LARGEST_TAG: u8 = 3;
 
-#[derive(Drop)]
+#[derive(Clone, Copy)]
 pub(crate) enum ReadExpr {
     Next(usize),
     Refused,
@@ -33,7 +33,7 @@ pub(crate) fn wide(x: u8) -> usize
 }
 
 // An expression's sign and what belongs to it: the place after them, and how many expressions the expression has from there on.
-#[derive(Drop)]
+#[derive(Clone, Copy)]
 pub(crate) struct Sign {
     pub next: usize,
     pub parts: usize,

@@ -9,14 +9,14 @@ use crate::exprs::{FIELD_COUNT, LARGEST_TAG, PARAM_COUNT, ReadExpr, types_end, w
 use crate::reader::{AtPlace, expr_at, first_byte};
 
 // What a line is; of a method, where its right expression stands in the line.
-#[derive(Drop)]
+#[derive(Clone, Copy)]
 pub enum Kind {
     Class,
     Method(usize),
     Main,
 }
 
-#[derive(Drop)]
+#[derive(Clone, Copy)]
 pub enum Framed {
     Good(Kind),
     Bad,

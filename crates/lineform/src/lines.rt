@@ -28,13 +28,13 @@ pub(crate) const LF: u8 = 10;
 // what no sum of three bytes reaches (digits)
 const NO_BYTE: u16 = 768;
 
-#[derive(Drop)]
+#[derive(Clone, Copy)]
 pub enum Decoded {
     Packed(usize),
     Refused,
 }
 
-#[derive(Drop)]
+#[derive(Clone, Copy)]
 pub enum Ordered {
     Counts(u8, u8),
     Refused,

@@ -8,13 +8,13 @@ ghost use Rattle.lineform.specs.Places.{byte_of, reader_at};
 
 use crate::exprs::{NESTING_LIMIT, ReadExpr, read_expr, sign_at};
 
-#[derive(Drop)]
+#[derive(Clone, Copy)]
 pub(crate) struct LineReader<'a> {
     pub line: &'a [u8],
     pub at: usize,
 }
 
-#[derive(Drop)]
+#[derive(Clone, Copy)]
 pub(crate) enum AtPlace {
     Byte(u8),
     End,

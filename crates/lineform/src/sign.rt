@@ -24,7 +24,7 @@ pub const DIFFERENCE: u8 = 0x48;
 pub const CHOOSE: u8 = 0x49;
 
 // A row of the table. A byte that is no sign takes no bytes.
-#[derive(Drop)]
+#[derive(Clone, Copy)]
 pub struct SignRow {
     pub size: usize,
     pub parts: usize,

@@ -33,7 +33,7 @@ const NOT_TOLD: u8 = CAPACITY;
 const TOO_MANY: u8 = CAPACITY + 1;
 
 // What making an object answers.
-#[derive(Drop)]
+#[derive(Clone, Copy)]
 pub enum Made {
     Value(values::ValueRef),
     TooLarge,

@@ -22,7 +22,7 @@ use values::ValueRef;
 use values::value::{bring, copy_block};
 
 // What trying a host answers: the value, or that there is no room for it.
-#[derive(Drop)]
+#[derive(Clone, Copy)]
 pub(crate) enum Tried {
     Here(ValueRef),
     NoRoom,

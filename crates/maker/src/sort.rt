@@ -13,7 +13,7 @@ use canon::bytes::eight_at;
 use canon::layout::{BLOCK, BYTE, CODES, COUNT, FIRST_LEAF, HEAD, NUMBERS, OBJECT, THREE_BYTES};
 
 // The codes of an object in the host, as one number, if all are told.
-#[derive(Drop)]
+#[derive(Clone, Copy)]
 pub(crate) enum Turned {
     All(u32),
     Open,

@@ -15,7 +15,7 @@ use lineform::lines::{Decoded, Ordered, RIGHTS, decode, frames_good, order};
 
 // What reading answers: 0 and the table, or the refusal's number and a table of zeros.
 #[repr(C)]
-#[derive(Drop)]
+#[derive(Clone, Copy)]
 pub struct Reading {
     pub refusal: u8,
     pub table: ClassTable,

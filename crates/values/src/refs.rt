@@ -14,7 +14,7 @@ use canon::layout::{
 pub const HIGH: u16 = 256;
 
 // What selecting a field answers.
-#[derive(Drop)]
+#[derive(Clone, Copy)]
 pub enum Selected {
     Value(ValueRef),
     Nothing,
