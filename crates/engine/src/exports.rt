@@ -1,6 +1,5 @@
-// The public calls for C and Rust: slices are pointer and length, structs go by value; `line_find` is lent its table, a pointer to its bytes.
-// `input` is the second text of a run, and for `line_show` all that `linerun` reads.
-// Not here: what they do; each is a call of this crate or of tables.
+// The public calls. `input` is the second text of a run, and for `line_show` all that `linerun` reads.
+// Not here: what they do; each is a call of this crate or of tables. How C and Rust call them: engine_c.
 ghost use Rattle.std.specs.Prelude.{◌≡◌};
 ghost use Rattle.cofj.specs.Calls.{open_session, close_session, check_call, checked, trial, run_call};
 ghost use Rattle.classes.specs.Machine.{lookup_of};
@@ -22,50 +21,43 @@ use cofj::{Answer, Closing, Finding, Session, Shown, Verdict, Written};
 use tables::read::{Reading, read};
 use tables::write::write;
 
-#[unsafe(no_mangle)]
-pub extern "C" fn line_open(fuel: u16) -> Session
+pub fn line_open(fuel: u16) -> Session
     ensures { result ≡ open_session fuel }
 {
     open_session(fuel)
 }
 
-#[unsafe(no_mangle)]
-pub extern "C" fn line_close(session: Session) -> Closing
+pub fn line_close(session: Session) -> Closing
     ensures { result ≡ close_session session }
 {
     close_session(session)
 }
 
-#[unsafe(no_mangle)]
-pub extern "C" fn line_read(text: &[u8]) -> Reading
+pub fn line_read(text: &[u8]) -> Reading
     ensures { result ≡ reading_of text.now }
 {
     read(text)
 }
 
-#[unsafe(no_mangle)]
-pub extern "C" fn line_write(table: ClassTable, buffer: &mut [u8]) -> Written
+pub fn line_write(table: ClassTable, buffer: &mut [u8]) -> Written
     ensures { wrote_table result buffer.new ≡ writing_of table.bytes buffer.old }
 {
     write(table, buffer)
 }
 
-#[unsafe(no_mangle)]
-pub extern "C" fn line_find(table: &[u8; SIZE], class: u8, name: u8) -> Finding
+pub fn line_find(table: &[u8; SIZE], class: u8, name: u8) -> Finding
     ensures { result ≡ finding_in (lookup_of table.now class name) }
 {
     find_method(table, class, name)
 }
 
-#[unsafe(no_mangle)]
-pub extern "C" fn line_check(text: &[u8]) -> Verdict
+pub fn line_check(text: &[u8]) -> Verdict
     ensures { result ≡ check_call text.now }
 {
     check_text(text)
 }
 
-#[unsafe(no_mangle)]
-pub extern "C" fn line_run(
+pub fn line_run(
     text: &[u8],
     input: &[u8],
     session: Session,
@@ -78,8 +70,7 @@ pub extern "C" fn line_run(
     checked_run(text, input, session, report, work)
 }
 
-#[unsafe(no_mangle)]
-pub extern "C" fn line_trial(
+pub fn line_trial(
     text: &[u8],
     input: &[u8],
     session: Session,
@@ -92,8 +83,7 @@ pub extern "C" fn line_trial(
     trial_run(text, input, session, report, work)
 }
 
-#[unsafe(no_mangle)]
-pub extern "C" fn line_show(input: &[u8], report: &mut [u8], work: &mut [u8]) -> Shown
+pub fn line_show(input: &[u8], report: &mut [u8], work: &mut [u8]) -> Shown
     ensures { showing result report.new work.new ≡ show_call input.now report.old work.old }
 {
     show(input, report, work)

@@ -1,6 +1,6 @@
 // The engine's public calls. Each has one contract, by the language's definition of the call, and asks nothing of its caller.
-// Offered: the nine calls of `exports`, for C and Rust.
-// Not here: what they are made of (tables, checker, batch, evaluator), the program `linerun` (host/).
+// Offered: the nine calls of `exports`; for C and Rust they are exported by engine_c.
+// Not here: what they are made of (tables, checker, batch, evaluator), the program `linerun` (host/), how C and Rust call them (engine_c).
 #![tactic(auto)]
 
 pub(crate) mod session; // opening and closing
