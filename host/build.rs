@@ -1,4 +1,4 @@
-// Links the static library that `rt staticlib engine` writes. It does not build it: proving takes its own time.
+// Links the static library that `.ci/library` writes. It does not build it: proving takes its own time.
 use std::path::Path;
 
 fn main() {
@@ -7,7 +7,7 @@ fn main() {
     println!("cargo:rerun-if-changed={library}");
     assert!(
         Path::new(&library).exists(),
-        "{library} is not there: run `rt staticlib engine` first"
+        "{library} is not there: run `.ci/library` first"
     );
     println!("cargo:rustc-link-search=native={folder}");
     println!("cargo:rustc-link-lib=static=engine");
