@@ -52,7 +52,7 @@ def snake(name):
 antt = files_below(os.path.join(root, "crates"), ".antt")
 rt = files_below(os.path.join(root, "crates"), ".rt")
 crates = set(os.listdir(os.path.join(root, "crates")))
-defined, words = set(), set(STD_WORDS)
+defined, in_specs, words = set(), set(), set(STD_WORDS)
 for path in antt:
     if is_lemma_file(path):
         for line in open(path):
@@ -61,6 +61,8 @@ for path in antt:
             found = DEFINED.match(line) or re.match(r"^\s*(?:pub )?ruleset\s+(\S+)", line)
             if found and re.match("[a-z]", found.group(1)):
                 defined.add(found.group(1))
+                if "/specs/" in path:
+                    in_specs.add(found.group(1))
             found = WORD.match(line)
             if "/specs/" in path and found and re.match("[a-z]", found.group(1)):
                 words.add(snake(found.group(1)))
@@ -98,7 +100,7 @@ for path in antt:
     for new, which in names.items():
         if len(which) > 1:
             clashing |= {old for old in which if "-" in old and old in table}
-for old in clashing:
+for old in clashing - in_specs:
     table[old] += "_lem"
 
 

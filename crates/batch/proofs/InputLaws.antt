@@ -70,13 +70,13 @@ module _ (P R : List ℕ) (k : ℕ) (m : Merged P R k) (e : (k ≡ suc capacity)
   pub objects_ready : (objects : ℕ) (W : List ℕ) → SomeParts P → Room objects W → Objects R k W
   objects_ready objects W p r =
       let q = m.few p.nodes p.lie few in
-      record { raw = q.raw; some_object_lem = q.some_object_lem; block = r.block }
+      record { raw = q.raw; some_object = q.some_object; block = r.block }
 
   -- the objects' value is that of the parts
   merged_value : (ns : List Node) → Lies P ns → canon (graph_in R k 0) ≡ started ns
   merged_value ns l =
       let q = m.few ns l few in
-      let w : Whole (graph_in R k 0) = record { top = subst (λ (n : ℕ). 0 < n) (sym (length_nodes R 0 k)) q.some_object_lem; inner = q.raw.whole.inner } in
+      let w : Whole (graph_in R k 0) = record { top = subst (λ (n : ℕ). 0 < n) (sym (length_nodes R 0 k)) q.some_object; inner = q.raw.whole.inner } in
       same_canon (graph_in R k 0) (graph (obj 0) ns) w l.whole q.tree
 
   module _ (T W₀ W : List ℕ) (class objects n : ℕ) (r : Room objects W₀) (p : Placed (graph_in R k 0) W₀ 0 W n) where

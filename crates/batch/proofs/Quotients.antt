@@ -181,7 +181,7 @@ module _ (P L : List ℕ) (m : ℕ) (rc : Reaches P L m) (C D : List ℕ) (k : �
 
   pub quotient : objects_size ≤ length R → Quotient ns R k
   quotient room = record {
-    some_object_lem = co.some_colour;
+    some_object = co.some_colour;
     raw = record {
       few = co.few;
       room = omega (arith, co.few);

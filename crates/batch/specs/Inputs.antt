@@ -31,7 +31,7 @@ pub record Room (objects : ℕ) (W : List ℕ) : Type 0 where
 -- k objects and room for their value
 pub record Objects (R : List ℕ) (k : ℕ) (W : List ℕ) : Type 0 where
   pub raw : Raw R k
-  pub some_object_lem : 1 ≤ k
+  pub some_object : 1 ≤ k
   pub block : block_size ≤ length W
 
 -- the answer for what is given, and the block that has it

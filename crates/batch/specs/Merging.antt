@@ -18,7 +18,7 @@ pub record Many (ns : List Node) : Type 0 where
 
 -- k objects in R, which unfold from the first on as the parts ns do from part 0 on
 pub record Quotient (ns : List Node) (R : List ℕ) (k : ℕ) : Type 0 where
-  pub some_object_lem : 1 ≤ k
+  pub some_object : 1 ≤ k
   pub raw : Raw R k
   pub tree : SameTree (graph_in R k 0) (graph (obj 0) ns)
 

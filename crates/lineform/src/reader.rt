@@ -1,5 +1,5 @@
 // One line with a place in it. Each function over it takes it apart and calls one that has the slice and the place as parameters.
-// Not here: the work itself, which is a covered function's each time (here and in exprs).
+// Not here: the work itself, which is done by functions of a slice and a place (here and in exprs).
 ghost use Rattle.std.specs.Prelude.{◌≡◌, drop};
 ghost use Rattle.cofj.specs.Limits.{nesting_limit};
 ghost use Rattle.cofj.specs.Frames.{expr};
@@ -69,7 +69,7 @@ pub(crate) fn past_expr<'a>(r: LineReader<'a>) -> ReadExpr
     expr_end(r.line, r.at)
 }
 
-// ---- for callers: plain parameters, so that they need no walk
+// ---- for callers: plain parameters
 
 // The byte that says a line's kind.
 pub(crate) fn first_byte(s: &[u8]) -> AtPlace
