@@ -3,7 +3,7 @@
 words in snake case (`callType` is `call_type`), and `_` where a dash joined plain words (`frame-class` is `frame_class`);
 a dash stays where it joins two whole names. A lemma that would have its function's name ends in `_lem`.
 Names of functions, types, constants, files and of what Rattle makes keep their spelling, and so do strings.
-Usage: tools/respell.py [FOLDER]. It prints what it renamed, and stops before writing where two names would fall together."""
+Usage: tools/respell.py [FOLDER]. It prints how many names it turned, and each file in which two of them meet ('together')."""
 import collections
 import os
 import re
