@@ -1,7 +1,7 @@
 #!/usr/bin/env python3
 """Brings the names of this repository's own definitions and lemmas to today's spelling, once, after the kit's port.py:
 words in snake case (`callType` is `call_type`), and `_` where a dash joined plain words (`frame-class` is `frame_class`);
-a dash stays where it joins two whole names. A lemma that would have its function's name ends in `_lem`.
+a dash of a lemma stays where it joins two whole names. A lemma that would have its function's name ends in `_lem`.
 Names of functions, types, constants, files and of what Rattle makes keep their spelling, and so do strings.
 Usage: tools/respell.py [FOLDER]. It prints how many names it turned, and each file in which two of them meet ('together')."""
 import collections
@@ -12,6 +12,7 @@ import sys
 root = sys.argv[1] if len(sys.argv) > 1 else "."
 TOKEN = re.compile(r"(?<![\w'?◌\-·#+])[a-z][\w'?\-◌]*")
 DEFINED = re.compile(r"^\s*(?:(?:abbrev|unfoldable|opaque|pub|field)\s+)*([^\s(){}\[\],;:]+)\s+:\s")
+TOGETHER = re.compile(r"^\s+([a-z][\w'?\-]*(?:\s+[a-z][\w'?\-]*)+)\s+:\s")
 WORD = re.compile(r"^\s*(?:abbrev|unfoldable)\s+pub\s+([^\s(){}\[\],;:]+)\s+:\s")
 STD_WORDS = set("length append drop take map get_or set sum reverse get_elem? filter zeros repeat concat".split())
 
@@ -63,6 +64,10 @@ for path in antt:
                 defined.add(found.group(1))
                 if "/specs/" in path:
                     in_specs.add(found.group(1))
+            found = TOGETHER.match(line)
+            if "/specs/" in path and found and not re.match(r"pub |abbrev |unfoldable ", found.group(1)):
+                defined |= set(found.group(1).split())
+                in_specs |= set(found.group(1).split())
             found = WORD.match(line)
             if "/specs/" in path and found and re.match("[a-z]", found.group(1)):
                 words.add(snake(found.group(1)))
@@ -70,6 +75,8 @@ for path in antt:
 
 def respelled(name):
     parts = [snake(part) for part in name.split("-")]
+    if name in in_specs:
+        return "_".join(parts)
     for i in range(len(parts) - 1, 0, -1):
         left, right = "_".join(parts[:i]), "_".join(parts[i:])
         if left in words and right in words:

@@ -1,5 +1,5 @@
 -- The type of an expression in a table's bytes B, at the code's grain: a step over what types the expressions nested less deep.
--- Not here: that on the bytes of an expression this is the language's typeOf (proofs/Expressions).
+-- Not here: that on the bytes of an expression this is the language's `type_of` (proofs/Expressions).
 use Rattle.std.specs.Prelude.{Bool, true, false, List, ℕ, zero, suc, ◌+◌, eqb}
 use Rattle.cofj.specs.Limits.{number_class}
 use Rattle.cofj.specs.Typing.{closed_tag}

@@ -97,7 +97,7 @@ module _ (t : Table) (wf : WellFormed t) (objects : ℕ) where
   unfolding sized make
   good_new k c vs n kn e h = go (ltb objects (length (make c vs).nodes)) refl
     where
-      go : (b : Bool) → ltb objects (length (make c vs).nodes) ≡ b → Out (G k) (elim b as (λ _. Outcome Graph) [ true ↦ stopped Stop.tooLarge n | false ↦ value (make c vs) n ])
+      go : (b : Bool) → ltb objects (length (make c vs).nodes) ≡ b → Out (G k) (elim b as (λ _. Outcome Graph) [ true ↦ stopped Stop.too_large n | false ↦ value (make c vs) n ])
       go true q = tt
       go false q =
           let f = lay_formed k vs 1 h in

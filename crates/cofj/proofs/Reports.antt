@@ -19,7 +19,7 @@ use Rattle.cofj.specs.Text.{hex_line, hex_text, lines_from}
 use Rattle.cofj.specs.Values.{Ref, obj, leaf, Leaf, mark, undet, num, Node, node, Graph}
 use Rattle.cofj.specs.Unfolding.{InRange, Whole, follow}
 use Rattle.cofj.specs.Formed.{AllIn, LeafBelow, RefBelow, Formed, Good, IfAny, Out}
-use Rattle.cofj.specs.Running.{Outcome, value, stopped, Stop, stuck, noFuel, tooDeep, tooLarge, overflow, run_within}
+use Rattle.cofj.specs.Running.{Outcome, value, stopped, Stop, stuck, no_fuel, too_deep, too_large, overflow, run_within}
 use Rattle.cofj.specs.Report.{ref_bytes, field_bytes, object_line, object_lines, leaf_line, value_lines, stop_byte, outcome_lines, report_of, value_report, SameEnd}
 use Rattle.cofj.specs.ReportForm.{agrees, all_agree, one_count, lines_value, reported, Plain, Reportable}
 use Rattle.cofj.proofs.Unique.{same_canon}
@@ -180,14 +180,14 @@ value_first v w = go v.root w.top
 
 -- the stop that a byte tells
 stop_told : ℕ → Stop
-stop_told b = get_or (stuck ∷ stuck ∷ noFuel ∷ tooDeep ∷ tooLarge ∷ overflow ∷ []) b stuck
+stop_told b = get_or (stuck ∷ stuck ∷ no_fuel ∷ too_deep ∷ too_large ∷ overflow ∷ []) b stuck
 
 stop_round : (k : Stop) → stop_told (stop_byte k) ≡ k
 unfolding stop_told
 stop_round stuck = refl
-stop_round noFuel = refl
-stop_round tooDeep = refl
-stop_round tooLarge = refl
+stop_round no_fuel = refl
+stop_round too_deep = refl
+stop_round too_large = refl
 stop_round overflow = refl
 
 stop_injective : (k l : Stop) → stop_byte k ≡ stop_byte l → k ≡ l
@@ -195,9 +195,9 @@ stop_injective k l e = sym (stop_round k) ∙ ap stop_told e ∙ stop_round l
 
 stop_small : (l : Stop) → stop_byte l < 256
 stop_small stuck = omega arith
-stop_small noFuel = omega arith
-stop_small tooDeep = omega arith
-stop_small tooLarge = omega arith
+stop_small no_fuel = omega arith
+stop_small too_deep = omega arith
+stop_small too_large = omega arith
 stop_small overflow = omega arith
 
 module _ (objects : ℕ) (small : objects ≤ part_count) where

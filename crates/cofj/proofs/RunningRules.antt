@@ -13,7 +13,7 @@ use Rattle.cofj.specs.Limits.{Limits, number_count}
 use Rattle.cofj.specs.Syntax.{sum, Expr, new, Exprs, count, Method, Table}
 use Rattle.cofj.specs.Classes.{fields_of}
 use Rattle.cofj.specs.Values.{Graph, make, close, mark_of, number_of}
-use Rattle.cofj.specs.Running.{tooDeep, tooLarge, overflow, Outcome, value, stopped, ◌then◌, Frame, OpenCall, open_mark, Deeper, frame_of, opened, invoke, sized, reckon, eval, evals, eval_to, main_frame, run_within}
+use Rattle.cofj.specs.Running.{too_deep, too_large, overflow, Outcome, value, stopped, ◌then◌, Frame, OpenCall, open_mark, Deeper, frame_of, opened, invoke, sized, reckon, eval, evals, eval_to, main_frame, run_within}
 use Rattle.cofj.specs.RunningRules.{Evaluates, VAR-this, VAR-res, VAR-param, FIELD, INVK, COREC, NEW, W-FIELD-object, W-FIELD-lacks, W-INVK-object, W-INVK-lacks, W-INVK-count, W-INVK2, W-NEW, PROP-field, PROP-receiver, PROP-arguments, PROP-new, W-VAR-this, W-VAR-res, W-VAR-param, OUT-OF-FUEL, TOO-DEEP, TOO-LARGE, NUMBER, SUM, DIFFERENCE, OVERFLOW, W-COMBINE-first, W-COMBINE-second, CHOOSE-first, CHOOSE-second, W-CHOOSE, PROP-first, PROP-second, PROP-choose, EvaluateAll, NONE, EACH, PROP-head, PROP-tail, RunsTo, PROG}
 use Rattle.cofj.proofs.SideConditions.{target_object, target_lacks, target-count, select_none}
 use Rattle.cofj.proofs.SoundCalls.{target_is}
@@ -48,9 +48,9 @@ module _ (objects : ℕ) (t : Table) where
     unfolding invoke
     right_runs k x o z j = rw (z, invoke, to_eval k (frame_of v (some (mark_of x)) vs) os d.right n) j
 
-    too_deep : invoke (bodies zero) os v m vs d (suc n) ≡ stopped tooDeep n
+    too_deep_lem : invoke (bodies zero) os v m vs d (suc n) ≡ stopped too_deep n
     unfolding invoke
-    too_deep = refl
+    too_deep_lem = refl
 
   new_runs : (k : ℕ) (fr : Frame) (os : List OpenCall) (c : ℕ) (es : Exprs) (n : ℕ) (o : Outcome (List Graph)) → length (fields_of t.classes c) ≡ count es
       → evals objects t (bodies k) fr os es n ≡ o → eval objects t (bodies k) fr os (new c es) n ≡ (o then λ vs n'. sized objects (make c vs) n')
@@ -63,7 +63,7 @@ module _ (objects : ℕ) (t : Table) where
   unfolding sized
   small g n l = if_false (ltb objects (length g.nodes)) _ _ (le-ltb objects (length g.nodes) l)
 
-  large : (g : Graph) (n : ℕ) → objects < length g.nodes → sized objects g n ≡ stopped tooLarge n
+  large : (g : Graph) (n : ℕ) → objects < length g.nodes → sized objects g n ≡ stopped too_large n
   unfolding sized
   large g n l = if_true (ltb objects (length g.nodes)) _ _ (lt-ltb objects (length g.nodes) l)
 
@@ -104,7 +104,7 @@ module _ (objects : ℕ) (t : Table) where
     | W-VAR-param q ↦ rw q
     | OUT-OF-FUEL {m = m} {es = es} {v = v} (p → i) q r s (ps → is) ↦ rw (i, target_is t v m (count es) _ _ q r s, is)
     | TOO-DEEP {n₂ = n₂} {m = m} {σ = os} {es = es} {v = v} {vs = vs} {d = d} (p → i) q r s (ps → is) ↦
-        rw (i, target_is t v m (count es) _ _ q r s, is) (too_deep os v m vs d n₂)
+        rw (i, target_is t v m (count es) _ _ q r s, is) (too_deep_lem os v m vs d n₂)
     | TOO-LARGE {k = k} {n = n} {n₁ = n₁} {c = c} {π = fr} {σ = os} {es = es} {vs = vs} q (ps → is) l ↦ new_runs k fr os c es n _ q is ∙ large (make c vs) n₁ l
     | NUMBER ↦ refl
     | SUM {n₂ = n₂} {x = x} {y = y} (p → i) q (ps → j) r l ↦ rw (i, q, j, r) (fits_sum x y n₂ l)

@@ -49,7 +49,7 @@ module _ (t : Table) (wf : WellFormed t) (ok : AllMethods (MethodOk t) t.methods
   sound_new objects σ c kn us w vs n e h = go (ltb objects (length (make c vs).nodes)) (new_ok t c us w e)
     where
       go : (b : Bool) → ((all_fit t us (fields_of t.classes c) ≡ true) × (ty c 0 ≡ w)) ⊎ ((all_fit t (map narrow us) (fields_of t.classes c) ≡ true) × (ty c 1 ≡ w))
-          → Out (Has t σ w) (elim b as (λ _. Outcome Graph) [ true ↦ stopped Stop.tooLarge n | false ↦ value (make c vs) n ])
+          → Out (Has t σ w) (elim b as (λ _. Outcome Graph) [ true ↦ stopped Stop.too_large n | false ↦ value (make c vs) n ])
       go true a = tt
       go false (inl a) = subst (λ (k : Ty). Has t σ k (make c vs)) a.1 (has_new t wf σ c kn us vs h a.0 (fields_tags t.classes wf.parents wf.own c c))
       go false (inr a) = subst (λ (k : Ty). Has t σ k (make c vs)) a.1 (has_new_open t wf σ c kn us vs h a.0)

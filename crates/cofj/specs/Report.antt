@@ -2,7 +2,7 @@
 use Rattle.std.specs.Prelude.{ℕ, suc, ◌≡◌, List, [], ◌∷◌, ◌++◌, length}
 use Rattle.cofj.specs.Values.{Graph, Node, Ref, obj, leaf, Leaf, mark, undet, num}
 use Rattle.cofj.specs.Unfolding.{SameTree}
-use Rattle.cofj.specs.Running.{Outcome, value, stopped, Stop, stuck, noFuel, tooDeep, tooLarge, overflow}
+use Rattle.cofj.specs.Running.{Outcome, value, stopped, Stop, stuck, no_fuel, too_deep, too_large, overflow}
 use Rattle.cofj.specs.Limits.{number_class}
 use Rattle.cofj.specs.Writing.{number_bytes}
 use Rattle.cofj.specs.Text.{hex_text}
@@ -40,9 +40,9 @@ value_lines g = elim g.root [ obj i ↦ object_lines 0 g.nodes | leaf l ↦ leaf
 
 abbrev pub stop_byte : Stop → ℕ
 stop_byte stuck = 1
-stop_byte noFuel = 2
-stop_byte tooDeep = 3
-stop_byte tooLarge = 4
+stop_byte no_fuel = 2
+stop_byte too_deep = 3
+stop_byte too_large = 4
 stop_byte overflow = 5
 
 abbrev pub outcome_lines : Outcome Graph → List (List ℕ)

@@ -35,8 +35,8 @@ abbrev pub row_unreached : Row
 row_unreached = row_with checked 1000 "010100010000\n0401004200\n" "0500010100\n0501010102\n05020000\n" "08000100\n0500010100\n" 1000
 
 -- a field names no part
-abbrev pub row-no_part : Row
-row-no_part = row_with checked 1000 "010100010000\n0401004200\n" "0500010101\n" "080E\n" 1000
+abbrev pub row_no_part : Row
+row_no_part = row_with checked 1000 "010100010000\n0401004200\n" "0500010101\n" "080E\n" 1000
 
 -- one part, held at two places: it must fit both
 abbrev pub row_two_places : Row
@@ -58,12 +58,12 @@ abbrev pub row_number : Row
 row_number = row checked 1000 "0346002A\n" "0800FE00\n09002A\n" 1000
 
 -- whose bytes look like a sign and a class
-abbrev pub row_number-bytes : Row
-row_number-bytes = row checked 1000 "034645FF\n" "0800FE00\n0945FF\n" 1000
+abbrev pub row_number_bytes : Row
+row_number_bytes = row checked 1000 "034645FF\n" "0800FE00\n0945FF\n" 1000
 
 -- a sum, and one above the largest number
-abbrev pub row-sum : Row
-row-sum = row checked 1000 "03474600FF460001\n" "0800FE00\n090100\n" 1000
+abbrev pub row_sum : Row
+row_sum = row checked 1000 "03474600FF460001\n" "0800FE00\n090100\n" 1000
 
 abbrev pub row_overflow : Row
 row_overflow = row checked 1000 "034746FFFF460001\n" "0800FE00\n0705\n" 1000
@@ -165,8 +165,8 @@ abbrev pub row_number_differs : Row
 row_number_differs = row_with checked 1000 "01010002FE000103\n01020000\n02020101030103020100010044010240420142004201\n0401004401024502004200450102474300420046000143014200\n" "05000102FE000501\n05010102FE000600\n" "08000103\n05000102FE000601\n05010102FE000602\n05020102FE000501\n" 997
 
 abbrev pub request_rows : List Row
-request_rows = row_ring_cut ∷ row_ring ∷ row_met ∷ row_met_3 ∷ row_minus ∷ row_plus ∷ row_plus_trial ∷ row_unreached ∷ row-no_part
-    ∷ row_two_places ∷ row_one_place ∷ row_untyped_checked ∷ row_untyped ∷ row_number ∷ row_number-bytes ∷ row-sum ∷ row_overflow ∷ row_difference
+request_rows = row_ring_cut ∷ row_ring ∷ row_met ∷ row_met_3 ∷ row_minus ∷ row_plus ∷ row_plus_trial ∷ row_unreached ∷ row_no_part
+    ∷ row_two_places ∷ row_one_place ∷ row_untyped_checked ∷ row_untyped ∷ row_number ∷ row_number_bytes ∷ row_sum ∷ row_overflow ∷ row_difference
     ∷ row_equal_numbers ∷ row_other_numbers ∷ row_count ∷ row_ring_of_numbers ∷ row_choose_first ∷ row_choose_second ∷ row_choose_neither ∷ row_no_object ∷ row_no_object_trial
     ∷ row_sum_first ∷ row_sum_both ∷ row_thirteen ∷ row_given_number ∷ row_given_cut ∷ row_given_none ∷ row_given_part ∷ row_given_two ∷ row_given_class
     ∷ row_nearest ∷ row_nearest_above ∷ row_override_gap ∷ row_equal ∷ row_equal_1 ∷ row_other ∷ row_other_2 ∷ row_number_differs ∷ []

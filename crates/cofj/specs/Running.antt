@@ -13,7 +13,7 @@ use Rattle.cofj.specs.Values.{Graph, obj, leaf, make, select, close, eq_graph, e
 
 -- why a run ends without a value
 pub data Stop : Type 0 where
-  stuck noFuel tooDeep tooLarge overflow : Stop
+  stuck no_fuel too_deep too_large overflow : Stop
 
 -- what evaluation gives: a value or what it stopped at, and the fuel that is left
 pub data Outcome (A : Type 0) : Type 0 where
@@ -82,8 +82,8 @@ opened os v m vs = record { receiver = v; name = m; args = vs; label = length os
 -- be); then whether it is met again. A fresh mark is the number of open left-side calls, which no value has that is alive.
 unfoldable pub invoke : Option Deeper → List OpenCall → Graph → ℕ → List Graph → Method → ℕ → Outcome Graph
 unfolding open_mark close
-invoke deeper os v m vs d zero = stopped noFuel zero
-invoke none os v m vs d (suc n) = stopped tooDeep n
+invoke deeper os v m vs d zero = stopped no_fuel zero
+invoke none os v m vs d (suc n) = stopped too_deep n
 invoke (some body) os v m vs d (suc n) =
     elim (open_mark os v m vs) [
       | some x ↦ body (frame_of v (some (mark_of x)) vs) os d.right n
@@ -92,7 +92,7 @@ invoke (some body) os v m vs d (suc n) =
 
 -- too large: more than so many distinct objects, the new one included
 unfoldable pub sized : ℕ → Graph → ℕ → Outcome Graph
-sized objects g n = elim (ltb objects (length g.nodes)) [ true ↦ stopped tooLarge n | false ↦ value g n ]
+sized objects g n = elim (ltb objects (length g.nodes)) [ true ↦ stopped too_large n | false ↦ value g n ]
 
 -- two numbers put together: a sum above the largest number stops the run, a difference below 0 is 0
 unfoldable pub reckon : Operation → ℕ → ℕ → ℕ → Outcome Graph

@@ -15,7 +15,7 @@ use Rattle.cofj.specs.Syntax.{Operation, sum, difference, Expr, this, res, param
 use Rattle.cofj.specs.Classes.{fields_of}
 use Rattle.cofj.specs.Lookup.{found_in, lookup}
 use Rattle.cofj.specs.Values.{Graph, make, select, close, mark_of, number_of, number_in}
-use Rattle.cofj.specs.Running.{Stop, stuck, noFuel, tooDeep, tooLarge, overflow, Outcome, value, stopped, Frame, OpenCall, open_mark, class_of, frame_of, opened, main_frame}
+use Rattle.cofj.specs.Running.{Stop, stuck, no_fuel, too_deep, too_large, overflow, Outcome, value, stopped, Frame, OpenCall, open_mark, class_of, frame_of, opened, main_frame}
 
 module _ (objects : ℕ) (t : Table) where
   mutual
@@ -197,7 +197,7 @@ module _ (objects : ℕ) (t : Table) where
           → length d.params ≡ count es
           → EvaluateAll k π σ es n₁ (value vs zero)
           -- ----------------------------------------------------
-          → Evaluates k π σ (call m e es) n (stopped noFuel zero)
+          → Evaluates k π σ (call m e es) n (stopped no_fuel zero)
       -- The call is known, open or not, its unit is spent, and no more call may be opened.
       TOO-DEEP :
           {n n₁ n₂ m c c' : ℕ} {π : Frame} {σ : List OpenCall} {e : Expr} {es : Exprs} {v : Graph} {vs : List Graph} {d : Method}
@@ -207,7 +207,7 @@ module _ (objects : ℕ) (t : Table) where
           → length d.params ≡ count es
           → EvaluateAll zero π σ es n₁ (value vs (suc n₂))
           -- ------------------------------------------------------
-          → Evaluates zero π σ (call m e es) n (stopped tooDeep n₂)
+          → Evaluates zero π σ (call m e es) n (stopped too_deep n₂)
       -- The new object has more distinct objects in it than a value may have, itself included.
       TOO-LARGE :
           {k n n₁ c : ℕ} {π : Frame} {σ : List OpenCall} {es : Exprs} {vs : List Graph}
@@ -215,7 +215,7 @@ module _ (objects : ℕ) (t : Table) where
           → EvaluateAll k π σ es n (value vs n₁)
           → objects < length (make c vs).nodes
           -- -------------------------------------------------
-          → Evaluates k π σ (new c es) n (stopped tooLarge n₁)
+          → Evaluates k π σ (new c es) n (stopped too_large n₁)
       -- ---- document 02's numbers. No fuel is spent
       NUMBER :
           {k n x : ℕ} {π : Frame} {σ : List OpenCall}

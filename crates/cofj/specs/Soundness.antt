@@ -9,7 +9,7 @@ use Rattle.cofj.specs.Syntax.{Ty, Table}
 use Rattle.cofj.specs.Classes.{class_fits, fields_of}
 use Rattle.cofj.specs.Values.{Graph, Ref, Leaf, mark, undet, num, node_at, refs_at}
 use Rattle.cofj.specs.Unfolding.{Label, object, at_leaf, label_at, follow}
-use Rattle.cofj.specs.Running.{Outcome, value, stopped, Stop, stuck, noFuel, tooDeep, tooLarge, overflow, run_within}
+use Rattle.cofj.specs.Running.{Outcome, value, stopped, Stop, stuck, no_fuel, too_deep, too_large, overflow, run_within}
 use Rattle.cofj.specs.Typing.{accepted, check}
 use Rattle.cofj.specs.Formed.{Good}
 use Rattle.cofj.specs.WellFormed.{WellFormed}
@@ -51,9 +51,9 @@ pub record Sits (t : Table) (u : Ty) (v : Graph) : Type 0 where
 
 abbrev pub NotStuck : Stop → Type 0
 NotStuck stuck = ⊥
-NotStuck noFuel = Unit {0}
-NotStuck tooDeep = Unit {0}
-NotStuck tooLarge = Unit {0}
+NotStuck no_fuel = Unit {0}
+NotStuck too_deep = Unit {0}
+NotStuck too_large = Unit {0}
 NotStuck overflow = Unit {0}
 
 abbrev pub Ends : Table → Ty → Outcome Graph → Type 0

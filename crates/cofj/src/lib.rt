@@ -1,4 +1,5 @@
 // The plain types that the definitions (specs/) and every crate above share. No code: the crate is its definitions and theorems.
+#![tactic(auto)]
 
 // A session: open or closed, and the fuel that is left.
 #[repr(C)]

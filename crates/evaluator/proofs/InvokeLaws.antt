@@ -59,16 +59,16 @@ module _ (o : Option ℕ) (h : Held) (e : h ≡ met_of o) where
       go (some x) z = absurd (let w : 0 ≡ 1 = ap present z in omega arith)
 
 module _ (t : Table) (os : List language.OpenCall) (v : Graph) (m : ℕ) (vs : List Graph) (k : Method) where
-  spent : (d : Option Deeper) (fuel : ℕ) → fuel ≡ 0 → stopped language.noFuel fuel ≡ invoke d os v m vs k fuel
+  spent : (d : Option Deeper) (fuel : ℕ) → fuel ≡ 0 → stopped language.no_fuel fuel ≡ invoke d os v m vs k fuel
   unfolding invoke
   spent d zero z = refl
   spent d (suc n) z = absurd (omega arith)
 
-  too_deep : (objects d fuel : ℕ) → (fuel ≡ 0 → ⊥) → d ≡ 0 → stopped language.tooDeep (fuel - 1) ≡ invoke (deeper objects d t) os v m vs k fuel
+  too_deep_lem : (objects d fuel : ℕ) → (fuel ≡ 0 → ⊥) → d ≡ 0 → stopped language.too_deep (fuel - 1) ≡ invoke (deeper objects d t) os v m vs k fuel
   unfolding deeper invoke
-  too_deep objects zero zero nz z = absurd (nz refl)
-  too_deep objects zero (suc n) nz z = rw sub-one
-  too_deep objects (suc d) fuel nz z = absurd (omega arith)
+  too_deep_lem objects zero zero nz z = absurd (nz refl)
+  too_deep_lem objects zero (suc n) nz z = rw sub-one
+  too_deep_lem objects (suc d) fuel nz z = absurd (omega arith)
 
   -- what a call gives whose bodies are evaluated by `body`, by the mark that it is open under
   abbrev sides : Deeper → ℕ → Option ℕ → Outcome Graph
@@ -97,7 +97,7 @@ module _ (T W tr : List ℕ) (top : ℕ) (v : ValueRef) (ps : List Slot) (n i ne
     invoke_deep z = record {
       kept = kept_none sp W;
       older = tt;
-      is = λ t k tb ek. record { is = too_deep t (trace_in W tr top) (value_of W v) m (values_from W ps 0 n) k objects d fuel nf z; next = tt };
+      is = λ t k tb ek. record { is = too_deep_lem t (trace_in W tr top) (value_of W v) m (values_from W ps 0 n) k objects d fuel nf z; next = tt };
     }
 
     module _ (nd : d ≡ 0 → ⊥) (h : Held) (eh : h ≡ met_of (open_mark (trace_in W tr top) (value_of W v) m (values_from W ps 0 n))) (W' : List ℕ) (o : Out) where

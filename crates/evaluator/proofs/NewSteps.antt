@@ -47,11 +47,11 @@ use Rattle.evaluator.proofs.TraceLaws.{traced_none}
 use Rattle.evaluator.proofs.ListLaws.{list_zero, new_other, new_many, new_is}
 use Rattle.evaluator.proofs.StepLaws.{next_new, run-part, step_new}
 
-sized_none : (objects : ℕ) (g : Graph) (fuel : ℕ) → cond (leb (length g.nodes) objects) (some g) none ≡ none → sized objects g fuel ≡ stopped language.tooLarge fuel
+sized_none : (objects : ℕ) (g : Graph) (fuel : ℕ) → cond (leb (length g.nodes) objects) (some g) none ≡ none → sized objects g fuel ≡ stopped language.too_large fuel
 unfolding sized
 sized_none objects g fuel h = go (leb (length g.nodes) objects) refl h
   where
-    go : (b : Bool) → leb (length g.nodes) objects ≡ b → cond b (some g) none ≡ none → sized objects g fuel ≡ stopped language.tooLarge fuel
+    go : (b : Bool) → leb (length g.nodes) objects ≡ b → cond b (some g) none ≡ none → sized objects g fuel ≡ stopped language.too_large fuel
     go true q z = absurd (none-ne-some g (sym z))
     go false q z = rw (lt-ltb objects (length g.nodes) (leb-false (length g.nodes) objects q), sized)
 

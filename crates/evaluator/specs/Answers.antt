@@ -36,9 +36,9 @@ pub data Listed : Type 0 where
 -- ---- answers as the language's outcomes
 abbrev pub stop_of : Stop → language.Stop
 stop_of Stuck = language.stuck
-stop_of NoFuel = language.noFuel
-stop_of TooDeep = language.tooDeep
-stop_of TooLarge = language.tooLarge
+stop_of NoFuel = language.no_fuel
+stop_of TooDeep = language.too_deep
+stop_of TooLarge = language.too_large
 stop_of Overflow = language.overflow
 
 abbrev pub out_in : List ℕ → Out → Outcome Graph

@@ -16,7 +16,7 @@ use Rattle.cofj.specs.Frames.{Got, Reader, got, two_bytes, exprs_by, field_after
 use Rattle.lineform.specs.declared.exprs.Sign.{Sign}
 use Rattle.lineform.specs.Signs.{this_sign, res_sign, parameter_sign, field_sign, call_sign, new_sign, number_sign, sum_sign, difference_sign, choose_sign, row, InTable}
 use Rattle.lineform.specs.Answers.{end_in, pick, after, no_sign, sign_of, sign_at, end_by}
-use Rattle.lineform.proofs.SignLaws.{row_this, row_res, row_parameter, row_field, row_call, row_new, row_number, row-sum, row_difference, row_choose, NoSign, which_sign, row_missing}
+use Rattle.lineform.proofs.SignLaws.{row_this, row_res, row_parameter, row_field, row_call, row_new, row_number, row_sum, row_difference, row_choose, NoSign, which_sign, row_missing}
 use Rattle.lineform.proofs.Ends.{more, no_more, end_here}
 
 -- ---- an expression, and the expressions in it
@@ -250,7 +250,7 @@ module _ (s : List ℕ) (left at : ℕ) (nz : 1 ≤ left) (h : at < length s) wh
       (λ e. told 3 (1 + number) (row_call sign number e) (λ z. omega arith) (call_told e))
       (λ e. told 3 number (row_new sign number e) (λ z. omega arith) (new_told e))
       (λ e. told 3 0 (row_number sign number e) (λ z. omega arith) (number_told e))
-      (λ e. told 1 2 (row-sum sign number e) (λ z. omega arith) (sum_told e))
+      (λ e. told 1 2 (row_sum sign number e) (λ z. omega arith) (sum_told e))
       (λ e. told 1 2 (row_difference sign number e) (λ z. omega arith) (difference_told e))
       (λ e. told 1 3 (row_choose sign number e) (λ z. omega arith) (choose_told e))
       none_told

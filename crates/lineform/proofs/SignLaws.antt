@@ -42,9 +42,9 @@ module _ (b n : ℕ) where
   unfolding sign_row
   row_number e = record { is = rw e; short = omega arith; few = omega arith }
 
-  pub row-sum : b ≡ sum_sign → InTable b n (row 1 2)
+  pub row_sum : b ≡ sum_sign → InTable b n (row 1 2)
   unfolding sign_row
-  row-sum e = record { is = rw e; short = omega arith; few = omega arith }
+  row_sum e = record { is = rw e; short = omega arith; few = omega arith }
 
   pub row_difference : b ≡ difference_sign → InTable b n (row 1 2)
   unfolding sign_row
@@ -113,7 +113,7 @@ size_short b n =
     (λ e. short_of (row_call b n e))
     (λ e. short_of (row_new b n e))
     (λ e. short_of (row_number b n e))
-    (λ e. short_of (row-sum b n e))
+    (λ e. short_of (row_sum b n e))
     (λ e. short_of (row_difference b n e))
     (λ e. short_of (row_choose b n e))
     (λ m. short_of (row_missing b n m))

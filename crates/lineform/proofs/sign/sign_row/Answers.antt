@@ -24,7 +24,7 @@ pub returns-then-b-eq-NUMBER : goal.returns-then-b-eq-NUMBER
 returns-then-b-eq-NUMBER c = search laws.row_number
 
 pub returns-then-b-eq-SUM : goal.returns-then-b-eq-SUM
-returns-then-b-eq-SUM c = search laws.row-sum
+returns-then-b-eq-SUM c = search laws.row_sum
 
 pub returns-then-b-eq-DIFFERENCE : goal.returns-then-b-eq-DIFFERENCE
 returns-then-b-eq-DIFFERENCE c = search laws.row_difference
