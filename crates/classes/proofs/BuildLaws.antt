@@ -1,4 +1,4 @@
--- Laws of placing all lines, in the form in which the needs of build cite them.
+-- Laws of placing all lines, in the form in which the goals of `build` cite them.
 use Prim.Native.Nat.{ℕ, suc, ◌+◌, ◌-◌, ◌<◌, ◌≤◌}
 use native.Mathlib.Omega.{arith}
 use mathlib.Core.Path.{◌≡◌, sym, ap, ◌∙◌}

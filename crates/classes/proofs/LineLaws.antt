@@ -1,4 +1,4 @@
--- Laws of the tests of a line's bytes, in the form in which the needs of known cite them: one for each return.
+-- Laws of the tests of a line's bytes, in the form in which the goals of `known` cite them: one for each return.
 use Prim.Native.Nat.{ℕ, zero, suc, ◌+◌, ◌-◌, ◌<◌, ◌≤◌}
 use native.Mathlib.Omega.{arith}
 use native.Mathlib.Numerals.{sub-one, add-one}

@@ -1,4 +1,4 @@
--- Laws of overriding, in the form in which the needs of overrides cite them.
+-- Laws of overriding, in the form in which the goals of `overrides` cite them.
 use Prim.Native.Nat.{ℕ, zero, suc, ◌+◌, ◌-◌, ◌*◌, ◌%◌, ◌<◌, ◌≤◌}
 use native.Mathlib.Omega.{arith}
 use native.Mathlib.Nat.{sub-zero}

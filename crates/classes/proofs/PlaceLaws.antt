@@ -1,4 +1,4 @@
--- Laws of placing one line, in the form in which the needs of place cite them.
+-- Laws of placing one line, in the form in which the goals of `place` cite them.
 use Prim.Native.Nat.{ℕ, ◌+◌, ◌*◌, ◌<◌, ◌≤◌}
 use native.Mathlib.Omega.{arith}
 use native.Mathlib.Numerals.{add-one}

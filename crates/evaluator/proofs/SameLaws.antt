@@ -55,15 +55,15 @@ module _ (W : List ℕ) (ps qs : List Slot) (i n : ℕ) (c : Comparing W ps qs i
     unfolding eq_graphs
     differ z = rw (values_cons W ps i n a.full h, values_cons W qs i n b.full h, ← e, not-true r z, eq_graphs)
 
-    more : not r ≡ false → eq_graphs (values_from W ps (i + 1) n) (values_from W qs (i + 1) n) ≡ eq_graphs (values_from W ps i n) (values_from W qs i n)
+    more : r ≡ true → eq_graphs (values_from W ps (i + 1) n) (values_from W qs (i + 1) n) ≡ eq_graphs (values_from W ps i n) (values_from W qs i n)
     unfolding eq_graphs
-    more z = rw (values_cons W ps i n a.full h, values_cons W qs i n b.full h, ← e, not-false r z, eq_graphs)
+    more z = rw (values_cons W ps i n a.full h, values_cons W qs i n b.full h, ← e, z, eq_graphs)
 
     pub args_differ : not r ≡ true → false ≡ eq_graphs (values_from W ps 0 n) (values_from W qs 0 n)
     args_differ z = differ z ∙ c.rest
 
     pub args_more : r ≡ true → Comparing W ps qs (i + 1) n
-    args_more z = record { rest = more (ap not z) ∙ c.rest }
+    args_more z = record { rest = more z ∙ c.rest }
 
 -- lists of values one of which differs
 module _ (W : List ℕ) (ps qs : List Slot) (n k : ℕ) (a : PartsHeld W ps n) (b : PartsHeld W qs n) (l : k < n) (ne : false ≡ eq_graph (value_of W (slot_at ps k)) (value_of W (slot_at qs k))) where

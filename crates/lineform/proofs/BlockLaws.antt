@@ -1,4 +1,4 @@
--- Laws of digits in blocks, in the form in which the needs of blocks cite them.
+-- Laws of digits in blocks, in the form in which the goals of `blocks` cite them.
 use Prim.Native.Nat.{ℕ, zero, suc, ◌+◌, ◌-◌, ◌*◌, ◌/◌, ◌%◌, ◌<◌, ◌≤◌}
 use native.Mathlib.Omega.{arith}
 use mathlib.Core.Path.{◌≡◌, refl, sym, ap, ◌∙◌}

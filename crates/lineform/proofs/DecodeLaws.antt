@@ -1,4 +1,4 @@
--- Laws of decoding, in the form in which the needs of `decode` and `decode_lines` cite them: what the loop keeps, and one for each return.
+-- Laws of decoding, in the form in which the goals of `decode` and `decode_lines` cite them: what the loop keeps, and one for each return.
 -- Not here: what a caller learns from the contract (Established).
 use Prim.Native.Nat.{ℕ, zero, suc, ◌+◌, ◌-◌, ◌*◌, ◌/◌, ◌<◌, ◌≤◌}
 use native.Mathlib.Omega.{arith}

@@ -1,4 +1,4 @@
--- Laws of types and expressions, in the form in which the needs of exprs cite them: one for each return.
+-- Laws of types and expressions, in the form in which the goals of `exprs` cite them: one for each return.
 -- Not here: where one expression ends (SignEnds).
 use Prim.Native.Nat.{ℕ, zero, suc, ◌+◌, ◌-◌, ◌<◌, ◌≤◌}
 use native.Mathlib.Omega.{arith}

@@ -1,4 +1,4 @@
--- Laws of one line's frame, in the form in which the needs of frames cite them: one for each return.
+-- Laws of one line's frame, in the form in which the goals of `frames` cite them: one for each return.
 use Prim.Native.Nat.{ℕ, ◌+◌, ◌*◌, ◌<◌, ◌≤◌}
 use native.Mathlib.Omega.{arith}
 use mathlib.Core.Path.{◌≡◌, refl, sym, ap, ◌∙◌}

@@ -1,4 +1,4 @@
--- Laws of the digits, in the form in which the needs of hex and the laws of decoding cite them.
+-- Laws of the digits, in the form in which the goals of `hex` and the laws of decoding cite them.
 use Prim.Native.Nat.{ℕ, zero, suc, ◌+◌, ◌*◌, ◌-◌, ◌<◌, ◌≤◌}
 use native.Mathlib.Omega.{arith}
 use mathlib.Core.Path.{◌≡◌, refl, ap, ◌∙◌}

@@ -1,4 +1,4 @@
--- Laws of a walk over packed lines, in the form in which the needs of `frames_good` and `order` cite them.
+-- Laws of a walk over packed lines, in the form in which the goals of `frames_good` and `order` cite them.
 -- Not here: the counts of `order` (OrderLaws).
 use Prim.Native.Nat.{ℕ, ◌+◌, ◌-◌, ◌<◌, ◌≤◌}
 use native.Mathlib.Omega.{arith}

@@ -1,4 +1,4 @@
--- Laws of the order of frames, in the form in which the needs of `order` cite them: what its walk keeps, and one for each return.
+-- Laws of the order of frames, in the form in which the goals of `order` cite them: what its walk keeps, and one for each return.
 use Prim.Native.Nat.{ℕ, zero, suc, ◌+◌, ◌<◌, ◌≤◌}
 use native.Mathlib.Omega.{arith}
 use native.Mathlib.Numerals.{add-one}

@@ -1,5 +1,5 @@
 -- Where an expression of a line ends: where its sign says that its last part does.
--- Not here: the laws that the needs of exprs cite (ExprLaws).
+-- Not here: the laws that the goals of `exprs` cite (ExprLaws).
 use Prim.Native.Nat.{ℕ, zero, suc, ◌+◌, ◌-◌, ◌<◌, ◌≤◌}
 use native.Mathlib.Omega.{arith}
 use native.Mathlib.Numerals.{sub-one}

@@ -1,4 +1,4 @@
--- Laws of what is written: for the needs of write, and for callers that write line after line.
+-- Laws of what is written: for the goals of `write`, and for callers that write line after line.
 -- For callers: of `put_line` `line-*`, `take_line`, `drop_line`; of `put_text` `text-*`. Premises are the facts as a caller's record has them.
 -- Not here: what a table's lines are.
 use Prim.Native.Nat.{ℕ, suc, ◌+◌, ◌*◌, ◌/◌, ◌%◌, ◌<◌, ◌≤◌}

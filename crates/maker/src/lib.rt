@@ -39,7 +39,7 @@ pub enum Made {
     TooLarge,
 }
 
-// A value reference as an element of an array: arrays have no enums for elements.
+// A value reference as an element of an array.
 #[derive(Clone, Copy)]
 pub struct Slot {
     pub r: values::ValueRef,

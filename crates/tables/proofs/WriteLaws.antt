@@ -1,4 +1,4 @@
--- The needs of `write`: a law for each return and loop step. Not here: what the answer says of texts (Written).
+-- The goals of `write`: a law for each return and loop step. Not here: what the answer says of texts (Written).
 use Prim.Native.Nat.{ℕ, zero, suc, ◌+◌, ◌*◌, ◌-◌, ◌≤◌, ◌<◌}
 use native.Mathlib.Omega.{arith}
 use native.Mathlib.Numerals.{add-one}

@@ -36,7 +36,7 @@ module _ (W : List ℕ) (r : ValueRef) (b i : ℕ) (h : Holds W r) (e : r ≡ Ob
 pub inside_room : (W : List ℕ) (b i : ℕ) → Inside W b i → block_size * b + object_size * i + object_size ≤ length W
 inside_room W b i ob = omega (arith, ob.block.room, ob.block.small, ob.low)
 
--- a reference that is of one of three variants
+-- a reference that is not of one variant is of one of the other three
 pub no_object : (P : ValueRef → Type 0) → ((k : ℕ) → P (Mark k)) → ((n : ℕ) → P (Number n)) → P Undetermined → (r : ValueRef) → ((i b : ℕ) → r ≡ Object i b → ⊥) → P r
 no_object P m n u (Object i b) h = absurd (h i b refl)
 no_object P m n u (Mark k) h = m k

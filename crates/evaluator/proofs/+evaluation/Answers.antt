@@ -30,34 +30,55 @@ pub call::eval_call-returns-in_default-w : goal.call::eval_call-returns-in_defau
 call::eval_call-returns-in_default-w t c = search calls.call_lacks
 
 pub call::eval_call-invoke-requires : goal.call::eval_call-invoke-requires
-call::eval_call-invoke-requires t c = (search fall.call_invoke_falls, calls.bare_asked _ _ _ _ _ c.requires _ _ _ _ _ c.eval-o.ensures _ _ c.in-Value.is _ c.find-w.ensures c.if-p-eq0.false _ _ c.in-At.is c.if-n-eq0.true _ _ c.moved.ensures)
+call::eval_call-invoke-requires t c = (
+  search fall.call_invoke_falls,
+  calls.bare_asked _ _ _ _ _ c.requires _ _ _ _ _ c.eval-o.ensures _ _ c.in-Value.is _ c.find-w.ensures
+      c.if-p-eq0.false _ _ c.in-At.is c.if-n-eq0.true _ _ c.moved.ensures,
+)
 
 pub call::eval_call-shape_of-work-then-n-eq0 : goal.call::eval_call-shape_of-work-then-n-eq0
 call::eval_call-shape_of-work-then-n-eq0 t c = calls.bare_length _ _ _ _ _ _ _ _ c.eval-o.ensures _ _ _ _ _ _ _ _ _ c.invoke.ensures
 
 pub call::eval_call-returns-then-n-eq0 : goal.call::eval_call-returns-then-n-eq0
-call::eval_call-returns-then-n-eq0 t c = calls.bare_done _ _ _ _ _ c.requires _ _ _ _ _ c.eval-o.ensures _ _ c.in-Value.is _ c.find-w.ensures c.if-p-eq0.false _ _ c.in-At.is c.if-n-eq0.true _ _ c.moved.ensures _ _ _ c.invoke.ensures _ c.again.ensures
+call::eval_call-returns-then-n-eq0 t c =
+    calls.bare_done _ _ _ _ _ c.requires _ _ _ _ _ c.eval-o.ensures _ _ c.in-Value.is _ c.find-w.ensures c.if-p-eq0.false _ _ c.in-At.is
+    c.if-n-eq0.true _ _ c.moved.ensures _ _ _ c.invoke.ensures _ c.again.ensures
 
 pub call::eval_call-overflow_add-p : goal.call::eval_call-overflow_add-p
 call::eval_call-overflow_add-p t c = search calls.call_block
 
 pub call::eval_call-eval_list-l-requires : goal.call::eval_call-eval_list-l-requires
-call::eval_call-eval_list-l-requires t c = (search fall.call_list_falls, (calls.list_asked _ _ _ _ _ c.requires _ _ _ _ _ c.eval-o.ensures _ _ c.in-Value.is _ c.find-w.ensures c.if-p-eq0.false _ _ c.in-At.is _ c.moved-2.ensures, search rules))
+call::eval_call-eval_list-l-requires t c = (
+  search fall.call_list_falls,
+  (
+    calls.list_asked _ _ _ _ _ c.requires _ _ _ _ _ c.eval-o.ensures _ _ c.in-Value.is _ c.find-w.ensures
+        c.if-p-eq0.false _ _ c.in-At.is _ c.moved-2.ensures,
+    search rules,
+  ),
+)
 
 pub call::eval_call-shape_of-work-in_default-l : goal.call::eval_call-shape_of-work-in_default-l
 call::eval_call-shape_of-work-in_default-l t c = calls.list_length _ _ _ _ _ _ _ _ c.eval-o.ensures _ _ _ _ _ _ c.eval_list-l.ensures
 
 pub call::eval_call-returns-in_default-l : goal.call::eval_call-returns-in_default-l
-call::eval_call-returns-in_default-l t c = calls.list_stops _ _ _ _ _ c.requires _ _ _ _ _ c.eval-o.ensures _ _ c.in-Value.is _ c.find-w.ensures c.if-p-eq0.false _ _ c.in-At.is _ c.moved-2.ensures _ _ _ _ c.eval_list-l.ensures _ c.in_default-l.is _ c.halted.ensures
+call::eval_call-returns-in_default-l t c =
+    calls.list_stops _ _ _ _ _ c.requires _ _ _ _ _ c.eval-o.ensures _ _ c.in-Value.is _ c.find-w.ensures c.if-p-eq0.false _ _ c.in-At.is _
+    c.moved-2.ensures _ _ _ _ c.eval_list-l.ensures _ c.in_default-l.is _ c.halted.ensures
 
 pub call::eval_call-invoke-requires-2 : goal.call::eval_call-invoke-requires-2
-call::eval_call-invoke-requires-2 t c = (search fall.call_invoke_falls, calls.call_asked _ _ _ _ _ c.requires _ _ _ _ _ c.eval-o.ensures _ _ c.in-Value.is _ c.find-w.ensures c.if-p-eq0.false _ _ c.in-At.is _ c.moved-2.ensures _ _ _ _ c.eval_list-l.ensures _ c.in-After.is _ c.moved-3.ensures)
+call::eval_call-invoke-requires-2 t c = (
+  search fall.call_invoke_falls,
+  calls.call_asked _ _ _ _ _ c.requires _ _ _ _ _ c.eval-o.ensures _ _ c.in-Value.is _ c.find-w.ensures
+      c.if-p-eq0.false _ _ c.in-At.is _ c.moved-2.ensures _ _ _ _ c.eval_list-l.ensures _ c.in-After.is _ c.moved-3.ensures,
+)
 
 pub call::eval_call-shape_of-work : goal.call::eval_call-shape_of-work
 call::eval_call-shape_of-work t c = calls.invoke-length _ _ _ _ _ _ _ _ c.eval-o.ensures _ _ _ _ _ _ c.eval_list-l.ensures _ _ _ _ _ _ _ c.invoke-2.ensures
 
 pub call::eval_call-returns : goal.call::eval_call-returns
-call::eval_call-returns t c = calls.call_done _ _ _ _ _ c.requires _ _ _ _ _ c.eval-o.ensures _ _ c.in-Value.is _ c.find-w.ensures c.if-p-eq0.false _ _ c.in-At.is _ c.moved-2.ensures _ _ _ _ c.eval_list-l.ensures _ c.in-After.is _ c.moved-3.ensures _ _ _ c.invoke-2.ensures _ c.again-2.ensures
+call::eval_call-returns t c =
+    calls.call_done _ _ _ _ _ c.requires _ _ _ _ _ c.eval-o.ensures _ _ c.in-Value.is _ c.find-w.ensures c.if-p-eq0.false _ _ c.in-At.is _
+    c.moved-2.ensures _ _ _ _ c.eval_list-l.ensures _ c.in-After.is _ c.moved-3.ensures _ _ _ c.invoke-2.ensures _ c.again-2.ensures
 
 pub call::invoke-returns-then-fuel-eq0 : goal.call::invoke-returns-then-fuel-eq0
 call::invoke-returns-then-fuel-eq0 t c = search sides.invoke_stops
@@ -180,22 +201,32 @@ pub eval::eval_field-bounds-t-at : goal.eval::eval_field-bounds-t-at
 eval::eval_field-bounds-t-at t c = search fields.down_index
 
 pub eval::eval_field-select-s-requires : goal.eval::eval_field-select-s-requires
-eval::eval_field-select-s-requires t c = fields.down_held _ _ _ _ _ _ _ _ _ _ c.loop-j.invariant _ _ _ c.requires refl c.fields_at-d.ensures _ c.down.ensures _ c.eval-o.ensures c.in-Value.is
+eval::eval_field-select-s-requires t c =
+    fields.down_held _ _ _ _ _ _ _ _ _ _ c.loop-j.invariant _ _ _ c.requires refl c.fields_at-d.ensures _ c.down.ensures _ c.eval-o.ensures
+    c.in-Value.is
 
 pub eval::eval_field-returns-in_default-s : goal.eval::eval_field-returns-in_default-s
-eval::eval_field-returns-in_default-s t c = fields.down_stops _ _ _ _ _ _ _ _ _ _ c.loop-j.invariant _ _ _ c.requires refl c.fields_at-d.ensures _ c.down.ensures _ c.eval-o.ensures c.in-Value.is c.loop-j-test.true _ _ c.select-s.ensures c.in_default-s.is
+eval::eval_field-returns-in_default-s t c =
+    fields.down_stops _ _ _ _ _ _ _ _ _ _ c.loop-j.invariant _ _ _ c.requires refl c.fields_at-d.ensures _ c.down.ensures _ c.eval-o.ensures
+    c.in-Value.is c.loop-j-test.true _ _ c.select-s.ensures c.in_default-s.is
 
 pub eval::eval_field-loop-j-preserved : goal.eval::eval_field-loop-j-preserved
 eval::eval_field-loop-j-preserved t c = search fields.down_again
 
 pub eval::eval_field-select-s-requires-2 : goal.eval::eval_field-select-s-requires-2
-eval::eval_field-select-s-requires-2 t c = fields.down_held _ _ _ _ _ _ _ _ _ _ c.loop-j.invariant _ _ _ c.requires refl c.fields_at-d.ensures _ c.down.ensures _ c.eval-o.ensures c.in-Value.is
+eval::eval_field-select-s-requires-2 t c =
+    fields.down_held _ _ _ _ _ _ _ _ _ _ c.loop-j.invariant _ _ _ c.requires refl c.fields_at-d.ensures _ c.down.ensures _ c.eval-o.ensures
+    c.in-Value.is
 
 pub eval::eval_field-returns-in_default-s-2 : goal.eval::eval_field-returns-in_default-s-2
-eval::eval_field-returns-in_default-s-2 t c = fields.down_lacks _ _ _ _ _ _ _ _ _ _ c.loop-j.invariant _ _ _ c.requires refl c.fields_at-d.ensures _ c.down.ensures _ c.eval-o.ensures c.in-Value.is c.loop-j-test.false _ _ c.select-s-2.ensures c.in_default-s-2.is
+eval::eval_field-returns-in_default-s-2 t c =
+    fields.down_lacks _ _ _ _ _ _ _ _ _ _ c.loop-j.invariant _ _ _ c.requires refl c.fields_at-d.ensures _ c.down.ensures _ c.eval-o.ensures
+    c.in-Value.is c.loop-j-test.false _ _ c.select-s-2.ensures c.in_default-s-2.is
 
 pub eval::eval_field-returns : goal.eval::eval_field-returns
-eval::eval_field-returns t c = fields.down_has _ _ _ _ _ _ _ _ _ _ c.loop-j.invariant _ _ _ c.requires refl c.fields_at-d.ensures _ c.down.ensures _ c.eval-o.ensures c.in-Value.is c.loop-j-test.false _ _ c.select-s-2.ensures _ c.in-Value-s-2.is
+eval::eval_field-returns t c =
+    fields.down_has _ _ _ _ _ _ _ _ _ _ c.loop-j.invariant _ _ _ c.requires refl c.fields_at-d.ensures _ c.down.ensures _ c.eval-o.ensures
+    c.in-Value.is c.loop-j-test.false _ _ c.select-s-2.ensures _ c.in-Value-s-2.is
 
 pub eval::eval_item-returns-then-p-eq0 : goal.eval::eval_item-returns-then-p-eq0
 eval::eval_item-returns-then-p-eq0 t c = search steps.step_zero

@@ -19,7 +19,13 @@ pub returns-then-a-b : goal.returns-then-a-b
 returns-then-a-b c = search laws.test_not
 
 pub loop-j-preserved : goal.loop-j-preserved
-loop-j-preserved c = (search rules, search rules, c.loop-j.invariant.2, codes_more _ _ _ _ _ _ _ c.loop-j.invariant.3 c.loop-j.invariant.0 c.loop-j-test.true c.shade-a.ensures c.shade-b.ensures c.if-a-b.false)
+loop-j-preserved c = (
+  search rules,
+  search rules,
+  c.loop-j.invariant.2,
+  codes_more _ _ _ _ _ _ _ c.loop-j.invariant.3 c.loop-j.invariant.0 c.loop-j-test.true
+      c.shade-a.ensures c.shade-b.ensures c.if-a-b.false,
+)
 
 pub returns : goal.returns
 returns c = search laws.test_all

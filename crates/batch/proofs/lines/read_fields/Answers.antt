@@ -11,7 +11,16 @@ pub returns-then-q-eq-NO_FIELD : goal.returns-then-q-eq-NO_FIELD
 returns-then-q-eq-NO_FIELD c = search laws.fields_bad
 
 pub loop-f-preserved : goal.loop-f-preserved
-loop-f-preserved c = (search rules, search rules, search rules, laws.fields_more _ _ _ _ _ _ _ c.loop-f.invariant.3 _ _ c.read_field-q.ensures (omega (arith, c.loop-f-test.true, c.requires.1)) c.if-q-eq-NO_FIELD.false)
+loop-f-preserved c = (
+  search rules,
+  search rules,
+  search rules,
+  laws.fields_more _ _ _ _ _ _ _ c.loop-f.invariant.3 _ _ c.read_field-q.ensures (omega (
+    arith,
+    c.loop-f-test.true,
+    c.requires.1,
+  )) c.if-q-eq-NO_FIELD.false,
+)
 
 pub returns : goal.returns
 returns c = search laws.fields_done

@@ -9,7 +9,13 @@ pub loop-j-init : goal.loop-j-init
 loop-j-init c = (search rules, search rules, search rules, search laws.part-copied)
 
 pub loop-j-preserved : goal.loop-j-preserved
-loop-j-preserved c = (search rules, search rules, simp length-set (omega arith), laws.part_more _ _ _ _ _ _ _ _ c.loop-j.invariant.3 c.loop-j.invariant.0 c.loop-j-test.true c.shade.ensures (omega arith))
+loop-j-preserved c = (
+  search rules,
+  search rules,
+  simp length-set (omega arith),
+  laws.part_more _ _ _ _ _ _ _ _ c.loop-j.invariant.3 c.loop-j.invariant.0
+      c.loop-j-test.true c.shade.ensures (omega arith),
+)
 
 pub returns : goal.returns
 returns c = search laws.part_done

@@ -20,13 +20,29 @@ pub overflow_cast-cs : goal.overflow_cast-cs
 overflow_cast-cs c = omega (arith, c.known.ensures.below c.if-known.true)
 
 pub loop-i-preserved-then-known : goal.loop-i-preserved-then-known
-loop-i-preserved-then-known c = (search rules, search rules, search rules, laws.lead_met _ _ _ _ _ _ c.loop-i.invariant.3 c.class_of-d.ensures c.cell-l.ensures (omega arith) _ c.known.ensures c.if-known.true)
+loop-i-preserved-then-known c = (
+  search rules,
+  search rules,
+  search rules,
+  laws.lead_met _ _ _ _ _ _ c.loop-i.invariant.3 c.class_of-d.ensures c.cell-l.ensures (omega arith) _
+      c.known.ensures c.if-known.true,
+)
 
 pub bounds-t-d : goal.bounds-t-d
 bounds-t-d c = omega (arith, laws.lead_class _ _ _ _ _ _ _ c.requires.0 c.loop-i.invariant.3 (omega arith) c.class_of-d.ensures)
 
 pub loop-i-preserved : goal.loop-i-preserved
-loop-i-preserved c = (search rules, search rules, search rules, laws.lead_new _ _ _ _ _ _ c.loop-i.invariant.3 c.class_of-d.ensures c.cell-l.ensures (omega arith) _ c.known.ensures c.if-known.false (omega (arith, laws.lead_class _ _ _ _ _ _ _ c.requires.0 c.loop-i.invariant.3 (omega arith) c.class_of-d.ensures)))
+loop-i-preserved c = (
+  search rules,
+  search rules,
+  search rules,
+  laws.lead_new _ _ _ _ _ _ c.loop-i.invariant.3 c.class_of-d.ensures c.cell-l.ensures (omega arith) _
+      c.known.ensures c.if-known.false (omega (
+        arith,
+        laws.lead_class _ _ _ _ _ _ _ c.requires.0 c.loop-i.invariant.3 (omega arith)
+            c.class_of-d.ensures,
+      )),
+)
 
 pub returns : goal.returns
 returns c = laws.lead_done _ _ _ _ _ c.loop-i.invariant.3 c.loop-i-test.false

@@ -13,16 +13,32 @@ loop-k-init c = let p = c.same_plain.ensures.yes c.if-not-same_plain.false in
     (search rules, search rules, p, laws.codes_none (turned _) _ _ _ p)
 
 pub turn-a-requires : goal.turn-a-requires
-turn-a-requires c = λ e. c.requires.0.low c.loop-k.k (omega (arith, c.loop-k-test.true)) (omega (arith, c.loop-k.invariant.0, c.loop-k-test.true)) (omega (arith, c.loop-k-test.true)) e
+turn-a-requires c =
+    λ e. c.requires.0.low c.loop-k.k (omega (arith, c.loop-k-test.true)) (omega (arith, c.loop-k.invariant.0, c.loop-k-test.true)) (omega (
+      arith,
+      c.loop-k-test.true,
+    )) e
 
 pub turn-b-requires : goal.turn-b-requires
-turn-b-requires c = λ e. c.requires.1.low c.loop-k.k (omega (arith, c.loop-k-test.true)) (omega (arith, c.loop-k.invariant.0, c.loop-k-test.true)) (omega (arith, c.loop-k-test.true)) e
+turn-b-requires c =
+    λ e. c.requires.1.low c.loop-k.k (omega (arith, c.loop-k-test.true)) (omega (arith, c.loop-k.invariant.0, c.loop-k-test.true)) (omega (
+      arith,
+      c.loop-k-test.true,
+    )) e
 
 pub returns-then-a-b : goal.returns-then-a-b
 returns-then-a-b c = laws.codes_not _ _ _ _ _ _ _ c.loop-k.invariant.3 c.loop-k.invariant.0 (omega (arith, c.loop-k-test.true)) c.turn-a.ensures c.turn-b.ensures c.if-a-b.true
 
 pub loop-k-preserved : goal.loop-k-preserved
-loop-k-preserved c = (search rules, search rules, c.loop-k.invariant.2, laws.codes_more _ _ _ _ _ _ _ c.loop-k.invariant.3 c.loop-k.invariant.0 (omega (arith, c.loop-k-test.true)) c.turn-a.ensures c.turn-b.ensures c.if-a-b.false)
+loop-k-preserved c = (
+  search rules,
+  search rules,
+  c.loop-k.invariant.2,
+  laws.codes_more _ _ _ _ _ _ _ c.loop-k.invariant.3 c.loop-k.invariant.0 (omega (
+    arith,
+    c.loop-k-test.true,
+  )) c.turn-a.ensures c.turn-b.ensures c.if-a-b.false,
+)
 
 pub returns : goal.returns
 returns c = laws.codes_all _ _ _ _ c.loop-k.invariant.2 _ c.loop-k.invariant.3 (omega (arith, c.loop-k-test.false))

@@ -15,7 +15,9 @@ pub bounds-last-h : goal.bounds-last-h
 bounds-last-h c = omega (arith, laws.hash_small _ _ _ c.hash-h.ensures)
 
 pub like_before-r-requires : goal.like_before-r-requires
-like_before-r-requires c = laws.group_sought _ _ _ _ _ _ _ c.requires.0 c.loop-x.invariant.6 c.loop-x.invariant.3 c.loop-x-test.true (omega arith) c.loop-x.invariant.5 c.loop-x.invariant.7 c.hash-h.ensures
+like_before-r-requires c =
+    laws.group_sought _ _ _ _ _ _ _ c.requires.0 c.loop-x.invariant.6 c.loop-x.invariant.3 c.loop-x-test.true (omega arith) c.loop-x.invariant.5
+    c.loop-x.invariant.7 c.hash-h.ensures
 
 pub hang-requires : goal.hang-requires
 hang-requires c = (c.loop-x.invariant.6, search rules, search rules, search rules, c.like_before-r.ensures.low)
@@ -24,7 +26,19 @@ pub bounds-last-h-in-loop-x : goal.bounds-last-h-in-loop-x
 bounds-last-h-in-loop-x c = omega (arith, laws.hash_small _ _ _ c.hash-h.ensures)
 
 pub loop-x-preserved : goal.loop-x-preserved
-loop-x-preserved c = (search rules, c.hang.ensures.size ∙ c.loop-x.invariant.1, search rules, search rules, search rules, laws.chain_more _ _ _ _ _ _ _ c.loop-x.invariant.5 c.loop-x.invariant.3 c.loop-x-test.true (omega arith) (omega arith) c.hash-h.ensures refl, c.hang.ensures.hung, laws.group_more _ _ _ _ _ _ c.loop-x.invariant.7 c.like_before-r.ensures c.hang.ensures, laws.rest_more _ _ _ _ _ _ c.loop-x.invariant.8 c.hang.ensures)
+loop-x-preserved c = (
+  search rules,
+  c.hang.ensures.size ∙ c.loop-x.invariant.1,
+  search rules,
+  search rules,
+  search rules,
+  laws.chain_more _ _ _ _ _ _ _
+      c.loop-x.invariant.5 c.loop-x.invariant.3 c.loop-x-test.true (omega arith) (omega arith) c.hash-h.ensures refl,
+  c.hang.ensures.hung,
+  laws.group_more _ _ _ _ _ _ c.loop-x.invariant.7 c.like_before-r.ensures c.hang.ensures,
+  laws.rest_more _ _ _ _ _ _ c.loop-x.invariant.8
+      c.hang.ensures,
+)
 
 pub returns : goal.returns
 returns c = laws.group_done _ _ _ _ _ c.loop-x.invariant.1 c.loop-x.invariant.6 c.loop-x.invariant.7 c.loop-x.invariant.8 c.loop-x-test.false c.loop-x.invariant.4

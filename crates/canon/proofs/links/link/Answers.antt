@@ -8,7 +8,15 @@ use Rattle.canon.proofs.Refers as laws
 use Rattle.canon.proofs.links.link.Goals as goal
 
 pub group-requires : goal.group-requires
-group-requires c = (c.requires.0, hangs.zeros_hung _ _ _ c.requires.4 (omega arith) c.requires.1 (omega arith), c.requires.1, search rules, zeros.zeros_new hash_count _, search rules)
+group-requires c = (
+  c.requires.0,
+  hangs.zeros_hung _ _ _ c.requires.4 (omega arith) c.requires.1 (omega arith),
+  c.requires.1,
+  search rules,
+  zeros.zeros_new
+      hash_count _,
+  search rules,
+)
 
 pub refer-requires : goal.refer-requires
 refer-requires c = (c.requires.0, c.requires.1, laws.grouped_unhung _ _ _ _ c.group.ensures (λ f h. hangs.zeros_hung _ _ _ c.requires.4 (omega arith) c.requires.1 h))

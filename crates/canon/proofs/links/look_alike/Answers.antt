@@ -15,7 +15,13 @@ pub returns-then-a-b : goal.returns-then-a-b
 returns-then-a-b c = search laws.codes_not
 
 pub loop-k-preserved : goal.loop-k-preserved
-loop-k-preserved c = (search rules, search rules, c.loop-k.invariant.2, laws.codes_more _ _ _ _ _ _ _ c.loop-k.invariant.3 c.loop-k.invariant.0 c.loop-k-test.true c.show-a.ensures c.show-b.ensures c.if-a-b.false)
+loop-k-preserved c = (
+  search rules,
+  search rules,
+  c.loop-k.invariant.2,
+  laws.codes_more _ _ _ _ _ _ _ c.loop-k.invariant.3 c.loop-k.invariant.0 c.loop-k-test.true
+      c.show-a.ensures c.show-b.ensures c.if-a-b.false,
+)
 
 pub returns : goal.returns
 returns c = search laws.codes_all

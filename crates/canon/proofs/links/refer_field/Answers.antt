@@ -13,13 +13,32 @@ target_row-v-requires c = let codes = c.requires.0 in
     (omega (arith, codes.room), search rules, λ e. omega (arith, codes.few, codes.low _ _ (omega arith) c.requires.2 e))
 
 pub hang-requires : goal.hang-requires
-hang-requires c = (c.loop-x.invariant.3.hung, search rules, search rules, search rules, laws.target_low _ _ _ _ _ c.requires.0 c.requires.1 (omega arith) c.requires.2 c.target_row-v.ensures)
+hang-requires c = (
+  c.loop-x.invariant.3.hung,
+  search rules,
+  search rules,
+  search rules,
+  laws.target_low _ _ _ _ _ c.requires.0 c.requires.1 (omega arith)
+      c.requires.2 c.target_row-v.ensures,
+)
 
 pub loop-x-preserved-then-v-gt0 : goal.loop-x-preserved-then-v-gt0
-loop-x-preserved-then-v-gt0 c = (c.hang.ensures.size ∙ c.loop-x.invariant.0, search rules, search rules, laws.refer_more _ _ _ _ _ _ _ _ c.loop-x.invariant.3 c.hang.ensures c.target_row-v.ensures)
+loop-x-preserved-then-v-gt0 c = (
+  c.hang.ensures.size ∙ c.loop-x.invariant.0,
+  search rules,
+  search rules,
+  laws.refer_more _ _ _ _ _ _ _ _ c.loop-x.invariant.3 c.hang.ensures
+      c.target_row-v.ensures,
+)
 
 pub loop-x-preserved : goal.loop-x-preserved
-loop-x-preserved c = (c.hang.ensures.size ∙ c.loop-x.invariant.0, search rules, search rules, laws.refer_more _ _ _ _ _ _ _ _ c.loop-x.invariant.3 c.hang.ensures c.target_row-v.ensures)
+loop-x-preserved c = (
+  c.hang.ensures.size ∙ c.loop-x.invariant.0,
+  search rules,
+  search rules,
+  laws.refer_more _ _ _ _ _ _ _ _ c.loop-x.invariant.3 c.hang.ensures
+      c.target_row-v.ensures,
+)
 
 pub returns : goal.returns
 returns c = laws.refer_done _ _ _ _ _ _ c.loop-x.invariant.3 c.loop-x-test.false c.loop-x.invariant.2

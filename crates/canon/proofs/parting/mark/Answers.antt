@@ -8,7 +8,12 @@ pub cell-a-requires : goal.cell-a-requires
 cell-a-requires c = (search laws.class_room, search rules)
 
 pub returns-then-l-a : goal.returns-then-l-a
-returns-then-l-a c = (fronts.mark_there _ _ _ _ c.requires.0 c.requires.1 _ _ _ c.class_of-c.ensures c.cell-a.ensures c.cell-l.ensures c.if-l-a.true, laws.notes_refl _ _, search rules)
+returns-then-l-a c = (
+  fronts.mark_there _ _ _ _ c.requires.0 c.requires.1 _ _ _ c.class_of-c.ensures c.cell-a.ensures c.cell-l.ensures c.if-l-a.true,
+  laws.notes_refl _
+      _,
+  search rules,
+)
 
 pub cell-b-requires : goal.cell-b-requires
 cell-b-requires c = (search laws.class_room, search rules)

@@ -14,7 +14,12 @@ pub bounds-t-p : goal.bounds-t-p
 bounds-t-p c = omega (arith, laws.place_in _ _ _ _ _ _ c.requires.0 c.requires.1 c.cell-e.ensures c.loop-p-test.true)
 
 pub loop-p-preserved : goal.loop-p-preserved
-loop-p-preserved c = (search rules, search rules, laws.note_step _ _ _ _ _ _ _ _ c.requires.0 c.requires.1 c.cell-e.ensures c.loop-p-test.true c.loop-p.invariant.2 c.cell-v.ensures)
+loop-p-preserved c = (
+  search rules,
+  search rules,
+  laws.note_step _ _ _ _ _ _ _ _ c.requires.0 c.requires.1 c.cell-e.ensures c.loop-p-test.true c.loop-p.invariant.2
+      c.cell-v.ensures,
+)
 
 pub returns : goal.returns
 returns c = laws.note_done _ _ _ _ _ c.cell-e.ensures c.loop-p-test.false c.loop-p.invariant.2

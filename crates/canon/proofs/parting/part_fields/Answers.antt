@@ -18,7 +18,12 @@ pub loop-s-smaller : goal.loop-s-smaller
 loop-s-smaller c = omega (arith, c.loop-s.invariant.2.classes.few)
 
 pub loop-s-preserved : goal.loop-s-preserved
-loop-s-preserved c = (c.part_by-r.ensures.same ∙ c.loop-s.invariant.0, omega (arith, c.loop-s.invariant.2.classes.few), laws.fields_then _ _ _ _ _ _ _ _ c.loop-s.invariant.2 c.part_by-r.ensures)
+loop-s-preserved c = (
+  c.part_by-r.ensures.same ∙ c.loop-s.invariant.0,
+  omega (arith, c.loop-s.invariant.2.classes.few),
+  laws.fields_then _ _ _ _ _ _ _ _
+      c.loop-s.invariant.2 c.part_by-r.ensures,
+)
 
 pub returns : goal.returns
 returns c = c.loop-s.invariant.2

@@ -18,7 +18,12 @@ pub split_all-m-requires : goal.split_all-m-requires
 split_all-m-requires c = (c.mark_into-k.ensures.0.classes, c.mark_into-k.ensures.2)
 
 pub loop-v-preserved-then-last_into-gt0 : goal.loop-v-preserved-then-last_into-gt0
-loop-v-preserved-then-last_into-gt0 c = (c.split_all-m.ensures.same ∙ c.mark_into-k.ensures.0.same ∙ c.loop-v.invariant.0, search rules, laws.looks_more _ _ _ _ _ _ _ _ _ c.loop-v.invariant.2 c.mark_into-k.ensures.0 c.split_all-m.ensures)
+loop-v-preserved-then-last_into-gt0 c = (
+  c.split_all-m.ensures.same ∙ c.mark_into-k.ensures.0.same ∙ c.loop-v.invariant.0,
+  search rules,
+  laws.looks_more _ _ _ _ _ _ _ _ _
+      c.loop-v.invariant.2 c.mark_into-k.ensures.0 c.split_all-m.ensures,
+)
 
 pub loop-v-preserved : goal.loop-v-preserved
 loop-v-preserved c = (c.loop-v.invariant.0, search rules, c.loop-v.invariant.2)

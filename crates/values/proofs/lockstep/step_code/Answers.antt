@@ -32,7 +32,11 @@ pub returns-then-known-eq0 : goal.returns-then-known-eq0
 returns-then-known-eq0 c = laws.code_new _ _ _ _ _ _ _ c.if-first-ge-FIRST_LEAF.false c.if-second-ge-FIRST_LEAF.false (omega (arith, c.if-known-eq0.true))
 
 pub returns-then-known-second : goal.returns-then-known-second
-returns-then-known-second c = laws.code_known _ _ _ _ _ _ _ c.if-first-ge-FIRST_LEAF.false c.if-second-ge-FIRST_LEAF.false (λ e. omega (arith, c.if-known-eq0.false)) (omega (arith, c.if-known-second.true))
+returns-then-known-second c =
+    laws.code_known _ _ _ _ _ _ _ c.if-first-ge-FIRST_LEAF.false c.if-second-ge-FIRST_LEAF.false (λ e. omega (arith, c.if-known-eq0.false)) (omega
+    (arith, c.if-known-second.true))
 
 pub returns : goal.returns
-returns c = laws.code_taken _ _ _ _ _ _ _ c.if-first-ge-FIRST_LEAF.false c.if-second-ge-FIRST_LEAF.false (λ e. omega (arith, c.if-known-eq0.false)) (λ e. omega (arith, c.if-known-second.false))
+returns c =
+    laws.code_taken _ _ _ _ _ _ _ c.if-first-ge-FIRST_LEAF.false c.if-second-ge-FIRST_LEAF.false (λ e. omega (arith, c.if-known-eq0.false)) (λ e.
+    omega (arith, c.if-known-second.false))

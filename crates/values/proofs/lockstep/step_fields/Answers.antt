@@ -25,10 +25,19 @@ pub step_code-r-requires : goal.step_code-r-requires
 step_code-r-requires c = search laws.code_fits
 
 pub returns-then-r-eq-DIFFERENT : goal.returns-then-r-eq-DIFFERENT
-returns-then-r-eq-DIFFERENT c = laws.fields_differ _ _ _ _ _ _ _ _ _ _ _ _ c.loop-k.invariant.4 c.loop-k-test.true _ _ _ _ _ c.number_at-m.ensures c.number_at-n.ensures c.step_code-r.ensures c.if-r-eq-DIFFERENT.true
+returns-then-r-eq-DIFFERENT c =
+    laws.fields_differ _ _ _ _ _ _ _ _ _ _ _ _ c.loop-k.invariant.4 c.loop-k-test.true _ _ _ _ _ c.number_at-m.ensures c.number_at-n.ensures
+    c.step_code-r.ensures c.if-r-eq-DIFFERENT.true
 
 pub loop-k-preserved : goal.loop-k-preserved
-loop-k-preserved c = (search rules, search rules, search rules, search rules, laws.fields_more _ _ _ _ _ _ _ _ _ _ _ _ c.loop-k.invariant.4 c.loop-k-test.true _ _ _ _ _ c.number_at-m.ensures c.number_at-n.ensures c.step_code-r.ensures c.if-r-eq-DIFFERENT.false)
+loop-k-preserved c = (
+  search rules,
+  search rules,
+  search rules,
+  search rules,
+  laws.fields_more _ _ _ _ _ _ _ _ _ _ _ _ c.loop-k.invariant.4 c.loop-k-test.true _ _ _ _
+      _ c.number_at-m.ensures c.number_at-n.ensures c.step_code-r.ensures c.if-r-eq-DIFFERENT.false,
+)
 
 pub returns : goal.returns
 returns c = search laws.fields_done
