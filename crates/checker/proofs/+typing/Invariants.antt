@@ -9,16 +9,18 @@ use Rattle.checker.proofs.+typing.Given as goal
 
 abbrev pub invariant-expr::type_args-loop-k : goal.invariant-expr::type_args-loop-k
 invariant-expr::type_args-loop-k l =
-    (l.k ≤ l.n) × (args_then l.t l.scope.main l.i (list_by l.t (type_in l.t l.left l.scope) (Parameters l.i) l.k (l.n - l.k) true l.a) ≡ args_by l.t
-    (type_in l.t l.left l.scope) l.scope.main l.i l.n l.at)
+    (l.k ≤ l.n)
+    × (args_then l.t l.scope.main l.i (list_by l.t (type_in l.t l.left l.scope) (Parameters l.i) l.k (l.n - l.k) true l.a)
+    ≡ args_by l.t (type_in l.t l.left l.scope) l.scope.main l.i l.n l.at)
 
 abbrev pub decreases-expr::type_args-loop-k : goal.decreases-expr::type_args-loop-k
 decreases-expr::type_args-loop-k l = l.n - l.k
 
 abbrev pub invariant-expr::type_values-loop-k : goal.invariant-expr::type_values-loop-k
 invariant-expr::type_values-loop-k l =
-    (l.k ≤ l.n) × (new_then l.c (list_by l.t (type_in l.t l.left l.scope) (Fields l.c) l.k (l.n - l.k) l.closed l.a) ≡ new_then l.c (list_by l.t
-    (type_in l.t l.left l.scope) (Fields l.c) 0 l.n true l.at))
+    (l.k ≤ l.n)
+    × (new_then l.c (list_by l.t (type_in l.t l.left l.scope) (Fields l.c) l.k (l.n - l.k) l.closed l.a)
+    ≡ new_then l.c (list_by l.t (type_in l.t l.left l.scope) (Fields l.c) 0 l.n true l.at))
 
 abbrev pub decreases-expr::type_values-loop-k : goal.decreases-expr::type_values-loop-k
 decreases-expr::type_values-loop-k l = l.n - l.k

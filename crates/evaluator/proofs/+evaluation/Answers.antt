@@ -32,8 +32,8 @@ call::eval_call-returns-in_default-w t c = search calls.call_lacks
 pub call::eval_call-invoke-requires : goal.call::eval_call-invoke-requires
 call::eval_call-invoke-requires t c = (
   search fall.call_invoke_falls,
-  calls.bare_asked _ _ _ _ _ c.requires _ _ _ _ _ c.eval-o.ensures _ _ c.in-Value.is _ c.find-w.ensures
-      c.if-p-eq0.false _ _ c.in-At.is c.if-n-eq0.true _ _ c.moved.ensures,
+  calls.bare_asked _ _ _ _ _ c.requires _ _ _ _ _ c.eval-o.ensures _ _ c.in-Value.is _ c.find-w.ensures c.if-p-eq0.false _ _ c.in-At.is
+      c.if-n-eq0.true _ _ c.moved.ensures,
 )
 
 pub call::eval_call-shape_of-work-then-n-eq0 : goal.call::eval_call-shape_of-work-then-n-eq0
@@ -50,11 +50,7 @@ call::eval_call-overflow_add-p t c = search calls.call_block
 pub call::eval_call-eval_list-l-requires : goal.call::eval_call-eval_list-l-requires
 call::eval_call-eval_list-l-requires t c = (
   search fall.call_list_falls,
-  (
-    calls.list_asked _ _ _ _ _ c.requires _ _ _ _ _ c.eval-o.ensures _ _ c.in-Value.is _ c.find-w.ensures
-        c.if-p-eq0.false _ _ c.in-At.is _ c.moved-2.ensures,
-    search rules,
-  ),
+  (calls.list_asked _ _ _ _ _ c.requires _ _ _ _ _ c.eval-o.ensures _ _ c.in-Value.is _ c.find-w.ensures c.if-p-eq0.false _ _ c.in-At.is _ c.moved-2.ensures, search rules),
 )
 
 pub call::eval_call-shape_of-work-in_default-l : goal.call::eval_call-shape_of-work-in_default-l
@@ -68,8 +64,8 @@ call::eval_call-returns-in_default-l t c =
 pub call::eval_call-invoke-requires-2 : goal.call::eval_call-invoke-requires-2
 call::eval_call-invoke-requires-2 t c = (
   search fall.call_invoke_falls,
-  calls.call_asked _ _ _ _ _ c.requires _ _ _ _ _ c.eval-o.ensures _ _ c.in-Value.is _ c.find-w.ensures
-      c.if-p-eq0.false _ _ c.in-At.is _ c.moved-2.ensures _ _ _ _ c.eval_list-l.ensures _ c.in-After.is _ c.moved-3.ensures,
+  calls.call_asked _ _ _ _ _ c.requires _ _ _ _ _ c.eval-o.ensures _ _ c.in-Value.is _ c.find-w.ensures c.if-p-eq0.false _ _ c.in-At.is _
+      c.moved-2.ensures _ _ _ _ c.eval_list-l.ensures _ c.in-After.is _ c.moved-3.ensures,
 )
 
 pub call::eval_call-shape_of-work : goal.call::eval_call-shape_of-work

@@ -23,8 +23,7 @@ loop-j-preserved c = (
   search rules,
   search rules,
   c.loop-j.invariant.2,
-  codes_more _ _ _ _ _ _ _ c.loop-j.invariant.3 c.loop-j.invariant.0 c.loop-j-test.true
-      c.shade-a.ensures c.shade-b.ensures c.if-a-b.false,
+  codes_more _ _ _ _ _ _ _ c.loop-j.invariant.3 c.loop-j.invariant.0 c.loop-j-test.true c.shade-a.ensures c.shade-b.ensures c.if-a-b.false,
 )
 
 pub returns : goal.returns

@@ -8,8 +8,8 @@ use Rattle.batch.proofs.colours.round.Given as goal
 
 abbrev pub invariant-loop-i : goal.invariant-loop-i
 invariant-loop-i l =
-    (l.i ≤ l.m) × (l.k ≤ l.top) × (l.top ≤ capacity) × (length l.next ≡ 256) × (length l.lead ≡ capacity) × RoundTo l.parts l.list l.m l.cs l.k l.next
-    l.lead l.top l.i
+    (l.i ≤ l.m) × (l.k ≤ l.top) × (l.top ≤ capacity) × (length l.next ≡ 256) × (length l.lead ≡ capacity)
+    × RoundTo l.parts l.list l.m l.cs l.k l.next l.lead l.top l.i
 
 abbrev pub decreases-loop-i : goal.decreases-loop-i
 decreases-loop-i l = l.m - l.i

@@ -15,11 +15,8 @@ loop-f-preserved c = (
   search rules,
   search rules,
   search rules,
-  laws.fields_more _ _ _ _ _ _ _ c.loop-f.invariant.3 _ _ c.read_field-q.ensures (omega (
-    arith,
-    c.loop-f-test.true,
-    c.requires.1,
-  )) c.if-q-eq-NO_FIELD.false,
+  laws.fields_more _ _ _ _ _ _ _ c.loop-f.invariant.3 _ _ c.read_field-q.ensures (omega (arith, c.loop-f-test.true, c.requires.1))
+      c.if-q-eq-NO_FIELD.false,
 )
 
 pub returns : goal.returns

@@ -13,8 +13,7 @@ loop-j-preserved c = (
   search rules,
   search rules,
   simp length-set (omega arith),
-  laws.part_more _ _ _ _ _ _ _ _ c.loop-j.invariant.3 c.loop-j.invariant.0
-      c.loop-j-test.true c.shade.ensures (omega arith),
+  laws.part_more _ _ _ _ _ _ _ _ c.loop-j.invariant.3 c.loop-j.invariant.0 c.loop-j-test.true c.shade.ensures (omega arith),
 )
 
 pub returns : goal.returns

@@ -35,14 +35,10 @@ pub overflow_add-result-6 : goal.overflow_add-result-6
 overflow_add-result-6 c = omega (arith, c.type_inv.a c.args.p, c.type_inv.a (c.args.p + 1), c.type_inv.a (c.args.p + 2), c.type_inv.a (c.args.p + 3))
 
 pub returns : goal.returns
-returns c =
-    record {
-      is = refl;
-      low0 = omega (arith, c.type_inv.a c.args.p);
-      low1 = omega (arith, c.type_inv.a (c.args.p + 1));
-      low2 = omega (
-        arith,
-        c.type_inv.a (c.args.p + 2),
-      );
-      low3 = omega (arith, c.type_inv.a (c.args.p + 3));
-    }
+returns c = record {
+  is = refl;
+  low0 = omega (arith, c.type_inv.a c.args.p);
+  low1 = omega (arith, c.type_inv.a (c.args.p + 1));
+  low2 = omega (arith, c.type_inv.a (c.args.p + 2));
+  low3 = omega (arith, c.type_inv.a (c.args.p + 3));
+}

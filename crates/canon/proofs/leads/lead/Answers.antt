@@ -24,8 +24,7 @@ loop-i-preserved-then-known c = (
   search rules,
   search rules,
   search rules,
-  laws.lead_met _ _ _ _ _ _ c.loop-i.invariant.3 c.class_of-d.ensures c.cell-l.ensures (omega arith) _
-      c.known.ensures c.if-known.true,
+  laws.lead_met _ _ _ _ _ _ c.loop-i.invariant.3 c.class_of-d.ensures c.cell-l.ensures (omega arith) _ c.known.ensures c.if-known.true,
 )
 
 pub bounds-t-d : goal.bounds-t-d
@@ -36,12 +35,8 @@ loop-i-preserved c = (
   search rules,
   search rules,
   search rules,
-  laws.lead_new _ _ _ _ _ _ c.loop-i.invariant.3 c.class_of-d.ensures c.cell-l.ensures (omega arith) _
-      c.known.ensures c.if-known.false (omega (
-        arith,
-        laws.lead_class _ _ _ _ _ _ _ c.requires.0 c.loop-i.invariant.3 (omega arith)
-            c.class_of-d.ensures,
-      )),
+  laws.lead_new _ _ _ _ _ _ c.loop-i.invariant.3 c.class_of-d.ensures c.cell-l.ensures (omega arith) _ c.known.ensures c.if-known.false
+      (omega (arith, laws.lead_class _ _ _ _ _ _ _ c.requires.0 c.loop-i.invariant.3 (omega arith) c.class_of-d.ensures)),
 )
 
 pub returns : goal.returns

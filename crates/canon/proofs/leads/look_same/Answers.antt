@@ -14,17 +14,13 @@ loop-k-init c = let p = c.same_plain.ensures.yes c.if-not-same_plain.false in
 
 pub turn-a-requires : goal.turn-a-requires
 turn-a-requires c =
-    λ e. c.requires.0.low c.loop-k.k (omega (arith, c.loop-k-test.true)) (omega (arith, c.loop-k.invariant.0, c.loop-k-test.true)) (omega (
-      arith,
-      c.loop-k-test.true,
-    )) e
+    λ e. c.requires.0.low c.loop-k.k (omega (arith, c.loop-k-test.true)) (omega (arith, c.loop-k.invariant.0, c.loop-k-test.true))
+    (omega (arith, c.loop-k-test.true)) e
 
 pub turn-b-requires : goal.turn-b-requires
 turn-b-requires c =
-    λ e. c.requires.1.low c.loop-k.k (omega (arith, c.loop-k-test.true)) (omega (arith, c.loop-k.invariant.0, c.loop-k-test.true)) (omega (
-      arith,
-      c.loop-k-test.true,
-    )) e
+    λ e. c.requires.1.low c.loop-k.k (omega (arith, c.loop-k-test.true)) (omega (arith, c.loop-k.invariant.0, c.loop-k-test.true))
+    (omega (arith, c.loop-k-test.true)) e
 
 pub returns-then-a-b : goal.returns-then-a-b
 returns-then-a-b c = laws.codes_not _ _ _ _ _ _ _ c.loop-k.invariant.3 c.loop-k.invariant.0 (omega (arith, c.loop-k-test.true)) c.turn-a.ensures c.turn-b.ensures c.if-a-b.true
@@ -34,10 +30,8 @@ loop-k-preserved c = (
   search rules,
   search rules,
   c.loop-k.invariant.2,
-  laws.codes_more _ _ _ _ _ _ _ c.loop-k.invariant.3 c.loop-k.invariant.0 (omega (
-    arith,
-    c.loop-k-test.true,
-  )) c.turn-a.ensures c.turn-b.ensures c.if-a-b.false,
+  laws.codes_more _ _ _ _ _ _ _ c.loop-k.invariant.3 c.loop-k.invariant.0 (omega (arith, c.loop-k-test.true)) c.turn-a.ensures c.turn-b.ensures
+      c.if-a-b.false,
 )
 
 pub returns : goal.returns

@@ -32,12 +32,10 @@ loop-x-preserved c = (
   search rules,
   search rules,
   search rules,
-  laws.chain_more _ _ _ _ _ _ _
-      c.loop-x.invariant.5 c.loop-x.invariant.3 c.loop-x-test.true (omega arith) (omega arith) c.hash-h.ensures refl,
+  laws.chain_more _ _ _ _ _ _ _ c.loop-x.invariant.5 c.loop-x.invariant.3 c.loop-x-test.true (omega arith) (omega arith) c.hash-h.ensures refl,
   c.hang.ensures.hung,
   laws.group_more _ _ _ _ _ _ c.loop-x.invariant.7 c.like_before-r.ensures c.hang.ensures,
-  laws.rest_more _ _ _ _ _ _ c.loop-x.invariant.8
-      c.hang.ensures,
+  laws.rest_more _ _ _ _ _ _ c.loop-x.invariant.8 c.hang.ensures,
 )
 
 pub returns : goal.returns

@@ -13,8 +13,7 @@ group-requires c = (
   hangs.zeros_hung _ _ _ c.requires.4 (omega arith) c.requires.1 (omega arith),
   c.requires.1,
   search rules,
-  zeros.zeros_new
-      hash_count _,
+  zeros.zeros_new hash_count _,
   search rules,
 )
 

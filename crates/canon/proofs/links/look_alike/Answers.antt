@@ -19,8 +19,7 @@ loop-k-preserved c = (
   search rules,
   search rules,
   c.loop-k.invariant.2,
-  laws.codes_more _ _ _ _ _ _ _ c.loop-k.invariant.3 c.loop-k.invariant.0 c.loop-k-test.true
-      c.show-a.ensures c.show-b.ensures c.if-a-b.false,
+  laws.codes_more _ _ _ _ _ _ _ c.loop-k.invariant.3 c.loop-k.invariant.0 c.loop-k-test.true c.show-a.ensures c.show-b.ensures c.if-a-b.false,
 )
 
 pub returns : goal.returns

@@ -15,8 +15,7 @@ loop-f-preserved-then-refer_field c = (
   c.refer_field.ensures.size ∙ c.loop-f.invariant.0,
   search rules,
   search rules,
-  laws.fields_more _ _ _ _ _ _ c.loop-f.invariant.3
-      c.loop-f-test.true c.refer_field.ensures,
+  laws.fields_more _ _ _ _ _ _ c.loop-f.invariant.3 c.loop-f-test.true c.refer_field.ensures,
 )
 
 pub loop-f-preserved : goal.loop-f-preserved
@@ -24,8 +23,7 @@ loop-f-preserved c = (
   c.refer_field.ensures.size ∙ c.loop-f.invariant.0,
   search rules,
   search rules,
-  laws.fields_more _ _ _ _ _ _ c.loop-f.invariant.3
-      c.loop-f-test.true c.refer_field.ensures,
+  laws.fields_more _ _ _ _ _ _ c.loop-f.invariant.3 c.loop-f-test.true c.refer_field.ensures,
 )
 
 pub returns : goal.returns

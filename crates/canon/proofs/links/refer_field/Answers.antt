@@ -18,8 +18,7 @@ hang-requires c = (
   search rules,
   search rules,
   search rules,
-  laws.target_low _ _ _ _ _ c.requires.0 c.requires.1 (omega arith)
-      c.requires.2 c.target_row-v.ensures,
+  laws.target_low _ _ _ _ _ c.requires.0 c.requires.1 (omega arith) c.requires.2 c.target_row-v.ensures,
 )
 
 pub loop-x-preserved-then-v-gt0 : goal.loop-x-preserved-then-v-gt0
@@ -27,8 +26,7 @@ loop-x-preserved-then-v-gt0 c = (
   c.hang.ensures.size ∙ c.loop-x.invariant.0,
   search rules,
   search rules,
-  laws.refer_more _ _ _ _ _ _ _ _ c.loop-x.invariant.3 c.hang.ensures
-      c.target_row-v.ensures,
+  laws.refer_more _ _ _ _ _ _ _ _ c.loop-x.invariant.3 c.hang.ensures c.target_row-v.ensures,
 )
 
 pub loop-x-preserved : goal.loop-x-preserved
@@ -36,8 +34,7 @@ loop-x-preserved c = (
   c.hang.ensures.size ∙ c.loop-x.invariant.0,
   search rules,
   search rules,
-  laws.refer_more _ _ _ _ _ _ _ _ c.loop-x.invariant.3 c.hang.ensures
-      c.target_row-v.ensures,
+  laws.refer_more _ _ _ _ _ _ _ _ c.loop-x.invariant.3 c.hang.ensures c.target_row-v.ensures,
 )
 
 pub returns : goal.returns

@@ -10,8 +10,7 @@ cell-a-requires c = (search laws.class_room, search rules)
 pub returns-then-l-a : goal.returns-then-l-a
 returns-then-l-a c = (
   fronts.mark_there _ _ _ _ c.requires.0 c.requires.1 _ _ _ c.class_of-c.ensures c.cell-a.ensures c.cell-l.ensures c.if-l-a.true,
-  laws.notes_refl _
-      _,
+  laws.notes_refl _ _,
   search rules,
 )
 

@@ -20,15 +20,13 @@ loop-p-init c = (
   search rules,
   search rules,
   search rules,
-  laws.class_begin _ _ _ _ _ _ _ c.requires.1 c.requires.0 c.requires.3 c.note.ensures _
-      c.cell-p.ensures,
+  laws.class_begin _ _ _ _ _ _ _ c.requires.1 c.requires.0 c.requires.3 c.note.ensures _ c.cell-p.ensures,
   notes.notes_refl _ _,
 )
 
 pub cell-v-requires : goal.cell-v-requires
 cell-v-requires c = (
-  laws.class_place _ _ _ _ _ _ _ c.requires.1 c.requires.0 c.requires.3 c.note.ensures _ c.cell-e.ensures _ _ c.loop-p.invariant.3
-      c.loop-p-test.true,
+  laws.class_place _ _ _ _ _ _ _ c.requires.1 c.requires.0 c.requires.3 c.note.ensures _ c.cell-e.ensures _ _ c.loop-p.invariant.3 c.loop-p-test.true,
   search rules,
 )
 
@@ -38,8 +36,8 @@ mark_into-k-requires c = (
   c.requires.1,
   c.requires.2,
   c.if-v-gt0.true,
-  laws.member_low _ _ _ _ _ _ _ c.requires.1 c.requires.0 c.requires.3
-      c.note.ensures _ c.cell-e.ensures _ _ c.loop-p.invariant.3 c.loop-p-test.true c.loop-p.invariant.4 c.loop-p.invariant.1 _ c.cell-v.ensures,
+  laws.member_low _ _ _ _ _ _ _ c.requires.1 c.requires.0 c.requires.3 c.note.ensures _ c.cell-e.ensures _ _ c.loop-p.invariant.3 c.loop-p-test.true
+      c.loop-p.invariant.4 c.loop-p.invariant.1 _ c.cell-v.ensures,
   c.loop-p.invariant.2,
 )
 
@@ -48,9 +46,8 @@ loop-p-preserved-then-v-gt0 c = (
   c.mark_into-k.ensures.0.same ∙ c.loop-p.invariant.0,
   search rules,
   c.mark_into-k.ensures.2,
-  laws.class_step _ _ _ _ _ _ _ c.requires.1
-      c.requires.0 c.requires.3 c.note.ensures _ c.cell-e.ensures _ _ c.loop-p.invariant.3 c.loop-p-test.true c.loop-p.invariant.4 c.loop-p.invariant.1
-      _ c.cell-v.ensures _ c.if-v-gt0.true c.mark_into-k.ensures.0,
+  laws.class_step _ _ _ _ _ _ _ c.requires.1 c.requires.0 c.requires.3 c.note.ensures _ c.cell-e.ensures _ _ c.loop-p.invariant.3 c.loop-p-test.true
+      c.loop-p.invariant.4 c.loop-p.invariant.1 _ c.cell-v.ensures _ c.if-v-gt0.true c.mark_into-k.ensures.0,
   notes.notes_then _ _ _ _ c.loop-p.invariant.4 c.mark_into-k.ensures.1,
 )
 
@@ -59,14 +56,13 @@ loop-p-preserved c = (
   c.loop-p.invariant.0,
   search rules,
   c.loop-p.invariant.2,
-  laws.class_pass _ _ _ _ _ _ _ c.requires.1 c.requires.0 c.requires.3 c.note.ensures _
-      c.cell-e.ensures _ _ c.loop-p.invariant.3 c.loop-p-test.true c.loop-p.invariant.4 c.loop-p.invariant.1 _ c.cell-v.ensures c.if-v-gt0.false,
+  laws.class_pass _ _ _ _ _ _ _ c.requires.1 c.requires.0 c.requires.3 c.note.ensures _ c.cell-e.ensures _ _ c.loop-p.invariant.3 c.loop-p-test.true
+      c.loop-p.invariant.4 c.loop-p.invariant.1 _ c.cell-v.ensures c.if-v-gt0.false,
   c.loop-p.invariant.4,
 )
 
 pub returns : goal.returns
 returns c = (
-  laws.class_end _ _ _ _ _ _ _ c.requires.1 c.requires.0 c.requires.3 c.note.ensures _ c.cell-e.ensures _ _ c.loop-p.invariant.3
-      c.loop-p-test.false,
+  laws.class_end _ _ _ _ _ _ _ c.requires.1 c.requires.0 c.requires.3 c.note.ensures _ c.cell-e.ensures _ _ c.loop-p.invariant.3 c.loop-p-test.false,
   c.loop-p.invariant.2,
 )

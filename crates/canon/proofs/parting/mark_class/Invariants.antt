@@ -9,8 +9,8 @@ use Rattle.canon.proofs.parting.mark_class.Given as goal
 
 abbrev pub invariant-loop-p : goal.invariant-loop-p
 invariant-loop-p l =
-    (length l.t ≡ length l.initial.t) × (get_or l.initial.t (row_size * l.s + 3) 0 ≤ l.p) × (l.k ≤ l.n) × Brought l.n l.m l.initial.t l.t (laws.Seen
-    l.links l.f l.initial.t l.s l.p) × SameNotes l.n l.initial.t l.t
+    (length l.t ≡ length l.initial.t) × (get_or l.initial.t (row_size * l.s + 3) 0 ≤ l.p) × (l.k ≤ l.n)
+    × Brought l.n l.m l.initial.t l.t (laws.Seen l.links l.f l.initial.t l.s l.p) × SameNotes l.n l.initial.t l.t
 
 abbrev pub decreases-loop-p : goal.decreases-loop-p
 decreases-loop-p l = l.e - l.p

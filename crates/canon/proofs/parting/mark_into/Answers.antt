@@ -24,8 +24,8 @@ pub loop-z-preserved : goal.loop-z-preserved
 loop-z-preserved c = (
   c.mark-j.ensures.0.same ∙ c.loop-z.invariant.0,
   c.mark-j.ensures.2,
-  laws.walk_step _ _ _ _ _ c.requires.1 c.requires.3 c.requires.4 _ _ _ _
-      c.loop-z.invariant.2 c.loop-z-test.true c.one_before-z.ensures _ c.mark-j.ensures.0 c.mark-j.ensures.1,
+  laws.walk_step _ _ _ _ _ c.requires.1 c.requires.3 c.requires.4 _ _ _ _ c.loop-z.invariant.2 c.loop-z-test.true c.one_before-z.ensures _
+      c.mark-j.ensures.0 c.mark-j.ensures.1,
 )
 
 pub returns : goal.returns

@@ -17,8 +17,7 @@ pub loop-p-preserved : goal.loop-p-preserved
 loop-p-preserved c = (
   search rules,
   search rules,
-  laws.note_step _ _ _ _ _ _ _ _ c.requires.0 c.requires.1 c.cell-e.ensures c.loop-p-test.true c.loop-p.invariant.2
-      c.cell-v.ensures,
+  laws.note_step _ _ _ _ _ _ _ _ c.requires.0 c.requires.1 c.cell-e.ensures c.loop-p-test.true c.loop-p.invariant.2 c.cell-v.ensures,
 )
 
 pub returns : goal.returns

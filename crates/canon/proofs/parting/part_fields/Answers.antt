@@ -21,8 +21,7 @@ pub loop-s-preserved : goal.loop-s-preserved
 loop-s-preserved c = (
   c.part_by-r.ensures.same ∙ c.loop-s.invariant.0,
   omega (arith, c.loop-s.invariant.2.classes.few),
-  laws.fields_then _ _ _ _ _ _ _ _
-      c.loop-s.invariant.2 c.part_by-r.ensures,
+  laws.fields_then _ _ _ _ _ _ _ _ c.loop-s.invariant.2 c.part_by-r.ensures,
 )
 
 pub returns : goal.returns

@@ -21,8 +21,7 @@ pub loop-v-preserved-then-last_into-gt0 : goal.loop-v-preserved-then-last_into-g
 loop-v-preserved-then-last_into-gt0 c = (
   c.split_all-m.ensures.same ∙ c.mark_into-k.ensures.0.same ∙ c.loop-v.invariant.0,
   search rules,
-  laws.looks_more _ _ _ _ _ _ _ _ _
-      c.loop-v.invariant.2 c.mark_into-k.ensures.0 c.split_all-m.ensures,
+  laws.looks_more _ _ _ _ _ _ _ _ _ c.loop-v.invariant.2 c.mark_into-k.ensures.0 c.split_all-m.ensures,
 )
 
 pub loop-v-preserved : goal.loop-v-preserved

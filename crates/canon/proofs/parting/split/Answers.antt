@@ -12,14 +12,10 @@ returns-then-n-m c = laws.split_none _ _ _ _ c.requires.0 c.requires.1 _ _ _ c.c
 
 pub relabel-requires : goal.relabel-requires
 relabel-requires c = (
-  laws.parts_placed _ _ _ _ c.requires.0 c.requires.1 _ _ _ c.cell-a.ensures c.cell-g.ensures c.cell-e.ensures _ _ c.if-g-a.false c.if-e-g.false _
-      _ _ _ c.lay_out-then-g-a-2.ensures c.lay_out-then-g-a-2-2.ensures,
+  laws.parts_placed _ _ _ _ c.requires.0 c.requires.1 _ _ _ c.cell-a.ensures c.cell-g.ensures c.cell-e.ensures _ _ c.if-g-a.false c.if-e-g.false _ _ _ _
+      c.lay_out-then-g-a-2.ensures c.lay_out-then-g-a-2-2.ensures,
   search rules,
-  omega (
-    arith,
-    laws.end_low _ _ _ _ c.requires.0 c.requires.1 _ _
-        _ c.cell-a.ensures c.cell-g.ensures c.cell-e.ensures,
-  ),
+  omega (arith, laws.end_low _ _ _ _ c.requires.0 c.requires.1 _ _ _ c.cell-a.ensures c.cell-g.ensures c.cell-e.ensures),
 )
 
 pub returns-then-g-a-2 : goal.returns-then-g-a-2
@@ -29,11 +25,10 @@ returns-then-g-a-2 c =
 
 pub relabel-requires-2 : goal.relabel-requires-2
 relabel-requires-2 c = (
-  laws.parts_placed _ _ _ _ c.requires.0 c.requires.1 _ _ _ c.cell-a.ensures c.cell-g.ensures c.cell-e.ensures _ _ c.if-g-a.false c.if-e-g.false _
-      _ _ _ c.lay_out-2.ensures c.lay_out-3.ensures,
+  laws.parts_placed _ _ _ _ c.requires.0 c.requires.1 _ _ _ c.cell-a.ensures c.cell-g.ensures c.cell-e.ensures _ _ c.if-g-a.false c.if-e-g.false _ _ _ _
+      c.lay_out-2.ensures c.lay_out-3.ensures,
   search rules,
-  laws.end_low _ _ _ _ c.requires.0 c.requires.1 _ _ _ c.cell-a.ensures
-      c.cell-g.ensures c.cell-e.ensures,
+  laws.end_low _ _ _ _ c.requires.0 c.requires.1 _ _ _ c.cell-a.ensures c.cell-g.ensures c.cell-e.ensures,
 )
 
 pub returns : goal.returns

@@ -7,8 +7,9 @@ use Rattle.classes.proofs.build.place_classes.Given as goal
 
 abbrev pub invariant-loop-k : goal.invariant-loop-k
 invariant-loop-k l =
-    (l.k ≤ l.n) × (lines_placed (λ line c B. class_placed line c l.n B) l.s l.n 0 1 l.initial.t ≡ lines_placed (λ line c B. class_placed line c l.n B)
-    l.s (l.n - l.k) l.at (l.k + 1) l.t)
+    (l.k ≤ l.n)
+    × (lines_placed (λ line c B. class_placed line c l.n B) l.s l.n 0 1 l.initial.t
+    ≡ lines_placed (λ line c B. class_placed line c l.n B) l.s (l.n - l.k) l.at (l.k + 1) l.t)
 
 abbrev pub decreases-loop-k : goal.decreases-loop-k
 decreases-loop-k l = l.n - l.k

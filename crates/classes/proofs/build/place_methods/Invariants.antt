@@ -8,8 +8,9 @@ use Rattle.classes.proofs.build.place_methods.Given as goal
 
 abbrev pub invariant-loop-i : goal.invariant-loop-i
 invariant-loop-i l =
-    (l.i ≤ l.m) × (lines_placed (λ line c B. method_placed line c (get_or l.rights c 0) l.n B) l.s l.m l.initial.at 0 l.initial.t ≡ lines_placed (λ
-    line c B. method_placed line c (get_or l.rights c 0) l.n B) l.s (l.m - l.i) l.at l.i l.t)
+    (l.i ≤ l.m)
+    × (lines_placed (λ line c B. method_placed line c (get_or l.rights c 0) l.n B) l.s l.m l.initial.at 0 l.initial.t
+    ≡ lines_placed (λ line c B. method_placed line c (get_or l.rights c 0) l.n B) l.s (l.m - l.i) l.at l.i l.t)
 
 abbrev pub decreases-loop-i : goal.decreases-loop-i
 decreases-loop-i l = l.m - l.i

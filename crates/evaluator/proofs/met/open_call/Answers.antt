@@ -16,11 +16,7 @@ returns-then-same_call c = search laws.left_found
 pub loop-j-preserved : goal.loop-j-preserved
 loop-j-preserved c = (
   search rules,
-  elim c.if-not-other_call.branch [
-    | then-not-other_call+else-same_call w ↦ search laws.left_more
-    | else-not-other_call w ↦ search
-        laws.left_other
-  ],
+  elim c.if-not-other_call.branch [ then-not-other_call+else-same_call w ↦ search laws.left_more | else-not-other_call w ↦ search laws.left_other ],
 )
 
 pub returns : goal.returns

@@ -8,8 +8,8 @@ use Rattle.maker.proofs.merge.bring_parts.Given as goal
 
 abbrev pub invariant-loop-i : goal.invariant-loop-i
 invariant-loop-i l =
-    (l.i ≤ l.n) × (length l.work ≡ length l.initial.work) × Grown l.host l.initial.work l.work × RootBrought l.initial.work (parts_of l.parts) l.n l.i
-    l.work l.host l.w
+    (l.i ≤ l.n) × (length l.work ≡ length l.initial.work) × Grown l.host l.initial.work l.work
+    × RootBrought l.initial.work (parts_of l.parts) l.n l.i l.work l.host l.w
 
 abbrev pub decreases-loop-i : goal.decreases-loop-i
 decreases-loop-i l = l.i

@@ -8,8 +8,8 @@ use Rattle.maker.proofs.reach.reach.Given as goal
 
 abbrev pub invariant-loop-head : goal.invariant-loop-head
 invariant-loop-head l =
-    (l.tail ≤ capacity) × (length l.list ≡ length l.initial.list) × (length l.seen ≡ length l.initial.seen) × ReachedTo l.work l.src l.i l.seen l.list
-    l.tail l.head
+    (l.tail ≤ capacity) × (length l.list ≡ length l.initial.list) × (length l.seen ≡ length l.initial.seen)
+    × ReachedTo l.work l.src l.i l.seen l.list l.tail l.head
 
 abbrev pub decreases-loop-head : goal.decreases-loop-head
 decreases-loop-head l = capacity - l.head

@@ -7,8 +7,8 @@ use Rattle.maker.proofs.sort.sort.Given as goal
 
 abbrev pub invariant-loop-q : goal.invariant-loop-q
 invariant-loop-q l =
-    (l.q ≤ l.m) × (length l.told ≡ length l.initial.told) × (length l.fresh ≡ length l.initial.fresh) × SortedFrom l.work l.src l.host l.list l.m l.q
-    l.told l.fresh
+    (l.q ≤ l.m) × (length l.told ≡ length l.initial.told) × (length l.fresh ≡ length l.initial.fresh)
+    × SortedFrom l.work l.src l.host l.list l.m l.q l.told l.fresh
 
 abbrev pub decreases-loop-q : goal.decreases-loop-q
 decreases-loop-q l = l.q

@@ -24,8 +24,7 @@ bounds-fresh-x c = search laws.onward_marked
 pub loop-q-preserved-then-leads_new : goal.loop-q-preserved-then-leads_new
 loop-q-preserved-then-leads_new c = (
   search rules,
-  laws.onward_lead _ _ _ _ _ _ _ _ c.loop-q.invariant.1 _ c.loop-q-test.true c.loop-q.invariant.0 _ c.leads_new.ensures
-      c.if-leads_new.true,
+  laws.onward_lead _ _ _ _ _ _ _ _ c.loop-q.invariant.1 _ c.loop-q-test.true c.loop-q.invariant.0 _ c.leads_new.ensures c.if-leads_new.true,
 )
 
 pub loop-q-preserved-else-leads_new : goal.loop-q-preserved-else-leads_new

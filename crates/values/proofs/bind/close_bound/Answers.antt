@@ -6,8 +6,7 @@ use Rattle.values.proofs.bind.close_bound.Goals as goal
 pub put_distinct-requires : goal.put_distinct-requires
 put_distinct-requires c = (
   bindings.bound_rooted _ _ _ c.requires.0 _ _ _ c.bind_objects-n.ensures _ c.requires.2,
-  apart.distinct_yes _ _ _ c.stay_distinct.ensures
-      c.if-stay_distinct.true,
+  apart.distinct_yes _ _ _ c.stay_distinct.ensures c.if-stay_distinct.true,
 )
 
 pub returns-then-stay_distinct : goal.returns-then-stay_distinct

@@ -8,8 +8,8 @@ use Rattle.values.proofs.lockstep.in_step.Given as goal
 
 abbrev pub invariant-loop-head : goal.invariant-loop-head
 invariant-loop-head l =
-    (l.tail ≤ capacity) × (length l.partner ≡ length l.initial.partner) × (length l.queue ≡ length l.initial.queue) × PairsSoFar l.work l.b l.c
-    l.initial.partner l.initial.queue l.partner l.queue l.tail l.head
+    (l.tail ≤ capacity) × (length l.partner ≡ length l.initial.partner) × (length l.queue ≡ length l.initial.queue)
+    × PairsSoFar l.work l.b l.c l.initial.partner l.initial.queue l.partner l.queue l.tail l.head
 
 abbrev pub decreases-loop-head : goal.decreases-loop-head
 decreases-loop-head l = capacity - l.head

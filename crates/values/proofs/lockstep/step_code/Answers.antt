@@ -33,10 +33,10 @@ returns-then-known-eq0 c = laws.code_new _ _ _ _ _ _ _ c.if-first-ge-FIRST_LEAF.
 
 pub returns-then-known-second : goal.returns-then-known-second
 returns-then-known-second c =
-    laws.code_known _ _ _ _ _ _ _ c.if-first-ge-FIRST_LEAF.false c.if-second-ge-FIRST_LEAF.false (λ e. omega (arith, c.if-known-eq0.false)) (omega
-    (arith, c.if-known-second.true))
+    laws.code_known _ _ _ _ _ _ _ c.if-first-ge-FIRST_LEAF.false c.if-second-ge-FIRST_LEAF.false (λ e. omega (arith, c.if-known-eq0.false))
+    (omega (arith, c.if-known-second.true))
 
 pub returns : goal.returns
 returns c =
-    laws.code_taken _ _ _ _ _ _ _ c.if-first-ge-FIRST_LEAF.false c.if-second-ge-FIRST_LEAF.false (λ e. omega (arith, c.if-known-eq0.false)) (λ e.
-    omega (arith, c.if-known-second.false))
+    laws.code_taken _ _ _ _ _ _ _ c.if-first-ge-FIRST_LEAF.false c.if-second-ge-FIRST_LEAF.false (λ e. omega (arith, c.if-known-eq0.false))
+    (λ e. omega (arith, c.if-known-second.false))

@@ -35,8 +35,8 @@ loop-k-preserved c = (
   search rules,
   search rules,
   search rules,
-  laws.fields_more _ _ _ _ _ _ _ _ _ _ _ _ c.loop-k.invariant.4 c.loop-k-test.true _ _ _ _
-      _ c.number_at-m.ensures c.number_at-n.ensures c.step_code-r.ensures c.if-r-eq-DIFFERENT.false,
+  laws.fields_more _ _ _ _ _ _ _ _ _ _ _ _ c.loop-k.invariant.4 c.loop-k-test.true _ _ _ _ _ c.number_at-m.ensures c.number_at-n.ensures
+      c.step_code-r.ensures c.if-r-eq-DIFFERENT.false,
 )
 
 pub returns : goal.returns

@@ -8,8 +8,8 @@ use Rattle.values.proofs.lockstep.step_fields.Given as goal
 
 abbrev pub invariant-loop-k : goal.invariant-loop-k
 invariant-loop-k l =
-    (l.k ≤ l.count) × (l.count ≤ code_count) × (length l.partner ≡ length l.initial.partner) × (length l.queue ≡ length l.initial.queue) × FieldsSoFar
-    l.work l.b l.x l.c l.y l.initial.partner l.initial.queue l.tail l.partner l.queue l.t l.k
+    (l.k ≤ l.count) × (l.count ≤ code_count) × (length l.partner ≡ length l.initial.partner) × (length l.queue ≡ length l.initial.queue)
+    × FieldsSoFar l.work l.b l.x l.c l.y l.initial.partner l.initial.queue l.tail l.partner l.queue l.t l.k
 
 abbrev pub decreases-loop-k : goal.decreases-loop-k
 decreases-loop-k l = l.count - l.k

@@ -13,8 +13,7 @@ loop-f-preserved c = (
   search rules,
   search rules,
   search rules,
-  laws.fields_next _ _ c.requires.0 _ _ _ _ _ c.loop-f.invariant.5 _ _ _
-      c.loop-f-test.true c.loop-f.invariant.1 c.put_field-t.ensures.0,
+  laws.fields_next _ _ c.requires.0 _ _ _ _ _ c.loop-f.invariant.5 _ _ _ c.loop-f-test.true c.loop-f.invariant.1 c.put_field-t.ensures.0,
 )
 
 pub returns : goal.returns

@@ -9,8 +9,8 @@ use Rattle.values.proofs.report.put_fields.Given as goal
 
 abbrev pub invariant-loop-f : goal.invariant-loop-f
 invariant-loop-f l =
-    (l.f ≤ l.n) × (l.n ≡ get_or l.work (l.at + 1) 0) × (l.n ≤ code_count) × (l.t ≤ l.to + field_text * l.f) × (length l.out ≡ length l.initial.out) ×
-    FieldsTo l.work l.at l.initial.out l.to l.f l.out l.t
+    (l.f ≤ l.n) × (l.n ≡ get_or l.work (l.at + 1) 0) × (l.n ≤ code_count) × (l.t ≤ l.to + field_text * l.f) × (length l.out ≡ length l.initial.out)
+    × FieldsTo l.work l.at l.initial.out l.to l.f l.out l.t
 
 abbrev pub decreases-loop-f : goal.decreases-loop-f
 decreases-loop-f l = l.n - l.f

@@ -14,8 +14,7 @@ pub put_line-to-requires : goal.put_line-to-requires
 put_line-to-requires c = (
   c.requires.0.packed _ (omega (arith, c.loop-j.invariant.1)),
   omega (arith, c.requires.0.small, c.requires.0.room, c.loop-j.invariant.1),
-  omega
-      (arith, c.requires.0.small, c.loop-j.invariant.1, c.loop-j.invariant.3.top),
+  omega (arith, c.requires.0.small, c.loop-j.invariant.1, c.loop-j.invariant.3.top),
 )
 
 pub loop-j-preserved : goal.loop-j-preserved
@@ -23,8 +22,7 @@ loop-j-preserved c = (
   search rules,
   search rules,
   search rules,
-  laws.lines_next _ _ c.requires.0 _ _ _ _ _ _ _ c.loop-j.invariant.3 c.requires.1 c.loop-j-test.true
-      c.loop-j.invariant.1 c.put_line-to.ensures,
+  laws.lines_next _ _ c.requires.0 _ _ _ _ _ _ _ c.loop-j.invariant.3 c.requires.1 c.loop-j-test.true c.loop-j.invariant.1 c.put_line-to.ensures,
 )
 
 pub returns : goal.returns
