@@ -1,22 +1,17 @@
 -- Laws of the rounds that colour the listed parts.
 -- Not here: parts that are alike (Shades), what it says of trees (Listings).
-use Prim.Native.Nat.{ℕ, suc, ◌+◌, ◌<◌, ◌≤◌}
-use native.Mathlib.Omega.{arith}
+use Rattle.std.proofs.Common.{ℕ, suc, ◌+◌, ◌<◌, ◌≤◌, arith, Some, None, ◌≡◌, refl, sym, ap, ◌∙◌, subst, List, [], ◌∷◌, length, get_or, set, replicate, get_or-set_same, get_or-set_other}
 use native.Mathlib.Decide.{dec_lt, ℕ_discrete}
-use mathlib.Core.Path.{◌≡◌, refl, sym, ap, ◌∙◌, subst}
-use mathlib.Core.List.{List, [], ◌∷◌}
-use lib.ListN.{length, get_or, set, replicate}
-use lib.Seq.{get_or-set_same, get_or-set_other}
+use Rattle.std.specs.declared.option.Option.{Option as RustOption}
 use Rattle.cofj.specs.Values.{obj, Node}
 use Rattle.cofj.specs.Unfolding.{Same}
 use Rattle.cofj.specs.Formed.{AllIn}
 use Rattle.cofj.specs.Batch.{PartReached, Apart}
 use Rattle.canon.specs.Figures.{capacity}
-use Rattle.canon.specs.Tables.{Carried}
 use Rattle.canon.proofs.Zeros.{zero_at}
 use Rattle.batch.specs.Figures.{number_field}
 use Rattle.batch.specs.Reaching.{Listed, Reaches}
-use Rattle.batch.specs.Colouring.{too_many, Alike, FirstAlike, Own, Coloured, RoundTo, RoundDone, ColouredTo, Colours}
+use Rattle.batch.specs.Colouring.{Alike, FirstAlike, Own, Coloured, RoundTo, RoundDone, Colours}
 use Rattle.batch.proofs.Shades.{alike_self, alike_back, alike_then}
 use Rattle.batch.proofs.Listings.{led_byte, listed_reached, same_alike}
 
@@ -147,12 +142,11 @@ module _ (P L : List ℕ) (m : ℕ) (rc : Reaches P L m) where
                 parted a b l n (yes z) w = other a (omega arith) (alike_back P C _ _ (rw (z, last, front a (omega arith)) at w))
                 parted a b l n (no z) w = let u : b < top = omega (arith, z) in so.apart a b l u (rw (front a (omega arith), front b u) at w)
 
-            pub round_many : capacity ≤ top → length D ≡ capacity → RoundDone P L m C k (set N (get_or L i 0) c) D too_many
+            pub round_many : capacity ≤ top → length D ≡ capacity → RoundDone P L m C k (set N (get_or L i 0) c) D None
             round_many h ld = record {
-              more = omega (arith, so.start.few);
-              most = omega arith;
-              next = λ l. absurd (omega arith);
-              settled = λ z. absurd (omega (arith, so.start.few));
+              more = λ r e. absurd (cc);
+              next = λ r e. absurd (cc);
+              settled = λ e. absurd (cc);
               many = λ _ ns ly. record {
                 ones = get_or L i 0 ∷ D;
                 count = ap suc ld;
@@ -164,28 +158,18 @@ module _ (P L : List ℕ) (m : ℕ) (rc : Reaches P L m) where
               };
             }
 
-      pub round_done : m ≤ i → RoundDone P L m C k N D top
+      pub round_done : m ≤ i → RoundDone P L m C k N D (Some top)
       round_done h = record {
-        more = so.more;
-        most = omega (arith, so.few);
-        next = λ _. record {
-          some_colour = omega (arith, so.start.some_colour, so.more);
-          few = so.few;
-          low = low;
-          leads = so.leads;
-          own = λ c l. sym (one_lead c (get_or N (get_or D c 0) 0) l (low _ (so.leads c l)) (alike _ (so.leads c l)));
-          first = so.start.first;
-          one = λ ns ly x y a b s.
-              one_lead (get_or N x 0) (get_or N y 0) (low x a) (low y b)
-              (alike_then P C _ _ _ (alike_back P C _ _ (alike x a)) (alike_then P C _ _ _ (same_alike P ns ly L m rc C (so.start.one ns ly) x y a b s) (alike y b)));
-        };
+        more = λ r e. let z : top ≡ r = cc in rw z at so.more;
+        next = λ r e. let z : top ≡ r = cc in rw z at now;
         settled = λ e. record {
           coloured = so.start;
           alike = λ x o.
+              let t : top ≡ k = cc in
               let z : get_or C x 0 ≡ get_or N x 0 = (alike x o).colour ∙ so.start.own (get_or N x 0) (omega (arith, low x o)) in
               rw z (alike x o);
         };
-        many = λ e. absurd (omega (arith, so.few));
+        many = λ e. absurd (cc);
       }
         where
           low : (x : ℕ) → Listed L m x → get_or N x 0 < top
@@ -194,40 +178,51 @@ module _ (P L : List ℕ) (m : ℕ) (rc : Reaches P L m) where
           alike : (x : ℕ) → Listed L m x → Alike P C x (get_or D (get_or N x 0) 0)
           alike x o = subst (λ (y : ℕ). Alike P C y (get_or D (get_or N y 0) 0)) o.is (so.alike o.place (omega (arith, o.low)))
 
-  -- ---- the rounds
-  carried : (S C₀ C : List ℕ) → Carried S 0 C₀ 0 256 C → (x : ℕ) → Listed L m x → get_or C x 0 ≡ get_or S x 0
-  carried S C₀ C ca x o = let z : 0 + x ≡ x = omega arith in rw z at (ca.here x (omega (arith, listed-byte x o)))
+          now : Coloured P L m N D top
+          now = record {
+            some_colour = omega (arith, so.start.some_colour, so.more);
+            few = so.few;
+            low = low;
+            leads = so.leads;
+            own = λ c l. sym (one_lead c (get_or N (get_or D c 0) 0) l (low _ (so.leads c l)) (alike _ (so.leads c l)));
+            first = so.start.first;
+            one = λ ns ly x y a b s.
+                one_lead (get_or N x 0) (get_or N y 0) (low x a) (low y b)
+                (alike_then P C _ _ _ (alike_back P C _ _ (alike x a)) (alike_then P C _ _ _ (same_alike P ns ly L m rc C (so.start.one ns ly) x y a b s) (alike y b)));
+          }
 
-  -- all have one colour, which part 0 leads; `next` begins with n zeros
-  pub colour_start : (n : ℕ) (C₀ C D : List ℕ) → Carried (replicate n 0) 0 C₀ 0 256 C → length D ≡ capacity → ColouredTo P L m C (set D 0 0) 1
-  colour_start n C₀ C D ca ld = record {
-    coloured = λ _. record {
-      some_colour = omega arith;
-      few = omega arith;
-      low = λ x o. omega (arith, none x o);
-      leads = λ c h. rw (lead c h) rc.root;
-      own = λ c h. rw (lead c h) (none 0 rc.root ∙ omega arith);
-      first = lead 0 (omega arith);
-      one = λ ns ly x y a b s. none x a ∙ sym (none y b);
-    };
-    many = λ z. absurd (omega arith);
+  -- ---- the rounds
+  -- all have one colour, which part 0 leads
+  pub colour_start : (n : ℕ) (D : List ℕ) → length D ≡ capacity → Coloured P L m (replicate {A = ℕ} n 0) (set D 0 0) 1
+  colour_start n D ld = record {
+    some_colour = omega arith;
+    few = omega arith;
+    low = λ x o. omega (arith, none x o);
+    leads = λ c h. rw (lead c h) rc.root;
+    own = λ c h. rw (lead c h) (none 0 rc.root ∙ omega arith);
+    first = lead 0 (omega arith);
+    one = λ ns ly x y a b s. none x a ∙ sym (none y b);
   }
     where
-      none : (x : ℕ) → Listed L m x → get_or C x 0 ≡ 0
-      none x o = carried (replicate n 0) C₀ C ca x o ∙ zero_at n x
+      none : (x : ℕ) → Listed L m x → ◌≡◌ {A = ℕ} (get_or (replicate n 0) x 0) 0
+      none x o = zero_at n x
 
       lead : (c : ℕ) → c < 1 → get_or (set D 0 0) c 0 ≡ 0
       lead c h = let z : c ≡ 0 = omega arith in rw z (get_or-set_same D 0 0 0 (omega arith))
 
-  pub colour_now : (C D : List ℕ) (k : ℕ) → ColouredTo P L m C D k → k < too_many → Coloured P L m C D k
-  colour_now C D k co h = co.coloured (omega arith)
+  module _ (C N D : List ℕ) (k : ℕ) (o : RustOption ℕ) (rd : RoundDone P L m C k N D o) where
+    pub colour_full : o ≡ None → Colours P L m C D None
+    colour_full e = record { settled = λ r z. absurd (cc); many = λ _. rd.many e }
 
-  module _ (C N D : List ℕ) (k r : ℕ) (rd : RoundDone P L m C k N D r) where
-    pub colour_settled : r ≡ k → k < too_many → Colours P L m C D k
-    colour_settled e h = record { most = omega arith; settled = λ _. rd.settled e; many = λ z. absurd (omega arith) }
+    module _ (r : ℕ) (e : o ≡ Some r) where
+      pub colour_settled : r ≡ k → Colours P L m C D (Some k)
+      colour_settled z = record { settled = λ t y. let w : k ≡ t = cc in rw w at (rd.settled (e ∙ ap {B = RustOption ℕ} Some z)); many = λ y. absurd (cc) }
 
-    pub colour_more : (C₀ C' : List ℕ) → Carried N 0 C₀ 0 256 C' → ColouredTo P L m C' D r
-    colour_more C₀ C' ca = record { coloured = λ h. recoloured N D C' D r (rd.next h) (carried N C₀ C' ca) (λ c l. refl); many = rd.many }
+      pub colour_few : r ≤ capacity
+      colour_few = (rd.next r e).few
 
-  pub colour_done : (C D : List ℕ) (k : ℕ) → ColouredTo P L m C D k → k ≤ too_many → too_many ≤ k → Colours P L m C D k
-  colour_done C D k co h l = record { most = h; settled = λ z. absurd (omega arith); many = co.many }
+      pub colour_grows : k ≤ r
+      colour_grows = rd.more r e
+
+      pub colour_more : Coloured P L m N D r
+      colour_more = rd.next r e

@@ -1,13 +1,8 @@
 -- Laws of `judge`: the tests on a block's bytes are the language's tests on its objects.
-use Prim.Native.Nat.{ℕ, ◌+◌, ◌*◌, ◌≤◌, ◌<◌}
-use native.Mathlib.Omega.{arith}
-use mathlib.Core.Path.{◌≡◌, refl, sym, ap, ◌∙◌, subst}
-use mathlib.Core.Bool.{Bool, true, false, ◌&&◌, not, true≢false}
-use mathlib.Core.List.{List, []}
-use mathlib.Core.Option.{some}
-use lib.Dec.{eqb}
-use lib.ListN.{length, get_or, get_elem?}
-use borrow.Author.Tests.{eqb-true, eqb-false, not-true, not-false}
+use Rattle.std.proofs.Common.{ℕ, ◌+◌, ◌*◌, ◌≤◌, ◌<◌, arith, ◌≡◌, refl, sym, ap, ◌∙◌, subst, Bool, true, false, ◌&&◌, not, true≢false, List, [], eqb, length, get_or, eqb-true, Some, None}
+use Rattle.std.proofs.Math.Option.{some}
+use Rattle.std.proofs.Math.ListN.{get_elem?}
+use borrow.Author.Tests.{eqb-false, not-true, not-false}
 use Rattle.cofj.specs.Limits.{number_class}
 use Rattle.cofj.specs.Syntax.{Ty, ty, Table}
 use Rattle.cofj.specs.Classes.{class_fits, fields_of}
@@ -20,8 +15,7 @@ use Rattle.cofj.proofs.Partial.{true_and}
 use Rattle.cofj.proofs.Batch.{hold_at, objects_at, hold_each, hold_objects}
 use Rattle.cofj.proofs.GoodValues.{all_at, all_get, formed_default}
 use Rattle.classes.specs.declared.chain.FieldType.{FieldType}
-use Rattle.classes.specs.declared.chain.FieldFound.{FieldFound}
-use Rattle.classes.specs.declared.chain.FieldFound.TheVariants as field
+use Rattle.std.specs.declared.option.Option.{Option as RustOption}
 use Rattle.classes.specs.Machine.{fits_of, field_of}
 use Rattle.classes.specs.Layout.{bytes_of, found_type, Tabled}
 use Rattle.classes.proofs.OnTables.{class_known, fit_on, field_on}
@@ -84,20 +78,20 @@ module _ (W : List ℕ) (b : ℕ) (h : Coded W b) (low : b < first_leaf) where
 field_table : (T : List ℕ) (t : Table) → Tabled T t → (c f : ℕ) → field_of T c f ≡ found_type (get_elem? (fields_of t.classes c) f)
 field_table T t h c f = ap (λ (B : List ℕ). field_of B c f) h.bytes ∙ field_on t h.formed c f
 
-module _ (T W : List ℕ) (class f b : ℕ) (x : FieldFound) (e : x ≡ field_of T class f) where
-  pub field_none : x ≡ field.Nothing → FieldTest T W class f b false
+module _ (T W : List ℕ) (class f b : ℕ) (x : RustOption FieldType) (e : x ≡ field_of T class f) where
+  pub field_none : x ≡ None → FieldTest T W class f b false
   field_none n =
       record {
         is = λ t h l m y w q.
-            let z : field.Nothing ≡ field.Type (bytes_of w) = sym n ∙ e ∙ field_table T t h.table class f ∙ ap found_type q in
+            let z : None ≡ Some (bytes_of w) = sym n ∙ e ∙ field_table T t h.table class f ∙ ap found_type q in
             absurd (let v : ◌≡◌ {A = ℕ} 0 1 = cc in omega arith);
       }
 
-  pub field_some : (d : FieldType) (r : Bool) → x ≡ field.Type d → HeldTest T W d b r → FieldTest T W class f b r
+  pub field_some : (d : FieldType) (r : Bool) → x ≡ Some d → HeldTest T W d b r → FieldTest T W class f b r
   field_some d r n k =
       record {
         is = λ t h l m y w q.
-            let z : field.Type d ≡ field.Type (bytes_of w) = sym n ∙ e ∙ field_table T t h.table class f ∙ ap found_type q in
+            let z : Some d ≡ Some (bytes_of w) = sym n ∙ e ∙ field_table T t h.table class f ∙ ap found_type q in
             let u : d ≡ bytes_of w = cc in
             k.is t h m y ∙ ap (λ (v : FieldType). holds t.classes (objects_in W 0) (ty v.class v.tag) (ref_of b y)) u;
       }

@@ -1,11 +1,6 @@
 -- Laws of the parts that lead colours, laid as objects, byte by byte. Not here: what the objects unfold to (Quotients).
-use Prim.Native.Nat.{ℕ, ◌+◌, ◌*◌, ◌<◌, ◌≤◌}
-use native.Mathlib.Omega.{arith}
+use Rattle.std.proofs.Common.{ℕ, ◌+◌, ◌*◌, ◌<◌, ◌≤◌, arith, ◌≡◌, refl, ◌∙◌, List, length, get_or, set, length-set, get_or-set_same, get_or-set_other}
 use native.Mathlib.Decide.{dec_lt, ℕ_discrete}
-use mathlib.Core.Path.{◌≡◌, refl, ◌∙◌}
-use mathlib.Core.List.{List}
-use lib.ListN.{length, get_or, set, length-set}
-use lib.Seq.{get_or-set_same, get_or-set_other}
 use Rattle.canon.specs.Figures.{object_size, head_size, numbers_at}
 use Rattle.canon.specs.Tables.{Carried}
 use Rattle.canon.proofs.Lifts.{copy_plain, copy_rest, copy_turned}

@@ -1,11 +1,8 @@
 -- What bytes say of the parts that they are: which are reached, and that two which unfold to the same tree are alike under colours that agree with it.
-use Prim.Native.Nat.{ℕ, zero, suc, ◌+◌, ◌*◌, ◌-◌, ◌/◌, ◌%◌, ◌<◌, ◌≤◌}
-use native.Mathlib.Omega.{arith}
+use Rattle.std.proofs.Common.{ℕ, zero, suc, ◌+◌, ◌*◌, ◌-◌, ◌/◌, ◌%◌, ◌<◌, ◌≤◌, arith, ◌≡◌, refl, sym, ap, ◌∙◌, subst, List, [], length, get_or}
 use native.Mathlib.Decide.{dec_lt, ℕ_discrete}
-use mathlib.Core.Path.{◌≡◌, refl, sym, ap, ◌∙◌, subst}
-use mathlib.Core.List.{List, []}
-use mathlib.Core.Option.{some}
-use lib.ListN.{length, get_or, get_elem?, get_or-eq_default}
+use Rattle.std.proofs.Math.Option.{some}
+use Rattle.std.proofs.Math.ListN.{get_elem?, get_or-eq_default}
 use Rattle.cofj.specs.Values.{Ref, obj, leaf, Leaf, mark, undet, num, Node, refs_at}
 use Rattle.cofj.specs.Unfolding.{object, at_leaf, Same, top, below}
 use Rattle.cofj.specs.Batch.{PartReached}

@@ -1,10 +1,6 @@
 -- The parts that lines list, one line after another. Not here: lines as bytes (ReadLines), a line (ReadLine).
-use Prim.Native.Nat.{ℕ, suc}
-use mathlib.Core.Path.{◌≡◌, refl, ap, ◌∙◌}
-use mathlib.Core.Bool.{Bool, true, false, ◌&&◌}
-use mathlib.Core.List.{List, [], ◌∷◌}
-use mathlib.Core.Option.{Option, none, some}
-use lib.ListN.{length}
+use Rattle.std.proofs.Common.{ℕ, suc, Err, ◌≡◌, refl, ap, ◌∙◌, Bool, true, false, ◌&&◌, List, [], ◌∷◌, length}
+use Rattle.std.proofs.Math.Option.{Option, none, some}
 use Rattle.cofj.specs.Limits.{part_count}
 use Rattle.cofj.specs.Partial.{◌>>=◌, guard}
 use Rattle.cofj.specs.Text.{within}
@@ -13,7 +9,7 @@ use Rattle.cofj.specs.Classes.{fields_to}
 use Rattle.cofj.specs.Values.{Node}
 use Rattle.cofj.specs.ReportForm.{refs_of, object_of, objects_from}
 use Rattle.cofj.specs.Batch.{part_good, parts_good}
-use Rattle.batch.specs.declared.lines.Parts.TheVariants.{Refused}
+use Rattle.cofj.specs.declared.Refusal.TheVariants.{BadParts}
 use Rattle.batch.specs.Reading.{part_of, parts_in, Answered}
 
 -- these lines, from line k of n on, listed one after another
@@ -51,9 +47,9 @@ pub parts_in_lem : (cs : List Class) (ls : List (List ℕ)) → parts_in cs ls �
 unfolding parts_in
 parts_in_lem cs ls = ap (λ (p : Option (List Node)). guard (within 1 part_count (length ls)) >>= λ _. p) (parts_good_lem cs (length ls) 0 ls)
 
-pub none_listed : (cs : List Class) (ls : List (List ℕ)) (P : List ℕ) → parts_from cs (length ls) 0 ls ≡ none → Answered (parts_in cs ls) P Refused
+pub none_listed : (cs : List Class) (ls : List (List ℕ)) (P : List ℕ) → parts_from cs (length ls) 0 ls ≡ none → Answered (parts_in cs ls) P (Err BadParts)
 none_listed cs ls P e = rw (parts_in_lem cs ls, e) (go (within 1 part_count (length ls)))
   where
-    go : (x : Bool) → Answered (guard x >>= λ _. none) P Refused
+    go : (x : Bool) → Answered (guard x >>= λ _. none) P (Err BadParts)
     go true = refl
     go false = refl

@@ -1,11 +1,6 @@
 -- Laws of fields put in the bytes of a part, as `put_field` and `spare_fields` cite them. Not here: what a line says of them (ReadFields).
-use Prim.Native.Nat.{ℕ, ◌+◌, ◌*◌, ◌<◌, ◌≤◌}
-use native.Mathlib.Omega.{arith}
+use Rattle.std.proofs.Common.{ℕ, ◌+◌, ◌*◌, ◌<◌, ◌≤◌, arith, ◌≡◌, refl, ◌∙◌, List, length, get_or, set, length-set, get_or-set_same, get_or-set_other}
 use native.Mathlib.Decide.{ℕ_discrete}
-use mathlib.Core.Path.{◌≡◌, refl, ◌∙◌}
-use mathlib.Core.List.{List}
-use lib.ListN.{length, get_or, set, length-set}
-use lib.Seq.{get_or-set_same, get_or-set_other}
 use Rattle.canon.specs.Figures.{head_size, numbers_at, blank_at}
 use Rattle.batch.specs.Figures.{part_size, field_room, no_part}
 use Rattle.batch.specs.Layout.{FieldLies, FieldPut, SparedTo, Spared}

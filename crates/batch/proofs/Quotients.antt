@@ -1,12 +1,9 @@
 -- Laws of the parts that lead colours, laid as objects: these unfold as the parts do.
-use Prim.Native.Nat.{ℕ, ◌+◌, ◌*◌, ◌-◌, ◌/◌, ◌%◌, ◌<◌, ◌≤◌}
-use native.Mathlib.Omega.{arith}
+use Rattle.std.proofs.Common.{ℕ, ◌+◌, ◌*◌, ◌-◌, ◌/◌, ◌%◌, ◌<◌, ◌≤◌, arith, Some, None, ◌≡◌, refl, sym, ap, ap₂, ◌∙◌, subst, List, [], map, length, get_or, take, length-take, get_or-take, ext_get_or}
 use native.Mathlib.Decide.{dec_lt}
-use mathlib.Core.Path.{◌≡◌, refl, sym, ap, ap₂, ◌∙◌, subst}
-use mathlib.Core.List.{List, [], map}
-use mathlib.Core.Option.{some, none-ne-some}
-use lib.ListN.{length, get_or, get_elem?, take, length-map, length-take, get_or-eq_default}
-use lib.Seq.{get_or-take, ext_get_or}
+use Rattle.std.specs.declared.option.Option.{Option as RustOption}
+use Rattle.std.proofs.Math.Option.{some, none-ne-some}
+use Rattle.std.proofs.Math.ListN.{get_elem?, length-map, get_or-eq_default}
 use Rattle.cofj.specs.Values.{Ref, obj, leaf, mark, undet, num, Node, node, graph, rename, rename_node, colour_of, node_at, refs_at}
 use Rattle.cofj.specs.Unfolding.{child, SameTree, InRange, Whole}
 use Rattle.cofj.specs.Formed.{AllIn, RefBelow}
@@ -15,7 +12,7 @@ use Rattle.cofj.proofs.Basics.{get_d_map_lt, at_map}
 use Rattle.cofj.proofs.Trees.{renamed_same}
 use Rattle.cofj.proofs.Canon.{node_id}
 use Rattle.cofj.proofs.GoodValues.{all_at, all_get}
-use Rattle.canon.specs.Figures.{object_size, code_count, undetermined_code, number_code, objects_size, head_size, numbers_at}
+use Rattle.canon.specs.Figures.{object_size, code_count, capacity, undetermined_code, number_code, objects_size, head_size, numbers_at}
 use Rattle.canon.specs.Layout.{ref_of, number_beside, number_at, ref_in, four, node_in, nodes_in, Packed}
 use Rattle.canon.specs.Numbers.{graph_in}
 use Rattle.canon.proofs.Lifts.{copy_plain, copy_rest, copy_turned}
@@ -24,7 +21,7 @@ use Rattle.batch.specs.Figures.{part_size, field_room, number_field, no_part}
 use Rattle.batch.specs.Layout.{held_byte, Lies}
 use Rattle.batch.specs.Reaching.{Listed, Reaches}
 use Rattle.batch.specs.Merging.{Quotient, Merged}
-use Rattle.batch.specs.Colouring.{too_many, look_in, shade_in, Coloured, Settled, Colours}
+use Rattle.batch.specs.Colouring.{look_in, shade_in, Coloured, Settled, Colours}
 use Rattle.batch.specs.Laying.{Laid}
 use Rattle.batch.proofs.Shades.{look_part, look_number, look_none}
 use Rattle.batch.proofs.Listings.{held, held_lies, listed_low, listed_ref}
@@ -192,13 +189,16 @@ module _ (P L : List ℕ) (m : ℕ) (rc : Reaches P L m) (C D : List ℕ) (k : �
   }
 
 -- ---- merged
-module _ (P L : List ℕ) (m : ℕ) (C D : List ℕ) (k : ℕ) (cs : Colours P L m C D k) where
-  pub merged_many : (R : List ℕ) → k ≡ too_many → Merged P R k
-  merged_many R e = record { least = cs.most; many = λ ns ly z. cs.many z ns ly; few = λ ns ly h. absurd (omega arith) }
+module _ (P L : List ℕ) (m : ℕ) (C D : List ℕ) (o : RustOption ℕ) (cs : Colours P L m C D o) where
+  pub merged_many : (R : List ℕ) → o ≡ None → Merged P R None
+  merged_many R e = record { least = λ k z. absurd (cc); many = λ ns ly _. cs.many e ns ly; few = λ ns ly k z. absurd (cc) }
 
-  pub merged_few : (R₀ R : List ℕ) → Reaches P L m → ((k ≡ too_many) → ⊥) → Laid P C D k R₀ R → objects_size ≤ length R₀ → Merged P R k
-  merged_few R₀ R rc d la room = record {
-    least = cs.most;
-    many = λ ns ly z. absurd (d z);
-    few = λ ns ly h. quotient P L m rc C D k (cs.settled h) R₀ R la ns ly (omega (arith, la.same));
+  pub merged_room : (k : ℕ) → o ≡ Some k → k ≤ capacity
+  merged_room k e = (cs.settled k e).coloured.few
+
+  pub merged_few : (R₀ R : List ℕ) → Reaches P L m → (k : ℕ) → o ≡ Some k → Laid P C D k R₀ R → objects_size ≤ length R₀ → Merged P R (Some k)
+  merged_few R₀ R rc k e la room = record {
+    least = λ t z. let w : k ≡ t = cc in rw w at (merged_room k e);
+    many = λ ns ly z. absurd (cc);
+    few = λ ns ly t z. let w : k ≡ t = cc in rw w at (quotient P L m rc C D k (cs.settled k e) R₀ R la ns ly (omega (arith, la.same)));
   }

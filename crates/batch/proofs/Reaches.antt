@@ -1,12 +1,8 @@
 -- Laws of the parts that part 0 leads to, listed. The room in the list is by counting what is not listed yet.
 -- Not here: what the lists say of parts that are known by their lines (Listings).
-use Prim.Native.Nat.{ℕ, ◌+◌, ◌*◌, ◌<◌, ◌≤◌}
-use native.Mathlib.Omega.{arith}
+use Rattle.std.proofs.Common.{ℕ, ◌+◌, ◌*◌, ◌<◌, ◌≤◌, arith, ◌≡◌, refl, sym, ap, ◌∙◌, subst, List, length, get_or, set, replicate, length-set, get_or-set_same, get_or-set_other}
 use native.Mathlib.Decide.{dec_lt, ℕ_discrete}
-use mathlib.Core.Path.{◌≡◌, refl, sym, ap, ◌∙◌, subst}
-use mathlib.Core.List.{List}
-use lib.ListN.{length, get_or, set, replicate, length-set, length-replicate}
-use lib.Seq.{get_or-set_same, get_or-set_other}
+use Rattle.std.proofs.Math.ListN.{length-replicate}
 use Rattle.canon.proofs.Zeros.{zero_at, zeros-few, zeros-put}
 use Rattle.canon.specs.Figures.{head_size}
 use Rattle.batch.specs.Figures.{part_size, field_room, number_field}

@@ -1,14 +1,8 @@
 -- Laws of a field of a line, read into bytes, as `field_good` and `read_field` cite them. Not here: so many of them (ReadFields), how bytes are put (PutFields).
-use Prim.Native.Nat.{ℕ, suc, ◌+◌, ◌*◌, ◌-◌, ◌<◌, ◌≤◌}
-use native.Mathlib.Omega.{arith}
-use mathlib.Core.Path.{◌≡◌, refl, sym, ap, ◌∙◌, subst}
-use mathlib.Core.Bool.{Bool, true, false, not, false≢true}
-use mathlib.Core.List.{List, [], ◌∷◌}
-use mathlib.Core.Option.{Option, none, some, none-ne-some}
-use lib.Dec.{eqb, ltb}
-use lib.ListN.{length, get_or, drop, length-drop, drop_of_length-le}
-use lib.Seq.{drop-cons}
-use borrow.Author.Tests.{eqb-true, ne_eqb, ltb-true, lt-ltb, le-ltb, not-true, not-false}
+use Rattle.std.proofs.Common.{ℕ, suc, ◌+◌, ◌*◌, ◌-◌, ◌<◌, ◌≤◌, arith, Some, None, ◌≡◌, refl, sym, ap, ◌∙◌, subst, Bool, true, false, not, List, [], ◌∷◌, eqb, ltb, length, get_or, drop, length-drop, drop_of_length-le, drop-cons, eqb-true, ne_eqb, ltb-true, lt-ltb, le-ltb}
+use Rattle.std.proofs.Math.Bool.{false≢true}
+use Rattle.std.proofs.Math.Option.{Option, none, some, none-ne-some}
+use borrow.Author.Tests.{not-true, not-false}
 use Rattle.cofj.specs.Limits.{number_class}
 use Rattle.cofj.specs.Partial.{◌>>=◌}
 use Rattle.cofj.specs.Frames.{Got, got, two_bytes}
@@ -77,10 +71,10 @@ unfolding two_bytes
 two_some a b bs = refl
 
 -- ---- `read_field`
-no_field : (l : List ℕ) (q n : ℕ) (P₀ : List ℕ) (at f : ℕ) (P : List ℕ) → ref_at n (drop q l) ≡ none → FieldRead l q n P₀ at f P 0
-no_field l q n P₀ at f P e = record { bad = λ _. e; good = λ d. absurd (d refl) }
+no_field : (l : List ℕ) (q n : ℕ) (P₀ : List ℕ) (at f : ℕ) (P : List ℕ) → ref_at n (drop q l) ≡ none → FieldRead l q n P₀ at f P None
+no_field l q n P₀ at f P e = record { bad = λ _. e; good = λ r z. absurd (cc) }
 
-pub field_past : (l : List ℕ) (q n : ℕ) (P : List ℕ) (at f : ℕ) → length l ≤ q → FieldRead l q n P at f P 0
+pub field_past : (l : List ℕ) (q n : ℕ) (P : List ℕ) (at f : ℕ) → length l ≤ q → FieldRead l q n P at f P None
 unfolding ref_at
 field_past l q n P at f h = no_field l q n P at f P (ap (ref_at n) (drop_of_length-le l h))
 
@@ -93,7 +87,7 @@ module _ (l : List ℕ) (q n : ℕ) (P₀ : List ℕ) (at f : ℕ) (b : ℕ) (eb
     at_front : ref_at n (drop q l) ≡ ref_of n b >>= λ x. got x (drop (suc q) l)
     at_front = ap (ref_at n) front ∙ front_one n b (drop (suc q) l) one
 
-    pub field_bad : not r ≡ true → FieldRead l q n P₀ at f P₀ 0
+    pub field_bad : not r ≡ true → FieldRead l q n P₀ at f P₀ None
     unfolding field_good
     field_bad t = no_field l q n P₀ at f P₀ (at_front ∙ go (ref_of n b) (sym er ∙ not-true r t))
       where
@@ -101,9 +95,9 @@ module _ (l : List ℕ) (q n : ℕ) (P₀ : List ℕ) (at f : ℕ) (b : ℕ) (eb
         go none z = refl
         go (some x) z = absurd (false≢true (sym z))
 
-    pub field_one : not r ≡ false → (P : List ℕ) → FieldPut P₀ at f b 0 0 P → f < field_room → FieldRead l q n P₀ at f P (q + 1)
+    pub field_one : not r ≡ false → (P : List ℕ) → FieldPut P₀ at f b 0 0 P → f < field_room → FieldRead l q n P₀ at f P (Some (q + 1))
     unfolding field_good
-    field_one t P p few = record { bad = λ z. absurd (omega arith); good = λ _. go (ref_of n b) refl (sym er ∙ not-false r t) }
+    field_one t P p few = record { bad = λ z. absurd (cc); good = λ u z. let w : q + 1 ≡ u = cc in rw w at (go (ref_of n b) refl (sym er ∙ not-false r t)) }
       where
         next : drop (suc q) l ≡ drop (q + 1) l
         next = ap (λ (k : ℕ). drop k l) (let z : suc q ≡ q + 1 = omega arith in z)
@@ -131,29 +125,14 @@ module _ (l : List ℕ) (q n : ℕ) (P₀ : List ℕ) (at f : ℕ) (b : ℕ) (eb
     at_number : ref_at n (drop q l) ≡ two_bytes (drop (suc q) l) >>= λ x. got (leaf (num x.item)) x.rest
     at_number = ap (ref_at n) front ∙ front_number n b (drop (suc q) l) number
 
-    pub number_short : length l - q < 3 → FieldRead l q n P₀ at f P₀ 0
+    pub number_short : length l - q < 3 → FieldRead l q n P₀ at f P₀ None
     number_short h =
         no_field l q n P₀ at f P₀
         (at_number ∙ ap (λ (o : Option (Got ℕ)). o >>= λ x. got (leaf (num x.item)) x.rest) (two_none (drop (suc q) l) (omega (arith, length-drop (suc q) l))))
 
     pub field_number : 3 ≤ length l - q → (high low : ℕ) → high ≡ get_or l (q + 1) 0 → low ≡ get_or l (q + 2) 0 → high < 256 → low < 256
-        → (P : List ℕ) → FieldPut P₀ at f b low high P → f < field_room → FieldRead l q n P₀ at f P (q + 3)
-    field_number h high low eh el fh fl P p few = record {
-      bad = λ z. absurd (omega arith);
-      good = λ _. record {
-        ref = leaf (num (256 * high + low));
-        is = at_number ∙ ap (λ (o : Option (Got ℕ)). o >>= λ x. got (leaf (num x.item)) x.rest) two;
-        more = omega arith;
-        within = omega arith;
-        entered = record {
-          inner = tt;
-          below = omega arith;
-          lies = record { byte = p.byte ∙ number; low = p.first ∙ omega arith; high = p.second ∙ omega arith };
-        };
-        fields = λ g c y k. put_other P₀ at f b low high P p few g c y (omega arith) (λ z. omega arith);
-        below = put_below P₀ at f b low high P p;
-      };
-    }
+        → (P : List ℕ) → FieldPut P₀ at f b low high P → f < field_room → FieldRead l q n P₀ at f P (Some (q + 3))
+    field_number h high low eh el fh fl P p few = record { bad = λ z. absurd (cc); good = λ u z. let w : q + 3 ≡ u = cc in rw w at taken }
       where
         first : drop (suc q) l ≡ high ∷ drop (suc (suc q)) l
         first =
@@ -168,3 +147,18 @@ module _ (l : List ℕ) (q n : ℕ) (P₀ : List ℕ) (at f : ℕ) (b : ℕ) (eb
 
         two : two_bytes (drop (suc q) l) ≡ got (256 * high + low) (drop (q + 3) l)
         two = ap two_bytes (first ∙ ap (λ (x : List ℕ). high ∷ x) second) ∙ two_some high low (drop (q + 3) l)
+
+        taken : FieldTaken l q n P₀ at f P (q + 3)
+        taken = record {
+          ref = leaf (num (256 * high + low));
+          is = at_number ∙ ap (λ (o : Option (Got ℕ)). o >>= λ x. got (leaf (num x.item)) x.rest) two;
+          more = omega arith;
+          within = omega arith;
+          entered = record {
+            inner = tt;
+            below = omega arith;
+            lies = record { byte = p.byte ∙ number; low = p.first ∙ omega arith; high = p.second ∙ omega arith };
+          };
+          fields = λ g c y k. put_other P₀ at f b low high P p few g c y (omega arith) (λ z. omega arith);
+          below = put_below P₀ at f b low high P p;
+        }

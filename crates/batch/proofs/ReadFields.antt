@@ -1,11 +1,9 @@
 -- Laws of the fields of a line, one after another, as `read_fields` cites them. Not here: one of them (ReadField), the rest of a line (ReadLine).
-use Prim.Native.Nat.{ℕ, zero, suc, ◌+◌, ◌-◌, ◌<◌, ◌≤◌}
-use native.Mathlib.Omega.{arith}
-use mathlib.Core.Path.{◌≡◌, refl, sym, ap, ◌∙◌, subst}
-use mathlib.Core.List.{List, [], ◌∷◌, ◌++◌, append_assoc}
+use Rattle.std.proofs.Common.{ℕ, zero, suc, ◌+◌, ◌-◌, ◌<◌, ◌≤◌, arith, Some, None, ◌≡◌, refl, sym, ap, ◌∙◌, subst, List, [], ◌∷◌, ◌++◌, append_assoc, length, drop, length-append}
+use Rattle.std.specs.declared.option.Option.{Option as RustOption}
 use mathlib.Core.Logic.{◌⊎◌, inl, inr}
-use mathlib.Core.Option.{Option, none, some, none-ne-some}
-use lib.ListN.{length, get_elem?, drop, length-append}
+use Rattle.std.proofs.Math.Option.{Option, none, some, none-ne-some}
+use Rattle.std.proofs.Math.ListN.{get_elem?}
 use Rattle.cofj.specs.Partial.{◌>>=◌}
 use Rattle.cofj.specs.Frames.{Got, got}
 use Rattle.cofj.specs.Values.{Ref}
@@ -59,23 +57,23 @@ fields_none l n P at h = record {
     go none = refl
     go (some g) = refl
 
-module _ (l : List ℕ) (n : ℕ) (P₀ : List ℕ) (at : ℕ) (P : List ℕ) (f q : ℕ) (so : FieldsTaken l n P₀ at P f q) (P' : List ℕ) (r : ℕ) (fr : FieldRead l q n P at f P' r) where
+module _ (l : List ℕ) (n : ℕ) (P₀ : List ℕ) (at : ℕ) (P : List ℕ) (f q : ℕ) (so : FieldsTaken l n P₀ at P f q) (P' : List ℕ) (o : RustOption ℕ) (fr : FieldRead l q n P at f P' o) where
   -- the fields from f on, by the first of them
   onward : (m : ℕ) → refs_of n (f + suc m) (drop front_size l) ≡ after so.refs (ref_at n (drop q l) >>= λ x. refs_of n m x.rest >>= λ xs. got (x.item ∷ xs.item) xs.rest)
   unfolding refs_of
   onward m = so.is (suc m)
 
-  pub fields_bad : (m : ℕ) → f < m → r ≡ 0 → FieldsRead l m n P₀ at P' r
+  pub fields_bad : (m : ℕ) → f < m → o ≡ None → FieldsRead l m n P₀ at P' None
   fields_bad m h e = record {
     bad = λ _.
         ap (λ (k : ℕ). refs_of n k (drop front_size l)) (let z : m ≡ f + suc (m - suc f) = omega arith in z)
         ∙ onward (m - suc f)
         ∙ ap (λ (o : Option (Got Ref)). after so.refs (o >>= λ x. refs_of n (m - suc f) x.rest >>= λ xs. got (x.item ∷ xs.item) xs.rest)) (fr.bad e);
-    good = λ d. absurd (d e);
+    good = λ r z. absurd (cc);
   }
 
-  pub fields_more : f < field_room → ((r ≡ 0) → ⊥) → FieldsTaken l n P₀ at P' (f + 1) r
-  fields_more few d = record {
+  pub fields_more : f < field_room → (r : ℕ) → o ≡ Some r → FieldsTaken l n P₀ at P' (f + 1) r
+  fields_more few r d = record {
     refs = so.refs ++ (ft.ref ∷ []);
     count = length-append so.refs (ft.ref ∷ []) ∙ (let c = so.count in omega arith);
     is = λ m.
@@ -90,7 +88,7 @@ module _ (l : List ℕ) (n : ℕ) (P₀ : List ℕ) (at : ℕ) (P : List ℕ) (f
   }
     where
       ft : FieldTaken l q n P at f P' r
-      ft = fr.good d
+      ft = fr.good r d
 
       moved : (o : Option (Got (List Ref))) → after so.refs (o >>= λ xs. got (ft.ref ∷ xs.item) xs.rest) ≡ after (so.refs ++ (ft.ref ∷ [])) o
       moved none = refl
@@ -104,8 +102,8 @@ module _ (l : List ℕ) (n : ℕ) (P₀ : List ℕ) (at : ℕ) (P : List ℕ) (f
           record { inner = o.inner; below = o.below; lies = ft.fields g (held_byte s) (number_beside s) (omega arith) o.lies }
       go g s (inr e) = rw (← e.1, e.0, so.count) ft.entered
 
-pub fields_done : (l : List ℕ) (n : ℕ) (P₀ : List ℕ) (at : ℕ) (P : List ℕ) (f m q : ℕ) → FieldsTaken l n P₀ at P f q → f ≤ m → m ≤ f → FieldsRead l m n P₀ at P q
+pub fields_done : (l : List ℕ) (n : ℕ) (P₀ : List ℕ) (at : ℕ) (P : List ℕ) (f m q : ℕ) → FieldsTaken l n P₀ at P f q → f ≤ m → m ≤ f → FieldsRead l m n P₀ at P (Some q)
 fields_done l n P₀ at P f m q so a b = record {
-  bad = λ z. let h = so.more in absurd (omega arith);
-  good = λ _. subst (λ (k : ℕ). FieldsTaken l n P₀ at P k q) (let z : f ≡ m = omega arith in z) so;
+  bad = λ z. absurd (cc);
+  good = λ r e. let w : q ≡ r = cc in rw w at (subst (λ (k : ℕ). FieldsTaken l n P₀ at P k q) (let z : f ≡ m = omega arith in z) so);
 }

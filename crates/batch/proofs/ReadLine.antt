@@ -1,18 +1,8 @@
 -- Laws of a line and the part that it lists, as `read_line` cites them. Not here: its fields (ReadFields), lines one after another (ReadLines).
-use mir.Val.{Fits}
-use mir.Syntax.{w8}
-use Prim.Native.Nat.{ℕ, ◌+◌, ◌*◌, ◌<◌, ◌≤◌}
-use native.Mathlib.Nat.{not-suc-le-zero}
-use native.Mathlib.Omega.{arith}
-use native.Mathlib.Decide.{ℕ_discrete}
-use mathlib.Core.Path.{◌≡◌, refl, sym, ap, ◌∙◌, subst}
-use mathlib.Core.Bool.{Bool, true, false, ◌&&◌}
-use mathlib.Core.List.{List, [], ◌∷◌, append-nil}
-use mathlib.Core.Option.{Option, none, some, none-ne-some}
-use lib.Dec.{eqb, leb}
-use lib.ListN.{length, get_or, set, drop, length-set, length-drop}
-use lib.Seq.{drop-length, get_or-set_same, get_or-set_other}
-use borrow.Author.Tests.{eqb-true, leb-true, eq-eqb, le-leb}
+use Rattle.std.proofs.Common.{Fits, w8, ℕ, ◌+◌, ◌*◌, ◌<◌, ◌≤◌, not-suc-le-zero, arith, Some, None, ◌≡◌, refl, sym, ap, ◌∙◌, subst, Bool, true, false, ◌&&◌, List, [], ◌∷◌, append-nil, eqb, leb, length, get_or, set, drop, length-set, length-drop, get_or-set_same, get_or-set_other, eqb-true, leb-true, eq-eqb, le-leb}
+use Rattle.std.specs.declared.option.Option.{Option as RustOption}
+use Rattle.std.proofs.Math.Option.{Option, none, some, none-ne-some}
+use Rattle.std.proofs.Math.Seq.{drop-length}
 use Rattle.cofj.specs.Limits.{class_count, field_count}
 use Rattle.cofj.specs.Partial.{◌>>=◌, guard}
 use Rattle.cofj.specs.Syntax.{Class, Table}
@@ -175,17 +165,16 @@ module _ (l : List ℕ) (n m : ℕ) (P₀ : List ℕ) (at : ℕ) (P : List ℕ) 
 -- a line that says what a part's line says, up to its fields
 module _ (T l : List ℕ) (k n : ℕ) (P₀ : List ℕ) (x : ℕ) (fk : Fits w8 k) (room : wide_size ≤ length P₀) (long : front_size ≤ length l) (sign : get_or l 0 0 ≡ 5)
     (number : get_or l 1 0 ≡ k) (known : get_or l 2 0 ≤ get_or T class_count_at 0) (ex : x ≡ total_of T (get_or l 2 0)) (total : get_or l 3 0 ≡ x) (few : get_or l 3 0 ≤ field_room)
-    (P₁ : List ℕ) (q : ℕ) (fr : FieldsRead l (get_or l 3 0) n (headed P₀ k (get_or l 2 0) (get_or l 3 0)) (part_size * k) P₁ q) where
-  pub bad_fields : (q ≡ length l → ⊥) → LineRead T l k n P₀ P₁ false
-  bad_fields h = refused T l k n P₀ P₁ λ t b o s. go (ℕ_discrete q 0) o s
-    where
-      go : {cs : List Class} → Dec (q ≡ 0) → (o : Node) → Says cs n k l o → ⊥
-      go (yes z) o s = none-ne-some (pair o.refs []) (sym (fr.bad z) ∙ s.refs)
-      go (no z) o s = h (taken_end l n (get_or l 3 0) _ _ P₁ q (fr.good z) o.refs s.refs)
+    (P₁ : List ℕ) (w : RustOption ℕ) (fr : FieldsRead l (get_or l 3 0) n (headed P₀ k (get_or l 2 0) (get_or l 3 0)) (part_size * k) P₁ w) where
+  pub no_fields : w ≡ None → LineRead T l k n P₀ P₁ false
+  no_fields z = refused T l k n P₀ P₁ (λ t b o s. none-ne-some (pair o.refs []) (sym (fr.bad z) ∙ s.refs))
 
-  module _ (e : q ≡ length l) (P : List ℕ) (sp : Spared P₁ (part_size * k) (get_or l 3 0) P) where
+  pub bad_fields : (q : ℕ) → w ≡ Some q → (q ≡ length l → ⊥) → LineRead T l k n P₀ P₁ false
+  bad_fields q z h = refused T l k n P₀ P₁ (λ t b o s. h (taken_end l n (get_or l 3 0) _ _ P₁ q (fr.good q z) o.refs s.refs))
+
+  module _ (q : ℕ) (z : w ≡ Some q) (e : q ≡ length l) (P : List ℕ) (sp : Spared P₁ (part_size * k) (get_or l 3 0) P) where
     ft : FieldsTaken l n (headed P₀ k (get_or l 2 0) (get_or l 3 0)) (part_size * k) P₁ (get_or l 3 0) q
-    ft = fr.good (λ z. omega arith)
+    ft = fr.good q z
 
     part : Node
     part = node (get_or l 2 0) ft.refs

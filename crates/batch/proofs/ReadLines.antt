@@ -1,14 +1,11 @@
 -- Laws of packed lines and the parts that they list, as `count_lines` and `read_lines` cite them. Not here: one line (ReadLine), what lines list (PartLines).
-use Prim.Native.Nat.{ℕ, suc, ◌+◌, ◌*◌, ◌-◌, ◌<◌, ◌≤◌}
-use native.Mathlib.Nat.{not-suc-le-zero}
-use native.Mathlib.Omega.{arith}
+use Rattle.std.proofs.Common.{ℕ, suc, ◌+◌, ◌*◌, ◌-◌, ◌<◌, ◌≤◌, not-suc-le-zero, arith, Ok, Err, ◌≡◌, refl, sym, ap, ◌∙◌, subst, Bool, true, false, not, List, [], ◌∷◌, ◌++◌, append_assoc, append-nil, length, get_or, take, drop, length-append}
 use native.Mathlib.Decide.{ℕ_discrete, dec_lt}
-use mathlib.Core.Path.{◌≡◌, refl, sym, ap, ◌∙◌, subst}
-use mathlib.Core.Bool.{Bool, true, false, not, false≢true}
-use mathlib.Core.List.{List, [], ◌∷◌, ◌++◌, append_assoc, append-nil}
-use mathlib.Core.Option.{Option, none, some, none-ne-some}
-use lib.ListN.{length, get_or, get_elem?, take, drop, length-append, get_or-append, get_or-eq_default}
-use lib.Seq.{get_or-append_seam}
+use Rattle.std.specs.declared.result.Result.{Result}
+use Rattle.std.proofs.Math.Bool.{false≢true}
+use Rattle.std.proofs.Math.Option.{Option, none, some, none-ne-some}
+use Rattle.std.proofs.Math.ListN.{get_elem?, get_or-append, get_or-eq_default}
+use Rattle.std.proofs.Math.Seq.{get_or-append_seam}
 use borrow.Author.Tests.{not-true, not-false}
 use Rattle.cofj.specs.Limits.{part_count}
 use Rattle.cofj.specs.Partial.{◌>>=◌, guard}
@@ -23,7 +20,8 @@ use Rattle.lineform.specs.Packed.{unpack, Packed}
 use Rattle.lineform.proofs.LineLaws.{Rest, LineAt, line_at, line_within, line_part, line_next, rest_all, unpack_all, at_end_lem}
 use Rattle.canon.proofs.Nodes.{some_at}
 use Rattle.classes.specs.Layout.{Tabled}
-use Rattle.batch.specs.declared.lines.Parts.TheVariants.{Listed, Refused}
+use Rattle.cofj.specs.declared.Refusal.{Refusal}
+use Rattle.cofj.specs.declared.Refusal.TheVariants.{BadParts}
 use Rattle.batch.specs.Figures.{part_size}
 use Rattle.batch.specs.Layout.{Lies}
 use Rattle.batch.specs.Reading.{part_of, PartLies, PartRead, LineAnswered, LineRead, line_count, parts_in, Answered, LinesRead}
@@ -175,7 +173,7 @@ module _ (T d : List ℕ) (n i k : ℕ) (P : List ℕ) (g : Listing T d n i k P)
           ∙ ap (λ (p : Option Node). p >>= (λ o. parts_from cs n (suc k) at.after >>= λ os. some (o ∷ os)) >>= λ os. some (w.before ++ os))
           (line_false (part_of cs n k at.line) k n P P' r (answered t b) z)
 
-      pub list_bad : n ≡ line_count d → not r ≡ true → LinesRead T d P' Refused
+      pub list_bad : n ≡ line_count d → not r ≡ true → LinesRead T d P' (Err BadParts)
       list_bad en z = record { of = λ t b one. none_listed t.classes (unpack d) P' (bad_nothing en z t b) }
 
 -- ---- where the loop ends
@@ -204,10 +202,10 @@ parts_lie P ns one few h = record {
         absurd (none-ne-some r (sym (ap (λ (rs : List Ref). get_elem? rs f) past) ∙ e))
 
 module _ (T d : List ℕ) (n : ℕ) (P : List ℕ) (en : n ≡ line_count d) where
-  pub list_many : part_count < n → LinesRead T d P Refused
+  pub list_many : part_count < n → LinesRead T d P (Err BadParts)
   list_many h = record { of = λ t b one. rw (parts_in_lem t.classes (unpack d)) (go t.classes (within 1 part_count (line_count d)) refl) }
     where
-      go : (cs : List Class) (x : Bool) → within 1 part_count (line_count d) ≡ x → Answered (guard x >>= λ _. parts_from cs (line_count d) 0 (unpack d)) P Refused
+      go : (cs : List Class) (x : Bool) → within 1 part_count (line_count d) ≡ x → Answered (guard x >>= λ _. parts_from cs (line_count d) 0 (unpack d)) P (Err BadParts)
       go cs true e = let z = (within_true 1 part_count (line_count d) e).1 in absurd (omega arith)
       go cs false e = refl
 
@@ -227,10 +225,10 @@ module _ (T d : List ℕ) (n : ℕ) (P : List ℕ) (en : n ≡ line_count d) whe
         ∙ ap (λ (ls : List (List ℕ)). parts_from cs n k ls >>= λ os. some (w.before ++ os)) no_line
         ∙ ap {B = Option (List Node)} some (append-nil w.before)
 
-    pub list_done : LinesRead T d P (Listed n)
+    pub list_done : LinesRead T d P (Ok n)
     list_done = record { of = done }
       where
-        done : (t : Table) → Tabled T t → 1 ≤ line_count d → Answered (parts_in t.classes (unpack d)) P (Listed n)
+        done : (t : Table) → Tabled T t → 1 ≤ line_count d → Answered (parts_in t.classes (unpack d)) P (Ok n)
         done t b one =
             let w = g.of t b in
             let e = ap length no_line in
@@ -238,4 +236,4 @@ module _ (T d : List ℕ) (n : ℕ) (P : List ℕ) (en : n ≡ line_count d) whe
             let c = w.count in
             let z : n ≡ length w.before = omega arith in
             rw (all_listed t b one)
-            (ap Listed z, parts_lie P w.before (omega arith) (omega arith) (λ j s. subst (λ (x : ℕ). PartLies x P j (node_at w.before j)) z (w.lie j (omega arith))))
+            (ap {B = Result ℕ Refusal} Ok z, parts_lie P w.before (omega arith) (omega arith) (λ j s. subst (λ (x : ℕ). PartLies x P j (node_at w.before j)) z (w.lie j (omega arith))))

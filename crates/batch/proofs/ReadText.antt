@@ -1,11 +1,7 @@
 -- Laws of a text and the parts that it lists, as `read_parts` cites them. Not here: packed lines (ReadLines).
-use Prim.Native.Nat.{ℕ, ◌*◌, ◌<◌, ◌≤◌}
-use native.Mathlib.Omega.{arith}
-use mathlib.Core.Path.{◌≡◌, refl, sym, ap, ◌∙◌}
-use mathlib.Core.Bool.{Bool}
-use mathlib.Core.List.{List, [], ◌∷◌}
-use mathlib.Core.Option.{Option, none, some}
-use lib.ListN.{length, take}
+use Rattle.std.proofs.Common.{ℕ, ◌*◌, ◌<◌, ◌≤◌, arith, Ok, Err, ◌≡◌, refl, sym, ap, ◌∙◌, Bool, List, [], ◌∷◌, length, take}
+use Rattle.std.specs.declared.result.Result.{Result}
+use Rattle.std.proofs.Math.Option.{Option, none, some}
 use Rattle.cofj.specs.Limits.{part_count, text_size}
 use Rattle.cofj.specs.Partial.{◌>>=◌, guard}
 use Rattle.cofj.specs.Text.{within, lines_from, lines, hex_text}
@@ -19,14 +15,12 @@ use Rattle.cofj.proofs.TextRound.{within_true, true_within, hex_lines}
 use Rattle.cofj.proofs.Reports.{plain, objects_length}
 use Rattle.cofj.proofs.GoodValues.{all_weaken}
 use Rattle.cofj.proofs.Batch.{parts_back}
-use Rattle.lineform.specs.declared.lines.Decoded.{Decoded}
-use Rattle.lineform.specs.declared.lines.Decoded.TheVariants.{Packed as Filled, Refused as NoLines}
 use Rattle.lineform.specs.Packed.{unpack}
 use Rattle.lineform.specs.Answers.{Decodes}
 use Rattle.lineform.proofs.Established.{decoded_lines, decoded_none}
 use Rattle.classes.specs.Layout.{Tabled}
-use Rattle.batch.specs.declared.lines.Parts.{Parts}
-use Rattle.batch.specs.declared.lines.Parts.TheVariants.{Refused}
+use Rattle.cofj.specs.declared.Refusal.{Refusal}
+use Rattle.cofj.specs.declared.Refusal.TheVariants.{BadParts}
 use Rattle.batch.specs.Reading.{line_count, parts_in, LinesRead, TextRead}
 
 parts_of_lem : (cs : List Class) (s : List ℕ) → parts_of cs s ≡ lines_from s none [] >>= λ ls. parts_in cs ls
@@ -43,10 +37,10 @@ text_short T t b s ns e =
     omega arith
 
 -- ---- `read_parts`
-none_read : (T S P : List ℕ) → ((t : Table) → Tabled T t → parts_of t.classes S ≡ none) → TextRead T S P Refused
+none_read : (T S P : List ℕ) → ((t : Table) → Tabled T t → parts_of t.classes S ≡ none) → TextRead T S P (Err BadParts)
 none_read T S P h = record { of = λ t b. rw (h t b) refl }
 
-pub long_text : (T S P : List ℕ) → 33 * part_count < length S → TextRead T S P Refused
+pub long_text : (T S P : List ℕ) → 33 * part_count < length S → TextRead T S P (Err BadParts)
 long_text T S P h = none_read T S P (λ t b. go t b (parts_of t.classes S) refl)
   where
     go : (t : Table) → Tabled T t → (o : Option (List Node)) → parts_of t.classes S ≡ o → o ≡ none
@@ -64,11 +58,11 @@ unfolding lines_from parts_in
 no_lines [] short e cs = parts_of_lem cs []
 no_lines (x ∷ xs) short e cs = parts_of_lem cs (x ∷ xs) ∙ ap (λ (p : Option (List (List ℕ))). p >>= λ ls. parts_in cs ls) (sym (some_lines (x ∷ xs) short (omega arith)) ∙ e)
 
-module _ (T S P : List ℕ) (out₀ out : List ℕ) (r : Decoded) (h : Decodes S out₀ out r) (short : length S ≤ 33 * part_count) where
-  pub bad_text : r ≡ NoLines → TextRead T S P Refused
-  bad_text e = none_read T S P (λ t b. no_lines S short (decoded_none S out₀ out r h e) t.classes)
+module _ (T S P : List ℕ) (out₀ out : List ℕ) (r : Result ℕ Refusal) (h : Decodes S out₀ out r) (short : length S ≤ 33 * part_count) where
+  pub bad_text : (k : Refusal) → r ≡ Err k → TextRead T S P (Err BadParts)
+  bad_text k e = none_read T S P (λ t b. no_lines S short (decoded_none S out₀ out r h k e).1 t.classes)
 
-  module _ (w : ℕ) (e : r ≡ Filled w) where
+  module _ (w : ℕ) (e : r ≡ Ok w) where
     lines_are : lines S ≡ some (unpack (take w out))
     lines_are = decoded_lines S out₀ out r w h e
 
@@ -87,7 +81,7 @@ module _ (T S P : List ℕ) (out₀ out : List ℕ) (r : Decoded) (h : Decodes S
         go [] q = let z = ap length q in let one = some_text in absurd (omega arith)
         go (l ∷ ls) q = omega arith
 
-    pub text_read : (p : Parts) → LinesRead T (take w out) P p → TextRead T S P p
+    pub text_read : (p : Result ℕ Refusal) → LinesRead T (take w out) P p → TextRead T S P p
     text_read p l = record {
       of = λ t b. rw (parts_of_lem t.classes S, given) (l.of t b some_line);
     }

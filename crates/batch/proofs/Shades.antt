@@ -1,13 +1,9 @@
 -- Laws of parts that are alike under colours: the test, and the first colour whose leading part is alike a part.
 -- Not here: what it says of trees (Listings).
-use Prim.Native.Nat.{ℕ, ◌+◌, ◌*◌, ◌<◌, ◌≤◌}
-use native.Mathlib.Omega.{arith}
+use Rattle.std.proofs.Common.{ℕ, ◌+◌, ◌*◌, ◌<◌, ◌≤◌, arith, ◌≡◌, refl, sym, ◌∙◌, subst, Bool, true, false, not, true≢false, List, get_or, lt-ltb, le-ltb, eq-eqb, ne_eqb}
 use native.Mathlib.Decide.{dec_lt, ℕ_discrete}
-use mathlib.Core.Path.{◌≡◌, refl, sym, ◌∙◌, subst}
-use mathlib.Core.Bool.{Bool, true, false, not, false≢true, true≢false}
-use mathlib.Core.List.{List}
-use lib.ListN.{get_or}
-use borrow.Author.Tests.{lt-ltb, le-ltb, eq-eqb, ne_eqb, not-true}
+use Rattle.std.proofs.Math.Bool.{false≢true}
+use borrow.Author.Tests.{not-true}
 use Rattle.canon.specs.Figures.{object_size, undetermined_code, number_code, head_size, numbers_at}
 use Rattle.canon.specs.Tables.{Plain, PlainTest}
 use Rattle.canon.specs.Links.{AlikeTo, AlikeTest}

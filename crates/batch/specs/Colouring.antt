@@ -1,6 +1,7 @@
 -- The colours of the parts that are reached, by rounds, and the parts that lead them.
 -- Not here: which parts are reached (Reaching), the objects that are made of them (Merging).
-use Rattle.std.specs.Prelude.{ℕ, suc, ◌≤◌, ◌<◌, ◌≡◌, Bool, true, false, cond, List, eqb, ltb, length, get_or}
+use Rattle.std.specs.declared.option.Option.{Option as RustOption}
+use Rattle.std.specs.Prelude.{Some, None, ℕ, ◌≤◌, ◌<◌, ◌≡◌, Bool, true, false, cond, List, eqb, ltb, length, get_or}
 use Rattle.cofj.specs.Values.{obj, Node}
 use Rattle.cofj.specs.Unfolding.{Same}
 use Rattle.canon.specs.Figures.{object_size, undetermined_code, number_code, capacity}
@@ -10,10 +11,6 @@ use Rattle.batch.specs.Figures.{number_field, wide_size, byte_count}
 use Rattle.batch.specs.Layout.{Lies}
 use Rattle.batch.specs.Reaching.{Listed}
 use Rattle.batch.specs.Merging.{Many}
-
--- one colour more than a block has room for
-abbrev pub too_many : ℕ
-too_many = suc capacity
 
 -- a field's byte as it looks: the colour of the part that it holds, a number, or undetermined
 unfoldable pub look_in : List ℕ → ℕ → ℕ
@@ -77,19 +74,13 @@ pub record RoundTo (P L : List ℕ) (m : ℕ) (C : List ℕ) (k : ℕ) (N D : Li
   pub alike : (q : ℕ) → q < i → Alike P C (get_or L q 0) (get_or D (get_or N (get_or L q 0) 0) 0)
 
 -- all have: of r colours, as many as before if these are settled; or there are too many
-pub record RoundDone (P L : List ℕ) (m : ℕ) (C : List ℕ) (k : ℕ) (N D : List ℕ) (r : ℕ) : Type 0 where
-  pub more : k ≤ r
-  pub most : r ≤ too_many
-  pub next : r ≤ capacity → Coloured P L m N D r
-  pub settled : r ≡ k → Settled P L m C D k
-  pub many : r ≡ too_many → (ns : List Node) → Lies P ns → Many ns
+pub record RoundDone (P L : List ℕ) (m : ℕ) (C : List ℕ) (k : ℕ) (N D : List ℕ) (o : RustOption ℕ) : Type 0 where
+  pub more : (r : ℕ) → o ≡ Some r → k ≤ r
+  pub next : (r : ℕ) → o ≡ Some r → Coloured P L m N D r
+  pub settled : o ≡ Some k → Settled P L m C D k
+  pub many : o ≡ None → (ns : List Node) → Lies P ns → Many ns
 
--- ---- rounds: k colours so far, and r in the end
-pub record ColouredTo (P L : List ℕ) (m : ℕ) (C D : List ℕ) (k : ℕ) : Type 0 where
-  pub coloured : k ≤ capacity → Coloured P L m C D k
-  pub many : k ≡ too_many → (ns : List Node) → Lies P ns → Many ns
-
-pub record Colours (P L : List ℕ) (m : ℕ) (C D : List ℕ) (r : ℕ) : Type 0 where
-  pub most : r ≤ too_many
-  pub settled : r ≤ capacity → Settled P L m C D r
-  pub many : r ≡ too_many → (ns : List Node) → Lies P ns → Many ns
+-- ---- rounds: r colours in the end, if there are not too many
+pub record Colours (P L : List ℕ) (m : ℕ) (C D : List ℕ) (o : RustOption ℕ) : Type 0 where
+  pub settled : (r : ℕ) → o ≡ Some r → Settled P L m C D r
+  pub many : o ≡ None → (ns : List Node) → Lies P ns → Many ns

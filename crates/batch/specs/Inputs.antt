@@ -1,6 +1,9 @@
 -- What the second text of a run gives, of what the language's `input_of` says: the value in block 0, or the refusal.
 -- Not here: the steps (Reading, Merging, Judging).
-use Rattle.std.specs.Prelude.{ℕ, ◌≤◌, ◌≡◌, List, length}
+use Rattle.std.specs.declared.result.Result.{Result}
+use Rattle.std.specs.Prelude.{Ok, Err, ℕ, ◌≤◌, ◌≡◌, List, length}
+use Rattle.cofj.specs.declared.Refusal.{Refusal}
+use Rattle.cofj.specs.Refusals.{refusal_number}
 use Rattle.cofj.specs.Syntax.{ty, Table}
 use Rattle.cofj.specs.Values.{Node}
 use Rattle.cofj.specs.Formed.{AllIn, Formed}
@@ -10,8 +13,6 @@ use Rattle.classes.specs.Layout.{Tabled}
 use Rattle.canon.specs.Figures.{capacity, block_size}
 use Rattle.canon.specs.Layout.{Raw}
 use Rattle.canon.specs.Numbers.{Has}
-use Rattle.batch.specs.declared.input.Input.{Input}
-use Rattle.batch.specs.declared.input.Input.TheVariants.{Given, Refused}
 use Rattle.batch.specs.Layout.{Lies}
 
 -- the bytes are those of a table that was read, and of parts
@@ -34,15 +35,15 @@ pub record Objects (R : List ℕ) (k : ℕ) (W : List ℕ) : Type 0 where
   pub some_object : 1 ≤ k
   pub block : block_size ≤ length W
 
--- the answer for what is given, and the block that has it
-abbrev pub Answered : language.Input → List ℕ → Input → Type 0
-Answered (language.refused k) W r = r ≡ Refused k
-Answered (given v) W r = (r ≡ Given) × Has W 0 v
+-- the answer for what is given, and the block that has it; or the refusal with that number
+abbrev pub Answered : language.Input → List ℕ → Result (Unit {0}) Refusal → Type 0
+Answered (language.refused k) W r = (e : Refusal) × (r ≡ Err e) × (refusal_number e ≡ k)
+Answered (given v) W r = (r ≡ Ok tt) × Has W 0 v
 
 -- of the parts in P, which are of the table's classes
-pub record PartsGiven (T P : List ℕ) (class objects : ℕ) (W : List ℕ) (r : Input) : Type 0 where
+pub record PartsGiven (T P : List ℕ) (class objects : ℕ) (W : List ℕ) (r : Result (Unit {0}) Refusal) : Type 0 where
   pub of : (t : Table) → Tabled T t → (ns : List Node) → Lies P ns → AllIn (Formed t 0) ns → Answered (fitting objects t.classes (ty class 0) (started ns)) W r
 
 -- of the text S
-pub record TextGiven (T S : List ℕ) (class objects : ℕ) (W : List ℕ) (r : Input) : Type 0 where
+pub record TextGiven (T S : List ℕ) (class objects : ℕ) (W : List ℕ) (r : Result (Unit {0}) Refusal) : Type 0 where
   pub of : (t : Table) → Tabled T t → Answered (input_of objects t.classes (ty class 0) S) W r

@@ -1,5 +1,6 @@
 -- The parts that are reached, merged. Not here: how parts lie in bytes (Layout), objects (canon).
-use Rattle.std.specs.Prelude.{ℕ, suc, ◌≤◌, ◌≡◌, List, length}
+use Rattle.std.specs.declared.option.Option.{Option as RustOption}
+use Rattle.std.specs.Prelude.{Some, None, ℕ, suc, ◌≤◌, ◌≡◌, List, length}
 use Rattle.cofj.specs.Values.{obj, Node, graph}
 use Rattle.cofj.specs.Unfolding.{SameTree}
 use Rattle.cofj.specs.Formed.{AllIn}
@@ -23,7 +24,7 @@ pub record Quotient (ns : List Node) (R : List ℕ) (k : ℕ) : Type 0 where
   pub tree : SameTree (graph_in R k 0) (graph (obj 0) ns)
 
 -- the parts P, merged in R: k objects, or too many
-pub record Merged (P R : List ℕ) (k : ℕ) : Type 0 where
-  pub least : k ≤ suc capacity
-  pub many : (ns : List Node) → Lies P ns → k ≡ suc capacity → Many ns
-  pub few : (ns : List Node) → Lies P ns → k ≤ capacity → Quotient ns R k
+pub record Merged (P R : List ℕ) (o : RustOption ℕ) : Type 0 where
+  pub least : (k : ℕ) → o ≡ Some k → k ≤ capacity
+  pub many : (ns : List Node) → Lies P ns → o ≡ None → Many ns
+  pub few : (ns : List Node) → Lies P ns → (k : ℕ) → o ≡ Some k → Quotient ns R k

@@ -1,8 +1,12 @@
 -- What reading a second text answers, of what the language's `parts_of` gives: a field, a line, packed lines, and a text.
 -- Not here: how parts lie in bytes (Layout).
-use Rattle.std.specs.Prelude.{ℕ, ◌+◌, ◌*◌, ◌<◌, ◌≤◌, ◌≡◌, Bool, true, false, List, ◌++◌, length, get_or, drop}
+use Rattle.std.specs.declared.option.Option.{Option as RustOption}
+use Rattle.std.specs.declared.result.Result.{Result}
+use Rattle.std.specs.Prelude.{Some, None, Ok, Err, ℕ, ◌+◌, ◌*◌, ◌<◌, ◌≤◌, ◌≡◌, Bool, true, false, List, ◌++◌, length, get_or, drop}
 use Rattle.std.proofs.Math.Option.{Option, none, some}
 use Rattle.std.proofs.Math.ListN.{get_elem?}
+use Rattle.cofj.specs.declared.Refusal.{Refusal}
+use Rattle.cofj.specs.declared.Refusal.TheVariants.{BadParts}
 use Rattle.cofj.specs.Limits.{part_count}
 use Rattle.cofj.specs.Partial.{◌>>=◌, guard}
 use Rattle.cofj.specs.Text.{within}
@@ -17,8 +21,6 @@ use Rattle.lineform.specs.Packed.{unpack}
 use Rattle.lineform.specs.Answers.{is_some}
 use Rattle.canon.specs.Layout.{number_beside}
 use Rattle.classes.specs.Layout.{Tabled}
-use Rattle.batch.specs.declared.lines.Parts.{Parts}
-use Rattle.batch.specs.declared.lines.Parts.TheVariants.{Listed, Refused}
 use Rattle.canon.specs.Figures.{head_size, blank_at}
 use Rattle.batch.specs.Figures.{part_size, field_room, no_part}
 use Rattle.batch.specs.Layout.{held_byte, FieldLies, Lies}
@@ -49,9 +51,9 @@ pub record FieldTaken (l : List ℕ) (q n : ℕ) (P₀ : List ℕ) (at f : ℕ) 
   pub below : (j : ℕ) → j < at + head_size → get_or P j 0 ≡ get_or P₀ j 0
 
 -- the answer of `read_field`
-pub record FieldRead (l : List ℕ) (q n : ℕ) (P₀ : List ℕ) (at f : ℕ) (P : List ℕ) (r : ℕ) : Type 0 where
-  pub bad : r ≡ 0 → ref_at n (drop q l) ≡ none
-  pub good : ((r ≡ 0) → ⊥) → FieldTaken l q n P₀ at f P r
+pub record FieldRead (l : List ℕ) (q n : ℕ) (P₀ : List ℕ) (at f : ℕ) (P : List ℕ) (o : RustOption ℕ) : Type 0 where
+  pub bad : o ≡ None → ref_at n (drop q l) ≡ none
+  pub good : (r : ℕ) → o ≡ Some r → FieldTaken l q n P₀ at f P r
 
 -- so are the first f fields of the line, and the next begins at q
 pub record FieldsTaken (l : List ℕ) (n : ℕ) (P₀ : List ℕ) (at : ℕ) (P : List ℕ) (f q : ℕ) : Type 0 where
@@ -64,9 +66,9 @@ pub record FieldsTaken (l : List ℕ) (n : ℕ) (P₀ : List ℕ) (at : ℕ) (P 
   pub below : (j : ℕ) → j < at + head_size → get_or P j 0 ≡ get_or P₀ j 0
 
 -- the answer of `read_fields`
-pub record FieldsRead (l : List ℕ) (m n : ℕ) (P₀ : List ℕ) (at : ℕ) (P : List ℕ) (r : ℕ) : Type 0 where
-  pub bad : r ≡ 0 → refs_of n m (drop front_size l) ≡ none
-  pub good : ((r ≡ 0) → ⊥) → FieldsTaken l n P₀ at P m r
+pub record FieldsRead (l : List ℕ) (m n : ℕ) (P₀ : List ℕ) (at : ℕ) (P : List ℕ) (o : RustOption ℕ) : Type 0 where
+  pub bad : o ≡ None → refs_of n m (drop front_size l) ≡ none
+  pub good : (r : ℕ) → o ≡ Some r → FieldsTaken l n P₀ at P m r
 
 -- ---- a line
 -- line k of n, as a part of a known class and with its fields
@@ -101,9 +103,9 @@ abbrev pub line_count : List ℕ → ℕ
 line_count d = length (unpack d)
 
 -- the answer for these parts, and the bytes that have them
-abbrev pub Answered : Option (List Node) → List ℕ → Parts → Type 0
-Answered none P r = r ≡ Refused
-Answered (some ns) P r = (r ≡ Listed (length ns)) × Lies P ns
+abbrev pub Answered : Option (List Node) → List ℕ → Result ℕ Refusal → Type 0
+Answered none P r = r ≡ Err BadParts
+Answered (some ns) P r = (r ≡ Ok (length ns)) × Lies P ns
 
 -- the parts that these lines list
 unfoldable pub parts_in : List Class → List (List ℕ) → Option (List Node)
@@ -114,9 +116,9 @@ parts_in cs ls =
     guard (parts_good cs ns) >>= λ _. some ns
 
 -- the answer of `read_lines`; a text has at least one line
-pub record LinesRead (T d P : List ℕ) (r : Parts) : Type 0 where
+pub record LinesRead (T d P : List ℕ) (r : Result ℕ Refusal) : Type 0 where
   pub of : (t : Table) → Tabled T t → 1 ≤ line_count d → Answered (parts_in t.classes (unpack d)) P r
 
 -- the parts of the text S by the table T, in P
-pub record TextRead (T S P : List ℕ) (r : Parts) : Type 0 where
+pub record TextRead (T S P : List ℕ) (r : Result ℕ Refusal) : Type 0 where
   pub of : (t : Table) → Tabled T t → Answered (parts_of t.classes S) P r

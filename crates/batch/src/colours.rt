@@ -9,11 +9,8 @@ ghost use Rattle.batch.specs.Reaching.{Reaches};
 ghost use Rattle.batch.specs.Colouring.{look_in, Alikeness, FirstAlike, Room, Own, Coloured, RoundDone, Colours};
 
 use crate::layout::{NUMBER_FIELD, PART, PER_BYTE};
-use canon::bytes::{copy, same_plain};
+use canon::bytes::same_plain;
 use canon::layout::{CAPACITY, HEAD, NUMBER, NUMBERS, UNDETERMINED};
-
-// one colour more than a block has room for
-pub(crate) const TOO_MANY: u8 = CAPACITY + 1;
 
 // A field's byte as it looks: the colour of the part that it holds, a number, or undetermined.
 pub(crate) fn shade(cs: &[u8], b: u8) -> u8
@@ -40,14 +37,12 @@ pub(crate) fn alike(parts: &[u8], cs: &[u8], p: u8, q: u8) -> bool
     if !same_plain(parts, PART * (p as usize), PART * (q as usize)) {
         return false;
     }
-    let mut j = HEAD;
-    while j < NUMBERS {
+    for j in HEAD..NUMBERS {
         let a = shade(cs, parts[PART * (p as usize) + j]);
         let b = shade(cs, parts[PART * (q as usize) + j]);
         if a != b {
             return false;
         }
-        j += 1;
     }
     true
 }
@@ -57,12 +52,10 @@ pub(crate) fn find_lead(parts: &[u8], cs: &[u8], lead: &[u8], c: u8, top: u8, p:
     requires { Room parts.now cs.now lead.now × (c ≤ top) × (top ≤ capacity) }
     ensures { FirstAlike parts.now cs.now lead.now c top p result }
 {
-    let mut d = c;
-    while d < top {
+    for d in c..top {
         if alike(parts, cs, p, lead[d as usize]) {
             return d;
         }
-        d += 1;
     }
     top
 }
@@ -79,7 +72,7 @@ pub(crate) fn next_colour(parts: &[u8], cs: &[u8], lead: &[u8], k: u8, top: u8, 
     find_lead(parts, cs, lead, k, top, p)
 }
 
-// One round over the m listed parts: their next colours, and the parts that lead the new ones. How many colours there are then.
+// One round over the m listed parts: their next colours, and the parts that lead the new ones. How many colours there are then; none if a block has no room for so many.
 pub(crate) fn round(
     parts: &[u8],
     list: &[u8],
@@ -88,44 +81,41 @@ pub(crate) fn round(
     k: u8,
     next: &mut [u8],
     lead: &mut [u8],
-) -> u8
+) -> Option<u8>
     requires { Room parts.now cs.now lead.old × (length next.old ≡ byte_count) × Reaches parts.now list.now m × Coloured parts.now list.now m cs.now lead.old k }
     ensures { RoundDone parts.now list.now m cs.now k next.new lead.new result }
 {
     let mut top = k;
-    let mut i: u8 = 0;
-    while i < m {
+    for i in 0..m {
         let p = list[i as usize];
-        i += 1;
         let c = next_colour(parts, cs, lead, k, top, p);
         next[p as usize] = c;
         if c == top {
             if CAPACITY <= top {
-                return TOO_MANY;
+                return None;
             }
             lead[top as usize] = p;
             top += 1;
         }
     }
-    top
+    Some(top)
 }
 
-// The colours of the m listed parts, part 0 among them, and the part that leads each. How many they are; one more than a block has room for stands for any more.
-pub(crate) fn colour(parts: &[u8], list: &[u8], m: u8, cs: &mut [u8], lead: &mut [u8]) -> u8
+// The colours of the m listed parts, part 0 among them, and the part that leads each. How many they are; none if a block has no room for so many.
+pub(crate) fn colour(parts: &[u8], list: &[u8], m: u8, cs: &mut [u8], lead: &mut [u8]) -> Option<u8>
     requires { Room parts.now cs.old lead.old × Reaches parts.now list.now m }
     ensures { Colours parts.now list.now m cs.new lead.new result }
 {
     let mut next = [0u8; PER_BYTE];
-    copy(&next, 0, cs, 0, PER_BYTE);
+    cs.copy_from_slice(&next);
     lead[0] = 0;
     let mut k: u8 = 1;
-    while k < TOO_MANY {
-        let top = round(parts, list, m, cs, k, &mut next, lead);
+    loop {
+        let top = round(parts, list, m, cs, k, &mut next, lead)?;
         if top == k {
-            return k;
+            return Some(k);
         }
-        copy(&next, 0, cs, 0, PER_BYTE);
+        cs.copy_from_slice(&next);
         k = top;
     }
-    k
 }

@@ -5,22 +5,15 @@ ghost use Rattle.canon.specs.Numbers.{graph_in, Placed};
 ghost use Rattle.batch.specs.Figures.{wide_size};
 ghost use Rattle.batch.specs.Inputs.{SomeTable, SomeParts, Room, Objects, PartsGiven, TextGiven};
 
-use crate::colours::TOO_MANY;
 use crate::judge::value_fits;
 use crate::layout::WIDE;
-use crate::lines::{Parts, read_parts};
+use crate::lines::read_parts;
 use crate::merge::merge;
 use canon::colours::colour;
 use canon::layout::{OBJECTS, PER_OBJECT};
 use canon::number::put;
 use classes::places::SIZE;
-
-// What a text gives a main: its value stands in the block, or the call is refused with this number.
-#[derive(Clone, Copy)]
-pub enum Input {
-    Given,
-    Refused(u8),
-}
+use cofj::Refusal;
 
 // The value of k objects, from the first on, in block 0. Answers how many objects it has.
 fn lay(raw: &[u8], k: u8, block: &mut [u8]) -> u8
@@ -33,34 +26,43 @@ fn lay(raw: &[u8], k: u8, block: &mut [u8]) -> u8
 }
 
 // What the parts give a main whose parameter has this class, where a value may have so many objects.
-fn parts_input(parts: &[u8], t: &[u8; SIZE], class: u8, objects: u8, block: &mut [u8]) -> Input
+fn parts_input(
+    parts: &[u8],
+    t: &[u8; SIZE],
+    class: u8,
+    objects: u8,
+    block: &mut [u8],
+) -> Result<(), Refusal>
     requires { (wide_size ≤ length parts.now) × SomeParts parts.now × Room objects block.old }
     ensures { PartsGiven t.now parts.now class objects block.new result }
 {
     let mut raw = [0u8; OBJECTS];
-    let k = merge(parts, &mut raw);
-    if k == TOO_MANY {
-        return Input::Refused(15);
-    }
+    let Some(k) = merge(parts, &mut raw) else {
+        return Err(Refusal::UnfitParts);
+    };
     let n = lay(&raw, k, block);
     if objects < n {
-        return Input::Refused(15);
+        return Err(Refusal::UnfitParts);
     }
     if !value_fits(block, t, class) {
-        return Input::Refused(15);
+        return Err(Refusal::UnfitParts);
     }
-    Input::Given
+    Ok(())
 }
 
-// What the second text gives a main whose parameter has this class and tag 0, where a value may have so many objects.
-pub fn read_input(text: &[u8], t: &[u8; SIZE], class: u8, objects: u8, block: &mut [u8]) -> Input
+// What the second text gives a main whose parameter has this class and tag 0, where a value may have so many objects: its value stands in the block, or the
+// call is refused.
+pub fn read_input(
+    text: &[u8],
+    t: &[u8; SIZE],
+    class: u8,
+    objects: u8,
+    block: &mut [u8],
+) -> Result<(), Refusal>
     requires { SomeTable t.now × Room objects block.old }
     ensures { TextGiven t.now text.now class objects block.new result }
 {
     let mut parts = [0u8; WIDE];
-    let r = read_parts(text, t, &mut parts);
-    let Parts::Listed(_) = r else {
-        return Input::Refused(14);
-    };
+    read_parts(text, t, &mut parts)?;
     parts_input(&parts, t, class, objects, block)
 }

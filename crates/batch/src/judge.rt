@@ -4,7 +4,7 @@ ghost use Rattle.canon.specs.Layout.{Inside};
 ghost use Rattle.batch.specs.Judging.{Coded, HeldTest, FieldTest, ObjectTest, ValueTest};
 
 use canon::layout::{COUNT, FIRST_LEAF, HEAD, NUMBER, OBJECT};
-use classes::chain::{FieldFound, FieldType, field_type, fit};
+use classes::chain::{FieldType, field_type, fit};
 use classes::places::{NUMBER_CLASS, SIZE};
 
 // the tag of a place that may hold the undetermined value
@@ -30,8 +30,7 @@ pub(crate) fn field_holds(block: &[u8], t: &[u8; SIZE], class: u8, f: u8, b: u8)
     requires { Coded block.now b }
     ensures { FieldTest t.now block.now class f b result }
 {
-    let found = field_type(t, class, f);
-    let FieldFound::Type(w) = found else {
+    let Some(w) = field_type(t, class, f) else {
         return false;
     };
     held(block, t, w, b)
@@ -45,13 +44,11 @@ pub(crate) fn object_holds(block: &[u8], t: &[u8; SIZE], i: u8) -> bool
     let at = OBJECT * (i as usize);
     let class = block[at];
     let n = block[at + 1];
-    let mut f: u8 = 0;
-    while f < n {
+    for f in 0..n {
         let b = block[at + HEAD + (f as usize)];
         if !field_holds(block, t, class, f, b) {
             return false;
         }
-        f += 1;
     }
     true
 }
@@ -66,12 +63,10 @@ pub(crate) fn value_fits(block: &[u8], t: &[u8; SIZE], class: u8) -> bool
         return false;
     }
     let n = block[COUNT];
-    let mut i: u8 = 0;
-    while i < n {
+    for i in 0..n {
         if !object_holds(block, t, i) {
             return false;
         }
-        i += 1;
     }
     true
 }

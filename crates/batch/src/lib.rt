@@ -1,6 +1,6 @@
 // The second text of a run: its parts read (refusal 14), those that unfold to the same tree merged, laid in a block as a value, and judged by the places that
 // hold them (15).
-// Offered: `input::read_input`, with `Input`.
+// Offered: `input::read_input`.
 // Not here: which main is given a value (engine), what a line is (lineform), classes and their fields (classes), a block's canonical order (canon).
 #![tactic(auto)]
 

@@ -9,7 +9,8 @@ use crate::layout::{BLANK, FIELDS, NO_PART, NUMBER_FIELD, PART};
 use canon::layout::{HEAD, NUMBERS};
 use classes::chain::field_total;
 use classes::places::{CLASS_COUNT_AT, SIZE};
-use lineform::lines::{Decoded, decode};
+use cofj::Refusal;
+use lineform::lines::decode;
 
 // the first byte of a part's line
 const PART_LINE: u8 = 5;
@@ -25,23 +26,6 @@ const LONGEST: usize = 33 * PARTS;
 
 // room for the packed lines of so many characters, of which three make at most two bytes
 const ROOM: usize = 5592;
-
-// the place after a field that is not there
-const NO_FIELD: usize = 0;
-
-// What reading a text answers: how many parts it lists, or that it is no list of parts.
-#[derive(Clone, Copy)]
-pub(crate) enum Parts {
-    Listed(u8),
-    Refused,
-}
-
-// A byte as a number of bytes.
-fn wide(x: u8) -> usize
-    ensures { result ≡ x }
-{
-    x as usize
-}
 
 // Whether a field's byte is one of n parts, or that it holds none.
 fn field_good(b: u8, n: u8) -> bool
@@ -64,45 +48,40 @@ fn put_field(parts: &mut [u8], at: usize, f: usize, b: u8, low: u8, high: u8)
 }
 
 // The field of a line at place q, as field f of the part at a place: one of n parts, none, or a number and its two bytes. The place after it, if it is one.
-fn read_field(line: &[u8], q: usize, n: u8, parts: &mut [u8], at: usize, f: usize) -> usize
-    requires { (at + part_size ≤ length parts.old) × (f < field_room) × (0 < q) }
+fn read_field(line: &[u8], q: usize, n: u8, parts: &mut [u8], at: usize, f: usize) -> Option<usize>
+    requires { (at + part_size ≤ length parts.old) × (f < field_room) }
     ensures { FieldRead line.now q n parts.old at f parts.new result }
 {
     if line.len() <= q {
-        return NO_FIELD;
+        return None;
     }
     let b = line[q];
     if b != NUMBER_FIELD {
         if !field_good(b, n) {
-            return NO_FIELD;
+            return None;
         }
         put_field(parts, at, f, b, 0, 0);
-        return q + 1;
+        return Some(q + 1);
     }
     if line.len() - q < 3 {
-        return NO_FIELD;
+        return None;
     }
     let high = line[q + 1];
     let low = line[q + 2];
     put_field(parts, at, f, b, low, high);
-    q + 3
+    Some(q + 3)
 }
 
 // The m fields of a line, as those of the part at a place. The place after them, if they are fields.
-fn read_fields(line: &[u8], m: u8, n: u8, parts: &mut [u8], at: usize) -> usize
+fn read_fields(line: &[u8], m: u8, n: u8, parts: &mut [u8], at: usize) -> Option<usize>
     requires { (at + part_size ≤ length parts.old) × (m ≤ field_room) × (front_size ≤ length line.now) }
     ensures { FieldsRead line.now m n parts.old at parts.new result }
 {
     let mut q = FRONT;
-    let mut f: u8 = 0;
-    while f < m {
-        q = read_field(line, q, n, parts, at, f as usize);
-        if q == NO_FIELD {
-            return q;
-        }
-        f += 1;
+    for f in 0..m {
+        q = read_field(line, q, n, parts, at, usize::from(f))?;
     }
-    q
+    Some(q)
 }
 
 // What the part at a place has besides its class and its m fields: fields that hold nothing, and blank bytes.
@@ -110,10 +89,8 @@ fn spare_fields(parts: &mut [u8], at: usize, m: u8)
     requires { (at + part_size ≤ length parts.old) × (m ≤ field_room) }
     ensures { Spared parts.old at m parts.new }
 {
-    let mut f = m;
-    while f < FIELDS {
-        put_field(parts, at, f as usize, NO_PART, 0, 0);
-        f += 1;
+    for f in m..FIELDS {
+        put_field(parts, at, usize::from(f), NO_PART, 0, 0);
     }
     parts[at + BLANK] = 0;
     parts[at + BLANK + 1] = 0;
@@ -147,7 +124,9 @@ fn read_line(line: &[u8], k: u8, n: u8, t: &[u8; SIZE], parts: &mut [u8]) -> boo
     let at = PART * (k as usize);
     parts[at] = c;
     parts[at + 1] = m;
-    let q = read_fields(line, m, n, parts, at);
+    let Some(q) = read_fields(line, m, n, parts, at) else {
+        return false;
+    };
     if q != line.len() {
         return false;
     }
@@ -162,48 +141,49 @@ fn count_lines(d: &[u8]) -> usize
 {
     let mut i: usize = 0;
     let mut n: usize = 0;
+    // by what each line takes: no range
     while i < d.len() {
-        i = i + 1 + wide(d[i]);
+        i = i + 1 + usize::from(d[i]);
         n += 1;
     }
     n
 }
 
 // Packed lines, read into parts.
-fn read_lines(d: &[u8], t: &[u8; SIZE], parts: &mut [u8]) -> Parts
+fn read_lines(d: &[u8], t: &[u8; SIZE], parts: &mut [u8]) -> Result<u8, Refusal>
     requires { Packed d.now × (wide_size ≤ length parts.old) }
     ensures { LinesRead t.now d.now parts.new result }
 {
     let n = count_lines(d);
     if PARTS < n {
-        return Parts::Refused;
+        return Err(Refusal::BadParts);
     }
     let mut i: usize = 0;
     let mut k: u8 = 0;
+    // by what each line takes: no range
     while i < d.len() {
         let a = i + 1;
-        let e = a + wide(d[i]);
+        let e = a + usize::from(d[i]);
         if !read_line(&d[a..e], k, n as u8, t, parts) {
-            return Parts::Refused;
+            return Err(Refusal::BadParts);
         }
         k += 1;
         i = e;
     }
-    Parts::Listed(n as u8)
+    Ok(n as u8)
 }
 
-// The parts that a text lists, by the classes of a table.
-pub(crate) fn read_parts(text: &[u8], t: &[u8; SIZE], parts: &mut [u8]) -> Parts
+// The parts that a text lists, by the classes of a table: how many they are.
+pub(crate) fn read_parts(text: &[u8], t: &[u8; SIZE], parts: &mut [u8]) -> Result<u8, Refusal>
     requires { wide_size ≤ length parts.old }
     ensures { TextRead t.now text.now parts.new result }
 {
     if LONGEST < text.len() {
-        return Parts::Refused;
+        return Err(Refusal::BadParts);
     }
     let mut room = [0u8; ROOM];
-    let r = decode(text, &mut room);
-    let Decoded::Packed(w) = r else {
-        return Parts::Refused;
+    let Ok(w) = decode(text, &mut room) else {
+        return Err(Refusal::BadParts);
     };
     read_lines(&room[..w], t, parts)
 }

@@ -7,7 +7,7 @@ ghost use Rattle.batch.specs.Colouring.{Room};
 ghost use Rattle.batch.specs.Laying.{PartLaid, Laid};
 ghost use Rattle.batch.specs.Merging.{Merged};
 
-use crate::colours::{TOO_MANY, colour, shade};
+use crate::colours::{colour, shade};
 use crate::layout::{PART, PER_BYTE};
 use crate::reach::reach;
 use canon::bytes::copy;
@@ -19,10 +19,8 @@ pub(crate) fn lay_part(parts: &[u8], cs: &[u8], p: u8, raw: &mut [u8], c: u8)
     ensures { PartLaid parts.now cs.now p raw.old c object_size raw.new }
 {
     copy(parts, PART * (p as usize), raw, OBJECT * (c as usize), PART);
-    let mut j = HEAD;
-    while j < NUMBERS {
+    for j in HEAD..NUMBERS {
         raw[OBJECT * (c as usize) + j] = shade(cs, parts[PART * (p as usize) + j]);
-        j += 1;
     }
 }
 
@@ -31,15 +29,13 @@ pub(crate) fn lay_leads(parts: &[u8], cs: &[u8], lead: &[u8], k: u8, raw: &mut [
     requires { Room parts.now cs.now lead.now × (k ≤ capacity) × (objects_size ≤ length raw.old) }
     ensures { Laid parts.now cs.now lead.now k raw.old raw.new }
 {
-    let mut c: u8 = 0;
-    while c < k {
+    for c in 0..k {
         lay_part(parts, cs, lead[c as usize], raw, c);
-        c += 1;
     }
 }
 
-// The objects of the parts that are reached, equal ones merged, part 0 as object 0. How many they are; one more than a block has room for stands for any more.
-pub(crate) fn merge(parts: &[u8], raw: &mut [u8]) -> u8
+// The objects of the parts that are reached, equal ones merged, part 0 as object 0. How many they are; none if a block has no room for them.
+pub(crate) fn merge(parts: &[u8], raw: &mut [u8]) -> Option<u8>
     requires { (wide_size ≤ length parts.now) × (objects_size ≤ length raw.old) }
     ensures { Merged parts.now raw.new result }
 {
@@ -47,10 +43,7 @@ pub(crate) fn merge(parts: &[u8], raw: &mut [u8]) -> u8
     let m = reach(parts, &mut list);
     let mut cs = [0u8; PER_BYTE];
     let mut lead = [0u8; PER_OBJECT];
-    let k = colour(parts, &list, m, &mut cs, &mut lead);
-    if k == TOO_MANY {
-        return k;
-    }
+    let k = colour(parts, &list, m, &mut cs, &mut lead)?;
     lay_leads(parts, &cs, &lead, k, raw);
-    k
+    Some(k)
 }

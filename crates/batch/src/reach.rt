@@ -44,6 +44,7 @@ pub(crate) fn reach(parts: &[u8], list: &mut [u8]) -> u8
     list[0] = 0;
     let mut head: u8 = 0;
     let mut tail: u8 = 1;
+    // the list grows while it is gone over: no range
     while head < tail {
         let p = list[head as usize];
         tail = note_fields(parts, p, &mut seen, list, tail);

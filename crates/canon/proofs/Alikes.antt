@@ -1,10 +1,6 @@
 -- Objects that look alike by their colours, turned by them, are the same; what a renaming leaves of their bytes.
-use Prim.Native.Nat.{ℕ, zero, suc, ◌+◌, ◌-◌, ◌*◌, ◌/◌, ◌<◌, ◌≤◌}
-use native.Mathlib.Omega.{arith}
-use mathlib.Core.Path.{◌≡◌, refl, sym, ◌∙◌}
-use mathlib.Core.List.{List, [], ◌∷◌, map}
-use lib.ListN.{get_or, take, get_or-map}
-use borrow.Author.Tests.{le-ltb}
+use Rattle.std.proofs.Common.{ℕ, zero, suc, ◌+◌, ◌-◌, ◌*◌, ◌/◌, ◌<◌, ◌≤◌, arith, ◌≡◌, refl, sym, ◌∙◌, List, [], ◌∷◌, map, get_or, take, le-ltb}
+use Rattle.std.proofs.Math.ListN.{get_or-map}
 use Rattle.cofj.specs.Values.{Ref, obj, leaf, Leaf, mark, undet, num, Node, node, rename, rename_node}
 use Rattle.canon.specs.Figures.{object_size, head_size, code_count, numbers_at, first_leaf}
 use Rattle.canon.specs.Layout.{ref_of, code_of, number_beside, number_at, ref_in, node_in, Packed}

@@ -1,16 +1,15 @@
 -- Laws of colours by classes: what parting leaves is coarse, and what is coarse and steady are the colours. Not here: the first of each class (Firsts).
-use Prim.Native.Nat.{ℕ, zero, suc, ◌+◌, ◌-◌, ◌*◌, ◌<◌, ◌≤◌}
-use native.Mathlib.Omega.{arith}
+use Rattle.std.proofs.Common.{ℕ, zero, suc, ◌+◌, ◌-◌, ◌*◌, ◌<◌, ◌≤◌, arith, ◌≡◌, refl, sym, ap, ◌∙◌, subst, List, [], ◌∷◌, length, get_or, take, get_or-take, length-take-le}
 use native.Mathlib.Decide.{dec_lt, ℕ_discrete}
-use mathlib.Core.Path.{◌≡◌, refl, sym, ap, ◌∙◌, subst}
-use mathlib.Core.List.{List, [], ◌∷◌}
-use mathlib.Core.Option.{some}
-use lib.ListN.{length, get_or, take, get_elem?, get_or-map, length-map}
-use lib.Seq.{get_or-take, length-take-le}
+use Rattle.std.proofs.Math.Option.{some}
+use Rattle.std.proofs.Math.ListN.{get_elem?, get_or-map, length-map}
 use Rattle.cofj.specs.Values.{Ref, obj, leaf, undet, Node, Graph, graph, rename, rename_node, node_at, refs_at, colour_of, colours}
 use Rattle.cofj.specs.Unfolding.{InRange}
 use Rattle.cofj.proofs.Colours.{colour, colour_full, colour_look}
-use Rattle.canon.specs.Figures.{object_size, head_size, code_count, numbers_at, first_leaf, link_size, target_at, looks_field}
+use Rattle.canon.specs.Figures.{object_size, head_size, code_count, numbers_at, first_leaf}
+use Rattle.canon.specs.declared.rows.Row.{Row}
+use Rattle.canon.specs.declared.rows.Link.{Link}
+use Rattle.canon.specs.Rows.{link_at, field_at}
 use Rattle.canon.specs.Layout.{code_of, node_in, nodes_in, Packed, Raw, Codes}
 use Rattle.canon.specs.Links.{looked, shown, AlikeTo, target_of, Linked}
 use Rattle.canon.specs.Parting.{Kept, Begun, Goes, GoesByLooks, PartedLooks, PartedFields}
@@ -163,20 +162,20 @@ module _ (N : List ℕ) (n : ℕ) (raw : Raw N n) where
   row_null zero e = refl
   row_null (suc i) e = absurd (omega arith)
 
-  module _ (K : List ℕ) (k : Linked N (n + 1) K) where
+  module _ (K : List Link) (F : List (List Link)) (k : Linked N (n + 1) K F) where
     goes_looks : GoesByLooks row_hue (n + 1) K
     unfolding row_hue
     goes_looks = record { same = λ x y hx hy e. go x y hx hy e (ℕ_discrete x 0) (ℕ_discrete y 0) }
       where
-        go : (x y : ℕ) → x < n + 1 → y < n + 1 → row_hue x ≡ row_hue y → Dec (x ≡ 0) → Dec (y ≡ 0) → get_or K (link_size * x + target_at + looks_field) 0 ≡ get_or K (link_size * y + target_at + looks_field) 0
-        go x y hx hy e (yes p) q = let z : y ≡ 0 = row_null y (sym e ∙ ap row_hue p) in ap (λ (u : ℕ). get_or K (link_size * u + target_at + looks_field) 0) (p ∙ sym z)
+        go : (x y : ℕ) → x < n + 1 → y < n + 1 → row_hue x ≡ row_hue y → Dec (x ≡ 0) → Dec (y ≡ 0) → (link_at K x).target ≡ (link_at K y).target
+        go x y hx hy e (yes p) q = let z : y ≡ 0 = row_null y (sym e ∙ ap row_hue p) in ap (λ (u : ℕ). (link_at K u).target) (p ∙ sym z)
         go x y hx hy e (no p) (yes q) = absurd (p (row_null x (e ∙ ap row_hue q)))
         go x y hx hy e (no p) (no q) =
             let a : 0 < x = omega (arith, p) in
             let b : 0 < y = omega (arith, q) in
             k.grouped.same x y a hx b hy (hue_alike (x - 1) (y - 1) (row_low x a hx) (row_low y b hy) (let z : suc (hue (x - 1)) ≡ suc (hue (y - 1)) = sym (row_suc x a) ∙ e ∙ row_suc y b in omega arith))
 
-    goes_field : (f : ℕ) → f < code_count → Goes row_hue (n + 1) f K
+    goes_field : (f : ℕ) → f < code_count → Goes row_hue (n + 1) (field_at F f)
     unfolding row_hue
     goes_field f hf = record { some = λ x y hx hy e l. (both x y hx hy e l).0; same = λ x y hx hy e l. (both x y hx hy e l).1 }
       where
@@ -189,24 +188,24 @@ module _ (N : List ℕ) (n : ℕ) (raw : Raw N n) where
             (omega (arith, tb), ap row_hue (sym ta) ∙ row_suc (a + 1) (omega arith) ∙ ap (λ (u : ℕ). suc (hue u)) za ∙ ap suc z ∙ sym (ap row_hue (sym tb) ∙ row_suc (b + 1) (omega arith) ∙ ap (λ (u : ℕ). suc (hue u)) zb))
         targets a b (leaves p z) l = absurd (omega (arith, target_leaf a p))
 
-        both : (x y : ℕ) → x < n + 1 → y < n + 1 → row_hue x ≡ row_hue y → 0 < get_or K (link_size * x + target_at + f) 0
-            → (0 < get_or K (link_size * y + target_at + f) 0) × (row_hue (get_or K (link_size * x + target_at + f) 0) ≡ row_hue (get_or K (link_size * y + target_at + f) 0))
+        both : (x y : ℕ) → x < n + 1 → y < n + 1 → row_hue x ≡ row_hue y → 0 < (link_at (field_at F f) x).target
+            → (0 < (link_at (field_at F f) y).target) × (row_hue (link_at (field_at F f) x).target ≡ row_hue (link_at (field_at F f) y).target)
         both x y hx hy e l = go (ℕ_discrete x 0) (ℕ_discrete y 0)
           where
-            go : Dec (x ≡ 0) → Dec (y ≡ 0) → (0 < get_or K (link_size * y + target_at + f) 0) × (row_hue (get_or K (link_size * x + target_at + f) 0) ≡ row_hue (get_or K (link_size * y + target_at + f) 0))
+            go : Dec (x ≡ 0) → Dec (y ≡ 0) → (0 < (link_at (field_at F f) y).target) × (row_hue (link_at (field_at F f) x).target ≡ row_hue (link_at (field_at F f) y).target)
             go (yes p) q = absurd (omega (arith, (k.fields.each f hf).all.null x p))
             go (no p) (yes q) = absurd (p (row_null x (e ∙ ap row_hue q)))
             go (no p) (no q) =
                 let a : 0 < x = omega (arith, p) in
                 let b : 0 < y = omega (arith, q) in
-                let tx : get_or K (link_size * x + target_at + f) 0 ≡ target_of (get_or N (object_size * (x - 1) + head_size + f) 0) = k.targets f hf x a hx in
-                let ty : get_or K (link_size * y + target_at + f) 0 ≡ target_of (get_or N (object_size * (y - 1) + head_size + f) 0) = k.targets f hf y b hy in
+                let tx : (link_at (field_at F f) x).target ≡ target_of (get_or N (object_size * (x - 1) + head_size + f) 0) = k.targets f hf x a hx in
+                let ty : (link_at (field_at F f) y).target ≡ target_of (get_or N (object_size * (y - 1) + head_size + f) 0) = k.targets f hf y b hy in
                 let c = code_is (x - 1) (y - 1) (row_low x a hx) (row_low y b hy) (let z : suc (hue (x - 1)) ≡ suc (hue (y - 1)) = sym (row_suc x a) ∙ e ∙ row_suc y b in omega arith) f hf in
                 let w = targets _ _ c (rw tx at l) in
                 (rw ty w.0, rw (tx, ty) w.1)
 
     -- ---- what parting leaves is coarse
-    module _ (T1 T2 T3 C : List ℕ) (m r : ℕ) (b : Begun (n + 1) T1) (p : PartedLooks (n + 1) K T1 T2 m) (q : PartedFields (n + 1) K T2 T3 m r) (l : Leads T3 n C) where
+    module _ (T1 T2 T3 : List Row) (C : List ℕ) (m r : ℕ) (b : Begun (n + 1) T1) (p : PartedLooks (n + 1) K T1 T2 m) (q : PartedFields (n + 1) F T2 T3 m r) (l : Leads T3 n C) where
       kept : Kept row_hue (n + 1) T3
       kept = q.kept row_hue goes_field (p.kept row_hue goes_looks (b.kept row_hue))
 

@@ -1,12 +1,8 @@
 -- Codes and the references that they stand for. Not here: the bytes of an object (Nodes).
-use Prim.Native.Nat.{ℕ, zero, suc, ◌+◌, ◌-◌, ◌<◌, ◌≤◌}
-use native.Mathlib.Omega.{arith}
+use Rattle.std.proofs.Common.{ℕ, zero, suc, ◌+◌, ◌-◌, ◌<◌, ◌≤◌, arith, ◌≡◌, refl, sym, ◌∙◌, List, [], ◌∷◌, length, get_or, lt-ltb, le-ltb, ne_eqb}
 use native.Mathlib.Decide.{dec_lt, ℕ_discrete}
-use mathlib.Core.Path.{◌≡◌, refl, sym, ◌∙◌}
-use mathlib.Core.List.{List, [], ◌∷◌}
-use mathlib.Core.Option.{some, none-ne-some}
-use lib.ListN.{length, get_or, get_elem?}
-use borrow.Author.Tests.{lt-ltb, le-ltb, ne_eqb}
+use Rattle.std.proofs.Math.Option.{some, none-ne-some}
+use Rattle.std.proofs.Math.ListN.{get_elem?}
 use Rattle.cofj.specs.Values.{Ref, obj, leaf, mark, undet, num}
 use Rattle.cofj.specs.Unfolding.{InRange}
 use Rattle.canon.specs.Figures.{code_count, first_leaf, undetermined_code, number_code, first_mark}

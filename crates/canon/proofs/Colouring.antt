@@ -1,11 +1,6 @@
 -- Colours known by what they must be, without rounds.
-use Prim.Native.Nat.{ℕ, zero, suc, ◌+◌, ◌≤◌, ◌<◌}
-use native.Mathlib.Omega.{arith}
-use mathlib.Core.Path.{◌≡◌, refl, sym, ap, ◌∙◌, subst}
-use mathlib.Core.List.{List}
-use lib.ListN.{length, get_or}
-use lib.Seq.{ext_get_or}
-use mathlib.Core.Option.{some}
+use Rattle.std.proofs.Common.{ℕ, zero, suc, ◌+◌, ◌≤◌, ◌<◌, arith, ◌≡◌, refl, sym, ap, ◌∙◌, subst, List, length, get_or, ext_get_or}
+use Rattle.std.proofs.Math.Option.{some}
 use Rattle.cofj.specs.Values.{Ref, obj, leaf, Graph, rename_node, node_at, colour_of, colours, canon}
 use Rattle.cofj.specs.Unfolding.{child, Same, InRange, Whole}
 use Rattle.cofj.proofs.Trees.{renamed_same}

@@ -1,13 +1,7 @@
 -- Bytes by the numbers that they make: two, four, eight, the bytes of two objects compared.
-use Prim.Native.Nat.{ℕ, zero, suc, ◌+◌, ◌-◌, ◌*◌, ◌<◌, ◌≤◌}
-use native.Mathlib.Omega.{arith}
+use Rattle.std.proofs.Common.{ℕ, zero, suc, ◌+◌, ◌-◌, ◌*◌, ◌<◌, ◌≤◌, arith, ◌≡◌, refl, sym, ap, ◌∙◌, Bool, true, false, List, eqb, length, get_or, eq-eqb, eqb-true}
 use native.Mathlib.Decide.{dec_lt}
-use mathlib.Core.Path.{◌≡◌, refl, sym, ap, ◌∙◌}
-use mathlib.Core.Bool.{Bool, true, false, false≢true}
-use mathlib.Core.List.{List}
-use lib.Dec.{eqb}
-use lib.ListN.{length, get_or}
-use borrow.Author.Tests.{eq-eqb, eqb-true}
+use Rattle.std.proofs.Math.Bool.{false≢true}
 use Rattle.cofj.specs.Values.{eq_nats}
 use Rattle.cofj.proofs.Basics.{eq_nats_true}
 use Rattle.canon.specs.Figures.{object_size, numbers_at, three_bytes, four_bytes}

@@ -1,10 +1,5 @@
 -- The last bytes of a block written: the number of its objects, its level and its reach.
-use Prim.Native.Nat.{ℕ, ◌+◌, ◌*◌, ◌<◌, ◌≤◌}
-use native.Mathlib.Omega.{arith}
-use mathlib.Core.Path.{◌≡◌, ◌∙◌}
-use mathlib.Core.List.{List}
-use lib.ListN.{length, get_or, set, length-set}
-use lib.Seq.{get_or-set_same, get_or-set_other}
+use Rattle.std.proofs.Common.{ℕ, ◌+◌, ◌*◌, ◌<◌, ◌≤◌, arith, ◌≡◌, ◌∙◌, List, length, get_or, set, length-set, get_or-set_same, get_or-set_other}
 use Rattle.canon.specs.Figures.{count_at, level_at, reach_at, block_size}
 use Rattle.canon.specs.Layout.{count_in, level_in, reach_in, ended}
 

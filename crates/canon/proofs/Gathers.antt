@@ -1,10 +1,6 @@
 -- Laws of objects gathered, as an order lists them, renamed by a table.
-use Prim.Native.Nat.{ℕ, ◌+◌, ◌*◌, ◌%◌, ◌<◌, ◌≤◌}
-use native.Mathlib.Omega.{arith}
+use Rattle.std.proofs.Common.{ℕ, ◌+◌, ◌*◌, ◌%◌, ◌<◌, ◌≤◌, arith, ◌≡◌, refl, ◌∙◌, List, [], ◌∷◌, get_or}
 use native.Mathlib.Decide.{ℕ_discrete}
-use mathlib.Core.Path.{◌≡◌, refl, ◌∙◌}
-use mathlib.Core.List.{List, [], ◌∷◌}
-use lib.ListN.{get_or}
 use Rattle.canon.specs.Figures.{object_size}
 use Rattle.canon.specs.Layout.{node_in, nodes_in, Packed}
 use Rattle.canon.specs.Tables.{Carried, copied, Lifted}

@@ -1,10 +1,6 @@
 -- Laws of the level of objects: no code of theirs is a mark of the level or above.
-use Prim.Native.Nat.{ℕ, zero, suc, ◌+◌, ◌-◌, ◌*◌, ◌<◌, ◌≤◌}
-use native.Mathlib.Omega.{arith}
+use Rattle.std.proofs.Common.{ℕ, zero, suc, ◌+◌, ◌-◌, ◌*◌, ◌<◌, ◌≤◌, arith, ◌≡◌, List, get_or}
 use native.Mathlib.Decide.{ℕ_discrete}
-use mathlib.Core.Path.{◌≡◌}
-use mathlib.Core.List.{List}
-use lib.ListN.{get_or}
 use Rattle.canon.specs.Figures.{object_size, head_size, code_count, number_code, first_mark}
 use Rattle.canon.specs.Numbers.{Above, Levels}
 

@@ -13,6 +13,7 @@ pub mod Colouring
 pub mod Gathers
 pub mod Levels
 pub mod Numbers
+pub mod Written
 pub mod Hangs
 pub mod Looks
 pub mod Refers

@@ -1,12 +1,6 @@
 -- Laws of copying objects.
-use Prim.Native.Nat.{ℕ, ◌+◌, ◌-◌, ◌*◌, ◌/◌, ◌%◌, ◌<◌, ◌≤◌}
-use native.Mathlib.Omega.{arith}
+use Rattle.std.proofs.Common.{ℕ, ◌+◌, ◌-◌, ◌*◌, ◌/◌, ◌%◌, ◌<◌, ◌≤◌, arith, ◌≡◌, refl, ◌∙◌, List, length, get_or, set, length-set, get_or-set_same, get_or-set_other, lt-ltb, le-ltb}
 use native.Mathlib.Decide.{ℕ_discrete}
-use mathlib.Core.Path.{◌≡◌, refl, ◌∙◌}
-use mathlib.Core.List.{List}
-use lib.ListN.{length, get_or, set, length-set}
-use lib.Seq.{get_or-set_same, get_or-set_other}
-use borrow.Author.Tests.{lt-ltb, le-ltb}
 use Rattle.canon.specs.Figures.{object_size, head_size, numbers_at, first_leaf}
 use Rattle.canon.specs.Tables.{turned, on_codes, copied, Turnable, Lifted}
 use Rattle.canon.specs.Layout.{Codes}

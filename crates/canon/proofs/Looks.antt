@@ -1,19 +1,17 @@
 -- Laws of rows hung up by their looks: two objects that look alike, one looked for, all rows.
-use Prim.Native.Nat.{ℕ, ◌+◌, ◌-◌, ◌*◌, ◌%◌, ◌<◌, ◌≤◌}
-use native.Mathlib.Omega.{arith}
+use Rattle.std.proofs.Common.{ℕ, ◌+◌, ◌-◌, ◌*◌, ◌%◌, ◌<◌, ◌≤◌, arith, ◌≡◌, refl, sym, ap, ◌∙◌, subst, Bool, true, false, true≢false, List, length, get_or, set, get_or-set_same, get_or-set_other, lt-ltb, le-ltb}
 use native.Mathlib.Decide.{dec_lt, ℕ_discrete}
-use mathlib.Core.Path.{◌≡◌, refl, sym, ap, ◌∙◌, subst}
-use mathlib.Core.Bool.{Bool, true, false, false≢true, true≢false}
-use mathlib.Core.List.{List}
-use lib.ListN.{length, get_or, set}
-use lib.Seq.{get_or-set_same, get_or-set_other}
-use borrow.Author.Tests.{lt-ltb, le-ltb}
-use Rattle.canon.specs.Figures.{object_size, head_size, code_count, numbers_at, first_leaf, row_size, link_size, note_at, target_at, looks_field, hash_count, hashed_by}
+use Rattle.std.proofs.Math.Bool.{false≢true}
+use Rattle.canon.specs.Figures.{object_size, head_size, numbers_at, first_leaf, hash_count, hashed_by}
+use Rattle.canon.specs.declared.rows.Row.{Row}
+use Rattle.canon.specs.declared.rows.Link.{Link}
+use Rattle.canon.specs.Rows.{blank, row_at, link_at}
 use Rattle.canon.specs.Layout.{Codes}
-use Rattle.canon.specs.Tables.{Zeros, four_at, Eight, Plain, PlainTest, on_codes}
-use Rattle.canon.specs.Links.{Last, Hung, looked, shown, AlikeTo, AlikeTest, hash_plain, hash_of, SameField, HungOn, Chained, Grouped, Sought, LikeBefore, GroupedAll}
+use Rattle.canon.specs.Tables.{four_at, Eight, Plain, PlainTest, on_codes}
+use Rattle.canon.specs.Links.{Last, Hung, looked, shown, AlikeTo, AlikeTest, hash_plain, hash_of, HungOn, Chained, Grouped, Sought, LikeBefore}
 use Rattle.canon.proofs.Lifts.{copy_plain, copy_rest, copy_turned}
-use Rattle.canon.proofs.Hangs.{field_refl, field_then}
+use Rattle.canon.proofs.Written.{field_here, field_other}
+use Rattle.canon.proofs.Notes.{put_note}
 
 -- ---- looks
 module _ (b : ℕ) where
@@ -123,7 +121,7 @@ pub record Searching (N : List ℕ) (x h z : ℕ) : Type 0 where
   pub on : 0 < z → hash_of N (z - 1) ≡ h
   pub none : (y : ℕ) → z < y → y < x → AlikeTo shown N (x - 1) (y - 1) object_size → ⊥
 
-module _ (N T K : List ℕ) (n x h from : ℕ) (s : Sought N T K n x h from) where
+module _ (N : List ℕ) (T : List Row) (K : List Link) (n x h from : ℕ) (s : Sought N T K n x h from) where
   pub search_start : Searching N x h from
   search_start = record {
     low = s.start.low;
@@ -132,33 +130,27 @@ module _ (N T K : List ℕ) (n x h from : ℕ) (s : Sought N T K n x h from) whe
   }
 
   module _ (z : ℕ) (r : Searching N x h z) (pos : 0 < z) where
-    next_last : Last (λ y. hash_of N (y - 1)) h z (get_or T (row_size * z + note_at) 0)
-    next_last = subst (λ (u : ℕ). Last (λ y. hash_of N (y - 1)) u z (get_or T (row_size * z + note_at) 0)) (r.on pos) (s.nexts z pos r.low)
-
-    pub search_falls : (y : ℕ) → y ≡ get_or T (row_size * z + note_at) 0 → y < z
-    search_falls y e = rw e next_last.low
+    next_last : Last (λ y. hash_of N (y - 1)) h z (row_at T z).note
+    next_last = subst (λ (u : ℕ). Last (λ y. hash_of N (y - 1)) u z (row_at T z).note) (r.on pos) (s.nexts z pos r.low)
 
     module _ (b : Bool) (t : AlikeTest shown N (x - 1) (z - 1) b) where
-      pub search_more : (y : ℕ) → y ≡ get_or T (row_size * z + note_at) 0 → b ≡ false → Searching N x h y
-      search_more y e f = rw e (record {
+      pub search_more : b ≡ false → Searching N x h (row_at T z).note
+      search_more f = record {
         low = omega (arith, next_last.low, r.low);
         on = next_last.is;
         none = λ u p q w. go u p q w (ℕ_discrete u z) (dec_lt z u);
-      })
+      }
         where
-          go : (u : ℕ) → get_or T (row_size * z + note_at) 0 < u → u < x → AlikeTo shown N (x - 1) (u - 1) object_size → Dec (u ≡ z) → Dec (z < u) → ⊥
+          go : (u : ℕ) → (row_at T z).note < u → u < x → AlikeTo shown N (x - 1) (u - 1) object_size → Dec (u ≡ z) → Dec (z < u) → ⊥
           go u p q w (yes g) l = t.not f (subst (λ (v : ℕ). AlikeTo shown N (x - 1) (v - 1) object_size) g w)
           go u p q w (no g) (yes l) = r.none u l q w
           go u p q w (no g) (no l) = next_last.none u p (omega (arith, g, l)) (sym (alike_hash N (x - 1) (u - 1) w) ∙ sym s.is)
 
-      pub like_found : (y : ℕ) → y ≡ get_or K (link_size * z + target_at + looks_field) 0 → b ≡ true → LikeBefore N n x K y
-      like_found y e f = rw e (record {
+      pub like_found : b ≡ true → LikeBefore N n x K (link_at K z).target
+      like_found f = record {
         low = s.low z pos r.low;
         is = λ u p q w. s.grouped.same u z p q pos r.low (alike_then N (u - 1) (x - 1) (z - 1) (alike_back N (x - 1) (u - 1) w) (t.yes f));
-      })
-
-  pub like_none : (z : ℕ) → Searching N x h z → z ≤ 0 → LikeBefore N n x K x
-  like_none z r e = record { low = s.small; is = λ y p q w. absurd (r.none y (omega arith) q w) }
+      }
 
 -- ---- all rows by their looks
 last_skip : (E : ℕ → ℕ) (v x h : ℕ) → Last E v x h → ((E x ≡ v) → ⊥) → Last E v (x + 1) h
@@ -168,14 +160,8 @@ last_skip E v x h l d = record { low = omega (arith, l.low); is = l.is; none = �
     go z a b e (yes q) = d (ap E (sym q) ∙ e)
     go z a b e (no q) = l.none z a (omega (arith, q)) e
 
-pub chain_start : (N H T : List ℕ) → Zeros hash_count H → Chained N 1 H T
-chain_start N H T z = record {
-  heads = λ h l. rw (z.at h l) (record { low = omega arith; is = λ p. absurd (omega arith); none = λ y a b e. omega arith });
-  nexts = λ y p q. absurd (omega arith);
-}
-
-pub chain_more : (N H T : List ℕ) (n x h l : ℕ) → Chained N x H T → 0 < x → x < n → row_size * n ≤ length T → hash_count ≤ length H → h ≡ hash_of N (x - 1) → l ≡ get_or H h 0
-    → Chained N (x + 1) (set H h x) (set T (row_size * x + note_at) l)
+pub chain_more : (N H : List ℕ) (T : List Row) (n x h l : ℕ) → Chained N x H T → 0 < x → x < n → n ≤ length T → hash_count ≤ length H → h ≡ hash_of N (x - 1) → l ≡ get_or H h 0
+    → Chained N (x + 1) (set H h x) (put_note T x l)
 chain_more N H T n x h l c pos hx room_t roomH eh el = record {
   heads = λ u hu. head u hu (ℕ_discrete u h);
   nexts = λ y p q. next y p q (ℕ_discrete y x);
@@ -188,24 +174,21 @@ chain_more N H T n x h l c pos hx room_t roomH eh el = record {
     head u hu (yes e) = rw (e, get_or-set_same H h x 0 (omega (arith, low))) (record { low = omega arith; is = λ p. sym eh; none = λ z a b q. omega arith })
     head u hu (no e) = rw (get_or-set_other H h u x 0 e) (last_skip (λ y. hash_of N (y - 1)) u x (get_or H u 0) (c.heads u hu) (λ q. e (sym q ∙ sym eh)))
 
-    next : (y : ℕ) → 0 < y → y < x + 1 → Dec (y ≡ x) → Last (λ z. hash_of N (z - 1)) (hash_of N (y - 1)) y (get_or (set T (row_size * x + note_at) l) (row_size * y + note_at) 0)
+    next : (y : ℕ) → 0 < y → y < x + 1 → Dec (y ≡ x) → Last (λ z. hash_of N (z - 1)) (hash_of N (y - 1)) y (row_at (put_note T x l) y).note
     next y p q (yes e) =
-        rw (e, get_or-set_same T (row_size * x + note_at) l 0 (omega arith), el) (subst (λ (v : ℕ). Last (λ z. hash_of N (z - 1)) v x (get_or H h 0)) eh (c.heads h low))
-    next y p q (no e) = rw (get_or-set_other T (row_size * x + note_at) (row_size * y + note_at) l 0 (λ z. e (omega arith))) (c.nexts y p (omega (arith, e)))
+        rw (e, field_here (λ r. r.note) T x _ blank (omega arith), el) (subst (λ (v : ℕ). Last (λ z. hash_of N (z - 1)) v x (get_or H h 0)) eh (c.heads h low))
+    next y p q (no e) = rw (field_other (λ r. r.note) T x _ blank y e) (c.nexts y p (omega (arith, e)))
 
-pub group_start : (N K : List ℕ) → Grouped N 1 K
-group_start N K = record { same = λ y z a b d e t. absurd (omega arith) }
-
-pub group_more : (N K K' : List ℕ) (n x r : ℕ) → Grouped N x K → LikeBefore N n x K r → HungOn n 4 x r K K' → Grouped N (x + 1) K'
+pub group_more : (N : List ℕ) (K K' : List Link) (n x r : ℕ) → Grouped N x K → LikeBefore N n x K r → HungOn n x r K K' → Grouped N (x + 1) K'
 group_more N K K' n x r g b h = record { same = λ y z a l d e t. go y z a l d e t (ℕ_discrete y x) (ℕ_discrete z x) }
   where
-    at : (y : ℕ) → y ≡ x → get_or K' (link_size * y + target_at + looks_field) 0 ≡ r
-    at y e = ap (λ (u : ℕ). get_or K' (link_size * u + target_at + looks_field) 0) e ∙ h.here
+    at : (y : ℕ) → y ≡ x → (link_at K' y).target ≡ r
+    at y e = ap (λ (u : ℕ). (link_at K' u).target) e ∙ h.here
 
-    old : (y : ℕ) → 0 < y → y < x + 1 → ((y ≡ x) → ⊥) → AlikeTo shown N (x - 1) (y - 1) object_size → get_or K' (link_size * y + target_at + looks_field) 0 ≡ r
+    old : (y : ℕ) → 0 < y → y < x + 1 → ((y ≡ x) → ⊥) → AlikeTo shown N (x - 1) (y - 1) object_size → (link_at K' y).target ≡ r
     old y p q d t = h.rest y d ∙ b.is y p (omega (arith, d)) t
 
-    go : (y z : ℕ) → 0 < y → y < x + 1 → 0 < z → z < x + 1 → AlikeTo shown N (y - 1) (z - 1) object_size → Dec (y ≡ x) → Dec (z ≡ x) → get_or K' (link_size * y + target_at + looks_field) 0 ≡ get_or K' (link_size * z + target_at + looks_field) 0
+    go : (y z : ℕ) → 0 < y → y < x + 1 → 0 < z → z < x + 1 → AlikeTo shown N (y - 1) (z - 1) object_size → Dec (y ≡ x) → Dec (z ≡ x) → (link_at K' y).target ≡ (link_at K' z).target
     go y z a l d e t (yes p) (yes q) = at y p ∙ sym (at z q)
     go y z a l d e t (yes p) (no q) = at y p ∙ sym (old z d e q (subst (λ (u : ℕ). AlikeTo shown N (u - 1) (z - 1) object_size) p t))
     go y z a l d e t (no p) (yes q) = old y a l p (subst (λ (u : ℕ). AlikeTo shown N (u - 1) (y - 1) object_size) q (alike_back N (y - 1) (z - 1) t)) ∙ sym (at z q)
@@ -215,16 +198,7 @@ group_more N K K' n x r g b h = record { same = λ y z a l d e t. go y z a l d e
 pub hash_small : (N : List ℕ) (i h : ℕ) → h ≡ hash_of N i → h < hash_count
 hash_small N i h e = omega (arith, hash_low N i)
 
-pub record Rest (K K' : List ℕ) : Type 0 where
-  pub each : (g : ℕ) → g < code_count → SameField g K K'
-
-pub rest_refl : (K : List ℕ) → Rest K K
-rest_refl K = record { each = λ g h. field_refl g K }
-
-pub rest_more : (n x r : ℕ) (K K1 K2 : List ℕ) → Rest K K1 → HungOn n 4 x r K1 K2 → Rest K K2
-rest_more n x r K K1 K2 a h = record { each = λ g l. field_then g K K1 K2 (a.each g l) (h.others g (omega arith) (λ z. omega arith)) }
-
-pub group_sought : (N T K H : List ℕ) (n x h : ℕ) → Codes N (n - 1) → Hung n looks_field x K → 0 < x → x < n → row_size * n ≤ length T → Chained N x H T → Grouped N x K → h ≡ hash_of N (x - 1) → Sought N T K n x h (get_or H h 0)
+pub group_sought : (N : List ℕ) (T : List Row) (K : List Link) (H : List ℕ) (n x h : ℕ) → Codes N (n - 1) → Hung n x K → 0 < x → x < n → n ≤ length T → Chained N x H T → Grouped N x K → h ≡ hash_of N (x - 1) → Sought N T K n x h (get_or H h 0)
 group_sought N T K H n x h c k pos hx room ch g e = record {
   codes = c;
   room_t = room;
@@ -237,6 +211,3 @@ group_sought N T K H n x h c k pos hx room ch g e = record {
   low = k.low;
   grouped = g;
 }
-
-pub group_done : (N : List ℕ) (n x : ℕ) (K K1 : List ℕ) → length K1 ≡ length K → Hung n looks_field x K1 → Grouped N x K1 → Rest K K1 → n ≤ x → x ≤ n → GroupedAll N n K K1
-group_done N n x K K1 s k g r h l = let z : x ≡ n = omega arith in record { size = s; lists = record { all = rw z at k }; grouped = rw z at g; others = r.each }

@@ -1,14 +1,7 @@
 -- Laws of numbering the objects.
-use Prim.Native.Nat.{ℕ, suc, ◌+◌, ◌-◌, ◌*◌, ◌<◌, ◌≤◌}
-use native.Mathlib.Omega.{arith}
-use mathlib.Core.Path.{◌≡◌, refl, sym, ap, ap₂, ◌∙◌, subst}
-use mathlib.Core.Bool.{Bool, true, false, cond, true≢false}
-use mathlib.Core.List.{List, [], ◌∷◌}
-use mathlib.Core.Option.{some}
-use lib.Dec.{eqb}
-use lib.ListN.{length, get_or, take, get_elem?, length-map}
-use lib.Seq.{length-take-le, get_or-take}
-use borrow.Author.Tests.{eq-eqb, ne_eqb}
+use Rattle.std.proofs.Common.{ℕ, suc, ◌+◌, ◌-◌, ◌*◌, ◌<◌, ◌≤◌, arith, ◌≡◌, refl, sym, ap, ap₂, ◌∙◌, subst, Bool, true, false, cond, true≢false, List, [], ◌∷◌, eqb, length, get_or, take, length-take-le, get_or-take, eq-eqb, ne_eqb}
+use Rattle.std.proofs.Math.Option.{some}
+use Rattle.std.proofs.Math.ListN.{get_elem?, length-map}
 use Rattle.cofj.specs.Values.{Ref, obj, leaf, undet, Node, node, Graph, graph, rename, rename_node, node_at, refs_at, colour_of, colours, is_in, place_in, visit, canon}
 use Rattle.cofj.specs.Unfolding.{InRange, Whole}
 use Rattle.cofj.proofs.Basics.{get_d_map_lt}

@@ -1,9 +1,5 @@
 -- Laws of the first place of an object.
-use Prim.Native.Nat.{ℕ, suc, ◌+◌, ◌-◌, ◌*◌, ◌<◌, ◌≤◌}
-use native.Mathlib.Omega.{arith}
-use mathlib.Core.Path.{◌≡◌, sym, ap, ◌∙◌}
-use mathlib.Core.Bool.{Bool, true, false}
-use mathlib.Core.List.{List, ◌∷◌}
+use Rattle.std.proofs.Common.{ℕ, suc, ◌+◌, ◌-◌, ◌*◌, ◌<◌, ◌≤◌, arith, ◌≡◌, sym, ap, ◌∙◌, Bool, true, false, List, ◌∷◌}
 use Rattle.cofj.specs.Values.{place_of, eq_node, eq_nats}
 use Rattle.cofj.proofs.Basics.{eq_node_refl}
 use Rattle.canon.specs.Figures.{object_size}

@@ -1,13 +1,7 @@
 -- Laws of the rounds of colours.
-use Prim.Native.Nat.{ℕ, zero, suc, ◌+◌, ◌-◌, ◌*◌, ◌<◌, ◌≤◌}
-use native.Mathlib.Nat.{mul-le-mul}
-use native.Mathlib.Omega.{arith}
-use mathlib.Core.Path.{◌≡◌, refl, sym, ap, ap₂, ◌∙◌, subst}
-use mathlib.Core.Bool.{Bool, true, false}
-use mathlib.Core.List.{List, [], map}
-use mathlib.Core.Option.{some}
-use lib.ListN.{length, get_or, take, get_elem?, get_or-map}
-use lib.Seq.{length-take-le, get_or-take, ext_get_or}
+use Rattle.std.proofs.Common.{ℕ, zero, suc, ◌+◌, ◌-◌, ◌*◌, ◌<◌, ◌≤◌, mul-le-mul, arith, ◌≡◌, refl, sym, ap, ap₂, ◌∙◌, subst, Bool, true, false, List, [], map, length, get_or, take, length-take-le, get_or-take, ext_get_or}
+use Rattle.std.proofs.Math.Option.{some}
+use Rattle.std.proofs.Math.ListN.{get_elem?, get_or-map}
 use Rattle.cofj.specs.Values.{Ref, obj, leaf, undet, Node, node, Graph, graph, rename, rename_node, node_at, refs_at, colour_of, place_of, refine, refine_to, colours, eq_nats}
 use Rattle.cofj.specs.Unfolding.{Same, InRange}
 use Rattle.cofj.proofs.Basics.{eq_nats_true}

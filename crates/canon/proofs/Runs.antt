@@ -1,17 +1,9 @@
 -- Laws of comparing and copying runs of bytes, and of filling tables.
-use Prim.Native.Nat.{ℕ, suc, ◌+◌, ◌-◌, ◌<◌, ◌≤◌}
-use native.Mathlib.Omega.{arith}
+use Rattle.std.proofs.Common.{ℕ, ◌+◌, ◌<◌, ◌≤◌, arith, ◌≡◌, refl, sym, ◌∙◌, Bool, true, false, ◌&&◌, List, [], ◌∷◌, eqb, length, get_or, set, length-set, get_or-set_same, get_or-set_other, eq-eqb}
 use native.Mathlib.Decide.{ℕ_discrete}
-use mathlib.Core.Path.{◌≡◌, refl, sym, ◌∙◌}
-use mathlib.Core.Bool.{Bool, true, false}
-use mathlib.Core.List.{List, [], ◌∷◌}
-use lib.Dec.{eqb}
-use lib.ListN.{length, get_or, set, length-set}
-use lib.Seq.{drop-cons, get_or-set_same, get_or-set_other}
-use borrow.Author.Tests.{eq-eqb, ne_eqb}
+use lib.Pointwise.{pointwise}
 use Rattle.cofj.specs.Values.{eq_nats}
 use Rattle.cofj.proofs.Basics.{true_both}
-use Rattle.canon.specs.Layout.{part}
 use Rattle.canon.specs.Tables.{Filled, Carried}
 
 pub eq_nats_refl : (l : List ℕ) → eq_nats l l ≡ true
@@ -28,39 +20,19 @@ tests_same true b f g = sym (f refl)
 tests_same false true f g = g refl
 tests_same false false f g = refl
 
--- the bytes from k on decide, the first k being the same
-part_cons : (A : List ℕ) (i n : ℕ) → i < length A → part A i (suc n) ≡ get_or A i 0 ∷ part A (suc i) n
-part_cons A i n h = rw (drop-cons A i 0 h)
+both_same : (b r s : Bool) → r ≡ s → (b && r) ≡ elim b [ true ↦ s | false ↦ false ]
+both_same true r s e = e
+both_same false r s e = refl
 
-module _ (A B : List ℕ) (i j n k : ℕ) (ha : i + n ≤ length A) (hb : j + n ≤ length B) where
-  step : k < n → eq_nats (part A (i + k) (n - k)) (part B (j + k) (n - k)) ≡ eq_nats (get_or A (i + k) 0 ∷ part A (i + (k + 1)) (n - (k + 1))) (get_or B (j + k) 0 ∷ part B (j + (k + 1)) (n - (k + 1)))
-  step h =
-      let e : n - k ≡ suc (n - (k + 1)) = omega arith in
-      let ei : i + (k + 1) ≡ suc (i + k) = omega arith in
-      let ej : j + (k + 1) ≡ suc (j + k) = omega arith in
-      rw (e, ei, ej, part_cons A (i + k) (n - (k + 1)) (omega arith), part_cons B (j + k) (n - (k + 1)) (omega arith))
+-- slices compared, and the lists of numbers that the definitions compare
+pub pointwise_same : (l m : List ℕ) → pointwise eqb l m ≡ eq_nats l m
+unfolding eq_nats
+pointwise_same [] [] = refl
+pointwise_same [] (y ∷ ys) = refl
+pointwise_same (x ∷ xs) [] = refl
+pointwise_same (x ∷ xs) (y ∷ ys) = both_same (eqb x y) _ _ (pointwise_same xs ys)
 
-  module _ (inv : eq_nats (part A i n) (part B j n) ≡ eq_nats (part A (i + k) (n - k)) (part B (j + k) (n - k))) where
-    pub same_more : k < n → get_or A (i + k) 0 ≡ get_or B (j + k) 0 → eq_nats (part A i n) (part B j n) ≡ eq_nats (part A (i + (k + 1)) (n - (k + 1))) (part B (j + (k + 1)) (n - (k + 1)))
-    unfolding eq_nats
-    same_more h e = inv ∙ step h ∙ rw (eq-eqb _ _ e, eq_nats)
-
-    pub same_not : k < n → ((get_or A (i + k) 0 ≡ get_or B (j + k) 0) → ⊥) → false ≡ eq_nats (part A i n) (part B j n)
-    unfolding eq_nats
-    same_not h e = sym (inv ∙ step h ∙ rw (ne_eqb _ _ e, eq_nats))
-
-    pub same_done : n ≤ k → true ≡ eq_nats (part A i n) (part B j n)
-    unfolding eq_nats
-    same_done h = let e : n - k ≡ 0 = omega arith in sym (inv ∙ rw e)
-
-pub same_start : (A B : List ℕ) (i j n : ℕ) → eq_nats (part A i n) (part B j n) ≡ eq_nats (part A (i + 0) (n - 0)) (part B (j + 0) (n - 0))
-same_start A B i j n =
-    let ei : i + 0 ≡ i = omega arith in
-    let ej : j + 0 ≡ j = omega arith in
-    let en : n - 0 ≡ n = omega arith in
-    rw (ei, ej, en)
-
--- ---- runs of bytes copied
+-- ---- runs of bytes copied: the maker writes objects byte by byte
 pub carry_none : (S : List ℕ) (i : ℕ) (D : List ℕ) (j : ℕ) → Carried S i D j 0 D
 carry_none S i D j = record { same = refl; here = λ k h. absurd (omega arith); below = λ p h. refl; above = λ p h. refl }
 
@@ -76,9 +48,6 @@ carry_more S i D₀ j k D n c h room = record {
     go : (y : ℕ) → y < k + 1 → Dec (y ≡ k) → get_or (set D (j + k) (get_or S (i + k) 0)) (j + y) 0 ≡ get_or S (i + y) 0
     go y l (yes z) = rw z (get_or-set_same D (j + k) _ 0 (omega (arith, c.same)))
     go y l (no z) = get_or-set_other D (j + k) (j + y) _ 0 (λ q. z (omega arith)) ∙ c.here y (omega (arith, z))
-
-pub carry_done : (S : List ℕ) (i : ℕ) (D₀ : List ℕ) (j k : ℕ) (D : List ℕ) (n : ℕ) → Carried S i D₀ j k D → k ≤ n → n ≤ k → Carried S i D₀ j n D
-carry_done S i D₀ j k D n c h l = let e : k ≡ n = omega arith in rw e at c
 
 -- ---- tables
 pub filled_none : (F : ℕ → ℕ) (A : List ℕ) → Filled F 0 A

@@ -1,10 +1,7 @@
 -- Objects copied with their codes turned: what they then are.
-use Prim.Native.Nat.{ℕ, zero, suc, ◌+◌, ◌*◌, ◌%◌, ◌<◌, ◌≤◌}
-use native.Mathlib.Omega.{arith}
-use mathlib.Core.Path.{◌≡◌, refl, sym, ap, ap₂, ◌∙◌}
-use mathlib.Core.List.{List, [], ◌∷◌, map}
-use mathlib.Core.Option.{some}
-use lib.ListN.{get_or, take, get_elem?}
+use Rattle.std.proofs.Common.{ℕ, zero, suc, ◌+◌, ◌*◌, ◌%◌, ◌<◌, ◌≤◌, arith, ◌≡◌, refl, sym, ap, ap₂, ◌∙◌, List, [], ◌∷◌, map, get_or, take}
+use Rattle.std.proofs.Math.Option.{some}
+use Rattle.std.proofs.Math.ListN.{get_elem?}
 use Rattle.cofj.specs.Values.{Ref, obj, leaf, mark, undet, num, Node, node, rename, refs_at}
 use Rattle.cofj.specs.Unfolding.{InRange}
 use Rattle.canon.specs.Figures.{object_size, head_size, code_count, numbers_at, first_leaf, undetermined_code, number_code, first_mark}

@@ -1,15 +1,6 @@
 -- Laws of the walk.
-use Prim.Native.Nat.{ℕ, zero, suc, ◌+◌, ◌-◌, ◌*◌, ◌<◌, ◌≤◌}
-use native.Mathlib.Omega.{arith}
+use Rattle.std.proofs.Common.{ℕ, zero, suc, ◌+◌, ◌-◌, ◌*◌, ◌<◌, ◌≤◌, arith, add-one, ◌≡◌, refl, sym, ap, ◌∙◌, Bool, true, false, cond, true≢false, List, [], ◌∷◌, ◌++◌, eqb, length, get_or, set, take, replicate, length-append, length-take, drop_of_length-le, drop-cons, get_or-take, get_or-set_same, get_or-set_other, length-take-le, take-suc-set, eq-eqb, ne_eqb}
 use native.Mathlib.Decide.{dec_lt, ℕ_discrete}
-use native.Mathlib.Numerals.{add-one}
-use mathlib.Core.Path.{◌≡◌, refl, sym, ap, ◌∙◌}
-use mathlib.Core.Bool.{Bool, true, false, cond, true≢false}
-use mathlib.Core.List.{List, [], ◌∷◌, ◌++◌}
-use lib.Dec.{eqb}
-use lib.ListN.{length, get_or, set, take, replicate, length-append, length-take, drop_of_length-le}
-use lib.Seq.{drop-cons, get_or-take, get_or-set_same, get_or-set_other, length-take-le, take-suc-set}
-use borrow.Author.Tests.{eq-eqb, ne_eqb}
 use Rattle.cofj.specs.Values.{Ref, obj, leaf, undet, Node, refs_at, colour_of, is_in, place_in, visit, visit_all}
 use Rattle.canon.specs.Figures.{object_size, head_size, code_count, numbers_at, first_leaf}
 use Rattle.canon.specs.Layout.{leaf_from, ref_of, number_at, ref_in, four, node_in, nodes_in}

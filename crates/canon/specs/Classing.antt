@@ -1,23 +1,25 @@
 -- Colours by classes: the first object of each, and when they are done.
-use Rattle.std.specs.Prelude.{ℕ, ◌+◌, ◌*◌, ◌≤◌, ◌<◌, ◌≡◌, Bool, true, false, List, get_or}
+use Rattle.std.specs.Prelude.{ℕ, ◌+◌, ◌≤◌, ◌<◌, ◌≡◌, Bool, true, false, List, get_or}
 use Rattle.cofj.specs.Values.{obj}
 use Rattle.cofj.specs.Unfolding.{Same}
-use Rattle.canon.specs.Figures.{object_size, row_size}
+use Rattle.canon.specs.declared.rows.Row.{Row}
+use Rattle.canon.specs.Figures.{object_size}
 use Rattle.canon.specs.Layout.{nodes_in}
 use Rattle.canon.specs.Tables.{copied}
+use Rattle.canon.specs.Rows.{row_at}
 use Rattle.canon.specs.Links.{AlikeTo}
 
 -- whether object l is below i and of class d; object i is of row i + 1
-pub record KnownTest (T : List ℕ) (i d l : ℕ) (r : Bool) : Type 0 where
+pub record KnownTest (T : List Row) (i d l : ℕ) (r : Bool) : Type 0 where
   pub below : r ≡ true → l < i
-  pub class : r ≡ true → get_or T (row_size * (l + 1)) 0 ≡ d
-  pub not : r ≡ false → l < i → get_or T (row_size * (l + 1)) 0 ≡ d → ⊥
+  pub class : r ≡ true → (row_at T (l + 1)).class ≡ d
+  pub not : r ≡ false → l < i → (row_at T (l + 1)).class ≡ d → ⊥
 
 -- C gives each of n objects the first of its class
-pub record Leads (T : List ℕ) (n : ℕ) (C : List ℕ) : Type 0 where
+pub record Leads (T : List Row) (n : ℕ) (C : List ℕ) : Type 0 where
   pub low : (i : ℕ) → i < n → get_or C i 0 ≤ i
-  pub same : (i : ℕ) → i < n → get_or T (row_size * (get_or C i 0 + 1)) 0 ≡ get_or T (row_size * (i + 1)) 0
-  pub agree : (i j : ℕ) → i < n → j < n → get_or T (row_size * (i + 1)) 0 ≡ get_or T (row_size * (j + 1)) 0 → get_or C i 0 ≡ get_or C j 0
+  pub same : (i : ℕ) → i < n → (row_at T (get_or C i 0 + 1)).class ≡ (row_at T (i + 1)).class
+  pub agree : (i j : ℕ) → i < n → j < n → (row_at T (i + 1)).class ≡ (row_at T (j + 1)).class → get_or C i 0 ≡ get_or C j 0
 
 -- the first n objects look by their colours as those that they have for colours
 pub record Steady (N : List ℕ) (n : ℕ) (C : List ℕ) : Type 0 where

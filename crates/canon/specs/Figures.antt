@@ -1,4 +1,4 @@
--- The figures of blocks, objects, codes and parting's tables, each named once (docs/VALUES.md); src/layout.rt and src/parting.rt have the same for the code.
+-- The figures of blocks, objects, codes and hashes, each named once (docs/VALUES.md); src/layout.rt and src/links.rt have the same for the code.
 -- Not here: what stands in the bytes (Layout), document 01's figures (the language's Limits).
 use Rattle.std.specs.Prelude.{ℕ, ◌+◌, ◌-◌, ◌*◌}
 
@@ -74,29 +74,8 @@ three_bytes = 16777216
 abbrev pub four_bytes : ℕ
 four_bytes = 4294967296
 
--- ---- parting's tables
--- the numbers of a row, and which of them is the first note (Parting says what the others are)
-abbrev pub row_size : ℕ
-row_size = 8
-
-abbrev pub note_at : ℕ
-note_at = 6
-
--- the numbers of a row of links, and where in it the one before and the target of the first field stand
-
-abbrev pub link_size : ℕ
-link_size = 15
-
-abbrev pub before_at : ℕ
-before_at = 5
-
-abbrev pub target_at : ℕ
-target_at = 10
-
--- the field, after an object's, that leads to the first object that looks alike; how many hashes of looks there are
-abbrev pub looks_field : ℕ
-looks_field = 4
-
+-- ---- parting
+-- how many hashes of looks there are
 abbrev pub hash_count : ℕ
 hash_count = 32
 

@@ -2,6 +2,7 @@ pub mod Figures
 pub mod Layout
 pub mod Tables
 pub mod Rounds
+pub mod Rows
 pub mod Links
 pub mod Parting
 pub mod Classing

@@ -5,51 +5,40 @@ ghost use Rattle.canon.specs.Figures.{object_size};
 ghost use Rattle.canon.specs.Layout.{part};
 ghost use Rattle.canon.specs.Tables.{Filled, Two, Four, Eight, PlainTest, Carried};
 
-use crate::layout::{BYTE, FOUR_BYTES, NUMBERS, THREE_BYTES, TWO_BYTES};
-
-// Whether the n bytes of a from i on are those of b from j on.
-pub(crate) fn same(a: &[u8], i: usize, b: &[u8], j: usize, n: usize) -> bool
-    requires { (i + n ≤ length a.now) × (j + n ≤ length b.now) }
-    ensures { result ≡ eq_nats (part a.now i n) (part b.now j n) }
-{
-    let mut k: usize = 0;
-    while k < n {
-        if a[i + k] != b[j + k] {
-            return false;
-        }
-        k += 1;
-    }
-    true
-}
+use crate::layout::NUMBERS;
 
 // Four bytes as one number, eight, and two: the machine reads them at once.
 pub fn four_at(a: &[u8], p: usize) -> u32
     requires { p + 4 ≤ length a.now }
     ensures { Four a.now p result }
 {
-    (a[p] as u32)
-        + BYTE * (a[p + 1] as u32)
-        + TWO_BYTES * (a[p + 2] as u32)
-        + THREE_BYTES * (a[p + 3] as u32)
+    u32::from_le_bytes([a[p], a[p + 1], a[p + 2], a[p + 3]])
 }
 
 pub fn eight_at(a: &[u8], p: usize) -> u64
     requires { p + 8 ≤ length a.now }
     ensures { Eight a.now p result }
 {
-    let low = four_at(a, p);
-    let high = four_at(a, p + 4);
-    (low as u64) + FOUR_BYTES * (high as u64)
+    u64::from_le_bytes([
+        a[p],
+        a[p + 1],
+        a[p + 2],
+        a[p + 3],
+        a[p + 4],
+        a[p + 5],
+        a[p + 6],
+        a[p + 7],
+    ])
 }
 
-pub(crate) fn two_at(a: &[u8], p: usize) -> u32
+pub fn two_at(a: &[u8], p: usize) -> u16
     requires { p + 2 ≤ length a.now }
     ensures { Two a.now p result }
 {
-    (a[p] as u32) + BYTE * (a[p + 1] as u32)
+    u16::from_le_bytes([a[p], a[p + 1]])
 }
 
-// The same as `same` for the bytes of an object.
+// Whether the bytes of two objects are the same.
 pub(crate) fn same_object(a: &[u8], i: usize, b: &[u8], j: usize) -> bool
     requires { (i + object_size ≤ length a.now) × (j + object_size ≤ length b.now) }
     ensures { result ≡ eq_nats (part a.now i object_size) (part b.now j object_size) }
@@ -79,11 +68,7 @@ pub fn copy(from: &[u8], i: usize, to: &mut [u8], j: usize, n: usize)
     requires { (i + n ≤ length from.now) × (j + n ≤ length to.old) }
     ensures { Carried from.now i to.old j n to.new }
 {
-    let mut k: usize = 0;
-    while k < n {
-        to[j + k] = from[i + k];
-        k += 1;
-    }
+    to[j..j + n].copy_from_slice(&from[i..i + n]);
 }
 
 // 0, 1, .., n of them.
@@ -91,9 +76,7 @@ pub fn count_up(n: u8, to: &mut [u8])
     requires { n ≤ length to.old }
     ensures { Filled (λ i. i) n to.new }
 {
-    let mut i: u8 = 0;
-    while i < n {
+    for i in 0..n {
         to[i as usize] = i;
-        i += 1;
     }
 }

@@ -8,7 +8,7 @@ ghost use Rattle.canon.specs.Tables.{Filled, Below};
 ghost use Rattle.canon.specs.Rounds.{Looks, place_is};
 ghost use Rattle.canon.specs.Classing.{Coarse};
 
-use crate::bytes::{copy, same, same_object};
+use crate::bytes::{copy, same_object};
 use crate::layout::{OBJECT, OBJECTS, PER_OBJECT};
 use crate::leads::{part, steady};
 use crate::lift::lift;
@@ -18,12 +18,10 @@ pub(crate) fn place(looks: &[u8], i: u8, n: u8) -> u8
     requires { Looks looks.now n × (i < n) }
     ensures { result ≡ place_is looks.now n i }
 {
-    let mut j: u8 = 0;
-    while j < i {
+    for j in 0..i {
         if same_object(looks, OBJECT * (i as usize), looks, OBJECT * (j as usize)) {
             return j;
         }
-        j += 1;
     }
     i
 }
@@ -33,10 +31,8 @@ pub(crate) fn places(looks: &[u8], n: u8, next: &mut [u8])
     requires { Looks looks.now n × (n ≤ length next.old) }
     ensures { Filled (λ i. place_is looks.now n i) n next.new }
 {
-    let mut i: u8 = 0;
-    while i < n {
+    for i in 0..n {
         next[i as usize] = place(looks, i, n);
-        i += 1;
     }
 }
 
@@ -56,14 +52,13 @@ pub(crate) fn settle(nodes: &[u8], n: u8, cs: &mut [u8])
 {
     let mut looks = [0u8; OBJECTS];
     let mut next = [0u8; PER_OBJECT];
-    let mut k: usize = (n as usize) * (n as usize) + 1;
-    while 0 < k {
+    let rounds = (n as usize) * (n as usize) + 1;
+    for _k in 0..rounds {
         round(nodes, n, cs, &mut looks, &mut next);
-        if same(cs, 0, &next, 0, n as usize) {
+        if cs[..n as usize] == next[..n as usize] {
             return;
         }
         copy(&next, 0, cs, 0, n as usize);
-        k -= 1;
     }
 }
 

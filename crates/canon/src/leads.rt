@@ -1,7 +1,7 @@
 // Objects parted, with the tables for it: the first object of each class that is left, and the test that objects of one class look alike.
 // Not here: how they are parted (parting).
 ghost use Rattle.std.specs.Prelude.{◌+◌, ◌*◌, ◌<◌, ◌≤◌, length};
-ghost use Rattle.canon.specs.Figures.{object_size, row_size};
+ghost use Rattle.canon.specs.Figures.{object_size};
 ghost use Rattle.canon.specs.Tables.{copied, Turnable, Below};
 ghost use Rattle.canon.specs.Layout.{Raw, Codes};
 ghost use Rattle.canon.specs.Links.{AlikeTest};
@@ -9,44 +9,33 @@ ghost use Rattle.canon.specs.Parting.{Classes};
 ghost use Rattle.canon.specs.Classing.{KnownTest, Leads, SteadyTest, Coarse};
 
 use crate::bytes::same_plain;
-use crate::layout::{HEAD, NUMBERS, OBJECT, PER_OBJECT};
+use crate::layout::{HEAD, NUMBERS, OBJECT};
 use crate::lift::turn;
 use crate::links::link;
-use crate::parting::{LINKS, NOTE, ROW, begin, cell, class_of, part_fields, part_looks};
-
-// the rows of the tables for the objects of a block: one for each, and one for none
-const ROWS: usize = PER_OBJECT + 1;
+use crate::parting::{begin, part_fields, part_looks};
+use crate::rows::{BLANK, FREE, LISTS, ROWS, Row};
 
 // Whether object l is below i and of class d.
-pub(crate) fn known(t: &[u8], i: u8, d: u8, l: u8) -> bool
-    requires { row_size * i + row_size ≤ length t.now }
+pub(crate) fn known(t: &[Row], i: u8, d: u8, l: u8) -> bool
+    requires { i < length t.now }
     ensures { KnownTest t.now i d l result }
 {
-    if i <= l {
-        return false;
-    }
-    if class_of(t, l + 1) == d {
-        return true;
-    }
-    false
+    l < i && t[(l + 1) as usize].class == d
 }
 
 // The first object of the class of each of n objects.
-pub(crate) fn lead(t: &mut [u8], m: u8, n: u8, cs: &mut [u8])
+pub(crate) fn lead(t: &mut [Row], m: u8, n: u8, cs: &mut [u8])
     requires { Classes (n + 1) m t.old × (n ≤ length cs.old) }
     ensures { Leads t.old n cs.new }
 {
-    let mut i: u8 = 0;
-    while i < n {
-        let j = i;
-        i += 1;
-        let d = class_of(t, i);
-        let l = cell(t, d, NOTE);
-        if known(t, j, d, l) {
-            cs[j as usize] = l;
+    for i in 0..n {
+        let d = t[(i + 1) as usize].class;
+        let l = t[d as usize].note;
+        if known(t, i, d, l) {
+            cs[i as usize] = l;
         } else {
-            t[ROW * (d as usize) + NOTE] = j;
-            cs[j as usize] = j;
+            t[d as usize].note = i;
+            cs[i as usize] = i;
         }
     }
 }
@@ -59,14 +48,12 @@ pub(crate) fn look_same(nodes: &[u8], cs: &[u8], i: u8, j: u8) -> bool
     if !same_plain(nodes, OBJECT * (i as usize), OBJECT * (j as usize)) {
         return false;
     }
-    let mut k: usize = HEAD;
-    while k < NUMBERS {
+    for k in HEAD..NUMBERS {
         let a = turn(cs, nodes[OBJECT * (i as usize) + k]);
         let b = turn(cs, nodes[OBJECT * (j as usize) + k]);
         if a != b {
             return false;
         }
-        k += 1;
     }
     true
 }
@@ -76,13 +63,10 @@ pub(crate) fn steady(nodes: &[u8], n: u8, cs: &[u8]) -> bool
     requires { Codes nodes.now n × Below n cs.now }
     ensures { SteadyTest nodes.now n cs.now result }
 {
-    let mut i: u8 = 0;
-    while i < n {
-        let x = i;
-        i += 1;
-        let j = cs[x as usize];
-        if j != x {
-            if !look_same(nodes, cs, x, j) {
+    for i in 0..n {
+        let j = cs[i as usize];
+        if j != i {
+            if !look_same(nodes, cs, i, j) {
                 return false;
             }
         }
@@ -96,11 +80,12 @@ pub(crate) fn part(nodes: &[u8], n: u8, cs: &mut [u8])
     ensures { Coarse nodes.now n cs.new }
 {
     let rows = n + 1;
-    let mut t = [0u8; ROW * ROWS];
-    let mut links = [0u8; LINKS * ROWS];
-    let w = link(nodes, rows, &mut t, &mut links);
+    let mut t = [BLANK; ROWS];
+    let mut looks = [FREE; ROWS];
+    let mut fields = [[FREE; ROWS]; LISTS];
+    let w = link(nodes, rows, &mut t, &mut looks, &mut fields);
     begin(&mut t, rows);
-    let m = part_looks(&mut t, rows, &links);
-    let r = part_fields(&mut t, rows, m, &links, w);
+    let m = part_looks(&mut t, rows, &looks);
+    let r = part_fields(&mut t, rows, m, &fields, w);
     lead(&mut t, r, n, cs);
 }

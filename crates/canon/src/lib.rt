@@ -7,6 +7,7 @@
 pub mod layout; // the figures of blocks, objects and codes
 pub mod bytes; // runs of bytes compared; tables filled
 pub(crate) mod lift; // objects copied, with their codes turned
+pub(crate) mod rows; // the tables of parting
 pub(crate) mod links; // who refers to whom, in lists
 pub(crate) mod parting; // objects parted into classes
 pub(crate) mod leads; // the first object of each class

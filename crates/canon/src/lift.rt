@@ -35,9 +35,7 @@ pub(crate) fn lift(src: &[u8], from: usize, p: usize, table: &[u8], dst: &mut [u
     requires { Turnable src.now from p table.now × (to + p ≤ length dst.old) }
     ensures { Lifted src.now from p table.now dst.old to dst.new }
 {
-    let mut q: usize = 0;
-    while q < p {
+    for q in 0..p {
         dst[to + q] = part_of(table, q % OBJECT, src[from + q]);
-        q += 1;
     }
 }

@@ -1,15 +1,15 @@
 // Who refers to whom by which field, in lists: numbers are rows, an object's number and one, and 0 is none; n counts rows, so there are n - 1 objects.
-// Field 4 leads to the first object that looks alike.
+// A list more leads to the first object that looks alike.
 // Not here: what is done with them (parting).
 ghost use Rattle.std.specs.Prelude.{◌≡◌, ◌+◌, ◌-◌, ◌*◌, ◌<◌, ◌≤◌, length, get_or};
-ghost use Rattle.canon.specs.Figures.{object_size, head_size, code_count, first_leaf, capacity, row_size, link_size, target_at, looks_field, hash_count};
+ghost use Rattle.canon.specs.Figures.{object_size, head_size, code_count, first_leaf, capacity, hash_count};
 ghost use Rattle.canon.specs.Tables.{Zeros};
 ghost use Rattle.canon.specs.Layout.{Codes};
-ghost use Rattle.canon.specs.Links.{Hung, looked, shown, AlikeTest, hash_plain, hash_of, target_of, HungOn, Sought, LikeBefore, GroupedAll, ReferredTo, Referred, Unhung, Linked};
+ghost use Rattle.canon.specs.Links.{Hung, looked, shown, AlikeTest, hash_plain, hash_of, target_of, HungOn, Sought, LikeBefore, GroupedAll, ReferredTo, Referred, Free, AllFree, Unhung, Linked};
 
 use crate::bytes::{eight_at, same_plain};
-use crate::layout::{FIRST_LEAF, HEAD, NUMBERS, OBJECT};
-use crate::parting::{BEFORE, LINKS, LOOKS, NOTE, ROW, TARGET, cell, last_into};
+use crate::layout::{CODES, FIRST_LEAF, HEAD, NUMBERS, OBJECT};
+use crate::rows::{Fields, Link, Row};
 
 // how many hashes there are
 const HASHES: u8 = 32;
@@ -38,14 +38,12 @@ pub(crate) fn look_alike(raw: &[u8], i: u8, j: u8) -> bool
     if !same_plain(raw, OBJECT * (i as usize), OBJECT * (j as usize)) {
         return false;
     }
-    let mut k: usize = HEAD;
-    while k < NUMBERS {
+    for k in HEAD..NUMBERS {
         let a = show(raw[OBJECT * (i as usize) + k]);
         let b = show(raw[OBJECT * (j as usize) + k]);
         if a != b {
             return false;
         }
-        k += 1;
     }
     true
 }
@@ -73,61 +71,59 @@ pub(crate) fn hash(raw: &[u8], i: u8) -> u16
         % (HASHES as u16)
 }
 
-// Row x refers to row v by field f.
-pub(crate) fn hang(links: &mut [u8], n: u8, f: u8, x: u8, v: u8)
-    requires { Hung n f x links.old × (f < 5) × (0 < x) × (x < n) × (v < n) }
-    ensures { HungOn n f x v links.old links.new }
+// Row x refers to row v.
+pub(crate) fn hang(links: &mut [Link], n: u8, x: u8, v: u8)
+    requires { Hung n x links.old × (0 < x) × (x < n) × (v < n) }
+    ensures { HungOn n x v links.old links.new }
 {
-    links[LINKS * (x as usize) + TARGET + f as usize] = v;
+    links[x as usize].target = v;
     if v == 0 {
         return;
     }
-    let l = last_into(links, f, v);
-    links[LINKS * (x as usize) + BEFORE + f as usize] = l;
-    links[LINKS * (v as usize) + f as usize] = x;
-}
-
-// What row x refers to by field f.
-pub(crate) fn refers_to(links: &[u8], f: u8, x: u8) -> u8
-    requires { (link_size * x + link_size ≤ length links.now) × (f < 5) }
-    ensures { result ≡ get_or links.now (link_size * x + target_at + f) 0 }
-{
-    links[LINKS * (x as usize) + TARGET + f as usize]
+    links[x as usize].before = links[v as usize].last;
+    links[v as usize].last = x;
 }
 
 // The first row of those that look as row x does, if one below x does, which are listed from `from` on; else x.
-pub(crate) fn like_before(raw: &[u8], t: &[u8], links: &[u8], n: u8, x: u8, h: u16, from: u8) -> u8
+pub(crate) fn like_before(
+    raw: &[u8],
+    t: &[Row],
+    links: &[Link],
+    n: u8,
+    x: u8,
+    h: u16,
+    from: u8,
+) -> u8
     requires { Sought raw.now t.now links.now n x h from }
     ensures { LikeBefore raw.now n x links.now result }
 {
     let mut z = from;
+    // each row tells the next: no range
     while 0 < z {
         if look_alike(raw, x - 1, z - 1) {
-            return refers_to(links, LOOKS, z);
+            return links[z as usize].target;
         }
-        z = cell(t, z, NOTE);
+        z = t[z as usize].note;
     }
     x
 }
 
 // Hangs the rows up by their looks.
-pub(crate) fn group(raw: &[u8], n: u8, t: &mut [u8], links: &mut [u8], last: &mut [u8])
-    requires { Codes raw.now (n - 1) × Hung n looks_field 1 links.old × (0 < n) × (row_size * n ≤ length t.old) × Zeros hash_count last.old × (hash_count ≤ length last.old) }
+pub(crate) fn group(raw: &[u8], n: u8, t: &mut [Row], links: &mut [Link], last: &mut [u8])
+    requires { Codes raw.now (n - 1) × Hung n 1 links.old × (0 < n) × (n ≤ length t.old) × Zeros hash_count last.old × (hash_count ≤ length last.old) }
     ensures { GroupedAll raw.now n links.old links.new }
 {
-    let mut x: u8 = 1;
-    while x < n {
+    for x in 1..n {
         let h = hash(raw, x - 1);
         let l = last[h as usize];
         let r = like_before(raw, t, links, n, x, h, l);
-        hang(links, n, LOOKS, x, r);
-        t[ROW * (x as usize) + NOTE] = l;
+        hang(links, n, x, r);
+        t[x as usize].note = l;
         last[h as usize] = x;
-        x += 1;
     }
 }
 
-// The row that field f of object i leads to; 0 if it leads to none.
+// The row that field f of object i leads to; 0 if it leads to none, as it stands in the tables of fixed memory.
 pub(crate) fn target_row(raw: &[u8], i: u8, f: u8) -> u8
     requires { (object_size * i + object_size ≤ length raw.now) × (f < code_count) × (get_or raw.now (object_size * i + head_size + f) 0 < first_leaf → get_or raw.now (object_size * i + head_size + f) 0 < capacity) }
     ensures { result ≡ target_of (get_or raw.now (object_size * i + head_size + f) 0) }
@@ -140,16 +136,14 @@ pub(crate) fn target_row(raw: &[u8], i: u8, f: u8) -> u8
 }
 
 // Hangs the rows up by field f. Answers whether one leads to an object.
-pub(crate) fn refer_field(raw: &[u8], n: u8, f: u8, links: &mut [u8]) -> bool
-    requires { Codes raw.now (n - 1) × (0 < n) × (f < code_count) × Hung n f 1 links.old }
+pub(crate) fn refer_field(raw: &[u8], n: u8, f: u8, links: &mut [Link]) -> bool
+    requires { Codes raw.now (n - 1) × (0 < n) × (f < code_count) × Hung n 1 links.old }
     ensures { ReferredTo raw.now n f n links.old links.new }
 {
     let mut some = false;
-    let mut x: u8 = 1;
-    while x < n {
+    for x in 1..n {
         let v = target_row(raw, x - 1, f);
-        hang(links, n, f, x, v);
-        x += 1;
+        hang(links, n, x, v);
         if 0 < v {
             some = true;
         }
@@ -158,28 +152,25 @@ pub(crate) fn refer_field(raw: &[u8], n: u8, f: u8, links: &mut [u8]) -> bool
 }
 
 // The same for all four fields. Answers how many of them are to be looked at.
-pub(crate) fn refer(raw: &[u8], n: u8, links: &mut [u8]) -> u8
-    requires { Codes raw.now (n - 1) × (0 < n) × Unhung n links.old }
-    ensures { Referred raw.now n 4 links.old links.new × (result ≤ code_count) }
+pub(crate) fn refer(raw: &[u8], n: u8, fields: &mut Fields) -> u8
+    requires { Codes raw.now (n - 1) × (0 < n) × Unhung n fields.old }
+    ensures { Referred raw.now n 4 fields.old fields.new × (result ≤ code_count) }
 {
     let mut w: u8 = 0;
-    let mut f: u8 = 0;
-    while f < LOOKS {
-        let g = f;
-        f += 1;
-        if refer_field(raw, n, g, links) {
-            w = f;
+    for f in 0..CODES {
+        if refer_field(raw, n, f, &mut fields[f as usize]) {
+            w = f + 1;
         }
     }
     w
 }
 
-// All of it, in `links`, which is zeros at first.
-pub(crate) fn link(raw: &[u8], n: u8, t: &mut [u8], links: &mut [u8]) -> u8
-    requires { Codes raw.now (n - 1) × (0 < n) × (row_size * n ≤ length t.old) × (link_size * n ≤ length links.old) × Zeros (link_size * n) links.old }
-    ensures { Linked raw.now n links.new × (result ≤ code_count) }
+// All of it, in tables that are empty at first.
+pub(crate) fn link(raw: &[u8], n: u8, t: &mut [Row], looks: &mut [Link], fields: &mut Fields) -> u8
+    requires { Codes raw.now (n - 1) × (0 < n) × (n ≤ length t.old) × Free n looks.old × AllFree n fields.old }
+    ensures { Linked raw.now n looks.new fields.new × (result ≤ code_count) }
 {
     let mut last = [0u8; LASTS];
-    group(raw, n, t, links, &mut last);
-    refer(raw, n, links)
+    group(raw, n, t, looks, &mut last);
+    refer(raw, n, fields)
 }

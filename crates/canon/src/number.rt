@@ -10,7 +10,7 @@ use crate::layout::{BLOCK, COUNT, HEAD, LEVEL, NUMBER, OBJECT, PER_OBJECT, REACH
 use crate::lift::lift;
 use crate::walk::visit;
 
-// The number of an object of colour c: the colour's place in the order, which the table tells; m if it is not met.
+// The number of an object of colour c: the colour's place in the order, which the table tells (in fixed memory: 0 for not met); m if it is not met.
 pub(crate) fn number_of(met: &[u8], c: u8, m: u8) -> u8
     requires { c < length met.now }
     ensures { result ≡ number_in met.now m c }
@@ -27,10 +27,8 @@ pub(crate) fn numbers(cs: &[u8], n: u8, met: &[u8], m: u8, to: &mut [u8])
     requires { Below n cs.now × (n ≤ length met.now) × (n ≤ length to.old) }
     ensures { Filled (λ i. number_in met.now m (get_or cs.now i 0)) n to.new }
 {
-    let mut i: u8 = 0;
-    while i < n {
+    for i in 0..n {
         to[i as usize] = number_of(met, cs[i as usize], m);
-        i += 1;
     }
 }
 
@@ -40,23 +38,11 @@ pub(crate) fn gather(nodes: &[u8], order: &[u8], m: u8, table: &[u8], dst: &mut 
     ensures { Gathered nodes.now order.now m table.now dst.old to dst.new }
 {
     let mut object = [0u8; OBJECT];
-    let mut j: u8 = 0;
-    while j < m {
+    for j in 0..m {
         let c = order[j as usize];
         lift(nodes, OBJECT * (c as usize), OBJECT, table, &mut object, 0);
         copy(&object, 0, dst, to + OBJECT * (j as usize), OBJECT);
-        j += 1;
     }
-}
-
-// The greater of two codes.
-pub(crate) fn higher(a: u8, b: u8) -> u8
-    ensures { (a ≤ result) × (b ≤ result) }
-{
-    if a < b {
-        return b;
-    }
-    a
 }
 
 // The greatest of m and the codes of the object at place p.
@@ -64,10 +50,9 @@ pub(crate) fn highest(work: &[u8], p: usize, m: u8) -> u8
     requires { p + object_size ≤ length work.now }
     ensures { Above work.now p m result }
 {
-    let a = higher(work[p + HEAD], work[p + HEAD + 1]);
-    let b = higher(work[p + HEAD + 2], work[p + HEAD + 3]);
-    let c = higher(a, b);
-    higher(m, c)
+    let a = work[p + HEAD].max(work[p + HEAD + 1]);
+    let b = work[p + HEAD + 2].max(work[p + HEAD + 3]);
+    m.max(a.max(b))
 }
 
 // A level for the n objects from a place on.
@@ -76,10 +61,8 @@ pub fn level_of(work: &[u8], at: usize, n: u8) -> u8
     ensures { Levels work.now at n result }
 {
     let mut m = NUMBER;
-    let mut i: u8 = 0;
-    while i < n {
+    for i in 0..n {
         m = highest(work, at + OBJECT * (i as usize), m);
-        i += 1;
     }
     m - NUMBER
 }

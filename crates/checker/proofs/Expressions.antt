@@ -1,14 +1,10 @@
 -- The type of an expression in the bytes of a table is the language's. Not here: methods and main (Programs).
-use Prim.Native.Nat.{ℕ, zero, suc, ◌+◌, ◌<◌}
-use native.Mathlib.Omega.{arith}
-use mathlib.Core.Path.{◌≡◌, refl, sym, ap, ◌∙◌}
-use mathlib.Core.Bool.{Bool, true, false, ◌&&◌, cond}
-use mathlib.Core.List.{List, ◌++◌, map}
-use mathlib.Core.Option.{Option, none, some}
-use lib.Dec.{eqb, leb}
-use lib.ListN.{length, get_elem?, length-append}
-use borrow.Author.Tests.{eqb-true, eqb-false}
+use Rattle.std.proofs.Common.{ℕ, zero, suc, ◌+◌, ◌<◌, arith, ◌≡◌, refl, sym, ap, ◌∙◌, Bool, true, false, ◌&&◌, cond, List, ◌++◌, map, eqb, leb, length, length-append, eqb-true, Some, None}
+use Rattle.std.proofs.Math.Option.{Option, none, some}
+use Rattle.std.proofs.Math.ListN.{get_elem?}
+use borrow.Author.Tests.{eqb-false}
 use Rattle.cofj.specs.Limits.{method_count}
+use Rattle.std.specs.declared.option.Option.{Option as RustOption}
 use Rattle.cofj.specs.Partial.{◌>>=◌, guard}
 use Rattle.cofj.specs.Syntax.{Expr, this, res, param, field, call, new, literal, combine, choose, Exprs, count, Ty, ty, Method, Table}
 use Rattle.cofj.specs.Classes.{fields_of}
@@ -21,11 +17,9 @@ use Rattle.cofj.specs.Nesting.{Each, Parts, Nested}
 use Rattle.cofj.specs.WellFormed.{MethodFormed, WellFormed}
 use Rattle.cofj.proofs.Partial.{and_true}
 use Rattle.classes.specs.declared.chain.FieldType.{FieldType}
-use Rattle.classes.specs.declared.chain.FieldFound.{FieldFound}
 use Rattle.classes.specs.declared.methods.Found.{Found}
-use Rattle.classes.specs.declared.methods.Found.TheVariants as method
-use Rattle.classes.specs.Machine.{pick, field_of, param_of, lookup_of, counted, method_with}
-use Rattle.classes.specs.Layout.{layout, Stands}
+use Rattle.classes.specs.Machine.{pick, found_at as method_at_place, field_of, param_of, lookup_of, counted, method_with}
+use Rattle.classes.specs.Layout.{layout, Stands, bytes_of}
 use Rattle.classes.specs.Layout as lay
 use Rattle.classes.proofs.Zones.{stands_front, stands_after, param_count_at, first_at, second_at}
 use Rattle.classes.proofs.Lists.{index_below, method_at}
@@ -33,12 +27,11 @@ use Rattle.classes.proofs.OnTables.{field_on, total_on, lookup_on}
 use Rattle.classes.proofs.ShapesOn.{shape_on, field_part, call_parts, new_parts, combine_parts, choose_parts}
 use Rattle.checker.specs.Items.{Parameters, Fields}
 use Rattle.checker.specs.declared.scope.Typed.{Typed}
-use Rattle.checker.specs.declared.scope.Typed.TheVariants.{No}
 use Rattle.checker.specs.declared.scope.Scope.{Scope}
 use Rattle.checker.specs.Listed.{Listed}
 use Rattle.classes.specs.Shapes.{shape_at}
-use Rattle.checker.specs.Types.{found_at, this_of, res_of, param_var, receiver_of, result_of}
-use Rattle.checker.specs.Machine.{Walk, typed, list_by, field_by, result_at, args_then, args_by, called_by, call_by, new_then, new_by, step_by, type_in}
+use Rattle.checker.specs.Types.{has, found_at, this_of, res_of, param_var, receiver_of, result_of}
+use Rattle.checker.specs.Machine.{Walk, typed, list_by, field_by, args_then, args_by, called_by, call_by, new_then, new_by, step_by, type_in}
 use Rattle.checker.specs.Answers.{typed_at}
 use Rattle.checker.proofs.Known.{KnownEnv}
 use Rattle.checker.proofs.OnBytes.{param_on}
@@ -55,20 +48,20 @@ pub record Agree (t : Table) (s : Scope) (in_main : Bool) (g : Env) : Type 0 whe
 
 module _ (t : Table) (wf : WellFormed t) where
   -- ---- a field of a receiver
-  field_of_lem : (o : Option Ty) (f next : ℕ) → typed (typed_at o next) (λ c g to. pick (eqb g 0) (found_at (field_of (layout t) c f) to) No) ≡ typed_at (o >>= λ u. field_type t u f) next
+  field_of_lem : (o : Option Ty) (f next : ℕ) → typed (typed_at o next) (λ d to. pick (eqb d.tag 0) (found_at (field_of (layout t) d.class f) to) None) ≡ typed_at (o >>= λ u. field_type t u f) next
   unfolding field_type
   field_of_lem none f next = refl
   field_of_lem (some u) f next = go (eqb u.tag 0)
     where
-      go : (b : Bool) → pick b (found_at (field_of (layout t) u.cls f) next) No ≡ typed_at (guard b >>= λ _. get_elem? (fields_of t.classes u.cls) f) next
-      go true = ap (λ (x : FieldFound). found_at x next) (field_on t wf u.cls f) ∙ found_typed (get_elem? (fields_of t.classes u.cls) f) next
+      go : (b : Bool) → pick b (found_at (field_of (layout t) u.cls f) next) None ≡ typed_at (guard b >>= λ _. get_elem? (fields_of t.classes u.cls) f) next
+      go true = ap (λ (x : RustOption FieldType). found_at x next) (field_on t wf u.cls f) ∙ found_typed (get_elem? (fields_of t.classes u.cls) f) next
       go false = refl
 
   -- ---- the arguments of a call of method i, which is d
   module _ (i : ℕ) (d : Method) (l : i < method_count) (e : get_elem? t.methods i ≡ some d) (in_main : Bool) (end : ℕ) where
-    result_is : (b : Bool) → result_at (result_of (layout t) b i) end ≡ typed_at (some (cond b d.first d.second)) end
-    result_is true = ap (λ (u : FieldType). result_at u end) (first_at t i d l e)
-    result_is false = ap (λ (u : FieldType). result_at u end) (second_at t i d l e)
+    result_is : (b : Bool) → has (result_of (layout t) b i) end ≡ typed_at (some (cond b d.first d.second)) end
+    result_is true = ap (λ (u : FieldType). has u end) (first_at t i d l e)
+    result_is false = ap (λ (u : FieldType). has u end) (second_at t i d l e)
 
     args_is : (os : Option (List Ty)) → args_then (layout t) in_main i (listed_at t os d.params true end)
         ≡ typed_at (os >>= λ us. guard (all_closed us && all_fit t us d.params) >>= λ _. some (cond in_main d.first d.second)) end
@@ -80,7 +73,7 @@ module _ (t : Table) (wf : WellFormed t) where
         fitting true = result_is in_main
         fitting false = refl
 
-        open_ended : (b : Bool) → args_then (layout t) in_main i (pick b (Listed.Past false end) Listed.No) ≡ No
+        open_ended : (b : Bool) → args_then (layout t) in_main i (pick b (Listed.Past false end) Listed.No) ≡ None
         open_ended true = refl
         open_ended false = refl
 
@@ -140,7 +133,7 @@ module _ (t : Table) (wf : WellFormed t) (in_main : Bool) (g : Env) (kg : KnownE
   -- the arguments es stand at a1; the method was found
   module _ (es : Exprs) (each : Each P es) (kn : exprs_known (length t.classes) es ≡ true) (a1 : ℕ) (st : Stands (layout t) a1 (codes_of es)) where
     counted_is : (o i : ℕ) (d : Method) → get_elem? t.methods i ≡ some d
-        → called_by (layout t) one in_main (count es) a1 (counted (layout t) (count es) (method.At o i))
+        → called_by (layout t) one in_main (count es) a1 (counted (layout t) (count es) (Some (method_at_place o i)))
         ≡ typed_at (types_of t in_main g es >>= λ us. guard (all_closed us && all_fit t us d.params) >>= λ _. some (cond in_main d.first d.second)) (a1 + length (codes_of es))
     unfolding args_by
     counted_is o i d e = rw (param_count_at t i d l e) (go (eqb (length d.params) (count es)) refl)
@@ -149,7 +142,7 @@ module _ (t : Table) (wf : WellFormed t) (in_main : Bool) (g : Env) (kg : KnownE
         l = let a = index_below t.methods i d e in let b = wf.count in omega arith
 
         go : (b : Bool) → eqb (length d.params) (count es) ≡ b
-            → called_by (layout t) one in_main (count es) a1 (pick b (method.At o i) method.Nothing)
+            → called_by (layout t) one in_main (count es) a1 (pick b (Some (method_at_place o i)) None)
             ≡ typed_at (types_of t in_main g es >>= λ us. guard (all_closed us && all_fit t us d.params) >>= λ _. some (cond in_main d.first d.second)) (a1 + length (codes_of es))
         go true q =
             let r = method_at (MethodFormed t) t.methods i d wf.methods e in
@@ -163,22 +156,22 @@ module _ (t : Table) (wf : WellFormed t) (in_main : Bool) (g : Env) (kg : KnownE
             (sym (none_after (types_of t in_main g es) (λ us. guard (all_closed us && all_fit t us d.params) >>= λ _. some (cond in_main d.first d.second))
             (λ us z. args_other t wf in_main d us (λ y. eqb-false (length d.params) (count es) q (sym y ∙ types-length t in_main g es us z)))))
 
-    found_is : (f : Found) (x : Option language.Found) → lay.Finds t.methods f x
+    found_is : (f : RustOption Found) (x : Option language.Found) → lay.Finds t.methods f x
         → called_by (layout t) one in_main (count es) a1 (counted (layout t) (count es) f)
         ≡ typed_at (types_of t in_main g es >>= λ us. x >>= λ h. guard (all_closed us && all_fit t us h.body.params) >>= λ _. some (cond in_main h.body.first h.body.second)) (a1 + length (codes_of es))
     found_is f x (lay.Finds.at {o} {i} {d} e) = counted_is o i d e
     found_is f x lay.Finds.nothing = ap (λ (o : Option Ty). typed_at o (a1 + length (codes_of es))) (sym (none_after (types_of t in_main g es) (λ us. none) (λ us z. refl)))
 
-    called_is : (u : Ty) (m : ℕ) → m < 256 → called_by (layout t) one in_main (count es) a1 (receiver_of (layout t) u.cls u.tag m (count es)) ≡ typed_at (call_of (types_of t in_main g es) u m) (a1 + length (codes_of es))
+    called_is : (u : Ty) (m : ℕ) → m < 256 → called_by (layout t) one in_main (count es) a1 (receiver_of (layout t) (bytes_of u) m (count es)) ≡ typed_at (call_of (types_of t in_main g es) u m) (a1 + length (codes_of es))
     unfolding receiver_of method_with call_type
     called_is u m small = go (eqb u.tag 0)
       where
-        go : (b : Bool) → called_by (layout t) one in_main (count es) a1 (pick b (counted (layout t) (count es) (lookup_of (layout t) u.cls m)) method.Nothing)
+        go : (b : Bool) → called_by (layout t) one in_main (count es) a1 (pick b (counted (layout t) (count es) (lookup_of (layout t) u.cls m)) None)
             ≡ typed_at (types_of t in_main g es >>= λ us. guard b >>= λ _. lookup t u.cls m >>= λ h. guard (all_closed us && all_fit t us h.body.params) >>= λ _. some (cond in_main h.body.first h.body.second)) (a1 + length (codes_of es))
         go true = found_is (lookup_of (layout t) u.cls m) (lookup t u.cls m) (lookup_on t wf m small u.cls)
         go false = ap (λ (o : Option Ty). typed_at o (a1 + length (codes_of es))) (sym (none_after (types_of t in_main g es) (λ us. none) (λ us z. refl)))
 
-    call_is : (o : Option Ty) (m : ℕ) → m < 256 → typed (typed_at o a1) (λ c h next. called_by (layout t) one in_main (count es) next (receiver_of (layout t) c h m (count es)))
+    call_is : (o : Option Ty) (m : ℕ) → m < 256 → typed (typed_at o a1) (λ d next. called_by (layout t) one in_main (count es) next (receiver_of (layout t) d m (count es)))
         ≡ typed_at (o >>= λ u. call_of (types_of t in_main g es) u m) (a1 + length (codes_of es))
     call_is none m small = refl
     call_is (some u) m small = called_is u m small
@@ -188,7 +181,7 @@ module _ (t : Table) (wf : WellFormed t) (in_main : Bool) (g : Env) (kg : KnownE
     object_is c = rw (total_on t wf c) (go (eqb (length (fields_of t.classes c)) (count es)) refl)
       where
         go : (b : Bool) → eqb (length (fields_of t.classes c)) (count es) ≡ b
-            → pick b (new_then c (list_by (layout t) one (Fields c) 0 (count es) true a1)) No ≡ typed_at (types_of t in_main g es >>= λ us. new_type t c us) (a1 + length (codes_of es))
+            → pick b (new_then c (list_by (layout t) one (Fields c) 0 (count es) true a1)) None ≡ typed_at (types_of t in_main g es >>= λ us. new_type t c us) (a1 + length (codes_of es))
         go true q =
             ap (new_then c)
             (list_on t wf in_main g kg P one ih (Fields c) es (fields_of t.classes c) 0 a1 true
@@ -210,7 +203,7 @@ module _ (t : Table) (wf : WellFormed t) (in_main : Bool) (g : Env) (kg : KnownE
     step_on (param k) at p kn st = ap (step_by (layout t) one s) (shape_on t (param k) at st) ∙ ag.param k (at + 2)
     step_on (field f e) at p kn st =
         ap (step_by (layout t) one s) (shape_on t (field f e) at st)
-        ∙ ap (λ (o : Typed). typed o (λ c h to. pick (eqb h 0) (found_at (field_of (layout t) c f) to) No))
+        ∙ ap (λ (o : RustOption Typed). typed o (λ d to. pick (eqb d.tag 0) (found_at (field_of (layout t) d.class f) to) None))
         (ih.types e (at + 2) p kn (field_part t at f e st))
         ∙ field_of_lem t wf (type_of t in_main g e) f (at + 2 + length (code_of e))
         ∙ ap (typed_at (type_of t in_main g (field f e))) (let z : at + 2 + length (code_of e) ≡ at + suc (suc (length (code_of e))) = omega arith in z)
@@ -222,7 +215,7 @@ module _ (t : Table) (wf : WellFormed t) (in_main : Bool) (g : Env) (kg : KnownE
         let l = length-append (code_of e) (codes_of es) in
         ap (step_by (layout t) one s) (shape_on t (call m e es) at st)
         ∙ ap (λ (b : Bool). call_by (layout t) one b m n (at + 3)) ag.main
-        ∙ ap (λ (o : Typed). typed o (λ c h next. called_by (layout t) one in_main n next (receiver_of (layout t) c h m n)))
+        ∙ ap (λ (o : RustOption Typed). typed o (λ d next. called_by (layout t) one in_main n next (receiver_of (layout t) d m n)))
         (ih.types e (at + 3) p.1 k.0 (stands_front (layout t) (at + 3) (code_of e) (codes_of es) after))
         ∙ call_is es p.2 k.1 a1 (stands_after (layout t) (at + 3) (code_of e) (codes_of es) after) (type_of t in_main g e) m p.0
         ∙ ap (typed_at (type_of t in_main g (call m e es)))

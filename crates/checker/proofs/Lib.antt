@@ -1,7 +1,5 @@
-pub mod TypeLaws
 pub mod StepLaws
 pub mod WalkLaws
-pub mod NumberLaws
 pub mod ProgramLaws
 pub mod Known
 pub mod OnBytes
@@ -9,5 +7,6 @@ pub mod Lists
 pub mod NumbersOn
 pub mod Expressions
 pub mod Programs
+pub mod Apart
 pub mod Check
 pub mod Errors

@@ -1,11 +1,9 @@
 -- The list walk on the bytes of a table: what it gives of the types of its expressions. Not here: calls and objects (Expressions).
-use Prim.Native.Nat.{ℕ, suc, ◌+◌}
-use native.Mathlib.Omega.{arith}
-use mathlib.Core.Path.{◌≡◌, refl, ap, ◌∙◌}
-use mathlib.Core.Bool.{Bool, true, false, ◌&&◌, cond, false≢true}
-use mathlib.Core.List.{List, [], ◌∷◌, ◌++◌, map}
-use mathlib.Core.Option.{Option, none, some}
-use lib.ListN.{length, get_elem?, length-append}
+use Rattle.std.proofs.Common.{ℕ, suc, ◌+◌, arith, ◌≡◌, refl, ap, ◌∙◌, Bool, true, false, ◌&&◌, cond, List, [], ◌∷◌, ◌++◌, map, length, length-append, Some}
+use Rattle.std.proofs.Math.Bool.{false≢true}
+use Rattle.std.proofs.Math.Option.{Option, none, some}
+use Rattle.std.specs.declared.option.Option.{Option as RustOption}
+use Rattle.std.proofs.Math.ListN.{get_elem?}
 use Rattle.cofj.specs.Partial.{◌>>=◌}
 use Rattle.cofj.specs.Syntax.{Expr, Exprs, done, also, count, Ty, ty, Table}
 use Rattle.cofj.specs.Classes.{fits}
@@ -15,7 +13,6 @@ use Rattle.cofj.specs.Writing.{code_of, codes_of}
 use Rattle.cofj.specs.Nesting.{Each}
 use Rattle.cofj.specs.WellFormed.{WellFormed}
 use Rattle.cofj.proofs.Partial.{and_true, opt_bind}
-use Rattle.classes.specs.declared.chain.FieldFound.TheVariants as field
 use Rattle.classes.specs.Machine.{pick}
 use Rattle.classes.specs.Layout.{layout, Stands, bytes_of, found_type}
 use Rattle.classes.proofs.Zones.{stands_front, stands_after}
@@ -23,7 +20,7 @@ use Rattle.checker.specs.Items.{Items}
 use Rattle.checker.specs.declared.scope.Typed.{Typed}
 use Rattle.checker.specs.Listed.{Listed}
 use Rattle.checker.specs.Listed as list
-use Rattle.checker.specs.Types.{wanted_of, fits_found, narrow_tag, item_fits}
+use Rattle.checker.specs.Types.{wanted_of, fits_found, narrow_type, item_fits}
 use Rattle.checker.specs.Machine.{Walk, listed, list_by}
 use Rattle.checker.specs.Answers.{typed_at}
 use Rattle.checker.proofs.Known.{KnownEnv, typed-known}
@@ -80,10 +77,10 @@ regroup true false c = refl
 regroup false false c = refl
 
 module _ (t : Table) (wf : WellFormed t) (items : Items) (k : ℕ) (v : Ty) (vs : List Ty) (closed : Bool) (end : ℕ) (rest : Bool → ℕ → Listed)
-    (w : wanted_of (layout t) items k ≡ field.Type (bytes_of v)) where
-  fits_item : (u : Ty) → known (length t.classes) u ≡ true → item_fits (layout t) items k u.cls u.tag ≡ fits t.classes (narrow u) v
+    (w : wanted_of (layout t) items k ≡ Some (bytes_of v)) where
+  fits_item : (u : Ty) → known (length t.classes) u ≡ true → item_fits (layout t) items k (bytes_of u) ≡ fits t.classes (narrow u) v
   unfolding item_fits
-  fits_item u h = ap (fits_found (layout t) u.cls (narrow_tag u.tag)) w ∙ fits_on t wf (narrow u) v h
+  fits_item u h = ap (fits_found (layout t) (narrow_type (bytes_of u))) w ∙ fits_on t wf (narrow u) v h
 
   put_front : (u : Ty) (f : Bool) → f ≡ fits t.classes (narrow u) v → (os : Option (List Ty))
       → pick f (listed_at t os vs (pick (closed_tag u.tag) closed false) end) list.No ≡ listed_at t (os >>= λ us. some (u ∷ us)) (v ∷ vs) closed end
@@ -94,12 +91,12 @@ module _ (t : Table) (wf : WellFormed t) (items : Items) (k : ℕ) (v : Ty) (vs 
 
   front_on : (o : Option Ty) (os : Option (List Ty)) (next : ℕ) → ((u : Ty) → o ≡ some u → known (length t.classes) u ≡ true)
       → ((b : Bool) → rest b next ≡ listed_at t os vs b end)
-      → listed (typed_at o next) (λ c g to. pick (item_fits (layout t) items k c g) (rest (pick (closed_tag g) closed false) to) list.No)
+      → listed (typed_at o next) (λ d to. pick (item_fits (layout t) items k d) (rest (pick (closed_tag d.tag) closed false) to) list.No)
       ≡ listed_at t (o >>= λ u. os >>= λ us. some (u ∷ us)) (v ∷ vs) closed end
   front_on none os next kn r = refl
   front_on (some u) os next kn r =
-      ap (λ (x : Listed). pick (item_fits (layout t) items k u.cls u.tag) x list.No) (r (pick (closed_tag u.tag) closed false))
-      ∙ put_front u (item_fits (layout t) items k u.cls u.tag) (fits_item u (kn u refl)) os
+      ap (λ (x : Listed). pick (item_fits (layout t) items k (bytes_of u)) x list.No) (r (pick (closed_tag u.tag) closed false))
+      ∙ put_front u (item_fits (layout t) items k (bytes_of u)) (fits_item u (kn u refl)) os
 
 -- ---- the walk: from item k on the items are vs
 module _ (t : Table) (wf : WellFormed t) (in_main : Bool) (g : Env) (kg : KnownEnv (length t.classes) g) (P : Expr → Type 0) (one : Walk) (ih : Finds t in_main g P one) (items : Items) where
@@ -123,10 +120,10 @@ module _ (t : Table) (wf : WellFormed t) (in_main : Bool) (g : Env) (kg : KnownE
       let a1 = at + length (code_of e) in
       let l = length-append (code_of e) (codes_of es) in
       let end : a1 + length (codes_of es) ≡ at + length (code_of e ++ codes_of es) = omega arith in
-      let h : wanted_of (layout t) items k ≡ field.Type (bytes_of v) = ap (wanted_of (layout t) items) (let z : k ≡ k + 0 = omega arith in z) ∙ w 0 in
+      let h : wanted_of (layout t) items k ≡ Some (bytes_of v) = ap (wanted_of (layout t) items) (let z : k ≡ k + 0 = omega arith in z) ∙ w 0 in
       let later : (j : ℕ) → wanted_of (layout t) items (k + 1 + j) ≡ found_type (get_elem? vs j) = λ j. ap (wanted_of (layout t) items) (let z : k + 1 + j ≡ k + suc j = omega arith in z) ∙ w (suc j) in
       let x = ih.types e at p.0 b.0 (stands_front (layout t) at (code_of e) (codes_of es) st) in
-      ap (λ (o : Typed). listed o (λ c h next. pick (item_fits (layout t) items k c h) (list_by (layout t) one items (k + 1) (count es) (pick (closed_tag h) closed false) next) list.No)) x
+      ap (λ (o : RustOption Typed). listed o (λ d next. pick (item_fits (layout t) items k d) (list_by (layout t) one items (k + 1) (count es) (pick (closed_tag d.tag) closed false) next) list.No)) x
       ∙ front_on t wf items k v vs closed (a1 + length (codes_of es)) (λ c next. list_by (layout t) one items (k + 1) (count es) c next) h
       (type_of t in_main g e) (types_of t in_main g es) a1 (λ u z. typed-known t wf in_main g kg e u b.0 z)
       (λ c. list_on es vs (k + 1) a1 c later (let z : count es ≡ length vs = omega arith in z) p.1 b.1 (stands_after (layout t) at (code_of e) (codes_of es) st))

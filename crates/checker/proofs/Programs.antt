@@ -1,12 +1,9 @@
 -- The check of a table's bytes is the language's check. Not here: that a table that was read is well formed (cofj, Readable).
-use Prim.Native.Nat.{ℕ, zero, suc, ◌+◌, ◌<◌, ◌≤◌}
-use native.Mathlib.Omega.{arith}
-use mathlib.Core.Path.{◌≡◌, refl, ap, ◌∙◌, subst}
-use mathlib.Core.Bool.{Bool, true, false, ◌&&◌}
-use mathlib.Core.List.{List, [], ◌∷◌}
-use mathlib.Core.Option.{Option, none, some, none-ne-some}
-use lib.ListN.{length, get_or, get_elem?}
-use borrow.Author.Tests.{ne_eqb}
+use Rattle.std.proofs.Common.{ℕ, zero, suc, ◌+◌, ◌<◌, ◌≤◌, arith, ◌≡◌, refl, ap, ◌∙◌, subst, Bool, true, false, ◌&&◌, List, [], ◌∷◌, length, ne_eqb, Some, None, Err}
+use Rattle.std.proofs.Math.Option.{Option, none, some, none-ne-some}
+use Rattle.std.proofs.Math.ListN.{get_elem?}
+use Rattle.std.specs.declared.option.Option.{Option as RustOption}
+use Rattle.cofj.specs.declared.Refusal.TheVariants.{UntypedMethod}
 use Rattle.cofj.specs.Limits.{method_count, nesting_limit}
 use Rattle.cofj.specs.Partial.{◌>>=◌, guard, as_list}
 use Rattle.cofj.specs.Syntax.{Ty, ty, Method, Table}
@@ -17,16 +14,12 @@ use Rattle.cofj.specs.Tables.{known, all_known}
 use Rattle.cofj.specs.WellFormed.{MethodFormed, WellFormed}
 use Rattle.cofj.specs.Writing.{code_of}
 use Rattle.classes.specs.declared.chain.FieldType.{FieldType}
-use Rattle.classes.specs.declared.chain.FieldFound.{FieldFound}
-use Rattle.classes.specs.Machine.{pick, param_of, row_of, left_of, right_of, main_place}
-use Rattle.classes.specs.Layout.{layout, found_type}
+use Rattle.classes.specs.Machine.{pick, type_at, param_of, row_of, left_of, right_of, main_place}
+use Rattle.classes.specs.Layout.{layout, bytes_of, found_type}
 use Rattle.classes.proofs.Lists.{index_below, method_at}
 use Rattle.classes.proofs.Zones.{method_count_at_lem, owner_at, first_at, second_at, left_stands, right_stands, main_stands, input_at}
 use Rattle.checker.specs.declared.scope.Typed.{Typed}
-use Rattle.checker.specs.declared.scope.Typed.TheVariants.{Has, No}
-use Rattle.checker.specs.declared.scope.Res.TheVariants.{Absent, Class}
-use Rattle.checker.specs.declared.program.Checked.TheVariants.{Refused}
-use Rattle.checker.specs.Types.{fits_type, found_at, input_var}
+use Rattle.checker.specs.Types.{tagged, has, fits_type, found_at, input_var}
 use Rattle.checker.specs.Machine.{type_in}
 use Rattle.checker.specs.Program.{body, in_main, fits_first, fits_second, results_fit, holds, right_typed, method_in, methods_from, methods_in, main_of, check_of}
 use Rattle.checker.specs.Answers.{typed_at, answer_of}
@@ -53,14 +46,14 @@ nowhere x e = absurd (none-ne-some x e)
 
 -- ---- the variables of main
 input_typed : (t : Table) (k next : ℕ) → input_var (layout t) k next ≡ typed_at (get_elem? (as_list t.input) k) next
-input_typed t zero next = ap (λ (w : FieldFound). found_at w next) (input_at t) ∙ go t.input
+input_typed t zero next = ap (λ (w : RustOption FieldType). found_at w next) (input_at t) ∙ go t.input
   where
     go : (i : Option Ty) → found_at (found_type i) next ≡ typed_at (get_elem? (as_list i) 0) next
     go none = refl
     go (some u) = refl
 input_typed t (suc k) next = rw (ne_eqb (suc k) 0 (λ z. omega arith)) (go t.input)
   where
-    go : (i : Option Ty) → No ≡ typed_at (get_elem? (as_list i) (suc k)) next
+    go : (i : Option Ty) → None ≡ typed_at (get_elem? (as_list i) (suc k)) next
     go none = refl
     go (some u) = refl
 
@@ -99,21 +92,21 @@ module _ (t : Table) (wf : WellFormed t) (i : ℕ) (d : Method) (e : get_elem? t
   self_known u z = subst (λ (v : Ty). known n v ≡ true) (just (ty d.owner 0) u z) (class_known n d.owner formed.owner_known)
 
   param_typed : (k next : ℕ) → found_at (param_of (layout t) i k) next ≡ typed_at (get_elem? d.params k) next
-  param_typed k next = ap (λ (w : FieldFound). found_at w next) (param_on t i d row e formed.few k) ∙ found_typed (get_elem? d.params k) next
+  param_typed k next = ap (λ (w : RustOption FieldType). found_at w next) (param_on t i d row e formed.few k) ∙ found_typed (get_elem? d.params k) next
 
-  left_agree : Agree t (body i Absent) false (body_env d none)
+  left_agree : Agree t (body i None) false (body_env d none)
   left_agree = record {
     main = refl;
-    this = λ next. ap (λ (c : ℕ). Has c 0 next) (owner_at t i d row e);
+    this = λ next. ap (λ (c : ℕ). has (tagged c 0) next) (owner_at t i d row e);
     res = λ next. refl;
     param = param_typed;
     known = record { this = self_known; res = λ u z. nowhere u z; params = formed.params_known };
   }
 
-  right_agree : (c : ℕ) → known n (ty c 2) ≡ true → Agree t (body i (Class c)) false (body_env d (some (ty c 2)))
+  right_agree : (c : ℕ) → known n (ty c 2) ≡ true → Agree t (body i (Some c)) false (body_env d (some (ty c 2)))
   right_agree c h = record {
     main = refl;
-    this = λ next. ap (λ (x : ℕ). Has x 0 next) (owner_at t i d row e);
+    this = λ next. ap (λ (x : ℕ). has (tagged x 0) next) (owner_at t i d row e);
     res = λ next. refl;
     param = param_typed;
     known = record {
@@ -124,16 +117,16 @@ module _ (t : Table) (wf : WellFormed t) (i : ℕ) (d : Method) (e : get_elem? t
   }
 
   -- the four conditions
-  first_fits : (u : Ty) → known n u ≡ true → fits_first (layout t) i u.cls u.tag ≡ fits t.classes u d.first
+  first_fits : (u : Ty) → known n u ≡ true → fits_first (layout t) i (bytes_of u) ≡ fits t.classes u d.first
   unfolding fits_first
-  first_fits u h = ap (λ (x : FieldType). fits_type (layout t) u.cls u.tag x) (first_at t i d row e) ∙ fits_on t wf u d.first h
+  first_fits u h = ap (λ (x : FieldType). fits_type (layout t) (bytes_of u) x) (first_at t i d row e) ∙ fits_on t wf u d.first h
 
-  second_fits : (u : Ty) → known n u ≡ true → fits_second (layout t) i u.cls u.tag ≡ fits t.classes u d.second
+  second_fits : (u : Ty) → known n u ≡ true → fits_second (layout t) i (bytes_of u) ≡ fits t.classes u d.second
   unfolding fits_second
-  second_fits u h = ap (λ (x : FieldType). fits_type (layout t) u.cls u.tag x) (second_at t i d row e) ∙ fits_on t wf u d.second h
+  second_fits u h = ap (λ (x : FieldType). fits_type (layout t) (bytes_of u) x) (second_at t i d row e) ∙ fits_on t wf u d.second h
 
-  both_fit : fits_second (layout t) i (get_or (layout t) (row_of i + 3) 0) (get_or (layout t) (row_of i + 3 + 1) 0) ≡ fits t.classes d.first d.second
-  both_fit = ap (λ (x : FieldType). fits_second (layout t) i x.class x.tag) (first_at t i d row e) ∙ second_fits d.first formed.first_known
+  both_fit : fits_second (layout t) i (type_at (layout t) (row_of i + 3)) ≡ fits t.classes d.first d.second
+  both_fit = ap (λ (x : FieldType). fits_second (layout t) i x) (first_at t i d row e) ∙ second_fits d.first formed.first_known
 
   abbrev conditions : Ty → Ty → Bool
   conditions u v =
@@ -142,25 +135,25 @@ module _ (t : Table) (wf : WellFormed t) (i : ℕ) (d : Method) (e : get_elem? t
       && fits t.classes d.first d.second
       && fits t.classes u d.second
 
-  results_on : (u v : Ty) → known n u ≡ true → known n v ≡ true → results_fit (layout t) i u.cls u.tag v.cls v.tag ≡ conditions u v
+  results_on : (u v : Ty) → known n u ≡ true → known n v ≡ true → results_fit (layout t) i (bytes_of u) (bytes_of v) ≡ conditions u v
   unfolding results_fit
   results_on u v h k =
       (λ j. pick (first_fits (ty u.cls (close_tag u.tag)) h j) (pick (second_fits v k j) (pick (both_fit j) (second_fits u h j) false) false) false)
       ∙ four (fits t.classes (ty u.cls (close_tag u.tag)) d.first) (fits t.classes v d.second) (fits t.classes d.first d.second) (fits t.classes u d.second)
 
   -- the right side, given the left type
-  right_on : (u : Ty) → known n u ≡ true → right_typed (layout t) i u.cls u.tag
+  right_on : (u : Ty) → known n u ≡ true → right_typed (layout t) i (bytes_of u)
       ≡ there (type_of t false (body_env d (some (ty u.cls 2))) d.right >>= λ v. guard (conditions u v))
   unfolding right_typed
   right_on u h =
       let g = body_env d (some (ty u.cls 2)) in
       let ag = right_agree u.cls h in
-      ap (λ (o : Typed). holds o (λ c k. results_fit (layout t) i u.cls u.tag c k))
-      ((types_on t wf (body i (Class u.cls)) false g ag nesting_limit).types d.right (right_of (layout t) i) formed.right_nested formed.right_known (right_stands t i d row e formed.short))
+      ap (λ (o : RustOption Typed). holds o (λ v. results_fit (layout t) i (bytes_of u) v))
+      ((types_on t wf (body i (Some u.cls)) false g ag nesting_limit).types d.right (right_of (layout t) i) formed.right_nested formed.right_known (right_stands t i d row e formed.short))
       ∙ go (type_of t false g d.right) (right_of (layout t) i + length (code_of d.right)) (λ v z. typed-known t wf false g ag.known d.right v formed.right_known z)
     where
       go : (o : Option Ty) (next : ℕ) → ((v : Ty) → o ≡ some v → known n v ≡ true)
-          → holds (typed_at o next) (λ c k. results_fit (layout t) i u.cls u.tag c k) ≡ there (o >>= λ v. guard (conditions u v))
+          → holds (typed_at o next) (λ v. results_fit (layout t) i (bytes_of u) v) ≡ there (o >>= λ v. guard (conditions u v))
       go none next kn = refl
       go (some v) next kn = results_on u v h (kn v refl) ∙ guarded (conditions u v)
 
@@ -168,12 +161,12 @@ module _ (t : Table) (wf : WellFormed t) (i : ℕ) (d : Method) (e : get_elem? t
   unfolding method_in method_typed
   method_on =
       let g = body_env d none in
-      ap (λ (o : Typed). holds o (λ c k. right_typed (layout t) i c k))
-      ((types_on t wf (body i Absent) false g left_agree nesting_limit).types d.left (left_of (layout t) i) formed.left_nested formed.left_known (left_stands t i d row e formed.short))
+      ap (λ (o : RustOption Typed). holds o (λ u. right_typed (layout t) i u))
+      ((types_on t wf (body i None) false g left_agree nesting_limit).types d.left (left_of (layout t) i) formed.left_nested formed.left_known (left_stands t i d row e formed.short))
       ∙ go (type_of t false g d.left) (left_of (layout t) i + length (code_of d.left)) (λ u z. typed-known t wf false g left_agree.known d.left u formed.left_known z)
     where
       go : (o : Option Ty) (next : ℕ) → ((u : Ty) → o ≡ some u → known n u ≡ true)
-          → holds (typed_at o next) (λ c k. right_typed (layout t) i c k)
+          → holds (typed_at o next) (λ u. right_typed (layout t) i u)
           ≡ there (o >>= λ u. type_of t false (body_env d (some (ty u.cls 2))) d.right >>= λ v. guard (conditions u v))
       go none next kn = refl
       go (some u) next kn = right_on u (kn u refl)
@@ -195,10 +188,10 @@ methods_on t wf (d ∷ ds) k h =
     go (some u) ih = ih
 
 -- ---- the program
-pub formed_check : (t : Table) → WellFormed t → check_of (layout t) ≡ answer_of (check t)
+pub formed_check : (t : Table) → WellFormed t → answer_of (check_of (layout t)) ≡ check t
 unfolding check_of check
 formed_check t wf =
-    (λ i. pick (methods i) (main_of (main i)) (Refused 6)) ∙ go (methods_typed t t.methods) (main_type t) (main_place (layout t) + length (code_of t.main))
+    ap answer_of (λ i. pick (methods i) (main_of (main i)) (Err UntypedMethod)) ∙ go (methods_typed t t.methods) (main_type t) (main_place (layout t) + length (code_of t.main))
   where
     methods : methods_in (layout t) ≡ there (methods_typed t t.methods)
     methods =
@@ -209,7 +202,7 @@ formed_check t wf =
     main = (types_on t wf in_main true (main_variables t.input) (main_agree t wf) nesting_limit).types t.main (main_place (layout t)) wf.main_nested wf.main_known (main_stands t wf.main_short)
 
     go : (o : Option (Unit {0})) (m : Option Ty) (next : ℕ)
-        → pick (there o) (main_of (typed_at m next)) (Refused 6) ≡ answer_of (elim o [ none ↦ refused 6 | some u ↦ main_or7 m ])
+        → answer_of (pick (there o) (main_of (typed_at m next)) (Err UntypedMethod)) ≡ elim o [ none ↦ refused 6 | some u ↦ main_or7 m ]
     go none m next = refl
     go (some u) none next = refl
     go (some u) (some v) next = refl

@@ -1,19 +1,11 @@
 -- specs/Machine at each return of the code that goes by the first byte of an expression. Not here: fields, calls and lists (WalkLaws), numbers (NumberLaws).
-use mathlib.Core.Path.{◌≡◌, refl, sym, ◌∙◌}
-use mathlib.Core.Bool.{Bool, true, false}
-use mathlib.Core.List.{List}
-use Prim.Native.Nat.{ℕ, zero, suc, ◌+◌, ◌-◌, ◌<◌, ◌≤◌}
-use native.Mathlib.Omega.{arith}
-use native.Mathlib.Numerals.{sub-one}
-use lib.ListN.{get_or}
-use lib.Dec.{eqb}
-use borrow.Author.Tests.{ne_eqb, lt-ltb, le-ltb, ltb-true, ltb-false}
+use Rattle.std.proofs.Common.{◌≡◌, refl, sym, ◌∙◌, Bool, true, false, List, ℕ, zero, suc, ◌+◌, ◌-◌, ◌<◌, ◌≤◌, arith, sub-one, None, get_or, eqb, ne_eqb, lt-ltb, le-ltb, ltb-true, ltb-false}
+use Rattle.std.specs.declared.option.Option.{Option}
 use Rattle.lineform.specs.Signs.{this_sign, res_sign, parameter_sign, field_sign, call_sign, new_sign, number_sign, sum_sign, difference_sign, choose_sign, sign_size, is_variable}
 use Rattle.classes.specs.Machine.{pick}
 use Rattle.classes.specs.Figures.{table_size}
 use Rattle.cofj.specs.Limits.{nesting_limit}
 use Rattle.checker.specs.declared.scope.Typed.{Typed}
-use Rattle.checker.specs.declared.scope.Typed.TheVariants.{No}
 use Rattle.checker.specs.declared.scope.Scope.{Scope}
 use Rattle.classes.specs.declared.shape.Operation.TheVariants.{Sum, Difference}
 use Rattle.classes.specs.declared.shape.Shape.{Shape}
@@ -47,7 +39,7 @@ var_is B one s b at h =
   where
     go : (x y z : Bool) (next : ℕ)
         → step_by B one s (pick x (shape.This next) (pick y (shape.Result next) (pick z (shape.Parameter (byte_in B (at + 1)) next) shape.Nothing)))
-        ≡ pick x (this_of B s next) (pick y (res_of s next) (pick z (param_var B s (byte_in B (at + 1)) next) No))
+        ≡ pick x (this_of B s next) (pick y (res_of s next) (pick z (param_var B s (byte_in B (at + 1)) next) None))
     go true y z next = refl
     go false true z next = refl
     go false false true next = refl
@@ -59,7 +51,7 @@ numbers_are B one s b at k n = go (eqb b number_sign) (eqb b sum_sign) (eqb b di
   where
     go : (x y z w : Bool) (next : ℕ)
         → step_by B one s (pick x (shape.Number k n next) (pick y (shape.Combine Sum next) (pick z (shape.Combine Difference next) (pick w (shape.Choose next) shape.Nothing))))
-        ≡ pick x (number_at next) (pick y (combine_by one next) (pick z (combine_by one next) (pick w (choose_by B one next) No)))
+        ≡ pick x (number_at next) (pick y (combine_by one next) (pick z (combine_by one next) (pick w (choose_by B one next) None)))
     go true y z w next = refl
     go false true z w next = refl
     go false false true w next = refl
@@ -79,7 +71,7 @@ parts_are B one s b at h =
     n : ℕ
     n = byte_in B (at + 2)
 
-    go : (x y z : Bool) (next : ℕ) (other : Shape) (last : Typed) → step_by B one s other ≡ last
+    go : (x y z : Bool) (next : ℕ) (other : Shape) (last : Option Typed) → step_by B one s other ≡ last
         → step_by B one s (pick x (shape.Field k next) (pick y (shape.Call k n next) (pick z (shape.New k n next) other)))
         ≡ pick x (field_by B one k next) (pick y (call_by B one s.main k n next) (pick z (new_by B one k n next) last))
     go true y z next other last e = refl
@@ -88,16 +80,16 @@ parts_are B one s b at h =
     go false false false next other last e = e
 
 module _ (B : List ℕ) (left : ℕ) (s : Scope) (at : ℕ) where
-  pub at_zero : left ≡ 0 → No ≡ type_in B left s at
+  pub at_zero : left ≡ 0 → None ≡ type_in B left s at
   unfolding type_in
   at_zero e = rw e
 
   module _ (nz : left ≡ 0 → ⊥) where
-    pub at_past : table_size ≤ at → No ≡ type_in B left s at
+    pub at_past : table_size ≤ at → None ≡ type_in B left s at
     unfolding shape_at
     at_past h = rw (step B left s at nz, le-ltb at table_size h)
 
-    module _ (h : at < table_size) (r : Typed) (x : Bool) (ex : x ≡ is_variable (get_or B at 0)) where
+    module _ (h : at < table_size) (r : Option Typed) (x : Bool) (ex : x ≡ is_variable (get_or B at 0)) where
       pub at_var : x ≡ true → r ≡ var_by B s (get_or B at 0) at → r ≡ type_in B left s at
       at_var q p = rw (step_in B left s at nz h, var_is B (type_in B (left - 1) s) s (get_or B at 0) at (ltb-true (get_or B at 0) field_sign (sym ex ∙ q))) p
 
@@ -107,41 +99,3 @@ module _ (B : List ℕ) (left : ℕ) (s : Scope) (at : ℕ) where
 -- and a whole body: some nesting is left
 pub some_left : nesting_limit ≡ 0 → ⊥
 some_left z = omega arith
-
--- an expression without parts
-module _ (B : List ℕ) (s : Scope) (b at : ℕ) (r : Typed) (next : ℕ) (en : next ≡ at + sign_size b) where
-  pub var_this : b ≡ this_sign → r ≡ this_of B s next → r ≡ var_by B s b at
-  unfolding var_by
-  var_this e p = rw (← en, e) p
-
-  pub var_res : b ≡ res_sign → r ≡ res_of s next → r ≡ var_by B s b at
-  unfolding var_by
-  var_res e p = rw (← en, e) p
-
-  pub var_param : (k : ℕ) → b ≡ parameter_sign → k ≡ byte_in B (at + 1) → r ≡ param_var B s k next → r ≡ var_by B s b at
-  unfolding var_by
-  var_param k e q p = rw (← en, e, ← q) p
-
-pub var_none : (B : List ℕ) (s : Scope) (b at : ℕ) → (b ≡ this_sign → ⊥) → (b ≡ res_sign → ⊥) → (b ≡ parameter_sign → ⊥) → No ≡ var_by B s b at
-unfolding var_by
-var_none B s b at x y z = rw (ne_eqb b this_sign x, ne_eqb b res_sign y, ne_eqb b parameter_sign z)
-
--- an expression with parts
-module _ (B : List ℕ) (one : Walk) (in_main : Bool) (b at k : ℕ) (ek : k ≡ byte_in B (at + 1)) (r : Typed) (next : ℕ) (en : next ≡ at + sign_size b) where
-  pub parts_field : b ≡ field_sign → r ≡ field_by B one k next → r ≡ parts_by B one in_main b at
-  unfolding parts_by
-  parts_field e p = rw (← en, e, ← ek) p
-
-  module _ (n : ℕ) (em : n ≡ byte_in B (at + 2)) where
-    pub parts_call : b ≡ call_sign → r ≡ call_by B one in_main k n next → r ≡ parts_by B one in_main b at
-    unfolding parts_by
-    parts_call e p = rw (← en, e, ← ek, ← em) p
-
-    pub parts_new : b ≡ new_sign → r ≡ new_by B one k n next → r ≡ parts_by B one in_main b at
-    unfolding parts_by
-    parts_new e p = rw (← en, e, ← ek, ← em) p
-
-pub parts_numbers : (B : List ℕ) (one : Walk) (in_main : Bool) (b at : ℕ) (r : Typed) → (b ≡ field_sign → ⊥) → (b ≡ call_sign → ⊥) → (b ≡ new_sign → ⊥) → r ≡ numbers_by B one b at
-    → r ≡ parts_by B one in_main b at
-unfolding parts_by
-parts_numbers B one in_main b at r x y z p = rw (ne_eqb b field_sign x, ne_eqb b call_sign y, ne_eqb b new_sign z) p

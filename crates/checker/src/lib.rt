@@ -1,5 +1,5 @@
 // The type checker: types of expressions, methods and main, over a class table's bytes (classes, docs/TABLE.md).
-// Offered: `program::check` with `Checked`.
+// Offered: `program::check`.
 // Refusals 6 and 7. Not here: reading a text, class fit and lookup (classes), runs.
 #![tactic(auto)]
 

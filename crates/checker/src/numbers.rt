@@ -10,14 +10,24 @@ use classes::chain::FieldType;
 use classes::places::{NUMBER_CLASS, SIZE};
 use lineform::sign::{CHOOSE, DIFFERENCE, NUMBER, SUM, past_sign};
 
+// The type of a number.
+const NUMBER_TYPE: FieldType = FieldType {
+    class: NUMBER_CLASS,
+    tag: 0,
+};
+
 // The expression of numbers at `at`, whose first byte is b.
 #[cycle(typing)]
-pub(crate) fn by_sign(t: &[u8; SIZE], scope: Scope, b: u8, at: usize, left: usize) -> Typed
+#[tactic(auto, unfolding(crate::specs::Machine::numbers_by))]
+pub(crate) fn by_sign(t: &[u8; SIZE], scope: Scope, b: u8, at: usize, left: usize) -> Option<Typed>
     requires { at < table_size }
     ensures { result ≡ numbers_by t.now (type_in t.now left scope) b at }
 {
     if b == NUMBER {
-        return Typed::Has(NUMBER_CLASS, 0, past_sign(b, at));
+        return Some(Typed {
+            ty: NUMBER_TYPE,
+            next: past_sign(b, at),
+        });
     }
     if b == SUM {
         return combine(t, scope, past_sign(b, at), left);
@@ -28,62 +38,52 @@ pub(crate) fn by_sign(t: &[u8; SIZE], scope: Scope, b: u8, at: usize, left: usiz
     if b == CHOOSE {
         return choose(t, scope, past_sign(b, at), left);
     }
-    Typed::No
+    None
 }
 
 // The operand at `at`: a number, of tag 0.
 #[cycle(typing)]
-pub(crate) fn operand(t: &[u8; SIZE], scope: Scope, at: usize, left: usize) -> Typed
+#[tactic(auto, unfolding(crate::specs::Machine::operand_by))]
+pub(crate) fn operand(t: &[u8; SIZE], scope: Scope, at: usize, left: usize) -> Option<Typed>
     ensures { result ≡ operand_by (type_in t.now left scope) at }
 {
-    let o = type_expr(t, scope, at, left);
-    let Typed::Has(class, tag, next) = o else {
-        return Typed::No;
-    };
-    if !is_number(class, tag) {
-        return Typed::No;
+    let o = type_expr(t, scope, at, left)?;
+    if !is_number(o.ty) {
+        return None;
     }
-    Typed::Has(NUMBER_CLASS, 0, next)
+    Some(Typed {
+        ty: NUMBER_TYPE,
+        next: o.next,
+    })
 }
 
 // The two operands of a sum or a difference.
 #[cycle(typing)]
-pub(crate) fn combine(t: &[u8; SIZE], scope: Scope, at: usize, left: usize) -> Typed
+#[tactic(auto, unfolding(crate::specs::Machine::combine_by))]
+pub(crate) fn combine(t: &[u8; SIZE], scope: Scope, at: usize, left: usize) -> Option<Typed>
     ensures { result ≡ combine_by (type_in t.now left scope) at }
 {
-    let o = operand(t, scope, at, left);
-    let Typed::Has(_, _, next) = o else {
-        return Typed::No;
-    };
-    operand(t, scope, next, left)
+    let o = operand(t, scope, at, left)?;
+    operand(t, scope, o.next, left)
 }
 
 // A choice: what is asked at `at`, then the branches.
 #[cycle(typing)]
-pub(crate) fn choose(t: &[u8; SIZE], scope: Scope, at: usize, left: usize) -> Typed
+#[tactic(auto, unfolding(crate::specs::Machine::choose_by))]
+pub(crate) fn choose(t: &[u8; SIZE], scope: Scope, at: usize, left: usize) -> Option<Typed>
     ensures { result ≡ choose_by t.now (type_in t.now left scope) at }
 {
-    let o = operand(t, scope, at, left);
-    let Typed::Has(_, _, next) = o else {
-        return Typed::No;
-    };
-    branches(t, scope, next, left)
+    let o = operand(t, scope, at, left)?;
+    branches(t, scope, o.next, left)
 }
 
 // Two branches: their types fit one way, and the wider is the type.
 #[cycle(typing)]
-pub(crate) fn branches(t: &[u8; SIZE], scope: Scope, at: usize, left: usize) -> Typed
+#[tactic(auto, unfolding(crate::specs::Machine::branches_by))]
+pub(crate) fn branches(t: &[u8; SIZE], scope: Scope, at: usize, left: usize) -> Option<Typed>
     ensures { result ≡ branches_by t.now (type_in t.now left scope) at }
 {
-    let o = type_expr(t, scope, at, left);
-    let Typed::Has(c, g, next) = o else {
-        return Typed::No;
-    };
-    let q = type_expr(t, scope, next, left);
-    let Typed::Has(d, h, end) = q else {
-        return Typed::No;
-    };
-    let u = FieldType { class: c, tag: g };
-    let v = FieldType { class: d, tag: h };
-    found(wider(t, u, v), end)
+    let o = type_expr(t, scope, at, left)?;
+    let q = type_expr(t, scope, o.next, left)?;
+    found(wider(t, o.ty, q.ty), q.next)
 }

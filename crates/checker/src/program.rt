@@ -1,129 +1,87 @@
 // Methods and main: the check of a program. Refusals 6 and 7.
 // Not here: the type of an expression (expr).
-ghost use Rattle.std.specs.Prelude.{◌≡◌, get_or};
-ghost use Rattle.classes.specs.Figures.{method_count_at};
-ghost use Rattle.checker.specs.Program.{fits_first, fits_second, results_fit, right_typed, method_in, methods_in, check_of};
+ghost use Rattle.std.specs.Prelude.{◌≡◌};
+ghost use Rattle.checker.specs.Program.{results_fit, right_typed, method_in, methods_in, check_of};
 
 use crate::expr::type_body;
-use crate::fits::{close_tag, fits};
-use crate::scope::{Res, Scope, Typed};
+use crate::fits::{close, fits};
+use crate::scope::Scope;
 use classes::chain::FieldType;
 use classes::methods::{first, left_place, main_place, right_place, second};
 use classes::places::{METHOD_COUNT_AT, SIZE};
+use cofj::Refusal;
 
-// Refused with 6 or 7, or accepted with main's type.
-#[derive(Clone, Copy)]
-pub enum Checked {
-    Main(FieldType),
-    Refused(u8),
-}
-
-// Whether a type fits the first result type of method i.
-pub(crate) fn first_fits(t: &[u8; SIZE], i: u8, class: u8, tag: u8) -> bool
-    ensures { result ≡ fits_first t.now i class tag }
+// The four conditions of method i: u is its left type, v its right one.
+#[tactic(auto, unfolding(crate::specs::Program::results_fit, crate::specs::Program::fits_first, crate::specs::Program::fits_second))]
+pub(crate) fn results_fit(t: &[u8; SIZE], i: u8, u: FieldType, v: FieldType) -> bool
+    ensures { result ≡ results_fit t.now i u v }
 {
     let d = first(t, i);
-    fits(t, class, tag, d)
+    let e = second(t, i);
+    let closed = close(u);
+    fits(t, closed, d) && fits(t, v, e) && fits(t, d, e) && fits(t, u, e)
 }
 
-// Whether a type fits the second result type of method i.
-pub(crate) fn second_fits(t: &[u8; SIZE], i: u8, class: u8, tag: u8) -> bool
-    ensures { result ≡ fits_second t.now i class tag }
-{
-    let d = second(t, i);
-    fits(t, class, tag, d)
-}
-
-// The four conditions of method i: class and tag are its left type, c and g its right one.
-pub(crate) fn results_fit(t: &[u8; SIZE], i: u8, class: u8, tag: u8, c: u8, g: u8) -> bool
-    ensures { result ≡ results_fit t.now i class tag c g }
-{
-    let closed = close_tag(tag);
-    if !first_fits(t, i, class, closed) {
-        return false;
-    }
-    if !second_fits(t, i, c, g) {
-        return false;
-    }
-    let d = first(t, i);
-    if !second_fits(t, i, d.class, d.tag) {
-        return false;
-    }
-    second_fits(t, i, class, tag)
-}
-
-// Whether method i has a type, given its left one: res has its class on the right side.
-pub(crate) fn right_typed(t: &[u8; SIZE], i: u8, class: u8, tag: u8) -> bool
-    ensures { result ≡ right_typed t.now i class tag }
+// Whether method i has a type, given its left one, u: res has its class on the right side.
+#[tactic(auto, unfolding(crate::specs::Program::right_typed))]
+pub(crate) fn right_typed(t: &[u8; SIZE], i: u8, u: FieldType) -> bool
+    ensures { result ≡ right_typed t.now i u }
 {
     let scope = Scope {
         main: false,
         method: i,
-        res: Res::Class(class),
+        res: Some(u.class),
     };
-    let at = right_place(t, i);
-    let o = type_body(t, scope, at);
-    let Typed::Has(c, g, _) = o else {
+    let Some(o) = type_body(t, scope, right_place(t, i)) else {
         return false;
     };
-    results_fit(t, i, class, tag, c, g)
+    results_fit(t, i, u, o.ty)
 }
 
 // Whether method i has a type.
+#[tactic(auto, unfolding(crate::specs::Program::method_in))]
 pub(crate) fn method_typed(t: &[u8; SIZE], i: u8) -> bool
     ensures { result ≡ method_in t.now i }
 {
     let scope = Scope {
         main: false,
         method: i,
-        res: Res::Absent,
+        res: None,
     };
-    let at = left_place(t, i);
-    let o = type_body(t, scope, at);
-    let Typed::Has(class, tag, _) = o else {
+    let Some(o) = type_body(t, scope, left_place(t, i)) else {
         return false;
     };
-    right_typed(t, i, class, tag)
-}
-
-// How many methods there are.
-pub(crate) fn method_count(t: &[u8; SIZE]) -> u8
-    ensures { result ≡ get_or t.now method_count_at 0 }
-{
-    t[METHOD_COUNT_AT]
+    right_typed(t, i, o.ty)
 }
 
 // Whether every method has a type.
 pub(crate) fn methods_typed(t: &[u8; SIZE]) -> bool
     ensures { result ≡ methods_in t.now }
 {
-    let n = method_count(t);
-    let mut i: u8 = 0;
-    while i < n {
+    let n = t[METHOD_COUNT_AT];
+    for i in 0..n {
         if !method_typed(t, i) {
             return false;
         }
-        i += 1;
     }
     true
 }
 
-// The check of a program: 6 for a method without a type, 7 for a main without one.
-pub fn check(t: &[u8; SIZE]) -> Checked
+// The check of a program: main's type, or a refusal of 6, for a method without a type, or 7, for a main without one.
+#[tactic(auto, unfolding(crate::specs::Program::check_of))]
+pub fn check(t: &[u8; SIZE]) -> Result<FieldType, Refusal>
     ensures { result ≡ check_of t.now }
 {
     if !methods_typed(t) {
-        return Checked::Refused(6);
+        return Err(Refusal::UntypedMethod);
     }
     let scope = Scope {
         main: true,
         method: 0,
-        res: Res::Absent,
+        res: None,
     };
-    let at = main_place(t);
-    let o = type_body(t, scope, at);
-    let Typed::Has(class, tag, _) = o else {
-        return Checked::Refused(7);
+    let Some(o) = type_body(t, scope, main_place(t)) else {
+        return Err(Refusal::UntypedMain);
     };
-    Checked::Main(FieldType { class, tag })
+    Ok(o.ty)
 }

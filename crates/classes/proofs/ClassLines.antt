@@ -1,14 +1,8 @@
 -- The class lines of a text into a table: the language's rules of classes, and the rows.
-use Prim.Native.Nat.{ℕ, zero, suc, ◌+◌, ◌-◌, ◌*◌, ◌<◌, ◌≤◌, zero-le}
-use native.Mathlib.Omega.{arith}
-use native.Mathlib.Numerals.{add-one}
-use mathlib.Core.Path.{◌≡◌, refl, sym, ap, ap₂, ◌∙◌, subst}
-use mathlib.Core.Bool.{Bool, true, false, ◌&&◌, true≢false, false≢true}
-use mathlib.Core.List.{List, [], ◌∷◌, ◌++◌, append_assoc, append-nil}
-use lib.Dec.{eqb, leb, ltb}
-use lib.ListN.{length, get_or, drop, length-append}
-use lib.Seq.{sets, get_or-append_seam, take-append_seam, drop-append-add}
-use borrow.Author.Tests.{eqb-true, eqb-false, ltb-true, ltb-false, leb-true, le-leb, lt-leb, le-ltb}
+use Rattle.std.proofs.Common.{ℕ, zero, suc, ◌+◌, ◌-◌, ◌*◌, ◌<◌, ◌≤◌, zero-le, arith, add-one, ◌≡◌, refl, sym, ap, ap₂, ◌∙◌, subst, Bool, true, false, ◌&&◌, true≢false, List, [], ◌∷◌, ◌++◌, append_assoc, append-nil, eqb, leb, ltb, length, get_or, drop, length-append, Some, None, eqb-true, ltb-true, ltb-false, leb-true, le-leb, le-ltb}
+use Rattle.std.proofs.Math.Bool.{false≢true}
+use Rattle.std.proofs.Math.Seq.{sets, get_or-append_seam, take-append_seam, drop-append-add}
+use borrow.Author.Tests.{eqb-false, lt-leb}
 use Rattle.cofj.specs.Limits.{class_count, field_count}
 use Rattle.cofj.specs.Syntax.{Ty, Class}
 use Rattle.cofj.specs.Classes.{parent_of, fields_to, fields_of}
@@ -19,7 +13,6 @@ use Rattle.cofj.specs.Writing.{types_bytes, class_line}
 use Rattle.cofj.proofs.Chain.{ParentsSmaller}
 use Rattle.cofj.proofs.Partial.{and_true}
 use Rattle.lineform.specs.Packed.{packed}
-use Rattle.classes.specs.declared.build.Lines.TheVariants.{At, Refused}
 use Rattle.classes.specs.Layout.{class_row, filled}
 use Rattle.classes.specs.Placing.{good_types, Placed, placed, above, class_good, class_put, class_placed}
 use Rattle.classes.specs.Building.{Walked, walked, line_at, onward, lines_placed}
@@ -49,11 +42,11 @@ types_are n (u ∷ us) r =
 
 -- ---- lines one after another: what all of them give, for a test that they pass
 abbrev pub refused : Walked → Bool
-refused (walked Refused B) = true
-refused (walked (At a) B) = false
+refused (walked None B) = true
+refused (walked (Some a) B) = false
 
 pub record Ends (ok : Bool) (w : Walked) (a : ℕ) (B : List ℕ) : Type 0 where
-  pub good : ok ≡ true → w ≡ walked (At a) B
+  pub good : ok ≡ true → w ≡ walked (Some a) B
   pub bad : ok ≡ false → refused w ≡ true
 
 pub ends_step : {ok okk : Bool} {w : Walked} {a : ℕ} {B : List ℕ} (first : Bool) → ok ≡ first && okk → (first ≡ false → refused w ≡ true) → (first ≡ true → Ends okk w a B) → Ends ok w a B
@@ -61,7 +54,7 @@ ends_step true e no' yes' = let i = yes' refl in record { good = λ z. i.good (s
 ends_step false e no' yes' = record { good = λ z. absurd (false≢true (sym e ∙ z)); bad = λ z. no' refl }
 
 pub ends_moved : {ok : Bool} {w w' : Walked} {a a' : ℕ} {B : List ℕ} → w ≡ w' → a' ≡ a → Ends ok w' a' B → Ends ok w a B
-ends_moved {B = B} ew ea i = record { good = λ z. ew ∙ i.good z ∙ ap (λ (x : ℕ). walked (At x) B) ea; bad = λ z. ap refused ew ∙ i.bad z }
+ends_moved {B = B} ew ea i = record { good = λ z. ew ∙ i.good z ∙ ap (λ (x : ℕ). walked (Some x) B) ea; bad = λ z. ap refused ew ∙ i.bad z }
 
 -- the line l stands in S after P
 module _ (S P l R : List ℕ) (at : ℕ) (e : S ≡ P ++ (length l ∷ (l ++ R))) (h : at ≡ length P) where
@@ -232,7 +225,7 @@ module _ (n : ℕ) (S R : List ℕ) where
       ends : at + 1 + length l + length (packed (class_lines_of fs)) ≡ at + length (packed (class_lines_of (f ∷ fs)))
       ends = let e = length-append l (packed (class_lines_of fs)) in omega arith
 
-      no_class : first ≡ false → lines_placed put S (suc (length fs)) at k (filled 0 0 cs [] []) ≡ walked Refused (filled 0 0 cs [] [])
+      no_class : first ≡ false → lines_placed put S (suc (length fs)) at k (filled 0 0 cs [] []) ≡ walked None (filled 0 0 cs [] [])
       no_class q = step (length fs) k (filled 0 0 cs [] []) ∙ rw (class_bad n cs s few f.number f.body (bodies fs) q)
 
       a_class : first ≡ true → Ends rest_ok (lines_placed put S (suc (length fs)) at k (filled 0 0 cs [] [])) (at + length (packed (class_lines_of (f ∷ fs)))) (filled 0 0 all [] [])
@@ -245,7 +238,7 @@ module _ (n : ℕ) (S R : List ℕ) where
       → Ends (class_rules n k all fs) (lines_placed put S (length fs) at k (filled 0 0 cs [] [])) (at + length (packed (class_lines_of fs))) (filled 0 0 all [] [])
   unfolding packed numbered classes_good lines_placed
   classes_walk [] P at k cs all eS ea ek eall s few = record {
-    good = λ _. let q : at ≡ at + 0 = omega arith in ap₂ (λ (x : ℕ) (y : List Class). walked (At x) (filled 0 0 y [] [])) q (sym (eall ∙ append-nil cs));
+    good = λ _. let q : at ≡ at + 0 = omega arith in ap₂ (λ (x : ℕ) (y : List Class). walked (Some x) (filled 0 0 y [] [])) q (sym (eall ∙ append-nil cs));
     bad = λ e. absurd (true≢false e);
   }
   classes_walk (f ∷ fs) P at k cs all eS ea ek eall s few =

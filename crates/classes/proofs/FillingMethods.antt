@@ -1,14 +1,9 @@
 -- A table that is being filled: what a method's row and its place in the index add.
-use Prim.Native.Nat.{ℕ, suc, ◌+◌, ◌*◌, ◌<◌, ◌≤◌}
-use native.Mathlib.Omega.{arith}
-use mathlib.Core.Path.{◌≡◌, refl, sym, ap, ◌∙◌, subst}
-use mathlib.Core.Bool.{Bool, true, false, ◌&&◌}
-use mathlib.Core.List.{List, [], ◌∷◌, ◌++◌}
-use mathlib.Core.Option.{Option, some}
-use lib.Dec.{eqb, ltb}
-use lib.ListN.{length, get_or, get_elem?, set, length-append, length-set, get_or-eq_default}
-use lib.Seq.{sets, length-sets, get_or-set_same, get_or-set_other}
-use borrow.Author.Tests.{ltb-true, ltb-false, eqb-true, eqb-false, eq-eqb, le-ltb}
+use Rattle.std.proofs.Common.{ℕ, suc, ◌+◌, ◌*◌, ◌<◌, ◌≤◌, arith, ◌≡◌, refl, sym, ap, ◌∙◌, subst, Bool, true, false, ◌&&◌, List, [], ◌∷◌, ◌++◌, eqb, ltb, length, get_or, set, length-append, length-set, get_or-set_same, get_or-set_other, ltb-true, ltb-false, eqb-true, eq-eqb, le-ltb}
+use Rattle.std.proofs.Math.Option.{Option, some}
+use Rattle.std.proofs.Math.ListN.{get_elem?, get_or-eq_default}
+use Rattle.std.proofs.Math.Seq.{sets, length-sets}
+use borrow.Author.Tests.{eqb-false}
 use Rattle.cofj.specs.Limits.{class_count, method_count, line_size}
 use Rattle.cofj.specs.Syntax.{Class, Method}
 use Rattle.cofj.specs.Writing.{method_line}

@@ -1,14 +1,10 @@
 -- From packed lines that are frames in order (refusals 1 to 3 passed) to what the table's builder needs of them.
-use Prim.Native.Nat.{ℕ, zero, suc, ◌+◌, ◌<◌, ◌≤◌}
-use native.Mathlib.Omega.{arith}
-use mathlib.Core.Path.{◌≡◌, refl, sym, ap, ap₂, ◌∙◌, subst}
-use mathlib.Core.Bool.{Bool, true, false}
-use mathlib.Core.List.{List, [], ◌∷◌, ◌++◌, map}
-use mathlib.Core.Option.{Option, none, some, none-ne-some}
-use lib.Dec.{leb, ltb}
-use lib.ListN.{length, get_or, get_elem?, get_or-append, get_or-eq_default}
-use lib.Seq.{get_or-append-add}
-use borrow.Author.Tests.{leb-true, ltb-true, ltb-false}
+use Rattle.std.proofs.Common.{ℕ, zero, suc, ◌+◌, ◌<◌, ◌≤◌, arith, ◌≡◌, refl, sym, ap, ap₂, ◌∙◌, subst, Bool, true, false, List, [], ◌∷◌, ◌++◌, map, leb, ltb, length, get_or, get_or-append-add, is_ok, leb-true, ltb-true, ltb-false}
+use Rattle.std.proofs.Math.Option.{Option, none, some, none-ne-some}
+use Rattle.std.proofs.Math.ListN.{get_elem?, get_or-append, get_or-eq_default}
+use Rattle.std.specs.declared.result.Result.{Result}
+use Rattle.cofj.specs.declared.Refusal.{Refusal}
+use Rattle.cofj.specs.declared.Refusal.TheVariants.{BadTable, BadOverride}
 use Rattle.cofj.specs.Limits.{class_count, method_count, param_count, line_size}
 use Rattle.cofj.specs.Syntax.{Method, Table}
 use Rattle.cofj.specs.Frames.{Got, got, up_to, type, ClassFrame, TextFrame, class_frame, method_frame, main_frame, frame, frames}
@@ -28,8 +24,8 @@ use Rattle.lineform.specs.Answers.{right_at, rights_of, Rights}
 use Rattle.classes.specs.Layout.{right_place, layout}
 use Rattle.classes.specs.Building.{table_placed}
 use Rattle.classes.specs.Overriding.{overrides_of}
-use Rattle.classes.specs.Placing.{Placed}
-use Rattle.classes.specs.Made.{Lined, Makes, Built, Overrides}
+use Rattle.classes.specs.Placing.{placed}
+use Rattle.classes.specs.Made.{Lined, Makes, passed, Built, Overrides}
 use Rattle.classes.proofs.Lists.{index_below}
 use Rattle.classes.proofs.MethodLines.{Framed}
 use Rattle.classes.proofs.TableLines.{raw_lines, Short, length-bodies, table-lines}
@@ -177,8 +173,10 @@ behind S R r h =
     }
 
 -- ---- the table of such lines: its bytes, and overriding
-pub built : (S R : List ℕ) (n m : ℕ) (B : List ℕ) (p : Placed) → p ≡ table_placed S R n m B → Built S R n m B p
-built S R n m B p e = record {
+pub built : (S R : List ℕ) (n m : ℕ) (B : List ℕ) (g : Result (Unit {0}) Refusal) (B' : List ℕ) → g ≡ passed BadTable (is_ok g) → placed (is_ok g) B' ≡ table_placed S R n m B
+    → Built S R n m B g B'
+built S R n m B g B' k e = record {
+  refusal = k;
   is = e;
   makes = λ r h en em z. let b = behind S R r h in subst (Makes (table r)) (sym (e ∙ rw (en, em))) (table-lines r b.short S R b.lines b.rights B z);
 }
@@ -208,8 +206,8 @@ overrides_read S R r t h e =
     (overrides_on (table_of r) (λ k. let l = parents_in 0 r.classes a.0.numbers k in omega arith)
     (shaped n (omega arith) r.methods a.0.methods h.methods) h.short.methods)
 
-pub overrides_tested : (B : List ℕ) (b : Bool) → b ≡ overrides_of B → Overrides B b
-overrides_tested B b e = record {
-  is = e;
-  says = λ S R r t h q w. e ∙ ap overrides_of w ∙ overrides_read S R r t (behind S R r h) q;
+pub overrides_tested : (B : List ℕ) (b : Bool) (g : Result (Unit {0}) Refusal) → g ≡ passed BadOverride b → b ≡ overrides_of B → Overrides B g
+overrides_tested B b g k e = record {
+  is = k ∙ ap (passed BadOverride) e;
+  says = λ S R r t h q w. k ∙ ap (passed BadOverride) (e ∙ ap overrides_of w ∙ overrides_read S R r t (behind S R r h) q);
 }

@@ -1,19 +1,13 @@
 -- The definitions of specs/Machine at each return of the code, and along the chain of parents.
-use mathlib.Core.Path.{◌≡◌, refl, sym, ap, ◌∙◌}
-use mathlib.Core.Bool.{Bool, true, false}
-use mathlib.Core.List.{List}
-use Prim.Native.Nat.{ℕ, zero, suc, ◌+◌, ◌-◌, ◌*◌, ◌<◌, ◌≤◌}
-use native.Mathlib.Omega.{arith}
-use lib.ListN.{get_or}
-use lib.Dec.{eqb, leb, ltb}
-use borrow.Author.Tests.{eqb-true, eqb-false, eq-eqb, ne_eqb, lt-ltb, le-ltb, le-leb, lt-leb, leb-false}
+use Rattle.std.proofs.Common.{◌≡◌, refl, sym, ap, ◌∙◌, Bool, true, false, true≢false, List, ℕ, zero, suc, ◌+◌, ◌-◌, ◌*◌, ◌<◌, ◌≤◌, arith, get_or, eqb, leb, ltb, Some, None, SomeIff, is_some, eqb-true, eq-eqb, ne_eqb, lt-ltb, le-ltb, le-leb, leb-false}
+use Rattle.std.proofs.Math.Bool.{false≢true}
+use borrow.Author.Tests.{eqb-false, lt-leb}
 use Rattle.cofj.specs.Limits.{class_count}
 use Rattle.classes.specs.Figures.{row_size}
-use Rattle.classes.specs.declared.chain.FieldFound.{FieldFound}
-use Rattle.classes.specs.declared.chain.FieldFound.TheVariants as field
+use Rattle.std.specs.declared.option.Option.{Option}
+use Rattle.classes.specs.declared.chain.FieldType.{FieldType}
 use Rattle.classes.specs.declared.methods.Found.{Found}
-use Rattle.classes.specs.declared.methods.Found.TheVariants as found
-use Rattle.classes.specs.Machine.{Stored, pick, up, total_of, fits_in, fits_of, type_at, own_field, field_in, field_of, numbered, own_of, or_else, lookup_in, lookup_of, method_with, row_of, param_of, input_type}
+use Rattle.classes.specs.Machine.{Stored, pick, found_at, up, total_of, fits_in, fits_of, type_at, own_field, field_in, field_of, owned, own_of, or_else, lookup_in, lookup_of, method_with, row_of, input_type}
 
 -- ---- a class's row
 module _ (B : List ℕ) (c : ℕ) where
@@ -96,16 +90,16 @@ fields_enough B zero (suc m) c f h k = rw (le-leb c (up B c) (omega arith))
 fields_enough B (suc n) zero c f h k = rw (le-leb c (up B c) (omega arith))
 fields_enough B (suc n) (suc m) c f h k = go (leb c (up B c)) refl (fields_enough B n m (up B c) f)
   where
-    rest : FieldFound → FieldFound
+    rest : Option FieldType → Option FieldType
     rest x = pick (ltb f (total_of B (up B c))) x (own_field B c (f - total_of B (up B c)))
 
     go : (b : Bool) → leb c (up B c) ≡ b → (up B c ≤ n → up B c ≤ m → field_in B n (up B c) f ≡ field_in B m (up B c) f)
-        → pick b field.Nothing (rest (field_in B n (up B c) f)) ≡ pick b field.Nothing (rest (field_in B m (up B c) f))
+        → pick b None (rest (field_in B n (up B c) f)) ≡ pick b None (rest (field_in B m (up B c) f))
     go true q ih = refl
     go false q ih = let l = leb-false c (up B c) q in rw (ih (omega arith) (omega arith))
 
 module _ (B : List ℕ) (c f : ℕ) where
-  field_stop : (n : ℕ) → c ≤ up B c → field_in B n c f ≡ field.Nothing
+  field_stop : (n : ℕ) → c ≤ up B c → field_in B n c f ≡ None
   unfolding field_in
   field_stop zero l = refl
   field_stop (suc n) l = rw (le-leb c (up B c) l)
@@ -122,7 +116,7 @@ module _ (B : List ℕ) (c f : ℕ) where
   field_here (suc n) e l h = rw (lt-leb c (up B c) l, le-ltb f (total_of B (up B c)) h)
 
   -- and has no fields
-  pub field_past : class_count < c → field_of B c f ≡ field.Nothing
+  pub field_past : class_count < c → field_of B c f ≡ None
   field_past h = field_stop c (let e = parent_past B c h in omega arith)
 
   module _ (p : ℕ) (ep : p ≡ up B c) where
@@ -140,26 +134,33 @@ module _ (B : List ℕ) (c f : ℕ) where
       field_own h e = let t = total in rw (field_here c refl (omega arith) (omega arith), ← total) e
 
 module _ (B : List ℕ) (c j : ℕ) where
-  pub own_past : get_or B (16 * c + 2) 0 ≤ j → Stored B 0 (own_field B c j)
-  own_past h = record { same = rw (le-leb (get_or B (16 * c + 2) 0) j h); low = omega arith }
-
   pub own_at : c < 256 → j < 256 → j < get_or B (16 * c + 2) 0 → Stored B (16 * c + 3 + 2 * j) (own_field B c j)
   own_at u v h = record { same = rw (lt-leb (get_or B (16 * c + 2) 0) j h, ne_eqb (16 * c + 3 + 2 * j) 0 (λ z. omega arith)); low = omega arith }
 
-module _ (B : List ℕ) (at : ℕ) (w : FieldFound) (e : Stored B at w) where
-  pub stored_none : at ≡ 0 → field.Nothing ≡ w
+module _ (B : List ℕ) (at : ℕ) (w : Option FieldType) (e : Stored B at w) where
+  pub stored_none : at ≡ 0 → None ≡ w
   stored_none z = rw (e.same, eq-eqb at 0 z)
 
-  pub stored_at : (at ≡ 0 → ⊥) → field.Type (type_at B at) ≡ w
+  pub stored_at : (at ≡ 0 → ⊥) → Some (type_at B at) ≡ w
   stored_at n = rw (e.same, ne_eqb at 0 n)
 
 -- ---- methods
 module _ (B : List ℕ) (c m : ℕ) where
-  pub index_past : 32 < c → own_of B c m ≡ numbered c 0
+  pub index_past : 32 < c → own_of B c m ≡ owned c None
   index_past h = rw (lt-ltb 32 c h)
 
-  pub index_at : c ≤ 32 → own_of B c m ≡ numbered c (get_or B (528 + 256 * c + m) 0)
-  index_at h = rw (le-ltb 32 c h)
+  abbrev byte : ℕ
+  byte = get_or B (528 + 256 * c + m) 0
+
+  pub index_at : c ≤ 32 → (r : Option ℕ) → SomeIff r (1 ≤ byte) (byte - 1) → own_of B c m ≡ owned c r
+  index_at h None f = rw (le-ltb 32 c h, eq-eqb byte 0 (go byte f))
+    where
+      go : (b : ℕ) → (1 ≤ b → ⊥) → b ≡ 0
+      go zero f = refl
+      go (suc b) f = absurd (f (omega arith))
+  index_at h (Some i) f =
+      let q = f.0 in
+      rw (le-ltb 32 c h, ne_eqb byte 0 (λ z. omega arith), f.1)
 
 -- where nothing is above, the class itself is all
 pub lookup_stop : (B : List ℕ) (n c m : ℕ) → c ≤ up B c → lookup_in B n c m ≡ own_of B c m
@@ -167,9 +168,9 @@ unfolding lookup_in
 lookup_stop B zero c m l = refl
 lookup_stop B (suc n) c m l = rw (le-leb c (up B c) l) (go (own_of B c m))
   where
-    go : (o : Found) → or_else o found.Nothing ≡ o
-    go (found.At o i) = refl
-    go found.Nothing = refl
+    go : (o : Option Found) → or_else o None ≡ o
+    go (Some f) = refl
+    go None = refl
 
 lookup_enough : (B : List ℕ) (n k c m : ℕ) → c ≤ n → c ≤ k → lookup_in B n c m ≡ lookup_in B k c m
 unfolding lookup_in
@@ -178,74 +179,71 @@ lookup_enough B (suc n) zero c m h l = lookup_stop B (suc n) c m (omega arith)
 lookup_enough B (suc n) (suc k) c m h l = go (leb c (up B c)) refl (lookup_enough B n k (up B c) m)
   where
     go : (b : Bool) → leb c (up B c) ≡ b → (up B c ≤ n → up B c ≤ k → lookup_in B n (up B c) m ≡ lookup_in B k (up B c) m)
-        → or_else (own_of B c m) (pick b found.Nothing (lookup_in B n (up B c) m)) ≡ or_else (own_of B c m) (pick b found.Nothing (lookup_in B k (up B c) m))
+        → or_else (own_of B c m) (pick b None (lookup_in B n (up B c) m)) ≡ or_else (own_of B c m) (pick b None (lookup_in B k (up B c) m))
     go true q ih = refl
     go false q ih = let z = leb-false c (up B c) q in rw (ih (omega arith) (omega arith))
 
 -- the class in which the search stops
-module _ (B : List ℕ) (c m x : ℕ) (ex : own_of B c m ≡ numbered c x) where
-  lookup_is : (n : ℕ) → (x ≡ 0 → ⊥) → lookup_in B n c m ≡ own_of B c m
+module _ (B : List ℕ) (c m : ℕ) (o : Option ℕ) (eo : own_of B c m ≡ owned c o) where
+  lookup_is : (n : ℕ) → true ≡ is_some o → lookup_in B n c m ≡ own_of B c m
   unfolding lookup_in
   lookup_is zero e = refl
-  lookup_is (suc n) e = rw (ex, ne_eqb x 0 e)
+  lookup_is (suc n) e = rw eo (go o e)
+    where
+      go : (o : Option ℕ) → true ≡ is_some o → or_else (owned c o) (pick (leb c (up B c)) None (lookup_in B n (up B c) m)) ≡ owned c o
+      go None e = absurd (true≢false e)
+      go (Some i) e = refl
 
-  lookup_on : (n : ℕ) → n ≡ c → x ≡ 0 → up B c < c → lookup_in B n c m ≡ lookup_of B (up B c) m
+  lookup_on : (n : ℕ) → n ≡ c → false ≡ is_some o → up B c < c → lookup_in B n c m ≡ lookup_of B (up B c) m
   unfolding lookup_in
   lookup_on zero e q l = absurd (omega arith)
-  lookup_on (suc n) e q l = rw (ex, eq-eqb x 0 q, lt-leb c (up B c) l) (lookup_enough B n (up B c) (up B c) m (omega arith) (omega arith))
+  lookup_on (suc n) e q l = rw eo (go o q)
+    where
+      go : (o : Option ℕ) → false ≡ is_some o → or_else (owned c o) (pick (leb c (up B c)) None (lookup_in B n (up B c) m)) ≡ lookup_of B (up B c) m
+      go (Some i) z = absurd (false≢true z)
+      go None z = rw (lt-leb c (up B c) l) (lookup_enough B n (up B c) (up B c) m (omega arith) (omega arith))
 
-  pub nearest_here : (x ≡ 0 → ⊥) → lookup_of B c m ≡ own_of B c m
+  pub nearest_here : true ≡ is_some o → lookup_of B c m ≡ own_of B c m
   nearest_here e = lookup_is c e
 
   module _ (p : ℕ) (ep : p ≡ up B c) where
     pub nearest_top : c ≤ p → lookup_of B c m ≡ own_of B c m
     nearest_top l = lookup_stop B c c m (omega arith)
 
-    pub nearest_above : (r : ℕ) → x ≡ 0 → p < c → lookup_of B p m ≡ own_of B r m → lookup_of B c m ≡ own_of B r m
+    pub nearest_above : (r : ℕ) → false ≡ is_some o → p < c → lookup_of B p m ≡ own_of B r m → lookup_of B c m ≡ own_of B r m
     nearest_above r e l er = lookup_on c refl e (omega arith) ∙ ap (λ (y : ℕ). lookup_of B y m) (sym ep) ∙ er
 
--- what its index says is the answer
-module _ (B : List ℕ) (c m o x : ℕ) (eo : lookup_of B c m ≡ own_of B o m) (ex : own_of B o m ≡ numbered o x) where
-  pub lookup_none : x ≡ 0 → found.Nothing ≡ lookup_of B c m
-  lookup_none z = rw (eo, ex, eq-eqb x 0 z)
+-- what it has itself is the answer
+module _ (B : List ℕ) (c m w : ℕ) (o : Option ℕ) (ew : lookup_of B c m ≡ own_of B w m) (eo : own_of B w m ≡ owned w o) where
+  pub lookup_none : o ≡ None → None ≡ lookup_of B c m
+  lookup_none z = rw (ew, eo, z)
 
-  pub lookup_at : (x ≡ 0 → ⊥) → found.At o (x - 1) ≡ lookup_of B c m
-  lookup_at n = rw (eo, ex, ne_eqb x 0 n)
+  pub lookup_at : (i : ℕ) → o ≡ Some i → Some (found_at w i) ≡ lookup_of B c m
+  lookup_at i z = rw (ew, eo, z)
 
 -- a class byte without a row has none
-pub lookup_past : (B : List ℕ) (c m : ℕ) → class_count < c → lookup_of B c m ≡ found.Nothing
+pub lookup_past : (B : List ℕ) (c m : ℕ) → class_count < c → lookup_of B c m ≡ None
 lookup_past B c m h = lookup_stop B c c m (let e = parent_past B c h in omega arith) ∙ index_past B c m h
 
--- ---- parameters
-module _ (B : List ℕ) (i k : ℕ) where
-  pub param_far : 2 < k → field.Nothing ≡ param_of B i k
-  param_far h = rw (lt-ltb 2 k h)
-
-  pub param_past : k ≤ 2 → get_or B (row_of i + 7) 0 ≤ k → field.Nothing ≡ param_of B i k
-  param_past h l = rw (le-ltb 2 k h, le-leb (get_or B (row_of i + 7) 0) k l)
-
-  pub param_at : k ≤ 2 → k < get_or B (row_of i + 7) 0 → field.Type (type_at B (row_of i + 8 + 2 * k)) ≡ param_of B i k
-  param_at h l = rw (le-ltb 2 k h, lt-leb (get_or B (row_of i + 7) 0) k l)
-
 -- ---- a method with a number of parameters
-module _ (B : List ℕ) (c m n : ℕ) (f : Found) (ef : f ≡ lookup_of B c m) where
-  pub with_none : f ≡ found.Nothing → found.Nothing ≡ method_with B c m n
+module _ (B : List ℕ) (c m n : ℕ) (f : Option Found) (ef : f ≡ lookup_of B c m) where
+  pub with_none : f ≡ None → None ≡ method_with B c m n
   unfolding method_with
   with_none e = rw (← ef, e)
 
-  module _ (o i x : ℕ) (e : f ≡ found.At o i) (ex : x ≡ get_or B (row_of i + 7) 0) where
-    pub with_other : (x ≡ n → ⊥) → found.Nothing ≡ method_with B c m n
+  module _ (g : Found) (x : ℕ) (e : f ≡ Some g) (ex : x ≡ get_or B (row_of g.method + 7) 0) where
+    pub with_other : (x ≡ n → ⊥) → None ≡ method_with B c m n
     unfolding method_with
     with_other q = rw (← ef, e, ← ex, ne_eqb x n q)
 
-    pub with_is : x ≡ n → found.At o i ≡ method_with B c m n
+    pub with_is : x ≡ n → Some g ≡ method_with B c m n
     unfolding method_with
     with_is q = rw (← ef, e, ← ex, eq-eqb x n q)
 
 -- ---- the type of main's parameter
 module _ (B : List ℕ) where
-  pub input_none : get_or B 25360 0 ≡ 0 → field.Nothing ≡ input_type B
+  pub input_none : get_or B 25360 0 ≡ 0 → None ≡ input_type B
   input_none e = rw e
 
-  pub input_some : (get_or B 25360 0 ≡ 0 → ⊥) → field.Type (type_at B 25361) ≡ input_type B
+  pub input_some : (get_or B 25360 0 ≡ 0 → ⊥) → Some (type_at B 25361) ≡ input_type B
   input_some e = rw (ne_eqb (get_or B 25360 0) 0 e)

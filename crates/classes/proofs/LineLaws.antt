@@ -1,15 +1,7 @@
 -- Laws of the tests of a line's bytes, in the form in which the goals of `known` cite them: one for each return.
-use Prim.Native.Nat.{ℕ, zero, suc, ◌+◌, ◌-◌, ◌<◌, ◌≤◌}
-use native.Mathlib.Omega.{arith}
-use native.Mathlib.Numerals.{sub-one, add-one}
-use mathlib.Core.Path.{◌≡◌, refl, sym, ap, ◌∙◌}
-use mathlib.Core.Bool.{Bool, true, false, not, ◌&&◌, true≢false, false≢true}
-use mathlib.Core.List.{List, [], ◌∷◌}
-use lib.Dec.{eqb, leb, ltb}
-use lib.ListN.{length, get_or, drop, length-drop, drop_of_length-le}
-use lib.Seq.{drop-cons, drop-drop, get_or-drop}
-use borrow.Author.Tests.{eq-eqb, ne_eqb, le-leb, lt-leb, eqb-true, eqb-false, ltb-false}
-use Rattle.cofj.specs.Limits.{number_class}
+use Rattle.std.proofs.Common.{ℕ, zero, suc, ◌+◌, ◌-◌, ◌<◌, ◌≤◌, arith, sub-one, add-one, ◌≡◌, refl, sym, ap, ◌∙◌, Bool, true, false, not, ◌&&◌, true≢false, List, [], ◌∷◌, eqb, leb, ltb, length, get_or, drop, length-drop, drop_of_length-le, drop-cons, drop-drop, get_or-drop, eq-eqb, ne_eqb, le-leb, eqb-true, ltb-false}
+use Rattle.std.proofs.Math.Bool.{false≢true}
+use borrow.Author.Tests.{lt-leb, eqb-false}
 use Rattle.cofj.specs.Typing.{closed_tag}
 use Rattle.lineform.specs.declared.sign.SignRow.{SignRow}
 use Rattle.lineform.specs.Signs.{new_sign, InTable, sign_size}
@@ -31,22 +23,6 @@ not_true false e = refl
 pub not_false : (b : Bool) → not b ≡ false → b ≡ true
 not_false true e = refl
 not_false false e = absurd (true≢false e)
-
--- ---- tags
-module _ (g : ℕ) where
-  pub closed_zero : g ≡ 0 → true ≡ closed_tag g
-  closed_zero e = rw (eq-eqb g 0 e)
-
-  pub closed_three : (g ≡ 0 → ⊥) → eqb g 3 ≡ closed_tag g
-  closed_three e = rw (ne_eqb g 0 e)
-
--- ---- classes that a type may have
-module _ (c n : ℕ) where
-  pub class_listed : c ≤ n → true ≡ known_class n c
-  class_listed h = rw (le-leb c n h)
-
-  pub class_number : n < c → eqb c number_class ≡ known_class n c
-  class_number h = rw (lt-leb c n h)
 
 -- ---- types
 types_step : (n k : ℕ) (bs : List ℕ) → ((k ≡ 0) → ⊥) → good_types n k bs ≡ good_types n (suc (k - 1)) bs
@@ -116,18 +92,6 @@ module _ (s : List ℕ) (at n : ℕ) where
         pub scan_next : (g.size ≡ 0 → ⊥) → X ≡ scan n 0 (drop (at + g.size) s)
         scan_next nz = step ∙ rw (ne_eqb g.size 0 nz) (skip (g.size - 1) (at + g.size) (omega arith))
 
--- the class that a sign names
-module _ (s : List ℕ) (at b n : ℕ) where
-  pub names_other : (b ≡ new_sign → ⊥) → true ≡ names_known n b (drop (at + 1) s)
-  names_other q = rw (ne_eqb b new_sign q)
-
-  module _ (e : b ≡ new_sign) where
-    pub names_short : length s ≤ at + 1 → true ≡ names_known n b (drop (at + 1) s)
-    names_short l = rw (e, no_more s (at + 1) l)
-
-    pub names_is : at + 1 < length s → leb (get_or s (at + 1) 0) n ≡ names_known n b (drop (at + 1) s)
-    names_is l = rw (e, more s (at + 1) l)
-
 -- ---- a quick test of all bytes
 module _ (n : ℕ) (s : List ℕ) (at : ℕ) where
   both : (a b : Bool) → a && b ≡ true → (a ≡ true) × (b ≡ true)
@@ -155,9 +119,6 @@ module _ (n : ℕ) (s : List ℕ) (at : ℕ) where
   pub block_more : (k : ℕ) (g x : Bool) → g ≡ none_above n s at k → x ≡ names_above n (get_or s (at + k) 0) (get_or s (at + k + 1) 0) → g && not x ≡ none_above n s at (k + 1)
   unfolding none_above
   block_more k g x eg ex = let q : k + 1 ≡ suc k = omega arith in rw (q, eg, ex)
-
-  pub block_end : (k : ℕ) (g : Bool) → g ≡ none_above n s at k → k ≤ 16 → 16 ≤ k → g ≡ none_above n s at 16
-  block_end k g e h l = let q : k ≡ 16 = omega arith in rw q at e
 
 -- and one after another
 above_split : (n : ℕ) (s : List ℕ) (at a b : ℕ) → none_above n s at a ≡ true → none_above n s at (a + b) ≡ none_above n s (at + a) b

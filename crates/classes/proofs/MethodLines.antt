@@ -1,14 +1,10 @@
 -- The method lines of a text into a table: the language's rules of methods, the rows and the index.
-use Prim.Native.Nat.{ℕ, suc, ◌+◌, ◌*◌, ◌<◌, ◌≤◌}
-use native.Mathlib.Omega.{arith}
-use mathlib.Core.Path.{◌≡◌, refl, sym, ap, ap₂, ◌∙◌}
-use mathlib.Core.Bool.{Bool, true, false, ◌&&◌, ◌||◌, not, true≢false, false≢true}
-use mathlib.Core.List.{List, [], ◌∷◌, ◌++◌, append_assoc, append-nil}
-use mathlib.Core.Option.{some}
-use lib.Dec.{eqb, leb}
-use lib.ListN.{length, get_or, get_elem?, drop, length-append}
-use lib.Seq.{drop-append_seam}
-use borrow.Author.Tests.{eqb-true, eqb-false, eq-eqb, ne_eqb, le-leb, le-ltb}
+use Rattle.std.proofs.Common.{ℕ, suc, ◌+◌, ◌*◌, ◌<◌, ◌≤◌, arith, ◌≡◌, refl, sym, ap, ap₂, ◌∙◌, Bool, true, false, ◌&&◌, ◌||◌, not, true≢false, List, [], ◌∷◌, ◌++◌, append_assoc, append-nil, eqb, leb, length, get_or, drop, length-append, Some, None, eqb-true, eq-eqb, ne_eqb, le-leb, le-ltb}
+use Rattle.std.proofs.Math.Bool.{false≢true}
+use Rattle.std.proofs.Math.Option.{some}
+use Rattle.std.proofs.Math.ListN.{get_elem?}
+use Rattle.std.proofs.Math.Seq.{drop-append_seam}
+use borrow.Author.Tests.{eqb-false}
 use Rattle.cofj.specs.Limits.{class_count, method_count, line_size}
 use Rattle.cofj.specs.Syntax.{Operation, sum, difference, Expr, this, res, param, field, call, new, literal, combine, choose, Exprs, done, also, Class, Method}
 use Rattle.cofj.specs.Typing.{closed_tag, all_closed}
@@ -19,7 +15,6 @@ use Rattle.cofj.proofs.Partial.{and_true, or_false}
 use Rattle.cofj.proofs.Passed.{method_rules, method_ruled}
 use Rattle.lineform.specs.Signs.{sign_row}
 use Rattle.lineform.specs.Packed.{packed}
-use Rattle.classes.specs.declared.build.Lines.TheVariants.{At, Refused}
 use Rattle.classes.specs.Machine.{pick, numbered, own_of}
 use Rattle.classes.specs.Layout.{index_from, right_place, filled}
 use Rattle.classes.specs.Placing.{scan, method_good, Placed, placed, method_free, method_placed}
@@ -228,7 +223,7 @@ module _ (n : ℕ) (bound : n ≤ class_count) (cs : List Class) (S Q R : List �
   -- a line that is refused, and one that is placed
   module _ (l : List ℕ) (c at i : ℕ) (B : List ℕ) where
     method_no : lines_placed put S (suc c) at i B ≡ onward (put l i B) (λ B'. lines_placed put S c (at + 1 + length l) (i + 1) B') → put l i B ≡ placed false B
-        → lines_placed put S (suc c) at i B ≡ walked Refused B
+        → lines_placed put S (suc c) at i B ≡ walked None B
     method_no st e = st ∙ rw e
 
     method_yes : (C : List ℕ) → lines_placed put S (suc c) at i B ≡ onward (put l i B) (λ B'. lines_placed put S c (at + 1 + length l) (i + 1) B') → put l i B ≡ placed true C
@@ -240,7 +235,7 @@ module _ (n : ℕ) (bound : n ≤ class_count) (cs : List Class) (S Q R : List �
       → Ends (name_rules n ms ds) (lines_placed put S (length ds) at i (filled 0 0 cs ms [])) (at + length (packed (method_lines ds))) (filled 0 0 cs all [])
   unfolding packed method_lines methods_good lines_placed
   methods_walk [] P at i ms all eS ea ei eall few fr qs = record {
-    good = λ _. let q : at ≡ at + 0 = omega arith in ap₂ (λ (x : ℕ) (y : List Method). walked (At x) (filled 0 0 cs y [])) q (sym (eall ∙ append-nil ms));
+    good = λ _. let q : at ≡ at + 0 = omega arith in ap₂ (λ (x : ℕ) (y : List Method). walked (Some x) (filled 0 0 cs y [])) q (sym (eall ∙ append-nil ms));
     bad = λ e. absurd (true≢false (sym (none_nil ms) ∙ e));
   }
   methods_walk (d ∷ ds) P at i ms all eS ea ei eall few fr qs =

@@ -1,13 +1,8 @@
 -- On a table's bytes the test of overriding is the language's.
-use Prim.Native.Nat.{ℕ, zero, suc, ◌+◌, ◌*◌, ◌%◌, ◌<◌, ◌≤◌}
-use native.Mathlib.Omega.{arith}
-use mathlib.Core.Path.{◌≡◌, refl, sym, ap, ap₂, ◌∙◌}
-use mathlib.Core.Bool.{Bool, true, false, ◌&&◌}
-use mathlib.Core.List.{List, [], ◌∷◌, ◌++◌}
-use mathlib.Core.Option.{Option, some}
-use lib.Dec.{eqb}
-use lib.ListN.{length, get_elem?}
-use borrow.Author.Tests.{eqb-true, eqb-false}
+use Rattle.std.proofs.Common.{ℕ, zero, suc, ◌+◌, ◌*◌, ◌%◌, ◌<◌, ◌≤◌, arith, ◌≡◌, refl, sym, ap, ap₂, ◌∙◌, Bool, true, false, ◌&&◌, List, [], ◌∷◌, ◌++◌, eqb, length, eqb-true}
+use Rattle.std.proofs.Math.Option.{Option, some}
+use Rattle.std.proofs.Math.ListN.{get_elem?}
+use borrow.Author.Tests.{eqb-false}
 use Rattle.cofj.specs.Limits.{class_count, method_count, param_count, line_size}
 use Rattle.cofj.specs.Syntax.{Ty, Method, Table, eq_ty, eq_tys}
 use Rattle.cofj.specs.Classes.{parent_of}
@@ -17,6 +12,7 @@ use Rattle.cofj.specs.Writing.{code_of, types_bytes, method_line}
 use Rattle.cofj.specs.WellFormed.{AllMethods}
 use Rattle.cofj.proofs.Chain.{ParentsSmaller}
 use Rattle.cofj.proofs.Lookup.{owned_of}
+use Rattle.std.specs.declared.option.Option.{Option as RustOption}
 use Rattle.classes.specs.declared.methods.Found.{Found}
 use Rattle.classes.specs.Machine.{row_of}
 use Rattle.classes.specs.Layout.{layout, Stands, Finds, at, nothing}
@@ -140,7 +136,7 @@ module _ (t : Table) (parents : ParentsSmaller t.classes) (shaped : AllMethods S
       after a c w =
           stands_rest B (a + 1 + 1 + 1 + 1) _ _ (stands_rest B (a + 1 + 1 + 1) _ _ (stands_rest B (a + 1 + 1) _ _ (stands_rest B (a + 1) _ _ (stands_rest B a _ _ w))))
 
-  same_found_lem : (i : ℕ) (d : Method) → get_elem? t.methods i ≡ some d → (r : Found) (o : Option language.Found) → Finds t.methods r o → same_found B i r ≡ same_types d o
+  same_found_lem : (i : ℕ) (d : Method) → get_elem? t.methods i ≡ some d → (r : RustOption Found) (o : Option language.Found) → Finds t.methods r o → same_found B i r ≡ same_types d o
   same_found_lem i d e r o (at {o = a} {i = j} {d = d'} e') = same_methods i j a d d' e e'
   same_found_lem i d e r o nothing = refl
 

@@ -1,14 +1,8 @@
 -- On the bytes of a well-formed table the functions give the language's class fit, fields and lookup.
-use Prim.Native.Nat.{ℕ, zero, suc, ◌+◌, ◌-◌, ◌*◌, ◌<◌, ◌≤◌}
-use native.Mathlib.Nat.{not-suc-le-zero}
-use native.Mathlib.Omega.{arith}
-use mathlib.Core.Path.{◌≡◌, refl, sym, ap, ◌∙◌, subst}
-use mathlib.Core.Bool.{Bool, true, false, ◌||◌}
-use mathlib.Core.List.{List, [], ◌∷◌, ◌++◌}
-use mathlib.Core.Option.{Option, none, some, none-ne-some}
-use lib.Dec.{eqb, leb, ltb}
-use lib.ListN.{length, get_or, get_elem?, length-append}
-use borrow.Author.Tests.{le-ltb, le-leb, lt-leb, eqb-true, leb-true, leb-false, ltb-true, ltb-false, ne_eqb}
+use Rattle.std.proofs.Common.{ℕ, zero, suc, ◌+◌, ◌-◌, ◌*◌, ◌<◌, ◌≤◌, not-suc-le-zero, arith, ◌≡◌, refl, sym, ap, ◌∙◌, subst, Bool, true, false, ◌||◌, List, [], ◌∷◌, ◌++◌, eqb, leb, ltb, length, get_or, length-append, Some, None, le-ltb, le-leb, eqb-true, leb-true, leb-false, ltb-true, ltb-false, ne_eqb}
+use Rattle.std.proofs.Math.Option.{Option, none, some, none-ne-some}
+use Rattle.std.proofs.Math.ListN.{get_elem?}
+use borrow.Author.Tests.{lt-leb}
 use Rattle.cofj.specs.Limits.{class_count, field_count, number_class}
 use Rattle.cofj.specs.Syntax.{Ty, Class, Method, Table}
 use Rattle.cofj.specs.Classes.{parent_or0, parent_of, class_at, own_or_none, chain_has, class_fits, fields_to, fields_of}
@@ -20,10 +14,10 @@ use Rattle.cofj.proofs.Chain.{ParentsSmaller, parent_le, past_fits}
 use Rattle.cofj.proofs.Climb.{fields_past}
 use Rattle.cofj.proofs.Findings.{place_at}
 use Rattle.cofj.proofs.Lookup.{own, found_own, Owned, owned, none_at_0, lookup_object, lookup_past as past-lookup}
-use Rattle.classes.specs.declared.chain.FieldFound.TheVariants as field
+use Rattle.std.specs.declared.option.Option.{Option as RustOption}
+use Rattle.classes.specs.declared.chain.FieldType.{FieldType}
 use Rattle.classes.specs.declared.methods.Found.{Found}
-use Rattle.classes.specs.declared.methods.Found.TheVariants as answer
-use Rattle.classes.specs.Machine.{pick, up, total_of, type_at, fits_in, fits_of, own_field, field_in, field_of, numbered, own_of, or_else, lookup_in, lookup_of, row_of}
+use Rattle.classes.specs.Machine.{pick, found_at, up, total_of, type_at, fits_in, fits_of, own_field, field_in, field_of, numbered, own_of, or_else, lookup_in, lookup_of, row_of}
 use Rattle.classes.specs.Layout.{layout, found_type, Finds, at, nothing}
 use Rattle.classes.proofs.Lists.{at_front, at_after, past, within, index_below, index_is}
 use Rattle.classes.proofs.Laws.{parent_row, total_past, total_row, fits_zero, fit_past, field_past, lookup_stop, lookup_past}
@@ -123,13 +117,13 @@ module _ (t : Table) (wf : WellFormed t) where
       us : List Ty
       us = own_or_none (class_at t.classes c)
 
-      go : (b : Bool) → leb (length us) j ≡ b → pick b field.Nothing (field.Type (type_at (layout t) (16 * c + 3 + 2 * j))) ≡ found_type (get_elem? us j)
+      go : (b : Bool) → leb (length us) j ≡ b → pick b None (Some (type_at (layout t) (16 * c + 3 + 2 * j))) ≡ found_type (get_elem? us j)
       go true q = rw (past us j (leb-true (length us) j q))
       go false q =
           let l = leb-false (length us) j q in
           let w = within us j l in
           let f = own_few c in
-          rw w.1 (ap field.Type (own_type_at t c j w.0 h (omega arith) w.1))
+          rw w.1 (ap {B = RustOption FieldType} Some (own_type_at t c j w.0 h (omega arith) w.1))
 
   field_in_lem : (n c f : ℕ) → c ≤ n → c ≤ class_count → field_in (layout t) n c f ≡ found_type (get_elem? (fields_to n t.classes c) f)
   unfolding field_in fields_to
@@ -174,9 +168,9 @@ module _ (t : Table) (wf : WellFormed t) where
 
 -- ---- methods
 -- the byte search's answer for what the language's search for the name m finds
-abbrev pub found_as : Table → ℕ → Option language.Found → Found
-found_as t m none = answer.Nothing
-found_as t m (some f) = answer.At f.owner (place_of t.methods f.owner m)
+abbrev pub found_as : Table → ℕ → Option language.Found → RustOption Found
+found_as t m none = None
+found_as t m (some f) = Some (found_at f.owner (place_of t.methods f.owner m))
 
 -- a method that class c has itself
 abbrev own_in : ℕ → Option Method → Option language.Found
@@ -242,12 +236,12 @@ module _ (t : Table) (wf : WellFormed t) (m : ℕ) (small : m < 256) (c : ℕ) w
   lookup_on = rw found_on (finds_as t c m)
 
   -- the class where the search stops is the owner that the method's row names
-  pub row_owner : (o i : ℕ) → lookup_of (layout t) c m ≡ answer.At o i → get_or (layout t) (row_of i + 1) 0 ≡ o
+  pub row_owner : (o i : ℕ) → lookup_of (layout t) c m ≡ Some (found_at o i) → get_or (layout t) (row_of i + 1) 0 ≡ o
   row_owner o i e = subst Named (sym found_on ∙ e) (go (lookup t c m) refl)
     where
-      Named : Found → Type 0
-      Named (answer.At x y) = get_or (layout t) (row_of y + 1) 0 ≡ x
-      Named answer.Nothing = Unit {0}
+      Named : RustOption Found → Type 0
+      Named (Some g) = get_or (layout t) (row_of g.method + 1) 0 ≡ g.owner
+      Named None = Unit {0}
 
       go : (o : Option language.Found) → lookup t c m ≡ o → Named (found_as t m o)
       go none q = tt

@@ -1,27 +1,14 @@
 -- Laws of placing one line, in the form in which the goals of `place` cite them.
-use Prim.Native.Nat.{ℕ, ◌+◌, ◌*◌, ◌<◌, ◌≤◌}
-use native.Mathlib.Omega.{arith}
-use native.Mathlib.Numerals.{add-one}
-use mathlib.Core.Path.{◌≡◌, refl, sym, ap, ◌∙◌}
-use mathlib.Core.Bool.{Bool, true, false, ◌&&◌, not}
-use mathlib.Core.List.{List, [], ◌∷◌}
-use lib.Dec.{eqb, leb}
-use lib.ListN.{length, get_or, drop, set}
-use lib.Seq.{sets}
-use borrow.Author.Tests.{eq-eqb, ne_eqb, lt-ltb, le-ltb, le-leb, lt-leb}
+use Rattle.std.proofs.Common.{ℕ, ◌+◌, ◌*◌, ◌<◌, ◌≤◌, ◌≡◌, refl, sym, ap, ◌∙◌, Bool, true, false, ◌&&◌, not, true≢false, Some, None, is_some, List, eqb, leb, length, get_or, drop, set, eq-eqb, ne_eqb, lt-ltb, le-ltb, le-leb}
+use Rattle.std.proofs.Math.Bool.{false≢true}
+use Rattle.std.specs.declared.option.Option.{Option}
+use Rattle.std.proofs.Math.Seq.{sets}
+use borrow.Author.Tests.{lt-leb}
 use Rattle.cofj.specs.Typing.{closed_tag}
-use Rattle.classes.specs.Machine.{Wide, pick, numbered, own_of}
+use Rattle.classes.specs.Machine.{pick, owned, own_of}
 use Rattle.classes.specs.Placing.{known_class, good_types, scan, head_good, method_good, placed, above, class_good, class_put, class_placed, index_put, method_put, method_free, method_placed, input_fits, main_put, main_placed}
 use Rattle.classes.specs.Layout.{ahead_of}
-use Rattle.classes.proofs.LineLaws.{more, no_more, not_true, not_false}
-
--- ---- a copy
-module _ (l T X : List ℕ) (i o : ℕ) (inv : sets T o (drop i l) ≡ X) where
-  pub copy_next : i < length l → sets (set T o (get_or l i 0)) (o + 1) (drop (i + 1) l) ≡ X
-  copy_next h = rw (add-one o) (sym (ap (λ (x : List ℕ). sets T o x) (more l i h)) ∙ inv)
-
-  pub copy_done : length l ≤ i → T ≡ X
-  copy_done h = sym (ap (λ (x : List ℕ). sets T o x) (no_more l i h)) ∙ inv
+use Rattle.classes.proofs.LineLaws.{not_true, not_false}
 
 -- ---- a class
 module _ (l B : List ℕ) (k n : ℕ) where
@@ -77,15 +64,8 @@ module _ (l B : List ℕ) (k n : ℕ) where
                   good e = rw (class_good, le-leb 4 (length l) h, eq-eqb (get_or l 1 0) k h1, lt-ltb (get_or l 2 0) k h2, ← eg, not_false g h3, ← ea, le-leb a 4 h4, le-leb (get_or l 3 0) 4 h5, le-leb (a + get_or l 3 0) 4 e)
 
 -- ---- a method
-pub bodies_scanned : (l : List ℕ) (n w : ℕ) (g : Bool) → Wide (get_or l 7 0) w → g ≡ scan n 0 (drop (8 + 2 * w) l) → g ≡ scan n 0 (drop (8 + 2 * get_or l 7 0) l)
-bodies_scanned l n w g ew eg = rw (← ew.same) eg
-
-module _ (c m x : ℕ) (B : List ℕ) where
-  pub index_off : 32 < c → B ≡ index_put c m x B
-  index_off h = rw (lt-ltb 32 c h)
-
-  pub index_set : c ≤ 32 → set B (528 + 256 * c + m) x ≡ index_put c m x B
-  index_set h = rw (le-ltb 32 c h)
+pub bodies_scanned : (l : List ℕ) (n w : ℕ) (g : Bool) → w ≡ get_or l 7 0 → g ≡ scan n 0 (drop (8 + 2 * w) l) → g ≡ scan n 0 (drop (8 + 2 * get_or l 7 0) l)
+bodies_scanned l n w g ew eg = rw (← ew) eg
 
 pub method_put_lem : (l B T : List ℕ) (i right : ℕ) → T ≡ sets (set B (8976 + 256 * i) right) (8976 + 256 * i + 1) (drop 1 l)
     → set T (8976 + 256 * i + 255) (length l) ≡ method_put l i right B
@@ -118,37 +98,35 @@ module _ (l B : List ℕ) (i b n : ℕ) where
     unfolding method_placed
     method_refused e = rw (good_both n l, ← eg, not_true g e)
 
-    module _ (h : not g ≡ false) (x : ℕ) (ex : own_of B (get_or l 1 0) (get_or l 2 0) ≡ numbered (get_or l 1 0) x) where
-      -- by whether the classes are known
-      by : (k : Bool) → k ≡ scan n 0 (drop (8 + 2 * get_or l 7 0) l) → method_placed l i b n B ≡ pick k (method_free l i b B (numbered (get_or l 1 0) x)) (placed false B)
+    module _ (h : not g ≡ false) (o : Option ℕ) (eo : own_of B (get_or l 1 0) (get_or l 2 0) ≡ owned (get_or l 1 0) o) where
+      -- by whether the class has one, and the classes are known
+      by : (k : Bool) → k ≡ scan n 0 (drop (8 + 2 * get_or l 7 0) l) → method_placed l i b n B ≡ pick k (method_free l i b B (owned (get_or l 1 0) o)) (placed false B)
       unfolding method_placed
-      by k e = rw (good_both n l, ← eg, not_false g h, ← e, ex)
+      by k e = rw (good_both n l, ← eg, not_false g h, ← e, eo)
 
-      pub method_twice : (x ≡ 0 → ⊥) → placed false B ≡ method_placed l i b n B
-      method_twice e = sym (by (scan n 0 (drop (8 + 2 * get_or l 7 0) l)) refl ∙ rw (ne_eqb x 0 e) (go (scan n 0 (drop (8 + 2 * get_or l 7 0) l))))
+      pub method_twice : true ≡ is_some o → placed false B ≡ method_placed l i b n B
+      method_twice e = sym (by (scan n 0 (drop (8 + 2 * get_or l 7 0) l)) refl ∙ go (scan n 0 (drop (8 + 2 * get_or l 7 0) l)) o e)
         where
-          go : (k : Bool) → pick k (placed false B) (placed false B) ≡ placed false B
-          go true = refl
-          go false = refl
+          go : (k : Bool) (o : Option ℕ) → true ≡ is_some o → pick k (method_free l i b B (owned (get_or l 1 0) o)) (placed false B) ≡ placed false B
+          go k None e = absurd (true≢false e)
+          go true (Some j) e = refl
+          go false (Some j) e = refl
 
-      module _ (e : x ≡ 0) (k : Bool) (ek : k ≡ scan n 0 (drop (8 + 2 * get_or l 7 0) l)) where
+      module _ (e : false ≡ is_some o) (k : Bool) (ek : k ≡ scan n 0 (drop (8 + 2 * get_or l 7 0) l)) where
+        free : o ≡ None
+        free = go o e
+          where
+            go : (o : Option ℕ) → false ≡ is_some o → o ≡ None
+            go None e = refl
+            go (Some j) e = absurd (false≢true e)
+
         pub method_unknown : not k ≡ true → placed false B ≡ method_placed l i b n B
         method_unknown z = sym (by k ek ∙ rw (not_true k z))
 
         pub method_placed_lem : (T U : List ℕ) → not k ≡ false → T ≡ index_put (get_or l 1 0) (get_or l 2 0) (i + 1) B → U ≡ method_put l i b T → placed true U ≡ method_placed l i b n B
-        method_placed_lem T U z eT eU = sym (by k ek ∙ rw (not_false k z, eq-eqb x 0 e) (sym (ap (λ (y : List ℕ). placed true y) (eU ∙ ap (λ (y : List ℕ). method_put l i b y) eT))))
+        method_placed_lem T U z eT eU = sym (by k ek ∙ rw (not_false k z, free) (sym (ap (λ (y : List ℕ). placed true y) (eU ∙ ap (λ (y : List ℕ). method_put l i b y) eT))))
 
 -- ---- main
-pub no_ahead : (l : List ℕ) → length l ≡ 0 → 0 ≡ ahead_of l
-no_ahead [] e = refl
-no_ahead (b ∷ l) e = absurd (omega arith)
-
-module _ (l : List ℕ) where
-  pub input_ahead : get_or l 0 0 ≡ 4 → 2 ≡ ahead_of l
-  input_ahead e = rw e
-
-  pub plain_ahead : (get_or l 0 0 ≡ 4 → ⊥) → 0 ≡ ahead_of l
-  plain_ahead e = rw (ne_eqb (get_or l 0 0) 4 e)
 
 module _ (l : List ℕ) (k n : ℕ) where
   pub input_none : k ≡ 0 → true ≡ input_fits n k l
@@ -178,10 +156,10 @@ module _ (l B : List ℕ) (n k : ℕ) (ek : k ≡ ahead_of l) (f : Bool) (ef : f
   unfolding main_placed
   main_input e = rw (← ek, ← ef, not_true f e)
 
-  module _ (h : not f ≡ false) (w : ℕ) (ew : Wide k w) (g : Bool) (eg : g ≡ scan n 0 (drop (1 + w) l)) where
+  module _ (h : not f ≡ false) (w : ℕ) (ew : w ≡ k) (g : Bool) (eg : g ≡ scan n 0 (drop (1 + w) l)) where
     by_known : main_placed l n B ≡ pick g (placed true (main_put l B)) (placed false B)
     unfolding main_placed
-    by_known = let z = ew.same in rw (← ek, ← ef, not_false f h, ← z, ← eg)
+    by_known = rw (← ek, ← ef, not_false f h, ← ew, ← eg)
 
     pub main_unknown : not g ≡ true → placed false B ≡ main_placed l n B
     main_unknown e = sym (by_known ∙ rw (not_true g e))

@@ -1,12 +1,6 @@
 -- specs/Shapes at each return of the code.
-use mathlib.Core.Path.{◌≡◌, refl}
-use mathlib.Core.Bool.{Bool, true, false, false≢true}
-use mathlib.Core.List.{List}
-use Prim.Native.Nat.{ℕ, ◌+◌, ◌-◌, ◌<◌, ◌≤◌}
-use native.Mathlib.Omega.{arith}
-use lib.ListN.{get_or}
-use lib.Dec.{eqb, ltb}
-use borrow.Author.Tests.{ne_eqb, lt-ltb, le-ltb, eqb-true, ltb-true}
+use Rattle.std.proofs.Common.{◌≡◌, refl, Bool, true, false, List, ℕ, ◌+◌, ◌-◌, ◌<◌, ◌≤◌, arith, get_or, eqb, ltb, lt-ltb, le-ltb, eqb-true, ltb-true}
+use Rattle.std.proofs.Math.Bool.{false≢true}
 use Rattle.lineform.specs.Signs.{this_sign, res_sign, parameter_sign, field_sign, call_sign, new_sign, number_sign, sum_sign, difference_sign, choose_sign, sign_row, sign_size}
 use Rattle.lineform.proofs.SignLaws.{size_short}
 use Rattle.classes.specs.Machine.{pick}
@@ -19,45 +13,6 @@ use Rattle.classes.specs.Shapes.{byte_in, shape_by, shape_of, shape_at, is_field
 module _ (B : List ℕ) (at : ℕ) where
   pub byte_in_lem : at < table_size → get_or B at 0 ≡ byte_in B at
   byte_in_lem h = rw (lt-ltb at table_size h)
-
-  pub byte_past : table_size ≤ at → 0 ≡ byte_in B at
-  byte_past h = rw (le-ltb at table_size h)
-
--- ---- by the first byte
-module _ (b k n at next : ℕ) (en : next ≡ at + sign_size b) where
-  pub shape_this : b ≡ this_sign → This next ≡ shape_of b k n at
-  shape_this e = rw (en, e)
-
-  pub shape_result : b ≡ res_sign → Result next ≡ shape_of b k n at
-  shape_result e = rw (en, e)
-
-  pub shape_parameter : b ≡ parameter_sign → Parameter k next ≡ shape_of b k n at
-  shape_parameter e = rw (en, e)
-
-  pub shape_field : b ≡ field_sign → Field k next ≡ shape_of b k n at
-  shape_field e = rw (en, e)
-
-  pub shape_call : b ≡ call_sign → Call k n next ≡ shape_of b k n at
-  shape_call e = rw (en, e)
-
-  pub shape_new : b ≡ new_sign → New k n next ≡ shape_of b k n at
-  shape_new e = rw (en, e)
-
-  pub shape_number : b ≡ number_sign → Number k n next ≡ shape_of b k n at
-  shape_number e = rw (en, e)
-
-  pub shape_sum : b ≡ sum_sign → Combine Sum next ≡ shape_of b k n at
-  shape_sum e = rw (en, e)
-
-  pub shape_difference : b ≡ difference_sign → Combine Difference next ≡ shape_of b k n at
-  shape_difference e = rw (en, e)
-
-  pub shape_choose : b ≡ choose_sign → Choose next ≡ shape_of b k n at
-  shape_choose e = rw (en, e)
-
-pub shape_none : (b k n at : ℕ) → (b ≡ this_sign → ⊥) → (b ≡ res_sign → ⊥) → (b ≡ parameter_sign → ⊥) → (b ≡ field_sign → ⊥) → (b ≡ call_sign → ⊥) → (b ≡ new_sign → ⊥) → (b ≡ number_sign → ⊥) → (b ≡ sum_sign → ⊥) → (b ≡ difference_sign → ⊥) → (b ≡ choose_sign → ⊥) → Nothing ≡ shape_of b k n at
-shape_none b k n at p q r s t u v w x y =
-    rw (ne_eqb _ _ p, ne_eqb _ _ q, ne_eqb _ _ r, ne_eqb _ _ s, ne_eqb _ _ t, ne_eqb _ _ u, ne_eqb _ _ v, ne_eqb _ _ w, ne_eqb _ _ x, ne_eqb _ _ y)
 
 -- ---- by the place
 module _ (B : List ℕ) (at : ℕ) where

@@ -1,17 +1,11 @@
 -- The walk over the signs of an expression: what it keeps, one law for each return, and that it ends after the expression's code.
 -- Not here: what stands at a place (ShapesOn).
-use Prim.Native.Nat.{ℕ, zero, suc, ◌+◌, ◌-◌, ◌*◌, ◌<◌, ◌≤◌}
-use native.Mathlib.Omega.{arith}
-use mathlib.Core.Path.{◌≡◌, refl, sym, ap, ap₂, ◌∙◌, subst}
-use mathlib.Core.Bool.{Bool, true, false}
-use mathlib.Core.List.{List, [], ◌∷◌, ◌++◌}
-use lib.Dec.{eqb, leb}
-use lib.ListN.{length, get_or, length-append}
-use borrow.Author.Tests.{eq-eqb, ne_eqb, le-leb, lt-leb, eqb-false, leb-true, leb-false}
+use Rattle.std.proofs.Common.{ℕ, zero, suc, ◌+◌, ◌-◌, ◌*◌, ◌<◌, ◌≤◌, arith, ◌≡◌, refl, sym, ap, ap₂, ◌∙◌, subst, Bool, true, false, List, [], ◌∷◌, ◌++◌, eqb, leb, length, length-append, eq-eqb, ne_eqb, le-leb, leb-true, leb-false}
+use borrow.Author.Tests.{lt-leb, eqb-false}
 use Rattle.cofj.specs.Syntax.{Operation, sum, difference, Expr, this, res, param, field, call, new, literal, combine, choose, Exprs, done, also, count, Table}
 use Rattle.cofj.specs.Writing.{number_bytes, operation_sign, code_of, codes_of}
 use Rattle.lineform.specs.declared.sign.SignRow.{SignRow}
-use Rattle.lineform.specs.Signs.{this_sign, res_sign, parameter_sign, field_sign, call_sign, new_sign, number_sign, sum_sign, difference_sign, choose_sign, row, sign_row, InTable}
+use Rattle.lineform.specs.Signs.{this_sign, res_sign, parameter_sign, field_sign, call_sign, new_sign, number_sign, sum_sign, difference_sign, choose_sign, row, sign_row}
 use Rattle.classes.specs.Figures.{table_size}
 use Rattle.classes.specs.Machine.{pick}
 use Rattle.classes.specs.Layout.{layout, Stands}
@@ -67,9 +61,6 @@ module _ (B : List ℕ) where
       rw (q, lt-leb table_size at h, e, ne_eqb size 0 nz)
       (enough (table_size - (at + 1)) (table_size - (at + size)) (left + parts) (at + size) (omega arith) (omega arith))
 
-pub sign_in : (B : List ℕ) (at n : ℕ) (g : SignRow) → n ≡ byte_in B (at + 2) → n < 256 → InTable (get_or B at 0) n g → SignIn B at g
-sign_in B at n g en small t = record { is = t.is ∙ ap (sign_row (get_or B at 0)) en; short = t.short; few = omega (arith, t.few) }
-
 -- ---- what the walk keeps, from `from` on
 pub record Skips (B : List ℕ) (from left at : ℕ) : Type 0 where
   pub is : skip_of B from ≡ skip_from B left at
@@ -98,9 +89,6 @@ module _ (B : List ℕ) (from left at : ℕ) (s : Skips B from left at) where
   skip_none g t z = ended (stuck B (table_size - at) left at (ap (λ (x : SignRow). x.size) (sym t.is) ∙ z))
 
   module _ (some_left : 0 < left) (h : at < table_size) (g : SignRow) (t : SignIn B at g) where
-    pub skip_room : left - 1 + g.parts < 18446744073709551616
-    skip_room = omega (arith, s.few, t.few)
-
     pub skip_next : (g.size ≡ 0 → ⊥) → Skips B from (left - 1 + g.parts) (at + g.size)
     skip_next nz = record {
       is = s.is ∙ ap (λ (k : ℕ). skip_from B k at) (let q : left ≡ suc (left - 1) = omega arith in q) ∙ step B (left - 1) at g.size g.parts h (sym t.is) nz;

@@ -1,14 +1,10 @@
 -- All lines of a text into a table: the language's `table` of the frames, and the table's bytes.
-use Prim.Native.Nat.{ℕ, zero, suc, ◌+◌, ◌-◌, ◌*◌, ◌<◌, ◌≤◌, zero-le}
-use native.Mathlib.Omega.{arith}
-use mathlib.Core.Path.{◌≡◌, refl, sym, ap, ap₂, ◌∙◌}
-use mathlib.Core.Bool.{Bool, true, false, ◌&&◌, false≢true}
-use mathlib.Core.List.{List, [], ◌∷◌, ◌++◌, append_assoc}
-use mathlib.Core.Option.{Option, none, some, none-ne-some}
-use lib.Dec.{eqb, ltb}
-use lib.ListN.{length, get_or, get_elem?, set, replicate, length-append, length-set, length-replicate, get_or-replicate, get_or-eq_default}
-use lib.Seq.{sets, length-sets, get_or-set_same, get_or-set_other}
-use borrow.Author.Tests.{eqb-true, eqb-false, ltb-true, ltb-false, le-leb, lt-leb, le-ltb}
+use Rattle.std.proofs.Common.{ℕ, zero, suc, ◌+◌, ◌-◌, ◌*◌, ◌<◌, ◌≤◌, zero-le, arith, ◌≡◌, refl, sym, ap, ap₂, ◌∙◌, Bool, true, false, ◌&&◌, List, [], ◌∷◌, ◌++◌, append_assoc, eqb, ltb, length, get_or, set, replicate, length-append, length-set, get_or-set_same, get_or-set_other, Some, None, eqb-true, ltb-true, ltb-false, le-leb, le-ltb}
+use Rattle.std.proofs.Math.Bool.{false≢true}
+use Rattle.std.proofs.Math.Option.{Option, none, some, none-ne-some}
+use Rattle.std.proofs.Math.ListN.{get_elem?, length-replicate, get_or-replicate, get_or-eq_default}
+use Rattle.std.proofs.Math.Seq.{sets, length-sets}
+use borrow.Author.Tests.{eqb-false, lt-leb}
 use Rattle.cofj.specs.Limits.{class_count, method_count, line_size}
 use Rattle.cofj.specs.Partial.{◌>>=◌, guard}
 use Rattle.cofj.specs.Syntax.{Expr, Ty, Class, Method, Table}
@@ -18,7 +14,6 @@ use Rattle.cofj.specs.Writing.{code_of, method_lines, main_line}
 use Rattle.cofj.specs.WellFormed.{AllMethods}
 use Rattle.lineform.specs.Packed.{packed}
 use Rattle.lineform.proofs.PackedLaws.{packed-append}
-use Rattle.classes.specs.declared.build.Lines.TheVariants.{At, Refused}
 use Rattle.classes.specs.Machine.{pick}
 use Rattle.classes.specs.Figures.{table_size}
 use Rattle.classes.specs.Layout.{zeros, class_row, index_from, long_byte, right_place, ahead_of, filled, layout}
@@ -212,8 +207,8 @@ and_last true b c = refl
 and_last false b c = refl
 
 stops : (w : Walked) (f : ℕ → List ℕ → Placed) → refused w ≡ true → answer (and_then w f) ≡ false
-stops (walked Refused B) f e = refl
-stops (walked (At a) B) f e = absurd (false≢true e)
+stops (walked None B) f e = refl
+stops (walked (Some a) B) f e = absurd (false≢true e)
 
 -- frames that are few and short enough, as every text's are
 pub record Short (r : Raw) : Type 0 where

@@ -1,20 +1,13 @@
 -- What stands where in the bytes of a table. Not here: what the functions make of it (OnTables).
-use Prim.Native.Nat.{ℕ, zero, suc, ◌+◌, ◌-◌, ◌*◌, ◌/◌, ◌%◌, ◌<◌, ◌≤◌}
-use native.Mathlib.Nat.{not-suc-le-zero}
-use native.Mathlib.Omega.{arith}
-use mathlib.Core.Path.{◌≡◌, refl, ap, ◌∙◌, subst}
-use mathlib.Core.List.{List, [], ◌∷◌, ◌++◌, append-nil}
-use mathlib.Core.Option.{Option, none, some, none-ne-some}
-use lib.Dec.{eqb}
-use lib.ListN.{length, get_or, get_elem?, length-append, get_or-append}
-use lib.Seq.{get_or-append-add}
-use borrow.Author.Tests.{lt-ltb, le-ltb, ne_eqb}
+use Rattle.std.proofs.Common.{ℕ, zero, suc, ◌+◌, ◌-◌, ◌*◌, ◌/◌, ◌%◌, ◌<◌, ◌≤◌, not-suc-le-zero, arith, ◌≡◌, refl, ap, ◌∙◌, subst, List, [], ◌∷◌, ◌++◌, append-nil, eqb, length, get_or, length-append, get_or-append-add, Some, None, lt-ltb, le-ltb, ne_eqb}
+use Rattle.std.proofs.Math.Option.{Option, none, some, none-ne-some}
+use Rattle.std.proofs.Math.ListN.{get_elem?, get_or-append}
 use Rattle.cofj.specs.Limits.{class_count, method_count, line_size}
 use Rattle.cofj.specs.Syntax.{Expr, Ty, Class, Method, Table}
 use Rattle.cofj.specs.Classes.{parent_of, class_at, own_or_none, fields_of, fields_to}
 use Rattle.cofj.specs.Writing.{code_of, types_bytes, method_line, main_line}
 use Rattle.classes.specs.declared.chain.FieldType.{FieldType}
-use Rattle.classes.specs.declared.chain.FieldFound.TheVariants as field
+use Rattle.std.specs.declared.option.Option.{Option as RustOption}
 use Rattle.classes.specs.Machine.{pick, type_at, row_of, left_of, right_of, main_place, input_type}
 use Rattle.classes.specs.Figures.{table_size, row_size, long_size, index_at, methods_at, main_at}
 use Rattle.classes.specs.Layout.{class_row, index_from, rest, right_place, long_byte, method_byte, input_size, ahead_of, byte_of, filled, tabulate, layout, bytes_of, found_type, Stands}
@@ -296,6 +289,6 @@ module _ (t : Table) where
   input_at = rw input_size_at (go t.input (λ j l. main_zone t j l))
     where
       go : (i : Option Ty) → ((j : ℕ) → j < long_size → get_or (layout t) (main_at + j) 0 ≡ long_byte (input_size i) (main_line i t.main) j)
-          → pick (eqb (input_size i) 0) field.Nothing (field.Type (type_at (layout t) (main_at + 1))) ≡ found_type i
+          → pick (eqb (input_size i) 0) None (Some (type_at (layout t) (main_at + 1))) ≡ found_type i
       go none f = refl
-      go (some u) f = ap field.Type (same_type (f 1 (omega arith)) (f 2 (omega arith)))
+      go (some u) f = ap {B = RustOption FieldType} Some (same_type (f 1 (omega arith)) (f 2 (omega arith)))

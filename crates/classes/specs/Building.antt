@@ -1,38 +1,42 @@
 -- What the functions make of a text's packed lines S, one after another. Not here: one line (Placing).
-use Rattle.std.specs.Prelude.{ℕ, zero, suc, ◌+◌, ◌-◌, true, false, List, leb, ltb, length, get_or, take, drop, set}
+use Rattle.std.specs.Prelude.{Some, None, ℕ, zero, suc, ◌+◌, ◌-◌, true, false, List, leb, ltb, length, get_or, take, drop, set}
+use Rattle.std.specs.declared.option.Option.{Option}
 use Rattle.classes.specs.Figures.{class_count_at, method_count_at}
-use Rattle.classes.specs.declared.build.Lines.{Lines}
-use Rattle.classes.specs.declared.build.Lines.TheVariants.{At, Refused}
 use Rattle.classes.specs.Machine.{pick}
 use Rattle.classes.specs.Placing.{Placed, placed, class_placed, method_placed, main_placed}
 
--- where the lines go on, and the table's bytes
+-- where the lines go on, if none is refused, and the table's bytes
 pub data Walked : Type 0 where
-  walked : Lines → List ℕ → Walked
+  walked : Option ℕ → List ℕ → Walked
+
+-- where the line at a place ends, if it is whole
+abbrev pub line_end : List ℕ → ℕ → Option ℕ
+line_end S at = pick (leb (length S) at) None (pick (ltb (length S - (at + 1)) (get_or S at 0)) None (Some (at + 1 + get_or S at 0)))
+
+abbrev pub by_line : {A : Type 0} → Option ℕ → A → (ℕ → A) → A
+by_line None x f = x
+by_line (Some e) x f = f e
 
 -- the line at a place
 abbrev pub line_at : List ℕ → ℕ → List ℕ
 line_at S at = take (get_or S at 0) (drop (at + 1) S)
 
 abbrev pub onward : Placed → (List ℕ → Walked) → Walked
-onward (placed false B) f = walked Refused B
+onward (placed false B) f = walked None B
 onward (placed true B) f = f B
 
 -- c lines from `at` on, each placed under its number: k, k + 1, ..
 unfoldable pub lines_placed : (List ℕ → ℕ → List ℕ → Placed) → List ℕ → ℕ → ℕ → ℕ → List ℕ → Walked
-lines_placed put S zero at k B = walked (At at) B
+lines_placed put S zero at k B = walked (Some at) B
 lines_placed put S (suc c) at k B =
-    pick (leb (length S) at) (walked Refused B)
-    (pick (ltb (length S - (at + 1)) (get_or S at 0)) (walked Refused B)
-    (onward (put (line_at S at) k B) (λ B'. lines_placed put S c (at + 1 + get_or S at 0) (k + 1) B')))
+    by_line (line_end S at) (walked None B) (λ e. onward (put (line_at S at) k B) (λ B'. lines_placed put S c e (k + 1) B'))
 
 unfoldable pub last_placed : List ℕ → ℕ → ℕ → List ℕ → Placed
-last_placed S at n B =
-    pick (leb (length S) at) (placed false B) (pick (ltb (length S - (at + 1)) (get_or S at 0)) (placed false B) (main_placed (line_at S at) n B))
+last_placed S at n B = by_line (line_end S at) (placed false B) (λ e. main_placed (line_at S at) n B)
 
 abbrev pub and_then : Walked → (ℕ → List ℕ → Placed) → Placed
-and_then (walked Refused B) f = placed false B
-and_then (walked (At a) B) f = f a B
+and_then (walked None B) f = placed false B
+and_then (walked (Some a) B) f = f a B
 
 abbrev pub counted : ℕ → ℕ → Placed → Placed
 counted n m (placed false B) = placed false B

@@ -1,5 +1,6 @@
 -- The bytes of a class table (docs/TABLE.md). Not here: its figures (Figures); what the functions answer of them (Machine).
-use Rattle.std.specs.Prelude.{ℕ, zero, suc, ◌+◌, ◌-◌, ◌*◌, ◌/◌, ◌%◌, ◌<◌, ◌≡◌, ◌&&◌, List, [], ◌∷◌, ◌++◌, eqb, ltb, length, get_or}
+use Rattle.std.specs.Prelude.{Some, None, ℕ, zero, suc, ◌+◌, ◌-◌, ◌*◌, ◌/◌, ◌%◌, ◌<◌, ◌≡◌, ◌&&◌, List, [], ◌∷◌, ◌++◌, eqb, ltb, length, get_or}
+use Rattle.std.specs.declared.option.Option.{Option as RustOption}
 use Rattle.std.proofs.Math.Option.{Option, none, some}
 use Rattle.std.proofs.Math.ListN.{get_elem?}
 use Rattle.cofj.specs.Syntax.{Ty, Class, Method, Table}
@@ -8,12 +9,9 @@ use Rattle.cofj.specs.Lookup as language
 use Rattle.cofj.specs.Writing.{code_of, types_bytes, method_line, main_line}
 use Rattle.cofj.specs.WellFormed.{WellFormed}
 use Rattle.classes.specs.declared.chain.FieldType.{FieldType}
-use Rattle.classes.specs.declared.chain.FieldFound.{FieldFound}
-use Rattle.classes.specs.declared.chain.FieldFound.TheVariants as field
 use Rattle.classes.specs.declared.methods.Found.{Found}
-use Rattle.classes.specs.declared.methods.Found.TheVariants as found
 use Rattle.classes.specs.Figures.{row_size, long_size, index_at, methods_at, main_at, last_byte, table_size, class_count_at}
-use Rattle.classes.specs.Machine.{pick}
+use Rattle.classes.specs.Machine.{pick, found_at}
 
 -- ---- rows; what follows in a row is zero
 abbrev pub zeros : ℕ → List ℕ
@@ -93,10 +91,10 @@ pub record Tabled (T : List ℕ) (t : Table) : Type 0 where
   pub bytes : T ≡ layout t
 
 -- ---- what a lookup finds, in bytes and in the language
-pub data Finds (ds : List Method) : Found → Option language.Found → Type 0 where
-  at : {o i : ℕ} {d : Method} → get_elem? ds i ≡ some d → Finds ds (found.At o i) (some (language.found_in o d))
-  nothing : Finds ds found.Nothing none
+pub data Finds (ds : List Method) : RustOption Found → Option language.Found → Type 0 where
+  at : {o i : ℕ} {d : Method} → get_elem? ds i ≡ some d → Finds ds (Some (found_at o i)) (some (language.found_in o d))
+  nothing : Finds ds None none
 
-abbrev pub found_type : Option Ty → FieldFound
-found_type none = field.Nothing
-found_type (some u) = field.Type (bytes_of u)
+abbrev pub found_type : Option Ty → RustOption FieldType
+found_type none = None
+found_type (some u) = Some (bytes_of u)

@@ -1,18 +1,11 @@
 -- What the functions answer of a table's bytes B, at the functions' own grain. Not here: that on the bytes of a table that is read these are
 -- the language's class fit, fields and lookup (proofs/OnTables).
-use Rattle.std.specs.Prelude.{◌≡◌, Bool, true, false, List, ℕ, zero, suc, ◌+◌, ◌-◌, ◌*◌, ◌%◌, ◌<◌, get_or, eqb, leb, ltb}
+use Rattle.std.specs.Prelude.{Some, None, ◌≡◌, Bool, true, false, List, ℕ, zero, suc, ◌+◌, ◌-◌, ◌*◌, ◌%◌, ◌<◌, get_or, eqb, leb, ltb}
+use Rattle.std.specs.declared.option.Option.{Option}
 use Rattle.cofj.specs.Limits.{class_count, method_count}
-use Rattle.classes.specs.Figures.{row_size, long_size, index_at, methods_at, main_at}
+use Rattle.classes.specs.Figures.{table_size, row_size, long_size, index_at, methods_at, main_at}
 use Rattle.classes.specs.declared.chain.FieldType.{FieldType}
-use Rattle.classes.specs.declared.chain.FieldFound.{FieldFound}
-use Rattle.classes.specs.declared.chain.FieldFound.TheVariants as field
 use Rattle.classes.specs.declared.methods.Found.{Found}
-use Rattle.classes.specs.declared.methods.Found.TheVariants as found
-
--- r is the byte x, as a wider number
-pub record Wide (x r : ℕ) : Type 0 where
-  pub same : r ≡ x
-  pub small : r < 256
 
 abbrev pub pick : {A : Type 0} → Bool → A → A → A
 pick true a b = a
@@ -38,42 +31,50 @@ abbrev pub type_at : List ℕ → ℕ → FieldType
 type_at B at = record { class = get_or B at 0; tag = get_or B (at + 1) 0 }
 
 -- own field j of class c
-abbrev pub own_field : List ℕ → ℕ → ℕ → FieldFound
-own_field B c j = pick (leb (get_or B (row_size * c + 2) 0) j) field.Nothing (field.Type (type_at B (row_size * c + 3 + 2 * j)))
+abbrev pub own_field : List ℕ → ℕ → ℕ → Option FieldType
+own_field B c j = pick (leb (get_or B (row_size * c + 2) 0) j) None (Some (type_at B (row_size * c + 3 + 2 * j)))
 
 -- w is the type that stands at r, or none where r is 0
-pub record Stored (B : List ℕ) (r : ℕ) (w : FieldFound) : Type 0 where
-  pub same : w ≡ pick (eqb r 0) field.Nothing (field.Type (type_at B r))
-  pub low : r + 1 < 25616
+pub record Stored (B : List ℕ) (r : ℕ) (w : Option FieldType) : Type 0 where
+  pub same : w ≡ pick (eqb r 0) None (Some (type_at B r))
+  pub low : r + 1 < table_size
 
 -- field f of class c, at most n steps up
-unfoldable pub field_in : List ℕ → ℕ → ℕ → ℕ → FieldFound
-field_in B zero c f = field.Nothing
+unfoldable pub field_in : List ℕ → ℕ → ℕ → ℕ → Option FieldType
+field_in B zero c f = None
 field_in B (suc n) c f =
-    pick (leb c (up B c)) field.Nothing
+    pick (leb c (up B c)) None
     (pick (ltb f (total_of B (up B c))) (field_in B n (up B c) f) (own_field B c (f - total_of B (up B c))))
 
-abbrev pub field_of : List ℕ → ℕ → ℕ → FieldFound
+abbrev pub field_of : List ℕ → ℕ → ℕ → Option FieldType
 field_of B c f = field_in B c c f
 
 -- what a byte of the index says of class c
-abbrev pub numbered : ℕ → ℕ → Found
-numbered c x = pick (eqb x 0) found.Nothing (found.At c (x - 1))
+abbrev pub found_at : ℕ → ℕ → Found
+found_at o i = record { owner = o; method = i }
+
+abbrev pub numbered : ℕ → ℕ → Option Found
+numbered c x = pick (eqb x 0) None (Some (found_at c (x - 1)))
+
+-- what class c has itself: the method of this number, if there is one
+abbrev pub owned : ℕ → Option ℕ → Option Found
+owned c None = None
+owned c (Some i) = Some (found_at c i)
 
 -- the method m of class c itself
-abbrev pub own_of : List ℕ → ℕ → ℕ → Found
-own_of B c m = pick (ltb class_count c) found.Nothing (numbered c (get_or B (index_at + long_size * c + m) 0))
+abbrev pub own_of : List ℕ → ℕ → ℕ → Option Found
+own_of B c m = pick (ltb class_count c) None (numbered c (get_or B (index_at + long_size * c + m) 0))
 
-abbrev pub or_else : Found → Found → Found
-or_else (found.At o i) g = found.At o i
-or_else found.Nothing g = g
+abbrev pub or_else : Option Found → Option Found → Option Found
+or_else (Some f) g = Some f
+or_else None g = g
 
 -- the method m of class c or of the nearest class above it, at most n steps up: the owner is the class in which the search stops, not what the method's row names
-unfoldable pub lookup_in : List ℕ → ℕ → ℕ → ℕ → Found
+unfoldable pub lookup_in : List ℕ → ℕ → ℕ → ℕ → Option Found
 lookup_in B zero c m = own_of B c m
-lookup_in B (suc n) c m = or_else (own_of B c m) (pick (leb c (up B c)) found.Nothing (lookup_in B n (up B c) m))
+lookup_in B (suc n) c m = or_else (own_of B c m) (pick (leb c (up B c)) None (lookup_in B n (up B c) m))
 
-abbrev pub lookup_of : List ℕ → ℕ → ℕ → Found
+abbrev pub lookup_of : List ℕ → ℕ → ℕ → Option Found
 lookup_of B c m = lookup_in B c c m
 
 -- ---- a method's row
@@ -81,17 +82,17 @@ abbrev pub row_of : ℕ → ℕ
 row_of i = methods_at + long_size * (i % method_count)
 
 -- a method that was found, if it has n parameters
-abbrev pub counted : List ℕ → ℕ → Found → Found
-counted B n (found.At o i) = pick (eqb (get_or B (row_of i + 7) 0) n) (found.At o i) found.Nothing
-counted B n found.Nothing = found.Nothing
+abbrev pub counted : List ℕ → ℕ → Option Found → Option Found
+counted B n (Some f) = pick (eqb (get_or B (row_of f.method + 7) 0) n) (Some f) None
+counted B n None = None
 
 -- the method m with n parameters that class c has, its own or the nearest above
-unfoldable pub method_with : List ℕ → ℕ → ℕ → ℕ → Found
+unfoldable pub method_with : List ℕ → ℕ → ℕ → ℕ → Option Found
 method_with B c m n = counted B n (lookup_of B c m)
 
-abbrev pub param_of : List ℕ → ℕ → ℕ → FieldFound
+abbrev pub param_of : List ℕ → ℕ → ℕ → Option FieldType
 param_of B i k =
-    pick (ltb 2 k) field.Nothing (pick (leb (get_or B (row_of i + 7) 0) k) field.Nothing (field.Type (type_at B (row_of i + 8 + 2 * k))))
+    pick (ltb 2 k) None (pick (leb (get_or B (row_of i + 7) 0) k) None (Some (type_at B (row_of i + 8 + 2 * k))))
 
 abbrev pub left_of : List ℕ → ℕ → ℕ
 left_of B i = row_of i + 8 + 2 * get_or B (row_of i + 7) 0
@@ -103,5 +104,5 @@ right_of B i = row_of i + get_or B (row_of i) 0
 abbrev pub main_place : List ℕ → ℕ
 main_place B = main_at + 1 + get_or B main_at 0
 
-abbrev pub input_type : List ℕ → FieldFound
-input_type B = pick (eqb (get_or B main_at 0) 0) field.Nothing (field.Type (type_at B (main_at + 1)))
+abbrev pub input_type : List ℕ → Option FieldType
+input_type B = pick (eqb (get_or B main_at 0) 0) None (Some (type_at B (main_at + 1)))

@@ -1,7 +1,10 @@
 -- What building a table and testing its overriding come to in the language: refusals 4 and 5.
 -- Not here: what the functions do byte by byte (Building, Overriding); that both agree (proofs/FromText).
-use Rattle.std.specs.Prelude.{ℕ, ◌<◌, ◌≡◌, Bool, true, false, List, length, get_or}
+use Rattle.std.specs.Prelude.{Ok, Err, is_ok, ℕ, ◌<◌, ◌≡◌, Bool, true, false, List, length, get_or}
+use Rattle.std.specs.declared.result.Result.{Result}
 use Rattle.std.proofs.Math.Option.{Option, none, some}
+use Rattle.cofj.specs.declared.Refusal.{Refusal}
+use Rattle.cofj.specs.declared.Refusal.TheVariants.{BadTable, BadOverride}
 use Rattle.cofj.specs.Partial.{◌>>=◌}
 use Rattle.cofj.specs.Syntax.{Table}
 use Rattle.cofj.specs.Frames.{TextFrame, frames}
@@ -36,12 +39,18 @@ pub record Makes (o : Option Table) (p : Placed) : Type 0 where
   pub refused : o ≡ none → answer p ≡ false
   pub made : (t : Table) → o ≡ some t → p ≡ placed true (layout t)
 
--- the answer and the bytes of `place_table`, byte by byte and in the language
-pub record Built (S R : List ℕ) (n m : ℕ) (B : List ℕ) (p : Placed) : Type 0 where
-  pub is : p ≡ table_placed S R n m B
-  pub makes : (r : Raw) → Lined S R r → n ≡ length r.classes → m ≡ length r.methods → Zeros B → Makes (table r) p
+-- a test that is passed, or the refusal k
+abbrev pub passed : Refusal → Bool → Result (Unit {0}) Refusal
+passed k true = Ok tt
+passed k false = Err k
+
+-- the answer g of `place_table` and the bytes that it leaves, byte by byte and in the language
+pub record Built (S R : List ℕ) (n m : ℕ) (B : List ℕ) (g : Result (Unit {0}) Refusal) (B' : List ℕ) : Type 0 where
+  pub refusal : g ≡ passed BadTable (is_ok g)
+  pub is : placed (is_ok g) B' ≡ table_placed S R n m B
+  pub makes : (r : Raw) → Lined S R r → n ≡ length r.classes → m ≡ length r.methods → Zeros B → Makes (table r) (placed (is_ok g) B')
 
 -- the answer of `overrides`
-pub record Overrides (B : List ℕ) (b : Bool) : Type 0 where
-  pub is : b ≡ overrides_of B
-  pub says : (S R : List ℕ) (r : Raw) (t : Table) → Lined S R r → table r ≡ some t → B ≡ layout t → b ≡ overrides_good t t.methods
+pub record Overrides (B : List ℕ) (g : Result (Unit {0}) Refusal) : Type 0 where
+  pub is : g ≡ passed BadOverride (overrides_of B)
+  pub says : (S R : List ℕ) (r : Raw) (t : Table) → Lined S R r → table r ≡ some t → B ≡ layout t → g ≡ passed BadOverride (overrides_good t t.methods)

@@ -1,13 +1,13 @@
 -- What the functions that build a table make of a line's bytes and of the table's bytes, at the functions' own grain.
 -- Not here: that this is the language's `table` on the lines of a text (proofs/Building).
-use Rattle.std.specs.Prelude.{ℕ, zero, suc, ◌+◌, ◌-◌, ◌*◌, Bool, true, false, not, ◌&&◌, ◌||◌, List, [], ◌∷◌, eqb, leb, ltb, length, get_or, drop, set}
+use Rattle.std.specs.Prelude.{Some, None, ℕ, zero, suc, ◌+◌, ◌-◌, ◌*◌, Bool, true, false, not, ◌&&◌, ◌||◌, List, [], ◌∷◌, eqb, leb, ltb, length, get_or, drop, set}
+use Rattle.std.specs.declared.option.Option.{Option}
 use Rattle.std.proofs.lemmas.List.Edits.{sets}
 use Rattle.cofj.specs.Typing.{closed_tag}
 use Rattle.cofj.specs.Limits.{class_count, field_count, number_class}
 use Rattle.lineform.specs.Signs.{new_sign, sign_size}
 use Rattle.classes.specs.Figures.{row_size, long_size, index_at, methods_at, main_at, last_byte}
 use Rattle.classes.specs.declared.methods.Found.{Found}
-use Rattle.classes.specs.declared.methods.Found.TheVariants as found
 use Rattle.classes.specs.Machine.{pick, total_of, own_of}
 use Rattle.classes.specs.Layout.{ahead_of}
 
@@ -83,9 +83,9 @@ unfoldable pub method_put : List ℕ → ℕ → ℕ → List ℕ → List ℕ
 method_put l i right B = set (sets (set B (methods_at + long_size * i) right) (methods_at + long_size * i + 1) (drop 1 l)) (methods_at + long_size * i + last_byte) (length l)
 
 -- where the class has no such method; the right expression stands at b
-abbrev pub method_free : List ℕ → ℕ → ℕ → List ℕ → Found → Placed
-method_free l i b B (found.At o j) = placed false B
-method_free l i b B found.Nothing = placed true (method_put l i b (index_put (get_or l 1 0) (get_or l 2 0) (i + 1) B))
+abbrev pub method_free : List ℕ → ℕ → ℕ → List ℕ → Option Found → Placed
+method_free l i b B (Some f) = placed false B
+method_free l i b B None = placed true (method_put l i b (index_put (get_or l 1 0) (get_or l 2 0) (i + 1) B))
 
 unfoldable pub method_placed : List ℕ → ℕ → ℕ → ℕ → List ℕ → Placed
 method_placed l i b n B = pick (method_good n l) (method_free l i b B (own_of B (get_or l 1 0) (get_or l 2 0))) (placed false B)

@@ -13,23 +13,17 @@ use lineform::sign::{NEW, sign_row};
 const BLOCK: usize = 16;
 
 // Tags 0 and 3 are closed.
-pub(crate) fn closed(g: u8) -> bool
+pub fn closed(g: u8) -> bool
     ensures { result ≡ closed_tag g }
 {
-    if g == 0 {
-        return true;
-    }
-    g == 3
+    matches!(g, 0 | 3)
 }
 
 // Whether c is one of the n classes, or the class byte of numbers.
 fn class_known(c: u8, n: u8) -> bool
     ensures { result ≡ known_class n c }
 {
-    if c <= n {
-        return true;
-    }
-    c == NUMBER_CLASS
+    c <= n || c == NUMBER_CLASS
 }
 
 // Whether the k types from `at` on have known classes and closed tags.
@@ -68,10 +62,8 @@ fn block_clear(s: &[u8], at: usize, n: u8) -> bool
     ensures { result ≡ none_above n s.now at 16 }
 {
     let mut good = true;
-    let mut k: usize = 0;
-    while k < BLOCK {
+    for k in 0..BLOCK {
         good = good & !names_above(s[at + k], s[at + k + 1], n);
-        k += 1;
     }
     good
 }
@@ -81,12 +73,10 @@ fn rest_clear(s: &[u8], at: usize, n: u8) -> bool
     requires { at < length s.now }
     ensures { result ≡ none_above n s.now at (length s.now - (at + 1)) }
 {
-    let mut p: usize = at;
-    while p + 1 < s.len() {
+    for p in at..s.len() - 1 {
         if names_above(s[p], s[p + 1], n) {
             return false;
         }
-        p += 1;
     }
     true
 }
@@ -97,6 +87,7 @@ fn none_above(s: &[u8], at: usize, n: u8) -> bool
     ensures { result ≡ none_above n s.now at (length s.now - (at + 1)) }
 {
     let mut p: usize = at;
+    // a block at a time: no range
     while p + BLOCK < s.len() {
         if !block_clear(s, p, n) {
             return false;
@@ -127,6 +118,7 @@ fn scan_known(s: &[u8], at: usize, n: u8) -> bool
     ensures { result ≡ scan n 0 (drop at s.now) }
 {
     let mut a: usize = at;
+    // by what each sign takes: no range
     while a < s.len() {
         let b = s[a];
         if !names_known(s, a, b, n) {

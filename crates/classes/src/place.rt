@@ -7,10 +7,10 @@ ghost use Rattle.classes.specs.Figures.{table_size};
 ghost use Rattle.classes.specs.Placing.{scan, placed, class_placed, index_put, method_put, method_placed, input_fits, main_put, main_placed};
 ghost use Rattle.classes.specs.Layout.{ahead_of};
 
-use crate::chain::field_total;
+use crate::chain::{class_row, field_total};
 use crate::known::{all_known, head_good, types_good};
 use crate::methods::own_number;
-use crate::places::{CLASSES, FIELDS, INDEX, LAST, LONG, MAIN, METHODS, ROW, SIZE, wide};
+use crate::places::{CLASSES, FIELDS, INDEX, LAST, LONG, MAIN, METHODS, SIZE};
 use lineform::lines::RIGHTS;
 
 // The first byte of a line of main that has a parameter, and the bytes of its type.
@@ -23,12 +23,8 @@ pub(crate) fn copy(l: &[u8], from: usize, t: &mut [u8; SIZE], to: usize)
     requires { (length l.now ≤ line_size) × (to + length l.now ≤ table_size) }
     ensures { t.new ≡ sets t.old to (drop from l.now) }
 {
-    let mut i: usize = from;
-    let mut o: usize = to;
-    while i < l.len() {
-        t[o] = l[i];
-        i += 1;
-        o += 1;
+    for i in from..l.len() {
+        t[to + i - from] = l[i];
     }
 }
 
@@ -62,7 +58,7 @@ pub(crate) fn place_class(l: &[u8], k: u8, n: u8, t: &mut [u8; SIZE]) -> bool
     if FIELDS < total {
         return false;
     }
-    let row = ROW * (k as usize);
+    let row = class_row(k);
     t[row] = p;
     t[row + 1] = total;
     copy(l, 3, t, row + 2);
@@ -74,7 +70,7 @@ fn bodies_known(l: &[u8], n: u8) -> bool
     requires { (8 ≤ length l.now) × (length l.now ≤ line_size) }
     ensures { result ≡ scan n 0 (drop (8 + 2 * get_or l.now 7 0) l.now) }
 {
-    all_known(l, 8 + 2 * wide(l[7]), n)
+    all_known(l, 8 + 2 * usize::from(l[7]), n)
 }
 
 // Sets the index of class c under the name m.
@@ -84,7 +80,7 @@ pub(crate) fn put_index(c: u8, m: u8, x: u8, t: &mut [u8; SIZE])
     if CLASSES < c {
         return;
     }
-    t[INDEX + LONG * (c as usize) + (m as usize)] = x;
+    t[INDEX + LONG * usize::from(c) + usize::from(m)] = x;
 }
 
 // Writes the row of method i.
@@ -92,7 +88,7 @@ pub(crate) fn put_method(l: &[u8], i: u8, right: u8, t: &mut [u8; SIZE])
     requires { (length l.now ≤ line_size) × (i < method_count) }
     ensures { t.new ≡ method_put l.now i right t.old }
 {
-    let b = METHODS + LONG * (i as usize);
+    let b = METHODS + LONG * usize::from(i);
     t[b] = right;
     copy(l, 1, t, b + 1);
     t[b + LAST] = l.len() as u8;
@@ -117,13 +113,13 @@ pub(crate) fn place_method(
     }
     let c = l[1];
     let m = l[2];
-    if own_number(t, c, m) != 0 {
+    if own_number(t, c, m).is_some() {
         return false;
     }
     if !bodies_known(l, n) {
         return false;
     }
-    let b = rights[i as usize];
+    let b = rights[usize::from(i)];
     put_index(c, m, i + 1, t);
     put_method(l, i, b, t);
     true
@@ -133,7 +129,7 @@ pub(crate) fn place_method(
 fn input_size(l: &[u8]) -> u8
     ensures { result ≡ ahead_of l.now }
 {
-    if l.len() == 0 {
+    if l.is_empty() {
         return 0;
     }
     if l[0] == INPUT {
@@ -177,7 +173,7 @@ pub(crate) fn place_main(l: &[u8], n: u8, t: &mut [u8; SIZE]) -> bool
     if !input_fits(l, k, n) {
         return false;
     }
-    if !all_known(l, 1 + wide(k), n) {
+    if !all_known(l, 1 + usize::from(k), n) {
         return false;
     }
     put_main(l, k, t);

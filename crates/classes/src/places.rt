@@ -1,5 +1,4 @@
 // The places of a class table's bytes, each figure named once. docs/TABLE.md says what stands where.
-ghost use Rattle.classes.specs.Machine.{Wide};
 
 // all bytes of a table
 pub const SIZE: usize = 25616;
@@ -35,10 +34,3 @@ pub const LAST: usize = 255;
 pub const CLASS_COUNT_AT: usize = 11;
 
 pub const METHOD_COUNT_AT: usize = 12;
-
-// A byte as an index.
-pub(crate) fn wide(x: u8) -> usize
-    ensures { Wide x result }
-{
-    x as usize
-}

@@ -35,10 +35,7 @@ pub enum Shape {
 pub fn byte_at(t: &[u8; SIZE], at: usize) -> u8
     ensures { result ≡ byte_in t.now at }
 {
-    if at < SIZE {
-        return t[at];
-    }
-    0
+    t.get(at).copied().unwrap_or(0)
 }
 
 // What an expression at `at` is whose first three bytes are b, k and n.
@@ -46,67 +43,49 @@ pub(crate) fn shape_of(b: u8, k: u8, n: u8, at: usize) -> Shape
     requires { at < table_size }
     ensures { result ≡ shape_of b k n at }
 {
-    if b == THIS {
-        return Shape::This {
+    match b {
+        THIS => Shape::This {
             next: past_sign(b, at),
-        };
-    }
-    if b == RES {
-        return Shape::Result {
+        },
+        RES => Shape::Result {
             next: past_sign(b, at),
-        };
-    }
-    if b == PARAMETER {
-        return Shape::Parameter {
+        },
+        PARAMETER => Shape::Parameter {
             k,
             next: past_sign(b, at),
-        };
-    }
-    if b == FIELD {
-        return Shape::Field {
+        },
+        FIELD => Shape::Field {
             f: k,
             next: past_sign(b, at),
-        };
-    }
-    if b == CALL {
-        return Shape::Call {
+        },
+        CALL => Shape::Call {
             m: k,
             n,
             next: past_sign(b, at),
-        };
-    }
-    if b == NEW {
-        return Shape::New {
+        },
+        NEW => Shape::New {
             c: k,
             n,
             next: past_sign(b, at),
-        };
-    }
-    if b == NUMBER {
-        return Shape::Number {
+        },
+        NUMBER => Shape::Number {
             k,
             n,
             next: past_sign(b, at),
-        };
-    }
-    if b == SUM {
-        return Shape::Combine {
+        },
+        SUM => Shape::Combine {
             o: Operation::Sum,
             next: past_sign(b, at),
-        };
-    }
-    if b == DIFFERENCE {
-        return Shape::Combine {
+        },
+        DIFFERENCE => Shape::Combine {
             o: Operation::Difference,
             next: past_sign(b, at),
-        };
-    }
-    if b == CHOOSE {
-        return Shape::Choose {
+        },
+        CHOOSE => Shape::Choose {
             next: past_sign(b, at),
-        };
+        },
+        _ => Shape::Nothing,
     }
-    Shape::Nothing
 }
 
 // What stands at a place. Nearly all places have two more after them.
@@ -126,8 +105,5 @@ pub fn shape_at(t: &[u8; SIZE], at: usize) -> Shape
 pub fn is_field(t: &[u8; SIZE], at: usize) -> bool
     ensures { result ≡ is_field t.now at }
 {
-    if at < SIZE - 2 {
-        return t[at] == FIELD;
-    }
-    false
+    at < SIZE - 2 && t[at] == FIELD
 }

@@ -23,6 +23,7 @@ pub fn skip_expr(t: &[u8; SIZE], from: usize) -> usize
 {
     let mut at: usize = from;
     let mut left: usize = 1;
+    // by what each sign takes, until no expression is left: no range
     while 0 < left {
         if SIZE <= at {
             return at;

@@ -10,7 +10,7 @@ use lib.Dec.{eqb, ltb}
 use lib.ListN.{length, get_elem?, length-map}
 use borrow.Author.Tests.{ltb-true, ltb-false}
 use Rattle.cofj.specs.Limits.{number_count}
-use Rattle.cofj.specs.Syntax.{Operation, sum, difference, count, Table}
+use Rattle.cofj.specs.Syntax.{Operation, sum, difference, Table}
 use Rattle.cofj.specs.Classes.{fields_of}
 use Rattle.cofj.specs.Values.{Ref, obj, leaf, Leaf, mark, undet, num, node, Graph, graph, rename_node, refs_at, canon, lay, select, selected, close, bind_leaf, bind, make, leaf_of, leaf_number, number_in}
 use Rattle.cofj.specs.Running.{Outcome, value, stopped, Stop, ◌then◌, or_stuck, sized, reckon}

@@ -8,7 +8,7 @@ use mathlib.Core.Option.{some, none-ne-some}
 use lib.Dec.{eqb}
 use lib.ListN.{length, get_or, get_elem?, length-map}
 use borrow.Author.Tests.{eqb-false}
-use Rattle.cofj.specs.Syntax.{count, Table}
+use Rattle.cofj.specs.Syntax.{Table}
 use Rattle.cofj.specs.Classes.{fields_to}
 use Rattle.cofj.specs.Values.{Ref, obj, leaf, Leaf, mark, undet, num, Node, node, Graph, rename, rename_node, node_at, canon, colours, visit, bind, bind_leaf, leaf_of}
 use Rattle.cofj.specs.Unfolding.{Whole, AllWhole}

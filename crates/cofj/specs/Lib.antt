@@ -3,7 +3,7 @@
 --   the text and its table: Limits, Text, Syntax, Classes, Lookup, Frames, Tables, Reading, Writing;
 --   types: TypingRules, with Env and the tags from Typing;
 --   values and runs: Values, Unfolding, RunningRules, with Outcome, Frame and open_mark from Running;
---   the calls: Report, Batch for the second text of a run, Calls, Show, Finding; then Soundness and Promises.
+--   the calls: Refusals, Report, Batch for the second text of a run, Calls, Show, Finding; then Soundness and Promises.
 -- Skip at first: Partial and Bytes (helpers), the functions of Typing and Running (proved to compute the rules), Formed and WellFormed (what
 -- proofs need of values and tables), ReportForm (which texts are reports), Rows (the cases A to J), RequestRows (examples of document 02's requests).
 pub mod Limits
@@ -24,6 +24,7 @@ pub mod Values
 pub mod Unfolding
 pub mod Running
 pub mod RunningRules
+pub mod Refusals
 pub mod Report
 pub mod Formed
 pub mod ReportForm

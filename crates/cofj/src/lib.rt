@@ -1,5 +1,8 @@
-// The plain types that the definitions (specs/) and every crate above share. No code: the crate is its definitions and theorems.
+// The plain types that the definitions (specs/) and every crate above share. The crate is its definitions and theorems; the one function says a refusal's number.
 #![tactic(auto)]
+
+ghost use Rattle.std.specs.Prelude.{◌≡◌};
+ghost use Rattle.cofj.specs.Refusals.{refusal_number};
 
 // A session: open or closed, and the fuel that is left.
 #[repr(C)]
@@ -60,4 +63,32 @@ pub struct Finding {
     pub found: bool,
     pub owner: u8,
     pub method: u8,
+}
+
+// Why a call is refused: the cases of documents 01 and 02, each with its number.
+#[derive(Clone, Copy)]
+pub enum Refusal {
+    NoLineForm = 1,
+    BadFrame = 2,
+    BadOrder = 3,
+    BadTable = 4,
+    BadOverride = 5,
+    UntypedMethod = 6,
+    UntypedMain = 7,
+    UnreadableTable = 8,
+    ShortText = 9,
+    ClosedSession = 11,
+    ShortReport = 12,
+    ShortWork = 13,
+    BadParts = 14,
+    UnfitParts = 15,
+}
+
+impl Refusal {
+    // Its number in an answer, where 0 stands for no refusal.
+    pub fn number(self) -> u8
+        ensures { result ≡ refusal_number self }
+    {
+        self as u8
+    }
 }

@@ -1,13 +1,5 @@
 -- Laws of where the input of `linerun` is cut.
-use Prim.Native.Nat.{ℕ, suc, ◌+◌, ◌-◌, ◌≤◌, ◌<◌}
-use native.Mathlib.Omega.{arith}
-use mathlib.Core.Path.{◌≡◌, refl, sym, ap, ◌∙◌}
-use mathlib.Core.Bool.{Bool, true, false, ◌&&◌, cond}
-use mathlib.Core.List.{List, [], ◌∷◌}
-use lib.Dec.{eqb}
-use lib.ListN.{length, get_or, take, drop, length-drop, drop_of_length-le}
-use lib.Seq.{drop-cons, drop-drop, length-take-le}
-use borrow.Author.Tests.{eq-eqb, ne_eqb}
+use Rattle.std.proofs.Common.{ℕ, suc, ◌+◌, ◌-◌, ◌≤◌, ◌<◌, arith, ◌≡◌, refl, sym, ap, ◌∙◌, Bool, true, false, ◌&&◌, cond, List, [], ◌∷◌, eqb, length, get_or, take, drop, length-drop, drop_of_length-le, drop-cons, drop-drop, length-take-le, eq-eqb, ne_eqb}
 use Rattle.cofj.specs.Show.{begins04, line_length, first_length}
 
 -- the character at a place and those after it
@@ -62,9 +54,9 @@ module _ (s : List ℕ) (i n : ℕ) (e : i + line_length (drop i s) ≡ n) where
   line_more h q =
       let z = line_here h ∙ ap (λ (b : Bool). suc (cond b 0 (line_length (drop (i + 1) s)))) (ne_eqb (get_or s i 0) 10 q) in omega arith
 
-  pub line_over : length s ≤ i → i ≡ n
+  pub line_over : i ≤ length s → length s ≤ i → length s ≡ n
   unfolding line_length
-  line_over h = let z = ap line_length (drop_of_length-le s h) in omega arith
+  line_over l h = let z = ap line_length (drop_of_length-le s h) in omega arith
 
 -- ---- the first text, line by line
 pub zero_before : (s : List ℕ) → 0 + first_length true (drop 0 s) ≡ first_length true s

@@ -1,10 +1,11 @@
 -- Laws of what the second text of a run gives main.
-use Prim.Native.Nat.{ℕ}
-use native.Mathlib.Omega.{arith}
-use mathlib.Core.Path.{◌≡◌, refl, sym, ap, ◌∙◌}
-use mathlib.Core.List.{List, [], ◌∷◌}
-use mathlib.Core.Option.{Option, none, some}
-use lib.ListN.{length}
+use Rattle.std.proofs.Common.{ℕ, arith, ◌≡◌, refl, sym, ap, ◌∙◌, List, [], ◌∷◌, length, true, false, Some, None, Ok, Err}
+use Rattle.std.proofs.Math.Option.{Option, none, some}
+use Rattle.std.specs.declared.option.Option.{Option as RustOption}
+use Rattle.std.specs.declared.result.Result.{Result}
+use Rattle.cofj.specs.declared.Refusal.{Refusal}
+use Rattle.cofj.specs.declared.Refusal.TheVariants.{BadParts}
+use Rattle.cofj.specs.Refusals.{refusal_number}
 use Rattle.cofj.specs.Limits.{standard}
 use Rattle.cofj.specs.Syntax.{Ty, ty, Table}
 use Rattle.cofj.specs.Values.{Graph}
@@ -13,17 +14,12 @@ use Rattle.cofj.specs.Batch.{input_of}
 use Rattle.cofj.specs.Calls.{Admitted, declined, admitted, without_input, with_input, feed}
 use Rattle.cofj.proofs.Batch.{given_good}
 use Rattle.classes.specs.declared.chain.FieldType.{FieldType}
-use Rattle.classes.specs.declared.chain.FieldFound.{FieldFound}
-use Rattle.classes.specs.declared.chain.FieldFound.TheVariants as field
 use Rattle.classes.specs.Layout.{Tabled, bytes_of, found_type}
 use Rattle.classes.specs.Machine.{input_type}
 use Rattle.classes.proofs.Zones.{input_at}
 use Rattle.canon.specs.Numbers.{Has}
-use Rattle.batch.specs.declared.input.Input.{Input}
-use Rattle.batch.specs.declared.input.Input.TheVariants as input
 use Rattle.batch.specs.Inputs.{SomeTable, Answered, TextGiven}
 use Rattle.evaluator.proofs.Promise.{has_input}
-use Rattle.engine.specs.declared.feed.Fed.TheVariants.{Nothing, Value, Refused}
 use Rattle.engine.specs.Feeding.{TextFed}
 
 -- what is fed, by main's row
@@ -34,40 +30,40 @@ feed_by : (t : Table) (i : List ℕ) (o : Option Ty) → t.input ≡ o → feed 
 unfolding feed
 feed_by t i o e = ap (fed_by t i) e
 
-found_is : (T : List ℕ) (t : Table) (w : FieldFound) → Tabled T t → w ≡ input_type T → w ≡ found_type t.input
+found_is : (T : List ℕ) (t : Table) (w : RustOption FieldType) → Tabled T t → w ≡ input_type T → w ≡ found_type t.input
 found_is T t w k e = e ∙ ap input_type k.bytes ∙ input_at t
 
 -- ---- an `03` main
-module _ (T i B : List ℕ) (w : FieldFound) (e : w ≡ input_type T) (q : w ≡ field.Nothing) where
+module _ (T i B : List ℕ) (w : RustOption FieldType) (e : w ≡ input_type T) (q : w ≡ None) where
   without : (t : Table) → Tabled T t → t.input ≡ none
   without t k = go t.input (sym q ∙ found_is T t w k e)
     where
-      go : (o : Option Ty) → field.Nothing ≡ found_type o → o ≡ none
+      go : (o : Option Ty) → None ≡ found_type o → o ≡ none
       go none z = refl
-      go (some u) z = absurd (let y : ◌≡◌ {A = ℕ} 0 1 = cc in omega arith)
+      go (some u) z = cc
 
-  pub text_unwanted : (length i ≡ 0 → ⊥) → TextFed T i B (Refused 14)
-  text_unwanted n = record { is = λ t k. feed_by t i none (without t k) ∙ go t i n; inside = λ z. absurd (let y : ◌≡◌ {A = ℕ} 0 1 = cc in omega arith) }
+  pub text_unwanted : (length i ≡ 0 → ⊥) → TextFed T i B (Err BadParts)
+  text_unwanted n = record { is = λ t k. feed_by t i none (without t k) ∙ go t i n; inside = λ z. cc }
     where
       go : (t : Table) (s : List ℕ) → (length s ≡ 0 → ⊥) → without_input t s ≡ declined 14
       go t [] n = absurd (n refl)
       go t (c ∷ s) n = refl
 
-  pub nothing_fed : length i ≡ 0 → TextFed T i B Nothing
-  nothing_fed l = record { is = λ t k. feed_by t i none (without t k) ∙ go t i l; inside = λ z. absurd (let y : ◌≡◌ {A = ℕ} 0 1 = cc in omega arith) }
+  pub nothing_fed : length i ≡ 0 → TextFed T i B (Ok false)
+  nothing_fed l = record { is = λ t k. feed_by t i none (without t k) ∙ go t i l; inside = λ z. cc }
     where
       go : (t : Table) (s : List ℕ) → length s ≡ 0 → without_input t s ≡ admitted t none
       go t [] l = refl
       go t (c ∷ s) l = absurd (omega arith)
 
 -- ---- an `04` main
-module _ (T i B : List ℕ) (w : FieldFound) (u : FieldType) (e : w ≡ input_type T) (q : w ≡ field.Type u) (r : Input) (g : TextGiven T i u.class standard.objects B r) where
+module _ (T i B : List ℕ) (w : RustOption FieldType) (u : FieldType) (e : w ≡ input_type T) (q : w ≡ Some u) (r : Result (Unit {0}) Refusal) (g : TextGiven T i u.class standard.objects B r) where
   -- the type of its parameter
   with_type : (t : Table) → Tabled T t → t.input ≡ some (ty u.class 0)
   with_type t k = go t.input refl (sym q ∙ found_is T t w k e)
     where
-      go : (o : Option Ty) → t.input ≡ o → field.Type u ≡ found_type o → o ≡ some (ty u.class 0)
-      go none p z = absurd (let y : ◌≡◌ {A = ℕ} 0 1 = cc in omega arith)
+      go : (o : Option Ty) → t.input ≡ o → Some u ≡ found_type o → o ≡ some (ty u.class 0)
+      go none p z = cc
       go (some v) p z =
           let c : v.cls ≡ u.class = sym (ap (λ (x : FieldType). x.class) (let y : u ≡ bytes_of v = cc in y)) in
           let d : v.tag ≡ 0 = k.formed.input_tag v p in
@@ -76,27 +72,29 @@ module _ (T i B : List ℕ) (w : FieldFound) (u : FieldType) (e : w ≡ input_ty
   feed_given : (t : Table) → Tabled T t → (x : language.Input) → input_of standard.objects t.classes (ty u.class 0) i ≡ x → feed t i ≡ with_input t x
   feed_given t k x p = feed_by t i (some (ty u.class 0)) (with_type t k) ∙ ap (with_input t) p
 
-  pub text_refused : (n : ℕ) → r ≡ input.Refused n → TextFed T i B (Refused n)
+  pub text_refused : (n : Refusal) → r ≡ Err n → TextFed T i B (Err n)
   text_refused n p = record {
     is = λ t k. go t k (input_of standard.objects t.classes (ty u.class 0) i) refl (g.of t k);
-    inside = λ z. absurd (let y : ◌≡◌ {A = ℕ} 0 1 = cc in omega arith);
+    inside = λ z. cc;
   }
     where
-      go : (t : Table) → Tabled T t → (x : language.Input) → input_of standard.objects t.classes (ty u.class 0) i ≡ x → Answered x B r → feed t i ≡ declined n
-      go t k (language.refused m) z a = feed_given t k (language.refused m) z ∙ ap declined (let y : m ≡ n = cc (sym a ∙ p) in y)
-      go t k (language.given v) z a = let y : input.Given ≡ input.Refused n = sym a.0 ∙ p in absurd (let y : ◌≡◌ {A = ℕ} 0 1 = cc in omega arith)
+      go : (t : Table) → Tabled T t → (x : language.Input) → input_of standard.objects t.classes (ty u.class 0) i ≡ x → Answered x B r → feed t i ≡ declined (refusal_number n)
+      go t k (language.refused m) z a =
+          let y : n ≡ a.0 = cc (sym p ∙ a.1) in
+          feed_given t k (language.refused m) z ∙ ap declined (sym a.2 ∙ ap refusal_number (sym y))
+      go t k (language.given v) z a = let y : Ok tt ≡ Err n = sym a.0 ∙ p in cc
 
   -- the value that stands in the block
-  module _ (p : r ≡ input.Given) where
+  module _ (p : r ≡ Ok tt) where
     value_there : (t : Table) → Tabled T t → (v : Graph) × (input_of standard.objects t.classes (ty u.class 0) i ≡ language.given v) × Has B 0 v
     value_there t k = go (input_of standard.objects t.classes (ty u.class 0) i) refl (g.of t k)
       where
         go : (x : language.Input) → input_of standard.objects t.classes (ty u.class 0) i ≡ x → Answered x B r
             → (v : Graph) × (input_of standard.objects t.classes (ty u.class 0) i ≡ language.given v) × Has B 0 v
-        go (language.refused m) z a = let y : input.Given ≡ input.Refused m = sym p ∙ a in absurd (let y : ◌≡◌ {A = ℕ} 0 1 = cc in omega arith)
+        go (language.refused m) z a = let y : Ok tt ≡ Err a.0 = sym p ∙ a.1 in cc
         go (language.given v) z a = (v, z, a.1)
 
-    pub value_fed : SomeTable T → TextFed T i B Value
+    pub value_fed : SomeTable T → TextFed T i B (Ok true)
     value_fed s = record {
       is = λ t k.
           let a = value_there t k in

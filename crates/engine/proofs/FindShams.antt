@@ -1,11 +1,8 @@
 -- The shams of request 2026-03, refuted: a function that meets the contract of `line_find` does not answer as the sham does.
 -- Each by a table that is read, which the sham would answer otherwise (as Shams). The table of them is docs/SHAMS.md.
-use Prim.Native.Nat.{ℕ, ◌<◌}
-use native.Mathlib.Omega.{arith}
-use mathlib.Core.Path.{◌≡◌, refl, sym, ap, ◌∙◌}
-use mathlib.Core.Bool.{true, false≢true}
-use mathlib.Core.List.{List, []}
-use mathlib.Core.Option.{none}
+use Rattle.std.proofs.Common.{ℕ, ◌<◌, arith, ◌≡◌, refl, sym, ap, ◌∙◌, true, List, []}
+use Rattle.std.proofs.Math.Bool.{false≢true}
+use Rattle.std.proofs.Math.Option.{none}
 use Rattle.cofj.specs.declared.Finding.{Finding}
 use Rattle.cofj.specs.Syntax.{Table, this}
 use Rattle.cofj.specs.Bytes.{bytes}

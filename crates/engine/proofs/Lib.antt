@@ -1,6 +1,7 @@
 pub mod StateLaws
 pub mod WorkLaws
 pub mod FeedLaws
+pub mod CheckLaws
 pub mod RunLaws
 pub mod CutLaws
 pub mod ShowLaws

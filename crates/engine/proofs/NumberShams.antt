@@ -1,8 +1,7 @@
 -- The shams of request 2026-02, refuted: a function that meets the contract of a run does not treat numbers as the sham does.
 -- Each by a call that the sham would answer otherwise (as Shams; the calls are those of cofj's RequestRows). The table of them is docs/SHAMS.md.
 use Prim.Native.String.{String}
-use native.Mathlib.Omega.{arith}
-use mathlib.Core.Path.{◌≡◌, refl, sym, ap, ◌∙◌}
+use Rattle.std.proofs.Common.{arith, ◌≡◌, refl, sym, ap, ◌∙◌}
 use Rattle.cofj.specs.Bytes.{bytes}
 use Rattle.cofj.specs.RequestRows.{row_overflow, row_equal_numbers, row_other_numbers, row_choose_second, row_no_object, row_thirteen}
 use Rattle.cofj.specs.Running.{run}

@@ -1,13 +1,14 @@
 -- The promises of cofj's specs/Promises and of this crate's, proved of what its functions return.
 -- Their contracts say what they return by the language's definitions (of a run: `Returned`); what that is worth is proved of these in cofj.
-use Prim.Native.Nat.{ℕ, ◌+◌, ◌≤◌}
-use native.Mathlib.Omega.{arith}
-use mathlib.Core.Path.{◌≡◌, refl, sym, ap, ◌∙◌, subst}
+use Rattle.std.proofs.Common.{ℕ, ◌+◌, ◌≤◌, arith, ◌≡◌, refl, sym, ap, ◌∙◌, subst, List, [], ◌∷◌, get_or, None}
 use mathlib.Core.List.Memᴰ
-use mathlib.Core.List.{List, [], ◌∷◌, Memᴰ}
+use mathlib.Core.List.{Memᴰ}
 use mathlib.Core.Logic.{◌⊎◌, inl, inr}
-use mathlib.Core.Option.{Option, none, some}
-use lib.ListN.{get_or}
+use Rattle.std.proofs.Math.Option.{Option, none, some}
+use Rattle.std.specs.declared.result.Result.{Result}
+use Rattle.cofj.specs.declared.Refusal.{Refusal}
+use Rattle.cofj.specs.declared.Refusal.TheVariants.{BadFrame}
+use Rattle.cofj.specs.Refusals.{refusal_number, answer_number}
 use Rattle.cofj.specs.Partial.{◌>>=◌}
 use Rattle.cofj.specs.Text.{lines}
 use Rattle.cofj.specs.declared.Session.{Session}
@@ -29,16 +30,13 @@ use Rattle.cofj.proofs.Readable.{read_formed}
 use Rattle.cofj.proofs.Linerun.{shows}
 use Rattle.cofj.proofs.Findings.{finds}
 use Rattle.cofj.proofs.Promises.{follows, demand3, recuts}
-use Rattle.lineform.specs.declared.lines.Decoded.{Decoded}
-use Rattle.lineform.specs.declared.frames.Framed.{Framed}
-use Rattle.lineform.specs.declared.lines.Ordered.{Ordered}
+use Rattle.lineform.specs.declared.lines.Counts.{Counts}
 use Rattle.lineform.specs.Answers.{decoded_of, framed_of, counts_of, order_of}
 use Rattle.classes.specs.Machine.{lookup_of, row_of}
 use Rattle.classes.specs.Layout.{layout}
 use Rattle.tables.specs.declared.read.Reading.{Reading}
 use Rattle.tables.specs.Readings.{answered, reading_of}
 use Rattle.tables.specs.Writings.{text_in, writing_of}
-use Rattle.engine.specs.Numbers.{decoded_number, framed_number, ordered_number}
 use Rattle.engine.specs.Finding.{finding_in}
 use Rattle.engine.specs.Promises.{Returned, ReadsInto, WritesFrom, FindsIn}
 use Rattle.tables.proofs.Written.{reads_table, into_text, text_into, eight_exactly}
@@ -96,7 +94,7 @@ reads_into s =
       zero = (λ e. by_zero (read_text s) refl e, λ h. ap (λ (r : Answer). (answered r).refusal) (reads_is s h.1));
       most = small (read_text s) refl;
       decoded = λ o q n. by_lines (lines s) refl o q n;
-      framed = λ ls a l m o q n. by_frame ls a l m (frame l) refl o q n;
+      framed = λ ls a l m q. by_frame ls a l m (frame l) refl q;
       ordered = λ ls fs a b o q n. by_order ls fs a b (tables.ordered fs >>= few) refl o q n;
     }
   where
@@ -112,19 +110,19 @@ reads_into s =
     number : {k : ℕ} → Reads s (refusal k) → (answered (read_text s)).refusal ≡ k
     number h = ap (λ (r : Answer). (answered r).refusal) (reads_is s h)
 
-    by_lines : (x : Option (List (List ℕ))) → lines s ≡ x → (o : Decoded) → o ≡ decoded_of x → (decoded_number o ≡ 0 → ⊥) → (answered (read_text s)).refusal ≡ decoded_number o
-    by_lines none a o q n = number (REFUSAL-1 a) ∙ ap decoded_number (sym q)
-    by_lines (some ls) a o q n = absurd (n (ap decoded_number q))
+    by_lines : (x : Option (List (List ℕ))) → lines s ≡ x → (o : Result ℕ Refusal) → o ≡ decoded_of x → (answer_number o ≡ 0 → ⊥) → (answered (read_text s)).refusal ≡ answer_number o
+    by_lines none a o q n = number (REFUSAL-1 a) ∙ ap answer_number (sym q)
+    by_lines (some ls) a o q n = absurd (n (ap answer_number q))
 
-    by_frame : (ls : List (List ℕ)) → lines s ≡ some ls → (l : List ℕ) → Memᴰ l ls → (x : Option TextFrame) → frame l ≡ x → (o : Framed) → o ≡ framed_of (frame l) → (framed_number o ≡ 0 → ⊥)
-        → (answered (read_text s)).refusal ≡ framed_number o
-    by_frame ls a l m none e o q n = number (REFUSAL-2 a (no_frames ls l m e)) ∙ sym (ap framed_number (q ∙ ap framed_of e))
-    by_frame ls a l m (some f) e o q n = absurd (n (ap framed_number (q ∙ ap framed_of e)))
+    by_frame : (ls : List (List ℕ)) → lines s ≡ some ls → (l : List ℕ) → Memᴰ l ls → (x : Option TextFrame) → frame l ≡ x → framed_of (frame l) ≡ None
+        → (answered (read_text s)).refusal ≡ refusal_number BadFrame
+    by_frame ls a l m none e q = number (REFUSAL-2 a (no_frames ls l m e))
+    by_frame ls a l m (some f) e q = let z : framed_of (some f) ≡ None = sym (ap framed_of e) ∙ q in cc
 
     by_order : (ls : List (List ℕ)) (fs : List TextFrame) → lines s ≡ some ls → frames ls ≡ some fs → (x : Option Raw) → (tables.ordered fs >>= few) ≡ x
-        → (o : Ordered) → o ≡ order_of (some fs) → (ordered_number o ≡ 0 → ⊥) → (answered (read_text s)).refusal ≡ ordered_number o
-    by_order ls fs a b none e o q n = number (REFUSAL-3 a b e) ∙ sym (ap ordered_number (q ∙ order_is fs none e))
-    by_order ls fs a b (some r) e o q n = absurd (n (ap ordered_number (q ∙ order_is fs (some r) e)))
+        → (o : Result Counts Refusal) → o ≡ order_of (some fs) → (answer_number o ≡ 0 → ⊥) → (answered (read_text s)).refusal ≡ answer_number o
+    by_order ls fs a b none e o q n = number (REFUSAL-3 a b e) ∙ sym (ap answer_number (q ∙ order_is fs none e))
+    by_order ls fs a b (some r) e o q n = absurd (n (ap answer_number (q ∙ order_is fs (some r) e)))
 
 pub reads_of : (s : List ℕ) (x : Reading) → x ≡ reading_of s → ReadsInto s x
 reads_of s x e = subst (ReadsInto s) (sym e) (reads_into s)

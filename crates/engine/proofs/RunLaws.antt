@@ -1,153 +1,104 @@
--- Laws of the check of a text, and of runs of a table's bytes and of a text.
-use Prim.Native.Nat.{ℕ, ◌≤◌}
-use native.Mathlib.Omega.{arith}
-use mathlib.Core.Path.{◌≡◌, refl, sym, ap, ◌∙◌}
-use mathlib.Core.Bool.{Bool, true, false, false≢true}
-use mathlib.Core.List.{List, ◌++◌}
-use lib.ListN.{length, take, drop}
+-- Laws of a run of a text.
+use Rattle.std.proofs.Common.{ℕ, ◌≤◌, ◌≡◌, refl, sym, ap, ◌∙◌, Bool, List, ◌++◌, length, take, drop, Ok, Err}
+use Rattle.std.specs.declared.result.Result.{Result}
+use Rattle.cofj.specs.declared.Refusal.{Refusal}
 use Rattle.cofj.specs.declared.Session.{Session}
-use Rattle.cofj.specs.declared.Answer as public
-use Rattle.cofj.specs.declared.Verdict.{Verdict}
+use Rattle.cofj.specs.Refusals.{refusal_number}
 use Rattle.cofj.specs.Limits.{work_size}
 use Rattle.cofj.specs.Syntax.{Table}
 use Rattle.cofj.specs.Typing as language
-use Rattle.cofj.specs.Calls as calls
-use Rattle.cofj.specs.Calls.{Mode, checked, trial, with_fuel, cleared, Ran, Admitted, declined, admitted, feed, after_check, run_admitted, run_call, check_call}
+use Rattle.cofj.specs.Calls.{with_fuel, cleared, Ran, Admitted, declined, admitted, feed, after_check, admit_table, admit, run_admitted, run_call}
 use Rattle.cofj.proofs.Readable.{read_formed}
-use Rattle.cofj.proofs.ReadCalls.{check_unread}
 use Rattle.cofj.proofs.RunCalls.{admit_unread, admit_read}
 use Rattle.classes.specs.declared.chain.FieldType.{FieldType}
 use Rattle.classes.specs.Layout.{Tabled}
 use Rattle.tables.specs.Readings.{reading_of, Into}
 use Rattle.tables.proofs.Written.{answer-table, answer_refusal}
-use Rattle.checker.specs.declared.program.Checked.{Checked}
-use Rattle.checker.specs.declared.program.Checked.TheVariants as checks
 use Rattle.checker.specs.Program.{check_of}
-use Rattle.checker.specs.Answers.{answer_of, verdict_of}
-use Rattle.checker.proofs.Check.{verdict_on}
+use Rattle.checker.specs.Answers.{answer_of}
 use Rattle.checker.proofs.Programs.{formed_check}
 use Rattle.batch.specs.Inputs.{SomeTable}
 use Rattle.evaluator.specs.declared.report.Reported.{Reported}
-use Rattle.evaluator.specs.Main.{Given}
+use Rattle.evaluator.specs.Main.{Given, input_in}
 use Rattle.evaluator.specs.Reporting.{RunReports}
 use Rattle.engine.specs.declared.run.Mode as code
 use Rattle.engine.specs.declared.run.Mode.TheVariants as modes
-use Rattle.engine.specs.declared.feed.Fed.{Fed}
-use Rattle.engine.specs.declared.feed.Fed.TheVariants.{Nothing, Value, Refused}
-use Rattle.engine.specs.Steps.{ran, no_report, mode_of, state_number, RunsFed, Runs}
+use Rattle.engine.specs.Steps.{ran, answer_by, mode_of, state_of, typed, judged_in}
 use Rattle.engine.specs.Feeding.{fed_with, TextFed}
 use Rattle.engine.proofs.StateLaws.{call, state_admits}
 use Rattle.engine.proofs.WorkLaws.{cleared-part}
 
--- ---- the check
-pub verdict_main : (c : Checked) (B : List ℕ) (u : FieldType) → c ≡ check_of B → c ≡ checks.Main u → record { refusal = 0; class = u.class; tag = u.tag } ≡ verdict_of (check_of B)
-verdict_main c B u e q = ap verdict_of (sym q ∙ e)
+-- ---- what is fed
+pub given : (T i B : List ℕ) (f : Result Bool Refusal) (fed : Bool) → TextFed T i B f → f ≡ Ok fed → Given fed B
+given T i B f fed h e = record { inside = λ q. h.inside (e ∙ ap Ok q) }
 
-pub verdict_refused : (c : Checked) (B : List ℕ) (k : ℕ) → c ≡ check_of B → c ≡ checks.Refused k → record { refusal = k; class = 0; tag = 0 } ≡ verdict_of (check_of B)
-verdict_refused c B k e q = ap verdict_of (sym q ∙ e)
+-- ---- the types that a mode asks for
+no_type : (r : Result FieldType Refusal) (k : Refusal) → typed r ≡ Err k → answer_of r ≡ language.refused (refusal_number k)
+no_type (Ok u) k e = cc
+no_type (Err j) k e = ap (λ (x : Refusal). language.refused (refusal_number x)) (let q : j ≡ k = cc in q)
 
-module _ (s : List ℕ) (k : ℕ) (B : List ℕ) (e : Into (reading_of s) k B) where
-  pub text_refused : (k ≡ 0 → ⊥) → record { refusal = k; class = 0; tag = 0 } ≡ check_call s
-  text_refused n = sym (ap calls.verdict_of (check_unread s k (answer_refusal s k B e n)))
+some_type : (r : Result FieldType Refusal) (t : Table) (i : List ℕ) → typed r ≡ Ok tt → after_check t i (answer_of r) ≡ feed t i
+some_type (Ok u) t i e = refl
+some_type (Err j) t i e = cc
 
-  pub text_checked : (v : Verdict) → k ≡ 0 → v ≡ verdict_of (check_of B) → v ≡ check_call s
-  text_checked v z q =
-      let t = answer-table s k B e z in
-      q ∙ ap (λ (C : List ℕ). verdict_of (check_of C)) t.bytes ∙ verdict_on s t.whole t.reads
+module _ (T i : List ℕ) (t : Table) (h : Tabled T t) where
+  -- the check of the bytes is the language's
+  checks_on : answer_of (check_of T) ≡ language.check t
+  checks_on = ap (λ (B : List ℕ). answer_of (check_of B)) h.bytes ∙ formed_check t h.formed
 
--- ---- main of a table's bytes
-pub table-ran : (T : List ℕ) (fed : Bool) (B : List ℕ) (σ σ' : Session) (R R' W X W' : List ℕ) (r : Reported) → work_size ≤ length W
-    → RunReports T σ.fuel fed B (length (take work_size W)) R (length X) R' r → W' ≡ cleared (X ++ drop work_size W) → σ' ≡ with_fuel σ r.fuel
-    → RunsFed T fed B σ R W (ran (record { refusal = 0; session = σ'; length = r.length }) R' W')
-table-ran T fed B σ σ' R R' W X W' r h x e q = record {
-  is = λ m s i t k.
-      let y = x.is t k in
-      let count = y.count in
-      let text = y.text in
-      let left = q ∙ ap (with_fuel σ) y.left in
-      let work = e ∙ cleared-part W X x.same h in
-      λ j. ran (record { refusal = 0; session = left j; length = count j }) (text j) (work j);
-}
+  mode_refuses : (c : code.Mode) (k : Refusal) → judged_in c T ≡ Err k → admit_table (mode_of c) t i ≡ declined (refusal_number k)
+  mode_refuses modes.Checked k e = ap (after_check t i) (sym checks_on ∙ no_type (check_of T) k e)
+  mode_refuses modes.Trial k e = cc
 
--- ---- with what the second text gives it
-pub nothing_given : (B : List ℕ) → Given false B
-nothing_given B = record { inside = λ e. absurd (false≢true e) }
+  mode_feeds : (c : code.Mode) → judged_in c T ≡ Ok tt → admit_table (mode_of c) t i ≡ feed t i
+  mode_feeds modes.Checked e = ap (after_check t i) (sym checks_on) ∙ some_type (check_of T) t i e
+  mode_feeds modes.Trial e = refl
 
-module _ (T i B : List ℕ) (f : Fed) (h : TextFed T i B f) where
-  pub value_given : f ≡ Value → Given true B
-  value_given q = record { inside = λ e. h.inside q }
+-- ---- a run whose state refuses nothing, of a text that reads into B
+module _ (c : code.Mode) (s i : List ℕ) (σ : Session) (R W : List ℕ) (g : Result (Unit {0}) Refusal) (eg : g ≡ state_of σ.active (length R) (length W)) (zg : g ≡ Ok tt)
+    (x : Result (Unit {0}) Refusal) (B : List ℕ) (e : Into (reading_of s) x B) where
+  admits : (o : Admitted) (y : Ran) → admit (mode_of c) s i ≡ o → y ≡ run_admitted o (call (mode_of c) s i σ R W) → y ≡ run_call (call (mode_of c) s i σ R W)
+  admits o y q p = state_admits (mode_of c) s i σ R W g eg y zg (p ∙ sym (ap (λ (z : Admitted). run_admitted z (call (mode_of c) s i σ R W)) q))
 
-  -- what is fed is what the language feeds
-  fed_is : (t : Table) → Tabled T t → (g : Fed) → f ≡ g → fed_with t B g ≡ feed t i
-  fed_is t k g q = sym (h.is t k ∙ ap (fed_with t B) q)
+  declines : (k : Refusal) → admit (mode_of c) s i ≡ declined (refusal_number k) → ran (answer_by σ (Err k)) R W ≡ run_call (call (mode_of c) s i σ R W)
+  declines k q = admits (declined (refusal_number k)) (ran (answer_by σ (Err k)) R W) q refl
 
-  module _ (σ : Session) (R W : List ℕ) where
-    pub nothing_ran : (x : Ran) → f ≡ Nothing → RunsFed T false B σ R W x → Runs trial T i σ R W x
-    nothing_ran x q r = record { is = λ s t k. r.is trial s i t k ∙ ap (λ (y : Admitted). run_admitted y (call trial s i σ R W)) (fed_is t k Nothing q) }
+  pub run_unread : (k : Refusal) → x ≡ Err k → ran (answer_by σ (Err k)) R W ≡ run_call (call (mode_of c) s i σ R W)
+  run_unread k q = declines k (admit_unread (mode_of c) s i (refusal_number k) (answer_refusal s x B e k q))
 
-    pub value_ran : (x : Ran) → f ≡ Value → RunsFed T true B σ R W x → Runs trial T i σ R W x
-    value_ran x q r = record { is = λ s t k. r.is trial s i t k ∙ ap (λ (y : Admitted). run_admitted y (call trial s i σ R W)) (fed_is t k Value q) }
+  module _ (zx : x ≡ Ok tt) where
+    -- its bytes are a table's
+    abbrev t : Table
+    t = (answer-table s x B e zx).whole
 
-    pub input_refused : (k : ℕ) (a : public.Answer) → f ≡ Refused k → a ≡ no_report k σ → Runs trial T i σ R W (ran a R W)
-    input_refused k a q p = record {
-      is = λ s t u. ap (λ (y : public.Answer). ran y R W) p ∙ ap (λ (y : Admitted). run_admitted y (call trial s i σ R W)) (fed_is t u (Refused k) q);
-    }
+    tabled : Tabled B t
+    tabled = let a = answer-table s x B e zx in record { formed = read_formed s a.whole a.reads; bytes = a.bytes }
 
--- ---- and its check
-checks_on : (T : List ℕ) (t : Table) (c : Checked) → Tabled T t → c ≡ check_of T → c ≡ answer_of (language.check t)
-checks_on T t c h e = e ∙ ap check_of h.bytes ∙ formed_check t h.formed
+    pub some_table : SomeTable B
+    some_table = record { table = t; bytes = tabled }
 
-main_accepted : (c : language.Checked) (t : Table) (i : List ℕ) (u : FieldType) → checks.Main u ≡ answer_of c → after_check t i c ≡ feed t i
-main_accepted (language.accepted v) t i u e = refl
-main_accepted (language.refused n) t i u e = let z : ◌≡◌ {A = ℕ} 0 1 = cc in absurd (omega arith)
+    read_in : admit (mode_of c) s i ≡ admit_table (mode_of c) t i
+    read_in = admit_read (mode_of c) s i t (answer-table s x B e zx).reads
 
-refused_declined : (c : language.Checked) (t : Table) (i : List ℕ) (k : ℕ) → checks.Refused k ≡ answer_of c → after_check t i c ≡ declined k
-refused_declined (language.accepted v) t i k e = let z : ◌≡◌ {A = ℕ} 0 1 = cc in absurd (omega arith)
-refused_declined (language.refused n) t i k e = ap declined (let z : n ≡ k = cc in z)
+    module _ (j : Result (Unit {0}) Refusal) (ej : j ≡ judged_in c B) where
+      pub run_untyped : (k : Refusal) → j ≡ Err k → ran (answer_by σ (Err k)) R W ≡ run_call (call (mode_of c) s i σ R W)
+      run_untyped k q = declines k (read_in ∙ mode_refuses B i t tabled c k (sym ej ∙ q))
 
-module _ (T i : List ℕ) (σ : Session) (R W : List ℕ) (c : Checked) (e : c ≡ check_of T) where
-  -- the mode is no matter once both texts are admitted
-  any_mode : (s : List ℕ) (y : Admitted) → run_admitted y (call trial s i σ R W) ≡ run_admitted y (call checked s i σ R W)
-  any_mode s (declined k) = refl
-  any_mode s (admitted t v) = refl
+      module _ (zj : j ≡ Ok tt) (D : List ℕ) (f : Result Bool Refusal) (ef : TextFed B i D f) where
+        fed_in : (h : Result Bool Refusal) → f ≡ h → admit (mode_of c) s i ≡ fed_with t D h
+        fed_in h q = read_in ∙ mode_feeds B i t tabled c (sym ej ∙ zj) ∙ ef.is t tabled ∙ ap (fed_with t D) q
 
-  pub checked_ran : (u : FieldType) (x : Ran) → c ≡ checks.Main u → Runs trial T i σ R W x → Runs checked T i σ R W x
-  checked_ran u x q r = record {
-    is = λ s t h. r.is s t h ∙ any_mode s (feed t i)
-        ∙ sym (ap (λ (y : Admitted). run_admitted y (call checked s i σ R W)) (main_accepted (language.check t) t i u (sym q ∙ checks_on T t c h e)));
-  }
+        pub run_unfed : (k : Refusal) → f ≡ Err k → ran (answer_by σ (Err k)) R W ≡ run_call (call (mode_of c) s i σ R W)
+        run_unfed k q = declines k (fed_in (Err k) q)
 
-  pub checked_refused : (k : ℕ) (a : public.Answer) → c ≡ checks.Refused k → a ≡ no_report k σ → Runs checked T i σ R W (ran a R W)
-  checked_refused k a q p = record {
-    is = λ s t h. ap (λ (y : public.Answer). ran y R W) p
-        ∙ sym (ap (λ (y : Admitted). run_admitted y (call checked s i σ R W)) (refused_declined (language.check t) t i k (sym q ∙ checks_on T t c h e)));
-  }
-
--- ---- a text
-module _ (s : List ℕ) (j : ℕ) (B : List ℕ) (e : Into (reading_of s) j B) (z : j ≡ 0) where
-  -- its bytes are a table's
-  table_read : Tabled B (answer-table s j B e z).whole
-  table_read = let t = answer-table s j B e z in record { formed = read_formed s t.whole t.reads; bytes = t.bytes }
-
-  pub some_table : SomeTable B
-  some_table = record { table = (answer-table s j B e z).whole; bytes = table_read }
-
-module _ (m : Mode) (s i : List ℕ) (σ : Session) (R W : List ℕ) (k : ℕ) (g : k ≡ state_number σ.active (length R) (length W)) (none : k ≡ 0) (j : ℕ) (B : List ℕ) (e : Into (reading_of s) j B) where
-  pub run_unread : (a : public.Answer) → (j ≡ 0 → ⊥) → a ≡ no_report j σ → ran a R W ≡ run_call (call m s i σ R W)
-  run_unread a n q =
-      state_admits m s i σ R W k g (ran a R W) none
-      (ap (λ (y : public.Answer). ran y R W) q ∙ sym (ap (λ (y : Admitted). run_admitted y (call m s i σ R W)) (admit_unread m s i j (answer_refusal s j B e n))))
-
-  run_read : (x : Ran) → j ≡ 0 → Runs m B i σ R W x → x ≡ run_call (call m s i σ R W)
-  run_read x z h =
-      let t = answer-table s j B e z in
-      state_admits m s i σ R W k g x none
-      (h.is s t.whole (table_read s j B e z) ∙ sym (ap (λ (y : Admitted). run_admitted y (call m s i σ R W)) (admit_read m s i t.whole t.reads)))
-
--- by the code's mode
-module _ (c : code.Mode) (s i : List ℕ) (σ : Session) (R W : List ℕ) (k : ℕ) (g : k ≡ state_number σ.active (length R) (length W)) (none : k ≡ 0) (j : ℕ) (B : List ℕ) (e : Into (reading_of s) j B) where
-  pub run_checked : (x : Ran) → j ≡ 0 → c ≡ modes.Checked → Runs checked B i σ R W x → x ≡ run_call (call (mode_of c) s i σ R W)
-  run_checked x z q h = run_read checked s i σ R W k g none j B e x z h ∙ sym (ap (λ (y : code.Mode). run_call (call (mode_of y) s i σ R W)) q)
-
-  pub run_trial : (x : Ran) → j ≡ 0 → c ≡ modes.Trial → Runs trial B i σ R W x → x ≡ run_call (call (mode_of c) s i σ R W)
-  run_trial x z q h = run_read trial s i σ R W k g none j B e x z h ∙ sym (ap (λ (y : code.Mode). run_call (call (mode_of y) s i σ R W)) q)
+        -- main has run: X is what it left of the first work bytes
+        pub run_ran : (fed : Bool) (R' X W' : List ℕ) (r : Reported) → f ≡ Ok fed → work_size ≤ length W → RunReports B σ.fuel fed D (length (take work_size W)) R (length X) R' r
+            → W' ≡ cleared (X ++ drop work_size W) → ran (answer_by σ (Ok r)) R' W' ≡ run_call (call (mode_of c) s i σ R W)
+        run_ran fed R' X W' r q h y w =
+            let o = y.is t tabled in
+            let count = o.count in
+            let text = o.text in
+            let left = ap (with_fuel σ) o.left in
+            let work = w ∙ cleared-part W X y.same h in
+            admits (admitted t (input_in fed D)) (ran (answer_by σ (Ok r)) R' W') (fed_in (Ok fed) q)
+            (λ j. ran (record { refusal = 0; session = left j; length = count j }) (text j) (work j))

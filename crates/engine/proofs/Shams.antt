@@ -1,12 +1,9 @@
 -- The shams of document 01 and of request 2026-01, refuted: a function that meets the contract of a public call does not answer as the sham does.
 -- Each by a call that the sham would answer otherwise. The table of them, with the edits of the code, is docs/SHAMS.md.
-use Prim.Native.Nat.{ℕ, ◌-◌, ◌<◌}
+use Rattle.std.proofs.Common.{ℕ, ◌-◌, ◌<◌, arith, ◌≡◌, refl, sym, ap, ◌∙◌, false, List, [], length, get_or}
 use Prim.Native.String.{String}
-use native.Mathlib.Omega.{arith}
-use mathlib.Core.Path.{◌≡◌, refl, sym, ap, ◌∙◌}
-use mathlib.Core.Bool.{false, false≢true}
-use mathlib.Core.List.{List, []}
-use lib.ListN.{length, get_or, length-replicate}
+use Rattle.std.proofs.Math.Bool.{false≢true}
+use Rattle.std.proofs.Math.ListN.{length-replicate}
 use Rattle.cofj.specs.declared.Session.{Session}
 use Rattle.cofj.specs.declared.Closing.{Closing}
 use Rattle.cofj.specs.declared.Verdict.{Verdict}

@@ -1,16 +1,12 @@
 -- Laws of what `linerun` shows.
-use Prim.Native.Nat.{ℕ, zero, suc, ◌+◌, ◌-◌, ◌*◌, ◌≤◌, ◌<◌}
-use native.Mathlib.Omega.{arith}
-use mathlib.Core.Path.{◌≡◌, refl, sym, ap, ap₂, ◌∙◌}
-use mathlib.Core.Bool.{Bool, true, false}
-use mathlib.Core.List.{List, [], ◌∷◌, ◌++◌, append-nil}
-use mathlib.Core.Option.{Option}
-use lib.ListN.{length, take, drop, replicate, length-drop}
-use lib.Seq.{sets-eq, take-length}
+use Rattle.std.proofs.Common.{ℕ, zero, suc, ◌+◌, ◌-◌, ◌*◌, ◌≤◌, ◌<◌, arith, ◌≡◌, refl, sym, ap, ap₂, ◌∙◌, Bool, true, false, List, [], ◌∷◌, ◌++◌, append-nil, eqb, length, take, drop, replicate, length-drop, eq-eqb, ne_eqb, Ok, Err}
+use Rattle.std.proofs.Math.Option.{Option}
+use Rattle.std.proofs.Math.Seq.{sets-eq, take-length}
 use borrow.Rule.Slice.PartMut.{mid_of}
-use borrow.Author.Tests.{eq-eqb, ne_eqb}
+use Rattle.std.specs.declared.result.Result.{Result}
+use Rattle.cofj.specs.declared.Refusal.{Refusal}
+use Rattle.cofj.specs.Refusals.{refusal_number}
 use Rattle.cofj.specs.declared.Session.{Session}
-use Rattle.cofj.specs.declared.Answer.{Answer}
 use Rattle.cofj.specs.declared.Shown.{Shown}
 use Rattle.cofj.specs.declared.Verdict.{Verdict}
 use Rattle.cofj.specs.Text.{hex_line, hex_text}
@@ -27,12 +23,20 @@ use Rattle.cofj.proofs.Inputs.{Fate, refuses, feeds, fate, feeds_feed}
 use Rattle.cofj.proofs.ReadCalls.{read_number, check_read, check_number}
 use Rattle.cofj.proofs.RunCalls.{by_text, admit_unread, admit_read}
 use Rattle.cofj.proofs.Linerun.{show_lent}
+use Rattle.classes.specs.declared.chain.FieldType.{FieldType}
+use Rattle.tables.proofs.ReadLaws.{some_number}
+use Rattle.checker.specs.Answers.{verdict_of as said}
+use Rattle.evaluator.specs.declared.report.Reported.{Reported}
 use Rattle.lineform.specs.Writes.{wrote, put_line}
 use Rattle.lineform.proofs.WriteLaws.{line_end, line_stores}
-use Rattle.engine.specs.Steps.{ran, state_number}
+use Rattle.engine.specs.Steps.{ran, answer_by, state_of}
 use Rattle.engine.proofs.StateLaws.{call, numbered, state_numbered, lent_report, lent_work}
 use Rattle.engine.proofs.CutLaws.{cut_low}
-use Rattle.engine.specs.Showing.{showing, no_line, verdict_bytes, PutVerdict, line_of, verdict_by}
+use Rattle.engine.specs.Showing.{showing, no_line, verdict_bytes, PutVerdict, line_of}
+
+-- no refusal's number is 0
+number_some : (k : Refusal) → refusal_number k ≡ 0 → ⊥
+number_some k e = omega (arith, some_number k)
 
 -- ---- the verdict line
 stored : (l d o : List ℕ) (r : ℕ) → wrote r o ≡ put_line d 0 l → length (hex_line l) ≤ length d → o ≡ over (hex_line l) d
@@ -54,12 +58,14 @@ verdict_put v l d o r b h m k e = record {
   text = stored l d o r e (omega arith) ∙ ap (λ (x : List ℕ). over (hex_line x) d) (sym b);
 }
 
-module _ (v : Verdict) (d o : List ℕ) (r : ℕ) (h : verdict_size ≤ length d) where
-  pub verdict_refused : (v.refusal ≡ 0 → ⊥) → wrote r o ≡ put_line d 0 (8 ∷ v.refusal ∷ []) → PutVerdict v d o r
-  verdict_refused n e = verdict_put v (8 ∷ v.refusal ∷ []) d o r (bytes_refused v n) h (omega arith) refl e
+module _ (d o : List ℕ) (r : ℕ) (h : verdict_size ≤ length d) where
+  pub verdict_refused : (v : Result FieldType Refusal) (k : Refusal) (n : ℕ) → v ≡ Err k → n ≡ refusal_number k → wrote r o ≡ put_line d 0 (8 ∷ n ∷ []) → PutVerdict (said v) d o r
+  verdict_refused v k n e q w =
+      verdict_put (said v) (8 ∷ n ∷ []) d o r
+      (ap (λ (x : Result FieldType Refusal). verdict_bytes (said x)) e ∙ bytes_refused (said (Err k)) (number_some k) ∙ ap (λ (x : ℕ). 8 ∷ x ∷ []) (sym q)) h (omega arith) refl w
 
-  pub verdict_accepted : v.refusal ≡ 0 → wrote r o ≡ put_line d 0 (8 ∷ v.refusal ∷ v.class ∷ v.tag ∷ []) → PutVerdict v d o r
-  verdict_accepted z e = verdict_put v (8 ∷ v.refusal ∷ v.class ∷ v.tag ∷ []) d o r (bytes_accepted v z) h (omega arith) refl e
+  pub verdict_accepted : (v : Result FieldType Refusal) (u : FieldType) → v ≡ Ok u → wrote r o ≡ put_line d 0 (8 ∷ 0 ∷ u.class ∷ u.tag ∷ []) → PutVerdict (said v) d o r
+  verdict_accepted v u e w = verdict_put (said v) (8 ∷ 0 ∷ u.class ∷ u.tag ∷ []) d o r (ap (λ (x : Result FieldType Refusal). verdict_bytes (said x)) e) h (omega arith) refl w
 
 -- ---- the line by value
 drop_same : (k n x : ℕ) → drop k (replicate n x) ≡ replicate (n - k) x
@@ -77,15 +83,18 @@ line_value v B n at p =
 pub line_byte : (v : Verdict) (d B : List ℕ) (at : ℕ) → PutVerdict v d B at → at < 256
 line_byte v d B at p = omega (arith, p.fits)
 
-pub no_line_lem : (k : ℕ) → record { refusal = k; verdict_length = 0; verdict = replicate verdict_size 0; length = 0 } ≡ no_line k
+pub no_line_lem : (k : Refusal) (n : ℕ) → n ≡ refusal_number k → record { refusal = n; verdict_length = 0; verdict = replicate verdict_size 0; length = 0 } ≡ no_line (refusal_number k)
 unfolding zeros
-no_line_lem k = refl
+no_line_lem k n e = λ i. record { refusal = e i; verdict_length = 0; verdict = replicate verdict_size 0; length = 0 }
 
--- ---- what it says of them
-pub judged_refused : (s : List ℕ) (k : ℕ) → (k ≡ 0 → ⊥) → record { refusal = k; class = 0; tag = 0 } ≡ verdict_by k s
+-- ---- what it says of them: the verdict on a text whose checked run answered this number
+abbrev verdict_by : ℕ → List ℕ → Verdict
+verdict_by k s = elim (eqb k 0) [ true ↦ check_call s | false ↦ verdict_of (refused k) ]
+
+judged_refused : (s : List ℕ) (k : ℕ) → (k ≡ 0 → ⊥) → record { refusal = k; class = 0; tag = 0 } ≡ verdict_by k s
 judged_refused s k n = sym (ap (λ (b : Bool). elim b as (λ _. Verdict) [ true ↦ check_call s | false ↦ verdict_of (refused k) ]) (ne_eqb k 0 n))
 
-pub judged_checked : (s : List ℕ) (k : ℕ) (v : Verdict) → k ≡ 0 → v ≡ check_call s → v ≡ verdict_by k s
+judged_checked : (s : List ℕ) (k : ℕ) (v : Verdict) → k ≡ 0 → v ≡ check_call s → v ≡ verdict_by k s
 judged_checked s k v z q = q ∙ sym (ap (λ (b : Bool). elim b as (λ _. Verdict) [ true ↦ check_call s | false ↦ verdict_of (refused k) ]) (eq-eqb k 0 z))
 
 -- what both texts are admitted as: refused with a number that is not 0, or a program of this type with its input
@@ -137,31 +146,43 @@ line_said s i k v n e = go (way s i)
         written (8 ∷ 0 ∷ u.cls ∷ u.tag ∷ []) (admitted t g) (ap verdict_bytes (sym r)) q (ap verdict_line (sym c))
 
 -- ---- both texts
-module _ (s i R W : List ℕ) (k : ℕ) (e : k ≡ state_number true (length R) (length W)) where
+module _ (s i R W : List ℕ) (g : Result (Unit {0}) Refusal) (e : g ≡ state_of true (length R) (length W)) where
   -- a buffer is too short
-  pub shown_refused : (r : Shown) → (k ≡ 0 → ⊥) → r ≡ no_line k → showing r R W ≡ show_texts s i R W
+  pub shown_refused : (r : Shown) (k : Refusal) → g ≡ Err k → r ≡ no_line (refusal_number k) → showing r R W ≡ show_texts s i R W
   unfolding show_texts
-  shown_refused r n p =
-      ap (λ (x : Shown). showing x R W) p ∙ by_number k n ∙ ap (λ (o : Option ℕ). show_unless o (shown_call s i R W)) (sym (state_numbered (shown_call s i R W) ∙ ap numbered (sym e)))
-    where
-      by_number : (j : ℕ) → (j ≡ 0 → ⊥) → showing (no_line j) R W ≡ show_unless (numbered j) (shown_call s i R W)
-      by_number zero n = absurd (n refl)
-      by_number (suc j) n = refl
+  shown_refused r k q p =
+      ap (λ (x : Shown). showing x R W) p
+      ∙ ap (λ (o : Option ℕ). show_unless o (shown_call s i R W)) (sym (state_numbered (shown_call s i R W) ∙ ap numbered (sym e ∙ q)))
 
   -- else the checked run, behind its verdict line
-  pub shown-run : (R' W' : List ℕ) (σ : Session) (a : Answer) (v : Verdict) (r : Shown) → k ≡ 0 → σ ≡ open_session linerun_fuel → ran a R' W' ≡ run_call (call checked s i σ R W)
-      → v ≡ verdict_by a.refusal s → r ≡ line_of v a.length → showing r R' W' ≡ show_texts s i R W
-  shown-run R' W' σ a v r z p q w m =
-      let l = lent_report k true (length R) (length W) e z in
-      let h = lent_work k true (length R) (length W) e z in
-      let c = shown_call s i R W in
-      let x : ran a R' W' ≡ run_admitted (admit checked s i) c =
-      q ∙ ap (λ (y : Session). run_call (call checked s i y R W)) p ∙ by_text c (admit checked s i) (record { active = refl; report = l; work = h }) refl in
-      let n : a.refusal ≡ number_in (admit checked s i) = ap (λ (y : Ran). y.answer.refusal) x ∙ answered (admit checked s i) c in
-      ap (λ (y : Shown). showing y R' W') m
-      ∙ ap (λ (y : List ℕ). presented y (ran a R' W')) (line_said s i a.refusal v n w)
-      ∙ ap (presented (verdict_text s i)) x
-      ∙ sym (show_lent s i R W l h)
+  module _ (z : g ≡ Ok tt) (R' W' : List ℕ) (σ : Session) (x : Result Reported Refusal) (p : σ ≡ open_session linerun_fuel)
+      (q : ran (answer_by σ x) R' W' ≡ run_call (call checked s i σ R W)) where
+    shown_run : (v : Verdict) (r : Shown) → v ≡ verdict_by (answer_by σ x).refusal s → r ≡ line_of v (answer_by σ x).length → showing r R' W' ≡ show_texts s i R W
+    shown_run v r w m =
+        let a = answer_by σ x in
+        let l = lent_report g true (length R) (length W) e z in
+        let h = lent_work g true (length R) (length W) e z in
+        let c = shown_call s i R W in
+        let y : ran a R' W' ≡ run_admitted (admit checked s i) c =
+        q ∙ ap (λ (y : Session). run_call (call checked s i y R W)) p ∙ by_text c (admit checked s i) (record { active = refl; report = l; work = h }) refl in
+        let n : a.refusal ≡ number_in (admit checked s i) = ap (λ (y : Ran). y.answer.refusal) y ∙ answered (admit checked s i) c in
+        ap (λ (y : Shown). showing y R' W') m
+        ∙ ap (λ (y : List ℕ). presented y (ran a R' W')) (line_said s i a.refusal v n w)
+        ∙ ap (presented (verdict_text s i)) y
+        ∙ sym (show_lent s i R W l h)
+
+    -- it has run, and its text is checked
+    pub shown_ran : (u : Reported) (v : Result FieldType Refusal) (r : Shown) → x ≡ Ok u → said v ≡ check_call s → r ≡ line_of (said v) u.length → showing r R' W' ≡ show_texts s i R W
+    shown_ran u v r o w m =
+        shown_run (said v) r (judged_checked s (answer_by σ x).refusal (said v) (ap (λ (y : Result Reported Refusal). (answer_by σ y).refusal) o) w)
+        (m ∙ ap (λ (y : Result Reported Refusal). line_of (said v) (answer_by σ y).length) (sym o))
+
+    -- or is refused
+    pub shown_unrun : (k : Refusal) (r : Shown) → x ≡ Err k → r ≡ line_of (said (Err k)) 0 → showing r R' W' ≡ show_texts s i R W
+    shown_unrun k r o m =
+        shown_run (said (Err k)) r
+        (judged_refused s (refusal_number k) (number_some k) ∙ ap (λ (y : Result Reported Refusal). verdict_by (answer_by σ y).refusal s) (sym o))
+        (m ∙ ap (λ (y : Result Reported Refusal). line_of (said (Err k)) (answer_by σ y).length) (sym o))
 
 -- ---- the input of `linerun`, cut
 behind : (Z : List ℕ) (n : ℕ) → n ≤ length Z → mid_of n (length Z - n) Z ≡ drop n Z

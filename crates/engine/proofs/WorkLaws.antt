@@ -1,25 +1,13 @@
 -- Laws of the work bytes cleared, and of the part of them that a run is lent.
-use Prim.Native.Nat.{ℕ, ◌+◌, ◌<◌, ◌≤◌}
-use native.Mathlib.Omega.{arith}
-use mathlib.Core.Path.{◌≡◌, sym, ◌∙◌}
-use mathlib.Core.List.{List, ◌++◌}
-use lib.ListN.{length, set, take, drop, replicate}
-use lib.Seq.{drop_at, length_front, length-take-le}
-use borrow.Author.Fill.{fill_more}
+use Rattle.std.proofs.Common.{ℕ, ◌≤◌, arith, ◌≡◌, sym, ◌∙◌, List, ◌++◌, length, take, drop, replicate, drop_at, length-take-le}
+use Rattle.std.proofs.Math.Seq.{length_front}
 use Rattle.cofj.specs.Limits.{work_size}
 use Rattle.cofj.specs.Calls.{zeros, cleared}
 use Rattle.evaluator.specs.Figures.{work_room}
 
-pub clear_more : (W₀ W : List ℕ) (i : ℕ) → W ≡ replicate i 0 ++ drop i W₀ → i < work_size → work_size ≤ length W₀ → set W i 0 ≡ replicate (i + 1) 0 ++ drop (i + 1) W₀
-clear_more W₀ W i e h k = rw e (fill_more i 0 W₀ (omega arith))
-
-clear_at : (W : List ℕ) (i n : ℕ) → i ≡ n → replicate i 0 ++ drop i W ≡ zeros n ++ drop n W
-unfolding zeros
-clear_at W i n e = rw e
-
-pub clear_done : (W₀ W : List ℕ) (i : ℕ) → W ≡ replicate i 0 ++ drop i W₀ → i ≤ work_size → work_size ≤ i → W ≡ cleared W₀
-unfolding cleared
-clear_done W₀ W i e h k = e ∙ clear_at W₀ i work_size (omega arith)
+pub clear_done : (W X : List ℕ) → work_size ≤ length W → X ≡ replicate (length (take work_size W)) 0 → X ++ drop work_size W ≡ cleared W
+unfolding zeros cleared
+clear_done W X h e = rw (e, length-take-le work_size W h)
 
 pub front-count : (W : List ℕ) → work_size ≤ length W → work_size ≡ length (take work_size W)
 front-count W h = sym (length-take-le work_size W h)

@@ -1,6 +1,5 @@
 pub mod Steps
 pub mod Feeding
-pub mod Numbers
 pub mod Showing
 pub mod Finding
 pub mod Promises

@@ -4,6 +4,11 @@
 use Rattle.std.specs.Prelude.{ℕ, ◌+◌, ◌≤◌, ◌<◌, ◌≡◌, true, ◌↔◌, get_or}
 use mathlib.Core.List.{List, Memᴰ}
 use Rattle.std.proofs.Math.Option.{some}
+use Rattle.std.specs.Prelude.{None}
+use Rattle.std.specs.declared.result.Result.{Result}
+use Rattle.cofj.specs.declared.Refusal.{Refusal}
+use Rattle.cofj.specs.declared.Refusal.TheVariants.{BadFrame}
+use Rattle.cofj.specs.Refusals.{refusal_number, answer_number}
 use Rattle.cofj.specs.declared.Finding.{Finding}
 use Rattle.cofj.specs.Text.{lines}
 use Rattle.cofj.specs.Syntax.{Table}
@@ -12,9 +17,7 @@ use Rattle.cofj.specs.Reading.{refusal, read}
 use Rattle.cofj.specs.Writing.{text}
 use Rattle.cofj.specs.Calls.{Call, Ran, run_call, Wrote}
 use Rattle.cofj.specs.Promises.{Reads, Writes, FindsMethod}
-use Rattle.lineform.specs.declared.lines.Decoded.{Decoded}
-use Rattle.lineform.specs.declared.frames.Framed.{Framed}
-use Rattle.lineform.specs.declared.lines.Ordered.{Ordered}
+use Rattle.lineform.specs.declared.lines.Counts.{Counts}
 use Rattle.lineform.specs.Answers.{decoded_of, framed_of, order_of}
 use Rattle.classes.specs.Machine.{lookup_of, row_of}
 use Rattle.classes.specs.Layout.{layout}
@@ -22,7 +25,6 @@ use Rattle.tables.specs.declared.read.Reading.{Reading}
 use Rattle.tables.specs.Readings.{no_table, the_table, reading_of}
 use Rattle.tables.specs.Writings.{text_in, holding}
 use Rattle.engine.specs.Finding.{finding_in}
-use Rattle.engine.specs.Numbers.{decoded_number, framed_number, ordered_number}
 
 -- what a run of the engine returned for a call: its answer and both buffers, as the contract has them
 pub record Returned (a : Call) (x : Ran) : Type 0 where
@@ -35,12 +37,11 @@ pub record ReadsInto (s : List ℕ) (x : Reading) : Type 0 where
   -- 0 exactly for a text that has a table
   pub zero : (x.refusal ≡ 0) ↔ ((t : Table) × Reads s (read t))
   pub most : x.refusal ≤ 5
-  -- the answers of the steps, by document 01's numbers: the first that is not 0 is the call's
-  pub decoded : (o : Decoded) → o ≡ decoded_of (lines s) → (decoded_number o ≡ 0 → ⊥) → x.refusal ≡ decoded_number o
-  pub framed : (ls : List (List ℕ)) → lines s ≡ some ls → (l : List ℕ) → Memᴰ l ls → (o : Framed) → o ≡ framed_of (frame l) → (framed_number o ≡ 0 → ⊥)
-      → x.refusal ≡ framed_number o
-  pub ordered : (ls : List (List ℕ)) (fs : List TextFrame) → lines s ≡ some ls → frames ls ≡ some fs → (o : Ordered) → o ≡ order_of (some fs) → (ordered_number o ≡ 0 → ⊥)
-      → x.refusal ≡ ordered_number o
+  -- the answers of the steps, by document 01's numbers: the first that is not 0 is the call's; a line without a frame is 2
+  pub decoded : (o : Result ℕ Refusal) → o ≡ decoded_of (lines s) → (answer_number o ≡ 0 → ⊥) → x.refusal ≡ answer_number o
+  pub framed : (ls : List (List ℕ)) → lines s ≡ some ls → (l : List ℕ) → Memᴰ l ls → framed_of (frame l) ≡ None → x.refusal ≡ refusal_number BadFrame
+  pub ordered : (ls : List (List ℕ)) (fs : List TextFrame) → lines s ≡ some ls → frames ls ≡ some fs → (o : Result Counts Refusal) → o ≡ order_of (some fs) → (answer_number o ≡ 0 → ⊥)
+      → x.refusal ≡ answer_number o
 
 -- the writer, of a table's bytes B: their text is the one that reads into them, and 8 is for exactly the bytes that have none
 pub record WritesFrom (B buffer : List ℕ) (x : Wrote) : Type 0 where

@@ -3,8 +3,7 @@ use Rattle.std.specs.Prelude.{ℕ, ◌≤◌, ◌≡◌, true, false, List, [], 
 use Rattle.cofj.specs.declared.Shown.{Shown}
 use Rattle.cofj.specs.declared.Verdict.{Verdict}
 use Rattle.cofj.specs.Text.{hex_line}
-use Rattle.cofj.specs.Typing.{refused}
-use Rattle.cofj.specs.Calls.{over, check_call, verdict_of, zeros}
+use Rattle.cofj.specs.Calls.{over, zeros}
 use Rattle.cofj.specs.Show.{verdict_size, filled_up, Presented}
 
 -- an answer and both buffers after a call
@@ -28,7 +27,3 @@ pub record PutVerdict (v : Verdict) (d₀ d : List ℕ) (t : ℕ) : Type 0 where
 -- the line by value, beside a report's length
 abbrev pub line_of : Verdict → ℕ → Shown
 line_of v n = let line = hex_line (verdict_bytes v) in record { refusal = 0; verdict_length = length line; verdict = filled_up verdict_size line; length = n }
-
--- the verdict on a text whose checked run answered this number
-abbrev pub verdict_by : ℕ → List ℕ → Verdict
-verdict_by k s = elim (eqb k 0) [ true ↦ check_call s | false ↦ verdict_of (refused k) ]

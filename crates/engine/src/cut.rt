@@ -8,13 +8,7 @@ fn begins(text: &[u8], at: usize) -> bool
     requires { at ≤ length text.now }
     ensures { result ≡ begins04 (drop at text.now) }
 {
-    if text.len() - at < 2 {
-        return false;
-    }
-    if text[at] != b'0' {
-        return false;
-    }
-    text[at + 1] == b'4'
+    text[at..].starts_with(b"04")
 }
 
 // The place after the LF of the line that goes on at a place, or the end of the text.
@@ -22,15 +16,12 @@ fn line_end(text: &[u8], at: usize) -> usize
     requires { at ≤ length text.now }
     ensures { result ≡ at + line_length (drop at text.now) }
 {
-    let mut i = at;
-    while i < text.len() {
-        let c = text[i];
-        i += 1;
-        if c == b'\n' {
-            return i;
+    for i in at..text.len() {
+        if text[i] == b'\n' {
+            return i + 1;
         }
     }
-    i
+    text.len()
 }
 
 // How many characters the first text has.
@@ -38,6 +29,7 @@ pub(crate) fn first_length(text: &[u8]) -> usize
     ensures { result ≡ first_length true text.now }
 {
     let mut at: usize = 0;
+    // by what each line takes: no range
     while at < text.len() {
         let end = line_end(text, at);
         if begins(text, at) {

@@ -4,7 +4,7 @@ ghost use Rattle.std.specs.Prelude.{◌≡◌};
 ghost use Rattle.classes.specs.Machine.{lookup_of};
 ghost use Rattle.engine.specs.Finding.{finding_in};
 
-use classes::methods::{Found, lookup};
+use classes::methods::lookup;
 use classes::places::SIZE;
 use cofj::Finding;
 
@@ -12,17 +12,16 @@ use cofj::Finding;
 pub(crate) fn find_method(table: &[u8; SIZE], class: u8, name: u8) -> Finding
     ensures { result ≡ finding_in (lookup_of table.now class name) }
 {
-    let f = lookup(table, class, name);
-    let Found::At(owner, method) = f else {
-        return Finding {
+    match lookup(table, class, name) {
+        Some(f) => Finding {
+            found: true,
+            owner: f.owner,
+            method: f.method,
+        },
+        None => Finding {
             found: false,
             owner: 0,
             method: 0,
-        };
-    };
-    Finding {
-        found: true,
-        owner,
-        method,
+        },
     }
 }

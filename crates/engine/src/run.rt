@@ -1,126 +1,79 @@
 // The checked run and the trial run: state, text, types where they are asked for, the second text, then main.
 // Not here: what a second text gives (feed), evaluation (evaluator).
-ghost use Rattle.std.specs.Prelude.{◌≤◌, ◌≡◌, length};
-ghost use Rattle.cofj.specs.Limits.{report_size, work_size};
+ghost use Rattle.std.specs.Prelude.{◌≡◌};
 ghost use Rattle.cofj.specs.Calls.{checked, trial, run_call};
-ghost use Rattle.batch.specs.Inputs.{SomeTable};
-ghost use Rattle.evaluator.specs.Main.{Given};
-ghost use Rattle.engine.specs.Steps.{ran, no_report, mode_of, RunsFed, Runs};
+ghost use Rattle.engine.specs.Steps.{ran, answer_by, mode_of, judged_in};
 
-use crate::feed::{Fed, feed};
-use crate::session::{WORK, state_refusal, with_fuel};
+use crate::feed::feed;
+use crate::session::{WORK, ready, with_fuel};
 use crate::work::clear;
 use canon::layout::BLOCK;
-use checker::program::{Checked, check};
+use checker::program::check;
 use classes::places::SIZE;
-use cofj::{Answer, Session};
-use evaluator::report::run_report;
+use cofj::{Answer, Refusal, Session};
+use evaluator::report::{Reported, run_report};
 use tables::read::read_into;
 
 // Whether types are checked first.
 #[derive(Clone, Copy)]
-enum Mode {
+pub(crate) enum Mode {
     Checked,
     Trial,
 }
 
-// A refused call: the same session, and no report.
-fn refuse(refusal: u8, session: Session) -> Answer
-    ensures { result ≡ no_report refusal session }
+// What the mode asks of a table's bytes: their types, or nothing.
+fn judge(mode: Mode, t: &[u8; SIZE]) -> Result<(), Refusal>
+    ensures { result ≡ judged_in mode t.now }
 {
-    Answer {
-        refusal,
-        session,
-        length: 0,
+    match mode {
+        Mode::Checked => {
+            check(t)?;
+            Ok(())
+        }
+        Mode::Trial => Ok(()),
     }
 }
 
-// Runs main of a table's bytes, with the value in `block` if it is fed, in the first work bytes, which are zero after, and writes the report.
-fn run_table(
-    t: &[u8; SIZE],
-    session: Session,
-    fed: bool,
-    block: &[u8; BLOCK],
-    out: &mut [u8],
-    work: &mut [u8],
-) -> Answer
-    requires { Given fed block.now × (report_size ≤ length out.old) × (work_size ≤ length work.old) }
-    ensures { RunsFed t.now fed block.now session out.old work.old (ran result out.new work.new) }
+// What a call answers. A refused one has the same session, and no report.
+fn answer(session: Session, r: Result<Reported, Refusal>) -> Answer
+    ensures { result ≡ answer_by session r }
 {
-    let fuel = session.fuel;
-    let r = run_report(t, &mut work[..WORK], fuel, fed, block, out);
-    clear(work);
-    Answer {
-        refusal: 0,
-        session: with_fuel(session, r.fuel),
-        length: r.length,
+    match r {
+        Ok(r) => Answer {
+            refusal: 0,
+            session: with_fuel(session, r.fuel),
+            length: r.length,
+        },
+        Err(k) => Answer {
+            refusal: k.number(),
+            session,
+            length: 0,
+        },
     }
 }
 
-// Runs main of a table's bytes with what the second text gives it, or answers 14 or 15.
-fn feed_and_run(
-    t: &[u8; SIZE],
-    input: &[u8],
-    session: Session,
-    out: &mut [u8],
-    work: &mut [u8],
-) -> Answer
-    requires { SomeTable t.now × (report_size ≤ length out.old) × (work_size ≤ length work.old) }
-    ensures { Runs trial t.now input.now session out.old work.old (ran result out.new work.new) }
-{
-    let mut block = [0u8; BLOCK];
-    let f = feed(t, input, &mut block);
-    match f {
-        Fed::Nothing => run_table(t, session, false, &block, out, work),
-        Fed::Value => run_table(t, session, true, &block, out, work),
-        Fed::Refused(k) => refuse(k, session),
-    }
-}
-
-// Runs main of a table's bytes if its types are good, or answers 6 or 7.
-fn check_and_run(
-    t: &[u8; SIZE],
-    input: &[u8],
-    session: Session,
-    out: &mut [u8],
-    work: &mut [u8],
-) -> Answer
-    requires { SomeTable t.now × (report_size ≤ length out.old) × (work_size ≤ length work.old) }
-    ensures { Runs checked t.now input.now session out.old work.old (ran result out.new work.new) }
-{
-    let c = check(t);
-    match c {
-        Checked::Main(_) => feed_and_run(t, input, session, out, work),
-        Checked::Refused(k) => refuse(k, session),
-    }
-}
-
-// A run of a text, and of a second one.
-fn run_text(
+// A run of a text, and of a second one: its report, or the first refusal. Main runs in the first work bytes, which are zero after.
+pub(crate) fn run_text(
     mode: Mode,
     text: &[u8],
     input: &[u8],
     session: Session,
     out: &mut [u8],
     work: &mut [u8],
-) -> Answer
-    ensures { ran result out.new work.new
+) -> Result<Reported, Refusal>
+    ensures { ran (answer_by session result) out.new work.new
         ≡ run_call (record { mode = mode_of mode; text = text.now; input = input.now; session = session; report = out.old; work = work.old }) }
 {
-    let active = session.active;
-    let k = state_refusal(active, out.len(), work.len());
-    if k != 0 {
-        return refuse(k, session);
-    }
+    ready(session.active, out.len(), work.len())?;
     let mut bytes = [0u8; SIZE];
-    let refusal = read_into(text, &mut bytes);
-    if refusal != 0 {
-        return refuse(refusal, session);
-    }
-    match mode {
-        Mode::Checked => check_and_run(&bytes, input, session, out, work),
-        Mode::Trial => feed_and_run(&bytes, input, session, out, work),
-    }
+    read_into(text, &mut bytes)?;
+    judge(mode, &bytes)?;
+    let mut block = [0u8; BLOCK];
+    let fed = feed(&bytes, input, &mut block)?;
+    let fuel = session.fuel;
+    let r = run_report(&bytes, &mut work[..WORK], fuel, fed, &block, out);
+    clear(work);
+    Ok(r)
 }
 
 // The checked run of a text, with the second text `input`; an empty one counts as none.
@@ -134,7 +87,8 @@ pub(crate) fn checked_run(
     ensures { ran result out.new work.new
         ≡ run_call (record { mode = checked; text = text.now; input = input.now; session = session; report = out.old; work = work.old }) }
 {
-    run_text(Mode::Checked, text, input, session, out, work)
+    let r = run_text(Mode::Checked, text, input, session, out, work);
+    answer(session, r)
 }
 
 // The trial run: no types are asked for.
@@ -148,5 +102,6 @@ pub(crate) fn trial_run(
     ensures { ran result out.new work.new
         ≡ run_call (record { mode = trial; text = text.now; input = input.now; session = session; report = out.old; work = work.old }) }
 {
-    run_text(Mode::Trial, text, input, session, out, work)
+    let r = run_text(Mode::Trial, text, input, session, out, work);
+    answer(session, r)
 }

@@ -2,9 +2,9 @@
 // Not here: runs (run).
 ghost use Rattle.std.specs.Prelude.{◌≡◌};
 ghost use Rattle.cofj.specs.Calls.{open_session, with_fuel, close_session};
-ghost use Rattle.engine.specs.Steps.{state_number};
+ghost use Rattle.engine.specs.Steps.{state_of};
 
-use cofj::{Closing, Session};
+use cofj::{Closing, Refusal, Session};
 
 // How many bytes a report buffer has at least, and a work buffer.
 pub(crate) const REPORT: usize = 1056;
@@ -22,43 +22,45 @@ pub(crate) fn open_session(fuel: u16) -> Session
 pub(crate) fn with_fuel(session: Session, fuel: u16) -> Session
     ensures { result ≡ with_fuel session fuel }
 {
-    let mut left = session;
-    left.fuel = fuel;
-    left
+    Session {
+        active: session.active,
+        fuel,
+    }
 }
 
 // A closed session has no fuel; closing it again is 11.
+#[tactic(auto, unfolding(cofj::specs::Calls::close_session))]
 pub(crate) fn close_session(session: Session) -> Closing
     ensures { result ≡ close_session session }
 {
-    let active = session.active;
-    if !active {
+    if !session.active {
         return Closing {
-            refusal: 11,
+            refusal: Refusal::ClosedSession.number(),
             session,
         };
     }
-    let mut closed = session;
-    closed.active = false;
-    closed.fuel = 0;
     Closing {
         refusal: 0,
-        session: closed,
+        session: Session {
+            active: false,
+            fuel: 0,
+        },
     }
 }
 
-// What the state refuses before the text is looked at: 11, 12, 13, or 0 for nothing.
-pub(crate) fn state_refusal(active: bool, report: usize, work: usize) -> u8
-    ensures { result ≡ state_number active report work }
+// What the state refuses before the text is looked at: 11, 12 or 13.
+#[tactic(auto, unfolding(crate::specs::Steps::state_of))]
+pub(crate) fn ready(active: bool, report: usize, work: usize) -> Result<(), Refusal>
+    ensures { result ≡ state_of active report work }
 {
     if !active {
-        return 11;
+        return Err(Refusal::ClosedSession);
     }
     if report < REPORT {
-        return 12;
+        return Err(Refusal::ShortReport);
     }
     if work < WORK {
-        return 13;
+        return Err(Refusal::ShortWork);
     }
-    0
+    Ok(())
 }

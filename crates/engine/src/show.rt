@@ -2,13 +2,16 @@
 // Not here: where the input is cut (cut), the buffers, standard input and output (host/).
 ghost use Rattle.std.specs.Prelude.{◌≤◌, ◌≡◌, length};
 ghost use Rattle.cofj.specs.Show.{verdict_size, show_texts, show_call};
-ghost use Rattle.engine.specs.Showing.{showing, no_line, line_of, verdict_by, PutVerdict};
+ghost use Rattle.cofj.specs.Refusals.{refusal_number};
+ghost use Rattle.checker.specs.Answers.{verdict_of};
+ghost use Rattle.engine.specs.Showing.{showing, no_line, line_of, PutVerdict};
 
-use crate::check::check_text;
+use crate::check::main_type;
 use crate::cut::first_length;
-use crate::run::checked_run;
-use crate::session::{open_session, state_refusal};
-use cofj::{Shown, Verdict};
+use crate::run::{Mode, run_text};
+use crate::session::{open_session, ready};
+use classes::chain::FieldType;
+use cofj::{Refusal, Shown};
 use lineform::write::put_line;
 
 // The fuel that `linerun` opens with.
@@ -17,37 +20,20 @@ const FUEL: u16 = 1000;
 // The characters of the verdict line of an accepted program, the longest.
 const VERDICT: usize = 9;
 
-// The verdict line at the front of `out`. Answers with the place after it.
-fn put_verdict(v: Verdict, out: &mut [u8]) -> usize
+// The line of a verdict, main's type or a refusal, at the front of `out`. Answers with the place after it.
+fn put_verdict(v: Result<FieldType, Refusal>, out: &mut [u8]) -> usize
     requires { verdict_size ≤ length out.old }
-    ensures { PutVerdict v out.old out.new result }
+    ensures { PutVerdict (verdict_of v) out.old out.new result }
 {
-    let k = v.refusal;
-    if k != 0 {
-        let line = [k];
-        return put_line(8, &line, out, 0);
+    match v {
+        Ok(u) => put_line(8, &[0, u.class, u.tag], out, 0),
+        Err(r) => put_line(8, &[r.number()], out, 0),
     }
-    let line = [k, v.class, v.tag];
-    put_line(8, &line, out, 0)
-}
-
-// What is said of a text whose checked run answered this number: the refusal, or main's type.
-fn judge(text: &[u8], refusal: u8) -> Verdict
-    ensures { result ≡ verdict_by refusal text.now }
-{
-    if refusal != 0 {
-        return Verdict {
-            refusal,
-            class: 0,
-            tag: 0,
-        };
-    }
-    check_text(text)
 }
 
 // A verdict's line by value, beside the report's length.
-fn with_line(v: Verdict, length: u16) -> Shown
-    ensures { result ≡ line_of v length }
+fn with_line(v: Result<FieldType, Refusal>, length: u16) -> Shown
+    ensures { result ≡ line_of (verdict_of v) length }
 {
     let mut verdict = [0u8; VERDICT];
     let n = put_verdict(v, &mut verdict);
@@ -60,11 +46,11 @@ fn with_line(v: Verdict, length: u16) -> Shown
 }
 
 // Nothing is shown: a buffer is too short.
-fn without_line(refusal: u8) -> Shown
-    ensures { result ≡ no_line refusal }
+fn without_line(r: Refusal) -> Shown
+    ensures { result ≡ no_line (refusal_number r) }
 {
     Shown {
-        refusal,
+        refusal: r.number(),
         verdict_length: 0,
         verdict: [0u8; VERDICT],
         length: 0,
@@ -75,14 +61,14 @@ fn without_line(refusal: u8) -> Shown
 fn show_texts(text: &[u8], input: &[u8], report: &mut [u8], work: &mut [u8]) -> Shown
     ensures { showing result report.new work.new ≡ show_texts text.now input.now report.old work.old }
 {
-    let k = state_refusal(true, report.len(), work.len());
-    if k != 0 {
-        return without_line(k);
+    if let Err(r) = ready(true, report.len(), work.len()) {
+        return without_line(r);
     }
     let session = open_session(FUEL);
-    let a = checked_run(text, input, session, report, work);
-    let v = judge(text, a.refusal);
-    with_line(v, a.length)
+    match run_text(Mode::Checked, text, input, session, report, work) {
+        Ok(r) => with_line(main_type(text), r.length),
+        Err(r) => with_line(Err(r), 0),
+    }
 }
 
 // What is shown for the input of `linerun`.

@@ -11,9 +11,5 @@ pub(crate) fn clear(work: &mut [u8])
     requires { work_size ≤ length work.old }
     ensures { work.new ≡ cleared work.old }
 {
-    let mut i: usize = 0;
-    while i < WORK {
-        work[i] = 0;
-        i += 1;
-    }
+    work[..WORK].fill(0);
 }

@@ -1,13 +1,9 @@
 -- The two sides of a method, as the language has them: one law for each return of the code; the open calls with one more.
 -- Not here: what the functions ask of one another (CallSteps).
-use Prim.Native.Nat.{ℕ, zero, suc, ◌+◌, ◌≤◌, ◌<◌}
-use native.Mathlib.Omega.{arith}
+use Rattle.std.proofs.Common.{ℕ, zero, suc, ◌+◌, ◌≤◌, ◌<◌, arith, add-one, ◌≡◌, refl, sym, ap, ap₂, ◌∙◌, subst, List, ◌∷◌, length}
 use native.Mathlib.Decide.{dec_lt}
-use native.Mathlib.Numerals.{add-one}
-use mathlib.Core.Path.{◌≡◌, refl, sym, ap, ap₂, ◌∙◌, subst}
-use mathlib.Core.List.{List, ◌∷◌}
-use mathlib.Core.Option.{none, some}
-use lib.ListN.{length, get_elem?}
+use Rattle.std.proofs.Math.Option.{none, some}
+use Rattle.std.proofs.Math.ListN.{get_elem?}
 use Rattle.cofj.specs.Limits.{method_count, nesting_limit}
 use Rattle.cofj.specs.Syntax.{Expr, Method, Table}
 use Rattle.cofj.specs.Writing.{code_of}
@@ -21,23 +17,20 @@ use Rattle.classes.proofs.Zones.{left_stands, right_stands}
 use Rattle.classes.proofs.Lists.{index_below, method_at}
 use Rattle.values.specs.declared.ValueRef.{ValueRef}
 use Rattle.values.specs.declared.ValueRef.TheVariants.{Mark}
-use Rattle.maker.specs.declared.Slot.{Slot}
 use Rattle.values.specs.Layout.{value_of}
 use Rattle.values.specs.Operations.{Gives}
 use Rattle.maker.specs.Laying.{values_from}
-use Rattle.evaluator.specs.Figures.{call_limit, fuel_at}
 use Rattle.evaluator.specs.declared.Stop.{Stop}
-use Rattle.evaluator.specs.declared.Out.{Out}
-use Rattle.evaluator.specs.declared.Out.TheVariants.{Value, Halt}
-use Rattle.evaluator.specs.declared.frame.Held.TheVariants.{Is, Absent}
+use Rattle.std.specs.declared.option.Option.TheVariants.{Some, None}
+use Rattle.evaluator.specs.declared.trace.Trace.{Trace}
 use Rattle.evaluator.specs.declared.trace.OpenCall.{OpenCall}
-use Rattle.evaluator.specs.State.{side_call, Kept, Older, PartsOlder, slots_at, call_at, CallPut, CallOlder, TraceHolds, call_in, frame_in, trace_in}
-use Rattle.evaluator.specs.Resting.{body_frame}
-use Rattle.evaluator.specs.Answers.{stop_of}
+use Rattle.evaluator.specs.State.{side_call, Kept, Older, PartsOlder, call_at, CallPut, CallOlder, TraceHolds, call_in, frame_in, trace_in}
+use Rattle.evaluator.specs.Frames.{body_frame}
+use Rattle.evaluator.specs.Answers.{Out, Value, Halt, stop_of}
 use Rattle.evaluator.specs.Evaluation.{Reads, eval_in, deeper, Evaluates}
 use Rattle.evaluator.specs.Calling.{RunsRight, RunsLeft}
 use Rattle.evaluator.specs.Steps.{Traced}
-use Rattle.evaluator.proofs.TraceLaws.{call_alike, trace_below}
+use Rattle.evaluator.proofs.TraceLaws.{trace_below}
 use Rattle.evaluator.proofs.Keeping.{kept_then, kept_down, kept_outside}
 use Rattle.evaluator.proofs.Given.{going_on, halted, given}
 
@@ -48,22 +41,19 @@ eval_to_is objects zero t p os e n = refl
 eval_to_is objects (suc d) t p os e n = refl
 
 -- ---- the trace with one call more
-trace_length : (W tr : List ℕ) (n : ℕ) → length (trace_in W tr n) ≡ n
+trace_length : (W : List ℕ) (tr : Trace) (n : ℕ) → length (trace_in W tr n) ≡ n
 unfolding trace_in
 trace_length W tr zero = refl
 trace_length W tr (suc n) = ap suc (trace_length W tr n)
 
-module _ (S : List ℕ) (k : ℕ) (c : OpenCall) (S1 : List ℕ) (put : CallPut S k c S1) where
+module _ (S : Trace) (k : ℕ) (c : OpenCall) (S1 : Trace) (put : CallPut S k c S1) where
   put_older : (i : ℕ) → i < k → call_at S1 i ≡ call_at S i
-  put_older i l = call_alike S S1 i (λ p a b. put.below p (omega arith))
+  put_older i l = put.others i (λ e. omega arith)
 
-  pub put_traced : k < call_limit → Traced k S S1
-  put_traced l = let e = put.above fuel_at (omega arith) in record { same = put.same; calls = put.below; spent = omega arith }
+  pub put_traced : Traced k S S1
+  put_traced = let e = put.fuel in record { calls = put_older; spent = omega arith }
 
-pub put_side : (S : List ℕ) (k : ℕ) (v : ValueRef) (m : ℕ) (ps qs : List Slot) (n : ℕ) (S1 : List ℕ) → ps ≡ qs → CallPut S k (side_call v m ps n k) S1 → CallPut S k (side_call v m qs n k) S1
-put_side S k v m ps qs n S1 e put = subst (λ (xs : List Slot). CallPut S k (side_call v m xs n k) S1) e put
-
-module _ (S : List ℕ) (k : ℕ) (v : ValueRef) (m : ℕ) (ps : List Slot) (n : ℕ) (S1 : List ℕ) (put : CallPut S k (side_call v m ps n k) S1) where
+module _ (S : Trace) (k : ℕ) (v : ValueRef) (m : ℕ) (ps : List ValueRef) (n : ℕ) (S1 : Trace) (put : CallPut S k (side_call v m ps n k) S1) where
   pub put_in : (W : List ℕ) → trace_in W S1 (k + 1) ≡ opened (trace_in W S k) (value_of W v) m (values_from W ps 0 n)
   unfolding trace_in
   put_in W =
@@ -113,75 +103,75 @@ module _ (T : List ℕ) (t : Table) (tb : Tabled T t) (i : ℕ) (k : Method) (ek
   }
 
 -- ---- the sides
-module _ (T W tr : List ℕ) (top : ℕ) (v : ValueRef) (A : List ℕ) (n owner i next objects d sp fuel x at : ℕ) (ea : at ≡ right_of T i) (W1 : List ℕ) (o : Out)
-    (ev : Evaluates T W (body_frame v (Is (Mark x)) A n owner) tr top at nesting_limit objects d (sp + 4) fuel W1 o) where
+module _ (T W : List ℕ) (tr : Trace) (top : ℕ) (v : ValueRef) (A : List ValueRef) (n owner i next objects d sp fuel x at : ℕ) (ea : at ≡ right_of T i) (W1 : List ℕ) (o : Out)
+    (ev : Evaluates T W (body_frame v (Some (Mark x)) A n owner) tr top at nesting_limit objects d (sp + 4) fuel W1 o) where
   kept_right : Kept sp W W1
   kept_right = kept_down sp (sp + 4) W W1 (omega arith) ev.kept
 
-  right_runs : (t : Table) (e : Expr) → eval_in objects d t (frame_in W (body_frame v (Is (Mark x)) A n owner)) (trace_in W tr top) e fuel ≡ eval_to objects d t (frame_of (value_of W v) (some (mark_of x)) (values_from W (slots_at A 0) 0 n)) (trace_in W tr top) e fuel
+  right_runs : (t : Table) (e : Expr) → eval_in objects d t (frame_in W (body_frame v (Some (Mark x)) A n owner)) (trace_in W tr top) e fuel ≡ eval_to objects d t (frame_of (value_of W v) (some (mark_of x)) (values_from W A 0 n)) (trace_in W tr top) e fuel
   unfolding frame_in
-  right_runs t e = eval_to_is objects d t (frame_in W (body_frame v (Is (Mark x)) A n owner)) (trace_in W tr top) e fuel
+  right_runs t e = eval_to_is objects d t (frame_in W (body_frame v (Some (Mark x)) A n owner)) (trace_in W tr top) e fuel
 
-  pub right_halt : (s : Stop) (fuel1 : ℕ) → o ≡ Halt s fuel1 → RunsRight T W tr top v (slots_at A 0) n i next objects d sp fuel x W1 o
-  right_halt s fuel1 eo = subst (RunsRight T W tr top v (slots_at A 0) n i next objects d sp fuel x W1) (sym eo) (record {
+  pub right_halt : (s : Stop) (fuel1 : ℕ) → o ≡ Halt s fuel1 → RunsRight T W tr top v A n i next objects d sp fuel x W1 o
+  right_halt s fuel1 eo = subst (RunsRight T W tr top v A n i next objects d sp fuel x W1) (sym eo) (record {
     kept = kept_right;
     older = tt;
     is = λ t k tb ek. record {
-      is = halted T W (body_frame v (Is (Mark x)) A n owner) tr top at nesting_limit objects d (sp + 4) fuel W1 o ev s fuel1 eo t k.right (right_reads T t tb i k ek at ea) ∙ right_runs t k.right;
+      is = halted T W (body_frame v (Some (Mark x)) A n owner) tr top at nesting_limit objects d (sp + 4) fuel W1 o ev s fuel1 eo t k.right (right_reads T t tb i k ek at ea) ∙ right_runs t k.right;
       next = tt;
     };
   })
 
   pub right_value : (u : ValueRef) (at1 fuel1 : ℕ) (W2 : List ℕ) (r : ValueRef) → o ≡ Value u at1 fuel1 → Gives W1 sp W2 r (value_of W1 u)
-      → RunsRight T W tr top v (slots_at A 0) n i next objects d sp fuel x W2 (Value r next fuel1)
+      → RunsRight T W tr top v A n i next objects d sp fuel x W2 (Value r next fuel1)
   right_value u at1 fuel1 W2 r eo b = record {
     kept = kept_then sp sp W W1 W2 (omega arith) kept_right (kept_outside sp W1 W2 b.outside);
     older = record { held = b.held; low = b.place };
     is = λ t k tb ek. record {
       is = ap (λ (g : Graph). value g fuel1) b.is
-          ∙ given T W (body_frame v (Is (Mark x)) A n owner) tr top at nesting_limit objects d (sp + 4) fuel W1 o ev u at1 fuel1 eo t k.right (right_reads T t tb i k ek at ea) ∙ right_runs t k.right;
+          ∙ given T W (body_frame v (Some (Mark x)) A n owner) tr top at nesting_limit objects d (sp + 4) fuel W1 o ev u at1 fuel1 eo t k.right (right_reads T t tb i k ek at ea) ∙ right_runs t k.right;
       next = refl;
     };
   }
 
-module _ (T W tr : List ℕ) (top : ℕ) (v : ValueRef) (A : List ℕ) (n owner i next objects d sp fuel m : ℕ) (tr1 : List ℕ)
-    (pu : CallPut tr top (side_call v m (slots_at A 0) n top) tr1) (at : ℕ) (ea : at ≡ left_of T i) (W1 : List ℕ) (o : Out)
-    (ev : Evaluates T W (body_frame v Absent A n owner) tr1 (top + 1) at nesting_limit objects d (sp + 4) fuel W1 o) where
+module _ (T W : List ℕ) (tr : Trace) (top : ℕ) (v : ValueRef) (A : List ValueRef) (n owner i next objects d sp fuel m : ℕ) (tr1 : Trace)
+    (pu : CallPut tr top (side_call v m A n top) tr1) (at : ℕ) (ea : at ≡ left_of T i) (W1 : List ℕ) (o : Out)
+    (ev : Evaluates T W (body_frame v None A n owner) tr1 (top + 1) at nesting_limit objects d (sp + 4) fuel W1 o) where
   kept_left : Kept sp W W1
   kept_left = kept_down sp (sp + 4) W W1 (omega arith) ev.kept
 
-  trace_is : trace_in W tr1 (top + 1) ≡ opened (trace_in W tr top) (value_of W v) m (values_from W (slots_at A 0) 0 n)
-  trace_is = put_in tr top v m (slots_at A 0) n tr1 pu W
+  trace_is : trace_in W tr1 (top + 1) ≡ opened (trace_in W tr top) (value_of W v) m (values_from W A 0 n)
+  trace_is = put_in tr top v m A n tr1 pu W
 
-  left_runs : (t : Table) (e : Expr) → eval_in objects d t (frame_in W (body_frame v Absent A n owner)) (trace_in W tr1 (top + 1)) e fuel
-      ≡ eval_to objects d t (frame_of (value_of W v) none (values_from W (slots_at A 0) 0 n)) (opened (trace_in W tr top) (value_of W v) m (values_from W (slots_at A 0) 0 n)) e fuel
+  left_runs : (t : Table) (e : Expr) → eval_in objects d t (frame_in W (body_frame v None A n owner)) (trace_in W tr1 (top + 1)) e fuel
+      ≡ eval_to objects d t (frame_of (value_of W v) none (values_from W A 0 n)) (opened (trace_in W tr top) (value_of W v) m (values_from W A 0 n)) e fuel
   unfolding frame_in
   left_runs t e =
-      ap (λ (os : List language.OpenCall). eval_in objects d t (frame_in W (body_frame v Absent A n owner)) os e fuel) trace_is
-      ∙ eval_to_is objects d t (frame_in W (body_frame v Absent A n owner)) (opened (trace_in W tr top) (value_of W v) m (values_from W (slots_at A 0) 0 n)) e fuel
+      ap (λ (os : List language.OpenCall). eval_in objects d t (frame_in W (body_frame v None A n owner)) os e fuel) trace_is
+      ∙ eval_to_is objects d t (frame_in W (body_frame v None A n owner)) (opened (trace_in W tr top) (value_of W v) m (values_from W A 0 n)) e fuel
 
-  pub left_halt : (s : Stop) (fuel1 : ℕ) → o ≡ Halt s fuel1 → RunsLeft T W tr top v (slots_at A 0) n i next objects d sp fuel m W1 o
-  left_halt s fuel1 eo = subst (RunsLeft T W tr top v (slots_at A 0) n i next objects d sp fuel m W1) (sym eo) (record {
+  pub left_halt : (s : Stop) (fuel1 : ℕ) → o ≡ Halt s fuel1 → RunsLeft T W tr top v A n i next objects d sp fuel m W1 o
+  left_halt s fuel1 eo = subst (RunsLeft T W tr top v A n i next objects d sp fuel m W1) (sym eo) (record {
     kept = kept_left;
     older = tt;
     is = λ t k tb ek. record {
-      is = going_on (stopped (stop_of s) fuel1) (eval_to objects d t (frame_of (value_of W v) none (values_from W (slots_at A 0) 0 n)) (opened (trace_in W tr top) (value_of W v) m (values_from W (slots_at A 0) 0 n)) k.left fuel)
+      is = going_on (stopped (stop_of s) fuel1) (eval_to objects d t (frame_of (value_of W v) none (values_from W A 0 n)) (opened (trace_in W tr top) (value_of W v) m (values_from W A 0 n)) k.left fuel)
           (λ u n'. value (close (length (trace_in W tr top)) u) n')
-          (halted T W (body_frame v Absent A n owner) tr1 (top + 1) at nesting_limit objects d (sp + 4) fuel W1 o ev s fuel1 eo t k.left (left_reads T t tb i k ek at ea) ∙ left_runs t k.left);
+          (halted T W (body_frame v None A n owner) tr1 (top + 1) at nesting_limit objects d (sp + 4) fuel W1 o ev s fuel1 eo t k.left (left_reads T t tb i k ek at ea) ∙ left_runs t k.left);
       next = tt;
     };
   })
 
   pub left_value : (u : ValueRef) (at1 fuel1 : ℕ) (W2 : List ℕ) (r : ValueRef) → o ≡ Value u at1 fuel1 → Gives W1 sp W2 r (close top (value_of W1 u))
-      → RunsLeft T W tr top v (slots_at A 0) n i next objects d sp fuel m W2 (Value r next fuel1)
+      → RunsLeft T W tr top v A n i next objects d sp fuel m W2 (Value r next fuel1)
   left_value u at1 fuel1 W2 r eo g = record {
     kept = kept_then sp sp W W1 W2 (omega arith) kept_left (kept_outside sp W1 W2 g.outside);
     older = record { held = g.held; low = g.place };
     is = λ t k tb ek. record {
       is = ap (λ (w : Graph). value w fuel1) (g.is ∙ ap (λ (x : ℕ). close x (value_of W1 u)) (sym (trace_length W tr top)))
-          ∙ going_on (value (value_of W1 u) fuel1) (eval_to objects d t (frame_of (value_of W v) none (values_from W (slots_at A 0) 0 n)) (opened (trace_in W tr top) (value_of W v) m (values_from W (slots_at A 0) 0 n)) k.left fuel)
+          ∙ going_on (value (value_of W1 u) fuel1) (eval_to objects d t (frame_of (value_of W v) none (values_from W A 0 n)) (opened (trace_in W tr top) (value_of W v) m (values_from W A 0 n)) k.left fuel)
           (λ w n'. value (close (length (trace_in W tr top)) w) n')
-          (given T W (body_frame v Absent A n owner) tr1 (top + 1) at nesting_limit objects d (sp + 4) fuel W1 o ev u at1 fuel1 eo t k.left (left_reads T t tb i k ek at ea) ∙ left_runs t k.left);
+          (given T W (body_frame v None A n owner) tr1 (top + 1) at nesting_limit objects d (sp + 4) fuel W1 o ev u at1 fuel1 eo t k.left (left_reads T t tb i k ek at ea) ∙ left_runs t k.left);
       next = refl;
     };
   }

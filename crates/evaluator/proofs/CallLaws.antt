@@ -1,11 +1,11 @@
 -- Calls up to their arguments, as the language has them: one law for each return of the code.
 -- Not here: the call itself (InvokeLaws), what the functions ask of one another (CallSteps).
-use Prim.Native.Nat.{ℕ, ◌+◌, ◌<◌}
-use native.Mathlib.Omega.{arith}
-use mathlib.Core.Path.{◌≡◌, refl, sym, ap, ◌∙◌, subst}
-use mathlib.Core.List.{List, []}
-use mathlib.Core.Option.{Option, none, some}
-use lib.ListN.{length, get_elem?}
+use Rattle.classes.specs.Machine.{found_at}
+use Rattle.std.specs.declared.option.Option.{Option as RustOption}
+use Rattle.std.specs.declared.option.Option.TheVariants.{Some, None}
+use Rattle.std.proofs.Common.{ℕ, ◌+◌, ◌<◌, arith, ◌≡◌, refl, sym, ap, ◌∙◌, subst, List, [], length}
+use Rattle.std.proofs.Math.Option.{Option, none, some}
+use Rattle.std.proofs.Math.ListN.{get_elem?}
 use Rattle.cofj.specs.Syntax.{Expr, call, Exprs, count, Method, Table}
 use Rattle.cofj.specs.Lookup as lookup
 use Rattle.cofj.specs.Lookup.{found_in}
@@ -14,19 +14,16 @@ use Rattle.cofj.specs.Values.{Graph}
 use Rattle.cofj.specs.Running as language
 use Rattle.cofj.specs.Running.{Outcome, value, stopped, ◌then◌, or_stuck, eval, target, invoke}
 use Rattle.classes.specs.declared.methods.Found.{Found}
-use Rattle.classes.specs.declared.methods.Found.TheVariants as found
 use Rattle.classes.specs.Layout.{Finds}
 use Rattle.values.specs.declared.ValueRef.{ValueRef}
-use Rattle.maker.specs.declared.Slot.{Slot}
 use Rattle.values.specs.Layout.{value_of}
 use Rattle.maker.specs.Laying.{values_from}
 use Rattle.evaluator.specs.declared.Stop.{Stop}
 use Rattle.evaluator.specs.declared.Stop.TheVariants.{Stuck}
-use Rattle.evaluator.specs.declared.Out.{Out}
-use Rattle.evaluator.specs.declared.Out.TheVariants.{Value, Halt}
 use Rattle.evaluator.specs.declared.frame.Frame.{Frame}
+use Rattle.evaluator.specs.declared.trace.Trace.{Trace}
 use Rattle.evaluator.specs.State.{Kept, frame_in, trace_in}
-use Rattle.evaluator.specs.Answers.{Listed, Values, Stops, stop_of, slots_of, Shows}
+use Rattle.evaluator.specs.Answers.{Out, Value, Halt, Listed, Values, Stops, stop_of, slots_of, Shows}
 use Rattle.evaluator.specs.Evaluation.{Reads, ReadsAll, eval_in, evals_in, deeper, Fits, Evaluates, Lists}
 use Rattle.evaluator.specs.Calling.{ArgsFit, FindsTarget, Calls, CallsWith, Invokes}
 use Rattle.evaluator.proofs.Keeping.{kept_none, kept_then, kept_down, value_kept, frame_same, trace_same}
@@ -35,24 +32,24 @@ use Rattle.evaluator.proofs.ListLaws.{list_zero}
 use Rattle.evaluator.proofs.Given.{going_on, halted, given, given_next, all_halted, all_given, all_next}
 
 -- ---- what a lookup finds
-abbrev present : Found → ℕ
-present (found.At o i) = 1
-present found.Nothing = 0
+abbrev present : RustOption Found → ℕ
+present (Some f) = 1
+present None = 0
 
-abbrev owner_in : Found → ℕ
-owner_in (found.At o i) = o
-owner_in found.Nothing = 0
+abbrev owner_in : RustOption Found → ℕ
+owner_in (Some f) = f.owner
+owner_in None = 0
 
-abbrev number_in : Found → ℕ
-number_in (found.At o i) = i
-number_in found.Nothing = 0
+abbrev number_in : RustOption Found → ℕ
+number_in (Some f) = f.method
+number_in None = 0
 
 record MethodFound (ds : List Method) (o i : ℕ) (x : Option lookup.Found) : Type 0 where
   method : Method
   here : get_elem? ds i ≡ some method
   is : x ≡ some (found_in o method)
 
-finds_at : (ds : List Method) (f : Found) (x : Option lookup.Found) → Finds ds f x → (o i : ℕ) → f ≡ found.At o i → MethodFound ds o i x
+finds_at : (ds : List Method) (f : RustOption Found) (x : Option lookup.Found) → Finds ds f x → (o i : ℕ) → f ≡ Some (found_at o i) → MethodFound ds o i x
 finds_at ds f x (Finds.at {d = d} e) o i q = record {
   method = d;
   here = subst (λ (z : ℕ). get_elem? ds z ≡ some d) (ap number_in q) e;
@@ -60,7 +57,7 @@ finds_at ds f x (Finds.at {d = d} e) o i q = record {
 }
 finds_at ds f x Finds.nothing o i q = absurd (let z : 0 ≡ 1 = ap present q in omega arith)
 
-finds_none : (ds : List Method) (f : Found) (x : Option lookup.Found) → Finds ds f x → f ≡ found.Nothing → x ≡ none
+finds_none : (ds : List Method) (f : RustOption Found) (x : Option lookup.Found) → Finds ds f x → f ≡ None → x ≡ none
 finds_none ds f x (Finds.at e) q = absurd (let z : 1 ≡ 0 = ap present q in omega arith)
 finds_none ds f x Finds.nothing q = refl
 
@@ -73,7 +70,7 @@ call_step : (objects d : ℕ) (t : Table) (p : language.Frame) (os : List langua
 unfolding eval
 call_step objects d t p os m e es fuel y q = going_on y (eval_in objects d t p os e fuel) (λ v n'. chosen objects d t p os m es v (target t v m (count es)) n') q
 
-module _ (T W : List ℕ) (f : Frame) (tr : List ℕ) (top at left objects d sp fuel m n : ℕ) where
+module _ (T W : List ℕ) (f : Frame) (tr : Trace) (top at left objects d sp fuel m n : ℕ) where
   pub call_flat : left ≡ 0 → Calls T W f tr top at left objects d sp fuel m n W (Halt Stuck fuel)
   call_flat z = record { kept = kept_none sp W; older = tt; is = λ t e es small r rs c. absurd (nested_none left e z r.nested) }
 
@@ -88,14 +85,14 @@ module _ (T W : List ℕ) (f : Frame) (tr : List ℕ) (top at left objects d sp 
       };
     })
 
-    module _ (v : ValueRef) (at1 fuel1 : ℕ) (eo : o ≡ Value v at1 fuel1) (w : Found) (fi : FindsTarget T W1 v m n w) where
+    module _ (v : ValueRef) (at1 fuel1 : ℕ) (eo : o ≡ Value v at1 fuel1) (w : RustOption Found) (fi : FindsTarget T W1 v m n w) where
       target_is : (t : Table) (e : Expr) (es : Exprs) → Reads T left at t e → count es ≡ n → (x : Option lookup.Found) → target t (value_of W1 v) m n ≡ x
           → chosen objects d t (frame_in W f) (trace_in W tr top) m es (value_of W1 v) x fuel1 ≡ eval_in objects d t (frame_in W f) (trace_in W tr top) (call m e es) fuel
       target_is t e es r c x q =
           ap (λ (y : Option lookup.Found). chosen objects d t (frame_in W f) (trace_in W tr top) m es (value_of W1 v) y fuel1) (sym q ∙ ap (target t (value_of W1 v) m) (sym c))
           ∙ call_step objects d t (frame_in W f) (trace_in W tr top) m e es fuel (value (value_of W1 v) fuel1) (given T W f tr top at left objects d sp fuel W1 o ev v at1 fuel1 eo t e r)
 
-      pub call_none : w ≡ found.Nothing → Calls T W f tr top at left objects d sp fuel m n W1 (Halt Stuck fuel1)
+      pub call_none : w ≡ None → Calls T W f tr top at left objects d sp fuel m n W1 (Halt Stuck fuel1)
       call_none ew = record {
         kept = ev.kept;
         older = tt;
@@ -105,7 +102,7 @@ module _ (T W : List ℕ) (f : Frame) (tr : List ℕ) (top at left objects d sp 
         };
       }
 
-      pub call_is : (own i : ℕ) (W2 : List ℕ) (x : Out) → Fits W f tr top (left + 1) objects d sp → w ≡ found.At own i → CallsWith T W1 f tr top at1 left objects d sp fuel1 v m n i W2 x
+      pub call_is : (own i : ℕ) (W2 : List ℕ) (x : Out) → Fits W f tr top (left + 1) objects d sp → w ≡ Some (found_at own i) → CallsWith T W1 f tr top at1 left objects d sp fuel1 v m n i W2 x
           → Calls T W f tr top at left objects d sp fuel m n W2 x
       call_is own i W2 x fit ew cw = record { kept = kept_then sp sp W W1 W2 (omega arith) ev.kept cw.kept; older = cw.older; is = shows }
         where
@@ -124,7 +121,7 @@ module _ (T W : List ℕ) (f : Frame) (tr : List ℕ) (top at left objects d sp 
               (record { is = z.is ∙ same ∙ target_is t e es r c (some (found_in own k.method)) k.is; next = z.next })
 
 -- ---- the arguments
-module _ (T W : List ℕ) (f : Frame) (tr : List ℕ) (top at left objects d sp fuel : ℕ) (v : ValueRef) (m n i : ℕ) (fit : ArgsFit W f tr top left objects d sp v n) (W1 : List ℕ) (l : Listed)
+module _ (T W : List ℕ) (f : Frame) (tr : Trace) (top at left objects d sp fuel : ℕ) (v : ValueRef) (m n i : ℕ) (fit : ArgsFit W f tr top left objects d sp v n) (W1 : List ℕ) (l : Listed)
     (li : Lists T W f tr top at left objects d (sp + 1) fuel n W1 l) where
   kept_args : Kept sp W W1
   kept_args = kept_down sp (sp + 1) W W1 (omega arith) li.kept
@@ -140,7 +137,7 @@ module _ (T W : List ℕ) (f : Frame) (tr : List ℕ) (top at left objects d sp 
     };
   })
 
-  pub args_is : (a b c e : ValueRef) (at1 fuel1 : ℕ) (ps : List Slot) (W2 : List ℕ) (o : Out) → l ≡ Values a b c e at1 fuel1
+  pub args_is : (a b c e : ValueRef) (at1 fuel1 : ℕ) (ps : List ValueRef) (W2 : List ℕ) (o : Out) → l ≡ Values a b c e at1 fuel1
       → values_from W1 ps 0 n ≡ values_from W1 (slots_of a b c e) 0 n → Invokes T W1 tr top v ps n i at1 objects d sp fuel1 m W2 o → CallsWith T W f tr top at left objects d sp fuel v m n i W2 o
   args_is a b c e at1 fuel1 ps W2 o el ep inv = record { kept = kept_then sp sp W W1 W2 (omega arith) kept_args inv.kept; older = inv.older; is = shows }
     where
@@ -161,11 +158,11 @@ module _ (T W : List ℕ) (f : Frame) (tr : List ℕ) (top at left objects d sp 
           })
 
 -- ---- no arguments
-values_none : (W : List ℕ) (ps : List Slot) (n : ℕ) → n ≡ 0 → values_from W ps 0 n ≡ []
+values_none : (W : List ℕ) (ps : List ValueRef) (n : ℕ) → n ≡ 0 → values_from W ps 0 n ≡ []
 unfolding values_from
 values_none W ps n z = rw z
 
-pub args_none : (T W : List ℕ) (f : Frame) (tr : List ℕ) (top at left objects d sp fuel : ℕ) (v : ValueRef) (m n i : ℕ) → n ≡ 0 → (ps : List Slot) (W2 : List ℕ) (o : Out)
+pub args_none : (T W : List ℕ) (f : Frame) (tr : Trace) (top at left objects d sp fuel : ℕ) (v : ValueRef) (m n i : ℕ) → n ≡ 0 → (ps : List ValueRef) (W2 : List ℕ) (o : Out)
     → Invokes T W tr top v ps n i at objects d sp fuel m W2 o → CallsWith T W f tr top at left objects d sp fuel v m n i W2 o
 args_none T W f tr top at left objects d sp fuel v m n i z ps W2 o inv = record { kept = inv.kept; older = inv.older; is = shows }
   where

@@ -1,11 +1,8 @@
 -- An expression, by what stands at its place, as the language has it: one law for each return of `eval`.
 -- Not here: fields, lists and new objects (ListLaws), calls (CallLaws), what the functions do (StepLaws).
-use Prim.Native.Nat.{ℕ, suc, ◌+◌, ◌-◌, ◌<◌}
-use native.Mathlib.Omega.{arith}
-use mathlib.Core.Path.{◌≡◌, refl, sym, ap, ◌∙◌, subst}
-use mathlib.Core.List.{List}
-use mathlib.Core.Option.{Option}
-use lib.ListN.{length, get_elem?}
+use Rattle.std.proofs.Common.{ℕ, suc, ◌+◌, ◌-◌, ◌<◌, arith, ◌≡◌, refl, sym, ap, ◌∙◌, subst, List, length}
+use Rattle.std.proofs.Math.Option.{Option}
+use Rattle.std.proofs.Math.ListN.{get_elem?}
 use Rattle.cofj.specs.Limits.{number_count}
 use Rattle.cofj.specs.Syntax.{Expr, call, combine, choose, Table}
 use Rattle.cofj.specs.Writing.{code_of, codes_of}
@@ -17,14 +14,14 @@ use Rattle.classes.specs.declared.shape.Operation.{Operation}
 use Rattle.classes.specs.Shapes.{shape_at, operation_of}
 use Rattle.classes.proofs.ShapesOn.{HasShape}
 use Rattle.evaluator.specs.declared.Stop.TheVariants.{Stuck}
-use Rattle.evaluator.specs.declared.Out.{Out}
 use Rattle.values.specs.declared.ValueRef.TheVariants.{Number}
-use Rattle.evaluator.specs.declared.Out.TheVariants.{Value, Halt}
-use Rattle.evaluator.specs.declared.frame.Held.{Held}
-use Rattle.evaluator.specs.declared.frame.Held.TheVariants.{Is, Absent}
+use Rattle.values.specs.declared.ValueRef.{ValueRef}
+use Rattle.std.specs.declared.option.Option.{Option as RustOption}
+use Rattle.std.specs.declared.option.Option.TheVariants.{Some, None}
 use Rattle.evaluator.specs.declared.frame.Frame.{Frame}
+use Rattle.evaluator.specs.declared.trace.Trace.{Trace}
 use Rattle.evaluator.specs.State.{HeldOlder, held_in, frame_in, trace_in, variable_of}
-use Rattle.evaluator.specs.Answers.{two_bytes, out_of, OutOlder, Shows}
+use Rattle.evaluator.specs.Answers.{Out, Value, Halt, two_bytes, out_of, OutOlder, Shows}
 use Rattle.evaluator.specs.Evaluation.{Reads, ReadsAll, eval_in, Fits, Evaluates, Fields, News, Combines, Chooses}
 use Rattle.evaluator.specs.Calling.{Calls}
 use Rattle.evaluator.proofs.Keeping.{kept_none, older_up}
@@ -35,15 +32,15 @@ shows_at : (W : List ℕ) (o : Out) (p q : ℕ) (x : Outcome Graph) → p ≡ q 
 shows_at W o p q x e s = subst (λ (z : ℕ). Shows W o z x) e s
 
 -- an answer that is what a variable holds
-held_older : (W : List ℕ) (sp : ℕ) (h : Held) (next fuel : ℕ) → HeldOlder W sp h → OutOlder W (sp + 1) (out_of h next fuel)
-held_older W sp (Is r) next fuel o = older_up W sp (sp + 1) (omega arith) r o
-held_older W sp Absent next fuel o = tt
+held_older : (W : List ℕ) (sp : ℕ) (h : RustOption ValueRef) (next fuel : ℕ) → HeldOlder W sp h → OutOlder W (sp + 1) (out_of h next fuel)
+held_older W sp (Some r) next fuel o = older_up W sp (sp + 1) (omega arith) r o
+held_older W sp None next fuel o = tt
 
-held_shows : (W : List ℕ) (h : Held) (p fuel : ℕ) (x : Option Graph) → held_in W h ≡ x → Shows W (out_of h p fuel) p (or_stuck x fuel)
-held_shows W (Is r) p fuel x e = record { is = ap (λ (y : Option Graph). or_stuck y fuel) e; next = refl }
-held_shows W Absent p fuel x e = record { is = ap (λ (y : Option Graph). or_stuck y fuel) e; next = tt }
+held_shows : (W : List ℕ) (h : RustOption ValueRef) (p fuel : ℕ) (x : Option Graph) → held_in W h ≡ x → Shows W (out_of h p fuel) p (or_stuck x fuel)
+held_shows W (Some r) p fuel x e = record { is = ap (λ (y : Option Graph). or_stuck y fuel) e; next = refl }
+held_shows W None p fuel x e = record { is = ap (λ (y : Option Graph). or_stuck y fuel) e; next = tt }
 
-module _ (T W : List ℕ) (f : Frame) (tr : List ℕ) (top at left objects d sp fuel : ℕ) where
+module _ (T W : List ℕ) (f : Frame) (tr : Trace) (top at left objects d sp fuel : ℕ) where
   pub eval_zero : left ≡ 0 → Evaluates T W f tr top at left objects d sp fuel W (Halt Stuck fuel)
   eval_zero z = record { kept = kept_none sp W; older = tt; is = λ t e r. absurd (nested_none left e z r.nested) }
 

@@ -1,11 +1,9 @@
 -- The number that falls at each call in the cycle of evaluation: calls that may be opened first, then the nesting left, then the functions in their order.
 -- Not here: the cycle.
-use Prim.Native.Nat.{ℕ, ◌+◌, ◌*◌, ◌≤◌, ◌<◌}
-use native.Mathlib.Omega.{arith}
-use mathlib.Core.Path.{◌≡◌, sym, subst}
+use Rattle.evaluator.specs.declared.trace.Trace.{Trace}
+use Rattle.evaluator.specs.declared.trace.OpenCall.{OpenCall}
+use Rattle.std.proofs.Common.{ℕ, ◌+◌, ◌*◌, ◌≤◌, ◌<◌, arith, ◌≡◌, sym, subst, List}
 use Rattle.evaluator.specs.declared.spot.Spot.{Spot}
-use mathlib.Core.List.{List}
-use Rattle.values.specs.declared.ValueRef.{ValueRef}
 use Rattle.evaluator.specs.Steps.{BodyRunnable}
 use Rattle.evaluator.specs.Spots.{inner_spot, moved_spot, down_spot, body_spot}
 
@@ -73,6 +71,6 @@ module _ (p q : Spot) (at b t : ℕ) (eq : q ≡ moved_spot p at b) (e : μ p 4 
 pub invoke_side_falls : (p : Spot) (t : ℕ) → μ-call p 2 ≡ t → μ-call p 1 < t
 invoke_side_falls p t e = omega (arith, e)
 
-module _ (W S : List ℕ) (v : ValueRef) (A : List ℕ) (n : ℕ) (p : Spot) (run : BodyRunnable W S v A n p) (q : Spot) (at k t : ℕ) (eq : q ≡ body_spot p at k) where
+module _ (W : List ℕ) (S : Trace) (c : OpenCall) (p : Spot) (run : BodyRunnable W S c p) (q : Spot) (at k t : ℕ) (eq : q ≡ body_spot p at k) where
   pub side_eval_falls : μ-call p 1 ≡ t → μ q 1 < t
   side_eval_falls e = subst (λ (x : Spot). μ x 1 < t) (sym eq) (omega (arith, run.deep, e))

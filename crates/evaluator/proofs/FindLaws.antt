@@ -1,13 +1,9 @@
 -- The method that a call names, found in a table's bytes: one law for each return of `find`.
 -- Not here: the call itself (CallLaws, InvokeLaws).
-use Prim.Native.Nat.{ℕ, ◌+◌, ◌*◌, ◌≤◌, ◌<◌}
-use native.Mathlib.Omega.{arith}
-use mathlib.Core.Path.{◌≡◌, refl, sym, ap, ◌∙◌, subst}
-use mathlib.Core.Bool.{Bool, true, false}
-use mathlib.Core.List.{List, []}
-use mathlib.Core.Option.{Option, none, some, none-ne-some}
-use lib.Dec.{eqb}
-use lib.ListN.{length, get_or}
+use Rattle.std.specs.declared.option.Option.{Option as RustOption}
+use Rattle.std.specs.declared.option.Option.TheVariants.{Some, None}
+use Rattle.std.proofs.Common.{ℕ, ◌+◌, ◌*◌, ◌≤◌, ◌<◌, arith, ◌≡◌, refl, sym, ap, ◌∙◌, subst, Bool, true, false, List, [], eqb, length, get_or}
+use Rattle.std.proofs.Math.Option.{Option, none, some, none-ne-some}
 use Rattle.cofj.specs.Limits.{method_count}
 use Rattle.cofj.specs.Syntax.{Table}
 use Rattle.cofj.specs.Lookup as language
@@ -17,8 +13,7 @@ use Rattle.cofj.specs.Running.{class_of, target}
 use Rattle.cofj.specs.WellFormed.{MethodFormed}
 use Rattle.cofj.proofs.SideConditions.{target_object, target_lacks, target-count}
 use Rattle.classes.specs.declared.methods.Found.{Found}
-use Rattle.classes.specs.declared.methods.Found.TheVariants as found
-use Rattle.classes.specs.Machine.{pick, lookup_of, counted, method_with}
+use Rattle.classes.specs.Machine.{pick, found_at, lookup_of, counted, method_with}
 use Rattle.classes.specs.Layout.{layout, Tabled, Finds}
 use Rattle.classes.proofs.Lists.{index_below, method_at}
 use Rattle.classes.proofs.Zones.{param_count_at}
@@ -59,12 +54,12 @@ class_in_lem W b i ob =
 pub object_room : (W : List ℕ) (v : ValueRef) (b i : ℕ) → Holds W v → v ≡ Object i b → block_size * b + object_size * i + object_size ≤ length W
 object_room W v b i h e = inside_room W b i (object_in W v b i h e)
 
-none_found : (t : Table) (x : Option language.Found) → x ≡ none → Finds t.methods found.Nothing x
+none_found : (t : Table) (x : Option language.Found) → x ≡ none → Finds t.methods None x
 none_found t none e = Finds.nothing
 none_found t (some y) e = absurd (none-ne-some y (sym e))
 
 module _ (T W : List ℕ) (v : ValueRef) (m n : ℕ) where
-  pub find_none : ((i b : ℕ) → v ≡ Object i b → ⊥) → FindsTarget T W v m n found.Nothing
+  pub find_none : ((i b : ℕ) → v ≡ Object i b → ⊥) → FindsTarget T W v m n None
   find_none h = record { few = tt; is = λ t tb s. none_found t (target t (value_of W v) m n) (target_object t (value_of W v) m n no_class) }
     where
       no_class : class_of (value_of W v) ≡ none
@@ -74,14 +69,14 @@ module _ (T W : List ℕ) (v : ValueRef) (m n : ℕ) where
     class_is : class_of (value_of W v) ≡ some (class_at W b j)
     class_is = ap (λ (r : ValueRef). class_of (value_of W r)) ev ∙ class_in_lem W b j (object_in W v b j hv ev)
 
-    counted_is : (t : Table) → Tabled T t → (f : Found) (x : Option language.Found) → Finds t.methods f x → lookup t (class_at W b j) m ≡ x
+    counted_is : (t : Table) → Tabled T t → (f : RustOption Found) (x : Option language.Found) → Finds t.methods f x → lookup t (class_at W b j) m ≡ x
         → Finds t.methods (counted T n f) (target t (value_of W v) m n)
     unfolding target
     counted_is t tb f x (Finds.at {o} {i} {d} e) q =
         let l : i < method_count = (let a = index_below t.methods i d e in let c = tb.formed.count in omega arith) in
         rw (tb.bytes, param_count_at t i d l e, class_is, target, q) (go (eqb (length d.params) n))
       where
-        go : (y : Bool) → Finds t.methods (pick y (found.At o i) found.Nothing) (elim y as (λ _. Option language.Found) [ true ↦ some (found_in o d) | false ↦ none ])
+        go : (y : Bool) → Finds t.methods (pick y (Some (found_at o i)) None) (elim y as (λ _. Option language.Found) [ true ↦ some (found_in o d) | false ↦ none ])
         go true = Finds.at e
         go false = Finds.nothing
     counted_is t tb f x Finds.nothing q = none_found t (target t (value_of W v) m n) (target_lacks t (value_of W v) m n (class_at W b j) class_is q)
@@ -93,25 +88,25 @@ module _ (T W : List ℕ) (v : ValueRef) (m n : ℕ) where
         (subst (λ (B : List ℕ). Finds t.methods (lookup_of B (class_at W b j) m) (lookup t (class_at W b j) m)) (sym tb.bytes)
         (lookup_on t tb.formed m s (class_at W b j))) refl
 
-    many_is : (t : Table) → Tabled T t → 3 < n → (f : Found) (x : Option language.Found) → Finds t.methods f x → lookup t (class_at W b j) m ≡ x → target t (value_of W v) m n ≡ none
+    many_is : (t : Table) → Tabled T t → 3 < n → (f : RustOption Found) (x : Option language.Found) → Finds t.methods f x → lookup t (class_at W b j) m ≡ x → target t (value_of W v) m n ≡ none
     many_is t tb h f x (Finds.at {o} {i} {d} e) q =
         let few = (method_at (MethodFormed t) t.methods i d tb.formed.methods e).few in
         target-count t (value_of W v) m n (class_at W b j) (found_in o d) class_is q (λ z. omega arith)
     many_is t tb h f x Finds.nothing q = target_lacks t (value_of W v) m n (class_at W b j) class_is q
 
-    pub find_many : 3 < n → FindsTarget T W v m n found.Nothing
+    pub find_many : 3 < n → FindsTarget T W v m n None
     find_many h = record {
       few = tt;
       is = λ t tb s. none_found t (target t (value_of W v) m n)
           (many_is t tb h (lookup_of (layout t) (class_at W b j) m) (lookup t (class_at W b j) m) (lookup_on t tb.formed m s (class_at W b j)) refl);
     }
 
-    pub find_is : (f : Found) → n ≤ 3 → f ≡ method_with T (class_at W b j) m n → FindsTarget T W v m n f
+    pub find_is : (f : RustOption Found) → n ≤ 3 → f ≡ method_with T (class_at W b j) m n → FindsTarget T W v m n f
     find_is f h e = record {
       few = few_if f;
-      is = λ t tb s. subst (λ (x : Found). Finds t.methods x (target t (value_of W v) m n)) (sym e) (found_is t tb s);
+      is = λ t tb s. subst (λ (x : RustOption Found). Finds t.methods x (target t (value_of W v) m n)) (sym e) (found_is t tb s);
     }
       where
-        few_if : (x : Found) → FewIf n x
-        few_if (found.At o i) = h
-        few_if found.Nothing = tt
+        few_if : (x : RustOption Found) → FewIf n x
+        few_if (Some f) = h
+        few_if None = tt

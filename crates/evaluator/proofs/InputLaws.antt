@@ -1,11 +1,7 @@
 -- The blocks that main begins with: the objects without fields, and the input, which is the value that it was where it was lent.
 -- Not here: main's run (RunLaws).
-use Prim.Native.Nat.{ℕ, ◌*◌, ◌≤◌}
-use native.Mathlib.Omega.{arith}
-use mathlib.Core.Path.{◌≡◌, sym, ap, ◌∙◌}
-use mathlib.Core.Bool.{Bool, true, false, not, false≢true}
-use mathlib.Core.List.{List}
-use lib.ListN.{length}
+use Rattle.std.proofs.Common.{ℕ, ◌*◌, ◌≤◌, arith, ◌≡◌, sym, ap, ◌∙◌, Bool, true, false, not, List, length}
+use Rattle.std.proofs.Math.Bool.{false≢true}
 use Rattle.cofj.specs.Values.{Node, obj, graph, canon}
 use Rattle.classes.proofs.LineLaws.{not_true, not_false}
 use Rattle.canon.specs.Figures.{count_at, level_at, reach_at, block_size}

@@ -3,7 +3,6 @@ pub mod VariableLaws
 pub mod SameLaws
 pub mod ApartLaws
 pub mod MeetLaws
-pub mod RestLaws
 pub mod AnswerLaws
 pub mod FindLaws
 pub mod PresetLaws

@@ -1,14 +1,9 @@
 -- Fields, lists and new objects, as the language has them: one law for each return of the code.
 -- Not here: what the functions do (FieldLaws, WalkLaws, NewSteps).
-use Prim.Native.Nat.{ℕ, zero, suc, ◌+◌, ◌-◌, ◌≤◌, ◌<◌}
-use native.Mathlib.Omega.{arith}
-use mathlib.Core.Path.{◌≡◌, refl, sym, ap, ◌∙◌, subst}
-use mathlib.Core.Bool.{Bool, true, false}
-use mathlib.Core.List.{List, ◌∷◌}
-use mathlib.Core.Option.{Option, none, some}
-use lib.Dec.{eqb}
-use lib.ListN.{length}
-use borrow.Author.Tests.{eq-eqb, ne_eqb}
+use Rattle.std.specs.declared.option.Option.{Option as RustOption}
+use Rattle.std.specs.declared.option.Option.TheVariants.{Some, None}
+use Rattle.std.proofs.Common.{ℕ, zero, suc, ◌+◌, ◌-◌, ◌≤◌, ◌<◌, arith, ◌≡◌, refl, sym, ap, ◌∙◌, subst, Bool, true, false, List, ◌∷◌, eqb, length, eq-eqb, ne_eqb}
+use Rattle.std.proofs.Math.Option.{Option, none, some}
 use Rattle.classes.specs.Machine.{total_of}
 use Rattle.classes.specs.Layout.{Tabled}
 use Rattle.cofj.specs.Syntax.{Expr, field, new, Exprs, done, also, count, Table}
@@ -20,24 +15,21 @@ use Rattle.cofj.specs.Running.{Outcome, value, stopped, ◌then◌, or_stuck, ev
 use Rattle.classes.proofs.OnTables.{total_on}
 use Rattle.values.specs.declared.ValueRef.{ValueRef}
 use Rattle.values.specs.Layout.{value_of, Low}
-use Rattle.values.specs.declared.refs.Selected.{Selected}
-use Rattle.values.specs.declared.refs.Selected.TheVariants as selected
 use Rattle.values.specs.Operations.{answer_in, AnswerHeld, AnswerLow, selected_ref, Chosen}
 use Rattle.maker.specs.Laying.{values_from}
 use Rattle.evaluator.specs.declared.Stop.{Stop}
 use Rattle.evaluator.specs.declared.Stop.TheVariants.{Stuck}
-use Rattle.evaluator.specs.declared.Out.{Out}
-use Rattle.evaluator.specs.declared.Out.TheVariants.{Value, Halt}
 use Rattle.evaluator.specs.declared.frame.Frame.{Frame}
+use Rattle.evaluator.specs.declared.trace.Trace.{Trace}
 use Rattle.evaluator.specs.State.{Older, slot_at, PartsOlder, Kept, frame_in, trace_in}
-use Rattle.evaluator.specs.Answers.{Listed, Values, Stops, stop_of, slots_of, front_of, list_in, ListOlder, ListNext, ShowsAll, Finishes}
+use Rattle.evaluator.specs.Answers.{Out, Value, Halt, Listed, Values, Stops, stop_of, slots_of, front_of, list_in, ListOlder, ListNext, ShowsAll, Finishes}
 use Rattle.evaluator.specs.Evaluation.{ReadsAll, Reads, eval_in, evals_in, ListFits, Evaluates, Fields, Lists, News}
 use Rattle.evaluator.proofs.Keeping.{kept_none, kept_then, value_kept, older_kept, older_up, parts_up, frame_same, trace_same}
 use Rattle.evaluator.proofs.Standing.{first_reads, others_read, also_end}
 use Rattle.evaluator.proofs.Given.{going_on, halted, given, given_next, given_older}
 
 -- ---- a field: the expression at `at` was evaluated to o
-module _ (T W : List ℕ) (f : Frame) (tr : List ℕ) (top at left objects d sp fuel k : ℕ) (W1 : List ℕ) (o : Out) (ev : Evaluates T W f tr top at left objects d sp fuel W1 o) where
+module _ (T W : List ℕ) (f : Frame) (tr : Trace) (top at left objects d sp fuel k : ℕ) (W1 : List ℕ) (o : Out) (ev : Evaluates T W f tr top at left objects d sp fuel W1 o) where
   pub field_halt : (s : Stop) (fuel1 : ℕ) → o ≡ Halt s fuel1 → Fields T W f tr top at left objects d sp fuel k W1 o
   unfolding eval
   field_halt s fuel1 eo = subst (Fields T W f tr top at left objects d sp fuel k W1) (sym eo) (record {
@@ -49,7 +41,7 @@ module _ (T W : List ℕ) (f : Frame) (tr : List ℕ) (top at left objects d sp 
     };
   })
 
-  module _ (v : ValueRef) (at1 fuel1 : ℕ) (eo : o ≡ Value v at1 fuel1) (x : Selected) (ch : Chosen W1 v k x) where
+  module _ (v : ValueRef) (at1 fuel1 : ℕ) (eo : o ≡ Value v at1 fuel1) (x : RustOption ValueRef) (ch : Chosen W1 v k x) where
     chosen : (t : Table) (e : Expr) → Reads T left at t e → (y : Option Graph) → y ≡ select k (value_of W1 v)
         → or_stuck y fuel1 ≡ eval_in objects d t (frame_in W f) (trace_in W tr top) (field k e) fuel
     unfolding eval
@@ -57,19 +49,19 @@ module _ (T W : List ℕ) (f : Frame) (tr : List ℕ) (top at left objects d sp 
         ap (λ (z : Option Graph). or_stuck z fuel1) q
         ∙ going_on (value (value_of W1 v) fuel1) (eval_in objects d t (frame_in W f) (trace_in W tr top) e fuel) (λ u n'. or_stuck (select k u) n') (given T W f tr top at left objects d sp fuel W1 o ev v at1 fuel1 eo t e r)
 
-    pub field_none : x ≡ selected.Nothing → Fields T W f tr top at left objects d sp fuel k W1 (Halt Stuck fuel1)
+    pub field_none : x ≡ None → Fields T W f tr top at left objects d sp fuel k W1 (Halt Stuck fuel1)
     field_none ex = record {
       kept = ev.kept;
       older = tt;
-      is = λ t e r. record { is = chosen t e r none (sym (ap (λ (y : Selected). answer_in W1 (selected_ref y)) ex) ∙ ch.is); next = tt };
+      is = λ t e r. record { is = chosen t e r none (sym (ap (λ (y : RustOption ValueRef). answer_in W1 (selected_ref y)) ex) ∙ ch.is); next = tt };
     }
 
-    pub field_some : (r : ValueRef) → x ≡ selected.Value r → Fields T W f tr top at left objects d sp fuel k W1 (Value r at1 fuel1)
+    pub field_some : (r : ValueRef) → x ≡ Some r → Fields T W f tr top at left objects d sp fuel k W1 (Value r at1 fuel1)
     field_some u ex = record {
       kept = ev.kept;
-      older = record { held = subst (λ (y : Selected). AnswerHeld W1 (selected_ref y)) ex ch.held; low = subst (λ (y : Selected). AnswerLow (sp + 1) (selected_ref y)) ex (ch.place (sp + 1) (given_older T W f tr top at left objects d sp fuel W1 o ev v at1 fuel1 eo).low) };
+      older = record { held = subst (λ (y : RustOption ValueRef). AnswerHeld W1 (selected_ref y)) ex ch.held; low = subst (λ (y : RustOption ValueRef). AnswerLow (sp + 1) (selected_ref y)) ex (ch.place (sp + 1) (given_older T W f tr top at left objects d sp fuel W1 o ev v at1 fuel1 eo).low) };
       is = λ t e r. record {
-        is = chosen t e r (some (value_of W1 u)) (sym (ap (λ (y : Selected). answer_in W1 (selected_ref y)) ex) ∙ ch.is);
+        is = chosen t e r (some (value_of W1 u)) (sym (ap (λ (y : RustOption ValueRef). answer_in W1 (selected_ref y)) ex) ∙ ch.is);
         next = given_next T W f tr top at left objects d sp fuel W1 o ev v at1 fuel1 eo t e r;
       };
     }
@@ -113,7 +105,7 @@ unfolding evals codes_of values_from
 none_given W a b c e objects d t p os at fuel done q = record { is = refl; next = omega arith }
 none_given W a b c e objects d t p os at fuel (also x xs) q = absurd (omega arith)
 
-module _ (T W : List ℕ) (f : Frame) (tr : List ℕ) (top at left objects d sp fuel n : ℕ) where
+module _ (T W : List ℕ) (f : Frame) (tr : Trace) (top at left objects d sp fuel n : ℕ) where
   pub list_zero : (a b c e : ValueRef) → n ≡ 0 → Lists T W f tr top at left objects d sp fuel n W (Values a b c e at fuel)
   list_zero a b c e z = subst (λ (m : ℕ). Lists T W f tr top at left objects d sp fuel m W (Values a b c e at fuel)) (sym z) (record {
     kept = kept_none sp W;
@@ -193,7 +185,7 @@ unfolding eval
 new_by objects d t p os c es fuel b q =
     ap (λ (x : Bool). elim x as (λ _. Outcome Graph) [ true ↦ evals_in objects d t p os es fuel then λ vs m. sized objects (make c vs) m | false ↦ stopped language.stuck fuel ]) q
 
-module _ (T W : List ℕ) (f : Frame) (tr : List ℕ) (top at left objects d sp fuel c n x : ℕ) (ex : x ≡ total_of T c) where
+module _ (T W : List ℕ) (f : Frame) (tr : Trace) (top at left objects d sp fuel c n x : ℕ) (ex : x ≡ total_of T c) where
   total : (t : Table) → Tabled T t → x ≡ length (fields_of t.classes c)
   total t tb = ex ∙ ap (λ (B : List ℕ). total_of B c) tb.bytes ∙ total_on t tb.formed c
 

@@ -1,26 +1,20 @@
 -- A call met again: one law for each return of `open_call`.
 -- Not here: whether one open call is the call (ApartLaws, SameLaws).
-use Prim.Native.Nat.{ℕ, zero, suc, ◌-◌, ◌≤◌, ◌<◌}
-use native.Mathlib.Omega.{arith}
-use native.Mathlib.Numerals.{sub-one}
-use mathlib.Core.Path.{◌≡◌, refl, sym, ap, ap₂, ◌∙◌, subst}
-use mathlib.Core.Bool.{Bool, true, false, not}
-use mathlib.Core.List.{List, ◌∷◌}
-use mathlib.Core.Option.{Option, some}
-use lib.Dec.{eqb}
+use Rattle.std.proofs.Common.{ℕ, zero, suc, ◌-◌, ◌≤◌, ◌<◌, arith, sub-one, ◌≡◌, refl, sym, ap, ◌∙◌, Bool, true, false, not, List, ◌∷◌, eqb}
+use Rattle.std.proofs.Math.Option.{Option, some}
 use borrow.Author.Tests.{not-false}
 use Rattle.cofj.specs.Values.{Graph, eq_graph, eq_graphs}
 use Rattle.cofj.specs.Running as language
 use Rattle.cofj.specs.Running.{open_mark}
 use Rattle.classes.specs.Machine.{pick}
 use Rattle.values.specs.declared.ValueRef.{ValueRef}
-use Rattle.values.specs.Layout.{value_of, Holds}
-use Rattle.maker.specs.declared.Slot.{Slot}
-use Rattle.maker.specs.Laying.{values_from, PartsHeld}
+use Rattle.values.specs.Layout.{value_of}
+use Rattle.maker.specs.Laying.{values_from}
 use Rattle.evaluator.specs.Figures.{call_limit}
-use Rattle.evaluator.specs.declared.frame.Held.TheVariants.{Is, Absent}
+use Rattle.std.specs.declared.option.Option.TheVariants.{Some, None}
+use Rattle.evaluator.specs.declared.trace.Trace.{Trace}
 use Rattle.evaluator.specs.declared.trace.OpenCall.{OpenCall}
-use Rattle.evaluator.specs.State.{slots_at, call_at, call_in, CallHolds, CallsHold, trace_in, OtherTest, same_of, met_of}
+use Rattle.evaluator.specs.State.{call_at, call_in, CallHolds, CallsHold, trace_in, OtherTest, same_of, met_of}
 use Rattle.evaluator.proofs.ApartLaws.{call_other}
 
 -- ---- the trace searched, the newest call first
@@ -38,8 +32,8 @@ by_tests o os v m vs = go (eqb o.name m) (eq_graph o.receiver v) (eq_graphs o.ar
     go true false c = refl
     go false b c = refl
 
-module _ (W S : List ℕ) (v : ValueRef) (m : ℕ) (ps : List Slot) (n : ℕ) where
-  open_end : (k : ℕ) → k ≡ 0 → Absent ≡ met_of (open_mark (trace_in W S k) (value_of W v) m (values_from W ps 0 n))
+module _ (W : List ℕ) (S : Trace) (v : ValueRef) (m : ℕ) (ps : List ValueRef) (n : ℕ) where
+  open_end : (k : ℕ) → k ≡ 0 → None ≡ met_of (open_mark (trace_in W S k) (value_of W v) m (values_from W ps 0 n))
   unfolding trace_in open_mark
   open_end k e = rw e
 
@@ -52,20 +46,17 @@ module _ (W S : List ℕ) (v : ValueRef) (m : ℕ) (ps : List Slot) (n : ℕ) wh
       rw sub-one (by_tests (call_in W j (call_at S j)) (trace_in W S j) (value_of W v) m (values_from W ps 0 n)
       ∙ ap (λ (b : Bool). pick b (some j) (open_mark (trace_in W S j) (value_of W v) m (values_from W ps 0 n))) (sym e))
 
-pub few_calls : (W S : List ℕ) (k : ℕ) → CallsHold W S k → k ≤ call_limit
-few_calls W S k h = h.few
-
 -- ---- the loop through the open calls: the first j of k are left, and the others are not the call
-pub record Left (W S : List ℕ) (k : ℕ) (v : ValueRef) (m : ℕ) (ps : List Slot) (n j : ℕ) : Type 0 where
+pub record Left (W : List ℕ) (S : Trace) (k : ℕ) (v : ValueRef) (m : ℕ) (ps : List ValueRef) (n j : ℕ) : Type 0 where
   pub calls : CallsHold W S j
   pub same : open_mark (trace_in W S j) (value_of W v) m (values_from W ps 0 n) ≡ open_mark (trace_in W S k) (value_of W v) m (values_from W ps 0 n)
 
-module _ (W S : List ℕ) (k : ℕ) (v : ValueRef) (m : ℕ) (ps : List Slot) (n : ℕ) where
+module _ (W : List ℕ) (S : Trace) (k : ℕ) (v : ValueRef) (m : ℕ) (ps : List ValueRef) (n : ℕ) where
   pub left_all : CallsHold W S k → Left W S k v m ps n k
   left_all h = record { calls = h; same = refl }
 
   module _ (j : ℕ) (l : Left W S k v m ps n j) where
-    pub left_none : j ≤ 0 → Absent ≡ met_of (open_mark (trace_in W S k) (value_of W v) m (values_from W ps 0 n))
+    pub left_none : j ≤ 0 → None ≡ met_of (open_mark (trace_in W S k) (value_of W v) m (values_from W ps 0 n))
     left_none z = open_end W S v m ps n j (omega arith) ∙ ap met_of l.same
 
     left_last : 0 < j → CallHolds W (call_at S (j - 1))
@@ -79,27 +70,24 @@ module _ (W S : List ℕ) (k : ℕ) (v : ValueRef) (m : ℕ) (ps : List Slot) (n
           same = sym (open_step W S v m ps n j (λ e. omega arith) r er ∙ ap (λ (b : Bool). pick b (some (j - 1)) (open_mark (trace_in W S (j - 1)) (value_of W v) m (values_from W ps 0 n))) z) ∙ l.same;
         }
 
-    module _ (p : 0 < j) (c : OpenCall) (ec : c ≡ call_at S (j - 1)) where
-      pub left_call : CallHolds W c
-      left_call = subst (CallHolds W) (sym ec) (left_last p)
+    pub left_index : j - 1 < call_limit
+    left_index = let f = l.calls.few in omega arith
 
-      module _ (qs : List Slot) (eq : qs ≡ ps) (r : Bool) (er : r ≡ same_of (call_in W 0 c) (value_of W v) m (values_from W qs 0 n)) where
-        here : r ≡ same_of (call_in W 0 (call_at S (j - 1))) (value_of W v) m (values_from W ps 0 n)
-        here = er ∙ ap₂ {A = OpenCall} {B = List Slot} (λ x y. same_of (call_in W 0 x) (value_of W v) m (values_from W y 0 n)) ec eq
+    module _ (p : 0 < j) where
+      pub left_call : CallHolds W (call_at S (j - 1))
+      left_call = left_last p
 
-        pub left_found : r ≡ true → Is c.gives ≡ met_of (open_mark (trace_in W S k) (value_of W v) m (values_from W ps 0 n))
+      module _ (r : Bool) (here : r ≡ same_of (call_in W 0 (call_at S (j - 1))) (value_of W v) m (values_from W ps 0 n)) where
+        pub left_found : r ≡ true → Some (call_at S (j - 1)).gives ≡ met_of (open_mark (trace_in W S k) (value_of W v) m (values_from W ps 0 n))
         left_found z =
-            ap Is (ap (λ (x : OpenCall). x.gives) ec ∙ l.calls.mark (j - 1) (omega arith))
+            ap Some (l.calls.mark (j - 1) (omega arith))
             ∙ ap met_of (sym (open_step W S v m ps n j (λ q. omega arith) r here ∙ ap (λ (b : Bool). pick b (some (j - 1)) (open_mark (trace_in W S (j - 1)) (value_of W v) m (values_from W ps 0 n))) z) ∙ l.same)
 
         pub left_more : r ≡ false → Left W S k v m ps n (j - 1)
         left_more z = left_less p r here z
 
-pub slots_held : (W : List ℕ) (ps qs : List Slot) (n : ℕ) → qs ≡ ps → PartsHeld W ps n → PartsHeld W qs n
-slots_held W ps qs n e h = subst (λ (x : List Slot). PartsHeld W x n) (sym e) h
-
-pub left_other : (W S : List ℕ) (k : ℕ) (v : ValueRef) (m : ℕ) (A : List ℕ) (n j : ℕ) → Left W S k v m (slots_at A 0) n j → Holds W v → PartsHeld W (slots_at A 0) n → 0 < j
-    → (o : Bool) → OtherTest S (j - 1) v m A n o → not o ≡ false → Left W S k v m (slots_at A 0) n (j - 1)
-left_other W S k v m A n j l hv ha p o eo z =
-    left_less W S k v m (slots_at A 0) n j l p false
-    (call_other S (j - 1) v m A n W (left_last W S k v m (slots_at A 0) n j l p) hv ha (eo.told (not-false o z))) refl
+pub left_other : (W : List ℕ) (S : Trace) (k : ℕ) (c : OpenCall) (j : ℕ) → Left W S k c.receiver c.name c.args c.n j → CallHolds W c → 0 < j
+    → (o : Bool) → OtherTest (call_at S (j - 1)) c o → not o ≡ false → Left W S k c.receiver c.name c.args c.n (j - 1)
+left_other W S k c j l h p o eo z =
+    left_less W S k c.receiver c.name c.args c.n j l p false
+    (call_other (call_at S (j - 1)) c W (left_last W S k c.receiver c.name c.args c.n j l p) h (eo.told (not-false o z))) refl

@@ -1,13 +1,6 @@
 -- Sums, differences and choices, as the language has them: one law for each return of the code.
 -- Not here: what the functions ask of one another (NumberSteps).
-use Prim.Native.Nat.{ℕ, ◌+◌, ◌<◌}
-use native.Mathlib.Omega.{arith}
-use mathlib.Core.Path.{◌≡◌, refl, sym, ap, ◌∙◌, subst}
-use mathlib.Core.Bool.{Bool}
-use mathlib.Core.List.{List}
-use lib.Dec.{eqb}
-use lib.ListN.{length}
-use borrow.Author.Tests.{eq-eqb, ne_eqb}
+use Rattle.std.proofs.Common.{ℕ, ◌+◌, ◌<◌, arith, ◌≡◌, refl, sym, ap, ◌∙◌, subst, Bool, List, eqb, length, eq-eqb, ne_eqb}
 use Rattle.cofj.specs.Limits.{number_count}
 use Rattle.cofj.specs.Syntax.{Expr, combine, choose, Table}
 use Rattle.cofj.specs.Writing.{code_of}
@@ -18,34 +11,30 @@ use Rattle.classes.specs.Skipping.{skip_of}
 use Rattle.classes.proofs.SkipLaws.{skip_on}
 use Rattle.values.specs.declared.ValueRef.{ValueRef}
 use Rattle.values.specs.declared.ValueRef.TheVariants.{Number}
+use Rattle.std.specs.declared.result.Result.TheVariants.{Ok, Err}
 use Rattle.evaluator.specs.declared.Stop.{Stop}
-use Rattle.evaluator.specs.declared.Out.{Out}
-use Rattle.evaluator.specs.declared.Out.TheVariants.{Value, Halt}
-use Rattle.evaluator.specs.declared.Done.{Done}
-use Rattle.evaluator.specs.declared.Done.TheVariants as done
-use Rattle.evaluator.specs.declared.Operand.{Operand}
-use Rattle.evaluator.specs.declared.Operand.TheVariants as operand
 use Rattle.evaluator.specs.declared.frame.Frame.{Frame}
+use Rattle.evaluator.specs.declared.trace.Trace.{Trace}
 use Rattle.evaluator.specs.State.{Kept, FrameHolds, TraceHolds, frame_in, trace_in}
-use Rattle.evaluator.specs.Answers.{stop_of, out_in, out_with, OutOlder, NextIs, Shows, operand_of, number_with, reckoned, combined, passed_over}
+use Rattle.evaluator.specs.Answers.{Out, Value, Halt, Done, Operand, counted_at, stop_of, out_in, out_with, OutOlder, NextIs, Shows, operand_of, number_with, reckoned, combined, passed_over}
 use Rattle.evaluator.specs.Evaluation.{Reads, eval_in, Evaluates, Combines, Chooses}
 use Rattle.evaluator.proofs.Keeping.{kept_then, frame_same, trace_same}
 use Rattle.evaluator.proofs.Given.{going_on}
 use Rattle.evaluator.proofs.OperandLaws.{as_number, operand_is, operand_back, combine_as, taken, choose_as, reckoned_in, reckoned_older, reckoned_next}
 
 -- ---- the first operand, or what a choice goes by, was evaluated to o
-module _ (T W : List ℕ) (f : Frame) (tr : List ℕ) (top at left objects d sp fuel : ℕ) (W1 : List ℕ) (o : Done) (fuel1 : ℕ) (ev : Evaluates T W f tr top at left objects d sp fuel W1 (out_with fuel1 o)) where
+module _ (T W : List ℕ) (f : Frame) (tr : Trace) (top at left objects d sp fuel : ℕ) (W1 : List ℕ) (o : Done) (fuel1 : ℕ) (ev : Evaluates T W f tr top at left objects d sp fuel W1 (out_with fuel1 o)) where
   number_given : (k : Operand) → operand_of o ≡ k → (t : Table) (e : Expr) → Reads T left at t e → number_with fuel1 k ≡ as_number (eval_in objects d t (frame_in W f) (trace_in W tr top) e fuel)
   number_given k ek t e r = ap (number_with fuel1) (sym ek) ∙ operand_is W1 o fuel1 ∙ ap as_number (ev.is t e r).is
 
-  module _ (s : Stop) (eo : operand_of o ≡ operand.Halt s) where
+  module _ (s : Stop) (eo : operand_of o ≡ Err s) where
     pub combine_halt : (x : Operation) → Combines T W f tr top at left objects d sp fuel x W1 (Halt s fuel1)
     combine_halt x = record {
       kept = ev.kept;
       older = tt;
       is = λ t a b ra rb. record {
         is = going_on (stopped (stop_of s) fuel1) (as_number (eval_in objects d t (frame_in W f) (trace_in W tr top) a fuel))
-            (λ k n. as_number (eval_in objects d t (frame_in W f) (trace_in W tr top) b n) then λ l m. reckon (operation_of x) k l m) (number_given (operand.Halt s) eo t a ra)
+            (λ k n. as_number (eval_in objects d t (frame_in W f) (trace_in W tr top) b n) then λ l m. reckon (operation_of x) k l m) (number_given (Err s) eo t a ra)
             ∙ sym (combine_as objects d t (frame_in W f) (trace_in W tr top) fuel (operation_of x) a b);
         next = tt;
       };
@@ -57,13 +46,13 @@ module _ (T W : List ℕ) (f : Frame) (tr : List ℕ) (top at left objects d sp 
       older = tt;
       is = λ t c a b rc ra rb. record {
         is = going_on (stopped (stop_of s) fuel1) (as_number (eval_in objects d t (frame_in W f) (trace_in W tr top) c fuel))
-            (λ k n. taken objects d t (frame_in W f) (trace_in W tr top) fuel a b (eqb k 0) n) (number_given (operand.Halt s) eo t c rc)
+            (λ k n. taken objects d t (frame_in W f) (trace_in W tr top) fuel a b (eqb k 0) n) (number_given (Err s) eo t c rc)
             ∙ sym (choose_as objects d t (frame_in W f) (trace_in W tr top) fuel c a b);
         next = tt;
       };
     }
 
-  module _ (k at1 : ℕ) (eo : operand_of o ≡ operand.Number k at1) where
+  module _ (k at1 : ℕ) (eo : operand_of o ≡ counted_at k at1) where
     first_is : Evaluates T W f tr top at left objects d sp fuel W1 (Value (Number k) at1 fuel1)
     first_is = subst (λ (x : Done). Evaluates T W f tr top at left objects d sp fuel W1 (out_with fuel1 x)) (operand_back o k at1 eo) ev
 
@@ -89,7 +78,7 @@ module _ (T W : List ℕ) (f : Frame) (tr : List ℕ) (top at left objects d sp 
           → Reads T left at2 t e → out_in W2 o2 ≡ eval_in objects d t (frame_in W f) (trace_in W tr top) (choose c a b) fuel
       branch_is t c a b e rc z r =
           follows t e r ∙ sym z
-          ∙ going_on (value k fuel1) (as_number (eval_in objects d t (frame_in W f) (trace_in W tr top) c fuel)) (λ l n. taken objects d t (frame_in W f) (trace_in W tr top) fuel a b (eqb l 0) n) (number_given (operand.Number k at1) eo t c rc)
+          ∙ going_on (value k fuel1) (as_number (eval_in objects d t (frame_in W f) (trace_in W tr top) c fuel)) (λ l n. taken objects d t (frame_in W f) (trace_in W tr top) fuel a b (eqb l 0) n) (number_given (counted_at k at1) eo t c rc)
           ∙ sym (choose_as objects d t (frame_in W f) (trace_in W tr top) fuel c a b)
 
       first_taken : (k ≡ 0 → ⊥) → (t : Table) (a b : Expr) → taken objects d t (frame_in W f) (trace_in W tr top) fuel a b (eqb k 0) fuel1 ≡ eval_in objects d t (frame_in W f) (trace_in W tr top) a fuel1
@@ -147,8 +136,8 @@ module _ (T W : List ℕ) (f : Frame) (tr : List ℕ) (top at left objects d sp 
                 }
 
         pub choose_first : (y : Done) (fuel2 : ℕ) → o2 ≡ out_with fuel2 y → Chooses T W f tr top at left objects d sp fuel W2 (out_with fuel2 (passed_over T y))
-        choose_first (done.Value v at3) fuel2 eo2 = choose_gives v at3 fuel2 eo2
-        choose_first (done.Halt s) fuel2 eo2 = choose_stops s fuel2 eo2
+        choose_first (Ok e) fuel2 eo2 = choose_gives e.value e.next fuel2 eo2
+        choose_first (Err s) fuel2 eo2 = choose_stops s fuel2 eo2
 
     -- ---- the second operand
     module _ (fh : FrameHolds W sp f) (th : TraceHolds W sp tr top) (W2 : List ℕ) (o2 : Done) (fuel2 : ℕ) (ev2 : Evaluates T W1 f tr top at1 left objects d sp fuel1 W2 (out_with fuel2 o2)) (x : Operation) where
@@ -159,22 +148,22 @@ module _ (T W : List ℕ) (f : Frame) (tr : List ℕ) (top at left objects d sp 
           going_on (number_with fuel2 l) (as_number (eval_in objects d t (frame_in W f) (trace_in W tr top) b fuel1)) (λ y m. reckon (operation_of x) k y m)
           (ap (number_with fuel2) (sym el) ∙ operand_is W2 o2 fuel2 ∙ ap as_number (follows fh th at1 W2 (out_with fuel2 o2) ev2 t b r))
           ∙ going_on (value k fuel1) (as_number (eval_in objects d t (frame_in W f) (trace_in W tr top) a fuel))
-          (λ y n. as_number (eval_in objects d t (frame_in W f) (trace_in W tr top) b n) then λ z m. reckon (operation_of x) y z m) (number_given (operand.Number k at1) eo t a ra)
+          (λ y n. as_number (eval_in objects d t (frame_in W f) (trace_in W tr top) b n) then λ z m. reckon (operation_of x) y z m) (number_given (counted_at k at1) eo t a ra)
           ∙ sym (combine_as objects d t (frame_in W f) (trace_in W tr top) fuel (operation_of x) a b)
 
-      combine_stops : (s : Stop) → operand_of o2 ≡ operand.Halt s → Combines T W f tr top at left objects d sp fuel x W2 (Halt s fuel2)
+      combine_stops : (s : Stop) → operand_of o2 ≡ Err s → Combines T W f tr top at left objects d sp fuel x W2 (Halt s fuel2)
       combine_stops s e = record {
         kept = kept_both fh th at1 W2 (out_with fuel2 o2) ev2;
         older = tt;
-        is = λ t a b ra rb. record { is = both_as (operand.Halt s) e t a b ra rb; next = tt };
+        is = λ t a b ra rb. record { is = both_as (Err s) e t a b ra rb; next = tt };
       }
 
-      combine_is : (l at2 : ℕ) → operand_of o2 ≡ operand.Number l at2 → Combines T W f tr top at left objects d sp fuel x W2 (out_with fuel2 (reckoned x k l at2))
+      combine_is : (l at2 : ℕ) → operand_of o2 ≡ counted_at l at2 → Combines T W f tr top at left objects d sp fuel x W2 (out_with fuel2 (reckoned x k l at2))
       combine_is l at2 e = record {
         kept = kept_both fh th at1 W2 (out_with fuel2 o2) ev2;
         older = reckoned_older W2 k l at2 fuel2 x (sp + 1) number_small;
         is = λ t a b ra rb. record {
-          is = reckoned_in W2 k l at2 fuel2 x ∙ both_as (operand.Number l at2) e t a b ra rb;
+          is = reckoned_in W2 k l at2 fuel2 x ∙ both_as (counted_at l at2) e t a b ra rb;
           next = reckoned_next W2 k l at2 fuel2 x (at + length (code_of a) + length (code_of b)) (ends t a b ra rb);
         };
       }
@@ -190,5 +179,5 @@ module _ (T W : List ℕ) (f : Frame) (tr : List ℕ) (top at left objects d sp 
       combine_second = go (operand_of o2) refl
         where
           go : (l : Operand) → operand_of o2 ≡ l → Combines T W f tr top at left objects d sp fuel x W2 (out_with fuel2 (combined x k l))
-          go (operand.Number y at2) e = combine_is y at2 e
-          go (operand.Halt s) e = combine_stops s e
+          go (Ok y) e = combine_is y.number y.next e
+          go (Err s) e = combine_stops s e

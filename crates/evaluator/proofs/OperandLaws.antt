@@ -1,12 +1,6 @@
 -- An operand's number, the language's sums and choices by the numbers of their operands, and two numbers put together.
 -- Not here: the evaluations that give them (NumberLaws).
-use Prim.Native.Nat.{ℕ, ◌+◌, ◌<◌}
-use native.Mathlib.Omega.{arith}
-use mathlib.Core.Path.{◌≡◌, refl, ap, ◌∙◌}
-use mathlib.Core.Bool.{Bool, true, false, cond}
-use mathlib.Core.List.{List}
-use lib.Dec.{eqb, ltb}
-use borrow.Author.Tests.{ltb-true}
+use Rattle.std.proofs.Common.{ℕ, ◌+◌, ◌<◌, arith, ◌≡◌, refl, ap, ◌∙◌, Bool, true, false, cond, List, eqb, ltb, ltb-true}
 use Rattle.cofj.specs.Limits.{number_count}
 use Rattle.cofj.specs.Syntax as syntax
 use Rattle.cofj.specs.Syntax.{Expr, combine, choose, Table}
@@ -16,13 +10,12 @@ use Rattle.cofj.specs.Running.{Outcome, value, stopped, ◌then◌, or_stuck, ev
 use Rattle.classes.specs.declared.shape.Operation.{Operation}
 use Rattle.classes.specs.declared.shape.Operation.TheVariants.{Sum, Difference}
 use Rattle.classes.specs.Shapes.{operation_of}
+use Rattle.values.specs.declared.ValueRef.{ValueRef}
+use Rattle.values.specs.Layout.{value_of}
 use Rattle.values.specs.declared.ValueRef.TheVariants.{Object, Mark, Number, Undetermined}
+use Rattle.std.specs.declared.result.Result.TheVariants.{Ok, Err}
 use Rattle.evaluator.specs.declared.Stop.TheVariants.{Overflow}
-use Rattle.evaluator.specs.declared.Done.{Done}
-use Rattle.evaluator.specs.declared.Done.TheVariants as done
-use Rattle.evaluator.specs.declared.Operand.{Operand}
-use Rattle.evaluator.specs.declared.Operand.TheVariants as operand
-use Rattle.evaluator.specs.Answers.{out_in, out_with, OutOlder, NextIs, number_at, operand_of, number_with, reckoned}
+use Rattle.evaluator.specs.Answers.{Done, Operand, value_at, counted_at, out_in, out_with, OutOlder, NextIs, number_at, operand_of, number_with, reckoned, counted_of}
 use Rattle.evaluator.specs.Evaluation.{eval_in}
 
 -- ---- an outcome's number, stuck if it is none
@@ -35,27 +28,33 @@ number_then (stopped s n) go = refl
 
 pub operand_is : (W : List ℕ) (o : Done) (fuel : ℕ) → number_with fuel (operand_of o) ≡ as_number (out_in W (out_with fuel o))
 unfolding canon
-operand_is W (done.Value (Object i b) at) fuel = refl
-operand_is W (done.Value (Mark k) at) fuel = refl
-operand_is W (done.Value (Number n) at) fuel = refl
-operand_is W (done.Value Undetermined at) fuel = refl
-operand_is W (done.Halt s) fuel = refl
+operand_is W (Ok e) fuel = go e.value
+  where
+    go : (v : ValueRef) → number_with fuel (counted_of v e.next) ≡ as_number (value (value_of W v) fuel)
+    go (Object i b) = refl
+    go (Mark k) = refl
+    go (Number n) = refl
+    go Undetermined = refl
+operand_is W (Err s) fuel = refl
 
 -- what an answer is whose operand is a number
 abbrev tagged : Operand → ℕ
-tagged (operand.Number n at) = 1
-tagged (operand.Halt s) = 0
+tagged (Ok c) = 1
+tagged (Err s) = 0
 
 abbrev answered : Operand → Done
-answered (operand.Number n at) = number_at n at
-answered (operand.Halt s) = done.Halt s
+answered (Ok c) = number_at c.number c.next
+answered (Err s) = Err s
 
-pub operand_back : (o : Done) (n at : ℕ) → operand_of o ≡ operand.Number n at → o ≡ number_at n at
-operand_back (done.Value (Object i b) p) n at e = absurd (let z : 0 ≡ 1 = ap tagged e in omega arith)
-operand_back (done.Value (Mark k) p) n at e = absurd (let z : 0 ≡ 1 = ap tagged e in omega arith)
-operand_back (done.Value (Number m) p) n at e = ap answered e
-operand_back (done.Value Undetermined p) n at e = absurd (let z : 0 ≡ 1 = ap tagged e in omega arith)
-operand_back (done.Halt s) n at e = absurd (let z : 0 ≡ 1 = ap tagged e in omega arith)
+pub operand_back : (o : Done) (n at : ℕ) → operand_of o ≡ counted_at n at → o ≡ number_at n at
+operand_back (Ok a) n at e = go a.value refl e
+  where
+    go : (v : ValueRef) → a.value ≡ v → counted_of v a.next ≡ counted_at n at → Ok a ≡ number_at n at
+    go (Object i b) q z = absurd (let y : 0 ≡ 1 = ap tagged z in omega arith)
+    go (Mark k) q z = absurd (let y : 0 ≡ 1 = ap tagged z in omega arith)
+    go (Number m) q z = ap (λ (v : ValueRef). value_at v a.next) q ∙ ap answered z
+    go Undetermined q z = absurd (let y : 0 ≡ 1 = ap tagged z in omega arith)
+operand_back (Err s) n at e = absurd (let z : 0 ≡ 1 = ap tagged e in omega arith)
 
 -- ---- the language's sum and choice, by what its operands give as numbers
 module _ (objects d : ℕ) (t : Table) (p : language.Frame) (os : List language.OpenCall) (fuel : ℕ) where
@@ -82,7 +81,7 @@ module _ (W : List ℕ) (x y next fuel : ℕ) where
   unfolding reckoned reckon
   reckoned_in Sum = go (ltb (x + y) number_count)
     where
-      go : (b : Bool) → out_in W (out_with fuel (cond b (number_at (x + y) next) (done.Halt Overflow))) ≡ (elim b as (λ _. Outcome Graph) [ true ↦ value (number_of (x + y)) fuel | false ↦ stopped language.overflow fuel ])
+      go : (b : Bool) → out_in W (out_with fuel (cond b (number_at (x + y) next) (Err Overflow))) ≡ (elim b as (λ _. Outcome Graph) [ true ↦ value (number_of (x + y)) fuel | false ↦ stopped language.overflow fuel ])
       go true = refl
       go false = refl
   reckoned_in Difference = refl
@@ -91,7 +90,7 @@ module _ (W : List ℕ) (x y next fuel : ℕ) where
   unfolding reckoned
   reckoned_older Sum sp l = go (ltb (x + y) number_count) refl
     where
-      go : (b : Bool) → ltb (x + y) number_count ≡ b → OutOlder W sp (out_with fuel (cond b (number_at (x + y) next) (done.Halt Overflow)))
+      go : (b : Bool) → ltb (x + y) number_count ≡ b → OutOlder W sp (out_with fuel (cond b (number_at (x + y) next) (Err Overflow)))
       go true e = record { held = record { held = ltb-true (x + y) number_count e }; low = tt }
       go false e = tt
   reckoned_older Difference sp l = record { held = record { held = omega arith }; low = tt }
@@ -100,7 +99,7 @@ module _ (W : List ℕ) (x y next fuel : ℕ) where
   unfolding reckoned
   reckoned_next Sum p e = go (ltb (x + y) number_count)
     where
-      go : (b : Bool) → NextIs (out_with fuel (cond b (number_at (x + y) next) (done.Halt Overflow))) p
+      go : (b : Bool) → NextIs (out_with fuel (cond b (number_at (x + y) next) (Err Overflow))) p
       go true = e
       go false = tt
   reckoned_next Difference p e = e

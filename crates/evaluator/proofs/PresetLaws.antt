@@ -1,28 +1,12 @@
--- New objects that stand in block 0 from the start: the test, one law for each return of `is_preset`, and what it tells.
+-- New objects that stand in block 0 from the start: what the test tells.
 -- Not here: how they got there (crate maker, FieldlessLaws).
-use Prim.Native.Nat.{ℕ, ◌≤◌, ◌<◌}
-use mathlib.Core.Path.{◌≡◌, refl}
-use mathlib.Core.Bool.{Bool, true, false, false≢true}
-use mathlib.Core.List.{List}
-use lib.Dec.{eqb, ltb}
-use borrow.Author.Tests.{eq-eqb, ne_eqb, lt-ltb, le-ltb, eqb-true, ltb-true}
+use Rattle.std.proofs.Common.{ℕ, ◌<◌, ◌≡◌, refl, Bool, true, false, List, eqb, ltb, eqb-true, ltb-true}
+use Rattle.std.proofs.Math.Bool.{false≢true}
 use Rattle.classes.specs.Machine.{pick, total_of}
 use Rattle.maker.specs.Figures.{preset_count}
 use Rattle.evaluator.specs.Preset.{is_preset}
 
 module _ (T : List ℕ) (c n : ℕ) where
-  pub preset_values : (n ≡ 0 → ⊥) → false ≡ is_preset T c n
-  unfolding is_preset
-  preset_values e = rw (ne_eqb n 0 e)
-
-  pub preset_high : n ≡ 0 → preset_count ≤ c → false ≡ is_preset T c n
-  unfolding is_preset
-  preset_high e h = rw (eq-eqb n 0 e, le-ltb c preset_count h)
-
-  pub preset_fields : n ≡ 0 → c < preset_count → (x : ℕ) → x ≡ total_of T c → eqb x 0 ≡ is_preset T c n
-  unfolding is_preset
-  preset_fields e l x ex = rw (eq-eqb n 0 e, lt-ltb c preset_count l, ex)
-
   -- what the test tells
   pub record Told : Type 0 where
     pub none : n ≡ 0

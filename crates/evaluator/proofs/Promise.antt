@@ -1,10 +1,7 @@
 -- The promise of this crate: a run of the bytes of a table that was read, with the input of a block if one is given, writes the report of the language's
 -- outcome of the table and the input, and answers its length and the fuel that it left. Not here: the run (RunLaws), its report (ReportLaws).
-use Prim.Native.Nat.{ℕ}
-use mathlib.Core.Path.{◌≡◌, refl, ap, ◌∙◌}
-use mathlib.Core.Bool.{Bool, true}
-use mathlib.Core.List.{List}
-use mathlib.Core.Option.{some}
+use Rattle.std.proofs.Common.{ℕ, ◌≡◌, refl, ap, ◌∙◌, Bool, true, List}
+use Rattle.std.proofs.Math.Option.{some}
 use Rattle.cofj.specs.Syntax.{Table}
 use Rattle.cofj.specs.Values.{Graph, canon}
 use Rattle.cofj.specs.Reading.{read, read_text}

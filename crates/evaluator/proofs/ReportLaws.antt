@@ -1,27 +1,20 @@
 -- Laws of the report of a run, written to the front of a lent buffer.
-use Prim.Native.Nat.{ℕ, ◌+◌, ◌<◌, ◌≤◌}
-use native.Mathlib.Omega.{arith}
-use mathlib.Core.Path.{◌≡◌, refl, ◌∙◌, subst}
-use mathlib.Core.Bool.{Bool}
-use mathlib.Core.List.{List, [], ◌∷◌}
-use lib.ListN.{length, set, drop}
+use Rattle.std.proofs.Common.{ℕ, ◌+◌, ◌<◌, ◌≤◌, arith, ◌≡◌, refl, ◌∙◌, subst, Bool, List, [], ◌∷◌, length, set, drop}
 use Rattle.cofj.specs.Limits.{report_size}
 use Rattle.cofj.specs.Values.{Graph}
 use Rattle.cofj.specs.Running.{stopped}
 use Rattle.cofj.specs.Report.{report_of}
 use Rattle.cofj.specs.Calls.{over}
 use Rattle.cofj.proofs.RunCalls.{run-standard}
-use Rattle.values.specs.declared.ValueRef.{ValueRef}
 use Rattle.values.specs.Layout.{value_of, Holds}
 use Rattle.values.specs.Reporting as values
-use Rattle.values.specs.Reporting.{digit_char}
 use Rattle.evaluator.specs.Figures.{main_block}
 use Rattle.evaluator.specs.declared.Stop.{Stop}
 use Rattle.evaluator.specs.declared.Stop.TheVariants.{Stuck, NoFuel, TooDeep, TooLarge, Overflow}
-use Rattle.evaluator.specs.declared.Out.{Out}
-use Rattle.evaluator.specs.declared.Out.TheVariants.{Value, Halt}
 use Rattle.evaluator.specs.declared.report.Reported.{Reported}
-use Rattle.evaluator.specs.Answers.{stop_of, out_in, OutOlder}
+use Rattle.std.specs.declared.result.Result.TheVariants.{Ok, Err}
+use Rattle.evaluator.specs.declared.Evaluated.{Evaluated}
+use Rattle.evaluator.specs.Answers.{Done, out_with, Out, stop_of, out_in, OutOlder}
 use Rattle.evaluator.specs.Main.{input_in, Runs}
 use Rattle.evaluator.specs.Reporting.{stop_number, StopReports, OutcomeReports, RunReports}
 
@@ -33,6 +26,10 @@ five (x ∷ (y ∷ [])) a b c d e h = absurd (omega arith)
 five (x ∷ (y ∷ (z ∷ []))) a b c d e h = absurd (omega arith)
 five (x ∷ (y ∷ (z ∷ (v ∷ [])))) a b c d e h = absurd (omega arith)
 five (x ∷ (y ∷ (z ∷ (v ∷ (w ∷ R))))) a b c d e h = refl
+
+-- the character of the digit 0
+abbrev digit_char : ℕ
+digit_char = 48
 
 stop_text : (s : Stop) (n : ℕ) (R : List ℕ) → digit_char ∷ (digit_char + 7) ∷ digit_char ∷ (digit_char + stop_number s) ∷ 10 ∷ drop 5 R ≡ over (report_of (stopped (stop_of s) n)) R
 unfolding over
@@ -63,21 +60,21 @@ stop_length TooDeep n = refl
 stop_length TooLarge n = refl
 stop_length Overflow n = refl
 
-pub outcome_halt : (W : List ℕ) (o : Out) (s : Stop) (fuel : ℕ) (R R' : List ℕ) → o ≡ Halt s fuel → StopReports s R R'
-    → OutcomeReports (out_in W o) R R' (record { length = 5; fuel = fuel })
+pub outcome_halt : (W : List ℕ) (o : Done) (s : Stop) (fuel : ℕ) (R R' : List ℕ) → o ≡ Err s → StopReports s R R'
+    → OutcomeReports (out_in W (out_with fuel o)) R R' (record { length = 5; fuel = fuel })
 outcome_halt W o s fuel R R' e w = rw e (record { count = stop_length s fuel; left = refl; text = w.text fuel })
 
 -- ---- a run that ended in a value
-pub value_held : (W : List ℕ) (o : Out) (v : ValueRef) (at fuel : ℕ) → OutOlder W (main_block + 1) o → o ≡ Value v at fuel → Holds W v
-value_held W o v at fuel h e = (rw e at h).held
+pub value_held : (W : List ℕ) (o : Done) (got : Evaluated) (fuel : ℕ) → OutOlder W (main_block + 1) (out_with fuel o) → o ≡ Ok got → Holds W got.value
+value_held W o got fuel h e = (rw e at h).held
 
 pub value_length : (v : Graph) (R R' : List ℕ) (t : ℕ) → values.Reported v R R' t → t < 65536
 value_length v R R' t h = omega (arith, h.fits)
 
-pub outcome_value : (W : List ℕ) (o : Out) (v : ValueRef) (at fuel : ℕ) (R R' : List ℕ) (t : ℕ) → o ≡ Value v at fuel → values.Reported (value_of W v) R R' t
-    → OutcomeReports (out_in W o) R R' (record { length = t; fuel = fuel })
+pub outcome_value : (W : List ℕ) (o : Done) (got : Evaluated) (fuel : ℕ) (R R' : List ℕ) (t : ℕ) → o ≡ Ok got → values.Reported (value_of W got.value) R R' t
+    → OutcomeReports (out_in W (out_with fuel o)) R R' (record { length = t; fuel = fuel })
 unfolding over
-outcome_value W o v at fuel R R' t e h = rw e (record { count = h.count; left = refl; text = h.text })
+outcome_value W o got fuel R R' t e h = rw e (record { count = h.count; left = refl; text = h.text })
 
 -- ---- both
 pub run_reports : (T W W' X : List ℕ) (fuel : ℕ) (fed : Bool) (B R R' : List ℕ) (o : Out) (r : Reported) → Runs T W fuel fed B W' o

@@ -1,14 +1,7 @@
 -- Main, run with its input the only variable and no open calls: the language's outcome.
 -- Not here: where the input lies (InputLaws), that the table was read (Promise).
-use Prim.Native.Nat.{ℕ, zero, suc, ◌≤◌, ◌<◌}
-use native.Mathlib.Omega.{arith}
-use mathlib.Core.Path.{◌≡◌, refl, sym, ap, ◌∙◌, subst}
-use mathlib.Core.Bool.{Bool, true, false}
-use mathlib.Core.List.{List, []}
-use mathlib.Core.Option.{some}
-use lib.Dec.{leb}
-use lib.ListN.{length}
-use borrow.Author.Tests.{leb-true}
+use Rattle.std.proofs.Common.{ℕ, zero, suc, ◌≤◌, ◌<◌, arith, ◌≡◌, refl, sym, ap, ◌∙◌, subst, Bool, true, false, List, [], leb, length, leb-true}
+use Rattle.std.proofs.Math.Option.{some}
 use Rattle.cofj.specs.Limits.{nesting_limit}
 use Rattle.cofj.specs.Syntax.{Table}
 use Rattle.cofj.specs.Writing.{code_of}
@@ -19,16 +12,15 @@ use Rattle.classes.specs.Machine.{pick, main_place}
 use Rattle.classes.specs.Layout.{layout, Stands, Tabled}
 use Rattle.classes.proofs.Zones.{main_stands}
 use Rattle.maker.specs.Laying.{values_from}
-use Rattle.evaluator.specs.Figures.{object_limit, call_limit, trace_size, main_block, work_room}
-use Rattle.evaluator.specs.declared.Out.{Out}
-use Rattle.evaluator.specs.declared.Done.{Done}
+use Rattle.evaluator.specs.Figures.{object_limit, call_limit, main_block, work_room}
 use Rattle.evaluator.specs.declared.frame.Frame.{Frame}
 use Rattle.evaluator.specs.declared.spot.Spot.{Spot}
+use Rattle.evaluator.specs.declared.trace.Trace.{Trace}
 use Rattle.evaluator.specs.State.{Older, slot_at, FrameHolds, frame_in, trace_in}
-use Rattle.evaluator.specs.Resting.{main_frame}
-use Rattle.evaluator.specs.Answers.{out_with}
+use Rattle.evaluator.specs.Frames.{main_frame}
+use Rattle.evaluator.specs.Answers.{Done, out_with}
 use Rattle.evaluator.specs.Evaluation.{eval_in}
-use Rattle.evaluator.specs.Steps.{fuel_of, Runnable, EvalStep}
+use Rattle.evaluator.specs.Steps.{Runnable, EvalStep}
 use Rattle.evaluator.specs.Main.{input_in, Laid, Runs}
 use Rattle.evaluator.proofs.BodyLaws.{eval_to_is}
 
@@ -39,7 +31,7 @@ start_with d at = record { at = at; block = main_block; nesting = nesting_limit;
 abbrev start : ℕ → Spot
 start at = start_with call_limit at
 
-trace_none : (W S : List ℕ) → trace_in W S 0 ≡ []
+trace_none : (W : List ℕ) (S : Trace) → trace_in W S 0 ≡ []
 unfolding trace_in
 trace_none W S = refl
 
@@ -73,11 +65,10 @@ module _ (fed : Bool) (B W0 W : List ℕ) (ld : Laid fed B W0 W) where
       go false e = refl
 
   -- ---- the run
-  module _ (f : Frame) (ef : f ≡ main_frame fed) (S : List ℕ) (at : ℕ) where
-    pub main_runnable : (d : ℕ) → leb d call_limit ≡ true → work_room ≤ length W0 → length S ≡ trace_size → Runnable W f S (start_with d at)
-    main_runnable d b l full = let open-few = leb-true d call_limit b in subst (λ (g : Frame). Runnable W g S (start_with d at)) (sym ef) (record {
+  module _ (f : Frame) (ef : f ≡ main_frame fed) (S : Trace) (at : ℕ) where
+    pub main_runnable : (d : ℕ) → leb d call_limit ≡ true → work_room ≤ length W0 → Runnable W f S (start_with d at)
+    main_runnable d b l = let open-few = leb-true d call_limit b in subst (λ (g : Frame). Runnable W g S (start_with d at)) (sym ef) (record {
       based = record { fieldless = ld.fieldless; above = omega arith };
-      full = full;
       count = few fed;
       fits = record {
         frame = main_holds;
@@ -89,13 +80,10 @@ module _ (fed : Bool) (B W0 W : List ℕ) (ld : Laid fed B W0 W) where
       };
     })
 
-    module _ (fuel : ℕ) (es : fuel_of S ≡ fuel) (T W' S' : List ℕ) (o : Done) where
-      pub fuel_fits : (d : ℕ) → EvalStep T W f S (start_with d at) W' S' o → fuel < 65536 → fuel_of S' < 65536
-      fuel_fits d ev l = let s = ev.trace.spent in omega arith
-
-      pub main_runs : EvalStep T W f S (start at) W' S' o → (at ≡ main_place T) × (at < 65536) → (r : Out) → r ≡ out_with (fuel_of S') o → Runs T W0 fuel fed B W' r
+    module _ (fuel : ℕ) (es : S.fuel ≡ fuel) (T W' : List ℕ) (S' : Trace) (o : Done) where
+      pub main_runs : EvalStep T W f S (start at) W' S' o → (at ≡ main_place T) × (at < 65536) → Runs T W0 fuel fed B W' (out_with S'.fuel o)
       unfolding run_within
-      main_runs ev ea r er = subst (Runs T W0 fuel fed B W') (sym er) (
+      main_runs ev ea =
           let x = subst (λ (g : Frame). EvalStep T W g S (start at) W' S' o) ef ev in
           record {
             same = x.runs.kept.same ∙ ld.same;
@@ -104,4 +92,4 @@ module _ (fed : Bool) (B W0 W : List ℕ) (ld : Laid fed B W0 W) where
                 (x.runs.is t t.main (record { table = tb; nested = tb.formed.main_nested; known = tb.formed.main_known; stands = main_at_lem T t at ea.0 tb })).is
                 ∙ (λ i. eval_in object_limit call_limit t (frame_main i) (trace_none W S i) t.main (es i))
                 ∙ eval_to_is object_limit call_limit t (language.main_frame (input_in fed B)) [] t.main fuel;
-          })
+          }

@@ -1,51 +1,42 @@
 -- Arguments and open calls compared: one law for each return of `same_args` and `same_call`.
 -- Not here: what is told before they are compared (ApartLaws).
-use Prim.Native.Nat.{ℕ, zero, suc, ◌+◌, ◌≤◌, ◌<◌}
-use native.Mathlib.Omega.{arith}
-use native.Mathlib.Numerals.{add-one}
-use mathlib.Core.Path.{◌≡◌, refl, sym, ap, ap₂, ◌∙◌, subst}
-use mathlib.Core.Bool.{Bool, true, false, not}
-use mathlib.Core.List.{List, [], ◌∷◌, map}
-use lib.Dec.{eqb}
-use lib.ListN.{length, take, drop, length-take, drop_of_length-le}
-use lib.Seq.{drop-cons, get_or-take, length-take-le}
-use borrow.Author.Tests.{eq-eqb, ne_eqb, not-true, not-false}
+use Rattle.std.proofs.Common.{ℕ, zero, suc, ◌+◌, ◌≤◌, ◌<◌, arith, add-one, ◌≡◌, refl, sym, ap, ap₂, ◌∙◌, subst, Bool, true, false, not, List, [], ◌∷◌, map, eqb, length, take, drop, length-take, drop_of_length-le, drop-cons, get_or-take, length-take-le, eq-eqb, ne_eqb}
+use borrow.Author.Tests.{not-true, not-false}
 use Rattle.cofj.specs.Values.{Graph, eq_graph, eq_graphs}
 use Rattle.classes.specs.Machine.{pick}
 use Rattle.values.specs.declared.ValueRef.{ValueRef}
 use Rattle.values.specs.Layout.{value_of, Holds}
-use Rattle.maker.specs.declared.Slot.{Slot}
 use Rattle.maker.specs.Laying.{values_from, PartsHeld}
 use Rattle.evaluator.specs.declared.trace.OpenCall.{OpenCall}
 use Rattle.evaluator.specs.State.{slot_at, call_in, CallHolds, same_of}
 use Rattle.evaluator.proofs.VariableLaws.{length_values}
 
 -- ---- values from a place on
-module _ (W : List ℕ) (ps : List Slot) (i n : ℕ) where
+module _ (W : List ℕ) (ps : List ValueRef) (i n : ℕ) where
   values_end : n ≤ i → values_from W ps i n ≡ []
   unfolding values_from
-  values_end h = ap (map (λ (s : Slot). value_of W s.r)) (drop_of_length-le (take n ps) {i = i} (omega (arith, length-take n ps)))
+  values_end h = ap (map (value_of W)) (drop_of_length-le (take n ps) {i = i} (omega (arith, length-take n ps)))
 
   values_cons : n ≤ length ps → i < n → values_from W ps i n ≡ value_of W (slot_at ps i) ∷ values_from W ps (i + 1) n
   unfolding values_from
   values_cons full h =
       let l : i < length (take n ps) = omega (arith, length-take-le n ps full) in
-      ap (map (λ (s : Slot). value_of W s.r)) (drop-cons (take n ps) i (record { r = ValueRef.Object 0 0 }) l)
-      ∙ ap₂ {A = Graph} {B = List Graph} {C = List Graph} ◌∷◌ (ap (λ (s : Slot). value_of W s.r) (get_or-take n ps i (record { r = ValueRef.Object 0 0 }) h))
-      (ap (λ (k : ℕ). map (λ (s : Slot). value_of W s.r) (drop k (take n ps))) (sym (add-one i)))
+      ap (map (value_of W)) (drop-cons (take n ps) i (ValueRef.Object 0 0) l)
+      ∙ ap₂ {A = Graph} {B = List Graph} {C = List Graph} ◌∷◌ (ap (value_of W) (get_or-take n ps i (ValueRef.Object 0 0) h))
+      (ap (λ (k : ℕ). map (value_of W) (drop k (take n ps))) (sym (add-one i)))
 
 -- ---- arguments compared
-pub part_held : (W : List ℕ) (ps : List Slot) (n i : ℕ) → PartsHeld W ps n → i < n → Holds W (slot_at ps i)
+pub part_held : (W : List ℕ) (ps : List ValueRef) (n i : ℕ) → PartsHeld W ps n → i < n → Holds W (slot_at ps i)
 part_held W ps n i h l = h.part i l
 
 -- the comparison has come to place i
-pub record Comparing (W : List ℕ) (ps qs : List Slot) (i n : ℕ) : Type 0 where
+pub record Comparing (W : List ℕ) (ps qs : List ValueRef) (i n : ℕ) : Type 0 where
   pub rest : eq_graphs (values_from W ps i n) (values_from W qs i n) ≡ eq_graphs (values_from W ps 0 n) (values_from W qs 0 n)
 
-pub args_start : (W : List ℕ) (ps qs : List Slot) (n : ℕ) → Comparing W ps qs 0 n
+pub args_start : (W : List ℕ) (ps qs : List ValueRef) (n : ℕ) → Comparing W ps qs 0 n
 args_start W ps qs n = record { rest = refl }
 
-module _ (W : List ℕ) (ps qs : List Slot) (i n : ℕ) (c : Comparing W ps qs i n) where
+module _ (W : List ℕ) (ps qs : List ValueRef) (i n : ℕ) (c : Comparing W ps qs i n) where
   pub args_end : n ≤ i → true ≡ eq_graphs (values_from W ps 0 n) (values_from W qs 0 n)
   unfolding eq_graphs
   args_end h = rw (values_end W ps i n h, values_end W qs i n h) at c.rest
@@ -66,7 +57,7 @@ module _ (W : List ℕ) (ps qs : List Slot) (i n : ℕ) (c : Comparing W ps qs i
     args_more z = record { rest = more z ∙ c.rest }
 
 -- lists of values one of which differs
-module _ (W : List ℕ) (ps qs : List Slot) (n k : ℕ) (a : PartsHeld W ps n) (b : PartsHeld W qs n) (l : k < n) (ne : false ≡ eq_graph (value_of W (slot_at ps k)) (value_of W (slot_at qs k))) where
+module _ (W : List ℕ) (ps qs : List ValueRef) (n k : ℕ) (a : PartsHeld W ps n) (b : PartsHeld W qs n) (l : k < n) (ne : false ≡ eq_graph (value_of W (slot_at ps k)) (value_of W (slot_at qs k))) where
   one_differs : (d i : ℕ) → i + d ≡ k → false ≡ eq_graphs (values_from W ps i n) (values_from W qs i n)
   unfolding eq_graphs
   one_differs zero i e =
@@ -101,7 +92,7 @@ pick_false : (b : Bool) → pick b false false ≡ false
 pick_false true = refl
 pick_false false = refl
 
-module _ (W : List ℕ) (c : OpenCall) (v : ValueRef) (m : ℕ) (ps : List Slot) (n : ℕ) where
+module _ (W : List ℕ) (c : OpenCall) (v : ValueRef) (m : ℕ) (ps : List ValueRef) (n : ℕ) where
   pub call_name : (c.name ≡ m → ⊥) → false ≡ same_of (call_in W 0 c) (value_of W v) m (values_from W ps 0 n)
   unfolding same_of
   call_name h = rw (ne_eqb c.name m h)

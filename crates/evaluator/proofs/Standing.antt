@@ -1,14 +1,6 @@
 -- What stands at the place of an expression in a table's bytes, and its parts.
 -- Not here: what evaluation makes of it (EvalLaws).
-use Prim.Native.Nat.{ℕ, zero, suc, ◌+◌, ◌-◌, ◌≤◌, ◌<◌}
-use native.Mathlib.Omega.{arith}
-use native.Mathlib.Numerals.{sub-one}
-use mathlib.Core.Path.{◌≡◌, refl, sym, ap, ◌∙◌}
-use mathlib.Core.Bool.{true, ◌&&◌}
-use mathlib.Core.List.{List, ◌++◌}
-use lib.Dec.{leb}
-use lib.ListN.{length, length-append}
-use borrow.Author.Tests.{leb-true}
+use Rattle.std.proofs.Common.{ℕ, zero, suc, ◌+◌, ◌-◌, ◌≤◌, ◌<◌, arith, sub-one, ◌≡◌, refl, sym, ap, ◌∙◌, true, ◌&&◌, List, ◌++◌, leb, length, length-append, leb-true}
 use Rattle.cofj.specs.Syntax.{Operation, Expr, field, call, new, combine, choose, Exprs, also, Table}
 use Rattle.cofj.specs.Tables.{expr_known, exprs_known}
 use Rattle.cofj.specs.Writing.{code_of, codes_of}

@@ -14,10 +14,10 @@ use Rattle.classes.specs.declared.shape.Operation.{Operation}
 use Rattle.classes.specs.Shapes.{operation_of}
 use Rattle.canon.specs.Figures.{capacity}
 use Rattle.evaluator.specs.Figures.{call_limit, level_blocks, open_blocks, block_limit, work_room}
-use Rattle.evaluator.specs.declared.Out.{Out}
 use Rattle.evaluator.specs.declared.frame.Frame.{Frame}
+use Rattle.evaluator.specs.declared.trace.Trace.{Trace}
 use Rattle.evaluator.specs.State.{Kept, FrameHolds, TraceHolds, frame_in, trace_in}
-use Rattle.evaluator.specs.Answers.{Listed, OutOlder, ListOlder, Shows, ShowsAll}
+use Rattle.evaluator.specs.Answers.{Out, Listed, OutOlder, ListOlder, Shows, ShowsAll}
 
 -- ---- the table's bytes are T, and an expression nested at most `left` deep stands in them
 pub record Reads (T : List ℕ) (left at : ℕ) (t : Table) (e : Expr) : Type 0 where
@@ -50,7 +50,7 @@ pub record Limited (objects : ℕ) : Type 0 where
   pub room : objects ≤ capacity
 
 -- What evaluation asks: the frame and the trace stand for values below block sp, and there is room above (Figures).
-pub record Fits (W : List ℕ) (f : Frame) (tr : List ℕ) (top left objects d sp : ℕ) : Type 0 where
+pub record Fits (W : List ℕ) (f : Frame) (tr : Trace) (top left objects d sp : ℕ) : Type 0 where
   pub frame : FrameHolds W sp f
   pub trace : TraceHolds W sp tr top
   pub calls : top + d ≤ call_limit
@@ -59,7 +59,7 @@ pub record Fits (W : List ℕ) (f : Frame) (tr : List ℕ) (top left objects d s
   pub long : work_room ≤ length W
 
 -- n expressions from block sp on
-pub record ListFits (W : List ℕ) (f : Frame) (tr : List ℕ) (top left objects d sp n : ℕ) : Type 0 where
+pub record ListFits (W : List ℕ) (f : Frame) (tr : Trace) (top left objects d sp n : ℕ) : Type 0 where
   pub frame : FrameHolds W sp f
   pub trace : TraceHolds W sp tr top
   pub calls : top + d ≤ call_limit
@@ -69,40 +69,40 @@ pub record ListFits (W : List ℕ) (f : Frame) (tr : List ℕ) (top left objects
   pub long : work_room ≤ length W
 
 -- the expression at `at`, evaluated at block sp
-pub record Evaluates (T W : List ℕ) (f : Frame) (tr : List ℕ) (top at left objects d sp fuel : ℕ) (W' : List ℕ) (o : Out) : Type 0 where
+pub record Evaluates (T W : List ℕ) (f : Frame) (tr : Trace) (top at left objects d sp fuel : ℕ) (W' : List ℕ) (o : Out) : Type 0 where
   pub kept : Kept sp W W'
   pub older : OutOlder W' (sp + 1) o
   pub is : (t : Table) (e : Expr) → Reads T left at t e → Shows W' o (at + length (code_of e)) (eval_in objects d t (frame_in W f) (trace_in W tr top) e fuel)
 
 -- field k of the expression at `at`
-pub record Fields (T W : List ℕ) (f : Frame) (tr : List ℕ) (top at left objects d sp fuel k : ℕ) (W' : List ℕ) (o : Out) : Type 0 where
+pub record Fields (T W : List ℕ) (f : Frame) (tr : Trace) (top at left objects d sp fuel k : ℕ) (W' : List ℕ) (o : Out) : Type 0 where
   pub kept : Kept sp W W'
   pub older : OutOlder W' (sp + 1) o
   pub is : (t : Table) (e : Expr) → Reads T left at t e → Shows W' o (at + length (code_of e)) (eval_in objects d t (frame_in W f) (trace_in W tr top) (field k e) fuel)
 
 -- the n expressions at `at`, evaluated at the blocks from sp on
-pub record Lists (T W : List ℕ) (f : Frame) (tr : List ℕ) (top at left objects d sp fuel n : ℕ) (W' : List ℕ) (o : Listed) : Type 0 where
+pub record Lists (T W : List ℕ) (f : Frame) (tr : Trace) (top at left objects d sp fuel n : ℕ) (W' : List ℕ) (o : Listed) : Type 0 where
   pub kept : Kept sp W W'
   pub older : ListOlder W' (sp + n) n o
   pub is : (t : Table) (es : Exprs) → ReadsAll T left at t es → count es ≡ n
       → ShowsAll W' n o (at + length (codes_of es)) (evals_in objects d t (frame_in W f) (trace_in W tr top) es fuel)
 
 -- a new object of class c with the values of the n expressions at `at`
-pub record News (T W : List ℕ) (f : Frame) (tr : List ℕ) (top at left objects d sp fuel c n : ℕ) (W' : List ℕ) (o : Out) : Type 0 where
+pub record News (T W : List ℕ) (f : Frame) (tr : Trace) (top at left objects d sp fuel c n : ℕ) (W' : List ℕ) (o : Out) : Type 0 where
   pub kept : Kept sp W W'
   pub older : OutOlder W' (sp + 1) o
   pub is : (t : Table) (es : Exprs) → ReadsAll T left at t es → count es ≡ n → c ≤ length t.classes
       → Shows W' o (at + length (codes_of es)) (eval_in objects d t (frame_in W f) (trace_in W tr top) (new c es) fuel)
 
 -- the two expressions at `at`, put together
-pub record Combines (T W : List ℕ) (f : Frame) (tr : List ℕ) (top at left objects d sp fuel : ℕ) (x : Operation) (W' : List ℕ) (o : Out) : Type 0 where
+pub record Combines (T W : List ℕ) (f : Frame) (tr : Trace) (top at left objects d sp fuel : ℕ) (x : Operation) (W' : List ℕ) (o : Out) : Type 0 where
   pub kept : Kept sp W W'
   pub older : OutOlder W' (sp + 1) o
   pub is : (t : Table) (a b : Expr) → Reads T left at t a → Reads T left (at + length (code_of a)) t b
       → Shows W' o (at + length (code_of a) + length (code_of b)) (eval_in objects d t (frame_in W f) (trace_in W tr top) (combine (operation_of x) a b) fuel)
 
 -- the choice at `at`: a number and two branches
-pub record Chooses (T W : List ℕ) (f : Frame) (tr : List ℕ) (top at left objects d sp fuel : ℕ) (W' : List ℕ) (o : Out) : Type 0 where
+pub record Chooses (T W : List ℕ) (f : Frame) (tr : Trace) (top at left objects d sp fuel : ℕ) (W' : List ℕ) (o : Out) : Type 0 where
   pub kept : Kept sp W W'
   pub older : OutOlder W' (sp + 1) o
   pub is : (t : Table) (c a b : Expr) → Reads T left at t c → Reads T left (at + length (code_of c)) t a → Reads T left (at + length (code_of c) + length (code_of a)) t b

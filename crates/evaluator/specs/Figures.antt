@@ -11,24 +11,6 @@ call_limit = 16
 abbrev pub object_limit : ℕ
 object_limit = 32
 
--- the numbers of an open call at rest, and where its arguments begin among them
-abbrev pub call_size : ℕ
-call_size = 8
-
-abbrev pub args_at : ℕ
-args_at = 3
-
--- where the fuel left stands, after call_limit calls; all numbers
-abbrev pub fuel_at : ℕ
-fuel_at = 128
-
-abbrev pub trace_size : ℕ
-trace_size = 129
-
--- at rest, a variable that holds nothing: no value has this number
-abbrev pub absent : ℕ
-absent = 4
-
 -- every place of a table, and what follows its last expression, lies below
 abbrev pub place_limit : ℕ
 place_limit = 26000

@@ -1,6 +1,6 @@
 pub mod Figures
 pub mod State
-pub mod Resting
+pub mod Frames
 pub mod Answers
 pub mod Spots
 pub mod Chains

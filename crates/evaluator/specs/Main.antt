@@ -12,8 +12,7 @@ use Rattle.values.specs.declared.ValueRef.TheVariants.{Object}
 use Rattle.values.specs.Layout.{value_of, Holds}
 use Rattle.maker.specs.Fieldless.{Fieldless}
 use Rattle.evaluator.specs.Figures.{input_block, main_block}
-use Rattle.evaluator.specs.declared.Out.{Out}
-use Rattle.evaluator.specs.Answers.{out_in, OutOlder}
+use Rattle.evaluator.specs.Answers.{Out, out_in, OutOlder}
 
 -- ---- the input: the value of the bytes B, which are a block, from object 0 on, if one is given
 -- what a given one asks

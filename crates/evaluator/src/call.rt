@@ -4,89 +4,85 @@
 ghost use Rattle.std.specs.Prelude.{◌≡◌, ◌+◌, ◌<◌};
 ghost use Rattle.classes.specs.Machine.{left_of, right_of};
 ghost use Rattle.evaluator.specs.Figures.{call_limit};
-ghost use Rattle.evaluator.specs.Resting.{frame_of};
 ghost use Rattle.evaluator.specs.Spots.{body_spot};
 ghost use Rattle.evaluator.specs.Steps.{PartRunnable, CallRunnable, BodyRunnable, MarkGiven, CallStep, InvokeStep, RightStep, LeftStep};
 
-use crate::eval::{again, eval, eval_list, halted};
+use crate::eval::{eval, eval_list, stopped};
 use crate::find::find;
-use crate::frame::{FRAME, Held, body_frame};
+use crate::frame::{Frame, body_frame};
 use crate::met::open_call;
 use crate::spot::{Spot, body, moved};
-use crate::trace::{FUEL, TRACE, push};
-use crate::{Done, Stop, Walked};
+use crate::trace::{OpenCall, Trace, push, side_call};
+use crate::{Evaluated, Stop};
 use classes::methods::{Found, left_place, right_place};
 use classes::places::SIZE;
 use values::ValueRef;
 use values::value::{bring, close};
 
-// The call of m with n arguments: the receiver at a spot, then the arguments, if there are any. In one function, since the compiler leaves one for the arguments
-// outside, which costs calls with arguments a seventh (docs/SPEED.md).
+// The call of m with n arguments: the receiver at a spot, then the arguments, if there are any; a walk of none would cost calls without arguments a twentieth. In
+// one function, since the compiler leaves one for the arguments outside, which costs calls with arguments a seventh (docs/SPEED.md).
 #[cycle(evaluation)]
 pub(crate) fn eval_call(
     t: &[u8; SIZE],
     work: &mut [u8],
-    tr: &mut [u32; TRACE],
-    fr: &[u32; FRAME],
+    trace: &mut Trace,
+    frame: &Frame,
     p: Spot,
     m: u8,
     n: u8,
-) -> Done
-    requires { PartRunnable work.old (frame_of fr.now) tr.old p }
-    ensures { CallStep t.now work.old (frame_of fr.now) tr.old p m n work.new tr.new result }
+) -> Result<Evaluated, Stop>
+    requires { PartRunnable work.old frame.now trace.old p }
+    ensures { CallStep t.now work.old frame.now trace.old p m n work.new trace.new result }
 {
     if p.nesting == 0 {
-        return Done::Halt(Stop::Stuck);
+        return Err(Stop::Stuck);
     }
-    let o = eval(t, work, tr, fr, p);
-    let Done::Value(v, at) = o else {
+    let o = eval(t, work, trace, frame, p);
+    let Ok(Evaluated { value: v, next: at }) = o else {
         return o;
     };
     let w = find(t, work, v, m, n);
-    let Found::At(owner, i) = w else {
-        return Done::Halt(Stop::Stuck);
+    let Some(f) = w else {
+        return Err(Stop::Stuck);
     };
     if n == 0 {
-        let vs = [0u32; 4];
-        return again(invoke(t, work, tr, v, &vs, n, i, owner, m, moved(p, at, p.block)));
+        let bare = side_call(v, m, [ValueRef::Undetermined; 3], n, p.opened);
+        return invoke(t, work, trace, &bare, f, moved(p, at, p.block));
     }
-    let mut vs = [0u32; 4];
-    let l = eval_list(t, work, tr, fr, moved(p, at, p.block + 1), n, &mut vs);
-    let Walked::After(next) = l else {
-        return halted(l);
+    let mut vs = [ValueRef::Undetermined; 4];
+    let l = eval_list(t, work, trace, frame, moved(p, at, p.block + 1), n, &mut vs);
+    let Ok(next) = l else {
+        return stopped(l);
     };
-    again(invoke(t, work, tr, v, &vs, n, i, owner, m, moved(p, next, p.block)))
+    let c = side_call(v, m, [vs[0], vs[1], vs[2]], n, p.opened);
+    invoke(t, work, trace, &c, f, moved(p, next, p.block))
 }
 
-// Method i, which has the name m and this owner, called on v with the n arguments at rest in vs; the spot is after the call.
+// The method f called; the spot is after the call.
 #[cycle(evaluation)]
 pub(crate) fn invoke(
     t: &[u8; SIZE],
     work: &mut [u8],
-    tr: &mut [u32; TRACE],
-    v: ValueRef,
-    vs: &[u32; 4],
-    n: u8,
-    i: u8,
-    owner: u8,
-    m: u8,
+    trace: &mut Trace,
+    c: &OpenCall,
+    f: Found,
     p: Spot,
-) -> Done
-    requires { CallRunnable work.old tr.old v vs.now n p }
-    ensures { InvokeStep t.now work.old tr.old v vs.now n i m p work.new tr.new result }
+) -> Result<Evaluated, Stop>
+    requires { CallRunnable work.old trace.old c.now p }
+    ensures { InvokeStep t.now work.old trace.old c.now f.method p work.new trace.new result }
 {
-    let fuel = tr[FUEL];
+    let fuel = trace.fuel;
     if fuel == 0 {
-        return Done::Halt(Stop::NoFuel);
+        return Err(Stop::NoFuel);
     }
-    tr[FUEL] = fuel - 1;
+    trace.fuel = fuel - 1;
     if p.calls == 0 {
-        return Done::Halt(Stop::TooDeep);
+        return Err(Stop::TooDeep);
     }
-    let h = open_call(work, tr, p.opened, v, m, vs, n);
+    let h = open_call(work, trace, p.opened, c);
     match h {
-        Held::Is(mark) => run_right(t, work, tr, v, vs, n, i, owner, p, mark),
-        Held::Absent => run_left(t, work, tr, v, vs, n, i, owner, m, p),
+        Some(mark) => run_right(t, work, trace, c, f, p, mark),
+        None => run_left(t, work, trace, c, f, p),
     }
 }
 
@@ -106,54 +102,53 @@ pub(crate) fn left_spot(t: &[u8; SIZE], i: u8, p: Spot) -> Spot
     body(p, left_place(t, i), p.opened + 1)
 }
 
-// The right side of method i, which this class owns, with res the mark of the open call.
+// The right side of the method f, with res the mark of the open call.
 #[cycle(evaluation)]
 pub(crate) fn run_right(
     t: &[u8; SIZE],
     work: &mut [u8],
-    tr: &mut [u32; TRACE],
-    v: ValueRef,
-    vs: &[u32; 4],
-    n: u8,
-    i: u8,
-    owner: u8,
+    trace: &mut Trace,
+    c: &OpenCall,
+    f: Found,
     p: Spot,
     mark: ValueRef,
-) -> Done
-    requires { BodyRunnable work.old tr.old v vs.now n p × MarkGiven mark }
-    ensures { RightStep t.now work.old tr.old v vs.now n i p mark work.new tr.new result }
+) -> Result<Evaluated, Stop>
+    requires { BodyRunnable work.old trace.old c.now p × MarkGiven mark }
+    ensures { RightStep t.now work.old trace.old c.now f.method p mark work.new trace.new result }
 {
-    let fr = body_frame(v, Held::Is(mark), vs, n, owner);
-    let o = eval(t, work, tr, &fr, right_spot(t, i, p));
-    let Done::Value(u, _) = o else {
+    let frame = body_frame(c, Some(mark), f.owner);
+    let o = eval(t, work, trace, &frame, right_spot(t, f.method, p));
+    let Ok(Evaluated { value: u, next: _ }) = o else {
         return o;
     };
-    Done::Value(bring(work, u, p.block), p.at)
+    Ok(Evaluated {
+        value: bring(work, u, p.block),
+        next: p.at,
+    })
 }
 
-// The left side of method i, which this class owns and which has the name m, under a fresh mark.
+// The left side of the method f, under a fresh mark, with its call open.
 #[cycle(evaluation)]
 pub(crate) fn run_left(
     t: &[u8; SIZE],
     work: &mut [u8],
-    tr: &mut [u32; TRACE],
-    v: ValueRef,
-    vs: &[u32; 4],
-    n: u8,
-    i: u8,
-    owner: u8,
-    m: u8,
+    trace: &mut Trace,
+    c: &OpenCall,
+    f: Found,
     p: Spot,
-) -> Done
-    requires { BodyRunnable work.old tr.old v vs.now n p }
-    ensures { LeftStep t.now work.old tr.old v vs.now n i m p work.new tr.new result }
+) -> Result<Evaluated, Stop>
+    requires { BodyRunnable work.old trace.old c.now p }
+    ensures { LeftStep t.now work.old trace.old c.now f.method p work.new trace.new result }
 {
     let k = p.opened;
-    push(tr, k, v, m, vs, n);
-    let fr = body_frame(v, Held::Absent, vs, n, owner);
-    let o = eval(t, work, tr, &fr, left_spot(t, i, p));
-    let Done::Value(u, _) = o else {
+    push(trace, k, c);
+    let frame = body_frame(c, None, f.owner);
+    let o = eval(t, work, trace, &frame, left_spot(t, f.method, p));
+    let Ok(Evaluated { value: u, next: _ }) = o else {
         return o;
     };
-    Done::Value(close(work, k, u, p.block), p.at)
+    Ok(Evaluated {
+        value: close(work, k, u, p.block),
+        next: p.at,
+    })
 }

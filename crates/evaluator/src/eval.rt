@@ -1,32 +1,32 @@
 // Running an expression: it calls its list walk, which calls it back, while the nesting left falls.
-// An expression is evaluated at a block: blocks below it stay, and its value is an older one or lies in that block. The frame is lent at rest, and
-// so are the open calls with the fuel left.
+// An expression is evaluated at a block: blocks below it stay, and its value is an older one or lies in that block. What a part gives is taken apart with
+// `let .. else`, as document 01 has it, and what it stopped at is the whole's: no `?`.
+// Table, work, trace, frame and spot stay parameters of their own, since each clause speaks of one of them, before or after.
 ghost use Rattle.std.specs.Prelude.{◌≡◌, ◌+◌, ◌*◌, ◌<◌, length};
-ghost use Rattle.evaluator.specs.Answers.{stops_as, halts_as};
+ghost use Rattle.evaluator.specs.Answers.{stops_as};
 ghost use Rattle.evaluator.specs.Evaluation.{Limited};
 ghost use Rattle.evaluator.specs.Preset.{is_preset};
-ghost use Rattle.evaluator.specs.Resting.{frame_of};
 ghost use Rattle.evaluator.specs.Spots.{past_of};
 ghost use Rattle.evaluator.specs.Steps.{Runnable, PartRunnable, ListRunnable, PartsReady, EvalStep, FieldStep, ListStep, FinishStep, NewStep};
 
 use crate::call::eval_call;
 use crate::fields::fields_at;
-use crate::frame::{FRAME, answer, parameter, res_of, this_of};
+use crate::frame::{Frame, answer, parameter};
 use crate::number::{eval_number, literal};
 use crate::spot::{Spot, down, inner, moved};
-use crate::trace::TRACE;
-use crate::{Done, Stop, Walked};
+use crate::trace::Trace;
+use crate::{Evaluated, Stop};
 use classes::chain::field_total;
 use classes::places::SIZE;
 use classes::shape::{Shape, shape_at};
-use maker::Made;
 use maker::fieldless::PRESETS;
 use maker::make::make;
 use maker::over::make_fieldless;
 use values::ValueRef;
-use values::refs::{Selected, pack, select};
+use values::refs::select;
 
 // Whether a new object of class c with n values stands in block 0 from the start.
+#[tactic(auto, unfolding(crate::specs::Preset::is_preset))]
 pub(crate) fn is_preset(t: &[u8; SIZE], c: u8, n: u8) -> bool
     ensures { result ≡ is_preset t.now c n }
 {
@@ -39,40 +39,30 @@ pub(crate) fn is_preset(t: &[u8; SIZE], c: u8, n: u8) -> bool
     field_total(t, c) == 0
 }
 
-// An answer handed on as it is.
-pub(crate) fn again(o: Done) -> Done
-    ensures { result ≡ o }
-{
-    match o {
-        Done::Value(v, at) => Done::Value(v, at),
-        Done::Halt(s) => Done::Halt(s),
-    }
-}
-
 // The expression at a spot. What is made of numbers, in a function of its own: that costs calls less.
 #[cycle(evaluation)]
 pub(crate) fn eval(
     t: &[u8; SIZE],
     work: &mut [u8],
-    tr: &mut [u32; TRACE],
-    fr: &[u32; FRAME],
+    trace: &mut Trace,
+    frame: &Frame,
     p: Spot,
-) -> Done
-    requires { Runnable work.old (frame_of fr.now) tr.old p }
-    ensures { EvalStep t.now work.old (frame_of fr.now) tr.old p work.new tr.new result }
+) -> Result<Evaluated, Stop>
+    requires { Runnable work.old frame.now trace.old p }
+    ensures { EvalStep t.now work.old frame.now trace.old p work.new trace.new result }
 {
     if p.nesting == 0 {
-        return Done::Halt(Stop::Stuck);
+        return Err(Stop::Stuck);
     }
     let s = shape_at(t, p.at as usize);
     match s {
-        Shape::This { next } => answer(this_of(fr), next),
-        Shape::Result { next } => answer(res_of(fr), next),
-        Shape::Parameter { k, next } => answer(parameter(fr, k), next),
-        Shape::Field { f: k, next } => again(eval_field(t, work, tr, fr, inner(p, next), k)),
-        Shape::Call { m, n, next } => again(eval_call(t, work, tr, fr, inner(p, next), m, n)),
-        Shape::New { c, n, next } => again(eval_new(t, work, tr, fr, inner(p, next), c, n)),
-        _ => again(eval_number(t, work, tr, fr, p, s)),
+        Shape::This { next } => answer(frame.this, next),
+        Shape::Result { next } => answer(frame.res, next),
+        Shape::Parameter { k, next } => answer(parameter(frame, k), next),
+        Shape::Field { f: k, next } => eval_field(t, work, trace, frame, inner(p, next), k),
+        Shape::Call { m, n, next } => eval_call(t, work, trace, frame, inner(p, next), m, n),
+        Shape::New { c, n, next } => eval_new(t, work, trace, frame, inner(p, next), c, n),
+        _ => eval_number(t, work, trace, frame, p, s),
     }
 }
 
@@ -82,30 +72,33 @@ pub(crate) fn eval(
 pub(crate) fn eval_item(
     t: &[u8; SIZE],
     work: &mut [u8],
-    tr: &mut [u32; TRACE],
-    fr: &[u32; FRAME],
+    trace: &mut Trace,
+    frame: &Frame,
     p: Spot,
-) -> Done
-    requires { Runnable work.old (frame_of fr.now) tr.old p }
-    ensures { EvalStep t.now work.old (frame_of fr.now) tr.old p work.new tr.new result }
+) -> Result<Evaluated, Stop>
+    requires { Runnable work.old frame.now trace.old p }
+    ensures { EvalStep t.now work.old frame.now trace.old p work.new trace.new result }
 {
     if p.nesting == 0 {
-        return Done::Halt(Stop::Stuck);
+        return Err(Stop::Stuck);
     }
     let s = shape_at(t, p.at as usize);
     match s {
-        Shape::This { next } => answer(this_of(fr), next),
-        Shape::Parameter { k, next } => answer(parameter(fr, k), next),
+        Shape::This { next } => answer(frame.this, next),
+        Shape::Parameter { k, next } => answer(parameter(frame, k), next),
         Shape::Number { k, n, next } => literal(k, n, next),
-        Shape::Field { f: k, next } => again(eval_field(t, work, tr, fr, inner(p, next), k)),
+        Shape::Field { f: k, next } => eval_field(t, work, trace, frame, inner(p, next), k),
         Shape::New { c, n, next } => {
             if is_preset(t, c, n) {
                 let v = ValueRef::Object(c, 0);
-                return Done::Value(v, next as u16);
+                return Ok(Evaluated {
+                    value: v,
+                    next: next as u16,
+                });
             }
-            again(eval_new(t, work, tr, fr, inner(p, next), c, n))
+            eval_new(t, work, trace, frame, inner(p, next), c, n)
         }
-        _ => again(eval(t, work, tr, fr, p)),
+        _ => eval(t, work, trace, frame, p),
     }
 }
 
@@ -114,35 +107,33 @@ pub(crate) fn eval_item(
 pub(crate) fn eval_field(
     t: &[u8; SIZE],
     work: &mut [u8],
-    tr: &mut [u32; TRACE],
-    fr: &[u32; FRAME],
+    trace: &mut Trace,
+    frame: &Frame,
     p: Spot,
     k: u8,
-) -> Done
-    requires { PartRunnable work.old (frame_of fr.now) tr.old p }
-    ensures { FieldStep t.now work.old (frame_of fr.now) tr.old p k work.new tr.new result }
+) -> Result<Evaluated, Stop>
+    requires { PartRunnable work.old frame.now trace.old p }
+    ensures { FieldStep t.now work.old frame.now trace.old p k work.new trace.new result }
 {
     let at = p.at as usize;
     let d = fields_at(t, at, p.nesting);
-    let o = eval(t, work, tr, fr, down(p, d));
-    let Done::Value(v, next) = o else {
+    let o = eval(t, work, trace, frame, down(p, d));
+    let Ok(Evaluated { value: v, next }) = o else {
         return o;
     };
     let mut u = v;
-    let mut j = d;
-    while 0 < j {
-        j -= 1;
+    for j in (0..d).rev() {
         let s = select(work, u, t[at + 2 * (j as usize) + 1]);
-        let Selected::Value(r) = s else {
-            return Done::Halt(Stop::Stuck);
+        let Some(r) = s else {
+            return Err(Stop::Stuck);
         };
         u = r;
     }
     let s = select(work, u, k);
-    let Selected::Value(r) = s else {
-        return Done::Halt(Stop::Stuck);
+    let Some(r) = s else {
+        return Err(Stop::Stuck);
     };
-    Done::Value(r, next)
+    Ok(Evaluated { value: r, next })
 }
 
 // The block for what follows the value v: the next, if v lies in this one.
@@ -159,75 +150,65 @@ pub(crate) fn past(b: u16, v: ValueRef) -> u16
     b
 }
 
-// What an expression stopped at, as a list's answer.
-pub(crate) fn stopped(o: Done) -> Walked
+// What a part stopped at, as the answer of the whole.
+pub(crate) fn stopped<A: Copy, B>(o: Result<A, Stop>) -> Result<B, Stop>
     ensures { result ≡ stops_as o }
 {
     match o {
-        Done::Value(_, _) => Walked::Halt(Stop::Stuck),
-        Done::Halt(s) => Walked::Halt(s),
+        Ok(_) => Err(Stop::Stuck),
+        Err(s) => Err(s),
     }
 }
 
-// What a list stopped at, as an expression's answer.
-pub(crate) fn halted(w: Walked) -> Done
-    ensures { result ≡ halts_as w }
-{
-    match w {
-        Walked::After(_) => Done::Halt(Stop::Stuck),
-        Walked::Halt(s) => Done::Halt(s),
-    }
-}
-
-// The n expressions at a spot, each at the block after that of the one before; their values, at rest, to the front of vs.
+// The n expressions at a spot, each at the block after that of the one before; their values to the front of vs.
 #[cycle(evaluation)]
 pub(crate) fn eval_list(
     t: &[u8; SIZE],
     work: &mut [u8],
-    tr: &mut [u32; TRACE],
-    fr: &[u32; FRAME],
+    trace: &mut Trace,
+    frame: &Frame,
     p: Spot,
     n: u8,
-    vs: &mut [u32; 4],
-) -> Walked
-    requires { ListRunnable work.old (frame_of fr.now) tr.old p n × (length vs.old ≡ 4) }
-    ensures { ListStep t.now work.old (frame_of fr.now) tr.old p n work.new tr.new vs.new result }
+    vs: &mut [ValueRef; 4],
+) -> Result<u16, Stop>
+    requires { ListRunnable work.old frame.now trace.old p n × (length vs.old ≡ 4) }
+    ensures { ListStep t.now work.old frame.now trace.old p n work.new trace.new vs.new result }
 {
     let mut q = p;
-    let mut i: u8 = 0;
-    while i < n {
-        let o = eval_item(t, work, tr, fr, q);
-        let Done::Value(v, at) = o else {
+    for i in 0..n {
+        let o = eval_item(t, work, trace, frame, q);
+        let Ok(Evaluated { value: v, next: at }) = o else {
             return stopped(o);
         };
-        vs[i as usize] = pack(v);
+        vs[i as usize] = v;
         q = moved(q, at, past(q.block, v));
-        i += 1;
     }
-    Walked::After(q.at)
+    Ok(q.at)
 }
 
-// A new object of class c with the n values at rest in vs, in block dst or below, unless it has more than `objects` objects; `next` is the place after.
+// A new object of class c with the first n values of vs, in block dst or below, unless it has more than `objects` objects; `next` is the place after.
 pub(crate) fn finish(
     work: &mut [u8],
     c: u8,
     n: u8,
-    vs: &[u32; 4],
+    vs: &[ValueRef; 4],
     objects: u8,
     dst: u16,
     next: u16,
-) -> Done
+) -> Result<Evaluated, Stop>
     requires { PartsReady work.old vs.now n dst × Limited objects }
     ensures { FinishStep work.old c n vs.now objects dst next work.new result }
 {
     if n == 0 {
-        return Done::Value(make_fieldless(work, c, dst), next);
+        return Ok(Evaluated {
+            value: make_fieldless(work, c, dst),
+            next,
+        });
     }
-    let m = make(work, c, &vs[..], n, dst, objects);
-    let Made::Value(v) = m else {
-        return Done::Halt(Stop::TooLarge);
+    let Some(v) = make(work, c, &vs[..], n, dst, objects) else {
+        return Err(Stop::TooLarge);
     };
-    Done::Value(v, next)
+    Ok(Evaluated { value: v, next })
 }
 
 // A new object of class c with the values of the n expressions at a spot.
@@ -235,29 +216,32 @@ pub(crate) fn finish(
 pub(crate) fn eval_new(
     t: &[u8; SIZE],
     work: &mut [u8],
-    tr: &mut [u32; TRACE],
-    fr: &[u32; FRAME],
+    trace: &mut Trace,
+    frame: &Frame,
     p: Spot,
     c: u8,
     n: u8,
-) -> Done
-    requires { PartRunnable work.old (frame_of fr.now) tr.old p }
-    ensures { NewStep t.now work.old (frame_of fr.now) tr.old p c n work.new tr.new result }
+) -> Result<Evaluated, Stop>
+    requires { PartRunnable work.old frame.now trace.old p }
+    ensures { NewStep t.now work.old frame.now trace.old p c n work.new trace.new result }
 {
     if is_preset(t, c, n) {
         let v = ValueRef::Object(c, 0);
-        return Done::Value(v, p.at);
+        return Ok(Evaluated {
+            value: v,
+            next: p.at,
+        });
     }
     if field_total(t, c) != n {
-        return Done::Halt(Stop::Stuck);
+        return Err(Stop::Stuck);
     }
     if 4 < n {
-        return Done::Halt(Stop::Stuck);
+        return Err(Stop::Stuck);
     }
-    let mut vs = [0u32; 4];
-    let w = eval_list(t, work, tr, fr, p, n, &mut vs);
-    let Walked::After(next) = w else {
-        return halted(w);
+    let mut vs = [ValueRef::Undetermined; 4];
+    let w = eval_list(t, work, trace, frame, p, n, &mut vs);
+    let Ok(next) = w else {
+        return stopped(w);
     };
     finish(work, c, n, &vs, p.objects, p.block, next)
 }

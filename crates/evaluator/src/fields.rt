@@ -10,12 +10,10 @@ pub(crate) fn fields_at(t: &[u8; SIZE], at: usize, left: u8) -> u8
     requires { at < 65536 }
     ensures { Chain t.now at left result }
 {
-    let mut d: u8 = 0;
-    while d < left {
+    for d in 0..left {
         if !is_field(t, at + 2 * (d as usize)) {
             return d;
         }
-        d += 1;
     }
-    d
+    left
 }

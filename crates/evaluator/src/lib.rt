@@ -25,34 +25,23 @@ pub enum Stop {
     Overflow,
 }
 
-// What an expression gives: a value and the place after the expression, or what the run stopped at.
+// What an expression gives: its value and the place after it.
 #[derive(Clone, Copy)]
-pub enum Done {
-    Value(values::ValueRef, u16),
-    Halt(Stop),
+pub struct Evaluated {
+    pub value: values::ValueRef,
+    pub next: u16,
 }
 
-// What an operand gives: its number and the place after the expression, or what the run stopped at.
+// What an operand gives: its number and the place after it.
 #[derive(Clone, Copy)]
-pub enum Operand {
-    Number(u16, u16),
-    Halt(Stop),
+pub struct Counted {
+    pub number: u16,
+    pub next: u16,
 }
 
-// What the walk of a list gives: the place after the list, its values being lent; or what the run stopped at.
+// What a run gives: what main's expression gives, and the fuel left.
 #[derive(Clone, Copy)]
-pub enum Walked {
-    After(u16),
-    Halt(Stop),
-}
-
-// What a run gives: a value, the place after its expression and the fuel left; or what it stopped at and the fuel left.
-#[derive(Clone, Copy)]
-pub enum Out {
-    Value {
-        v: values::ValueRef,
-        at: usize,
-        fuel: u16,
-    },
-    Halt(Stop, u16),
+pub struct Ran {
+    pub outcome: Result<Evaluated, Stop>,
+    pub fuel: u16,
 }

@@ -3,12 +3,12 @@
 ghost use Rattle.std.specs.Prelude.{◌≡◌, ◌+◌, ◌≤◌, length};
 ghost use Rattle.cofj.specs.Limits.{report_size};
 ghost use Rattle.evaluator.specs.Figures.{main_block, work_room};
-ghost use Rattle.evaluator.specs.Answers.{out_in, OutOlder};
+ghost use Rattle.evaluator.specs.Answers.{out_in, out_with, OutOlder};
 ghost use Rattle.evaluator.specs.Main.{Given};
 ghost use Rattle.evaluator.specs.Reporting.{stop_number, StopReports, OutcomeReports, RunReports};
 
 use crate::run::run;
-use crate::{Out, Stop};
+use crate::{Ran, Stop};
 use canon::layout::BLOCK;
 use classes::places::SIZE;
 use values::report::report;
@@ -47,21 +47,24 @@ fn report_stop(s: Stop, out: &mut [u8])
 }
 
 // The report of an outcome, at the front of `out`.
-fn report_outcome(work: &mut [u8], o: Out, out: &mut [u8]) -> Reported
-    requires { OutOlder work.old (main_block + 1) o × (report_size ≤ length out.old) }
-    ensures { OutcomeReports (out_in work.old o) out.old out.new result × (length work.new ≡ length work.old) }
+fn report_outcome(work: &mut [u8], o: Ran, out: &mut [u8]) -> Reported
+    requires { OutOlder work.old (main_block + 1) (out_with o.fuel o.outcome) × (report_size ≤ length out.old) }
+    ensures { OutcomeReports (out_in work.old (out_with o.fuel o.outcome)) out.old out.new result × (length work.new ≡ length work.old) }
 {
-    match o {
-        Out::Value { v, at: _, fuel } => {
-            let n = report(work, v, out);
+    match o.outcome {
+        Ok(got) => {
+            let n = report(work, got.value, out);
             Reported {
                 length: n as u16,
-                fuel,
+                fuel: o.fuel,
             }
         }
-        Out::Halt(s, fuel) => {
+        Err(s) => {
             report_stop(s, out);
-            Reported { length: 5, fuel }
+            Reported {
+                length: 5,
+                fuel: o.fuel,
+            }
         }
     }
 }

@@ -5,30 +5,16 @@ ghost use Rattle.evaluator.specs.Figures.{work_room};
 ghost use Rattle.evaluator.specs.Answers.{out_with};
 ghost use Rattle.evaluator.specs.Main.{Given, Laid, Runs};
 
+use crate::Ran;
 use crate::eval::eval;
 use crate::frame::main_frame;
 use crate::spot::{DEPTH, INPUT_BLOCK, MAIN_BLOCK, NESTING, OBJECTS, Spot};
-use crate::trace::{FUEL, TRACE};
-use crate::{Done, Out};
+use crate::trace::fresh;
 use canon::bytes::copy;
 use canon::layout::BLOCK;
 use classes::methods::main_place;
 use classes::places::SIZE;
 use maker::fieldless::lay_fieldless;
-
-// What a run gives whose expression gave o, with this fuel left.
-pub(crate) fn out_of(o: Done, fuel: u16) -> Out
-    ensures { result ≡ out_with fuel o }
-{
-    match o {
-        Done::Value(v, at) => Out::Value {
-            v,
-            at: at as usize,
-            fuel,
-        },
-        Done::Halt(s) => Out::Halt(s, fuel),
-    }
-}
 
 // The blocks that main begins with: the objects without fields, and the input, if there is one, as it lies in `block`.
 pub(crate) fn lay(work: &mut [u8], fed: bool, block: &[u8; BLOCK])
@@ -43,14 +29,13 @@ pub(crate) fn lay(work: &mut [u8], fed: bool, block: &[u8; BLOCK])
 }
 
 // The outcome of main with this fuel and the input in `block`, if one is given.
-pub(crate) fn run(t: &[u8; SIZE], work: &mut [u8], fuel: u16, fed: bool, block: &[u8; BLOCK]) -> Out
+pub(crate) fn run(t: &[u8; SIZE], work: &mut [u8], fuel: u16, fed: bool, block: &[u8; BLOCK]) -> Ran
     requires { (work_room ≤ length work.old) × Given fed block.now }
-    ensures { Runs t.now work.old fuel fed block.now work.new result }
+    ensures { Runs t.now work.old fuel fed block.now work.new (out_with result.fuel result.outcome) }
 {
     lay(work, fed, block);
-    let mut tr = [0u32; TRACE];
-    tr[FUEL] = fuel as u32;
-    let fr = main_frame(fed);
+    let mut trace = fresh(fuel);
+    let frame = main_frame(fed);
     let p = Spot {
         at: main_place(t) as u16,
         block: MAIN_BLOCK,
@@ -59,6 +44,9 @@ pub(crate) fn run(t: &[u8; SIZE], work: &mut [u8], fuel: u16, fed: bool, block: 
         opened: 0,
         objects: OBJECTS,
     };
-    let o = eval(t, work, &mut tr, &fr, p);
-    out_of(o, tr[FUEL] as u16)
+    let outcome = eval(t, work, &mut trace, &frame, p);
+    Ran {
+        outcome,
+        fuel: trace.fuel,
+    }
 }

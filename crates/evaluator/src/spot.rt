@@ -40,11 +40,8 @@ pub(crate) fn inner(p: Spot, at: usize) -> Spot
 {
     Spot {
         at: at as u16,
-        block: p.block,
         nesting: p.nesting - 1,
-        calls: p.calls,
-        opened: p.opened,
-        objects: p.objects,
+        ..p
     }
 }
 
@@ -52,14 +49,7 @@ pub(crate) fn inner(p: Spot, at: usize) -> Spot
 pub(crate) fn moved(p: Spot, at: u16, block: u16) -> Spot
     ensures { result ≡ moved_spot p at block }
 {
-    Spot {
-        at,
-        block,
-        nesting: p.nesting,
-        calls: p.calls,
-        opened: p.opened,
-        objects: p.objects,
-    }
+    Spot { at, block, ..p }
 }
 
 // d fields of fields in.
@@ -69,11 +59,8 @@ pub(crate) fn down(p: Spot, d: u8) -> Spot
 {
     Spot {
         at: p.at + 2 * (d as u16),
-        block: p.block,
         nesting: p.nesting - d,
-        calls: p.calls,
-        opened: p.opened,
-        objects: p.objects,
+        ..p
     }
 }
 
@@ -88,6 +75,6 @@ pub(crate) fn body(p: Spot, at: usize, opened: u8) -> Spot
         nesting: NESTING,
         calls: p.calls - 1,
         opened,
-        objects: p.objects,
+        ..p
     }
 }

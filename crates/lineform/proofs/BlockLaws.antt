@@ -1,16 +1,8 @@
 -- Laws of digits in blocks, in the form in which the goals of `blocks` cite them.
-use Prim.Native.Nat.{ℕ, zero, suc, ◌+◌, ◌-◌, ◌*◌, ◌/◌, ◌%◌, ◌<◌, ◌≤◌}
-use native.Mathlib.Omega.{arith}
-use mathlib.Core.Path.{◌≡◌, refl, sym, ap, ◌∙◌}
-use mathlib.Core.Bool.{Bool, true, false, not, ◌&&◌, ◌||◌, false≢true}
-use mathlib.Core.List.{List}
-use mathlib.Core.Option.{Option, none, some}
-use lib.Dec.{eqb, ltb}
-use lib.ListN.{length, get_or, set, length-set}
-use lib.Seq.{get_or-set_same, get_or-set_other}
-use mir.Val.{Fits}
-use mir.Syntax.{w8}
-use borrow.Author.Tests.{eqb-true, eqb-false, ltb-true, ltb-false, not-false}
+use Rattle.std.proofs.Common.{ℕ, zero, suc, ◌+◌, ◌-◌, ◌*◌, ◌/◌, ◌%◌, ◌<◌, ◌≤◌, arith, ◌≡◌, refl, sym, ◌∙◌, Bool, true, false, not, ◌&&◌, ◌||◌, List, eqb, ltb, length, get_or, set, length-set, get_or-set_same, get_or-set_other, Fits, w8, eqb-true, ltb-true, ltb-false}
+use Rattle.std.proofs.Math.Bool.{false≢true}
+use Rattle.std.proofs.Math.Option.{Option, none, some}
+use borrow.Author.Tests.{eqb-false, not-false}
 use Rattle.cofj.specs.Text.{within, digit}
 use Rattle.cofj.proofs.TextRound.{within_true}
 use Rattle.lineform.specs.Answers.{value_of, pair_value, put_pairs, Puts, Ahead}
@@ -84,9 +76,6 @@ module _ (text : List ℕ) (at : ℕ) where
   unfolding all_digits
   all_next k g d eg ed = let q : k + 1 ≡ suc k = omega arith in rw (q, eg, ed)
 
-  pub all_ends : (k : ℕ) (g : Bool) → g ≡ all_digits text at k → k ≤ 32 → 32 ≤ k → g ≡ all_digits text at 32
-  all_ends k g e h l = let q : k ≡ 32 = omega arith in e ∙ ap (λ (x : ℕ). all_digits text at x) q
-
   both : (a b : Bool) → a && b ≡ true → (a ≡ true) × (b ≡ true)
   both true b e = (refl, e)
   both false b e = absurd (false≢true e)
@@ -101,15 +90,6 @@ module _ (text : List ℕ) (at : ℕ) where
       go f false q = let k = eqb-false j n q in f (omega arith)
 
 -- ---- blocks one after another
-pub blocks_none : (text : List ℕ) (from : ℕ) → from < length text → Blocks text from from
-blocks_none text from h = record {
-  count = 0;
-  at = omega arith;
-  few = omega arith;
-  inside = h;
-  good = λ j l. absurd (omega arith);
-}
-
 pub blocks_next : (text : List ℕ) (from i k : ℕ) → Blocks text from i → i ≡ from + 32 * k → k < 15 → i + 32 < length text → (b : Bool) → b ≡ all_digits text i 32 → not b ≡ false
     → Blocks text from (i + 32)
 blocks_next text from i k p ei lk h b eb nb =
@@ -146,9 +126,6 @@ module _ (text : List ℕ) (from : ℕ) (w₀ : List ℕ) where
   unfolding words_put
   words_next k x w e ex = let q : k + 1 ≡ suc k = omega arith in rw (q, e, ex)
 
-  pub words_end : (k m : ℕ) (w : List ℕ) → w ≡ words_put text from w₀ k → k ≤ m → m ≤ k → w ≡ words_put text from w₀ m
-  words_end k m w e h l = let q : k ≡ m = omega arith in e ∙ ap (λ (x : ℕ). words_put text from w₀ x) q
-
   words_size : (m : ℕ) → length (words_put text from w₀ m) ≡ length w₀
   unfolding words_put
   words_size zero = refl
@@ -184,9 +161,6 @@ module _ (w out₀ : List ℕ) (to : ℕ) where
   unfolding bytes_put
   bytes_next k x out e ex = let q : k + 1 ≡ suc k = omega arith in rw (q, e, ex)
 
-  pub bytes_end : (k m : ℕ) (out : List ℕ) → out ≡ bytes_put w out₀ to k → k ≤ m → m ≤ k → out ≡ bytes_put w out₀ to m
-  bytes_end k m out e h l = let q : k ≡ m = omega arith in e ∙ ap (λ (x : ℕ). bytes_put w out₀ to x) q
-
   bytes_size : (m : ℕ) → length (bytes_put w out₀ to m) ≡ length out₀
   unfolding bytes_put
   bytes_size zero = refl
@@ -204,14 +178,8 @@ module _ (text : List ℕ) (from e : ℕ) (p : Blocks text from e) where
   pub pairs_few : (e - from) / 2 ≤ 256
   pairs_few = let q = p.at in let f = p.few in omega arith
 
-  pub pairs_inside : from + 2 * ((e - from) / 2) ≤ length text
-  pairs_inside = let q = p.at in let i = p.inside in omega arith
-
   pub pairs_room : (out : List ℕ) (to : ℕ) → Ahead text out from to → to + (e - from) / 2 ≤ length out
   pairs_room out to a = let q = p.at in let i = p.inside in let r = a.room in omega arith
-
-  pub from_before : from ≤ e
-  from_before = let q = p.at in omega arith
 
   pub no_blocks : (out : List ℕ) (to : ℕ) → e ≡ from → Puts text out out from to e (to + (e - from) / 2)
   unfolding put_pairs

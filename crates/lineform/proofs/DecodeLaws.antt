@@ -1,24 +1,18 @@
 -- Laws of decoding, in the form in which the goals of `decode` and `decode_lines` cite them: what the loop keeps, and one for each return.
 -- Not here: what a caller learns from the contract (Established).
-use Prim.Native.Nat.{ℕ, zero, suc, ◌+◌, ◌-◌, ◌*◌, ◌/◌, ◌<◌, ◌≤◌}
-use native.Mathlib.Omega.{arith}
-use mathlib.Core.Path.{◌≡◌, refl, sym, ap, ◌∙◌}
-use mathlib.Core.Bool.{Bool, true, false, not, ◌&&◌}
-use mathlib.Core.List.{List, [], ◌∷◌, ◌++◌, append_assoc, append-nil, reverse, reverse-cons}
-use mathlib.Core.Option.{Option, none, some}
-use lib.Dec.{eqb, leb}
-use lib.ListN.{length, get_or, set, drop, length-append, length-reverse, length-set}
-use lib.Seq.{set_at}
-use mir.Val.{Fits}
-use mir.Syntax.{w8}
-use borrow.Author.Tests.{ne_eqb, eqb-true, eqb-false, le-leb, not-true, not-false}
+use Rattle.std.proofs.Common.{ℕ, zero, suc, ◌+◌, ◌-◌, ◌*◌, ◌<◌, ◌≤◌, arith, ◌≡◌, refl, sym, ap, ◌∙◌, Bool, true, false, not, ◌&&◌, List, [], ◌∷◌, ◌++◌, append_assoc, append-nil, reverse, eqb, length, get_or, set, drop, length-append, length-set, Ok, Err, ne_eqb, eqb-true}
+use mathlib.Core.List.{reverse-cons}
+use Rattle.std.proofs.Math.Option.{Option, none, some}
+use Rattle.std.proofs.Math.ListN.{length-reverse}
+use Rattle.std.proofs.Math.Seq.{set_at}
+use borrow.Author.Tests.{eqb-false, not-true, not-false}
 use Rattle.cofj.specs.Limits.{line_size, text_size}
 use Rattle.cofj.specs.Partial.{◌>>=◌, guard}
 use Rattle.cofj.specs.Text.{within, digit, end_line, lines_from, lines}
 use Rattle.cofj.proofs.TextRound.{within_true}
-use Rattle.lineform.specs.declared.lines.Decoded.TheVariants.{Packed as Filled, Refused}
+use Rattle.cofj.specs.declared.Refusal.TheVariants.{NoLineForm}
 use Rattle.lineform.specs.Packed.{packed}
-use Rattle.lineform.specs.Answers.{Roomy, Decodable, Decodes, ends_line, pair_value, put_pairs, Puts, Ahead}
+use Rattle.lineform.specs.Answers.{Decodes, ends_line, pair_value, put_pairs, Puts}
 use Rattle.lineform.proofs.Ends.{more, no_more}
 use Rattle.lineform.proofs.HexLaws.{below, above, inside, pair_of, pair_is, pair_none, pair_goes_on, first_byte, second_byte, third_byte}
 use Rattle.lineform.proofs.PackedLaws.{packed-append}
@@ -59,24 +53,6 @@ unfolding lines_from
 end_lines r bs = refl
 
 -- ---- a line's end
-module _ (c n : ℕ) where
-  pub ends_other : (c ≡ 10 → ⊥) → false ≡ ends_line c n
-  ends_other d = rw (ne_eqb c 10 d)
-
-  module _ (e : c ≡ 10) where
-    pub ends_empty : n ≡ 0 → false ≡ ends_line c n
-    ends_empty z = rw (e, z)
-
-    pub ends_sized : (n ≡ 0 → ⊥) → leb n 255 ≡ ends_line c n
-    ends_sized z = rw (e, le-leb 1 n (omega arith))
-
-pub count_fits : (c n : ℕ) (b : Bool) → b ≡ ends_line c n → not b ≡ false → Fits w8 n
-count_fits c n b e z = go (eqb c 10) (sym e ∙ not-false b z)
-  where
-    go : (x : Bool) → x && within 1 line_size n ≡ true → Fits w8 n
-    go true q = let k = within_true 1 line_size n q in omega arith
-    go false q = let k : ◌≡◌ {A = ℕ} 0 1 = cc in absurd (omega arith)
-
 -- a line that ends has a byte: the pace is kept
 pub line_pace : (i w o c n : ℕ) (b : Bool) → b ≡ ends_line c n → not b ≡ false → n ≡ o - w - 1 → 4 * o ≤ 2 * i + w + 4 → 4 * (o + 1) ≤ 2 * (i + 1) + o + 4
 line_pace i w o c n b e z en pace = go (eqb c 10) (sym e ∙ not-false b z)
@@ -153,10 +129,10 @@ unfolding lines_from
 closed_line = refl
 
 -- ---- refusals
-no_lines : (text out₀ out : List ℕ) → lines text ≡ none → Decodes text out₀ out Refused
+no_lines : (text out₀ out : List ℕ) → lines text ≡ none → Decodes text out₀ out (Err NoLineForm)
 no_lines text out₀ out n = record { answer = rw n; written = λ ls q. let z : ◌≡◌ {A = ℕ} 0 1 = cc in absurd (omega arith) }
 
-refuses : (text out₀ out : List ℕ) → lines_from text none [] ≡ none → Decodes text out₀ out Refused
+refuses : (text out₀ out : List ℕ) → lines_from text none [] ≡ none → Decodes text out₀ out (Err NoLineForm)
 unfolding lines
 refuses text out₀ out e = no_lines text out₀ out (go (within 1 text_size (length text)))
   where
@@ -164,16 +140,16 @@ refuses text out₀ out e = no_lines text out₀ out (go (within 1 text_size (le
     go true = e
     go false = refl
 
-pub empty_text : (text out : List ℕ) → length text ≡ 0 → Decodes text out out Refused
+pub empty_text : (text out : List ℕ) → length text ≡ 0 → Decodes text out out (Err NoLineForm)
 unfolding lines
 empty_text text out h = no_lines text out out (rw (below 1 text_size (length text) (omega arith)))
 
-pub long_text : (text out : List ℕ) → 49567 < length text → Decodes text out out Refused
+pub long_text : (text out : List ℕ) → 49567 < length text → Decodes text out out (Err NoLineForm)
 unfolding lines
 long_text text out h = no_lines text out out (rw (above 1 text_size (length text) (omega arith) h))
 
 -- the whole text is read, and no line is open
-all_read : (text out₀ out : List ℕ) (i w : ℕ) → Reading text out₀ out i w (w + 1) → 1 ≤ length text → length text ≤ 49567 → w < length out₀ → length text ≤ i → Decodes text out₀ out (Filled w)
+all_read : (text out₀ out : List ℕ) (i w : ℕ) → Reading text out₀ out i w (w + 1) → 1 ≤ length text → length text ≤ 49567 → w < length out₀ → length text ≤ i → Decodes text out₀ out (Ok w)
 unfolding lines
 all_read text out₀ out i w r one short room hi =
     let el : r.line ≡ [] = nil r.line (omega (arith, r.size)) in
@@ -194,7 +170,7 @@ module _ (text out₀ out : List ℕ) (i w o : ℕ) (r : Reading text out₀ out
   count n e = omega (arith, r.size)
 
   -- where nothing can follow
-  refused_at : (hi : i < length text) → ends_line (get_or text i 0) (length r.line) ≡ false → pair_of (get_or text i 0 ∷ drop (i + 1) text) ≡ none → Decodes text out₀ out Refused
+  refused_at : (hi : i < length text) → ends_line (get_or text i 0) (length r.line) ≡ false → pair_of (get_or text i 0 ∷ drop (i + 1) text) ≡ none → Decodes text out₀ out (Err NoLineForm)
   refused_at hi e p = refuses text out₀ out (ends_with none (rw (more text i hi) (not_ended (get_or text i 0) (drop (i + 1) text) r.line e p)))
 
   -- the line is written
@@ -250,7 +226,7 @@ module _ (text out₀ out : List ℕ) (i w o : ℕ) (r : Reading text out₀ out
             rw (two_left, byte-lines (get_or text i 0) (get_or text (i + 1) 0 ∷ drop (i + 1 + 1) text) r.line (pair_goes_on (get_or text i 0) (get_or text (i + 1) 0) v), pair_is (get_or text i 0) (get_or text (i + 1) 0) (drop (i + 1 + 1) text) v, n, ex)
 
     module _ (hx : 256 ≤ x) (n : ℕ) (en : n ≡ o - w - 1) (b : Bool) (eb : b ≡ ends_line (get_or text i 0) n) where
-      pub line_bad : not b ≡ true → Decodes text out₀ out Refused
+      pub line_bad : not b ≡ true → Decodes text out₀ out (Err NoLineForm)
       line_bad z =
           refused_at (omega arith) (sym (rw (count n en) at eb) ∙ not-true b z)
           (rw (more text (i + 1) (omega arith)) (pair_none (get_or text i 0) (get_or text (i + 1) 0) (drop (i + 1 + 1) text) (rw ex at hx)))
@@ -261,14 +237,14 @@ module _ (text out₀ out : List ℕ) (i w o : ℕ) (r : Reading text out₀ out
 
   -- ---- the end of the text
   module _ (last : ℕ) (el : last ≡ length text - 1) where
-    pub text_open : last < i → i + w + 1 ≤ last + o → 1 ≤ length text → Decodes text out₀ out Refused
+    pub text_open : last < i → i + w + 1 ≤ last + o → 1 ≤ length text → Decodes text out₀ out (Err NoLineForm)
     text_open h k one = refuses text out₀ out (ends_with none (rw (no_more text i (omega arith)) (open_line r.line (omega (arith, r.size)))))
 
     module _ (lo : last ≤ i) (hi : i ≤ last) (one : 1 ≤ length text) (n : ℕ) (en : n ≡ o - w - 1) (b : Bool) (eb : b ≡ ends_line (get_or text i 0) n) where
-      pub last_bad : not b ≡ true → Decodes text out₀ out Refused
+      pub last_bad : not b ≡ true → Decodes text out₀ out (Err NoLineForm)
       last_bad z = refused_at (omega arith) (sym (rw (count n en) at eb) ∙ not-true b z) (rw (no_more text (i + 1) (omega arith)))
 
-      pub last_ends : not b ≡ false → w + 1 ≤ o → 4 * o ≤ 2 * i + w + 4 → 2 * length text + 10 ≤ 3 * length out₀ → length text ≤ 49567 → Decodes text out₀ (set out w n) (Filled o)
+      pub last_ends : not b ≡ false → w + 1 ≤ o → 4 * o ≤ 2 * i + w + 4 → 2 * length text + 10 ≤ 3 * length out₀ → length text ≤ 49567 → Decodes text out₀ (set out w n) (Ok o)
       last_ends z w1 pace room short =
           let h : o < length out₀ = omega arith in
           all_read text out₀ (set out w n) (i + 1) o (rw en (wrote (omega arith) (sym (rw (count n en) at eb) ∙ not-false b z) w1 h)) one short h (omega arith)
@@ -287,17 +263,6 @@ puts_start text out from to h = record {
 }
 
 module _ (text out₀ out : List ℕ) (from to i o : ℕ) (p : Puts text out₀ out from to i o) where
-  pub puts_end : Puts text out₀ out from to i (to + (i - from) / 2)
-  puts_end = record {
-    count = p.count;
-    at = p.at;
-    on = let e = p.at in omega arith;
-    inside = p.inside;
-    good = p.good;
-    bytes = p.bytes;
-    size = p.size;
-  }
-
   puts_one : (x : ℕ) → x ≡ pair_value (get_or text i 0) (get_or text (i + 1) 0) → x < 256 → i + 2 < length text → Puts text out₀ (set out o x) from to (i + 2) (o + 1)
   unfolding put_pairs
   puts_one x ex lx h =
@@ -391,12 +356,6 @@ module _ (text out₀ out : List ℕ) (i w o : ℕ) (r : Reading text out₀ out
       (line_pace i w o (get_or text i 0) n b eb z en pace) room out' e k p
 
 module _ (text out₀ out : List ℕ) (w n : ℕ) (same : length out ≡ length out₀) where
-  pub ahead_room : (i o last : ℕ) → last ≡ length text - 1 → i < last → w + 1 ≤ o → 4 * o ≤ 2 * i + w + 4 → 2 * length text + 10 ≤ 3 * length out₀
-      → Ahead text (set out w n) (i + 1) (o + 1)
-  ahead_room i o last el hl w1 pace room =
-      let e = length-set out w n in
-      record { some_text = omega arith; room = omega arith }
-
   pub ahead_length : (out' : List ℕ) (a b e k : ℕ) → Puts text (set out w n) out' a b e k → length out' ≡ length out₀
   ahead_length out' a b e k p = p.size ∙ length-set out w n ∙ same
 
@@ -408,7 +367,3 @@ ahead_pace text out out' i w o c n e k b eb z en pace p =
     let x = p.at in
     let y = p.on in
     omega arith
-
--- ---- what `decode` hands on
-pub decodable : (text out : List ℕ) → Roomy text out → (length text ≡ 0 → ⊥) → length text ≤ 49567 → Decodable text out
-decodable text out r n k = record { some_text = omega arith; short = k; room = r.room k }

@@ -1,18 +1,12 @@
 -- Ends of what is read: a reader's answer as a place in the line.
 -- Not here: the readers themselves (ExprLaws, FrameLaws).
-use Prim.Native.Nat.{ℕ, ◌+◌, ◌-◌, ◌<◌, ◌≤◌}
-use native.Mathlib.Omega.{arith}
-use mathlib.Core.Path.{◌≡◌, refl, sym, ap, ◌∙◌}
-use mathlib.Core.List.{List, [], ◌∷◌, ◌++◌}
-use mathlib.Core.Option.{Option, none, some}
-use native.Mathlib.Numerals.{add-one}
-use lib.ListN.{length, get_or, drop, length-append, length-drop, drop_of_length-le}
-use lib.Seq.{drop-cons, drop-drop, drop-append_seam}
+use Rattle.std.proofs.Common.{ℕ, ◌+◌, ◌-◌, ◌<◌, ◌≤◌, arith, ◌≡◌, refl, sym, ap, ◌∙◌, List, [], ◌∷◌, ◌++◌, add-one, length, get_or, drop, length-append, length-drop, drop_of_length-le, drop-cons, drop-drop, Some, None}
+use Rattle.std.proofs.Math.Option.{Option, none, some}
+use Rattle.std.proofs.Math.Seq.{drop-append_seam}
 use Rattle.cofj.specs.Partial.{◌>>=◌}
 use Rattle.cofj.specs.Frames.{Got, got}
-use Rattle.lineform.specs.declared.exprs.ReadExpr.{ReadExpr}
-use Rattle.lineform.specs.declared.exprs.ReadExpr.TheVariants.{Next, Refused}
-use Rattle.lineform.specs.Answers.{end_of, end_in}
+use Rattle.std.specs.declared.option.Option.{Option as RustOption}
+use Rattle.lineform.specs.Answers.{end_of}
 
 -- a byte at a place
 pub more : (s : List ℕ) (at : ℕ) → at < length s → drop at s ≡ get_or s at 0 ∷ drop (at + 1) s
@@ -38,15 +32,6 @@ pub same_end : {A B : Type 0} (s : List ℕ) (p : Option (Got A)) (f : A → B) 
 same_end s none f = refl
 same_end s (some g) f = refl
 
--- the end as a number, and as an answer
-pub number_refused : {A : Type 0} (s : List ℕ) (p : Option (Got A)) (a : ℕ) → a ≡ end_in s p → length s < a → Refused ≡ end_of s p
-number_refused s none a e h = refl
-number_refused s (some g) a e h = absurd (omega arith)
-
-pub number_next : {A : Type 0} (s : List ℕ) (p : Option (Got A)) (a : ℕ) → a ≡ end_in s p → a ≤ length s → Next a ≡ end_of s p
-number_next s none a e h = absurd (omega arith)
-number_next s (some g) a e h = ap Next e
-
 -- nothing read
 pub end_here : (s : List ℕ) (at : ℕ) → at ≤ length s → at ≡ length s - length (drop at s)
 end_here s at h = rw (length-drop at s) (omega arith)
@@ -57,14 +42,14 @@ pub record Read {A : Type 0} (s : List ℕ) (p : Option (Got A)) (a : ℕ) : Typ
   pub is : p ≡ got item (drop a s)
   pub within : a ≤ length s
 
-pub read_to : {A : Type 0} (s : List ℕ) (p : Option (Got A)) (o : ReadExpr) (a : ℕ) → Leaves s p → o ≡ end_of s p → o ≡ Next a → Read s p a
+pub read_to : {A : Type 0} (s : List ℕ) (p : Option (Got A)) (o : RustOption ℕ) (a : ℕ) → Leaves s p → o ≡ end_of s p → o ≡ Some a → Read s p a
 read_to s none o a leaves e n = let z : ◌≡◌ {A = ℕ} 0 1 = cc in absurd (omega arith)
 read_to s (some g) o a leaves e n =
     let ea : length s - length g.rest ≡ a = cc in
     let t : g.rest ≡ drop a s = leaves.tail g refl ∙ ap (λ (k : ℕ). drop k s) ea in
     record { item = g.item; is = λ i. some (record { item = g.item; rest = t i }); within = omega arith }
 
-pub read_none : {A : Type 0} (s : List ℕ) (p : Option (Got A)) (o : ReadExpr) → o ≡ end_of s p → o ≡ Refused → p ≡ none
+pub read_none : {A : Type 0} (s : List ℕ) (p : Option (Got A)) (o : RustOption ℕ) → o ≡ end_of s p → o ≡ None → p ≡ none
 read_none s none o e n = refl
 read_none s (some g) o e n = let z : ◌≡◌ {A = ℕ} 0 1 = cc in absurd (omega arith)
 

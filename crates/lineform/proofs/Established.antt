@@ -1,24 +1,20 @@
 -- What `decode` and `frames_good` establish, in the form in which `frames_good`, `order` and the crates above require it.
 -- Not here: the loops' laws (DecodeLaws, LineLaws).
-use Prim.Native.Nat.{ℕ, ◌+◌, ◌*◌, ◌≤◌}
-use native.Mathlib.Omega.{arith}
-use mathlib.Core.Path.{◌≡◌, refl, sym, ap, subst, ◌∙◌}
-use mathlib.Core.Bool.{Bool, true, false}
-use mathlib.Core.List.{List, [], ◌∷◌, reverse}
-use mathlib.Core.Option.{Option, none, some, none-ne-some}
-use lib.Dec.{eqb}
-use lib.ListN.{length, take, length-append, length-reverse}
-use lib.Seq.{length-take-le, take-append_seam}
+use Rattle.std.proofs.Common.{ℕ, ◌+◌, ◌*◌, ◌≤◌, arith, ◌≡◌, refl, sym, ap, subst, ◌∙◌, Bool, true, false, List, [], ◌∷◌, reverse, eqb, length, take, length-append, length-take-le, Ok, Err}
+use Rattle.std.proofs.Math.Option.{Option, none, some, none-ne-some}
+use Rattle.std.proofs.Math.ListN.{length-reverse}
+use Rattle.std.proofs.Math.Seq.{take-append_seam}
 use Rattle.cofj.specs.Limits.{line_size, text_size}
 use Rattle.cofj.specs.Partial.{◌>>=◌}
 use Rattle.cofj.specs.Text.{within, digit, end_line, lines_from, lines}
 use Rattle.cofj.specs.Frames.{TextFrame, frames}
 use Rattle.cofj.proofs.Partial.{opt_bind, guard-bind}
 use Rattle.cofj.proofs.TextRound.{within_true}
-use Rattle.lineform.specs.declared.lines.Decoded.{Decoded}
-use Rattle.lineform.specs.declared.lines.Decoded.TheVariants.{Packed as Filled, Refused}
+use Rattle.std.specs.declared.result.Result.{Result}
+use Rattle.cofj.specs.declared.Refusal.{Refusal}
+use Rattle.cofj.specs.declared.Refusal.TheVariants.{NoLineForm, BadFrame}
 use Rattle.lineform.specs.Packed.{packed, unpack, Sized, none as no_line, also, Packed, FramedLines}
-use Rattle.lineform.specs.Answers.{decoded_of, Decodes, is_some}
+use Rattle.lineform.specs.Answers.{decoded_of, Decodes, framing_of}
 use Rattle.lineform.proofs.PackedLaws.{unpack-packed}
 
 -- ---- the lines of a text have 1 to 255 bytes
@@ -50,7 +46,7 @@ unfolding lines
 lines-sized text ls e = from_sized text none [] ls (guard-bind (within 1 text_size (length text)) (λ _. lines_from text none []) ls e).1
 
 -- ---- what `decode` leaves in the first w places
-module _ (text out₀ out : List ℕ) (r : Decoded) (w : ℕ) (h : Decodes text out₀ out r) (e : r ≡ Filled w) where
+module _ (text out₀ out : List ℕ) (r : Result ℕ Refusal) (w : ℕ) (h : Decodes text out₀ out r) (e : r ≡ Ok w) where
   record Lined : Type 0 where
     room : w ≤ length out
     given : lines text ≡ some (unpack (take w out))
@@ -61,11 +57,11 @@ module _ (text out₀ out : List ℕ) (r : Decoded) (w : ℕ) (h : Decodes text 
     where
       go : (o : Option (List (List ℕ))) → lines text ≡ o → Lined
       go none q =
-          let a : r ≡ Refused = h.answer ∙ ap decoded_of q in
+          let a : r ≡ Err NoLineForm = h.answer ∙ ap decoded_of q in
           let z : ◌≡◌ {A = ℕ} 0 1 = cc in
           absurd (omega arith)
       go (some ls) q =
-          let a : r ≡ Filled (length (packed ls)) = h.answer ∙ ap decoded_of q in
+          let a : r ≡ Ok (length (packed ls)) = h.answer ∙ ap decoded_of q in
           let n : length (packed ls) ≡ w = cc in
           let b = h.written ls q in
           let t : take w out ≡ packed ls = rw (← n, b) (take-append_seam (packed ls) _) in
@@ -88,24 +84,26 @@ module _ (text out₀ out : List ℕ) (r : Decoded) (w : ℕ) (h : Decodes text 
   pub decoded_lines : lines text ≡ some (unpack (take w out))
   decoded_lines = lined.given
 
--- a refusal of `decode` is refusal 1
-pub decoded_none : (text out₀ out : List ℕ) (r : Decoded) → Decodes text out₀ out r → r ≡ Refused → lines text ≡ none
-decoded_none text out₀ out r h e = go (lines text) refl
+-- a refusal of `decode` is refusal 1, and the text has no lines
+pub decoded_none : (text out₀ out : List ℕ) (r : Result ℕ Refusal) → Decodes text out₀ out r → (k : Refusal) → r ≡ Err k → (k ≡ NoLineForm) × (lines text ≡ none)
+decoded_none text out₀ out r h k e = go (lines text) refl
   where
-    go : (o : Option (List (List ℕ))) → lines text ≡ o → lines text ≡ none
-    go none q = q
+    go : (o : Option (List (List ℕ))) → lines text ≡ o → (k ≡ NoLineForm) × (lines text ≡ none)
+    go none q =
+        let a : r ≡ Err NoLineForm = h.answer ∙ ap decoded_of q in
+        (let z : k ≡ NoLineForm = cc in z, q)
     go (some ls) q =
-        let a : r ≡ Filled (length (packed ls)) = h.answer ∙ ap decoded_of q in
+        let a : r ≡ Ok (length (packed ls)) = h.answer ∙ ap decoded_of q in
         let z : ◌≡◌ {A = ℕ} 0 1 = cc in
         absurd (omega arith)
 
--- ---- where `frames_good` is true
-pub good_framed : (d : List ℕ) (b : Bool) → Packed d → b ≡ is_some (frames (unpack d)) → b ≡ true → FramedLines d
+-- ---- where `frames_good` is Ok
+pub good_framed : (d : List ℕ) (b : Result (Unit {0}) Refusal) → Packed d → b ≡ framing_of (frames (unpack d)) → b ≡ Ok tt → FramedLines d
 good_framed d b p e t = go (frames (unpack d)) refl
   where
     go : (o : Option (List TextFrame)) → frames (unpack d) ≡ o → FramedLines d
     go (some fs) q = record { whole = p; found = fs; read = q }
     go none q =
-        let a : b ≡ false = e ∙ ap is_some q in
+        let a : b ≡ Err BadFrame = e ∙ ap framing_of q in
         let z : ◌≡◌ {A = ℕ} 0 1 = cc in
         absurd (omega arith)

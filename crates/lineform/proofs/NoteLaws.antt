@@ -1,21 +1,14 @@
 -- What is noted of frames: where the right expressions of their methods stand. Not here: the walk over the lines (LineLaws).
-use Prim.Native.Nat.{ℕ, ◌+◌, ◌<◌, ◌≤◌}
-use native.Mathlib.Omega.{arith}
+use Rattle.std.proofs.Common.{ℕ, ◌+◌, ◌<◌, ◌≤◌, arith, ◌≡◌, refl, sym, ap, ◌∙◌, subst, Bool, true, false, List, [], ◌∷◌, ◌++◌, append-nil, leb, length, get_or, set, length-append, length-set, get_or-set_same, get_or-set_other, leb-true, leb-false, le-leb}
 use native.Mathlib.Decide.{ℕ_discrete}
-use mathlib.Core.Path.{◌≡◌, refl, sym, ap, ◌∙◌, subst}
-use mathlib.Core.Bool.{Bool, true, false}
-use mathlib.Core.List.{List, [], ◌∷◌, ◌++◌, append-nil}
-use mathlib.Core.Option.{some}
-use lib.Dec.{leb}
-use lib.ListN.{length, get_or, set, length-append, length-set, get_or-append}
-use lib.Seq.{get_or-append_seam, get_or-set_same, get_or-set_other}
-use borrow.Author.Tests.{leb-true, leb-false, le-leb, lt-leb}
+use Rattle.std.proofs.Math.Option.{some}
+use Rattle.std.proofs.Math.ListN.{get_or-append}
+use Rattle.std.proofs.Math.Seq.{get_or-append_seam}
+use borrow.Author.Tests.{lt-leb}
 use Rattle.cofj.specs.Limits.{method_count, line_size}
 use Rattle.cofj.specs.Frames.{TextFrame, class_frame, method_frame, main_frame, frame}
 use Rattle.cofj.specs.Writing.{code_of, types_bytes, method_line}
 use Rattle.cofj.proofs.FrameRound.{frame-length}
-use Rattle.lineform.specs.declared.frames.Kind.{Kind}
-use Rattle.lineform.specs.declared.frames.Kind.TheVariants as kind
 use Rattle.lineform.specs.Answers.{right_at, kind_of, Noted, noted, put_right, note_right, SmallKind, rights_of, Rights}
 use Rattle.lineform.proofs.FrameLaws.{types-length}
 
@@ -26,20 +19,6 @@ module _ (b m : ℕ) (R : List ℕ) where
 
   pub put_one : m < method_count → noted (m + 1) (set R m b) ≡ put_right b m R
   put_one l = rw (lt-leb method_count m l)
-
--- ---- and of `note_right`
-module _ (k : Kind) (m : ℕ) (R : List ℕ) where
-  pub note_class : k ≡ kind.Class → noted m R ≡ note_right k m R
-  note_class e = rw e
-
-  pub note_main : k ≡ kind.Main → noted m R ≡ note_right k m R
-  note_main e = rw e
-
-  pub note_method : (b r : ℕ) (R' : List ℕ) → k ≡ kind.Method b → noted r R' ≡ put_right b m R → noted r R' ≡ note_right k m R
-  note_method b r R' e q = rw e q
-
-pub note_small : (k : Kind) (b : ℕ) → k ≡ kind.Method b → SmallKind k → b < 256
-note_small k b e h = subst SmallKind e h
 
 -- ---- R has the places of m methods of fs: of all of them, as long as there is room
 pub record Notes (R : List ℕ) (m : ℕ) (fs : List TextFrame) : Type 0 where

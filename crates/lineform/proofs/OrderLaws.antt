@@ -1,14 +1,6 @@
 -- Laws of the order of frames, in the form in which the goals of `order` cite them: what its walk keeps, and one for each return.
-use Prim.Native.Nat.{ℕ, zero, suc, ◌+◌, ◌<◌, ◌≤◌}
-use native.Mathlib.Omega.{arith}
-use native.Mathlib.Numerals.{add-one}
-use mathlib.Core.Path.{◌≡◌, refl, sym, ap, ap₂, ◌∙◌}
-use mathlib.Core.Bool.{Bool, true, false, ◌&&◌}
-use mathlib.Core.List.{List, [], ◌∷◌, ◌++◌}
-use mathlib.Core.Option.{Option, none, some, none-ne-some}
-use lib.Dec.{eqb, leb}
-use lib.ListN.{length, get_or, drop}
-use borrow.Author.Tests.{eqb-true, le-leb, lt-leb}
+use Rattle.std.proofs.Common.{ℕ, zero, suc, ◌+◌, ◌<◌, ◌≤◌, arith, add-one, ◌≡◌, refl, sym, ap, ap₂, ◌∙◌, Bool, true, false, ◌&&◌, List, [], ◌∷◌, ◌++◌, eqb, leb, length, get_or, drop, Ok, Err, eqb-true, le-leb}
+use Rattle.std.proofs.Math.Option.{Option, none, some, none-ne-some}
 use Rattle.cofj.specs.Limits.{field_count, param_count, nesting_limit}
 use Rattle.cofj.specs.Partial.{◌>>=◌, guard}
 use Rattle.cofj.specs.Syntax.{Expr, Ty, Method}
@@ -16,31 +8,33 @@ use Rattle.cofj.specs.Frames.{byte, up_to, type, types, expr, ClassFrame, TextFr
 use Rattle.cofj.specs.Tables.{Raw, raw, in_front, ordered, few}
 use Rattle.cofj.proofs.Partial.{opt_bind, taken}
 use Rattle.cofj.proofs.Steps.{given, branch}
-use Rattle.lineform.specs.declared.lines.Ordered.{Ordered}
-use Rattle.lineform.specs.declared.lines.Ordered.TheVariants.{Counts, Refused}
+use Rattle.std.specs.declared.result.Result.{Result}
+use Rattle.cofj.specs.declared.Refusal.{Refusal}
+use Rattle.cofj.specs.declared.Refusal.TheVariants.{BadOrder}
+use Rattle.lineform.specs.declared.lines.Counts.{Counts}
 use Rattle.lineform.specs.Packed.{packed, unpack, FramedLines}
-use Rattle.lineform.specs.Answers.{counts_of, order_of}
+use Rattle.lineform.specs.Answers.{counted as counts_are, counts_of, order_of}
 use Rattle.lineform.proofs.Ends.{more}
 use Rattle.lineform.proofs.LineLaws.{Rest, LineAt, line_at, line_next, line_byte, rest_all, unpack_all, at_end_lem}
 
 -- ---- the answer where c classes and m methods stand in front of what is read
-abbrev answer : ℕ → ℕ → Ordered
-answer c m = elim (leb c 32 && leb m 64) [ true ↦ Counts c m | false ↦ Refused ]
+abbrev answer : ℕ → ℕ → Result Counts Refusal
+answer c m = elim (leb c 32 && leb m 64) [ true ↦ Ok (counts_are c m) | false ↦ Err BadOrder ]
 
-abbrev pub front_of : ℕ → ℕ → List ClassFrame → ℕ → Ordered
+abbrev pub front_of : ℕ → ℕ → List ClassFrame → ℕ → Result Counts Refusal
 front_of c zero cs k = answer (c + length cs) k
 front_of c (suc m) [] k = answer c (suc m + k)
-front_of c (suc m) (x ∷ cs) k = Refused
+front_of c (suc m) (x ∷ cs) k = Err BadOrder
 
-abbrev pub front : ℕ → ℕ → Option Raw → Ordered
-front c m none = Refused
+abbrev pub front : ℕ → ℕ → Option Raw → Result Counts Refusal
+front c m none = Err BadOrder
 front c m (some r) = front_of c m r.classes (length r.methods)
 
 front_none : (o : Option Raw) → counts_of (o >>= few) ≡ front 0 0 o
 front_none none = refl
 front_none (some r) = go (leb (length r.classes) 32 && leb (length r.methods) 64) ∙ ap (λ (n : ℕ). answer n (length r.methods)) (let w : length r.classes ≡ 0 + length r.classes = omega arith in w)
   where
-    go : (b : Bool) → counts_of (guard b >>= λ _. some r) ≡ elim b [ true ↦ Counts (length r.classes) (length r.methods) | false ↦ Refused ]
+    go : (b : Bool) → counts_of (guard b >>= λ _. some r) ≡ elim b [ true ↦ Ok (counts_are (length r.classes) (length r.methods)) | false ↦ Err BadOrder ]
     go true = refl
     go false = refl
 
@@ -48,7 +42,7 @@ front_class : (c : ℕ) (x : ClassFrame) (o : Option Raw) → front c 0 (o >>= �
 front_class c x none = refl
 front_class c x (some r) = ap (λ (n : ℕ). answer n (length r.methods)) (let w : c + suc (length r.classes) ≡ c + 1 + length r.classes = omega arith in w)
 
-late_class : (c m : ℕ) (x : ClassFrame) (o : Option Raw) → 0 < m → front c m (o >>= λ r. in_front (class_frame x) r) ≡ Refused
+late_class : (c m : ℕ) (x : ClassFrame) (o : Option Raw) → 0 < m → front c m (o >>= λ r. in_front (class_frame x) r) ≡ Err BadOrder
 late_class c m x none h = refl
 late_class c zero x (some r) h = absurd (omega arith)
 late_class c (suc m) x (some r) h = refl
@@ -174,11 +168,11 @@ module _ (d : List ℕ) (i c m n : ℕ) (r : Counting d i c m) (h : i < length d
 
   -- which frame it is, by the first byte
   module _ (k : get_or d (i + 1) 0 ≡ 1) where
-    pub class_late : 0 < m → Refused ≡ order_of (frames (unpack d))
+    pub class_late : 0 < m → Err BadOrder ≡ order_of (frames (unpack d))
     unfolding ordered
     class_late l = go at_line.head refl at_line.marked
       where
-        go : (f : TextFrame) → at_line.head ≡ f → get_or d (i + 1) 0 ≡ mark f → Refused ≡ order_of (frames (unpack d))
+        go : (f : TextFrame) → at_line.head ≡ f → get_or d (i + 1) 0 ≡ mark f → Err BadOrder ≡ order_of (frames (unpack d))
         go (class_frame x) e q = sym (gives_at (class_frame x) e ∙ late_class c m x (ordered at_line.tail) l)
         go (method_frame x) e q = absurd (omega arith)
         go (main_frame none x) e q = absurd (omega arith)
@@ -219,11 +213,11 @@ module _ (d : List ℕ) (i c m n : ℕ) (r : Counting d i c m) (h : i < length d
         go (method_frame x) e q = absurd (n2 q)
         go (main_frame u x) e q = (u, x, e)
 
-    pub main_early : i + 1 + n < length d → Refused ≡ order_of (frames (unpack d))
+    pub main_early : i + 1 + n < length d → Err BadOrder ≡ order_of (frames (unpack d))
     unfolding ordered frames packed
     main_early l = sym (gives_at (main_frame main_at_lem.0 main_at_lem.1) main_at_lem.2 ∙ go at_line.at.after at_line.tail at_line.read (line_next d i n h en r.here.lines at_line.at).is)
       where
-        go : (ls : List (List ℕ)) (fs : List TextFrame) → frames ls ≡ some fs → drop (i + 1 + n) d ≡ packed ls → front c m (ordered (main_frame main_at_lem.0 main_at_lem.1 ∷ fs)) ≡ Refused
+        go : (ls : List (List ℕ)) (fs : List TextFrame) → frames ls ≡ some fs → drop (i + 1 + n) d ≡ packed ls → front c m (ordered (main_frame main_at_lem.0 main_at_lem.1 ∷ fs)) ≡ Err BadOrder
         go ls (f ∷ fs) e q = refl
         go [] [] e q = let w = more d (i + 1 + n) l in let z : ◌≡◌ {A = ℕ} 0 1 = cc in absurd (omega arith)
         go (y ∷ ls) [] e q =
@@ -241,20 +235,14 @@ module _ (d : List ℕ) (i c m n : ℕ) (r : Counting d i c m) (h : i < length d
           go [] e = front_main c m main_at_lem.0 main_at_lem.1
           go (f ∷ fs) e = let z : ◌≡◌ {A = ℕ} 0 1 = cc in absurd (omega arith)
 
-      pub many_classes : 32 < c → Refused ≡ order_of (frames (unpack d))
-      many_classes k = sym (last ∙ rw (lt-leb c 32 k, answer))
-
       module _ (kc : c ≤ 32) where
-        pub many_methods : 64 < m → Refused ≡ order_of (frames (unpack d))
-        many_methods k = sym (last ∙ rw (le-leb c 32 kc, lt-leb m 64 k, answer))
-
-        pub counts : m ≤ 64 → Counts c m ≡ order_of (frames (unpack d))
+        pub counts : m ≤ 64 → Ok (counts_are c m) ≡ order_of (frames (unpack d))
         counts k = sym (last ∙ rw (le-leb c 32 kc, le-leb m 64 k, answer))
 
-pub no_main : (d : List ℕ) (i c m : ℕ) → Counting d i c m → length d ≤ i → Refused ≡ order_of (frames (unpack d))
+pub no_main : (d : List ℕ) (i c m : ℕ) → Counting d i c m → length d ≤ i → Err BadOrder ≡ order_of (frames (unpack d))
 unfolding ordered frames
 no_main d i c m r h = sym (r.gives ∙ go r.found (ap frames (sym (at_end_lem d i r.here.lines r.here.is h)) ∙ r.read))
   where
-    go : (fs : List TextFrame) → frames [] ≡ some fs → front c m (ordered fs) ≡ Refused
+    go : (fs : List TextFrame) → frames [] ≡ some fs → front c m (ordered fs) ≡ Err BadOrder
     go [] e = refl
     go (f ∷ fs) e = let z : ◌≡◌ {A = ℕ} 0 1 = cc in absurd (omega arith)

@@ -1,23 +1,17 @@
 -- Where an expression of a line ends: where its sign says that its last part does.
 -- Not here: the laws that the goals of `exprs` cite (ExprLaws).
-use Prim.Native.Nat.{ℕ, zero, suc, ◌+◌, ◌-◌, ◌<◌, ◌≤◌}
-use native.Mathlib.Omega.{arith}
-use native.Mathlib.Numerals.{sub-one}
-use mathlib.Core.Path.{◌≡◌, refl, sym, ap, ◌∙◌}
-use mathlib.Core.Bool.{Bool, true, false}
-use mathlib.Core.List.{List, [], ◌∷◌}
-use mathlib.Core.Option.{Option, none, some}
-use lib.Dec.{eqb, leb, ltb}
-use lib.ListN.{length, drop, get_or}
-use borrow.Author.Tests.{le-leb, lt-leb, le-ltb, ne_eqb, eqb-true, leb-true, leb-false, ltb-true, ltb-false}
+use Rattle.std.proofs.Common.{ℕ, zero, suc, ◌+◌, ◌-◌, ◌<◌, ◌≤◌, arith, sub-one, ◌≡◌, refl, sym, ap, ◌∙◌, Bool, true, false, List, [], ◌∷◌, eqb, leb, ltb, length, drop, get_or, Some, None, le-leb, le-ltb, ne_eqb, eqb-true, leb-true, leb-false, ltb-true, ltb-false}
+use Rattle.std.proofs.Math.Option.{Option, none, some}
+use borrow.Author.Tests.{lt-leb}
 use Rattle.cofj.specs.Partial.{◌>>=◌}
 use Rattle.cofj.specs.Syntax.{Operation, sum, difference, Expr, field, call, new, literal, combine, choose, also}
 use Rattle.cofj.specs.Frames.{Got, Reader, got, two_bytes, exprs_by, field_after, call_after, new_after, combine_after, choose_after, expr_after, expr}
+use Rattle.std.specs.declared.option.Option.{Option as RustOption}
 use Rattle.lineform.specs.declared.exprs.Sign.{Sign}
 use Rattle.lineform.specs.Signs.{this_sign, res_sign, parameter_sign, field_sign, call_sign, new_sign, number_sign, sum_sign, difference_sign, choose_sign, row, InTable}
-use Rattle.lineform.specs.Answers.{end_in, pick, after, no_sign, sign_of, sign_at, end_by}
+use Rattle.lineform.specs.Answers.{end_of, pick, after, sign_of, sign_at, end_by}
 use Rattle.lineform.proofs.SignLaws.{row_this, row_res, row_parameter, row_field, row_call, row_new, row_number, row_sum, row_difference, row_choose, NoSign, which_sign, row_missing}
-use Rattle.lineform.proofs.Ends.{more, no_more, end_here}
+use Rattle.lineform.proofs.Ends.{more, no_more, same_end, end_here}
 
 -- ---- an expression, and the expressions in it
 pub empty : (left : ℕ) → expr left [] ≡ none
@@ -30,65 +24,61 @@ unfolding expr
 step s zero at nz h = absurd (omega arith)
 step s (suc left) at nz h = rw (sub-one, more s at h)
 
--- what is made of an item ends where the item does
-pub item_end : {A B : Type 0} (s : List ℕ) (p : Option (Got A)) (f : A → B) → end_in s (p >>= λ g. got (f g.item) g.rest) ≡ end_in s p
-item_end s none f = refl
-item_end s (some g) f = refl
-
 -- and after an item all goes on in the same way
-then_end : {A B C : Type 0} (s : List ℕ) (p : Option (Got A)) (q : Got A → Option (Got B)) (r : Got A → Option (Got C)) → ((g : Got A) → end_in s (q g) ≡ end_in s (r g)) → end_in s (p >>= q) ≡ end_in s (p >>= r)
+then_end : {A B C : Type 0} (s : List ℕ) (p : Option (Got A)) (q : Got A → Option (Got B)) (r : Got A → Option (Got C)) → ((g : Got A) → end_of s (q g) ≡ end_of s (r g)) → end_of s (p >>= q) ≡ end_of s (p >>= r)
 then_end s none q r e = refl
 then_end s (some g) q r e = e g
 
 -- the parts of an expression end where the expression does
 module _ (s : List ℕ) (one : Reader Expr) where
-  one_part : (f : Expr → Expr) (bs : List ℕ) → end_in s (one bs >>= λ a. got (f a.item) a.rest) ≡ end_in s (exprs_by one 1 bs)
+  one_part : (f : Expr → Expr) (bs : List ℕ) → end_of s (one bs >>= λ a. got (f a.item) a.rest) ≡ end_of s (exprs_by one 1 bs)
   unfolding exprs_by
   one_part f bs = then_end s (one bs) _ _ (λ a. refl)
 
-  two_parts : (f : Expr → Expr → Expr) (bs : List ℕ) → end_in s (one bs >>= λ a. one a.rest >>= λ b. got (f a.item b.item) b.rest) ≡ end_in s (exprs_by one 2 bs)
+  two_parts : (f : Expr → Expr → Expr) (bs : List ℕ) → end_of s (one bs >>= λ a. one a.rest >>= λ b. got (f a.item b.item) b.rest) ≡ end_of s (exprs_by one 2 bs)
   unfolding exprs_by
-  two_parts f bs = then_end s (one bs) _ _ (λ a. one_part (f a.item) a.rest ∙ sym (item_end s (exprs_by one 1 a.rest) (also a.item)))
+  two_parts f bs = then_end s (one bs) _ _ (λ a. one_part (f a.item) a.rest ∙ sym (same_end s (exprs_by one 1 a.rest) (also a.item)))
 
-  field_parts : (f : ℕ) (bs : List ℕ) → end_in s (field_after one (f ∷ bs)) ≡ end_in s (exprs_by one 1 bs)
+  field_parts : (f : ℕ) (bs : List ℕ) → end_of s (field_after one (f ∷ bs)) ≡ end_of s (exprs_by one 1 bs)
   unfolding field_after
   field_parts f bs = one_part (field f) bs
 
-  call_parts : (m n : ℕ) (bs : List ℕ) → n ≤ 3 → end_in s (call_after one (m ∷ n ∷ bs)) ≡ end_in s (exprs_by one (suc n) bs)
+  call_parts : (m n : ℕ) (bs : List ℕ) → n ≤ 3 → end_of s (call_after one (m ∷ n ∷ bs)) ≡ end_of s (exprs_by one (suc n) bs)
   unfolding call_after exprs_by
   call_parts m n bs h =
       rw (le-leb n 3 h)
-      (then_end s (one bs) _ _ (λ a. item_end s (exprs_by one n a.rest) (call m a.item) ∙ sym (item_end s (exprs_by one n a.rest) (also a.item))))
+      (then_end s (one bs) _ _ (λ a. same_end s (exprs_by one n a.rest) (call m a.item) ∙ sym (same_end s (exprs_by one n a.rest) (also a.item))))
 
-  new_parts : (c n : ℕ) (bs : List ℕ) → n ≤ 4 → end_in s (new_after one (c ∷ n ∷ bs)) ≡ end_in s (exprs_by one n bs)
+  new_parts : (c n : ℕ) (bs : List ℕ) → n ≤ 4 → end_of s (new_after one (c ∷ n ∷ bs)) ≡ end_of s (exprs_by one n bs)
   unfolding new_after
-  new_parts c n bs h = rw (le-leb n 4 h) (item_end s (exprs_by one n bs) (new c))
+  new_parts c n bs h = rw (le-leb n 4 h) (same_end s (exprs_by one n bs) (new c))
 
-  combine_parts : (o : Operation) (bs : List ℕ) → end_in s (combine_after one o bs) ≡ end_in s (exprs_by one 2 bs)
+  combine_parts : (o : Operation) (bs : List ℕ) → end_of s (combine_after one o bs) ≡ end_of s (exprs_by one 2 bs)
   unfolding combine_after
   combine_parts o bs = two_parts (combine o) bs
 
-  choose_parts : (bs : List ℕ) → end_in s (choose_after one bs) ≡ end_in s (exprs_by one 3 bs)
+  choose_parts : (bs : List ℕ) → end_of s (choose_after one bs) ≡ end_of s (exprs_by one 3 bs)
   unfolding choose_after exprs_by
   choose_parts bs =
-      then_end s (one bs) _ _ (λ c. two_parts (choose c.item) c.rest ∙ sym (item_end s (exprs_by one 2 c.rest) (also c.item)))
+      then_end s (one bs) _ _ (λ c. two_parts (choose c.item) c.rest ∙ sym (same_end s (exprs_by one 2 c.rest) (also c.item)))
 
-list_none : (s : List ℕ) (left at : ℕ) → at ≤ length s → at ≡ end_in s (exprs_by (expr left) 0 (drop at s))
+list_none : (s : List ℕ) (left at : ℕ) → at ≤ length s → Some at ≡ end_of s (exprs_by (expr left) 0 (drop at s))
 unfolding exprs_by
-list_none s left at h = end_here s at h
+list_none s left at h = ap {B = RustOption ℕ} Some (end_here s at h)
 
-at_end_lem : (s : List ℕ) (left at : ℕ) → length s ≤ at → length s + 1 ≡ end_in s (expr left (drop at s))
+at_end_lem : (s : List ℕ) (left at : ℕ) → length s ≤ at → None ≡ end_of s (expr left (drop at s))
 at_end_lem s left at h = rw (no_more s at h, empty left)
 
 -- an expression ends where its sign says
-abbrev pub ends : List ℕ → ℕ → Sign → ℕ
-ends s left g = end_by s left g.next g.parts
+abbrev pub ends : List ℕ → ℕ → RustOption Sign → RustOption ℕ
+ends s left None = None
+ends s left (Some g) = end_by s left g.next g.parts
 
-parts_after : (s : List ℕ) (left next p : ℕ) → next ≤ length s → end_by s left next p ≡ end_in s (exprs_by (expr (left - 1)) p (drop next s))
+parts_after : (s : List ℕ) (left next p : ℕ) → next ≤ length s → end_by s left next p ≡ end_of s (exprs_by (expr (left - 1)) p (drop next s))
 unfolding end_by
 parts_after s left next p h = go (eqb p 0) refl
   where
-    go : (b : Bool) → eqb p 0 ≡ b → pick b next (end_in s (exprs_by (expr (left - 1)) p (drop next s))) ≡ end_in s (exprs_by (expr (left - 1)) p (drop next s))
+    go : (b : Bool) → eqb p 0 ≡ b → pick b (Some next) (end_of s (exprs_by (expr (left - 1)) p (drop next s))) ≡ end_of s (exprs_by (expr (left - 1)) p (drop next s))
     go true q = rw (eqb-true p 0 q) (list_none s (left - 1) next h)
     go false q = refl
 
@@ -100,8 +90,8 @@ module _ (s : List ℕ) (left at : ℕ) (nz : 1 ≤ left) (h : at < length s) wh
   abbrev number : ℕ
   number = get_or s (at + 2) 0
 
-  abbrev end : ℕ
-  end = end_in s (expr left (drop at s))
+  abbrev end : RustOption ℕ
+  end = end_of s (expr left (drop at s))
 
   abbrev one : Reader Expr
   one = expr (left - 1)
@@ -115,20 +105,20 @@ module _ (s : List ℕ) (left at : ℕ) (nz : 1 ≤ left) (h : at < length s) wh
 
   -- what a sign of k bytes with p expressions must say: bytes of it are missing, the expressions are too many, or they are read
   record Told (k p : ℕ) : Type 0 where
-    missing : length s < at + k → length s + 1 ≡ end
-    many : at + k ≤ length s → 4 < p → length s + 1 ≡ end
-    read : at + k ≤ length s → p ≤ 4 → end_in s (exprs_by one p (drop (at + k) s)) ≡ end
+    missing : length s < at + k → None ≡ end
+    many : at + k ≤ length s → 4 < p → None ≡ end
+    read : at + k ≤ length s → p ≤ 4 → end_of s (exprs_by one p (drop (at + k) s)) ≡ end
 
   told : (k p : ℕ) → InTable sign number (row k p) → (k ≡ 0 → ⊥) → Told k p → ends s left (sign_at s at) ≡ end
   unfolding sign_at sign_of end_by
   told k p e nk w =
       rw (lt-leb (length s) at h, ← e.is, ne_eqb k 0 nk) (short (ltb (length s - at) k) refl)
     where
-      over : at + k ≤ length s → (z : Bool) → ltb 4 p ≡ z → ends s left (pick z (no_sign s) (after (at + k) p)) ≡ end
+      over : at + k ≤ length s → (z : Bool) → ltb 4 p ≡ z → ends s left (pick z None (Some (after (at + k) p))) ≡ end
       over l true q = w.many l (ltb-true 4 p q)
       over l false q = parts_after s left (at + k) p l ∙ w.read l (ltb-false 4 p q)
 
-      short : (z : Bool) → ltb (length s - at) k ≡ z → ends s left (pick z (no_sign s) (pick (ltb 4 p) (no_sign s) (after (at + k) p))) ≡ end
+      short : (z : Bool) → ltb (length s - at) k ≡ z → ends s left (pick z None (pick (ltb 4 p) None (Some (after (at + k) p)))) ≡ end
       short true q = w.missing (let m = ltb-true (length s - at) k q in omega arith)
       short false q = over (let m = ltb-false (length s - at) k q in omega arith) (ltb 4 p) refl
 
@@ -255,10 +245,10 @@ module _ (s : List ℕ) (left at : ℕ) (nz : 1 ≤ left) (h : at < length s) wh
       (λ e. told 1 3 (row_choose sign number e) (λ z. omega arith) (choose_told e))
       none_told
 
-pub sign_is : (s : List ℕ) (left at : ℕ) → 1 ≤ left → ends s left (sign_at s at) ≡ end_in s (expr left (drop at s))
+pub sign_is : (s : List ℕ) (left at : ℕ) → 1 ≤ left → ends s left (sign_at s at) ≡ end_of s (expr left (drop at s))
 unfolding sign_at end_by
 sign_is s left at nz = go (leb (length s) at) refl
   where
-    go : (z : Bool) → leb (length s) at ≡ z → ends s left (sign_at s at) ≡ end_in s (expr left (drop at s))
+    go : (z : Bool) → leb (length s) at ≡ z → ends s left (sign_at s at) ≡ end_of s (expr left (drop at s))
     go true q = rw (le-leb (length s) at (leb-true (length s) at q)) (at_end_lem s left at (leb-true (length s) at q))
     go false q = in_line s left at nz (leb-false (length s) at q)

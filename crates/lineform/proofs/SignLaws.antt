@@ -1,16 +1,14 @@
 -- Laws of the table of signs and of a sign at a place of a line, one for each return; and which sign a byte is.
 -- Not here: where an expression with a sign ends (ExprLaws).
-use Prim.Native.Nat.{ℕ, ◌+◌, ◌-◌, ◌<◌, ◌≤◌}
-use native.Mathlib.Omega.{arith}
+use Rattle.std.proofs.Common.{ℕ, ◌+◌, ◌-◌, ◌<◌, ◌≤◌, arith, ◌≡◌, sym, ap, ◌∙◌, subst, List, length, get_or, Some, None, eq-eqb, ne_eqb, le-leb, le-ltb, lt-ltb}
 use native.Mathlib.Decide.{ℕ_discrete}
-use mathlib.Core.Path.{◌≡◌, sym, ap, ◌∙◌, subst}
-use mathlib.Core.List.{List}
-use lib.ListN.{length, get_or, get_or-eq_default}
-use borrow.Author.Tests.{eq-eqb, ne_eqb, le-leb, lt-leb, le-ltb, lt-ltb}
+use Rattle.std.proofs.Math.ListN.{get_or-eq_default}
+use borrow.Author.Tests.{lt-leb}
+use Rattle.std.specs.declared.option.Option.{Option}
 use Rattle.lineform.specs.declared.exprs.Sign.{Sign}
 use Rattle.lineform.specs.declared.sign.SignRow.{SignRow}
 use Rattle.lineform.specs.Signs.{this_sign, res_sign, parameter_sign, field_sign, call_sign, new_sign, number_sign, sum_sign, difference_sign, choose_sign, row, sign_row, InTable, sign_size}
-use Rattle.lineform.specs.Answers.{after, no_sign, sign_of, row_at, sign_at}
+use Rattle.lineform.specs.Answers.{after, sign_of, row_at, sign_at}
 
 -- ---- the rows
 module _ (b n : ℕ) where
@@ -123,61 +121,55 @@ pub past_is : (b at : ℕ) (g : SignRow) → InTable b 0 g → at + g.size ≡ a
 past_is b at g t = ap (λ (x : SignRow). at + x.size) t.is
 
 -- ---- a sign at a place, all of it in the line
-module _ (s : List ℕ) (at b n : ℕ) (g : SignRow) (t : InTable b n g) where
+module _ (at b n : ℕ) (g : SignRow) (t : InTable b n g) where
   eg : g ≡ sign_row b n
   eg = t.is
 
-  as_row : (r : Sign) → r ≡ sign_of s at g → r ≡ sign_of s at (sign_row b n)
-  as_row r e = e ∙ ap (sign_of s at) eg
+  as_row : (r : Option Sign) → r ≡ sign_of at g → r ≡ sign_of at (sign_row b n)
+  as_row r e = e ∙ ap (sign_of at) eg
 
-  pub of_none : (r : Sign) → g.size ≡ 0 → r ≡ no_sign s → r ≡ sign_of s at (sign_row b n)
+  pub of_none : g.size ≡ 0 → None ≡ sign_of at (sign_row b n)
   unfolding sign_of
-  of_none r z e = as_row r (rw (eq-eqb g.size 0 z) e)
-
-  pub of_room : at + (sign_row b n).size ≤ length s → at + g.size ≤ length s
-  of_room l = subst (λ (x : SignRow). at + x.size ≤ length s) (sym eg) l
+  of_none z = as_row None (rw (eq-eqb g.size 0 z))
 
   module _ (nz : g.size ≡ 0 → ⊥) where
-    pub of_over : (r : Sign) → 4 < g.parts → r ≡ no_sign s → r ≡ sign_of s at (sign_row b n)
+    pub of_over : 4 < g.parts → None ≡ sign_of at (sign_row b n)
     unfolding sign_of
-    of_over r l e = as_row r (rw (ne_eqb g.size 0 nz, lt-ltb 4 g.parts l) e)
+    of_over l = as_row None (rw (ne_eqb g.size 0 nz, lt-ltb 4 g.parts l))
 
-    pub of_is : g.parts ≤ 4 → after (at + g.size) g.parts ≡ sign_of s at (sign_row b n)
+    pub of_is : g.parts ≤ 4 → Some (after (at + g.size) g.parts) ≡ sign_of at (sign_row b n)
     unfolding sign_of
     of_is l = as_row _ (rw (ne_eqb g.size 0 nz, le-ltb 4 g.parts l))
 
 -- ---- one of the last two places
 module _ (s : List ℕ) (at : ℕ) where
-  pub last_end : (r : Sign) → length s ≤ at → r ≡ no_sign s → r ≡ sign_at s at
+  pub last_end : length s ≤ at → None ≡ sign_at s at
   unfolding sign_at
-  last_end r h e = rw (le-leb (length s) at h) e
+  last_end h = rw (le-leb (length s) at h)
 
   module _ (few : length s - 2 ≤ at) (h : at < length s) (g : SignRow) (t : InTable (get_or s at 0) 0 g) where
     no_count : sign_row (get_or s at 0) 0 ≡ row_at s at
     no_count = ap (sign_row (get_or s at 0)) (sym (get_or-eq_default s 0 {n = at + 2} (let q : length s ≤ at + 2 = omega arith in q)))
 
-    pub last_short : (r : Sign) → length s - at < g.size → r ≡ no_sign s → r ≡ sign_at s at
+    pub last_short : length s - at < g.size → None ≡ sign_at s at
     unfolding sign_at
-    last_short r l e =
+    last_short l =
         let z : length s - at < (row_at s at).size = subst (λ (x : SignRow). length s - at < x.size) (t.is ∙ no_count) l in
-        rw (lt-leb (length s) at h, lt-ltb (length s - at) (row_at s at).size z) e
+        rw (lt-leb (length s) at h, lt-ltb (length s - at) (row_at s at).size z)
 
     module _ (l : g.size ≤ length s - at) where
-      pub last_room : at + (sign_row (get_or s at 0) 0).size ≤ length s
-      last_room = let z = subst (λ (x : SignRow). x.size ≤ length s - at) t.is l in omega arith
-
-      pub last_is : (r : Sign) → r ≡ sign_of s at (sign_row (get_or s at 0) 0) → r ≡ sign_at s at
+      pub last_is : (r : Option Sign) → r ≡ sign_of at (sign_row (get_or s at 0) 0) → r ≡ sign_at s at
       unfolding sign_at
       last_is r e =
           let z : (row_at s at).size ≤ length s - at = subst (λ (x : SignRow). x.size ≤ length s - at) (t.is ∙ no_count) l in
-          rw (lt-leb (length s) at h, le-ltb (length s - at) (row_at s at).size z) (e ∙ ap (sign_of s at) no_count)
+          rw (lt-leb (length s) at h, le-ltb (length s - at) (row_at s at).size z) (e ∙ ap (sign_of at) no_count)
 
 -- ---- any other place
 module _ (s : List ℕ) (at w : ℕ) (ew : w ≡ length s - 2) (h : at < w) where
   pub whole_room : at + (sign_row (get_or s at 0) (get_or s (at + 2) 0)).size ≤ length s
   whole_room = let z = size_short (get_or s at 0) (get_or s (at + 2) 0) in omega arith
 
-  pub whole_is : (r : Sign) → r ≡ sign_of s at (sign_row (get_or s at 0) (get_or s (at + 2) 0)) → r ≡ sign_at s at
+  pub whole_is : (r : Option Sign) → r ≡ sign_of at (sign_row (get_or s at 0) (get_or s (at + 2) 0)) → r ≡ sign_at s at
   unfolding sign_at
   whole_is r e =
       let z : (row_at s at).size ≤ length s - at = (let y = size_short (get_or s at 0) (get_or s (at + 2) 0) in omega arith) in

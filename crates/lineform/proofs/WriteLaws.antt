@@ -1,14 +1,9 @@
 -- Laws of what is written: for the goals of `write`, and for callers that write line after line.
 -- For callers: of `put_line` `line-*`, `take_line`, `drop_line`; of `put_text` `text-*`. Premises are the facts as a caller's record has them.
 -- Not here: what a table's lines are.
-use Prim.Native.Nat.{ℕ, suc, ◌+◌, ◌*◌, ◌/◌, ◌%◌, ◌<◌, ◌≤◌}
-use native.Mathlib.Omega.{arith}
-use native.Mathlib.Numerals.{add-one}
-use mathlib.Core.Path.{◌≡◌, refl, sym, ap, ap₂, ◌∙◌}
-use mathlib.Core.List.{List, [], ◌∷◌, ◌++◌, append_assoc, append-nil}
-use lib.ListN.{length, get_or, set, take, drop, length-append}
-use lib.Seq.{sets, length-sets, sets-eq, take-suc, take-length, length-take-le, take_at, drop_at}
-use borrow.Author.Tests.{le-leb, lt-leb}
+use Rattle.std.proofs.Common.{ℕ, suc, ◌+◌, ◌*◌, ◌/◌, ◌%◌, ◌<◌, ◌≤◌, arith, add-one, ◌≡◌, refl, sym, ap, ap₂, ◌∙◌, List, [], ◌∷◌, ◌++◌, append_assoc, append-nil, length, get_or, set, take, drop, length-append, take-suc, length-take-le, take_at, drop_at, le-leb}
+use Rattle.std.proofs.Math.Seq.{sets, length-sets, sets-eq}
+use borrow.Author.Tests.{lt-leb}
 use Rattle.cofj.specs.Text.{char, hex_line, hex_text}
 use Rattle.cofj.proofs.Reports.{length_line}
 use Rattle.lineform.specs.Writes.{Wrote, wrote, put, hex_bytes, put_line, put_text}
@@ -85,12 +80,6 @@ module _ (s out : List ℕ) (at : ℕ) where
   pub bytes_more : (o o2 : List ℕ) (i w w2 : ℕ) → i < length s → wrote w o ≡ put out at (hex_bytes (take i s)) → wrote w2 o2 ≡ put o w (hex_bytes (get_or s i 0 ∷ []))
       → wrote w2 o2 ≡ put out at (hex_bytes (take (i + 1) s))
   bytes_more o o2 i w w2 h e e2 = rw (add-one i, take-suc s i 0 h, bytes-append (take i s) (get_or s i 0 ∷ [])) (put-put out o at w (hex_bytes (take i s)) e o2 w2 _ e2)
-
-  pub bytes_all : (o : List ℕ) (i w : ℕ) → i ≤ length s → length s ≤ i → wrote w o ≡ put out at (hex_bytes (take i s)) → wrote w o ≡ put out at (hex_bytes s)
-  bytes_all o i w h k e =
-      let ei : i ≡ length s = omega arith in
-      let et : take i s ≡ s = rw ei (take-length s) in
-      rw et at e
 
 -- ---- a line
 line_bytes : (l : List ℕ) → hex_line l ≡ hex_bytes l ++ (10 ∷ [])

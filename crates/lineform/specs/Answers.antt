@@ -1,6 +1,10 @@
 -- What the functions answer, of what the language's definitions give. Not here: lines as bytes (Packed).
-use Rattle.std.specs.Prelude.{ℕ, zero, suc, ◌+◌, ◌*◌, ◌-◌, ◌<◌, ◌≤◌, ◌≡◌, Bool, true, false, ◌&&◌, List, [], ◌∷◌, ◌++◌, eqb, leb, ltb, length, get_or, set, drop}
+use Rattle.std.specs.Prelude.{Some, None, Ok, Err, ℕ, zero, suc, ◌+◌, ◌*◌, ◌-◌, ◌<◌, ◌≤◌, ◌≡◌, Bool, true, false, ◌&&◌, List, [], ◌∷◌, ◌++◌, eqb, leb, ltb, length, get_or, set, drop}
+use Rattle.std.specs.declared.option.Option.{Option as RustOption}
+use Rattle.std.specs.declared.result.Result.{Result}
 use Rattle.std.proofs.Math.Option.{Option, none, some}
+use Rattle.cofj.specs.declared.Refusal.{Refusal}
+use Rattle.cofj.specs.declared.Refusal.TheVariants.{NoLineForm, BadFrame, BadOrder}
 use Rattle.cofj.specs.Limits.{line_size, text_size, method_count}
 use Rattle.cofj.specs.Partial.{◌>>=◌}
 use Rattle.cofj.specs.Syntax.{Method}
@@ -8,17 +12,10 @@ use Rattle.cofj.specs.Text.{within, digit, lines}
 use Rattle.cofj.specs.Frames.{Got, exprs_by, expr, TextFrame, class_frame, method_frame, main_frame, frames}
 use Rattle.cofj.specs.Tables.{Raw, ordered, few}
 use Rattle.cofj.specs.Writing.{code_of}
-use Rattle.lineform.specs.declared.exprs.ReadExpr.{ReadExpr}
-use Rattle.lineform.specs.declared.exprs.ReadExpr.TheVariants.{Next, Refused}
 use Rattle.lineform.specs.declared.exprs.Sign.{Sign}
 use Rattle.lineform.specs.declared.frames.Kind.{Kind}
 use Rattle.lineform.specs.declared.frames.Kind.TheVariants as kind
-use Rattle.lineform.specs.declared.frames.Framed.{Framed}
-use Rattle.lineform.specs.declared.frames.Framed.TheVariants.{Good, Bad}
-use Rattle.lineform.specs.declared.lines.Decoded.{Decoded}
-use Rattle.lineform.specs.declared.lines.Decoded.TheVariants.{Packed as Filled, Refused as NoLines}
-use Rattle.lineform.specs.declared.lines.Ordered.{Ordered}
-use Rattle.lineform.specs.declared.lines.Ordered.TheVariants.{Counts, Refused as NoOrder}
+use Rattle.lineform.specs.declared.lines.Counts.{Counts}
 use Rattle.lineform.specs.declared.sign.SignRow.{SignRow}
 use Rattle.lineform.specs.Signs.{sign_row}
 use Rattle.lineform.specs.Packed.{packed, unpack}
@@ -61,14 +58,9 @@ abbrev pub ends_line : ℕ → ℕ → Bool
 ends_line c n = eqb c 10 && within 1 line_size n
 
 -- the place in s after what was read from it
-abbrev pub end_of : {A : Type 0} → List ℕ → Option (Got A) → ReadExpr
-end_of s none = Refused
-end_of s (some g) = Next (length s - length g.rest)
-
--- the same as a number: one past the end of s where nothing was read
-abbrev pub end_in : {A : Type 0} → List ℕ → Option (Got A) → ℕ
-end_in s none = length s + 1
-end_in s (some g) = length s - length g.rest
+abbrev pub end_of : {A : Type 0} → List ℕ → Option (Got A) → RustOption ℕ
+end_of s none = None
+end_of s (some g) = Some (length s - length g.rest)
 
 -- ---- the sign of the expression at a place
 abbrev pub pick : {A : Type 0} → Bool → A → A → A
@@ -78,23 +70,20 @@ pick false a b = b
 abbrev pub after : ℕ → ℕ → Sign
 after next parts = record { next = next; parts = parts }
 
-abbrev pub no_sign : List ℕ → Sign
-no_sign s = after (length s + 1) 0
-
 -- by its row in the table; an expression has at most four parts
-unfoldable pub sign_of : List ℕ → ℕ → SignRow → Sign
-sign_of s at g = pick (eqb g.size 0) (no_sign s) (pick (ltb 4 g.parts) (no_sign s) (after (at + g.size) g.parts))
+unfoldable pub sign_of : ℕ → SignRow → RustOption Sign
+sign_of at g = pick (eqb g.size 0) None (pick (ltb 4 g.parts) None (Some (after (at + g.size) g.parts)))
 
 abbrev pub row_at : List ℕ → ℕ → SignRow
 row_at s at = sign_row (get_or s at 0) (get_or s (at + 2) 0)
 
-unfoldable pub sign_at : List ℕ → ℕ → Sign
+unfoldable pub sign_at : List ℕ → ℕ → RustOption Sign
 unfolding sign_of
-sign_at s at = pick (leb (length s) at) (no_sign s) (pick (ltb (length s - at) (row_at s at).size) (no_sign s) (sign_of s at (row_at s at)))
+sign_at s at = pick (leb (length s) at) None (pick (ltb (length s - at) (row_at s at).size) None (sign_of at (row_at s at)))
 
 -- where an expression ends whose sign tells these
-unfoldable pub end_by : List ℕ → ℕ → ℕ → ℕ → ℕ
-end_by s left next parts = pick (eqb parts 0) next (end_in s (exprs_by (expr (left - 1)) parts (drop next s)))
+unfoldable pub end_by : List ℕ → ℕ → ℕ → ℕ → RustOption ℕ
+end_by s left next parts = pick (eqb parts 0) (Some next) (end_of s (exprs_by (expr (left - 1)) parts (drop next s)))
 
 -- where the right expression of a method stands in its line
 abbrev pub right_at : Method → ℕ
@@ -106,14 +95,14 @@ kind_of (class_frame c) = kind.Class
 kind_of (method_frame d) = kind.Method (right_at d)
 kind_of (main_frame i e) = kind.Main
 
-abbrev pub framed_of : Option TextFrame → Framed
-framed_of none = Bad
-framed_of (some f) = Good (kind_of f)
+abbrev pub framed_of : Option TextFrame → RustOption Kind
+framed_of none = None
+framed_of (some f) = Some (kind_of f)
 
 -- ---- lines
-abbrev pub decoded_of : Option (List (List ℕ)) → Decoded
-decoded_of none = NoLines
-decoded_of (some ls) = Filled (length (packed ls))
+abbrev pub decoded_of : Option (List (List ℕ)) → Result ℕ Refusal
+decoded_of none = Err NoLineForm
+decoded_of (some ls) = Ok (length (packed ls))
 
 -- a text of a fit length, and room for its lines
 -- there is room for a text's lines: a line of n bytes takes n + 1, and is 2n + 1 characters
@@ -126,7 +115,7 @@ pub record Decodable (text out : List ℕ) : Type 0 where
   pub room : 2 * length text + 10 ≤ 3 * length out
 
 -- the answer is the text's, and its lines stand in front of what was there; after a refusal the bytes are open
-pub record Decodes (text out₀ out : List ℕ) (r : Decoded) : Type 0 where
+pub record Decodes (text out₀ out : List ℕ) (r : Result ℕ Refusal) : Type 0 where
   pub answer : r ≡ decoded_of (lines text)
   pub written : (ls : List (List ℕ)) → lines text ≡ some ls → out ≡ packed ls ++ drop (length (packed ls)) out₀
 
@@ -163,16 +152,23 @@ pub record Rights (R : List ℕ) (fs : List TextFrame) : Type 0 where
   pub at : (j : ℕ) → j < length (rights_of fs) → j < method_count → get_or R j 0 ≡ get_or (rights_of fs) j 0
 
 -- the answer of `frames_good`, and what it notes
-pub record Framing (d : List ℕ) (g : Bool) (R : List ℕ) : Type 0 where
-  pub answer : g ≡ is_some (frames (unpack d))
-  pub rights : (fs : List TextFrame) → g ≡ true → frames (unpack d) ≡ some fs → Rights R fs
+abbrev pub framing_of : Option (List TextFrame) → Result (Unit {0}) Refusal
+framing_of none = Err BadFrame
+framing_of (some fs) = Ok tt
+
+pub record Framing (d : List ℕ) (g : Result (Unit {0}) Refusal) (R : List ℕ) : Type 0 where
+  pub answer : g ≡ framing_of (frames (unpack d))
+  pub rights : (fs : List TextFrame) → g ≡ Ok tt → frames (unpack d) ≡ some fs → Rights R fs
 
 -- the counts of classes and methods
-abbrev pub counts_of : Option Raw → Ordered
-counts_of none = NoOrder
-counts_of (some r) = Counts (length r.classes) (length r.methods)
+abbrev pub counted : ℕ → ℕ → Counts
+counted c m = record { classes = c; methods = m }
 
-unfoldable pub order_of : Option (List TextFrame) → Ordered
+abbrev pub counts_of : Option Raw → Result Counts Refusal
+counts_of none = Err BadOrder
+counts_of (some r) = Ok (counted (length r.classes) (length r.methods))
+
+unfoldable pub order_of : Option (List TextFrame) → Result Counts Refusal
 unfolding ordered
-order_of none = NoOrder
+order_of none = Err BadOrder
 order_of (some fs) = counts_of (ordered fs >>= few)

@@ -2,7 +2,7 @@
 // Not here: the digits of a line that are left (lines).
 ghost use Rattle.std.specs.Prelude.{◌≡◌, true, ◌≤◌, ◌<◌, ◌+◌, ◌*◌, ◌-◌, ◌/◌, ◌%◌, length};
 ghost use Rattle.lineform.specs.Answers.{Ahead, Puts, pair_value};
-ghost use Rattle.lineform.specs.Blocks.{is_digit, all_digits, Blocks, word_of, words_put, DigitWords, bytes_put};
+ghost use Rattle.lineform.specs.Blocks.{is_digit, all_digits, Blocks, words_put, DigitWords, bytes_put};
 
 // The characters in a block, and the blocks that a line may have.
 const BLOCK: usize = 32;
@@ -21,10 +21,8 @@ fn all_digits(text: &[u8], at: usize) -> bool
     ensures { result ≡ all_digits text.now at 32 }
 {
     let mut good = true;
-    let mut k: usize = 0;
-    while k < BLOCK {
+    for k in 0..BLOCK {
         good = good & is_digit(text[at + k]);
-        k += 1;
     }
     good
 }
@@ -36,8 +34,7 @@ fn past_blocks(text: &[u8], from: usize) -> usize
 {
     let n = text.len();
     let mut i: usize = from;
-    let mut k: usize = 0;
-    while k < BLOCKS {
+    for _ in 0..BLOCKS {
         if n <= i + BLOCK {
             return i;
         }
@@ -45,27 +42,17 @@ fn past_blocks(text: &[u8], from: usize) -> usize
             return i;
         }
         i += BLOCK;
-        k += 1;
     }
     i
 }
 
-// Two characters as one number.
-fn word(a: u8, b: u8) -> u16
-    ensures { result ≡ word_of a b }
-{
-    (a as u16) + 256 * (b as u16)
-}
-
-// The first m pairs of characters from `from` on, as numbers.
+// The first m pairs of characters from `from` on, each as one number.
 fn put_words(text: &[u8], from: usize, w: &mut [u16; 256], m: usize)
     requires { (m ≤ 256) × (from + 2 * m ≤ length text.now) }
     ensures { w.new ≡ words_put text.now from w.old m }
 {
-    let mut k: usize = 0;
-    while k < m {
-        w[k] = word(text[from + 2 * k], text[from + 2 * k + 1]);
-        k += 1;
+    for k in 0..m {
+        w[k] = u16::from_le_bytes([text[from + 2 * k], text[from + 2 * k + 1]]);
     }
 }
 
@@ -83,10 +70,8 @@ fn put_word_bytes(w: &[u16; 256], m: usize, out: &mut [u8], to: usize)
     requires { DigitWords w.now m × (to + m ≤ length out.old) }
     ensures { out.new ≡ bytes_put w.now out.old to m }
 {
-    let mut k: usize = 0;
-    while k < m {
+    for k in 0..m {
         out[to + k] = word_byte(w[k]);
-        k += 1;
     }
 }
 

@@ -3,7 +3,7 @@
 ghost use Rattle.std.specs.Prelude.{◌≡◌, ◌≤◌, ◌<◌, ◌+◌, ◌-◌, length, drop};
 ghost use Rattle.cofj.specs.Frames.{expr, exprs_by, types};
 ghost use Rattle.lineform.specs.Signs.{sign_row};
-ghost use Rattle.lineform.specs.Answers.{end_of, end_in, no_sign, sign_of, sign_at, end_by};
+ghost use Rattle.lineform.specs.Answers.{end_of, sign_of, sign_at, end_by};
 
 use crate::sign::sign_row;
 
@@ -19,19 +19,6 @@ pub(crate) const NESTING_LIMIT: usize = 6;
 
 pub(crate) const LARGEST_TAG: u8 = 3;
 
-#[derive(Clone, Copy)]
-pub(crate) enum ReadExpr {
-    Next(usize),
-    Refused,
-}
-
-// A byte as a number of bytes or items.
-pub(crate) fn wide(x: u8) -> usize
-    ensures { result ≡ x }
-{
-    x as usize
-}
-
 // An expression's sign and what belongs to it: the place after them, and how many expressions the expression has from there on.
 #[derive(Clone, Copy)]
 pub(crate) struct Sign {
@@ -39,62 +26,49 @@ pub(crate) struct Sign {
     pub parts: usize,
 }
 
-// No sign: the place is past the end, where the next one is none either.
-fn no_sign(s: &[u8]) -> Sign
-    ensures { result ≡ no_sign s.now }
-{
-    Sign {
-        next: s.len() + 1,
-        parts: 0,
-    }
-}
-
 // The sign b at `at`, where n is the second byte after it, and what belongs to it stands in the line.
-fn sign_of(s: &[u8], at: usize, b: u8, n: u8) -> Sign
+fn sign_of(s: &[u8], at: usize, b: u8, n: u8) -> Option<Sign>
     requires { at + (sign_row b n).size ≤ length s.now }
-    ensures { result ≡ sign_of s.now at (sign_row b n) }
+    ensures { result ≡ sign_of at (sign_row b n) }
 {
     let g = sign_row(b, n);
     if g.size == 0 {
-        return no_sign(s);
+        return None;
     }
     if PART_COUNT < g.parts {
-        return no_sign(s);
+        return None;
     }
-    Sign {
+    Some(Sign {
         next: at + g.size,
         parts: g.parts,
-    }
+    })
 }
 
 // How many places have two bytes after them.
 fn whole_places(s: &[u8]) -> usize
     ensures { result ≡ length s.now - 2 }
 {
-    if s.len() < 2 {
-        return 0;
-    }
-    s.len() - 2
+    s.len().saturating_sub(2)
 }
 
 // The sign at `at`, which has at most one byte after it.
-fn last_sign(s: &[u8], at: usize) -> Sign
+fn last_sign(s: &[u8], at: usize) -> Option<Sign>
     requires { length s.now - 2 ≤ at }
     ensures { result ≡ sign_at s.now at }
 {
     if s.len() <= at {
-        return no_sign(s);
+        return None;
     }
     let b = s[at];
     let g = sign_row(b, 0);
     if s.len() - at < g.size {
-        return no_sign(s);
+        return None;
     }
     sign_of(s, at, b, 0)
 }
 
 // The sign at `at`.
-pub(crate) fn sign_at(s: &[u8], at: usize) -> Sign
+pub(crate) fn sign_at(s: &[u8], at: usize) -> Option<Sign>
     ensures { result ≡ sign_at s.now at }
 {
     if whole_places(s) <= at {
@@ -103,58 +77,56 @@ pub(crate) fn sign_at(s: &[u8], at: usize) -> Sign
     sign_of(s, at, s[at], s[at + 2])
 }
 
-// The place after the expression whose sign tells `next` and `parts`, nested at most `left` deep; one past the end of the line if there is none.
+// The place after the expression whose sign tells `next` and `parts`, nested at most `left` deep.
 #[cycle(read_expr_read_list)]
-pub(crate) fn read_expr(s: &[u8], next: usize, parts: usize, left: usize) -> usize
+pub(crate) fn read_expr(s: &[u8], next: usize, parts: usize, left: usize) -> Option<usize>
     requires { 1 ≤ left }
     ensures { result ≡ end_by s.now left next parts }
 {
     if parts == 0 {
-        return next;
+        return Some(next);
     }
     read_list(s, next, parts, left - 1)
 }
 
-// The place after n expressions, one after the other. After a refusal the place is past the end, where the next one is refused too.
+// The place after n expressions, one after the other.
 #[cycle(read_expr_read_list)]
-pub(crate) fn read_list(s: &[u8], at: usize, n: usize, left: usize) -> usize
+pub(crate) fn read_list(s: &[u8], at: usize, n: usize, left: usize) -> Option<usize>
     requires { 1 ≤ n }
-    ensures { result ≡ end_in s.now (exprs_by (expr left) n (drop at s.now)) }
+    ensures { result ≡ end_of s.now (exprs_by (expr left) n (drop at s.now)) }
 {
     if left == 0 {
-        return s.len() + 1;
+        return None;
     }
     let mut a: usize = at;
-    let mut k: usize = n;
-    while 0 < k {
-        k -= 1;
-        let g = sign_at(s, a);
+    for _ in 0..n {
+        let g = sign_at(s, a)?;
         if g.parts == 0 {
             a = g.next;
             continue;
         }
-        a = read_expr(s, g.next, g.parts, left);
+        a = read_expr(s, g.next, g.parts, left)?;
     }
-    a
+    Some(a)
 }
 
 // n types, one after the other.
-pub(crate) fn types_end(s: &[u8], at: usize, n: usize) -> ReadExpr
+pub(crate) fn types_end(s: &[u8], at: usize, n: usize) -> Option<usize>
     requires { at ≤ length s.now }
     ensures { result ≡ end_of s.now (types n (drop at s.now)) }
 {
     if n == 0 {
-        return ReadExpr::Next(at);
+        return Some(at);
     }
     if s.len() <= at {
-        return ReadExpr::Refused;
+        return None;
     }
     let a1 = at + 1;
     if s.len() <= a1 {
-        return ReadExpr::Refused;
+        return None;
     }
     if LARGEST_TAG < s[a1] {
-        return ReadExpr::Refused;
+        return None;
     }
     types_end(s, a1 + 1, n - 1)
 }

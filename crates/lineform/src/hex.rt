@@ -6,24 +6,28 @@ ghost use Rattle.lineform.specs.Answers.{Values, value_of, pair_value};
 use crate::digits::VALUES;
 
 // The values of all characters. Made once for a text: taking an entry of the constant would make all of it anew.
-pub(crate) fn values() -> [u16; 256]
-    ensures { Values result }
-{
-    VALUES
+#[derive(Clone, Copy)]
+pub(crate) struct Digits {
+    pub values: [u16; 256],
+    ghost right: { Values values },
 }
 
-// The value of a digit's character, or 768 of any other.
-fn value(t: &[u16; 256], c: u8) -> u16
-    requires { Values t.now }
-    ensures { result ≡ value_of (digit c) }
-{
-    t[c as usize]
-}
+impl Digits {
+    pub(crate) fn all() -> Digits {
+        Digits { values: VALUES }
+    }
 
-// The byte of two digits, or a number from 768 on.
-pub(crate) fn pair(t: &[u16; 256], a: u8, b: u8) -> u16
-    requires { Values t.now }
-    ensures { result ≡ pair_value a b }
-{
-    16 * value(t, a) + value(t, b)
+    // The value of a digit's character, or 768 of any other.
+    fn value(&self, c: u8) -> u16
+        ensures { result ≡ value_of (digit c) }
+    {
+        self.values[usize::from(c)]
+    }
+
+    // The byte of two digits, or a number from 768 on.
+    pub(crate) fn pair(&self, a: u8, b: u8) -> u16
+        ensures { result ≡ pair_value a b }
+    {
+        16 * self.value(a) + self.value(b)
+    }
 }

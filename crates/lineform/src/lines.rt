@@ -4,12 +4,12 @@ ghost use Rattle.std.specs.Prelude.{◌≡◌, ◌<◌, ◌≤◌, ◌+◌, ◌-
 ghost use Rattle.cofj.specs.Limits.{method_count};
 ghost use Rattle.cofj.specs.Frames.{frames};
 ghost use Rattle.lineform.specs.Packed.{unpack, Packed, FramedLines};
-ghost use Rattle.lineform.specs.Answers.{Values, Roomy, Ahead, Puts, Decodable, Decodes, ends_line, noted, put_right, SmallKind, note_right, Framing, order_of};
+ghost use Rattle.lineform.specs.Answers.{Roomy, Ahead, Puts, Decodable, Decodes, ends_line, noted, put_right, SmallKind, note_right, Framing, order_of};
 
 use crate::blocks::put_blocks;
-use crate::exprs::wide;
-use crate::frames::{Framed, Kind, frame_kind};
-use crate::hex::{pair, values};
+use crate::frames::{Kind, frame_kind};
+use crate::hex::Digits;
+use cofj::Refusal;
 
 // Document 01's figures (cofj's Limits).
 const TEXT_SIZE: usize = 49567;
@@ -28,30 +28,25 @@ pub(crate) const LF: u8 = 10;
 // what no sum of three bytes reaches (digits)
 const NO_BYTE: u16 = 768;
 
+// How many classes and methods a text has.
 #[derive(Clone, Copy)]
-pub enum Decoded {
-    Packed(usize),
-    Refused,
-}
-
-#[derive(Clone, Copy)]
-pub enum Ordered {
-    Counts(u8, u8),
-    Refused,
+pub struct Counts {
+    pub classes: u8,
+    pub methods: u8,
 }
 
 // Writes the lines of `text` to the front of `out`; the bytes after them stay.
-pub fn decode(text: &[u8], out: &mut [u8]) -> Decoded
+pub fn decode(text: &[u8], out: &mut [u8]) -> Result<usize, Refusal>
     requires { Roomy text.now out.old }
     ensures { Decodes text.now out.old out.new result }
 {
-    if text.len() == 0 {
-        return Decoded::Refused;
+    if text.is_empty() {
+        return Err(Refusal::NoLineForm);
     }
     if TEXT_SIZE < text.len() {
-        return Decoded::Refused;
+        return Err(Refusal::NoLineForm);
     }
-    let t = values();
+    let t = Digits::all();
     decode_lines(text, &t, out)
 }
 
@@ -59,27 +54,22 @@ pub fn decode(text: &[u8], out: &mut [u8]) -> Decoded
 fn ends_line(c: u8, n: usize) -> bool
     ensures { result ≡ ends_line c n }
 {
-    if c != LF {
-        return false;
-    }
-    if n == 0 {
-        return false;
-    }
-    n <= LINE_SIZE
+    c == LF && (1..=LINE_SIZE).contains(&n)
 }
 
 // Writes the bytes of the digits from `from` on to `to` and further, three at a time, until there are no three. The place after them.
-fn put_threes(text: &[u8], t: &[u16; 256], from: usize, out: &mut [u8], to: usize) -> usize
-    requires { Ahead text.now out.old from to × Values t.now }
+fn put_threes(text: &[u8], t: &Digits, from: usize, out: &mut [u8], to: usize) -> usize
+    requires { Ahead text.now out.old from to }
     ensures { Puts text.now out.old out.new from to result (to + (result - from) / 2) }
 {
     let n = text.len();
     let mut i: usize = from;
     let mut o: usize = to;
+    // six characters at a time, up to three that are not all digits: no range
     while i + 6 < n {
-        let x = pair(t, text[i], text[i + 1]);
-        let y = pair(t, text[i + 2], text[i + 3]);
-        let z = pair(t, text[i + 4], text[i + 5]);
+        let x = t.pair(text[i], text[i + 1]);
+        let y = t.pair(text[i + 2], text[i + 3]);
+        let z = t.pair(text[i + 4], text[i + 5]);
         if NO_BYTE <= x + y + z {
             return i;
         }
@@ -93,8 +83,8 @@ fn put_threes(text: &[u8], t: &[u16; 256], from: usize, out: &mut [u8], to: usiz
 }
 
 // Writes the bytes of the digits from `from` on to `to` and further, as long as many digits follow. The place after them.
-fn put_ahead(text: &[u8], t: &[u16; 256], from: usize, out: &mut [u8], to: usize) -> usize
-    requires { Ahead text.now out.old from to × Values t.now }
+fn put_ahead(text: &[u8], t: &Digits, from: usize, out: &mut [u8], to: usize) -> usize
+    requires { Ahead text.now out.old from to }
     ensures { Puts text.now out.old out.new from to result (to + (result - from) / 2) }
 {
     let c = put_blocks(text, from, out, to);
@@ -103,17 +93,18 @@ fn put_ahead(text: &[u8], t: &[u16; 256], from: usize, out: &mut [u8], to: usize
 }
 
 // The same of a text of a fit length. At `w` the line begins whose next byte goes to `o`.
-fn decode_lines(text: &[u8], t: &[u16; 256], out: &mut [u8]) -> Decoded
-    requires { Decodable text.now out.old × Values t.now }
+fn decode_lines(text: &[u8], t: &Digits, out: &mut [u8]) -> Result<usize, Refusal>
+    requires { Decodable text.now out.old }
     ensures { Decodes text.now out.old out.new result }
 {
     let last = text.len() - 1;
     let mut i: usize = 0;
     let mut w: usize = 0;
     let mut o: usize = 1;
+    // by what is read: no range
     while i < last {
         let c = text[i];
-        let x = pair(t, c, text[i + 1]);
+        let x = t.pair(c, text[i + 1]);
         if x < 256 {
             out[o] = x as u8;
             o += 1;
@@ -122,7 +113,7 @@ fn decode_lines(text: &[u8], t: &[u16; 256], out: &mut [u8]) -> Decoded
         }
         let n = o - w - 1;
         if !ends_line(c, n) {
-            return Decoded::Refused;
+            return Err(Refusal::NoLineForm);
         }
         out[w] = n as u8;
         w = o;
@@ -132,14 +123,14 @@ fn decode_lines(text: &[u8], t: &[u16; 256], out: &mut [u8]) -> Decoded
         o = b + (i - a) / 2;
     }
     if last < i {
-        return Decoded::Refused;
+        return Err(Refusal::NoLineForm);
     }
     let n = o - w - 1;
     if !ends_line(text[i], n) {
-        return Decoded::Refused;
+        return Err(Refusal::NoLineForm);
     }
     out[w] = n as u8;
-    Decoded::Packed(o)
+    Ok(o)
 }
 
 // Notes that the right expression of method m stands at b of its line, if there is room. How many are noted then.
@@ -160,47 +151,46 @@ fn note_right(k: Kind, rights: &mut [u8; RIGHTS], m: usize) -> usize
     ensures { noted result rights.new ≡ note_right k m rights.old }
 {
     match k {
-        Kind::Class => m,
         Kind::Method(b) => put_right(b, rights, m),
+        Kind::Class => m,
         Kind::Main => m,
     }
 }
 
 // Whether every line has a frame. Notes where the right expression of each method stands in its line.
-pub fn frames_good(d: &[u8], rights: &mut [u8; RIGHTS]) -> bool
+pub fn frames_good(d: &[u8], rights: &mut [u8; RIGHTS]) -> Result<(), Refusal>
     requires { Packed d.now × (length rights.old ≡ method_count) }
     ensures { Framing d.now result rights.new }
 {
     let mut i: usize = 0;
     let mut m: usize = 0;
+    // by what each line takes: no range
     while i < d.len() {
         let a = i + 1;
-        let e = a + wide(d[i]);
-        let f = frame_kind(&d[a..e]);
-        let Framed::Good(k) = f else {
-            return false;
-        };
+        let e = a + usize::from(d[i]);
+        let k = frame_kind(&d[a..e]).ok_or(Refusal::BadFrame)?;
         m = note_right(k, rights, m);
         i = e;
     }
-    true
+    Ok(())
 }
 
 // Whether classes come first, then methods, then one main, and how many: c classes and m methods so far.
-pub fn order(d: &[u8]) -> Ordered
+pub fn order(d: &[u8]) -> Result<Counts, Refusal>
     requires { FramedLines d.now }
     ensures { result ≡ order_of (frames (unpack d.now)) }
 {
     let mut i: usize = 0;
     let mut c: usize = 0;
     let mut m: usize = 0;
+    // by what each line takes: no range
     while i < d.len() {
         let a = i + 1;
         let k = d[a];
-        let e = a + wide(d[i]);
+        let e = a + usize::from(d[i]);
         if k == 1 {
             if 0 < m {
-                return Ordered::Refused;
+                return Err(Refusal::BadOrder);
             }
             c += 1;
             i = e;
@@ -212,15 +202,18 @@ pub fn order(d: &[u8]) -> Ordered
             continue;
         }
         if e < d.len() {
-            return Ordered::Refused;
+            return Err(Refusal::BadOrder);
         }
         if CLASS_COUNT < c {
-            return Ordered::Refused;
+            return Err(Refusal::BadOrder);
         }
         if METHOD_COUNT < m {
-            return Ordered::Refused;
+            return Err(Refusal::BadOrder);
         }
-        return Ordered::Counts(c as u8, m as u8);
+        return Ok(Counts {
+            classes: c as u8,
+            methods: m as u8,
+        });
     }
-    Ordered::Refused
+    Err(Refusal::BadOrder)
 }

@@ -34,39 +34,21 @@ pub struct SignRow {
 pub fn sign_row(b: u8, n: u8) -> SignRow
     ensures { InTable b n result }
 {
-    if b == THIS {
-        return SignRow { size: 1, parts: 0 };
-    }
-    if b == RES {
-        return SignRow { size: 1, parts: 0 };
-    }
-    if b == PARAMETER {
-        return SignRow { size: 2, parts: 0 };
-    }
-    if b == FIELD {
-        return SignRow { size: 2, parts: 1 };
-    }
-    if b == CALL {
-        let parts = 1 + (n as usize);
-        return SignRow { size: 3, parts };
-    }
-    if b == NEW {
-        let parts = n as usize;
-        return SignRow { size: 3, parts };
-    }
-    if b == NUMBER {
-        return SignRow { size: 3, parts: 0 };
-    }
-    if b == SUM {
-        return SignRow { size: 1, parts: 2 };
-    }
-    if b == DIFFERENCE {
-        return SignRow { size: 1, parts: 2 };
-    }
-    if b == CHOOSE {
-        return SignRow { size: 1, parts: 3 };
-    }
-    SignRow { size: 0, parts: 0 }
+    let n = usize::from(n);
+    let (size, parts) = match b {
+        THIS => (1, 0),
+        RES => (1, 0),
+        PARAMETER => (2, 0),
+        FIELD => (2, 1),
+        CALL => (3, 1 + n),
+        NEW => (3, n),
+        NUMBER => (3, 0),
+        SUM => (1, 2),
+        DIFFERENCE => (1, 2),
+        CHOOSE => (1, 3),
+        _ => (0, 0),
+    };
+    SignRow { size, parts }
 }
 
 // The place after the sign b at `at` and what belongs to it.

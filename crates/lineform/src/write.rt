@@ -18,7 +18,7 @@ pub(crate) fn char_of(d: u8) -> u8
 }
 
 // The digits of a byte, and the place after them.
-fn put_byte(b: u8, out: &mut [u8], at: usize) -> usize
+pub fn put_byte(b: u8, out: &mut [u8], at: usize) -> usize
     requires { at + 2 ≤ length out.old }
     ensures { wrote result out.new ≡ put out.old at (hex_bytes (b ∷ [])) }
 {
@@ -32,11 +32,9 @@ fn put_bytes(s: &[u8], out: &mut [u8], at: usize) -> usize
     requires { at + 2 * length s.now ≤ length out.old }
     ensures { wrote result out.new ≡ put out.old at (hex_bytes s.now) }
 {
-    let mut i: usize = 0;
     let mut w: usize = at;
-    while i < s.len() {
-        w = put_byte(s[i], out, w);
-        i += 1;
+    for &b in s {
+        w = put_byte(b, out, w);
     }
     w
 }

@@ -27,10 +27,10 @@ use Rattle.values.proofs.Copies.{block_held}
 use Rattle.values.proofs.Selecting.{unchanged, under}
 use Rattle.maker.specs.Figures.{unused_codes}
 use Rattle.maker.specs.Fieldless.{fieldless_object}
-use Rattle.maker.specs.declared.Slot.{Slot}
-use Rattle.maker.specs.declared.Made.TheVariants.{Value}
+use Rattle.std.specs.declared.option.Option.{Option}
+use Rattle.std.specs.declared.option.Option.TheVariants.{Some, None}
 use Rattle.maker.specs.Laying.{values_from, raws_from, PartsHeld, Makeable, MadeIs}
-use Rattle.maker.specs.Adding.{codes_of, object_of, roots, RootObject, RootCodes, RootNumbers, CodesLevel, Found, Emptied, Appended, Added, is_object, stands_in, part_of, all_stand, some_object}
+use Rattle.maker.specs.Adding.{Hit, codes_of, object_of, roots, RootObject, RootCodes, RootNumbers, CodesLevel, Found, Emptied, Appended, Added, is_object, stands_in, part_of, all_stand, some_object}
 use Rattle.maker.proofs.Codes.{object_code, unused_level}
 use Rattle.maker.proofs.Finds.{root_none, numbers_none, root_packed, root_object}
 use Rattle.maker.proofs.Makes.{raws_whole, made_raw, made_here, made_brought}
@@ -51,7 +51,7 @@ value_fit W b bk (Mark k) h e = leaf_fit _ (leaf (mark k)) tt
 value_fit W b bk (Number x) h e = leaf_fit _ (leaf (num x)) tt
 value_fit W b bk Undetermined h e = leaf_fit _ (leaf undet) tt
 
-all_fit : (W : List ℕ) (ns : List Node) (n : ℕ) (ps : List Slot) → ((i : ℕ) → i < n → Fit ns (raw_of W (part_of ps i))) → AllFit ns (map (λ s. raw_of W s.r) (take n ps))
+all_fit : (W : List ℕ) (ns : List Node) (n : ℕ) (ps : List ValueRef) → ((i : ℕ) → i < n → Fit ns (raw_of W (part_of ps i))) → AllFit ns (map (raw_of W) (take n ps))
 all_fit W ns zero ps h = tt
 all_fit W ns (suc n) [] h = tt
 all_fit W ns (suc n) (s ∷ ps) h = (h 0 (omega arith), all_fit W ns n ps (λ i l. h (suc i) (omega arith)))
@@ -192,7 +192,7 @@ module _ (W : List ℕ) (b t : ℕ) (T : List ℕ) (dst : ℕ) (D : List ℕ) (p
       go i (no h) l = let e : i ≡ t = omega (arith, h) in rw e (packed_same D T (block_size * dst + object_size * t) 0 top_byte pt)
 
 -- ---- made
-module _ (W : List ℕ) (c : ℕ) (ps : List Slot) (n w : ℕ) (held : PartsHeld W ps n) (rc : RootCodes W ps n 0 w) (v : ℕ) (rn : RootNumbers ps n 0 v) (least : n ≤ code_count) where
+module _ (W : List ℕ) (c : ℕ) (ps : List ValueRef) (n w : ℕ) (held : PartsHeld W ps n) (rc : RootCodes W ps n 0 w) (v : ℕ) (rn : RootNumbers ps n 0 v) (least : n ≤ code_count) where
   abbrev gs : List Graph
   gs = raws_from W ps 0 n
 
@@ -228,7 +228,7 @@ module _ (W : List ℕ) (c : ℕ) (ps : List Slot) (n w : ℕ) (held : PartsHeld
     new_inside : Inside D dst t
     new_inside = record { block = bk; low = omega (arith, ad.count) }
 
-    made_new : MadeIs W (make c (values_from W ps 0 n)) dst D (Value (Object t dst))
+    made_new : MadeIs W (make c (values_from W ps 0 n)) dst D (Some (Object t dst))
     made_new = made_here W D _ dst dst t new_inside value (under dst W D ad.outside) (omega arith)
 
   -- beside the objects of a block
@@ -237,19 +237,23 @@ module _ (W : List ℕ) (c : ℕ) (ps : List Slot) (n w : ℕ) (held : PartsHeld
     unfolding raws_from
     fits = all_fit W (objects_in W b) n ps (λ i h. value_fit W b bk (part_of ps i) (held.part i h) (stands_at ps n b bs i h))
 
-    module _ (k : ℕ) (fd : Found W b (get_or W (block_size * b + count_at) 0) (object_of c n w v) k) where
-      module _ (h : k < get_or W (block_size * b + count_at) 0) where
-        pub beside_value : make c (values_from W ps 0 n) ≡ canon (graph_at W b k)
-        unfolding objects_in count_in
-        beside_value =
-            made_raw W c ps n held ∙ make_found c gs (objects_in W b) (raws_whole W c ps n held) fits bk.whole.inner k (omega (arith, size_in W b bk))
-            (at_nodes W (block_size * b) (get_or W (block_size * b + count_at) 0) k h ∙ fd.hit h ∙ cr.is)
+    module _ (k : ℕ) (hit : Hit W b (get_or W (block_size * b + count_at) 0) (object_of c n w v) k) where
+      pub beside_value : make c (values_from W ps 0 n) ≡ canon (graph_at W b k)
+      unfolding objects_in count_in
+      beside_value =
+          made_raw W c ps n held ∙ make_found c gs (objects_in W b) (raws_whole W c ps n held) fits bk.whole.inner k (omega (arith, size_in W b bk, hit.low))
+          (at_nodes W (block_size * b) (get_or W (block_size * b + count_at) 0) k hit.low ∙ hit.is ∙ cr.is)
 
-        pub beside_found : (dst : ℕ) (W' : List ℕ) (r : ValueRef) → Gives W dst W' r (canon (graph_at W b k)) → MadeIs W (make c (values_from W ps 0 n)) dst W' (Value r)
-        beside_found dst = made_brought W W _ dst b k (block_held W b k bk h).held beside_value (under dst W W (unchanged dst W))
+    module _ (a : Option ℕ) (fd : Found W b (get_or W (block_size * b + count_at) 0) (object_of c n w v) a) where
+      module _ (k : ℕ) (ea : a ≡ Some k) where
+        pub beside_held : Holds W (Object k b)
+        beside_held = block_held W b k bk (fd.hit k ea).low
 
-      pub beside_new : get_or W (block_size * b + count_at) 0 ≤ k → get_or W (block_size * b + count_at) 0 < capacity → (dst : ℕ) (D : List ℕ) → Makeable W ps n dst → Added W b (count_in W b) (object_of c n w v) dst D
-          → MadeIs W (make c (values_from W ps 0 n)) dst D (Value (Object (get_or W (block_size * b + count_at) 0) dst))
+        pub beside_found : (dst : ℕ) (W' : List ℕ) (r : ValueRef) → Gives W dst W' r (canon (graph_at W b k)) → MadeIs W (make c (values_from W ps 0 n)) dst W' (Some r)
+        beside_found dst = made_brought W W _ dst b k beside_held.held (beside_value k (fd.hit k ea)) (under dst W W (unchanged dst W))
+
+      pub beside_new : a ≡ None → get_or W (block_size * b + count_at) 0 < capacity → (dst : ℕ) (D : List ℕ) → Makeable W ps n dst → Added W b (count_in W b) (object_of c n w v) dst D
+          → MadeIs W (make c (values_from W ps 0 n)) dst D (Some (Object (get_or W (block_size * b + count_at) 0) dst))
       unfolding count_in objects_in
       beside_new ge h dst D mk ad =
           made_new b (get_or W (block_size * b + count_at) 0) dst D bk.packed (omega arith) bk.whole.inner fits bk.distinct
@@ -269,7 +273,7 @@ module _ (W : List ℕ) (c : ℕ) (ps : List Slot) (n w : ℕ) (held : PartsHeld
     unfolding raws_from some_object
     alone_fits = all_fit W [] n ps (λ i h. alone_fit (part_of ps i) (any_not (λ j. is_object (part_of ps j)) n i lv h))
 
-    pub alone_new : (dst l : ℕ) (D : List ℕ) → CodesLevel w l → block_size * dst + block_size ≤ length W → Appended W dst 0 (object_of c n w v) l D → MadeIs W (make c (values_from W ps 0 n)) dst D (Value (Object 0 dst))
+    pub alone_new : (dst l : ℕ) (D : List ℕ) → CodesLevel w l → block_size * dst + block_size ≤ length W → Appended W dst 0 (object_of c n w v) l D → MadeIs W (make c (values_from W ps 0 n)) dst D (Some (Object 0 dst))
     unfolding nodes_in
     alone_new dst l D ls room a =
         made_new dst 0 dst D (λ i h. absurd (omega arith)) (omega arith) (λ i f r e. absurd (none-ne-some r e)) alone_fits (record { apart = λ i j h. absurd (omega arith) }) (λ j h. absurd (omega arith)) room
@@ -293,6 +297,6 @@ fieldless_is c = refl
 pub fieldless_packed : (c : ℕ) → Packed (fieldless_object c) 0
 fieldless_packed c = subst (λ (T : List ℕ). Packed T 0) (fieldless_is c) (root_packed [] [] 0 unused_codes (root_none [] [] 0) 0 (numbers_none [] 0) (omega arith) (no_parts []) c)
 
-pub fieldless_new : (W : List ℕ) (c dst : ℕ) (D : List ℕ) → block_size * dst + block_size ≤ length W → Appended W dst 0 (object_of c 0 unused_codes 0) 0 D → MadeIs W (make c []) dst D (Value (Object 0 dst))
+pub fieldless_new : (W : List ℕ) (c dst : ℕ) (D : List ℕ) → block_size * dst + block_size ≤ length W → Appended W dst 0 (object_of c 0 unused_codes 0) 0 D → MadeIs W (make c []) dst D (Some (Object 0 dst))
 unfolding values_from
 fieldless_new W c dst D = alone_new W c [] 0 unused_codes (no_parts W) (root_none W [] 0) 0 (numbers_none [] 0) (omega arith) (leaves_none []) dst 0 D unused_level

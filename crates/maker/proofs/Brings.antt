@@ -2,7 +2,7 @@
 -- Not here: one part (Imported), the new object over the parts (Tries).
 use Prim.Native.Nat.{ℕ, zero, suc, ◌+◌, ◌-◌, ◌*◌, ◌%◌, ◌<◌, ◌≤◌}
 use native.Mathlib.Omega.{arith}
-use native.Mathlib.Decide.{dec_lt, ℕ_discrete}
+use native.Mathlib.Decide.{ℕ_discrete}
 use mathlib.Core.Path.{◌≡◌, refl, sym, ap, ap₂, ◌∙◌, subst}
 use mathlib.Core.Bool.{cond}
 use lib.Dec.{leb}
@@ -14,15 +14,15 @@ use Rattle.cofj.specs.Unfolding.{follow, Same, InRange}
 use Rattle.cofj.proofs.Unique.{same_canon}
 use Rattle.canon.specs.Figures.{code_count, undetermined_code, capacity, three_bytes}
 use Rattle.canon.specs.Layout.{ref_of, count_in, objects_in, graph_at, Inside, Beneath}
-use Rattle.canon.proofs.Nodes.{ref_object}
 use Rattle.values.specs.declared.ValueRef.{ValueRef}
 use Rattle.values.specs.declared.ValueRef.TheVariants.{Object, Mark, Number, Undetermined}
 use Rattle.values.specs.Layout.{value_of, raw_of, Holds}
 use Rattle.values.proofs.Blocks.{size_in, whole_at}
 use Rattle.values.proofs.Trees.{in_larger}
-use Rattle.maker.specs.Figures.{no_room, unused_codes}
-use Rattle.maker.specs.declared.Slot.{Slot}
-use Rattle.maker.specs.declared.Made.{Made}
+use Rattle.maker.specs.Figures.{unused_codes}
+use Rattle.maker.proofs.Answers.{only, never_none, never_some}
+use Rattle.std.specs.declared.option.Option.{Option as RustOption}
+use Rattle.std.specs.declared.option.Option.TheVariants.{Some, None}
 use Rattle.maker.specs.Laying.{values_from, PartsHeld, MadeIs}
 use Rattle.maker.specs.Adding.{codes_of, beside_of, part_of}
 use Rattle.maker.specs.Merging.{Grown, As, PartImported, Begun, AllWithin, RootBrought, PartsBrought}
@@ -33,7 +33,7 @@ use Rattle.maker.proofs.Makes.{beneath_more}
 use Rattle.maker.proofs.Enters.{grown_more, grown_none, other_block, other_inside}
 
 -- ---- their values
-pub same_values : (W W' : List ℕ) (n : ℕ) (ps : List Slot) → ((i : ℕ) → i < n → value_of W' (part_of ps i) ≡ value_of W (part_of ps i)) → map (λ s. value_of W' s.r) (take n ps) ≡ map (λ s. value_of W s.r) (take n ps)
+pub same_values : (W W' : List ℕ) (n : ℕ) (ps : List ValueRef) → ((i : ℕ) → i < n → value_of W' (part_of ps i) ≡ value_of W (part_of ps i)) → map (value_of W') (take n ps) ≡ map (value_of W) (take n ps)
 same_values W W' zero ps h = refl
 same_values W W' (suc n) [] h = refl
 same_values W W' (suc n) (s ∷ ps) h = ap₂ {A = Graph} {B = List Graph} {C = List Graph} ◌∷◌ (h 0 (omega arith)) (same_values W W' n ps (λ i l. h (suc i) (omega arith)))
@@ -71,10 +71,10 @@ module _ (host : ℕ) (W W' : List ℕ) (g : Grown host W W') where
   part_value (Number x) h = refl
   part_value Undetermined h = refl
 
-  pub parts_held : (ps : List Slot) (n : ℕ) → PartsHeld W ps n → PartsHeld W' ps n
+  pub parts_held : (ps : List ValueRef) (n : ℕ) → PartsHeld W ps n → PartsHeld W' ps n
   parts_held ps n h = record { full = h.full; part = λ i l. part_held (part_of ps i) (h.part i l) }
 
-  pub parts_values : (ps : List Slot) (n : ℕ) → PartsHeld W ps n → values_from W' ps 0 n ≡ values_from W ps 0 n
+  pub parts_values : (ps : List ValueRef) (n : ℕ) → PartsHeld W ps n → values_from W' ps 0 n ≡ values_from W ps 0 n
   unfolding values_from
   parts_values ps n h = same_values W W' n ps (λ i l. part_value (part_of ps i) (h.part i l))
 
@@ -107,26 +107,19 @@ first_byte : (w : ℕ) → get_or (codes_of w) 0 0 ≡ w % 256
 unfolding codes_of
 first_byte w = refl
 
-pub brought_none : (W : List ℕ) (ps : List Slot) (n host : ℕ) → RootBrought W ps n n W host unused_codes
+pub brought_none : (W : List ℕ) (ps : List ValueRef) (n host : ℕ) → RootBrought W ps n n W host unused_codes
 brought_none W ps n host = record { done = λ j l. absurd (omega arith); spare = λ j l h. spare_codes j h; stand = λ g old at. old }
 
-module _ (W : List ℕ) (ps : List Slot) (n i : ℕ) (W1 : List ℕ) (host w : ℕ) (held : PartsHeld W ps n) (g : Grown host W W1) (b : RootBrought W ps n i W1 host w) (le : i ≤ n) where
+module _ (W : List ℕ) (ps : List ValueRef) (n i : ℕ) (W1 : List ℕ) (host w : ℕ) (held : PartsHeld W ps n) (g : Grown host W W1) (b : RootBrought W ps n i W1 host w) (le : i ≤ n) where
   pub brought_held : 0 < i → (v : ValueRef) → v ≡ part_of ps (i - 1) → Holds W1 v
   brought_held h v e = part_held host W W1 g v (subst (Holds W) (sym e) (held.part (i - 1) (omega arith)))
 
-  pub brought_all : i ≤ 0 → PartsBrought W ps n host W1 w
-  brought_all h = let e : i ≡ 0 = omega arith in record { grown = g; done = λ _. subst (λ (k : ℕ). RootBrought W ps n k W1 host w) e b; over = λ z. absurd (not_full e z) }
-    where
-      not_full : i ≡ 0 → w % 256 ≡ no_room → ⊥
-      not_full e z = go (dec_lt 0 n)
-        where
-          go : Dec (0 < n) → ⊥
-          go (yes l) =
-              let c : capacity < count_in W1 host = subst (InRange (count_in W1 host)) (ap (λ (c : ℕ). ref_of c (beside_of (part_of ps (i + 0)))) (first_byte w ∙ z) ∙ ref_object capacity (beside_of (part_of ps (i + 0))) (omega arith)) (b.done 0 (omega arith)).low in
-              omega (arith, g.block.small)
-          go (no l) = let c : w % 256 ≡ undetermined_code = sym (first_byte w) ∙ b.spare 0 (omega (arith, l)) (omega arith) in omega arith
+  pub brought_all : i ≤ 0 → PartsBrought W ps n host W1 (Some w)
+  brought_all h =
+      let e : i ≡ 0 = omega arith in
+      record { grown = g; done = only (RootBrought W ps n 0 W1 host) w (subst (λ (k : ℕ). RootBrought W ps n k W1 host w) e b); over = never_none w }
 
-  module _ (h : 0 < i) (v : ValueRef) (e : v ≡ part_of ps (i - 1)) (W2 : List ℕ) (r : ℕ) (pi : PartImported W1 v host W2 r) where
+  module _ (h : 0 < i) (v : ValueRef) (e : v ≡ part_of ps (i - 1)) (W2 : List ℕ) (a : RustOption ℕ) (pi : PartImported W1 v host W2 a) where
     pub brought_grown : Grown host W W2
     brought_grown = grown_more host W W1 W2 g pi.grown
 
@@ -136,17 +129,17 @@ module _ (W : List ℕ) (ps : List Slot) (n i : ℕ) (W1 : List ℕ) (host w : �
     part-within : (x : Graph) → AllWithin W ps n x → Within (raw_of W1 v) x
     part-within x ws = within_same (raw_of W v) (raw_of W1 v) x (part_tree host W W1 g v part-held_in) (subst (λ (u : ValueRef). Within (raw_of W u) x) (sym e) (ws (i - 1) (omega arith)))
 
-    pub brought_fails : r ≡ no_room → PartsBrought W ps n host W2 no_room
-    brought_fails z = record { grown = brought_grown; done = λ u. absurd (u refl); over = λ _ x old ws. pi.over z x (b.stand x old ws) (part-within x ws) }
+    pub brought_fails : a ≡ None → PartsBrought W ps n host W2 None
+    brought_fails z = record { grown = brought_grown; done = never_some _; over = λ _ x old ws. pi.over z x (b.stand x old ws) (part-within x ws) }
 
-    pub brought_more : n ≤ code_count → r < 256 → ((r ≡ no_room) → ⊥) → RootBrought W ps n (i - 1) W2 host (r + 256 * (w % three_bytes))
-    brought_more few lr d = record { done = done; spare = spare; stand = λ x old ws. pi.stand d x (b.stand x old ws) (part-within x ws) }
+    pub brought_more : n ≤ code_count → (r : ℕ) → a ≡ Some r → r < 256 → RootBrought W ps n (i - 1) W2 host (r + 256 * (w % three_bytes))
+    brought_more few r d lr = record { done = done; spare = spare; stand = λ x old ws. pi.stand r d x (b.stand x old ws) (part-within x ws) }
       where
         now_like : As W v W2 host r
         now_like = record {
-          low = (pi.like d).low;
-          plain = (pi.like d).plain;
-          same = λ p. part_tree host W W1 g v part-held_in p ∙ (pi.like d).same p;
+          low = (pi.like r d).low;
+          plain = (pi.like r d).plain;
+          same = λ p. part_tree host W W1 g v part-held_in p ∙ (pi.like r d).same p;
         }
 
         done : (j : ℕ) → i - 1 + j < n → As W (part_of ps (i - 1 + j)) W2 host (get_or (codes_of (r + 256 * (w % three_bytes))) j 0)
@@ -166,7 +159,7 @@ brought_start W base host bg = grown_none host W bg.target
 pub beneath_grown : (host dst : ℕ) (W W' : List ℕ) → dst ≤ host → Grown host W W' → Beneath dst W W'
 beneath_grown host dst W W' h g = record { same = g.outside.same; below = λ p l. g.outside.below p (omega arith) }
 
-pub made_from : (W W1 : List ℕ) (c : ℕ) (ps : List Slot) (n dst : ℕ) (W2 : List ℕ) (o : Made) → Beneath dst W W1 → values_from W1 ps 0 n ≡ values_from W ps 0 n
+pub made_from : (W W1 : List ℕ) (c : ℕ) (ps : List ValueRef) (n dst : ℕ) (W2 : List ℕ) (o : RustOption ValueRef) → Beneath dst W W1 → values_from W1 ps 0 n ≡ values_from W ps 0 n
     → MadeIs W1 (make c (values_from W1 ps 0 n)) dst W2 o → MadeIs W (make c (values_from W ps 0 n)) dst W2 o
 made_from W W1 c ps n dst W2 o b e m = record {
   held = m.held;

@@ -9,6 +9,8 @@ use mathlib.Core.List.{List, [], ◌∷◌}
 use lib.Dec.{eqb}
 use lib.ListN.{length, get_or, set}
 use borrow.Author.Tests.{eqb-true, eq-eqb}
+use mir.Syntax.{w32}
+use Rattle.std.specs.Int.{to_le_bytes}
 use Rattle.cofj.specs.Values.{eq_nats}
 use Rattle.cofj.proofs.Basics.{eq_nats_true}
 use Rattle.canon.specs.Figures.{object_size, numbers_at, blank_at, three_bytes, four_bytes}
@@ -121,16 +123,14 @@ module _ (W : List ℕ) (p c n w v : ℕ) (h : p + object_size ≤ length W) whe
           (λ e. eq-eqb _ _ (byte_of (eq_nats_true _ _ e) 1 (omega arith) ∙ object_count c n w v))
 
 -- ---- the bytes written
-pub four-put : (W : List ℕ) (p x : ℕ) → p + 4 ≤ length W
-    → Carried (codes_of x) 0 W p 4 (set (set (set (set W p (x % 256)) (p + 1) (x / 256 % 256)) (p + 2) (x / 65536 % 256)) (p + 3) (x / three_bytes))
+pub bytes_are_codes : (x : ℕ) → x < four_bytes → to_le_bytes w32 x ≡ codes_of x
 unfolding codes_of
-four-put W p x h =
-    let T : List ℕ = codes_of x in
-    let z : p + 0 ≡ p = omega arith in
-    let c1 : Carried T 0 W p 1 (set W p (x % 256)) = rw z at (carry_more T 0 W p 0 W 4 (carry_none T 0 W p) (omega arith) h) in
-    let c2 : Carried T 0 W p 2 _ = carry_more T 0 W p 1 _ 4 c1 (omega arith) h in
-    let c3 : Carried T 0 W p 3 _ = carry_more T 0 W p 2 _ 4 c2 (omega arith) h in
-    carry_more T 0 W p 3 _ 4 c3 (omega arith) h
+bytes_are_codes x h =
+    let last : x / three_bytes % 256 ≡ x / three_bytes = omega arith in
+    ap (λ (d : ℕ). x % 256 ∷ x / 256 % 256 ∷ x / 65536 % 256 ∷ d ∷ []) last
+
+pub four-put : (W W' B : List ℕ) (p x : ℕ) → x < four_bytes → B ≡ to_le_bytes w32 x → Carried B 0 W p 4 W' → Carried (codes_of x) 0 W p 4 W'
+four-put W W' B p x h e c = subst (λ (T : List ℕ). Carried T 0 W p 4 W') (e ∙ bytes_are_codes x h) c
 
 -- one run after another
 carry_on : (T S W : List ℕ) (p k m q : ℕ) (D E : List ℕ) → q ≡ p + k → Carried T 0 W p k D → Carried S 0 D q m E → ((j : ℕ) → j < m → get_or T (k + j) 0 ≡ get_or S j 0) → Carried T 0 W p (k + m) E

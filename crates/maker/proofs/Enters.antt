@@ -19,9 +19,11 @@ use Rattle.canon.proofs.Nodes.{byte_of, packed_byte, length_nodes, at_nodes}
 use Rattle.values.proofs.Trees.{in_larger}
 use Rattle.values.proofs.Copies.{block_moves}
 use Rattle.values.proofs.Selecting.{unchanged}
-use Rattle.maker.specs.Figures.{no_room}
+use Rattle.std.specs.declared.option.Option.{Option}
+use Rattle.std.specs.declared.option.Option.TheVariants.{Some, None}
 use Rattle.maker.specs.Adding.{codes_of, object_of, CodesLevel, Missed, Found, Appended, Added}
-use Rattle.maker.specs.Merging.{Grown, Fits, Entered, lies_from, refers_from}
+use Rattle.maker.specs.Merging.{Grown, Fits, Standing, Entered, lies_from, refers_from}
+use Rattle.maker.proofs.Answers.{only, never_none, never_some}
 use Rattle.maker.proofs.Codes.{object_code}
 use Rattle.maker.proofs.Adding.{more, old_tree, at_new}
 use Rattle.maker.proofs.Beside.{outside_more, add_here, objects_are, block_added}
@@ -62,30 +64,28 @@ module _ (W : List ℕ) (host : ℕ) (T : List ℕ) (bk : Block W host) (ft : Fi
   unfolding count_in
   enter_count = refl
 
-  pub enter_full : Missed W host T (count_in W host) → capacity ≤ get_or W (block_size * host + count_at) 0 → Entered W host T W no_room
+  pub enter_full : Missed W host T (count_in W host) → capacity ≤ get_or W (block_size * host + count_at) 0 → Entered W host T W None
   unfolding count_in
   enter_full ms h =
       let e : get_or W (block_size * host + count_at) 0 ≡ capacity = omega (arith, bk.small) in
       record {
         grown = grown_none host W bk;
-        few = omega arith;
-        standing = λ z. absurd (z refl);
+        standing = never_some _;
         from = λ y l. inl l;
         full = λ _. (e, subst (Missed W host T) e ms, refl);
       }
 
-  module _ (k : ℕ) (fd : Found W host (get_or W (block_size * host + count_at) 0) T k) where
-    pub enter_found : k < get_or W (block_size * host + count_at) 0 → Entered W host T W k
+  module _ (a : Option ℕ) (fd : Found W host (get_or W (block_size * host + count_at) 0) T a) where
+    pub enter_found : (k : ℕ) → a ≡ Some k → Entered W host T W (Some k)
     unfolding count_in objects_in
-    enter_found h = record {
+    enter_found k ea = let hit = fd.hit k ea in record {
       grown = grown_none host W bk;
-      few = omega (arith, bk.small);
-      standing = λ _. record { low = h; is = at_nodes W (block_size * host) (get_or W (block_size * host + count_at) 0) k h ∙ fd.hit h };
+      standing = only (Standing W host T) k (record { low = hit.low; is = at_nodes W (block_size * host) (get_or W (block_size * host + count_at) 0) k hit.low ∙ hit.is });
       from = λ y l. inl l;
-      full = λ z. absurd (omega (arith, bk.small));
+      full = never_none k;
     }
 
-    pub enter_missed : get_or W (block_size * host + count_at) 0 ≤ k → Missed W host T (count_in W host)
+    pub enter_missed : a ≡ None → Missed W host T (count_in W host)
     unfolding count_in
     enter_missed ge = fd.miss ge
 
@@ -134,22 +134,21 @@ module _ (W : List ℕ) (host c n w v : ℕ) (bk : Block W host) (ft : Fits W ho
         sym (old_tree (node_in T 0) ns inner above r (subst (λ (m : ℕ). InRange m r) (sym (length_nodes W (block_size * host) t)) q) p)
         ∙ ap (λ (x : List Node). follow x r p) (sym are)
 
-    pub enter_new_lem : Entered W host (object_of c n w v) D (get_or W (block_size * host + count_at) 0)
+    pub enter_new_lem : Entered W host (object_of c n w v) D (Some (get_or W (block_size * host + count_at) 0))
     unfolding count_in
     enter_new_lem = record {
       grown = record { outside = a.outside; block = grown_block; most = omega (arith, a.count); trees = kept_trees };
-      few = omega arith;
-      standing = λ _. record {
+      standing = only (Standing D host (object_of c n w v)) t (record {
         low = omega (arith, a.count);
         is = ap (λ (x : List Node). node_at x t) are ∙ ap (node_at (more ns (node_in T 0))) (sym (length_nodes W (block_size * host) t)) ∙ at_new (node_in T 0) ns inner above;
-      };
+      });
       from = λ y l. from y l (dec_lt y t);
-      full = λ z. absurd (omega arith);
+      full = never_none t;
     }
       where
-        from : (y : ℕ) → y < get_or D (block_size * host + count_at) 0 → Dec (y < t) → (y < t) ⊎ (y ≡ t)
+        from : (y : ℕ) → y < get_or D (block_size * host + count_at) 0 → Dec (y < t) → (y < t) ⊎ (◌≡◌ {A = Option ℕ} (Some t) (Some y))
         from y l (yes q) = inl q
-        from y l (no q) = inr (omega (arith, a.count, q))
+        from y l (no q) = let e : t ≡ y = omega (arith, a.count, q) in inr (ap Some e)
 
 -- ---- an object that refers to one that none refers to
 module _ (c f : ℕ) where

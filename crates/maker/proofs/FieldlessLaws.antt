@@ -20,7 +20,7 @@ use Rattle.values.specs.Layout.{Holds}
 use Rattle.values.proofs.Kept.{object_kept}
 use Rattle.values.proofs.Selecting.{unchanged, under}
 use Rattle.maker.specs.Figures.{preset_count, unused_codes}
-use Rattle.maker.specs.declared.Made.TheVariants.{Value}
+use Rattle.std.specs.declared.option.Option.TheVariants.{Some}
 use Rattle.maker.specs.Laying.{values_from, MadeIs}
 use Rattle.maker.specs.Adding.{codes_of, object_of}
 use Rattle.maker.specs.Fieldless.{fieldless_object, Preset, Fieldless, LaidFieldless}
@@ -145,9 +145,9 @@ module _ (W : List ℕ) (b : Fieldless W) where
     unfolding values_from count_in object_of codes_of
     fieldless_value =
         beside_value W c [] 0 unused_codes (no_parts W) (root_none W [] 0) 0 (numbers_none [] 0) (omega arith) 0 b.block (each_none [] 0 0) c
-        (record { hit = λ _. fieldless_node c h; miss = λ l. absurd (omega (arith, b.count)) }) (omega (arith, b.count))
+        (record { low = omega (arith, b.count); is = fieldless_node c h })
 
-    pub fieldless_made : MadeIs W (make c []) dst W (Value (Object c 0))
+    pub fieldless_made : MadeIs W (make c []) dst W (Some (Object c 0))
     fieldless_made = made_here W W _ dst 0 c (fieldless_held c h).held fieldless_value (under dst W W (unchanged dst W)) (omega arith)
 
 pub fieldless_kept : (b : ℕ) (W W' : List ℕ) → Beneath b W W' → 0 < b → Fieldless W → Fieldless W'

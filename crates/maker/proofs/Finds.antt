@@ -17,11 +17,12 @@ use Rattle.values.specs.declared.ValueRef.{ValueRef}
 use Rattle.values.specs.declared.ValueRef.TheVariants.{Object, Mark, Number, Undetermined}
 use Rattle.values.specs.Layout.{raw_of, Holds}
 use Rattle.maker.specs.Figures.{unused_codes, three_pairs}
-use Rattle.maker.specs.declared.Slot.{Slot}
 use Rattle.maker.specs.Laying.{raws_from, PartsHeld}
-use Rattle.maker.specs.Adding.{codes_of, pairs_of, object_of, roots, RootObject, beside_of, RootCodes, RootNumbers, Missed, Found, part_of}
+use Rattle.std.specs.declared.option.Option.TheVariants.{Some, None}
+use Rattle.maker.specs.Adding.{Hit, codes_of, pairs_of, object_of, roots, RootObject, beside_of, RootCodes, RootNumbers, Missed, Found, part_of}
+use Rattle.maker.proofs.Answers.{only, never_none, never_some}
 use Rattle.maker.proofs.Codes.{object_class, object_count, object_ref, object_length, object_whole, spare_codes, spare_numbers, first_code, next_code, first_number, next_number, codes_packed}
-use Rattle.maker.proofs.Makes.{none_slot}
+use Rattle.maker.proofs.Makes.{no_part}
 
 -- ---- the new object
 module _ (W : List ℕ) (r : ValueRef) where
@@ -70,13 +71,13 @@ root_plain W (Number x) d = absurd (d refl)
 root_plain W Undetermined d = refl
 
 -- the codes of the parts, from the last to the first
-pub root_none : (W : List ℕ) (ps : List Slot) (n : ℕ) → RootCodes W ps n n unused_codes
+pub root_none : (W : List ℕ) (ps : List ValueRef) (n : ℕ) → RootCodes W ps n n unused_codes
 root_none W ps n = record { done = λ j l. absurd (omega arith); spare = λ j l h. spare_codes j h }
 
-pub root_held : (W : List ℕ) (ps : List Slot) (n i : ℕ) (v : ValueRef) → PartsHeld W ps n → 0 < i → i ≤ n → v ≡ part_of ps (i - 1) → Holds W v
+pub root_held : (W : List ℕ) (ps : List ValueRef) (n i : ℕ) (v : ValueRef) → PartsHeld W ps n → 0 < i → i ≤ n → v ≡ part_of ps (i - 1) → Holds W v
 root_held W ps n i v held h le e = subst (Holds W) (sym e) (held.part (i - 1) (omega arith))
 
-pub root_more : (W : List ℕ) (ps : List Slot) (n i w : ℕ) (v : ValueRef) (x : ℕ) → RootCodes W ps n i w → 0 < i → i ≤ n → n ≤ code_count → x < 256
+pub root_more : (W : List ℕ) (ps : List ValueRef) (n i w : ℕ) (v : ValueRef) (x : ℕ) → RootCodes W ps n i w → 0 < i → i ≤ n → n ≤ code_count → x < 256
     → v ≡ part_of ps (i - 1) → x ≡ code_of (raw_of W v).root → RootCodes W ps n (i - 1) (x + 256 * (w % three_bytes))
 root_more W ps n i w v x b h le few lx ev ex = record { done = done; spare = spare }
   where
@@ -88,14 +89,14 @@ root_more W ps n i w v x b h le few lx ev ex = record { done = done; spare = spa
     spare zero l m = absurd (omega arith)
     spare (suc j) l m = next_code x w lx j (omega arith) ∙ b.spare j (omega arith) (omega arith)
 
-pub root_done : (W : List ℕ) (ps : List Slot) (n i w : ℕ) → RootCodes W ps n i w → i ≤ 0 → RootCodes W ps n 0 w
+pub root_done : (W : List ℕ) (ps : List ValueRef) (n i w : ℕ) → RootCodes W ps n i w → i ≤ 0 → RootCodes W ps n 0 w
 root_done W ps n i w b h = let e : i ≡ 0 = omega arith in subst (λ (k : ℕ). RootCodes W ps n k w) e b
 
 -- and their numbers
-pub numbers_none : (ps : List Slot) (n : ℕ) → RootNumbers ps n n 0
+pub numbers_none : (ps : List ValueRef) (n : ℕ) → RootNumbers ps n n 0
 numbers_none ps n = record { done = λ j l. absurd (omega arith); spare = λ j l h. spare_numbers j h }
 
-pub numbers_more : (ps : List Slot) (n i v : ℕ) (r : ValueRef) (x : ℕ) → RootNumbers ps n i v → 0 < i → i ≤ n → n ≤ code_count → x < 65536 → r ≡ part_of ps (i - 1) → x ≡ beside_of r
+pub numbers_more : (ps : List ValueRef) (n i v : ℕ) (r : ValueRef) (x : ℕ) → RootNumbers ps n i v → 0 < i → i ≤ n → n ≤ code_count → x < 65536 → r ≡ part_of ps (i - 1) → x ≡ beside_of r
     → RootNumbers ps n (i - 1) (x + 65536 * (v % three_pairs))
 numbers_more ps n i v r x b h le few lx er ex = record { done = done; spare = spare }
   where
@@ -107,11 +108,11 @@ numbers_more ps n i v r x b h le few lx er ex = record { done = done; spare = sp
     spare zero l m = absurd (omega arith)
     spare (suc j) l m = next_number x v lx j (omega arith) ∙ b.spare j (omega arith) (omega arith)
 
-pub numbers_done : (ps : List Slot) (n i v : ℕ) → RootNumbers ps n i v → i ≤ 0 → RootNumbers ps n 0 v
+pub numbers_done : (ps : List ValueRef) (n i v : ℕ) → RootNumbers ps n i v → i ≤ 0 → RootNumbers ps n 0 v
 numbers_done ps n i v b h = let e : i ≡ 0 = omega arith in subst (λ (k : ℕ). RootNumbers ps n k v) e b
 
 -- the numbers beside codes that have none but beside the code of numbers
-pub numbers_plain : (ps : List Slot) (n v : ℕ) → RootNumbers ps n 0 v → (c : ℕ → ℕ) → ((j : ℕ) → j < n → ((c j ≡ number_code) → ⊥) → beside_of (part_of ps j) ≡ 0)
+pub numbers_plain : (ps : List ValueRef) (n v : ℕ) → RootNumbers ps n 0 v → (c : ℕ → ℕ) → ((j : ℕ) → j < n → ((c j ≡ number_code) → ⊥) → beside_of (part_of ps j) ≡ 0)
     → (j : ℕ) → j < code_count → ((c j ≡ number_code) → ⊥) → get_or (pairs_of v) j 0 ≡ 0
 numbers_plain ps n v rn c p j l d = go (dec_lt j n)
   where
@@ -122,22 +123,22 @@ numbers_plain ps n v rn c p j l d = go (dec_lt j n)
     go (yes h) = rn.done j (omega arith) ∙ rw z (p j h d)
     go (no h) = rn.spare j (omega (arith, h)) l
 
-root_refs : (W : List ℕ) (ps : List Slot) (n : ℕ) (T : List ℕ) → n ≤ code_count → PartsHeld W ps n → ((j : ℕ) → j < n → ref_in T 0 j ≡ (raw_of W (part_of ps j)).root)
+root_refs : (W : List ℕ) (ps : List ValueRef) (n : ℕ) (T : List ℕ) → n ≤ code_count → PartsHeld W ps n → ((j : ℕ) → j < n → ref_in T 0 j ≡ (raw_of W (part_of ps j)).root)
     → take n (four T 0) ≡ roots (raws_from W ps 0 n)
 unfolding raws_from
 root_refs W ps n T few held code =
     let lp : length (take n ps) ≡ n = length-take-le n ps held.full in
-    let lg : length (map (λ s. raw_of W s.r) (take n ps)) ≡ n = length-map (take n ps) (λ s. raw_of W s.r) ∙ lp in
+    let lg : length (map (raw_of W) (take n ps)) ≡ n = length-map (take n ps) (raw_of W) ∙ lp in
     let lt : length (take n (four T 0)) ≡ n = omega (arith, length-take n (four T 0)) in
-    ext_get_or (leaf undet) (take n (four T 0)) (roots (map (λ s. raw_of W s.r) (take n ps)))
-    (lt ∙ sym lg ∙ sym (length-map (map (λ s. raw_of W s.r) (take n ps)) (λ g. g.root)))
+    ext_get_or (leaf undet) (take n (four T 0)) (roots (map (raw_of W) (take n ps)))
+    (lt ∙ sym lg ∙ sym (length-map (map (raw_of W) (take n ps)) (λ g. g.root)))
     (λ j h. let h' : j < n = omega arith in
     get_or-take n (four T 0) j (leaf undet) h' ∙ four_at_lem T 0 j (omega arith) ∙ code j h'
-    ∙ ap (λ (s : Slot). (raw_of W s.r).root) (sym (get_or-take n ps j none_slot h'))
-    ∙ ap (λ (g : Graph). g.root) (sym (get_d_map_lt (λ s. raw_of W s.r) (take n ps) j (graph (leaf undet) []) none_slot (omega arith)))
-    ∙ sym (get_d_map_lt (λ g. g.root) (map (λ s. raw_of W s.r) (take n ps)) j (leaf undet) (graph (leaf undet) []) (omega arith)))
+    ∙ ap (λ (s : ValueRef). (raw_of W s).root) (sym (get_or-take n ps j no_part h'))
+    ∙ ap (λ (g : Graph). g.root) (sym (get_d_map_lt (raw_of W) (take n ps) j (graph (leaf undet) []) no_part (omega arith)))
+    ∙ sym (get_d_map_lt (λ g. g.root) (map (raw_of W) (take n ps)) j (leaf undet) (graph (leaf undet) []) (omega arith)))
 
-module _ (W : List ℕ) (ps : List Slot) (n w : ℕ) (rc : RootCodes W ps n 0 w) (v : ℕ) (rn : RootNumbers ps n 0 v) (few : n ≤ code_count) (held : PartsHeld W ps n) (c : ℕ) where
+module _ (W : List ℕ) (ps : List ValueRef) (n w : ℕ) (rc : RootCodes W ps n 0 w) (v : ℕ) (rn : RootNumbers ps n 0 v) (few : n ≤ code_count) (held : PartsHeld W ps n) (c : ℕ) where
   root_code : (j : ℕ) → j < n → get_or (codes_of w) j 0 ≡ code_of (raw_of W (part_of ps j)).root
   root_code j h = let e : 0 + j ≡ j = omega arith in rw e at (rc.done j (omega arith))
 
@@ -180,8 +181,8 @@ module _ (W : List ℕ) (b t c n w v k : ℕ) (bk : Block W b) (et : t ≡ count
             false≢true (sym f ∙ sym test ∙ ap (λ (x : Node). eq_node x (node_in (object_of c n w v) 0)) (ap (λ (i : ℕ). node_in W (block_size * b + object_size * i)) (sym z) ∙ e) ∙ eq_node_refl (node_in (object_of c n w v) 0))
         go j l (no z) e = m.none j (omega (arith, z)) e
 
-    pub find_hit : r ≡ true → Found W b t (object_of c n w v) k
-    find_hit e = record { hit = λ _. eq_node_true _ _ (test ∙ e); miss = λ l. absurd (omega arith) }
+    pub find_hit : r ≡ true → Found W b t (object_of c n w v) (Some k)
+    find_hit e = record { hit = only (Hit W b t (object_of c n w v)) k (record { low = h; is = eq_node_true _ _ (test ∙ e) }); miss = never_none k }
 
-  pub find_miss : t ≤ k → k ≤ t → Found W b t (object_of c n w v) t
-  find_miss h l = record { hit = λ z. absurd (omega arith); miss = λ _. record { none = λ j q. m.none j (omega arith) } }
+  pub find_miss : t ≤ k → Found W b t (object_of c n w v) None
+  find_miss h = record { hit = never_some _; miss = λ _. record { none = λ j q. m.none j (omega arith) } }

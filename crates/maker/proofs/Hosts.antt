@@ -5,12 +5,10 @@ use native.Mathlib.Omega.{arith}
 use mathlib.Core.Path.{◌≡◌, refl, sym, ap, ap₂, ◌∙◌, subst}
 use mathlib.Core.Bool.{Bool, true, false, cond, false≢true}
 use lib.Dec.{eqb, ltb}
-use mathlib.Core.List.{List, [], ◌∷◌}
+use mathlib.Core.List.{List, []}
 use mathlib.Core.Option.{none-ne-some}
 use lib.ListN.{length, get_or}
 use borrow.Author.Tests.{lt-ltb, le-ltb, eq-eqb, ne_eqb, eqb-true, lt-leb}
-use types.Run.{OneOf}
-use denote.Enum.Declared.{tag_of}
 use Rattle.cofj.specs.Values.{Node, make}
 use Rattle.cofj.specs.Unfolding.{follow, Whole}
 use Rattle.cofj.proofs.Operations.{make-whole}
@@ -25,12 +23,8 @@ use Rattle.values.proofs.Tests.{any_there, any_not}
 use Rattle.values.proofs.Blocks.{held_room, no_object, size_in}
 use Rattle.values.proofs.Copies.{block_moves}
 use Rattle.values.proofs.Kept.{Kept, kept}
-use Rattle.maker.specs.declared.Slot.{Slot}
-use Rattle.maker.specs.declared.Made.{Made}
-use Rattle.maker.specs.declared.Made.TheVariants.{Value, TooLarge}
-use Rattle.maker.specs.declared.merge.Tried.{Tried}
-use Rattle.maker.specs.declared.merge.Tried.TheVariants.{Here}
-use Rattle.maker.specs.contracts.merge.Tried as TriedT
+use Rattle.std.specs.declared.option.Option.{Option as RustOption}
+use Rattle.std.specs.declared.option.Option.TheVariants.{Some, None}
 use Rattle.maker.specs.Laying.{values_from, raws_from, PartsHeld, Makeable, MadeIs}
 use Rattle.maker.specs.Adding.{Emptied, part_of}
 use Rattle.maker.specs.Merging.{Grown, TriedIs, Begun, some_in, larger_of, largest_of}
@@ -38,24 +32,18 @@ use Rattle.maker.proofs.Crowds.{crowd_large}
 use Rattle.maker.proofs.Makes.{raws_whole, made_raw}
 use Rattle.maker.proofs.Enters.{other_block}
 use Rattle.maker.proofs.Brings.{beneath_grown, made_from, parts_held, parts_values, same_values}
-use Rattle.maker.proofs.Tries.{no_room_lem, too_small}
 
 -- ---- the host
 pub lies_object : (d : ℕ) (v : ValueRef) (x i : ℕ) → v ≡ Object i x → eqb x d ≡ lies_in d v
 unfolding lies_in
 lies_object d v x i e = rw e
 
-pub lies_mark : (d : ℕ) (v : ValueRef) (k : ℕ) → v ≡ Mark k → false ≡ lies_in d v
+pub lies_else : (d : ℕ) (v : ValueRef) → ((i x : ℕ) → v ≡ Object i x → ⊥) → false ≡ lies_in d v
 unfolding lies_in
-lies_mark d v k e = rw e
-
-pub lies_number : (d : ℕ) (v : ValueRef) (x : ℕ) → v ≡ Number x → false ≡ lies_in d v
-unfolding lies_in
-lies_number d v x e = rw e
-
-pub lies_undet : (d : ℕ) (v : ValueRef) → v ≡ Undetermined → false ≡ lies_in d v
-unfolding lies_in
-lies_undet d v e = rw e
+lies_else d (Object i x) n = absurd (n i x refl)
+lies_else d (Mark k) n = refl
+lies_else d (Number x) n = refl
+lies_else d Undetermined n = refl
 
 lies_block : (W : List ℕ) (d : ℕ) (v : ValueRef) → Holds W v → lies_in d v ≡ true → Block W d
 unfolding lies_in
@@ -64,23 +52,21 @@ lies_block W d (Mark k) h e = absurd (false≢true e)
 lies_block W d (Number x) h e = absurd (false≢true e)
 lies_block W d Undetermined h e = absurd (false≢true e)
 
-module _ (ps : List Slot) (n d : ℕ) where
+module _ (ps : List ValueRef) (n d : ℕ) where
   abbrev lies : ℕ → Bool
   lies i = lies_in d (part_of ps i)
 
-  module _ (i : ℕ) (v : ValueRef) (r : Bool) (ev : v ≡ part_of ps i) (er : r ≡ lies_in d v) where
-    answer : lies i ≡ r
-    answer = ap (lies_in d) (sym ev) ∙ sym er
-
-    pub some_less : (m : ℕ) → some_in ps n d ≡ some_in ps m d → 0 < m → m - 1 ≡ i → r ≡ false → some_in ps n d ≡ some_in ps i d
+  -- part m - 1 read
+  module _ (m : ℕ) (r : Bool) (er : r ≡ lies_in d (part_of ps (m - 1))) where
+    pub some_less : some_in ps n d ≡ some_in ps m d → 0 < m → r ≡ false → some_in ps n d ≡ some_in ps (m - 1) d
     unfolding some_in any
-    some_less m a h em e =
-        let z : m ≡ suc i = omega arith in
-        a ∙ ap (any lies) z ∙ rw (answer ∙ e)
+    some_less a h e =
+        let z : m ≡ suc (m - 1) = omega arith in
+        a ∙ ap (any lies) z ∙ rw (sym er ∙ e)
 
-    pub some_there : (m : ℕ) → m ≤ n → 0 < m → m - 1 ≡ i → r ≡ true → true ≡ some_in ps n d
+    pub some_there : m ≤ n → 0 < m → r ≡ true → true ≡ some_in ps n d
     unfolding some_in
-    some_there m l h em e = sym (any_there lies n i (omega arith) (answer ∙ e))
+    some_there l h e = sym (any_there lies n (m - 1) (omega arith) (sym er ∙ e))
 
   pub some_none : (i : ℕ) → some_in ps n d ≡ some_in ps i d → i ≤ 0 → false ≡ some_in ps n d
   unfolding some_in any
@@ -94,7 +80,7 @@ begun_here : (W : List ℕ) (b : ℕ) → Block W b → Begun W b b
 begun_here W b bk = record { source = bk; target = bk; most = omega arith; trees = λ r h p. refl }
 
 -- a block where a part lies
-module _ (W : List ℕ) (ps : List Slot) (n d : ℕ) (held : PartsHeld W ps n) where
+module _ (W : List ℕ) (ps : List ValueRef) (n d : ℕ) (held : PartsHeld W ps n) where
   lying_at : (i : ℕ) → i ≤ n → some_in ps i d ≡ true → Block W d
   unfolding some_in any
   lying_at zero h e = absurd (false≢true e)
@@ -138,7 +124,7 @@ larger_block W (Mark k) b h bk = bk
 larger_block W (Number x) b h bk = bk
 larger_block W Undetermined b h bk = bk
 
-module _ (W : List ℕ) (ps : List Slot) (n b : ℕ) where
+module _ (W : List ℕ) (ps : List ValueRef) (n b : ℕ) where
   pub largest_none : b ≡ largest_of W ps 0 b
   unfolding largest_of
   largest_none = refl
@@ -169,7 +155,7 @@ module _ (W : List ℕ) (ps : List Slot) (n b : ℕ) where
     largest_begun d e = begun_here W d (largest_block d e)
 
 -- ---- what making asks still holds
-module _ (W : List ℕ) (ps : List Slot) (n dst : ℕ) (mk : Makeable W ps n dst) where
+module _ (W : List ℕ) (ps : List ValueRef) (n dst : ℕ) (mk : Makeable W ps n dst) where
   pub makeable_room : block_size * dst + block_size ≤ length W
   makeable_room = omega (arith, mk.under, mk.room)
 
@@ -183,22 +169,22 @@ module _ (W : List ℕ) (ps : List Slot) (n dst : ℕ) (mk : Makeable W ps n dst
   kept_makeable W1 e h = record { held = h; few = mk.few; below = mk.below; under = mk.under; room = omega (arith, mk.room, e) }
 
   -- after a host that had no room
-  module _ (host : ℕ) (le : dst ≤ host) (c : ℕ) (W1 : List ℕ) (o : Tried) (to : TriedIs W (make c (values_from W ps 0 n)) host dst W1 o) where
-    grown : OneOf (1 ∷ []) (tag_of TriedT.the_type o) → Grown host W W1
-    grown = no_room_lem W (make c (values_from W ps 0 n)) host dst W1 o to
+  module _ (host : ℕ) (le : dst ≤ host) (c : ℕ) (W1 : List ℕ) (o : RustOption ValueRef) (to : TriedIs W (make c (values_from W ps 0 n)) host dst W1 o) where
+    grown : o ≡ None → Grown host W W1
+    grown = to.none
 
-    module _ (t : OneOf (1 ∷ []) (tag_of TriedT.the_type o)) where
+    module _ (t : o ≡ None) where
       pub tried_makeable : Makeable W1 ps n dst
       tried_makeable = kept_makeable W1 (grown t).outside.same (parts_held host W W1 (grown t) ps n mk.held)
 
-      pub tried_made : (W2 : List ℕ) (q : Made) → MadeIs W1 (make c (values_from W1 ps 0 n)) dst W2 q → MadeIs W (make c (values_from W ps 0 n)) dst W2 q
+      pub tried_made : (W2 : List ℕ) (q : RustOption ValueRef) → MadeIs W1 (make c (values_from W1 ps 0 n)) dst W2 q → MadeIs W (make c (values_from W ps 0 n)) dst W2 q
       tried_made W2 q m = made_from W W1 c ps n dst W2 q (beneath_grown host dst W W1 le (grown t)) (parts_values host W W1 (grown t) ps n mk.held) m
 
-    pub tried_here : (v : ValueRef) → o ≡ Here v → MadeIs W (make c (values_from W ps 0 n)) dst W1 (Value v)
+    pub tried_here : (v : ValueRef) → o ≡ Some v → MadeIs W (make c (values_from W ps 0 n)) dst W1 (Some v)
     tried_here v e = to.here v e
 
 -- ---- a block written, where no part lies
-module _ (W : List ℕ) (b : ℕ) (W1 : List ℕ) (o : Outside b W W1) (ps : List Slot) (n : ℕ) (held : PartsHeld W ps n) (away : (i : ℕ) → i < n → lies_in b (part_of ps i) ≡ false) where
+module _ (W : List ℕ) (b : ℕ) (W1 : List ℕ) (o : Outside b W W1) (ps : List ValueRef) (n : ℕ) (held : PartsHeld W ps n) (away : (i : ℕ) → i < n → lies_in b (part_of ps i) ≡ false) where
   keeps : (i : ℕ) → i < n → Kept W W1 (part_of ps i)
   keeps i h = kept b W W1 o (part_of ps i) (away i h) (held.part i h)
 
@@ -209,10 +195,10 @@ module _ (W : List ℕ) (b : ℕ) (W1 : List ℕ) (o : Outside b W W1) (ps : Lis
   unfolding values_from
   away_values = same_values W W1 n ps (λ i h. (keeps i h).is)
 
-  away_made : (c dst : ℕ) → dst ≤ b → (W2 : List ℕ) (q : Made) → MadeIs W1 (make c (values_from W1 ps 0 n)) dst W2 q → MadeIs W (make c (values_from W ps 0 n)) dst W2 q
+  away_made : (c dst : ℕ) → dst ≤ b → (W2 : List ℕ) (q : RustOption ValueRef) → MadeIs W1 (make c (values_from W1 ps 0 n)) dst W2 q → MadeIs W (make c (values_from W ps 0 n)) dst W2 q
   away_made c dst l W2 q m = made_from W W1 c ps n dst W2 q (record { same = o.same; below = λ p h. o.below p (omega arith) }) away_values m
 
-module _ (W : List ℕ) (b dst : ℕ) (W1 : List ℕ) (bk : Block W b) (lb : b < dst) (cp : Copied W b dst W1) (ps : List Slot) (n : ℕ) (mk : Makeable W ps n dst) where
+module _ (W : List ℕ) (b dst : ℕ) (W1 : List ℕ) (bk : Block W b) (lb : b < dst) (cp : Copied W b dst W1) (ps : List ValueRef) (n : ℕ) (mk : Makeable W ps n dst) where
   pub copied_begun : Begun W1 b dst
   copied_begun =
       let m = block_moves W W1 b dst cp.count cp.level cp.reach cp.here (omega (arith, cp.outside.same, makeable_room W ps n dst mk)) bk in
@@ -229,7 +215,7 @@ module _ (W : List ℕ) (b dst : ℕ) (W1 : List ℕ) (bk : Block W b) (lb : b <
     pub copied_makeable : Makeable W1 ps n dst
     copied_makeable = kept_makeable W ps n dst mk W1 cp.outside.same (away_held W dst W1 cp.outside ps n mk.held (away_at ps n dst away))
 
-    pub copied_made : (c : ℕ) (W2 : List ℕ) (o : Made) → MadeIs W1 (make c (values_from W1 ps 0 n)) dst W2 o → MadeIs W (make c (values_from W ps 0 n)) dst W2 o
+    pub copied_made : (c : ℕ) (W2 : List ℕ) (o : RustOption ValueRef) → MadeIs W1 (make c (values_from W1 ps 0 n)) dst W2 o → MadeIs W (make c (values_from W ps 0 n)) dst W2 o
     copied_made c = away_made W dst W1 cp.outside ps n mk.held (away_at ps n dst away) c dst (omega arith)
 
 module _ (W : List ℕ) (b : ℕ) (W1 : List ℕ) (room : block_size * b + block_size ≤ length W) (em : Emptied W b W1) where
@@ -249,7 +235,7 @@ module _ (W : List ℕ) (b : ℕ) (W1 : List ℕ) (room : block_size * b + block
   })
 
 -- block dst emptied
-module _ (W : List ℕ) (dst : ℕ) (W1 : List ℕ) (em : Emptied W dst W1) (ps : List Slot) (n : ℕ) (mk : Makeable W ps n dst) where
+module _ (W : List ℕ) (dst : ℕ) (W1 : List ℕ) (em : Emptied W dst W1) (ps : List ValueRef) (n : ℕ) (mk : Makeable W ps n dst) where
   pub fresh_begun : Begun W1 dst dst
   fresh_begun = empty_begun W dst W1 (makeable_room W ps n dst mk) em
 
@@ -257,11 +243,11 @@ module _ (W : List ℕ) (dst : ℕ) (W1 : List ℕ) (em : Emptied W dst W1) (ps 
     pub fresh_makeable : Makeable W1 ps n dst
     fresh_makeable = kept_makeable W ps n dst mk W1 em.outside.same (away_held W dst W1 em.outside ps n mk.held (away_at ps n dst away))
 
-    pub fresh_made : (c : ℕ) (W2 : List ℕ) (o : Made) → MadeIs W1 (make c (values_from W1 ps 0 n)) dst W2 o → MadeIs W (make c (values_from W ps 0 n)) dst W2 o
+    pub fresh_made : (c : ℕ) (W2 : List ℕ) (o : RustOption ValueRef) → MadeIs W1 (make c (values_from W1 ps 0 n)) dst W2 o → MadeIs W (make c (values_from W ps 0 n)) dst W2 o
     fresh_made c = away_made W dst W1 em.outside ps n mk.held (away_at ps n dst away) c dst (omega arith)
 
 -- the spare block emptied: no part lies there
-module _ (W : List ℕ) (ps : List Slot) (n dst : ℕ) (mk : Makeable W ps n dst) where
+module _ (W : List ℕ) (ps : List ValueRef) (n dst : ℕ) (mk : Makeable W ps n dst) where
   spare_away : (i : ℕ) → i < n → lies_in spare_block (part_of ps i) ≡ false
   unfolding lies_in
   spare_away i h = go (part_of ps i) (mk.below i h)
@@ -288,28 +274,32 @@ module _ (W : List ℕ) (ps : List Slot) (n dst : ℕ) (mk : Makeable W ps n dst
     pub spare_makeable : Makeable W1 ps n dst
     spare_makeable = kept_makeable W ps n dst mk W1 em.outside.same spare_held
 
-    pub spare_made : (c : ℕ) (W2 : List ℕ) (o : Made) → MadeIs W1 (make c (values_from W1 ps 0 n)) dst W2 o → MadeIs W (make c (values_from W ps 0 n)) dst W2 o
+    pub spare_made : (c : ℕ) (W2 : List ℕ) (o : RustOption ValueRef) → MadeIs W1 (make c (values_from W1 ps 0 n)) dst W2 o → MadeIs W (make c (values_from W ps 0 n)) dst W2 o
     spare_made c = away_made W spare_block W1 em.outside ps n mk.held spare_away c dst (omega (arith, mk.under))
 
     -- and tried
-    module _ (c : ℕ) (W2 : List ℕ) (o : Tried) (to : TriedIs W1 (make c (values_from W1 ps 0 n)) spare_block dst W2 o) where
-      pub anew_here : (v : ValueRef) → o ≡ Here v → MadeIs W (make c (values_from W ps 0 n)) dst W2 (Value v)
-      anew_here v e = spare_made c W2 (Value v) (tried_here W1 ps n dst spare_makeable spare_block spare_above c W2 o to v e)
+    module _ (c : ℕ) (W2 : List ℕ) (o : RustOption ValueRef) (to : TriedIs W1 (make c (values_from W1 ps 0 n)) spare_block dst W2 o) where
+      anew_here : (v : ValueRef) → o ≡ Some v → MadeIs W (make c (values_from W ps 0 n)) dst W2 (Some v)
+      anew_here v e = spare_made c W2 (Some v) (tried_here W1 ps n dst spare_makeable spare_block spare_above c W2 o to v e)
 
-      module _ (t : OneOf (1 ∷ []) (tag_of TriedT.the_type o)) where
+      module _ (t : o ≡ None) where
         made_whole : Whole (make c (values_from W1 ps 0 n))
         made_whole = subst Whole (sym (made_raw W1 c ps n spare_held)) (make-whole c (raws_from W1 ps 0 n) (raws_whole W1 c ps n spare_held))
 
         large : capacity < length (make c (values_from W1 ps 0 n)).nodes
-        large = crowd_large _ made_whole (too_small W1 _ spare_block dst W2 o to t (λ y h. absurd (omega (arith, em.count))))
+        large = crowd_large _ made_whole (to.over t (λ y h. absurd (omega (arith, em.count))))
 
-        pub anew_large : MadeIs W (make c (values_from W ps 0 n)) dst W2 TooLarge
-        anew_large = spare_made c W2 TooLarge (record {
+        anew_large : MadeIs W (make c (values_from W ps 0 n)) dst W2 None
+        anew_large = spare_made c W2 None (record {
           held = tt;
           is = rw (lt-leb (length (make c (values_from W1 ps 0 n)).nodes) capacity large);
           place = tt;
-          beneath = beneath_grown spare_block dst W1 W2 spare_above (no_room_lem W1 _ spare_block dst W2 o to t);
+          beneath = beneath_grown spare_block dst W1 W2 spare_above (to.none t);
         })
+
+      pub anew_made : (q : RustOption ValueRef) → o ≡ q → MadeIs W (make c (values_from W ps 0 n)) dst W2 q
+      anew_made (Some v) e = anew_here v e
+      anew_made None e = anew_large e
 
 pub larger_read : (W : List ℕ) (v : ValueRef) (x i : ℕ) → Holds W v → v ≡ Object i x → block_size * x + count_at < length W
 larger_read W v x i h e = omega (arith, held_room W v x i h e)

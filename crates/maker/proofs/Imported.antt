@@ -17,9 +17,12 @@ use Rattle.values.specs.declared.ValueRef.TheVariants.{Object, Mark, Number, Und
 use Rattle.values.specs.Layout.{raw_of, Holds, HeldBy}
 use Rattle.values.proofs.Blocks.{size_in}
 use Rattle.values.proofs.Trees.{in_larger, leaf_same}
-use Rattle.maker.specs.Figures.{no_room, unused_codes}
+use Rattle.std.specs.declared.option.Option.{Option}
+use Rattle.std.specs.declared.option.Option.TheVariants.{Some, None}
+use Rattle.maker.specs.Figures.{unused_codes}
+use Rattle.maker.proofs.Answers.{only, never_none}
 use Rattle.maker.specs.Adding.{object_of, beside_of, Missed}
-use Rattle.maker.specs.Merging.{Grown, Fits, Entered, CodeAs, Imported, PartImported, Begun}
+use Rattle.maker.specs.Merging.{As, Grown, Fits, Entered, CodeAs, Imported, PartImported, Begun}
 use Rattle.maker.specs.Sorting.{code_at, TurnedAs}
 use Rattle.maker.specs.Crowds.{In, BlockIn, Crowd}
 use Rattle.maker.proofs.Crowds.{in_same, crowd_joined}
@@ -57,44 +60,44 @@ module _ (W : List ℕ) (b i base host : ℕ) (ib : Inside W b i) (bg : Begun W 
   small_object : (y : ℕ) → ref_of i y ≡ obj i
   small_object y = ref_object i y (omega (arith, ib.low, ib.block.small))
 
-  pub object_base : b ≡ base → PartImported W (Object i b) host W i
+  pub object_base : b ≡ base → PartImported W (Object i b) host W (Some i)
   object_base e =
       let l : i < count_in W base = omega (arith, ib.low, ap (count_in W) e) in
       record {
         grown = grown_none host W bg.target;
-        like = λ _. record {
+        like = only (As W (Object i b) W host) i (record {
           low = subst (InRange (count_in W host)) (sym (small_object _)) (omega (arith, bg.most));
           plain = λ _. object_beside i b;
           same = λ p. ap (λ (x : ℕ). follow (objects_in W x) (obj i) p) e ∙ bg.trees (obj i) l p ∙ ap (λ (x : Ref). follow (objects_in W host) x p) (sym (small_object _));
-        };
-        stand = λ _ g old at. old;
-        over = λ z. absurd (omega (arith, ib.low, ib.block.small));
+        });
+        stand = λ _ _ g old at. old;
+        over = never_none i;
       }
 
-  pub object_host : b ≡ host → PartImported W (Object i b) host W i
+  pub object_host : b ≡ host → PartImported W (Object i b) host W (Some i)
   object_host e = record {
     grown = grown_none host W bg.target;
-    like = λ _. record {
+    like = only (As W (Object i b) W host) i (record {
       low = subst (InRange (count_in W host)) (sym (small_object _)) (omega (arith, ib.low, ap (count_in W) e));
       plain = λ _. object_beside i b;
       same = λ p. ap (λ (x : ℕ). follow (objects_in W x) (obj i) p) e ∙ ap (λ (x : Ref). follow (objects_in W host) x p) (sym (small_object _));
-    };
-    stand = λ _ g old at. old;
-    over = λ z. absurd (omega (arith, ib.low, ib.block.small));
+    });
+    stand = λ _ _ g old at. old;
+    over = never_none i;
   }
 
   module _ (apart : (b ≡ host) → ⊥) where
-    pub object_other : (W' : List ℕ) (r : ℕ) → Imported W b i host W' r → PartImported W (Object i b) host W' r
-    object_other W' r im = record {
+    pub object_other : (W' : List ℕ) (a : Option ℕ) → Imported W b i host W' a → PartImported W (Object i b) host W' a
+    object_other W' a im = record {
       grown = im.grown;
-      like = λ d. record {
-        low = (im.like d).low _;
+      like = λ r d. record {
+        low = (im.like r d).low _;
         plain = λ _. object_beside i b;
         same = λ p.
             ap (λ (x : Ref). follow (objects_in W b) x p) (sym (small_object _))
-            ∙ ap (λ (x : List Node). follow x (ref_of i (beside_of (Object i b))) p) (sym (other_block host W W' im.grown.outside b apart ib.block).0) ∙ (im.like d).same _ p;
+            ∙ ap (λ (x : List Node). follow x (ref_of i (beside_of (Object i b))) p) (sym (other_block host W W' im.grown.outside b apart ib.block).0) ∙ (im.like r d).same _ p;
       };
-      stand = λ d g old at. im.stand d g old (record { path = at.path; tree = at.tree });
+      stand = λ r d g old at. im.stand r d g old (record { path = at.path; tree = at.tree });
       over = λ z g old at. im.over z g old (record { path = at.path; tree = at.tree });
     }
 
@@ -145,27 +148,27 @@ module _ (W : List ℕ) (b i host : ℕ) (ib : Inside W b i) (bk : Block W host)
   begun : Begun W host host
   begun = record { source = bk; target = bk; most = omega arith; trees = λ r l p. refl }
 
-  pub fieldless_imported : (W' : List ℕ) (r : ℕ) → Entered W host (object_of (get_or W (block_size * b + object_size * i) 0) 0 unused_codes 0) W' r → PartImported W (Object i b) host W' r
-  fieldless_imported W' r en = object_other W b i host host ib begun apart W' r (record {
+  pub fieldless_imported : (W' : List ℕ) (a : Option ℕ) → Entered W host (object_of (get_or W (block_size * b + object_size * i) 0) 0 unused_codes 0) W' a → PartImported W (Object i b) host W' a
+  fieldless_imported W' a en = object_other W b i host host ib begun apart W' a (record {
     grown = en.grown;
     like = like;
-    stand = λ d g old at y h. ⊎_elim (λ l. in_same g (objects_in W host) (objects_in W' host) y y (old y l) (en.grown.trees (obj y) l)) (λ e. here d g at y e) (en.from y h);
+    stand = λ r d g old at y h. ⊎_elim (λ l. in_same g (objects_in W host) (objects_in W' host) y y (old y l) (en.grown.trees (obj y) l)) (λ e. here y e g at) (en.from y h);
     over = λ z g old at. full z g old at;
   })
     where
-      like : ((r ≡ no_room) → ⊥) → CodeAs W' b i host r
-      like d =
+      like : (r : ℕ) → a ≡ Some r → CodeAs W' b i host r
+      like r d =
           turned_same W' b i host fieldless_object_lem (other_inside host W W' en.grown.outside b apart i ib) en.grown.block
-          (turned_grown host W W' en.grown b apart ib.block i fieldless_object_lem ib.low fieldless_turned) r (en.standing d)
+          (turned_grown host W W' en.grown b apart ib.block i fieldless_object_lem ib.low fieldless_turned) r (en.standing r d)
 
-      here : ((r ≡ no_room) → ⊥) → (g : Graph) → In (objects_in W b) i g → (y : ℕ) → y ≡ r → In (objects_in W' host) y g
-      here d g at y e = in_same g (objects_in W b) (objects_in W' host) i y at (λ p.
+      here : (y : ℕ) → a ≡ Some y → (g : Graph) → In (objects_in W b) i g → In (objects_in W' host) y g
+      here y e g at = in_same g (objects_in W b) (objects_in W' host) i y at (λ p.
           ap (λ (x : List Node). follow x (obj i) p) (sym (other_block host W W' en.grown.outside b apart ib.block).0)
-          ∙ ap (λ (x : Ref). follow (objects_in W' b) x p) (sym (ref_object i 0 (omega (arith, ib.low, ib.block.small)))) ∙ (like d).same 0 p
-          ∙ ap (λ (x : Ref). follow (objects_in W' host) x p) (ref_object r 0 (omega (arith, (en.standing d).low, en.grown.block.small)) ∙ ap obj (sym e)))
+          ∙ ap (λ (x : Ref). follow (objects_in W' b) x p) (sym (ref_object i 0 (omega (arith, ib.low, ib.block.small)))) ∙ (like y e).same 0 p
+          ∙ ap (λ (x : Ref). follow (objects_in W' host) x p) (ref_object y 0 (omega (arith, (en.standing y e).low, en.grown.block.small))))
 
       -- the host is full, and does not have it
-      full : r ≡ no_room → (g : Graph) → BlockIn W host g → In (objects_in W b) i g → Crowd g
+      full : a ≡ None → (g : Graph) → BlockIn W host g → In (objects_in W b) i g → Crowd g
       full z g old at =
           let f = en.full z in
           crowd_joined (objects_in W b) (objects_in W host) g (count_in W host) (size_in W host bk) bk.distinct old (λ _. i)
@@ -173,7 +176,7 @@ module _ (W : List ℕ) (b i host : ℕ) (ib : Inside W b i) (bk : Block W host)
           (λ k h l. at) (λ k l hk lk hl ll e. omega (arith, f.0))
 
 module _ (W : List ℕ) (v : ValueRef) (base host : ℕ) (h : Holds W v) (bg : Begun W base host) where
-  pub part_object : (b i : ℕ) (W' : List ℕ) (r : ℕ) → v ≡ Object i b → PartImported W (Object i b) host W' r → PartImported W v host W' r
+  pub part_object : (b i : ℕ) (W' : List ℕ) (r : Option ℕ) → v ≡ Object i b → PartImported W (Object i b) host W' r → PartImported W v host W' r
   part_object b i W' r e p = subst (λ (x : ValueRef). PartImported W x host W' r) (sym e) p
 
   pub part_small : (k : ℕ) → v ≡ Mark k → k < mark_count
@@ -181,26 +184,26 @@ module _ (W : List ℕ) (v : ValueRef) (base host : ℕ) (h : Holds W v) (bg : B
 
   -- a code that is no object's
   leaf_part : (u : ValueRef) (r : ℕ) (l : Leaf) → first_leaf ≤ r → ref_of r (beside_of u) ≡ leaf l → (((r ≡ number_code) → ⊥) → beside_of u ≡ 0) → Same (raw_of W u).nodes (raw_of W u).root [] (leaf l)
-      → PartImported W u host W r
+      → PartImported W u host W (Some r)
   leaf_part u r l h e plain t = record {
     grown = grown_none host W bg.target;
-    like = λ _. record {
+    like = only (As W u W host) r (record {
       low = leaf_low (count_in W host) r (beside_of u) h;
       plain = plain;
       same = λ p. t p ∙ leaf_same [] (objects_in W host) (leaf l) tt p ∙ ap (λ (x : Ref). follow (objects_in W host) x p) (sym e);
-    };
-    stand = λ _ g old at. old;
-    over = λ z. absurd (omega arith);
+    });
+    stand = λ _ _ g old at. old;
+    over = never_none r;
   }
 
-  pub part_mark : (k : ℕ) → v ≡ Mark k → PartImported W v host W (first_mark + k)
+  pub part_mark : (k : ℕ) → v ≡ Mark k → PartImported W v host W (Some (first_mark + k))
   unfolding beside_of
   part_mark k e = rw e (leaf_part (Mark k) (first_mark + k) (mark k) (omega arith) (ref_mark k 0) (λ _. refl) (λ p. refl))
 
-  pub part_number : (x : ℕ) → v ≡ Number x → PartImported W v host W number_code
+  pub part_number : (x : ℕ) → v ≡ Number x → PartImported W v host W (Some number_code)
   unfolding beside_of
   part_number x e = rw e (leaf_part (Number x) number_code (num x) (omega arith) (ref_number x) (λ d. absurd (d refl)) (λ p. refl))
 
-  pub part_undet : v ≡ Undetermined → PartImported W v host W undetermined_code
+  pub part_undet : v ≡ Undetermined → PartImported W v host W (Some undetermined_code)
   unfolding beside_of
   part_undet e = rw e (leaf_part Undetermined undetermined_code undet (omega arith) (ref_undet 0) (λ _. refl) (λ p. refl))

@@ -8,12 +8,11 @@ use mathlib.Core.List.{List}
 use mathlib.Core.Logic.{⊎_elim}
 use lib.ListN.{get_or, replicate, length-replicate}
 use Rattle.cofj.specs.Values.{Graph, obj}
-use Rattle.cofj.specs.Unfolding.{InRange}
 use Rattle.canon.specs.Figures.{code_count, first_leaf, capacity, count_at, block_size}
 use Rattle.canon.specs.Layout.{count_in, objects_in, graph_at, Block, Inside}
-use Rattle.canon.proofs.Nodes.{ref_object}
 use Rattle.values.proofs.Blocks.{size_in}
-use Rattle.maker.specs.Figures.{no_room}
+use Rattle.std.specs.declared.option.Option.TheVariants.{Some, None}
+use Rattle.maker.proofs.Answers.{only, never_none, never_some}
 use Rattle.maker.specs.Crowds.{In, BlockIn, Crowd}
 use Rattle.maker.specs.Merging.{CodeAs, Mapped, Imported}
 use Rattle.maker.specs.Sorting.{Decided, code_at, Listed, Reached, Sorting, SortedFrom}
@@ -38,10 +37,6 @@ module _ (W : List ℕ) (src i host : ℕ) (T : List ℕ) where
 -- ---- nothing is known at first
 pub mapped_none : (W : List ℕ) (src host k : ℕ) → k ≡ capacity → Mapped W src host (replicate k 0)
 mapped_none W src host k e = record { table = length-replicate k 0 ∙ e; each = λ x y z. absurd (omega (arith, zero_at k x, z)) }
-
--- no object of a block has the number 32
-no_room_lem : (W : List ℕ) (src i host r : ℕ) → Block W host → CodeAs W src i host r → r ≡ no_room → ⊥
-no_room_lem W src i host r bk c e = let z : r < count_in W host = subst (InRange (count_in W host)) (ref_object r 0 (omega arith)) (c.low 0) in omega (arith, bk.small)
 
 -- ---- sorted out and joined
 module _ (W : List ℕ) (src i host : ℕ) (ib : Inside W src i) (bk : Block W host) (apart : (src ≡ host) → ⊥) (L : List ℕ) (m : ℕ) (rc : Reached W src i L m) where
@@ -85,8 +80,8 @@ module _ (W : List ℕ) (src i host : ℕ) (ib : Inside W src i) (bk : Block W h
           (λ k l hk lk hl ll z. o.one k l hk lk hl ll
           (ib.block.distinct.apart (o.from k) (o.from l) (omega (arith, o.low k hk lk, size_in W src ib.block)) (omega (arith, o.low l hl ll, size_in W src ib.block)) z))
 
-      pub bring_full : r ≡ false → Imported W src i host W' no_room
-      bring_full e = record { grown = j.grown; like = λ d. absurd (d refl); stand = λ d. absurd (d refl); over = λ _. too_many e }
+      pub bring_full : r ≡ false → Imported W src i host W' None
+      bring_full e = record { grown = j.grown; like = never_some _; stand = never_some _; over = λ _. too_many e }
 
       module _ (e : r ≡ true) where
         here : (get_or T' i 0 ≡ 0) → ⊥
@@ -102,13 +97,13 @@ module _ (W : List ℕ) (src i host : ℕ) (ib : Inside W src i) (bk : Block W h
         stand g old at y h = ⊎_elim (λ l. in_same g (objects_in W host) (objects_in W' host) y y (old y l) (j.grown.trees (obj y) l))
             (λ n. in_same g (objects_in W src) (objects_in W' host) n.0 y (led g at n.0 n.1) n.2) (j.from e y h)
 
-        pub bring_done : Imported W src i host W' (get_or T' i 0 - 1)
-        bring_done = record { grown = j.grown; like = λ _. is; stand = λ _. stand; over = λ z. absurd (no_room_lem W' src i host (get_or T' i 0 - 1) j.grown.block is z) }
+        pub bring_done : Imported W src i host W' (Some (get_or T' i 0 - 1))
+        bring_done = record { grown = j.grown; like = only (CodeAs W' src i host) (get_or T' i 0 - 1) is; stand = λ _ _. stand; over = never_none (get_or T' i 0 - 1) }
 
 -- ---- the whole
 module _ (W : List ℕ) (src i host : ℕ) (bk : Block W host) (k : ℕ) (e : k ≡ capacity) (T : List ℕ) (r : Bool) (sn : SameNumber W src i host (replicate k 0) T r) where
-  pub import_same : r ≡ true → Imported W src i host W i
-  import_same z = record { grown = grown_none host W bk; like = λ _. sn.yes z; stand = λ _ g old at. old; over = λ u. absurd (no_room_lem W src i host i bk (sn.yes z) u) }
+  pub import_same : r ≡ true → Imported W src i host W (Some i)
+  import_same z = record { grown = grown_none host W bk; like = only (CodeAs W src i host) i (sn.yes z); stand = λ _ _ g old at. old; over = never_none i }
 
   pub import_mapped : r ≡ false → Mapped W src host T
   import_mapped z = subst (Mapped W src host) (sym (sn.no z)) (mapped_none W src host k e)

@@ -21,6 +21,8 @@ use Rattle.canon.proofs.Nodes.{AllPacked, ref_object, at_some, length_nodes, at_
 use Rattle.canon.proofs.Lifts.{turn_object}
 use Rattle.canon.proofs.Turned.{turn_ref, changed, lifted_nodes, lifted_packed, turn_rename, node_agree}
 use Rattle.values.proofs.Blocks.{size_in, inner_in}
+use Rattle.std.specs.declared.option.Option.{Option}
+use Rattle.std.specs.declared.option.Option.TheVariants.{Some, None}
 use Rattle.maker.specs.Figures.{not_told}
 use Rattle.maker.specs.Merging.{Grown, CodeAs}
 use Rattle.maker.specs.Sorting.{Fresh, Decided, code_at}
@@ -45,22 +47,25 @@ code_small ps ns z r q = go (dec_lt r first_leaf)
     go (no h) = absurd (none (ref_of r 0) (leaf_low 0 r 0 (omega (arith, h))) q)
 
 module _ (W : List ℕ) (src host : ℕ) (T F : List ℕ) (jn : Joining W src host T F) (n : ℕ) (na : NewAmong (get_or W (block_size * src + count_at) 0) F n) where
-  all_fitted : (T' : List ℕ) (m : ℕ) → Fitted n (get_or W (block_size * host + count_at) 0) T F T' m → Fitted (count_in W src) (count_in W host) T F T' m
+  all_fitted : (T' : List ℕ) (a : Option ℕ) → Fitted n (get_or W (block_size * host + count_at) 0) T F T' a → Fitted (count_in W src) (count_in W host) T F T' a
   unfolding count_in
-  all_fitted T' m = fitted_all (get_or W (block_size * src + count_at) 0) F n na (get_or W (block_size * host + count_at) 0) T T' m
+  all_fitted T' a = fitted_all (get_or W (block_size * src + count_at) 0) F n na (get_or W (block_size * host + count_at) 0) T T' a
 
-  pub join_full : (T' : List ℕ) (m : ℕ) → Fitted n (get_or W (block_size * host + count_at) 0) T F T' m → capacity < m → Joined W src host T F W T' false
-  join_full T' m ft h = record {
+  pub join_full : (T' : List ℕ) (a : Option ℕ) → Fitted n (get_or W (block_size * host + count_at) 0) T F T' a → a ≡ None → Joined W src host T F W T' false
+  join_full T' a ft h = record {
     grown = grown_none host W jn.target;
     mapped = λ z. absurd (false≢true z);
     told = λ z. absurd (false≢true z);
     from = λ z. absurd (false≢true z);
-    over = λ _. (all_fitted T' m ft).over h;
+    over = λ _. (all_fitted T' a ft).over h;
   }
 
-  module _ (T' : List ℕ) (m : ℕ) (ft : Fitted n (get_or W (block_size * host + count_at) 0) T F T' m) (few : m ≤ capacity) where
+  module _ (T' : List ℕ) (a : Option ℕ) (ft : Fitted n (get_or W (block_size * host + count_at) 0) T F T' a) (m : ℕ) (ea : a ≡ Some m) where
+    few : m ≤ capacity
+    few = (all_fitted T' a ft).few m ea jn.target.small
+
     ct : Counted (count_in W src) (count_in W host) T F T' m
-    ct = (all_fitted T' m ft).counted few
+    ct = (all_fitted T' a ft).counted m ea
 
     table : length T' ≡ capacity
     table = ct.same ∙ jn.sorted.mapped.table
@@ -72,7 +77,7 @@ module _ (W : List ℕ) (src host : ℕ) (T F : List ℕ) (jn : Joining W src ho
       apart = jn.apart;
       told = table;
       marked = jn.sorted.table;
-      numbered = record { low = ct.numbered.low; high = λ x h n. omega (arith, ct.numbered.high x h n); one = ct.numbered.one };
+      numbered = record { low = ct.numbered.low; high = λ x h n. omega (arith, ct.numbered.high x h n, few); one = ct.numbered.one };
     }
 
     pub join_ready : Placing W src host T' F × NewAmong (count_in W src) F n × (count_in W host ≤ m) × (m ≤ capacity)
@@ -193,7 +198,7 @@ module _ (W : List ℕ) (src host : ℕ) (T F : List ℕ) (jn : Joining W src ho
           let d = h z refl in
           let l : z < length T' = omega (arith, d.0, jn.source.small, table) in
           let e : get_or (numbers_of T') z 0 ≡ to z = get_d_map_lt (λ k. cond (eqb k 0) not_told (k - 1)) T' z 0 0 l ∙ rw (ne_eqb (get_or T' z 0) 0 (told_some z d.1)) in
-          ap (λ (c : ℕ). ref_of c 0) (sym (turn_object (numbers_of T') z (omega (arith, table))) ∙ e) ∙ ref_object (to z) 0 (omega (arith, to_low z d.0 d.1))
+          ap (λ (c : ℕ). ref_of c 0) (sym (turn_object (numbers_of T') z (omega (arith, table))) ∙ e) ∙ ref_object (to z) 0 (omega (arith, to_low z d.0 d.1, few))
       turns (leaf l) h = turn_rename (numbers_of T') 0 to (omega arith) (λ i q. absurd (omega arith)) (λ i q. absurd (omega arith)) (leaf l) tt
 
       is : (x : ℕ) → New F x → node_at ms (to x) ≡ rename_node to (node_at ps x)
@@ -246,7 +251,7 @@ module _ (W : List ℕ) (src host : ℕ) (T F : List ℕ) (jn : Joining W src ho
       unfolding objects_in
       block = record {
         room = omega (arith, ex.outside.same, jn.target.room);
-        small = omega (arith, ex.count);
+        small = omega (arith, ex.count, few);
         packed = packed;
         whole = whole;
         distinct = distinct;
@@ -265,7 +270,7 @@ module _ (W : List ℕ) (src host : ℕ) (T F : List ℕ) (jn : Joining W src ho
       new_code : (x y : ℕ) → get_or T' x 0 ≡ y + 1 → New F x → CodeAs W' src x host y
       new_code x y e n =
           let z : to x ≡ y = omega arith in
-          let ey : (k : ℕ) → ref_of y k ≡ obj y = λ k. ref_object y k (omega (arith, small x n, size_new)) in
+          let ey : (k : ℕ) → ref_of y k ≡ obj y = λ k. ref_object y k (omega (arith, small x n, size_new, few)) in
           let ex' : (k : ℕ) → ref_of x k ≡ obj x = λ k. ref_object x k (omega (arith, low x n, jn.source.small)) in
           record {
             low = λ k. subst (InRange (count_in W' host)) (sym (ey k)) (omega (arith, small x n, size_new, ex.count));

@@ -23,3 +23,4 @@ pub mod Additions
 pub mod Joins
 pub mod Imports
 pub mod Limits
+pub mod Answers

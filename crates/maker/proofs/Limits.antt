@@ -21,10 +21,8 @@ use Rattle.values.specs.declared.ValueRef.TheVariants.{Object, Mark, Number, Und
 use Rattle.values.specs.Layout.{value_of, Holds, Low, lies_in}
 use Rattle.values.proofs.Blocks.{no_object, size_in, whole_at}
 use Rattle.values.proofs.Kept.{Kept, kept}
-use Rattle.maker.specs.declared.Made.{Made}
-use Rattle.maker.specs.declared.Made.TheVariants.{Value, TooLarge}
-use Rattle.maker.specs.declared.Slot.{Slot}
-use Rattle.maker.specs.Figures.{no_room}
+use Rattle.std.specs.declared.option.Option.{Option as RustOption}
+use Rattle.std.specs.declared.option.Option.TheVariants.{Some, None}
 use Rattle.maker.specs.Laying.{Makeable, MadeWithin, MadeIs, FitsIn}
 use Rattle.maker.specs.Adding.{Emptied}
 use Rattle.maker.specs.Crowds.{In, BlockIn}
@@ -90,14 +88,14 @@ module _ (W : List ℕ) (objects : ℕ) (v : ValueRef) where
       none_in : BlockIn W1 spare_block value
       none_in y l = absurd (omega (arith, em.count))
 
-      module _ (W2 : List ℕ) (r : ℕ) (im : Imported W1 b i spare_block W2 r) where
+      module _ (W2 : List ℕ) (a : RustOption ℕ) (im : Imported W1 b i spare_block W2 a) where
         away_still : Outside spare_block W W2
         away_still = outside_more spare_block W W1 W2 em.outside im.grown.outside
 
         answers : (x : Bool) → x ≡ leb (length value.nodes) objects → FitsIn W v objects W2 x
         answers x z = record { is = z ∙ ap (λ (g : Graph). leb (length g.nodes) objects) value_is; outside = away_still }
 
-        pub fits-over : objects ≤ capacity → r ≡ no_room → FitsIn W v objects W2 false
+        pub fits-over : objects ≤ capacity → a ≡ None → FitsIn W v objects W2 false
         fits-over few z =
             answers false (sym (lt-leb (length value.nodes) objects (omega (arith, crowd_large value value_whole (im.over z value none_in stands)))))
 
@@ -107,9 +105,9 @@ module _ (W : List ℕ) (objects : ℕ) (v : ValueRef) where
         pub spare_read : block_size * spare_block + count_at < length W2
         spare_read = omega (arith, im.grown.block.room)
 
-        module _ (nr : r ≡ no_room → ⊥) where
+        module _ (r : ℕ) (nr : a ≡ Some r) where
           brought : BlockIn W2 spare_block value
-          brought = im.stand nr value none_in stands
+          brought = im.stand r nr value none_in stands
 
           number : (k : ℕ) → k < count_in W2 spare_block → Numbered (objects_in W2 spare_block) k value
           number k l = in_number (objects_in W2 spare_block) k value value_whole (brought k l)
@@ -128,7 +126,7 @@ module _ (W : List ℕ) (objects : ℕ) (v : ValueRef) where
           there = graph (ref_of r 0) (objects_in W2 spare_block)
 
           there_whole : Whole there
-          there_whole = record { top = subst (λ (n : ℕ). InRange n (ref_of r 0)) (sym size) ((im.like nr).low 0); inner = im.grown.block.whole.inner }
+          there_whole = record { top = subst (λ (n : ℕ). InRange n (ref_of r 0)) (sym size) ((im.like r nr).low 0); inner = im.grown.block.whole.inner }
 
           after : Kept W1 W2 v
           after = kept spare_block W1 W2 im.grown.outside v away still_there.held
@@ -140,7 +138,7 @@ module _ (W : List ℕ) (objects : ℕ) (v : ValueRef) where
           value_there =
               sym (ap (value_of W2) (sym e) ∙ after.is ∙ ap (value_of W1) e)
               ∙ same_canon (graph_at W2 b i) there (whole_at W2 b inside_after.block i inside_after.low) there_whole
-              (λ p. ap (λ (x : Ref). follow (objects_in W2 b) x p) (sym (ref_object i 0 (omega (arith, inside_after.low, inside_after.block.small)))) ∙ (im.like nr).same 0 p)
+              (λ p. ap (λ (x : Ref). follow (objects_in W2 b) x p) (sym (ref_object i 0 (omega (arith, inside_after.low, inside_after.block.small)))) ∙ (im.like r nr).same 0 p)
 
           least : length value.nodes ≤ count_in W2 spare_block
           least = omega (arith, ap (λ (g : Graph). length g.nodes) value_there, canon-length there there_whole, size)
@@ -169,18 +167,14 @@ low_away d (Mark k) h l = refl
 low_away d (Number x) h l = refl
 low_away d Undetermined h l = refl
 
-module _ (W : List ℕ) (ps : List Slot) (n dst : ℕ) (mk : Makeable W ps n dst) (v : Graph) (W1 : List ℕ) (o : Made) (md : MadeIs W v dst W1 o) where
+module _ (W : List ℕ) (ps : List ValueRef) (n dst : ℕ) (mk : Makeable W ps n dst) (v : Graph) (W1 : List ℕ) where
   module _ (objects : ℕ) (few : objects ≤ capacity) where
-    pub limit_none : o ≡ TooLarge → MadeWithin objects W v dst W1 TooLarge
-    limit_none e =
-        let k = subst (MadeIs W v dst W1) e md in
+    pub limit_none : MadeIs W v dst W1 None → MadeWithin objects W v dst W1 None
+    limit_none k =
         let l : objects < length v.nodes = omega (arith, made_none v capacity k.is) in
         record { held = tt; is = rw (lt-leb (length v.nodes) objects l); place = tt; beneath = k.beneath }
 
-  module _ (r : ValueRef) (e : o ≡ Value r) where
-    answer : MadeIs W v dst W1 (Value r)
-    answer = subst (MadeIs W v dst W1) e md
-
+  module _ (r : ValueRef) (answer : MadeIs W v dst W1 (Some r)) where
     pub limit_held : Holds W1 r
     limit_held = answer.held
 
@@ -188,7 +182,7 @@ module _ (W : List ℕ) (ps : List Slot) (n dst : ℕ) (mk : Makeable W ps n dst
     limit_away = low_away dst r mk.under answer.place
 
     pub limit_room : block_size * spare_block + block_size ≤ length W1
-    limit_room = omega (arith, mk.room, md.beneath.same)
+    limit_room = omega (arith, mk.room, answer.beneath.same)
 
     module _ (objects : ℕ) (W2 : List ℕ) (b : Bool) (f : FitsIn W1 r objects W2 b) where
       same : value_of W1 r ≡ v
@@ -200,12 +194,12 @@ module _ (W : List ℕ) (ps : List Slot) (n dst : ℕ) (mk : Makeable W ps n dst
       still : Beneath dst W W2
       still = beneath_more dst W W1 W2 answer.beneath (let u = mk.under in record { same = f.outside.same; below = λ p h. f.outside.below p (omega arith) })
 
-      pub limit_yes : b ≡ true → MadeWithin objects W v dst W2 (Value r)
+      pub limit_yes : b ≡ true → MadeWithin objects W v dst W2 (Some r)
       limit_yes z =
           let k = kept spare_block W1 W2 f.outside r limit_away answer.held in
           record { held = k.held; is = rw (sym told ∙ z) (ap some (k.is ∙ same)); place = answer.place; beneath = still }
 
-      pub limit_no : b ≡ false → MadeWithin objects W v dst W2 TooLarge
+      pub limit_no : b ≡ false → MadeWithin objects W v dst W2 None
       limit_no z = record { held = tt; is = rw (sym told ∙ z); place = tt; beneath = still }
 
 -- ---- an object without fields
@@ -220,7 +214,7 @@ fieldless_one : (c : ℕ) → length (make c []).nodes ≤ 1
 unfolding make lay
 fieldless_one c = canon-length (graph (obj 0) (node c [] ∷ [])) (fieldless_whole c)
 
-pub fieldless_within : (objects : ℕ) → 0 < objects → (W : List ℕ) (c dst : ℕ) (W' : List ℕ) (r : ValueRef) → MadeIs W (make c []) dst W' (Value r) → MadeWithin objects W (make c []) dst W' (Value r)
+pub fieldless_within : (objects : ℕ) → 0 < objects → (W : List ℕ) (c dst : ℕ) (W' : List ℕ) (r : ValueRef) → MadeIs W (make c []) dst W' (Some r) → MadeWithin objects W (make c []) dst W' (Some r)
 fieldless_within objects pos W c dst W' r m = record {
   held = m.held;
   is = rw (le-leb (length (make c []).nodes) objects (omega (arith, fieldless_one c))) (ap some (made_value (value_of W' r) (make c []) (leb (length (make c []).nodes) capacity) m.is));

@@ -10,17 +10,15 @@ use borrow.Author.Tests.{le-leb}
 use Rattle.cofj.specs.Values.{Graph, make, canon}
 use Rattle.cofj.specs.Unfolding.{SameTree, Whole, AllWhole}
 use Rattle.cofj.proofs.Canon.{canon_same, canon-whole, canon-length}
-use Rattle.canon.specs.Figures.{code_count, mark_count, capacity}
+use Rattle.canon.specs.Figures.{mark_count, capacity}
 use Rattle.values.specs.declared.ValueRef.{ValueRef}
 use Rattle.values.specs.declared.ValueRef.TheVariants.{Object, Mark, Number, Undetermined}
-use Rattle.maker.specs.declared.Slot.{Slot}
-use Rattle.maker.specs.declared.Made.TheVariants.{Value}
+use Rattle.std.specs.declared.option.Option.TheVariants.{Some}
 use Rattle.canon.specs.Layout.{Inside, graph_at, Beneath}
 use Rattle.values.specs.Layout.{value_of, raw_of, Holds, HeldBy}
 use Rattle.maker.specs.Adding.{part_of}
 use Rattle.values.specs.Operations.{Gives}
-use Rattle.values.specs.Refs.{ref_in}
-use Rattle.maker.specs.Laying.{parts_of, values_from, raws_from, PartsHeld, MadeIs}
+use Rattle.maker.specs.Laying.{values_from, raws_from, PartsHeld, MadeIs}
 use Rattle.values.proofs.Blocks.{whole_at, size_in}
 use Rattle.values.proofs.Selecting.{unchanged, under}
 use Rattle.values.proofs.Trees.{AllSame, same_make}
@@ -29,25 +27,16 @@ use Rattle.values.proofs.Trees.{AllSame, same_make}
 pub mark_small : (W : List ℕ) (r : ValueRef) (k : ℕ) → Holds W r → r ≡ Mark k → k < mark_count
 mark_small W r k h e = subst (HeldBy W) e h.held
 
-abbrev pub none_slot : Slot
-none_slot = record { r = Object 0 0 }
-
--- a part is the value of its number
-pub part_in : (P : List ℕ) (i : ℕ) (v : ValueRef) → i < code_count → v ≡ ref_in (get_or P i 0) → v ≡ part_of (parts_of P) i
-unfolding parts_of
-part_in P zero v l e = e
-part_in P (suc zero) v l e = e
-part_in P (suc (suc zero)) v l e = e
-part_in P (suc (suc (suc zero))) v l e = e
-part_in P (suc (suc (suc (suc i)))) v l e = absurd (omega arith)
+abbrev pub no_part : ValueRef
+no_part = Object 0 0
 
 -- a part read is held
-pub part_held : (W : List ℕ) (ps : List Slot) (n i : ℕ) (v : ValueRef) → PartsHeld W ps n → i < n → v ≡ part_of ps i → Holds W v
+pub part_held : (W : List ℕ) (ps : List ValueRef) (n i : ℕ) (v : ValueRef) → PartsHeld W ps n → i < n → v ≡ part_of ps i → Holds W v
 part_held W ps n i v h l e = subst (Holds W) (sym e) (h.part i l)
 
-pub parts_length : (W : List ℕ) (ps : List Slot) (n : ℕ) → PartsHeld W ps n → length (raws_from W ps 0 n) ≡ n
+pub parts_length : (W : List ℕ) (ps : List ValueRef) (n : ℕ) → PartsHeld W ps n → length (raws_from W ps 0 n) ≡ n
 unfolding raws_from
-parts_length W ps n h = length-map (take n ps) (λ s. raw_of W s.r) ∙ length-take-le n ps h.full
+parts_length W ps n h = length-map (take n ps) (raw_of W) ∙ length-take-le n ps h.full
 
 -- ---- their values
 pub raw-whole : (W : List ℕ) (r : ValueRef) → Holds W r → Whole (raw_of W r)
@@ -70,22 +59,22 @@ value_tree W Undetermined h = λ p. refl
 
 -- each part by itself
 module _ (W : List ℕ) where
-  all_raw : (n : ℕ) (ps : List Slot) → ((i : ℕ) → i < n → Holds W (get_or ps i none_slot).r) → AllWhole (map (λ s. raw_of W s.r) (take n ps))
+  all_raw : (n : ℕ) (ps : List ValueRef) → ((i : ℕ) → i < n → Holds W (get_or ps i no_part)) → AllWhole (map (raw_of W) (take n ps))
   all_raw zero ps h = tt
   all_raw (suc n) [] h = tt
-  all_raw (suc n) (s ∷ ps) h = (raw-whole W s.r (h 0 (omega arith)), all_raw n ps (λ i l. h (suc i) (omega arith)))
+  all_raw (suc n) (s ∷ ps) h = (raw-whole W s (h 0 (omega arith)), all_raw n ps (λ i l. h (suc i) (omega arith)))
 
-  all_value : (n : ℕ) (ps : List Slot) → ((i : ℕ) → i < n → Holds W (get_or ps i none_slot).r) → AllWhole (map (λ s. value_of W s.r) (take n ps))
+  all_value : (n : ℕ) (ps : List ValueRef) → ((i : ℕ) → i < n → Holds W (get_or ps i no_part)) → AllWhole (map (value_of W) (take n ps))
   all_value zero ps h = tt
   all_value (suc n) [] h = tt
-  all_value (suc n) (s ∷ ps) h = (value_whole W s.r (h 0 (omega arith)), all_value n ps (λ i l. h (suc i) (omega arith)))
+  all_value (suc n) (s ∷ ps) h = (value_whole W s (h 0 (omega arith)), all_value n ps (λ i l. h (suc i) (omega arith)))
 
-  all_tree : (n : ℕ) (ps : List Slot) → ((i : ℕ) → i < n → Holds W (get_or ps i none_slot).r) → AllSame (map (λ s. value_of W s.r) (take n ps)) (map (λ s. raw_of W s.r) (take n ps))
+  all_tree : (n : ℕ) (ps : List ValueRef) → ((i : ℕ) → i < n → Holds W (get_or ps i no_part)) → AllSame (map (value_of W) (take n ps)) (map (raw_of W) (take n ps))
   all_tree zero ps h = tt
   all_tree (suc n) [] h = tt
-  all_tree (suc n) (s ∷ ps) h = (value_tree W s.r (h 0 (omega arith)), all_tree n ps (λ i l. h (suc i) (omega arith)))
+  all_tree (suc n) (s ∷ ps) h = (value_tree W s (h 0 (omega arith)), all_tree n ps (λ i l. h (suc i) (omega arith)))
 
-module _ (W : List ℕ) (c : ℕ) (ps : List Slot) (n : ℕ) (held : PartsHeld W ps n) where
+module _ (W : List ℕ) (c : ℕ) (ps : List ValueRef) (n : ℕ) (held : PartsHeld W ps n) where
   pub raws_whole : AllWhole (raws_from W ps 0 n)
   unfolding raws_from
   raws_whole = all_raw W n ps held.part
@@ -105,7 +94,7 @@ module _ (W W1 : List ℕ) (v : Graph) (dst b i : ℕ) (ob : Inside W1 b i) (e :
   whole = whole_at W1 b ob.block i ob.low
 
   -- brought down
-  pub made_brought : (W2 : List ℕ) (r : ValueRef) → Gives W1 dst W2 r (canon (graph_at W1 b i)) → MadeIs W v dst W2 (Value r)
+  pub made_brought : (W2 : List ℕ) (r : ValueRef) → Gives W1 dst W2 r (canon (graph_at W1 b i)) → MadeIs W v dst W2 (Some r)
   made_brought W2 r g =
       let l : length v.nodes ≤ capacity = omega (arith, ap (λ (x : Graph). length x.nodes) e, canon-length (graph_at W1 b i) whole, size_in W1 b ob.block, ob.block.small) in
       record {
@@ -116,5 +105,5 @@ module _ (W W1 : List ℕ) (v : Graph) (dst b i : ℕ) (ob : Inside W1 b i) (e :
       }
 
   -- where it is
-  pub made_here : b ≤ dst → MadeIs W v dst W1 (Value (Object i b))
+  pub made_here : b ≤ dst → MadeIs W v dst W1 (Some (Object i b))
   made_here l = made_brought W1 (Object i b) (record { held = record { held = ob }; is = refl; place = omega arith; outside = unchanged dst W1 })

@@ -14,7 +14,10 @@ use Rattle.cofj.proofs.Basics.{get_d_map_lt}
 use Rattle.canon.specs.Figures.{first_leaf, capacity}
 use Rattle.canon.specs.Tables.{turned}
 use Rattle.canon.specs.Numbers.{number_in}
+use Rattle.std.specs.declared.option.Option.{Option}
+use Rattle.std.specs.declared.option.Option.TheVariants.{Some, None}
 use Rattle.maker.specs.Figures.{not_told, too_many}
+use Rattle.maker.proofs.Answers.{only, never_none, never_some}
 use Rattle.maker.specs.Sorting.{turn_in}
 use Rattle.maker.specs.Joining.{numbers_of, New, NewAmong, Given, Counted, Overfull, Fitted}
 
@@ -45,11 +48,11 @@ module _ (n : ℕ) (F : List ℕ) (k : ℕ) (na : NewAmong n F k) where
   among_none h = record { few = omega arith; low = λ x l w. omega (arith, na.low x l w) }
 
   -- the numbers of the new ones among the first k are those of all
-  pub fitted_all : (t : ℕ) (T T' : List ℕ) (m : ℕ) → Fitted k t T F T' m → Fitted n t T F T' m
-  fitted_all t T T' m ft = record { counted = λ h. all (ft.counted h); over = λ h. let o = ft.over h in record { from = o.from; low = λ i a b. omega (arith, o.low i a b, na.few); new = o.new; one = o.one } }
+  pub fitted_all : (t : ℕ) (T T' : List ℕ) (a : Option ℕ) → Fitted k t T F T' a → Fitted n t T F T' a
+  fitted_all t T T' a ft = record { counted = λ m e. all m (ft.counted m e); few = ft.few; over = λ h. let o = ft.over h in record { from = o.from; low = λ i a b. omega (arith, o.low i a b, na.few); new = o.new; one = o.one } }
     where
-      all : Counted k t T F T' m → Counted n t T F T' m
-      all ct = record {
+      all : (m : ℕ) → Counted k t T F T' m → Counted n t T F T' m
+      all m ct = record {
         same = ct.same;
         most = ct.most;
         kept = ct.kept;
@@ -160,11 +163,12 @@ module _ (x t : ℕ) (T₀ F T : List ℕ) (m : ℕ) (ct : Counted x t T₀ F T 
   pub number_more : (T' : List ℕ) (m' n : ℕ) → ((get_or F x 0 ≡ 0) → ⊥) → x < n → n ≤ length T₀ → T' ≡ set T x (m + 1) → m' ≡ m + 1 → Counted (x + 1) t T₀ F T' m'
   number_more T' m' n new h l eT em = rw (eT, em) (counted_new new (omega (arith, ct.same)))
 
-  pub number_end : (n : ℕ) → x ≤ n → n ≤ x → Fitted n t T₀ F T m
-  number_end n h k = let e : x ≡ n = omega arith in record { counted = λ _. rw e at ct; over = λ l. counted-over x t T₀ F T m ct l n h }
+  pub number_end : (n : ℕ) → x ≤ n → n ≤ x → (t ≤ capacity → m ≤ capacity) → Fitted n t T₀ F T (Some m)
+  number_end n h k few = let e : x ≡ n = omega arith in record { counted = only (Counted n t T₀ F T) m (rw e at ct); few = only (λ (r : ℕ). t ≤ capacity → r ≤ capacity) m few; over = never_none m }
 
-  pub number_full : (n : ℕ) → ((get_or F x 0 ≡ 0) → ⊥) → x < n → n ≤ length T₀ → capacity ≤ m → Fitted n t T₀ F T too_many
+  pub number_full : (n : ℕ) → ((get_or F x 0 ≡ 0) → ⊥) → x < n → n ≤ length T₀ → capacity ≤ m → Fitted n t T₀ F T None
   number_full n new h l full = record {
-    counted = λ z. absurd (omega arith);
+    counted = never_some _;
+    few = never_some _;
     over = λ _. counted-over (x + 1) t T₀ F (set T x (m + 1)) (m + 1) (counted_new new (omega (arith, ct.same))) (omega arith) n (omega arith);
   }

@@ -1,9 +1,10 @@
--- Laws of what an object of a block leads to, listed. The room in the list is by counting what is not listed yet, as for values in step (crate values, Steps).
+-- Laws of what an object of a block leads to, listed. The room in the list is by counting what is not seen yet.
 -- Not here: which of the listed objects are new to another block (Seeks).
-use Prim.Native.Nat.{ℕ, ◌+◌, ◌*◌, ◌<◌, ◌≤◌}
+use Prim.Native.Nat.{ℕ, zero, suc, ◌+◌, ◌*◌, ◌<◌, ◌≤◌}
 use native.Mathlib.Omega.{arith}
 use native.Mathlib.Decide.{dec_lt, ℕ_discrete}
-use mathlib.Core.Path.{◌≡◌, refl, sym, ap, ◌∙◌, subst}
+use mathlib.Core.Path.{◌≡◌, refl, sym, ap, ap₂, ◌∙◌, subst}
+use mathlib.Core.Bool.{Bool, true, false, cond, false≢true}
 use mathlib.Core.List.{List, [], ◌∷◌, ◌++◌, append_assoc}
 use mathlib.Core.Option.{Option, some}
 use lib.ListN.{length, get_or, get_elem?, set, replicate, length-set, length-replicate}
@@ -14,9 +15,8 @@ use Rattle.cofj.specs.Unfolding.{follow}
 use Rattle.canon.specs.Figures.{object_size, head_size, code_count, first_leaf, capacity, block_size}
 use Rattle.canon.specs.Layout.{count_in, objects_in, graph_at, Inside}
 use Rattle.canon.proofs.Nodes.{code_low}
-use Rattle.canon.proofs.Zeros.{zero_at, zeros-put, zeros-few}
 use Rattle.maker.specs.Sorting.{code_at, Listed, Reached}
-use Rattle.maker.specs.Reaching.{Noted, Met, FieldOf, FieldsMet, ReachedTo}
+use Rattle.maker.specs.Reaching.{unseen, Noted, Met, FieldOf, FieldsMet, ReachedTo}
 use Rattle.maker.specs.Crowds.{In}
 use Rattle.maker.proofs.Turns.{field_ref}
 
@@ -33,28 +33,62 @@ led_step ns g y f z a e = record {
       ∙ ap (follow g.nodes g.root) (sym (append_assoc a.path (f ∷ []) q));
 }
 
+-- ---- what is not seen
+unseen_at : (k x : ℕ) → get_or (replicate k false) x false ≡ false
+unseen_at zero x = refl
+unseen_at (suc k) zero = refl
+unseen_at (suc k) (suc x) = unseen_at k x
+
+unseen-few : (k : ℕ) (S : List Bool) → unseen k S ≤ k
+unfolding unseen
+unseen-few zero S = omega arith
+unseen-few (suc k) S = go (get_or S k false) (unseen-few k S)
+  where
+    go : (b : Bool) → unseen k S ≤ k → cond b 0 1 + unseen k S ≤ suc k
+    go true h = omega arith
+    go false h = omega arith
+
+-- one more seen: not among the first k, and among them
+unseen_other : (k x : ℕ) (S : List Bool) → k ≤ x → unseen k (set S x true) ≡ unseen k S
+unfolding unseen
+unseen_other zero x S h = refl
+unseen_other (suc k) x S h = ap₂ {A = Bool} {B = ℕ} {C = ℕ} (λ p q. cond p 0 1 + q) (get_or-set_other S x k true false (λ z. omega arith)) (unseen_other k x S (omega arith))
+
+unseen-put : (k x : ℕ) (S : List Bool) → x < k → x < length S → get_or S x false ≡ false → suc (unseen k (set S x true)) ≡ unseen k S
+unfolding unseen
+unseen-put zero x S h l e = absurd (omega arith)
+unseen-put (suc k) x S h l e = go (ℕ_discrete k x) (λ h'. unseen-put k x S h' l e)
+  where
+    go : Dec (k ≡ x) → (x < k → suc (unseen k (set S x true)) ≡ unseen k S)
+        → suc (cond (get_or (set S x true) k false) 0 1 + unseen k (set S x true)) ≡ cond (get_or S k false) 0 1 + unseen k S
+    go (yes z) f =
+        let n : get_or (set S x true) k false ≡ true = ap (λ (i : ℕ). get_or (set S x true) i false) z ∙ get_or-set_same S x true false l in
+        let o : get_or S k false ≡ false = ap (λ (i : ℕ). get_or S i false) z ∙ e in
+        rw (o, n, unseen_other k x S (omega arith)) (omega arith)
+    go (no z) f = rw (get_or-set_other S x k true false z) (omega (arith, f (omega (arith, z))))
+
 -- what is listed stays so while the list grows
 listed_kept : (L L' : List ℕ) (t r x : ℕ) → t ≤ r → ((q : ℕ) → q < t → get_or L' q 0 ≡ get_or L q 0) → Listed L t x → Listed L' r x
 listed_kept L L' t r x h front o = let l : o.0 < t = o.1 in (o.0, omega arith, front o.0 l ∙ o.2)
 
 -- ---- a code met
-module _ (S L : List ℕ) (t c : ℕ) (nd : Noted S L t) where
+module _ (S : List Bool) (L : List ℕ) (t c : ℕ) (nd : Noted S L t) where
   unchanged : (c < first_leaf → Listed L t c) → Met L t c S L t
   unchanged h = record { noted = nd; more = omega arith; front = λ q l. refl; new = λ q a b. absurd (omega arith); object = λ l. absurd (omega arith); here = h }
 
   pub met_leaf : first_leaf ≤ c → Met L t c S L t
   met_leaf h = unchanged (λ l. absurd (omega arith))
 
-  pub met_known : ((get_or S c 0 ≡ 0) → ⊥) → Met L t c S L t
+  pub met_known : get_or S c false ≡ true → Met L t c S L t
   met_known d = unchanged (λ _. nd.listed c d)
 
   module _ (lc : c < first_leaf → c < capacity) (h : c < first_leaf) where
     pub met_entry : c < length S
     met_entry = omega (arith, lc h, nd.seen)
 
-    module _ (e : get_or S c 0 ≡ 0) where
+    module _ (e : get_or S c false ≡ false) where
       pub met_few : t < capacity
-      met_few = omega (arith, nd.free, zeros-put capacity c 1 S (lc h) met_entry e (omega arith))
+      met_few = omega (arith, nd.free, unseen-put capacity c S (lc h) met_entry e)
 
       pub met_room : t < length L
       met_room = omega (arith, met_few, nd.list)
@@ -62,12 +96,12 @@ module _ (S L : List ℕ) (t c : ℕ) (nd : Noted S L t) where
       end : get_or (set L t c) t 0 ≡ c
       end = get_or-set_same L t c 0 met_room
 
-      pub met_new : Met L t c (set S c 1) (set L t c) (t + 1)
+      pub met_new : Met L t c (set S c true) (set L t c) (t + 1)
       met_new = record {
         noted = record {
-          seen = length-set S c 1 ∙ nd.seen;
+          seen = length-set S c true ∙ nd.seen;
           list = length-set L t c ∙ nd.list;
-          free = omega (arith, nd.free, zeros-put capacity c 1 S (lc h) met_entry e (omega arith));
+          free = omega (arith, nd.free, unseen-put capacity c S (lc h) met_entry e);
           listed = λ x d. listed x d (ℕ_discrete x c);
         };
         more = omega arith;
@@ -80,9 +114,9 @@ module _ (S L : List ℕ) (t c : ℕ) (nd : Noted S L t) where
           front : (q : ℕ) → q < t → get_or (set L t c) q 0 ≡ get_or L q 0
           front q l = get_or-set_other L t q c 0 (λ z. omega arith)
 
-          listed : (x : ℕ) → ((get_or (set S c 1) x 0 ≡ 0) → ⊥) → Dec (x ≡ c) → Listed (set L t c) (t + 1) x
+          listed : (x : ℕ) → get_or (set S c true) x false ≡ true → Dec (x ≡ c) → Listed (set L t c) (t + 1) x
           listed x d (yes z) = (t, omega arith, end ∙ sym z)
-          listed x d (no z) = listed_kept L (set L t c) t (t + 1) x (omega arith) front (nd.listed x (λ o. d (get_or-set_other S c x 1 0 z ∙ o)))
+          listed x d (no z) = listed_kept L (set L t c) t (t + 1) x (omega arith) front (nd.listed x (sym (get_or-set_other S c x true false z) ∙ d))
 
 -- ---- the codes of an object met
 module _ (W : List ℕ) (src x : ℕ) (ib : Inside W src x) where
@@ -95,7 +129,7 @@ module _ (W : List ℕ) (src x : ℕ) (ib : Inside W src x) where
   field_low k p h e l = rw e (omega (arith, low k h (rw e at l), ib.block.small))
 
   module _ (L₀ : List ℕ) (t : ℕ) where
-    next : (S L : List ℕ) (r k p : ℕ) (S' L' : List ℕ) (r' : ℕ) → k < code_count → p ≡ block_size * src + object_size * x + head_size + k → FieldsMet W src x k L₀ t S L r → Met L r (get_or W p 0) S' L' r'
+    next : (S : List Bool) (L : List ℕ) (r k p : ℕ) (S' : List Bool) (L' : List ℕ) (r' : ℕ) → k < code_count → p ≡ block_size * src + object_size * x + head_size + k → FieldsMet W src x k L₀ t S L r → Met L r (get_or W p 0) S' L' r'
         → FieldsMet W src x (k + 1) L₀ t S' L' r'
     next S L r k p S' L' r' h e so m = record {
       noted = m.noted;
@@ -123,7 +157,7 @@ module _ (W : List ℕ) (src x : ℕ) (ib : Inside W src x) where
         news q a b (yes l) = subst (FieldOf W src x) (sym (m.front q l)) (so.new q a l)
         news q a b (no l) = record { field = k; low = h; object = rw code at (m.object (omega (arith, l))); is = m.new q (omega (arith, l)) b ∙ code }
 
-    pub fields_met : (S₀ S1 L1 : List ℕ) (r1 : ℕ) (S2 L2 : List ℕ) (r2 : ℕ) (S3 L3 : List ℕ) (r3 : ℕ) (S L : List ℕ) (r : ℕ) → Noted S₀ L₀ t
+    pub fields_met : (S₀ S1 : List Bool) (L1 : List ℕ) (r1 : ℕ) (S2 : List Bool) (L2 : List ℕ) (r2 : ℕ) (S3 : List Bool) (L3 : List ℕ) (r3 : ℕ) (S : List Bool) (L : List ℕ) (r : ℕ) → Noted S₀ L₀ t
         → Met L₀ t (get_or W (block_size * src + object_size * x + 2) 0) S1 L1 r1
         → Met L1 r1 (get_or W (block_size * src + object_size * x + 3) 0) S2 L2 r2
         → Met L2 r2 (get_or W (block_size * src + object_size * x + 4) 0) S3 L3 r3
@@ -140,9 +174,9 @@ module _ (W : List ℕ) (src x : ℕ) (ib : Inside W src x) where
 
 -- ---- the list gone over
 module _ (W : List ℕ) (src i : ℕ) where
-  -- object i is the first; `seen` begins with k zeros
+  -- object i is the first; `seen` begins with k times false
   module _ (ib : Inside W src i) (L : List ℕ) (ll : length L ≡ capacity) (k : ℕ) (ek : k ≡ capacity) where
-    pub reach_start : ReachedTo W src i (set (replicate k 0) i 1) (set L 0 i) 1 0
+    pub reach_start : ReachedTo W src i (set (replicate k false) i true) (set L 0 i) 1 0
     reach_start = record {
       inside = ib;
       noted = m.noted;
@@ -155,13 +189,13 @@ module _ (W : List ℕ) (src i : ℕ) where
         small : i < capacity
         small = omega (arith, ib.low, ib.block.small)
 
-        nothing : Noted (replicate k 0) L 0
-        nothing = record { seen = length-replicate k 0 ∙ ek; list = ll; free = omega (arith, zeros-few capacity (replicate k 0)); listed = λ x d. absurd (d (zero_at k x)) }
+        nothing : Noted (replicate k false) L 0
+        nothing = record { seen = length-replicate k false ∙ ek; list = ll; free = omega (arith, unseen-few capacity (replicate k false)); listed = λ x d. absurd (false≢true (sym (unseen_at k x) ∙ d)) }
 
-        m : Met L 0 i (set (replicate k 0) i 1) (set L 0 i) 1
-        m = met_new (replicate k 0) L 0 i nothing (λ _. small) (omega (arith, small)) (zero_at k i)
+        m : Met L 0 i (set (replicate k false) i true) (set L 0 i) 1
+        m = met_new (replicate k false) L 0 i nothing (λ _. small) (omega (arith, small)) (unseen_at k i)
 
-  module _ (S L : List ℕ) (t h : ℕ) (so : ReachedTo W src i S L t h) where
+  module _ (S : List Bool) (L : List ℕ) (t h : ℕ) (so : ReachedTo W src i S L t h) where
     module _ (hh : h < t) where
       pub head_read : h < length L
       head_read = omega (arith, so.noted.list, so.noted.free)
@@ -169,7 +203,7 @@ module _ (W : List ℕ) (src i : ℕ) where
       pub head_inside : Inside W src (get_or L h 0)
       head_inside = record { block = so.inside.block; low = so.low h hh }
 
-      module _ (S2 L2 : List ℕ) (r : ℕ) (o : FieldsMet W src (get_or L h 0) 4 L t S2 L2 r) where
+      module _ (S2 : List Bool) (L2 : List ℕ) (r : ℕ) (o : FieldsMet W src (get_or L h 0) 4 L t S2 L2 r) where
         pub reach_few : r ≤ capacity
         reach_few = omega (arith, o.noted.free)
 

@@ -19,8 +19,8 @@ use Rattle.canon.proofs.Nodes.{length_nodes, at_nodes}
 use Rattle.maker.specs.Adding.{object_of, Found}
 use Rattle.maker.specs.Merging.{CodeAs}
 use Rattle.maker.specs.Sorting.{Fresh, Sorted, Decided, code_at, TurnedAs, Listed, Sorting, Further, Onward, Settling, ByFields, SortedFrom, OpenIs, LeadsNew, LeadsIs, CodesTurned, TurnedIs}
-use Rattle.maker.specs.declared.sort.Turned.{Turned}
-use Rattle.maker.specs.declared.sort.Turned.TheVariants.{All}
+use Rattle.std.specs.declared.option.Option.{Option}
+use Rattle.std.specs.declared.option.Option.TheVariants.{Some, None}
 use Rattle.maker.specs.Seeking.{Sought}
 use Rattle.maker.proofs.Fresh.{fresh_up}
 use Rattle.maker.proofs.Turns.{field_ref, turned_packed, turned_same, turned_fresh}
@@ -58,9 +58,9 @@ module _ (W : List ℕ) (src host : ℕ) (L : List ℕ) (m : ℕ) (T F : List �
   unfolding count_in
   host_count = refl
 
-  pub found_small : (k : ℕ) → k < get_or W (block_size * host + count_at) 0 → k + 1 < 256
+  pub found_small : (S : List ℕ) (a : Option ℕ) → Found W host (get_or W (block_size * host + count_at) 0) S a → (k : ℕ) → a ≡ Some k → k + 1 < 256
   unfolding count_in
-  found_small k h = omega (arith, s.ground.target.small)
+  found_small S a fd k e = omega (arith, s.ground.target.small, (fd.hit k e).low)
 
   pub sorting_told : length T ≡ capacity
   sorting_told = s.sorted.mapped.table
@@ -182,7 +182,7 @@ module _ (W : List ℕ) (src host : ℕ) (L : List ℕ) (m : ℕ) (T F : List �
     pub fields_silent : ByFields W src host L m x T F T F false
     fields_silent = record { onward = onward_none W src host L m T F s; here = λ e. absurd (false≢true e) }
 
-    module _ (o : Turned) (to : TurnedIs W src x T o) (w : ℕ) (eo : o ≡ All w) where
+    module _ (o : Option ℕ) (to : TurnedIs W src x T o) (w : ℕ) (eo : o ≡ Some w) where
       tu : CodesTurned W src x T 0 w
       tu = subst (TurnedIs W src x T) eo to
 
@@ -196,16 +196,17 @@ module _ (W : List ℕ) (src host : ℕ) (L : List ℕ) (m : ℕ) (T F : List �
         pub fields_packed : Packed (object_of (get_or W (block_size * src + object_size * x) 0) (get_or W (block_size * src + object_size * x + 1) 0) w v) 0
         fields_packed = turned_packed W src x host turned listed_inside s.ground.target turned_as
 
-        module _ (k : ℕ) (fd : Found W host (get_or W (block_size * host + count_at) 0) turned k) where
-          pub fields_found : k < get_or W (block_size * host + count_at) 0 → ByFields W src host L m x T F (set T x (k + 1)) F true
+        module _ (a : Option ℕ) (fd : Found W host (get_or W (block_size * host + count_at) 0) turned a) where
+          pub fields_found : (k : ℕ) → a ≡ Some k → ByFields W src host L m x T F (set T x (k + 1)) F true
           unfolding count_in objects_in
-          fields_found h =
+          fields_found k ea =
+              let hit = fd.hit k ea in
               let ca : CodeAs W src x host k =
               turned_same W src x host turned listed_inside s.ground.target turned_as k
-              (record { low = h; is = at_nodes W (block_size * host) (get_or W (block_size * host + count_at) 0) k h ∙ fd.hit h }) in
+              (record { low = hit.low; is = at_nodes W (block_size * host) (get_or W (block_size * host + count_at) 0) k hit.low ∙ hit.is }) in
               record { onward = tell_one k ca; here = λ _. tell_here k ca }
 
-          pub fields_missed : get_or W (block_size * host + count_at) 0 ≤ k → ByFields W src host L m x T F T (set F x 1) true
+          pub fields_missed : a ≡ None → ByFields W src host L m x T F T (set F x 1) true
           unfolding count_in
           fields_missed h = record { onward = mark_new (turned_fresh W src x host turned listed_inside s.ground.target turned_as (fd.miss h)); here = λ _. mark_here }
 

@@ -1,6 +1,6 @@
 -- What trying a host answers: one law for each return of `try_in`.
 -- Not here: the parts brought (Brings), which block is the host (Hosts).
-use Prim.Native.Nat.{ℕ, zero, suc, ◌+◌, ◌*◌, ◌%◌, ◌<◌, ◌≤◌}
+use Prim.Native.Nat.{ℕ, zero, suc, ◌+◌, ◌*◌, ◌<◌, ◌≤◌}
 use native.Mathlib.Omega.{arith}
 use native.Mathlib.Decide.{dec_lt}
 use mathlib.Core.Path.{◌≡◌, refl, sym, ap, ap₂, ◌∙◌, subst}
@@ -9,9 +9,6 @@ use mathlib.Core.Option.{some}
 use lib.ListN.{length, get_or, take, get_elem?, length-take}
 use lib.Seq.{get_or-take}
 use Rattle.cofj.specs.Partial.{◌>>=◌}
-use borrow.Author.Tests.{eqb-false}
-use types.Run.{OneOf}
-use denote.Enum.Declared.{tag_of}
 use Rattle.cofj.specs.Values.{Ref, obj, leaf, undet, Node, node, Graph, graph, node_at, canon, make}
 use Rattle.cofj.specs.Unfolding.{object, follow, Same, InRange, Whole}
 use Rattle.cofj.proofs.Basics.{get_d_map_lt}
@@ -25,12 +22,9 @@ use Rattle.values.specs.Layout.{raw_of, Holds}
 use Rattle.values.specs.Operations.{Gives}
 use Rattle.values.proofs.Blocks.{size_in, whole_at}
 use Rattle.values.proofs.Trees.{made_as}
-use Rattle.maker.specs.Figures.{no_room}
-use Rattle.maker.specs.declared.Slot.{Slot}
-use Rattle.maker.specs.declared.Made.TheVariants.{Value}
-use Rattle.maker.specs.declared.merge.Tried.{Tried}
-use Rattle.maker.specs.declared.merge.Tried.TheVariants.{Here, NoRoom}
-use Rattle.maker.specs.contracts.merge.Tried as TriedT
+use Rattle.std.specs.declared.option.Option.{Option}
+use Rattle.std.specs.declared.option.Option.TheVariants.{Some, None}
+use Rattle.std.proofs.lemmas.Option.{none-some, same_Some}
 use Rattle.maker.specs.Laying.{values_from, raws_from, PartsHeld, MadeIs}
 use Rattle.maker.specs.Adding.{codes_of, pairs_of, object_of, beside_of, RootNumbers, part_of}
 use Rattle.maker.specs.Merging.{Grown, Fits, Standing, Entered, TriedIs, As, AllWithin, RootBrought, PartsBrought}
@@ -46,23 +40,15 @@ use Rattle.maker.proofs.Brings.{beneath_grown, like_grown}
 
 -- ---- what trying a host answers
 module _ (W : List ℕ) (v : Graph) (host dst : ℕ) (W1 : List ℕ) where
-  tried_none : Grown host W W1 → (BlockIn W host v → Crowd v) → TriedIs W v host dst W1 NoRoom
-  tried_none g c = record { here = λ r e. absurd (let u : ◌≡◌ {A = ℕ} 0 1 = cc in omega arith); none = λ _. g; over = λ _. c }
+  tried_none : Grown host W W1 → (BlockIn W host v → Crowd v) → TriedIs W v host dst W1 None
+  tried_none g c = record { here = λ r e. absurd (none-some r e); none = λ _. g; over = λ _. c }
 
-  tried_value : (r : ValueRef) → MadeIs W v dst W1 (Value r) → TriedIs W v host dst W1 (Here r)
+  tried_value : (r : ValueRef) → MadeIs W v dst W1 (Some r) → TriedIs W v host dst W1 (Some r)
   tried_value r m = record {
-    here = λ s e. let z : r ≡ s = cc in subst (λ (x : ValueRef). MadeIs W v dst W1 (Value x)) z m;
-    none = λ e. absurd (let u : ◌≡◌ {A = ℕ} 0 1 = cc in omega arith);
-    over = λ e. absurd (let u : ◌≡◌ {A = ℕ} 0 1 = cc in omega arith);
+    here = λ s e. subst (λ (x : ValueRef). MadeIs W v dst W1 (Some x)) (same_Some r s e) m;
+    none = λ e. absurd (none-some r (sym e));
+    over = λ e. absurd (none-some r (sym e));
   }
-
-  pub no_room_lem : (o : Tried) → TriedIs W v host dst W1 o → OneOf (1 ∷ []) (tag_of TriedT.the_type o) → Grown host W W1
-  no_room_lem (Here r) t e = absurd (eqb-false 0 1 refl e)
-  no_room_lem NoRoom t e = t.none refl
-
-  pub too_small : (o : Tried) → TriedIs W v host dst W1 o → OneOf (1 ∷ []) (tag_of TriedT.the_type o) → BlockIn W host v → Crowd v
-  too_small (Here r) t e = absurd (eqb-false 0 1 refl e)
-  too_small NoRoom t e = t.over refl
 
 abbrev AllLike : List Node → List Ref → List Graph → Type 0
 AllLike ms [] [] = Unit {0}
@@ -77,14 +63,14 @@ like_follow ms (r ∷ rs) [] a f p = absurd a
 like_follow ms (r ∷ rs) (g ∷ gs) a zero p = a.0 p
 like_follow ms (r ∷ rs) (g ∷ gs) a (suc f) p = like_follow ms rs gs a.1 f p
 
-like_all : (W : List ℕ) (ms : List Node) (n : ℕ) (rs : List Ref) (ps : List Slot) → n ≤ length rs → n ≤ length ps
-    → ((i : ℕ) → i < n → Same ms (get_or rs i (leaf undet)) (raw_of W (part_of ps i)).nodes (raw_of W (part_of ps i)).root) → AllLike ms (take n rs) (map (λ s. raw_of W s.r) (take n ps))
+like_all : (W : List ℕ) (ms : List Node) (n : ℕ) (rs : List Ref) (ps : List ValueRef) → n ≤ length rs → n ≤ length ps
+    → ((i : ℕ) → i < n → Same ms (get_or rs i (leaf undet)) (raw_of W (part_of ps i)).nodes (raw_of W (part_of ps i)).root) → AllLike ms (take n rs) (map (raw_of W) (take n ps))
 like_all W ms zero rs ps a b h = tt
 like_all W ms (suc n) [] ps a b h = absurd (omega arith)
 like_all W ms (suc n) (r ∷ rs) [] a b h = absurd (omega arith)
 like_all W ms (suc n) (r ∷ rs) (s ∷ ps) a b h = (h 0 (omega arith), like_all W ms n rs ps (omega arith) (omega arith) (λ i l. h (suc i) (omega arith)))
 
-module _ (W : List ℕ) (c : ℕ) (ps : List Slot) (n host dst : ℕ) (held : PartsHeld W ps n) (few : n ≤ code_count) (le : dst ≤ host) (W1 : List ℕ) (w : ℕ) (br : PartsBrought W ps n host W1 w) where
+module _ (W : List ℕ) (c : ℕ) (ps : List ValueRef) (n host dst : ℕ) (held : PartsHeld W ps n) (few : n ≤ code_count) (le : dst ≤ host) (W1 : List ℕ) (a : Option ℕ) (br : PartsBrought W ps n host W1 a) where
   abbrev made : Graph
   made = make c (values_from W ps 0 n)
 
@@ -92,8 +78,8 @@ module _ (W : List ℕ) (c : ℕ) (ps : List Slot) (n host dst : ℕ) (held : Pa
   raw_at : (i : ℕ) → i < n → get_or (raws_from W ps 0 n) i (graph (leaf undet) []) ≡ raw_of W (part_of ps i)
   unfolding raws_from
   raw_at i l =
-      get_d_map_lt (λ s. raw_of W s.r) (take n ps) i (graph (leaf undet) []) (record { r = Object 0 0 }) (omega (arith, length-take n ps, held.full))
-      ∙ ap (λ (s : Slot). raw_of W s.r) (get_or-take n ps i (record { r = Object 0 0 }) l)
+      get_d_map_lt (raw_of W) (take n ps) i (graph (leaf undet) []) (Object 0 0) (omega (arith, length-take n ps, held.full))
+      ∙ ap (raw_of W) (get_or-take n ps i (Object 0 0) l)
 
   all_within : AllWithin W ps n made
   all_within i l =
@@ -101,12 +87,12 @@ module _ (W : List ℕ) (c : ℕ) (ps : List Slot) (n host dst : ℕ) (held : Pa
       (subst (λ (h : Graph). Within h (make c (raws_from W ps 0 n))) (raw_at i l)
       (within_field c (raws_from W ps 0 n) (raws_whole W c ps n held) (graph (leaf undet) []) i (omega (arith, parts_length W ps n held))))
 
-  pub in_none : w % 256 ≡ no_room → TriedIs W (make c (values_from W ps 0 n)) host dst W1 NoRoom
+  pub in_none : a ≡ None → TriedIs W (make c (values_from W ps 0 n)) host dst W1 None
   in_none z = tried_none W made host dst W1 br.grown (λ old. br.over z made old all_within)
 
-  module _ (ew : (w % 256 ≡ no_room) → ⊥) (v : ℕ) (rn : RootNumbers ps n 0 v) where
+  module _ (w : ℕ) (ew : a ≡ Some w) (v : ℕ) (rn : RootNumbers ps n 0 v) where
     rb : RootBrought W ps n 0 W1 host w
-    rb = br.done ew
+    rb = br.done w ew
 
     abbrev root_object : List ℕ
     root_object = object_of c n w v
@@ -133,12 +119,12 @@ module _ (W : List ℕ) (c : ℕ) (ps : List Slot) (n host dst : ℕ) (held : Pa
         go j l (yes h) = rw (field_is j h) (like_code j h).low
         go j l (no h) = rw (object_ref c n w v j l, rb.spare j (omega (arith, h)) l) (leaf_low (count_in W1 host) undetermined_code (get_or (pairs_of v) j 0) (omega arith))
 
-    module _ (W2 : List ℕ) (r : ℕ) (en : Entered W1 host (object_of c n w v) W2 r) where
+    module _ (W2 : List ℕ) (q : Option ℕ) (en : Entered W1 host (object_of c n w v) W2 q) where
       both : Grown host W W2
       both = grown_more host W W1 W2 br.grown en.grown
 
       -- the host is full of objects that stand in the new one, and does not have it
-      module _ (z : r ≡ no_room) where
+      module _ (z : q ≡ None) where
         abbrev hosted : List Node
         hosted = objects_in W1 host
 
@@ -186,15 +172,15 @@ module _ (W : List ℕ) (c : ℕ) (ps : List Slot) (n host dst : ℕ) (held : Pa
             crowd_topped new_node hosted in_block.whole.inner hosted_low in_block.distinct not_hosted made size
             (λ y h. rb.stand made old all_within y (omega (arith, (en.full z).0))) root
 
-        pub in_full : TriedIs W (make c (values_from W ps 0 n)) host dst W2 NoRoom
+        pub in_full : TriedIs W (make c (values_from W ps 0 n)) host dst W2 None
         in_full = tried_none W made host dst W2 both crowd
 
       pub in_room : block_size * dst + block_size ≤ length W → block_size * dst + block_size ≤ length W2
       in_room h = omega (arith, both.outside.same)
 
-      module _ (d : (r ≡ no_room) → ⊥) where
+      module _ (r : ℕ) (d : q ≡ Some r) where
         st : Standing W2 host root_object r
-        st = en.standing d
+        st = en.standing r d
 
         inside : Inside W2 host r
         inside = record { block = en.grown.block; low = st.low }
@@ -223,5 +209,5 @@ module _ (W : List ℕ) (c : ℕ) (ps : List Slot) (n host dst : ℕ) (held : Pa
         pub in_holds : Holds W2 (Object r host)
         in_holds = record { held = inside }
 
-        pub in_made : (W3 : List ℕ) (v : ValueRef) → Gives W2 dst W3 v (canon (graph_at W2 host r)) → TriedIs W (make c (values_from W ps 0 n)) host dst W3 (Here v)
+        pub in_made : (W3 : List ℕ) (v : ValueRef) → Gives W2 dst W3 v (canon (graph_at W2 host r)) → TriedIs W (make c (values_from W ps 0 n)) host dst W3 (Some v)
         in_made W3 v g = tried_value W _ host dst W3 v (made_brought W W2 _ dst host r inside value (beneath_grown host dst W W2 le both) W3 v g)

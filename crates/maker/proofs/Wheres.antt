@@ -4,7 +4,7 @@ use Prim.Native.Nat.{ℕ, zero, suc, ◌+◌, ◌<◌, ◌≤◌}
 use native.Mathlib.Omega.{arith}
 use native.Mathlib.Decide.{ℕ_discrete}
 use mathlib.Core.Path.{◌≡◌, refl, sym, ap, ◌∙◌, subst}
-use mathlib.Core.Bool.{Bool, true, false, not}
+use mathlib.Core.Bool.{Bool, true, false, cond, not}
 use mathlib.Core.List.{List}
 use lib.Dec.{eqb}
 use borrow.Author.Tests.{eq-eqb, ne_eqb}
@@ -15,21 +15,23 @@ use Rattle.values.specs.Tests.{any}
 use Rattle.values.specs.Layout.{Holds}
 use Rattle.values.proofs.Tests.{not_true, not_false, any_there, any_not, any_more}
 use Rattle.values.proofs.Blocks.{no_object}
-use Rattle.maker.specs.declared.Slot.{Slot}
 use Rattle.maker.specs.Laying.{PartsHeld}
+use Rattle.std.specs.declared.option.Option.{Option}
+use Rattle.std.specs.declared.option.Option.TheVariants.{Some, None}
+use Rattle.std.proofs.lemmas.Option.{none-some, same_Some}
 use Rattle.maker.specs.Adding.{is_object, block_of, stands_in, part_of, all_stand, some_object, first_block}
 
 -- ---- the parts
-module _ (ps : List Slot) (n i : ℕ) (h : i < n) (v : ValueRef) (ev : v ≡ part_of ps i) where
-  pub object_there : (x k : ℕ) → v ≡ Object x k → true ≡ some_object ps n
+module _ (ps : List ValueRef) (n i : ℕ) (h : i < n) where
+  pub object_there : (x k : ℕ) → part_of ps i ≡ Object x k → true ≡ some_object ps n
   unfolding some_object is_object
-  object_there x k e = sym (any_there (λ j. is_object (part_of ps j)) n i h (ap is_object (sym ev ∙ e)))
+  object_there x k e = sym (any_there (λ j. is_object (part_of ps j)) n i h (ap is_object e))
 
-  pub leaves_more : some_object ps i ≡ false → ((i b : ℕ) → v ≡ Object i b → ⊥) → some_object ps (i + 1) ≡ false
+  pub leaves_more : some_object ps i ≡ false → ((j b : ℕ) → part_of ps i ≡ Object j b → ⊥) → some_object ps (i + 1) ≡ false
   unfolding some_object is_object
-  leaves_more a l = any_more (λ j. is_object (part_of ps j)) i a (ap is_object (sym ev) ∙ no_object (λ u. is_object u ≡ false) (λ k. refl) (λ x. refl) refl v l)
+  leaves_more a l = any_more (λ j. is_object (part_of ps j)) i a (no_object (λ u. is_object u ≡ false) (λ k. refl) (λ x. refl) refl (part_of ps i) l)
 
-module _ (ps : List Slot) where
+module _ (ps : List ValueRef) where
   pub leaves_none : some_object ps 0 ≡ false
   unfolding some_object any
   leaves_none = refl
@@ -43,68 +45,75 @@ denied r a e q = sym e ∙ not_true r q
 
 -- ---- the first block other than 0
 module _ (v : ValueRef) where
-  pub block_leaf : ((i b : ℕ) → v ≡ Object i b → ⊥) → 0 ≡ block_of v
+  pub block_leaf : ((i b : ℕ) → v ≡ Object i b → ⊥) → None ≡ block_of v
   unfolding block_of
-  block_leaf = no_object (λ u. 0 ≡ block_of u) (λ k. refl) (λ x. refl) refl v
+  block_leaf = no_object (λ u. None ≡ block_of u) (λ k. refl) (λ x. refl) refl v
 
-  pub block_object : (i b : ℕ) → v ≡ Object i b → b ≡ block_of v
-  unfolding block_of
-  block_object i b e = rw e
+  module _ (i b : ℕ) (e : v ≡ Object i b) where
+    pub block_zero : b ≡ 0 → None ≡ block_of v
+    unfolding block_of
+    block_zero z = rw (e, eq-eqb b 0 z)
 
-module _ (ps : List Slot) where
-  pub first_none : first_block ps 0 ≡ 0
+    pub block_object : (b ≡ 0 → ⊥) → Some b ≡ block_of v
+    unfolding block_of
+    block_object d = rw (e, ne_eqb b 0 d)
+
+module _ (ps : List ValueRef) where
+  pub first_none : first_block ps 0 ≡ None
   unfolding first_block
   first_none = refl
 
-  first_next : (i : ℕ) → first_block ps i ≡ 0 → first_block ps (suc i) ≡ block_of (part_of ps i)
+  first_next : (i : ℕ) → first_block ps i ≡ None → first_block ps (suc i) ≡ block_of (part_of ps i)
   unfolding first_block
-  first_next i e = rw (eq-eqb (first_block ps i) 0 e)
+  first_next i e = rw e
 
-  first_stays : (i : ℕ) → (first_block ps i ≡ 0 → ⊥) → first_block ps (suc i) ≡ first_block ps i
+  first_stays : (i b : ℕ) → first_block ps i ≡ Some b → first_block ps (suc i) ≡ Some b
   unfolding first_block
-  first_stays i d = rw (ne_eqb (first_block ps i) 0 d)
+  first_stays i b e = rw e
 
-  first_is : (n i : ℕ) → i < n → first_block ps i ≡ 0 → (block_of (part_of ps i) ≡ 0 → ⊥) → first_block ps n ≡ block_of (part_of ps i)
-  first_is zero i h e d = absurd (omega arith)
-  first_is (suc n) i h e d = go (λ l. first_is n i l e d) (ℕ_discrete i n)
+  first_is : (n i b : ℕ) → i < n → first_block ps i ≡ None → block_of (part_of ps i) ≡ Some b → first_block ps n ≡ Some b
+  first_is zero i b h e d = absurd (omega arith)
+  first_is (suc n) i b h e d = go (λ l. first_is n i b l e d) (ℕ_discrete i n)
     where
-      go : (i < n → first_block ps n ≡ block_of (part_of ps i)) → Dec (i ≡ n) → first_block ps (suc n) ≡ block_of (part_of ps i)
-      go ih (yes z) = subst (λ (m : ℕ). first_block ps (suc m) ≡ block_of (part_of ps i)) z (first_next i e)
-      go ih (no z) =
-          let q : first_block ps n ≡ block_of (part_of ps i) = ih (omega (arith, z)) in
-          first_stays n (λ y. d (sym q ∙ y)) ∙ q
+      go : (i < n → first_block ps n ≡ Some b) → Dec (i ≡ n) → first_block ps (suc n) ≡ Some b
+      go ih (yes z) = subst (λ (m : ℕ). first_block ps (suc m) ≡ Some b) z (first_next i e ∙ d)
+      go ih (no z) = first_stays n b (ih (omega (arith, z)))
 
-  pub first_end : (n i : ℕ) → first_block ps i ≡ 0 → i ≤ n → n ≤ i → 0 ≡ first_block ps n
+  pub first_end : (n i : ℕ) → first_block ps i ≡ None → i ≤ n → n ≤ i → None ≡ first_block ps n
   first_end n i a h l = let e : i ≡ n = omega arith in sym (rw e at a)
 
   -- it holds objects
-  own_block : (W : List ℕ) (v : ValueRef) → Holds W v → (block_of v ≡ 0 → ⊥) → Block W (block_of v)
+  own_block : (W : List ℕ) (v : ValueRef) → Holds W v → (b : ℕ) → block_of v ≡ Some b → Block W b
   unfolding block_of
-  own_block W (Object i b) h d = h.held.block
-  own_block W (Mark k) h d = absurd (d refl)
-  own_block W (Number x) h d = absurd (d refl)
-  own_block W Undetermined h d = absurd (d refl)
+  own_block W (Object i x) h b e = go (eqb x 0) e
+    where
+      go : (t : Bool) → cond t None (Some x) ≡ Some b → Block W b
+      go true q = absurd (none-some b q)
+      go false q = subst (Block W) (same_Some x b q) h.held.block
+  own_block W (Mark k) h b e = absurd (none-some b e)
+  own_block W (Number x) h b e = absurd (none-some b e)
+  own_block W Undetermined h b e = absurd (none-some b e)
 
   module _ (W : List ℕ) (n : ℕ) (held : PartsHeld W ps n) where
-    first_at : (i : ℕ) → i ≤ n → (first_block ps i ≡ 0 → ⊥) → Block W (first_block ps i)
-    first_at zero l d = absurd (d first_none)
-    first_at (suc i) l d = go (first_at i (omega arith)) (ℕ_discrete (first_block ps i) 0)
+    first_at : (i : ℕ) → i ≤ n → (b : ℕ) → first_block ps i ≡ Some b → Block W b
+    first_at zero l b e = absurd (none-some b (sym first_none ∙ e))
+    first_at (suc i) l b e = go (λ a q. first_at i (omega arith) a q) (first_block ps i) refl
       where
-        go : ((first_block ps i ≡ 0 → ⊥) → Block W (first_block ps i)) → Dec (first_block ps i ≡ 0) → Block W (first_block ps (suc i))
-        go ih (yes e) = subst (Block W) (sym (first_next i e)) (own_block W (part_of ps i) (held.part i (omega arith)) (λ z. d (first_next i e ∙ z)))
-        go ih (no q) = subst (Block W) (sym (first_stays i q)) (ih q)
+        go : ((a : ℕ) → first_block ps i ≡ Some a → Block W a) → (o : Option ℕ) → first_block ps i ≡ o → Block W b
+        go ih None q = own_block W (part_of ps i) (held.part i (omega arith)) b (sym (first_next i q) ∙ e)
+        go ih (Some a) q = subst (Block W) (same_Some a b (sym (first_stays i a q) ∙ e)) (ih a q)
 
-    pub first_block_lem : (b : ℕ) → b ≡ first_block ps n → (b ≡ 0 → ⊥) → Block W b
-    first_block_lem b e d = subst (Block W) (sym e) (first_at n (omega arith) (λ z. d (e ∙ z)))
+    pub first_block_lem : (o : Option ℕ) → o ≡ first_block ps n → (b : ℕ) → o ≡ Some b → Block W b
+    first_block_lem o e b d = first_at n (omega arith) b (sym e ∙ d)
 
-module _ (ps : List Slot) (n i b : ℕ) (h : i < n) (a : first_block ps i ≡ 0) (v : ValueRef) (ev : v ≡ part_of ps i) (e : b ≡ block_of v) where
-  part_block : b ≡ block_of (part_of ps i)
+module _ (ps : List ValueRef) (n i : ℕ) (h : i < n) (a : first_block ps i ≡ None) (v : ValueRef) (ev : v ≡ part_of ps i) (o : Option ℕ) (e : o ≡ block_of v) where
+  part_block : o ≡ block_of (part_of ps i)
   part_block = e ∙ ap block_of ev
 
-  pub first_found : (b ≡ 0 → ⊥) → b ≡ first_block ps n
-  first_found d = part_block ∙ sym (first_is ps n i h a (λ z. d (part_block ∙ z)))
+  pub first_found : (b : ℕ) → o ≡ Some b → Some b ≡ first_block ps n
+  first_found b d = sym (first_is ps n i b h a (sym part_block ∙ d))
 
-  pub first_more : b ≡ 0 → first_block ps (i + 1) ≡ 0
+  pub first_more : o ≡ None → first_block ps (i + 1) ≡ None
   first_more z = let s : i + 1 ≡ suc i = omega arith in rw s (first_next ps i a ∙ sym part_block ∙ z)
 
 -- ---- the parts in one block
@@ -112,19 +121,14 @@ pub stands_here : (b : ℕ) (v : ValueRef) (x i : ℕ) → v ≡ Object i x → 
 unfolding stands_in
 stands_here b v x i e = rw e
 
-pub stands_mark : (b : ℕ) (v : ValueRef) (k : ℕ) → v ≡ Mark k → true ≡ stands_in b v
+pub stands_else : (b : ℕ) (v : ValueRef) → ((i x : ℕ) → v ≡ Object i x → ⊥) → true ≡ stands_in b v
 unfolding stands_in
-stands_mark b v k e = rw e
+stands_else b (Object i x) n = absurd (n i x refl)
+stands_else b (Mark k) n = refl
+stands_else b (Number x) n = refl
+stands_else b Undetermined n = refl
 
-pub stands_number : (b : ℕ) (v : ValueRef) (x : ℕ) → v ≡ Number x → true ≡ stands_in b v
-unfolding stands_in
-stands_number b v x e = rw e
-
-pub stands_undet : (b : ℕ) (v : ValueRef) → v ≡ Undetermined → true ≡ stands_in b v
-unfolding stands_in
-stands_undet b v e = rw e
-
-module _ (ps : List Slot) (n b : ℕ) where
+module _ (ps : List ValueRef) (n b : ℕ) where
   abbrev apart : ℕ → Bool
   apart i = not (stands_in b (part_of ps i))
 

@@ -1,5 +1,6 @@
 -- A new object, as numbers (class, count, codes, the numbers beside them) and as bytes; beside the objects of the block where its parts lie, or alone in a block.
-use Rattle.std.specs.Prelude.{ℕ, zero, suc, ◌+◌, ◌*◌, ◌/◌, ◌%◌, ◌≤◌, ◌<◌, ◌≡◌, Bool, true, false, not, cond, List, [], ◌∷◌, ◌++◌, map, eqb, get_or}
+use Rattle.std.specs.Prelude.{ℕ, zero, suc, ◌+◌, ◌*◌, ◌/◌, ◌%◌, ◌≤◌, ◌<◌, ◌≡◌, Bool, true, false, not, cond, List, [], ◌∷◌, ◌++◌, map, eqb, get_or, Some, None}
+use Rattle.std.specs.declared.option.Option.{Option}
 use Rattle.cofj.specs.Values.{Ref, node, Graph}
 use Rattle.canon.specs.Figures.{object_size, head_size, code_count, undetermined_code, first_mark, block_size, three_bytes, four_bytes}
 use Rattle.canon.specs.Layout.{code_of, node_in, Packed, count_in, level_in, reach_in, Outside}
@@ -8,7 +9,7 @@ use Rattle.values.specs.declared.ValueRef.TheVariants.{Object, Mark, Number, Und
 use Rattle.values.specs.Layout.{raw_of}
 use Rattle.values.specs.Tests.{any}
 use Rattle.maker.specs.Figures.{three_pairs}
-use Rattle.maker.specs.declared.Slot.{Slot}
+use Rattle.maker.specs.declared.object.NewObject.{NewObject}
 
 abbrev pub roots : List Graph → List Ref
 roots gs = map (λ g. g.root) gs
@@ -26,14 +27,18 @@ unfoldable pub object_of : ℕ → ℕ → ℕ → ℕ → List ℕ
 unfolding codes_of
 object_of c n w v = c ∷ n ∷ codes_of w ++ codes_of (v % four_bytes) ++ codes_of (v / four_bytes) ++ 0 ∷ 0 ∷ []
 
+-- those of a new object
+abbrev pub bytes_of : NewObject → List ℕ
+bytes_of o = object_of o.class o.count o.codes o.numbers
+
 -- the new object, its fields the roots of its parts
 pub record RootObject (c : ℕ) (gs : List Graph) (T : List ℕ) : Type 0 where
   pub is : node_in T 0 ≡ node c (roots gs)
   pub packed : Packed T 0
 
 -- part i of a new object
-abbrev pub part_of : List Slot → ℕ → ValueRef
-part_of ps i = (get_or ps i (record { r = Object 0 0 })).r
+abbrev pub part_of : List ValueRef → ℕ → ValueRef
+part_of ps i = get_or ps i (Object 0 0)
 
 -- the number beside the code of a value: its own if it is a number, else 0
 unfoldable pub beside_of : ValueRef → ℕ
@@ -43,12 +48,12 @@ beside_of (Number x) = x
 beside_of Undetermined = 0
 
 -- the number w has the codes of the parts' roots from part i on, n in all; the codes after them are undetermined
-pub record RootCodes (W : List ℕ) (ps : List Slot) (n i w : ℕ) : Type 0 where
+pub record RootCodes (W : List ℕ) (ps : List ValueRef) (n i w : ℕ) : Type 0 where
   pub done : (j : ℕ) → i + j < n → get_or (codes_of w) j 0 ≡ code_of (raw_of W (part_of ps (i + j))).root
   pub spare : (j : ℕ) → n ≤ i + j → j < code_count → get_or (codes_of w) j 0 ≡ undetermined_code
 
 -- the number v has the numbers beside them
-pub record RootNumbers (ps : List Slot) (n i v : ℕ) : Type 0 where
+pub record RootNumbers (ps : List ValueRef) (n i v : ℕ) : Type 0 where
   pub done : (j : ℕ) → i + j < n → get_or (pairs_of v) j 0 ≡ beside_of (part_of ps (i + j))
   pub spare : (j : ℕ) → n ≤ i + j → j < code_count → get_or (pairs_of v) j 0 ≡ 0
 
@@ -60,10 +65,15 @@ pub record CodesLevel (w l : ℕ) : Type 0 where
 pub record Missed (W : List ℕ) (b : ℕ) (T : List ℕ) (k : ℕ) : Type 0 where
   pub none : (j : ℕ) → j < k → node_in W (block_size * b + object_size * j) ≡ node_in T 0 → ⊥
 
--- the place of the object in T among t of block b, or t
-pub record Found (W : List ℕ) (b t : ℕ) (T : List ℕ) (k : ℕ) : Type 0 where
-  pub hit : k < t → node_in W (block_size * b + object_size * k) ≡ node_in T 0
-  pub miss : t ≤ k → Missed W b T t
+-- object k of block b is the one in T
+pub record Hit (W : List ℕ) (b t : ℕ) (T : List ℕ) (k : ℕ) : Type 0 where
+  pub low : k < t
+  pub is : node_in W (block_size * b + object_size * k) ≡ node_in T 0
+
+-- the place of the object in T among t of block b, if it is there
+pub record Found (W : List ℕ) (b t : ℕ) (T : List ℕ) (o : Option ℕ) : Type 0 where
+  pub hit : (k : ℕ) → o ≡ Some k → Hit W b t T k
+  pub miss : o ≡ None → Missed W b T t
 
 -- block dst has no objects; the bytes outside are W's
 pub record Emptied (W : List ℕ) (dst : ℕ) (D : List ℕ) : Type 0 where
@@ -95,12 +105,12 @@ is_object (Mark k) = false
 is_object (Number x) = false
 is_object Undetermined = false
 
--- the block of a value that is an object; 0 for another
-unfoldable pub block_of : ValueRef → ℕ
-block_of (Object i b) = b
-block_of (Mark k) = 0
-block_of (Number x) = 0
-block_of Undetermined = 0
+-- the block of a value that is an object of a block other than 0
+unfoldable pub block_of : ValueRef → Option ℕ
+block_of (Object i b) = cond (eqb b 0) None (Some b)
+block_of (Mark k) = None
+block_of (Number x) = None
+block_of Undetermined = None
 
 -- whether a value lies in block b, or is no object
 unfoldable pub stands_in : ℕ → ValueRef → Bool
@@ -110,14 +120,18 @@ stands_in b (Number x) = true
 stands_in b Undetermined = true
 
 -- whether each of the first n parts does
-unfoldable pub all_stand : List Slot → ℕ → ℕ → Bool
+unfoldable pub all_stand : List ValueRef → ℕ → ℕ → Bool
 all_stand ps n b = not (any (λ i. not (stands_in b (part_of ps i))) n)
 
 -- whether one of the first n parts is an object
-unfoldable pub some_object : List Slot → ℕ → Bool
+unfoldable pub some_object : List ValueRef → ℕ → Bool
 some_object ps n = any (λ i. is_object (part_of ps i)) n
 
--- the first block other than 0 in which one of the first n parts lies; 0 if there is none
-unfoldable pub first_block : List Slot → ℕ → ℕ
-first_block ps zero = 0
-first_block ps (suc n) = cond (eqb (first_block ps n) 0) (block_of (part_of ps n)) (first_block ps n)
+abbrev pub first_of : Option ℕ → Option ℕ → Option ℕ
+first_of (Some b) o = Some b
+first_of None o = o
+
+-- the block of the first of n parts that has one
+unfoldable pub first_block : List ValueRef → ℕ → Option ℕ
+first_block ps zero = None
+first_block ps (suc n) = first_of (first_block ps n) (block_of (part_of ps n))

@@ -3,11 +3,7 @@
 use Rattle.std.specs.Prelude.{ℕ, ◌+◌}
 use Rattle.canon.specs.Figures.{capacity}
 
--- what bringing an object into a block answers where there is no room: no object of a block has this number, and no other code is it
-abbrev pub no_room : ℕ
-no_room = capacity
-
--- the number in the host of an object that is not told: the same
+-- the number in the host of an object that is not told: no object of a block has it, and no other code is it
 abbrev pub not_told : ℕ
 not_told = capacity
 

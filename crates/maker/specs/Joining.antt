@@ -1,6 +1,7 @@
 -- The new objects of a part, which lies in block src, added to the host, rings too: their numbers there, their bytes, and the host then.
 -- Not here: which objects are new (Sorting).
-use Rattle.std.specs.Prelude.{ℕ, ◌+◌, ◌-◌, ◌*◌, ◌≤◌, ◌<◌, ◌≡◌, Bool, true, false, cond, List, map, ◌⊎◌, eqb, length, get_or}
+use Rattle.std.specs.Prelude.{ℕ, ◌+◌, ◌-◌, ◌*◌, ◌≤◌, ◌<◌, ◌≡◌, Bool, true, false, cond, List, map, ◌⊎◌, eqb, length, get_or, Some, None}
+use Rattle.std.specs.declared.option.Option.{Option}
 use Rattle.cofj.specs.Values.{obj}
 use Rattle.cofj.specs.Unfolding.{Same}
 use Rattle.canon.specs.Figures.{object_size, head_size, code_count, first_mark, capacity, count_at, block_size}
@@ -52,10 +53,11 @@ pub record Overfull (n t : ℕ) (F : List ℕ) : Type 0 where
   pub new : (k : ℕ) → t ≤ k → k < too_many → New F (from k)
   pub one : (k l : ℕ) → t ≤ k → k < too_many → t ≤ l → l < too_many → from k ≡ from l → k ≡ l
 
--- if there is room; if not, they are too many
-pub record Fitted (n t : ℕ) (T F T' : List ℕ) (m : ℕ) : Type 0 where
-  pub counted : m ≤ capacity → Counted n t T F T' m
-  pub over : capacity < m → Overfull n t F
+-- the answer is how many objects the host then has, which are not too many if it had none too many; none if there is no room
+pub record Fitted (n t : ℕ) (T F T' : List ℕ) (o : Option ℕ) : Type 0 where
+  pub counted : (m : ℕ) → o ≡ Some m → Counted n t T F T' m
+  pub few : (m : ℕ) → o ≡ Some m → t ≤ capacity → m ≤ capacity
+  pub over : o ≡ None → Overfull n t F
 
 -- ---- the bytes
 pub record Placing (W : List ℕ) (src host : ℕ) (T F : List ℕ) : Type 0 where

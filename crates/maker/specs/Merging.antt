@@ -1,6 +1,7 @@
 -- Objects brought into one block, the host: the codes of a value that lies in another block, and of the parts of a new object.
 -- Not here: the bytes of a block with one more object (Adding).
-use Rattle.std.specs.Prelude.{ℕ, zero, suc, ◌+◌, ◌/◌, ◌%◌, ◌≤◌, ◌<◌, ◌≡◌, Bool, true, false, cond, List, ◌⊎◌, ltb, eqb, length, get_or}
+use Rattle.std.specs.Prelude.{ℕ, zero, suc, ◌+◌, ◌/◌, ◌%◌, ◌≤◌, ◌<◌, ◌≡◌, Bool, true, false, cond, List, ◌⊎◌, ltb, eqb, length, get_or, Some, None}
+use Rattle.std.specs.declared.option.Option.{Option}
 use Rattle.std.proofs.Math.Option.{some}
 use Rattle.std.proofs.Math.ListN.{get_elem?}
 use Rattle.cofj.specs.Values.{Ref, Graph, node_at}
@@ -11,11 +12,6 @@ use Rattle.values.specs.declared.ValueRef.{ValueRef}
 use Rattle.values.specs.declared.ValueRef.TheVariants.{Object, Mark, Number, Undetermined}
 use Rattle.values.specs.Tests.{any}
 use Rattle.values.specs.Layout.{raw_of, lies_in}
-use Rattle.maker.specs.Figures.{no_room}
-use Rattle.maker.specs.declared.Slot.{Slot}
-use Rattle.maker.specs.declared.Made.TheVariants.{Value}
-use Rattle.maker.specs.declared.merge.Tried.{Tried}
-use Rattle.maker.specs.declared.merge.Tried.TheVariants.{Here, NoRoom}
 use Rattle.maker.specs.Laying.{MadeIs}
 use Rattle.maker.specs.Adding.{codes_of, part_of, beside_of, Missed}
 use Rattle.maker.specs.Crowds.{In, Within, BlockIn, Crowd}
@@ -37,13 +33,12 @@ pub record Standing (W : List ℕ) (host : ℕ) (T : List ℕ) (r : ℕ) : Type 
   pub low : r < count_in W host
   pub is : node_at (objects_in W host) r ≡ node_in T 0
 
--- r is the number of the object in T, which was there or is added; no_room if the host is full and has it not
-pub record Entered (W : List ℕ) (host : ℕ) (T W' : List ℕ) (r : ℕ) : Type 0 where
+-- the answer is the number of the object in T, which was there or is added; none if the host is full and has it not
+pub record Entered (W : List ℕ) (host : ℕ) (T W' : List ℕ) (o : Option ℕ) : Type 0 where
   pub grown : Grown host W W'
-  pub few : r ≤ no_room
-  pub standing : ((r ≡ no_room) → ⊥) → Standing W' host T r
-  pub from : (y : ℕ) → y < count_in W' host → (y < count_in W host) ⊎ (y ≡ r)
-  pub full : r ≡ no_room → (count_in W host ≡ capacity) × Missed W host T capacity × (W' ≡ W)
+  pub standing : (r : ℕ) → o ≡ Some r → Standing W' host T r
+  pub from : (y : ℕ) → y < count_in W' host → (y < count_in W host) ⊎ (o ≡ Some y)
+  pub full : o ≡ None → (count_in W host ≡ capacity) × Missed W host T capacity × (W' ≡ W)
 
 -- whether a code is an object's, of number f or a higher one; and whether one of the four codes of w is
 unfoldable pub lies_from : ℕ → ℕ → Bool
@@ -65,13 +60,13 @@ pub record Mapped (W : List ℕ) (src host : ℕ) (M : List ℕ) : Type 0 where
   pub table : length M ≡ capacity
   pub each : (x y : ℕ) → get_or M x 0 ≡ y + 1 → CodeAs W src x host y
 
--- object i of block src, with what it leads to, is in the host; r is its number there, or no_room. A value g in which the host's objects and
+-- object i of block src, with what it leads to, is in the host; the answer is its number there, or none if there is no room. A value g in which the host's objects and
 -- object i stand has the objects of the grown host in it, or too many
-pub record Imported (W : List ℕ) (src i host : ℕ) (W' : List ℕ) (r : ℕ) : Type 0 where
+pub record Imported (W : List ℕ) (src i host : ℕ) (W' : List ℕ) (o : Option ℕ) : Type 0 where
   pub grown : Grown host W W'
-  pub like : ((r ≡ no_room) → ⊥) → CodeAs W' src i host r
-  pub stand : ((r ≡ no_room) → ⊥) → (g : Graph) → BlockIn W host g → In (objects_in W src) i g → BlockIn W' host g
-  pub over : r ≡ no_room → (g : Graph) → BlockIn W host g → In (objects_in W src) i g → Crowd g
+  pub like : (r : ℕ) → o ≡ Some r → CodeAs W' src i host r
+  pub stand : (r : ℕ) → o ≡ Some r → (g : Graph) → BlockIn W host g → In (objects_in W src) i g → BlockIn W' host g
+  pub over : o ≡ None → (g : Graph) → BlockIn W host g → In (objects_in W src) i g → Crowd g
 
 -- ---- the parts
 -- the code r of block host, with v's number beside it, unfolds as the value of v in the bytes W
@@ -80,11 +75,12 @@ pub record As (W : List ℕ) (v : ValueRef) (W' : List ℕ) (host r : ℕ) : Typ
   pub plain : ((r ≡ number_code) → ⊥) → beside_of v ≡ 0
   pub same : Same (raw_of W v).nodes (raw_of W v).root (objects_in W' host) (ref_of r (beside_of v))
 
-pub record PartImported (W : List ℕ) (v : ValueRef) (host : ℕ) (W' : List ℕ) (r : ℕ) : Type 0 where
+-- the answer is v's code in the host, or none if there is no room
+pub record PartImported (W : List ℕ) (v : ValueRef) (host : ℕ) (W' : List ℕ) (o : Option ℕ) : Type 0 where
   pub grown : Grown host W W'
-  pub like : ((r ≡ no_room) → ⊥) → As W v W' host r
-  pub stand : ((r ≡ no_room) → ⊥) → (g : Graph) → BlockIn W host g → Within (raw_of W v) g → BlockIn W' host g
-  pub over : r ≡ no_room → (g : Graph) → BlockIn W host g → Within (raw_of W v) g → Crowd g
+  pub like : (r : ℕ) → o ≡ Some r → As W v W' host r
+  pub stand : (r : ℕ) → o ≡ Some r → (g : Graph) → BlockIn W host g → Within (raw_of W v) g → BlockIn W' host g
+  pub over : o ≡ None → (g : Graph) → BlockIn W host g → Within (raw_of W v) g → Crowd g
 
 -- the objects of block base are the first of block host, which may be base
 pub record Begun (W : List ℕ) (base host : ℕ) : Type 0 where
@@ -94,30 +90,30 @@ pub record Begun (W : List ℕ) (base host : ℕ) : Type 0 where
   pub trees : (r : Ref) → InRange (count_in W base) r → Same (objects_in W base) r (objects_in W host) r
 
 -- the first n parts stand in g
-abbrev pub AllWithin : List ℕ → List Slot → ℕ → Graph → Type 0
+abbrev pub AllWithin : List ℕ → List ValueRef → ℕ → Graph → Type 0
 AllWithin W ps n g = (i : ℕ) → i < n → Within (raw_of W (part_of ps i)) g
 
 -- the number w has the codes of the parts from i on, n in all; the codes after them are undetermined
-pub record RootBrought (W : List ℕ) (ps : List Slot) (n i : ℕ) (W' : List ℕ) (host w : ℕ) : Type 0 where
+pub record RootBrought (W : List ℕ) (ps : List ValueRef) (n i : ℕ) (W' : List ℕ) (host w : ℕ) : Type 0 where
   pub done : (j : ℕ) → i + j < n → As W (part_of ps (i + j)) W' host (get_or (codes_of w) j 0)
   pub spare : (j : ℕ) → n ≤ i + j → j < code_count → get_or (codes_of w) j 0 ≡ undetermined_code
   pub stand : (g : Graph) → BlockIn W host g → AllWithin W ps n g → BlockIn W' host g
 
-pub record PartsBrought (W : List ℕ) (ps : List Slot) (n host : ℕ) (W' : List ℕ) (w : ℕ) : Type 0 where
+pub record PartsBrought (W : List ℕ) (ps : List ValueRef) (n host : ℕ) (W' : List ℕ) (o : Option ℕ) : Type 0 where
   pub grown : Grown host W W'
-  pub done : ((w % 256 ≡ no_room) → ⊥) → RootBrought W ps n 0 W' host w
-  pub over : w % 256 ≡ no_room → (g : Graph) → BlockIn W host g → AllWithin W ps n g → Crowd g
+  pub done : (w : ℕ) → o ≡ Some w → RootBrought W ps n 0 W' host w
+  pub over : o ≡ None → (g : Graph) → BlockIn W host g → AllWithin W ps n g → Crowd g
 
 -- what trying a host answers: the value, in block dst or below, or only a host that has grown; a host whose objects all stand in the value is too small only for a
 -- value that is too large
-pub record TriedIs (W : List ℕ) (v : Graph) (host dst : ℕ) (W' : List ℕ) (o : Tried) : Type 0 where
-  pub here : (r : ValueRef) → o ≡ Here r → MadeIs W v dst W' (Value r)
-  pub none : o ≡ NoRoom → Grown host W W'
-  pub over : o ≡ NoRoom → BlockIn W host v → Crowd v
+pub record TriedIs (W : List ℕ) (v : Graph) (host dst : ℕ) (W' : List ℕ) (o : Option ValueRef) : Type 0 where
+  pub here : (r : ValueRef) → o ≡ Some r → MadeIs W v dst W' (Some r)
+  pub none : o ≡ None → Grown host W W'
+  pub over : o ≡ None → BlockIn W host v → Crowd v
 
 -- ---- the host
 -- whether one of the first n parts is an object of block d
-unfoldable pub some_in : List Slot → ℕ → ℕ → Bool
+unfoldable pub some_in : List ValueRef → ℕ → ℕ → Bool
 some_in ps n d = any (λ i. lies_in d (part_of ps i)) n
 
 -- the block of v, if v is an object of a block other than 0 and that block has more objects than block b; else b
@@ -128,6 +124,6 @@ larger_of W (Number x) b = b
 larger_of W Undetermined b = b
 
 -- the block with the most objects, of block b and those of the first n parts but block 0
-unfoldable pub largest_of : List ℕ → List Slot → ℕ → ℕ → ℕ
+unfoldable pub largest_of : List ℕ → List ValueRef → ℕ → ℕ → ℕ
 largest_of W ps zero b = b
 largest_of W ps (suc n) b = larger_of W (part_of ps n) (largest_of W ps n b)

@@ -1,21 +1,25 @@
 -- What an object of a block leads to, listed by going over the list: what is known while it grows.
 -- Not here: what the whole list is (Sorting, Reached).
-use Rattle.std.specs.Prelude.{ℕ, ◌+◌, ◌≤◌, ◌<◌, ◌≡◌, List, length, get_or}
+use Rattle.std.specs.Prelude.{ℕ, zero, suc, ◌+◌, ◌≤◌, ◌<◌, ◌≡◌, Bool, true, false, cond, List, length, get_or}
 use Rattle.canon.specs.Figures.{code_count, first_leaf, capacity}
 use Rattle.canon.specs.Layout.{count_in, objects_in, graph_at, Inside}
-use Rattle.canon.specs.Tables.{zero_count}
 use Rattle.maker.specs.Sorting.{code_at, Listed}
 use Rattle.maker.specs.Crowds.{In}
 
--- whatever S has not 0 for is one of the first t of L, and there is room for the others
-pub record Noted (S L : List ℕ) (t : ℕ) : Type 0 where
+-- how many of the first k are not seen
+unfoldable pub unseen : ℕ → List Bool → ℕ
+unseen zero S = 0
+unseen (suc k) S = cond (get_or S k false) 0 1 + unseen k S
+
+-- whatever S has true for is one of the first t of L, and there is room for the others
+pub record Noted (S : List Bool) (L : List ℕ) (t : ℕ) : Type 0 where
   pub seen : length S ≡ capacity
   pub list : length L ≡ capacity
-  pub free : t + zero_count capacity S ≤ capacity
-  pub listed : (x : ℕ) → ((get_or S x 0 ≡ 0) → ⊥) → Listed L t x
+  pub free : t + unseen capacity S ≤ capacity
+  pub listed : (x : ℕ) → get_or S x false ≡ true → Listed L t x
 
 -- the code c met: the list of t objects in L₀ has r in L, with no other new one than c
-pub record Met (L₀ : List ℕ) (t c : ℕ) (S L : List ℕ) (r : ℕ) : Type 0 where
+pub record Met (L₀ : List ℕ) (t c : ℕ) (S : List Bool) (L : List ℕ) (r : ℕ) : Type 0 where
   pub noted : Noted S L r
   pub more : t ≤ r
   pub front : (q : ℕ) → q < t → get_or L q 0 ≡ get_or L₀ q 0
@@ -31,7 +35,7 @@ pub record FieldOf (W : List ℕ) (src x y : ℕ) : Type 0 where
   pub is : y ≡ code_at W src x field
 
 -- the first k codes of object x of block src met
-pub record FieldsMet (W : List ℕ) (src x k : ℕ) (L₀ : List ℕ) (t : ℕ) (S L : List ℕ) (r : ℕ) : Type 0 where
+pub record FieldsMet (W : List ℕ) (src x k : ℕ) (L₀ : List ℕ) (t : ℕ) (S : List Bool) (L : List ℕ) (r : ℕ) : Type 0 where
   pub noted : Noted S L r
   pub more : t ≤ r
   pub front : (q : ℕ) → q < t → get_or L q 0 ≡ get_or L₀ q 0
@@ -40,7 +44,7 @@ pub record FieldsMet (W : List ℕ) (src x k : ℕ) (L₀ : List ℕ) (t : ℕ) 
   pub new : (q : ℕ) → t ≤ q → q < r → FieldOf W src x (get_or L q 0)
 
 -- t objects are listed, and the codes of the first h of them are met
-pub record ReachedTo (W : List ℕ) (src i : ℕ) (S L : List ℕ) (t h : ℕ) : Type 0 where
+pub record ReachedTo (W : List ℕ) (src i : ℕ) (S : List Bool) (L : List ℕ) (t h : ℕ) : Type 0 where
   pub inside : Inside W src i
   pub noted : Noted S L t
   pub low : (q : ℕ) → q < t → get_or L q 0 < count_in W src

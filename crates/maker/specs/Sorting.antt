@@ -1,14 +1,13 @@
 -- The objects of a part, which lies in block src, sorted out: which are objects of the host, and which are new to it.
 -- Not here: the new ones added to the host (Joining).
-use Rattle.std.specs.Prelude.{ℕ, ◌+◌, ◌*◌, ◌≤◌, ◌<◌, ◌≡◌, List, ◌⊎◌, Bool, true, false, cond, ltb, length, get_or}
+use Rattle.std.specs.Prelude.{ℕ, ◌+◌, ◌*◌, ◌≤◌, ◌<◌, ◌≡◌, List, ◌⊎◌, Bool, true, false, cond, ltb, length, get_or, Some, None}
+use Rattle.std.specs.declared.option.Option.{Option}
 use Rattle.cofj.specs.Values.{Node, obj}
 use Rattle.cofj.specs.Unfolding.{Same}
 use Rattle.canon.specs.Figures.{object_size, head_size, code_count, numbers_at, first_leaf, capacity, block_size}
 use Rattle.canon.specs.Layout.{count_in, objects_in, graph_at, Block}
 use Rattle.canon.specs.Numbers.{number_in}
 use Rattle.maker.specs.Figures.{not_told}
-use Rattle.maker.specs.declared.sort.Turned.{Turned}
-use Rattle.maker.specs.declared.sort.Turned.TheVariants.{All, Open}
 use Rattle.maker.specs.Adding.{codes_of}
 use Rattle.maker.specs.Merging.{CodeAs, Mapped}
 use Rattle.maker.specs.Crowds.{In}
@@ -130,6 +129,6 @@ pub record CodesTurned (W : List ℕ) (src x : ℕ) (T : List ℕ) (k w : ℕ) :
   pub code : (j : ℕ) → k + j < code_count → get_or (codes_of w) j 0 ≡ turn_in T (code_at W src x (k + j))
   pub told : (j : ℕ) → k + j < code_count → (turn_in T (code_at W src x (k + j)) ≡ not_told) → ⊥
 
-abbrev pub TurnedIs : List ℕ → ℕ → ℕ → List ℕ → Turned → Type 0
-TurnedIs W src x T (All w) = CodesTurned W src x T 0 w
-TurnedIs W src x T Open = Unit {0}
+abbrev pub TurnedIs : List ℕ → ℕ → ℕ → List ℕ → Option ℕ → Type 0
+TurnedIs W src x T (Some w) = CodesTurned W src x T 0 w
+TurnedIs W src x T None = Unit {0}

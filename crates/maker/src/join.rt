@@ -6,8 +6,7 @@ ghost use Rattle.canon.specs.Layout.{Inside, count_in};
 ghost use Rattle.canon.specs.Tables.{Lifted};
 ghost use Rattle.maker.specs.Joining.{numbers_of, NewAmong, Fitted, Placing, Laid, Extended, Joining, Joined};
 
-use crate::TOO_MANY;
-use crate::object::lay;
+use crate::object::{NewObject, lay};
 use crate::sort::turn;
 use canon::bytes::eight_at;
 use canon::layout::{
@@ -20,34 +19,30 @@ pub(crate) fn up_to_new(n: u8, fresh: &[u8]) -> u8
     requires { n ≤ length fresh.now }
     ensures { NewAmong n fresh.now result }
 {
-    let mut k = n;
-    while 0 < k {
-        if fresh[(k - 1) as usize] != 0 {
-            return k;
+    for k in (0..n).rev() {
+        if fresh[k as usize] != 0 {
+            return k + 1;
         }
-        k -= 1;
     }
     0
 }
 
-// Numbers for the new ones of the first n objects, from t on in their order. Answers how many objects the host then has, TOO_MANY if there is no room.
-pub(crate) fn number_new(n: u8, t: u8, told: &mut [u8], fresh: &[u8]) -> u8
+// Numbers for the new ones of the first n objects, from t on in their order. Answers how many objects the host then has, if there is room.
+pub(crate) fn number_new(n: u8, t: u8, told: &mut [u8], fresh: &[u8]) -> Option<u8>
     requires { (n ≤ length told.old) × (n ≤ length fresh.now) }
     ensures { Fitted n t told.old fresh.now told.new result }
 {
     let mut next = t;
-    let mut x: u8 = 0;
-    while x < n {
+    for x in 0..n {
         if fresh[x as usize] != 0 {
             if CAPACITY <= next {
-                return TOO_MANY;
+                return None;
             }
             next += 1;
             told[x as usize] = next;
         }
-        x += 1;
     }
-    next
+    Some(next)
 }
 
 // Object x of block src, its codes turned, at the place of object y of block host.
@@ -62,10 +57,13 @@ pub(crate) fn put_object(work: &mut [u8], src: u16, x: u8, host: u16, y: u8, tol
     let c = turn(told, work[p + 4]);
     let d = turn(told, work[p + 5]);
     let w = (a as u32) + BYTE * (b as u32) + TWO_BYTES * (c as u32) + THREE_BYTES * (d as u32);
-    let v = eight_at(work, p + NUMBERS);
-    let class = work[p];
-    let count = work[p + 1];
-    lay(work, q, class, count, w, v);
+    let o = NewObject {
+        class: work[p],
+        count: work[p + 1],
+        codes: w,
+        numbers: eight_at(work, p + NUMBERS),
+    };
+    lay(work, q, o);
 }
 
 // The new ones of the first n objects, each at the place that `told` has for it.
@@ -73,23 +71,11 @@ pub(crate) fn put_new(work: &mut [u8], src: u16, host: u16, told: &[u8], fresh: 
     requires { Placing work.old src host told.now fresh.now × (n ≤ count_in work.old src) }
     ensures { Laid work.old src host told.now fresh.now n work.new }
 {
-    let mut x: u8 = 0;
-    while x < n {
+    for x in 0..n {
         if fresh[x as usize] != 0 {
             put_object(work, src, x, host, told[x as usize] - 1, told);
         }
-        x += 1;
     }
-}
-
-// The higher of two levels.
-pub(crate) fn higher(a: u8, b: u8) -> u8
-    ensures { (a ≤ result) × (b ≤ result) }
-{
-    if a < b {
-        return b;
-    }
-    a
 }
 
 // The new objects, all among the first n, in block host, which then has m objects.
@@ -101,7 +87,7 @@ pub(crate) fn extend(work: &mut [u8], src: u16, host: u16, told: &[u8], fresh: &
     let l = work[BLOCK * (host as usize) + LEVEL];
     put_new(work, src, host, told, fresh, n);
     let k = level_of(work, BLOCK * (host as usize) + OBJECT * (t as usize), m - t);
-    let h = higher(l, k);
+    let h = l.max(k);
     work[BLOCK * (host as usize) + COUNT] = m;
     work[BLOCK * (host as usize) + LEVEL] = h;
     work[BLOCK * (host as usize) + REACH] = m;
@@ -114,10 +100,9 @@ pub(crate) fn join(work: &mut [u8], src: u16, host: u16, told: &mut [u8], fresh:
 {
     let t = work[BLOCK * (host as usize) + COUNT];
     let n = up_to_new(work[BLOCK * (src as usize) + COUNT], fresh);
-    let m = number_new(n, t, told, fresh);
-    if CAPACITY < m {
+    let Some(m) = number_new(n, t, told, fresh) else {
         return false;
-    }
+    };
     if m == t {
         return true;
     }

@@ -1,6 +1,6 @@
 // A new object over values, in a block of the work buffer.
-// Offered: `make::make` and `over::make_fieldless`, a new object with and without parts, with `Made` and `Slot`; `fieldless::lay_fieldless`, block 0 with the objects without
-// fields, and `fieldless::PRESETS`.
+// Offered: `make::make` and `over::make_fieldless`, a new object with and without parts; `fieldless::lay_fieldless`, block 0 with the objects without fields, and
+// `fieldless::PRESETS`.
 // Not here: what else is done with values (values), which objects are equal (canon), which blocks are free.
 #![tactic(auto)]
 
@@ -20,27 +20,6 @@ pub mod fieldless; // block 0 with the objects without fields
 
 use canon::layout::CAPACITY;
 
-// what bringing an object into a block answers where there is no room: no object of a block has this number, and no other code is it
-const NO_ROOM: u8 = CAPACITY;
-
-// the same for several parts, in the place of their codes as one number
-const NO_CODES: u32 = NO_ROOM as u32;
-
-// the number in the host of an object that is not told: the same
+// The number in the host of an object that is not told: no object of a block has it, and no other code is it. A number, for codes are turned by a table
+// of bytes in fixed memory, whose contract (canon, `Lifted`) has one for each.
 const NOT_TOLD: u8 = CAPACITY;
-
-// one object more than a block has room for
-const TOO_MANY: u8 = CAPACITY + 1;
-
-// What making an object answers.
-#[derive(Clone, Copy)]
-pub enum Made {
-    Value(values::ValueRef),
-    TooLarge,
-}
-
-// A value reference as an element of an array.
-#[derive(Clone, Copy)]
-pub struct Slot {
-    pub r: values::ValueRef,
-}

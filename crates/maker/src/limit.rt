@@ -4,7 +4,6 @@ ghost use Rattle.canon.specs.Figures.{block_size, capacity, spare_block};
 ghost use Rattle.values.specs.Layout.{Holds, lies_in};
 ghost use Rattle.maker.specs.Laying.{FitsIn};
 
-use crate::NO_ROOM;
 use crate::over::empty;
 use crate::part::import;
 use canon::layout::{BLOCK, COUNT, SPARE};
@@ -23,9 +22,8 @@ pub(crate) fn fits(work: &mut [u8], v: ValueRef, objects: u8) -> bool
         return true;
     }
     empty(work, SPARE);
-    let r = import(work, b, i, SPARE);
-    if r == NO_ROOM {
+    let Some(_) = import(work, b, i, SPARE) else {
         return false;
-    }
+    };
     work[BLOCK * (SPARE as usize) + COUNT] <= objects
 }

@@ -2,15 +2,14 @@
 ghost use Rattle.std.specs.Prelude.{◌≡◌, true, false, ◌+◌, ◌*◌, ◌<◌, ◌≤◌, length};
 ghost use Rattle.cofj.specs.Values.{make};
 ghost use Rattle.canon.specs.Figures.{capacity, code_count};
-ghost use Rattle.maker.specs.Laying.{parts_of, Makeable, values_from, MadeIs, MadeWithin};
+ghost use Rattle.maker.specs.Laying.{Makeable, values_from, MadeIs, MadeWithin};
 ghost use Rattle.canon.specs.Layout.{Block};
 ghost use Rattle.maker.specs.Adding.{all_stand};
 ghost use Rattle.maker.specs.Merging.{some_in};
 
-use crate::Made;
 use crate::limit::fits;
 use crate::merge::{make_anew, make_apart, make_in};
-use crate::object::{root_codes, root_numbers};
+use crate::object::{NewObject, root_codes, root_numbers};
 use crate::over::{add, empty, find, make_alone};
 use crate::parts::{first_block, some_in, some_object, together};
 use canon::layout::{BLOCK, CAPACITY, COUNT};
@@ -18,28 +17,44 @@ use values::ValueRef;
 use values::value::bring;
 
 // A new object whose parts lie in block b, or are no objects.
-pub(crate) fn make_beside(work: &mut [u8], c: u8, parts: &[u32], n: u8, b: u16, dst: u16) -> Made
-    requires { Makeable work.old (parts_of parts.now) n dst × Block work.old b × (all_stand (parts_of parts.now) n b ≡ true) × (code_count ≤ length parts.now) }
-    ensures { MadeIs work.old (make c (values_from work.old (parts_of parts.now) 0 n)) dst work.new result }
+pub(crate) fn make_beside(
+    work: &mut [u8],
+    c: u8,
+    parts: &[ValueRef],
+    n: u8,
+    b: u16,
+    dst: u16,
+) -> Option<ValueRef>
+    requires { Makeable work.old parts.now n dst × Block work.old b × (all_stand parts.now n b ≡ true) × (code_count ≤ length parts.now) }
+    ensures { MadeIs work.old (make c (values_from work.old parts.now 0 n)) dst work.new result }
 {
-    let w = root_codes(work, parts, n);
-    let v = root_numbers(parts, n);
+    let o = NewObject {
+        class: c,
+        count: n,
+        codes: root_codes(work, parts, n),
+        numbers: root_numbers(parts, n),
+    };
     let t = work[BLOCK * (b as usize) + COUNT];
-    let k = find(work, b, t, c, n, w, v);
-    if k < t {
-        return Made::Value(bring(work, ValueRef::Object(k, b), dst));
+    if let Some(k) = find(work, b, t, o) {
+        return Some(bring(work, ValueRef::Object(k, b), dst));
     }
     if CAPACITY <= t {
         return make_anew(work, c, parts, n, dst);
     }
-    add(work, b, c, n, w, v, dst);
-    Made::Value(ValueRef::Object(t, dst))
+    add(work, b, o, dst);
+    Some(ValueRef::Object(t, dst))
 }
 
 // A new object in block `dst`, where no part lies: alone, or after what its parts lead to.
-pub(crate) fn make_fresh(work: &mut [u8], c: u8, parts: &[u32], n: u8, dst: u16) -> Made
-    requires { Makeable work.old (parts_of parts.now) n dst × (some_in (parts_of parts.now) n dst ≡ false) × (code_count ≤ length parts.now) }
-    ensures { MadeIs work.old (make c (values_from work.old (parts_of parts.now) 0 n)) dst work.new result }
+pub(crate) fn make_fresh(
+    work: &mut [u8],
+    c: u8,
+    parts: &[ValueRef],
+    n: u8,
+    dst: u16,
+) -> Option<ValueRef>
+    requires { Makeable work.old parts.now n dst × (some_in parts.now n dst ≡ false) × (code_count ≤ length parts.now) }
+    ensures { MadeIs work.old (make c (values_from work.old parts.now 0 n)) dst work.new result }
 {
     if !some_object(parts, n) {
         return make_alone(work, c, parts, n, dst);
@@ -50,17 +65,22 @@ pub(crate) fn make_fresh(work: &mut [u8], c: u8, parts: &[u32], n: u8, dst: u16)
 
 // A new object of class c with the n first parts, in block `dst` or below, unless it has more objects than a block has room for.
 // Block 0 is often full, and block `dst` is to be written: so the parts are brought to `dst` if one lies there or none lies above block 0.
-pub(crate) fn make_object(work: &mut [u8], c: u8, parts: &[u32], n: u8, dst: u16) -> Made
-    requires { Makeable work.old (parts_of parts.now) n dst × (code_count ≤ length parts.now) }
-    ensures { MadeIs work.old (make c (values_from work.old (parts_of parts.now) 0 n)) dst work.new result }
+pub(crate) fn make_object(
+    work: &mut [u8],
+    c: u8,
+    parts: &[ValueRef],
+    n: u8,
+    dst: u16,
+) -> Option<ValueRef>
+    requires { Makeable work.old parts.now n dst × (code_count ≤ length parts.now) }
+    ensures { MadeIs work.old (make c (values_from work.old parts.now 0 n)) dst work.new result }
 {
     if some_in(parts, n, dst) {
         return make_in(work, c, parts, n, dst, dst, dst);
     }
-    let b = first_block(parts, n);
-    if b == 0 {
+    let Some(b) = first_block(parts, n) else {
         return make_fresh(work, c, parts, n, dst);
-    }
+    };
     if together(parts, n, b) {
         return make_beside(work, c, parts, n, b, dst);
     }
@@ -68,16 +88,20 @@ pub(crate) fn make_object(work: &mut [u8], c: u8, parts: &[u32], n: u8, dst: u16
 }
 
 // The same with the run's limit: too large is what has more than `objects` objects, and what has more than a block has room for has more.
-pub fn make(work: &mut [u8], c: u8, parts: &[u32], n: u8, dst: u16, objects: u8) -> Made
-    requires { Makeable work.old (parts_of parts.now) n dst × (code_count ≤ length parts.now) × (objects ≤ capacity) }
-    ensures { MadeWithin objects work.old (make c (values_from work.old (parts_of parts.now) 0 n)) dst work.new result }
+pub fn make(
+    work: &mut [u8],
+    c: u8,
+    parts: &[ValueRef],
+    n: u8,
+    dst: u16,
+    objects: u8,
+) -> Option<ValueRef>
+    requires { Makeable work.old parts.now n dst × (code_count ≤ length parts.now) × (objects ≤ capacity) }
+    ensures { MadeWithin objects work.old (make c (values_from work.old parts.now 0 n)) dst work.new result }
 {
-    let o = make_object(work, c, parts, n, dst);
-    let Made::Value(v) = o else {
-        return Made::TooLarge;
-    };
+    let v = make_object(work, c, parts, n, dst)?;
     if fits(work, v, objects) {
-        return Made::Value(v);
+        return Some(v);
     }
-    Made::TooLarge
+    None
 }

@@ -1,16 +1,14 @@
-// A new object as numbers: its class c, how many fields it has, n, its four codes as one number w, the first the lowest byte, and the numbers beside them as one
-// number v, two bytes a field. These numbers from its parts, and the bytes of an object from them. Not here: where it goes (over).
+// A new object as numbers: these from its parts, and the bytes of an object from them. Not here: where it goes (over).
 ghost use Rattle.std.specs.Prelude.{◌≡◌, ◌+◌, ◌<◌, ◌≤◌, [], ◌∷◌, length};
 ghost use Rattle.cofj.specs.Values.{eq_nats};
 ghost use Rattle.canon.specs.Figures.{object_size, code_count, first_mark};
 ghost use Rattle.canon.specs.Layout.{code_of, Packed, part};
 ghost use Rattle.canon.specs.Tables.{Carried};
 ghost use Rattle.values.specs.Layout.{raw_of, Holds};
-ghost use Rattle.maker.specs.Laying.{parts_of, PartsHeld};
-ghost use Rattle.maker.specs.Adding.{beside_of, codes_of, object_of, RootCodes, RootNumbers, CodesLevel};
+ghost use Rattle.maker.specs.Laying.{PartsHeld};
+ghost use Rattle.maker.specs.Adding.{beside_of, codes_of, bytes_of, RootCodes, RootNumbers, CodesLevel};
 
-use crate::parts::part_at;
-use canon::bytes::{eight_at, four_at};
+use canon::bytes::{copy, eight_at, four_at};
 use canon::layout::{
     BYTE, FIRST_MARK, FOUR_BYTES, HEAD, NUMBER, NUMBERS, THREE_BYTES, TWO_BYTES, UNDETERMINED,
 };
@@ -28,6 +26,16 @@ const FIELD: u64 = 65536;
 // the same for the fourth
 const THREE_FIELDS: u64 = 281474976710656;
 
+// A new object: its class, how many fields it has, its four codes as one number, the first the lowest byte, and the numbers beside them as one number, two bytes a
+// field.
+#[derive(Clone, Copy)]
+pub(crate) struct NewObject {
+    pub class: u8,
+    pub count: u8,
+    pub codes: u32,
+    pub numbers: u64,
+}
+
 // The code of a part: its object's.
 pub(crate) fn code_of(work: &[u8], r: ValueRef) -> u8
     requires { Holds work.now r }
@@ -42,16 +50,13 @@ pub(crate) fn code_of(work: &[u8], r: ValueRef) -> u8
 }
 
 // The codes of the n parts, and unused ones.
-pub(crate) fn root_codes(work: &[u8], parts: &[u32], n: u8) -> u32
-    requires { PartsHeld work.now (parts_of parts.now) n × (n ≤ code_count) × (code_count ≤ length parts.now) }
-    ensures { RootCodes work.now (parts_of parts.now) n 0 result }
+pub(crate) fn root_codes(work: &[u8], parts: &[ValueRef], n: u8) -> u32
+    requires { PartsHeld work.now parts.now n × (n ≤ code_count) × (code_count ≤ length parts.now) }
+    ensures { RootCodes work.now parts.now n 0 result }
 {
     let mut w = UNUSED;
-    let mut i: u8 = n;
-    while 0 < i {
-        i -= 1;
-        let v = part_at(parts, i);
-        w = (code_of(work, v) as u32) + BYTE * (w % THREE_BYTES);
+    for i in (0..n).rev() {
+        w = (code_of(work, parts[i as usize]) as u32) + BYTE * (w % THREE_BYTES);
     }
     w
 }
@@ -69,35 +74,32 @@ pub(crate) fn number_of(r: ValueRef) -> u16
 }
 
 // The numbers beside the codes of the n parts, and 0 beside unused ones.
-pub(crate) fn root_numbers(parts: &[u32], n: u8) -> u64
+pub(crate) fn root_numbers(parts: &[ValueRef], n: u8) -> u64
     requires { (n ≤ code_count) × (code_count ≤ length parts.now) }
-    ensures { RootNumbers (parts_of parts.now) n 0 result }
+    ensures { RootNumbers parts.now n 0 result }
 {
     let mut v: u64 = 0;
-    let mut i: u8 = n;
-    while 0 < i {
-        i -= 1;
-        let r = part_at(parts, i);
-        v = (number_of(r) as u64) + FIELD * (v % THREE_FIELDS);
+    for i in (0..n).rev() {
+        v = (number_of(parts[i as usize]) as u64) + FIELD * (v % THREE_FIELDS);
     }
     v
 }
 
 // Whether the object at place p is this one. Its last bytes are not looked at: they are 0 in every object.
-pub(crate) fn is_object(work: &[u8], p: usize, c: u8, n: u8, w: u32, v: u64) -> bool
+pub(crate) fn is_object(work: &[u8], p: usize, o: NewObject) -> bool
     requires { (p + object_size ≤ length work.now) × Packed work.now p }
-    ensures { result ≡ eq_nats (part work.now p object_size) (object_of c n w v) }
+    ensures { result ≡ eq_nats (part work.now p object_size) (bytes_of o) }
 {
-    if four_at(work, p + HEAD) != w {
+    if four_at(work, p + HEAD) != o.codes {
         return false;
     }
-    if eight_at(work, p + NUMBERS) != v {
+    if eight_at(work, p + NUMBERS) != o.numbers {
         return false;
     }
-    if work[p] != c {
+    if work[p] != o.class {
         return false;
     }
-    work[p + 1] == n
+    work[p + 1] == o.count
 }
 
 // A level for a code more.
@@ -107,11 +109,7 @@ pub(crate) fn raise_level(l: u8, c: u8) -> u8
     if c <= NUMBER {
         return l;
     }
-    let k = c - NUMBER;
-    if k <= l {
-        return l;
-    }
-    k
+    l.max(c - NUMBER)
 }
 
 // A level for objects of this level and one with these codes.
@@ -138,20 +136,18 @@ pub(crate) fn lay_four(work: &mut [u8], p: usize, x: u32)
     requires { p + 4 ≤ length work.old }
     ensures { Carried (codes_of x) 0 work.old p 4 work.new }
 {
-    work[p] = (x % BYTE) as u8;
-    work[p + 1] = (x / BYTE % BYTE) as u8;
-    work[p + 2] = (x / TWO_BYTES % BYTE) as u8;
-    work[p + 3] = (x / THREE_BYTES) as u8;
+    let bytes = x.to_le_bytes();
+    copy(&bytes, 0, work, p, 4);
 }
 
 // The bytes of the object, from place p on.
-pub(crate) fn lay(work: &mut [u8], p: usize, c: u8, n: u8, w: u32, v: u64)
+pub(crate) fn lay(work: &mut [u8], p: usize, o: NewObject)
     requires { p + object_size ≤ length work.old }
-    ensures { Carried (object_of c n w v) 0 work.old p object_size work.new }
+    ensures { Carried (bytes_of o) 0 work.old p object_size work.new }
 {
-    lay_two(work, p, c, n);
-    lay_four(work, p + HEAD, w);
-    lay_four(work, p + NUMBERS, (v % FOUR_BYTES) as u32);
-    lay_four(work, p + NUMBERS + 4, (v / FOUR_BYTES) as u32);
+    lay_two(work, p, o.class, o.count);
+    lay_four(work, p + HEAD, o.codes);
+    lay_four(work, p + NUMBERS, (o.numbers % FOUR_BYTES) as u32);
+    lay_four(work, p + NUMBERS + 4, (o.numbers / FOUR_BYTES) as u32);
     lay_two(work, p + BLANK, 0, 0);
 }

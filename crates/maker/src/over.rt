@@ -1,39 +1,28 @@
 // A new object beside the objects of the block where its parts lie, or alone in a block. Not here: the object as numbers and its bytes (object), parts in several
 // blocks (merge).
-ghost use Rattle.std.specs.Prelude.{◌≡◌, false, ◌+◌, ◌*◌, ◌<◌, ◌≤◌, [], length};
+ghost use Rattle.std.specs.Prelude.{◌≡◌, false, ◌+◌, ◌*◌, ◌<◌, ◌≤◌, [], length, Some};
 ghost use Rattle.cofj.specs.Values.{make};
 ghost use Rattle.canon.specs.Figures.{code_count, capacity, block_size};
-ghost use Rattle.maker.specs.declared.Made.TheVariants.{Value};
-ghost use Rattle.maker.specs.Laying.{parts_of, PartsHeld, values_from, MadeIs};
+ghost use Rattle.maker.specs.Laying.{PartsHeld, values_from, MadeIs};
 ghost use Rattle.canon.specs.Layout.{Packed, Block, count_in};
-ghost use Rattle.maker.specs.Adding.{object_of, Found, Emptied, Appended, Added, some_object};
+ghost use Rattle.maker.specs.Adding.{bytes_of, Found, Emptied, Appended, Added, some_object};
 
-use crate::Made;
-use crate::object::{UNUSED, is_object, lay, level_with, root_codes, root_numbers};
+use crate::object::{NewObject, UNUSED, is_object, lay, level_with, root_codes, root_numbers};
 use canon::layout::{BLOCK, COUNT, LEVEL, OBJECT, REACH};
 use values::ValueRef;
 use values::value::copy_block;
 
-// The place of the object among the t objects of block b; t if it is not there.
-pub(crate) fn find(work: &[u8], b: u16, t: u8, c: u8, n: u8, w: u32, v: u64) -> u8
-    requires { Block work.now b × (t ≡ count_in work.now b) × Packed (object_of c n w v) 0 }
-    ensures { Found work.now b t (object_of c n w v) result }
+// The place of the object among the t objects of block b, if it is there.
+pub(crate) fn find(work: &[u8], b: u16, t: u8, o: NewObject) -> Option<u8>
+    requires { Block work.now b × (t ≡ count_in work.now b) × Packed (bytes_of o) 0 }
+    ensures { Found work.now b t (bytes_of o) result }
 {
-    let mut k: u8 = 0;
-    while k < t {
-        if is_object(
-            work,
-            BLOCK * (b as usize) + OBJECT * (k as usize),
-            c,
-            n,
-            w,
-            v,
-        ) {
-            return k;
+    for k in 0..t {
+        if is_object(work, BLOCK * (b as usize) + OBJECT * (k as usize), o) {
+            return Some(k);
         }
-        k += 1;
     }
-    t
+    None
 }
 
 // Block `dst` without objects.
@@ -46,51 +35,60 @@ pub(crate) fn empty(work: &mut [u8], dst: u16)
 }
 
 // The object, after t objects of block `dst`, and the block's level. No object refers to the new one.
-pub(crate) fn append(work: &mut [u8], dst: u16, t: u8, c: u8, n: u8, w: u32, v: u64, l: u8)
+pub(crate) fn append(work: &mut [u8], dst: u16, t: u8, o: NewObject, l: u8)
     requires { (t < capacity) × (block_size * dst + block_size ≤ length work.old) }
-    ensures { Appended work.old dst t (object_of c n w v) l work.new }
+    ensures { Appended work.old dst t (bytes_of o) l work.new }
 {
-    lay(
-        work,
-        BLOCK * (dst as usize) + OBJECT * (t as usize),
-        c,
-        n,
-        w,
-        v,
-    );
+    lay(work, BLOCK * (dst as usize) + OBJECT * (t as usize), o);
     work[BLOCK * (dst as usize) + COUNT] = t + 1;
     work[BLOCK * (dst as usize) + LEVEL] = l;
     work[BLOCK * (dst as usize) + REACH] = t;
 }
 
 // The objects of block b and the new one, in block `dst`.
-pub(crate) fn add(work: &mut [u8], b: u16, c: u8, n: u8, w: u32, v: u64, dst: u16)
+pub(crate) fn add(work: &mut [u8], b: u16, o: NewObject, dst: u16)
     requires { Block work.old b × (count_in work.old b < capacity) × (block_size * dst + block_size ≤ length work.old) }
-    ensures { Added work.old b (count_in work.old b) (object_of c n w v) dst work.new }
+    ensures { Added work.old b (count_in work.old b) (bytes_of o) dst work.new }
 {
     let t = work[BLOCK * (b as usize) + COUNT];
-    let l = level_with(w, work[BLOCK * (b as usize) + LEVEL]);
+    let l = level_with(o.codes, work[BLOCK * (b as usize) + LEVEL]);
     copy_block(work, b, dst);
-    append(work, dst, t, c, n, w, v, l);
+    append(work, dst, t, o, l);
 }
 
 // A new object whose parts are no objects.
-pub(crate) fn make_alone(work: &mut [u8], c: u8, parts: &[u32], n: u8, dst: u16) -> Made
-    requires { PartsHeld work.old (parts_of parts.now) n × (n ≤ code_count) × (some_object (parts_of parts.now) n ≡ false) × (block_size * dst + block_size ≤ length work.old) × (code_count ≤ length parts.now) }
-    ensures { MadeIs work.old (make c (values_from work.old (parts_of parts.now) 0 n)) dst work.new result }
+pub(crate) fn make_alone(
+    work: &mut [u8],
+    c: u8,
+    parts: &[ValueRef],
+    n: u8,
+    dst: u16,
+) -> Option<ValueRef>
+    requires { PartsHeld work.old parts.now n × (n ≤ code_count) × (some_object parts.now n ≡ false) × (block_size * dst + block_size ≤ length work.old) × (code_count ≤ length parts.now) }
+    ensures { MadeIs work.old (make c (values_from work.old parts.now 0 n)) dst work.new result }
 {
-    let w = root_codes(work, parts, n);
-    let v = root_numbers(parts, n);
-    let l = level_with(w, 0);
-    append(work, dst, 0, c, n, w, v, l);
-    Made::Value(ValueRef::Object(0, dst))
+    let o = NewObject {
+        class: c,
+        count: n,
+        codes: root_codes(work, parts, n),
+        numbers: root_numbers(parts, n),
+    };
+    let l = level_with(o.codes, 0);
+    append(work, dst, 0, o, l);
+    Some(ValueRef::Object(0, dst))
 }
 
 // A new object without parts, which never is too large.
 pub fn make_fieldless(work: &mut [u8], c: u8, dst: u16) -> ValueRef
     requires { block_size * dst + block_size ≤ length work.old }
-    ensures { MadeIs work.old (make c []) dst work.new (Value result) }
+    ensures { MadeIs work.old (make c []) dst work.new (Some result) }
 {
-    append(work, dst, 0, c, 0, UNUSED, 0, 0);
+    let o = NewObject {
+        class: c,
+        count: 0,
+        codes: UNUSED,
+        numbers: 0,
+    };
+    append(work, dst, 0, o, 0);
     ValueRef::Object(0, dst)
 }

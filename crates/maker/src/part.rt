@@ -5,7 +5,6 @@ ghost use Rattle.canon.specs.Layout.{Block, Inside};
 ghost use Rattle.maker.specs.Merging.{Mapped, Imported};
 ghost use Rattle.maker.specs.Seeking.{SameNumber};
 
-use crate::NO_ROOM;
 use crate::join::join;
 use crate::reach::reach;
 use crate::seek::{like, tell};
@@ -26,8 +25,8 @@ pub(crate) fn same_number(work: &[u8], src: u16, i: u8, host: u16, told: &mut [u
     tell(work, src, i, host, i, told)
 }
 
-// Object i of block src, with what it leads to, in block host: its number there, or NO_ROOM. The table tells what is known of them.
-pub(crate) fn bring_new(work: &mut [u8], src: u16, i: u8, host: u16, told: &mut [u8]) -> u8
+// Object i of block src, with what it leads to, in block host: its number there, if there is room. The table tells what is known of them.
+pub(crate) fn bring_new(work: &mut [u8], src: u16, i: u8, host: u16, told: &mut [u8]) -> Option<u8>
     requires { Inside work.old src i × Block work.old host × ((src ≡ host) → ⊥) × Mapped work.old src host told.old }
     ensures { Imported work.old src i host work.new result }
 {
@@ -36,19 +35,19 @@ pub(crate) fn bring_new(work: &mut [u8], src: u16, i: u8, host: u16, told: &mut 
     let mut fresh = [0u8; PER_OBJECT];
     sort(work, src, host, &list, m, told, &mut fresh);
     if !join(work, src, host, told, &fresh) {
-        return NO_ROOM;
+        return None;
     }
-    told[i as usize] - 1
+    Some(told[i as usize] - 1)
 }
 
 // The same, and nothing is known of them.
-pub(crate) fn import(work: &mut [u8], src: u16, i: u8, host: u16) -> u8
+pub(crate) fn import(work: &mut [u8], src: u16, i: u8, host: u16) -> Option<u8>
     requires { Inside work.old src i × Block work.old host × ((src ≡ host) → ⊥) }
     ensures { Imported work.old src i host work.new result }
 {
     let mut told = [0u8; PER_OBJECT];
     if same_number(work, src, i, host, &mut told) {
-        return i;
+        return Some(i);
     }
     bring_new(work, src, i, host, &mut told)
 }

@@ -1,65 +1,52 @@
-// The parts of a new object: which they are, and in which blocks they lie. Not here: what is made of them.
+// The parts of a new object: which they are, and in which blocks they lie. Room for four is lent, and n says how many there are. Not here: what is made of them.
 ghost use Rattle.std.specs.Prelude.{◌≡◌, false, ◌+◌, ◌*◌, ◌<◌, ◌≤◌, length};
 ghost use Rattle.canon.specs.Figures.{code_count};
 ghost use Rattle.canon.specs.Layout.{Block};
 ghost use Rattle.values.specs.Layout.{Holds, lies_in};
-ghost use Rattle.maker.specs.Laying.{parts_of, PartsHeld};
-ghost use Rattle.maker.specs.Adding.{part_of, some_object, block_of, first_block, stands_in, all_stand};
+ghost use Rattle.maker.specs.Laying.{PartsHeld};
+ghost use Rattle.maker.specs.Adding.{some_object, block_of, first_block, stands_in, all_stand};
 ghost use Rattle.maker.specs.Merging.{some_in, larger_of, largest_of};
 
 use canon::layout::{BLOCK, COUNT};
 use values::ValueRef;
-use values::refs::unpack;
-
-// Part i of a new object, whose parts are these numbers.
-pub(crate) fn part_at(parts: &[u32], i: u8) -> ValueRef
-    requires { (i < code_count) × (code_count ≤ length parts.now) }
-    ensures { result ≡ part_of (parts_of parts.now) i }
-{
-    unpack(parts[i as usize])
-}
 
 // Whether one of the parts is an object.
-pub(crate) fn some_object(parts: &[u32], n: u8) -> bool
+pub(crate) fn some_object(parts: &[ValueRef], n: u8) -> bool
     requires { (n ≤ code_count) × (code_count ≤ length parts.now) }
-    ensures { result ≡ some_object (parts_of parts.now) n }
+    ensures { result ≡ some_object parts.now n }
 {
-    let mut i: u8 = 0;
-    while i < n {
-        let v = part_at(parts, i);
-        if let ValueRef::Object(_, _) = v {
+    for i in 0..n {
+        if let ValueRef::Object(_, _) = parts[i as usize] {
             return true;
         }
-        i += 1;
     }
     false
 }
 
-// The block of a value that is an object; 0 for another.
-pub(crate) fn block_of(v: ValueRef) -> u16
+// The block of a value that is an object of a block other than 0.
+pub(crate) fn block_of(v: ValueRef) -> Option<u16>
     ensures { result ≡ block_of v }
 {
     let ValueRef::Object(_, b) = v else {
-        return 0;
+        return None;
     };
-    b
+    if b == 0 {
+        return None;
+    }
+    Some(b)
 }
 
-// The block of the first part that is an object of a block other than 0; 0 if there is none.
-pub(crate) fn first_block(parts: &[u32], n: u8) -> u16
+// The block of the first part that is an object of a block other than 0.
+pub(crate) fn first_block(parts: &[ValueRef], n: u8) -> Option<u16>
     requires { (n ≤ code_count) × (code_count ≤ length parts.now) }
-    ensures { result ≡ first_block (parts_of parts.now) n }
+    ensures { result ≡ first_block parts.now n }
 {
-    let mut i: u8 = 0;
-    while i < n {
-        let v = part_at(parts, i);
-        let b = block_of(v);
-        if b != 0 {
-            return b;
+    for i in 0..n {
+        if let Some(b) = block_of(parts[i as usize]) {
+            return Some(b);
         }
-        i += 1;
     }
-    0
+    None
 }
 
 // Whether a part lies in block b, or is no object.
@@ -68,24 +55,19 @@ pub(crate) fn stands(v: ValueRef, b: u16) -> bool
 {
     match v {
         ValueRef::Object(_, x) => x == b,
-        ValueRef::Mark(_) => true,
-        ValueRef::Number(_) => true,
-        ValueRef::Undetermined => true,
+        _ => true,
     }
 }
 
 // Whether each part lies in block b, or is no object.
-pub(crate) fn together(parts: &[u32], n: u8, b: u16) -> bool
+pub(crate) fn together(parts: &[ValueRef], n: u8, b: u16) -> bool
     requires { (n ≤ code_count) × (code_count ≤ length parts.now) }
-    ensures { result ≡ all_stand (parts_of parts.now) n b }
+    ensures { result ≡ all_stand parts.now n b }
 {
-    let mut i: u8 = 0;
-    while i < n {
-        let v = part_at(parts, i);
-        if !stands(v, b) {
+    for i in 0..n {
+        if !stands(parts[i as usize], b) {
             return false;
         }
-        i += 1;
     }
     true
 }
@@ -96,22 +78,17 @@ pub(crate) fn lies_in(v: ValueRef, d: u16) -> bool
 {
     match v {
         ValueRef::Object(_, x) => x == d,
-        ValueRef::Mark(_) => false,
-        ValueRef::Number(_) => false,
-        ValueRef::Undetermined => false,
+        _ => false,
     }
 }
 
 // Whether one of the parts is an object of block d. Most often the last is.
-pub(crate) fn some_in(parts: &[u32], n: u8, d: u16) -> bool
+pub(crate) fn some_in(parts: &[ValueRef], n: u8, d: u16) -> bool
     requires { (n ≤ code_count) × (code_count ≤ length parts.now) }
-    ensures { result ≡ some_in (parts_of parts.now) n d }
+    ensures { result ≡ some_in parts.now n d }
 {
-    let mut i: u8 = n;
-    while 0 < i {
-        i -= 1;
-        let v = part_at(parts, i);
-        if lies_in(v, d) {
+    for i in (0..n).rev() {
+        if lies_in(parts[i as usize], d) {
             return true;
         }
     }
@@ -136,16 +113,13 @@ pub(crate) fn larger(work: &[u8], v: ValueRef, b: u16) -> u16
 }
 
 // The block with the most objects, of block b and those of the parts but block 0.
-pub(crate) fn largest(work: &[u8], parts: &[u32], n: u8, b: u16) -> u16
-    requires { PartsHeld work.now (parts_of parts.now) n × (n ≤ code_count) × Block work.now b × (code_count ≤ length parts.now) }
-    ensures { result ≡ largest_of work.now (parts_of parts.now) n b }
+pub(crate) fn largest(work: &[u8], parts: &[ValueRef], n: u8, b: u16) -> u16
+    requires { PartsHeld work.now parts.now n × (n ≤ code_count) × Block work.now b × (code_count ≤ length parts.now) }
+    ensures { result ≡ largest_of work.now parts.now n b }
 {
     let mut d = b;
-    let mut i: u8 = 0;
-    while i < n {
-        let v = part_at(parts, i);
-        d = larger(work, v, d);
-        i += 1;
+    for i in 0..n {
+        d = larger(work, parts[i as usize], d);
     }
     d
 }

@@ -7,18 +7,18 @@ ghost use Rattle.maker.specs.Reaching.{Noted, Met, FieldsMet};
 
 use canon::layout::{BLOCK, FIRST_LEAF, OBJECT, PER_OBJECT};
 
-// A code met: an object that is not listed yet is. `seen` has not 0 for a listed one. Answers how many are listed.
-pub(crate) fn note(seen: &mut [u8], list: &mut [u8], tail: u8, c: u8) -> u8
+// A code met: an object that is not listed yet is. `seen` has true for a listed one. Answers how many are listed.
+pub(crate) fn note(seen: &mut [bool], list: &mut [u8], tail: u8, c: u8) -> u8
     requires { Noted seen.old list.old tail × (c < first_leaf → c < capacity) }
     ensures { Met list.old tail c seen.new list.new result }
 {
     if FIRST_LEAF <= c {
         return tail;
     }
-    if seen[c as usize] != 0 {
+    if seen[c as usize] {
         return tail;
     }
-    seen[c as usize] = 1;
+    seen[c as usize] = true;
     list[tail as usize] = c;
     tail + 1
 }
@@ -28,7 +28,7 @@ pub(crate) fn note_fields(
     work: &[u8],
     src: u16,
     x: u8,
-    seen: &mut [u8],
+    seen: &mut [bool],
     list: &mut [u8],
     tail: u8,
 ) -> u8
@@ -47,11 +47,12 @@ pub(crate) fn reach(work: &[u8], src: u16, i: u8, list: &mut [u8]) -> u8
     requires { Inside work.now src i × (length list.old ≡ capacity) }
     ensures { Reached work.now src i list.new result }
 {
-    let mut seen = [0u8; PER_OBJECT];
-    seen[i as usize] = 1;
+    let mut seen = [false; PER_OBJECT];
+    seen[i as usize] = true;
     list[0] = i;
     let mut head: u8 = 0;
     let mut tail: u8 = 1;
+    // the list grows while it is walked: no range
     while head < tail {
         let x = list[head as usize];
         tail = note_fields(work, src, x, &mut seen, list, tail);

@@ -45,14 +45,12 @@ pub(crate) fn seek(work: &[u8], src: u16, x: u8, host: u16, told: &mut [u8], fre
     ensures { Sought work.now src x host told.old fresh.old told.new fresh.new }
 {
     let t = work[BLOCK * (host as usize) + COUNT];
-    let mut y: u8 = 0;
-    while y < t {
+    for y in 0..t {
         if like(work, src, x, host, y) {
             if tell(work, src, x, host, y, told) {
                 return;
             }
         }
-        y += 1;
     }
     fresh[x as usize] = 1;
 }

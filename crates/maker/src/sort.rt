@@ -1,5 +1,6 @@
 // The objects of a part sorted out: which are objects of the host, and which are new to it. An object is told by its fields where they are told, and looked
 // for in the host where it leads back to itself. Nothing is written to the host.
+// What is sorted goes from function to function as it lies, work, blocks, list and tables: of a struct with slices each clause would say `.entry.list.now` for `list.now`.
 // Not here: the new ones added (join). The order in which objects are looked at decides the time, not the answer.
 ghost use Rattle.std.specs.Prelude.{◌≡◌, ℕ, ◌+◌, ◌*◌, ◌<◌, length, get_or};
 ghost use Rattle.canon.specs.Figures.{first_leaf, capacity};
@@ -7,17 +8,11 @@ ghost use Rattle.canon.specs.Layout.{Block, Inside};
 ghost use Rattle.maker.specs.Sorting.{Sorting, Onward, Settling, ByFields, SortedFrom, Listed, turn_in, OpenIs, NewIs, LeadsIs, TurnedIs};
 
 use crate::NOT_TOLD;
+use crate::object::NewObject;
 use crate::over::find;
 use crate::seek::seek;
 use canon::bytes::eight_at;
 use canon::layout::{BLOCK, BYTE, CODES, COUNT, FIRST_LEAF, HEAD, NUMBERS, OBJECT, THREE_BYTES};
-
-// The codes of an object in the host, as one number, if all are told.
-#[derive(Clone, Copy)]
-pub(crate) enum Turned {
-    All(u32),
-    Open,
-}
 
 // Whether nothing is known of object x.
 pub(crate) fn is_open(x: u8, told: &[u8], fresh: &[u8]) -> bool
@@ -47,12 +42,10 @@ pub(crate) fn leads_new(work: &[u8], src: u16, x: u8, fresh: &[u8]) -> bool
     ensures { LeadsIs work.now src x fresh.now result }
 {
     let p = BLOCK * (src as usize) + OBJECT * (x as usize) + HEAD;
-    let mut k: u8 = 0;
-    while k < CODES {
+    for k in 0..CODES {
         if is_new(work[p + k as usize], fresh) {
             return true;
         }
-        k += 1;
     }
     false
 }
@@ -72,23 +65,21 @@ pub(crate) fn turn(told: &[u8], c: u8) -> u8
     k - 1
 }
 
-// The codes of object x of block src in the host.
-pub(crate) fn turn_fields(work: &[u8], src: u16, x: u8, told: &[u8]) -> Turned
+// The codes of object x of block src in the host, as one number, if all are told.
+pub(crate) fn turn_fields(work: &[u8], src: u16, x: u8, told: &[u8]) -> Option<u32>
     requires { Inside work.now src x × (length told.now ≡ capacity) }
     ensures { TurnedIs work.now src x told.now result }
 {
     let p = BLOCK * (src as usize) + OBJECT * (x as usize) + HEAD;
     let mut w: u32 = 0;
-    let mut k = CODES;
-    while 0 < k {
-        k -= 1;
+    for k in (0..CODES).rev() {
         let r = turn(told, work[p + k as usize]);
         if r == NOT_TOLD {
-            return Turned::Open;
+            return None;
         }
         w = (r as u32) + BYTE * (w % THREE_BYTES);
     }
-    Turned::All(w)
+    Some(w)
 }
 
 // Whether a field of object x of block src is another object that is not told.
@@ -96,15 +87,13 @@ pub(crate) fn leads_on(work: &[u8], src: u16, x: u8, told: &[u8]) -> bool
     requires { Inside work.now src x × (length told.now ≡ capacity) }
 {
     let p = BLOCK * (src as usize) + OBJECT * (x as usize) + HEAD;
-    let mut k: u8 = 0;
-    while k < CODES {
+    for k in 0..CODES {
         let c = work[p + k as usize];
         if c != x {
             if turn(told, c) == NOT_TOLD {
                 return true;
             }
         }
-        k += 1;
     }
     false
 }
@@ -128,15 +117,18 @@ pub(crate) fn by_fields(
         fresh[x as usize] = 1;
         return true;
     }
-    let o = turn_fields(work, src, x, told);
-    let Turned::All(w) = o else {
+    let Some(w) = turn_fields(work, src, x, told) else {
         return false;
     };
     let p = BLOCK * (src as usize) + OBJECT * (x as usize);
     let t = work[BLOCK * (host as usize) + COUNT];
-    let v = eight_at(work, p + NUMBERS);
-    let k = find(work, host, t, work[p], work[p + 1], w, v);
-    if k < t {
+    let o = NewObject {
+        class: work[p],
+        count: work[p + 1],
+        codes: w,
+        numbers: eight_at(work, p + NUMBERS),
+    };
+    if let Some(k) = find(work, host, t, o) {
         told[x as usize] = k + 1;
         return true;
     }
@@ -169,11 +161,9 @@ pub(crate) fn count_classes(work: &[u8], host: u16, count: &mut [u8])
     ensures { length count.new ≡ 64 }
 {
     let t = work[BLOCK * (host as usize) + COUNT];
-    let mut y: u8 = 0;
-    while y < t {
+    for y in 0..t {
         let k = (work[BLOCK * (host as usize) + OBJECT * (y as usize)] % 64) as usize;
         count[k] = count[k] + 1;
-        y += 1;
     }
 }
 
@@ -191,9 +181,7 @@ pub(crate) fn varied(
     requires { Sorting work.now src host list.now m told.now fresh.now × Listed list.now m x }
 {
     let c = work[BLOCK * (src as usize) + OBJECT * (x as usize)];
-    let mut q = m;
-    while 0 < q {
-        q -= 1;
+    for q in (0..m).rev() {
         let y = list[q as usize];
         if work[BLOCK * (src as usize) + OBJECT * (y as usize)] != c {
             if is_open(y, told, fresh) {
@@ -222,9 +210,7 @@ pub(crate) fn choose(
     count_classes(work, host, &mut count);
     let mut best = x;
     let mut few: u8 = 255;
-    let mut q = m;
-    while 0 < q {
-        q -= 1;
+    for q in (0..m).rev() {
         let y = list[q as usize];
         let n = count[(work[BLOCK * (src as usize) + OBJECT * (y as usize)] % 64) as usize];
         if n < few {
@@ -271,9 +257,7 @@ pub(crate) fn spread_once(
     ensures { Onward work.now src host list.now m told.now fresh.old told.now fresh.new }
 {
     let mut more = false;
-    let mut q = m;
-    while 0 < q {
-        q -= 1;
+    for q in (0..m).rev() {
         let x = list[q as usize];
         if is_open(x, told, fresh) {
             if leads_new(work, src, x, fresh) {
@@ -298,12 +282,10 @@ pub(crate) fn spread(
     requires { Sorting work.now src host list.now m told.now fresh.old }
     ensures { Onward work.now src host list.now m told.now fresh.old told.now fresh.new }
 {
-    let mut k: u8 = 0;
-    while k < m {
+    for _ in 0..m {
         if !spread_once(work, src, host, list, m, told, fresh) {
             return;
         }
-        k += 1;
     }
 }
 
@@ -383,9 +365,7 @@ pub(crate) fn sort(
     requires { Sorting work.now src host list.now m told.old fresh.old }
     ensures { SortedFrom work.now src host list.now m 0 told.new fresh.new }
 {
-    let mut q = m;
-    while 0 < q {
-        q -= 1;
+    for q in (0..m).rev() {
         let x = list[q as usize];
         if is_open(x, told, fresh) {
             settle(work, src, x, host, list, m, told, fresh);

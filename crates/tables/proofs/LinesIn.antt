@@ -1,12 +1,9 @@
 -- The lines that the writer takes from the bytes of a table that is read are the table's lines. Not here: what it answers (Written).
-use Prim.Native.Nat.{ℕ, zero, suc, ◌+◌, ◌*◌, ◌-◌, ◌%◌, ◌≤◌, ◌<◌}
-use native.Mathlib.Omega.{arith}
-use mathlib.Core.Path.{◌≡◌, refl, sym, ap, ap₂, ◌∙◌, subst}
-use mathlib.Core.List.{List, [], ◌∷◌, ◌++◌, append_assoc}
-use mathlib.Core.Option.{Option, none, some, none-ne-some}
-use lib.ListN.{length, get_or, get_elem?, take, drop, length-append, length-take, length-drop}
-use lib.Seq.{take-suc, take-length, ext_get_or, get_or-take, get_or-drop}
-use borrow.Author.Tests.{le-ltb}
+use Rattle.std.proofs.Common.{ℕ, zero, suc, ◌+◌, ◌*◌, ◌-◌, ◌%◌, ◌≤◌, ◌<◌, arith, ◌≡◌, refl, sym, ap, ap₂, ◌∙◌, subst, List, [], ◌∷◌, ◌++◌, append_assoc, length, get_or, take, drop, length-append, length-take, length-drop, take-suc, ext_get_or, get_or-take, get_or-drop, min}
+use Rattle.std.proofs.Math.Option.{Option, none, some, none-ne-some}
+use Rattle.std.proofs.Math.ListN.{get_elem?}
+use Rattle.std.proofs.Math.Seq.{take-length}
+use Rattle.std.proofs.Math.Nat.{min-eq_left}
 use Rattle.cofj.specs.Syntax.{Expr, Ty, Class, Method, Table}
 use Rattle.cofj.specs.Classes.{parent_of, own_or_none, parent_or0, fields_to}
 use Rattle.cofj.specs.WellFormed.{MethodFormed, WellFormed}
@@ -15,10 +12,7 @@ use Rattle.classes.specs.Layout.{layout, rest, class_row, method_byte, input_siz
 use Rattle.classes.specs.Machine.{row_of}
 use Rattle.classes.proofs.Lists.{within as inside, method_at}
 use Rattle.classes.proofs.Zones.{class_zone, method_zone, main_zone, parent_at, class_count_at_lem, method_count_at_lem, length-layout, length_types, line_stands, input_size_at, main_line_stands, stands_moved}
-use Rattle.tables.specs.Writings.{cap, class_in, long_in, classes_in, methods_in, main_first, main_in, lines_in}
-
-cap-within : (x most : ℕ) → x ≤ most → cap x most ≡ x
-cap-within x most h = rw (le-ltb most x h)
+use Rattle.tables.specs.Writings.{class_in, long_in, classes_in, methods_in, main_first, main_in, lines_in}
 
 -- own fields are among all fields of their class
 own_few : (t : Table) → WellFormed t → (k : ℕ) (c : Class) → get_elem? t.classes k ≡ some c → k < length t.classes → length c.own ≤ 4
@@ -56,7 +50,7 @@ class_shape B k p n xs l h ep en b =
     let b5 : get_or B (16 * k + 8) 0 ≡ get_or xs 5 0 = b 5 (omega arith) in
     let b6 : get_or B (16 * k + 9) 0 ≡ get_or xs 6 0 = b 6 (omega arith) in
     let b7 : get_or B (16 * k + 10) 0 ≡ get_or xs 7 0 = b 7 (omega arith) in
-    rw (ep, en, b0, b1, b2, b3, b4, b5, b6, b7, le-ltb 4 n h, q) (ap (λ (x : List ℕ). 1 ∷ k ∷ p ∷ n ∷ x) (eight xs (omega arith)))
+    rw (ep, en, b0, b1, b2, b3, b4, b5, b6, b7, min-eq_left {n = n} {m = 4} h, q) (ap (λ (x : List ℕ). 1 ∷ k ∷ p ∷ n ∷ x) (eight xs (omega arith)))
 
 class_in_lem : (t : Table) (k : ℕ) (c : Class) → k < 32 → get_elem? t.classes k ≡ some c → length c.own ≤ 4 → class_in (layout t) (suc k) ≡ class_line (suc k) c
 class_in_lem t k c h e o =
@@ -78,8 +72,8 @@ stands_take B a xs s h =
 long_in_lem : (B : List ℕ) (b : ℕ) (xs : List ℕ) → get_or B (b + 255) 0 ≡ suc (length xs) → suc (length xs) ≤ 255 → Stands B (b + 1) xs → b + 256 ≤ length B → long_in B b ≡ xs
 long_in_lem B b xs e h s l =
     let q : get_or B (b + 255) 0 - 1 ≡ length xs = omega arith in
-    ap (λ (n : ℕ). take (cap n 254) (drop (b + 1) B)) q
-    ∙ ap (λ (n : ℕ). take n (drop (b + 1) B)) (cap-within (length xs) 254 (omega arith))
+    ap (λ (n : ℕ). take (min n 254) (drop (b + 1) B)) q
+    ∙ ap (λ (n : ℕ). take n (drop (b + 1) B)) (min-eq_left {n = length xs} {m = 254} (omega arith))
     ∙ stands_take B (b + 1) xs s (omega arith)
 
 method_in_lem : (t : Table) (i : ℕ) (d : Method) → i < 64 → get_elem? t.methods i ≡ some d → length (method_line d) ≤ 255 → (2 ∷ long_in (layout t) (8976 + 256 * i)) ≡ method_line d
@@ -146,8 +140,8 @@ unfolding lines_in table_lines
 lines_in_lem t w =
     let cs = class_lines 1 t.classes in
     let ms = method_lines t.methods in
-    let nc : cap (get_or (layout t) 11 0) 32 ≡ length cs = ap (λ (x : ℕ). cap x 32) (class_count_at_lem t) ∙ cap-within (length t.classes) 32 w.classes ∙ sym (class_count_lem 1 t.classes) in
-    let nm : cap (get_or (layout t) 12 0) 64 ≡ length ms = ap (λ (x : ℕ). cap x 64) (method_count_at_lem t) ∙ cap-within (length t.methods) 64 w.count ∙ sym (method_count_lem t.methods) in
+    let nc : min (get_or (layout t) 11 0) 32 ≡ length cs = ap (λ (x : ℕ). min x 32) (class_count_at_lem t) ∙ min-eq_left {n = length t.classes} {m = 32} w.classes ∙ sym (class_count_lem 1 t.classes) in
+    let nm : min (get_or (layout t) 12 0) 64 ≡ length ms = ap (λ (x : ℕ). min x 64) (method_count_at_lem t) ∙ min-eq_left {n = length t.methods} {m = 64} w.count ∙ sym (method_count_lem t.methods) in
     let c : classes_in (layout t) (length cs) ≡ cs = classes_take (layout t) cs (λ i h. one_class i (omega (arith, class_count_lem 1 t.classes))) (length cs) (omega arith) ∙ take-length cs in
     let m : methods_in (layout t) (length ms) ≡ ms =
     methods_take (layout t) ms (λ i h. one_method i (omega (arith, method_count_lem t.methods))) (length ms) (omega arith) ∙ take-length ms

@@ -1,12 +1,10 @@
 -- The answer at each return of `read`, and what each step establishes for the next.
-use Prim.Native.Nat.{ℕ, zero, suc, ◌≤◌, ◌<◌}
-use native.Mathlib.Omega.{arith}
-use mathlib.Core.Path.{◌≡◌, refl, sym, ap, ◌∙◌, subst}
-use mathlib.Core.Bool.{Bool, true, false, not}
-use mathlib.Core.List.{List, [], ◌∷◌, ◌++◌}
-use mathlib.Core.Option.{Option, none, some}
-use lib.ListN.{length, get_or, take, replicate}
-use borrow.Author.Tests.{not-true, not-false}
+use Rattle.std.proofs.Common.{ℕ, zero, suc, ◌≤◌, ◌<◌, arith, ◌≡◌, refl, sym, ap, ◌∙◌, subst, Bool, true, false, List, [], ◌∷◌, ◌++◌, length, get_or, take, replicate, Ok, Err, is_ok}
+use Rattle.std.proofs.Math.Option.{Option, none, some}
+use Rattle.std.specs.declared.result.Result.{Result}
+use Rattle.cofj.specs.declared.Refusal.{Refusal}
+use Rattle.cofj.specs.declared.Refusal.TheVariants.{NoLineForm, BadFrame, BadOrder, BadTable, BadOverride, UntypedMethod, UntypedMain, UnreadableTable, ShortText, ClosedSession, ShortReport, ShortWork, BadParts, UnfitParts}
+use Rattle.cofj.specs.Refusals.{refusal_number}
 use Rattle.cofj.specs.Limits.{class_count, method_count}
 use Rattle.cofj.specs.Partial.{◌>>=◌, guard}
 use Rattle.cofj.specs.Syntax.{Table}
@@ -16,17 +14,14 @@ use Rattle.cofj.specs.Tables.{Raw, ordered, few, table, overridden, overrides_go
 use Rattle.cofj.specs.Reading.{read, ◌else◌next◌, read_text}
 use Rattle.cofj.proofs.Passed.{few_inv}
 use Rattle.cofj.proofs.TextRound.{Bytes, Lines, lines-bytes}
-use Rattle.lineform.specs.declared.lines.Decoded.{Decoded}
-use Rattle.lineform.specs.declared.lines.Decoded.TheVariants.{Packed as Filled, Refused}
-use Rattle.lineform.specs.declared.lines.Ordered.{Ordered}
-use Rattle.lineform.specs.declared.lines.Ordered.TheVariants.{Counts, Refused as NoOrder}
+use Rattle.lineform.specs.declared.lines.Counts.{Counts}
 use Rattle.lineform.specs.Packed.{packed, unpack, FramedLines}
-use Rattle.lineform.specs.Answers.{Roomy, Decodes, is_some, Framing, counts_of, order_of}
+use Rattle.lineform.specs.Answers.{Roomy, Decodes, framing_of, Framing, counts_of, order_of}
 use Rattle.lineform.proofs.PackedLaws.{unpack-packed}
 use Rattle.lineform.proofs.Established.{decoded_lines, decoded_none, decoded_packed, good_framed}
 use Rattle.classes.specs.Layout.{layout}
 use Rattle.classes.specs.Placing.{Placed, placed}
-use Rattle.classes.specs.Made.{Zeros, Built, Overrides, answer}
+use Rattle.classes.specs.Made.{Zeros, passed, Built, Overrides, answer}
 use Rattle.classes.proofs.TableLines.{zeros_new}
 use Rattle.tables.specs.declared.read.Reading.{Reading}
 use Rattle.tables.specs.Readings.{zero_table, no_table, the_table, after_overriding, after_table, after_order, after_frames, after_lines, answered, reading_of, Into, ByteLines, Counted}
@@ -61,17 +56,35 @@ reading_steps s = by_lines (lines s)
 pub zeros : Zeros (replicate 25616 0)
 zeros = zeros_new 25616 refl
 
-pub refused_is : (k : ℕ) → ◌≡◌ {A = Reading} (record { refusal = k; table = record { bytes = replicate 25616 0 } }) (no_table k)
+pub refused_is : (r : Refusal) (k : ℕ) → k ≡ refusal_number r → ◌≡◌ {A = Reading} (record { refusal = k; table = record { bytes = replicate 25616 0 } }) (no_table (refusal_number r))
 unfolding zero_table
-refused_is k = refl
+refused_is r k e = λ i. record { refusal = e i; table = record { bytes = replicate 25616 0 } }
 
 -- ---- read: refusal 1, or lines of bytes
--- a refusal's number
-into_refused : (r : Reading) (k : ℕ) (B : List ℕ) → 1 ≤ k → r ≡ no_table k → Into r k B
-into_refused r k B h e = record { number = sym (ap (λ (x : Reading). x.refusal) e); table = λ z. absurd (omega arith) }
+-- no refusal's number is 0
+pub some_number : (k : Refusal) → 1 ≤ refusal_number k
+some_number NoLineForm = omega arith
+some_number BadFrame = omega arith
+some_number BadOrder = omega arith
+some_number BadTable = omega arith
+some_number BadOverride = omega arith
+some_number UntypedMethod = omega arith
+some_number UntypedMain = omega arith
+some_number UnreadableTable = omega arith
+some_number ShortText = omega arith
+some_number ClosedSession = omega arith
+some_number ShortReport = omega arith
+some_number ShortWork = omega arith
+some_number BadParts = omega arith
+some_number UnfitParts = omega arith
 
-pub no_lines : (text out₀ out : List ℕ) (d : Decoded) (B : List ℕ) → Decodes text out₀ out d → d ≡ Refused → Into (reading_of text) 1 B
-no_lines text out₀ out d B h e = into_refused (reading_of text) 1 B (omega arith) (reading_steps text ∙ ap after_lines (decoded_none text out₀ out d h e))
+into_refused : (r : Reading) (k : Refusal) (B : List ℕ) → r ≡ no_table (refusal_number k) → Into r (Err k) B
+into_refused r k B e = record { number = sym (ap (λ (x : Reading). x.refusal) e); table = λ z. cc }
+
+pub no_lines : (text out₀ out : List ℕ) (d : Result ℕ Refusal) (B : List ℕ) → Decodes text out₀ out d → (k : Refusal) → d ≡ Err k → Into (reading_of text) (Err k) B
+no_lines text out₀ out d B h k e =
+    let p = decoded_none text out₀ out d h k e in
+    into_refused (reading_of text) k B (reading_steps text ∙ ap after_lines p.1 ∙ ap (λ (x : Refusal). no_table (refusal_number x)) (sym p.0))
 
 bytes-append : (xs ys : List ℕ) → Bytes xs → Bytes ys → Bytes (xs ++ ys)
 bytes-append [] ys a b = b
@@ -87,7 +100,7 @@ at_byte [] h i = omega arith
 at_byte (b ∷ bs) h zero = h.0
 at_byte (b ∷ bs) h (suc i) = at_byte bs h.1 i
 
-module _ (text out₀ out : List ℕ) (d : Decoded) (w : ℕ) (h : Decodes text out₀ out d) (e : d ≡ Filled w) where
+module _ (text out₀ out : List ℕ) (d : Result ℕ Refusal) (w : ℕ) (h : Decodes text out₀ out d) (e : d ≡ Ok w) where
   pub byte-lines : ByteLines (take w out)
   byte-lines =
       let p = decoded_packed text out₀ out d w h e in
@@ -95,52 +108,53 @@ module _ (text out₀ out : List ℕ) (d : Decoded) (w : ℕ) (h : Decodes text 
       let l = lines-bytes text p.lines (decoded_lines text out₀ out d w h e ∙ ap {B = Option (List (List ℕ))} some u) in
       record { whole = p; bytes = at_byte (take w out) (subst Bytes (sym p.is) (packed-bytes p.lines l)) }
 
-  pub of_lines : (k : ℕ) (B : List ℕ) → Into (after_frames (frames (unpack (take w out)))) k B → Into (reading_of text) k B
+  pub of_lines : (k : Result (Unit {0}) Refusal) (B : List ℕ) → Into (after_frames (frames (unpack (take w out)))) k B → Into (reading_of text) k B
   of_lines k B q = subst (λ (r : Reading). Into r k B) (sym (reading_steps text ∙ ap after_lines (decoded_lines text out₀ out d w h e))) q
 
--- ---- read_lines: refusals 2 and 3, or the counts
-module _ (S R : List ℕ) (c : ByteLines S) (b : Bool) (fr : Framing S b R) where
-  eb : b ≡ is_some (frames (unpack S))
-  eb = fr.answer
-
-  pub no_frames : (B : List ℕ) → not b ≡ true → Into (after_frames (frames (unpack S))) 2 B
-  no_frames B f = into_refused (after_frames (frames (unpack S))) 2 B (omega arith) (sym (go (frames (unpack S)) (sym eb ∙ not-true b f)))
+-- ---- lines_into: refusals 2 and 3, or the counts
+module _ (S R : List ℕ) (c : ByteLines S) (b : Result (Unit {0}) Refusal) (fr : Framing S b R) where
+  pub no_frames : (B : List ℕ) (k : Refusal) → b ≡ Err k → Into (after_frames (frames (unpack S))) (Err k) B
+  no_frames B k f = into_refused (after_frames (frames (unpack S))) k B (sym (go (frames (unpack S)) (sym f ∙ fr.answer)))
     where
-      go : (o : Option (List TextFrame)) → is_some o ≡ false → no_table 2 ≡ after_frames o
-      go none z = refl
-      go (some fs) z = let y : ◌≡◌ {A = ℕ} 0 1 = cc in absurd (omega arith)
+      go : (o : Option (List TextFrame)) → Err k ≡ framing_of o → no_table (refusal_number k) ≡ after_frames o
+      go none z = ap (λ (x : Refusal). no_table (refusal_number x)) (let y : k ≡ BadFrame = cc in y)
+      go (some fs) z = cc
 
-  module _ (f : not b ≡ false) where
+  module _ (f : b ≡ Ok tt) where
     pub framed : FramedLines S
-    framed = good_framed S b c.whole eb (not-false b f)
+    framed = good_framed S b c.whole fr.answer f
 
-    module _ (o : Ordered) (eo : o ≡ order_of (frames (unpack S))) where
+    module _ (o : Result Counts Refusal) (eo : o ≡ order_of (frames (unpack S))) where
       counts : (p : Option Raw) → ordered framed.found >>= few ≡ p → o ≡ counts_of p
       unfolding order_of
       counts p q = eo ∙ ap order_of framed.read ∙ ap counts_of q
 
-      pub no_order : (B : List ℕ) → o ≡ NoOrder → Into (after_frames (frames (unpack S))) 3 B
-      no_order B z = into_refused (after_frames (frames (unpack S))) 3 B (omega arith) (sym (go (ordered framed.found >>= few) refl ∙ sym (ap after_frames framed.read)))
+      pub no_order : (B : List ℕ) (k : Refusal) → o ≡ Err k → Into (after_frames (frames (unpack S))) (Err k) B
+      no_order B k z = into_refused (after_frames (frames (unpack S))) k B (sym (go (ordered framed.found >>= few) refl ∙ sym (ap after_frames framed.read)))
         where
-          go : (p : Option Raw) → ordered framed.found >>= few ≡ p → no_table 3 ≡ after_order (ordered framed.found >>= few)
-          go none y = ap after_order (sym y)
-          go (some x) y = let k : o ≡ counts_of (some x) = counts (some x) y in let w : ◌≡◌ {A = ℕ} 0 1 = cc in absurd (omega arith)
+          go : (p : Option Raw) → ordered framed.found >>= few ≡ p → no_table (refusal_number k) ≡ after_order (ordered framed.found >>= few)
+          go none y =
+              let x : o ≡ counts_of none = counts none y in
+              let w : k ≡ BadOrder = cc in
+              ap (λ (x : Refusal). no_table (refusal_number x)) w ∙ ap after_order (sym y)
+          go (some x) y = let q : o ≡ counts_of (some x) = counts (some x) y in cc
 
-      pub counted : (n m : ℕ) → o ≡ Counts n m → Counted S R n m
-      counted n m z = go (ordered framed.found >>= few) refl
+      pub counted : (u : Counts) → o ≡ Ok u → Counted S R u.classes u.methods
+      counted u z = go (ordered framed.found >>= few) refl
         where
-          go : (p : Option Raw) → ordered framed.found >>= few ≡ p → Counted S R n m
+          go : (p : Option Raw) → ordered framed.found >>= few ≡ p → Counted S R u.classes u.methods
           go none y = let k : o ≡ counts_of none = counts none y in let w : ◌≡◌ {A = ℕ} 0 1 = cc in absurd (omega arith)
           go (some x) y =
-              let k : o ≡ Counts (length x.classes) (length x.methods) = counts (some x) y in
+              let k : o ≡ counts_of (some x) = counts (some x) y in
+              let e : u ≡ record { classes = length x.classes; methods = length x.methods } = cc in
               record {
                 raw = x;
-                lined = record { whole = c.whole; bytes = c.bytes; found = framed.found; read = framed.read; order = y; rights = fr.rights framed.found (not-false b f) framed.read };
-                classes = (let a : n ≡ length x.classes = cc in a);
-                methods = (let a : m ≡ length x.methods = cc in a);
+                lined = record { whole = c.whole; bytes = c.bytes; found = framed.found; read = framed.read; order = y; rights = fr.rights framed.found f framed.read };
+                classes = ap (λ (v : Counts). v.classes) e;
+                methods = ap (λ (v : Counts). v.methods) e;
               }
 
--- ---- read_table: refusals 4 and 5, or the table
+-- ---- refusals 4 and 5, or the table
 module _ (S R : List ℕ) (n m : ℕ) (c : Counted S R n m) where
   within : (length c.raw.classes ≤ class_count) × (length c.raw.methods ≤ method_count)
   within = let x = few_inv (ordered c.lined.found) c.raw c.lined.order in (x.1, x.2)
@@ -154,20 +168,23 @@ module _ (S R : List ℕ) (n m : ℕ) (c : Counted S R n m) where
   of_raw : after_table (table c.raw) ≡ after_frames (frames (unpack S))
   of_raw = sym (ap after_frames c.lined.read ∙ ap after_order c.lined.order)
 
-  module _ (Z B : List ℕ) (b : Bool) (built : Built S R n m Z (placed b B)) (z : Zeros Z) where
-    pub no_table_lem : not b ≡ true → Into (after_frames (frames (unpack S))) 4 B
-    no_table_lem f = into_refused (after_frames (frames (unpack S))) 4 B (omega arith) (sym (go (table c.raw) refl ∙ of_raw))
+  module _ (Z B : List ℕ) (g : Result (Unit {0}) Refusal) (built : Built S R n m Z g B) (z : Zeros Z) where
+    pub no_table_lem : (C : List ℕ) (k : Refusal) → g ≡ Err k → Into (after_frames (frames (unpack S))) (Err k) C
+    no_table_lem C k f = into_refused (after_frames (frames (unpack S))) k C (sym (go (table c.raw) refl ∙ of_raw))
       where
-        go : (o : Option Table) → table c.raw ≡ o → no_table 4 ≡ after_table (table c.raw)
-        go none y = ap after_table (sym y)
+        four : k ≡ BadTable
+        four = let x = built.refusal in let y = ap is_ok f in let w : g ≡ passed BadTable false = x ∙ ap (passed BadTable) y in cc
+
+        go : (o : Option Table) → table c.raw ≡ o → no_table (refusal_number k) ≡ after_table (table c.raw)
+        go none y = ap (λ (x : Refusal). no_table (refusal_number x)) four ∙ ap after_table (sym y)
         go (some t) y =
-            let k = (built.makes c.raw c.lined c.classes c.methods z).made t y in
-            let w : b ≡ true = ap answer k in
-            let v = not-true b f in
+            let q = (built.makes c.raw c.lined c.classes c.methods z).made t y in
+            let w : is_ok g ≡ true = ap answer q in
+            let v : is_ok g ≡ false = ap is_ok f in
             let x : ◌≡◌ {A = ℕ} 0 1 = cc in
             absurd (omega arith)
 
-    module _ (f : not b ≡ false) where
+    module _ (f : g ≡ Ok tt) where
       made : (t : Table) × (table c.raw ≡ some t) × (B ≡ layout t)
       made = go (table c.raw) refl
         where
@@ -176,28 +193,21 @@ module _ (S R : List ℕ) (n m : ℕ) (c : Counted S R n m) where
 
           go : (o : Option Table) → table c.raw ≡ o → (t : Table) × (table c.raw ≡ some t) × (B ≡ layout t)
           go none y =
-              let k : b ≡ false = (built.makes c.raw c.lined c.classes c.methods z).refused y in
-              let v = not-false b f in
+              let k : is_ok g ≡ false = (built.makes c.raw c.lined c.classes c.methods z).refused y in
+              let v : is_ok g ≡ true = ap is_ok f in
               let x : ◌≡◌ {A = ℕ} 0 1 = cc in
               absurd (omega arith)
           go (some t) y = (t, y, ap bytes ((built.makes c.raw c.lined c.classes c.methods z).made t y))
 
-      module _ (g : Bool) (over : Overrides B g) where
-        says : (t : Table) → table c.raw ≡ some t → B ≡ layout t → g ≡ overrides_good t t.methods
-        says t y l = over.says S R c.raw t c.lined y l
+      pub by_overrides : (x : Result (Unit {0}) Refusal) → Overrides B x → Into (after_frames (frames (unpack S))) x B
+      by_overrides x over = subst (λ (r : Reading). Into r x B) (ap after_table (sym k.1) ∙ of_raw) (go (overrides_good k.0 k.0.methods) (over.says S R c.raw k.0 c.lined k.1 k.2))
+        where
+          k : (t : Table) × (table c.raw ≡ some t) × (B ≡ layout t)
+          k = made
 
-        pub no_override : not g ≡ true → Into (after_frames (frames (unpack S))) 5 B
-        no_override h =
-            let k = made in
-            into_refused (after_frames (frames (unpack S))) 5 B (omega arith)
-            (sym (sym (ap after_table k.1 ∙ ap (after_overriding k.0) (sym (says k.0 k.1 k.2) ∙ not-true g h)) ∙ of_raw))
-
-        pub the_table_lem : not g ≡ false → Into (after_frames (frames (unpack S))) 0 B
-        the_table_lem h =
-            let k = made in
-            let q : the_table k.0 ≡ after_frames (frames (unpack S)) =
-            sym (ap after_table k.1 ∙ ap (after_overriding k.0) (sym (says k.0 k.1 k.2) ∙ not-false g h)) ∙ of_raw in
-            record { number = ap (λ (r : Reading). r.refusal) q; table = λ z. k.2 ∙ ap (λ (r : Reading). r.table.bytes) q }
+          go : (b : Bool) → x ≡ passed BadOverride b → Into (after_overriding k.0 b) x B
+          go true e = subst (λ (y : Result (Unit {0}) Refusal). Into (the_table k.0) y B) (sym e) (record { number = refl; table = λ w. k.2 })
+          go false e = subst (λ (y : Result (Unit {0}) Refusal). Into (no_table 5) y B) (sym e) (into_refused (no_table 5) BadOverride B refl)
 
 -- ---- read_into: room enough
 pub short_room : (text room : List ℕ) → length text ≤ 1500 → length room ≡ 1024 → Roomy text room

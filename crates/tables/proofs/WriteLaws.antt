@@ -1,56 +1,37 @@
 -- The goals of `write`: a law for each return and loop step. Not here: what the answer says of texts (Written).
-use Prim.Native.Nat.{ℕ, zero, suc, ◌+◌, ◌*◌, ◌-◌, ◌≤◌, ◌<◌}
-use native.Mathlib.Omega.{arith}
-use native.Mathlib.Numerals.{add-one}
-use mathlib.Core.Path.{◌≡◌, refl, sym, ap, ◌∙◌}
-use mathlib.Core.Bool.{Bool, true, false, not}
-use mathlib.Core.List.{List, [], ◌∷◌, ◌++◌}
-use lib.Dec.{ltb}
-use lib.ListN.{length, get_or, take, drop, length-take, length-drop, length-append, length-replicate, drop_of_length-le}
-use lib.Seq.{drop-cons, length-take-le}
-use borrow.Author.Tests.{ltb-false, lt-ltb, le-ltb, eq-eqb, ne_eqb, not-true, not-false}
+use Rattle.std.proofs.Common.{ℕ, zero, suc, ◌+◌, ◌*◌, ◌-◌, ◌≤◌, ◌<◌, arith, add-one, ◌≡◌, refl, sym, ap, ◌∙◌, Bool, true, false, not, List, [], ◌∷◌, ◌++◌, ltb, length, get_or, take, drop, length-take, length-drop, length-append, length-take-le, lt-ltb, le-ltb, eq-eqb, ne_eqb, min, Ok, Err}
+use borrow.Author.Tests.{not-true, not-false}
+use Rattle.std.proofs.Math.Nat.{min-eq_left, min-le_right}
+use Rattle.std.specs.Str.{bytes_eq}
+use Rattle.std.specs.declared.result.Result.{Result}
+use Rattle.cofj.specs.declared.Refusal.{Refusal}
+use Rattle.cofj.specs.declared.Refusal.TheVariants.{UnreadableTable, ShortText}
+use Rattle.cofj.specs.Refusals.{refusal_number, answer_number}
+use Rattle.tables.proofs.ReadLaws.{some_number}
 use Rattle.cofj.specs.Text.{hex_text}
-use Rattle.cofj.specs.Reading.{Answer, refusal, read, read_text}
 use Rattle.cofj.specs.Writing.{Text, no_text, text}
 use Rattle.cofj.specs.Calls.{Wrote, over}
 use Rattle.cofj.specs.Calls.{wrote as written}
 use Rattle.lineform.specs.Writes.{wrote, put_line, put_text}
 use Rattle.lineform.proofs.WriteLaws.{line_end, text_none, text_line, text_text, text_end, text_size_lem, text_more_length, text_append, text_front, text_whole}
-use Rattle.classes.proofs.Zones.{length-layout}
 use Rattle.classes.specs.Machine.{pick}
-use Rattle.tables.specs.Writings.{cap, Capped, After, class_in, long_in, classes_in, methods_in, main_first, main_in, lines_in, same_bytes, gives, readable, text_in, wrote_table, writing_of}
+use Rattle.tables.specs.Writings.{After, class_in, long_in, classes_in, methods_in, main_first, main_in, lines_in, gives, readable, text_in, written_by, wrote_table, writing_of}
 use Rattle.tables.specs.declared.read.Reading.{Reading}
-use Rattle.tables.specs.Readings.{zero_table, answered, reading_of}
+use Rattle.tables.specs.Readings.{reading_of, Into}
 
 -- ---- counts
-pub capped_over : (x most : ℕ) → most < x → Capped x most most
-capped_over x most h = record { same = rw (lt-ltb most x h); small = omega arith }
-
-pub capped_within : (x most : ℕ) → x ≤ most → Capped x most x
-capped_within x most h = record { same = rw (le-ltb most x h); small = h }
-
-cap_small : (x most : ℕ) → cap x most ≤ most
-cap_small x most = go (ltb most x) refl
-  where
-    go : (b : Bool) → ltb most x ≡ b → cap x most ≤ most
-    go true e = rw e (omega arith)
-    go false e = rw e (ltb-false most x e)
-
-pub after_none : (x : ℕ) → x ≡ 0 → After x 0
-after_none x e = record { same = rw e; small = omega arith }
-
-pub after_one : (x : ℕ) → x < 256 → After x (x - 1)
-after_one x h = record { same = rw (le-ltb 254 (x - 1) (omega arith)); small = omega arith }
+pub after_is : (x : ℕ) → x < 256 → After x (x - 1)
+after_is x h = record { same = sym (min-eq_left {n = x - 1} {m = 254} (omega arith)); small = omega arith }
 
 -- ---- one class
-module _ (B out o : List ℕ) (k own at r : ℕ) (c : Capped (get_or B (16 * k + 2) 0) 4 own) where
+module _ (B out o : List ℕ) (k own at r : ℕ) (c : own ≡ min (get_or B (16 * k + 2) 0) 4) where
   pub class_line_is :
       wrote r o ≡ put_line out at (1 ∷ take (3 + 2 * own)
       (k ∷ get_or B (16 * k) 0 ∷ get_or B (16 * k + 2) 0 ∷ get_or B (16 * k + 3) 0 ∷ get_or B (16 * k + 4) 0 ∷ get_or B (16 * k + 5) 0
       ∷ get_or B (16 * k + 6) 0 ∷ get_or B (16 * k + 7) 0 ∷ get_or B (16 * k + 8) 0 ∷ get_or B (16 * k + 9) 0 ∷ get_or B (16 * k + 10) 0 ∷ []))
       → wrote r o ≡ put_line out at (class_in B k)
   unfolding class_in
-  class_line_is e = rw (← c.same) e
+  class_line_is e = rw (← c) e
 
 class_length : (B : List ℕ) (k : ℕ) → length (class_in B k) ≤ 12
 unfolding class_in
@@ -117,27 +98,9 @@ main_line_is B out o n f at r c ef e =
     let e3 : wrote r o ≡ put_line out at (f ∷ take n (drop 25361 B)) = rw q at e in
     rw (← c.same, ← ef) e3
 
--- ---- the same bytes
-module _ (s t : List ℕ) (i : ℕ) where
-  here : i < length s → length s ≡ length t → same_bytes (drop i s) (drop i t) ≡ same_bytes (get_or s i 0 ∷ drop (suc i) s) (get_or t i 0 ∷ drop (suc i) t)
-  here h l = rw (drop-cons s i 0 h, drop-cons t i 0 (omega arith))
-
-  module _ (h : i < length s) (l : length s ≡ length t) (e : same_bytes s t ≡ same_bytes (drop i s) (drop i t)) where
-    pub differ : (get_or s i 0 ≡ get_or t i 0 → ⊥) → false ≡ same_bytes s t
-    unfolding same_bytes
-    differ n = sym (e ∙ here h l ∙ rw (ne_eqb (get_or s i 0) (get_or t i 0) n))
-
-    pub same_more : get_or s i 0 ≡ get_or t i 0 → same_bytes s t ≡ same_bytes (drop (i + 1) s) (drop (i + 1) t)
-    unfolding same_bytes
-    same_more n = e ∙ here h l ∙ rw (add-one i, eq-eqb (get_or s i 0) (get_or t i 0) n)
-
-  pub same_all : length s ≤ i → length s ≡ length t → same_bytes s t ≡ same_bytes (drop i s) (drop i t) → true ≡ same_bytes s t
-  unfolding same_bytes
-  same_all h l e = sym (e ∙ rw (drop_of_length-le s {i = i} h, drop_of_length-le t {i = i} (omega arith)))
-
 -- ---- the whole text
 long_length : (B : List ℕ) (b : ℕ) → length (long_in B b) ≤ 254
-long_length B b = let q = cap_small (get_or B (b + 255) 0 - 1) 254 in simp (length-take, length-drop) (omega arith)
+long_length B b = let q = min-le_right (get_or B (b + 255) 0 - 1) 254 in simp (length-take, length-drop) (omega arith)
 
 methods_length : (B : List ℕ) (m : ℕ) → length (hex_text (methods_in B m)) ≤ 511 * m
 unfolding methods_in
@@ -147,46 +110,37 @@ methods_length B (suc m) = omega (arith, methods_length B m, text_more_length (m
 pub lines-length : (B : List ℕ) → length (hex_text (lines_in B)) ≤ 34015
 unfolding lines_in
 lines-length B =
-    let n = cap (get_or B 11 0) 32 in
-    let m = cap (get_or B 12 0) 64 in
+    let n = min (get_or B 11 0) 32 in
+    let m = min (get_or B 12 0) 64 in
     let a = text_append (classes_in B n) (methods_in B m) in
     let b = ap (λ (l : List ℕ). length l) a ∙ length-append (hex_text (classes_in B n)) (hex_text (methods_in B m)) in
     omega
-    (arith, b, text_more_length (classes_in B n ++ methods_in B m) (main_in B), long_length B 25360, classes_length B n, methods_length B m, cap_small (get_or B 11 0) 32, cap_small (get_or B 12 0) 64)
+    (arith, b, text_more_length (classes_in B n ++ methods_in B m) (main_in B), long_length B 25360, classes_length B n, methods_length B m, min-le_right (get_or B 11 0) 32, min-le_right (get_or B 12 0) 64)
 
-module _ (B out o1 : List ℕ) (n m a : ℕ) (cn : Capped (get_or B 11 0) 32 n) (cm : Capped (get_or B 12 0) 64 m) (e1 : wrote a o1 ≡ put_text out 0 (classes_in B n)) where
+module _ (B out o1 : List ℕ) (n m a : ℕ) (cn : n ≡ min (get_or B 11 0) 32) (cm : m ≡ min (get_or B 12 0) 64) (e1 : wrote a o1 ≡ put_text out 0 (classes_in B n)) where
   pub methods_room : 34015 ≤ length out → a + 511 * m ≤ length o1
-  methods_room h = omega (arith, cn.small, cm.small, text_end out o1 0 a (classes_in B n) e1, text_size_lem out o1 0 a (classes_in B n) e1, classes_length B n)
+  methods_room h = omega (arith, cn, cm, min-le_right (get_or B 11 0) 32, min-le_right (get_or B 12 0) 64, text_end out o1 0 a (classes_in B n) e1, text_size_lem out o1 0 a (classes_in B n) e1, classes_length B n)
 
   module _ (o2 : List ℕ) (b : ℕ) (e2 : wrote b o2 ≡ put_text o1 a (methods_in B m)) where
     pub main_room : 34015 ≤ length out → b + 511 ≤ length o2
     main_room h =
         omega
-        (arith, cn.small, cm.small, text_end out o1 0 a (classes_in B n) e1, text_size_lem out o1 0 a (classes_in B n) e1, classes_length B n, text_end o1 o2 a b (methods_in B m) e2, text_size_lem o1 o2 a b (methods_in B m) e2, methods_length B m)
+        (arith, cn, cm, min-le_right (get_or B 11 0) 32, min-le_right (get_or B 12 0) 64, text_end out o1 0 a (classes_in B n) e1, text_size_lem out o1 0 a (classes_in B n) e1, classes_length B n, text_end o1 o2 a b (methods_in B m) e2, text_size_lem o1 o2 a b (methods_in B m) e2, methods_length B m)
 
     pub lines_are : (o3 : List ℕ) (r : ℕ) → wrote r o3 ≡ put_line o2 b (main_in B) → wrote r o3 ≡ put_text out 0 (lines_in B)
     unfolding lines_in
     lines_are o3 r e3 =
         let e5 : wrote b o2 ≡ put_text out 0 (classes_in B n ++ methods_in B m) = text_text out o1 0 a (classes_in B n) e1 o2 b (methods_in B m) e2 in
         let e6 : wrote r o3 ≡ put_text out 0 ((classes_in B n ++ methods_in B m) ++ (main_in B ∷ [])) = text_line out o2 0 b (classes_in B n ++ methods_in B m) e5 o3 r (main_in B) e3 in
-        rw (← cn.same, ← cm.same) e6
+        rw (← cn, ← cm) e6
 
 refused_gives : (r : Reading) (B : List ℕ) → (r.refusal ≡ 0 → ⊥) → gives r B ≡ false
 unfolding gives
-refused_gives r B n = ap (λ (b : Bool). pick b (same_bytes B r.table.bytes) false) (ne_eqb r.refusal 0 n)
+refused_gives r B n = ap (λ (b : Bool). pick b (bytes_eq B r.table.bytes) false) (ne_eqb r.refusal 0 n)
 
-read_gives : (r : Reading) (B : List ℕ) → r.refusal ≡ 0 → gives r B ≡ same_bytes B r.table.bytes
+read_gives : (r : Reading) (B : List ℕ) → r.refusal ≡ 0 → gives r B ≡ bytes_eq B r.table.bytes
 unfolding gives
-read_gives r B z = ap (λ (b : Bool). pick b (same_bytes B r.table.bytes) false) (eq-eqb r.refusal 0 z)
-
-answered_size : (a : Answer) → length (answered a).table.bytes ≡ 25616
-unfolding zero_table
-answered_size (refusal k) = length-replicate {A = ℕ} 25616 0
-answered_size (read t) = length-layout t
-
-pub reading_size : (B s : List ℕ) (r : Reading) → length B ≡ 25616 → r ≡ reading_of s → length B ≡ length r.table.bytes
-unfolding reading_of
-reading_size B s r h e = h ∙ sym (ap (λ (x : Reading). length x.table.bytes) e ∙ answered_size (read_text s))
+read_gives r B z = ap (λ (b : Bool). pick b (bytes_eq B r.table.bytes) false) (eq-eqb r.refusal 0 z)
 
 -- ---- whether the candidate reads into the table
 module _ (B out o : List ℕ) (w : ℕ) (e : wrote w o ≡ put_text out 0 (lines_in B)) where
@@ -202,17 +156,21 @@ module _ (B out o : List ℕ) (w : ℕ) (e : wrote w o ≡ put_text out 0 (lines
   pub text_count : length out ≡ 34015 → w ≡ length (take w o)
   text_count s = sym (length-take-le w o (text_room s))
 
-  module _ (s : length out ≡ 34015) (r : Reading) (er : r ≡ reading_of (take w o)) where
-    reading_is : r ≡ reading_of (hex_text (lines_in B))
-    reading_is = er ∙ ap reading_of (text_front out o 0 w (lines_in B) e (omega (arith, text_short)))
+  module _ (x : Result (Unit {0}) Refusal) (C : List ℕ) (ex : Into (reading_of (take w o)) x C) where
+    reading_is : (s : length out ≡ 34015) → reading_of (take w o) ≡ reading_of (hex_text (lines_in B))
+    reading_is s = ap reading_of (text_front out o 0 w (lines_in B) e (omega (arith, text_short)))
 
-    pub not_read : (r.refusal ≡ 0 → ⊥) → false ≡ readable B
+    pub not_read : (k : Refusal) → length out ≡ 34015 → x ≡ Err k → false ≡ readable B
     unfolding readable
-    not_read n = sym (ap (λ (x : Reading). gives x B) (sym reading_is) ∙ refused_gives r B n)
+    not_read k s q =
+        let n : refusal_number k ≡ (reading_of (take w o)).refusal = sym (ap answer_number q) ∙ ex.number in
+        sym (ap (λ (r : Reading). gives r B) (sym (reading_is s)) ∙ refused_gives (reading_of (take w o)) B (λ z. omega (arith, n, z, some_number k)))
 
-    pub reads : (b : Bool) → r.refusal ≡ 0 → b ≡ same_bytes B r.table.bytes → b ≡ readable B
+    pub reads : (b : Bool) → length out ≡ 34015 → x ≡ Ok tt → b ≡ bytes_eq B C → b ≡ readable B
     unfolding readable
-    reads b z q = q ∙ sym (ap (λ (x : Reading). gives x B) (sym reading_is) ∙ read_gives r B z)
+    reads b s z q =
+        q ∙ ap (bytes_eq B) (ex.table z)
+        ∙ sym (ap (λ (r : Reading). gives r B) (sym (reading_is s)) ∙ read_gives (reading_of (take w o)) B (sym ex.number ∙ ap answer_number z))
 
 -- ---- the answer
 sized : List ℕ → List ℕ → Bool → Wrote
@@ -240,16 +198,16 @@ module _ (B : List ℕ) (b : Bool) (eb : b ≡ readable B) where
   text_in_lem f = rw (← eb, not-false b f)
 
 module _ (B d : List ℕ) (b : Bool) (eb : b ≡ readable B) where
-  pub refused_8 : not b ≡ true → wrote_table (record { refusal = 8; length = 0 }) d ≡ writing_of B d
+  pub refused_8 : not b ≡ true → wrote_table (written_by (Err UnreadableTable)) d ≡ writing_of B d
   unfolding writing_of
   refused_8 f = sym (ap (λ (x : Text). written x d) (text_none_in B b eb f))
 
   module _ (f : not b ≡ false) where
-    pub refused_9 : length d < 49567 → wrote_table (record { refusal = 9; length = 0 }) d ≡ writing_of B d
+    pub refused_9 : length d < 49567 → wrote_table (written_by (Err ShortText)) d ≡ writing_of B d
     unfolding writing_of sized
     refused_9 h = sym (ap (λ (x : Text). written x d) (text_in_lem B b eb f) ∙ by_size (hex_text (lines_in B)) d true (lt-ltb (length d) 49567 h))
 
-    pub text_put : (o : List ℕ) (w : ℕ) → 49567 ≤ length d → wrote w o ≡ put_text d 0 (lines_in B) → wrote_table (record { refusal = 0; length = w }) o ≡ writing_of B d
+    pub text_put : (o : List ℕ) (w : ℕ) → 49567 ≤ length d → wrote w o ≡ put_text d 0 (lines_in B) → wrote_table (written_by (Ok w)) o ≡ writing_of B d
     unfolding writing_of sized over
     text_put o w h e =
         let k : w ≡ length (hex_text (lines_in B)) = omega (arith, text_end d o 0 w (lines_in B) e) in

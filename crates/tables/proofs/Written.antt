@@ -1,14 +1,13 @@
 -- What the writer's answer says: the bytes of a table that is read give cofj's `write_call`, and refusal 8 is exactly for bytes that no text reads into.
-use Prim.Native.Nat.{ℕ}
-use native.Mathlib.Omega.{arith}
-use mathlib.Core.Path.{◌≡◌, refl, sym, ap, ap₂, ◌∙◌, subst}
-use mathlib.Core.Bool.{Bool, true, false}
-use mathlib.Core.List.{List, [], ◌∷◌}
-use mathlib.Core.Option.{Option, none, some}
-use lib.Dec.{eqb, ltb}
-use lib.ListN.{length}
-use borrow.Author.Tests.{eq-eqb, eqb-true}
+use Rattle.std.proofs.Common.{ℕ, arith, ◌≡◌, refl, sym, ap, ◌∙◌, subst, Bool, true, false, List, eqb, ltb, length, eqb-true, Ok, Err}
+use Rattle.std.proofs.Math.Option.{Option, none, some}
+use Rattle.std.specs.declared.result.Result.{Result}
+use Rattle.cofj.specs.declared.Refusal.{Refusal}
+use Rattle.cofj.specs.Refusals.{refusal_number, answer_number}
+use Rattle.tables.proofs.ReadLaws.{some_number}
 use Rattle.cofj.specs.Syntax.{Table}
+use Rattle.std.specs.Str.{bytes_eq}
+use Rattle.std.proofs.lemmas.Slice.Eq.{bytes_eq-Decides}
 use Rattle.cofj.specs.Text.{hex_text, lines}
 use Rattle.cofj.specs.Partial.{◌>>=◌}
 use Rattle.cofj.specs.Frames.{frames}
@@ -22,41 +21,24 @@ use Rattle.classes.specs.Layout.{layout}
 use Rattle.classes.specs.Machine.{pick}
 use Rattle.tables.specs.declared.read.Reading.{Reading}
 use Rattle.tables.specs.Readings.{the_table, no_table, answered, reading_of, Into}
-use Rattle.tables.specs.Writings.{lines_in, same_bytes, gives, readable, text_in, writing_of, holding}
+use Rattle.tables.specs.Writings.{lines_in, gives, readable, text_in, writing_of, holding}
 use Rattle.tables.proofs.LinesIn.{lines_in_lem}
-
--- ---- the test for the same bytes
-same_self : (B : List ℕ) → same_bytes B B ≡ true
-unfolding same_bytes
-same_self [] = refl
-same_self (b ∷ B) = rw (eq-eqb b b refl) (same_self B)
 
 zero_one : ◌≡◌ {A = ℕ} 0 1 → ⊥
 zero_one e = omega arith
 
-same_is : (B C : List ℕ) → same_bytes B C ≡ true → B ≡ C
-unfolding same_bytes
-same_is [] [] e = refl
-same_is [] (c ∷ C) e = absurd (zero_one (let z : ◌≡◌ {A = ℕ} 0 1 = cc in z))
-same_is (b ∷ B) [] e = absurd (zero_one (let z : ◌≡◌ {A = ℕ} 0 1 = cc in z))
-same_is (b ∷ B) (c ∷ C) e = go (eqb b c) refl e (λ z. same_is B C z)
-  where
-    go : (x : Bool) → eqb b c ≡ x → pick x (same_bytes B C) false ≡ true → (same_bytes B C ≡ true → B ≡ C) → b ∷ B ≡ c ∷ C
-    go true q z f = ap₂ {C = List ℕ} ◌∷◌ (eqb-true b c q) (f z)
-    go false q z f = absurd (zero_one (let y : ◌≡◌ {A = ℕ} 0 1 = cc in y))
-
 gives-holding : (B : List ℕ) → gives (holding B) B ≡ true
 unfolding gives
-gives-holding B = same_self B
+gives-holding B = (bytes_eq-Decides B B).1 refl
 
 gives_is : (r : Reading) (B : List ℕ) → gives r B ≡ true → r ≡ holding B
 unfolding gives
 gives_is r B e = go (eqb r.refusal 0) refl e
   where
-    go : (x : Bool) → eqb r.refusal 0 ≡ x → pick x (same_bytes B r.table.bytes) false ≡ true → r ≡ holding B
+    go : (x : Bool) → eqb r.refusal 0 ≡ x → pick x (bytes_eq B r.table.bytes) false ≡ true → r ≡ holding B
     go true q z =
         let k = eqb-true r.refusal 0 q in
-        let l = sym (same_is B r.table.bytes z) in
+        let l = sym ((bytes_eq-Decides B r.table.bytes).0 z) in
         λ i. record { refusal = k i; table = record { bytes = l i } }
     go false q z = absurd (zero_one (let y : ◌≡◌ {A = ℕ} 0 1 = cc in y))
 
@@ -98,28 +80,31 @@ pub reads_table : (s B : List ℕ) → reading_of s ≡ holding B → TableOf s 
 reads_table s B e = by_answer s B (read_text s) refl e
 
 -- ---- what an answer says of the text, by its number
-module _ (s : List ℕ) (k : ℕ) (B : List ℕ) (h : Into (reading_of s) k B) where
-  by_number : (a : Answer) → read_text s ≡ a → k ≡ (answered a).refusal
+module _ (s : List ℕ) (x : Result (Unit {0}) Refusal) (B : List ℕ) (h : Into (reading_of s) x B) where
+  by_number : (a : Answer) → read_text s ≡ a → answer_number x ≡ (answered a).refusal
   unfolding reading_of
-  by_number a q = h.number ∙ ap (λ (x : Answer). (answered x).refusal) q
+  by_number a q = h.number ∙ ap (λ (y : Answer). (answered y).refusal) q
 
-  pub answer_refusal : (k ≡ 0 → ⊥) → read_text s ≡ refusal k
-  answer_refusal n = go (read_text s) refl
+  holding_is : x ≡ Ok tt → holding B ≡ reading_of s
+  holding_is z = λ i. record { refusal = (sym (ap answer_number z) ∙ h.number) i; table = record { bytes = h.table z i } }
+
+  pub answer_refusal : (k : Refusal) → x ≡ Err k → read_text s ≡ refusal (refusal_number k)
+  answer_refusal k e = go (read_text s) refl
     where
-      go : (a : Answer) → read_text s ≡ a → a ≡ refusal k
-      go (refusal m) q = ap refusal (sym (by_number (refusal m) q))
-      go (read t) q = absurd (n (by_number (read t) q))
+      go : (a : Answer) → read_text s ≡ a → a ≡ refusal (refusal_number k)
+      go (refusal m) q = ap refusal (sym (by_number (refusal m) q) ∙ ap answer_number e)
+      go (read t) q = let y : refusal_number k ≡ 0 = sym (ap answer_number e) ∙ by_number (read t) q in absurd (omega (arith, some_number k))
 
-  pub answer-table : k ≡ 0 → TableOf s B
-  answer-table z = reads_table s B (λ i. record { refusal = (sym h.number ∙ z) i; table = record { bytes = sym (h.table z) i } })
+  pub answer-table : x ≡ Ok tt → TableOf s B
+  answer-table z = reads_table s B (sym (holding_is z))
 
   -- and the answer by value
-  pub reading_refused : (r : Reading) → (k ≡ 0 → ⊥) → r ≡ no_table k → r ≡ reading_of s
+  pub reading_refused : (r : Reading) (k : Refusal) → x ≡ Err k → r ≡ no_table (refusal_number k) → r ≡ reading_of s
   unfolding reading_of
-  reading_refused r n q = q ∙ sym (ap answered (answer_refusal n))
+  reading_refused r k e q = q ∙ sym (ap answered (answer_refusal k e))
 
-  pub reading_table : k ≡ 0 → holding B ≡ reading_of s
-  reading_table z = λ i. record { refusal = (sym z ∙ h.number) i; table = record { bytes = h.table z i } }
+  pub reading_table : x ≡ Ok tt → holding B ≡ reading_of s
+  reading_table z = holding_is z
 
 -- ---- the text of bytes
 by_test : (B : List ℕ) (b : Bool) → readable B ≡ b → text_in B ≡ pick b (text (hex_text (lines_in B))) no_text

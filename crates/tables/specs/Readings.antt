@@ -1,5 +1,8 @@
 -- What `read` answers, of what the language's `read_text` gives: the table's bytes, or the refusal and zeros.
-use Rattle.std.specs.Prelude.{ℕ, ◌<◌, ◌≡◌, Bool, true, false, List, length, get_or, replicate}
+use Rattle.std.specs.Prelude.{ℕ, ◌<◌, ◌≡◌, Bool, true, false, List, length, get_or, replicate, Ok}
+use Rattle.std.specs.declared.result.Result.{Result}
+use Rattle.cofj.specs.declared.Refusal.{Refusal}
+use Rattle.cofj.specs.Refusals.{answer_number}
 use Rattle.std.proofs.Math.Option.{Option, none, some}
 use Rattle.cofj.specs.Partial.{◌>>=◌}
 use Rattle.cofj.specs.Syntax.{Table}
@@ -51,10 +54,10 @@ unfoldable pub reading_of : List ℕ → Reading
 unfolding read_text
 reading_of s = answered (read_text s)
 
--- k and the bytes B are the answer; after a refusal the bytes are open
-pub record Into (r : Reading) (k : ℕ) (B : List ℕ) : Type 0 where
-  pub number : k ≡ r.refusal
-  pub table : k ≡ 0 → B ≡ r.table.bytes
+-- x and the bytes B are the answer; after a refusal the bytes are open
+pub record Into (r : Reading) (x : Result (Unit {0}) Refusal) (B : List ℕ) : Type 0 where
+  pub number : answer_number x ≡ r.refusal
+  pub table : x ≡ Ok tt → B ≡ r.table.bytes
 
 -- ---- what the steps have made sure of
 -- packed lines of bytes

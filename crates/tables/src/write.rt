@@ -2,16 +2,15 @@
 // Not here: what one line is in characters (lineform), what reading asks of a text (read).
 ghost use Rattle.std.specs.Prelude.{◌≡◌, ◌+◌, ◌*◌, ◌≤◌, length};
 ghost use Rattle.cofj.specs.Limits.{class_count, method_count};
-ghost use Rattle.classes.specs.Figures.{table_size};
 ghost use Rattle.lineform.specs.Writes.{wrote, put_line, put_text};
-ghost use Rattle.tables.specs.Writings.{room_size, Capped, After, class_in, classes_in, methods_in, main_first, main_in, lines_in, same_bytes, readable, wrote_table, writing_of};
+ghost use Rattle.tables.specs.Writings.{room_size, After, class_in, classes_in, methods_in, main_first, main_in, lines_in, readable, written_by, wrote_table, writing_of};
 
-use crate::read::read;
+use crate::read::read_into;
 use classes::ClassTable;
 use classes::places::{
-    CLASS_COUNT_AT, CLASSES, FIELDS, LAST, LONG, MAIN, METHOD_COUNT_AT, METHODS, ROW,
+    CLASS_COUNT_AT, CLASSES, FIELDS, LAST, LONG, MAIN, METHOD_COUNT_AT, METHODS, ROW, SIZE,
 };
-use cofj::Written;
+use cofj::{Refusal, Written};
 use lineform::write::put_line;
 
 // how many methods there are at most
@@ -23,33 +22,20 @@ const ROOM: usize = 34015;
 // the longest text: a shorter buffer is refused
 const TEXT: usize = 49567;
 
-// A byte, or the most that it may be.
-fn capped(x: u8, most: u8) -> u8
-    ensures { Capped x most result }
-{
-    if most < x {
-        return most;
-    }
-    x
-}
-
 // How many bytes follow the first in a line of x bytes.
 fn after_first(x: u8) -> usize
     ensures { After x result }
 {
-    if x == 0 {
-        return 0;
-    }
-    (x as usize) - 1
+    usize::from(x.saturating_sub(1))
 }
 
 // The line of class k, and the place after it.
-fn class_line(t: &[u8], k: u8, out: &mut [u8], at: usize) -> usize
-    requires { (length t.now ≡ table_size) × (k ≤ class_count) × (at + 25 ≤ length out.old) }
+fn class_line(t: &[u8; SIZE], k: u8, out: &mut [u8], at: usize) -> usize
+    requires { (k ≤ class_count) × (at + 25 ≤ length out.old) }
     ensures { wrote result out.new ≡ put_line out.old at (class_in t.now k) }
 {
     let b = ROW * (k as usize);
-    let own = capped(t[b + 2], FIELDS);
+    let own = t[b + 2].min(FIELDS);
     let l = [
         k,
         t[b],
@@ -68,33 +54,29 @@ fn class_line(t: &[u8], k: u8, out: &mut [u8], at: usize) -> usize
 }
 
 // The lines of classes 1 to n, and the place after them.
-fn class_lines(t: &[u8], n: u8, out: &mut [u8], at: usize) -> usize
-    requires { (length t.now ≡ table_size) × (n ≤ class_count) × (at + 25 * n ≤ length out.old) }
+fn class_lines(t: &[u8; SIZE], n: u8, out: &mut [u8], at: usize) -> usize
+    requires { (n ≤ class_count) × (at + 25 * n ≤ length out.old) }
     ensures { wrote result out.new ≡ put_text out.old at (classes_in t.now n) }
 {
-    let mut k: u8 = 0;
-    let mut w: usize = at;
-    while k < n {
+    let mut w = at;
+    for k in 0..n {
         w = class_line(t, k + 1, out, w);
-        k += 1;
     }
     w
 }
 
 // The lines of methods 0 to m - 1, and the place after them.
-fn method_lines(t: &[u8], m: u8, out: &mut [u8], at: usize) -> usize
-    requires { (length t.now ≡ table_size) × (m ≤ method_count) × (at + 511 * m ≤ length out.old) }
+fn method_lines(t: &[u8; SIZE], m: u8, out: &mut [u8], at: usize) -> usize
+    requires { (m ≤ method_count) × (at + 511 * m ≤ length out.old) }
     ensures { wrote result out.new ≡ put_text out.old at (methods_in t.now m) }
 {
-    let mut i: u8 = 0;
-    let mut w: usize = at;
-    while i < m {
+    let mut w = at;
+    for i in 0..m {
         let b = METHODS + LONG * (i as usize);
         let n = after_first(t[b + LAST]);
         let a = b + 1;
         let e = a + n;
         w = put_line(2, &t[a..e], out, w);
-        i += 1;
     }
     w
 }
@@ -110,8 +92,8 @@ fn main_first(x: u8) -> u8
 }
 
 // The line of main, and the place after it.
-fn main_line(t: &[u8], out: &mut [u8], at: usize) -> usize
-    requires { (length t.now ≡ table_size) × (at + 511 ≤ length out.old) }
+fn main_line(t: &[u8; SIZE], out: &mut [u8], at: usize) -> usize
+    requires { at + 511 ≤ length out.old }
     ensures { wrote result out.new ≡ put_line out.old at (main_in t.now) }
 {
     let n = after_first(t[MAIN + LAST]);
@@ -121,69 +103,53 @@ fn main_line(t: &[u8], out: &mut [u8], at: usize) -> usize
 }
 
 // The candidate text, and its length.
-fn put_lines(t: &[u8], out: &mut [u8]) -> usize
-    requires { (length t.now ≡ table_size) × (room_size ≤ length out.old) }
+fn put_lines(t: &[u8; SIZE], out: &mut [u8]) -> usize
+    requires { room_size ≤ length out.old }
     ensures { wrote result out.new ≡ put_text out.old 0 (lines_in t.now) }
 {
-    let n = capped(t[CLASS_COUNT_AT], CLASSES);
-    let m = capped(t[METHOD_COUNT_AT], MOST_METHODS);
+    let n = t[CLASS_COUNT_AT].min(CLASSES);
+    let m = t[METHOD_COUNT_AT].min(MOST_METHODS);
     let a = class_lines(t, n, out, 0);
     let b = method_lines(t, m, out, a);
     main_line(t, out, b)
 }
 
-// Whether two tables have the same bytes.
-fn same_table(s: &[u8], t: &[u8]) -> bool
-    requires { length s.now ≡ length t.now }
-    ensures { result ≡ same_bytes s.now t.now }
-{
-    let mut i: usize = 0;
-    while i < s.len() {
-        if s[i] != t[i] {
-            return false;
-        }
-        i += 1;
-    }
-    true
-}
-
 // Whether the candidate text reads into these bytes.
-fn reads_back(t: &[u8]) -> bool
-    requires { length t.now ≡ table_size }
+fn reads_back(t: &[u8; SIZE]) -> bool
     ensures { result ≡ readable t.now }
 {
     let mut room = [0u8; ROOM];
     let w = put_lines(t, &mut room);
-    let r = read(&room[..w]);
-    if r.refusal != 0 {
-        return false;
+    let mut bytes = [0u8; SIZE];
+    match read_into(&room[..w], &mut bytes) {
+        Ok(()) => *t == bytes,
+        Err(_) => false,
     }
-    let found = r.table;
-    let bytes = found.bytes;
-    same_table(t, &bytes)
 }
 
-// The text of a table at the front of the buffer: 8 for bytes that no text reads into, then 9 for a buffer under 49,567 bytes.
+// The length of the text, which stands at the front of the buffer; or 8 for bytes that no text reads into, then 9 for a buffer under 49,567 bytes.
+fn text_of(t: &[u8; SIZE], buffer: &mut [u8]) -> Result<u16, Refusal>
+    ensures { wrote_table (written_by result) buffer.new ≡ writing_of t.now buffer.old }
+{
+    if !reads_back(t) {
+        return Err(Refusal::UnreadableTable);
+    }
+    if buffer.len() < TEXT {
+        return Err(Refusal::ShortText);
+    }
+    let w = put_lines(t, buffer);
+    Ok(w as u16)
+}
+
+// The text of a table, or refusal 8 or 9.
 pub fn write(table: ClassTable, buffer: &mut [u8]) -> Written
     ensures { wrote_table result buffer.new ≡ writing_of table.bytes buffer.old }
 {
-    let bytes = table.bytes;
-    let good = reads_back(&bytes);
-    if !good {
-        return Written {
-            refusal: 8,
+    match text_of(&table.bytes, buffer) {
+        Ok(length) => Written { refusal: 0, length },
+        Err(r) => Written {
+            refusal: r.number(),
             length: 0,
-        };
-    }
-    if buffer.len() < TEXT {
-        return Written {
-            refusal: 9,
-            length: 0,
-        };
-    }
-    let w = put_lines(&bytes, buffer);
-    Written {
-        refusal: 0,
-        length: w as u16,
+        },
     }
 }

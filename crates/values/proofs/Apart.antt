@@ -1,13 +1,11 @@
 -- Objects told apart by a path, and objects that stay distinct where a mark is bound: the laws of `other_field`, `differ`, `unlike`, `stay_distinct`.
 -- Not here: how they are bound (Bindings), the block written (Puts).
-use Prim.Native.Nat.{ℕ, ◌+◌, ◌*◌, ◌<◌, ◌≤◌}
-use native.Mathlib.Omega.{arith}
+use Rattle.std.proofs.Common.{ℕ, ◌+◌, ◌*◌, ◌<◌, ◌≤◌, arith, Some, None, ◌≡◌, sym, ap, ◌∙◌, subst, Bool, true, false, not, List, [], length, get_or}
 use native.Mathlib.Decide.{dec_lt, ℕ_discrete}
-use mathlib.Core.Path.{◌≡◌, sym, ap, ◌∙◌, subst}
-use mathlib.Core.Bool.{Bool, true, false, not, false≢true}
-use mathlib.Core.List.{List, []}
-use mathlib.Core.Option.{some, none-ne-some}
-use lib.ListN.{length, get_or, get_elem?, get_or-eq_default}
+use Rattle.std.specs.declared.option.Option.{Option as RustOption}
+use Rattle.std.proofs.Math.Bool.{false≢true}
+use Rattle.std.proofs.Math.Option.{some, none-ne-some}
+use Rattle.std.proofs.Math.ListN.{get_elem?, get_or-eq_default}
 use Rattle.cofj.specs.Values.{Ref, obj, leaf, undet, Node, node, node_at, refs_at}
 use Rattle.cofj.specs.Unfolding.{follow, Same, InRange}
 use Rattle.cofj.proofs.Trees.{same_child, same_cls, same_count}
@@ -25,14 +23,17 @@ use Rattle.values.proofs.Bindings.{objects_are}
 use Rattle.values.proofs.Referring.{free_code}
 
 module _ (R : List ℕ) (x y : ℕ) where
-  pub other_code : (f : ℕ) → ((get_or R (object_size * x + head_size + f) 0 ≡ get_or R (object_size * y + head_size + f) 0) → ⊥) → OtherField R x y f
-  other_code f h = record { other = λ _ e _. h e }
+  pub other_code : (f : ℕ) → f < code_count → ((get_or R (object_size * x + head_size + f) 0 ≡ get_or R (object_size * y + head_size + f) 0) → ⊥) → OtherField R x y (Some f)
+  other_code f l h = record { low = λ g q. let z : f ≡ g = cc in rw z at l; other = λ g q e _. let z : f ≡ g = cc in (rw z at h) e }
 
-  pub other_number : (f m n : ℕ) → m ≡ number_at R (object_size * x + numbers_at + 2 * f) → n ≡ number_at R (object_size * y + numbers_at + 2 * f) → ((m ≡ n) → ⊥) → OtherField R x y f
-  other_number f m n em en h = record { other = λ _ _ e. h (em ∙ e ∙ sym en) }
+  pub other_number : (f m n : ℕ) → f < code_count → m ≡ number_at R (object_size * x + numbers_at + 2 * f) → n ≡ number_at R (object_size * y + numbers_at + 2 * f) → ((m ≡ n) → ⊥) → OtherField R x y (Some f)
+  other_number f m n l em en h = record {
+    low = λ g q. let z : f ≡ g = cc in rw z at l;
+    other = λ g q _ e. let z : f ≡ g = cc in h ((rw z at em) ∙ e ∙ sym (rw z at en));
+  }
 
-  pub other_none : OtherField R x y 4
-  other_none = record { other = λ h. absurd (omega arith) }
+  pub other_none : OtherField R x y None
+  other_none = record { low = λ g q. absurd (cc); other = λ g q. absurd (cc) }
 
 module _ (R : List ℕ) (n i k : ℕ) where
   pub differ_start : i < n → k < n → Leads R n i k i k
@@ -76,7 +77,10 @@ module _ (R : List ℕ) (n i k : ℕ) where
         });
       }
 
-      module _ (u : Bool) (t : u ≡ alike_at R (object_size * x) (object_size * y)) (zu : not u ≡ false) (f : ℕ) (o : OtherField R x y f) (hf : f < code_count) where
+      module _ (u : Bool) (t : u ≡ alike_at R (object_size * x) (object_size * y)) (zu : not u ≡ false) (w : RustOption ℕ) (o : OtherField R x y w) (f : ℕ) (is : w ≡ Some f) where
+        hf : f < code_count
+        hf = o.low f is
+
         abbrev a : ℕ
         a = get_or R (object_size * x + head_size + f) 0
 
@@ -88,7 +92,7 @@ module _ (R : List ℕ) (n i k : ℕ) where
 
         -- they are not the same field
         not_same : get_or (refs_at ns x) f (leaf undet) ≡ get_or (refs_at ns y) f (leaf undet) → ⊥
-        not_same e = o.other hf (code_at x ld.first f hf ∙ ap code_of e ∙ sym (code_at y ld.second f hf)) (number_at_lem x ld.first f hf ∙ ap number_beside e ∙ sym (number_at_lem y ld.second f hf))
+        not_same e = o.other f is (code_at x ld.first f hf ∙ ap code_of e ∙ sym (code_at y ld.second f hf)) (number_at_lem x ld.first f hf ∙ ap number_beside e ∙ sym (number_at_lem y ld.second f hf))
 
         field_low : f < get_or R (object_size * x + 1) 0
         field_low = go (dec_lt f (get_or R (object_size * x + 1) 0))

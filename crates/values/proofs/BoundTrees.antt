@@ -1,15 +1,9 @@
 -- Marks bound to an object: the tree, and the objects that stay distinct where nobody refers to it.
 -- Not here: how the objects lie in bytes (Bindings).
-use Prim.Native.Nat.{ℕ, ◌<◌}
-use native.Mathlib.Omega.{arith}
-use mathlib.Core.Path.{◌≡◌, refl, sym, ap, ◌∙◌}
-use mathlib.Core.Bool.{Bool, true, false}
-use mathlib.Core.List.{List, [], ◌∷◌}
+use Rattle.std.proofs.Common.{ℕ, ◌<◌, arith, ◌≡◌, refl, sym, ap, ◌∙◌, Bool, true, false, List, [], ◌∷◌, eqb, length, eqb-true}
 use mathlib.Core.Logic.{◌⊎◌, inl, inr}
-use mathlib.Core.Option.{Option, none, some, none-ne-some}
-use lib.Dec.{eqb}
-use lib.ListN.{length, get_elem?, length-map}
-use borrow.Author.Tests.{eqb-true}
+use Rattle.std.proofs.Math.Option.{Option, none, some, none-ne-some}
+use Rattle.std.proofs.Math.ListN.{get_elem?, length-map}
 use Rattle.cofj.specs.Partial.{◌>>=◌}
 use Rattle.cofj.specs.Values.{Ref, obj, leaf, Leaf, mark, undet, num, Node, refs_at, bind_leaf, bind}
 use Rattle.cofj.specs.Unfolding.{object, at_leaf, label_at, child, follow, Same, InRange, follow_bound}

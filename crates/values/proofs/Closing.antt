@@ -1,12 +1,5 @@
 -- Laws of values brought down and closed: one for each return of `bring` and `close`. Not here: the block copied (Copies), the mark bound (Bindings).
-use Prim.Native.Nat.{ℕ, ◌+◌, ◌*◌, ◌≤◌}
-use native.Mathlib.Omega.{arith}
-use mathlib.Core.Path.{◌≡◌, refl, sym, ap, ◌∙◌}
-use mathlib.Core.Bool.{Bool, true, false}
-use mathlib.Core.List.{List, []}
-use lib.Dec.{eqb}
-use lib.ListN.{get_or}
-use borrow.Author.Tests.{eq-eqb, ne_eqb}
+use Rattle.std.proofs.Common.{ℕ, ◌+◌, ◌*◌, ◌≤◌, arith, ◌≡◌, refl, sym, ap, ◌∙◌, Bool, true, false, List, [], eqb, get_or, eq-eqb, ne_eqb}
 use Rattle.cofj.specs.Values.{Ref, obj, leaf, mark, undet, Node, graph, canon, close, mark_of}
 use Rattle.canon.specs.Figures.{level_at, block_size}
 use Rattle.canon.specs.Layout.{Inside, objects_in, graph_at, level_in}

@@ -1,14 +1,8 @@
 -- Laws of a block copied as it is, of a value brought down, and of objects in which a mark does not occur.
-use Prim.Native.Nat.{ℕ, ◌+◌, ◌*◌, ◌<◌, ◌≤◌}
-use native.Mathlib.Omega.{arith}
+use Rattle.std.proofs.Common.{ℕ, ◌+◌, ◌*◌, ◌<◌, ◌≤◌, arith, ◌≡◌, refl, sym, ap, ◌∙◌, subst, Bool, true, false, List, [], length, get_or, set, length-set, get_or-set_same, get_or-set_other, ne_eqb}
 use native.Mathlib.Decide.{dec_lt, ℕ_discrete}
-use mathlib.Core.Path.{◌≡◌, refl, sym, ap, ◌∙◌, subst}
-use mathlib.Core.Bool.{Bool, true, false}
-use mathlib.Core.List.{List, []}
-use mathlib.Core.Option.{some, none-ne-some}
-use lib.ListN.{length, get_or, set, get_elem?, length-set, get_or-eq_default}
-use lib.Seq.{get_or-set_same, get_or-set_other}
-use borrow.Author.Tests.{ne_eqb}
+use Rattle.std.proofs.Math.Option.{some, none-ne-some}
+use Rattle.std.proofs.Math.ListN.{get_elem?, get_or-eq_default}
 use Rattle.cofj.specs.Values.{Ref, obj, leaf, mark, undet, num, Node, node, graph, rename, refs_at, node_at, canon, bind}
 use Rattle.cofj.specs.Unfolding.{Whole}
 use Rattle.cofj.proofs.Operations.{bound_nodes}

@@ -1,11 +1,6 @@
 -- What the operations leave as it was: every value but those in the block that is written.
-use Prim.Native.Nat.{ℕ, ◌+◌, ◌*◌, ◌<◌, ◌≤◌}
-use native.Mathlib.Omega.{arith}
+use Rattle.std.proofs.Common.{ℕ, ◌+◌, ◌*◌, ◌<◌, ◌≤◌, arith, ◌≡◌, refl, ap, false, List, length, get_or}
 use native.Mathlib.Decide.{dec_lt}
-use mathlib.Core.Path.{◌≡◌, refl, ap}
-use mathlib.Core.Bool.{false}
-use mathlib.Core.List.{List}
-use lib.ListN.{length, get_or}
 use borrow.Author.Tests.{eqb-false}
 use Rattle.cofj.specs.Values.{Node, graph, obj, canon}
 use Rattle.canon.specs.Figures.{count_at, level_at, reach_at, block_size}

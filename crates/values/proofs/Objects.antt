@@ -1,10 +1,6 @@
 -- What a block's bytes say of its objects, and what trees say of references. Not here: objects met in step (Partners, Queues).
-use Prim.Native.Nat.{ℕ, ◌+◌, ◌*◌, ◌<◌, ◌≤◌}
-use native.Mathlib.Omega.{arith}
-use mathlib.Core.Path.{◌≡◌, refl, sym, ap₂, ◌∙◌, subst}
-use mathlib.Core.List.{List, []}
-use mathlib.Core.Option.{some}
-use lib.ListN.{length, get_or}
+use Rattle.std.proofs.Common.{ℕ, ◌+◌, ◌*◌, ◌<◌, ◌≤◌, arith, ◌≡◌, refl, sym, ap₂, ◌∙◌, subst, List, [], length, get_or}
+use Rattle.std.proofs.Math.Option.{some}
 use Rattle.cofj.specs.Values.{Ref, obj, leaf, Leaf, mark, undet, num, Node, node_at, refs_at}
 use Rattle.cofj.specs.Unfolding.{object, at_leaf, Same, InRange, Whole}
 use Rattle.cofj.proofs.Trees.{same_cls, same_count}

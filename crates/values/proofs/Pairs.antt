@@ -1,14 +1,8 @@
 -- Pairs of objects of two blocks, noted one by one: one law for each return of `step_code`.
 -- Not here: what the pairs say of trees (Partners, Steps).
-use Prim.Native.Nat.{ℕ, ◌+◌, ◌<◌, ◌≤◌}
-use native.Mathlib.Omega.{arith}
+use Rattle.std.proofs.Common.{ℕ, ◌+◌, ◌<◌, ◌≤◌, arith, Some, None, ◌≡◌, sym, ap, ◌∙◌, List, length, get_or, set, length-set, get_or-set_same, get_or-set_other, lt-ltb, le-ltb, eq-eqb, ne_eqb}
 use native.Mathlib.Decide.{ℕ_discrete}
-use mathlib.Core.Path.{◌≡◌, sym, ap, ◌∙◌}
-use mathlib.Core.List.{List}
 use mathlib.Core.Logic.{◌⊎◌, inl, inr, ⊎_elim}
-use lib.ListN.{length, get_or, set, length-set}
-use lib.Seq.{get_or-set_same, get_or-set_other}
-use borrow.Author.Tests.{lt-ltb, le-ltb, eq-eqb, ne_eqb}
 use Rattle.cofj.specs.Values.{obj}
 use Rattle.cofj.specs.Unfolding.{Same}
 use Rattle.canon.specs.Figures.{first_leaf, capacity}
@@ -18,34 +12,34 @@ use Rattle.values.specs.Stepping.{after, step_code, CodeFits, Paired}
 
 -- ---- one code
 module _ (T Q : List ℕ) (t a m b n : ℕ) where
-  pub code_equal : first_leaf ≤ a → a ≡ b → m ≡ n → after t T Q ≡ step_code T Q t a m b n
+  pub code_equal : first_leaf ≤ a → a ≡ b → m ≡ n → after (Some t) T Q ≡ step_code T Q t a m b n
   unfolding step_code
   code_equal h e z = rw (le-ltb a first_leaf h, eq-eqb a b e, eq-eqb m n z)
 
-  pub code_number : first_leaf ≤ a → a ≡ b → ((m ≡ n) → ⊥) → after 0 T Q ≡ step_code T Q t a m b n
+  pub code_number : first_leaf ≤ a → a ≡ b → ((m ≡ n) → ⊥) → after None T Q ≡ step_code T Q t a m b n
   unfolding step_code
   code_number h e d = rw (le-ltb a first_leaf h, eq-eqb a b e, ne_eqb m n d)
 
-  pub code_other : first_leaf ≤ a → ((a ≡ b) → ⊥) → after 0 T Q ≡ step_code T Q t a m b n
+  pub code_other : first_leaf ≤ a → ((a ≡ b) → ⊥) → after None T Q ≡ step_code T Q t a m b n
   unfolding step_code
   code_other h d = rw (le-ltb a first_leaf h, ne_eqb a b d)
 
   module _ (ha : a < first_leaf) where
-    pub code_second : first_leaf ≤ b → after 0 T Q ≡ step_code T Q t a m b n
+    pub code_second : first_leaf ≤ b → after None T Q ≡ step_code T Q t a m b n
     unfolding step_code
     code_second h = rw (lt-ltb a first_leaf ha, le-ltb b first_leaf h)
 
     module _ (hb : b < first_leaf) where
-      pub code_new : get_or T a 0 ≡ 0 → after (t + 1) (set T a (b + 1)) (set Q t a) ≡ step_code T Q t a m b n
+      pub code_new : get_or T a 0 ≡ 0 → after (Some (t + 1)) (set T a (b + 1)) (set Q t a) ≡ step_code T Q t a m b n
       unfolding step_code
       code_new e = rw (lt-ltb a first_leaf ha, lt-ltb b first_leaf hb, eq-eqb (get_or T a 0) 0 e)
 
       module _ (d : (get_or T a 0 ≡ 0) → ⊥) where
-        pub code_known : get_or T a 0 ≡ b + 1 → after t T Q ≡ step_code T Q t a m b n
+        pub code_known : get_or T a 0 ≡ b + 1 → after (Some t) T Q ≡ step_code T Q t a m b n
         unfolding step_code
         code_known e = rw (lt-ltb a first_leaf ha, lt-ltb b first_leaf hb, ne_eqb (get_or T a 0) 0 d, eq-eqb (get_or T a 0) (b + 1) e)
 
-        pub code_taken : ((get_or T a 0 ≡ b + 1) → ⊥) → after 0 T Q ≡ step_code T Q t a m b n
+        pub code_taken : ((get_or T a 0 ≡ b + 1) → ⊥) → after None T Q ≡ step_code T Q t a m b n
         unfolding step_code
         code_taken e = rw (lt-ltb a first_leaf ha, lt-ltb b first_leaf hb, ne_eqb (get_or T a 0) 0 d, ne_eqb (get_or T a 0) (b + 1) e)
 

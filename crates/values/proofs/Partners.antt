@@ -1,13 +1,8 @@
 -- An object and its partner met field by field: one law for each return of `step_fields` and `step_object`.
 -- Not here: what bytes say of objects and references (Objects), one code (Pairs), the queue gone over (Queues).
-use Prim.Native.Nat.{ℕ, ◌+◌, ◌-◌, ◌*◌, ◌<◌, ◌≤◌}
-use native.Mathlib.Omega.{arith}
+use Rattle.std.proofs.Common.{ℕ, ◌+◌, ◌-◌, ◌*◌, ◌<◌, ◌≤◌, arith, Some, None, ◌≡◌, refl, sym, ap, ◌∙◌, subst, Bool, false, List, length, get_or, set, get_or-set_other}
 use native.Mathlib.Decide.{dec_lt, ℕ_discrete}
-use mathlib.Core.Path.{◌≡◌, refl, sym, ap, ◌∙◌, subst}
-use mathlib.Core.Bool.{Bool, false}
-use mathlib.Core.List.{List}
-use lib.ListN.{length, get_or, set}
-use lib.Seq.{get_or-set_other}
+use Rattle.std.specs.declared.option.Option.{Option as RustOption}
 use Rattle.cofj.specs.Values.{Ref, obj, leaf, undet, refs_at}
 use Rattle.cofj.specs.Unfolding.{follow, Same, InRange}
 use Rattle.cofj.proofs.Trees.{same_child}
@@ -24,23 +19,29 @@ use Rattle.values.proofs.Objects.{size, count_is, code_is, number_is, in_range, 
 -- ---- a code of one object met with a code of its partner
 module _ (W : List ℕ) (b c : ℕ) (T₀ Q₀ : List ℕ) (t₀ : ℕ) where
   record Stepped (T : List ℕ) (r s : Ref) (o : After) : Type 0 where
-    differ : o.tail ≡ 0 → AllSame W b c T₀ → ⊥
-    grown : ((o.tail ≡ 0) → ⊥) → Grown W b c T₀ Q₀ t₀ o.table o.queue o.tail
-    paired : ((o.tail ≡ 0) → ⊥) → Paired W b c o.table o.queue o.tail
-    linked : ((o.tail ≡ 0) → ⊥) → Linked o.table (code_of r) (number_beside r) (code_of s) (number_beside s)
-    further : ((o.tail ≡ 0) → ⊥) → (x y : ℕ) → get_or T x 0 ≡ y + 1 → get_or o.table x 0 ≡ y + 1
+    differ : o.tail ≡ None → AllSame W b c T₀ → ⊥
+    grown : (u : ℕ) → o.tail ≡ Some u → Grown W b c T₀ Q₀ t₀ o.table o.queue u
+    paired : (u : ℕ) → o.tail ≡ Some u → Paired W b c o.table o.queue u
+    linked : (u : ℕ) → o.tail ≡ Some u → Linked o.table (code_of r) (number_beside r) (code_of s) (number_beside s)
+    further : (u : ℕ) → o.tail ≡ Some u → (x y : ℕ) → get_or T x 0 ≡ y + 1 → get_or o.table x 0 ≡ y + 1
 
-  module _ (bb : Block W b) (bc : Block W c) (T Q : List ℕ) (t : ℕ) (g : Grown W b c T₀ Q₀ t₀ T Q t) (pd : Paired W b c T Q t) (pos : 0 < t)
+  module _ (bb : Block W b) (bc : Block W c) (T Q : List ℕ) (t : ℕ) (g : Grown W b c T₀ Q₀ t₀ T Q t) (pd : Paired W b c T Q t)
       (r s : Ref) (hr : InRange (count_in W b) r) (hs : InRange (count_in W c) s) (ch : AllSame W b c T₀ → Same (objects_in W b) r (objects_in W c) s) where
     abbrev step : After
     step = step_code T Q t (code_of r) (number_beside r) (code_of s) (number_beside s)
 
     -- nothing is added
-    same_again : Linked T (code_of r) (number_beside r) (code_of s) (number_beside s) → Stepped T r s (after t T Q)
-    same_again l = record { differ = λ z. absurd (omega arith); grown = λ _. g; paired = λ _. pd; linked = λ _. l; further = λ _ x y q. q }
+    same_again : Linked T (code_of r) (number_beside r) (code_of s) (number_beside s) → Stepped T r s (after (Some t) T Q)
+    same_again l = record {
+      differ = λ z. absurd (cc);
+      grown = λ u e. let z : t ≡ u = cc in rw z at g;
+      paired = λ u e. let z : t ≡ u = cc in rw z at pd;
+      linked = λ _ _. l;
+      further = λ _ _ x y q. q;
+    }
 
-    fails : (AllSame W b c T₀ → ⊥) → Stepped T r s (after 0 T Q)
-    fails h = record { differ = λ _. h; grown = λ z. absurd (z refl); paired = λ z. absurd (z refl); linked = λ z. absurd (z refl); further = λ z. absurd (z refl) }
+    fails : (AllSame W b c T₀ → ⊥) → Stepped T r s (after None T Q)
+    fails h = record { differ = λ _. h; grown = λ u e. absurd (cc); paired = λ u e. absurd (cc); linked = λ u e. absurd (cc); further = λ u e. absurd (cc) }
 
     r_coded : InRange first_leaf r
     r_coded = in_larger (count_in W b) first_leaf r (omega (arith, bb.small)) hr
@@ -58,18 +59,13 @@ module _ (W : List ℕ) (b c : ℕ) (T₀ Q₀ : List ℕ) (t₀ : ℕ) where
           bc.distinct.apart (code_of s) y (omega (arith, size W c bc, object_low (count_in W c) s hs hb)) (omega (arith, size W c bc, pd.within (code_of r) y e))
           (λ p. sym (twins al p) ∙ (g.keeps al).same (code_of r) y e p)
 
-      new_pair : get_or T (code_of r) 0 ≡ 0 → Stepped T r s (after (t + 1) (set T (code_of r) (code_of s + 1)) (set Q t (code_of r)))
+      new_pair : get_or T (code_of r) 0 ≡ 0 → Stepped T r s (after (Some (t + 1)) (set T (code_of r) (code_of s + 1)) (set Q t (code_of r)))
       new_pair e = record {
-        differ = λ z. absurd (omega arith);
-        grown = λ _. record {
-          more = omega (arith, g.more);
-          pairs = λ x y q. stays x y (g.pairs x y q);
-          front = λ q h. get_or-set_other Q t q (code_of r) 0 (λ z. omega (arith, g.more)) ∙ g.front q h;
-          keeps = λ al. record { same = λ x y q. same al x y q (ℕ_discrete x (code_of r)) };
-        };
-        paired = λ _. pair_new W b c T Q t (code_of r) (code_of s) pd bb.small la lb e;
-        linked = λ _. record { leaf = λ h. absurd (omega arith); number = λ h. absurd (omega arith); pair = λ _. put W b c T Q t (code_of r) (code_of s) pd bb.small la lb e };
-        further = λ _. stays;
+        differ = λ z. absurd (cc);
+        grown = λ u q. let z : t + 1 ≡ u = cc in rw z at grown;
+        paired = λ u q. let z : t + 1 ≡ u = cc in rw z at (pair_new W b c T Q t (code_of r) (code_of s) pd bb.small la lb e);
+        linked = λ _ _. record { leaf = λ h. absurd (omega arith); number = λ h. absurd (omega arith); pair = λ _. put W b c T Q t (code_of r) (code_of s) pd bb.small la lb e };
+        further = λ _ _. stays;
       }
         where
           la : code_of r < count_in W b
@@ -87,6 +83,14 @@ module _ (W : List ℕ) (b c : ℕ) (T₀ Q₀ : List ℕ) (t₀ : ℕ) where
               let u : code_of s ≡ y = omega arith in
               subst (λ (k : ℕ). Same (objects_in W b) (obj x) (objects_in W c) (obj k)) u (subst (λ (k : ℕ). Same (objects_in W b) (obj k) (objects_in W c) (obj (code_of s))) (sym z) (twins al))
           same al x y q (no z) = (g.keeps al).same x y (sym (get_or-set_other T (code_of r) x (code_of s + 1) 0 z) ∙ q)
+
+          grown : Grown W b c T₀ Q₀ t₀ (set T (code_of r) (code_of s + 1)) (set Q t (code_of r)) (t + 1)
+          grown = record {
+            more = omega (arith, g.more);
+            pairs = λ x y q. stays x y (g.pairs x y q);
+            front = λ q h. get_or-set_other Q t q (code_of r) 0 (λ z. omega (arith, g.more)) ∙ g.front q h;
+            keeps = λ al. record { same = λ x y q. same al x y q (ℕ_discrete x (code_of r)) };
+          }
 
       objects_step : Stepped T r s step
       objects_step = go (ℕ_discrete (get_or T (code_of r) 0) 0) (ℕ_discrete (get_or T (code_of r) 0) (code_of s + 1))
@@ -123,10 +127,10 @@ module _ (W : List ℕ) (b c : ℕ) (T₀ Q₀ : List ℕ) (t₀ : ℕ) where
 
 -- ---- one object and its partner
 module _ (W : List ℕ) (b x c y : ℕ) (T₀ Q₀ : List ℕ) (t₀ : ℕ) where
-  stop : (AllSame W b c T₀ → ⊥) → (T Q : List ℕ) → ObjectStep W b x c y T₀ Q₀ t₀ T Q 0
-  stop h T Q = record { differ = λ _. h; grown = λ z. absurd (z refl); paired = λ z. absurd (z refl); closed = λ z. absurd (z refl) }
+  stop : (AllSame W b c T₀ → ⊥) → (T Q : List ℕ) → ObjectStep W b x c y T₀ Q₀ t₀ T Q None
+  stop h T Q = record { differ = λ _. h; grown = λ u e. absurd (cc); paired = λ u e. absurd (cc); closed = λ u e. absurd (cc) }
 
-  pub object_differs : (r : Bool) → Pair W b x c y T₀ Q₀ t₀ → r ≡ alike_at W (block_size * b + object_size * x) (block_size * c + object_size * y) → r ≡ false → ObjectStep W b x c y T₀ Q₀ t₀ T₀ Q₀ 0
+  pub object_differs : (r : Bool) → Pair W b x c y T₀ Q₀ t₀ → r ≡ alike_at W (block_size * b + object_size * x) (block_size * c + object_size * y) → r ≡ false → ObjectStep W b x c y T₀ Q₀ t₀ T₀ Q₀ None
   object_differs r pr l z = stop (λ al. alike_no W _ _ r l z (same_alike W b x c y pr.first pr.second (al.same x y pr.here))) T₀ Q₀
 
   pub pair_count_read : Pair W b x c y T₀ Q₀ t₀ → block_size * b + object_size * x + 1 < length W
@@ -153,9 +157,6 @@ module _ (W : List ℕ) (b x c y : ℕ) (T₀ Q₀ : List ℕ) (t₀ : ℕ) wher
 
     en : get_or W (block_size * b + object_size * x + 1) 0 ≡ get_or W (block_size * c + object_size * y + 1) 0
     en = so.alike.count
-
-    some_paired : 0 < t
-    some_paired = omega (arith, so.start.some, so.grown.more)
 
     module _ (hk : k < get_or W (block_size * b + object_size * x + 1) 0) where
       pub first_read : block_size * b + object_size * x + head_size + k < length W
@@ -215,40 +216,40 @@ module _ (W : List ℕ) (b x c y : ℕ) (T₀ Q₀ : List ℕ) (t₀ : ℕ) wher
                 zeros-put capacity (get_or W (block_size * b + object_size * x + head_size + k) 0) 1 T (omega (arith, low h, ib.block.small)) (omega (arith, low h, so.paired.table, ib.block.small)) e (omega arith),
               )
 
-      module _ (T2 Q2 : List ℕ) (u m n : ℕ) (em : m ≡ number_at W (block_size * b + object_size * x + numbers_at + 2 * k)) (ey : n ≡ number_at W (block_size * c + object_size * y + numbers_at + 2 * k))
-          (e : after u T2 Q2 ≡ step_code T Q t (get_or W (block_size * b + object_size * x + head_size + k) 0) m (get_or W (block_size * c + object_size * y + head_size + k) 0) n) where
+      module _ (T2 Q2 : List ℕ) (o : RustOption ℕ) (m n : ℕ) (em : m ≡ number_at W (block_size * b + object_size * x + numbers_at + 2 * k)) (ey : n ≡ number_at W (block_size * c + object_size * y + numbers_at + 2 * k))
+          (e : after o T2 Q2 ≡ step_code T Q t (get_or W (block_size * b + object_size * x + head_size + k) 0) m (get_or W (block_size * c + object_size * y + head_size + k) 0) n) where
         fr : m ≡ number_beside r
         fr = em ∙ number_is W b ib.block x ib.low k (omega (arith, four so.start))
 
         fs : n ≡ number_beside s
         fs = ey ∙ number_is W c ic.block y ic.low k (omega (arith, four so.start))
 
-        this_step : Stepped W b c T₀ Q₀ t₀ T r s (after u T2 Q2)
+        this_step : Stepped W b c T₀ Q₀ t₀ T r s (after o T2 Q2)
         this_step =
             subst (Stepped W b c T₀ Q₀ t₀ T r s) (sym (rw (er, es, fr, fs) at e))
-            (code_step W b c T₀ Q₀ t₀ ib.block ic.block T Q t so.grown so.paired some_paired r s hr hs children)
+            (code_step W b c T₀ Q₀ t₀ ib.block ic.block T Q t so.grown so.paired r s hr hs children)
 
-        pub fields_differ : u ≡ 0 → ObjectStep W b x c y T₀ Q₀ t₀ T2 Q2 0
+        pub fields_differ : o ≡ None → ObjectStep W b x c y T₀ Q₀ t₀ T2 Q2 None
         fields_differ z = stop (this_step.differ z) T2 Q2
 
         -- field f of the two is linked
         abbrev At : ℕ → Type 0
         At f = Linked T2 (get_or W (block_size * b + object_size * x + head_size + f) 0) (number_at W (block_size * b + object_size * x + numbers_at + 2 * f)) (get_or W (block_size * c + object_size * y + head_size + f) 0) (number_at W (block_size * c + object_size * y + numbers_at + 2 * f))
 
-        pub fields_more : ((u ≡ 0) → ⊥) → FieldsSoFar W b x c y T₀ Q₀ t₀ T2 Q2 u (k + 1)
-        fields_more z = record { start = so.start; alike = so.alike; grown = this_step.grown z; paired = this_step.paired z; fields = record { codes = λ f h. go f h (ℕ_discrete f k) } }
+        pub fields_more : (u : ℕ) → o ≡ Some u → FieldsSoFar W b x c y T₀ Q₀ t₀ T2 Q2 u (k + 1)
+        fields_more u z = record { start = so.start; alike = so.alike; grown = this_step.grown u z; paired = this_step.paired u z; fields = record { codes = λ f h. go f h (ℕ_discrete f k) } }
           where
             here : At k
-            here = rw (← em, ← ey, er, es, fr, fs) (this_step.linked z)
+            here = rw (← em, ← ey, er, es, fr, fs) (this_step.linked u z)
 
             go : (f : ℕ) → f < k + 1 → Dec (f ≡ k) → At f
             go f h (yes q) = rw q here
-            go f h (no q) = let l = so.fields.codes f (omega (arith, q)) in record { leaf = l.leaf; number = l.number; pair = λ i. this_step.further z _ _ (l.pair i) }
+            go f h (no q) = let l = so.fields.codes f (omega (arith, q)) in record { leaf = l.leaf; number = l.number; pair = λ i. this_step.further u z _ _ (l.pair i) }
 
-    pub fields_done : get_or W (block_size * b + object_size * x + 1) 0 ≤ k → ObjectStep W b x c y T₀ Q₀ t₀ T Q t
+    pub fields_done : get_or W (block_size * b + object_size * x + 1) 0 ≤ k → ObjectStep W b x c y T₀ Q₀ t₀ T Q (Some t)
     fields_done h = record {
-      differ = λ z. absurd (omega (arith, some_paired));
-      grown = λ _. so.grown;
-      paired = λ _. so.paired;
-      closed = λ _. record { alike = so.alike; fields = record { codes = λ f l. so.fields.codes f (omega arith) } };
+      differ = λ z. absurd (cc);
+      grown = λ u e. let z : t ≡ u = cc in rw z at so.grown;
+      paired = λ u e. let z : t ≡ u = cc in rw z at so.paired;
+      closed = λ _ _. record { alike = so.alike; fields = record { codes = λ f l. so.fields.codes f (omega arith) } };
     }

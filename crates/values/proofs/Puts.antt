@@ -1,10 +1,6 @@
 -- The block written, of objects that are distinct and of objects that are merged: the laws of `put_distinct` and `put_merged`.
 -- Not here: which objects are distinct (Apart).
-use Prim.Native.Nat.{ℕ, ◌+◌, ◌*◌, ◌<◌, ◌≤◌}
-use native.Mathlib.Omega.{arith}
-use mathlib.Core.Path.{◌≡◌, sym, ap, ◌∙◌, subst}
-use mathlib.Core.List.{List}
-use lib.ListN.{length, get_or, take}
+use Rattle.std.proofs.Common.{ℕ, ◌+◌, ◌*◌, ◌<◌, ◌≤◌, arith, ◌≡◌, sym, ap, ◌∙◌, subst, List, length, get_or, take}
 use Rattle.cofj.specs.Values.{obj, leaf, undet, Node, graph, colours, canon}
 use Rattle.cofj.specs.Unfolding.{Whole}
 use Rattle.cofj.proofs.Unique.{canon-canon}

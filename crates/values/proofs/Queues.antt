@@ -1,14 +1,12 @@
 -- The queue of pairs gone over: one law for each return of `in_step`.
 -- Not here: one object and its partner (Partners), where comparing begins and what it answers (Steps).
-use Prim.Native.Nat.{ℕ, zero, suc, ◌+◌, ◌-◌, ◌*◌, ◌<◌, ◌≤◌}
-use native.Mathlib.Omega.{arith}
+use Rattle.std.proofs.Common.{ℕ, zero, suc, ◌+◌, ◌-◌, ◌*◌, ◌<◌, ◌≤◌, arith, Some, None, ◌≡◌, refl, sym, ap, ap₂, ◌∙◌, subst, true, false, true≢false, List, [], ◌∷◌, length, get_or}
 use native.Mathlib.Decide.{dec_lt, ℕ_discrete}
-use mathlib.Core.Path.{◌≡◌, refl, sym, ap, ap₂, ◌∙◌, subst}
-use mathlib.Core.Bool.{true, false, false≢true, true≢false}
-use mathlib.Core.List.{List, [], ◌∷◌}
+use Rattle.std.specs.declared.option.Option.{Option as RustOption}
+use Rattle.std.proofs.Math.Bool.{false≢true}
 use mathlib.Core.Logic.{◌⊎◌, inl, inr, ⊎_elim}
-use mathlib.Core.Option.{some}
-use lib.ListN.{length, get_or, get_elem?}
+use Rattle.std.proofs.Math.Option.{some}
+use Rattle.std.proofs.Math.ListN.{get_elem?}
 use Rattle.cofj.specs.Partial.{◌>>=◌}
 use Rattle.cofj.specs.Values.{Ref, obj, leaf, undet, refs_at}
 use Rattle.cofj.specs.Unfolding.{object, follow, Same, InRange}
@@ -106,48 +104,48 @@ module _ (W : List ℕ) (b c : ℕ) (T₀ Q₀ : List ℕ) where
             here = e;
           }
 
-      module _ (T2 Q2 : List ℕ) (u : ℕ) (o : ObjectStep W b (get_or Q h 0) c (get_or T (get_or Q h 0) 0 - 1) T Q t T2 Q2 u) where
-        pub pairs_differ : u ≡ 0 → InStep W b c T₀ T2 false
+      module _ (T2 Q2 : List ℕ) (r : RustOption ℕ) (o : ObjectStep W b (get_or Q h 0) c (get_or T (get_or Q h 0) 0 - 1) T Q t T2 Q2 r) where
+        pub pairs_differ : r ≡ None → InStep W b c T₀ T2 false
         pairs_differ z = record { pairs = λ f. absurd (false≢true f); yes = λ f. absurd (false≢true f); within = λ f. absurd (false≢true f); no = λ _ al. o.differ z (so.grown.keeps al) }
 
-        pub pairs_few : ((u ≡ 0) → ⊥) → u ≤ capacity
-        pairs_few z = omega (arith, (o.paired z).free)
+        pub pairs_few : (u : ℕ) → r ≡ Some u → u ≤ capacity
+        pairs_few u z = omega (arith, (o.paired u z).free)
 
-        pub pairs_more : ((u ≡ 0) → ⊥) → PairsSoFar W b c T₀ Q₀ T2 Q2 u (h + 1)
-        pairs_more z = record {
+        pub pairs_more : (u : ℕ) → r ≡ Some u → PairsSoFar W b c T₀ Q₀ T2 Q2 u (h + 1)
+        pairs_more u z = record {
           first = so.first;
           second = so.second;
           grown = record {
-            more = omega (arith, so.grown.more, (o.grown z).more);
-            pairs = λ i j q. (o.grown z).pairs i j (so.grown.pairs i j q);
-            front = λ q l. (o.grown z).front q (omega (arith, so.grown.more)) ∙ so.grown.front q l;
-            keeps = λ al. (o.grown z).keeps (so.grown.keeps al);
+            more = omega (arith, so.grown.more, (o.grown u z).more);
+            pairs = λ i j q. (o.grown u z).pairs i j (so.grown.pairs i j q);
+            front = λ q l. (o.grown u z).front q (omega (arith, so.grown.more)) ∙ so.grown.front q l;
+            keeps = λ al. (o.grown u z).keeps (so.grown.keeps al);
           };
-          paired = o.paired z;
+          paired = o.paired u z;
           closed = record { before = λ q l y e. subst (λ (i : ℕ). Closed W b i c y T2) (sym (same q l)) (go q l y (ap (λ (i : ℕ). get_or T2 i 0) (sym (same q l)) ∙ e) (ℕ_discrete q h)) };
         }
           where
             same : (q : ℕ) → q < h + 1 → get_or Q2 q 0 ≡ get_or Q q 0
-            same q l = (o.grown z).front q (omega arith)
+            same q l = (o.grown u z).front q (omega arith)
 
             -- an object that has a partner keeps it
             partner_kept : (x y : ℕ) → ((get_or T x 0 ≡ 0) → ⊥) → get_or T2 x 0 ≡ y + 1 → get_or T x 0 ≡ y + 1
             partner_kept x y d e =
                 let i : get_or T x 0 ≡ (get_or T x 0 - 1) + 1 = omega (arith, d) in
-                i ∙ sym ((o.grown z).pairs x (get_or T x 0 - 1) i) ∙ e
+                i ∙ sym ((o.grown u z).pairs x (get_or T x 0 - 1) i) ∙ e
 
             go : (q : ℕ) → q < h + 1 → (y : ℕ) → get_or T2 (get_or Q q 0) 0 ≡ y + 1 → Dec (q ≡ h) → Closed W b (get_or Q q 0) c y T2
             go q l y e (yes i) =
                 let e' : get_or T2 (get_or Q h 0) 0 ≡ y + 1 = ap (λ (k : ℕ). get_or T2 (get_or Q k 0) 0) (sym i) ∙ e in
                 let v : get_or T (get_or Q h 0) 0 ≡ y + 1 = partner_kept (get_or Q h 0) y (so.paired.there h hh) e' in
                 let w : get_or T (get_or Q h 0) 0 - 1 ≡ y = omega arith in
-                rw i (subst (λ (k : ℕ). Closed W b (get_or Q h 0) c k T2) w (o.closed z))
+                rw i (subst (λ (k : ℕ). Closed W b (get_or Q h 0) c k T2) w (o.closed u z))
             go q l y e (no i) =
                 let q' : q < h = omega (arith, i) in
                 let d = so.closed.before q q' y (partner_kept (get_or Q q 0) y (so.paired.there q (omega arith)) e) in
                 record {
                   alike = d.alike;
-                  fields = record { codes = λ f k. let n = d.fields.codes f k in record { leaf = n.leaf; number = n.number; pair = λ j. (o.grown z).pairs _ _ (n.pair j) } };
+                  fields = record { codes = λ f k. let n = d.fields.codes f k in record { leaf = n.leaf; number = n.number; pair = λ j. (o.grown u z).pairs _ _ (n.pair j) } };
                 }
 
     pub pairs_done : t ≤ h → InStep W b c T₀ T true

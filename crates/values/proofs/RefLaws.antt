@@ -1,11 +1,5 @@
 -- References: one law for each return of `pack`, `unpack` and `ref_of`, and what the value of a code is. Not here: a field selected (Selecting).
-use Prim.Native.Nat.{ℕ, ◌+◌, ◌-◌, ◌*◌, ◌/◌, ◌%◌, ◌≤◌, ◌<◌}
-use native.Mathlib.Omega.{arith}
-use mathlib.Core.Path.{◌≡◌, sym, ap, ap₂, refl, ◌∙◌, subst}
-use mathlib.Core.Bool.{Bool, true, false, cond}
-use mathlib.Core.List.{List}
-use lib.Dec.{eqb, ltb}
-use borrow.Author.Tests.{lt-ltb, le-ltb, eq-eqb, ne_eqb}
+use Rattle.std.proofs.Common.{ℕ, ◌+◌, ◌-◌, ◌*◌, ◌/◌, ◌%◌, ◌≤◌, ◌<◌, arith, ◌≡◌, sym, ap, ap₂, refl, ◌∙◌, subst, Bool, true, false, cond, List, eqb, ltb, lt-ltb, le-ltb, eq-eqb, ne_eqb}
 use Rattle.cofj.specs.Values.{obj, leaf, Leaf, mark, undet, num, Node, graph, canon, canon_by, visit, leaf_of}
 use Rattle.cofj.specs.Limits.{number_count}
 use Rattle.cofj.specs.Unfolding.{InRange}

@@ -1,14 +1,9 @@
 -- Laws of writing a report: fields, lines, a value. Not here: bytes written as characters (Writes).
-use Prim.Native.Nat.{ℕ, suc, ◌+◌, ◌*◌, ◌/◌, ◌%◌, ◌<◌, ◌≤◌}
-use native.Mathlib.Omega.{arith}
-use native.Mathlib.Numerals.{add-one}
-use mathlib.Core.Path.{◌≡◌, refl, sym, ap, ap₂, ◌∙◌, subst}
-use mathlib.Core.List.{List, [], ◌∷◌, ◌++◌, append_assoc, append-nil}
-use lib.ListN.{length, get_or, set, take, drop, length-take}
-use lib.Seq.{take-suc, length-take-le, take-length, get_or-take}
+use Rattle.std.proofs.Common.{ℕ, suc, ◌+◌, ◌*◌, ◌/◌, ◌%◌, ◌<◌, ◌≤◌, arith, add-one, ◌≡◌, refl, sym, ap, ap₂, ◌∙◌, subst, List, [], ◌∷◌, ◌++◌, append_assoc, append-nil, length, get_or, set, take, drop, length-take, take-suc, length-take-le, get_or-take}
+use Rattle.std.proofs.Math.Seq.{take-length}
 use Rattle.cofj.specs.Limits.{number_class, report_size}
 use Rattle.cofj.specs.Values.{Ref, leaf, Leaf, undet, num, Node, node, Graph, node_at, leaf_of, undetermined, number_of}
-use Rattle.cofj.specs.Text.{char, hex_line, hex_text}
+use Rattle.cofj.specs.Text.{hex_line, hex_text}
 use Rattle.cofj.specs.Report.{ref_bytes, field_bytes, object_line, object_lines, leaf_line}
 use Rattle.canon.specs.Figures.{object_size, head_size, code_count, numbers_at, first_leaf, number_code, block_size}
 use Rattle.canon.specs.Layout.{ref_of, ref_in, four, node_in, nodes_in, Packed, Block, objects_in, graph_at, count_in}
@@ -17,8 +12,10 @@ use Rattle.values.specs.declared.ValueRef.{ValueRef}
 use Rattle.values.specs.declared.ValueRef.TheVariants.{Object, Mark, Number, Undetermined}
 use Rattle.values.specs.Layout.{value_of}
 use Rattle.canon.specs.Numbers.{Placed}
-use Rattle.values.specs.Reporting.{head_text, fields_text, line_size, Front, digits, Written, head_in, line_in, Line, Reported}
-use Rattle.values.proofs.Writes.{digits_line, front_none, front-put, front_then, front-whole, written_more, written_none, written_one, written_then}
+use Rattle.lineform.specs.Writes.{hex_bytes}
+use Rattle.values.specs.Reporting.{head_text, fields_text, line_size, Front, Written, head_in, line_in, Line, Reported}
+use Rattle.values.proofs.Writes.{digits_line, front_none, front-put, front_then, front-whole, written_none, written_then}
+pub use Rattle.values.proofs.Writes.{byte_end, byte_written}
 
 -- ---- a field
 module _ (W : List ℕ) (at f : ℕ) (d e : List ℕ) (to : ℕ) where
@@ -39,19 +36,14 @@ module _ (W : List ℕ) (at f : ℕ) (d e : List ℕ) (to : ℕ) where
       let el : (low + 256 * high) % 256 ≡ low = omega (arith, pk.low f h) in
       ap ref_bytes (ap (λ (b : ℕ). ref_of b (low + 256 * high)) z ∙ ref_number (low + 256 * high)) ∙ ap₂ (λ (a b : ℕ). number_class ∷ a ∷ b ∷ []) eh el
 
-  pub field_number : Packed W at → f < code_count → c ≡ number_code → (d1 d2 : List ℕ) → Front d d1 (to + 2) (take to d ++ (char (number_class / 16) ∷ char (number_class % 16) ∷ []))
-      → Front d1 d2 (to + 2 + 2) (take (to + 2) d1 ++ (char (high / 16) ∷ char (high % 16) ∷ [])) → Front d2 e (to + 4 + 2) (take (to + 4) d2 ++ (char (low / 16) ∷ char (low % 16) ∷ []))
-      → Written (ref_bytes (ref_in W at f)) d to e (to + 6)
-  field_number pk h z d1 d2 g1 g2 g3 =
-      let w1 = written_one d d1 to number_class g1 in
-      let w2 = written_more _ d d1 d2 to (to + 2) high (to + 2) w1 g2 refl in
-      let w3 = written_more _ d d2 e to (to + 2 + 2) low (to + 4) w2 g3 (omega arith) in
-      let y : to + 4 + 2 ≡ to + 6 = omega arith in
-      rw (number_bytes_lem pk h z) (rw y at w3)
+  pub field_number : Packed W at → f < code_count → c ≡ number_code → (d1 d2 : List ℕ) (t1 t2 t : ℕ) → Written (number_class ∷ []) d to d1 t1 → Written (high ∷ []) d1 t1 d2 t2 → Written (low ∷ []) d2 t2 e t
+      → Written (ref_bytes (ref_in W at f)) d to e t
+  field_number pk h z d1 d2 t1 t2 t w1 w2 w3 =
+      rw (number_bytes_lem pk h z) (written_then (number_class ∷ high ∷ []) (low ∷ []) d d2 e to t2 t (written_then (number_class ∷ []) (high ∷ []) d d1 d2 to t1 t2 w1 w2) w3)
 
-  pub field_object : c < first_leaf → Front d e (to + 2) (take to d ++ (char (c / 16) ∷ char (c % 16) ∷ [])) → Written (ref_bytes (ref_in W at f)) d to e (to + 2)
+  pub field_object : (t : ℕ) → c < first_leaf → Written (c ∷ []) d to e t → Written (ref_bytes (ref_in W at f)) d to e t
   unfolding ref_in
-  field_object h g = rw (ref_object c (low + 256 * high) h) (written_one d e to c g)
+  field_object t h w = rw (ref_object c (low + 256 * high) h) w
 
   leaf_bytes_lem : (c ≡ number_code → ⊥) → first_leaf ≤ c → ref_bytes (ref_in W at f) ≡ 255 ∷ []
   unfolding ref_in
@@ -63,8 +55,8 @@ module _ (W : List ℕ) (at f : ℕ) (d e : List ℕ) (to : ℕ) where
       go (is_number z) = absurd (n z)
       go (is_mark k z) = ap (λ (b : ℕ). ref_bytes (ref_of b (low + 256 * high))) z ∙ ap ref_bytes (ref_mark k (low + 256 * high))
 
-  pub field_leaf : (c ≡ number_code → ⊥) → first_leaf ≤ c → Front d e (to + 2) (take to d ++ (char (255 / 16) ∷ char (255 % 16) ∷ [])) → Written (ref_bytes (ref_in W at f)) d to e (to + 2)
-  field_leaf n h g = rw (leaf_bytes_lem n h) (written_one d e to 255 g)
+  pub field_leaf : (t : ℕ) → (c ≡ number_code → ⊥) → first_leaf ≤ c → Written (255 ∷ []) d to e t → Written (ref_bytes (ref_in W at f)) d to e t
+  field_leaf t n h w = rw (leaf_bytes_lem n h) w
 
 -- ---- the fields of an object
 -- the first f of them are written, up to t
@@ -105,17 +97,12 @@ module _ (W : List ℕ) (at : ℕ) (pk : Packed W at) where
         rw z at so.written
 
 -- ---- a line
-pub head_written : (W : List ℕ) (at j : ℕ) (d d1 d2 d3 e : List ℕ) (to : ℕ) → Front d d1 (to + 2) (take to d ++ (char (5 / 16) ∷ char (5 % 16) ∷ []))
-    → Front d1 d2 (to + 2 + 2) (take (to + 2) d1 ++ (char (j / 16) ∷ char (j % 16) ∷ [])) → Front d2 d3 (to + 4 + 2) (take (to + 4) d2 ++ (char (get_or W at 0 / 16) ∷ char (get_or W at 0 % 16) ∷ []))
-    → Front d3 e (to + 6 + 2) (take (to + 6) d3 ++ (char (get_or W (at + 1) 0 / 16) ∷ char (get_or W (at + 1) 0 % 16) ∷ [])) → Written (head_in W at j) d to e (to + head_text)
+pub head_written : (W : List ℕ) (at j : ℕ) (d d1 d2 d3 e : List ℕ) (to t1 t2 t3 t : ℕ) → Written (5 ∷ []) d to d1 t1 → Written (j ∷ []) d1 t1 d2 t2 → Written (get_or W at 0 ∷ []) d2 t2 d3 t3
+    → Written (get_or W (at + 1) 0 ∷ []) d3 t3 e t → Written (head_in W at j) d to e t
 unfolding head_in
-head_written W at j d d1 d2 d3 e to g1 g2 g3 g4 =
-    let w1 = written_one d d1 to 5 g1 in
-    let w2 = written_more _ d d1 d2 to (to + 2) j (to + 2) w1 g2 refl in
-    let w3 = written_more _ d d2 d3 to (to + 2 + 2) (get_or W at 0) (to + 4) w2 g3 (omega arith) in
-    let w4 = written_more _ d d3 e to (to + 4 + 2) (get_or W (at + 1) 0) (to + 6) w3 g4 (omega arith) in
-    let y : to + 6 + 2 ≡ to + 8 = omega arith in
-    rw y at w4
+head_written W at j d d1 d2 d3 e to t1 t2 t3 t w1 w2 w3 w4 =
+    written_then (5 ∷ j ∷ get_or W at 0 ∷ []) (get_or W (at + 1) 0 ∷ []) d d3 e to t3 t
+    (written_then (5 ∷ j ∷ []) (get_or W at 0 ∷ []) d d2 d3 to t2 t3 (written_then (5 ∷ []) (j ∷ []) d d1 d2 to t1 t2 w1 w2) w3) w4
 
 line_is : (W : List ℕ) (at j : ℕ) → Packed W at → head_in W at j ++ field_bytes (node_in W at).refs ≡ line_in W at j
 unfolding head_in line_in node_in
@@ -124,15 +111,15 @@ line_is W at j pk = ap (λ (n : ℕ). 5 ∷ j ∷ get_or W at 0 ∷ n ∷ field_
 -- the line's end
 ended_line : (l d₀ d : List ℕ) (to t : ℕ) → Written l d₀ to d t → t < length d₀ → Front d₀ (set d t 10) (t + 1) (take to d₀ ++ hex_line l)
 ended_line l d₀ d to t w h =
-    let z : (take to d₀ ++ digits l) ++ (10 ∷ []) ≡ take to d₀ ++ hex_line l = append_assoc (take to d₀) (digits l) (10 ∷ []) ∙ ap (λ (q : List ℕ). take to d₀ ++ q) (sym (digits_line l)) in
-    rw z at (front-put d₀ d t (take to d₀ ++ digits l) 10 w.text (omega (arith, w.text.same)))
+    let z : (take to d₀ ++ hex_bytes l) ++ (10 ∷ []) ≡ take to d₀ ++ hex_line l = append_assoc (take to d₀) (hex_bytes l) (10 ∷ []) ∙ ap (λ (q : List ℕ). take to d₀ ++ q) (sym (digits_line l)) in
+    rw z at (front-put d₀ d t (take to d₀ ++ hex_bytes l) 10 w.text (omega (arith, w.text.same)))
 
-pub line_written : (W : List ℕ) (at j : ℕ) (d₀ d1 d : List ℕ) (to t : ℕ) → Packed W at → to + line_size ≤ length d₀ → Written (head_in W at j) d₀ to d1 (to + head_text)
-    → Written (field_bytes (node_in W at).refs) d1 (to + head_text) d t → t ≤ to + head_text + fields_text → Line (line_in W at j) d₀ to (set d t 10) (t + 1)
-line_written W at j d₀ d1 d to t pk room g w h = record {
+pub line_written : (W : List ℕ) (at j : ℕ) (d₀ d1 d : List ℕ) (to h t : ℕ) → Packed W at → to + line_size ≤ length d₀ → Written (head_in W at j) d₀ to d1 h → h ≡ to + head_text
+    → Written (field_bytes (node_in W at).refs) d1 h d t → t ≤ h + fields_text → Line (line_in W at j) d₀ to (set d t 10) (t + 1)
+line_written W at j d₀ d1 d to u t pk room g eu w h = record {
   up = omega (arith, w.end);
   top = omega arith;
-  text = ended_line (line_in W at j) d₀ d to t (rw (line_is W at j pk) at (written_then (head_in W at j) (field_bytes (node_in W at).refs) d₀ d1 d to (to + head_text) t g w)) (omega arith);
+  text = ended_line (line_in W at j) d₀ d to t (rw (line_is W at j pk) at (written_then (head_in W at j) (field_bytes (node_in W at).refs) d₀ d1 d to u t g w)) (omega arith);
 }
 
 -- ---- the lines
@@ -210,16 +197,14 @@ leaf_reported l d₀ d t w room h =
       text = front-whole d₀ (set d t 10) (t + 1) (hex_text (leaf_line l ∷ [])) g ∙ ap (λ (q : ℕ). hex_text (leaf_line l ∷ []) ++ drop q d₀) c;
     }
 
-pub six_reported : (d₀ d : List ℕ) → report_size ≤ length d₀ → Front d₀ d (0 + 2) (take 0 d₀ ++ (char (6 / 16) ∷ char (6 % 16) ∷ [])) → Reported undetermined d₀ (set d 2 10) 3
-six_reported d₀ d room g = leaf_reported undet d₀ d 2 (written_one d₀ d 0 6 g) room (omega arith)
+pub six_reported : (d₀ d : List ℕ) (t : ℕ) → report_size ≤ length d₀ → Written (6 ∷ []) d₀ 0 d t → Reported undetermined d₀ (set d t 10) (t + 1)
+six_reported d₀ d t room w = leaf_reported undet d₀ d t w room (omega (arith, w.end))
 
-pub number_reported : (n : ℕ) (d₀ d1 d2 d : List ℕ) → report_size ≤ length d₀ → Front d₀ d1 (0 + 2) (take 0 d₀ ++ (char (9 / 16) ∷ char (9 % 16) ∷ []))
-    → Front d1 d2 (2 + 2) (take 2 d1 ++ (char (n / 256 / 16) ∷ char (n / 256 % 16) ∷ [])) → Front d2 d (4 + 2) (take 4 d2 ++ (char (n % 256 / 16) ∷ char (n % 256 % 16) ∷ [])) → Reported (number_of n) d₀ (set d 6 10) 7
-number_reported n d₀ d1 d2 d room g1 g2 g3 =
-    let w1 = written_one d₀ d1 0 9 g1 in
-    let w2 = written_more _ d₀ d1 d2 0 2 (n / 256) 2 w1 g2 refl in
-    let w3 = written_more _ d₀ d2 d 0 4 (n % 256) 4 w2 g3 refl in
-    leaf_reported (num n) d₀ d 6 w3 room (omega arith)
+pub number_reported : (n : ℕ) (d₀ d1 d2 d : List ℕ) (h l t1 t2 t : ℕ) → report_size ≤ length d₀ → h ≡ n / 256 → l ≡ n % 256 → Written (9 ∷ []) d₀ 0 d1 t1 → Written (h ∷ []) d1 t1 d2 t2 → Written (l ∷ []) d2 t2 d t
+    → Reported (number_of n) d₀ (set d t 10) (t + 1)
+number_reported n d₀ d1 d2 d h l t1 t2 t room eh el w1 w2 w3 =
+    let w = written_then (9 ∷ h ∷ []) (l ∷ []) d₀ d2 d 0 t2 t (written_then (9 ∷ []) (h ∷ []) d₀ d1 d2 0 t1 t2 w1 w2) w3 in
+    leaf_reported (num n) d₀ d t (rw (eh, el) at w) room (omega (arith, w.end))
 
 module _ (W : List ℕ) (r : ValueRef) (d₀ d : List ℕ) (t : ℕ) where
   pub report_mark : (k : ℕ) → r ≡ Mark k → Reported undetermined d₀ d t → Reported (value_of W r) d₀ d t

@@ -1,11 +1,7 @@
 -- Laws of selecting a field: one for each return of `select`. Not here: the value of a code (RefLaws).
-use Prim.Native.Nat.{ℕ, zero, suc, ◌+◌, ◌*◌, ◌<◌, ◌≤◌}
-use native.Mathlib.Omega.{arith}
-use mathlib.Core.Path.{◌≡◌, refl, sym, ap, ◌∙◌}
-use mathlib.Core.List.{List, [], ◌∷◌}
-use mathlib.Core.Option.{none, some}
-use lib.ListN.{length, get_or, take, get_elem?, length-take}
-use lib.Seq.{get_or-take}
+use Rattle.std.proofs.Common.{ℕ, zero, suc, ◌+◌, ◌*◌, ◌<◌, ◌≤◌, arith, ◌≡◌, refl, sym, ap, ◌∙◌, List, [], ◌∷◌, length, get_or, take, length-take, get_or-take, Some, None}
+use Rattle.std.proofs.Math.Option.{none, some}
+use Rattle.std.proofs.Math.ListN.{get_elem?}
 use Rattle.cofj.specs.Values.{Ref, leaf, undet, Node, graph, refs_at, canon, select, selected}
 use Rattle.cofj.specs.Limits.{number_count}
 use Rattle.cofj.specs.Unfolding.{Whole}
@@ -14,7 +10,6 @@ use Rattle.canon.specs.Layout.{ref_of, number_at, ref_in, four, node_in, objects
 use Rattle.canon.proofs.Nodes.{some_at, at_nodes, four_at_lem}
 use Rattle.values.specs.declared.ValueRef.{ValueRef}
 use Rattle.values.specs.declared.ValueRef.TheVariants.{Object}
-use Rattle.values.specs.declared.refs.Selected.TheVariants.{Value, Nothing}
 use Rattle.values.specs.Layout.{Holds}
 use Rattle.values.specs.Refs.{ref_from}
 use Rattle.values.specs.Operations.{Chosen}
@@ -69,14 +64,14 @@ module _ (W : List ℕ) (b i f : ℕ) (ob : Inside W b i) where
     unfolding select
     chosen_is = select-canon (graph_at W b i) whole f ∙ ap (selected (objects_in W b)) field_at
 
-    choose_code : c < 256 → x < number_count → Chosen W (Object i b) f (Value (ref_from b c x))
+    choose_code : c < 256 → x < number_count → Chosen W (Object i b) f (Some (ref_from b c x))
     choose_code l m = record {
       held = from_held b _ _ W ob.block l m (inner_in W b ob.block i f _ field_at);
       is = ap some (from_value b _ _ W) ∙ sym chosen_is;
       place = from_low b _ _;
     }
 
-  choose_none : get_or W (at + 1) 0 ≤ f → Chosen W (Object i b) f Nothing
+  choose_none : get_or W (at + 1) 0 ≤ f → Chosen W (Object i b) f None
   unfolding select
   choose_none h = record {
     held = tt;
@@ -86,9 +81,9 @@ module _ (W : List ℕ) (b i f : ℕ) (ob : Inside W b i) where
 
 -- ---- by what a value is
 module _ (W : List ℕ) (v : ValueRef) (f : ℕ) where
-  pub select_leaf : ((i b : ℕ) → v ≡ Object i b → ⊥) → Chosen W v f Nothing
+  pub select_leaf : ((i b : ℕ) → v ≡ Object i b → ⊥) → Chosen W v f None
   unfolding select
-  select_leaf = no_object (λ u. Chosen W u f Nothing) (λ k. record { held = tt; is = refl; place = λ sp q. tt }) (λ n. record { held = tt; is = refl; place = λ sp q. tt }) (record { held = tt; is = refl; place = λ sp q. tt }) v
+  select_leaf = no_object (λ u. Chosen W u f None) (λ k. record { held = tt; is = refl; place = λ sp q. tt }) (λ n. record { held = tt; is = refl; place = λ sp q. tt }) (record { held = tt; is = refl; place = λ sp q. tt }) v
 
   module _ (b i : ℕ) (h : Holds W v) (e : v ≡ Object i b) where
     inside : Inside W b i
@@ -107,12 +102,12 @@ module _ (W : List ℕ) (v : ValueRef) (f : ℕ) where
       pub select_read : block_size * b + object_size * i + head_size + f < length W
       select_read = omega (arith, select_room, select-count)
 
-    pub select_past : get_or W (block_size * b + object_size * i + 1) 0 ≤ f → Chosen W v f Nothing
+    pub select_past : get_or W (block_size * b + object_size * i + 1) 0 ≤ f → Chosen W v f None
     select_past l = rw e (choose_none W b i f inside l)
 
     pub select_code : f < get_or W (block_size * b + object_size * i + 1) 0 → ((k : ℕ) → get_or W k 0 < 256)
         → (n : ℕ) → n ≡ number_at W (block_size * b + object_size * i + numbers_at + 2 * f)
-        → (u : ValueRef) → u ≡ ref_from b (get_or W (block_size * b + object_size * i + head_size + f) 0) n → Chosen W v f (Value u)
+        → (u : ValueRef) → u ≡ ref_from b (get_or W (block_size * b + object_size * i + head_size + f) 0) n → Chosen W v f (Some u)
     select_code l byte n en u q =
         let p : ℕ = block_size * b + object_size * i + numbers_at + 2 * f in
         rw (e, q, en) (choose_code W b i f inside l (byte _) (omega (arith, byte p, byte (p + 1))))

@@ -1,16 +1,9 @@
 -- Where comparing begins, and what it answers: one law for each return of `roots_in_step`, `same_trees` and `equal`.
 -- Not here: the queue gone over (Queues).
-use Prim.Native.Nat.{ℕ, ◌+◌, ◌*◌, ◌<◌}
-use native.Mathlib.Omega.{arith}
+use Rattle.std.proofs.Common.{ℕ, ◌+◌, ◌*◌, ◌<◌, arith, ◌≡◌, refl, sym, ap, ap₂, ◌∙◌, subst, Bool, true, false, List, [], ◌∷◌, eqb, length, get_or, set, replicate, get_or-set_other, eq-eqb, ne_eqb}
 use native.Mathlib.Decide.{ℕ_discrete}
-use mathlib.Core.Path.{◌≡◌, refl, sym, ap, ap₂, ◌∙◌, subst}
-use mathlib.Core.Bool.{Bool, true, false}
-use mathlib.Core.List.{List, [], ◌∷◌}
 use mathlib.Core.Logic.{inr}
-use lib.Dec.{eqb}
-use lib.ListN.{length, get_or, set, replicate, length-replicate}
-use lib.Seq.{get_or-set_other}
-use borrow.Author.Tests.{eq-eqb, ne_eqb}
+use Rattle.std.proofs.Math.ListN.{length-replicate}
 use Rattle.cofj.specs.Values.{obj, Node, Graph, canon, eq_ref, eq_node, eq_nodes, eq_graph, mark_of, number_of, undetermined}
 use Rattle.cofj.specs.Unfolding.{follow, Same}
 use Rattle.cofj.proofs.Basics.{true_both, eq_ref_refl, eq_node_refl}

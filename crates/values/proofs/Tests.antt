@@ -1,8 +1,6 @@
 -- Laws of tests: answers, and a test of the numbers below another.
-use Prim.Native.Nat.{ℕ, zero, suc, ◌+◌, ◌<◌}
-use native.Mathlib.Omega.{arith}
-use mathlib.Core.Path.{◌≡◌, refl, sym, ap, ◌∙◌}
-use mathlib.Core.Bool.{Bool, true, false, not, cond, false≢true, true≢false}
+use Rattle.std.proofs.Common.{ℕ, zero, suc, ◌+◌, ◌<◌, arith, ◌≡◌, refl, sym, ap, ◌∙◌, Bool, true, false, not, cond, true≢false}
+use Rattle.std.proofs.Math.Bool.{false≢true}
 use Rattle.values.specs.Tests.{any}
 
 -- ---- answers

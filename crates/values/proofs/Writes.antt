@@ -1,14 +1,9 @@
 -- Bytes written as characters to a place of a lent buffer. Not here: what the bytes of a report are (Reports).
-use Prim.Native.Nat.{ℕ, suc, ◌+◌, ◌-◌, ◌/◌, ◌%◌, ◌<◌, ◌≤◌}
-use native.Mathlib.Omega.{arith}
-use native.Mathlib.Numerals.{add-one}
-use mathlib.Core.Path.{◌≡◌, refl, sym, ap, ◌∙◌}
-use mathlib.Core.List.{List, [], ◌∷◌, ◌++◌, append_assoc, append-nil}
-use lib.ListN.{length, set, take, drop, length-set, length-append, take-append-drop}
-use lib.Seq.{take-suc-set, drop-set-lt, drop-drop}
-use borrow.Author.Tests.{le-leb, lt-leb}
+use Rattle.std.proofs.Common.{ℕ, suc, ◌+◌, ◌-◌, ◌/◌, ◌%◌, ◌<◌, ◌≤◌, arith, add-one, ◌≡◌, refl, sym, ap, ◌∙◌, List, [], ◌∷◌, ◌++◌, append_assoc, append-nil, length, set, take, drop, length-set, length-append, take-append-drop, take-suc-set, drop-set-lt, drop-drop}
+use Rattle.std.proofs.lemmas.List.Edits.{sets}
+use Rattle.lineform.specs.Writes.{wrote, put, hex_bytes}
 use Rattle.cofj.specs.Text.{char, hex_line}
-use Rattle.values.specs.Reporting.{digit_char, letter_char, Front, digits, Written}
+use Rattle.values.specs.Reporting.{Front, Written}
 
 -- ---- the front of a buffer
 pub front_none : (d : List ℕ) → Front d d 0 []
@@ -40,46 +35,44 @@ front_then d₀ d e i j p q f g h = record {
 pub front-whole : (d₀ d : List ℕ) (j : ℕ) (p : List ℕ) → Front d₀ d j p → d ≡ p ++ drop j d₀
 front-whole d₀ d j p f = rw (← f.front, ← f.rest, take-append-drop)
 
--- ---- digits
-pub char_low : (d : ℕ) → d ≤ 9 → d + digit_char ≡ char d
-char_low d h = rw (le-leb d 9 h)
-
-pub char_high : (d : ℕ) → 9 < d → d + letter_char ≡ char d
-char_high d h = rw (lt-leb d 9 h)
-
-pub put_two : (d : List ℕ) (at b x y : ℕ) → at + 2 ≤ length d → x ≡ char (b / 16) → y ≡ char (b % 16)
-    → Front d (set (set d at x) (at + 1) y) (at + 2) (take at d ++ (char (b / 16) ∷ char (b % 16) ∷ []))
-put_two d at b x y h ex ey =
-    let f : Front d (set d at x) (at + 1) (take at d ++ (x ∷ [])) = front-put d d at (take at d) x (front_start d at) (omega arith) in
-    let g : Front d (set (set d at x) (at + 1) y) (at + 1 + 1) ((take at d ++ (x ∷ [])) ++ (y ∷ [])) = front-put d (set d at x) (at + 1) (take at d ++ (x ∷ [])) y f (omega (arith, length-set d at x)) in
-    let e : at + 1 + 1 ≡ at + 2 = omega arith in
-    rw (← ex, ← ey) (rw (e, append_assoc) at g)
-
-digits_append : (l m : List ℕ) → digits (l ++ m) ≡ digits l ++ digits m
-unfolding digits
+-- ---- the characters of bytes
+digits_append : (l m : List ℕ) → hex_bytes (l ++ m) ≡ hex_bytes l ++ hex_bytes m
+unfolding hex_bytes
 digits_append [] m = refl
 digits_append (x ∷ l) m = ap (λ (t : List ℕ). char (x / 16) ∷ char (x % 16) ∷ t) (digits_append l m)
 
-pub digits_line : (l : List ℕ) → hex_line l ≡ digits l ++ (10 ∷ [])
-unfolding digits
+pub digits_line : (l : List ℕ) → hex_line l ≡ hex_bytes l ++ (10 ∷ [])
+unfolding hex_bytes
 digits_line [] = refl
 digits_line (x ∷ l) = ap (λ (t : List ℕ). char (x / 16) ∷ char (x % 16) ∷ t) (digits_line l)
 
 -- ---- bytes written as characters
 pub written_none : (d : List ℕ) (to : ℕ) → Written [] d to d to
-unfolding digits
+unfolding hex_bytes
 written_none d to = record { end = omega arith; text = rw (append-nil (take to d)) (front_start d to) }
 
-pub written_one : (d e : List ℕ) (to b : ℕ) → Front d e (to + 2) (take to d ++ (char (b / 16) ∷ char (b % 16) ∷ [])) → Written (b ∷ []) d to e (to + 2)
-unfolding digits
-written_one d e to b f = record { end = omega arith; text = f }
+-- a byte, as the line form puts it
+two_put : (d : List ℕ) (at x y : ℕ) → at + 2 ≤ length d → Front d (sets d at (x ∷ y ∷ [])) (at + 2) (take at d ++ (x ∷ y ∷ []))
+two_put d at x y h =
+    let f : Front d (set d at x) (at + 1) (take at d ++ (x ∷ [])) = front-put d d at (take at d) x (front_start d at) (omega arith) in
+    let g : Front d (set (set d at x) (at + 1) y) (at + 1 + 1) ((take at d ++ (x ∷ [])) ++ (y ∷ [])) = front-put d (set d at x) (at + 1) (take at d ++ (x ∷ [])) y f (omega (arith, length-set d at x)) in
+    let e : at + 1 + 1 ≡ at + 2 = omega arith in
+    let s : at + 1 ≡ suc at = omega arith in
+    rw (e, append_assoc, s) at g
+
+pub byte_end : (d e : List ℕ) (to b t : ℕ) → wrote t e ≡ put d to (hex_bytes (b ∷ [])) → t ≡ to + 2
+unfolding put hex_bytes
+byte_end d e to b t q = cc
+
+pub byte_written : (d e : List ℕ) (to b t : ℕ) → to + 2 ≤ length d → wrote t e ≡ put d to (hex_bytes (b ∷ [])) → Written (b ∷ []) d to e t
+unfolding put hex_bytes
+byte_written d e to b t h q =
+    let et = byte_end d e to b t q in
+    let ee : e ≡ sets d to (char (b / 16) ∷ char (b % 16) ∷ []) = cc in
+    rw (et, ee) (record { end = omega arith; text = two_put d to (char (b / 16)) (char (b % 16)) h })
 
 pub written_then : (l m d₀ d e : List ℕ) (to t u : ℕ) → Written l d₀ to d t → Written m d t e u → Written (l ++ m) d₀ to e u
 written_then l m d₀ d e to t u f g = record {
   end = omega (arith, f.end, g.end, length-append l m);
-  text = rw (digits_append l m, ← append_assoc (take to d₀) (digits l) (digits m)) (front_then d₀ d e t u (take to d₀ ++ digits l) (digits m) f.text g.text (omega (arith, g.end)));
+  text = rw (digits_append l m, ← append_assoc (take to d₀) (hex_bytes l) (hex_bytes m)) (front_then d₀ d e t u (take to d₀ ++ hex_bytes l) (hex_bytes m) f.text g.text (omega (arith, g.end)));
 }
-
--- a byte more
-pub written_more : (l d₀ d e : List ℕ) (to t b u : ℕ) → Written l d₀ to d t → Front d e (u + 2) (take u d ++ (char (b / 16) ∷ char (b % 16) ∷ [])) → t ≡ u → Written (l ++ (b ∷ [])) d₀ to e (u + 2)
-written_more l d₀ d e to t b u f g z = written_then l (b ∷ []) d₀ d e to u (u + 2) (rw z at f) (written_one d e u b g)

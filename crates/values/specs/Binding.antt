@@ -1,6 +1,7 @@
 -- A mark bound to an object of a block, the objects left where they are; and objects of which no two are the same.
 -- Not here: which of them are merged (crate canon, Parting and Classing), a value in which the mark does not occur.
-use Rattle.std.specs.Prelude.{ℕ, ◌+◌, ◌*◌, ◌≤◌, ◌<◌, ◌≡◌, Bool, true, not, cond, List, eqb, length, get_or}
+use Rattle.std.specs.declared.option.Option.{Option as RustOption}
+use Rattle.std.specs.Prelude.{Some, ℕ, ◌+◌, ◌*◌, ◌≤◌, ◌<◌, ◌≡◌, Bool, true, not, cond, List, eqb, length, get_or}
 use Rattle.cofj.specs.Values.{obj}
 use Rattle.cofj.specs.Unfolding.{Same}
 use Rattle.canon.specs.Figures.{object_size, head_size, code_count, numbers_at, first_mark, objects_size, block_size}
@@ -47,9 +48,10 @@ refers_to W p i = any (λ f. eqb (get_or W (p + 2 + f) 0) i) 4
 unfoldable pub none_refer : List ℕ → ℕ → ℕ → ℕ → Bool
 none_refer W b n i = not (any (λ k. refers_to W (block_size * b + object_size * k) i) n)
 
--- f is a field whose codes or numbers differ, or 4
-pub record OtherField (R : List ℕ) (x y f : ℕ) : Type 0 where
-  pub other : f < code_count → get_or R (object_size * x + head_size + f) 0 ≡ get_or R (object_size * y + head_size + f) 0
+-- a field whose codes or numbers differ, or none
+pub record OtherField (R : List ℕ) (x y : ℕ) (o : RustOption ℕ) : Type 0 where
+  pub low : (f : ℕ) → o ≡ Some f → f < code_count
+  pub other : (f : ℕ) → o ≡ Some f → get_or R (object_size * x + head_size + f) 0 ≡ get_or R (object_size * y + head_size + f) 0
       → number_at R (object_size * x + numbers_at + 2 * f) ≡ number_at R (object_size * y + numbers_at + 2 * f) → ⊥
 
 -- objects i and k of n unfold to the same tree only if x and y do

@@ -1,13 +1,12 @@
 -- What is done with values in blocks.
-use Rattle.std.specs.Prelude.{ℕ, ◌+◌, ◌*◌, ◌<◌, ◌≡◌, List, get_or}
+use Rattle.std.specs.Prelude.{Some, None, ℕ, ◌+◌, ◌*◌, ◌<◌, ◌≡◌, List, get_or}
 use Rattle.std.proofs.Math.Option.{Option, none, some}
+use Rattle.std.specs.declared.option.Option.{Option as RustOption}
 use Rattle.cofj.specs.Values.{Graph, select, close}
 use Rattle.canon.specs.Figures.{object_size, block_size}
 use Rattle.canon.specs.Layout.{count_in, level_in, reach_in, Outside}
 use Rattle.canon.specs.Tables.{Filled, Carried}
 use Rattle.values.specs.declared.ValueRef.{ValueRef}
-use Rattle.values.specs.declared.refs.Selected.{Selected}
-use Rattle.values.specs.declared.refs.Selected.TheVariants.{Value, Nothing}
 use Rattle.values.specs.Layout.{value_of, Holds, Low}
 
 -- the objects of block b, copied
@@ -44,13 +43,13 @@ abbrev pub AnswerLow : ℕ → Option ValueRef → Type 0
 AnswerLow sp (some r) = Low sp r
 AnswerLow sp none = Unit {0}
 
--- what selecting answers
-abbrev pub selected_ref : Selected → Option ValueRef
-selected_ref (Value r) = some r
-selected_ref Nothing = none
+-- what selecting answers, as the definitions' own option
+abbrev pub selected_ref : RustOption ValueRef → Option ValueRef
+selected_ref (Some r) = some r
+selected_ref None = none
 
 -- field f of a value, in the same block
-pub record Chosen (W : List ℕ) (v : ValueRef) (f : ℕ) (o : Selected) : Type 0 where
+pub record Chosen (W : List ℕ) (v : ValueRef) (f : ℕ) (o : RustOption ValueRef) : Type 0 where
   pub held : AnswerHeld W (selected_ref o)
   pub is : answer_in W (selected_ref o) ≡ select f (value_of W v)
   pub place : (sp : ℕ) → Low sp v → AnswerLow sp (selected_ref o)

@@ -1,4 +1,4 @@
--- References to values: of a code of a block, and at rest as numbers.
+-- References to values: of a code of a block, and as one number.
 use Rattle.std.specs.Prelude.{ℕ, ◌-◌, ◌/◌, ◌%◌, ◌<◌, cond, ◌≡◌, eqb, ltb}
 use Rattle.canon.specs.Figures.{first_leaf, undetermined_code, number_code, first_mark}
 use Rattle.values.specs.declared.ValueRef.{ValueRef}

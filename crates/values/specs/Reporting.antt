@@ -1,18 +1,12 @@
 -- The report of a value, written to the front of a lent buffer.
-use Rattle.std.specs.Prelude.{ℕ, ◌+◌, ◌*◌, ◌/◌, ◌%◌, ◌≤◌, ◌≡◌, List, [], ◌∷◌, ◌++◌, length, get_or, take, drop}
+use Rattle.std.specs.Prelude.{ℕ, ◌+◌, ◌*◌, ◌≤◌, ◌≡◌, List, [], ◌∷◌, ◌++◌, length, get_or, take, drop}
 use Rattle.cofj.specs.Limits.{report_size}
 use Rattle.cofj.specs.Values.{Graph}
-use Rattle.cofj.specs.Text.{char, hex_line}
+use Rattle.cofj.specs.Text.{hex_line}
 use Rattle.cofj.specs.Report.{object_line, value_report}
+use Rattle.lineform.specs.Writes.{hex_bytes}
 use Rattle.canon.specs.Figures.{code_count}
 use Rattle.canon.specs.Layout.{node_in}
-
--- what makes a digit its character: one below ten, and one from ten on
-abbrev pub digit_char : ℕ
-digit_char = 48
-
-abbrev pub letter_char : ℕ
-letter_char = 55
 
 -- the characters of an object's line: those before the fields, those of a field at most, those of all fields, and with LF the whole line's
 abbrev pub head_text : ℕ
@@ -33,15 +27,10 @@ pub record Front (d₀ d : List ℕ) (j : ℕ) (p : List ℕ) : Type 0 where
   pub front : take j d ≡ p
   pub rest : drop j d ≡ drop j d₀
 
--- the characters of bytes, without the line's end
-unfoldable pub digits : List ℕ → List ℕ
-digits [] = []
-digits (b ∷ bs) = char (b / 16) ∷ char (b % 16) ∷ digits bs
-
 -- the bytes l as characters from one place to another
 pub record Written (l d₀ : List ℕ) (to : ℕ) (d : List ℕ) (t : ℕ) : Type 0 where
   pub end : t ≡ to + 2 * length l
-  pub text : Front d₀ d t (take to d₀ ++ digits l)
+  pub text : Front d₀ d t (take to d₀ ++ hex_bytes l)
 
 -- what stands before the fields in the line of object j, which lies at a place of W
 unfoldable pub head_in : List ℕ → ℕ → ℕ → List ℕ

@@ -1,19 +1,20 @@
 -- Objects of two blocks compared in step: a table of pairs, and a queue of the first block's objects that are paired.
 -- Not here: objects of one block, of which no two are the same.
-use Rattle.std.specs.Prelude.{ℕ, ◌+◌, ◌*◌, ◌≤◌, ◌<◌, ◌≡◌, Bool, true, false, cond, List, ◌⊎◌, eqb, ltb, length, get_or, set}
+use Rattle.std.specs.declared.option.Option.{Option as RustOption}
+use Rattle.std.specs.Prelude.{Some, None, ℕ, ◌+◌, ◌*◌, ◌≤◌, ◌<◌, ◌≡◌, Bool, true, false, cond, List, ◌⊎◌, eqb, ltb, length, get_or, set}
 use Rattle.cofj.specs.Values.{obj}
 use Rattle.cofj.specs.Unfolding.{Same}
 use Rattle.canon.specs.Figures.{object_size, head_size, numbers_at, first_leaf, capacity, block_size}
 use Rattle.canon.specs.Tables.{zero_count}
 use Rattle.canon.specs.Layout.{number_at, Alike, count_in, objects_in, Block, Inside}
 
--- the length of the queue (0 where two things differ), the table and the queue
+-- the length of the queue (none where two things differ), the table and the queue
 pub record After : Type 0 where
-  pub tail : ℕ
+  pub tail : RustOption ℕ
   pub table : List ℕ
   pub queue : List ℕ
 
-abbrev pub after : ℕ → List ℕ → List ℕ → After
+abbrev pub after : RustOption ℕ → List ℕ → List ℕ → After
 after t T Q = record { tail = t; table = T; queue = Q }
 
 -- a code of the first block and the number beside it met with those of the second: objects are paired, unless the first has a partner already
@@ -21,9 +22,9 @@ unfoldable pub step_code : List ℕ → List ℕ → ℕ → ℕ → ℕ → ℕ
 step_code T Q t a m b n =
     cond (ltb a first_leaf)
     (cond (ltb b first_leaf)
-    (cond (eqb (get_or T a 0) 0) (after (t + 1) (set T a (b + 1)) (set Q t a)) (cond (eqb (get_or T a 0) (b + 1)) (after t T Q) (after 0 T Q)))
-    (after 0 T Q))
-    (cond (eqb a b) (cond (eqb m n) (after t T Q) (after 0 T Q)) (after 0 T Q))
+    (cond (eqb (get_or T a 0) 0) (after (Some (t + 1)) (set T a (b + 1)) (set Q t a)) (cond (eqb (get_or T a 0) (b + 1)) (after (Some t) T Q) (after None T Q)))
+    (after None T Q))
+    (cond (eqb a b) (cond (eqb m n) (after (Some t) T Q) (after None T Q)) (after None T Q))
 
 -- room for a new pair of a and b, and a byte for its mark: the objects of a block are few
 pub record CodeFits (T Q : List ℕ) (t a b : ℕ) : Type 0 where
@@ -98,12 +99,12 @@ pub record PairsSoFar (W : List ℕ) (b c : ℕ) (T₀ Q₀ T Q : List ℕ) (t h
   pub paired : Paired W b c T Q t
   pub closed : ClosedTo W b c T Q h
 
--- one pair gone over
-pub record ObjectStep (W : List ℕ) (b x c y : ℕ) (T₀ Q₀ : List ℕ) (t : ℕ) (T Q : List ℕ) (r : ℕ) : Type 0 where
-  pub differ : r ≡ 0 → AllSame W b c T₀ → ⊥
-  pub grown : ((r ≡ 0) → ⊥) → Grown W b c T₀ Q₀ t T Q r
-  pub paired : ((r ≡ 0) → ⊥) → Paired W b c T Q r
-  pub closed : ((r ≡ 0) → ⊥) → Closed W b x c y T
+-- one pair gone over; none if the two differ
+pub record ObjectStep (W : List ℕ) (b x c y : ℕ) (T₀ Q₀ : List ℕ) (t : ℕ) (T Q : List ℕ) (r : RustOption ℕ) : Type 0 where
+  pub differ : r ≡ None → AllSame W b c T₀ → ⊥
+  pub grown : (u : ℕ) → r ≡ Some u → Grown W b c T₀ Q₀ t T Q u
+  pub paired : (u : ℕ) → r ≡ Some u → Paired W b c T Q u
+  pub closed : (u : ℕ) → r ≡ Some u → Closed W b x c y T
 
 -- whether each pair unfolds to one tree; if so, those added do too
 pub record InStep (W : List ℕ) (b c : ℕ) (T₀ T : List ℕ) (r : Bool) : Type 0 where

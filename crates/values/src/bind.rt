@@ -10,8 +10,7 @@ ghost use Rattle.values.specs.Binding.{bound_code, ObjectBound, AllBound, Bound,
 
 use crate::ValueRef;
 use crate::lockstep::alike;
-use crate::refs::number_at;
-use canon::bytes::copy;
+use canon::bytes::{copy, two_at};
 use canon::colours::colour;
 use canon::layout::{
     BLOCK, CODES, COUNT, FIRST_LEAF, FIRST_MARK, HEAD, LEVEL, NUMBERS, OBJECT, OBJECTS, PER_OBJECT,
@@ -21,9 +20,6 @@ use canon::number::{level_of, put};
 
 // how far a path is followed that may tell two objects apart: it decides the time only
 const STEPS: u8 = 64;
-
-// the answer that no field differs, which is no field
-const NO_FIELD: u8 = CODES;
 
 // A code, the code `hot` turned to object i.
 pub(crate) fn bind_code(hot: u8, i: u8, c: u8) -> u8
@@ -51,10 +47,8 @@ pub(crate) fn bind_all(raw: &mut [u8], n: u8, hot: u8, i: u8)
     requires { object_size * n ≤ length raw.old }
     ensures { AllBound raw.old n hot i raw.new }
 {
-    let mut j: u8 = 0;
-    while j < n {
+    for j in 0..n {
         bind_object(raw, OBJECT * (j as usize), hot, i);
-        j += 1;
     }
 }
 
@@ -91,36 +85,32 @@ pub(crate) fn unreferred(work: &[u8], b: u16, n: u8, i: u8) -> bool
     requires { (block_size * b + block_size ≤ length work.now) × (n ≤ capacity) }
     ensures { result ≡ none_refer work.now b n i }
 {
-    let mut k: u8 = 0;
-    while k < n {
+    for k in 0..n {
         if refers(work, BLOCK * (b as usize) + OBJECT * (k as usize), i) {
             return false;
         }
-        k += 1;
     }
     true
 }
 
-// The first field whose codes or numbers differ; NO_FIELD if there is none.
-pub(crate) fn other_field(raw: &[u8], x: u8, y: u8) -> u8
+// The first field whose codes or numbers differ, if there is one.
+pub(crate) fn other_field(raw: &[u8], x: u8, y: u8) -> Option<u8>
     requires { (object_size * x + object_size ≤ length raw.now) × (object_size * y + object_size ≤ length raw.now) }
     ensures { OtherField raw.now x y result }
 {
-    let mut f: u8 = 0;
-    while f < CODES {
+    for f in 0..CODES {
         if raw[OBJECT * (x as usize) + HEAD + f as usize]
             != raw[OBJECT * (y as usize) + HEAD + f as usize]
         {
-            return f;
+            return Some(f);
         }
-        if number_at(raw, OBJECT * (x as usize) + NUMBERS + 2 * (f as usize))
-            != number_at(raw, OBJECT * (y as usize) + NUMBERS + 2 * (f as usize))
+        if two_at(raw, OBJECT * (x as usize) + NUMBERS + 2 * (f as usize))
+            != two_at(raw, OBJECT * (y as usize) + NUMBERS + 2 * (f as usize))
         {
-            return f;
+            return Some(f);
         }
-        f += 1;
     }
-    NO_FIELD
+    None
 }
 
 // True only if objects i and k of n unfold to different trees: one path is followed, STEPS steps at most.
@@ -130,15 +120,13 @@ pub(crate) fn differ(raw: &[u8], n: u8, i: u8, k: u8) -> bool
 {
     let mut x: u8 = i;
     let mut y: u8 = k;
-    let mut left = STEPS;
-    while 0 < left {
+    for _ in 0..STEPS {
         if !alike(raw, OBJECT * (x as usize), OBJECT * (y as usize)) {
             return true;
         }
-        let f = other_field(raw, x, y);
-        if NO_FIELD <= f {
+        let Some(f) = other_field(raw, x, y) else {
             return false;
-        }
+        };
         let first = raw[OBJECT * (x as usize) + HEAD + f as usize];
         let second = raw[OBJECT * (y as usize) + HEAD + f as usize];
         if FIRST_LEAF <= first {
@@ -149,7 +137,6 @@ pub(crate) fn differ(raw: &[u8], n: u8, i: u8, k: u8) -> bool
         }
         x = first;
         y = second;
-        left -= 1;
     }
     false
 }
@@ -170,12 +157,10 @@ pub(crate) fn unlike_others(raw: &[u8], n: u8, i: u8) -> bool
     requires { Raw raw.now n × (i < n) }
     ensures { OthersTest raw.now n i result }
 {
-    let mut k: u8 = 0;
-    while k < n {
+    for k in 0..n {
         if !unlike(raw, n, i, k) {
             return false;
         }
-        k += 1;
     }
     true
 }

@@ -7,14 +7,11 @@ ghost use Rattle.values.specs.Layout.{Holds, value_of};
 ghost use Rattle.values.specs.Stepping.{after, step_code, CodeFits, Paired, Pair, ObjectStep, InStep};
 
 use crate::ValueRef;
-use crate::refs::number_at;
+use canon::bytes::two_at;
 use canon::layout::{BLOCK, FIRST_LEAF, HEAD, NUMBERS, OBJECT, PER_OBJECT};
 
-// the answer that two things differ: a queue has one object at least
-const DIFFERENT: u8 = 0;
-
 // Meets two codes with the numbers beside them: they are equal, or objects that are partners or can become so. `partner` has y + 1 for an object with the partner y, 0 for one
-// without; `queue` lists the objects that have one, `tail` of them. Answers how many there are then, DIFFERENT if they differ.
+// without (bytes of fixed memory); `queue` lists the objects that have one, `tail` of them. Answers how many there are then; none if they differ.
 pub(crate) fn step_code(
     partner: &mut [u8],
     queue: &mut [u8],
@@ -23,32 +20,32 @@ pub(crate) fn step_code(
     m: u16,
     second: u8,
     n: u16,
-) -> u8
+) -> Option<u8>
     requires { CodeFits partner.old queue.old tail first second }
     ensures { after result partner.new queue.new ≡ step_code partner.old queue.old tail first m second n }
 {
     if FIRST_LEAF <= first {
         if first != second {
-            return DIFFERENT;
+            return None;
         }
         if m != n {
-            return DIFFERENT;
+            return None;
         }
-        return tail;
+        return Some(tail);
     }
     if FIRST_LEAF <= second {
-        return DIFFERENT;
+        return None;
     }
     let known = partner[first as usize];
     if known == 0 {
         partner[first as usize] = second + 1;
         queue[tail as usize] = first;
-        return tail + 1;
+        return Some(tail + 1);
     }
     if known == second + 1 {
-        return tail;
+        return Some(tail);
     }
-    DIFFERENT
+    None
 }
 
 // Whether the objects at places p and q have one class and as many fields.
@@ -72,7 +69,7 @@ pub(crate) fn step_fields(
     partner: &mut [u8],
     queue: &mut [u8],
     tail: u8,
-) -> u8
+) -> Option<u8>
     requires { Pair work.now b x c y partner.old queue.old tail × Alike work.now (block_size * b + object_size * x) (block_size * c + object_size * y) }
     ensures { ObjectStep work.now b x c y partner.old queue.old tail partner.new queue.new result }
 {
@@ -80,20 +77,14 @@ pub(crate) fn step_fields(
     let q = BLOCK * (c as usize) + OBJECT * (y as usize);
     let count = work[p + 1];
     let mut t = tail;
-    let mut k: u8 = 0;
-    while k < count {
+    for k in 0..count {
         let first = work[p + HEAD + k as usize];
-        let m = number_at(work, p + NUMBERS + 2 * (k as usize));
+        let m = two_at(work, p + NUMBERS + 2 * (k as usize));
         let second = work[q + HEAD + k as usize];
-        let n = number_at(work, q + NUMBERS + 2 * (k as usize));
-        let r = step_code(partner, queue, t, first, m, second, n);
-        if r == DIFFERENT {
-            return DIFFERENT;
-        }
-        t = r;
-        k += 1;
+        let n = two_at(work, q + NUMBERS + 2 * (k as usize));
+        t = step_code(partner, queue, t, first, m, second, n)?;
     }
-    t
+    Some(t)
 }
 
 // Meets object x of block b and its partner y of block c. Answers as `step_code`.
@@ -106,7 +97,7 @@ pub(crate) fn step_object(
     partner: &mut [u8],
     queue: &mut [u8],
     tail: u8,
-) -> u8
+) -> Option<u8>
     requires { Pair work.now b x c y partner.old queue.old tail }
     ensures { ObjectStep work.now b x c y partner.old queue.old tail partner.new queue.new result }
 {
@@ -117,7 +108,7 @@ pub(crate) fn step_object(
     ) {
         return step_fields(work, b, x, c, y, partner, queue, tail);
     }
-    DIFFERENT
+    None
 }
 
 // Meets the objects of the queue and their partners, those too that are added. Answers whether each unfolds to its partner's tree; then the table has them all.
@@ -128,13 +119,13 @@ pub fn in_step(work: &[u8], b: u16, c: u16, partner: &mut [u8], queue: &mut [u8]
 {
     let mut head: u8 = 0;
     let mut tail: u8 = 1;
+    // the queue grows while it is gone over: no range
     while head < tail {
         let x = queue[head as usize];
         let y = partner[x as usize];
-        let t = step_object(work, b, x, c, y - 1, partner, queue, tail);
-        if t == DIFFERENT {
+        let Some(t) = step_object(work, b, x, c, y - 1, partner, queue, tail) else {
             return false;
-        }
+        };
         tail = t;
         head += 1;
     }
@@ -176,30 +167,11 @@ pub fn equal(work: &[u8], a: ValueRef, b: ValueRef) -> bool
     requires { Holds work.now a × Holds work.now b }
     ensures { result ≡ eq_graph (value_of work.now a) (value_of work.now b) }
 {
-    match a {
-        ValueRef::Object(i, x) => {
-            let ValueRef::Object(j, y) = b else {
-                return false;
-            };
-            same_trees(work, x, i, y, j)
-        }
-        ValueRef::Mark(k) => {
-            let ValueRef::Mark(l) = b else {
-                return false;
-            };
-            k == l
-        }
-        ValueRef::Number(m) => {
-            let ValueRef::Number(n) = b else {
-                return false;
-            };
-            m == n
-        }
-        ValueRef::Undetermined => {
-            let ValueRef::Undetermined = b else {
-                return false;
-            };
-            true
-        }
+    match (a, b) {
+        (ValueRef::Object(i, x), ValueRef::Object(j, y)) => same_trees(work, x, i, y, j),
+        (ValueRef::Mark(k), ValueRef::Mark(l)) => k == l,
+        (ValueRef::Number(m), ValueRef::Number(n)) => m == n,
+        (ValueRef::Undetermined, ValueRef::Undetermined) => true,
+        _ => false,
     }
 }

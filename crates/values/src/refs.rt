@@ -1,24 +1,17 @@
-// References to values: at rest as numbers, of a code of a block, selected from. Not here: where the numbers stand, values moved and closed (value).
+// References to values: as one number, of a code of a block, selected from. Not here: values moved and closed (value).
 ghost use Rattle.std.specs.Prelude.{◌≡◌, ◌+◌, ◌<◌, ◌≤◌, length};
-ghost use Rattle.canon.specs.Layout.{number_at};
 ghost use Rattle.values.specs.Layout.{Holds};
 ghost use Rattle.values.specs.Refs.{ref_from, other_from, kind_in, ref_in, OtherPacked};
 ghost use Rattle.values.specs.Operations.{Chosen};
 
 use crate::ValueRef;
+use canon::bytes::two_at;
 use canon::layout::{
     BLOCK, BYTE, FIRST_LEAF, FIRST_MARK, HEAD, NUMBER, NUMBERS, OBJECT, TWO_BYTES, UNDETERMINED,
 };
 
 // what a number's high byte is worth
 pub const HIGH: u16 = 256;
-
-// What selecting a field answers.
-#[derive(Clone, Copy)]
-pub enum Selected {
-    Value(ValueRef),
-    Nothing,
-}
 
 // The number of a value that is no object; that of an object is not told.
 pub(crate) fn pack_other(v: ValueRef) -> u32
@@ -32,8 +25,8 @@ pub(crate) fn pack_other(v: ValueRef) -> u32
     }
 }
 
-// The number of a value at rest: which of the four it is, in the lowest byte, then what it holds. No other functions but `pack_other`, `unpack` and `unpack_other` know it.
-// One choice after the other, each between two numbers: the compiler makes no branches of them.
+// A value as one number, for who keeps values in numbers (the crates above keep the enum): which of the four it is, in the lowest byte, then what it holds. No other functions but
+// `pack_other`, `unpack` and `unpack_other` know it. One choice after the other, each between two numbers: the compiler makes no branches of them.
 pub fn pack(v: ValueRef) -> u32
     ensures { (ref_in result ≡ v) × (kind_in result < 4) }
 {
@@ -59,8 +52,7 @@ pub(crate) fn unpack_other(k: u32, i: u8, b: u16) -> ValueRef
     ValueRef::Undetermined
 }
 
-// The value that such a number stands for. What it holds is read before the choices, and one choice is made after the other: the compiler makes no branches
-// of them, and takes the reading of a frame into the evaluator.
+// The value that such a number stands for. What it holds is read before the choices, and one choice is made after the other: the compiler makes no branches of them.
 pub fn unpack(x: u32) -> ValueRef
     ensures { result ≡ ref_in x }
 {
@@ -72,14 +64,6 @@ pub fn unpack(x: u32) -> ValueRef
         return ValueRef::Object(i, b);
     }
     v
-}
-
-// Two bytes, the low one first, as a number.
-pub(crate) fn number_at(work: &[u8], p: usize) -> u16
-    requires { p + 2 ≤ length work.now }
-    ensures { result ≡ number_at work.now p }
-{
-    (work[p] as u16) + HIGH * (work[p + 1] as u16)
 }
 
 // The value of a code in block b, with the number beside it.
@@ -98,18 +82,18 @@ pub(crate) fn ref_of(c: u8, n: u16, b: u16) -> ValueRef
     ValueRef::Mark(c - FIRST_MARK)
 }
 
-// Field f of a value, which lies in the same block if it is an object.
-pub fn select(work: &[u8], v: ValueRef, f: u8) -> Selected
+// Field f of a value, if it has one; it lies in the same block if it is an object.
+pub fn select(work: &[u8], v: ValueRef, f: u8) -> Option<ValueRef>
     requires { Holds work.now v }
     ensures { Chosen work.now v f result }
 {
     let ValueRef::Object(i, b) = v else {
-        return Selected::Nothing;
+        return None;
     };
     let at = BLOCK * (b as usize) + OBJECT * (i as usize);
     if work[at + 1] <= f {
-        return Selected::Nothing;
+        return None;
     }
-    let n = number_at(work, at + NUMBERS + 2 * (f as usize));
-    Selected::Value(ref_of(work[at + HEAD + f as usize], n, b))
+    let n = two_at(work, at + NUMBERS + 2 * (f as usize));
+    Some(ref_of(work[at + HEAD + f as usize], n, b))
 }

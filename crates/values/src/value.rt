@@ -46,10 +46,8 @@ pub fn copy_block(work: &mut [u8], b: u16, dst: u16)
     let l = work[BLOCK * (b as usize) + LEVEL];
     let m = work[BLOCK * (b as usize) + REACH];
     let p = OBJECT * (n as usize);
-    let mut q: usize = 0;
-    while q < p {
+    for q in 0..p {
         work[BLOCK * (dst as usize) + q] = work[BLOCK * (b as usize) + q];
-        q += 1;
     }
     work[BLOCK * (dst as usize) + COUNT] = n;
     work[BLOCK * (dst as usize) + LEVEL] = l;

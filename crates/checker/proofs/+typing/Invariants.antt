@@ -1,8 +1,6 @@
 -- The cycle of typing meets its contracts: a law of StepLaws, WalkLaws or NumberLaws at each return. The nesting left falls. The loops keep what the arguments or values
 -- that are left give.
-use Prim.Native.Nat.{◌≤◌, ◌+◌, ◌-◌, ◌*◌}
-use mathlib.Core.Path.{◌≡◌}
-use mathlib.Core.Bool.{true}
+use Rattle.std.proofs.Common.{◌≤◌, ◌+◌, ◌-◌, ◌*◌, ◌≡◌, true}
 use Rattle.checker.specs.Items.{Parameters, Fields}
 use Rattle.checker.specs.Machine.{args_then, args_by, new_then, list_by, type_in}
 use Rattle.checker.proofs.+typing.Given as goal
@@ -13,17 +11,11 @@ invariant-expr::type_args-loop-k l =
     × (args_then l.t l.scope.main l.i (list_by l.t (type_in l.t l.left l.scope) (Parameters l.i) l.k (l.n - l.k) true l.a)
     ≡ args_by l.t (type_in l.t l.left l.scope) l.scope.main l.i l.n l.at)
 
-abbrev pub decreases-expr::type_args-loop-k : goal.decreases-expr::type_args-loop-k
-decreases-expr::type_args-loop-k l = l.n - l.k
-
 abbrev pub invariant-expr::type_values-loop-k : goal.invariant-expr::type_values-loop-k
 invariant-expr::type_values-loop-k l =
     (l.k ≤ l.n)
     × (new_then l.c (list_by l.t (type_in l.t l.left l.scope) (Fields l.c) l.k (l.n - l.k) l.closed l.a)
     ≡ new_then l.c (list_by l.t (type_in l.t l.left l.scope) (Fields l.c) 0 l.n true l.at))
-
-abbrev pub decreases-expr::type_values-loop-k : goal.decreases-expr::type_values-loop-k
-decreases-expr::type_values-loop-k l = l.n - l.k
 
 abbrev pub decreases-expr::type_args : goal.decreases-expr::type_args
 decreases-expr::type_args l = l.left * 5 + 1

@@ -1,8 +1,7 @@
 -- The proof of the cycle of evaluation, twelve functions. At each call the number μ falls (FallLaws): a call that is opened takes one from the calls that may be
 -- opened, a part takes one from the nesting left, and otherwise the functions come in the order eval_number, eval, eval_item, eval_field and eval_list, the others.
 -- Each return is a law of StepLaws, NewSteps, FieldLaws, WalkLaws, NumberSteps, CallSteps or SideSteps.
-use borrow.Author.Rules.{rules}
-use mathlib.Core.Path.{refl}
+use Rattle.std.proofs.Common.{rules, refl}
 use Rattle.evaluator.proofs.StepLaws as steps
 use Rattle.evaluator.proofs.NewSteps as news
 use Rattle.evaluator.proofs.WalkLaws as walks
@@ -32,17 +31,17 @@ call::eval_call-returns-in_default-w t c = search calls.call_lacks
 pub call::eval_call-invoke-requires : goal.call::eval_call-invoke-requires
 call::eval_call-invoke-requires t c = (
   search fall.call_invoke_falls,
-  calls.bare_asked _ _ _ _ _ c.requires _ _ _ _ _ c.eval-o.ensures _ _ c.in-Value.is _ c.find-w.ensures c.if-p-eq0.false _ _ c.in-At.is
-      c.if-n-eq0.true _ _ c.moved.ensures,
+  calls.bare_asked _ _ _ _ _ c.requires _ _ _ _ _ c.eval-o.ensures _ _ c.in-Ok.is _ c.find-w.ensures c.if-p-eq0.false _ c.in-Some.is
+      c.if-n-eq0.true _ _ c.side_call-bare.ensures _ c.moved.ensures,
 )
 
 pub call::eval_call-shape_of-work-then-n-eq0 : goal.call::eval_call-shape_of-work-then-n-eq0
-call::eval_call-shape_of-work-then-n-eq0 t c = calls.bare_length _ _ _ _ _ _ _ _ c.eval-o.ensures _ _ _ _ _ _ _ _ _ c.invoke.ensures
+call::eval_call-shape_of-work-then-n-eq0 t c = calls.bare_length _ _ _ _ _ _ _ _ c.eval-o.ensures _ _ _ _ _ _ c.invoke.ensures
 
 pub call::eval_call-returns-then-n-eq0 : goal.call::eval_call-returns-then-n-eq0
 call::eval_call-returns-then-n-eq0 t c =
-    calls.bare_done _ _ _ _ _ c.requires _ _ _ _ _ c.eval-o.ensures _ _ c.in-Value.is _ c.find-w.ensures c.if-p-eq0.false _ _ c.in-At.is
-    c.if-n-eq0.true _ _ c.moved.ensures _ _ _ c.invoke.ensures _ c.again.ensures
+    calls.bare_done _ _ _ _ _ c.requires _ _ _ _ _ c.eval-o.ensures _ _ c.in-Ok.is _ c.find-w.ensures c.if-p-eq0.false _ c.in-Some.is
+    c.if-n-eq0.true _ _ c.side_call-bare.ensures _ c.moved.ensures _ _ _ c.invoke.ensures _ refl
 
 pub call::eval_call-overflow_add-p : goal.call::eval_call-overflow_add-p
 call::eval_call-overflow_add-p t c = search calls.call_block
@@ -50,7 +49,7 @@ call::eval_call-overflow_add-p t c = search calls.call_block
 pub call::eval_call-eval_list-l-requires : goal.call::eval_call-eval_list-l-requires
 call::eval_call-eval_list-l-requires t c = (
   search fall.call_list_falls,
-  (calls.list_asked _ _ _ _ _ c.requires _ _ _ _ _ c.eval-o.ensures _ _ c.in-Value.is _ c.find-w.ensures c.if-p-eq0.false _ _ c.in-At.is _ c.moved-2.ensures, search rules),
+  (calls.list_asked _ _ _ _ _ c.requires _ _ _ _ _ c.eval-o.ensures _ _ c.in-Ok.is _ c.find-w.ensures c.if-p-eq0.false _ c.in-Some.is _ c.moved-2.ensures, search rules),
 )
 
 pub call::eval_call-shape_of-work-in_default-l : goal.call::eval_call-shape_of-work-in_default-l
@@ -58,23 +57,23 @@ call::eval_call-shape_of-work-in_default-l t c = calls.list_length _ _ _ _ _ _ _
 
 pub call::eval_call-returns-in_default-l : goal.call::eval_call-returns-in_default-l
 call::eval_call-returns-in_default-l t c =
-    calls.list_stops _ _ _ _ _ c.requires _ _ _ _ _ c.eval-o.ensures _ _ c.in-Value.is _ c.find-w.ensures c.if-p-eq0.false _ _ c.in-At.is _
-    c.moved-2.ensures _ _ _ _ c.eval_list-l.ensures _ c.in_default-l.is _ c.halted.ensures
+    calls.list_stops _ _ _ _ _ c.requires _ _ _ _ _ c.eval-o.ensures _ _ c.in-Ok.is _ c.find-w.ensures c.if-p-eq0.false _ c.in-Some.is _
+    c.moved-2.ensures _ _ _ _ c.eval_list-l.ensures _ c.in_default-l.is _ c.stopped.ensures
 
 pub call::eval_call-invoke-requires-2 : goal.call::eval_call-invoke-requires-2
 call::eval_call-invoke-requires-2 t c = (
   search fall.call_invoke_falls,
-  calls.call_asked _ _ _ _ _ c.requires _ _ _ _ _ c.eval-o.ensures _ _ c.in-Value.is _ c.find-w.ensures c.if-p-eq0.false _ _ c.in-At.is _
-      c.moved-2.ensures _ _ _ _ c.eval_list-l.ensures _ c.in-After.is _ c.moved-3.ensures,
+  calls.call_asked _ _ _ _ _ c.requires _ _ _ _ _ c.eval-o.ensures _ _ c.in-Ok.is _ c.find-w.ensures c.if-p-eq0.false _ c.in-Some.is _
+      c.moved-2.ensures _ _ _ _ c.eval_list-l.ensures _ c.in-Ok-l.is _ c.side_call-c.ensures _ c.moved-3.ensures,
 )
 
 pub call::eval_call-shape_of-work : goal.call::eval_call-shape_of-work
-call::eval_call-shape_of-work t c = calls.invoke-length _ _ _ _ _ _ _ _ c.eval-o.ensures _ _ _ _ _ _ c.eval_list-l.ensures _ _ _ _ _ _ _ c.invoke-2.ensures
+call::eval_call-shape_of-work t c = calls.invoke-length _ _ _ _ _ _ _ _ c.eval-o.ensures _ _ _ _ _ _ c.eval_list-l.ensures _ _ _ _ _ _ c.invoke-2.ensures
 
 pub call::eval_call-returns : goal.call::eval_call-returns
 call::eval_call-returns t c =
-    calls.call_done _ _ _ _ _ c.requires _ _ _ _ _ c.eval-o.ensures _ _ c.in-Value.is _ c.find-w.ensures c.if-p-eq0.false _ _ c.in-At.is _
-    c.moved-2.ensures _ _ _ _ c.eval_list-l.ensures _ c.in-After.is _ c.moved-3.ensures _ _ _ c.invoke-2.ensures _ c.again-2.ensures
+    calls.call_done _ _ _ _ _ c.requires _ _ _ _ _ c.eval-o.ensures _ _ c.in-Ok.is _ c.find-w.ensures c.if-p-eq0.false _ c.in-Some.is _
+    c.moved-2.ensures _ _ _ _ c.eval_list-l.ensures _ c.in-Ok-l.is _ c.side_call-c.ensures _ c.moved-3.ensures _ _ _ c.invoke-2.ensures _ refl
 
 pub call::invoke-returns-then-fuel-eq0 : goal.call::invoke-returns-then-fuel-eq0
 call::invoke-returns-then-fuel-eq0 t c = search sides.invoke_stops
@@ -83,7 +82,7 @@ pub call::invoke-returns-then-p-eq0 : goal.call::invoke-returns-then-p-eq0
 call::invoke-returns-then-p-eq0 t c = search sides.invoke_sinks
 
 pub call::invoke-open_call-h-requires : goal.call::invoke-open_call-h-requires
-call::invoke-open_call-h-requires t c = (search sides.spent_calls, search sides.spent_held, search sides.spent_parts, search sides.call_few)
+call::invoke-open_call-h-requires t c = (search sides.spent_calls, search sides.spent_call, search sides.call_few)
 
 pub call::invoke-run_right-requires : goal.call::invoke-run_right-requires
 call::invoke-run_right-requires t c = (search fall.invoke_side_falls, (search sides.spent_body, search sides.spent_mark))
@@ -91,14 +90,14 @@ call::invoke-run_right-requires t c = (search fall.invoke_side_falls, (search si
 pub call::invoke-run_left-requires : goal.call::invoke-run_left-requires
 call::invoke-run_left-requires t c = (search fall.invoke_side_falls, search sides.spent_body)
 
-pub call::invoke-returns-in-Is : goal.call::invoke-returns-in-Is
-call::invoke-returns-in-Is t c = search sides.invoke_goes_right
+pub call::invoke-returns-in-Some : goal.call::invoke-returns-in-Some
+call::invoke-returns-in-Some t c = search sides.invoke_goes_right
 
-pub call::invoke-returns-in-Absent : goal.call::invoke-returns-in-Absent
-call::invoke-returns-in-Absent t c = search sides.invoke_goes_left
+pub call::invoke-returns-in-None : goal.call::invoke-returns-in-None
+call::invoke-returns-in-None t c = search sides.invoke_goes_left
 
 pub call::run_left-push-requires : goal.call::run_left-push-requires
-call::run_left-push-requires t c = (search sides.body_top, search sides.body_full)
+call::run_left-push-requires t c = search sides.body_top
 
 pub call::run_left-left_spot-requires : goal.call::run_left-left_spot-requires
 call::run_left-left_spot-requires t c = (search sides.body_deep, search sides.body_block, search sides.body_top)
@@ -199,12 +198,12 @@ eval::eval_field-bounds-t-at t c = search fields.down_index
 pub eval::eval_field-select-s-requires : goal.eval::eval_field-select-s-requires
 eval::eval_field-select-s-requires t c =
     fields.down_held _ _ _ _ _ _ _ _ _ _ c.loop-j.invariant _ _ _ c.requires refl c.fields_at-d.ensures _ c.down.ensures _ c.eval-o.ensures
-    c.in-Value.is
+    c.in-Ok.is
 
 pub eval::eval_field-returns-in_default-s : goal.eval::eval_field-returns-in_default-s
 eval::eval_field-returns-in_default-s t c =
     fields.down_stops _ _ _ _ _ _ _ _ _ _ c.loop-j.invariant _ _ _ c.requires refl c.fields_at-d.ensures _ c.down.ensures _ c.eval-o.ensures
-    c.in-Value.is c.loop-j-test.true _ _ c.select-s.ensures c.in_default-s.is
+    c.in-Ok.is c.loop-j-test.true _ _ c.select-s.ensures c.in_default-s.is
 
 pub eval::eval_field-loop-j-preserved : goal.eval::eval_field-loop-j-preserved
 eval::eval_field-loop-j-preserved t c = search fields.down_again
@@ -212,17 +211,17 @@ eval::eval_field-loop-j-preserved t c = search fields.down_again
 pub eval::eval_field-select-s-requires-2 : goal.eval::eval_field-select-s-requires-2
 eval::eval_field-select-s-requires-2 t c =
     fields.down_held _ _ _ _ _ _ _ _ _ _ c.loop-j.invariant _ _ _ c.requires refl c.fields_at-d.ensures _ c.down.ensures _ c.eval-o.ensures
-    c.in-Value.is
+    c.in-Ok.is
 
 pub eval::eval_field-returns-in_default-s-2 : goal.eval::eval_field-returns-in_default-s-2
 eval::eval_field-returns-in_default-s-2 t c =
     fields.down_lacks _ _ _ _ _ _ _ _ _ _ c.loop-j.invariant _ _ _ c.requires refl c.fields_at-d.ensures _ c.down.ensures _ c.eval-o.ensures
-    c.in-Value.is c.loop-j-test.false _ _ c.select-s-2.ensures c.in_default-s-2.is
+    c.in-Ok.is c.loop-j-test.false _ _ c.select-s-2.ensures c.in_default-s-2.is
 
 pub eval::eval_field-returns : goal.eval::eval_field-returns
 eval::eval_field-returns t c =
     fields.down_has _ _ _ _ _ _ _ _ _ _ c.loop-j.invariant _ _ _ c.requires refl c.fields_at-d.ensures _ c.down.ensures _ c.eval-o.ensures
-    c.in-Value.is c.loop-j-test.false _ _ c.select-s-2.ensures _ c.in-Value-s-2.is
+    c.in-Ok.is c.loop-j-test.false _ _ c.select-s-2.ensures _ c.in-Some-s.is
 
 pub eval::eval_item-returns-then-p-eq0 : goal.eval::eval_item-returns-then-p-eq0
 eval::eval_item-returns-then-p-eq0 t c = search steps.step_zero
@@ -362,8 +361,8 @@ number::eval_combine-shape_of-work-in_default t c = search numbers.operand_lengt
 pub number::eval_combine-returns-in_default : goal.number::eval_combine-returns-in_default
 number::eval_combine-returns-in_default t c = search numbers.combine_refused
 
-pub number::eval_combine-eval-requires-2 : goal.number::eval_combine-eval-requires-2
-number::eval_combine-eval-requires-2 t c = (search fall.number_eval_falls, search numbers.follow-run)
+pub number::eval_combine-eval-second-requires : goal.number::eval_combine-eval-second-requires
+number::eval_combine-eval-second-requires t c = (search fall.number_eval_falls, search numbers.follow-run)
 
 pub number::eval_combine-shape_of-work : goal.number::eval_combine-shape_of-work
 number::eval_combine-shape_of-work t c = search numbers.both_length

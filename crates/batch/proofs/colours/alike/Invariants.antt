@@ -1,5 +1,5 @@
--- The proof of `colours::alike`: whether parts p and q are alike. By a loop in which numbers_at - j falls, and the laws of Shades.
-use Prim.Native.Nat.{◌≤◌, ◌*◌, ◌-◌}
+-- The proof of `colours::alike`: whether parts p and q are alike. By a loop, and the laws of Shades.
+use Rattle.std.proofs.Common.{◌≤◌, ◌*◌}
 use Rattle.canon.specs.Figures.{object_size, head_size, numbers_at}
 use Rattle.canon.specs.Tables.{Plain}
 use Rattle.canon.specs.Links.{AlikeTo}
@@ -8,6 +8,3 @@ use Rattle.batch.proofs.colours.alike.Given as goal
 
 abbrev pub invariant-loop-j : goal.invariant-loop-j
 invariant-loop-j l = (head_size ≤ l.j) × (l.j ≤ numbers_at) × Plain l.parts (object_size * l.p) (object_size * l.q) × AlikeTo (shade_in l.cs) l.parts l.p l.q l.j
-
-abbrev pub decreases-loop-j : goal.decreases-loop-j
-decreases-loop-j l = numbers_at - l.j

@@ -1,19 +1,22 @@
--- The proof of `colours::colour`: the colours of the listed parts. By a loop in which too_many - k falls, and the laws of Colourings.
-use borrow.Author.Rules.{rules}
+-- The proof of `colours::colour`: the colours of the listed parts. By a loop in which capacity - k falls, and the laws of Colourings.
+use Rattle.std.proofs.Common.{rules}
 use Rattle.batch.proofs.Colourings as laws
 use Rattle.batch.proofs.colours.colour.Goals as goal
 
-pub loop-k-init : goal.loop-k-init
-loop-k-init c = (search rules, search rules, search rules, search rules, search laws.colour_start)
+pub loop-top-init : goal.loop-top-init
+loop-top-init c = (
+  search rules,
+  search rules,
+  search rules,
+  search rules,
+  rw c.copy_from_slice.ensures.after (laws.colour_start _ _ _ c.requires.1 256 _ (search rules)),
+)
 
-pub round-top-requires : goal.round-top-requires
-round-top-requires c = (search rules, search rules, search rules, search laws.colour_now)
-
-pub returns-then-top-k : goal.returns-then-top-k
-returns-then-top-k c = laws.colour_settled _ _ _ c.requires.1 _ _ _ _ _ c.round-top.ensures c.if-top-k.true c.loop-k-test.true
-
-pub loop-k-preserved : goal.loop-k-preserved
-loop-k-preserved c = (search rules, search rules, search rules, search rules, search laws.colour_more)
-
-pub returns : goal.returns
-returns c = search laws.colour_done
+pub loop-top-preserved : goal.loop-top-preserved
+loop-top-preserved c = (
+  laws.colour_few _ _ _ c.requires.1 _ _ _ _ _ c.round.ensures _ c.in_ok-top.was,
+  search rules,
+  search rules,
+  search rules,
+  rw c.copy_from_slice-in-loop-top.ensures.after (laws.colour_more _ _ _ c.requires.1 _ _ _ _ _ c.round.ensures _ c.in_ok-top.was),
+)

@@ -2,17 +2,14 @@
 use Rattle.batch.proofs.InputLaws as laws
 use Rattle.batch.proofs.input.parts_input.Goals as goal
 
-pub returns-then-k-eq-TOO_MANY : goal.returns-then-k-eq-TOO_MANY
-returns-then-k-eq-TOO_MANY c = search laws.many_given
+pub returns-in_default : goal.returns-in_default
+returns-in_default c = search laws.many_given
 
 pub lay-n-requires : goal.lay-n-requires
 lay-n-requires c = search laws.objects_ready
 
 pub returns-then-objects-n : goal.returns-then-objects-n
 returns-then-objects-n c = search laws.large_given
-
-pub value_fits-requires : goal.value_fits-requires
-value_fits-requires c = search laws.laid_inside
 
 pub returns-then-not-value_fits : goal.returns-then-not-value_fits
 returns-then-not-value_fits c = search laws.unfit_given

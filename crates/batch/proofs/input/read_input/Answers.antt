@@ -1,13 +1,12 @@
 -- `input::read_input` meets its contract: a law of InputLaws at each return, and for what `parts_input` asks.
-use borrow.Author.Rules.{rules}
+use Rattle.std.proofs.lemmas.Result.{err_from_is_err_and}
 use Rattle.batch.proofs.InputLaws as laws
 use Rattle.batch.proofs.input.read_input.Goals as goal
 
-pub returns-in_default : goal.returns-in_default
-returns-in_default c = search laws.not_listed
-
-pub parts_input-requires : goal.parts_input-requires
-parts_input-requires c = (search rules, search laws.parts_there, search rules)
+pub returns-in_err-read_parts : goal.returns-in_err-read_parts
+returns-in_err-read_parts c =
+    let p = err_from_is_err_and c.from_residual.result c.from_residual.ensures.1 in
+    rw (p.1, p.2) (laws.not_listed _ _ _ _ _ _ _ c.read_parts.ensures _ c.in_err-read_parts.was)
 
 pub returns : goal.returns
-returns c = search laws.text_given
+returns c = laws.text_given _ _ _ _ _ c.read_parts.ensures c.in_ok-read_parts.was _ _ _ _ c.parts_input.ensures

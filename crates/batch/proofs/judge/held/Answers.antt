@@ -8,8 +8,5 @@ returns-then-b-eq-NUMBER c = search laws.held_number
 pub returns-then-b-ge-FIRST_LEAF : goal.returns-then-b-ge-FIRST_LEAF
 returns-then-b-ge-FIRST_LEAF c = search laws.held_leaf
 
-pub bounds-block-b : goal.bounds-block-b
-bounds-block-b c = search laws.coded_room
-
 pub returns : goal.returns
 returns c = search laws.held_object

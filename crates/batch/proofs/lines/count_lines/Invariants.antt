@@ -1,6 +1,5 @@
 -- The proof of `lines::count_lines`. The loop keeps `Counted` (ReadLines): n lines are passed at i.
-use Prim.Native.Nat.{◌≤◌, ◌-◌}
-use lib.ListN.{length}
+use Rattle.std.proofs.Common.{◌≤◌, ◌-◌, length}
 use Rattle.batch.proofs.ReadLines as laws
 use Rattle.batch.proofs.lines.count_lines.Given as goal
 

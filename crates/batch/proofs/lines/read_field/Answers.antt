@@ -1,7 +1,5 @@
 -- The proof of `lines::read_field`: a law of ReadField at each return.
-use Prim.Native.Nat.{◌+◌}
-use native.Mathlib.Omega.{arith}
-use mathlib.Core.Path.{refl}
+use Rattle.std.proofs.Common.{◌+◌, arith, refl}
 use Rattle.batch.proofs.ReadField as laws
 use Rattle.batch.proofs.lines.read_field.Goals as goal
 

@@ -1,6 +1,5 @@
 -- The proof of `lines::read_lines`. The loop keeps `Listing` (ReadLines): the lines from i on list the parts after those that are read.
-use borrow.Author.Rules.{rules}
-use native.Mathlib.Omega.{arith}
+use Rattle.std.proofs.Common.{rules}
 use Rattle.batch.proofs.ReadLines as laws
 use Rattle.batch.proofs.lines.read_lines.Goals as goal
 
@@ -10,17 +9,11 @@ returns-then-n-gt-PARTS c = search laws.list_many
 pub loop-i-init : goal.loop-i-init
 loop-i-init c = (search rules, search rules, search laws.list_none)
 
-pub overflow_add-e : goal.overflow_add-e
-overflow_add-e c = omega (arith, laws.list_within _ _ _ _ _ _ c.loop-i.invariant.2 c.loop-i-test.true _ c.wide.ensures)
-
 pub slice_bounds-read_line-end : goal.slice_bounds-read_line-end
 slice_bounds-read_line-end c = search laws.list_within
 
 pub returns-then-not-read_line : goal.returns-then-not-read_line
 returns-then-not-read_line c = search laws.list_bad
-
-pub overflow_add-k : goal.overflow_add-k
-overflow_add-k c = omega (arith, laws.list_room _ _ _ _ _ _ c.loop-i.invariant.2 c.loop-i-test.true)
 
 pub loop-i-preserved : goal.loop-i-preserved
 loop-i-preserved c = (search laws.list_within, search rules, search laws.list_more)

@@ -1,7 +1,5 @@
 -- The proof of `lines::read_lines`. The loop keeps `Listing` (ReadLines): the lines from i on list the parts after those that are read.
-use mathlib.Core.Path.{◌≡◌}
-use Prim.Native.Nat.{◌≤◌, ◌-◌}
-use lib.ListN.{length}
+use Rattle.std.proofs.Common.{◌≡◌, ◌≤◌, ◌-◌, length}
 use Rattle.batch.proofs.ReadLines as laws
 use Rattle.batch.proofs.lines.read_lines.Given as goal
 

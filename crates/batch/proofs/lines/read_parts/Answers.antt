@@ -1,6 +1,6 @@
 -- The proof of `lines::read_parts`: a law of ReadText for each answer, and what `decode` and `read_lines` ensure.
-use borrow.Author.Rules.{rules}
-use Rattle.lineform.proofs.Established.{decoded_room, decoded_count, decoded_packed}
+use Rattle.std.proofs.Common.{rules}
+use Rattle.lineform.proofs.Established.{decoded_packed}
 use Rattle.batch.proofs.ReadText as laws
 use Rattle.batch.proofs.lines.read_parts.Goals as goal
 
@@ -9,12 +9,6 @@ returns-then-text-gt-LONGEST c = search laws.long_text
 
 pub returns-in_default : goal.returns-in_default
 returns-in_default c = search laws.bad_text
-
-pub slice_bounds-room-end : goal.slice_bounds-room-end
-slice_bounds-room-end c = search decoded_room
-
-pub slice_bounds-read_lines-end : goal.slice_bounds-read_lines-end
-slice_bounds-read_lines-end c = search (decoded_room, decoded_count)
 
 pub read_lines-requires : goal.read_lines-requires
 read_lines-requires c = (search decoded_packed, search rules)

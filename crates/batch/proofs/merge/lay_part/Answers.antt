@@ -1,7 +1,5 @@
--- The proof of `merge::lay_part`: part p as object c. By a loop in which numbers_at - j falls, and the laws of Layings.
-use borrow.Author.Rules.{rules}
-use native.Mathlib.Omega.{arith}
-use lib.ListN.{length-set}
+-- The proof of `merge::lay_part`: part p as object c. By a loop, and the laws of Layings.
+use Rattle.std.proofs.Common.{rules, arith, length-set}
 use Rattle.batch.proofs.Layings as laws
 use Rattle.batch.proofs.merge.lay_part.Goals as goal
 

@@ -2,8 +2,5 @@
 use Rattle.batch.proofs.Quotients as laws
 use Rattle.batch.proofs.merge.merge.Goals as goal
 
-pub returns-then-k-eq-TOO_MANY : goal.returns-then-k-eq-TOO_MANY
-returns-then-k-eq-TOO_MANY c = search laws.merged_many
-
 pub returns : goal.returns
-returns c = search laws.merged_few
+returns c = laws.merged_few _ _ _ _ _ _ c.colour.ensures _ _ c.reach-m.ensures _ c.in_ok-k.was c.lay_leads.ensures c.requires.1

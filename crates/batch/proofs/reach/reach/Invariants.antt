@@ -1,7 +1,5 @@
 -- The proof of `reach::reach`: lists part 0 and what it leads to, nearest first. By a loop in which number_field - head falls, and the laws of Reaches.
-use Prim.Native.Nat.{◌≤◌, ◌-◌}
-use mathlib.Core.Path.{◌≡◌}
-use lib.ListN.{length}
+use Rattle.std.proofs.Common.{◌≤◌, ◌-◌, ◌≡◌, length}
 use Rattle.batch.specs.Figures.{number_field}
 use Rattle.batch.specs.Reaching.{ReachedTo}
 use Rattle.batch.proofs.reach.reach.Given as goal

@@ -2,9 +2,6 @@
 use Rattle.canon.proofs.Digits as laws
 use Rattle.canon.proofs.bytes.same_plain.Goals as goal
 
-pub returns-then-two_at : goal.returns-then-two_at
-returns-then-two_at c = search laws.plain_head
-
 pub returns-then-two_at-2 : goal.returns-then-two_at-2
 returns-then-two_at-2 c = search laws.plain_first
 

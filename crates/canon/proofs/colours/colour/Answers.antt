@@ -1,5 +1,5 @@
 -- The proof of `colours::colour`: the colours of n objects. By the laws of Classing.
-use native.Mathlib.Omega.{arith}
+use Rattle.std.proofs.Common.{arith}
 use Rattle.canon.proofs.Rounds as rounds
 use Rattle.canon.proofs.Classing as laws
 use Rattle.canon.proofs.colours.colour.Goals as goal

@@ -1,5 +1,5 @@
--- The proof of `colours::place`: the first object that looks as object i does. By a loop in which i - j falls, and the laws of Places.
-use borrow.Author.Rules.{rules}
+-- The proof of `colours::place`: the first object that looks as object i does. By a loop, and the laws of Places.
+use Rattle.std.proofs.Common.{rules}
 use Rattle.canon.proofs.Places as laws
 use Rattle.canon.proofs.colours.place.Goals as goal
 

@@ -1,6 +1,5 @@
--- The proof of `colours::place`: the first object that looks as object i does. By a loop in which i - j falls, and the laws of Places.
-use mathlib.Core.Path.{◌≡◌}
-use Prim.Native.Nat.{◌≤◌, ◌-◌, ◌+◌, ◌*◌}
+-- The proof of `colours::place`: the first object that looks as object i does. By a loop, and the laws of Places.
+use Rattle.std.proofs.Common.{◌≡◌, ◌≤◌, ◌-◌, ◌+◌, ◌*◌}
 use Rattle.cofj.specs.Values.{place_of}
 use Rattle.canon.specs.Figures.{object_size}
 use Rattle.canon.specs.Layout.{node_in, nodes_in}
@@ -9,6 +8,3 @@ use Rattle.canon.proofs.colours.place.Given as goal
 
 abbrev pub invariant-loop-j : goal.invariant-loop-j
 invariant-loop-j l = (l.j ≤ l.i) × (place_is l.looks l.n l.i ≡ l.j + place_of (node_in l.looks (object_size * l.i)) (nodes_in l.looks (object_size * l.j) (l.n - l.j)))
-
-abbrev pub decreases-loop-j : goal.decreases-loop-j
-decreases-loop-j l = l.i - l.j

@@ -1,6 +1,5 @@
 -- The proof of `colours::round`: the colours of one round more, to `next`. By the laws of Rounds.
-use borrow.Author.Rules.{rules}
-use native.Mathlib.Omega.{arith}
+use Rattle.std.proofs.Common.{rules, arith}
 use Rattle.canon.proofs.Lifts as lifts
 use Rattle.canon.proofs.Classing as classing
 use Rattle.canon.proofs.Rounds as laws

@@ -8,8 +8,5 @@ returns-then-k-lt-HEAD c = search laws.copy_plain
 pub returns-then-k-ge-NUMBERS : goal.returns-then-k-ge-NUMBERS
 returns-then-k-ge-NUMBERS c = search laws.copy_rest
 
-pub turn-requires : goal.turn-requires
-turn-requires c = c.requires c.if-k-lt-HEAD.false c.if-k-ge-NUMBERS.false
-
 pub returns : goal.returns
 returns c = search laws.copy_turned

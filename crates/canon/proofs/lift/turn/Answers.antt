@@ -2,9 +2,6 @@
 use Rattle.canon.proofs.Lifts as laws
 use Rattle.canon.proofs.lift.turn.Goals as goal
 
-pub bounds-table-b : goal.bounds-table-b
-bounds-table-b c = c.requires c.if-b-lt-FIRST_LEAF.true
-
 pub returns-then-b-lt-FIRST_LEAF : goal.returns-then-b-lt-FIRST_LEAF
 returns-then-b-lt-FIRST_LEAF c = search laws.turn_object
 

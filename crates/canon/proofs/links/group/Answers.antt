@@ -1,15 +1,7 @@
--- The proof of `links::group`: hangs the rows up by their looks. By a loop in which n - x falls, and the laws of Looks.
-use borrow.Author.Rules.{rules}
-use mathlib.Core.Path.{◌∙◌, refl}
-use native.Mathlib.Omega.{arith}
+-- The proof of `links::group`: hangs the rows up by their looks. By a loop, and the laws of Looks.
+use Rattle.std.proofs.Common.{rules, ◌∙◌, refl, arith}
 use Rattle.canon.proofs.Looks as laws
 use Rattle.canon.proofs.links.group.Goals as goal
-
-pub loop-x-init : goal.loop-x-init
-loop-x-init c = (search rules, search rules, search rules, search rules, search rules, laws.chain_start _ _ _ c.requires.4, c.requires.1, laws.group_start _ _, laws.rest_refl _)
-
-pub hash-h-requires : goal.hash-h-requires
-hash-h-requires c = omega (arith, c.requires.0.room)
 
 pub bounds-last-h : goal.bounds-last-h
 bounds-last-h c = omega (arith, laws.hash_small _ _ _ c.hash-h.ensures)
@@ -18,9 +10,6 @@ pub like_before-r-requires : goal.like_before-r-requires
 like_before-r-requires c =
     laws.group_sought _ _ _ _ _ _ _ c.requires.0 c.loop-x.invariant.6 c.loop-x.invariant.3 c.loop-x-test.true (omega arith) c.loop-x.invariant.5
     c.loop-x.invariant.7 c.hash-h.ensures
-
-pub hang-requires : goal.hang-requires
-hang-requires c = (c.loop-x.invariant.6, search rules, search rules, search rules, c.like_before-r.ensures.low)
 
 pub bounds-last-h-in-loop-x : goal.bounds-last-h-in-loop-x
 bounds-last-h-in-loop-x c = omega (arith, laws.hash_small _ _ _ c.hash-h.ensures)
@@ -35,8 +24,4 @@ loop-x-preserved c = (
   laws.chain_more _ _ _ _ _ _ _ c.loop-x.invariant.5 c.loop-x.invariant.3 c.loop-x-test.true (omega arith) (omega arith) c.hash-h.ensures refl,
   c.hang.ensures.hung,
   laws.group_more _ _ _ _ _ _ c.loop-x.invariant.7 c.like_before-r.ensures c.hang.ensures,
-  laws.rest_more _ _ _ _ _ _ c.loop-x.invariant.8 c.hang.ensures,
 )
-
-pub returns : goal.returns
-returns c = laws.group_done _ _ _ _ _ c.loop-x.invariant.1 c.loop-x.invariant.6 c.loop-x.invariant.7 c.loop-x.invariant.8 c.loop-x-test.false c.loop-x.invariant.4

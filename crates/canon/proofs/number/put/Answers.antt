@@ -1,15 +1,9 @@
 -- The proof of `number::put`: the value of n objects with their colours, written to a block. By the laws of Walks and Numbers.
-use borrow.Author.Rules.{rules}
-use mathlib.Core.Path.{sym}
-use lib.ListN.{length-set}
-use native.Mathlib.Omega.{arith}
+use Rattle.std.proofs.Common.{rules, arith}
 use Rattle.canon.specs.Figures.{capacity}
 use Rattle.canon.proofs.Walks as walks
 use Rattle.canon.proofs.Numbers as laws
 use Rattle.canon.proofs.number.put.Goals as goal
-
-pub slice_bounds-visit-end : goal.slice_bounds-visit-end
-slice_bounds-visit-end c = sym (laws.front_size_lem _ _ _ _ _ _ c.requires)
 
 pub visit-m-requires : goal.visit-m-requires
 visit-m-requires c = (
@@ -26,15 +20,6 @@ pub gather-requires : goal.gather-requires
 gather-requires c = let walked = c.visit-m.ensures.0 in
     let few = c.visit-m.ensures.1.few in
     (laws.gatherable _ _ _ _ _ _ c.requires _ _ walked few (search rules) _ (search rules), laws.put_room _ _ _ _ _ _ c.requires _ _ walked few (search rules))
-
-pub level_of-l-requires : goal.level_of-l-requires
-level_of-l-requires c = omega (arith, laws.put_room _ _ _ _ _ _ c.requires _ _ c.visit-m.ensures.0 c.visit-m.ensures.1.few (search rules))
-
-pub bounds-work-level : goal.bounds-work-level
-bounds-work-level c = simp length-set (omega arith)
-
-pub bounds-work-reach : goal.bounds-work-reach
-bounds-work-reach c = simp length-set (omega arith)
 
 pub returns : goal.returns
 returns c = let walked = c.visit-m.ensures.0 in

@@ -1,12 +1,7 @@
--- The proof of `parting::split_all`: the noted classes parted. By a loop in which k - i falls, and the laws of Backs and Parts.
-use mathlib.Core.Path.{◌≡◌}
-use Prim.Native.Nat.{◌≤◌, ◌-◌}
-use lib.ListN.{length}
+-- The proof of `parting::split_all`: the noted classes parted. By a loop, and the laws of Backs and Parts.
+use Rattle.std.proofs.Common.{◌≡◌, ◌≤◌, length}
 use Rattle.canon.specs.Parting.{Split}
 use Rattle.canon.proofs.parting.split_all.Given as goal
 
 abbrev pub invariant-loop-i : goal.invariant-loop-i
 invariant-loop-i l = (length l.t ≡ length l.initial.t) × (l.i ≤ l.k) × Split l.n l.initial.t l.t l.m l.r
-
-abbrev pub decreases-loop-i : goal.decreases-loop-i
-decreases-loop-i l = l.k - l.i

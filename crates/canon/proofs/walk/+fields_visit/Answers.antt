@@ -1,8 +1,6 @@
 -- The proof of the cycle of `walk::visit` and `walk::fields`: the objects met, depth first. At each call the measure μ falls: `visit` goes on with one step
 -- fewer, k, and `fields` with the same k to `visit` and to the fields that are left, 4 - f of them. Each return is a law of Walks.
-use borrow.Author.Rules.{rules}
-use native.Mathlib.Omega.{arith}
-use lib.ListN.{length-set}
+use Rattle.std.proofs.Common.{rules, arith, length-set}
 use Rattle.canon.proofs.Walks as laws
 use Rattle.canon.proofs.walk.+fields_visit.Goals as goal
 
@@ -36,32 +34,11 @@ visit-returns-then-k-eq0 t c = (search laws.visit_zero, search rules)
 pub visit-returns-then-r-ge-FIRST_LEAF : goal.visit-returns-then-r-ge-FIRST_LEAF
 visit-returns-then-r-ge-FIRST_LEAF t c = (search laws.visit_none, search rules)
 
-pub visit-bounds-cs-r : goal.visit-bounds-cs-r
-visit-bounds-cs-r t c = c.requires.2 c.if-r-ge-FIRST_LEAF.false
-
-pub visit-overflow_cast-c-2 : goal.visit-overflow_cast-c-2
-visit-overflow_cast-c-2 t c = omega (arith, c.type_inv.cs c.args.r)
-
-pub visit-bounds-met-c : goal.visit-bounds-met-c
-visit-bounds-met-c t c = omega (arith, c.requires.0.met, laws.colour_low _ _ _ _ _ c.args.m c.if-k-eq0.false c.if-r-ge-FIRST_LEAF.false _ c.requires)
-
 pub visit-returns-then-met-c-ne0 : goal.visit-returns-then-met-c-ne0
 visit-returns-then-met-c-ne0 t c = (laws.visit_seen _ _ _ _ _ c.args.m c.if-k-eq0.false c.if-r-ge-FIRST_LEAF.false _ c.requires c.if-met-c-ne0.true, c.requires.1)
 
 pub visit-bounds-order-m : goal.visit-bounds-order-m
 visit-bounds-order-m t c = omega (arith, c.requires.0.order, laws.new_fits _ _ _ _ _ c.args.m c.if-k-eq0.false c.if-r-ge-FIRST_LEAF.false _ c.requires c.if-met-c-ne0.false)
-
-pub visit-overflow_add-met : goal.visit-overflow_add-met
-visit-overflow_add-met t c = omega (arith, c.requires.0.codes.few, laws.new_fits _ _ _ _ _ c.args.m c.if-k-eq0.false c.if-r-ge-FIRST_LEAF.false _ c.requires c.if-met-c-ne0.false)
-
-pub visit-overflow_cast-met : goal.visit-overflow_cast-met
-visit-overflow_cast-met t c = omega (arith, c.type_inv.cs c.args.r)
-
-pub visit-bounds-met-c-2 : goal.visit-bounds-met-c-2
-visit-bounds-met-c-2 t c = omega (arith, c.requires.0.met, laws.colour_low _ _ _ _ _ c.args.m c.if-k-eq0.false c.if-r-ge-FIRST_LEAF.false _ c.requires)
-
-pub visit-overflow_add-m : goal.visit-overflow_add-m
-visit-overflow_add-m t c = omega (arith, c.requires.0.codes.few, laws.new_fits _ _ _ _ _ c.args.m c.if-k-eq0.false c.if-r-ge-FIRST_LEAF.false _ c.requires c.if-met-c-ne0.false)
 
 pub visit-fields-requires : goal.visit-fields-requires
 visit-fields-requires t c = let room = c.requires.0 in (
@@ -73,12 +50,6 @@ visit-fields-requires t c = let room = c.requires.0 in (
     laws.new_small _ _ _ _ _ c.args.m c.if-k-eq0.false c.if-r-ge-FIRST_LEAF.false _ c.requires c.if-met-c-ne0.false,
   ),
 )
-
-pub visit-shape_of-order : goal.visit-shape_of-order
-visit-shape_of-order t c = omega (arith, simp length-set at c.fields.auto.order)
-
-pub visit-shape_of-met : goal.visit-shape_of-met
-visit-shape_of-met t c = omega (arith, simp length-set at c.fields.auto.met)
 
 pub visit-returns : goal.visit-returns
 visit-returns t c = (

@@ -1,4 +1,4 @@
--- `program::methods_typed` meets its contract. Invariant: the methods from i on decide. What is left of them falls.
+-- `program::methods_typed` meets its contract. Invariant: the methods from i on decide.
 use Rattle.checker.proofs.ProgramLaws as laws
 use Rattle.checker.proofs.program.methods_typed.Goals as goal
 

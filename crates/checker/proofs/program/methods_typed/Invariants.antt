@@ -1,10 +1,6 @@
--- `program::methods_typed` meets its contract. Invariant: the methods from i on decide. What is left of them falls.
+-- `program::methods_typed` meets its contract. Invariant: the methods from i on decide.
 use Rattle.checker.proofs.ProgramLaws as laws
-use Prim.Native.Nat.{◌-◌}
 use Rattle.checker.proofs.program.methods_typed.Given as goal
 
 abbrev pub invariant-loop-i : goal.invariant-loop-i
 invariant-loop-i l = laws.Rest l.t l.n l.i
-
-abbrev pub decreases-loop-i : goal.decreases-loop-i
-decreases-loop-i l = l.n - l.i

@@ -1,6 +1,5 @@
 -- The proof of `build::place_classes`. The first n lines, as classes 1 to n. By the laws of BuildLaws.
-use mathlib.Core.Path.{◌≡◌}
-use Prim.Native.Nat.{◌≤◌, ◌-◌, ◌+◌}
+use Rattle.std.proofs.Common.{◌≡◌, ◌≤◌, ◌-◌, ◌+◌}
 use Rattle.classes.specs.Placing.{class_placed}
 use Rattle.classes.specs.Building.{lines_placed}
 use Rattle.classes.proofs.build.place_classes.Given as goal
@@ -10,6 +9,3 @@ invariant-loop-k l =
     (l.k ≤ l.n)
     × (lines_placed (λ line c B. class_placed line c l.n B) l.s l.n 0 1 l.initial.t
     ≡ lines_placed (λ line c B. class_placed line c l.n B) l.s (l.n - l.k) l.at (l.k + 1) l.t)
-
-abbrev pub decreases-loop-k : goal.decreases-loop-k
-decreases-loop-k l = l.n - l.k

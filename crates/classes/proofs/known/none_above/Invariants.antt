@@ -1,8 +1,5 @@
 -- `known::none_above` meets its contract: a law of LineLaws for each way on. The loop keeps that the blocks so far are clear.
-use Prim.Native.Nat.{◌-◌, ◌≤◌, ◌<◌}
-use mathlib.Core.Path.{◌≡◌}
-use mathlib.Core.Bool.{true}
-use lib.ListN.{length}
+use Rattle.std.proofs.Common.{◌-◌, ◌≤◌, ◌<◌, ◌≡◌, true, length}
 use Rattle.classes.specs.Placing.{none_above}
 use Rattle.classes.proofs.known.none_above.Given as goal
 

@@ -1,10 +1,6 @@
 -- `known::scan_known` meets its contract: a law of LineLaws for each way on. The loop keeps what the signs that are left say.
-use mathlib.Core.Path.{refl}
 use Rattle.classes.proofs.LineLaws as laws
 use Rattle.classes.proofs.known.scan_known.Goals as goal
-
-pub loop-a-init : goal.loop-a-init
-loop-a-init c = refl
 
 pub returns-then-not-names_known : goal.returns-then-not-names_known
 returns-then-not-names_known c = search laws.scan_unknown

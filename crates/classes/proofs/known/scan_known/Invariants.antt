@@ -1,7 +1,5 @@
 -- `known::scan_known` meets its contract: a law of LineLaws for each way on. The loop keeps what the signs that are left say.
-use Prim.Native.Nat.{◌-◌}
-use mathlib.Core.Path.{◌≡◌}
-use lib.ListN.{length, drop}
+use Rattle.std.proofs.Common.{◌-◌, ◌≡◌, length, drop}
 use Rattle.classes.specs.Placing.{scan}
 use Rattle.classes.proofs.known.scan_known.Given as goal
 

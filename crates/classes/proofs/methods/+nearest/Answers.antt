@@ -2,11 +2,11 @@
 use Rattle.classes.proofs.Laws as laws
 use Rattle.classes.proofs.methods.+nearest.Goals as goal
 
-pub returns-then-own_number-ne0 : goal.returns-then-own_number-ne0
-returns-then-own_number-ne0 t c = search laws.nearest_here
+pub returns-then-is_some : goal.returns-then-is_some
+returns-then-is_some t c = search (laws.nearest_here, c.if-is_some.ensures)
 
 pub returns-then-c-p : goal.returns-then-c-p
 returns-then-c-p t c = search laws.nearest_top
 
 pub returns : goal.returns
-returns t c = search laws.nearest_above
+returns t c = search (laws.nearest_above, c.if-is_some.ensures)

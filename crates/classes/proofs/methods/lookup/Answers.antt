@@ -2,8 +2,8 @@
 use Rattle.classes.proofs.Laws as laws
 use Rattle.classes.proofs.methods.lookup.Goals as goal
 
-pub returns-then-x-eq0 : goal.returns-then-x-eq0
-returns-then-x-eq0 c = search laws.lookup_none
+pub returns-in_err-method : goal.returns-in_err-method
+returns-in_err-method c = rw c.from_residual.ensures (search (laws.lookup_none, c.in_err-method.was))
 
 pub returns : goal.returns
-returns c = search laws.lookup_at
+returns c = search (laws.lookup_at, c.in_ok-method.was)

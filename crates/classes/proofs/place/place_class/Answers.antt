@@ -24,4 +24,4 @@ pub returns-then-total-gt-FIELDS : goal.returns-then-total-gt-FIELDS
 returns-then-total-gt-FIELDS c = search laws.class_total
 
 pub returns : goal.returns
-returns c = search laws.class_placed_lem
+returns c = let h = rw c.class_row-row.ensures at c.copy.ensures in search laws.class_placed_lem

@@ -3,4 +3,4 @@ use Rattle.classes.proofs.PlaceLaws as laws
 use Rattle.classes.proofs.place.put_method.Goals as goal
 
 pub returns : goal.returns
-returns c = search laws.method_put_lem
+returns c = let h = rw c.from.ensures at c.copy.ensures in rw c.from.ensures (search laws.method_put_lem)

@@ -11,9 +11,6 @@ returns-then-at-ge-SIZE c = search laws.skip_past
 pub returns-then-g-eq0 : goal.returns-then-g-eq0
 returns-then-g-eq0 c = laws.skip_none _ _ _ _ c.loop-left.invariant _ c.row_at-g.ensures c.if-g-eq0.true
 
-pub overflow_add-left : goal.overflow_add-left
-overflow_add-left c = search laws.skip_room
-
 pub loop-left-preserved : goal.loop-left-preserved
 loop-left-preserved c = search laws.skip_next
 

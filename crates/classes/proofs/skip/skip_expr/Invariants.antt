@@ -1,5 +1,5 @@
 -- `skip::skip_expr` meets its contract: a law of SkipLaws for each way on. The loop keeps where the signs that are left lead.
-use Prim.Native.Nat.{◌-◌}
+use Rattle.std.proofs.Common.{◌-◌}
 use Rattle.classes.specs.Figures.{table_size}
 use Rattle.classes.proofs.SkipLaws.{Skips}
 use Rattle.classes.proofs.skip.skip_expr.Given as goal

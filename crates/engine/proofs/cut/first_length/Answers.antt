@@ -1,5 +1,5 @@
 -- The first text, line by line: what is left of it from each line's start on ends there.
-use borrow.Author.Rules.{rules}
+use Rattle.std.proofs.Common.{rules}
 use Rattle.engine.proofs.CutLaws as laws
 use Rattle.engine.proofs.cut.first_length.Goals as goal
 

@@ -1,8 +1,5 @@
 -- The first text, line by line: what is left of it from each line's start on ends there.
-use mathlib.Core.Path.{◌≡◌}
-use mathlib.Core.Bool.{true}
-use Prim.Native.Nat.{◌≤◌, ◌+◌, ◌-◌}
-use lib.ListN.{length, drop}
+use Rattle.std.proofs.Common.{◌≡◌, true, ◌≤◌, ◌+◌, ◌-◌, length, drop}
 use Rattle.cofj.specs.Show.{first_length}
 use Rattle.engine.proofs.cut.first_length.Given as goal
 

@@ -1,9 +1,9 @@
--- The verdict line: the number alone, or 00 with class and tag.
+-- The verdict line: 00 with class and tag, or the number alone.
 use Rattle.engine.proofs.ShowLaws as laws
 use Rattle.engine.proofs.show.put_verdict.Goals as goal
 
-pub returns-then-k-ne0 : goal.returns-then-k-ne0
-returns-then-k-ne0 c = search laws.verdict_refused
+pub returns-in-Ok : goal.returns-in-Ok
+returns-in-Ok c = search laws.verdict_accepted
 
-pub returns : goal.returns
-returns c = search laws.verdict_accepted
+pub returns-in-Err : goal.returns-in-Err
+returns-in-Err c = search laws.verdict_refused

@@ -2,8 +2,11 @@
 use Rattle.engine.proofs.ShowLaws as laws
 use Rattle.engine.proofs.show.show_texts.Goals as goal
 
-pub returns-then-k-ne0 : goal.returns-then-k-ne0
-returns-then-k-ne0 c = search laws.shown_refused
+pub returns-in-Err : goal.returns-in-Err
+returns-in-Err c = search laws.shown_refused
 
-pub returns : goal.returns
-returns c = search laws.shown-run
+pub returns-in-Ok : goal.returns-in-Ok
+returns-in-Ok c = search laws.shown_ran
+
+pub returns-in-Err-run_text : goal.returns-in-Err-run_text
+returns-in-Err-run_text c = search laws.shown_unrun

@@ -7,3 +7,6 @@ loop-d-init c = laws.chain_none _ _ _
 
 pub loop-d-preserved : goal.loop-d-preserved
 loop-d-preserved c = search laws.chain_more
+
+pub returns : goal.returns
+returns c = search laws.chain_end

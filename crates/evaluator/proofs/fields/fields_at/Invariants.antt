@@ -1,10 +1,6 @@
 -- How many fields of fields begin at a place: so many do, at each turn of the loop.
-use Prim.Native.Nat.{◌-◌}
 use Rattle.evaluator.specs.Chains.{Chain}
 use Rattle.evaluator.proofs.fields.fields_at.Given as goal
 
 abbrev pub invariant-loop-d : goal.invariant-loop-d
 invariant-loop-d l = Chain l.t l.at l.left l.d
-
-abbrev pub decreases-loop-d : goal.decreases-loop-d
-decreases-loop-d l = l.left - l.d

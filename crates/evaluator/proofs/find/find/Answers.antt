@@ -1,6 +1,6 @@
 -- The method that a call names: a law for each return.
 use Rattle.evaluator.proofs.FindLaws as laws
-use native.Mathlib.Omega.{arith}
+use Rattle.std.proofs.Common.{arith}
 use Rattle.evaluator.proofs.find.find.Goals as goal
 
 pub returns-in_default : goal.returns-in_default

@@ -1,10 +1,9 @@
 -- Arguments compared: so far they are the same, at each turn of the loop.
-use borrow.Author.Rules.{rules}
 use Rattle.evaluator.proofs.SameLaws as laws
 use Rattle.evaluator.proofs.met.same_args.Goals as goal
 
 pub loop-i-init : goal.loop-i-init
-loop-i-init c = (search rules, laws.args_start _ _ _ _)
+loop-i-init c = laws.args_start _ _ _ _
 
 pub equal-requires : goal.equal-requires
 equal-requires c = (search laws.part_held, search laws.part_held)
@@ -13,7 +12,7 @@ pub returns-then-not-equal : goal.returns-then-not-equal
 returns-then-not-equal c = search laws.args_differ
 
 pub loop-i-preserved : goal.loop-i-preserved
-loop-i-preserved c = (search rules, laws.args_more _ _ _ _ _ c.loop-i.invariant.1 c.requires.0 c.requires.1 c.loop-i-test.true _ c.equal.ensures c.if-not-equal.false)
+loop-i-preserved c = search laws.args_more
 
 pub returns : goal.returns
 returns c = search laws.args_end

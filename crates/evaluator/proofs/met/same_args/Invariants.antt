@@ -1,10 +1,6 @@
 -- Arguments compared: so far they are the same, at each turn of the loop.
-use Prim.Native.Nat.{◌≤◌, ◌-◌}
 use Rattle.evaluator.proofs.SameLaws.{Comparing}
 use Rattle.evaluator.proofs.met.same_args.Given as goal
 
 abbrev pub invariant-loop-i : goal.invariant-loop-i
-invariant-loop-i l = (l.i ≤ l.n) × Comparing l.work l.a l.b l.i l.n
-
-abbrev pub decreases-loop-i : goal.decreases-loop-i
-decreases-loop-i l = l.n - l.i
+invariant-loop-i l = Comparing l.work l.a l.b l.i l.n

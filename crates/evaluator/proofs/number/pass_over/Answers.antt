@@ -4,6 +4,3 @@ use Rattle.evaluator.proofs.number.pass_over.Goals as goal
 
 pub overflow_cast-result : goal.overflow_cast-result
 overflow_cast-result c = search laws.skip_small
-
-pub returns : goal.returns
-returns c = search laws.passed_value

@@ -1,6 +1,5 @@
 -- The five characters of a stop, one after another.
-use native.Mathlib.Omega.{arith}
-use lib.ListN.{length-set}
+use Rattle.std.proofs.Common.{arith, length-set}
 use Rattle.evaluator.proofs.ReportLaws as laws
 use Rattle.evaluator.proofs.report.report_stop.Goals as goal
 

@@ -1,6 +1,5 @@
 -- `blocks::all_digits` meets its contract: a law of BlockLaws for each way on. The loop keeps that the characters so far are digits.
-use borrow.Author.Rules.{rules}
-use borrow.Author.Rules.{rules}
+use Rattle.std.proofs.Common.{rules}
 use Rattle.lineform.proofs.BlockLaws as laws
 use Rattle.lineform.proofs.blocks.all_digits.Goals as goal
 
@@ -9,6 +8,3 @@ loop-k-init c = (search rules, search laws.all_none)
 
 pub loop-k-preserved : goal.loop-k-preserved
 loop-k-preserved c = (search rules, search laws.all_next)
-
-pub returns : goal.returns
-returns c = search laws.all_ends

@@ -1,11 +1,7 @@
 -- `blocks::all_digits` meets its contract: a law of BlockLaws for each way on. The loop keeps that the characters so far are digits.
-use Prim.Native.Nat.{◌-◌, ◌≤◌}
-use mathlib.Core.Path.{◌≡◌}
+use Rattle.std.proofs.Common.{◌≤◌, ◌≡◌}
 use Rattle.lineform.specs.Blocks.{all_digits}
 use Rattle.lineform.proofs.blocks.all_digits.Given as goal
 
 abbrev pub invariant-loop-k : goal.invariant-loop-k
 invariant-loop-k l = (l.k ≤ 32) × (l.good ≡ all_digits l.text l.at l.k)
-
-abbrev pub decreases-loop-k : goal.decreases-loop-k
-decreases-loop-k l = 32 - l.k

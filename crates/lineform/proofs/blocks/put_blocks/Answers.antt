@@ -5,12 +5,6 @@ use Rattle.lineform.proofs.blocks.put_blocks.Goals as goal
 pub returns-then-e-from : goal.returns-then-e-from
 returns-then-e-from c = search laws.no_blocks
 
-pub overflow_sub-m : goal.overflow_sub-m
-overflow_sub-m c = search laws.from_before
-
-pub put_words-requires : goal.put_words-requires
-put_words-requires c = (search laws.pairs_few, search laws.pairs_inside)
-
 pub put_word_bytes-requires : goal.put_word_bytes-requires
 put_word_bytes-requires c = (search laws.words_good, search laws.pairs_room)
 

@@ -8,8 +8,5 @@ returns-then-s-at c = search laws.last_end
 pub returns-then-s-at-2 : goal.returns-then-s-at-2
 returns-then-s-at-2 c = search laws.last_short
 
-pub sign_of-requires : goal.sign_of-requires
-sign_of-requires c = search laws.last_room
-
 pub returns : goal.returns
 returns c = search laws.last_is

@@ -8,11 +8,11 @@ returns-then-s-le3 c = search laws.class_short
 pub returns-then-n-gt-FIELD_COUNT : goal.returns-then-n-gt-FIELD_COUNT
 returns-then-n-gt-FIELD_COUNT c = search laws.class_over
 
-pub returns-in_default : goal.returns-in_default
-returns-in_default c = search laws.class_refused
+pub returns-in_err-e : goal.returns-in_err-e
+returns-in_err-e c = rw c.from_residual.ensures (search (laws.class_refused, c.in_err-e.was))
 
 pub returns-then-e-s : goal.returns-then-e-s
-returns-then-e-s c = search laws.class_long
+returns-then-e-s c = search (laws.class_long, c.in_ok-e.was)
 
 pub returns : goal.returns
-returns c = search laws.class_good_lem
+returns c = search (laws.class_good_lem, c.in_ok-e.was)

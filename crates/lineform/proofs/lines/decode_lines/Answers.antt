@@ -1,8 +1,6 @@
 -- `lines::decode_lines` meets its contract. The loop keeps `Reading` (DecodeLaws), its pace (w places and a line of o - w - 1 bytes took at least
 -- (4o - w - 4) / 2 characters), and that a line is open where the last character is passed.
-use borrow.Author.Rules.{rules}
-use native.Mathlib.Omega.{arith}
-use lib.ListN.{length-set}
+use Rattle.std.proofs.Common.{rules, arith, length-set}
 use Rattle.lineform.proofs.DecodeLaws as laws
 use Rattle.lineform.proofs.lines.decode_lines.Goals as goal
 
@@ -15,12 +13,6 @@ loop-i-preserved-then-x-lt256 c = (search rules, search rules, search rules, sea
 pub returns-then-not-ends_line : goal.returns-then-not-ends_line
 returns-then-not-ends_line c = search laws.line_bad
 
-pub overflow_cast-out-in-loop-i : goal.overflow_cast-out-in-loop-i
-overflow_cast-out-in-loop-i c = search laws.count_fits
-
-pub put_ahead-i-requires : goal.put_ahead-i-requires
-put_ahead-i-requires c = (search laws.ahead_room, search rules)
-
 pub loop-i-preserved : goal.loop-i-preserved
 loop-i-preserved c = (search rules, search rules, search laws.ahead_pace, search rules, search laws.ahead_length, search laws.ends_ahead)
 
@@ -29,9 +21,6 @@ returns-then-last-i c = search laws.text_open
 
 pub returns-then-not-ends_line-2 : goal.returns-then-not-ends_line-2
 returns-then-not-ends_line-2 c = search laws.last_bad
-
-pub overflow_cast-out-2 : goal.overflow_cast-out-2
-overflow_cast-out-2 c = search laws.count_fits
 
 pub returns : goal.returns
 returns c = search laws.last_ends

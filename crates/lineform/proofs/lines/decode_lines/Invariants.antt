@@ -1,8 +1,6 @@
 -- `lines::decode_lines` meets its contract. The loop keeps `Reading` (DecodeLaws), its pace (w places and a line of o - w - 1 bytes took at least
 -- (4o - w - 4) / 2 characters), and that a line is open where the last character is passed.
-use Prim.Native.Nat.{◌≤◌, ◌+◌, ◌*◌, ◌-◌}
-use mathlib.Core.Path.{◌≡◌}
-use lib.ListN.{length}
+use Rattle.std.proofs.Common.{◌≤◌, ◌+◌, ◌*◌, ◌-◌, ◌≡◌, length}
 use Rattle.lineform.proofs.DecodeLaws.{Reading}
 use Rattle.lineform.proofs.lines.decode_lines.Given as goal
 

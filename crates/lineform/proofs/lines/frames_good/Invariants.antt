@@ -1,7 +1,6 @@
 -- `lines::frames_good` meets its contract. The loop keeps `Left` (LineLaws): the lines from i on have frames exactly when all do, and the
 -- right expressions of the methods passed are noted.
-use Prim.Native.Nat.{◌≤◌, ◌-◌}
-use lib.ListN.{length}
+use Rattle.std.proofs.Common.{◌≤◌, ◌-◌, length}
 use Rattle.lineform.proofs.LineLaws.{Left}
 use Rattle.lineform.proofs.lines.frames_good.Given as goal
 

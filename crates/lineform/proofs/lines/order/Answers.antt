@@ -1,7 +1,5 @@
 -- `lines::order` meets its contract. The loop keeps `Counting` (OrderLaws): c classes and m methods stand in front of the lines from i on.
-use borrow.Author.Rules.{rules}
-use mathlib.Core.Path.{refl}
-use native.Mathlib.Omega.{arith}
+use Rattle.std.proofs.Common.{rules, refl}
 use Rattle.lineform.proofs.LineLaws as lines
 use Rattle.lineform.proofs.OrderLaws as laws
 use Rattle.lineform.proofs.lines.order.Goals as goal
@@ -11,9 +9,6 @@ loop-i-init c = (search rules, search rules, search laws.counting_none)
 
 pub bounds-d-a : goal.bounds-d-a
 bounds-d-a c = lines.line_byte _ _ _ c.loop-i-test.true refl c.loop-i.invariant.2.here
-
-pub overflow_add-e : goal.overflow_add-e
-overflow_add-e c = omega (arith, lines.line_within _ _ _ c.loop-i-test.true c.wide.ensures c.loop-i.invariant.2.here)
 
 pub returns-then-m-gt0 : goal.returns-then-m-gt0
 returns-then-m-gt0 c = search laws.class_late
@@ -26,12 +21,6 @@ loop-i-preserved c = (search lines.line_within, search rules, search laws.method
 
 pub returns-then-e-d : goal.returns-then-e-d
 returns-then-e-d c = search laws.main_early
-
-pub returns-then-c-gt-CLASS_COUNT : goal.returns-then-c-gt-CLASS_COUNT
-returns-then-c-gt-CLASS_COUNT c = search laws.many_classes
-
-pub returns-then-m-gt-METHOD_COUNT : goal.returns-then-m-gt-METHOD_COUNT
-returns-then-m-gt-METHOD_COUNT c = search laws.many_methods
 
 pub returns-in-loop-i : goal.returns-in-loop-i
 returns-in-loop-i c = search laws.counts

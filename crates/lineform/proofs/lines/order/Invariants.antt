@@ -1,6 +1,5 @@
 -- `lines::order` meets its contract. The loop keeps `Counting` (OrderLaws): c classes and m methods stand in front of the lines from i on.
-use Prim.Native.Nat.{◌≤◌, ◌+◌, ◌-◌}
-use lib.ListN.{length}
+use Rattle.std.proofs.Common.{◌≤◌, ◌+◌, ◌-◌, length}
 use Rattle.lineform.proofs.OrderLaws.{Counting}
 use Rattle.lineform.proofs.lines.order.Given as goal
 

@@ -1,6 +1,5 @@
 -- `lines::put_threes` meets its contract. The loop keeps `Puts`; three bytes more are a law of DecodeLaws, that they are bytes one of HexLaws.
-use Prim.Native.Nat.{◌-◌}
-use lib.ListN.{length}
+use Rattle.std.proofs.Common.{◌-◌, length}
 use Rattle.lineform.specs.Answers.{Puts}
 use Rattle.lineform.proofs.lines.put_threes.Given as goal
 

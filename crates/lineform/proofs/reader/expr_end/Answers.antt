@@ -1,10 +1,10 @@
--- `reader::expr_end` meets its contract: what `read_expr` ensures at document 01's limit, as an answer. Written out, so that another limit is refused here.
-use borrow.Author.Rules.{rules}
+-- `reader::expr_end` meets its contract: what `read_expr` ensures at document 01's limit. Written out, so that another limit is refused here.
+use Rattle.std.proofs.Common.{rules}
 use Rattle.lineform.proofs.ExprLaws as laws
 use Rattle.lineform.proofs.reader.expr_end.Goals as goal
 
-pub returns-then-s-a : goal.returns-then-s-a
-returns-then-s-a c = search (rules, laws.by_refused)
+pub returns-in_err-g : goal.returns-in_err-g
+returns-in_err-g c = rw c.from_residual.ensures (search (rules, laws.by_refused, c.in_err-g.was))
 
 pub returns : goal.returns
-returns c = search (rules, laws.by_next)
+returns c = search (rules, laws.by_next, c.in_ok-g.was)

@@ -2,35 +2,35 @@
 use Rattle.lineform.proofs.SignLaws as laws
 use Rattle.lineform.proofs.sign.sign_row.Goals as goal
 
-pub returns-then-b-eq-THIS : goal.returns-then-b-eq-THIS
-returns-then-b-eq-THIS c = search laws.row_this
+pub returns-in-64 : goal.returns-in-64
+returns-in-64 c = search laws.row_this
 
-pub returns-then-b-eq-RES : goal.returns-then-b-eq-RES
-returns-then-b-eq-RES c = search laws.row_res
+pub returns-in-65 : goal.returns-in-65
+returns-in-65 c = search laws.row_res
 
-pub returns-then-b-eq-PARAMETER : goal.returns-then-b-eq-PARAMETER
-returns-then-b-eq-PARAMETER c = search laws.row_parameter
+pub returns-in-66 : goal.returns-in-66
+returns-in-66 c = search laws.row_parameter
 
-pub returns-then-b-eq-FIELD : goal.returns-then-b-eq-FIELD
-returns-then-b-eq-FIELD c = search laws.row_field
+pub returns-in-67 : goal.returns-in-67
+returns-in-67 c = search laws.row_field
 
-pub returns-then-b-eq-CALL : goal.returns-then-b-eq-CALL
-returns-then-b-eq-CALL c = search laws.row_call
+pub returns-in-68 : goal.returns-in-68
+returns-in-68 c = rw c.from-n.ensures (search laws.row_call)
 
-pub returns-then-b-eq-NEW : goal.returns-then-b-eq-NEW
-returns-then-b-eq-NEW c = search laws.row_new
+pub returns-in-69 : goal.returns-in-69
+returns-in-69 c = rw c.from-n.ensures (search laws.row_new)
 
-pub returns-then-b-eq-NUMBER : goal.returns-then-b-eq-NUMBER
-returns-then-b-eq-NUMBER c = search laws.row_number
+pub returns-in-70 : goal.returns-in-70
+returns-in-70 c = search laws.row_number
 
-pub returns-then-b-eq-SUM : goal.returns-then-b-eq-SUM
-returns-then-b-eq-SUM c = search laws.row_sum
+pub returns-in-71 : goal.returns-in-71
+returns-in-71 c = search laws.row_sum
 
-pub returns-then-b-eq-DIFFERENCE : goal.returns-then-b-eq-DIFFERENCE
-returns-then-b-eq-DIFFERENCE c = search laws.row_difference
+pub returns-in-72 : goal.returns-in-72
+returns-in-72 c = search laws.row_difference
 
-pub returns-then-b-eq-CHOOSE : goal.returns-then-b-eq-CHOOSE
-returns-then-b-eq-CHOOSE c = search laws.row_choose
+pub returns-in-73 : goal.returns-in-73
+returns-in-73 c = search laws.row_choose
 
-pub returns : goal.returns
-returns c = search laws.row_none
+pub returns-in_default : goal.returns-in_default
+returns-in_default c = search laws.row_none

@@ -1,13 +1,10 @@
--- `write::put_bytes` meets its contract. The loop keeps: the digits of the first i bytes are put, up to w.
-use borrow.Author.Rules.{rules}
+-- `write::put_bytes` meets its contract. The loop keeps: the digits of the bytes so far are put, up to w.
+use Rattle.std.proofs.Common.{rules}
 use Rattle.lineform.proofs.WriteLaws as laws
 use Rattle.lineform.proofs.write.put_bytes.Goals as goal
 
-pub loop-i-init : goal.loop-i-init
-loop-i-init c = (search rules, search rules, search rules, laws.bytes_none _ _)
+pub loop-b-init : goal.loop-b-init
+loop-b-init c = (search rules, search rules, laws.bytes_none _ _)
 
-pub loop-i-preserved : goal.loop-i-preserved
-loop-i-preserved c = (search rules, search laws.byte_end, search rules, search laws.bytes_more)
-
-pub returns : goal.returns
-returns c = search laws.bytes_all
+pub loop-b-preserved : goal.loop-b-preserved
+loop-b-preserved c = (search laws.byte_end, search rules, search laws.bytes_more)

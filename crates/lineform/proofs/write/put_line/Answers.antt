@@ -1,6 +1,5 @@
 -- `write::put_line` meets its contract: the first byte's digits, the others', and LF, one after another.
-use native.Mathlib.Omega.{arith}
-use lib.ListN.{length-set}
+use Rattle.std.proofs.Common.{arith}
 use Rattle.lineform.proofs.WriteLaws as laws
 use Rattle.lineform.proofs.write.put_line.Goals as goal
 
@@ -12,9 +11,6 @@ bounds-out-b c = search laws.end_room
 
 pub overflow_add-result : goal.overflow_add-result
 overflow_add-result c = omega (arith, laws.end_room _ _ _ _ _ _ c.put_byte-a.ensures _ _ c.put_bytes-b.ensures c.requires)
-
-pub shape_of-out : goal.shape_of-out
-shape_of-out c = simp length-set (omega arith)
 
 pub returns : goal.returns
 returns c = search laws.line_put

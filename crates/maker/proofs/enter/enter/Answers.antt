@@ -3,11 +3,11 @@ use borrow.Author.Rules.{rules}
 use Rattle.maker.proofs.Enters as laws
 use Rattle.maker.proofs.enter.enter.Goals as goal
 
-pub find-k-requires : goal.find-k-requires
-find-k-requires c = (search rules, search laws.enter_count, search rules)
+pub find-requires : goal.find-requires
+find-requires c = (search rules, search laws.enter_count, search rules)
 
-pub returns-then-k-t : goal.returns-then-k-t
-returns-then-k-t c = search laws.enter_found
+pub returns-in-Some : goal.returns-in-Some
+returns-in-Some c = search laws.enter_found
 
 pub enter_new-requires : goal.enter_new-requires
 enter_new-requires c = (search rules, search rules, search laws.enter_missed)

@@ -36,4 +36,4 @@ shape_of-work c = simp length-set (omega arith)
 
 pub returns : goal.returns
 returns c = let pre = c.requires in
-    laws.extend_done _ _ _ _ _ pre.0 _ pre.1 _ pre.2 pre.3 _ c.put_new.ensures _ c.level_of-k.ensures _ c.higher-h.ensures.0 c.higher-h.ensures.1
+    laws.extend_done _ _ _ _ _ pre.0 _ pre.1 _ pre.2 pre.3 _ c.put_new.ensures _ c.level_of-k.ensures _ (omega (arith, c.max-h.ensures)) (omega (arith, c.max-h.ensures))

@@ -1,4 +1,4 @@
--- The proof of `join::put_new`: the new ones of the first n objects, each at the place that `told` has for it. By a loop in which n - x falls, and the laws of Additions.
+-- The proof of `join::put_new`: the new ones of the first n objects, each at the place that `told` has for it. By the laws of Additions.
 use borrow.Author.Rules.{rules}
 use Rattle.maker.proofs.Additions as laws
 use Rattle.maker.proofs.join.put_new.Goals as goal

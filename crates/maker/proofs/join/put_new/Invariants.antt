@@ -1,11 +1,8 @@
--- The proof of `join::put_new`: the new ones of the first n objects, each at the place that `told` has for it. By a loop in which n - x falls, and the laws of Additions.
-use Prim.Native.Nat.{◌≤◌, ◌-◌}
+-- The proof of `join::put_new`: the new ones of the first n objects, each at the place that `told` has for it. By the laws of Additions.
+use Prim.Native.Nat.{◌≤◌}
 use Rattle.canon.specs.Figures.{capacity}
 use Rattle.maker.specs.Joining.{Laid}
 use Rattle.maker.proofs.join.put_new.Given as goal
 
 abbrev pub invariant-loop-x : goal.invariant-loop-x
 invariant-loop-x l = (l.x ≤ l.n) × (l.n ≤ capacity) × Laid l.initial.work l.src l.host l.told l.fresh l.x l.work
-
-abbrev pub decreases-loop-x : goal.decreases-loop-x
-decreases-loop-x l = l.n - l.x

@@ -1,10 +1,7 @@
--- The proof of `join::up_to_new`: how many of the first n objects there are up to the last new one. By a loop in which k falls, and the laws of Numberings.
+-- The proof of `join::up_to_new`: how many of the first n objects there are up to the last new one. By the laws of Numberings.
 use Prim.Native.Nat.{◌≤◌}
 use Rattle.maker.specs.Joining.{NewAmong}
 use Rattle.maker.proofs.join.up_to_new.Given as goal
 
 abbrev pub invariant-loop-k : goal.invariant-loop-k
 invariant-loop-k l = (l.k ≤ l.n) × NewAmong l.n l.fresh l.k
-
-abbrev pub decreases-loop-k : goal.decreases-loop-k
-decreases-loop-k l = l.k

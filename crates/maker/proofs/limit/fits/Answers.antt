@@ -11,11 +11,11 @@ bounds-work-b c = search laws.count_read
 pub returns-then-work-b : goal.returns-then-work-b
 returns-then-work-b c = search laws.fits_block
 
-pub import-r-requires : goal.import-r-requires
-import-r-requires c = (search laws.spare_inside, search laws.spare_empty, search laws.spare_other)
+pub import-requires : goal.import-requires
+import-requires c = (search laws.spare_inside, search laws.spare_empty, search laws.spare_other)
 
-pub returns-then-r-eq-NO_ROOM : goal.returns-then-r-eq-NO_ROOM
-returns-then-r-eq-NO_ROOM c = search laws.fits-over
+pub returns-in_default-import : goal.returns-in_default-import
+returns-in_default-import c = search laws.fits-over
 
 pub bounds-work : goal.bounds-work
 bounds-work c = search laws.spare_read

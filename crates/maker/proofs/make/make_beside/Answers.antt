@@ -3,19 +3,18 @@ use borrow.Author.Rules.{rules}
 use Rattle.maker.proofs.Finds as finds
 use Rattle.maker.proofs.Beside as beside
 use Rattle.canon.specs.Layout.{count_in}
-use Rattle.values.proofs.Copies as copies
 use Rattle.maker.proofs.Hosts as merges
 use Rattle.maker.proofs.make.make_beside.Goals as goal
 
-pub find-k-requires : goal.find-k-requires
+pub find-requires : goal.find-requires
 unfolding count_in
-find-k-requires c = (search rules, search rules, search finds.root_packed)
+find-requires c = (search rules, search rules, search finds.root_packed)
 
 pub bring-requires : goal.bring-requires
-bring-requires c = (search copies.block_held, search merges.makeable_room)
+bring-requires c = (search beside.beside_held, search merges.makeable_room)
 
-pub returns-then-k-t : goal.returns-then-k-t
-returns-then-k-t c = search beside.beside_found
+pub returns-in-Some : goal.returns-in-Some
+returns-in-Some c = search beside.beside_found
 
 pub add-requires : goal.add-requires
 unfolding count_in

@@ -3,11 +3,8 @@ use borrow.Author.Rules.{rules}
 use Rattle.maker.proofs.Hosts as laws
 use Rattle.maker.proofs.merge.make_anew.Goals as goal
 
-pub try_in-o-requires : goal.try_in-o-requires
-try_in-o-requires c = (search laws.spare_held, search laws.makeable_few, search laws.spare_begun, search laws.spare_above, search laws.spare_dst, search rules)
-
-pub returns-in_default : goal.returns-in_default
-returns-in_default c = search laws.anew_large
+pub try_in-requires : goal.try_in-requires
+try_in-requires c = (search laws.spare_held, search laws.makeable_few, search laws.spare_begun, search laws.spare_above, search laws.spare_dst, search rules)
 
 pub returns : goal.returns
-returns c = search laws.anew_here
+returns c = search laws.anew_made

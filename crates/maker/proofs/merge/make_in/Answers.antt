@@ -6,8 +6,8 @@ use Rattle.maker.proofs.merge.make_in.Goals as goal
 pub make_anew-requires : goal.make_anew-requires
 make_anew-requires c = (search laws.tried_makeable, search rules)
 
-pub returns-in_default : goal.returns-in_default
-returns-in_default c = search laws.tried_made
+pub returns-in-None : goal.returns-in-None
+returns-in-None c = search laws.tried_made
 
-pub returns : goal.returns
-returns c = search laws.tried_here
+pub returns-in-Some : goal.returns-in-Some
+returns-in-Some c = search laws.tried_here

@@ -2,14 +2,14 @@
 use Rattle.maker.proofs.Bytes as laws
 use Rattle.maker.proofs.object.is_object.Goals as goal
 
-pub returns-then-four_at-w : goal.returns-then-four_at-w
-returns-then-four_at-w c = search laws.other_codes
+pub returns-then-four_at-o : goal.returns-then-four_at-o
+returns-then-four_at-o c = search laws.other_codes
 
-pub returns-then-eight_at-v : goal.returns-then-eight_at-v
-returns-then-eight_at-v c = search laws.other_numbers
+pub returns-then-eight_at-o : goal.returns-then-eight_at-o
+returns-then-eight_at-o c = search laws.other_numbers
 
 pub returns-then-work-p : goal.returns-then-work-p
 returns-then-work-p c = search laws.other_class
 
 pub returns : goal.returns
-returns c = laws.by_count _ _ _ _ _ _ c.requires.0 _ c.four_at.ensures _ c.eight_at.ensures c.requires.1 c.if-four_at-w.false c.if-eight_at-v.false c.if-work-p.false
+returns c = laws.by_count _ _ _ _ _ _ c.requires.0 _ c.four_at.ensures _ c.eight_at.ensures c.requires.1 c.if-four_at-o.false c.if-eight_at-o.false c.if-work-p.false

@@ -1,4 +1,4 @@
--- The proof of `object::root_codes`: the codes of the n parts, and unused ones. By a loop in which i falls, and the laws of Finds.
+-- The proof of `object::root_codes`: the codes of the n parts, and unused ones. By the laws of Finds.
 use borrow.Author.Rules.{rules}
 use Rattle.maker.proofs.Finds as laws
 use Rattle.maker.proofs.object.root_codes.Goals as goal

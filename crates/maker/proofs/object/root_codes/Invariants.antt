@@ -1,11 +1,7 @@
--- The proof of `object::root_codes`: the codes of the n parts, and unused ones. By a loop in which i falls, and the laws of Finds.
+-- The proof of `object::root_codes`: the codes of the n parts, and unused ones. By the laws of Finds.
 use Prim.Native.Nat.{◌≤◌}
-use Rattle.maker.specs.Laying.{parts_of}
 use Rattle.maker.specs.Adding.{RootCodes}
 use Rattle.maker.proofs.object.root_codes.Given as goal
 
 abbrev pub invariant-loop-i : goal.invariant-loop-i
-invariant-loop-i l = (l.i ≤ l.n) × RootCodes l.work (parts_of l.parts) l.n l.i l.w
-
-abbrev pub decreases-loop-i : goal.decreases-loop-i
-decreases-loop-i l = l.i
+invariant-loop-i l = (l.i ≤ l.n) × RootCodes l.work l.parts l.n l.i l.w

@@ -1,4 +1,4 @@
--- The proof of `object::root_numbers`: the numbers beside the codes of the n parts. By a loop in which i falls, and the laws of Finds.
+-- The proof of `object::root_numbers`: the numbers beside the codes of the n parts. By the laws of Finds.
 use borrow.Author.Rules.{rules}
 use Rattle.maker.proofs.Finds as laws
 use Rattle.maker.proofs.object.root_numbers.Goals as goal

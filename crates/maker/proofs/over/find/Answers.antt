@@ -1,4 +1,4 @@
--- The proof of `over::find`: the place of the object among the t objects of block b; t if it is not there. By a loop in which t - k falls, and the laws of Finds.
+-- The proof of `over::find`: the place of the object among the t objects of block b, if it is there. By the laws of Finds.
 use borrow.Author.Rules.{rules}
 use Rattle.maker.proofs.Finds as laws
 use Rattle.maker.proofs.over.find.Goals as goal

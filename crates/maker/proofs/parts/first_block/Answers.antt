@@ -6,8 +6,8 @@ use Rattle.maker.proofs.parts.first_block.Goals as goal
 pub loop-i-init : goal.loop-i-init
 loop-i-init c = (search rules, laws.first_none _)
 
-pub returns-then-b-ne0 : goal.returns-then-b-ne0
-returns-then-b-ne0 c = search laws.first_found
+pub returns-in-Some : goal.returns-in-Some
+returns-in-Some c = search laws.first_found
 
 pub loop-i-preserved : goal.loop-i-preserved
 loop-i-preserved c = (search rules, search laws.first_more)

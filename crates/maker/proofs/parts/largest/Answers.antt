@@ -1,4 +1,4 @@
--- The proof of `parts::largest`: the block with the most objects, of block b and those of the parts but block 0. By a loop in which n - i falls, and the laws of Makes and Hosts.
+-- The proof of `parts::largest`: the block with the most objects, of block b and those of the parts but block 0. By the laws of Makes and Hosts.
 use borrow.Author.Rules.{rules}
 use Rattle.maker.proofs.Makes as lays
 use Rattle.maker.proofs.Hosts as laws

@@ -5,11 +5,5 @@ use Rattle.maker.proofs.parts.lies_in.Goals as goal
 pub returns-in-Object : goal.returns-in-Object
 returns-in-Object c = search laws.lies_object
 
-pub returns-in-Mark : goal.returns-in-Mark
-returns-in-Mark c = search laws.lies_mark
-
-pub returns-in-Number : goal.returns-in-Number
-returns-in-Number c = search laws.lies_number
-
-pub returns-in-Undetermined : goal.returns-in-Undetermined
-returns-in-Undetermined c = search laws.lies_undet
+pub returns-in_default : goal.returns-in_default
+returns-in_default c = laws.lies_else _ _ c.in_default.not-Object

@@ -1,4 +1,4 @@
--- The proof of `parts::some_in`: whether one of the parts is an object of block d. By a loop in which i falls, and the laws of Hosts.
+-- The proof of `parts::some_in`: whether one of the parts is an object of block d. By the laws of Hosts.
 use borrow.Author.Rules.{rules}
 use mathlib.Core.Path.{refl}
 use Rattle.maker.proofs.Hosts as laws

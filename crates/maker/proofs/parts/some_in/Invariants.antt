@@ -1,12 +1,8 @@
--- The proof of `parts::some_in`: whether one of the parts is an object of block d. By a loop in which i falls, and the laws of Hosts.
+-- The proof of `parts::some_in`: whether one of the parts is an object of block d. By the laws of Hosts.
 use Prim.Native.Nat.{◌≤◌}
-use Rattle.maker.specs.Laying.{parts_of}
 use mathlib.Core.Path.{◌≡◌}
 use Rattle.maker.specs.Merging.{some_in}
 use Rattle.maker.proofs.parts.some_in.Given as goal
 
 abbrev pub invariant-loop-i : goal.invariant-loop-i
-invariant-loop-i l = (l.i ≤ l.n) × (some_in (parts_of l.parts) l.n l.d ≡ some_in (parts_of l.parts) l.i l.d)
-
-abbrev pub decreases-loop-i : goal.decreases-loop-i
-decreases-loop-i l = l.i
+invariant-loop-i l = (l.i ≤ l.n) × (some_in l.parts l.n l.d ≡ some_in l.parts l.i l.d)

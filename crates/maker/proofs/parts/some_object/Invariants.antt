@@ -1,13 +1,9 @@
 -- Whether a part is an object: the parts before are none.
-use Prim.Native.Nat.{◌≤◌, ◌-◌}
+use Prim.Native.Nat.{◌≤◌}
 use mathlib.Core.Path.{◌≡◌}
 use mathlib.Core.Bool.{false}
-use Rattle.maker.specs.Laying.{parts_of}
 use Rattle.maker.specs.Adding.{some_object}
 use Rattle.maker.proofs.parts.some_object.Given as goal
 
 abbrev pub invariant-loop-i : goal.invariant-loop-i
-invariant-loop-i l = (l.i ≤ l.n) × (some_object (parts_of l.parts) l.i ≡ false)
-
-abbrev pub decreases-loop-i : goal.decreases-loop-i
-decreases-loop-i l = l.n - l.i
+invariant-loop-i l = (l.i ≤ l.n) × (some_object l.parts l.i ≡ false)

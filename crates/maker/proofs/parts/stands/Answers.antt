@@ -5,11 +5,5 @@ use Rattle.maker.proofs.parts.stands.Goals as goal
 pub returns-in-Object : goal.returns-in-Object
 returns-in-Object c = search laws.stands_here
 
-pub returns-in-Mark : goal.returns-in-Mark
-returns-in-Mark c = search laws.stands_mark
-
-pub returns-in-Number : goal.returns-in-Number
-returns-in-Number c = search laws.stands_number
-
-pub returns-in-Undetermined : goal.returns-in-Undetermined
-returns-in-Undetermined c = search laws.stands_undet
+pub returns-in_default : goal.returns-in_default
+returns-in_default c = laws.stands_else _ _ c.in_default.not-Object

@@ -1,4 +1,4 @@
--- The proof of `parts::together`: whether each part lies in block b, or is no object. By a loop in which n - i falls, and the laws of Wheres.
+-- The proof of `parts::together`: whether each part lies in block b, or is no object. By the laws of Wheres.
 use borrow.Author.Rules.{rules}
 use Rattle.maker.proofs.Wheres as laws
 use Rattle.maker.proofs.parts.together.Goals as goal

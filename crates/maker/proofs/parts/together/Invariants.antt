@@ -1,13 +1,9 @@
--- The proof of `parts::together`: whether each part lies in block b, or is no object. By a loop in which n - i falls, and the laws of Wheres.
-use Prim.Native.Nat.{◌≤◌, ◌-◌}
-use Rattle.maker.specs.Laying.{parts_of}
+-- The proof of `parts::together`: whether each part lies in block b, or is no object. By the laws of Wheres.
+use Prim.Native.Nat.{◌≤◌}
 use mathlib.Core.Path.{◌≡◌}
 use mathlib.Core.Bool.{true}
 use Rattle.maker.specs.Adding.{all_stand}
 use Rattle.maker.proofs.parts.together.Given as goal
 
 abbrev pub invariant-loop-i : goal.invariant-loop-i
-invariant-loop-i l = (l.i ≤ l.n) × (all_stand (parts_of l.parts) l.i l.b ≡ true)
-
-abbrev pub decreases-loop-i : goal.decreases-loop-i
-decreases-loop-i l = l.n - l.i
+invariant-loop-i l = (l.i ≤ l.n) × (all_stand l.parts l.i l.b ≡ true)

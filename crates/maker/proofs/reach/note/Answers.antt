@@ -8,8 +8,8 @@ returns-then-c-ge-FIRST_LEAF c = search laws.met_leaf
 pub bounds-seen-c : goal.bounds-seen-c
 bounds-seen-c c = search laws.met_entry
 
-pub returns-then-seen-c-ne0 : goal.returns-then-seen-c-ne0
-returns-then-seen-c-ne0 c = search laws.met_known
+pub returns-then-seen-c : goal.returns-then-seen-c
+returns-then-seen-c c = search laws.met_known
 
 pub bounds-seen-c-2 : goal.bounds-seen-c-2
 bounds-seen-c-2 c = search laws.met_entry

@@ -1,5 +1,5 @@
--- The proof of `seek::seek`: looks for object x, of which nothing is known yet, among the objects of the host: it is told then, or marked as new. By a loop in which t - y falls, and the laws of Seeks.
-use Prim.Native.Nat.{◌≤◌, ◌-◌}
+-- The proof of `seek::seek`: looks for object x, of which nothing is known yet, among the objects of the host: it is told then, or marked as new. By the laws of Seeks.
+use Prim.Native.Nat.{◌≤◌}
 use mathlib.Core.Path.{◌≡◌}
 use lib.ListN.{length}
 use Rattle.canon.specs.Figures.{capacity}
@@ -8,6 +8,3 @@ use Rattle.maker.proofs.seek.seek.Given as goal
 
 abbrev pub invariant-loop-y : goal.invariant-loop-y
 invariant-loop-y l = (l.y ≤ l.t) × (l.t ≤ capacity) × (length l.told ≡ length l.initial.told) × SoughtTo l.work l.src l.x l.host l.initial.told l.told l.y
-
-abbrev pub decreases-loop-y : goal.decreases-loop-y
-decreases-loop-y l = l.t - l.y

@@ -11,14 +11,14 @@ bounds-fresh-x c = search laws.listed_marked
 pub returns-then-leads_new : goal.returns-then-leads_new
 returns-then-leads_new c = search laws.fields_new
 
-pub turn_fields-o-requires : goal.turn_fields-o-requires
-turn_fields-o-requires c = (search laws.listed_inside, search laws.sorting_told)
+pub turn_fields-requires : goal.turn_fields-requires
+turn_fields-requires c = (search laws.listed_inside, search laws.sorting_told)
 
 pub returns-in_default : goal.returns-in_default
 returns-in_default c = search laws.fields_silent
 
-pub eight_at-v-requires : goal.eight_at-v-requires
-eight_at-v-requires c = search laws.listed_numbers
+pub eight_at-requires : goal.eight_at-requires
+eight_at-requires c = search laws.listed_numbers
 
 pub bounds-work-p : goal.bounds-work-p
 bounds-work-p c = search laws.listed_room
@@ -26,8 +26,8 @@ bounds-work-p c = search laws.listed_room
 pub bounds-work-p-2 : goal.bounds-work-p-2
 bounds-work-p-2 c = search laws.listed_room_1
 
-pub find-k-requires : goal.find-k-requires
-find-k-requires c = (search laws.sorting_host, search laws.host_count, search laws.fields_packed)
+pub find-requires : goal.find-requires
+find-requires c = (search laws.sorting_host, search laws.host_count, search laws.fields_packed)
 
 pub overflow_add-told : goal.overflow_add-told
 overflow_add-told c = search laws.found_small
@@ -35,8 +35,8 @@ overflow_add-told c = search laws.found_small
 pub bounds-told-x : goal.bounds-told-x
 bounds-told-x c = search laws.listed_told
 
-pub returns-then-k-t : goal.returns-then-k-t
-returns-then-k-t c = search laws.fields_found
+pub returns-in-Some-find : goal.returns-in-Some-find
+returns-in-Some-find c = search laws.fields_found
 
 pub bounds-fresh-x-2 : goal.bounds-fresh-x-2
 bounds-fresh-x-2 c = search laws.listed_marked

@@ -1,4 +1,4 @@
--- The proof of `sort::choose`: of the listed objects of which nothing is known, x one of them, one whose class is rare in the host. By a loop in which q falls, and the laws of Sorts.
+-- The proof of `sort::choose`: of the listed objects of which nothing is known, x one of them, one whose class is rare in the host. By the laws of Sorts.
 use borrow.Author.Rules.{rules}
 use Rattle.canon.proofs.Zeros.{zero_at}
 use native.Mathlib.Omega.{arith}

@@ -1,10 +1,7 @@
--- The proof of `sort::choose`: of the listed objects of which nothing is known, x one of them, one whose class is rare in the host. By a loop in which q falls, and the laws of Sorts.
+-- The proof of `sort::choose`: of the listed objects of which nothing is known, x one of them, one whose class is rare in the host. By the laws of Sorts.
 use Prim.Native.Nat.{◌≤◌}
 use Rattle.maker.specs.Sorting.{Listed}
 use Rattle.maker.proofs.sort.choose.Given as goal
 
 abbrev pub invariant-loop-q : goal.invariant-loop-q
 invariant-loop-q l = (l.q ≤ l.m) × Listed l.list l.m l.best
-
-abbrev pub decreases-loop-q : goal.decreases-loop-q
-decreases-loop-q l = l.q

@@ -1,4 +1,4 @@
--- The proof of `sort::count_classes`: how many objects of block host are of each class, modulo 64. By a loop in which t - y falls, and the laws of Sorts.
+-- The proof of `sort::count_classes`: how many objects of block host are of each class, modulo 64. By the laws of Sorts.
 use borrow.Author.Rules.{rules}
 use Rattle.maker.proofs.Sorts as laws
 use Rattle.maker.proofs.sort.count_classes.Goals as goal

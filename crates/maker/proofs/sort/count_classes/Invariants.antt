@@ -1,5 +1,5 @@
--- The proof of `sort::count_classes`: how many objects of block host are of each class, modulo 64. By a loop in which t - y falls, and the laws of Sorts.
-use Prim.Native.Nat.{ℕ, ◌≤◌, ◌-◌}
+-- The proof of `sort::count_classes`: how many objects of block host are of each class, modulo 64. By the laws of Sorts.
+use Prim.Native.Nat.{ℕ, ◌≤◌}
 use mathlib.Core.Path.{◌≡◌}
 use lib.ListN.{length, get_or}
 use Rattle.canon.specs.Figures.{capacity}
@@ -7,6 +7,3 @@ use Rattle.maker.proofs.sort.count_classes.Given as goal
 
 abbrev pub invariant-loop-y : goal.invariant-loop-y
 invariant-loop-y l = (l.y ≤ l.t) × (l.t ≤ capacity) × (length l.count ≡ 64) × ((k : ℕ) → get_or l.count k 0 ≤ l.y)
-
-abbrev pub decreases-loop-y : goal.decreases-loop-y
-decreases-loop-y l = l.t - l.y

@@ -1,4 +1,4 @@
--- The proof of `sort::leads_new`: whether a field of an object is marked as new. By a loop in which code_count - k falls, and the laws of SortCodes.
+-- The proof of `sort::leads_new`: whether a field of an object is marked as new. By the laws of SortCodes.
 use Rattle.maker.proofs.SortCodes as laws
 use Rattle.maker.proofs.sort.leads_new.Goals as goal
 

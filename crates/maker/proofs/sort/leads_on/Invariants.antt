@@ -1,10 +1,7 @@
--- The proof of `sort::leads_on`: whether a field of an object is another object that is not told. By a loop in which code_count - k falls, and the laws of SortCodes.
-use Prim.Native.Nat.{◌≤◌, ◌-◌}
+-- The proof of `sort::leads_on`: whether a field of an object is another object that is not told. By the laws of SortCodes.
+use Prim.Native.Nat.{◌≤◌}
 use Rattle.canon.specs.Figures.{code_count}
 use Rattle.maker.proofs.sort.leads_on.Given as goal
 
 abbrev pub invariant-loop-k : goal.invariant-loop-k
 invariant-loop-k l = l.k ≤ code_count
-
-abbrev pub decreases-loop-k : goal.decreases-loop-k
-decreases-loop-k l = code_count - l.k

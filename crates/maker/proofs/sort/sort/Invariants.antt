@@ -1,4 +1,4 @@
--- The proof of `sort::sort`: the listed objects sorted out, from the last to the first. By a loop in which q falls, and the laws of Sorts.
+-- The proof of `sort::sort`: the listed objects sorted out, from the last to the first. By the laws of Sorts.
 use Prim.Native.Nat.{◌≤◌}
 use mathlib.Core.Path.{◌≡◌}
 use lib.ListN.{length}
@@ -9,6 +9,3 @@ abbrev pub invariant-loop-q : goal.invariant-loop-q
 invariant-loop-q l =
     (l.q ≤ l.m) × (length l.told ≡ length l.initial.told) × (length l.fresh ≡ length l.initial.fresh)
     × SortedFrom l.work l.src l.host l.list l.m l.q l.told l.fresh
-
-abbrev pub decreases-loop-q : goal.decreases-loop-q
-decreases-loop-q l = l.q

@@ -1,4 +1,4 @@
--- The proof of `sort::turn_fields`: the codes of object x of block src in the host. By a loop in which k falls, and the laws of SortCodes.
+-- The proof of `sort::turn_fields`: the codes of object x of block src in the host. By the laws of SortCodes.
 use Prim.Native.Nat.{◌≤◌}
 use Rattle.canon.specs.Figures.{code_count}
 use Rattle.maker.specs.Sorting.{CodesTurned}
@@ -6,6 +6,3 @@ use Rattle.maker.proofs.sort.turn_fields.Given as goal
 
 abbrev pub invariant-loop-k : goal.invariant-loop-k
 invariant-loop-k l = (l.k ≤ code_count) × CodesTurned l.work l.src l.x l.told l.k l.w
-
-abbrev pub decreases-loop-k : goal.decreases-loop-k
-decreases-loop-k l = l.k

@@ -1,4 +1,4 @@
--- The proof of `sort::varied`: whether nothing is known of a listed object whose class is not that of x. By a loop in which q falls, and the laws of Sorts.
+-- The proof of `sort::varied`: whether nothing is known of a listed object whose class is not that of x. By the laws of Sorts.
 use borrow.Author.Rules.{rules}
 use Rattle.maker.proofs.Sorts as laws
 use Rattle.maker.proofs.sort.varied.Goals as goal

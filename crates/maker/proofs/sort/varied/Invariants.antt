@@ -1,9 +1,6 @@
--- The proof of `sort::varied`: whether nothing is known of a listed object whose class is not that of x. By a loop in which q falls, and the laws of Sorts.
+-- The proof of `sort::varied`: whether nothing is known of a listed object whose class is not that of x. By the laws of Sorts.
 use Prim.Native.Nat.{◌≤◌}
 use Rattle.maker.proofs.sort.varied.Given as goal
 
 abbrev pub invariant-loop-q : goal.invariant-loop-q
 invariant-loop-q l = l.q ≤ l.m
-
-abbrev pub decreases-loop-q : goal.decreases-loop-q
-decreases-loop-q l = l.q

@@ -1,21 +1,25 @@
--- The proof of `read::lines_into`. The table of packed lines, in `bytes`: 0, or a refusal of 2 to 5. By the laws of ReadLaws.
-use borrow.Author.Rules.{rules}
-use Prim.Native.Nat.{ℕ}
-use lib.ListN.{length-replicate}
+-- `read::lines_into` meets its contract: a law of ReadLaws after each step.
+use Rattle.std.proofs.lemmas.Result.{err_from_is_err_and}
 use Rattle.tables.proofs.ReadLaws as laws
 use Rattle.tables.proofs.read.lines_into.Goals as goal
 
-pub frames_good-good-requires : goal.frames_good-good-requires
-frames_good-good-requires c = (search rules, length-replicate {A = ℕ} 64 0)
+pub returns-in_err-counts : goal.returns-in_err-counts
+returns-in_err-counts c =
+    let p = err_from_is_err_and c.from_residual-in_err-counts.result c.from_residual-in_err-counts.ensures.1 in
+    rw (p.1, p.2) (search (laws.no_order, c.in_ok-frames_good.was, c.in_err-counts.was))
 
-pub returns-then-not-good : goal.returns-then-not-good
-returns-then-not-good c = search laws.no_frames
+pub place_table-requires : goal.place_table-requires
+place_table-requires c =
+    let k = laws.counted _ _ c.requires.0 _ c.frames_good.ensures c.in_ok-frames_good.was _ c.order.ensures _ c.in_ok-counts.was in
+    (laws.few_classes_lem _ _ _ _ k, laws.few_methods_lem _ _ _ _ k)
 
-pub order-o-requires : goal.order-o-requires
-order-o-requires c = search laws.framed
+pub returns-in_err-place_table : goal.returns-in_err-place_table
+returns-in_err-place_table c =
+    let k = laws.counted _ _ c.requires.0 _ c.frames_good.ensures c.in_ok-frames_good.was _ c.order.ensures _ c.in_ok-counts.was in
+    let p = err_from_is_err_and c.from_residual-in_err-place_table.result c.from_residual-in_err-place_table.ensures.1 in
+    rw (p.1, p.2) (laws.no_table_lem _ _ _ _ k _ _ _ c.place_table.ensures c.requires.1 _ _ c.in_err-place_table.was)
 
-pub returns-in_default : goal.returns-in_default
-returns-in_default c = search laws.no_order
-
-pub table_into-requires : goal.table_into-requires
-table_into-requires c = (search laws.counted, search rules)
+pub returns : goal.returns
+returns c =
+    let k = laws.counted _ _ c.requires.0 _ c.frames_good.ensures c.in_ok-frames_good.was _ c.order.ensures _ c.in_ok-counts.was in
+    laws.by_overrides _ _ _ _ k _ _ _ c.place_table.ensures c.requires.1 c.in_ok-place_table.was _ c.overrides.ensures

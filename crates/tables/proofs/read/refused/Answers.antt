@@ -1,4 +1,4 @@
--- The proof of `read::refused`. A refusal as an answer. By the laws of ReadLaws.
+-- `read::refused` meets its contract: its zeros are those of `zero_table`.
 use Rattle.tables.proofs.ReadLaws as laws
 use Rattle.tables.proofs.read.refused.Goals as goal
 

@@ -1,20 +1,14 @@
--- The proof of `read::text_into`. The table of a text, in `bytes`, with room for its packed lines: 0, or its lowest refusal of 1 to 5. By the laws of ReadLaws.
-use borrow.Author.Rules.{rules}
+-- `read::text_into` meets its contract: a law of ReadLaws at each return.
+use Rattle.std.proofs.Common.{rules}
+use Rattle.std.proofs.lemmas.Result.{err_from_is_err_and}
 use Rattle.tables.proofs.ReadLaws as laws
-use Rattle.lineform.proofs.Established.{decoded_room, decoded_count}
 use Rattle.tables.proofs.read.text_into.Goals as goal
 
-pub returns-in_default : goal.returns-in_default
-returns-in_default c = search laws.no_lines
-
-pub slice_bounds-lines_into-end : goal.slice_bounds-lines_into-end
-slice_bounds-lines_into-end c = search decoded_room
-
-pub slice_bounds-lines_into-end-2 : goal.slice_bounds-lines_into-end-2
-slice_bounds-lines_into-end-2 c = search (decoded_room, decoded_count)
+pub returns-in_err-w : goal.returns-in_err-w
+returns-in_err-w c = let p = err_from_is_err_and c.from_residual.result c.from_residual.ensures.1 in rw (p.1, p.2) (search (laws.no_lines, c.in_err-w.was))
 
 pub lines_into-requires : goal.lines_into-requires
-lines_into-requires c = (search laws.byte-lines, search rules)
+lines_into-requires c = (search (laws.byte-lines, c.in_ok-w.was), search rules)
 
 pub returns : goal.returns
-returns c = search laws.of_lines
+returns c = search (laws.of_lines, c.in_ok-w.was)

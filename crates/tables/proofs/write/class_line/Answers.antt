@@ -1,7 +1,6 @@
 -- `write::class_line` meets its contract: the bytes gathered are those of `class_in`.
 use Rattle.tables.proofs.WriteLaws as laws
-use native.Mathlib.Omega.{arith}
-use lib.ListN.{length-take}
+use Rattle.std.proofs.Common.{arith, length-take}
 use Rattle.tables.proofs.write.class_line.Goals as goal
 
 pub slice_bounds-put_line-end : goal.slice_bounds-put_line-end

@@ -1,5 +1,5 @@
 -- `write::class_lines` meets its contract. The loop keeps: the lines of classes 1 to k are put, up to w.
-use borrow.Author.Rules.{rules}
+use Rattle.std.proofs.Common.{rules}
 use Rattle.tables.proofs.WriteLaws as laws
 use Rattle.tables.proofs.write.class_lines.Goals as goal
 

@@ -1,7 +1,6 @@
 -- `write::main_line` meets its contract: the row's bytes are those of `main_in`.
 use Rattle.tables.proofs.WriteLaws as laws
-use native.Mathlib.Omega.{arith}
-use lib.ListN.{length-take, length-drop}
+use Rattle.std.proofs.Common.{arith, length-take, length-drop}
 use Rattle.tables.proofs.write.main_line.Goals as goal
 
 pub put_line-requires : goal.put_line-requires

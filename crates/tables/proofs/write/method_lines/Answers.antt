@@ -1,8 +1,6 @@
 -- `write::method_lines` meets its contract. The loop keeps: the lines of the first i methods are put, up to w.
-use borrow.Author.Rules.{rules}
+use Rattle.std.proofs.Common.{rules, arith, length-take, length-drop}
 use Rattle.tables.proofs.WriteLaws as laws
-use native.Mathlib.Omega.{arith}
-use lib.ListN.{length-take, length-drop}
 use Rattle.tables.proofs.write.method_lines.Goals as goal
 
 pub loop-i-init : goal.loop-i-init

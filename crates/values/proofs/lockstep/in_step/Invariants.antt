@@ -1,7 +1,5 @@
 -- The proof of `lockstep::in_step`: the objects of the queue and their partners met. By a loop in which capacity - head falls, and the laws of Queues.
-use mathlib.Core.Path.{◌≡◌}
-use Prim.Native.Nat.{◌≤◌, ◌-◌}
-use lib.ListN.{length}
+use Rattle.std.proofs.Common.{◌≡◌, ◌≤◌, ◌-◌, length}
 use Rattle.canon.specs.Figures.{capacity}
 use Rattle.values.specs.Stepping.{PairsSoFar}
 use Rattle.values.proofs.lockstep.in_step.Given as goal

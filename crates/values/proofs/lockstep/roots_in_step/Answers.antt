@@ -1,5 +1,5 @@
 -- The proof of `lockstep::roots_in_step`: whether two objects of two blocks unfold to the same tree. By the laws of Steps.
-use borrow.Author.Rules.{rules}
+use Rattle.std.proofs.Common.{rules}
 use Rattle.values.proofs.Steps as laws
 use Rattle.values.proofs.lockstep.roots_in_step.Goals as goal
 

@@ -1,5 +1,5 @@
 -- The proof of `lockstep::step_code`: two codes met: equal, or objects that are partners then. By the laws of Pairs.
-use native.Mathlib.Omega.{arith}
+use Rattle.std.proofs.Common.{arith}
 use Rattle.values.proofs.Pairs as laws
 use Rattle.values.proofs.lockstep.step_code.Goals as goal
 
@@ -14,19 +14,6 @@ returns-then-first-ge-FIRST_LEAF c = search laws.code_equal
 
 pub returns-then-second-ge-FIRST_LEAF : goal.returns-then-second-ge-FIRST_LEAF
 returns-then-second-ge-FIRST_LEAF c = search laws.code_second
-
-pub bounds-partner-first : goal.bounds-partner-first
-bounds-partner-first c = search laws.code_entry
-
--- the mark is a byte, since a block has so few objects
-pub overflow_add-partner : goal.overflow_add-partner
-overflow_add-partner c = omega (arith, c.requires.mark c.if-second-ge-FIRST_LEAF.false)
-
-pub bounds-partner-first-then-known-eq0 : goal.bounds-partner-first-then-known-eq0
-bounds-partner-first-then-known-eq0 c = search laws.code_entry
-
-pub bounds-queue-tail : goal.bounds-queue-tail
-bounds-queue-tail c = c.requires.room c.if-first-ge-FIRST_LEAF.false (omega (arith, c.if-known-eq0.true))
 
 pub returns-then-known-eq0 : goal.returns-then-known-eq0
 returns-then-known-eq0 c = laws.code_new _ _ _ _ _ _ _ c.if-first-ge-FIRST_LEAF.false c.if-second-ge-FIRST_LEAF.false (omega (arith, c.if-known-eq0.true))

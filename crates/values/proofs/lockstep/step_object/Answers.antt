@@ -1,12 +1,8 @@
 -- The proof of `lockstep::step_object`: meets object x of block b and its partner y of block c. By the laws of Blocks, Partners and canon's Nodes.
-use borrow.Author.Rules.{rules}
+use Rattle.std.proofs.Common.{rules}
 use Rattle.canon.proofs.Nodes as nodes
-use Rattle.values.proofs.Blocks as blocks
 use Rattle.values.proofs.Partners as laws
 use Rattle.values.proofs.lockstep.step_object.Goals as goal
-
-pub alike-requires : goal.alike-requires
-alike-requires c = (search blocks.inside_room, search blocks.inside_room)
 
 pub step_fields-requires : goal.step_fields-requires
 step_fields-requires c = (search rules, search nodes.alike_yes)

@@ -2,9 +2,6 @@
 use Rattle.values.proofs.RefLaws as laws
 use Rattle.values.proofs.refs.pack_other.Goals as goal
 
-pub returns-in-Object : goal.returns-in-Object
-returns-in-Object c = search laws.other_object
-
 pub returns-in-Mark : goal.returns-in-Mark
 returns-in-Mark c = search laws.other_mark
 

@@ -1,5 +1,5 @@
--- The proof of `report::put_fields`: the fields of the object at a place. By a loop in which n - f falls, and the laws of Reports.
-use borrow.Author.Rules.{rules}
+-- The proof of `report::put_fields`: the fields of the object at a place. By a loop, and the laws of Reports.
+use Rattle.std.proofs.Common.{rules}
 use Rattle.values.proofs.Reports as laws
 use Rattle.values.proofs.report.put_fields.Goals as goal
 

@@ -1,7 +1,5 @@
--- The proof of `report::put_lines`: the lines of the value in block b. By a loop in which n - j falls, and the laws of Reports.
-use borrow.Author.Rules.{rules}
-use mathlib.Core.Path.{refl}
-use native.Mathlib.Omega.{arith}
+-- The proof of `report::put_lines`: the lines of the value in block b. By a loop, and the laws of Reports.
+use Rattle.std.proofs.Common.{rules, refl, arith}
 use Rattle.canon.specs.Layout.{count_in}
 use Rattle.values.proofs.Reports as laws
 use Rattle.values.proofs.report.put_lines.Goals as goal

@@ -1,5 +1,5 @@
 -- The proof of `value::move_out`: the value at object i of block b, alone and numbered from its root, to block `dst`. By the laws of Blocks.
-use borrow.Author.Rules.{rules}
+use Rattle.std.proofs.Common.{rules}
 use Rattle.values.proofs.Blocks as laws
 use Rattle.values.proofs.value.move_out.Goals as goal
 

@@ -1,16 +1,8 @@
 -- The proof of `value::take_up`: copies the objects of block b to the front of `raw`, and answers how many they are. By the laws of Blocks.
-use native.Mathlib.Omega.{arith}
+use Rattle.std.proofs.Common.{arith}
 use Rattle.canon.specs.Layout.{count_in}
 use Rattle.values.proofs.Blocks as laws
 use Rattle.values.proofs.value.take_up.Goals as goal
-
-pub overflow_cast-p : goal.overflow_cast-p
-unfolding count_in
-overflow_cast-p c = omega arith
-
-pub overflow_mul-p : goal.overflow_mul-p
-unfolding count_in
-overflow_mul-p c = omega arith
 
 pub count_up-requires : goal.count_up-requires
 unfolding count_in

@@ -1,6 +1,0 @@
--- `program::second_fits` meets its contract: a law of ProgramLaws at each return.
-use Rattle.checker.proofs.ProgramLaws as laws
-use Rattle.checker.proofs.program.second_fits.Goals as goal
-
-pub returns : goal.returns
-returns c = search laws.second_is

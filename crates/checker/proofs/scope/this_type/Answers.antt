@@ -1,6 +1,0 @@
--- `scope::this_type` meets its contract: a law of TypeLaws at each return.
-use Rattle.checker.proofs.TypeLaws as laws
-use Rattle.checker.proofs.scope.this_type.Goals as goal
-
-pub returns : goal.returns
-returns c = search laws.this_body

@@ -1,9 +1,0 @@
--- Arguments told apart: a law for the return inside the loop.
-use Prim.Native.Nat.{◌≤◌, ◌-◌}
-use Rattle.evaluator.proofs.met.args_apart.Given as goal
-
-abbrev pub invariant-loop-k : goal.invariant-loop-k
-invariant-loop-k l = l.k ≤ l.n
-
-abbrev pub decreases-loop-k : goal.decreases-loop-k
-decreases-loop-k l = l.n - l.k
