@@ -1,42 +1,59 @@
 -- Laws of the parts that part 0 leads to, listed. The room in the list is by counting what is not listed yet.
 -- Not here: what the lists say of parts that are known by their lines (Listings).
-use Rattle.std.proofs.Common.{ℕ, ◌+◌, ◌*◌, ◌<◌, ◌≤◌, arith, ◌≡◌, refl, sym, ap, ◌∙◌, subst, List, length, get_or, set, replicate, length-set, get_or-set_same, get_or-set_other}
+use Rattle.std.proofs.Common.{ℕ, zero, suc, ◌+◌, ◌*◌, ◌<◌, ◌≤◌, arith, ◌≡◌, refl, sym, ap, ◌∙◌, subst, Bool, true, false, cond, List, map, length, get_or, set, replicate, length-set, get_or-set_same, get_or-set_other}
 use native.Mathlib.Decide.{dec_lt, ℕ_discrete}
 use Rattle.std.proofs.Math.ListN.{length-replicate}
-use Rattle.canon.proofs.Zeros.{zero_at, zeros-few, zeros-put}
+use Rattle.canon.proofs.Zeros.{zeros-few, zeros-put}
+use Rattle.std.proofs.Math.ListN.{get_or-map}
+use Rattle.std.proofs.lemmas.List.{map-set, length-map}
+use mathlib.Core.Bool.{false≢true}
+use Rattle.canon.specs.Tables.{zero_count}
 use Rattle.canon.specs.Figures.{head_size}
 use Rattle.batch.specs.Figures.{part_size, field_room, number_field}
 use Rattle.batch.specs.Layout.{field_byte}
 use Rattle.batch.specs.Reaching.{Listed, FieldOf, Led, first, next, Noted, Met, FieldsMet, ReachedTo, Reaches}
+
+-- nothing is seen at first, and one more then
+unseen_at : (k x : ℕ) → get_or (replicate k false) x false ≡ false
+unseen_at zero x = refl
+unseen_at (suc k) zero = refl
+unseen_at (suc k) (suc x) = unseen_at k x
+
+zeros-mark : (k x : ℕ) (S : List Bool) → x < k → x < length S → get_or S x false ≡ false
+    → suc (zero_count k (map (λ b. cond b 1 0) (set S x true))) ≡ zero_count k (map (λ b. cond b 1 0) S)
+zeros-mark k x S h l e =
+    rw (map-set {A = Bool} {B = ℕ} (λ b. cond b 1 0) S x true)
+    (zeros-put k x 1 (map (λ b. cond b 1 0) S) h (omega (arith, l, length-map {A = Bool} {B = ℕ} S (λ b. cond b 1 0)))
+    (get_or-map {A = Bool} {B = ℕ} (λ b. cond b 1 0) S x false ∙ ap (λ (b : Bool). cond {A = ℕ} b 1 0) e) (omega arith))
 
 -- what is listed stays so while the list grows
 listed_kept : (L L' : List ℕ) (t r x : ℕ) → t ≤ r → ((q : ℕ) → q < t → get_or L' q 0 ≡ get_or L q 0) → Listed L t x → Listed L' r x
 listed_kept L L' t r x h front o = record { place = o.place; low = omega (arith, o.low); is = front o.place o.low ∙ o.is }
 
 -- ---- a byte met
-module _ (S L : List ℕ) (t b : ℕ) (nd : Noted S L t) where
+module _ (S : List Bool) (L : List ℕ) (t b : ℕ) (nd : Noted S L t) where
   unchanged : (b < number_field → Listed L t b) → Met L t b S L t
   unchanged h = record { noted = nd; more = omega arith; front = λ q l. refl; new = λ q a l. absurd (omega arith); part = λ l. absurd (omega arith); here = h }
 
   pub met_none : number_field ≤ b → Met L t b S L t
   met_none h = unchanged (λ l. absurd (omega arith))
 
-  pub met_known : ((get_or S b 0 ≡ 0) → ⊥) → Met L t b S L t
+  pub met_known : get_or S b false ≡ true → Met L t b S L t
   met_known d = unchanged (λ _. nd.listed b d)
 
-  module _ (h : b < number_field) (e : get_or S b 0 ≡ 0) where
+  module _ (h : b < number_field) (e : get_or S b false ≡ false) where
     pub met_few : t < number_field
-    met_few = omega (arith, nd.free, zeros-put number_field b 1 S h (omega (arith, nd.seen)) e (omega arith))
+    met_few = omega (arith, nd.free, zeros-mark number_field b S h (omega (arith, nd.seen)) e)
 
     end : get_or (set L t b) t 0 ≡ b
     end = get_or-set_same L t b 0 (omega (arith, met_few, nd.list))
 
-    pub met_new : Met L t b (set S b 1) (set L t b) (t + 1)
+    pub met_new : Met L t b (set S b true) (set L t b) (t + 1)
     met_new = record {
       noted = record {
-        seen = length-set S b 1 ∙ nd.seen;
+        seen = length-set S b true ∙ nd.seen;
         list = length-set L t b ∙ nd.list;
-        free = omega (arith, nd.free, zeros-put number_field b 1 S h (omega (arith, nd.seen)) e (omega arith));
+        free = omega (arith, nd.free, zeros-mark number_field b S h (omega (arith, nd.seen)) e);
         listed = λ x d. listed x d (ℕ_discrete x b);
       };
       more = omega arith;
@@ -52,13 +69,13 @@ module _ (S L : List ℕ) (t b : ℕ) (nd : Noted S L t) where
         last : Listed (set L t b) (t + 1) b
         last = record { place = t; low = omega arith; is = end }
 
-        listed : (x : ℕ) → ((get_or (set S b 1) x 0 ≡ 0) → ⊥) → Dec (x ≡ b) → Listed (set L t b) (t + 1) x
+        listed : (x : ℕ) → get_or (set S b true) x false ≡ true → Dec (x ≡ b) → Listed (set L t b) (t + 1) x
         listed x d (yes z) = subst (Listed (set L t b) (t + 1)) (sym z) last
-        listed x d (no z) = listed_kept L (set L t b) t (t + 1) x (omega arith) front (nd.listed x (λ o. d (get_or-set_other S b x 1 0 z ∙ o)))
+        listed x d (no z) = listed_kept L (set L t b) t (t + 1) x (omega arith) front (nd.listed x (sym (get_or-set_other S b x true false z) ∙ d))
 
 -- ---- the fields of a part met
 module _ (P : List ℕ) (p : ℕ) (L₀ : List ℕ) (t : ℕ) where
-  more : (S L : List ℕ) (r k i : ℕ) (S' L' : List ℕ) (r' : ℕ) → k < field_room → i ≡ part_size * p + head_size + k → FieldsMet P p k L₀ t S L r → Met L r (get_or P i 0) S' L' r'
+  more : (S : List Bool) (L : List ℕ) (r k i : ℕ) (S' : List Bool) (L' : List ℕ) (r' : ℕ) → k < field_room → i ≡ part_size * p + head_size + k → FieldsMet P p k L₀ t S L r → Met L r (get_or P i 0) S' L' r'
       → FieldsMet P p (k + 1) L₀ t S' L' r'
   more S L r k i S' L' r' h e so m = record {
     noted = m.noted;
@@ -83,7 +100,7 @@ module _ (P : List ℕ) (p : ℕ) (L₀ : List ℕ) (t : ℕ) where
           let z : get_or L' q 0 ≡ get_or P i 0 = m.new q (omega (arith, l)) b in
           record { field = k; low = h; is = sym (z ∙ byte); part = rw z (m.part (omega (arith, l))) }
 
-  pub fields_met : (S₀ S1 L1 : List ℕ) (r1 : ℕ) (S2 L2 : List ℕ) (r2 : ℕ) (S3 L3 : List ℕ) (r3 : ℕ) (S L : List ℕ) (r : ℕ) → Noted S₀ L₀ t
+  pub fields_met : (S₀ S1 : List Bool) (L1 : List ℕ) (r1 : ℕ) (S2 : List Bool) (L2 : List ℕ) (r2 : ℕ) (S3 : List Bool) (L3 : List ℕ) (r3 : ℕ) (S : List Bool) (L : List ℕ) (r : ℕ) → Noted S₀ L₀ t
       → Met L₀ t (get_or P (part_size * p + head_size) 0) S1 L1 r1
       → Met L1 r1 (get_or P (part_size * p + head_size + 1) 0) S2 L2 r2
       → Met L2 r2 (get_or P (part_size * p + head_size + 2) 0) S3 L3 r3
@@ -100,8 +117,8 @@ module _ (P : List ℕ) (p : ℕ) (L₀ : List ℕ) (t : ℕ) where
 
 -- ---- the list gone over
 module _ (P : List ℕ) where
-  -- part 0 is the first; `seen` begins with k zeros
-  pub reach_start : (L : List ℕ) (k : ℕ) → length L ≡ 256 → k ≡ 256 → ReachedTo P (set (replicate k 0) 0 1) (set L 0 0) 1 0
+  -- part 0 is the first; `seen` begins with k times false
+  pub reach_start : (L : List ℕ) (k : ℕ) → length L ≡ 256 → k ≡ 256 → ReachedTo P (set (replicate k false) 0 true) (set L 0 0) 1 0
   reach_start L k ll ek = record {
     noted = m.noted;
     root = m.here (omega arith);
@@ -109,18 +126,18 @@ module _ (P : List ℕ) where
     led = λ q l. subst (Led P) (sym (m.new q (omega arith) l)) first;
   }
     where
-      nothing : Noted (replicate k 0) L 0
-      nothing = record { seen = length-replicate k 0 ∙ ek; list = ll; free = omega (arith, zeros-few number_field (replicate k 0)); listed = λ x d. absurd (d (zero_at k x)) }
+      nothing : Noted (replicate k false) L 0
+      nothing = record { seen = length-replicate k false ∙ ek; list = ll; free = omega (arith, zeros-few number_field (map (λ b. cond b 1 0) (replicate k false))); listed = λ x d. absurd (false≢true (sym (unseen_at k x) ∙ d)) }
 
-      m : Met L 0 0 (set (replicate k 0) 0 1) (set L 0 0) 1
-      m = met_new (replicate k 0) L 0 0 nothing (omega arith) (zero_at k 0)
+      m : Met L 0 0 (set (replicate k false) 0 true) (set L 0 0) 1
+      m = met_new (replicate k false) L 0 0 nothing (omega arith) (unseen_at k 0)
 
-  module _ (S L : List ℕ) (t h : ℕ) (so : ReachedTo P S L t h) where
+  module _ (S : List Bool) (L : List ℕ) (t h : ℕ) (so : ReachedTo P S L t h) where
     module _ (hh : h < t) where
       pub head_read : h < length L
       head_read = omega (arith, so.noted.list, so.noted.free)
 
-      module _ (S2 L2 : List ℕ) (r : ℕ) (o : FieldsMet P (get_or L h 0) 4 L t S2 L2 r) where
+      module _ (S2 : List Bool) (L2 : List ℕ) (r : ℕ) (o : FieldsMet P (get_or L h 0) 4 L t S2 L2 r) where
         pub reach_few : r ≤ number_field
         reach_few = omega (arith, o.noted.free)
 

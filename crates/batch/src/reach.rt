@@ -6,24 +6,24 @@ ghost use Rattle.batch.specs.Reaching.{Noted, Met, FieldsMet, Reaches};
 use crate::layout::{NUMBER_FIELD, PART, PER_BYTE};
 use canon::layout::HEAD;
 
-// A field met: a part that is not listed yet is. `seen` has not 0 for a listed one. Answers how many are listed.
-pub(crate) fn note(seen: &mut [u8], list: &mut [u8], tail: u8, b: u8) -> u8
+// A field met: a part that is not listed yet is. `seen` has true for a listed one. Answers how many are listed.
+pub(crate) fn note(seen: &mut [bool], list: &mut [u8], tail: u8, b: u8) -> u8
     requires { Noted seen.old list.old tail }
     ensures { Met list.old tail b seen.new list.new result }
 {
     if NUMBER_FIELD <= b {
         return tail;
     }
-    if seen[b as usize] != 0 {
+    if seen[b as usize] {
         return tail;
     }
-    seen[b as usize] = 1;
+    seen[b as usize] = true;
     list[tail as usize] = b;
     tail + 1
 }
 
 // The fields of part p met.
-pub(crate) fn note_fields(parts: &[u8], p: u8, seen: &mut [u8], list: &mut [u8], tail: u8) -> u8
+pub(crate) fn note_fields(parts: &[u8], p: u8, seen: &mut [bool], list: &mut [u8], tail: u8) -> u8
     requires { (wide_size ≤ length parts.now) × Noted seen.old list.old tail }
     ensures { FieldsMet parts.now p 4 list.old tail seen.new list.new result }
 {
@@ -39,8 +39,8 @@ pub(crate) fn reach(parts: &[u8], list: &mut [u8]) -> u8
     requires { (wide_size ≤ length parts.now) × (length list.old ≡ byte_count) }
     ensures { Reaches parts.now list.new result }
 {
-    let mut seen = [0u8; PER_BYTE];
-    seen[0] = 1;
+    let mut seen = [false; PER_BYTE];
+    seen[0] = true;
     list[0] = 0;
     let mut head: u8 = 0;
     let mut tail: u8 = 1;

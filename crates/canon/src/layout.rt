@@ -1,5 +1,5 @@
 // The figures of blocks, objects and codes, each named once (docs/VALUES.md); specs/Figures has the same for the specifications.
-// Not here: what stands in the bytes (specs/Layout), the figures of parting's tables (parting).
+// Not here: what stands in the bytes (specs/Layout), the tables of parting (rows).
 
 // the bytes of an object
 pub const OBJECT: usize = 16;

@@ -1,5 +1,5 @@
 // Objects in bytes: which of them are equal, and their canonical order.
-// Offered: the figures of `layout`; of `bytes` `copy`, `count_up`, `four_at`, `eight_at` and `same_plain`; `colours::colour`, the colours of objects; of `number` `put`, a value in a block, and
+// Offered: the figures of `layout`; of `bytes` `copy`, `count_up`, `two_at`, `four_at`, `eight_at` and `same_plain`; `colours::colour`, the colours of objects; of `number` `put`, a value in a block, and
 // `level_of`.
 // Not here: values (values), a new object (maker).
 #![tactic(auto)]

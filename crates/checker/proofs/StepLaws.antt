@@ -1,4 +1,4 @@
--- specs/Machine at each return of the code that goes by the first byte of an expression. Not here: fields, calls and lists (WalkLaws), numbers (NumberLaws).
+-- specs/Machine at each return of the code that goes by the first byte of an expression. Not here: fields, calls and lists (WalkLaws).
 use Rattle.std.proofs.Common.{◌≡◌, refl, sym, ◌∙◌, Bool, true, false, List, ℕ, zero, suc, ◌+◌, ◌-◌, ◌<◌, ◌≤◌, arith, sub-one, None, get_or, eqb, ne_eqb, lt-ltb, le-ltb, ltb-true, ltb-false}
 use Rattle.std.specs.declared.option.Option.{Option}
 use Rattle.lineform.specs.Signs.{this_sign, res_sign, parameter_sign, field_sign, call_sign, new_sign, number_sign, sum_sign, difference_sign, choose_sign, sign_size, is_variable}

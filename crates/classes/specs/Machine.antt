@@ -49,10 +49,11 @@ field_in B (suc n) c f =
 abbrev pub field_of : List ℕ → ℕ → ℕ → Option FieldType
 field_of B c f = field_in B c c f
 
--- what a byte of the index says of class c
+-- a method that is found: its owner, its number
 abbrev pub found_at : ℕ → ℕ → Found
 found_at o i = record { owner = o; method = i }
 
+-- what a byte of the index says of class c
 abbrev pub numbered : ℕ → ℕ → Option Found
 numbered c x = pick (eqb x 0) None (Some (found_at c (x - 1)))
 

@@ -32,7 +32,7 @@ pub(crate) fn same_above(t: &[u8; SIZE], i: u8) -> bool
     same_types(t, i, f.method)
 }
 
-// Refused where a method doesn't.
+// Refused with 5 where a method has other types than that of its name above it.
 pub fn overrides(t: &[u8; SIZE]) -> Result<(), Refusal>
     ensures { Overrides t.now result }
 {

@@ -104,17 +104,16 @@ module _ (T W : List ℕ) (f : Frame) (S : Trace) (p : Spot) (place d : ℕ) (ep
 
 -- ---- the loop: if the innermost expression gave v, the one j fields in gives u
 pub record Down (T W1 : List ℕ) (f : Frame) (S1 : Trace) (place d at : ℕ) (v u : ValueRef) (j : ℕ) : Type 0 where
-  pub few : j ≤ d
   pub step : (p : Spot) → place ≡ p.at → Chain T p.at p.nesting d → (W : List ℕ) (S : Trace) → PartRunnable W f S p
       → EvalStep T W f S (down_spot p d) W1 S1 (value_at v at) → EvalStep T W f S (down_spot p j) W1 S1 (value_at u at)
 
 pub down_all : (T W1 : List ℕ) (f : Frame) (S1 : Trace) (place d at : ℕ) (v : ValueRef) → Down T W1 f S1 place d at v v d
-down_all T W1 f S1 place d at v = record { few = omega arith; step = λ p ep ch W S run x. x }
+down_all T W1 f S1 place d at v = record { step = λ p ep ch W S run x. x }
 
 module _ (T W1 : List ℕ) (f : Frame) (S1 : Trace) (place d at : ℕ) (v u : ValueRef) (j : ℕ) (dn : Down T W1 f S1 place d at v u j) where
   module _ (left : ℕ) (ch : Chain T place left d) where
-    pub down_index : 0 < j → place + 2 * (j - 1) + 1 < 25616
-    down_index more = let few = dn.few in let l = field_low T (place + 2 * (j - 1)) (ch.each (j - 1) (omega arith)) in omega arith
+    pub down_index : j ≤ d → 0 < j → place + 2 * (j - 1) + 1 < 25616
+    down_index few more = let l = field_low T (place + 2 * (j - 1)) (ch.each (j - 1) (omega arith)) in omega arith
 
   module _ (W : List ℕ) (S : Trace) (p : Spot) (run : PartRunnable W f S p) (ep : place ≡ p.at) (ch : Chain T place p.nesting d) (q : Spot) (eq : q ≡ down_spot p d) (o : Done) (ev : EvalStep T W f S q W1 S1 o)
       (eo : o ≡ value_at v at) where
@@ -138,9 +137,8 @@ module _ (T W1 : List ℕ) (f : Frame) (S1 : Trace) (place d at : ℕ) (v u : Va
       pub down_has : (r : ValueRef) → x ≡ Some r → FieldStep T W f S p k W1 S1 (value_at r at)
       down_has r e = field_has T W f S p k W1 S1 u at whole x se r e
 
-    pub down_stops : 0 < j → (k : ℕ) (x : RustOption ValueRef) → Chosen W1 u (get_or T (place + 2 * (j - 1) + 1) 0) x → x ≡ None → FieldStep T W f S p k W1 S1 (Err Stuck)
-    down_stops more k x se e =
-        let few = dn.few in
+    pub down_stops : j ≤ d → 0 < j → (k : ℕ) (x : RustOption ValueRef) → Chosen W1 u (get_or T (place + 2 * (j - 1) + 1) 0) x → x ≡ None → FieldStep T W f S p k W1 S1 (Err Stuck)
+    down_stops few more k x se e =
         let y = subst (λ (a : ℕ). Chosen W1 u (get_or T (a + 2 * (j - 1) + 1) 0) x) ep se in
         field_stops T W f S p k W1 S1 Stuck
         (stops_out T W f S p d run here Stuck (j - 1) (omega arith) W1 S1
@@ -148,11 +146,9 @@ module _ (T W1 : List ℕ) (f : Frame) (S1 : Trace) (place d at : ℕ) (v u : Va
         (subst (λ (i : ℕ). FieldStep T W f S (down_spot p i) (get_or T (p.at + 2 * (j - 1) + 1) 0) W1 S1 (Err Stuck)) (let r : j ≡ j - 1 + 1 = omega arith in r)
         (field_lacks T W f S (down_spot p j) (get_or T (p.at + 2 * (j - 1) + 1) 0) W1 S1 u at so_far x y e))))
 
-  pub down_again : 0 < j → (x : RustOption ValueRef) → Chosen W1 u (get_or T (place + 2 * (j - 1) + 1) 0) x → (r : ValueRef) → x ≡ Some r → Down T W1 f S1 place d at v r (j - 1)
-  down_again more x se r e =
-      let few = dn.few in
+  pub down_again : j ≤ d → 0 < j → (x : RustOption ValueRef) → Chosen W1 u (get_or T (place + 2 * (j - 1) + 1) 0) x → (r : ValueRef) → x ≡ Some r → Down T W1 f S1 place d at v r (j - 1)
+  down_again few more x se r e =
       record {
-        few = omega arith;
         step = λ p ep ch W S run ev.
             let y = subst (λ (a : ℕ). Chosen W1 u (get_or T (a + 2 * (j - 1) + 1) 0) x) ep se in
             out T W f S p d run ch (j - 1) (omega arith) W1 S1 (value_at r at)

@@ -129,9 +129,12 @@ module _ (W : List ℕ) (S : Trace) (c : OpenCall) (p : Spot) (run : BodyRunnabl
 
 -- ---- the right side
 module _ (T W : List ℕ) (S : Trace) (c : OpenCall) (i : ℕ) (p : Spot) (mark : ValueRef) (run : BodyRunnable W S c p) (given : MarkGiven mark)
-    (f : Frame) (owner : ℕ) (ef : f ≡ body_frame c.receiver (Some mark) c.args c.n owner) (q : Spot) (eq : q ≡ body_spot p (right_of T i) p.opened) where
+    (f : Frame) (owner : ℕ) (ef : f ≡ body_frame c.receiver (Some mark) c.args c.n owner) (at : ℕ) (ea : at ≡ right_of T i) (q : Spot) (es : q ≡ body_spot p at p.opened) where
+  right_place : q ≡ body_spot p (right_of T i) p.opened
+  right_place = es ∙ ap (λ (a : ℕ). body_spot p a p.opened) ea
+
   pub right_run : Runnable W f S q
-  right_run = subst (λ (y : Spot). Runnable W f S y) (sym eq) (subst (λ (g : Frame). Runnable W g S (body_spot p (right_of T i) p.opened)) (sym ef) (record {
+  right_run = subst (λ (y : Spot). Runnable W f S y) (sym right_place) (subst (λ (g : Frame). Runnable W g S (body_spot p (right_of T i) p.opened)) (sym ef) (record {
     based = body_based W S c p run;
     count = run.fits.few;
     fits = fits.right_fit W S p.opened c.receiver c.args c.n p.objects (p.calls - 1) p.block run.fits mark owner given;
@@ -141,7 +144,7 @@ module _ (T W : List ℕ) (S : Trace) (c : OpenCall) (i : ℕ) (p : Spot) (mark 
     right_side : EvalStep T W (body_frame c.receiver (Some (Mark (mark_in mark))) c.args c.n owner) S (body_spot p (right_of T i) p.opened) W1 S1 o
     right_side =
         subst (λ (g : Frame). EvalStep T W g S (body_spot p (right_of T i) p.opened) W1 S1 o) (ef ∙ ap (λ (r : ValueRef). body_frame c.receiver (Some r) c.args c.n owner) given.is)
-        (subst (λ (y : Spot). EvalStep T W f S y W1 S1 o) eq ran)
+        (subst (λ (y : Spot). EvalStep T W f S y W1 S1 o) right_place ran)
 
     pub right_stops : (s : Stop) → o ≡ Err s → RightStep T W S c i p mark W1 S1 o
     right_stops s e = record {
@@ -168,7 +171,10 @@ module _ (T W : List ℕ) (S : Trace) (c : OpenCall) (i : ℕ) (p : Spot) (mark 
 -- ---- the left side
 module _ (T W : List ℕ) (S : Trace) (c : OpenCall) (i : ℕ) (p : Spot) (run : BodyRunnable W S c p)
     (S1 : Trace) (put : CallPut S p.opened c S1)
-    (f : Frame) (owner : ℕ) (ef : f ≡ body_frame c.receiver None c.args c.n owner) (q : Spot) (eq : q ≡ body_spot p (left_of T i) (p.opened + 1)) where
+    (f : Frame) (owner : ℕ) (ef : f ≡ body_frame c.receiver None c.args c.n owner) (at : ℕ) (ea : at ≡ left_of T i) (q : Spot) (es : q ≡ body_spot p at (p.opened + 1)) where
+  left_place : q ≡ body_spot p (left_of T i) (p.opened + 1)
+  left_place = es ∙ ap (λ (a : ℕ). body_spot p a (p.opened + 1)) ea
+
   opens : CallPut S p.opened (side_call c.receiver c.name c.args c.n p.opened) S1
   opens = subst (λ (x : OpenCall). CallPut S p.opened x S1) (λ j. record { receiver = c.receiver; name = c.name; args = c.args; n = c.n; gives = run.mark j }) put
 
@@ -179,7 +185,7 @@ module _ (T W : List ℕ) (S : Trace) (c : OpenCall) (i : ℕ) (p : Spot) (run :
   open_fuel = opens.fuel
 
   pub left_run : Runnable W f S1 q
-  left_run = subst (λ (y : Spot). Runnable W f S1 y) (sym eq) (subst (λ (g : Frame). Runnable W g S1 (body_spot p (left_of T i) (p.opened + 1))) (sym ef) (record {
+  left_run = subst (λ (y : Spot). Runnable W f S1 y) (sym left_place) (subst (λ (g : Frame). Runnable W g S1 (body_spot p (left_of T i) (p.opened + 1))) (sym ef) (record {
     based = body_based W S c p run;
     count = run.fits.few;
     fits = fits.left_fit W S p.opened c.receiver c.args c.n p.objects (p.calls - 1) p.block run.fits c.name owner S1 opens;
@@ -187,7 +193,7 @@ module _ (T W : List ℕ) (S : Trace) (c : OpenCall) (i : ℕ) (p : Spot) (run :
 
   module _ (W1 : List ℕ) (S2 : Trace) (o : Done) (ran : EvalStep T W f S1 q W1 S2 o) where
     left_side : EvalStep T W (body_frame c.receiver None c.args c.n owner) S1 (body_spot p (left_of T i) (p.opened + 1)) W1 S2 o
-    left_side = subst (λ (g : Frame). EvalStep T W g S1 (body_spot p (left_of T i) (p.opened + 1)) W1 S2 o) ef (subst (λ (y : Spot). EvalStep T W f S1 y W1 S2 o) eq ran)
+    left_side = subst (λ (g : Frame). EvalStep T W g S1 (body_spot p (left_of T i) (p.opened + 1)) W1 S2 o) ef (subst (λ (y : Spot). EvalStep T W f S1 y W1 S2 o) left_place ran)
 
     left_evaluates : Evaluates T W (body_frame c.receiver None c.args c.n owner) S1 (p.opened + 1) (left_of T i) nesting_limit p.objects (p.calls - 1) (p.block + 4) S.fuel W1 (out_with S2.fuel o)
     left_evaluates = subst (λ (u : ℕ). Evaluates T W (body_frame c.receiver None c.args c.n owner) S1 (p.opened + 1) (left_of T i) nesting_limit p.objects (p.calls - 1) (p.block + 4) u W1 (out_with S2.fuel o)) open_fuel left_side.runs
@@ -216,11 +222,3 @@ module _ (T W : List ℕ) (S : Trace) (c : OpenCall) (i : ℕ) (p : Spot) (run :
         runs = left_value T W S p.opened c.receiver c.args c.n owner i p.at p.objects (p.calls - 1) p.block S.fuel c.name S1 opens (left_of T i) refl W1 (out_with S2.fuel o) left_evaluates got.value got.next S2.fuel W2 r
             (ap (out_with S2.fuel) eo) g;
       }
-
--- ---- where the sides stand (right_spot, left_spot)
-module _ (T : List ℕ) (i : ℕ) (p : Spot) (at : ℕ) (q : Spot) where
-  pub right_stands : (at ≡ right_of T i) × (at < 65536) → q ≡ body_spot p at p.opened → q ≡ body_spot p (right_of T i) p.opened
-  right_stands e eq = eq ∙ ap (λ (a : ℕ). body_spot p a p.opened) e.0
-
-  pub left_stands : (at ≡ left_of T i) × (at < 65536) → q ≡ body_spot p at (p.opened + 1) → q ≡ body_spot p (left_of T i) (p.opened + 1)
-  left_stands e eq = eq ∙ ap (λ (a : ℕ). body_spot p a (p.opened + 1)) e.0

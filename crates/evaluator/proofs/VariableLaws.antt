@@ -1,5 +1,5 @@
 -- Variables of a frame: one law for each return of `parameter`, and that they are the language's.
--- Not here: the frames that are begun with (RestLaws).
+-- Not here: the frames that are begun with (FitLaws, RunLaws).
 use Rattle.std.proofs.Common.{ℕ, zero, suc, ◌≤◌, ◌<◌, arith, ◌≡◌, refl, sym, ◌∙◌, Bool, true, false, List, [], ◌∷◌, map, ltb, length, take, length-take-le, ltb-true, ltb-false}
 use Rattle.std.proofs.Math.Option.{none, some}
 use Rattle.std.proofs.Math.ListN.{get_elem?, length-map}

@@ -42,7 +42,6 @@ past_after b Undetermined l = record { from = omega arith; to = omega arith; low
 
 -- ---- the walk has come to spot q and item i: whatever the rest gives from there on, the whole gives
 pub record Rest (T W : List ℕ) (f : Frame) (S : Trace) (p : Spot) (n : ℕ) (W1 : List ℕ) (S1 : Trace) (A1 : List ValueRef) (q : Spot) (i : ℕ) : Type 0 where
-  pub few : i ≤ n
   pub full : length A1 ≡ 4
   pub ready : ListRunnable W1 f S1 q (n - i)
   pub size : n ≤ 4
@@ -55,7 +54,6 @@ pub record Rest (T W : List ℕ) (f : Frame) (S : Trace) (p : Spot) (n : ℕ) (W
 
 pub rest_all : (T W : List ℕ) (f : Frame) (S : Trace) (p : Spot) (n : ℕ) (A : List ValueRef) → ListRunnable W f S p n → length A ≡ 4 → Rest T W f S p n W S A p 0
 rest_all T W f S p n A run full = record {
-  few = omega arith;
   full = full;
   ready = subst (ListRunnable W f S p) (let e : n ≡ n - 0 = omega arith in e) run;
   size = run.fits.few;
@@ -77,7 +75,7 @@ module _ (T W : List ℕ) (f : Frame) (S : Trace) (p : Spot) (n : ℕ) (W1 : Lis
   rest-length = re.same
 
   pub rest_done : n ≤ i → ListStep T W f S p n W1 S1 A1 (Ok q.at)
-  rest_done l = let g = re.few in re.whole W1 S1 A1 (Ok q.at) re.full (λ j h. refl) (traced_none q.opened S1)
+  rest_done l = re.whole W1 S1 A1 (Ok q.at) re.full (λ j h. refl) (traced_none q.opened S1)
       (list_zero T W1 f S1 q.opened q.at q.nesting q.objects q.calls q.block S1.fuel (n - i) (slot_at A1 i) (slot_at A1 (i + 1)) (slot_at A1 (i + 2)) (slot_at A1 (i + 3)) (omega arith))
 
   module _ (more : i < n) where
@@ -151,7 +149,6 @@ module _ (T W : List ℕ) (f : Frame) (S : Trace) (p : Spot) (n : ℕ) (W1 : Lis
 
           pub rest_later : (q2 : Spot) → q2 ≡ moved_spot q got.next b → Rest T W f S p n W2 S2 (set A1 i got.value) q2 (i + 1)
           rest_later q2 e2 = subst (λ (r : Spot). Rest T W f S p n W2 S2 (set A1 i got.value) r (i + 1)) (sym e2) (record {
-            few = omega arith;
             full = length-set A1 i got.value ∙ re.full;
             ready = ready;
             size = re.size;

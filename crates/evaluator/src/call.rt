@@ -1,10 +1,6 @@
 // Running a call: its receiver, its arguments, then a side of its method, while the calls that may be opened fall.
 // The receiver lies in the call's block or below, and the arguments in the three blocks after it; a side is run four blocks on, and its value is brought
 // down to the call's block. A left side is run with its call open.
-ghost use Rattle.std.specs.Prelude.{◌≡◌, ◌+◌, ◌<◌};
-ghost use Rattle.classes.specs.Machine.{left_of, right_of};
-ghost use Rattle.evaluator.specs.Figures.{call_limit};
-ghost use Rattle.evaluator.specs.Spots.{body_spot};
 ghost use Rattle.evaluator.specs.Steps.{PartRunnable, CallRunnable, BodyRunnable, MarkGiven, CallStep, InvokeStep, RightStep, LeftStep};
 
 use crate::eval::{eval, eval_list, stopped};
@@ -86,22 +82,6 @@ pub(crate) fn invoke(
     }
 }
 
-// Where the right side of method i is evaluated, in a call at p.
-pub(crate) fn right_spot(t: &[u8; SIZE], i: u8, p: Spot) -> Spot
-    requires { (0 < p.calls) × (p.block + 4 < 65536) }
-    ensures { result ≡ body_spot p (right_of t.now i) p.opened }
-{
-    body(p, right_place(t, i), p.opened)
-}
-
-// The same for the left side, under one open call more.
-pub(crate) fn left_spot(t: &[u8; SIZE], i: u8, p: Spot) -> Spot
-    requires { (0 < p.calls) × (p.block + 4 < 65536) × (p.opened < call_limit) }
-    ensures { result ≡ body_spot p (left_of t.now i) (p.opened + 1) }
-{
-    body(p, left_place(t, i), p.opened + 1)
-}
-
 // The right side of the method f, with res the mark of the open call.
 #[cycle(evaluation)]
 pub(crate) fn run_right(
@@ -117,7 +97,13 @@ pub(crate) fn run_right(
     ensures { RightStep t.now work.old trace.old c.now f.method p mark work.new trace.new result }
 {
     let frame = body_frame(c, Some(mark), f.owner);
-    let o = eval(t, work, trace, &frame, right_spot(t, f.method, p));
+    let o = eval(
+        t,
+        work,
+        trace,
+        &frame,
+        body(p, right_place(t, f.method), p.opened),
+    );
     let Ok(Evaluated { value: u, next: _ }) = o else {
         return o;
     };
@@ -143,7 +129,13 @@ pub(crate) fn run_left(
     let k = p.opened;
     push(trace, k, c);
     let frame = body_frame(c, None, f.owner);
-    let o = eval(t, work, trace, &frame, left_spot(t, f.method, p));
+    let o = eval(
+        t,
+        work,
+        trace,
+        &frame,
+        body(p, left_place(t, f.method), p.opened + 1),
+    );
     let Ok(Evaluated { value: u, next: _ }) = o else {
         return o;
     };

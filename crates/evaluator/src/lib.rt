@@ -15,14 +15,14 @@ pub mod call; // running a call
 pub mod run; // running main
 pub mod report; // running main and reporting it: what other crates ask for
 
-// Why a run ends without a value.
+// Why a run ends without a value: the cases, each with its number in a report.
 #[derive(Clone, Copy)]
 pub enum Stop {
-    Stuck,
-    NoFuel,
-    TooDeep,
-    TooLarge,
-    Overflow,
+    Stuck = 1,
+    NoFuel = 2,
+    TooDeep = 3,
+    TooLarge = 4,
+    Overflow = 5,
 }
 
 // What an expression gives: its value and the place after it.

@@ -86,7 +86,7 @@ pub(crate) fn other_call(o: &OpenCall, c: &OpenCall) -> bool
         || args_apart(&o.args, &c.args, c.n)
 }
 
-// What meeting the newest of the first k open calls gives that is the same call as this; absent if there is none.
+// What meeting the newest of the first k open calls gives that is the same call as this; `None` if there is none.
 pub(crate) fn open_call(work: &[u8], trace: &Trace, k: u8, c: &OpenCall) -> Option<ValueRef>
     requires { CallsHold work.now trace.now k × CallHolds work.now c.now × (c.now.n ≤ 3) }
     ensures { result ≡ met_of (open_mark (trace_in work.now trace.now k) (value_of work.now c.now.receiver) c.now.name (values_from work.now c.now.args 0 c.now.n)) }

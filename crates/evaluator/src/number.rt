@@ -17,17 +17,13 @@ use classes::places::SIZE;
 use classes::shape::{Operation, Shape};
 use classes::skip::skip_expr;
 use values::ValueRef;
-use values::refs::HIGH;
-
-// the largest number
-const LARGEST: u32 = 65535;
 
 // The number of two bytes, high first, as an answer.
 pub(crate) fn literal(k: u8, n: u8, next: usize) -> Result<Evaluated, Stop>
     requires { next < place_limit }
     ensures { (result ≡ number_at (two_bytes k n) next) × (two_bytes k n < number_count) }
 {
-    let v = ValueRef::Number(HIGH * (k as u16) + (n as u16));
+    let v = ValueRef::Number(u16::from_be_bytes([k, n]));
     Ok(Evaluated {
         value: v,
         next: next as u16,
@@ -57,11 +53,10 @@ pub(crate) fn operand(o: Result<Evaluated, Stop>) -> Result<Counted, Stop>
 fn sum(x: u16, y: u16, next: u16) -> Result<Evaluated, Stop>
     ensures { result ≡ reckoned Sum x y next }
 {
-    let z = (x as u32) + (y as u32);
-    if LARGEST < z {
+    let Some(z) = x.checked_add(y) else {
         return Err(Stop::Overflow);
-    }
-    let v = ValueRef::Number(z as u16);
+    };
+    let v = ValueRef::Number(z);
     Ok(Evaluated { value: v, next })
 }
 
@@ -70,11 +65,7 @@ fn sum(x: u16, y: u16, next: u16) -> Result<Evaluated, Stop>
 fn difference(x: u16, y: u16, next: u16) -> Result<Evaluated, Stop>
     ensures { result ≡ reckoned Difference x y next }
 {
-    if x < y {
-        let v = ValueRef::Number(0);
-        return Ok(Evaluated { value: v, next });
-    }
-    let v = ValueRef::Number(x - y);
+    let v = ValueRef::Number(x.saturating_sub(y));
     Ok(Evaluated { value: v, next })
 }
 

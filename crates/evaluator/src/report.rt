@@ -24,13 +24,7 @@ pub struct Reported {
 fn stop_number(s: Stop) -> u8
     ensures { result ≡ stop_number s }
 {
-    match s {
-        Stop::Stuck => 1,
-        Stop::NoFuel => 2,
-        Stop::TooDeep => 3,
-        Stop::TooLarge => 4,
-        Stop::Overflow => 5,
-    }
+    s as u8
 }
 
 // The report of a run that stopped, at the front of `out`.

@@ -4,6 +4,7 @@ ghost use Rattle.std.specs.Prelude.{◌≡◌, ◌<◌};
 ghost use Rattle.evaluator.specs.Figures.{call_limit};
 ghost use Rattle.evaluator.specs.State.{side_call, CallPut};
 
+use crate::spot::DEPTH;
 use values::ValueRef;
 
 // An open call: its receiver, its name, its first n arguments, and what meeting it again gives.
@@ -17,7 +18,7 @@ pub struct OpenCall {
 }
 
 // how many calls may be open
-pub const CALLS: usize = 16;
+pub const CALLS: usize = DEPTH as usize;
 
 // The open calls and the fuel left. How many are open is told by where an evaluation stands (spot); what stands in the places after them is not read.
 #[derive(Drop)]

@@ -151,16 +151,17 @@ rights_of (main_frame i e ∷ fs) = rights_of fs
 pub record Rights (R : List ℕ) (fs : List TextFrame) : Type 0 where
   pub at : (j : ℕ) → j < length (rights_of fs) → j < method_count → get_or R j 0 ≡ get_or (rights_of fs) j 0
 
--- the answer of `frames_good`, and what it notes
+-- whether all lines have frames
 abbrev pub framing_of : Option (List TextFrame) → Result (Unit {0}) Refusal
 framing_of none = Err BadFrame
 framing_of (some fs) = Ok tt
 
+-- the answer of `frames_good`, and what it notes
 pub record Framing (d : List ℕ) (g : Result (Unit {0}) Refusal) (R : List ℕ) : Type 0 where
   pub answer : g ≡ framing_of (frames (unpack d))
   pub rights : (fs : List TextFrame) → g ≡ Ok tt → frames (unpack d) ≡ some fs → Rights R fs
 
--- the counts of classes and methods
+-- so many classes and methods
 abbrev pub counted : ℕ → ℕ → Counts
 counted c m = record { classes = c; methods = m }
 

@@ -1,5 +1,5 @@
 // The line form: a text's characters, its lines as bytes, and their frames (refusals 1, 2 and 3); and a line written again.
-// Offered: of `lines` `decode`, `frames_good` and `order`, with `Counts`; `frames::Kind`; `write::put_line`; the table of `sign`s.
+// Offered: of `lines` `decode`, `frames_good` and `order`, with `Counts`; `frames::Kind`; of `write` `put_line` and `put_byte`; the table of `sign`s.
 // Not here: the rules of a class table, which compare frames with each other (refusals 4 and 5).
 #![tactic(auto)]
 

@@ -1,12 +1,8 @@
 -- A new object after the objects ns, which are distinct: its parts are among them. If none of them is the new object, they are distinct with it.
-use Prim.Native.Nat.{ℕ, zero, suc, ◌+◌, ◌<◌}
-use native.Mathlib.Omega.{arith}
+use Rattle.std.proofs.Common.{ℕ, zero, suc, ◌+◌, ◌<◌, arith, ◌≡◌, refl, sym, ap, ap₂, ◌∙◌, subst, List, [], ◌∷◌, ◌++◌, length, length-append, get_or-append-add}
 use native.Mathlib.Decide.{dec_lt}
-use mathlib.Core.Path.{◌≡◌, refl, sym, ap, ap₂, ◌∙◌, subst}
-use mathlib.Core.List.{List, [], ◌∷◌, ◌++◌}
-use mathlib.Core.Option.{Option, none, some, none-ne-some}
-use lib.ListN.{length, get_elem?, length-map, length-append, get_or-append, get_or-eq_default}
-use lib.Seq.{get_or-append-add}
+use Rattle.std.proofs.Math.Option.{Option, none, some, none-ne-some}
+use Rattle.std.proofs.Math.ListN.{get_elem?, length-map, get_or-append, get_or-eq_default}
 use Rattle.cofj.specs.Partial.{◌>>=◌}
 use Rattle.cofj.specs.Values.{Ref, obj, leaf, Node, node, Graph, graph, rename_node, node_at, refs_at, canon, make}
 use Rattle.cofj.specs.Unfolding.{object, child, follow, Same, InRange, AllWhole}

@@ -1,11 +1,8 @@
 -- The new objects of a part written to the host: the laws of `put_object`, `put_new` and `extend`.
 -- Not here: their numbers (Numberings), what the host then stands for (Joins).
-use Prim.Native.Nat.{ℕ, ◌+◌, ◌-◌, ◌*◌, ◌%◌, ◌<◌, ◌≤◌}
-use native.Mathlib.Omega.{arith}
+use Rattle.std.proofs.Common.{ℕ, ◌+◌, ◌-◌, ◌*◌, ◌%◌, ◌<◌, ◌≤◌, arith, ◌≡◌, refl, sym, ap, ◌∙◌, subst, Bool, true, false, List, length, get_or}
 use native.Mathlib.Decide.{dec_lt, ℕ_discrete}
-use mathlib.Core.Path.{◌≡◌, refl, sym, ap, ◌∙◌, subst}
-use mathlib.Core.List.{List}
-use lib.ListN.{length, get_or}
+use Rattle.std.proofs.Math.Bool.{false≢true}
 use Rattle.canon.specs.Figures.{object_size, head_size, code_count, numbers_at, first_leaf, first_mark, capacity, count_at, level_at, block_size, three_bytes}
 use Rattle.canon.specs.Layout.{Packed, count_in, level_in, objects_in, Inside, Outside, ended}
 use Rattle.canon.specs.Tables.{Eight, Carried, turned, copied, Lifted}
@@ -66,10 +63,10 @@ module _ (W : List ℕ) (src x host y : ℕ) (T : List ℕ) (ib : Inside W src x
           rw z (rw u at (put.here k h) ∙ byte k h (dec_lt k 1) (dec_lt k 2) (dec_lt k numbers_at))
 
 -- ---- all new objects
-pub laid_none : (W : List ℕ) (src host : ℕ) (T F : List ℕ) → Laid W src host T F 0 W
+pub laid_none : (W : List ℕ) (src host : ℕ) (T : List ℕ) (F : List Bool) → Laid W src host T F 0 W
 laid_none W src host T F = record { same = refl; here = λ x k h. absurd (omega arith); below = λ p h. refl; above = λ p h. refl }
 
-module _ (W : List ℕ) (src host : ℕ) (T F : List ℕ) (pl : Placing W src host T F) where
+module _ (W : List ℕ) (src host : ℕ) (T : List ℕ) (F : List Bool) (pl : Placing W src host T F) where
   module _ (x : ℕ) (D : List ℕ) (ld : Laid W src host T F x D) where
     laid_outside : Outside host W D
     laid_outside = record { same = ld.same; below = λ p l. ld.below p (omega arith); above = λ p l. ld.above p (omega arith) }
@@ -91,11 +88,11 @@ module _ (W : List ℕ) (src host : ℕ) (T F : List ℕ) (pl : Placing W src ho
       pub laid_room : block_size * host + block_size ≤ length D
       laid_room = omega (arith, ld.same, pl.target.room)
 
-      laid_same : get_or F x 0 ≡ 0 → Laid W src host T F (x + 1) D
+      laid_same : get_or F x false ≡ false → Laid W src host T F (x + 1) D
       laid_same z = record { same = ld.same; here = λ y k l n. ld.here y k (less y l n (ℕ_discrete y x)) n; below = ld.below; above = ld.above }
         where
           less : (y : ℕ) → y < x + 1 → New F y → Dec (y ≡ x) → y < x
-          less y l n (yes e) = absurd (n (ap (λ (i : ℕ). get_or F i 0) e ∙ z))
+          less y l n (yes e) = absurd (false≢true (sym (ap (λ (i : ℕ). get_or F i false) e ∙ z) ∙ n))
           less y l n (no d) = omega (arith, d)
 
       module _ (new : New F x) where
@@ -131,10 +128,10 @@ module _ (W : List ℕ) (src host : ℕ) (T F : List ℕ) (pl : Placing W src ho
   laid_few n few = omega (arith, pl.source.small)
 
   module _ (x : ℕ) (D : List ℕ) (ld : Laid W src host T F x D) (top : ℕ) (few : top ≤ count_in W src) (under : x < top) (D' : List ℕ) where
-    pub laid_kept : get_or F x 0 ≡ 0 → D' ≡ D → Laid W src host T F (x + 1) D'
+    pub laid_kept : get_or F x false ≡ false → D' ≡ D → Laid W src host T F (x + 1) D'
     laid_kept z e = rw e (laid_same x D ld top few under z)
 
-    pub laid_more : ((get_or F x 0 ≡ 0) → ⊥) → (D2 : List ℕ) → Lifted D (block_size * src + object_size * x) object_size (numbers_of T) D (block_size * host + object_size * (get_or T x 0 - 1)) D2 → D' ≡ D2 → Laid W src host T F (x + 1) D'
+    pub laid_more : get_or F x false ≡ true → (D2 : List ℕ) → Lifted D (block_size * src + object_size * x) object_size (numbers_of T) D (block_size * host + object_size * (get_or T x 0 - 1)) D2 → D' ≡ D2 → Laid W src host T F (x + 1) D'
     laid_more new D2 f e = rw e (laid_new x D ld top few under new D2 f)
 
   -- counted

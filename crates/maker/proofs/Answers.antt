@@ -1,7 +1,6 @@
 -- Answers that may be none: what holds of the number that is answered, for the numbers that an answer may have. Asked for where an answer is given (Enters, Imports,
 -- Imported, Brings, Numberings).
-use Prim.Native.Nat.{ℕ}
-use mathlib.Core.Path.{◌≡◌, sym, subst}
+use Rattle.std.proofs.Common.{ℕ, ◌≡◌, sym, subst}
 use Rattle.std.specs.declared.option.Option.TheVariants.{Some, None}
 use Rattle.std.proofs.lemmas.Option.{none-some, same_Some}
 

@@ -1,15 +1,10 @@
 -- A new object beside the objects of one block, or alone: the laws of `empty`, `append`, `add`, `make_beside`, `make_alone` and `make_fieldless`.
 -- Not here: how it is looked for (Finds), parts in several blocks (Tries, Hosts).
-use Prim.Native.Nat.{ℕ, zero, suc, ◌+◌, ◌*◌, ◌<◌, ◌≤◌}
-use native.Mathlib.Omega.{arith}
+use Rattle.std.proofs.Common.{ℕ, zero, suc, ◌+◌, ◌*◌, ◌<◌, ◌≤◌, arith, ◌≡◌, refl, sym, ap, ap₂, ◌∙◌, subst, true, false, List, [], ◌∷◌, ◌++◌, map, length, get_or, set, take, length-set, get_or-set_same, get_or-set_other, eqb-true}
 use native.Mathlib.Decide.{dec_lt}
-use mathlib.Core.Path.{◌≡◌, refl, sym, ap, ap₂, ◌∙◌, subst}
-use mathlib.Core.Bool.{true, false, false≢true}
-use mathlib.Core.List.{List, [], ◌∷◌, ◌++◌, map}
-use mathlib.Core.Option.{some, none-ne-some}
-use lib.ListN.{length, get_or, set, take, get_elem?, length-set}
-use lib.Seq.{get_or-set_same, get_or-set_other}
-use borrow.Author.Tests.{eqb-true}
+use Rattle.std.proofs.Math.Bool.{false≢true}
+use Rattle.std.proofs.Math.Option.{some, none-ne-some}
+use Rattle.std.proofs.Math.ListN.{get_elem?}
 use Rattle.cofj.specs.Values.{Ref, obj, leaf, mark, undet, num, Node, node, Graph, graph, node_at, refs_at, canon, make}
 use Rattle.cofj.specs.Unfolding.{InRange, follow}
 use Rattle.canon.specs.Figures.{object_size, head_size, code_count, first_leaf, first_mark, capacity, count_at, level_at, block_size}

@@ -1,14 +1,8 @@
 -- Parts brought into the host: values in a block that has grown, and one law for each return of `bring_parts`.
 -- Not here: one part (Imported), the new object over the parts (Tries).
-use Prim.Native.Nat.{ℕ, zero, suc, ◌+◌, ◌-◌, ◌*◌, ◌%◌, ◌<◌, ◌≤◌}
-use native.Mathlib.Omega.{arith}
+use Rattle.std.proofs.Common.{ℕ, zero, suc, ◌+◌, ◌-◌, ◌*◌, ◌%◌, ◌<◌, ◌≤◌, arith, ◌≡◌, refl, sym, ap, ap₂, ◌∙◌, subst, cond, leb, List, [], ◌∷◌, map, length, get_or, take}
 use native.Mathlib.Decide.{ℕ_discrete}
-use mathlib.Core.Path.{◌≡◌, refl, sym, ap, ap₂, ◌∙◌, subst}
-use mathlib.Core.Bool.{cond}
-use lib.Dec.{leb}
-use mathlib.Core.List.{List, [], ◌∷◌, map}
-use mathlib.Core.Option.{none, some}
-use lib.ListN.{length, get_or, take}
+use Rattle.std.proofs.Math.Option.{none, some}
 use Rattle.cofj.specs.Values.{obj, Node, Graph, make}
 use Rattle.cofj.specs.Unfolding.{follow, Same, InRange}
 use Rattle.cofj.proofs.Unique.{same_canon}

@@ -1,10 +1,7 @@
 -- Laws of an object as numbers: its four codes as one number, the numbers beside them as one, and the sixteen bytes that class, count, codes and numbers make.
 -- Not here: bytes read, compared and written (Bytes), what the codes stand for (Finds, Imported).
-use Prim.Native.Nat.{ℕ, zero, suc, ◌+◌, ◌-◌, ◌*◌, ◌/◌, ◌%◌, ◌<◌, ◌≤◌}
-use native.Mathlib.Omega.{arith}
+use Rattle.std.proofs.Common.{ℕ, zero, suc, ◌+◌, ◌-◌, ◌*◌, ◌/◌, ◌%◌, ◌<◌, ◌≤◌, arith, ◌≡◌, refl, ap, ap₂, ◌∙◌, subst, length, get_or}
 use native.Mathlib.Decide.{dec_lt}
-use mathlib.Core.Path.{◌≡◌, refl, ap, ap₂, ◌∙◌, subst}
-use lib.ListN.{length, get_or}
 use Rattle.canon.specs.Figures.{object_size, code_count, numbers_at, undetermined_code, number_code, first_mark, three_bytes, four_bytes}
 use Rattle.canon.specs.Layout.{number_at, ref_of, ref_in, Packed, part}
 use Rattle.maker.specs.Figures.{unused_codes, three_pairs}

@@ -1,13 +1,10 @@
 -- A value with 33 different objects in it has more than 32 objects, however it is laid out: so a making that gives up for want of places does so rightly.
 -- Here: objects that stand in a value (In), why a crowd is too large, and two ways to a crowd: objects of a host with new ones of a part, and a full host with a new root.
 -- Who asks: the proofs of joining and of adding, where they give up. Not here: which objects of a block stand in the value that is made.
-use Prim.Native.Nat.{ℕ, zero, suc, ◌≤◌, ◌<◌, suc-le-suc}
-use native.Mathlib.Omega.{arith}
+use Rattle.std.proofs.Common.{ℕ, zero, suc, ◌≤◌, ◌<◌, suc-le-suc, arith, ◌≡◌, refl, sym, ap, ◌∙◌, List, [], ◌∷◌, ◌++◌, append_assoc, length, get_or}
 use native.Mathlib.Decide.{dec_lt, ℕ_discrete}
-use mathlib.Core.Path.{◌≡◌, refl, sym, ap, ◌∙◌}
-use mathlib.Core.List.{List, [], ◌∷◌, ◌++◌, append_assoc}
-use mathlib.Core.Option.{Option, none, some, none-ne-some}
-use lib.ListN.{length, get_or, get_elem?}
+use Rattle.std.proofs.Math.Option.{Option, none, some, none-ne-some}
+use Rattle.std.proofs.Math.ListN.{get_elem?}
 use Rattle.cofj.specs.Partial.{◌>>=◌}
 use Rattle.cofj.specs.Values.{Ref, obj, leaf, Node, Graph, graph, node_at, refs_at, make}
 use Rattle.cofj.specs.Unfolding.{object, at_leaf, child, follow, Same, SameTree, InRange, Whole, AllWhole}

@@ -1,16 +1,11 @@
 -- An object entered into a block: found there or added, and what that leaves as it was; the laws of `enter`, `enter_new`, `enter_over`, `lies_from` and `refers_from`.
 -- Not here: the bytes of one more object (Beside), parts of other blocks (Brings).
-use Prim.Native.Nat.{ℕ, ◌+◌, ◌*◌, ◌/◌, ◌%◌, ◌<◌, ◌≤◌}
-use native.Mathlib.Omega.{arith}
+use Rattle.std.proofs.Common.{ℕ, ◌+◌, ◌*◌, ◌/◌, ◌%◌, ◌<◌, ◌≤◌, arith, ◌≡◌, refl, sym, ap, ◌∙◌, subst, Bool, true, false, cond, ltb, List, length, get_or, lt-ltb, le-ltb, ltb-true}
 use native.Mathlib.Decide.{dec_lt}
-use mathlib.Core.Path.{◌≡◌, refl, sym, ap, ◌∙◌, subst}
-use mathlib.Core.Bool.{Bool, true, false, cond, false≢true}
-use lib.Dec.{ltb}
-use mathlib.Core.List.{List}
+use Rattle.std.proofs.Math.Bool.{false≢true}
 use mathlib.Core.Logic.{◌⊎◌, inl, inr}
-use mathlib.Core.Option.{some}
-use lib.ListN.{length, get_or, get_elem?}
-use borrow.Author.Tests.{lt-ltb, le-ltb, ltb-true}
+use Rattle.std.proofs.Math.Option.{some}
+use Rattle.std.proofs.Math.ListN.{get_elem?}
 use Rattle.cofj.specs.Values.{Ref, Node, node_at, refs_at}
 use Rattle.cofj.specs.Unfolding.{follow, Same, InRange}
 use Rattle.canon.specs.Figures.{object_size, head_size, code_count, first_leaf, capacity, count_at, level_at, reach_at, block_size, three_bytes}

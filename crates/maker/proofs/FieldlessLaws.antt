@@ -1,14 +1,9 @@
 -- Laws of block 0 with one object without fields of each class.
-use Prim.Native.Nat.{ℕ, zero, suc, ◌+◌, ◌*◌, ◌/◌, ◌%◌, ◌≤◌, ◌<◌}
-use native.Mathlib.Omega.{arith}
+use Rattle.std.proofs.Common.{ℕ, zero, suc, ◌+◌, ◌*◌, ◌/◌, ◌%◌, ◌≤◌, ◌<◌, arith, ◌≡◌, refl, sym, ap, ◌∙◌, subst, Bool, true, false, cond, List, [], eqb, eqb-true, length, get_or}
 use native.Mathlib.Decide.{dec_lt, ℕ_discrete}
-use mathlib.Core.Path.{◌≡◌, refl, sym, ap, ◌∙◌, subst}
-use mathlib.Core.Bool.{Bool, true, false, cond, false≢true}
-use mathlib.Core.List.{List, []}
-use mathlib.Core.Option.{none-ne-some}
-use lib.Dec.{eqb}
-use borrow.Author.Tests.{eqb-true}
-use lib.ListN.{length, get_or, get_elem?, get_or-eq_default}
+use Rattle.std.proofs.Math.Bool.{false≢true}
+use Rattle.std.proofs.Math.Option.{none-ne-some}
+use Rattle.std.proofs.Math.ListN.{get_elem?, get_or-eq_default}
 use Rattle.cofj.specs.Values.{Ref, Node, node, node_at, refs_at, canon, make}
 use Rattle.cofj.proofs.Trees.{same_cls}
 use Rattle.canon.specs.Figures.{object_size, head_size, code_count, undetermined_code, objects_size, count_at, level_at, reach_at, block_size}

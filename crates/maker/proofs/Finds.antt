@@ -1,13 +1,9 @@
 -- The new object as one among objects: its codes and numbers, and where it is found; the laws of `code_of`, `root_codes`, `number_of`, `root_numbers` and `find`.
 -- Not here: where the parts lie (Wheres), the object added (Beside).
-use Prim.Native.Nat.{ℕ, zero, suc, ◌+◌, ◌-◌, ◌*◌, ◌%◌, ◌<◌, ◌≤◌}
-use native.Mathlib.Omega.{arith}
+use Rattle.std.proofs.Common.{ℕ, zero, suc, ◌+◌, ◌-◌, ◌*◌, ◌%◌, ◌<◌, ◌≤◌, arith, ◌≡◌, refl, sym, ap, ap₂, ◌∙◌, subst, Bool, true, false, List, [], map, length, get_or, take, length-take, get_or-take, ext_get_or, length-take-le}
 use native.Mathlib.Decide.{dec_lt, ℕ_discrete}
-use mathlib.Core.Path.{◌≡◌, refl, sym, ap, ap₂, ◌∙◌, subst}
-use mathlib.Core.Bool.{Bool, true, false, false≢true}
-use mathlib.Core.List.{List, [], map}
-use lib.ListN.{length, get_or, take, length-map, length-take}
-use lib.Seq.{get_or-take, ext_get_or, length-take-le}
+use Rattle.std.proofs.Math.Bool.{false≢true}
+use Rattle.std.proofs.Math.ListN.{length-map}
 use Rattle.cofj.specs.Values.{leaf, undet, Node, node, Graph, graph, eq_node, eq_nats}
 use Rattle.cofj.proofs.Basics.{get_d_map_lt, eq_node_true, eq_node_refl}
 use Rattle.canon.specs.Figures.{object_size, code_count, undetermined_code, number_code, first_mark, block_size, three_bytes}

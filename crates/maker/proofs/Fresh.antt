@@ -1,14 +1,11 @@
 -- Objects of one list that are not among those of another, the host: whoever leads to such an object is one, and many of them can be added to the host at once,
 -- rings too, their fields turned. Who asks: merging a part into a host block. The law of one new object (Adding, distinct-more) has no source list.
 -- Not here: how it is found out that an object is not among them.
-use Prim.Native.Nat.{ℕ, ◌≤◌, ◌<◌}
-use native.Mathlib.Omega.{arith}
+use Rattle.std.proofs.Common.{ℕ, ◌≤◌, ◌<◌, arith, ◌≡◌, refl, sym, ap, ap₂, ◌∙◌, subst, List, [], ◌∷◌, length, get_or}
 use native.Mathlib.Decide.{dec_lt}
-use mathlib.Core.Path.{◌≡◌, refl, sym, ap, ap₂, ◌∙◌, subst}
-use mathlib.Core.List.{List, [], ◌∷◌}
 use mathlib.Core.Logic.{◌⊎◌, inl, inr, ⊎_elim}
-use mathlib.Core.Option.{Option, none, some, none-ne-some}
-use lib.ListN.{length, get_or, get_elem?, length-map, get_or-eq_default}
+use Rattle.std.proofs.Math.Option.{Option, none, some, none-ne-some}
+use Rattle.std.proofs.Math.ListN.{get_elem?, length-map, get_or-eq_default}
 use Rattle.cofj.specs.Partial.{◌>>=◌}
 use Rattle.cofj.specs.Values.{Ref, obj, leaf, undet, Node, node, rename, rename_node, node_at, refs_at}
 use Rattle.cofj.specs.Unfolding.{object, at_leaf, child, follow, Same, InRange}

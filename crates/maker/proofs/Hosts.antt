@@ -1,14 +1,9 @@
 -- Which block is the host, and what making asks once a block is written: the laws of `some_in`, `larger`, `largest`, and of each way to make.
 -- Not here: what trying a host answers (Tries).
-use Prim.Native.Nat.{ℕ, zero, suc, ◌+◌, ◌-◌, ◌*◌, ◌<◌, ◌≤◌}
-use native.Mathlib.Omega.{arith}
-use mathlib.Core.Path.{◌≡◌, refl, sym, ap, ap₂, ◌∙◌, subst}
-use mathlib.Core.Bool.{Bool, true, false, cond, false≢true}
-use lib.Dec.{eqb, ltb}
-use mathlib.Core.List.{List, []}
-use mathlib.Core.Option.{none-ne-some}
-use lib.ListN.{length, get_or}
-use borrow.Author.Tests.{lt-ltb, le-ltb, eq-eqb, ne_eqb, eqb-true, lt-leb}
+use Rattle.std.proofs.Common.{ℕ, zero, suc, ◌+◌, ◌-◌, ◌*◌, ◌<◌, ◌≤◌, arith, ◌≡◌, refl, sym, ap, ap₂, ◌∙◌, subst, Bool, true, false, cond, eqb, ltb, List, [], length, get_or, lt-ltb, le-ltb, eq-eqb, ne_eqb, eqb-true}
+use Rattle.std.proofs.Math.Bool.{false≢true}
+use Rattle.std.proofs.Math.Option.{none-ne-some}
+use borrow.Author.Tests.{lt-leb}
 use Rattle.cofj.specs.Values.{Node, make}
 use Rattle.cofj.specs.Unfolding.{follow, Whole}
 use Rattle.cofj.proofs.Operations.{make-whole}

@@ -1,12 +1,8 @@
 -- A part in the host: one law for each return of `import_fieldless`, `import_object` and `import_part`.
 -- Not here: an object entered (Enters), all parts of a new object (Brings).
-use Prim.Native.Nat.{ℕ, ◌+◌, ◌-◌, ◌*◌, ◌/◌, ◌<◌, ◌≤◌}
-use native.Mathlib.Omega.{arith}
+use Rattle.std.proofs.Common.{ℕ, ◌+◌, ◌-◌, ◌*◌, ◌/◌, ◌<◌, ◌≤◌, arith, ◌≡◌, refl, sym, ap, ◌∙◌, subst, List, [], get_or}
 use native.Mathlib.Decide.{dec_lt, ℕ_discrete}
-use mathlib.Core.Path.{◌≡◌, refl, sym, ap, ◌∙◌, subst}
-use mathlib.Core.List.{List, []}
 use mathlib.Core.Logic.{⊎_elim}
-use lib.ListN.{get_or}
 use Rattle.cofj.specs.Values.{Leaf, mark, undet, num, Ref, obj, leaf, Node, Graph}
 use Rattle.cofj.specs.Unfolding.{follow, Same, InRange}
 use Rattle.canon.specs.Figures.{object_size, head_size, code_count, numbers_at, blank_at, first_leaf, undetermined_code, number_code, first_mark, mark_count, block_size}

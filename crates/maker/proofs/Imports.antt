@@ -1,12 +1,9 @@
 -- Laws of an object of another block brought into the host, with what it leads to: found at once under its own number, or sorted out and joined.
 -- Not here: what is known of single objects (Sorts), the bytes that are added (Joins).
-use Prim.Native.Nat.{ℕ, ◌+◌, ◌-◌, ◌*◌, ◌≤◌, ◌<◌}
-use native.Mathlib.Omega.{arith}
-use mathlib.Core.Path.{◌≡◌, refl, sym, ◌∙◌, subst}
-use mathlib.Core.Bool.{Bool, true, false, false≢true}
-use mathlib.Core.List.{List}
+use Rattle.std.proofs.Common.{ℕ, ◌+◌, ◌-◌, ◌*◌, ◌≤◌, ◌<◌, arith, ◌≡◌, refl, sym, ◌∙◌, subst, Bool, true, false, List, get_or, replicate}
+use Rattle.std.proofs.Math.Bool.{false≢true}
 use mathlib.Core.Logic.{⊎_elim}
-use lib.ListN.{get_or, replicate, length-replicate}
+use Rattle.std.proofs.Math.ListN.{length-replicate}
 use Rattle.cofj.specs.Values.{Graph, obj}
 use Rattle.canon.specs.Figures.{code_count, first_leaf, capacity, count_at, block_size}
 use Rattle.canon.specs.Layout.{count_in, objects_in, graph_at, Block, Inside}
@@ -21,6 +18,7 @@ use Rattle.maker.specs.Joining.{Joining, Joined}
 use Rattle.canon.proofs.Zeros.{zero_at}
 use Rattle.maker.proofs.Crowds.{in_same, in_within, crowd_joined}
 use Rattle.maker.proofs.Enters.{grown_none}
+use Rattle.maker.proofs.Reaches.{unseen_at}
 
 -- ---- the same number
 module _ (W : List ℕ) (src i host : ℕ) (T : List ℕ) where
@@ -40,14 +38,17 @@ mapped_none W src host k e = record { table = length-replicate k 0 ∙ e; each =
 
 -- ---- sorted out and joined
 module _ (W : List ℕ) (src i host : ℕ) (ib : Inside W src i) (bk : Block W host) (apart : (src ≡ host) → ⊥) (L : List ℕ) (m : ℕ) (rc : Reached W src i L m) where
-  pub bring_sorting : (T : List ℕ) → Mapped W src host T → (k : ℕ) → k ≡ capacity → Sorting W src host L m T (replicate k 0)
+  pub bring_sorting : (T : List ℕ) → Mapped W src host T → (k : ℕ) → k ≡ capacity → Sorting W src host L m T (replicate k false)
   bring_sorting T mp k e = record {
     ground = record { source = ib.block; target = bk; few = rc.few; long = rc.long; low = rc.low };
-    sorted = record { mapped = mp; table = length-replicate k 0 ∙ e; low = λ x d. absurd (d (zero_at k x)); fresh = λ x d. absurd (d (zero_at k x)) };
-    listed = λ x d. absurd (d (zero_at k x));
+    sorted = record { mapped = mp; table = length-replicate k false ∙ e; low = λ x d. absurd (none x d); fresh = λ x d. absurd (none x d) };
+    listed = λ x d. absurd (none x d);
   }
+    where
+      none : (x : ℕ) → get_or (replicate k false) x false ≡ true → ⊥
+      none x d = false≢true (sym (unseen_at k x) ∙ d)
 
-  module _ (T F : List ℕ) (s : SortedFrom W src host L m 0 T F) where
+  module _ (T : List ℕ) (F : List Bool) (s : SortedFrom W src host L m 0 T F) where
     pub bring_joining : Joining W src host T F
     bring_joining = record {
       source = ib.block;
@@ -67,7 +68,7 @@ module _ (W : List ℕ) (src i host : ℕ) (ib : Inside W src i) (bk : Block W h
 
     module _ (W' T' : List ℕ) (r : Bool) (j : Joined W src host T F W' T' r) where
       -- what is listed stands in any value in which object i stands
-      led : (g : Graph) → In (objects_in W src) i g → (x : ℕ) → ((get_or F x 0 ≡ 0) → ⊥) → In (objects_in W src) x g
+      led : (g : Graph) → In (objects_in W src) i g → (x : ℕ) → get_or F x false ≡ true → In (objects_in W src) x g
       led g at x d =
           let p = s.sorting.listed x d in
           in_within g (objects_in W src) (objects_in W src) i x at (subst (λ (y : ℕ). In (objects_in W src) y (graph_at W src i)) p.2 (rc.led p.0 p.1))

@@ -1,16 +1,11 @@
 -- The host with the new objects of a part: one law for each return of `join`.
 -- Not here: the bytes (Additions).
-use Prim.Native.Nat.{ℕ, ◌+◌, ◌-◌, ◌*◌, ◌%◌, ◌<◌, ◌≤◌}
-use native.Mathlib.Omega.{arith}
-use native.Mathlib.Decide.{dec_lt, ℕ_discrete}
-use mathlib.Core.Path.{◌≡◌, refl, sym, ap, ◌∙◌, subst}
-use mathlib.Core.Bool.{true, false, cond, false≢true}
-use mathlib.Core.List.{List, []}
+use Rattle.std.proofs.Common.{ℕ, ◌+◌, ◌-◌, ◌*◌, ◌%◌, ◌<◌, ◌≤◌, arith, ◌≡◌, refl, sym, ap, ◌∙◌, subst, Bool, true, false, cond, List, [], eqb, length, get_or, ne_eqb}
+use native.Mathlib.Decide.{dec_lt}
+use Rattle.std.proofs.Math.Bool.{false≢true}
 use mathlib.Core.Logic.{◌⊎◌, inl, inr, ⊎_elim}
-use mathlib.Core.Option.{some}
-use lib.Dec.{eqb}
-use lib.ListN.{length, get_or, get_elem?}
-use borrow.Author.Tests.{ne_eqb}
+use Rattle.std.proofs.Math.Option.{some}
+use Rattle.std.proofs.Math.ListN.{get_elem?}
 use Rattle.cofj.specs.Values.{Ref, obj, leaf, undet, Node, graph, rename, rename_node, node_at, refs_at}
 use Rattle.cofj.specs.Unfolding.{object, at_leaf, follow, Same, InRange, Whole}
 use Rattle.cofj.proofs.Basics.{get_d_map_lt}
@@ -46,7 +41,7 @@ code_small ps ns z r q = go (dec_lt r first_leaf)
     go (yes h) = h
     go (no h) = absurd (none (ref_of r 0) (leaf_low 0 r 0 (omega (arith, h))) q)
 
-module _ (W : List ℕ) (src host : ℕ) (T F : List ℕ) (jn : Joining W src host T F) (n : ℕ) (na : NewAmong (get_or W (block_size * src + count_at) 0) F n) where
+module _ (W : List ℕ) (src host : ℕ) (T : List ℕ) (F : List Bool) (jn : Joining W src host T F) (n : ℕ) (na : NewAmong (get_or W (block_size * src + count_at) 0) F n) where
   all_fitted : (T' : List ℕ) (a : Option ℕ) → Fitted n (get_or W (block_size * host + count_at) 0) T F T' a → Fitted (count_in W src) (count_in W host) T F T' a
   unfolding count_in
   all_fitted T' a = fitted_all (get_or W (block_size * src + count_at) 0) F n na (get_or W (block_size * host + count_at) 0) T T' a
@@ -89,25 +84,25 @@ module _ (W : List ℕ) (src host : ℕ) (T F : List ℕ) (jn : Joining W src ho
 
     -- whatever was told or is new is told
     told_some : (z : ℕ) → Decided T F z → (get_or T' z 0 ≡ 0) → ⊥
-    told_some z d e = go (ℕ_discrete (get_or F z 0) 0)
+    told_some z d e = go (get_or F z false) refl
       where
-        go : Dec (get_or F z 0 ≡ 0) → ⊥
-        go (yes q) = ⊎_elim (λ n. n (sym (ct.kept z q) ∙ e)) (λ n. n q) d
-        go (no n) = absurd (omega (arith, ct.numbered.low z (low z n) n))
+        go : (b : Bool) → get_or F z false ≡ b → ⊥
+        go false q = ⊎_elim (λ n. n (sym (ct.kept z q) ∙ e)) (λ n. false≢true (sym q ∙ n)) d
+        go true n = absurd (omega (arith, ct.numbered.low z (low z n) n))
 
     -- none is new
     none_new : m ≡ count_in W host → Joined W src host T F W T' true
     none_new e = record {
       grown = grown_none host W jn.target;
-      mapped = λ _. record { table = table; each = λ x y q. jn.sorted.mapped.each x y (sym (ct.kept x (old x (ℕ_discrete (get_or F x 0) 0))) ∙ q) };
+      mapped = λ _. record { table = table; each = λ x y q. jn.sorted.mapped.each x y (sym (ct.kept x (old x (get_or F x false) refl)) ∙ q) };
       told = λ _. told_some;
       from = λ _ y h. inl h;
       over = λ z. absurd (false≢true (sym z));
     }
       where
-        old : (x : ℕ) → Dec (get_or F x 0 ≡ 0) → get_or F x 0 ≡ 0
-        old x (yes z) = z
-        old x (no n) = absurd (omega (arith, ct.numbered.low x (low x n) n, ct.numbered.high x (low x n) n))
+        old : (x : ℕ) (b : Bool) → get_or F x false ≡ b → get_or F x false ≡ false
+        old x false z = z
+        old x true n = absurd (omega (arith, ct.numbered.low x (low x n) n, ct.numbered.high x (low x n) n))
 
     pub join_none : m ≡ get_or W (block_size * host + count_at) 0 → Joined W src host T F W T' true
     unfolding count_in
@@ -173,7 +168,7 @@ module _ (W : List ℕ) (src host : ℕ) (T F : List ℕ) (jn : Joining W src ho
         pub low : to z < count_in W host
         pub same : Same ps (obj z) ns (obj (to z))
 
-      old_here : (z : ℕ) → z < count_in W src → get_or F z 0 ≡ 0 → Decided T F z → Here z
+      old_here : (z : ℕ) → z < count_in W src → get_or F z false ≡ false → Decided T F z → Here z
       old_here z h e d =
           let some : (get_or T' z 0 ≡ 0) → ⊥ = told_some z d in
           let c : CodeAs W src z host (to z) = jn.sorted.mapped.each z (to z) (omega (arith, some, ct.kept z e)) in
@@ -182,11 +177,11 @@ module _ (W : List ℕ) (src host : ℕ) (T F : List ℕ) (jn : Joining W src ho
           record { low = subst (InRange (count_in W host)) r (c.low 0); same = subst (λ (q : Ref). Same ps (obj z) ns q) r s }
 
       to_low : (z : ℕ) → z < count_in W src → Decided T F z → to z < m
-      to_low z h d = go (ℕ_discrete (get_or F z 0) 0)
+      to_low z h d = go (get_or F z false) refl
         where
-          go : Dec (get_or F z 0 ≡ 0) → to z < m
-          go (yes e) = omega (arith, (old_here z h e d).low, ct.most)
-          go (no n) = omega (arith, ct.numbered.low z h n, ct.numbered.high z h n)
+          go : (b : Bool) → get_or F z false ≡ b → to z < m
+          go false e = omega (arith, (old_here z h e d).low, ct.most)
+          go true n = omega (arith, ct.numbered.low z h n, ct.numbered.high z h n)
 
       -- the table renames
       abbrev Turns : Ref → Type 0
@@ -213,11 +208,11 @@ module _ (W : List ℕ) (src host : ℕ) (T F : List ℕ) (jn : Joining W src ho
       inner = jn.target.whole.inner
 
       fields : (x f z : ℕ) → New F x → get_elem? (refs_at ps x) f ≡ some (obj z) → New F z ⊎ Told ps ns ms inner most old to (New F) small is z
-      fields x f z n e = go (field_decided x f z n e) (ℕ_discrete (get_or F z 0) 0)
+      fields x f z n e = go (field_decided x f z n e) (get_or F z false) refl
         where
-          go : (z < count_in W src) × Decided T F z → Dec (get_or F z 0 ≡ 0) → New F z ⊎ Told ps ns ms inner most old to (New F) small is z
-          go d (yes q) = let h = old_here z d.0 q d.1 in inr (record { low = omega (arith, size_old, h.low); same = h.same })
-          go d (no q) = inl q
+          go : (z < count_in W src) × Decided T F z → (b : Bool) → get_or F z false ≡ b → New F z ⊎ Told ps ns ms inner most old to (New F) small is z
+          go d false q = let h = old_here z d.0 q d.1 in inr (record { low = omega (arith, size_old, h.low); same = h.same })
+          go d true q = inl q
 
       source : (i : ℕ) → length ns ≤ i → i < length ms → Source ps ns ms inner most old to (New F) small is i
       source i h l =
@@ -284,7 +279,7 @@ module _ (W : List ℕ) (src host : ℕ) (T F : List ℕ) (jn : Joining W src ho
       pub join_more : Joined W src host T F W' T' true
       join_more = record {
         grown = grown;
-        mapped = λ _. record { table = table; each = λ x y e. go x y e (ℕ_discrete (get_or F x 0) 0) };
+        mapped = λ _. record { table = table; each = λ x y e. go x y e (get_or F x false) refl };
         told = λ _. told_some;
         from = λ _ y h. from y h (dec_lt y (count_in W host));
         over = λ z. absurd (false≢true (sym z));
@@ -296,6 +291,6 @@ module _ (W : List ℕ) (src host : ℕ) (T F : List ℕ) (jn : Joining W src ho
               let s = source y (omega (arith, l, size_old)) (omega (arith, size_new, ex.count)) in
               inr (s.from, s.new, λ p. new_trees ps ns ms inner most old to (New F) small is fields p s.from (inl s.new) ∙ ap (λ (k : ℕ). follow ms (obj k) p) s.at)
 
-          go : (x y : ℕ) → get_or T' x 0 ≡ y + 1 → Dec (get_or F x 0 ≡ 0) → CodeAs W' src x host y
-          go x y e (yes z) = code_grown host W W' grown src jn.apart jn.source x y (jn.sorted.mapped.each x y (sym (ct.kept x z) ∙ e))
-          go x y e (no n) = new_code x y e n
+          go : (x y : ℕ) → get_or T' x 0 ≡ y + 1 → (b : Bool) → get_or F x false ≡ b → CodeAs W' src x host y
+          go x y e false z = code_grown host W W' grown src jn.apart jn.source x y (jn.sorted.mapped.each x y (sym (ct.kept x z) ∙ e))
+          go x y e true n = new_code x y e n

@@ -1,14 +1,9 @@
 -- The limit on objects: one law for each return of `fits` and of `make`, and that an object without fields is within every limit.
 -- Not here: how an object is made (Beside, Tries, Hosts).
-use Prim.Native.Nat.{ℕ, zero, suc, ◌+◌, ◌*◌, ◌≤◌, ◌<◌}
-use native.Mathlib.Omega.{arith}
-use mathlib.Core.Path.{◌≡◌, refl, sym, ap, ◌∙◌, subst}
-use mathlib.Core.Bool.{Bool, true, false, cond}
-use mathlib.Core.List.{List, [], ◌∷◌}
-use mathlib.Core.Option.{some, none, none-ne-some}
-use lib.Dec.{leb}
-use lib.ListN.{length, get_or, get_elem?}
-use borrow.Author.Tests.{le-leb, lt-leb, leb-false, ne_eqb, eqb-false}
+use Rattle.std.proofs.Common.{ℕ, zero, suc, ◌+◌, ◌*◌, ◌≤◌, ◌<◌, arith, ◌≡◌, refl, sym, ap, ◌∙◌, subst, Bool, true, false, cond, List, [], ◌∷◌, leb, length, get_or, le-leb, leb-false, ne_eqb}
+use Rattle.std.proofs.Math.Option.{some, none, none-ne-some}
+use Rattle.std.proofs.Math.ListN.{get_elem?}
+use borrow.Author.Tests.{lt-leb, eqb-false}
 use Rattle.cofj.specs.Values.{Ref, obj, node, Graph, graph, refs_at, make, lay, canon}
 use Rattle.cofj.specs.Unfolding.{follow, Whole, InRange}
 use Rattle.cofj.proofs.Canon.{canon_same, canon-whole, canon-length}

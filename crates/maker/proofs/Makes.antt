@@ -1,12 +1,7 @@
 -- Laws of the parts of a new object, of their values, and of what making answers. Not here: the objects that are looked for and added (Merges).
-use Prim.Native.Nat.{ℕ, zero, suc, ◌<◌, ◌≤◌}
-use native.Mathlib.Omega.{arith}
-use mathlib.Core.Path.{◌≡◌, refl, sym, ap, ◌∙◌, subst}
-use mathlib.Core.List.{List, [], ◌∷◌, map}
-use mathlib.Core.Option.{some, none-ne-some}
-use lib.ListN.{length, get_or, take, length-map}
-use lib.Seq.{length-take-le}
-use borrow.Author.Tests.{le-leb}
+use Rattle.std.proofs.Common.{ℕ, zero, suc, ◌<◌, ◌≤◌, arith, ◌≡◌, refl, sym, ap, ◌∙◌, subst, List, [], ◌∷◌, map, length, get_or, take, length-take-le, le-leb}
+use Rattle.std.proofs.Math.Option.{some, none-ne-some}
+use Rattle.std.proofs.Math.ListN.{length-map}
 use Rattle.cofj.specs.Values.{Graph, make, canon}
 use Rattle.cofj.specs.Unfolding.{SameTree, Whole, AllWhole}
 use Rattle.cofj.proofs.Canon.{canon_same, canon-whole, canon-length}

@@ -1,15 +1,8 @@
 -- The new objects of a part numbered: the laws of `up_to_new` and `number_new`, and codes turned by the numbers.
 -- Not here: the objects written (Additions), the host then (Joins).
-use Prim.Native.Nat.{ℕ, ◌+◌, ◌-◌, ◌<◌, ◌≤◌}
-use native.Mathlib.Omega.{arith}
+use Rattle.std.proofs.Common.{ℕ, ◌+◌, ◌-◌, ◌<◌, ◌≤◌, arith, ◌≡◌, refl, sym, ap, ◌∙◌, Bool, true, false, cond, List, eqb, length, get_or, set, length-set, get_or-set_same, get_or-set_other, lt-ltb, le-ltb}
 use native.Mathlib.Decide.{dec_lt, dec_le, ℕ_discrete}
-use mathlib.Core.Path.{◌≡◌, refl, sym, ap, ◌∙◌}
-use mathlib.Core.Bool.{cond}
-use mathlib.Core.List.{List}
-use lib.Dec.{eqb}
-use lib.ListN.{length, get_or, set, length-set}
-use lib.Seq.{get_or-set_same, get_or-set_other}
-use borrow.Author.Tests.{lt-ltb, le-ltb}
+use Rattle.std.proofs.Math.Bool.{false≢true}
 use Rattle.cofj.proofs.Basics.{get_d_map_lt}
 use Rattle.canon.specs.Figures.{first_leaf, capacity}
 use Rattle.canon.specs.Tables.{turned}
@@ -33,15 +26,15 @@ module _ (T : List ℕ) (c : ℕ) where
       go (no l) = rw (le-ltb c first_leaf (omega (arith, l)))
 
 -- ---- the last new one
-pub among_all : (n : ℕ) (F : List ℕ) → NewAmong n F n
+pub among_all : (n : ℕ) (F : List Bool) → NewAmong n F n
 among_all n F = record { few = omega arith; low = λ x h w. h }
 
-module _ (n : ℕ) (F : List ℕ) (k : ℕ) (na : NewAmong n F k) where
-  pub among_less : 0 < k → get_or F (k - 1) 0 ≡ 0 → NewAmong n F (k - 1)
+module _ (n : ℕ) (F : List Bool) (k : ℕ) (na : NewAmong n F k) where
+  pub among_less : 0 < k → get_or F (k - 1) false ≡ false → NewAmong n F (k - 1)
   among_less h z = record { few = omega (arith, na.few); low = λ x l w. less x w (na.low x l w) (ℕ_discrete x (k - 1)) }
     where
       less : (x : ℕ) → New F x → x < k → Dec (x ≡ k - 1) → x < k - 1
-      less x w l (yes e) = absurd (w (ap (λ (i : ℕ). get_or F i 0) e ∙ z))
+      less x w l (yes e) = absurd (false≢true (sym (ap (λ (i : ℕ). get_or F i false) e ∙ z) ∙ w))
       less x w l (no d) = omega (arith, d)
 
   pub among_none : k ≤ 0 → NewAmong n F 0
@@ -65,7 +58,7 @@ module _ (n : ℕ) (F : List ℕ) (k : ℕ) (na : NewAmong n F k) where
       }
 
 -- ---- the numbers
-pub counted_none : (t : ℕ) (T F : List ℕ) → Counted 0 t T F T t
+pub counted_none : (t : ℕ) (T : List ℕ) (F : List Bool) → Counted 0 t T F T t
 counted_none t T F = record {
   same = refl;
   most = omega arith;
@@ -75,7 +68,7 @@ counted_none t T F = record {
 }
 
 -- more numbers than there is room for: the objects that have those up to 32
-module _ (n t : ℕ) (T₀ F T : List ℕ) (m : ℕ) (ct : Counted n t T₀ F T m) where
+module _ (n t : ℕ) (T₀ : List ℕ) (F : List Bool) (T : List ℕ) (m : ℕ) (ct : Counted n t T₀ F T m) where
   number_of : (k : ℕ) → Dec (t < k + 1) → Dec (k + 1 ≤ m) → ℕ
   number_of k (yes a) (yes b) = (ct.from (k + 1) a b).source
   number_of k (yes a) (no b) = 0
@@ -102,8 +95,8 @@ module _ (n t : ℕ) (T₀ F T : List ℕ) (m : ℕ) (ct : Counted n t T₀ F T 
       is : (k : ℕ) → t ≤ k → k < too_many → Has k (number_of k (dec_lt t (k + 1)) (dec_le (k + 1) m))
       is k a b = number_is k (dec_lt t (k + 1)) (dec_le (k + 1) m) (omega arith) (omega arith)
 
-module _ (x t : ℕ) (T₀ F T : List ℕ) (m : ℕ) (ct : Counted x t T₀ F T m) where
-  counted_same : get_or F x 0 ≡ 0 → Counted (x + 1) t T₀ F T m
+module _ (x t : ℕ) (T₀ : List ℕ) (F : List Bool) (T : List ℕ) (m : ℕ) (ct : Counted x t T₀ F T m) where
+  counted_same : get_or F x false ≡ false → Counted (x + 1) t T₀ F T m
   counted_same z = record {
     same = ct.same;
     most = ct.most;
@@ -117,14 +110,14 @@ module _ (x t : ℕ) (T₀ F T : List ℕ) (m : ℕ) (ct : Counted x t T₀ F T 
   }
     where
       less : (y : ℕ) → y < x + 1 → New F y → Dec (y ≡ x) → y < x
-      less y h n (yes e) = absurd (n (ap (λ (i : ℕ). get_or F i 0) e ∙ z))
+      less y h n (yes e) = absurd (false≢true (sym (ap (λ (i : ℕ). get_or F i false) e ∙ z) ∙ n))
       less y h n (no d) = omega (arith, d)
 
   counted_new : New F x → x < length T → Counted (x + 1) t T₀ F (set T x (m + 1)) (m + 1)
   counted_new new room = record {
     same = length-set T x (m + 1) ∙ ct.same;
     most = omega (arith, ct.most);
-    kept = λ y e. other y (λ z. new (ap (λ (i : ℕ). get_or F i 0) (sym z) ∙ e)) ∙ ct.kept y e;
+    kept = λ y e. other y (λ z. false≢true (sym (ap (λ (i : ℕ). get_or F i false) (sym z) ∙ e) ∙ new)) ∙ ct.kept y e;
     numbered = record {
       low = λ y h n. (between y h n (ℕ_discrete y x)).0;
       high = λ y h n. (between y h n (ℕ_discrete y x)).1;
@@ -157,16 +150,16 @@ module _ (x t : ℕ) (T₀ F T : List ℕ) (m : ℕ) (ct : Counted x t T₀ F T 
           record { source = g.source; below = omega (arith, g.below); new = g.new; at = other g.source (λ z. omega (arith, g.below)) ∙ g.at }
 
   -- what the loop has
-  pub number_same : (T' : List ℕ) (m' : ℕ) → get_or F x 0 ≡ 0 → T' ≡ T → m' ≡ m → Counted (x + 1) t T₀ F T' m'
+  pub number_same : (T' : List ℕ) (m' : ℕ) → get_or F x false ≡ false → T' ≡ T → m' ≡ m → Counted (x + 1) t T₀ F T' m'
   number_same T' m' z eT em = rw (eT, em) (counted_same z)
 
-  pub number_more : (T' : List ℕ) (m' n : ℕ) → ((get_or F x 0 ≡ 0) → ⊥) → x < n → n ≤ length T₀ → T' ≡ set T x (m + 1) → m' ≡ m + 1 → Counted (x + 1) t T₀ F T' m'
+  pub number_more : (T' : List ℕ) (m' n : ℕ) → get_or F x false ≡ true → x < n → n ≤ length T₀ → T' ≡ set T x (m + 1) → m' ≡ m + 1 → Counted (x + 1) t T₀ F T' m'
   number_more T' m' n new h l eT em = rw (eT, em) (counted_new new (omega (arith, ct.same)))
 
   pub number_end : (n : ℕ) → x ≤ n → n ≤ x → (t ≤ capacity → m ≤ capacity) → Fitted n t T₀ F T (Some m)
   number_end n h k few = let e : x ≡ n = omega arith in record { counted = only (Counted n t T₀ F T) m (rw e at ct); few = only (λ (r : ℕ). t ≤ capacity → r ≤ capacity) m few; over = never_none m }
 
-  pub number_full : (n : ℕ) → ((get_or F x 0 ≡ 0) → ⊥) → x < n → n ≤ length T₀ → capacity ≤ m → Fitted n t T₀ F T None
+  pub number_full : (n : ℕ) → get_or F x false ≡ true → x < n → n ≤ length T₀ → capacity ≤ m → Fitted n t T₀ F T None
   number_full n new h l full = record {
     counted = never_some _;
     few = never_some _;

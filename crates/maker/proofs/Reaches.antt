@@ -1,22 +1,22 @@
--- Laws of what an object of a block leads to, listed. The room in the list is by counting what is not seen yet.
+-- Laws of what an object of a block leads to, listed. The room in the list is by counting what is not listed yet.
 -- Not here: which of the listed objects are new to another block (Seeks).
-use Prim.Native.Nat.{ℕ, zero, suc, ◌+◌, ◌*◌, ◌<◌, ◌≤◌}
-use native.Mathlib.Omega.{arith}
+use Rattle.std.proofs.Common.{ℕ, zero, suc, ◌+◌, ◌*◌, ◌<◌, ◌≤◌, arith, ◌≡◌, refl, sym, ap, ◌∙◌, subst, Bool, true, false, cond, List, [], ◌∷◌, ◌++◌, append_assoc, map, length, get_or, set, replicate, length-set, get_or-set_same, get_or-set_other}
 use native.Mathlib.Decide.{dec_lt, ℕ_discrete}
-use mathlib.Core.Path.{◌≡◌, refl, sym, ap, ap₂, ◌∙◌, subst}
-use mathlib.Core.Bool.{Bool, true, false, cond, false≢true}
-use mathlib.Core.List.{List, [], ◌∷◌, ◌++◌, append_assoc}
-use mathlib.Core.Option.{Option, some}
-use lib.ListN.{length, get_or, get_elem?, set, replicate, length-set, length-replicate}
-use lib.Seq.{get_or-set_same, get_or-set_other}
+use Rattle.std.proofs.Math.Bool.{false≢true}
+use Rattle.std.proofs.Math.Option.{Option, some}
+use Rattle.std.proofs.Math.ListN.{get_elem?, length-replicate}
+use Rattle.std.proofs.Math.ListN.{get_or-map}
+use Rattle.std.proofs.lemmas.List.{map-set, length-map}
 use Rattle.cofj.specs.Partial.{◌>>=◌}
 use Rattle.cofj.specs.Values.{Ref, obj, Node, Graph, graph, refs_at}
 use Rattle.cofj.specs.Unfolding.{follow}
 use Rattle.canon.specs.Figures.{object_size, head_size, code_count, first_leaf, capacity, block_size}
 use Rattle.canon.specs.Layout.{count_in, objects_in, graph_at, Inside}
+use Rattle.canon.specs.Tables.{zero_count}
 use Rattle.canon.proofs.Nodes.{code_low}
+use Rattle.canon.proofs.Zeros.{zeros-put, zeros-few}
 use Rattle.maker.specs.Sorting.{code_at, Listed, Reached}
-use Rattle.maker.specs.Reaching.{unseen, Noted, Met, FieldOf, FieldsMet, ReachedTo}
+use Rattle.maker.specs.Reaching.{Noted, Met, FieldOf, FieldsMet, ReachedTo}
 use Rattle.maker.specs.Crowds.{In}
 use Rattle.maker.proofs.Turns.{field_ref}
 
@@ -33,39 +33,18 @@ led_step ns g y f z a e = record {
       ∙ ap (follow g.nodes g.root) (sym (append_assoc a.path (f ∷ []) q));
 }
 
--- ---- what is not seen
-unseen_at : (k x : ℕ) → get_or (replicate k false) x false ≡ false
+-- ---- nothing is seen at first, and one more then
+pub unseen_at : (k x : ℕ) → get_or (replicate k false) x false ≡ false
 unseen_at zero x = refl
 unseen_at (suc k) zero = refl
 unseen_at (suc k) (suc x) = unseen_at k x
 
-unseen-few : (k : ℕ) (S : List Bool) → unseen k S ≤ k
-unfolding unseen
-unseen-few zero S = omega arith
-unseen-few (suc k) S = go (get_or S k false) (unseen-few k S)
-  where
-    go : (b : Bool) → unseen k S ≤ k → cond b 0 1 + unseen k S ≤ suc k
-    go true h = omega arith
-    go false h = omega arith
-
--- one more seen: not among the first k, and among them
-unseen_other : (k x : ℕ) (S : List Bool) → k ≤ x → unseen k (set S x true) ≡ unseen k S
-unfolding unseen
-unseen_other zero x S h = refl
-unseen_other (suc k) x S h = ap₂ {A = Bool} {B = ℕ} {C = ℕ} (λ p q. cond p 0 1 + q) (get_or-set_other S x k true false (λ z. omega arith)) (unseen_other k x S (omega arith))
-
-unseen-put : (k x : ℕ) (S : List Bool) → x < k → x < length S → get_or S x false ≡ false → suc (unseen k (set S x true)) ≡ unseen k S
-unfolding unseen
-unseen-put zero x S h l e = absurd (omega arith)
-unseen-put (suc k) x S h l e = go (ℕ_discrete k x) (λ h'. unseen-put k x S h' l e)
-  where
-    go : Dec (k ≡ x) → (x < k → suc (unseen k (set S x true)) ≡ unseen k S)
-        → suc (cond (get_or (set S x true) k false) 0 1 + unseen k (set S x true)) ≡ cond (get_or S k false) 0 1 + unseen k S
-    go (yes z) f =
-        let n : get_or (set S x true) k false ≡ true = ap (λ (i : ℕ). get_or (set S x true) i false) z ∙ get_or-set_same S x true false l in
-        let o : get_or S k false ≡ false = ap (λ (i : ℕ). get_or S i false) z ∙ e in
-        rw (o, n, unseen_other k x S (omega arith)) (omega arith)
-    go (no z) f = rw (get_or-set_other S x k true false z) (omega (arith, f (omega (arith, z))))
+zeros-mark : (k x : ℕ) (S : List Bool) → x < k → x < length S → get_or S x false ≡ false
+    → suc (zero_count k (map (λ b. cond b 1 0) (set S x true))) ≡ zero_count k (map (λ b. cond b 1 0) S)
+zeros-mark k x S h l e =
+    rw (map-set {A = Bool} {B = ℕ} (λ b. cond b 1 0) S x true)
+    (zeros-put k x 1 (map (λ b. cond b 1 0) S) h (omega (arith, l, length-map {A = Bool} {B = ℕ} S (λ b. cond b 1 0)))
+    (get_or-map {A = Bool} {B = ℕ} (λ b. cond b 1 0) S x false ∙ ap (λ (b : Bool). cond {A = ℕ} b 1 0) e) (omega arith))
 
 -- what is listed stays so while the list grows
 listed_kept : (L L' : List ℕ) (t r x : ℕ) → t ≤ r → ((q : ℕ) → q < t → get_or L' q 0 ≡ get_or L q 0) → Listed L t x → Listed L' r x
@@ -88,7 +67,7 @@ module _ (S : List Bool) (L : List ℕ) (t c : ℕ) (nd : Noted S L t) where
 
     module _ (e : get_or S c false ≡ false) where
       pub met_few : t < capacity
-      met_few = omega (arith, nd.free, unseen-put capacity c S (lc h) met_entry e)
+      met_few = omega (arith, nd.free, zeros-mark capacity c S (lc h) met_entry e)
 
       pub met_room : t < length L
       met_room = omega (arith, met_few, nd.list)
@@ -101,7 +80,7 @@ module _ (S : List Bool) (L : List ℕ) (t c : ℕ) (nd : Noted S L t) where
         noted = record {
           seen = length-set S c true ∙ nd.seen;
           list = length-set L t c ∙ nd.list;
-          free = omega (arith, nd.free, unseen-put capacity c S (lc h) met_entry e);
+          free = omega (arith, nd.free, zeros-mark capacity c S (lc h) met_entry e);
           listed = λ x d. listed x d (ℕ_discrete x c);
         };
         more = omega arith;
@@ -190,7 +169,7 @@ module _ (W : List ℕ) (src i : ℕ) where
         small = omega (arith, ib.low, ib.block.small)
 
         nothing : Noted (replicate k false) L 0
-        nothing = record { seen = length-replicate k false ∙ ek; list = ll; free = omega (arith, unseen-few capacity (replicate k false)); listed = λ x d. absurd (false≢true (sym (unseen_at k x) ∙ d)) }
+        nothing = record { seen = length-replicate k false ∙ ek; list = ll; free = omega (arith, zeros-few capacity (map (λ b. cond b 1 0) (replicate k false))); listed = λ x d. absurd (false≢true (sym (unseen_at k x) ∙ d)) }
 
         m : Met L 0 i (set (replicate k false) i true) (set L 0 i) 1
         m = met_new (replicate k false) L 0 i nothing (λ _. small) (omega (arith, small)) (unseen_at k i)

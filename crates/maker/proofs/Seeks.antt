@@ -1,13 +1,9 @@
 -- Laws of an object of a part looked for among the objects of the host. Not here: two objects gone over in step (crate values, Steps), what a part's objects are (Reaches).
-use Prim.Native.Nat.{ℕ, ◌+◌, ◌-◌, ◌*◌, ◌<◌, ◌≤◌}
-use native.Mathlib.Omega.{arith}
+use Rattle.std.proofs.Common.{ℕ, ◌+◌, ◌-◌, ◌*◌, ◌<◌, ◌≤◌, arith, ◌≡◌, refl, sym, ap, ◌∙◌, subst, Bool, true, false, not, true≢false, List, length, get_or, set, replicate, length-set, get_or-set_same, get_or-set_other, ext_get_or}
 use native.Mathlib.Decide.{dec_lt, ℕ_discrete}
-use mathlib.Core.Path.{◌≡◌, refl, sym, ap, ◌∙◌, subst}
-use mathlib.Core.Bool.{Bool, true, false, not, false≢true, true≢false}
-use mathlib.Core.List.{List}
+use Rattle.std.proofs.Math.Bool.{false≢true}
 use mathlib.Core.Logic.{inl, inr}
-use lib.ListN.{length, get_or, set, replicate, length-set, length-replicate, get_or-eq_default}
-use lib.Seq.{get_or-set_same, get_or-set_other, ext_get_or}
+use Rattle.std.proofs.Math.ListN.{length-replicate, get_or-eq_default}
 use Rattle.cofj.specs.Values.{Ref, obj}
 use Rattle.cofj.specs.Unfolding.{follow, Same, InRange}
 use Rattle.canon.specs.Figures.{object_size, first_leaf, capacity, count_at, block_size}
@@ -177,7 +173,7 @@ module _ (W : List ℕ) (src x host : ℕ) (T₀ : List ℕ) where
     pub seek_differs : (T' : List ℕ) (r : Bool) → Telling W src x host y T T' r → r ≡ false → (A : List ℕ) → A ≡ T' → SoughtTo W src x host T₀ A (y + 1)
     seek_differs T' r o z A e = more (o.differ z) A (e ∙ o.no z)
 
-    module _ (F : List ℕ) (so : Sorted W src host T₀ F) where
+    module _ (F : List Bool) (so : Sorted W src host T₀ F) where
       pub seek_mapped : Mapped W src host T
       seek_mapped = subst (Mapped W src host) (sym sf.same) so.mapped
 
@@ -204,30 +200,30 @@ module _ (W : List ℕ) (src x host : ℕ) (T₀ : List ℕ) where
         seek_room = omega (arith, ib.low, ib.block.small, so.table)
 
         -- none of the host's is the same: it is marked
-        pub seek_new : get_or W (block_size * host + count_at) 0 ≤ y → Sought W src x host T₀ F T (set F x 1)
+        pub seek_new : get_or W (block_size * host + count_at) 0 ≤ y → Sought W src x host T₀ F T (set F x true)
         seek_new h = record {
           sorted = record {
             mapped = seek_mapped;
-            table = length-set F x 1 ∙ so.table;
+            table = length-set F x true ∙ so.table;
             low = λ k d. low k d (ℕ_discrete k x);
             fresh = λ k d. fresh k d (ℕ_discrete k x);
           };
-          further = record { told = λ k d q. d (sym (as_before k) ∙ q); fresh = λ k d q. marked k d q (ℕ_discrete k x) };
-          here = inr (λ q. omega (arith, put));
-          only = λ k d n q. d (get_or-set_other F x k 1 0 n ∙ q);
+          further = record { told = λ k d q. d (sym (as_before k) ∙ q); fresh = λ k d. marked k d (ℕ_discrete k x) };
+          here = inr put;
+          only = λ k d n. sym (get_or-set_other F x k true false n) ∙ d;
         }
           where
-            put : get_or (set F x 1) x 0 ≡ 1
-            put = get_or-set_same F x 1 0 seek_room
+            put : get_or (set F x true) x false ≡ true
+            put = get_or-set_same F x true false seek_room
 
-            low : (k : ℕ) → ((get_or (set F x 1) k 0 ≡ 0) → ⊥) → Dec (k ≡ x) → k < count_in W src
+            low : (k : ℕ) → get_or (set F x true) k false ≡ true → Dec (k ≡ x) → k < count_in W src
             low k d (yes z) = rw z ib.low
-            low k d (no z) = so.low k (λ q. d (get_or-set_other F x k 1 0 z ∙ q))
+            low k d (no z) = so.low k (sym (get_or-set_other F x k true false z) ∙ d)
 
-            fresh : (k : ℕ) → ((get_or (set F x 1) k 0 ≡ 0) → ⊥) → Dec (k ≡ x) → Fresh (objects_in W src) (objects_in W host) (count_in W host) k
+            fresh : (k : ℕ) → get_or (set F x true) k false ≡ true → Dec (k ≡ x) → Fresh (objects_in W src) (objects_in W host) (count_in W host) k
             fresh k d (yes z) = rw z (all_gone h)
-            fresh k d (no z) = so.fresh k (λ q. d (get_or-set_other F x k 1 0 z ∙ q))
+            fresh k d (no z) = so.fresh k (sym (get_or-set_other F x k true false z) ∙ d)
 
-            marked : (k : ℕ) → ((get_or F k 0 ≡ 0) → ⊥) → (get_or (set F x 1) k 0 ≡ 0) → Dec (k ≡ x) → ⊥
-            marked k d q (yes z) = omega (arith, put, ap (λ (j : ℕ). get_or (set F x 1) j 0) z)
-            marked k d q (no z) = d (sym (get_or-set_other F x k 1 0 z) ∙ q)
+            marked : (k : ℕ) → get_or F k false ≡ true → Dec (k ≡ x) → get_or (set F x true) k false ≡ true
+            marked k d (yes z) = ap (λ (j : ℕ). get_or (set F x true) j false) z ∙ put
+            marked k d (no z) = get_or-set_other F x k true false z ∙ d

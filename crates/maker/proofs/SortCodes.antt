@@ -1,15 +1,9 @@
 -- What is known of an object, and its codes in the host: the laws of `is_open`, `is_new`, `leads_new`, `turn` and `turn_fields`.
 -- Not here: the objects decided (Sorts).
-use Prim.Native.Nat.{ℕ, zero, suc, ◌+◌, ◌-◌, ◌*◌, ◌%◌, ◌≤◌, ◌<◌}
-use native.Mathlib.Omega.{arith}
+use Rattle.std.proofs.Common.{ℕ, zero, suc, ◌+◌, ◌-◌, ◌*◌, ◌%◌, ◌≤◌, ◌<◌, arith, ◌≡◌, refl, sym, ◌∙◌, subst, Bool, true, false, not, List, length, get_or, lt-ltb, le-ltb}
 use native.Mathlib.Decide.{dec_lt, ℕ_discrete}
-use mathlib.Core.Path.{◌≡◌, refl, sym, ap, ◌∙◌, subst}
-use mathlib.Core.Bool.{Bool, true, false, not, false≢true}
-use mathlib.Core.List.{List}
+use Rattle.std.proofs.Math.Bool.{false≢true}
 use mathlib.Core.Logic.{inl, inr}
-use lib.Dec.{eqb}
-use lib.ListN.{length, get_or}
-use borrow.Author.Tests.{lt-ltb, le-ltb, eq-eqb, eqb-true}
 use Rattle.canon.specs.Figures.{object_size, head_size, code_count, numbers_at, first_leaf, capacity, block_size, three_bytes}
 use Rattle.canon.specs.Layout.{ref_of, count_in, objects_in, Inside}
 use Rattle.canon.specs.Tables.{Eight}
@@ -22,40 +16,35 @@ use Rattle.maker.specs.Merging.{CodeAs, Mapped}
 use Rattle.maker.specs.Sorting.{code_at, turn_in, TurnedAs, OpenIs, NewIs, LeadsIs, CodesTurned}
 use Rattle.maker.proofs.Codes.{object_class, object_count, object_code, first_code, next_code}
 use Rattle.maker.proofs.Bytes.{object_rest}
+use Rattle.values.proofs.Tests.{not_true, not_false}
 use Rattle.maker.proofs.Turns.{leaf_low}
 
 -- ---- whether something is known of an object
-module _ (T F : List ℕ) (x : ℕ) where
+module _ (T : List ℕ) (F : List Bool) (x : ℕ) where
   pub open_told : ((get_or T x 0 ≡ 0) → ⊥) → OpenIs T F x false
   open_told d = record { yes = λ e. absurd (false≢true e); no = λ _. inl d }
 
-  pub open_marked : get_or T x 0 ≡ 0 → OpenIs T F x (eqb (get_or F x 0) 0)
-  open_marked e = record { yes = λ b. (e, eqb-true (get_or F x 0) 0 b); no = λ b. inr (λ z. false≢true (sym b ∙ eq-eqb (get_or F x 0) 0 z)) }
+  pub open_marked : get_or T x 0 ≡ 0 → OpenIs T F x (not (get_or F x false))
+  open_marked e = record { yes = λ b. (e, not_true _ b); no = λ b. inr (not_false _ b) }
 
 -- ---- a code of a new object
-module _ (F : List ℕ) (c : ℕ) where
-  pub new_read : (c < first_leaf → c < length F) → c < first_leaf → c < length F
-  new_read h = h
-
+module _ (F : List Bool) (c : ℕ) where
   pub new_leaf : first_leaf ≤ c → NewIs F c false
   new_leaf h = record { yes = λ e. absurd (false≢true e) }
 
-  pub new_marked : c < first_leaf → NewIs F c (not (eqb (get_or F c 0) 0))
-  new_marked h = record { yes = λ e. record { object = h; marked = λ z. absurd (go z e) } }
-    where
-      go : get_or F c 0 ≡ 0 → not (eqb (get_or F c 0) 0) ≡ true → ⊥
-      go z e = false≢true (sym (ap not (eq-eqb (get_or F c 0) 0 z)) ∙ e)
+  pub new_marked : c < first_leaf → NewIs F c (get_or F c false)
+  new_marked h = record { yes = λ e. record { object = h; marked = e } }
 
 module _ (W : List ℕ) (src x : ℕ) (ib : Inside W src x) where
   -- a code that is an object's has a place in the tables
-  pub code_small : (M : List ℕ) → length M ≡ capacity → (k : ℕ) → k < code_count → get_or W (block_size * src + object_size * x + head_size + k) 0 < first_leaf → get_or W (block_size * src + object_size * x + head_size + k) 0 < length M
+  pub code_small : {A : Type 0} (M : List A) → length M ≡ capacity → (k : ℕ) → k < code_count → get_or W (block_size * src + object_size * x + head_size + k) 0 < first_leaf → get_or W (block_size * src + object_size * x + head_size + k) 0 < length M
   unfolding objects_in
   code_small M e k h l = omega (arith, code_low W (block_size * src) (count_in W src) ib.block.packed x ib.low ib.block.whole k h l, ib.block.small)
 
   pub code_small_before : (M : List ℕ) → length M ≡ capacity → (k : ℕ) → 0 < k → k ≤ code_count → get_or W (block_size * src + object_size * x + head_size + (k - 1)) 0 < first_leaf → get_or W (block_size * src + object_size * x + head_size + (k - 1)) 0 < length M
   code_small_before M e k h u = code_small M e (k - 1) (omega arith)
 
-module _ (W : List ℕ) (src x : ℕ) (F : List ℕ) where
+module _ (W : List ℕ) (src x : ℕ) (F : List Bool) where
   pub leads_yes : (k : ℕ) (b : Bool) → k < code_count → NewIs F (code_at W src x k) b → b ≡ true → LeadsIs W src x F true
   leads_yes k b h n e = record { yes = λ _. record { field = k; low = h; new = n.yes e } }
 

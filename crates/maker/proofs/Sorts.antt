@@ -1,15 +1,11 @@
 -- The objects of a part decided one after another: the laws of `by_fields`, `settle`, `choose`, `spread` and `sort`.
 -- Not here: the codes of one (SortCodes), an object looked for (Seeks).
-use Prim.Native.Nat.{ℕ, ◌+◌, ◌-◌, ◌*◌, ◌%◌, ◌≤◌, ◌<◌}
-use native.Mathlib.Omega.{arith}
+use Rattle.std.proofs.Common.{ℕ, ◌+◌, ◌-◌, ◌*◌, ◌%◌, ◌≤◌, ◌<◌, arith, ◌≡◌, refl, sym, ap, ◌∙◌, subst, Bool, true, false, List, length, get_or, set, length-set, get_or-set_same, get_or-set_other}
 use native.Mathlib.Decide.{ℕ_discrete}
-use mathlib.Core.Path.{◌≡◌, refl, sym, ap, ◌∙◌, subst}
-use mathlib.Core.Bool.{Bool, true, false, false≢true}
-use mathlib.Core.List.{List}
+use Rattle.std.proofs.Math.Bool.{false≢true}
 use mathlib.Core.Logic.{inl, inr}
-use mathlib.Core.Option.{some}
-use lib.ListN.{length, get_or, set, get_elem?, length-set}
-use lib.Seq.{get_or-set_same, get_or-set_other}
+use Rattle.std.proofs.Math.Option.{some}
+use Rattle.std.proofs.Math.ListN.{get_elem?}
 use Rattle.cofj.specs.Values.{Ref, refs_at}
 use Rattle.cofj.specs.Unfolding.{InRange}
 use Rattle.canon.specs.Figures.{object_size, numbers_at, capacity, count_at, block_size}
@@ -28,23 +24,23 @@ use Rattle.maker.proofs.SortCodes.{turned_by}
 
 -- ---- more is known
 module _ (W : List ℕ) (src host : ℕ) (L : List ℕ) (m : ℕ) where
-  pub onward_none : (T F : List ℕ) → Sorting W src host L m T F → Onward W src host L m T F T F
+  pub onward_none : (T : List ℕ) (F : List Bool) → Sorting W src host L m T F → Onward W src host L m T F T F
   onward_none T F s = record { sorting = s; further = record { told = λ x d. d; fresh = λ x d. d } }
 
-  pub onward_more : (T F T1 F1 T2 F2 : List ℕ) → Onward W src host L m T F T1 F1 → Onward W src host L m T1 F1 T2 F2 → Onward W src host L m T F T2 F2
+  pub onward_more : (T : List ℕ) (F : List Bool) (T1 : List ℕ) (F1 : List Bool) (T2 : List ℕ) (F2 : List Bool) → Onward W src host L m T F T1 F1 → Onward W src host L m T1 F1 T2 F2 → Onward W src host L m T F T2 F2
   onward_more T F T1 F1 T2 F2 a b = record {
     sorting = b.sorting;
     further = record { told = λ x d. b.further.told x (a.further.told x d); fresh = λ x d. b.further.fresh x (a.further.fresh x d) };
   }
 
-  pub onward_sorting : (T F T1 F1 : List ℕ) → Onward W src host L m T F T1 F1 → Sorting W src host L m T1 F1
+  pub onward_sorting : (T : List ℕ) (F : List Bool) (T1 : List ℕ) (F1 : List Bool) → Onward W src host L m T F T1 F1 → Sorting W src host L m T1 F1
   onward_sorting T F T1 F1 o = o.sorting
 
-  pub decided_still : (T F T1 F1 : List ℕ) → Further T F T1 F1 → (x : ℕ) → Decided T F x → Decided T1 F1 x
+  pub decided_still : (T : List ℕ) (F : List Bool) (T1 : List ℕ) (F1 : List Bool) → Further T F T1 F1 → (x : ℕ) → Decided T F x → Decided T1 F1 x
   decided_still T F T1 F1 f x (inl d) = inl (f.told x d)
   decided_still T F T1 F1 f x (inr d) = inr (f.fresh x d)
 
-module _ (W : List ℕ) (src host : ℕ) (L : List ℕ) (m : ℕ) (T F : List ℕ) (s : Sorting W src host L m T F) where
+module _ (W : List ℕ) (src host : ℕ) (L : List ℕ) (m : ℕ) (T : List ℕ) (F : List Bool) (s : Sorting W src host L m T F) where
   pub place_inside : (q : ℕ) → q < m → Inside W src (get_or L q 0)
   place_inside q h = record { block = s.ground.source; low = s.ground.low q h }
 
@@ -91,42 +87,42 @@ module _ (W : List ℕ) (src host : ℕ) (L : List ℕ) (m : ℕ) (T F : List �
     listed_marked = omega (arith, listed_small, s.sorted.table)
 
     -- marked as new
-    pub mark_new : Fresh (objects_in W src) (objects_in W host) (count_in W host) x → Onward W src host L m T F T (set F x 1)
+    pub mark_new : Fresh (objects_in W src) (objects_in W host) (count_in W host) x → Onward W src host L m T F T (set F x true)
     mark_new fr = record {
       sorting = record {
         ground = s.ground;
         sorted = record {
           mapped = s.sorted.mapped;
-          table = length-set F x 1 ∙ s.sorted.table;
+          table = length-set F x true ∙ s.sorted.table;
           low = λ z d. low z d (ℕ_discrete z x);
           fresh = λ z d. fresh z d (ℕ_discrete z x);
         };
         listed = λ z d. listed z d (ℕ_discrete z x);
       };
-      further = record { told = λ z d. d; fresh = λ z d e. still z d e (ℕ_discrete z x) };
+      further = record { told = λ z d. d; fresh = λ z d. still z d (ℕ_discrete z x) };
     }
       where
-        was : (z : ℕ) → ((z ≡ x) → ⊥) → ((get_or (set F x 1) z 0 ≡ 0) → ⊥) → (get_or F z 0 ≡ 0) → ⊥
-        was z n d e = d (get_or-set_other F x z 1 0 n ∙ e)
+        was : (z : ℕ) → ((z ≡ x) → ⊥) → get_or (set F x true) z false ≡ true → get_or F z false ≡ true
+        was z n d = sym (get_or-set_other F x z true false n) ∙ d
 
-        low : (z : ℕ) → ((get_or (set F x 1) z 0 ≡ 0) → ⊥) → Dec (z ≡ x) → z < count_in W src
+        low : (z : ℕ) → get_or (set F x true) z false ≡ true → Dec (z ≡ x) → z < count_in W src
         low z d (yes e) = omega (arith, listed_inside.low)
         low z d (no n) = s.sorted.low z (was z n d)
 
-        fresh : (z : ℕ) → ((get_or (set F x 1) z 0 ≡ 0) → ⊥) → Dec (z ≡ x) → Fresh (objects_in W src) (objects_in W host) (count_in W host) z
+        fresh : (z : ℕ) → get_or (set F x true) z false ≡ true → Dec (z ≡ x) → Fresh (objects_in W src) (objects_in W host) (count_in W host) z
         fresh z d (yes e) = subst (Fresh (objects_in W src) (objects_in W host) (count_in W host)) (sym e) fr
         fresh z d (no n) = s.sorted.fresh z (was z n d)
 
-        listed : (z : ℕ) → ((get_or (set F x 1) z 0 ≡ 0) → ⊥) → Dec (z ≡ x) → Listed L m z
+        listed : (z : ℕ) → get_or (set F x true) z false ≡ true → Dec (z ≡ x) → Listed L m z
         listed z d (yes e) = subst (Listed L m) (sym e) li
         listed z d (no n) = s.listed z (was z n d)
 
-        still : (z : ℕ) → ((get_or F z 0 ≡ 0) → ⊥) → get_or (set F x 1) z 0 ≡ 0 → Dec (z ≡ x) → ⊥
-        still z d e (yes u) = let v : get_or (set F x 1) x 0 ≡ 1 = get_or-set_same F x 1 0 listed_marked in let w : get_or (set F x 1) x 0 ≡ 0 = ap (λ (k : ℕ). get_or (set F x 1) k 0) (sym u) ∙ e in omega (arith, v, w)
-        still z d e (no n) = d (sym (get_or-set_other F x z 1 0 n) ∙ e)
+        still : (z : ℕ) → get_or F z false ≡ true → Dec (z ≡ x) → get_or (set F x true) z false ≡ true
+        still z d (yes u) = ap (λ (k : ℕ). get_or (set F x true) k false) u ∙ get_or-set_same F x true false listed_marked
+        still z d (no n) = get_or-set_other F x z true false n ∙ d
 
-    pub mark_here : Decided T (set F x 1) x
-    mark_here = inr (λ e. let v : get_or (set F x 1) x 0 ≡ 1 = get_or-set_same F x 1 0 listed_marked in omega (arith, v, e))
+    pub mark_here : Decided T (set F x true) x
+    mark_here = inr (get_or-set_same F x true false listed_marked)
 
     -- told
     module _ (k : ℕ) (ca : CodeAs W src x host k) where
@@ -173,10 +169,10 @@ module _ (W : List ℕ) (src host : ℕ) (L : List ℕ) (m : ℕ) (T F : List �
         inner y f r h e = subst (λ (k : ℕ). InRange k r) (length_nodes W (block_size * host) (count_in W host)) (s.ground.target.whole.inner y f r e)
 
     module _ (b : Bool) (lb : LeadsIs W src x F b) (eb : b ≡ true) where
-      pub lead_onward : Onward W src host L m T F T (set F x 1)
+      pub lead_onward : Onward W src host L m T F T (set F x true)
       lead_onward = mark_new (fresh_leads (lb.yes eb))
 
-      pub fields_new : ByFields W src host L m x T F T (set F x 1) true
+      pub fields_new : ByFields W src host L m x T F T (set F x true) true
       fields_new = record { onward = lead_onward; here = λ _. mark_here }
 
     pub fields_silent : ByFields W src host L m x T F T F false
@@ -206,7 +202,7 @@ module _ (W : List ℕ) (src host : ℕ) (L : List ℕ) (m : ℕ) (T F : List �
               (record { low = hit.low; is = at_nodes W (block_size * host) (get_or W (block_size * host + count_at) 0) k hit.low ∙ hit.is }) in
               record { onward = tell_one k ca; here = λ _. tell_here k ca }
 
-          pub fields_missed : a ≡ None → ByFields W src host L m x T F T (set F x 1) true
+          pub fields_missed : a ≡ None → ByFields W src host L m x T F T (set F x true) true
           unfolding count_in
           fields_missed h = record { onward = mark_new (turned_fresh W src x host turned listed_inside s.ground.target turned_as (fd.miss h)); here = λ _. mark_here }
 
@@ -214,7 +210,7 @@ module _ (W : List ℕ) (src host : ℕ) (L : List ℕ) (m : ℕ) (T F : List �
     pub settling_none : (b : Bool) → OpenIs T F x b → b ≡ false → Settling W src host L m x T F T F
     settling_none b o e = record { onward = onward_none W src host L m T F s; here = o.no e }
 
-    pub settling_sought : (T1 F1 : List ℕ) → Sought W src x host T F T1 F1 → Settling W src host L m x T F T1 F1
+    pub settling_sought : (T1 : List ℕ) (F1 : List Bool) → Sought W src x host T F T1 F1 → Settling W src host L m x T F T1 F1
     settling_sought T1 F1 so = record {
       onward = record {
         sorting = record { ground = s.ground; sorted = so.sorted; listed = λ z d. listed z d (ℕ_discrete z x) };
@@ -223,33 +219,33 @@ module _ (W : List ℕ) (src host : ℕ) (L : List ℕ) (m : ℕ) (T F : List �
       here = so.here;
     }
       where
-        listed : (z : ℕ) → ((get_or F1 z 0 ≡ 0) → ⊥) → Dec (z ≡ x) → Listed L m z
+        listed : (z : ℕ) → get_or F1 z false ≡ true → Dec (z ≡ x) → Listed L m z
         listed z d (yes e) = subst (Listed L m) (sym e) li
         listed z d (no n) = s.listed z (so.only z d n)
 
 -- ---- one after another
-module _ (W : List ℕ) (src host : ℕ) (L : List ℕ) (m : ℕ) (T F T1 F1 : List ℕ) where
+module _ (W : List ℕ) (src host : ℕ) (L : List ℕ) (m : ℕ) (T : List ℕ) (F : List Bool) (T1 : List ℕ) (F1 : List Bool) where
   pub rare_told : (y : ℕ) → Settling W src host L m y T F T1 F1 → Onward W src host L m T F T1 F1
   rare_told y s = s.onward
 
   pub rare_marked : (y : ℕ) → Settling W src host L m y T F T1 F1 → Listed L m y → y < length F1
   rare_marked y s = listed_marked W src host L m T1 F1 s.onward.sorting y
 
-  pub rare_onward : (y : ℕ) → Settling W src host L m y T F T1 F1 → (F2 : List ℕ) → Onward W src host L m T1 F1 T1 F2 → Onward W src host L m T F T1 F2
+  pub rare_onward : (y : ℕ) → Settling W src host L m y T F T1 F1 → (F2 : List Bool) → Onward W src host L m T1 F1 T1 F2 → Onward W src host L m T F T1 F2
   rare_onward y s F2 o = onward_more W src host L m T F T1 F1 T1 F2 s.onward o
 
   module _ (x : ℕ) (b : Bool) (f : ByFields W src host L m x T F T1 F1 b) where
     pub settled_fields : b ≡ true → Settling W src host L m x T F T1 F1
     settled_fields e = record { onward = f.onward; here = f.here e }
 
-    pub settled_sought : (T2 F2 T3 F3 : List ℕ) → Onward W src host L m T1 F1 T2 F2 → Settling W src host L m x T2 F2 T3 F3 → Settling W src host L m x T F T3 F3
+    pub settled_sought : (T2 : List ℕ) (F2 : List Bool) (T3 : List ℕ) (F3 : List Bool) → Onward W src host L m T1 F1 T2 F2 → Settling W src host L m x T2 F2 T3 F3 → Settling W src host L m x T F T3 F3
     settled_sought T2 F2 T3 F3 o s = record {
       onward = onward_more W src host L m T F T2 F2 T3 F3 (onward_more W src host L m T F T1 F1 T2 F2 f.onward o) s.onward;
       here = s.here;
     }
 
 -- ---- the object at a place of the list, in a pass over it
-module _ (W : List ℕ) (src host : ℕ) (L : List ℕ) (m : ℕ) (T F0 F : List ℕ) (o : Onward W src host L m T F0 T F) (q : ℕ) (h : 0 < q) (le : q ≤ m) where
+module _ (W : List ℕ) (src host : ℕ) (L : List ℕ) (m : ℕ) (T : List ℕ) (F0 F : List Bool) (o : Onward W src host L m T F0 T F) (q : ℕ) (h : 0 < q) (le : q ≤ m) where
   pub onward_list : q - 1 < length L
   onward_list = omega (arith, o.sorting.ground.few, o.sorting.ground.long)
 
@@ -271,13 +267,13 @@ module _ (W : List ℕ) (src host : ℕ) (L : List ℕ) (m : ℕ) (T F0 F : List
   pub onward-table : length F ≡ capacity
   onward-table = o.sorting.sorted.table
 
-  pub onward_lead : (b : Bool) → LeadsIs W src (get_or L (q - 1) 0) F b → b ≡ true → Onward W src host L m T F0 T (set F (get_or L (q - 1) 0) 1)
+  pub onward_lead : (b : Bool) → LeadsIs W src (get_or L (q - 1) 0) F b → b ≡ true → Onward W src host L m T F0 T (set F (get_or L (q - 1) 0) true)
   onward_lead b l e =
-      onward_more W src host L m T F0 T F T (set F (get_or L (q - 1) 0) 1) o
+      onward_more W src host L m T F0 T F T (set F (get_or L (q - 1) 0) true) o
       (lead_onward W src host L m T F o.sorting (get_or L (q - 1) 0) at_place b l e)
 
 -- ---- choosing
-module _ (W : List ℕ) (src host : ℕ) (L : List ℕ) (m : ℕ) (T F : List ℕ) (s : Sorting W src host L m T F) (q : ℕ) (h : 0 < q) (le : q ≤ m) where
+module _ (W : List ℕ) (src host : ℕ) (L : List ℕ) (m : ℕ) (T : List ℕ) (F : List Bool) (s : Sorting W src host L m T F) (q : ℕ) (h : 0 < q) (le : q ≤ m) where
   pub choose_list : q - 1 < length L
   choose_list = omega (arith, s.ground.few, s.ground.long)
 
@@ -326,7 +322,7 @@ module _ (C : List ℕ) (y : ℕ) (most : (k : ℕ) → get_or C k 0 ≤ y) wher
       go k h (no n) = rw (get_or-set_other C k j (get_or C k 0 + 1) 0 n) (omega (arith, most j))
 
 -- ---- the listed ones from the last on
-module _ (W : List ℕ) (src host : ℕ) (L : List ℕ) (m q : ℕ) (T F : List ℕ) (s : SortedFrom W src host L m q T F) (h : 0 < q) (le : q ≤ m) where
+module _ (W : List ℕ) (src host : ℕ) (L : List ℕ) (m q : ℕ) (T : List ℕ) (F : List Bool) (s : SortedFrom W src host L m q T F) (h : 0 < q) (le : q ≤ m) where
   pub sort_list : q - 1 < length L
   sort_list = choose_list W src host L m T F s.sorting q h le
 
@@ -342,11 +338,11 @@ module _ (W : List ℕ) (src host : ℕ) (L : List ℕ) (m q : ℕ) (T F : List 
   pub sort_listed : Listed L m (get_or L (q - 1) 0)
   sort_listed = choose_listed W src host L m T F s.sorting q h le
 
-pub sorted_none : (W : List ℕ) (src host : ℕ) (L : List ℕ) (m : ℕ) (T F : List ℕ) → Sorting W src host L m T F → SortedFrom W src host L m m T F
+pub sorted_none : (W : List ℕ) (src host : ℕ) (L : List ℕ) (m : ℕ) (T : List ℕ) (F : List Bool) → Sorting W src host L m T F → SortedFrom W src host L m m T F
 sorted_none W src host L m T F s = record { sorting = s; above = λ k h l. absurd (omega arith) }
 
-module _ (W : List ℕ) (src host : ℕ) (L : List ℕ) (m q : ℕ) (T F : List ℕ) (s : SortedFrom W src host L m q T F) (h : 0 < q) where
-  next : (T1 F1 : List ℕ) → Onward W src host L m T F T1 F1 → Decided T1 F1 (get_or L (q - 1) 0) → SortedFrom W src host L m (q - 1) T1 F1
+module _ (W : List ℕ) (src host : ℕ) (L : List ℕ) (m q : ℕ) (T : List ℕ) (F : List Bool) (s : SortedFrom W src host L m q T F) (h : 0 < q) where
+  next : (T1 : List ℕ) (F1 : List Bool) → Onward W src host L m T F T1 F1 → Decided T1 F1 (get_or L (q - 1) 0) → SortedFrom W src host L m (q - 1) T1 F1
   next T1 F1 o d = record { sorting = o.sorting; above = λ k l u. go k l u (ℕ_discrete k (q - 1)) }
     where
       go : (k : ℕ) → q - 1 ≤ k → k < m → Dec (k ≡ q - 1) → Decided T1 F1 (get_or L k 0)
@@ -356,8 +352,8 @@ module _ (W : List ℕ) (src host : ℕ) (L : List ℕ) (m q : ℕ) (T F : List 
   pub sorted_known : (b : Bool) → OpenIs T F (get_or L (q - 1) 0) b → b ≡ false → SortedFrom W src host L m (q - 1) T F
   sorted_known b o z = next T F (onward_none W src host L m T F s.sorting) (o.no z)
 
-  pub sorted_more : (T1 F1 : List ℕ) → Settling W src host L m (get_or L (q - 1) 0) T F T1 F1 → SortedFrom W src host L m (q - 1) T1 F1
+  pub sorted_more : (T1 : List ℕ) (F1 : List Bool) → Settling W src host L m (get_or L (q - 1) 0) T F T1 F1 → SortedFrom W src host L m (q - 1) T1 F1
   sorted_more T1 F1 st = next T1 F1 st.onward st.here
 
-pub sorted_all : (W : List ℕ) (src host : ℕ) (L : List ℕ) (m q : ℕ) (T F : List ℕ) → SortedFrom W src host L m q T F → q ≤ 0 → SortedFrom W src host L m 0 T F
+pub sorted_all : (W : List ℕ) (src host : ℕ) (L : List ℕ) (m q : ℕ) (T : List ℕ) (F : List Bool) → SortedFrom W src host L m q T F → q ≤ 0 → SortedFrom W src host L m 0 T F
 sorted_all W src host L m q T F s h = let z : q ≡ 0 = omega arith in subst (λ (k : ℕ). SortedFrom W src host L m k T F) z s

@@ -1,13 +1,9 @@
 -- What trying a host answers: one law for each return of `try_in`.
 -- Not here: the parts brought (Brings), which block is the host (Hosts).
-use Prim.Native.Nat.{ℕ, zero, suc, ◌+◌, ◌*◌, ◌<◌, ◌≤◌}
-use native.Mathlib.Omega.{arith}
+use Rattle.std.proofs.Common.{ℕ, zero, suc, ◌+◌, ◌*◌, ◌<◌, ◌≤◌, arith, ◌≡◌, refl, sym, ap, ap₂, ◌∙◌, subst, List, [], ◌∷◌, map, length, get_or, take, length-take, get_or-take}
 use native.Mathlib.Decide.{dec_lt}
-use mathlib.Core.Path.{◌≡◌, refl, sym, ap, ap₂, ◌∙◌, subst}
-use mathlib.Core.List.{List, [], ◌∷◌, map}
-use mathlib.Core.Option.{some}
-use lib.ListN.{length, get_or, take, get_elem?, length-take}
-use lib.Seq.{get_or-take}
+use Rattle.std.proofs.Math.Option.{some}
+use Rattle.std.proofs.Math.ListN.{get_elem?}
 use Rattle.cofj.specs.Partial.{◌>>=◌}
 use Rattle.cofj.specs.Values.{Ref, obj, leaf, undet, Node, node, Graph, graph, node_at, canon, make}
 use Rattle.cofj.specs.Unfolding.{object, follow, Same, InRange, Whole}

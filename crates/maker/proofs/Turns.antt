@@ -1,13 +1,9 @@
 -- An object of one block with its codes turned to codes of another, the host: if the host has it, they unfold to the same tree; if not, none of the host's does.
 -- Not here: which codes they are (Sorts), objects added (Merges, Joins).
-use Prim.Native.Nat.{ℕ, zero, suc, ◌+◌, ◌-◌, ◌*◌, ◌<◌, ◌≤◌}
-use native.Mathlib.Omega.{arith}
+use Rattle.std.proofs.Common.{ℕ, zero, suc, ◌+◌, ◌-◌, ◌*◌, ◌<◌, ◌≤◌, arith, ◌≡◌, refl, sym, ap, ap₂, ◌∙◌, subst, List, [], ◌∷◌, length, get_or, take, length-take, get_or-take}
 use native.Mathlib.Decide.{dec_lt}
-use mathlib.Core.Path.{◌≡◌, refl, sym, ap, ap₂, ◌∙◌, subst}
-use mathlib.Core.List.{List, [], ◌∷◌}
-use mathlib.Core.Option.{some, none-ne-some}
-use lib.ListN.{length, get_or, take, get_elem?, length-take, get_or-eq_default}
-use lib.Seq.{get_or-take}
+use Rattle.std.proofs.Math.Option.{some, none-ne-some}
+use Rattle.std.proofs.Math.ListN.{get_elem?, get_or-eq_default}
 use Rattle.cofj.specs.Partial.{◌>>=◌}
 use Rattle.cofj.specs.Values.{Ref, obj, leaf, mark, undet, num, Node, node, node_at, refs_at}
 use Rattle.cofj.specs.Unfolding.{object, follow, Same, InRange}

@@ -1,21 +1,17 @@
 -- What an object of a block leads to, listed by going over the list: what is known while it grows.
 -- Not here: what the whole list is (Sorting, Reached).
-use Rattle.std.specs.Prelude.{ℕ, zero, suc, ◌+◌, ◌≤◌, ◌<◌, ◌≡◌, Bool, true, false, cond, List, length, get_or}
+use Rattle.std.specs.Prelude.{ℕ, ◌+◌, ◌≤◌, ◌<◌, ◌≡◌, Bool, true, false, cond, List, map, length, get_or}
 use Rattle.canon.specs.Figures.{code_count, first_leaf, capacity}
 use Rattle.canon.specs.Layout.{count_in, objects_in, graph_at, Inside}
+use Rattle.canon.specs.Tables.{zero_count}
 use Rattle.maker.specs.Sorting.{code_at, Listed}
 use Rattle.maker.specs.Crowds.{In}
-
--- how many of the first k are not seen
-unfoldable pub unseen : ℕ → List Bool → ℕ
-unseen zero S = 0
-unseen (suc k) S = cond (get_or S k false) 0 1 + unseen k S
 
 -- whatever S has true for is one of the first t of L, and there is room for the others
 pub record Noted (S : List Bool) (L : List ℕ) (t : ℕ) : Type 0 where
   pub seen : length S ≡ capacity
   pub list : length L ≡ capacity
-  pub free : t + unseen capacity S ≤ capacity
+  pub free : t + zero_count capacity (map (λ b. cond b 1 0) S) ≤ capacity
   pub listed : (x : ℕ) → get_or S x false ≡ true → Listed L t x
 
 -- the code c met: the list of t objects in L₀ has r in L, with no other new one than c

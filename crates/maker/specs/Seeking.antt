@@ -21,11 +21,11 @@ pub record SoughtTo (W : List ℕ) (src x host : ℕ) (T₀ T : List ℕ) (y : �
   pub none : Fresh (objects_in W src) (objects_in W host) y x
 
 -- object x is decided, and marked as new if it is none of the host's; no other object is marked
-pub record Sought (W : List ℕ) (src x host : ℕ) (T F T' F' : List ℕ) : Type 0 where
+pub record Sought (W : List ℕ) (src x host : ℕ) (T : List ℕ) (F : List Bool) (T' : List ℕ) (F' : List Bool) : Type 0 where
   pub sorted : Sorted W src host T' F'
   pub further : Further T F T' F'
   pub here : Decided T' F' x
-  pub only : (z : ℕ) → ((get_or F' z 0 ≡ 0) → ⊥) → ((z ≡ x) → ⊥) → (get_or F z 0 ≡ 0) → ⊥
+  pub only : (z : ℕ) → get_or F' z false ≡ true → ((z ≡ x) → ⊥) → get_or F z false ≡ true
 
 -- whether object i of block src is object i of the host; if not, the table is as before
 pub record SameNumber (W : List ℕ) (src i host : ℕ) (T T' : List ℕ) (r : Bool) : Type 0 where

@@ -17,16 +17,16 @@ pub record Fresh (ps ns : List Node) (t x : ℕ) : Type 0 where
   pub none : (y : ℕ) → y < t → Same ps (obj x) ns (obj y) → ⊥
 
 -- ---- what is known of the objects of block src
--- T has k + 1 for an object that unfolds as object k of the host; F has not 0 for one that unfolds as none of them
-pub record Sorted (W : List ℕ) (src host : ℕ) (T F : List ℕ) : Type 0 where
+-- T has k + 1 for an object that unfolds as object k of the host; F has true for one that unfolds as none of them
+pub record Sorted (W : List ℕ) (src host : ℕ) (T : List ℕ) (F : List Bool) : Type 0 where
   pub mapped : Mapped W src host T
   pub table : length F ≡ capacity
-  pub low : (x : ℕ) → ((get_or F x 0 ≡ 0) → ⊥) → x < count_in W src
-  pub fresh : (x : ℕ) → ((get_or F x 0 ≡ 0) → ⊥) → Fresh (objects_in W src) (objects_in W host) (count_in W host) x
+  pub low : (x : ℕ) → get_or F x false ≡ true → x < count_in W src
+  pub fresh : (x : ℕ) → get_or F x false ≡ true → Fresh (objects_in W src) (objects_in W host) (count_in W host) x
 
 -- one of the two tables has object x
-abbrev pub Decided : List ℕ → List ℕ → ℕ → Type 0
-Decided T F x = ((get_or T x 0 ≡ 0) → ⊥) ⊎ ((get_or F x 0 ≡ 0) → ⊥)
+abbrev pub Decided : List ℕ → List Bool → ℕ → Type 0
+Decided T F x = ((get_or T x 0 ≡ 0) → ⊥) ⊎ (get_or F x false ≡ true)
 
 -- code f of object x of block src
 abbrev pub code_at : List ℕ → ℕ → ℕ → ℕ → ℕ
@@ -44,8 +44,8 @@ pub record TurnedAs (W : List ℕ) (src x host : ℕ) (B : List ℕ) : Type 0 wh
   pub rest : (k : ℕ) → numbers_at ≤ k → k < object_size → get_or B k 0 ≡ get_or W (block_size * src + object_size * x + k) 0
 
 -- whatever a new object refers to is decided
-pub record Settled (W : List ℕ) (src : ℕ) (T F : List ℕ) : Type 0 where
-  pub field : (x f : ℕ) → ((get_or F x 0 ≡ 0) → ⊥) → f < code_count → code_at W src x f < first_leaf → Decided T F (code_at W src x f)
+pub record Settled (W : List ℕ) (src : ℕ) (T : List ℕ) (F : List Bool) : Type 0 where
+  pub field : (x f : ℕ) → get_or F x false ≡ true → f < code_count → code_at W src x f < first_leaf → Decided T F (code_at W src x f)
 
 -- ---- what an object leads to
 -- x is one of the first m of L
@@ -71,57 +71,57 @@ pub record Ground (W : List ℕ) (src host : ℕ) (L : List ℕ) (m : ℕ) : Typ
   pub low : (q : ℕ) → q < m → get_or L q 0 < count_in W src
 
 -- what is known so far; only listed ones are marked as new
-pub record Sorting (W : List ℕ) (src host : ℕ) (L : List ℕ) (m : ℕ) (T F : List ℕ) : Type 0 where
+pub record Sorting (W : List ℕ) (src host : ℕ) (L : List ℕ) (m : ℕ) (T : List ℕ) (F : List Bool) : Type 0 where
   pub ground : Ground W src host L m
   pub sorted : Sorted W src host T F
-  pub listed : (x : ℕ) → ((get_or F x 0 ≡ 0) → ⊥) → Listed L m x
+  pub listed : (x : ℕ) → get_or F x false ≡ true → Listed L m x
 
 -- what was decided stays so
-pub record Further (T F T' F' : List ℕ) : Type 0 where
+pub record Further (T : List ℕ) (F : List Bool) (T' : List ℕ) (F' : List Bool) : Type 0 where
   pub told : (x : ℕ) → ((get_or T x 0 ≡ 0) → ⊥) → (get_or T' x 0 ≡ 0) → ⊥
-  pub fresh : (x : ℕ) → ((get_or F x 0 ≡ 0) → ⊥) → (get_or F' x 0 ≡ 0) → ⊥
+  pub fresh : (x : ℕ) → get_or F x false ≡ true → get_or F' x false ≡ true
 
 -- more is known
-pub record Onward (W : List ℕ) (src host : ℕ) (L : List ℕ) (m : ℕ) (T F T' F' : List ℕ) : Type 0 where
+pub record Onward (W : List ℕ) (src host : ℕ) (L : List ℕ) (m : ℕ) (T : List ℕ) (F : List Bool) (T' : List ℕ) (F' : List Bool) : Type 0 where
   pub sorting : Sorting W src host L m T' F'
   pub further : Further T F T' F'
 
 -- and object x is decided
-pub record Settling (W : List ℕ) (src host : ℕ) (L : List ℕ) (m x : ℕ) (T F T' F' : List ℕ) : Type 0 where
+pub record Settling (W : List ℕ) (src host : ℕ) (L : List ℕ) (m x : ℕ) (T : List ℕ) (F : List Bool) (T' : List ℕ) (F' : List Bool) : Type 0 where
   pub onward : Onward W src host L m T F T' F'
   pub here : Decided T' F' x
 
 -- if its fields tell
-pub record ByFields (W : List ℕ) (src host : ℕ) (L : List ℕ) (m x : ℕ) (T F T' F' : List ℕ) (r : Bool) : Type 0 where
+pub record ByFields (W : List ℕ) (src host : ℕ) (L : List ℕ) (m x : ℕ) (T : List ℕ) (F : List Bool) (T' : List ℕ) (F' : List Bool) (r : Bool) : Type 0 where
   pub onward : Onward W src host L m T F T' F'
   pub here : r ≡ true → Decided T' F' x
 
 -- the listed ones from place q on are decided
-pub record SortedFrom (W : List ℕ) (src host : ℕ) (L : List ℕ) (m q : ℕ) (T F : List ℕ) : Type 0 where
+pub record SortedFrom (W : List ℕ) (src host : ℕ) (L : List ℕ) (m q : ℕ) (T : List ℕ) (F : List Bool) : Type 0 where
   pub sorting : Sorting W src host L m T F
   pub above : (k : ℕ) → q ≤ k → k < m → Decided T F (get_or L k 0)
 
 -- ---- what is looked at
 -- whether nothing is known of object x
-pub record OpenIs (T F : List ℕ) (x : ℕ) (r : Bool) : Type 0 where
-  pub yes : r ≡ true → (get_or T x 0 ≡ 0) × (get_or F x 0 ≡ 0)
+pub record OpenIs (T : List ℕ) (F : List Bool) (x : ℕ) (r : Bool) : Type 0 where
+  pub yes : r ≡ true → (get_or T x 0 ≡ 0) × (get_or F x false ≡ false)
   pub no : r ≡ false → Decided T F x
 
 -- a code of an object that is marked as new
-pub record NewCode (F : List ℕ) (c : ℕ) : Type 0 where
+pub record NewCode (F : List Bool) (c : ℕ) : Type 0 where
   pub object : c < first_leaf
-  pub marked : (get_or F c 0 ≡ 0) → ⊥
+  pub marked : get_or F c false ≡ true
 
-pub record NewIs (F : List ℕ) (c : ℕ) (r : Bool) : Type 0 where
+pub record NewIs (F : List Bool) (c : ℕ) (r : Bool) : Type 0 where
   pub yes : r ≡ true → NewCode F c
 
 -- one of the codes of object x is
-pub record LeadsNew (W : List ℕ) (src x : ℕ) (F : List ℕ) : Type 0 where
+pub record LeadsNew (W : List ℕ) (src x : ℕ) (F : List Bool) : Type 0 where
   pub field : ℕ
   pub low : field < code_count
   pub new : NewCode F (code_at W src x field)
 
-pub record LeadsIs (W : List ℕ) (src x : ℕ) (F : List ℕ) (r : Bool) : Type 0 where
+pub record LeadsIs (W : List ℕ) (src x : ℕ) (F : List Bool) (r : Bool) : Type 0 where
   pub yes : r ≡ true → LeadsNew W src x F
 
 -- the codes of object x from code k on in the host, as one number

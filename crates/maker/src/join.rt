@@ -1,5 +1,5 @@
 // The new objects of a part, which lies in block src, added to the host, rings too.
-// `told` has k + 1 for an object of the part that is object k of the host, `fresh` has not 0 for a new one. Not here: which objects are new.
+// `told` has k + 1 for an object of the part that is object k of the host, `fresh` has true for a new one. Not here: which objects are new.
 ghost use Rattle.std.specs.Prelude.{◌≡◌, ◌+◌, ◌*◌, ◌<◌, ◌≤◌, length};
 ghost use Rattle.canon.specs.Figures.{object_size, capacity, block_size};
 ghost use Rattle.canon.specs.Layout.{Inside, count_in};
@@ -15,12 +15,12 @@ use canon::layout::{
 use canon::number::level_of;
 
 // How many of the first n objects there are up to the last new one. A part most often lies at the front of its block.
-pub(crate) fn up_to_new(n: u8, fresh: &[u8]) -> u8
+pub(crate) fn up_to_new(n: u8, fresh: &[bool]) -> u8
     requires { n ≤ length fresh.now }
     ensures { NewAmong n fresh.now result }
 {
     for k in (0..n).rev() {
-        if fresh[k as usize] != 0 {
+        if fresh[k as usize] {
             return k + 1;
         }
     }
@@ -28,13 +28,13 @@ pub(crate) fn up_to_new(n: u8, fresh: &[u8]) -> u8
 }
 
 // Numbers for the new ones of the first n objects, from t on in their order. Answers how many objects the host then has, if there is room.
-pub(crate) fn number_new(n: u8, t: u8, told: &mut [u8], fresh: &[u8]) -> Option<u8>
+pub(crate) fn number_new(n: u8, t: u8, told: &mut [u8], fresh: &[bool]) -> Option<u8>
     requires { (n ≤ length told.old) × (n ≤ length fresh.now) }
     ensures { Fitted n t told.old fresh.now told.new result }
 {
     let mut next = t;
     for x in 0..n {
-        if fresh[x as usize] != 0 {
+        if fresh[x as usize] {
             if CAPACITY <= next {
                 return None;
             }
@@ -67,19 +67,27 @@ pub(crate) fn put_object(work: &mut [u8], src: u16, x: u8, host: u16, y: u8, tol
 }
 
 // The new ones of the first n objects, each at the place that `told` has for it.
-pub(crate) fn put_new(work: &mut [u8], src: u16, host: u16, told: &[u8], fresh: &[u8], n: u8)
+pub(crate) fn put_new(work: &mut [u8], src: u16, host: u16, told: &[u8], fresh: &[bool], n: u8)
     requires { Placing work.old src host told.now fresh.now × (n ≤ count_in work.old src) }
     ensures { Laid work.old src host told.now fresh.now n work.new }
 {
     for x in 0..n {
-        if fresh[x as usize] != 0 {
+        if fresh[x as usize] {
             put_object(work, src, x, host, told[x as usize] - 1, told);
         }
     }
 }
 
 // The new objects, all among the first n, in block host, which then has m objects.
-pub(crate) fn extend(work: &mut [u8], src: u16, host: u16, told: &[u8], fresh: &[u8], n: u8, m: u8)
+pub(crate) fn extend(
+    work: &mut [u8],
+    src: u16,
+    host: u16,
+    told: &[u8],
+    fresh: &[bool],
+    n: u8,
+    m: u8,
+)
     requires { Placing work.old src host told.now fresh.now × NewAmong (count_in work.old src) fresh.now n × (count_in work.old host ≤ m) × (m ≤ capacity) }
     ensures { Extended work.old src host told.now fresh.now m work.new }
 {
@@ -94,7 +102,7 @@ pub(crate) fn extend(work: &mut [u8], src: u16, host: u16, told: &[u8], fresh: &
 }
 
 // The new objects of block src added to block host. Answers whether there was room; if not, the host is as before.
-pub(crate) fn join(work: &mut [u8], src: u16, host: u16, told: &mut [u8], fresh: &[u8]) -> bool
+pub(crate) fn join(work: &mut [u8], src: u16, host: u16, told: &mut [u8], fresh: &[bool]) -> bool
     requires { Joining work.old src host told.old fresh.now }
     ensures { Joined work.old src host told.old fresh.now work.new told.new result }
 {

@@ -32,7 +32,7 @@ pub(crate) fn bring_new(work: &mut [u8], src: u16, i: u8, host: u16, told: &mut 
 {
     let mut list = [0u8; PER_OBJECT];
     let m = reach(work, src, i, &mut list);
-    let mut fresh = [0u8; PER_OBJECT];
+    let mut fresh = [false; PER_OBJECT];
     sort(work, src, host, &list, m, told, &mut fresh);
     if !join(work, src, host, told, &fresh) {
         return None;

@@ -40,7 +40,7 @@ pub(crate) fn tell(work: &[u8], src: u16, x: u8, host: u16, y: u8, told: &mut [u
 }
 
 // Looks for object x, of which nothing is known yet, among the objects of the host: it is told then, or marked as new.
-pub(crate) fn seek(work: &[u8], src: u16, x: u8, host: u16, told: &mut [u8], fresh: &mut [u8])
+pub(crate) fn seek(work: &[u8], src: u16, x: u8, host: u16, told: &mut [u8], fresh: &mut [bool])
     requires { Inside work.now src x × Block work.now host × Sorted work.now src host told.old fresh.old × (get_or told.old x 0 ≡ 0) }
     ensures { Sought work.now src x host told.old fresh.old told.new fresh.new }
 {
@@ -52,5 +52,5 @@ pub(crate) fn seek(work: &[u8], src: u16, x: u8, host: u16, told: &mut [u8], fre
             }
         }
     }
-    fresh[x as usize] = 1;
+    fresh[x as usize] = true;
 }

@@ -15,29 +15,29 @@ use canon::bytes::eight_at;
 use canon::layout::{BLOCK, BYTE, CODES, COUNT, FIRST_LEAF, HEAD, NUMBERS, OBJECT, THREE_BYTES};
 
 // Whether nothing is known of object x.
-pub(crate) fn is_open(x: u8, told: &[u8], fresh: &[u8]) -> bool
+pub(crate) fn is_open(x: u8, told: &[u8], fresh: &[bool]) -> bool
     requires { (x < length told.now) × (x < length fresh.now) }
     ensures { OpenIs told.now fresh.now x result }
 {
     if told[x as usize] != 0 {
         return false;
     }
-    fresh[x as usize] == 0
+    !fresh[x as usize]
 }
 
 // Whether a code is that of an object marked as new.
-pub(crate) fn is_new(c: u8, fresh: &[u8]) -> bool
+pub(crate) fn is_new(c: u8, fresh: &[bool]) -> bool
     requires { c < first_leaf → c < length fresh.now }
     ensures { NewIs fresh.now c result }
 {
     if FIRST_LEAF <= c {
         return false;
     }
-    fresh[c as usize] != 0
+    fresh[c as usize]
 }
 
 // Whether a field of object x of block src is.
-pub(crate) fn leads_new(work: &[u8], src: u16, x: u8, fresh: &[u8]) -> bool
+pub(crate) fn leads_new(work: &[u8], src: u16, x: u8, fresh: &[bool]) -> bool
     requires { Inside work.now src x × (length fresh.now ≡ capacity) }
     ensures { LeadsIs work.now src x fresh.now result }
 {
@@ -108,13 +108,13 @@ pub(crate) fn by_fields(
     list: &[u8],
     m: u8,
     told: &mut [u8],
-    fresh: &mut [u8],
+    fresh: &mut [bool],
 ) -> bool
     requires { Sorting work.now src host list.now m told.old fresh.old × Listed list.now m x }
     ensures { ByFields work.now src host list.now m x told.old fresh.old told.new fresh.new result }
 {
     if leads_new(work, src, x, fresh) {
-        fresh[x as usize] = 1;
+        fresh[x as usize] = true;
         return true;
     }
     let Some(w) = turn_fields(work, src, x, told) else {
@@ -132,7 +132,7 @@ pub(crate) fn by_fields(
         told[x as usize] = k + 1;
         return true;
     }
-    fresh[x as usize] = 1;
+    fresh[x as usize] = true;
     true
 }
 
@@ -145,7 +145,7 @@ pub(crate) fn seek_open(
     list: &[u8],
     m: u8,
     told: &mut [u8],
-    fresh: &mut [u8],
+    fresh: &mut [bool],
 )
     requires { Sorting work.now src host list.now m told.old fresh.old × Listed list.now m x }
     ensures { Settling work.now src host list.now m x told.old fresh.old told.new fresh.new }
@@ -176,7 +176,7 @@ pub(crate) fn varied(
     list: &[u8],
     m: u8,
     told: &[u8],
-    fresh: &[u8],
+    fresh: &[bool],
 ) -> bool
     requires { Sorting work.now src host list.now m told.now fresh.now × Listed list.now m x }
 {
@@ -201,7 +201,7 @@ pub(crate) fn choose(
     list: &[u8],
     m: u8,
     told: &[u8],
-    fresh: &[u8],
+    fresh: &[bool],
 ) -> u8
     requires { Sorting work.now src host list.now m told.now fresh.now × Listed list.now m x }
     ensures { Listed list.now m result }
@@ -232,7 +232,7 @@ pub(crate) fn pick(
     list: &[u8],
     m: u8,
     told: &[u8],
-    fresh: &[u8],
+    fresh: &[bool],
 ) -> u8
     requires { Sorting work.now src host list.now m told.now fresh.now × Listed list.now m x }
     ensures { Listed list.now m result }
@@ -251,7 +251,7 @@ pub(crate) fn spread_once(
     list: &[u8],
     m: u8,
     told: &[u8],
-    fresh: &mut [u8],
+    fresh: &mut [bool],
 ) -> bool
     requires { Sorting work.now src host list.now m told.now fresh.old }
     ensures { Onward work.now src host list.now m told.now fresh.old told.now fresh.new }
@@ -261,7 +261,7 @@ pub(crate) fn spread_once(
         let x = list[q as usize];
         if is_open(x, told, fresh) {
             if leads_new(work, src, x, fresh) {
-                fresh[x as usize] = 1;
+                fresh[x as usize] = true;
                 more = true;
             }
         }
@@ -277,7 +277,7 @@ pub(crate) fn spread(
     list: &[u8],
     m: u8,
     told: &[u8],
-    fresh: &mut [u8],
+    fresh: &mut [bool],
 )
     requires { Sorting work.now src host list.now m told.now fresh.old }
     ensures { Onward work.now src host list.now m told.now fresh.old told.now fresh.new }
@@ -298,13 +298,13 @@ pub(crate) fn seek_whole(
     list: &[u8],
     m: u8,
     told: &mut [u8],
-    fresh: &mut [u8],
+    fresh: &mut [bool],
 )
     requires { Sorting work.now src host list.now m told.old fresh.old × Listed list.now m x }
     ensures { Onward work.now src host list.now m told.old fresh.old told.new fresh.new }
 {
     seek_open(work, src, x, host, list, m, told, fresh);
-    if fresh[x as usize] == 0 {
+    if !fresh[x as usize] {
         return;
     }
     spread(work, src, host, list, m, told, fresh);
@@ -319,7 +319,7 @@ pub(crate) fn seek_rare(
     list: &[u8],
     m: u8,
     told: &mut [u8],
-    fresh: &mut [u8],
+    fresh: &mut [bool],
 )
     requires { Sorting work.now src host list.now m told.old fresh.old × Listed list.now m x }
     ensures { Onward work.now src host list.now m told.old fresh.old told.new fresh.new }
@@ -340,7 +340,7 @@ pub(crate) fn settle(
     list: &[u8],
     m: u8,
     told: &mut [u8],
-    fresh: &mut [u8],
+    fresh: &mut [bool],
 )
     requires { Sorting work.now src host list.now m told.old fresh.old × Listed list.now m x }
     ensures { Settling work.now src host list.now m x told.old fresh.old told.new fresh.new }
@@ -360,7 +360,7 @@ pub(crate) fn sort(
     list: &[u8],
     m: u8,
     told: &mut [u8],
-    fresh: &mut [u8],
+    fresh: &mut [bool],
 )
     requires { Sorting work.now src host list.now m told.old fresh.old }
     ensures { SortedFrom work.now src host list.now m 0 told.new fresh.new }

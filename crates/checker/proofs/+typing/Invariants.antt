@@ -1,4 +1,4 @@
--- The cycle of typing meets its contracts: a law of StepLaws, WalkLaws or NumberLaws at each return. The nesting left falls. The loops keep what the arguments or values
+-- The cycle of typing meets its contracts: a law of StepLaws or WalkLaws where the check needs one. The nesting left falls. The loops keep what the arguments or values
 -- that are left give.
 use Rattle.std.proofs.Common.{◌≤◌, ◌+◌, ◌-◌, ◌*◌, ◌≡◌, true}
 use Rattle.checker.specs.Items.{Parameters, Fields}

@@ -99,8 +99,8 @@ call::invoke-returns-in-None t c = search sides.invoke_goes_left
 pub call::run_left-push-requires : goal.call::run_left-push-requires
 call::run_left-push-requires t c = search sides.body_top
 
-pub call::run_left-left_spot-requires : goal.call::run_left-left_spot-requires
-call::run_left-left_spot-requires t c = (search sides.body_deep, search sides.body_block, search sides.body_top)
+pub call::run_left-body-requires : goal.call::run_left-body-requires
+call::run_left-body-requires t c = (search sides.body_deep, search rules, search sides.body_block)
 
 pub call::run_left-eval-o-requires : goal.call::run_left-eval-o-requires
 call::run_left-eval-o-requires t c = (search fall.side_eval_falls, search sides.left_run)
@@ -114,8 +114,8 @@ call::run_left-close-requires t c = (search sides.left_there, search (rules, sid
 pub call::run_left-returns : goal.call::run_left-returns
 call::run_left-returns t c = search sides.left_gives
 
-pub call::run_right-right_spot-requires : goal.call::run_right-right_spot-requires
-call::run_right-right_spot-requires t c = (search sides.body_deep, search sides.body_block)
+pub call::run_right-body-requires : goal.call::run_right-body-requires
+call::run_right-body-requires t c = (search sides.body_deep, search rules, search sides.body_block)
 
 pub call::run_right-eval-o-requires : goal.call::run_right-eval-o-requires
 call::run_right-eval-o-requires t c = (search fall.side_eval_falls, search sides.right_run)
@@ -203,7 +203,7 @@ eval::eval_field-select-s-requires t c =
 pub eval::eval_field-returns-in_default-s : goal.eval::eval_field-returns-in_default-s
 eval::eval_field-returns-in_default-s t c =
     fields.down_stops _ _ _ _ _ _ _ _ _ _ c.loop-j.invariant _ _ _ c.requires refl c.fields_at-d.ensures _ c.down.ensures _ c.eval-o.ensures
-    c.in-Ok.is c.loop-j-test.true _ _ c.select-s.ensures c.in_default-s.is
+    c.in-Ok.is (search rules) c.loop-j-test.true _ _ c.select-s.ensures c.in_default-s.is
 
 pub eval::eval_field-loop-j-preserved : goal.eval::eval_field-loop-j-preserved
 eval::eval_field-loop-j-preserved t c = search fields.down_again

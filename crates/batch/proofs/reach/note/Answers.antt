@@ -4,4 +4,4 @@ use Rattle.batch.proofs.Reaches as laws
 use Rattle.batch.proofs.reach.note.Goals as goal
 
 pub returns : goal.returns
-returns c = laws.met_new _ _ _ _ c.requires (omega arith) c.if-seen-b-ne0.false
+returns c = laws.met_new _ _ _ _ c.requires (omega arith) c.if-seen-b.false

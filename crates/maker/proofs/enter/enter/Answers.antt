@@ -1,5 +1,5 @@
--- The proof of `enter::enter`: the object, among the objects of block host: its number there, or NO_ROOM if it is new and the block is full. By the laws of Enters.
-use borrow.Author.Rules.{rules}
+-- The proof of `enter::enter`: the object, among the objects of block host: its number there, none if it is new and the block is full. By the laws of Enters.
+use Rattle.std.proofs.Common.{rules}
 use Rattle.maker.proofs.Enters as laws
 use Rattle.maker.proofs.enter.enter.Goals as goal
 

@@ -1,4 +1,4 @@
--- The proof of `enter::enter_new`: a new object, which is not among the objects of block host: its number there, or NO_ROOM. By the laws of Enters.
+-- The proof of `enter::enter_new`: a new object, which is not among the objects of block host: its number there, if there is room. By the laws of Enters.
 use Rattle.maker.proofs.Enters as laws
 use Rattle.maker.proofs.enter.enter_new.Goals as goal
 

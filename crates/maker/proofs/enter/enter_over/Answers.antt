@@ -1,5 +1,5 @@
 -- The proof of `enter::enter_over`: the object among the objects of a block, not looked for where it can not be there. By the laws of Enters.
-use borrow.Author.Rules.{rules}
+use Rattle.std.proofs.Common.{rules}
 use Rattle.maker.proofs.Enters as laws
 use Rattle.maker.proofs.enter.enter_over.Goals as goal
 

@@ -1,5 +1,5 @@
 -- The proof of `fieldless::lay_fieldless`: object c of block 0 is the object of class c without fields, and there is no other. By the laws of FieldlessLaws.
-use borrow.Author.Rules.{rules}
+use Rattle.std.proofs.Common.{rules}
 use Rattle.maker.proofs.FieldlessLaws as laws
 use Rattle.maker.proofs.fieldless.lay_fieldless.Goals as goal
 

@@ -1,5 +1,5 @@
 -- `fieldless::preset` meets its contract: every byte is right, by one test of all of them.
-use mathlib.Core.Path.{refl}
+use Rattle.std.proofs.Common.{refl}
 use Rattle.maker.proofs.FieldlessLaws as laws
 use Rattle.maker.proofs.fieldless.preset.Goals as goal
 

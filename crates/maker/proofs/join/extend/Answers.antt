@@ -1,6 +1,5 @@
 -- The proof of `join::extend`: the new objects in block host, which then has m objects. By the laws of Additions.
-use native.Mathlib.Omega.{arith}
-use lib.ListN.{length-set}
+use Rattle.std.proofs.Common.{arith, length-set}
 use Rattle.canon.specs.Layout.{count_in}
 use Rattle.maker.proofs.Additions as laws
 use Rattle.maker.proofs.join.extend.Goals as goal

@@ -1,6 +1,6 @@
 -- The proof of `join::join`: the new objects of block src added to block host. By the laws of Joins.
 use Rattle.maker.proofs.Joins as laws
-use native.Mathlib.Omega.{arith}
+use Rattle.std.proofs.Common.{arith}
 use Rattle.canon.specs.Layout.{count_in}
 use Rattle.maker.proofs.join.join.Goals as goal
 

@@ -1,5 +1,5 @@
 -- The proof of `join::number_new`: numbers for the new ones of the first n objects, from t on in their order. By the laws of Numberings.
-use Prim.Native.Nat.{◌≤◌}
+use Rattle.std.proofs.Common.{◌≤◌}
 use Rattle.canon.specs.Figures.{capacity}
 use Rattle.maker.specs.Joining.{Counted}
 use Rattle.maker.proofs.join.number_new.Given as goal

@@ -1,8 +1,8 @@
 -- The proof of `join::put_new`: the new ones of the first n objects, each at the place that `told` has for it. By the laws of Additions.
-use borrow.Author.Rules.{rules}
+use Rattle.std.proofs.Common.{rules}
 use Rattle.maker.proofs.Additions as laws
 use Rattle.maker.proofs.join.put_new.Goals as goal
-use Rattle.maker.proofs.join.put_new.Goals.{then-fresh-x-ne0, else-fresh-x-ne0}
+use Rattle.maker.proofs.join.put_new.Goals.{then-fresh-x, else-fresh-x}
 
 pub loop-x-init : goal.loop-x-init
 loop-x-init c = (search rules, search laws.laid_few, laws.laid_none _ _ _ _ _)
@@ -17,9 +17,9 @@ pub loop-x-preserved : goal.loop-x-preserved
 loop-x-preserved c = let pre = c.requires in (
   search rules,
   search rules,
-  elim c.if-fresh-x-ne0.branch [
-    | then-fresh-x-ne0 w ↦ laws.laid_more _ _ _ _ _ pre.0 _ _ c.loop-x.invariant.2 _ pre.1 (search rules) _ w.if-fresh-x-ne0.true _ w.put_object.ensures w.work-is
-    | else-fresh-x-ne0 w ↦ laws.laid_kept _ _ _ _ _ pre.0 _ _ c.loop-x.invariant.2 _ pre.1 (search rules) _ w.if-fresh-x-ne0.false w.work-is
+  elim c.if-fresh-x.branch [
+    | then-fresh-x w ↦ laws.laid_more _ _ _ _ _ pre.0 _ _ c.loop-x.invariant.2 _ pre.1 (search rules) _ w.if-fresh-x.true _ w.put_object.ensures w.work-is
+    | else-fresh-x w ↦ laws.laid_kept _ _ _ _ _ pre.0 _ _ c.loop-x.invariant.2 _ pre.1 (search rules) _ w.if-fresh-x.false w.work-is
   ],
 )
 

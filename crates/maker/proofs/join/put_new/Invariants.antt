@@ -1,5 +1,5 @@
 -- The proof of `join::put_new`: the new ones of the first n objects, each at the place that `told` has for it. By the laws of Additions.
-use Prim.Native.Nat.{◌≤◌}
+use Rattle.std.proofs.Common.{◌≤◌}
 use Rattle.canon.specs.Figures.{capacity}
 use Rattle.maker.specs.Joining.{Laid}
 use Rattle.maker.proofs.join.put_new.Given as goal

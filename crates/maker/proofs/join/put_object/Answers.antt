@@ -1,5 +1,5 @@
 -- The proof of `join::put_object`: object x of block src, its codes turned, at the place of object y of block host. By the laws of Additions.
-use native.Mathlib.Omega.{arith}
+use Rattle.std.proofs.Common.{arith}
 use Rattle.maker.proofs.Additions as laws
 use Rattle.maker.proofs.join.put_object.Goals as goal
 

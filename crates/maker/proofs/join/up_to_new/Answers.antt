@@ -1,5 +1,5 @@
 -- The proof of `join::up_to_new`: how many of the first n objects there are up to the last new one. By the laws of Numberings.
-use borrow.Author.Rules.{rules}
+use Rattle.std.proofs.Common.{rules}
 use Rattle.maker.proofs.Numberings as laws
 use Rattle.maker.proofs.join.up_to_new.Goals as goal
 

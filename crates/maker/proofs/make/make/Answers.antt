@@ -1,5 +1,5 @@
 -- The proof of `make::make`: a new object, unless it has more objects than the run allows. By the laws of Limits, one for each return.
-use borrow.Author.Rules.{rules}
+use Rattle.std.proofs.Common.{rules}
 use Rattle.maker.proofs.Limits as laws
 use Rattle.maker.proofs.make.make.Goals as goal
 

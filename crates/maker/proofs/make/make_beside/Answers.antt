@@ -1,5 +1,5 @@
 -- The proof of `make::make_beside`: a new object whose parts lie in block b, or are no objects. By the laws of Finds, Beside, Hosts and values' Copies.
-use borrow.Author.Rules.{rules}
+use Rattle.std.proofs.Common.{rules}
 use Rattle.maker.proofs.Finds as finds
 use Rattle.maker.proofs.Beside as beside
 use Rattle.canon.specs.Layout.{count_in}

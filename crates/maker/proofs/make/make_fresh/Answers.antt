@@ -1,5 +1,5 @@
 -- The proof of `make::make_fresh`: a new object in block `dst`, where no part lies: alone, or after what its parts lead to. By the laws of Wheres and Hosts.
-use borrow.Author.Rules.{rules}
+use Rattle.std.proofs.Common.{rules}
 use Rattle.maker.proofs.Wheres as tests
 use Rattle.maker.proofs.Hosts as laws
 use Rattle.maker.proofs.make.make_fresh.Goals as goal

@@ -1,5 +1,5 @@
 -- The proof of `make::make_object`: a new object of class c with the n first parts, in block `dst` or below, unless it has more objects than a block has room for. By the laws of Wheres, Hosts and values' Tests.
-use borrow.Author.Rules.{rules}
+use Rattle.std.proofs.Common.{rules}
 use Rattle.values.proofs.Tests as tests
 use Rattle.maker.proofs.Wheres as laws
 use Rattle.maker.proofs.Hosts as merges

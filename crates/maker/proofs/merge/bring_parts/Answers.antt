@@ -1,5 +1,5 @@
 -- The proof of `merge::bring_parts`: the codes of the n parts in block host. By the laws of Brings.
-use borrow.Author.Rules.{rules}
+use Rattle.std.proofs.Common.{rules}
 use Rattle.maker.proofs.Brings as laws
 use Rattle.maker.proofs.merge.bring_parts.Goals as goal
 

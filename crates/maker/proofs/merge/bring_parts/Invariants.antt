@@ -1,7 +1,5 @@
 -- The proof of `merge::bring_parts`: the codes of the n parts in block host. By the laws of Brings.
-use Prim.Native.Nat.{◌≤◌}
-use mathlib.Core.Path.{◌≡◌}
-use lib.ListN.{length}
+use Rattle.std.proofs.Common.{◌≤◌, ◌≡◌, length}
 use Rattle.maker.specs.Merging.{Grown, RootBrought}
 use Rattle.maker.proofs.merge.bring_parts.Given as goal
 

@@ -1,5 +1,5 @@
--- The proof of `merge::import_fieldless`: object i of block b, which has no fields, in block host: its number there, or NO_ROOM. By the laws of Imported.
-use borrow.Author.Rules.{rules}
+-- The proof of `merge::import_fieldless`: object i of block b, which has no fields, in block host: its number there, if there is room. By the laws of Imported.
+use Rattle.std.proofs.Common.{rules}
 use Rattle.maker.proofs.Imported as laws
 use Rattle.maker.proofs.merge.import_fieldless.Goals as goal
 

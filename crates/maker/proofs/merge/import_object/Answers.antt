@@ -1,4 +1,4 @@
--- The proof of `merge::import_object`: object i of block b, in block host, whose first objects are those of block base: its number there, or NO_ROOM. By the laws of Imported.
+-- The proof of `merge::import_object`: object i of block b, in block host, whose first objects are those of block base: its number there, if there is room. By the laws of Imported.
 use Rattle.maker.proofs.Imported as laws
 use Rattle.maker.proofs.merge.import_object.Goals as goal
 

@@ -1,6 +1,5 @@
--- The proof of `merge::import_part`: a value in block host: its code there, or NO_ROOM. By the laws of Imported and values' Blocks.
-use borrow.Author.Rules.{rules}
-use native.Mathlib.Omega.{arith}
+-- The proof of `merge::import_part`: a value in block host: its code there, if there is room. By the laws of Imported and values' Blocks.
+use Rattle.std.proofs.Common.{rules, arith}
 use Rattle.values.proofs.Blocks as blocks
 use Rattle.maker.proofs.Imported as laws
 use Rattle.maker.proofs.merge.import_part.Goals as goal

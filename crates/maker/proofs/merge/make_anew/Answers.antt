@@ -1,5 +1,5 @@
 -- The proof of `merge::make_anew`: a new object in the spare block, or too large. By the laws of Hosts.
-use borrow.Author.Rules.{rules}
+use Rattle.std.proofs.Common.{rules}
 use Rattle.maker.proofs.Hosts as laws
 use Rattle.maker.proofs.merge.make_anew.Goals as goal
 

@@ -1,5 +1,5 @@
 -- The proof of `merge::make_apart`: a new object whose parts lie in several blocks. By the laws of Hosts.
-use borrow.Author.Rules.{rules}
+use Rattle.std.proofs.Common.{rules}
 use Rattle.maker.proofs.Hosts as laws
 use Rattle.maker.proofs.merge.make_apart.Goals as goal
 

@@ -1,5 +1,5 @@
 -- The proof of `merge::make_copied`: a new object whose parts are brought into a copy of block b, in block `dst`, where no part lies. By the laws of Hosts.
-use borrow.Author.Rules.{rules}
+use Rattle.std.proofs.Common.{rules}
 use Rattle.maker.proofs.Hosts as laws
 use Rattle.maker.proofs.merge.make_copied.Goals as goal
 

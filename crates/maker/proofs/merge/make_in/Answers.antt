@@ -1,5 +1,5 @@
 -- The proof of `merge::make_in`: a new object over parts brought into the host, or anew where that has no room. By the laws of Hosts.
-use borrow.Author.Rules.{rules}
+use Rattle.std.proofs.Common.{rules}
 use Rattle.maker.proofs.Hosts as laws
 use Rattle.maker.proofs.merge.make_in.Goals as goal
 

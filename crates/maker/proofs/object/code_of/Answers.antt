@@ -1,5 +1,5 @@
 -- The proof of `object::code_of`: the code of a part: its object's. By the laws of Makes and Finds.
-use native.Mathlib.Omega.{arith}
+use Rattle.std.proofs.Common.{arith}
 use Rattle.maker.proofs.Makes as lays
 use Rattle.maker.proofs.Finds as laws
 use Rattle.maker.proofs.object.code_of.Goals as goal

@@ -1,7 +1,5 @@
 -- The proof of `object::lay_four`: four bytes that are one number, from place p on. By the laws of Bytes.
-use native.Mathlib.Omega.{arith}
-use lib.ListN.{length}
-use mathlib.Core.Path.{ap}
+use Rattle.std.proofs.Common.{arith, length, ap}
 use Rattle.maker.proofs.Bytes as laws
 use Rattle.maker.proofs.object.lay_four.Goals as goal
 

@@ -1,6 +1,5 @@
 -- The proof of `object::lay_two`: two bytes, from place p on. By the laws of Bytes.
-use native.Mathlib.Omega.{arith}
-use lib.ListN.{length-set}
+use Rattle.std.proofs.Common.{arith, length-set}
 use Rattle.maker.proofs.Bytes as laws
 use Rattle.maker.proofs.object.lay_two.Goals as goal
 

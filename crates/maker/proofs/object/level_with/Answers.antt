@@ -1,5 +1,5 @@
 -- The proof of `object::level_with`: a level for objects of this level and one with these codes. By the laws of Codes.
-use borrow.Author.Rules.{rules}
+use Rattle.std.proofs.Common.{rules}
 use Rattle.maker.proofs.Codes as laws
 use Rattle.maker.proofs.object.level_with.Goals as goal
 

@@ -1,5 +1,5 @@
 -- The proof of `object::root_codes`: the codes of the n parts, and unused ones. By the laws of Finds.
-use borrow.Author.Rules.{rules}
+use Rattle.std.proofs.Common.{rules}
 use Rattle.maker.proofs.Finds as laws
 use Rattle.maker.proofs.object.root_codes.Goals as goal
 

@@ -1,5 +1,5 @@
 -- The proof of `object::root_codes`: the codes of the n parts, and unused ones. By the laws of Finds.
-use Prim.Native.Nat.{◌≤◌}
+use Rattle.std.proofs.Common.{◌≤◌}
 use Rattle.maker.specs.Adding.{RootCodes}
 use Rattle.maker.proofs.object.root_codes.Given as goal
 

@@ -1,5 +1,5 @@
 -- The proof of `object::root_numbers`: the numbers beside the codes of the n parts. By the laws of Finds.
-use Prim.Native.Nat.{◌≤◌}
+use Rattle.std.proofs.Common.{◌≤◌}
 use Rattle.maker.specs.Adding.{RootNumbers}
 use Rattle.maker.proofs.object.root_numbers.Given as goal
 

@@ -1,6 +1,5 @@
 -- The proof of `over::add`: the objects of block b and the new one, in block `dst`. By the laws of Beside.
-use borrow.Author.Rules.{rules}
-use native.Mathlib.Omega.{arith}
+use Rattle.std.proofs.Common.{rules, arith}
 use Rattle.canon.specs.Layout.{count_in}
 use Rattle.maker.proofs.Beside as laws
 use Rattle.maker.proofs.over.add.Goals as goal

@@ -1,6 +1,5 @@
 -- The proof of `over::empty`: block `dst` without objects. By the laws of Beside.
-use native.Mathlib.Omega.{arith}
-use lib.ListN.{length-set}
+use Rattle.std.proofs.Common.{arith, length-set}
 use Rattle.maker.proofs.Beside as laws
 use Rattle.maker.proofs.over.empty.Goals as goal
 

@@ -1,5 +1,5 @@
 -- The proof of `over::find`: the place of the object among the t objects of block b, if it is there. By the laws of Finds.
-use borrow.Author.Rules.{rules}
+use Rattle.std.proofs.Common.{rules}
 use Rattle.maker.proofs.Finds as laws
 use Rattle.maker.proofs.over.find.Goals as goal
 

@@ -1,5 +1,5 @@
 -- The proof of `over::find`: the place of the object among the t objects of block b, if it is there. By the laws of Finds.
-use Prim.Native.Nat.{◌≤◌}
+use Rattle.std.proofs.Common.{◌≤◌}
 use Rattle.maker.specs.Adding.{bytes_of, Missed}
 use Rattle.maker.proofs.over.find.Given as goal
 

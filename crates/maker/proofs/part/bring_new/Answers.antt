@@ -1,4 +1,4 @@
--- The proof of `part::bring_new`: object i of block src, with what it leads to, in block host: its number there, or NO_ROOM. By the laws of Imports.
+-- The proof of `part::bring_new`: object i of block src, with what it leads to, in block host: its number there, if there is room. By the laws of Imports.
 use Rattle.maker.proofs.Imports as laws
 use Rattle.maker.proofs.part.bring_new.Goals as goal
 

@@ -1,6 +1,5 @@
 -- The proof of `part::import`: an object of another block, of which nothing is known, in the host. By the laws of Imports.
-use borrow.Author.Rules.{rules}
-use mathlib.Core.Path.{refl}
+use Rattle.std.proofs.Common.{rules, refl}
 use Rattle.maker.proofs.Imports as laws
 use Rattle.canon.proofs.Zeros.{zero_at}
 use Rattle.canon.specs.Figures.{capacity}

@@ -1,5 +1,5 @@
 -- The proof of `part::same_number`: whether object i of block src is object i of block host, as one that was built twice most often is. By the laws of Imports.
-use borrow.Author.Rules.{rules}
+use Rattle.std.proofs.Common.{rules}
 use Rattle.maker.proofs.Imports as laws
 use Rattle.maker.proofs.part.same_number.Goals as goal
 

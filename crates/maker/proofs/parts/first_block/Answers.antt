@@ -1,5 +1,5 @@
 -- The first block of a part: the parts before have none.
-use borrow.Author.Rules.{rules}
+use Rattle.std.proofs.Common.{rules}
 use Rattle.maker.proofs.Wheres as laws
 use Rattle.maker.proofs.parts.first_block.Goals as goal
 

@@ -1,6 +1,5 @@
 -- The first block of a part: the parts before have none.
-use Prim.Native.Nat.{◌≤◌}
-use mathlib.Core.Path.{◌≡◌}
+use Rattle.std.proofs.Common.{◌≤◌, ◌≡◌}
 use Rattle.std.specs.declared.option.Option.TheVariants.{None}
 use Rattle.maker.specs.Adding.{first_block}
 use Rattle.maker.proofs.parts.first_block.Given as goal

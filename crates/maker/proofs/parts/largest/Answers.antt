@@ -1,5 +1,5 @@
 -- The proof of `parts::largest`: the block with the most objects, of block b and those of the parts but block 0. By the laws of Makes and Hosts.
-use borrow.Author.Rules.{rules}
+use Rattle.std.proofs.Common.{rules}
 use Rattle.maker.proofs.Makes as lays
 use Rattle.maker.proofs.Hosts as laws
 use Rattle.maker.proofs.parts.largest.Goals as goal

@@ -1,6 +1,5 @@
 -- The proof of `parts::largest`: the block with the most objects, of block b and those of the parts but block 0. By the laws of Makes and Hosts.
-use Prim.Native.Nat.{◌≤◌}
-use mathlib.Core.Path.{◌≡◌}
+use Rattle.std.proofs.Common.{◌≤◌, ◌≡◌}
 use Rattle.maker.specs.Merging.{largest_of}
 use Rattle.maker.proofs.parts.largest.Given as goal
 

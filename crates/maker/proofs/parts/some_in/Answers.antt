@@ -1,6 +1,5 @@
 -- The proof of `parts::some_in`: whether one of the parts is an object of block d. By the laws of Hosts.
-use borrow.Author.Rules.{rules}
-use mathlib.Core.Path.{refl}
+use Rattle.std.proofs.Common.{rules, refl}
 use Rattle.maker.proofs.Hosts as laws
 use Rattle.maker.proofs.parts.some_in.Goals as goal
 

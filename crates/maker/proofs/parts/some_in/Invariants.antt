@@ -1,6 +1,5 @@
 -- The proof of `parts::some_in`: whether one of the parts is an object of block d. By the laws of Hosts.
-use Prim.Native.Nat.{◌≤◌}
-use mathlib.Core.Path.{◌≡◌}
+use Rattle.std.proofs.Common.{◌≤◌, ◌≡◌}
 use Rattle.maker.specs.Merging.{some_in}
 use Rattle.maker.proofs.parts.some_in.Given as goal
 

@@ -1,5 +1,5 @@
 -- Whether a part is an object: the parts before are none.
-use borrow.Author.Rules.{rules}
+use Rattle.std.proofs.Common.{rules}
 use Rattle.maker.proofs.Wheres as laws
 use Rattle.maker.proofs.parts.some_object.Goals as goal
 

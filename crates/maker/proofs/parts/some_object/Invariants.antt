@@ -1,7 +1,5 @@
 -- Whether a part is an object: the parts before are none.
-use Prim.Native.Nat.{◌≤◌}
-use mathlib.Core.Path.{◌≡◌}
-use mathlib.Core.Bool.{false}
+use Rattle.std.proofs.Common.{◌≤◌, ◌≡◌, false}
 use Rattle.maker.specs.Adding.{some_object}
 use Rattle.maker.proofs.parts.some_object.Given as goal
 

@@ -1,5 +1,5 @@
 -- The proof of `parts::together`: whether each part lies in block b, or is no object. By the laws of Wheres.
-use borrow.Author.Rules.{rules}
+use Rattle.std.proofs.Common.{rules}
 use Rattle.maker.proofs.Wheres as laws
 use Rattle.maker.proofs.parts.together.Goals as goal
 

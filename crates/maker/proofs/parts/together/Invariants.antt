@@ -1,7 +1,5 @@
 -- The proof of `parts::together`: whether each part lies in block b, or is no object. By the laws of Wheres.
-use Prim.Native.Nat.{◌≤◌}
-use mathlib.Core.Path.{◌≡◌}
-use mathlib.Core.Bool.{true}
+use Rattle.std.proofs.Common.{◌≤◌, ◌≡◌, true}
 use Rattle.maker.specs.Adding.{all_stand}
 use Rattle.maker.proofs.parts.together.Given as goal
 

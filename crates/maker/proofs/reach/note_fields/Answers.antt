@@ -1,6 +1,5 @@
 -- The proof of `reach::note_fields`: the codes of object x of block src met. By the laws of Reaches.
-use borrow.Author.Rules.{rules}
-use native.Mathlib.Omega.{arith}
+use Rattle.std.proofs.Common.{rules, arith}
 use Rattle.maker.proofs.Reaches as laws
 use Rattle.maker.proofs.reach.note_fields.Goals as goal
 

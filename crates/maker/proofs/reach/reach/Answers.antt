@@ -1,5 +1,5 @@
 -- The proof of `reach::reach`: lists object i of block src and what it leads to, nearest first. By a loop in which capacity - head falls, and the laws of Reaches.
-use borrow.Author.Rules.{rules}
+use Rattle.std.proofs.Common.{rules}
 use Rattle.maker.proofs.Reaches as laws
 use Rattle.maker.proofs.reach.reach.Goals as goal
 

@@ -1,7 +1,5 @@
 -- The proof of `reach::reach`: lists object i of block src and what it leads to, nearest first. By a loop in which capacity - head falls, and the laws of Reaches.
-use Prim.Native.Nat.{◌≤◌, ◌-◌}
-use mathlib.Core.Path.{◌≡◌}
-use lib.ListN.{length}
+use Rattle.std.proofs.Common.{◌≤◌, ◌-◌, ◌≡◌, length}
 use Rattle.canon.specs.Figures.{capacity}
 use Rattle.maker.specs.Reaching.{ReachedTo}
 use Rattle.maker.proofs.reach.reach.Given as goal

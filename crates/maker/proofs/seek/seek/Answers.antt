@@ -1,8 +1,5 @@
 -- The proof of `seek::seek`: looks for object x, of which nothing is known yet, among the objects of the host: it is told then, or marked as new. By the laws of Seeks.
-use borrow.Author.Rules.{rules}
-use Prim.Native.Nat.{◌+◌}
-use mathlib.Core.Path.{ap}
-use lib.ListN.{length}
+use Rattle.std.proofs.Common.{rules, ◌+◌, ap, length}
 use Rattle.maker.specs.Seeking.{SoughtTo}
 use Rattle.maker.proofs.Seeks as laws
 use Rattle.maker.proofs.seek.seek.Goals as goal

@@ -1,7 +1,5 @@
 -- The proof of `seek::seek`: looks for object x, of which nothing is known yet, among the objects of the host: it is told then, or marked as new. By the laws of Seeks.
-use Prim.Native.Nat.{◌≤◌}
-use mathlib.Core.Path.{◌≡◌}
-use lib.ListN.{length}
+use Rattle.std.proofs.Common.{◌≤◌, ◌≡◌, length}
 use Rattle.canon.specs.Figures.{capacity}
 use Rattle.maker.specs.Seeking.{SoughtTo}
 use Rattle.maker.proofs.seek.seek.Given as goal

@@ -1,5 +1,5 @@
 -- The proof of `seek::tell`: whether an object of a part is one of the host, and what that tells of others. By the laws of Seeks.
-use borrow.Author.Rules.{rules}
+use Rattle.std.proofs.Common.{rules}
 use Rattle.maker.proofs.Seeks as laws
 use Rattle.maker.proofs.seek.tell.Goals as goal
 

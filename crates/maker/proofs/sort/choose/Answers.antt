@@ -1,9 +1,7 @@
 -- The proof of `sort::choose`: of the listed objects of which nothing is known, x one of them, one whose class is rare in the host. By the laws of Sorts.
-use borrow.Author.Rules.{rules}
+use Rattle.std.proofs.Common.{rules, arith, ◌-◌}
 use Rattle.canon.proofs.Zeros.{zero_at}
-use native.Mathlib.Omega.{arith}
 use Rattle.maker.proofs.Sorts as laws
-use Prim.Native.Nat.{◌-◌}
 use Rattle.maker.proofs.sort.choose.Goals as goal
 
 pub count_classes-requires : goal.count_classes-requires

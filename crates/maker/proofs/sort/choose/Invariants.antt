@@ -1,5 +1,5 @@
 -- The proof of `sort::choose`: of the listed objects of which nothing is known, x one of them, one whose class is rare in the host. By the laws of Sorts.
-use Prim.Native.Nat.{◌≤◌}
+use Rattle.std.proofs.Common.{◌≤◌}
 use Rattle.maker.specs.Sorting.{Listed}
 use Rattle.maker.proofs.sort.choose.Given as goal
 

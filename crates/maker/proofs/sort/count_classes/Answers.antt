@@ -1,5 +1,5 @@
 -- The proof of `sort::count_classes`: how many objects of block host are of each class, modulo 64. By the laws of Sorts.
-use borrow.Author.Rules.{rules}
+use Rattle.std.proofs.Common.{rules}
 use Rattle.maker.proofs.Sorts as laws
 use Rattle.maker.proofs.sort.count_classes.Goals as goal
 

@@ -1,7 +1,5 @@
 -- The proof of `sort::count_classes`: how many objects of block host are of each class, modulo 64. By the laws of Sorts.
-use Prim.Native.Nat.{ℕ, ◌≤◌}
-use mathlib.Core.Path.{◌≡◌}
-use lib.ListN.{length, get_or}
+use Rattle.std.proofs.Common.{ℕ, ◌≤◌, ◌≡◌, length, get_or}
 use Rattle.canon.specs.Figures.{capacity}
 use Rattle.maker.proofs.sort.count_classes.Given as goal
 

@@ -5,8 +5,5 @@ use Rattle.maker.proofs.sort.is_new.Goals as goal
 pub returns-then-c-ge-FIRST_LEAF : goal.returns-then-c-ge-FIRST_LEAF
 returns-then-c-ge-FIRST_LEAF c = search laws.new_leaf
 
-pub bounds-fresh-c : goal.bounds-fresh-c
-bounds-fresh-c c = search laws.new_read
-
 pub returns : goal.returns
 returns c = search laws.new_marked

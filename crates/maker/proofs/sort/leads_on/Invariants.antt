@@ -1,5 +1,5 @@
 -- The proof of `sort::leads_on`: whether a field of an object is another object that is not told. By the laws of SortCodes.
-use Prim.Native.Nat.{◌≤◌}
+use Rattle.std.proofs.Common.{◌≤◌}
 use Rattle.canon.specs.Figures.{code_count}
 use Rattle.maker.proofs.sort.leads_on.Given as goal
 

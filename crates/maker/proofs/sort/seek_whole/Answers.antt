@@ -5,8 +5,8 @@ use Rattle.maker.proofs.sort.seek_whole.Goals as goal
 pub bounds-fresh-x : goal.bounds-fresh-x
 bounds-fresh-x c = search laws.rare_marked
 
-pub returns-then-fresh-x-eq0 : goal.returns-then-fresh-x-eq0
-returns-then-fresh-x-eq0 c = search laws.rare_told
+pub returns-then-not-fresh-x : goal.returns-then-not-fresh-x
+returns-then-not-fresh-x c = search laws.rare_told
 
 pub returns : goal.returns
 returns c = search laws.rare_onward

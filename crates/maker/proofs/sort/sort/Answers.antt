@@ -1,5 +1,5 @@
 -- The proof of `sort::sort`: the listed objects sorted out, from the last to the first. By the laws of Sorts.
-use borrow.Author.Rules.{rules}
+use Rattle.std.proofs.Common.{rules}
 use Rattle.maker.proofs.Sorts as laws
 use Rattle.maker.proofs.sort.sort.Goals as goal
 

@@ -1,7 +1,5 @@
 -- The proof of `sort::sort`: the listed objects sorted out, from the last to the first. By the laws of Sorts.
-use Prim.Native.Nat.{◌≤◌}
-use mathlib.Core.Path.{◌≡◌}
-use lib.ListN.{length}
+use Rattle.std.proofs.Common.{◌≤◌, ◌≡◌, length}
 use Rattle.maker.specs.Sorting.{SortedFrom}
 use Rattle.maker.proofs.sort.sort.Given as goal
 

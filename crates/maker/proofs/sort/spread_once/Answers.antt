@@ -1,5 +1,5 @@
 -- The proof of `sort::spread_once`: marks as new the listed objects that lead to a new one at once, from the last to the first. By the laws of Sorts.
-use borrow.Author.Rules.{rules}
+use Rattle.std.proofs.Common.{rules}
 use Rattle.maker.proofs.Sorts as laws
 use Rattle.maker.proofs.sort.spread_once.Goals as goal
 

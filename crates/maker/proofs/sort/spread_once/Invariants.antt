@@ -1,5 +1,5 @@
 -- The proof of `sort::spread_once`: marks as new the listed objects that lead to a new one at once, from the last to the first. By the laws of Sorts.
-use Prim.Native.Nat.{◌≤◌}
+use Rattle.std.proofs.Common.{◌≤◌}
 use Rattle.maker.specs.Sorting.{Onward}
 use Rattle.maker.proofs.sort.spread_once.Given as goal
 

@@ -1,5 +1,5 @@
 -- The proof of `sort::turn_fields`: the codes of object x of block src in the host. By the laws of SortCodes.
-use borrow.Author.Rules.{rules}
+use Rattle.std.proofs.Common.{rules}
 use Rattle.maker.proofs.SortCodes as laws
 use Rattle.maker.proofs.sort.turn_fields.Goals as goal
 

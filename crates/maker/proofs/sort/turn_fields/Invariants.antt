@@ -1,5 +1,5 @@
 -- The proof of `sort::turn_fields`: the codes of object x of block src in the host. By the laws of SortCodes.
-use Prim.Native.Nat.{◌≤◌}
+use Rattle.std.proofs.Common.{◌≤◌}
 use Rattle.canon.specs.Figures.{code_count}
 use Rattle.maker.specs.Sorting.{CodesTurned}
 use Rattle.maker.proofs.sort.turn_fields.Given as goal

@@ -1,5 +1,5 @@
 -- The proof of `sort::varied`: whether nothing is known of a listed object whose class is not that of x. By the laws of Sorts.
-use borrow.Author.Rules.{rules}
+use Rattle.std.proofs.Common.{rules}
 use Rattle.maker.proofs.Sorts as laws
 use Rattle.maker.proofs.sort.varied.Goals as goal
 

@@ -1,4 +1,4 @@
--- `hex::Digits::values` meets its contract: every entry of the table is right, by one test of all of them.
+-- `hex::Digits::all` meets its contract: every entry of the table is right, by one test of all of them.
 use Rattle.std.proofs.Common.{refl}
 use Rattle.lineform.proofs.HexLaws as laws
 use Rattle.lineform.proofs.hex.Digits.all.Goals as goal
