@@ -1,30 +1,14 @@
 -- Laws of the parts that part 0 leads to, listed. The room in the list is by counting what is not listed yet.
 -- Not here: what the lists say of parts that are known by their lines (Listings).
-use Rattle.std.proofs.Common.{ℕ, zero, suc, ◌+◌, ◌*◌, ◌<◌, ◌≤◌, arith, ◌≡◌, refl, sym, ap, ◌∙◌, subst, Bool, true, false, cond, List, map, length, get_or, set, replicate, length-set, get_or-set_same, get_or-set_other}
+use Rattle.std.proofs.Common.{ℕ, ◌+◌, ◌*◌, ◌<◌, ◌≤◌, arith, ◌≡◌, refl, sym, ap, ◌∙◌, subst, Bool, true, false, cond, List, map, length, get_or, set, replicate, length-set, get_or-set_same, get_or-set_other}
 use native.Mathlib.Decide.{dec_lt, ℕ_discrete}
 use Rattle.std.proofs.Math.ListN.{length-replicate}
-use Rattle.canon.proofs.Zeros.{zeros-few, zeros-put}
-use Rattle.std.proofs.Math.ListN.{get_or-map}
-use Rattle.std.proofs.lemmas.List.{map-set, length-map}
+use Rattle.canon.proofs.Zeros.{unseen_at, zeros-few, zeros-mark}
 use mathlib.Core.Bool.{false≢true}
-use Rattle.canon.specs.Tables.{zero_count}
 use Rattle.canon.specs.Figures.{head_size}
 use Rattle.batch.specs.Figures.{part_size, field_room, number_field}
 use Rattle.batch.specs.Layout.{field_byte}
 use Rattle.batch.specs.Reaching.{Listed, FieldOf, Led, first, next, Noted, Met, FieldsMet, ReachedTo, Reaches}
-
--- nothing is seen at first, and one more then
-unseen_at : (k x : ℕ) → get_or (replicate k false) x false ≡ false
-unseen_at zero x = refl
-unseen_at (suc k) zero = refl
-unseen_at (suc k) (suc x) = unseen_at k x
-
-zeros-mark : (k x : ℕ) (S : List Bool) → x < k → x < length S → get_or S x false ≡ false
-    → suc (zero_count k (map (λ b. cond b 1 0) (set S x true))) ≡ zero_count k (map (λ b. cond b 1 0) S)
-zeros-mark k x S h l e =
-    rw (map-set {A = Bool} {B = ℕ} (λ b. cond b 1 0) S x true)
-    (zeros-put k x 1 (map (λ b. cond b 1 0) S) h (omega (arith, l, length-map {A = Bool} {B = ℕ} S (λ b. cond b 1 0)))
-    (get_or-map {A = Bool} {B = ℕ} (λ b. cond b 1 0) S x false ∙ ap (λ (b : Bool). cond {A = ℕ} b 1 0) e) (omega arith))
 
 -- what is listed stays so while the list grows
 listed_kept : (L L' : List ℕ) (t r x : ℕ) → t ≤ r → ((q : ℕ) → q < t → get_or L' q 0 ≡ get_or L q 0) → Listed L t x → Listed L' r x

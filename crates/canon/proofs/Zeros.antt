@@ -1,6 +1,8 @@
 -- A table of zeros, and how many of the first bytes of a table are 0: asked for where a table begins empty, or notes what is met (canon, values, maker, batch).
-use Rattle.std.proofs.Common.{ℕ, zero, suc, ◌+◌, ◌<◌, ◌≤◌, arith, ◌≡◌, refl, ap, ap₂, ◌∙◌, Bool, true, false, cond, List, eqb, length, get_or, set, replicate, get_or-set_same, get_or-set_other, eq-eqb, ne_eqb}
+use Rattle.std.proofs.Common.{ℕ, zero, suc, ◌+◌, ◌<◌, ◌≤◌, arith, ◌≡◌, refl, ap, ap₂, ◌∙◌, Bool, true, false, cond, List, eqb, map, length, get_or, set, replicate, get_or-set_same, get_or-set_other, eq-eqb, ne_eqb}
 use native.Mathlib.Decide.{ℕ_discrete}
+use Rattle.std.proofs.Math.ListN.{get_or-map}
+use Rattle.std.proofs.lemmas.List.{map-set, length-map}
 use Rattle.canon.specs.Tables.{Zeros, zero_count}
 
 pub zero_at : (k x : ℕ) → ◌≡◌ {A = ℕ} (get_or (replicate k 0) x 0) 0
@@ -39,3 +41,16 @@ zeros-put (suc k) x v S h l e d = go (ℕ_discrete k x) (λ h'. zeros-put k x v 
         let o : get_or S k 0 ≡ 0 = ap (λ (i : ℕ). get_or S i 0) z ∙ e in
         rw (eq-eqb (get_or S k 0) 0 o, ne_eqb (get_or (set S x v) k 0) 0 (λ q. omega arith), zeros_other k x v S (omega arith)) (omega arith)
     go (no z) f = rw (get_or-set_other S x k v 0 z) (omega (arith, f (omega (arith, z))))
+
+-- ---- the same of a table of flags, a flag that is set counted as 1
+pub unseen_at : (k x : ℕ) → get_or (replicate k false) x false ≡ false
+unseen_at zero x = refl
+unseen_at (suc k) zero = refl
+unseen_at (suc k) (suc x) = unseen_at k x
+
+pub zeros-mark : (k x : ℕ) (S : List Bool) → x < k → x < length S → get_or S x false ≡ false
+    → suc (zero_count k (map (λ b. cond b 1 0) (set S x true))) ≡ zero_count k (map (λ b. cond b 1 0) S)
+zeros-mark k x S h l e =
+    rw (map-set {A = Bool} {B = ℕ} (λ b. cond b 1 0) S x true)
+    (zeros-put k x 1 (map (λ b. cond b 1 0) S) h (omega (arith, l, length-map {A = Bool} {B = ℕ} S (λ b. cond b 1 0)))
+    (get_or-map {A = Bool} {B = ℕ} (λ b. cond b 1 0) S x false ∙ ap (λ (b : Bool). cond {A = ℕ} b 1 0) e) (omega arith))

@@ -18,7 +18,7 @@ use Rattle.maker.specs.Joining.{Joining, Joined}
 use Rattle.canon.proofs.Zeros.{zero_at}
 use Rattle.maker.proofs.Crowds.{in_same, in_within, crowd_joined}
 use Rattle.maker.proofs.Enters.{grown_none}
-use Rattle.maker.proofs.Reaches.{unseen_at}
+use Rattle.canon.proofs.Zeros.{unseen_at}
 
 -- ---- the same number
 module _ (W : List ℕ) (src i host : ℕ) (T : List ℕ) where

@@ -1,20 +1,17 @@
 -- Laws of what an object of a block leads to, listed. The room in the list is by counting what is not listed yet.
 -- Not here: which of the listed objects are new to another block (Seeks).
-use Rattle.std.proofs.Common.{ℕ, zero, suc, ◌+◌, ◌*◌, ◌<◌, ◌≤◌, arith, ◌≡◌, refl, sym, ap, ◌∙◌, subst, Bool, true, false, cond, List, [], ◌∷◌, ◌++◌, append_assoc, map, length, get_or, set, replicate, length-set, get_or-set_same, get_or-set_other}
+use Rattle.std.proofs.Common.{ℕ, ◌+◌, ◌*◌, ◌<◌, ◌≤◌, arith, ◌≡◌, refl, sym, ap, ◌∙◌, subst, Bool, true, false, cond, List, [], ◌∷◌, ◌++◌, append_assoc, map, length, get_or, set, replicate, length-set, get_or-set_same, get_or-set_other}
 use native.Mathlib.Decide.{dec_lt, ℕ_discrete}
 use Rattle.std.proofs.Math.Bool.{false≢true}
 use Rattle.std.proofs.Math.Option.{Option, some}
 use Rattle.std.proofs.Math.ListN.{get_elem?, length-replicate}
-use Rattle.std.proofs.Math.ListN.{get_or-map}
-use Rattle.std.proofs.lemmas.List.{map-set, length-map}
 use Rattle.cofj.specs.Partial.{◌>>=◌}
 use Rattle.cofj.specs.Values.{Ref, obj, Node, Graph, graph, refs_at}
 use Rattle.cofj.specs.Unfolding.{follow}
 use Rattle.canon.specs.Figures.{object_size, head_size, code_count, first_leaf, capacity, block_size}
 use Rattle.canon.specs.Layout.{count_in, objects_in, graph_at, Inside}
-use Rattle.canon.specs.Tables.{zero_count}
 use Rattle.canon.proofs.Nodes.{code_low}
-use Rattle.canon.proofs.Zeros.{zeros-put, zeros-few}
+use Rattle.canon.proofs.Zeros.{unseen_at, zeros-few, zeros-mark}
 use Rattle.maker.specs.Sorting.{code_at, Listed, Reached}
 use Rattle.maker.specs.Reaching.{Noted, Met, FieldOf, FieldsMet, ReachedTo}
 use Rattle.maker.specs.Crowds.{In}
@@ -32,19 +29,6 @@ led_step ns g y f z a e = record {
       sym (ap (λ (o : Option Ref). o >>= (λ s. follow ns s q)) e) ∙ a.tree (f ∷ q)
       ∙ ap (follow g.nodes g.root) (sym (append_assoc a.path (f ∷ []) q));
 }
-
--- ---- nothing is seen at first, and one more then
-pub unseen_at : (k x : ℕ) → get_or (replicate k false) x false ≡ false
-unseen_at zero x = refl
-unseen_at (suc k) zero = refl
-unseen_at (suc k) (suc x) = unseen_at k x
-
-zeros-mark : (k x : ℕ) (S : List Bool) → x < k → x < length S → get_or S x false ≡ false
-    → suc (zero_count k (map (λ b. cond b 1 0) (set S x true))) ≡ zero_count k (map (λ b. cond b 1 0) S)
-zeros-mark k x S h l e =
-    rw (map-set {A = Bool} {B = ℕ} (λ b. cond b 1 0) S x true)
-    (zeros-put k x 1 (map (λ b. cond b 1 0) S) h (omega (arith, l, length-map {A = Bool} {B = ℕ} S (λ b. cond b 1 0)))
-    (get_or-map {A = Bool} {B = ℕ} (λ b. cond b 1 0) S x false ∙ ap (λ (b : Bool). cond {A = ℕ} b 1 0) e) (omega arith))
 
 -- what is listed stays so while the list grows
 listed_kept : (L L' : List ℕ) (t r x : ℕ) → t ≤ r → ((q : ℕ) → q < t → get_or L' q 0 ≡ get_or L q 0) → Listed L t x → Listed L' r x

@@ -15,7 +15,11 @@ use Rattle.classes.specs.Machine.{pick}
 use Rattle.tables.specs.declared.read.Reading.{Reading}
 use Rattle.tables.specs.Readings.{reading_of}
 
--- characters of the longest candidate: 32 class lines of 25, 65 lines of 511
+-- characters of the longest line: 255 bytes of two, and its end
+abbrev pub line_text : ℕ
+line_text = 511
+
+-- characters of the longest candidate: 32 class lines of 25, 65 of the longest
 abbrev pub room_size : ℕ
 room_size = 34015
 

@@ -3,7 +3,7 @@
 ghost use Rattle.std.specs.Prelude.{◌≡◌, ◌+◌, ◌*◌, ◌≤◌, length};
 ghost use Rattle.cofj.specs.Limits.{class_count, method_count};
 ghost use Rattle.lineform.specs.Writes.{wrote, put_line, put_text};
-ghost use Rattle.tables.specs.Writings.{room_size, After, class_in, classes_in, methods_in, main_first, main_in, lines_in, readable, written_by, wrote_table, writing_of};
+ghost use Rattle.tables.specs.Writings.{room_size, line_text, After, class_in, classes_in, methods_in, main_first, main_in, lines_in, readable, written_by, wrote_table, writing_of};
 
 use crate::read::read_into;
 use classes::ClassTable;
@@ -67,7 +67,7 @@ fn class_lines(t: &[u8; SIZE], n: u8, out: &mut [u8], at: usize) -> usize
 
 // The lines of methods 0 to m - 1, and the place after them.
 fn method_lines(t: &[u8; SIZE], m: u8, out: &mut [u8], at: usize) -> usize
-    requires { (m ≤ method_count) × (at + 511 * m ≤ length out.old) }
+    requires { (m ≤ method_count) × (at + line_text * m ≤ length out.old) }
     ensures { wrote result out.new ≡ put_text out.old at (methods_in t.now m) }
 {
     let mut w = at;
@@ -93,7 +93,7 @@ fn main_first(x: u8) -> u8
 
 // The line of main, and the place after it.
 fn main_line(t: &[u8; SIZE], out: &mut [u8], at: usize) -> usize
-    requires { at + 511 ≤ length out.old }
+    requires { at + line_text ≤ length out.old }
     ensures { wrote result out.new ≡ put_line out.old at (main_in t.now) }
 {
     let n = after_first(t[MAIN + LAST]);
