@@ -63,12 +63,14 @@ pub fn same_plain(a: &[u8], i: usize, j: usize) -> bool
     eight_at(a, i + 8) == eight_at(a, j + 8)
 }
 
-// n bytes of `from`, from place i on, to place j of `to`.
+// n bytes of `from`, from place i on, to place j of `to`. By a loop: with `copy_from_slice` the archive for C needs `memmove` from outside too.
 pub fn copy(from: &[u8], i: usize, to: &mut [u8], j: usize, n: usize)
     requires { (i + n ≤ length from.now) × (j + n ≤ length to.old) }
     ensures { Carried from.now i to.old j n to.new }
 {
-    to[j..j + n].copy_from_slice(&from[i..i + n]);
+    for k in 0..n {
+        to[j + k] = from[i + k];
+    }
 }
 
 // 0, 1, .., n of them.

@@ -1,8 +1,8 @@
 // The checked run and the trial run: state, text, types where they are asked for, the second text, then main.
 // Not here: what a second text gives (feed), evaluation (evaluator).
-ghost use Rattle.std.specs.Prelude.{◌≡◌};
+ghost use Rattle.std.specs.Prelude.{◌≡◌, Ok, length};
 ghost use Rattle.cofj.specs.Calls.{checked, trial, run_call};
-ghost use Rattle.engine.specs.Steps.{ran, answer_by, mode_of, judged_in};
+ghost use Rattle.engine.specs.Steps.{ran, answer_by, mode_of, judged_in, state_of};
 
 use crate::feed::feed;
 use crate::session::{WORK, ready, with_fuel};
@@ -52,8 +52,33 @@ fn answer(session: Session, r: Result<Reported, Refusal>) -> Answer
     }
 }
 
-// A run of a text, and of a second one: its report, or the first refusal. Main runs in the first work bytes, which are zero after.
-pub(crate) fn run_text(
+// A run of a text, and of a second one, whose state refuses nothing: its report, or the first refusal. Main runs in the first work bytes, which are zero after.
+// A function of its own, so that a call which its state refuses makes no room for a run.
+pub(crate) fn run_ready(
+    mode: Mode,
+    text: &[u8],
+    input: &[u8],
+    session: Session,
+    out: &mut [u8],
+    work: &mut [u8],
+) -> Result<Reported, Refusal>
+    requires { state_of session.active (length out.old) (length work.old) ≡ Ok tt }
+    ensures { ran (answer_by session result) out.new work.new
+        ≡ run_call (record { mode = mode_of mode; text = text.now; input = input.now; session = session; report = out.old; work = work.old }) }
+{
+    let mut bytes = [0u8; SIZE];
+    read_into(text, &mut bytes)?;
+    judge(mode, &bytes)?;
+    let mut block = [0u8; BLOCK];
+    let fed = feed(&bytes, input, &mut block)?;
+    let fuel = session.fuel;
+    let r = run_report(&bytes, &mut work[..WORK], fuel, fed, &block, out);
+    clear(work);
+    Ok(r)
+}
+
+// The same, of any state.
+fn run_text(
     mode: Mode,
     text: &[u8],
     input: &[u8],
@@ -65,15 +90,7 @@ pub(crate) fn run_text(
         ≡ run_call (record { mode = mode_of mode; text = text.now; input = input.now; session = session; report = out.old; work = work.old }) }
 {
     ready(session.active, out.len(), work.len())?;
-    let mut bytes = [0u8; SIZE];
-    read_into(text, &mut bytes)?;
-    judge(mode, &bytes)?;
-    let mut block = [0u8; BLOCK];
-    let fed = feed(&bytes, input, &mut block)?;
-    let fuel = session.fuel;
-    let r = run_report(&bytes, &mut work[..WORK], fuel, fed, &block, out);
-    clear(work);
-    Ok(r)
+    run_ready(mode, text, input, session, out, work)
 }
 
 // The checked run of a text, with the second text `input`; an empty one counts as none.

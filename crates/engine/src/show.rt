@@ -8,7 +8,7 @@ ghost use Rattle.engine.specs.Showing.{showing, no_line, line_of, PutVerdict};
 
 use crate::check::main_type;
 use crate::cut::first_length;
-use crate::run::{Mode, run_text};
+use crate::run::{Mode, run_ready};
 use crate::session::{open_session, ready};
 use classes::chain::FieldType;
 use cofj::{Refusal, Shown};
@@ -65,7 +65,7 @@ fn show_texts(text: &[u8], input: &[u8], report: &mut [u8], work: &mut [u8]) -> 
         return without_line(r);
     }
     let session = open_session(FUEL);
-    match run_text(Mode::Checked, text, input, session, report, work) {
+    match run_ready(Mode::Checked, text, input, session, report, work) {
         Ok(r) => with_line(main_type(text), r.length),
         Err(r) => with_line(Err(r), 0),
     }

@@ -6,6 +6,10 @@ use Rattle.canon.proofs.Refers as refers
 use Rattle.canon.proofs.Classing as laws
 use Rattle.canon.proofs.leads.part.Goals as goal
 
+-- a row's number is a byte: a block has room for so few objects
+pub overflow_add-rows : goal.overflow_add-rows
+overflow_add-rows c = omega (arith, c.requires.0.few)
+
 pub link-w-requires : goal.link-w-requires
 link-w-requires c = (laws.row_codes _ _ c.requires.0, search rules, search rules, hangs.free_new (capacity + 1) _ (omega (arith, c.requires.0.few)), refers.all_free (capacity + 1) code_count _ (omega (arith, c.requires.0.few)) (omega arith))
 

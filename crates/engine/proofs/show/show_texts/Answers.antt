@@ -8,5 +8,5 @@ returns-in-Err c = search laws.shown_refused
 pub returns-in-Ok : goal.returns-in-Ok
 returns-in-Ok c = search laws.shown_ran
 
-pub returns-in-Err-run_text : goal.returns-in-Err-run_text
-returns-in-Err-run_text c = search laws.shown_unrun
+pub returns-in-Err-run_ready : goal.returns-in-Err-run_ready
+returns-in-Err-run_ready c = search laws.shown_unrun

@@ -15,6 +15,9 @@ returns-then-first-ge-FIRST_LEAF c = search laws.code_equal
 pub returns-then-second-ge-FIRST_LEAF : goal.returns-then-second-ge-FIRST_LEAF
 returns-then-second-ge-FIRST_LEAF c = search laws.code_second
 
+pub bounds-queue-tail : goal.bounds-queue-tail
+bounds-queue-tail c = c.requires.room c.if-first-ge-FIRST_LEAF.false (omega (arith, c.if-known-eq0.true))
+
 pub returns-then-known-eq0 : goal.returns-then-known-eq0
 returns-then-known-eq0 c = laws.code_new _ _ _ _ _ _ _ c.if-first-ge-FIRST_LEAF.false c.if-second-ge-FIRST_LEAF.false (omega (arith, c.if-known-eq0.true))
 
