@@ -55,10 +55,10 @@ module _ (T i : List ℕ) (t : Table) (h : Tabled T t) where
   mode_feeds modes.Trial e = refl
 
 -- ---- a run whose state refuses nothing, of a text that reads into B
-module _ (c : code.Mode) (s i : List ℕ) (σ : Session) (R W : List ℕ) (g : Result (Unit {0}) Refusal) (eg : g ≡ state_of σ.active (length R) (length W)) (zg : g ≡ Ok tt)
-    (x : Result (Unit {0}) Refusal) (B : List ℕ) (e : Into (reading_of s) x B) where
+module _ (c : code.Mode) (s i : List ℕ) (σ : Session) (R W : List ℕ) (ready : state_of σ.active (length R) (length W) ≡ Ok tt) (x : Result (Unit {0}) Refusal) (B : List ℕ)
+    (e : Into (reading_of s) x B) where
   admits : (o : Admitted) (y : Ran) → admit (mode_of c) s i ≡ o → y ≡ run_admitted o (call (mode_of c) s i σ R W) → y ≡ run_call (call (mode_of c) s i σ R W)
-  admits o y q p = state_admits (mode_of c) s i σ R W g eg y zg (p ∙ sym (ap (λ (z : Admitted). run_admitted z (call (mode_of c) s i σ R W)) q))
+  admits o y q p = state_admits (mode_of c) s i σ R W _ refl y ready (p ∙ sym (ap (λ (z : Admitted). run_admitted z (call (mode_of c) s i σ R W)) q))
 
   declines : (k : Refusal) → admit (mode_of c) s i ≡ declined (refusal_number k) → ran (answer_by σ (Err k)) R W ≡ run_call (call (mode_of c) s i σ R W)
   declines k q = admits (declined (refusal_number k)) (ran (answer_by σ (Err k)) R W) q refl

@@ -26,7 +26,7 @@ state_numbered a = go a.session.active (ltb (length a.report) report_size) (ltb 
     go false y z = refl
 
 -- ---- the lent buffers, where it refuses nothing
-lent_by : (active : Bool) (r w : ℕ) → state_of active r w ≡ Ok tt → (report_size ≤ r) × (work_size ≤ w)
+pub lent_by : (active : Bool) (r w : ℕ) → state_of active r w ≡ Ok tt → (report_size ≤ r) × (work_size ≤ w)
 unfolding state_of
 lent_by active r w e = go active (ltb r report_size) refl (ltb w work_size) refl e
   where

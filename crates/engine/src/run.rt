@@ -77,7 +77,7 @@ pub(crate) fn run_ready(
     Ok(r)
 }
 
-// The same, of any state.
+// The same in any state: what it refuses, 11 to 13, comes first.
 fn run_text(
     mode: Mode,
     text: &[u8],
